@@ -1,0 +1,54 @@
+-- A buffer that is filled from a reader, and the text that it then has.
+use Rattle.std.proofs.Common.{◌≡◌, ◌⊎◌, inl, inr, ℕ, ◌<◌, ◌≤◌, ◌+◌, List, [], ◌++◌, ◌∙◌, refl, sym, ap, arith, append_assoc, length, length-append, take, true, Option, Some, None}
+use Rattle.std.proofs.lemmas.Bool.{cases_lt}
+use Rattle.std.proofs.lemmas.Bool.Decides.{nat_tests}
+use Rattle.std.proofs.lemmas.List.{append-nil, take-append-le}
+use Rattle.std.proofs.Math.Seq.{take-append-add}
+use Rattle.std.specs.Prelude.{nat_lt, IfSome}
+use Rattle.std.specs.Io.KnownBytes.{Consumes, IsAtEnd, Keeps}
+use Rattle.boot_script.specs.Scripts.{text_events}
+
+pub consumes_join : (a b c : Option (List ℕ)) (x y : List ℕ) → Consumes a b x → Consumes b c y → Consumes a c (x ++ y)
+consumes_join None b c x y h k = tt
+consumes_join (Some xs) None c x y h k = absurd h
+consumes_join (Some xs) (Some ys) None x y h k = absurd k
+consumes_join (Some xs) (Some ys) (Some zs) x y h k = h ∙ (ap (λ ws. x ++ ws) k ∙ sym (append_assoc x y zs))
+
+pub consumes_nothing : (a b : Option (List ℕ)) (x : List ℕ) (c : Option (List ℕ)) → Consumes a b x → Keeps b c → Consumes a c x
+consumes_nothing None b x c h k = tt
+consumes_nothing (Some xs) None x c h k = absurd h
+consumes_nothing (Some xs) (Some ys) x None h k = absurd k
+consumes_nothing (Some xs) (Some ys) x (Some zs) h k = h ∙ ap (λ ws. x ++ ws) (sym k)
+
+pub consumes_none : (a : Option (List ℕ)) → Consumes a a []
+consumes_none None = tt
+consumes_none (Some xs) = refl
+
+-- two texts that are both too long say the same
+both_long : (a b : List ℕ) → 65536 < length a → 65536 < length b → text_events a ≡ text_events b
+unfolding text_events
+both_long a b la lb =
+    let ta : nat_lt 65536 (length a) ≡ true = grind (arith, nat_tests) in
+    let tb : nat_lt 65536 (length b) ≡ true = grind (arith, nat_tests) in
+    rw (ta, tb) refl
+
+by_length : (text left : List ℕ) → (length text ≤ 65536 → left ≡ []) → (65536 < length text) ⊎ (length text ≤ 65536) → text_events (text ++ left) ≡ text_events text
+by_length text left end (inr short) = ap text_events (ap (λ xs. text ++ xs) (end short) ∙ append-nil text)
+by_length text left end (inl long) = both_long (text ++ left) text (omega (arith, length-append text left)) long
+
+-- what was read up to the end, or past the length that a script may have, says what the whole text says
+pub same_text : (old new : Option (List ℕ)) (text bytes : List ℕ) → old ≡ Some bytes → Consumes old new text → (length text ≤ 65536 → IsAtEnd new) → text_events bytes ≡ text_events text
+same_text None new text bytes e taken end = absurd (cc)
+same_text (Some xs) None text bytes e taken end = absurd taken
+same_text (Some xs) (Some ys) text bytes e taken end =
+    let same : bytes ≡ text ++ ys = cc in
+    ap text_events same ∙ by_length text ys end (cases_lt 65536 (length text))
+
+-- a part behind a front, of which the first bytes were read
+pub filled_more : (front part post : List ℕ) (filled n : ℕ) → length front ≡ filled → n ≤ length part → take (filled + n) (front ++ (part ++ post)) ≡ front ++ take n part
+filled_more front part post filled n e le = ap (λ k. take (k + n) (front ++ (part ++ post))) (sym e) ∙ (take-append-add front (part ++ post) n ∙ ap (λ xs. front ++ xs) (take-append-le n part post le))
+
+-- where the bytes of the reader are known, they say what was read of them
+pub said_of : (old new : Option (List ℕ)) (text : List ℕ) → Consumes old new text → (length text ≤ 65536 → IsAtEnd new) → IfSome old (λ bytes. text_events bytes ≡ text_events text)
+said_of None new text taken end = tt
+said_of (Some bytes) new text taken end = same_text (Some bytes) new text bytes refl taken end

@@ -1,0 +1,17 @@
+-- What holds of the text that was read holds of the bytes of the reader.
+use Rattle.std.proofs.Common.{◌≡◌, List, ℕ, sym, subst, Option, Some, None}
+use Rattle.std.specs.Prelude.{IfSome}
+use Rattle.boot_script.specs.declared.outcome.Replayed.{Replayed}
+use Rattle.boot_script.specs.declared.outcome.ReplayFault.{ReplayFault}
+use Rattle.boot_script.specs.Scripts.{text_events}
+use Rattle.boot_script.specs.Replays.{IsReplay, IsReplayFault}
+
+pub replay_of : (remaining old new : Option (List ℕ)) (text : List ℕ) (replayed : Replayed) → IfSome remaining (λ bytes. text_events bytes ≡ text_events text) → IsReplay (text_events text) replayed old new
+    → IfSome remaining (λ bytes. IsReplay (text_events bytes) replayed old new)
+replay_of None old new text replayed same h = tt
+replay_of (Some bytes) old new text replayed same h = subst (λ said. IsReplay said replayed old new) (sym same) h
+
+pub fault_of : (remaining : Option (List ℕ)) (text : List ℕ) (fault : ReplayFault) → IfSome remaining (λ bytes. text_events bytes ≡ text_events text) → IsReplayFault (text_events text) fault
+    → IfSome remaining (λ bytes. IsReplayFault (text_events bytes) fault)
+fault_of None text fault same h = tt
+fault_of (Some bytes) text fault same h = subst (λ said. IsReplayFault said fault) (sym same) h

@@ -1,0 +1,13 @@
+pub mod Cuts
+pub mod Numbers
+pub mod KnownBytes
+pub mod Gathered
+pub mod Items
+pub mod EventsRead
+pub mod Spelled
+pub mod Again
+pub mod Texts
+pub mod Filled
+pub mod Faults
+pub mod Known
+pub mod Schedules

@@ -1,0 +1,127 @@
+-- What a whole text says, and how it is spelled.
+use Rattle.std.proofs.Common.{◌≡◌, inl, inr, ℕ, ◌≤◌, ◌+◌, List, [], ◌∷◌, ◌∙◌, refl, sym, ap, arith, length, true, false, Result, Ok, Err}
+use Rattle.std.proofs.lemmas.Bool.Decides.{nat_tests}
+use Rattle.std.proofs.lemmas.Slice.Eq.{bytes_eq-Decides}
+use Rattle.std.specs.Prelude.{nat_lt}
+use Rattle.std.specs.List.{list_all}
+use Rattle.std.specs.Str.{bytes_eq}
+use Rattle.quaject_core.specs.declared.event.Event.{Event}
+use Rattle.quaject_core.specs.declared.event.Event.TheVariants.{Queue, Claim, Raise, Take}
+use Rattle.boot_script.specs.declared.fault.ScriptRefusal.{ScriptRefusal}
+use Rattle.boot_script.specs.declared.fault.ScriptRefusal.TheVariants.{NotVersion, NotAscii}
+use Rattle.boot_script.specs.declared.fault.ScriptFault.{ScriptFault}
+use Rattle.boot_script.specs.declared.version.Version.{Version}
+use Rattle.boot_script.specs.declared.version.Version.TheVariants.{One, Two, Three}
+use Rattle.boot_script.specs.Words.{lines_of}
+use Rattle.boot_script.specs.Versions.{elements_of, version_line}
+use Rattle.boot_script.specs.Grammar.{◌>>=◌, is_printable, line_event}
+use Rattle.boot_script.specs.Scripts.{says_nothing, at_line, events_from, version_of, script_of, text_events}
+use Rattle.boot_script.specs.Spellings.{spelling, Spells, SpellsText}
+use Rattle.boot_script.proofs.Spelled.{bind_ok, chosen, line_ok}
+use Rattle.boot_script.proofs.Again.{line_again}
+use Rattle.boot_script.proofs.EventsRead.{from_line}
+
+version_is : (line : List ℕ) (named version : Version) → bytes_eq line (version_line named) ≡ true → named ≡ version → line ≡ version_line version
+version_is line named version same e = (bytes_eq-Decides line (version_line named)).0 same ∙ ap version_line e
+
+version_ok : (line : List ℕ) (version : Version) → version_of line ≡ Ok version → line ≡ version_line version
+unfolding version_of
+version_ok line version h =
+    elim (chosen (list_all is_printable line) _ (Err NotAscii) (Ok version) h) [
+      | inl p ↦ elim (chosen (bytes_eq line (version_line One)) (Ok One) _ (Ok version) p.1) [
+        | inl q ↦ version_is line One version q.0 (cc (q.1))
+        | inr q ↦ elim (chosen (bytes_eq line (version_line Two)) (Ok Two) _ (Ok version) q.1) [
+          | inl r ↦ version_is line Two version r.0 (cc (r.1))
+          | inr r ↦ elim (chosen (bytes_eq line (version_line Three)) (Ok Three) (Err NotVersion) (Ok version) r.1) [
+            | inl s ↦ version_is line Three version s.0 (cc (s.1))
+            | inr s ↦ absurd (cc (s.1))
+          ]
+        ]
+      ]
+      | inr p ↦ absurd (cc (p.1))
+    ]
+
+version_again : (version : Version) → version_of (version_line version) ≡ Ok version
+unfolding version_of
+version_again One = refl
+version_again Two = refl
+version_again Three = refl
+
+at_line_ok : {A : Type 0} (number : ℕ) (said : Result A ScriptRefusal) (x : A) → at_line number said ≡ Ok x → said ≡ Ok x
+at_line_ok number (Ok y) x h = cc
+at_line_ok number (Err refusal) x h = absurd (cc)
+
+-- lines with no fault are silent or spell the events
+events_ok : (version : Version) (number : ℕ) (lines : List (List ℕ)) (events : List (ℕ × Event)) → events_from version number lines ≡ Ok events → Spells version number lines events
+unfolding events_from
+events_ok version number [] events h = cc
+events_ok version number (line ∷ lines) events h =
+    elim (chosen (says_nothing line) (events_from version (number + 1) lines) _ (Ok events) h) [
+      | inl p ↦ inl (p.0, events_ok version (number + 1) lines events p.1)
+      | inr p ↦
+          let a = bind_ok (at_line number (line_event version line)) (λ event. events_from version (number + 1) lines >>= λ later. Ok ((number, event) ∷ later)) events p.1 in
+          let b = bind_ok (events_from version (number + 1) lines) (λ later. Ok ((number, a.0) ∷ later)) events a.2 in
+          let e : events ≡ (number, a.0) ∷ b.0 = cc (b.2) in
+          let k = line_ok version line a.0 (at_line_ok number (line_event version line) a.0 a.1) in
+          inr (a.0, b.0, e, k.0, k.1, events_ok version (number + 1) lines b.0 b.1)
+    ]
+
+-- a line that spells an event isn't silent
+loud : (event : Event) → false ≡ says_nothing (spelling event)
+unfolding spelling
+loud (Queue capacity) = refl
+loud (Claim call queue items) = refl
+loud (Raise call queue run index) = refl
+loud (Take call queue count) = refl
+
+events_again : (version : Version) (number : ℕ) (lines : List (List ℕ)) (events : List (ℕ × Event)) → Spells version number lines events → events_from version number lines ≡ Ok events
+unfolding events_from
+events_again version number [] events h = ap Ok (sym h)
+events_again version number (line ∷ lines) events (inl p) = rw p.0 (events_again version (number + 1) lines events p.1)
+events_again version number (line ∷ lines) events (inr p) =
+    let said : line_event version line ≡ Ok p.0 = ap (line_event version) p.4 ∙ line_again version p.0 p.3 in
+    let tells : false ≡ says_nothing line = loud p.0 ∙ ap says_nothing (sym p.4) in
+    let later = events_again version (number + 1) lines p.1 p.5 in
+    from_line version number line lines (Ok p.0) tells said
+    ∙ (ap (λ r. r >>= λ events. Ok ((number, p.0) ∷ events)) later ∙ ap Ok (sym p.2))
+
+-- what a script says, where it has no fault
+abbrev script_said : ℕ × List (ℕ × Event) → Result (ℕ × List (ℕ × Event)) ScriptFault
+script_said said = Ok said
+
+parts : (x y : ℕ × List (ℕ × Event)) → script_said x ≡ script_said y → (x.0 ≡ y.0) × (x.1 ≡ y.1)
+parts x y h = let e : x ≡ y = cc in (ap (λ p. p.0) e, ap (λ p. p.1) e)
+
+script_ok : (lines : List (List ℕ)) (elements : ℕ) (events : List (ℕ × Event)) → script_of lines ≡ Ok (elements, events)
+    → (version : Version) × (later : List (List ℕ)) × (elements ≡ elements_of version) × (lines ≡ version_line version ∷ later) × Spells version 2 later events
+unfolding script_of
+script_ok [] elements events h = absurd (cc)
+script_ok (first ∷ lines) elements events h =
+    let a = bind_ok (at_line 1 (version_of first)) (λ version. events_from version 2 lines >>= λ events. Ok (elements_of version, events)) (elements, events) h in
+    let b = bind_ok (events_from a.0 2 lines) (λ events. Ok (elements_of a.0, events)) (elements, events) a.2 in
+    let k = parts (elements_of a.0, b.0) (elements, events) b.2 in
+    let version = version_ok first a.0 (at_line_ok 1 (version_of first) a.0 a.1) in
+    (a.0, lines, sym k.0, ap (λ line. line ∷ lines) version, events_ok a.0 2 lines events (b.1 ∙ ap Ok k.1))
+
+script_again : (version : Version) (later : List (List ℕ)) (events : List (ℕ × Event)) → Spells version 2 later events → script_of (version_line version ∷ later) ≡ Ok (elements_of version, events)
+unfolding script_of
+script_again version later events h = rw (version_again version, events_again version 2 later events h) refl
+
+pub text_ok : (text : List ℕ) (elements : ℕ) (events : List (ℕ × Event)) → text_events text ≡ Ok (elements, events) → SpellsText text elements events
+unfolding text_events
+text_ok text elements events h =
+    elim (chosen (nat_lt 65536 (length text)) _ (script_of (lines_of text)) (Ok (elements, events)) h) [
+      | inl p ↦ absurd (cc (p.1))
+      | inr p ↦
+          let test : nat_lt 65536 (length text) ≡ false = p.0 in
+          let short : length text ≤ 65536 = grind (arith, nat_tests) in
+          let k = script_ok (lines_of text) elements events p.1 in
+          (k.0, k.1, k.2, short, k.3, k.4)
+    ]
+
+pub text_again : (text : List ℕ) (elements : ℕ) (events : List (ℕ × Event)) → SpellsText text elements events → text_events text ≡ Ok (elements, events)
+unfolding text_events
+text_again text elements events h =
+    let short : length text ≤ 65536 = h.3 in
+    let test : nat_lt 65536 (length text) ≡ false = grind (arith, nat_tests) in
+    rw test (ap script_of h.4 ∙ (script_again h.0 h.1 events h.5 ∙ ap (λ n. Ok (n, events)) (sym h.2)))

@@ -1,0 +1,5 @@
+use Rattle.boot_script.proofs.Faults.{text_known}
+use Rattle.boot_script.proofs.laws.memory_is_no_fault.Goals as goal
+
+pub returns : goal.returns
+returns c = text_known

@@ -1,0 +1,5 @@
+use Rattle.boot_script.proofs.Spelled.{line_ok}
+use Rattle.boot_script.proofs.laws.one_spelling.Goals as goal
+
+pub returns : goal.returns
+returns c = line_ok

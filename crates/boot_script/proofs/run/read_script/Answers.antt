@@ -1,0 +1,33 @@
+use Rattle.std.proofs.Common.{◌≡◌, ◌∙◌, ◌-◌, ◌≤◌, length, length-append, length-take, take, arith}
+use borrow.Rule.Slice.PartMut.{same_len_mid, take_put}
+use Rattle.boot_script.proofs.Filled.{consumes_join, consumes_nothing, filled_more, said_of}
+use Rattle.boot_script.proofs.run.read_script.Goals as goal
+use Rattle.boot_script.proofs.run.read_script.Goals.{in-Ok+else-filled-gt-MOST_BYTES, in-Err+else-ne}
+
+pub loop-preserved : goal.loop-preserved
+loop-preserved g c =
+    let within : c.loop.filled ≤ length c.loop.buffer = omega (arith, c.loop.invariant.short, c.loop.invariant.sized) in
+    let front : length (take c.loop.filled c.loop.buffer) ≡ c.loop.filled = omega (arith, length-take c.loop.filled c.loop.buffer) in
+    let room = length c.loop.buffer - c.loop.filled in
+    elim c.match-read.branch [
+      | in-Ok+else-filled-gt-MOST_BYTES w ↦ record {
+        bytes = rw (w.filled-is, filled_more (take c.loop.filled c.loop.buffer) c.read.new.buf _ c.loop.filled w.in-Ok.n front w.in-Ok.ensures.bound.0)
+            (consumes_join _ _ _ _ _ c.loop.invariant.bytes w.in-Ok.ensures.bytes.0);
+        short = omega (arith, w.filled-is);
+        sized = same_len_mid c.loop.filled room c.loop.buffer c.read.new.buf c.read.auto.buf ∙ c.loop.invariant.sized;
+      }
+      | in-Err+else-ne w ↦ record {
+        bytes = rw (w.filled-is, take_put c.loop.filled room c.loop.buffer c.read.new.buf within) (consumes_nothing _ _ _ _ c.loop.invariant.bytes w.in-Err.ensures.bytes);
+        short = omega (arith, w.filled-is);
+        sized = same_len_mid c.loop.filled room c.loop.buffer c.read.new.buf c.read.auto.buf ∙ c.loop.invariant.sized;
+      }
+    ]
+
+pub returns-then-filled-gt-MOST_BYTES-clause-said : goal.returns-then-filled-gt-MOST_BYTES-clause-said
+returns-then-filled-gt-MOST_BYTES-clause-said g c =
+    let within : c.loop.filled ≤ length c.loop.buffer = omega (arith, c.loop.invariant.short, c.loop.invariant.sized) in
+    let front : length (take c.loop.filled c.loop.buffer) ≡ c.loop.filled = omega (arith, length-take c.loop.filled c.loop.buffer) in
+    let bound = c.in-Ok.ensures.bound.0 in
+    rw (filled_more (take c.loop.filled c.loop.buffer) c.read.new.buf _ c.loop.filled c.in-Ok.n front bound)
+    (said_of _ _ _ (consumes_join _ _ _ _ _ c.loop.invariant.bytes c.in-Ok.ensures.bytes.0)
+    (λ short. absurd (omega (arith, length-append (take c.loop.filled c.loop.buffer) (take c.in-Ok.n c.read.new.buf), length-take c.in-Ok.n c.read.new.buf))))

@@ -1,0 +1,9 @@
+pub mod Words
+pub mod Versions
+pub mod Grammar
+pub mod Scripts
+pub mod Spellings
+pub mod Answers
+pub mod RefusalNames
+pub mod Printed
+pub mod Replays

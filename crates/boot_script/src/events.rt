@@ -1,0 +1,112 @@
+//! Lists of events as text: a line that names the version, and then an event a line.
+//!
+//! Empty lines and comments, which begin with `#`, say nothing. The first line at fault decides, and want of memory is
+//! told only where no line is at fault.
+
+ghost use Rattle.std.specs.Prelude.{◌≡◌, ◌≤◌, IfOk, length};
+ghost use Rattle.boot_script.specs.Words.{lines_of};
+ghost use Rattle.boot_script.specs.Scripts.{says_nothing, events_from, version_of, text_events};
+ghost use Rattle.boot_script.specs.Answers.{Says};
+
+use crate::event_lines::{is_ascii, line_said};
+use crate::fault::{ScriptFault, ScriptRefusal};
+use crate::text::first_line;
+use crate::version::Version;
+use quaject_core::Event;
+use std::alloc::Global;
+
+/// How many bytes a script may have.
+pub(crate) const MOST_BYTES: usize = 65_536;
+
+/// An empty line and a comment say nothing.
+fn is_silent(line: &[u8]) -> bool
+    ensures { result ≡ says_nothing line.now }
+{
+    matches!(line, [] | [b'#', ..])
+}
+
+/// The events of the lines from line 2 on. After a refused growth the lines are still checked.
+fn events_said(
+    alloc: Global,
+    version: Version,
+    text: &[u8],
+) -> Result<Vec<(u32, Event)>, ScriptFault>
+    requires { length text.now ≤ 65536 }
+    ensures { Says (λ events. events.items) result (events_from version 2 (lines_of text.now)) }
+{
+    let mut events = Vec::new(alloc);
+    let mut kept = true;
+    let mut rest = text;
+    let mut line_number: u32 = 2;
+    while !rest.is_empty() {
+        let (line, after) = first_line(rest);
+        if !is_silent(line) {
+            match line_said(alloc, version, line) {
+                Ok(event) => kept = kept && events.push((line_number, event)).is_ok(),
+                Err(ScriptRefusal::OutOfMemory) => kept = false,
+                Err(refusal) => {
+                    return Err(ScriptFault {
+                        line: line_number,
+                        refusal,
+                    });
+                }
+            }
+        }
+        line_number += 1;
+        rest = after;
+    }
+    if kept {
+        Ok(events)
+    } else {
+        Err(ScriptFault::NO_MEMORY)
+    }
+}
+
+/// The version that the first line names.
+#[tactic(auto, unfolding(crate::specs::Scripts::version_of))]
+fn version_said(line: &[u8]) -> Result<Version, ScriptRefusal>
+    ensures { result ≡ version_of line.now }
+{
+    if !is_ascii(line) {
+        return Err(ScriptRefusal::NotAscii);
+    }
+    if line == b"events 1".as_slice() {
+        return Ok(Version::One);
+    }
+    if line == b"events 2".as_slice() {
+        return Ok(Version::Two);
+    }
+    if line == b"events 3".as_slice() {
+        return Ok(Version::Three);
+    }
+    Err(ScriptRefusal::NotVersion)
+}
+
+/// How many thread elements the version of the text has, and its events, each with the number of its line.
+///
+/// The fault is the first of the text: the line at fault, or line 0 with `TooMany` where the text has more than 65,536
+/// bytes. Only where the text has no fault can a refused growth be the answer, as line 0 with `OutOfMemory`.
+#[tactic(auto, unfolding(crate::specs::Scripts::script_of, crate::specs::Scripts::text_events, crate::specs::Words::lines_of))]
+pub fn parse_events(alloc: Global, text: &[u8]) -> Result<(u8, Vec<(u32, Event)>), ScriptFault>
+    ensures said { Says (λ script. (script.0, script.1.items)) result (text_events text.now) }
+    ensures some { IfOk result (λ script. 1 ≤ script.0) }
+    ensures within { IfOk result (λ script. script.0 ≤ 64) }
+{
+    if text.len() > MOST_BYTES {
+        return Err(ScriptFault {
+            line: 0,
+            refusal: ScriptRefusal::TooMany,
+        });
+    }
+    if text.is_empty() {
+        return Err(ScriptFault {
+            line: 1,
+            refusal: ScriptRefusal::NotVersion,
+        });
+    }
+    let (first, rest) = first_line(text);
+    match version_said(first) {
+        Ok(version) => Ok((version.elements(), events_said(alloc, version, rest)?)),
+        Err(refusal) => Err(ScriptFault { line: 1, refusal }),
+    }
+}

@@ -1,0 +1,101 @@
+//! Why a script is refused: the line at fault, and what is wrong there.
+//!
+//! The refusals are those of both kinds of scripts, so a list of events never meets some of them.
+
+ghost use Rattle.std.specs.Prelude.{◌≡◌, Some};
+ghost use Rattle.boot_script.specs.RefusalNames.{script_refusal_number};
+
+use std::error::Error as StdError;
+use std::fmt;
+
+/// Why a script is refused, with the number that is printed.
+///
+/// The first line at fault decides, and in a line the first word at fault, from left to right. A word too many is
+/// told behind the faults of all other words, and `TooMany` behind it. `OutOfMemory` is the last of all.
+#[derive(Clone, Copy, Debug, PartialEq, Eq)]
+pub enum ScriptRefusal {
+    /// The first line is not that of a known version.
+    NotVersion = 1,
+    /// The first word of a line is not known, or a word stands behind the last.
+    UnknownWord = 2,
+    /// A word is not a number in its range, with no sign and no leading zero.
+    BadNumber = 3,
+    /// A word has not the form of the name that stands there.
+    BadName = 4,
+    /// A name is declared a second time.
+    NameTwice = 5,
+    /// A name is not declared, or names something of another kind.
+    NameUnknown = 6,
+    /// The text has more than 65,536 bytes, or a line more items than it may have.
+    TooMany = 7,
+    /// A text is longer than it may be.
+    TextTooLong = 8,
+    /// A line that is no comment has a byte other than 0x20 to 0x7E.
+    NotAscii = 9,
+    /// A growth was refused, and nothing else is at fault.
+    OutOfMemory = 10,
+}
+
+/// The first fault of a script.
+#[derive(Clone, Copy, Debug, PartialEq, Eq)]
+pub struct ScriptFault {
+    /// The line at fault, from 1; 0 where it is the text as a whole.
+    pub line: u32,
+    /// What is wrong there.
+    pub refusal: ScriptRefusal,
+}
+
+impl ScriptRefusal {
+    /// The refusal's number.
+    pub fn number(self) -> u8
+        ensures { result ≡ script_refusal_number self }
+    {
+        self as u8
+    }
+}
+
+impl fmt::Display for ScriptRefusal {
+    ghost use Rattle.boot_script.specs.RefusalNames.{script_refusal_name};
+
+    ghost output = { λ refusal. Some (script_refusal_name refusal) };
+
+    fn fmt<W: fmt::Write>(&self, f: &mut fmt::Formatter<W>) -> fmt::Result {
+        match self {
+            ScriptRefusal::NotVersion => write!(f, "NotVersion"),
+            ScriptRefusal::UnknownWord => write!(f, "UnknownWord"),
+            ScriptRefusal::BadNumber => write!(f, "BadNumber"),
+            ScriptRefusal::BadName => write!(f, "BadName"),
+            ScriptRefusal::NameTwice => write!(f, "NameTwice"),
+            ScriptRefusal::NameUnknown => write!(f, "NameUnknown"),
+            ScriptRefusal::TooMany => write!(f, "TooMany"),
+            ScriptRefusal::TextTooLong => write!(f, "TextTooLong"),
+            ScriptRefusal::NotAscii => write!(f, "NotAscii"),
+            ScriptRefusal::OutOfMemory => write!(f, "OutOfMemory"),
+        }
+    }
+}
+
+impl StdError for ScriptRefusal {}
+
+impl fmt::Display for ScriptFault {
+    ghost use Rattle.boot_script.specs.Printed.{fault_text};
+
+    ghost output = { λ fault. Some (fault_text fault) };
+
+    fn fmt<W: fmt::Write>(&self, f: &mut fmt::Formatter<W>) -> fmt::Result {
+        let line = self.line;
+        let number = self.refusal.number();
+        let refusal = self.refusal;
+        write!(f, "line {line}: {number} {refusal}")
+    }
+}
+
+impl StdError for ScriptFault {}
+
+impl ScriptFault {
+    /// Want of memory is a fault of no line.
+    pub(crate) const NO_MEMORY: ScriptFault = ScriptFault {
+        line: 0,
+        refusal: ScriptRefusal::OutOfMemory,
+    };
+}

@@ -1,0 +1,149 @@
+//! Reading a list of events, running it on a fresh core, and printing the core's status.
+
+ghost use Rattle.std.specs.Prelude.{◌≡◌, ◌≢◌, ◌≤◌, ◌<◌, length, take, IfOk, IfErr, IfSome, OnOk};
+ghost use Rattle.std.specs.Io.KnownBytes.{Appends, Keeps};
+ghost use Rattle.quaject_core.specs.States.{first_state};
+ghost use Rattle.quaject_core.specs.Shown.{state};
+ghost use Rattle.boot_script.specs.Scripts.{text_events};
+ghost use Rattle.boot_script.specs.Replays.{Replays, replay_text, IsReplay, IsAnswer, IsReplayFault, Ends};
+
+use crate::events::{MOST_BYTES, parse_events};
+use crate::fault::ScriptRefusal;
+use crate::outcome::{ReplayFault, Replayed};
+use crate::printing::{print_refused, print_status};
+use quaject_core::{Core, Event, Refusal, Status};
+use std::alloc::Global;
+use std::io;
+use std::io::{ErrorKind, Read, Write};
+
+/// How many calls of read a script may take.
+const MOST_READS: u32 = 131_072;
+
+/// Fills the front of the buffer up to the end of the reader, or just past the length that a script may have.
+///
+/// Takes no memory, so that a fault of the text is told where memory is wanting. Interrupted reads count.
+fn read_script<R: Read>(reader: &mut R, buffer: &mut [u8]) -> Result<usize, ReplayFault>
+    requires { length buffer.old ≡ 65537 }
+    ensures said { IfOk result (λ n. IfSome (R.remaining reader.old) (λ bytes. text_events bytes ≡ text_events (take n buffer.new))) }
+    ensures within { IfOk result (λ n. n ≤ 65537) }
+    ensures fault { IfErr result (λ fault. fault ≡ ReplayFault.Read) }
+{
+    let mut filled = 0;
+    for _ in 0..MOST_READS {
+        match reader.read(&mut buffer[filled..]) {
+            Ok(0) => return Ok(filled),
+            Ok(n) => {
+                filled += n;
+                if filled > MOST_BYTES {
+                    return Ok(filled);
+                }
+            }
+            Err(error) => {
+                if error.kind() != ErrorKind::Interrupted {
+                    return Err(ReplayFault::Read);
+                }
+            }
+        }
+    }
+    Err(ReplayFault::Read)
+}
+
+/// Applies events up to the first that is refused.
+fn apply_all(core: &mut Core, events: &[(u32, Event)]) -> Result<Replayed, ReplayFault>
+    ensures ok { IfOk result (λ replayed. Replays replayed events.now (state core.old) (state core.new)) }
+    ensures fault { IfErr result (λ fault. fault ≡ ReplayFault.Memory) }
+{
+    for (line, event) in events {
+        match core.apply(event) {
+            Ok(()) => {}
+            Err(Refusal::OutOfMemory) => return Err(ReplayFault::Memory),
+            Err(refusal) => {
+                return Ok(Replayed::Refused {
+                    line: *line,
+                    refusal,
+                });
+            }
+        }
+    }
+    Ok(Replayed::AllAllowed)
+}
+
+/// Runs events on a fresh core. All memory that a replay needs is taken here.
+fn run_events(
+    alloc: Global,
+    elements: u8,
+    events: &[(u32, Event)],
+) -> Result<(Replayed, Status), ReplayFault>
+    requires some { 1 ≤ elements }
+    requires within { elements ≤ 64 }
+    ensures ok { IfOk result (λ ended. Ends ended.0 ended.1 events.now (first_state elements)) }
+    ensures fault { IfErr result (λ fault. fault ≡ ReplayFault.Memory) }
+{
+    let mut core = Core::with_elements(alloc, elements)?;
+    let replayed = apply_all(&mut core, events)?;
+    let status = core.status()?;
+    Ok((replayed, status))
+}
+
+/// Prints the status, and then the line of the event that was refused.
+fn print_replay<W: Write>(replayed: Replayed, status: &Status, writer: &mut W) -> io::Result<()>
+    ensures { OnOk result (Appends (W.contents writer.old) (W.contents writer.new) (replay_text replayed status.now)) }
+{
+    print_status(status, writer)?;
+    match replayed {
+        Replayed::AllAllowed => Ok(()),
+        Replayed::Refused { line, refusal } => print_refused(line, refusal, writer),
+    }
+}
+
+/// Runs the list of events that a text says on a fresh core, and prints the core's status.
+fn run_text<W: Write>(alloc: Global, text: &[u8], writer: &mut W) -> Result<Replayed, ReplayFault>
+    ensures ok { IfOk result (λ replayed. IsReplay (text_events text.now) replayed (W.contents writer.old) (W.contents writer.new)) }
+    ensures fault { IfErr result (λ fault. IsReplayFault (text_events text.now) fault) }
+    ensures unwritten { IfErr result (λ fault. fault ≢ ReplayFault.Write → Keeps (W.contents writer.old) (W.contents writer.new)) }
+{
+    match parse_events(alloc, text) {
+        Ok((elements, events)) => {
+            let (replayed, status) = run_events(alloc, elements, &events)?;
+            match print_replay(replayed, &status, writer) {
+                Ok(()) => Ok(replayed),
+                Err(_) => Err(ReplayFault::Write),
+            }
+        }
+        Err(fault) => match fault.refusal {
+            ScriptRefusal::OutOfMemory => Err(ReplayFault::Memory),
+            _ => Err(ReplayFault::Script(fault)),
+        },
+    }
+}
+
+/// Runs the list of events that is read on a fresh core, and prints the core's status.
+///
+/// Printed is the status after the events before the first that isn't allowed, and then that event's `refused` line,
+/// where there is one. After a fault other than `Write` nothing was written. `Memory` is answered only where the text
+/// has no fault.
+pub fn replay_on<R: Read, W: Write>(
+    alloc: Global,
+    reader: &mut R,
+    writer: &mut W,
+) -> Result<Replayed, ReplayFault>
+    ensures ok { IfOk result (λ replayed. IfSome (R.remaining reader.old) (λ bytes. IsReplay (text_events bytes) replayed (W.contents writer.old) (W.contents writer.new))) }
+    ensures fault { IfErr result (λ fault. IfSome (R.remaining reader.old) (λ bytes. IsReplayFault (text_events bytes) fault)) }
+    ensures unwritten { IfErr result (λ fault. fault ≢ ReplayFault.Write → Keeps (W.contents writer.old) (W.contents writer.new)) }
+{
+    let mut buffer = [0u8; MOST_BYTES + 1];
+    let filled = read_script(reader, &mut buffer)?;
+    run_text(alloc, &buffer[..filled], writer)
+}
+
+/// The same of a reader and a writer that are handed over.
+pub fn replay<R: Read + Drop, W: Write + Drop>(
+    alloc: Global,
+    mut reader: R,
+    mut writer: W,
+) -> Result<Replayed, ReplayFault>
+    ensures ok { IfOk result (λ replayed. IfSome (R.remaining reader) (λ bytes. IsAnswer (text_events bytes) replayed)) }
+    ensures fault { IfErr result (λ fault. IfSome (R.remaining reader) (λ bytes. IsReplayFault (text_events bytes) fault)) }
+{
+    replay_on(alloc, &mut reader, &mut writer)
+}

@@ -1,0 +1,131 @@
+//! Lines, words and numbers: what each script is cut into, whatever its words mean.
+//!
+//! A line ends with 0x0A, words are parted by one space, and a number is the word that prints as its own value.
+
+ghost use Rattle.std.specs.Prelude.{◌≡◌, ◌∷◌, ◌<◌, ◌↔◌, ◌==◌, IsTrue, [], position, ◌≤◌, IfOk, IfErr, length, IfSome, IfNone};
+ghost use Rattle.std.specs.Option.{option_copied};
+ghost use Rattle.boot_script.specs.Words.{pieces, pieces_left, first_word, later_words, words_of, number_of, lines_of};
+
+use crate::fault::ScriptRefusal;
+use std::marker::Model;
+
+/// Where the first separator stands.
+fn place_of(bytes: &[u8], separator: u8) -> Option<usize>
+    ensures { result ≡ position (λ b. b == separator) bytes.now }
+{
+    bytes.iter().position(|b| *b == separator)
+}
+
+/// The bytes before the first separator, and those behind it where there is one.
+#[tactic(auto, using(crate::proofs::Cuts::cut_at, crate::proofs::Cuts::cut_nowhere))]
+fn cut(bytes: &[u8], separator: u8) -> (&[u8], Option<&[u8]>)
+    ensures pieces { pieces separator bytes.now ≡ result.0.now ∷ pieces_left separator (option_copied result.1) }
+    ensures shorter { IfSome result.1 (λ rest. length rest.now < length bytes.now) }
+    ensures whole { IfNone result.1 (result.0.now ≡ bytes.now) }
+{
+    match place_of(bytes, separator) {
+        Some(at) => (&bytes[..at], Some(&bytes[at + 1..])),
+        None => (bytes, None),
+    }
+}
+
+/// The words of a line that are still to be read. Contracts see their list.
+#[derive(Drop)]
+pub(crate) struct Words<'a> {
+    rest: Option<&'a [u8]>,
+}
+
+impl<'a> Model for Words<'a> {
+    ghost use Rattle.std.specs.Prelude.{ℕ, List};
+    ghost use Rattle.std.specs.Option.{option_copied};
+    ghost use Rattle.boot_script.specs.Words.{pieces_left};
+
+    ghost Value = { List (List ℕ) };
+
+    ghost view = { λ words. pieces_left 32 (option_copied words.rest) };
+}
+
+impl<'a> Words<'a> {
+    /// All words of a line.
+    pub(crate) fn new(line: &'a [u8]) -> Self
+        ensures { result ≡ words_of line.now }
+    {
+        Words { rest: Some(line) }
+    }
+
+    /// The next word; one that is missing is empty.
+    pub(crate) fn next_word(&mut self) -> &'a [u8]
+        ensures word { result.now ≡ first_word self.old }
+        ensures rest { self.new ≡ later_words self.old }
+    {
+        match self.rest {
+            None => &[],
+            Some(bytes) => {
+                let (word, rest) = cut(bytes, b' ');
+                self.rest = rest;
+                word
+            }
+        }
+    }
+
+    /// No word is left.
+    #[tactic(auto, using(crate::proofs::Cuts::some_pieces))]
+    pub(crate) fn is_done(&self) -> bool
+        ensures { IsTrue result ↔ (self.now ≡ []) }
+    {
+        self.rest.is_none()
+    }
+}
+
+/// The number that a word spells, at most `most`, with no sign and no leading zero. Else BadNumber.
+pub(crate) fn number(word: &[u8], most: u64) -> Result<u64, ScriptRefusal>
+    ensures exact { result ≡ number_of most word.now }
+    ensures within { IfOk result (λ n. n ≤ most) }
+    ensures refused { IfErr result (λ refusal. refusal ≡ ScriptRefusal.BadNumber) }
+{
+    if word.is_empty() {
+        return Err(ScriptRefusal::BadNumber);
+    }
+    if word[0] == b'0' && word.len() > 1 {
+        return Err(ScriptRefusal::BadNumber);
+    }
+    let mut value: u64 = 0;
+    for byte in word {
+        if !byte.is_ascii_digit() {
+            return Err(ScriptRefusal::BadNumber);
+        }
+        let digit = u64::from(*byte - b'0');
+        let Some(tens) = value.checked_mul(10) else {
+            return Err(ScriptRefusal::BadNumber);
+        };
+        let Some(next) = tens.checked_add(digit) else {
+            return Err(ScriptRefusal::BadNumber);
+        };
+        value = next;
+    }
+    if most < value {
+        return Err(ScriptRefusal::BadNumber);
+    }
+    Ok(value)
+}
+
+/// A number of 32 bits.
+pub(crate) fn number_u32(word: &[u8]) -> Result<u32, ScriptRefusal>
+    ensures exact { result ≡ number_of 4294967295 word.now }
+    ensures refused { IfErr result (λ refusal. refusal ≡ ScriptRefusal.BadNumber) }
+{
+    Ok(number(word, u64::from(u32::MAX))? as u32)
+}
+
+/// The first line, and the text behind its end.
+#[tactic(auto, using(crate::proofs::Cuts::one_line, crate::proofs::Cuts::last_line))]
+pub(crate) fn first_line(text: &[u8]) -> (&[u8], &[u8])
+    requires { 0 < length text.now }
+    ensures lines { lines_of text.now ≡ result.0.now ∷ lines_of result.1.now }
+    ensures shorter { length result.1.now < length text.now }
+{
+    match cut(text, b'\n') {
+        (line, None) => (line, &[]),
+        (line, Some(rest)) => (line, rest),
+    }
+}

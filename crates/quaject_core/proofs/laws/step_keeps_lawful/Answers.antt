@@ -1,0 +1,5 @@
+use Rattle.quaject_core.proofs.Schedules.{step_law}
+use Rattle.quaject_core.proofs.laws.step_keeps_lawful.Goals as goal
+
+pub returns : goal.returns
+returns c = step_law

@@ -1,0 +1,46 @@
+-- How the machine stores a queue: all places that were ever claimed side by side, and where each run lies.
+use Rattle.std.specs.Prelude.{◌≡◌, ℕ, ◌+◌, nat_lt, Bool, false, ◌&&◌, List, [], ◌∷◌, map, take, drop, slice_index_or, Option, Some, None}
+use Rattle.std.specs.List.{slice_get}
+use Rattle.std.specs.Coded.{×_prop, Coded-set, coded_ℕ}
+use Rattle.quaject_core.specs.Runs.{Run}
+use Rattle.quaject_core.specs.Queues.{Queue}
+use Rattle.quaject_core.specs.declared.stored.Place.{Place}
+use Rattle.quaject_core.specs.declared.stored.Span.{Span}
+
+-- a place as it is claimed
+abbrev pub fresh : ℕ → Place
+fresh item = record { item = item; raised = false }
+
+abbrev pub item_of : Place → ℕ
+item_of place = place.item
+
+abbrev pub flag_of : Place → Bool
+flag_of place = place.raised
+
+-- the run that lies there
+abbrev pub run_at : List ℕ → Span → Run
+run_at items span = record { call = span.call; items = take span.count (drop span.start items) }
+
+-- the flag of an item of a run, where there is one
+abbrev pub flag_at : List Bool → ℕ → Option Span → Bool
+flag_at flags index None = false
+flag_at flags index (Some span) = nat_lt index span.count && slice_index_or flags (span.start + index) false
+
+-- the queue that is stored so
+abbrev pub queue_at : ℕ → List Span → List Place → ℕ → Queue
+queue_at capacity spans places taken = record {
+  history = map (run_at (map item_of places)) spans;
+  raised = λ run index. flag_at (map flag_of places) index (slice_get spans run);
+  taken = taken;
+  capacity = capacity;
+}
+
+-- each run starts where the one before it ends, and the last ends here
+abbrev pub Laid : ℕ → List Span → ℕ → Type 0
+Laid start [] end = start ≡ end
+Laid start (span ∷ spans) end = (span.start ≡ start) × Laid (start + span.count) spans end
+
+-- there is one proof of it
+pub Laid-prop : (start : ℕ) (spans : List Span) (end : ℕ) → IsProp (Laid start spans end)
+Laid-prop start [] end = Coded-set coded_ℕ start end
+Laid-prop start (span ∷ spans) end = ×_prop (Coded-set coded_ℕ span.start start) (Laid-prop (start + span.count) spans end)

@@ -1,0 +1,232 @@
+use crate::program::{Ended, no_memory, run_main, run_on, usage};
+use std::alloc::Global;
+use std::io;
+use std::io::{ErrorKind, Read, Write};
+use std::process::Abort;
+
+/// Gives a byte at each call of read, and fails at the last of so many calls.
+#[derive(Drop)]
+struct Failing<'a> {
+    bytes: &'a [u8],
+    kind: ErrorKind,
+    calls: usize,
+}
+
+impl Read for Failing<'_> {
+    fn read(&mut self, buf: &mut [u8]) -> io::Result<usize> {
+        if self.calls == 0 {
+            return Err(io::Error::from(self.kind));
+        }
+        self.calls -= 1;
+        match self.bytes {
+            [first, rest @ ..] if !buf.is_empty() => {
+                buf[0] = *first;
+                self.bytes = rest;
+                Ok(1)
+            }
+            _ => Ok(0),
+        }
+    }
+}
+
+/// Takes a byte at each call of write, and fails behind the last of so many calls.
+#[derive(Drop)]
+struct Full {
+    calls: usize,
+}
+
+impl Write for Full {
+    fn write(&mut self, buf: &[u8]) -> io::Result<usize> {
+        if self.calls == 0 {
+            return Err(io::Error::from(ErrorKind::StorageFull));
+        }
+        self.calls -= 1;
+        Ok(buf.len().min(1))
+    }
+
+    fn flush(&mut self) -> io::Result<()> {
+        Ok(())
+    }
+}
+
+const REFUSED: &[u8] =
+    b"events 1\nqueue 4\nclaim c1 q0 10 11\nclaim c2 q0 12\nraise c2 q0 1 0\ntake c1 q0 1\n";
+
+const REFUSED_STATUS: &[u8] =
+    b"events 4\nqueue q0 capacity 4 runs 2 put 3 taken 0 left 3 raised 1\nrefused 6 7 NotRaised\n";
+
+const ALLOWED: &[u8] =
+    b"events 1\nqueue 4\nclaim c1 q0 10 11\nclaim c2 q0 12\nraise c2 q0 1 0\nraise c1 q0 0 0\ntake c1 q0 1\n";
+
+const ALLOWED_STATUS: &[u8] =
+    b"events 6\nqueue q0 capacity 4 runs 2 put 3 taken 1 left 2 raised 1\n";
+
+const USAGE: &[u8] = b"usage: synthesis replay | synthesis boot P TURNS\n";
+
+/// Asserts the status of a replay, and the bytes on both streams.
+fn assert_replay(
+    rt: &impl Abort,
+    alloc: Global,
+    script: &[u8],
+    status: u8,
+    printed: &[u8],
+    told: &[u8],
+) {
+    let mut reader = script;
+    let mut output = Vec::new(alloc);
+    let mut errors = Vec::new(alloc);
+    let ended = run_on(alloc, &["replay"], &mut reader, &mut output, &mut errors);
+    assert_eq!(rt; ended.status, status);
+    assert!(rt; ended.told.is_ok());
+    assert_eq!(rt; output.as_slice(), printed);
+    assert_eq!(rt; errors.as_slice(), told);
+    let sink = Vec::<u8>::new(alloc);
+    let words = Vec::<u8>::new(alloc);
+    assert_eq!(rt; run_main(alloc, &["replay"], script, sink, words), status);
+}
+
+#[test]
+fn replays_a_list(rt: HostRuntime) {
+    assert_replay(&rt, rt.alloc(), b"events 1", 0, b"events 0\n", b"");
+    assert_replay(&rt, rt.alloc(), REFUSED, 1, REFUSED_STATUS, b"");
+    assert_replay(&rt, rt.alloc(), ALLOWED, 0, ALLOWED_STATUS, b"");
+    assert_replay(
+        &rt,
+        rt.alloc(),
+        b"events 1\nqueue 2\nclaim c1 q0 5 6\nclaim c1 q0 7",
+        1,
+        b"events 2\nqueue q0 capacity 2 runs 1 put 2 taken 0 left 2 raised 0\nrefused 4 4 Full\n",
+        b"",
+    );
+}
+
+#[test]
+fn tells_a_fault_of_the_script(rt: HostRuntime) {
+    let faults: [(&[u8], &[u8]); 9] = [
+        (b"", b"line 1: 1 NotVersion\n"),
+        (b"events 2x", b"line 1: 1 NotVersion\n"),
+        (b"events 1\nque 4", b"line 2: 2 UnknownWord\n"),
+        (b"events 1\nqueue 4 ", b"line 2: 2 UnknownWord\n"),
+        (b"events 1\nqueue 01", b"line 2: 3 BadNumber\n"),
+        (b"events 1\nqueue  4", b"line 2: 3 BadNumber\n"),
+        (b"events 1\n#\n\ntake c64 q0 1", b"line 4: 4 BadName\n"),
+        (b"events 1\n\x80", b"line 2: 9 NotAscii\n"),
+        (&[b'#'; 65_537], b"line 0: 7 TooMany\n"),
+    ];
+    for (script, told) in faults {
+        assert_replay(&rt, rt.alloc(), script, 1, b"", told);
+    }
+}
+
+#[test]
+fn other_words_are_a_usage_fault(rt: HostRuntime) {
+    let commands: [&[&str]; 8] = [
+        &[],
+        &[""],
+        &["Replay"],
+        &["replay "],
+        &["replay", ""],
+        &["replay", "replay"],
+        &["boot"],
+        &["help"],
+    ];
+    for words in commands {
+        let mut reader = REFUSED;
+        let mut output = Vec::new(rt.alloc());
+        let mut errors = Vec::new(rt.alloc());
+        let ended = run_on(rt.alloc(), words, &mut reader, &mut output, &mut errors);
+        assert_eq!(rt; ended.status, 2);
+        assert!(rt; ended.told.is_ok());
+        assert_eq!(rt; reader, REFUSED);
+        assert!(rt; output.is_empty());
+        assert_eq!(rt; errors.as_slice(), USAGE);
+    }
+    let mut errors = Vec::new(rt.alloc());
+    assert_eq!(rt; usage(&mut errors), 2);
+    assert_eq!(rt; errors.as_slice(), USAGE);
+}
+
+#[test]
+fn tells_a_failing_reader(rt: HostRuntime) {
+    for calls in 0..=REFUSED.len() {
+        let mut reader = Failing {
+            bytes: REFUSED,
+            kind: ErrorKind::ConnectionReset,
+            calls,
+        };
+        let mut output = Vec::new(rt.alloc());
+        let mut errors = Vec::new(rt.alloc());
+        let ended = run_on(
+            rt.alloc(),
+            &["replay"],
+            &mut reader,
+            &mut output,
+            &mut errors,
+        );
+        assert_eq!(rt; ended.status, 5);
+        assert!(rt; output.is_empty());
+        assert_eq!(rt; errors.as_slice(), b"read fault\n".as_slice());
+    }
+}
+
+#[test]
+fn ends_where_reads_are_interrupted_forever(rt: HostRuntime) {
+    let mut reader = Failing {
+        bytes: REFUSED,
+        kind: ErrorKind::Interrupted,
+        calls: 10,
+    };
+    let mut output = Vec::new(rt.alloc());
+    let mut errors = Vec::new(rt.alloc());
+    let ended = run_on(
+        rt.alloc(),
+        &["replay"],
+        &mut reader,
+        &mut output,
+        &mut errors,
+    );
+    assert_eq!(rt; ended.status, 5);
+    assert!(rt; output.is_empty());
+    assert_eq!(rt; errors.as_slice(), b"read fault\n".as_slice());
+}
+
+#[test]
+fn tells_a_failing_writer(rt: HostRuntime) {
+    for calls in 0..REFUSED_STATUS.len() {
+        let mut reader = REFUSED;
+        let mut errors = Vec::new(rt.alloc());
+        let ended = run_on(
+            rt.alloc(),
+            &["replay"],
+            &mut reader,
+            &mut Full { calls },
+            &mut errors,
+        );
+        assert_eq!(rt; ended.status, 5);
+        assert_eq!(rt; errors.as_slice(), b"write fault\n".as_slice());
+    }
+}
+
+#[test]
+fn a_failing_error_stream_changes_no_status(rt: HostRuntime) {
+    let mut output = Vec::new(rt.alloc());
+    let mut reader = b"events 1\nque 4".as_slice();
+    let Ended { status, told } = run_on(
+        rt.alloc(),
+        &["replay"],
+        &mut reader,
+        &mut output,
+        &mut Full { calls: 3 },
+    );
+    assert_eq!(rt; status, 1);
+    assert!(rt; told.is_err());
+    assert_eq!(rt; usage(&mut Full { calls: 0 }), 2);
+    assert_eq!(rt; no_memory(&mut Full { calls: 0 }), 3);
+}
+
+#[test]
+fn tells_want_of_memory(rt: HostRuntime) {
+    let mut errors = Vec::new(rt.alloc());
+    assert_eq!(rt; no_memory(&mut errors), 3);
+    assert_eq!(rt; errors.as_slice(), b"no memory\n".as_slice());
+}

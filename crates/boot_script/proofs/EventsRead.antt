@@ -5,8 +5,8 @@ use Rattle.boot_script.specs.declared.fault.ScriptRefusal.{ScriptRefusal}
 use Rattle.boot_script.specs.declared.fault.ScriptRefusal.TheVariants as refusals
 use Rattle.boot_script.specs.declared.fault.ScriptFault.{ScriptFault}
 use Rattle.boot_script.specs.declared.version.Version.{Version}
-use Rattle.boot_script.specs.Words.{lines_of}
-use Rattle.boot_script.specs.Grammar.{◌>>=◌, line_event}
+use Rattle.boot_script.specs.Words.{◌>>=◌, lines_of}
+use Rattle.boot_script.specs.Grammar.{line_event}
 use Rattle.boot_script.specs.Scripts.{says_nothing, at_line, events_from}
 use Rattle.boot_script.specs.Answers.{Fails}
 use Rattle.boot_script.proofs.Gathered.{with_front, regroup, all_done}

@@ -4,8 +4,8 @@ use Rattle.std.proofs.lemmas.Bool.Decides.{nat_tests}
 use Rattle.std.specs.Prelude.{nat_le}
 use Rattle.boot_script.specs.declared.fault.ScriptRefusal.{ScriptRefusal}
 use Rattle.boot_script.specs.declared.fault.ScriptRefusal.TheVariants.{BadNumber, TooMany}
-use Rattle.boot_script.specs.Words.{number_of, first_word, later_words}
-use Rattle.boot_script.specs.Grammar.{◌>>=◌, numbers_of, at_most_of, items_of}
+use Rattle.boot_script.specs.Words.{◌>>=◌, number_of, first_word, later_words}
+use Rattle.boot_script.specs.Grammar.{numbers_of, at_most_of, items_of}
 use Rattle.boot_script.specs.Answers.{Fails}
 use Rattle.boot_script.proofs.Gathered.{with_front, regroup}
 

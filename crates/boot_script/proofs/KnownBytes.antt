@@ -1,10 +1,11 @@
 -- Known bytes that grow in several steps.
-use Rattle.std.proofs.Common.{◌≡◌, ℕ, suc, ◌<◌, ◌+◌, List, [], ◌∷◌, ◌++◌, ◌∙◌, sym, ap, append_assoc, length, drop, get_or, add-one, Option, Some, None}
+use Rattle.std.proofs.Common.{◌≡◌, ℕ, suc, ◌<◌, ◌+◌, List, [], ◌∷◌, ◌++◌, ◌∙◌, sym, ap, subst, append_assoc, length, drop, get_or, add-one, Option, Some, None, Result}
 use Rattle.std.proofs.Math.Seq.{drop-cons}
 use Rattle.std.proofs.lemmas.List.{append-nil}
+use Rattle.std.proofs.lemmas.Result.{on_ok_weaker}
+use Rattle.std.specs.Prelude.{OnOk}
 use Rattle.std.specs.Io.KnownBytes.{Appends}
-use Rattle.quaject_core.specs.declared.status.QueueStatus.{QueueStatus}
-use Rattle.boot_script.specs.Printed.{queue_line, queue_lines}
+use Rattle.boot_script.specs.Printed.{numbered_lines}
 
 pub appends_join : (a b c : Option (List ℕ)) (x y : List ℕ) → Appends a b x → Appends b c y → Appends a c (x ++ y)
 appends_join None b c x y h k = tt
@@ -16,8 +17,12 @@ pub appends_nothing : (a : Option (List ℕ)) → Appends a a []
 appends_nothing None = tt
 appends_nothing (Some xs) = sym (append-nil xs)
 
-pub lines_more : (old new later : Option (List ℕ)) (i : ℕ) (qs : List QueueStatus) (q : QueueStatus) → i < length qs → q ≡ get_or qs i q → Appends old new (queue_line i q)
-    → Appends new later (queue_lines (i + 1) (drop (i + 1) qs)) → Appends old later (queue_lines i (drop i qs))
-lines_more old new later i qs q within is h k =
-    let e : drop i qs ≡ q ∷ drop (i + 1) qs = drop-cons qs i q within ∙ (ap (λ x. x ∷ drop (suc i) qs) (sym is) ∙ ap (λ n. q ∷ drop n qs) (sym (add-one i))) in
-    rw e (appends_join old new later (queue_line i q) (queue_lines (i + 1) (drop (i + 1) qs)) h k)
+pub lines_more : {A : Type 0} (line : ℕ → A → List ℕ) (old new later : Option (List ℕ)) (i : ℕ) (things : List A) (x : A) → i < length things → x ≡ get_or things i x → Appends old new (line i x)
+    → Appends new later (numbered_lines line (i + 1) (drop (i + 1) things)) → Appends old later (numbered_lines line i (drop i things))
+lines_more line old new later i things x within is h k =
+    let e : drop i things ≡ x ∷ drop (i + 1) things = drop-cons things i x within ∙ (ap (λ y. y ∷ drop (suc i) things) (sym is) ∙ ap (λ n. x ∷ drop n things) (sym (add-one i))) in
+    rw e (appends_join old new later (line i x) (numbered_lines line (i + 1) (drop (i + 1) things)) h k)
+
+-- what was appended before, and what a call appends where it answers Ok
+pub then_appends : {A E : Type 0} (result : Result A E) (a b c : Option (List ℕ)) (x y z : List ℕ) → Appends a b x → OnOk result (Appends b c y) → x ++ y ≡ z → OnOk result (Appends a c z)
+then_appends result a b c x y z first h e = on_ok_weaker result (λ k. subst (Appends a c) e (appends_join a b c x y first k)) h

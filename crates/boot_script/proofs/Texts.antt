@@ -6,18 +6,19 @@ use Rattle.std.specs.Prelude.{nat_lt}
 use Rattle.std.specs.List.{list_all}
 use Rattle.std.specs.Str.{bytes_eq}
 use Rattle.quaject_core.specs.declared.event.Event.{Event}
-use Rattle.quaject_core.specs.declared.event.Event.TheVariants.{Queue, Claim, Raise, Take}
+use Rattle.quaject_core.specs.declared.event.Event.TheVariants as events
 use Rattle.boot_script.specs.declared.fault.ScriptRefusal.{ScriptRefusal}
 use Rattle.boot_script.specs.declared.fault.ScriptRefusal.TheVariants.{NotVersion, NotAscii}
 use Rattle.boot_script.specs.declared.fault.ScriptFault.{ScriptFault}
 use Rattle.boot_script.specs.declared.version.Version.{Version}
 use Rattle.boot_script.specs.declared.version.Version.TheVariants.{One, Two, Three}
-use Rattle.boot_script.specs.Words.{lines_of}
+use Rattle.boot_script.specs.Words.{◌>>=◌, lines_of}
 use Rattle.boot_script.specs.Versions.{elements_of, version_line}
-use Rattle.boot_script.specs.Grammar.{◌>>=◌, is_printable, line_event}
+use Rattle.boot_script.specs.Grammar.{is_printable, line_event}
 use Rattle.boot_script.specs.Scripts.{says_nothing, at_line, events_from, version_of, script_of, text_events}
 use Rattle.boot_script.specs.Spellings.{spelling, Spells, SpellsText}
-use Rattle.boot_script.proofs.Spelled.{bind_ok, chosen, line_ok}
+use Rattle.boot_script.proofs.Binds.{bind_ok, chosen}
+use Rattle.boot_script.proofs.Spelled.{line_ok}
 use Rattle.boot_script.proofs.Again.{line_again}
 use Rattle.boot_script.proofs.EventsRead.{from_line}
 
@@ -69,10 +70,31 @@ events_ok version number (line ∷ lines) events h =
 -- a line that spells an event isn't silent
 loud : (event : Event) → false ≡ says_nothing (spelling event)
 unfolding spelling
-loud (Queue capacity) = refl
-loud (Claim call queue items) = refl
-loud (Raise call queue run index) = refl
-loud (Take call queue count) = refl
+loud (events.Queue capacity) = refl
+loud events.Chain = refl
+loud (events.Claim call queue items) = refl
+loud (events.Raise call queue run index) = refl
+loud (events.Take call queue count) = refl
+loud (events.On call processor element) = refl
+loud (events.Off call processor) = refl
+loud (events.Stop call element) = refl
+loud (events.Park call element) = refl
+loud (events.Start call element) = refl
+loud (events.Signal call element signal) = refl
+loud (events.Deliver call element) = refl
+loud (events.Done call element) = refl
+loud (events.Notify call chain) = refl
+loud (events.NotifyWait call wait) = refl
+loud (events.Round call chain) = refl
+loud (events.Leave call chain) = refl
+loud (events.Tick call gauge amount) = refl
+loud (events.Advance call) = refl
+loud (events.Set call due element signal) = refl
+loud (events.Fire call slot) = refl
+loud (events.Cancel call slot) = refl
+loud (events.Join call other) = refl
+loud (events.Shut call queue) = refl
+loud (events.WaitAt call wait element ticket) = refl
 
 events_again : (version : Version) (number : ℕ) (lines : List (List ℕ)) (events : List (ℕ × Event)) → Spells version number lines events → events_from version number lines ≡ Ok events
 unfolding events_from

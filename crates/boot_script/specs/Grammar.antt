@@ -1,50 +1,81 @@
 -- The event that a line says, or why the line is refused. The order of the steps is the order of the refusals.
-use Rattle.std.specs.Prelude.{ℕ, ◌&&◌, Bool, List, [], ◌∷◌, length, Result, Ok, Err, nat_le, ◌==◌, if◌then◌else◌, codes}
+use Rattle.std.specs.Prelude.{ℕ, ◌&&◌, Bool, List, [], ◌∷◌, length, Result, Ok, Err, nat_le, if◌then◌else◌}
 use Rattle.std.specs.List.{list_all}
-use Rattle.std.specs.Str.{bytes_eq}
 use Rattle.quaject_core.specs.declared.event.Event.{Event}
-use Rattle.quaject_core.specs.declared.event.Event.TheVariants.{Queue, Claim, Raise, Take}
-use Rattle.quaject_core.specs.declared.names.QueueName.{QueueName}
-use Rattle.quaject_core.specs.declared.names.QueueName.TheVariants.{Bytes}
+use Rattle.quaject_core.specs.declared.event.Event.TheVariants.{Queue, Chain, Claim, Raise, Take, On, Off, Stop, Park}
+use Rattle.quaject_core.specs.declared.event.Event.TheVariants.{Start, Signal, Deliver, Done, Notify, NotifyWait}
+use Rattle.quaject_core.specs.declared.event.Event.TheVariants.{Round, Leave, Tick, Advance, Set, Fire, Cancel, Join}
+use Rattle.quaject_core.specs.declared.event.Event.TheVariants.{Shut, WaitAt}
+use Rattle.boot_script.specs.declared.commands.Command.{Command}
+use Rattle.boot_script.specs.declared.commands.Command.TheVariants as command
 use Rattle.boot_script.specs.declared.fault.ScriptRefusal.{ScriptRefusal}
-use Rattle.boot_script.specs.declared.fault.ScriptRefusal.TheVariants.{UnknownWord, BadName, TooMany, NotAscii}
+use Rattle.boot_script.specs.declared.fault.ScriptRefusal.TheVariants.{UnknownWord, TooMany, NotAscii}
+use Rattle.boot_script.specs.declared.names.Listener.{Listener}
+use Rattle.boot_script.specs.declared.names.Listener.TheVariants as listener
 use Rattle.boot_script.specs.declared.version.Version.{Version}
-use Rattle.boot_script.specs.Words.{words_of, word_at, words_from, number_of}
+use Rattle.boot_script.specs.Words.{◌>>=◌, words_of, word_at, words_from, number_of}
+use Rattle.boot_script.specs.Names.{call_of, processor_of, element_of, gauge_of, signal_of, slot_of}
+use Rattle.boot_script.specs.Names.{byte_queue_of, chain_of, wait_of, queue_of, listener_of}
+use Rattle.boot_script.specs.Commands.{command_of}
 
--- what comes next, where nothing was refused
-infixl 10 ◌>>=◌
-abbrev pub ◌>>=◌ : {A B E : Type 0} → Result A E → (A → Result B E) → Result B E
-(Ok x) >>= f = f x
-(Err e) >>= f = Err e
-
--- a number that is part of a name
-abbrev pub in_a_name : Result ℕ ScriptRefusal → Result ℕ ScriptRefusal
-in_a_name (Ok n) = Ok n
-in_a_name (Err e) = Err BadName
-
--- a letter and a number
-abbrev pub numbered_name : ℕ → ℕ → List ℕ → Result ℕ ScriptRefusal
-numbered_name letter most [] = Err BadName
-numbered_name letter most (first ∷ digits) =
-    if first == letter then in_a_name (number_of most digits) else Err BadName
-
--- a call is a `c` and its number
-abbrev pub call_of : List ℕ → Result ℕ ScriptRefusal
-call_of word = numbered_name 99 63 word
-
--- a byte queue is a `q` and its number
-abbrev pub queue_of : Version → List ℕ → Result QueueName ScriptRefusal
-queue_of version word = numbered_name 113 7 word >>= λ number. Ok (Bytes number)
-
--- each word is a number
-abbrev pub numbers_of : ℕ → List (List ℕ) → Result (List ℕ) ScriptRefusal
-numbers_of most [] = Ok []
-numbers_of most (word ∷ words) = number_of most word >>= λ n. numbers_of most words >>= λ ns. Ok (n ∷ ns)
+-- how a word is read
+abbrev pub Reader : Type 0 → Type 0
+Reader A = List ℕ → Result A ScriptRefusal
 
 -- no word is left
 abbrev pub no_more_of : List (List ℕ) → Result (Unit {0}) ScriptRefusal
 no_more_of [] = Ok tt
 no_more_of (word ∷ words) = Err UnknownWord
+
+-- an event of no words
+unfoldable pub no_words : Event → List (List ℕ) → Result Event ScriptRefusal
+no_words event words = do
+  end ← no_more_of words
+  Ok event
+
+-- an event of one word
+unfoldable pub one_word : {A : Type 0} → Reader A → (A → Event) → List (List ℕ) → Result Event ScriptRefusal
+one_word first event words = do
+  a ← first (word_at 0 words)
+  end ← no_more_of (words_from 1 words)
+  Ok (event a)
+
+-- an event of two words
+unfoldable pub two_words :
+    {A B : Type 0} → Reader A → Reader B → (A → B → Event) → List (List ℕ) → Result Event ScriptRefusal
+two_words first second event words = do
+  a ← first (word_at 0 words)
+  b ← second (word_at 1 words)
+  end ← no_more_of (words_from 2 words)
+  Ok (event a b)
+
+-- an event of three words
+unfoldable pub three_words :
+    {A B C : Type 0} → Reader A → Reader B → Reader C → (A → B → C → Event) → List (List ℕ)
+    → Result Event ScriptRefusal
+three_words first second third event words = do
+  a ← first (word_at 0 words)
+  b ← second (word_at 1 words)
+  c ← third (word_at 2 words)
+  end ← no_more_of (words_from 3 words)
+  Ok (event a b c)
+
+-- an event of four words
+unfoldable pub four_words :
+    {A B C D : Type 0} → Reader A → Reader B → Reader C → Reader D → (A → B → C → D → Event) → List (List ℕ)
+    → Result Event ScriptRefusal
+four_words first second third fourth event words = do
+  a ← first (word_at 0 words)
+  b ← second (word_at 1 words)
+  c ← third (word_at 2 words)
+  d ← fourth (word_at 3 words)
+  end ← no_more_of (words_from 4 words)
+  Ok (event a b c d)
+
+-- each word is a number
+abbrev pub numbers_of : ℕ → List (List ℕ) → Result (List ℕ) ScriptRefusal
+numbers_of most [] = Ok []
+numbers_of most (word ∷ words) = number_of most word >>= λ n. numbers_of most words >>= λ ns. Ok (n ∷ ns)
 
 -- no more items than a line may have
 abbrev pub at_most_of : ℕ → List ℕ → Result (Unit {0}) ScriptRefusal
@@ -57,55 +88,58 @@ items_of words = do
   end ← at_most_of 256 items
   Ok items
 
--- `queue N`
-unfoldable pub queue_event : List (List ℕ) → Result Event ScriptRefusal
-queue_event words = do
-  capacity ← number_of 65535 (word_at 0 words)
-  end ← no_more_of (words_from 1 words)
-  Ok (Queue capacity)
-
--- `claim c Q items..`
-unfoldable pub claim_event : Version → List (List ℕ) → Result Event ScriptRefusal
-claim_event version words = do
+-- a call, a queue and items
+unfoldable pub claim_words : Version → List (List ℕ) → Result Event ScriptRefusal
+claim_words version words = do
   call ← call_of (word_at 0 words)
   queue ← queue_of version (word_at 1 words)
   items ← items_of (words_from 2 words)
   Ok (Claim call queue items)
 
--- `raise c Q run i`
-unfoldable pub raise_event : Version → List (List ℕ) → Result Event ScriptRefusal
-raise_event version words = do
-  call ← call_of (word_at 0 words)
-  queue ← queue_of version (word_at 1 words)
-  run ← number_of 4294967295 (word_at 2 words)
-  index ← number_of 4294967295 (word_at 3 words)
-  end ← no_more_of (words_from 4 words)
-  Ok (Raise call queue run index)
-
--- `take c Q n`
-unfoldable pub take_event : Version → List (List ℕ) → Result Event ScriptRefusal
-take_event version words = do
-  call ← call_of (word_at 0 words)
-  queue ← queue_of version (word_at 1 words)
-  count ← number_of 4294967295 (word_at 2 words)
-  end ← no_more_of (words_from 3 words)
-  Ok (Take call queue count)
+-- the event of a notify
+abbrev pub notify_event : ℕ → Listener → Event
+notify_event call (listener.Chain chain) = Notify call chain
+notify_event call (listener.Wait wait) = NotifyWait call wait
 
 -- the event that a command and the words behind it say
-unfoldable pub event_of : Version → List ℕ → List (List ℕ) → Result Event ScriptRefusal
-event_of version command words =
-    if bytes_eq command (codes "queue") then queue_event words
-    else if bytes_eq command (codes "claim") then claim_event version words
-    else if bytes_eq command (codes "raise") then raise_event version words
-    else if bytes_eq command (codes "take") then take_event version words
-    else Err UnknownWord
+unfoldable pub event_of : Version → Command → List (List ℕ) → Result Event ScriptRefusal
+event_of version command.Queue words = one_word (number_of 65535) Queue words
+event_of version command.Chain words = no_words Chain words
+event_of version command.Claim words = claim_words version words
+event_of version command.Raise words =
+    four_words call_of (queue_of version) (number_of 4294967295) (number_of 4294967295) Raise words
+event_of version command.Take words = three_words call_of (queue_of version) (number_of 4294967295) Take words
+event_of version command.On words = three_words call_of (processor_of version) (element_of version) On words
+event_of version command.Off words = two_words call_of (processor_of version) Off words
+event_of version command.Stop words = two_words call_of (element_of version) Stop words
+event_of version command.Park words = two_words call_of (element_of version) Park words
+event_of version command.Start words = two_words call_of (element_of version) Start words
+event_of version command.Signal words = three_words call_of (element_of version) signal_of Signal words
+event_of version command.Deliver words = two_words call_of (element_of version) Deliver words
+event_of version command.Done words = two_words call_of (element_of version) Done words
+event_of version command.Notify words = two_words call_of (listener_of version) notify_event words
+event_of version command.Round words = two_words call_of chain_of Round words
+event_of version command.Leave words = two_words call_of chain_of Leave words
+event_of version command.Tick words = three_words call_of gauge_of (number_of 18446744073709551615) Tick words
+event_of version command.Advance words = one_word call_of Advance words
+event_of version command.Set words = four_words call_of (number_of 4294967295) (element_of version) signal_of Set words
+event_of version command.Fire words = two_words call_of slot_of Fire words
+event_of version command.Cancel words = two_words call_of slot_of Cancel words
+event_of version command.Join words = two_words call_of call_of Join words
+event_of version command.Shut words = two_words call_of byte_queue_of Shut words
+event_of version command.WaitAt words =
+    four_words call_of (wait_of version) (element_of version) (number_of 4294967295) WaitAt words
 
 -- 0x20 to 0x7E
 abbrev pub is_printable : ℕ → Bool
 is_printable byte = nat_le 32 byte && nat_le byte 126
 
+-- the event that the words of a line say: a command, and the words behind it
+abbrev pub words_event : Version → List (List ℕ) → Result Event ScriptRefusal
+words_event version words = do
+  command ← command_of version (word_at 0 words)
+  event_of version command (words_from 1 words)
+
 -- the event that a line says
 unfoldable pub line_event : Version → List ℕ → Result Event ScriptRefusal
-line_event version line =
-    if list_all is_printable line then event_of version (word_at 0 (words_of line)) (words_from 1 (words_of line))
-    else Err NotAscii
+line_event version line = if list_all is_printable line then words_event version (words_of line) else Err NotAscii

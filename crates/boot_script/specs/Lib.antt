@@ -1,5 +1,7 @@
 pub mod Words
 pub mod Versions
+pub mod Names
+pub mod Commands
 pub mod Grammar
 pub mod Scripts
 pub mod Spellings

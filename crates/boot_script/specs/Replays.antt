@@ -3,7 +3,8 @@ use Rattle.std.specs.Prelude.{◌≡◌, ℕ, List, ◌++◌, map, take, Option,
 use Rattle.std.specs.List.{slice_get}
 use Rattle.std.specs.Io.KnownBytes.{Appends}
 use Rattle.quaject_core.specs.declared.event.Event.{Event}
-use Rattle.quaject_core.specs.States.{State, first_state, step, Reaches}
+use Rattle.quaject_core.specs.States.{State, first_state, step}
+use Rattle.quaject_core.specs.Schedules.{Reaches}
 use Rattle.quaject_core.specs.declared.status.Status.{Status}
 use Rattle.quaject_core.specs.Statuses.{status_of}
 use Rattle.boot_script.specs.declared.fault.ScriptFault.{ScriptFault}

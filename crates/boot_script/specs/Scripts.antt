@@ -9,9 +9,9 @@ use Rattle.boot_script.specs.declared.fault.ScriptRefusal.TheVariants.{NotVersio
 use Rattle.boot_script.specs.declared.fault.ScriptFault.{ScriptFault}
 use Rattle.boot_script.specs.declared.version.Version.{Version}
 use Rattle.boot_script.specs.declared.version.Version.TheVariants.{One, Two, Three}
-use Rattle.boot_script.specs.Words.{lines_of}
+use Rattle.boot_script.specs.Words.{◌>>=◌, lines_of}
 use Rattle.boot_script.specs.Versions.{elements_of, version_line}
-use Rattle.boot_script.specs.Grammar.{◌>>=◌, is_printable, line_event}
+use Rattle.boot_script.specs.Grammar.{is_printable, line_event}
 
 -- an empty line and a comment say nothing
 abbrev pub says_nothing : List ℕ → Bool

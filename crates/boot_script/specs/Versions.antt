@@ -1,5 +1,5 @@
 -- The versions of a list of events.
-use Rattle.std.specs.Prelude.{ℕ, List, codes}
+use Rattle.std.specs.Prelude.{ℕ, List, Bool, true, false, codes}
 use Rattle.boot_script.specs.declared.version.Version.{Version}
 use Rattle.boot_script.specs.declared.version.Version.TheVariants.{One, Two, Three}
 
@@ -8,6 +8,30 @@ abbrev pub elements_of : Version → ℕ
 elements_of One = 16
 elements_of Two = 16
 elements_of Three = 64
+
+-- the number of a version's last element
+abbrev pub last_element : Version → ℕ
+last_element One = 15
+last_element Two = 15
+last_element Three = 63
+
+-- the number of a version's last processor
+abbrev pub last_processor : Version → ℕ
+last_processor One = 3
+last_processor Two = 3
+last_processor Three = 7
+
+-- the number of a version's last wait queue
+abbrev pub last_wait : Version → ℕ
+last_wait One = 7
+last_wait Two = 7
+last_wait Three = 15
+
+-- queues are shut and wait queues told from the second version on
+abbrev pub is_later : Version → Bool
+is_later One = false
+is_later Two = true
+is_later Three = true
 
 -- the first line of a list of events of a version
 abbrev pub version_line : Version → List ℕ

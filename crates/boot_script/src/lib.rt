@@ -4,6 +4,7 @@
 //! core's status. Each text has one reading or one first fault, and each event one spelling.
 #![tactic(auto)]
 
+mod commands;
 mod event_lines;
 mod events;
 mod fault;

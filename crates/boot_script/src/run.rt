@@ -3,7 +3,7 @@
 ghost use Rattle.std.specs.Prelude.{◌≡◌, ◌≢◌, ◌≤◌, ◌<◌, length, take, IfOk, IfErr, IfSome, OnOk};
 ghost use Rattle.std.specs.Io.KnownBytes.{Appends, Keeps};
 ghost use Rattle.quaject_core.specs.States.{first_state};
-ghost use Rattle.quaject_core.specs.Shown.{state};
+ghost use Rattle.quaject_core.specs.ShownCores.{state};
 ghost use Rattle.boot_script.specs.Scripts.{text_events};
 ghost use Rattle.boot_script.specs.Replays.{Replays, replay_text, IsReplay, IsAnswer, IsReplayFault, Ends};
 

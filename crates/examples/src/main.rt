@@ -1,37 +1,111 @@
-//! Replays each example and compares what is printed with the status that lies beside it.
+//! Replays each example and compares what is printed with the status that lies beside it, and so each row of the
+//! table of events and refusals.
 #![tactic(auto)]
 
-use boot_script::{ReplayFault, replay_on};
+use boot_script::{ReplayFault, Replayed, replay_on};
+use std::alloc::Global;
 use std::process::ExitCode;
 use std::{fs, io};
 
 /// Each example: the list of events is in NAME.events, and what it prints in NAME.status.
-const NAMES: [&str; 6] = [
+const NAMES: [&str; 8] = [
     "two-producers",
     "not-raised",
     "full-queue",
     "three-queues",
     "not-owner",
+    "one-note",
+    "into-the-stop-cell",
     "fault-of-text",
 ];
+
+/// Replays a list, and answers whether it prints what is wanted. Tells under which name where it doesn't.
+fn is_as_printed(
+    rt: &HostRuntime,
+    name: &str,
+    events: &[u8],
+    wanted: &[u8],
+) -> io::Result<(bool, Result<Replayed, ReplayFault>)> {
+    let mut reader = events;
+    let mut printed = Vec::new(rt.alloc());
+    let replayed = replay_on(rt.alloc(), &mut reader, &mut printed);
+    if printed.as_slice() == wanted {
+        return Ok((true, replayed));
+    }
+    let text = String::from_utf8_lossy(rt.alloc(), &printed)?;
+    println!(rt; "{name}: other than printed here\n{text}")?;
+    Ok((false, replayed))
+}
 
 /// Replays one example, tells how what it printed compares, and answers whether it is the same.
 fn compare(rt: &HostRuntime, name: &str) -> io::Result<bool> {
     let events = fs::read(rt, format!(in rt.alloc(); "{name}.events")?)?;
     let status = fs::read(rt, format!(in rt.alloc(); "{name}.status")?)?;
-    let mut reader = events.as_slice();
-    let mut printed = Vec::new(rt.alloc());
-    let replayed = replay_on(rt.alloc(), &mut reader, &mut printed);
-    if printed != status {
-        let text = String::from_utf8_lossy(rt.alloc(), &printed)?;
-        println!(rt; "{name}: other than printed here\n{text}")?;
-        return Ok(false);
+    let (same, replayed) = is_as_printed(rt, name, &events, &status)?;
+    if same {
+        match replayed {
+            Ok(_) => println!(rt; "{name}: as printed")?,
+            Err(fault) => println!(rt; "{name}: as printed, {fault}")?,
+        }
     }
-    match replayed {
-        Ok(_) => println!(rt; "{name}: as printed")?,
-        Err(fault) => println!(rt; "{name}: as printed, {fault}")?,
+    Ok(same)
+}
+
+/// A row of the table: its title, its list of events, and what that prints.
+#[derive(Drop)]
+struct Row {
+    title: Vec<u8>,
+    events: Vec<u8>,
+    wanted: Vec<u8>,
+}
+
+impl Row {
+    fn new(alloc: Global) -> Row {
+        Row {
+            title: Vec::new(alloc),
+            events: Vec::new(alloc),
+            wanted: Vec::new(alloc),
+        }
     }
-    Ok(true)
+
+    /// Adds a line: `## ` stands before the title, `= ` before what is printed.
+    fn add(&mut self, line: &[u8]) -> io::Result<()> {
+        if let Some(title) = line.strip_prefix(b"## ") {
+            self.title.extend_from_slice(title)?;
+        } else if let Some(printed) = line.strip_prefix(b"= ") {
+            self.wanted.extend_from_slice(printed)?;
+            self.wanted.push(b'\n')?;
+        } else {
+            self.events.extend_from_slice(line)?;
+            self.events.push(b'\n')?;
+        }
+        Ok(())
+    }
+
+    fn compare(&self, rt: &HostRuntime) -> io::Result<bool> {
+        let title = String::from_utf8_lossy(rt.alloc(), &self.title)?;
+        Ok(is_as_printed(rt, &title, &self.events, &self.wanted)?.0)
+    }
+}
+
+/// Replays each row of the table, tells how many there are, and answers whether all print what is wanted. Rows are
+/// parted by empty lines.
+fn compare_rows(rt: &HostRuntime) -> io::Result<bool> {
+    let table = fs::read(rt, "rows.txt")?;
+    let mut row = Row::new(rt.alloc());
+    let mut count = 0u32;
+    let mut same = true;
+    for line in table.split(|byte| *byte == b'\n') {
+        if !line.is_empty() {
+            row.add(line)?;
+        } else if !row.events.is_empty() {
+            same = row.compare(rt)? && same;
+            count = count.saturating_add(1);
+            row = Row::new(rt.alloc());
+        }
+    }
+    println!(rt; "{count} rows")?;
+    Ok(same)
 }
 
 fn compare_all(rt: &HostRuntime) -> io::Result<bool> {
@@ -39,7 +113,7 @@ fn compare_all(rt: &HostRuntime) -> io::Result<bool> {
     for name in NAMES {
         same = compare(rt, name)? && same;
     }
-    Ok(same)
+    Ok(compare_rows(rt)? && same)
 }
 
 fn main(rt: HostRuntime) -> io::Result<ExitCode> {

@@ -1,10 +1,9 @@
 -- Histories, the pairs of their items, and sets of pairs.
-use Rattle.std.proofs.Common.{◌≡◌, ℕ, zero, suc, ◌+◌, ◌<◌, ◌≤◌, ◌-◌, Bool, true, false, ◌&&◌, ◌||◌, not, cond, List, [], ◌∷◌, ◌++◌, ◌∙◌, length, take, drop, refl, sym, ap, subst, arith, append_assoc, append-nil, length-append, length-drop, add-zero, Option, Some, None, slice_get, ◌==◌, ◌⊎◌, inl, inr, flat_map}
+use Rattle.std.proofs.Common.{◌≡◌, ℕ, zero, suc, ◌+◌, ◌<◌, ◌≤◌, Bool, true, false, ◌&&◌, List, [], ◌∷◌, ◌++◌, length, refl, sym, ap, arith, append_assoc, length-append, add-zero}
 use Rattle.std.proofs.lemmas.Grind.{flat_map-append}
-use Rattle.std.proofs.lemmas.Bool.{eqb-true}
 use Rattle.std.specs.List.{list_all}
 use mathlib.Core.Path.{fun_ext}
-use Rattle.quaject_core.specs.Runs.{Run, flat, pairs_of, pairs_from, pairs, length_of, run_length}
+use Rattle.quaject_core.specs.Runs.{Run, flat, pairs_of, pairs_from, run_length}
 
 -- two sets with the same pairs are the same
 pub same_set : (f g : ℕ → ℕ → Bool) → ((run index : ℕ) → f run index ≡ g run index) → f ≡ g

@@ -1,17 +1,18 @@
 -- Each queue event keeps a lawful queue.
-use Rattle.std.proofs.Common.{◌≡◌, ℕ, zero, suc, ◌+◌, ◌<◌, ◌≤◌, ◌-◌, Bool, true, false, ◌&&◌, ◌||◌, not, cond, List, [], ◌∷◌, ◌++◌, ◌∙◌, length, take, drop, refl, sym, ap, subst, arith, append_assoc, append-nil, length-append, length-drop, Option, Some, None, slice_get, ◌==◌, eqb, ◌⊎◌, inl, inr, nat_le, leb, ltb, nat_lt, Result, Ok, Err}
+use Rattle.std.proofs.Common.{◌≡◌, ℕ, ◌+◌, ◌<◌, ◌≤◌, ◌-◌, Bool, true, false, ◌&&◌, ◌||◌, not, List, [], ◌∷◌, ◌++◌, ◌∙◌, length, take, drop, refl, sym, ap, subst, arith, append-nil, length-append, length-drop, Option, Some, None, slice_get, eqb, ◌⊎◌, inl, inr, nat_le, leb, ltb, Ok}
 use Rattle.std.proofs.lemmas.Bool.{eqb-true, leb-true}
-use Rattle.std.proofs.lemmas.List.{take-append-le, drop-append-le, drop-drop}
+use Rattle.std.proofs.lemmas.List.{take-append-le, drop-append-le}
 use Rattle.std.proofs.lemmas.List.Folds.{list_all-append}
 use Rattle.std.proofs.Math.Seq.{take-add}
 use Rattle.std.specs.List.{list_all}
 use Rattle.std.specs.Cmp.Derive.{both_true}
 use Rattle.std.proofs.lemmas.Bool.Decides.{nat_tests}
 use Rattle.quaject_core.specs.Runs.{Run, flat, pairs_from, pairs, length_of, run_length}
-use Rattle.quaject_core.specs.Queues.{Queue, left, left_pairs, is_raised, first_are_raised, with_pair, after_claim, after_raise, after_take, claim, raise_of, raise, take_first}
-use Rattle.quaject_core.specs.declared.refusal.Refusal.{Refusal}
-use Rattle.quaject_core.specs.declared.refusal.Refusal.TheVariants.{UnknownName, NoItems, TooLong, Full, NotOwner, AlreadyRaised, NotRaised}
+use Rattle.quaject_core.specs.Queues.{Queue, left, left_pairs, is_raised, first_are_raised, after_claim, after_raise, after_take, claim, raise_of, raise, take_first}
+use Rattle.quaject_core.specs.declared.refusal.Refusal.TheVariants.{UnknownName, NoItems, TooLong, Full, NotOwner, AlreadyRaised, NotRaised, Closed}
 use Rattle.quaject_core.specs.Lawful.{IsLawfulQueue}
+use Rattle.quaject_core.specs.Marks.{shut}
+use Rattle.quaject_core.proofs.Inversions.{test_ok, given_ok}
 use Rattle.quaject_core.proofs.Histories.{both, length-pairs_from, pairs_from-append, flat-append, run_length-append, solid-append, list_all-weaker}
 
 pub claim_keeps : (call : ℕ) (items : List ℕ) (q : Queue) → IsLawfulQueue q → 0 < length items → length (left q) + length items ≤ q.capacity
@@ -70,47 +71,49 @@ take_keeps count q lawful first =
       fits = omega arith;
     }
 
-claim_cases : (call : ℕ) (items : List ℕ) (q r : Queue) (longest : ℕ) (none long full : Bool) → IsLawfulQueue q
-    → eqb (length items) 0 ≡ none → ltb q.capacity (length (left q) + length items) ≡ full
-    → cond none (Err NoItems) (cond long (Err TooLong) (cond full (Err Full) (Ok (after_claim call items q)))) ≡ Ok r → IsLawfulQueue r
-claim_cases call items q r longest true long full lawful en ef ok = absurd (cc)
-claim_cases call items q r longest false true full lawful en ef ok = absurd (cc)
-claim_cases call items q r longest false false true lawful en ef ok = absurd (cc)
-claim_cases call items q r longest false false false lawful en ef ok =
-    let same : after_claim call items q ≡ r = cc in
+pub claim_law : (longest call : ℕ) (items : List ℕ) (q r : Queue) → IsLawfulQueue q → claim longest call items q ≡ Ok r → IsLawfulQueue r
+claim_law longest call items q r lawful ok =
+    let a = test_ok (eqb (length items) 0) NoItems _ r ok in
+    let b = test_ok (ltb longest (length items)) TooLong _ r a.1 in
+    let c = test_ok q.shut Closed _ r b.1 in
+    let d = test_ok (ltb q.capacity (length (left q) + length items)) Full _ r c.1 in
+    let none : eqb (length items) 0 ≡ false = a.0 in
+    let full : ltb q.capacity (length (left q) + length items) ≡ false = d.0 in
     let some : 0 < length items = grind (arith, nat_tests) in
     let room : length (left q) + length items ≤ q.capacity = grind (arith, nat_tests) in
-    subst IsLawfulQueue same (claim_keeps call items q lawful some room)
-
-pub claim_law : (longest call : ℕ) (items : List ℕ) (q r : Queue) → IsLawfulQueue q → claim longest call items q ≡ Ok r → IsLawfulQueue r
-claim_law longest call items q r lawful ok = claim_cases call items q r longest _ (ltb longest (length items)) _ lawful refl refl ok
-
-raise_cases : (call run index : ℕ) (q r : Queue) (claimed : Option Run) (past other before : Bool) → IsLawfulQueue q → leb (length_of claimed) index ≡ past
-    → slice_get q.history run ≡ claimed → (e : Run) → claimed ≡ Some e
-    → cond past (Err UnknownName) (cond other (Err NotOwner) (cond before (Err AlreadyRaised) (Ok (after_raise run index q)))) ≡ Ok r → IsLawfulQueue r
-raise_cases call run index q r claimed true other before lawful ep eg e is ok = absurd (cc)
-raise_cases call run index q r claimed false true before lawful ep eg e is ok = absurd (cc)
-raise_cases call run index q r claimed false false true lawful ep eg e is ok = absurd (cc)
-raise_cases call run index q r claimed false false false lawful ep eg e is ok =
-    let same : after_raise run index q ≡ r = cc in
-    let below : index < length_of claimed = grind (arith, nat_tests) in
-    subst IsLawfulQueue same (raise_keeps run index q lawful (subst (λ x. index < length_of x) (sym eg) below))
+    subst IsLawfulQueue (given_ok (after_claim call items q) r d.1) (claim_keeps call items q lawful some room)
 
 raise_found : (call run index : ℕ) (q r : Queue) (claimed : Option Run) → IsLawfulQueue q → slice_get q.history run ≡ claimed → raise_of call run index q claimed ≡ Ok r → IsLawfulQueue r
 raise_found call run index q r None lawful eg ok = absurd (cc)
-raise_found call run index q r (Some e) lawful eg ok = raise_cases call run index q r (Some e) _ (not (eqb e.call call)) (q.raised run index) lawful refl eg e refl ok
+raise_found call run index q r (Some e) lawful eg ok =
+    let a = test_ok (leb (length e.items) index) UnknownName _ r ok in
+    let b = test_ok (not (eqb e.call call)) NotOwner _ r a.1 in
+    let c = test_ok (q.raised run index) AlreadyRaised _ r b.1 in
+    let past : leb (length e.items) index ≡ false = a.0 in
+    let below : index < length e.items = grind (arith, nat_tests) in
+    subst IsLawfulQueue (given_ok (after_raise run index q) r c.1) (raise_keeps run index q lawful (subst (λ x. index < length_of x) (sym eg) below))
 
 pub raise_law : (call run index : ℕ) (q r : Queue) → IsLawfulQueue q → raise call run index q ≡ Ok r → IsLawfulQueue r
 raise_law call run index q r lawful ok = raise_found call run index q r (slice_get q.history run) lawful refl ok
 
-take_cases : (count : ℕ) (q r : Queue) (none long first : Bool) → IsLawfulQueue q → first_are_raised count q ≡ first
-    → cond none (Err NoItems) (cond long (Err TooLong) (cond (not first) (Err NotRaised) (Ok (after_take count q)))) ≡ Ok r → IsLawfulQueue r
-take_cases count q r true long first lawful ef ok = absurd (cc)
-take_cases count q r false true first lawful ef ok = absurd (cc)
-take_cases count q r false false false lawful ef ok = absurd (cc)
-take_cases count q r false false true lawful ef ok =
-    let same : after_take count q ≡ r = cc in
-    subst IsLawfulQueue same (take_keeps count q lawful ef)
+not_false : (b : Bool) → not b ≡ false → b ≡ true
+not_false true h = refl
+not_false false h = absurd (cc)
+
+-- what a taking that was allowed left, and that the items were there and raised
+pub take_ok : (longest count : ℕ) (q r : Queue) → take_first longest count q ≡ Ok r → (r ≡ after_take count q) × (0 < count) × (count ≤ longest) × (first_are_raised count q ≡ true)
+take_ok longest count q r ok =
+    let a = test_ok (eqb count 0) NoItems _ r ok in
+    let b = test_ok (ltb longest count) TooLong _ r a.1 in
+    let c = test_ok (not (first_are_raised count q)) NotRaised _ r b.1 in
+    let none : eqb count 0 ≡ false = a.0 in
+    let short : ltb longest count ≡ false = b.0 in
+    (sym (given_ok (after_take count q) r c.1), grind (arith, nat_tests), grind (arith, nat_tests), not_false (first_are_raised count q) c.0)
 
 pub take_law : (longest count : ℕ) (q r : Queue) → IsLawfulQueue q → take_first longest count q ≡ Ok r → IsLawfulQueue r
-take_law longest count q r lawful ok = take_cases count q r (eqb count 0) (ltb longest count) (first_are_raised count q) lawful refl ok
+take_law longest count q r lawful ok =
+    let h = take_ok longest count q r ok in
+    subst IsLawfulQueue (sym h.0) (take_keeps count q lawful h.3)
+
+pub shut_law : (q : Queue) → IsLawfulQueue q → IsLawfulQueue (shut q)
+shut_law q lawful = record { solid = lawful.solid; within = lawful.within; behind = lawful.behind; ready = lawful.ready; fits = lawful.fits }

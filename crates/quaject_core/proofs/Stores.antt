@@ -1,23 +1,23 @@
 -- A queue as it is stored: its runs lie side by side, each flag beside its item.
-use Rattle.std.proofs.Common.{◌≡◌, ◌≢◌, ℕ, zero, suc, ◌+◌, ◌<◌, ◌≤◌, ◌-◌, Bool, true, false, ◌&&◌, ◌||◌, not, cond, List, [], ◌∷◌, ◌++◌, ◌∙◌, map, length, take, drop, set, get_or, slice_index_or, refl, sym, ap, ap₂, subst, arith, append_assoc, append-nil, length-append, length-drop, zero-add, add-zero, add-one, add_assoc, Option, Some, None, option_map, slice_get, ◌==◌, eqb, ltb, count_by, filter, ◌⊎◌, inl, inr}
+use Rattle.std.proofs.Common.{◌≡◌, ◌≢◌, ℕ, zero, suc, ◌+◌, ◌<◌, ◌≤◌, ◌-◌, Bool, true, false, ◌&&◌, ◌||◌, cond, List, [], ◌∷◌, ◌++◌, ◌∙◌, map, length, take, drop, set, get_or, refl, sym, ap, ap₂, subst, arith, length-drop, zero-add, add-zero, Option, Some, None, option_map, slice_get, eqb, ltb, count_by, filter, inl, inr}
 use Rattle.std.proofs.lemmas.Bool.{cases_lt, eqb-true}
 use Rattle.std.proofs.lemmas.Bool.Decides.{nat_tests}
-use Rattle.std.proofs.lemmas.List.{length-take-le, map-append, map-set, take-append-le, drop-append-le, take-append-drop, drop-drop, drop_all, take_all, drop_at, get_or-append-add, get_or-set_same, get_or-set_other, length-map, length-set, take-map, drop-map}
+use Rattle.std.proofs.lemmas.List.{length-take-le, map-append, map-set, take-append-le, drop-append-le, take-append-drop, drop-drop, drop_all, take_all, drop_at, get_or-append-add, get_or-set_other, length-map, take-map, drop-map}
 use Rattle.std.proofs.lemmas.List.Folds.{list_all-map}
 use Rattle.std.proofs.lemmas.List.Sums.{length-filter}
 use Rattle.std.specs.List.{list_all}
 use Rattle.std.proofs.Math.ListN.{get_or-append}
 use Rattle.std.proofs.lemmas.Grind.{get_or-set_at}
-use Rattle.std.proofs.Math.Seq.{drop-cons, map-set_same, drop-append_seam}
-use Rattle.std.proofs.lemmas.Option.{slice_get-map, slice_get_past, slice_get_within}
-use Rattle.quaject_core.specs.Runs.{Run, flat, pairs_of, pairs_from, pairs, length_of, run_length}
-use Rattle.quaject_core.specs.Queues.{Queue, left, left_pairs, is_raised, with_pair, after_claim, after_raise}
+use Rattle.std.proofs.Math.Seq.{drop-cons, map-set_same}
+use Rattle.std.proofs.lemmas.Option.{slice_get-map}
+use Rattle.quaject_core.specs.Runs.{Run, flat, pairs_of, pairs_from, pairs}
+use Rattle.quaject_core.specs.Queues.{Queue, left, left_pairs, is_raised, after_claim, after_raise}
 use Rattle.quaject_core.specs.Layout.{fresh, item_of, flag_of, run_at, flag_at, queue_at, Laid}
 use Rattle.quaject_core.specs.declared.stored.Place.{Place}
 use Rattle.quaject_core.specs.declared.stored.Span.{Span}
 use Rattle.quaject_core.specs.Shown.{queue}
 use Rattle.quaject_core.specs.declared.stored.StoredQueue.{StoredQueue}
-use Rattle.quaject_core.proofs.Histories.{same_set, both, flat-append}
+use Rattle.quaject_core.proofs.Histories.{same_set, both}
 
 pub laid_rises : (start : ℕ) (spans : List Span) (end : ℕ) → Laid start spans end → start ≤ end
 laid_rises start [] end laid = omega (arith, laid)
@@ -108,17 +108,17 @@ flags_laid_from xs flags spans number start (s ∷ rest) long laid found =
     ∙ ap₂ (λ a b. a ++ b) first (others ∙ sym (drop-drop s.count start flags)) ∙ take-append-drop s.count (drop start flags)
 
 -- the flags of all pairs are those of all places
-pub flags_laid : (capacity : ℕ) (spans : List Span) (places : List Place) (taken : ℕ) → Laid 0 spans (length places)
-    → map (is_raised (queue_at capacity spans places taken)) (pairs (queue_at capacity spans places taken).history) ≡ map flag_of places
-flags_laid capacity spans places taken laid =
+pub flags_laid : (capacity : ℕ) (spans : List Span) (places : List Place) (taken : ℕ) (shut : Bool) → Laid 0 spans (length places)
+    → map (is_raised (queue_at capacity spans places taken shut)) (pairs (queue_at capacity spans places taken shut).history) ≡ map flag_of places
+flags_laid capacity spans places taken shut laid =
     let e : length (map item_of places) ≡ length (map flag_of places) = length-map places item_of ∙ sym (length-map places flag_of) in
     let l : Laid 0 spans (length (map flag_of places)) = subst (Laid 0 spans) (sym (length-map places flag_of)) laid in
     flags_laid_from (map item_of places) (map flag_of places) spans 0 0 spans e l (λ k. ap (slice_get spans) (zero-add k))
 
 -- as many items were claimed as there are places
-pub length_stored : (capacity : ℕ) (spans : List Span) (places : List Place) (taken : ℕ) → Laid 0 spans (length places)
-    → length (flat (queue_at capacity spans places taken).history) ≡ length places
-length_stored capacity spans places taken laid =
+pub length_stored : (capacity : ℕ) (spans : List Span) (places : List Place) (taken : ℕ) (shut : Bool) → Laid 0 spans (length places)
+    → length (flat (queue_at capacity spans places taken shut).history) ≡ length places
+length_stored capacity spans places taken shut laid =
     let l : Laid 0 spans (length (map item_of places)) = subst (Laid 0 spans) (sym (length-map places item_of)) laid in
     ap length (items_laid (map item_of places) spans l) ∙ length-map places item_of
 
@@ -167,15 +167,15 @@ flags_kept fl fs s start (a ∷ spans) laid at low zero i =
     old_flag fl fs a i (omega arith)
 flags_kept fl fs s start (a ∷ spans) laid at low (suc run) i = flags_kept fl fs s (start + a.count) spans laid.1 at low run i
 
-same_queue : (capacity taken : ℕ) (h k : List Run) (f g : ℕ → ℕ → Bool) → h ≡ k → f ≡ g
-    → ◌≡◌ {A = Queue} (record { history = h; raised = f; taken = taken; capacity = capacity }) (record { history = k; raised = g; taken = taken; capacity = capacity })
-same_queue capacity taken h k f g eh ef = ap₂ (λ (x : List Run) (y : ℕ → ℕ → Bool). record { history = x; raised = y; taken = taken; capacity = capacity }) eh ef
+pub same_queue : (capacity taken : ℕ) (shut : Bool) (h k : List Run) (f g : ℕ → ℕ → Bool) → h ≡ k → f ≡ g
+    → ◌≡◌ {A = Queue} (record { history = h; raised = f; taken = taken; capacity = capacity; shut = shut }) (record { history = k; raised = g; taken = taken; capacity = capacity; shut = shut })
+same_queue capacity taken shut h k f g eh ef = ap₂ (λ (x : List Run) (y : ℕ → ℕ → Bool). record { history = x; raised = y; taken = taken; capacity = capacity; shut = shut }) eh ef
 
 -- what a claim stores
-pub stored_claim : (capacity : ℕ) (spans : List Span) (places : List Place) (taken call : ℕ) (items : List ℕ) (s : Span) → Laid 0 spans (length places)
+pub stored_claim : (capacity : ℕ) (spans : List Span) (places : List Place) (taken call : ℕ) (shut : Bool) (items : List ℕ) (s : Span) → Laid 0 spans (length places)
     → s ≡ record { call = call; start = length places; count = length items }
-    → queue_at capacity (spans ++ s ∷ []) (places ++ map fresh items) taken ≡ after_claim call items (queue_at capacity spans places taken)
-stored_claim capacity spans places taken call items s laid is =
+    → queue_at capacity (spans ++ s ∷ []) (places ++ map fresh items) taken shut ≡ after_claim call items (queue_at capacity spans places taken shut)
+stored_claim capacity spans places taken call shut items s laid is =
     let xs : List ℕ = map item_of places in
     let fl : List Bool = map flag_of places in
     let fs : List Bool = map flag_of (map fresh items) in
@@ -197,7 +197,7 @@ stored_claim capacity spans places taken call items s laid is =
     let flags : (run i : ℕ) → flag_at (map flag_of (places ++ map fresh items)) i (slice_get (spans ++ s ∷ []) run) ≡ flag_at fl i (slice_get spans run) =
     λ run i. ap (λ bs. flag_at bs i (slice_get (spans ++ s ∷ []) run)) all_flags
     ∙ flags_kept fl fs s 0 spans laid_fl (at ∙ sym (length-map places flag_of)) (no_flag_of_fresh items) run i in
-    same_queue capacity taken _ _ _ _ history (same_set _ _ flags)
+    same_queue capacity taken shut _ _ _ _ history (same_set _ _ flags)
 
 -- where the last run ends
 pub laid_claim : (start : ℕ) (spans : List Span) (end : ℕ) (s : Span) (last : ℕ) → Laid start spans end → s.start ≡ end → end + s.count ≡ last → Laid start (spans ++ s ∷ []) last
@@ -257,11 +257,11 @@ set_flag fl start spans run index r i s (Some a) laid at below found = elim (cas
 ]
 
 -- what a raise stores
-pub stored_raise : (capacity : ℕ) (spans : List Span) (places : List Place) (taken run index : ℕ) (s : Span) (d : Place) → Laid 0 spans (length places)
+pub stored_raise : (capacity : ℕ) (spans : List Span) (places : List Place) (taken run index : ℕ) (shut : Bool) (s : Span) (d : Place) → Laid 0 spans (length places)
     → slice_get spans run ≡ Some s → index < s.count
-    → queue_at capacity spans (set places (s.start + index) (record { item = (get_or places (s.start + index) d).item; raised = true })) taken
-    ≡ after_raise run index (queue_at capacity spans places taken)
-stored_raise capacity spans places taken run index s d laid at below =
+    → queue_at capacity spans (set places (s.start + index) (record { item = (get_or places (s.start + index) d).item; raised = true })) taken shut
+    ≡ after_raise run index (queue_at capacity spans places taken shut)
+stored_raise capacity spans places taken run index shut s d laid at below =
     let k : ℕ = s.start + index in
     let fl : List Bool = map flag_of places in
     let laid_fl : Laid 0 spans (length fl) = subst (Laid 0 spans) (sym (length-map places flag_of)) laid in
@@ -269,7 +269,7 @@ stored_raise capacity spans places taken run index s d laid at below =
     map-set_same item_of places k (record { item = (get_or places k d).item; raised = true }) d refl in
     let flags : map flag_of (set places k (record { item = (get_or places k d).item; raised = true })) ≡ set fl k true =
     map-set flag_of places k (record { item = (get_or places k d).item; raised = true }) in
-    same_queue capacity taken _ _ _ _ (ap (λ xs. map (run_at xs) spans) items)
+    same_queue capacity taken shut _ _ _ _ (ap (λ xs. map (run_at xs) spans) items)
     (same_set _ _ (λ r i. ap (λ bs. flag_at bs i (slice_get spans r)) flags ∙ set_flag fl 0 spans run index r i s (slice_get spans r) laid_fl at below refl))
 
 -- the run that a lookup finds
@@ -295,10 +295,10 @@ count_by-map : {X : Type 0} (p : X → Bool) (xs : List X) → count_by (λ b. b
 count_by-map p xs = sym (length-filter (λ b. b) (map p xs)) ∙ (length-filter-map p xs ∙ length-filter p xs)
 
 pub taken_stored : (stored : StoredQueue) → stored.taken ≤ length stored.places.items
-taken_stored stored = omega (arith, length_stored stored.capacity stored.runs.items stored.places.items stored.taken stored.laid_out, stored.lawful.behind)
+taken_stored stored = omega (arith, length_stored stored.capacity stored.runs.items stored.places.items stored.taken stored.shut stored.laid_out, stored.lawful.behind)
 
 pub left_stored : (stored : StoredQueue) → length (left (queue stored)) ≡ length stored.places.items - stored.taken
-left_stored stored = omega (arith, length_stored stored.capacity stored.runs.items stored.places.items stored.taken stored.laid_out, length-drop stored.taken (flat (queue stored).history))
+left_stored stored = omega (arith, length_stored stored.capacity stored.runs.items stored.places.items stored.taken stored.shut stored.laid_out, length-drop stored.taken (flat (queue stored).history))
 
 pub left_fits : (stored : StoredQueue) → length stored.places.items - stored.taken ≤ stored.capacity
 left_fits stored = omega (arith, left_stored stored, stored.lawful.fits)
@@ -306,7 +306,7 @@ left_fits stored = omega (arith, left_stored stored, stored.lawful.fits)
 -- the flags of the first items that are left
 pub first_stored : (stored : StoredQueue) (count : ℕ) → list_all flag_of (take count (drop stored.taken stored.places.items)) ≡ list_all (is_raised (queue stored)) (take count (left_pairs (queue stored)))
 first_stored stored count =
-    let flags = flags_laid stored.capacity stored.runs.items stored.places.items stored.taken stored.laid_out in
+    let flags = flags_laid stored.capacity stored.runs.items stored.places.items stored.taken stored.shut stored.laid_out in
     let places : list_all (λ b. b) (map flag_of (take count (drop stored.taken stored.places.items))) ≡ list_all flag_of (take count (drop stored.taken stored.places.items)) =
     list_all-map (λ b. b) flag_of (take count (drop stored.taken stored.places.items)) in
     let all : list_all (λ b. b) (map (is_raised (queue stored)) (take count (left_pairs (queue stored)))) ≡ list_all (is_raised (queue stored)) (take count (left_pairs (queue stored))) =
@@ -319,10 +319,27 @@ first_stored stored count =
 -- how many of the items that are left are raised
 pub raised_stored : (stored : StoredQueue) → count_by flag_of (drop stored.taken stored.places.items) ≡ count_by (is_raised (queue stored)) (left_pairs (queue stored))
 raised_stored stored =
-    let flags = flags_laid stored.capacity stored.runs.items stored.places.items stored.taken stored.laid_out in
+    let flags = flags_laid stored.capacity stored.runs.items stored.places.items stored.taken stored.shut stored.laid_out in
     let same : map flag_of (drop stored.taken stored.places.items) ≡ map (is_raised (queue stored)) (left_pairs (queue stored)) =
     sym (drop-map flag_of stored.taken stored.places.items) ∙ (ap (drop stored.taken) (sym flags) ∙ drop-map (is_raised (queue stored)) stored.taken (pairs (queue stored).history)) in
     sym (count_by-map flag_of (drop stored.taken stored.places.items)) ∙ (ap (count_by (λ b. b)) same ∙ count_by-map (is_raised (queue stored)) (left_pairs (queue stored)))
 
 pub length_queue : (stored : StoredQueue) → length (flat (queue stored).history) ≡ length stored.places.items
-length_queue stored = length_stored stored.capacity stored.runs.items stored.places.items stored.taken stored.laid_out
+length_queue stored = length_stored stored.capacity stored.runs.items stored.places.items stored.taken stored.shut stored.laid_out
+
+pub slice_get-drop : {X : Type 0} (xs : List X) (k i : ℕ) → slice_get (drop k xs) i ≡ slice_get xs (k + i)
+slice_get-drop xs zero i = ap (slice_get xs) (sym (zero-add i))
+slice_get-drop [] (suc k) i = refl
+slice_get-drop (x ∷ xs) (suc k) i = let e : suc k + i ≡ suc (k + i) = omega arith in slice_get-drop xs k i ∙ ap (slice_get (x ∷ xs)) (sym e)
+
+-- the items of a stored queue
+pub items_stored : (stored : StoredQueue) → flat (queue stored).history ≡ map item_of stored.places.items
+items_stored stored =
+    items_laid (map item_of stored.places.items) stored.runs.items (subst (Laid 0 stored.runs.items) (sym (length-map stored.places.items item_of)) stored.laid_out)
+
+-- the first item that is left
+pub first_item : (stored : StoredQueue) → slice_get (left (queue stored)) 0 ≡ option_map item_of (slice_get stored.places.items stored.taken)
+first_item stored =
+    ap (λ xs. slice_get (drop stored.taken xs) 0) (items_stored stored)
+    ∙ (slice_get-drop (map item_of stored.places.items) stored.taken 0
+    ∙ (ap (slice_get (map item_of stored.places.items)) (add-zero stored.taken) ∙ slice_get-map item_of stored.places.items stored.taken))

@@ -1,9 +1,18 @@
 -- What holds of every state that a schedule reaches.
-use Rattle.std.specs.Prelude.{◌≡◌, ℕ, ◌<◌, ◌≤◌, true, List, length, take, All}
+use Rattle.std.specs.Prelude.{◌≡◌, ℕ, ◌+◌, ◌==◌, ◌<◌, ◌≤◌, Bool, true, false, not, ◌&&◌, ◌||◌}
+use Rattle.std.specs.Prelude.{length, take, All, count_by, Option, Some, None}
 use Rattle.std.specs.List.{list_all}
+use Rattle.std.specs.Option.{is_some}
 use Rattle.quaject_core.specs.Runs.{flat, pairs, run_length}
 use Rattle.quaject_core.specs.Queues.{Queue, left, is_raised}
+use Rattle.quaject_core.specs.Chains.{Chain, is_forgotten}
+use Rattle.quaject_core.specs.Appearances.{appearances}
+use Rattle.quaject_core.specs.Elements.{Elements}
+use Rattle.quaject_core.specs.Meters.{Meters}
 use Rattle.quaject_core.specs.States.{State}
+use Rattle.quaject_core.specs.declared.status.Gate.{Gate}
+use Rattle.quaject_core.specs.declared.status.Gate.TheVariants.{Idle}
+use Rattle.quaject_core.specs.declared.alarm.Alarm.{Alarm}
 
 -- each run has an item, the raised pairs lie in the history, what was taken was raised, and what is left is within
 -- the capacity
@@ -14,6 +23,39 @@ pub record IsLawfulQueue (q : Queue) : Type 0 where
   pub ready : list_all (is_raised q) (take q.taken (pairs q.history)) ≡ true
   pub fits : length (left q) ≤ q.capacity
 
--- each queue is lawful
-abbrev pub IsLawful : State → Type 0
-IsLawful s = All IsLawfulQueue s.queues
+abbrev pub is_idle : Gate → Bool
+is_idle Idle = true
+is_idle gate = false
+
+-- there is a runner exactly where the gate isn't Idle; and where it is Idle and the first note left is raised, the
+-- call that owns its run owes a notify
+pub record IsLawfulChain (c : Chain) : Type 0 where
+  pub notes : IsLawfulQueue c.notes
+  pub run : is_some c.runner ≡ not (is_idle c.gate)
+  pub promised : (is_idle c.gate && is_forgotten c) ≡ false
+
+-- each element appears exactly once, and nothing else does; an element in its stop cell has its stop bit set
+pub record IsLawfulElements (s : Elements) : Type 0 where
+  pub lines : All IsLawfulQueue s.lines
+  pub once : (element : ℕ) → element < length s.threads → appearances element s ≡ 1
+  pub known : (element : ℕ) → length s.threads ≤ element → appearances element s ≡ 0
+  pub stopped : list_all (λ thread. not thread.parked || thread.stop) s.threads ≡ true
+
+abbrev pub is_alarm : Alarm → Alarm → Bool
+is_alarm a b = a.due == b.due && a.element == b.element && a.signal == b.signal
+
+abbrev pub stands : Alarm → Option Alarm → Bool
+stands alarm None = false
+stands alarm (Some other) = is_alarm alarm other
+
+-- the alarms set are those fired, those cancelled and those standing, each once
+abbrev pub IsLawfulMeters : Meters → Type 0
+IsLawfulMeters m = (alarm : Alarm) →
+    count_by (is_alarm alarm) m.set
+    ≡ count_by (is_alarm alarm) m.fired + count_by (is_alarm alarm) m.cancelled + count_by (stands alarm) m.slots
+
+pub record IsLawful (s : State) : Type 0 where
+  pub queues : All IsLawfulQueue s.queues
+  pub chains : All IsLawfulChain s.chains
+  pub elements : IsLawfulElements s.elements
+  pub meters : IsLawfulMeters s.meters

@@ -1,5 +1,6 @@
 -- How the machine stores a queue: all places that were ever claimed side by side, and where each run lies.
-use Rattle.std.specs.Prelude.{◌≡◌, ℕ, ◌+◌, nat_lt, Bool, false, ◌&&◌, List, [], ◌∷◌, map, take, drop, slice_index_or, Option, Some, None}
+use Rattle.std.specs.Prelude.{◌≡◌, ℕ, ◌+◌, nat_lt, Bool, false, ◌&&◌, List, [], ◌∷◌, map, take, drop, slice_index_or}
+use Rattle.std.specs.Prelude.{Option, Some, None}
 use Rattle.std.specs.List.{slice_get}
 use Rattle.std.specs.Coded.{×_prop, Coded-set, coded_ℕ}
 use Rattle.quaject_core.specs.Runs.{Run}
@@ -27,13 +28,18 @@ flag_at flags index None = false
 flag_at flags index (Some span) = nat_lt index span.count && slice_index_or flags (span.start + index) false
 
 -- the queue that is stored so
-abbrev pub queue_at : ℕ → List Span → List Place → ℕ → Queue
-queue_at capacity spans places taken = record {
+abbrev pub queue_at : ℕ → List Span → List Place → ℕ → Bool → Queue
+queue_at capacity spans places taken shut = record {
   history = map (run_at (map item_of places)) spans;
   raised = λ run index. flag_at (map flag_of places) index (slice_get spans run);
   taken = taken;
   capacity = capacity;
+  shut = shut;
 }
+
+-- the set of the numbers that are marked
+abbrev pub set_of : List Bool → ℕ → Bool
+set_of marks number = slice_index_or marks number false
 
 -- each run starts where the one before it ends, and the last ends here
 abbrev pub Laid : ℕ → List Span → ℕ → Type 0
@@ -43,4 +49,5 @@ Laid start (span ∷ spans) end = (span.start ≡ start) × Laid (start + span.c
 -- there is one proof of it
 pub Laid-prop : (start : ℕ) (spans : List Span) (end : ℕ) → IsProp (Laid start spans end)
 Laid-prop start [] end = Coded-set coded_ℕ start end
-Laid-prop start (span ∷ spans) end = ×_prop (Coded-set coded_ℕ span.start start) (Laid-prop (start + span.count) spans end)
+Laid-prop start (span ∷ spans) end =
+    ×_prop (Coded-set coded_ℕ span.start start) (Laid-prop (start + span.count) spans end)

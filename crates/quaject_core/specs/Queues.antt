@@ -1,20 +1,39 @@
--- A queue, what is left in it, and its three events.
-use Rattle.std.specs.Prelude.{ℕ, ◌+◌, ◌==◌, nat_lt, nat_le, Bool, true, false, not, ◌&&◌, ◌||◌, if◌then◌else◌, List, [], ◌∷◌, ◌++◌, length, take, drop, Option, Some, None, Result, Ok, Err}
-use Rattle.std.specs.List.{list_all, slice_get}
+-- A queue, what is left in it, and its events.
+use Rattle.std.specs.Prelude.{ℕ, ◌+◌, ◌==◌, nat_lt, nat_le, Bool, false, not, ◌&&◌, ◌||◌, if◌then◌else◌, List}
+use Rattle.std.specs.Prelude.{[], ◌∷◌, ◌++◌, length, map, take, drop, Option, Some, None, Result, Ok, Err}
+use Rattle.std.specs.List.{list_all, slice_get, range_with_len}
 use Rattle.quaject_core.specs.Runs.{Run, flat, pairs}
 use Rattle.quaject_core.specs.declared.refusal.Refusal.{Refusal}
-use Rattle.quaject_core.specs.declared.refusal.Refusal.TheVariants.{UnknownName, NoItems, TooLong, Full, NotOwner, AlreadyRaised, NotRaised}
+use Rattle.quaject_core.specs.declared.refusal.Refusal.TheVariants.{UnknownName, NoItems, TooLong, Full, NotOwner}
+use Rattle.quaject_core.specs.declared.refusal.Refusal.TheVariants.{AlreadyRaised, NotRaised, Closed}
 
 -- the runs in the order of their claims, the set of the pairs (run, index) that are raised, how many items were
--- taken, and how many may be left at once
+-- taken, how many may be left at once, and whether it is shut
 pub record Queue : Type 0 where
   pub history : List Run
   pub raised : ℕ → ℕ → Bool
   pub taken : ℕ
   pub capacity : ℕ
+  pub shut : Bool
 
 abbrev pub empty_queue : ℕ → Queue
-empty_queue capacity = record { history = []; raised = λ run index. false; taken = 0; capacity = capacity }
+empty_queue capacity = record {
+  history = [];
+  raised = λ run index. false;
+  taken = 0;
+  capacity = capacity;
+  shut = false;
+}
+
+-- as many items as it may have, 0, 1, .. in their order, each a raised run of call 0
+abbrev pub full_queue : ℕ → Queue
+full_queue capacity = record {
+  history = map (λ item. record { call = 0; items = item ∷ [] }) (range_with_len 0 capacity);
+  raised = λ run index. nat_lt run capacity && index == 0;
+  taken = 0;
+  capacity = capacity;
+  shut = false;
+}
 
 -- the items that are left, in claim order
 abbrev pub left : Queue → List ℕ
@@ -49,6 +68,7 @@ abbrev pub claim : ℕ → ℕ → List ℕ → Queue → Result Queue Refusal
 claim longest call items q =
     if length items == 0 then Err NoItems
     else if nat_lt longest (length items) then Err TooLong
+    else if q.shut then Err Closed
     else if nat_lt q.capacity (length (left q) + length items) then Err Full
     else Ok (after_claim call items q)
 
@@ -71,3 +91,14 @@ take_first longest count q =
     else if nat_lt longest count then Err TooLong
     else if not (first_are_raised count q) then Err NotRaised
     else Ok (after_take count q)
+
+-- a call's name after the join of another to the first
+abbrev pub renamed : ℕ → ℕ → ℕ → ℕ
+renamed call other name = if name == other then call else name
+
+abbrev pub join_run : ℕ → ℕ → Run → Run
+join_run call other run = record run { call = renamed call other run.call }
+
+-- the runs of the other call are the call's
+abbrev pub join_queue : ℕ → ℕ → Queue → Queue
+join_queue call other q = record q { history = map (join_run call other) q.history }

@@ -1,7 +1,10 @@
 -- How refusals are printed.
 use Rattle.std.specs.Prelude.{ℕ, List, codes}
 use Rattle.quaject_core.specs.declared.refusal.Refusal.{Refusal}
-use Rattle.quaject_core.specs.declared.refusal.Refusal.TheVariants.{UnknownName, NoItems, TooLong, Full, NotOwner, AlreadyRaised, NotRaised, NotHeld, ProcessorBusy, ProcessorEmpty, NotStopped, GateBusy, NotRunner, OutOfMemory, Closed, Moved}
+use Rattle.quaject_core.specs.declared.refusal.Refusal.TheVariants.{UnknownName, NoItems, TooLong, Full, NotOwner}
+use Rattle.quaject_core.specs.declared.refusal.Refusal.TheVariants.{AlreadyRaised, NotRaised, NotHeld, ProcessorBusy}
+use Rattle.quaject_core.specs.declared.refusal.Refusal.TheVariants.{ProcessorEmpty, NotStopped, GateBusy, NotRunner}
+use Rattle.quaject_core.specs.declared.refusal.Refusal.TheVariants.{OutOfMemory, Closed, Moved}
 
 -- a refusal's name
 abbrev pub refusal_name : Refusal → List ℕ

@@ -1,25 +1,41 @@
 //! The plain machine of the kernel's atomic events, and the laws of every schedule.
 //!
-//! `Core` holds the queues that processors claim, raise and take from, as plain data with no atomics in it. Each
-//! event is one atomic step of the running kernel. The many-producer queue and its claims are those of Massalin and
-//! Pu (1991).
+//! `Core` holds a kernel's queues, chains, thread elements and meters as plain data with no atomics in it. Each event
+//! is one atomic step of the running kernel. The many-producer queue, its claims and procedure chaining are those of
+//! Massalin and Pu (1991); thread elements, signals, gauges and alarms follow Massalin (1992).
 #![tactic(auto)]
 
+mod alarm;
+mod chaining;
+mod elements;
 mod event;
+mod hold;
+mod holding;
 mod items;
 pub mod laws;
+mod lines;
 mod machine;
+mod metering;
 mod names;
+mod placing;
 mod refusal;
+mod seats;
 mod status;
+mod store;
 mod stored;
+mod threading;
 
 pub use event::Event;
 pub use items::Items;
 pub use machine::Core;
-pub use names::{Call, QueueName, QueueNumber};
+pub use names::{
+    Call, ChainNumber, Element, Gauge, Processor, QueueName, QueueNumber, Signal, Slot, WaitNumber,
+};
 pub use refusal::{OutOfMemory, Refusal};
-pub use status::{QueueList, QueueStatus, Status};
+pub use status::{
+    AlarmStatus, ChainList, ChainStatus, ElementList, ElementStatus, Gate, Place, QueueList,
+    QueueStatus, Status,
+};
 
 #[cfg(test)]
 mod tests;

@@ -3,6 +3,7 @@ use std::alloc::Global;
 use std::io;
 use std::io::{ErrorKind, Read, Write};
 use std::process::Abort;
+use std::test::Fail;
 
 /// Gives a byte at each call of read, and fails at the last of so many calls.
 #[derive(Drop)]
@@ -100,9 +101,97 @@ fn replays_a_list(rt: HostRuntime) {
     );
 }
 
+/// Lists of all kinds of events, with the exit status and what is printed.
+const WORKED: [(&[u8], u8, &[u8]); 9] = [
+    (
+        b"events 1\ntake c0 free 1\non c0 p0 e0\nstop c1 e0\noff c0 p0\npark c0 e0\npark c0 e0\n",
+        1,
+        b"events 5\nelement e0 stopped done 0 pending 0000 stop\nrefused 7 8 NotHeld\n",
+    ),
+    (
+        b"events 1\nchain\nclaim c1 k0 7\nraise c1 k0 0 0\nnotify c1 k0\nround c1 k0\ntake c1 k0 1\nleave c1 k0",
+        0,
+        b"events 7\nchain k0 put 1 taken 1 left 0 gate idle\n",
+    ),
+    (
+        b"events 1\nchain\nclaim c1 k0 7\nraise c1 k0 0 0\nnotify c1 k0\nround c1 k0\nleave c1 k0",
+        1,
+        b"events 5\nchain k0 put 1 taken 0 left 1 gate running\nrefused 7 12 GateBusy\n",
+    ),
+    (
+        b"events 1\ntick c0 g1 5\nadvance c0\nset c0 1 e0 3\nset c1 9 e1 0\nfire c0 0\ncancel c0 1",
+        0,
+        b"events 6\ngauge g1 5\nclock 1\nalarms set 2 fired 1 cancelled 1\n",
+    ),
+    (
+        b"events 1\nsignal c0 e5 3\nsignal c1 e5 3\ndeliver c0 e5",
+        1,
+        b"events 2\nelement e5 free done 0 pending 0008\nrefused 4 8 NotHeld\n",
+    ),
+    (
+        b"events 1\ntake c1 free 1\njoin c0 c1\nclaim c0 ready 0\nraise c0 ready 0 0",
+        0,
+        b"events 4\nelement e0 ready done 0 pending 0000\n",
+    ),
+    (
+        b"events 2\nqueue 4\nclaim c1 q0 10\nraise c1 q0 0 0\nshut c2 q0\nclaim c1 q0 11",
+        1,
+        b"events 4\nqueue q0 capacity 4 runs 1 put 1 taken 0 left 1 raised 1 shut\nrefused 6 15 Closed\n",
+    ),
+    (
+        b"events 2\ntake c0 free 1\nnotify c1 w2\nwaitat c0 w2 e0 0",
+        1,
+        b"events 2\nelement e0 held0 done 0 pending 0000\nnotified w2 1\nrefused 4 16 Moved\n",
+    ),
+    (
+        b"events 3\ntake c0 free 1\non c0 p7 e0",
+        0,
+        b"events 2\nelement e0 processor7 done 0 pending 0000\n",
+    ),
+];
+
+#[test]
+fn replays_all_kinds_of_events(rt: HostRuntime) {
+    for (script, status, printed) in WORKED {
+        assert_replay(&rt, rt.alloc(), script, status, printed, b"");
+    }
+}
+
+const TAKES: &[u8] =
+    b"events 1\ntake c0 free 1\ntake c0 free 1\ntake c0 free 1\ntake c0 free 1\ntake c0 free 1\n\
+    take c0 free 1\ntake c0 free 1\ntake c0 free 1\ntake c0 free 1\ntake c0 free 1\ntake c0 free 1\n\
+    take c0 free 1\ntake c0 free 1\ntake c0 free 1\ntake c0 free 1\ntake c0 free 1\ntake c0 free 1\n";
+
+/// All elements are taken, in order, and then one more where there are more.
+#[test]
+fn the_third_version_has_more_elements(rt: HostRuntime) -> Result<(), Fail> {
+    for (version, count) in [(b'1', 16), (b'2', 16), (b'3', 17)] {
+        let mut script = TAKES.to_vec(rt.alloc())?;
+        script[7] = version;
+        let mut wanted = format!(in rt.alloc(); "events {count}\n")?;
+        for element in 0..count {
+            wanted.push_str(format!(in rt.alloc();
+                "element e{element} held0 done 0 pending 0000\n"
+            )?.as_str())?;
+        }
+        if count == 16 {
+            wanted.push_str("refused 18 7 NotRaised\n")?;
+        }
+        let status = if count == 16 { 1 } else { 0 };
+        assert_replay(&rt, rt.alloc(), &script, status, wanted.as_bytes(), b"");
+    }
+    Ok(())
+}
+
 #[test]
 fn tells_a_fault_of_the_script(rt: HostRuntime) {
-    let faults: [(&[u8], &[u8]); 9] = [
+    let faults: [(&[u8], &[u8]); 12] = [
+        (
+            b"events 1\ntake c0 free 1\non c0 p7 e0",
+            b"line 3: 4 BadName\n",
+        ),
+        (b"events 1\nnotify c0 w0", b"line 2: 4 BadName\n"),
+        (b"events 1\nshut c0 q0", b"line 2: 2 UnknownWord\n"),
         (b"", b"line 1: 1 NotVersion\n"),
         (b"events 2x", b"line 1: 1 NotVersion\n"),
         (b"events 1\nque 4", b"line 2: 2 UnknownWord\n"),

@@ -1,4 +1,4 @@
-use Rattle.quaject_core.specs.Shown.{state}
+use Rattle.quaject_core.specs.ShownCores.{state}
 use Rattle.boot_script.proofs.Schedules.{reaches_next}
 use Rattle.boot_script.proofs.run.apply_all.Goals as goal
 

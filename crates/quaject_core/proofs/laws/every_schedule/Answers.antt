@@ -1,5 +1,9 @@
-use Rattle.quaject_core.proofs.Schedules.{schedule_law}
+use Rattle.quaject_core.proofs.Steps.{schedule_law}
+use Rattle.quaject_core.proofs.AccountLaws.{account_law}
 use Rattle.quaject_core.proofs.laws.every_schedule.Goals as goal
 
-pub returns : goal.returns
-returns c = schedule_law
+pub returns-clause-lawful : goal.returns-clause-lawful
+returns-clause-lawful c = schedule_law
+
+pub returns-clause-accounted : goal.returns-clause-accounted
+returns-clause-accounted c = account_law

@@ -1,8 +1,8 @@
-use Rattle.std.proofs.Common.{◌≡◌, ◌∙◌, ◌++◌, ◌∷◌, [], ◌+◌, ap, sym, subst, take, get_or}
+use Rattle.std.proofs.Common.{◌≡◌, ◌∙◌, ◌++◌, ◌∷◌, [], ◌+◌, ap, sym, subst, take}
 use Rattle.std.proofs.lemmas.List.{take_more}
-use Rattle.quaject_core.specs.States.{Reaches}
-use Rattle.quaject_core.specs.Shown.{state}
-use Rattle.quaject_core.proofs.Cores.{reaches_more}
+use Rattle.quaject_core.specs.Schedules.{Reaches}
+use Rattle.quaject_core.specs.ShownCores.{state}
+use Rattle.quaject_core.proofs.Steps.{reaches_more}
 use Rattle.quaject_core.proofs.machine.Core.run.Goals as goal
 
 pub loop-index-preserved : goal.loop-index-preserved

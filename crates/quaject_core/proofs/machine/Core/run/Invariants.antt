@@ -1,6 +1,6 @@
 use Rattle.std.proofs.Common.{take}
-use Rattle.quaject_core.specs.States.{Reaches}
-use Rattle.quaject_core.specs.Shown.{state}
+use Rattle.quaject_core.specs.Schedules.{Reaches}
+use Rattle.quaject_core.specs.ShownCores.{state}
 use Rattle.quaject_core.proofs.machine.Core.run.Given as goal
 
 -- The events so far were each allowed.

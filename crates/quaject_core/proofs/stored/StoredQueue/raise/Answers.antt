@@ -1,5 +1,5 @@
-use Rattle.std.proofs.Common.{◌≡◌, ◌+◌, true, false, not, refl, sym, ap, ◌∙◌, arith, slice_get, Some, eqb}
-use Rattle.quaject_core.proofs.Events.{not_true, not_false, raise_other, raise_again, raised_laid, raised_lawful, raised_ok, place_within, same_place}
+use Rattle.std.proofs.Common.{◌+◌, refl, sym, ◌∙◌, arith}
+use Rattle.quaject_core.proofs.QueueSteps.{not_true, not_false, raise_other, raise_again, raised_laid, raised_lawful, raised_ok, place_within, same_place}
 use Rattle.quaject_core.proofs.stored.StoredQueue.raise.Goals as goal
 
 pub returns-then-ne : goal.returns-then-ne

@@ -1,6 +1,5 @@
-use Rattle.std.proofs.Common.{◌≡◌, ℕ, ap, sym, ◌∙◌, length, map, count_by, arith}
+use Rattle.std.proofs.Common.{◌≡◌, ap, ◌∙◌, length, map, count_by, arith}
 use Rattle.std.proofs.lemmas.List.{length-map}
-use Rattle.quaject_core.specs.declared.status.QueueStatus.{QueueStatus}
 use Rattle.quaject_core.specs.Layout.{flag_of, item_of, run_at}
 use Rattle.quaject_core.specs.Runs.{flat}
 use Rattle.quaject_core.specs.Queues.{left, left_pairs, is_raised}

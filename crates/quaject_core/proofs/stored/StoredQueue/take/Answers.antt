@@ -1,12 +1,16 @@
-use Rattle.std.proofs.Common.{sym, ◌∙◌, arith}
-use Rattle.quaject_core.proofs.Events.{taken_lawful, first_enough}
+use Rattle.std.proofs.Common.{arith}
+use Rattle.quaject_core.proofs.Keeping.{take_ok}
+use Rattle.quaject_core.proofs.QueueSteps.{taken_lawful, first_enough}
+use Rattle.quaject_core.specs.Shown.{queue}
+use Rattle.quaject_core.specs.Queues.{after_take}
 use Rattle.quaject_core.proofs.stored.StoredQueue.take.Goals as goal
 
 pub overflow_add-self : goal.overflow_add-self
-overflow_add-self c = omega (arith, first_enough c.args.self.now c.args.count (sym c.first_are_raised.ensures ∙ c.if-not-first_are_raised.false), c.args.self.now.places.ok, c.args.self.now.places.small)
+overflow_add-self c =
+    let h = take_ok c.args.longest c.args.count (queue c.args.self.now) (after_take c.args.count (queue c.args.self.now)) c.in_ok-check_take.ensures in
+    omega (arith, first_enough c.args.self.now c.args.count h.3, c.args.self.now.places.ok, c.args.self.now.places.small)
 
 pub invariant_of-self : goal.invariant_of-self
-invariant_of-self c = record {
-  laid_out = c.args.self.now.laid_out;
-  lawful = taken_lawful c.args.self.now c.args.count (sym c.first_are_raised.ensures ∙ c.if-not-first_are_raised.false);
-}
+invariant_of-self c =
+    let h = take_ok c.args.longest c.args.count (queue c.args.self.now) (after_take c.args.count (queue c.args.self.now)) c.in_ok-check_take.ensures in
+    record { laid_out = c.args.self.now.laid_out; lawful = taken_lawful c.args.self.now c.args.count h.3 }

@@ -1,0 +1,58 @@
+-- Results that are refused, or go on.
+use Rattle.std.proofs.Common.{◌≡◌, ◌⊎◌, inl, inr, List, [], ◌∷◌, ℕ, refl, Bool, true, false, cond, Result, Ok, Err}
+use Rattle.boot_script.specs.declared.fault.ScriptRefusal.{ScriptRefusal}
+use Rattle.boot_script.specs.declared.fault.ScriptRefusal.TheVariants.{OutOfMemory}
+use Rattle.boot_script.specs.Words.{◌>>=◌}
+use Rattle.boot_script.specs.Names.{◌or◌}
+use Rattle.boot_script.specs.Grammar.{no_more_of}
+
+pub bind_ok : {A B E : Type 0} (r : Result A E) (f : A → Result B E) (y : B) → (r >>= f) ≡ Ok y → (x : A) × (r ≡ Ok x) × (f x ≡ Ok y)
+bind_ok (Ok x) f y h = (x, refl, h)
+bind_ok (Err e) f y h = absurd (cc)
+
+pub guard_ok : {A : Type 0} (b : Bool) (x y : A) (e : ScriptRefusal) → cond b (Ok x) (Err e) ≡ Ok y → (b ≡ true) × (x ≡ y)
+guard_ok true x y e h = (refl, cc)
+guard_ok false x y e h = absurd (cc)
+
+pub chosen : {A : Type 0} (b : Bool) (x y z : A) → cond b x y ≡ z → ((b ≡ true) × (x ≡ z)) ⊎ ((b ≡ false) × (y ≡ z))
+chosen true x y z h = inl (refl, h)
+chosen false x y z h = inr (refl, h)
+
+pub or_ok : {A E : Type 0} (first second : Result A E) (x : A) → (first or second) ≡ Ok x → (first ≡ Ok x) ⊎ (second ≡ Ok x)
+or_ok (Ok y) second x h = inl h
+or_ok (Err e) second x h = inr h
+
+pub no_more_ok : (words : List (List ℕ)) (u : Unit {0}) → no_more_of words ≡ Ok u → words ≡ []
+no_more_ok [] u h = refl
+no_more_ok (word ∷ words) u h = absurd (cc)
+
+-- what is left ends the line
+pub last_ok : {A : Type 0} (words : List (List ℕ)) (x y : A) → (no_more_of words >>= λ end. Ok x) ≡ Ok y → (words ≡ []) × (x ≡ y)
+last_ok [] x y h = (refl, cc)
+last_ok (word ∷ words) x y h = absurd (cc)
+
+-- what is refused isn't refused for want of memory
+abbrev pub Known : {A : Type 0} → Result A ScriptRefusal → Type 0
+Known said = said ≡ Err OutOfMemory → ⊥
+
+pub bind_known : {A B : Type 0} (r : Result A ScriptRefusal) (f : A → Result B ScriptRefusal) → Known r → ((x : A) → Known (f x)) → Known (r >>= f)
+bind_known (Ok x) f h k = k x
+bind_known (Err e) f h k = λ p. h (cc)
+
+pub test_known : {A : Type 0} (b : Bool) (x y : Result A ScriptRefusal) → Known x → Known y → Known (cond b x y)
+test_known true x y h k = h
+test_known false x y h k = k
+
+pub or_known : {A : Type 0} (first second : Result A ScriptRefusal) → Known first → Known second → Known (first or second)
+or_known (Ok x) second h k = h
+or_known (Err e) second h k = k
+
+pub ok_known : {A : Type 0} (x : A) → Known (Ok x)
+ok_known x p = absurd (cc)
+
+pub no_more_known : (words : List (List ℕ)) → Known (no_more_of words)
+no_more_known [] = ok_known tt
+no_more_known (word ∷ words) = λ p. cc
+
+pub last_known : {A : Type 0} (words : List (List ℕ)) (x : A) → Known (no_more_of words >>= λ end. Ok x)
+last_known words x = bind_known (no_more_of words) _ (no_more_known words) (λ end. ok_known x)

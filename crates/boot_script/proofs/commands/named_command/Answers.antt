@@ -1,0 +1,24 @@
+use Rattle.std.proofs.Common.{◌≡◌, ap, sym, ◌∙◌, get_or}
+use Rattle.std.specs.Str.{bytes_eq}
+use Rattle.boot_script.specs.declared.commands.Command.TheVariants.{Queue}
+use Rattle.boot_script.specs.Commands.{command_word, commands}
+use Rattle.boot_script.proofs.Named.{named_more, named_here, named_nowhere}
+use Rattle.boot_script.proofs.commands.named_command.Goals as goal
+
+pub loop-command-preserved : goal.loop-command-preserved
+unfolding commands
+loop-command-preserved c =
+    let w : c.word.result.now ≡ command_word (get_or commands c.loop-command.command-index Queue) = c.word.ensures in
+    let other = ap (bytes_eq c.args.word.now) (sym w) ∙ (sym c.eq.ensures ∙ c.if-eq.false) in
+    sym (named_more c.args.word.now commands c.loop-command.command-index Queue c.loop-command-test.true other) ∙ c.loop-command.invariant
+
+pub returns-then-eq-clause-exact : goal.returns-then-eq-clause-exact
+unfolding commands
+returns-then-eq-clause-exact c =
+    let w : c.word.result.now ≡ command_word (get_or commands c.loop-command.command-index Queue) = c.word.ensures in
+    let same = ap (bytes_eq c.args.word.now) (sym w) ∙ (sym c.eq.ensures ∙ c.if-eq.true) in
+    sym (named_here c.args.word.now commands c.loop-command.command-index Queue c.loop-command-test.true same) ∙ c.loop-command.invariant
+
+pub returns-clause-exact : goal.returns-clause-exact
+unfolding commands
+returns-clause-exact c = sym (named_nowhere c.args.word.now commands c.loop-command.command-index c.loop-command-test.false) ∙ c.loop-command.invariant

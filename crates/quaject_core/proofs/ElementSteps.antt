@@ -1,0 +1,145 @@
+-- When each event of the thread elements is allowed, and what it then makes of the stored elements.
+use Rattle.std.proofs.Common.{◌≡◌, ℕ, ◌+◌, ◌<◌, Bool, true, false, ◌||◌, not, cond, List, [], ◌∷◌, ◌++◌, ◌∙◌, map, length, remove, position, set, get_or, refl, sym, ap, ap₂, subst, arith, Some, None, slice_get, option_map, eqb, ltb, Result, Ok, Err}
+use Rattle.std.proofs.lemmas.Bool.Decides.{nat_tests}
+use Rattle.std.proofs.lemmas.Bool.{ltb-true}
+use Rattle.std.proofs.lemmas.List.{map-set, length-map}
+use Rattle.std.proofs.lemmas.Option.{slice_get-map, slice_get_read, slice_get_within}
+use Rattle.std.specs.List.{list_any}
+use Rattle.quaject_core.specs.Elements.{Thread, Elements, hold, is_hold, is_put, holds, park, start, deliver, done, change_thread}
+use Rattle.quaject_core.specs.Results.{refused_if}
+use Rattle.quaject_core.specs.ShownElements.{elements}
+use Rattle.quaject_core.specs.ShownThreads.{thread}
+use Rattle.quaject_core.specs.declared.hold.Hold.{Hold}
+use Rattle.quaject_core.specs.declared.refusal.Refusal.{Refusal}
+use Rattle.quaject_core.specs.declared.refusal.Refusal.TheVariants.{Full, NotHeld}
+use Rattle.quaject_core.specs.declared.elements.StoredElements.{StoredElements}
+use Rattle.quaject_core.specs.declared.threading.StoredThread.{StoredThread}
+
+-- what was read at a place
+pub found_at : {A : Type 0} (xs : List A) (k e : ℕ) (x : A) → k ≡ e → k < length xs → x ≡ get_or xs k x → slice_get xs e ≡ Some x
+found_at xs k e x same below is = ap (slice_get xs) (sym same) ∙ slice_get_read xs (length xs) k x refl below is
+
+-- two reads of one place
+pub same_read : {A : Type 0} (xs : List A) (k e : ℕ) (x y : A) → k ≡ e → k < length xs → x ≡ get_or xs k x → slice_get xs e ≡ Some y → x ≡ y
+same_read xs k e x y same below is found =
+    let h : Some x ≡ Some y = sym (found_at xs k e x same below is) ∙ found in cc
+
+pub found_within : {A : Type 0} (xs : List A) (e : ℕ) (x : A) → slice_get xs e ≡ Some x → e < length xs
+found_within xs e x found = slice_get_within xs e x found
+
+-- what is shown of a place
+pub shown_at : {A B : Type 0} (f : A → B) (xs : List A) (e : ℕ) (x : A) → slice_get xs e ≡ Some x → slice_get (map f xs) e ≡ Some (f x)
+shown_at f xs e x found = slice_get-map f xs e ∙ ap (option_map f) found
+
+pub shown_none : {A B : Type 0} (f : A → B) (xs : List A) (e : ℕ) → slice_get xs e ≡ None → slice_get (map f xs) e ≡ None
+shown_none f xs e found = slice_get-map f xs e ∙ ap (option_map f) found
+
+-- what is shown after a change of a place
+pub shown_set : {A B : Type 0} (f : A → B) (xs : List A) (k e : ℕ) (new : A) (y : B) → k ≡ e → f new ≡ y → map f (set xs k new) ≡ set (map f xs) e y
+shown_set f xs k e new y same is = map-set f xs k new ∙ ap₂ (λ n z. set (map f xs) n z) same is
+
+-- an element that is there is changed
+pub changed : (e : ℕ) (change : Thread → Result Thread Refusal) (s : Elements) (old new : Thread) → slice_get s.threads e ≡ Some old → change old ≡ Ok new
+    → change_thread e change s ≡ Ok (record s { threads = set s.threads e new })
+changed e change s old new found is = rw (found, is) refl
+
+pub not_changed : (e : ℕ) (change : Thread → Result Thread Refusal) (s : Elements) (old : Thread) (refusal : Refusal) → slice_get s.threads e ≡ Some old → change old ≡ Err refusal
+    → change_thread e change s ≡ Err refusal
+not_changed e change s old refusal found is = rw (found, is) refl
+
+pub parked_ok : (call e index : ℕ) (s : Elements) (old : Thread) → slice_get s.threads e ≡ Some old → position (is_hold call e) s.held ≡ Some index → old.stop ≡ true
+    → park call e s ≡ Ok (record s { threads = set s.threads e (record old { parked = true }); held = remove s.held index })
+parked_ok call e index s old found held stopped = rw (found, held, stopped) refl
+
+pub started_ok : (call e : ℕ) (s : Elements) (old : Thread) → slice_get s.threads e ≡ Some old → old.stop ≡ true
+    → start call e s ≡ Ok (record s { threads = set s.threads e (record old { stop = false; parked = false }); held = s.held ++ cond old.parked (hold call e ∷ []) [] })
+started_ok call e s old found stopped = rw (found, stopped) refl
+
+pub delivered_ok : (call e : ℕ) (s : Elements) (old : Thread) → slice_get s.threads e ≡ Some old → holds call e s ≡ true
+    → deliver call e s ≡ Ok (record s { threads = set s.threads e (record old { pending = λ signal. false }) })
+delivered_ok call e s old found held = changed e _ s old _ found (rw held refl)
+
+may_not_step : (call e : ℕ) (s : Elements) (old : Thread) (full can : Bool) → eqb old.done 4294967295 ≡ full → (holds call e s || list_any (is_put call e) s.processors) ≡ can
+    → refused_if (eqb old.done 4294967295) Full (refused_if (not (holds call e s || list_any (is_put call e) s.processors)) NotHeld (Ok (record old { done = old.done + 1 })))
+    ≡ refused_if full Full (refused_if (not can) NotHeld (Ok (record old { done = old.done + 1 })))
+may_not_step call e s old full can is_full is_can = rw (is_full, is_can) refl
+
+pub done_ok : (call e : ℕ) (s : Elements) (old : Thread) → slice_get s.threads e ≡ Some old → old.done < 4294967295 → (holds call e s || list_any (is_put call e) s.processors) ≡ true
+    → done call e s ≡ Ok (record s { threads = set s.threads e (record old { done = old.done + 1 }) })
+done_ok call e s old found room can =
+    let few : eqb old.done 4294967295 ≡ false = grind (arith, nat_tests) in
+    changed e _ s old _ found (may_not_step call e s old false true few can)
+
+pub done_not_held : (call e : ℕ) (s : Elements) (old : Thread) → slice_get s.threads e ≡ Some old → old.done < 4294967295 → (holds call e s || list_any (is_put call e) s.processors) ≡ false
+    → done call e s ≡ Err NotHeld
+done_not_held call e s old found room can =
+    let few : eqb old.done 4294967295 ≡ false = grind (arith, nat_tests) in
+    not_changed e _ s old NotHeld found (may_not_step call e s old false false few can)
+
+-- a stored element that is there is changed
+pub stored_changed : (s : StoredElements) (k e : ℕ) (change : Thread → Result Thread Refusal) (old new : StoredThread) → k ≡ e → k < length s.threads.items
+    → old ≡ get_or s.threads.items k old → change (thread old) ≡ Ok (thread new)
+    → change_thread e change (elements s) ≡ Ok (record (elements s) { threads = map thread (set s.threads.items k new) })
+stored_changed s k e change old new same below is done =
+    changed e change (elements s) (thread old) (thread new) (shown_at thread s.threads.items e old (found_at s.threads.items k e old same below is)) done
+    ∙ ap (λ threads. Ok (record (elements s) { threads = threads })) (sym (shown_set thread s.threads.items k e new (thread new) same refl))
+
+-- what is shown after a change of the threads and of who holds what
+shown_changes : (s : StoredElements) (k e : ℕ) (new : StoredThread) (shown : Thread) (before after : List Hold) → k ≡ e → thread new ≡ shown → after ≡ before
+    → ◌≡◌ {A = Result Elements Refusal} (Ok (record (elements s) { threads = set (elements s).threads e shown; held = before }))
+    (Ok (record (elements s) { threads = map thread (set s.threads.items k new); held = after }))
+shown_changes s k e new shown before after same is held =
+    ap₂ (λ threads (hs : List Hold). Ok (record (elements s) { threads = threads; held = hs })) (sym (shown_set thread s.threads.items k e new shown same is)) (sym held)
+
+pub stored_parked : (s : StoredElements) (call k e item index : ℕ) (first old new : StoredThread) (after : List Hold) → k ≡ e → item ≡ e → k < length s.threads.items
+    → slice_get s.threads.items e ≡ Some first → old ≡ get_or s.threads.items k old
+    → position (is_hold call item) s.held.holds.items ≡ Some index → first.stop ≡ true → thread new ≡ record (thread old) { parked = true } → after ≡ remove s.held.holds.items index
+    → park call e (elements s) ≡ Ok (record (elements s) { threads = map thread (set s.threads.items k new); held = after })
+stored_parked s call k e item index first old new after same own below seen is found stopped shown held =
+    let again : old ≡ first = same_read s.threads.items k e old first same below is seen in
+    parked_ok call e index (elements s) (thread old) (shown_at thread s.threads.items e old (found_at s.threads.items k e old same below is))
+    (ap (λ n. position (is_hold call n) s.held.holds.items) (sym own) ∙ found) (ap (λ t. t.stop) again ∙ stopped)
+    ∙ shown_changes s k e new _ _ after same shown held
+
+pub stored_started : (s : StoredElements) (call k e item : ℕ) (is_parked : Bool) (first old new : StoredThread) (after : List Hold) → k ≡ e → item ≡ e → k < length s.threads.items
+    → slice_get s.threads.items e ≡ Some first → old ≡ get_or s.threads.items k old → first.stop ≡ true → is_parked ≡ first.parked
+    → thread new ≡ record (thread old) { stop = false; parked = false } → after ≡ s.held.holds.items ++ cond is_parked (hold call item ∷ []) []
+    → start call e (elements s) ≡ Ok (record (elements s) { threads = map thread (set s.threads.items k new); held = after })
+stored_started s call k e item is_parked first old new after same own below seen is stopped parks shown held =
+    let again : old ≡ first = same_read s.threads.items k e old first same below is seen in
+    let here : is_parked ≡ old.parked = parks ∙ ap (λ t. t.parked) (sym again) in
+    started_ok call e (elements s) (thread old) (shown_at thread s.threads.items e old (found_at s.threads.items k e old same below is)) (ap (λ t. t.stop) again ∙ stopped)
+    ∙ shown_changes s k e new _ _ after same shown (held ∙ ap₂ (λ b n. s.held.holds.items ++ cond b (hold call n ∷ []) []) here own)
+
+pub stored_delivered : (s : StoredElements) (call k e item : ℕ) (old new : StoredThread) → k ≡ e → item ≡ e → k < length s.threads.items → old ≡ get_or s.threads.items k old
+    → list_any (is_hold call item) s.held.holds.items ≡ true → thread new ≡ record (thread old) { pending = λ signal. false }
+    → deliver call e (elements s) ≡ Ok (record (elements s) { threads = map thread (set s.threads.items k new) })
+stored_delivered s call k e item old new same own below is held shown =
+    delivered_ok call e (elements s) (thread old) (shown_at thread s.threads.items e old (found_at s.threads.items k e old same below is))
+    (ap (λ n. list_any (is_hold call n) s.held.holds.items) (sym own) ∙ held)
+    ∙ shown_changes s k e new _ _ s.held.holds.items same shown refl
+
+abbrev steps_by : StoredElements → ℕ → ℕ → Bool
+steps_by s call e = holds call e (elements s) || list_any (is_put call e) s.processors
+
+pub stored_done : (s : StoredElements) (call k e item : ℕ) (first old new : StoredThread) → k ≡ e → item ≡ e → k < length s.threads.items → slice_get s.threads.items e ≡ Some first
+    → old ≡ get_or s.threads.items k old → first.done < 4294967295 → (holds call item (elements s) || list_any (is_put call item) s.processors) ≡ true
+    → thread new ≡ record (thread old) { done = (thread old).done + 1 }
+    → done call e (elements s) ≡ Ok (record (elements s) { threads = map thread (set s.threads.items k new) })
+stored_done s call k e item first old new same own below seen is room can shown =
+    let again : old ≡ first = same_read s.threads.items k e old first same below is seen in
+    done_ok call e (elements s) (thread old) (shown_at thread s.threads.items e old (found_at s.threads.items k e old same below is))
+    (subst (λ t. t.done < 4294967295) (sym again) room) (ap (steps_by s call) (sym own) ∙ can)
+    ∙ shown_changes s k e new _ _ s.held.holds.items same shown refl
+
+pub stored_not_done : (s : StoredElements) (call e item : ℕ) (first : StoredThread) → item ≡ e → slice_get s.threads.items e ≡ Some first → first.done < 4294967295
+    → (holds call item (elements s) || list_any (is_put call item) s.processors) ≡ false → done call e (elements s) ≡ Err NotHeld
+stored_not_done s call e item first own seen room can =
+    done_not_held call e (elements s) (thread first) (shown_at thread s.threads.items e first seen) room (ap (steps_by s call) (sym own) ∙ can)
+
+-- an element that is known is below the number of the stored ones
+pub known : (s : StoredElements) (e : ℕ) (answer : Bool) → answer ≡ ltb e (length (elements s).threads) → answer ≡ true → e < length s.threads.items
+known s e answer is there = omega (arith, ltb-true e (length (elements s).threads) (sym is ∙ there), length-map s.threads.items thread)
+
+pub not_all : (n : ℕ) → n < 4294967296 → (n ≡ 4294967295 → ⊥) → n < 4294967295
+not_all n fits not = omega arith

@@ -1,0 +1,28 @@
+use Rattle.std.proofs.Common.{List, map, remove, Ok, sym, ap, subst, ◌∙◌}
+use Rattle.quaject_core.specs.Queues.{Queue}
+use Rattle.quaject_core.specs.Results.{◌>>=◌, IsWhy}
+use Rattle.quaject_core.specs.Shown.{queue}
+use Rattle.quaject_core.specs.declared.hold.Hold.{Hold}
+use Rattle.quaject_core.specs.ShownElements.{elements}
+use Rattle.quaject_core.proofs.ElementSteps.{known}
+use Rattle.quaject_core.proofs.Lifts.{changes_err, why_then}
+use Rattle.quaject_core.proofs.LineSteps.{stored_waits}
+use Rattle.quaject_core.proofs.elements.StoredElements.wait_at.Goals as goal
+
+pub returns-in_err-claim : goal.returns-in_err-claim
+returns-in_err-claim c =
+    let s = c.args.self.now in
+    let whole = stored_waits s c.args.call c.args.wait c.args.element c.item_of-item.result c.of_wait.result c.args.ticket c.in-Some.index c.notifies.result
+    (known s c.args.element c.knows.result c.knows.ensures c.if-not-knows.false) c.item_of-item.ensures c.of_wait.ensures c.notifies.ensures (sym c.in-Some.ensures) c.if-notifies-ticket.false in
+    let e = c.in_err-claim.field-0.0 in
+    changes_err c.from_residual.result e _ _ _ c.from_residual.ensures.1
+    (ap (λ lines. record (elements s) { lines = lines }) c.in_err-claim.ensures.what.0)
+    (subst (IsWhy e) (sym whole) (why_then e _ (λ (lines : List Queue). record (elements s) { lines = lines; held = remove s.held.holds.items c.in-Some.index }) c.in_err-claim.ensures.what.1))
+
+pub returns : goal.returns
+returns c =
+    let s = c.args.self.now in
+    let whole = stored_waits s c.args.call c.args.wait c.args.element c.item_of-item.result c.of_wait.result c.args.ticket c.in-Some.index c.notifies.result
+    (known s c.args.element c.knows.result c.knows.ensures c.if-not-knows.false) c.item_of-item.ensures c.of_wait.ensures c.notifies.ensures (sym c.in-Some.ensures) c.if-notifies-ticket.false in
+    whole ∙ (ap (λ said. said >>= λ lines. Ok (record (elements s) { lines = lines; held = remove s.held.holds.items c.in-Some.index })) c.in_ok-claim.ensures.what
+    ∙ ap (λ (held : List Hold). Ok (record (elements s) { lines = map queue c.claim.new.lines.items; held = held })) (sym c.remove.ensures))

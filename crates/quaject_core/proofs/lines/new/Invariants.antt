@@ -1,0 +1,12 @@
+use Rattle.std.proofs.Common.{◌≡◌, [], ◌∷◌, ◌+◌, map, vec_len}
+use Rattle.std.specs.List.{repeat}
+use Rattle.quaject_core.specs.Queues.{empty_queue, full_queue}
+use Rattle.quaject_core.specs.Shown.{queue}
+use Rattle.quaject_core.proofs.lines.new.Given as goal
+
+-- The first two lines and so many wait queues.
+abbrev pub invariant-loop : goal.invariant-loop
+invariant-loop l = record {
+  what : map queue l.lines.items ≡ empty_queue l.fn.count ∷ full_queue l.fn.count ∷ repeat l.counter (empty_queue l.fn.count ∷ []);
+  count : vec_len l.lines ≡ 2 + l.counter;
+}

@@ -1,8 +1,0 @@
-use Rattle.std.proofs.Common.{refl, ap, ◌∙◌, arith}
-use Rattle.quaject_core.specs.Queues.{raise}
-use Rattle.quaject_core.proofs.Cores.{one_queue_changes}
-use Rattle.quaject_core.proofs.machine.Core.raise.Goals as goal
-
-pub returns : goal.returns
-returns c = one_queue_changes c.args.self.now c.args.number c.from-number.result (raise c.args.call c.args.run c.args.index) c.index_mut.result.now c.raise.new.self _ c.raise.result
-    (c.from-number.ensures ∙ c.number.ensures.value) (omega (arith, c.args.self.now.queues.ok)) c.index_mut.ensures.value refl c.raise.ensures

@@ -1,0 +1,8 @@
+use Rattle.std.proofs.Common.{◌∙◌, arith}
+use Rattle.quaject_core.specs.Chains.{claim_note}
+use Rattle.quaject_core.proofs.Changing.{chain_changes}
+use Rattle.quaject_core.proofs.store.Store.claim_note.Goals as goal
+
+pub returns : goal.returns
+returns c = chain_changes c.args.self.now c.args.number c.from-number.result (claim_note c.args.call c.args.items.now) c.index_mut.result.now c.claim.new.self c.claim.result
+    (c.from-number.ensures ∙ c.number.ensures.value) (omega (arith, c.args.self.now.chains.ok)) c.index_mut.ensures.value c.claim.ensures

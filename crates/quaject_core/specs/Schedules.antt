@@ -1,0 +1,18 @@
+-- What a schedule, any list of events, reaches.
+use Rattle.std.specs.Prelude.{◌≡◌, ℕ, List, [], ◌∷◌, take, Result, Ok, Err, IsSomeAnd}
+use Rattle.std.specs.List.{slice_get}
+use Rattle.quaject_core.specs.Results.{IsWhy}
+use Rattle.quaject_core.specs.States.{State, step}
+use Rattle.quaject_core.specs.declared.event.Event.{Event}
+use Rattle.quaject_core.specs.declared.refusal.Refusal.{Refusal}
+
+-- these events, each allowed in its turn, lead from the one state to the other
+abbrev pub Reaches : State → List Event → State → Type 0
+Reaches s [] t = t ≡ s
+Reaches s (event ∷ events) t = (next : State) × (step event s ≡ Ok next) × Reaches next events t
+
+-- all events were applied, or those before the first that was refused, which has this index
+abbrev pub AppliesAll : Result (Unit {0}) (ℕ × Refusal) → List Event → State → State → Type 0
+AppliesAll (Ok done) events old new = Reaches old events new
+AppliesAll (Err stop) events old new =
+    Reaches old (take stop.0 events) new × IsSomeAnd (slice_get events stop.0) (λ event. IsWhy stop.1 (step event new))

@@ -1,0 +1,23 @@
+-- The thread elements that the machine stores.
+use Rattle.std.specs.Prelude.{map, Result}
+use Rattle.quaject_core.specs.Elements.{Elements}
+use Rattle.quaject_core.specs.Shown.{queue}
+use Rattle.quaject_core.specs.ShownThreads.{thread}
+use Rattle.quaject_core.specs.Results.{Changes}
+use Rattle.quaject_core.specs.declared.refusal.Refusal.{Refusal}
+use Rattle.quaject_core.specs.declared.elements.StoredElements.{StoredElements}
+
+-- the elements that are stored here
+abbrev pub elements : StoredElements → Elements
+elements stored = record {
+  threads = map thread stored.threads.items;
+  lines = map queue stored.lines.items;
+  notified = stored.notified;
+  processors = stored.processors;
+  held = stored.held.holds.items;
+}
+
+-- the event was done to what is stored, or it was refused and nothing changed
+abbrev pub Does :
+    Result (Unit {0}) Refusal → (Elements → Result Elements Refusal) → StoredElements → StoredElements → Type 0
+Does result event old new = Changes result (event (elements old)) (elements old) (elements new)

@@ -1,0 +1,136 @@
+//! Where each element is, and its numbers.
+
+ghost use Rattle.std.specs.Prelude.{◌≡◌, ◌==◌, ◌<◌, ◌≤◌, ℕ, List, position, length, map, IfOk};
+ghost use Rattle.std.specs.List.{list_any};
+ghost use Rattle.quaject_core.specs.Queues.{left};
+ghost use Rattle.quaject_core.specs.Statuses.{element_statuses};
+ghost use Rattle.quaject_core.specs.Shown.{queue};
+ghost use Rattle.quaject_core.specs.ShownThreads.{thread};
+ghost use Rattle.quaject_core.specs.Appearances.{is_on};
+ghost use Rattle.quaject_core.specs.Places.{place_by, line_place, held_place, holder};
+
+use crate::hold::Hold;
+use crate::names::{Call, Processor, WaitNumber};
+use crate::refusal::OutOfMemory;
+use crate::status::{ElementStatus, Place};
+use crate::stored::StoredQueue;
+use crate::threading::StoredThread;
+use std::alloc::Global;
+
+/// Whether the element stands on this processor.
+fn is_on(element: u64, seat: Option<Hold>) -> bool
+    ensures { result ≡ is_on element seat }
+{
+    match seat {
+        Some(hold) => hold.element == element,
+        None => false,
+    }
+}
+
+/// Which processor the element stands on.
+fn seat_of(processors: &[Option<Hold>; 8], element: u64) -> Option<usize>
+    ensures { result ≡ position (is_on element) processors.now }
+{
+    processors.iter().position(|seat| is_on(element, *seat))
+}
+
+/// The processor on which the element stands.
+fn processor_of(processors: &[Option<Hold>; 8], element: u64) -> Option<Processor>
+    ensures { result ≡ position (is_on element) processors.now }
+{
+    let seat = seat_of(processors, element)?;
+    Some(Processor::new(seat as u8).unwrap())
+}
+
+/// The element queue in which the element is left.
+fn line_of(lines: &[StoredQueue], element: u64) -> Option<usize>
+    ensures { result ≡ position (λ stored. list_any (λ item. item == element) (left (queue stored))) lines.now }
+{
+    lines.iter().position(|line| line.has_left(element))
+}
+
+/// The call that holds the element.
+fn holder(held: &[Hold], element: u64) -> Option<Call>
+    ensures { result ≡ holder element held.now }
+{
+    for hold in held {
+        if hold.element == element {
+            return Some(hold.call);
+        }
+    }
+    None
+}
+
+/// What the element queue stands for.
+fn line_place(line: usize) -> Place
+    requires { line < 18 }
+    ensures { result ≡ line_place line }
+{
+    match line {
+        0 => Place::Ready,
+        1 => Place::Free,
+        _ => Place::Wait(WaitNumber::new((line - 2) as u8).unwrap()),
+    }
+}
+
+/// Where an element is that is on no processor and in no queue.
+fn held_place(held: Option<Call>) -> Place
+    ensures { result ≡ held_place held }
+{
+    match held {
+        Some(call) => Place::Held(call),
+        None => Place::Stopped,
+    }
+}
+
+/// Where the element is.
+#[tactic(auto, using(crate::proofs::Numbers::position_map))]
+pub(crate) fn place(
+    processors: &[Option<Hold>; 8],
+    lines: &[StoredQueue],
+    held: &[Hold],
+    element: u64,
+) -> Place
+    requires { length lines.now ≤ 18 }
+    ensures { result ≡ place_by
+        (position (is_on element) processors.now)
+        (position (λ q. list_any (λ item. item == element) (left q)) (map queue lines.now))
+        (holder element held.now) }
+{
+    if let Some(processor) = processor_of(processors, element) {
+        return Place::Processor(processor);
+    }
+    if let Some(line) = line_of(lines, element) {
+        return line_place(line);
+    }
+    held_place(holder(held, element))
+}
+
+/// The numbers of each element.
+pub(crate) fn statuses(
+    alloc: Global,
+    threads: &[StoredThread],
+    processors: &[Option<Hold>; 8],
+    lines: &[StoredQueue],
+    held: &[Hold],
+) -> Result<Vec<ElementStatus>, OutOfMemory>
+    requires { length lines.now ≤ 18 }
+    ensures { IfOk result (λ list. (notified : List ℕ) → list.items ≡ element_statuses (record {
+      threads = map thread threads.now;
+      lines = map queue lines.now;
+      notified = notified;
+      processors = processors.now;
+      held = held.now;
+    }) 0 (map thread threads.now)) }
+{
+    let mut statuses = Vec::new(alloc);
+    for (element, thread) in threads.iter().enumerate() {
+        statuses.push(ElementStatus {
+            place: place(processors, lines, held, element as u64),
+            done: thread.done(),
+            pending: thread.pending(),
+            stop: thread.is_stopping(),
+        })?;
+    }
+    Ok(statuses)
+}

@@ -1,6 +1,8 @@
 //! Each event keeps what is lawful, as statements over plain data: no width and no table stands in them.
 
-ghost use Rattle.std.specs.Prelude.{◌≡◌, ◌==◌, ℕ, List, false, Ok};
+ghost use Rattle.std.specs.Prelude.{◌≡◌, ◌==◌, ◌+◌, ◌<◌, ◌≤◌, ℕ, List, [], ◌∷◌, ◌++◌, map, length, false, Ok};
+ghost use mathlib.Core.Option.{some};
+ghost use lib.ListN.{get_elem?};
 ghost use Rattle.quaject_core.specs.Queues.{Queue, empty_queue, full_queue, claim, raise, take_first};
 ghost use Rattle.quaject_core.specs.Queues.{join_queue};
 ghost use Rattle.quaject_core.specs.Chains.{Chain, empty_chain, claim_note, raise_note, take_note, notify, round};
@@ -17,6 +19,15 @@ ghost use Rattle.quaject_core.specs.Lawful.{IsLawful};
 ghost use Rattle.quaject_core.specs.Accounts.{IsAccounted};
 ghost use Rattle.quaject_core.specs.Marks.{shut, notify_wait, wait_at};
 ghost use Rattle.quaject_core.specs.declared.event.Event.{Event};
+ghost use Rattle.quaject_core.specs.declared.tables.Batch.{Batch};
+ghost use Rattle.quaject_core.specs.declared.tables.Positions.{Positions};
+ghost use Rattle.quaject_core.specs.declared.tables.QueueView.{QueueView};
+ghost use Rattle.quaject_core.specs.Queues.{left};
+ghost use Rattle.quaject_core.specs.Positioned.{Lawful, head_of, left_of, fresh, written_at, with_claim, with_take};
+ghost use Rattle.quaject_core.specs.Positioned.{with_shut};
+ghost use Rattle.quaject_core.specs.Filing.{Owned, moved};
+ghost use Rattle.quaject_core.specs.Listing.{ViewsShow, Later};
+ghost use Rattle.quaject_core.specs.QueueOf.{IsHistory, IsEvent, queue_of};
 
 /// What a state begins with is lawful.
 pub fn first_are_lawful()
@@ -118,4 +129,27 @@ pub fn every_schedule()
         → Reaches (first_state elements) events s → IsLawful s }
     ensures accounted { (elements : ℕ) (events : List Event) (s : State)
         → Reaches (first_state elements) events s → IsAccounted (first_state elements) events s }
+{}
+
+/// The queue that a table's positions are is lawful, and each step of a table on its positions is one event of that
+/// queue, or none. Byte queues, chains and element queues all speak of their places so.
+pub fn positions_are_queues()
+    ensures lawful { (q : Positions) (runs : List (Owned Batch))
+        → Lawful q → IsHistory q runs → IsLawfulQueue (queue_of q runs) }
+    ensures left { (q : Positions) (runs : List (Owned Batch))
+        → IsHistory q runs → left (queue_of q runs) ≡ left_of q }
+    ensures claimed { (q : Positions) (parts : List QueueView) (seat : ℕ) (v w : QueueView) (items : List ℕ)
+        → ViewsShow q parts → get_elem? parts seat ≡ some v → Lawful q → 0 < length items
+        → length q.places + length items ≤ q.taken + q.room → q.shut ≡ false
+        → w.runs ≡ v.runs ++ record { start = head_of q; places = map fresh items } ∷ [] → w.takes ≡ v.takes
+        → Later w (with_claim q items)
+        → IsEvent q (with_claim q items) (claim q.room seat items) }
+    ensures taken { (q : Positions) (parts : List QueueView) (seat count : ℕ) (v w : QueueView)
+        → ViewsShow q parts → get_elem? parts seat ≡ some v → Lawful q → 0 < count
+        → q.taken + count ≤ length q.places → ((i : ℕ) → i < count → 2 ≤ written_at q (q.taken + i))
+        → IsEvent q (with_take q count) (take_first q.room count) }
+    ensures shut { (q : Positions) (parts : List QueueView)
+        → ViewsShow q parts → Lawful q → IsEvent q (with_shut q) (λ c. Ok (shut c)) }
+    ensures joined { (q : Positions) (call other count : ℕ) (runs : List (Owned Batch))
+        → queue_of q (map (moved call other count) runs) ≡ join_queue call other (queue_of q runs) }
 {}

@@ -23,6 +23,7 @@ mod seats;
 mod status;
 mod store;
 mod stored;
+pub mod tables;
 mod threading;
 
 pub use event::Event;

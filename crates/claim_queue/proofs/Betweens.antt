@@ -1,0 +1,75 @@
+-- Whatever the rule holds of is a lawful queue of the core, shown by the words and the views.
+use Rattle.std.proofs.Common.{◌≡◌, ℕ, ◌+◌, ◌%◌, ◌<◌, ◌≤◌, Bool, true, false, List, ◌∙◌, map, length, take, get_or, refl, sym, ap, subst, arith, true≢false}
+use Rattle.std.proofs.lemmas.List.{get_or-map, take-map}
+use Rattle.std.proofs.lemmas.Simd.{map-map}
+use Rattle.std.proofs.lemmas.Bool.{le-leb, leb-true}
+use mathlib.Core.Logic.{dite}
+use native.Mathlib.Decide.{dec_le}
+use Rattle.quaject_core.specs.declared.tables.Entry.{Entry}
+use Rattle.quaject_core.specs.declared.tables.Batch.{Batch}
+use Rattle.quaject_core.specs.declared.tables.Positions.{Positions}
+use Rattle.quaject_core.specs.Runs.{flat, pairs}
+use Rattle.quaject_core.specs.Queues.{is_raised}
+use Rattle.quaject_core.specs.Positioned.{blank, item_of, place_at, item_at}
+use Rattle.quaject_core.specs.Filing.{Owned, ListedOnce}
+use Rattle.quaject_core.specs.Listing.{all_places, runs_of, takes_of, Chained}
+use Rattle.quaject_core.specs.QueueOf.{run_in, is_up, queue_of}
+use Rattle.quaject_core.proofs.Histories.{length-pairs_from}
+use Rattle.quaject_core.proofs.QueueOf.{flat_of, up_of, long_is, is_lawful_queue}
+use Rattle.quaject_core.proofs.QueueEvents.{history_of}
+use Rattle.claim_queue.specs.declared.rule.Shape.{Shape}
+use Rattle.claim_queue.specs.Shown.{mark, data_in, flag_in}
+use Rattle.claim_queue.specs.Rules.{part_of, Rule}
+use Rattle.claim_queue.specs.Between.{pair_at, PlaceIs, ShowsQueue}
+use Rattle.claim_queue.proofs.Looks.{St}
+
+-- whether the item with the number i is raised, and what it is
+module _ (q : Positions) (runs : List (Owned Batch)) (same : all_places runs ≡ q.places) (i : ℕ) (below : i < length q.places) where
+  up_is : is_raised (queue_of q runs) (pair_at (queue_of q runs) i) ≡ is_up (place_at q i)
+  up_is = let n = length-pairs_from 0 (map run_in runs) in let m = long_is q runs same in
+      sym (get_or-map (is_raised (queue_of q runs)) (pairs (map run_in runs)) i (0, 0) false (omega arith))
+      ∙ (ap (λ (z : List Bool). get_or z i false) (up_of q runs ∙ ap (map is_up) same) ∙ get_or-map is_up q.places i blank false below)
+
+  item_is : get_or (flat (map run_in runs)) i 0 ≡ item_at q i
+  item_is = ap (λ (z : List ℕ). get_or z i 0) (flat_of runs ∙ ap (map item_of) same) ∙ get_or-map item_of q.places i blank 0 below
+
+up_written : (e : Entry) → is_up e ≡ true → 2 ≤ e.written
+up_written e h = leb-true 2 e.written h
+
+low_written : (e : Entry) → is_up e ≡ false → e.written < 2
+low_written e h = dite (dec_le 2 e.written) (λ y. absurd (true≢false (sym (le-leb 2 e.written y) ∙ h))) (λ no. omega arith)
+
+place_is : (key : Shape) (s : St) (k : Rule key s) (i : ℕ) → k.queue.taken ≤ i → i < length k.queue.places → PlaceIs (queue_of k.queue k.listed.runs) key.room s.words i (key.first + i)
+place_is key s k i from below = let q : Positions = k.queue in let l = k.listed in let u = up_is q l.runs l.runs_flat i below in let x = item_is q l.runs l.runs_flat i below in
+    let within = k.lawful.within in let p = k.shows.window.each i from (omega arith) in
+    let at : (q.first + i) % q.room ≡ (key.first + i) % key.room = (λ z. (k.first z + i) % k.room z) in
+    let flag : flag_in q.room s.words ((q.first + i) % q.room) ≡ flag_in key.room s.words ((key.first + i) % key.room) = (λ z. flag_in (k.room z) s.words (at z)) in
+    let datum : data_in q.room s.words ((q.first + i) % q.room) ≡ data_in key.room s.words ((key.first + i) % key.room) = (λ z. data_in (k.room z) s.words (at z)) in
+    let first = k.first in record {
+      raised = λ h. sym flag ∙ (p.up (up_written (place_at q i) (sym u ∙ h)) ∙ ap (λ (z : ℕ). z + i + 1) first);
+      item = λ h. sym datum ∙ (p.holds (let w = up_written (place_at q i) (sym u ∙ h) in omega arith) ∙ sym x);
+      claimed = λ h. let f = p.low (low_written (place_at q i) (sym u ∙ h)) in omega arith;
+    }
+
+pub shows_queue : (key : Shape) (s : St) → Rule key s → ShowsQueue key s
+shows_queue key s k = let q : Positions = k.queue in let l = k.listed in let n = long_is q l.runs l.runs_flat in let h = k.shows in let first = k.first in let room = k.room in record {
+  queue = queue_of q l.runs;
+  lawful = is_lawful_queue q l.runs k.lawful (history_of q (map part_of s.views) l);
+  shown = record {
+    runs = l.runs;
+    history = refl;
+    once = subst (ListedOnce l.runs) (map-map runs_of part_of s.views) l.runs_filed;
+    side_by_side = subst (λ (z : ℕ). Chained z l.runs) k.first l.runs_chained;
+    raised = λ run index. refl;
+    takings = l.takes;
+    taken_once = subst (ListedOnce l.takes) (map-map takes_of part_of s.views) l.takes_filed;
+    taken_in_order = subst (λ (z : ℕ). Chained z l.takes) k.first l.takes_chained;
+    taken_items = ap (map item_of) l.takes_flat ∙ (sym (take-map item_of q.taken q.places) ∙ ap (take q.taken) (sym (flat_of l.runs ∙ ap (map item_of) l.runs_flat)));
+    capacity = k.room;
+    long = let w = h.wide in omega arith;
+    small = let w = h.small in omega arith;
+    head = h.head ∙ (let z : q.first + length q.places + mark q.shut ≡ key.first + length (flat (map run_in l.runs)) + mark q.shut = omega arith in z);
+    tail = h.tail ∙ ap (λ (z : ℕ). z + q.taken) first;
+    places = λ i from below. place_is key s k i from (omega arith);
+  };
+}

@@ -1,0 +1,15 @@
+pub mod Looks
+pub mod Claiming
+pub mod Writing
+pub mod Taking
+pub mod Shutting
+pub mod Tallying
+pub mod Following
+pub mod Raising
+pub mod Reading
+pub mod Emptying
+pub mod Settling
+pub mod Scanning
+pub mod Betweens
+pub mod Putting
+pub mod Refusals

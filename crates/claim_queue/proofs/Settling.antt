@@ -1,0 +1,102 @@
+-- What is read of a closed table.
+use Rattle.std.proofs.Common.{◌≡◌, ◌≢◌, ℕ, zero, suc, ◌+◌, ◌-◌, ◌%◌, ◌<◌, ◌≤◌, ◌⊎◌, inl, inr, Bool, true, false, eq-eqb, ne_eqb, Option, Some, None, List, [], ◌∷◌, ◌++◌, length, get_or, map, drop, sym, refl, ap, ◌∙◌, subst, arith}
+use Rattle.std.proofs.lemmas.List.{drop_more, drop_all}
+use Rattle.std.proofs.lemmas.Bool.{lt-ltb, le-ltb}
+use Rattle.std.specs.Prelude.{if◌then◌else◌}
+use mathlib.Core.Option as maybe
+use mathlib.Core.Logic.{dite}
+use native.Mathlib.Decide.{dec_lt}
+use lib.ListN.{get_elem?}
+use Rattle.quaject_core.specs.declared.tables.Positions.{Positions}
+use Rattle.quaject_core.specs.Positioned.{blank, place_at, item_at, written_at, head_of}
+use Rattle.claim_queue.specs.Shown.{mark, WordsShow}
+use Rattle.quaject_core.specs.declared.tables.QueueView.{QueueView}
+use Rattle.quaject_core.specs.Positioned.{Grows}
+use Rattle.quaject_core.specs.Listing.{ViewsShow}
+use Rattle.atomic_table.proofs.Lists.{at_map}
+use Rattle.quaject_core.proofs.Owned.{at_map_back}
+use Rattle.quaject_core.proofs.Listing.{listed_sole}
+use Rattle.quaject_core.proofs.Counting.{others_idle}
+use Rattle.quaject_core.proofs.QueueOf.{is_lawful_queue}
+use Rattle.quaject_core.proofs.QueueEvents.{history_of}
+use Rattle.atomic_table.specs.Table.{Final, Seen}
+use Rattle.claim_queue.specs.declared.rule.Shape.{Shape}
+use Rattle.claim_queue.specs.declared.rule.View.{View}
+use Rattle.claim_queue.specs.Rules.{part_of, ends_of, alone_of, Idle, Rule}
+use Rattle.claim_queue.specs.Steps.{Tallied}
+use Rattle.claim_queue.specs.Closings.{left_at, left_from, shown, ClosedNow}
+use Rattle.claim_queue.proofs.Looks.{St}
+use Rattle.claim_queue.proofs.Following.{later_on}
+
+pub left_length : (room : ℕ) (ws : List ℕ) (p n : ℕ) → length (left_from room ws p n) ≡ n
+left_length room ws p zero = refl
+left_length room ws p (suc n) = ap suc (left_length room ws (suc p) n)
+
+pub left_more : (room : ℕ) (ws : List ℕ) (p n : ℕ) → left_from room ws p (suc n) ≡ left_from room ws p n ++ left_at room ws (p + n) ∷ []
+left_more room ws p zero = let e : p ≡ p + 0 = omega arith in ap (λ (z : ℕ). left_at room ws z ∷ []) e
+left_more room ws p (suc n) = let e : suc p + n ≡ p + suc n = omega arith in ap (λ (z : List (Option ℕ)). left_at room ws p ∷ z) (left_more room ws (suc p) n ∙ ap (λ (z : ℕ). left_from room ws (suc p) n ++ left_at room ws z ∷ []) e)
+
+-- a word that was read
+pub read_word : (l : List ℕ) (i x : ℕ) → get_elem? l i ≡ maybe.some x → get_or l i 0 ≡ x
+read_word [] i x e = absurd (maybe.some-ne-none x (sym e))
+read_word (y ∷ ys) zero x e = maybe.some-injective y x e
+read_word (y ∷ ys) (suc i) x e = read_word ys i x e
+
+-- a place that is left reads as its item, if it was raised
+pub left_shown : (q : Positions) (ws : List ℕ) (i : ℕ) → WordsShow q ws → q.taken ≤ i → i < q.taken + q.room → left_at q.room ws (q.first + i) ≡ shown (place_at q i)
+left_shown q ws i h from to = let p : ℕ = q.first + i in let s : ℕ = p % q.room in let pl = h.window.each i from to in let flag : ℕ = get_or ws (q.room + s + 3) 0 in let datum : ℕ = get_or ws (s + 3) 0 in
+    dite (dec_lt (written_at q i) 2)
+    (λ low. let f = pl.low low in let ne : flag ≢ p + 1 = (λ e. omega arith) in
+    ap (λ (b : Bool). if b then Some datum else None) (ne_eqb flag (p + 1) ne) ∙ sym (ap (λ (b : Bool). if b then None else Some (item_at q i)) (lt-ltb (written_at q i) 2 low)))
+    (λ up. ap (λ (b : Bool). if b then Some datum else None) (eq-eqb flag (p + 1) (pl.up (omega arith))) ∙ (ap Some (pl.holds (omega arith)) ∙ sym (ap (λ (b : Bool). if b then None else Some (item_at q i)) (le-ltb (written_at q i) 2 (omega arith)))))
+
+pub left_all : (q : Positions) (ws : List ℕ) (n i : ℕ) → WordsShow q ws → q.taken ≤ i → i + n ≡ length q.places → length q.places ≤ q.taken + q.room → left_from q.room ws (q.first + i) n ≡ map shown (drop i q.places)
+left_all q ws zero i h from long within = sym (ap (map shown) (drop_all i q.places (omega arith)))
+left_all q ws (suc n) i h from long within = let e : suc (q.first + i) ≡ q.first + (i + 1) = omega arith in
+    (λ k. left_shown q ws i h from (omega arith) k ∷ (ap (λ (z : ℕ). left_from q.room ws z n) e ∙ left_all q ws n (i + 1) h (omega arith) (omega arith) within) k) ∙ sym (ap (map shown) (drop_more q.places i blank (omega arith)))
+
+pub read_some : (room : ℕ) (ws : List ℕ) (p flag x : ℕ) → get_elem? ws (room + p % room + 3) ≡ maybe.some flag → flag ≡ p + 1 → get_elem? ws (p % room + 3) ≡ maybe.some x → Some x ≡ left_at room ws p
+read_some room ws p flag x f is d = let g : ℕ = get_or ws (room + p % room + 3) 0 in let y : ℕ = get_or ws (p % room + 3) 0 in
+    ap Some (sym (read_word ws (p % room + 3) x d)) ∙ sym (ap (λ (b : Bool). if b then Some y else None) (eq-eqb g (p + 1) (read_word ws (room + p % room + 3) flag f ∙ is)))
+
+pub read_none : (room : ℕ) (ws : List ℕ) (p flag : ℕ) → get_elem? ws (room + p % room + 3) ≡ maybe.some flag → flag ≢ p + 1 → None ≡ left_at room ws p
+read_none room ws p flag f is = let g : ℕ = get_or ws (room + p % room + 3) 0 in let y : ℕ = get_or ws (p % room + 3) 0 in
+    sym (ap (λ (b : Bool). if b then Some y else None) (ne_eqb g (p + 1) (λ e. is (sym (read_word ws (room + p % room + 3) flag f) ∙ e))))
+
+-- one more is read
+pub left_on : (room : ℕ) (ws : List ℕ) (t p : ℕ) (xs : List (Option ℕ)) (x : Option ℕ) → t ≤ p → xs ≡ left_from room ws t (p - t) → x ≡ left_at room ws p → xs ++ x ∷ [] ≡ left_from room ws t (p + 1 - t)
+left_on room ws t p xs x le is e = let a : p ≡ t + (p - t) = omega arith in let b : suc (p - t) ≡ p + 1 - t = omega arith in
+    (λ k. is k ++ (e ∙ ap (left_at room ws) a) k ∷ []) ∙ (sym (left_more room ws t (p - t)) ∙ ap (left_from room ws t) b)
+
+low_of : (n h : ℕ) (b : Bool) → n < 4294967296 → h ≡ n + mark b → h % 4294967296 ≡ n
+low_of n h true small is = omega arith
+low_of n h false small is = omega arith
+
+only : (key : Shape) (s : St) (k : Rule key s) (id : ℕ) (w : View) → get_elem? s.views id ≡ maybe.some w → (found : ℕ) → found ≡ 1 → (found ≡ 1 → w.wrapped ≡ false → w.alone ≡ true) → (b : Bool) → w.wrapped ≡ b → (w.wrapped ≡ true) ⊎ ViewsShow k.queue (w.part ∷ [])
+only key s k id w at found one alone true is = inl is
+only key s k id w at found one alone false is = inr (listed_sole k.queue (map part_of s.views) id w.part k.listed (at_map part_of s.views id w at)
+    (λ i u has ne. let b = at_map_back part_of s.views i u has in subst (λ (z : QueueView). (z.runs ≡ []) × (z.takes ≡ [])) b.2 (others_idle ends_of alone_of Idle (get_or s.words 2 0) s.views id w k.counted at (alone one is) i b.0 b.1 ne)))
+
+pub closes : (key : Shape) (v w : View) (found id h t put taken : ℕ) (ws : List ℕ) (xs : List Unit) (left : List (Option ℕ)) (at : ℕ) → key.first ≡ at → Tallied v found w → found ≡ 1 → Final (Seen (Rule key) id w) ws xs → get_elem? ws 0 ≡ maybe.some h → get_elem? ws 1 ≡ maybe.some t
+    → put ≡ h % 4294967296 - key.first → taken ≡ t - key.first → left ≡ left_from key.room ws t (h % 4294967296 - t) → ClosedNow v at put taken left
+closes key v w found id h t put taken ws xs left at at_is tallied one fin at_h at_t put_is taken_is left_is =
+    let s : St = fin.0 in let k = fin.1.0 in let q : Positions = k.queue in let sh : WordsShow q ws = subst (WordsShow q) fin.2 k.shows in let seen = k.listed.seen id w.part (at_map part_of s.views id w fin.1.1) in
+    let first = k.first in let small = sh.small in let behind = k.lawful.behind in
+    let hd : h % 4294967296 ≡ head_of q = low_of (head_of q) h q.shut small (sym (read_word ws 0 h at_h) ∙ sh.head) in let tl : t ≡ q.first + q.taken = sym (read_word ws 1 t at_t) ∙ sh.tail in
+    let n : h % 4294967296 - t ≡ length q.places - q.taken = omega arith in
+    record {
+      end = w;
+      queue = q;
+      runs = ap (λ (z : View). z.part.runs) tallied.same;
+      takes = ap (λ (z : View). z.part.takes) tallied.same;
+      grows = later_on v.part tallied.queue q tallied.grows (subst (λ (z : View). Grows z.part.queue q) tallied.same seen.0);
+      lawful = k.lawful;
+      in_order = k.listed.runs;
+      history = history_of q (map part_of s.views) k.listed;
+      lawful_queue = is_lawful_queue q k.listed.runs k.lawful (history_of q (map part_of s.views) k.listed);
+      starts = first ∙ at_is;
+      puts = omega arith;
+      taken_is = omega arith;
+      left_is = left_is ∙ ((λ i. left_from (sym k.room i) ws (tl i) (n i)) ∙ left_all q ws (length q.places - q.taken) q.taken sh (omega arith) (omega arith) k.lawful.within);
+      listed = only key s k id w fin.1.1 found one tallied.alone w.wrapped refl;
+    }

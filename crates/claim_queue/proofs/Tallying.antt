@@ -1,0 +1,148 @@
+-- The steps that make, split, join and count ends keep the rule.
+use Rattle.std.proofs.Common.{◌≡◌, ℕ, zero, suc, replicate, ◌+◌, ◌-◌, ◌%◌, ◌<◌, ◌≤◌, Bool, true, false, List, [], ◌∷◌, ◌++◌, map, length, get_or, set, sym, refl, ap, ◌∙◌, subst, arith, true≢false, length-set, get_or-set_same, get_or-set_other}
+use Rattle.std.proofs.lemmas.List.{map-set, map-append}
+use mathlib.Core.Option.{some, none}
+use mathlib.Core.Logic.{dite}
+use native.Mathlib.Decide.{ℕ_discrete}
+use lib.ListN.{get_elem?}
+use Rattle.atomic_table.specs.Table.{Me, step, keeps, Allows, Splits, Joins, opening}
+use Rattle.quaject_core.specs.declared.tables.Positions.{Positions}
+use Rattle.quaject_core.specs.declared.tables.QueueView.{QueueView}
+use Rattle.quaject_core.specs.Listing.{Later, ViewsShow}
+use Rattle.quaject_core.specs.Counting.{EndsCounted}
+use Rattle.atomic_table.proofs.Lists.{at_map, set_else}
+use Rattle.quaject_core.proofs.Positioned.{grows_refl}
+use Rattle.quaject_core.proofs.Listing.{listed_look, listed_new, listed_join, listed_first, distinct}
+use Rattle.quaject_core.proofs.Counting.{counted_look, counted_alone, counted_up, counted_down, counted_split, counted_join, counted_first}
+use Rattle.quaject_core.proofs.Windows.{window_same}
+use Rattle.quaject_core.specs.Windows.{spot}
+use Rattle.claim_queue.specs.declared.rule.Shape.{Shape}
+use Rattle.claim_queue.specs.declared.rule.View.{View}
+use Rattle.claim_queue.specs.Shown.{data_in, flag_in, WordsShow}
+use Rattle.claim_queue.specs.Rules.{part_of, ends_of, alone_of, Idle, Rule, empty, newcomer}
+use Rattle.claim_queue.specs.Steps.{looked, Tallied, counts_up, counts_down, counts, rest_of, halves, both, emptied}
+use Rattle.claim_queue.proofs.Looks.{St}
+
+shows_count : (q : Positions) (words : List ℕ) (y : ℕ) → WordsShow q words → WordsShow q (set words 2 y)
+shows_count q words y h = record {
+  wide = length-set words 2 y ∙ h.wide;
+  small = h.small;
+  head = get_or-set_other words 2 0 y 0 (λ e. omega arith) ∙ h.head;
+  tail = get_or-set_other words 2 1 y 0 (λ e. omega arith) ∙ h.tail;
+  window = window_same q (flag_in q.room words) (data_in q.room words) (flag_in q.room (set words 2 y)) (data_in q.room (set words 2 y)) h.window
+      (λ k b. get_or-set_other words 2 (q.room + k + 3) y 0 (λ e. omega arith)) (λ k b. get_or-set_other words 2 (k + 3) y 0 (λ e. omega arith));
+}
+
+-- the rule, where the count becomes y and a view w that lists the same sees the queue as it is
+kept_count : (key : Shape) (s : St) (k : Rule key s) (id y : ℕ) (v w : View) → get_elem? s.views id ≡ some v → w.part ≡ record v.part { queue = k.queue; joined = k.queue } → EndsCounted ends_of alone_of Idle y (set s.views id w)
+    → Rule key record { words = set s.words 2 y; homes = s.homes; views = set s.views id w }
+kept_count key s k id y v w at is c = let wide = k.shows.wide in record {
+  queue = k.queue;
+  first = k.first;
+  room = k.room;
+  lawful = k.lawful;
+  shows = shows_count k.queue s.words y k.shows;
+  listed = subst (ViewsShow k.queue) (sym (map-set part_of s.views id w)) (listed_look k.queue (map part_of s.views) id v.part w.part k.listed (at_map part_of s.views id v at) (ap (λ (z : QueueView). z.runs) is) (ap (λ (z : QueueView). z.takes) is)
+      (subst (λ (z : QueueView). Later z k.queue) (sym is) (grows_refl k.queue, grows_refl k.queue)));
+  counted = subst (λ (c : ℕ). EndsCounted ends_of alone_of Idle c (set s.views id w)) (sym (get_or-set_same s.words 2 y 0 (omega arith))) c;
+}
+
+pub ups : (key : Shape) (n id : ℕ) (me : Me Unit View) → 1 ≤ me.0.ends → Allows (Rule key) n id me 2 (λ x. (x + 1) % 18446744073709551616) (counts_up (step n 2 1 0 none) me)
+ups key n id me live s k _ at _ = let v : View = me.0 in let w : View = record (looked v k.queue) { ends = v.ends + 1; alone = false } in let c : ℕ = get_or s.words 2 0 in (
+  w,
+  keeps,
+  tt,
+  kept_count key s k id ((c + 1) % 18446744073709551616) v w at refl (counted_up ends_of alone_of Idle c s.views id v w k.counted at live refl refl),
+  (refl, record { queue = k.queue; same = refl; grows = k.listed.seen id v.part (at_map part_of s.views id v at); lawful = k.lawful }),
+)
+
+pub downs : (key : Shape) (n id : ℕ) (me : Me Unit View) → 2 ≤ me.0.ends → Allows (Rule key) n id me 2 (λ x. (x + (18446744073709551616 - 1)) % 18446744073709551616) (counts_down (step n 2 1 0 none) me)
+downs key n id me live s k _ at fits = let v : View = me.0 in let w : View = record (looked v k.queue) { ends = v.ends - 1; alone = false } in let c : ℕ = get_or s.words 2 0 in (
+  w,
+  keeps,
+  tt,
+  kept_count key s k id ((c + (18446744073709551616 - 1)) % 18446744073709551616) v w at refl (counted_down ends_of alone_of Idle c s.views id v w k.counted fits at (omega arith) (omega arith) refl),
+  (refl, record { queue = k.queue; same = refl; grows = k.listed.seen id v.part (at_map part_of s.views id v at); lawful = k.lawful; distinct = distinct k.queue (map part_of s.views) id v.part k.listed (at_map part_of s.views id v at) }),
+)
+
+-- the count is found
+tallied : (key : Shape) (s : St) (k : Rule key s) (id : ℕ) (v w : View) → get_elem? s.views id ≡ some v → w.part ≡ record v.part { queue = k.queue; joined = k.queue } → w ≡ record (looked v k.queue) { alone = w.alone; wrapped = w.wrapped } → (get_or s.words 2 0 ≡ 1 → w.wrapped ≡ false → w.alone ≡ true)
+    → EndsCounted ends_of alone_of Idle (get_or s.words 2 0) (set s.views id w) → Rule key record { words = set s.words 2 (get_or s.words 2 0); homes = s.homes; views = set s.views id w } × Tallied v (get_or s.words 2 0) w
+tallied key s k id v w at is same alone c = (kept_count key s k id (get_or s.words 2 0) v w at is c, record { queue = k.queue; same = same; grows = k.listed.seen id v.part (at_map part_of s.views id v at); lawful = k.lawful; alone = alone })
+
+tally : (key : Shape) (s : St) (k : Rule key s) (id : ℕ) (v : View) → get_elem? s.views id ≡ some v → 1 ≤ v.ends → (b : Bool) → k.counted.wrapped ≡ b → (w : View) × Rule key record { words = set s.words 2 (get_or s.words 2 0); homes = s.homes; views = set s.views id w } × Tallied v (get_or s.words 2 0) w
+tally key s k id v at live true is = let w : View = record (looked v k.queue) { alone = false; wrapped = true } in
+    let t = tallied key s k id v w at refl refl (λ _ h. absurd (true≢false h)) (counted_look ends_of alone_of Idle (get_or s.words 2 0) s.views id v w k.counted at refl (λ h. absurd (true≢false (sym h))) (λ _ h. h)) in (w, t.0, t.1)
+tally key s k id v at live false is = let c : ℕ = get_or s.words 2 0 in dite (ℕ_discrete c 1)
+    (λ one. let w : View = record (looked v k.queue) { alone = true; wrapped = false } in
+    let t = tallied key s k id v w at refl refl (λ _ _. refl) (counted_alone ends_of alone_of Idle c s.views id v w k.counted at refl live is one) in (w, t.0, t.1))
+    (λ more. let w : View = record (looked v k.queue) { alone = false; wrapped = false } in
+    let t = tallied key s k id v w at refl refl (λ h _. absurd (more h)) (counted_look ends_of alone_of Idle c s.views id v w k.counted at refl (λ h. absurd (true≢false (sym h))) (λ _ h. h)) in (w, t.0, t.1))
+
+pub tallies : (key : Shape) (n id : ℕ) (me : Me Unit View) → 1 ≤ me.0.ends → Allows (Rule key) n id me 2 (λ x. x) (counts (step n 2 0 0 none) me)
+tallies key n id me live s k _ at _ = let t = tally key s k id me.0 at live k.counted.wrapped refl in (t.0, keeps, tt, t.1, (refl, t.2))
+
+pub splits : (key : Shape) (id : ℕ) (v : View) → 2 ≤ v.ends → Splits (Rule key) id v (rest_of v) (halves v)
+splits key id v live s k at = let later = k.listed.seen id v.part (at_map part_of s.views id v at) in record {
+  queue = k.queue;
+  first = k.first;
+  room = k.room;
+  lawful = k.lawful;
+  shows = k.shows;
+  listed = subst (ViewsShow k.queue) (sym (map-append part_of (set s.views id (rest_of v)) (halves v ∷ []) ∙ ap (λ (z : List QueueView). z ++ (halves v).part ∷ []) (map-set part_of s.views id (rest_of v))))
+      (listed_new k.queue (set (map part_of s.views) id v.part) (halves v).part (listed_look k.queue (map part_of s.views) id v.part v.part k.listed (at_map part_of s.views id v at) refl refl later) refl refl later);
+  counted = counted_split ends_of alone_of Idle (get_or s.words 2 0) s.views id v (rest_of v) (halves v) k.counted at (omega arith) (omega arith) (omega arith) refl refl;
+}
+
+pub joins : (key : Shape) (id other : ℕ) (v w : View) → 1 ≤ v.ends → 1 ≤ w.ends → Joins (Rule key) id v other w (both v w) (emptied v)
+joins key id other v w live live' s k at ne has = let at' : get_elem? s.views other ≡ some w = sym (set_else s.views id other (both v w) ne) ∙ has in
+    let later = k.listed.seen id v.part (at_map part_of s.views id v at) in let later' = k.listed.seen other w.part (at_map part_of s.views other w at') in record {
+      queue = k.queue;
+      first = k.first;
+      room = k.room;
+      lawful = k.lawful;
+      shows = k.shows;
+      listed = subst (ViewsShow k.queue) (sym (map-set part_of (set s.views id (both v w)) other (emptied v) ∙ ap (λ (z : List QueueView). set z other (emptied v).part) (map-set part_of s.views id (both v w))))
+          (listed_join k.queue (map part_of s.views) id other v.part w.part (both v w).part (emptied v).part k.listed (at_map part_of s.views id v at) (at_map part_of s.views other w at') ne refl refl refl refl (later.0, later'.0) later);
+      counted = counted_join ends_of alone_of Idle (get_or s.words 2 0) s.views id other v w (both v w) (emptied v) k.counted at at' ne live live' refl refl refl refl (refl, refl);
+    }
+
+-- the table as it is made
+pub opens : (key : Shape) (words : List ℕ) → 0 < key.room → key.first < 4294967296 → length words ≡ key.room + key.room + 3 → get_or words 0 0 ≡ key.first → get_or words 1 0 ≡ key.first → get_or words 2 0 ≡ 1
+    → ((j : ℕ) → 3 ≤ j → get_or words j 0 ≡ 0) → Rule key (opening words [] (newcomer key))
+opens key words room fits long head tail ends rest = let q : Positions = empty key in record {
+  queue = q;
+  first = refl;
+  room = refl;
+  lawful = record { behind = omega arith; within = omega arith; ready = λ i h. absurd (omega arith) };
+  shows = record {
+    wide = long;
+    small = omega arith;
+    head = omega arith;
+    tail = omega arith;
+    window = record {
+      some_room = room;
+      each = λ i a b. record {
+        low = λ _. (let z = rest (key.room + spot q i + 3) (omega arith) in omega arith);
+        up = λ h. absurd (omega arith);
+        holds = λ h. absurd (omega arith);
+      };
+    };
+  };
+  listed = listed_first q (newcomer key).part refl refl refl refl (grows_refl q, grows_refl q);
+  counted = subst (λ (c : ℕ). EndsCounted ends_of alone_of Idle c (newcomer key ∷ [])) (sym ends) (counted_first ends_of alone_of Idle (newcomer key) refl refl);
+}
+
+-- the words of a new table
+pub zeros : (key : Shape) (zs : List ℕ) → 0 < key.room → key.first < 4294967296 → length zs ≡ key.room + key.room + 3 → ((j : ℕ) → get_or zs j 0 ≡ 0) → Rule key (opening (set (set (set zs 0 key.first) 1 key.first) 2 1) [] (newcomer key))
+zeros key zs room fits long rest = let f : ℕ = key.first in let a : List ℕ = set zs 0 f in let b : List ℕ = set a 1 f in let la = length-set zs 0 f in let lb = length-set a 1 f in let lc = length-set b 2 1 in
+    opens key (set b 2 1) room fits (omega arith)
+    (get_or-set_other b 2 0 1 0 (λ e. omega arith) ∙ (get_or-set_other a 1 0 f 0 (λ e. omega arith) ∙ get_or-set_same zs 0 f 0 (omega arith)))
+    (get_or-set_other b 2 1 1 0 (λ e. omega arith) ∙ get_or-set_same a 1 f 0 (omega arith))
+    (get_or-set_same b 2 1 0 (omega arith))
+    (λ j past. get_or-set_other b 2 j 1 0 (λ e. omega arith) ∙ (get_or-set_other a 1 j f 0 (λ e. omega arith) ∙ (get_or-set_other zs 0 j f 0 (λ e. omega arith) ∙ rest j)))
+
+pub all_zero : (n j : ℕ) → get_or {A = ℕ} (replicate n 0) j 0 ≡ 0
+all_zero zero j = refl
+all_zero (suc n) zero = refl
+all_zero (suc n) (suc j) = all_zero n j

@@ -1,0 +1,5 @@
+use Rattle.claim_queue.proofs.Betweens.{shows_queue}
+use Rattle.claim_queue.proofs.between.between_steps.Goals as goal
+
+pub returns : goal.returns
+returns c = shows_queue

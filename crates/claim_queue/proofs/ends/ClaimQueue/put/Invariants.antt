@@ -1,0 +1,10 @@
+use Rattle.claim_queue.specs.Steps.{IsSame}
+use Rattle.claim_queue.specs.Puts.{HasLooked}
+use Rattle.claim_queue.proofs.ends.ClaimQueue.put.Given as goal
+
+abbrev pub invariant-loop : goal.invariant-loop
+invariant-loop g l = record {
+  steps : (goal.iterator-loop g).can_next l.iterator' × (goal.iterator-loop g).is_finite l.iterator';
+  same : IsSame l.initial.end.seat l.end.seat;
+  looked : HasLooked l.initial.end.seat.me.0 l.end.seat.me.0;
+}

@@ -1,0 +1,53 @@
+-- What holds between any two steps: a lawful queue of the core that the words and the views show.
+use Rattle.std.specs.Prelude.{◌≡◌, ℕ, ◌+◌, ◌%◌, ◌<◌, ◌≤◌, true, false, List, map, length, take, slice_index_or}
+use Rattle.std.specs.List.{slice_get}
+use Rattle.atomic_table.specs.Table.{State}
+use Rattle.quaject_core.specs.declared.tables.Batch.{Batch}
+use Rattle.quaject_core.specs.Runs.{flat, pairs}
+use Rattle.quaject_core.specs.Queues.{Queue, is_raised}
+use Rattle.quaject_core.specs.Lawful.{IsLawfulQueue}
+use Rattle.quaject_core.specs.Positioned.{item_of}
+use Rattle.quaject_core.specs.Filing.{Owned, ListedOnce}
+use Rattle.quaject_core.specs.Listing.{all_places, Chained}
+use Rattle.quaject_core.specs.QueueOf.{run_in, up_in}
+use Rattle.claim_queue.specs.declared.rule.Shape.{Shape}
+use Rattle.claim_queue.specs.declared.rule.View.{View}
+use Rattle.claim_queue.specs.Shown.{mark, data_in, flag_in}
+
+-- the pair (run, index) of the item with this number
+abbrev pub pair_at : Queue → ℕ → ℕ × ℕ
+pair_at c i = slice_index_or (pairs c.history) i (0, 0)
+
+-- The place of the item with the number i is at the position p. Where the item is raised, the flag is one more than
+-- the position, and the data word is the item; else the flag is at most the position
+pub record PlaceIs (c : Queue) (room : ℕ) (words : List ℕ) (i p : ℕ) : Type 0 where
+  pub raised : is_raised c (pair_at c i) ≡ true → flag_in room words (p % room) ≡ p + 1
+  pub item : is_raised c (pair_at c i) ≡ true → data_in room words (p % room) ≡ slice_index_or (flat c.history) i 0
+  pub claimed : is_raised c (pair_at c i) ≡ false → flag_in room words (p % room) ≤ p
+
+-- the words and the views show the queue
+pub record IsShown (key : Shape) (s : State Unit View) (c : Queue) : Type 0 where
+  pub runs : List (Owned Batch)
+  pub history : c.history ≡ map run_in runs
+  -- each run of a view is one of the history, and each of the history is of one view, at one place of its list
+  pub once : ListedOnce runs (map (λ view. view.part.runs) s.views)
+  -- each run begins where the one before it ends, the first at the first position
+  pub side_by_side : Chained key.first runs
+  pub raised : (run index : ℕ) → c.raised run index ≡ up_in (slice_get runs run) index
+  pub takings : List (Owned Batch)
+  -- each taking is in one view, and they take each position below the tail once, with the item that its run gave it
+  pub taken_once : ListedOnce takings (map (λ view. view.part.takes) s.views)
+  pub taken_in_order : Chained key.first takings
+  pub taken_items : map item_of (all_places takings) ≡ take c.taken (flat c.history)
+  pub capacity : c.capacity ≡ key.room
+  pub long : length s.words ≡ key.room + key.room + 3
+  pub small : key.first + length (flat c.history) < 4294967296
+  pub head : slice_index_or s.words 0 0 ≡ key.first + length (flat c.history) + mark c.shut
+  pub tail : slice_index_or s.words 1 0 ≡ key.first + c.taken
+  pub places : (i : ℕ) → c.taken ≤ i → i < length (flat c.history) → PlaceIs c key.room s.words i (key.first + i)
+
+-- there is a lawful queue that is shown
+pub record ShowsQueue (key : Shape) (s : State Unit View) : Type 0 where
+  pub queue : Queue
+  pub lawful : IsLawfulQueue queue
+  pub shown : IsShown key s queue

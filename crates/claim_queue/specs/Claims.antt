@@ -1,0 +1,25 @@
+-- A claim, as the runs of its end list it.
+use Rattle.std.specs.Prelude.{◌≡◌, ℕ, zero, suc, List, [], ◌∷◌}
+use mathlib.Core.Option.{some}
+use lib.ListN.{get_elem?}
+use Rattle.quaject_core.specs.declared.tables.Entry.{Entry}
+use Rattle.quaject_core.specs.declared.tables.Batch.{Batch}
+use Rattle.quaject_core.specs.Positioned.{fresh}
+use Rattle.quaject_core.specs.Listing.{number_of}
+use Rattle.claim_queue.specs.declared.rule.View.{View}
+
+abbrev pub raised_place : ℕ → Entry
+raised_place x = record { item = x; written = 2 }
+
+-- the first r of the items are raised
+abbrev pub places_of : List ℕ → ℕ → List Entry
+places_of [] r = []
+places_of (x ∷ xs) zero = fresh x ∷ places_of xs zero
+places_of (x ∷ xs) (suc r) = raised_place x ∷ places_of xs r
+
+abbrev pub run_of : ℕ → List ℕ → ℕ → Batch
+run_of start xs r = record { start = start; places = places_of xs r }
+
+-- the claim is one of the end's own
+abbrev pub Owns : View → ℕ → List ℕ → ℕ → Type 0
+Owns v start xs r = get_elem? v.part.runs (number_of start v.part.runs) ≡ some (run_of start xs r)

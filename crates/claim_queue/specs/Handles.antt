@@ -1,0 +1,26 @@
+-- What a clause says of a queue, of an end and of a claim.
+use Rattle.std.specs.Prelude.{◌≡◌, ℕ}
+use Rattle.claim_queue.specs.declared.rule.View.{View}
+use Rattle.claim_queue.specs.declared.ends.ClaimQueue.{ClaimQueue}
+use Rattle.claim_queue.specs.declared.ends.QueueEnd.{QueueEnd}
+use Rattle.claim_queue.specs.Steps.{IsSame}
+
+-- what the end knows
+abbrev pub view_of : {n : ℕ} → QueueEnd n → View
+view_of end = end.seat.me.0
+
+-- it is an end of this queue
+abbrev pub IsEndOf : {n : ℕ} → ClaimQueue n → QueueEnd n → Type 0
+IsEndOf queue end = end.seat.table_id ≡ queue.table.shared.table_id
+
+-- it is the same end of the same queue
+abbrev pub IsSameEnd : {n : ℕ} → QueueEnd n → QueueEnd n → Type 0
+IsSameEnd old new = IsSame old.seat new.seat
+
+-- both are ends of one queue
+abbrev pub AreOfOneQueue : {n : ℕ} → QueueEnd n → QueueEnd n → Type 0
+AreOfOneQueue one other = other.seat.table_id ≡ one.seat.table_id
+
+-- the queue's first position
+abbrev pub first_of : {n : ℕ} → ClaimQueue n → ℕ
+first_of queue = queue.first

@@ -1,0 +1,11 @@
+pub mod Shown
+pub mod Rules
+pub mod Steps
+pub mod Answers
+pub mod Claims
+pub mod Handles
+pub mod Endings
+pub mod Takings
+pub mod Closings
+pub mod Between
+pub mod Puts

@@ -1,0 +1,225 @@
+//! Claims.
+ghost use Rattle.std.specs.Prelude.{◌≡◌, ◌+◌, ◌<◌, ◌≤◌, ℕ, true, length, MatchResult, MatchBool, IfOk};
+ghost use Rattle.quaject_core.specs.Listing.{number_of};
+ghost use Rattle.claim_queue.specs.Claims.{Owns};
+ghost use Rattle.claim_queue.specs.Steps.{Claimed, Wrote};
+ghost use Rattle.claim_queue.specs.Answers.{Looked, WasFull, WasSpent, WasLost, Refused};
+ghost use Rattle.claim_queue.specs.declared.claim.ClaimRefusal.TheVariants as refusals;
+ghost use Rattle.claim_queue.specs.Puts.{RaisedFrom, IsPut, PutAnswer};
+
+use crate::ends::{ClaimQueue, QueueEnd};
+use crate::pause::{NoPause, Pause};
+use crate::steps::{SHUT, exchange_head, load_head, load_tail, store_data, store_flag};
+use arrayvec::ArrayVec;
+use crossbeam_utils::Backoff;
+use std::marker::Brand;
+use std::sync::Wait;
+use thiserror::Error;
+
+/// A run of places that an end claimed, and how many of them it has raised.
+#[derive(Drop)]
+pub struct Claim<const N: usize> {
+    pub(crate) start: u32,
+    pub(crate) items: ArrayVec<u64, N>,
+    pub(crate) raised: usize,
+    ghost within: { raised ≤ length items.items },
+}
+
+/// Why a claim was refused. The refusals stand in the order in which they are checked.
+#[derive(Clone, Copy, Debug, PartialEq, Eq, Drop, Error)]
+pub enum ClaimRefusal {
+    /// The run has no item.
+    #[error("no items")]
+    NoItems,
+    /// The run has more items than the queue has places.
+    #[error("more items than places")]
+    TooLong,
+    /// The queue is shut.
+    #[error("the queue is shut")]
+    Closed,
+    /// The run would go past the last position.
+    #[error("no positions left")]
+    Spent,
+    /// There was no room at the step that loaded this head.
+    #[error("full at head {head}, tail {tail}")]
+    Full { head: u32, tail: u32 },
+    /// Another end claimed first: the exchange found this head.
+    #[error("lost, head {head}")]
+    Lost { head: u32 },
+}
+
+impl<const N: usize> Claim<N> {
+    /// The position of the first item.
+    pub fn start(&self) -> u32
+        ensures { result ≡ self.now.start }
+    {
+        self.start
+    }
+
+    /// The items, in order.
+    pub fn items(&self) -> &[u64]
+        ensures { result.now ≡ self.now.items.items }
+    {
+        self.items.as_slice()
+    }
+
+    /// How many of the items are raised.
+    pub fn raised(&self) -> usize
+        ensures { result ≡ self.now.raised }
+    {
+        self.raised
+    }
+}
+
+fn copy_of<const N: usize>(items: &[u64]) -> ArrayVec<u64, N>
+    requires { length items.now ≤ N }
+    ensures { result.items ≡ items.now }
+{
+    let mut copied = ArrayVec::new();
+    for item in items {
+        copied.push(*item);
+    }
+    copied
+}
+
+impl<const N: usize> ClaimQueue<N> {
+    ghost use Rattle.claim_queue.specs.Handles.{view_of, first_of, IsEndOf, IsSameEnd, AreOfOneQueue};
+
+    /// One try.
+    pub fn try_claim(&self, end: &mut QueueEnd<N>, items: &[u64]) -> Result<Claim<N>, ClaimRefusal>
+        requires { IsEndOf self.now end.old }
+        ensures queue { IsSameEnd end.old end.new }
+        ensures ok { MatchResult result (λ c. Claimed (view_of end.old) c.start items.now (view_of end.new)
+            × (c.items.items ≡ items.now) × (c.raised ≡ 0))
+            (λ r. Refused N (view_of end.old) (length items.now) r (view_of end.new)) }
+        ensures own { IfOk result (λ c. Owns (view_of end.new) c.start c.items.items c.raised) }
+        ensures shut { (view_of end.old).part.queue.shut ≡ true → 0 < length items.now → length items.now ≤ N
+            → MatchResult result (λ claim. ⊥) (λ refusal. refusal ≡ refusals.Closed) }
+    {
+        self.try_claim_paused(end, items, &mut NoPause)
+    }
+
+    /// `try_claim`, with a pause before the exchange.
+    pub fn try_claim_paused<P: Pause>(
+        &self,
+        end: &mut QueueEnd<N>,
+        items: &[u64],
+        pause: &mut P,
+    ) -> Result<Claim<N>, ClaimRefusal>
+        requires { IsEndOf self.now end.old }
+        ensures queue { IsSameEnd end.old end.new }
+        ensures ok { MatchResult result (λ c. Claimed (view_of end.old) c.start items.now (view_of end.new)
+            × (c.items.items ≡ items.now) × (c.raised ≡ 0))
+            (λ r. Refused N (view_of end.old) (length items.now) r (view_of end.new)) }
+        ensures own { IfOk result (λ c. Owns (view_of end.new) c.start c.items.items c.raised) }
+    {
+        let count = items.len();
+        if count == 0 {
+            return Err(ClaimRefusal::NoItems);
+        }
+        if count > N {
+            return Err(ClaimRefusal::TooLong);
+        }
+        let head = load_head(&self.table.shared, &mut end.seat);
+        if head >= SHUT {
+            return Err(ClaimRefusal::Closed);
+        }
+        let new = head + count as u64;
+        if new >= SHUT {
+            return Err(ClaimRefusal::Spent);
+        }
+        let tail = load_tail(&self.table.shared, &mut end.seat);
+        if new > tail + N as u64 {
+            return Err(ClaimRefusal::Full {
+                head: head as u32,
+                tail: tail as u32,
+            });
+        }
+        let copied = copy_of(items);
+        pause.between();
+        let found = exchange_head::<Brand>(&self.table.shared, &mut end.seat, head, new, items);
+        if found == head {
+            return Ok(Claim {
+                start: head as u32,
+                items: copied,
+                raised: 0,
+            });
+        }
+        if found >= SHUT {
+            return Err(ClaimRefusal::Closed);
+        }
+        Err(ClaimRefusal::Lost { head: found as u32 })
+    }
+
+    /// Stores the next item and then its flag. False where all were raised.
+    pub fn raise_next(&self, end: &mut QueueEnd<N>, claim: &mut Claim<N>) -> bool
+        requires queue { IsEndOf self.now end.old }
+        requires own { Owns (view_of end.old) claim.old.start claim.old.items.items claim.old.raised }
+        ensures queue { IsSameEnd end.old end.new }
+        ensures claim { (claim.new.start ≡ claim.old.start) × (claim.new.items.items ≡ claim.old.items.items) }
+        ensures own { Owns (view_of end.new) claim.new.start claim.new.items.items claim.new.raised }
+        ensures raised { MatchBool result (Wrote (view_of end.old) (number_of claim.old.start
+            (view_of end.old).part.runs) claim.old.raised 2 (view_of end.new)
+            × (claim.new.raised ≡ claim.old.raised + 1)) ((claim.old.raised ≡ length claim.old.items.items)
+            × (claim.new.raised ≡ claim.old.raised) × ((view_of end.new) ≡ (view_of end.old))) }
+    {
+        let index = claim.raised;
+        if index >= claim.items.len() {
+            return false;
+        }
+        let item = claim.items.as_slice()[index];
+        let start = claim.start as u64;
+        store_data::<Brand>(&self.table.shared, &mut end.seat, N, start, index, item);
+        store_flag::<Brand>(&self.table.shared, &mut end.seat, N, start, index);
+        claim.raised = index + 1;
+        true
+    }
+
+    // Raises all items of a claim.
+    fn raise_all(&self, end: &mut QueueEnd<N>, claim: &mut Claim<N>)
+        requires queue { IsEndOf self.now end.old }
+        requires own { Owns (view_of end.old) claim.old.start claim.old.items.items 0 }
+        requires fresh { claim.old.raised ≡ 0 }
+        ensures queue { IsSameEnd end.old end.new }
+        ensures start { claim.new.start ≡ claim.old.start }
+        ensures raised { RaisedFrom claim.old.start (view_of end.old) (view_of end.new) (length claim.old.items.items) }
+    {
+        for i in 0..claim.items.len() {
+            self.raise_next(end, claim);
+        }
+    }
+
+    /// One claim and all its raises. Gives the position of the first item.
+    pub fn try_put(&self, end: &mut QueueEnd<N>, items: &[u64]) -> Result<u32, ClaimRefusal>
+        requires { IsEndOf self.now end.old }
+        ensures queue { IsSameEnd end.old end.new }
+        ensures put { MatchResult result
+            (λ start. IsPut (view_of end.old) start items.now (view_of end.new))
+            (λ r. Refused N (view_of end.old) (length items.now) r (view_of end.new)) }
+    {
+        let mut claim = self.try_claim(end, items)?;
+        self.raise_all(end, &mut claim);
+        Ok(claim.start)
+    }
+
+    /// `try_put`, tried again for as long as other ends claim first.
+    pub fn put<R: Wait>(
+        &self,
+        rt: &R,
+        end: &mut QueueEnd<N>,
+        items: &[u64],
+    ) -> Result<u32, ClaimRefusal>
+        requires { IsEndOf self.now end.old }
+        ensures queue { IsSameEnd end.old end.new }
+        ensures put { PutAnswer N (view_of end.old) items.now result (view_of end.new) }
+    {
+        let backoff = Backoff::new();
+        for _ in rt.forever() {
+            match self.try_put(end, items) {
+                Err(ClaimRefusal::Lost { head: _ }) => backoff.spin(),
+                answer => return answer,
+            }
+        }
+        unreachable!()
+    }
+}

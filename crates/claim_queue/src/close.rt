@@ -1,0 +1,109 @@
+//! Shutting and closing.
+ghost use Rattle.std.specs.Prelude.{◌≡◌, ◌+◌, ◌-◌, ◌<◌, ◌≤◌, IfOk, IfErr};
+ghost use Rattle.std.specs.Mem.Slots.{slots_items, slots_len, IsFull};
+ghost use Rattle.claim_queue.specs.Endings.{Divided};
+ghost use Rattle.claim_queue.specs.Closings.{ShutNow, ClosedNow, left_at, left_from};
+
+use crate::ends::{ClaimQueue, QueueEnd};
+use crate::steps::{SHUT, count, or_head};
+use arrayvec::ArrayVec;
+use atomic_table::Closed as Opened;
+use std::alloc::Global;
+use thiserror::Error;
+
+/// What a queue had at its end.
+#[derive(Drop)]
+pub struct Closed<const N: usize> {
+    pub first: u32,
+    pub put: u32,
+    pub taken: u32,
+    pub left: ArrayVec<Option<u64>, N>,
+}
+
+/// Ends that were made and not joined, and their number.
+#[derive(Clone, Copy, Debug, PartialEq, Eq, Drop, Error)]
+#[error("{others} other ends are not joined")]
+pub struct OpenEnds {
+    pub others: u64,
+}
+
+fn read_at(closed: &Opened<(), Global>, room: usize, position: u64) -> Option<u64>
+    requires words { (slots_len closed.now.words ≡ room + room + 3) × IsFull closed.now.words × (1 ≤ room)
+        × (room ≤ 256) }
+    requires range { position < 4294967296 }
+    ensures { result ≡ left_at room (slots_items closed.now.words) position }
+{
+    let place = position as usize % room;
+    if closed.word(room + place + 3) == position + 1 {
+        Some(closed.word(place + 3))
+    } else {
+        None
+    }
+}
+
+fn read_left<const N: usize>(
+    closed: &Opened<(), Global>,
+    tail: u64,
+    head: u64,
+) -> ArrayVec<Option<u64>, N>
+    requires words { (slots_len closed.now.words ≡ N + N + 3) × IsFull closed.now.words × (1 ≤ N) × (N ≤ 256) }
+    requires range { (tail ≤ head) × (head ≤ tail + N) × (head < 4294967296) }
+    ensures { result.items ≡ left_from N (slots_items closed.now.words) tail (head - tail) }
+{
+    let mut left = ArrayVec::new();
+    for position in tail..head {
+        left.push(read_at(closed, N, position));
+    }
+    left
+}
+
+impl<const N: usize> ClaimQueue<N> {
+    ghost use Rattle.claim_queue.specs.Handles.{view_of, first_of, IsEndOf, IsSameEnd, AreOfOneQueue};
+
+    /// Shuts the queue for claims. True where it was open.
+    pub fn shut(&self, end: &mut QueueEnd<N>) -> bool
+        requires { IsEndOf self.now end.old }
+        ensures queue { IsSameEnd end.old end.new }
+        ensures shut { ShutNow (view_of end.old) result (view_of end.new) }
+    {
+        or_head(&self.table.shared, &mut end.seat) < SHUT
+    }
+
+    /// Closes the queue where no other end stands unjoined. Else the queue and the end come back, and the number of
+    /// the others.
+    pub fn close(
+        self,
+        end: QueueEnd<N>,
+    ) -> Result<Closed<N>, (ClaimQueue<N>, QueueEnd<N>, OpenEnds)>
+        requires { IsEndOf self end }
+        ensures closed { IfOk result (λ c. (c.first ≡ first_of self.entry)
+            × ClosedNow (view_of end.entry) c.first c.put c.taken c.left.items) }
+        ensures open { IfErr result (λ e. (e.0 ≡ self.entry) × AreOfOneQueue end.entry e.1
+            × Divided (view_of end.entry) (view_of e.1)) }
+    {
+        let mut end = end;
+        let ends = count(&self.table.shared, &mut end.seat);
+        if ends != 1 {
+            return Err((
+                self,
+                end,
+                OpenEnds {
+                    others: ends.wrapping_sub(1),
+                },
+            ));
+        }
+        let QueueEnd { seat } = end;
+        let ClaimQueue { table, first } = self;
+        let closed = table.close_with(seat);
+        let head = closed.word(0) % SHUT;
+        let tail = closed.word(1);
+        let left = read_left(&closed, tail, head);
+        closed.free();
+        Ok(Closed {
+            first,
+            put: (head - first as u64) as u32,
+            taken: (tail - first as u64) as u32,
+            left,
+        })
+    }
+}

@@ -1,0 +1,76 @@
+//! The queue and its ends.
+ghost use Rattle.std.specs.Prelude.{◌≡◌, ◌+◌, ◌≤◌, ◌<◌, [], ◌++◌, IfOk};
+ghost use Rattle.claim_queue.specs.Rules.{newcomer};
+ghost use Rattle.claim_queue.specs.Endings.{Divided, Newborn, TookIn};
+ghost use Rattle.quaject_core.specs.Listing.{Distinct};
+
+use crate::rule::{ClaimRule, Shape, View};
+use crate::steps::{count_down, count_up, split_off, take_in};
+use atomic_table::{Seat, Table};
+use quaject_core::OutOfMemory;
+use std::alloc::Global;
+use std::marker::Brand;
+
+#[derive(Drop)]
+pub struct ClaimQueue<const N: usize> {
+    pub(crate) table: Table<(), View, Shape, ClaimRule, Global>,
+    pub(crate) first: u32,
+    ghost sized: { (table.shared.table_id.words ≡ N + N + 3) × (table.shared.table_id.slots ≡ 0) },
+    ghost shaped: { (table.shared.key.first ≡ first) × (table.shared.key.room ≡ N) },
+    ghost bounded: { (1 ≤ N) × (N ≤ 256) },
+}
+
+/// An end of a queue. It has no bytes.
+#[derive(Drop)]
+pub struct QueueEnd<const N: usize> {
+    pub(crate) seat: Seat<(), View>,
+    ghost room: { seat.me.0.part.queue.room ≡ N },
+    ghost bare: { seat.me.1 ≡ [] },
+    ghost live: { 1 ≤ seat.me.0.ends },
+    ghost distinct: { Distinct seat.me.0.part.runs },
+}
+
+impl<const N: usize> ClaimQueue<N> {
+    ghost use Rattle.claim_queue.specs.Handles.{view_of, first_of, IsEndOf, IsSameEnd, AreOfOneQueue};
+
+    /// An empty queue whose first position is `first`, and its first end.
+    pub fn new(alloc: Global, first: u32) -> Result<(ClaimQueue<N>, QueueEnd<N>), OutOfMemory>
+        requires { (1 ≤ N) × (N ≤ 256) }
+        ensures { IfOk result (λ r. IsEndOf r.0 r.1 × (first_of r.0 ≡ first)
+            × (view_of r.1 ≡ newcomer (record { first = first; room = N }))) }
+    {
+        let mut words = Vec::from_elem(alloc, 0u64, N + N + 3)?;
+        let row = words.as_mut_slice();
+        row[0] = first as u64;
+        row[1] = first as u64;
+        row[2] = 1;
+        let shape = Shape {
+            first: first as u64,
+            room: N as u64,
+        };
+        let (table, seat) = Table::of_words(alloc, row, &shape)?;
+        Ok((ClaimQueue { table, first }, QueueEnd { seat }))
+    }
+
+    /// A new end, which owns nothing.
+    pub fn split(&self, end: &mut QueueEnd<N>) -> QueueEnd<N>
+        requires { IsEndOf self.now end.old }
+        ensures queue { IsSameEnd end.old end.new × AreOfOneQueue end.old result }
+        ensures split { Divided (view_of end.old) (view_of end.new) × Newborn (view_of end.new) (view_of result) }
+    {
+        count_up(&self.table.shared, &mut end.seat);
+        let seat = split_off(&self.table.shared, &mut end.seat);
+        QueueEnd { seat }
+    }
+
+    /// The first end then has all that the second had.
+    pub fn join(&self, end: &mut QueueEnd<N>, other: QueueEnd<N>)
+        requires { IsEndOf self.now end.old × IsEndOf self.now other }
+        ensures queue { IsSameEnd end.old end.new }
+        ensures joined { TookIn (view_of end.old) (view_of other.entry) (view_of end.new) }
+    {
+        let QueueEnd { seat } = other;
+        take_in::<Brand>(&self.table.shared, &mut end.seat, seat);
+        count_down(&self.table.shared, &mut end.seat);
+    }
+}

@@ -1,0 +1,119 @@
+//! What each step tells. These types are for the proofs alone.
+ghost use Rattle.std.specs.Prelude.{ℕ, List, []};
+ghost use Rattle.claim_queue.specs.Steps.{saw, claims, writes, takes, shuts, counts_up, counts_down, counts, halves};
+ghost use Rattle.claim_queue.specs.Steps.{rest_of, both};
+ghost use Rattle.claim_queue.specs.Rules.{newcomer};
+ghost use Rattle.claim_queue.specs.declared.rule.View.{View};
+
+use crate::rule::View;
+use atomic_table::{Join, Play, Split};
+use std::marker::{Brand, PhantomData};
+
+pub struct Look;
+
+impl Play<(), View> for Look {
+    ghost then = { saw };
+}
+
+/// The items of a claim.
+pub trait ClaimItems {
+    ghost items: { List ℕ };
+}
+
+impl ClaimItems for Brand {
+    ghost items = { [] };
+}
+
+pub struct Claims<J> {
+    marker: PhantomData<J>,
+}
+
+impl<J: ClaimItems> Play<(), View> for Claims<J> {
+    ghost then = { claims J.items };
+}
+
+/// A place of a run: the run's start, and the place's index in it.
+pub trait Spot {
+    ghost start: { ℕ };
+
+    ghost index: { ℕ };
+}
+
+impl Spot for Brand {
+    ghost start = { 0 };
+
+    ghost index = { 0 };
+}
+
+pub struct StoresData<J> {
+    marker: PhantomData<J>,
+}
+
+impl<J: Spot> Play<(), View> for StoresData<J> {
+    ghost then = { writes J.start J.index 1 };
+}
+
+pub struct StoresFlag<J> {
+    marker: PhantomData<J>,
+}
+
+impl<J: Spot> Play<(), View> for StoresFlag<J> {
+    ghost then = { writes J.start J.index 2 };
+}
+
+pub struct Takes;
+
+impl Play<(), View> for Takes {
+    ghost then = { takes };
+}
+
+pub struct Shuts;
+
+impl Play<(), View> for Shuts {
+    ghost then = { shuts };
+}
+
+pub struct CountsUp;
+
+impl Play<(), View> for CountsUp {
+    ghost then = { counts_up };
+}
+
+pub struct CountsDown;
+
+impl Play<(), View> for CountsDown {
+    ghost then = { counts_down };
+}
+
+pub struct Counts;
+
+impl Play<(), View> for Counts {
+    ghost then = { counts };
+}
+
+pub struct Halves;
+
+impl Split<View> for Halves {
+    ghost left = { rest_of };
+
+    ghost right = { halves };
+}
+
+/// The view of an end that was taken in.
+pub trait Spent {
+    ghost view: { View };
+}
+
+impl Spent for Brand {
+    ghost view = { newcomer (record { first = 0; room = 0 }) };
+}
+
+pub struct Joins<J> {
+    marker: PhantomData<J>,
+}
+
+impl<J: Spent> Join<View> for Joins<J> {
+    ghost both = { both };
+
+    ghost spent = { J.view };
+}

@@ -1,0 +1,56 @@
+-- The queue that a table's positions are: its runs are the history, in the order of their claims.
+use Rattle.std.specs.Prelude.{◌≡◌, ℕ, ◌<◌, nat_le, Bool, false, List, map, length, slice_index_or, Option, Some, None}
+use Rattle.std.specs.Prelude.{Result, Ok}
+use Rattle.std.specs.List.{slice_get}
+use mathlib.Core.Option.{some}
+use lib.ListN.{get_elem?}
+use Rattle.quaject_core.specs.declared.refusal.Refusal.{Refusal}
+use Rattle.quaject_core.specs.declared.tables.Entry.{Entry}
+use Rattle.quaject_core.specs.declared.tables.Batch.{Batch}
+use Rattle.quaject_core.specs.declared.tables.Positions.{Positions}
+use Rattle.quaject_core.specs.Runs.{Run}
+use Rattle.quaject_core.specs.Queues.{Queue}
+use Rattle.quaject_core.specs.Lawful.{IsLawfulQueue}
+use Rattle.quaject_core.specs.Positioned.{blank, item_of}
+use Rattle.quaject_core.specs.Filing.{Owned}
+use Rattle.quaject_core.specs.Listing.{all_places, Chained}
+
+-- the run that a seat's batch is: the seat is its call
+abbrev pub run_in : Owned Batch → Run
+run_in o = record { call = o.0; items = map item_of o.2.places }
+
+-- both stores of a place are done
+abbrev pub is_up : Entry → Bool
+is_up e = nat_le 2 e.written
+
+abbrev pub up_in : Option (Owned Batch) → ℕ → Bool
+up_in None index = false
+up_in (Some o) index = is_up (slice_index_or o.2.places index blank)
+
+abbrev pub queue_of : Positions → List (Owned Batch) → Queue
+queue_of q runs = record {
+  history = map run_in runs;
+  raised = λ run index. up_in (slice_get runs run) index;
+  taken = q.taken;
+  capacity = q.room;
+  shut = q.shut;
+}
+
+-- the runs, in their order, have each place once
+pub record IsHistory (q : Positions) (runs : List (Owned Batch)) : Type 0 where
+  pub solid : (k : ℕ) (o : Owned Batch) → get_elem? runs k ≡ some o → 0 < length o.2.places
+  pub places : all_places runs ≡ q.places
+  pub chained : Chained q.first runs
+
+-- what a step makes of the positions q is what this event makes of the queue that they are
+pub record IsEvent (q r : Positions) (event : Queue → Result Queue Refusal) : Type 0 where
+  pub runs : List (Owned Batch)
+  pub new_runs : List (Owned Batch)
+  pub history : IsHistory q runs
+  pub new_history : IsHistory r new_runs
+  pub lawful : IsLawfulQueue (queue_of q runs)
+  pub made : event (queue_of q runs) ≡ Ok (queue_of r new_runs)
+
+-- no event: storing an item, and each load
+abbrev pub no_event : Queue → Result Queue Refusal
+no_event q = Ok q

@@ -1,0 +1,78 @@
+//! A line of bytes from one thread to another, such as a device's.
+//!
+//! It is a queue of one producer and one consumer (Lamport; Massalin and Pu 1991): each end moves an index of its own,
+//! takes no lock and never waits for the other. The ring under it is `rtrb`'s, and the ends count what went through.
+#![tactic(auto)]
+
+ghost use Rattle.std.specs.Prelude.{◌≡◌, ◌+◌, ◌<◌, ◌≤◌, ◌%◌, ◌^◌, ◌++◌, length, IfOk};
+ghost use Rattle.spsc_line.specs.Lines.{bytes_sent, bytes_received, bytes_left, capacity_in};
+ghost use Rattle.spsc_line.specs.Lines.{IsLine, IsNewIn, IsNewOut};
+
+mod line_in;
+mod line_out;
+mod memory;
+
+pub use line_in::LineIn;
+pub use line_out::LineOut;
+pub use memory::OutOfMemory;
+use rtrb::RingBuffer;
+use std::alloc::Global;
+
+/// The most bytes that a line may have room for.
+pub const MOST_BYTES: usize = 65_536;
+
+/// How many bytes went through a line.
+#[derive(Clone, Copy, Debug, PartialEq, Eq)]
+pub struct LineTotals {
+    /// The bytes pushed, modulo 2^64.
+    pub sent: usize,
+    /// The bytes popped, modulo 2^64.
+    pub received: usize,
+    /// The bytes pushed and not popped.
+    pub left: usize,
+}
+
+/// Makes a line with room for `cap` bytes, 1 to 65,536, and gives its two ends.
+///
+/// `OutOfMemory` comes only where an allocation was refused.
+pub fn line(alloc: Global, cap: usize) -> Result<(LineIn, LineOut), OutOfMemory>
+    requires some { 0 < cap }
+    requires most { cap ≤ MOST_BYTES }
+    ensures pair { IfOk result (λ ends. IsLine ends.0 ends.1) }
+    ensures input { IfOk result (λ ends. IsNewIn cap ends.0) }
+    ensures output { IfOk result (λ ends. IsNewOut cap ends.1) }
+{
+    let (producer, consumer) = RingBuffer::new(alloc, cap)?;
+    Ok((LineIn::new(producer), LineOut::new(consumer)))
+}
+
+/// Ends a line whose ends are in one thread again, and tells how many bytes were sent, received and left.
+///
+/// What was received, followed by what is left, is what was sent. The bytes left go with the line.
+pub fn finish(input: LineIn, output: LineOut) -> LineTotals
+    requires { IsLine input output }
+    ensures whole { bytes_received output ++ bytes_left input output ≡ bytes_sent input }
+    ensures sent { result.sent ≡ length (bytes_sent input) % 2 ^ 64 }
+    ensures received { result.received ≡ length (bytes_received output) % 2 ^ 64 }
+    ensures left { result.left ≡ length (bytes_left input output) }
+    ensures counts { result.sent ≡ (result.received + result.left) % 2 ^ 64 }
+    ensures within { result.left ≤ capacity_in input }
+{
+    let LineIn {
+        mut producer,
+        pushed,
+    } = input;
+    let LineOut {
+        mut consumer,
+        popped,
+    } = output;
+    let left = consumer.slots_beside(&mut producer);
+    LineTotals {
+        sent: pushed,
+        received: popped,
+        left,
+    }
+}
+
+#[cfg(test)]
+mod tests;

@@ -1,0 +1,52 @@
+//! The end of a line that pushes.
+
+ghost use Rattle.std.specs.Prelude.{◌≡◌, ◌+◌, ◌%◌, ◌^◌, ◌≤◌, length};
+ghost use Rattle.rtrb.specs.Ring.{sent, known_free, producer_capacity};
+
+use rtrb::{Producer, PushError};
+
+/// The end of a line that pushes bytes. It can move to another thread.
+#[derive(Drop)]
+pub struct LineIn {
+    pub(crate) producer: Producer<u8>,
+    // The bytes pushed, modulo 2^64.
+    pub(crate) pushed: usize,
+    ghost counted: { pushed ≡ length (sent producer) % 2 ^ 64 },
+    ghost room: { producer_capacity producer ≤ known_free producer + length (sent producer) },
+}
+
+impl LineIn {
+    ghost use Rattle.std.specs.Prelude.{◌≡◌, ◌<◌, [], length, IsOk, OnOk, OnErr, IfErr};
+    ghost use Rattle.spsc_line.specs.Lines.{bytes_sent, known_room, capacity_in, SameIn, Sends, SendsNothing};
+
+    pub(crate) fn new(producer: Producer<u8>) -> LineIn
+        requires sent { sent producer ≡ [] }
+        requires room { known_free producer ≡ producer_capacity producer }
+        ensures { result.producer ≡ producer }
+    {
+        LineIn {
+            producer,
+            pushed: 0,
+        }
+    }
+
+    /// Pushes one byte behind all others, or hands it back where no place of the line is free.
+    ///
+    /// A refused push changes nothing. None is refused before as many bytes were pushed as the line has room for.
+    pub fn push(&mut self, byte: u8) -> Result<(), u8>
+        ensures line { SameIn self.old self.new }
+        ensures ok { OnOk result (Sends byte self.old self.new) }
+        ensures back { IfErr result (λ back. back ≡ byte) }
+        ensures refused { OnErr result (SendsNothing self.old self.new × (known_room self.old ≡ 0)) }
+        ensures succeeds { 0 < known_room self.old → IsOk result }
+        ensures first { length (bytes_sent self.old) < capacity_in self.old → IsOk result }
+    {
+        match self.producer.push(byte) {
+            Ok(()) => {
+                self.pushed = self.pushed.wrapping_add(1);
+                Ok(())
+            }
+            Err(PushError::Full(back)) => Err(back),
+        }
+    }
+}

@@ -1,0 +1,167 @@
+//! A line in one thread, and one between two.
+
+ghost use Rattle.spsc_line.specs.Lines.{SameIn, SameOut};
+
+use super::*;
+use std::sync::Wait;
+use std::test::Fail;
+use std::thread;
+use std::thread::Threads;
+
+#[test]
+fn a_line_of_two(rt: HostRuntime) -> Result<(), Fail> {
+    let (mut input, mut output) = line(rt.alloc(), 2)?;
+    assert_eq!(rt; output.pop(), None);
+    assert_eq!(rt; input.push(1), Ok(()));
+    assert_eq!(rt; input.push(2), Ok(()));
+    assert_eq!(rt; input.push(3), Err(3));
+    assert_eq!(rt; output.pop(), Some(1));
+    let totals = LineTotals {
+        sent: 2,
+        received: 1,
+        left: 1,
+    };
+    assert_eq!(rt; finish(input, output), totals);
+    Ok(())
+}
+
+/// A place that was popped takes a byte again, and an end that finds nothing finds what is pushed later.
+#[test]
+fn places_come_back(rt: HostRuntime) -> Result<(), Fail> {
+    let (mut input, mut output) = line(rt.alloc(), 1)?;
+    for byte in 0..=255u8 {
+        assert_eq!(rt; output.pop(), None);
+        assert_eq!(rt; input.push(byte), Ok(()));
+        assert_eq!(rt; input.push(byte), Err(byte));
+        assert_eq!(rt; output.pop(), Some(byte));
+    }
+    let totals = LineTotals {
+        sent: 256,
+        received: 256,
+        left: 0,
+    };
+    assert_eq!(rt; finish(input, output), totals);
+    Ok(())
+}
+
+/// The longest line takes as many bytes as it may have, and no more.
+#[test]
+fn the_longest_line(rt: HostRuntime) -> Result<(), Fail> {
+    let (mut input, output) = line(rt.alloc(), MOST_BYTES)?;
+    for _ in 0..65_536 {
+        assert_eq!(rt; input.push(7), Ok(()));
+    }
+    assert_eq!(rt; input.push(8), Err(8));
+    let totals = LineTotals {
+        sent: 65_536,
+        received: 0,
+        left: 65_536,
+    };
+    assert_eq!(rt; finish(input, output), totals);
+    Ok(())
+}
+
+/// Where an allocation is refused there is no line, and a later try makes one.
+#[test]
+fn memory_may_be_wanting(rt: HostRuntime) {
+    let mut made = false;
+    for _ in 0..3 {
+        match line(rt.alloc(), 4) {
+            Ok((input, output)) => {
+                let totals = LineTotals {
+                    sent: 0,
+                    received: 0,
+                    left: 0,
+                };
+                assert_eq!(rt; finish(input, output), totals);
+                made = true;
+            }
+            Err(error) => assert_eq!(rt; error, OutOfMemory),
+        }
+    }
+    assert!(rt; made);
+}
+
+#[test]
+fn the_error_is_told(rt: HostRuntime) -> Result<(), Fail> {
+    assert_eq!(rt;
+        format!(in rt.alloc(); "{OutOfMemory}")?.as_str(),
+        "no memory"
+    );
+    Ok(())
+}
+
+/// The byte that is passed at an index.
+fn byte_at(index: u32) -> u8 {
+    (index % 251) as u8
+}
+
+/// Pushes so many bytes, and waits where there is no room.
+fn push_all(rt: &impl Wait, input: LineIn, count: u32) -> LineIn
+    ensures { SameIn input result }
+{
+    let mut input = input;
+    let mut next = 0;
+    for _ in rt.forever() {
+        if next >= count {
+            break;
+        }
+        match input.push(byte_at(next)) {
+            Ok(()) => next += 1,
+            Err(_) => thread::yield_now(),
+        }
+    }
+    input
+}
+
+/// Pops so many bytes, waits where there is none, and says whether all were in order.
+fn pop_all(rt: &impl Wait, output: LineOut, count: u32) -> (LineOut, bool)
+    ensures { SameOut output result.0 }
+{
+    let mut output = output;
+    let mut next = 0;
+    let mut ordered = true;
+    for _ in rt.forever() {
+        if next >= count {
+            break;
+        }
+        match output.pop() {
+            Some(byte) => {
+                ordered &= byte == byte_at(next);
+                next += 1;
+            }
+            None => thread::yield_now(),
+        }
+    }
+    (output, ordered)
+}
+
+/// Passes so many bytes from a thread to another.
+fn pass_all<R: Threads + Wait + Sync>(
+    rt: &R,
+    alloc: Global,
+    count: u32,
+) -> Result<(LineTotals, bool), OutOfMemory> {
+    let (input, output) = line(alloc, 64)?;
+    let (input, (output, ordered)) = thread::join(
+        rt,
+        move || -> LineIn
+            ensures { SameIn input result }
+        { push_all(rt, input, count) },
+        move || -> (LineOut, bool)
+            ensures { SameOut output result.0 }
+        { pop_all(rt, output, count) },
+    );
+    Ok((finish(input, output), ordered))
+}
+
+#[test]
+fn bytes_pass_in_order(rt: HostRuntime) -> Result<(), Fail> {
+    let totals = LineTotals {
+        sent: 100_000,
+        received: 100_000,
+        left: 0,
+    };
+    assert_eq!(rt; pass_all(&rt, rt.alloc(), 100_000)?, (totals, true));
+    Ok(())
+}

@@ -18,9 +18,11 @@ use Rattle.quaject_core.proofs.Windows.{window_same, window_claim}
 use Rattle.claim_queue.specs.declared.rule.Shape.{Shape}
 use Rattle.claim_queue.specs.declared.rule.View.{View}
 use Rattle.claim_queue.specs.Shown.{mark, data_in, flag_in, WordsShow}
-use Rattle.claim_queue.specs.Rules.{part_of, ends_of, alone_of, Idle, Rule}
+use Rattle.claim_queue.specs.Rules.{part_of, ends_of, share_of, IsIdle, Rule}
 use Rattle.claim_queue.specs.Steps.{looked, run, claimed, claims}
-use Rattle.claim_queue.proofs.Looks.{St, kept_look, saw_now}
+use Rattle.claim_queue.proofs.Looks.{St, kept_look, saw_now, sees_of}
+use Rattle.quaject_core.specs.Queues.{claim}
+use Rattle.quaject_core.specs.QueueOf.{IsEvent}
 
 -- what a step with no slot owes, where the word becomes y
 abbrev pub Goes : Shape → St → ℕ → ℕ → Me Unit View → (Me Unit View → Type 0) → ℕ → Type 0
@@ -40,10 +42,10 @@ shows_claim q words xs new h is_open is fits = let wide = h.wide in let long = l
       (λ k b. get_or-set_other words 0 (q.room + k + 3) new 0 (λ e. omega arith)) (λ k b. get_or-set_other words 0 (k + 3) new 0 (λ e. omega arith));
 }
 
-pub claims_head : (key : Shape) (n id : ℕ) (me : Me Unit View) (old new : ℕ) (xs : List ℕ) → new ≡ old + length xs → new < 4294967296 → old + length xs ≤ tail_of me.0.part.queue + me.0.part.queue.room → 1 ≤ me.0.ends → 0 < length xs
-    → Allows (Rule key) n id me 0 (λ x. either (eqb x old) new x) (claims xs (step n 0 old new none) me)
-claims_head key n id me old new xs is fits room live some_items s k _ at _ = let y : ℕ = get_or s.words 0 0 in let v : View = me.0 in let q : Positions = k.queue in let g = k.listed.seen id v.part (at_map part_of s.views id v at) in
-    exchanged y old new (Goes key s 0 id me (claims xs (step n 0 old new none) me y))
+pub claims_head : (key : Shape) (n id call : ℕ) (me : Me Unit View) (old new : ℕ) (xs : List ℕ) → call ≡ id → new ≡ old + length xs → new < 4294967296 → old + length xs ≤ tail_of me.0.part.queue + me.0.part.queue.room → 1 ≤ me.0.ends → 0 < length xs
+    → Allows (Rule key) n id me 0 (λ x. either (eqb x old) new x) (claims call xs (step n 0 old new none) me)
+claims_head key n id call me old new xs mine is fits room live some_items s k _ at _ = let y : ℕ = get_or s.words 0 0 in let v : View = me.0 in let q : Positions = k.queue in let g = k.listed.seen id v.part (at_map part_of s.views id v at) in
+    exchanged y old new (Goes key s 0 id me (claims call xs (step n 0 old new none) me y))
     (λ hit. let hd = k.shows.head in let is_open : q.shut ≡ false = open_at (head_of q) q.shut (omega arith) in let m : mark q.shut ≡ 0 = ap mark is_open in let here : head_of q ≡ old = omega arith in
     let first = g.0.first in let same_room = g.0.room in let further = g.0.further in let behind = k.lawful.behind in
     let w : View = claimed v old xs q in let q' : Positions = with_claim q xs in
@@ -59,8 +61,21 @@ claims_head key n id me old new xs is fits room live some_items s k _ at _ = let
         lawful = lawful';
         shows = shows_claim q s.words xs new k.shows is_open (omega arith) fits;
         listed = subst (ViewsShow q') (sym (map-set part_of s.views id w)) listed';
-        counted = subst (λ (c : ℕ). EndsCounted ends_of alone_of Idle c (set s.views id w)) (sym (get_or-set_other s.words 0 2 new 0 (λ e. omega arith))) (counted_look ends_of alone_of Idle (get_or s.words 2 0) s.views id v w k.counted at refl (λ h. h) (λ none. absurd (omega arith)));
+        counted = subst (λ (c : ℕ). EndsCounted ends_of share_of IsIdle c (set s.views id w)) (sym (get_or-set_other s.words 0 2 new 0 (λ e. omega arith))) (counted_look ends_of share_of IsIdle (get_or s.words 2 0) s.views id v w k.counted at refl refl (λ none. absurd (omega arith)));
       },
-      (refl, (λ _. record { queue = q; same = refl; grows = g; lawful = k.lawful; after = lawful'; at = here; is_open = is_open; call = id; event = claim_event q (map part_of s.views) id v.part w.part xs k.listed (at_map part_of s.views id v at) k.lawful some_items (omega arith) is_open (ap (λ (z : ℕ). v.part.runs ++ run z xs ∷ []) (sym here)) refl (grows_refl q', grows_refl q'); distinct = distinct q' (set (map part_of s.views) id w.part) id w.part listed' (set_here (map part_of s.views) id w.part (at_below (map part_of s.views) id v.part (at_map part_of s.views id v at))) }), λ miss. absurd (miss hit)),
+      (
+        refl,
+        (λ _. record {
+          queue = q;
+          same = refl;
+          sees = sees_of key s k id v at;
+          at = here;
+          event = subst (λ (z : ℕ). IsEvent q q' z v.part w.part (claim q.room z xs)) (sym mine) (claim_event q (map part_of s.views) id v.part w.part xs k.listed (at_map part_of s.views id v at) k.lawful some_items (omega arith) is_open (ap (λ (z : ℕ). v.part.runs ++ run z xs ∷ []) (sym here)) refl (grows_refl q', grows_refl q'));
+          after = lawful';
+          is_open = is_open;
+          distinct = distinct q' (set (map part_of s.views) id w.part) id w.part listed' (set_here (map part_of s.views) id w.part (at_below (map part_of s.views) id v.part (at_map part_of s.views id v at)));
+        }),
+        λ miss. absurd (miss hit),
+      ),
     ))
     (λ miss. (looked v q, keeps, tt, kept_look key s k 0 id v at, (refl, (λ hit. absurd (miss hit)), λ _. saw_now key s k 0 id v at)))

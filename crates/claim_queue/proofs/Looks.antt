@@ -9,11 +9,13 @@ use Rattle.quaject_core.specs.Counting.{EndsCounted}
 use Rattle.atomic_table.proofs.Lists.{at_map}
 use Rattle.quaject_core.proofs.Positioned.{grows_refl}
 use Rattle.quaject_core.proofs.Listing.{listed_look}
+use Rattle.quaject_core.specs.Seeing.{Sees}
+use Rattle.quaject_core.proofs.Seeing.{sees_now}
 use Rattle.quaject_core.proofs.Counting.{counted_look}
 use Rattle.claim_queue.specs.declared.rule.Shape.{Shape}
 use Rattle.claim_queue.specs.declared.rule.View.{View}
 use Rattle.claim_queue.specs.Shown.{WordsShow}
-use Rattle.claim_queue.specs.Rules.{part_of, ends_of, alone_of, Idle, Rule}
+use Rattle.claim_queue.specs.Rules.{part_of, ends_of, share_of, IsIdle, Rule}
 use Rattle.claim_queue.specs.Steps.{looked, Saw, saw}
 
 abbrev pub St : Type 0
@@ -29,11 +31,14 @@ kept_look key s k i id v at = let w : View = looked v k.queue in let same : set 
   lawful = k.lawful;
   shows = subst (WordsShow k.queue) (sym same) k.shows;
   listed = subst (ViewsShow k.queue) (sym (map-set part_of s.views id w)) (listed_look k.queue (map part_of s.views) id v.part w.part k.listed (at_map part_of s.views id v at) refl refl (grows_refl k.queue, grows_refl k.queue));
-  counted = subst (λ (n : ℕ). EndsCounted ends_of alone_of Idle n (set s.views id w)) (ap (λ (z : List ℕ). get_or z 2 0) (sym same)) (counted_look ends_of alone_of Idle (get_or s.words 2 0) s.views id v w k.counted at refl (λ h. h) (λ _ h. h));
+  counted = subst (λ (n : ℕ). EndsCounted ends_of share_of IsIdle n (set s.views id w)) (ap (λ (z : List ℕ). get_or z 2 0) (sym same)) (counted_look ends_of share_of IsIdle (get_or s.words 2 0) s.views id v w k.counted at refl refl (λ _ h. h));
 }
 
+pub sees_of : (key : Shape) (s : St) (k : Rule key s) (id : ℕ) (v : View) → get_elem? s.views id ≡ some v → Sees v.part k.queue
+sees_of key s k id v at = sees_now k.queue (map part_of s.views) id v.part k.listed (at_map part_of s.views id v at) k.lawful k.shows.small
+
 pub saw_now : (key : Shape) (s : St) (k : Rule key s) (i id : ℕ) (v : View) → get_elem? s.views id ≡ some v → Saw v i (get_or s.words i 0) (looked v k.queue)
-saw_now key s k i id v at = record { same = refl; grows = k.listed.seen id v.part (at_map part_of s.views id v at); lawful = k.lawful; words = s.words; shows = k.shows; is = refl }
+saw_now key s k i id v at = record { same = refl; sees = sees_of key s k id v at; words = s.words; shows = k.shows; is = refl }
 
 pub looks : (key : Shape) (n id : ℕ) (me : Me Unit View) (i : ℕ) → Allows (Rule key) n id me i (λ x. x) (saw (step n i 0 0 none) me)
 looks key n id me i s k _ at _ = (looked me.0 k.queue, keeps, tt, kept_look key s k i id me.0 at, (refl, saw_now key s k i id me.0 at))

@@ -1,21 +1,20 @@
 -- The two stores of a raise, and the claim after them.
-use Rattle.std.proofs.Common.{◌≡◌, ℕ, zero, suc, ◌+◌, ◌<◌, ⊎_elim, eqb, List, [], ◌∷◌, ◌++◌, map, length, get_or, set, sym, refl, ap, ◌∙◌, subst, arith, get_or-set_same}
+use Rattle.std.proofs.Common.{◌≡◌, ◌≢◌, ℕ, zero, suc, ◌+◌, ◌<◌, ⊎_elim, Bool, true, false, eqb, List, [], ◌∷◌, ◌++◌, map, length, get_or, set, sym, refl, ap, ◌∙◌, subst, arith, get_or-set_same}
 use Rattle.std.proofs.lemmas.List.{set-set}
 use Rattle.std.specs.Prelude.{if◌then◌else◌}
-use mathlib.Core.Option.{some, some-injective}
+use mathlib.Core.Option.{some, some-injective, some-ne-none}
 use lib.ListN.{get_elem?}
 use Rattle.quaject_core.specs.declared.tables.Entry.{Entry}
 use Rattle.quaject_core.specs.declared.tables.Batch.{Batch}
-use Rattle.quaject_core.specs.Positioned.{blank, fresh, with_write, Grows}
-use Rattle.quaject_core.proofs.Positioned.{grows_trans, write_grows}
+use Rattle.quaject_core.specs.Positioned.{blank, fresh}
 use Rattle.quaject_core.specs.Listing.{Distinct, number_of, written_to}
-use Rattle.atomic_table.proofs.Lists.{at_set, set_here, at_last}
-use Rattle.quaject_core.proofs.Owned.{at_below, one_at}
+use Rattle.atomic_table.proofs.Lists.{at_set, set_here, set_else, at_longer, at_last}
+use Rattle.quaject_core.proofs.Owned.{at_below, one_at, at_behind}
 use Rattle.quaject_core.proofs.Listing.{found_by_start}
 use Rattle.claim_queue.specs.declared.rule.View.{View}
-use Rattle.claim_queue.specs.Steps.{run, Wrote, Claimed}
-use Rattle.claim_queue.specs.Claims.{raised_place, places_of, run_of, Owns}
-use Rattle.claim_queue.proofs.Following.{later_on}
+use Rattle.claim_queue.specs.Steps.{run, Wrote, Raised, Claimed}
+use Rattle.claim_queue.specs.Answers.{ClaimedItems}
+use Rattle.claim_queue.specs.Claims.{raised_place, places_of, run_of, Owns, KeepsClaims, KeepsOthers}
 
 pub number_set : (start : ℕ) (l : List Batch) (m : ℕ) (e f : Batch) → get_elem? l m ≡ some e → f.start ≡ e.start → number_of start (set l m f) ≡ number_of start l
 number_set start [] m e f has is = refl
@@ -59,54 +58,96 @@ twice e i h = let x : Entry = record { item = (get_or e.places i blank).item; wr
     λ k. record { start = e.start; places = (ap (λ (z : Entry). set (set e.places i x) i (record { item = z.item; written = 2 })) (get_or-set_same e.places i x blank h) ∙ set-set e.places i x (record { item = (get_or e.places i blank).item; written = 2 })) k }
 
 -- the run of the end, after a store
-pub run_after : (v w : View) (start i n : ℕ) (e : Batch) → Wrote v (number_of start v.part.runs) i n w → get_elem? v.part.runs (number_of start v.part.runs) ≡ some e → get_elem? w.part.runs (number_of start w.part.runs) ≡ some (written_to e i n)
-run_after v w start i n e h has = let m : ℕ = number_of start v.part.runs in let same : h.run ≡ e = one_at v.part.runs m h.run e h.has has in
+pub run_after : (call : ℕ) (v w : View) (start i n : ℕ) (e : Batch) → Wrote call v (number_of start v.part.runs) i n w → get_elem? v.part.runs (number_of start v.part.runs) ≡ some e → get_elem? w.part.runs (number_of start w.part.runs) ≡ some (written_to e i n)
+run_after call v w start i n e h has = let m : ℕ = number_of start v.part.runs in let same : h.run ≡ e = one_at v.part.runs m h.run e h.has has in
     let runs : w.part.runs ≡ set v.part.runs m (written_to e i n) = ap (λ (z : View). z.part.runs) h.same ∙ ap (λ (z : Batch). set v.part.runs m (written_to z i n)) same in
     subst (λ (z : List Batch). get_elem? z (number_of start z) ≡ some (written_to e i n)) (sym runs)
     (subst (λ (z : ℕ). get_elem? (set v.part.runs m (written_to e i n)) z ≡ some (written_to e i n)) (sym (number_set start v.part.runs m e (written_to e i n) has refl)) (set_here v.part.runs m (written_to e i n) (at_below v.part.runs m e has)))
 
-pub distinct_after : (v w : View) (m i n : ℕ) → Wrote v m i n w → Distinct v.part.runs → Distinct w.part.runs
-distinct_after v w m i n h d = subst Distinct (sym (ap (λ (z : View). z.part.runs) h.same)) (distinct_set v.part.runs m h.run (written_to h.run i n) h.has refl d)
+-- the run's number stays
+pub same_number : (call : ℕ) (v w : View) (start i n : ℕ) (e : Batch) → Wrote call v (number_of start v.part.runs) i n w → get_elem? v.part.runs (number_of start v.part.runs) ≡ some e → number_of start w.part.runs ≡ number_of start v.part.runs
+same_number call v w start i n e h has = let m : ℕ = number_of start v.part.runs in ap (λ (z : View). number_of start z.part.runs) h.same ∙ number_set start v.part.runs m h.run (written_to h.run i n) h.has refl
+
+pub distinct_after : (call : ℕ) (v w : View) (m i n : ℕ) → Wrote call v m i n w → Distinct v.part.runs → Distinct w.part.runs
+distinct_after call v w m i n h d = subst Distinct (sym (ap (λ (z : View). z.part.runs) h.same)) (distinct_set v.part.runs m h.run (written_to h.run i n) h.has refl d)
 
 -- both stores together
-pub wrote_on : (u v w : View) (start i : ℕ) (e : Batch) → get_elem? u.part.runs (number_of start u.part.runs) ≡ some e → i < length e.places → Wrote u (number_of start u.part.runs) i 1 v → Wrote v (number_of start v.part.runs) i 2 w → Wrote u (number_of start u.part.runs) i 2 w
-wrote_on u v w start i e has below a b =
-    let m : ℕ = number_of start u.part.runs in let e' : Batch = written_to e i 1 in let mine = run_after u v start i 1 e a has in let same : b.run ≡ e' = one_at v.part.runs (number_of start v.part.runs) b.run e' b.has mine in
-    let mid : a.run ≡ e = one_at u.part.runs m a.run e a.has has in
-    let runs : v.part.runs ≡ set u.part.runs m e' = ap (λ (z : View). z.part.runs) a.same ∙ ap (λ (z : Batch). set u.part.runs m (written_to z i 1)) mid in
-    let n : number_of start v.part.runs ≡ m = ap (number_of start) runs ∙ number_set start u.part.runs m e e' has refl in
-    let all : set v.part.runs (number_of start v.part.runs) (written_to b.run i 2) ≡ set u.part.runs m (written_to e i 2) = (λ k. set (runs k) (n k) (written_to (same k) i 2)) ∙ (ap (set (set u.part.runs m e') m) (twice e i below) ∙ set-set u.part.runs m e' (written_to e i 2)) in
-    record {
-      queue = b.queue;
-      at = b.at;
-      run = e;
-      has = has;
-      start = ap (λ (z : Batch). z.start + i) (sym same) ∙ b.start;
-      same = b.same ∙ (λ k. record (a.same k) { part = record { queue = with_write b.queue b.at 2; joined = with_write b.queue b.at 2; runs = all k; takes = (ap (λ (z : View). z.part.takes) a.same) k } });
-      below = b.below;
-      low = b.low;
-      more = b.more;
-      grows = later_on u.part a.queue b.queue a.grows (grows_trans a.queue (with_write a.queue a.at 1) b.queue (write_grows a.queue a.at 1 a.below a.more) (subst (λ (z : View). Grows z.part.queue b.queue) a.same b.grows.0));
-      lawful = b.lawful;
-      after = b.after;
-      call = b.call;
-      run_number = b.run_number;
-      event = b.event;
-    }
+pub raised_on : (call : ℕ) (u v w : View) (start i : ℕ) (e : Batch) → get_elem? u.part.runs (number_of start u.part.runs) ≡ some e → Wrote call u (number_of start u.part.runs) i 1 v → Wrote call v (number_of start v.part.runs) i 2 w → Raised call u (number_of start u.part.runs) i w
+raised_on call u v w start i e has a b = record {
+  between = v;
+  stored = a;
+  raised = subst (λ (z : ℕ). Wrote call v z i 2 w) (same_number call u v start i 1 e a has) b;
+}
 
-pub own_after : (u v w : View) (start r : ℕ) (xs : List ℕ) → Owns u start xs r → r < length xs → Wrote u (number_of start u.part.runs) r 1 v → Wrote v (number_of start v.part.runs) r 2 w → Owns w start xs (r + 1)
-own_after u v w start r xs own below a b = let e : Batch = run_of start xs r in let long = places_length xs r in let n : suc r ≡ r + 1 = omega arith in
-    run_after v w start r 2 (written_to e r 1) b (run_after u v start r 1 e a own) ∙ ap some (twice e r (omega arith) ∙ next_run start xs r below ∙ ap (run_of start xs) n)
+pub own_after : (call : ℕ) (u v w : View) (start r : ℕ) (xs : List ℕ) → Owns u start xs r → r < length xs → Wrote call u (number_of start u.part.runs) r 1 v → Wrote call v (number_of start v.part.runs) r 2 w → Owns w start xs (r + 1)
+own_after call u v w start r xs own below a b = let e : Batch = run_of start xs r in let long = places_length xs r in let n : suc r ≡ r + 1 = omega arith in
+    run_after call v w start r 2 (written_to e r 1) b (run_after call u v start r 1 e a own) ∙ ap some (twice e r (omega arith) ∙ next_run start xs r below ∙ ap (run_of start xs) n)
 
-pub room_after : (v w : View) (m i n : ℕ) → Wrote v m i n w → w.part.queue.room ≡ v.part.queue.room
-room_after v w m i n h = ap (λ (z : View). z.part.queue.room) h.same ∙ h.grows.0.room
+pub room_after : (call : ℕ) (v w : View) (m i n : ℕ) → Wrote call v m i n w → w.part.queue.room ≡ v.part.queue.room
+room_after call v w m i n h = ap (λ (z : View). z.part.queue.room) h.same ∙ h.sees.later.0.room
 
-pub ends_after : (v w : View) (m i n : ℕ) → Wrote v m i n w → w.ends ≡ v.ends
-ends_after v w m i n h = ap (λ (z : View). z.ends) h.same
+pub ends_after : (call : ℕ) (v w : View) (m i n : ℕ) → Wrote call v m i n w → w.ends ≡ v.ends
+ends_after call v w m i n h = ap (λ (z : View). z.ends) h.same
 
 -- a claim that was just made is the end's own
-pub owns_claimed : (v w : View) (head : ℕ) (xs ys : List ℕ) → Claimed v head xs w → ys ≡ xs → Owns w head ys 0
-owns_claimed v w head xs ys h is = let runs : w.part.runs ≡ v.part.runs ++ run head xs ∷ [] = ap (λ (z : View). z.part.runs) h.same in
+pub owns_claimed : (call : ℕ) (v w : View) (head : ℕ) (xs ys : List ℕ) → Claimed call v head xs w → ys ≡ xs → Owns w head ys 0
+owns_claimed call v w head xs ys h is = let runs : w.part.runs ≡ v.part.runs ++ run head xs ∷ [] = ap (λ (z : View). z.part.runs) h.same in
     let last : get_elem? w.part.runs (length v.part.runs) ≡ some (run head xs) = subst (λ (z : List Batch). get_elem? z (length v.part.runs) ≡ some (run head xs)) (sym runs) (at_last v.part.runs (run head xs) (length v.part.runs) refl) in
     let number = found_by_start w.part.runs (length v.part.runs) (run head xs) h.distinct last in
     subst (λ (z : ℕ). get_elem? w.part.runs z ≡ some (run_of head ys 0)) (sym number) (last ∙ ap some (sym (ap (λ (z : List Entry). record { start = head; places = z }) (first_places ys ∙ ap (map fresh) is))))
+
+-- the end's other claims stay as they are
+
+if_suc : (b : Bool) (n m : ℕ) → (b ≡ false → n ≡ m) → (if b then 0 else suc n) ≡ (if b then 0 else suc m)
+if_suc true n m h = refl
+if_suc false n m h = ap suc (h refl)
+
+number_more : (start : ℕ) (l r : List Batch) (e : Batch) → get_elem? l (number_of start l) ≡ some e → number_of start (l ++ r) ≡ number_of start l
+number_more start [] r e has = absurd (some-ne-none e (sym has))
+number_more start (x ∷ xs) r e has = if_suc (eqb x.start start) (number_of start (xs ++ r)) (number_of start xs)
+    (λ is. number_more start xs r e (subst (λ (b : Bool). get_elem? (x ∷ xs) (if b then 0 else suc (number_of start xs)) ≡ some e) is has))
+
+-- a run that stands behind the others changes no number
+pub owns_more : (v w : View) (r : List Batch) → w.part.runs ≡ v.part.runs ++ r → KeepsClaims v w
+owns_more v w r runs start xs n own = let e : Batch = run_of start xs n in
+    subst (λ (z : List Batch). get_elem? z (number_of start z) ≡ some e) (sym runs)
+    (subst (λ (z : ℕ). get_elem? (v.part.runs ++ r) z ≡ some e) (sym (number_more start v.part.runs r e own)) (at_longer v.part.runs r (number_of start v.part.runs) e own))
+
+pub owns_same : (v w : View) → w.part.runs ≡ v.part.runs → KeepsClaims v w
+owns_same v w runs start xs n own = subst (λ (z : List Batch). get_elem? z (number_of start z) ≡ some (run_of start xs n)) (sym runs) own
+
+-- what the other end had stands behind what this end had
+pub owns_behind : (u w : View) (l : List Batch) → w.part.runs ≡ l ++ u.part.runs → Distinct w.part.runs → KeepsClaims u w
+owns_behind u w l runs distinct start xs n own = let e : Batch = run_of start xs n in let k : ℕ = number_of start u.part.runs in
+    let at : get_elem? w.part.runs (length l + k) ≡ some e = subst (λ (z : List Batch). get_elem? z (length l + k) ≡ some e) (sym runs) (at_behind l u.part.runs k e own) in
+    subst (λ (z : ℕ). get_elem? w.part.runs z ≡ some e) (sym (found_by_start w.part.runs (length l + k) e distinct at)) at
+
+-- a write of one run leaves the others
+pub others_written : (call : ℕ) (v w : View) (start i n : ℕ) (mine : Batch) → get_elem? v.part.runs (number_of start v.part.runs) ≡ some mine → mine.start ≡ start → Wrote call v (number_of start v.part.runs) i n w → KeepsOthers start v w
+others_written call v w start i n mine has is h other xs r ne own = let m : ℕ = number_of start v.part.runs in let k : ℕ = number_of other v.part.runs in let f : Batch = written_to h.run i n in let e : Batch = run_of other xs r in
+    let apart : k ≢ m = (λ z. ne (ap (λ (y : Batch). y.start) (some-injective e mine (sym own ∙ (ap (get_elem? v.part.runs) z ∙ has))) ∙ is)) in
+    let runs : w.part.runs ≡ set v.part.runs m f = ap (λ (z : View). z.part.runs) h.same in
+    subst (λ (z : List Batch). get_elem? z (number_of other z) ≡ some e) (sym runs)
+    (subst (λ (z : ℕ). get_elem? (set v.part.runs m f) z ≡ some e) (sym (number_set other v.part.runs m h.run f h.has refl)) (set_else v.part.runs m k f apart ∙ own))
+
+pub others_on : (start : ℕ) (u v w : View) → KeepsOthers start u v → KeepsOthers start v w → KeepsOthers start u w
+others_on start u v w a b other xs r ne own = b other xs r ne (a other xs r ne own)
+
+pub wrote_as : (a b : ℕ) (v w : View) (m i n : ℕ) → a ≡ b → Wrote a v m i n w → Wrote b v m i n w
+wrote_as a b v w m i n is h = subst (λ (z : ℕ). Wrote z v m i n w) is h
+
+pub claims_on : (u v w : View) → KeepsClaims u v → KeepsClaims v w → KeepsClaims u w
+claims_on u v w a b start xs r own = b start xs r (a start xs r own)
+
+pub claims_claimed : (call : ℕ) (v w : View) (head : ℕ) (items : List ℕ) → ClaimedItems call v head items w → KeepsClaims v w
+claims_claimed call v w head items h = let u : View = h.before in let c = h.claimed in
+    claims_on v u w (owns_same v u (ap (λ (z : View). z.part.runs) h.looked.same)) (owns_more u w (run head items ∷ []) (ap (λ (z : View). z.part.runs) c.same))
+
+-- a claim that is raised in full leaves the end's other claims as they are
+pub claims_put : (call : ℕ) (v u w : View) (head : ℕ) (items : List ℕ) → ClaimedItems call v head items u → KeepsOthers head u w → KeepsClaims v w
+claims_put call v u w head items h others start xs r own = let b : View = h.before in let c = h.claimed in let l : List Batch = b.part.runs in let e : Batch = run_of start xs r in let k : ℕ = number_of start l in
+    let mine : Owns b start xs r = owns_same v b (ap (λ (z : View). z.part.runs) h.looked.same) start xs r own in let runs : u.part.runs ≡ l ++ run head items ∷ [] = ap (λ (z : View). z.part.runs) c.same in
+    let old : get_elem? u.part.runs k ≡ some e = subst (λ (z : List Batch). get_elem? z k ≡ some e) (sym runs) (at_longer l (run head items ∷ []) k e mine) in
+    let new : get_elem? u.part.runs (length l) ≡ some (run head items) = subst (λ (z : List Batch). get_elem? z (length l) ≡ some (run head items)) (sym runs) (at_last l (run head items) (length l) refl) in
+    let below = at_below l k e mine in
+    others start xs r (λ same. let same_place = c.distinct k (length l) e (run head items) old new same in absurd (omega arith)) (claims_claimed call v u head items h start xs r own)

@@ -1,5 +1,5 @@
 -- What is read of a closed table.
-use Rattle.std.proofs.Common.{◌≡◌, ◌≢◌, ℕ, zero, suc, ◌+◌, ◌-◌, ◌%◌, ◌<◌, ◌≤◌, ◌⊎◌, inl, inr, Bool, true, false, eq-eqb, ne_eqb, Option, Some, None, List, [], ◌∷◌, ◌++◌, length, get_or, map, drop, sym, refl, ap, ◌∙◌, subst, arith}
+use Rattle.std.proofs.Common.{◌≡◌, ◌≢◌, ℕ, zero, suc, ◌+◌, ◌-◌, ◌%◌, ◌<◌, ◌≤◌, Bool, true, false, eq-eqb, ne_eqb, Option, Some, None, List, [], ◌∷◌, ◌++◌, length, get_or, map, drop, sym, refl, ap, ◌∙◌, subst, arith}
 use Rattle.std.proofs.lemmas.List.{drop_more, drop_all}
 use Rattle.std.proofs.lemmas.Bool.{lt-ltb, le-ltb}
 use Rattle.std.specs.Prelude.{if◌then◌else◌}
@@ -11,22 +11,22 @@ use Rattle.quaject_core.specs.declared.tables.Positions.{Positions}
 use Rattle.quaject_core.specs.Positioned.{blank, place_at, item_at, written_at, head_of}
 use Rattle.claim_queue.specs.Shown.{mark, WordsShow}
 use Rattle.quaject_core.specs.declared.tables.QueueView.{QueueView}
-use Rattle.quaject_core.specs.Positioned.{Grows}
 use Rattle.quaject_core.specs.Listing.{ViewsShow}
 use Rattle.atomic_table.proofs.Lists.{at_map}
 use Rattle.quaject_core.proofs.Owned.{at_map_back}
 use Rattle.quaject_core.proofs.Listing.{listed_sole}
-use Rattle.quaject_core.proofs.Counting.{others_idle}
-use Rattle.quaject_core.proofs.QueueOf.{is_lawful_queue}
-use Rattle.quaject_core.proofs.QueueEvents.{history_of}
+use Rattle.quaject_core.specs.Sharing.{IsWhole, total}
+use Rattle.quaject_core.specs.Counting.{FitsAWord}
+use Rattle.quaject_core.proofs.Totals.{one_of}
+use Rattle.quaject_core.proofs.Counting.{others_idle, whole_is_one, one_is_whole}
+use Rattle.claim_queue.proofs.Looks.{sees_of}
 use Rattle.atomic_table.specs.Table.{Final, Seen}
 use Rattle.claim_queue.specs.declared.rule.Shape.{Shape}
 use Rattle.claim_queue.specs.declared.rule.View.{View}
-use Rattle.claim_queue.specs.Rules.{part_of, ends_of, alone_of, Idle, Rule}
+use Rattle.claim_queue.specs.Rules.{part_of, ends_of, share_of, IsIdle, Rule}
 use Rattle.claim_queue.specs.Steps.{Tallied}
-use Rattle.claim_queue.specs.Closings.{left_at, left_from, shown, ClosedNow}
+use Rattle.claim_queue.specs.Closings.{WereOpen, left_at, left_from, shown, ClosedNow}
 use Rattle.claim_queue.proofs.Looks.{St}
-use Rattle.claim_queue.proofs.Following.{later_on}
 
 pub left_length : (room : ℕ) (ws : List ℕ) (p n : ℕ) → length (left_from room ws p n) ≡ n
 left_length room ws p zero = refl
@@ -72,31 +72,42 @@ low_of : (n h : ℕ) (b : Bool) → n < 4294967296 → h ≡ n + mark b → h % 
 low_of n h true small is = omega arith
 low_of n h false small is = omega arith
 
-only : (key : Shape) (s : St) (k : Rule key s) (id : ℕ) (w : View) → get_elem? s.views id ≡ maybe.some w → (found : ℕ) → found ≡ 1 → (found ≡ 1 → w.wrapped ≡ false → w.alone ≡ true) → (b : Bool) → w.wrapped ≡ b → (w.wrapped ≡ true) ⊎ ViewsShow k.queue (w.part ∷ [])
-only key s k id w at found one alone true is = inl is
-only key s k id w at found one alone false is = inr (listed_sole k.queue (map part_of s.views) id w.part k.listed (at_map part_of s.views id w at)
-    (λ i u has ne. let b = at_map_back part_of s.views i u has in subst (λ (z : QueueView). (z.runs ≡ []) × (z.takes ≡ [])) b.2 (others_idle ends_of alone_of Idle (get_or s.words 2 0) s.views id w k.counted at (alone one is) i b.0 b.1 ne)))
+-- an end with the whole lists the queue alone
+sole : (key : Shape) (s : St) (k : Rule key s) (id : ℕ) (w : View) → get_elem? s.views id ≡ maybe.some w → IsWhole w.share → ViewsShow k.queue (w.part ∷ [])
+sole key s k id w at whole = listed_sole k.queue (map part_of s.views) id w.part k.listed (at_map part_of s.views id w at)
+    (λ i u has ne. let b = at_map_back part_of s.views i u has in subst (λ (z : QueueView). (z.runs ≡ []) × (z.takes ≡ [])) b.2 (others_idle ends_of share_of IsIdle (get_or s.words 2 0) s.views id w k.counted at whole i b.0 b.1 ne))
 
-pub closes : (key : Shape) (v w : View) (found id h t put taken : ℕ) (ws : List ℕ) (xs : List Unit) (left : List (Option ℕ)) (at : ℕ) → key.first ≡ at → Tallied v found w → found ≡ 1 → Final (Seen (Rule key) id w) ws xs → get_elem? ws 0 ≡ maybe.some h → get_elem? ws 1 ≡ maybe.some t
+pub whole_where_one : (v w : View) (found : ℕ) → 1 ≤ v.ends → (t : Tallied v found w) → found ≡ 1 → FitsAWord (total ends_of t.views) → IsWhole v.share
+whole_where_one v w found live t one few = let c = t.counted in let n = c.counted in one_is_whole ends_of share_of IsIdle found t.views t.seat v c t.here live (omega arith)
+
+-- where the end has the whole, one end is found
+pub one_where_whole : (v w : View) (found : ℕ) → v.ends ≡ 1 → Tallied v found w → IsWhole v.share → found ≡ 1
+one_where_whole v w found one t whole = let c = t.counted in let n = c.counted in let total = whole_is_one ends_of share_of IsIdle found t.views t.seat v c t.here one whole in omega arith
+
+pub were_open : (v w : View) (found others : ℕ) → v.ends ≡ 1 → Tallied v found w → found ≢ 1 → others ≡ (found + (18446744073709551616 - 1)) % 18446744073709551616 → WereOpen v others w
+were_open v w found others one t more is = let c = t.counted in let n = c.counted in let least = one_of ends_of t.views t.seat v t.here in record {
+  found = found;
+  tallied = t;
+  not_whole = λ whole. more (one_where_whole v w found one t whole);
+  number = λ few. (omega arith, omega arith);
+}
+
+pub closes : (key : Shape) (v w : View) (found id h t put taken : ℕ) (ws : List ℕ) (xs : List Unit) (left : List (Option ℕ)) (at : ℕ) → key.first ≡ at → v.ends ≡ 1 → Tallied v found w → found ≡ 1 → Final (Seen (Rule key) id w) ws xs → get_elem? ws 0 ≡ maybe.some h → get_elem? ws 1 ≡ maybe.some t
     → put ≡ h % 4294967296 - key.first → taken ≡ t - key.first → left ≡ left_from key.room ws t (h % 4294967296 - t) → ClosedNow v at put taken left
-closes key v w found id h t put taken ws xs left at at_is tallied one fin at_h at_t put_is taken_is left_is =
-    let s : St = fin.0 in let k = fin.1.0 in let q : Positions = k.queue in let sh : WordsShow q ws = subst (WordsShow q) fin.2 k.shows in let seen = k.listed.seen id w.part (at_map part_of s.views id w fin.1.1) in
+closes key v w found id h t put taken ws xs left at at_is one_end tallied one fin at_h at_t put_is taken_is left_is =
+    let s : St = fin.0 in let k = fin.1.0 in let q : Positions = k.queue in let sh : WordsShow q ws = subst (WordsShow q) fin.2 k.shows in
     let first = k.first in let small = sh.small in let behind = k.lawful.behind in
     let hd : h % 4294967296 ≡ head_of q = low_of (head_of q) h q.shut small (sym (read_word ws 0 h at_h) ∙ sh.head) in let tl : t ≡ q.first + q.taken = sym (read_word ws 1 t at_t) ∙ sh.tail in
     let n : h % 4294967296 - t ≡ length q.places - q.taken = omega arith in
     record {
       end = w;
+      tallied = subst (λ (z : ℕ). Tallied v z w) one tallied;
+      whole = whole_where_one v w 1 (omega arith) (subst (λ (z : ℕ). Tallied v z w) one tallied) refl;
       queue = q;
-      runs = ap (λ (z : View). z.part.runs) tallied.same;
-      takes = ap (λ (z : View). z.part.takes) tallied.same;
-      grows = later_on v.part tallied.queue q tallied.grows (subst (λ (z : View). Grows z.part.queue q) tallied.same seen.0);
-      lawful = k.lawful;
-      in_order = k.listed.runs;
-      history = history_of q (map part_of s.views) k.listed;
-      lawful_queue = is_lawful_queue q k.listed.runs k.lawful (history_of q (map part_of s.views) k.listed);
+      sees = sees_of key s k id w fin.1.1;
       starts = first ∙ at_is;
       puts = omega arith;
       taken_is = omega arith;
       left_is = left_is ∙ ((λ i. left_from (sym k.room i) ws (tl i) (n i)) ∙ left_all q ws (length q.places - q.taken) q.taken sh (omega arith) (omega arith) k.lawful.within);
-      listed = only key s k id w fin.1.1 found one tallied.alone w.wrapped refl;
+      listed = λ whole. sole key s k id w fin.1.1 (subst (λ (z : View). IsWhole z.share) (sym tallied.same) whole);
     }

@@ -17,8 +17,9 @@ use Rattle.quaject_core.proofs.Counting.{counted_look}
 use Rattle.quaject_core.proofs.Windows.{window_same, window_shut}
 use Rattle.claim_queue.specs.declared.rule.Shape.{Shape}
 use Rattle.claim_queue.specs.declared.rule.View.{View}
+use Rattle.claim_queue.proofs.Looks.{sees_of}
 use Rattle.claim_queue.specs.Shown.{mark, data_in, flag_in}
-use Rattle.claim_queue.specs.Rules.{part_of, ends_of, alone_of, Idle, Rule}
+use Rattle.claim_queue.specs.Rules.{part_of, ends_of, share_of, IsIdle, Rule}
 use Rattle.claim_queue.specs.Steps.{looked, shuts}
 
 or_nothing : (h : ℕ) → bit_or h 0 ≡ h
@@ -48,7 +49,7 @@ shuts_head key n id me s k _ at _ = let v : View = me.0 in let q : Positions = k
               (λ j b. get_or-set_other s.words 0 (q.room + j + 3) new 0 (λ e. omega arith)) (λ j b. get_or-set_other s.words 0 (j + 3) new 0 (λ e. omega arith));
         };
         listed = subst (ViewsShow (with_shut q)) (sym (map-set part_of s.views id w)) (listed_shut q (map part_of s.views) id v.part w.part k.listed (at_map part_of s.views id v at) refl refl (grows_refl (with_shut q), grows_refl (with_shut q)));
-        counted = subst (λ (c : ℕ). EndsCounted ends_of alone_of Idle c (set s.views id w)) (sym (get_or-set_other s.words 0 2 new 0 (λ e. omega arith))) (counted_look ends_of alone_of Idle (get_or s.words 2 0) s.views id v w k.counted at refl (λ z. z) (λ _ z. z));
+        counted = subst (λ (c : ℕ). EndsCounted ends_of share_of IsIdle c (set s.views id w)) (sym (get_or-set_other s.words 0 2 new 0 (λ e. omega arith))) (counted_look ends_of share_of IsIdle (get_or s.words 2 0) s.views id v w k.counted at refl refl (λ _ z. z));
       },
-      (refl, record { queue = q; same = refl; grows = k.listed.seen id v.part (at_map part_of s.views id v at); lawful = k.lawful; is = h.head; event = shut_event q (map part_of s.views) k.listed k.lawful; small = h.small }),
+      (refl, record { queue = q; same = refl; sees = sees_of key s k id v at; is = h.head; seat = id; event = shut_event q (map part_of s.views) id v.part w.part k.listed (at_map part_of s.views id v at) k.lawful refl refl (grows_refl (with_shut q), grows_refl (with_shut q)) }),
     )

@@ -17,9 +17,9 @@ use Rattle.quaject_core.proofs.Windows.{window_same, window_take}
 use Rattle.claim_queue.specs.declared.rule.Shape.{Shape}
 use Rattle.claim_queue.specs.declared.rule.View.{View}
 use Rattle.claim_queue.specs.Shown.{data_in, flag_in, WordsShow}
-use Rattle.claim_queue.specs.Rules.{part_of, ends_of, alone_of, Idle, Rule}
+use Rattle.claim_queue.specs.Rules.{part_of, ends_of, share_of, IsIdle, Rule}
 use Rattle.claim_queue.specs.Steps.{looked, took, takes}
-use Rattle.claim_queue.proofs.Looks.{kept_look, saw_now}
+use Rattle.claim_queue.proofs.Looks.{kept_look, saw_now, sees_of}
 use Rattle.claim_queue.proofs.Claiming.{Goes}
 
 pub shows_take : (q : Positions) (words : List ℕ) (n new : ℕ) → WordsShow q words → Lawful q → q.taken + n ≤ length q.places → new ≡ tail_of q + n → WordsShow (with_take q n) (set words 1 new)
@@ -50,8 +50,8 @@ takes_tail key n id me old new at le start up live s k _ has _ = let y : ℕ = g
         lawful = lawful';
         shows = shows_take q s.words m new k.shows k.lawful lawful'.behind (omega arith);
         listed = subst (ViewsShow q') (sym (map-set part_of s.views id w)) (listed_take q (map part_of s.views) id m v.part w.part k.listed (at_map part_of s.views id v has) k.lawful.behind refl refl (grows_refl q', grows_refl q'));
-        counted = subst (λ (c : ℕ). EndsCounted ends_of alone_of Idle c (set s.views id w)) (sym (get_or-set_other s.words 1 2 new 0 (λ e. omega arith))) (counted_look ends_of alone_of Idle (get_or s.words 2 0) s.views id v w k.counted has refl (λ h. h) (λ none. absurd (omega arith)));
+        counted = subst (λ (c : ℕ). EndsCounted ends_of share_of IsIdle c (set s.views id w)) (sym (get_or-set_other s.words 1 2 new 0 (λ e. omega arith))) (counted_look ends_of share_of IsIdle (get_or s.words 2 0) s.views id v w k.counted has refl refl (λ none. absurd (omega arith)));
       },
-      (refl, (λ _. record { queue = q; same = refl; grows = g; lawful = k.lawful; after = lawful'; at = omega arith; event = take_event q (map part_of s.views) id m v.part w.part k.listed (at_map part_of s.views id v has) k.lawful (omega arith) lawful'.behind still }), λ miss. absurd (miss hit)),
+      (refl, (λ _. record { queue = q; same = refl; sees = sees_of key s k id v has; at = omega arith; seat = id; event = take_event q (map part_of s.views) id m v.part w.part k.listed (at_map part_of s.views id v has) k.lawful (omega arith) lawful'.behind still refl refl (grows_refl q', grows_refl q'); after = lawful' }), λ miss. absurd (miss hit)),
     ))
     (λ miss. (looked v q, keeps, tt, kept_look key s k 1 id v has, (refl, (λ hit. absurd (miss hit)), λ _. saw_now key s k 1 id v has)))

@@ -1,9 +1,7 @@
 -- The steps that make, split, join and count ends keep the rule.
-use Rattle.std.proofs.Common.{◌≡◌, ℕ, zero, suc, replicate, ◌+◌, ◌-◌, ◌%◌, ◌<◌, ◌≤◌, Bool, true, false, List, [], ◌∷◌, ◌++◌, map, length, get_or, set, sym, refl, ap, ◌∙◌, subst, arith, true≢false, length-set, get_or-set_same, get_or-set_other}
+use Rattle.std.proofs.Common.{◌≡◌, ℕ, zero, suc, replicate, ◌+◌, ◌-◌, ◌%◌, ◌<◌, ◌≤◌, List, [], ◌∷◌, ◌++◌, map, length, get_or, set, sym, refl, ap, ◌∙◌, subst, arith, length-set, get_or-set_same, get_or-set_other}
 use Rattle.std.proofs.lemmas.List.{map-set, map-append}
 use mathlib.Core.Option.{some, none}
-use mathlib.Core.Logic.{dite}
-use native.Mathlib.Decide.{ℕ_discrete}
 use lib.ListN.{get_elem?}
 use Rattle.atomic_table.specs.Table.{Me, step, keeps, Allows, Splits, Joins, opening}
 use Rattle.quaject_core.specs.declared.tables.Positions.{Positions}
@@ -13,15 +11,15 @@ use Rattle.quaject_core.specs.Counting.{EndsCounted}
 use Rattle.atomic_table.proofs.Lists.{at_map, set_else}
 use Rattle.quaject_core.proofs.Positioned.{grows_refl}
 use Rattle.quaject_core.proofs.Listing.{listed_look, listed_new, listed_join, listed_first, distinct}
-use Rattle.quaject_core.proofs.Counting.{counted_look, counted_alone, counted_up, counted_down, counted_split, counted_join, counted_first}
+use Rattle.quaject_core.proofs.Counting.{counted_up, counted_down, counted_split, counted_join, counted_first}
 use Rattle.quaject_core.proofs.Windows.{window_same}
 use Rattle.quaject_core.specs.Windows.{spot}
 use Rattle.claim_queue.specs.declared.rule.Shape.{Shape}
 use Rattle.claim_queue.specs.declared.rule.View.{View}
 use Rattle.claim_queue.specs.Shown.{data_in, flag_in, WordsShow}
-use Rattle.claim_queue.specs.Rules.{part_of, ends_of, alone_of, Idle, Rule, empty, newcomer}
-use Rattle.claim_queue.specs.Steps.{looked, Tallied, counts_up, counts_down, counts, rest_of, halves, both, emptied}
-use Rattle.claim_queue.proofs.Looks.{St}
+use Rattle.claim_queue.specs.Rules.{part_of, ends_of, share_of, IsIdle, Rule, empty, newcomer}
+use Rattle.claim_queue.specs.Steps.{looked, counts_up, counts_down, counts, rest_of, halves, both, emptied}
+use Rattle.claim_queue.proofs.Looks.{St, kept_look, sees_of}
 
 shows_count : (q : Positions) (words : List ℕ) (y : ℕ) → WordsShow q words → WordsShow q (set words 2 y)
 shows_count q words y h = record {
@@ -34,7 +32,7 @@ shows_count q words y h = record {
 }
 
 -- the rule, where the count becomes y and a view w that lists the same sees the queue as it is
-kept_count : (key : Shape) (s : St) (k : Rule key s) (id y : ℕ) (v w : View) → get_elem? s.views id ≡ some v → w.part ≡ record v.part { queue = k.queue; joined = k.queue } → EndsCounted ends_of alone_of Idle y (set s.views id w)
+kept_count : (key : Shape) (s : St) (k : Rule key s) (id y : ℕ) (v w : View) → get_elem? s.views id ≡ some v → w.part ≡ record v.part { queue = k.queue; joined = k.queue } → EndsCounted ends_of share_of IsIdle y (set s.views id w)
     → Rule key record { words = set s.words 2 y; homes = s.homes; views = set s.views id w }
 kept_count key s k id y v w at is c = let wide = k.shows.wide in record {
   queue = k.queue;
@@ -44,43 +42,48 @@ kept_count key s k id y v w at is c = let wide = k.shows.wide in record {
   shows = shows_count k.queue s.words y k.shows;
   listed = subst (ViewsShow k.queue) (sym (map-set part_of s.views id w)) (listed_look k.queue (map part_of s.views) id v.part w.part k.listed (at_map part_of s.views id v at) (ap (λ (z : QueueView). z.runs) is) (ap (λ (z : QueueView). z.takes) is)
       (subst (λ (z : QueueView). Later z k.queue) (sym is) (grows_refl k.queue, grows_refl k.queue)));
-  counted = subst (λ (c : ℕ). EndsCounted ends_of alone_of Idle c (set s.views id w)) (sym (get_or-set_same s.words 2 y 0 (omega arith))) c;
+  counted = subst (λ (c : ℕ). EndsCounted ends_of share_of IsIdle c (set s.views id w)) (sym (get_or-set_same s.words 2 y 0 (omega arith))) c;
 }
 
 pub ups : (key : Shape) (n id : ℕ) (me : Me Unit View) → 1 ≤ me.0.ends → Allows (Rule key) n id me 2 (λ x. (x + 1) % 18446744073709551616) (counts_up (step n 2 1 0 none) me)
-ups key n id me live s k _ at _ = let v : View = me.0 in let w : View = record (looked v k.queue) { ends = v.ends + 1; alone = false } in let c : ℕ = get_or s.words 2 0 in (
+ups key n id me live s k _ at _ = let v : View = me.0 in let w : View = record (looked v k.queue) { ends = v.ends + 1 } in let c : ℕ = get_or s.words 2 0 in (
   w,
   keeps,
   tt,
-  kept_count key s k id ((c + 1) % 18446744073709551616) v w at refl (counted_up ends_of alone_of Idle c s.views id v w k.counted at live refl refl),
-  (refl, record { queue = k.queue; same = refl; grows = k.listed.seen id v.part (at_map part_of s.views id v at); lawful = k.lawful }),
+  kept_count key s k id ((c + 1) % 18446744073709551616) v w at refl (counted_up ends_of share_of IsIdle c s.views id v w k.counted at live refl refl),
+  (refl, record { queue = k.queue; same = refl; sees = sees_of key s k id v at }),
 )
 
 pub downs : (key : Shape) (n id : ℕ) (me : Me Unit View) → 2 ≤ me.0.ends → Allows (Rule key) n id me 2 (λ x. (x + (18446744073709551616 - 1)) % 18446744073709551616) (counts_down (step n 2 1 0 none) me)
-downs key n id me live s k _ at fits = let v : View = me.0 in let w : View = record (looked v k.queue) { ends = v.ends - 1; alone = false } in let c : ℕ = get_or s.words 2 0 in (
+downs key n id me live s k _ at _ = let v : View = me.0 in let w : View = record (looked v k.queue) { ends = v.ends - 1 } in let c : ℕ = get_or s.words 2 0 in (
   w,
   keeps,
   tt,
-  kept_count key s k id ((c + (18446744073709551616 - 1)) % 18446744073709551616) v w at refl (counted_down ends_of alone_of Idle c s.views id v w k.counted fits at (omega arith) (omega arith) refl),
-  (refl, record { queue = k.queue; same = refl; grows = k.listed.seen id v.part (at_map part_of s.views id v at); lawful = k.lawful; distinct = distinct k.queue (map part_of s.views) id v.part k.listed (at_map part_of s.views id v at) }),
+  kept_count key s k id ((c + (18446744073709551616 - 1)) % 18446744073709551616) v w at refl (counted_down ends_of share_of IsIdle c s.views id v w k.counted at (omega arith) (omega arith) refl),
+  (refl, record { queue = k.queue; same = refl; sees = sees_of key s k id v at; distinct = distinct k.queue (map part_of s.views) id v.part k.listed (at_map part_of s.views id v at) }),
 )
 
 -- the count is found
-tallied : (key : Shape) (s : St) (k : Rule key s) (id : ℕ) (v w : View) → get_elem? s.views id ≡ some v → w.part ≡ record v.part { queue = k.queue; joined = k.queue } → w ≡ record (looked v k.queue) { alone = w.alone; wrapped = w.wrapped } → (get_or s.words 2 0 ≡ 1 → w.wrapped ≡ false → w.alone ≡ true)
-    → EndsCounted ends_of alone_of Idle (get_or s.words 2 0) (set s.views id w) → Rule key record { words = set s.words 2 (get_or s.words 2 0); homes = s.homes; views = set s.views id w } × Tallied v (get_or s.words 2 0) w
-tallied key s k id v w at is same alone c = (kept_count key s k id (get_or s.words 2 0) v w at is c, record { queue = k.queue; same = same; grows = k.listed.seen id v.part (at_map part_of s.views id v at); lawful = k.lawful; alone = alone })
-
-tally : (key : Shape) (s : St) (k : Rule key s) (id : ℕ) (v : View) → get_elem? s.views id ≡ some v → 1 ≤ v.ends → (b : Bool) → k.counted.wrapped ≡ b → (w : View) × Rule key record { words = set s.words 2 (get_or s.words 2 0); homes = s.homes; views = set s.views id w } × Tallied v (get_or s.words 2 0) w
-tally key s k id v at live true is = let w : View = record (looked v k.queue) { alone = false; wrapped = true } in
-    let t = tallied key s k id v w at refl refl (λ _ h. absurd (true≢false h)) (counted_look ends_of alone_of Idle (get_or s.words 2 0) s.views id v w k.counted at refl (λ h. absurd (true≢false (sym h))) (λ _ h. h)) in (w, t.0, t.1)
-tally key s k id v at live false is = let c : ℕ = get_or s.words 2 0 in dite (ℕ_discrete c 1)
-    (λ one. let w : View = record (looked v k.queue) { alone = true; wrapped = false } in
-    let t = tallied key s k id v w at refl refl (λ _ _. refl) (counted_alone ends_of alone_of Idle c s.views id v w k.counted at refl live is one) in (w, t.0, t.1))
-    (λ more. let w : View = record (looked v k.queue) { alone = false; wrapped = false } in
-    let t = tallied key s k id v w at refl refl (λ h _. absurd (more h)) (counted_look ends_of alone_of Idle c s.views id v w k.counted at refl (λ h. absurd (true≢false (sym h))) (λ _ h. h)) in (w, t.0, t.1))
-
 pub tallies : (key : Shape) (n id : ℕ) (me : Me Unit View) → 1 ≤ me.0.ends → Allows (Rule key) n id me 2 (λ x. x) (counts (step n 2 0 0 none) me)
-tallies key n id me live s k _ at _ = let t = tally key s k id me.0 at live k.counted.wrapped refl in (t.0, keeps, tt, t.1, (refl, t.2))
+tallies key n id me live s k _ at _ = let v : View = me.0 in (
+  looked v k.queue,
+  keeps,
+  tt,
+  kept_look key s k 2 id v at,
+  (
+    refl,
+    record {
+      queue = k.queue;
+      same = refl;
+      sees = sees_of key s k id v at;
+      views = s.views;
+      seat = id;
+      here = at;
+      shown = k.listed;
+      counted = k.counted;
+    },
+  ),
+)
 
 pub splits : (key : Shape) (id : ℕ) (v : View) → 2 ≤ v.ends → Splits (Rule key) id v (rest_of v) (halves v)
 splits key id v live s k at = let later = k.listed.seen id v.part (at_map part_of s.views id v at) in record {
@@ -91,7 +94,7 @@ splits key id v live s k at = let later = k.listed.seen id v.part (at_map part_o
   shows = k.shows;
   listed = subst (ViewsShow k.queue) (sym (map-append part_of (set s.views id (rest_of v)) (halves v ∷ []) ∙ ap (λ (z : List QueueView). z ++ (halves v).part ∷ []) (map-set part_of s.views id (rest_of v))))
       (listed_new k.queue (set (map part_of s.views) id v.part) (halves v).part (listed_look k.queue (map part_of s.views) id v.part v.part k.listed (at_map part_of s.views id v at) refl refl later) refl refl later);
-  counted = counted_split ends_of alone_of Idle (get_or s.words 2 0) s.views id v (rest_of v) (halves v) k.counted at (omega arith) (omega arith) (omega arith) refl refl;
+  counted = counted_split ends_of share_of IsIdle (get_or s.words 2 0) s.views id v (rest_of v) (halves v) k.counted at (omega arith) (omega arith) (omega arith) refl refl;
 }
 
 pub joins : (key : Shape) (id other : ℕ) (v w : View) → 1 ≤ v.ends → 1 ≤ w.ends → Joins (Rule key) id v other w (both v w) (emptied v)
@@ -104,7 +107,7 @@ joins key id other v w live live' s k at ne has = let at' : get_elem? s.views ot
       shows = k.shows;
       listed = subst (ViewsShow k.queue) (sym (map-set part_of (set s.views id (both v w)) other (emptied v) ∙ ap (λ (z : List QueueView). set z other (emptied v).part) (map-set part_of s.views id (both v w))))
           (listed_join k.queue (map part_of s.views) id other v.part w.part (both v w).part (emptied v).part k.listed (at_map part_of s.views id v at) (at_map part_of s.views other w at') ne refl refl refl refl (later.0, later'.0) later);
-      counted = counted_join ends_of alone_of Idle (get_or s.words 2 0) s.views id other v w (both v w) (emptied v) k.counted at at' ne live live' refl refl refl refl (refl, refl);
+      counted = counted_join ends_of share_of IsIdle (get_or s.words 2 0) s.views id other v w (both v w) (emptied v) k.counted at at' ne live live' refl refl refl refl (refl, refl);
     }
 
 -- the table as it is made
@@ -130,7 +133,7 @@ opens key words room fits long head tail ends rest = let q : Positions = empty k
     };
   };
   listed = listed_first q (newcomer key).part refl refl refl refl (grows_refl q, grows_refl q);
-  counted = subst (λ (c : ℕ). EndsCounted ends_of alone_of Idle c (newcomer key ∷ [])) (sym ends) (counted_first ends_of alone_of Idle (newcomer key) refl refl);
+  counted = subst (λ (c : ℕ). EndsCounted ends_of share_of IsIdle c (newcomer key ∷ [])) (sym ends) (counted_first ends_of share_of IsIdle (newcomer key) refl refl);
 }
 
 -- the words of a new table

@@ -1,25 +1,32 @@
 -- What the calls answer.
-use Rattle.std.specs.Prelude.{◌≡◌, ◌+◌, ◌<◌, ℕ, true, false, length}
+use Rattle.std.specs.Prelude.{◌≡◌, ◌⊎◌, ◌+◌, ◌<◌, ℕ, false, true, List, length}
 use Rattle.quaject_core.specs.declared.tables.Positions.{Positions}
-use Rattle.quaject_core.specs.Positioned.{Lawful, Grows, head_of, tail_of}
-use Rattle.quaject_core.specs.Listing.{Later}
+use Rattle.quaject_core.specs.Positioned.{Grows, head_of, tail_of}
+use Rattle.quaject_core.specs.Seeing.{Sees}
 use Rattle.claim_queue.specs.declared.rule.View.{View}
 use Rattle.claim_queue.specs.declared.claim.ClaimRefusal.{ClaimRefusal}
 use Rattle.claim_queue.specs.declared.claim.ClaimRefusal.TheVariants.{NoItems, TooLong, Closed, Spent, Full, Lost}
-use Rattle.claim_queue.specs.Steps.{looked}
+use Rattle.claim_queue.specs.Steps.{looked, Claimed}
 
 -- the end has seen the queue as it was at a step, and nothing else changed for it
 pub record Looked (v w : View) : Type 0 where
   pub same : w ≡ looked v w.part.queue
-  pub grows : Later v.part w.part.queue
-  pub lawful : Lawful w.part.queue
-  pub small : head_of w.part.queue < 4294967296
+  pub sees : Sees v.part w.part.queue
+
+-- the end made no step, or only looked
+abbrev pub HasLooked : View → View → Type 0
+HasLooked v w = (w ≡ v) ⊎ Looked v w
 
 -- q was the queue at a step between the view v and the view w
 pub record Between (v : View) (q : Positions) (w : View) : Type 0 where
-  pub later : Later v.part q
+  pub sees : Sees v.part q
   pub earlier : Grows q w.part.queue
-  pub lawful : Lawful q
+
+-- the end looked, and then claimed these items by one step
+pub record ClaimedItems (call : ℕ) (v : View) (head : ℕ) (items : List ℕ) (w : View) : Type 0 where
+  pub before : View
+  pub looked : Looked v before
+  pub claimed : Claimed call before head items w
 
 -- at the step that found the head, the queue was open and there was no room for n more
 pub record WasFull (v : View) (n head tail : ℕ) (w : View) : Type 0 where

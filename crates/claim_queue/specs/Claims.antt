@@ -1,5 +1,5 @@
 -- A claim, as the runs of its end list it.
-use Rattle.std.specs.Prelude.{◌≡◌, ℕ, zero, suc, List, [], ◌∷◌}
+use Rattle.std.specs.Prelude.{◌≡◌, ◌≢◌, ℕ, zero, suc, List, [], ◌∷◌}
 use mathlib.Core.Option.{some}
 use lib.ListN.{get_elem?}
 use Rattle.quaject_core.specs.declared.tables.Entry.{Entry}
@@ -23,3 +23,11 @@ run_of start xs r = record { start = start; places = places_of xs r }
 -- the claim is one of the end's own
 abbrev pub Owns : View → ℕ → List ℕ → ℕ → Type 0
 Owns v start xs r = get_elem? v.part.runs (number_of start v.part.runs) ≡ some (run_of start xs r)
+
+-- each claim that was the end's own still is, as far as it was raised
+abbrev pub KeepsClaims : View → View → Type 0
+KeepsClaims v w = (start : ℕ) (xs : List ℕ) (r : ℕ) → Owns v start xs r → Owns w start xs r
+
+-- each of the end's claims but the one with this start still is its own, as far as it was raised
+abbrev pub KeepsOthers : ℕ → View → View → Type 0
+KeepsOthers start v w = (other : ℕ) (xs : List ℕ) (r : ℕ) → other ≢ start → Owns v other xs r → Owns w other xs r

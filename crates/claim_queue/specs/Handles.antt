@@ -1,5 +1,6 @@
 -- What a clause says of a queue, of an end and of a claim.
 use Rattle.std.specs.Prelude.{◌≡◌, ℕ}
+use Rattle.quaject_core.specs.Sharing.{IsWhole}
 use Rattle.claim_queue.specs.declared.rule.View.{View}
 use Rattle.claim_queue.specs.declared.ends.ClaimQueue.{ClaimQueue}
 use Rattle.claim_queue.specs.declared.ends.QueueEnd.{QueueEnd}
@@ -8,6 +9,14 @@ use Rattle.claim_queue.specs.Steps.{IsSame}
 -- what the end knows
 abbrev pub view_of : {n : ℕ} → QueueEnd n → View
 view_of end = end.seat.me.0
+
+-- the number of the end, which is the call of its events
+abbrev pub call_of : {n : ℕ} → QueueEnd n → ℕ
+call_of end = end.seat.id
+
+-- every other end was joined
+abbrev pub IsOnlyEnd : {n : ℕ} → QueueEnd n → Type 0
+IsOnlyEnd end = IsWhole end.seat.me.0.share
 
 -- it is an end of this queue
 abbrev pub IsEndOf : {n : ℕ} → ClaimQueue n → QueueEnd n → Type 0

@@ -1,37 +1,31 @@
 -- What the takings answer.
 use Rattle.std.specs.Prelude.{◌≡◌, ◌≢◌, ◌⊎◌, ◌+◌, ◌-◌, ◌<◌, ◌≤◌, ℕ, true, false, List, length, map, take, drop}
 use Rattle.std.specs.Prelude.{slice_index_or}
-use Rattle.quaject_core.specs.declared.tables.Entry.{Entry}
 use Rattle.quaject_core.specs.declared.tables.Positions.{Positions}
-use Rattle.quaject_core.specs.Positioned.{Lawful, written_at, item_at, tail_of, with_take}
-use Rattle.quaject_core.specs.Listing.{Later}
-use Rattle.quaject_core.specs.Queues.{take_first}
-use Rattle.quaject_core.specs.QueueOf.{IsEvent}
+use Rattle.quaject_core.specs.Positioned.{item_of, written_at, item_at, tail_of}
+use Rattle.quaject_core.specs.Seeing.{HasRaised}
 use Rattle.claim_queue.specs.declared.rule.View.{View}
 use Rattle.claim_queue.specs.declared.take.TakeRefusal.{TakeRefusal}
 use Rattle.claim_queue.specs.declared.take.TakeRefusal.TheVariants.{Empty, Lost, Closed}
-use Rattle.claim_queue.specs.Steps.{took}
+use Rattle.claim_queue.specs.Steps.{Took}
 use Rattle.claim_queue.specs.Answers.{Looked, Between}
 
-abbrev pub item_of : Entry → ℕ
-item_of p = p.item
-
--- the first items left were taken, by one step
+-- the end looked, and then took the first items left by one step
 pub record TookItems (v : View) (items : List ℕ) (w : View) : Type 0 where
-  pub queue : Positions
-  pub same : w ≡ took v (length items) queue
-  pub grows : Later v.part queue
-  pub lawful : Lawful queue
-  pub after : Lawful (with_take queue (length items))
-  pub event : IsEvent queue (with_take queue (length items)) (take_first queue.room (length items))
-  pub first_left : map item_of (take (length items) (drop queue.taken queue.places)) ≡ items
+  pub before : View
+  pub looked : Looked v before
+  pub tail : ℕ
+  pub took : Took before tail (length items) w
+  pub first_left : map item_of (take (length items) (drop took.queue.taken took.queue.places)) ≡ items
 
--- at one step nothing was raised at the tail, and at one step the queue was open or had something left
+-- At one step nothing was raised at the tail, and at one step the queue was open or had something left. The end
+-- itself has not raised that position
 pub record WasEmpty (v : View) (at : ℕ) (w : View) : Type 0 where
   pub queue : Positions
   pub then : Between v queue w
   pub tail : tail_of queue ≡ at
   pub low : written_at queue queue.taken < 2
+  pub not_mine : HasRaised v.part at → ⊥
   pub after : Positions
   pub after_then : Between v after w
   pub open_or_left : (after.shut ≡ false) ⊎ (after.taken < length after.places)
@@ -72,12 +66,13 @@ IsLine room xs = ((i : ℕ) → i + 1 < length xs → slice_index_or xs i 0 ≢ 
     × ((slice_index_or xs (length xs - 1) 0 ≡ 10) ⊎ (length xs ≡ room))
 
 -- At one step the place at `at` was not raised, and from the tail to it no item ended a line. At one step the queue
--- was open or had something left
+-- was open or had something left. The end itself has not raised the position `at`
 pub record WasUnfinished (v : View) (at : ℕ) (w : View) : Type 0 where
   pub queue : Positions
   pub then : Between v queue w
   pub from : tail_of queue ≤ at
   pub low : written_at queue (at - queue.first) < 2
+  pub not_mine : HasRaised v.part at → ⊥
   pub none : (i : ℕ) → queue.taken ≤ i → queue.first + i < at → (2 ≤ written_at queue i) × (item_at queue i ≢ 10)
   pub after : Positions
   pub after_then : Between v after w

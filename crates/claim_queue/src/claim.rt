@@ -1,9 +1,9 @@
 //! Claims.
 ghost use Rattle.std.specs.Prelude.{◌≡◌, ◌+◌, ◌<◌, ◌≤◌, ℕ, true, length, MatchResult, MatchBool, IfOk};
 ghost use Rattle.quaject_core.specs.Listing.{number_of};
-ghost use Rattle.claim_queue.specs.Claims.{Owns};
-ghost use Rattle.claim_queue.specs.Steps.{Claimed, Wrote};
-ghost use Rattle.claim_queue.specs.Answers.{Looked, WasFull, WasSpent, WasLost, Refused};
+ghost use Rattle.claim_queue.specs.Claims.{Owns, KeepsClaims, KeepsOthers};
+ghost use Rattle.claim_queue.specs.Steps.{Raised};
+ghost use Rattle.claim_queue.specs.Answers.{ClaimedItems, Looked, WasFull, WasSpent, WasLost, Refused};
 ghost use Rattle.claim_queue.specs.declared.claim.ClaimRefusal.TheVariants as refusals;
 ghost use Rattle.claim_queue.specs.Puts.{RaisedFrom, IsPut, PutAnswer};
 
@@ -83,16 +83,17 @@ fn copy_of<const N: usize>(items: &[u64]) -> ArrayVec<u64, N>
 }
 
 impl<const N: usize> ClaimQueue<N> {
-    ghost use Rattle.claim_queue.specs.Handles.{view_of, first_of, IsEndOf, IsSameEnd, AreOfOneQueue};
+    ghost use Rattle.claim_queue.specs.Handles.{view_of, call_of, IsEndOf, IsSameEnd};
 
     /// One try.
     pub fn try_claim(&self, end: &mut QueueEnd<N>, items: &[u64]) -> Result<Claim<N>, ClaimRefusal>
         requires { IsEndOf self.now end.old }
         ensures queue { IsSameEnd end.old end.new }
-        ensures ok { MatchResult result (λ c. Claimed (view_of end.old) c.start items.now (view_of end.new)
-            × (c.items.items ≡ items.now) × (c.raised ≡ 0))
+        ensures ok { MatchResult result (λ c. ClaimedItems (call_of end.old) (view_of end.old) c.start items.now
+            (view_of end.new) × (c.items.items ≡ items.now) × (c.raised ≡ 0))
             (λ r. Refused N (view_of end.old) (length items.now) r (view_of end.new)) }
         ensures own { IfOk result (λ c. Owns (view_of end.new) c.start c.items.items c.raised) }
+        ensures others { KeepsClaims (view_of end.old) (view_of end.new) }
         ensures shut { (view_of end.old).part.queue.shut ≡ true → 0 < length items.now → length items.now ≤ N
             → MatchResult result (λ claim. ⊥) (λ refusal. refusal ≡ refusals.Closed) }
     {
@@ -108,10 +109,36 @@ impl<const N: usize> ClaimQueue<N> {
     ) -> Result<Claim<N>, ClaimRefusal>
         requires { IsEndOf self.now end.old }
         ensures queue { IsSameEnd end.old end.new }
-        ensures ok { MatchResult result (λ c. Claimed (view_of end.old) c.start items.now (view_of end.new)
-            × (c.items.items ≡ items.now) × (c.raised ≡ 0))
+        ensures ok { MatchResult result (λ c. ClaimedItems (call_of end.old) (view_of end.old) c.start items.now
+            (view_of end.new) × (c.items.items ≡ items.now) × (c.raised ≡ 0))
             (λ r. Refused N (view_of end.old) (length items.now) r (view_of end.new)) }
         ensures own { IfOk result (λ c. Owns (view_of end.new) c.start c.items.items c.raised) }
+        ensures others { KeepsClaims (view_of end.old) (view_of end.new) }
+        ensures shut { (view_of end.old).part.queue.shut ≡ true → 0 < length items.now → length items.now ≤ N
+            → MatchResult result (λ claim. ⊥) (λ refusal. refusal ≡ refusals.Closed) }
+    {
+        let start = self.claim_places(end, items, pause)?;
+        Ok(Claim {
+            start,
+            items: copy_of(items),
+            raised: 0,
+        })
+    }
+
+    // One try to claim places for the items, with a pause before the exchange. Gives the first position.
+    fn claim_places<P: Pause>(
+        &self,
+        end: &mut QueueEnd<N>,
+        items: &[u64],
+        pause: &mut P,
+    ) -> Result<u32, ClaimRefusal>
+        requires { IsEndOf self.now end.old }
+        ensures queue { IsSameEnd end.old end.new }
+        ensures ok { MatchResult result
+            (λ start. ClaimedItems (call_of end.old) (view_of end.old) start items.now (view_of end.new))
+            (λ r. Refused N (view_of end.old) (length items.now) r (view_of end.new)) }
+        ensures own { IfOk result (λ start. Owns (view_of end.new) start items.now 0 × (length items.now ≤ N)) }
+        ensures others { KeepsClaims (view_of end.old) (view_of end.new) }
     {
         let count = items.len();
         if count == 0 {
@@ -135,20 +162,31 @@ impl<const N: usize> ClaimQueue<N> {
                 tail: tail as u32,
             });
         }
-        let copied = copy_of(items);
         pause.between();
         let found = exchange_head::<Brand>(&self.table.shared, &mut end.seat, head, new, items);
         if found == head {
-            return Ok(Claim {
-                start: head as u32,
-                items: copied,
-                raised: 0,
-            });
+            return Ok(head as u32);
         }
         if found >= SHUT {
             return Err(ClaimRefusal::Closed);
         }
         Err(ClaimRefusal::Lost { head: found as u32 })
+    }
+
+    // Stores the item of this index of the end's run, and then its flag.
+    fn raise_place(&self, end: &mut QueueEnd<N>, start: u32, items: &[u64], index: usize)
+        requires queue { IsEndOf self.now end.old }
+        requires own { Owns (view_of end.old) start items.now index × (length items.now ≤ N) }
+        requires below { index < length items.now }
+        ensures queue { IsSameEnd end.old end.new }
+        ensures own { Owns (view_of end.new) start items.now (index + 1) }
+        ensures others { KeepsOthers start (view_of end.old) (view_of end.new) }
+        ensures raised { Raised (call_of end.old) (view_of end.old) (number_of start (view_of end.old).part.runs) index
+            (view_of end.new) }
+    {
+        let (start, item) = (start as u64, items[index]);
+        store_data::<Brand>(&self.table.shared, &mut end.seat, N, start, index, item);
+        store_flag::<Brand>(&self.table.shared, &mut end.seat, N, start, index);
     }
 
     /// Stores the next item and then its flag. False where all were raised.
@@ -158,8 +196,9 @@ impl<const N: usize> ClaimQueue<N> {
         ensures queue { IsSameEnd end.old end.new }
         ensures claim { (claim.new.start ≡ claim.old.start) × (claim.new.items.items ≡ claim.old.items.items) }
         ensures own { Owns (view_of end.new) claim.new.start claim.new.items.items claim.new.raised }
-        ensures raised { MatchBool result (Wrote (view_of end.old) (number_of claim.old.start
-            (view_of end.old).part.runs) claim.old.raised 2 (view_of end.new)
+        ensures others { KeepsOthers claim.old.start (view_of end.old) (view_of end.new) }
+        ensures raised { MatchBool result (Raised (call_of end.old) (view_of end.old) (number_of claim.old.start
+            (view_of end.old).part.runs) claim.old.raised (view_of end.new)
             × (claim.new.raised ≡ claim.old.raised + 1)) ((claim.old.raised ≡ length claim.old.items.items)
             × (claim.new.raised ≡ claim.old.raised) × ((view_of end.new) ≡ (view_of end.old))) }
     {
@@ -167,25 +206,21 @@ impl<const N: usize> ClaimQueue<N> {
         if index >= claim.items.len() {
             return false;
         }
-        let item = claim.items.as_slice()[index];
-        let start = claim.start as u64;
-        store_data::<Brand>(&self.table.shared, &mut end.seat, N, start, index, item);
-        store_flag::<Brand>(&self.table.shared, &mut end.seat, N, start, index);
+        self.raise_place(end, claim.start, claim.items.as_slice(), index);
         claim.raised = index + 1;
         true
     }
 
-    // Raises all items of a claim.
-    fn raise_all(&self, end: &mut QueueEnd<N>, claim: &mut Claim<N>)
+    // Raises all items of a run that was just claimed.
+    fn raise_all(&self, end: &mut QueueEnd<N>, start: u32, items: &[u64])
         requires queue { IsEndOf self.now end.old }
-        requires own { Owns (view_of end.old) claim.old.start claim.old.items.items 0 }
-        requires fresh { claim.old.raised ≡ 0 }
+        requires own { Owns (view_of end.old) start items.now 0 × (length items.now ≤ N) }
         ensures queue { IsSameEnd end.old end.new }
-        ensures start { claim.new.start ≡ claim.old.start }
-        ensures raised { RaisedFrom claim.old.start (view_of end.old) (view_of end.new) (length claim.old.items.items) }
+        ensures others { KeepsOthers start (view_of end.old) (view_of end.new) }
+        ensures raised { RaisedFrom (call_of end.old) start (view_of end.old) (view_of end.new) (length items.now) }
     {
-        for i in 0..claim.items.len() {
-            self.raise_next(end, claim);
+        for i in 0..items.len() {
+            self.raise_place(end, start, items, i);
         }
     }
 
@@ -194,12 +229,15 @@ impl<const N: usize> ClaimQueue<N> {
         requires { IsEndOf self.now end.old }
         ensures queue { IsSameEnd end.old end.new }
         ensures put { MatchResult result
-            (λ start. IsPut (view_of end.old) start items.now (view_of end.new))
+            (λ start. IsPut (call_of end.old) (view_of end.old) start items.now (view_of end.new))
             (λ r. Refused N (view_of end.old) (length items.now) r (view_of end.new)) }
+        ensures others { KeepsClaims (view_of end.old) (view_of end.new) }
+        ensures shut { (view_of end.old).part.queue.shut ≡ true → 0 < length items.now → length items.now ≤ N
+            → MatchResult result (λ start. ⊥) (λ refusal. refusal ≡ refusals.Closed) }
     {
-        let mut claim = self.try_claim(end, items)?;
-        self.raise_all(end, &mut claim);
-        Ok(claim.start)
+        let start = self.claim_places(end, items, &mut NoPause)?;
+        self.raise_all(end, start, items);
+        Ok(start)
     }
 
     /// `try_put`, tried again for as long as other ends claim first.
@@ -211,7 +249,10 @@ impl<const N: usize> ClaimQueue<N> {
     ) -> Result<u32, ClaimRefusal>
         requires { IsEndOf self.now end.old }
         ensures queue { IsSameEnd end.old end.new }
-        ensures put { PutAnswer N (view_of end.old) items.now result (view_of end.new) }
+        ensures put { PutAnswer N (call_of end.old) (view_of end.old) items.now result (view_of end.new) }
+        ensures others { KeepsClaims (view_of end.old) (view_of end.new) }
+        ensures shut { (view_of end.old).part.queue.shut ≡ true → 0 < length items.now → length items.now ≤ N
+            → MatchResult result (λ start. ⊥) (λ refusal. refusal ≡ refusals.Closed) }
     {
         let backoff = Backoff::new();
         for _ in rt.forever() {

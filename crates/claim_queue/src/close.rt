@@ -1,8 +1,7 @@
 //! Shutting and closing.
-ghost use Rattle.std.specs.Prelude.{◌≡◌, ◌+◌, ◌-◌, ◌<◌, ◌≤◌, IfOk, IfErr};
+ghost use Rattle.std.specs.Prelude.{◌≡◌, ◌+◌, ◌-◌, ◌<◌, ◌≤◌, IfOk, IfErr, MatchResult};
 ghost use Rattle.std.specs.Mem.Slots.{slots_items, slots_len, IsFull};
-ghost use Rattle.claim_queue.specs.Endings.{Divided};
-ghost use Rattle.claim_queue.specs.Closings.{ShutNow, ClosedNow, left_at, left_from};
+ghost use Rattle.claim_queue.specs.Closings.{ShutNow, ClosedNow, WereOpen, left_at, left_from};
 
 use crate::ends::{ClaimQueue, QueueEnd};
 use crate::steps::{SHUT, count, or_head};
@@ -58,7 +57,7 @@ fn read_left<const N: usize>(
 }
 
 impl<const N: usize> ClaimQueue<N> {
-    ghost use Rattle.claim_queue.specs.Handles.{view_of, first_of, IsEndOf, IsSameEnd, AreOfOneQueue};
+    ghost use Rattle.claim_queue.specs.Handles.{view_of, first_of, IsEndOf, IsOnlyEnd, IsSameEnd, AreOfOneQueue};
 
     /// Shuts the queue for claims. True where it was open.
     pub fn shut(&self, end: &mut QueueEnd<N>) -> bool
@@ -69,7 +68,7 @@ impl<const N: usize> ClaimQueue<N> {
         or_head(&self.table.shared, &mut end.seat) < SHUT
     }
 
-    /// Closes the queue where no other end stands unjoined. Else the queue and the end come back, and the number of
+    /// Closes the queue where every other end has been joined. Else the queue and the end come back, and the number of
     /// the others.
     pub fn close(
         self,
@@ -79,7 +78,8 @@ impl<const N: usize> ClaimQueue<N> {
         ensures closed { IfOk result (λ c. (c.first ≡ first_of self.entry)
             × ClosedNow (view_of end.entry) c.first c.put c.taken c.left.items) }
         ensures open { IfErr result (λ e. (e.0 ≡ self.entry) × AreOfOneQueue end.entry e.1
-            × Divided (view_of end.entry) (view_of e.1)) }
+            × WereOpen (view_of end.entry) e.2.others (view_of e.1)) }
+        ensures only { IsOnlyEnd end.entry → MatchResult result (λ c. Unit {0}) (λ e. ⊥) }
     {
         let mut end = end;
         let ends = count(&self.table.shared, &mut end.seat);

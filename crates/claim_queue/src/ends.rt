@@ -1,6 +1,7 @@
 //! The queue and its ends.
 ghost use Rattle.std.specs.Prelude.{◌≡◌, ◌+◌, ◌≤◌, ◌<◌, [], ◌++◌, IfOk};
 ghost use Rattle.claim_queue.specs.Rules.{newcomer};
+ghost use Rattle.claim_queue.specs.Claims.{KeepsClaims};
 ghost use Rattle.claim_queue.specs.Endings.{Divided, Newborn, TookIn};
 ghost use Rattle.quaject_core.specs.Listing.{Distinct};
 
@@ -26,14 +27,14 @@ pub struct QueueEnd<const N: usize> {
     pub(crate) seat: Seat<(), View>,
     ghost room: { seat.me.0.part.queue.room ≡ N },
     ghost bare: { seat.me.1 ≡ [] },
-    ghost live: { 1 ≤ seat.me.0.ends },
+    ghost one: { seat.me.0.ends ≡ 1 },
     ghost distinct: { Distinct seat.me.0.part.runs },
 }
 
 impl<const N: usize> ClaimQueue<N> {
     ghost use Rattle.claim_queue.specs.Handles.{view_of, first_of, IsEndOf, IsSameEnd, AreOfOneQueue};
 
-    /// An empty queue whose first position is `first`, and its first end.
+    /// An empty queue whose first position is `first`, and its only end.
     pub fn new(alloc: Global, first: u32) -> Result<(ClaimQueue<N>, QueueEnd<N>), OutOfMemory>
         requires { (1 ≤ N) × (N ≤ 256) }
         ensures { IfOk result (λ r. IsEndOf r.0 r.1 × (first_of r.0 ≡ first)
@@ -52,11 +53,12 @@ impl<const N: usize> ClaimQueue<N> {
         Ok((ClaimQueue { table, first }, QueueEnd { seat }))
     }
 
-    /// A new end, which owns nothing.
+    /// A new end, which owns nothing. Both ends are to be joined again before the queue can be closed.
     pub fn split(&self, end: &mut QueueEnd<N>) -> QueueEnd<N>
         requires { IsEndOf self.now end.old }
         ensures queue { IsSameEnd end.old end.new × AreOfOneQueue end.old result }
         ensures split { Divided (view_of end.old) (view_of end.new) × Newborn (view_of end.new) (view_of result) }
+        ensures claims { KeepsClaims (view_of end.old) (view_of end.new) }
     {
         count_up(&self.table.shared, &mut end.seat);
         let seat = split_off(&self.table.shared, &mut end.seat);
@@ -68,6 +70,8 @@ impl<const N: usize> ClaimQueue<N> {
         requires { IsEndOf self.now end.old × IsEndOf self.now other }
         ensures queue { IsSameEnd end.old end.new }
         ensures joined { TookIn (view_of end.old) (view_of other.entry) (view_of end.new) }
+        ensures claims { KeepsClaims (view_of end.old) (view_of end.new)
+            × KeepsClaims (view_of other.entry) (view_of end.new) }
     {
         let QueueEnd { seat } = other;
         take_in::<Brand>(&self.table.shared, &mut end.seat, seat);

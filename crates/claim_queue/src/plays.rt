@@ -15,12 +15,16 @@ impl Play<(), View> for Look {
     ghost then = { saw };
 }
 
-/// The items of a claim.
+/// The items of a claim, and the number of the end that claims.
 pub trait ClaimItems {
+    ghost call: { ℕ };
+
     ghost items: { List ℕ };
 }
 
 impl ClaimItems for Brand {
+    ghost call = { 0 };
+
     ghost items = { [] };
 }
 
@@ -29,17 +33,21 @@ pub struct Claims<J> {
 }
 
 impl<J: ClaimItems> Play<(), View> for Claims<J> {
-    ghost then = { claims J.items };
+    ghost then = { claims J.call J.items };
 }
 
-/// A place of a run: the run's start, and the place's index in it.
+/// A place of a run: the number of the end that claimed it, the run's start, and the place's index in it.
 pub trait Spot {
+    ghost call: { ℕ };
+
     ghost start: { ℕ };
 
     ghost index: { ℕ };
 }
 
 impl Spot for Brand {
+    ghost call = { 0 };
+
     ghost start = { 0 };
 
     ghost index = { 0 };
@@ -50,7 +58,7 @@ pub struct StoresData<J> {
 }
 
 impl<J: Spot> Play<(), View> for StoresData<J> {
-    ghost then = { writes J.start J.index 1 };
+    ghost then = { writes J.call J.start J.index 1 };
 }
 
 pub struct StoresFlag<J> {
@@ -58,7 +66,7 @@ pub struct StoresFlag<J> {
 }
 
 impl<J: Spot> Play<(), View> for StoresFlag<J> {
-    ghost then = { writes J.start J.index 2 };
+    ghost then = { writes J.call J.start J.index 2 };
 }
 
 pub struct Takes;

@@ -1,6 +1,6 @@
 //! The rule of the table.
 use atomic_table::TableRule;
-use quaject_core::tables::QueueView;
+use quaject_core::tables::{QueueView, Share};
 
 /// What the rule is joined when the table is made.
 #[derive(Drop)]
@@ -13,8 +13,7 @@ pub struct Shape {
 pub struct View {
     pub part: QueueView,
     pub ends: u64,
-    pub alone: bool,
-    pub wrapped: bool,
+    pub share: Share,
 }
 
 pub struct ClaimRule;

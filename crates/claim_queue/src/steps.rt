@@ -6,7 +6,7 @@ ghost use Rattle.quaject_core.specs.declared.tables.Batch.{Batch};
 ghost use Rattle.quaject_core.specs.Listing.{number_of};
 ghost use Rattle.quaject_core.specs.Positioned.{blank, head_of, tail_of, item_at, written_at};
 ghost use Rattle.claim_queue.specs.Shown.{mark};
-ghost use Rattle.claim_queue.specs.Steps.{Saw, Claimed, Wrote, Took, Closed, CountedUp, CountedDown, Tallied};
+ghost use Rattle.claim_queue.specs.Steps.{Saw, Claimed, Wrote, Took, Shut, CountedUp, CountedDown, Tallied};
 ghost use Rattle.claim_queue.specs.Steps.{rest_of, halves, both, emptied, IsSame};
 ghost use Rattle.claim_queue.specs.Answers.{Looked};
 
@@ -64,11 +64,12 @@ pub(crate) fn exchange_head<J: ClaimItems>(
 ) -> u64
     requires queue { (seat.old.table_id ≡ words.now.table_id) × (3 ≤ words.now.table_id.words) }
     requires live { 1 ≤ seat.old.me.0.ends }
+    requires call { J.call ≡ seat.old.id }
     requires items { (items.now ≡ J.items) × (0 < length items.now) }
     requires room { head + length items.now ≤ tail_of seat.old.me.0.part.queue + seat.old.me.0.part.queue.room }
     requires new { (new ≡ head + length items.now) × (new < 4294967296) }
     ensures queue { IsSame seat.old seat.new × (seat.new.me.1 ≡ seat.old.me.1) }
-    ensures hit { result ≡ head → Claimed seat.old.me.0 head J.items seat.new.me.0 }
+    ensures hit { result ≡ head → Claimed J.call seat.old.me.0 head J.items seat.new.me.0 }
     ensures miss { result ≢ head → Looked seat.old.me.0 seat.new.me.0
         × (result ≡ head_of seat.new.me.0.part.queue + mark seat.new.me.0.part.queue.shut) }
 {
@@ -87,13 +88,14 @@ pub(crate) fn store_data<J: Spot>(
 )
     requires queue { (seat.old.table_id ≡ words.now.table_id) × (words.now.table_id.words ≡ room + room + 3)
         × (0 < room) × (room ≤ 256) × (seat.old.me.0.part.queue.room ≡ room) }
+    requires call { J.call ≡ seat.old.id }
     requires spot { (J.start ≡ start) × (J.index ≡ index) × (start < 4294967296) × (index < 256) }
     requires mine { (e : Batch)
         × (get_elem? seat.old.me.0.part.runs (number_of J.start seat.old.me.0.part.runs) ≡ some e)
         × (e.start ≡ J.start) × (J.index < length e.places) × ((slice_index_or e.places J.index blank).written < 2)
         × (item ≡ (slice_index_or e.places J.index blank).item) }
     ensures queue { IsSame seat.old seat.new × (seat.new.me.1 ≡ seat.old.me.1) }
-    ensures wrote { Wrote seat.old.me.0 (number_of J.start seat.old.me.0.part.runs) J.index 1 seat.new.me.0 }
+    ensures wrote { Wrote J.call seat.old.me.0 (number_of J.start seat.old.me.0.part.runs) J.index 1 seat.new.me.0 }
 {
     let place = (start as usize + index) % room;
     words.store::<StoresData<J>>(seat, place + 3, item);
@@ -108,12 +110,13 @@ pub(crate) fn store_flag<J: Spot>(
 )
     requires queue { (seat.old.table_id ≡ words.now.table_id) × (words.now.table_id.words ≡ room + room + 3)
         × (0 < room) × (room ≤ 256) × (seat.old.me.0.part.queue.room ≡ room) }
+    requires call { J.call ≡ seat.old.id }
     requires spot { (J.start ≡ start) × (J.index ≡ index) × (start < 4294967296) × (index < 256) }
     requires mine { (e : Batch)
         × (get_elem? seat.old.me.0.part.runs (number_of J.start seat.old.me.0.part.runs) ≡ some e)
         × (e.start ≡ J.start) × (J.index < length e.places) × ((slice_index_or e.places J.index blank).written ≡ 1) }
     ensures queue { IsSame seat.old seat.new × (seat.new.me.1 ≡ seat.old.me.1) }
-    ensures wrote { Wrote seat.old.me.0 (number_of J.start seat.old.me.0.part.runs) J.index 2 seat.new.me.0 }
+    ensures wrote { Wrote J.call seat.old.me.0 (number_of J.start seat.old.me.0.part.runs) J.index 2 seat.new.me.0 }
 {
     let place = (start as usize + index) % room;
     words.store::<StoresFlag<J>>(seat, place + room + 3, start + index as u64 + 1);
@@ -166,7 +169,7 @@ pub(crate) fn exchange_tail(words: &Words, seat: &mut Seat<(), View>, tail: u64,
 pub(crate) fn or_head(words: &Words, seat: &mut Seat<(), View>) -> u64
     requires queue { (seat.old.table_id ≡ words.now.table_id) × (3 ≤ words.now.table_id.words) }
     ensures queue { IsSame seat.old seat.new × (seat.new.me.1 ≡ seat.old.me.1) }
-    ensures shut { Closed seat.old.me.0 result seat.new.me.0 }
+    ensures shut { Shut seat.old.me.0 result seat.new.me.0 }
 {
     words.fetch_or::<Shuts>(seat, HEAD, SHUT)
 }

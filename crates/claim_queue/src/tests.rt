@@ -2,6 +2,8 @@ ghost use Rattle.claim_queue.specs.Handles.{IsEndOf};
 
 use super::*;
 use arrayvec::ArrayVec;
+use quaject_core::OutOfMemory;
+use std::alloc::Global;
 use std::test::*;
 
 type Four = ClaimQueue<4>;
@@ -311,4 +313,44 @@ fn shut_over_a_claim(rt: HostRuntime) -> Result<(), Fail> {
     assert!(rt; queue.shut(&mut end));
     assert_eq!(rt; queue.try_take(&mut end), Err(TakeRefusal::Empty { at: 0 }));
     Ok(())
+}
+
+/// Where all ends are joined, the queue is closed: that no other answer comes is proved, not tried.
+fn split_and_joined(alloc: Global) -> Result<Closed<4>, OutOfMemory> {
+    let (queue, mut a) = Four::new(alloc, 7)?;
+    let b = queue.split(&mut a);
+    let c = queue.split(&mut a);
+    queue.join(&mut a, b);
+    queue.join(&mut a, c);
+    match queue.close(a) {
+        Ok(closed) => Ok(closed),
+        Err(_) => unreachable!(),
+    }
+}
+
+#[test]
+fn joined_ends_close(rt: HostRuntime) -> Result<(), Fail> {
+    let closed = split_and_joined(rt.alloc())?;
+    assert_eq!(rt;
+        (closed.first, closed.put, closed.taken, closed.left.len()),
+        (7, 0, 0, 0)
+    );
+    Ok(())
+}
+
+/// Where an allocation is refused there is no queue, and a later try makes one.
+#[test]
+fn memory_may_be_wanting(rt: HostRuntime) {
+    let mut made = false;
+    for _ in 0..3 {
+        match Four::new(rt.alloc(), 0) {
+            Ok((queue, mut end)) => {
+                assert_eq!(rt; queue.try_put(&mut end, &[1]), Ok(0));
+                assert_eq!(rt; queue.try_take(&mut end), Ok(1));
+                made = true;
+            }
+            Err(error) => assert_eq!(rt; error, OutOfMemory),
+        }
+    }
+    assert!(rt; made);
 }

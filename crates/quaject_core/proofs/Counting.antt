@@ -1,117 +1,107 @@
 -- The steps that make, split, join and count ends.
-use Rattle.std.proofs.Common.{◌≡◌, ℕ, suc, zero, ◌+◌, ◌-◌, ◌%◌, ◌<◌, ◌≤◌, ◌≢◌, ⊎_elim, Bool, true, false, List, [], ◌∷◌, ◌++◌, set, sym, refl, ap, ◌∙◌, subst, arith, true≢false}
+use Rattle.std.proofs.Common.{◌≡◌, ℕ, suc, zero, ◌+◌, ◌-◌, ◌*◌, ◌^◌, ◌%◌, ◌<◌, ◌≤◌, ◌≢◌, ⊎_elim, List, [], ◌∷◌, ◌++◌, set, sym, refl, ap, ◌∙◌, subst, arith, suc-mul}
+use Rattle.std.proofs.lemmas.Nat.{pow_pos}
 use mathlib.Core.Option.{some, some-injective, some-ne-none}
 use mathlib.Core.Logic.{dite}
-use native.Mathlib.Decide.{dec_lt}
+use native.Mathlib.Decide.{ℕ_discrete}
 use lib.ListN.{get_elem?}
-use Rattle.quaject_core.specs.Counting.{total, EndsCounted}
+use Rattle.quaject_core.specs.declared.tables.Share.{Share}
+use Rattle.quaject_core.specs.Sharing.{the_whole, nothing, half, together, IsWhole, total, weight, MakeOneWhole}
+use Rattle.quaject_core.specs.Counting.{FitsAWord, EndsCounted}
 use Rattle.quaject_core.proofs.Lists.{at_set, set_else}
 use Rattle.quaject_core.proofs.Owned.{at_push}
+use Rattle.quaject_core.proofs.Totals.{total_set, total_push, one_of, two_of, sole_total}
+use Rattle.quaject_core.proofs.Shares.{shared_same, shared_split, shared_join, shared_first, whole_alone, alone_whole}
 
-module _ {V : Type 0} (f : V → ℕ) where
-  pub total_set : (vs : List V) (j : ℕ) (v w : V) → get_elem? vs j ≡ some v → total f (set vs j w) + f v ≡ total f vs + f w
-  total_set [] j v w e = absurd (some-ne-none v (sym e))
-  total_set (x ∷ xs) zero v w e = let h : f x ≡ f v = ap f (some-injective x v e) in omega arith
-  total_set (x ∷ xs) (suc j) v w e = let h = total_set xs j v w e in omega arith
+abbrev wide : ℕ
+wide = 18446744073709551616
 
-  pub total_push : (vs : List V) (w : V) → total f (vs ++ w ∷ []) ≡ total f vs + f w
-  total_push [] w = omega arith
-  total_push (x ∷ xs) w = let h = total_push xs w in omega arith
+product_pos : (a b : ℕ) → a ≢ 0 → 1 ≤ b → 1 ≤ a * b
+product_pos zero b not more = absurd (not refl)
+product_pos (suc a) b not more = let e : suc a * b ≡ a * b + b = suc-mul a b in omega arith
 
-  pub one_of : (vs : List V) (j : ℕ) (v : V) → get_elem? vs j ≡ some v → f v ≤ total f vs
-  one_of [] j v e = absurd (some-ne-none v (sym e))
-  one_of (x ∷ xs) zero v e = let h : f x ≡ f v = ap f (some-injective x v e) in omega arith
-  one_of (x ∷ xs) (suc j) v e = let h = one_of xs j v e in omega arith
+-- A view w in place of one: `spent` and `lives` hold of all others as before
+module _ {V : Type 0} (f : V → ℕ) (share : V → Share) (P : V → Type 0) where
+  abbrev Spent : V → Type 0
+  Spent v = f v ≡ 0 → ((share v).parts ≡ 0) × P v
 
-  pub two_of : (vs : List V) (i j : ℕ) (v w : V) → get_elem? vs i ≡ some v → get_elem? vs j ≡ some w → i ≢ j → f v + f w ≤ total f vs
-  two_of [] i j v w e d n = absurd (some-ne-none v (sym e))
-  two_of (x ∷ xs) zero zero v w e d n = absurd (n refl)
-  two_of (x ∷ xs) zero (suc j) v w e d n = let h : f x ≡ f v = ap f (some-injective x v e) in let g = one_of xs j w d in omega arith
-  two_of (x ∷ xs) (suc i) zero v w e d n = let h : f x ≡ f w = ap f (some-injective x w d) in let g = one_of xs i v e in omega arith
-  two_of (x ∷ xs) (suc i) (suc j) v w e d n = let h = two_of xs i j v w e d (λ z. n (ap suc z)) in omega arith
+  abbrev Lives : V → Type 0
+  Lives v = f v ≢ 0 → (share v).parts ≢ 0
 
-module _ {V : Type 0} (f : V → ℕ) (g : V → Bool) (P : V → Type 0) where
-  idle_set : (vs : List V) (j : ℕ) (w : V) → ((i : ℕ) (u : V) → get_elem? vs i ≡ some u → f u ≡ 0 → P u) → (f w ≡ 0 → P w) → (i : ℕ) (u : V) → get_elem? (set vs j w) i ≡ some u → f u ≡ 0 → P u
-  idle_set vs j w old mine i u has none = ⊎_elim (λ e. subst P e.1 (mine (ap f e.1 ∙ none))) (λ e. old i u e.1 none) (at_set vs j i w u has)
+  all_set : (Q : V → Type 0) (vs : List V) (j : ℕ) (w : V) → ((i : ℕ) (u : V) → get_elem? vs i ≡ some u → Q u) → Q w → (i : ℕ) (u : V) → get_elem? (set vs j w) i ≡ some u → Q u
+  all_set Q vs j w old mine i u has = ⊎_elim (λ e. subst Q e.1 mine) (λ e. old i u e.1) (at_set vs j i w u has)
 
-  no_other : (n : ℕ) (vs : List V) (j i : ℕ) (v u : V) → EndsCounted f g P n vs → get_elem? vs j ≡ some v → 1 ≤ f v → get_elem? vs i ≡ some u → i ≢ j → g u ≡ true → ⊥
-  no_other n vs j i v u c at some_end other ne is = let a = c.alone i u other is in let t = two_of f vs i j u v other at ne in let x = a.1 in let y = a.2 in omega arith
+  all_push : (Q : V → Type 0) (vs : List V) (w : V) → ((i : ℕ) (u : V) → get_elem? vs i ≡ some u → Q u) → Q w → (i : ℕ) (u : V) → get_elem? (vs ++ w ∷ []) i ≡ some u → Q u
+  all_push Q vs w old mine i u has = ⊎_elim (λ e. old i u e) (λ e. subst Q e.1 mine) (at_push vs w u i has)
 
-  pub counted_look : (n : ℕ) (vs : List V) (j : ℕ) (v w : V) → EndsCounted f g P n vs → get_elem? vs j ≡ some v → f w ≡ f v → (g w ≡ true → g v ≡ true) → (f w ≡ 0 → P v → P w) → EndsCounted f g P n (set vs j w)
-  counted_look n vs j v w c at same less still = let t = total_set f vs j v w at in record {
-    wrapped = c.wrapped;
-    sum = λ h. let s = c.sum h in omega arith;
-    alone = λ i u has is. ⊎_elim
-        (λ e. let a = c.alone j v at (less (ap g e.1 ∙ is)) in let x = a.1 in let y = a.2 in let z : f w ≡ f u = ap f e.1 in (a.0, omega arith, omega arith))
-        (λ e. let a = c.alone i u e.1 is in let x = a.1 in (a.0, omega arith, a.2))
-        (at_set vs j i w u has);
-    idle = idle_set vs j w c.idle (λ h. still h (c.idle j v at (omega arith)));
+  pub counted_look : (n : ℕ) (vs : List V) (j : ℕ) (v w : V) → EndsCounted f share P n vs → get_elem? vs j ≡ some v → f w ≡ f v → share w ≡ share v → (f w ≡ 0 → P v → P w) → EndsCounted f share P n (set vs j w)
+  counted_look n vs j v w c at same shares still = let t = total_set f vs j v w at in let x : (share w).parts ≡ (share v).parts = ap (λ (z : Share). z.parts) shares in record {
+    counted = let s = c.counted in let e : total f (set vs j w) ≡ total f vs = omega arith in ap (λ (z : ℕ). z % wide) e ∙ s;
+    shared = shared_same share vs j v w c.shared at shares;
+    spent = all_set Spent vs j w c.spent (λ h. let y = c.spent j v at (sym same ∙ h) in (x ∙ y.0, still h y.1));
+    lives = all_set Lives vs j w c.lives (λ h z. c.lives j v at (λ e. h (same ∙ e)) (sym x ∙ z));
   }
 
-  -- the count is loaded: the end is alone where it found 1, unless the ends were ever too many
-  pub counted_alone : (n : ℕ) (vs : List V) (j : ℕ) (v w : V) → (c : EndsCounted f g P n vs) → get_elem? vs j ≡ some v → f w ≡ f v → 1 ≤ f v → c.wrapped ≡ false → n ≡ 1 → EndsCounted f g P n (set vs j w)
-  counted_alone n vs j v w c at same some_end few one = let t = total_set f vs j v w at in let s = c.sum few in let o = one_of f vs j v at in record {
-    wrapped = c.wrapped;
-    sum = λ h. omega arith;
-    alone = λ i u has is. ⊎_elim (λ e. let z : f w ≡ f u = ap f e.1 in (few, omega arith, omega arith)) (λ e. let a = c.alone i u e.1 is in (a.0, omega arith, a.2)) (at_set vs j i w u has);
-    idle = idle_set vs j w c.idle (λ h. absurd (omega arith));
+  -- one more or one less, of a live end
+  changed : (n m : ℕ) (vs : List V) (j : ℕ) (v w : V) → EndsCounted f share P n vs → get_elem? vs j ≡ some v → 1 ≤ f v → 1 ≤ f w → share w ≡ share v → total f (set vs j w) % wide ≡ m → EndsCounted f share P m (set vs j w)
+  changed n m vs j v w c at some_end some_end' shares is = let x : (share w).parts ≡ (share v).parts = ap (λ (z : Share). z.parts) shares in record {
+    counted = is;
+    shared = shared_same share vs j v w c.shared at shares;
+    spent = all_set Spent vs j w c.spent (λ h. absurd (omega arith));
+    lives = all_set Lives vs j w c.lives (λ h z. c.lives j v at (λ e. omega arith) (sym x ∙ z));
   }
 
-  pub counted_up : (n : ℕ) (vs : List V) (j : ℕ) (v w : V) → EndsCounted f g P n vs → get_elem? vs j ≡ some v → 1 ≤ f v → f w ≡ f v + 1 → g w ≡ false → EndsCounted f g P ((n + 1) % 18446744073709551616) (set vs j w)
-  counted_up n vs j v w c at some_end more not = let t = total_set f vs j v w at in
-      let lonely : (x : Bool) (i : ℕ) (u : V) → get_elem? (set vs j w) i ≡ some u → g u ≡ true → (x ≡ false) × (total f (set vs j w) ≡ 1) × (f u ≡ 1) = λ x i u has is.
-      ⊎_elim (λ e. absurd (true≢false (sym is ∙ (sym (ap g e.1) ∙ not)))) (λ e. absurd (no_other n vs j i v u c at some_end e.1 e.0 is)) (at_set vs j i w u has) in
-      dite (dec_lt (n + 1) 18446744073709551616)
-      (λ few. record { wrapped = c.wrapped; sum = λ h. let s = c.sum h in omega arith; alone = lonely c.wrapped; idle = idle_set vs j w c.idle (λ h. absurd (omega arith)) })
-      (λ many. record { wrapped = true; sum = λ h. absurd (true≢false h); alone = lonely true; idle = idle_set vs j w c.idle (λ h. absurd (omega arith)) })
+  pub counted_up : (n : ℕ) (vs : List V) (j : ℕ) (v w : V) → EndsCounted f share P n vs → get_elem? vs j ≡ some v → 1 ≤ f v → f w ≡ f v + 1 → share w ≡ share v → EndsCounted f share P ((n + 1) % 18446744073709551616) (set vs j w)
+  counted_up n vs j v w c at some_end more shares = let t = total_set f vs j v w at in let s = c.counted in changed n ((n + 1) % wide) vs j v w c at some_end (omega arith) shares (omega arith)
 
-  pub counted_down : (n : ℕ) (vs : List V) (j : ℕ) (v w : V) → EndsCounted f g P n vs → n < 18446744073709551616 → get_elem? vs j ≡ some v → 1 ≤ f w → f v ≡ f w + 1 → g w ≡ false → EndsCounted f g P ((n + (18446744073709551616 - 1)) % 18446744073709551616) (set vs j w)
-  counted_down n vs j v w c fits at some_end less not = let t = total_set f vs j v w at in let o = one_of f vs j v at in record {
-    wrapped = c.wrapped;
-    sum = λ h. let s = c.sum h in omega arith;
-    alone = λ i u has is. ⊎_elim (λ e. absurd (true≢false (sym is ∙ (sym (ap g e.1) ∙ not)))) (λ e. absurd (no_other n vs j i v u c at (omega arith) e.1 e.0 is)) (at_set vs j i w u has);
-    idle = idle_set vs j w c.idle (λ h. absurd (omega arith));
-  }
+  pub counted_down : (n : ℕ) (vs : List V) (j : ℕ) (v w : V) → EndsCounted f share P n vs → get_elem? vs j ≡ some v → 1 ≤ f w → f v ≡ f w + 1 → share w ≡ share v → EndsCounted f share P ((n + (18446744073709551616 - 1)) % 18446744073709551616) (set vs j w)
+  counted_down n vs j v w c at some_end less shares = let t = total_set f vs j v w at in let o = one_of f vs j v at in let s = c.counted in changed n ((n + (wide - 1)) % wide) vs j v w c at (omega arith) some_end shares (omega arith)
 
-  pub counted_split : (n : ℕ) (vs : List V) (j : ℕ) (v left right : V) → EndsCounted f g P n vs → get_elem? vs j ≡ some v → 1 ≤ f left → 1 ≤ f right → f v ≡ f left + f right → g left ≡ false → g right ≡ false → EndsCounted f g P n (set vs j left ++ right ∷ [])
-  counted_split n vs j v left right c at some_end other_end two not not' = let t = total_set f vs j v left at in let p = total_push f (set vs j left) right in record {
-    wrapped = c.wrapped;
-    sum = λ h. let s = c.sum h in omega arith;
-    alone = λ i u has is. ⊎_elim
-        (λ old. ⊎_elim (λ e. absurd (true≢false (sym is ∙ (sym (ap g e.1) ∙ not)))) (λ e. absurd (no_other n vs j i v u c at (omega arith) e.1 e.0 is)) (at_set vs j i left u old))
-        (λ new. absurd (true≢false (sym is ∙ (sym (ap g new.1) ∙ not'))))
-        (at_push (set vs j left) right u i has);
-    idle = λ i u has none. ⊎_elim (λ old. idle_set vs j left c.idle (λ h. absurd (omega arith)) i u old none) (λ new. let e : f right ≡ f u = ap f new.1 in absurd (omega arith)) (at_push (set vs j left) right u i has);
-  }
-
-  pub counted_join : (n : ℕ) (vs : List V) (j k : ℕ) (v u both spent : V) → EndsCounted f g P n vs → get_elem? vs j ≡ some v → get_elem? vs k ≡ some u → k ≢ j → 1 ≤ f v → 1 ≤ f u → f both ≡ f v + f u → f spent ≡ 0 → g both ≡ false → g spent ≡ false → P spent
-      → EndsCounted f g P n (set (set vs j both) k spent)
-  counted_join n vs j k v u both spent c at at' ne some_end other_end sum none not not' nothing = let t = total_set f vs j v both at in
-      let at'' : get_elem? (set vs j both) k ≡ some u = set_else vs j k both ne ∙ at' in let t' = total_set f (set vs j both) k u spent at'' in record {
-        wrapped = c.wrapped;
-        sum = λ h. let s = c.sum h in omega arith;
-        alone = λ i x has is. ⊎_elim (λ e. absurd (true≢false (sym is ∙ (sym (ap g e.1) ∙ not'))))
-            (λ e. ⊎_elim (λ d. absurd (true≢false (sym is ∙ (sym (ap g d.1) ∙ not)))) (λ d. absurd (no_other n vs j i v x c at some_end d.1 d.0 is)) (at_set vs j i both x e.1))
-            (at_set (set vs j both) k i spent x has);
-        idle = idle_set (set vs j both) k spent (idle_set vs j both c.idle (λ h. absurd (omega arith))) (λ _. nothing);
+  pub counted_split : (n : ℕ) (vs : List V) (j : ℕ) (v left right : V) → EndsCounted f share P n vs → get_elem? vs j ≡ some v → 1 ≤ f left → 1 ≤ f right → f v ≡ f left + f right → share left ≡ half (share v) → share right ≡ half (share v)
+      → EndsCounted f share P n (set vs j left ++ right ∷ [])
+  counted_split n vs j v left right c at some_end other_end two is is' = let t = total_set f vs j v left at in let p = total_push f (set vs j left) right in
+      let live : (share v).parts ≢ 0 = c.lives j v at (λ e. omega arith) in let x : (share left).parts ≡ (share v).parts = ap (λ (z : Share). z.parts) is in let y : (share right).parts ≡ (share v).parts = ap (λ (z : Share). z.parts) is' in record {
+        counted = let e : total f (set vs j left ++ right ∷ []) ≡ total f vs = omega arith in ap (λ (z : ℕ). z % wide) e ∙ c.counted;
+        shared = shared_split share vs j v left right c.shared at is is';
+        spent = all_push Spent (set vs j left) right (all_set Spent vs j left c.spent (λ h. absurd (omega arith))) (λ h. absurd (omega arith));
+        lives = all_push Lives (set vs j left) right (all_set Lives vs j left c.lives (λ _ z. live (sym x ∙ z))) (λ _ z. live (sym y ∙ z));
       }
 
-  first_not : (w : V) (i : ℕ) (u : V) → get_elem? (w ∷ []) i ≡ some u → g u ≡ true → g w ≡ false → ⊥
-  first_not w zero u has is not = true≢false (sym is ∙ (sym (ap g (some-injective w u has)) ∙ not))
-  first_not w (suc i) u has is not = some-ne-none u (sym has)
+  pub counted_join : (n : ℕ) (vs : List V) (j k : ℕ) (v u both spent : V) → EndsCounted f share P n vs → get_elem? vs j ≡ some v → get_elem? vs k ≡ some u → k ≢ j → 1 ≤ f v → 1 ≤ f u → f both ≡ f v + f u → f spent ≡ 0
+      → share both ≡ together (share v) (share u) → share spent ≡ nothing → P spent → EndsCounted f share P n (set (set vs j both) k spent)
+  counted_join n vs j k v u both spent c at at' ne some_end other_end sum none is is' idle = let t = total_set f vs j v both at in
+      let at'' : get_elem? (set vs j both) k ≡ some u = set_else vs j k both ne ∙ at' in let t' = total_set f (set vs j both) k u spent at'' in
+      let live : (share v).parts ≢ 0 = c.lives j v at (λ e. omega arith) in let x : (share both).parts ≡ (share v).parts * 2 ^ (share u).halvings + (share u).parts * 2 ^ (share v).halvings = ap (λ (z : Share). z.parts) is in
+      let more : 1 ≤ (share v).parts * 2 ^ (share u).halvings = product_pos (share v).parts (2 ^ (share u).halvings) live (pow_pos (share u).halvings) in record {
+        counted = let e : total f (set (set vs j both) k spent) ≡ total f vs = omega arith in ap (λ (z : ℕ). z % wide) e ∙ c.counted;
+        shared = shared_join share vs j k v u both spent c.shared at at' ne is is';
+        spent = all_set Spent (set vs j both) k spent (all_set Spent vs j both c.spent (λ h. absurd (omega arith))) (λ _. (ap (λ (z : Share). z.parts) is', idle));
+        lives = all_set Lives (set vs j both) k spent (all_set Lives vs j both c.lives (λ _ z. omega arith)) (λ h. absurd (h none));
+      }
 
-  first_idle : (w : V) → f w ≡ 1 → (i : ℕ) (u : V) → get_elem? (w ∷ []) i ≡ some u → f u ≡ 0 → P u
-  first_idle w one zero u has none = let e : f w ≡ f u = ap f (some-injective w u has) in absurd (omega arith)
-  first_idle w one (suc i) u has none = absurd (some-ne-none u (sym has))
+  only : (Q : V → Type 0) (w : V) → Q w → (i : ℕ) (u : V) → get_elem? (w ∷ []) i ≡ some u → Q u
+  only Q w mine zero u has = subst Q (some-injective w u has) mine
+  only Q w mine (suc i) u has = absurd (some-ne-none u (sym has))
 
-  pub counted_first : (w : V) → f w ≡ 1 → g w ≡ false → EndsCounted f g P 1 (w ∷ [])
-  counted_first w one not = record {
-    wrapped = false;
-    sum = λ h. omega arith;
-    alone = λ i u has is. absurd (first_not w i u has is not);
-    idle = first_idle w one;
+  pub counted_first : (w : V) → f w ≡ 1 → share w ≡ the_whole → EndsCounted f share P 1 (w ∷ [])
+  counted_first w one is = let x : (share w).parts ≡ 1 = ap (λ (z : Share). z.parts) is in record {
+    counted = let e : total f (w ∷ []) ≡ 1 = omega arith in ap (λ (z : ℕ). z % wide) e;
+    shared = shared_first share w is;
+    spent = only Spent w (λ h. absurd (omega arith));
+    lives = only Lives w (λ _ z. omega arith);
   }
 
-  -- beside an end that is alone, all are spent
-  pub others_idle : (n : ℕ) (vs : List V) (j : ℕ) (v : V) → EndsCounted f g P n vs → get_elem? vs j ≡ some v → g v ≡ true → (i : ℕ) (u : V) → get_elem? vs i ≡ some u → i ≢ j → P u
-  others_idle n vs j v c at is i u has ne = let a = c.alone j v at is in let t = two_of f vs i j u v has at ne in let x = a.1 in let y = a.2 in c.idle i u has (omega arith)
+  -- beside an end with the whole, no end stands
+  no_end : (n : ℕ) (vs : List V) (j : ℕ) (v : V) → EndsCounted f share P n vs → get_elem? vs j ≡ some v → IsWhole (share v) → (i : ℕ) (u : V) → get_elem? vs i ≡ some u → i ≢ j → f u ≡ 0
+  no_end n vs j v c at whole i u has ne = let none = whole_alone share vs j i v u c.shared at whole has ne in dite (ℕ_discrete (f u) 0) (λ e. e) (λ some. absurd (c.lives i u has some none))
+
+  -- beside an end with the whole, each end is spent
+  pub others_idle : (n : ℕ) (vs : List V) (j : ℕ) (v : V) → EndsCounted f share P n vs → get_elem? vs j ≡ some v → IsWhole (share v) → (i : ℕ) (u : V) → get_elem? vs i ≡ some u → i ≢ j → P u
+  others_idle n vs j v c at whole i u has ne = (c.spent i u has (no_end n vs j v c at whole i u has ne)).1
+
+  -- an end with the whole is the only one, and the only one of fewer than 2^64 has the whole
+  pub whole_is_one : (n : ℕ) (vs : List V) (j : ℕ) (v : V) → EndsCounted f share P n vs → get_elem? vs j ≡ some v → f v ≡ 1 → IsWhole (share v) → total f vs ≡ 1
+  whole_is_one n vs j v c at one whole = sole_total f vs j v at (λ i u has ne. no_end n vs j v c at whole i u has ne) ∙ one
+
+  pub one_is_whole : (n : ℕ) (vs : List V) (j : ℕ) (v : V) → EndsCounted f share P n vs → get_elem? vs j ≡ some v → 1 ≤ f v → total f vs ≡ 1 → IsWhole (share v)
+  one_is_whole n vs j v c at some_end one = alone_whole share vs j v c.shared at (λ i u has ne. let t = two_of f vs i j u v has at ne in (c.spent i u has (omega arith)).0)

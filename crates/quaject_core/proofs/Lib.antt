@@ -30,8 +30,10 @@ pub mod Positioned
 pub mod QueueEvents
 pub mod QueueOf
 pub mod QueueSteps
+pub mod Seeing
 pub mod Shares
 pub mod Steps
 pub mod Stores
 pub mod ThreadLaws
+pub mod Totals
 pub mod Windows

@@ -13,6 +13,7 @@ use Rattle.quaject_core.specs.declared.tables.QueueView.{QueueView}
 use Rattle.quaject_core.specs.Positioned.{blank, place_at, item_at, written_at, Lawful, Grows, fresh, with_claim, with_write, with_take, with_shut, head_of, tail_of}
 use Rattle.quaject_core.specs.Filing.{Owned, ListedOnce, moved, sole}
 use Rattle.quaject_core.specs.Listing.{all_places, runs_of, takes_of, written_to, Later, ViewsShow, Distinct, number_of}
+use Rattle.quaject_core.specs.Seeing.{Stands}
 use Rattle.quaject_core.proofs.Lists.{at_set, set_again, at_map}
 use Rattle.quaject_core.proofs.Owned.{at_push, one_at, at_map_back, file_first, file_push, file_set, file_new, file_join, file_sole}
 use Rattle.quaject_core.proofs.Positioned.{grows_refl, grows_trans, claim_grows, write_grows, take_grows, shut_grows}
@@ -27,7 +28,7 @@ pub same_lists_of : {A : Type 0} (f : QueueView → A) (parts : List QueueView) 
 same_lists_of f parts j v w at e = map-set f parts j w ∙ (ap (set (map f parts) j) e ∙ set_again (map f parts) j (f v) (at_map f parts j v at))
 
 -- a step that is no event
-pub listed_look : (q : Positions) (parts : List QueueView) (j : ℕ) (v w : QueueView) → ViewsShow q parts → get_elem? parts j ≡ some v → w.runs ≡ v.runs → w.takes ≡ v.takes → Later w q → ViewsShow q (set parts j w)
+unfoldable pub listed_look : (q : Positions) (parts : List QueueView) (j : ℕ) (v w : QueueView) → ViewsShow q parts → get_elem? parts j ≡ some v → w.runs ≡ v.runs → w.takes ≡ v.takes → Later w q → ViewsShow q (set parts j w)
 listed_look q parts j v w l at runs takes grown = record {
   runs = l.runs;
   takes = l.takes;
@@ -58,14 +59,8 @@ listed_claim q parts j v w xs l at behind some_items runs takes grown =
       seen = seen_on q (with_claim q xs) parts j w l.seen (claim_grows q xs) grown;
     }
 
--- a run of a view, in the queue
-pub record Standing (q : Positions) (e : Batch) : Type 0 where
-  pub at : ℕ
-  pub start : e.start ≡ q.first + at
-  pub within : at + length e.places ≤ length q.places
-  pub same : (i : ℕ) → i < length e.places → place_at q (at + i) ≡ get_or e.places i blank
-
-pub run_stands : (q : Positions) (parts : List QueueView) (j m : ℕ) (v : QueueView) (e : Batch) → ViewsShow q parts → get_elem? parts j ≡ some v → get_elem? v.runs m ≡ some e → Standing q e
+-- a run of a view stands in the queue
+pub run_stands : (q : Positions) (parts : List QueueView) (j m : ℕ) (v : QueueView) (e : Batch) → ViewsShow q parts → get_elem? parts j ≡ some v → get_elem? v.runs m ≡ some e → Stands q e
 run_stands q parts j m v e l at has = let r = l.runs_filed.listed j v.runs m e (at_map runs_of parts j v at) has in let s = lies q.first l.runs r.0 (j, m, e) l.runs_chained r.1 in record {
   at = s.at;
   start = s.start;
@@ -82,7 +77,7 @@ pub record Own (q : Positions) (e : Batch) (i : ℕ) : Type 0 where
   pub to : at < q.taken + q.room
   pub same : place_at q at ≡ get_or e.places i blank
 
-pub own : (q : Positions) (e : Batch) (i : ℕ) → Lawful q → Standing q e → i < length e.places → (get_or e.places i blank).written < 2 → Own q e i
+pub own : (q : Positions) (e : Batch) (i : ℕ) → Lawful q → Stands q e → i < length e.places → (get_or e.places i blank).written < 2 → Own q e i
 own q e i l s below low = let st = s.start in let w = s.within in let same = s.same i below in let n : written_at q (s.at + i) ≡ (get_or e.places i blank).written = ap (λ (z : Entry). z.written) same in let within = l.within in
     let from : q.taken ≤ s.at + i = dite (dec_lt (s.at + i) q.taken) (λ y. let r = l.ready (s.at + i) y in absurd (omega arith)) (λ no. omega arith) in
     record { at = s.at + i; start = omega arith; from = from; below = omega arith; to = omega arith; same = same }
@@ -107,13 +102,13 @@ listed_write q parts j m i n p v w e l at has below is ahead more runs takes gro
       seen = seen_on q (with_write q p n) parts j w l.seen (write_grows q p n (omega arith) more) grown;
     }
 
-take_on : (n m : ℕ) (l : List Entry) → take (n + m) l ≡ take n l ++ take m (drop n l)
+pub take_on : (n m : ℕ) (l : List Entry) → take (n + m) l ≡ take n l ++ take m (drop n l)
 take_on zero m l = let e : 0 + m ≡ m = omega arith in ap (λ (z : ℕ). take z l) e
 take_on (suc n) zero [] = let e : suc n + 0 ≡ suc n = omega arith in ap (λ (z : ℕ). take {A = Entry} z []) e
 take_on (suc n) (suc m) [] = let e : suc n + suc m ≡ suc (n + suc m) = omega arith in ap (λ (z : ℕ). take {A = Entry} z []) e
 take_on (suc n) m (x ∷ xs) = let e : suc n + m ≡ suc (n + m) = omega arith in ap (λ (z : ℕ). take z (x ∷ xs)) e ∙ ap (λ (z : List Entry). x ∷ z) (take_on n m xs)
 
-pub listed_take : (q : Positions) (parts : List QueueView) (j n : ℕ) (v w : QueueView) → ViewsShow q parts → get_elem? parts j ≡ some v → q.taken ≤ length q.places
+unfoldable pub listed_take : (q : Positions) (parts : List QueueView) (j n : ℕ) (v w : QueueView) → ViewsShow q parts → get_elem? parts j ≡ some v → q.taken ≤ length q.places
     → w.takes ≡ v.takes ++ record { start = tail_of q; places = take n (drop q.taken q.places) } ∷ [] → w.runs ≡ v.runs → Later w (with_take q n) → ViewsShow (with_take q n) (set parts j w)
 listed_take q parts j n v w l at behind takes runs grown =
     let e : Batch = record { start = tail_of q; places = take n (drop q.taken q.places) } in let o : Owned Batch = (j, length v.takes, e) in
@@ -130,7 +125,7 @@ listed_take q parts j n v w l at behind takes runs grown =
       seen = seen_on q (with_take q n) parts j w l.seen (take_grows q n) grown;
     }
 
-pub listed_shut : (q : Positions) (parts : List QueueView) (j : ℕ) (v w : QueueView) → ViewsShow q parts → get_elem? parts j ≡ some v → w.runs ≡ v.runs → w.takes ≡ v.takes → Later w (with_shut q) → ViewsShow (with_shut q) (set parts j w)
+unfoldable pub listed_shut : (q : Positions) (parts : List QueueView) (j : ℕ) (v w : QueueView) → ViewsShow q parts → get_elem? parts j ≡ some v → w.runs ≡ v.runs → w.takes ≡ v.takes → Later w (with_shut q) → ViewsShow (with_shut q) (set parts j w)
 listed_shut q parts j v w l at runs takes grown = record {
   runs = l.runs;
   takes = l.takes;
@@ -144,7 +139,7 @@ listed_shut q parts j v w l at runs takes grown = record {
   seen = seen_on q (with_shut q) parts j w l.seen (shut_grows q) grown;
 }
 
-pub listed_new : (q : Positions) (parts : List QueueView) (w : QueueView) → ViewsShow q parts → w.runs ≡ [] → w.takes ≡ [] → Later w q → ViewsShow q (parts ++ w ∷ [])
+unfoldable pub listed_new : (q : Positions) (parts : List QueueView) (w : QueueView) → ViewsShow q parts → w.runs ≡ [] → w.takes ≡ [] → Later w q → ViewsShow q (parts ++ w ∷ [])
 listed_new q parts w l runs takes grown = record {
   runs = l.runs;
   takes = l.takes;
@@ -159,7 +154,7 @@ listed_new q parts w l runs takes grown = record {
 }
 
 -- the part of d goes to c
-pub listed_join : (q : Positions) (parts : List QueueView) (c d : ℕ) (a b both spent : QueueView) → ViewsShow q parts → get_elem? parts c ≡ some a → get_elem? parts d ≡ some b → d ≢ c
+unfoldable pub listed_join : (q : Positions) (parts : List QueueView) (c d : ℕ) (a b both spent : QueueView) → ViewsShow q parts → get_elem? parts c ≡ some a → get_elem? parts d ≡ some b → d ≢ c
     → both.runs ≡ a.runs ++ b.runs → both.takes ≡ a.takes ++ b.takes → spent.runs ≡ [] → spent.takes ≡ [] → Later both q → Later spent q → ViewsShow q (set (set parts c both) d spent)
 listed_join q parts c d a b both spent l at_c at_d apart runs takes no_runs no_takes grown grown' =
     let two : (f : QueueView → List Batch) (x y : List Batch) → f both ≡ x → f spent ≡ y → set (set (map f parts) c x) d y ≡ map f (set (set parts c both) d spent) =

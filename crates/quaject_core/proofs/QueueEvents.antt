@@ -17,7 +17,7 @@ use Rattle.quaject_core.specs.declared.tables.QueueView.{QueueView}
 use Rattle.quaject_core.specs.Runs.{Run, pairs}
 use Rattle.quaject_core.specs.Queues.{Queue, left, left_pairs, is_raised, first_are_raised, after_claim, after_raise, after_take, claim, raise, raise_of, take_first, join_queue, join_run}
 use Rattle.quaject_core.specs.Marks.{shut}
-use Rattle.quaject_core.specs.Positioned.{blank, item_of, written_at, head_of, Lawful, fresh, with_claim, with_write, with_take, with_shut}
+use Rattle.quaject_core.specs.Positioned.{blank, item_of, written_at, head_of, tail_of, Lawful, fresh, with_claim, with_write, with_take, with_shut}
 use Rattle.quaject_core.specs.Filing.{Owned, moved}
 use Rattle.quaject_core.specs.Listing.{all_places, ViewsShow, Later, written_to, runs_of}
 use Rattle.quaject_core.specs.QueueOf.{run_in, is_up, up_in, queue_of, IsHistory, IsEvent, no_event}
@@ -26,7 +26,7 @@ use Rattle.quaject_core.proofs.Histories.{same_set}
 use Rattle.quaject_core.proofs.Leaving.{fresh_items, same_items}
 use Rattle.quaject_core.proofs.Positioned.{fresh_written}
 use Rattle.quaject_core.proofs.Logs.{moved_entry}
-use Rattle.quaject_core.proofs.Listing.{listed_claim, listed_write}
+use Rattle.quaject_core.proofs.Listing.{listed_claim, listed_write, listed_take, listed_shut}
 use Rattle.quaject_core.proofs.QueueOf.{Log, up_of, all_up, list_all_mapped, left_long, is_lawful_queue}
 
 pub history_of : (q : Positions) (parts : List QueueView) (l : ViewsShow q parts) → IsHistory q l.runs
@@ -53,7 +53,7 @@ claimed_is q runs j n xs = let e : Batch = record { start = head_of q; places = 
     (up_more runs o (λ i. not_up (get_or (map fresh xs) i blank) (let w = fresh_written xs i in omega arith))) in
     ap₂ (λ (x : List Run) (y : ℕ → ℕ → Bool). let z : Queue = record { history = x; raised = y; taken = q.taken; capacity = q.room; shut = q.shut } in z) h s
 
-claim_goes : (longest call : ℕ) (items : List ℕ) (q : Queue) → 0 < length items → length items ≤ longest → q.shut ≡ false → length (left q) + length items ≤ q.capacity
+pub claim_goes : (longest call : ℕ) (items : List ℕ) (q : Queue) → 0 < length items → length items ≤ longest → q.shut ≡ false → length (left q) + length items ≤ q.capacity
     → claim longest call items q ≡ Ok (after_claim call items q)
 claim_goes longest call items q some_items short is_open room =
     let a : eqb (length items) 0 ≡ false = grind (arith, nat_tests) in
@@ -63,29 +63,29 @@ claim_goes longest call items q some_items short is_open room =
 
 pub claim_event : (q : Positions) (parts : List QueueView) (j : ℕ) (v w : QueueView) (xs : List ℕ) → ViewsShow q parts → get_elem? parts j ≡ some v → Lawful q → 0 < length xs → length q.places + length xs ≤ q.taken + q.room → q.shut ≡ false
     → w.runs ≡ v.runs ++ record { start = head_of q; places = map fresh xs } ∷ [] → w.takes ≡ v.takes → Later w (with_claim q xs)
-    → IsEvent q (with_claim q xs) (claim q.room j xs)
+    → IsEvent q (with_claim q xs) j v w (claim q.room j xs)
 unfolding listed_claim
 claim_event q parts j v w xs l at lawful some_items room is_open runs takes grown =
     let l' = listed_claim q parts j v w xs l at lawful.behind some_items runs takes grown in let n = left_long q l.runs l.runs_flat in let behind = lawful.behind in record {
-      runs = l.runs;
-      new_runs = l'.runs;
-      history = history_of q parts l;
-      new_history = history_of (with_claim q xs) (set parts j w) l';
+      views = parts;
+      here = at;
+      shown = l;
+      new_shown = l';
       lawful = is_lawful_queue q l.runs lawful (history_of q parts l);
       made = claim_goes q.room j xs (queue_of q l.runs) some_items (omega arith) is_open (omega arith) ∙ ap Ok (claimed_is q l.runs j (length v.runs) xs);
     }
 
-got : {A : Type 0} (l : List A) (k : ℕ) (a : A) → get_elem? l k ≡ some a → slice_get l k ≡ Some a
+pub got : {A : Type 0} (l : List A) (k : ℕ) (a : A) → get_elem? l k ≡ some a → slice_get l k ≡ Some a
 got [] k a e = absurd (some-ne-none a (sym e))
 got (x ∷ xs) zero a e = ap Some (some-injective x a e)
 got (x ∷ xs) (suc k) a e = got xs k a e
 
-set_got : {A : Type 0} (l : List A) (k : ℕ) (a b : A) → get_elem? l k ≡ some a → slice_get (set l k b) k ≡ Some b
+pub set_got : {A : Type 0} (l : List A) (k : ℕ) (a b : A) → get_elem? l k ≡ some a → slice_get (set l k b) k ≡ Some b
 set_got [] k a b e = absurd (some-ne-none a (sym e))
 set_got (x ∷ xs) zero a b e = refl
 set_got (x ∷ xs) (suc k) a b e = set_got xs k a b e
 
-set_other : {A : Type 0} (l : List A) (k r : ℕ) (b : A) → r ≢ k → slice_get (set l k b) r ≡ slice_get l r
+pub set_other : {A : Type 0} (l : List A) (k r : ℕ) (b : A) → r ≢ k → slice_get (set l k b) r ≡ slice_get l r
 set_other [] k r b n = refl
 set_other (x ∷ xs) zero zero b n = absurd (n refl)
 set_other (x ∷ xs) zero (suc r) b n = refl
@@ -152,31 +152,48 @@ module _ (runs : Log) (k j m i : ℕ) (e : Batch) (at : get_elem? runs k ≡ som
 abbrev pub run_number : (q : Positions) (parts : List QueueView) (j m : ℕ) (v : QueueView) (e : Batch) → ViewsShow q parts → get_elem? parts j ≡ some v → get_elem? v.runs m ≡ some e → ℕ
 run_number q parts j m v e l at has = (l.runs_filed.listed j v.runs m e (at_map runs_of parts j v at) has).0
 
+pub run_is : (q : Positions) (parts : List QueueView) (j m : ℕ) (v : QueueView) (e : Batch) (l : ViewsShow q parts) (at : get_elem? parts j ≡ some v) (has : get_elem? v.runs m ≡ some e) → get_elem? l.runs (run_number q parts j m v e l at has) ≡ some (j, m, e)
+run_is q parts j m v e l at has = (l.runs_filed.listed j v.runs m e (at_map runs_of parts j v at) has).1
+
 module _ (q : Positions) (parts : List QueueView) (j m i p : ℕ) (v w : QueueView) (e : Batch) (l : ViewsShow q parts) (at : get_elem? parts j ≡ some v) (has : get_elem? v.runs m ≡ some e) (below : i < length e.places)
     (is : e.start + i ≡ q.first + p) (lawful : Lawful q) (ahead : q.taken ≤ p) (low : (get_or e.places i blank).written < 2) where
-  pub raise_event : written_at q p ≤ 2 → w.runs ≡ set v.runs m (written_to e i 2) → w.takes ≡ v.takes → Later w (with_write q p 2) → IsEvent q (with_write q p 2) (raise j (run_number q parts j m v e l at has) i)
+  pub raise_event : written_at q p ≤ 2 → w.runs ≡ set v.runs m (written_to e i 2) → w.takes ≡ v.takes → Later w (with_write q p 2) → IsEvent q (with_write q p 2) j v w (raise j (run_number q parts j m v e l at has) i)
   unfolding listed_write
   raise_event more runs takes grown = let l' = listed_write q parts j m i 2 p v w e l at has below is ahead more runs takes grown in let r = l.runs_filed.listed j v.runs m e (at_map runs_of parts j v at) has in record {
-    runs = l.runs;
-    new_runs = l'.runs;
-    history = history_of q parts l;
-    new_history = history_of (with_write q p 2) (set parts j w) l';
+    views = parts;
+    here = at;
+    shown = l;
+    new_shown = l';
     lawful = is_lawful_queue q l.runs lawful (history_of q parts l);
     made = raise_goes l.runs r.0 j m i e r.1 below q low ∙ ap Ok (raised_is l.runs r.0 j m i e r.1 below q p);
   }
 
-  pub store_event : written_at q p ≤ 1 → w.runs ≡ set v.runs m (written_to e i 1) → w.takes ≡ v.takes → Later w (with_write q p 1) → IsEvent q (with_write q p 1) no_event
+  -- the raise, and its run in the history
+  pub raised_event : written_at q p ≤ 2 → w.runs ≡ set v.runs m (written_to e i 2) → w.takes ≡ v.takes → Later w (with_write q p 2)
+      → (k : ℕ) × (event : IsEvent q (with_write q p 2) j v w (raise j k i)) × (get_elem? event.shown.runs k ≡ some (j, m, e))
+  unfolding raise_event
+  raised_event more runs takes grown = (run_number q parts j m v e l at has, raise_event more runs takes grown, run_is q parts j m v e l at has)
+
+  pub store_event : written_at q p ≤ 1 → w.runs ≡ set v.runs m (written_to e i 1) → w.takes ≡ v.takes → Later w (with_write q p 1) → IsEvent q (with_write q p 1) j v w no_event
   unfolding listed_write
   store_event more runs takes grown = let l' = listed_write q parts j m i 1 p v w e l at has below is ahead more runs takes grown in let r = l.runs_filed.listed j v.runs m e (at_map runs_of parts j v at) has in record {
-    runs = l.runs;
-    new_runs = l'.runs;
-    history = history_of q parts l;
-    new_history = history_of (with_write q p 1) (set parts j w) l';
+    views = parts;
+    here = at;
+    shown = l;
+    new_shown = l';
     lawful = is_lawful_queue q l.runs lawful (history_of q parts l);
     made = ap Ok (stored_is l.runs r.0 j m i e r.1 below q p low);
   }
 
-take_goes : (longest count : ℕ) (q : Queue) → 0 < count → count ≤ longest → first_are_raised count q ≡ true → take_first longest count q ≡ Ok (after_take count q)
+-- the store, and the run of its place in the history
+module _ (q : Positions) (parts : List QueueView) (j m i p : ℕ) (v w : QueueView) (e : Batch) (l : ViewsShow q parts) (at : get_elem? parts j ≡ some v) (has : get_elem? v.runs m ≡ some e) (below : i < length e.places)
+    (is : e.start + i ≡ q.first + p) (lawful : Lawful q) (ahead : q.taken ≤ p) (low : (get_or e.places i blank).written < 2) where
+  pub stored_event : written_at q p ≤ 1 → w.runs ≡ set v.runs m (written_to e i 1) → w.takes ≡ v.takes → Later w (with_write q p 1)
+      → (k : ℕ) × (event : IsEvent q (with_write q p 1) j v w no_event) × (get_elem? event.shown.runs k ≡ some (j, m, e))
+  unfolding store_event
+  stored_event more runs takes grown = (run_number q parts j m v e l at has, store_event q parts j m i p v w e l at has below is lawful ahead low more runs takes grown, run_is q parts j m v e l at has)
+
+pub take_goes : (longest count : ℕ) (q : Queue) → 0 < count → count ≤ longest → first_are_raised count q ≡ true → take_first longest count q ≡ Ok (after_take count q)
 take_goes longest count q some_items short first =
     let a : eqb count 0 ≡ false = grind (arith, nat_tests) in
     let b : ltb longest count ≡ false = grind (arith, nat_tests) in
@@ -192,23 +209,25 @@ first_raised q runs n same long up_to =
     rw (a, b) refl
 
 pub take_event : (q : Positions) (parts : List QueueView) (j n : ℕ) (v w : QueueView) → ViewsShow q parts → get_elem? parts j ≡ some v → Lawful q → 0 < n → q.taken + n ≤ length q.places → ((i : ℕ) → i < n → 2 ≤ written_at q (q.taken + i))
-    → IsEvent q (with_take q n) (take_first q.room n)
-take_event q parts j n v w l at lawful some_items long up_to = let h = history_of q parts l in let within = lawful.within in record {
-  runs = l.runs;
-  new_runs = l.runs;
-  history = h;
-  new_history = record { solid = h.solid; places = h.places; chained = h.chained };
+    → w.takes ≡ v.takes ++ record { start = tail_of q; places = take n (drop q.taken q.places) } ∷ [] → w.runs ≡ v.runs → Later w (with_take q n) → IsEvent q (with_take q n) j v w (take_first q.room n)
+unfolding listed_take
+take_event q parts j n v w l at lawful some_items long up_to takes runs grown = let h = history_of q parts l in let within = lawful.within in record {
+  views = parts;
+  here = at;
+  shown = l;
+  new_shown = listed_take q parts j n v w l at lawful.behind takes runs grown;
   lawful = is_lawful_queue q l.runs lawful h;
   made = take_goes q.room n (queue_of q l.runs) some_items (omega arith) (first_raised q l.runs n h.places long up_to);
 }
 
-pub shut_event : (q : Positions) (parts : List QueueView) → ViewsShow q parts → Lawful q → IsEvent q (with_shut q) (λ c. Ok (shut c))
-shut_event q parts l lawful = let h = history_of q parts l in record {
-  runs = l.runs;
-  new_runs = l.runs;
-  history = h;
-  new_history = record { solid = h.solid; places = h.places; chained = h.chained };
-  lawful = is_lawful_queue q l.runs lawful h;
+pub shut_event : (q : Positions) (parts : List QueueView) (j : ℕ) (v w : QueueView) → ViewsShow q parts → get_elem? parts j ≡ some v → Lawful q → w.runs ≡ v.runs → w.takes ≡ v.takes → Later w (with_shut q) → IsEvent q (with_shut q) j v w (λ c. Ok (shut c))
+unfolding listed_shut
+shut_event q parts j v w l at lawful runs takes grown = record {
+  views = parts;
+  here = at;
+  shown = l;
+  new_shown = listed_shut q parts j v w l at runs takes grown;
+  lawful = is_lawful_queue q l.runs lawful (history_of q parts l);
   made = refl;
 }
 

@@ -1,18 +1,19 @@
--- How many ends of an object stand unjoined.
-use Rattle.std.specs.Prelude.{◌≡◌, ℕ, ◌+◌, Bool, true, false, List, [], ◌∷◌}
+-- How many ends of an object stand unjoined, and what each has of it.
+use Rattle.std.specs.Prelude.{◌≡◌, ◌≢◌, ℕ, ◌%◌, ◌<◌, List}
 use mathlib.Core.Option.{some}
 use lib.ListN.{get_elem?}
+use Rattle.quaject_core.specs.declared.tables.Share.{Share}
+use Rattle.quaject_core.specs.Sharing.{total, MakeOneWhole}
 
-abbrev pub total : {V : Type 0} → (V → ℕ) → List V → ℕ
-total f [] = 0
-total f (v ∷ vs) = f v + total f vs
+-- a number of ends that one word can hold
+abbrev pub FitsAWord : ℕ → Type 0
+FitsAWord ends = ends < 18446744073709551616
 
--- The word has the number of ends, unless there were ever 2^64 at once. An end that found itself alone is alone. A
--- spent end has nothing
-pub record EndsCounted {V : Type 0} (ends_of : V → ℕ) (alone_of : V → Bool) (Idle : V
-    → Type 0) (count : ℕ) (views : List V) : Type 0 where
-  pub wrapped : Bool
-  pub sum : wrapped ≡ false → total ends_of views ≡ count
-  pub alone : (j : ℕ) (v : V) → get_elem? views j ≡ some v → alone_of v ≡ true → (wrapped ≡ false)
-      × (total ends_of views ≡ 1) × (ends_of v ≡ 1)
-  pub idle : (j : ℕ) (v : V) → get_elem? views j ≡ some v → ends_of v ≡ 0 → Idle v
+-- The word has the number of ends, less 2^64 as often as it goes. An end that was joined to another has no share and
+-- nothing else, and no other end is without a share
+pub record EndsCounted {V : Type 0} (ends_of : V → ℕ) (share_of : V → Share) (IsIdle : V → Type 0) (count : ℕ)
+    (views : List V) : Type 0 where
+  pub counted : total ends_of views % 18446744073709551616 ≡ count
+  pub shared : MakeOneWhole share_of views
+  pub spent : (j : ℕ) (v : V) → get_elem? views j ≡ some v → ends_of v ≡ 0 → ((share_of v).parts ≡ 0) × IsIdle v
+  pub lives : (j : ℕ) (v : V) → get_elem? views j ≡ some v → ends_of v ≢ 0 → (share_of v).parts ≢ 0

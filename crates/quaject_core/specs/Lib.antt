@@ -21,6 +21,7 @@ pub mod RefusalNames
 pub mod Results
 pub mod Runs
 pub mod Schedules
+pub mod Seeing
 pub mod Sharing
 pub mod Shown
 pub mod ShownChains

@@ -1,6 +1,6 @@
 -- The queue that a table's positions are: its runs are the history, in the order of their claims.
 use Rattle.std.specs.Prelude.{◌≡◌, ℕ, ◌<◌, nat_le, Bool, false, List, map, length, slice_index_or, Option, Some, None}
-use Rattle.std.specs.Prelude.{Result, Ok}
+use Rattle.std.specs.Prelude.{slice_set, Result, Ok}
 use Rattle.std.specs.List.{slice_get}
 use mathlib.Core.Option.{some}
 use lib.ListN.{get_elem?}
@@ -13,7 +13,8 @@ use Rattle.quaject_core.specs.Queues.{Queue}
 use Rattle.quaject_core.specs.Lawful.{IsLawfulQueue}
 use Rattle.quaject_core.specs.Positioned.{blank, item_of}
 use Rattle.quaject_core.specs.Filing.{Owned}
-use Rattle.quaject_core.specs.Listing.{all_places, Chained}
+use Rattle.quaject_core.specs.declared.tables.QueueView.{QueueView}
+use Rattle.quaject_core.specs.Listing.{all_places, Chained, ViewsShow}
 
 -- the run that a seat's batch is: the seat is its call
 abbrev pub run_in : Owned Batch → Run
@@ -42,14 +43,15 @@ pub record IsHistory (q : Positions) (runs : List (Owned Batch)) : Type 0 where
   pub places : all_places runs ≡ q.places
   pub chained : Chained q.first runs
 
--- what a step makes of the positions q is what this event makes of the queue that they are
-pub record IsEvent (q r : Positions) (event : Queue → Result Queue Refusal) : Type 0 where
-  pub runs : List (Owned Batch)
-  pub new_runs : List (Owned Batch)
-  pub history : IsHistory q runs
-  pub new_history : IsHistory r new_runs
-  pub lawful : IsLawfulQueue (queue_of q runs)
-  pub made : event (queue_of q runs) ≡ Ok (queue_of r new_runs)
+-- A step of the end `seat`, which knew v and then knows w, makes r of the positions q: it is this event of the queue
+-- that the views of all ends show
+pub record IsEvent (q r : Positions) (seat : ℕ) (v w : QueueView) (event : Queue → Result Queue Refusal) : Type 0 where
+  pub views : List QueueView
+  pub here : get_elem? views seat ≡ some v
+  pub shown : ViewsShow q views
+  pub new_shown : ViewsShow r (slice_set views seat w)
+  pub lawful : IsLawfulQueue (queue_of q shown.runs)
+  pub made : event (queue_of q shown.runs) ≡ Ok (queue_of r new_shown.runs)
 
 -- no event: storing an item, and each load
 abbrev pub no_event : Queue → Result Queue Refusal

@@ -3,9 +3,9 @@
 use crate::names::{Element, Signal};
 
 /// At which tick it is due, and the signal that it is for.
-#[derive(Clone, Copy, Debug, PartialEq, Eq)]
-pub(crate) struct Alarm {
-    pub(crate) due: u32,
-    pub(crate) element: Element,
-    pub(crate) signal: Signal,
+#[derive(Clone, Copy, Debug, Default, PartialEq, Eq)]
+pub struct Alarm {
+    pub due: u32,
+    pub element: Element,
+    pub signal: Signal,
 }

@@ -26,6 +26,7 @@ mod stored;
 pub mod tables;
 mod threading;
 
+pub use alarm::Alarm;
 pub use event::Event;
 pub use items::Items;
 pub use machine::Core;

@@ -195,7 +195,7 @@ impl Processor {
 }
 
 /// A thread element, `e0` to `e63`. Contracts see its number.
-#[derive(Clone, Copy, Debug, PartialEq, Eq)]
+#[derive(Clone, Copy, Debug, Default, PartialEq, Eq)]
 pub struct Element {
     number: u8,
 }
@@ -233,7 +233,7 @@ impl Element {
 }
 
 /// A signal, 0 to 15. Contracts see its number.
-#[derive(Clone, Copy, Debug, PartialEq, Eq)]
+#[derive(Clone, Copy, Debug, Default, PartialEq, Eq)]
 pub struct Signal {
     number: u8,
 }

@@ -34,3 +34,9 @@ pub struct QueueView {
     pub runs: LinkedList<Batch>,
     pub takes: LinkedList<Batch>,
 }
+
+/// An end's share of its object: `parts` of as many equal parts as `halvings` halvings make of the whole.
+pub struct Share {
+    pub parts: u64,
+    pub halvings: u64,
+}

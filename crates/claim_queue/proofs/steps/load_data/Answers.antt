@@ -6,5 +6,5 @@ pub load-requires : goal.load-requires
 load-requires c = let q = c.requires.queue in let wide = q.1 in let near : c.args.position % c.args.room < c.args.room = mod-lt c.args.position q.2 in (q.0, omega arith)
 
 pub returns-clause-item : goal.returns-clause-item
-returns-clause-item c = let near = c.requires.near in let s = c.load.ensures.2 in let room = s.grows.0.room ∙ c.requires.queue.4 in let old = c.requires.queue.4 in
+returns-clause-item c = let near = c.requires.near in let s = c.load.ensures.2 in let room = s.sees.later.0.room ∙ c.requires.queue.4 in let old = c.requires.queue.4 in
     data_item _ _ _ _ _ s near.0 (omega arith) (λ k. c.args.position % sym room k + 3) c.requires.raised

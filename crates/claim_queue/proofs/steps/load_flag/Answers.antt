@@ -6,9 +6,9 @@ pub load-requires : goal.load-requires
 load-requires c = let q = c.requires.queue in let wide = q.1 in let near : c.args.position % c.args.room < c.args.room = mod-lt c.args.position q.2 in (q.0, omega arith)
 
 pub returns-clause-raised : goal.returns-clause-raised
-returns-clause-raised c = let near = c.requires.near in let s = c.load.ensures.2 in let room = s.grows.0.room ∙ c.requires.queue.4 in let old = c.requires.queue.4 in
+returns-clause-raised c = let near = c.requires.near in let s = c.load.ensures.2 in let room = s.sees.later.0.room ∙ c.requires.queue.4 in let old = c.requires.queue.4 in
     flag_raised _ _ _ _ _ s near.0 (omega arith) (λ k. c.args.position % sym room k + sym room k + 3)
 
 pub returns-clause-low : goal.returns-clause-low
-returns-clause-low c = let near = c.requires.near in let s = c.load.ensures.2 in let room = s.grows.0.room ∙ c.requires.queue.4 in let old = c.requires.queue.4 in
+returns-clause-low c = let near = c.requires.near in let s = c.load.ensures.2 in let room = s.sees.later.0.room ∙ c.requires.queue.4 in let old = c.requires.queue.4 in
     flag_low _ _ _ _ _ s near.0 (omega arith) (λ k. c.args.position % sym room k + sym room k + 3)

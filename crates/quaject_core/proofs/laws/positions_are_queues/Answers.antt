@@ -1,5 +1,5 @@
 use Rattle.quaject_core.proofs.QueueOf.{is_lawful_queue, left_is}
-use Rattle.quaject_core.proofs.QueueEvents.{claim_event, take_event, shut_event, joined_is}
+use Rattle.quaject_core.proofs.QueueEvents.{claim_event, raised_event, store_event, take_event, shut_event, joined_is}
 use Rattle.quaject_core.proofs.laws.positions_are_queues.Goals as goal
 
 pub returns-clause-lawful : goal.returns-clause-lawful
@@ -10,6 +10,12 @@ returns-clause-left c = λ q runs h. left_is q runs h.places
 
 pub returns-clause-claimed : goal.returns-clause-claimed
 returns-clause-claimed c = claim_event
+
+pub returns-clause-stored : goal.returns-clause-stored
+returns-clause-stored c = λ q views seat number index at v w run l here has below is lawful ahead low. store_event q views seat number index at v w run l here has below is lawful ahead low
+
+pub returns-clause-raised : goal.returns-clause-raised
+returns-clause-raised c = λ q views seat number index at v w run l here has below is lawful ahead low. raised_event q views seat number index at v w run l here has below is lawful ahead low
 
 pub returns-clause-taken : goal.returns-clause-taken
 returns-clause-taken c = take_event

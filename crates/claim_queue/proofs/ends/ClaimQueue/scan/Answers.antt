@@ -1,7 +1,7 @@
 use Rattle.std.proofs.Common.{rules, sym, ap, subst, ◌∙◌, ◌+◌, ℕ}
-use Rattle.claim_queue.specs.Takings.{Scanned, NoEnd}
+use Rattle.claim_queue.specs.Takings.{IsLine, Scanned, NoEnd}
 use Rattle.claim_queue.proofs.Following.{looked_on}
-use Rattle.claim_queue.proofs.Scanning.{scanned_more, no_end_push}
+use Rattle.claim_queue.proofs.Scanning.{scanned_look, is_line_end, scanned_more, no_end_push}
 use Rattle.claim_queue.proofs.ends.ClaimQueue.scan.Goals as goal
 
 pub returns-then-flag-position-clause-seen : goal.returns-then-flag-position-clause-seen
@@ -22,3 +22,9 @@ loop-i-preserved g c = let l = c.loop-i.invariant in record {
   long = c.push.ensures.len ∙ ap (λ (z : ℕ). z + 1) l.long;
   no_end = subst NoEnd (sym c.push.ensures.items) (no_end_push _ _ l.no_end c.if-item-eq10.false);
 }
+
+pub returns-then-flag-position-clause-found : goal.returns-then-flag-position-clause-found
+returns-then-flag-position-clause-found g c = scanned_look _ _ _ _ c.load_flag-flag.ensures.seen c.loop-i.invariant.scanned
+
+pub returns-then-item-eq10-clause-line : goal.returns-then-item-eq10-clause-line
+returns-then-item-eq10-clause-line g c = λ _. subst (IsLine _) (sym c.push.ensures.items) (is_line_end _ _ _ c.loop-i.invariant.no_end c.if-item-eq10.true)

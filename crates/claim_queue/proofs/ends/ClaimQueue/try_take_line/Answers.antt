@@ -1,8 +1,8 @@
 use Rattle.std.proofs.Common.{rules, arith, sym, subst, ◌≡◌, ◌∙◌, ◌+◌, ◌-◌, ℕ, length}
 use Rattle.claim_queue.specs.Takings.{WasUnfinished}
 use Rattle.claim_queue.proofs.Following.{looked_on}
-use Rattle.claim_queue.proofs.Emptying.{passed, took_after}
-use Rattle.claim_queue.proofs.Scanning.{unfinished_at}
+use Rattle.claim_queue.proofs.Emptying.{done, passed, took_after}
+use Rattle.claim_queue.proofs.Scanning.{fresh_looked, unfinished_at}
 use Rattle.claim_queue.proofs.ends.ClaimQueue.try_take_line.Goals as goal
 
 pub returns-then-now-tail-clause-taken : goal.returns-then-now-tail-clause-taken
@@ -25,3 +25,10 @@ returns-then-found-tail-clause-taken g c = let t = c.load_tail-tail.ensures in l
 pub returns-clause-taken : goal.returns-clause-taken
 returns-clause-taken g c = let t = c.load_tail-tail.ensures in let s = c.scan.ensures in let n : c.len-count.result ≡ length c.scan.new.line.items = c.len-count.ensures.value in let m : c.load_tail-tail.result + c.len-count.result - c.load_tail-tail.result ≡ length c.scan.new.line.items = omega arith in
     (n, search rules, took_after _ _ _ _ _ _ (looked_on _ _ _ t.seen s.seen) (c.exchange_tail-found.ensures.hit c.if-found-tail.false) m (λ i h. (s.found.up i h, s.found.items i h)))
+
+pub returns-then-head-tail-clause-taken : goal.returns-then-head-tail-clause-taken
+returns-then-head-tail-clause-taken g c = let t = c.load_tail-tail.ensures in let h = c.load_head-head.ensures in let b = looked_on _ _ _ c.scan.ensures.seen h.seen in
+    (search rules, (looked_on _ _ _ t.seen b, done _ _ _ _ _ t.seen b t.tail h.head c.if-head-tail.true))
+
+pub scan-requires : goal.scan-requires
+scan-requires g c = let looked = fresh_looked _ _ c.load_tail-tail.ensures.seen in search rules

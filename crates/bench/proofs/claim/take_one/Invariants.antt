@@ -1,0 +1,10 @@
+use Rattle.std.specs.Prelude.{◌≡◌, []}
+use Rattle.claim_queue.specs.Handles.{IsEndOf}
+use Rattle.bench.proofs.claim.take_one.Given as goal
+
+abbrev pub invariant-loop : goal.invariant-loop
+invariant-loop g l = record {
+  steps : (goal.iterator-loop g).can_next l.iterator' × (goal.iterator-loop g).is_finite l.iterator';
+  mine : IsEndOf l.queue l.end;
+  empty : l.line.items ≡ [];
+}

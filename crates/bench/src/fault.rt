@@ -1,0 +1,69 @@
+//! Why a run has ended early.
+use quaject_core::OutOfMemory;
+use std::alloc::AllocError;
+use std::io;
+use std::io::ErrorKind;
+use thiserror::Error;
+
+/// Why a run has ended early.
+#[derive(Clone, Copy, Debug, PartialEq, Eq, Drop, Error)]
+pub enum Fault {
+    /// The words are none that the program has.
+    #[error("other words than alone, pairs or all")]
+    Words,
+    /// There was no memory for a queue.
+    #[error("no memory")]
+    Memory,
+    /// The clock could not be read.
+    #[error("the clock can't be read")]
+    Clock,
+    /// Standard output did not take a row.
+    #[error("a row can't be written")]
+    Write,
+    /// Other items were taken than were put.
+    #[error("other items were taken than were put")]
+    Items,
+}
+
+impl Fault {
+    /// Why the words could not be read: one of them is not text, or there was no memory.
+    pub fn of_words(error: io::Error) -> Fault {
+        if error.kind() == ErrorKind::OutOfMemory {
+            Fault::Memory
+        } else {
+            Fault::Words
+        }
+    }
+
+    /// Why a row could not be written.
+    pub fn of_row(_: io::Error) -> Fault {
+        Fault::Write
+    }
+
+    /// Why the clock could not be read.
+    pub fn of_clock(_: io::Error) -> Fault {
+        Fault::Clock
+    }
+
+    /// The exit status of the run.
+    pub fn status(self) -> u8 {
+        match self {
+            Fault::Items => 1,
+            Fault::Words => 2,
+            Fault::Memory => 3,
+            Fault::Clock | Fault::Write => 5,
+        }
+    }
+}
+
+impl From<AllocError> for Fault {
+    fn from(_: AllocError) -> Fault {
+        Fault::Memory
+    }
+}
+
+impl From<OutOfMemory> for Fault {
+    fn from(_: OutOfMemory) -> Fault {
+        Fault::Memory
+    }
+}

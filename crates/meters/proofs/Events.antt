@@ -1,0 +1,135 @@
+-- The events of the core that the steps are.
+use Rattle.std.proofs.Common.{◌≡◌, ◌≢◌, ℕ, zero, suc, ◌+◌, ◌%◌, ◌<◌, ◌≤◌, Bool, true, false, cond, List, [], ◌∷◌, ◌++◌, length, length-set, set, get_or, refl, sym, ap, ◌∙◌, arith, Option, Some, None, Ok, slice_get, ok_or, eqb, ltb, ne_eqb, lt-ltb, count_by, position}
+use Rattle.std.specs.List.{position_or_len}
+use Rattle.std.proofs.lemmas.List.Sums.{sum_by-set, passes_at_first}
+use Rattle.quaject_core.specs.declared.alarm.Alarm.{Alarm}
+use Rattle.quaject_core.specs.declared.refusal.Refusal.TheVariants.{UnknownName, Full, NotRaised}
+use Rattle.quaject_core.specs.Meters.{Meters, tick, advance, set_alarm, fire, cancel, is_empty, standing}
+use Rattle.quaject_core.specs.Lawful.{IsLawfulMeters, is_alarm, stands}
+use Rattle.quaject_core.specs.Results.{◌>>=◌, refused_if, change_at}
+use Rattle.quaject_core.proofs.MeterLaws.{tick_law, advance_law, set_alarm_law, fire_law, cancel_law}
+use Rattle.quaject_core.proofs.Inversions.{then_ok, test_ok, given_ok}
+use Rattle.meters.specs.declared.rule.Reading.{Reading}
+use Rattle.meters.specs.Changes.{meters_of, IsLawful, in_slot, AreAlike, IsSet, Happens, ticked, advanced, was_set, fired, cancelled, Leads, here, further}
+
+pub got : {A : Type 0} (xs : List A) (i : ℕ) (d : A) → i < length xs → slice_get xs i ≡ Some (get_or xs i d)
+got [] i d h = absurd (omega arith)
+got (x ∷ xs) zero d h = refl
+got (x ∷ xs) (suc i) d h = got xs i d (omega arith)
+
+-- the meters after each event
+abbrev pub with_tick : Reading → ℕ → ℕ → Reading
+with_tick m g n = record m { gauges = set m.gauges g ((get_or m.gauges g 0 + n) % 18446744073709551616) }
+
+abbrev pub with_advance : Reading → Reading
+with_advance m = record m { clock = m.clock + 1 }
+
+abbrev pub with_alarm : Reading → ℕ → Alarm → Reading
+with_alarm m slot alarm = record m { slots = set m.slots slot (Some alarm); set = m.set ++ alarm ∷ [] }
+
+abbrev pub with_fired : Reading → ℕ → Alarm → Reading
+with_fired m slot alarm = record m { slots = set m.slots slot None; fired = m.fired ++ alarm ∷ [] }
+
+abbrev pub with_cancelled : Reading → ℕ → Alarm → Reading
+with_cancelled m slot alarm = record m { slots = set m.slots slot None; cancelled = m.cancelled ++ alarm ∷ [] }
+
+pub tick_is : (m : Reading) (g n : ℕ) → g < length m.gauges → tick g n (meters_of m) ≡ Ok (meters_of (with_tick m g n))
+tick_is m g n h = ap (λ (found : Option ℕ). (ok_or found UnknownName >>= (λ value. Ok ((value + n) % 18446744073709551616)) >>= (λ new. Ok (set m.gauges g new))) >>= (λ gauges. Ok (record (meters_of m) { gauges = gauges }))) (got m.gauges g 0 h)
+
+pub advance_is : (m : Reading) → m.clock ≢ 4294967295 → advance (meters_of m) ≡ Ok (meters_of (with_advance m))
+advance_is m ne = ap (λ (last : Bool). refused_if last Full (Ok (meters_of (with_advance m)))) (ne_eqb m.clock 4294967295 ne)
+
+pub standing_is : (m : Reading) (slot : ℕ) (alarm : Alarm) → slot < length m.slots → in_slot m slot ≡ Some alarm → standing slot (meters_of m) ≡ Ok alarm
+standing_is m slot alarm within stood = ap (λ (found : Option (Option Alarm)). ok_or found UnknownName >>= (λ x. ok_or x UnknownName)) (got m.slots slot None within) ∙ ap (λ (x : Option Alarm). ok_or x UnknownName) stood
+
+pub fire_is : (m : Reading) (slot : ℕ) (alarm : Alarm) → slot < length m.slots → in_slot m slot ≡ Some alarm → ltb m.clock alarm.due ≡ false → fire slot (meters_of m) ≡ Ok (meters_of (with_fired m slot alarm))
+fire_is m slot alarm within stood due = ap (λ found. found >>= (λ a. refused_if (ltb m.clock a.due) NotRaised (Ok (meters_of (with_fired m slot a))))) (standing_is m slot alarm within stood) ∙ ap (λ (late : Bool). refused_if late NotRaised (Ok (meters_of (with_fired m slot alarm)))) due
+
+pub cancel_is : (m : Reading) (slot : ℕ) (alarm : Alarm) → slot < length m.slots → in_slot m slot ≡ Some alarm → cancel slot (meters_of m) ≡ Ok (meters_of (with_cancelled m slot alarm))
+cancel_is m slot alarm within stood = ap (λ found. found >>= (λ a. Ok (meters_of (with_cancelled m slot a)))) (standing_is m slot alarm within stood)
+
+-- a slot that is empty, and the first one
+empty_is : (found : Option Alarm) → is_empty found ≡ true → found ≡ None
+empty_is None e = refl
+empty_is (Some alarm) e = absurd (cc)
+
+below : (slots : List (Option Alarm)) (slot : ℕ) → slot < length slots → get_or slots slot None ≡ None → position_or_len is_empty slots < length slots
+below [] slot h e = absurd (omega arith)
+below (None ∷ xs) slot h e = omega arith
+below (Some a ∷ xs) zero h e = absurd (cc)
+below (Some a ∷ xs) (suc slot) h e = let f = below xs slot (omega arith) e in omega arith
+
+-- what stands in a slot after a change of one that was empty
+slots_set : (alarm : Alarm) (slots : List (Option Alarm)) (slot : ℕ) (new : Option Alarm) → slot < length slots → get_or slots slot None ≡ None
+    → count_by (stands alarm) (set slots slot new) ≡ count_by (stands alarm) slots + cond (stands alarm new) 1 0
+slots_set alarm slots slot new within was = let s = sum_by-set (λ x. cond (stands alarm x) 1 0) slots slot new None within in let e : ◌≡◌ {A = ℕ} (cond (stands alarm (get_or slots slot None)) 1 0) 0 = ap (λ (x : Option Alarm). cond {A = ℕ} (stands alarm x) 1 0) was in omega arith
+
+pub set_is : (m : Reading) (slot : ℕ) (alarm : Alarm) → slot < length m.slots → in_slot m slot ≡ None → IsSet slot alarm m (with_alarm m slot alarm)
+set_is m slot alarm within was = let first : ℕ = position_or_len is_empty m.slots in let lt = below m.slots slot within was in let there : get_or m.slots first None ≡ None = empty_is (get_or m.slots first None) (passes_at_first is_empty m.slots None lt) in
+    let found : position is_empty m.slots ≡ Some first = ap (λ (b : Bool). cond b (Some first) None) (lt-ltb first (length m.slots) lt) in record {
+      within = within;
+      empty = was;
+      slots = refl;
+      core = meters_of (with_alarm m first alarm);
+      event = ap (λ (x : Option ℕ). ok_or x Full >>= (λ k. Ok (meters_of (with_alarm m k alarm)))) found;
+      alike = record {
+        gauges = refl;
+        clock = refl;
+        set = refl;
+        fired = refl;
+        cancelled = refl;
+        as_many = length-set m.slots slot (Some alarm) ∙ sym (length-set m.slots first (Some alarm));
+        stand = λ a. slots_set a m.slots slot (Some alarm) within was ∙ sym (slots_set a m.slots first (Some alarm) lt there);
+      };
+    }
+
+-- lawful meters stay lawful
+pub lawful_alike : (m n : Meters) → IsLawfulMeters m → AreAlike m n → IsLawfulMeters n
+lawful_alike m n lawful a alarm = (λ i. count_by (is_alarm alarm) (a.set i)) ∙ (lawful alarm ∙ (λ i. count_by (is_alarm alarm) (sym a.fired i) + count_by (is_alarm alarm) (sym a.cancelled i) + sym (a.stand alarm) i))
+
+pub set_lawful : (m : Reading) (slot : ℕ) (alarm : Alarm) → slot < length m.slots → in_slot m slot ≡ None → IsLawful m → IsLawful (with_alarm m slot alarm)
+set_lawful m slot alarm within was lawful = let s = set_is m slot alarm within was in lawful_alike s.core (meters_of (with_alarm m slot alarm)) (set_alarm_law alarm (meters_of m) s.core lawful s.event) s.alike
+
+pub tick_lawful : (m : Reading) (g n : ℕ) → g < length m.gauges → IsLawful m → IsLawful (with_tick m g n)
+tick_lawful m g n h lawful = tick_law g n (meters_of m) (meters_of (with_tick m g n)) lawful (tick_is m g n h)
+
+pub advance_lawful : (m : Reading) → m.clock ≢ 4294967295 → IsLawful m → IsLawful (with_advance m)
+advance_lawful m ne lawful = advance_law (meters_of m) (meters_of (with_advance m)) lawful (advance_is m ne)
+
+pub fire_lawful : (m : Reading) (slot : ℕ) (alarm : Alarm) → slot < length m.slots → in_slot m slot ≡ Some alarm → ltb m.clock alarm.due ≡ false → IsLawful m → IsLawful (with_fired m slot alarm)
+fire_lawful m slot alarm within stood due lawful = fire_law slot (meters_of m) (meters_of (with_fired m slot alarm)) lawful (fire_is m slot alarm within stood due)
+
+pub cancel_lawful : (m : Reading) (slot : ℕ) (alarm : Alarm) → slot < length m.slots → in_slot m slot ≡ Some alarm → IsLawful m → IsLawful (with_cancelled m slot alarm)
+cancel_lawful m slot alarm within stood lawful = cancel_law slot (meters_of m) (meters_of (with_cancelled m slot alarm)) lawful (cancel_is m slot alarm within stood)
+
+-- the clock never goes down
+tick_clock : (g n : ℕ) (m o : Meters) → tick g n m ≡ Ok o → o.clock ≡ m.clock
+tick_clock g n m o ok = let h = then_ok (change_at g (λ value. Ok ((value + n) % 18446744073709551616)) m.gauges) (λ gauges. Ok (record m { gauges = gauges })) o ok in ap (λ (z : Meters). z.clock) (sym (given_ok (record m { gauges = h.0 }) o h.2))
+
+advance_clock : (m o : Meters) → advance m ≡ Ok o → o.clock ≡ m.clock + 1
+advance_clock m o ok = let h = test_ok (eqb m.clock 4294967295) Full (Ok (record m { clock = m.clock + 1 })) o ok in ap (λ (z : Meters). z.clock) (sym (given_ok (record m { clock = m.clock + 1 }) o h.1))
+
+fire_clock : (slot : ℕ) (m o : Meters) → fire slot m ≡ Ok o → o.clock ≡ m.clock
+fire_clock slot m o ok = let after : Alarm → Meters = λ alarm. record m { slots = set m.slots slot None; fired = m.fired ++ alarm ∷ [] } in let h = then_ok (standing slot m) (λ alarm. refused_if (ltb m.clock alarm.due) NotRaised (Ok (after alarm))) o ok in
+    let t = test_ok (ltb m.clock h.0.due) NotRaised (Ok (after h.0)) o h.2 in ap (λ (z : Meters). z.clock) (sym (given_ok (after h.0) o t.1))
+
+cancel_clock : (slot : ℕ) (m o : Meters) → cancel slot m ≡ Ok o → o.clock ≡ m.clock
+cancel_clock slot m o ok = let after : Alarm → Meters = λ alarm. record m { slots = set m.slots slot None; cancelled = m.cancelled ++ alarm ∷ [] } in let h = then_ok (standing slot m) (λ alarm. Ok (after alarm)) o ok in ap (λ (z : Meters). z.clock) (sym (given_ok (after h.0) o h.2))
+
+set_clock : (alarm : Alarm) (m o : Meters) → set_alarm alarm m ≡ Ok o → o.clock ≡ m.clock
+set_clock alarm m o ok = let after : ℕ → Meters = λ slot. record m { slots = set m.slots slot (Some alarm); set = m.set ++ alarm ∷ [] } in let h = then_ok (ok_or (position is_empty m.slots) Full) (λ slot. Ok (after slot)) o ok in ap (λ (z : Meters). z.clock) (sym (given_ok (after h.0) o h.2))
+
+clock_on : (m n : Reading) → Happens m n → m.clock ≤ n.clock
+clock_on m n (ticked g a e) = let x : n.clock ≡ m.clock = tick_clock g a (meters_of m) (meters_of n) e in omega arith
+clock_on m n (advanced e) = let x : n.clock ≡ m.clock + 1 = advance_clock (meters_of m) (meters_of n) e in omega arith
+clock_on m n (was_set slot alarm s) = let x : s.core.clock ≡ m.clock = set_clock alarm (meters_of m) s.core s.event in let y : n.clock ≡ s.core.clock = s.alike.clock in omega arith
+clock_on m n (fired slot e) = let x : n.clock ≡ m.clock = fire_clock slot (meters_of m) (meters_of n) e in omega arith
+clock_on m n (cancelled slot e) = let x : n.clock ≡ m.clock = cancel_clock slot (meters_of m) (meters_of n) e in omega arith
+
+pub clock_leads : (m n : Reading) → Leads m n → m.clock ≤ n.clock
+clock_leads m n here = omega arith
+clock_leads m n (further o _ l e) = let a = clock_leads m o l in let b = clock_on o n e in omega arith
+
+pub leads_on : (m n o : Reading) → Leads m n → Leads n o → Leads m o
+leads_on m n _ l here = l
+leads_on m n o l (further p _ k e) = further p o (leads_on m n p l k) e

@@ -1,0 +1,11 @@
+pub mod Codes
+pub mod Events
+pub mod Showing
+pub mod Listed
+pub mod Stepping
+pub mod Tallying
+pub mod Finding
+pub mod Following
+pub mod Betweens
+pub mod Opening
+pub mod Settling

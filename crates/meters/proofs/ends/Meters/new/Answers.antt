@@ -1,0 +1,9 @@
+use Rattle.std.proofs.Common.{◌≡◌, ℕ, [], set, replicate, sym, subst, ◌∙◌, arith}
+use Rattle.atomic_table.specs.Table.{opening}
+use Rattle.meters.specs.Rules.{Rule, newcomer}
+use Rattle.meters.proofs.Opening.{new_words}
+use Rattle.meters.proofs.ends.Meters.new.Goals as goal
+
+pub of_words-requires : goal.of_words-requires
+of_words-requires c = let told : ℕ = c.from-2.result in let same : told ≡ c.from.result = c.from-2.ensures ∙ sym c.from.ensures in
+    subst (λ (z : ℕ). Rule (record { clock = told }) (opening (set (set (replicate 26 0) 0 1) 9 z) [] (newcomer (record { clock = told })))) same (new_words (record { clock = told }) (omega (arith, c.ranges.clock, c.from-2.ensures)))

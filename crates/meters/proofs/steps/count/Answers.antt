@@ -1,0 +1,6 @@
+use Rattle.std.proofs.Common.{rules}
+use Rattle.meters.proofs.Tallying.{tallies}
+use Rattle.meters.proofs.steps.count.Goals as goal
+
+pub load-requires : goal.load-requires
+load-requires c = (search rules, search rules, tallies _ _ _ _)

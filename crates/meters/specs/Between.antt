@@ -1,0 +1,35 @@
+-- What holds between any two steps: lawful meters of the core that the words and the views show.
+use Rattle.std.specs.Prelude.{◌≡◌, ℕ, ◌+◌, ◌%◌, ◌<◌, length, map, take, drop, slice_index_or, count_by, None}
+use Rattle.atomic_table.specs.Table.{State}
+use Rattle.quaject_core.specs.declared.alarm.Alarm.{Alarm}
+use Rattle.quaject_core.specs.Lawful.{IsLawfulMeters, stands}
+use Rattle.quaject_core.specs.Meters.{Meters}
+use Rattle.quaject_core.specs.Sharing.{total}
+use Rattle.meters.specs.declared.rule.View.{View}
+use Rattle.meters.specs.Views.{amount_on, times}
+use Rattle.meters.specs.Words.{word_of, Fits}
+
+-- the words and the views show the meters
+pub record IsShown (s : State Unit View) (m : Meters) : Type 0 where
+  pub long : length s.words ≡ 26
+  pub gauges : m.gauges ≡ take 8 (drop 1 s.words)
+  pub clock : m.clock ≡ slice_index_or s.words 9 0
+  pub tick : m.clock < 4294967296
+  pub alarms : map word_of m.slots ≡ drop 10 s.words
+  pub fit : (slot : ℕ) → slot < 16 → Fits (slice_index_or m.slots slot None)
+  -- the gauges are the sums of the ticks that the ends list
+  pub sums : (gauge : ℕ) → gauge < 8
+      → slice_index_or m.gauges gauge 0 ≡ total (λ v. amount_on gauge v.ticks) s.views % 18446744073709551616
+  pub set : (alarm : Alarm) → times alarm m.set ≡ total (λ v. times alarm v.set) s.views
+  pub fired : (alarm : Alarm) → times alarm m.fired ≡ total (λ v. times alarm v.fired) s.views
+  pub cancelled : (alarm : Alarm) → times alarm m.cancelled ≡ total (λ v. times alarm v.cancelled) s.views
+  -- by the ends' lists, each alarm set was fired, cancelled or stands
+  pub once : (alarm : Alarm) → total (λ v. times alarm v.set) s.views
+      ≡ total (λ v. times alarm v.fired) s.views + total (λ v. times alarm v.cancelled) s.views
+      + count_by (stands alarm) m.slots
+
+-- there are lawful meters that are shown
+pub record ShowsMeters (s : State Unit View) : Type 0 where
+  pub meters : Meters
+  pub lawful : IsLawfulMeters meters
+  pub shown : IsShown s meters

@@ -1,0 +1,10 @@
+pub mod Words
+pub mod Changes
+pub mod Views
+pub mod Rules
+pub mod Steps
+pub mod Answers
+pub mod Handles
+pub mod Endings
+pub mod Closings
+pub mod Between

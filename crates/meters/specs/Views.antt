@@ -1,0 +1,32 @@
+-- What the ends know.
+use Rattle.std.specs.Prelude.{◌≡◌, ℕ, ◌%◌, ◌==◌, ◌<◌, List, if◌then◌else◌, slice_index_or, sum_by, count_by}
+use mathlib.Core.Option.{some}
+use lib.ListN.{get_elem?}
+use Rattle.quaject_core.specs.declared.alarm.Alarm.{Alarm}
+use Rattle.quaject_core.specs.Lawful.{is_alarm}
+use Rattle.quaject_core.specs.Sharing.{total}
+use Rattle.meters.specs.declared.rule.Reading.{Reading}
+use Rattle.meters.specs.declared.rule.Tick.{Tick}
+use Rattle.meters.specs.declared.rule.View.{View}
+use Rattle.meters.specs.Changes.{Leads}
+
+-- how much these ticks add to a gauge
+abbrev pub amount_on : ℕ → List Tick → ℕ
+amount_on gauge ticks = sum_by (λ tick. if tick.gauge == gauge then tick.amount else 0) ticks
+
+-- how often an alarm is in a list
+abbrev pub times : Alarm → List Alarm → ℕ
+times alarm alarms = count_by (is_alarm alarm) alarms
+
+-- these meters came after what the end has seen
+abbrev pub Later : View → Reading → Type 0
+Later v m = Leads v.seen m × Leads v.joined m
+
+-- the ends together list each tick and each alarm that was set, fired and cancelled
+pub record ViewsShow (m : Reading) (views : List View) : Type 0 where
+  pub gauges : (gauge : ℕ) → gauge < 8
+      → slice_index_or m.gauges gauge 0 ≡ total (λ v. amount_on gauge v.ticks) views % 18446744073709551616
+  pub set : (alarm : Alarm) → times alarm m.set ≡ total (λ v. times alarm v.set) views
+  pub fired : (alarm : Alarm) → times alarm m.fired ≡ total (λ v. times alarm v.fired) views
+  pub cancelled : (alarm : Alarm) → times alarm m.cancelled ≡ total (λ v. times alarm v.cancelled) views
+  pub later : (seat : ℕ) (v : View) → get_elem? views seat ≡ some v → Later v m

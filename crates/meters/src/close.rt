@@ -1,0 +1,87 @@
+//! Closing.
+ghost use Rattle.std.specs.Prelude.{◌≡◌, List, Option, take, drop, IfOk, IfErr};
+ghost use Rattle.std.specs.Mem.Slots.{slots_items, slots_len, IsFull};
+ghost use Rattle.quaject_core.specs.declared.alarm.Alarm.{Alarm};
+ghost use Rattle.meters.specs.Words.{SlotsShow, standing};
+ghost use Rattle.meters.specs.Closings.{ClosedNow, WereOpen};
+
+use crate::ends::{MeterSeat, Meters};
+use crate::steps::{ALARMS, CLOCK, GAUGES, SLOTS, count};
+use crate::word::AlarmWord;
+use arrayvec::ArrayVec;
+use atomic_table::Closed;
+use quaject_core::Alarm;
+use std::alloc::Global;
+use thiserror::Error;
+
+/// The meters at their end: the gauges, the clock, and the alarms that stand, in the order of their slots.
+#[derive(Drop)]
+pub struct Metered {
+    pub gauges: [u64; 8],
+    pub clock: u32,
+    pub alarms: ArrayVec<Alarm, 16>,
+}
+
+/// Ends that were made and not joined, and their number.
+#[derive(Clone, Copy, Debug, PartialEq, Eq, Drop, Error)]
+#[error("{others} other ends are not joined")]
+pub struct OpenEnds {
+    pub others: u64,
+}
+
+fn read_gauges(closed: &Closed<(), Global>) -> [u64; 8]
+    requires { (slots_len closed.now.words ≡ 26) × IsFull closed.now.words }
+    ensures { result ≡ take 8 (drop 1 (slots_items closed.now.words)) }
+{
+    let mut gauges = [0; 8];
+    for gauge in 0..8usize {
+        gauges[gauge] = closed.word(GAUGES + gauge);
+    }
+    gauges
+}
+
+fn read_alarms(closed: &Closed<(), Global>) -> ArrayVec<Alarm, 16>
+    requires { (slots_len closed.now.words ≡ 26) × IsFull closed.now.words }
+    ensures { (slots : List (Option Alarm)) → SlotsShow slots (slots_items closed.now.words)
+        → result.items ≡ standing slots }
+{
+    let mut alarms = ArrayVec::new();
+    for slot in 0..SLOTS {
+        if let Some(alarm) = AlarmWord::from_bits(closed.word(ALARMS + slot)).alarm() {
+            alarms.push(alarm);
+        }
+    }
+    alarms
+}
+
+impl Meters {
+    ghost use Rattle.meters.specs.Handles.{view_of, IsSeatOf, AreOfOneTable};
+
+    /// Closes the meters where no other end stands unjoined. Else the meters and the end come back, and the number of
+    /// the others.
+    pub fn close(self, seat: MeterSeat) -> Result<Metered, (Meters, MeterSeat, OpenEnds)>
+        requires { IsSeatOf self seat }
+        ensures closed { IfOk result (λ c. ClosedNow (view_of seat) c.gauges c.clock c.alarms.items) }
+        ensures open { IfErr result (λ e. (e.0 ≡ self) × AreOfOneTable seat e.1
+            × WereOpen (view_of seat) e.2.others (view_of e.1)) }
+    {
+        let mut seat = seat;
+        let ends = count(&self.table.shared, &mut seat.seat);
+        if ends != 1 {
+            let others = ends.wrapping_sub(1);
+            return Err((self, seat, OpenEnds { others }));
+        }
+        let MeterSeat { seat: last } = seat;
+        let Meters { table } = self;
+        let closed = table.close_with(last);
+        let gauges = read_gauges(&closed);
+        let clock = closed.word(CLOCK) as u32;
+        let alarms = read_alarms(&closed);
+        closed.free();
+        Ok(Metered {
+            gauges,
+            clock,
+            alarms,
+        })
+    }
+}

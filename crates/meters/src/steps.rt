@@ -1,0 +1,180 @@
+//! The atomic steps, one function for each kind.
+ghost use Rattle.std.specs.Prelude.{◌≡◌, ◌≢◌, ◌+◌, ◌<◌, ◌≤◌, [], slice_index_or, IsTrue, IsFalse, Some, None};
+ghost use Rattle.meters.specs.Steps.{Saw, Ticked, Advanced, SetIn, Fired, Cancelled, CountedUp, CountedDown, Tallied};
+ghost use Rattle.meters.specs.Steps.{rest_of, halves, both, emptied, IsSame};
+ghost use Rattle.meters.specs.Answers.{Looked};
+
+use crate::plays::{
+    Advances, Cancels, Counts, CountsDown, CountsUp, Fires, Halves, Joins, Look, Sets, Spent, Ticks,
+};
+use crate::rule::{MeterRule, Shape, View};
+use crate::word::AlarmWord;
+use atomic_table::{Seat, Shared};
+use quaject_core::Alarm;
+
+pub(crate) type Words = Shared<(), View, Shape, MeterRule>;
+
+pub(crate) const ENDS: usize = 0;
+
+/// The word of gauge 0.
+pub(crate) const GAUGES: usize = 1;
+
+pub(crate) const CLOCK: usize = 9;
+
+/// The word of slot 0.
+pub(crate) const ALARMS: usize = 10;
+
+pub(crate) const SLOTS: usize = 16;
+
+pub(crate) fn load(words: &Words, seat: &mut Seat<(), View>, word: usize) -> u64
+    requires { (seat.old.table_id ≡ words.now.table_id) × (word < words.now.table_id.words) }
+    ensures { IsSame seat.old seat.new × (seat.new.me.1 ≡ seat.old.me.1) × Saw seat.old.me.0 word result seat.new.me.0 }
+{
+    words.load::<Look>(seat, word)
+}
+
+pub(crate) fn load_clock(words: &Words, seat: &mut Seat<(), View>) -> u64
+    requires { (seat.old.table_id ≡ words.now.table_id) × (26 ≤ words.now.table_id.words) }
+    ensures seat { IsSame seat.old seat.new × (seat.new.me.1 ≡ seat.old.me.1) }
+    ensures seen { Looked seat.old.me.0 seat.new.me.0 }
+    ensures clock { result ≡ seat.new.me.0.seen.clock }
+    ensures small { result < 4294967296 }
+{
+    load(words, seat, CLOCK)
+}
+
+pub(crate) fn load_alarm(words: &Words, seat: &mut Seat<(), View>, slot: usize) -> Option<Alarm>
+    requires { (seat.old.table_id ≡ words.now.table_id) × (26 ≤ words.now.table_id.words) × (slot < 16) }
+    ensures seat { IsSame seat.old seat.new × (seat.new.me.1 ≡ seat.old.me.1) }
+    ensures seen { Looked seat.old.me.0 seat.new.me.0 }
+    ensures alarm { result ≡ slice_index_or seat.new.me.0.seen.slots slot None }
+{
+    AlarmWord::from_bits(load(words, seat, ALARMS + slot)).alarm()
+}
+
+pub(crate) fn add_to_gauge(
+    words: &Words,
+    seat: &mut Seat<(), View>,
+    gauge: usize,
+    amount: u64,
+) -> u64
+    requires seat { (seat.old.table_id ≡ words.now.table_id) × (26 ≤ words.now.table_id.words) × (gauge < 8) }
+    requires live { 1 ≤ seat.old.me.0.ends }
+    ensures seat { IsSame seat.old seat.new × (seat.new.me.1 ≡ seat.old.me.1) }
+    ensures ticked { Ticked seat.old.me.0 gauge amount result seat.new.me.0 }
+{
+    words.fetch_add::<Ticks>(seat, GAUGES + gauge, amount)
+}
+
+pub(crate) fn exchange_clock(words: &Words, seat: &mut Seat<(), View>, clock: u64) -> u64
+    requires seat { (seat.old.table_id ≡ words.now.table_id) × (26 ≤ words.now.table_id.words) }
+    requires live { 1 ≤ seat.old.me.0.ends }
+    requires below { clock < 4294967295 }
+    ensures seat { IsSame seat.old seat.new × (seat.new.me.1 ≡ seat.old.me.1) }
+    ensures hit { result ≡ clock → Advanced seat.old.me.0 clock seat.new.me.0 }
+    ensures miss { result ≢ clock → Looked seat.old.me.0 seat.new.me.0 × (result ≡ seat.new.me.0.seen.clock) }
+    ensures small { result < 4294967296 }
+{
+    words.compare_exchange::<Advances>(seat, CLOCK, clock, clock + 1)
+}
+
+/// Whether the slot was empty, and the alarm now stands there.
+pub(crate) fn exchange_in(
+    words: &Words,
+    seat: &mut Seat<(), View>,
+    slot: usize,
+    alarm: Alarm,
+) -> bool
+    requires seat { (seat.old.table_id ≡ words.now.table_id) × (26 ≤ words.now.table_id.words) × (slot < 16) }
+    requires live { 1 ≤ seat.old.me.0.ends }
+    ensures seat { IsSame seat.old seat.new × (seat.new.me.1 ≡ seat.old.me.1) }
+    ensures hit { IsTrue result → SetIn seat.old.me.0 slot alarm seat.new.me.0 }
+    ensures miss { IsFalse result → Looked seat.old.me.0 seat.new.me.0
+        × (slice_index_or seat.new.me.0.seen.slots slot None ≢ None) }
+{
+    let word = AlarmWord::of(alarm).bits();
+    words.compare_exchange::<Sets>(seat, ALARMS + slot, 0, word) == 0
+}
+
+/// Whether the alarm, which is due, stood there and is now fired.
+pub(crate) fn exchange_fired(
+    words: &Words,
+    seat: &mut Seat<(), View>,
+    slot: usize,
+    alarm: Alarm,
+) -> bool
+    requires seat { (seat.old.table_id ≡ words.now.table_id) × (26 ≤ words.now.table_id.words) × (slot < 16) }
+    requires live { 1 ≤ seat.old.me.0.ends }
+    requires due { alarm.due ≤ seat.old.me.0.seen.clock }
+    ensures seat { IsSame seat.old seat.new × (seat.new.me.1 ≡ seat.old.me.1) }
+    ensures hit { IsTrue result → Fired seat.old.me.0 slot alarm seat.new.me.0 }
+    ensures miss { IsFalse result → Looked seat.old.me.0 seat.new.me.0
+        × (slice_index_or seat.new.me.0.seen.slots slot None ≢ Some alarm) }
+{
+    let word = AlarmWord::of(alarm).bits();
+    words.compare_exchange::<Fires>(seat, ALARMS + slot, word, 0) == word
+}
+
+/// Whether the alarm stood there and is now cancelled.
+pub(crate) fn exchange_cancelled(
+    words: &Words,
+    seat: &mut Seat<(), View>,
+    slot: usize,
+    alarm: Alarm,
+) -> bool
+    requires seat { (seat.old.table_id ≡ words.now.table_id) × (26 ≤ words.now.table_id.words) × (slot < 16) }
+    requires live { 1 ≤ seat.old.me.0.ends }
+    ensures seat { IsSame seat.old seat.new × (seat.new.me.1 ≡ seat.old.me.1) }
+    ensures hit { IsTrue result → Cancelled seat.old.me.0 slot alarm seat.new.me.0 }
+    ensures miss { IsFalse result → Looked seat.old.me.0 seat.new.me.0
+        × (slice_index_or seat.new.me.0.seen.slots slot None ≢ Some alarm) }
+{
+    let word = AlarmWord::of(alarm).bits();
+    words.compare_exchange::<Cancels>(seat, ALARMS + slot, word, 0) == word
+}
+
+pub(crate) fn count_up(words: &Words, seat: &mut Seat<(), View>)
+    requires seat { (seat.old.table_id ≡ words.now.table_id) × (26 ≤ words.now.table_id.words) }
+    requires live { 1 ≤ seat.old.me.0.ends }
+    ensures seat { IsSame seat.old seat.new × (seat.new.me.1 ≡ seat.old.me.1) }
+    ensures counted { CountedUp seat.old.me.0 seat.new.me.0 }
+{
+    words.fetch_add::<CountsUp>(seat, ENDS, 1);
+}
+
+pub(crate) fn count_down(words: &Words, seat: &mut Seat<(), View>)
+    requires seat { (seat.old.table_id ≡ words.now.table_id) × (26 ≤ words.now.table_id.words) }
+    requires live { 2 ≤ seat.old.me.0.ends }
+    ensures seat { IsSame seat.old seat.new × (seat.new.me.1 ≡ seat.old.me.1) }
+    ensures counted { CountedDown seat.old.me.0 seat.new.me.0 }
+{
+    words.fetch_sub::<CountsDown>(seat, ENDS, 1);
+}
+
+pub(crate) fn count(words: &Words, seat: &mut Seat<(), View>) -> u64
+    requires { (seat.old.table_id ≡ words.now.table_id) × (26 ≤ words.now.table_id.words) }
+    ensures seat { IsSame seat.old seat.new × (seat.new.me.1 ≡ seat.old.me.1) }
+    ensures tallied { Tallied seat.old.me.0 result seat.new.me.0 }
+{
+    words.load::<Counts>(seat, ENDS)
+}
+
+pub(crate) fn split_off(words: &Words, seat: &mut Seat<(), View>) -> Seat<(), View>
+    requires seat { (seat.old.table_id ≡ words.now.table_id) × (26 ≤ words.now.table_id.words) }
+    requires live { 2 ≤ seat.old.me.0.ends }
+    ensures seat { IsSame seat.old seat.new × (result.table_id ≡ seat.old.table_id) }
+    ensures split { (seat.new.me ≡ (rest_of seat.old.me.0, seat.old.me.1)) × (result.me ≡ (halves seat.old.me.0, [])) }
+{
+    words.split_seat::<Halves>(seat)
+}
+
+pub(crate) fn take_in<J: Spent>(words: &Words, seat: &mut Seat<(), View>, other: Seat<(), View>)
+    requires seat { (seat.old.table_id ≡ words.now.table_id) × (other.table_id ≡ words.now.table_id)
+        × (other.me.1 ≡ []) × (26 ≤ words.now.table_id.words) }
+    requires live { (1 ≤ seat.old.me.0.ends) × (1 ≤ other.me.0.ends) }
+    requires spent { J.view ≡ emptied seat.old.me.0 }
+    ensures seat { IsSame seat.old seat.new }
+    ensures joined { seat.new.me ≡ (both seat.old.me.0 other.me.0, seat.old.me.1) }
+{
+    words.join_seat::<Joins<J>>(seat, other);
+}

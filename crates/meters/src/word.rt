@@ -1,0 +1,80 @@
+//! The word of a slot.
+ghost use Rattle.std.specs.Prelude.{◌≡◌, ◌%◌, ◌==◌, Some, Option};
+ghost use Rattle.meters.specs.Words.{word_of, Fits, IsInRange};
+ghost use Rattle.quaject_core.specs.declared.alarm.Alarm.{Alarm};
+
+use quaject_core::{Alarm, Element, Signal};
+
+/// Bit 63: an alarm stands here.
+const STANDS: u64 = 9_223_372_036_854_775_808;
+
+/// The signal's lowest bit, bit 40.
+const SIGNAL: u64 = 1_099_511_627_776;
+
+/// The element's lowest bit, bit 32, which is one above the bits of the tick.
+const ELEMENT: u64 = 4_294_967_296;
+
+/// What a slot's word says: 0, or an alarm with its tick in bits 0 to 31, its element in bits 32 to 39, its signal in
+/// bits 40 to 47, and bit 63 set.
+#[derive(Clone, Copy, Debug, PartialEq, Eq)]
+pub struct AlarmWord {
+    bits: u64,
+}
+
+impl AlarmWord {
+    /// The word of a slot in which this alarm stands.
+    pub fn of(alarm: Alarm) -> AlarmWord
+        ensures bits { result.bits ≡ word_of (Some alarm) }
+        ensures range { IsInRange alarm }
+    {
+        let element = u64::from(alarm.element.number());
+        let signal = u64::from(alarm.signal.number());
+        AlarmWord {
+            bits: STANDS + signal * SIGNAL + element * ELEMENT + u64::from(alarm.due),
+        }
+    }
+
+    /// The word with these bits.
+    pub fn from_bits(bits: u64) -> AlarmWord
+        ensures { result.bits ≡ bits }
+    {
+        AlarmWord { bits }
+    }
+
+    /// The bits of the word.
+    pub fn bits(self) -> u64
+        ensures { result ≡ self.bits }
+    {
+        self.bits
+    }
+
+    /// Whether no alarm stands here.
+    pub fn is_empty(self) -> bool
+        ensures { result ≡ (self.bits == 0) }
+    {
+        self.bits == 0
+    }
+
+    /// The tick at which the alarm is due.
+    pub fn due(self) -> u32
+        ensures { result ≡ self.bits % 4294967296 }
+    {
+        (self.bits % ELEMENT) as u32
+    }
+
+    /// The alarm that stands here, which is the one that the word was made of.
+    pub fn alarm(self) -> Option<Alarm>
+        ensures { (slot : Option Alarm) → Fits slot → self.bits ≡ word_of slot → result ≡ slot }
+    {
+        if self.is_empty() {
+            return None;
+        }
+        let element = Element::new((self.bits / ELEMENT % 256) as u8)?;
+        let signal = Signal::new((self.bits / SIGNAL % 256) as u8)?;
+        Some(Alarm {
+            due: self.due(),
+            element,
+            signal,
+        })
+    }
+}

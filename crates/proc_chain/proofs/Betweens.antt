@@ -1,0 +1,95 @@
+-- Whatever the rule holds of is a lawful chain of the core, shown by the words and the views.
+use Rattle.std.proofs.Common.{◌≡◌, ℕ, ◌+◌, ◌%◌, ◌<◌, ◌≤◌, true, false, true≢false, List, ◌∙◌, map, length, take, get_or, refl, sym, ap, subst, arith, Some, eqb, eq-eqb, ne_eqb}
+use Rattle.std.proofs.lemmas.List.{get_or-map, take-map}
+use Rattle.std.proofs.lemmas.Simd.{map-map}
+use Rattle.std.proofs.lemmas.Bool.{le-leb, leb-true}
+use mathlib.Core.Option as maybe
+use mathlib.Core.Logic.{dite}
+use native.Mathlib.Decide.{dec_le, ℕ_discrete}
+use lib.ListN.{get_elem?}
+use Rattle.atomic_table.specs.Table.{State}
+use Rattle.quaject_core.specs.declared.status.Gate.TheVariants.{Idle}
+use Rattle.quaject_core.specs.declared.tables.Positions.{Positions}
+use Rattle.quaject_core.specs.Runs.{flat}
+use Rattle.quaject_core.specs.Queues.{is_raised}
+use Rattle.quaject_core.specs.Chains.{Chain, is_call}
+use Rattle.quaject_core.specs.Lawful.{is_idle}
+use Rattle.quaject_core.specs.Positioned.{blank, item_of, place_at, item_at}
+use Rattle.quaject_core.specs.Filing.{ListedOnce}
+use Rattle.quaject_core.specs.Listing.{runs_of, takes_of, Chained}
+use Rattle.quaject_core.proofs.QueueOf.{flat_of, long_is}
+use Rattle.quaject_core.proofs.QueueEvents.{got}
+use Rattle.proc_chain.specs.declared.rule.Shape.{Shape}
+use Rattle.proc_chain.specs.declared.rule.View.{View}
+use Rattle.proc_chain.specs.Shown.{note_in, mark_in, gate_in, notes_of}
+use Rattle.proc_chain.specs.Rules.{part_of, Rule}
+use Rattle.proc_chain.specs.Gates.{GateShows}
+use Rattle.proc_chain.specs.Chainings.{gate_of, runner_from, owes_in, chain_of}
+use Rattle.proc_chain.specs.Between.{pair_at, PlaceIs, ShowsChain}
+use Rattle.proc_chain.proofs.Gates.{others_still}
+use Rattle.proc_chain.proofs.Events.{runner_none, runner_at, up_is, not_idle, chain_is_lawful}
+
+-- a view has the turn exactly where its end is the runner
+runner_is : (q : Positions) (gate : ℕ) (views : List View) → GateShows q gate views → (call : ℕ) (v : View) → get_elem? views call ≡ maybe.some v → v.runner ≡ is_call call (runner_from 0 views)
+runner_is q gate views g call v at = dite (ℕ_discrete gate 0)
+    (λ down. g.still down call v at ∙ ap (is_call call) (sym (runner_none 0 views (g.still down))))
+    (λ up. let r = g.runs up in let is : runner_from 0 views ≡ Some (0 + r.number) = runner_at 0 r.number views r.view r.is_view r.runner (others_still q gate views r.number r.view g r.is_view r.runner) in
+    dite (ℕ_discrete call r.number)
+    (λ same. let e : eqb (0 + r.number) call ≡ true = eq-eqb (0 + r.number) call (omega arith) in
+    (let w : v ≡ r.view = maybe.some-injective v r.view (sym at ∙ (ap (get_elem? views) same ∙ r.is_view)) in ap (λ (z : View). z.runner) w ∙ r.runner) ∙ (sym e ∙ ap (is_call call) (sym is)))
+    (λ ne. let e : eqb (0 + r.number) call ≡ false = ne_eqb (0 + r.number) call (λ z. ne (omega arith)) in
+    others_still q gate views r.number r.view g r.is_view r.runner call v at ne ∙ (sym e ∙ ap (is_call call) (sym is))))
+
+module _ {Q W : Type 0} (made : Q → List ℕ → Type 0) (fits : W → Q → Type 0) (key : Shape W) (s : State Q View) (k : Rule made fits key s) where
+  abbrev c : Chain
+  c = chain_of k.queue k.listed.runs (gate_in s.words) s.views
+
+  item_is : (i : ℕ) → i < length k.queue.places → get_or (flat c.notes.history) i 0 ≡ item_at k.queue i
+  item_is i below = ap (λ (z : List ℕ). get_or z i 0) (flat_of k.listed.runs ∙ ap (map item_of) k.listed.runs_flat) ∙ get_or-map item_of k.queue.places i blank 0 below
+
+  place_is : (i : ℕ) → k.queue.taken ≤ i → i < length k.queue.places → PlaceIs c s.words i (key.first + i)
+  place_is i from below = let q : Positions = k.queue in let u = up_is q k.listed.runs k.listed.runs_flat i below in let x = item_is i below in let within = k.lawful.within in let p = k.shows.window.each i from (omega arith) in
+      let at : (q.first + i) % q.room ≡ (key.first + i) % 32 = (λ z. (k.first z + i) % k.shows.room z) in
+      let mark : mark_in s.words ((q.first + i) % q.room) ≡ mark_in s.words ((key.first + i) % 32) = ap (mark_in s.words) at in
+      let note : note_in s.words ((q.first + i) % q.room) ≡ note_in s.words ((key.first + i) % 32) = ap (note_in s.words) at in let first = k.first in
+      let raised : is_raised c.notes (pair_at c i) ≡ true → 2 ≤ (place_at q i).written = (λ h. leb-true 2 (place_at q i).written (sym u ∙ h)) in record {
+        raised = λ h. sym mark ∙ (p.up (raised h) ∙ ap (λ (z : ℕ). z + i + 1) first);
+        note = λ h. sym note ∙ (p.holds (let w = raised h in omega arith) ∙ sym x);
+        claimed = λ h. let low : (place_at q i).written < 2 = dite (dec_le 2 (place_at q i).written) (λ y. absurd (true≢false (sym (le-leb 2 (place_at q i).written y) ∙ (sym u ∙ h)))) (λ no. omega arith) in let f = p.low low in omega arith;
+      }
+
+  notes_are : notes_of k.queue ≡ take c.notes.taken (flat c.notes.history)
+  notes_are = sym (take-map item_of k.queue.taken k.queue.places) ∙ ap (take k.queue.taken) (sym (flat_of k.listed.runs ∙ ap (map item_of) k.listed.runs_flat))
+
+  idle_word : gate_of (gate_in s.words) ≡ Idle → gate_in s.words ≡ 0
+  idle_word h = dite (ℕ_discrete (gate_in s.words) 0) (λ y. y) (λ up. absurd (true≢false (sym (ap is_idle h) ∙ not_idle (gate_in s.words) up)))
+
+  pub shows_chain : ShowsChain made fits key s
+  shows_chain = let q : Positions = k.queue in let l = k.listed in let n = long_is q l.runs l.runs_flat in let h = k.shows in let first = k.first in record {
+    chain = c;
+    lawful = chain_is_lawful q (gate_in s.words) s.views l k.lawful k.gate;
+    shown = record {
+      runs = l.runs;
+      history = refl;
+      once = subst (ListedOnce l.runs) (map-map runs_of part_of s.views) l.runs_filed;
+      side_by_side = subst (λ (z : ℕ). Chained z l.runs) k.first l.runs_chained;
+      raised = λ run index. refl;
+      takings = l.takes;
+      taken_once = subst (ListedOnce l.takes) (map-map takes_of part_of s.views) l.takes_filed;
+      taken_in_order = subst (λ (z : ℕ). Chained z l.takes) k.first l.takes_chained;
+      taken_notes = ap (map item_of) l.takes_flat ∙ notes_are;
+      capacity = h.room;
+      is_open = h.is_open;
+      long = h.wide;
+      small = let w = h.small in omega arith;
+      head = h.head ∙ (omega arith);
+      tail = h.tail ∙ ap (λ (z : ℕ). z + q.taken) first;
+      places = λ i from below. place_is i from (omega arith);
+      gate = refl;
+      gate_word = k.gate.small;
+      runner = runner_is q (gate_in s.words) s.views k.gate;
+      owing = λ call v at. sym (ap owes_in (got s.views call v at));
+    };
+    home = λ idle. let x = k.slot.home (idle_word idle) in (x.0, x.1, subst (made x.0) notes_are x.2, x.3);
+    held = λ busy. k.slot.held (λ down. busy (ap gate_of down));
+  }

@@ -1,0 +1,11 @@
+pub mod Gates
+pub mod Events
+pub mod Looks
+pub mod Claiming
+pub mod Serving
+pub mod Tallying
+pub mod Turns
+pub mod Rounds
+pub mod Linking
+pub mod Closing
+pub mod Betweens

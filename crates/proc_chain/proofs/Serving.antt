@@ -1,0 +1,139 @@
+-- The steps of the runner keep the rule.
+use Rattle.std.proofs.Common.{◌≡◌, ◌≢◌, ℕ, ◌+◌, ◌/◌, ◌%◌, ◌<◌, ◌≤◌, inr, true, false, eqb, List, [], map, length, get_or, set, sym, refl, ap, ◌∙◌, subst, arith, length-set, get_or-set_same, get_or-set_other}
+use Rattle.std.proofs.lemmas.List.{map-set}
+use mathlib.Core.Option.{none}
+use mathlib.Core.Logic.{dite}
+use native.Mathlib.Decide.{ℕ_discrete}
+use prog.Atomic.{either}
+use Rattle.atomic_table.specs.Table.{Me, step, keeps, gives, put_back, Allows}
+use Rattle.quaject_core.specs.declared.tables.Positions.{Positions}
+use Rattle.quaject_core.specs.Positioned.{written_at, Lawful, with_take, tail_of}
+use Rattle.quaject_core.specs.Windows.{spot}
+use Rattle.quaject_core.specs.Listing.{ViewsShow}
+use Rattle.quaject_core.specs.Counting.{EndsCounted}
+use Rattle.atomic_table.proofs.Lists.{at_map, exchanged}
+use Rattle.quaject_core.proofs.Positioned.{grows_refl, take_lawful}
+use Rattle.quaject_core.proofs.Listing.{listed_take}
+use Rattle.quaject_core.proofs.Counting.{counted_look}
+use Rattle.quaject_core.proofs.Windows.{window_same, window_take, found_not_raised}
+use Rattle.proc_chain.specs.declared.rule.Shape.{Shape}
+use Rattle.proc_chain.specs.declared.rule.View.{View}
+use Rattle.proc_chain.specs.Shown.{note_in, mark_in, gate_in, WordsShow, notes_of}
+use Rattle.proc_chain.specs.Gates.{GateShows, SlotShows}
+use Rattle.proc_chain.specs.Rules.{part_of, ends_of, share_of, IsIdle, Rule}
+use Rattle.proc_chain.specs.Steps.{looked, Saw, spies, took, takes, rounds, leaves, Carries}
+use Rattle.proc_chain.proofs.Gates.{gated_same, gated_runs, gated_leaves, others_still, gate_up, notes_same}
+use Rattle.proc_chain.proofs.Looks.{settled_look, kept_word, kept_look, sees_of, turn_of, saw_now}
+use Rattle.quaject_core.specs.Chains as chains
+use Rattle.proc_chain.specs.Chainings.{IsChainEvent}
+use Rattle.proc_chain.proofs.Events.{take_event, round_event, leave_event}
+use Rattle.proc_chain.proofs.Claiming.{Goes, kept_gate}
+
+shows_take : (q : Positions) (words : List ℕ) (new : ℕ) → WordsShow q words → Lawful q → q.taken + 1 ≤ length q.places → new ≡ tail_of q + 1 → WordsShow (with_take q 1) (set words 1 new)
+shows_take q words new h l below is = let wide = h.wide in record {
+  wide = length-set words 1 new ∙ h.wide;
+  room = h.room;
+  is_open = h.is_open;
+  small = h.small;
+  head = get_or-set_other words 1 0 new 0 (λ e. omega arith) ∙ h.head;
+  tail = get_or-set_same words 1 new 0 (omega arith) ∙ (omega arith);
+  window = window_same (with_take q 1) (mark_in words) (note_in words) (mark_in (set words 1 new)) (note_in (set words 1 new)) (window_take q 1 (mark_in words) (note_in words) h.window l below)
+      (λ k b. ap (λ (z : ℕ). z / 65536) (get_or-set_other words 1 (k + 4) new 0 (λ e. omega arith))) (λ k b. ap (λ (z : ℕ). z % 65536) (get_or-set_other words 1 (k + 4) new 0 (λ e. omega arith)));
+}
+
+module _ {Q W : Type 0} (made : Q → List ℕ → Type 0) (fits : W → Q → Type 0) (key : Shape W) where
+  pub spies_place : (n id : ℕ) (me : Me Q View) (i : ℕ) → me.0.runner ≡ true → 1 ≤ me.0.ends → i ≡ tail_of me.0.part.queue % 32 + 4 → Allows (Rule made fits key) n id me i (λ x. x) (spies (step n i 0 0 none) me)
+  spies_place n id me i r live word s k _ at _ = let v : View = me.0 in let q : Positions = k.queue in let g = k.listed.seen id v.part (at_map part_of s.views id v at) in let y : ℕ = get_or s.words i 0 in
+      let taken = k.gate.takes id v at r in let first = g.0.first in let room = k.shows.room in let tail : tail_of v.part.queue ≡ tail_of q = omega arith in let behind = k.lawful.behind in
+      dite (ℕ_discrete (y / 65536) (tail_of v.part.queue + 1))
+      (λ up. (looked v q, keeps, tt, kept_look made fits key s k i id v at, (refl, record { up = λ _. subst (λ (z : ℕ). Saw v z y (looked v q)) word (saw_now made fits key s k i id v at); low = λ ne. absurd (ne up) })))
+      (λ no. let here : i ≡ spot q q.taken + 4 = word ∙ (λ j. tail j % sym room j + 4) in let w : View = record (looked v q) { saw = true } in
+      let low : written_at q q.taken < 2 = found_not_raised q (mark_in s.words) (note_in s.words) q.taken k.shows.window (omega arith) (omega arith) (λ h. no (ap (λ (z : ℕ). get_or s.words z 0 / 65536) here ∙ (h ∙ (omega arith)))) in (
+        w,
+        keeps,
+        tt,
+        kept_word made fits key s k i id v w at refl (counted_look ends_of share_of IsIdle (get_or s.words 2 0) s.views id v w k.counted at refl refl (λ none. absurd (omega arith)))
+            (gated_same q q (gate_in s.words) s.views id v w k.gate at refl refl (λ _. refl) (λ _. inr (λ up. absurd (omega arith))) (settled_look q s.views id v w at refl refl)),
+        (refl, record { up = λ up. absurd (no up); low = λ _. record { queue = q; same = refl; sees = sees_of made fits key s k id v at; turn = sym taken; low = low } }),
+      ))
+
+  pub takes_note : (n id call : ℕ) (me : Me Q View) (new : ℕ) → call ≡ id → me.0.runner ≡ true → 1 ≤ me.0.ends → 2 ≤ written_at me.0.part.queue me.0.part.queue.taken → new ≡ tail_of me.0.part.queue + 1 → Allows (Rule made fits key) n id me 1 (λ _. new) (λ _. takes call (step n 1 new 0 none) me new)
+  takes_note n id call me new own r live up is s k _ at _ = let v : View = me.0 in let q : Positions = k.queue in let g = k.listed.seen id v.part (at_map part_of s.views id v at) in let taken = k.gate.takes id v at r in let first = g.0.first in
+      let w : View = took v q in let q' : Positions = with_take q 1 in let more = g.0.more v.part.queue.taken in
+      let now : 2 ≤ written_at q q.taken = subst (λ (z : ℕ). 2 ≤ written_at q z) taken (let f : 2 ≤ written_at q v.part.queue.taken = omega arith in f) in
+      let lawful' : Lawful q' = take_lawful q 1 k.lawful (λ i b. let e : q.taken ≡ q.taken + i = omega arith in subst (λ (z : ℕ). 2 ≤ written_at q z) e now) in
+      let keep : (j : ℕ) → j ≢ 1 → get_or (set s.words 1 new) j 0 ≡ get_or s.words j 0 = λ j ne. get_or-set_other s.words 1 j new 0 ne in let not_idle = gate_up q (gate_in s.words) s.views id v k.gate at r in (
+        w,
+        keeps,
+        tt,
+        record {
+          queue = q';
+          first = k.first;
+          lawful = lawful';
+          shows = shows_take q s.words new k.shows k.lawful lawful'.behind (omega arith);
+          listed = subst (ViewsShow q') (sym (map-set part_of s.views id w)) (listed_take q (map part_of s.views) id 1 v.part w.part k.listed (at_map part_of s.views id v at) k.lawful.behind refl refl (grows_refl q', grows_refl q'));
+          counted = subst (λ (c : ℕ). EndsCounted ends_of share_of IsIdle c (set s.views id w)) (sym (keep 2 (λ e. omega arith))) (counted_look ends_of share_of IsIdle (get_or s.words 2 0) s.views id v w k.counted at refl refl (λ none. absurd (omega arith)));
+          gate = subst (λ (c : ℕ). GateShows q' c (set s.views id w)) (sym (keep 3 (λ e. omega arith))) (gated_runs q' (gate_in s.words) s.views id v w at (others_still q (gate_in s.words) s.views id v k.gate at r) not_idle k.gate.small r refl refl);
+          slot = subst (λ (c : ℕ). SlotShows made fits key.world.value q' c s.homes) (sym (keep 3 (λ e. omega arith))) record { home = λ down. absurd (not_idle down); held = k.slot.held };
+        },
+        (
+          refl,
+          record {
+            queue = q;
+            same = refl;
+            sees = sees_of made fits key s k id v at;
+            turn = sym taken;
+            gate = gate_in s.words;
+            event = subst (λ (z : ℕ). IsChainEvent q q' (gate_in s.words) (gate_in s.words) z v w (chains.take_note z 1)) (sym own)
+                (take_event q (gate_in s.words) s.views id v w k.listed at k.lawful k.gate r lawful'.behind now refl refl (grows_refl q', grows_refl q') refl refl);
+            after = lawful';
+          },
+        ),
+      )
+
+  pub rounds_gate : (n id call : ℕ) (me : Me Q View) → call ≡ id → me.0.runner ≡ true → 1 ≤ me.0.ends → Allows (Rule made fits key) n id me 3 (λ _. 1) (rounds call (step n 3 1 0 none) me)
+  rounds_gate n id call me own r live s k _ at _ = let v : View = me.0 in let q : Positions = k.queue in let not_idle = gate_up q (gate_in s.words) s.views id v k.gate at r in let w : View = record (looked v q) { saw = false } in (
+    w,
+    keeps,
+    tt,
+    kept_gate made fits key s k id 1 v w s.homes at refl refl refl live (gated_runs q 1 s.views id v w at (others_still q (gate_in s.words) s.views id v k.gate at r) (λ e. omega arith) (omega arith) r refl refl)
+        record { home = λ e. absurd (omega arith); held = λ _. k.slot.held not_idle },
+    (
+      refl,
+      record {
+        queue = q;
+        same = refl;
+        sees = sees_of made fits key s k id v at;
+        turn = turn_of made fits key s k id v at r;
+        gate = gate_in s.words;
+        event = subst (λ (z : ℕ). IsChainEvent q q (gate_in s.words) 1 z v w (chains.round z)) (sym own) (round_event q (gate_in s.words) s.views id v w k.listed at k.lawful k.gate r refl refl (grows_refl q, grows_refl q) refl refl);
+      },
+    ),
+  )
+
+  pub leaves_gate : (n id call : ℕ) (me : Me Q View) → call ≡ id → me.0.runner ≡ true → me.0.saw ≡ true → 1 ≤ me.0.ends → me.0.part.queue.taken ≤ length me.0.part.queue.places → Carries made (fits key.world.value) (notes_of me.0.part.queue) [] me.1
+      → Allows (Rule made fits key) n id me 3 (λ y. either (eqb y 1) 0 y) (leaves call (step n 3 1 0 none) me)
+  leaves_gate n id call me own r sw live behind c s k _ at _ = let y : ℕ = gate_in s.words in let v : View = me.0 in let q : Positions = k.queue in let g = k.listed.seen id v.part (at_map part_of s.views id v at) in let not_idle = gate_up q y s.views id v k.gate at r in let taken = k.gate.takes id v at r in
+      exchanged y 1 0 (Goes made fits key s 3 id me (leaves call (step n 3 1 0 none) me y))
+      (λ hit. let w : View = record (looked v q) { runner = false; saw = false } in let gate' : GateShows q 0 (set s.views id w) = gated_leaves q s.views id v w (subst (λ (z : ℕ). GateShows q z s.views) hit k.gate) at r sw refl refl refl in (
+        w,
+        gives,
+        tt,
+        kept_gate made fits key s k id 0 v w (put_back s.homes me.1) at refl refl refl live gate'
+            record { home = λ _. (c.0, (λ i. put_back (k.slot.held not_idle i) (c.1 i)), subst (made c.0) (sym (notes_same v.part.queue q g.0 (sym taken) behind)) c.2, c.3); held = λ e. absurd (e refl) },
+        (
+          (λ _. (
+            refl,
+            record {
+              queue = q;
+              same = refl;
+              sees = sees_of made fits key s k id v at;
+              turn = sym taken;
+              event = subst (λ (z : ℕ). IsChainEvent q q 1 0 z v w (chains.leave z)) (sym own) (subst (λ (z : ℕ). IsChainEvent q q z 0 id v w (chains.leave id)) hit
+                  (leave_event q y s.views id v w k.listed at k.lawful k.gate hit r (k.gate.seen id v at r sw hit) refl refl (grows_refl q, grows_refl q) (gate'.still refl) refl));
+            },
+          )),
+          λ miss. absurd (miss hit),
+        ),
+      ))
+      (λ miss. let small = k.gate.small in (looked v q, keeps, tt, kept_look made fits key s k 3 id v at, ((λ hit. absurd (miss hit)), λ _. (refl, saw_now made fits key s k 3 id v at, (let f : y ≢ 0 = not_idle in let m : y ≢ 1 = miss in omega arith)))))

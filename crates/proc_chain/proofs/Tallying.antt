@@ -1,0 +1,177 @@
+-- The steps that make, split, join and count ends keep the rule.
+use Rattle.std.proofs.Common.{◌≡◌, ℕ, zero, suc, replicate, ◌+◌, ◌-◌, ◌/◌, ◌%◌, ◌<◌, ◌≤◌, inl, false, List, [], ◌∷◌, ◌++◌, map, length, get_or, set, sym, refl, ap, ◌∙◌, subst, arith, true≢false, length-set, get_or-set_same, get_or-set_other}
+use Rattle.std.proofs.lemmas.List.{map-set, map-append}
+use mathlib.Core.Option.{some, none, some-injective, some-ne-none}
+use lib.ListN.{get_elem?}
+use Rattle.atomic_table.specs.Table.{State, Me, step, keeps, Allows, Splits, Joins, opening}
+use Rattle.quaject_core.specs.declared.tables.Positions.{Positions}
+use Rattle.quaject_core.specs.declared.tables.QueueView.{QueueView}
+use Rattle.quaject_core.specs.Windows.{spot}
+use Rattle.quaject_core.specs.Listing.{Later, ViewsShow}
+use Rattle.quaject_core.specs.Counting.{EndsCounted}
+use Rattle.atomic_table.proofs.Lists.{at_map, set_else}
+use Rattle.quaject_core.proofs.Positioned.{grows_refl}
+use Rattle.quaject_core.proofs.Listing.{listed_look, listed_new, listed_join, listed_first, distinct}
+use Rattle.quaject_core.proofs.Counting.{counted_up, counted_down, counted_split, counted_join, counted_first}
+use Rattle.quaject_core.proofs.Windows.{window_same}
+use Rattle.proc_chain.specs.declared.rule.Shape.{Shape}
+use Rattle.proc_chain.specs.declared.rule.View.{View}
+use Rattle.proc_chain.specs.Shown.{note_in, mark_in, gate_in, WordsShow}
+use Rattle.proc_chain.specs.Gates.{GateShows, SlotShows}
+use Rattle.proc_chain.specs.Rules.{part_of, ends_of, share_of, IsIdle, Rule, empty_from, newcomer}
+use Rattle.proc_chain.specs.Steps.{looked, counts_up, counts_down, counts, rest_of, halves, both, emptied}
+use Rattle.proc_chain.proofs.Gates.{owed_on, covers_more, gated_same, gated_new}
+use Rattle.proc_chain.proofs.Looks.{settled_look, kept_look, sees_of, turn_of}
+
+shows_count : (q : Positions) (words : List ℕ) (y : ℕ) → WordsShow q words → WordsShow q (set words 2 y)
+shows_count q words y h = record {
+  wide = length-set words 2 y ∙ h.wide;
+  room = h.room;
+  is_open = h.is_open;
+  small = h.small;
+  head = get_or-set_other words 2 0 y 0 (λ e. omega arith) ∙ h.head;
+  tail = get_or-set_other words 2 1 y 0 (λ e. omega arith) ∙ h.tail;
+  window = window_same q (mark_in words) (note_in words) (mark_in (set words 2 y)) (note_in (set words 2 y)) h.window
+      (λ k b. ap (λ (z : ℕ). z / 65536) (get_or-set_other words 2 (k + 4) y 0 (λ e. omega arith))) (λ k b. ap (λ (z : ℕ). z % 65536) (get_or-set_other words 2 (k + 4) y 0 (λ e. omega arith)));
+}
+
+first_gated : (q : Positions) (w : View) → w.runner ≡ false → q.places ≡ [] → (j : ℕ) (v : View) → get_elem? (w ∷ []) j ≡ some v → v.runner ≡ false
+first_gated q w r gone zero v has = ap (λ (z : View). z.runner) (sym (some-injective w v has)) ∙ r
+first_gated q w r gone (suc j) v has = absurd (some-ne-none v (sym has))
+
+all_zero : (n j : ℕ) → get_or {A = ℕ} (replicate n 0) j 0 ≡ 0
+all_zero zero j = refl
+all_zero (suc n) zero = refl
+all_zero (suc n) (suc j) = all_zero n j
+
+zeros : (f j : ℕ) → 3 ≤ j → get_or (f ∷ f ∷ 1 ∷ replicate 33 0) j 0 ≡ 0
+zeros f zero h = absurd (omega arith)
+zeros f (suc zero) h = absurd (omega arith)
+zeros f (suc (suc zero)) h = absurd (omega arith)
+zeros f (suc (suc (suc j))) h = all_zero 33 j
+
+module _ {Q W : Type 0} (made : Q → List ℕ → Type 0) (fits : W → Q → Type 0) (key : Shape W) where
+  -- the rule, where the count becomes y and a view w that lists the same sees the queue as it is
+  kept_count : (s : State Q View) (k : Rule made fits key s) (id y : ℕ) (v w : View) → get_elem? s.views id ≡ some v → w.part ≡ record v.part { queue = k.queue; joined = k.queue } → w.runner ≡ v.runner → w.owes ≡ v.owes → w.saw ≡ v.saw
+      → EndsCounted ends_of share_of IsIdle y (set s.views id w) → Rule made fits key record { words = set s.words 2 y; homes = s.homes; views = set s.views id w }
+  kept_count s k id y v w at is r ow sw c = let wide = k.shows.wide in let keep : gate_in (set s.words 2 y) ≡ gate_in s.words = get_or-set_other s.words 2 3 y 0 (λ e. omega arith) in record {
+    queue = k.queue;
+    first = k.first;
+    lawful = k.lawful;
+    shows = shows_count k.queue s.words y k.shows;
+    listed = subst (ViewsShow k.queue) (sym (map-set part_of s.views id w)) (listed_look k.queue (map part_of s.views) id v.part w.part k.listed (at_map part_of s.views id v at) (ap (λ (z : QueueView). z.runs) is) (ap (λ (z : QueueView). z.takes) is)
+        (subst (λ (z : QueueView). Later z k.queue) (sym is) (grows_refl k.queue, grows_refl k.queue)));
+    counted = subst (λ (c : ℕ). EndsCounted ends_of share_of IsIdle c (set s.views id w)) (sym (get_or-set_same s.words 2 y 0 (omega arith))) c;
+    gate = subst (λ (c : ℕ). GateShows k.queue c (set s.views id w)) (sym keep) (gated_same k.queue k.queue (gate_in s.words) s.views id v w k.gate at r refl (λ _. ap (λ (z : QueueView). z.queue.taken) is) (λ h. inl (sym sw ∙ h)) (settled_look k.queue s.views id v w at ow (ap (λ (z : QueueView). z.runs) is)));
+    slot = subst (λ (c : ℕ). SlotShows made fits key.world.value k.queue c s.homes) (sym keep) k.slot;
+  }
+
+  pub ups : (n id : ℕ) (me : Me Q View) → 1 ≤ me.0.ends → Allows (Rule made fits key) n id me 2 (λ x. (x + 1) % 18446744073709551616) (counts_up (step n 2 1 0 none) me)
+  ups n id me live s k _ at _ = let v : View = me.0 in let w : View = record (looked v k.queue) { ends = v.ends + 1 } in let c : ℕ = get_or s.words 2 0 in (
+    w,
+    keeps,
+    tt,
+    kept_count s k id ((c + 1) % 18446744073709551616) v w at refl refl refl refl (counted_up ends_of share_of IsIdle c s.views id v w k.counted at live refl refl),
+    (refl, record { queue = k.queue; same = refl; sees = sees_of made fits key s k id v at; turn = turn_of made fits key s k id v at }),
+  )
+
+  pub downs : (n id : ℕ) (me : Me Q View) → 2 ≤ me.0.ends → Allows (Rule made fits key) n id me 2 (λ x. (x + (18446744073709551616 - 1)) % 18446744073709551616) (counts_down (step n 2 1 0 none) me)
+  downs n id me live s k _ at _ = let v : View = me.0 in let w : View = record (looked v k.queue) { ends = v.ends - 1 } in let c : ℕ = get_or s.words 2 0 in (
+    w,
+    keeps,
+    tt,
+    kept_count s k id ((c + (18446744073709551616 - 1)) % 18446744073709551616) v w at refl refl refl refl (counted_down ends_of share_of IsIdle c s.views id v w k.counted at (omega arith) (omega arith) refl),
+    (refl, record { queue = k.queue; same = refl; sees = sees_of made fits key s k id v at; turn = turn_of made fits key s k id v at; distinct = distinct k.queue (map part_of s.views) id v.part k.listed (at_map part_of s.views id v at) }),
+  )
+
+  -- the count is found
+  pub tallies : (n id : ℕ) (me : Me Q View) → 1 ≤ me.0.ends → Allows (Rule made fits key) n id me 2 (λ x. x) (counts (step n 2 0 0 none) me)
+  tallies n id me live s k _ at _ = let v : View = me.0 in (
+    looked v k.queue,
+    keeps,
+    tt,
+    kept_look made fits key s k 2 id v at,
+    (
+      refl,
+      record {
+        queue = k.queue;
+        same = refl;
+        sees = sees_of made fits key s k id v at;
+        turn = turn_of made fits key s k id v at;
+        views = s.views;
+        seat = id;
+        here = at;
+        shown = k.listed;
+        counted = k.counted;
+      },
+    ),
+  )
+
+  pub splits : (id : ℕ) (v : View) → 2 ≤ v.ends → Splits (Rule made fits key) id v (rest_of v) (halves v)
+  splits id v live s k at = let later = k.listed.seen id v.part (at_map part_of s.views id v at) in record {
+    queue = k.queue;
+    first = k.first;
+    lawful = k.lawful;
+    shows = k.shows;
+    listed = subst (ViewsShow k.queue) (sym (map-append part_of (set s.views id (rest_of v)) (halves v ∷ []) ∙ ap (λ (z : List QueueView). z ++ (halves v).part ∷ []) (map-set part_of s.views id (rest_of v))))
+        (listed_new k.queue (set (map part_of s.views) id v.part) (halves v).part (listed_look k.queue (map part_of s.views) id v.part v.part k.listed (at_map part_of s.views id v at) refl refl later) refl refl later);
+    counted = counted_split ends_of share_of IsIdle (get_or s.words 2 0) s.views id v (rest_of v) (halves v) k.counted at (omega arith) (omega arith) (omega arith) refl refl;
+    gate = gated_new k.queue (gate_in s.words) (set s.views id (rest_of v)) (halves v) (gated_same k.queue k.queue (gate_in s.words) s.views id v (rest_of v) k.gate at refl refl (λ r. k.gate.takes id v at r) (λ h. inl h) (settled_look k.queue s.views id v (rest_of v) at refl refl)) refl;
+    slot = k.slot;
+  }
+
+  pub joins : (id other : ℕ) (v w : View) → 1 ≤ v.ends → 1 ≤ w.ends → w.runner ≡ false → w.owes ≡ false → Joins (Rule made fits key) id v other w (both v w) (emptied v)
+  joins id other v w live live' r ow s k at ne has = let at' : get_elem? s.views other ≡ some w = sym (set_else s.views id other (both v w) ne) ∙ has in
+      let later = k.listed.seen id v.part (at_map part_of s.views id v at) in let later' = k.listed.seen other w.part (at_map part_of s.views other w at') in
+      let g = gated_same k.queue k.queue (gate_in s.words) s.views id v (both v w) k.gate at refl refl (λ t. k.gate.takes id v at t) (λ h. inl h) (λ st up. owed_on k.queue k.queue s.views id v (both v w) at (st up) refl (λ h. h) (λ _. covers_more v (both v w) w.part.runs refl)) in record {
+        queue = k.queue;
+        first = k.first;
+        lawful = k.lawful;
+        shows = k.shows;
+        listed = subst (ViewsShow k.queue) (sym (map-set part_of (set s.views id (both v w)) other (emptied v) ∙ ap (λ (z : List QueueView). set z other (emptied v).part) (map-set part_of s.views id (both v w))))
+            (listed_join k.queue (map part_of s.views) id other v.part w.part (both v w).part (emptied v).part k.listed (at_map part_of s.views id v at) (at_map part_of s.views other w at') ne refl refl refl refl (later.0, later'.0) later);
+        counted = counted_join ends_of share_of IsIdle (get_or s.words 2 0) s.views id other v w (both v w) (emptied v) k.counted at at' ne live live' refl refl refl refl (refl, refl, refl, refl);
+        gate = gated_same k.queue k.queue (gate_in s.words) (set s.views id (both v w)) other w (emptied v) g has (sym r) refl (λ h. absurd (true≢false (sym h))) (λ h. absurd (true≢false (sym h)))
+            (λ st up. owed_on k.queue k.queue (set s.views id (both v w)) other w (emptied v) has (st up) refl (λ h. absurd (true≢false (sym h ∙ ow))) (λ h. absurd (true≢false (sym h ∙ ow))));
+        slot = k.slot;
+      }
+
+  -- the table as it is made
+  pub opens : (x : Q) (words : List ℕ) → key.first < 4294967296 → length words ≡ 36 → get_or words 0 0 ≡ key.first → get_or words 1 0 ≡ key.first → get_or words 2 0 ≡ 1
+      → ((j : ℕ) → 3 ≤ j → get_or words j 0 ≡ 0) → made x [] → fits key.world.value x → Rule made fits key (opening words (x ∷ []) (newcomer key))
+  opens x words small long head tail ends rest is_made is_fit = let q : Positions = empty_from key.first in let w : View = newcomer key in let down : gate_in words ≡ 0 = rest 3 (omega arith) in let nobody = first_gated q w refl refl in record {
+    queue = q;
+    first = refl;
+    lawful = record { behind = omega arith; within = omega arith; ready = λ i h. absurd (omega arith) };
+    shows = record {
+      wide = long;
+      room = refl;
+      is_open = refl;
+      small = omega arith;
+      head = omega arith;
+      tail = omega arith;
+      window = record {
+        some_room = omega arith;
+        each = λ i a b. record {
+          low = λ _. (let z = rest (spot q i + 4) (omega arith) in omega arith);
+          up = λ h. absurd (omega arith);
+          holds = λ h. absurd (omega arith);
+        };
+      };
+    };
+    listed = listed_first q w.part refl refl refl refl (grows_refl q, grows_refl q);
+    counted = subst (λ (c : ℕ). EndsCounted ends_of share_of IsIdle c (w ∷ [])) (sym ends) (counted_first ends_of share_of IsIdle w refl refl);
+    gate = record {
+      small = omega arith;
+      runs = λ up. absurd (up down);
+      still = λ _. nobody;
+      sole = λ i j u v has has' is is'. absurd (true≢false (sym is ∙ nobody i u has));
+      takes = λ j v has is. absurd (true≢false (sym is ∙ nobody j v has));
+      idle = λ _ h. absurd (omega arith);
+      seen = λ j v has is. absurd (true≢false (sym is ∙ nobody j v has));
+    };
+    slot = record { home = λ _. (x, refl, is_made, is_fit); held = λ up. absurd (up down) };
+  }
+
+  pub opens_new : (x : Q) (xs : List Q) → key.first < 4294967296 → xs ≡ x ∷ [] → made x [] → fits key.world.value x → Rule made fits key (opening (key.first ∷ key.first ∷ 1 ∷ replicate 33 0) xs (newcomer key))
+  opens_new x xs small is is_made is_fit = let f : ℕ = key.first in subst (λ (z : List Q). Rule made fits key (opening (f ∷ f ∷ 1 ∷ replicate 33 0) z (newcomer key))) (sym is) (opens x (f ∷ f ∷ 1 ∷ replicate 33 0) small refl refl refl refl (zeros f) is_made is_fit)

@@ -1,0 +1,23 @@
+use Rattle.std.proofs.Common.{rules, arith, sym, ap, subst, ◌∙◌, ◌≡◌, ◌≤◌, ◌<◌, ◌+◌, ◌-◌, length}
+use Rattle.quaject_core.specs.declared.tables.Positions.{Positions}
+use Rattle.quaject_core.specs.Positioned.{head_of}
+use Rattle.proc_chain.specs.declared.rule.View.{View}
+use Rattle.proc_chain.proofs.Linking.{joined_down, joined_notes, slot_by, all_join}
+use Rattle.proc_chain.proofs.ends.ProcChain.take_over.Goals as goal
+
+pub invariant_of-end : goal.invariant_of-end
+invariant_of-end g c = let v : View = c.args.end.now.seat.me.0 in let u : View = c.args.other.seat.me.0 in let w : View = c.count_down.new.seat.me.0 in let d = joined_down v u c.take_in.new.seat.me.0 w (λ i. (c.take_in.ensures.joined i).0) c.count_down.ensures.counted in let f = ap (λ (z : View). z.part.queue) d.same in
+    let e : w.ends ≡ v.ends + u.ends - 1 = ap (λ (z : View). z.ends) d.same in let a = c.args.end.now.one in let b = c.args.other.one in record {
+      room = ap (λ (z : Positions). z.room) f ∙ (d.sees.later.0.room ∙ c.args.end.now.room);
+      one = omega arith;
+      turned = ap (λ (z : View). z.runner) d.same ∙ c.args.end.now.turned;
+      settled = ap (λ (z : View). z.owes) d.same ∙ c.args.end.now.settled;
+      behind = subst (λ (z : Positions). z.taken ≤ length z.places) (sym f) d.sees.lawful.behind;
+      small = subst (λ (z : Positions). head_of z < 4294967296) (sym f) d.sees.small;
+      distinct = d.distinct;
+      raised = all_join v.part.runs u.part.runs w.part.runs (ap (λ (z : View). z.part.runs) d.same) c.args.end.now.raised c.args.other.raised;
+    }
+
+pub returns-clause-ends : goal.returns-clause-ends
+returns-clause-ends g c = let made = g.Q.Quaject.made_by in let fits = g.Q.Quaject.fits c.args.self.now.table.shared.key.world.value in let v : View = c.args.end.now.seat.me.0 in let u : View = c.args.other.seat.me.0 in let w : View = c.count_down.new.seat.me.0 in let j = c.take_in.ensures.joined in let d = joined_down v u c.take_in.new.seat.me.0 w (λ i. (j i).0) c.count_down.ensures.counted in
+    (search rules, slot_by made fits v w _ _ (ap (λ (z : View). z.runner) d.same) (joined_notes v u w c.args.end.now.behind d) (c.count_down.ensures.queue.1 ∙ (λ i. (j i).1)) c.requires.ends.0.1)

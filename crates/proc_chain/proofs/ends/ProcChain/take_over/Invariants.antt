@@ -1,0 +1,5 @@
+use Rattle.proc_chain.specs.Steps.{emptied}
+use Rattle.proc_chain.proofs.ends.ProcChain.take_over.Given as goal
+
+abbrev pub ghosts-take_in : goal.ghosts-take_in
+ghosts-take_in g a = record { view = emptied a.seat.now.me.0 }

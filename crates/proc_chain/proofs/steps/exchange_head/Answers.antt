@@ -1,0 +1,10 @@
+use Rattle.std.proofs.Common.{rules, arith, refl, subst, sym, ◌<◌, ℕ}
+use Rattle.proc_chain.proofs.Claiming.{claims_head}
+use Rattle.proc_chain.proofs.steps.exchange_head.Goals as goal
+
+pub compare_exchange-requires : goal.compare_exchange-requires
+compare_exchange-requires g c = let room = c.requires.room in let small = c.requires.small in let fits = c.ranges.note.fits in (
+  search rules,
+  search rules,
+  claims_head _ _ _ _ _ _ _ _ _ _ c.requires.call (subst (λ (z : ℕ). z < 65536) (sym c.requires.note) (omega arith)) refl small room c.requires.live,
+)

@@ -1,0 +1,15 @@
+use Rattle.std.proofs.Common.{rules, subst, sym}
+use Rattle.atomic_table.specs.Table.{Joins}
+use Rattle.proc_chain.specs.Rules.{Rule}
+use Rattle.proc_chain.specs.Steps.{both}
+use Rattle.proc_chain.proofs.Tallying.{joins}
+use Rattle.proc_chain.proofs.steps.take_in.Goals as goal
+
+pub join_seat-requires : goal.join_seat-requires
+join_seat-requires g c = let a = c.args.seat.now in let b = c.args.other in (
+  search rules,
+  search rules,
+  c.requires.queue.2,
+  search rules,
+  subst (Joins (Rule g.Q.Quaject.made_by g.Q.Quaject.fits c.args.words.now.key) a.id a.me.0 b.id b.me.0 (both a.me.0 b.me.0)) (sym c.requires.spent) (joins g.Q.Quaject.made_by g.Q.Quaject.fits c.args.words.now.key a.id b.id a.me.0 b.me.0 c.requires.live.0 c.requires.live.1 c.requires.settled.0 c.requires.settled.1),
+)

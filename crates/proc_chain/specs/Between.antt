@@ -1,0 +1,71 @@
+-- What holds between any two steps: a lawful chain of the core that the words and the views show, and its quaject.
+use Rattle.std.specs.Prelude.{◌≡◌, ◌≢◌, ℕ, ◌+◌, ◌%◌, ◌<◌, ◌≤◌, true, false, List, [], ◌∷◌, map, length, take}
+use Rattle.std.specs.Prelude.{slice_index_or}
+use Rattle.std.specs.List.{slice_get}
+use mathlib.Core.Option.{some, none}
+use lib.ListN.{get_elem?}
+use Rattle.atomic_table.specs.Table.{State}
+use Rattle.quaject_core.specs.declared.status.Gate.TheVariants.{Idle}
+use Rattle.quaject_core.specs.declared.tables.Batch.{Batch}
+use Rattle.quaject_core.specs.Runs.{flat, pairs}
+use Rattle.quaject_core.specs.Queues.{is_raised}
+use Rattle.quaject_core.specs.Chains.{Chain, is_call}
+use Rattle.quaject_core.specs.Lawful.{IsLawfulChain}
+use Rattle.quaject_core.specs.Positioned.{item_of}
+use Rattle.quaject_core.specs.Filing.{Owned, ListedOnce}
+use Rattle.quaject_core.specs.Listing.{all_places, Chained}
+use Rattle.quaject_core.specs.QueueOf.{run_in, up_in}
+use Rattle.proc_chain.specs.declared.rule.Shape.{Shape}
+use Rattle.proc_chain.specs.declared.rule.View.{View}
+use Rattle.proc_chain.specs.Shown.{note_in, mark_in, gate_in}
+use Rattle.proc_chain.specs.Chainings.{gate_of}
+
+-- the pair (run, index) of the note with this number
+abbrev pub pair_at : Chain → ℕ → ℕ × ℕ
+pair_at c i = slice_index_or (pairs c.notes.history) i (0, 0)
+
+-- The place of the note with the number i is at the position p. Where the note is raised, the mark is one more than
+-- the position, and the word has the note; else the mark is at most the position
+pub record PlaceIs (c : Chain) (words : List ℕ) (i p : ℕ) : Type 0 where
+  pub raised : is_raised c.notes (pair_at c i) ≡ true → mark_in words (p % 32) ≡ p + 1
+  pub note : is_raised c.notes (pair_at c i) ≡ true
+      → note_in words (p % 32) ≡ slice_index_or (flat c.notes.history) i 0
+  pub claimed : is_raised c.notes (pair_at c i) ≡ false → mark_in words (p % 32) ≤ p
+
+-- the words and the views show the chain
+pub record IsShown {W : Type 0} (key : Shape W) (words : List ℕ) (views : List View) (c : Chain) : Type 0 where
+  pub runs : List (Owned Batch)
+  pub history : c.notes.history ≡ map run_in runs
+  -- each run of a view is one of the history, and each of the history is of one view, at one place of its list
+  pub once : ListedOnce runs (map (λ view. view.part.runs) views)
+  -- each run begins where the one before it ends, the first at the first position
+  pub side_by_side : Chained key.first runs
+  pub raised : (run index : ℕ) → c.notes.raised run index ≡ up_in (slice_get runs run) index
+  pub takings : List (Owned Batch)
+  -- each taking is in one view, and they take each position below the tail once, with the note that its run gave it
+  pub taken_once : ListedOnce takings (map (λ view. view.part.takes) views)
+  pub taken_in_order : Chained key.first takings
+  pub taken_notes : map item_of (all_places takings) ≡ take c.notes.taken (flat c.notes.history)
+  pub capacity : c.notes.capacity ≡ 32
+  pub is_open : c.notes.shut ≡ false
+  pub long : length words ≡ 36
+  pub small : key.first + length (flat c.notes.history) < 4294967296
+  pub head : slice_index_or words 0 0 ≡ key.first + length (flat c.notes.history)
+  pub tail : slice_index_or words 1 0 ≡ key.first + c.notes.taken
+  pub places : (i : ℕ) → c.notes.taken ≤ i → i < length (flat c.notes.history) → PlaceIs c words i (key.first + i)
+  pub gate : c.gate ≡ gate_of (gate_in words)
+  pub gate_word : gate_in words ≤ 2
+  -- an end is the runner exactly where it knows so, and owes a notify exactly where it knows so
+  pub runner : (call : ℕ) (v : View) → get_elem? views call ≡ some v → v.runner ≡ is_call call c.runner
+  pub owing : (call : ℕ) (v : View) → get_elem? views call ≡ some v → v.owes ≡ c.owing call
+
+-- There is a lawful chain that is shown. Where its gate is Idle, the quaject is in the slot, was made by the notes
+-- taken, in order, and fits the world; else its runner holds the slot
+pub record ShowsChain {Q W : Type 0} (made : Q → List ℕ → Type 0) (fits : W → Q → Type 0) (key : Shape W)
+    (s : State Q View) : Type 0 where
+  pub chain : Chain
+  pub lawful : IsLawfulChain chain
+  pub shown : IsShown key s.words s.views chain
+  pub home : chain.gate ≡ Idle → (x : Q) × (s.homes ≡ some x ∷ [])
+      × made x (take chain.notes.taken (flat chain.notes.history)) × fits key.world.value x
+  pub held : chain.gate ≢ Idle → s.homes ≡ none ∷ []

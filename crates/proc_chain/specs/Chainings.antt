@@ -1,0 +1,53 @@
+-- The chain of the core that a table's positions, its gate and its views are.
+use Rattle.std.specs.Prelude.{◌≡◌, ℕ, zero, suc, Bool, false, if◌then◌else◌, List, [], ◌∷◌, map, slice_set}
+use Rattle.std.specs.Prelude.{Option, Some, None, Result, Ok}
+use Rattle.std.specs.List.{slice_get}
+use mathlib.Core.Option.{some}
+use lib.ListN.{get_elem?}
+use Rattle.quaject_core.specs.declared.refusal.Refusal.{Refusal}
+use Rattle.quaject_core.specs.declared.status.Gate.{Gate}
+use Rattle.quaject_core.specs.declared.status.Gate.TheVariants.{Idle, Running, More}
+use Rattle.quaject_core.specs.declared.tables.Batch.{Batch}
+use Rattle.quaject_core.specs.declared.tables.Positions.{Positions}
+use Rattle.quaject_core.specs.Filing.{Owned}
+use Rattle.quaject_core.specs.Listing.{ViewsShow}
+use Rattle.quaject_core.specs.QueueOf.{queue_of}
+use Rattle.quaject_core.specs.Chains.{Chain}
+use Rattle.quaject_core.specs.Lawful.{IsLawfulChain}
+use Rattle.proc_chain.specs.declared.rule.View.{View}
+use Rattle.proc_chain.specs.Rules.{part_of}
+
+abbrev pub gate_of : ℕ → Gate
+gate_of zero = Idle
+gate_of (suc zero) = Running
+gate_of (suc (suc n)) = More
+
+-- the first end that has the turn
+abbrev pub runner_from : ℕ → List View → Option ℕ
+runner_from number [] = None
+runner_from number (v ∷ vs) = if v.runner then Some number else runner_from (suc number) vs
+
+abbrev pub owes_in : Option View → Bool
+owes_in None = false
+owes_in (Some v) = v.owes
+
+-- an end is a call: its runs, its turn and what it owes
+abbrev pub chain_of : Positions → List (Owned Batch) → ℕ → List View → Chain
+chain_of q runs gate views = record {
+  notes = queue_of q runs;
+  gate = gate_of gate;
+  runner = runner_from 0 views;
+  owing = λ call. owes_in (slice_get views call);
+}
+
+-- A step of the end `seat`, which knew v and then knows w, makes r of the positions q, and another gate: it is this
+-- event of the chain that the gate and the views of all ends show
+pub record IsChainEvent (q r : Positions) (gate new_gate : ℕ) (seat : ℕ) (v w : View)
+    (event : Chain → Result Chain Refusal) : Type 0 where
+  pub views : List View
+  pub here : get_elem? views seat ≡ some v
+  pub shown : ViewsShow q (map part_of views)
+  pub new_shown : ViewsShow r (slice_set (map part_of views) seat w.part)
+  pub lawful : IsLawfulChain (chain_of q shown.runs gate views)
+  pub made : event (chain_of q shown.runs gate views)
+      ≡ Ok (chain_of r new_shown.runs new_gate (slice_set views seat w))

@@ -1,0 +1,50 @@
+-- The gate, the runner, the notifies owed, and where the quaject is.
+use Rattle.std.specs.Prelude.{◌≡◌, ◌≢◌, ℕ, ◌≤◌, true, false, List, [], ◌∷◌}
+use mathlib.Core.Option.{Option, some, none}
+use lib.ListN.{get_elem?}
+use Rattle.quaject_core.specs.declared.tables.Batch.{Batch}
+use Rattle.quaject_core.specs.declared.tables.Positions.{Positions}
+use Rattle.quaject_core.specs.Positioned.{written_at, tail_of}
+use Rattle.proc_chain.specs.declared.rule.View.{View}
+use Rattle.proc_chain.specs.Shown.{notes_of}
+
+-- the end that owns the run at the tail owes a notify
+pub record IsOwed (q : Positions) (views : List View) : Type 0 where
+  pub owner : ℕ
+  pub view : View
+  pub is_view : get_elem? views owner ≡ some view
+  pub owes : view.owes ≡ true
+  pub number : ℕ
+  pub run : Batch
+  pub has : get_elem? view.part.runs number ≡ some run
+  pub start : run.start ≡ tail_of q
+
+-- where the first note left is raised, the end that owns its run owes a notify
+abbrev pub IsSettled : Positions → List View → Type 0
+IsSettled q views = 2 ≤ written_at q q.taken → IsOwed q views
+
+-- some end has the turn
+pub record HasRunner (views : List View) : Type 0 where
+  pub number : ℕ
+  pub view : View
+  pub is_view : get_elem? views number ≡ some view
+  pub runner : view.runner ≡ true
+
+-- One end has the turn where the gate is not Idle, and none where it is. That end knows how many notes were taken. In
+-- an Idle chain no raised note is forgotten, nor in a Running one whose runner has seen that none was raised
+pub record GateShows (q : Positions) (gate : ℕ) (views : List View) : Type 0 where
+  pub small : gate ≤ 2
+  pub runs : gate ≢ 0 → HasRunner views
+  pub still : gate ≡ 0 → (j : ℕ) (v : View) → get_elem? views j ≡ some v → v.runner ≡ false
+  pub sole : (i j : ℕ) (u v : View) → get_elem? views i ≡ some u → get_elem? views j ≡ some v → u.runner ≡ true
+      → v.runner ≡ true → i ≡ j
+  pub takes : (j : ℕ) (v : View) → get_elem? views j ≡ some v → v.runner ≡ true → v.part.queue.taken ≡ q.taken
+  pub idle : gate ≡ 0 → IsSettled q views
+  pub seen : (j : ℕ) (v : View) → get_elem? views j ≡ some v → v.runner ≡ true → v.saw ≡ true → gate ≡ 1
+      → IsSettled q views
+
+-- Where the gate is Idle the quaject is in the slot, made by the notes taken, and fits the world; else the slot is held
+pub record SlotShows {Q W : Type 0} (made : Q → List ℕ → Type 0) (fits : W → Q → Type 0) (world : W) (q : Positions)
+    (gate : ℕ) (homes : List (Option Q)) : Type 0 where
+  pub home : gate ≡ 0 → (x : Q) × (homes ≡ some x ∷ []) × made x (notes_of q) × fits world x
+  pub held : gate ≢ 0 → homes ≡ none ∷ []

@@ -1,0 +1,50 @@
+-- What a clause says of a chain and of an end.
+use Rattle.std.specs.Prelude.{◌≡◌, ℕ, Bool}
+use Rattle.quaject_core.specs.Sharing.{IsWhole}
+use Rattle.atomic_table.specs.Table.{Me}
+use Rattle.proc_chain.specs.declared.quaject.Quaject.{Ghosts}
+use Rattle.proc_chain.specs.declared.rule.View.{View}
+use Rattle.proc_chain.specs.declared.ends.ProcChain.{ProcChain}
+use Rattle.proc_chain.specs.declared.ends.ChainEnd.{ChainEnd}
+use Rattle.proc_chain.specs.Steps.{IsSame}
+use Rattle.proc_chain.specs.Turns.{HasSlot}
+
+module _ {Q W : Type 0} where
+  -- the world of the chain's quaject
+  abbrev pub world_of : ProcChain Q W → W
+  world_of chain = chain.table.shared.key.world.value
+
+  -- the chain's first position
+  abbrev pub first_of : ProcChain Q W → ℕ
+  first_of chain = chain.first
+
+module _ {Q W : Type 0} {g : Ghosts Q W} where
+  -- what the end knows
+  abbrev pub view_of : ChainEnd Q W g → View
+  view_of end = end.seat.me.0
+
+  -- what the end knows, and what it holds of the chain's slot
+  abbrev pub me_of : ChainEnd Q W g → Me Q View
+  me_of end = end.seat.me
+
+  -- the number of the end, which is the call of its events
+  abbrev pub call_of : ChainEnd Q W g → ℕ
+  call_of end = end.seat.id
+
+  -- whether the end has a Turn to serve
+  abbrev pub turn_of : ChainEnd Q W g → Bool
+  turn_of end = end.turn
+
+  -- every other end was joined
+  abbrev pub IsOnlyEnd : ChainEnd Q W g → Type 0
+  IsOnlyEnd end = IsWhole end.seat.me.0.share
+
+  -- It is an end of this chain. It holds the quaject where it has the turn, made by the notes taken and fitting the
+  -- world, and holds nothing else
+  abbrev pub IsEndOf : ProcChain Q W → ChainEnd Q W g → Type 0
+  IsEndOf chain end = (end.seat.table_id ≡ chain.table.shared.table_id)
+      × HasSlot g.made_by (g.fits chain.table.shared.key.world.value) end.seat.me
+
+  -- it is the same end of the same chain
+  abbrev pub IsSameEnd : ChainEnd Q W g → ChainEnd Q W g → Type 0
+  IsSameEnd old new = IsSame old.seat new.seat

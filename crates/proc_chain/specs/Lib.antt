@@ -1,0 +1,12 @@
+pub mod Shown
+pub mod Rules
+pub mod Gates
+pub mod Chainings
+pub mod Between
+pub mod Steps
+pub mod Turns
+pub mod Answers
+pub mod Servings
+pub mod Endings
+pub mod Closings
+pub mod Handles

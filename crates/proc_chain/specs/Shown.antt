@@ -1,0 +1,30 @@
+-- What the words of the table show: head, tail, number of ends, gate and the place words.
+use Rattle.std.specs.Prelude.{◌≡◌, ℕ, ◌+◌, ◌/◌, ◌%◌, ◌<◌, false, List, length, map, take, slice_index_or}
+use Rattle.quaject_core.specs.declared.tables.Positions.{Positions}
+use Rattle.quaject_core.specs.Positioned.{head_of, tail_of, item_of}
+use Rattle.quaject_core.specs.Windows.{PlacesShow}
+
+-- bits 0 to 15 of the word of the place k
+abbrev pub note_in : List ℕ → ℕ → ℕ
+note_in words k = slice_index_or words (k + 4) 0 % 65536
+
+-- the bits above them: where the place is raised, its position and 1 more
+abbrev pub mark_in : List ℕ → ℕ → ℕ
+mark_in words k = slice_index_or words (k + 4) 0 / 65536
+
+-- 0 Idle, 1 Running, 2 More
+abbrev pub gate_in : List ℕ → ℕ
+gate_in words = slice_index_or words 3 0
+
+pub record WordsShow (q : Positions) (words : List ℕ) : Type 0 where
+  pub wide : length words ≡ 36
+  pub room : q.room ≡ 32
+  pub is_open : q.shut ≡ false
+  pub small : head_of q < 4294967296
+  pub head : slice_index_or words 0 0 ≡ head_of q
+  pub tail : slice_index_or words 1 0 ≡ tail_of q
+  pub window : PlacesShow q (mark_in words) (note_in words)
+
+-- the notes that were taken, in order
+abbrev pub notes_of : Positions → List ℕ
+notes_of q = map item_of (take q.taken q.places)

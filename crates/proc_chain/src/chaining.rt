@@ -1,0 +1,76 @@
+//! Chaining a note.
+ghost use Rattle.std.specs.Prelude.{◌≡◌, ◌+◌, ◌<◌, ◌≤◌, MatchResult, IfOk, IfErr, false, true};
+ghost use Rattle.proc_chain.specs.Answers.{IsChained, Refused, is_run};
+
+use crate::ends::{ChainEnd, ProcChain};
+use crate::quaject::Quaject;
+use crate::steps::{IDLE, exchange_head, load_head, load_tail, store_place, swap_more};
+use std::marker::Brand;
+use thiserror::Error;
+
+/// The right and the duty to run the notes of a chain. It can't be let go, only served.
+pub struct Turn(pub(crate) ());
+
+/// Whose it is to run a note that was chained.
+pub enum Chained {
+    /// The gate was Idle: the end has the Turn.
+    Run(Turn),
+    /// Another end, or this one, runs it in its Turn.
+    Left,
+}
+
+/// Why a note was refused. The refusals stand in the order in which they are checked.
+#[derive(Clone, Copy, Debug, PartialEq, Eq, Drop, Error)]
+pub enum ChainRefusal {
+    /// The note would go past the last position, 4,294,967,294.
+    #[error("no positions left")]
+    Spent,
+    /// There was no room at the step that loaded this head.
+    #[error("full at head {head}, tail {tail}")]
+    Full { head: u32, tail: u32 },
+    /// Another end claimed first: the exchange found this head.
+    #[error("lost, head {head}")]
+    Lost { head: u32 },
+}
+
+impl<Q: Quaject> ProcChain<Q> {
+    ghost use Rattle.proc_chain.specs.Handles.{view_of, me_of, call_of, turn_of, world_of, IsEndOf, IsSameEnd};
+
+    /// One try to chain a note: it claims a place, raises the note there, and swaps the gate to More. Where the gate
+    /// was Idle, the quaject goes out to this end, and the answer is `Run`. The end then has raised all that it
+    /// claimed, and owes no notify. A refusal changes nothing.
+    pub fn try_chain(&self, end: &mut ChainEnd<Q>, note: u16) -> Result<Chained, ChainRefusal>
+        requires { IsEndOf self.now end.old }
+        ensures queue { IsSameEnd end.old end.new }
+        ensures ends { IsEndOf self.now end.new }
+        ensures chained { MatchResult result
+            (λ r. IsChained Q.made_by (Q.fits (world_of self.now)) (call_of end.old) (me_of end.old) note r
+            (me_of end.new)) (λ e. Refused (view_of end.old) e (view_of end.new)) }
+        ensures turn { MatchResult result (λ r. is_run r ≡ true → (turn_of end.old ≡ false) × (turn_of end.new ≡ true))
+            (λ e. turn_of end.new ≡ turn_of end.old) }
+        ensures kept { IfOk result (λ r. is_run r ≡ false → turn_of end.new ≡ turn_of end.old) }
+    {
+        let words = &self.table.shared;
+        let head = load_head(words, &mut end.seat);
+        if head >= 4_294_967_295 {
+            return Err(ChainRefusal::Spent);
+        }
+        let tail = load_tail(words, &mut end.seat);
+        if head + 1 > tail + 32 {
+            return Err(ChainRefusal::Full {
+                head: head as u32,
+                tail: tail as u32,
+            });
+        }
+        let found = exchange_head::<Q, Brand>(words, &mut end.seat, head, note);
+        if found != head {
+            return Err(ChainRefusal::Lost { head: found as u32 });
+        }
+        store_place::<Q, Brand>(words, &mut end.seat, head, note);
+        if swap_more::<Q, Brand>(words, &mut end.seat) == IDLE {
+            end.turn = true;
+            return Ok(Chained::Run(Turn(())));
+        }
+        Ok(Chained::Left)
+    }
+}

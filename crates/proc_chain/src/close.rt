@@ -1,0 +1,102 @@
+//! Closing a chain.
+ghost use Rattle.std.specs.Prelude.{◌≡◌, ◌+◌, ◌-◌, ◌<◌, ◌≤◌, false, IfOk, IfErr, MatchResult};
+ghost use Rattle.std.specs.Mem.Slots.{slots_items, slots_len, IsFull};
+ghost use Rattle.proc_chain.specs.Closings.{ClosedNow, WereOpen, left_at, left_from};
+
+use crate::ends::{ChainEnd, ProcChain};
+use crate::quaject::Quaject;
+use crate::steps::count;
+use crate::word::PlaceWord;
+use arrayvec::ArrayVec;
+use atomic_table::Closed;
+use std::alloc::Global;
+use thiserror::Error;
+
+/// What a chain had at its end.
+#[derive(Drop)]
+pub struct ChainClosed<Q> {
+    pub quaject: Q,
+    pub put: u32,
+    pub taken: u32,
+    pub left: ArrayVec<Option<u16>, 32>,
+}
+
+/// Ends that were made and not joined, and their number.
+#[derive(Clone, Copy, Debug, PartialEq, Eq, Drop, Error)]
+#[error("{others} other ends are not joined")]
+pub struct OpenEnds {
+    pub others: u64,
+}
+
+fn read_at<Q>(closed: &Closed<Q, Global>, position: u64) -> Option<u16>
+    requires words { (slots_len closed.now.words ≡ 36) × IsFull closed.now.words }
+    requires range { position < 4294967296 }
+    ensures { result ≡ left_at (slots_items closed.now.words) position }
+{
+    let word = PlaceWord::of(closed.word(position as usize % 32 + 4));
+    if word.mark == position + 1 {
+        Some(word.note)
+    } else {
+        None
+    }
+}
+
+fn read_left<Q>(closed: &Closed<Q, Global>, tail: u64, head: u64) -> ArrayVec<Option<u16>, 32>
+    requires words { (slots_len closed.now.words ≡ 36) × IsFull closed.now.words }
+    requires range { (tail ≤ head) × (head ≤ tail + 32) × (head < 4294967296) }
+    ensures { result.items ≡ left_from (slots_items closed.now.words) tail (head - tail) }
+{
+    let mut left = ArrayVec::new();
+    for position in tail..head {
+        left.push(read_at(closed, position));
+    }
+    left
+}
+
+impl<Q: Quaject> ProcChain<Q> {
+    ghost use Rattle.proc_chain.specs.Handles.{view_of, turn_of, world_of, first_of, IsEndOf, IsOnlyEnd};
+
+    /// Closes the chain where every other end has been joined, and gives the quaject back. Else the chain and the end
+    /// come back, and the number of the others. As each end has raised all that it claimed and told of it, no note is
+    /// left.
+    ///
+    /// Condition: the end has no Turn.
+    pub fn close(
+        self,
+        end: ChainEnd<Q>,
+    ) -> Result<ChainClosed<Q>, (ProcChain<Q>, ChainEnd<Q>, OpenEnds)>
+        requires ends { IsEndOf self end }
+        requires turn { turn_of end ≡ false }
+        ensures closed { IfOk result (λ c. ClosedNow Q.made_by (Q.fits (world_of self)) (view_of end)
+            (first_of self) c.put c.taken c.left.items c.quaject) }
+        ensures open { IfErr result (λ e. (e.0 ≡ self) × IsEndOf self e.1 × (turn_of e.1 ≡ false)
+            × WereOpen (view_of end) e.2.others (view_of e.1)) }
+        ensures only { IsOnlyEnd end → MatchResult result (λ c. Unit {0}) (λ e. ⊥) }
+    {
+        let mut end = end;
+        let ends = count(&self.table.shared, &mut end.seat);
+        if ends != 1 {
+            return Err((
+                self,
+                end,
+                OpenEnds {
+                    others: ends.wrapping_sub(1),
+                },
+            ));
+        }
+        let ChainEnd { seat, turn: _ } = end;
+        let ProcChain { table, first } = self;
+        let mut closed = table.close_with(seat);
+        let head = closed.word(0);
+        let tail = closed.word(1);
+        let left = read_left(&closed, tail, head);
+        let quaject = closed.take(0);
+        closed.free();
+        Ok(ChainClosed {
+            quaject,
+            put: (head - first as u64) as u32,
+            taken: (tail - first as u64) as u32,
+            left,
+        })
+    }
+}

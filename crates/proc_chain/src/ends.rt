@@ -1,0 +1,141 @@
+//! The chain and its ends.
+ghost use Rattle.std.specs.Prelude.{◌≡◌, ◌≤◌, ◌<◌, ◌||◌, [], true, false, length, IfOk, IfErr};
+ghost use Rattle.quaject_core.specs.Listing.{Distinct};
+ghost use Rattle.quaject_core.specs.Sharing.{the_whole};
+ghost use Rattle.quaject_core.specs.Positioned.{head_of};
+ghost use Rattle.proc_chain.specs.Rules.{view_from};
+ghost use Rattle.proc_chain.specs.Turns.{AllRaised};
+ghost use Rattle.proc_chain.specs.Endings.{Divided, Newborn, TookIn, Joined};
+
+use crate::quaject::Quaject;
+use crate::rule::{ChainRule, Shape, View};
+use crate::steps::{count_down, count_up, split_off, take_in};
+use atomic_table::{Seat, Table};
+use quaject_core::OutOfMemory;
+use std::alloc::Global;
+use std::marker::Brand;
+use std::mem;
+use std::snapshot::Snapshot;
+
+/// A chain of up to 32 notes, a gate, and the quaject that the notes are for (Massalin and Pu 1991).
+#[derive(Drop)]
+pub struct ProcChain<Q: Quaject> {
+    pub(crate) table: Table<Q, View, Shape<Q::World>, ChainRule, Global>,
+    pub(crate) first: u32,
+    ghost sized: { (table.shared.table_id.words ≡ 36) × (table.shared.table_id.slots ≡ 1) },
+    ghost shaped: { table.shared.key.first ≡ first },
+}
+
+/// An end of a chain. It has all that it claimed raised, and owes no notify.
+#[derive(Drop)]
+pub struct ChainEnd<Q: Quaject> {
+    pub(crate) seat: Seat<Q, View>,
+    pub(crate) turn: bool,
+    ghost room: { seat.me.0.part.queue.room ≡ 32 },
+    ghost one: { seat.me.0.ends ≡ 1 },
+    ghost turned: { seat.me.0.runner ≡ turn },
+    ghost settled: { seat.me.0.owes ≡ false },
+    ghost behind: { seat.me.0.part.queue.taken ≤ length seat.me.0.part.queue.places },
+    ghost small: { head_of seat.me.0.part.queue < 4294967296 },
+    ghost distinct: { Distinct seat.me.0.part.runs },
+    ghost raised: { AllRaised seat.me.0.part.runs },
+}
+
+impl<Q: Quaject> ChainEnd<Q> {
+    ghost use Rattle.proc_chain.specs.Handles.{turn_of};
+
+    /// Whether the end has a Turn to serve.
+    pub fn has_turn(&self) -> bool
+        ensures { result ≡ turn_of self.now }
+    {
+        self.turn
+    }
+}
+
+impl<Q: Quaject> ProcChain<Q> {
+    ghost use Rattle.proc_chain.specs.Handles.{view_of, turn_of, world_of, first_of, IsEndOf, IsSameEnd};
+
+    /// A chain whose first position is `first`, its gate Idle and the quaject in it, and its only end. Where an
+    /// allocation is refused, the quaject comes back.
+    pub fn new(
+        alloc: Global,
+        first: u32,
+        quaject: Q,
+        world: &Q::World,
+    ) -> Result<(ProcChain<Q>, ChainEnd<Q>), (Q, OutOfMemory)>
+        requires made { Q.made_by quaject [] }
+        requires fits { Q.fits world.now quaject }
+        ensures ok { IfOk result (λ r. IsEndOf r.0 r.1 × (first_of r.0 ≡ first) × (world_of r.0 ≡ world.now)
+            × (turn_of r.1 ≡ false) × (view_of r.1 ≡ view_from first 1 the_whole)) }
+        ensures err { IfErr result (λ e. e.0 ≡ quaject) }
+    {
+        let shape = Shape {
+            first: first as u64,
+            world: Snapshot::of(world),
+        };
+        let mut words = [0u64; 36];
+        words[0] = first as u64;
+        words[1] = first as u64;
+        words[2] = 1;
+        let mut slots = Vec::new(alloc);
+        if let Err(failed) = slots.push(quaject) {
+            slots.destroy_empty();
+            return Err((failed.value, OutOfMemory));
+        }
+        match Table::new(alloc, &words, slots, &shape) {
+            Ok((table, seat)) => Ok((ProcChain { table, first }, ChainEnd { seat, turn: false })),
+            Err(refused) => {
+                let mut slots = refused.slots;
+                let Some(quaject) = slots.pop() else {
+                    unreachable!()
+                };
+                slots.destroy_empty();
+                Err((quaject, OutOfMemory))
+            }
+        }
+    }
+
+    /// A new end, which owns nothing and has no Turn. Both ends are to be joined again before the chain can be closed.
+    pub fn split(&self, end: &mut ChainEnd<Q>) -> ChainEnd<Q>
+        requires { IsEndOf self.now end.old }
+        ensures queue { IsSameEnd end.old end.new }
+        ensures ends { IsEndOf self.now end.new × IsEndOf self.now result }
+        ensures split { Divided (view_of end.old) (view_of end.new) × Newborn (view_of end.new) (view_of result) }
+        ensures turns { (turn_of end.new ≡ turn_of end.old) × (turn_of result ≡ false) }
+    {
+        count_up(&self.table.shared, &mut end.seat);
+        let seat = split_off(&self.table.shared, &mut end.seat);
+        ChainEnd { seat, turn: false }
+    }
+
+    /// The first end then has all that both had, and the Turn that one of them had. Condition: not both have a Turn. No
+    /// two ends of one chain ever have, but one end alone can't know it.
+    pub fn join(&self, end: &mut ChainEnd<Q>, other: ChainEnd<Q>)
+        requires ends { IsEndOf self.now end.old × IsEndOf self.now other }
+        requires turns { turn_of other ≡ true → turn_of end.old ≡ false }
+        ensures ends { IsEndOf self.now end.new }
+        ensures joined { Joined (turn_of other) (view_of end.old) (view_of other) (view_of end.new) }
+        ensures turn { turn_of end.new ≡ (turn_of other || turn_of end.old) }
+        ensures same { turn_of other ≡ false → IsSameEnd end.old end.new }
+    {
+        let mut other = other;
+        if other.turn {
+            mem::swap(end, &mut other);
+        }
+        self.take_over(end, other);
+    }
+
+    // The first end then has all that both had. The other has no turn.
+    fn take_over(&self, end: &mut ChainEnd<Q>, other: ChainEnd<Q>)
+        requires ends { IsEndOf self.now end.old × IsEndOf self.now other }
+        requires turns { turn_of other ≡ false }
+        ensures queue { IsSameEnd end.old end.new }
+        ensures turn { turn_of end.new ≡ turn_of end.old }
+        ensures ends { IsEndOf self.now end.new }
+        ensures joined { TookIn (view_of end.old) (view_of other) (view_of end.new) }
+    {
+        let ChainEnd { seat, turn: _ } = other;
+        take_in::<Q, Brand>(&self.table.shared, &mut end.seat, seat);
+        count_down(&self.table.shared, &mut end.seat);
+    }
+}

@@ -1,0 +1,261 @@
+//! The atomic steps. No signature has a const parameter, since a call of such a function could not pick ghost members.
+ghost use Rattle.std.specs.Prelude.{◌≡◌, ◌≢◌, ◌+◌, ◌-◌, ◌*◌, ◌/◌, ◌%◌, ◌<◌, ◌≤◌, ℕ, true, false, [], length};
+ghost use Rattle.std.specs.Prelude.{slice_index_or};
+ghost use mathlib.Core.Option.{some};
+ghost use lib.ListN.{get_elem?};
+ghost use Rattle.quaject_core.specs.declared.tables.Batch.{Batch};
+ghost use Rattle.quaject_core.specs.Listing.{number_of};
+ghost use Rattle.quaject_core.specs.Positioned.{blank, head_of, tail_of, written_at};
+ghost use Rattle.atomic_table.specs.Table.{rest};
+ghost use Rattle.proc_chain.specs.Shown.{notes_of};
+ghost use Rattle.proc_chain.specs.Steps.{Saw, Claimed, Raised, LookedAtFirst, Took, Notified, GotTurn, BegunRound};
+ghost use Rattle.proc_chain.specs.Steps.{HasLeft, Carries, CountedUp, CountedDown, Tallied, rest_of, halves, both};
+ghost use Rattle.proc_chain.specs.Steps.{emptied, IsSame, Looked};
+
+use crate::plays::{
+    Caller, ClaimedNote, Claims, Counts, CountsDown, CountsUp, Halves, Joins, Leaves, Look, Notice,
+    Notifies, Raises, Rounds, Spent, Spies, Takes,
+};
+use crate::quaject::Quaject;
+use crate::rule::{ChainRule, Shape, View};
+use crate::word::PlaceWord;
+use atomic_table::{Seat, Shared};
+
+pub(crate) const HEAD: usize = 0;
+
+pub(crate) const TAIL: usize = 1;
+
+pub(crate) const ENDS: usize = 2;
+
+pub(crate) const GATE: usize = 3;
+
+/// The gate's words.
+pub(crate) const IDLE: u64 = 0;
+
+pub(crate) const RUNNING: u64 = 1;
+
+pub(crate) const MORE: u64 = 2;
+
+pub(crate) fn load<Q: Quaject>(
+    words: &Shared<Q, View, Shape<Q::World>, ChainRule>,
+    seat: &mut Seat<Q, View>,
+    word: usize,
+) -> u64
+    requires { (seat.old.table_id ≡ words.now.table_id) × (word < words.now.table_id.words) }
+    ensures { IsSame seat.old seat.new × (seat.new.me.1 ≡ seat.old.me.1) × Saw seat.old.me.0 word result seat.new.me.0 }
+{
+    words.load::<Look>(seat, word)
+}
+
+pub(crate) fn load_head<Q: Quaject>(
+    words: &Shared<Q, View, Shape<Q::World>, ChainRule>,
+    seat: &mut Seat<Q, View>,
+) -> u64
+    requires { (seat.old.table_id ≡ words.now.table_id) × (words.now.table_id.words ≡ 36) }
+    ensures queue { IsSame seat.old seat.new × (seat.new.me.1 ≡ seat.old.me.1) }
+    ensures seen { Looked seat.old.me.0 seat.new.me.0 }
+    ensures head { result ≡ head_of seat.new.me.0.part.queue }
+    ensures small { result < 4294967296 }
+{
+    load(words, seat, HEAD)
+}
+
+pub(crate) fn load_tail<Q: Quaject>(
+    words: &Shared<Q, View, Shape<Q::World>, ChainRule>,
+    seat: &mut Seat<Q, View>,
+) -> u64
+    requires { (seat.old.table_id ≡ words.now.table_id) × (words.now.table_id.words ≡ 36) }
+    ensures queue { IsSame seat.old seat.new × (seat.new.me.1 ≡ seat.old.me.1) }
+    ensures seen { Looked seat.old.me.0 seat.new.me.0 }
+    ensures tail { result ≡ tail_of seat.new.me.0.part.queue }
+    ensures small { result < 4294967296 }
+{
+    load(words, seat, TAIL)
+}
+
+/// The claim of one place.
+pub(crate) fn exchange_head<Q: Quaject, J: ClaimedNote>(
+    words: &Shared<Q, View, Shape<Q::World>, ChainRule>,
+    seat: &mut Seat<Q, View>,
+    head: u64,
+    note: u16,
+) -> u64
+    requires queue { (seat.old.table_id ≡ words.now.table_id) × (words.now.table_id.words ≡ 36) }
+    requires live { 1 ≤ seat.old.me.0.ends }
+    requires call { J.call ≡ seat.old.id }
+    requires note { J.note ≡ note }
+    requires room { head + 1 ≤ tail_of seat.old.me.0.part.queue + seat.old.me.0.part.queue.room }
+    requires small { head + 1 < 4294967296 }
+    ensures queue { IsSame seat.old seat.new × (seat.new.me.1 ≡ seat.old.me.1) }
+    ensures hit { result ≡ head → Claimed J.call seat.old.me.0 head J.note seat.new.me.0 }
+    ensures miss { result ≢ head → Looked seat.old.me.0 seat.new.me.0 × (result ≡ head_of seat.new.me.0.part.queue) }
+{
+    let _ = note;
+    words.compare_exchange::<Claims<J>>(seat, HEAD, head, head + 1)
+}
+
+/// The raise of the end's run that begins at `start`.
+pub(crate) fn store_place<Q: Quaject, J: Caller>(
+    words: &Shared<Q, View, Shape<Q::World>, ChainRule>,
+    seat: &mut Seat<Q, View>,
+    start: u64,
+    note: u16,
+)
+    requires queue { (seat.old.table_id ≡ words.now.table_id) × (words.now.table_id.words ≡ 36) }
+    requires call { J.call ≡ seat.old.id }
+    requires small { start < 4294967296 }
+    requires mine { (e : Batch)
+        × (get_elem? seat.old.me.0.part.runs (number_of start seat.old.me.0.part.runs) ≡ some e)
+        × (e.start ≡ start) × (0 < length e.places) × ((slice_index_or e.places 0 blank).written < 2)
+        × ((slice_index_or e.places 0 blank).item ≡ note) }
+    ensures queue { IsSame seat.old seat.new × (seat.new.me.1 ≡ seat.old.me.1) }
+    ensures raised { Raised J.call seat.old.me.0 start seat.new.me.0 }
+{
+    let place = start as usize % 32;
+    words.store::<Raises<J>>(seat, place + 4, PlaceWord::raised(start, note).bits());
+}
+
+/// The notify.
+pub(crate) fn swap_more<Q: Quaject, J: Notice<Q>>(
+    words: &Shared<Q, View, Shape<Q::World>, ChainRule>,
+    seat: &mut Seat<Q, View>,
+) -> u64
+    requires queue { (seat.old.table_id ≡ words.now.table_id) × (words.now.table_id.words ≡ 36) }
+    requires live { (1 ≤ seat.old.me.0.ends) × (seat.old.me.0.owes ≡ true) }
+    requires call { J.call ≡ seat.old.id }
+    requires suits { (x : Q) → Q.fits words.now.key.world.value x → J.suits x }
+    ensures queue { IsSame seat.old seat.new }
+    ensures won { result ≡ 0 → GotTurn Q.made_by J.suits J.call seat.old.me seat.new.me }
+    ensures told { result ≢ 0 → (seat.new.me.1 ≡ seat.old.me.1) × Notified J.call seat.old.me.0 seat.new.me.0 }
+{
+    words.swap::<Notifies<J>>(seat, GATE, MORE)
+}
+
+pub(crate) fn load_place<Q: Quaject>(
+    words: &Shared<Q, View, Shape<Q::World>, ChainRule>,
+    seat: &mut Seat<Q, View>,
+    tail: u64,
+) -> PlaceWord
+    requires queue { (seat.old.table_id ≡ words.now.table_id) × (words.now.table_id.words ≡ 36) }
+    requires live { (1 ≤ seat.old.me.0.ends) × (seat.old.me.0.runner ≡ true) }
+    requires tail { (tail ≡ tail_of seat.old.me.0.part.queue) × (tail < 4294967296) }
+    ensures queue { IsSame seat.old seat.new × (seat.new.me.1 ≡ seat.old.me.1) }
+    ensures found { (word : ℕ) × LookedAtFirst seat.old.me.0 word seat.new.me.0 × (result.mark ≡ word / 65536)
+        × (result.note ≡ word % 65536) }
+{
+    let place = tail as usize % 32;
+    PlaceWord::of(words.load::<Spies>(seat, place + 4))
+}
+
+/// The taking of one note: a single runner takes, so it stores.
+pub(crate) fn store_tail<Q: Quaject, J: Caller>(
+    words: &Shared<Q, View, Shape<Q::World>, ChainRule>,
+    seat: &mut Seat<Q, View>,
+    tail: u64,
+)
+    requires queue { (seat.old.table_id ≡ words.now.table_id) × (words.now.table_id.words ≡ 36) }
+    requires live { (1 ≤ seat.old.me.0.ends) × (seat.old.me.0.runner ≡ true) }
+    requires call { J.call ≡ seat.old.id }
+    requires tail { (tail ≡ tail_of seat.old.me.0.part.queue) × (tail < 4294967296) }
+    requires raised { 2 ≤ written_at seat.old.me.0.part.queue seat.old.me.0.part.queue.taken }
+    ensures queue { IsSame seat.old seat.new × (seat.new.me.1 ≡ seat.old.me.1) }
+    ensures took { Took J.call seat.old.me.0 seat.new.me.0 }
+{
+    words.store::<Takes<J>>(seat, TAIL, tail + 1);
+}
+
+/// The begin of a round.
+pub(crate) fn swap_running<Q: Quaject, J: Caller>(
+    words: &Shared<Q, View, Shape<Q::World>, ChainRule>,
+    seat: &mut Seat<Q, View>,
+)
+    requires queue { (seat.old.table_id ≡ words.now.table_id) × (words.now.table_id.words ≡ 36) }
+    requires live { (1 ≤ seat.old.me.0.ends) × (seat.old.me.0.runner ≡ true) }
+    requires call { J.call ≡ seat.old.id }
+    ensures queue { IsSame seat.old seat.new × (seat.new.me.1 ≡ seat.old.me.1) }
+    ensures rounded { BegunRound J.call seat.old.me.0 seat.new.me.0 }
+{
+    words.swap::<Rounds<J>>(seat, GATE, RUNNING);
+}
+
+/// The leave. The quaject goes back into the table where the gate was Running.
+pub(crate) fn exchange_gate<Q: Quaject, J: Caller>(
+    words: &Shared<Q, View, Shape<Q::World>, ChainRule>,
+    seat: &mut Seat<Q, View>,
+) -> u64
+    requires queue { (seat.old.table_id ≡ words.now.table_id) × (words.now.table_id.words ≡ 36) }
+    requires live { (1 ≤ seat.old.me.0.ends) × (seat.old.me.0.runner ≡ true) × (seat.old.me.0.saw ≡ true) }
+    requires call { J.call ≡ seat.old.id }
+    requires behind { seat.old.me.0.part.queue.taken ≤ length seat.old.me.0.part.queue.places }
+    requires carries { Carries Q.made_by (Q.fits words.now.key.world.value) (notes_of seat.old.me.0.part.queue) []
+        seat.old.me.1 }
+    ensures queue { IsSame seat.old seat.new }
+    ensures hit { result ≡ 1 → (seat.new.me.1 ≡ []) × HasLeft J.call seat.old.me.0 seat.new.me.0 }
+    ensures miss { result ≢ 1 → (result ≡ 2) × (seat.new.me.1 ≡ seat.old.me.1) × Looked seat.old.me.0 seat.new.me.0 }
+{
+    words.compare_exchange::<Leaves<J>>(seat, GATE, RUNNING, IDLE)
+}
+
+pub(crate) fn count_up<Q: Quaject>(
+    words: &Shared<Q, View, Shape<Q::World>, ChainRule>,
+    seat: &mut Seat<Q, View>,
+)
+    requires queue { (seat.old.table_id ≡ words.now.table_id) × (words.now.table_id.words ≡ 36) }
+    requires live { 1 ≤ seat.old.me.0.ends }
+    ensures queue { IsSame seat.old seat.new × (seat.new.me.1 ≡ seat.old.me.1) }
+    ensures counted { CountedUp seat.old.me.0 seat.new.me.0 }
+{
+    words.fetch_add::<CountsUp>(seat, ENDS, 1);
+}
+
+pub(crate) fn count_down<Q: Quaject>(
+    words: &Shared<Q, View, Shape<Q::World>, ChainRule>,
+    seat: &mut Seat<Q, View>,
+)
+    requires queue { (seat.old.table_id ≡ words.now.table_id) × (words.now.table_id.words ≡ 36) }
+    requires live { 2 ≤ seat.old.me.0.ends }
+    ensures queue { IsSame seat.old seat.new × (seat.new.me.1 ≡ seat.old.me.1) }
+    ensures counted { CountedDown seat.old.me.0 seat.new.me.0 }
+{
+    words.fetch_sub::<CountsDown>(seat, ENDS, 1);
+}
+
+pub(crate) fn count<Q: Quaject>(
+    words: &Shared<Q, View, Shape<Q::World>, ChainRule>,
+    seat: &mut Seat<Q, View>,
+) -> u64
+    requires queue { (seat.old.table_id ≡ words.now.table_id) × (words.now.table_id.words ≡ 36) }
+    requires live { 1 ≤ seat.old.me.0.ends }
+    ensures queue { IsSame seat.old seat.new × (seat.new.me.1 ≡ seat.old.me.1) }
+    ensures tallied { Tallied seat.old.me.0 result seat.new.me.0 }
+{
+    words.load::<Counts>(seat, ENDS)
+}
+
+pub(crate) fn split_off<Q: Quaject>(
+    words: &Shared<Q, View, Shape<Q::World>, ChainRule>,
+    seat: &mut Seat<Q, View>,
+) -> Seat<Q, View>
+    requires queue { (seat.old.table_id ≡ words.now.table_id) × (words.now.table_id.words ≡ 36) }
+    requires live { 2 ≤ seat.old.me.0.ends }
+    ensures queue { IsSame seat.old seat.new × (result.table_id ≡ seat.old.table_id) }
+    ensures split { (seat.new.me ≡ (rest_of seat.old.me.0, seat.old.me.1)) × (result.me ≡ (halves seat.old.me.0, [])) }
+{
+    words.split_seat::<Halves>(seat)
+}
+
+pub(crate) fn take_in<Q: Quaject, J: Spent>(
+    words: &Shared<Q, View, Shape<Q::World>, ChainRule>,
+    seat: &mut Seat<Q, View>,
+    other: Seat<Q, View>,
+)
+    requires queue { (seat.old.table_id ≡ words.now.table_id) × (other.table_id ≡ words.now.table_id)
+        × (other.me.1 ≡ []) × (words.now.table_id.words ≡ 36) }
+    requires live { (1 ≤ seat.old.me.0.ends) × (1 ≤ other.me.0.ends) }
+    requires settled { (other.me.0.runner ≡ false) × (other.me.0.owes ≡ false) }
+    requires spent { J.view ≡ emptied seat.old.me.0 }
+    ensures queue { IsSame seat.old seat.new }
+    ensures joined { seat.new.me ≡ (both seat.old.me.0 other.me.0, seat.old.me.1) }
+{
+    words.join_seat::<Joins<J>>(seat, other);
+}

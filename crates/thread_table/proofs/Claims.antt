@@ -1,0 +1,359 @@
+-- A claim of one element that its call held, in the ready ring, among the free elements, or in a wait queue.
+use Rattle.std.proofs.Common.{◌≡◌, ◌≢◌, ℕ, zero, suc, ◌+◌, ◌*◌, ◌<◌, ◌≤◌, true, false, List, [], ◌∷◌, ◌++◌, ◌∙◌, length, set, get_or, refl, sym, ap, subst, arith, Some, None, slice_get, eqb, leb, ◌⊎◌, inl, inr, Result, Ok}
+use Rattle.std.proofs.lemmas.Bool.{cases_lt, eq-eqb, ne_eqb, false_from_ne_true}
+use Rattle.std.proofs.lemmas.Bool.Decides.{eqb_tells, nat_tests}
+use Rattle.std.proofs.lemmas.Option.{same_Some, slice_get-get_or, slice_get_past}
+use Rattle.std.proofs.lemmas.List.{length-set, length-append, get_or-set_same, get_or-set_other, get_or_append_left}
+use Rattle.std.proofs.Math.Seq.{get_or-append_seam}
+use Rattle.std.specs.List.{list_any}
+use Rattle.quaject_core.specs.Runs.{Run, length_of, run_length}
+use Rattle.quaject_core.specs.Queues.{Queue, empty_queue, left, claim, after_claim}
+use Rattle.quaject_core.specs.Elements.{Elements, hold, is_hold, let_go, claim_element, new_thread}
+use Rattle.quaject_core.specs.Marks.{wait_at}
+use Rattle.quaject_core.specs.Lawful.{IsLawfulQueue, IsLawfulElements}
+use Rattle.quaject_core.specs.declared.hold.Hold.{Hold}
+use Rattle.quaject_core.specs.declared.refusal.Refusal.{Refusal}
+use Rattle.quaject_core.proofs.Places.{in_hands}
+use Rattle.quaject_core.proofs.ElementLaws.{every_at}
+use Rattle.quaject_core.proofs.QueueEvents.{claim_goes}
+use Rattle.thread_table.specs.declared.rule.View.{View}
+use Rattle.thread_table.specs.declared.rule.Claimed.{Claimed}
+use Rattle.thread_table.specs.Schedules.{QueueGrows, line_at, thread_at, element_at, element_of, no_run}
+use Rattle.thread_table.specs.Shown.{WordsShow, LineShows, PlaceShows, StateShows, seat_place, state_place, done_place, head_place, tail_place, item_place, head_word, mark_of}
+use Rattle.thread_table.specs.Rules.{HandIs, IsClaimed, has}
+use Rattle.thread_table.specs.Views.{claim_of, with_claim}
+use Rattle.thread_table.proofs.Effects.{Leaves, Effect, Ready, ClaimEffect, WaitAtEffect}
+use Rattle.thread_table.proofs.Owing.{Owes, QueueOwes, queue_owes, line_owes}
+use Rattle.thread_table.proofs.QueueWords.{none_some}
+use Rattle.thread_table.proofs.Rooms.{room, out_of_hands, unheld, let_go_goes}
+
+-- what stands at an index still does after one more
+later_at : {X : Type 0} (xs : List X) (y : X) (index : ℕ) (x : X) → slice_get xs index ≡ Some x → slice_get (xs ++ y ∷ []) index ≡ Some x
+later_at [] y index x at = absurd (cc)
+later_at (z ∷ xs) y zero x at = at
+later_at (z ∷ xs) y (suc index) x at = later_at xs y index x at
+
+last_at : {X : Type 0} (xs : List X) (y : X) → slice_get (xs ++ y ∷ []) (length xs) ≡ Some y
+last_at [] y = refl
+last_at (z ∷ xs) y = last_at xs y
+
+abbrev IsSingle : List Run → Type 0
+IsSingle history = (number : ℕ) (run : Run) → slice_get history number ≡ Some run → length run.items ≡ 1
+
+one_more_single : (history : List Run) (new : Run) → IsSingle history → length new.items ≡ 1 → IsSingle (history ++ new ∷ [])
+one_more_single [] new single is zero run at = ap (λ (r : Run). length r.items) (sym (same_Some new run at)) ∙ is
+one_more_single [] new single is (suc number) run at = absurd (cc)
+one_more_single (old ∷ history) new single is zero run at = single zero run at
+one_more_single (old ∷ history) new single is (suc number) run at = one_more_single history new (λ n r. single (suc n) r) is number run at
+
+-- a raised run lies in the history
+raised_within : (q : Queue) (run : ℕ) → IsLawfulQueue q → q.raised run 0 ≡ true → run < length q.history
+raised_within q run lawful up = by (cases_lt run (length q.history))
+  where
+    by : (run < length q.history) ⊎ (length q.history ≤ run) → run < length q.history
+    by (inl below) = below
+    by (inr past) = let none : run_length q.history run ≡ 0 = ap length_of (slice_get_past q.history run past) in absurd (omega (arith, none, lawful.within run 0 up))
+
+-- the runs that a queue had are its runs after a claim
+same_element : (id element : ℕ) (q : Queue) (run : ℕ) → run < length q.history → element_at (after_claim id (element ∷ []) q) run ≡ element_at q run
+same_element id element q run below =
+    let new : Run = record { call = id; items = element ∷ [] } in
+    ap element_of (get_or_append_left q.history (new ∷ []) no_run run below)
+
+longer : (id element : ℕ) (q : Queue) → length (after_claim id (element ∷ []) q).history ≡ length q.history + 1
+longer id element q = let new : Run = record { call = id; items = element ∷ [] } in length-append q.history (new ∷ [])
+
+claim_grows : (id element : ℕ) (q : Queue) → QueueGrows q (after_claim id (element ∷ []) q)
+claim_grows id element q = record {
+  longer = omega (arith, longer id element q);
+  further = omega arith;
+  items = λ run below. same_element id element q run below;
+  raised = λ run up. up;
+}
+
+none_grows : (q : Queue) → QueueGrows q q
+none_grows q = record { longer = omega arith; further = omega arith; items = λ run below. refl; raised = λ run up. up }
+
+claim_places : (first id element : ℕ) (q : Queue) (run word : ℕ) → IsLawfulQueue q → PlaceShows first q run word → PlaceShows first (after_claim id (element ∷ []) q) run word
+claim_places first id element q run word lawful shows = record {
+  up = λ is. shows.up is ∙ ap (λ x. x + 256 * (first + run + 1)) (sym (same_element id element q run (raised_within q run lawful is)));
+  low = shows.low;
+}
+
+-- what is said of each line after one of them changed
+by_line : (P : ℕ → Queue → Type 0) (lines : List Queue) (line : ℕ) (new : Queue) → line < length lines → P line new
+    → ((other : ℕ) → other ≢ line → P other (get_or lines other (empty_queue 64))) → (other : ℕ) → P other (get_or (set lines line new) other (empty_queue 64))
+by_line P lines line new below here there other = by (eqb_tells other line)
+  where
+    by : ((eqb other line ≡ true) × (other ≡ line)) ⊎ ((eqb other line ≡ false) × (other ≢ line)) → P other (get_or (set lines line new) other (empty_queue 64))
+    by (inl same) = subst (λ l. P l (get_or (set lines line new) l (empty_queue 64))) (sym same.1) (subst (P line) (sym (get_or-set_same lines line new (empty_queue 64) below)) here)
+    by (inr differ) = subst (P other) (sym (get_or-set_other lines line other new (empty_queue 64) differ.1)) (there other differ.1)
+
+-- what the words show of a line, by its queue
+record QueueShows (first mark line : ℕ) (words : List ℕ) (q : Queue) : Type 0 where
+  capacity : q.capacity ≡ 64
+  is_open : q.shut ≡ false
+  single : IsSingle q.history
+  small : first + length q.history < 4294967296
+  marked : mark < 4294967296
+  head : get_or words (head_place line) 0 ≡ first + length q.history + mark * 4294967296
+  tail : get_or words (tail_place line) 0 ≡ first + q.taken
+  places : (run : ℕ) → q.taken ≤ run → run < q.taken + 64 → PlaceShows first q run (get_or words (item_place line (first + run)) 0)
+
+as_line : (first line : ℕ) (words : List ℕ) (e : Elements) → QueueShows first (mark_of e line) line words (line_at e line) → LineShows first e line words
+as_line first line words e shows = record {
+  capacity = shows.capacity;
+  is_open = shows.is_open;
+  single = shows.single;
+  small = shows.small;
+  marked = shows.marked;
+  head = shows.head;
+  tail = shows.tail;
+  places = shows.places;
+}
+
+-- the head words are apart from each other and from all other words
+head_else : (words : List ℕ) (line place value : ℕ) → place ≢ head_place line → get_or (set words (head_place line) value) place 0 ≡ get_or words place 0
+head_else words line place value differ = get_or-set_other words (head_place line) place value 0 differ
+
+tail_apart : (line other : ℕ) → tail_place other ≢ head_place line
+tail_apart line other same = omega arith
+
+item_apart : (line other position : ℕ) → item_place other position ≢ head_place line
+item_apart line other position same = omega arith
+
+head_apart : (line other : ℕ) → other ≢ line → head_place other ≢ head_place line
+head_apart line other differ same = differ (omega arith)
+
+-- a place of a line is shown as before
+places_kept : (first line other : ℕ) (q : Queue) (words : List ℕ) (value run : ℕ) → PlaceShows first q run (get_or words (item_place other (first + run)) 0)
+    → PlaceShows first q run (get_or (set words (head_place line) value) (item_place other (first + run)) 0)
+places_kept first line other q words value run shows =
+    subst (PlaceShows first q run) (sym (head_else words line (item_place other (first + run)) value (item_apart line other (first + run)))) shows
+
+other_shows : (first line other value : ℕ) (words : List ℕ) (e : Elements) → other ≢ line → LineShows first e other words
+    → QueueShows first (mark_of e other) other (set words (head_place line) value) (line_at e other)
+other_shows first line other value words e differ shows = record {
+  capacity = shows.capacity;
+  is_open = shows.is_open;
+  single = shows.single;
+  small = shows.small;
+  marked = shows.marked;
+  head = head_else words line (head_place other) value (head_apart line other differ) ∙ shows.head;
+  tail = head_else words line (tail_place other) value (tail_apart line other) ∙ shows.tail;
+  places = λ run from below. places_kept first line other (line_at e other) words value run (shows.places run from below);
+}
+
+claimed_shows : (first id element line : ℕ) (words : List ℕ) (e : Elements) → line < 18 → length words ≡ 1325 → IsLawfulQueue (line_at e line) → first + length (line_at e line).history + 1 < 4294967296
+    → LineShows first e line words
+    → QueueShows first (mark_of e line) line (set words (head_place line) (head_word first e line + 1)) (after_claim id (element ∷ []) (line_at e line))
+claimed_shows first id element line words e below wide lawful small shows =
+    let q : Queue = line_at e line in
+    let new : Run = record { call = id; items = element ∷ [] } in
+    let value : ℕ = head_word first e line + 1 in
+    let more = longer id element q in
+    let inside : head_place line < length words = omega arith in
+    record {
+      capacity = shows.capacity;
+      is_open = shows.is_open;
+      single = one_more_single q.history new shows.single refl;
+      small = omega arith;
+      marked = shows.marked;
+      head = get_or-set_same words (head_place line) value 0 inside ∙ omega arith;
+      tail = head_else words line (tail_place line) value (tail_apart line line) ∙ shows.tail;
+      places = λ run from within. claim_places first id element q run _ lawful (places_kept first line line q words value run (shows.places run from within));
+    }
+
+-- the elements after the claim
+abbrev claimed : ℕ → ℕ → ℕ → List Hold → Elements → Elements
+claimed id line element rest e = record e { lines = set e.lines line (after_claim id (element ∷ []) (line_at e line)); held = rest }
+
+words_after : (first id element line : ℕ) (words : List ℕ) (rest : List Hold) (e : Elements) → line < 18 → IsLawfulQueue (line_at e line) → first + length (line_at e line).history + 1 < 4294967296
+    → WordsShow first e words → WordsShow first (claimed id line element rest e) (set words (head_place line) (head_word first e line + 1))
+words_after first id element line words rest e below lawful small shows =
+    let value : ℕ = head_word first e line + 1 in
+    let kept : (place : ℕ) → place < 137 → get_or words place 0 ≡ get_or (set words (head_place line) value) place 0 =
+    λ place low. sym (head_else words line place value (λ same. omega arith)) in
+    let inside : line < length e.lines = omega (arith, shows.queues) in
+    record {
+      wide = length-set words (head_place line) value ∙ shows.wide;
+      threads = shows.threads;
+      queues = length-set e.lines line (after_claim id (element ∷ []) (line_at e line)) ∙ shows.queues;
+      waits = shows.waits;
+      processors = shows.processors;
+      seats = λ p within. sym (kept (seat_place p) (omega arith)) ∙ shows.seats p within;
+      states = λ x within. subst (StateShows (thread_at e x)) (kept (state_place x) (omega arith)) (shows.states x within);
+      steps = λ x within. sym (kept (done_place x) (omega arith)) ∙ shows.steps x within;
+      few = shows.few;
+      lines = λ other within. as_line first other (set words (head_place line) value) (claimed id line element rest e)
+          (by_line (λ l q. l < 18 → QueueShows first (mark_of e l) l (set words (head_place line) value) q) e.lines line (after_claim id (element ∷ []) (line_at e line)) inside
+          (λ w. claimed_shows first id element line words e below shows.wide lawful small (shows.lines line below))
+          (λ l differ w. other_shows first line l value words e differ (shows.lines l w))
+          other within);
+    }
+
+-- a hold of another call, or of another element, isn't this one
+other_call : (id element call x : ℕ) → call ≢ id → is_hold call x (hold id element) ≡ false
+other_call id element call x differ = rw (ne_eqb id call (λ same. differ (sym same))) refl
+
+other_element : (id element x : ℕ) → x ≢ element → is_hold id x (hold id element) ≡ false
+other_element id element x differ = rw (eq-eqb id id refl, ne_eqb element x (λ same. differ (sym same))) refl
+
+abbrev OthersStay : ℕ → ℕ → List Hold → List Hold → Type 0
+OthersStay id element held rest = (c x : ℕ) → is_hold c x (hold id element) ≡ false → list_any (is_hold c x) rest ≡ list_any (is_hold c x) held
+
+-- a claim that isn't raised stays one
+run_kept : (id element line : ℕ) (rest : List Hold) (e : Elements) (call : ℕ) (c : Claimed) → line < length e.lines → IsClaimed call c e → IsClaimed call c (claimed id line element rest e)
+run_kept id element line rest e call c inside is =
+    let new : Run = record { call = id; items = element ∷ [] } in
+    let it : Run = record { call = call; items = c.element ∷ [] } in
+    let both = by_line (λ l q. (slice_get (line_at e l).history c.run ≡ Some it → slice_get q.history c.run ≡ Some it) × (q.raised ≡ (line_at e l).raised))
+    e.lines line (after_claim id (element ∷ []) (line_at e line)) inside
+    (λ at. later_at (line_at e line).history new c.run it at, refl)
+    (λ l differ. (λ at. at, refl))
+    c.line in
+    record {
+      below = is.below;
+      known = is.known;
+      run = both.0 is.run;
+      low = ap (λ raised. raised c.run 0) both.1 ∙ is.low;
+    }
+
+new_run : (id element line : ℕ) (rest : List Hold) (e : Elements) → line < 18 → element < 64 → line < length e.lines → IsLawfulQueue (line_at e line)
+    → IsClaimed id (record { line = line; run = length (line_at e line).history; element = element }) (claimed id line element rest e)
+new_run id element line rest e below known inside lawful =
+    let q : Queue = line_at e line in
+    let new : Run = record { call = id; items = element ∷ [] } in
+    let at : line_at (claimed id line element rest e) line ≡ after_claim id (element ∷ []) q = get_or-set_same e.lines line (after_claim id (element ∷ []) q) (empty_queue 64) inside in
+    record {
+      below = below;
+      known = known;
+      run = ap (λ (l : Queue). slice_get l.history (length q.history)) at ∙ last_at q.history new;
+      low = ap (λ (l : Queue). l.raised (length q.history) 0) at
+          ∙ false_from_ne_true (q.raised (length q.history) 0) (λ up. let within = raised_within q (length q.history) lawful up in omega arith);
+    }
+
+claim_leaves : (id element line : ℕ) (rest : List Hold) (v : View) (e : Elements) → line < length e.lines → OthersStay id element e.held rest → Leaves id v e (claimed id line element rest e)
+claim_leaves id element line rest v e inside stay = record {
+  grows = by_line (λ l q. QueueGrows (line_at e l) q) e.lines line (after_claim id (element ∷ []) (line_at e line)) inside (claim_grows id element (line_at e line)) (λ l differ. none_grows (line_at e l));
+  held = λ call x differ. stay call x (other_call id element call x differ);
+  seats = λ p served. refl;
+  puts = λ call x differ. refl;
+  runs = λ call c differ is. run_kept id element line rest e call c inside is;
+  steps = λ x may. refl;
+}
+
+-- what the hand has then, of one element
+has_after : (id element line : ℕ) (rest : List Hold) (v : View) (e : Elements) (x : ℕ) → element < 64 → HandIs id v e → OthersStay id element e.held rest → in_hands element rest ≡ 0
+    → ((eqb x element ≡ true) × (x ≡ element)) ⊎ ((eqb x element ≡ false) × (x ≢ element))
+    → list_any (is_hold id x) rest ≡ get_or (set v.held element false) x false
+has_after id element line rest v e x known hand stay none (inl same) =
+    let here : list_any (is_hold id element) rest ≡ get_or (set v.held element false) element false =
+    unheld id element rest none ∙ sym (get_or-set_same v.held element false false (omega (arith, hand.held_long))) in
+    subst (λ y. list_any (is_hold id y) rest ≡ get_or (set v.held element false) y false) (sym same.1) here
+has_after id element line rest v e x known hand stay none (inr differ) =
+    stay id x (other_element id element x differ.1) ∙ (hand.held x ∙ sym (get_or-set_other v.held element x false false differ.1))
+
+claim_hand : (id element line : ℕ) (rest : List Hold) (v : View) (e : Elements) → line < 18 → element < 64 → line < length e.lines → IsLawfulQueue (line_at e line) → HandIs id v e
+    → OthersStay id element e.held rest → in_hands element rest ≡ 0
+    → HandIs id (with_claim v line (length (line_at e line).history) element) (claimed id line element rest e)
+claim_hand id element line rest v e below known inside lawful hand stay none = record {
+  held_long = length-set v.held element false ∙ hand.held_long;
+  serves_long = hand.serves_long;
+  on_long = hand.on_long;
+  held = λ x. has_after id element line rest v e x known hand stay none (eqb_tells x element);
+  on = hand.on;
+  off = hand.off;
+  claimed = λ c is. subst (λ (d : Claimed). IsClaimed id d (claimed id line element rest e)) (same_Some _ c is) (new_run id element line rest e below known inside lawful);
+  counted = λ c is. absurd (cc);
+}
+
+-- the call lets the element go
+abbrev Lets : ℕ → ℕ → Elements → List Hold → Type 0
+Lets id element e rest = let_go id element e.held ≡ Ok rest
+
+-- the queue takes the run
+line_claims : (id element line : ℕ) (rest : List Hold) (e : Elements) (first : ℕ) (words : List ℕ) → line < 18 → IsLawfulElements e → WordsShow first e words → Lets id element e rest
+    → (slice_get e.lines line ≡ Some (line_at e line)) × (claim 1 id (element ∷ []) (line_at e line) ≡ Ok (after_claim id (element ∷ []) (line_at e line)))
+line_claims id element line rest e first words below lawful shows lets =
+    let q : Queue = line_at e line in
+    let at : slice_get e.lines line ≡ Some q = slice_get-get_or e.lines line (empty_queue 64) (omega (arith, shows.queues)) in
+    let l = shows.lines line below in
+    let space : length (left q) + 1 ≤ 64 = omega (arith, room id element line e q rest lawful at lets, shows.threads) in
+    (at, claim_goes 1 id (element ∷ []) q (omega arith) (omega arith) l.is_open (omega (arith, l.capacity, space)))
+
+claim_ok : (id element line : ℕ) (rest : List Hold) (e : Elements) → element < length e.threads → slice_get e.lines line ≡ Some (line_at e line)
+    → claim 1 id (element ∷ []) (line_at e line) ≡ Ok (after_claim id (element ∷ []) (line_at e line)) → Lets id element e rest
+    → claim_element line id (element ∷ []) e ≡ Ok (claimed id line element rest e)
+claim_ok id element line rest e known at claims lets =
+    let low : leb (length e.threads) element ≡ false = grind (arith, nat_tests) in
+    rw (low, at, claims, lets) refl
+
+wait_ok : (id element wait ticket : ℕ) (rest : List Hold) (e : Elements) → element < length e.threads → wait < length e.notified → get_or e.notified wait 0 ≡ ticket
+    → slice_get e.lines (wait + 2) ≡ Some (line_at e (wait + 2))
+    → claim 1 id (element ∷ []) (line_at e (wait + 2)) ≡ Ok (after_claim id (element ∷ []) (line_at e (wait + 2))) → Lets id element e rest
+    → wait_at id wait element ticket e ≡ Ok (claimed id (wait + 2) element rest e)
+wait_ok id element wait ticket rest e known inside same at claims lets =
+    let a : slice_get e.threads element ≡ Some (thread_at e element) = slice_get-get_or e.threads element new_thread known in
+    let b : slice_get e.notified wait ≡ Some (get_or e.notified wait 0) = slice_get-get_or e.notified wait 0 inside in
+    let c : eqb (get_or e.notified wait 0) ticket ≡ true = eq-eqb (get_or e.notified wait 0) ticket same in
+    rw (a, b, lets, c, at, claims) refl
+
+-- the new run is the hand's claim
+run_owes : (v w : View) (id element line : ℕ) (q : Queue) → v.claimed ≡ None → w.claimed ≡ Some (claim_of line (length q.history) element) → QueueOwes v w line q (after_claim id (element ∷ []) q)
+run_owes v w id element line q none claims run below low = by (cases_lt run (length q.history))
+  where
+    new : Run
+    new = record { call = id; items = element ∷ [] }
+
+    by : (run < length q.history) ⊎ (length q.history ≤ run)
+        → (((run < length q.history) × (q.raised run 0 ≡ false)) × (element_at (after_claim id (element ∷ []) q) run ≡ element_at q run) × (v.claimed ≡ Some (claim_of line run (element_at q run)) → ⊥))
+        ⊎ (w.claimed ≡ Some (claim_of line run (element_at (after_claim id (element ∷ []) q) run)))
+    by (inl older) = inl ((older, low), same_element id element q run older, λ is. none_some _ v.claimed none is)
+    by (inr past) =
+        let last : run ≡ length q.history = omega (arith, past, below, longer id element q) in
+        let its : element_at (after_claim id (element ∷ []) q) (length q.history) ≡ element = ap element_of (get_or-append_seam q.history new [] no_run) in
+        inr (subst (λ (n : ℕ). w.claimed ≡ Some (claim_of line n (element_at (after_claim id (element ∷ []) q) n))) (sym last) (claims ∙ ap (λ (x : ℕ). Some (claim_of line (length q.history) x)) (sym its)))
+
+claim_owes : (v w : View) (id element line : ℕ) (rest : List Hold) (e : Elements) → line < length e.lines → v.claimed ≡ None → w.claimed ≡ Some (claim_of line (length (line_at e line).history) element)
+    → Owes v w e (claimed id line element rest e)
+claim_owes v w id element line rest e inside none claims =
+    let q : Queue = line_at e line in
+    line_owes v w e (claimed id line element rest e) line (after_claim id (element ∷ []) q)
+    (get_or-set_same e.lines line (after_claim id (element ∷ []) q) (empty_queue 64) inside)
+    (λ l ne. get_or-set_other e.lines line l (after_claim id (element ∷ []) q) (empty_queue 64) ne)
+    (run_owes v w id element line q none claims) (λ l ne. queue_owes v w l (line_at e l) (line_at e l) none refl refl)
+
+-- an event that goes as the claim does has its effect
+effect_of : (id : ℕ) (v : View) (first : ℕ) (e : Elements) (words : List ℕ) (line element : ℕ) (event : Elements → Result Elements Refusal) → Ready id v first e words → v.claimed ≡ None → line < 18 → element < 64 → has v element ≡ true
+    → first + length (line_at e line).history + 1 < 4294967296
+    → ((rest : List Hold) → slice_get e.lines line ≡ Some (line_at e line) → claim 1 id (element ∷ []) (line_at e line) ≡ Ok (after_claim id (element ∷ []) (line_at e line)) → Lets id element e rest
+    → event e ≡ Ok (claimed id line element rest e))
+    → Effect id v (with_claim v line (length (line_at e line).history) element) first event e (set words (head_place line) (head_word first e line + 1))
+effect_of id v first e words line element event ready idle below known held small goes =
+    let gone = let_go_goes id element e.held (ready.hand.held element ∙ held) in
+    let claims = line_claims id element line gone.0 e first words below ready.lawful ready.shows gone.1 in
+    let inside : line < length e.lines = omega (arith, ready.shows.queues) in
+    let lawful : IsLawfulQueue (line_at e line) = every_at IsLawfulQueue e.lines line (line_at e line) claims.0 ready.lawful.lines in
+    let none : in_hands element gone.0 ≡ 0 = out_of_hands id element e gone.0 ready.lawful (omega (arith, ready.shows.threads)) gone.1 in
+    record {
+      f = claimed id line element gone.0 e;
+      goes = goes gone.0 claims.0 claims.1 gone.1;
+      leaves = claim_leaves id element line gone.0 v e inside gone.2;
+      hand = claim_hand id element line gone.0 v e below known inside lawful ready.hand gone.2 none;
+      shows = words_after first id element line words gone.0 e below lawful small ready.shows;
+      owes = claim_owes v (with_claim v line (length (line_at e line).history) element) id element line gone.0 e inside idle refl;
+    }
+
+pub claim_effect : ClaimEffect
+claim_effect id v first e words line element ready idle below known held small =
+    effect_of id v first e words line element (claim_element line id (element ∷ [])) ready idle below known held small
+    (λ rest at claims lets. claim_ok id element line rest e (omega (arith, ready.shows.threads)) at claims lets)
+
+mark_is : (e : Elements) (wait line : ℕ) → line ≡ suc (suc wait) → mark_of e line ≡ get_or e.notified wait 0
+mark_is e wait line same = ap (mark_of e) same
+
+pub wait_at_effect : WaitAtEffect
+wait_at_effect id v first e words wait element ticket ready idle below known held small same =
+    effect_of id v first e words (wait + 2) element (wait_at id wait element ticket) ready idle (omega arith) known held small
+    (λ rest at claims lets. wait_ok id element wait ticket rest e (omega (arith, ready.shows.threads)) (omega (arith, ready.shows.waits)) (sym (mark_is e wait (wait + 2) (omega arith)) ∙ same) at claims lets)

@@ -1,0 +1,106 @@
+-- A step that is an event keeps the rule.
+use Rattle.std.proofs.Common.{◌≡◌, ◌≢◌, ℕ, ◌<◌, ◌≤◌, Bool, true, false, ◌||◌, List, [], ◌∷◌, ◌++◌, length, get_or, set, Result, Ok, sym, refl, ap, ◌∙◌, subst, arith, length-set, get_or-set_other}
+use Rattle.std.specs.List.{list_any}
+use mathlib.Core.Option.{some}
+use lib.ListN.{get_elem?}
+use Rattle.quaject_core.specs.Counting.{EndsCounted}
+use Rattle.quaject_core.specs.Elements.{Elements, holds, is_put}
+use Rattle.quaject_core.specs.Lawful.{IsLawfulElements}
+use Rattle.quaject_core.specs.Results.{◌>>=◌}
+use Rattle.quaject_core.specs.States.{State, effect, in_elements, counted, step}
+use Rattle.quaject_core.specs.declared.event.Event.{Event}
+use Rattle.quaject_core.specs.declared.refusal.Refusal.{Refusal}
+use Rattle.quaject_core.proofs.Counting.{counted_look}
+use Rattle.quaject_core.proofs.Owned.{at_below}
+use Rattle.thread_table.specs.declared.rule.Shape.{Shape}
+use Rattle.thread_table.specs.declared.rule.View.{View}
+use Rattle.thread_table.specs.Schedules.{state_after, elements_after, Grows}
+use Rattle.thread_table.specs.Shown.{WordsShow}
+use Rattle.thread_table.specs.Rules.{HandIs, Seen, Rule, IsIdle, ends_of, share_of, may_step, serves}
+use Rattle.thread_table.specs.Steps.{seen_by, Did}
+use Rattle.thread_table.proofs.Effects.{Leaves, Effect}
+use Rattle.thread_table.proofs.Owing.{Owes, claims_set}
+use Rattle.thread_table.proofs.Looks.{St, hand_as, seen_all, each_set, sole_set, sees_of, sees_words}
+use Rattle.thread_table.proofs.Schedules.{after_more, elements_after_more, elements_of, lawful_after, begins_more, grows_trans}
+
+-- an element whose step a call may count is no other call's
+abbrev pub OthersCount : Type 0
+OthersCount = (id call element : ℕ) (e : Elements) → IsLawfulElements e → length e.threads ≡ 64 → element < 64 → call ≢ id → may_step call element e ≡ true → may_step id element e ≡ false
+
+-- what was seen is still earlier after one event more
+pub seen_more : (u : View) (events : List Event) (event : Event) → Seen u events → Grows (elements_after events) (elements_after (events ++ event ∷ [])) → Seen u (events ++ event ∷ [])
+seen_more u events event s grows = record {
+  schedule = begins_more u.schedule events event s.schedule;
+  joined = begins_more u.joined events event s.joined;
+  grows = grows_trans (elements_after u.schedule) (elements_after events) (elements_after (events ++ event ∷ [])) s.grows grows;
+}
+
+-- another call may step what it could step
+may_still : (id call element : ℕ) (v : View) (e f : Elements) → Leaves id v e f → call ≢ id → may_step call element f ≡ may_step call element e
+may_still id call element v e f leaves other = ap (λ (z : Bool). z || list_any (is_put call element) f.processors) (leaves.held call element other) ∙ ap (λ (z : Bool). holds call element e || z) (leaves.puts call element other)
+
+true_or_not : (b : Bool) → (b ≡ true → ⊥) → b ≡ false
+true_or_not true never = absurd (never refl)
+true_or_not false never = refl
+
+-- an event of the call id leaves another hand what it has
+pub hand_left : OthersCount → (id j : ℕ) (v u : View) (e f : Elements) → Leaves id v e f → IsLawfulElements e → length e.threads ≡ 64 → j ≢ id → ((p : ℕ) → serves u p ≡ true → serves v p ≡ false) → HandIs j u e → HandIs j u f
+hand_left others id j v u e f leaves lawful long other apart h = record {
+  held_long = h.held_long;
+  serves_long = h.serves_long;
+  on_long = h.on_long;
+  held = λ x. leaves.held j x other ∙ h.held x;
+  on = λ p up. leaves.seats p (apart p up) ∙ h.on p up;
+  off = h.off;
+  claimed = λ c is. leaves.runs j c other (h.claimed c is);
+  counted = λ c is. let n = h.counted c is in record {
+    known = n.known;
+    may = may_still id j c.element v e f leaves other ∙ n.may;
+    done = leaves.steps c.element (others id j c.element e lawful long n.known other n.may) ∙ n.done;
+  };
+}
+
+-- an event of the elements that goes is a step of the core
+pub steps : (events : List Event) (event : Event) (change : Elements → Result Elements Refusal) (f : Elements) → ((t : State) → effect event t ≡ in_elements change t) → change (elements_after events) ≡ Ok f
+    → step event (state_after events) ≡ Ok (counted (record (state_after events) { elements = f }))
+steps events event change f is goes = let s : State = state_after events in let goes' : change s.elements ≡ Ok f = ap change (sym (elements_of events)) ∙ goes in
+    ap (λ (z : Result State Refusal). z >>= λ next. Ok (counted next)) (is s ∙ ap (λ (z : Result Elements Refusal). z >>= λ elements. Ok (record s { elements = elements })) goes')
+
+pub made : OthersCount → (key : Shape) (s : St) (k : Rule key s) (id : ℕ) (v : View) (event : Event) (change : Elements → Result Elements Refusal) (knows : List Event → View) (i y : ℕ) → get_elem? s.views id ≡ some v → 1 ≤ v.ends → 0 < i
+    → ((t : State) → effect event t ≡ in_elements change t) → (knows k.events).first ≡ v.first → (knows k.events).serves ≡ v.serves → (knows k.events).ends ≡ v.ends → (knows k.events).share ≡ v.share
+    → Effect id v (knows k.events) key.first change (elements_after k.events) (set s.words i y)
+    → Rule key record { words = set s.words i y; homes = s.homes; views = set s.views id (seen_by (knows k.events) (k.events ++ event ∷ [])) }
+    × ((did : Did id v event knows (seen_by (knows k.events) (k.events ++ event ∷ []))) × (did.before ≡ k.events) × (did.sees.words ≡ s.words))
+made others key s k id v event change knows i y at live past is first serving ends share effect =
+    let old : List Event = k.events in let new : List Event = old ++ event ∷ [] in let e : Elements = elements_after old in let f : Elements = effect.f in let w : View = seen_by (knows old) new in
+    let ok = steps old event change f is effect.goes in let more = after_more old event (counted (record (state_after old) { elements = f })) k.allowed ok in
+    let same : elements_after new ≡ f = elements_after_more old event (counted (record (state_after old) { elements = f })) f refl more.0 in
+    let leaves : Leaves id v e (elements_after new) = subst (Leaves id v e) (sym same) effect.leaves in
+    let lawful : IsLawfulElements e = lawful_after old k.allowed in (
+      record {
+        events = new;
+        allowed = more.1;
+        shows = subst (λ (z : Elements). WordsShow key.first z (set s.words i y)) (sym same) effect.shows;
+        first = each_set (λ j u. u.first ≡ key.first) s.views id w (λ j u ne has. k.first j u has) (first ∙ k.first id v at);
+        seen = each_set (λ j u. Seen u new) s.views id w (λ j u ne has. seen_more u old event (k.seen j u has) leaves.grows) (seen_all w new refl refl);
+        hands = each_set (λ j u. HandIs j u (elements_after new)) s.views id w
+            (λ j u ne has. hand_left others id j v u e (elements_after new) leaves lawful k.shows.threads ne (λ p up. true_or_not (serves v p) (λ mine. ne (k.sole j id p u v has at up mine))) (k.hands j u has))
+            (subst (HandIs id w) (sym same) (hand_as id (knows old) w f refl refl refl refl refl effect.hand));
+        sole = sole_set s.views id v w at serving k.sole;
+        owned = claims_set s.views id v w e (elements_after new) at (subst (Owes v w e) (sym same) effect.owes) k.owned;
+        strange = λ call element far. let l = length-set s.views id w in let b = at_below s.views id v at in leaves.held call element (λ z. omega arith) ∙ k.strange call element (omega arith);
+        counted = subst (λ (c : ℕ). EndsCounted ends_of share_of IsIdle c (set s.views id w)) (sym (get_or-set_other s.words i 0 y 0 (λ z. omega arith))) (counted_look ends_of share_of IsIdle (get_or s.words 0 0) s.views id v w k.counted at ends share (λ none. absurd (omega arith)));
+      },
+      (
+        record {
+          before = old;
+          sees = sees_of key s k id v at;
+          hand = k.hands id v at;
+          same = refl;
+          step = ok ∙ ap Ok (sym more.0);
+          allowed = more.1;
+        },
+        refl,
+        sees_words key s k id v at,
+      ),
+    )

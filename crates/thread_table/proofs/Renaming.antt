@@ -1,0 +1,216 @@
+-- What a join of two calls makes of the elements.
+use Rattle.std.proofs.Common.{◌≡◌, ◌≢◌, ◌⊎◌, inl, inr, ℕ, zero, suc, ◌+◌, ◌*◌, ◌<◌, Bool, true, false, ◌||◌, ◌&&◌, cond, eqb, eq-eqb, ne_eqb, List, [], ◌∷◌, ◌∙◌, map, length, get_or, Option, Some, None, option_map, slice_get, refl, sym, ap, ap₂, subst, arith}
+use Rattle.std.proofs.lemmas.Bool.Decides.{eqb_tells}
+use Rattle.std.proofs.lemmas.List.{length-map}
+use Rattle.std.proofs.lemmas.Option.{slice_get-map}
+use Rattle.std.specs.List.{list_any}
+use Rattle.quaject_core.specs.Elements.{Elements, hold, holds, is_hold, is_put, join_hold, join_elements}
+use Rattle.quaject_core.specs.Queues.{Queue, empty_queue, renamed, join_run, join_queue}
+use Rattle.quaject_core.specs.Runs.{Run}
+use Rattle.quaject_core.specs.declared.hold.Hold.{Hold}
+use Rattle.quaject_core.proofs.JoinLaws.{slice_get_joined}
+use Rattle.thread_table.specs.declared.rule.Claimed.{Claimed}
+use Rattle.thread_table.specs.declared.rule.Counted.{Counted}
+use Rattle.thread_table.specs.Schedules.{line_at, element_of, no_run, QueueGrows, Grows}
+use Rattle.thread_table.specs.Shown.{WordsShow, LineShows, PlaceShows, item_place, seat_word, mark_of}
+use Rattle.thread_table.specs.Rules.{IsClaimed, IsCounted, IsOpen, may_step}
+
+cond_same : (b : Bool) (n : ℕ) → cond b n n ≡ n
+cond_same true n = refl
+cond_same false n = refl
+
+or_true : (b : Bool) → (b || true) ≡ true
+or_true true = refl
+or_true false = refl
+
+or_false : (b : Bool) → (b || false) ≡ b
+or_false true = refl
+or_false false = refl
+
+-- the names of the calls after a join
+pub renamed_call : (id other : ℕ) → renamed id other id ≡ id
+renamed_call id other = cond_same (eqb id other) id
+
+pub renamed_other : (id other : ℕ) → renamed id other other ≡ id
+renamed_other id other = ap (λ (b : Bool). cond b id other) (eq-eqb other other refl)
+
+pub renamed_third : (id other call : ℕ) → call ≢ other → renamed id other call ≡ call
+renamed_third id other call ne = ap (λ (b : Bool). cond b id call) (ne_eqb call other ne)
+
+named_by_third : (id other call n : ℕ) → call ≢ id → call ≢ other → ((eqb n other ≡ true) × (n ≡ other)) ⊎ ((eqb n other ≡ false) × (n ≢ other)) → eqb (renamed id other n) call ≡ eqb n call
+named_by_third id other call n ne ne' (inl same) = ap (λ (b : Bool). eqb (cond b id n) call) same.0 ∙ (ne_eqb id call (λ e. ne (sym e)) ∙ sym (ne_eqb n call (λ e. ne' (sym e ∙ same.1))))
+named_by_third id other call n ne ne' (inr differ) = ap (λ (b : Bool). eqb (cond b id n) call) differ.0
+
+named_third : (id other call n : ℕ) → call ≢ id → call ≢ other → eqb (renamed id other n) call ≡ eqb n call
+named_third id other call n ne ne' = named_by_third id other call n ne ne' (eqb_tells n other)
+
+named_by_call : (id other n : ℕ) → ((eqb n other ≡ true) × (n ≡ other)) ⊎ ((eqb n other ≡ false) × (n ≢ other)) → eqb (renamed id other n) id ≡ (eqb n id || eqb n other)
+named_by_call id other n (inl same) = ap (λ (b : Bool). eqb (cond b id n) id) same.0 ∙ (eq-eqb id id refl ∙ sym (ap (λ (b : Bool). eqb n id || b) same.0 ∙ or_true (eqb n id)))
+named_by_call id other n (inr differ) = ap (λ (b : Bool). eqb (cond b id n) id) differ.0 ∙ sym (ap (λ (b : Bool). eqb n id || b) differ.0 ∙ or_false (eqb n id))
+
+named_call : (id other n : ℕ) → eqb (renamed id other n) id ≡ (eqb n id || eqb n other)
+named_call id other n = named_by_call id other n (eqb_tells n other)
+
+named_by_other : (id other n : ℕ) → id ≢ other → ((eqb n other ≡ true) × (n ≡ other)) ⊎ ((eqb n other ≡ false) × (n ≢ other)) → eqb (renamed id other n) other ≡ false
+named_by_other id other n ne (inl same) = ap (λ (b : Bool). eqb (cond b id n) other) same.0 ∙ ne_eqb id other ne
+named_by_other id other n ne (inr differ) = ap (λ (b : Bool). eqb (cond b id n) other) differ.0 ∙ differ.0
+
+named_other : (id other n : ℕ) → id ≢ other → eqb (renamed id other n) other ≡ false
+named_other id other n ne = named_by_other id other n ne (eqb_tells n other)
+
+-- tests of changed entries
+any_as : {X Y : Type 0} (p : Y → Bool) (q : X → Bool) (f : X → Y) → ((x : X) → p (f x) ≡ q x) → (xs : List X) → list_any p (map f xs) ≡ list_any q xs
+any_as p q f same [] = refl
+any_as p q f same (x ∷ xs) = ap₂ (λ (a b : Bool). a || b) (same x) (any_as p q f same xs)
+
+shuffled : (a b c d : Bool) → ((a || b) || (c || d)) ≡ ((a || c) || (b || d))
+shuffled true b c d = refl
+shuffled false true true d = refl
+shuffled false true false d = refl
+shuffled false false true d = refl
+shuffled false false false d = refl
+
+any_of_two : {X Y : Type 0} (r : Y → Bool) (p q : X → Bool) (f : X → Y) → ((x : X) → r (f x) ≡ (p x || q x)) → (xs : List X) → list_any r (map f xs) ≡ (list_any p xs || list_any q xs)
+any_of_two r p q f same [] = refl
+any_of_two r p q f same (x ∷ xs) = ap₂ (λ (a b : Bool). a || b) (same x) (any_of_two r p q f same xs) ∙ shuffled (p x) (q x) (list_any p xs) (list_any q xs)
+
+any_not : {X Y : Type 0} (p : Y → Bool) (f : X → Y) → ((x : X) → p (f x) ≡ false) → (xs : List X) → list_any p (map f xs) ≡ false
+any_not p f none [] = refl
+any_not p f none (x ∷ xs) = ap₂ (λ (a b : Bool). a || b) (none x) (any_not p f none xs)
+
+shared_and : (a b c : Bool) → ((a || b) && c) ≡ ((a && c) || (b && c))
+shared_and true b true = refl
+shared_and true true false = refl
+shared_and true false false = refl
+shared_and false b c = refl
+
+hold_third : (id other call element : ℕ) (h : Hold) → call ≢ id → call ≢ other → is_hold call element (join_hold id other h) ≡ is_hold call element h
+hold_third id other call element h ne ne' = ap (λ (b : Bool). b && eqb h.element element) (named_third id other call h.call ne ne')
+
+hold_call : (id other element : ℕ) (h : Hold) → is_hold id element (join_hold id other h) ≡ (is_hold id element h || is_hold other element h)
+hold_call id other element h = ap (λ (b : Bool). b && eqb h.element element) (named_call id other h.call) ∙ shared_and (eqb h.call id) (eqb h.call other) (eqb h.element element)
+
+hold_other : (id other element : ℕ) (h : Hold) → id ≢ other → is_hold other element (join_hold id other h) ≡ false
+hold_other id other element h ne = ap (λ (b : Bool). b && eqb h.element element) (named_other id other h.call ne)
+
+put_third : (id other call element : ℕ) (seat : Option Hold) → call ≢ id → call ≢ other → is_put call element (option_map (join_hold id other) seat) ≡ is_put call element seat
+put_third id other call element None ne ne' = refl
+put_third id other call element (Some h) ne ne' = hold_third id other call element h ne ne'
+
+-- who holds an element after a join
+pub held_third : (id other call element : ℕ) (e : Elements) → call ≢ id → call ≢ other → holds call element (join_elements id other e) ≡ holds call element e
+held_third id other call element e ne ne' = any_as (is_hold call element) (is_hold call element) (join_hold id other) (λ h. hold_third id other call element h ne ne') e.held
+
+pub held_call : (id other element : ℕ) (e : Elements) → holds id element (join_elements id other e) ≡ (holds id element e || holds other element e)
+held_call id other element e = any_of_two (is_hold id element) (is_hold id element) (is_hold other element) (join_hold id other) (λ h. hold_call id other element h) e.held
+
+pub held_other : (id other element : ℕ) (e : Elements) → id ≢ other → holds other element (join_elements id other e) ≡ false
+held_other id other element e ne = any_not (is_hold other element) (join_hold id other) (λ h. hold_other id other element h ne) e.held
+
+pub may_third : (id other call element : ℕ) (e : Elements) → call ≢ id → call ≢ other → may_step call element (join_elements id other e) ≡ may_step call element e
+may_third id other call element e ne ne' = ap₂ (λ (a b : Bool). a || b) (held_third id other call element e ne ne')
+    (any_as (is_put call element) (is_put call element) (option_map (join_hold id other)) (λ seat. put_third id other call element seat ne ne') e.processors)
+
+-- what a call put on a processor is then of the call's new name
+put_renamed : (id other call : ℕ) (r : Option ℕ) → option_map (join_hold id other) (option_map (hold call) r) ≡ option_map (hold (renamed id other call)) r
+put_renamed id other call None = refl
+put_renamed id other call (Some x) = refl
+
+pub seat_renamed : (id other call name p : ℕ) (e : Elements) (r : Option ℕ) → renamed id other call ≡ name → slice_get e.processors p ≡ Some (option_map (hold call) r) → slice_get (join_elements id other e).processors p ≡ Some (option_map (hold name) r)
+seat_renamed id other call name p e r is at = slice_get-map (option_map (join_hold id other)) e.processors p
+    ∙ (ap (option_map (option_map (join_hold id other))) at ∙ (ap Some (put_renamed id other call r) ∙ ap (λ (n : ℕ). Some (option_map (hold n) r)) is))
+
+queue_of_joined : (id other : ℕ) (lines : List Queue) (line : ℕ) → get_or (map (join_queue id other) lines) line (empty_queue 64) ≡ join_queue id other (get_or lines line (empty_queue 64))
+queue_of_joined id other [] line = refl
+queue_of_joined id other (q ∷ lines) zero = refl
+queue_of_joined id other (q ∷ lines) (suc line) = queue_of_joined id other lines line
+
+pub line_joined : (id other line : ℕ) (e : Elements) → line_at (join_elements id other e) line ≡ join_queue id other (line_at e line)
+line_joined id other line e = queue_of_joined id other e.lines line
+
+pub claim_third : (id other call : ℕ) (c : Claimed) (e : Elements) → call ≢ other → IsClaimed call c e → IsClaimed call c (join_elements id other e)
+claim_third id other call c e ne h = let f : Elements = join_elements id other e in let q : Queue = line_at e c.line in let is : line_at f c.line ≡ join_queue id other q = line_joined id other c.line e in record {
+  below = h.below;
+  known = h.known;
+  run = ap (λ (z : Queue). slice_get z.history c.run) is ∙ (slice_get_joined id other q.history c.run ∙ (ap (option_map (join_run id other)) h.run
+      ∙ ap (λ (n : ℕ). let r : Run = record { call = n; items = c.element ∷ [] } in Some r) (renamed_third id other call ne)));
+  low = ap (λ (z : Queue). z.raised c.run 0) is ∙ h.low;
+}
+
+pub count_third : (id other call : ℕ) (c : Counted) (e : Elements) → call ≢ id → call ≢ other → IsCounted call c e → IsCounted call c (join_elements id other e)
+count_third id other call c e ne ne' h = record { known = h.known; may = may_third id other call c.element e ne ne' ∙ h.may; done = h.done }
+
+-- the items of the runs stay
+item_of_joined : (id other : ℕ) (h : List Run) (run : ℕ) → element_of (get_or (map (join_run id other) h) run no_run) ≡ element_of (get_or h run no_run)
+item_of_joined id other [] run = refl
+item_of_joined id other (r ∷ h) zero = refl
+item_of_joined id other (r ∷ h) (suc run) = item_of_joined id other h run
+
+queue_grows : (id other : ℕ) (q : Queue) → QueueGrows q (join_queue id other q)
+queue_grows id other q = let long : length (map (join_run id other) q.history) ≡ length q.history = length-map q.history (join_run id other) in record {
+  longer = omega arith;
+  further = omega arith;
+  items = λ run below. item_of_joined id other q.history run;
+  raised = λ run h. h;
+}
+
+pub grows_joined : (id other : ℕ) (e : Elements) → Grows e (join_elements id other e)
+grows_joined id other e line = subst (QueueGrows (line_at e line)) (sym (line_joined id other line e)) (queue_grows id other (line_at e line))
+
+-- a run that isn't raised then wasn't before
+pub open_joined : (id other : ℕ) (e : Elements) (line run : ℕ) → IsOpen line run (join_elements id other e) → IsOpen line run e
+open_joined id other e line run is = let q : Queue = line_at e line in let same : line_at (join_elements id other e) line ≡ join_queue id other q = line_joined id other line e in (
+  subst (λ (n : ℕ). run < n) (ap (λ (z : Queue). length z.history) same ∙ length-map q.history (join_run id other)) is.0,
+  sym (ap (λ (z : Queue). z.raised run 0) same) ∙ is.1,
+)
+
+-- the words show what they showed
+mark_joined : (id other line : ℕ) (e : Elements) → mark_of (join_elements id other e) line ≡ mark_of e line
+mark_joined id other zero e = refl
+mark_joined id other (suc zero) e = refl
+mark_joined id other (suc (suc wait)) e = refl
+
+place_joined : (id other first run word : ℕ) (q : Queue) → PlaceShows first q run word → PlaceShows first (join_queue id other q) run word
+place_joined id other first run word q h = record {
+  up = λ up. h.up up ∙ ap (λ (x : ℕ). x + 256 * (first + run + 1)) (sym (item_of_joined id other q.history run));
+  low = h.low;
+}
+
+single_by : (id other : ℕ) (found : Option Run) (run : Run) → ((r : Run) → found ≡ Some r → length r.items ≡ 1) → option_map (join_run id other) found ≡ Some run → length run.items ≡ 1
+single_by id other None run one at = absurd (cc)
+single_by id other (Some r) run one at = let e : join_run id other r ≡ run = cc in sym (ap (λ (z : Run). length z.items) e) ∙ one r refl
+
+line_shows : (id other first line : ℕ) (e : Elements) (words : List ℕ) → LineShows first e line words → LineShows first (join_elements id other e) line words
+line_shows id other first line e words h = let f : Elements = join_elements id other e in let q : Queue = line_at e line in let is : line_at f line ≡ join_queue id other q = line_joined id other line e in
+    let m : mark_of f line ≡ mark_of e line = mark_joined id other line e in let taken : (line_at f line).taken ≡ q.taken = ap (λ (z : Queue). z.taken) is in
+    let long : length (line_at f line).history ≡ length q.history = ap (λ (z : Queue). length z.history) is ∙ length-map q.history (join_run id other) in record {
+      capacity = ap (λ (z : Queue). z.capacity) is ∙ h.capacity;
+      is_open = ap (λ (z : Queue). z.shut) is ∙ h.is_open;
+      single = λ number run at. single_by id other (slice_get q.history number) run (h.single number) (sym (ap (λ (z : Queue). slice_get z.history number) is ∙ slice_get_joined id other q.history number) ∙ at);
+      small = omega (arith, h.small);
+      marked = omega (arith, h.marked);
+      head = h.head ∙ sym (ap₂ (λ (n k : ℕ). first + n + k * 4294967296) long m);
+      tail = h.tail ∙ sym (ap (λ (n : ℕ). first + n) taken);
+      places = λ run from to. subst (λ (z : Queue). PlaceShows first z run (get_or words (item_place line (first + run)) 0)) (sym is)
+          (place_joined id other first run (get_or words (item_place line (first + run)) 0) q (h.places run (omega arith) (omega arith)));
+    }
+
+seat_word_joined : (id other : ℕ) (seats : List (Option Hold)) (p : ℕ) → seat_word (get_or (map (option_map (join_hold id other)) seats) p None) ≡ seat_word (get_or seats p None)
+seat_word_joined id other [] p = refl
+seat_word_joined id other (None ∷ seats) zero = refl
+seat_word_joined id other (Some h ∷ seats) zero = refl
+seat_word_joined id other (seat ∷ seats) (suc p) = seat_word_joined id other seats p
+
+pub words_joined : (id other first : ℕ) (e : Elements) (words : List ℕ) → WordsShow first e words → WordsShow first (join_elements id other e) words
+words_joined id other first e words h = record {
+  wide = h.wide;
+  threads = h.threads;
+  queues = length-map e.lines (join_queue id other) ∙ h.queues;
+  waits = h.waits;
+  processors = length-map e.processors (option_map (join_hold id other)) ∙ h.processors;
+  seats = λ p below. h.seats p below ∙ sym (seat_word_joined id other e.processors p);
+  states = h.states;
+  steps = h.steps;
+  few = h.few;
+  lines = λ line below. line_shows id other first line e words (h.lines line below);
+}

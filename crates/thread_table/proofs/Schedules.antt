@@ -1,0 +1,67 @@
+-- What a schedule leads to.
+use Rattle.std.proofs.Common.{◌≡◌, List, [], ◌∷◌, ◌++◌, ◌∙◌, refl, sym, ap, subst, arith, Ok, Result, append-nil, append_assoc}
+use Rattle.std.specs.Result.{result_unwrap_or}
+use Rattle.quaject_core.specs.Elements.{Elements}
+use Rattle.quaject_core.proofs.Steps.{reaches_more, schedule_law}
+use Rattle.quaject_core.specs.Lawful.{IsLawfulElements}
+use Rattle.quaject_core.specs.Queues.{Queue}
+use Rattle.quaject_core.specs.Schedules.{Reaches}
+use Rattle.quaject_core.specs.States.{State, first_state, step}
+use Rattle.quaject_core.specs.declared.event.Event.{Event}
+use Rattle.quaject_core.specs.declared.refusal.Refusal.{Refusal}
+use Rattle.thread_table.specs.Schedules.{after, begun, state_after, elements_after, IsAllowed, Begins, QueueGrows, Grows}
+
+after_is : (s : State) (events : List Event) (t : State) → Reaches s events t → after s events ≡ t
+unfolding after
+after_is s [] t r = sym r
+after_is s (e ∷ es) t r = ap (λ (z : Result State Refusal). after (result_unwrap_or z s) es) r.1 ∙ after_is r.0 es t r.2
+
+-- one event more
+pub after_more : (events : List Event) (event : Event) (t : State) → IsAllowed events → step event (state_after events) ≡ Ok t
+    → (state_after (events ++ event ∷ []) ≡ t) × IsAllowed (events ++ event ∷ [])
+unfolding state_after IsAllowed
+after_more events event t allowed ok =
+    let r : Reaches begun (events ++ event ∷ []) t = reaches_more begun events (after begun events) event t allowed ok in
+    let is : after begun (events ++ event ∷ []) ≡ t = after_is begun (events ++ event ∷ []) t r in
+    (is, subst (Reaches begun (events ++ event ∷ [])) (sym is) r)
+
+-- no event
+pub after_none : (state_after [] ≡ first_state 64) × IsAllowed []
+unfolding state_after IsAllowed after begun
+after_none = (refl, refl)
+
+-- what an event makes of the elements is what the elements' event makes
+pub elements_after_more : (events : List Event) (event : Event) (t : State) (f : Elements) → t.elements ≡ f → state_after (events ++ event ∷ []) ≡ t → elements_after (events ++ event ∷ []) ≡ f
+unfolding elements_after
+elements_after_more events event t f is same = ap (λ (z : State). z.elements) same ∙ is
+
+pub elements_of : (events : List Event) → elements_after events ≡ (state_after events).elements
+unfolding elements_after
+elements_of events = refl
+
+pub lawful_after : (events : List Event) → IsAllowed events → IsLawfulElements (elements_after events)
+unfolding elements_after IsAllowed begun
+lawful_after events allowed = (schedule_law 64 events (state_after events) allowed).elements
+
+pub begins_refl : (events : List Event) → Begins events events
+begins_refl events = ([], append-nil events)
+
+pub begins_more : (past events : List Event) (event : Event) → Begins past events → Begins past (events ++ event ∷ [])
+begins_more past events event b = (b.0 ++ event ∷ [], sym (append_assoc past b.0 (event ∷ [])) ∙ ap (λ (z : List Event). z ++ event ∷ []) b.1)
+
+queue_refl : (q : Queue) → QueueGrows q q
+queue_refl q = record { longer = omega arith; further = omega arith; items = λ run h. refl; raised = λ run h. h }
+
+pub queue_trans : (p q r : Queue) → QueueGrows p q → QueueGrows q r → QueueGrows p r
+queue_trans p q r a b = let la = a.longer in let lb = b.longer in let fa = a.further in let fb = b.further in record {
+  longer = omega arith;
+  further = omega arith;
+  items = λ run h. b.items run (omega arith) ∙ a.items run h;
+  raised = λ run h. b.raised run (a.raised run h);
+}
+
+pub grows_refl : (e : Elements) → Grows e e
+grows_refl e line = queue_refl _
+
+pub grows_trans : (e f g : Elements) → Grows e f → Grows f g → Grows e g
+grows_trans e f g a b line = queue_trans _ _ _ (a line) (b line)

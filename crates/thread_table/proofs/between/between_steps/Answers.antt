@@ -1,0 +1,5 @@
+use Rattle.thread_table.proofs.Betweens.{shows_elements}
+use Rattle.thread_table.proofs.between.between_steps.Goals as goal
+
+pub returns : goal.returns
+returns c = shows_elements

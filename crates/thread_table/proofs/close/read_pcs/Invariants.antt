@@ -1,0 +1,7 @@
+use Rattle.std.proofs.Common.{◌≡◌, ◌+◌, ◌<◌, ℕ, get_or, length}
+use Rattle.std.specs.Mem.Slots.{slots_items}
+use Rattle.thread_table.specs.Closings.{word_at}
+use Rattle.thread_table.proofs.close.read_pcs.Given as goal
+
+abbrev pub invariant-loop-element : goal.invariant-loop-element
+invariant-loop-element l = (length l.pcs ≡ 64) × ((x : ℕ) → x < l.element → get_or l.pcs x 0 ≡ word_at (slots_items l.closed.words) (x + 73))

@@ -1,0 +1,9 @@
+use Rattle.std.proofs.Common.{◌+◌, ℕ}
+use Rattle.std.specs.Int.{bit_at}
+use Rattle.std.specs.Mem.Slots.{slots_items}
+use Rattle.thread_table.specs.Closings.{word_at}
+use Rattle.thread_table.proofs.Locating.{BitsBelow}
+use Rattle.thread_table.proofs.close.read_stops.Given as goal
+
+abbrev pub invariant-loop-element : goal.invariant-loop-element
+invariant-loop-element l = BitsBelow (λ (x : ℕ). bit_at (word_at (slots_items l.closed.words) (x + 9)) 16) l.element l.stops

@@ -1,0 +1,5 @@
+use Rattle.thread_table.proofs.hand.ThreadTable.split.Given as goal
+
+-- the new hand serves the processors of the mask
+abbrev pub ghosts-split_off : goal.ghosts-split_off
+ghosts-split_off a = record { mask = a.mask.now }

@@ -1,0 +1,9 @@
+use Rattle.std.proofs.Common.{false, [], ◌∷◌}
+use Rattle.std.specs.List.{repeat}
+use Rattle.thread_table.specs.Answers.{is_in}
+use Rattle.thread_table.proofs.Entries.{ArePut}
+use Rattle.thread_table.proofs.hand.marks_of.Given as goal
+
+-- the marks so far are the bits of the mask
+abbrev pub invariant-loop-p : goal.invariant-loop-p
+invariant-loop-p l = ArePut false (is_in l.fn.mask) l.p (repeat 8 (false ∷ [])) l.marks

@@ -1,0 +1,6 @@
+use Rattle.std.proofs.Common.{rules}
+use Rattle.thread_table.proofs.Looks.{looks}
+use Rattle.thread_table.proofs.steps.load.Goals as goal
+
+pub load-requires : goal.load-requires
+load-requires c = (search rules, search rules, looks _ _ _ _ _)

@@ -1,0 +1,35 @@
+-- What a clause says of a table and of a hand.
+use Rattle.std.specs.Prelude.{◌≡◌, ℕ}
+use Rattle.quaject_core.specs.Sharing.{IsWhole}
+use Rattle.thread_table.specs.declared.rule.View.{View}
+use Rattle.thread_table.specs.declared.hand.ThreadTable.{ThreadTable}
+use Rattle.thread_table.specs.declared.hand.Hand.{Hand}
+use Rattle.thread_table.specs.Steps.{IsSame}
+
+-- what the hand knows
+abbrev pub view_of : Hand → View
+view_of hand = hand.seat.me.0
+
+-- the number of the hand, which is the call of its events
+abbrev pub call_of : Hand → ℕ
+call_of hand = hand.seat.id
+
+-- every other hand was joined
+abbrev pub IsOnlyHand : Hand → Type 0
+IsOnlyHand hand = IsWhole hand.seat.me.0.share
+
+-- it is a hand of this table
+abbrev pub IsHandOf : ThreadTable → Hand → Type 0
+IsHandOf table hand = hand.seat.table_id ≡ table.table.shared.table_id
+
+-- it is the same hand of the same table
+abbrev pub IsSameHand : Hand → Hand → Type 0
+IsSameHand old new = IsSame old.seat new.seat
+
+-- both are hands of one table
+abbrev pub AreOfOneTable : Hand → Hand → Type 0
+AreOfOneTable one other = other.seat.table_id ≡ one.seat.table_id
+
+-- the first position of each element queue
+abbrev pub first_of : ThreadTable → ℕ
+first_of table = table.first

@@ -1,0 +1,11 @@
+pub mod Schedules
+pub mod Shown
+pub mod Views
+pub mod Rules
+pub mod Steps
+pub mod Answers
+pub mod Handles
+pub mod Endings
+pub mod Between
+pub mod Closings
+pub mod Laid

@@ -1,0 +1,123 @@
+-- The rule: there is a schedule, each event of which the core allowed in its turn, and the words show what it led to.
+use Rattle.std.specs.Prelude.{◌≡◌, ℕ, ◌<◌, ◌≤◌, Bool, true, false, ◌||◌, List, [], ◌∷◌, length, slice_index_or}
+use Rattle.std.specs.Prelude.{Option}
+use Rattle.std.specs.Prelude.{Some, None, option_map}
+use Rattle.std.specs.List.{slice_get, list_any, repeat}
+use mathlib.Core.Option.{some}
+use lib.ListN.{get_elem?}
+use Rattle.quaject_core.specs.declared.tables.Share.{Share}
+use Rattle.quaject_core.specs.Sharing.{the_whole}
+use Rattle.quaject_core.specs.Counting.{EndsCounted}
+use Rattle.quaject_core.specs.Elements.{Elements, hold, holds, is_put}
+use Rattle.quaject_core.specs.declared.event.Event.{Event}
+use Rattle.atomic_table.specs.Table.{State}
+use Rattle.thread_table.specs.declared.rule.Shape.{Shape}
+use Rattle.thread_table.specs.declared.rule.View.{View}
+use Rattle.thread_table.specs.declared.rule.Claimed.{Claimed}
+use Rattle.thread_table.specs.declared.rule.Counted.{Counted}
+use Rattle.thread_table.specs.Schedules.{elements_after, IsAllowed, Begins, Grows, line_at, thread_at, element_at}
+use Rattle.thread_table.specs.Views.{claim_of}
+use Rattle.thread_table.specs.Shown.{WordsShow}
+
+abbrev pub ends_of : View → ℕ
+ends_of v = v.ends
+
+abbrev pub share_of : View → Share
+share_of v = v.share
+
+-- no element is held
+abbrev pub nothing_held : List Bool
+nothing_held = repeat 64 (false ∷ [])
+
+abbrev pub no_processors : List Bool
+no_processors = repeat 8 (false ∷ [])
+
+abbrev pub nothing_on : List (Option ℕ)
+nothing_on = repeat 8 (None ∷ [])
+
+-- the hand holds the element
+abbrev pub has : View → ℕ → Bool
+has v element = slice_index_or v.held element false
+
+-- the hand serves the processor
+abbrev pub serves : View → ℕ → Bool
+serves v processor = slice_index_or v.serves processor false
+
+-- the element that the hand has on the processor
+abbrev pub running : View → ℕ → Option ℕ
+running v processor = slice_index_or v.on processor None
+
+-- the call holds the element, or has it on a processor
+abbrev pub may_step : ℕ → ℕ → Elements → Bool
+may_step call element e = holds call element e || list_any (is_put call element) e.processors
+
+-- a run of the call that isn't raised
+pub record IsClaimed (call : ℕ) (c : Claimed) (e : Elements) : Type 0 where
+  pub below : c.line < 18
+  pub known : c.element < 64
+  pub run : slice_get (line_at e c.line).history c.run ≡ Some (record { call = call; items = c.element ∷ [] })
+  pub low : (line_at e c.line).raised c.run 0 ≡ false
+
+-- the call may count a step of the element, which had so many
+pub record IsCounted (call : ℕ) (c : Counted) (e : Elements) : Type 0 where
+  pub known : c.element < 64
+  pub may : may_step call c.element e ≡ true
+  pub done : (thread_at e c.element).done ≡ c.done
+
+-- what a hand has is what its call has
+pub record HandIs (call : ℕ) (v : View) (e : Elements) : Type 0 where
+  pub held_long : length v.held ≡ 64
+  pub serves_long : length v.serves ≡ 8
+  pub on_long : length v.on ≡ 8
+  pub held : (element : ℕ) → holds call element e ≡ has v element
+  pub on : (p : ℕ) → serves v p ≡ true → slice_get e.processors p ≡ Some (option_map (hold call) (running v p))
+  pub off : (p : ℕ) → serves v p ≡ false → running v p ≡ None
+  pub claimed : (c : Claimed) → v.claimed ≡ Some c → IsClaimed call c e
+  pub counted : (c : Counted) → v.counted ≡ Some c → IsCounted call c e
+
+-- what a hand has seen was earlier
+pub record Seen (v : View) (events : List Event) : Type 0 where
+  pub schedule : Begins v.schedule events
+  pub joined : Begins v.joined events
+  pub grows : Grows (elements_after v.schedule) (elements_after events)
+
+-- the run is claimed and not raised
+abbrev pub IsOpen : ℕ → ℕ → Elements → Type 0
+IsOpen line run e =
+    (run < length (line_at e line).history) × ((line_at e line).raised run 0 ≡ false)
+
+-- an end that was joined has nothing
+abbrev pub IsIdle : View → Type 0
+IsIdle v = (v.held ≡ nothing_held) × (v.serves ≡ no_processors) × (v.on ≡ nothing_on) × (v.claimed ≡ None)
+
+-- The core allowed each of these events in its turn; what they lead to is what the words show and what the hands have.
+-- No processor is served by two hands, each run that isn't raised is a hand's that is about to raise it, and no call
+-- but the hands' holds an element
+pub record Rule (key : Shape) (s : State Unit View) : Type 0 where
+  pub events : List Event
+  pub allowed : IsAllowed events
+  pub shows : WordsShow key.first (elements_after events) s.words
+  pub first : (j : ℕ) (v : View) → get_elem? s.views j ≡ some v → v.first ≡ key.first
+  pub seen : (j : ℕ) (v : View) → get_elem? s.views j ≡ some v → Seen v events
+  pub hands : (j : ℕ) (v : View) → get_elem? s.views j ≡ some v → HandIs j v (elements_after events)
+  pub sole : (i j p : ℕ) (u v : View) → get_elem? s.views i ≡ some u → get_elem? s.views j ≡ some v
+      → serves u p ≡ true → serves v p ≡ true → i ≡ j
+  pub owned : (line run : ℕ) → line < 18 → IsOpen line run (elements_after events) → (j : ℕ) × (v : View)
+      × (get_elem? s.views j ≡ some v)
+      × (v.claimed ≡ Some (claim_of line run (element_at (line_at (elements_after events) line) run)))
+  pub strange : (call element : ℕ) → length s.views ≤ call → holds call element (elements_after events) ≡ false
+  pub counted : EndsCounted ends_of share_of IsIdle (slice_index_or s.words 0 0) s.views
+
+abbrev pub newcomer : Shape → View
+newcomer key = record {
+  first = key.first;
+  schedule = [];
+  joined = [];
+  held = nothing_held;
+  serves = repeat 8 (true ∷ []);
+  on = nothing_on;
+  claimed = None;
+  counted = None;
+  ends = 1;
+  share = the_whole;
+}

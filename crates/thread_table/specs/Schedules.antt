@@ -1,0 +1,70 @@
+-- The schedule of a table: the events of all its hands, in the order of their steps.
+use Rattle.std.specs.Prelude.{◌≡◌, ℕ, zero, suc, ◌<◌, ◌≤◌, true, List, [], ◌∷◌, ◌++◌, length}
+use Rattle.std.specs.Prelude.{slice_index_or}
+use Rattle.std.specs.Result.{result_unwrap_or}
+use Rattle.quaject_core.specs.Elements.{Elements, Thread, new_thread}
+use Rattle.quaject_core.specs.Queues.{Queue, empty_queue}
+use Rattle.quaject_core.specs.Runs.{Run}
+use Rattle.quaject_core.specs.Schedules.{Reaches}
+use Rattle.quaject_core.specs.States.{State, first_state, step}
+use Rattle.quaject_core.specs.declared.event.Event.{Event}
+use Rattle.quaject_core.specs.declared.names.QueueName.{QueueName}
+use Rattle.quaject_core.specs.declared.names.QueueName.TheVariants as names
+
+-- the state after these events; one that isn't allowed changes nothing
+unfoldable pub after : State → List Event → State
+after s [] = s
+after s (event ∷ events) = after (result_unwrap_or (step event s) s) events
+
+-- the core with 64 elements, all of them free
+unfoldable pub begun : State
+begun = first_state 64
+
+unfoldable pub state_after : List Event → State
+state_after events = after begun events
+
+-- the thread elements after these events
+unfoldable pub elements_after : List Event → Elements
+elements_after events = (state_after events).elements
+
+-- each of the events is allowed in its turn
+unfoldable pub IsAllowed : List Event → Type 0
+IsAllowed events = Reaches begun events (state_after events)
+
+-- the events are the first of the others
+abbrev pub Begins : List Event → List Event → Type 0
+Begins events others = (rest : List Event) × (events ++ rest ≡ others)
+
+-- an element queue by its number: the ready ring, the free elements, and behind them the wait queues
+abbrev pub line_at : Elements → ℕ → Queue
+line_at e line = slice_index_or e.lines line (empty_queue 64)
+
+abbrev pub thread_at : Elements → ℕ → Thread
+thread_at e element = slice_index_or e.threads element new_thread
+
+abbrev pub line_name : ℕ → QueueName
+line_name zero = names.Ready
+line_name (suc zero) = names.Free
+line_name (suc (suc wait)) = names.Wait wait
+
+-- the element of a run, which has one
+abbrev pub element_of : Run → ℕ
+element_of run = slice_index_or run.items 0 0
+
+abbrev pub no_run : Run
+no_run = record { call = 0; items = [] }
+
+-- the element that the run with this number put into a queue
+abbrev pub element_at : Queue → ℕ → ℕ
+element_at q run = element_of (slice_index_or q.history run no_run)
+
+-- r is q some events later
+pub record QueueGrows (q r : Queue) : Type 0 where
+  pub longer : length q.history ≤ length r.history
+  pub further : q.taken ≤ r.taken
+  pub items : (run : ℕ) → run < length q.history → element_at r run ≡ element_at q run
+  pub raised : (run : ℕ) → q.raised run 0 ≡ true → r.raised run 0 ≡ true
+
+-- so is each element queue
+abbrev pub Grows : Elements → Elements → Type 0
+Grows e f = (line : ℕ) → QueueGrows (line_at e line) (line_at f line)

@@ -1,0 +1,85 @@
+-- What the words of the table show: the number of hands, processors, states, steps done, and the element queues.
+use Rattle.std.specs.Prelude.{◌≡◌, ℕ, zero, suc, ◌+◌, ◌*◌, ◌%◌, ◌<◌, ◌≤◌, true, false, if◌then◌else◌, Bool, List}
+use Rattle.std.specs.Prelude.{length}
+use Rattle.std.specs.Prelude.{slice_index_or, Option, Some, None}
+use Rattle.std.specs.List.{slice_get}
+use Rattle.std.specs.Int.{bit_at}
+use Rattle.quaject_core.specs.Elements.{Elements, Thread}
+use Rattle.quaject_core.specs.Queues.{Queue}
+use Rattle.quaject_core.specs.Runs.{Run}
+use Rattle.quaject_core.specs.declared.hold.Hold.{Hold}
+use Rattle.thread_table.specs.Schedules.{line_at, thread_at, element_at}
+
+-- where the words of each kind stand
+abbrev pub seat_place : ℕ → ℕ
+seat_place processor = processor + 1
+
+abbrev pub state_place : ℕ → ℕ
+state_place element = element + 9
+
+abbrev pub done_place : ℕ → ℕ
+done_place element = element + 73
+
+abbrev pub head_place : ℕ → ℕ
+head_place line = 66 * line + 137
+
+abbrev pub tail_place : ℕ → ℕ
+tail_place line = 66 * line + 138
+
+abbrev pub item_place : ℕ → ℕ → ℕ
+item_place line position = 66 * line + 139 + position % 64
+
+abbrev pub bit_of : Bool → ℕ
+bit_of b = if b then 1 else 0
+
+abbrev pub seat_word : Option Hold → ℕ
+seat_word None = 0
+seat_word (Some h) = h.element + 1
+
+-- bits 0 to 15 are the pending signals, bit 16 the stop bit, bit 17 the stop cell
+pub record StateShows (thread : Thread) (word : ℕ) : Type 0 where
+  pub small : word < 262144
+  pub pending : (signal : ℕ) → signal < 16 → bit_at word signal ≡ bit_of (thread.pending signal)
+  pub stop : bit_at word 16 ≡ bit_of thread.stop
+  pub parked : bit_at word 17 ≡ bit_of thread.parked
+
+-- the place of a raised run has its element and one more than its position; before that, no more than its position
+pub record PlaceShows (first : ℕ) (q : Queue) (run word : ℕ) : Type 0 where
+  pub up : q.raised run 0 ≡ true → word ≡ element_at q run + 256 * (first + run + 1)
+  pub low : q.raised run 0 ≡ false → word < 256 * (first + run + 1)
+
+-- how many notifies are marked in the head word of an element queue
+abbrev pub mark_of : Elements → ℕ → ℕ
+mark_of e zero = 0
+mark_of e (suc zero) = 0
+mark_of e (suc (suc wait)) = slice_index_or e.notified wait 0
+
+abbrev pub head_word : ℕ → Elements → ℕ → ℕ
+head_word first e line = first + length (line_at e line).history + mark_of e line * 4294967296
+
+abbrev pub tail_word : ℕ → Elements → ℕ → ℕ
+tail_word first e line = first + (line_at e line).taken
+
+-- each run is one element
+pub record LineShows (first : ℕ) (e : Elements) (line : ℕ) (words : List ℕ) : Type 0 where
+  pub capacity : (line_at e line).capacity ≡ 64
+  pub is_open : (line_at e line).shut ≡ false
+  pub single : (number : ℕ) (run : Run) → slice_get (line_at e line).history number ≡ Some run → length run.items ≡ 1
+  pub small : first + length (line_at e line).history < 4294967296
+  pub marked : mark_of e line < 4294967296
+  pub head : slice_index_or words (head_place line) 0 ≡ head_word first e line
+  pub tail : slice_index_or words (tail_place line) 0 ≡ tail_word first e line
+  pub places : (run : ℕ) → (line_at e line).taken ≤ run → run < (line_at e line).taken + 64
+      → PlaceShows first (line_at e line) run (slice_index_or words (item_place line (first + run)) 0)
+
+pub record WordsShow (first : ℕ) (e : Elements) (words : List ℕ) : Type 0 where
+  pub wide : length words ≡ 1325
+  pub threads : length e.threads ≡ 64
+  pub queues : length e.lines ≡ 18
+  pub waits : length e.notified ≡ 16
+  pub processors : length e.processors ≡ 8
+  pub seats : (p : ℕ) → p < 8 → slice_index_or words (seat_place p) 0 ≡ seat_word (slice_index_or e.processors p None)
+  pub states : (x : ℕ) → x < 64 → StateShows (thread_at e x) (slice_index_or words (state_place x) 0)
+  pub steps : (x : ℕ) → x < 64 → slice_index_or words (done_place x) 0 ≡ (thread_at e x).done
+  pub few : (x : ℕ) → x < 64 → (thread_at e x).done < 4294967296
+  pub lines : (line : ℕ) → line < 18 → LineShows first e line words

@@ -1,0 +1,132 @@
+//! Closing a table.
+ghost use Rattle.std.specs.Prelude.{◌≡◌, ℕ, ◌+◌, ◌%◌, ◌<◌, slice_index_or, IfOk, IfErr, MatchResult};
+ghost use Rattle.std.specs.Int.{bit_at};
+ghost use Rattle.std.specs.Mem.Slots.{slots_items, slots_len, IsFull};
+ghost use Rattle.thread_table.specs.declared.places.Place.TheVariants as places;
+ghost use Rattle.thread_table.specs.Closings.{ClosedNow, WereOpen, PlaceOf, word_at};
+ghost use Rattle.thread_table.specs.Handles.{view_of, call_of, IsHandOf, IsOnlyHand, AreOfOneTable};
+
+use crate::hand::{Hand, ThreadTable};
+use crate::places::{Place, place_of};
+use crate::steps::count;
+use crate::words::{StateWord, done_place, state_place};
+use atomic_table::Closed;
+use std::alloc::Global;
+use thiserror::Error;
+
+/// What a table had at its end, each list by the number of the element.
+#[derive(Drop)]
+pub struct Places {
+    /// Where each element is.
+    pub places: [Place; 64],
+    /// How many steps each element has done.
+    pub pcs: [u64; 64],
+    /// The pending signals of each element, bit s for signal s.
+    pub pending: [u16; 64],
+    /// The elements whose stop bit is set, bit e for element e.
+    pub stops: u64,
+}
+
+/// Hands that were made and not joined, and their number.
+#[derive(Clone, Copy, Debug, PartialEq, Eq, Drop, Error)]
+#[error("{others} other hands are not joined")]
+pub struct OpenEnds {
+    pub others: u64,
+}
+
+// The state word of an element.
+fn state_of(closed: &Closed<(), Global>, element: u8) -> StateWord
+    requires { (slots_len closed.now.words ≡ 1325) × IsFull closed.now.words × (element < 64) }
+    ensures { result.word ≡ word_at (slots_items closed.now.words) (element + 9) }
+{
+    StateWord {
+        word: closed.word(state_place(element)),
+    }
+}
+
+fn read_places(closed: &Closed<(), Global>) -> [Place; 64]
+    requires { (slots_len closed.now.words ≡ 1325) × IsFull closed.now.words }
+    ensures { (x : ℕ) → x < 64 → PlaceOf x (slots_items closed.now.words) (slice_index_or result x places.Held) }
+{
+    let mut places = [Place::Held; 64];
+    for element in 0..64u8 {
+        places[usize::from(element)] = place_of(closed, element);
+    }
+    places
+}
+
+fn read_pcs(closed: &Closed<(), Global>) -> [u64; 64]
+    requires { (slots_len closed.now.words ≡ 1325) × IsFull closed.now.words }
+    ensures { (x : ℕ) → x < 64 → slice_index_or result x 0 ≡ word_at (slots_items closed.now.words) (x + 73) }
+{
+    let mut pcs = [0; 64];
+    for element in 0..64u8 {
+        pcs[usize::from(element)] = closed.word(done_place(element));
+    }
+    pcs
+}
+
+fn read_pending(closed: &Closed<(), Global>) -> [u16; 64]
+    requires { (slots_len closed.now.words ≡ 1325) × IsFull closed.now.words }
+    ensures { (x : ℕ) → x < 64 → slice_index_or result x 0 ≡ word_at (slots_items closed.now.words) (x + 9) % 65536 }
+{
+    let mut pending = [0; 64];
+    for element in 0..64u8 {
+        pending[usize::from(element)] = state_of(closed, element).pending();
+    }
+    pending
+}
+
+fn read_stops(closed: &Closed<(), Global>) -> u64
+    requires { (slots_len closed.now.words ≡ 1325) × IsFull closed.now.words }
+    ensures { (x : ℕ) → x < 64 → bit_at result x ≡ bit_at (word_at (slots_items closed.now.words) (x + 9)) 16 }
+{
+    let mut stops = 0u64;
+    for element in 0..64u8 {
+        if state_of(closed, element).is_stopping() {
+            stops |= 1 << element;
+        }
+    }
+    stops
+}
+
+impl ThreadTable {
+    /// Closes the table where every other hand has been joined. Else the table and the hand come back, and the number
+    /// of the others.
+    pub fn close(self, hand: Hand) -> Result<Places, (ThreadTable, Hand, OpenEnds)>
+        requires { IsHandOf self hand }
+        ensures closed { IfOk result
+            (λ c. ClosedNow (call_of hand) (view_of hand) c.places c.pcs c.pending c.stops) }
+        ensures open { IfErr result (λ e. (e.0 ≡ self) × AreOfOneTable hand e.1
+            × WereOpen (view_of hand) e.2.others (view_of e.1)) }
+        ensures only { IsOnlyHand hand → MatchResult result (λ c. Unit {0}) (λ e. ⊥) }
+    {
+        let mut hand = hand;
+        let ends = count(&self.table.shared, &mut hand.seat);
+        if ends != 1 {
+            return Err((
+                self,
+                hand,
+                OpenEnds {
+                    others: ends.wrapping_sub(1),
+                },
+            ));
+        }
+        let Hand {
+            seat,
+            held: _,
+            served: _,
+            running: _,
+        } = hand;
+        let ThreadTable { table, first: _ } = self;
+        let closed = table.close_with(seat);
+        let all = Places {
+            places: read_places(&closed),
+            pcs: read_pcs(&closed),
+            pending: read_pending(&closed),
+            stops: read_stops(&closed),
+        };
+        closed.free();
+        Ok(all)
+    }
+}

@@ -1,0 +1,99 @@
+//! Where the elements are when a table is closed.
+ghost use Rattle.std.specs.Prelude.{◌≡◌, ◌+◌, ◌<◌, ◌≤◌, ◌==◌, None, MatchBool};
+ghost use Rattle.std.specs.Int.{bit_at};
+ghost use Rattle.std.specs.Mem.Slots.{slots_items, slots_len, IsFull};
+ghost use Rattle.thread_table.specs.Closings.{SeatOf, IsIn, LineOf, PlaceOf, place_by, word_at};
+
+use crate::words::{HeadWord, StateWord, head_place, item_place, seat_place, state_place};
+use atomic_table::Closed;
+use std::alloc::Global;
+
+/// Where an element is.
+#[derive(Clone, Copy, Debug, PartialEq, Eq)]
+pub enum Place {
+    /// On this processor.
+    Processor(u8),
+    /// In the ready ring.
+    Ready,
+    /// In this wait queue.
+    Wait(u8),
+    /// In its stop cell.
+    Stopped,
+    /// Among the free elements.
+    Free,
+    /// In the hand that closed the table.
+    Held,
+}
+
+// The processor on which the element stands.
+fn seat_of(closed: &Closed<(), Global>, element: u8) -> Option<u8>
+    requires { (slots_len closed.now.words ≡ 1325) × IsFull closed.now.words × (element < 64) }
+    ensures { SeatOf element (slots_items closed.now.words) result }
+{
+    for p in 0..8u8 {
+        if closed.word(seat_place(p)) == element as u64 + 1 {
+            return Some(p);
+        }
+    }
+    None
+}
+
+// Whether the element stands in a place of this element queue.
+fn is_in_line(closed: &Closed<(), Global>, element: u8, line: usize) -> bool
+    requires { (slots_len closed.now.words ≡ 1325) × IsFull closed.now.words × (element < 64) × (line < 18) }
+    ensures { MatchBool result (IsIn element (slots_items closed.now.words) line)
+        (IsIn element (slots_items closed.now.words) line → ⊥) }
+{
+    let head = HeadWord::of(closed.word(head_place(line))).head;
+    let tail = closed.word(head_place(line) + 1);
+    for position in tail..head {
+        if closed.word(item_place(line, position)) % 256 == element as u64 {
+            return true;
+        }
+    }
+    false
+}
+
+// The element queue in which the element stands.
+fn line_of(closed: &Closed<(), Global>, element: u8) -> Option<u8>
+    requires { (slots_len closed.now.words ≡ 1325) × IsFull closed.now.words × (element < 64) }
+    ensures { LineOf element (slots_items closed.now.words) result }
+{
+    for line in 0..18u8 {
+        if is_in_line(closed, element, line as usize) {
+            return Some(line);
+        }
+    }
+    None
+}
+
+/// Where the words say that the element is.
+pub(crate) fn place_of(closed: &Closed<(), Global>, element: u8) -> Place
+    requires { (slots_len closed.now.words ≡ 1325) × IsFull closed.now.words × (element < 64) }
+    ensures { PlaceOf element (slots_items closed.now.words) result }
+{
+    if let Some(p) = seat_of(closed, element) {
+        return Place::Processor(p);
+    }
+    match line_of(closed, element) {
+        Some(0) => Place::Ready,
+        Some(1) => Place::Free,
+        Some(line) => Place::Wait(line - 2),
+        None => cell_or_hand(closed, element),
+    }
+}
+
+// The place of an element that stands on no processor and in no element queue.
+fn cell_or_hand(closed: &Closed<(), Global>, element: u8) -> Place
+    requires { (slots_len closed.now.words ≡ 1325) × IsFull closed.now.words × (element < 64) }
+    ensures { result ≡ place_by None None (bit_at (word_at (slots_items closed.now.words) (element + 9)) 17 == 1) }
+{
+    let state = StateWord {
+        word: closed.word(state_place(element)),
+    };
+    if state.is_parked() {
+        Place::Stopped
+    } else {
+        Place::Held
+    }
+}

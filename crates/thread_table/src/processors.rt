@@ -1,0 +1,78 @@
+//! Processors: a hand puts an element that it holds on a processor that it serves, and takes it off.
+ghost use Rattle.std.specs.Prelude.{◌≡◌, ◌≢◌, true, Some, None, MatchResult};
+ghost use Rattle.thread_table.specs.Handles.{view_of, call_of, IsHandOf, IsSameHand};
+ghost use Rattle.thread_table.specs.Rules.{has, serves, running};
+ghost use Rattle.thread_table.specs.Steps.{PutsOn, TakesOff};
+
+use crate::hand::{Hand, ThreadTable, set_held, set_running};
+use crate::steps::{swap_off, swap_on};
+use quaject_core::{Element, Processor};
+use std::marker::Brand;
+use thiserror::Error;
+
+/// An element stands on the processor.
+#[derive(Clone, Copy, Debug, PartialEq, Eq, Error)]
+#[error("an element stands on the processor")]
+pub struct ProcessorBusy;
+
+/// No element stands on the processor.
+#[derive(Clone, Copy, Debug, PartialEq, Eq, Error)]
+#[error("no element stands on the processor")]
+pub struct ProcessorEmpty;
+
+impl ThreadTable {
+    /// Puts an element that the hand holds on a processor that it serves, unless another stands there.
+    pub fn on(
+        &self,
+        hand: &mut Hand,
+        processor: Processor,
+        element: Element,
+    ) -> Result<(), ProcessorBusy>
+        requires table { IsHandOf self.now hand.old }
+        requires mine { (has (view_of hand.old) element ≡ true) × (serves (view_of hand.old) processor ≡ true) }
+        ensures table { IsSameHand hand.old hand.new }
+        ensures on { MatchResult result
+            (λ done. (running (view_of hand.old) processor ≡ None)
+            × PutsOn (call_of hand.old) processor element (view_of hand.old) (view_of hand.new))
+            (λ busy. (running (view_of hand.old) processor ≢ None) × (view_of hand.new ≡ view_of hand.old)) }
+    {
+        if let Some(_) = hand.running[usize::from(processor.number())] {
+            return Err(ProcessorBusy);
+        }
+        let number = element.number();
+        swap_on::<Brand>(
+            &self.table.shared,
+            &mut hand.seat,
+            processor.number(),
+            number,
+        );
+        set_held(&mut hand.held, number, false);
+        set_running(&mut hand.running, processor.number(), Some(element));
+        Ok(())
+    }
+
+    /// Takes the element off a processor that the hand serves. The hand then holds it.
+    pub fn off(&self, hand: &mut Hand, processor: Processor) -> Result<Element, ProcessorEmpty>
+        requires table { IsHandOf self.now hand.old }
+        requires mine { serves (view_of hand.old) processor ≡ true }
+        ensures table { IsSameHand hand.old hand.new }
+        ensures off { MatchResult result
+            (λ element. (running (view_of hand.old) processor ≡ Some element)
+            × TakesOff (call_of hand.old) processor element (view_of hand.old) (view_of hand.new))
+            (λ empty. (running (view_of hand.old) processor ≡ None) × (view_of hand.new ≡ view_of hand.old)) }
+    {
+        let Some(element) = hand.running[usize::from(processor.number())] else {
+            return Err(ProcessorEmpty);
+        };
+        let number = element.number();
+        swap_off::<Brand>(
+            &self.table.shared,
+            &mut hand.seat,
+            processor.number(),
+            number,
+        );
+        set_held(&mut hand.held, number, true);
+        set_running(&mut hand.running, processor.number(), None);
+        Ok(element)
+    }
+}

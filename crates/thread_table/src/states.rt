@@ -1,0 +1,138 @@
+//! Stop bits, stop cells and signals.
+ghost use Rattle.std.specs.Prelude.{◌≡◌, true};
+ghost use Rattle.thread_table.specs.Handles.{view_of, call_of, IsHandOf, IsSameHand};
+ghost use Rattle.thread_table.specs.Rules.{has};
+ghost use Rattle.thread_table.specs.Answers.{StopAnswer, StartAnswer, ParkAnswer, SignalAnswer, DeliverAnswer};
+
+use crate::hand::{Hand, ThreadTable, set_held};
+use crate::steps::{
+    exchange_deliver, exchange_park, exchange_start, load_state, or_signal, or_stop,
+};
+use crate::words::StateWord;
+use quaject_core::{Element, Signal};
+use std::marker::Brand;
+use thiserror::Error;
+
+/// The state word found at the end of the call isn't the one found first.
+#[derive(Clone, Copy, Debug, PartialEq, Eq, Error)]
+#[error("another hand changed the state word to {seen}")]
+pub struct Lost {
+    pub seen: u64,
+}
+
+/// What a start did.
+#[derive(Clone, Copy, Debug, PartialEq, Eq)]
+pub enum Started {
+    /// The stop bit was clear. No event was made.
+    NotStopped,
+    /// The stop bit was cleared. The element didn't stand in its stop cell.
+    Cleared,
+    /// The stop bit was cleared, and the hand holds the element, which stood in its stop cell.
+    Held,
+}
+
+/// What a signal did.
+#[derive(Clone, Copy, Debug, PartialEq, Eq)]
+pub enum Signalled {
+    /// The signal is pending now.
+    Raised,
+    /// The signal was pending.
+    Merged,
+}
+
+impl ThreadTable {
+    /// Sets the stop bit of an element, wherever it is. True where it was clear.
+    pub fn stop(&self, hand: &mut Hand, element: Element) -> bool
+        requires { IsHandOf self.now hand.old }
+        ensures table { IsSameHand hand.old hand.new }
+        ensures stopped { StopAnswer (call_of hand.old) (view_of hand.old) element result (view_of hand.new) }
+    {
+        let word = or_stop::<Brand>(&self.table.shared, &mut hand.seat, element.number());
+        let state = StateWord { word };
+        !state.is_stopping()
+    }
+
+    /// Clears the stop bit of an element. Where it stood in its stop cell, the hand then holds it.
+    pub fn try_start(&self, hand: &mut Hand, element: Element) -> Result<Started, Lost>
+        requires { IsHandOf self.now hand.old }
+        ensures table { IsSameHand hand.old hand.new }
+        ensures started { StartAnswer (call_of hand.old) (view_of hand.old) element result (view_of hand.new) }
+    {
+        let number = element.number();
+        let word = load_state(&self.table.shared, &mut hand.seat, number);
+        let state = StateWord { word };
+        if !state.is_stopping() {
+            return Ok(Started::NotStopped);
+        }
+        let new = state.started();
+        let seen = exchange_start::<Brand>(&self.table.shared, &mut hand.seat, number, word, new);
+        if seen != word {
+            return Err(Lost { seen });
+        }
+        if !state.is_parked() {
+            return Ok(Started::Cleared);
+        }
+        set_held(&mut hand.held, number, true);
+        Ok(Started::Held)
+    }
+
+    /// Puts an element that the hand holds into its stop cell, if its stop bit is set. True where it stands there.
+    pub fn try_park(&self, hand: &mut Hand, element: Element) -> Result<bool, Lost>
+        requires table { IsHandOf self.now hand.old }
+        requires holds { has (view_of hand.old) element ≡ true }
+        ensures table { IsSameHand hand.old hand.new }
+        ensures parked { ParkAnswer (call_of hand.old) (view_of hand.old) element result (view_of hand.new) }
+    {
+        let number = element.number();
+        let word = load_state(&self.table.shared, &mut hand.seat, number);
+        let state = StateWord { word };
+        if !state.is_stopping() {
+            return Ok(false);
+        }
+        let new = state.parked();
+        let seen = exchange_park::<Brand>(&self.table.shared, &mut hand.seat, number, word, new);
+        if seen != word {
+            return Err(Lost { seen });
+        }
+        set_held(&mut hand.held, number, false);
+        Ok(true)
+    }
+
+    /// Makes a signal of an element pending, wherever the element is.
+    pub fn signal(&self, hand: &mut Hand, element: Element, signal: Signal) -> Signalled
+        requires { IsHandOf self.now hand.old }
+        ensures table { IsSameHand hand.old hand.new }
+        ensures signalled { SignalAnswer (call_of hand.old) (view_of hand.old) element signal result
+            (view_of hand.new) }
+    {
+        let (number, bit) = (element.number(), signal.number());
+        let word = or_signal::<Brand>(&self.table.shared, &mut hand.seat, number, bit);
+        let state = StateWord { word };
+        if state.is_pending(bit) {
+            return Signalled::Merged;
+        }
+        Signalled::Raised
+    }
+
+    /// Delivers the pending signals of an element that the hand holds: bit s for signal s. They are pending no more.
+    pub fn try_deliver(&self, hand: &mut Hand, element: Element) -> Result<u16, Lost>
+        requires table { IsHandOf self.now hand.old }
+        requires holds { has (view_of hand.old) element ≡ true }
+        ensures table { IsSameHand hand.old hand.new }
+        ensures delivered { DeliverAnswer (call_of hand.old) (view_of hand.old) element result (view_of hand.new) }
+    {
+        let number = element.number();
+        let word = load_state(&self.table.shared, &mut hand.seat, number);
+        let state = StateWord { word };
+        let pending = state.pending();
+        if pending == 0 {
+            return Ok(0);
+        }
+        let new = state.delivered();
+        let seen = exchange_deliver::<Brand>(&self.table.shared, &mut hand.seat, number, word, new);
+        if seen != word {
+            return Err(Lost { seen });
+        }
+        Ok(pending)
+    }
+}

@@ -1,0 +1,369 @@
+//! The atomic steps. One function of each kind serves all element queues, processors and elements.
+ghost use Rattle.std.specs.Prelude.{◌≡◌, ◌≢◌, ◌+◌, ◌*◌, ◌%◌, ◌<◌, ◌≤◌, ◌/◌, ℕ, true, false, [], length};
+ghost use Rattle.std.specs.Prelude.{slice_index_or, Some};
+ghost use Rattle.std.specs.Prelude.{None};
+ghost use Rattle.std.specs.Int.{bit_at};
+ghost use Rattle.std.specs.Int.Bits.{bit_or, bit_and};
+ghost use Rattle.thread_table.specs.Schedules.{elements_after, line_at, element_at};
+ghost use Rattle.thread_table.specs.Shown.{head_word, tail_word, StateShows};
+ghost use Rattle.thread_table.specs.Rules.{has, serves, running};
+ghost use Rattle.thread_table.specs.Views.{claim_of, count_of};
+ghost use Rattle.thread_table.specs.Steps.{IsSame, Saw, Claims, claim_event, Raises, Takes, Notifies, PutsOn, TakesOff};
+ghost use Rattle.thread_table.specs.Steps.{Marks, Turns, MayStep, Counts, Steps, CountedUp, CountedDown, Tallied};
+ghost use Rattle.thread_table.specs.Steps.{Parks, Starts, Delivers, rest_of, newborn, both, emptied};
+ghost use Rattle.quaject_core.specs.declared.event.Event.TheVariants as events;
+ghost use Rattle.thread_table.specs.Answers.{Looked, Peeked, StateIs};
+
+use crate::plays::{
+    AddNotify, ClaimHead, ClaimHeadAt, CountDown, CountUp, Deed, DeliverState, Halves, Joins,
+    LoadCount, LoadDone, Look, Mask, ParkState, PutOn, RaisePlace, SetSignal, SetStop, Spent,
+    StartState, StoreDone, TakeOff, TakeTail,
+};
+use crate::rule::{Shape, ThreadRule, View};
+use crate::words::{
+    ENDS, NOTIFY, STOP, done_place, head_place, item_place, seat_place, state_place,
+};
+use atomic_table::{Seat, Shared};
+
+pub(crate) type Words = Shared<(), View, Shape, ThreadRule>;
+
+pub(crate) fn load(words: &Words, seat: &mut Seat<(), View>, word: usize) -> u64
+    requires { (seat.old.table_id ≡ words.now.table_id) × (word < words.now.table_id.words) }
+    ensures { IsSame seat.old seat.new × (seat.new.me.1 ≡ seat.old.me.1) × Saw seat.old.me.0 word result seat.new.me.0 }
+{
+    words.load::<Look>(seat, word)
+}
+
+pub(crate) fn load_head(words: &Words, seat: &mut Seat<(), View>, line: usize) -> u64
+    requires { (seat.old.table_id ≡ words.now.table_id) × (words.now.table_id.words ≡ 1325) × (line < 18) }
+    ensures queue { IsSame seat.old seat.new × (seat.new.me.1 ≡ seat.old.me.1) }
+    ensures seen { Looked seat.old.me.0 seat.new.me.0 }
+    ensures head { result ≡ head_word seat.old.me.0.first (elements_after seat.new.me.0.schedule) line }
+{
+    load(words, seat, head_place(line))
+}
+
+pub(crate) fn load_tail(words: &Words, seat: &mut Seat<(), View>, line: usize) -> u64
+    requires { (seat.old.table_id ≡ words.now.table_id) × (words.now.table_id.words ≡ 1325) × (line < 18) }
+    ensures queue { IsSame seat.old seat.new × (seat.new.me.1 ≡ seat.old.me.1) }
+    ensures seen { Looked seat.old.me.0 seat.new.me.0 }
+    ensures tail { result ≡ tail_word seat.old.me.0.first (elements_after seat.new.me.0.schedule) line }
+    ensures small { result < 4294967296 }
+{
+    load(words, seat, head_place(line) + 1)
+}
+
+// The place of a position at which the tail was, or is behind.
+pub(crate) fn load_place(
+    words: &Words,
+    seat: &mut Seat<(), View>,
+    line: usize,
+    position: u64,
+) -> u64
+    requires queue { (seat.old.table_id ≡ words.now.table_id) × (words.now.table_id.words ≡ 1325) × (line < 18) }
+    requires tail { position ≡ tail_word seat.old.me.0.first (elements_after seat.old.me.0.schedule) line }
+    ensures queue { IsSame seat.old seat.new × (seat.new.me.1 ≡ seat.old.me.1) }
+    ensures seen { Looked seat.old.me.0 seat.new.me.0 }
+    ensures place { Peeked seat.old.me.0 line result seat.new.me.0 }
+{
+    load(words, seat, item_place(line, position))
+}
+
+pub(crate) fn exchange_head<J: Deed>(
+    words: &Words,
+    seat: &mut Seat<(), View>,
+    line: usize,
+    element: u8,
+    head: u64,
+) -> u64
+    requires queue { (seat.old.table_id ≡ words.now.table_id) × (words.now.table_id.words ≡ 1325) × (line < 18) }
+    requires mine { (1 ≤ seat.old.me.0.ends) × (seat.old.me.0.claimed ≡ None) }
+    requires deed { (J.call ≡ seat.old.id) × (J.at ≡ line) × (J.element ≡ element) }
+    requires held { (element < 64) × (has seat.old.me.0 element ≡ true) }
+    requires room { head % 4294967296 + 1 < 4294967296 }
+    ensures queue { IsSame seat.old seat.new × (seat.new.me.1 ≡ seat.old.me.1) }
+    ensures hit { result ≡ head
+        → Claims J.call J.at J.element (claim_event J.call J.at J.element) head seat.old.me.0 seat.new.me.0 }
+    ensures miss { result ≢ head → Looked seat.old.me.0 seat.new.me.0
+        × (result ≡ head_word seat.old.me.0.first (elements_after seat.new.me.0.schedule) line) }
+{
+    let _ = element;
+    words.compare_exchange::<ClaimHead<J>>(seat, head_place(line), head, head + 1)
+}
+
+pub(crate) fn exchange_head_at<J: Deed>(
+    words: &Words,
+    seat: &mut Seat<(), View>,
+    wait: u8,
+    element: u8,
+    ticket: u32,
+    head: u64,
+) -> u64
+    requires queue { (seat.old.table_id ≡ words.now.table_id) × (words.now.table_id.words ≡ 1325) × (wait < 16) }
+    requires mine { (1 ≤ seat.old.me.0.ends) × (seat.old.me.0.claimed ≡ None) }
+    requires deed { (J.call ≡ seat.old.id) × (J.at ≡ wait) × (J.element ≡ element) × (J.number ≡ ticket) }
+    requires held { (element < 64) × (has seat.old.me.0 element ≡ true) }
+    requires room { head % 4294967296 + 1 < 4294967296 }
+    requires ticket { head / 4294967296 ≡ ticket }
+    ensures queue { IsSame seat.old seat.new × (seat.new.me.1 ≡ seat.old.me.1) }
+    ensures hit { result ≡ head → Claims J.call (J.at + 2) J.element (events.WaitAt J.call J.at J.element J.number) head
+        seat.old.me.0 seat.new.me.0 }
+    ensures miss { result ≢ head → Looked seat.old.me.0 seat.new.me.0
+        × (result ≡ head_word seat.old.me.0.first (elements_after seat.new.me.0.schedule) (wait + 2)) }
+{
+    let _ = (element, ticket);
+    words.compare_exchange::<ClaimHeadAt<J>>(seat, head_place(wait as usize + 2), head, head + 1)
+}
+
+// Raises the place that the hand has claimed.
+pub(crate) fn store_place<J: Deed>(
+    words: &Words,
+    seat: &mut Seat<(), View>,
+    line: usize,
+    position: u64,
+    element: u8,
+    new: u64,
+)
+    requires queue { (seat.old.table_id ≡ words.now.table_id) × (words.now.table_id.words ≡ 1325) × (line < 18) }
+    requires mine { 1 ≤ seat.old.me.0.ends }
+    requires deed { (J.call ≡ seat.old.id) × (J.at ≡ line) × (J.element ≡ element) }
+    requires claimed { seat.old.me.0.claimed ≡ Some (claim_of J.at J.number J.element) }
+    requires position { (position ≡ seat.old.me.0.first + J.number) × (new ≡ J.element + 256 * (position + 1)) }
+    ensures queue { IsSame seat.old seat.new × (seat.new.me.1 ≡ seat.old.me.1) }
+    ensures raised { Raises J.call J.at J.number seat.old.me.0 seat.new.me.0 }
+{
+    let _ = element;
+    words.store::<RaisePlace<J>>(seat, item_place(line, position), new);
+}
+
+// The place at the tail was raised when the hand last looked.
+pub(crate) fn exchange_tail<J: Deed>(
+    words: &Words,
+    seat: &mut Seat<(), View>,
+    line: usize,
+    tail: u64,
+) -> u64
+    requires queue { (seat.old.table_id ≡ words.now.table_id) × (words.now.table_id.words ≡ 1325) × (line < 18) }
+    requires mine { (1 ≤ seat.old.me.0.ends) × (seat.old.me.0.claimed ≡ None) }
+    requires deed { (J.call ≡ seat.old.id) × (J.at ≡ line) }
+    requires raised { (run : ℕ) × (tail ≡ seat.old.me.0.first + run)
+        × ((line_at (elements_after seat.old.me.0.schedule) line).raised run 0 ≡ true) }
+    requires small { tail < 4294967296 }
+    ensures queue { IsSame seat.old seat.new × (seat.new.me.1 ≡ seat.old.me.1) }
+    ensures hit { result ≡ tail → Takes J.call J.at tail seat.old.me.0 seat.new.me.0 }
+    ensures miss { result ≢ tail → Looked seat.old.me.0 seat.new.me.0
+        × (result ≡ tail_word seat.old.me.0.first (elements_after seat.new.me.0.schedule) line) }
+{
+    words.compare_exchange::<TakeTail<J>>(seat, head_place(line) + 1, tail, tail + 1)
+}
+
+pub(crate) fn add_notify<J: Deed>(words: &Words, seat: &mut Seat<(), View>, wait: u8) -> u64
+    requires queue { (seat.old.table_id ≡ words.now.table_id) × (words.now.table_id.words ≡ 1325) × (wait < 16) }
+    requires mine { (1 ≤ seat.old.me.0.ends) × (seat.old.me.0.claimed ≡ None) }
+    requires deed { (J.call ≡ seat.old.id) × (J.at ≡ wait) }
+    ensures queue { IsSame seat.old seat.new × (seat.new.me.1 ≡ seat.old.me.1) }
+    ensures notified { Notifies J.call J.at seat.old.me.0 result seat.new.me.0 }
+{
+    words.fetch_add::<AddNotify<J>>(seat, head_place(wait as usize + 2), NOTIFY)
+}
+
+pub(crate) fn swap_on<J: Deed>(words: &Words, seat: &mut Seat<(), View>, processor: u8, element: u8)
+    requires queue { (seat.old.table_id ≡ words.now.table_id) × (words.now.table_id.words ≡ 1325) }
+    requires mine { (1 ≤ seat.old.me.0.ends) × (seat.old.me.0.claimed ≡ None) }
+    requires deed { (J.call ≡ seat.old.id) × (J.at ≡ processor) × (J.element ≡ element) }
+    requires held { (element < 64) × (has seat.old.me.0 element ≡ true) }
+    requires empty { (processor < 8) × (serves seat.old.me.0 processor ≡ true)
+        × (running seat.old.me.0 processor ≡ None) }
+    ensures queue { IsSame seat.old seat.new × (seat.new.me.1 ≡ seat.old.me.1) }
+    ensures on { PutsOn J.call J.at J.element seat.old.me.0 seat.new.me.0 }
+{
+    words.swap::<PutOn<J>>(seat, seat_place(processor), element as u64 + 1);
+}
+
+pub(crate) fn swap_off<J: Deed>(
+    words: &Words,
+    seat: &mut Seat<(), View>,
+    processor: u8,
+    element: u8,
+)
+    requires queue { (seat.old.table_id ≡ words.now.table_id) × (words.now.table_id.words ≡ 1325) }
+    requires mine { (1 ≤ seat.old.me.0.ends) × (seat.old.me.0.claimed ≡ None) }
+    requires deed { (J.call ≡ seat.old.id) × (J.at ≡ processor) × (J.element ≡ element) }
+    requires there { (processor < 8) × (serves seat.old.me.0 processor ≡ true)
+        × (running seat.old.me.0 processor ≡ Some element) }
+    ensures queue { IsSame seat.old seat.new × (seat.new.me.1 ≡ seat.old.me.1) }
+    ensures off { TakesOff J.call J.at J.element seat.old.me.0 seat.new.me.0 }
+{
+    let _ = element;
+    words.swap::<TakeOff<J>>(seat, seat_place(processor), 0);
+}
+
+pub(crate) fn load_state(words: &Words, seat: &mut Seat<(), View>, element: u8) -> u64
+    requires { (seat.old.table_id ≡ words.now.table_id) × (words.now.table_id.words ≡ 1325) × (element < 64) }
+    ensures queue { IsSame seat.old seat.new × (seat.new.me.1 ≡ seat.old.me.1) }
+    ensures seen { Looked seat.old.me.0 seat.new.me.0 }
+    ensures state { StateIs element result seat.new.me.0 }
+{
+    load(words, seat, state_place(element))
+}
+
+pub(crate) fn or_stop<J: Deed>(words: &Words, seat: &mut Seat<(), View>, element: u8) -> u64
+    requires queue { (seat.old.table_id ≡ words.now.table_id) × (words.now.table_id.words ≡ 1325) × (element < 64) }
+    requires mine { (1 ≤ seat.old.me.0.ends) × (seat.old.me.0.claimed ≡ None) }
+    requires deed { (J.call ≡ seat.old.id) × (J.element ≡ element) }
+    ensures queue { IsSame seat.old seat.new × (seat.new.me.1 ≡ seat.old.me.1) }
+    ensures stopped { Marks J.call J.element (events.Stop J.call J.element) seat.old.me.0 result seat.new.me.0 }
+{
+    words.fetch_or::<SetStop<J>>(seat, state_place(element), STOP)
+}
+
+pub(crate) fn or_signal<J: Deed>(
+    words: &Words,
+    seat: &mut Seat<(), View>,
+    element: u8,
+    signal: u8,
+) -> u64
+    requires queue { (seat.old.table_id ≡ words.now.table_id) × (words.now.table_id.words ≡ 1325) × (element < 64) }
+    requires mine { (1 ≤ seat.old.me.0.ends) × (seat.old.me.0.claimed ≡ None) }
+    requires deed { (J.call ≡ seat.old.id) × (J.element ≡ element) × (J.number ≡ signal) × (signal < 16) }
+    ensures queue { IsSame seat.old seat.new × (seat.new.me.1 ≡ seat.old.me.1) }
+    ensures signalled { Marks J.call J.element (events.Signal J.call J.element J.number) seat.old.me.0 result
+        seat.new.me.0 }
+{
+    words.fetch_or::<SetSignal<J>>(seat, state_place(element), 1 << signal)
+}
+
+pub(crate) fn exchange_park<J: Deed>(
+    words: &Words,
+    seat: &mut Seat<(), View>,
+    element: u8,
+    old: u64,
+    new: u64,
+) -> u64
+    requires queue { (seat.old.table_id ≡ words.now.table_id) × (words.now.table_id.words ≡ 1325) }
+    requires mine { (1 ≤ seat.old.me.0.ends) × (seat.old.me.0.claimed ≡ None) }
+    requires deed { (J.call ≡ seat.old.id) × (J.element ≡ element) }
+    requires held { (element < 64) × (has seat.old.me.0 element ≡ true) }
+    requires stopping { (bit_at old 16 ≡ 1) × (new ≡ bit_or old 131072) }
+    ensures queue { IsSame seat.old seat.new × (seat.new.me.1 ≡ seat.old.me.1) }
+    ensures hit { result ≡ old → Parks J.call J.element old seat.old.me.0 seat.new.me.0 }
+    ensures miss { result ≢ old → Looked seat.old.me.0 seat.new.me.0 × StateIs element result seat.new.me.0 }
+{
+    words.compare_exchange::<ParkState<J>>(seat, state_place(element), old, new)
+}
+
+pub(crate) fn exchange_start<J: Deed>(
+    words: &Words,
+    seat: &mut Seat<(), View>,
+    element: u8,
+    old: u64,
+    new: u64,
+) -> u64
+    requires queue { (seat.old.table_id ≡ words.now.table_id) × (words.now.table_id.words ≡ 1325) × (element < 64) }
+    requires mine { (1 ≤ seat.old.me.0.ends) × (seat.old.me.0.claimed ≡ None) }
+    requires deed { (J.call ≡ seat.old.id) × (J.element ≡ element) }
+    requires stopping { (bit_at old 16 ≡ 1) × (new ≡ bit_and old 65535) }
+    ensures queue { IsSame seat.old seat.new × (seat.new.me.1 ≡ seat.old.me.1) }
+    ensures hit { result ≡ old → Starts J.call J.element old seat.old.me.0 seat.new.me.0 }
+    ensures miss { result ≢ old → Looked seat.old.me.0 seat.new.me.0 × StateIs element result seat.new.me.0 }
+{
+    words.compare_exchange::<StartState<J>>(seat, state_place(element), old, new)
+}
+
+pub(crate) fn exchange_deliver<J: Deed>(
+    words: &Words,
+    seat: &mut Seat<(), View>,
+    element: u8,
+    old: u64,
+    new: u64,
+) -> u64
+    requires queue { (seat.old.table_id ≡ words.now.table_id) × (words.now.table_id.words ≡ 1325) }
+    requires mine { (1 ≤ seat.old.me.0.ends) × (seat.old.me.0.claimed ≡ None) }
+    requires deed { (J.call ≡ seat.old.id) × (J.element ≡ element) }
+    requires held { (element < 64) × (has seat.old.me.0 element ≡ true) }
+    requires new { new ≡ bit_and old 196608 }
+    ensures queue { IsSame seat.old seat.new × (seat.new.me.1 ≡ seat.old.me.1) }
+    ensures hit { result ≡ old → Delivers J.call J.element old seat.old.me.0 seat.new.me.0 }
+    ensures miss { result ≢ old → Looked seat.old.me.0 seat.new.me.0 × StateIs element result seat.new.me.0 }
+{
+    words.compare_exchange::<DeliverState<J>>(seat, state_place(element), old, new)
+}
+
+// The number of steps done of an element that the hand holds or has on a processor.
+pub(crate) fn load_done<J: Deed>(words: &Words, seat: &mut Seat<(), View>, element: u8) -> u64
+    requires queue { (seat.old.table_id ≡ words.now.table_id) × (words.now.table_id.words ≡ 1325) × (element < 64) }
+    requires mine { (1 ≤ seat.old.me.0.ends) × MayStep seat.old.me.0 element × (J.element ≡ element) }
+    ensures queue { IsSame seat.old seat.new × (seat.new.me.1 ≡ seat.old.me.1) }
+    ensures counted { Counts J.element seat.old.me.0 result seat.new.me.0 }
+    ensures small { result < 4294967296 }
+{
+    words.load::<LoadDone<J>>(seat, done_place(element))
+}
+
+pub(crate) fn store_done<J: Deed>(words: &Words, seat: &mut Seat<(), View>, element: u8, done: u64)
+    requires queue { (seat.old.table_id ≡ words.now.table_id) × (words.now.table_id.words ≡ 1325) × (element < 64) }
+    requires mine { (1 ≤ seat.old.me.0.ends) × (seat.old.me.0.claimed ≡ None) }
+    requires deed { (J.call ≡ seat.old.id) × (J.element ≡ element) × (J.number ≡ done) }
+    requires counted { (seat.old.me.0.counted ≡ Some (count_of J.element J.number)) × (done < 4294967295) }
+    ensures queue { IsSame seat.old seat.new × (seat.new.me.1 ≡ seat.old.me.1) }
+    ensures stepped { Steps J.call J.element seat.old.me.0 seat.new.me.0 }
+{
+    words.store::<StoreDone<J>>(seat, done_place(element), done + 1);
+}
+
+pub(crate) fn count_up(words: &Words, seat: &mut Seat<(), View>)
+    requires queue { (seat.old.table_id ≡ words.now.table_id) × (words.now.table_id.words ≡ 1325) }
+    requires live { 1 ≤ seat.old.me.0.ends }
+    ensures queue { IsSame seat.old seat.new × (seat.new.me.1 ≡ seat.old.me.1) }
+    ensures counted { CountedUp seat.old.me.0 seat.new.me.0 }
+{
+    words.fetch_add::<CountUp>(seat, ENDS, 1);
+}
+
+pub(crate) fn count_down(words: &Words, seat: &mut Seat<(), View>)
+    requires queue { (seat.old.table_id ≡ words.now.table_id) × (words.now.table_id.words ≡ 1325) }
+    requires live { 2 ≤ seat.old.me.0.ends }
+    ensures queue { IsSame seat.old seat.new × (seat.new.me.1 ≡ seat.old.me.1) }
+    ensures counted { CountedDown seat.old.me.0 seat.new.me.0 }
+{
+    words.fetch_sub::<CountDown>(seat, ENDS, 1);
+}
+
+pub(crate) fn count(words: &Words, seat: &mut Seat<(), View>) -> u64
+    requires queue { (seat.old.table_id ≡ words.now.table_id) × (words.now.table_id.words ≡ 1325) }
+    requires live { 1 ≤ seat.old.me.0.ends }
+    ensures queue { IsSame seat.old seat.new × (seat.new.me.1 ≡ seat.old.me.1) }
+    ensures tallied { Tallied seat.old.me.0 result seat.new.me.0 }
+{
+    words.load::<LoadCount>(seat, ENDS)
+}
+
+// The new hand serves the processors of the mask, which are the hand's and empty.
+pub(crate) fn split_off<J: Mask>(
+    words: &Words,
+    seat: &mut Seat<(), View>,
+    mask: &[bool; 8],
+) -> Seat<(), View>
+    requires queue { (seat.old.table_id ≡ words.now.table_id) × (words.now.table_id.words ≡ 1325) }
+    requires live { 2 ≤ seat.old.me.0.ends }
+    requires mask { (J.mask ≡ mask.now) × ((p : ℕ) → slice_index_or mask.now p false ≡ true
+        → (serves seat.old.me.0 p ≡ true) × (running seat.old.me.0 p ≡ None)) }
+    ensures queue { IsSame seat.old seat.new × (result.table_id ≡ seat.old.table_id) }
+    ensures split { (seat.new.me ≡ (rest_of J.mask seat.old.me.0, seat.old.me.1))
+        × (result.me ≡ (newborn J.mask seat.old.me.0, [])) }
+{
+    let _ = mask;
+    words.split_seat::<Halves<J>>(seat)
+}
+
+pub(crate) fn take_in<J: Spent>(words: &Words, seat: &mut Seat<(), View>, other: Seat<(), View>)
+    requires queue { (seat.old.table_id ≡ words.now.table_id) × (other.table_id ≡ words.now.table_id)
+        × (other.me.1 ≡ []) × (words.now.table_id.words ≡ 1325) }
+    requires live { (1 ≤ seat.old.me.0.ends) × (1 ≤ other.me.0.ends) }
+    requires none { (seat.old.me.0.claimed ≡ None) × (other.me.0.claimed ≡ None) }
+    requires spent { J.view ≡ emptied seat.old.me.0 }
+    ensures queue { IsSame seat.old seat.new }
+    ensures joined { seat.new.me ≡ (both seat.old.me.0 other.me.0, seat.old.me.1) }
+{
+    words.join_seat::<Joins<J>>(seat, other);
+}

@@ -1,0 +1,77 @@
+//! Takings: the oldest element of the ready ring, of the free elements or of a wait queue is then held.
+ghost use Rattle.std.specs.Prelude.{◌≡◌, ◌<◌, ◌+◌};
+ghost use Rattle.thread_table.specs.Handles.{view_of, call_of, IsHandOf, IsSameHand};
+ghost use Rattle.thread_table.specs.Answers.{TakeAnswer};
+
+use crate::hand::{Hand, ThreadTable};
+use crate::steps::{exchange_tail, load_place, load_tail};
+use crate::words::{FREE, PlaceWord, READY, of_wait};
+use quaject_core::{Element, WaitNumber};
+use std::marker::Brand;
+use thiserror::Error;
+
+/// Why an element wasn't taken.
+#[derive(Clone, Copy, Debug, PartialEq, Eq, Error)]
+pub enum NextRefusal {
+    /// The place at the tail wasn't raised at a step of the call, the tail being the same before and after.
+    #[error("nothing is raised at the tail")]
+    NoneReady,
+    /// The tail found at the end of the call isn't the one found first.
+    #[error("another hand moved the tail to {seen}")]
+    Lost { seen: u64 },
+}
+
+impl ThreadTable {
+    /// Takes the oldest element of the ready ring. The hand then holds it.
+    pub fn try_next(&self, hand: &mut Hand) -> Result<Element, NextRefusal>
+        requires { IsHandOf self.now hand.old }
+        ensures table { IsSameHand hand.old hand.new }
+        ensures taken { TakeAnswer (call_of hand.old) (view_of hand.old) 0 result (view_of hand.new) }
+    {
+        self.take_first(hand, READY)
+    }
+
+    /// Takes the oldest of the free elements. The hand then holds it.
+    pub fn try_free(&self, hand: &mut Hand) -> Result<Element, NextRefusal>
+        requires { IsHandOf self.now hand.old }
+        ensures table { IsSameHand hand.old hand.new }
+        ensures taken { TakeAnswer (call_of hand.old) (view_of hand.old) 1 result (view_of hand.new) }
+    {
+        self.take_first(hand, FREE)
+    }
+
+    /// Takes the oldest element of a wait queue. The hand then holds it.
+    pub fn try_wake(&self, hand: &mut Hand, wait: WaitNumber) -> Result<Element, NextRefusal>
+        requires { IsHandOf self.now hand.old }
+        ensures table { IsSameHand hand.old hand.new }
+        ensures taken { TakeAnswer (call_of hand.old) (view_of hand.old) (wait + 2) result (view_of hand.new) }
+    {
+        self.take_first(hand, of_wait(wait.number()))
+    }
+
+    // Takes the first element of an element queue.
+    pub(crate) fn take_first(&self, hand: &mut Hand, line: usize) -> Result<Element, NextRefusal>
+        requires { IsHandOf self.now hand.old × (line < 18) }
+        ensures table { IsSameHand hand.old hand.new }
+        ensures taken { TakeAnswer (call_of hand.old) (view_of hand.old) line result (view_of hand.new) }
+    {
+        let tail = load_tail(&self.table.shared, &mut hand.seat, line);
+        let place = PlaceWord::of(load_place(&self.table.shared, &mut hand.seat, line, tail));
+        if place.mark != tail + 1 {
+            let now = load_tail(&self.table.shared, &mut hand.seat, line);
+            if now == tail {
+                return Err(NextRefusal::NoneReady);
+            }
+            return Err(NextRefusal::Lost { seen: now });
+        }
+        let found = exchange_tail::<Brand>(&self.table.shared, &mut hand.seat, line, tail);
+        if found != tail {
+            return Err(NextRefusal::Lost { seen: found });
+        }
+        hand.held[usize::from(place.element)] = true;
+        let Some(element) = Element::new(place.element) else {
+            unreachable!()
+        };
+        Ok(element)
+    }
+}

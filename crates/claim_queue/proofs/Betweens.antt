@@ -5,18 +5,18 @@ use Rattle.std.proofs.lemmas.Simd.{map-map}
 use Rattle.std.proofs.lemmas.Bool.{le-leb, leb-true}
 use mathlib.Core.Logic.{dite}
 use native.Mathlib.Decide.{dec_le}
-use Rattle.quaject_core.specs.declared.tables.Entry.{Entry}
-use Rattle.quaject_core.specs.declared.tables.Batch.{Batch}
-use Rattle.quaject_core.specs.declared.tables.Positions.{Positions}
+use Rattle.table_theory.specs.declared.queues.Cell.{Cell}
+use Rattle.table_theory.specs.declared.queues.Batch.{Batch}
+use Rattle.table_theory.specs.declared.queues.Positions.{Positions}
 use Rattle.quaject_core.specs.Runs.{flat, pairs}
 use Rattle.quaject_core.specs.Queues.{is_raised}
-use Rattle.quaject_core.specs.Positioned.{blank, item_of, place_at, item_at}
-use Rattle.quaject_core.specs.Filing.{Owned, ListedOnce}
-use Rattle.quaject_core.specs.Listing.{all_places, runs_of, takes_of, Chained}
-use Rattle.quaject_core.specs.QueueOf.{run_in, is_up, queue_of}
+use Rattle.table_theory.specs.Positioned.{blank, item_of, place_at, item_at}
+use Rattle.table_theory.specs.Filing.{Owned, ListedOnce}
+use Rattle.table_theory.specs.Listing.{all_places, runs_of, takes_of, Chained}
+use Rattle.table_theory.specs.QueueOf.{run_in, is_up, queue_of}
 use Rattle.quaject_core.proofs.Histories.{length-pairs_from}
-use Rattle.quaject_core.proofs.QueueOf.{flat_of, up_of, long_is, is_lawful_queue}
-use Rattle.quaject_core.proofs.QueueEvents.{history_of}
+use Rattle.table_theory.proofs.QueueOf.{flat_of, up_of, long_is, is_lawful_queue}
+use Rattle.table_theory.proofs.QueueEvents.{history_of}
 use Rattle.claim_queue.specs.declared.rule.Shape.{Shape}
 use Rattle.claim_queue.specs.Shown.{mark, data_in, flag_in}
 use Rattle.claim_queue.specs.Rules.{part_of, Rule}
@@ -33,10 +33,10 @@ module _ (q : Positions) (runs : List (Owned Batch)) (same : all_places runs ≡
   item_is : get_or (flat (map run_in runs)) i 0 ≡ item_at q i
   item_is = ap (λ (z : List ℕ). get_or z i 0) (flat_of runs ∙ ap (map item_of) same) ∙ get_or-map item_of q.places i blank 0 below
 
-up_written : (e : Entry) → is_up e ≡ true → 2 ≤ e.written
+up_written : (e : Cell) → is_up e ≡ true → 2 ≤ e.written
 up_written e h = leb-true 2 e.written h
 
-low_written : (e : Entry) → is_up e ≡ false → e.written < 2
+low_written : (e : Cell) → is_up e ≡ false → e.written < 2
 low_written e h = dite (dec_le 2 e.written) (λ y. absurd (true≢false (sym (le-leb 2 e.written y) ∙ h))) (λ no. omega arith)
 
 place_is : (key : Shape) (s : St) (k : Rule key s) (i : ℕ) → k.queue.taken ≤ i → i < length k.queue.places → PlaceIs (queue_of k.queue k.listed.runs) key.room s.words i (key.first + i)
@@ -54,6 +54,8 @@ place_is key s k i from below = let q : Positions = k.queue in let l = k.listed 
 pub shows_queue : (key : Shape) (s : St) → Rule key s → ShowsQueue key s
 shows_queue key s k = let q : Positions = k.queue in let l = k.listed in let n = long_is q l.runs l.runs_flat in let h = k.shows in let first = k.first in let room = k.room in record {
   queue = queue_of q l.runs;
+  counted = k.counted;
+  shut_once = k.shut_once;
   lawful = is_lawful_queue q l.runs k.lawful (history_of q (map part_of s.views) l);
   shown = record {
     runs = l.runs;

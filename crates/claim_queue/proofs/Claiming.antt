@@ -4,25 +4,26 @@ use Rattle.std.proofs.lemmas.List.{map-set, length-map}
 use mathlib.Core.Option.{none}
 use prog.Atomic.{either}
 use Rattle.atomic_table.specs.Table.{Me, Act, step, stepped, keeps, Valid, carried_after, Allows}
-use Rattle.quaject_core.specs.declared.tables.Positions.{Positions}
-use Rattle.quaject_core.specs.Positioned.{Lawful, fresh, with_claim, head_of, tail_of}
-use Rattle.quaject_core.specs.Listing.{ViewsShow}
-use Rattle.quaject_core.specs.Counting.{EndsCounted}
+use Rattle.table_theory.specs.declared.queues.Positions.{Positions}
+use Rattle.table_theory.specs.Positioned.{Lawful, fresh, with_claim, head_of, tail_of}
+use Rattle.table_theory.specs.Listing.{ViewsShow}
+use Rattle.table_theory.specs.Sharing.{EndsCounted}
 use Rattle.atomic_table.proofs.Lists.{at_map, exchanged, set_here}
-use Rattle.quaject_core.proofs.Owned.{at_below}
-use Rattle.quaject_core.proofs.Positioned.{grows_refl, claim_lawful}
-use Rattle.quaject_core.proofs.Listing.{listed_claim, distinct}
-use Rattle.quaject_core.proofs.QueueEvents.{claim_event}
-use Rattle.quaject_core.proofs.Counting.{counted_look}
-use Rattle.quaject_core.proofs.Windows.{window_same, window_claim}
+use Rattle.table_theory.proofs.Owned.{at_below}
+use Rattle.table_theory.proofs.Positioned.{grows_refl, claim_lawful}
+use Rattle.table_theory.proofs.Listing.{listed_claim, distinct}
+use Rattle.table_theory.proofs.QueueEvents.{claim_event}
+use Rattle.table_theory.proofs.Counting.{counted_look}
+use Rattle.table_theory.proofs.Windows.{window_same, window_claim}
 use Rattle.claim_queue.specs.declared.rule.Shape.{Shape}
 use Rattle.claim_queue.specs.declared.rule.View.{View}
 use Rattle.claim_queue.specs.Shown.{mark, data_in, flag_in, WordsShow}
-use Rattle.claim_queue.specs.Rules.{part_of, ends_of, share_of, IsIdle, Rule}
-use Rattle.claim_queue.specs.Steps.{looked, run, claimed, claims}
-use Rattle.claim_queue.proofs.Looks.{St, kept_look, saw_now, sees_of}
+use Rattle.table_theory.proofs.Totals.{total_kept}
+use Rattle.claim_queue.specs.Rules.{part_of, ends_of, share_of, shuts_of, IsIdle, Rule}
+use Rattle.claim_queue.specs.Steps.{after, run, claimed, claims}
+use Rattle.claim_queue.proofs.Looks.{St, kept_look, found_now, sees_of}
 use Rattle.quaject_core.specs.Queues.{claim}
-use Rattle.quaject_core.specs.QueueOf.{IsEvent}
+use Rattle.table_theory.specs.QueueOf.{IsEvent}
 
 -- what a step with no slot owes, where the word becomes y
 abbrev pub Goes : Shape → St → ℕ → ℕ → Me Unit View → (Me Unit View → Type 0) → ℕ → Type 0
@@ -50,7 +51,7 @@ claims_head key n id call me old new xs mine is fits room live some_items s k _ 
     let first = g.0.first in let same_room = g.0.room in let further = g.0.further in let behind = k.lawful.behind in
     let w : View = claimed v old xs q in let q' : Positions = with_claim q xs in
     let lawful' : Lawful q' = claim_lawful q xs k.lawful (omega arith) in
-    let listed' : ViewsShow q' (set (map part_of s.views) id w.part) = listed_claim q (map part_of s.views) id v.part w.part xs k.listed (at_map part_of s.views id v at) behind some_items (λ z. v.part.runs ++ run (sym here z) xs ∷ []) refl (grows_refl q', grows_refl q') in (
+    let listed' : ViewsShow q' (set (map part_of s.views) id w.part) = listed_claim q (map part_of s.views) id v.part w.part xs k.listed (at_map part_of s.views id v at) behind is_open some_items (λ z. v.part.runs ++ run (sym here z) xs ∷ []) refl (grows_refl q', grows_refl q') in (
       w,
       keeps,
       tt,
@@ -61,6 +62,7 @@ claims_head key n id call me old new xs mine is fits room live some_items s k _ 
         lawful = lawful';
         shows = shows_claim q s.words xs new k.shows is_open (omega arith) fits;
         listed = subst (ViewsShow q') (sym (map-set part_of s.views id w)) listed';
+        shut_once = total_kept shuts_of s.views id v w at refl ∙ k.shut_once;
         counted = subst (λ (c : ℕ). EndsCounted ends_of share_of IsIdle c (set s.views id w)) (sym (get_or-set_other s.words 0 2 new 0 (λ e. omega arith))) (counted_look ends_of share_of IsIdle (get_or s.words 2 0) s.views id v w k.counted at refl refl (λ none. absurd (omega arith)));
       },
       (
@@ -71,11 +73,11 @@ claims_head key n id call me old new xs mine is fits room live some_items s k _ 
           sees = sees_of key s k id v at;
           at = here;
           event = subst (λ (z : ℕ). IsEvent q q' z v.part w.part (claim q.room z xs)) (sym mine) (claim_event q (map part_of s.views) id v.part w.part xs k.listed (at_map part_of s.views id v at) k.lawful some_items (omega arith) is_open (ap (λ (z : ℕ). v.part.runs ++ run z xs ∷ []) (sym here)) refl (grows_refl q', grows_refl q'));
-          after = lawful';
+          after_it = lawful';
           is_open = is_open;
           distinct = distinct q' (set (map part_of s.views) id w.part) id w.part listed' (set_here (map part_of s.views) id w.part (at_below (map part_of s.views) id v.part (at_map part_of s.views id v at)));
         }),
         λ miss. absurd (miss hit),
       ),
     ))
-    (λ miss. (looked v q, keeps, tt, kept_look key s k 0 id v at, (refl, (λ hit. absurd (miss hit)), λ _. saw_now key s k 0 id v at)))
+    (λ miss. (after v 0 y q, keeps, tt, kept_look key s k 0 id y v at, (refl, (λ hit. absurd (miss hit)), λ _. found_now key s k 0 id v at)))

@@ -13,3 +13,6 @@ pub mod Scanning
 pub mod Betweens
 pub mod Putting
 pub mod Refusals
+pub mod Staying
+pub mod Lining
+pub mod Cutting

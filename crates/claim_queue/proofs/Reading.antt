@@ -1,18 +1,14 @@
 -- What a flag and a data word that were found say.
 use Rattle.std.proofs.Common.{◌≡◌, ◌≢◌, ℕ, ◌+◌, ◌-◌, ◌%◌, ◌<◌, ◌≤◌, get_or, sym, ap, ◌∙◌, subst, arith}
-use Rattle.quaject_core.specs.declared.tables.Positions.{Positions}
-use Rattle.quaject_core.specs.Positioned.{item_at, written_at, tail_of}
-use Rattle.quaject_core.specs.Windows.{spot}
-use Rattle.quaject_core.proofs.Windows.{found_raised, found_not_raised}
+use Rattle.table_theory.specs.declared.queues.Positions.{Positions}
+use Rattle.table_theory.specs.Positioned.{item_at, written_at, tail_of}
+use Rattle.table_theory.specs.Windows.{spot}
+use Rattle.table_theory.proofs.Windows.{found_raised, found_not_raised}
 use Rattle.claim_queue.specs.declared.rule.View.{View}
 use Rattle.claim_queue.specs.Shown.{data_in, flag_in}
-use Rattle.claim_queue.specs.Steps.{Saw}
-use Rattle.claim_queue.specs.Answers.{Looked}
+use Rattle.claim_queue.specs.Steps.{Found}
 
-pub looked_of : (v w : View) (i r : ℕ) → Saw v i r w → Looked v w
-looked_of v w i r s = record { same = s.same; sees = s.sees }
-
-module _ (v w : View) (word r position : ℕ) (s : Saw v word r w) (from : v.part.queue.first ≤ position) (to : position < tail_of v.part.queue + v.part.queue.room) where
+module _ (v w : View) (word r position : ℕ) (s : Found v word r w) (from : v.part.queue.first ≤ position) (to : position < tail_of v.part.queue + v.part.queue.room) where
   spot_is : spot w.part.queue (position - w.part.queue.first) ≡ position % w.part.queue.room
   spot_is = let first = s.sees.later.0.first in let e : w.part.queue.first + (position - w.part.queue.first) ≡ position = omega arith in ap (λ (z : ℕ). z % w.part.queue.room) e
 

@@ -4,21 +4,23 @@ use Rattle.std.proofs.lemmas.List.{map-set, map-append}
 use mathlib.Core.Option.{some, none}
 use lib.ListN.{get_elem?}
 use Rattle.atomic_table.specs.Table.{Me, step, keeps, Allows, Splits, Joins, opening}
-use Rattle.quaject_core.specs.declared.tables.Positions.{Positions}
-use Rattle.quaject_core.specs.declared.tables.QueueView.{QueueView}
-use Rattle.quaject_core.specs.Listing.{Later, ViewsShow}
-use Rattle.quaject_core.specs.Counting.{EndsCounted}
+use Rattle.table_theory.specs.declared.queues.Positions.{Positions}
+use Rattle.table_theory.specs.declared.queues.QueueView.{QueueView}
+use Rattle.table_theory.specs.Listing.{Later, ViewsShow}
+use Rattle.table_theory.specs.Sharing.{EndsCounted}
 use Rattle.atomic_table.proofs.Lists.{at_map, set_else}
-use Rattle.quaject_core.proofs.Positioned.{grows_refl}
-use Rattle.quaject_core.proofs.Listing.{listed_look, listed_new, listed_join, listed_first, distinct}
-use Rattle.quaject_core.proofs.Counting.{counted_up, counted_down, counted_split, counted_join, counted_first}
-use Rattle.quaject_core.proofs.Windows.{window_same}
-use Rattle.quaject_core.specs.Windows.{spot}
+use Rattle.table_theory.proofs.Positioned.{grows_refl}
+use Rattle.table_theory.proofs.Listing.{listed_look, listed_new, listed_join, listed_first, distinct}
+use Rattle.table_theory.specs.Sharing.{total}
+use Rattle.table_theory.proofs.Counting.{counted_up, counted_down, counted_split, counted_join, counted_first, count_found}
+use Rattle.table_theory.proofs.Totals.{total_kept, total_set, total_push}
+use Rattle.table_theory.proofs.Windows.{window_same}
+use Rattle.table_theory.specs.Windows.{spot}
 use Rattle.claim_queue.specs.declared.rule.Shape.{Shape}
 use Rattle.claim_queue.specs.declared.rule.View.{View}
 use Rattle.claim_queue.specs.Shown.{data_in, flag_in, WordsShow}
-use Rattle.claim_queue.specs.Rules.{part_of, ends_of, share_of, IsIdle, Rule, empty, newcomer}
-use Rattle.claim_queue.specs.Steps.{looked, counts_up, counts_down, counts, rest_of, halves, both, emptied}
+use Rattle.claim_queue.specs.Rules.{part_of, ends_of, share_of, shuts_of, IsIdle, Rule, empty, newcomer}
+use Rattle.claim_queue.specs.Steps.{after, counts_up, counts_down, counts, rest_of, newborn, both, emptied}
 use Rattle.claim_queue.proofs.Looks.{St, kept_look, sees_of}
 
 shows_count : (q : Positions) (words : List ℕ) (y : ℕ) → WordsShow q words → WordsShow q (set words 2 y)
@@ -32,9 +34,9 @@ shows_count q words y h = record {
 }
 
 -- the rule, where the count becomes y and a view w that lists the same sees the queue as it is
-kept_count : (key : Shape) (s : St) (k : Rule key s) (id y : ℕ) (v w : View) → get_elem? s.views id ≡ some v → w.part ≡ record v.part { queue = k.queue; joined = k.queue } → EndsCounted ends_of share_of IsIdle y (set s.views id w)
+kept_count : (key : Shape) (s : St) (k : Rule key s) (id y : ℕ) (v w : View) → get_elem? s.views id ≡ some v → w.part ≡ record v.part { queue = k.queue; joined = k.queue } → w.shuts ≡ v.shuts → EndsCounted ends_of share_of IsIdle y (set s.views id w)
     → Rule key record { words = set s.words 2 y; homes = s.homes; views = set s.views id w }
-kept_count key s k id y v w at is c = let wide = k.shows.wide in record {
+kept_count key s k id y v w at is same_shuts c = let wide = k.shows.wide in record {
   queue = k.queue;
   first = k.first;
   room = k.room;
@@ -42,59 +44,57 @@ kept_count key s k id y v w at is c = let wide = k.shows.wide in record {
   shows = shows_count k.queue s.words y k.shows;
   listed = subst (ViewsShow k.queue) (sym (map-set part_of s.views id w)) (listed_look k.queue (map part_of s.views) id v.part w.part k.listed (at_map part_of s.views id v at) (ap (λ (z : QueueView). z.runs) is) (ap (λ (z : QueueView). z.takes) is)
       (subst (λ (z : QueueView). Later z k.queue) (sym is) (grows_refl k.queue, grows_refl k.queue)));
+  shut_once = total_kept shuts_of s.views id v w at same_shuts ∙ k.shut_once;
   counted = subst (λ (c : ℕ). EndsCounted ends_of share_of IsIdle c (set s.views id w)) (sym (get_or-set_same s.words 2 y 0 (omega arith))) c;
 }
 
-pub ups : (key : Shape) (n id : ℕ) (me : Me Unit View) → 1 ≤ me.0.ends → Allows (Rule key) n id me 2 (λ x. (x + 1) % 18446744073709551616) (counts_up (step n 2 1 0 none) me)
-ups key n id me live s k _ at _ = let v : View = me.0 in let w : View = record (looked v k.queue) { ends = v.ends + 1 } in let c : ℕ = get_or s.words 2 0 in (
+pub ups : (key : Shape) (n id : ℕ) (me : Me Unit View) → me.0.ends + 1 ≤ me.0.share → Allows (Rule key) n id me 2 (λ x. (x + 1) % 18446744073709551616) (counts_up (step n 2 1 0 none) me)
+ups key n id me parts s k _ at _ = let v : View = me.0 in let c : ℕ = get_or s.words 2 0 in let w : View = record (after v 2 c k.queue) { ends = v.ends + 1 } in (
   w,
   keeps,
   tt,
-  kept_count key s k id ((c + 1) % 18446744073709551616) v w at refl (counted_up ends_of share_of IsIdle c s.views id v w k.counted at live refl refl),
+  kept_count key s k id ((c + 1) % 18446744073709551616) v w at refl refl (counted_up ends_of share_of IsIdle c s.views id v w k.counted at parts refl refl),
   (refl, record { queue = k.queue; same = refl; sees = sees_of key s k id v at }),
 )
 
 pub downs : (key : Shape) (n id : ℕ) (me : Me Unit View) → 2 ≤ me.0.ends → Allows (Rule key) n id me 2 (λ x. (x + (18446744073709551616 - 1)) % 18446744073709551616) (counts_down (step n 2 1 0 none) me)
-downs key n id me live s k _ at _ = let v : View = me.0 in let w : View = record (looked v k.queue) { ends = v.ends - 1 } in let c : ℕ = get_or s.words 2 0 in (
+downs key n id me live s k _ at _ = let v : View = me.0 in let c : ℕ = get_or s.words 2 0 in let w : View = record (after v 2 c k.queue) { ends = v.ends - 1 } in (
   w,
   keeps,
   tt,
-  kept_count key s k id ((c + (18446744073709551616 - 1)) % 18446744073709551616) v w at refl (counted_down ends_of share_of IsIdle c s.views id v w k.counted at (omega arith) (omega arith) refl),
+  kept_count key s k id ((c + (18446744073709551616 - 1)) % 18446744073709551616) v w at refl refl (counted_down ends_of share_of IsIdle c s.views id v w k.counted at (omega arith) (omega arith) refl),
   (refl, record { queue = k.queue; same = refl; sees = sees_of key s k id v at; distinct = distinct k.queue (map part_of s.views) id v.part k.listed (at_map part_of s.views id v at) }),
 )
 
 -- the count is found
-pub tallies : (key : Shape) (n id : ℕ) (me : Me Unit View) → 1 ≤ me.0.ends → Allows (Rule key) n id me 2 (λ x. x) (counts (step n 2 0 0 none) me)
-tallies key n id me live s k _ at _ = let v : View = me.0 in (
-  looked v k.queue,
+pub tallies : (key : Shape) (n id : ℕ) (me : Me Unit View) → me.0.ends ≡ 1 → Allows (Rule key) n id me 2 (λ x. x) (counts (step n 2 0 0 none) me)
+tallies key n id me one s k _ at _ = let v : View = me.0 in let c : ℕ = get_or s.words 2 0 in (
+  after v 2 c k.queue,
   keeps,
   tt,
-  kept_look key s k 2 id v at,
+  kept_look key s k 2 id c v at,
   (
     refl,
     record {
       queue = k.queue;
       same = refl;
       sees = sees_of key s k id v at;
-      views = s.views;
-      seat = id;
-      here = at;
-      shown = k.listed;
-      counted = k.counted;
+      count = count_found ends_of share_of IsIdle c s.views id v k.counted at one;
     },
   ),
 )
 
-pub splits : (key : Shape) (id : ℕ) (v : View) → 2 ≤ v.ends → Splits (Rule key) id v (rest_of v) (halves v)
+pub splits : (key : Shape) (id : ℕ) (v : View) → v.ends ≡ 2 → Splits (Rule key) id v (rest_of v) (newborn v)
 splits key id v live s k at = let later = k.listed.seen id v.part (at_map part_of s.views id v at) in record {
   queue = k.queue;
   first = k.first;
   room = k.room;
   lawful = k.lawful;
   shows = k.shows;
-  listed = subst (ViewsShow k.queue) (sym (map-append part_of (set s.views id (rest_of v)) (halves v ∷ []) ∙ ap (λ (z : List QueueView). z ++ (halves v).part ∷ []) (map-set part_of s.views id (rest_of v))))
-      (listed_new k.queue (set (map part_of s.views) id v.part) (halves v).part (listed_look k.queue (map part_of s.views) id v.part v.part k.listed (at_map part_of s.views id v at) refl refl later) refl refl later);
-  counted = counted_split ends_of share_of IsIdle (get_or s.words 2 0) s.views id v (rest_of v) (halves v) k.counted at (omega arith) (omega arith) (omega arith) refl refl;
+  listed = subst (ViewsShow k.queue) (sym (map-append part_of (set s.views id (rest_of v)) (newborn v ∷ []) ∙ ap (λ (z : List QueueView). z ++ (newborn v).part ∷ []) (map-set part_of s.views id (rest_of v))))
+      (listed_new k.queue (set (map part_of s.views) id v.part) (newborn v).part (listed_look k.queue (map part_of s.views) id v.part v.part k.listed (at_map part_of s.views id v at) refl refl later) refl refl later);
+  shut_once = (let t = total_kept shuts_of s.views id v (rest_of v) at refl in let p = total_push shuts_of (set s.views id (rest_of v)) (newborn v) in let e : total shuts_of (set s.views id (rest_of v) ++ newborn v ∷ []) ≡ total shuts_of s.views = omega arith in e) ∙ k.shut_once;
+  counted = counted_split ends_of share_of IsIdle (get_or s.words 2 0) s.views id v (rest_of v) (newborn v) k.counted at live (omega arith) refl refl refl;
 }
 
 pub joins : (key : Shape) (id other : ℕ) (v w : View) → 1 ≤ v.ends → 1 ≤ w.ends → Joins (Rule key) id v other w (both v w) (emptied v)
@@ -107,7 +107,8 @@ joins key id other v w live live' s k at ne has = let at' : get_elem? s.views ot
       shows = k.shows;
       listed = subst (ViewsShow k.queue) (sym (map-set part_of (set s.views id (both v w)) other (emptied v) ∙ ap (λ (z : List QueueView). set z other (emptied v).part) (map-set part_of s.views id (both v w))))
           (listed_join k.queue (map part_of s.views) id other v.part w.part (both v w).part (emptied v).part k.listed (at_map part_of s.views id v at) (at_map part_of s.views other w at') ne refl refl refl refl (later.0, later'.0) later);
-      counted = counted_join ends_of share_of IsIdle (get_or s.words 2 0) s.views id other v w (both v w) (emptied v) k.counted at at' ne live live' refl refl refl refl (refl, refl);
+      shut_once = (let t = total_set shuts_of s.views id v (both v w) at in let t' = total_set shuts_of (set s.views id (both v w)) other w (emptied v) has in let e : total shuts_of (set (set s.views id (both v w)) other (emptied v)) ≡ total shuts_of s.views = omega arith in e) ∙ k.shut_once;
+      counted = counted_join ends_of share_of IsIdle (get_or s.words 2 0) s.views id other v w (both v w) (emptied v) k.counted at at' ne live refl refl refl refl (refl, refl, refl);
     }
 
 -- the table as it is made
@@ -133,6 +134,7 @@ opens key words room fits long head tail ends rest = let q : Positions = empty k
     };
   };
   listed = listed_first q (newcomer key).part refl refl refl refl (grows_refl q, grows_refl q);
+  shut_once = omega arith;
   counted = subst (λ (c : ℕ). EndsCounted ends_of share_of IsIdle c (newcomer key ∷ [])) (sym ends) (counted_first ends_of share_of IsIdle (newcomer key) refl refl);
 }
 

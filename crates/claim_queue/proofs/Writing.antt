@@ -4,24 +4,25 @@ use Rattle.std.proofs.lemmas.List.{map-set}
 use mathlib.Core.Option.{some, none, some-ne-none}
 use lib.ListN.{get_elem?}
 use Rattle.atomic_table.specs.Table.{Me, step, keeps, Allows}
-use Rattle.quaject_core.specs.declared.tables.Entry.{Entry}
-use Rattle.quaject_core.specs.declared.tables.Batch.{Batch}
-use Rattle.quaject_core.specs.declared.tables.Positions.{Positions}
-use Rattle.quaject_core.specs.Positioned.{blank, item_at, written_at, with_write}
-use Rattle.quaject_core.specs.Windows.{spot, PlaceShows}
-use Rattle.quaject_core.specs.Listing.{ViewsShow, number_of}
-use Rattle.quaject_core.specs.Counting.{EndsCounted}
+use Rattle.table_theory.specs.declared.queues.Cell.{Cell}
+use Rattle.table_theory.specs.declared.queues.Batch.{Batch}
+use Rattle.table_theory.specs.declared.queues.Positions.{Positions}
+use Rattle.table_theory.specs.Positioned.{blank, item_at, written_at, with_write}
+use Rattle.table_theory.specs.Windows.{spot, PlaceShows}
+use Rattle.table_theory.specs.Listing.{ViewsShow, number_of}
+use Rattle.table_theory.specs.Sharing.{EndsCounted}
 use Rattle.atomic_table.proofs.Lists.{at_map}
-use Rattle.quaject_core.proofs.Positioned.{grows_refl, write_lawful, write_here}
-use Rattle.quaject_core.proofs.Listing.{Own, own, run_stands, listed_write}
-use Rattle.quaject_core.proofs.QueueEvents.{raised_event, stored_event}
-use Rattle.quaject_core.specs.QueueOf.{IsEvent}
-use Rattle.quaject_core.proofs.Counting.{counted_look}
-use Rattle.quaject_core.proofs.Windows.{window_write}
+use Rattle.table_theory.proofs.Positioned.{grows_refl, write_lawful, write_here}
+use Rattle.table_theory.proofs.Listing.{Own, own, run_stands, listed_write}
+use Rattle.table_theory.proofs.QueueEvents.{raised_event, stored_event}
+use Rattle.table_theory.specs.QueueOf.{IsEvent}
+use Rattle.table_theory.proofs.Counting.{counted_look}
+use Rattle.table_theory.proofs.Windows.{window_write}
 use Rattle.claim_queue.specs.declared.rule.Shape.{Shape}
 use Rattle.claim_queue.specs.declared.rule.View.{View}
 use Rattle.claim_queue.specs.Shown.{data_in, flag_in}
-use Rattle.claim_queue.specs.Rules.{part_of, ends_of, share_of, IsIdle, Rule}
+use Rattle.table_theory.proofs.Totals.{total_kept}
+use Rattle.claim_queue.specs.Rules.{part_of, ends_of, share_of, shuts_of, IsIdle, Rule}
 use Rattle.claim_queue.specs.Steps.{wrote, Wrote, writes, write_event}
 use Rattle.claim_queue.proofs.Looks.{St, sees_of}
 
@@ -33,9 +34,9 @@ owned key s k id m i v e at has below low = own k.queue e i k.lawful (run_stands
 pub kept_write : (key : Shape) (s : St) (k : Rule key s) (id m i n u x : ℕ) (v : View) (e : Batch) (o : Own k.queue e i) → get_elem? s.views id ≡ some v → get_elem? v.part.runs m ≡ some e → i < length e.places → written_at k.queue o.at ≤ n
     → 3 ≤ u → ((j : ℕ) → j < k.queue.room → j ≢ spot k.queue o.at → (u ≢ k.queue.room + j + 3) × (u ≢ j + 3))
     → PlaceShows (with_write k.queue o.at n) (flag_in k.queue.room (set s.words u x)) (data_in k.queue.room (set s.words u x)) o.at
-    → Rule key record { words = set s.words u x; homes = s.homes; views = set s.views id (wrote v m i n e k.queue o.at) }
+    → Rule key record { words = set s.words u x; homes = s.homes; views = set s.views id (wrote v u x m i n e k.queue o.at) }
 kept_write key s k id m i n u x v e o at has below more past else_where mine =
-    let q : Positions = k.queue in let p : ℕ = o.at in let q' : Positions = with_write q p n in let w : View = wrote v m i n e q p in let words' : List ℕ = set s.words u x in let r : ℕ = q.room in
+    let q : Positions = k.queue in let p : ℕ = o.at in let q' : Positions = with_write q p n in let w : View = wrote v u x m i n e q p in let words' : List ℕ = set s.words u x in let r : ℕ = q.room in
     let other : (j : ℕ) → j ≢ u → get_or words' j 0 ≡ get_or s.words j 0 = λ j ne. get_or-set_other s.words u j x 0 ne in
     record {
       queue = q';
@@ -51,13 +52,14 @@ kept_write key s k id m i n u x v e o at has below more past else_where mine =
             (λ j b ne. other (r + j + 3) (λ z. (else_where j b ne).0 (sym z))) (λ j b ne. other (j + 3) (λ z. (else_where j b ne).1 (sym z))) mine;
       };
       listed = subst (ViewsShow q') (sym (map-set part_of s.views id w)) (listed_write q (map part_of s.views) id m i n p v.part w.part e k.listed (at_map part_of s.views id v at) has below o.start o.from more refl refl (grows_refl q', grows_refl q'));
+      shut_once = total_kept shuts_of s.views id v w at refl ∙ k.shut_once;
       counted = subst (λ (c : ℕ). EndsCounted ends_of share_of IsIdle c (set s.views id w)) (sym (other 2 (λ z. omega arith))) (counted_look ends_of share_of IsIdle (get_or s.words 2 0) s.views id v w k.counted at refl refl (λ _ none. absurd (some-ne-none e (sym (subst (λ (z : List Batch). get_elem? z m ≡ some e) none.0 has)))));
     }
 
-pub wrote_now : (key : Shape) (s : St) (k : Rule key s) (id call m i n : ℕ) (v : View) (e : Batch) (o : Own k.queue e i) → call ≡ id → get_elem? s.views id ≡ some v → get_elem? v.part.runs m ≡ some e → written_at k.queue o.at ≤ n → written_at k.queue o.at < 2
-    → (number : ℕ) → (event : IsEvent k.queue (with_write k.queue o.at n) id v.part (wrote v m i n e k.queue o.at).part (write_event n id number i)) → get_elem? event.shown.runs number ≡ some (id, m, e) → Wrote call v m i n (wrote v m i n e k.queue o.at)
-wrote_now key s k id call m i n v e o mine at has more low number event is = subst (λ (z : ℕ). Wrote z v m i n (wrote v m i n e k.queue o.at)) (sym mine)
-    record { queue = k.queue; at = o.at; run = e; has = has; start = o.start; below = o.below; low = low; more = more; same = refl; sees = sees_of key s k id v at; run_number = number; event = event; is_run = is; after = write_lawful k.queue o.at n k.lawful o.below more }
+pub wrote_now : (key : Shape) (s : St) (k : Rule key s) (id call m i n u x : ℕ) (v : View) (e : Batch) (o : Own k.queue e i) → call ≡ id → get_elem? s.views id ≡ some v → get_elem? v.part.runs m ≡ some e → written_at k.queue o.at ≤ n → written_at k.queue o.at < 2
+    → (number : ℕ) → (event : IsEvent k.queue (with_write k.queue o.at n) id v.part (wrote v u x m i n e k.queue o.at).part (write_event n id number i)) → get_elem? event.shown.runs number ≡ some (id, m, e) → Wrote call v m i n u x (wrote v u x m i n e k.queue o.at)
+wrote_now key s k id call m i n u x v e o mine at has more low number event is = subst (λ (z : ℕ). Wrote z v m i n u x (wrote v u x m i n e k.queue o.at)) (sym mine)
+    record { queue = k.queue; at = o.at; run = e; has = has; start = o.start; below = o.below; low = low; more = more; same = refl; sees = sees_of key s k id v at; run_number = number; event = event; is_run = is; after_it = write_lawful k.queue o.at n k.lawful o.below more }
 
 -- the end's view of the room and of the first position is that of the queue
 place_of : (key : Shape) (s : St) (k : Rule key s) (id i : ℕ) (v : View) (e : Batch) (o : Own k.queue e i) → get_elem? s.views id ≡ some v → (e.start + i) % v.part.queue.room ≡ spot k.queue o.at
@@ -67,19 +69,19 @@ pub stores_data : (key : Shape) (n id call : ℕ) (me : Me Unit View) (start i u
     → x ≡ (get_or e.places i blank).item → Allows (Rule key) n id me u (λ _. x) (λ _. writes call start i 1 (step n u x 0 none) me x)
 stores_data key n id call me start i u x e mine has below low word is s k _ at _ = let v : View = me.0 in let m : ℕ = number_of start v.part.runs in let q : Positions = k.queue in let o = owned key s k id m i v e at has below low in let p : ℕ = o.at in
     let here : u ≡ spot q p + 3 = word ∙ ap (λ (z : ℕ). z + 3) (place_of key s k id i v e o at) in let near : spot q p < q.room = mod-lt (q.first + p) k.shows.window.some_room in let wide = k.shows.wide in
-    let was : written_at q p ≡ (get_or e.places i blank).written = ap (λ (z : Entry). z.written) o.same in let item : item_at q p ≡ x = ap (λ (z : Entry). z.item) o.same ∙ sym is in
-    let old = k.shows.window.each p o.from o.to in let now = write_here q p 1 o.below in let written : written_at (with_write q p 1) p ≡ 1 = ap (λ (z : Entry). z.written) now in
+    let was : written_at q p ≡ (get_or e.places i blank).written = ap (λ (z : Cell). z.written) o.same in let item : item_at q p ≡ x = ap (λ (z : Cell). z.item) o.same ∙ sym is in
+    let old = k.shows.window.each p o.from o.to in let now = write_here q p 1 o.below in let written : written_at (with_write q p 1) p ≡ 1 = ap (λ (z : Cell). z.written) now in
     let flag : get_or (set s.words u x) (q.room + spot q p + 3) 0 ≡ get_or s.words (q.room + spot q p + 3) 0 = get_or-set_other s.words u (q.room + spot q p + 3) x 0 (λ z. omega arith) in
     let same_data : get_or (set s.words u x) (spot q p + 3) 0 ≡ x = ap (λ (z : ℕ). get_or (set s.words u x) z 0) (sym here) ∙ get_or-set_same s.words u x 0 (omega arith) in (
-      wrote v m i 1 e q p,
+      wrote v u x m i 1 e q p,
       keeps,
       tt,
       kept_write key s k id m i 1 u x v e o at has below (omega arith) (omega arith) (λ j b ne. ((λ z. omega arith), λ z. ne (omega arith)))
-          record { low = λ h. let f = old.low (omega arith) in omega arith; up = λ h. absurd (omega arith); holds = λ h. same_data ∙ (sym item ∙ sym (ap (λ (z : Entry). z.item) now)) },
+          record { low = λ h. let f = old.low (omega arith) in omega arith; up = λ h. absurd (omega arith); holds = λ h. same_data ∙ (sym item ∙ sym (ap (λ (z : Cell). z.item) now)) },
       (
         refl,
-        (let r = stored_event q (map part_of s.views) id m i p v.part (wrote v m i 1 e q p).part e k.listed (at_map part_of s.views id v at) has below o.start k.lawful o.from (omega arith) (omega arith) refl refl (grows_refl (with_write q p 1), grows_refl (with_write q p 1)) in
-            wrote_now key s k id call m i 1 v e o mine at has (omega arith) (omega arith) r.0 r.1 r.2),
+        (let r = stored_event q (map part_of s.views) id m i p v.part (wrote v u x m i 1 e q p).part e k.listed (at_map part_of s.views id v at) has below o.start k.lawful o.from (omega arith) (omega arith) refl refl (grows_refl (with_write q p 1), grows_refl (with_write q p 1)) in
+            wrote_now key s k id call m i 1 u x v e o mine at has (omega arith) (omega arith) r.0 r.1 r.2),
       ),
     )
 
@@ -87,18 +89,18 @@ pub stores_flag : (key : Shape) (n id call : ℕ) (me : Me Unit View) (start i u
     → x ≡ e.start + i + 1 → Allows (Rule key) n id me u (λ _. x) (λ _. writes call start i 2 (step n u x 0 none) me x)
 stores_flag key n id call me start i u x e mine has below low word is s k _ at _ = let v : View = me.0 in let m : ℕ = number_of start v.part.runs in let q : Positions = k.queue in let o = owned key s k id m i v e at has below (omega arith) in let p : ℕ = o.at in let g = k.listed.seen id v.part (at_map part_of s.views id v at) in
     let place = place_of key s k id i v e o at in let room = g.0.room in let here : u ≡ q.room + spot q p + 3 = omega arith in let near : spot q p < q.room = mod-lt (q.first + p) k.shows.window.some_room in let wide = k.shows.wide in
-    let was : written_at q p ≡ (get_or e.places i blank).written = ap (λ (z : Entry). z.written) o.same in let st = o.start in
-    let old = k.shows.window.each p o.from o.to in let now = write_here q p 2 o.below in let written : written_at (with_write q p 2) p ≡ 2 = ap (λ (z : Entry). z.written) now in
+    let was : written_at q p ≡ (get_or e.places i blank).written = ap (λ (z : Cell). z.written) o.same in let st = o.start in
+    let old = k.shows.window.each p o.from o.to in let now = write_here q p 2 o.below in let written : written_at (with_write q p 2) p ≡ 2 = ap (λ (z : Cell). z.written) now in
     let same_data : get_or (set s.words u x) (spot q p + 3) 0 ≡ get_or s.words (spot q p + 3) 0 = get_or-set_other s.words u (spot q p + 3) x 0 (λ z. omega arith) in
     let flag : get_or (set s.words u x) (q.room + spot q p + 3) 0 ≡ x = ap (λ (z : ℕ). get_or (set s.words u x) z 0) (sym here) ∙ get_or-set_same s.words u x 0 (omega arith) in (
-      wrote v m i 2 e q p,
+      wrote v u x m i 2 e q p,
       keeps,
       tt,
       kept_write key s k id m i 2 u x v e o at has below (omega arith) (omega arith) (λ j b ne. ((λ z. ne (omega arith)), λ z. omega arith))
-          record { low = λ h. absurd (omega arith); up = λ h. omega arith; holds = λ h. same_data ∙ (old.holds (omega arith) ∙ sym (ap (λ (z : Entry). z.item) now)) },
+          record { low = λ h. absurd (omega arith); up = λ h. omega arith; holds = λ h. same_data ∙ (old.holds (omega arith) ∙ sym (ap (λ (z : Cell). z.item) now)) },
       (
         refl,
-        (let r = raised_event q (map part_of s.views) id m i p v.part (wrote v m i 2 e q p).part e k.listed (at_map part_of s.views id v at) has below o.start k.lawful o.from (omega arith) (omega arith) refl refl (grows_refl (with_write q p 2), grows_refl (with_write q p 2)) in
-            wrote_now key s k id call m i 2 v e o mine at has (omega arith) (omega arith) r.0 r.1 r.2),
+        (let r = raised_event q (map part_of s.views) id m i p v.part (wrote v u x m i 2 e q p).part e k.listed (at_map part_of s.views id v at) has below o.start k.lawful o.from (omega arith) (omega arith) refl refl (grows_refl (with_write q p 2), grows_refl (with_write q p 2)) in
+            wrote_now key s k id call m i 2 u x v e o mine at has (omega arith) (omega arith) r.0 r.1 r.2),
       ),
     )

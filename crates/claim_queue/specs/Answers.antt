@@ -1,62 +1,81 @@
--- What the calls answer.
-use Rattle.std.specs.Prelude.{◌≡◌, ◌⊎◌, ◌+◌, ◌<◌, ℕ, false, true, List, length}
-use Rattle.quaject_core.specs.declared.tables.Positions.{Positions}
-use Rattle.quaject_core.specs.Positioned.{Grows, head_of, tail_of}
-use Rattle.quaject_core.specs.Seeing.{Sees}
+-- What the claims answer, by the steps that they made.
+use Rattle.std.specs.Prelude.{◌≡◌, ◌⊎◌, ◌+◌, ◌<◌, ◌≤◌, ℕ, true, List, length}
 use Rattle.claim_queue.specs.declared.rule.View.{View}
 use Rattle.claim_queue.specs.declared.claim.ClaimRefusal.{ClaimRefusal}
 use Rattle.claim_queue.specs.declared.claim.ClaimRefusal.TheVariants.{NoItems, TooLong, Closed, Spent, Full, Lost}
-use Rattle.claim_queue.specs.Steps.{looked, Claimed}
+use Rattle.claim_queue.specs.Claims.{IsPast}
+use Rattle.claim_queue.specs.Shown.{head_word, tail_word}
+use Rattle.claim_queue.specs.Steps.{Found, Claimed}
 
--- the end has seen the queue as it was at a step, and nothing else changed for it
-pub record Looked (v w : View) : Type 0 where
-  pub same : w ≡ looked v w.part.queue
-  pub sees : Sees v.part w.part.queue
+-- a number of items that a run may have
+abbrev pub Fits : ℕ → ℕ → Type 0
+Fits room n = (0 < n) × (n ≤ room)
 
--- the end made no step, or only looked
-abbrev pub HasLooked : View → View → Type 0
-HasLooked v w = (w ≡ v) ⊎ Looked v w
+-- The head was loaded, open and with n positions left, and then the tail, with room for n behind it
+pub record FoundRoom (room : ℕ) (v : View) (n head : ℕ) (w : View) : Type 0 where
+  pub tail : ℕ
+  pub loaded : View
+  pub head_loaded : Found v head_word head loaded
+  pub tail_loaded : Found loaded tail_word tail w
+  pub positions : head + n ≤ 4294967295
+  pub fits : head + n ≤ tail + room
 
--- q was the queue at a step between the view v and the view w
-pub record Between (v : View) (q : Positions) (w : View) : Type 0 where
-  pub sees : Sees v.part q
-  pub earlier : Grows q w.part.queue
-
--- the end looked, and then claimed these items by one step
-pub record ClaimedItems (call : ℕ) (v : View) (head : ℕ) (items : List ℕ) (w : View) : Type 0 where
+-- The end found room, and then claimed these items by one exchange of the head that it had loaded
+pub record ClaimedItems (room call : ℕ) (v : View) (head : ℕ) (items : List ℕ) (w : View) : Type 0 where
+  pub short : Fits room (length items)
   pub before : View
-  pub looked : Looked v before
+  pub found : FoundRoom room v (length items) head before
   pub claimed : Claimed call before head items w
+  pub past : IsPast v head
 
--- at the step that found the head, the queue was open and there was no room for n more
-pub record WasFull (v : View) (n head tail : ℕ) (w : View) : Type 0 where
-  pub queue : Positions
-  pub then : Between v queue w
-  pub is_open : queue.shut ≡ false
-  pub head_is : head ≡ head_of queue
-  pub full : queue.taken + queue.room < length queue.places + n
-  pub tail_is : tail ≡ tail_of w.part.queue
+-- the head that was loaded has the shut mark
+pub record FoundShut (v w : View) : Type 0 where
+  pub head : ℕ
+  pub loaded : Found v head_word head w
+  pub marked : 4294967296 ≤ head
+  pub shut : w.part.queue.shut ≡ true
 
--- at the step that found the head, the queue was open, and n more would have gone past the last position
+-- the end found room, but the exchange found the shut mark
+pub record ShutMeanwhile (room : ℕ) (v : View) (n : ℕ) (w : View) : Type 0 where
+  pub first : ℕ
+  pub before : View
+  pub found : FoundRoom room v n first before
+  pub head : ℕ
+  pub missed : Found before head_word head w
+  pub marked : 4294967296 ≤ head
+  pub shut : w.part.queue.shut ≡ true
+
+-- the head that was loaded is open, and n more would go past the last position
 pub record WasSpent (v : View) (n : ℕ) (w : View) : Type 0 where
-  pub queue : Positions
-  pub then : Between v queue w
-  pub is_open : queue.shut ≡ false
-  pub spent : 4294967295 < head_of queue + n
+  pub head : ℕ
+  pub loaded : Found v head_word head w
+  pub is_open : head < 4294967296
+  pub spent : 4294967295 < head + n
 
--- the head that was found at the end, with the queue open, is past the one that was found first
-pub record WasLost (v : View) (head : ℕ) (w : View) : Type 0 where
-  pub queue : Positions
-  pub then : Between v queue w
-  pub past : head_of queue < head
-  pub head_is : head ≡ head_of w.part.queue
-  pub is_open : w.part.queue.shut ≡ false
+-- The head was loaded, open and with n positions left, and then the tail, with no room for n behind it. So there was
+-- none when the head was loaded
+pub record WasFull (room : ℕ) (v : View) (n head tail : ℕ) (w : View) : Type 0 where
+  pub loaded : View
+  pub head_loaded : Found v head_word head loaded
+  pub tail_loaded : Found loaded tail_word tail w
+  pub positions : head + n ≤ 4294967295
+  pub full : tail + room < head + n
+  pub was_full : loaded.part.queue.taken + room < length loaded.part.queue.places + n
+
+-- the end found room, but the exchange found another head, open and past the one loaded
+pub record WasLost (room : ℕ) (v : View) (n head : ℕ) (w : View) : Type 0 where
+  pub first : ℕ
+  pub before : View
+  pub found : FoundRoom room v n first before
+  pub missed : Found before head_word head w
+  pub is_open : head < 4294967296
+  pub past : first < head
 
 -- what a refused claim of n items says
 abbrev pub Refused : ℕ → View → ℕ → ClaimRefusal → View → Type 0
 Refused room v n NoItems w = (n ≡ 0) × (w ≡ v)
 Refused room v n TooLong w = (room < n) × (w ≡ v)
-Refused room v n Closed w = Looked v w × (w.part.queue.shut ≡ true)
-Refused room v n Spent w = Looked v w × WasSpent v n w
-Refused room v n (Full head tail) w = Looked v w × WasFull v n head tail w
-Refused room v n (Lost head) w = Looked v w × WasLost v head w
+Refused room v n Closed w = Fits room n × (FoundShut v w ⊎ ShutMeanwhile room v n w)
+Refused room v n Spent w = Fits room n × WasSpent v n w
+Refused room v n (Full head tail) w = Fits room n × WasFull room v n head tail w
+Refused room v n (Lost head) w = Fits room n × WasLost room v n head w

@@ -1,17 +1,19 @@
 -- What holds between any two steps: a lawful queue of the core that the words and the views show.
-use Rattle.std.specs.Prelude.{◌≡◌, ℕ, ◌+◌, ◌%◌, ◌<◌, ◌≤◌, true, false, List, map, length, take, slice_index_or}
+use Rattle.std.specs.Prelude.{◌≡◌, ℕ, ◌+◌, ◌%◌, ◌<◌, ◌≤◌, true, false, if◌then◌else◌, List, map, length, take, slice_index_or}
 use Rattle.std.specs.List.{slice_get}
 use Rattle.atomic_table.specs.Table.{State}
-use Rattle.quaject_core.specs.declared.tables.Batch.{Batch}
+use Rattle.table_theory.specs.declared.queues.Batch.{Batch}
 use Rattle.quaject_core.specs.Runs.{flat, pairs}
 use Rattle.quaject_core.specs.Queues.{Queue, is_raised}
 use Rattle.quaject_core.specs.Lawful.{IsLawfulQueue}
-use Rattle.quaject_core.specs.Positioned.{item_of}
-use Rattle.quaject_core.specs.Filing.{Owned, ListedOnce}
-use Rattle.quaject_core.specs.Listing.{all_places, Chained}
-use Rattle.quaject_core.specs.QueueOf.{run_in, up_in}
+use Rattle.table_theory.specs.Positioned.{item_of}
+use Rattle.table_theory.specs.Filing.{Owned, ListedOnce}
+use Rattle.table_theory.specs.Listing.{all_places, Chained}
+use Rattle.table_theory.specs.QueueOf.{run_in, up_in}
 use Rattle.claim_queue.specs.declared.rule.Shape.{Shape}
 use Rattle.claim_queue.specs.declared.rule.View.{View}
+use Rattle.table_theory.specs.Sharing.{EndsCounted, total}
+use Rattle.claim_queue.specs.Rules.{ends_of, share_of, shuts_of, IsIdle}
 use Rattle.claim_queue.specs.Shown.{mark, data_in, flag_in}
 
 -- the pair (run, index) of the item with this number
@@ -51,3 +53,7 @@ pub record ShowsQueue (key : Shape) (s : State Unit View) : Type 0 where
   pub queue : Queue
   pub lawful : IsLawfulQueue queue
   pub shown : IsShown key s queue
+  -- each end that stands has its part of the share, and the word has their number
+  pub counted : EndsCounted ends_of share_of IsIdle (slice_index_or s.words 2 0) s.views
+  -- one end has shut the queue where it is shut, and none where it is open
+  pub shut_once : total shuts_of s.views ≡ (if queue.shut then 1 else 0)

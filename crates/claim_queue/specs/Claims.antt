@@ -1,18 +1,18 @@
 -- A claim, as the runs of its end list it.
-use Rattle.std.specs.Prelude.{◌≡◌, ◌≢◌, ℕ, zero, suc, List, [], ◌∷◌}
+use Rattle.std.specs.Prelude.{◌≡◌, ◌≢◌, ◌+◌, ◌≤◌, ℕ, zero, suc, List, [], ◌∷◌, length}
 use mathlib.Core.Option.{some}
 use lib.ListN.{get_elem?}
-use Rattle.quaject_core.specs.declared.tables.Entry.{Entry}
-use Rattle.quaject_core.specs.declared.tables.Batch.{Batch}
-use Rattle.quaject_core.specs.Positioned.{fresh}
-use Rattle.quaject_core.specs.Listing.{number_of}
+use Rattle.table_theory.specs.declared.queues.Cell.{Cell}
+use Rattle.table_theory.specs.declared.queues.Batch.{Batch}
+use Rattle.table_theory.specs.Positioned.{fresh}
+use Rattle.table_theory.specs.Listing.{number_of}
 use Rattle.claim_queue.specs.declared.rule.View.{View}
 
-abbrev pub raised_place : ℕ → Entry
+abbrev pub raised_place : ℕ → Cell
 raised_place x = record { item = x; written = 2 }
 
 -- the first r of the items are raised
-abbrev pub places_of : List ℕ → ℕ → List Entry
+abbrev pub places_of : List ℕ → ℕ → List Cell
 places_of [] r = []
 places_of (x ∷ xs) zero = fresh x ∷ places_of xs zero
 places_of (x ∷ xs) (suc r) = raised_place x ∷ places_of xs r
@@ -31,3 +31,7 @@ KeepsClaims v w = (start : ℕ) (xs : List ℕ) (r : ℕ) → Owns v start xs r 
 -- each of the end's claims but the one with this start still is its own, as far as it was raised
 abbrev pub KeepsOthers : ℕ → View → View → Type 0
 KeepsOthers start v w = (other : ℕ) (xs : List ℕ) (r : ℕ) → other ≢ start → Owns v other xs r → Owns w other xs r
+
+-- the position is at or past the end of each of the end's runs
+abbrev pub IsPast : View → ℕ → Type 0
+IsPast v position = (m : ℕ) (e : Batch) → get_elem? v.part.runs m ≡ some e → e.start + length e.places ≤ position

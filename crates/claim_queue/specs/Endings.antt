@@ -1,27 +1,23 @@
 -- What making and joining ends does to their views.
-use Rattle.std.specs.Prelude.{◌≡◌, [], ◌++◌}
-use Rattle.quaject_core.specs.Seeing.{Sees}
-use Rattle.quaject_core.specs.Sharing.{half, together}
+use Rattle.std.specs.Prelude.{◌≡◌, ℕ}
+use Rattle.table_theory.specs.Seeing.{Sees}
+use Rattle.table_theory.specs.Sharing.{kept, given}
 use Rattle.claim_queue.specs.declared.rule.View.{View}
-use Rattle.claim_queue.specs.Steps.{both}
+use Rattle.claim_queue.specs.Shown.{ends_word}
+use Rattle.claim_queue.specs.Steps.{after, both, newborn}
 
--- the end has what it had, and half of its share
+-- The number of ends was found and made one more, and the end gave a part of its share away. Nothing else changed
 pub record Divided (v w : View) : Type 0 where
-  pub runs : w.part.runs ≡ v.part.runs
-  pub takes : w.part.takes ≡ v.part.takes
-  pub share : w.share ≡ half v.share
+  pub found : ℕ
+  pub same : w ≡ record (after v ends_word found w.part.queue) { share = kept v.share }
   pub sees : Sees v.part w.part.queue
 
--- a new end has nothing but the other half of the share, and has seen what the other end had seen
-pub record Newborn (v w : View) : Type 0 where
-  pub runs : w.part.runs ≡ []
-  pub takes : w.part.takes ≡ []
-  pub share : w.share ≡ v.share
-  pub queue : w.part.queue ≡ v.part.queue
+-- the new end has nothing but the part of the share, and has seen what the other end had seen
+abbrev pub IsNewborn : View → View → View → Type 0
+IsNewborn old new born = born ≡ record (newborn new) { share = given old.share }
 
--- the end has what both had, and has seen what both had seen
+-- The end has what both had, and has seen what both had seen; then the number of ends was found and made one less
 pub record TookIn (v u w : View) : Type 0 where
-  pub runs : w.part.runs ≡ v.part.runs ++ u.part.runs
-  pub takes : w.part.takes ≡ v.part.takes ++ u.part.takes
-  pub share : w.share ≡ together v.share u.share
+  pub found : ℕ
+  pub same : w ≡ record (after (both v u) ends_word found w.part.queue) { ends = 1 }
   pub sees : Sees (both v u).part w.part.queue

@@ -1,10 +1,10 @@
 -- What a clause says of a queue, of an end and of a claim.
-use Rattle.std.specs.Prelude.{◌≡◌, ℕ}
-use Rattle.quaject_core.specs.Sharing.{IsWhole}
+use Rattle.std.specs.Prelude.{◌≡◌, ◌≤◌, ℕ}
+use Rattle.table_theory.specs.Sharing.{IsWhole}
 use Rattle.claim_queue.specs.declared.rule.View.{View}
 use Rattle.claim_queue.specs.declared.ends.ClaimQueue.{ClaimQueue}
 use Rattle.claim_queue.specs.declared.ends.QueueEnd.{QueueEnd}
-use Rattle.claim_queue.specs.Steps.{IsSame}
+use Rattle.table_theory.specs.Seating.{IsSame}
 
 -- what the end knows
 abbrev pub view_of : {n : ℕ} → QueueEnd n → View
@@ -17,6 +17,10 @@ call_of end = end.seat.id
 -- every other end was joined
 abbrev pub IsOnlyEnd : {n : ℕ} → QueueEnd n → Type 0
 IsOnlyEnd end = IsWhole end.seat.me.0.share
+
+-- the end can be split: it has two parts of the share or more
+abbrev pub IsDivisible : {n : ℕ} → QueueEnd n → Type 0
+IsDivisible end = 2 ≤ end.seat.me.0.share
 
 -- it is an end of this queue
 abbrev pub IsEndOf : {n : ℕ} → ClaimQueue n → QueueEnd n → Type 0

@@ -1,11 +1,13 @@
 pub mod Shown
 pub mod Rules
 pub mod Steps
-pub mod Answers
 pub mod Claims
+pub mod Answers
 pub mod Handles
 pub mod Endings
 pub mod Takings
+pub mod Lines
 pub mod Closings
 pub mod Between
 pub mod Puts
+pub mod Reads

@@ -1,12 +1,10 @@
 -- The rule: there is a lawful queue that the words and the views show.
-use Rattle.std.specs.Prelude.{◌≡◌, ℕ, false, [], map, slice_index_or}
-use Rattle.quaject_core.specs.declared.tables.Positions.{Positions}
-use Rattle.quaject_core.specs.declared.tables.QueueView.{QueueView}
-use Rattle.quaject_core.specs.declared.tables.Share.{Share}
-use Rattle.quaject_core.specs.Sharing.{the_whole}
-use Rattle.quaject_core.specs.Positioned.{Lawful}
-use Rattle.quaject_core.specs.Listing.{ViewsShow}
-use Rattle.quaject_core.specs.Counting.{EndsCounted}
+use Rattle.std.specs.Prelude.{◌≡◌, ℕ, false, [], map, if◌then◌else◌, slice_index_or}
+use Rattle.table_theory.specs.declared.queues.Positions.{Positions}
+use Rattle.table_theory.specs.declared.queues.QueueView.{QueueView}
+use Rattle.table_theory.specs.Positioned.{Lawful}
+use Rattle.table_theory.specs.Listing.{ViewsShow}
+use Rattle.table_theory.specs.Sharing.{the_whole, total, EndsCounted}
 use Rattle.atomic_table.specs.Table.{State}
 use Rattle.claim_queue.specs.declared.rule.Shape.{Shape}
 use Rattle.claim_queue.specs.declared.rule.View.{View}
@@ -18,12 +16,19 @@ part_of v = v.part
 abbrev pub ends_of : View → ℕ
 ends_of v = v.ends
 
-abbrev pub share_of : View → Share
+abbrev pub share_of : View → ℕ
 share_of v = v.share
 
--- the end has no run, and took nothing
+abbrev pub shuts_of : View → ℕ
+shuts_of v = v.shuts
+
+-- the end has no run, took nothing and shut nothing
 abbrev pub IsIdle : View → Type 0
-IsIdle v = (v.part.runs ≡ []) × (v.part.takes ≡ [])
+IsIdle v = (v.part.runs ≡ []) × (v.part.takes ≡ []) × (v.shuts ≡ 0)
+
+-- how often the queue was shut: at most once
+abbrev pub times_shut : Positions → ℕ
+times_shut q = if q.shut then 1 else 0
 
 pub record Rule (key : Shape) (s : State Unit View) : Type 0 where
   pub queue : Positions
@@ -32,6 +37,7 @@ pub record Rule (key : Shape) (s : State Unit View) : Type 0 where
   pub lawful : Lawful queue
   pub shows : WordsShow queue s.words
   pub listed : ViewsShow queue (map part_of s.views)
+  pub shut_once : total shuts_of s.views ≡ times_shut queue
   pub counted : EndsCounted ends_of share_of IsIdle (slice_index_or s.words 2 0) s.views
 
 -- a queue in which nothing was claimed
@@ -43,4 +49,6 @@ newcomer key = record {
   part = record { queue = empty key; joined = empty key; runs = []; takes = [] };
   ends = 1;
   share = the_whole;
+  shuts = 0;
+  steps = [];
 }

@@ -1,8 +1,24 @@
 -- What the words of the table show: head, tail, number of ends, the data words and the flag words.
-use Rattle.std.specs.Prelude.{◌≡◌, ℕ, ◌+◌, ◌<◌, Bool, true, false, List, length, slice_index_or}
-use Rattle.quaject_core.specs.declared.tables.Positions.{Positions}
-use Rattle.quaject_core.specs.Positioned.{head_of, tail_of}
-use Rattle.quaject_core.specs.Windows.{PlacesShow}
+use Rattle.std.specs.Prelude.{◌≡◌, ℕ, ◌+◌, ◌%◌, ◌<◌, Bool, true, false, List, length, slice_index_or}
+use Rattle.table_theory.specs.declared.queues.Positions.{Positions}
+use Rattle.table_theory.specs.Positioned.{head_of, tail_of}
+use Rattle.table_theory.specs.Windows.{PlacesShow}
+
+-- the numbers of the words
+abbrev pub head_word : ℕ
+head_word = 0
+
+abbrev pub tail_word : ℕ
+tail_word = 1
+
+abbrev pub ends_word : ℕ
+ends_word = 2
+
+abbrev pub data_word : ℕ → ℕ → ℕ
+data_word room position = position % room + 3
+
+abbrev pub flag_word : ℕ → ℕ → ℕ
+flag_word room position = position % room + room + 3
 
 -- bit 32 of the head word
 abbrev pub mark : Bool → ℕ

@@ -1,49 +1,47 @@
--- What each step tells its end.
+-- What each step tells its end. Each adds one entry to the end's list: the word's number, what was found there, and the
+-- queue as it was then.
 use Rattle.std.specs.Prelude.{◌≡◌, ◌≢◌, ◌+◌, ◌-◌, ◌<◌, ◌≤◌, ℕ, false, ◌==◌, if◌then◌else◌, Result, Ok}
 use Rattle.std.specs.Prelude.{length, List, [], ◌∷◌, ◌++◌, map, take, drop, slice_index_or, slice_set}
 use mathlib.Core.Option.{some}
 use lib.ListN.{get_elem?}
 use Rattle.atomic_table.specs.Table.{Me, Step}
-use Rattle.atomic_table.specs.declared.shared.Seat.{Seat}
 use Rattle.quaject_core.specs.declared.refusal.Refusal.{Refusal}
-use Rattle.quaject_core.specs.declared.tables.Positions.{Positions}
-use Rattle.quaject_core.specs.declared.tables.Batch.{Batch}
-use Rattle.quaject_core.specs.Positioned.{Lawful, fresh, with_claim, with_write, with_take, with_shut, head_of}
-use Rattle.quaject_core.specs.Positioned.{tail_of, written_at}
+use Rattle.table_theory.specs.declared.queues.Positions.{Positions}
+use Rattle.table_theory.specs.declared.queues.Batch.{Batch}
+use Rattle.table_theory.specs.Positioned.{Lawful, fresh, with_claim, with_write, with_take, with_shut, head_of}
+use Rattle.table_theory.specs.Positioned.{tail_of, written_at}
 use Rattle.quaject_core.specs.Queues.{Queue, claim, raise, take_first}
 use Rattle.quaject_core.specs.Marks as marks
-use Rattle.quaject_core.specs.Listing.{ViewsShow, written_to, Distinct, number_of}
-use Rattle.quaject_core.specs.QueueOf.{IsEvent, no_event}
-use Rattle.quaject_core.specs.Seeing.{Sees}
-use Rattle.quaject_core.specs.Sharing.{half, together, nothing}
-use Rattle.quaject_core.specs.Counting.{EndsCounted}
+use Rattle.table_theory.specs.Listing.{written_to, Distinct, number_of}
+use Rattle.table_theory.specs.QueueOf.{IsEvent, no_event}
+use Rattle.table_theory.specs.Seeing.{Sees}
+use Rattle.table_theory.specs.Sharing.{kept, given, IsCount}
 use Rattle.claim_queue.specs.declared.rule.View.{View}
-use Rattle.claim_queue.specs.Rules.{part_of, ends_of, share_of, IsIdle}
-use Rattle.claim_queue.specs.Shown.{mark, WordsShow}
+use Rattle.claim_queue.specs.Shown.{head_word, tail_word, ends_word, mark, WordsShow}
 
--- the view, with the queue as it is now
-abbrev pub looked : View → Positions → View
-looked v q = record v { part = record v.part { queue = q; joined = q } }
+-- the view after a step that found this number in this word, when the queue was so
+abbrev pub after : View → ℕ → ℕ → Positions → View
+after v word found q = record v {
+  part = record v.part { queue = q; joined = q };
+  steps = v.steps ++ record { word = word; found = found; then = q } ∷ [];
+}
 
--- A word was found, and the queue as it was at that step is known
-pub record Saw (v : View) (word found : ℕ) (w : View) : Type 0 where
-  pub same : w ≡ looked v w.part.queue
+-- A number was found in a word, and nothing else changed for the end
+pub record Found (v : View) (word found : ℕ) (w : View) : Type 0 where
+  pub same : w ≡ after v word found w.part.queue
   pub sees : Sees v.part w.part.queue
   pub words : List ℕ
   pub shows : WordsShow w.part.queue words
   pub is : found ≡ slice_index_or words word 0
 
-abbrev pub saw : Step Unit → Me Unit View → ℕ → Me Unit View → Type 0
-saw st m r m' = (m'.1 ≡ m.1) × Saw m.0 st.word r m'.0
-
-abbrev pub IsSame : Seat Unit View → Seat Unit View → Type 0
-IsSame old new = (new.table_id ≡ old.table_id) × (new.id ≡ old.id)
+abbrev pub finds : Step Unit → Me Unit View → ℕ → Me Unit View → Type 0
+finds st m r m' = (m'.1 ≡ m.1) × Found m.0 st.word r m'.0
 
 abbrev pub run : ℕ → List ℕ → Batch
 run head xs = record { start = head; places = map fresh xs }
 
 abbrev pub claimed : View → ℕ → List ℕ → Positions → View
-claimed v head xs q = record v {
+claimed v head xs q = record (after v head_word head q) {
   part = record {
     queue = with_claim q xs;
     joined = with_claim q xs;
@@ -59,16 +57,16 @@ pub record Claimed (call : ℕ) (v : View) (head : ℕ) (xs : List ℕ) (w : Vie
   pub sees : Sees v.part queue
   pub at : head_of queue ≡ head
   pub event : IsEvent queue (with_claim queue xs) call v.part w.part (claim queue.room call xs)
-  pub after : Lawful (with_claim queue xs)
+  pub after_it : Lawful (with_claim queue xs)
   pub is_open : queue.shut ≡ false
   pub distinct : Distinct w.part.runs
 
 abbrev pub claims : ℕ → List ℕ → Step Unit → Me Unit View → ℕ → Me Unit View → Type 0
 claims call xs st m r m' = (m'.1 ≡ m.1) × (r ≡ st.first → Claimed call m.0 st.first xs m'.0) × (r ≢ st.first
-    → Saw m.0 st.word r m'.0)
+    → Found m.0 st.word r m'.0)
 
-abbrev pub wrote : View → ℕ → ℕ → ℕ → Batch → Positions → ℕ → View
-wrote v m i n e q at = record v {
+abbrev pub wrote : View → ℕ → ℕ → ℕ → ℕ → ℕ → Batch → Positions → ℕ → View
+wrote v word stored m i n e q at = record (after v word stored q) {
   part = record {
     queue = with_write q at n;
     joined = with_write q at n;
@@ -81,8 +79,8 @@ wrote v m i n e q at = record v {
 abbrev pub write_event : ℕ → ℕ → ℕ → ℕ → Queue → Result Queue Refusal
 write_event n call run index = if n == 2 then raise call run index else no_event
 
--- n steps of writing are done at the place i of the end's run m
-pub record Wrote (call : ℕ) (v : View) (m i n : ℕ) (w : View) : Type 0 where
+-- n steps of writing are done at the place i of the end's run m: this number was stored in this word
+pub record Wrote (call : ℕ) (v : View) (m i n word stored : ℕ) (w : View) : Type 0 where
   pub queue : Positions
   pub at : ℕ
   pub run : Batch
@@ -91,28 +89,23 @@ pub record Wrote (call : ℕ) (v : View) (m i n : ℕ) (w : View) : Type 0 where
   pub below : at < length queue.places
   pub low : written_at queue at < 2
   pub more : written_at queue at ≤ n
-  pub same : w ≡ wrote v m i n run queue at
+  pub same : w ≡ wrote v word stored m i n run queue at
   pub sees : Sees v.part queue
   pub run_number : ℕ
   pub event : IsEvent queue (with_write queue at n) call v.part w.part (write_event n call run_number i)
   pub is_run : get_elem? event.shown.runs run_number ≡ some (call, m, run)
-  pub after : Lawful (with_write queue at n)
+  pub after_it : Lawful (with_write queue at n)
 
 abbrev pub writes : ℕ → ℕ → ℕ → ℕ → Step Unit → Me Unit View → ℕ → Me Unit View → Type 0
-writes call start i n st me r me' = (me'.1 ≡ me.1) × Wrote call me.0 (number_of start me.0.part.runs) i n me'.0
-
--- The place i of the end's run m was raised: its item was stored, and then its flag
-pub record Raised (call : ℕ) (v : View) (m i : ℕ) (w : View) : Type 0 where
-  pub between : View
-  pub stored : Wrote call v m i 1 between
-  pub raised : Wrote call between m i 2 w
+writes call start i n st me r me' =
+    (me'.1 ≡ me.1) × Wrote call me.0 (number_of start me.0.part.runs) i n st.word r me'.0
 
 -- what a taking of n takes
 abbrev pub taking : Positions → ℕ → Batch
 taking q n = record { start = tail_of q; places = take n (drop q.taken q.places) }
 
-abbrev pub took : View → ℕ → Positions → View
-took v n q = record v {
+abbrev pub took : View → ℕ → ℕ → Positions → View
+took v tail n q = record (after v tail_word tail q) {
   part = record {
     queue = with_take q n;
     joined = with_take q n;
@@ -121,73 +114,77 @@ took v n q = record v {
   };
 }
 
-pub record Took (v : View) (tail n : ℕ) (w : View) : Type 0 where
+-- n items were taken, from the tail of the queue as it was at that step on
+pub record Took (call : ℕ) (v : View) (tail n : ℕ) (w : View) : Type 0 where
   pub queue : Positions
-  pub same : w ≡ took v n queue
+  pub same : w ≡ took v tail n queue
   pub sees : Sees v.part queue
   pub at : tail_of queue ≡ tail
-  pub seat : ℕ
-  pub event : IsEvent queue (with_take queue n) seat v.part w.part (take_first queue.room n)
-  pub after : Lawful (with_take queue n)
+  pub event : IsEvent queue (with_take queue n) call v.part w.part (take_first queue.room n)
+  pub after_it : Lawful (with_take queue n)
 
-abbrev pub takes : Step Unit → Me Unit View → ℕ → Me Unit View → Type 0
-takes st m r m' = (m'.1 ≡ m.1) × (r ≡ st.first → Took m.0 st.first (st.second - st.first) m'.0) × (r ≢ st.first
-    → Saw m.0 st.word r m'.0)
+abbrev pub takes : ℕ → Step Unit → Me Unit View → ℕ → Me Unit View → Type 0
+takes call st m r m' = (m'.1 ≡ m.1) × (r ≡ st.first → Took call m.0 st.first (st.second - st.first) m'.0)
+    × (r ≢ st.first → Found m.0 st.word r m'.0)
 
--- the queue is shut, and the head word was as the queue before it shows it
-pub record Shut (v : View) (found : ℕ) (w : View) : Type 0 where
+-- the end shut the queue, which counts where it was open
+abbrev pub shut_by : View → ℕ → Positions → View
+shut_by v found q = record (after v head_word found q) {
+  part = record v.part { queue = with_shut q; joined = with_shut q };
+  shuts = v.shuts + (if q.shut then 0 else 1);
+}
+
+-- the queue is shut, and this head word was found
+pub record Shut (call : ℕ) (v : View) (found : ℕ) (w : View) : Type 0 where
   pub queue : Positions
-  pub same : w ≡ looked v (with_shut queue)
+  pub same : w ≡ shut_by v found queue
   pub sees : Sees v.part queue
   pub is : found ≡ head_of queue + mark queue.shut
-  pub seat : ℕ
-  pub event : IsEvent queue (with_shut queue) seat v.part w.part (λ c. Ok (marks.shut c))
+  pub event : IsEvent queue (with_shut queue) call v.part w.part (λ c. Ok (marks.shut c))
 
-abbrev pub shuts : Step Unit → Me Unit View → ℕ → Me Unit View → Type 0
-shuts st m r m' = (m'.1 ≡ m.1) × Shut m.0 r m'.0
+abbrev pub shuts : ℕ → Step Unit → Me Unit View → ℕ → Me Unit View → Type 0
+shuts call st m r m' = (m'.1 ≡ m.1) × Shut call m.0 r m'.0
 
 -- the number of ends is one more
-pub record CountedUp (v w : View) : Type 0 where
+pub record CountedUp (v : View) (found : ℕ) (w : View) : Type 0 where
   pub queue : Positions
-  pub same : w ≡ record (looked v queue) { ends = v.ends + 1 }
+  pub same : w ≡ record (after v ends_word found queue) { ends = v.ends + 1 }
   pub sees : Sees v.part queue
 
 -- the number of ends is one less
-pub record CountedDown (v w : View) : Type 0 where
+pub record CountedDown (v : View) (found : ℕ) (w : View) : Type 0 where
   pub queue : Positions
-  pub same : w ≡ record (looked v queue) { ends = v.ends - 1 }
+  pub same : w ≡ record (after v ends_word found queue) { ends = v.ends - 1 }
   pub sees : Sees v.part queue
   pub distinct : Distinct w.part.runs
 
--- the number of ends was found, with what all ends knew at that step
+-- the number of ends was found: 1 exactly where this end has the whole
 pub record Tallied (v : View) (found : ℕ) (w : View) : Type 0 where
   pub queue : Positions
-  pub same : w ≡ looked v queue
+  pub same : w ≡ after v ends_word found queue
   pub sees : Sees v.part queue
-  pub views : List View
-  pub seat : ℕ
-  pub here : get_elem? views seat ≡ some v
-  pub shown : ViewsShow queue (map part_of views)
-  pub counted : EndsCounted ends_of share_of IsIdle found views
+  pub count : IsCount v.share found
 
 abbrev pub counts_up : Step Unit → Me Unit View → ℕ → Me Unit View → Type 0
-counts_up st m r m' = (m'.1 ≡ m.1) × CountedUp m.0 m'.0
+counts_up st m r m' = (m'.1 ≡ m.1) × CountedUp m.0 r m'.0
 
 abbrev pub counts_down : Step Unit → Me Unit View → ℕ → Me Unit View → Type 0
-counts_down st m r m' = (m'.1 ≡ m.1) × CountedDown m.0 m'.0
+counts_down st m r m' = (m'.1 ≡ m.1) × CountedDown m.0 r m'.0
 
 abbrev pub counts : Step Unit → Me Unit View → ℕ → Me Unit View → Type 0
 counts st m r m' = (m'.1 ≡ m.1) × Tallied m.0 r m'.0
 
 -- what a split leaves, and the new end's view
 abbrev pub rest_of : View → View
-rest_of v = record v { ends = v.ends - 1; share = half v.share }
+rest_of v = record v { ends = v.ends - 1; share = kept v.share }
 
-abbrev pub halves : View → View
-halves v = record {
+abbrev pub newborn : View → View
+newborn v = record {
   part = record { queue = v.part.queue; joined = v.part.joined; runs = []; takes = [] };
   ends = 1;
-  share = half v.share;
+  share = given v.share;
+  shuts = 0;
+  steps = [];
 }
 
 -- the view of an end that took in an end with the view w
@@ -200,7 +197,9 @@ both v w = record {
     takes = v.part.takes ++ w.part.takes;
   };
   ends = v.ends + w.ends;
-  share = together v.share w.share;
+  share = v.share + w.share;
+  shuts = v.shuts + w.shuts;
+  steps = v.steps ++ w.steps;
 }
 
 -- the view of an end that was taken in by an end with the view v
@@ -208,5 +207,7 @@ abbrev pub emptied : View → View
 emptied v = record {
   part = record { queue = v.part.queue; joined = v.part.joined; runs = []; takes = [] };
   ends = 0;
-  share = nothing;
+  share = 0;
+  shuts = 0;
+  steps = [];
 }

@@ -1,11 +1,12 @@
-//! Claims.
-ghost use Rattle.std.specs.Prelude.{◌≡◌, ◌+◌, ◌<◌, ◌≤◌, ℕ, true, length, MatchResult, MatchBool, IfOk};
-ghost use Rattle.quaject_core.specs.Listing.{number_of};
+//! Claims: an end stakes out a run of places by one exchange of the head, and then raises them one by one (Massalin and
+//! Pu 1991, the many-producer queue).
+ghost use Rattle.std.specs.Prelude.{◌≡◌, ◌+◌, ◌<◌, ◌≤◌, ℕ, true, length, MatchResult, MatchBool, IfOk, slice_index};
+ghost use Rattle.table_theory.specs.Listing.{AllRaised};
 ghost use Rattle.claim_queue.specs.Claims.{Owns, KeepsClaims, KeepsOthers};
-ghost use Rattle.claim_queue.specs.Steps.{Raised};
-ghost use Rattle.claim_queue.specs.Answers.{ClaimedItems, Looked, WasFull, WasSpent, WasLost, Refused};
+ghost use Rattle.claim_queue.specs.Answers.{ClaimedItems, Refused};
 ghost use Rattle.claim_queue.specs.declared.claim.ClaimRefusal.TheVariants as refusals;
-ghost use Rattle.claim_queue.specs.Puts.{RaisedFrom, IsPut, PutAnswer};
+ghost use Rattle.claim_queue.specs.Lines.{SameLines, PutLine};
+ghost use Rattle.claim_queue.specs.Puts.{Raised, RaisedFrom, IsPut, PutAnswer, is_lost};
 
 use crate::ends::{ClaimQueue, QueueEnd};
 use crate::pause::{NoPause, Pause};
@@ -17,6 +18,9 @@ use std::sync::Wait;
 use thiserror::Error;
 
 /// A run of places that an end claimed, and how many of them it has raised.
+///
+/// It is raised by `raise_next`. A claim that is dropped leaves its other places unraised for good: nobody can take past
+/// them, and once N places are claimed behind the tail every claim is Full.
 #[derive(Drop)]
 pub struct Claim<const N: usize> {
     pub(crate) start: u32,
@@ -28,22 +32,23 @@ pub struct Claim<const N: usize> {
 /// Why a claim was refused. The refusals stand in the order in which they are checked.
 #[derive(Clone, Copy, Debug, PartialEq, Eq, Drop, Error)]
 pub enum ClaimRefusal {
-    /// The run has no item.
+    /// The run has no item. No step was made.
     #[error("no items")]
     NoItems,
-    /// The run has more items than the queue has places.
+    /// The run has more items than the queue has places. No step was made.
     #[error("more items than places")]
     TooLong,
-    /// The queue is shut.
+    /// The queue is shut: the head that was loaded, or the one that the exchange found, has the shut mark.
     #[error("the queue is shut")]
     Closed,
-    /// The run would go past the last position.
+    /// The run would go past the last position, 4,294,967,295. Shorter runs may still fit; no position comes back.
     #[error("no positions left")]
     Spent,
-    /// There was no room at the step that loaded this head.
+    /// There was no room for the run between this head and the tail that was loaded after it: `head` and the number of
+    /// items exceed `tail` and N. Both are positions.
     #[error("full at head {head}, tail {tail}")]
     Full { head: u32, tail: u32 },
-    /// Another end claimed first: the exchange found this head.
+    /// Another end claimed first: the exchange found this head, past the one that was loaded.
     #[error("lost, head {head}")]
     Lost { head: u32 },
 }
@@ -82,25 +87,35 @@ fn copy_of<const N: usize>(items: &[u64]) -> ArrayVec<u64, N>
     copied
 }
 
+// Another end claimed first.
+fn was_lost(answer: &Result<u32, ClaimRefusal>) -> bool
+    ensures { result ≡ is_lost answer.now }
+{
+    matches!(answer, Err(ClaimRefusal::Lost { head: _ }))
+}
+
 impl<const N: usize> ClaimQueue<N> {
     ghost use Rattle.claim_queue.specs.Handles.{view_of, call_of, IsEndOf, IsSameEnd};
 
-    /// One try.
+    /// One try to claim a place for each of the items: it loads the head, then the tail, and exchanges the head. The items
+    /// can be taken once they are raised. The refusals are checked in the order in which `ClaimRefusal` lists them.
     pub fn try_claim(&self, end: &mut QueueEnd<N>, items: &[u64]) -> Result<Claim<N>, ClaimRefusal>
         requires { IsEndOf self.now end.old }
         ensures queue { IsSameEnd end.old end.new }
-        ensures ok { MatchResult result (λ c. ClaimedItems (call_of end.old) (view_of end.old) c.start items.now
+        ensures ok { MatchResult result (λ c. ClaimedItems N (call_of end.old) (view_of end.old) c.start items.now
             (view_of end.new) × (c.items.items ≡ items.now) × (c.raised ≡ 0))
             (λ r. Refused N (view_of end.old) (length items.now) r (view_of end.new)) }
         ensures own { IfOk result (λ c. Owns (view_of end.new) c.start c.items.items c.raised) }
         ensures others { KeepsClaims (view_of end.old) (view_of end.new) }
+        ensures lines { MatchResult result (λ c. PutLine items.now (view_of end.old) (view_of end.new))
+            (λ r. SameLines (view_of end.old) (view_of end.new)) }
         ensures shut { (view_of end.old).part.queue.shut ≡ true → 0 < length items.now → length items.now ≤ N
             → MatchResult result (λ claim. ⊥) (λ refusal. refusal ≡ refusals.Closed) }
     {
         self.try_claim_paused(end, items, &mut NoPause)
     }
 
-    /// `try_claim`, with a pause before the exchange.
+    /// `try_claim`, with a pause before the exchange, in which another end may step.
     pub fn try_claim_paused<P: Pause>(
         &self,
         end: &mut QueueEnd<N>,
@@ -109,11 +124,13 @@ impl<const N: usize> ClaimQueue<N> {
     ) -> Result<Claim<N>, ClaimRefusal>
         requires { IsEndOf self.now end.old }
         ensures queue { IsSameEnd end.old end.new }
-        ensures ok { MatchResult result (λ c. ClaimedItems (call_of end.old) (view_of end.old) c.start items.now
+        ensures ok { MatchResult result (λ c. ClaimedItems N (call_of end.old) (view_of end.old) c.start items.now
             (view_of end.new) × (c.items.items ≡ items.now) × (c.raised ≡ 0))
             (λ r. Refused N (view_of end.old) (length items.now) r (view_of end.new)) }
         ensures own { IfOk result (λ c. Owns (view_of end.new) c.start c.items.items c.raised) }
         ensures others { KeepsClaims (view_of end.old) (view_of end.new) }
+        ensures lines { MatchResult result (λ c. PutLine items.now (view_of end.old) (view_of end.new))
+            (λ r. SameLines (view_of end.old) (view_of end.new)) }
         ensures shut { (view_of end.old).part.queue.shut ≡ true → 0 < length items.now → length items.now ≤ N
             → MatchResult result (λ claim. ⊥) (λ refusal. refusal ≡ refusals.Closed) }
     {
@@ -135,10 +152,9 @@ impl<const N: usize> ClaimQueue<N> {
         requires { IsEndOf self.now end.old }
         ensures queue { IsSameEnd end.old end.new }
         ensures ok { MatchResult result
-            (λ start. ClaimedItems (call_of end.old) (view_of end.old) start items.now (view_of end.new))
+            (λ start. ClaimedItems N (call_of end.old) (view_of end.old) start items.now (view_of end.new))
             (λ r. Refused N (view_of end.old) (length items.now) r (view_of end.new)) }
         ensures own { IfOk result (λ start. Owns (view_of end.new) start items.now 0 × (length items.now ≤ N)) }
-        ensures others { KeepsClaims (view_of end.old) (view_of end.new) }
     {
         let count = items.len();
         if count == 0 {
@@ -181,7 +197,7 @@ impl<const N: usize> ClaimQueue<N> {
         ensures queue { IsSameEnd end.old end.new }
         ensures own { Owns (view_of end.new) start items.now (index + 1) }
         ensures others { KeepsOthers start (view_of end.old) (view_of end.new) }
-        ensures raised { Raised (call_of end.old) (view_of end.old) (number_of start (view_of end.old).part.runs) index
+        ensures raised { Raised N (call_of end.old) (view_of end.old) start index (slice_index items.now index)
             (view_of end.new) }
     {
         let (start, item) = (start as u64, items[index]);
@@ -189,7 +205,10 @@ impl<const N: usize> ClaimQueue<N> {
         store_flag::<Brand>(&self.table.shared, &mut end.seat, N, start, index);
     }
 
-    /// Stores the next item and then its flag. False where all were raised.
+    /// Stores the next item of the claim in its data word, and then its flag, which raises it. False, and no step, where
+    /// all items were raised.
+    ///
+    /// Condition: the claim is the end's own.
     pub fn raise_next(&self, end: &mut QueueEnd<N>, claim: &mut Claim<N>) -> bool
         requires queue { IsEndOf self.now end.old }
         requires own { Owns (view_of end.old) claim.old.start claim.old.items.items claim.old.raised }
@@ -197,8 +216,9 @@ impl<const N: usize> ClaimQueue<N> {
         ensures claim { (claim.new.start ≡ claim.old.start) × (claim.new.items.items ≡ claim.old.items.items) }
         ensures own { Owns (view_of end.new) claim.new.start claim.new.items.items claim.new.raised }
         ensures others { KeepsOthers claim.old.start (view_of end.old) (view_of end.new) }
-        ensures raised { MatchBool result (Raised (call_of end.old) (view_of end.old) (number_of claim.old.start
-            (view_of end.old).part.runs) claim.old.raised (view_of end.new)
+        ensures lines { SameLines (view_of end.old) (view_of end.new) }
+        ensures raised { MatchBool result (Raised N (call_of end.old) (view_of end.old) claim.old.start claim.old.raised
+            (slice_index claim.old.items.items claim.old.raised) (view_of end.new)
             × (claim.new.raised ≡ claim.old.raised + 1)) ((claim.old.raised ≡ length claim.old.items.items)
             × (claim.new.raised ≡ claim.old.raised) × ((view_of end.new) ≡ (view_of end.old))) }
     {
@@ -216,22 +236,27 @@ impl<const N: usize> ClaimQueue<N> {
         requires queue { IsEndOf self.now end.old }
         requires own { Owns (view_of end.old) start items.now 0 × (length items.now ≤ N) }
         ensures queue { IsSameEnd end.old end.new }
+        ensures own { Owns (view_of end.new) start items.now (length items.now) }
         ensures others { KeepsOthers start (view_of end.old) (view_of end.new) }
-        ensures raised { RaisedFrom (call_of end.old) start (view_of end.old) (view_of end.new) (length items.now) }
+        ensures raised { RaisedFrom N (call_of end.old) start items.now (view_of end.old) (view_of end.new)
+            (length items.now) }
     {
         for i in 0..items.len() {
             self.raise_place(end, start, items, i);
         }
     }
 
-    /// One claim and all its raises. Gives the position of the first item.
+    /// One try to claim a run and, where it wins, all its raises. Gives the position of the first item.
     pub fn try_put(&self, end: &mut QueueEnd<N>, items: &[u64]) -> Result<u32, ClaimRefusal>
         requires { IsEndOf self.now end.old }
         ensures queue { IsSameEnd end.old end.new }
         ensures put { MatchResult result
-            (λ start. IsPut (call_of end.old) (view_of end.old) start items.now (view_of end.new))
+            (λ start. IsPut N (call_of end.old) (view_of end.old) start items.now (view_of end.new))
             (λ r. Refused N (view_of end.old) (length items.now) r (view_of end.new)) }
         ensures others { KeepsClaims (view_of end.old) (view_of end.new) }
+        ensures raised { AllRaised (view_of end.old).part.runs → AllRaised (view_of end.new).part.runs }
+        ensures lines { MatchResult result (λ start. PutLine items.now (view_of end.old) (view_of end.new))
+            (λ r. SameLines (view_of end.old) (view_of end.new)) }
         ensures shut { (view_of end.old).part.queue.shut ≡ true → 0 < length items.now → length items.now ≤ N
             → MatchResult result (λ start. ⊥) (λ refusal. refusal ≡ refusals.Closed) }
     {
@@ -240,7 +265,8 @@ impl<const N: usize> ClaimQueue<N> {
         Ok(start)
     }
 
-    /// `try_put`, tried again for as long as other ends claim first.
+    /// `try_put`, tried again for as long as other ends claim first. It gives up on every other refusal, so it answers
+    /// Full where takers are slow, and never Lost.
     pub fn put<R: Wait>(
         &self,
         rt: &R,
@@ -251,15 +277,19 @@ impl<const N: usize> ClaimQueue<N> {
         ensures queue { IsSameEnd end.old end.new }
         ensures put { PutAnswer N (call_of end.old) (view_of end.old) items.now result (view_of end.new) }
         ensures others { KeepsClaims (view_of end.old) (view_of end.new) }
+        ensures raised { AllRaised (view_of end.old).part.runs → AllRaised (view_of end.new).part.runs }
+        ensures lines { MatchResult result (λ start. PutLine items.now (view_of end.old) (view_of end.new))
+            (λ r. SameLines (view_of end.old) (view_of end.new)) }
         ensures shut { (view_of end.old).part.queue.shut ≡ true → 0 < length items.now → length items.now ≤ N
             → MatchResult result (λ start. ⊥) (λ refusal. refusal ≡ refusals.Closed) }
     {
         let backoff = Backoff::new();
         for _ in rt.forever() {
-            match self.try_put(end, items) {
-                Err(ClaimRefusal::Lost { head: _ }) => backoff.spin(),
-                answer => return answer,
+            let answer = self.try_put(end, items);
+            if !was_lost(&answer) {
+                return answer;
             }
+            backoff.spin();
         }
         unreachable!()
     }

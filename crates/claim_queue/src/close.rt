@@ -1,29 +1,26 @@
 //! Shutting and closing.
 ghost use Rattle.std.specs.Prelude.{◌≡◌, ◌+◌, ◌-◌, ◌<◌, ◌≤◌, IfOk, IfErr, MatchResult};
 ghost use Rattle.std.specs.Mem.Slots.{slots_items, slots_len, IsFull};
+ghost use Rattle.claim_queue.specs.Claims.{KeepsClaims};
 ghost use Rattle.claim_queue.specs.Closings.{ShutNow, ClosedNow, WereOpen, left_at, left_from};
+ghost use Rattle.claim_queue.specs.Lines.{SameLines};
 
 use crate::ends::{ClaimQueue, QueueEnd};
 use crate::steps::{SHUT, count, or_head};
 use arrayvec::ArrayVec;
 use atomic_table::Closed as Opened;
 use std::alloc::Global;
-use thiserror::Error;
+use std::marker::Brand;
+use table_theory::OpenEnds;
 
-/// What a queue had at its end.
+/// What a queue had at its end: its first position, how many items were put (claimed) and taken, and those left, in the
+/// order of their claims. None stands for a place that was claimed and never raised.
 #[derive(Drop)]
 pub struct Closed<const N: usize> {
     pub first: u32,
     pub put: u32,
     pub taken: u32,
     pub left: ArrayVec<Option<u64>, N>,
-}
-
-/// Ends that were made and not joined, and their number.
-#[derive(Clone, Copy, Debug, PartialEq, Eq, Drop, Error)]
-#[error("{others} other ends are not joined")]
-pub struct OpenEnds {
-    pub others: u64,
 }
 
 fn read_at(closed: &Opened<(), Global>, room: usize, position: u64) -> Option<u64>
@@ -57,19 +54,22 @@ fn read_left<const N: usize>(
 }
 
 impl<const N: usize> ClaimQueue<N> {
-    ghost use Rattle.claim_queue.specs.Handles.{view_of, first_of, IsEndOf, IsOnlyEnd, IsSameEnd, AreOfOneQueue};
+    ghost use Rattle.claim_queue.specs.Handles.{view_of, call_of, first_of, IsEndOf, IsOnlyEnd, IsSameEnd};
 
-    /// Shuts the queue for claims. True where it was open.
+    /// Shuts the queue for claims, for good; what was put can still be taken. True where it was open, which one end alone
+    /// is ever told.
     pub fn shut(&self, end: &mut QueueEnd<N>) -> bool
         requires { IsEndOf self.now end.old }
         ensures queue { IsSameEnd end.old end.new }
-        ensures shut { ShutNow (view_of end.old) result (view_of end.new) }
+        ensures shut { ShutNow (call_of end.old) (view_of end.old) result (view_of end.new) }
+        ensures others { KeepsClaims (view_of end.old) (view_of end.new) }
+        ensures lines { SameLines (view_of end.old) (view_of end.new) }
     {
-        or_head(&self.table.shared, &mut end.seat) < SHUT
+        or_head::<Brand>(&self.table.shared, &mut end.seat) < SHUT
     }
 
     /// Closes the queue where every other end has been joined. Else the queue and the end come back, and the number of
-    /// the others.
+    /// the others. It takes no memory.
     pub fn close(
         self,
         end: QueueEnd<N>,
@@ -77,20 +77,14 @@ impl<const N: usize> ClaimQueue<N> {
         requires { IsEndOf self end }
         ensures closed { IfOk result (λ c. (c.first ≡ first_of self.entry)
             × ClosedNow (view_of end.entry) c.first c.put c.taken c.left.items) }
-        ensures open { IfErr result (λ e. (e.0 ≡ self.entry) × AreOfOneQueue end.entry e.1
+        ensures open { IfErr result (λ e. (e.0 ≡ self.entry) × IsSameEnd end.entry e.1
             × WereOpen (view_of end.entry) e.2.others (view_of e.1)) }
         ensures only { IsOnlyEnd end.entry → MatchResult result (λ c. Unit {0}) (λ e. ⊥) }
     {
         let mut end = end;
         let ends = count(&self.table.shared, &mut end.seat);
         if ends != 1 {
-            return Err((
-                self,
-                end,
-                OpenEnds {
-                    others: ends.wrapping_sub(1),
-                },
-            ));
+            return Err((self, end, OpenEnds { others: ends - 1 }));
         }
         let QueueEnd { seat } = end;
         let ClaimQueue { table, first } = self;

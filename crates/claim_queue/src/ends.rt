@@ -2,8 +2,9 @@
 ghost use Rattle.std.specs.Prelude.{◌≡◌, ◌+◌, ◌≤◌, ◌<◌, [], ◌++◌, IfOk};
 ghost use Rattle.claim_queue.specs.Rules.{newcomer};
 ghost use Rattle.claim_queue.specs.Claims.{KeepsClaims};
-ghost use Rattle.claim_queue.specs.Endings.{Divided, Newborn, TookIn};
-ghost use Rattle.quaject_core.specs.Listing.{Distinct};
+ghost use Rattle.claim_queue.specs.Endings.{Divided, IsNewborn, TookIn};
+ghost use Rattle.claim_queue.specs.Lines.{SameLines, lines_put, lines_taken};
+ghost use Rattle.table_theory.specs.Listing.{Distinct};
 
 use crate::rule::{ClaimRule, Shape, View};
 use crate::steps::{count_down, count_up, split_off, take_in};
@@ -32,7 +33,7 @@ pub struct QueueEnd<const N: usize> {
 }
 
 impl<const N: usize> ClaimQueue<N> {
-    ghost use Rattle.claim_queue.specs.Handles.{view_of, first_of, IsEndOf, IsSameEnd, AreOfOneQueue};
+    ghost use Rattle.claim_queue.specs.Handles.{view_of, first_of, IsDivisible, IsEndOf, IsSameEnd, AreOfOneQueue};
 
     /// An empty queue whose first position is `first`, and its only end.
     pub fn new(alloc: Global, first: u32) -> Result<(ClaimQueue<N>, QueueEnd<N>), OutOfMemory>
@@ -53,25 +54,34 @@ impl<const N: usize> ClaimQueue<N> {
         Ok((ClaimQueue { table, first }, QueueEnd { seat }))
     }
 
-    /// A new end, which owns nothing. Both ends are to be joined again before the queue can be closed.
+    /// A new end, which has claimed and taken nothing. Both ends are to be joined again before the queue can be closed;
+    /// an end that is dropped can never be joined.
+    ///
+    /// Condition: the end has two parts or more of its queue's 2^64 - 1. The first end can be split a million times without
+    /// a join, and each of those ends twenty times in a chain.
     pub fn split(&self, end: &mut QueueEnd<N>) -> QueueEnd<N>
-        requires { IsEndOf self.now end.old }
+        requires queue { IsEndOf self.now end.old }
+        requires parts { IsDivisible end.old }
         ensures queue { IsSameEnd end.old end.new × AreOfOneQueue end.old result }
-        ensures split { Divided (view_of end.old) (view_of end.new) × Newborn (view_of end.new) (view_of result) }
+        ensures split { Divided (view_of end.old) (view_of end.new) }
+        ensures born { IsNewborn (view_of end.old) (view_of end.new) (view_of result) }
         ensures claims { KeepsClaims (view_of end.old) (view_of end.new) }
+        ensures lines { SameLines (view_of end.old) (view_of end.new) }
     {
         count_up(&self.table.shared, &mut end.seat);
         let seat = split_off(&self.table.shared, &mut end.seat);
         QueueEnd { seat }
     }
 
-    /// The first end then has all that the second had.
+    /// The first end then has all that both had: their claims, what they took, and their parts of the queue.
     pub fn join(&self, end: &mut QueueEnd<N>, other: QueueEnd<N>)
         requires { IsEndOf self.now end.old × IsEndOf self.now other }
         ensures queue { IsSameEnd end.old end.new }
         ensures joined { TookIn (view_of end.old) (view_of other.entry) (view_of end.new) }
         ensures claims { KeepsClaims (view_of end.old) (view_of end.new)
             × KeepsClaims (view_of other.entry) (view_of end.new) }
+        ensures lines { (lines_put (view_of end.new) ≡ lines_put (view_of end.old) ++ lines_put (view_of other.entry))
+            × (lines_taken (view_of end.new) ≡ lines_taken (view_of end.old) ++ lines_taken (view_of other.entry)) }
     {
         let QueueEnd { seat } = other;
         take_in::<Brand>(&self.table.shared, &mut end.seat, seat);

@@ -1,4 +1,32 @@
-//! A queue of `N` places in which ends claim runs of places by one exchange of the head, and take by one of the tail.
+//! A queue of `N` places in which ends claim runs of places by one exchange of the head, and take by one of the tail
+//! (Massalin and Pu 1991, the queues with many producers and many consumers).
+//!
+//! ```rust
+//! let (queue, mut taker) = ClaimQueue::<4>::new(rt.alloc(), 0)?;
+//! let mut putter = queue.split(&mut taker);
+//! assert_eq!(rt; queue.try_put(&mut putter, &[104, 105, 10]), Ok(0));
+//! let full = ClaimRefusal::Full { head: 3, tail: 0 };
+//! assert_eq!(rt; queue.try_put(&mut putter, &[33, 10]), Err(full));
+//! let mut line = ArrayVec::new();
+//! assert_eq!(rt; queue.try_take_line(&mut taker, &mut line), Ok(3));
+//! assert_eq!(rt; line.as_slice(), [104, 105, 10].as_slice());
+//! assert!(rt; queue.shut(&mut putter));
+//! assert_eq!(rt; queue.try_put(&mut putter, &[33]), Err(ClaimRefusal::Closed));
+//! assert_eq!(rt; queue.try_take(&mut taker), Err(TakeRefusal::Closed));
+//! queue.join(&mut taker, putter);
+//! let Ok(closed) = queue.close(taker) else { panic!(rt; "open ends") };
+//! assert_eq!(rt; (closed.put, closed.taken), (3, 3));
+//! ```
+//!
+//! `N` is 1 to 256. An item is a `u64`. A position is a place of the queue from its beginning on, and is used once: a queue
+//! takes 4,294,967,295 items less its first position, and is then Spent. The numbers in an answer are positions.
+//!
+//! Every end may put and take. No call but `put` waits, and none but `new` takes memory. `put` tries again where another end
+//! claimed first, and gives up for every other reason. A claim that is dropped before all of it is raised leaves its places
+//! unraised: nobody takes past them, and with N places claimed behind the tail every claim is Full. An end that is dropped
+//! is never joined, so the queue can't be closed any more; all else goes on.
+//!
+//! `ClaimRule`, `Shape` and `View` are for the proofs alone: they stand in the contracts of what the ends list.
 #![tactic(auto)]
 
 mod between;
@@ -17,8 +45,9 @@ mod thread_tests;
 
 pub use between::between_steps;
 pub use claim::{Claim, ClaimRefusal};
-pub use close::{Closed, OpenEnds};
+pub use close::Closed;
 pub use ends::{ClaimQueue, QueueEnd};
 pub use pause::{NoPause, Pause};
 pub use rule::{ClaimRule, Shape, View};
+pub use table_theory::OpenEnds;
 pub use take::TakeRefusal;

@@ -1,7 +1,7 @@
 //! What each step tells. These types are for the proofs alone.
 ghost use Rattle.std.specs.Prelude.{ℕ, List, []};
-ghost use Rattle.claim_queue.specs.Steps.{saw, claims, writes, takes, shuts, counts_up, counts_down, counts, halves};
-ghost use Rattle.claim_queue.specs.Steps.{rest_of, both};
+ghost use Rattle.claim_queue.specs.Steps.{finds, claims, writes, takes, shuts, counts_up, counts_down, counts};
+ghost use Rattle.claim_queue.specs.Steps.{rest_of, newborn, both};
 ghost use Rattle.claim_queue.specs.Rules.{newcomer};
 ghost use Rattle.claim_queue.specs.declared.rule.View.{View};
 
@@ -9,10 +9,19 @@ use crate::rule::View;
 use atomic_table::{Join, Play, Split};
 use std::marker::{Brand, PhantomData};
 
-pub struct Look;
+pub struct Finds;
 
-impl Play<(), View> for Look {
-    ghost then = { saw };
+impl Play<(), View> for Finds {
+    ghost then = { finds };
+}
+
+/// The number of the end that steps.
+pub trait Caller {
+    ghost call: { ℕ };
+}
+
+impl Caller for Brand {
+    ghost call = { 0 };
 }
 
 /// The items of a claim, and the number of the end that claims.
@@ -69,16 +78,20 @@ impl<J: Spot> Play<(), View> for StoresFlag<J> {
     ghost then = { writes J.call J.start J.index 2 };
 }
 
-pub struct Takes;
-
-impl Play<(), View> for Takes {
-    ghost then = { takes };
+pub struct Takes<J> {
+    marker: PhantomData<J>,
 }
 
-pub struct Shuts;
+impl<J: Caller> Play<(), View> for Takes<J> {
+    ghost then = { takes J.call };
+}
 
-impl Play<(), View> for Shuts {
-    ghost then = { shuts };
+pub struct Shuts<J> {
+    marker: PhantomData<J>,
+}
+
+impl<J: Caller> Play<(), View> for Shuts<J> {
+    ghost then = { shuts J.call };
 }
 
 pub struct CountsUp;
@@ -99,12 +112,12 @@ impl Play<(), View> for Counts {
     ghost then = { counts };
 }
 
-pub struct Halves;
+pub struct Gives;
 
-impl Split<View> for Halves {
+impl Split<View> for Gives {
     ghost left = { rest_of };
 
-    ghost right = { halves };
+    ghost right = { newborn };
 }
 
 /// The view of an end that was taken in.

@@ -2,17 +2,17 @@
 ghost use Rattle.std.specs.Prelude.{◌≡◌, ◌≢◌, ◌+◌, ◌-◌, ◌%◌, ◌<◌, ◌≤◌, ℕ, false, [], length, slice_index_or};
 ghost use mathlib.Core.Option.{some};
 ghost use lib.ListN.{get_elem?};
-ghost use Rattle.quaject_core.specs.declared.tables.Batch.{Batch};
-ghost use Rattle.quaject_core.specs.Listing.{number_of};
-ghost use Rattle.quaject_core.specs.Positioned.{blank, head_of, tail_of, item_at, written_at};
-ghost use Rattle.claim_queue.specs.Shown.{mark};
-ghost use Rattle.claim_queue.specs.Steps.{Saw, Claimed, Wrote, Took, Shut, CountedUp, CountedDown, Tallied};
-ghost use Rattle.claim_queue.specs.Steps.{rest_of, halves, both, emptied, IsSame};
-ghost use Rattle.claim_queue.specs.Answers.{Looked};
+ghost use Rattle.table_theory.specs.declared.queues.Batch.{Batch};
+ghost use Rattle.table_theory.specs.Listing.{number_of};
+ghost use Rattle.table_theory.specs.Positioned.{blank, head_of, tail_of, item_at, written_at};
+ghost use Rattle.table_theory.specs.Seating.{IsSame};
+ghost use Rattle.claim_queue.specs.Shown.{mark, head_word, tail_word, data_word, flag_word};
+ghost use Rattle.claim_queue.specs.Steps.{Found, Claimed, Wrote, Took, Shut, CountedUp, CountedDown, Tallied};
+ghost use Rattle.claim_queue.specs.Steps.{rest_of, newborn, both, emptied};
 
 use crate::plays::{
-    ClaimItems, Claims, Counts, CountsDown, CountsUp, Halves, Joins, Look, Shuts, Spent, Spot,
-    StoresData, StoresFlag, Takes,
+    Caller, ClaimItems, Claims, Counts, CountsDown, CountsUp, Finds, Gives, Joins, Shuts, Spent,
+    Spot, StoresData, StoresFlag, Takes,
 };
 use crate::rule::{ClaimRule, Shape, View};
 use atomic_table::{Seat, Shared};
@@ -30,15 +30,16 @@ pub(crate) const SHUT: u64 = 4_294_967_296;
 
 pub(crate) fn load(words: &Words, seat: &mut Seat<(), View>, word: usize) -> u64
     requires { (seat.old.table_id ≡ words.now.table_id) × (word < words.now.table_id.words) }
-    ensures { IsSame seat.old seat.new × (seat.new.me.1 ≡ seat.old.me.1) × Saw seat.old.me.0 word result seat.new.me.0 }
+    ensures { IsSame seat.old seat.new × (seat.new.me.1 ≡ seat.old.me.1)
+        × Found seat.old.me.0 word result seat.new.me.0 }
 {
-    words.load::<Look>(seat, word)
+    words.load::<Finds>(seat, word)
 }
 
 pub(crate) fn load_head(words: &Words, seat: &mut Seat<(), View>) -> u64
     requires { (seat.old.table_id ≡ words.now.table_id) × (3 ≤ words.now.table_id.words) }
     ensures queue { IsSame seat.old seat.new × (seat.new.me.1 ≡ seat.old.me.1) }
-    ensures seen { Looked seat.old.me.0 seat.new.me.0 }
+    ensures found { Found seat.old.me.0 head_word result seat.new.me.0 }
     ensures head { result ≡ head_of seat.new.me.0.part.queue + mark seat.new.me.0.part.queue.shut }
     ensures is_open { result < 4294967296 → seat.new.me.0.part.queue.shut ≡ false }
 {
@@ -48,7 +49,7 @@ pub(crate) fn load_head(words: &Words, seat: &mut Seat<(), View>) -> u64
 pub(crate) fn load_tail(words: &Words, seat: &mut Seat<(), View>) -> u64
     requires { (seat.old.table_id ≡ words.now.table_id) × (3 ≤ words.now.table_id.words) }
     ensures queue { IsSame seat.old seat.new × (seat.new.me.1 ≡ seat.old.me.1) }
-    ensures seen { Looked seat.old.me.0 seat.new.me.0 }
+    ensures found { Found seat.old.me.0 tail_word result seat.new.me.0 }
     ensures tail { result ≡ tail_of seat.new.me.0.part.queue }
     ensures small { result < 4294967296 }
 {
@@ -70,7 +71,7 @@ pub(crate) fn exchange_head<J: ClaimItems>(
     requires new { (new ≡ head + length items.now) × (new < 4294967296) }
     ensures queue { IsSame seat.old seat.new × (seat.new.me.1 ≡ seat.old.me.1) }
     ensures hit { result ≡ head → Claimed J.call seat.old.me.0 head J.items seat.new.me.0 }
-    ensures miss { result ≢ head → Looked seat.old.me.0 seat.new.me.0
+    ensures miss { result ≢ head → Found seat.old.me.0 head_word result seat.new.me.0
         × (result ≡ head_of seat.new.me.0.part.queue + mark seat.new.me.0.part.queue.shut) }
 {
     let _ = items;
@@ -95,7 +96,8 @@ pub(crate) fn store_data<J: Spot>(
         × (e.start ≡ J.start) × (J.index < length e.places) × ((slice_index_or e.places J.index blank).written < 2)
         × (item ≡ (slice_index_or e.places J.index blank).item) }
     ensures queue { IsSame seat.old seat.new × (seat.new.me.1 ≡ seat.old.me.1) }
-    ensures wrote { Wrote J.call seat.old.me.0 (number_of J.start seat.old.me.0.part.runs) J.index 1 seat.new.me.0 }
+    ensures wrote { Wrote J.call seat.old.me.0 (number_of J.start seat.old.me.0.part.runs) J.index 1
+        (data_word room (start + index)) item seat.new.me.0 }
 {
     let place = (start as usize + index) % room;
     words.store::<StoresData<J>>(seat, place + 3, item);
@@ -116,7 +118,8 @@ pub(crate) fn store_flag<J: Spot>(
         × (get_elem? seat.old.me.0.part.runs (number_of J.start seat.old.me.0.part.runs) ≡ some e)
         × (e.start ≡ J.start) × (J.index < length e.places) × ((slice_index_or e.places J.index blank).written ≡ 1) }
     ensures queue { IsSame seat.old seat.new × (seat.new.me.1 ≡ seat.old.me.1) }
-    ensures wrote { Wrote J.call seat.old.me.0 (number_of J.start seat.old.me.0.part.runs) J.index 2 seat.new.me.0 }
+    ensures wrote { Wrote J.call seat.old.me.0 (number_of J.start seat.old.me.0.part.runs) J.index 2
+        (flag_word room (start + index)) (start + index + 1) seat.new.me.0 }
 {
     let place = (start as usize + index) % room;
     words.store::<StoresFlag<J>>(seat, place + room + 3, start + index as u64 + 1);
@@ -128,7 +131,7 @@ pub(crate) fn load_flag(words: &Words, seat: &mut Seat<(), View>, room: usize, p
     requires near { (seat.old.me.0.part.queue.first ≤ position)
         × (position < tail_of seat.old.me.0.part.queue + room) × (position < 8589934592) }
     ensures queue { IsSame seat.old seat.new × (seat.new.me.1 ≡ seat.old.me.1) }
-    ensures seen { Looked seat.old.me.0 seat.new.me.0 }
+    ensures found { Found seat.old.me.0 (flag_word room position) result seat.new.me.0 }
     ensures raised { result ≡ position + 1
         → 2 ≤ written_at seat.new.me.0.part.queue (position - seat.new.me.0.part.queue.first) }
     ensures low { result ≢ position + 1 → tail_of seat.new.me.0.part.queue ≤ position
@@ -145,7 +148,7 @@ pub(crate) fn load_data(words: &Words, seat: &mut Seat<(), View>, room: usize, p
         × (position < tail_of seat.old.me.0.part.queue + room) × (position < 8589934592) }
     requires raised { 2 ≤ written_at seat.old.me.0.part.queue (position - seat.old.me.0.part.queue.first) }
     ensures queue { IsSame seat.old seat.new × (seat.new.me.1 ≡ seat.old.me.1) }
-    ensures seen { Looked seat.old.me.0 seat.new.me.0 }
+    ensures found { Found seat.old.me.0 (data_word room position) result seat.new.me.0 }
     ensures item { tail_of seat.new.me.0.part.queue ≤ position
         → result ≡ item_at seat.new.me.0.part.queue (position - seat.new.me.0.part.queue.first) }
 {
@@ -153,48 +156,57 @@ pub(crate) fn load_data(words: &Words, seat: &mut Seat<(), View>, room: usize, p
     load(words, seat, place + 3)
 }
 
-pub(crate) fn exchange_tail(words: &Words, seat: &mut Seat<(), View>, tail: u64, new: u64) -> u64
+pub(crate) fn exchange_tail<J: Caller>(
+    words: &Words,
+    seat: &mut Seat<(), View>,
+    tail: u64,
+    new: u64,
+) -> u64
     requires queue { (seat.old.table_id ≡ words.now.table_id) × (3 ≤ words.now.table_id.words) }
     requires live { 1 ≤ seat.old.me.0.ends }
+    requires call { J.call ≡ seat.old.id }
     requires new { (tail < new) × (seat.old.me.0.part.queue.first ≤ tail) }
     requires raised { (i : ℕ) → i < new - tail
         → 2 ≤ written_at seat.old.me.0.part.queue (tail - seat.old.me.0.part.queue.first + i) }
     ensures queue { IsSame seat.old seat.new × (seat.new.me.1 ≡ seat.old.me.1) }
-    ensures hit { result ≡ tail → Took seat.old.me.0 tail (new - tail) seat.new.me.0 }
-    ensures miss { result ≢ tail → Looked seat.old.me.0 seat.new.me.0 × (result ≡ tail_of seat.new.me.0.part.queue) }
+    ensures hit { result ≡ tail → Took J.call seat.old.me.0 tail (new - tail) seat.new.me.0 }
+    ensures miss { result ≢ tail → Found seat.old.me.0 tail_word result seat.new.me.0
+        × (result ≡ tail_of seat.new.me.0.part.queue) }
 {
-    words.compare_exchange::<Takes>(seat, TAIL, tail, new)
+    words.compare_exchange::<Takes<J>>(seat, TAIL, tail, new)
 }
 
-pub(crate) fn or_head(words: &Words, seat: &mut Seat<(), View>) -> u64
-    requires queue { (seat.old.table_id ≡ words.now.table_id) × (3 ≤ words.now.table_id.words) }
-    ensures queue { IsSame seat.old seat.new × (seat.new.me.1 ≡ seat.old.me.1) }
-    ensures shut { Shut seat.old.me.0 result seat.new.me.0 }
-{
-    words.fetch_or::<Shuts>(seat, HEAD, SHUT)
-}
-
-pub(crate) fn count_up(words: &Words, seat: &mut Seat<(), View>)
+pub(crate) fn or_head<J: Caller>(words: &Words, seat: &mut Seat<(), View>) -> u64
     requires queue { (seat.old.table_id ≡ words.now.table_id) × (3 ≤ words.now.table_id.words) }
     requires live { 1 ≤ seat.old.me.0.ends }
+    requires call { J.call ≡ seat.old.id }
     ensures queue { IsSame seat.old seat.new × (seat.new.me.1 ≡ seat.old.me.1) }
-    ensures counted { CountedUp seat.old.me.0 seat.new.me.0 }
+    ensures shut { Shut J.call seat.old.me.0 result seat.new.me.0 }
 {
-    words.fetch_add::<CountsUp>(seat, ENDS, 1);
+    words.fetch_or::<Shuts<J>>(seat, HEAD, SHUT)
 }
 
-pub(crate) fn count_down(words: &Words, seat: &mut Seat<(), View>)
+pub(crate) fn count_up(words: &Words, seat: &mut Seat<(), View>) -> u64
+    requires queue { (seat.old.table_id ≡ words.now.table_id) × (3 ≤ words.now.table_id.words) }
+    requires parts { seat.old.me.0.ends + 1 ≤ seat.old.me.0.share }
+    ensures queue { IsSame seat.old seat.new × (seat.new.me.1 ≡ seat.old.me.1) }
+    ensures counted { CountedUp seat.old.me.0 result seat.new.me.0 }
+{
+    words.fetch_add::<CountsUp>(seat, ENDS, 1)
+}
+
+pub(crate) fn count_down(words: &Words, seat: &mut Seat<(), View>) -> u64
     requires queue { (seat.old.table_id ≡ words.now.table_id) × (3 ≤ words.now.table_id.words) }
     requires live { 2 ≤ seat.old.me.0.ends }
     ensures queue { IsSame seat.old seat.new × (seat.new.me.1 ≡ seat.old.me.1) }
-    ensures counted { CountedDown seat.old.me.0 seat.new.me.0 }
+    ensures counted { CountedDown seat.old.me.0 result seat.new.me.0 }
 {
-    words.fetch_sub::<CountsDown>(seat, ENDS, 1);
+    words.fetch_sub::<CountsDown>(seat, ENDS, 1)
 }
 
 pub(crate) fn count(words: &Words, seat: &mut Seat<(), View>) -> u64
     requires queue { (seat.old.table_id ≡ words.now.table_id) × (3 ≤ words.now.table_id.words) }
-    requires live { 1 ≤ seat.old.me.0.ends }
+    requires live { seat.old.me.0.ends ≡ 1 }
     ensures queue { IsSame seat.old seat.new × (seat.new.me.1 ≡ seat.old.me.1) }
     ensures tallied { Tallied seat.old.me.0 result seat.new.me.0 }
 {
@@ -203,11 +215,11 @@ pub(crate) fn count(words: &Words, seat: &mut Seat<(), View>) -> u64
 
 pub(crate) fn split_off(words: &Words, seat: &mut Seat<(), View>) -> Seat<(), View>
     requires queue { (seat.old.table_id ≡ words.now.table_id) × (3 ≤ words.now.table_id.words) }
-    requires live { 2 ≤ seat.old.me.0.ends }
+    requires live { seat.old.me.0.ends ≡ 2 }
     ensures queue { IsSame seat.old seat.new × (result.table_id ≡ seat.old.table_id) }
-    ensures split { (seat.new.me ≡ (rest_of seat.old.me.0, seat.old.me.1)) × (result.me ≡ (halves seat.old.me.0, [])) }
+    ensures split { (seat.new.me ≡ (rest_of seat.old.me.0, seat.old.me.1)) × (result.me ≡ (newborn seat.old.me.0, [])) }
 {
-    words.split_seat::<Halves>(seat)
+    words.split_seat::<Gives>(seat)
 }
 
 pub(crate) fn take_in<J: Spent>(words: &Words, seat: &mut Seat<(), View>, other: Seat<(), View>)

@@ -1,22 +1,27 @@
-//! Takings.
-ghost use Rattle.std.specs.Prelude.{◌≡◌, ◌+◌, ◌-◌, ◌<◌, ◌≤◌, ◌∷◌, [], length, MatchResult, IsTrue, IsFalse};
-ghost use Rattle.quaject_core.specs.Positioned.{tail_of, written_at};
-ghost use Rattle.claim_queue.specs.Answers.{Looked};
-ghost use Rattle.claim_queue.specs.Takings.{TookItems, RefusedTake, RefusedLine, Scanned, NoEnd, IsLine};
+//! Takings: an end reads what is raised behind the tail, and takes it by one exchange of the tail.
+ghost use Rattle.std.specs.Prelude.{◌≡◌, ◌+◌, ◌-◌, ◌<◌, ◌≤◌, ◌∷◌, [], length, MatchResult, MatchBool, IsFalse};
+ghost use Rattle.table_theory.specs.Positioned.{tail_of, written_at};
+ghost use Rattle.claim_queue.specs.Claims.{KeepsClaims};
+ghost use Rattle.claim_queue.specs.Lines.{SameLines, TookLine};
+ghost use Rattle.claim_queue.specs.Takings.{TookItems, RefusedTake, Scanned, StoppedAt};
+ghost use Rattle.claim_queue.specs.Takings.{IsLine, IsBegun, IsOne, IsNone, IsRefusedAt};
+ghost use Rattle.claim_queue.specs.Reads.{HasFound};
 
 use crate::ends::{ClaimQueue, QueueEnd};
 use crate::pause::{NoPause, Pause};
 use crate::steps::{SHUT, exchange_tail, load_data, load_flag, load_head, load_tail};
 use arrayvec::ArrayVec;
+use std::marker::Brand;
 use thiserror::Error;
 
 /// Why nothing was taken.
 #[derive(Clone, Copy, Debug, PartialEq, Eq, Drop, Error)]
 pub enum TakeRefusal {
-    /// The place of this position was not raised, and up to it there was nothing to take.
+    /// The place of this position was not raised, and up to it there was nothing to take: no item, or no whole line. The
+    /// tail was found again after that, and the queue was open or had something left.
     #[error("nothing raised at {at}")]
     Empty { at: u32 },
-    /// Another end took first: this is the tail that was found.
+    /// Another end took first: this is the tail that was found, past the one that was loaded.
     #[error("lost, tail {tail}")]
     Lost { tail: u32 },
     /// The queue is shut, and all that was put is taken.
@@ -25,19 +30,23 @@ pub enum TakeRefusal {
 }
 
 impl<const N: usize> ClaimQueue<N> {
-    ghost use Rattle.claim_queue.specs.Handles.{view_of, first_of, IsEndOf, IsSameEnd, AreOfOneQueue};
+    ghost use Rattle.claim_queue.specs.Handles.{view_of, call_of, first_of, IsEndOf, IsSameEnd, AreOfOneQueue};
 
     /// One try to take the first item left.
     pub fn try_take(&self, end: &mut QueueEnd<N>) -> Result<u64, TakeRefusal>
         requires { IsEndOf self.now end.old }
         ensures queue { IsSameEnd end.old end.new }
-        ensures taken { MatchResult result (λ x. TookItems (view_of end.old) (x ∷ []) (view_of end.new))
-            (λ r. RefusedTake (view_of end.old) r (view_of end.new)) }
+        ensures taken { MatchResult result
+            (λ x. TookItems N (call_of end.old) (view_of end.old) (x ∷ []) (view_of end.new))
+            (λ r. RefusedTake IsNone IsOne N (view_of end.old) r (view_of end.new)) }
+        ensures others { KeepsClaims (view_of end.old) (view_of end.new) }
+        ensures lines { MatchResult result (λ x. TookLine (x ∷ []) (view_of end.old) (view_of end.new))
+            (λ r. SameLines (view_of end.old) (view_of end.new)) }
     {
         self.try_take_paused(end, &mut NoPause)
     }
 
-    /// `try_take`, with a pause before the exchange.
+    /// `try_take`, with a pause before the exchange, in which another end may step.
     pub fn try_take_paused<P: Pause>(
         &self,
         end: &mut QueueEnd<N>,
@@ -45,44 +54,59 @@ impl<const N: usize> ClaimQueue<N> {
     ) -> Result<u64, TakeRefusal>
         requires { IsEndOf self.now end.old }
         ensures queue { IsSameEnd end.old end.new }
-        ensures taken { MatchResult result (λ x. TookItems (view_of end.old) (x ∷ []) (view_of end.new))
-            (λ r. RefusedTake (view_of end.old) r (view_of end.new)) }
+        ensures taken { MatchResult result
+            (λ x. TookItems N (call_of end.old) (view_of end.old) (x ∷ []) (view_of end.new))
+            (λ r. RefusedTake IsNone IsOne N (view_of end.old) r (view_of end.new)) }
+        ensures others { KeepsClaims (view_of end.old) (view_of end.new) }
+        ensures lines { MatchResult result (λ x. TookLine (x ∷ []) (view_of end.old) (view_of end.new))
+            (λ r. SameLines (view_of end.old) (view_of end.new)) }
     {
         let tail = load_tail(&self.table.shared, &mut end.seat);
         let flag = load_flag(&self.table.shared, &mut end.seat, N, tail);
         if flag != tail + 1 {
-            let head = load_head(&self.table.shared, &mut end.seat);
-            if head == SHUT + tail {
-                return Err(TakeRefusal::Closed);
-            }
-            let now = load_tail(&self.table.shared, &mut end.seat);
-            if now != tail {
-                return Err(TakeRefusal::Lost { tail: now as u32 });
-            }
-            return Err(TakeRefusal::Empty { at: tail as u32 });
+            return Err(self.refusal_at(end, tail, tail));
         }
         let item = load_data(&self.table.shared, &mut end.seat, N, tail);
         pause.between();
-        let found = exchange_tail(&self.table.shared, &mut end.seat, tail, tail + 1);
+        let found = exchange_tail::<Brand>(&self.table.shared, &mut end.seat, tail, tail + 1);
         if found != tail {
             return Err(TakeRefusal::Lost { tail: found as u32 });
         }
         Ok(item)
     }
 
+    // Why nothing can be taken at this tail, where the place at `at` was found not raised.
+    fn refusal_at(&self, end: &mut QueueEnd<N>, tail: u64, at: u64) -> TakeRefusal
+        requires queue { IsEndOf self.now end.old }
+        requires small { (tail < 4294967296) × (at < 4294967296) }
+        ensures queue { IsSameEnd end.old end.new }
+        ensures why { IsRefusedAt (view_of end.old) tail at result (view_of end.new) }
+    {
+        let head = load_head(&self.table.shared, &mut end.seat);
+        if head == SHUT + tail {
+            return TakeRefusal::Closed;
+        }
+        let now = load_tail(&self.table.shared, &mut end.seat);
+        if now != tail {
+            return TakeRefusal::Lost { tail: now as u32 };
+        }
+        TakeRefusal::Empty { at: at as u32 }
+    }
+
     // Finds items from `tail` on, up to the end of a line. False where the next place was not raised.
     fn scan(&self, end: &mut QueueEnd<N>, tail: u64, line: &mut ArrayVec<u64, N>) -> bool
         requires queue { IsEndOf self.now end.old }
-        requires started { Scanned (view_of end.old) tail [] × (tail < 4294967296) }
-        requires looked { Looked (view_of end.old) (view_of end.old) }
+        requires started { HasFound (view_of end.old) tail [] × (tail < 4294967296) }
         requires empty { line.old.items ≡ [] }
         ensures queue { IsSameEnd end.old end.new }
-        ensures seen { Looked (view_of end.old) (view_of end.new) }
-        ensures found { Scanned (view_of end.new) tail line.new.items }
-        ensures line { IsTrue result → IsLine N line.new.items }
-        ensures low { IsFalse result → NoEnd line.new.items × (tail_of (view_of end.new).part.queue ≤ tail
+        ensures found { HasFound (view_of end.new) tail line.new.items }
+        ensures steps { MatchBool result
+            (Scanned N (view_of end.old) tail line.new.items (view_of end.new) × IsLine N line.new.items)
+            (StoppedAt N (view_of end.old) tail line.new.items (view_of end.new) × IsBegun N line.new.items) }
+        ensures short { IsFalse result → tail + length line.new.items < 4294967296 }
+        ensures low { IsFalse result → tail_of (view_of end.new).part.queue ≤ tail
             → written_at (view_of end.new).part.queue (tail + length line.new.items -
-            (view_of end.new).part.queue.first) < 2) }
+            (view_of end.new).part.queue.first) < 2 }
     {
         for i in 0..N {
             let position = tail + i as u64;
@@ -99,7 +123,11 @@ impl<const N: usize> ClaimQueue<N> {
         true
     }
 
-    /// One try to take a line: the items up to and with the first 10, or as many as there is room for.
+    /// One try to take a line: the items up to and with the first 10, or N raised items without one. They are appended to
+    /// `line`, and their number is the answer; where the try is refused the list stays empty. All of them come by one
+    /// exchange, so no other end's item lies between them.
+    ///
+    /// Condition: the list is empty.
     pub fn try_take_line(
         &self,
         end: &mut QueueEnd<N>,
@@ -109,25 +137,25 @@ impl<const N: usize> ClaimQueue<N> {
         requires empty { line.old.items ≡ [] }
         ensures queue { IsSameEnd end.old end.new }
         ensures taken { MatchResult result (λ n. (n ≡ length line.new.items) × IsLine N line.new.items
-            × TookItems (view_of end.old) line.new.items (view_of end.new)) (λ r. (line.new.items ≡ [])
-            × RefusedLine (view_of end.old) r (view_of end.new)) }
+            × TookItems N (call_of end.old) (view_of end.old) line.new.items (view_of end.new)) (λ r. (line.new.items ≡ [])
+            × RefusedTake (IsBegun N) (IsLine N) N (view_of end.old) r (view_of end.new)) }
+        ensures others { KeepsClaims (view_of end.old) (view_of end.new) }
+        ensures lines { MatchResult result (λ n. TookLine line.new.items (view_of end.old) (view_of end.new))
+            (λ r. SameLines (view_of end.old) (view_of end.new)) }
     {
         let tail = load_tail(&self.table.shared, &mut end.seat);
         if !self.scan(end, tail, line) {
             let at = tail + line.len() as u64;
             line.clear();
-            let head = load_head(&self.table.shared, &mut end.seat);
-            if head == SHUT + tail {
-                return Err(TakeRefusal::Closed);
-            }
-            let now = load_tail(&self.table.shared, &mut end.seat);
-            if now != tail {
-                return Err(TakeRefusal::Lost { tail: now as u32 });
-            }
-            return Err(TakeRefusal::Empty { at: at as u32 });
+            return Err(self.refusal_at(end, tail, at));
         }
         let count = line.len();
-        let found = exchange_tail(&self.table.shared, &mut end.seat, tail, tail + count as u64);
+        let found = exchange_tail::<Brand>(
+            &self.table.shared,
+            &mut end.seat,
+            tail,
+            tail + count as u64,
+        );
         if found != tail {
             line.clear();
             return Err(TakeRefusal::Lost { tail: found as u32 });

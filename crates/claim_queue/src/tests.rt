@@ -53,6 +53,44 @@ impl<'a> Pause for Shutting<'a> {
     }
 }
 
+/// In the pause, another end puts an item and shuts the queue.
+#[derive(Drop)]
+struct PuttingAndShutting<'a> {
+    queue: &'a Four,
+    end: QueueEnd<4>,
+    done: bool,
+    ghost of: { IsEndOf queue.now end },
+}
+
+impl<'a> Pause for PuttingAndShutting<'a> {
+    fn between(&mut self) {
+        let put = matches!(self.queue.try_put(&mut self.end, &[2]), Ok(1));
+        self.done = self.queue.shut(&mut self.end) && put;
+    }
+}
+
+// The example of the crate's first page.
+#[test]
+fn example(rt: HostRuntime) -> Result<(), Fail> {
+    let (queue, mut taker) = ClaimQueue::<4>::new(rt.alloc(), 0)?;
+    let mut putter = queue.split(&mut taker);
+    assert_eq!(rt; queue.try_put(&mut putter, &[104, 105, 10]), Ok(0));
+    let full = ClaimRefusal::Full { head: 3, tail: 0 };
+    assert_eq!(rt; queue.try_put(&mut putter, &[33, 10]), Err(full));
+    let mut line = ArrayVec::new();
+    assert_eq!(rt; queue.try_take_line(&mut taker, &mut line), Ok(3));
+    assert_eq!(rt; line.as_slice(), [104, 105, 10].as_slice());
+    assert!(rt; queue.shut(&mut putter));
+    assert_eq!(rt; queue.try_put(&mut putter, &[33]), Err(ClaimRefusal::Closed));
+    assert_eq!(rt; queue.try_take(&mut taker), Err(TakeRefusal::Closed));
+    queue.join(&mut taker, putter);
+    let Ok(closed) = queue.close(taker) else {
+        panic!(rt; "open ends")
+    };
+    assert_eq!(rt; (closed.put, closed.taken), (3, 3));
+    Ok(())
+}
+
 #[test]
 fn one_end_alone(rt: HostRuntime) -> Result<(), Fail> {
     let (queue, mut end) = Four::new(rt.alloc(), 0)?;
@@ -79,6 +117,26 @@ fn one_end_alone(rt: HostRuntime) -> Result<(), Fail> {
         queue.try_put(end, &[5]),
         Err(ClaimRefusal::Full { head: 9, tail: 5 })
     );
+    Ok(())
+}
+
+#[test]
+fn runs_that_never_fit(rt: HostRuntime) -> Result<(), Fail> {
+    let (queue, mut end) = Four::new(rt.alloc(), 0)?;
+    assert_eq!(rt; queue.try_put(&mut end, &[]), Err(ClaimRefusal::NoItems));
+    assert_eq!(rt;
+        queue.try_put(&mut end, &[1, 2, 3, 4, 5]),
+        Err(ClaimRefusal::TooLong)
+    );
+    assert_eq!(rt; queue.try_take(&mut end), Err(TakeRefusal::Empty { at: 0 }));
+    Ok(())
+}
+
+#[test]
+fn spent_before_full(rt: HostRuntime) -> Result<(), Fail> {
+    let (queue, mut end) = Four::new(rt.alloc(), 4_294_967_291)?;
+    assert_eq!(rt; queue.try_put(&mut end, &[1, 2, 3, 4]), Ok(4_294_967_291));
+    assert_eq!(rt; queue.try_put(&mut end, &[5]), Err(ClaimRefusal::Spent));
     Ok(())
 }
 
@@ -303,6 +361,29 @@ fn shut_in_the_pause(rt: HostRuntime) -> Result<(), Fail> {
     let answer = queue.try_claim_paused(&mut a, &[1], &mut held);
     assert!(rt; matches!(answer, Err(ClaimRefusal::Closed)));
     assert!(rt; held.done);
+    Ok(())
+}
+
+#[test]
+fn closed_when_all_is_taken(rt: HostRuntime) -> Result<(), Fail> {
+    let (queue, mut a) = Four::new(rt.alloc(), 0)?;
+    let b = queue.split(&mut a);
+    assert_eq!(rt; queue.try_put(&mut a, &[1]), Ok(0));
+    let mut held = PuttingAndShutting {
+        queue: &queue,
+        end: b,
+        done: false,
+    };
+    let answer = queue.try_take_paused(&mut a, &mut held);
+    assert_eq!(rt; answer, Ok(1));
+    assert!(rt; held.done);
+    assert_eq!(rt; queue.try_take(&mut a), Ok(2));
+    assert_eq!(rt; queue.try_take(&mut a), Err(TakeRefusal::Closed));
+    let mut line = ArrayVec::new();
+    assert_eq!(rt;
+        queue.try_take_line(&mut a, &mut line),
+        Err(TakeRefusal::Closed)
+    );
     Ok(())
 }
 

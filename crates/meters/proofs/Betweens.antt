@@ -19,7 +19,7 @@ shown_alarms : (m : Reading) (words : List ℕ) → WordsShow m words → map wo
 shown_alarms m words h = let sixteen = h.slots.sixteen in let wide = h.wide in let d = length-drop 10 words in let l = length-map m.slots word_of in same_number_lists (map word_of m.slots) (drop 10 words) (omega arith)
     (λ k b. get_or-map word_of m.slots k None 0 (omega arith) ∙ (sym (h.slots.each k (omega arith)) ∙ sym (get_or-drop 10 words k 0)))
 
-pub shows_meters : (key : Shape) (s : State Unit View) → Rule key s → ShowsMeters s
+pub shows_meters : (key : Shape) (s : State Unit View) → Rule key s → ShowsMeters key s
 shows_meters key s k = let m : Reading = k.meters in record {
   meters = meters_of m;
   lawful = k.lawful;
@@ -31,9 +31,12 @@ shows_meters key s k = let m : Reading = k.meters in record {
     fit = k.shows.slots.fit;
     alarms = shown_alarms m s.words k.shows;
     sums = k.listed.gauges;
+    advances = k.listed.advances;
     set = k.listed.set;
     fired = k.listed.fired;
     cancelled = k.listed.cancelled;
     once = λ a. (let x = k.lawful a in let f = k.listed.set a in let g = k.listed.fired a in let h = k.listed.cancelled a in omega arith);
   };
+  ends = (let e = k.shows.ends in let a = k.listed.splits in let b = k.listed.joins in omega arith);
+  counted = k.counted;
 }

@@ -1,5 +1,5 @@
 -- A word gives back the alarm that it was made of.
-use Rattle.std.proofs.Common.{◌≡◌, ◌≢◌, ℕ, ◌+◌, ◌*◌, ◌/◌, ◌%◌, ◌<◌, ◌≤◌, refl, sym, ap, ◌∙◌, arith, Option, Some, None}
+use Rattle.std.proofs.Common.{◌≡◌, ◌≢◌, ℕ, ◌+◌, ◌*◌, ◌/◌, ◌%◌, ◌<◌, refl, sym, ap, ◌∙◌, arith, Option, Some, None}
 use Rattle.quaject_core.specs.declared.alarm.Alarm.{Alarm}
 use Rattle.meters.specs.Words.{word_of, alarm_in, IsInRange, Fits}
 
@@ -9,9 +9,6 @@ parts s e d hs he hd = (omega arith, omega arith, omega arith)
 
 pub given_back : (alarm : Alarm) → IsInRange alarm → alarm_in (word_of (Some alarm)) ≡ alarm
 given_back alarm range = let p = parts alarm.signal alarm.element alarm.due range.signal range.element range.due in (λ i. record { due = p.0 i; element = p.1 i; signal = p.2 i })
-
-pub some_word : (alarm : Alarm) → 9223372036854775808 ≤ word_of (Some alarm)
-some_word alarm = omega arith
 
 pub no_word : (slot : Option Alarm) → word_of slot ≡ 0 → slot ≡ None
 no_word None e = refl

@@ -3,8 +3,8 @@ use Rattle.std.proofs.Common.{◌≡◌, ℕ, suc, zero, replicate, ◌+◌, ◌
 use Rattle.std.specs.List.{repeat}
 use Rattle.atomic_table.specs.Table.{opening}
 use Rattle.quaject_core.specs.declared.alarm.Alarm.{Alarm}
-use Rattle.quaject_core.specs.Counting.{EndsCounted}
-use Rattle.quaject_core.proofs.Counting.{counted_first}
+use Rattle.table_theory.specs.Sharing.{EndsCounted}
+use Rattle.table_theory.proofs.Counting.{counted_first}
 use Rattle.meters.specs.declared.rule.Shape.{Shape}
 use Rattle.meters.specs.declared.rule.View.{View}
 use Rattle.meters.specs.Changes.{first_reading, here}
@@ -22,9 +22,10 @@ all_zero zero j = refl
 all_zero (suc n) zero = refl
 all_zero (suc n) (suc j) = all_zero n j
 
-shows_first : (key : Shape) (words : List ℕ) → key.clock < 4294967296 → length words ≡ 26 → get_or words 9 0 ≡ key.clock → ((j : ℕ) → 0 < j → j ≢ 9 → get_or words j 0 ≡ 0) → WordsShow (first_reading key.clock) words
-shows_first key words small long clock rest = record {
+shows_first : (key : Shape) (words : List ℕ) → key.clock < 4294967296 → length words ≡ 26 → get_or words 0 0 ≡ 1 → get_or words 9 0 ≡ key.clock → ((j : ℕ) → 0 < j → j ≢ 9 → get_or words j 0 ≡ 0) → WordsShow (first_reading key.clock) words
+shows_first key words small long one clock rest = record {
   wide = long;
+  ends = omega arith;
   eight = refl;
   gauges = λ g b. rest (1 + g) (omega arith) (λ e. omega arith) ∙ sym (all_zero 8 g);
   clock = clock;
@@ -40,12 +41,15 @@ pub opens : (key : Shape) (words : List ℕ) → key.clock < 4294967296 → leng
 opens key words small long ends clock rest = let v : View = newcomer key in record {
   meters = first_reading key.clock;
   lawful = λ alarm. refl;
-  shows = shows_first key words small long clock rest;
+  shows = shows_first key words small long ends clock rest;
   listed = record {
     gauges = λ g b. all_zero 8 g;
+    advances = record { number = omega arith; once = λ t past upto. absurd (omega arith); never = λ t out. refl };
     set = λ a. refl;
     fired = λ a. refl;
     cancelled = λ a. refl;
+    splits = refl;
+    joins = refl;
     later = first_later (first_reading key.clock) v (here, here);
   };
   counted = subst (λ (c : ℕ). EndsCounted ends_of share_of IsIdle c (v ∷ [])) (sym ends) (counted_first ends_of share_of IsIdle v refl refl);

@@ -1,5 +1,5 @@
 -- What closing reads and tells.
-use Rattle.std.proofs.Common.{◌≡◌, ◌≢◌, ℕ, suc, zero, ◌+◌, ◌%◌, ◌<◌, ◌≤◌, cond, List, [], ◌∷◌, ◌++◌, take, drop, length, length-drop, length-take, get_or, get_or-drop, get_or-take, get_or-set_same, get_or-set_other, take-suc, set, sym, refl, ap, ◌∙◌, subst, arith, Option, Some, None, count_by}
+use Rattle.std.proofs.Common.{◌≡◌, ◌≢◌, ℕ, suc, zero, ◌+◌, ◌-◌, ◌%◌, ◌<◌, ◌≤◌, cond, List, [], ◌∷◌, ◌++◌, take, drop, length, length-drop, length-take, get_or, get_or-drop, get_or-take, get_or-set_same, get_or-set_other, take-suc, set, sym, refl, ap, ◌∙◌, subst, arith, Option, Some, None, count_by}
 use Rattle.std.proofs.lemmas.Grind.{same_number_lists}
 use Rattle.std.proofs.lemmas.List.Elements.{filter_map-append}
 use Rattle.std.proofs.lemmas.List.Sums.{sum_by-cons}
@@ -9,21 +9,22 @@ use native.Mathlib.Decide.{ℕ_discrete}
 use lib.ListN.{get_elem?}
 use Rattle.atomic_table.specs.Table.{Final, Seen}
 use Rattle.quaject_core.specs.declared.alarm.Alarm.{Alarm}
-use Rattle.quaject_core.specs.Counting.{EndsCounted}
 use Rattle.quaject_core.specs.Lawful.{is_alarm, stands}
-use Rattle.quaject_core.specs.Sharing.{IsWhole, total}
-use Rattle.quaject_core.proofs.Counting.{others_idle, whole_is_one, one_is_whole}
-use Rattle.quaject_core.proofs.Totals.{one_of, sole_total}
+use Rattle.table_theory.specs.Sharing.{IsWhole}
+use Rattle.table_theory.proofs.Counting.{others_idle}
 use Rattle.meters.specs.declared.rule.Reading.{Reading}
 use Rattle.meters.specs.declared.rule.Shape.{Shape}
 use Rattle.meters.specs.declared.rule.View.{View}
 use Rattle.meters.specs.Closings.{IsAllOf, ClosedNow, WereOpen}
 use Rattle.meters.specs.Rules.{Rule, ends_of, share_of, IsIdle}
-use Rattle.meters.specs.Steps.{looked, Tallied}
-use Rattle.meters.specs.Views.{amount_on, times}
+use Rattle.meters.specs.Steps.{Tallied}
+use Rattle.meters.specs.Changes.{IsLawful}
+use Rattle.meters.specs.Own.{own_of}
+use Rattle.meters.specs.Views.{ViewsShow, amount_on, times, times_to}
 use Rattle.meters.specs.Words.{word_of, Fits, SlotsShow, WordsShow, standing}
 use Rattle.meters.proofs.Betweens.{shown_gauges}
 use Rattle.meters.proofs.Following.{later_than}
+use Rattle.meters.proofs.Listed.{sole_listed}
 use Rattle.meters.proofs.Stepping.{St}
 
 pub read_word : (l : List ℕ) (i x : ℕ) → get_elem? l i ≡ maybe.some x → get_or l i 0 ≡ x
@@ -62,42 +63,41 @@ standing_times a [] = refl
 standing_times a (None ∷ xs) = standing_times a xs
 standing_times a (Some b ∷ xs) = sum_by-cons (λ x. cond (is_alarm a x) 1 0) b (standing xs) ∙ (ap (λ (n : ℕ). cond (is_alarm a b) 1 0 + n) (standing_times a xs) ∙ sym (sum_by-cons (λ x. cond (stands a x) 1 0) (Some b) xs))
 
--- the lists of an end beside which all are idle
-only : (key : Shape) (s : St) (k : Rule key s) (id : ℕ) (w : View) → get_elem? s.views id ≡ maybe.some w → IsWhole w.share → IsAllOf w k.meters.gauges (standing k.meters.slots)
-only key s k id w at whole = let idle : (i : ℕ) (u : View) → get_elem? s.views i ≡ maybe.some u → i ≢ id → IsIdle u = others_idle ends_of share_of IsIdle (get_or s.words 0 0) s.views id w k.counted at whole in
-    let sole : (f : View → ℕ) → ((u : View) → IsIdle u → f u ≡ 0) → total f s.views ≡ f w = λ f none. sole_total f s.views id w at (λ i u has ne. none u (idle i u has ne)) in record {
-      sums = λ g b. k.listed.gauges g b ∙ ap (λ (z : ℕ). z % 18446744073709551616) (sole (λ u. amount_on g u.ticks) (λ u z. ap (amount_on g) z.0));
-      once = λ a. (let x = k.lawful a in let p = k.listed.set a in let q = k.listed.fired a in let r = k.listed.cancelled a in let t = standing_times a k.meters.slots in
-          let p' = sole (λ u. times a u.set) (λ u z. ap (times a) z.1) in let q' = sole (λ u. times a u.fired) (λ u z. ap (times a) z.2) in let r' = sole (λ u. times a u.cancelled) (λ u z. ap (times a) z.3) in omega arith);
-    }
+-- what one end lists that lists all
+all_of : (first : ℕ) (m : Reading) (v : View) → IsLawful m → ViewsShow first m (v ∷ []) → IsAllOf v first m.gauges m.clock (standing m.slots)
+all_of first m v lawful h = record {
+  sums = λ g b. h.gauges g b ∙ ap (λ (z : ℕ). z % 18446744073709551616) (alone (amount_on g v.ticks));
+  number = h.advances.number ∙ ap (λ (z : ℕ). first + z) (alone (length v.advances));
+  each = λ t past upto. sym (alone (times_to t v.advances)) ∙ h.advances.once t past upto;
+  once = λ a. (let x = lawful a in let p = h.set a in let q = h.fired a in let r = h.cancelled a in let t = standing_times a m.slots in omega arith);
+}
+  where
+    alone : (n : ℕ) → n + 0 ≡ n
+    alone n = omega arith
 
-same_all : (v w : View) (m : Reading) (gauges : List ℕ) (alarms : List Alarm) → w ≡ looked v m → IsAllOf w gauges alarms → IsAllOf v gauges alarms
-same_all v w m gauges alarms same a = let z : IsAllOf (looked v m) gauges alarms = subst (λ (u : View). IsAllOf u gauges alarms) same a in record { sums = z.sums; once = z.once }
+same_all : (v : View) (first : ℕ) (gauges gauges' : List ℕ) (clock clock' : ℕ) (alarms alarms' : List Alarm) → gauges ≡ gauges' → clock ≡ clock' → alarms ≡ alarms' → IsAllOf v first gauges' clock' alarms' → IsAllOf v first gauges clock alarms
+same_all v first gauges gauges' clock clock' alarms alarms' e f g a = subst (λ z. IsAllOf v first z clock alarms) (sym e) (subst (λ z. IsAllOf v first gauges' z alarms) (sym f) (subst (λ z. IsAllOf v first gauges' clock' z) (sym g) a))
 
-pub closes : (key : Shape) (v w : View) (found id : ℕ) (ws : List ℕ) (xs : List Unit) (gauges : List ℕ) (clock : ℕ) (alarms : List Alarm) → v.ends ≡ 1 → Tallied v found w → found ≡ 1 → Final (Seen (Rule key) id w) ws xs
-    → gauges ≡ take 8 (drop 1 ws) → get_elem? ws 9 ≡ maybe.some clock → ((slots : List (Option Alarm)) → SlotsShow slots ws → alarms ≡ standing slots) → ClosedNow v gauges clock alarms
-closes key v w found id ws xs gauges clock alarms one t is fin read_gauges read_clock read_alarms =
+pub closes : (key : Shape) (v w : View) (found id : ℕ) (ws : List ℕ) (xs : List Unit) (gauges : List ℕ) (clock : ℕ) (alarms : List Alarm) → Tallied v found w → found ≡ 1 → Final (Seen (Rule key) id w) ws xs
+    → gauges ≡ take 8 (drop 1 ws) → get_elem? ws 9 ≡ maybe.some clock → ((slots : List (Option Alarm)) → SlotsShow slots ws → alarms ≡ standing slots) → ClosedNow key.clock v gauges clock alarms
+closes key v w found id ws xs gauges clock alarms t is fin read_gauges read_clock read_alarms =
     let s : St = fin.0 in let k = fin.1.0 in let m : Reading = k.meters in let shows : WordsShow m ws = subst (WordsShow m) fin.2 k.shows in let seen = k.listed.later id w fin.1.1 in
-    let gauges_is : gauges ≡ m.gauges = read_gauges ∙ sym (shown_gauges m ws shows) in let alarms_is : alarms ≡ standing m.slots = read_alarms m.slots shows.slots in
-    let counted : EndsCounted ends_of share_of IsIdle 1 t.views = subst (λ (n : ℕ). EndsCounted ends_of share_of IsIdle n t.views) is t.counted in record {
+    let gauges_is : gauges ≡ m.gauges = read_gauges ∙ sym (shown_gauges m ws shows) in let alarms_is : alarms ≡ standing m.slots = read_alarms m.slots shows.slots in let clock_is : clock ≡ m.clock = sym (read_word ws 9 clock read_clock) ∙ shows.clock in
+    let whole : IsWhole v.share = t.count.alone is in let still : IsWhole w.share = subst (λ (z : View). IsWhole z.share) (sym t.ends_found.same) whole in
+    let listed : ViewsShow key.clock m (v ∷ []) = sole_listed key.clock m s.views id v w k.listed fin.1.1 (others_idle ends_of share_of IsIdle (get_or s.words 0 0) s.views id w k.counted fin.1.1 still) (ap own_of t.ends_found.same) (later_than v w.seen m t.ends_found.later seen.0) in record {
+      whole = whole;
       last = m;
-      later = later_than v w.seen m t.later seen.0;
       lawful = k.lawful;
+      listed = listed;
       gauges_are = gauges_is;
-      clock_is = sym (read_word ws 9 clock read_clock) ∙ shows.clock;
+      clock_is = clock_is;
       alarms_are = alarms_is;
-      ends = record { views = t.views; seat = t.seat; here = t.here; counted = counted };
-      sole = λ fits. one_is_whole ends_of share_of IsIdle 1 t.views t.seat v counted t.here (omega arith) (let c = counted.counted in omega arith);
-      all = λ whole. same_all v w w.seen gauges alarms t.same (subst (λ z. IsAllOf w z alarms) (sym gauges_is) (subst (IsAllOf w m.gauges) (sym alarms_is) (only key s k id w fin.1.1 (subst (λ (z : View). IsWhole z.share) (sym t.same) whole))));
+      all = same_all v key.clock gauges m.gauges clock m.clock alarms (standing m.slots) gauges_is clock_is alarms_is (all_of key.clock m v k.lawful listed);
     }
 
-pub opens_none : (v w : View) (found : ℕ) → v.ends ≡ 1 → Tallied v found w → found ≢ 1 → WereOpen v ((found + 18446744073709551615) % 18446744073709551616) w
-opens_none v w found one t ne = let c = t.counted.counted in let some_end = one_of ends_of t.views t.seat v t.here in record {
-  same = t.same;
-  later = t.later;
-  lawful = t.lawful;
-  found = found;
-  ends = record { views = t.views; seat = t.seat; here = t.here; counted = t.counted };
-  not_whole = λ whole. (let sole = whole_is_one ends_of share_of IsIdle found t.views t.seat v t.counted t.here one whole in ne (omega arith));
-  others_are = λ fits. omega arith;
+pub were_open : (v w : View) (found : ℕ) → Tallied v found w → found ≢ 1 → WereOpen v (found - 1) w
+were_open v w found t ne = let some_end = t.count.some_end in let e : found ≡ found - 1 + 1 = omega arith in record {
+  tallied = subst (λ (z : ℕ). Tallied v z w) e t;
+  some_other = omega arith;
+  not_whole = λ whole. ne (t.count.whole whole);
 }

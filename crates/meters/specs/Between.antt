@@ -4,13 +4,15 @@ use Rattle.atomic_table.specs.Table.{State}
 use Rattle.quaject_core.specs.declared.alarm.Alarm.{Alarm}
 use Rattle.quaject_core.specs.Lawful.{IsLawfulMeters, stands}
 use Rattle.quaject_core.specs.Meters.{Meters}
-use Rattle.quaject_core.specs.Sharing.{total}
+use Rattle.table_theory.specs.Sharing.{total, EndsCounted}
+use Rattle.meters.specs.declared.rule.Shape.{Shape}
 use Rattle.meters.specs.declared.rule.View.{View}
-use Rattle.meters.specs.Views.{amount_on, times}
+use Rattle.meters.specs.Rules.{ends_of, share_of, IsIdle}
+use Rattle.meters.specs.Views.{AdvancesShow, amount_on, times}
 use Rattle.meters.specs.Words.{word_of, Fits}
 
 -- the words and the views show the meters
-pub record IsShown (s : State Unit View) (m : Meters) : Type 0 where
+pub record IsShown (key : Shape) (s : State Unit View) (m : Meters) : Type 0 where
   pub long : length s.words ≡ 26
   pub gauges : m.gauges ≡ take 8 (drop 1 s.words)
   pub clock : m.clock ≡ slice_index_or s.words 9 0
@@ -20,6 +22,8 @@ pub record IsShown (s : State Unit View) (m : Meters) : Type 0 where
   -- the gauges are the sums of the ticks that the ends list
   pub sums : (gauge : ℕ) → gauge < 8
       → slice_index_or m.gauges gauge 0 ≡ total (λ v. amount_on gauge v.ticks) s.views % 18446744073709551616
+  -- the clock was moved on as often as the ends list, once to each tick
+  pub advances : AdvancesShow key.clock m.clock s.views
   pub set : (alarm : Alarm) → times alarm m.set ≡ total (λ v. times alarm v.set) s.views
   pub fired : (alarm : Alarm) → times alarm m.fired ≡ total (λ v. times alarm v.fired) s.views
   pub cancelled : (alarm : Alarm) → times alarm m.cancelled ≡ total (λ v. times alarm v.cancelled) s.views
@@ -29,7 +33,11 @@ pub record IsShown (s : State Unit View) (m : Meters) : Type 0 where
       + count_by (stands alarm) m.slots
 
 -- there are lawful meters that are shown
-pub record ShowsMeters (s : State Unit View) : Type 0 where
+pub record ShowsMeters (key : Shape) (s : State Unit View) : Type 0 where
   pub meters : Meters
   pub lawful : IsLawfulMeters meters
-  pub shown : IsShown s meters
+  pub shown : IsShown key s meters
+  -- the word has the number of ends: one, one more by each split that they list, and one less by each join
+  pub ends : slice_index_or s.words 0 0 + total (λ v. v.joins) s.views ≡ total (λ v. v.splits) s.views + 1
+  -- each end that stands has its part of the share
+  pub counted : EndsCounted ends_of share_of IsIdle (slice_index_or s.words 0 0) s.views

@@ -1,5 +1,6 @@
 pub mod Words
 pub mod Changes
+pub mod Own
 pub mod Views
 pub mod Rules
 pub mod Steps

@@ -1,41 +1,44 @@
 -- The rule: there are lawful meters that the words and the views show.
 use Rattle.std.specs.Prelude.{◌≡◌, ℕ, [], slice_index_or}
-use Rattle.quaject_core.specs.declared.tables.Share.{Share}
-use Rattle.quaject_core.specs.Counting.{EndsCounted}
-use Rattle.quaject_core.specs.Sharing.{the_whole}
+use Rattle.table_theory.specs.Sharing.{the_whole, EndsCounted}
 use Rattle.atomic_table.specs.Table.{State}
 use Rattle.meters.specs.declared.rule.Reading.{Reading}
 use Rattle.meters.specs.declared.rule.Shape.{Shape}
 use Rattle.meters.specs.declared.rule.View.{View}
 use Rattle.meters.specs.Changes.{IsLawful, first_reading}
+use Rattle.meters.specs.Own.{own_of, nothing_own}
 use Rattle.meters.specs.Views.{ViewsShow}
-use Rattle.meters.specs.Words.{WordsShow}
+use Rattle.meters.specs.Words.{ends_word, WordsShow}
 
 abbrev pub ends_of : View → ℕ
 ends_of v = v.ends
 
-abbrev pub share_of : View → Share
+abbrev pub share_of : View → ℕ
 share_of v = v.share
 
--- a spent end lists nothing
+-- the end has nothing of its own
 abbrev pub IsIdle : View → Type 0
-IsIdle v = (v.ticks ≡ []) × (v.set ≡ []) × (v.fired ≡ []) × (v.cancelled ≡ [])
+IsIdle v = own_of v ≡ nothing_own
 
 pub record Rule (key : Shape) (s : State Unit View) : Type 0 where
   pub meters : Reading
   pub lawful : IsLawful meters
   pub shows : WordsShow meters s.words
-  pub listed : ViewsShow meters s.views
-  pub counted : EndsCounted ends_of share_of IsIdle (slice_index_or s.words 0 0) s.views
+  pub listed : ViewsShow key.clock meters s.views
+  pub counted : EndsCounted ends_of share_of IsIdle (slice_index_or s.words ends_word 0) s.views
 
 abbrev pub newcomer : Shape → View
 newcomer key = record {
   seen = first_reading key.clock;
   joined = first_reading key.clock;
   ticks = [];
+  advances = [];
   set = [];
   fired = [];
   cancelled = [];
+  splits = 0;
+  joins = 0;
   ends = 1;
   share = the_whole;
+  steps = [];
 }

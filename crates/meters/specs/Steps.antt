@@ -1,168 +1,205 @@
--- What each step tells its end.
+-- What each step tells its end. Each adds one entry to the end's list: the word's number, what was found there, and the
+-- meters as they were then.
 use Rattle.std.specs.Prelude.{◌≡◌, ◌≢◌, ◌+◌, ◌-◌, ℕ, List, [], ◌∷◌, ◌++◌, slice_index_or, Some, Ok}
-use mathlib.Core.Option.{some}
-use lib.ListN.{get_elem?}
 use Rattle.quaject_core.specs.declared.alarm.Alarm.{Alarm}
-use Rattle.quaject_core.specs.Counting.{EndsCounted}
-use Rattle.quaject_core.specs.Meters.{tick, advance, fire, cancel}
-use Rattle.quaject_core.specs.Sharing.{half, together, nothing}
+use Rattle.quaject_core.specs.Meters.{Meters, tick, advance, fire, cancel}
+use Rattle.table_theory.specs.Sharing.{given, kept, IsCount}
 use Rattle.atomic_table.specs.Table.{Me, Step}
-use Rattle.atomic_table.specs.declared.shared.Seat.{Seat}
 use Rattle.meters.specs.declared.rule.Reading.{Reading}
 use Rattle.meters.specs.declared.rule.View.{View}
-use Rattle.meters.specs.Changes.{meters_of, IsLawful, IsSet, in_slot}
-use Rattle.meters.specs.Rules.{ends_of, share_of, IsIdle}
+use Rattle.meters.specs.Changes.{meters_of, with_meters, with_split, with_join, IsLawful, IsSet, in_slot}
 use Rattle.meters.specs.Views.{Later}
-use Rattle.meters.specs.Words.{WordsShow, IsInRange, word_of}
+use Rattle.meters.specs.Words.{ends_word, gauge_word, clock_word, slot_word, WordsShow, IsEnds, IsInRange, word_of}
 
--- the view, with the meters as they are now
-abbrev pub looked : View → Reading → View
-looked v m = record v { seen = m; joined = m }
+-- the view after a step that found this number in this word, when the meters were so
+abbrev pub after : View → ℕ → ℕ → Reading → View
+after v word found m = record v {
+  seen = m;
+  joined = m;
+  steps = v.steps ++ record { word = word; found = found; then = m } ∷ [];
+}
 
--- A word was found, and the meters as they were at that step are known
-pub record Saw (v : View) (word found : ℕ) (w : View) : Type 0 where
-  pub same : w ≡ looked v w.seen
+-- the same, where the step made these meters of those
+abbrev pub changed : View → ℕ → ℕ → Reading → Meters → View
+changed v word found m new = record (after v word found m) { seen = with_meters m new; joined = with_meters m new }
+
+-- A number was found in a word, and nothing else changed for the end
+pub record Found (v : View) (word found : ℕ) (w : View) : Type 0 where
+  pub same : w ≡ after v word found w.seen
   pub later : Later v w.seen
   pub lawful : IsLawful w.seen
   pub words : List ℕ
   pub shows : WordsShow w.seen words
   pub is : found ≡ slice_index_or words word 0
 
-abbrev pub saw : Step Unit → Me Unit View → ℕ → Me Unit View → Type 0
-saw st m r m' = (m'.1 ≡ m.1) × Saw m.0 st.word r m'.0
+abbrev pub finds : Step Unit → Me Unit View → ℕ → Me Unit View → Type 0
+finds st m r m' = (m'.1 ≡ m.1) × Found m.0 st.word r m'.0
 
-abbrev pub IsSame : Seat Unit View → Seat Unit View → Type 0
-IsSame old new = (new.table_id ≡ old.table_id) × (new.id ≡ old.id)
-
--- one tick of the core, with the gauge's value before it
+-- the gauge was found at this number, and then one tick of the core was made
 pub record Ticked (v : View) (gauge amount found : ℕ) (w : View) : Type 0 where
   pub before : Reading
+  pub same : w ≡ record (changed v (gauge_word gauge) found before (meters_of w.seen)) {
+    ticks = v.ticks ++ record { gauge = gauge; amount = amount } ∷ [];
+  }
   pub later : Later v before
   pub lawful : IsLawful before
   pub is : found ≡ slice_index_or before.gauges gauge 0
   pub event : tick gauge amount (meters_of before) ≡ Ok (meters_of w.seen)
-  pub same : w ≡ record (looked v w.seen) { ticks = v.ticks ++ record { gauge = gauge; amount = amount } ∷ [] }
 
 abbrev pub ticks : Step Unit → Me Unit View → ℕ → Me Unit View → Type 0
-ticks st m r m' = (m'.1 ≡ m.1) × ((gauge : ℕ) → st.word ≡ 1 + gauge → Ticked m.0 gauge st.first r m'.0)
+ticks st m r m' =
+    (m'.1 ≡ m.1) × ((gauge : ℕ) → st.word ≡ gauge_word gauge → Ticked m.0 gauge st.first r m'.0)
 
--- the clock was moved on from this tick by one event of the core
+-- the clock was found at this tick, and moved on from it by one event of the core
 pub record Advanced (v : View) (clock : ℕ) (w : View) : Type 0 where
   pub before : Reading
+  pub same : w ≡ record (changed v clock_word clock before (meters_of w.seen)) {
+    advances = v.advances ++ (clock + 1) ∷ [];
+  }
   pub later : Later v before
   pub lawful : IsLawful before
   pub at : before.clock ≡ clock
   pub event : advance (meters_of before) ≡ Ok (meters_of w.seen)
-  pub same : w ≡ looked v w.seen
 
 abbrev pub advances : Step Unit → Me Unit View → ℕ → Me Unit View → Type 0
 advances st m r m' = (m'.1 ≡ m.1)
     × (r ≡ st.first → Advanced m.0 st.first m'.0)
-    × (r ≢ st.first → Saw m.0 st.word r m'.0)
+    × (r ≢ st.first → Found m.0 st.word r m'.0)
 
 -- it is the word of this slot, and these bits are this alarm's
 pub record IsWordOf (slot : ℕ) (alarm : Alarm) (word bits : ℕ) : Type 0 where
-  pub place : word ≡ 10 + slot
+  pub place : word ≡ slot_word slot
   pub range : IsInRange alarm
   pub bits_are : bits ≡ word_of (Some alarm)
 
--- the alarm was set in this slot by one event of the core
+-- the slot was found empty, and the alarm set in it by one event of the core
 pub record SetIn (v : View) (slot : ℕ) (alarm : Alarm) (w : View) : Type 0 where
   pub before : Reading
+  pub same : w ≡ record (changed v (slot_word slot) 0 before (meters_of w.seen)) { set = v.set ++ alarm ∷ [] }
   pub later : Later v before
   pub lawful : IsLawful before
   pub event : IsSet slot alarm before w.seen
-  pub same : w ≡ record (looked v w.seen) { set = v.set ++ alarm ∷ [] }
 
 abbrev pub sets : Step Unit → Me Unit View → ℕ → Me Unit View → Type 0
 sets st m r m' = (m'.1 ≡ m.1)
     × (r ≡ 0 → (slot : ℕ) (alarm : Alarm) → IsWordOf slot alarm st.word st.second → SetIn m.0 slot alarm m'.0)
-    × (r ≢ 0 → Saw m.0 st.word r m'.0)
+    × (r ≢ 0 → Found m.0 st.word r m'.0)
 
--- the alarm stood in this slot, and was taken out as fired by one event of the core
+-- the alarm was found in this slot, and taken out as fired by one event of the core
 pub record Fired (v : View) (slot : ℕ) (alarm : Alarm) (w : View) : Type 0 where
   pub before : Reading
+  pub same : w ≡ record (changed v (slot_word slot) (word_of (Some alarm)) before (meters_of w.seen)) {
+    fired = v.fired ++ alarm ∷ [];
+  }
   pub later : Later v before
   pub lawful : IsLawful before
   pub stood : in_slot before slot ≡ Some alarm
   pub event : fire slot (meters_of before) ≡ Ok (meters_of w.seen)
-  pub same : w ≡ record (looked v w.seen) { fired = v.fired ++ alarm ∷ [] }
 
 abbrev pub fires : Step Unit → Me Unit View → ℕ → Me Unit View → Type 0
 fires st m r m' = (m'.1 ≡ m.1)
     × (r ≡ st.first → (slot : ℕ) (alarm : Alarm) → IsWordOf slot alarm st.word st.first → Fired m.0 slot alarm m'.0)
-    × (r ≢ st.first → Saw m.0 st.word r m'.0)
+    × (r ≢ st.first → Found m.0 st.word r m'.0)
 
 -- the same, as cancelled
 pub record Cancelled (v : View) (slot : ℕ) (alarm : Alarm) (w : View) : Type 0 where
   pub before : Reading
+  pub same : w ≡ record (changed v (slot_word slot) (word_of (Some alarm)) before (meters_of w.seen)) {
+    cancelled = v.cancelled ++ alarm ∷ [];
+  }
   pub later : Later v before
   pub lawful : IsLawful before
   pub stood : in_slot before slot ≡ Some alarm
   pub event : cancel slot (meters_of before) ≡ Ok (meters_of w.seen)
-  pub same : w ≡ record (looked v w.seen) { cancelled = v.cancelled ++ alarm ∷ [] }
 
 abbrev pub cancels : Step Unit → Me Unit View → ℕ → Me Unit View → Type 0
 cancels st m r m' = (m'.1 ≡ m.1)
     × (r ≡ st.first → (slot : ℕ) (alarm : Alarm) → IsWordOf slot alarm st.word st.first → Cancelled m.0 slot alarm m'.0)
-    × (r ≢ st.first → Saw m.0 st.word r m'.0)
+    × (r ≢ st.first → Found m.0 st.word r m'.0)
 
--- the number of ends
-pub record CountedUp (v w : View) : Type 0 where
-  pub same : w ≡ record (looked v w.seen) { ends = v.ends + 1 }
-  pub later : Later v w.seen
-  pub lawful : IsLawful w.seen
+-- the view after the number of ends was found, and then one end more stood
+abbrev pub with_more : View → ℕ → Reading → View
+with_more v found m = record (after v ends_word found m) {
+  seen = with_split m;
+  joined = with_split m;
+  splits = v.splits + 1;
+  ends = v.ends + 1;
+}
 
-pub record CountedDown (v w : View) : Type 0 where
-  pub same : w ≡ record (looked v w.seen) { ends = v.ends - 1 }
-  pub later : Later v w.seen
-  pub lawful : IsLawful w.seen
+-- the same, where then one end less stood
+abbrev pub with_less : View → ℕ → Reading → View
+with_less v found m = record (after v ends_word found m) {
+  seen = with_join m;
+  joined = with_join m;
+  joins = v.joins + 1;
+  ends = v.ends - 1;
+}
 
--- the number of ends was found, and these were the views of all ends
+-- the number of ends was found, and made one more
+pub record CountedUp (v : View) (found : ℕ) (w : View) : Type 0 where
+  pub before : Reading
+  pub same : w ≡ with_more v found before
+  pub later : Later v before
+  pub lawful : IsLawful before
+  pub is : IsEnds before found
+
+-- the number of ends was found, and made one less
+pub record CountedDown (v : View) (found : ℕ) (w : View) : Type 0 where
+  pub before : Reading
+  pub same : w ≡ with_less v found before
+  pub later : Later v before
+  pub lawful : IsLawful before
+  pub is : IsEnds before found
+
+-- the number of ends was found: 1 exactly where this end has the whole
 pub record Tallied (v : View) (found : ℕ) (w : View) : Type 0 where
-  pub same : w ≡ looked v w.seen
-  pub later : Later v w.seen
-  pub lawful : IsLawful w.seen
-  pub views : List View
-  pub seat : ℕ
-  pub here : get_elem? views seat ≡ some v
-  pub counted : EndsCounted ends_of share_of IsIdle found views
+  pub ends_found : Found v ends_word found w
+  pub count : IsCount v.share found
 
 abbrev pub counts_up : Step Unit → Me Unit View → ℕ → Me Unit View → Type 0
-counts_up st m r m' = (m'.1 ≡ m.1) × CountedUp m.0 m'.0
+counts_up st m r m' = (m'.1 ≡ m.1) × CountedUp m.0 r m'.0
 
 abbrev pub counts_down : Step Unit → Me Unit View → ℕ → Me Unit View → Type 0
-counts_down st m r m' = (m'.1 ≡ m.1) × CountedDown m.0 m'.0
+counts_down st m r m' = (m'.1 ≡ m.1) × CountedDown m.0 r m'.0
 
 abbrev pub counts : Step Unit → Me Unit View → ℕ → Me Unit View → Type 0
 counts st m r m' = (m'.1 ≡ m.1) × Tallied m.0 r m'.0
 
 -- what a split leaves, and the new end's view
 abbrev pub rest_of : View → View
-rest_of v = record v { ends = v.ends - 1; share = half v.share }
+rest_of v = record v { ends = v.ends - 1; share = kept v.share }
 
-abbrev pub halves : View → View
-halves v = record {
+abbrev pub newborn : View → View
+newborn v = record {
   seen = v.seen;
   joined = v.joined;
   ticks = [];
+  advances = [];
   set = [];
   fired = [];
   cancelled = [];
+  splits = 0;
+  joins = 0;
   ends = 1;
-  share = half v.share;
+  share = given v.share;
+  steps = [];
 }
 
+-- the view of an end that took in an end with the view w
 abbrev pub both : View → View → View
 both v w = record {
   seen = v.seen;
   joined = w.seen;
   ticks = v.ticks ++ w.ticks;
+  advances = v.advances ++ w.advances;
   set = v.set ++ w.set;
   fired = v.fired ++ w.fired;
   cancelled = v.cancelled ++ w.cancelled;
+  splits = v.splits + w.splits;
+  joins = v.joins + w.joins;
   ends = v.ends + w.ends;
-  share = together v.share w.share;
+  share = v.share + w.share;
+  steps = v.steps ++ w.steps;
 }
 
 -- the view of an end that was taken in by an end with the view v
@@ -171,9 +208,13 @@ emptied v = record {
   seen = v.seen;
   joined = v.joined;
   ticks = [];
+  advances = [];
   set = [];
   fired = [];
   cancelled = [];
+  splits = 0;
+  joins = 0;
   ends = 0;
-  share = nothing;
+  share = 0;
+  steps = [];
 }

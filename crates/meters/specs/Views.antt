@@ -1,10 +1,11 @@
--- What the ends know.
-use Rattle.std.specs.Prelude.{◌≡◌, ℕ, ◌%◌, ◌==◌, ◌<◌, List, if◌then◌else◌, slice_index_or, sum_by, count_by}
+-- What the ends list together.
+use Rattle.std.specs.Prelude.{◌≡◌, ◌⊎◌, ℕ, ◌+◌, ◌%◌, ◌==◌, ◌<◌, ◌≤◌, List, if◌then◌else◌, length, slice_index_or}
+use Rattle.std.specs.Prelude.{sum_by, count_by}
 use mathlib.Core.Option.{some}
 use lib.ListN.{get_elem?}
 use Rattle.quaject_core.specs.declared.alarm.Alarm.{Alarm}
 use Rattle.quaject_core.specs.Lawful.{is_alarm}
-use Rattle.quaject_core.specs.Sharing.{total}
+use Rattle.table_theory.specs.Sharing.{total}
 use Rattle.meters.specs.declared.rule.Reading.{Reading}
 use Rattle.meters.specs.declared.rule.Tick.{Tick}
 use Rattle.meters.specs.declared.rule.View.{View}
@@ -18,15 +19,29 @@ amount_on gauge ticks = sum_by (λ tick. if tick.gauge == gauge then tick.amount
 abbrev pub times : Alarm → List Alarm → ℕ
 times alarm alarms = count_by (is_alarm alarm) alarms
 
+-- how often the clock was moved on to a tick
+abbrev pub times_to : ℕ → List ℕ → ℕ
+times_to tick clocks = count_by (λ clock. clock == tick) clocks
+
 -- these meters came after what the end has seen
 abbrev pub Later : View → Reading → Type 0
 Later v m = Leads v.seen m × Leads v.joined m
 
--- the ends together list each tick and each alarm that was set, fired and cancelled
-pub record ViewsShow (m : Reading) (views : List View) : Type 0 where
+-- The clock was moved on from the first one to this one by as many advances as the ends list, once to each tick
+pub record AdvancesShow (first clock : ℕ) (views : List View) : Type 0 where
+  pub number : clock ≡ first + total (λ v. length v.advances) views
+  pub once : (tick : ℕ) → first < tick → tick ≤ clock → total (λ v. times_to tick v.advances) views ≡ 1
+  pub never : (tick : ℕ) → (tick ≤ first) ⊎ (clock < tick) → total (λ v. times_to tick v.advances) views ≡ 0
+
+-- the ends together list each tick, each advance from the first clock on, each alarm set, fired and cancelled, and how
+-- often an end was split and joined
+pub record ViewsShow (first : ℕ) (m : Reading) (views : List View) : Type 0 where
   pub gauges : (gauge : ℕ) → gauge < 8
       → slice_index_or m.gauges gauge 0 ≡ total (λ v. amount_on gauge v.ticks) views % 18446744073709551616
+  pub advances : AdvancesShow first m.clock views
   pub set : (alarm : Alarm) → times alarm m.set ≡ total (λ v. times alarm v.set) views
   pub fired : (alarm : Alarm) → times alarm m.fired ≡ total (λ v. times alarm v.fired) views
   pub cancelled : (alarm : Alarm) → times alarm m.cancelled ≡ total (λ v. times alarm v.cancelled) views
+  pub splits : m.splits ≡ total (λ v. v.splits) views
+  pub joins : m.joins ≡ total (λ v. v.joins) views
   pub later : (seat : ℕ) (v : View) → get_elem? views seat ≡ some v → Later v m

@@ -1,7 +1,8 @@
 //! Alarms.
-ghost use Rattle.std.specs.Prelude.{◌≡◌, ◌<◌, ◌≤◌, MatchResult};
+ghost use Rattle.std.specs.Prelude.{◌≡◌, ◌<◌, ◌≤◌, MatchResult, MatchBool, MatchOption, [], ◌∷◌};
 ghost use Rattle.meters.specs.Handles.{view_of, IsSeatOf, IsSameSeat};
-ghost use Rattle.meters.specs.Answers.{SetNow, NotSet, CancelledNow, Gave, FiredNow, Looked};
+ghost use Rattle.meters.specs.Answers.{SetNow, NotSet, CancelledNow, Gave, FiredNow};
+ghost use Rattle.meters.specs.Own.{DidNothing, DidSet, DidCancel, DidFire};
 
 use crate::ends::{MeterSeat, Meters};
 use crate::steps::{
@@ -14,21 +15,25 @@ use thiserror::Error;
 /// Why an alarm was not set.
 #[derive(Clone, Copy, Debug, PartialEq, Eq, Drop, Error)]
 pub enum SetRefusal {
-    /// Each slot was seen taken.
+    /// Each of the 16 slots was loaded and found taken, one behind the other. They need not have been taken all at
+    /// once.
     #[error("no slot is empty")]
     NoRoom,
-    /// Another end took this slot first, which was seen empty.
+    /// Another end took this slot first, the first one that was found empty: the exchange found it taken.
     #[error("lost, slot {slot}")]
     Lost { slot: usize },
 }
 
 impl Meters {
-    /// One try to set an alarm, in the first of the 16 slots that is seen empty. Gives the slot.
+    /// One try to set an alarm: it loads the slots in order up to the first that is empty, and exchanges that one.
+    /// Gives the slot, 0 to 15, by which the alarm can be cancelled.
     pub fn try_set(&self, seat: &mut MeterSeat, alarm: Alarm) -> Result<usize, SetRefusal>
         requires { IsSeatOf self.now seat.old }
         ensures seat { IsSameSeat seat.old seat.new }
         ensures set { MatchResult result (λ slot. SetNow (view_of seat.old) slot alarm (view_of seat.new))
             (λ r. NotSet (view_of seat.old) r (view_of seat.new)) }
+        ensures own { MatchResult result (λ slot. DidSet alarm (view_of seat.old) (view_of seat.new))
+            (λ r. DidNothing (view_of seat.old) (view_of seat.new)) }
     {
         for slot in 0..SLOTS {
             if load_alarm(&self.table.shared, &mut seat.seat, slot).is_none() {
@@ -41,11 +46,14 @@ impl Meters {
         Err(SetRefusal::NoRoom)
     }
 
-    /// Takes this alarm out of this slot, 0 to 15, where it stands there. True where it did.
+    /// Takes this alarm out of this slot, 0 to 15, by one exchange. True where it stood there; else it was fired or
+    /// cancelled before, or never stood there. Two alarms that are equal cannot be told apart.
     pub fn cancel(&self, seat: &mut MeterSeat, slot: usize, alarm: Alarm) -> bool
         requires { IsSeatOf self.now seat.old × (slot < 16) }
         ensures seat { IsSameSeat seat.old seat.new }
         ensures cancelled { CancelledNow (view_of seat.old) slot alarm result (view_of seat.new) }
+        ensures own { MatchBool result (DidCancel alarm (view_of seat.old) (view_of seat.new))
+            (DidNothing (view_of seat.old) (view_of seat.new)) }
     {
         exchange_cancelled(&self.table.shared, &mut seat.seat, slot, alarm)
     }
@@ -55,6 +63,7 @@ impl Meters {
         requires { IsSeatOf self.now seat.old × (slot < 16) × (clock ≤ (view_of seat.old).seen.clock) }
         ensures seat { IsSameSeat seat.old seat.new }
         ensures gave { Gave (view_of seat.old) clock slot result (view_of seat.new) }
+        ensures clock { clock ≤ (view_of seat.new).seen.clock }
     {
         let alarm = load_alarm(&self.table.shared, &mut seat.seat, slot)?;
         let standing = alarm;
@@ -68,12 +77,14 @@ impl Meters {
         }
     }
 
-    /// Loads the clock, and then takes out each alarm that is due at it, slots in order. One that another call takes
-    /// first is passed over.
+    /// Loads the clock once, and then takes out each alarm that is due at it, slots in order: each slot is loaded, and
+    /// where an alarm stands there that is due, it is taken out by one exchange. One that another end takes first is
+    /// passed over.
     pub fn due(&self, seat: &mut MeterSeat) -> ArrayVec<Alarm, 16>
         requires { IsSeatOf self.now seat.old }
         ensures seat { IsSameSeat seat.old seat.new }
         ensures fired { FiredNow (view_of seat.old) result.items (view_of seat.new) }
+        ensures own { DidFire result.items (view_of seat.old) (view_of seat.new) }
     {
         let clock = load_clock(&self.table.shared, &mut seat.seat);
         let mut fired = ArrayVec::new();

@@ -12,8 +12,8 @@ ghost use Rattle.meters.specs.Between.{ShowsMeters};
 /// Whatever the rule holds of are lawful meters of the core, shown by the words and by what the ends list.
 ///
 /// Every atomic step of this crate keeps the rule, so it holds between any two steps, whoever makes them. And wherever
-/// events lead, the clock never goes down.
+/// the steps lead, the clock never goes down.
 pub fn between_steps()
-    ensures shown { (key : Shape) (state : State Unit View) → Rule key state → ShowsMeters state }
+    ensures shown { (key : Shape) (state : State Unit View) → Rule key state → ShowsMeters key state }
     ensures clock { (m n : Reading) → Leads m n → m.clock ≤ n.clock }
 {}

@@ -1,5 +1,5 @@
 //! Closing.
-ghost use Rattle.std.specs.Prelude.{◌≡◌, List, Option, take, drop, IfOk, IfErr};
+ghost use Rattle.std.specs.Prelude.{◌≡◌, List, Option, take, drop, IfOk, IfErr, MatchResult};
 ghost use Rattle.std.specs.Mem.Slots.{slots_items, slots_len, IsFull};
 ghost use Rattle.quaject_core.specs.declared.alarm.Alarm.{Alarm};
 ghost use Rattle.meters.specs.Words.{SlotsShow, standing};
@@ -12,7 +12,7 @@ use arrayvec::ArrayVec;
 use atomic_table::Closed;
 use quaject_core::Alarm;
 use std::alloc::Global;
-use thiserror::Error;
+use table_theory::OpenEnds;
 
 /// The meters at their end: the gauges, the clock, and the alarms that stand, in the order of their slots.
 #[derive(Drop)]
@@ -20,13 +20,6 @@ pub struct Metered {
     pub gauges: [u64; 8],
     pub clock: u32,
     pub alarms: ArrayVec<Alarm, 16>,
-}
-
-/// Ends that were made and not joined, and their number.
-#[derive(Clone, Copy, Debug, PartialEq, Eq, Drop, Error)]
-#[error("{others} other ends are not joined")]
-pub struct OpenEnds {
-    pub others: u64,
 }
 
 fn read_gauges(closed: &Closed<(), Global>) -> [u64; 8]
@@ -55,21 +48,22 @@ fn read_alarms(closed: &Closed<(), Global>) -> ArrayVec<Alarm, 16>
 }
 
 impl Meters {
-    ghost use Rattle.meters.specs.Handles.{view_of, IsSeatOf, AreOfOneTable};
+    ghost use Rattle.meters.specs.Handles.{view_of, first_of, IsSeatOf, IsOnlySeat, IsSameSeat};
 
-    /// Closes the meters where no other end stands unjoined. Else the meters and the end come back, and the number of
-    /// the others.
+    /// Closes the meters where every other end has been joined. Else the meters and the end come back, and the number
+    /// of the others. It takes no memory.
     pub fn close(self, seat: MeterSeat) -> Result<Metered, (Meters, MeterSeat, OpenEnds)>
         requires { IsSeatOf self seat }
-        ensures closed { IfOk result (λ c. ClosedNow (view_of seat) c.gauges c.clock c.alarms.items) }
-        ensures open { IfErr result (λ e. (e.0 ≡ self) × AreOfOneTable seat e.1
+        ensures closed { IfOk result
+            (λ c. ClosedNow (first_of self) (view_of seat) c.gauges c.clock c.alarms.items) }
+        ensures open { IfErr result (λ e. (e.0 ≡ self) × IsSameSeat seat e.1
             × WereOpen (view_of seat) e.2.others (view_of e.1)) }
+        ensures only { IsOnlySeat seat → MatchResult result (λ c. Unit {0}) (λ e. ⊥) }
     {
         let mut seat = seat;
         let ends = count(&self.table.shared, &mut seat.seat);
         if ends != 1 {
-            let others = ends.wrapping_sub(1);
-            return Err((self, seat, OpenEnds { others }));
+            return Err((self, seat, OpenEnds { others: ends - 1 }));
         }
         let MeterSeat { seat: last } = seat;
         let Meters { table } = self;

@@ -1,7 +1,8 @@
 //! The meters and their ends.
 ghost use Rattle.std.specs.Prelude.{◌≡◌, [], IfOk};
 ghost use Rattle.meters.specs.Rules.{newcomer};
-ghost use Rattle.meters.specs.Endings.{Divided, Newborn, TookIn};
+ghost use Rattle.meters.specs.Endings.{Divided, IsNewborn, TookIn};
+ghost use Rattle.meters.specs.Own.{DidSplit, DidBoth};
 
 use crate::rule::{MeterRule, Shape, View};
 use crate::steps::{CLOCK, ENDS, count_down, count_up, split_off, take_in};
@@ -11,6 +12,9 @@ use std::alloc::Global;
 use std::marker::Brand;
 
 /// 8 gauges, a clock, and 16 slots for alarms.
+///
+/// All calls but `new` and `close` take them through a `&`, so threads can share them; each thread steps with an end of
+/// its own. Each call is one atomic step, or a few, and never waits.
 #[derive(Drop)]
 pub struct Meters {
     pub(crate) table: Table<(), View, Shape, MeterRule, Global>,
@@ -18,6 +22,8 @@ pub struct Meters {
 }
 
 /// An end of the meters. It has no bytes.
+///
+/// An end that is dropped can never be joined, so the meters can then never be closed; what it did stays done.
 #[derive(Drop)]
 pub struct MeterSeat {
     pub(crate) seat: Seat<(), View>,
@@ -26,11 +32,12 @@ pub struct MeterSeat {
 }
 
 impl Meters {
-    ghost use Rattle.meters.specs.Handles.{view_of, IsSeatOf, IsSameSeat, AreOfOneTable};
+    ghost use Rattle.meters.specs.Handles.{view_of, first_of, IsDivisible, IsSeatOf, IsSameSeat, AreOfOneTable};
 
     /// Gauges at 0, the clock as told, no alarm, and the only end.
     pub fn new(alloc: Global, clock: u32) -> Result<(Meters, MeterSeat), OutOfMemory>
-        ensures { IfOk result (λ r. IsSeatOf r.0 r.1 × (view_of r.1 ≡ newcomer (record { clock = clock }))) }
+        ensures { IfOk result (λ r. IsSeatOf r.0 r.1 × (first_of r.0 ≡ clock)
+            × (view_of r.1 ≡ newcomer (record { clock = clock }))) }
     {
         let mut row = [0u64; 26];
         row[ENDS] = 1;
@@ -42,22 +49,29 @@ impl Meters {
         Ok((Meters { table }, MeterSeat { seat }))
     }
 
-    /// A new end, which owns nothing.
+    /// A new end, which has done nothing. Both ends are to be joined again before the meters can be closed.
+    ///
+    /// Condition: the end has two parts or more of its meters' 2^64 - 1. The first end can be split a million times
+    /// without a join, and each of those ends twenty times in a chain.
     pub fn split(&self, seat: &mut MeterSeat) -> MeterSeat
-        requires { IsSeatOf self.now seat.old }
+        requires seat { IsSeatOf self.now seat.old }
+        requires parts { IsDivisible seat.old }
         ensures seat { IsSameSeat seat.old seat.new × AreOfOneTable seat.old result }
-        ensures split { Divided (view_of seat.old) (view_of seat.new) × Newborn (view_of seat.new) (view_of result) }
+        ensures split { Divided (view_of seat.old) (view_of seat.new) }
+        ensures born { IsNewborn (view_of seat.old) (view_of seat.new) (view_of result) }
+        ensures own { DidSplit (view_of seat.old) (view_of seat.new) }
     {
         count_up(&self.table.shared, &mut seat.seat);
         let new = split_off(&self.table.shared, &mut seat.seat);
         MeterSeat { seat: new }
     }
 
-    /// The first end then has all that the second had.
+    /// The first end then has all that both had: what they did, and their parts of the meters.
     pub fn join(&self, seat: &mut MeterSeat, other: MeterSeat)
         requires { IsSeatOf self.now seat.old × IsSeatOf self.now other }
         ensures seat { IsSameSeat seat.old seat.new }
         ensures joined { TookIn (view_of seat.old) (view_of other) (view_of seat.new) }
+        ensures own { DidBoth (view_of seat.old) (view_of other) (view_of seat.new) }
     {
         let MeterSeat { seat: spent } = other;
         take_in::<Brand>(&self.table.shared, &mut seat.seat, spent);

@@ -3,38 +3,43 @@ ghost use Rattle.std.specs.Prelude.{◌≡◌, ◌<◌, MatchResult};
 ghost use Rattle.meters.specs.Handles.{view_of, IsSeatOf, IsSameSeat};
 ghost use Rattle.meters.specs.Steps.{Ticked};
 ghost use Rattle.meters.specs.Answers.{AdvancedNow, NotAdvanced};
+ghost use Rattle.meters.specs.Own.{DidNothing, DidTick, DidAdvance};
 
 use crate::ends::{MeterSeat, Meters};
 use crate::steps::{add_to_gauge, exchange_clock, load_clock};
 use thiserror::Error;
 
-/// Why the clock was not moved on.
+/// Why the clock was not moved on. The refusals stand in the order in which they are checked.
 #[derive(Clone, Copy, Debug, PartialEq, Eq, Drop, Error)]
 pub enum AdvanceRefusal {
-    /// The clock that was loaded is the last tick, 4,294,967,295.
+    /// The clock that was loaded is the last tick, 4,294,967,295. It stays there for good.
     #[error("no ticks left")]
     Spent,
-    /// Another end moved the clock on first: this is the clock that was found.
+    /// Another end moved the clock on first: the exchange found this clock, past the one that was loaded.
     #[error("lost, clock {clock}")]
     Lost { clock: u32 },
 }
 
 impl Meters {
-    /// Adds `amount` to the gauge 0 to 7, modulo 2^64, and gives its value before.
+    /// Adds `amount` to the gauge 0 to 7, modulo 2^64, by one step, and gives the gauge's value before.
     pub fn tick(&self, seat: &mut MeterSeat, gauge: usize, amount: u64) -> u64
         requires { IsSeatOf self.now seat.old × (gauge < 8) }
         ensures seat { IsSameSeat seat.old seat.new }
         ensures ticked { Ticked (view_of seat.old) gauge amount result (view_of seat.new) }
+        ensures own { DidTick gauge amount (view_of seat.old) (view_of seat.new) }
     {
         add_to_gauge(&self.table.shared, &mut seat.seat, gauge, amount)
     }
 
-    /// One try to move the clock on by one tick. Gives the clock after.
+    /// One try to move the clock on by one tick: it loads the clock and exchanges it for the next. Gives the clock
+    /// after.
     pub fn advance(&self, seat: &mut MeterSeat) -> Result<u32, AdvanceRefusal>
         requires { IsSeatOf self.now seat.old }
         ensures seat { IsSameSeat seat.old seat.new }
         ensures advanced { MatchResult result (λ clock. AdvancedNow (view_of seat.old) clock (view_of seat.new))
             (λ r. NotAdvanced (view_of seat.old) r (view_of seat.new)) }
+        ensures own { MatchResult result (λ clock. DidAdvance clock (view_of seat.old) (view_of seat.new))
+            (λ r. DidNothing (view_of seat.old) (view_of seat.new)) }
     {
         let clock = load_clock(&self.table.shared, &mut seat.seat);
         if clock == u64::from(u32::MAX) {

@@ -1,4 +1,8 @@
-//! Gauges, a clock and alarms that several threads share: each call is one atomic step, or a few.
+//! Gauges, a clock and alarms that several threads share: each call is one atomic step, or a few, and none waits.
+//!
+//! `Meters::new` gives the meters and their first end. Each thread steps with an end of its own, made by `split`, and
+//! the contracts speak of what an end knows: what it did, and every step that it made with the number that it found
+//! there. Once every other end is joined, `close` gives the gauges, the clock and the alarms that are left.
 //!
 //! Gauges and alarms follow Massalin (1992). What each does here is said by the meters of `quaject_core`.
 #![tactic(auto)]
@@ -19,9 +23,10 @@ mod word;
 
 pub use alarms::SetRefusal;
 pub use between::between_steps;
-pub use close::{Metered, OpenEnds};
+pub use close::Metered;
 pub use ends::{MeterSeat, Meters};
 pub use gauges::AdvanceRefusal;
 pub use quaject_core::Alarm;
 pub use rule::{MeterRule, Reading, Shape, Tick, View};
+pub use table_theory::OpenEnds;
 pub use word::AlarmWord;

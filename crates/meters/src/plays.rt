@@ -1,6 +1,6 @@
 //! What each step tells. These types are for the proofs alone.
-ghost use Rattle.meters.specs.Steps.{saw, ticks, advances, sets, fires, cancels, counts_up, counts_down, counts};
-ghost use Rattle.meters.specs.Steps.{rest_of, halves, both};
+ghost use Rattle.meters.specs.Steps.{finds, ticks, advances, sets, fires, cancels, counts_up, counts_down, counts};
+ghost use Rattle.meters.specs.Steps.{rest_of, newborn, both};
 ghost use Rattle.meters.specs.Rules.{newcomer};
 ghost use Rattle.meters.specs.declared.rule.View.{View};
 
@@ -8,10 +8,10 @@ use crate::rule::View;
 use atomic_table::{Join, Play, Split};
 use std::marker::{Brand, PhantomData};
 
-pub struct Look;
+pub struct Finds;
 
-impl Play<(), View> for Look {
-    ghost then = { saw };
+impl Play<(), View> for Finds {
+    ghost then = { finds };
 }
 
 pub struct Ticks;
@@ -62,12 +62,12 @@ impl Play<(), View> for Counts {
     ghost then = { counts };
 }
 
-pub struct Halves;
+pub struct Gives;
 
-impl Split<View> for Halves {
+impl Split<View> for Gives {
     ghost left = { rest_of };
 
-    ghost right = { halves };
+    ghost right = { newborn };
 }
 
 /// The view of an end that was taken in.

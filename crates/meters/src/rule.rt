@@ -1,8 +1,9 @@
-//! The rule of the table.
+//! The rule of the table. Its types are for the proofs alone: no program makes a value of them but the meters
+//! themselves.
 use atomic_table::TableRule;
 use quaject_core::Alarm;
-use quaject_core::tables::Share;
 use std::collections::LinkedList;
+use table_theory::views::Entry;
 
 /// What the rule is told when the table is made: the clock then.
 #[derive(Drop)]
@@ -16,8 +17,8 @@ pub struct Tick {
     pub amount: u64,
 }
 
-/// The meters at one step: the gauges, the clock, what stands in each slot, and all alarms that were set, fired and
-/// cancelled up to then. No value of it is made.
+/// The meters at one step: the gauges, the clock, what stands in each slot, all alarms that were set, fired and
+/// cancelled up to then, and how often an end was split and joined up to then.
 pub struct Reading {
     pub gauges: LinkedList<u64>,
     pub clock: u64,
@@ -25,19 +26,26 @@ pub struct Reading {
     pub set: LinkedList<Alarm>,
     pub fired: LinkedList<Alarm>,
     pub cancelled: LinkedList<Alarm>,
+    pub splits: u64,
+    pub joins: u64,
 }
 
-/// What an end knows: the meters at its last step, the meters as an end that it joined had seen them, its own ticks
-/// and the alarms that it set, fired and cancelled. No value of it is made.
+/// What an end knows: the meters at its last step, the meters as an end that it joined had seen them, its own ticks,
+/// the ticks that it moved the clock on to, the alarms that it set, fired and cancelled, how often it was split and
+/// took in another end, how many of the ends counted it is and its share of the meters, and every step that it made.
 pub struct View {
     pub seen: Reading,
     pub joined: Reading,
     pub ticks: LinkedList<Tick>,
+    pub advances: LinkedList<u64>,
     pub set: LinkedList<Alarm>,
     pub fired: LinkedList<Alarm>,
     pub cancelled: LinkedList<Alarm>,
+    pub splits: u64,
+    pub joins: u64,
     pub ends: u64,
-    pub share: Share,
+    pub share: u64,
+    pub steps: LinkedList<Entry<Reading>>,
 }
 
 pub struct MeterRule;

@@ -1,11 +1,13 @@
 //! The atomic steps, one function for each kind.
-ghost use Rattle.std.specs.Prelude.{◌≡◌, ◌≢◌, ◌+◌, ◌<◌, ◌≤◌, [], slice_index_or, IsTrue, IsFalse, Some, None};
-ghost use Rattle.meters.specs.Steps.{Saw, Ticked, Advanced, SetIn, Fired, Cancelled, CountedUp, CountedDown, Tallied};
-ghost use Rattle.meters.specs.Steps.{rest_of, halves, both, emptied, IsSame};
-ghost use Rattle.meters.specs.Answers.{Looked};
+ghost use Rattle.std.specs.Prelude.{◌≡◌, ◌≢◌, ◌+◌, ◌<◌, ◌≤◌, [], IsTrue, IsFalse};
+ghost use Rattle.table_theory.specs.Seating.{IsSame};
+ghost use Rattle.meters.specs.Steps.{Found, Ticked, Advanced, SetIn, Fired, Cancelled, CountedUp, CountedDown, Tallied};
+ghost use Rattle.meters.specs.Steps.{rest_of, newborn, both, emptied};
+ghost use Rattle.meters.specs.Answers.{FoundIn, FoundTaken, FoundOther};
+ghost use Rattle.meters.specs.Words.{clock_word};
 
 use crate::plays::{
-    Advances, Cancels, Counts, CountsDown, CountsUp, Fires, Halves, Joins, Look, Sets, Spent, Ticks,
+    Advances, Cancels, Counts, CountsDown, CountsUp, Finds, Fires, Gives, Joins, Sets, Spent, Ticks,
 };
 use crate::rule::{MeterRule, Shape, View};
 use crate::word::AlarmWord;
@@ -28,15 +30,16 @@ pub(crate) const SLOTS: usize = 16;
 
 pub(crate) fn load(words: &Words, seat: &mut Seat<(), View>, word: usize) -> u64
     requires { (seat.old.table_id ≡ words.now.table_id) × (word < words.now.table_id.words) }
-    ensures { IsSame seat.old seat.new × (seat.new.me.1 ≡ seat.old.me.1) × Saw seat.old.me.0 word result seat.new.me.0 }
+    ensures { IsSame seat.old seat.new × (seat.new.me.1 ≡ seat.old.me.1)
+        × Found seat.old.me.0 word result seat.new.me.0 }
 {
-    words.load::<Look>(seat, word)
+    words.load::<Finds>(seat, word)
 }
 
 pub(crate) fn load_clock(words: &Words, seat: &mut Seat<(), View>) -> u64
     requires { (seat.old.table_id ≡ words.now.table_id) × (26 ≤ words.now.table_id.words) }
     ensures seat { IsSame seat.old seat.new × (seat.new.me.1 ≡ seat.old.me.1) }
-    ensures seen { Looked seat.old.me.0 seat.new.me.0 }
+    ensures found { Found seat.old.me.0 clock_word result seat.new.me.0 }
     ensures clock { result ≡ seat.new.me.0.seen.clock }
     ensures small { result < 4294967296 }
 {
@@ -46,8 +49,7 @@ pub(crate) fn load_clock(words: &Words, seat: &mut Seat<(), View>) -> u64
 pub(crate) fn load_alarm(words: &Words, seat: &mut Seat<(), View>, slot: usize) -> Option<Alarm>
     requires { (seat.old.table_id ≡ words.now.table_id) × (26 ≤ words.now.table_id.words) × (slot < 16) }
     ensures seat { IsSame seat.old seat.new × (seat.new.me.1 ≡ seat.old.me.1) }
-    ensures seen { Looked seat.old.me.0 seat.new.me.0 }
-    ensures alarm { result ≡ slice_index_or seat.new.me.0.seen.slots slot None }
+    ensures found { FoundIn seat.old.me.0 slot result seat.new.me.0 }
 {
     AlarmWord::from_bits(load(words, seat, ALARMS + slot)).alarm()
 }
@@ -72,7 +74,8 @@ pub(crate) fn exchange_clock(words: &Words, seat: &mut Seat<(), View>, clock: u6
     requires below { clock < 4294967295 }
     ensures seat { IsSame seat.old seat.new × (seat.new.me.1 ≡ seat.old.me.1) }
     ensures hit { result ≡ clock → Advanced seat.old.me.0 clock seat.new.me.0 }
-    ensures miss { result ≢ clock → Looked seat.old.me.0 seat.new.me.0 × (result ≡ seat.new.me.0.seen.clock) }
+    ensures miss { result ≢ clock → Found seat.old.me.0 clock_word result seat.new.me.0
+        × (result ≡ seat.new.me.0.seen.clock) }
     ensures small { result < 4294967296 }
 {
     words.compare_exchange::<Advances>(seat, CLOCK, clock, clock + 1)
@@ -89,8 +92,7 @@ pub(crate) fn exchange_in(
     requires live { 1 ≤ seat.old.me.0.ends }
     ensures seat { IsSame seat.old seat.new × (seat.new.me.1 ≡ seat.old.me.1) }
     ensures hit { IsTrue result → SetIn seat.old.me.0 slot alarm seat.new.me.0 }
-    ensures miss { IsFalse result → Looked seat.old.me.0 seat.new.me.0
-        × (slice_index_or seat.new.me.0.seen.slots slot None ≢ None) }
+    ensures miss { IsFalse result → FoundTaken seat.old.me.0 slot seat.new.me.0 }
 {
     let word = AlarmWord::of(alarm).bits();
     words.compare_exchange::<Sets>(seat, ALARMS + slot, 0, word) == 0
@@ -108,8 +110,7 @@ pub(crate) fn exchange_fired(
     requires due { alarm.due ≤ seat.old.me.0.seen.clock }
     ensures seat { IsSame seat.old seat.new × (seat.new.me.1 ≡ seat.old.me.1) }
     ensures hit { IsTrue result → Fired seat.old.me.0 slot alarm seat.new.me.0 }
-    ensures miss { IsFalse result → Looked seat.old.me.0 seat.new.me.0
-        × (slice_index_or seat.new.me.0.seen.slots slot None ≢ Some alarm) }
+    ensures miss { IsFalse result → FoundOther seat.old.me.0 slot alarm seat.new.me.0 }
 {
     let word = AlarmWord::of(alarm).bits();
     words.compare_exchange::<Fires>(seat, ALARMS + slot, word, 0) == word
@@ -126,33 +127,33 @@ pub(crate) fn exchange_cancelled(
     requires live { 1 ≤ seat.old.me.0.ends }
     ensures seat { IsSame seat.old seat.new × (seat.new.me.1 ≡ seat.old.me.1) }
     ensures hit { IsTrue result → Cancelled seat.old.me.0 slot alarm seat.new.me.0 }
-    ensures miss { IsFalse result → Looked seat.old.me.0 seat.new.me.0
-        × (slice_index_or seat.new.me.0.seen.slots slot None ≢ Some alarm) }
+    ensures miss { IsFalse result → FoundOther seat.old.me.0 slot alarm seat.new.me.0 }
 {
     let word = AlarmWord::of(alarm).bits();
     words.compare_exchange::<Cancels>(seat, ALARMS + slot, word, 0) == word
 }
 
-pub(crate) fn count_up(words: &Words, seat: &mut Seat<(), View>)
+pub(crate) fn count_up(words: &Words, seat: &mut Seat<(), View>) -> u64
     requires seat { (seat.old.table_id ≡ words.now.table_id) × (26 ≤ words.now.table_id.words) }
-    requires live { 1 ≤ seat.old.me.0.ends }
+    requires parts { seat.old.me.0.ends + 1 ≤ seat.old.me.0.share }
     ensures seat { IsSame seat.old seat.new × (seat.new.me.1 ≡ seat.old.me.1) }
-    ensures counted { CountedUp seat.old.me.0 seat.new.me.0 }
+    ensures counted { CountedUp seat.old.me.0 result seat.new.me.0 }
 {
-    words.fetch_add::<CountsUp>(seat, ENDS, 1);
+    words.fetch_add::<CountsUp>(seat, ENDS, 1)
 }
 
-pub(crate) fn count_down(words: &Words, seat: &mut Seat<(), View>)
+pub(crate) fn count_down(words: &Words, seat: &mut Seat<(), View>) -> u64
     requires seat { (seat.old.table_id ≡ words.now.table_id) × (26 ≤ words.now.table_id.words) }
     requires live { 2 ≤ seat.old.me.0.ends }
     ensures seat { IsSame seat.old seat.new × (seat.new.me.1 ≡ seat.old.me.1) }
-    ensures counted { CountedDown seat.old.me.0 seat.new.me.0 }
+    ensures counted { CountedDown seat.old.me.0 result seat.new.me.0 }
 {
-    words.fetch_sub::<CountsDown>(seat, ENDS, 1);
+    words.fetch_sub::<CountsDown>(seat, ENDS, 1)
 }
 
 pub(crate) fn count(words: &Words, seat: &mut Seat<(), View>) -> u64
-    requires { (seat.old.table_id ≡ words.now.table_id) × (26 ≤ words.now.table_id.words) }
+    requires seat { (seat.old.table_id ≡ words.now.table_id) × (26 ≤ words.now.table_id.words) }
+    requires one { seat.old.me.0.ends ≡ 1 }
     ensures seat { IsSame seat.old seat.new × (seat.new.me.1 ≡ seat.old.me.1) }
     ensures tallied { Tallied seat.old.me.0 result seat.new.me.0 }
 {
@@ -161,11 +162,11 @@ pub(crate) fn count(words: &Words, seat: &mut Seat<(), View>) -> u64
 
 pub(crate) fn split_off(words: &Words, seat: &mut Seat<(), View>) -> Seat<(), View>
     requires seat { (seat.old.table_id ≡ words.now.table_id) × (26 ≤ words.now.table_id.words) }
-    requires live { 2 ≤ seat.old.me.0.ends }
+    requires two { seat.old.me.0.ends ≡ 2 }
     ensures seat { IsSame seat.old seat.new × (result.table_id ≡ seat.old.table_id) }
-    ensures split { (seat.new.me ≡ (rest_of seat.old.me.0, seat.old.me.1)) × (result.me ≡ (halves seat.old.me.0, [])) }
+    ensures split { (seat.new.me ≡ (rest_of seat.old.me.0, seat.old.me.1)) × (result.me ≡ (newborn seat.old.me.0, [])) }
 {
-    words.split_seat::<Halves>(seat)
+    words.split_seat::<Gives>(seat)
 }
 
 pub(crate) fn take_in<J: Spent>(words: &Words, seat: &mut Seat<(), View>, other: Seat<(), View>)

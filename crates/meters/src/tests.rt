@@ -1,5 +1,10 @@
+ghost use Rattle.std.specs.Prelude.{◌≡◌, IfOk, slice_index_or};
+ghost use Rattle.quaject_core.specs.declared.alarm.Alarm.{Alarm};
+ghost use Rattle.meters.specs.Views.{times};
+
 use super::*;
 use quaject_core::{Element, OutOfMemory, Signal};
+use std::alloc::Global;
 use std::test::*;
 
 fn alarm_at(due: u32, element: u8, signal: u8) -> Option<Alarm> {
@@ -8,6 +13,31 @@ fn alarm_at(due: u32, element: u8, signal: u8) -> Option<Alarm> {
         element: Element::new(element)?,
         signal: Signal::new(signal)?,
     })
+}
+
+/// What a client can prove of an end that is alone: the gauge is what it added, the clock stands where it was, no alarm
+/// is left, and the close is not refused.
+fn alone(alloc: Global, clock: u32) -> Result<Metered, OutOfMemory>
+    ensures gauge { IfOk result (λ m. slice_index_or m.gauges 3 0 ≡ 7) }
+    ensures clock { IfOk result (λ m. m.clock ≡ clock) }
+    ensures alarms { IfOk result (λ m. (alarm : Alarm) → times alarm m.alarms.items ≡ 0) }
+{
+    let (meters, mut seat) = Meters::new(alloc, clock)?;
+    meters.tick(&mut seat, 3, 5);
+    meters.tick(&mut seat, 3, 2);
+    let _fired = meters.due(&mut seat);
+    match meters.close(seat) {
+        Ok(metered) => Ok(metered),
+        Err(_) => unreachable!(),
+    }
+}
+
+#[test]
+fn the_only_end(rt: HostRuntime) -> Result<(), Fail> {
+    let metered = alone(rt.alloc(), 9)?;
+    assert_eq!(rt; metered.gauges, [0, 0, 0, 7, 0, 0, 0, 0]);
+    assert_eq!(rt; (metered.clock, metered.alarms.len()), (9, 0));
+    Ok(())
 }
 
 #[test]

@@ -9,16 +9,16 @@ use native.Mathlib.Decide.{dec_le, ℕ_discrete}
 use lib.ListN.{get_elem?}
 use Rattle.atomic_table.specs.Table.{State}
 use Rattle.quaject_core.specs.declared.status.Gate.TheVariants.{Idle}
-use Rattle.quaject_core.specs.declared.tables.Positions.{Positions}
+use Rattle.table_theory.specs.declared.queues.Positions.{Positions}
 use Rattle.quaject_core.specs.Runs.{flat}
 use Rattle.quaject_core.specs.Queues.{is_raised}
 use Rattle.quaject_core.specs.Chains.{Chain, is_call}
 use Rattle.quaject_core.specs.Lawful.{is_idle}
-use Rattle.quaject_core.specs.Positioned.{blank, item_of, place_at, item_at}
-use Rattle.quaject_core.specs.Filing.{ListedOnce}
-use Rattle.quaject_core.specs.Listing.{runs_of, takes_of, Chained}
-use Rattle.quaject_core.proofs.QueueOf.{flat_of, long_is}
-use Rattle.quaject_core.proofs.QueueEvents.{got}
+use Rattle.table_theory.specs.Positioned.{blank, item_of, place_at, item_at}
+use Rattle.table_theory.specs.Filing.{ListedOnce}
+use Rattle.table_theory.specs.Listing.{runs_of, takes_of, Chained}
+use Rattle.table_theory.proofs.QueueOf.{flat_of, long_is}
+use Rattle.table_theory.proofs.QueueEvents.{got}
 use Rattle.proc_chain.specs.declared.rule.Shape.{Shape}
 use Rattle.proc_chain.specs.declared.rule.View.{View}
 use Rattle.proc_chain.specs.Shown.{note_in, mark_in, gate_in, notes_of}
@@ -88,6 +88,7 @@ module _ {Q W : Type 0} (made : Q → List ℕ → Type 0) (fits : W → Q → T
       gate = refl;
       gate_word = k.gate.small;
       runner = runner_is q (gate_in s.words) s.views k.gate;
+      counted = k.counted;
       owing = λ call v at. sym (ap owes_in (got s.views call v at));
     };
     home = λ idle. let x = k.slot.home (idle_word idle) in (x.0, x.1, subst (made x.0) notes_are x.2, x.3);

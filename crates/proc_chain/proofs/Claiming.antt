@@ -7,30 +7,30 @@ use native.Mathlib.Decide.{ℕ_discrete, dec_lt}
 use lib.ListN.{get_elem?}
 use prog.Atomic.{either}
 use Rattle.atomic_table.specs.Table.{State, Me, Act, step, stepped, keeps, takes, Valid, carried_after, Allows}
-use Rattle.quaject_core.specs.declared.tables.Entry.{Entry}
-use Rattle.quaject_core.specs.declared.tables.Batch.{Batch}
-use Rattle.quaject_core.specs.declared.tables.Positions.{Positions}
-use Rattle.quaject_core.specs.Positioned.{blank, item_at, written_at, Lawful, fresh, with_claim, with_write, head_of, tail_of}
-use Rattle.quaject_core.specs.Windows.{spot}
-use Rattle.quaject_core.specs.Listing.{ViewsShow, number_of, written_to}
-use Rattle.quaject_core.specs.Counting.{EndsCounted}
+use Rattle.table_theory.specs.declared.queues.Cell.{Cell}
+use Rattle.table_theory.specs.declared.queues.Batch.{Batch}
+use Rattle.table_theory.specs.declared.queues.Positions.{Positions}
+use Rattle.table_theory.specs.Positioned.{blank, item_at, written_at, Lawful, fresh, with_claim, with_write, head_of, tail_of}
+use Rattle.table_theory.specs.Windows.{spot}
+use Rattle.table_theory.specs.Listing.{ViewsShow, number_of, written_to}
+use Rattle.table_theory.specs.Sharing.{EndsCounted}
 use Rattle.atomic_table.proofs.Lists.{at_map, exchanged, set_here, set_else}
 use Rattle.quaject_core.specs.Chains as chains
 use Rattle.proc_chain.specs.Chainings.{IsChainEvent}
 use Rattle.proc_chain.proofs.Events.{claim_event, raise_event, notify_idle, notify_busy}
-use Rattle.quaject_core.proofs.Owned.{at_below, one_at}
-use Rattle.quaject_core.proofs.Positioned.{grows_refl, claim_grows, claim_lawful, claim_old, claim_new, write_grows, write_lawful, write_here, write_else}
-use Rattle.quaject_core.proofs.Listing.{Own, own, run_stands, listed_claim, listed_write, distinct}
-use Rattle.quaject_core.proofs.Counting.{counted_look}
-use Rattle.quaject_core.proofs.Windows.{window_same, window_claim, window_write}
+use Rattle.table_theory.proofs.Owned.{at_below, one_at}
+use Rattle.table_theory.proofs.Positioned.{grows_refl, claim_grows, claim_lawful, claim_old, claim_new, write_grows, write_lawful, write_here, write_else}
+use Rattle.table_theory.proofs.Listing.{Own, own, run_stands, listed_claim, listed_write, distinct}
+use Rattle.table_theory.proofs.Counting.{counted_look}
+use Rattle.table_theory.proofs.Windows.{window_same, window_claim, window_write}
 use Rattle.proc_chain.specs.declared.rule.Shape.{Shape}
 use Rattle.proc_chain.specs.declared.rule.View.{View}
 use Rattle.proc_chain.specs.Shown.{note_in, mark_in, gate_in, WordsShow}
 use Rattle.proc_chain.specs.Gates.{IsSettled, GateShows, SlotShows}
 use Rattle.proc_chain.specs.Rules.{part_of, ends_of, share_of, IsIdle, Rule}
-use Rattle.proc_chain.specs.Steps.{looked, run, claimed, claims, raised, Raised, raises, notifies}
+use Rattle.proc_chain.specs.Steps.{after, run, claimed, claims, raised, Raised, raises, notifies}
 use Rattle.proc_chain.proofs.Gates.{others_still, Covers, owed_on, covers_more, gated_same, gated_runs, gated_more, notes_same, housed_on}
-use Rattle.proc_chain.proofs.Looks.{listed_part, kept_look, sees_of, turn_of, saw_now}
+use Rattle.proc_chain.proofs.Looks.{listed_part, kept_look, sees_of, turn_of, found_now}
 
 shows_claim : (q : Positions) (words : List ℕ) (x new : ℕ) → WordsShow q words → new ≡ head_of q + 1 → new < 4294967296 → WordsShow (with_claim q (x ∷ [])) (set words 0 new)
 shows_claim q words x new h is fits = let wide = h.wide in let long = length-append q.places (map fresh (x ∷ [])) in record {
@@ -57,10 +57,10 @@ module _ {Q W : Type 0} (made : Q → List ℕ → Type 0) (fits : W → Q → T
       let first = g.0.first in let same_room = g.0.room in let further = g.0.further in let behind = k.lawful.behind in
       let w : View = claimed v old x q in let q' : Positions = with_claim q (x ∷ []) in
       let lawful' : Lawful q' = claim_lawful q (x ∷ []) k.lawful (omega arith) in
-      let listed' : ViewsShow q' (set (map part_of s.views) id w.part) = listed_claim q (map part_of s.views) id v.part w.part (x ∷ []) k.listed (at_map part_of s.views id v at) behind (omega arith) (λ z. v.part.runs ++ run (sym here z) x ∷ []) refl (grows_refl q', grows_refl q') in
+      let listed' : ViewsShow q' (set (map part_of s.views) id w.part) = listed_claim q (map part_of s.views) id v.part w.part (x ∷ []) k.listed (at_map part_of s.views id v at) behind k.shows.is_open (omega arith) (λ z. v.part.runs ++ run (sym here z) x ∷ []) refl (grows_refl q', grows_refl q') in
       let keep : (j : ℕ) → j ≢ 0 → get_or (set s.words 0 new) j 0 ≡ get_or s.words j 0 = λ j ne. get_or-set_other s.words 0 j new 0 ne in
       let settled : IsSettled q s.views → IsSettled q' (set s.views id w) = λ st up. dite (dec_lt q.taken (length q.places))
-      (λ b. let e : written_at q' q.taken ≡ written_at q q.taken = ap (λ (z : Entry). z.written) (claim_old q (x ∷ []) q.taken b) in owed_on q q' s.views id v w at (st (omega arith)) refl (λ h. h) (λ _. covers_more v w (run old x ∷ []) refl))
+      (λ b. let e : written_at q' q.taken ≡ written_at q q.taken = ap (λ (z : Cell). z.written) (claim_old q (x ∷ []) q.taken b) in owed_on q q' s.views id v w at (st (omega arith)) refl (λ h. h) (λ _. covers_more v w (run old x ∷ []) refl))
       (λ nb. let e = claim_new q (x ∷ []) q.taken (omega arith) in absurd (omega arith)) in (
         w,
         keeps,
@@ -73,7 +73,7 @@ module _ {Q W : Type 0} (made : Q → List ℕ → Type 0) (fits : W → Q → T
           listed = subst (ViewsShow q') (sym (map-set part_of s.views id w)) listed';
           counted = subst (λ (c : ℕ). EndsCounted ends_of share_of IsIdle c (set s.views id w)) (sym (keep 2 (λ e. omega arith))) (counted_look ends_of share_of IsIdle (get_or s.words 2 0) s.views id v w k.counted at refl refl (λ none. absurd (omega arith)));
           gate = subst (λ (c : ℕ). GateShows q' c (set s.views id w)) (sym (keep 3 (λ e. omega arith))) (gated_same q q' (gate_in s.words) s.views id v w k.gate at refl refl (λ _. refl) (λ h. inl h) settled);
-          slot = subst (λ (c : ℕ). SlotShows made fits key.world.value q' c s.homes) (sym (keep 3 (λ e. omega arith))) (housed_on made fits key.world.value q q' (gate_in s.words) s.homes k.slot (notes_same q q' (claim_grows q (x ∷ [])) refl behind));
+          slot = subst (λ (c : ℕ). SlotShows made fits key.world.value q' c s.homes) (sym (keep 3 (λ e. omega arith))) (housed_on made fits key.world.value q q' (gate_in s.words) s.homes k.slot (notes_same q q' (claim_grows q (x ∷ []) k.shows.is_open) refl behind));
         },
         (
           refl,
@@ -83,27 +83,28 @@ module _ {Q W : Type 0} (made : Q → List ℕ → Type 0) (fits : W → Q → T
             sees = sees_of made fits key s k id v at;
             turn = turn_of made fits key s k id v at;
             at = here;
+            is_open = k.shows.is_open;
             gate = gate_in s.words;
             event = subst (λ (z : ℕ). IsChainEvent q q' (gate_in s.words) (gate_in s.words) z v w (chains.claim_note z (x ∷ []))) (sym own)
                 (claim_event q (gate_in s.words) s.views id v w k.listed at k.lawful k.gate x tiny (omega arith) k.shows.is_open (λ z. v.part.runs ++ run (sym here z) x ∷ []) refl (grows_refl q', grows_refl q') refl refl);
-            after = lawful';
+            after_it = lawful';
             distinct = distinct q' (set (map part_of s.views) id w.part) id w.part listed' (set_here (map part_of s.views) id w.part (at_below (map part_of s.views) id v.part (at_map part_of s.views id v at)));
           }),
           λ miss. absurd (miss hit),
         ),
       ))
-      (λ miss. (looked v q, keeps, tt, kept_look made fits key s k 0 id v at, (refl, (λ hit. absurd (miss hit)), λ _. saw_now made fits key s k 0 id v at)))
+      (λ miss. (after v 0 y q, keeps, tt, kept_look made fits key s k 0 id y v at, (refl, (λ hit. absurd (miss hit)), λ _. found_now made fits key s k 0 id v at)))
 
   -- the end raises the place of its run that starts at `start`
   pub raises_place : (n id call : ℕ) (me : Me Q View) (start u x : ℕ) (e : Batch) → call ≡ id → get_elem? me.0.part.runs (number_of start me.0.part.runs) ≡ some e → e.start ≡ start → 0 < length e.places → (get_or e.places 0 blank).written < 2 → u ≡ start % 32 + 4
       → x / 65536 ≡ start + 1 → x % 65536 ≡ (get_or e.places 0 blank).item → Allows (Rule made fits key) n id me u (λ _. x) (λ _. raises call (step n u x 0 none) me x)
   raises_place n id call me start u x e own_call has starts below low word flag_is note_is s k _ at _ = let v : View = me.0 in let m : ℕ = number_of start v.part.runs in let q : Positions = k.queue in
       let o : Own q e 0 = own q e 0 k.lawful (run_stands q (map part_of s.views) id m v.part e k.listed (at_map part_of s.views id v at) has) below low in let p : ℕ = o.at in let st = o.start in let from = o.from in
-      let q' : Positions = with_write q p 2 in let w : View = raised v m e q p in let words' : List ℕ = set s.words u x in let g = k.listed.seen id v.part (at_map part_of s.views id v at) in
+      let q' : Positions = with_write q p 2 in let w : View = raised v u x m e q p in let words' : List ℕ = set s.words u x in let g = k.listed.seen id v.part (at_map part_of s.views id v at) in
       let wide = k.shows.wide in let room = k.shows.room in let long = length-set q.places p (record { item = item_at q p; written = 2 }) in
-      let was : written_at q p ≡ (get_or e.places 0 blank).written = ap (λ (z : Entry). z.written) o.same in let item : item_at q p ≡ x % 65536 = ap (λ (z : Entry). z.item) o.same ∙ sym note_is in
+      let was : written_at q p ≡ (get_or e.places 0 blank).written = ap (λ (z : Cell). z.written) o.same in let item : item_at q p ≡ x % 65536 = ap (λ (z : Cell). z.item) o.same ∙ sym note_is in
       let same_pos : start ≡ q.first + p = omega arith in let here : u ≡ spot q p + 4 = word ∙ (λ i. same_pos i % sym room i + 4) in let near : spot q p < q.room = mod-lt (q.first + p) k.shows.window.some_room in
-      let now = write_here q p 2 o.below in let written : written_at q' p ≡ 2 = ap (λ (z : Entry). z.written) now in
+      let now = write_here q p 2 o.below in let written : written_at q' p ≡ 2 = ap (λ (z : Cell). z.written) now in
       let mine : get_or words' (spot q p + 4) 0 ≡ x = ap (λ (z : ℕ). get_or words' z 0) (sym here) ∙ get_or-set_same s.words u x 0 (omega arith) in
       let other : (j : ℕ) → j ≢ u → get_or words' j 0 ≡ get_or s.words j 0 = λ j ne. get_or-set_other s.words u j x 0 ne in
       let lawful' = write_lawful q p 2 k.lawful o.below (omega arith) in
@@ -114,9 +115,9 @@ module _ {Q W : Type 0} (made : Q → List ℕ → Type 0) (fits : W → Q → T
       (λ ne. (i, f, set_else v.part.runs m i (written_to e 0 2) ne ∙ at_f, refl)) in
       let settled : IsSettled q s.views → IsSettled q' (set s.views id w) = λ old up. dite (ℕ_discrete q.taken p)
       (λ same. record { owner = id; view = w; is_view = here_at; owes = refl; number = m; run = written_to e 0 2; has = run_at; start = omega arith })
-      (λ ne. let same : written_at q' q.taken ≡ written_at q q.taken = ap (λ (z : Entry). z.written) (write_else q p q.taken 2 ne) in owed_on q q' s.views id v w at (old (omega arith)) refl (λ _. refl) (λ _. covers)) in
+      (λ ne. let same : written_at q' q.taken ≡ written_at q q.taken = ap (λ (z : Cell). z.written) (write_else q p q.taken 2 ne) in owed_on q q' s.views id v w at (old (omega arith)) refl (λ _. refl) (λ _. covers)) in
       let ev = raise_event q (gate_in s.words) s.views id v w k.listed at k.lawful k.gate m p e has below o.start o.from low (omega arith) refl refl (grows_refl q', grows_refl q') refl refl in
-      let raised_now : Raised call v (x / 65536 - 1) w = let f : start ≡ x / 65536 - 1 = omega arith in subst (λ (z : ℕ). Raised z v (x / 65536 - 1) w) (sym own_call) (subst (λ (z : ℕ). Raised id v z w) f record {
+      let raised_now : Raised call v (x / 65536 - 1) u x w = let f : start ≡ x / 65536 - 1 = omega arith in subst (λ (z : ℕ). Raised z v (x / 65536 - 1) u x w) (sym own_call) (subst (λ (z : ℕ). Raised id v z u x w) f record {
         queue = q;
         at = p;
         run = e;
@@ -131,7 +132,7 @@ module _ {Q W : Type 0} (made : Q → List ℕ → Type 0) (fits : W → Q → T
         run_number = ev.0;
         event = ev.1;
         is_run = ev.2;
-        after = lawful';
+        after_it = lawful';
       }) in (
         w,
         keeps,
@@ -149,7 +150,7 @@ module _ {Q W : Type 0} (made : Q → List ℕ → Type 0) (fits : W → Q → T
             tail = other 1 (λ z. omega arith) ∙ h.tail;
             window = window_write q p 2 (mark_in s.words) (note_in s.words) (mark_in words') (note_in words') h.window o.from o.to
                 (λ j b ne. ap (λ (z : ℕ). z / 65536) (other (j + 4) (λ z. ne (omega arith)))) (λ j b ne. ap (λ (z : ℕ). z % 65536) (other (j + 4) (λ z. ne (omega arith))))
-                record { low = λ h. absurd (omega arith); up = λ h. ap (λ (z : ℕ). z / 65536) mine ∙ (flag_is ∙ ap (λ (z : ℕ). z + 1) same_pos); holds = λ h. ap (λ (z : ℕ). z % 65536) mine ∙ (sym item ∙ sym (ap (λ (z : Entry). z.item) now)) };
+                record { low = λ h. absurd (omega arith); up = λ h. ap (λ (z : ℕ). z / 65536) mine ∙ (flag_is ∙ ap (λ (z : ℕ). z + 1) same_pos); holds = λ h. ap (λ (z : ℕ). z % 65536) mine ∙ (sym item ∙ sym (ap (λ (z : Cell). z.item) now)) };
           };
           listed = subst (ViewsShow q') (sym (map-set part_of s.views id w)) (listed_write q (map part_of s.views) id m 0 2 p v.part w.part e k.listed (at_map part_of s.views id v at) has below o.start o.from (omega arith) refl refl (grows_refl q', grows_refl q'));
           counted = subst (λ (c : ℕ). EndsCounted ends_of share_of IsIdle c (set s.views id w)) (sym (other 2 (λ z. omega arith))) (counted_look ends_of share_of IsIdle (get_or s.words 2 0) s.views id v w k.counted at refl refl (λ _ none. absurd (some-ne-none e (sym (subst (λ (z : List Batch). get_elem? z m ≡ some e) none.0 has)))));
@@ -187,7 +188,7 @@ module _ {Q W : Type 0} (made : Q → List ℕ → Type 0) (fits : W → Q → T
 
   pub notifies_gate : (suits : Q → Type 0) (n id call : ℕ) (me : Me Q View) → call ≡ id → 1 ≤ me.0.ends → me.0.owes ≡ true → ((x : Q) → fits key.world.value x → suits x) → Allows (Rule made fits key) n id me 3 (λ _. 2) (notifies made suits call (step n 3 2 0 none) me)
   notifies_gate suits n id call me own live ow fit s k _ at _ = let v : View = me.0 in let q : Positions = k.queue in dite (ℕ_discrete (gate_in s.words) 0)
-      (λ down. let h = k.slot.home down in let x : Q = h.0 in let w : View = record (looked v q) { owes = false; runner = true; saw = false } in let none_runs = k.gate.still down in
+      (λ down. let h = k.slot.home down in let x : Q = h.0 in let w : View = record (after v 3 0 q) { owes = false; runner = true; saw = false } in let none_runs = k.gate.still down in
       let gate' : GateShows q 2 (set s.views id w) = gated_runs q 2 s.views id v w at (λ j u has ne. none_runs j u has) (λ e. omega arith) (omega arith) refl refl refl in
       let here : get_elem? (set s.views id w) id ≡ some w = set_here s.views id w (at_below s.views id v at) in
       let ev : IsChainEvent q q (gate_in s.words) 2 id v w (chains.notify id) = notify_idle q (gate_in s.words) s.views id v w k.listed at k.lawful k.gate down ow refl refl (grows_refl q, grows_refl q) refl refl (others_still q 2 (set s.views id w) id w gate' here refl) here in (
@@ -207,7 +208,7 @@ module _ {Q W : Type 0} (made : Q → List ℕ → Type 0) (fits : W → Q → T
           λ up. absurd (up down),
         ),
       ))
-      (λ up. let w : View = record (looked v q) { owes = false } in (
+      (λ up. let w : View = record (after v 3 (gate_in s.words) q) { owes = false } in (
         w,
         keeps,
         tt,
@@ -221,7 +222,6 @@ module _ {Q W : Type 0} (made : Q → List ℕ → Type 0) (fits : W → Q → T
               same = refl;
               sees = sees_of made fits key s k id v at;
               turn = turn_of made fits key s k id v at;
-              gate = gate_in s.words;
               not_idle = up;
               event = subst (λ (z : ℕ). IsChainEvent q q (gate_in s.words) 2 z v w (chains.notify z)) (sym own) (notify_busy q (gate_in s.words) s.views id v w k.listed at k.lawful k.gate up ow refl refl (grows_refl q, grows_refl q) refl refl);
             },

@@ -1,35 +1,31 @@
 -- What is known when a chain closes, and what is read of it.
-use Rattle.std.proofs.Common.{◌≡◌, ◌≢◌, ℕ, zero, suc, ◌+◌, ◌-◌, ◌/◌, ◌%◌, ◌<◌, ◌≤◌, Bool, false, true≢false, eq-eqb, ne_eqb, Option, Some, None, List, [], ◌∷◌, ◌++◌, map, drop, length, get_or, sym, refl, ap, ◌∙◌, subst, arith, length-append}
-use Rattle.std.proofs.lemmas.List.{get_or_append_left, get_or-append_right, drop_more, drop_all}
-use Rattle.std.proofs.lemmas.Bool.{lt-ltb, le-ltb}
+use Rattle.std.proofs.Common.{◌≡◌, ◌≢◌, ℕ, zero, suc, ◌+◌, ◌-◌, ◌/◌, ◌%◌, ◌<◌, ◌≤◌, Bool, false, true≢false, eq-eqb, ne_eqb, Option, Some, None, List, [], ◌∷◌, ◌++◌, map, length, get_or, sym, refl, ap, ◌∙◌, subst, arith, length-append}
+use Rattle.std.proofs.lemmas.List.{get_or_append_left, get_or-append_right}
 use Rattle.std.specs.Prelude.{if◌then◌else◌}
 use mathlib.Core.Option as maybe
 use mathlib.Core.Logic.{dite}
 use native.Mathlib.Decide.{ℕ_discrete, dec_lt}
 use lib.ListN.{get_elem?}
-use Rattle.quaject_core.specs.declared.tables.Entry.{Entry}
-use Rattle.quaject_core.specs.declared.tables.Batch.{Batch}
-use Rattle.quaject_core.specs.declared.tables.Positions.{Positions}
-use Rattle.quaject_core.specs.declared.tables.QueueView.{QueueView}
-use Rattle.quaject_core.specs.Positioned.{blank, place_at, item_at, written_at, head_of}
-use Rattle.quaject_core.specs.Filing.{Owned}
-use Rattle.quaject_core.specs.Listing.{ViewsShow, all_places, runs_of}
-use Rattle.quaject_core.specs.Sharing.{IsWhole, total}
-use Rattle.quaject_core.specs.Counting.{FitsAWord}
-use Rattle.quaject_core.proofs.Totals.{one_of}
-use Rattle.quaject_core.proofs.Counting.{others_idle, whole_is_one, one_is_whole}
-use Rattle.quaject_core.proofs.Listing.{listed_sole}
+use Rattle.table_theory.specs.declared.queues.Cell.{Cell}
+use Rattle.table_theory.specs.declared.queues.Batch.{Batch}
+use Rattle.table_theory.specs.declared.queues.Positions.{Positions}
+use Rattle.table_theory.specs.declared.queues.QueueView.{QueueView}
+use Rattle.table_theory.specs.Positioned.{blank, Grows, written_at, head_of}
+use Rattle.table_theory.specs.Filing.{Owned}
+use Rattle.table_theory.specs.Listing.{ViewsShow, AllRaised, Later, all_places, runs_of}
+use Rattle.table_theory.specs.Sharing.{IsWhole}
+use Rattle.table_theory.proofs.Counting.{others_idle}
+use Rattle.table_theory.proofs.Listing.{listed_look, listed_sole}
+use Rattle.table_theory.proofs.Seeing.{later_on}
 use Rattle.atomic_table.proofs.Lists.{at_map}
-use Rattle.quaject_core.proofs.Owned.{one_at, at_map_back}
+use Rattle.table_theory.proofs.Owned.{one_at, at_map_back}
 use Rattle.atomic_table.specs.Table.{State, Final, Seen}
 use Rattle.proc_chain.specs.declared.rule.Shape.{Shape}
 use Rattle.proc_chain.specs.declared.rule.View.{View}
 use Rattle.proc_chain.specs.Shown.{note_in, mark_in, gate_in, WordsShow, notes_of}
 use Rattle.proc_chain.specs.Rules.{part_of, ends_of, share_of, IsIdle, Rule}
 use Rattle.proc_chain.specs.Steps.{Tallied}
-use Rattle.proc_chain.specs.Turns.{AllRaised}
-use Rattle.proc_chain.specs.Closings.{left_at, left_from, shown, ClosedNow, WereOpen}
-use Rattle.proc_chain.proofs.Looks.{sees_of}
+use Rattle.proc_chain.specs.Closings.{left_at, left_from, ClosedNow, WereOpen}
 use Rattle.proc_chain.proofs.Linking.{all_same}
 
 -- what is read
@@ -47,21 +43,6 @@ read_word [] i x e = absurd (maybe.some-ne-none x (sym e))
 read_word (y ∷ ys) zero x e = maybe.some-injective y x e
 read_word (y ∷ ys) (suc i) x e = read_word ys i x e
 
--- a place that is left reads as its note, if it was raised
-left_shown : (q : Positions) (ws : List ℕ) (i : ℕ) → WordsShow q ws → q.taken ≤ i → i < q.taken + q.room → left_at ws (q.first + i) ≡ shown (place_at q i)
-left_shown q ws i h from to = let p : ℕ = q.first + i in let pl = h.window.each i from to in let room : p % q.room ≡ p % 32 = (λ k. p % h.room k) in
-    let mark : ℕ = mark_in ws (p % 32) in let note : ℕ = note_in ws (p % 32) in let same : mark_in ws (p % q.room) ≡ mark = ap (mark_in ws) room in
-    dite (dec_lt (written_at q i) 2)
-    (λ low. let f = pl.low low in let ne : mark ≢ p + 1 = (λ e. omega arith) in
-    ap (λ (b : Bool). if b then Some note else None) (ne_eqb mark (p + 1) ne) ∙ sym (ap (λ (b : Bool). if b then None else Some (item_at q i)) (lt-ltb (written_at q i) 2 low)))
-    (λ up. ap (λ (b : Bool). if b then Some note else None) (eq-eqb mark (p + 1) (sym same ∙ pl.up (omega arith)))
-    ∙ (ap Some (sym (ap (note_in ws) room) ∙ pl.holds (omega arith)) ∙ sym (ap (λ (b : Bool). if b then None else Some (item_at q i)) (le-ltb (written_at q i) 2 (omega arith)))))
-
-left_all : (q : Positions) (ws : List ℕ) (n i : ℕ) → WordsShow q ws → q.taken ≤ i → i + n ≡ length q.places → length q.places ≤ q.taken + q.room → left_from ws (q.first + i) n ≡ map shown (drop i q.places)
-left_all q ws zero i h from long within = sym (ap (map shown) (drop_all i q.places (omega arith)))
-left_all q ws (suc n) i h from long within = let e : suc (q.first + i) ≡ q.first + (i + 1) = omega arith in
-    (λ k. left_shown q ws i h from (omega arith) k ∷ (ap (λ (z : ℕ). left_from ws z n) e ∙ left_all q ws n (i + 1) h (omega arith) (omega arith) within) k) ∙ sym (ap (map shown) (drop_more q.places i blank (omega arith)))
-
 pub read_some : (ws : List ℕ) (p word mark note : ℕ) → get_elem? ws (p % 32 + 4) ≡ maybe.some word → mark ≡ word / 65536 → note ≡ word % 65536 → mark ≡ p + 1 → Some note ≡ left_at ws p
 read_some ws p word mark note w m n is = let r = read_word ws (p % 32 + 4) word w in
     ap Some (n ∙ ap (λ (z : ℕ). z % 65536) (sym r)) ∙ sym (ap (λ (b : Bool). if b then Some (note_in ws (p % 32)) else None) (eq-eqb (mark_in ws (p % 32)) (p + 1) (ap (λ (z : ℕ). z / 65536) r ∙ (sym m ∙ is))))
@@ -75,28 +56,19 @@ pub left_on : (ws : List ℕ) (t p : ℕ) (xs : List (Option ℕ)) (x : Option �
 left_on ws t p xs x le is e = let a : p ≡ t + (p - t) = omega arith in let b : suc (p - t) ≡ p + 1 - t = omega arith in
     (λ k. is k ++ (e ∙ ap (left_at ws) a) k ∷ []) ∙ (sym (left_more ws t (p - t)) ∙ ap (left_from ws t) b)
 
--- how many ends there are
-
-pub whole_where_one : (v w : View) (found : ℕ) → 1 ≤ v.ends → (t : Tallied v found w) → found ≡ 1 → FitsAWord (total ends_of t.views) → IsWhole v.share
-whole_where_one v w found live t one few = let c = t.counted in let n = c.counted in one_is_whole ends_of share_of IsIdle found t.views t.seat v c t.here live (omega arith)
-
-pub one_where_whole : (v w : View) (found : ℕ) → v.ends ≡ 1 → Tallied v found w → IsWhole v.share → found ≡ 1
-one_where_whole v w found one t whole = let c = t.counted in let n = c.counted in let total = whole_is_one ends_of share_of IsIdle found t.views t.seat v c t.here one whole in omega arith
-
-pub were_open : (v w : View) (found others : ℕ) → v.ends ≡ 1 → Tallied v found w → found ≢ 1 → others ≡ (found + (18446744073709551616 - 1)) % 18446744073709551616 → WereOpen v others w
-were_open v w found others one t more is = let c = t.counted in let n = c.counted in let least = one_of ends_of t.views t.seat v t.here in record {
-  found = found;
-  tallied = t;
-  not_whole = λ whole. more (one_where_whole v w found one t whole);
-  number = λ few. (omega arith, omega arith);
+pub were_open : (v w : View) (found others : ℕ) → Tallied v found w → found ≢ 1 → others ≡ found - 1 → WereOpen v others w
+were_open v w found others t more is = let some = t.count.some_end in let e : found ≡ others + 1 = omega arith in record {
+  tallied = subst (λ (z : ℕ). Tallied v z w) e t;
+  some_other = omega arith;
+  not_whole = λ whole. more (t.count.whole whole);
 }
 
 -- all places of a log are raised where those of its entries are
 flat_raised : (log : List (Owned Batch)) → ((k : ℕ) (o : Owned Batch) → get_elem? log k ≡ maybe.some o → (i : ℕ) → i < length o.2.places → 2 ≤ (get_or o.2.places i blank).written) → (i : ℕ) → i < length (all_places log) → 2 ≤ (get_or (all_places log) i blank).written
 flat_raised [] h i b = absurd (omega arith)
 flat_raised (o ∷ os) h i b = let n : ℕ = length o.2.places in let long = length-append o.2.places (all_places os) in dite (dec_lt i n)
-    (λ y. subst (λ (z : Entry). 2 ≤ z.written) (sym (get_or_append_left o.2.places (all_places os) blank i y)) (h 0 o refl i y))
-    (λ no. let e = get_or-append_right o.2.places (all_places os) n i blank refl (omega arith) in subst (λ (z : Entry). 2 ≤ z.written) (sym e) (flat_raised os (λ k. h (suc k)) (i - n) (omega arith)))
+    (λ y. subst (λ (z : Cell). 2 ≤ z.written) (sym (get_or_append_left o.2.places (all_places os) blank i y)) (h 0 o refl i y))
+    (λ no. let e = get_or-append_right o.2.places (all_places os) n i blank refl (omega arith) in subst (λ (z : Cell). 2 ≤ z.written) (sym e) (flat_raised os (λ k. h (suc k)) (i - n) (omega arith)))
 
 module _ {Q W : Type 0} (made : Q → List ℕ → Type 0) (fits : W → Q → Type 0) (key : Shape W) where
   -- an end with the whole lists the chain alone
@@ -116,7 +88,7 @@ module _ {Q W : Type 0} (made : Q → List ℕ → Type 0) (fits : W → Q → T
       let down : gate_in s.words ≡ 0 = dite (ℕ_discrete (gate_in s.words) 0) (λ y. y) (λ up. let r = k.gate.runs up in absurd (true≢false (sym r.runner ∙ (still r.number r.view r.is_view).0))) in
       let h = k.slot.home down in
       let is : h.0 ≡ x = maybe.some-injective h.0 x (sym (home 0 h.0 (subst (λ (z : List (maybe.Option Q)). get_elem? z 0 ≡ maybe.some (maybe.some h.0)) (sym h.1) refl)) ∙ has) in
-      let raised : (i : ℕ) → i < length k.queue.places → 2 ≤ written_at k.queue i = subst (λ (z : List Entry). (i : ℕ) → i < length z → 2 ≤ (get_or z i blank).written) k.listed.runs_flat
+      let raised : (i : ℕ) → i < length k.queue.places → 2 ≤ written_at k.queue i = subst (λ (z : List Cell). (i : ℕ) → i < length z → 2 ≤ (get_or z i blank).written) k.listed.runs_flat
       (flat_raised k.listed.runs (λ m o at_o. let st = k.listed.runs_filed.stands m o at_o in let b = at_map_back runs_of (map part_of s.views) o.0 st.0 st.1 in let d = at_map_back part_of s.views o.0 b.0 b.1 in
       dite (ℕ_discrete o.0 id)
       (λ same. let is_w : d.0 ≡ w = one_at s.views id d.0 w (subst (λ (z : ℕ). get_elem? s.views z ≡ maybe.some d.0) same d.1) at in
@@ -126,26 +98,25 @@ module _ {Q W : Type 0} (made : Q → List ℕ → Type 0) (fits : W → Q → T
       let none_left : k.queue.taken ≡ length k.queue.places = dite (dec_lt k.queue.taken (length k.queue.places)) (λ y. let o = k.gate.idle down (raised k.queue.taken y) in absurd (true≢false (sym o.owes ∙ (still o.owner o.view o.is_view).1))) (λ no. omega arith) in
       (subst (λ (z : Q). made z (notes_of k.queue)) is h.2, subst (fits key.world.value) is h.3, none_left)
 
-  pub closes : (v w : View) (found id h t put taken at : ℕ) (ws : List ℕ) (xs : List Q) (x : Q) (left : List (Option ℕ)) → key.first ≡ at → v.ends ≡ 1 → Tallied v found w → found ≡ 1 → v.runner ≡ false → v.owes ≡ false → AllRaised v.part.runs
+  pub closes : (v w : View) (found id h t put taken at : ℕ) (ws : List ℕ) (xs : List Q) (x : Q) (left : List (Option ℕ)) → key.first ≡ at → Tallied v found w → found ≡ 1 → v.runner ≡ false → v.owes ≡ false → AllRaised v.part.runs
       → Final (Seen (Rule made fits key) id w) ws xs → get_elem? ws 0 ≡ maybe.some h → get_elem? ws 1 ≡ maybe.some t → get_elem? xs 0 ≡ maybe.some x → put ≡ h - key.first → taken ≡ t - key.first → left ≡ left_from ws t (h - t) → ClosedNow made (fits key.world.value) v at put taken left x
-  closes v w found id h t put taken at ws xs x left at_is one_end tallied one runner owes all fin at_h at_t at_x put_is taken_is left_is =
+  closes v w found id h t put taken at ws xs x left at_is tallied one runner owes all fin at_h at_t at_x put_is taken_is left_is =
       let s : State Q View = fin.0 in let k = fin.1.0 in let q : Positions = k.queue in let sh : WordsShow q ws = subst (WordsShow q) fin.2 k.shows in
-      let first = k.first in let behind = k.lawful.behind in let hd : h ≡ head_of q = sym (read_word ws 0 h at_h) ∙ sh.head in let tl : t ≡ q.first + q.taken = sym (read_word ws 1 t at_t) ∙ sh.tail in
-      let n : h - t ≡ length q.places - q.taken = omega arith in let puts : put ≡ length q.places = omega arith in let takes_is : taken ≡ q.taken = omega arith in
-      let is_left : left ≡ map shown (drop q.taken q.places) = left_is ∙ ((λ i. left_from ws (tl i) (n i)) ∙ left_all q ws (length q.places - q.taken) q.taken sh (omega arith) (omega arith) k.lawful.within) in
-      let c : IsWhole v.share → made x (notes_of q) × fits key.world.value x × (q.taken ≡ length q.places) = (λ whole. whole_closes id w s k xs x fin.1.1 (subst (λ (z : View). IsWhole z.share) (sym tallied.same) whole) (ap (λ (z : View). z.runner) tallied.same ∙ runner) (ap (λ (z : View). z.owes) tallied.same ∙ owes)
-      (all_same v.part.runs w.part.runs (ap (λ (z : View). z.part.runs) tallied.same) all) fin.4 at_x) in
+      let first = k.first in let hd : h ≡ head_of q = sym (read_word ws 0 h at_h) ∙ sh.head in let tl : t ≡ q.first + q.taken = sym (read_word ws 1 t at_t) ∙ sh.tail in
+      let puts : put ≡ length q.places = omega arith in let takes_is : taken ≡ q.taken = omega arith in
+      let whole : IsWhole v.share = tallied.count.alone one in let whole' : IsWhole w.share = subst (λ (z : View). IsWhole z.share) (sym tallied.same) whole in
+      let c = whole_closes id w s k xs x fin.1.1 whole' (ap (λ (z : View). z.runner) tallied.same ∙ runner) (ap (λ (z : View). z.owes) tallied.same ∙ owes) (all_same v.part.runs w.part.runs (ap (λ (z : View). z.part.runs) tallied.same) all) fin.4 at_x in
+      let all_taken : q.taken ≡ length q.places = c.2 in let none : h - t ≡ 0 = omega arith in
+      let saw : w.part.queue ≡ tallied.queue = ap (λ (z : View). z.part.queue) tallied.same in let seen : Later w.part q = k.listed.seen id w.part (at_map part_of s.views id w fin.1.1) in
+      let later : Later v.part q = later_on v.part tallied.queue q tallied.sees.later (subst (λ (z : Positions). Grows z q) saw seen.0) in
       record {
-        end = w;
-        tallied = subst (λ (z : ℕ). Tallied v z w) one tallied;
-        whole = whole_where_one v w 1 (omega arith) (subst (λ (z : ℕ). Tallied v z w) one tallied) refl;
+        whole = whole;
         queue = q;
-        sees = sees_of made fits key s k id w fin.1.1;
+        listed = listed_look q (w.part ∷ []) 0 w.part v.part (sole s k id w fin.1.1 whole') refl (sym (ap (λ (z : View). z.part.runs) tallied.same)) (sym (ap (λ (z : View). z.part.takes) tallied.same)) later;
         starts = first ∙ at_is;
         puts = puts;
         taken_is = takes_is;
-        left_is = is_left;
-        listed = λ whole. sole s k id w fin.1.1 (subst (λ (z : View). IsWhole z.share) (sym tallied.same) whole);
-        none_left = λ whole. let all_taken = (c whole).2 in (is_left ∙ ap (map shown) (drop_all q.taken q.places (omega arith)), omega arith);
-        home = λ whole. let d = c whole in (d.0, d.1);
+        all_taken = omega arith;
+        none_left = left_is ∙ ap (left_from ws t) none;
+        home = (c.0, c.1);
       }

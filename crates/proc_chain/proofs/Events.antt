@@ -11,24 +11,24 @@ use native.Mathlib.Decide.{ℕ_discrete, dec_lt}
 use lib.ListN.{get_elem?}
 use Rattle.quaject_core.specs.declared.status.Gate.{Gate}
 use Rattle.quaject_core.specs.declared.status.Gate.TheVariants.{Idle, Running, More}
-use Rattle.quaject_core.specs.declared.tables.Entry.{Entry}
-use Rattle.quaject_core.specs.declared.tables.Batch.{Batch}
-use Rattle.quaject_core.specs.declared.tables.Positions.{Positions}
+use Rattle.table_theory.specs.declared.queues.Cell.{Cell}
+use Rattle.table_theory.specs.declared.queues.Batch.{Batch}
+use Rattle.table_theory.specs.declared.queues.Positions.{Positions}
 use Rattle.quaject_core.specs.Runs.{pairs, pairs_of, pairs_from}
 use Rattle.quaject_core.specs.Queues.{Queue, left_pairs, is_raised, after_claim, after_raise, after_take, claim, raise, take_first}
 use Rattle.quaject_core.specs.Chains.{Chain, with_number, is_call, owes, forgotten, is_forgotten, claim_note, raise_note, take_note, runner_after, notify, round, is_more, leave}
 use Rattle.quaject_core.specs.Lawful.{IsLawfulChain, is_idle}
-use Rattle.quaject_core.specs.Positioned.{blank, item_of, place_at, written_at, head_of, tail_of, Lawful, fresh, with_claim, with_write, with_take}
-use Rattle.quaject_core.specs.Filing.{Owned}
-use Rattle.quaject_core.specs.Listing.{all_places, runs_of, Chained, Later, ViewsShow, written_to}
-use Rattle.quaject_core.specs.QueueOf.{run_in, is_up, queue_of}
+use Rattle.table_theory.specs.Positioned.{blank, item_of, place_at, written_at, head_of, tail_of, Lawful, fresh, with_claim, with_write, with_take}
+use Rattle.table_theory.specs.Filing.{Owned}
+use Rattle.table_theory.specs.Listing.{all_places, runs_of, Chained, Later, ViewsShow, written_to}
+use Rattle.table_theory.specs.QueueOf.{run_in, is_up, queue_of}
 use Rattle.quaject_core.proofs.Histories.{length-pairs_from, length-pairs_of}
-use Rattle.quaject_core.proofs.Logs.{lies}
+use Rattle.table_theory.proofs.Logs.{lies}
 use Rattle.quaject_core.proofs.Stores.{slice_get-drop}
-use Rattle.quaject_core.proofs.QueueOf.{Log, up_of, long_is, left_long, is_lawful_queue}
-use Rattle.quaject_core.proofs.QueueEvents.{history_of, claimed_is, claim_goes, got, set_got, set_other, raised_is, raise_goes, take_goes, first_raised}
-use Rattle.quaject_core.proofs.Listing.{listed_look, listed_claim, listed_write, listed_take}
-use Rattle.quaject_core.proofs.Lists.{at_map}
+use Rattle.table_theory.proofs.QueueOf.{Log, up_of, long_is, left_long, is_lawful_queue}
+use Rattle.table_theory.proofs.QueueEvents.{history_of, claimed_is, claim_goes, got, set_got, set_other, raised_is, raise_goes, take_goes, first_raised}
+use Rattle.table_theory.proofs.Listing.{listed_look, listed_claim, listed_write, listed_take}
+use Rattle.atomic_table.proofs.Lists.{at_map}
 use Rattle.proc_chain.specs.declared.rule.View.{View}
 use Rattle.proc_chain.specs.Rules.{part_of}
 use Rattle.proc_chain.specs.Gates.{IsSettled, GateShows}
@@ -106,7 +106,7 @@ and_false : (a : Bool) → (a && false) ≡ false
 and_false true = refl
 and_false false = refl
 
-pub not_up : (e : Entry) → e.written < 2 → is_up e ≡ false
+pub not_up : (e : Cell) → e.written < 2 → is_up e ≡ false
 not_up e h = let n : ℕ = e.written in dite (ℕ_discrete n 0) (λ z. let t : is_up e ≡ false = grind (arith, nat_tests) in t) (λ z. let t : is_up e ≡ false = grind (arith, nat_tests) in t)
 
 pub not_forgotten : (q : Positions) (gate : ℕ) (views : List View) (l : ViewsShow q (map part_of views)) → IsSettled q views → is_forgotten (chain_of q l.runs gate views) ≡ false
@@ -194,7 +194,7 @@ module _ (q : Positions) (gate : ℕ) (views : List View) (id : ℕ) (v w : View
         views = views;
         here = at;
         shown = l;
-        new_shown = listed_claim q (map part_of views) id v.part w.part xs l at_part behind (omega arith) runs takes grown;
+        new_shown = listed_claim q (map part_of views) id v.part w.part xs l at_part behind is_open (omega arith) runs takes grown;
         lawful = chain_is_lawful q gate views l lawful g;
         made = claim_note_goes id x c (after_claim id xs c.notes) small (claim_goes 1 id xs c.notes (omega arith) (omega arith) is_open (omega arith))
             ∙ ap Ok (same_chain (after_claim id xs c.notes) (queue_of (with_claim q xs) (l.runs ++ (id, length v.part.runs, record { start = head_of q; places = map fresh xs }) ∷ [])) c.gate c.gate c.runner (runner_from 0 (set views id w)) c.owing (λ call. owes_in (slice_get (set views id w) call))

@@ -4,12 +4,12 @@ use mathlib.Core.Option.{Option, some}
 use mathlib.Core.Logic.{dite}
 use native.Mathlib.Decide.{ℕ_discrete}
 use lib.ListN.{get_elem?}
-use Rattle.quaject_core.specs.declared.tables.Entry.{Entry}
-use Rattle.quaject_core.specs.declared.tables.Batch.{Batch}
-use Rattle.quaject_core.specs.declared.tables.Positions.{Positions}
-use Rattle.quaject_core.specs.Positioned.{blank, item_of, item_at, Grows, with_take, tail_of}
+use Rattle.table_theory.specs.declared.queues.Cell.{Cell}
+use Rattle.table_theory.specs.declared.queues.Batch.{Batch}
+use Rattle.table_theory.specs.declared.queues.Positions.{Positions}
+use Rattle.table_theory.specs.Positioned.{blank, item_of, item_at, Grows, with_take, tail_of}
 use Rattle.atomic_table.proofs.Lists.{at_set, set_here, set_else, at_longer}
-use Rattle.quaject_core.proofs.Owned.{at_push, at_below, one_at}
+use Rattle.table_theory.proofs.Owned.{at_push, at_below, one_at}
 use Rattle.proc_chain.specs.declared.rule.View.{View}
 use Rattle.proc_chain.specs.Shown.{notes_of}
 use Rattle.proc_chain.specs.Gates.{IsOwed, IsSettled, HasRunner, GateShows, SlotShows}
@@ -115,7 +115,7 @@ gated_new q gate views w g r = let old : (j : ℕ) (u : View) → get_elem? (vie
     }
 
 -- the notes taken
-same_items : (n : ℕ) (xs ys : List Entry) → n ≤ length xs → n ≤ length ys → ((i : ℕ) → i < n → (get_or ys i blank).item ≡ (get_or xs i blank).item) → map item_of (take n ys) ≡ map item_of (take n xs)
+same_items : (n : ℕ) (xs ys : List Cell) → n ≤ length xs → n ≤ length ys → ((i : ℕ) → i < n → (get_or ys i blank).item ≡ (get_or xs i blank).item) → map item_of (take n ys) ≡ map item_of (take n xs)
 same_items zero xs ys a b f = refl
 same_items (suc n) [] ys a b f = absurd (omega arith)
 same_items (suc n) (x ∷ xs) [] a b f = absurd (omega arith)
@@ -124,7 +124,7 @@ same_items (suc n) (x ∷ xs) (y ∷ ys) a b f = λ k. f 0 (omega arith) k ∷ s
 pub notes_same : (q r : Positions) → Grows q r → r.taken ≡ q.taken → q.taken ≤ length q.places → notes_of r ≡ notes_of q
 notes_same q r g is behind = let longer = g.longer in ap (λ (n : ℕ). map item_of (take n r.places)) is ∙ same_items q.taken q.places r.places behind (omega arith) (λ i h. g.items i (omega arith))
 
-more_items : (n : ℕ) (l : List Entry) → n < length l → map item_of (take (suc n) l) ≡ map item_of (take n l) ++ (get_or l n blank).item ∷ []
+more_items : (n : ℕ) (l : List Cell) → n < length l → map item_of (take (suc n) l) ≡ map item_of (take n l) ++ (get_or l n blank).item ∷ []
 more_items n [] h = absurd (omega arith)
 more_items zero (x ∷ xs) h = refl
 more_items (suc n) (x ∷ xs) h = ap (λ (z : List ℕ). item_of x ∷ z) (more_items n xs (omega arith))

@@ -1,44 +1,50 @@
 -- A claim, a raise and a notify together, and what other steps leave as it was.
-use Rattle.std.proofs.Common.{◌≡◌, ◌≢◌, ℕ, zero, suc, ◌+◌, ◌<◌, ◌≤◌, ⊎_elim, true, false, true≢false, List, [], ◌∷◌, ◌++◌, length, get_or, set, sym, refl, ap, ◌∙◌, subst, arith}
-use mathlib.Core.Option.{some}
+use Rattle.std.proofs.Common.{◌≡◌, ◌≢◌, ℕ, zero, suc, ◌+◌, ◌-◌, ◌<◌, ◌≤◌, ⊎_elim, true, false, true≢false, List, [], ◌∷◌, ◌++◌, map, length, get_or, set, sym, refl, ap, ◌∙◌, subst, arith}
+use Rattle.std.proofs.lemmas.List.{map-append}
+use mathlib.Core.Option.{some, some-injective}
 use lib.ListN.{get_elem?}
-use Rattle.quaject_core.specs.declared.tables.Batch.{Batch}
-use Rattle.quaject_core.specs.declared.tables.Positions.{Positions}
-use Rattle.quaject_core.specs.Positioned.{blank, Lawful, Grows, fresh, with_claim, with_write, head_of, tail_of}
-use Rattle.quaject_core.specs.Listing.{Distinct, number_of, written_to}
-use Rattle.quaject_core.specs.Seeing.{Sees}
+use Rattle.table_theory.specs.declared.queues.Batch.{Batch}
+use Rattle.table_theory.specs.declared.queues.Positions.{Positions}
+use Rattle.table_theory.specs.Positioned.{blank, Lawful, Grows, fresh, with_claim, with_write, head_of, tail_of}
+use Rattle.table_theory.specs.Listing.{AllRaised, Distinct, number_of, written_to}
+use Rattle.table_theory.specs.Seeing.{Sees}
+use Rattle.table_theory.specs.Sharing.{given, kept}
 use Rattle.atomic_table.proofs.Lists.{at_set, at_last}
-use Rattle.quaject_core.proofs.Owned.{at_push, one_at}
-use Rattle.quaject_core.proofs.Positioned.{grows_refl, claim_grows, write_grows}
-use Rattle.quaject_core.proofs.Seeing.{sees_on}
-use Rattle.quaject_core.proofs.Listing.{found_by_start}
+use Rattle.table_theory.proofs.Owned.{at_push, one_at}
+use Rattle.table_theory.proofs.Leaving.{same_items}
+use Rattle.table_theory.proofs.Positioned.{grows_refl, claim_grows, write_grows}
+use Rattle.table_theory.proofs.Seeing.{sees_own}
+use Rattle.table_theory.proofs.Listing.{found_by_start}
 use Rattle.atomic_table.specs.Table.{Me}
 use Rattle.proc_chain.specs.declared.rule.View.{View}
-use Rattle.proc_chain.specs.Shown.{notes_of}
-use Rattle.proc_chain.specs.Steps.{looked, Looked, run, Claimed, Raised, Notified, GotTurn, CountedUp, CountedDown, Tallied, rest_of, both}
-use Rattle.proc_chain.specs.Turns.{HasSlot, AllRaised}
-use Rattle.proc_chain.specs.Answers.{WasFull, WasSpent, WasLost, Linked}
+use Rattle.proc_chain.specs.Shown.{head_word, tail_word, ends_word, place_word, raised_word, notes_of}
+use Rattle.proc_chain.specs.Notes.{line_of, notes_put, notes_taken, alone, SameNotes, PutNote}
+use Rattle.proc_chain.specs.Steps.{after, KeepsTaken, Found, run, Claimed, Raised, Notified, GotTurn, CountedUp, CountedDown, Tallied, rest_of, newborn, both}
+use Rattle.proc_chain.specs.Turns.{HasSlot}
+use Rattle.proc_chain.specs.Answers.{FoundRoom, WasFull, WasSpent, WasLost, IsPast, Linked}
+use Rattle.proc_chain.specs.Endings.{Divided, IsNewborn, TookIn}
 use Rattle.proc_chain.proofs.Gates.{notes_same}
-
-pub looked_on : (u v w : View) → Looked u v → Looked v w → Looked u w
-looked_on u v w a b = record {
-  same = b.same ∙ ap (λ (z : View). looked z w.part.queue) a.same;
-  sees = sees_on u.part v.part w.part.queue a.sees.later (ap (λ (z : View). z.part.runs) a.same) (ap (λ (z : View). z.part.takes) a.same) b.sees;
-  turn = λ r. b.turn (ap (λ (z : View). z.runner) a.same ∙ r) ∙ a.turn r;
-}
 
 -- the refusals
 
-pub was_spent : (u v : View) (head : ℕ) → Looked u v → head ≡ head_of v.part.queue → 4294967295 ≤ head → Looked u v × WasSpent u v
-was_spent u v head a is past = (a, record { queue = v.part.queue; then = record { sees = a.sees; earlier = grows_refl v.part.queue }; spent = omega arith })
+pub was_spent : (v w : View) (head : ℕ) → Found v head_word head w → 4294967295 ≤ head → WasSpent v w
+was_spent v w head f past = record { head = head; loaded = f; spent = past }
 
-pub was_full : (u v w : View) (head tail : ℕ) → Looked u v → Looked v w → head ≡ head_of v.part.queue → tail ≡ tail_of w.part.queue → tail + 32 < head + 1 → Looked u w × WasFull u head tail w
-was_full u v w head tail a b is tail_is past = let further = b.sees.later.0.further in let f = b.sees.later.0.first in
-    (looked_on u v w a b, record { queue = v.part.queue; then = record { sees = a.sees; earlier = b.sees.later.0 }; head_is = is; full = omega arith; tail_is = tail_is })
+-- the head that was loaded is the head of the queue then
+loaded_head : (v w : View) (head : ℕ) → Found v head_word head w → head ≡ head_of w.part.queue
+loaded_head v w head f = f.is ∙ f.shows.head
 
-pub was_lost : (u v t w : View) (first found : ℕ) → Looked u v → Looked v t → Looked t w → first ≡ head_of v.part.queue → found ≡ head_of w.part.queue → found ≢ first → Looked u w × WasLost u found w
-was_lost u v t w first found a b c is is' ne = let l = looked_on v t w b c in let longer = l.sees.later.0.longer in let f = l.sees.later.0.first in
-    (looked_on u v w a l, record { queue = v.part.queue; then = record { sees = a.sees; earlier = l.sees.later.0 }; past = omega arith; head_is = is' })
+pub was_full : (v l w : View) (head tail : ℕ) → Found v head_word head l → Found l tail_word tail w → head < 4294967295 → tail + 32 < head + 1 → WasFull v head tail w
+was_full v l w head tail f g small past = let h = loaded_head v l head f in let t : tail ≡ tail_of w.part.queue = g.is ∙ g.shows.tail in let grows = g.sees.later.0 in let first = grows.first in let further = grows.further in
+    record { loaded = l; head_loaded = f; tail_loaded = g; position = small; full = omega arith; was_full = omega arith }
+
+pub found_room : (v l w : View) (head tail : ℕ) → Found v head_word head l → Found l tail_word tail w → head < 4294967295 → head + 1 ≤ tail + 32 → FoundRoom v head w
+found_room v l w head tail f g small room = record { tail = tail; loaded = l; head_loaded = f; tail_loaded = g; position = small; fits = omega arith }
+
+pub was_lost : (v b w : View) (first found : ℕ) → FoundRoom v first b → Found b head_word found w → found ≢ first → WasLost v found w
+was_lost v b w first found r f ne = let h = loaded_head v r.loaded first r.head_loaded in let h' = loaded_head b w found f in let g = r.tail_loaded.sees.later.0 in let g' = f.sees.later.0 in
+    let longer = g.longer in let longer' = g'.longer in let same = g.first in let same' = g'.first in
+    record { first = first; before = b; found = r; missed = f; past = omega arith }
 
 -- the turn, the room and the ends stay, and no note was taken by an end with the turn
 pub record Stays (v w : View) : Type 0 where
@@ -60,17 +66,20 @@ stays_by v w q q' behind is runner ends s turn more same l' = record {
   ends = ends;
 }
 
-pub stays_looked : (v w : View) → v.part.queue.taken ≤ length v.part.queue.places → Looked v w → Stays v w
-stays_looked v w behind s = let q : Positions = w.part.queue in stays_by v w q q behind refl (ap (λ (z : View). z.runner) s.same) (ap (λ (z : View). z.ends) s.same) s.sees s.turn (grows_refl q) refl s.sees.lawful
+pub stays_found : (v w : View) (word found : ℕ) → v.part.queue.taken ≤ length v.part.queue.places → Found v word found w → Stays v w
+stays_found v w word found behind s = let q : Positions = w.part.queue in stays_by v w q q behind refl (ap (λ (z : View). z.runner) s.same) (ap (λ (z : View). z.ends) s.same) s.sees s.turn (grows_refl q) refl s.sees.lawful
+
+pub stays_room : (v w : View) (head : ℕ) → v.part.queue.taken ≤ length v.part.queue.places → FoundRoom v head w → Stays v w
+stays_room v w head behind r = let a = stays_found v r.loaded head_word head behind r.head_loaded in stays_on v r.loaded w a (stays_found r.loaded w tail_word r.tail a.behind r.tail_loaded)
 
 stays_claimed : (call : ℕ) (v w : View) (head x : ℕ) → v.part.queue.taken ≤ length v.part.queue.places → Claimed call v head x w → Stays v w
-stays_claimed call v w head x behind s = let q : Positions = s.queue in stays_by v w q (with_claim q (x ∷ [])) behind (ap (λ (z : View). z.part.queue) s.same) (ap (λ (z : View). z.runner) s.same) (ap (λ (z : View). z.ends) s.same) s.sees s.turn (claim_grows q (x ∷ [])) refl s.after
+stays_claimed call v w head x behind s = let q : Positions = s.queue in stays_by v w q (with_claim q (x ∷ [])) behind (ap (λ (z : View). z.part.queue) s.same) (ap (λ (z : View). z.runner) s.same) (ap (λ (z : View). z.ends) s.same) s.sees s.turn (claim_grows q (x ∷ []) s.is_open) refl s.after_it
 
-stays_raised : (call : ℕ) (v w : View) (start : ℕ) → v.part.queue.taken ≤ length v.part.queue.places → Raised call v start w → Stays v w
-stays_raised call v w start behind s = let q : Positions = s.queue in let low = s.low in stays_by v w q (with_write q s.at 2) behind (ap (λ (z : View). z.part.queue) s.same) (ap (λ (z : View). z.runner) s.same) (ap (λ (z : View). z.ends) s.same) s.sees s.turn (write_grows q s.at 2 s.below (omega arith)) refl s.after
+stays_raised : (call : ℕ) (v w : View) (start word stored : ℕ) → v.part.queue.taken ≤ length v.part.queue.places → Raised call v start word stored w → Stays v w
+stays_raised call v w start word stored behind s = let q : Positions = s.queue in let low = s.low in stays_by v w q (with_write q s.at 2) behind (ap (λ (z : View). z.part.queue) s.same) (ap (λ (z : View). z.runner) s.same) (ap (λ (z : View). z.ends) s.same) s.sees s.turn (write_grows q s.at 2 s.below (omega arith)) refl s.after_it
 
-pub stays_told : (call : ℕ) (v w : View) → v.part.queue.taken ≤ length v.part.queue.places → Notified call v w → Stays v w
-stays_told call v w behind s = let q : Positions = s.queue in stays_by v w q q behind (ap (λ (z : View). z.part.queue) s.same) (ap (λ (z : View). z.runner) s.same) (ap (λ (z : View). z.ends) s.same) s.sees s.turn (grows_refl q) refl s.sees.lawful
+pub stays_told : (call : ℕ) (v w : View) (found : ℕ) → v.part.queue.taken ≤ length v.part.queue.places → Notified call v found w → Stays v w
+stays_told call v w found behind s = let q : Positions = s.queue in stays_by v w q q behind (ap (λ (z : View). z.part.queue) s.same) (ap (λ (z : View). z.runner) s.same) (ap (λ (z : View). z.ends) s.same) s.sees s.turn (grows_refl q) refl s.sees.lawful
 
 pub stays_tallied : (v w : View) (found : ℕ) → v.part.queue.taken ≤ length v.part.queue.places → Tallied v found w → Stays v w
 stays_tallied v w found behind s = let q : Positions = s.queue in stays_by v w q q behind (ap (λ (z : View). z.part.queue) s.same) (ap (λ (z : View). z.runner) s.same) (ap (λ (z : View). z.ends) s.same) s.sees s.turn (grows_refl q) refl s.sees.lawful
@@ -96,8 +105,8 @@ one_raised : (x : ℕ) (i : ℕ) → i < 1 → 2 ≤ (get_or (set (fresh x ∷ [
 one_raised x zero h = omega arith
 one_raised x (suc i) h = absurd (omega arith)
 
-all_linked : (c d : ℕ) (v u w : View) (head x : ℕ) → Claimed c v head x u → Raised d u head w → AllRaised v.part.runs → AllRaised w.part.runs
-all_linked c1 d1 v u w head x c r all = let m : ℕ = number_of head u.part.runs in let runs : u.part.runs ≡ v.part.runs ++ run head x ∷ [] = ap (λ (z : View). z.part.runs) c.same in
+all_linked : (c d : ℕ) (v u w : View) (head x word stored : ℕ) → Claimed c v head x u → Raised d u head word stored w → AllRaised v.part.runs → AllRaised w.part.runs
+all_linked c1 d1 v u w head x word stored c r all = let m : ℕ = number_of head u.part.runs in let runs : u.part.runs ≡ v.part.runs ++ run head x ∷ [] = ap (λ (z : View). z.part.runs) c.same in
     let last : get_elem? u.part.runs (length v.part.runs) ≡ some (run head x) = subst (λ (z : List Batch). get_elem? z (length v.part.runs) ≡ some (run head x)) (sym runs) (at_last v.part.runs (run head x) (length v.part.runs) refl) in
     let number : m ≡ length v.part.runs = found_by_start u.part.runs (length v.part.runs) (run head x) c.distinct last in let is' : r.run ≡ run head x = one_at u.part.runs m r.run (run head x) r.has (subst (λ (z : ℕ). get_elem? u.part.runs z ≡ some (run head x)) (sym number) last) in
     subst AllRaised (sym (ap (λ (z : View). z.part.runs) r.same)) (λ k e has. ⊎_elim
@@ -105,27 +114,68 @@ all_linked c1 d1 v u w head x c r all = let m : ℕ = number_of head u.part.runs
     (λ t. ⊎_elim (λ old. all k e old) (λ new. absurd (t.0 (new.0 ∙ sym number))) (at_push v.part.runs (run head x) e k (subst (λ (z : List Batch). get_elem? z k ≡ some e) runs t.1)))
     (at_set u.part.runs m k (written_to r.run 0 2) e has))
 
+-- what the end had before it found room
+room_runs : (v w : View) (head : ℕ) → FoundRoom v head w → w.part.runs ≡ v.part.runs
+room_runs v w head r = ap (λ (z : View). z.part.runs) r.tail_loaded.same ∙ ap (λ (z : View). z.part.runs) r.head_loaded.same
+
+room_takes : (v w : View) (head : ℕ) → FoundRoom v head w → w.part.takes ≡ v.part.takes
+room_takes v w head r = ap (λ (z : View). z.part.takes) r.tail_loaded.same ∙ ap (λ (z : View). z.part.takes) r.head_loaded.same
+
+-- each run of the end ends at the head that was loaded or before it
+is_past : (v w : View) (head : ℕ) → Found v head_word head w → IsPast v head
+is_past v w head f m e has = let h = loaded_head v w head f in let st = sees_own v.part w.part.queue m e f.sees has in let start = st.start in let within = st.within in omega arith
+
 -- all that one end does up to its notify
-pub link : (call c d : ℕ) (u v t w x : View) (head note : ℕ) → c ≡ call → d ≡ call → Looked u v → Looked v t → Claimed c t head note w → Raised d w head x → Linked call u note x
-link call c d u v t w x head note same same' a b claimed raised = record {
+pub link : (call c d : ℕ) (v b w x : View) (head note : ℕ) → c ≡ call → d ≡ call → FoundRoom v head b → Claimed c b head note w → Raised d w head (place_word head) (raised_word head note) x → Linked call v note x
+link call c d v b w x head note same same' room claimed raised = record {
   head = head;
-  before = t;
-  looked = looked_on u v t a b;
+  before = b;
+  found = room;
   between = w;
-  claimed = subst (λ (z : ℕ). Claimed z t head note w) same claimed;
-  raised = subst (λ (z : ℕ). Raised z w head x) same' raised;
+  claimed = subst (λ (z : ℕ). Claimed z b head note w) same claimed;
+  raised = subst (λ (z : ℕ). Raised z w head (place_word head) (raised_word head note) x) same' raised;
+  past = is_past v room.loaded head room.head_loaded;
 }
+
+same_lines_set : (l : List Batch) (m i n : ℕ) (e : Batch) → get_elem? l m ≡ some e → map line_of (set l m (written_to e i n)) ≡ map line_of l
+same_lines_set [] m i n e h = refl
+same_lines_set (x ∷ xs) zero i n e h = ap (λ (z : List ℕ). z ∷ map line_of xs) (same_items e.places i n ∙ ap line_of (sym (some-injective x e h)))
+same_lines_set (x ∷ xs) (suc m) i n e h = ap (λ (z : List (List ℕ)). line_of x ∷ z) (same_lines_set xs m i n e h)
 
 module _ (call : ℕ) (v w : View) (note : ℕ) (l : Linked call v note w) where
   pub linked_stays : v.part.queue.taken ≤ length v.part.queue.places → Stays v w
-  linked_stays behind = let a = stays_looked v l.before behind l.looked in let b = stays_claimed call l.before l.between l.head note a.behind l.claimed in
-      stays_on v l.before w a (stays_on l.before l.between w b (stays_raised call l.between w l.head b.behind l.raised))
+  linked_stays behind = let a = stays_room v l.before l.head behind l.found in let b = stays_claimed call l.before l.between l.head note a.behind l.claimed in
+      stays_on v l.before w a (stays_on l.before l.between w b (stays_raised call l.between w l.head (place_word l.head) (raised_word l.head note) b.behind l.raised))
 
   pub linked_distinct : Distinct w.part.runs
   linked_distinct = let r = l.raised in subst Distinct (sym (ap (λ (z : View). z.part.runs) r.same)) (distinct_set l.between.part.runs (number_of l.head l.between.part.runs) r.run (written_to r.run 0 2) r.has refl l.claimed.distinct)
 
   pub linked_raised : AllRaised v.part.runs → AllRaised w.part.runs
-  linked_raised all = all_linked call call l.before l.between w l.head note l.claimed l.raised (subst AllRaised (sym (ap (λ (z : View). z.part.runs) l.looked.same)) all)
+  linked_raised all = all_linked call call l.before l.between w l.head note (place_word l.head) (raised_word l.head note) l.claimed l.raised (subst AllRaised (sym (room_runs v l.before l.head l.found)) all)
+
+  pub linked_put : PutNote note v w
+  linked_put = let c = l.claimed in let r = l.raised in record {
+    puts = ap notes_put r.same ∙ (same_lines_set l.between.part.runs (number_of l.head l.between.part.runs) 0 2 r.run r.has
+        ∙ (ap notes_put c.same ∙ (map-append line_of l.before.part.runs (run l.head note ∷ []) ∙ ap (λ (z : List Batch). map line_of z ++ alone note ∷ []) (room_runs v l.before l.head l.found))));
+    takes = ap notes_taken r.same ∙ (ap notes_taken c.same ∙ ap (map line_of) (room_takes v l.before l.head l.found));
+  }
+
+-- what was put and taken
+
+pub notes_same_of : (v w : View) → w.part.runs ≡ v.part.runs → w.part.takes ≡ v.part.takes → SameNotes v w
+notes_same_of v w runs takes = record { puts = ap (map line_of) runs; takes = ap (map line_of) takes }
+
+pub spent_notes : (v w : View) → WasSpent v w → SameNotes v w
+spent_notes v w s = notes_same_of v w (ap (λ (z : View). z.part.runs) s.loaded.same) (ap (λ (z : View). z.part.takes) s.loaded.same)
+
+pub full_notes : (v w : View) (head tail : ℕ) → WasFull v head tail w → SameNotes v w
+full_notes v w head tail s = notes_same_of v w (ap (λ (z : View). z.part.runs) s.tail_loaded.same ∙ ap (λ (z : View). z.part.runs) s.head_loaded.same) (ap (λ (z : View). z.part.takes) s.tail_loaded.same ∙ ap (λ (z : View). z.part.takes) s.head_loaded.same)
+
+pub lost_notes : (v w : View) (found : ℕ) → WasLost v found w → SameNotes v w
+lost_notes v w found s = notes_same_of v w (ap (λ (z : View). z.part.runs) s.missed.same ∙ room_runs v s.before s.first s.found) (ap (λ (z : View). z.part.takes) s.missed.same ∙ room_takes v s.before s.first s.found)
+
+pub put_on : (note : ℕ) (v u w : View) → PutNote note v u → w.part.runs ≡ u.part.runs → w.part.takes ≡ u.part.takes → PutNote note v w
+put_on note v u w p runs takes = record { puts = ap (map line_of) runs ∙ p.puts; takes = ap (map line_of) takes ∙ p.takes }
 
 module _ {Q : Type 0} (made : Q → List ℕ → Type 0) (fits : Q → Type 0) where
   pub slot_on : (v w : View) (c d : List (ℕ × Q)) → Stays v w → d ≡ c → HasSlot made fits (v, c) → HasSlot made fits (w, d)
@@ -148,14 +198,33 @@ module _ {Q : Type 0} (made : Q → List ℕ → Type 0) (fits : Q → Type 0) w
   pub slot_me : (m m' : Me Q View) → m' ≡ m → HasSlot made fits m → HasSlot made fits m'
   slot_me m m' is h = subst (HasSlot made fits) (sym is) h
 
-pub stays_up : (v u : View) → v.part.queue.taken ≤ length v.part.queue.places → CountedUp v u → Stays v (rest_of u)
-stays_up v u behind s = let q : Positions = s.queue in stays_by v (rest_of u) q q behind (ap (λ (z : View). z.part.queue) s.same) (ap (λ (z : View). z.runner) s.same) (let e : u.ends ≡ v.ends + 1 = ap (λ (z : View). z.ends) s.same in omega arith) s.sees s.turn (grows_refl q) refl s.sees.lawful
+pub stays_up : (v u : View) (found : ℕ) → v.part.queue.taken ≤ length v.part.queue.places → CountedUp v found u → Stays v (rest_of u)
+stays_up v u found behind s = let q : Positions = s.queue in stays_by v (rest_of u) q q behind (ap (λ (z : View). z.part.queue) s.same) (ap (λ (z : View). z.runner) s.same) (let e : u.ends ≡ v.ends + 1 = ap (λ (z : View). z.ends) s.same in omega arith) s.sees s.turn (grows_refl q) refl s.sees.lawful
 
-pub joined_down : (v u m w : View) → m ≡ both v u → CountedDown m w → CountedDown (both v u) w
-joined_down v u m w is s = subst (λ (z : View). CountedDown z w) is s
+pub divided : (v u w : View) (found : ℕ) → CountedUp v found u → w ≡ rest_of u → Divided v w
+divided v u w found c is = let f : w.part.queue ≡ c.queue = ap (λ (z : View). z.part.queue) is ∙ ap (λ (z : View). z.part.queue) c.same in let n : v.ends + 1 - 1 ≡ v.ends = omega arith in record {
+  found = found;
+  same = is ∙ (ap rest_of c.same ∙ (λ i. let x : View = record (after v ends_word found (sym f i)) { ends = n i; share = kept v.share } in x));
+  sees = subst (Sees v.part) (sym f) c.sees;
+  turn = subst (KeepsTaken v) (sym f) c.turn;
+}
 
-pub joined_notes : (v u w : View) → v.part.queue.taken ≤ length v.part.queue.places → CountedDown (both v u) w → v.runner ≡ true → notes_of w.part.queue ≡ notes_of v.part.queue
-joined_notes v u w behind s r = ap (λ (z : View). notes_of z.part.queue) s.same ∙ notes_same v.part.queue s.queue s.sees.later.0 (s.turn r) behind
+pub is_newborn : (v u w born : View) (found : ℕ) → CountedUp v found u → w ≡ rest_of u → born ≡ newborn u → IsNewborn v w born
+is_newborn v u w born found c is born_is = born_is ∙ (λ i. let x : View = record (newborn (sym is i)) { share = given (c.same i).share } in x)
+
+pub joined_down : (v u m w : View) (found : ℕ) → m ≡ both v u → CountedDown m found w → CountedDown (both v u) found w
+joined_down v u m w found is s = subst (λ (z : View). CountedDown z found w) is s
+
+pub took_in : (v u w : View) (found : ℕ) → v.ends ≡ 1 → u.ends ≡ 1 → CountedDown (both v u) found w → TookIn v u w
+took_in v u w found one one' c = let f : w.part.queue ≡ c.queue = ap (λ (z : View). z.part.queue) c.same in let n : v.ends + u.ends - 1 ≡ 1 = omega arith in record {
+  found = found;
+  same = c.same ∙ (λ i. let x : View = record (after (both v u) ends_word found (sym f i)) { ends = n i } in x);
+  sees = subst (Sees (both v u).part) (sym f) c.sees;
+  turn = subst (KeepsTaken (both v u)) (sym f) c.turn;
+}
+
+pub joined_notes : (v u w : View) (found : ℕ) → v.part.queue.taken ≤ length v.part.queue.places → CountedDown (both v u) found w → v.runner ≡ true → notes_of w.part.queue ≡ notes_of v.part.queue
+joined_notes v u w found behind s r = ap (λ (z : View). notes_of z.part.queue) s.same ∙ notes_same v.part.queue s.queue s.sees.later.0 (s.turn r) behind
 
 all_append : (l m : List Batch) → AllRaised l → AllRaised m → AllRaised (l ++ m)
 all_append [] m a b k e has = b k e has

@@ -5,21 +5,21 @@ use mathlib.Core.Option.{some, none}
 use lib.ListN.{get_elem?}
 use Rattle.atomic_table.specs.Table.{State, Me, step, keeps, Allows}
 use Rattle.atomic_table.proofs.Lists.{at_map}
-use Rattle.quaject_core.specs.declared.tables.Positions.{Positions}
-use Rattle.quaject_core.specs.declared.tables.QueueView.{QueueView}
-use Rattle.quaject_core.specs.Listing.{Later, ViewsShow}
-use Rattle.quaject_core.specs.Counting.{EndsCounted}
-use Rattle.quaject_core.specs.Seeing.{Sees}
-use Rattle.quaject_core.proofs.Positioned.{grows_refl}
-use Rattle.quaject_core.proofs.Listing.{listed_look}
-use Rattle.quaject_core.proofs.Seeing.{sees_now}
-use Rattle.quaject_core.proofs.Counting.{counted_look}
+use Rattle.table_theory.specs.declared.queues.Positions.{Positions}
+use Rattle.table_theory.specs.declared.queues.QueueView.{QueueView}
+use Rattle.table_theory.specs.Listing.{Later, ViewsShow}
+use Rattle.table_theory.specs.Sharing.{EndsCounted}
+use Rattle.table_theory.specs.Seeing.{Sees}
+use Rattle.table_theory.proofs.Positioned.{grows_refl}
+use Rattle.table_theory.proofs.Listing.{listed_look}
+use Rattle.table_theory.proofs.Seeing.{sees_now}
+use Rattle.table_theory.proofs.Counting.{counted_look}
 use Rattle.proc_chain.specs.declared.rule.Shape.{Shape}
 use Rattle.proc_chain.specs.declared.rule.View.{View}
 use Rattle.proc_chain.specs.Shown.{gate_in, WordsShow}
 use Rattle.proc_chain.specs.Gates.{IsSettled, GateShows, SlotShows}
 use Rattle.proc_chain.specs.Rules.{part_of, ends_of, share_of, IsIdle, Rule}
-use Rattle.proc_chain.specs.Steps.{looked, KeepsTaken, Looked, Saw, saw}
+use Rattle.proc_chain.specs.Steps.{after, KeepsTaken, Found, finds}
 use Rattle.proc_chain.proofs.Gates.{owed_on, covers_same, gated_same}
 
 pub settled_look : (q : Positions) (views : List View) (id : ℕ) (v w : View) → get_elem? views id ≡ some v → w.owes ≡ v.owes → w.part.runs ≡ v.part.runs → IsSettled q views → IsSettled q (set views id w)
@@ -45,10 +45,10 @@ module _ {Q W : Type 0} (made : Q → List ℕ → Type 0) (fits : W → Q → T
     slot = subst (λ (n : ℕ). SlotShows made fits key.world.value k.queue n s.homes) (ap (λ (z : List ℕ). get_or z 3 0) (sym same)) k.slot;
   }
 
-  -- and a view sees the queue as it is
-  pub kept_look : (s : State Q View) (k : Rule made fits key s) (i id : ℕ) (v : View) → get_elem? s.views id ≡ some v
-      → Rule made fits key record { words = set s.words i (get_or s.words i 0); homes = s.homes; views = set s.views id (looked v k.queue) }
-  kept_look s k i id v at = let w : View = looked v k.queue in
+  -- and a view has one entry more and sees the queue as it is
+  pub kept_look : (s : State Q View) (k : Rule made fits key s) (i id found : ℕ) (v : View) → get_elem? s.views id ≡ some v
+      → Rule made fits key record { words = set s.words i (get_or s.words i 0); homes = s.homes; views = set s.views id (after v i found k.queue) }
+  kept_look s k i id found v at = let w : View = after v i found k.queue in
       kept_word s k i id v w at refl (counted_look ends_of share_of IsIdle (get_or s.words 2 0) s.views id v w k.counted at refl refl (λ _ h. h))
       (gated_same k.queue k.queue (gate_in s.words) s.views id v w k.gate at refl refl (λ _. refl) (λ h. inl h) (settled_look k.queue s.views id v w at refl refl))
 
@@ -58,11 +58,8 @@ module _ {Q W : Type 0} (made : Q → List ℕ → Type 0) (fits : W → Q → T
   pub turn_of : (s : State Q View) (k : Rule made fits key s) (id : ℕ) (v : View) → get_elem? s.views id ≡ some v → KeepsTaken v k.queue
   turn_of s k id v at r = sym (k.gate.takes id v at r)
 
-  pub saw_now : (s : State Q View) (k : Rule made fits key s) (i id : ℕ) (v : View) → get_elem? s.views id ≡ some v → Saw v i (get_or s.words i 0) (looked v k.queue)
-  saw_now s k i id v at = record { same = refl; sees = sees_of s k id v at; turn = turn_of s k id v at; words = s.words; shows = k.shows; is = refl }
+  pub found_now : (s : State Q View) (k : Rule made fits key s) (i id : ℕ) (v : View) → get_elem? s.views id ≡ some v → Found v i (get_or s.words i 0) (after v i (get_or s.words i 0) k.queue)
+  found_now s k i id v at = record { same = refl; sees = sees_of s k id v at; turn = turn_of s k id v at; words = s.words; shows = k.shows; is = refl }
 
-  pub looks : (n id : ℕ) (me : Me Q View) (i : ℕ) → Allows (Rule made fits key) n id me i (λ x. x) (saw (step n i 0 0 none) me)
-  looks n id me i s k _ at _ = (looked me.0 k.queue, keeps, tt, kept_look s k i id me.0 at, (refl, saw_now s k i id me.0 at))
-
-pub looked_of : (v w : View) (i r : ℕ) → Saw v i r w → Looked v w
-looked_of v w i r s = record { same = s.same; sees = s.sees; turn = s.turn }
+  pub looks : (n id : ℕ) (me : Me Q View) (i : ℕ) → Allows (Rule made fits key) n id me i (λ x. x) (finds (step n i 0 0 none) me)
+  looks n id me i s k _ at _ = let found : ℕ = get_or s.words i 0 in (after me.0 i found k.queue, keeps, tt, kept_look s k i id found me.0 at, (refl, found_now s k i id me.0 at))

@@ -6,24 +6,24 @@ use mathlib.Core.Logic.{dite}
 use native.Mathlib.Decide.{ℕ_discrete}
 use prog.Atomic.{either}
 use Rattle.atomic_table.specs.Table.{Me, step, keeps, gives, put_back, Allows}
-use Rattle.quaject_core.specs.declared.tables.Positions.{Positions}
-use Rattle.quaject_core.specs.Positioned.{written_at, Lawful, with_take, tail_of}
-use Rattle.quaject_core.specs.Windows.{spot}
-use Rattle.quaject_core.specs.Listing.{ViewsShow}
-use Rattle.quaject_core.specs.Counting.{EndsCounted}
+use Rattle.table_theory.specs.declared.queues.Positions.{Positions}
+use Rattle.table_theory.specs.Positioned.{written_at, Lawful, Grows, with_take, tail_of}
+use Rattle.table_theory.specs.Windows.{spot}
+use Rattle.table_theory.specs.Listing.{ViewsShow}
+use Rattle.table_theory.specs.Sharing.{EndsCounted}
 use Rattle.atomic_table.proofs.Lists.{at_map, exchanged}
-use Rattle.quaject_core.proofs.Positioned.{grows_refl, take_lawful}
-use Rattle.quaject_core.proofs.Listing.{listed_take}
-use Rattle.quaject_core.proofs.Counting.{counted_look}
-use Rattle.quaject_core.proofs.Windows.{window_same, window_take, found_not_raised}
+use Rattle.table_theory.proofs.Positioned.{grows_refl, take_lawful}
+use Rattle.table_theory.proofs.Listing.{listed_take}
+use Rattle.table_theory.proofs.Counting.{counted_look}
+use Rattle.table_theory.proofs.Windows.{window_same, window_take, found_not_raised}
 use Rattle.proc_chain.specs.declared.rule.Shape.{Shape}
 use Rattle.proc_chain.specs.declared.rule.View.{View}
 use Rattle.proc_chain.specs.Shown.{note_in, mark_in, gate_in, WordsShow, notes_of}
 use Rattle.proc_chain.specs.Gates.{GateShows, SlotShows}
 use Rattle.proc_chain.specs.Rules.{part_of, ends_of, share_of, IsIdle, Rule}
-use Rattle.proc_chain.specs.Steps.{looked, Saw, spies, took, takes, rounds, leaves, Carries}
+use Rattle.proc_chain.specs.Steps.{after, spies, took, takes, rounds, leaves, Carries}
 use Rattle.proc_chain.proofs.Gates.{gated_same, gated_runs, gated_leaves, others_still, gate_up, notes_same}
-use Rattle.proc_chain.proofs.Looks.{settled_look, kept_word, kept_look, sees_of, turn_of, saw_now}
+use Rattle.proc_chain.proofs.Looks.{settled_look, kept_word, kept_look, sees_of, turn_of, found_now}
 use Rattle.quaject_core.specs.Chains as chains
 use Rattle.proc_chain.specs.Chainings.{IsChainEvent}
 use Rattle.proc_chain.proofs.Events.{take_event, round_event, leave_event}
@@ -46,20 +46,26 @@ module _ {Q W : Type 0} (made : Q → List ℕ → Type 0) (fits : W → Q → T
   spies_place n id me i r live word s k _ at _ = let v : View = me.0 in let q : Positions = k.queue in let g = k.listed.seen id v.part (at_map part_of s.views id v at) in let y : ℕ = get_or s.words i 0 in
       let taken = k.gate.takes id v at r in let first = g.0.first in let room = k.shows.room in let tail : tail_of v.part.queue ≡ tail_of q = omega arith in let behind = k.lawful.behind in
       dite (ℕ_discrete (y / 65536) (tail_of v.part.queue + 1))
-      (λ up. (looked v q, keeps, tt, kept_look made fits key s k i id v at, (refl, record { up = λ _. subst (λ (z : ℕ). Saw v z y (looked v q)) word (saw_now made fits key s k i id v at); low = λ ne. absurd (ne up) })))
-      (λ no. let here : i ≡ spot q q.taken + 4 = word ∙ (λ j. tail j % sym room j + 4) in let w : View = record (looked v q) { saw = true } in
+      (λ up. (after v i y q, keeps, tt, kept_look made fits key s k i id y v at, (refl, record { up = λ _. found_now made fits key s k i id v at; low = λ ne. absurd (ne up) })))
+      (λ no. let here : i ≡ spot q q.taken + 4 = word ∙ (λ j. tail j % sym room j + 4) in let w : View = record (after v i y q) { saw = true } in
       let low : written_at q q.taken < 2 = found_not_raised q (mark_in s.words) (note_in s.words) q.taken k.shows.window (omega arith) (omega arith) (λ h. no (ap (λ (z : ℕ). get_or s.words z 0 / 65536) here ∙ (h ∙ (omega arith)))) in (
         w,
         keeps,
         tt,
         kept_word made fits key s k i id v w at refl (counted_look ends_of share_of IsIdle (get_or s.words 2 0) s.views id v w k.counted at refl refl (λ none. absurd (omega arith)))
             (gated_same q q (gate_in s.words) s.views id v w k.gate at refl refl (λ _. refl) (λ _. inr (λ up. absurd (omega arith))) (settled_look q s.views id v w at refl refl)),
-        (refl, record { up = λ up. absurd (no up); low = λ _. record { queue = q; same = refl; sees = sees_of made fits key s k id v at; turn = sym taken; low = low } }),
+        (refl, record { up = λ up. absurd (no up); low = λ _. record { same = refl; sees = sees_of made fits key s k id v at; turn = sym taken; words = s.words; shows = k.shows; is = refl; low = low } }),
       ))
 
-  pub takes_note : (n id call : ℕ) (me : Me Q View) (new : ℕ) → call ≡ id → me.0.runner ≡ true → 1 ≤ me.0.ends → 2 ≤ written_at me.0.part.queue me.0.part.queue.taken → new ≡ tail_of me.0.part.queue + 1 → Allows (Rule made fits key) n id me 1 (λ _. new) (λ _. takes call (step n 1 new 0 none) me new)
-  takes_note n id call me new own r live up is s k _ at _ = let v : View = me.0 in let q : Positions = k.queue in let g = k.listed.seen id v.part (at_map part_of s.views id v at) in let taken = k.gate.takes id v at r in let first = g.0.first in
-      let w : View = took v q in let q' : Positions = with_take q 1 in let more = g.0.more v.part.queue.taken in
+  -- the quaject in hand was made by the notes taken
+  carried : (suits : Q → Type 0) (q : Positions) (me : Me Q View) → ((x : Q) → fits key.world.value x → suits x) → Grows me.0.part.queue q → q.taken ≡ me.0.part.queue.taken → me.0.part.queue.taken ≤ length me.0.part.queue.places
+      → Carries made (fits key.world.value) (notes_of me.0.part.queue) [] me.1 → Carries made suits (notes_of q) [] me.1
+  carried suits q me fit g same behind c = (c.0, c.1, subst (made c.0) (sym (notes_same me.0.part.queue q g same behind)) c.2, fit c.0 c.3)
+
+  pub takes_note : (suits : Q → Type 0) (n id call : ℕ) (me : Me Q View) (new : ℕ) → call ≡ id → ((x : Q) → fits key.world.value x → suits x) → me.0.runner ≡ true → 1 ≤ me.0.ends → 2 ≤ written_at me.0.part.queue me.0.part.queue.taken → new ≡ tail_of me.0.part.queue + 1
+      → me.0.part.queue.taken ≤ length me.0.part.queue.places → Carries made (fits key.world.value) (notes_of me.0.part.queue) [] me.1 → Allows (Rule made fits key) n id me 1 (λ _. new) (λ _. takes made suits call (step n 1 new 0 none) me new)
+  takes_note suits n id call me new own fit r live up is behind c s k _ at _ = let v : View = me.0 in let q : Positions = k.queue in let g = k.listed.seen id v.part (at_map part_of s.views id v at) in let taken = k.gate.takes id v at r in let first = g.0.first in
+      let w : View = took v new q in let q' : Positions = with_take q 1 in let more = g.0.more v.part.queue.taken in
       let now : 2 ≤ written_at q q.taken = subst (λ (z : ℕ). 2 ≤ written_at q z) taken (let f : 2 ≤ written_at q v.part.queue.taken = omega arith in f) in
       let lawful' : Lawful q' = take_lawful q 1 k.lawful (λ i b. let e : q.taken ≡ q.taken + i = omega arith in subst (λ (z : ℕ). 2 ≤ written_at q z) e now) in
       let keep : (j : ℕ) → j ≢ 1 → get_or (set s.words 1 new) j 0 ≡ get_or s.words j 0 = λ j ne. get_or-set_other s.words 1 j new 0 ne in let not_idle = gate_up q (gate_in s.words) s.views id v k.gate at r in (
@@ -83,16 +89,20 @@ module _ {Q W : Type 0} (made : Q → List ℕ → Type 0) (fits : W → Q → T
             same = refl;
             sees = sees_of made fits key s k id v at;
             turn = sym taken;
+            at = omega arith;
             gate = gate_in s.words;
             event = subst (λ (z : ℕ). IsChainEvent q q' (gate_in s.words) (gate_in s.words) z v w (chains.take_note z 1)) (sym own)
                 (take_event q (gate_in s.words) s.views id v w k.listed at k.lawful k.gate r lawful'.behind now refl refl (grows_refl q', grows_refl q') refl refl);
-            after = lawful';
+            after_it = lawful';
+            carries = carried suits q me fit g.0 (sym taken) behind c;
           },
         ),
       )
 
-  pub rounds_gate : (n id call : ℕ) (me : Me Q View) → call ≡ id → me.0.runner ≡ true → 1 ≤ me.0.ends → Allows (Rule made fits key) n id me 3 (λ _. 1) (rounds call (step n 3 1 0 none) me)
-  rounds_gate n id call me own r live s k _ at _ = let v : View = me.0 in let q : Positions = k.queue in let not_idle = gate_up q (gate_in s.words) s.views id v k.gate at r in let w : View = record (looked v q) { saw = false } in (
+  pub rounds_gate : (suits : Q → Type 0) (n id call : ℕ) (me : Me Q View) → call ≡ id → ((x : Q) → fits key.world.value x → suits x) → me.0.runner ≡ true → 1 ≤ me.0.ends → me.0.part.queue.taken ≤ length me.0.part.queue.places
+      → Carries made (fits key.world.value) (notes_of me.0.part.queue) [] me.1 → Allows (Rule made fits key) n id me 3 (λ _. 1) (rounds made suits call (step n 3 1 0 none) me)
+  rounds_gate suits n id call me own fit r live behind c s k _ at _ = let v : View = me.0 in let q : Positions = k.queue in let g = k.listed.seen id v.part (at_map part_of s.views id v at) in let not_idle = gate_up q (gate_in s.words) s.views id v k.gate at r in
+      let w : View = record (after v 3 (gate_in s.words) q) { saw = false } in (
     w,
     keeps,
     tt,
@@ -105,17 +115,17 @@ module _ {Q W : Type 0} (made : Q → List ℕ → Type 0) (fits : W → Q → T
         same = refl;
         sees = sees_of made fits key s k id v at;
         turn = turn_of made fits key s k id v at r;
-        gate = gate_in s.words;
         event = subst (λ (z : ℕ). IsChainEvent q q (gate_in s.words) 1 z v w (chains.round z)) (sym own) (round_event q (gate_in s.words) s.views id v w k.listed at k.lawful k.gate r refl refl (grows_refl q, grows_refl q) refl refl);
+        carries = carried suits q me fit g.0 (turn_of made fits key s k id v at r) behind c;
       },
     ),
   )
 
-  pub leaves_gate : (n id call : ℕ) (me : Me Q View) → call ≡ id → me.0.runner ≡ true → me.0.saw ≡ true → 1 ≤ me.0.ends → me.0.part.queue.taken ≤ length me.0.part.queue.places → Carries made (fits key.world.value) (notes_of me.0.part.queue) [] me.1
-      → Allows (Rule made fits key) n id me 3 (λ y. either (eqb y 1) 0 y) (leaves call (step n 3 1 0 none) me)
-  leaves_gate n id call me own r sw live behind c s k _ at _ = let y : ℕ = gate_in s.words in let v : View = me.0 in let q : Positions = k.queue in let g = k.listed.seen id v.part (at_map part_of s.views id v at) in let not_idle = gate_up q y s.views id v k.gate at r in let taken = k.gate.takes id v at r in
-      exchanged y 1 0 (Goes made fits key s 3 id me (leaves call (step n 3 1 0 none) me y))
-      (λ hit. let w : View = record (looked v q) { runner = false; saw = false } in let gate' : GateShows q 0 (set s.views id w) = gated_leaves q s.views id v w (subst (λ (z : ℕ). GateShows q z s.views) hit k.gate) at r sw refl refl refl in (
+  pub leaves_gate : (suits : Q → Type 0) (n id call : ℕ) (me : Me Q View) → call ≡ id → ((x : Q) → fits key.world.value x → suits x) → me.0.runner ≡ true → me.0.saw ≡ true → 1 ≤ me.0.ends → me.0.part.queue.taken ≤ length me.0.part.queue.places → Carries made (fits key.world.value) (notes_of me.0.part.queue) [] me.1
+      → Allows (Rule made fits key) n id me 3 (λ y. either (eqb y 1) 0 y) (leaves made suits call (step n 3 1 0 none) me)
+  leaves_gate suits n id call me own fit r sw live behind c s k _ at _ = let y : ℕ = gate_in s.words in let v : View = me.0 in let q : Positions = k.queue in let g = k.listed.seen id v.part (at_map part_of s.views id v at) in let not_idle = gate_up q y s.views id v k.gate at r in let taken = k.gate.takes id v at r in
+      exchanged y 1 0 (Goes made fits key s 3 id me (leaves made suits call (step n 3 1 0 none) me y))
+      (λ hit. let w : View = record (after v 3 1 q) { runner = false; saw = false } in let gate' : GateShows q 0 (set s.views id w) = gated_leaves q s.views id v w (subst (λ (z : ℕ). GateShows q z s.views) hit k.gate) at r sw refl refl refl in (
         w,
         gives,
         tt,
@@ -131,9 +141,10 @@ module _ {Q W : Type 0} (made : Q → List ℕ → Type 0) (fits : W → Q → T
               turn = sym taken;
               event = subst (λ (z : ℕ). IsChainEvent q q 1 0 z v w (chains.leave z)) (sym own) (subst (λ (z : ℕ). IsChainEvent q q z 0 id v w (chains.leave id)) hit
                   (leave_event q y s.views id v w k.listed at k.lawful k.gate hit r (k.gate.seen id v at r sw hit) refl refl (grows_refl q, grows_refl q) (gate'.still refl) refl));
+              carries = carried suits q me fit g.0 (sym taken) behind c;
             },
           )),
           λ miss. absurd (miss hit),
         ),
       ))
-      (λ miss. let small = k.gate.small in (looked v q, keeps, tt, kept_look made fits key s k 3 id v at, ((λ hit. absurd (miss hit)), λ _. (refl, saw_now made fits key s k 3 id v at, (let f : y ≢ 0 = not_idle in let m : y ≢ 1 = miss in omega arith)))))
+      (λ miss. let small = k.gate.small in (after v 3 y q, keeps, tt, kept_look made fits key s k 3 id y v at, ((λ hit. absurd (miss hit)), λ _. (refl, found_now made fits key s k 3 id v at, (let f : y ≢ 0 = not_idle in let m : y ≢ 1 = miss in omega arith)))))

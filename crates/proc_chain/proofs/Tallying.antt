@@ -4,22 +4,22 @@ use Rattle.std.proofs.lemmas.List.{map-set, map-append}
 use mathlib.Core.Option.{some, none, some-injective, some-ne-none}
 use lib.ListN.{get_elem?}
 use Rattle.atomic_table.specs.Table.{State, Me, step, keeps, Allows, Splits, Joins, opening}
-use Rattle.quaject_core.specs.declared.tables.Positions.{Positions}
-use Rattle.quaject_core.specs.declared.tables.QueueView.{QueueView}
-use Rattle.quaject_core.specs.Windows.{spot}
-use Rattle.quaject_core.specs.Listing.{Later, ViewsShow}
-use Rattle.quaject_core.specs.Counting.{EndsCounted}
+use Rattle.table_theory.specs.declared.queues.Positions.{Positions}
+use Rattle.table_theory.specs.declared.queues.QueueView.{QueueView}
+use Rattle.table_theory.specs.Windows.{spot}
+use Rattle.table_theory.specs.Listing.{Later, ViewsShow}
+use Rattle.table_theory.specs.Sharing.{EndsCounted}
 use Rattle.atomic_table.proofs.Lists.{at_map, set_else}
-use Rattle.quaject_core.proofs.Positioned.{grows_refl}
-use Rattle.quaject_core.proofs.Listing.{listed_look, listed_new, listed_join, listed_first, distinct}
-use Rattle.quaject_core.proofs.Counting.{counted_up, counted_down, counted_split, counted_join, counted_first}
-use Rattle.quaject_core.proofs.Windows.{window_same}
+use Rattle.table_theory.proofs.Positioned.{grows_refl}
+use Rattle.table_theory.proofs.Listing.{listed_look, listed_new, listed_join, listed_first, distinct}
+use Rattle.table_theory.proofs.Counting.{counted_up, counted_down, counted_split, counted_join, counted_first, count_found}
+use Rattle.table_theory.proofs.Windows.{window_same}
 use Rattle.proc_chain.specs.declared.rule.Shape.{Shape}
 use Rattle.proc_chain.specs.declared.rule.View.{View}
 use Rattle.proc_chain.specs.Shown.{note_in, mark_in, gate_in, WordsShow}
 use Rattle.proc_chain.specs.Gates.{GateShows, SlotShows}
 use Rattle.proc_chain.specs.Rules.{part_of, ends_of, share_of, IsIdle, Rule, empty_from, newcomer}
-use Rattle.proc_chain.specs.Steps.{looked, counts_up, counts_down, counts, rest_of, halves, both, emptied}
+use Rattle.proc_chain.specs.Steps.{after, counts_up, counts_down, counts, rest_of, newborn, both, emptied}
 use Rattle.proc_chain.proofs.Gates.{owed_on, covers_more, gated_same, gated_new}
 use Rattle.proc_chain.proofs.Looks.{settled_look, kept_look, sees_of, turn_of}
 
@@ -66,17 +66,17 @@ module _ {Q W : Type 0} (made : Q → List ℕ → Type 0) (fits : W → Q → T
     slot = subst (λ (c : ℕ). SlotShows made fits key.world.value k.queue c s.homes) (sym keep) k.slot;
   }
 
-  pub ups : (n id : ℕ) (me : Me Q View) → 1 ≤ me.0.ends → Allows (Rule made fits key) n id me 2 (λ x. (x + 1) % 18446744073709551616) (counts_up (step n 2 1 0 none) me)
-  ups n id me live s k _ at _ = let v : View = me.0 in let w : View = record (looked v k.queue) { ends = v.ends + 1 } in let c : ℕ = get_or s.words 2 0 in (
+  pub ups : (n id : ℕ) (me : Me Q View) → me.0.ends + 1 ≤ me.0.share → Allows (Rule made fits key) n id me 2 (λ x. (x + 1) % 18446744073709551616) (counts_up (step n 2 1 0 none) me)
+  ups n id me parts s k _ at _ = let v : View = me.0 in let c : ℕ = get_or s.words 2 0 in let w : View = record (after v 2 c k.queue) { ends = v.ends + 1 } in (
     w,
     keeps,
     tt,
-    kept_count s k id ((c + 1) % 18446744073709551616) v w at refl refl refl refl (counted_up ends_of share_of IsIdle c s.views id v w k.counted at live refl refl),
+    kept_count s k id ((c + 1) % 18446744073709551616) v w at refl refl refl refl (counted_up ends_of share_of IsIdle c s.views id v w k.counted at parts refl refl),
     (refl, record { queue = k.queue; same = refl; sees = sees_of made fits key s k id v at; turn = turn_of made fits key s k id v at }),
   )
 
   pub downs : (n id : ℕ) (me : Me Q View) → 2 ≤ me.0.ends → Allows (Rule made fits key) n id me 2 (λ x. (x + (18446744073709551616 - 1)) % 18446744073709551616) (counts_down (step n 2 1 0 none) me)
-  downs n id me live s k _ at _ = let v : View = me.0 in let w : View = record (looked v k.queue) { ends = v.ends - 1 } in let c : ℕ = get_or s.words 2 0 in (
+  downs n id me live s k _ at _ = let v : View = me.0 in let c : ℕ = get_or s.words 2 0 in let w : View = record (after v 2 c k.queue) { ends = v.ends - 1 } in (
     w,
     keeps,
     tt,
@@ -85,12 +85,12 @@ module _ {Q W : Type 0} (made : Q → List ℕ → Type 0) (fits : W → Q → T
   )
 
   -- the count is found
-  pub tallies : (n id : ℕ) (me : Me Q View) → 1 ≤ me.0.ends → Allows (Rule made fits key) n id me 2 (λ x. x) (counts (step n 2 0 0 none) me)
-  tallies n id me live s k _ at _ = let v : View = me.0 in (
-    looked v k.queue,
+  pub tallies : (n id : ℕ) (me : Me Q View) → me.0.ends ≡ 1 → Allows (Rule made fits key) n id me 2 (λ x. x) (counts (step n 2 0 0 none) me)
+  tallies n id me one s k _ at _ = let v : View = me.0 in let c : ℕ = get_or s.words 2 0 in (
+    after v 2 c k.queue,
     keeps,
     tt,
-    kept_look made fits key s k 2 id v at,
+    kept_look made fits key s k 2 id c v at,
     (
       refl,
       record {
@@ -98,30 +98,26 @@ module _ {Q W : Type 0} (made : Q → List ℕ → Type 0) (fits : W → Q → T
         same = refl;
         sees = sees_of made fits key s k id v at;
         turn = turn_of made fits key s k id v at;
-        views = s.views;
-        seat = id;
-        here = at;
-        shown = k.listed;
-        counted = k.counted;
+        count = count_found ends_of share_of IsIdle c s.views id v k.counted at one;
       },
     ),
   )
 
-  pub splits : (id : ℕ) (v : View) → 2 ≤ v.ends → Splits (Rule made fits key) id v (rest_of v) (halves v)
-  splits id v live s k at = let later = k.listed.seen id v.part (at_map part_of s.views id v at) in record {
+  pub splits : (id : ℕ) (v : View) → v.ends ≡ 2 → Splits (Rule made fits key) id v (rest_of v) (newborn v)
+  splits id v two s k at = let later = k.listed.seen id v.part (at_map part_of s.views id v at) in record {
     queue = k.queue;
     first = k.first;
     lawful = k.lawful;
     shows = k.shows;
-    listed = subst (ViewsShow k.queue) (sym (map-append part_of (set s.views id (rest_of v)) (halves v ∷ []) ∙ ap (λ (z : List QueueView). z ++ (halves v).part ∷ []) (map-set part_of s.views id (rest_of v))))
-        (listed_new k.queue (set (map part_of s.views) id v.part) (halves v).part (listed_look k.queue (map part_of s.views) id v.part v.part k.listed (at_map part_of s.views id v at) refl refl later) refl refl later);
-    counted = counted_split ends_of share_of IsIdle (get_or s.words 2 0) s.views id v (rest_of v) (halves v) k.counted at (omega arith) (omega arith) (omega arith) refl refl;
-    gate = gated_new k.queue (gate_in s.words) (set s.views id (rest_of v)) (halves v) (gated_same k.queue k.queue (gate_in s.words) s.views id v (rest_of v) k.gate at refl refl (λ r. k.gate.takes id v at r) (λ h. inl h) (settled_look k.queue s.views id v (rest_of v) at refl refl)) refl;
+    listed = subst (ViewsShow k.queue) (sym (map-append part_of (set s.views id (rest_of v)) (newborn v ∷ []) ∙ ap (λ (z : List QueueView). z ++ (newborn v).part ∷ []) (map-set part_of s.views id (rest_of v))))
+        (listed_new k.queue (set (map part_of s.views) id v.part) (newborn v).part (listed_look k.queue (map part_of s.views) id v.part v.part k.listed (at_map part_of s.views id v at) refl refl later) refl refl later);
+    counted = counted_split ends_of share_of IsIdle (get_or s.words 2 0) s.views id v (rest_of v) (newborn v) k.counted at two (omega arith) refl refl refl;
+    gate = gated_new k.queue (gate_in s.words) (set s.views id (rest_of v)) (newborn v) (gated_same k.queue k.queue (gate_in s.words) s.views id v (rest_of v) k.gate at refl refl (λ r. k.gate.takes id v at r) (λ h. inl h) (settled_look k.queue s.views id v (rest_of v) at refl refl)) refl;
     slot = k.slot;
   }
 
-  pub joins : (id other : ℕ) (v w : View) → 1 ≤ v.ends → 1 ≤ w.ends → w.runner ≡ false → w.owes ≡ false → Joins (Rule made fits key) id v other w (both v w) (emptied v)
-  joins id other v w live live' r ow s k at ne has = let at' : get_elem? s.views other ≡ some w = sym (set_else s.views id other (both v w) ne) ∙ has in
+  pub joins : (id other : ℕ) (v w : View) → 1 ≤ v.ends → w.runner ≡ false → w.owes ≡ false → Joins (Rule made fits key) id v other w (both v w) (emptied v)
+  joins id other v w live r ow s k at ne has = let at' : get_elem? s.views other ≡ some w = sym (set_else s.views id other (both v w) ne) ∙ has in
       let later = k.listed.seen id v.part (at_map part_of s.views id v at) in let later' = k.listed.seen other w.part (at_map part_of s.views other w at') in
       let g = gated_same k.queue k.queue (gate_in s.words) s.views id v (both v w) k.gate at refl refl (λ t. k.gate.takes id v at t) (λ h. inl h) (λ st up. owed_on k.queue k.queue s.views id v (both v w) at (st up) refl (λ h. h) (λ _. covers_more v (both v w) w.part.runs refl)) in record {
         queue = k.queue;
@@ -130,7 +126,7 @@ module _ {Q W : Type 0} (made : Q → List ℕ → Type 0) (fits : W → Q → T
         shows = k.shows;
         listed = subst (ViewsShow k.queue) (sym (map-set part_of (set s.views id (both v w)) other (emptied v) ∙ ap (λ (z : List QueueView). set z other (emptied v).part) (map-set part_of s.views id (both v w))))
             (listed_join k.queue (map part_of s.views) id other v.part w.part (both v w).part (emptied v).part k.listed (at_map part_of s.views id v at) (at_map part_of s.views other w at') ne refl refl refl refl (later.0, later'.0) later);
-        counted = counted_join ends_of share_of IsIdle (get_or s.words 2 0) s.views id other v w (both v w) (emptied v) k.counted at at' ne live live' refl refl refl refl (refl, refl, refl, refl);
+        counted = counted_join ends_of share_of IsIdle (get_or s.words 2 0) s.views id other v w (both v w) (emptied v) k.counted at at' ne live refl refl refl refl (refl, refl, refl, refl);
         gate = gated_same k.queue k.queue (gate_in s.words) (set s.views id (both v w)) other w (emptied v) g has (sym r) refl (λ h. absurd (true≢false (sym h))) (λ h. absurd (true≢false (sym h)))
             (λ st up. owed_on k.queue k.queue (set s.views id (both v w)) other w (emptied v) has (st up) refl (λ h. absurd (true≢false (sym h ∙ ow))) (λ h. absurd (true≢false (sym h ∙ ow))));
         slot = k.slot;

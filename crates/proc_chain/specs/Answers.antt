@@ -1,56 +1,73 @@
--- What chaining a note answers.
-use Rattle.std.specs.Prelude.{◌≡◌, ℕ, ◌+◌, ◌<◌, Bool, true, false, length, List}
-use Rattle.quaject_core.specs.declared.tables.Positions.{Positions}
-use Rattle.quaject_core.specs.Positioned.{Grows, head_of, tail_of}
-use Rattle.quaject_core.specs.Seeing.{Sees}
+-- What chaining a note answers, by the steps that it made.
+use Rattle.std.specs.Prelude.{◌≡◌, ℕ, ◌+◌, ◌<◌, ◌≤◌, Bool, true, false, length, List}
+use mathlib.Core.Option.{some}
+use lib.ListN.{get_elem?}
+use Rattle.table_theory.specs.declared.queues.Batch.{Batch}
 use Rattle.atomic_table.specs.Table.{Me}
 use Rattle.proc_chain.specs.declared.rule.View.{View}
 use Rattle.proc_chain.specs.declared.chaining.ChainRefusal.{ChainRefusal}
 use Rattle.proc_chain.specs.declared.chaining.ChainRefusal.TheVariants.{Spent, Full, Lost}
 use Rattle.proc_chain.specs.declared.chaining.Chained.{Chained}
 use Rattle.proc_chain.specs.declared.chaining.Chained.TheVariants.{Run, Left}
-use Rattle.proc_chain.specs.Steps.{Looked, Claimed, Raised, GotTurn, Notified}
+use Rattle.proc_chain.specs.Shown.{head_word, tail_word, place_word, raised_word}
+use Rattle.proc_chain.specs.Steps.{Found, Claimed, Raised, GotTurn, Notified}
 
--- q was the queue at a step between the view v and the view w
-pub record Between (v : View) (q : Positions) (w : View) : Type 0 where
-  pub sees : Sees v.part q
-  pub earlier : Grows q w.part.queue
+-- the head was loaded, with a position left, and then the tail, with room for one more behind it
+pub record FoundRoom (v : View) (head : ℕ) (w : View) : Type 0 where
+  pub tail : ℕ
+  pub loaded : View
+  pub head_loaded : Found v head_word head loaded
+  pub tail_loaded : Found loaded tail_word tail w
+  pub position : head < 4294967295
+  pub fits : head < tail + 32
 
--- at the step that found the head, there was no room for one more
-pub record WasFull (v : View) (head tail : ℕ) (w : View) : Type 0 where
-  pub queue : Positions
-  pub then : Between v queue w
-  pub head_is : head ≡ head_of queue
-  pub full : queue.taken + 32 < length queue.places + 1
-  pub tail_is : tail ≡ tail_of w.part.queue
-
--- at the step that found the head, one more would have gone past the last position
+-- the head that was loaded is past the last position
 pub record WasSpent (v w : View) : Type 0 where
-  pub queue : Positions
-  pub then : Between v queue w
-  pub spent : 4294967295 < head_of queue + 1
+  pub head : ℕ
+  pub loaded : Found v head_word head w
+  pub spent : 4294967295 ≤ head
 
--- the head that was found at the end is past the one that was found first
+-- The head was loaded, with a position left, and then the tail, with no room behind it. So there was none when the head
+-- was loaded
+pub record WasFull (v : View) (head tail : ℕ) (w : View) : Type 0 where
+  pub loaded : View
+  pub head_loaded : Found v head_word head loaded
+  pub tail_loaded : Found loaded tail_word tail w
+  pub position : head < 4294967295
+  pub full : tail + 32 ≤ head
+  pub was_full : loaded.part.queue.taken + 32 ≤ length loaded.part.queue.places
+
+-- the end found room, but the exchange found another head, past the one loaded
 pub record WasLost (v : View) (head : ℕ) (w : View) : Type 0 where
-  pub queue : Positions
-  pub then : Between v queue w
-  pub past : head_of queue < head
-  pub head_is : head ≡ head_of w.part.queue
+  pub first : ℕ
+  pub before : View
+  pub found : FoundRoom v first before
+  pub missed : Found before head_word head w
+  pub past : first < head
 
--- what a refused note says
-abbrev pub Refused : View → ChainRefusal → View → Type 0
-Refused v Spent w = Looked v w × WasSpent v w
-Refused v (Full head tail) w = Looked v w × WasFull v head tail w
-Refused v (Lost head) w = Looked v w × WasLost v head w
+-- what a refused note says, by what the end knew
+abbrev pub WasRefused : View → ChainRefusal → View → Type 0
+WasRefused v Spent w = WasSpent v w
+WasRefused v (Full head tail) w = WasFull v head tail w
+WasRefused v (Lost head) w = WasLost v head w
 
--- the end looked, claimed the note by one step, and raised it by one
+-- and what the end holds stays as it was
+abbrev pub Refused : {Q : Type 0} → Me Q View → ChainRefusal → Me Q View → Type 0
+Refused me refusal me' = WasRefused me.0 refusal me'.0 × (me'.1 ≡ me.1)
+
+-- the position is at or past the end of each of the end's runs
+abbrev pub IsPast : View → ℕ → Type 0
+IsPast v position = (m : ℕ) (e : Batch) → get_elem? v.part.runs m ≡ some e → e.start + length e.places ≤ position
+
+-- The end found room, claimed the note by one exchange of the head that it had loaded, and raised it there
 pub record Linked (call : ℕ) (v : View) (note : ℕ) (w : View) : Type 0 where
   pub head : ℕ
   pub before : View
-  pub looked : Looked v before
+  pub found : FoundRoom v head before
   pub between : View
   pub claimed : Claimed call before head note between
-  pub raised : Raised call between head w
+  pub raised : Raised call between head (place_word head) (raised_word head note) w
+  pub past : IsPast v head
 
 -- Claim, raise and notify, one behind the other: Run exactly where the notify found the gate Idle
 abbrev pub IsChained : {Q : Type 0} → (Q → List ℕ → Type 0) → (Q → Type 0) → ℕ → Me Q View → ℕ → Chained → Me Q View
@@ -58,7 +75,7 @@ abbrev pub IsChained : {Q : Type 0} → (Q → List ℕ → Type 0) → (Q → T
 IsChained {Q} made fits call me note (Run turn) me' =
     (u : View) × Linked call me.0 note u × GotTurn made fits call (u, me.1) me'
 IsChained {Q} made fits call me note Left me' =
-    (u : View) × Linked call me.0 note u × Notified call u me'.0 × (me'.1 ≡ me.1)
+    (u : View) × (gate : ℕ) × Linked call me.0 note u × Notified call u gate me'.0 × (me'.1 ≡ me.1)
 
 -- the end got the Turn
 abbrev pub is_run : Chained → Bool

@@ -6,18 +6,20 @@ use mathlib.Core.Option.{some, none}
 use lib.ListN.{get_elem?}
 use Rattle.atomic_table.specs.Table.{State}
 use Rattle.quaject_core.specs.declared.status.Gate.TheVariants.{Idle}
-use Rattle.quaject_core.specs.declared.tables.Batch.{Batch}
+use Rattle.table_theory.specs.declared.queues.Batch.{Batch}
 use Rattle.quaject_core.specs.Runs.{flat, pairs}
 use Rattle.quaject_core.specs.Queues.{is_raised}
 use Rattle.quaject_core.specs.Chains.{Chain, is_call}
 use Rattle.quaject_core.specs.Lawful.{IsLawfulChain}
-use Rattle.quaject_core.specs.Positioned.{item_of}
-use Rattle.quaject_core.specs.Filing.{Owned, ListedOnce}
-use Rattle.quaject_core.specs.Listing.{all_places, Chained}
-use Rattle.quaject_core.specs.QueueOf.{run_in, up_in}
+use Rattle.table_theory.specs.Positioned.{item_of}
+use Rattle.table_theory.specs.Filing.{Owned, ListedOnce}
+use Rattle.table_theory.specs.Listing.{all_places, Chained}
+use Rattle.table_theory.specs.QueueOf.{run_in, up_in}
+use Rattle.table_theory.specs.Sharing.{EndsCounted}
 use Rattle.proc_chain.specs.declared.rule.Shape.{Shape}
 use Rattle.proc_chain.specs.declared.rule.View.{View}
 use Rattle.proc_chain.specs.Shown.{note_in, mark_in, gate_in}
+use Rattle.proc_chain.specs.Rules.{ends_of, share_of, IsIdle}
 use Rattle.proc_chain.specs.Chainings.{gate_of}
 
 -- the pair (run, index) of the note with this number
@@ -58,6 +60,8 @@ pub record IsShown {W : Type 0} (key : Shape W) (words : List ℕ) (views : List
   -- an end is the runner exactly where it knows so, and owes a notify exactly where it knows so
   pub runner : (call : ℕ) (v : View) → get_elem? views call ≡ some v → v.runner ≡ is_call call c.runner
   pub owing : (call : ℕ) (v : View) → get_elem? views call ≡ some v → v.owes ≡ c.owing call
+  -- a word has the exact number of ends
+  pub counted : EndsCounted ends_of share_of IsIdle (slice_index_or words 2 0) views
 
 -- There is a lawful chain that is shown. Where its gate is Idle, the quaject is in the slot, was made by the notes
 -- taken, in order, and fits the world; else its runner holds the slot

@@ -7,11 +7,11 @@ use lib.ListN.{get_elem?}
 use Rattle.quaject_core.specs.declared.refusal.Refusal.{Refusal}
 use Rattle.quaject_core.specs.declared.status.Gate.{Gate}
 use Rattle.quaject_core.specs.declared.status.Gate.TheVariants.{Idle, Running, More}
-use Rattle.quaject_core.specs.declared.tables.Batch.{Batch}
-use Rattle.quaject_core.specs.declared.tables.Positions.{Positions}
-use Rattle.quaject_core.specs.Filing.{Owned}
-use Rattle.quaject_core.specs.Listing.{ViewsShow}
-use Rattle.quaject_core.specs.QueueOf.{queue_of}
+use Rattle.table_theory.specs.declared.queues.Batch.{Batch}
+use Rattle.table_theory.specs.declared.queues.Positions.{Positions}
+use Rattle.table_theory.specs.Filing.{Owned}
+use Rattle.table_theory.specs.Listing.{ViewsShow}
+use Rattle.table_theory.specs.QueueOf.{queue_of}
 use Rattle.quaject_core.specs.Chains.{Chain}
 use Rattle.quaject_core.specs.Lawful.{IsLawfulChain}
 use Rattle.proc_chain.specs.declared.rule.View.{View}

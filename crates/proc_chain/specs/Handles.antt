@@ -1,12 +1,12 @@
 -- What a clause says of a chain and of an end.
-use Rattle.std.specs.Prelude.{◌≡◌, ℕ, Bool}
-use Rattle.quaject_core.specs.Sharing.{IsWhole}
+use Rattle.std.specs.Prelude.{◌≡◌, ◌≤◌, ℕ, Bool}
+use Rattle.table_theory.specs.Seating.{IsSame}
+use Rattle.table_theory.specs.Sharing.{IsWhole}
 use Rattle.atomic_table.specs.Table.{Me}
 use Rattle.proc_chain.specs.declared.quaject.Quaject.{Ghosts}
 use Rattle.proc_chain.specs.declared.rule.View.{View}
 use Rattle.proc_chain.specs.declared.ends.ProcChain.{ProcChain}
 use Rattle.proc_chain.specs.declared.ends.ChainEnd.{ChainEnd}
-use Rattle.proc_chain.specs.Steps.{IsSame}
 use Rattle.proc_chain.specs.Turns.{HasSlot}
 
 module _ {Q W : Type 0} where
@@ -34,6 +34,10 @@ module _ {Q W : Type 0} {g : Ghosts Q W} where
   -- whether the end has a Turn to serve
   abbrev pub turn_of : ChainEnd Q W g → Bool
   turn_of end = end.turn
+
+  -- the end can be split: it has two parts of the chain or more
+  abbrev pub IsDivisible : ChainEnd Q W g → Type 0
+  IsDivisible end = 2 ≤ end.seat.me.0.share
 
   -- every other end was joined
   abbrev pub IsOnlyEnd : ChainEnd Q W g → Type 0

@@ -1,4 +1,5 @@
 pub mod Shown
+pub mod Notes
 pub mod Rules
 pub mod Gates
 pub mod Chainings

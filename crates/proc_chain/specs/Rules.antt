@@ -1,12 +1,10 @@
 -- The rule: there is a lawful queue of notes that the words and the views show, and the gate and the slot fit it.
 use Rattle.std.specs.Prelude.{◌≡◌, ℕ, false, List, [], map, slice_index_or}
-use Rattle.quaject_core.specs.declared.tables.Positions.{Positions}
-use Rattle.quaject_core.specs.declared.tables.QueueView.{QueueView}
-use Rattle.quaject_core.specs.declared.tables.Share.{Share}
-use Rattle.quaject_core.specs.Sharing.{the_whole, nothing}
-use Rattle.quaject_core.specs.Positioned.{Lawful}
-use Rattle.quaject_core.specs.Listing.{ViewsShow}
-use Rattle.quaject_core.specs.Counting.{EndsCounted}
+use Rattle.table_theory.specs.declared.queues.Positions.{Positions}
+use Rattle.table_theory.specs.declared.queues.QueueView.{QueueView}
+use Rattle.table_theory.specs.Sharing.{the_whole, EndsCounted}
+use Rattle.table_theory.specs.Positioned.{Lawful}
+use Rattle.table_theory.specs.Listing.{ViewsShow}
 use Rattle.atomic_table.specs.Table.{State}
 use Rattle.proc_chain.specs.declared.rule.Shape.{Shape}
 use Rattle.proc_chain.specs.declared.rule.View.{View}
@@ -19,7 +17,7 @@ part_of v = v.part
 abbrev pub ends_of : View → ℕ
 ends_of v = v.ends
 
-abbrev pub share_of : View → Share
+abbrev pub share_of : View → ℕ
 share_of v = v.share
 
 -- the end has no run, took nothing, has no turn and owes nothing
@@ -41,7 +39,7 @@ pub record Rule {Q W : Type 0} (made : Q → List ℕ → Type 0) (fits : W → 
 abbrev pub empty_from : ℕ → Positions
 empty_from first = record { first = first; room = 32; places = []; taken = 0; shut = false }
 
-abbrev pub view_from : ℕ → ℕ → Share → View
+abbrev pub view_from : ℕ → ℕ → ℕ → View
 view_from first ends share = record {
   part = record { queue = empty_from first; joined = empty_from first; runs = []; takes = [] };
   ends = ends;
@@ -49,10 +47,11 @@ view_from first ends share = record {
   runner = false;
   owes = false;
   saw = false;
+  steps = [];
 }
 
 abbrev pub newcomer : {W : Type 0} → Shape W → View
 newcomer key = view_from key.first 1 the_whole
 
 abbrev pub nobody : View
-nobody = view_from 0 0 nothing
+nobody = view_from 0 0 0

@@ -1,8 +1,28 @@
 -- What the words of the table show: head, tail, number of ends, gate and the place words.
-use Rattle.std.specs.Prelude.{◌≡◌, ℕ, ◌+◌, ◌/◌, ◌%◌, ◌<◌, false, List, length, map, take, slice_index_or}
-use Rattle.quaject_core.specs.declared.tables.Positions.{Positions}
-use Rattle.quaject_core.specs.Positioned.{head_of, tail_of, item_of}
-use Rattle.quaject_core.specs.Windows.{PlacesShow}
+use Rattle.std.specs.Prelude.{◌≡◌, ℕ, ◌+◌, ◌*◌, ◌/◌, ◌%◌, ◌<◌, false, List, length, map, take, slice_index_or}
+use Rattle.table_theory.specs.declared.queues.Positions.{Positions}
+use Rattle.table_theory.specs.Positioned.{head_of, tail_of, item_of}
+use Rattle.table_theory.specs.Windows.{PlacesShow}
+
+-- the numbers of the words
+abbrev pub head_word : ℕ
+head_word = 0
+
+abbrev pub tail_word : ℕ
+tail_word = 1
+
+abbrev pub ends_word : ℕ
+ends_word = 2
+
+abbrev pub gate_word : ℕ
+gate_word = 3
+
+abbrev pub place_word : ℕ → ℕ
+place_word position = position % 32 + 4
+
+-- what the word of a place has once the note is raised there
+abbrev pub raised_word : ℕ → ℕ → ℕ
+raised_word position note = (position + 1) * 65536 + note
 
 -- bits 0 to 15 of the word of the place k
 abbrev pub note_in : List ℕ → ℕ → ℕ

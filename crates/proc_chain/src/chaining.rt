@@ -1,12 +1,16 @@
 //! Chaining a note.
-ghost use Rattle.std.specs.Prelude.{◌≡◌, ◌+◌, ◌<◌, ◌≤◌, MatchResult, IfOk, IfErr, false, true};
+ghost use Rattle.std.specs.Prelude.{◌≡◌, ◌+◌, ◌<◌, MatchResult, IfOk, false, true};
 ghost use Rattle.proc_chain.specs.Answers.{IsChained, Refused, is_run};
+ghost use Rattle.proc_chain.specs.Notes.{SameNotes, PutNote};
 
 use crate::ends::{ChainEnd, ProcChain};
 use crate::quaject::Quaject;
 use crate::steps::{IDLE, exchange_head, load_head, load_tail, store_place, swap_more};
 use std::marker::Brand;
 use thiserror::Error;
+
+/// A note has a position below this.
+const POSITIONS: u64 = 4_294_967_295;
 
 /// The right and the duty to run the notes of a chain. It can't be let go, only served.
 pub struct Turn(pub(crate) ());
@@ -22,13 +26,15 @@ pub enum Chained {
 /// Why a note was refused. The refusals stand in the order in which they are checked.
 #[derive(Clone, Copy, Debug, PartialEq, Eq, Drop, Error)]
 pub enum ChainRefusal {
-    /// The note would go past the last position, 4,294,967,294.
+    /// The note would go past the last position, 4,294,967,294. No position comes back: a chain takes no more notes
+    /// then.
     #[error("no positions left")]
     Spent,
-    /// There was no room at the step that loaded this head.
+    /// There was no room for the note between this head and the tail that was loaded after it, 32 places or more
+    /// behind. Both are positions.
     #[error("full at head {head}, tail {tail}")]
     Full { head: u32, tail: u32 },
-    /// Another end claimed first: the exchange found this head.
+    /// Another end claimed first: the exchange found this head, past the one that was loaded.
     #[error("lost, head {head}")]
     Lost { head: u32 },
 }
@@ -36,23 +42,27 @@ pub enum ChainRefusal {
 impl<Q: Quaject> ProcChain<Q> {
     ghost use Rattle.proc_chain.specs.Handles.{view_of, me_of, call_of, turn_of, world_of, IsEndOf, IsSameEnd};
 
-    /// One try to chain a note: it claims a place, raises the note there, and swaps the gate to More. Where the gate
-    /// was Idle, the quaject goes out to this end, and the answer is `Run`. The end then has raised all that it
-    /// claimed, and owes no notify. A refusal changes nothing.
+    /// One try to chain a note: it loads the head, then the tail, and exchanges the head, which claims a place; it
+    /// raises the note there, and swaps the gate to More, which notifies. Where that swap found the gate Idle, the
+    /// quaject goes out to this end, and the answer is `Run`: the end has the Turn, and must serve it. Else the end
+    /// with the Turn runs the note, which may be this end. The refusals are checked in the order in which
+    /// `ChainRefusal` lists them, and change nothing.
     pub fn try_chain(&self, end: &mut ChainEnd<Q>, note: u16) -> Result<Chained, ChainRefusal>
         requires { IsEndOf self.now end.old }
         ensures queue { IsSameEnd end.old end.new }
         ensures ends { IsEndOf self.now end.new }
         ensures chained { MatchResult result
             (λ r. IsChained Q.made_by (Q.fits (world_of self.now)) (call_of end.old) (me_of end.old) note r
-            (me_of end.new)) (λ e. Refused (view_of end.old) e (view_of end.new)) }
+            (me_of end.new)) (λ e. Refused (me_of end.old) e (me_of end.new)) }
+        ensures notes { MatchResult result (λ r. PutNote note (view_of end.old) (view_of end.new))
+            (λ e. SameNotes (view_of end.old) (view_of end.new)) }
         ensures turn { MatchResult result (λ r. is_run r ≡ true → (turn_of end.old ≡ false) × (turn_of end.new ≡ true))
             (λ e. turn_of end.new ≡ turn_of end.old) }
         ensures kept { IfOk result (λ r. is_run r ≡ false → turn_of end.new ≡ turn_of end.old) }
     {
         let words = &self.table.shared;
         let head = load_head(words, &mut end.seat);
-        if head >= 4_294_967_295 {
+        if head >= POSITIONS {
             return Err(ChainRefusal::Spent);
         }
         let tail = load_tail(words, &mut end.seat);

@@ -10,9 +10,10 @@ use crate::word::PlaceWord;
 use arrayvec::ArrayVec;
 use atomic_table::Closed;
 use std::alloc::Global;
-use thiserror::Error;
+use table_theory::OpenEnds;
 
-/// What a chain had at its end.
+/// What a chain had at its end: its quaject, how many notes were put (claimed) and taken, and those left, of which
+/// there are none, since each end has raised and told of all that it claimed.
 #[derive(Drop)]
 pub struct ChainClosed<Q> {
     pub quaject: Q,
@@ -21,12 +22,8 @@ pub struct ChainClosed<Q> {
     pub left: ArrayVec<Option<u16>, 32>,
 }
 
-/// Ends that were made and not joined, and their number.
-#[derive(Clone, Copy, Debug, PartialEq, Eq, Drop, Error)]
-#[error("{others} other ends are not joined")]
-pub struct OpenEnds {
-    pub others: u64,
-}
+/// The number of ends where there is no other.
+const ALONE: u64 = 1;
 
 fn read_at<Q>(closed: &Closed<Q, Global>, position: u64) -> Option<u16>
     requires words { (slots_len closed.now.words ≡ 36) × IsFull closed.now.words }
@@ -54,7 +51,7 @@ fn read_left<Q>(closed: &Closed<Q, Global>, tail: u64, head: u64) -> ArrayVec<Op
 }
 
 impl<Q: Quaject> ProcChain<Q> {
-    ghost use Rattle.proc_chain.specs.Handles.{view_of, turn_of, world_of, first_of, IsEndOf, IsOnlyEnd};
+    ghost use Rattle.proc_chain.specs.Handles.{view_of, turn_of, world_of, first_of, IsEndOf, IsOnlyEnd, IsSameEnd};
 
     /// Closes the chain where every other end has been joined, and gives the quaject back. Else the chain and the end
     /// come back, and the number of the others. As each end has raised all that it claimed and told of it, no note is
@@ -69,20 +66,14 @@ impl<Q: Quaject> ProcChain<Q> {
         requires turn { turn_of end ≡ false }
         ensures closed { IfOk result (λ c. ClosedNow Q.made_by (Q.fits (world_of self)) (view_of end)
             (first_of self) c.put c.taken c.left.items c.quaject) }
-        ensures open { IfErr result (λ e. (e.0 ≡ self) × IsEndOf self e.1 × (turn_of e.1 ≡ false)
+        ensures open { IfErr result (λ e. (e.0 ≡ self) × IsEndOf self e.1 × IsSameEnd end e.1 × (turn_of e.1 ≡ false)
             × WereOpen (view_of end) e.2.others (view_of e.1)) }
         ensures only { IsOnlyEnd end → MatchResult result (λ c. Unit {0}) (λ e. ⊥) }
     {
         let mut end = end;
         let ends = count(&self.table.shared, &mut end.seat);
-        if ends != 1 {
-            return Err((
-                self,
-                end,
-                OpenEnds {
-                    others: ends.wrapping_sub(1),
-                },
-            ));
+        if ends != ALONE {
+            return Err((self, end, OpenEnds { others: ends - 1 }));
         }
         let ChainEnd { seat, turn: _ } = end;
         let ProcChain { table, first } = self;

@@ -1,11 +1,11 @@
 //! The chain and its ends.
 ghost use Rattle.std.specs.Prelude.{◌≡◌, ◌≤◌, ◌<◌, ◌||◌, [], true, false, length, IfOk, IfErr};
-ghost use Rattle.quaject_core.specs.Listing.{Distinct};
-ghost use Rattle.quaject_core.specs.Sharing.{the_whole};
-ghost use Rattle.quaject_core.specs.Positioned.{head_of};
+ghost use Rattle.table_theory.specs.Listing.{Distinct, AllRaised};
+ghost use Rattle.table_theory.specs.Sharing.{the_whole};
+ghost use Rattle.table_theory.specs.Positioned.{head_of};
 ghost use Rattle.proc_chain.specs.Rules.{view_from};
-ghost use Rattle.proc_chain.specs.Turns.{AllRaised};
-ghost use Rattle.proc_chain.specs.Endings.{Divided, Newborn, TookIn, Joined};
+ghost use Rattle.proc_chain.specs.Endings.{Divided, IsNewborn, TookIn, Joined};
+ghost use Rattle.proc_chain.specs.Notes.{SameNotes};
 
 use crate::quaject::Quaject;
 use crate::rule::{ChainRule, Shape, View};
@@ -17,7 +17,9 @@ use std::marker::Brand;
 use std::mem;
 use std::snapshot::Snapshot;
 
-/// A chain of up to 32 notes, a gate, and the quaject that the notes are for (Massalin and Pu 1991).
+/// A chain of up to 32 notes, a gate, and the quaject that the notes are for (Massalin and Pu 1991). The gate is Idle
+/// while the quaject is in the chain, Running while the end with the Turn has it, and More where another notify came
+/// since its last round.
 #[derive(Drop)]
 pub struct ProcChain<Q: Quaject> {
     pub(crate) table: Table<Q, View, Shape<Q::World>, ChainRule, Global>,
@@ -26,7 +28,8 @@ pub struct ProcChain<Q: Quaject> {
     ghost shaped: { table.shared.key.first ≡ first },
 }
 
-/// An end of a chain. It has all that it claimed raised, and owes no notify.
+/// An end of a chain, which chains notes and, with a Turn, serves them. It has all that it claimed raised, and owes no
+/// notify. It has no bytes but the Turn's flag.
 #[derive(Drop)]
 pub struct ChainEnd<Q: Quaject> {
     pub(crate) seat: Seat<Q, View>,
@@ -53,7 +56,8 @@ impl<Q: Quaject> ChainEnd<Q> {
 }
 
 impl<Q: Quaject> ProcChain<Q> {
-    ghost use Rattle.proc_chain.specs.Handles.{view_of, turn_of, world_of, first_of, IsEndOf, IsSameEnd};
+    ghost use Rattle.proc_chain.specs.Handles.{view_of, me_of, turn_of, world_of, first_of};
+    ghost use Rattle.proc_chain.specs.Handles.{IsDivisible, IsEndOf, IsSameEnd};
 
     /// A chain whose first position is `first`, its gate Idle and the quaject in it, and its only end. Where an
     /// allocation is refused, the quaject comes back.
@@ -95,12 +99,19 @@ impl<Q: Quaject> ProcChain<Q> {
         }
     }
 
-    /// A new end, which owns nothing and has no Turn. Both ends are to be joined again before the chain can be closed.
+    /// A new end, which has chained and taken nothing and has no Turn. Both ends are to be joined again before the
+    /// chain can be closed; an end that is dropped can never be joined.
+    ///
+    /// Condition: the end has two parts or more of its chain's 2^64 - 1. The first end can be split a million times
+    /// without a join, and each of those ends twenty times in a chain.
     pub fn split(&self, end: &mut ChainEnd<Q>) -> ChainEnd<Q>
-        requires { IsEndOf self.now end.old }
+        requires ends { IsEndOf self.now end.old }
+        requires parts { IsDivisible end.old }
         ensures queue { IsSameEnd end.old end.new }
         ensures ends { IsEndOf self.now end.new × IsEndOf self.now result }
-        ensures split { Divided (view_of end.old) (view_of end.new) × Newborn (view_of end.new) (view_of result) }
+        ensures split { Divided (view_of end.old) (view_of end.new) × ((me_of end.new).1 ≡ (me_of end.old).1) }
+        ensures born { IsNewborn (view_of end.old) (view_of end.new) (view_of result) }
+        ensures notes { SameNotes (view_of end.old) (view_of end.new) }
         ensures turns { (turn_of end.new ≡ turn_of end.old) × (turn_of result ≡ false) }
     {
         count_up(&self.table.shared, &mut end.seat);
@@ -108,15 +119,18 @@ impl<Q: Quaject> ProcChain<Q> {
         ChainEnd { seat, turn: false }
     }
 
-    /// The first end then has all that both had, and the Turn that one of them had. Condition: not both have a Turn. No
-    /// two ends of one chain ever have, but one end alone can't know it.
+    /// The first end then has all that both had: their notes, what they took, their parts of the chain, and the Turn
+    /// that one of them had. It goes on under the number of the one that had the Turn, or else under its own.
+    ///
+    /// Condition: not both have a Turn. No two ends of one chain ever have, but one end alone can't know it.
     pub fn join(&self, end: &mut ChainEnd<Q>, other: ChainEnd<Q>)
         requires ends { IsEndOf self.now end.old × IsEndOf self.now other }
         requires turns { turn_of other ≡ true → turn_of end.old ≡ false }
         ensures ends { IsEndOf self.now end.new }
-        ensures joined { Joined (turn_of other) (view_of end.old) (view_of other) (view_of end.new) }
+        ensures joined { Joined (turn_of other) (me_of end.old) (me_of other) (me_of end.new) }
         ensures turn { turn_of end.new ≡ (turn_of other || turn_of end.old) }
         ensures same { turn_of other ≡ false → IsSameEnd end.old end.new }
+        ensures swapped { turn_of other ≡ true → IsSameEnd other end.new }
     {
         let mut other = other;
         if other.turn {
@@ -132,7 +146,8 @@ impl<Q: Quaject> ProcChain<Q> {
         ensures queue { IsSameEnd end.old end.new }
         ensures turn { turn_of end.new ≡ turn_of end.old }
         ensures ends { IsEndOf self.now end.new }
-        ensures joined { TookIn (view_of end.old) (view_of other) (view_of end.new) }
+        ensures joined { TookIn (view_of end.old) (view_of other) (view_of end.new)
+            × ((me_of end.new).1 ≡ (me_of end.old).1) }
     {
         let ChainEnd { seat, turn: _ } = other;
         take_in::<Q, Brand>(&self.table.shared, &mut end.seat, seat);

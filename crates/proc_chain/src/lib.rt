@@ -19,8 +19,9 @@ mod word;
 
 pub use between::between_steps;
 pub use chaining::{ChainRefusal, Chained, Turn};
-pub use close::{ChainClosed, OpenEnds};
+pub use close::ChainClosed;
 pub use ends::{ChainEnd, ProcChain};
 pub use quaject::{Quaject, Ran};
 pub use rule::{ChainRule, Shape, View};
 pub use serve::Served;
+pub use table_theory::OpenEnds;

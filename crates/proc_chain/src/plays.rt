@@ -1,7 +1,7 @@
 //! What each step tells. These types are for the proofs alone.
 ghost use Rattle.std.specs.Prelude.{ℕ};
-ghost use Rattle.proc_chain.specs.Steps.{saw, claims, raises, spies, takes, notifies, rounds, leaves, counts_up};
-ghost use Rattle.proc_chain.specs.Steps.{counts_down, counts, rest_of, halves, both};
+ghost use Rattle.proc_chain.specs.Steps.{finds, claims, raises, spies, takes, notifies, rounds, leaves, counts_up};
+ghost use Rattle.proc_chain.specs.Steps.{counts_down, counts, rest_of, newborn, both};
 ghost use Rattle.proc_chain.specs.declared.rule.View.{View};
 ghost use Rattle.proc_chain.specs.Rules.{nobody};
 
@@ -10,10 +10,10 @@ use crate::rule::View;
 use atomic_table::{Join, Play, Split};
 use std::marker::{Brand, PhantomData};
 
-pub struct Look;
+pub struct Finds;
 
-impl<Q> Play<Q, View> for Look {
-    ghost then = { saw };
+impl<Q> Play<Q, View> for Finds {
+    ghost then = { finds };
 }
 
 /// The number of the end that steps.
@@ -60,32 +60,32 @@ impl<Q> Play<Q, View> for Spies {
     ghost then = { spies };
 }
 
-pub struct Takes<J> {
-    marker: PhantomData<J>,
-}
-
-impl<Q, J: Caller> Play<Q, View> for Takes<J> {
-    ghost then = { takes J.call };
-}
-
-/// The number of the end that notifies, and what fits the world of the chain.
-pub trait Notice<Q> {
+/// The number of an end that has the turn or may get it, and what fits the world of the chain.
+pub trait Runner<Q> {
     ghost call: { ℕ };
 
     ghost suits: { Q → Type 0 };
 }
 
-impl<Q> Notice<Q> for Brand {
+impl<Q> Runner<Q> for Brand {
     ghost call = { 0 };
 
     ghost suits = { λ _. Unit {0} };
+}
+
+pub struct Takes<J> {
+    marker: PhantomData<J>,
+}
+
+impl<Q: Quaject, J: Runner<Q>> Play<Q, View> for Takes<J> {
+    ghost then = { takes Q.made_by J.suits J.call };
 }
 
 pub struct Notifies<J> {
     marker: PhantomData<J>,
 }
 
-impl<Q: Quaject, J: Notice<Q>> Play<Q, View> for Notifies<J> {
+impl<Q: Quaject, J: Runner<Q>> Play<Q, View> for Notifies<J> {
     ghost then = { notifies Q.made_by J.suits J.call };
 }
 
@@ -93,16 +93,16 @@ pub struct Rounds<J> {
     marker: PhantomData<J>,
 }
 
-impl<Q, J: Caller> Play<Q, View> for Rounds<J> {
-    ghost then = { rounds J.call };
+impl<Q: Quaject, J: Runner<Q>> Play<Q, View> for Rounds<J> {
+    ghost then = { rounds Q.made_by J.suits J.call };
 }
 
 pub struct Leaves<J> {
     marker: PhantomData<J>,
 }
 
-impl<Q, J: Caller> Play<Q, View> for Leaves<J> {
-    ghost then = { leaves J.call };
+impl<Q: Quaject, J: Runner<Q>> Play<Q, View> for Leaves<J> {
+    ghost then = { leaves Q.made_by J.suits J.call };
 }
 
 pub struct CountsUp;
@@ -123,12 +123,12 @@ impl<Q> Play<Q, View> for Counts {
     ghost then = { counts };
 }
 
-pub struct Halves;
+pub struct Gives;
 
-impl Split<View> for Halves {
+impl Split<View> for Gives {
     ghost left = { rest_of };
 
-    ghost right = { halves };
+    ghost right = { newborn };
 }
 
 /// The view of an end that was taken in.

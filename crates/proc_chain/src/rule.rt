@@ -1,8 +1,10 @@
-//! The rule of the table.
+//! The rule of the table. Its types are for the proofs alone: no program makes a value of them but the chain itself.
 use crate::quaject::Quaject;
 use atomic_table::TableRule;
-use quaject_core::tables::{QueueView, Share};
+use std::collections::LinkedList;
 use std::snapshot::Snapshot;
+use table_theory::queues::{Positions, QueueView};
+use table_theory::views::Entry;
 
 /// What the rule is told when the table is made.
 #[derive(Drop)]
@@ -11,17 +13,19 @@ pub struct Shape<W> {
     pub world: Snapshot<W>,
 }
 
-/// What an end knows. No value of it is made.
+/// What an end knows: its runs and takings in the queue of notes as it was at the end's last step, how many of the ends
+/// counted it is and its share of the chain, its turn, and every step that it made.
 pub struct View {
     pub part: QueueView,
     pub ends: u64,
-    pub share: Share,
+    pub share: u64,
     /// It has the turn to run notes.
     pub runner: bool,
     /// It raised a note and has not yet notified.
     pub owes: bool,
     /// As the runner it saw, since its last round, that the first note left was not raised.
     pub saw: bool,
+    pub steps: LinkedList<Entry<Positions>>,
 }
 
 pub struct ChainRule;

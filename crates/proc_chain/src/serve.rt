@@ -1,7 +1,8 @@
 //! Serving a Turn.
-ghost use Rattle.std.specs.Prelude.{◌≡◌, ◌≢◌, ◌+◌, ◌<◌, ◌≤◌, ℕ, List, true, false, [], ◌∷◌, ◌++◌, length, MatchBool};
+ghost use Rattle.std.specs.Prelude.{◌≡◌, ◌+◌, ◌<◌, ◌≤◌, ℕ, List, true, false, [], ◌∷◌, ◌++◌, length, MatchBool};
+ghost use Rattle.table_theory.specs.Seating.{IsSame};
 ghost use Rattle.proc_chain.specs.Shown.{notes_of};
-ghost use Rattle.proc_chain.specs.Steps.{Carries, IsSame};
+ghost use Rattle.proc_chain.specs.Steps.{Carries};
 ghost use Rattle.proc_chain.specs.Turns.{HasServed};
 ghost use Rattle.proc_chain.specs.Servings.{RanNote, FoundMore, LeftNone, FoundNone, IsServing, IsServed, AllServed};
 ghost use Rattle.proc_chain.specs.Servings.{is_more};
@@ -17,9 +18,10 @@ use std::sync::Wait;
 
 /// How a Turn was served, and how many notes were run.
 pub enum Served {
-    /// All notes that were raised were run, and the quaject is in the chain again. The Turn is spent.
+    /// The gate was found Running at a leave: all notes that were notified of were run, and the quaject is in the chain
+    /// again. The Turn is spent.
     Done { ran: u32 },
-    /// The limit was used up.
+    /// The limit was used up. The Turn is to be served again.
     More { turn: Turn, ran: u32 },
 }
 
@@ -50,14 +52,18 @@ fn run_next<Q: Quaject>(
     requires live { (1 ≤ seat.old.me.0.ends) × (seat.old.me.0.runner ≡ true) }
     requires positions { (seat.old.me.0.part.queue.room ≡ 32)
         × (seat.old.me.0.part.queue.taken ≤ length seat.old.me.0.part.queue.places) }
-    requires carries { Carries Q.made_by (Q.fits world.now) (notes_of seat.old.me.0.part.queue) [] seat.old.me.1 }
+    requires world { words.now.key.world.value ≡ world.now }
+    requires carries { Carries Q.made_by (Q.fits words.now.key.world.value) (notes_of seat.old.me.0.part.queue) []
+        seat.old.me.1 }
     ensures queue { IsSame seat.old seat.new }
     ensures turn { seat.new.me.0.runner ≡ true }
-    ensures carries { Carries Q.made_by (Q.fits world.now) (notes_of seat.new.me.0.part.queue) [] seat.new.me.1 }
+    ensures carries { Carries Q.made_by (Q.fits words.now.key.world.value) (notes_of seat.new.me.0.part.queue) []
+        seat.new.me.1 }
     ensures ran { MatchBool result
-        ((note : ℕ) × RanNote seat.old.id seat.old.me.0 note seat.new.me.0
+        ((note : ℕ) × RanNote Q.made_by (Q.fits words.now.key.world.value) seat.old.id seat.old.me note seat.new.me
         × HasServed seat.old.me.0 (note ∷ []) seat.new.me.0)
-        (FoundNone seat.old.me.0 seat.new.me.0 × HasServed seat.old.me.0 [] seat.new.me.0) }
+        (FoundNone seat.old.me.0 seat.new.me.0 × (seat.new.me.1 ≡ seat.old.me.1)
+        × HasServed seat.old.me.0 [] seat.new.me.0) }
 {
     let tail = load_tail(words, seat);
     let word = load_place(words, seat, tail);
@@ -83,8 +89,9 @@ fn leave_or_round<Q: Quaject>(
     ensures carries { MatchBool result ((seat.new.me.0.runner ≡ false) × (seat.new.me.1 ≡ []))
         ((seat.new.me.0.runner ≡ true) × Carries Q.made_by (Q.fits words.now.key.world.value)
         (notes_of seat.new.me.0.part.queue) [] seat.new.me.1) }
-    ensures left { (v : View) → FoundNone v seat.old.me.0 → MatchBool result (LeftNone seat.old.id v seat.new.me.0)
-        (FoundMore seat.old.id v seat.new.me.0) }
+    ensures left { (v : View) → FoundNone v seat.old.me.0 → MatchBool result
+        (LeftNone Q.made_by (Q.fits words.now.key.world.value) seat.old.id (v, seat.old.me.1) seat.new.me)
+        (FoundMore Q.made_by (Q.fits words.now.key.world.value) seat.old.id (v, seat.old.me.1) seat.new.me) }
     ensures served { HasServed seat.old.me.0 [] seat.new.me.0 }
 {
     if exchange_gate::<Q, Brand>(words, seat) == RUNNING {
@@ -107,13 +114,15 @@ fn serve_seat<Q: Quaject>(
     requires positions { (seat.old.me.0.part.queue.room ≡ 32)
         × (seat.old.me.0.part.queue.taken ≤ length seat.old.me.0.part.queue.places) }
     requires world { words.now.key.world.value ≡ world.now }
-    requires carries { Carries Q.made_by (Q.fits world.now) (notes_of seat.old.me.0.part.queue) [] seat.old.me.1 }
+    requires carries { Carries Q.made_by (Q.fits words.now.key.world.value) (notes_of seat.old.me.0.part.queue) []
+        seat.old.me.1 }
     requires some_limit { 0 < limit }
     ensures queue { IsSame seat.old seat.new }
     ensures carries { MatchBool result.0 ((seat.new.me.0.runner ≡ false) × (seat.new.me.1 ≡ []))
-        ((seat.new.me.0.runner ≡ true) × Carries Q.made_by (Q.fits world.now) (notes_of seat.new.me.0.part.queue) []
-        seat.new.me.1) }
-    ensures served { IsServing seat.old.id seat.old.me.0 limit result.1 result.0 seat.new.me.0 }
+        ((seat.new.me.0.runner ≡ true) × Carries Q.made_by (Q.fits words.now.key.world.value)
+        (notes_of seat.new.me.0.part.queue) [] seat.new.me.1) }
+    ensures served { IsServing Q.made_by (Q.fits words.now.key.world.value) seat.old.id seat.old.me limit result.1
+        result.0 seat.new.me }
 {
     let mut ran = 0u32;
     swap_running::<Q, Brand>(words, seat);
@@ -128,11 +137,13 @@ fn serve_seat<Q: Quaject>(
 }
 
 impl<Q: Quaject> ProcChain<Q> {
-    ghost use Rattle.proc_chain.specs.Handles.{view_of, call_of, turn_of, world_of, IsEndOf, IsSameEnd};
+    ghost use Rattle.proc_chain.specs.Handles.{me_of, call_of, turn_of, world_of, IsEndOf, IsSameEnd};
 
-    /// Serves the end's Turn: it runs the notes in order. At a place that isn't raised it leaves, unless another end
-    /// has notified since its last round, in which case it begins a new one. Each note run uses one of `limit`, and so
-    /// does each leave that failed; the answer is `More` where none is left.
+    /// Serves the end's Turn: it begins a round, by a swap of the gate to Running, and runs the notes in order. Each is
+    /// taken, by a store of the tail, before it is run. At a place that isn't raised it leaves, by an exchange of a
+    /// gate that is Running, unless an end has notified since its last round, in which case it begins a new one. Each
+    /// note run uses one of `limit`, and so does each leave that failed; the answer is `More` where none is left. With
+    /// a limit of 0 it makes no step.
     ///
     /// Conditions: the Turn is the end's own, and the world is that of `new`.
     pub fn serve(&self, end: &mut ChainEnd<Q>, world: &Q::World, turn: Turn, limit: u32) -> Served
@@ -141,7 +152,8 @@ impl<Q: Quaject> ProcChain<Q> {
         requires world { world_of self.now ≡ world.now }
         ensures queue { IsSameEnd end.old end.new }
         ensures ends { IsEndOf self.now end.new }
-        ensures served { IsServed (call_of end.old) (view_of end.old) limit result (view_of end.new) }
+        ensures served { IsServed Q.made_by (Q.fits (world_of self.now)) (call_of end.old) (me_of end.old) limit result
+            (me_of end.new) }
         ensures turn { turn_of end.new ≡ is_more result }
     {
         if limit == 0 {
@@ -156,7 +168,8 @@ impl<Q: Quaject> ProcChain<Q> {
         Served::More { turn, ran }
     }
 
-    /// Serves until `Done`, and gives the number of notes run. It may go on for as long as other ends chain notes.
+    /// Serves until `Done`, and gives the number of notes run: `serve` again and again, with the greatest limit. It may
+    /// go on for as long as ends chain notes.
     ///
     /// Conditions: the Turn is the end's own, and the world is that of `new`.
     pub fn serve_all<R: Wait>(
@@ -171,7 +184,8 @@ impl<Q: Quaject> ProcChain<Q> {
         requires world { world_of self.now ≡ world.now }
         ensures queue { IsSameEnd end.old end.new }
         ensures ends { IsEndOf self.now end.new }
-        ensures served { AllServed (call_of end.old) (view_of end.old) result (view_of end.new) }
+        ensures served { AllServed Q.made_by (Q.fits (world_of self.now)) (call_of end.old) (me_of end.old) result
+            (me_of end.new) }
         ensures turn { turn_of end.new ≡ false }
     {
         let mut turn = turn;

@@ -1,20 +1,20 @@
 //! The atomic steps. No signature has a const parameter, since a call of such a function could not pick ghost members.
-ghost use Rattle.std.specs.Prelude.{◌≡◌, ◌≢◌, ◌+◌, ◌-◌, ◌*◌, ◌/◌, ◌%◌, ◌<◌, ◌≤◌, ℕ, true, false, [], length};
+ghost use Rattle.std.specs.Prelude.{◌≡◌, ◌≢◌, ◌+◌, ◌-◌, ◌/◌, ◌%◌, ◌<◌, ◌≤◌, ℕ, true, false, [], length};
 ghost use Rattle.std.specs.Prelude.{slice_index_or};
 ghost use mathlib.Core.Option.{some};
 ghost use lib.ListN.{get_elem?};
-ghost use Rattle.quaject_core.specs.declared.tables.Batch.{Batch};
-ghost use Rattle.quaject_core.specs.Listing.{number_of};
-ghost use Rattle.quaject_core.specs.Positioned.{blank, head_of, tail_of, written_at};
-ghost use Rattle.atomic_table.specs.Table.{rest};
-ghost use Rattle.proc_chain.specs.Shown.{notes_of};
-ghost use Rattle.proc_chain.specs.Steps.{Saw, Claimed, Raised, LookedAtFirst, Took, Notified, GotTurn, BegunRound};
-ghost use Rattle.proc_chain.specs.Steps.{HasLeft, Carries, CountedUp, CountedDown, Tallied, rest_of, halves, both};
-ghost use Rattle.proc_chain.specs.Steps.{emptied, IsSame, Looked};
+ghost use Rattle.table_theory.specs.declared.queues.Batch.{Batch};
+ghost use Rattle.table_theory.specs.Listing.{number_of};
+ghost use Rattle.table_theory.specs.Positioned.{blank, head_of, tail_of, written_at};
+ghost use Rattle.table_theory.specs.Seating.{IsSame};
+ghost use Rattle.proc_chain.specs.Shown.{head_word, tail_word, gate_word, place_word, raised_word, notes_of};
+ghost use Rattle.proc_chain.specs.Steps.{Found, FoundNotRaised, Claimed, Raised, Took, Notified, GotTurn, BegunRound};
+ghost use Rattle.proc_chain.specs.Steps.{HasLeft, Carries, CountedUp, CountedDown, Tallied, rest_of, newborn, both};
+ghost use Rattle.proc_chain.specs.Steps.{emptied};
 
 use crate::plays::{
-    Caller, ClaimedNote, Claims, Counts, CountsDown, CountsUp, Halves, Joins, Leaves, Look, Notice,
-    Notifies, Raises, Rounds, Spent, Spies, Takes,
+    Caller, ClaimedNote, Claims, Counts, CountsDown, CountsUp, Finds, Gives, Joins, Leaves,
+    Notifies, Raises, Rounds, Runner, Spent, Spies, Takes,
 };
 use crate::quaject::Quaject;
 use crate::rule::{ChainRule, Shape, View};
@@ -42,9 +42,10 @@ pub(crate) fn load<Q: Quaject>(
     word: usize,
 ) -> u64
     requires { (seat.old.table_id ≡ words.now.table_id) × (word < words.now.table_id.words) }
-    ensures { IsSame seat.old seat.new × (seat.new.me.1 ≡ seat.old.me.1) × Saw seat.old.me.0 word result seat.new.me.0 }
+    ensures { IsSame seat.old seat.new × (seat.new.me.1 ≡ seat.old.me.1)
+        × Found seat.old.me.0 word result seat.new.me.0 }
 {
-    words.load::<Look>(seat, word)
+    words.load::<Finds>(seat, word)
 }
 
 pub(crate) fn load_head<Q: Quaject>(
@@ -53,7 +54,7 @@ pub(crate) fn load_head<Q: Quaject>(
 ) -> u64
     requires { (seat.old.table_id ≡ words.now.table_id) × (words.now.table_id.words ≡ 36) }
     ensures queue { IsSame seat.old seat.new × (seat.new.me.1 ≡ seat.old.me.1) }
-    ensures seen { Looked seat.old.me.0 seat.new.me.0 }
+    ensures found { Found seat.old.me.0 head_word result seat.new.me.0 }
     ensures head { result ≡ head_of seat.new.me.0.part.queue }
     ensures small { result < 4294967296 }
 {
@@ -66,7 +67,7 @@ pub(crate) fn load_tail<Q: Quaject>(
 ) -> u64
     requires { (seat.old.table_id ≡ words.now.table_id) × (words.now.table_id.words ≡ 36) }
     ensures queue { IsSame seat.old seat.new × (seat.new.me.1 ≡ seat.old.me.1) }
-    ensures seen { Looked seat.old.me.0 seat.new.me.0 }
+    ensures found { Found seat.old.me.0 tail_word result seat.new.me.0 }
     ensures tail { result ≡ tail_of seat.new.me.0.part.queue }
     ensures small { result < 4294967296 }
 {
@@ -88,7 +89,8 @@ pub(crate) fn exchange_head<Q: Quaject, J: ClaimedNote>(
     requires small { head + 1 < 4294967296 }
     ensures queue { IsSame seat.old seat.new × (seat.new.me.1 ≡ seat.old.me.1) }
     ensures hit { result ≡ head → Claimed J.call seat.old.me.0 head J.note seat.new.me.0 }
-    ensures miss { result ≢ head → Looked seat.old.me.0 seat.new.me.0 × (result ≡ head_of seat.new.me.0.part.queue) }
+    ensures miss { result ≢ head → Found seat.old.me.0 head_word result seat.new.me.0
+        × (result ≡ head_of seat.new.me.0.part.queue) }
 {
     let _ = note;
     words.compare_exchange::<Claims<J>>(seat, HEAD, head, head + 1)
@@ -109,14 +111,14 @@ pub(crate) fn store_place<Q: Quaject, J: Caller>(
         × (e.start ≡ start) × (0 < length e.places) × ((slice_index_or e.places 0 blank).written < 2)
         × ((slice_index_or e.places 0 blank).item ≡ note) }
     ensures queue { IsSame seat.old seat.new × (seat.new.me.1 ≡ seat.old.me.1) }
-    ensures raised { Raised J.call seat.old.me.0 start seat.new.me.0 }
+    ensures raised { Raised J.call seat.old.me.0 start (place_word start) (raised_word start note) seat.new.me.0 }
 {
     let place = start as usize % 32;
     words.store::<Raises<J>>(seat, place + 4, PlaceWord::raised(start, note).bits());
 }
 
 /// The notify.
-pub(crate) fn swap_more<Q: Quaject, J: Notice<Q>>(
+pub(crate) fn swap_more<Q: Quaject, J: Runner<Q>>(
     words: &Shared<Q, View, Shape<Q::World>, ChainRule>,
     seat: &mut Seat<Q, View>,
 ) -> u64
@@ -126,11 +128,13 @@ pub(crate) fn swap_more<Q: Quaject, J: Notice<Q>>(
     requires suits { (x : Q) → Q.fits words.now.key.world.value x → J.suits x }
     ensures queue { IsSame seat.old seat.new }
     ensures won { result ≡ 0 → GotTurn Q.made_by J.suits J.call seat.old.me seat.new.me }
-    ensures told { result ≢ 0 → (seat.new.me.1 ≡ seat.old.me.1) × Notified J.call seat.old.me.0 seat.new.me.0 }
+    ensures told { result ≢ 0 → (seat.new.me.1 ≡ seat.old.me.1)
+        × Notified J.call seat.old.me.0 result seat.new.me.0 }
 {
     words.swap::<Notifies<J>>(seat, GATE, MORE)
 }
 
+/// The runner's look at the place of the tail.
 pub(crate) fn load_place<Q: Quaject>(
     words: &Shared<Q, View, Shape<Q::World>, ChainRule>,
     seat: &mut Seat<Q, View>,
@@ -140,15 +144,18 @@ pub(crate) fn load_place<Q: Quaject>(
     requires live { (1 ≤ seat.old.me.0.ends) × (seat.old.me.0.runner ≡ true) }
     requires tail { (tail ≡ tail_of seat.old.me.0.part.queue) × (tail < 4294967296) }
     ensures queue { IsSame seat.old seat.new × (seat.new.me.1 ≡ seat.old.me.1) }
-    ensures found { (word : ℕ) × LookedAtFirst seat.old.me.0 word seat.new.me.0 × (result.mark ≡ word / 65536)
-        × (result.note ≡ word % 65536) }
+    ensures note { result.note < 65536 }
+    ensures up { result.mark ≡ tail + 1
+        → Found seat.old.me.0 (place_word tail) (raised_word tail result.note) seat.new.me.0 }
+    ensures low { result.mark ≢ tail + 1 → (word : ℕ) × (word / 65536 ≡ result.mark)
+        × FoundNotRaised seat.old.me.0 (place_word tail) word seat.new.me.0 }
 {
     let place = tail as usize % 32;
     PlaceWord::of(words.load::<Spies>(seat, place + 4))
 }
 
-/// The taking of one note: a single runner takes, so it stores.
-pub(crate) fn store_tail<Q: Quaject, J: Caller>(
+/// The taking of one note: a single runner takes, so it stores. The quaject in its hand is not yet made by this note.
+pub(crate) fn store_tail<Q: Quaject, J: Runner<Q>>(
     words: &Shared<Q, View, Shape<Q::World>, ChainRule>,
     seat: &mut Seat<Q, View>,
     tail: u64,
@@ -156,42 +163,52 @@ pub(crate) fn store_tail<Q: Quaject, J: Caller>(
     requires queue { (seat.old.table_id ≡ words.now.table_id) × (words.now.table_id.words ≡ 36) }
     requires live { (1 ≤ seat.old.me.0.ends) × (seat.old.me.0.runner ≡ true) }
     requires call { J.call ≡ seat.old.id }
+    requires suits { (x : Q) → Q.fits words.now.key.world.value x → J.suits x }
     requires tail { (tail ≡ tail_of seat.old.me.0.part.queue) × (tail < 4294967296) }
     requires raised { 2 ≤ written_at seat.old.me.0.part.queue seat.old.me.0.part.queue.taken }
+    requires behind { seat.old.me.0.part.queue.taken ≤ length seat.old.me.0.part.queue.places }
+    requires carries { Carries Q.made_by (Q.fits words.now.key.world.value) (notes_of seat.old.me.0.part.queue) []
+        seat.old.me.1 }
     ensures queue { IsSame seat.old seat.new × (seat.new.me.1 ≡ seat.old.me.1) }
-    ensures took { Took J.call seat.old.me.0 seat.new.me.0 }
+    ensures took { Took Q.made_by J.suits J.call seat.old.me (tail + 1) seat.new.me.0 }
 {
     words.store::<Takes<J>>(seat, TAIL, tail + 1);
 }
 
 /// The begin of a round.
-pub(crate) fn swap_running<Q: Quaject, J: Caller>(
+pub(crate) fn swap_running<Q: Quaject, J: Runner<Q>>(
     words: &Shared<Q, View, Shape<Q::World>, ChainRule>,
     seat: &mut Seat<Q, View>,
-)
+) -> u64
     requires queue { (seat.old.table_id ≡ words.now.table_id) × (words.now.table_id.words ≡ 36) }
     requires live { (1 ≤ seat.old.me.0.ends) × (seat.old.me.0.runner ≡ true) }
     requires call { J.call ≡ seat.old.id }
+    requires suits { (x : Q) → Q.fits words.now.key.world.value x → J.suits x }
+    requires behind { seat.old.me.0.part.queue.taken ≤ length seat.old.me.0.part.queue.places }
+    requires carries { Carries Q.made_by (Q.fits words.now.key.world.value) (notes_of seat.old.me.0.part.queue) []
+        seat.old.me.1 }
     ensures queue { IsSame seat.old seat.new × (seat.new.me.1 ≡ seat.old.me.1) }
-    ensures rounded { BegunRound J.call seat.old.me.0 seat.new.me.0 }
+    ensures rounded { BegunRound Q.made_by J.suits J.call seat.old.me result seat.new.me.0 }
 {
-    words.swap::<Rounds<J>>(seat, GATE, RUNNING);
+    words.swap::<Rounds<J>>(seat, GATE, RUNNING)
 }
 
 /// The leave. The quaject goes back into the table where the gate was Running.
-pub(crate) fn exchange_gate<Q: Quaject, J: Caller>(
+pub(crate) fn exchange_gate<Q: Quaject, J: Runner<Q>>(
     words: &Shared<Q, View, Shape<Q::World>, ChainRule>,
     seat: &mut Seat<Q, View>,
 ) -> u64
     requires queue { (seat.old.table_id ≡ words.now.table_id) × (words.now.table_id.words ≡ 36) }
     requires live { (1 ≤ seat.old.me.0.ends) × (seat.old.me.0.runner ≡ true) × (seat.old.me.0.saw ≡ true) }
     requires call { J.call ≡ seat.old.id }
+    requires suits { (x : Q) → Q.fits words.now.key.world.value x → J.suits x }
     requires behind { seat.old.me.0.part.queue.taken ≤ length seat.old.me.0.part.queue.places }
     requires carries { Carries Q.made_by (Q.fits words.now.key.world.value) (notes_of seat.old.me.0.part.queue) []
         seat.old.me.1 }
     ensures queue { IsSame seat.old seat.new }
-    ensures hit { result ≡ 1 → (seat.new.me.1 ≡ []) × HasLeft J.call seat.old.me.0 seat.new.me.0 }
-    ensures miss { result ≢ 1 → (result ≡ 2) × (seat.new.me.1 ≡ seat.old.me.1) × Looked seat.old.me.0 seat.new.me.0 }
+    ensures hit { result ≡ 1 → (seat.new.me.1 ≡ []) × HasLeft Q.made_by J.suits J.call seat.old.me seat.new.me.0 }
+    ensures miss { result ≢ 1 → (result ≡ 2) × (seat.new.me.1 ≡ seat.old.me.1)
+        × Found seat.old.me.0 gate_word result seat.new.me.0 }
 {
     words.compare_exchange::<Leaves<J>>(seat, GATE, RUNNING, IDLE)
 }
@@ -199,25 +216,25 @@ pub(crate) fn exchange_gate<Q: Quaject, J: Caller>(
 pub(crate) fn count_up<Q: Quaject>(
     words: &Shared<Q, View, Shape<Q::World>, ChainRule>,
     seat: &mut Seat<Q, View>,
-)
+) -> u64
     requires queue { (seat.old.table_id ≡ words.now.table_id) × (words.now.table_id.words ≡ 36) }
-    requires live { 1 ≤ seat.old.me.0.ends }
+    requires parts { seat.old.me.0.ends + 1 ≤ seat.old.me.0.share }
     ensures queue { IsSame seat.old seat.new × (seat.new.me.1 ≡ seat.old.me.1) }
-    ensures counted { CountedUp seat.old.me.0 seat.new.me.0 }
+    ensures counted { CountedUp seat.old.me.0 result seat.new.me.0 }
 {
-    words.fetch_add::<CountsUp>(seat, ENDS, 1);
+    words.fetch_add::<CountsUp>(seat, ENDS, 1)
 }
 
 pub(crate) fn count_down<Q: Quaject>(
     words: &Shared<Q, View, Shape<Q::World>, ChainRule>,
     seat: &mut Seat<Q, View>,
-)
+) -> u64
     requires queue { (seat.old.table_id ≡ words.now.table_id) × (words.now.table_id.words ≡ 36) }
     requires live { 2 ≤ seat.old.me.0.ends }
     ensures queue { IsSame seat.old seat.new × (seat.new.me.1 ≡ seat.old.me.1) }
-    ensures counted { CountedDown seat.old.me.0 seat.new.me.0 }
+    ensures counted { CountedDown seat.old.me.0 result seat.new.me.0 }
 {
-    words.fetch_sub::<CountsDown>(seat, ENDS, 1);
+    words.fetch_sub::<CountsDown>(seat, ENDS, 1)
 }
 
 pub(crate) fn count<Q: Quaject>(
@@ -225,7 +242,7 @@ pub(crate) fn count<Q: Quaject>(
     seat: &mut Seat<Q, View>,
 ) -> u64
     requires queue { (seat.old.table_id ≡ words.now.table_id) × (words.now.table_id.words ≡ 36) }
-    requires live { 1 ≤ seat.old.me.0.ends }
+    requires live { seat.old.me.0.ends ≡ 1 }
     ensures queue { IsSame seat.old seat.new × (seat.new.me.1 ≡ seat.old.me.1) }
     ensures tallied { Tallied seat.old.me.0 result seat.new.me.0 }
 {
@@ -237,11 +254,12 @@ pub(crate) fn split_off<Q: Quaject>(
     seat: &mut Seat<Q, View>,
 ) -> Seat<Q, View>
     requires queue { (seat.old.table_id ≡ words.now.table_id) × (words.now.table_id.words ≡ 36) }
-    requires live { 2 ≤ seat.old.me.0.ends }
+    requires live { seat.old.me.0.ends ≡ 2 }
     ensures queue { IsSame seat.old seat.new × (result.table_id ≡ seat.old.table_id) }
-    ensures split { (seat.new.me ≡ (rest_of seat.old.me.0, seat.old.me.1)) × (result.me ≡ (halves seat.old.me.0, [])) }
+    ensures split { (seat.new.me ≡ (rest_of seat.old.me.0, seat.old.me.1))
+        × (result.me ≡ (newborn seat.old.me.0, [])) }
 {
-    words.split_seat::<Halves>(seat)
+    words.split_seat::<Gives>(seat)
 }
 
 pub(crate) fn take_in<Q: Quaject, J: Spent>(
@@ -251,7 +269,7 @@ pub(crate) fn take_in<Q: Quaject, J: Spent>(
 )
     requires queue { (seat.old.table_id ≡ words.now.table_id) × (other.table_id ≡ words.now.table_id)
         × (other.me.1 ≡ []) × (words.now.table_id.words ≡ 36) }
-    requires live { (1 ≤ seat.old.me.0.ends) × (1 ≤ other.me.0.ends) }
+    requires live { 1 ≤ seat.old.me.0.ends }
     requires settled { (other.me.0.runner ≡ false) × (other.me.0.owes ≡ false) }
     requires spent { J.view ≡ emptied seat.old.me.0 }
     ensures queue { IsSame seat.old seat.new }

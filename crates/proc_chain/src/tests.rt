@@ -207,6 +207,23 @@ fn last_position(rt: HostRuntime) -> Result<(), Fail> {
     Ok(())
 }
 
+/// Where the chain is both spent and full, it says Spent.
+#[test]
+fn spent_and_full(rt: HostRuntime) -> Result<(), Fail> {
+    let world = 3u16;
+    let Ok((chain, mut end)) = Chain::new(rt.alloc(), 4_294_967_263, empty_keeper(), &world) else {
+        panic!(rt; "no memory")
+    };
+    let turn = must_run(&rt, &chain, &mut end, 0);
+    for note in 1..32u16 {
+        must_leave(&rt, &chain, &mut end, note);
+    }
+    let refused = refusal(&rt, &chain, &mut end, 32);
+    let ran = must_end(&rt, &chain, &mut end, &world, turn, 40);
+    assert_eq!(rt; (refused, ran), (ChainRefusal::Spent, 32));
+    Ok(())
+}
+
 /// The leave that finds More uses one of the limit.
 #[test]
 fn a_note_after_the_first_round(rt: HostRuntime) -> Result<(), Fail> {

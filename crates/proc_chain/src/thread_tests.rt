@@ -108,7 +108,8 @@ fn work_four<R: Threads + Wait + Sync>(
     one: (End, End),
     other: (End, End),
 ) -> ((End, End), (End, End))
-    requires one { IsEndOf chain.now one.0 × IsEndOf chain.now one.1 × (turn_of one.0 ≡ false) × (turn_of one.1 ≡ false) }
+    requires one { IsEndOf chain.now one.0 × IsEndOf chain.now one.1 × (turn_of one.0 ≡ false)
+        × (turn_of one.1 ≡ false) }
     requires other { IsEndOf chain.now other.0 × IsEndOf chain.now other.1 × (turn_of other.0 ≡ false)
         × (turn_of other.1 ≡ false) }
     requires world { world_of chain.now ≡ world.now }

@@ -1,9 +1,6 @@
 //! Each event keeps what is lawful, as statements over plain data: no width and no table stands in them.
 
 ghost use Rattle.std.specs.Prelude.{◌≡◌, ◌==◌, ◌+◌, ◌<◌, ◌≤◌, ℕ, List, [], ◌∷◌, ◌++◌, map, length, false, Ok};
-ghost use Rattle.std.specs.Prelude.{take, drop, slice_index_or, slice_set};
-ghost use mathlib.Core.Option.{some};
-ghost use lib.ListN.{get_elem?};
 ghost use Rattle.quaject_core.specs.Queues.{Queue, empty_queue, full_queue, claim, raise, take_first};
 ghost use Rattle.quaject_core.specs.Queues.{join_queue};
 ghost use Rattle.quaject_core.specs.Chains.{Chain, empty_chain, claim_note, raise_note, take_note, notify, round};
@@ -20,15 +17,6 @@ ghost use Rattle.quaject_core.specs.Lawful.{IsLawful};
 ghost use Rattle.quaject_core.specs.Accounts.{IsAccounted};
 ghost use Rattle.quaject_core.specs.Marks.{shut, notify_wait, wait_at};
 ghost use Rattle.quaject_core.specs.declared.event.Event.{Event};
-ghost use Rattle.quaject_core.specs.declared.tables.Batch.{Batch};
-ghost use Rattle.quaject_core.specs.declared.tables.Positions.{Positions};
-ghost use Rattle.quaject_core.specs.declared.tables.QueueView.{QueueView};
-ghost use Rattle.quaject_core.specs.Queues.{left};
-ghost use Rattle.quaject_core.specs.Positioned.{Lawful, head_of, left_of, fresh, written_at, with_claim, with_take};
-ghost use Rattle.quaject_core.specs.Positioned.{blank, tail_of, with_shut, with_write};
-ghost use Rattle.quaject_core.specs.Filing.{Owned, moved};
-ghost use Rattle.quaject_core.specs.Listing.{ViewsShow, Later, written_to};
-ghost use Rattle.quaject_core.specs.QueueOf.{IsHistory, IsEvent, no_event, queue_of};
 
 /// What a state begins with is lawful.
 pub fn first_are_lawful()
@@ -130,46 +118,4 @@ pub fn every_schedule()
         → Reaches (first_state elements) events s → IsLawful s }
     ensures accounted { (elements : ℕ) (events : List Event) (s : State)
         → Reaches (first_state elements) events s → IsAccounted (first_state elements) events s }
-{}
-
-/// The queue that a table's positions are is lawful, and each step of a table on its positions is one event of that
-/// queue, or none. Byte queues, chains and element queues all speak of their places so.
-pub fn positions_are_queues()
-    ensures lawful { (q : Positions) (runs : List (Owned Batch))
-        → Lawful q → IsHistory q runs → IsLawfulQueue (queue_of q runs) }
-    ensures left { (q : Positions) (runs : List (Owned Batch))
-        → IsHistory q runs → left (queue_of q runs) ≡ left_of q }
-    ensures claimed { (q : Positions) (views : List QueueView) (seat : ℕ) (v w : QueueView) (items : List ℕ)
-        → ViewsShow q views → get_elem? views seat ≡ some v → Lawful q → 0 < length items
-        → length q.places + length items ≤ q.taken + q.room → q.shut ≡ false
-        → w.runs ≡ v.runs ++ record { start = head_of q; places = map fresh items } ∷ [] → w.takes ≡ v.takes
-        → Later w (with_claim q items)
-        → IsEvent q (with_claim q items) seat v w (claim q.room seat items) }
-    ensures stored { (q : Positions) (views : List QueueView) (seat number index at : ℕ) (v w : QueueView) (run : Batch)
-        → ViewsShow q views → get_elem? views seat ≡ some v → get_elem? v.runs number ≡ some run
-        → index < length run.places → run.start + index ≡ q.first + at → Lawful q → q.taken ≤ at
-        → (slice_index_or run.places index blank).written < 2 → written_at q at ≤ 1
-        → w.runs ≡ slice_set v.runs number (written_to run index 1) → w.takes ≡ v.takes
-        → Later w (with_write q at 1)
-        → IsEvent q (with_write q at 1) seat v w no_event }
-    ensures raised { (q : Positions) (views : List QueueView) (seat number index at : ℕ) (v w : QueueView) (run : Batch)
-        → ViewsShow q views → get_elem? views seat ≡ some v → get_elem? v.runs number ≡ some run
-        → index < length run.places → run.start + index ≡ q.first + at → Lawful q → q.taken ≤ at
-        → (slice_index_or run.places index blank).written < 2 → written_at q at ≤ 2
-        → w.runs ≡ slice_set v.runs number (written_to run index 2) → w.takes ≡ v.takes
-        → Later w (with_write q at 2)
-        → (k : ℕ) × (event : IsEvent q (with_write q at 2) seat v w (raise seat k index))
-        × (get_elem? event.shown.runs k ≡ some (seat, number, run)) }
-    ensures taken { (q : Positions) (views : List QueueView) (seat count : ℕ) (v w : QueueView)
-        → ViewsShow q views → get_elem? views seat ≡ some v → Lawful q → 0 < count
-        → q.taken + count ≤ length q.places → ((i : ℕ) → i < count → 2 ≤ written_at q (q.taken + i))
-        → w.takes ≡ v.takes ++ record { start = tail_of q; places = take count (drop q.taken q.places) } ∷ []
-        → w.runs ≡ v.runs → Later w (with_take q count)
-        → IsEvent q (with_take q count) seat v w (take_first q.room count) }
-    ensures shut { (q : Positions) (views : List QueueView) (seat : ℕ) (v w : QueueView)
-        → ViewsShow q views → get_elem? views seat ≡ some v → Lawful q → w.runs ≡ v.runs → w.takes ≡ v.takes
-        → Later w (with_shut q)
-        → IsEvent q (with_shut q) seat v w (λ c. Ok (shut c)) }
-    ensures joined { (q : Positions) (call other count : ℕ) (runs : List (Owned Batch))
-        → queue_of q (map (moved call other count) runs) ≡ join_queue call other (queue_of q runs) }
 {}

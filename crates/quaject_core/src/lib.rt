@@ -23,7 +23,6 @@ mod seats;
 mod status;
 mod store;
 mod stored;
-pub mod tables;
 mod threading;
 
 pub use alarm::Alarm;

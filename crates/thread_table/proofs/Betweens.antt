@@ -13,10 +13,12 @@ use Rattle.thread_table.specs.Schedules.{begun, state_after, elements_after, IsA
 use Rattle.thread_table.specs.Shown.{WordsShow}
 use Rattle.thread_table.specs.Rules.{Rule, HandIs}
 use Rattle.thread_table.specs.Between.{ShowsElements}
+use Rattle.thread_table.proofs.Owing.{AllOwned}
+use Rattle.thread_table.proofs.Retiring.{are_retired}
 use Rattle.thread_table.proofs.Schedules.{elements_of}
 
 -- events that were allowed lead from the first state to the one that they are said to lead to
-reached : (events : List Event) → IsAllowed events → Reaches (first_state 64) events (state_after events)
+pub reached : (events : List Event) → IsAllowed events → Reaches (first_state 64) events (state_after events)
 unfolding IsAllowed begun
 reached events allowed = allowed
 
@@ -33,5 +35,10 @@ shows_elements key s k =
       accounted = account_law 64 k.events (state_after k.events) there;
       shown = subst (λ (z : Elements). WordsShow key.first z s.words) same k.shows;
       hands = λ j v at. (subst (HandIs j v) same (k.hands j v at), (k.seen j v at).schedule);
+      made = k.made;
+      retired = are_retired k.events k.allowed;
+      sole = k.sole;
+      owned = subst (AllOwned s.views) same k.owned;
+      counted = k.counted;
       no_others = λ call element far. subst (λ (z : Elements). holds call element z ≡ false) same (k.strange call element far);
     }

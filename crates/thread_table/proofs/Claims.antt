@@ -15,11 +15,11 @@ use Rattle.quaject_core.specs.declared.hold.Hold.{Hold}
 use Rattle.quaject_core.specs.declared.refusal.Refusal.{Refusal}
 use Rattle.quaject_core.proofs.Places.{in_hands}
 use Rattle.quaject_core.proofs.ElementLaws.{every_at}
-use Rattle.quaject_core.proofs.QueueEvents.{claim_goes}
+use Rattle.table_theory.proofs.QueueEvents.{claim_goes}
 use Rattle.thread_table.specs.declared.rule.View.{View}
 use Rattle.thread_table.specs.declared.rule.Claimed.{Claimed}
 use Rattle.thread_table.specs.Schedules.{QueueGrows, line_at, thread_at, element_at, element_of, no_run}
-use Rattle.thread_table.specs.Shown.{WordsShow, LineShows, PlaceShows, StateShows, seat_place, state_place, done_place, head_place, tail_place, item_place, head_word, mark_of}
+use Rattle.thread_table.specs.Shown.{WordsShow, LineShows, PlaceShows, StateShows, seat_word, state_word, done_word, head_word, tail_word, place_word, head_shown, mark_of}
 use Rattle.thread_table.specs.Rules.{HandIs, IsClaimed, has}
 use Rattle.thread_table.specs.Views.{claim_of, with_claim}
 use Rattle.thread_table.proofs.Effects.{Leaves, Effect, Ready, ClaimEffect, WaitAtEffect}
@@ -96,9 +96,9 @@ record QueueShows (first mark line : ℕ) (words : List ℕ) (q : Queue) : Type 
   single : IsSingle q.history
   small : first + length q.history < 4294967296
   marked : mark < 4294967296
-  head : get_or words (head_place line) 0 ≡ first + length q.history + mark * 4294967296
-  tail : get_or words (tail_place line) 0 ≡ first + q.taken
-  places : (run : ℕ) → q.taken ≤ run → run < q.taken + 64 → PlaceShows first q run (get_or words (item_place line (first + run)) 0)
+  head : get_or words (head_word line) 0 ≡ first + length q.history + mark * 4294967296
+  tail : get_or words (tail_word line) 0 ≡ first + q.taken
+  places : (run : ℕ) → q.taken ≤ run → run < q.taken + 64 → PlaceShows first q run (get_or words (place_word line (first + run)) 0)
 
 as_line : (first line : ℕ) (words : List ℕ) (e : Elements) → QueueShows first (mark_of e line) line words (line_at e line) → LineShows first e line words
 as_line first line words e shows = record {
@@ -113,54 +113,54 @@ as_line first line words e shows = record {
 }
 
 -- the head words are apart from each other and from all other words
-head_else : (words : List ℕ) (line place value : ℕ) → place ≢ head_place line → get_or (set words (head_place line) value) place 0 ≡ get_or words place 0
-head_else words line place value differ = get_or-set_other words (head_place line) place value 0 differ
+head_else : (words : List ℕ) (line place value : ℕ) → place ≢ head_word line → get_or (set words (head_word line) value) place 0 ≡ get_or words place 0
+head_else words line place value differ = get_or-set_other words (head_word line) place value 0 differ
 
-tail_apart : (line other : ℕ) → tail_place other ≢ head_place line
+tail_apart : (line other : ℕ) → tail_word other ≢ head_word line
 tail_apart line other same = omega arith
 
-item_apart : (line other position : ℕ) → item_place other position ≢ head_place line
+item_apart : (line other position : ℕ) → place_word other position ≢ head_word line
 item_apart line other position same = omega arith
 
-head_apart : (line other : ℕ) → other ≢ line → head_place other ≢ head_place line
+head_apart : (line other : ℕ) → other ≢ line → head_word other ≢ head_word line
 head_apart line other differ same = differ (omega arith)
 
 -- a place of a line is shown as before
-places_kept : (first line other : ℕ) (q : Queue) (words : List ℕ) (value run : ℕ) → PlaceShows first q run (get_or words (item_place other (first + run)) 0)
-    → PlaceShows first q run (get_or (set words (head_place line) value) (item_place other (first + run)) 0)
+places_kept : (first line other : ℕ) (q : Queue) (words : List ℕ) (value run : ℕ) → PlaceShows first q run (get_or words (place_word other (first + run)) 0)
+    → PlaceShows first q run (get_or (set words (head_word line) value) (place_word other (first + run)) 0)
 places_kept first line other q words value run shows =
-    subst (PlaceShows first q run) (sym (head_else words line (item_place other (first + run)) value (item_apart line other (first + run)))) shows
+    subst (PlaceShows first q run) (sym (head_else words line (place_word other (first + run)) value (item_apart line other (first + run)))) shows
 
 other_shows : (first line other value : ℕ) (words : List ℕ) (e : Elements) → other ≢ line → LineShows first e other words
-    → QueueShows first (mark_of e other) other (set words (head_place line) value) (line_at e other)
+    → QueueShows first (mark_of e other) other (set words (head_word line) value) (line_at e other)
 other_shows first line other value words e differ shows = record {
   capacity = shows.capacity;
   is_open = shows.is_open;
   single = shows.single;
   small = shows.small;
   marked = shows.marked;
-  head = head_else words line (head_place other) value (head_apart line other differ) ∙ shows.head;
-  tail = head_else words line (tail_place other) value (tail_apart line other) ∙ shows.tail;
+  head = head_else words line (head_word other) value (head_apart line other differ) ∙ shows.head;
+  tail = head_else words line (tail_word other) value (tail_apart line other) ∙ shows.tail;
   places = λ run from below. places_kept first line other (line_at e other) words value run (shows.places run from below);
 }
 
 claimed_shows : (first id element line : ℕ) (words : List ℕ) (e : Elements) → line < 18 → length words ≡ 1325 → IsLawfulQueue (line_at e line) → first + length (line_at e line).history + 1 < 4294967296
     → LineShows first e line words
-    → QueueShows first (mark_of e line) line (set words (head_place line) (head_word first e line + 1)) (after_claim id (element ∷ []) (line_at e line))
+    → QueueShows first (mark_of e line) line (set words (head_word line) (head_shown first e line + 1)) (after_claim id (element ∷ []) (line_at e line))
 claimed_shows first id element line words e below wide lawful small shows =
     let q : Queue = line_at e line in
     let new : Run = record { call = id; items = element ∷ [] } in
-    let value : ℕ = head_word first e line + 1 in
+    let value : ℕ = head_shown first e line + 1 in
     let more = longer id element q in
-    let inside : head_place line < length words = omega arith in
+    let inside : head_word line < length words = omega arith in
     record {
       capacity = shows.capacity;
       is_open = shows.is_open;
       single = one_more_single q.history new shows.single refl;
       small = omega arith;
       marked = shows.marked;
-      head = get_or-set_same words (head_place line) value 0 inside ∙ omega arith;
-      tail = head_else words line (tail_place line) value (tail_apart line line) ∙ shows.tail;
+      head = get_or-set_same words (head_word line) value 0 inside ∙ omega arith;
+      tail = head_else words line (tail_word line) value (tail_apart line line) ∙ shows.tail;
       places = λ run from within. claim_places first id element q run _ lawful (places_kept first line line q words value run (shows.places run from within));
     }
 
@@ -169,24 +169,24 @@ abbrev claimed : ℕ → ℕ → ℕ → List Hold → Elements → Elements
 claimed id line element rest e = record e { lines = set e.lines line (after_claim id (element ∷ []) (line_at e line)); held = rest }
 
 words_after : (first id element line : ℕ) (words : List ℕ) (rest : List Hold) (e : Elements) → line < 18 → IsLawfulQueue (line_at e line) → first + length (line_at e line).history + 1 < 4294967296
-    → WordsShow first e words → WordsShow first (claimed id line element rest e) (set words (head_place line) (head_word first e line + 1))
+    → WordsShow first e words → WordsShow first (claimed id line element rest e) (set words (head_word line) (head_shown first e line + 1))
 words_after first id element line words rest e below lawful small shows =
-    let value : ℕ = head_word first e line + 1 in
-    let kept : (place : ℕ) → place < 137 → get_or words place 0 ≡ get_or (set words (head_place line) value) place 0 =
+    let value : ℕ = head_shown first e line + 1 in
+    let kept : (place : ℕ) → place < 137 → get_or words place 0 ≡ get_or (set words (head_word line) value) place 0 =
     λ place low. sym (head_else words line place value (λ same. omega arith)) in
     let inside : line < length e.lines = omega (arith, shows.queues) in
     record {
-      wide = length-set words (head_place line) value ∙ shows.wide;
+      wide = length-set words (head_word line) value ∙ shows.wide;
       threads = shows.threads;
       queues = length-set e.lines line (after_claim id (element ∷ []) (line_at e line)) ∙ shows.queues;
       waits = shows.waits;
       processors = shows.processors;
-      seats = λ p within. sym (kept (seat_place p) (omega arith)) ∙ shows.seats p within;
-      states = λ x within. subst (StateShows (thread_at e x)) (kept (state_place x) (omega arith)) (shows.states x within);
-      steps = λ x within. sym (kept (done_place x) (omega arith)) ∙ shows.steps x within;
+      seats = λ p within. sym (kept (seat_word p) (omega arith)) ∙ shows.seats p within;
+      states = λ x within. subst (StateShows (thread_at e x)) (kept (state_word x) (omega arith)) (shows.states x within);
+      steps = λ x within. sym (kept (done_word x) (omega arith)) ∙ shows.steps x within;
       few = shows.few;
-      lines = λ other within. as_line first other (set words (head_place line) value) (claimed id line element rest e)
-          (by_line (λ l q. l < 18 → QueueShows first (mark_of e l) l (set words (head_place line) value) q) e.lines line (after_claim id (element ∷ []) (line_at e line)) inside
+      lines = λ other within. as_line first other (set words (head_word line) value) (claimed id line element rest e)
+          (by_line (λ l q. l < 18 → QueueShows first (mark_of e l) l (set words (head_word line) value) q) e.lines line (after_claim id (element ∷ []) (line_at e line)) inside
           (λ w. claimed_shows first id element line words e below shows.wide lawful small (shows.lines line below))
           (λ l differ w. other_shows first line l value words e differ (shows.lines l w))
           other within);
@@ -329,7 +329,7 @@ effect_of : (id : ℕ) (v : View) (first : ℕ) (e : Elements) (words : List ℕ
     → first + length (line_at e line).history + 1 < 4294967296
     → ((rest : List Hold) → slice_get e.lines line ≡ Some (line_at e line) → claim 1 id (element ∷ []) (line_at e line) ≡ Ok (after_claim id (element ∷ []) (line_at e line)) → Lets id element e rest
     → event e ≡ Ok (claimed id line element rest e))
-    → Effect id v (with_claim v line (length (line_at e line).history) element) first event e (set words (head_place line) (head_word first e line + 1))
+    → Effect id v (with_claim v line (length (line_at e line).history) element) first event e (set words (head_word line) (head_shown first e line + 1))
 effect_of id v first e words line element event ready idle below known held small goes =
     let gone = let_go_goes id element e.held (ready.hand.held element ∙ held) in
     let claims = line_claims id element line gone.0 e first words below ready.lawful ready.shows gone.1 in

@@ -5,17 +5,17 @@ use Rattle.std.proofs.lemmas.List.{set-get_or}
 use mathlib.Core.Option.{some, none}
 use lib.ListN.{get_elem?}
 use Rattle.atomic_table.specs.Table.{Me, step, keeps, Allows}
-use Rattle.quaject_core.specs.Counting.{EndsCounted}
+use Rattle.table_theory.specs.Sharing.{EndsCounted}
 use Rattle.quaject_core.specs.Elements.{Elements, hold, holds, is_hold, is_put}
-use Rattle.quaject_core.proofs.Counting.{counted_look, counted_up, counted_down}
+use Rattle.table_theory.proofs.Counting.{counted_look, counted_up, counted_down, count_found}
 use Rattle.thread_table.specs.declared.rule.Shape.{Shape}
 use Rattle.thread_table.specs.declared.rule.View.{View}
 use Rattle.thread_table.specs.declared.rule.Counted.{Counted}
 use Rattle.thread_table.specs.Schedules.{elements_after, line_at, thread_at}
-use Rattle.thread_table.specs.Shown.{WordsShow, LineShows, StateShows, PlaceShows, seat_place, state_place, done_place, head_place, tail_place, item_place}
-use Rattle.thread_table.specs.Rules.{HandIs, IsCounted, Rule, IsIdle, ends_of, share_of, may_step}
+use Rattle.thread_table.specs.Shown.{WordsShow, LineShows, StateShows, PlaceShows, seat_word, state_word, done_word, head_word, tail_word, place_word}
+use Rattle.thread_table.specs.Rules.{HandIs, IsCounted, Rule, MayStep, IsIdle, ends_of, share_of, may_step}
 use Rattle.thread_table.specs.Views.{count_of}
-use Rattle.thread_table.specs.Steps.{looked, counts_up, counts_down, tallies, MayStep, counts}
+use Rattle.thread_table.specs.Steps.{after, counts_up, counts_down, tallies, counts}
 use Rattle.thread_table.proofs.Looks.{St, hand_counts, hand_quiet, kept, kept_look, sees_of}
 
 -- the number of hands shows nothing of the elements
@@ -26,9 +26,9 @@ line_count first line y e words h = record {
   single = h.single;
   small = h.small;
   marked = h.marked;
-  head = get_or-set_other words 0 (head_place line) y 0 (λ z. omega arith) ∙ h.head;
-  tail = get_or-set_other words 0 (tail_place line) y 0 (λ z. omega arith) ∙ h.tail;
-  places = λ run a b. subst (PlaceShows first (line_at e line) run) (sym (get_or-set_other words 0 (item_place line (first + run)) y 0 (λ z. omega arith))) (h.places run a b);
+  head = get_or-set_other words 0 (head_word line) y 0 (λ z. omega arith) ∙ h.head;
+  tail = get_or-set_other words 0 (tail_word line) y 0 (λ z. omega arith) ∙ h.tail;
+  places = λ run a b. subst (PlaceShows first (line_at e line) run) (sym (get_or-set_other words 0 (place_word line (first + run)) y 0 (λ z. omega arith))) (h.places run a b);
 }
 
 pub shows_count : (first y : ℕ) (e : Elements) (words : List ℕ) → WordsShow first e words → WordsShow first e (set words 0 y)
@@ -38,49 +38,49 @@ shows_count first y e words h = record {
   queues = h.queues;
   waits = h.waits;
   processors = h.processors;
-  seats = λ p b. get_or-set_other words 0 (seat_place p) y 0 (λ z. omega arith) ∙ h.seats p b;
-  states = λ x b. subst (StateShows (thread_at e x)) (sym (get_or-set_other words 0 (state_place x) y 0 (λ z. omega arith))) (h.states x b);
-  steps = λ x b. get_or-set_other words 0 (done_place x) y 0 (λ z. omega arith) ∙ h.steps x b;
+  seats = λ p b. get_or-set_other words 0 (seat_word p) y 0 (λ z. omega arith) ∙ h.seats p b;
+  states = λ x b. subst (StateShows (thread_at e x)) (sym (get_or-set_other words 0 (state_word x) y 0 (λ z. omega arith))) (h.states x b);
+  steps = λ x b. get_or-set_other words 0 (done_word x) y 0 (λ z. omega arith) ∙ h.steps x b;
   few = h.few;
   lines = λ line b. line_count first line y e words (h.lines line b);
 }
 
 -- the rule, where the number of hands becomes y
 pub kept_count : (key : Shape) (s : St) (k : Rule key s) (id y : ℕ) (v w : View) → get_elem? s.views id ≡ some v
-    → w.first ≡ v.first → w.schedule ≡ k.events → w.joined ≡ k.events → w.serves ≡ v.serves → w.claimed ≡ v.claimed → HandIs id w (elements_after k.events)
+    → w.first ≡ v.first → w.schedule ≡ k.events → w.joined ≡ k.events → w.serves ≡ v.serves → w.claimed ≡ v.claimed → (w.made ≡ v.made) × (w.doubled ≡ v.doubled) → HandIs id w (elements_after k.events)
     → EndsCounted ends_of share_of IsIdle y (set s.views id w) → Rule key record { words = set s.words 0 y; homes = s.homes; views = set s.views id w }
-kept_count key s k id y v w at first schedule joined serving claimed hand c = let wide = k.shows.wide in
-    kept key s k id (set s.words 0 y) v w at (shows_count key.first y (elements_after k.events) s.words k.shows) first schedule joined serving claimed hand
+kept_count key s k id y v w at first schedule joined serving claimed own hand c = let wide = k.shows.wide in
+    kept key s k id (set s.words 0 y) v w at (shows_count key.first y (elements_after k.events) s.words k.shows) first schedule joined serving claimed own hand
     (subst (λ (n : ℕ). EndsCounted ends_of share_of IsIdle n (set s.views id w)) (sym (get_or-set_same s.words 0 y 0 (omega arith))) c)
 
-pub ups : (key : Shape) (n id : ℕ) (me : Me Unit View) → 1 ≤ me.0.ends → Allows (Rule key) n id me 0 (λ x. (x + 1) % 18446744073709551616) (counts_up (step n 0 1 0 none) me)
-ups key n id me live s k _ at _ = let v : View = me.0 in let w : View = record (looked v k.events) { ends = v.ends + 1 } in let c : ℕ = get_or s.words 0 0 in (
+pub ups : (key : Shape) (n id : ℕ) (me : Me Unit View) → me.0.ends + 1 ≤ me.0.share → Allows (Rule key) n id me 0 (λ x. (x + 1) % 18446744073709551616) (counts_up (step n 0 1 0 none) me)
+ups key n id me live s k _ at _ = let v : View = me.0 in let c : ℕ = get_or s.words 0 0 in let w : View = record (after v 0 c k.events) { ends = v.ends + 1 } in (
   w,
   keeps,
   tt,
-  kept_count key s k id ((c + 1) % 18446744073709551616) v w at refl refl refl refl refl (hand_quiet id v w (elements_after k.events) refl refl refl refl refl (k.hands id v at))
+  kept_count key s k id ((c + 1) % 18446744073709551616) v w at refl refl refl refl refl (refl, refl) (hand_quiet id v w (elements_after k.events) refl refl refl refl refl (k.hands id v at))
       (counted_up ends_of share_of IsIdle c s.views id v w k.counted at live refl refl),
   (refl, record { same = refl; sees = sees_of key s k id v at }),
 )
 
 pub downs : (key : Shape) (n id : ℕ) (me : Me Unit View) → 2 ≤ me.0.ends → Allows (Rule key) n id me 0 (λ x. (x + (18446744073709551616 - 1)) % 18446744073709551616) (counts_down (step n 0 1 0 none) me)
-downs key n id me live s k _ at _ = let v : View = me.0 in let w : View = record (looked v k.events) { ends = v.ends - 1 } in let c : ℕ = get_or s.words 0 0 in (
+downs key n id me live s k _ at _ = let v : View = me.0 in let c : ℕ = get_or s.words 0 0 in let w : View = record (after v 0 c k.events) { ends = v.ends - 1 } in (
   w,
   keeps,
   tt,
-  kept_count key s k id ((c + (18446744073709551616 - 1)) % 18446744073709551616) v w at refl refl refl refl refl (hand_quiet id v w (elements_after k.events) refl refl refl refl refl (k.hands id v at))
+  kept_count key s k id ((c + (18446744073709551616 - 1)) % 18446744073709551616) v w at refl refl refl refl refl (refl, refl) (hand_quiet id v w (elements_after k.events) refl refl refl refl refl (k.hands id v at))
       (counted_down ends_of share_of IsIdle c s.views id v w k.counted at (omega arith) (omega arith) refl),
   (refl, record { same = refl; sees = sees_of key s k id v at }),
 )
 
 -- the number of hands is found
-pub tallies_ends : (key : Shape) (n id : ℕ) (me : Me Unit View) → 1 ≤ me.0.ends → Allows (Rule key) n id me 0 (λ x. x) (tallies (step n 0 0 0 none) me)
-tallies_ends key n id me live s k _ at _ = let v : View = me.0 in (
-  looked v k.events,
+pub tallies_ends : (key : Shape) (n id : ℕ) (me : Me Unit View) → me.0.ends ≡ 1 → Allows (Rule key) n id me 0 (λ x. x) (tallies (step n 0 0 0 none) me)
+tallies_ends key n id me live s k _ at _ = let v : View = me.0 in let c : ℕ = get_or s.words 0 0 in (
+  after v 0 c k.events,
   keeps,
   tt,
-  kept_look key s k 0 id v at,
-  (refl, record { same = refl; sees = sees_of key s k id v at; views = s.views; seat = id; here = at; counted = k.counted }),
+  kept_look key s k 0 id c v at,
+  (refl, record { same = refl; sees = sees_of key s k id v at; count = count_found ends_of share_of IsIdle (get_or s.words 0 0) s.views id v k.counted at live }),
 )
 
 or_true : (b : Bool) → (b || true) ≡ true
@@ -110,14 +110,14 @@ may_of call v e element h may = ⊎_elim
     may
 
 -- the number of steps that an element had done is found
-pub counts_done : (key : Shape) (n id : ℕ) (me : Me Unit View) (element : ℕ) → element < 64 → MayStep me.0 element → 1 ≤ me.0.ends → Allows (Rule key) n id me (done_place element) (λ x. x) (counts element (step n (done_place element) 0 0 none) me)
-counts_done key n id me element known may live s k _ at _ = let v : View = me.0 in let e : Elements = elements_after k.events in let i : ℕ = done_place element in let found : ℕ = get_or s.words i 0 in
-    let w : View = record (looked v k.events) { counted = Some (count_of element found) } in let is : found ≡ (thread_at e element).done = k.shows.steps element known in
+pub counts_done : (key : Shape) (n id : ℕ) (me : Me Unit View) (element : ℕ) → element < 64 → MayStep me.0 element → 1 ≤ me.0.ends → Allows (Rule key) n id me (done_word element) (λ x. x) (counts element (step n (done_word element) 0 0 none) me)
+counts_done key n id me element known may live s k _ at _ = let v : View = me.0 in let e : Elements = elements_after k.events in let i : ℕ = done_word element in let found : ℕ = get_or s.words i 0 in
+    let w : View = record (after v i found k.events) { counted = Some (count_of element found) } in let is : found ≡ (thread_at e element).done = k.shows.steps element known in
     let same : set s.words i found ≡ s.words = set-get_or s.words i 0 in (
       w,
       keeps,
       tt,
-      kept key s k id (set s.words i found) v w at (subst (WordsShow key.first e) (sym same) k.shows) refl refl refl refl refl
+      kept key s k id (set s.words i found) v w at (subst (WordsShow key.first e) (sym same) k.shows) refl refl refl refl refl (refl, refl)
           (hand_counts id v w e refl refl refl refl (λ c has. subst (λ (z : Counted). IsCounted id z e) (some_count (count_of element found) c has) record { known = known; may = may_of id v e element (k.hands id v at) may; done = sym is }) (k.hands id v at))
           (subst (λ (n : ℕ). EndsCounted ends_of share_of IsIdle n (set s.views id w)) (ap (λ (z : List ℕ). get_or z 0 0) (sym same)) (counted_look ends_of share_of IsIdle (get_or s.words 0 0) s.views id v w k.counted at refl refl (λ _ h. h))),
       (refl, record { same = refl; sees = sees_of key s k id v at; is = is }),

@@ -10,7 +10,7 @@ use Rattle.thread_table.specs.declared.rule.View.{View}
 use Rattle.thread_table.specs.declared.rule.Claimed.{Claimed}
 use Rattle.thread_table.specs.declared.rule.Counted.{Counted}
 use Rattle.thread_table.specs.Schedules.{Grows, line_at, thread_at, element_at}
-use Rattle.thread_table.specs.Shown.{WordsShow, seat_place, state_place, done_place, head_place, tail_place, item_place, head_word, tail_word, mark_of}
+use Rattle.thread_table.specs.Shown.{WordsShow, seat_word, state_word, done_word, head_word, tail_word, place_word, head_shown, tail_shown, mark_of}
 use Rattle.thread_table.specs.Views.{claim_of, quiet, with_held, with_claim, with_raise, with_on, with_off, with_start}
 use Rattle.thread_table.specs.Rules.{HandIs, IsOpen, IsClaimed, may_step, has, serves, running}
 
@@ -46,53 +46,53 @@ pub record Ready (id : ℕ) (v : View) (first : ℕ) (e : Elements) (words : Lis
 abbrev pub ClaimEffect : Type 0
 ClaimEffect = (id : ℕ) (v : View) (first : ℕ) (e : Elements) (words : List ℕ) (line element : ℕ) → Ready id v first e words → v.claimed ≡ None → line < 18 → element < 64 → has v element ≡ true
     → first + length (line_at e line).history + 1 < 4294967296
-    → Effect id v (with_claim v line (length (line_at e line).history) element) first (claim_element line id (element ∷ [])) e (set words (head_place line) (head_word first e line + 1))
+    → Effect id v (with_claim v line (length (line_at e line).history) element) first (claim_element line id (element ∷ [])) e (set words (head_word line) (head_shown first e line + 1))
 
 abbrev pub WaitAtEffect : Type 0
 WaitAtEffect = (id : ℕ) (v : View) (first : ℕ) (e : Elements) (words : List ℕ) (wait element ticket : ℕ) → Ready id v first e words → v.claimed ≡ None → wait < 16 → element < 64 → has v element ≡ true
     → first + length (line_at e (wait + 2)).history + 1 < 4294967296 → mark_of e (wait + 2) ≡ ticket
-    → Effect id v (with_claim v (wait + 2) (length (line_at e (wait + 2)).history) element) first (wait_at id wait element ticket) e (set words (head_place (wait + 2)) (head_word first e (wait + 2) + 1))
+    → Effect id v (with_claim v (wait + 2) (length (line_at e (wait + 2)).history) element) first (wait_at id wait element ticket) e (set words (head_word (wait + 2)) (head_shown first e (wait + 2) + 1))
 
 abbrev pub RaiseEffect : Type 0
 RaiseEffect = (id : ℕ) (v : View) (first : ℕ) (e : Elements) (words : List ℕ) (line run element : ℕ) → Ready id v first e words → v.claimed ≡ Some (let c : Claimed = record { line = line; run = run; element = element } in c)
-    → Effect id v (with_raise v) first (raise_element line id run 0) e (set words (item_place line (first + run)) (element + 256 * (first + run + 1)))
+    → Effect id v (with_raise v) first (raise_element line id run 0) e (set words (place_word line (first + run)) (element + 256 * (first + run + 1)))
 
 abbrev pub TakeEffect : Type 0
 TakeEffect = (id : ℕ) (v : View) (first : ℕ) (e : Elements) (words : List ℕ) (line : ℕ) → Ready id v first e words → v.claimed ≡ None → line < 18 → (line_at e line).raised (line_at e line).taken 0 ≡ true
-    → Effect id v (with_held v (element_at (line_at e line) (line_at e line).taken) true) first (take_element line id 1) e (set words (tail_place line) (tail_word first e line + 1))
+    → Effect id v (with_held v (element_at (line_at e line) (line_at e line).taken) true) first (take_element line id 1) e (set words (tail_word line) (tail_shown first e line + 1))
 
 abbrev pub NotifyEffect : Type 0
 NotifyEffect = (id : ℕ) (v : View) (first : ℕ) (e : Elements) (words : List ℕ) (wait : ℕ) → Ready id v first e words → v.claimed ≡ None → wait < 16
-    → Effect id v (quiet v) first (notify_wait wait) e (set words (head_place (wait + 2)) ((head_word first e (wait + 2) + 4294967296) % 18446744073709551616))
+    → Effect id v (quiet v) first (notify_wait wait) e (set words (head_word (wait + 2)) ((head_shown first e (wait + 2) + 4294967296) % 18446744073709551616))
 
 abbrev pub OnEffect : Type 0
 OnEffect = (id : ℕ) (v : View) (first : ℕ) (e : Elements) (words : List ℕ) (p element : ℕ) → Ready id v first e words → v.claimed ≡ None → p < 8 → element < 64 → has v element ≡ true → serves v p ≡ true → running v p ≡ None
-    → Effect id v (with_on v p element) first (put_on id p element) e (set words (seat_place p) (element + 1))
+    → Effect id v (with_on v p element) first (put_on id p element) e (set words (seat_word p) (element + 1))
 
 abbrev pub OffEffect : Type 0
 OffEffect = (id : ℕ) (v : View) (first : ℕ) (e : Elements) (words : List ℕ) (p element : ℕ) → Ready id v first e words → v.claimed ≡ None → p < 8 → serves v p ≡ true → running v p ≡ Some element
-    → Effect id v (with_off v p element) first (take_off id p) e (set words (seat_place p) 0)
+    → Effect id v (with_off v p element) first (take_off id p) e (set words (seat_word p) 0)
 
 abbrev pub StopEffect : Type 0
 StopEffect = (id : ℕ) (v : View) (first : ℕ) (e : Elements) (words : List ℕ) (element : ℕ) → Ready id v first e words → v.claimed ≡ None → element < 64
-    → Effect id v (quiet v) first (stop element) e (set words (state_place element) (bit_or (get_or words (state_place element) 0) 65536))
+    → Effect id v (quiet v) first (stop element) e (set words (state_word element) (bit_or (get_or words (state_word element) 0) 65536))
 
 abbrev pub ParkEffect : Type 0
 ParkEffect = (id : ℕ) (v : View) (first : ℕ) (e : Elements) (words : List ℕ) (element : ℕ) → Ready id v first e words → v.claimed ≡ None → element < 64 → has v element ≡ true → (thread_at e element).stop ≡ true
-    → Effect id v (with_held v element false) first (park id element) e (set words (state_place element) (bit_or (get_or words (state_place element) 0) 131072))
+    → Effect id v (with_held v element false) first (park id element) e (set words (state_word element) (bit_or (get_or words (state_word element) 0) 131072))
 
 abbrev pub StartEffect : Type 0
 StartEffect = (id : ℕ) (v : View) (first : ℕ) (e : Elements) (words : List ℕ) (element : ℕ) → Ready id v first e words → v.claimed ≡ None → element < 64 → (thread_at e element).stop ≡ true
-    → Effect id v (with_start v element (thread_at e element).parked) first (start id element) e (set words (state_place element) (bit_and (get_or words (state_place element) 0) 65535))
+    → Effect id v (with_start v element (thread_at e element).parked) first (start id element) e (set words (state_word element) (bit_and (get_or words (state_word element) 0) 65535))
 
 abbrev pub SignalEffect : Type 0
 SignalEffect = (id : ℕ) (v : View) (first : ℕ) (e : Elements) (words : List ℕ) (element number : ℕ) → Ready id v first e words → v.claimed ≡ None → element < 64 → number < 16
-    → Effect id v (quiet v) first (signal element number) e (set words (state_place element) (bit_or (get_or words (state_place element) 0) (2 ^ number)))
+    → Effect id v (quiet v) first (signal element number) e (set words (state_word element) (bit_or (get_or words (state_word element) 0) (2 ^ number)))
 
 abbrev pub DeliverEffect : Type 0
 DeliverEffect = (id : ℕ) (v : View) (first : ℕ) (e : Elements) (words : List ℕ) (element : ℕ) → Ready id v first e words → v.claimed ≡ None → element < 64 → has v element ≡ true
-    → Effect id v (quiet v) first (deliver id element) e (set words (state_place element) (bit_and (get_or words (state_place element) 0) 196608))
+    → Effect id v (quiet v) first (deliver id element) e (set words (state_word element) (bit_and (get_or words (state_word element) 0) 196608))
 
 abbrev pub DoneEffect : Type 0
 DoneEffect = (id : ℕ) (v : View) (first : ℕ) (e : Elements) (words : List ℕ) (element count : ℕ) → Ready id v first e words → v.claimed ≡ None → v.counted ≡ Some (let c : Counted = record { element = element; done = count } in c) → count < 4294967295
-    → Effect id v (quiet v) first (done id element) e (set words (done_place element) (count + 1))
+    → Effect id v (quiet v) first (done id element) e (set words (done_word element) (count + 1))

@@ -1,10 +1,10 @@
 -- What a hand knows after a split, and after a join.
-use Rattle.std.proofs.Common.{◌≡◌, ℕ, Bool, true, false, ◌||◌, ◌&&◌, not, cond, List, length, get_or, refl, ap, ◌∙◌}
-use Rattle.quaject_core.specs.Sharing.{half}
+use Rattle.std.proofs.Common.{◌≡◌, ℕ, zero, suc, ◌+◌, ◌-◌, Bool, true, false, ◌||◌, ◌&&◌, not, cond, List, [], ◌∷◌, length, get_or, refl, sym, ap, ◌∙◌, arith}
+use Rattle.table_theory.specs.Sharing.{given, kept}
 use Rattle.thread_table.specs.declared.rule.View.{View}
 use Rattle.thread_table.specs.Answers.{is_in}
-use Rattle.thread_table.specs.Steps.{CountedUp, CountedDown, rest_of, newborn, both}
-use Rattle.thread_table.specs.Endings.{Divided, Newborn, TookIn}
+use Rattle.thread_table.specs.Steps.{after, CountedUp, CountedDown, parted, any_both, rest_of, newborn, both}
+use Rattle.thread_table.specs.Endings.{Divided, IsNewborn, TookIn}
 use Rattle.thread_table.proofs.Entries.{get_or-parted, get_or-either}
 
 and_not : (b m : Bool) → cond m false b ≡ (b && not m)
@@ -17,26 +17,49 @@ or_is : (a b : Bool) → cond a true b ≡ (a || b)
 or_is true b = refl
 or_is false b = refl
 
+no_mark : (a b : Bool) → (a || b) ≡ false → (a ≡ false) × (b ≡ false)
+no_mark true b h = absurd (cc)
+no_mark false b h = (refl, h)
+
+-- where no place has a mark in both lists
+both_low : (bs ms : List Bool) → any_both bs ms ≡ false → (i : ℕ) → (get_or bs i false && get_or ms i false) ≡ false
+both_low [] ms none i = refl
+both_low (true ∷ bs) [] none zero = refl
+both_low (false ∷ bs) [] none zero = refl
+both_low (b ∷ bs) [] none (suc i) = no_more (get_or bs i false)
+  where
+    no_more : (b : Bool) → (b && false) ≡ false
+    no_more true = refl
+    no_more false = refl
+both_low (b ∷ bs) (m ∷ ms) none zero = (no_mark (b && m) (any_both bs ms) none).0
+both_low (b ∷ bs) (m ∷ ms) none (suc i) = both_low bs ms (no_mark (b && m) (any_both bs ms) none).1 i
+
 -- the first hand, after it counted the new one and gave it the processors of the mask
-pub divided : (number : ℕ) (mask : List Bool) (v x : View) → ((p : ℕ) → get_or mask p false ≡ is_in number p) → CountedUp v x → Divided number v (rest_of mask x)
-divided number mask v x is t = record {
-  held = ap (λ (z : View). z.held) t.same;
-  on = ap (λ (z : View). z.on) t.same;
+pub divided : (number : ℕ) (mask : List Bool) (v x : View) (found : ℕ) → ((p : ℕ) → get_or mask p false ≡ is_in number p) → CountedUp v found x → Divided number v (rest_of mask x)
+divided number mask v x found is t = let ends : v.ends + 1 - 1 ≡ v.ends = omega arith in let serves : v.serves ≡ x.serves = sym (ap (λ (z : View). z.serves) t.same) in record {
+  found = found;
+  same = ap (rest_of mask) t.same ∙ (λ i. let z : View = record (after v 0 found x.schedule) { serves = parted (serves i) mask; share = kept v.share; ends = ends i } in z);
   serves = λ p below. get_or-parted x.serves mask p ∙ (and_not (get_or x.serves p false) (get_or mask p false)
       ∙ (ap (λ (z : List Bool). get_or z p false && not (get_or mask p false)) (ap (λ (z : View). z.serves) t.same) ∙ ap (λ (b : Bool). get_or v.serves p false && not b) (is p)));
-  share = ap (λ (z : View). half z.share) t.same;
-  later = t.sees.seen.schedule;
+  sees = t.sees;
 }
 
-pub born : (number : ℕ) (mask : List Bool) (x : View) → ((p : ℕ) → get_or mask p false ≡ is_in number p) → Newborn number (rest_of mask x) (newborn mask x)
-born number mask x is = record { held = refl; on = refl; serves = λ p below. is p; share = refl; schedule = refl }
-
-pub took_in : (v u w : View) → length u.held ≡ length v.held → length u.serves ≡ length v.serves → CountedDown (both v u) w → TookIn v u w
-took_in v u w held serves t = record {
-  held = λ e. ap (λ (z : View). get_or z.held e false) t.same ∙ (get_or-either v.held u.held e held ∙ or_is (get_or v.held e false) (get_or u.held e false));
-  serves = λ p. ap (λ (z : View). get_or z.serves p false) t.same ∙ (get_or-either v.serves u.serves p serves ∙ or_is (get_or v.serves p false) (get_or u.serves p false));
-  on = ap (λ (z : View). z.on) t.same;
-  share = ap (λ (z : View). z.share) t.same;
-  later = t.sees.seen.schedule;
-  joined = t.sees.seen.joined;
+pub born : (number : ℕ) (mask : List Bool) (v x : View) (found : ℕ) → ((p : ℕ) → get_or mask p false ≡ is_in number p) → CountedUp v found x → IsNewborn number v (rest_of mask x) (newborn mask x)
+born number mask v x found is t = let share : x.share ≡ v.share = ap (λ (z : View). z.share) t.same in record {
+  same = λ i. let z : View = record (newborn mask x) { share = given (share i) } in z;
+  serves = λ p below. is p;
 }
+
+pub took_in : (v u w : View) (found : ℕ) → v.ends ≡ 1 → u.ends ≡ 1 → length u.held ≡ length v.held → length u.serves ≡ length v.serves → CountedDown (both v u) found w → TookIn v u w
+took_in v u w found one one' held serves t =
+    let ends : v.ends + u.ends - 1 ≡ 1 = omega arith in
+    let a = no_mark (v.doubled || u.doubled || any_both v.held u.held) (any_both v.serves u.serves) t.sees.undoubled in
+    let b = no_mark (v.doubled || u.doubled) (any_both v.held u.held) a.0 in record {
+      found = found;
+      same = t.same ∙ (λ i. let z : View = record (after (both v u) 0 found w.schedule) { ends = ends i } in z);
+      sees = t.sees;
+      apart = both_low v.held u.held b.1;
+      alone = both_low v.serves u.serves a.1;
+      held = λ e. ap (λ (z : View). get_or z.held e false) t.same ∙ (get_or-either v.held u.held e held ∙ or_is (get_or v.held e false) (get_or u.held e false));
+      serves = λ p. ap (λ (z : View). get_or z.serves p false) t.same ∙ (get_or-either v.serves u.serves p serves ∙ or_is (get_or v.serves p false) (get_or u.serves p false));
+    }

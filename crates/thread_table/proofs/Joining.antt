@@ -1,5 +1,5 @@
 -- A join of a hand to another keeps the rule.
-use Rattle.std.proofs.Common.{◌≡◌, ◌≢◌, ◌⊎◌, ⊎_elim, inl, inr, ℕ, zero, suc, ◌≤◌, Bool, true, false, ◌||◌, ne_eqb, List, [], ◌∷◌, ◌++◌, ◌∙◌, map, length, get_or, set, Option, Some, None, option_map, slice_get, Ok, refl, sym, ap, ap₂, subst, arith, length-set}
+use Rattle.std.proofs.Common.{map, ◌≡◌, ◌≢◌, ◌⊎◌, ⊎_elim, inl, inr, ℕ, zero, suc, ◌≤◌, Bool, true, false, ◌||◌, ne_eqb, List, [], ◌∷◌, ◌++◌, ◌∙◌, map, length, get_or, set, Option, Some, None, option_map, slice_get, Ok, refl, sym, ap, ap₂, subst, arith, length-set}
 use mathlib.Core.Option.{some}
 use lib.ListN.{get_elem?}
 use Rattle.atomic_table.specs.Table.{Joins}
@@ -11,9 +11,9 @@ use Rattle.quaject_core.specs.States as core
 use Rattle.quaject_core.specs.declared.event.Event.{Event}
 use Rattle.quaject_core.specs.declared.event.Event.TheVariants as events
 use Rattle.quaject_core.specs.declared.refusal.Refusal.TheVariants.{UnknownName}
-use Rattle.quaject_core.proofs.Lists.{at_set, set_else}
-use Rattle.quaject_core.proofs.Owned.{at_below}
-use Rattle.quaject_core.proofs.Counting.{counted_join}
+use Rattle.atomic_table.proofs.Lists.{at_set, set_else}
+use Rattle.table_theory.proofs.Owned.{at_below}
+use Rattle.table_theory.proofs.Counting.{counted_join}
 use Rattle.thread_table.specs.declared.rule.Shape.{Shape}
 use Rattle.thread_table.specs.declared.rule.View.{View}
 use Rattle.thread_table.specs.Schedules.{state_after, elements_after, line_at, element_at, IsAllowed, Grows}
@@ -26,6 +26,23 @@ use Rattle.thread_table.proofs.QueueWords.{none_some}
 use Rattle.thread_table.proofs.Copies.{length-copies, get_or-copies}
 use Rattle.thread_table.proofs.Renaming.{renamed_call, renamed_other, renamed_third, held_third, held_call, held_other, seat_renamed, claim_third, count_third, grows_joined, open_joined, words_joined}
 use Rattle.thread_table.proofs.Schedules.{after_more, elements_after_more, elements_of, begins_more, grows_trans}
+use Rattle.std.proofs.lemmas.List.{map-set}
+use Rattle.atomic_table.proofs.Lists.{at_map}
+use Rattle.thread_table.specs.declared.rule.Made.{Made}
+use Rattle.thread_table.specs.Makers.{AreMade, made_of}
+use Rattle.thread_table.proofs.Filings.{made_join}
+use Rattle.thread_table.specs.Rules.{IsSteady, IsNewest, may_step, has}
+use Rattle.thread_table.specs.Steps.{any_both}
+use Rattle.std.specs.List.{list_any}
+use Rattle.quaject_core.specs.Elements.{is_put}
+use Rattle.quaject_core.specs.Lawful.{IsLawfulElements}
+use Rattle.thread_table.proofs.Making.{no_other}
+use Rattle.thread_table.proofs.Strangers.{others_count}
+use Rattle.thread_table.proofs.Schedules.{lawful_after}
+use mathlib.Core.Logic.{dite}
+use native.Mathlib.Decide.{dec_lt}
+use Rattle.std.proofs.Math.ListN.{get_or-eq_default}
+use Rattle.thread_table.specs.Schedules.{thread_at}
 
 -- an entry of the list in which one took in another
 pub each_joined : {V : Type 0} (Q : ℕ → V → Type 0) (vs : List V) (id other : ℕ) (taker spent : V) → ((j : ℕ) (u : V) → j ≢ id → j ≢ other → get_elem? vs j ≡ some u → Q j u) → Q id taker → Q other spent
@@ -85,6 +102,24 @@ either_on_other (None ∷ xs) (y ∷ ys) zero long none = refl
 either_on_other (Some x ∷ xs) (y ∷ ys) zero long none = absurd (cc)
 either_on_other (None ∷ xs) (y ∷ ys) (suc p) long none = either_on_other xs ys p (omega arith) none
 either_on_other (Some x ∷ xs) (y ∷ ys) (suc p) long none = either_on_other xs ys p (omega arith) none
+
+-- no place has a mark in both
+pub none_both : (bs ms : List Bool) → ((i : ℕ) → get_or bs i false ≡ true → get_or ms i false ≡ true → ⊥) → any_both bs ms ≡ false
+none_both [] ms none = refl
+none_both (b ∷ bs) [] none = refl
+none_both (true ∷ bs) (true ∷ ms) none = absurd (none 0 refl refl)
+none_both (true ∷ bs) (false ∷ ms) none = none_both bs ms (λ i. none (suc i))
+none_both (false ∷ bs) (m ∷ ms) none = none_both bs ms (λ i. none (suc i))
+
+or_left : (b c : Bool) → b ≡ true → (b || c) ≡ true
+or_left b c up = ap (λ (z : Bool). z || c) up
+
+-- no element is held by two hands
+held_apart : (id other : ℕ) (v w : View) (e : Elements) → other ≢ id → IsLawfulElements e → length e.threads ≡ 64 → HandIs id v e → HandIs other w e → (x : ℕ) → has v x ≡ true → has w x ≡ true → ⊥
+held_apart id other v w e ne lawful long mine its x up up' = dite (dec_lt x 64)
+    (λ known. let low : may_step id x e ≡ false = others_count id other x e lawful long known ne (or_left (holds other x e) (list_any (is_put other x) e.processors) (its.held x ∙ up')) in
+        let high : may_step id x e ≡ true = or_left (holds id x e) (list_any (is_put id x) e.processors) (mine.held x ∙ up) in absurd (cc))
+    (λ past. let l = mine.held_long in let none : has v x ≡ false = get_or-eq_default v.held false (omega (arith, past)) in absurd (cc))
 
 -- no processor is served by both
 abbrev Apart : View → View → Type 0
@@ -230,5 +265,20 @@ joins key id other v w live live' idle idle' s k at ne there = let at' : get_ele
       strange = λ call element past. let below = at_below s.views id v at in let below' = at_below s.views other w at' in
           let past' : length s.views ≤ call = omega (arith, past, length-set (set s.views id (both v w)) other (emptied v), length-set s.views id (both v w)) in
           subst (λ (z : Elements). holds call element z ≡ false) (sym after.elements) (held_third id other call element e (λ z. omega arith) (λ z. omega arith) ∙ k.strange call element past');
-      counted = counted_join ends_of share_of IsIdle (get_or s.words 0 0) s.views id other v w (both v w) (emptied v) k.counted at at' ne live live' refl refl refl refl (refl, refl, refl, refl);
+      steady = each_joined (λ (j : ℕ) (u : View). IsSteady u (k.events ++ event ∷ [])) s.views id other (both v w) (emptied v)
+          (λ j u a b has up x low may. ap (λ (z : Elements). (thread_at z x).done) after.elements ∙ k.steady j u has up x low may)
+          (λ up x low may. absurd (cc)) (λ up x low may. absurd (cc));
+      newest = each_joined (λ (j : ℕ) (u : View). IsNewest u (k.events ++ event ∷ [])) s.views id other (both v w) (emptied v)
+          (λ j u a b has whole up. absurd (no_other (get_or s.words 0 0) s.views id j v u k.counted at live has a whole))
+          (λ whole up. absurd (cc)) (λ whole up. absurd (cc));
+      undoubled = each_joined (λ (j : ℕ) (u : View). u.doubled ≡ false) s.views id other (both v w) (emptied v) (λ j u _ _ has. k.undoubled j u has)
+          (let a = k.undoubled id v at in let b = k.undoubled other w at' in
+          let c : any_both v.held w.held ≡ false = none_both v.held w.held (held_apart id other v w e ne (lawful_after k.events k.allowed) k.shows.threads two.mine two.its) in
+          let d : any_both v.serves w.serves ≡ false = none_both v.serves w.serves two.apart in
+          λ i. ((a i || b i) || c i) || d i)
+          refl;
+      made = subst (AreMade (k.events ++ event ∷ []))
+          (sym (map-set made_of (set s.views id (both v w)) other (emptied v) ∙ ap (λ (z : List (List Made)). set z other []) (map-set made_of s.views id (both v w))))
+          (made_join k.events (map made_of s.views) id other v.made w.made k.made (at_map made_of s.views id v at) (at_map made_of s.views other w at') ne);
+      counted = counted_join ends_of share_of IsIdle (get_or s.words 0 0) s.views id other v w (both v w) (emptied v) k.counted at at' ne live refl refl refl refl (refl, refl, refl, refl, refl);
     }

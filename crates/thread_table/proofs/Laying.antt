@@ -4,12 +4,12 @@ use Rattle.std.proofs.lemmas.Bool.{cases_lt}
 use Rattle.std.proofs.lemmas.List.{length-replicate}
 use Rattle.atomic_table.specs.Table.{opening}
 use Rattle.thread_table.specs.declared.rule.Shape.{Shape}
-use Rattle.thread_table.specs.Shown.{head_place, tail_place}
+use Rattle.thread_table.specs.Shown.{head_word, tail_word}
 use Rattle.thread_table.specs.Laid.{LinesLaid, ItemsLaid}
 use Rattle.thread_table.specs.Rules.{Rule, newcomer}
 use Rattle.thread_table.proofs.Opening.{opens}
 
-kept : (first : ℕ) (ws words : List ℕ) → ItemsLaid first 64 ws words → (place line : ℕ) → head_place line ≤ place → place ≤ tail_place line → get_or words place 0 ≡ get_or ws place 0
+kept : (first : ℕ) (ws words : List ℕ) → ItemsLaid first 64 ws words → (place line : ℕ) → head_word line ≤ place → place ≤ tail_word line → get_or words place 0 ≡ get_or ws place 0
 kept first ws words h place line from to = elim (cases_lt line 2) [
   | inl low ↦ h.low place (omega arith)
   | inr past ↦ h.high place (omega arith)
@@ -22,8 +22,8 @@ laid_opens key zs ws words fits one rest a b = opens key words fits b.wide
     (b.low 0 (omega arith) ∙ (a.low 0 (omega arith) ∙ one))
     (λ i from to. b.low i (omega arith) ∙ (a.low i (omega arith) ∙ rest i from))
     (λ i from to. b.low i (omega arith) ∙ (a.low i (omega arith) ∙ rest i (omega arith)))
-    (λ line below. kept key.first ws words b (head_place line) line (omega arith) (omega arith) ∙ a.heads line below)
-    (λ line below. kept key.first ws words b (tail_place line) line (omega arith) (omega arith) ∙ a.tails line below)
+    (λ line below. kept key.first ws words b (head_word line) line (omega arith) (omega arith) ∙ a.heads line below)
+    (λ line below. kept key.first ws words b (tail_word line) line (omega arith) (omega arith) ∙ a.tails line below)
     b.places
     (λ line i known apart below. elim (cases_lt line 1) [
       | inl low ↦ b.low (66 * line + 139 + i) (omega arith) ∙ (a.items line i known below ∙ rest (66 * line + 139 + i) (omega arith))

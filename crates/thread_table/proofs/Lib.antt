@@ -39,3 +39,7 @@ pub mod Locating
 pub mod Standing
 pub mod Settling
 pub mod Masks
+pub mod Filings
+pub mod Once
+pub mod Keeping
+pub mod Retiring

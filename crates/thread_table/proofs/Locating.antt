@@ -9,7 +9,7 @@ use mathlib.Core.Logic.{dite}
 use native.Mathlib.Decide.{dec_lt, dec_le, ℕ_discrete}
 use lib.ListN.{get_elem?}
 use Rattle.thread_table.specs.Closings.{SeatOf, IsIn, LineOf, PlaceOf, place_by, word_at}
-use Rattle.thread_table.specs.Shown.{head_place, tail_place, item_place}
+use Rattle.thread_table.specs.Shown.{head_word, tail_word, place_word}
 use Rattle.thread_table.specs.declared.places.Place.TheVariants as places
 
 -- a word that was read
@@ -27,26 +27,26 @@ below_next P n below here m less = dite (dec_lt m n) (λ yes. below m yes) (λ n
 
 -- no place of the queue before this position has the element
 abbrev pub NotBefore : ℕ → List ℕ → ℕ → ℕ → ℕ → Type 0
-NotBefore element words line tail position = (p : ℕ) → p < position → tail ≤ p → word_at words (item_place line p) % 256 ≢ element
+NotBefore element words line tail position = (p : ℕ) → p < position → tail ≤ p → word_at words (place_word line p) % 256 ≢ element
 
 -- the head and the tail as they were read
-pub found_in : (element : ℕ) (words : List ℕ) (line h head tail position word i k j : ℕ) → i ≡ head_place line → k ≡ head_place line → j ≡ item_place line position
+pub found_in : (element : ℕ) (words : List ℕ) (line h head tail position word i k j : ℕ) → i ≡ head_word line → k ≡ head_word line → j ≡ place_word line position
     → get_elem? words i ≡ maybe.some h → get_elem? words (k + 1) ≡ maybe.some tail → get_elem? words j ≡ maybe.some word
     → (mark : ℕ) → h ≡ head + mark * 4294967296 → head < 4294967296
     → tail ≤ position → position < head → word % 256 ≡ element → IsIn element words line
 found_in element words line h head tail position word i k j ii kk jj at_h at_t at_w mark parts small from to is =
-    let a : word_at words (head_place line) ≡ h = read_there words i (head_place line) h ii at_h in
-    let t : word_at words (tail_place line) ≡ tail = read_there words (k + 1) (tail_place line) tail (omega arith) at_t in
-    let w : word_at words (item_place line position) ≡ word = read_there words j (item_place line position) word jj at_w in
+    let a : word_at words (head_word line) ≡ h = read_there words i (head_word line) h ii at_h in
+    let t : word_at words (tail_word line) ≡ tail = read_there words (k + 1) (tail_word line) tail (omega arith) at_t in
+    let w : word_at words (place_word line position) ≡ word = read_there words j (place_word line position) word jj at_w in
     (position, omega arith, omega arith, ap (λ (n : ℕ). n % 256) w ∙ is)
 
-pub not_in : (element : ℕ) (words : List ℕ) (line h head tail position i k : ℕ) → i ≡ head_place line → k ≡ head_place line
+pub not_in : (element : ℕ) (words : List ℕ) (line h head tail position i k : ℕ) → i ≡ head_word line → k ≡ head_word line
     → get_elem? words i ≡ maybe.some h → get_elem? words (k + 1) ≡ maybe.some tail
     → (mark : ℕ) → h ≡ head + mark * 4294967296 → head < 4294967296
     → head ≤ position → NotBefore element words line tail position → IsIn element words line → ⊥
 not_in element words line h head tail position i k ii kk at_h at_t mark parts small past none is =
-    let a : word_at words (head_place line) ≡ h = read_there words i (head_place line) h ii at_h in
-    let t : word_at words (tail_place line) ≡ tail = read_there words (k + 1) (tail_place line) tail (omega arith) at_t in
+    let a : word_at words (head_word line) ≡ h = read_there words i (head_word line) h ii at_h in
+    let t : word_at words (tail_word line) ≡ tail = read_there words (k + 1) (tail_word line) tail (omega arith) at_t in
     let from = is.1 in let to = is.2 in
     none is.0 (omega arith) (omega arith) is.3
 
@@ -67,17 +67,17 @@ any_below P each (suc n) = ⊎_elim
     (each n))
     (any_below P each n)
 
-stands_there : (element : ℕ) (words : List ℕ) (line position : ℕ) → ((word_at words (tail_place line) ≤ position) × (word_at words (item_place line position) % 256 ≡ element))
-    ⊎ ((word_at words (tail_place line) ≤ position) × (word_at words (item_place line position) % 256 ≡ element) → ⊥)
-stands_there element words line position = dite (dec_le (word_at words (tail_place line)) position)
-    (λ from. dite (ℕ_discrete (word_at words (item_place line position) % 256) element) (λ is. inl (from, is)) (λ ne. inr (λ h. ne h.1)))
+stands_there : (element : ℕ) (words : List ℕ) (line position : ℕ) → ((word_at words (tail_word line) ≤ position) × (word_at words (place_word line position) % 256 ≡ element))
+    ⊎ ((word_at words (tail_word line) ≤ position) × (word_at words (place_word line position) % 256 ≡ element) → ⊥)
+stands_there element words line position = dite (dec_le (word_at words (tail_word line)) position)
+    (λ from. dite (ℕ_discrete (word_at words (place_word line position) % 256) element) (λ is. inl (from, is)) (λ ne. inr (λ h. ne h.1)))
     (λ no. inr (λ h. no h.0))
 
 is_in_or_not : (element : ℕ) (words : List ℕ) (line : ℕ) → IsIn element words line ⊎ (IsIn element words line → ⊥)
 is_in_or_not element words line = ⊎_elim
     (λ found. inl (found.0, found.2.0, found.1, found.2.1))
     (λ none. inr (λ is. none is.0 is.2 (is.1, is.3)))
-    (any_below (λ (p : ℕ). (word_at words (tail_place line) ≤ p) × (word_at words (item_place line p) % 256 ≡ element)) (stands_there element words line) (word_at words (head_place line) % 4294967296))
+    (any_below (λ (p : ℕ). (word_at words (tail_word line) ≤ p) × (word_at words (place_word line p) % 256 ≡ element)) (stands_there element words line) (word_at words (head_word line) % 4294967296))
 
 -- the element stands in a queue or in none
 pub some_line : (element : ℕ) (words : List ℕ) → (line : Option ℕ) × LineOf element words line

@@ -1,12 +1,13 @@
 -- The steps that are no event keep the rule.
-use Rattle.std.proofs.Common.{◌≡◌, ◌≢◌, ℕ, Bool, true, false, List, length, get_or, set, Some, None, Option, option_map, sym, refl, ap, ◌∙◌, subst, ⊎_elim, arith, length-set}
-use Rattle.std.proofs.lemmas.List.{set-get_or}
-use mathlib.Core.Option.{some, none}
+use Rattle.std.proofs.Common.{◌≡◌, ◌≢◌, ℕ, zero, suc, Bool, true, false, List, [], ◌∷◌, map, length, get_or, set, Some, None, Option, option_map, sym, refl, ap, ◌∙◌, subst, ⊎_elim, arith, length-set}
+use Rattle.std.proofs.lemmas.List.{set-get_or, map-set}
+use mathlib.Core.Option.{some, none, some-injective}
 use lib.ListN.{get_elem?}
 use Rattle.atomic_table.specs.Table.{State, Me, step, keeps, Allows}
-use Rattle.quaject_core.proofs.Lists.{at_set}
-use Rattle.quaject_core.proofs.Counting.{counted_look}
-use Rattle.quaject_core.specs.Counting.{EndsCounted}
+use Rattle.atomic_table.proofs.Lists.{at_set, at_map}
+use Rattle.thread_table.specs.Makers.{AreMade, made_of}
+use Rattle.table_theory.proofs.Counting.{counted_look}
+use Rattle.table_theory.specs.Sharing.{EndsCounted}
 use Rattle.quaject_core.specs.Elements.{Elements, hold}
 use Rattle.quaject_core.specs.declared.event.Event.{Event}
 use Rattle.thread_table.specs.declared.rule.Shape.{Shape}
@@ -14,11 +15,12 @@ use Rattle.thread_table.specs.declared.rule.View.{View}
 use Rattle.thread_table.specs.declared.rule.Counted.{Counted}
 use Rattle.thread_table.specs.Schedules.{elements_after, Begins, Grows}
 use Rattle.thread_table.specs.Shown.{WordsShow}
-use Rattle.thread_table.specs.Rules.{HandIs, IsCounted, Seen, Rule, IsIdle, ends_of, share_of, serves}
-use Rattle.thread_table.specs.Steps.{looked, Sees, Saw, saw}
+use Rattle.thread_table.specs.Rules.{IsSteady, IsNewest, done_at, HandIs, IsCounted, Seen, Rule, IsIdle, ends_of, share_of, serves}
+use Rattle.thread_table.specs.Steps.{after, Sees, Found, finds}
 use Rattle.thread_table.proofs.Effects.{Ready}
 use Rattle.thread_table.proofs.Owing.{claims_kept}
 use Rattle.thread_table.proofs.Schedules.{lawful_after, begins_refl, grows_refl}
+use Rattle.thread_table.proofs.Once.{done_grows}
 
 abbrev pub St : Type 0
 St = State Unit View
@@ -72,11 +74,21 @@ pub sole_set : (views : List View) (id : ℕ) (v w : View) → get_elem? views i
 sole_set views id v w at same sole i j p u u' has has' up up' = let a = was views id v w at same i u has in let b = was views id v w at same j u' has' in
     sole i j p a.0 b.0 a.1 b.1 (ap (λ (z : List Bool). get_or z p false) a.2 ∙ up) (ap (λ (z : List Bool). get_or z p false) b.2 ∙ up')
 
+pub set_again : {A : Type 0} (xs : List A) (i : ℕ) (x : A) → get_elem? xs i ≡ some x → set xs i x ≡ xs
+set_again [] i x at = refl
+set_again (y ∷ ys) zero x at = ap (λ z. z ∷ ys) (sym (some-injective y x at))
+set_again (y ∷ ys) (suc i) x at = ap (λ zs. y ∷ zs) (set_again ys i x at)
+
+-- the hand made nothing more
+made_same : (past : List Event) (views : List View) (id : ℕ) (v w : View) → get_elem? views id ≡ some v → w.made ≡ v.made → AreMade past (map made_of views) → AreMade past (map made_of (set views id w))
+made_same past views id v w at same m = subst (AreMade past)
+    (sym (map-set made_of views id w ∙ (ap (set (map made_of views) id) same ∙ set_again (map made_of views) id v.made (at_map made_of views id v at)))) m
+
 -- the rule, where no event came, and a view has seen all
 pub kept : (key : Shape) (s : St) (k : Rule key s) (id : ℕ) (ws : List ℕ) (v w : View) → get_elem? s.views id ≡ some v → WordsShow key.first (elements_after k.events) ws
-    → w.first ≡ v.first → w.schedule ≡ k.events → w.joined ≡ k.events → w.serves ≡ v.serves → w.claimed ≡ v.claimed → HandIs id w (elements_after k.events)
+    → w.first ≡ v.first → w.schedule ≡ k.events → w.joined ≡ k.events → w.serves ≡ v.serves → w.claimed ≡ v.claimed → (w.made ≡ v.made) × (w.doubled ≡ v.doubled) → HandIs id w (elements_after k.events)
     → EndsCounted ends_of share_of IsIdle (get_or ws 0 0) (set s.views id w) → Rule key record { words = ws; homes = s.homes; views = set s.views id w }
-kept key s k id ws v w at shows first schedule joined serving claimed hand counted = record {
+kept key s k id ws v w at shows first schedule joined serving claimed own hand counted = record {
   events = k.events;
   allowed = k.allowed;
   shows = shows;
@@ -86,14 +98,18 @@ kept key s k id ws v w at shows first schedule joined serving claimed hand count
   sole = sole_set s.views id v w at serving k.sole;
   owned = claims_kept s.views id v w (elements_after k.events) at claimed k.owned;
   strange = λ call element past. k.strange call element (let l = length-set s.views id w in omega arith);
+  made = made_same k.events s.views id v w at own.0 k.made;
+  steady = each_set (λ j u. IsSteady u k.events) s.views id w (λ j u ne has. k.steady j u has) (λ up x low may. ap (λ (z : List Event). done_at z x) (sym schedule));
+  newest = each_set (λ j u. IsNewest u k.events) s.views id w (λ j u ne has. k.newest j u has) (λ whole up. schedule);
+  undoubled = each_set (λ j u. u.doubled ≡ false) s.views id w (λ j u ne has. k.undoubled j u has) (own.1 ∙ k.undoubled id v at);
   counted = counted;
 }
 
--- the rule, where the words stay, and a view sees the schedule as it is
-pub kept_look : (key : Shape) (s : St) (k : Rule key s) (i id : ℕ) (v : View) → get_elem? s.views id ≡ some v
-    → Rule key record { words = set s.words i (get_or s.words i 0); homes = s.homes; views = set s.views id (looked v k.events) }
-kept_look key s k i id v at = let w : View = looked v k.events in let same : set s.words i (get_or s.words i 0) ≡ s.words = set-get_or s.words i 0 in
-    kept key s k id (set s.words i (get_or s.words i 0)) v w at (subst (WordsShow key.first (elements_after k.events)) (sym same) k.shows) refl refl refl refl refl
+-- the rule, where the words stay, and a view has one entry more and sees the schedule as it is
+pub kept_look : (key : Shape) (s : St) (k : Rule key s) (i id found : ℕ) (v : View) → get_elem? s.views id ≡ some v
+    → Rule key record { words = set s.words i (get_or s.words i 0); homes = s.homes; views = set s.views id (after v i found k.events) }
+kept_look key s k i id found v at = let w : View = after v i found k.events in let same : set s.words i (get_or s.words i 0) ≡ s.words = set-get_or s.words i 0 in
+    kept key s k id (set s.words i (get_or s.words i 0)) v w at (subst (WordsShow key.first (elements_after k.events)) (sym same) k.shows) refl refl refl refl refl (refl, refl)
     (hand_quiet id v w (elements_after k.events) refl refl refl refl refl (k.hands id v at))
     (subst (λ (n : ℕ). EndsCounted ends_of share_of IsIdle n (set s.views id w)) (ap (λ (z : List ℕ). get_or z 0 0) (sym same)) (counted_look ends_of share_of IsIdle (get_or s.words 0 0) s.views id v w k.counted at refl refl (λ _ h. h)))
 
@@ -103,6 +119,10 @@ sees_of key s k id v at = record {
   allowed = k.allowed;
   lawful = lawful_after k.events k.allowed;
   seen = k.seen id v at;
+  done = done_grows v.schedule k.events (k.seen id v at).schedule k.allowed;
+  steady = k.steady id v at;
+  newest = k.newest id v at;
+  undoubled = k.undoubled id v at;
   words = s.words;
   shows = subst (λ (z : ℕ). WordsShow z (elements_after k.events) s.words) (sym (k.first id v at)) k.shows;
 }
@@ -114,8 +134,8 @@ sees_words key s k id v at = refl
 pub ready_of : (key : Shape) (s : St) (k : Rule key s) (id : ℕ) (v : View) → get_elem? s.views id ≡ some v → Ready id v key.first (elements_after k.events) s.words
 ready_of key s k id v at = record { lawful = lawful_after k.events k.allowed; hand = k.hands id v at; shows = k.shows }
 
-pub saw_now : (key : Shape) (s : St) (k : Rule key s) (i id : ℕ) (v : View) → get_elem? s.views id ≡ some v → Saw v i (get_or s.words i 0) (looked v k.events)
-saw_now key s k i id v at = record { same = refl; sees = sees_of key s k id v at; is = ap (λ (z : List ℕ). get_or z i 0) (sym (sees_words key s k id v at)) }
+pub found_now : (key : Shape) (s : St) (k : Rule key s) (i id : ℕ) (v : View) → get_elem? s.views id ≡ some v → Found v i (get_or s.words i 0) (after v i (get_or s.words i 0) k.events)
+found_now key s k i id v at = record { same = refl; sees = sees_of key s k id v at; is = ap (λ (z : List ℕ). get_or z i 0) (sym (sees_words key s k id v at)) }
 
-pub looks : (key : Shape) (n id : ℕ) (me : Me Unit View) (i : ℕ) → Allows (Rule key) n id me i (λ x. x) (saw (step n i 0 0 none) me)
-looks key n id me i s k _ at _ = (looked me.0 k.events, keeps, tt, kept_look key s k i id me.0 at, (refl, saw_now key s k i id me.0 at))
+pub looks : (key : Shape) (n id : ℕ) (me : Me Unit View) (i : ℕ) → Allows (Rule key) n id me i (λ x. x) (finds (step n i 0 0 none) me)
+looks key n id me i s k _ at _ = let found : ℕ = get_or s.words i 0 in (after me.0 i found k.events, keeps, tt, kept_look key s k i id found me.0 at, (refl, found_now key s k i id me.0 at))

@@ -1,26 +1,34 @@
 -- A step that is an event keeps the rule.
-use Rattle.std.proofs.Common.{◌≡◌, ◌≢◌, ℕ, ◌<◌, ◌≤◌, Bool, true, false, ◌||◌, List, [], ◌∷◌, ◌++◌, length, get_or, set, Result, Ok, sym, refl, ap, ◌∙◌, subst, arith, length-set, get_or-set_other}
+use Rattle.std.proofs.Common.{◌≡◌, ◌≢◌, ℕ, ◌<◌, ◌≤◌, Bool, true, false, ◌||◌, List, [], ◌∷◌, ◌++◌, map, length, get_or, set, Result, Ok, sym, refl, ap, ◌∙◌, subst, arith, length-set, get_or-set_other}
 use Rattle.std.specs.List.{list_any}
 use mathlib.Core.Option.{some}
 use lib.ListN.{get_elem?}
-use Rattle.quaject_core.specs.Counting.{EndsCounted}
+use Rattle.table_theory.specs.Sharing.{EndsCounted}
 use Rattle.quaject_core.specs.Elements.{Elements, holds, is_put}
 use Rattle.quaject_core.specs.Lawful.{IsLawfulElements}
 use Rattle.quaject_core.specs.Results.{◌>>=◌}
 use Rattle.quaject_core.specs.States.{State, effect, in_elements, counted, step}
 use Rattle.quaject_core.specs.declared.event.Event.{Event}
 use Rattle.quaject_core.specs.declared.refusal.Refusal.{Refusal}
-use Rattle.quaject_core.proofs.Counting.{counted_look}
-use Rattle.quaject_core.proofs.Owned.{at_below}
+use Rattle.table_theory.specs.Sharing.{IsWhole}
+use Rattle.table_theory.proofs.Counting.{counted_look}
+use Rattle.table_theory.proofs.Totals.{two_of}
+use Rattle.table_theory.proofs.Owned.{at_below}
 use Rattle.thread_table.specs.declared.rule.Shape.{Shape}
 use Rattle.thread_table.specs.declared.rule.View.{View}
-use Rattle.thread_table.specs.Schedules.{state_after, elements_after, Grows}
+use Rattle.thread_table.specs.Schedules.{state_after, elements_after, Grows, thread_at}
 use Rattle.thread_table.specs.Shown.{WordsShow}
-use Rattle.thread_table.specs.Rules.{HandIs, Seen, Rule, IsIdle, ends_of, share_of, may_step, serves}
-use Rattle.thread_table.specs.Steps.{seen_by, Did}
+use Rattle.thread_table.specs.Rules.{IsSteady, IsNewest, HandIs, Seen, Rule, IsIdle, ends_of, share_of, may_step, serves}
+use Rattle.thread_table.specs.Steps.{made_by, Did}
+use Rattle.thread_table.specs.declared.rule.Made.{Made}
+use Rattle.thread_table.specs.Makers.{AreMade, made_of, made_in, is_join}
+use Rattle.thread_table.proofs.Filings.{made_push}
+use Rattle.thread_table.proofs.Counting.{may_of}
+use Rattle.std.proofs.lemmas.List.{map-set}
+use Rattle.atomic_table.proofs.Lists.{at_map}
 use Rattle.thread_table.proofs.Effects.{Leaves, Effect}
 use Rattle.thread_table.proofs.Owing.{Owes, claims_set}
-use Rattle.thread_table.proofs.Looks.{St, hand_as, seen_all, each_set, sole_set, sees_of, sees_words}
+use Rattle.thread_table.proofs.Looks.{St, hand_quiet, seen_all, each_set, sole_set, sees_of, sees_words}
 use Rattle.thread_table.proofs.Schedules.{after_more, elements_after_more, elements_of, lawful_after, begins_more, grows_trans}
 
 -- an element whose step a call may count is no other call's
@@ -66,13 +74,18 @@ pub steps : (events : List Event) (event : Event) (change : Elements → Result 
 steps events event change f is goes = let s : State = state_after events in let goes' : change s.elements ≡ Ok f = ap change (sym (elements_of events)) ∙ goes in
     ap (λ (z : Result State Refusal). z >>= λ next. Ok (counted next)) (is s ∙ ap (λ (z : Result Elements Refusal). z >>= λ elements. Ok (record s { elements = elements })) goes')
 
-pub made : OthersCount → (key : Shape) (s : St) (k : Rule key s) (id : ℕ) (v : View) (event : Event) (change : Elements → Result Elements Refusal) (knows : List Event → View) (i y : ℕ) → get_elem? s.views id ≡ some v → 1 ≤ v.ends → 0 < i
+-- beside a hand that stands none has the whole
+pub no_other : (n : ℕ) (views : List View) (id j : ℕ) (v u : View) → EndsCounted ends_of share_of IsIdle n views → get_elem? views id ≡ some v → 1 ≤ v.ends → get_elem? views j ≡ some u → j ≢ id → IsWhole u.share → ⊥
+no_other n views id j v u c at live has ne whole = let t = two_of share_of views j id u v has at ne in let s = c.shared in let w = c.within id v at in omega arith
+
+pub made : OthersCount → (key : Shape) (s : St) (k : Rule key s) (id : ℕ) (v : View) (event : Event) (change : Elements → Result Elements Refusal) (knows : List Event → View) (i y found : ℕ) → get_elem? s.views id ≡ some v → 1 ≤ v.ends → 0 < i
     → ((t : State) → effect event t ≡ in_elements change t) → (knows k.events).first ≡ v.first → (knows k.events).serves ≡ v.serves → (knows k.events).ends ≡ v.ends → (knows k.events).share ≡ v.share
+    → (is_join event ≡ false) × ((knows k.events).made ≡ v.made) × ((knows k.events).doubled ≡ v.doubled)
     → Effect id v (knows k.events) key.first change (elements_after k.events) (set s.words i y)
-    → Rule key record { words = set s.words i y; homes = s.homes; views = set s.views id (seen_by (knows k.events) (k.events ++ event ∷ [])) }
-    × ((did : Did id v event knows (seen_by (knows k.events) (k.events ++ event ∷ []))) × (did.before ≡ k.events) × (did.sees.words ≡ s.words))
-made others key s k id v event change knows i y at live past is first serving ends share effect =
-    let old : List Event = k.events in let new : List Event = old ++ event ∷ [] in let e : Elements = elements_after old in let f : Elements = effect.f in let w : View = seen_by (knows old) new in
+    → Rule key record { words = set s.words i y; homes = s.homes; views = set s.views id (made_by (knows k.events) i found k.events event) }
+    × ((did : Did id v i found event knows (made_by (knows k.events) i found k.events event)) × (did.before ≡ k.events) × (did.sees.words ≡ s.words))
+made others key s k id v event change knows i y found at live past is first serving ends share own effect =
+    let old : List Event = k.events in let new : List Event = old ++ event ∷ [] in let e : Elements = elements_after old in let f : Elements = effect.f in let w : View = made_by (knows old) i found old event in
     let ok = steps old event change f is effect.goes in let more = after_more old event (counted (record (state_after old) { elements = f })) k.allowed ok in
     let same : elements_after new ≡ f = elements_after_more old event (counted (record (state_after old) { elements = f })) f refl more.0 in
     let leaves : Leaves id v e (elements_after new) = subst (Leaves id v e) (sym same) effect.leaves in
@@ -85,10 +98,18 @@ made others key s k id v event change knows i y at live past is first serving en
         seen = each_set (λ j u. Seen u new) s.views id w (λ j u ne has. seen_more u old event (k.seen j u has) leaves.grows) (seen_all w new refl refl);
         hands = each_set (λ j u. HandIs j u (elements_after new)) s.views id w
             (λ j u ne has. hand_left others id j v u e (elements_after new) leaves lawful k.shows.threads ne (λ p up. true_or_not (serves v p) (λ mine. ne (k.sole j id p u v has at up mine))) (k.hands j u has))
-            (subst (HandIs id w) (sym same) (hand_as id (knows old) w f refl refl refl refl refl effect.hand));
+            (subst (HandIs id w) (sym same) (hand_quiet id (knows old) w f refl refl refl refl refl effect.hand));
         sole = sole_set s.views id v w at serving k.sole;
         owned = claims_set s.views id v w e (elements_after new) at (subst (Owes v w e) (sym same) effect.owes) k.owned;
         strange = λ call element far. let l = length-set s.views id w in let b = at_below s.views id v at in leaves.held call element (λ z. omega arith) ∙ k.strange call element (omega arith);
+        steady = each_set (λ j u. IsSteady u new) s.views id w
+            (λ j u ne has up x low may. ap (λ (z : Elements). (thread_at z x).done) same
+            ∙ (effect.leaves.steps x (others id j x e lawful k.shows.threads low ne (may_of j u e x (k.hands j u has) may)) ∙ k.steady j u has up x low may))
+            (λ up x low may. refl);
+        made = subst (AreMade new) (sym (map-set made_of s.views id w ∙ ap (λ (z : List Made). set (map made_of s.views) id (z ++ made_in event (state_after old) ∷ [])) own.1))
+            (made_push old (map made_of s.views) id v.made event own.0 k.made (at_map made_of s.views id v at));
+        newest = each_set (λ j u. IsNewest u new) s.views id w (λ j u ne has whole up. absurd (no_other (get_or s.words 0 0) s.views id j v u k.counted at live has ne whole)) (λ whole up. refl);
+        undoubled = each_set (λ j u. u.doubled ≡ false) s.views id w (λ j u ne has. k.undoubled j u has) (own.2 ∙ k.undoubled id v at);
         counted = subst (λ (c : ℕ). EndsCounted ends_of share_of IsIdle c (set s.views id w)) (sym (get_or-set_other s.words i 0 y 0 (λ z. omega arith))) (counted_look ends_of share_of IsIdle (get_or s.words 0 0) s.views id v w k.counted at ends share (λ none. absurd (omega arith)));
       },
       (

@@ -7,24 +7,25 @@ use Rattle.std.specs.List.{range_with_len}
 use mathlib.Core.Option.{some, some-injective, some-ne-none}
 use lib.ListN.{get_elem?}
 use Rattle.atomic_table.specs.Table.{opening}
-use Rattle.quaject_core.specs.Counting.{EndsCounted}
+use Rattle.table_theory.specs.Sharing.{EndsCounted}
 use Rattle.quaject_core.specs.Elements.{Elements, Thread, new_thread, first_elements, hold, holds}
 use Rattle.quaject_core.specs.Queues.{Queue, empty_queue, full_queue}
 use Rattle.quaject_core.specs.Runs.{Run}
 use Rattle.quaject_core.specs.States.{State}
 use Rattle.quaject_core.specs.declared.hold.Hold.{Hold}
-use Rattle.quaject_core.proofs.Counting.{counted_first}
+use Rattle.table_theory.proofs.Counting.{counted_first}
 use Rattle.thread_table.specs.declared.rule.Shape.{Shape}
 use Rattle.thread_table.specs.declared.rule.View.{View}
 use Rattle.thread_table.specs.Schedules.{elements_after, line_at, thread_at, element_at, element_of, no_run}
-use Rattle.thread_table.specs.Shown.{WordsShow, LineShows, StateShows, head_place, tail_place, item_place, seat_word, mark_of}
-use Rattle.thread_table.specs.Rules.{Rule, HandIs, Seen, IsOpen, newcomer, ends_of, share_of, IsIdle}
+use Rattle.thread_table.specs.Shown.{WordsShow, LineShows, StateShows, head_word, tail_word, place_word, seat_shown, mark_of}
+use Rattle.thread_table.specs.Rules.{IsSteady, IsNewest, Rule, HandIs, Seen, IsOpen, newcomer, ends_of, share_of, IsIdle}
 use Rattle.thread_table.proofs.Owing.{AllOwned}
+use Rattle.thread_table.proofs.Filings.{made_first}
 use Rattle.thread_table.proofs.Copies.{length-copies, get_or-copies, slice_get-copies_by}
 use Rattle.thread_table.proofs.Schedules.{after_none, elements_of, begins_refl, grows_refl}
 
 -- an element queue that is empty, and whose words are as they were made
-empty_shows : (first line : ℕ) (e : Elements) (words : List ℕ) → line_at e line ≡ empty_queue 64 → mark_of e line ≡ 0 → first + 64 < 4294967296 → get_or words (head_place line) 0 ≡ first → get_or words (tail_place line) 0 ≡ first
+empty_shows : (first line : ℕ) (e : Elements) (words : List ℕ) → line_at e line ≡ empty_queue 64 → mark_of e line ≡ 0 → first + 64 < 4294967296 → get_or words (head_word line) 0 ≡ first → get_or words (tail_word line) 0 ≡ first
     → ((i : ℕ) → i < 64 → get_or words (66 * line + 139 + i) 0 ≡ 0) → LineShows first e line words
 empty_shows first line e words is none fits head tail zeros =
     let long : length (line_at e line).history ≡ 0 = ap (λ (q : Queue). length q.history) is in let at : (line_at e line).taken ≡ 0 = ap (λ (q : Queue). q.taken) is in record {
@@ -35,7 +36,7 @@ empty_shows first line e words is none fits head tail zeros =
       marked = omega arith;
       head = omega arith;
       tail = omega arith;
-      places = λ run from to. let z : get_or words (item_place line (first + run)) 0 ≡ 0 = zeros ((first + run) % 64) (omega arith) in record {
+      places = λ run from to. let z : get_or words (place_word line (first + run)) 0 ≡ 0 = zeros ((first + run) % 64) (omega arith) in record {
         up = λ up. let low : (line_at e line).raised run 0 ≡ false = ap (λ (q : Queue). q.raised run 0) is in absurd (cc);
         low = λ _. omega arith;
       };
@@ -57,8 +58,8 @@ full_raised : (count run : ℕ) → run < count → (full_queue count).raised ru
 full_raised count run below = let t : ltb run count ≡ true = grind (arith, nat_tests) in rw t refl
 
 -- the free elements
-full_shows : (first : ℕ) (e : Elements) (words : List ℕ) → line_at e 1 ≡ full_queue 64 → first + 64 < 4294967296 → get_or words (head_place 1) 0 ≡ first + 64 → get_or words (tail_place 1) 0 ≡ first
-    → ((x : ℕ) → x < 64 → get_or words (item_place 1 (first + x)) 0 ≡ x + 256 * (first + x + 1)) → LineShows first e 1 words
+full_shows : (first : ℕ) (e : Elements) (words : List ℕ) → line_at e 1 ≡ full_queue 64 → first + 64 < 4294967296 → get_or words (head_word 1) 0 ≡ first + 64 → get_or words (tail_word 1) 0 ≡ first
+    → ((x : ℕ) → x < 64 → get_or words (place_word 1 (first + x)) 0 ≡ x + 256 * (first + x + 1)) → LineShows first e 1 words
 full_shows first e words is fits head tail items =
     let long : length (line_at e 1).history ≡ 64 = ap (λ (q : Queue). length q.history) is ∙ length-map-range_with_len single 0 64 in let at : (line_at e 1).taken ≡ 0 = ap (λ (q : Queue). q.taken) is in record {
       capacity = ap (λ (q : Queue). q.capacity) is;
@@ -89,8 +90,8 @@ no_hold = None
 abbrev e64 : Elements
 e64 = first_elements 64
 
-lines_show : (first : ℕ) (words : List ℕ) → first + 64 < 4294967296 → ((line : ℕ) → line < 18 → get_or words (head_place line) 0 ≡ first + cond (eqb line 1) 64 0) → ((line : ℕ) → line < 18 → get_or words (tail_place line) 0 ≡ first)
-    → ((x : ℕ) → x < 64 → get_or words (item_place 1 (first + x)) 0 ≡ x + 256 * (first + x + 1)) → ((line i : ℕ) → line < 18 → line ≢ 1 → i < 64 → get_or words (66 * line + 139 + i) 0 ≡ 0)
+lines_show : (first : ℕ) (words : List ℕ) → first + 64 < 4294967296 → ((line : ℕ) → line < 18 → get_or words (head_word line) 0 ≡ first + cond (eqb line 1) 64 0) → ((line : ℕ) → line < 18 → get_or words (tail_word line) 0 ≡ first)
+    → ((x : ℕ) → x < 64 → get_or words (place_word 1 (first + x)) 0 ≡ x + 256 * (first + x + 1)) → ((line i : ℕ) → line < 18 → line ≢ 1 → i < 64 → get_or words (66 * line + 139 + i) 0 ≡ 0)
     → (line : ℕ) → line < 18 → LineShows first e64 line words
 lines_show first words fits head tail items zeros zero below = empty_shows first 0 e64 words refl refl fits (let h = head 0 below in omega arith) (tail 0 below) (λ i within. zeros 0 i below (λ e. omega arith) within)
 lines_show first words fits head tail items zeros (suc zero) below = full_shows first e64 words refl fits (head 1 below) (tail 1 below) items
@@ -100,8 +101,8 @@ lines_show first words fits head tail items zeros (suc (suc wait)) below = let l
     (tail line below) (λ i within. zeros line i below (λ e. omega arith) within)
 
 pub first_shows : (first : ℕ) (words : List ℕ) → first + 64 < 4294967296 → length words ≡ 1325 → ((i : ℕ) → 1 ≤ i → i < 73 → get_or words i 0 ≡ 0) → ((i : ℕ) → 73 ≤ i → i < 137 → get_or words i 0 ≡ 0)
-    → ((line : ℕ) → line < 18 → get_or words (head_place line) 0 ≡ first + cond (eqb line 1) 64 0) → ((line : ℕ) → line < 18 → get_or words (tail_place line) 0 ≡ first)
-    → ((x : ℕ) → x < 64 → get_or words (item_place 1 (first + x)) 0 ≡ x + 256 * (first + x + 1)) → ((line i : ℕ) → line < 18 → line ≢ 1 → i < 64 → get_or words (66 * line + 139 + i) 0 ≡ 0)
+    → ((line : ℕ) → line < 18 → get_or words (head_word line) 0 ≡ first + cond (eqb line 1) 64 0) → ((line : ℕ) → line < 18 → get_or words (tail_word line) 0 ≡ first)
+    → ((x : ℕ) → x < 64 → get_or words (place_word 1 (first + x)) 0 ≡ x + 256 * (first + x + 1)) → ((line i : ℕ) → line < 18 → line ≢ 1 → i < 64 → get_or words (66 * line + 139 + i) 0 ≡ 0)
     → WordsShow first e64 words
 first_shows first words fits long none unstepped head tail items zeros = record {
   wide = long;
@@ -109,7 +110,7 @@ first_shows first words fits long none unstepped head tail items zeros = record 
   queues = refl;
   waits = length-copies {X = ℕ} 16 0;
   processors = length-copies 8 no_hold;
-  seats = λ p below. none (p + 1) (omega arith) (omega arith) ∙ sym (ap seat_word (get_or-copies 8 no_hold p));
+  seats = λ p below. none (p + 1) (omega arith) (omega arith) ∙ sym (ap seat_shown (get_or-copies 8 no_hold p));
   states = λ x below. state_shows (thread_at e64 x) (get_or words (x + 9) 0) (get_or-copies 64 new_thread x) (none (x + 9) (omega arith) (omega arith));
   steps = λ x below. unstepped (x + 73) (omega arith) (omega arith) ∙ sym (ap (λ (t : Thread). t.done) (get_or-copies 64 new_thread x));
   few = λ x below. let z : (thread_at e64 x).done ≡ 0 = ap (λ (t : Thread). t.done) (get_or-copies 64 new_thread x) in omega arith;
@@ -155,8 +156,8 @@ pub first_are : elements_after [] ≡ e64
 first_are = elements_of [] ∙ ap (λ (s : State). s.elements) after_none.0
 
 pub opens : (key : Shape) (words : List ℕ) → key.first + 64 < 4294967296 → length words ≡ 1325 → get_or words 0 0 ≡ 1 → ((i : ℕ) → 1 ≤ i → i < 73 → get_or words i 0 ≡ 0) → ((i : ℕ) → 73 ≤ i → i < 137 → get_or words i 0 ≡ 0)
-    → ((line : ℕ) → line < 18 → get_or words (head_place line) 0 ≡ key.first + cond (eqb line 1) 64 0) → ((line : ℕ) → line < 18 → get_or words (tail_place line) 0 ≡ key.first)
-    → ((x : ℕ) → x < 64 → get_or words (item_place 1 (key.first + x)) 0 ≡ x + 256 * (key.first + x + 1)) → ((line i : ℕ) → line < 18 → line ≢ 1 → i < 64 → get_or words (66 * line + 139 + i) 0 ≡ 0)
+    → ((line : ℕ) → line < 18 → get_or words (head_word line) 0 ≡ key.first + cond (eqb line 1) 64 0) → ((line : ℕ) → line < 18 → get_or words (tail_word line) 0 ≡ key.first)
+    → ((x : ℕ) → x < 64 → get_or words (place_word 1 (key.first + x)) 0 ≡ x + 256 * (key.first + x + 1)) → ((line i : ℕ) → line < 18 → line ≢ 1 → i < 64 → get_or words (66 * line + 139 + i) 0 ≡ 0)
     → Rule key (opening words [] (newcomer key))
 opens key words fits long ends none unstepped head tail items zeros = let w : View = newcomer key in record {
   events = [];
@@ -168,5 +169,9 @@ opens key words fits long ends none unstepped head tail items zeros = let w : Vi
   sole = λ i j p u v has has' _ _. only (λ (i : ℕ) (u : View). i ≡ 0) w refl i u has ∙ sym (only (λ (j : ℕ) (v : View). j ≡ 0) w refl j v has');
   owned = subst (AllOwned (w ∷ [])) (sym first_are) (first_owned (w ∷ []));
   strange = λ call element past. subst (λ (e : Elements). holds call element e ≡ false) (sym first_are) refl;
+  steady = only (λ (j : ℕ) (u : View). IsSteady u []) w (λ up x low may. refl);
+  made = made_first;
+  newest = only (λ (j : ℕ) (u : View). IsNewest u []) w (λ whole up. refl);
+  undoubled = only (λ (j : ℕ) (u : View). u.doubled ≡ false) w refl;
   counted = subst (λ (c : ℕ). EndsCounted ends_of share_of IsIdle c (w ∷ [])) (sym ends) (counted_first ends_of share_of IsIdle w refl refl);
 }

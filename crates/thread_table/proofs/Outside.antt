@@ -3,7 +3,7 @@ use Rattle.std.proofs.Common.{◌≡◌, ℕ, zero, suc, ◌+◌, ◌*◌, ◌<�
 use Rattle.quaject_core.specs.Elements.{Elements, Thread}
 use Rattle.quaject_core.specs.declared.hold.Hold.{Hold}
 use Rattle.thread_table.specs.Schedules.{Grows, line_at}
-use Rattle.thread_table.specs.Shown.{LineShows, PlaceShows, head_place, tail_place, item_place, mark_of}
+use Rattle.thread_table.specs.Shown.{LineShows, PlaceShows, head_word, tail_word, place_word, mark_of}
 
 -- other threads, processors and holds
 abbrev pub with_parts : Elements → List Thread → List (Option Hold) → List Hold → Elements
@@ -32,7 +32,7 @@ line_outside e threads processors held first line words place word below shows =
       single = shows.single;
       small = shows.small;
       marked = omega (arith, marks, shows.marked);
-      head = get_or-set_other words place (head_place line) word 0 (λ h. omega arith) ∙ (shows.head ∙ ap (λ n. first + length (line_at e line).history + n * 4294967296) (sym marks));
-      tail = get_or-set_other words place (tail_place line) word 0 (λ h. omega arith) ∙ shows.tail;
-      places = λ run from to. subst (PlaceShows first (line_at e line) run) (sym (get_or-set_other words place (item_place line (first + run)) word 0 (λ h. omega arith))) (shows.places run from to);
+      head = get_or-set_other words place (head_word line) word 0 (λ h. omega arith) ∙ (shows.head ∙ ap (λ n. first + length (line_at e line).history + n * 4294967296) (sym marks));
+      tail = get_or-set_other words place (tail_word line) word 0 (λ h. omega arith) ∙ shows.tail;
+      places = λ run from to. subst (PlaceShows first (line_at e line) run) (sym (get_or-set_other words place (place_word line (first + run)) word 0 (λ h. omega arith))) (shows.places run from to);
     }

@@ -7,8 +7,8 @@ use lib.ListN.{get_elem?}
 use Rattle.quaject_core.specs.Elements.{Elements}
 use Rattle.quaject_core.specs.Queues.{Queue}
 use Rattle.quaject_core.specs.Runs.{Run}
-use Rattle.quaject_core.proofs.Lists.{set_here, set_else}
-use Rattle.quaject_core.proofs.Owned.{at_below, one_at}
+use Rattle.atomic_table.proofs.Lists.{set_here, set_else}
+use Rattle.table_theory.proofs.Owned.{at_below, one_at}
 use Rattle.thread_table.specs.declared.rule.View.{View}
 use Rattle.thread_table.specs.declared.rule.Claimed.{Claimed}
 use Rattle.thread_table.specs.Schedules.{line_at, element_at, element_of, no_run}

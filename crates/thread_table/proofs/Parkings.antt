@@ -10,7 +10,7 @@ use Rattle.quaject_core.specs.declared.hold.Hold.{Hold}
 use Rattle.quaject_core.proofs.ElementSteps.{parked_ok, started_ok}
 use Rattle.thread_table.specs.declared.rule.View.{View}
 use Rattle.thread_table.specs.Schedules.{thread_at}
-use Rattle.thread_table.specs.Shown.{WordsShow, StateShows, seat_place, state_place, done_place}
+use Rattle.thread_table.specs.Shown.{WordsShow, StateShows, seat_word, state_word, done_word}
 use Rattle.thread_table.specs.Rules.{HandIs}
 use Rattle.thread_table.proofs.Effects.{Leaves, ParkEffect, StartEffect}
 use Rattle.thread_table.specs.Views.{with_held, with_start}
@@ -52,24 +52,24 @@ same_steps : (e : Elements) (element : ℕ) (new : Thread) → element < length 
 same_steps e element new below same x = read_set (λ k (t : Thread). t.done ≡ (thread_at e k).done) e.threads element new new_thread below same x (λ apart. refl)
 
 threaded_words : (first : ℕ) (e : Elements) (words : List ℕ) (element : ℕ) (new : Thread) (held : List Hold) (word : ℕ) → element < 64 → WordsShow first e words
-    → new.done ≡ (thread_at e element).done → StateShows new word → WordsShow first (threaded e element new held) (set words (state_place element) word)
+    → new.done ≡ (thread_at e element).done → StateShows new word → WordsShow first (threaded e element new held) (set words (state_word element) word)
 threaded_words first e words element new held word below shows same is =
     let within : element < length e.threads = omega (arith, shows.threads) in
-    let other : (place : ℕ) → place ≢ state_place element → get_or (set words (state_place element) word) place 0 ≡ get_or words place 0 =
-    λ place apart. get_or-set_other words (state_place element) place word 0 apart in
+    let other : (place : ℕ) → place ≢ state_word element → get_or (set words (state_word element) word) place 0 ≡ get_or words place 0 =
+    λ place apart. get_or-set_other words (state_word element) place word 0 apart in
     record {
-      wide = length-set words (state_place element) word ∙ shows.wide;
+      wide = length-set words (state_word element) word ∙ shows.wide;
       threads = length-set e.threads element new ∙ shows.threads;
       queues = shows.queues;
       waits = shows.waits;
       processors = shows.processors;
-      seats = λ p low. other (seat_place p) (λ h. omega arith) ∙ shows.seats p low;
-      states = λ x low. read_set (λ k (t : Thread). StateShows t (get_or (set words (state_place element) word) (state_place k) 0)) e.threads element new new_thread within
-          (subst (StateShows new) (sym (get_or-set_same words (state_place element) word 0 (omega (arith, shows.wide)))) is) x
-          (λ apart. subst (StateShows (thread_at e x)) (sym (other (state_place x) (λ h. apart (omega arith)))) (shows.states x low));
-      steps = λ x low. other (done_place x) (λ h. omega arith) ∙ (shows.steps x low ∙ sym (same_steps e element new within same x));
+      seats = λ p low. other (seat_word p) (λ h. omega arith) ∙ shows.seats p low;
+      states = λ x low. read_set (λ k (t : Thread). StateShows t (get_or (set words (state_word element) word) (state_word k) 0)) e.threads element new new_thread within
+          (subst (StateShows new) (sym (get_or-set_same words (state_word element) word 0 (omega (arith, shows.wide)))) is) x
+          (λ apart. subst (StateShows (thread_at e x)) (sym (other (state_word x) (λ h. apart (omega arith)))) (shows.states x low));
+      steps = λ x low. other (done_word x) (λ h. omega arith) ∙ (shows.steps x low ∙ sym (same_steps e element new within same x));
       few = λ x low. subst (λ n. n < 4294967296) (sym (same_steps e element new within same x)) (shows.few x low);
-      lines = λ line low. line_outside e (set e.threads element new) e.processors held first line words (state_place element) word (omega arith) (shows.lines line low);
+      lines = λ line low. line_outside e (set e.threads element new) e.processors held first line words (state_word element) word (omega arith) (shows.lines line low);
     }
 
 threaded_leaves : (id : ℕ) (v : View) (e : Elements) (element : ℕ) (new : Thread) (held : List Hold) → element < length e.threads → new.done ≡ (thread_at e element).done
@@ -100,7 +100,7 @@ threaded_hand id v e element new held has_now hand none long is = record {
 pub park_effect : ParkEffect
 park_effect id v first e words element r none low has_it stopped =
     let old = thread_at e element in
-    let word = get_or words (state_place element) 0 in
+    let word = get_or words (state_word element) 0 in
     let index = position_or_len (is_hold id element) e.held in
     let held = remove e.held index in
     let within : element < length e.threads = omega (arith, r.shows.threads) in
@@ -143,7 +143,7 @@ has_after_long element false held = refl
 pub start_effect : StartEffect
 start_effect id v first e words element r none low stopped =
     let old = thread_at e element in
-    let word = get_or words (state_place element) 0 in
+    let word = get_or words (state_word element) 0 in
     let held = held_after id element old.parked e.held in
     let within : element < length e.threads = omega (arith, r.shows.threads) in
     record {

@@ -12,7 +12,7 @@ use Rattle.quaject_core.specs.declared.hold.Hold.{Hold}
 use Rattle.thread_table.specs.declared.rule.View.{View}
 use Rattle.thread_table.specs.declared.rule.Claimed.{Claimed}
 use Rattle.thread_table.specs.Schedules.{QueueGrows, Grows, line_at, thread_at, element_at}
-use Rattle.thread_table.specs.Shown.{WordsShow, LineShows, PlaceShows, StateShows, seat_place, state_place, done_place, head_place, tail_place, item_place, mark_of}
+use Rattle.thread_table.specs.Shown.{WordsShow, LineShows, PlaceShows, StateShows, seat_word, state_word, done_word, head_word, tail_word, place_word, mark_of}
 use Rattle.thread_table.specs.Rules.{IsClaimed}
 use Rattle.thread_table.proofs.Effects.{Leaves}
 
@@ -28,21 +28,21 @@ line_kept first e f l words changed queue mark same s =
       single = λ number run at. s.single number run (ap (λ (q : Queue). slice_get q.history number) (sym queue) ∙ at);
       small = omega (arith, long, s.small);
       marked = subst (λ n. n < 4294967296) (sym mark) s.marked;
-      head = same (head_place l) (omega arith) (omega arith) ∙ (s.head ∙ omega (arith, long, mark));
-      tail = same (tail_place l) (omega arith) (omega arith) ∙ (s.tail ∙ omega (arith, front));
+      head = same (head_word l) (omega arith) (omega arith) ∙ (s.head ∙ omega (arith, long, mark));
+      tail = same (tail_word l) (omega arith) (omega arith) ∙ (s.tail ∙ omega (arith, front));
       places = λ run a b.
           let near : (first + run) % 64 < 64 = mod-lt (first + run) (omega arith) in
           let r : ℕ = (first + run) % 64 in
-          subst (λ q. PlaceShows first q run (get_or changed (item_place l (first + run)) 0)) (sym queue)
-          (subst (PlaceShows first (line_at e l) run) (sym (same (item_place l (first + run)) (omega arith) (omega arith)))
+          subst (λ q. PlaceShows first q run (get_or changed (place_word l (first + run)) 0)) (sym queue)
+          (subst (PlaceShows first (line_at e l) run) (sym (same (place_word l (first + run)) (omega arith) (omega arith)))
           (s.places run (omega arith) (omega arith)));
     }
 
 -- an element queue that is known is shown
 pub line_shown : (first : ℕ) (f : Elements) (l : ℕ) (words : List ℕ) (q : Queue) (mark : ℕ) → line_at f l ≡ q → mark_of f l ≡ mark → q.capacity ≡ 64 → q.shut ≡ false
     → ((number : ℕ) (run : Run) → slice_get q.history number ≡ Some run → length run.items ≡ 1) → first + length q.history < 4294967296 → mark < 4294967296
-    → get_or words (head_place l) 0 ≡ first + length q.history + mark * 4294967296 → get_or words (tail_place l) 0 ≡ first + q.taken
-    → ((run : ℕ) → q.taken ≤ run → run < q.taken + 64 → PlaceShows first q run (get_or words (item_place l (first + run)) 0)) → LineShows first f l words
+    → get_or words (head_word l) 0 ≡ first + length q.history + mark * 4294967296 → get_or words (tail_word l) 0 ≡ first + q.taken
+    → ((run : ℕ) → q.taken ≤ run → run < q.taken + 64 → PlaceShows first q run (get_or words (place_word l (first + run)) 0)) → LineShows first f l words
 line_shown first f l words q mark queue is capacity is_open single small marked head tail places =
     let long : length (line_at f l).history ≡ length q.history = ap (λ (r : Queue). length r.history) queue in
     let front : (line_at f l).taken ≡ q.taken = ap (λ (r : Queue). r.taken) queue in
@@ -54,7 +54,7 @@ line_shown first f l words q mark queue is capacity is_open single small marked 
       marked = subst (λ n. n < 4294967296) (sym is) marked;
       head = head ∙ omega (arith, long, is);
       tail = tail ∙ omega (arith, front);
-      places = λ run a b. subst (λ r. PlaceShows first r run (get_or words (item_place l (first + run)) 0)) (sym queue) (places run (omega arith) (omega arith));
+      places = λ run a b. subst (λ r. PlaceShows first r run (get_or words (place_word l (first + run)) 0)) (sym queue) (places run (omega arith) (omega arith));
     }
 
 -- the elements where queues, notifies and holds changed
@@ -78,9 +78,9 @@ shows_kept first e lines notified held line place word words s many notes known 
       queues = many ∙ s.queues;
       waits = notes ∙ s.waits;
       processors = s.processors;
-      seats = λ p below. same (seat_place p) (λ is. omega arith) ∙ s.seats p below;
-      states = λ x below. subst (StateShows (thread_at e x)) (sym (same (state_place x) (λ is. omega arith))) (s.states x below);
-      steps = λ x below. same (done_place x) (λ is. omega arith) ∙ s.steps x below;
+      seats = λ p below. same (seat_word p) (λ is. omega arith) ∙ s.seats p below;
+      states = λ x below. subst (StateShows (thread_at e x)) (sym (same (state_word x) (λ is. omega arith))) (s.states x below);
+      steps = λ x below. same (done_word x) (λ is. omega arith) ∙ s.steps x below;
       few = s.few;
       lines = λ l below. dite (ℕ_discrete l line)
           (λ is. subst (λ n. LineShows first (with_lines e lines notified held) n (set words place word)) (sym is) mine)

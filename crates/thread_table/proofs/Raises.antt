@@ -12,7 +12,7 @@ use Rattle.quaject_core.proofs.ElementLaws.{every_at}
 use Rattle.thread_table.specs.declared.rule.View.{View}
 use Rattle.thread_table.specs.declared.rule.Claimed.{Claimed}
 use Rattle.thread_table.specs.Schedules.{QueueGrows, Grows, line_at, element_at, element_of, no_run}
-use Rattle.thread_table.specs.Shown.{WordsShow, LineShows, PlaceShows, head_place, tail_place, item_place, mark_of}
+use Rattle.thread_table.specs.Shown.{WordsShow, LineShows, PlaceShows, head_word, tail_word, place_word, mark_of}
 use Rattle.thread_table.specs.Rules.{HandIs, IsClaimed}
 use Rattle.thread_table.specs.Views.{claim_of, with_raise}
 use Rattle.thread_table.proofs.Effects.{RaiseEffect}
@@ -61,14 +61,14 @@ place_else first q run r word ne s = record {
   low = λ low. s.low (sym (raised_else run q.raised r ne) ∙ low);
 }
 
-places_after : (first : ℕ) (q : Queue) (line run element : ℕ) (words : List ℕ) → element_at q run ≡ element → q.taken ≤ run → run < q.taken + 64 → item_place line (first + run) < length words
-    → ((r : ℕ) → q.taken ≤ r → r < q.taken + 64 → PlaceShows first q r (get_or words (item_place line (first + r)) 0))
-    → (r : ℕ) → q.taken ≤ r → r < q.taken + 64 → PlaceShows first (after_raise run 0 q) r (get_or (set words (item_place line (first + run)) (element + 256 * (first + run + 1))) (item_place line (first + r)) 0)
+places_after : (first : ℕ) (q : Queue) (line run element : ℕ) (words : List ℕ) → element_at q run ≡ element → q.taken ≤ run → run < q.taken + 64 → place_word line (first + run) < length words
+    → ((r : ℕ) → q.taken ≤ r → r < q.taken + 64 → PlaceShows first q r (get_or words (place_word line (first + r)) 0))
+    → (r : ℕ) → q.taken ≤ r → r < q.taken + 64 → PlaceShows first (after_raise run 0 q) r (get_or (set words (place_word line (first + run)) (element + 256 * (first + run + 1))) (place_word line (first + r)) 0)
 places_after first q line run element words is from to wide s r a b = dite (ℕ_discrete r run)
-    (λ same. subst (λ n. PlaceShows first (after_raise run 0 q) n (get_or (set words (item_place line (first + run)) (element + 256 * (first + run + 1))) (item_place line (first + n)) 0)) (sym same)
-    (subst (PlaceShows first (after_raise run 0 q) run) (sym (get_or-set_same words (item_place line (first + run)) (element + 256 * (first + run + 1)) 0 wide)) (place_now first q run element is)))
+    (λ same. subst (λ n. PlaceShows first (after_raise run 0 q) n (get_or (set words (place_word line (first + run)) (element + 256 * (first + run + 1))) (place_word line (first + n)) 0)) (sym same)
+    (subst (PlaceShows first (after_raise run 0 q) run) (sym (get_or-set_same words (place_word line (first + run)) (element + 256 * (first + run + 1)) 0 wide)) (place_now first q run element is)))
     (λ ne. let other = places_apart first q.taken r run a b from to ne in
-    subst (PlaceShows first (after_raise run 0 q) r) (sym (get_or-set_other words (item_place line (first + run)) (item_place line (first + r)) (element + 256 * (first + run + 1)) 0 (λ e. other (omega arith))))
+    subst (PlaceShows first (after_raise run 0 q) r) (sym (get_or-set_other words (place_word line (first + run)) (place_word line (first + r)) (element + 256 * (first + run + 1)) 0 (λ e. other (omega arith))))
     (place_else first q run r _ ne (s r a b)))
 
 hand_after : (id : ℕ) (v : View) (e : Elements) (line run : ℕ) → HandIs id v e → HandIs id (with_raise v) (after e line run)
@@ -128,9 +128,9 @@ module _ (id : ℕ) (e : Elements) (line run element : ℕ) (below : line < leng
       (ap (λ (r : Queue). slice_get r.history c.run) (else_where c.line other))
       (ap (λ (r : Queue). r.raised c.run 0) (else_where c.line other)) claimed)
 
-  shown : (first : ℕ) (words : List ℕ) → line < 18 → IsLawfulQueue q → WordsShow first e words → WordsShow first (after e line run) (set words (item_place line (first + run)) (element + 256 * (first + run + 1)))
+  shown : (first : ℕ) (words : List ℕ) → line < 18 → IsLawfulQueue q → WordsShow first e words → WordsShow first (after e line run) (set words (place_word line (first + run)) (element + 256 * (first + run + 1)))
   shown first words known lawful s =
-      let place : ℕ = item_place line (first + run) in
+      let place : ℕ = place_word line (first + run) in
       let word : ℕ = element + 256 * (first + run + 1) in
       let near : (first + run) % 64 < 64 = mod-lt (first + run) (omega arith) in
       let wide = s.wide in
@@ -142,8 +142,8 @@ module _ (id : ℕ) (e : Elements) (line run element : ℕ) (below : line < leng
       (length-set e.lines line (after_raise run 0 q)) refl known (omega arith) (omega arith) else_where (λ l ne. mark_same e (set e.lines line (after_raise run 0 q)) e.held l)
       (line_shown first (after e line run) line (set words place word) (after_raise run 0 q) (mark_of e line) here (mark_same e (set e.lines line (after_raise run 0 q)) e.held line)
       mine.capacity mine.is_open mine.single mine.small mine.marked
-      (get_or-set_other words place (head_place line) word 0 (λ is. omega arith) ∙ mine.head)
-      (get_or-set_other words place (tail_place line) word 0 (λ is. omega arith) ∙ mine.tail)
+      (get_or-set_other words place (head_word line) word 0 (λ is. omega arith) ∙ mine.head)
+      (get_or-set_other words place (tail_word line) word 0 (λ is. omega arith) ∙ mine.tail)
       (places_after first q line run element words element_is from (omega (arith, room.1, inside)) (omega arith) mine.places))
 
 -- the line and the run of a claim

@@ -12,7 +12,7 @@ use Rattle.quaject_core.proofs.JoinLaws.{slice_get_joined}
 use Rattle.thread_table.specs.declared.rule.Claimed.{Claimed}
 use Rattle.thread_table.specs.declared.rule.Counted.{Counted}
 use Rattle.thread_table.specs.Schedules.{line_at, element_of, no_run, QueueGrows, Grows}
-use Rattle.thread_table.specs.Shown.{WordsShow, LineShows, PlaceShows, item_place, seat_word, mark_of}
+use Rattle.thread_table.specs.Shown.{WordsShow, LineShows, PlaceShows, place_word, seat_shown, mark_of}
 use Rattle.thread_table.specs.Rules.{IsClaimed, IsCounted, IsOpen, may_step}
 
 cond_same : (b : Bool) (n : ℕ) → cond b n n ≡ n
@@ -191,11 +191,11 @@ line_shows id other first line e words h = let f : Elements = join_elements id o
       marked = omega (arith, h.marked);
       head = h.head ∙ sym (ap₂ (λ (n k : ℕ). first + n + k * 4294967296) long m);
       tail = h.tail ∙ sym (ap (λ (n : ℕ). first + n) taken);
-      places = λ run from to. subst (λ (z : Queue). PlaceShows first z run (get_or words (item_place line (first + run)) 0)) (sym is)
-          (place_joined id other first run (get_or words (item_place line (first + run)) 0) q (h.places run (omega arith) (omega arith)));
+      places = λ run from to. subst (λ (z : Queue). PlaceShows first z run (get_or words (place_word line (first + run)) 0)) (sym is)
+          (place_joined id other first run (get_or words (place_word line (first + run)) 0) q (h.places run (omega arith) (omega arith)));
     }
 
-seat_word_joined : (id other : ℕ) (seats : List (Option Hold)) (p : ℕ) → seat_word (get_or (map (option_map (join_hold id other)) seats) p None) ≡ seat_word (get_or seats p None)
+seat_word_joined : (id other : ℕ) (seats : List (Option Hold)) (p : ℕ) → seat_shown (get_or (map (option_map (join_hold id other)) seats) p None) ≡ seat_shown (get_or seats p None)
 seat_word_joined id other [] p = refl
 seat_word_joined id other (None ∷ seats) zero = refl
 seat_word_joined id other (Some h ∷ seats) zero = refl

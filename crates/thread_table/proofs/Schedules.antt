@@ -25,6 +25,17 @@ after_more events event t allowed ok =
     let is : after begun (events ++ event ∷ []) ≡ t = after_is begun (events ++ event ∷ []) t r in
     (is, subst (Reaches begun (events ++ event ∷ [])) (sym is) r)
 
+allowed_first : (s : State) (past rest : List Event) (t : State) → Reaches s (past ++ rest) t → Reaches s past (after s past)
+unfolding after
+allowed_first s [] rest t r = refl
+allowed_first s (e ∷ es) rest t r = let same : result_unwrap_or (step e s) s ≡ r.0 = ap (λ (z : Result State Refusal). result_unwrap_or z s) r.1 in
+    (r.0, r.1, subst (λ (z : State). Reaches r.0 es (after z es)) (sym same) (allowed_first r.0 es rest t r.2))
+
+-- the first of events that were allowed were allowed
+pub allowed_before : (past events : List Event) → Begins past events → IsAllowed events → IsAllowed past
+unfolding state_after IsAllowed
+allowed_before past events b allowed = allowed_first begun past b.0 (after begun events) (subst (λ (z : List Event). Reaches begun z (after begun events)) (sym b.1) allowed)
+
 -- no event
 pub after_none : (state_after [] ≡ first_state 64) × IsAllowed []
 unfolding state_after IsAllowed after begun

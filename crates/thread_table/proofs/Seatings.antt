@@ -13,7 +13,7 @@ use Rattle.quaject_core.specs.declared.hold.Hold.{Hold}
 use Rattle.quaject_core.proofs.Places.{slice_get_set_same, slice_get_set_other}
 use Rattle.thread_table.specs.declared.rule.View.{View}
 use Rattle.thread_table.specs.Schedules.{thread_at}
-use Rattle.thread_table.specs.Shown.{WordsShow, StateShows, seat_word, seat_place, state_place, done_place}
+use Rattle.thread_table.specs.Shown.{WordsShow, StateShows, seat_shown, seat_word, state_word, done_word}
 use Rattle.thread_table.specs.Rules.{HandIs, serves, running}
 use Rattle.thread_table.proofs.Effects.{Leaves, OnEffect, OffEffect}
 use Rattle.thread_table.specs.Views.{with_on, with_off}
@@ -58,29 +58,29 @@ not_served : (v : View) (p q : ℕ) → serves v p ≡ true → serves v q ≡ f
 not_served v p q served strange same = let e : serves v q ≡ true = ap (serves v) (sym same) ∙ served in absurd (cc)
 
 seats_shown : (id : ℕ) (words : List ℕ) (processors : List (Option Hold)) (p : ℕ) (on : Option ℕ) → p < 8 → length words ≡ 1325 → length processors ≡ 8
-    → ((q : ℕ) → q < 8 → get_or words (seat_place q) 0 ≡ seat_word (get_or processors q None))
-    → (q : ℕ) → q < 8 → get_or (set words (seat_place p) (seat_word (seat_of id on))) (seat_place q) 0 ≡ seat_word (get_or (set processors p (seat_of id on)) q None)
+    → ((q : ℕ) → q < 8 → get_or words (seat_word q) 0 ≡ seat_shown (get_or processors q None))
+    → (q : ℕ) → q < 8 → get_or (set words (seat_word p) (seat_shown (seat_of id on))) (seat_word q) 0 ≡ seat_shown (get_or (set processors p (seat_of id on)) q None)
 seats_shown id words processors p on below wide long shows q within =
-    let word = seat_word (seat_of id on) in
-    read_set (λ k seat. get_or (set words (seat_place p) word) (seat_place k) 0 ≡ seat_word seat) processors p (seat_of id on) None (omega (arith, long))
-    (get_or-set_same words (seat_place p) word 0 (omega (arith, wide))) q
-    (λ apart. get_or-set_other words (seat_place p) (seat_place q) word 0 (λ h. apart (omega arith)) ∙ shows q within)
+    let word = seat_shown (seat_of id on) in
+    read_set (λ k seat. get_or (set words (seat_word p) word) (seat_word k) 0 ≡ seat_shown seat) processors p (seat_of id on) None (omega (arith, long))
+    (get_or-set_same words (seat_word p) word 0 (omega (arith, wide))) q
+    (λ apart. get_or-set_other words (seat_word p) (seat_word q) word 0 (λ h. apart (omega arith)) ∙ shows q within)
 
 seated_words : (id : ℕ) (first : ℕ) (e : Elements) (words : List ℕ) (p : ℕ) (on : Option ℕ) (held : List Hold) → p < 8 → WordsShow first e words
-    → WordsShow first (seated id e p on held) (set words (seat_place p) (seat_word (seat_of id on)))
+    → WordsShow first (seated id e p on held) (set words (seat_word p) (seat_shown (seat_of id on)))
 seated_words id first e words p on held below shows =
-    let word = seat_word (seat_of id on) in
+    let word = seat_shown (seat_of id on) in
     record {
-      wide = length-set words (seat_place p) word ∙ shows.wide;
+      wide = length-set words (seat_word p) word ∙ shows.wide;
       threads = shows.threads;
       queues = shows.queues;
       waits = shows.waits;
       processors = length-set e.processors p (seat_of id on) ∙ shows.processors;
       seats = seats_shown id words e.processors p on below shows.wide shows.processors shows.seats;
-      states = λ x within. subst (StateShows (thread_at e x)) (sym (get_or-set_other words (seat_place p) (state_place x) word 0 (λ h. omega arith))) (shows.states x within);
-      steps = λ x within. get_or-set_other words (seat_place p) (done_place x) word 0 (λ h. omega arith) ∙ shows.steps x within;
+      states = λ x within. subst (StateShows (thread_at e x)) (sym (get_or-set_other words (seat_word p) (state_word x) word 0 (λ h. omega arith))) (shows.states x within);
+      steps = λ x within. get_or-set_other words (seat_word p) (done_word x) word 0 (λ h. omega arith) ∙ shows.steps x within;
       few = shows.few;
-      lines = λ line within. line_outside e e.threads (set e.processors p (seat_of id on)) held first line words (seat_place p) word (omega arith) (shows.lines line within);
+      lines = λ line within. line_outside e e.threads (set e.processors p (seat_of id on)) held first line words (seat_word p) word (omega arith) (shows.lines line within);
     }
 
 seated_leaves : (id : ℕ) (v : View) (e : Elements) (p : ℕ) (old on : Option ℕ) (held : List Hold) → serves v p ≡ true → slice_get e.processors p ≡ Some (seat_of id old)

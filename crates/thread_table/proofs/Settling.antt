@@ -1,47 +1,49 @@
 -- What closing a table answers, of the last state and of the words that were read.
-use Rattle.std.proofs.Common.{◌≡◌, ◌≢◌, ℕ, zero, suc, ◌+◌, ◌-◌, ◌%◌, ◌<◌, ◌≤◌, Bool, true, false, List, [], ◌∷◌, length, get_or, None, Some, refl, sym, ap, subst, ◌∙◌, arith}
-use Rattle.std.proofs.lemmas.Nat.{and_mask}
+use Rattle.std.proofs.Common.{◌≡◌, ◌≢◌, ℕ, zero, suc, ◌+◌, ◌-◌, ◌%◌, ◌<◌, Bool, true, false, List, [], ◌∷◌, length, get_or, None, Some, refl, sym, ap, subst, ◌∙◌, arith}
 use Rattle.std.specs.Int.{bit_at}
 use mathlib.Core.Option.{some}
 use mathlib.Core.Logic.{dite}
 use native.Mathlib.Decide.{dec_lt, ℕ_discrete}
 use lib.ListN.{get_elem?}
 use Rattle.atomic_table.specs.Table.{State, Final, Seen}
-use Rattle.quaject_core.proofs.Counting.{others_idle, whole_is_one, one_is_whole}
-use Rattle.quaject_core.proofs.Owned.{one_at}
-use Rattle.quaject_core.proofs.Totals.{one_of}
-use Rattle.quaject_core.specs.Counting.{FitsAWord}
+use Rattle.table_theory.proofs.Counting.{others_idle}
+use Rattle.table_theory.proofs.Owned.{one_at}
 use Rattle.quaject_core.specs.Elements.{Elements}
-use Rattle.quaject_core.specs.Sharing.{IsWhole, total}
+use Rattle.table_theory.specs.Sharing.{IsWhole}
 use Rattle.thread_table.specs.declared.places.Place.{Place}
 use Rattle.thread_table.specs.declared.places.Place.TheVariants as places
 use Rattle.thread_table.specs.declared.rule.Claimed.{Claimed}
 use Rattle.thread_table.specs.declared.rule.Shape.{Shape}
 use Rattle.thread_table.specs.declared.rule.View.{View}
 use Rattle.thread_table.specs.Closings.{ClosedNow, WereOpen, PlaceOf, word_at}
-use Rattle.thread_table.specs.Rules.{Rule, IsIdle, ends_of, share_of}
-use Rattle.thread_table.specs.Schedules.{elements_after, line_at}
-use Rattle.thread_table.specs.Shown.{WordsShow, state_place}
+use Rattle.thread_table.specs.Rules.{Rule, HandIs, IsIdle, ends_of, share_of}
+use Rattle.thread_table.specs.Views.{quiet}
+use Rattle.thread_table.specs.Schedules.{state_after, elements_after, IsAllowed, line_at, thread_at}
+use Rattle.quaject_core.specs.declared.event.Event.{Event}
+use Rattle.quaject_core.proofs.AccountLaws.{account_law}
+use Rattle.thread_table.proofs.Betweens.{reached}
+use Rattle.thread_table.proofs.Looks.{hand_quiet}
+use Rattle.thread_table.proofs.Stating.{pending_are}
+use Rattle.thread_table.specs.Shown.{WordsShow}
 use Rattle.thread_table.specs.Steps.{Tallied}
-use Rattle.thread_table.proofs.Bits.{low_bit}
 use Rattle.thread_table.proofs.Copies.{get_or-copies}
 use Rattle.thread_table.proofs.QueueWords.{none_some}
 use Rattle.thread_table.proofs.Schedules.{lawful_after}
 use Rattle.thread_table.proofs.Standing.{Settled, stands, bit_read}
+use Rattle.std.proofs.Common.{map}
+use Rattle.atomic_table.proofs.Lists.{at_map}
+use Rattle.table_theory.proofs.Owned.{at_map_back}
+use Rattle.thread_table.specs.declared.rule.Made.{Made}
+use Rattle.thread_table.specs.Makers.{AreMade, made_of}
+use Rattle.thread_table.proofs.Filings.{made_sole}
+use Rattle.thread_table.proofs.Once.{steps_once}
+use Rattle.thread_table.proofs.Retiring.{are_retired}
 
-pub whole_where_one : (v w : View) (found : ℕ) → 1 ≤ v.ends → (t : Tallied v found w) → found ≡ 1 → FitsAWord (total ends_of t.views) → IsWhole v.share
-whole_where_one v w found live t one few = let c = t.counted in let n = c.counted in one_is_whole ends_of share_of IsIdle found t.views t.seat v c t.here live (omega arith)
-
--- where the hand has the whole, one hand is found
-pub one_where_whole : (v w : View) (found : ℕ) → v.ends ≡ 1 → Tallied v found w → IsWhole v.share → found ≡ 1
-one_where_whole v w found one t whole = let c = t.counted in let n = c.counted in let total = whole_is_one ends_of share_of IsIdle found t.views t.seat v c t.here one whole in omega arith
-
-pub were_open : (v w : View) (found others : ℕ) → v.ends ≡ 1 → Tallied v found w → found ≢ 1 → others ≡ (found + (18446744073709551616 - 1)) % 18446744073709551616 → WereOpen v others w
-were_open v w found others one t more is = let c = t.counted in let n = c.counted in let least = one_of ends_of t.views t.seat v t.here in record {
-  found = found;
-  tallied = t;
-  not_whole = λ whole. more (one_where_whole v w found one t whole);
-  number = λ few. (omega arith, omega arith);
+pub were_open : (v w : View) (found others : ℕ) → Tallied v found w → found ≢ 1 → others ≡ found - 1 → WereOpen v others w
+were_open v w found others t more is = let some = t.count.some_end in let n : found ≡ others + 1 = omega arith in record {
+  tallied = subst (λ (z : ℕ). Tallied v z w) n t;
+  some_other = omega arith;
+  not_whole = λ whole. more (t.count.whole whole);
 }
 
 there : {A : Type 0} (xs : List A) (i : ℕ) → i < length xs → (a : A) × (get_elem? xs i ≡ some a)
@@ -71,31 +73,35 @@ settled key s k id w at whole none =
     up true not = refl
     up false not = absurd (not refl)
 
-low_bits : (word signal : ℕ) → signal < 16 → bit_at (word % 65536) signal ≡ bit_at word signal
-low_bits word signal below = ap (λ n. bit_at n signal) (sym (and_mask word 16)) ∙ low_bit word 16 signal below
+-- beside the hand with the whole no hand lists an event
+all_made : (key : Shape) (s : State Unit View) (k : Rule key s) (id : ℕ) (w : View) → get_elem? s.views id ≡ some w → IsWhole w.share → AreMade k.events (w.made ∷ [])
+all_made key s k id w at whole = made_sole k.events (map made_of s.views) id w.made k.made (at_map made_of s.views id w at)
+    (λ d l has ne. let b = at_map_back made_of s.views d l has in sym b.2 ∙ (others_idle ends_of share_of IsIdle (get_or s.words 0 0) s.views id w k.counted at whole d b.0 b.1 ne).4)
 
-pub closes : (key : Shape) (v w : View) (found id : ℕ) (ws : List ℕ) (xs : List Unit) (all : List Place) (pcs pending : List ℕ) (stops : ℕ) → v.ends ≡ 1 → v.claimed ≡ None → Tallied v found w → found ≡ 1 → Final (Seen (Rule key) id w) ws xs
+pub closes : (key : Shape) (v w : View) (found id : ℕ) (ws : List ℕ) (xs : List Unit) (all : List Place) (pcs pending : List ℕ) (stops : ℕ) → v.fresh ≡ true → v.claimed ≡ None → Tallied v found w → found ≡ 1 → Final (Seen (Rule key) id w) ws xs
     → ((x : ℕ) → x < 64 → PlaceOf x ws (get_or all x places.Held))
     → ((x : ℕ) → x < 64 → get_or pcs x 0 ≡ word_at ws (x + 73))
     → ((x : ℕ) → x < 64 → get_or pending x 0 ≡ word_at ws (x + 9) % 65536)
     → ((x : ℕ) → x < 64 → bit_at stops x ≡ bit_at (word_at ws (x + 9)) 16)
     → ClosedNow id v all pcs pending stops
-closes key v w found id ws xs all pcs pending stops one_hand none tallied one fin place_of pc_of pending_of stop_of =
-    let s : State Unit View = fin.0 in let k : Rule key s = fin.1.0 in let e : Elements = elements_after k.events in
-    let sh : WordsShow key.first e ws = subst (WordsShow key.first e) fin.2 k.shows in
-    let sole : Tallied v 1 w = subst (λ (n : ℕ). Tallied v n w) one tallied in
+closes key v w found id ws xs all pcs pending stops up none tallied one fin place_of pc_of pending_of stop_of =
+    let s : State Unit View = fin.0 in let k : Rule key s = fin.1.0 in let at = fin.1.1 in let whole : IsWhole v.share = tallied.count.alone one in
+    let still : IsWhole w.share = subst (λ (z : View). IsWhole z.share) (sym tallied.same) whole in
+    let now : k.events ≡ v.schedule = sym (tallied.sees.newest whole up ∙ k.newest id w at still (ap (λ (z : View). z.fresh) tallied.same)) in let e : Elements = elements_after v.schedule in
+    let allowed : IsAllowed v.schedule = subst IsAllowed now k.allowed in let shows : WordsShow key.first e s.words = subst (λ (z : List Event). WordsShow key.first (elements_after z) s.words) now k.shows in
+    let sh : WordsShow key.first e ws = subst (WordsShow key.first e) fin.2 shows in
+    let own : AreMade v.schedule (v.made ∷ []) = subst (λ (z : List Event). AreMade z (v.made ∷ [])) now (subst (λ (l : List Made). AreMade k.events (l ∷ [])) (ap (λ (z : View). z.made) tallied.same) (all_made key s k id w at still)) in
+    let set : Settled id key.first e ws = subst (Settled id key.first e) fin.2 (subst (λ (z : List Event). Settled id key.first (elements_after z) s.words) now (settled key s k id w at still (ap (λ (z : View). z.claimed) tallied.same ∙ none))) in
     record {
-      end = w;
-      tallied = sole;
-      whole = whole_where_one v w 1 (omega (arith, one_hand)) sole refl;
-      events = k.events;
-      allowed = k.allowed;
-      later = (k.seen id w fin.1.1).schedule;
-      places = λ whole x below.
-          let set : Settled id key.first e s.words = settled key s k id w fin.1.1 (subst (λ (z : View). IsWhole z.share) (sym tallied.same) whole) (ap (λ (z : View). z.claimed) tallied.same ∙ none) in
-          stands id key.first e ws (subst (Settled id key.first e) fin.2 set) x (get_or all x places.Held) below (place_of x below);
+      whole = whole;
+      allowed = allowed;
+      accounted = account_law 64 v.schedule (state_after v.schedule) (reached v.schedule allowed);
+      hand = subst (λ (z : List Event). HandIs id (quiet v) (elements_after z)) now (hand_quiet id w (quiet v) (elements_after k.events) (sym (ap (λ (z : View). z.held) tallied.same)) (sym (ap (λ (z : View). z.serves) tallied.same)) (sym (ap (λ (z : View). z.on) tallied.same)) (sym (ap (λ (z : View). z.claimed) tallied.same)) refl (k.hands id w at));
+      made = own;
+      steps_once = steps_once v.schedule v.made allowed own;
+      retired = are_retired v.schedule allowed;
+      places = λ x below. stands id key.first e ws set x (get_or all x places.Held) below (place_of x below);
       steps = λ x below. pc_of x below ∙ sh.steps x below;
-      signals = λ x signal below known. let state = sh.states x below in
-          sym (bit_read (bit_at (get_or pending x 0) signal) _ (ap (λ (n : ℕ). bit_at n signal) (pending_of x below) ∙ (low_bits (word_at ws (state_place x)) signal known ∙ state.pending signal known)));
-      stopped = λ x below. let state = sh.states x below in sym (bit_read (bit_at stops x) _ (stop_of x below ∙ state.stop));
+      signals = λ x below. pending_are (thread_at e x) (word_at ws (x + 9)) (get_or pending x 0) (sh.states x below) (pending_of x below);
+      stopped = λ x below. let state = sh.states x below in bit_read (bit_at stops x) _ (stop_of x below ∙ state.stop);
     }

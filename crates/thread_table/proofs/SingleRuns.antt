@@ -11,7 +11,7 @@ use Rattle.quaject_core.specs.Runs.{Run, flat, pairs_of, pairs_from, run_length}
 use Rattle.quaject_core.specs.Queues.{Queue, left, left_pairs, is_raised, first_are_raised}
 use Rattle.quaject_core.specs.Lawful.{IsLawfulQueue}
 use Rattle.quaject_core.proofs.Histories.{both}
-use Rattle.quaject_core.proofs.Lists.{one_turn}
+use Rattle.atomic_table.proofs.Lists.{one_turn}
 use Rattle.thread_table.specs.Schedules.{element_of, element_at, no_run}
 
 abbrev pub Singles : List Run → Type 0

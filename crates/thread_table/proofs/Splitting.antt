@@ -1,19 +1,27 @@
 -- A split of a hand keeps the rule.
-use Rattle.std.proofs.Common.{◌≡◌, ◌≢◌, ◌⊎◌, ⊎_elim, inl, inr, ℕ, zero, suc, ◌≤◌, Bool, true, false, cond, eqb, eq-eqb, ne_eqb, List, [], ◌∷◌, ◌++◌, ◌∙◌, length, get_or, set, Option, option_map, Some, None, refl, sym, ap, subst, arith, length-set}
+use Rattle.std.proofs.Common.{◌≡◌, ◌≢◌, ◌⊎◌, ⊎_elim, inl, inr, ℕ, zero, suc, Bool, true, false, cond, eqb, eq-eqb, ne_eqb, List, [], ◌∷◌, ◌++◌, ◌∙◌, map, length, get_or, set, Option, option_map, Some, None, refl, sym, ap, subst, arith, length-set}
 use Rattle.std.proofs.lemmas.List.{length-append}
 use mathlib.Core.Option.{some}
 use lib.ListN.{get_elem?}
 use Rattle.atomic_table.specs.Table.{Splits}
 use Rattle.quaject_core.specs.Elements.{Elements, hold, holds}
-use Rattle.quaject_core.proofs.Lists.{at_set, at_longer}
-use Rattle.quaject_core.proofs.Owned.{at_push}
-use Rattle.quaject_core.proofs.Counting.{counted_split}
+use Rattle.atomic_table.proofs.Lists.{at_set, at_longer, at_map}
+use Rattle.std.proofs.lemmas.List.{map-append, map-set}
+use Rattle.thread_table.specs.declared.rule.Made.{Made}
+use Rattle.thread_table.specs.Makers.{AreMade, made_of}
+use Rattle.thread_table.proofs.Filings.{made_new}
+use Rattle.thread_table.proofs.Looks.{set_again}
+use Rattle.table_theory.proofs.Owned.{at_push}
+use Rattle.table_theory.proofs.Counting.{counted_split, given_kept, given_some, kept_some}
+use Rattle.table_theory.proofs.Totals.{one_of}
 use Rattle.thread_table.specs.declared.rule.Shape.{Shape}
 use Rattle.thread_table.specs.declared.rule.View.{View}
 use Rattle.thread_table.specs.Schedules.{elements_after}
-use Rattle.thread_table.specs.Rules.{Rule, HandIs, Seen, ends_of, share_of, IsIdle, serves, running}
+use Rattle.thread_table.specs.Rules.{IsSteady, IsNewest, Rule, HandIs, Seen, ends_of, share_of, IsIdle, MayStep, has, serves, running}
+use Rattle.std.specs.List.{repeat}
 use Rattle.thread_table.specs.Steps.{parted, rest_of, newborn}
 use Rattle.thread_table.proofs.Owing.{claims_kept}
+use Rattle.thread_table.proofs.QueueWords.{none_some}
 use Rattle.thread_table.proofs.Copies.{length-copies, get_or-copies}
 
 -- an entry of the list in which one was cut in two
@@ -102,7 +110,14 @@ before views id v mask p at can = let n : ℕ = length views in each_split (λ (
       is = sym (ap (λ (b : Bool). cond b (cond (get_or mask p false) n id) id) (eq-eqb id id refl) ∙ ap (λ (b : Bool). cond b n id) s);
     })
 
-pub splits : (key : Shape) (id : ℕ) (v : View) (mask : List Bool) → 2 ≤ v.ends → length mask ≡ 8 → ((p : ℕ) → get_or mask p false ≡ true → (serves v p ≡ true) × (running v p ≡ None)) → Splits (Rule key) id v (rest_of mask v) (newborn mask v)
+no_running : (p element : ℕ) → get_or (repeat 8 (none_on ∷ [])) p None ≡ Some element → ⊥
+no_running p element is = none_some element (get_or (repeat 8 (none_on ∷ [])) p None) (get_or-copies 8 none_on p) is
+
+-- a new hand has no element
+has_nothing : (v : View) (mask : List Bool) (x : ℕ) → MayStep (newborn mask v) x → ⊥
+has_nothing v mask x may = ⊎_elim (λ held. let no : has (newborn mask v) x ≡ false = get_or-copies 64 false x in absurd (cc)) (λ on. no_running on.0 x on.2) may
+
+pub splits : (key : Shape) (id : ℕ) (v : View) (mask : List Bool) → v.ends ≡ 2 → length mask ≡ 8 → ((p : ℕ) → get_or mask p false ≡ true → (serves v p ≡ true) × (running v p ≡ None)) → Splits (Rule key) id v (rest_of mask v) (newborn mask v)
 splits key id v mask live long can s k at = let e : Elements = elements_after k.events in let left : View = rest_of mask v in let right : View = newborn mask v in let seen : Seen v k.events = k.seen id v at in let hand : HandIs id v e = k.hands id v at in record {
   events = k.events;
   allowed = k.allowed;
@@ -117,5 +132,15 @@ splits key id v mask live long can s k at = let e : Elements = elements_after k.
       a.is ∙ (ap (λ (z : ℕ). cond (eqb z id) (cond (get_or mask p false) (length s.views) id) z) same ∙ sym b.is);
   owned = λ line run below is. let o = claims_kept s.views id v left e at refl k.owned line run below is in (o.0, o.1, at_longer (set s.views id left) (right ∷ []) o.0 o.1 o.2, o.3);
   strange = λ call element past. k.strange call element (omega (arith, past, length-append (set s.views id left) (right ∷ []), length-set s.views id left));
-  counted = counted_split ends_of share_of IsIdle (get_or s.words 0 0) s.views id v left right k.counted at (omega arith) (omega arith) (omega arith) refl refl;
+  steady = each_split (λ (j : ℕ) (u : View). IsSteady u k.events) s.views id left right (λ j u ne there. k.steady j u there)
+      (λ up x low may. k.steady id v at up x low (⊎_elim (λ held. inl held) (λ on. inr (on.0, (parted_true v.serves mask on.0 on.1).0, on.2)) may))
+      (λ up x low may. absurd (has_nothing v mask x may));
+  newest = each_split (λ (j : ℕ) (u : View). IsNewest u k.events) s.views id left right (λ j u ne there. k.newest j u there)
+      (λ whole up. let i = k.counted.within id v at in let b = given_kept v.share in let g = given_some v.share (omega arith) in let t = one_of share_of s.views id v at in let c = k.counted.shared in absurd (omega arith))
+      (λ whole up. let i = k.counted.within id v at in let b = given_kept v.share in let g = kept_some v.share (omega arith) in let t = one_of share_of s.views id v at in let c = k.counted.shared in absurd (omega arith));
+  undoubled = each_split (λ (j : ℕ) (u : View). u.doubled ≡ false) s.views id left right (λ j u ne there. k.undoubled j u there) (k.undoubled id v at) refl;
+  made = subst (AreMade k.events)
+      (sym (map-append made_of (set s.views id left) (right ∷ []) ∙ ap (λ (z : List (List Made)). z ++ [] ∷ []) (map-set made_of s.views id left ∙ set_again (map made_of s.views) id v.made (at_map made_of s.views id v at))))
+      (made_new k.events (map made_of s.views) k.made);
+  counted = counted_split ends_of share_of IsIdle (get_or s.words 0 0) s.views id v left right k.counted at live (omega arith) refl refl refl;
 }

@@ -17,7 +17,7 @@ use Rattle.quaject_core.specs.declared.hold.Hold.{Hold}
 use Rattle.quaject_core.proofs.ElementLaws.{every_at}
 use Rattle.thread_table.specs.Closings.{SeatOf, IsIn, LineOf, PlaceOf, StandsAt, is_left, line_place, place_by, word_at}
 use Rattle.thread_table.specs.Schedules.{line_at, thread_at, element_at, element_of, no_run}
-use Rattle.thread_table.specs.Shown.{WordsShow, seat_word, state_place, item_place, bit_of}
+use Rattle.thread_table.specs.Shown.{WordsShow, seat_shown, state_word, place_word, bit_of}
 use Rattle.thread_table.specs.declared.places.Place.{Place}
 use Rattle.thread_table.proofs.SingleRuns.{Singles, flat_single, flat_long, within_room}
 
@@ -25,11 +25,11 @@ sum_none : {X : Type 0} (f : X → ℕ) (xs : List X) (d : X) → ((i : ℕ) →
 sum_none f [] d each = refl
 sum_none f (x ∷ xs) d each = omega (arith, sum_by-cons f x xs, each 0 (omega arith), sum_none f xs d (λ i below. each (suc i) (omega arith)))
 
-seat_none : (seat : Option Hold) (x : ℕ) → seat_word seat ≢ x + 1 → is_on x seat ≡ false
+seat_none : (seat : Option Hold) (x : ℕ) → seat_shown seat ≢ x + 1 → is_on x seat ≡ false
 seat_none None x ne = refl
 seat_none (Some h) x ne = ne_eqb h.element x (λ e. ne (omega arith))
 
-seat_some : (seat : Option Hold) (x : ℕ) → seat_word seat ≡ x + 1 → is_on x seat ≡ true
+seat_some : (seat : Option Hold) (x : ℕ) → seat_shown seat ≡ x + 1 → is_on x seat ≡ true
 seat_some None x is = absurd (omega arith)
 seat_some (Some h) x is = eq-eqb h.element x (omega arith)
 
@@ -93,7 +93,7 @@ module _ (call first : ℕ) (e : Elements) (words : List ℕ) (s : Settled call 
   lawful_line line below = let many = s.shows.queues in every_at IsLawfulQueue e.lines line (line_at e line) (slice_get-get_or e.lines line (empty_queue 64) (omega arith)) s.lawful.lines
 
   -- the place of what is left has its element
-  left_word : (line run : ℕ) → line < 18 → (line_at e line).taken ≤ run → run < length (line_at e line).history → word_at words (item_place line (first + run)) % 256 ≡ element_at (line_at e line) run
+  left_word : (line run : ℕ) → line < 18 → (line_at e line).taken ≤ run → run < length (line_at e line).history → word_at words (place_word line (first + run)) % 256 ≡ element_at (line_at e line) run
   left_word line run below from to =
       let q : Queue = line_at e line in let l = s.shows.lines line below in let many = s.shows.queues in let wide = s.shows.threads in
       let room = within_room q 64 (lawful_line line below) l.single l.capacity in let near = room.1 in
@@ -111,8 +111,8 @@ module _ (call first : ℕ) (e : Elements) (words : List ℕ) (s : Settled call 
       let there : p ≡ first + run = omega arith in
       let a : q.taken ≤ run = omega arith in let b : run < length q.history = omega arith in
       let i : ℕ = run - q.taken in let same : q.taken + i ≡ run = omega arith in let long = left_long q l.single in
-      let word : word_at words (item_place line (first + run)) % 256 ≡ element_at q run = left_word line run below a b in
-      let found : get_or (left q) i 0 ≡ x = left_at q i l.single (omega arith) ∙ (ap (element_at q) same ∙ (sym word ∙ (ap (λ (n : ℕ). word_at words (item_place line n) % 256) (sym there) ∙ is.3))) in
+      let word : word_at words (place_word line (first + run)) % 256 ≡ element_at q run = left_word line run below a b in
+      let found : get_or (left q) i 0 ≡ x = left_at q i l.single (omega arith) ∙ (ap (element_at q) same ∙ (sym word ∙ (ap (λ (n : ℕ). word_at words (place_word line n) % 256) (sym there) ∙ is.3))) in
       list_any_at (λ (item : ℕ). eqb item x) (left q) i 0 (omega arith) (eq-eqb (get_or (left q) i 0) x found)
 
   not_left : (x line : ℕ) → line < 18 → (IsIn x words line → ⊥) → in_list x (left (line_at e line)) ≡ 0
@@ -154,10 +154,10 @@ module _ (call first : ℕ) (e : Elements) (words : List ℕ) (s : Settled call 
   in_cell_or_hand x below seat line false is = in_hand x below seat line is
 
   stands_by : (x : ℕ) → x < 64 → (seat line : Option ℕ) → SeatOf x words seat → LineOf x words line
-      → StandsAt call x e (place_by seat line (eqb (bit_at (word_at words (state_place x)) 17) 1))
+      → StandsAt call x e (place_by seat line (eqb (bit_at (word_at words (state_word x)) 17) 1))
   stands_by x below (Some p) line is in_row = on_processor x p is
   stands_by x below None (Some l) is in_row = in_line x l in_row
-  stands_by x below None None is in_row = in_cell_or_hand x below is in_row _ (bit_read (bit_at (word_at words (state_place x)) 17) (thread_at e x).parked (s.shows.states x below).parked)
+  stands_by x below None None is in_row = in_cell_or_hand x below is in_row _ (bit_read (bit_at (word_at words (state_word x)) 17) (thread_at e x).parked (s.shows.states x below).parked)
 
   -- what the words say of an element's place is so
   pub stands : (x : ℕ) (place : Place) → x < 64 → PlaceOf x words place → StandsAt call x e place

@@ -17,11 +17,11 @@ use Rattle.quaject_core.specs.declared.hold.Hold.{Hold}
 use Rattle.quaject_core.specs.declared.refusal.Refusal.TheVariants.{UnknownName}
 use Rattle.quaject_core.proofs.ElementLaws.{every_at}
 use Rattle.quaject_core.proofs.Places.{one, sum_changed, in_joined}
-use Rattle.quaject_core.proofs.QueueEvents.{take_goes}
+use Rattle.table_theory.proofs.QueueEvents.{take_goes}
 use Rattle.thread_table.specs.declared.rule.View.{View}
 use Rattle.thread_table.specs.declared.rule.Claimed.{Claimed}
 use Rattle.thread_table.specs.Schedules.{QueueGrows, Grows, line_at, element_at}
-use Rattle.thread_table.specs.Shown.{WordsShow, LineShows, PlaceShows, head_place, tail_place, item_place, tail_word, mark_of}
+use Rattle.thread_table.specs.Shown.{WordsShow, LineShows, PlaceShows, head_word, tail_word, place_word, tail_shown, mark_of}
 use Rattle.thread_table.specs.Rules.{HandIs, IsClaimed, has}
 use Rattle.thread_table.proofs.Effects.{TakeEffect}
 use Rattle.thread_table.specs.Views.{with_held}
@@ -100,8 +100,8 @@ hand_after id v e line x h none known =
 
 -- the place of the run that was taken is that of the run 64 later, which nobody claimed
 place_after : (first : ℕ) (q : Queue) (line : ℕ) (words : List ℕ) → IsLawfulQueue q → length q.history ≤ q.taken + 64 → q.raised q.taken 0 ≡ true → element_at q q.taken < 64
-    → ((r : ℕ) → q.taken ≤ r → r < q.taken + 64 → PlaceShows first q r (get_or words (item_place line (first + r)) 0))
-    → (r : ℕ) → q.taken + 1 ≤ r → r < q.taken + 1 + 64 → PlaceShows first (after_take 1 q) r (get_or words (item_place line (first + r)) 0)
+    → ((r : ℕ) → q.taken ≤ r → r < q.taken + 64 → PlaceShows first q r (get_or words (place_word line (first + r)) 0))
+    → (r : ℕ) → q.taken + 1 ≤ r → r < q.taken + 1 + 64 → PlaceShows first (after_take 1 q) r (get_or words (place_word line (first + r)) 0)
 place_after first q line words lawful room up known s r a b = dite (dec_lt r (q.taken + 64))
     (λ y. let p = s r (omega arith) y in record { up = p.up; low = p.low })
     (λ no. let last : r ≡ q.taken + 64 = omega arith in
@@ -109,7 +109,7 @@ place_after first q line words lawful room up known s r a b = dite (dec_lt r (q.
     let was = p.up up in
     let turn : first + r ≡ first + q.taken + 64 = omega arith in
     let round : (first + r) % 64 ≡ (first + q.taken) % 64 = ap (λ n. n % 64) turn ∙ add-mod_right (first + q.taken) 64 in
-    let same : get_or words (item_place line (first + r)) 0 ≡ get_or words (item_place line (first + q.taken)) 0 = ap (λ n. get_or words (66 * line + 139 + n) 0) round in
+    let same : get_or words (place_word line (first + r)) 0 ≡ get_or words (place_word line (first + q.taken)) 0 = ap (λ n. get_or words (66 * line + 139 + n) 0) round in
     record {
       up = λ h. let n = raised_known q r lawful h in absurd (omega arith);
       low = λ h. omega (arith, was, same, known);
@@ -147,10 +147,10 @@ module _ (id : ℕ) (e : Elements) (line x : ℕ) (below : line < length e.lines
       (ap (λ (r : Queue). r.raised c.run 0) (else_where c.line other)) claimed)
 
   shown : (first : ℕ) (words : List ℕ) → line < 18 → IsLawfulQueue q → q.raised q.taken 0 ≡ true → element_at q q.taken < 64 → WordsShow first e words
-      → WordsShow first (after e line id x) (set words (tail_place line) (tail_word first e line + 1))
+      → WordsShow first (after e line id x) (set words (tail_word line) (tail_shown first e line + 1))
   shown first words known lawful up element s =
-      let place : ℕ = tail_place line in
-      let word : ℕ = tail_word first e line + 1 in
+      let place : ℕ = tail_word line in
+      let word : ℕ = tail_shown first e line + 1 in
       let wide = s.wide in
       let lines : List Queue = set e.lines line (after_take 1 q) in
       let held : List Hold = e.held ++ hold id x ∷ [] in
@@ -160,9 +160,9 @@ module _ (id : ℕ) (e : Elements) (line x : ℕ) (below : line < length e.lines
       (length-set e.lines line (after_take 1 q)) refl known (omega arith) (omega arith) else_where (λ l ne. mark_same e lines held l)
       (line_shown first (after e line id x) line (set words place word) (after_take 1 q) (mark_of e line) here (mark_same e lines held line)
       mine.capacity mine.is_open mine.single mine.small mine.marked
-      (get_or-set_other words place (head_place line) word 0 (λ is. omega arith) ∙ mine.head)
+      (get_or-set_other words place (head_word line) word 0 (λ is. omega arith) ∙ mine.head)
       (get_or-set_same words place word 0 (omega arith) ∙ omega arith)
-      (λ r a b. subst (PlaceShows first (after_take 1 q) r) (sym (get_or-set_other words place (item_place line (first + r)) word 0 (λ is. omega arith)))
+      (λ r a b. subst (PlaceShows first (after_take 1 q) r) (sym (get_or-set_other words place (place_word line (first + r)) word 0 (λ is. omega arith)))
       (place_after first q line words lawful room.1 up element mine.places r a b)))
 
 pub take_effect : TakeEffect

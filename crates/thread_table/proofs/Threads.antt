@@ -10,7 +10,7 @@ use Rattle.quaject_core.proofs.ElementSteps.{changed, delivered_ok, done_ok}
 use Rattle.thread_table.specs.declared.rule.View.{View}
 use Rattle.thread_table.specs.declared.rule.Counted.{Counted}
 use Rattle.thread_table.specs.Schedules.{Grows, thread_at}
-use Rattle.thread_table.specs.Shown.{WordsShow, LineShows, StateShows, state_place, done_place, seat_place, head_place, tail_place, item_place}
+use Rattle.thread_table.specs.Shown.{WordsShow, LineShows, StateShows, state_word, done_word, seat_word, head_word, tail_word, place_word}
 use Rattle.thread_table.specs.Rules.{HandIs, IsClaimed, IsCounted, may_step}
 use Rattle.thread_table.proofs.Effects.{Leaves, Effect, Ready, StopEffect, SignalEffect, DeliverEffect, DoneEffect}
 use Rattle.thread_table.specs.Views.{quiet}
@@ -88,71 +88,71 @@ line_else first e line element new words place word before shows = record {
   single = shows.single;
   small = shows.small;
   marked = shows.marked;
-  head = word_else words place (head_place line) word (λ is. omega arith) ∙ shows.head;
-  tail = word_else words place (tail_place line) word (λ is. omega arith) ∙ shows.tail;
+  head = word_else words place (head_word line) word (λ is. omega arith) ∙ shows.head;
+  tail = word_else words place (tail_word line) word (λ is. omega arith) ∙ shows.tail;
   places = λ run from to.
-      let same = word_else words place (item_place line (first + run)) word (λ is. omega arith) in
+      let same = word_else words place (place_word line (first + run)) word (λ is. omega arith) in
       let h = shows.places run from to in
       record { up = λ up. same ∙ h.up up; low = λ low. subst (λ n. n < 256 * (first + run + 1)) (sym same) (h.low low) };
 }
 
 -- the words after one thread's state changed
 state_shown : (first : ℕ) (e : Elements) (words : List ℕ) (element word : ℕ) (new : Thread) → element < 64 → WordsShow first e words
-    → new.done ≡ (thread_at e element).done → StateShows new word → WordsShow first (with_thread e element new) (set words (state_place element) word)
+    → new.done ≡ (thread_at e element).done → StateShows new word → WordsShow first (with_thread e element new) (set words (state_word element) word)
 state_shown first e words element word new known shows steps state =
     let below : element < length e.threads = subst (λ n. element < n) (sym shows.threads) known in
-    let here : get_or (set words (state_place element) word) (state_place element) 0 ≡ word =
-    get_or-set_same words (state_place element) word 0 (subst (λ n. state_place element < n) (sym shows.wide) (omega arith)) in
+    let here : get_or (set words (state_word element) word) (state_word element) 0 ≡ word =
+    get_or-set_same words (state_word element) word 0 (subst (λ n. state_word element < n) (sym shows.wide) (omega arith)) in
     record {
-      wide = length-set words (state_place element) word ∙ shows.wide;
+      wide = length-set words (state_word element) word ∙ shows.wide;
       threads = length-set e.threads element new ∙ shows.threads;
       queues = shows.queues;
       waits = shows.waits;
       processors = shows.processors;
-      seats = λ p is. word_else words (state_place element) (seat_place p) word (λ same. omega arith) ∙ shows.seats p is;
-      states = λ x is. each_thread (λ n thread. StateShows thread (get_or (set words (state_place element) word) (state_place n) 0)) e element x new below
+      seats = λ p is. word_else words (state_word element) (seat_word p) word (λ same. omega arith) ∙ shows.seats p is;
+      states = λ x is. each_thread (λ n thread. StateShows thread (get_or (set words (state_word element) word) (state_word n) 0)) e element x new below
           (subst (StateShows new) (sym here) state)
-          (λ differ. subst (StateShows (thread_at e x)) (sym (word_else words (state_place element) (state_place x) word (λ same. differ (omega arith)))) (shows.states x is));
-      steps = λ x is. word_else words (state_place element) (done_place x) word (λ same. omega arith)
+          (λ differ. subst (StateShows (thread_at e x)) (sym (word_else words (state_word element) (state_word x) word (λ same. differ (omega arith)))) (shows.states x is));
+      steps = λ x is. word_else words (state_word element) (done_word x) word (λ same. omega arith)
           ∙ (shows.steps x is ∙ each_thread (λ n thread. (thread_at e n).done ≡ thread.done) e element x new below (sym steps) (λ differ. refl));
       few = λ x is. each_thread (λ n thread. thread.done < 4294967296) e element x new below
           (subst (λ n. n < 4294967296) (sym steps) (shows.few element known)) (λ differ. shows.few x is);
-      lines = λ line is. line_else first e line element new words (state_place element) word (omega arith) (shows.lines line is);
+      lines = λ line is. line_else first e line element new words (state_word element) word (omega arith) (shows.lines line is);
     }
 
 -- the words after one thread did a step
 done_shown : (first : ℕ) (e : Elements) (words : List ℕ) (element count : ℕ) → element < 64 → WordsShow first e words
     → (thread_at e element).done ≡ count → count < 4294967295
-    → WordsShow first (with_thread e element (record (thread_at e element) { done = (thread_at e element).done + 1 })) (set words (done_place element) (count + 1))
+    → WordsShow first (with_thread e element (record (thread_at e element) { done = (thread_at e element).done + 1 })) (set words (done_word element) (count + 1))
 done_shown first e words element count known shows is_count room =
     let new : Thread = record (thread_at e element) { done = (thread_at e element).done + 1 } in
     let below : element < length e.threads = subst (λ n. element < n) (sym shows.threads) known in
-    let here : get_or (set words (done_place element) (count + 1)) (done_place element) 0 ≡ count + 1 =
-    get_or-set_same words (done_place element) (count + 1) 0 (subst (λ n. done_place element < n) (sym shows.wide) (omega arith)) in
-    let state : StateShows (thread_at e element) (get_or words (state_place element) 0) = shows.states element known in
-    let same : (x : ℕ) → x < 64 → get_or (set words (done_place element) (count + 1)) (state_place x) 0 ≡ get_or words (state_place x) 0 =
-    λ x is. word_else words (done_place element) (state_place x) (count + 1) (λ eq. omega arith) in
+    let here : get_or (set words (done_word element) (count + 1)) (done_word element) 0 ≡ count + 1 =
+    get_or-set_same words (done_word element) (count + 1) 0 (subst (λ n. done_word element < n) (sym shows.wide) (omega arith)) in
+    let state : StateShows (thread_at e element) (get_or words (state_word element) 0) = shows.states element known in
+    let same : (x : ℕ) → x < 64 → get_or (set words (done_word element) (count + 1)) (state_word x) 0 ≡ get_or words (state_word x) 0 =
+    λ x is. word_else words (done_word element) (state_word x) (count + 1) (λ eq. omega arith) in
     record {
-      wide = length-set words (done_place element) (count + 1) ∙ shows.wide;
+      wide = length-set words (done_word element) (count + 1) ∙ shows.wide;
       threads = length-set e.threads element new ∙ shows.threads;
       queues = shows.queues;
       waits = shows.waits;
       processors = shows.processors;
-      seats = λ p is. word_else words (done_place element) (seat_place p) (count + 1) (λ eq. omega arith) ∙ shows.seats p is;
-      states = λ x is. each_thread (λ n thread. n < 64 → StateShows thread (get_or (set words (done_place element) (count + 1)) (state_place n) 0)) e element x new below
+      seats = λ p is. word_else words (done_word element) (seat_word p) (count + 1) (λ eq. omega arith) ∙ shows.seats p is;
+      states = λ x is. each_thread (λ n thread. n < 64 → StateShows thread (get_or (set words (done_word element) (count + 1)) (state_word n) 0)) e element x new below
           (λ low. subst (StateShows new) (sym (same element low)) (record { small = state.small; pending = state.pending; stop = state.stop; parked = state.parked }))
           (λ differ low. subst (StateShows (thread_at e x)) (sym (same x low)) (shows.states x low)) is;
-      steps = λ x is. each_thread (λ n thread. get_or (set words (done_place element) (count + 1)) (done_place n) 0 ≡ thread.done) e element x new below
+      steps = λ x is. each_thread (λ n thread. get_or (set words (done_word element) (count + 1)) (done_word n) 0 ≡ thread.done) e element x new below
           (here ∙ ap (λ n. n + 1) (sym is_count))
-          (λ differ. word_else words (done_place element) (done_place x) (count + 1) (λ eq. differ (omega arith)) ∙ shows.steps x is);
+          (λ differ. word_else words (done_word element) (done_word x) (count + 1) (λ eq. differ (omega arith)) ∙ shows.steps x is);
       few = λ x is. each_thread (λ n thread. thread.done < 4294967296) e element x new below (omega (arith, is_count, room)) (λ differ. shows.few x is);
-      lines = λ line is. line_else first e line element new words (done_place element) (count + 1) (omega arith) (shows.lines line is);
+      lines = λ line is. line_else first e line element new words (done_word element) (count + 1) (omega arith) (shows.lines line is);
     }
 
 -- the effect of an event that changes one thread's state
 state_effect : (id : ℕ) (v : View) (first : ℕ) (event : Elements → Result Elements Refusal) (e : Elements) (words : List ℕ) (element word : ℕ) (new : Thread)
     → Ready id v first e words → v.claimed ≡ None → element < 64 → event e ≡ Ok (with_thread e element new) → new.done ≡ (thread_at e element).done → StateShows new word
-    → Effect id v (quiet v) first event e (set words (state_place element) word)
+    → Effect id v (quiet v) first event e (set words (state_word element) word)
 state_effect id v first event e words element word new ready free known goes steps state = record {
   f = with_thread e element new;
   goes = goes;
@@ -167,21 +167,21 @@ stop_effect id v first e words element ready free known =
     let old : Thread = thread_at e element in
     state_effect id v first (stop element) e words element _ (record old { stop = true }) ready free known
     (changed element _ e old _ (found e element ready.shows.threads known) refl) refl
-    (stop_shows old (get_or words (state_place element) 0) (ready.shows.states element known))
+    (stop_shows old (get_or words (state_word element) 0) (ready.shows.states element known))
 
 pub signal_effect : SignalEffect
 signal_effect id v first e words element number ready free known small =
     let old : Thread = thread_at e element in
     state_effect id v first (signal element number) e words element _ (record old { pending = with_number true number old.pending }) ready free known
     (changed element _ e old _ (found e element ready.shows.threads known) refl) refl
-    (signal_shows old (get_or words (state_place element) 0) number small (ready.shows.states element known))
+    (signal_shows old (get_or words (state_word element) 0) number small (ready.shows.states element known))
 
 pub deliver_effect : DeliverEffect
 deliver_effect id v first e words element ready free known mine =
     let old : Thread = thread_at e element in
     state_effect id v first (deliver id element) e words element _ (record old { pending = λ signal. false }) ready free known
     (delivered_ok id element e old (found e element ready.shows.threads known) (ready.hand.held element ∙ mine)) refl
-    (deliver_shows old (get_or words (state_place element) 0) (ready.shows.states element known))
+    (deliver_shows old (get_or words (state_word element) 0) (ready.shows.states element known))
 
 pub done_effect : DoneEffect
 done_effect id v first e words element count ready free counts room =

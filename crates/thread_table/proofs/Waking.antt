@@ -1,5 +1,5 @@
 -- Waking all that wait: the elements of the mask were taken since the notify, and weren't held before.
-use Rattle.std.proofs.Common.{◌≡◌, ◌≢◌, ◌⊎◌, inl, inr, ℕ, ◌+◌, ◌*◌, ◌^◌, ◌<◌, ◌≤◌, Bool, true, false, ◌||◌, List, [], ◌∷◌, ◌∙◌, ◌%◌, length, take, get_or, Err, refl, sym, ap, subst, arith, eqb}
+use Rattle.std.proofs.Common.{append-nil, append_assoc, ⊎_elim, ◌≡◌, ◌≢◌, ◌⊎◌, inl, inr, ℕ, ◌+◌, ◌*◌, ◌^◌, ◌<◌, ◌≤◌, Bool, true, false, ◌||◌, List, [], ◌∷◌, ◌++◌, ◌∙◌, ◌%◌, length, take, get_or, Ok, Err, Result, refl, sym, ap, subst, arith, eqb}
 use Rattle.std.proofs.Math.ListN.{get_or-eq_default}
 use Rattle.std.proofs.Math.Pow.{pow-lt}
 use Rattle.std.proofs.lemmas.Bool.{cases_lt}
@@ -12,26 +12,48 @@ use Rattle.quaject_core.specs.Queues.{Queue, left, empty_queue}
 use Rattle.quaject_core.specs.Elements.{Elements, holds}
 use Rattle.quaject_core.specs.Appearances.{appearances, in_list}
 use Rattle.quaject_core.specs.Lawful.{IsLawfulElements}
+use Rattle.quaject_core.specs.declared.event.Event.{Event}
+use Rattle.quaject_core.specs.declared.event.Event.TheVariants as events
 use Rattle.quaject_core.proofs.Places.{one, in_hands}
 use Rattle.thread_table.specs.declared.rule.View.{View}
 use Rattle.thread_table.specs.declared.takings.NextRefusal.{NextRefusal}
 use Rattle.thread_table.specs.declared.takings.NextRefusal.TheVariants as nexts
-use Rattle.thread_table.specs.Schedules.{elements_after, Begins, line_at}
-use Rattle.thread_table.specs.Shown.{tail_word}
+use Rattle.thread_table.specs.Schedules.{elements_after, Begins, line_at, line_name, element_at, state_after}
+use Rattle.thread_table.specs.Shown.{tail_shown, tail_word}
 use Rattle.thread_table.specs.Rules.{has}
-use Rattle.thread_table.specs.Steps.{Notifies}
-use Rattle.thread_table.specs.Answers.{Looked, TookFirst, TakeAnswer, WokeAll, is_in}
-use Rattle.thread_table.proofs.Following.{begins_trans, did_later}
+use Rattle.thread_table.specs.Steps.{Found, Notifies, made_by}
+use Rattle.thread_table.specs.Answers.{TookFirst, TakeAnswer, is_in, head_in}
+use Rattle.thread_table.specs.Wakes.{Tried, Tries, taken_in, is_among, holding_as, AreTakesOf, WokeAll}
+use Rattle.thread_table.specs.declared.rule.Made.{Made}
+use Rattle.thread_table.specs.Makers.{made_in}
+use Rattle.table_theory.proofs.Owned.{at_push}
+use mathlib.Core.Option.{some-ne-none}
+use Rattle.thread_table.specs.Views.{with_held}
+use Rattle.thread_table.proofs.Following.{Looked, seen_as, found_looked, looked_on, begins_trans, did_later}
+use Rattle.thread_table.proofs.Answering.{word_parts}
+use Rattle.thread_table.proofs.QueueSteps.{found_tail}
 use Rattle.thread_table.proofs.Rooms.{unheld}
 use Rattle.thread_table.proofs.Schedules.{begins_refl}
 use Rattle.thread_table.proofs.StateBits.{bit_set_here, bit_set_other}
 
+-- what changes for the hand while it wakes
+abbrev held_as : View → View → View
+held_as u w = record (holding_as u w) { fresh = w.fresh }
+
 -- since the view u the hand took the elements of the mask, none of which it held then
-pub record Woken (u : View) (mask : ℕ) (w : View) : Type 0 where
+pub record Woken (call line : ℕ) (u : View) (mask : ℕ) (w : View) : Type 0 where
   pub later : Begins u.schedule w.schedule
   pub first : w.first ≡ u.first
+  pub same : w ≡ held_as u w
+  pub made : (l : List Made) × (w.made ≡ u.made ++ l) × AreTakesOf call line l
   pub holds : (e : ℕ) → e < 64 → has w e ≡ (has u e || is_in mask e)
   pub woken : (e : ℕ) → e < 64 → is_in mask e ≡ true → has u e ≡ false
+
+-- by these tries
+pub record Rounds (call line head : ℕ) (u : View) (mask : ℕ) (w : View) : Type 0 where
+  pub answers : List (Result ℕ NextRefusal)
+  pub tries : Tries call line head u answers w
+  pub mask_is : (e : ℕ) → e < 64 → is_in mask e ≡ is_among (taken_in answers) e
 
 or_none : (b : Bool) → b ≡ (b || false)
 or_none true = refl
@@ -65,18 +87,52 @@ in_by mask n e (inr other) = ap (λ k. eqb k 1) (bit_set_other mask n e other.1)
 in_more : (mask n e : ℕ) → is_in (bit_or mask (2 ^ n)) e ≡ (is_in mask e || eqb e n)
 in_more mask n e = in_by mask n e (eqb_tells e n)
 
+-- a view that is another with what it holds
+as_held : (u w x : View) → w ≡ x → x ≡ held_as u x → w ≡ held_as u w
+as_held u w x is at = is ∙ (at ∙ sym (ap (held_as u) is))
+
 -- the hand has taken nothing
-pub woken_none : (u : View) → Woken u 0 u
-woken_none u = record {
+pub woken_none : (call line : ℕ) (u : View) → Woken call line u 0 u
+woken_none call line u = record {
+  same = refl;
+  made = ([], sym (append-nil u.made), λ m x has. absurd (some-ne-none x (sym has)));
   later = begins_refl u.schedule;
   first = refl;
   holds = λ e below. or_none (has u e) ∙ ap (λ b. has u e || b) (sym (none_in e));
   woken = λ e below up. absurd (let n = none_in e in cc);
 }
 
+pub rounds_none : (call line head : ℕ) (u : View) → Rounds call line head u 0 u
+rounds_none call line head u = record { answers = []; tries = refl; mask_is = λ e below. none_in e }
+
+-- one try more
+tries_more : (call line head : ℕ) (u v w : View) (answers : List (Result ℕ NextRefusal)) (answer : Result ℕ NextRefusal) → Tries call line head u answers v → Tried call line head v answer w → Tries call line head u (answers ++ answer ∷ []) w
+tries_more call line head u v w [] answer before now = (w, subst (λ (z : View). Tried call line head z answer w) before now, refl)
+tries_more call line head u v w (x ∷ xs) answer before now = (before.0, before.1, tries_more call line head before.0 v w xs answer before.2 now)
+
+among_ok : (answers : List (Result ℕ NextRefusal)) (x e : ℕ) → is_among (taken_in (answers ++ Ok x ∷ [])) e ≡ (is_among (taken_in answers) e || eqb e x)
+among_ok [] x e = sym (or_none (eqb e x))
+among_ok (Ok y ∷ answers) x e = ap (λ b. eqb e y || b) (among_ok answers x e) ∙ sym (or_more (eqb e y) (is_among (taken_in answers) e) (eqb e x))
+among_ok (Err r ∷ answers) x e = among_ok answers x e
+
+among_err : (answers : List (Result ℕ NextRefusal)) (r : NextRefusal) (e : ℕ) → is_among (taken_in (answers ++ Err r ∷ [])) e ≡ is_among (taken_in answers) e
+among_err [] r e = refl
+among_err (Ok y ∷ answers) r e = ap (λ b. eqb e y || b) (among_err answers r e)
+among_err (Err x ∷ answers) r e = among_err answers r e
+
+-- the tail was found below the head, and then the hand took nothing
+pub rounds_missed : (call line head tail : ℕ) (u l v w : View) (mask : ℕ) (r : NextRefusal) → Rounds call line head u mask l → Found l (tail_word line) tail v → tail < head → TakeAnswer call v line (Err r) w → Rounds call line head u mask w
+rounds_missed call line head tail u l v w mask r past found below answer = record {
+  answers = past.answers ++ Err r ∷ [];
+  tries = tries_more call line head u l w past.answers (Err r) past.tries record { tail = tail; before = v; tail_loaded = found; below = below; taken = answer };
+  mask_is = λ e known. past.mask_is e known ∙ sym (among_err past.answers r e);
+}
+
 -- the hand looked
-pub woken_looked : (u v w : View) (mask : ℕ) → Woken u mask v → Looked v w → Woken u mask w
-woken_looked u v w mask past now = record {
+pub woken_looked : (call line : ℕ) (u v w : View) (mask : ℕ) → Woken call line u mask v → Looked v w → Woken call line u mask w
+woken_looked call line u v w mask past now = record {
+  same = as_held u w (seen_as (held_as u v) w) (now.same ∙ ap (λ (z : View). seen_as z w) past.same) refl;
+  made = (past.made.0, ap (λ (z : View). z.made) now.same ∙ past.made.1, past.made.2);
   later = begins_trans u.schedule v.schedule w.schedule past.later now.sees.seen.schedule;
   first = ap (λ (z : View). z.first) now.same ∙ past.first;
   holds = λ e below. ap (λ (z : View). has z e) now.same ∙ past.holds e below;
@@ -110,25 +166,42 @@ first_unheld call element line e lawful is = unheld call element e.held (by (cas
     by (inl below) = let o : appearances element e ≡ 1 = lawful.once element below in omega (arith, o, in_line element line e is)
     by (inr past) = let o : appearances element e ≡ 0 = lawful.known element past in omega (arith, o)
 
+-- what a hand that took had looked at
+took_looked : (call line element : ℕ) (v w : View) (t : TookFirst call v line element w) → Looked v t.before
+took_looked call line element v w t = looked_on v t.found.loaded t.before (found_looked _ _ _ _ t.found.tail_loaded) (found_looked _ _ _ _ t.found.place_loaded)
+
 -- the element that was taken wasn't held
 took_unheld : (call line element : ℕ) (v w : View) → TookFirst call v line element w → has v element ≡ false
 took_unheld call line element v w t = let d = t.took.did in
-    ap (λ (z : View). has z element) (sym t.looked.same) ∙ (sym (d.hand.held element) ∙ first_unheld call element line (elements_after d.before) d.sees.lawful t.oldest)
+    ap (λ (z : View). has z element) (sym (took_looked call line element v w t).same) ∙ (sym (d.hand.held element) ∙ first_unheld call element line (elements_after d.before) d.sees.lawful t.oldest)
 
 -- a bit that is shifted to its place is whole
 one_bit : (n : ℕ) → n < 64 → 2 ^ n ≡ 1 * 2 ^ n % 18446744073709551616
 one_bit n below = let m : 2 ^ n < 18446744073709551616 = pow-lt {i = n} {j = 64} below in omega arith
 
-took_more : (call line element : ℕ) (u v w : View) (mask : ℕ) → element < 64 → Woken u mask v → TookFirst call v line element w → Woken u (bit_or mask (2 ^ element)) w
+-- what a taking makes of a view
+abbrev took_from : ℕ → ℕ → ℕ → List Event → View → View
+took_from call line tail before z =
+    made_by (with_held z (element_at (line_at (elements_after before) line) (line_at (elements_after before) line).taken) true) (tail_word line) tail before (events.Take call (line_name line) 1)
+
+took_more : (call line element : ℕ) (u v w : View) (mask : ℕ) → element < 64 → Woken call line u mask v → TookFirst call v line element w → Woken call line u (bit_or mask (2 ^ element)) w
 took_more call line element u v w mask small past t = record {
+  same = as_held u w (took_from call line t.tail t.took.did.before (seen_as (held_as u v) t.before)) (t.took.did.same ∙ ap (took_from call line t.tail t.took.did.before) (t_looked.same ∙ ap (λ (z : View). seen_as z t.before) past.same)) refl;
+  made = (past.made.0 ++ one, ap (λ (z : View). z.made) t.took.did.same ∙ (ap (λ (z : View). z.made ++ one) t_looked.same ∙ (ap (λ (l : List Made). l ++ one) past.made.1 ∙ append_assoc u.made past.made.0 one)), λ m x has. ⊎_elim (λ h. past.made.2 m x h) (λ h. ap (λ (z : Made). z.event) (sym h.1)) (at_push past.made.0 (made_in (events.Take call (line_name line) 1) (state_after t.took.did.before)) x m has));
   later = begins_trans u.schedule v.schedule w.schedule past.later
-      (begins_trans v.schedule t.before.schedule w.schedule t.looked.sees.seen.schedule (did_later _ _ _ _ _ t.took.did));
-  first = ap (λ (z : View). z.first) t.took.did.same ∙ (ap (λ (z : View). z.first) t.looked.same ∙ past.first);
+      (begins_trans v.schedule t.before.schedule w.schedule t_looked.sees.seen.schedule (did_later _ _ _ _ _ _ _ t.took.did));
+  first = ap (λ (z : View). z.first) t.took.did.same ∙ (ap (λ (z : View). z.first) t_looked.same ∙ past.first);
   holds = λ e below. t.holds e ∙ (ap (λ b. b || eqb e element) (past.holds e below)
       ∙ (or_more (has u e) (is_in mask e) (eqb e element) ∙ ap (λ b. has u e || b) (sym (in_more mask element e))));
   woken = λ e below up. by e below (either_of (is_in mask e) (eqb e element) (sym (in_more mask element e) ∙ up)) (eqb_tells e element);
 }
   where
+    t_looked : Looked v t.before
+    t_looked = took_looked call line element v w t
+
+    one : List Made
+    one = made_in (events.Take call (line_name line) 1) (state_after t.took.did.before) ∷ []
+
     new : has u element ≡ false
     new = neither (has u element) (is_in mask element) (sym (past.holds element small) ∙ took_unheld call line element v w t)
 
@@ -138,28 +211,53 @@ took_more call line element u v w mask small past t = record {
     by e below (inr is) (inr other) = absurd (let o = other.0 in cc)
 
 -- the hand took one more
-pub woken_took : (call line element number : ℕ) (u v w : View) (mask : ℕ) → number ≡ element → number < 64 → Woken u mask v → TookFirst call v line element w
-    → Woken u (bit_or mask (1 * 2 ^ number % 18446744073709551616)) w
+pub woken_took : (call line element number : ℕ) (u v w : View) (mask : ℕ) → number ≡ element → number < 64 → Woken call line u mask v → TookFirst call v line element w
+    → Woken call line u (bit_or mask (1 * 2 ^ number % 18446744073709551616)) w
 woken_took call line element number u v w mask is small past t =
-    subst (λ k. Woken u (bit_or mask k) w) (one_bit number small) (took_more call line number u v w mask small past (subst (λ k. TookFirst call v line k w) (sym is) t))
+    subst (λ k. Woken call line u (bit_or mask k) w) (one_bit number small) (took_more call line number u v w mask small past (subst (λ k. TookFirst call v line k w) (sym is) t))
+
+pub rounds_took : (call line head tail element number : ℕ) (u l v w : View) (mask : ℕ) → number ≡ element → number < 64 → Rounds call line head u mask l → Found l (tail_word line) tail v → tail < head → TookFirst call v line element w
+    → Rounds call line head u (bit_or mask (1 * 2 ^ number % 18446744073709551616)) w
+rounds_took call line head tail element number u l v w mask is small past found below t =
+    subst (λ k. Rounds call line head u (bit_or mask k) w) (one_bit number small) record {
+      answers = past.answers ++ Ok number ∷ [];
+      tries = tries_more call line head u l w past.answers (Ok number) past.tries record { tail = tail; before = v; tail_loaded = found; below = below; taken = subst (λ k. TookFirst call v line k w) (sym is) t };
+      mask_is = λ e known. in_more mask number e ∙ (ap (λ b. b || eqb e number) (past.mask_is e known) ∙ sym (among_ok past.answers number e));
+    }
 
 -- the hand took nothing
-pub woken_missed : (call line : ℕ) (u v w : View) (mask : ℕ) (r : NextRefusal) → Woken u mask v → TakeAnswer call v line (Err r) w → Woken u mask w
-woken_missed call line u v w mask nexts.NoneReady past answer = woken_looked u v w mask past answer.0
-woken_missed call line u v w mask (nexts.Lost seen) past answer = woken_looked u v w mask past answer.0
+pub woken_missed : (call line : ℕ) (u v w : View) (mask : ℕ) (r : NextRefusal) → Woken call line u mask v → TakeAnswer call v line (Err r) w → Woken call line u mask w
+woken_missed call line u v w mask nexts.NoneReady past a = woken_looked call line u v w mask past
+    (looked_on v a.before w (looked_on v a.found.loaded a.before (found_looked _ _ _ _ a.found.tail_loaded) (found_looked _ _ _ _ a.found.place_loaded)) (found_looked _ _ _ _ a.tail_again))
+woken_missed call line u v w mask (nexts.Lost seen) past answer = woken_looked call line u v w mask past (⊎_elim
+    (λ a. looked_on v a.before w (looked_on v a.found.loaded a.before (found_looked _ _ _ _ a.found.tail_loaded) (found_looked _ _ _ _ a.found.place_loaded)) (found_looked _ _ _ _ a.tail_again))
+    (λ a. looked_on v a.before w (looked_on v a.found.loaded a.before (found_looked _ _ _ _ a.found.tail_loaded) (found_looked _ _ _ _ a.found.place_loaded)) (found_looked _ _ _ _ a.missed))
+    answer)
 
 -- the notify, and then all that was claimed before it was taken
 pub woke_all : (call wait line word head mark tail mask : ℕ) (v u l w : View) → wait < 16 → line ≡ wait + 2 → Notifies call wait v word u → word ≡ head + mark * 4294967296 → head < 4294967296
-    → Woken u mask l → Looked l w → tail ≡ tail_word l.first (elements_after w.schedule) line → head ≤ tail → WokeAll call v wait mask w
-woke_all call wait line word head mark tail mask v u l w few at n is small before seen tail_is reached = let past = woken_looked u l w mask before seen in record {
-  found = word;
-  after = u;
-  notified = n;
-  later = past.later;
-  all = omega (arith, few, is, small, reached, tail_is ∙ ap (λ k. tail_word l.first (elements_after w.schedule) k) at, (n.did.sees.shows.lines (wait + 2) (omega arith)).small, n.is, before.first, ap (λ (z : View). z.first) n.did.same);
-  holds = λ e below. past.holds e below ∙ ap (λ b. b || is_in mask e) (has_same e);
-  woken = λ e below up. sym (has_same e) ∙ past.woken e below up;
-}
+    → Woken call line u mask l → Rounds call line head u mask l → Found l (tail_word line) tail w → head ≤ tail → WokeAll call v wait mask w
+woke_all call wait line word head mark tail mask v u l w few at n is small before rounds found reached =
+    let seen = found_looked l w _ _ found in let past = woken_looked call line u l w mask before seen in
+    let now : Found l (tail_word (wait + 2)) tail w = subst (λ k. Found l (tail_word k) tail w) at found in
+    let tail_is : tail ≡ tail_shown l.first (elements_after w.schedule) (wait + 2) = found_tail l w tail (wait + 2) (omega arith) now in
+    let head_is : head_in word ≡ head = (word_parts word head mark is small).0 in record {
+      made = subst (λ k. (m : List Made) × (w.made ≡ u.made ++ m) × AreTakesOf call k m) at past.made;
+      same = past.same ∙ (ap (λ (b : Bool). let x : View = record (holding_as u w) { fresh = b } in x) (ap (λ (z : View). z.fresh) seen.same) ∙ ap (λ (z : View). holding_as z w) n.did.same);
+      word = word;
+      notified = u;
+      notifies = n;
+      answers = rounds.answers;
+      tried = l;
+      tries = subst (λ k. Tries call k (head_in word) u rounds.answers l) at (subst (λ k. Tries call line k u rounds.answers l) (sym head_is) rounds.tries);
+      tail = tail;
+      tail_loaded = now;
+      reached = omega arith;
+      mask_is = rounds.mask_is;
+      all = omega (arith, few, is, small, reached, tail_is, (n.did.sees.shows.lines (wait + 2) (omega arith)).small, n.is, before.first, ap (λ (z : View). z.first) n.did.same);
+      holds = λ e below. past.holds e below ∙ ap (λ b. b || is_in mask e) (has_same e);
+      woken = λ e below up. sym (has_same e) ∙ past.woken e below up;
+    }
   where
     has_same : (e : ℕ) → has u e ≡ has v e
     has_same e = ap (λ (z : View). has z e) n.did.same

@@ -1,7 +1,6 @@
--- What a look tells.
-use Rattle.std.specs.Prelude.{◌≡◌, ◌≢◌, ◌+◌, ◌/◌, ◌%◌, ◌<◌, ◌≤◌, ◌==◌, ◌||◌, ℕ, zero, suc, if◌then◌else◌, Bool}
-use Rattle.std.specs.Prelude.{true, false, List, [], ◌∷◌}
-use Rattle.std.specs.Prelude.{length, take, Result, Ok, Err, not}
+-- What the calls answer, by the steps that they made.
+use Rattle.std.specs.Prelude.{◌≡◌, ◌≢◌, ◌⊎◌, ◌+◌, ◌/◌, ◌%◌, ◌<◌, ◌==◌, ◌||◌, ℕ, zero, suc, if◌then◌else◌, Bool}
+use Rattle.std.specs.Prelude.{true, false, List, [], ◌∷◌, length, take, Result, Ok, Err, not}
 use Rattle.std.specs.Int.{bit_at}
 use Rattle.quaject_core.specs.Queues.{left}
 use Rattle.quaject_core.specs.declared.event.Event.{Event}
@@ -17,180 +16,251 @@ use Rattle.thread_table.specs.declared.states.Signalled.{Signalled}
 use Rattle.thread_table.specs.declared.states.Signalled.TheVariants as signalled
 use Rattle.thread_table.specs.declared.states.Lost.{Lost}
 use Rattle.thread_table.specs.declared.programs.Spent.{Spent}
-use Rattle.thread_table.specs.Schedules.{elements_after, IsAllowed, Begins, line_at, thread_at, element_at}
-use Rattle.thread_table.specs.Shown.{StateShows, head_word, tail_word, mark_of}
+use Rattle.thread_table.specs.Schedules.{elements_after, line_at, thread_at}
+use Rattle.thread_table.specs.Shown.{head_word, tail_word, place_word, state_word, tail_shown, mark_of}
 use Rattle.thread_table.specs.Rules.{has}
-use Rattle.thread_table.specs.Steps.{looked, Sees, Claims, claim_event, Raises, Takes, Notifies, Marks, Parks, Starts}
-use Rattle.thread_table.specs.Steps.{Delivers, Counts, Steps}
+use Rattle.thread_table.specs.Steps.{Found, Claims, claim_event, Raises, Takes, Marks, Parks, Starts, Delivers}
+use Rattle.thread_table.specs.Steps.{Counts, Steps}
 
--- the hand has seen the table as it was at a step, and nothing else changed for it
-pub record Looked (v w : View) : Type 0 where
-  pub same : w ≡ looked v w.schedule
-  pub sees : Sees v w.schedule
+-- The tail was loaded, and then the place at it
+pub record FoundFirst (v : View) (line tail place : ℕ) (w : View) : Type 0 where
+  pub loaded : View
+  pub tail_loaded : Found v (tail_word line) tail loaded
+  pub place_loaded : Found loaded (place_word line tail) place w
 
--- The place at the tail that the hand had seen was found. Where it shows one more than that position, the run is
--- raised, and while it isn't taken, the word has its element; else the run, while it isn't taken, isn't raised
-pub record Peeked (v : View) (line found : ℕ) (w : View) : Type 0 where
-  pub up : found / 256 ≡ v.first + (line_at (elements_after v.schedule) line).taken + 1
-      → (line_at (elements_after w.schedule) line).raised (line_at (elements_after v.schedule) line).taken 0 ≡ true
-  pub item : found / 256 ≡ v.first + (line_at (elements_after v.schedule) line).taken + 1
-      → (line_at (elements_after w.schedule) line).taken ≤ (line_at (elements_after v.schedule) line).taken
-      → found % 256
-      ≡ element_at (line_at (elements_after w.schedule) line) (line_at (elements_after v.schedule) line).taken
-  pub low : found / 256 ≢ v.first + (line_at (elements_after v.schedule) line).taken + 1
-      → (line_at (elements_after w.schedule) line).taken ≤ (line_at (elements_after v.schedule) line).taken
-      → (line_at (elements_after w.schedule) line).raised (line_at (elements_after v.schedule) line).taken 0 ≡ false
-
--- the state word shows the element as it was when the hand last looked
-abbrev pub StateIs : ℕ → ℕ → View → Type 0
-StateIs element word w = StateShows (thread_at (elements_after w.schedule) element) word
-
--- at a step between the views v and w this was the schedule
-pub record Between (v : View) (schedule : List Event) (w : View) : Type 0 where
-  pub allowed : IsAllowed schedule
-  pub later : Begins v.schedule schedule
-  pub earlier : Begins schedule w.schedule
-
--- The hand looked, and then took the oldest element of the queue, which it then holds
+-- The place at the tail was raised, and then the tail was exchanged, and was still that one. The element of the place
+-- was the oldest of the queue, and the hand holds it
 pub record TookFirst (call : ℕ) (v : View) (line element : ℕ) (w : View) : Type 0 where
-  pub before : View
-  pub looked : Looked v before
   pub tail : ℕ
+  pub place : ℕ
+  pub before : View
+  pub found : FoundFirst v line tail place before
+  pub raised : place / 256 ≡ tail + 1
+  pub element_is : element ≡ place % 256
   pub took : Takes call line tail before w
   pub oldest : take 1 (left (line_at (elements_after took.did.before) line)) ≡ element ∷ []
   pub holds : (e : ℕ) → has w e ≡ (has v e || e == element)
 
--- at a step the place at the tail wasn't raised
+-- The place at the tail was not raised, and the tail was found again after that. So the run at the tail was not raised
+-- when the place was loaded
 pub record WasNotRaised (v : View) (line : ℕ) (w : View) : Type 0 where
-  pub schedule : List Event
-  pub was : Between v schedule w
-  pub low : (line_at (elements_after schedule) line).raised (line_at (elements_after schedule) line).taken 0 ≡ false
+  pub tail : ℕ
+  pub place : ℕ
+  pub before : View
+  pub found : FoundFirst v line tail place before
+  pub low : place / 256 ≢ tail + 1
+  pub tail_again : Found before (tail_word line) tail w
+  pub from : tail ≡ tail_shown v.first (elements_after before.schedule) line
+  pub unraised : (line_at (elements_after before.schedule) line).raised
+      (line_at (elements_after before.schedule) line).taken 0 ≡ false
 
--- the tail found at the end isn't the one found first
-pub record WasPassed (v : View) (line seen : ℕ) (w : View) : Type 0 where
-  pub schedule : List Event
-  pub was : Between v schedule w
-  pub differs : seen ≢ tail_word v.first (elements_after schedule) line
-  pub seen_is : seen ≡ tail_word v.first (elements_after w.schedule) line
+-- the place at the tail was not raised, and then another tail was found, past that one
+pub record PassedBefore (v : View) (line seen : ℕ) (w : View) : Type 0 where
+  pub tail : ℕ
+  pub place : ℕ
+  pub before : View
+  pub found : FoundFirst v line tail place before
+  pub low : place / 256 ≢ tail + 1
+  pub tail_again : Found before (tail_word line) seen w
+  pub past : tail < seen
 
+-- the place at the tail was raised, but the exchange found another tail, past that one
+pub record PassedMeanwhile (v : View) (line seen : ℕ) (w : View) : Type 0 where
+  pub tail : ℕ
+  pub place : ℕ
+  pub before : View
+  pub found : FoundFirst v line tail place before
+  pub raised : place / 256 ≡ tail + 1
+  pub missed : Found before (tail_word line) seen w
+  pub past : tail < seen
+
+-- the answer to a taking
 abbrev pub TakeAnswer : ℕ → View → ℕ → Result ℕ NextRefusal → View → Type 0
 TakeAnswer call v line (Ok element) w = TookFirst call v line element w
-TakeAnswer call v line (Err nexts.NoneReady) w = Looked v w × WasNotRaised v line w
-TakeAnswer call v line (Err (nexts.Lost seen)) w = Looked v w × WasPassed v line seen w
+TakeAnswer call v line (Err nexts.NoneReady) w = WasNotRaised v line w
+TakeAnswer call v line (Err (nexts.Lost seen)) w = PassedBefore v line seen w ⊎ PassedMeanwhile v line seen w
 
--- The hand looked, claimed the next place of the queue for an element that it held, and raised it
+-- the position, and the number of notifies, of a head word
+abbrev pub head_in : ℕ → ℕ
+head_in word = word % 4294967296
+
+abbrev pub mark_in : ℕ → ℕ
+mark_in word = word / 4294967296
+
+-- the head word was loaded, with a position left
+pub record FoundHead (v : View) (line word : ℕ) (w : View) : Type 0 where
+  pub loaded : Found v (head_word line) word w
+  pub positions : head_in word < 4294967295
+
+-- The hand found a position left, claimed it for an element that it held, by one exchange of the head word that it had
+-- loaded, and raised it. It holds the element no more
 pub record MovedTo (call : ℕ) (v : View) (line element : ℕ) (event : Event) (w : View) : Type 0 where
+  pub word : ℕ
   pub before : View
-  pub looked : Looked v before
-  pub head : ℕ
+  pub found : FoundHead v line word before
   pub between : View
-  pub claims : Claims call line element event head before between
-  pub raises : Raises call line (length (line_at (elements_after claims.did.before) line).history) between w
+  pub claims : Claims call line element event word before between
+  pub raises : Raises call line (length (line_at (elements_after claims.did.before) line).history) element between w
   pub gone : (e : ℕ) → has w e ≡ (if e == element then false else has v e)
 
--- the head was the last position
+-- the head that was loaded is the last position
 pub record WasSpent (v : View) (line : ℕ) (w : View) : Type 0 where
+  pub word : ℕ
+  pub loaded : Found v (head_word line) word w
+  pub spent : head_in word ≡ 4294967295
   pub at_end : v.first + length (line_at (elements_after w.schedule) line).history ≡ 4294967295
 
--- the head word found at the end isn't the one found first
+-- a position was left, but the exchange found another head word
 pub record WasOvertaken (v : View) (line seen : ℕ) (w : View) : Type 0 where
-  pub schedule : List Event
-  pub was : Between v schedule w
-  pub differs : seen ≢ head_word v.first (elements_after schedule) line
-  pub seen_is : seen ≡ head_word v.first (elements_after w.schedule) line
+  pub word : ℕ
+  pub before : View
+  pub found : FoundHead v line word before
+  pub missed : Found before (head_word line) seen w
+  pub differs : seen ≢ word
 
 -- the answer to a move without a ticket
 abbrev pub MoveAnswer : ℕ → View → ℕ → ℕ → Result (Unit {0}) MoveRefusal → View → Type 0
 MoveAnswer call v line element (Ok done) w = MovedTo call v line element (claim_event call line element) w
-MoveAnswer call v line element (Err moves.Spent) w = Looked v w × WasSpent v line w
-MoveAnswer call v line element (Err (moves.Lost seen)) w = Looked v w × WasOvertaken v line seen w
+MoveAnswer call v line element (Err moves.Spent) w = WasSpent v line w
+MoveAnswer call v line element (Err (moves.Lost seen)) w = WasOvertaken v line seen w
 MoveAnswer call v line element (Err (moves.Moved mark)) w = ⊥
+
+-- the number of notifies was loaded
+pub record IsTicket (v : View) (wait ticket : ℕ) (w : View) : Type 0 where
+  pub word : ℕ
+  pub loaded : Found v (head_word (wait + 2)) word w
+  pub is : ticket ≡ mark_in word
+  pub marked : ticket ≡ mark_of (elements_after w.schedule) (wait + 2)
+
+-- the hand moved, and the head word had the ticket
+pub record WaitedAt (call : ℕ) (v : View) (wait element ticket : ℕ) (w : View) : Type 0 where
+  pub moved : MovedTo call v (wait + 2) element (events.WaitAt call wait element ticket) w
+  pub is : mark_in moved.word ≡ ticket
+
+-- a position was left, and the number of notifies was this one, not the ticket
+pub record MovedBefore (v : View) (wait ticket mark : ℕ) (w : View) : Type 0 where
+  pub word : ℕ
+  pub found : FoundHead v (wait + 2) word w
+  pub mark_is : mark ≡ mark_in word
+  pub differs : mark ≢ ticket
+
+-- A position was left, and the number of notifies was the ticket, but the exchange found this other one
+pub record MovedMeanwhile (v : View) (wait ticket mark : ℕ) (w : View) : Type 0 where
+  pub word : ℕ
+  pub before : View
+  pub found : FoundHead v (wait + 2) word before
+  pub was : mark_in word ≡ ticket
+  pub seen : ℕ
+  pub missed : Found before (head_word (wait + 2)) seen w
+  pub mark_is : mark ≡ mark_in seen
+  pub differs : mark ≢ ticket
+
+-- a position was left, and the exchange found another head word, but the ticket in both
+pub record OvertakenAt (v : View) (wait ticket seen : ℕ) (w : View) : Type 0 where
+  pub lost : WasOvertaken v (wait + 2) seen w
+  pub was : mark_in lost.word ≡ ticket
+  pub still : mark_in seen ≡ ticket
 
 -- the answer to a wait with a ticket
 abbrev pub WaitAnswer : ℕ → View → ℕ → ℕ → ℕ → Result (Unit {0}) MoveRefusal → View → Type 0
-WaitAnswer call v wait element ticket (Ok done) w =
-    MovedTo call v (wait + 2) element (events.WaitAt call wait element ticket) w
-WaitAnswer call v wait element ticket (Err moves.Spent) w = Looked v w × WasSpent v (wait + 2) w
-WaitAnswer call v wait element ticket (Err (moves.Lost seen)) w = Looked v w × WasOvertaken v (wait + 2) seen w
+WaitAnswer call v wait element ticket (Ok done) w = WaitedAt call v wait element ticket w
+WaitAnswer call v wait element ticket (Err moves.Spent) w = WasSpent v (wait + 2) w
+WaitAnswer call v wait element ticket (Err (moves.Lost seen)) w = OvertakenAt v wait ticket seen w
 WaitAnswer call v wait element ticket (Err (moves.Moved mark)) w =
-    Looked v w × (mark ≡ mark_of (elements_after w.schedule) (wait + 2)) × (mark ≢ ticket)
+    MovedBefore v wait ticket mark w ⊎ MovedMeanwhile v wait ticket mark w
 
 abbrev pub is_in : ℕ → ℕ → Bool
 is_in mask number = bit_at mask number == 1
 
--- One notify was made, and then every place that was claimed before it was taken. The hand holds what it held before,
--- and the elements of the mask, which it didn't hold
-pub record WokeAll (call : ℕ) (v : View) (wait mask : ℕ) (w : View) : Type 0 where
-  pub found : ℕ
-  pub after : View
-  pub notified : Notifies call wait v found after
-  pub later : Begins after.schedule w.schedule
-  pub all : length (line_at (elements_after notified.did.before) (wait + 2)).history
-      ≤ (line_at (elements_after w.schedule) (wait + 2)).taken
-  pub holds : (e : ℕ) → e < 64 → has w e ≡ (has v e || is_in mask e)
-  pub woken : (e : ℕ) → e < 64 → is_in mask e ≡ true → has v e ≡ false
-
--- the answer to a stop: whether the bit was clear
-abbrev pub StopAnswer : ℕ → View → ℕ → Bool → View → Type 0
-StopAnswer call v element was_clear w = (found : ℕ) × (marks : Marks call element (events.Stop call element) v found w)
-    × (was_clear ≡ not (thread_at (elements_after marks.did.before) element).stop)
-
--- the answer to a signal: whether it was pending
-abbrev pub SignalAnswer : ℕ → View → ℕ → ℕ → Signalled → View → Type 0
-SignalAnswer call v element number signalled.Raised w = (found : ℕ)
-    × (marks : Marks call element (events.Signal call element number) v found w)
-    × ((thread_at (elements_after marks.did.before) element).pending number ≡ false)
-SignalAnswer call v element number signalled.Merged w = (found : ℕ)
-    × (marks : Marks call element (events.Signal call element number) v found w)
-    × ((thread_at (elements_after marks.did.before) element).pending number ≡ true)
-
--- the state word found at the end isn't the one found first, which showed the element as it then was
-pub record WasChanged (v : View) (element seen : ℕ) (w : View) : Type 0 where
-  pub schedule : List Event
-  pub was : Between v schedule w
-  pub first : ℕ
-  pub first_is : StateShows (thread_at (elements_after schedule) element) first
-  pub differs : seen ≢ first
-  pub seen_is : StateShows (thread_at (elements_after w.schedule) element) seen
-
--- the hand looked, and then made the event that the record names
-pub record LookedThen (v : View) (Does : ℕ → View → View → Type 0) (w : View) : Type 0 where
-  pub before : View
-  pub looked : Looked v before
+-- the stop bit was set, and the answer is whether it was clear
+pub record StoppedNow (call : ℕ) (v : View) (element : ℕ) (was_clear : Bool) (w : View) : Type 0 where
   pub word : ℕ
+  pub marks : Marks call element (events.Stop call element) v word w
+  pub answer : was_clear ≡ not (thread_at (elements_after marks.did.before) element).stop
+
+-- the signal was made pending, and this is whether it had been
+pub record SignalledNow (call : ℕ) (v : View) (element number : ℕ) (was_pending : Bool) (w : View) : Type 0 where
+  pub word : ℕ
+  pub marks : Marks call element (events.Signal call element number) v word w
+  pub was : (thread_at (elements_after marks.did.before) element).pending number ≡ was_pending
+
+-- the answer to a signal
+abbrev pub SignalAnswer : ℕ → View → ℕ → ℕ → Signalled → View → Type 0
+SignalAnswer call v element number signalled.Raised w = SignalledNow call v element number false w
+SignalAnswer call v element number signalled.Merged w = SignalledNow call v element number true w
+
+-- the state word was loaded, and then this was done by one exchange of that word
+pub record FoundThen (v : View) (element : ℕ) (Does : ℕ → View → View → Type 0) (w : View) : Type 0 where
+  pub word : ℕ
+  pub before : View
+  pub loaded : Found v (state_word element) word before
   pub does : Does word before w
+
+-- the state word was loaded, and the exchange found another one
+pub record WasChanged (Allows : ℕ → Type 0) (v : View) (element seen : ℕ) (w : View) : Type 0 where
+  pub word : ℕ
+  pub before : View
+  pub loaded : Found v (state_word element) word before
+  pub allows : Allows word
+  pub missed : Found before (state_word element) seen w
+  pub differs : seen ≢ word
+
+-- the state word was loaded, and the stop bit was clear
+pub record FoundRunning (v : View) (element : ℕ) (w : View) : Type 0 where
+  pub word : ℕ
+  pub loaded : Found v (state_word element) word w
+  pub clear : (thread_at (elements_after w.schedule) element).stop ≡ false
+
+-- the stop bit of a state word is set
+abbrev pub HasStop : ℕ → Type 0
+HasStop word = bit_at word 16 ≡ 1
+
+-- a signal of a state word is pending
+abbrev pub HasSignals : ℕ → Type 0
+HasSignals word = 0 < word % 65536
 
 -- the answer to a start
 abbrev pub StartAnswer : ℕ → View → ℕ → Result Started Lost → View → Type 0
-StartAnswer call v element (Ok started.NotStopped) w =
-    Looked v w × ((thread_at (elements_after w.schedule) element).stop ≡ false)
-StartAnswer call v element (Ok started.Cleared) w = (b : LookedThen v (Starts call element) w)
+StartAnswer call v element (Ok started.NotStopped) w = FoundRunning v element w
+StartAnswer call v element (Ok started.Cleared) w = (b : FoundThen v element (Starts call element) w)
     × ((thread_at (elements_after b.does.did.before) element).parked ≡ false)
-StartAnswer call v element (Ok started.Held) w = (b : LookedThen v (Starts call element) w)
+StartAnswer call v element (Ok started.Held) w = (b : FoundThen v element (Starts call element) w)
     × ((thread_at (elements_after b.does.did.before) element).parked ≡ true) × (has w element ≡ true)
-StartAnswer call v element (Err lost) w = Looked v w × WasChanged v element lost.seen w
+StartAnswer call v element (Err lost) w = WasChanged HasStop v element lost.seen w
 
 -- the answer to a park: whether the element stands in its stop cell
 abbrev pub ParkAnswer : ℕ → View → ℕ → Result Bool Lost → View → Type 0
-ParkAnswer call v element (Ok true) w = LookedThen v (Parks call element) w × (has w element ≡ false)
-ParkAnswer call v element (Ok false) w =
-    Looked v w × ((thread_at (elements_after w.schedule) element).stop ≡ false)
-ParkAnswer call v element (Err lost) w = Looked v w × WasChanged v element lost.seen w
+ParkAnswer call v element (Ok true) w = FoundThen v element (Parks call element) w × (has w element ≡ false)
+ParkAnswer call v element (Ok false) w = FoundRunning v element w
+ParkAnswer call v element (Err lost) w = WasChanged HasStop v element lost.seen w
 
--- the bits of the mask are the pending signals
-abbrev pub ArePending : ℕ → View → List Event → ℕ → Type 0
-ArePending element v schedule mask = (signal : ℕ) → signal < 16
+-- the bits of the mask are the signals that are pending after these events
+abbrev pub ArePending : ℕ → List Event → ℕ → Type 0
+ArePending element schedule mask = (signal : ℕ) → signal < 16
     → (thread_at (elements_after schedule) element).pending signal ≡ is_in mask signal
+
+-- the state word was loaded, and no signal was pending
+pub record FoundNoSignal (v : View) (element : ℕ) (w : View) : Type 0 where
+  pub word : ℕ
+  pub loaded : Found v (state_word element) word w
+  pub none : ArePending element w.schedule 0
 
 -- the answer to a delivery: the signals that were pending; where none was, no event is made
 abbrev pub DeliverAnswer : ℕ → View → ℕ → Result ℕ Lost → View → Type 0
-DeliverAnswer call v element (Ok zero) w = Looked v w × ArePending element v w.schedule 0
-DeliverAnswer call v element (Ok (suc mask)) w = (b : LookedThen v (Delivers call element) w)
-    × ArePending element v b.does.did.before (suc mask)
-DeliverAnswer call v element (Err lost) w = Looked v w × WasChanged v element lost.seen w
+DeliverAnswer call v element (Ok zero) w = FoundNoSignal v element w
+DeliverAnswer call v element (Ok (suc mask)) w = (b : FoundThen v element (Delivers call element) w)
+    × ArePending element b.does.did.before (suc mask)
+DeliverAnswer call v element (Err lost) w = WasChanged HasSignals v element lost.seen w
+
+-- the number of steps done was found, and then one more counted
+pub record CountedStep (call : ℕ) (v : View) (element number : ℕ) (w : View) : Type 0 where
+  pub count : ℕ
+  pub between : View
+  pub found : Counts element v count between
+  pub steps : Steps call element count between w
+  pub is : number ≡ count + 1
 
 -- the answer to a step done: the new number of steps
 abbrev pub DoneAnswer : ℕ → View → ℕ → Result ℕ Spent → View → Type 0
-DoneAnswer call v element (Ok number) w = (between : View) × (found : ℕ) × Counts element v found between
-    × Steps call element between w × (number ≡ found + 1)
+DoneAnswer call v element (Ok number) w = CountedStep call v element number w
 DoneAnswer call v element (Err spent) w = Counts element v 4294967295 w

@@ -1,5 +1,5 @@
 -- What holds between any two steps.
-use Rattle.std.specs.Prelude.{◌≡◌, ℕ, ◌<◌, ◌≤◌, false, List, length}
+use Rattle.std.specs.Prelude.{◌≡◌, ℕ, ◌<◌, ◌≤◌, true, false, List, map, length, slice_index_or, Some}
 use mathlib.Core.Option.{some}
 use lib.ListN.{get_elem?}
 use Rattle.atomic_table.specs.Table as tables
@@ -10,16 +10,20 @@ use Rattle.quaject_core.specs.Lawful.{IsLawful}
 use Rattle.quaject_core.specs.Schedules.{Reaches}
 use Rattle.quaject_core.specs.States.{State, first_state}
 use Rattle.quaject_core.specs.declared.event.Event.{Event}
+use Rattle.table_theory.specs.Sharing.{EndsCounted}
 use Rattle.thread_table.specs.declared.rule.Shape.{Shape}
 use Rattle.thread_table.specs.declared.rule.View.{View}
-use Rattle.thread_table.specs.Schedules.{Begins}
+use Rattle.thread_table.specs.Schedules.{Begins, line_at, element_at}
 use Rattle.thread_table.specs.Shown.{WordsShow}
-use Rattle.thread_table.specs.Rules.{HandIs}
+use Rattle.thread_table.specs.Rules.{HandIs, IsIdle, IsOpen, serves, ends_of, share_of}
+use Rattle.thread_table.specs.Makers.{AreMade, made_of}
+use Rattle.thread_table.specs.Retiring.{AreRetired}
+use Rattle.thread_table.specs.Views.{claim_of}
 
 -- The events of the hands, each allowed in its turn, lead from the first state of the core with 64 elements to one
 -- whose elements the words show and the hands have. It is lawful: each element has exactly one appearance. It agrees
 -- with what the events did: each signal became pending as often as it was delivered, and once more where it is
--- pending; the done events of an element gave 1, 2, .. up to its steps done
+-- pending; the done events of an element gave 1, 2, .. up to its steps done. The first word has the number of hands
 pub record ShowsElements (key : Shape) (s : tables.State Unit View) : Type 0 where
   pub events : List Event
   pub core : State
@@ -29,4 +33,16 @@ pub record ShowsElements (key : Shape) (s : tables.State Unit View) : Type 0 whe
   pub accounted : IsAccounted (first_state 64) events core
   pub shown : WordsShow key.first core.elements s.words
   pub hands : (j : ℕ) (v : View) → get_elem? s.views j ≡ some v → HandIs j v core.elements × Begins v.schedule events
+  -- the hands list the events, each once, but for the joins
+  pub made : AreMade events (map made_of s.views)
+  -- each run of the free elements' queue, behind those with which it began, is a claim among the events
+  pub retired : AreRetired events
+  -- a processor has one hand
+  pub sole : (i j p : ℕ) (u v : View) → get_elem? s.views i ≡ some u → get_elem? s.views j ≡ some v
+      → serves u p ≡ true → serves v p ≡ true → i ≡ j
+  -- each run that isn't raised is that of a hand which is about to raise it
+  pub owned : (line run : ℕ) → line < 18 → IsOpen line run core.elements → (j : ℕ) × (v : View)
+      × (get_elem? s.views j ≡ some v)
+      × (v.claimed ≡ Some (claim_of line run (element_at (line_at core.elements line) run)))
+  pub counted : EndsCounted ends_of share_of IsIdle (slice_index_or s.words 0 0) s.views
   pub no_others : (call element : ℕ) → length s.views ≤ call → holds call element core.elements ≡ false

@@ -1,37 +1,39 @@
 -- What closing a table answers.
-use Rattle.std.specs.Prelude.{◌≡◌, ◌≢◌, ◌+◌, ◌%◌, ◌<◌, ◌≤◌, ◌==◌, ℕ, zero, suc, Bool, true, false, List, Option}
-use Rattle.std.specs.Prelude.{Some, None}
-use Rattle.std.specs.Prelude.{slice_index_or}
+use Rattle.std.specs.Prelude.{◌≡◌, ◌≢◌, ◌+◌, ◌%◌, ◌<◌, ◌≤◌, ◌==◌, ℕ, zero, suc, Bool, true, false, List, [], ◌∷◌}
+use Rattle.std.specs.Prelude.{Option, Some, None, slice_index_or}
 use Rattle.std.specs.List.{list_any}
 use Rattle.std.specs.Int.{bit_at}
+use Rattle.quaject_core.specs.Accounts.{IsAccounted}
 use Rattle.quaject_core.specs.Appearances.{is_on}
-use Rattle.quaject_core.specs.Counting.{FitsAWord}
 use Rattle.quaject_core.specs.Elements.{Elements, holds}
 use Rattle.quaject_core.specs.Queues.{Queue, left}
-use Rattle.quaject_core.specs.Sharing.{IsWhole, total}
-use Rattle.quaject_core.specs.declared.event.Event.{Event}
+use Rattle.quaject_core.specs.States.{first_state}
+use Rattle.table_theory.specs.Sharing.{IsWhole}
 use Rattle.thread_table.specs.declared.places.Place.{Place}
 use Rattle.thread_table.specs.declared.places.Place.TheVariants as places
 use Rattle.thread_table.specs.declared.rule.View.{View}
-use Rattle.thread_table.specs.Schedules.{elements_after, IsAllowed, Begins, line_at, thread_at}
-use Rattle.thread_table.specs.Shown.{seat_place, state_place, head_place, tail_place, item_place}
-use Rattle.thread_table.specs.Rules.{ends_of}
+use Rattle.thread_table.specs.Schedules.{state_after, elements_after, IsAllowed, line_at, thread_at}
+use Rattle.thread_table.specs.Shown.{seat_word, state_word, head_word, tail_word, place_word}
+use Rattle.thread_table.specs.Rules.{HandIs, done_at}
+use Rattle.thread_table.specs.Views.{quiet}
+use Rattle.thread_table.specs.Makers.{AreMade, StepsOnce}
+use Rattle.thread_table.specs.Retiring.{AreRetired}
 use Rattle.thread_table.specs.Steps.{Tallied}
-use Rattle.thread_table.specs.Answers.{is_in}
+use Rattle.thread_table.specs.Answers.{ArePending, is_in}
 
 abbrev pub word_at : List ℕ → ℕ → ℕ
 word_at words i = slice_index_or words i 0
 
 -- the element of a processor's word
 abbrev pub SeatOf : ℕ → List ℕ → Option ℕ → Type 0
-SeatOf element words None = (p : ℕ) → p < 8 → word_at words (seat_place p) ≢ element + 1
-SeatOf element words (Some p) = (p < 8) × (word_at words (seat_place p) ≡ element + 1)
+SeatOf element words None = (p : ℕ) → p < 8 → word_at words (seat_word p) ≢ element + 1
+SeatOf element words (Some p) = (p < 8) × (word_at words (seat_word p) ≡ element + 1)
 
 -- the element stands in a place of the queue that is claimed and not taken
 abbrev pub IsIn : ℕ → List ℕ → ℕ → Type 0
-IsIn element words line = (position : ℕ) × (word_at words (tail_place line) ≤ position)
-    × (position < word_at words (head_place line) % 4294967296)
-    × (word_at words (item_place line position) % 256 ≡ element)
+IsIn element words line = (position : ℕ) × (word_at words (tail_word line) ≤ position)
+    × (position < word_at words (head_word line) % 4294967296)
+    × (word_at words (place_word line position) % 256 ≡ element)
 
 abbrev pub LineOf : ℕ → List ℕ → Option ℕ → Type 0
 LineOf element words None = (line : ℕ) → line < 18 → IsIn element words line → ⊥
@@ -51,7 +53,7 @@ place_by None None false = places.Held
 -- what the words say of an element's place: where they say nothing, it is held
 abbrev pub PlaceOf : ℕ → List ℕ → Place → Type 0
 PlaceOf element words place = (seat : Option ℕ) × (line : Option ℕ) × SeatOf element words seat
-    × LineOf element words line × (place ≡ place_by seat line (bit_at (word_at words (state_place element)) 17 == 1))
+    × LineOf element words line × (place ≡ place_by seat line (bit_at (word_at words (state_word element)) 17 == 1))
 
 abbrev pub is_left : ℕ → Queue → Bool
 is_left element q = list_any (λ item. item == element) (left q)
@@ -65,25 +67,24 @@ StandsAt call element e (places.Wait wait) = is_left element (line_at e (wait + 
 StandsAt call element e places.Stopped = (thread_at e element).parked ≡ true
 StandsAt call element e places.Held = holds call element e ≡ true
 
--- The table is closed, with the state shown. One hand was found, which then has the whole; where a hand has the whole,
--- each element is in the place that is told
+-- The table is closed, by a hand that has the whole and so has seen all events: its schedule is that of the table, its
+-- list has each event of a hand once, each step that an element has done is counted by one of them, and each signal was
+-- made pending as often as it was delivered, once more where it is pending. Each element is in the place that is told
 pub record ClosedNow (call : ℕ) (v : View) (stands : List Place) (pcs pending : List ℕ) (stops : ℕ) : Type 0 where
-  pub end : View
-  pub tallied : Tallied v 1 end
-  pub whole : FitsAWord (total ends_of tallied.views) → IsWhole v.share
-  pub events : List Event
-  pub allowed : IsAllowed events
-  pub later : Begins end.schedule events
-  pub places : IsWhole v.share → (x : ℕ) → x < 64
-      → StandsAt call x (elements_after events) (slice_index_or stands x places.Held)
-  pub steps : (x : ℕ) → x < 64 → slice_index_or pcs x 0 ≡ (thread_at (elements_after events) x).done
-  pub signals : (x signal : ℕ) → x < 64 → signal < 16
-      → is_in (slice_index_or pending x 0) signal ≡ (thread_at (elements_after events) x).pending signal
-  pub stopped : (x : ℕ) → x < 64 → is_in stops x ≡ (thread_at (elements_after events) x).stop
+  pub whole : IsWhole v.share
+  pub allowed : IsAllowed v.schedule
+  pub accounted : IsAccounted (first_state 64) v.schedule (state_after v.schedule)
+  pub hand : HandIs call (quiet v) (elements_after v.schedule)
+  pub made : AreMade v.schedule (v.made ∷ [])
+  pub steps_once : StepsOnce v.made (elements_after v.schedule)
+  pub retired : AreRetired v.schedule
+  pub places : (x : ℕ) → x < 64 → StandsAt call x (elements_after v.schedule) (slice_index_or stands x places.Held)
+  pub steps : (x : ℕ) → x < 64 → slice_index_or pcs x 0 ≡ done_at v.schedule x
+  pub signals : (x : ℕ) → x < 64 → ArePending x v.schedule (slice_index_or pending x 0)
+  pub stopped : (x : ℕ) → x < 64 → (thread_at (elements_after v.schedule) x).stop ≡ is_in stops x
 
--- other hands stand, and this is their number
+-- other hands stand: their number was found, with this hand's, and this hand has not the whole
 pub record WereOpen (v : View) (others : ℕ) (w : View) : Type 0 where
-  pub found : ℕ
-  pub tallied : Tallied v found w
+  pub tallied : Tallied v (others + 1) w
+  pub some_other : 0 < others
   pub not_whole : IsWhole v.share → ⊥
-  pub number : FitsAWord (total ends_of tallied.views) → (others + 1 ≡ total ends_of tallied.views) × (0 < others)

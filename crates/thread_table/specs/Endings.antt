@@ -1,33 +1,33 @@
 -- What making and joining hands does to what they know.
-use Rattle.std.specs.Prelude.{◌≡◌, ◌<◌, ◌&&◌, ◌||◌, ℕ, not}
-use Rattle.quaject_core.specs.Sharing.{half, together}
+use Rattle.std.specs.Prelude.{◌≡◌, ◌<◌, ◌&&◌, ◌||◌, ℕ, not, false}
+use Rattle.table_theory.specs.Sharing.{given, kept}
 use Rattle.thread_table.specs.declared.rule.View.{View}
-use Rattle.thread_table.specs.Schedules.{Begins}
-use Rattle.thread_table.specs.Rules.{nothing_held, nothing_on, has, serves}
-use Rattle.thread_table.specs.Steps.{either_on}
+use Rattle.thread_table.specs.Rules.{has, serves}
+use Rattle.thread_table.specs.Shown.{ends_word}
+use Rattle.thread_table.specs.Steps.{Sees, after, newborn, both}
 use Rattle.thread_table.specs.Answers.{is_in}
 
--- the hand holds what it held, and no longer serves the processors of the mask
+-- The number of hands was found and made one more; the hand gave a part of its share away, and the processors of the
+-- mask. Nothing else changed
 pub record Divided (mask : ℕ) (v w : View) : Type 0 where
-  pub held : w.held ≡ v.held
-  pub on : w.on ≡ v.on
+  pub found : ℕ
+  pub same : w ≡ record (after v ends_word found w.schedule) { serves = w.serves; share = kept v.share }
   pub serves : (p : ℕ) → p < 8 → serves w p ≡ (serves v p && not (is_in mask p))
-  pub share : w.share ≡ half v.share
-  pub later : Begins v.schedule w.schedule
+  pub sees : Sees v w.schedule
 
--- a new hand holds nothing and serves the processors of the mask, which are empty
-pub record Newborn (mask : ℕ) (v w : View) : Type 0 where
-  pub held : w.held ≡ nothing_held
-  pub on : w.on ≡ nothing_on
-  pub serves : (p : ℕ) → p < 8 → serves w p ≡ is_in mask p
-  pub share : w.share ≡ v.share
-  pub schedule : w.schedule ≡ v.schedule
+-- The new hand has nothing but the processors of the mask and the part of the share, and has seen what the other had
+-- seen
+pub record IsNewborn (mask : ℕ) (old new born : View) : Type 0 where
+  pub same : born ≡ record (newborn born.serves new) { share = given old.share }
+  pub serves : (p : ℕ) → p < 8 → serves born p ≡ is_in mask p
 
--- the hand has what both had, and has seen what both had seen
+-- The hand has what both had, who had nothing of the same, and has seen what both had seen; then the number of hands
+-- was found and made one less
 pub record TookIn (v u w : View) : Type 0 where
+  pub found : ℕ
+  pub same : w ≡ record (after (both v u) ends_word found w.schedule) { ends = 1 }
+  pub sees : Sees (both v u) w.schedule
+  pub apart : (e : ℕ) → (has v e && has u e) ≡ false
+  pub alone : (p : ℕ) → (serves v p && serves u p) ≡ false
   pub held : (e : ℕ) → has w e ≡ (has v e || has u e)
   pub serves : (p : ℕ) → serves w p ≡ (serves v p || serves u p)
-  pub on : w.on ≡ either_on v.on u.on
-  pub share : w.share ≡ together v.share u.share
-  pub later : Begins v.schedule w.schedule
-  pub joined : Begins u.schedule w.schedule

@@ -1,10 +1,10 @@
 -- What a clause says of a table and of a hand.
-use Rattle.std.specs.Prelude.{◌≡◌, ℕ}
-use Rattle.quaject_core.specs.Sharing.{IsWhole}
+use Rattle.std.specs.Prelude.{◌≡◌, ◌≤◌, ℕ}
+use Rattle.table_theory.specs.Sharing.{IsWhole}
 use Rattle.thread_table.specs.declared.rule.View.{View}
 use Rattle.thread_table.specs.declared.hand.ThreadTable.{ThreadTable}
 use Rattle.thread_table.specs.declared.hand.Hand.{Hand}
-use Rattle.thread_table.specs.Steps.{IsSame}
+use Rattle.table_theory.specs.Seating.{IsSame}
 
 -- what the hand knows
 abbrev pub view_of : Hand → View
@@ -17,6 +17,10 @@ call_of hand = hand.seat.id
 -- every other hand was joined
 abbrev pub IsOnlyHand : Hand → Type 0
 IsOnlyHand hand = IsWhole hand.seat.me.0.share
+
+-- the hand can be split: it has two parts of the share or more
+abbrev pub IsDivisible : Hand → Type 0
+IsDivisible hand = 2 ≤ hand.seat.me.0.share
 
 -- it is a hand of this table
 abbrev pub IsHandOf : ThreadTable → Hand → Type 0

@@ -4,8 +4,13 @@ pub mod Views
 pub mod Rules
 pub mod Steps
 pub mod Answers
+pub mod Reads
+pub mod Wakes
+pub mod Keeping
+pub mod Retiring
 pub mod Handles
 pub mod Endings
 pub mod Between
 pub mod Closings
 pub mod Laid
+pub mod Makers

@@ -1,13 +1,10 @@
 -- The rule: there is a schedule, each event of which the core allowed in its turn, and the words show what it led to.
-use Rattle.std.specs.Prelude.{◌≡◌, ℕ, ◌<◌, ◌≤◌, Bool, true, false, ◌||◌, List, [], ◌∷◌, length, slice_index_or}
-use Rattle.std.specs.Prelude.{Option}
-use Rattle.std.specs.Prelude.{Some, None, option_map}
+use Rattle.std.specs.Prelude.{◌≡◌, ◌⊎◌, ℕ, ◌<◌, ◌≤◌, Bool, true, false, ◌||◌, List, [], ◌∷◌, map, length}
+use Rattle.std.specs.Prelude.{slice_index_or, Option, Some, None, option_map}
 use Rattle.std.specs.List.{slice_get, list_any, repeat}
 use mathlib.Core.Option.{some}
 use lib.ListN.{get_elem?}
-use Rattle.quaject_core.specs.declared.tables.Share.{Share}
-use Rattle.quaject_core.specs.Sharing.{the_whole}
-use Rattle.quaject_core.specs.Counting.{EndsCounted}
+use Rattle.table_theory.specs.Sharing.{the_whole, IsWhole, EndsCounted}
 use Rattle.quaject_core.specs.Elements.{Elements, hold, holds, is_put}
 use Rattle.quaject_core.specs.declared.event.Event.{Event}
 use Rattle.atomic_table.specs.Table.{State}
@@ -17,12 +14,13 @@ use Rattle.thread_table.specs.declared.rule.Claimed.{Claimed}
 use Rattle.thread_table.specs.declared.rule.Counted.{Counted}
 use Rattle.thread_table.specs.Schedules.{elements_after, IsAllowed, Begins, Grows, line_at, thread_at, element_at}
 use Rattle.thread_table.specs.Views.{claim_of}
+use Rattle.thread_table.specs.Makers.{AreMade, made_of}
 use Rattle.thread_table.specs.Shown.{WordsShow}
 
 abbrev pub ends_of : View → ℕ
 ends_of v = v.ends
 
-abbrev pub share_of : View → Share
+abbrev pub share_of : View → ℕ
 share_of v = v.share
 
 -- no element is held
@@ -89,10 +87,28 @@ IsOpen line run e =
 -- an end that was joined has nothing
 abbrev pub IsIdle : View → Type 0
 IsIdle v = (v.held ≡ nothing_held) × (v.serves ≡ no_processors) × (v.on ≡ nothing_on) × (v.claimed ≡ None)
+    × (v.made ≡ [])
+
+-- the hand holds the element, or has it on a processor
+abbrev pub MayStep : View → ℕ → Type 0
+MayStep v element = (has v element ≡ true) ⊎ ((p : ℕ) × (serves v p ≡ true) × (running v p ≡ Some element))
+
+-- how many steps the element had done after these events
+abbrev pub done_at : List Event → ℕ → ℕ
+done_at events element = (thread_at (elements_after events) element).done
+
+-- where the hand has made a step since it took in another, no step was counted of what it has
+abbrev pub IsSteady : View → List Event → Type 0
+IsSteady v events = v.fresh ≡ true → (element : ℕ) → element < 64 → MayStep v element
+    → done_at events element ≡ done_at v.schedule element
+
+-- a hand that has the whole, and has made a step since it took in another, has seen all events
+abbrev pub IsNewest : View → List Event → Type 0
+IsNewest v events = IsWhole v.share → v.fresh ≡ true → v.schedule ≡ events
 
 -- The core allowed each of these events in its turn; what they lead to is what the words show and what the hands have.
--- No processor is served by two hands, each run that isn't raised is a hand's that is about to raise it, and no call
--- but the hands' holds an element
+-- No processor is served by two hands, each run that isn't raised is a hand's that is about to raise it, no call but
+-- the hands' holds an element, the hands list the events, and no hand was joined to one that had something of the same
 pub record Rule (key : Shape) (s : State Unit View) : Type 0 where
   pub events : List Event
   pub allowed : IsAllowed events
@@ -106,6 +122,10 @@ pub record Rule (key : Shape) (s : State Unit View) : Type 0 where
       × (get_elem? s.views j ≡ some v)
       × (v.claimed ≡ Some (claim_of line run (element_at (line_at (elements_after events) line) run)))
   pub strange : (call element : ℕ) → length s.views ≤ call → holds call element (elements_after events) ≡ false
+  pub made : AreMade events (map made_of s.views)
+  pub steady : (j : ℕ) (v : View) → get_elem? s.views j ≡ some v → IsSteady v events
+  pub newest : (j : ℕ) (v : View) → get_elem? s.views j ≡ some v → IsNewest v events
+  pub undoubled : (j : ℕ) (v : View) → get_elem? s.views j ≡ some v → v.doubled ≡ false
   pub counted : EndsCounted ends_of share_of IsIdle (slice_index_or s.words 0 0) s.views
 
 abbrev pub newcomer : Shape → View
@@ -118,6 +138,10 @@ newcomer key = record {
   on = nothing_on;
   claimed = None;
   counted = None;
+  made = [];
+  steps = [];
+  fresh = true;
+  doubled = false;
   ends = 1;
   share = the_whole;
 }

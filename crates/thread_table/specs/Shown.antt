@@ -11,30 +11,33 @@ use Rattle.quaject_core.specs.declared.hold.Hold.{Hold}
 use Rattle.thread_table.specs.Schedules.{line_at, thread_at, element_at}
 
 -- where the words of each kind stand
-abbrev pub seat_place : ℕ → ℕ
-seat_place processor = processor + 1
+abbrev pub ends_word : ℕ
+ends_word = 0
 
-abbrev pub state_place : ℕ → ℕ
-state_place element = element + 9
+abbrev pub seat_word : ℕ → ℕ
+seat_word processor = processor + 1
 
-abbrev pub done_place : ℕ → ℕ
-done_place element = element + 73
+abbrev pub state_word : ℕ → ℕ
+state_word element = element + 9
 
-abbrev pub head_place : ℕ → ℕ
-head_place line = 66 * line + 137
+abbrev pub done_word : ℕ → ℕ
+done_word element = element + 73
 
-abbrev pub tail_place : ℕ → ℕ
-tail_place line = 66 * line + 138
+abbrev pub head_word : ℕ → ℕ
+head_word line = 66 * line + 137
 
-abbrev pub item_place : ℕ → ℕ → ℕ
-item_place line position = 66 * line + 139 + position % 64
+abbrev pub tail_word : ℕ → ℕ
+tail_word line = 66 * line + 138
+
+abbrev pub place_word : ℕ → ℕ → ℕ
+place_word line position = 66 * line + 139 + position % 64
 
 abbrev pub bit_of : Bool → ℕ
 bit_of b = if b then 1 else 0
 
-abbrev pub seat_word : Option Hold → ℕ
-seat_word None = 0
-seat_word (Some h) = h.element + 1
+abbrev pub seat_shown : Option Hold → ℕ
+seat_shown None = 0
+seat_shown (Some h) = h.element + 1
 
 -- bits 0 to 15 are the pending signals, bit 16 the stop bit, bit 17 the stop cell
 pub record StateShows (thread : Thread) (word : ℕ) : Type 0 where
@@ -54,11 +57,11 @@ mark_of e zero = 0
 mark_of e (suc zero) = 0
 mark_of e (suc (suc wait)) = slice_index_or e.notified wait 0
 
-abbrev pub head_word : ℕ → Elements → ℕ → ℕ
-head_word first e line = first + length (line_at e line).history + mark_of e line * 4294967296
+abbrev pub head_shown : ℕ → Elements → ℕ → ℕ
+head_shown first e line = first + length (line_at e line).history + mark_of e line * 4294967296
 
-abbrev pub tail_word : ℕ → Elements → ℕ → ℕ
-tail_word first e line = first + (line_at e line).taken
+abbrev pub tail_shown : ℕ → Elements → ℕ → ℕ
+tail_shown first e line = first + (line_at e line).taken
 
 -- each run is one element
 pub record LineShows (first : ℕ) (e : Elements) (line : ℕ) (words : List ℕ) : Type 0 where
@@ -67,10 +70,10 @@ pub record LineShows (first : ℕ) (e : Elements) (line : ℕ) (words : List ℕ
   pub single : (number : ℕ) (run : Run) → slice_get (line_at e line).history number ≡ Some run → length run.items ≡ 1
   pub small : first + length (line_at e line).history < 4294967296
   pub marked : mark_of e line < 4294967296
-  pub head : slice_index_or words (head_place line) 0 ≡ head_word first e line
-  pub tail : slice_index_or words (tail_place line) 0 ≡ tail_word first e line
+  pub head : slice_index_or words (head_word line) 0 ≡ head_shown first e line
+  pub tail : slice_index_or words (tail_word line) 0 ≡ tail_shown first e line
   pub places : (run : ℕ) → (line_at e line).taken ≤ run → run < (line_at e line).taken + 64
-      → PlaceShows first (line_at e line) run (slice_index_or words (item_place line (first + run)) 0)
+      → PlaceShows first (line_at e line) run (slice_index_or words (place_word line (first + run)) 0)
 
 pub record WordsShow (first : ℕ) (e : Elements) (words : List ℕ) : Type 0 where
   pub wide : length words ≡ 1325
@@ -78,8 +81,8 @@ pub record WordsShow (first : ℕ) (e : Elements) (words : List ℕ) : Type 0 wh
   pub queues : length e.lines ≡ 18
   pub waits : length e.notified ≡ 16
   pub processors : length e.processors ≡ 8
-  pub seats : (p : ℕ) → p < 8 → slice_index_or words (seat_place p) 0 ≡ seat_word (slice_index_or e.processors p None)
-  pub states : (x : ℕ) → x < 64 → StateShows (thread_at e x) (slice_index_or words (state_place x) 0)
-  pub steps : (x : ℕ) → x < 64 → slice_index_or words (done_place x) 0 ≡ (thread_at e x).done
+  pub seats : (p : ℕ) → p < 8 → slice_index_or words (seat_word p) 0 ≡ seat_shown (slice_index_or e.processors p None)
+  pub states : (x : ℕ) → x < 64 → StateShows (thread_at e x) (slice_index_or words (state_word x) 0)
+  pub steps : (x : ℕ) → x < 64 → slice_index_or words (done_word x) 0 ≡ (thread_at e x).done
   pub few : (x : ℕ) → x < 64 → (thread_at e x).done < 4294967296
   pub lines : (line : ℕ) → line < 18 → LineShows first e line words

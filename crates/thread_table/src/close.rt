@@ -4,15 +4,15 @@ ghost use Rattle.std.specs.Int.{bit_at};
 ghost use Rattle.std.specs.Mem.Slots.{slots_items, slots_len, IsFull};
 ghost use Rattle.thread_table.specs.declared.places.Place.TheVariants as places;
 ghost use Rattle.thread_table.specs.Closings.{ClosedNow, WereOpen, PlaceOf, word_at};
-ghost use Rattle.thread_table.specs.Handles.{view_of, call_of, IsHandOf, IsOnlyHand, AreOfOneTable};
+ghost use Rattle.thread_table.specs.Handles.{view_of, call_of, IsHandOf, IsOnlyHand, IsSameHand};
 
 use crate::hand::{Hand, ThreadTable};
 use crate::places::{Place, place_of};
 use crate::steps::count;
-use crate::words::{StateWord, done_place, state_place};
+use crate::words::{StateWord, done_word, state_word};
 use atomic_table::Closed;
 use std::alloc::Global;
-use thiserror::Error;
+use table_theory::OpenEnds;
 
 /// What a table had at its end, each list by the number of the element.
 #[derive(Drop)]
@@ -27,20 +27,13 @@ pub struct Places {
     pub stops: u64,
 }
 
-/// Hands that were made and not joined, and their number.
-#[derive(Clone, Copy, Debug, PartialEq, Eq, Drop, Error)]
-#[error("{others} other hands are not joined")]
-pub struct OpenEnds {
-    pub others: u64,
-}
-
 // The state word of an element.
 fn state_of(closed: &Closed<(), Global>, element: u8) -> StateWord
     requires { (slots_len closed.now.words ≡ 1325) × IsFull closed.now.words × (element < 64) }
     ensures { result.word ≡ word_at (slots_items closed.now.words) (element + 9) }
 {
     StateWord {
-        word: closed.word(state_place(element)),
+        word: closed.word(state_word(element)),
     }
 }
 
@@ -61,7 +54,7 @@ fn read_pcs(closed: &Closed<(), Global>) -> [u64; 64]
 {
     let mut pcs = [0; 64];
     for element in 0..64u8 {
-        pcs[usize::from(element)] = closed.word(done_place(element));
+        pcs[usize::from(element)] = closed.word(done_word(element));
     }
     pcs
 }
@@ -91,13 +84,16 @@ fn read_stops(closed: &Closed<(), Global>) -> u64
 }
 
 impl ThreadTable {
-    /// Closes the table where every other hand has been joined. Else the table and the hand come back, and the number
-    /// of the others.
+    /// Closes the table where every other hand has been joined, and tells where each element is, how many steps it has
+    /// done, and its signals and stop bit. Else the table and the hand come back, and the number of the others. It
+    /// takes no memory.
+    ///
+    /// The hand that closes the table lists every event of it: each once, but for the joins.
     pub fn close(self, hand: Hand) -> Result<Places, (ThreadTable, Hand, OpenEnds)>
         requires { IsHandOf self hand }
         ensures closed { IfOk result
             (λ c. ClosedNow (call_of hand) (view_of hand) c.places c.pcs c.pending c.stops) }
-        ensures open { IfErr result (λ e. (e.0 ≡ self) × AreOfOneTable hand e.1
+        ensures open { IfErr result (λ e. (e.0 ≡ self) × IsSameHand hand e.1
             × WereOpen (view_of hand) e.2.others (view_of e.1)) }
         ensures only { IsOnlyHand hand → MatchResult result (λ c. Unit {0}) (λ e. ⊥) }
     {
@@ -108,7 +104,7 @@ impl ThreadTable {
                 self,
                 hand,
                 OpenEnds {
-                    others: ends.wrapping_sub(1),
+                    others: ends - 1,
                 },
             ));
         }

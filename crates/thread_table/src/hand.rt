@@ -2,21 +2,21 @@
 ghost use Rattle.std.specs.Prelude.{◌≡◌, ◌+◌, ◌≤◌, ◌<◌, [], ◌∷◌, ℕ, true, false, None, IfOk, slice_index_or, length};
 ghost use Rattle.std.specs.Prelude.{◌==◌, slice_set};
 ghost use Rattle.thread_table.specs.Rules.{newcomer, has, serves, running};
-ghost use Rattle.thread_table.specs.Endings.{Divided, Newborn, TookIn};
+ghost use Rattle.thread_table.specs.Endings.{Divided, IsNewborn, TookIn};
 ghost use Rattle.thread_table.specs.Answers.{is_in};
-ghost use Rattle.thread_table.specs.Laid.{LinesLaid, ItemsLaid};
 ghost use Rattle.thread_table.specs.Steps.{parted, either, either_on};
 
+use crate::first_words::{lay_free, lay_lines};
 use crate::rule::{Shape, ThreadRule, View};
 use crate::steps::{count_down, count_up, split_off, take_in};
-use crate::words::{FREE, PlaceWord, WORDS, head_place, item_place};
+use crate::words::WORDS;
 use atomic_table::{Seat, Table};
 use quaject_core::{Element, OutOfMemory, Processor};
 use std::alloc::Global;
 use std::marker::Brand;
 
 /// Sixty-four thread elements, each in exactly one place: on a processor, in the ready ring, free, in one of sixteen
-/// wait queues, in its stop cell, or held by a hand.
+/// wait queues, in its stop cell, or held by a hand. A table that is dropped, not closed, tells nothing of them.
 #[derive(Drop)]
 pub struct ThreadTable {
     pub(crate) table: Table<(), View, Shape, ThreadRule, Global>,
@@ -25,7 +25,8 @@ pub struct ThreadTable {
     ghost shaped: { table.shared.key.first ≡ first },
 }
 
-/// The elements that one user of the table holds, the processors that it serves, and what it has put on them.
+/// The elements that one user of the table holds, the processors that it serves, and what it has put on them. A hand
+/// that is dropped can never be joined: what it had stays out of all others' reach, and the table can't be closed.
 #[derive(Drop)]
 pub struct Hand {
     pub(crate) seat: Seat<(), View>,
@@ -35,6 +36,7 @@ pub struct Hand {
     ghost bare: { seat.me.1 ≡ [] },
     ghost one: { seat.me.0.ends ≡ 1 },
     ghost none: { seat.me.0.claimed ≡ None },
+    ghost fresh: { seat.me.0.fresh ≡ true },
     ghost holding: { held ≡ seat.me.0.held },
     ghost serving: { served ≡ seat.me.0.serves },
     ghost putting: { running ≡ seat.me.0.on },
@@ -66,9 +68,10 @@ impl Hand {
 }
 
 impl ThreadTable {
-    ghost use Rattle.thread_table.specs.Handles.{view_of, first_of, IsHandOf, IsSameHand, AreOfOneTable};
+    ghost use Rattle.thread_table.specs.Handles.{view_of, first_of, IsDivisible, IsHandOf, IsSameHand, AreOfOneTable};
 
-    /// All elements are free, in their order; all processors are empty, and the hand serves them.
+    /// A table in which no event was made: all elements are free, in their order, all processors are empty, and its
+    /// only hand serves them. OutOfMemory where the table's words get no memory.
     pub fn new(alloc: Global) -> Result<(ThreadTable, Hand), OutOfMemory>
         ensures { IfOk result (λ r. IsHandOf r.0 r.1 × (first_of r.0 ≡ 0)
             × (view_of r.1 ≡ newcomer (record { first = 0 }))) }
@@ -100,15 +103,20 @@ impl ThreadTable {
         Ok((ThreadTable { table, first }, hand))
     }
 
-    /// A new hand, which holds nothing and serves the processors of the mask, bit p for processor p. These were the
-    /// first hand's, and empty. Both hands are to be joined again before the table can be closed.
+    /// A new hand, which holds nothing and serves the processors of the mask, bit p for processor p. Both hands are to
+    /// be joined again before the table can be closed.
+    ///
+    /// Conditions: the processors of the mask are the first hand's, and empty; and that hand has two parts or more of
+    /// its table's 2^64 - 1. The first hand can be split a million times without a join, and each of those hands twenty
+    /// times in a chain.
     pub fn split(&self, hand: &mut Hand, processors: u8) -> Hand
         requires table { IsHandOf self.now hand.old }
+        requires parts { IsDivisible hand.old }
         requires empty { (p : ℕ) → p < 8 → is_in processors p ≡ true
             → (serves (view_of hand.old) p ≡ true) × (running (view_of hand.old) p ≡ None) }
         ensures table { IsSameHand hand.old hand.new × AreOfOneTable hand.old result }
-        ensures split { Divided processors (view_of hand.old) (view_of hand.new)
-            × Newborn processors (view_of hand.new) (view_of result) }
+        ensures split { Divided processors (view_of hand.old) (view_of hand.new) }
+        ensures born { IsNewborn processors (view_of hand.old) (view_of hand.new) (view_of result) }
     {
         let mask = marks_of(processors);
         count_up(&self.table.shared, &mut hand.seat);
@@ -122,7 +130,8 @@ impl ThreadTable {
         }
     }
 
-    /// The first hand then has all that the second had.
+    /// The first hand then has all that both had: their elements, their processors and what stands there, the events
+    /// that they made, and their parts of the table. No element was held, and no processor served, by both.
     pub fn join(&self, hand: &mut Hand, other: Hand)
         requires { IsHandOf self.now hand.old × IsHandOf self.now other }
         ensures table { IsSameHand hand.old hand.new }
@@ -136,37 +145,9 @@ impl ThreadTable {
         } = other;
         take_in::<Brand>(&self.table.shared, &mut hand.seat, seat);
         count_down(&self.table.shared, &mut hand.seat);
-        hand.held = either_held(&hand.held, &held);
-        hand.served = either_served(&hand.served, &served);
+        hand.held = either(&hand.held, &held);
+        hand.served = either(&hand.served, &served);
         hand.running = either_running(&hand.running, &running);
-    }
-}
-
-// The head and the tail of each element queue. The free elements' head is behind them.
-fn lay_lines(words: &mut [u64], first: u32)
-    requires { (length words.old ≡ 1325) × (first ≤ 4294967231) }
-    ensures { LinesLaid first 64 18 words.old words.new }
-{
-    for line in 0..18 {
-        let head = head_place(line);
-        words[head] = first as u64;
-        words[head + 1] = first as u64;
-    }
-    words[head_place(FREE)] = first as u64 + 64;
-}
-
-// The places of the free elements, all of them raised.
-fn lay_free(words: &mut [u64], first: u32)
-    requires { (length words.old ≡ 1325) × (first ≤ 4294967231) }
-    ensures { ItemsLaid first 64 words.old words.new }
-{
-    for element in 0..64u8 {
-        let position = first as u64 + element as u64;
-        let place = PlaceWord {
-            element,
-            mark: position + 1,
-        };
-        words[item_place(FREE, position)] = place.word();
     }
 }
 
@@ -193,25 +174,13 @@ fn parted(served: &[bool; 8], mask: &[bool; 8]) -> [bool; 8]
     rest
 }
 
-fn either_held(held: &[bool; 64], others: &[bool; 64]) -> [bool; 64]
-    ensures { result ≡ either held.now others.now }
+fn either<const N: usize>(marks: &[bool; N], others: &[bool; N]) -> [bool; N]
+    ensures { result ≡ either marks.now others.now }
 {
-    let mut all = *held;
-    for e in 0..64 {
-        if others[e] {
-            all[e] = true;
-        }
-    }
-    all
-}
-
-fn either_served(served: &[bool; 8], others: &[bool; 8]) -> [bool; 8]
-    ensures { result ≡ either served.now others.now }
-{
-    let mut all = *served;
-    for p in 0..8 {
-        if others[p] {
-            all[p] = true;
+    let mut all = *marks;
+    for i in 0..N {
+        if others[i] {
+            all[i] = true;
         }
     }
     all

@@ -1,9 +1,7 @@
 //! Moves: an element that the hand holds gets the next place of an element queue.
 ghost use Rattle.std.specs.Prelude.{◌≡◌, ◌<◌, ◌+◌, true};
 ghost use Rattle.thread_table.specs.Handles.{view_of, call_of, IsHandOf, IsSameHand};
-ghost use Rattle.thread_table.specs.Answers.{MoveAnswer, WaitAnswer, Looked};
-ghost use Rattle.thread_table.specs.Schedules.{elements_after};
-ghost use Rattle.thread_table.specs.Shown.{mark_of};
+ghost use Rattle.thread_table.specs.Answers.{MoveAnswer, WaitAnswer, IsTicket};
 ghost use Rattle.thread_table.specs.Rules.{has};
 
 use crate::hand::{Hand, ThreadTable};
@@ -13,22 +11,28 @@ use quaject_core::{Element, WaitNumber};
 use std::marker::Brand;
 use thiserror::Error;
 
-/// Why an element wasn't moved. The hand then holds it still.
+/// Why an element wasn't moved. The hand then holds it still. Spent is checked first, then Moved, and Lost last.
 #[derive(Clone, Copy, Debug, PartialEq, Eq, Error)]
 pub enum MoveRefusal {
-    /// The head of the queue is the last position.
+    /// The head of the queue is the last position, 4,294,967,295. No position comes back.
     #[error("the queue's positions are spent")]
     Spent,
-    /// The head word found at the end of the call isn't the one found first.
+    /// Another hand put an element into the queue first, or made a notify: the exchange found this head word, not the
+    /// one that was loaded. Bits 0 to 31 are the head, bits 32 to 63 the number of notifies.
     #[error("another hand changed the head word to {seen}")]
     Lost { seen: u64 },
-    /// The wait queue's number of notifies isn't the ticket.
+    /// The wait queue's number of notifies is this one, not the ticket: in the head word that was loaded, or in the one
+    /// that the exchange found.
     #[error("the number of notifies is {mark}")]
     Moved { mark: u32 },
 }
 
 impl ThreadTable {
-    /// Puts an element that the hand holds into the ready ring. Never refused for room.
+    /// Puts an element that the hand holds into the ready ring: it loads the head word, exchanges it, and raises the
+    /// place. Refused where no position is left, and where another hand moved first; never for room, and never with
+    /// Moved.
+    ///
+    /// Condition: the hand holds the element, which `Hand::holds` tells.
     pub fn try_ready(&self, hand: &mut Hand, element: Element) -> Result<(), MoveRefusal>
         requires table { IsHandOf self.now hand.old }
         requires holds { has (view_of hand.old) element ≡ true }
@@ -38,7 +42,7 @@ impl ThreadTable {
         self.move_to(hand, READY, element)
     }
 
-    /// Puts an element that the hand holds into a wait queue. Never refused for room.
+    /// Puts an element that the hand holds into a wait queue, as `try_ready` does into the ready ring.
     pub fn try_wait(
         &self,
         hand: &mut Hand,
@@ -53,7 +57,7 @@ impl ThreadTable {
         self.move_to(hand, of_wait(wait.number()), element)
     }
 
-    /// Puts an element that the hand holds behind the free elements. Never refused for room.
+    /// Puts an element that the hand holds behind the free elements, as `try_ready` does into the ready ring.
     pub fn try_retire(&self, hand: &mut Hand, element: Element) -> Result<(), MoveRefusal>
         requires table { IsHandOf self.now hand.old }
         requires holds { has (view_of hand.old) element ≡ true }
@@ -96,20 +100,19 @@ impl ThreadTable {
         Ok(())
     }
 
-    /// The wait queue's number of notifies at a step of the call: a ticket for a wait.
+    /// The wait queue's number of notifies, by one load of its head word: a ticket for a wait.
     pub fn ticket(&self, hand: &mut Hand, wait: WaitNumber) -> u32
         requires { IsHandOf self.now hand.old }
         ensures table { IsSameHand hand.old hand.new }
-        ensures ticket { Looked (view_of hand.old) (view_of hand.new)
-            × (result ≡ mark_of (elements_after (view_of hand.new).schedule) (wait + 2)) }
+        ensures ticket { IsTicket (view_of hand.old) wait result (view_of hand.new) }
     {
         HeadWord::of(load_head(&self.table.shared, &mut hand.seat, of_wait(wait.number()))).mark
     }
 
-    /// Puts an element that the hand holds into a wait queue, if its number of notifies is the ticket still. Never
-    /// refused for room.
-    ///
-    /// So a wait is refused where a notify came between the reading of the ticket and the wait.
+    /// Puts an element that the hand holds into a wait queue, if its number of notifies is the ticket still. So a wait
+    /// is refused with Moved where a notify came between the reading of the ticket and the wait, also where it came
+    /// between the two steps of the wait. Lost means that another hand put an element first, and that the ticket is
+    /// still good.
     pub fn try_wait_at(
         &self,
         hand: &mut Hand,
@@ -141,6 +144,10 @@ impl ThreadTable {
             word,
         );
         if found != word {
+            let now = HeadWord::of(found).mark;
+            if now != ticket {
+                return Err(MoveRefusal::Moved { mark: now });
+            }
             return Err(MoveRefusal::Lost { seen: found });
         }
         let place = PlaceWord {

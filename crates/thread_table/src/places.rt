@@ -4,7 +4,7 @@ ghost use Rattle.std.specs.Int.{bit_at};
 ghost use Rattle.std.specs.Mem.Slots.{slots_items, slots_len, IsFull};
 ghost use Rattle.thread_table.specs.Closings.{SeatOf, IsIn, LineOf, PlaceOf, place_by, word_at};
 
-use crate::words::{HeadWord, StateWord, head_place, item_place, seat_place, state_place};
+use crate::words::{HeadWord, StateWord, head_word, place_word, seat_word, state_word};
 use atomic_table::Closed;
 use std::alloc::Global;
 
@@ -31,7 +31,7 @@ fn seat_of(closed: &Closed<(), Global>, element: u8) -> Option<u8>
     ensures { SeatOf element (slots_items closed.now.words) result }
 {
     for p in 0..8u8 {
-        if closed.word(seat_place(p)) == element as u64 + 1 {
+        if closed.word(seat_word(p)) == element as u64 + 1 {
             return Some(p);
         }
     }
@@ -44,10 +44,10 @@ fn is_in_line(closed: &Closed<(), Global>, element: u8, line: usize) -> bool
     ensures { MatchBool result (IsIn element (slots_items closed.now.words) line)
         (IsIn element (slots_items closed.now.words) line → ⊥) }
 {
-    let head = HeadWord::of(closed.word(head_place(line))).head;
-    let tail = closed.word(head_place(line) + 1);
+    let head = HeadWord::of(closed.word(head_word(line))).head;
+    let tail = closed.word(head_word(line) + 1);
     for position in tail..head {
-        if closed.word(item_place(line, position)) % 256 == element as u64 {
+        if closed.word(place_word(line, position)) % 256 == element as u64 {
             return true;
         }
     }
@@ -89,7 +89,7 @@ fn cell_or_hand(closed: &Closed<(), Global>, element: u8) -> Place
     ensures { result ≡ place_by None None (bit_at (word_at (slots_items closed.now.words) (element + 9)) 17 == 1) }
 {
     let state = StateWord {
-        word: closed.word(state_place(element)),
+        word: closed.word(state_word(element)),
     };
     if state.is_parked() {
         Place::Stopped

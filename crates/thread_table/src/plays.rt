@@ -1,6 +1,6 @@
 //! What each step tells. These types are for the proofs alone.
 ghost use Rattle.std.specs.Prelude.{ℕ, List, Bool, [], ◌+◌};
-ghost use Rattle.thread_table.specs.Steps.{saw, claims, claims_at, raises, takes, notifies, puts_on, takes_off};
+ghost use Rattle.thread_table.specs.Steps.{finds, claims, claims_at, raises, takes, notifies, puts_on, takes_off};
 ghost use Rattle.thread_table.specs.Steps.{stops, signals, parks, starts, delivers, counts, steps_on};
 ghost use Rattle.thread_table.specs.Steps.{counts_up, counts_down, tallies, rest_of, newborn, both};
 ghost use Rattle.thread_table.specs.Rules.{newcomer};
@@ -13,7 +13,7 @@ use std::marker::{Brand, PhantomData};
 pub struct Look;
 
 impl Play<(), View> for Look {
-    ghost then = { saw };
+    ghost then = { finds };
 }
 
 /// The call of an event, and what else the event names: a queue, a wait queue or a processor; an element; and a run, a
@@ -59,7 +59,7 @@ pub struct RaisePlace<J> {
 }
 
 impl<J: Deed> Play<(), View> for RaisePlace<J> {
-    ghost then = { raises J.call J.at J.number };
+    ghost then = { raises J.call J.at J.number J.element };
 }
 
 pub struct TakeTail<J> {
@@ -147,7 +147,7 @@ pub struct StoreDone<J> {
 }
 
 impl<J: Deed> Play<(), View> for StoreDone<J> {
-    ghost then = { steps_on J.call J.element };
+    ghost then = { steps_on J.call J.element J.number };
 }
 
 pub struct CountUp;

@@ -21,7 +21,8 @@ pub struct ProcessorBusy;
 pub struct ProcessorEmpty;
 
 impl ThreadTable {
-    /// Puts an element that the hand holds on a processor that it serves, unless another stands there.
+    /// Puts an element that the hand holds on a processor that it serves, by one step. Where another element stands
+    /// there, it makes no step.
     pub fn on(
         &self,
         hand: &mut Hand,
@@ -51,7 +52,8 @@ impl ThreadTable {
         Ok(())
     }
 
-    /// Takes the element off a processor that the hand serves. The hand then holds it.
+    /// Takes the element off a processor that the hand serves, by one step. The hand then holds it. Where none stands
+    /// there, it makes no step.
     pub fn off(&self, hand: &mut Hand, processor: Processor) -> Result<Element, ProcessorEmpty>
         requires table { IsHandOf self.now hand.old }
         requires mine { serves (view_of hand.old) processor ≡ true }

@@ -1,7 +1,8 @@
 //! How many steps of its program an element has done.
 ghost use Rattle.std.specs.Prelude.{◌≡◌};
 ghost use Rattle.thread_table.specs.Handles.{view_of, call_of, IsHandOf, IsSameHand};
-ghost use Rattle.thread_table.specs.Steps.{MayStep, Counts};
+ghost use Rattle.thread_table.specs.Rules.{MayStep};
+ghost use Rattle.thread_table.specs.Steps.{Counts};
 ghost use Rattle.thread_table.specs.Answers.{DoneAnswer};
 
 use crate::hand::{Hand, ThreadTable};
@@ -16,7 +17,8 @@ use thiserror::Error;
 pub struct Spent;
 
 impl ThreadTable {
-    /// How many steps an element has done that the hand holds or has on a processor.
+    /// How many steps an element has done that the hand holds or has on a processor, by one load. Nobody else can count
+    /// a step of it before the hand's next step, so it is the number that `step_done` then counts from.
     pub fn pc(&self, hand: &mut Hand, element: Element) -> u64
         requires { IsHandOf self.now hand.old × MayStep (view_of hand.old) element }
         ensures table { IsSameHand hand.old hand.new }
@@ -25,7 +27,8 @@ impl ThreadTable {
         load_done::<Brand>(&self.table.shared, &mut hand.seat, element.number())
     }
 
-    /// Counts one more step of an element that the hand holds or has on a processor, and gives the new number.
+    /// Counts one more step of an element that the hand holds or has on a processor, and gives the new number. Spent
+    /// where the element has done 4,294,967,295 steps.
     pub fn step_done(&self, hand: &mut Hand, element: Element) -> Result<u64, Spent>
         requires { IsHandOf self.now hand.old × MayStep (view_of hand.old) element }
         ensures table { IsSameHand hand.old hand.new }

@@ -1,10 +1,10 @@
-//! The rule of the table.
+//! The rule of the table. Its types are for the proofs alone: no program makes a value of them but the table itself.
 use atomic_table::TableRule;
 use quaject_core::Event;
-use quaject_core::tables::Share;
 use std::collections::LinkedList;
+use table_theory::views::Entry;
 
-/// What the rule is joined when the table is made.
+/// What the rule is told when the table is made: the first position of each element queue.
 #[derive(Drop)]
 pub struct Shape {
     pub first: u64,
@@ -23,7 +23,19 @@ pub struct Counted {
     pub done: u64,
 }
 
-/// What a hand knows. No value of it is made.
+/// An event that a hand made, the number of the step that it counted (how many its element had done before), and the
+/// signals that it delivered.
+pub struct Made {
+    pub event: Event,
+    pub number: u64,
+    pub signals: LinkedList<u64>,
+}
+
+/// What a hand knows: the first position of each element queue, the schedule as it was at the hand's last step, and as
+/// a hand that it took in had seen it; what it holds, the processors that it serves and what it has on them; the run
+/// that it has claimed and not raised, and the number of steps that it has just found; the events that it made, and
+/// every step; whether it has made a step since it took in a hand, and whether both had something then; how many of the
+/// hands counted it is, and its share of the table. No value of it is made.
 pub struct View {
     pub first: u64,
     pub schedule: LinkedList<Event>,
@@ -33,8 +45,12 @@ pub struct View {
     pub on: LinkedList<Option<u64>>,
     pub claimed: Option<Claimed>,
     pub counted: Option<Counted>,
+    pub made: LinkedList<Made>,
+    pub steps: LinkedList<Entry<LinkedList<Event>>>,
+    pub fresh: bool,
+    pub doubled: bool,
     pub ends: u64,
-    pub share: Share,
+    pub share: u64,
 }
 
 pub struct ThreadRule;

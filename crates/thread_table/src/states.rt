@@ -2,7 +2,7 @@
 ghost use Rattle.std.specs.Prelude.{◌≡◌, true};
 ghost use Rattle.thread_table.specs.Handles.{view_of, call_of, IsHandOf, IsSameHand};
 ghost use Rattle.thread_table.specs.Rules.{has};
-ghost use Rattle.thread_table.specs.Answers.{StopAnswer, StartAnswer, ParkAnswer, SignalAnswer, DeliverAnswer};
+ghost use Rattle.thread_table.specs.Answers.{StoppedNow, StartAnswer, ParkAnswer, SignalAnswer, DeliverAnswer};
 
 use crate::hand::{Hand, ThreadTable, set_held};
 use crate::steps::{
@@ -13,7 +13,8 @@ use quaject_core::{Element, Signal};
 use std::marker::Brand;
 use thiserror::Error;
 
-/// The state word found at the end of the call isn't the one found first.
+/// Another hand changed the element's state word first: the exchange found this one, not the one that was loaded. Bits
+/// 0 to 15 are the pending signals, bit 16 the stop bit, bit 17 the stop cell's.
 #[derive(Clone, Copy, Debug, PartialEq, Eq, Error)]
 #[error("another hand changed the state word to {seen}")]
 pub struct Lost {
@@ -41,18 +42,19 @@ pub enum Signalled {
 }
 
 impl ThreadTable {
-    /// Sets the stop bit of an element, wherever it is. True where it was clear.
+    /// Sets the stop bit of an element, wherever it is, by one step. True where it was clear.
     pub fn stop(&self, hand: &mut Hand, element: Element) -> bool
         requires { IsHandOf self.now hand.old }
         ensures table { IsSameHand hand.old hand.new }
-        ensures stopped { StopAnswer (call_of hand.old) (view_of hand.old) element result (view_of hand.new) }
+        ensures stopped { StoppedNow (call_of hand.old) (view_of hand.old) element result (view_of hand.new) }
     {
         let word = or_stop::<Brand>(&self.table.shared, &mut hand.seat, element.number());
         let state = StateWord { word };
         !state.is_stopping()
     }
 
-    /// Clears the stop bit of an element. Where it stood in its stop cell, the hand then holds it.
+    /// Clears the stop bit of an element: it loads the state word and exchanges it. Where the element stood in its stop
+    /// cell, the hand then holds it.
     pub fn try_start(&self, hand: &mut Hand, element: Element) -> Result<Started, Lost>
         requires { IsHandOf self.now hand.old }
         ensures table { IsSameHand hand.old hand.new }
@@ -76,7 +78,8 @@ impl ThreadTable {
         Ok(Started::Held)
     }
 
-    /// Puts an element that the hand holds into its stop cell, if its stop bit is set. True where it stands there.
+    /// Puts an element that the hand holds into its stop cell, if its stop bit is set: it loads the state word and
+    /// exchanges it. True where the element stands there, false where the stop bit was clear.
     pub fn try_park(&self, hand: &mut Hand, element: Element) -> Result<bool, Lost>
         requires table { IsHandOf self.now hand.old }
         requires holds { has (view_of hand.old) element ≡ true }
@@ -98,7 +101,7 @@ impl ThreadTable {
         Ok(true)
     }
 
-    /// Makes a signal of an element pending, wherever the element is.
+    /// Makes a signal of an element pending, wherever the element is, by one step.
     pub fn signal(&self, hand: &mut Hand, element: Element, signal: Signal) -> Signalled
         requires { IsHandOf self.now hand.old }
         ensures table { IsSameHand hand.old hand.new }
@@ -114,7 +117,8 @@ impl ThreadTable {
         Signalled::Raised
     }
 
-    /// Delivers the pending signals of an element that the hand holds: bit s for signal s. They are pending no more.
+    /// Delivers the pending signals of an element that the hand holds: bit s for signal s. It loads the state word and
+    /// exchanges it, and the signals are pending no more; where none was pending it answers 0 after the load.
     pub fn try_deliver(&self, hand: &mut Hand, element: Element) -> Result<u16, Lost>
         requires table { IsHandOf self.now hand.old }
         requires holds { has (view_of hand.old) element ≡ true }

@@ -4,15 +4,16 @@ ghost use Rattle.std.specs.Prelude.{slice_index_or, Some};
 ghost use Rattle.std.specs.Prelude.{None};
 ghost use Rattle.std.specs.Int.{bit_at};
 ghost use Rattle.std.specs.Int.Bits.{bit_or, bit_and};
+ghost use Rattle.table_theory.specs.Seating.{IsSame};
 ghost use Rattle.thread_table.specs.Schedules.{elements_after, line_at, element_at};
-ghost use Rattle.thread_table.specs.Shown.{head_word, tail_word, StateShows};
-ghost use Rattle.thread_table.specs.Rules.{has, serves, running};
+ghost use Rattle.thread_table.specs.Shown.{head_shown, tail_shown, head_word, tail_word, place_word, state_word};
+ghost use Rattle.thread_table.specs.Rules.{MayStep, has, serves, running};
 ghost use Rattle.thread_table.specs.Views.{claim_of, count_of};
-ghost use Rattle.thread_table.specs.Steps.{IsSame, Saw, Claims, claim_event, Raises, Takes, Notifies, PutsOn, TakesOff};
-ghost use Rattle.thread_table.specs.Steps.{Marks, Turns, MayStep, Counts, Steps, CountedUp, CountedDown, Tallied};
+ghost use Rattle.thread_table.specs.Steps.{Found, Claims, claim_event, Raises, Takes, Notifies, PutsOn, TakesOff};
+ghost use Rattle.thread_table.specs.Steps.{Marks, Counts, Steps, CountedUp, CountedDown, Tallied};
 ghost use Rattle.thread_table.specs.Steps.{Parks, Starts, Delivers, rest_of, newborn, both, emptied};
 ghost use Rattle.quaject_core.specs.declared.event.Event.TheVariants as events;
-ghost use Rattle.thread_table.specs.Answers.{Looked, Peeked, StateIs};
+ghost use Rattle.thread_table.specs.Reads.{Peeked, StateIs};
 
 use crate::plays::{
     AddNotify, ClaimHead, ClaimHeadAt, CountDown, CountUp, Deed, DeliverState, Halves, Joins,
@@ -21,7 +22,7 @@ use crate::plays::{
 };
 use crate::rule::{Shape, ThreadRule, View};
 use crate::words::{
-    ENDS, NOTIFY, STOP, done_place, head_place, item_place, seat_place, state_place,
+    ENDS, NOTIFY, STOP, done_word, head_word, place_word, seat_word, state_word,
 };
 use atomic_table::{Seat, Shared};
 
@@ -29,7 +30,8 @@ pub(crate) type Words = Shared<(), View, Shape, ThreadRule>;
 
 pub(crate) fn load(words: &Words, seat: &mut Seat<(), View>, word: usize) -> u64
     requires { (seat.old.table_id ≡ words.now.table_id) × (word < words.now.table_id.words) }
-    ensures { IsSame seat.old seat.new × (seat.new.me.1 ≡ seat.old.me.1) × Saw seat.old.me.0 word result seat.new.me.0 }
+    ensures { IsSame seat.old seat.new × (seat.new.me.1 ≡ seat.old.me.1) 
+        × Found seat.old.me.0 word result seat.new.me.0 }
 {
     words.load::<Look>(seat, word)
 }
@@ -37,20 +39,20 @@ pub(crate) fn load(words: &Words, seat: &mut Seat<(), View>, word: usize) -> u64
 pub(crate) fn load_head(words: &Words, seat: &mut Seat<(), View>, line: usize) -> u64
     requires { (seat.old.table_id ≡ words.now.table_id) × (words.now.table_id.words ≡ 1325) × (line < 18) }
     ensures queue { IsSame seat.old seat.new × (seat.new.me.1 ≡ seat.old.me.1) }
-    ensures seen { Looked seat.old.me.0 seat.new.me.0 }
-    ensures head { result ≡ head_word seat.old.me.0.first (elements_after seat.new.me.0.schedule) line }
+    ensures found { Found seat.old.me.0 (head_word line) result seat.new.me.0 }
+    ensures head { result ≡ head_shown seat.old.me.0.first (elements_after seat.new.me.0.schedule) line }
 {
-    load(words, seat, head_place(line))
+    load(words, seat, head_word(line))
 }
 
 pub(crate) fn load_tail(words: &Words, seat: &mut Seat<(), View>, line: usize) -> u64
     requires { (seat.old.table_id ≡ words.now.table_id) × (words.now.table_id.words ≡ 1325) × (line < 18) }
     ensures queue { IsSame seat.old seat.new × (seat.new.me.1 ≡ seat.old.me.1) }
-    ensures seen { Looked seat.old.me.0 seat.new.me.0 }
-    ensures tail { result ≡ tail_word seat.old.me.0.first (elements_after seat.new.me.0.schedule) line }
+    ensures found { Found seat.old.me.0 (tail_word line) result seat.new.me.0 }
+    ensures tail { result ≡ tail_shown seat.old.me.0.first (elements_after seat.new.me.0.schedule) line }
     ensures small { result < 4294967296 }
 {
-    load(words, seat, head_place(line) + 1)
+    load(words, seat, head_word(line) + 1)
 }
 
 // The place of a position at which the tail was, or is behind.
@@ -61,12 +63,12 @@ pub(crate) fn load_place(
     position: u64,
 ) -> u64
     requires queue { (seat.old.table_id ≡ words.now.table_id) × (words.now.table_id.words ≡ 1325) × (line < 18) }
-    requires tail { position ≡ tail_word seat.old.me.0.first (elements_after seat.old.me.0.schedule) line }
+    requires tail { position ≡ tail_shown seat.old.me.0.first (elements_after seat.old.me.0.schedule) line }
     ensures queue { IsSame seat.old seat.new × (seat.new.me.1 ≡ seat.old.me.1) }
-    ensures seen { Looked seat.old.me.0 seat.new.me.0 }
+    ensures found { Found seat.old.me.0 (place_word line position) result seat.new.me.0 }
     ensures place { Peeked seat.old.me.0 line result seat.new.me.0 }
 {
-    load(words, seat, item_place(line, position))
+    load(words, seat, place_word(line, position))
 }
 
 pub(crate) fn exchange_head<J: Deed>(
@@ -84,11 +86,11 @@ pub(crate) fn exchange_head<J: Deed>(
     ensures queue { IsSame seat.old seat.new × (seat.new.me.1 ≡ seat.old.me.1) }
     ensures hit { result ≡ head
         → Claims J.call J.at J.element (claim_event J.call J.at J.element) head seat.old.me.0 seat.new.me.0 }
-    ensures miss { result ≢ head → Looked seat.old.me.0 seat.new.me.0
-        × (result ≡ head_word seat.old.me.0.first (elements_after seat.new.me.0.schedule) line) }
+    ensures miss { result ≢ head → Found seat.old.me.0 (head_word line) result seat.new.me.0
+        × (result ≡ head_shown seat.old.me.0.first (elements_after seat.new.me.0.schedule) line) }
 {
     let _ = element;
-    words.compare_exchange::<ClaimHead<J>>(seat, head_place(line), head, head + 1)
+    words.compare_exchange::<ClaimHead<J>>(seat, head_word(line), head, head + 1)
 }
 
 pub(crate) fn exchange_head_at<J: Deed>(
@@ -108,11 +110,11 @@ pub(crate) fn exchange_head_at<J: Deed>(
     ensures queue { IsSame seat.old seat.new × (seat.new.me.1 ≡ seat.old.me.1) }
     ensures hit { result ≡ head → Claims J.call (J.at + 2) J.element (events.WaitAt J.call J.at J.element J.number) head
         seat.old.me.0 seat.new.me.0 }
-    ensures miss { result ≢ head → Looked seat.old.me.0 seat.new.me.0
-        × (result ≡ head_word seat.old.me.0.first (elements_after seat.new.me.0.schedule) (wait + 2)) }
+    ensures miss { result ≢ head → Found seat.old.me.0 (head_word (wait + 2)) result seat.new.me.0
+        × (result ≡ head_shown seat.old.me.0.first (elements_after seat.new.me.0.schedule) (wait + 2)) }
 {
     let _ = (element, ticket);
-    words.compare_exchange::<ClaimHeadAt<J>>(seat, head_place(wait as usize + 2), head, head + 1)
+    words.compare_exchange::<ClaimHeadAt<J>>(seat, head_word(wait as usize + 2), head, head + 1)
 }
 
 // Raises the place that the hand has claimed.
@@ -130,10 +132,10 @@ pub(crate) fn store_place<J: Deed>(
     requires claimed { seat.old.me.0.claimed ≡ Some (claim_of J.at J.number J.element) }
     requires position { (position ≡ seat.old.me.0.first + J.number) × (new ≡ J.element + 256 * (position + 1)) }
     ensures queue { IsSame seat.old seat.new × (seat.new.me.1 ≡ seat.old.me.1) }
-    ensures raised { Raises J.call J.at J.number seat.old.me.0 seat.new.me.0 }
+    ensures raised { Raises J.call J.at J.number J.element seat.old.me.0 seat.new.me.0 }
 {
     let _ = element;
-    words.store::<RaisePlace<J>>(seat, item_place(line, position), new);
+    words.store::<RaisePlace<J>>(seat, place_word(line, position), new);
 }
 
 // The place at the tail was raised when the hand last looked.
@@ -151,10 +153,10 @@ pub(crate) fn exchange_tail<J: Deed>(
     requires small { tail < 4294967296 }
     ensures queue { IsSame seat.old seat.new × (seat.new.me.1 ≡ seat.old.me.1) }
     ensures hit { result ≡ tail → Takes J.call J.at tail seat.old.me.0 seat.new.me.0 }
-    ensures miss { result ≢ tail → Looked seat.old.me.0 seat.new.me.0
-        × (result ≡ tail_word seat.old.me.0.first (elements_after seat.new.me.0.schedule) line) }
+    ensures miss { result ≢ tail → Found seat.old.me.0 (tail_word line) result seat.new.me.0
+        × (result ≡ tail_shown seat.old.me.0.first (elements_after seat.new.me.0.schedule) line) }
 {
-    words.compare_exchange::<TakeTail<J>>(seat, head_place(line) + 1, tail, tail + 1)
+    words.compare_exchange::<TakeTail<J>>(seat, head_word(line) + 1, tail, tail + 1)
 }
 
 pub(crate) fn add_notify<J: Deed>(words: &Words, seat: &mut Seat<(), View>, wait: u8) -> u64
@@ -164,7 +166,7 @@ pub(crate) fn add_notify<J: Deed>(words: &Words, seat: &mut Seat<(), View>, wait
     ensures queue { IsSame seat.old seat.new × (seat.new.me.1 ≡ seat.old.me.1) }
     ensures notified { Notifies J.call J.at seat.old.me.0 result seat.new.me.0 }
 {
-    words.fetch_add::<AddNotify<J>>(seat, head_place(wait as usize + 2), NOTIFY)
+    words.fetch_add::<AddNotify<J>>(seat, head_word(wait as usize + 2), NOTIFY)
 }
 
 pub(crate) fn swap_on<J: Deed>(words: &Words, seat: &mut Seat<(), View>, processor: u8, element: u8)
@@ -177,7 +179,7 @@ pub(crate) fn swap_on<J: Deed>(words: &Words, seat: &mut Seat<(), View>, process
     ensures queue { IsSame seat.old seat.new × (seat.new.me.1 ≡ seat.old.me.1) }
     ensures on { PutsOn J.call J.at J.element seat.old.me.0 seat.new.me.0 }
 {
-    words.swap::<PutOn<J>>(seat, seat_place(processor), element as u64 + 1);
+    words.swap::<PutOn<J>>(seat, seat_word(processor), element as u64 + 1);
 }
 
 pub(crate) fn swap_off<J: Deed>(
@@ -195,16 +197,16 @@ pub(crate) fn swap_off<J: Deed>(
     ensures off { TakesOff J.call J.at J.element seat.old.me.0 seat.new.me.0 }
 {
     let _ = element;
-    words.swap::<TakeOff<J>>(seat, seat_place(processor), 0);
+    words.swap::<TakeOff<J>>(seat, seat_word(processor), 0);
 }
 
 pub(crate) fn load_state(words: &Words, seat: &mut Seat<(), View>, element: u8) -> u64
     requires { (seat.old.table_id ≡ words.now.table_id) × (words.now.table_id.words ≡ 1325) × (element < 64) }
     ensures queue { IsSame seat.old seat.new × (seat.new.me.1 ≡ seat.old.me.1) }
-    ensures seen { Looked seat.old.me.0 seat.new.me.0 }
+    ensures found { Found seat.old.me.0 (state_word element) result seat.new.me.0 }
     ensures state { StateIs element result seat.new.me.0 }
 {
-    load(words, seat, state_place(element))
+    load(words, seat, state_word(element))
 }
 
 pub(crate) fn or_stop<J: Deed>(words: &Words, seat: &mut Seat<(), View>, element: u8) -> u64
@@ -214,7 +216,7 @@ pub(crate) fn or_stop<J: Deed>(words: &Words, seat: &mut Seat<(), View>, element
     ensures queue { IsSame seat.old seat.new × (seat.new.me.1 ≡ seat.old.me.1) }
     ensures stopped { Marks J.call J.element (events.Stop J.call J.element) seat.old.me.0 result seat.new.me.0 }
 {
-    words.fetch_or::<SetStop<J>>(seat, state_place(element), STOP)
+    words.fetch_or::<SetStop<J>>(seat, state_word(element), STOP)
 }
 
 pub(crate) fn or_signal<J: Deed>(
@@ -230,7 +232,7 @@ pub(crate) fn or_signal<J: Deed>(
     ensures signalled { Marks J.call J.element (events.Signal J.call J.element J.number) seat.old.me.0 result
         seat.new.me.0 }
 {
-    words.fetch_or::<SetSignal<J>>(seat, state_place(element), 1 << signal)
+    words.fetch_or::<SetSignal<J>>(seat, state_word(element), 1 << signal)
 }
 
 pub(crate) fn exchange_park<J: Deed>(
@@ -247,9 +249,10 @@ pub(crate) fn exchange_park<J: Deed>(
     requires stopping { (bit_at old 16 ≡ 1) × (new ≡ bit_or old 131072) }
     ensures queue { IsSame seat.old seat.new × (seat.new.me.1 ≡ seat.old.me.1) }
     ensures hit { result ≡ old → Parks J.call J.element old seat.old.me.0 seat.new.me.0 }
-    ensures miss { result ≢ old → Looked seat.old.me.0 seat.new.me.0 × StateIs element result seat.new.me.0 }
+    ensures miss { result ≢ old → Found seat.old.me.0 (state_word element) result seat.new.me.0
+        × StateIs element result seat.new.me.0 }
 {
-    words.compare_exchange::<ParkState<J>>(seat, state_place(element), old, new)
+    words.compare_exchange::<ParkState<J>>(seat, state_word(element), old, new)
 }
 
 pub(crate) fn exchange_start<J: Deed>(
@@ -265,9 +268,10 @@ pub(crate) fn exchange_start<J: Deed>(
     requires stopping { (bit_at old 16 ≡ 1) × (new ≡ bit_and old 65535) }
     ensures queue { IsSame seat.old seat.new × (seat.new.me.1 ≡ seat.old.me.1) }
     ensures hit { result ≡ old → Starts J.call J.element old seat.old.me.0 seat.new.me.0 }
-    ensures miss { result ≢ old → Looked seat.old.me.0 seat.new.me.0 × StateIs element result seat.new.me.0 }
+    ensures miss { result ≢ old → Found seat.old.me.0 (state_word element) result seat.new.me.0
+        × StateIs element result seat.new.me.0 }
 {
-    words.compare_exchange::<StartState<J>>(seat, state_place(element), old, new)
+    words.compare_exchange::<StartState<J>>(seat, state_word(element), old, new)
 }
 
 pub(crate) fn exchange_deliver<J: Deed>(
@@ -284,9 +288,10 @@ pub(crate) fn exchange_deliver<J: Deed>(
     requires new { new ≡ bit_and old 196608 }
     ensures queue { IsSame seat.old seat.new × (seat.new.me.1 ≡ seat.old.me.1) }
     ensures hit { result ≡ old → Delivers J.call J.element old seat.old.me.0 seat.new.me.0 }
-    ensures miss { result ≢ old → Looked seat.old.me.0 seat.new.me.0 × StateIs element result seat.new.me.0 }
+    ensures miss { result ≢ old → Found seat.old.me.0 (state_word element) result seat.new.me.0
+        × StateIs element result seat.new.me.0 }
 {
-    words.compare_exchange::<DeliverState<J>>(seat, state_place(element), old, new)
+    words.compare_exchange::<DeliverState<J>>(seat, state_word(element), old, new)
 }
 
 // The number of steps done of an element that the hand holds or has on a processor.
@@ -297,7 +302,7 @@ pub(crate) fn load_done<J: Deed>(words: &Words, seat: &mut Seat<(), View>, eleme
     ensures counted { Counts J.element seat.old.me.0 result seat.new.me.0 }
     ensures small { result < 4294967296 }
 {
-    words.load::<LoadDone<J>>(seat, done_place(element))
+    words.load::<LoadDone<J>>(seat, done_word(element))
 }
 
 pub(crate) fn store_done<J: Deed>(words: &Words, seat: &mut Seat<(), View>, element: u8, done: u64)
@@ -306,32 +311,32 @@ pub(crate) fn store_done<J: Deed>(words: &Words, seat: &mut Seat<(), View>, elem
     requires deed { (J.call ≡ seat.old.id) × (J.element ≡ element) × (J.number ≡ done) }
     requires counted { (seat.old.me.0.counted ≡ Some (count_of J.element J.number)) × (done < 4294967295) }
     ensures queue { IsSame seat.old seat.new × (seat.new.me.1 ≡ seat.old.me.1) }
-    ensures stepped { Steps J.call J.element seat.old.me.0 seat.new.me.0 }
+    ensures stepped { Steps J.call J.element J.number seat.old.me.0 seat.new.me.0 }
 {
-    words.store::<StoreDone<J>>(seat, done_place(element), done + 1);
+    words.store::<StoreDone<J>>(seat, done_word(element), done + 1);
 }
 
-pub(crate) fn count_up(words: &Words, seat: &mut Seat<(), View>)
+pub(crate) fn count_up(words: &Words, seat: &mut Seat<(), View>) -> u64
     requires queue { (seat.old.table_id ≡ words.now.table_id) × (words.now.table_id.words ≡ 1325) }
-    requires live { 1 ≤ seat.old.me.0.ends }
+    requires parts { seat.old.me.0.ends + 1 ≤ seat.old.me.0.share }
     ensures queue { IsSame seat.old seat.new × (seat.new.me.1 ≡ seat.old.me.1) }
-    ensures counted { CountedUp seat.old.me.0 seat.new.me.0 }
+    ensures counted { CountedUp seat.old.me.0 result seat.new.me.0 }
 {
-    words.fetch_add::<CountUp>(seat, ENDS, 1);
+    words.fetch_add::<CountUp>(seat, ENDS, 1)
 }
 
-pub(crate) fn count_down(words: &Words, seat: &mut Seat<(), View>)
+pub(crate) fn count_down(words: &Words, seat: &mut Seat<(), View>) -> u64
     requires queue { (seat.old.table_id ≡ words.now.table_id) × (words.now.table_id.words ≡ 1325) }
     requires live { 2 ≤ seat.old.me.0.ends }
     ensures queue { IsSame seat.old seat.new × (seat.new.me.1 ≡ seat.old.me.1) }
-    ensures counted { CountedDown seat.old.me.0 seat.new.me.0 }
+    ensures counted { CountedDown seat.old.me.0 result seat.new.me.0 }
 {
-    words.fetch_sub::<CountDown>(seat, ENDS, 1);
+    words.fetch_sub::<CountDown>(seat, ENDS, 1)
 }
 
 pub(crate) fn count(words: &Words, seat: &mut Seat<(), View>) -> u64
     requires queue { (seat.old.table_id ≡ words.now.table_id) × (words.now.table_id.words ≡ 1325) }
-    requires live { 1 ≤ seat.old.me.0.ends }
+    requires live { seat.old.me.0.ends ≡ 1 }
     ensures queue { IsSame seat.old seat.new × (seat.new.me.1 ≡ seat.old.me.1) }
     ensures tallied { Tallied seat.old.me.0 result seat.new.me.0 }
 {
@@ -345,7 +350,7 @@ pub(crate) fn split_off<J: Mask>(
     mask: &[bool; 8],
 ) -> Seat<(), View>
     requires queue { (seat.old.table_id ≡ words.now.table_id) × (words.now.table_id.words ≡ 1325) }
-    requires live { 2 ≤ seat.old.me.0.ends }
+    requires live { seat.old.me.0.ends ≡ 2 }
     requires mask { (J.mask ≡ mask.now) × ((p : ℕ) → slice_index_or mask.now p false ≡ true
         → (serves seat.old.me.0 p ≡ true) × (running seat.old.me.0 p ≡ None)) }
     ensures queue { IsSame seat.old seat.new × (result.table_id ≡ seat.old.table_id) }

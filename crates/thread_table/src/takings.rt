@@ -13,16 +13,18 @@ use thiserror::Error;
 /// Why an element wasn't taken.
 #[derive(Clone, Copy, Debug, PartialEq, Eq, Error)]
 pub enum NextRefusal {
-    /// The place at the tail wasn't raised at a step of the call, the tail being the same before and after.
+    /// The place at the tail wasn't raised, and the tail was found again after that: the queue is empty, or a hand has
+    /// claimed its first place and not yet raised it.
     #[error("nothing is raised at the tail")]
     NoneReady,
-    /// The tail found at the end of the call isn't the one found first.
+    /// Another hand took first: this is the tail that was found, past the one that was loaded.
     #[error("another hand moved the tail to {seen}")]
     Lost { seen: u64 },
 }
 
 impl ThreadTable {
-    /// Takes the oldest element of the ready ring. The hand then holds it.
+    /// Takes the oldest element of the ready ring: it loads the tail and the place there, and exchanges the tail. The
+    /// hand then holds the element.
     pub fn try_next(&self, hand: &mut Hand) -> Result<Element, NextRefusal>
         requires { IsHandOf self.now hand.old }
         ensures table { IsSameHand hand.old hand.new }
@@ -31,7 +33,7 @@ impl ThreadTable {
         self.take_first(hand, READY)
     }
 
-    /// Takes the oldest of the free elements. The hand then holds it.
+    /// Takes the oldest of the free elements, as `try_next` does from the ready ring.
     pub fn try_free(&self, hand: &mut Hand) -> Result<Element, NextRefusal>
         requires { IsHandOf self.now hand.old }
         ensures table { IsSameHand hand.old hand.new }
@@ -40,7 +42,7 @@ impl ThreadTable {
         self.take_first(hand, FREE)
     }
 
-    /// Takes the oldest element of a wait queue. The hand then holds it.
+    /// Takes the oldest element of a wait queue, as `try_next` does from the ready ring.
     pub fn try_wake(&self, hand: &mut Hand, wait: WaitNumber) -> Result<Element, NextRefusal>
         requires { IsHandOf self.now hand.old }
         ensures table { IsSameHand hand.old hand.new }

@@ -1,6 +1,7 @@
 ghost use Rattle.std.specs.Prelude.{◌≡◌, IfSome};
 ghost use Rattle.std.specs.Thread.{IsSync};
-ghost use Rattle.thread_table.specs.Handles.{IsHandOf, IsSameHand, AreOfOneTable};
+ghost use Rattle.thread_table.specs.Handles.{view_of, IsDivisible, IsHandOf, IsSameHand, AreOfOneTable};
+ghost use Rattle.table_theory.specs.Sharing.{kept};
 
 use super::*;
 use quaject_core::{Element, Processor, WaitNumber};
@@ -130,9 +131,11 @@ fn pass_two<R: Threads + Wait + Sync>(
 
 /// A new hand with one processor of the first hand's, which has to serve it and to have nothing there.
 fn part(table: &ThreadTable, hand: &mut Hand, processor: Processor) -> Option<Hand>
-    requires { IsHandOf table.now hand.old }
+    requires table { IsHandOf table.now hand.old }
+    requires parts { IsDivisible hand.old }
     ensures same { IsSameHand hand.old hand.new }
-    ensures part { IfSome result (λ other. AreOfOneTable hand.old other) }
+    ensures part { IfSome result (λ other. AreOfOneTable hand.old other
+        × ((view_of hand.new).share ≡ kept (view_of hand.old).share)) }
 {
     if !hand.serves(processor) {
         return None;
@@ -187,13 +190,6 @@ fn four_pass_all(rt: HostRuntime) -> Result<(), Fail> {
     let (Some(w0), Some(w1)) = (WaitNumber::new(0), WaitNumber::new(1)) else {
         panic!(rt; "waits")
     };
-    for _ in 0..64u8 {
-        let Ok(element) = table.try_free(&mut first) else {
-            panic!(rt; "free")
-        };
-        assert!(rt; first.holds(element));
-        assert_eq!(rt; table.try_ready(&mut first, element), Ok(()));
-    }
     let Some(b) = part(&table, &mut first, p1) else {
         panic!(rt; "part")
     };
@@ -203,6 +199,13 @@ fn four_pass_all(rt: HostRuntime) -> Result<(), Fail> {
     let Some(d) = part(&table, &mut first, p3) else {
         panic!(rt; "part")
     };
+    for _ in 0..64u8 {
+        let Ok(element) = table.try_free(&mut first) else {
+            panic!(rt; "free")
+        };
+        assert!(rt; first.holds(element));
+        assert_eq!(rt; table.try_ready(&mut first, element), Ok(()));
+    }
     let hands = ((first, p0), (b, p1), (c, p2), (d, p3));
     let (one, other) = pass_four(&rt, &table, hands, [w0, w1]);
     let ((first, i), (b, j)) = one;

@@ -1,7 +1,7 @@
 //! Waking all that wait.
 ghost use Rattle.std.specs.Prelude.{◌≡◌, ◌+◌};
 ghost use Rattle.thread_table.specs.Handles.{view_of, call_of, IsHandOf, IsSameHand};
-ghost use Rattle.thread_table.specs.Answers.{WokeAll};
+ghost use Rattle.thread_table.specs.Wakes.{WokeAll};
 
 use crate::hand::{Hand, ThreadTable};
 use crate::steps::{add_notify, load_tail};
@@ -13,10 +13,10 @@ use std::sync::Wait;
 
 impl ThreadTable {
     /// Makes one notify of a wait queue, and then takes its elements until each place that was claimed before the
-    /// notify was taken, by this hand or by others. Gives the mask of the elements that it took, which the hand then
-    /// holds.
+    /// notify was taken, by this hand or by others. Gives the mask of the elements that it took, bit e for element e,
+    /// which the hand then holds beside those that it held; it takes from no other queue.
     ///
-    /// Waits for the hands that claimed a place and have not raised it.
+    /// Waits for the hands that claimed a place before the notify and have not raised it.
     pub fn wake_all<R: Wait>(&self, rt: &R, hand: &mut Hand, wait: WaitNumber) -> u64
         requires { IsHandOf self.now hand.old }
         ensures table { IsSameHand hand.old hand.new }

@@ -31,7 +31,7 @@ pub(crate) fn of_wait(wait: u8) -> usize
 }
 
 /// Where the word of a processor stands.
-pub(crate) fn seat_place(processor: u8) -> usize
+pub(crate) fn seat_word(processor: u8) -> usize
     requires { processor < 8 }
     ensures { (result ≡ processor + 1) × (result < 1325) }
 {
@@ -39,7 +39,7 @@ pub(crate) fn seat_place(processor: u8) -> usize
 }
 
 /// Where the state word of an element stands.
-pub(crate) fn state_place(element: u8) -> usize
+pub(crate) fn state_word(element: u8) -> usize
     requires { element < 64 }
     ensures { (result ≡ element + 9) × (result < 1325) }
 {
@@ -47,7 +47,7 @@ pub(crate) fn state_place(element: u8) -> usize
 }
 
 /// Where the word with an element's steps done stands.
-pub(crate) fn done_place(element: u8) -> usize
+pub(crate) fn done_word(element: u8) -> usize
     requires { element < 64 }
     ensures { (result ≡ element + 73) × (result < 1325) }
 {
@@ -55,7 +55,7 @@ pub(crate) fn done_place(element: u8) -> usize
 }
 
 /// Where the head word of an element queue stands. The tail word stands behind it, and behind that the places.
-pub(crate) fn head_place(line: usize) -> usize
+pub(crate) fn head_word(line: usize) -> usize
     requires { line < 18 }
     ensures { (result ≡ 66 * line + 137) × (result < 1260) }
 {
@@ -63,7 +63,7 @@ pub(crate) fn head_place(line: usize) -> usize
 }
 
 /// Where the place word of a position of an element queue stands.
-pub(crate) fn item_place(line: usize, position: u64) -> usize
+pub(crate) fn place_word(line: usize, position: u64) -> usize
     requires { line < 18 }
     ensures { (result ≡ 66 * line + 139 + position % 64) × (result < 1325) }
 {

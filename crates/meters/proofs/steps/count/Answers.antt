@@ -3,4 +3,4 @@ use Rattle.meters.proofs.Tallying.{tallies}
 use Rattle.meters.proofs.steps.count.Goals as goal
 
 pub load-requires : goal.load-requires
-load-requires c = (search rules, search rules, tallies _ _ _ _)
+load-requires c = (search rules, search rules, tallies _ _ _ _ c.requires.one)

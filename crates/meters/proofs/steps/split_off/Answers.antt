@@ -3,4 +3,4 @@ use Rattle.meters.proofs.Tallying.{splits}
 use Rattle.meters.proofs.steps.split_off.Goals as goal
 
 pub split_seat-requires : goal.split_seat-requires
-split_seat-requires c = (search rules, search rules, splits _ _ _ c.requires.live)
+split_seat-requires c = (search rules, search rules, splits _ _ _ c.requires.two)

@@ -1,7 +1,7 @@
 use Rattle.proc_chain.proofs.serve.leave_or_round.Given as goal
 
 abbrev pub ghosts-exchange_gate : goal.ghosts-exchange_gate
-ghosts-exchange_gate g a = record { call = a.seat.now.id }
+ghosts-exchange_gate g a = record { call = a.seat.now.id; suits = g.Q.Quaject.fits a.words.now.key.world.value }
 
 abbrev pub ghosts-swap_running : goal.ghosts-swap_running
-ghosts-swap_running g a = record { call = a.seat.now.id }
+ghosts-swap_running g a = record { call = a.seat.now.id; suits = g.Q.Quaject.fits a.words.now.key.world.value }

@@ -1,4 +1,4 @@
 use Rattle.proc_chain.proofs.serve.run_next.Given as goal
 
 abbrev pub ghosts-store_tail : goal.ghosts-store_tail
-ghosts-store_tail g a = record { call = a.seat.now.id }
+ghosts-store_tail g a = record { call = a.seat.now.id; suits = g.Q.Quaject.fits a.words.now.key.world.value }

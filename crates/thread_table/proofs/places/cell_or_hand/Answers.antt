@@ -8,10 +8,10 @@ use Rattle.thread_table.proofs.places.cell_or_hand.Goals as goal
 
 pub returns-then-is_parked : goal.returns-then-is_parked
 returns-then-is_parked c = subst (λ (w : ℕ). places.Stopped ≡ place_by None None (bit_at w 17 == 1))
-    (sym (read_there (slots_items c.args.closed.now.words) _ (c.args.element + 9) c.word.result c.state_place.ensures.0 c.word.ensures))
+    (sym (read_there (slots_items c.args.closed.now.words) _ (c.args.element + 9) c.word.result c.state_word.ensures.0 c.word.ensures))
     (cell c.word.result c.if-is_parked.ensures)
 
 pub returns-else-is_parked : goal.returns-else-is_parked
 returns-else-is_parked c = subst (λ (w : ℕ). places.Held ≡ place_by None None (bit_at w 17 == 1))
-    (sym (read_there (slots_items c.args.closed.now.words) _ (c.args.element + 9) c.word.result c.state_place.ensures.0 c.word.ensures))
+    (sym (read_there (slots_items c.args.closed.now.words) _ (c.args.element + 9) c.word.result c.state_word.ensures.0 c.word.ensures))
     (hand c.word.result c.if-is_parked.ensures)

@@ -6,4 +6,4 @@ use Rattle.thread_table.proofs.places.seat_of.Goals as goal
 
 pub loop-p-preserved : goal.loop-p-preserved
 loop-p-preserved c = below_next (λ (q : ℕ). word_at (slots_items c.args.closed.now.words) (q + 1) ≢ c.args.element + 1) c.loop-p.p c.loop-p.invariant
-    (λ is. c.if-word-element.false (sym (read_there (slots_items c.args.closed.now.words) _ (c.loop-p.p + 1) c.word.result c.seat_place.ensures.0 c.word.ensures) ∙ is))
+    (λ is. c.if-word-element.false (sym (read_there (slots_items c.args.closed.now.words) _ (c.loop-p.p + 1) c.word.result c.seat_word.ensures.0 c.word.ensures) ∙ is))

@@ -1,11 +1,11 @@
 use Rattle.std.proofs.Common.{rules, refl}
-use Rattle.thread_table.proofs.QueueSteps.{claims_head, saw_looked, saw_head}
+use Rattle.thread_table.proofs.QueueSteps.{claims_head, found_at, found_head}
 use Rattle.thread_table.proofs.steps.exchange_head.Goals as goal
 
 pub compare_exchange-requires : goal.compare_exchange-requires
 compare_exchange-requires g c = let deed = c.requires.deed in let mine = c.requires.mine in let held = c.requires.held in
-    (search rules, search rules, claims_head _ _ _ _ _ _ _ _ _ _ _ _ deed.0 deed.1 deed.2 c.head_place.ensures.0 c.requires.queue.2 held.0 held.1 mine.0 mine.1 refl c.requires.room)
+    (search rules, search rules, claims_head _ _ _ _ _ _ _ _ _ _ _ _ deed.0 deed.1 deed.2 c.head_word.ensures.0 c.requires.queue.2 held.0 held.1 mine.0 mine.1 refl c.requires.room)
 
 pub returns-clause-miss : goal.returns-clause-miss
-returns-clause-miss g c ne = let saw = c.compare_exchange.ensures.2.2 ne in
-    (saw_looked c.args.seat.now.me.0 c.compare_exchange.new.seat.me.0 c.head_place.result c.compare_exchange.result saw, saw_head c.args.seat.now.me.0 c.compare_exchange.new.seat.me.0 c.head_place.result c.compare_exchange.result _ c.requires.queue.2 c.head_place.ensures.0 saw)
+returns-clause-miss g c ne = let f = found_at c.args.seat.now.me.0 c.compare_exchange.new.seat.me.0 c.head_word.result _ c.compare_exchange.result c.head_word.ensures.0 (c.compare_exchange.ensures.2.2 ne) in
+    (f, found_head c.args.seat.now.me.0 c.compare_exchange.new.seat.me.0 c.compare_exchange.result _ c.requires.queue.2 f)

@@ -1,13 +1,14 @@
 use Rattle.std.proofs.Common.{arith}
+use Rattle.thread_table.proofs.QueueSteps.{found_at}
 use Rattle.thread_table.proofs.StateSteps.{starts_state, state_found}
 use Rattle.thread_table.proofs.steps.exchange_start.Goals as goal
 
 pub compare_exchange-requires : goal.compare_exchange-requires
-compare_exchange-requires g c = let q = c.requires.queue in let place = c.state_place.ensures in let deed = c.requires.deed in (
+compare_exchange-requires g c = let q = c.requires.queue in let place = c.state_word.ensures in let deed = c.requires.deed in (
   q.0,
   omega (arith, q.1, place.1),
   starts_state _ _ _ _ _ _ _ _ _ deed.0 (omega (arith, place.0, deed.1)) c.requires.mine.0 c.requires.mine.1 (omega (arith, deed.1, q.2)) c.requires.stopping.0 c.requires.stopping.1,
 )
 
 pub returns-clause-miss : goal.returns-clause-miss
-returns-clause-miss g c differ = let saw = c.compare_exchange.ensures.2.2 differ in (record { same = saw.same; sees = saw.sees }, state_found _ _ _ _ _ c.state_place.ensures.0 c.requires.queue.2 saw)
+returns-clause-miss g c differ = let f = found_at _ _ _ _ _ c.state_word.ensures.0 (c.compare_exchange.ensures.2.2 differ) in (f, state_found _ _ _ _ c.requires.queue.2 f)

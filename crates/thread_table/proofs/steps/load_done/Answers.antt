@@ -1,10 +1,10 @@
 use Rattle.std.proofs.Common.{◌<◌, ℕ, arith, subst, sym}
-use Rattle.thread_table.specs.Steps.{MayStep}
+use Rattle.thread_table.specs.Rules.{MayStep}
 use Rattle.thread_table.proofs.StateSteps.{counts_at}
 use Rattle.thread_table.proofs.steps.load_done.Goals as goal
 
 pub load-requires : goal.load-requires
-load-requires g c = let v = c.args.seat.now.me.0 in let q = c.requires.queue in let place = c.done_place.ensures in let mine = c.requires.mine in (
+load-requires g c = let v = c.args.seat.now.me.0 in let q = c.requires.queue in let place = c.done_word.ensures in let mine = c.requires.mine in (
   q.0,
   omega (arith, q.1, place.1),
   counts_at _ _ _ _ _ _ (omega (arith, place.0, mine.2)) mine.0 (omega (arith, q.2, mine.2)) (subst (MayStep v) (sym mine.2) mine.1),

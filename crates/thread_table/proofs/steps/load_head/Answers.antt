@@ -1,5 +1,8 @@
-use Rattle.thread_table.proofs.QueueSteps.{saw_head}
+use Rattle.thread_table.proofs.QueueSteps.{found_at, found_head}
 use Rattle.thread_table.proofs.steps.load_head.Goals as goal
 
+pub returns-clause-found : goal.returns-clause-found
+returns-clause-found c = found_at _ _ _ _ _ c.head_word.ensures.0 c.load.ensures.2
+
 pub returns-clause-head : goal.returns-clause-head
-returns-clause-head c = saw_head _ _ _ _ _ c.requires.2 c.head_place.ensures.0 c.load.ensures.2
+returns-clause-head c = found_head _ _ _ _ c.requires.2 (found_at _ _ _ _ _ c.head_word.ensures.0 c.load.ensures.2)

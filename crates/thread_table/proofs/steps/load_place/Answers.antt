@@ -1,7 +1,11 @@
 use Rattle.std.proofs.Common.{ℕ, ap, ◌∙◌}
-use Rattle.thread_table.specs.Shown.{item_place}
-use Rattle.thread_table.proofs.QueueSteps.{saw_place}
+use Rattle.thread_table.specs.Shown.{place_word}
+use Rattle.thread_table.proofs.QueueSteps.{found_at, found_place}
 use Rattle.thread_table.proofs.steps.load_place.Goals as goal
 
+pub returns-clause-found : goal.returns-clause-found
+returns-clause-found c = found_at _ _ _ _ _ c.place_word.ensures.0 c.load.ensures.2
+
 pub returns-clause-place : goal.returns-clause-place
-returns-clause-place c = saw_place _ _ _ _ _ c.requires.queue.2 (c.item_place.ensures.0 ∙ ap (λ (z : ℕ). item_place c.args.line z) c.requires.tail) c.load.ensures.2
+returns-clause-place c = let line = c.args.line in
+    found_place _ _ _ _ c.requires.queue.2 (found_at _ _ _ _ _ (c.place_word.ensures.0 ∙ ap (λ (z : ℕ). place_word line z) c.requires.tail) c.load.ensures.2)

@@ -1,5 +1,9 @@
+use Rattle.thread_table.proofs.QueueSteps.{found_at}
 use Rattle.thread_table.proofs.StateSteps.{state_found}
 use Rattle.thread_table.proofs.steps.load_state.Goals as goal
 
+pub returns-clause-found : goal.returns-clause-found
+returns-clause-found c = found_at _ _ _ _ _ c.state_word.ensures.0 c.load.ensures.2
+
 pub returns-clause-state : goal.returns-clause-state
-returns-clause-state c = state_found _ _ _ _ _ c.state_place.ensures.0 c.requires.2 c.load.ensures.2
+returns-clause-state c = state_found _ _ _ _ c.requires.2 (found_at _ _ _ _ _ c.state_word.ensures.0 c.load.ensures.2)

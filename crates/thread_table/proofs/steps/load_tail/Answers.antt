@@ -1,12 +1,16 @@
-use Rattle.std.proofs.Common.{arith, ◌+◌, ◌≡◌}
-use Rattle.thread_table.specs.Shown.{tail_place}
-use Rattle.thread_table.proofs.QueueSteps.{saw_looked, saw_tail, small_tail}
+use Rattle.std.proofs.Common.{◌≡◌, ◌+◌, arith}
+use Rattle.thread_table.specs.Shown.{tail_word}
+use Rattle.thread_table.proofs.QueueSteps.{found_at, found_tail, small_tail}
 use Rattle.thread_table.proofs.steps.load_tail.Goals as goal
 
+pub returns-clause-found : goal.returns-clause-found
+returns-clause-found c = let head = c.head_word.ensures.0 in let here : c.head_word.result + 1 ≡ tail_word c.args.line = omega arith in
+    found_at _ _ _ _ _ here c.load.ensures.2
+
 pub returns-clause-tail : goal.returns-clause-tail
-returns-clause-tail c = let head = c.head_place.ensures.0 in let here : c.head_place.result + 1 ≡ tail_place c.args.line = omega arith in
-    saw_tail _ _ _ _ _ c.requires.2 here c.load.ensures.2
+returns-clause-tail c = let head = c.head_word.ensures.0 in let here : c.head_word.result + 1 ≡ tail_word c.args.line = omega arith in
+    found_tail _ _ _ _ c.requires.2 (found_at _ _ _ _ _ here c.load.ensures.2)
 
 pub returns-clause-small : goal.returns-clause-small
-returns-clause-small c = let head = c.head_place.ensures.0 in let here : c.head_place.result + 1 ≡ tail_place c.args.line = omega arith in let saw = c.load.ensures.2 in
-    let tail = saw_tail _ _ _ _ _ c.requires.2 here saw in let small = small_tail _ _ _ c.requires.2 (saw_looked _ _ _ _ saw) in omega arith
+returns-clause-small c = let head = c.head_word.ensures.0 in let here : c.head_word.result + 1 ≡ tail_word c.args.line = omega arith in
+    let f = found_at _ _ _ _ _ here c.load.ensures.2 in let tail = found_tail _ _ _ _ c.requires.2 f in let small = small_tail c.args.seat.now.me.0 c.load.new.seat.me.0 c.args.line c.requires.2 f.sees in omega arith

@@ -1,30 +1,34 @@
-use Rattle.std.proofs.Common.{rules, sym, ap, subst, ◌∙◌, ◌+◌, ℕ}
+use Rattle.std.proofs.Common.{rules, sym, ap, subst, ◌∙◌, ◌+◌, ℕ, List, arith}
+use Rattle.claim_queue.specs.Reads.{HasFound}
 use Rattle.claim_queue.specs.Takings.{IsLine, Scanned, NoEnd}
-use Rattle.claim_queue.proofs.Following.{looked_on}
-use Rattle.claim_queue.proofs.Scanning.{scanned_look, is_line_end, scanned_more, no_end_push}
+use Rattle.claim_queue.proofs.Scanning.{found_look, is_line_end, found_more, scanned_next, stopped, no_end_push, found_small}
 use Rattle.claim_queue.proofs.ends.ClaimQueue.scan.Goals as goal
 
-pub returns-then-flag-position-clause-seen : goal.returns-then-flag-position-clause-seen
-returns-then-flag-position-clause-seen g c = looked_on _ _ _ c.loop-i.invariant.seen c.load_flag-flag.ensures.seen
+pub returns-then-flag-position-clause-found : goal.returns-then-flag-position-clause-found
+returns-then-flag-position-clause-found g c = found_look _ _ _ _ _ _ c.load_flag-flag.ensures.found c.loop-i.invariant.found
 
-pub returns-then-item-eq10-clause-seen : goal.returns-then-item-eq10-clause-seen
-returns-then-item-eq10-clause-seen g c = looked_on _ _ _ c.loop-i.invariant.seen (looked_on _ _ _ c.load_flag-flag.ensures.seen c.load_data-item.ensures.seen)
+pub returns-then-flag-position-clause-steps : goal.returns-then-flag-position-clause-steps
+returns-then-flag-position-clause-steps g c = let l = c.loop-i.invariant in let long = l.long in let below = c.loop-i-test.true in
+    (stopped _ _ _ _ _ _ _ _ long l.scanned c.load_flag-flag.ensures.found c.if-flag-position.true, (l.no_end, omega arith))
 
 pub returns-then-item-eq10-clause-found : goal.returns-then-item-eq10-clause-found
 returns-then-item-eq10-clause-found g c = let l = c.loop-i.invariant in
-    subst (Scanned _ _) (sym c.push.ensures.items) (scanned_more _ _ _ _ _ _ _ l.scanned l.long c.load_flag-flag.ensures.seen c.load_data-item.ensures.seen (c.load_flag-flag.ensures.raised c.if-flag-position.false) c.load_data-item.ensures.item)
+    subst (HasFound _ _) (sym c.push.ensures.items) (found_more _ _ _ _ _ _ _ _ _ _ l.found l.long c.load_flag-flag.ensures.found c.load_data-item.ensures.found (c.load_flag-flag.ensures.raised c.if-flag-position.false) c.load_data-item.ensures.item)
+
+pub returns-then-item-eq10-clause-steps : goal.returns-then-item-eq10-clause-steps
+returns-then-item-eq10-clause-steps g c = let l = c.loop-i.invariant in let i = sym c.push.ensures.items in (
+  subst (λ (z : List ℕ). Scanned g.row.N c.args.end.now.seat.me.0 c.args.tail z c.load_data-item.new.seat.me.0) i (scanned_next _ _ _ _ _ _ _ _ _ _ l.long l.scanned c.load_flag-flag.ensures.found c.if-flag-position.false c.load_data-item.ensures.found),
+  subst (IsLine g.row.N) i (is_line_end _ _ _ l.no_end c.if-item-eq10.true),
+)
 
 pub loop-i-preserved : goal.loop-i-preserved
-loop-i-preserved g c = let l = c.loop-i.invariant in record {
+loop-i-preserved g c = let l = c.loop-i.invariant in let i = sym c.push.ensures.items in record {
   same = search rules;
-  seen = looked_on _ _ _ l.seen (looked_on _ _ _ c.load_flag-flag.ensures.seen c.load_data-item.ensures.seen);
-  scanned = subst (Scanned _ _) (sym c.push.ensures.items) (scanned_more _ _ _ _ _ _ _ l.scanned l.long c.load_flag-flag.ensures.seen c.load_data-item.ensures.seen (c.load_flag-flag.ensures.raised c.if-flag-position.false) c.load_data-item.ensures.item);
+  found = subst (HasFound _ _) i (found_more _ _ _ _ _ _ _ _ _ _ l.found l.long c.load_flag-flag.ensures.found c.load_data-item.ensures.found (c.load_flag-flag.ensures.raised c.if-flag-position.false) c.load_data-item.ensures.item);
+  scanned = subst (λ (z : List ℕ). Scanned g.row.N c.args.end.now.seat.me.0 c.args.tail z c.load_data-item.new.seat.me.0) i (scanned_next _ _ _ _ _ _ _ _ _ _ l.long l.scanned c.load_flag-flag.ensures.found c.if-flag-position.false c.load_data-item.ensures.found);
   long = c.push.ensures.len ∙ ap (λ (z : ℕ). z + 1) l.long;
-  no_end = subst NoEnd (sym c.push.ensures.items) (no_end_push _ _ l.no_end c.if-item-eq10.false);
+  no_end = subst NoEnd i (no_end_push _ _ l.no_end c.if-item-eq10.false);
 }
 
-pub returns-then-flag-position-clause-found : goal.returns-then-flag-position-clause-found
-returns-then-flag-position-clause-found g c = scanned_look _ _ _ _ c.load_flag-flag.ensures.seen c.loop-i.invariant.scanned
-
-pub returns-then-item-eq10-clause-line : goal.returns-then-item-eq10-clause-line
-returns-then-item-eq10-clause-line g c = λ _. subst (IsLine _) (sym c.push.ensures.items) (is_line_end _ _ _ c.loop-i.invariant.no_end c.if-item-eq10.true)
+pub returns-then-flag-position-clause-short : goal.returns-then-flag-position-clause-short
+returns-then-flag-position-clause-short g c = λ _. found_small _ _ _ _ _ _ c.load_flag-flag.ensures.found (found_look _ _ _ _ _ _ c.load_flag-flag.ensures.found c.loop-i.invariant.found) c.requires.started.1

@@ -1,9 +1,9 @@
-use Rattle.meters.specs.Steps.{IsSame}
+use Rattle.table_theory.specs.Seating.{IsSame}
 use Rattle.meters.proofs.Following.{Searched}
 use Rattle.meters.proofs.ends.Meters.try_set.Given as goal
 
 abbrev pub invariant-loop-slot : goal.invariant-loop-slot
 invariant-loop-slot l = record {
-  same : IsSame l.fn.seat.seat l.seat.seat;
-  searched : Searched l.fn.seat.seat.me.0 l.slot l.seat.seat.me.0;
+  same : IsSame l.initial.seat.seat l.seat.seat;
+  searched : Searched l.initial.seat.seat.me.0 l.slot l.seat.seat.me.0;
 }

@@ -1,19 +1,36 @@
-use Rattle.std.proofs.Common.{rules, ◌++◌}
-use Rattle.proc_chain.proofs.Turns.{served_on}
-use Rattle.proc_chain.proofs.Rounds.{all_done, more_number}
+use Rattle.std.proofs.Common.{rules, refl, sym, subst, false, [], ◌∷◌, ◌++◌, List, ℕ}
+use Rattle.table_theory.proofs.Positioned.{grows_refl}
+use Rattle.proc_chain.specs.Turns.{HasServed}
+use Rattle.proc_chain.specs.Servings.{IsServing, notes_run}
+use Rattle.proc_chain.proofs.Turns.{served_on, served_still}
+use Rattle.proc_chain.proofs.Rounds.{servings_on, all_run, all_done, more_number}
 use Rattle.proc_chain.proofs.ends.ProcChain.serve_all.Goals as goal
 
-pub returns-in-Done-clause-served : goal.returns-in-Done-clause-served
-returns-in-Done-clause-served g c = let l = c.loop.invariant in
-    all_done c.loop.end.seat.id c.args.end.now.seat.id c.args.end.now.seat.me.0 c.loop.end.seat.me.0 c.serve.new.end.seat.me.0 l.notes c.loop.total _ c.in-Done.ran l.same.1 l.number l.served c.in-Done.ensures.served
-
-pub loop-preserved : goal.loop-preserved
-loop-preserved g c = let l = c.loop.invariant in let s = c.in-More.ensures.served in record {
+pub loop-init : goal.loop-init
+loop-init g c = let end = c.args.end.now in record {
   steps = search rules;
   same = search rules;
-  slot = c.serve.ensures.ends.1;
-  turn = c.in-More.ensures.turn;
-  notes = l.notes ++ s.notes;
-  number = more_number l.notes s.notes c.loop.total c.in-More.ran l.number s.number;
-  served = served_on c.args.end.now.seat.me.0 c.loop.end.seat.me.0 c.serve.new.end.seat.me.0 l.notes s.notes l.served s.served;
+  slot = c.requires.ends.1;
+  turn = c.requires.turn;
+  used_up = [];
+  servings = refl;
+  number = refl;
+  served = served_still end.seat.me.0 end.behind end.small (grows_refl end.seat.me.0.part.queue);
 }
+
+pub returns-in-Done-clause-served : goal.returns-in-Done-clause-served
+returns-in-Done-clause-served g c = let l = c.loop.invariant in let made = g.Q.Quaject.made_by in let fits = g.Q.Quaject.fits c.args.self.now.table.shared.key.world.value in
+    all_done made fits c.loop.end.seat.id c.args.end.now.seat.id c.args.end.now.seat.me c.loop.end.seat.me c.serve.new.end.seat.me l.used_up c.loop.total c.in-Done.ran l.same.1 l.servings l.number l.served c.in-Done.ensures.served
+
+pub loop-preserved : goal.loop-preserved
+loop-preserved g c = let l = c.loop.invariant in let made = g.Q.Quaject.made_by in let fits = g.Q.Quaject.fits c.args.self.now.table.shared.key.world.value in
+    let s = subst (λ (z : ℕ). IsServing made fits z c.loop.end.seat.me 4294967295 c.in-More.ran false c.serve.new.end.seat.me) l.same.1 c.in-More.ensures.served in record {
+      steps = search rules;
+      same = search rules;
+      slot = c.serve.ensures.ends.1;
+      turn = c.in-More.ensures.turn;
+      used_up = l.used_up ++ s.uses ∷ [];
+      servings = servings_on made fits c.args.end.now.seat.id c.args.end.now.seat.me c.loop.end.seat.me c.serve.new.end.seat.me 4294967295 l.used_up s.uses l.servings s.how;
+      number = more_number l.used_up s.uses c.loop.total c.in-More.ran l.number s.number;
+      served = subst (λ (z : List ℕ). HasServed c.args.end.now.seat.me.0 z c.serve.new.end.seat.me.0) (sym (all_run l.used_up s.uses)) (served_on c.args.end.now.seat.me.0 c.loop.end.seat.me.0 c.serve.new.end.seat.me.0 _ (notes_run s.uses) l.served s.served);
+    }

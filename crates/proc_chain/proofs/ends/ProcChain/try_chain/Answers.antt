@@ -1,42 +1,54 @@
 use Rattle.std.proofs.Common.{rules, refl, sym, ap, subst, ◌∙◌, ◌≤◌, ◌<◌, length, ℕ}
-use Rattle.quaject_core.specs.Listing.{Distinct}
-use Rattle.quaject_core.specs.Positioned.{head_of}
-use Rattle.quaject_core.specs.declared.tables.Positions.{Positions}
+use Rattle.table_theory.specs.Listing.{Distinct}
+use Rattle.table_theory.specs.Positioned.{head_of}
+use Rattle.table_theory.specs.declared.queues.Positions.{Positions}
 use Rattle.proc_chain.specs.declared.rule.View.{View}
 use Rattle.proc_chain.specs.Steps.{Notified}
-use Rattle.proc_chain.proofs.Linking.{looked_on, was_spent, was_full, was_lost, stays_on, stays_looked, stays_told, just_claimed, link, linked_stays, linked_distinct, linked_raised, all_same, slot_on, slot_won, won_as}
+use Rattle.proc_chain.proofs.Linking.{was_spent, was_full, found_room, was_lost, stays_on, stays_found, stays_room, stays_told, just_claimed, link, linked_stays, linked_distinct, linked_raised, linked_put, put_on, spent_notes, full_notes, lost_notes, all_same, slot_on, slot_won, won_as}
 use Rattle.proc_chain.proofs.ends.ProcChain.try_chain.Goals as goal
 
-pub returns-then-head-ge4294967295-clause-ends : goal.returns-then-head-ge4294967295-clause-ends
-returns-then-head-ge4294967295-clause-ends g c = (search rules, slot_on g.Q.Quaject.made_by (g.Q.Quaject.fits c.args.self.now.table.shared.key.world.value) _ _ _ _ (stays_looked _ _ c.args.end.now.behind c.load_head-head.ensures.seen) c.load_head-head.ensures.queue.1 c.requires.1)
+pub returns-then-head-ge-POSITIONS-clause-ends : goal.returns-then-head-ge-POSITIONS-clause-ends
+returns-then-head-ge-POSITIONS-clause-ends g c = let a = c.load_head-head.ensures in (search rules, slot_on g.Q.Quaject.made_by (g.Q.Quaject.fits c.args.self.now.table.shared.key.world.value) _ _ _ _ (stays_found _ _ _ _ c.args.end.now.behind a.found) a.queue.1 c.requires.1)
 
-pub returns-then-head-ge4294967295-clause-chained : goal.returns-then-head-ge4294967295-clause-chained
-returns-then-head-ge4294967295-clause-chained g c = was_spent _ _ _ c.load_head-head.ensures.seen c.load_head-head.ensures.head c.if-head-ge4294967295.true
+pub returns-then-head-ge-POSITIONS-clause-chained : goal.returns-then-head-ge-POSITIONS-clause-chained
+returns-then-head-ge-POSITIONS-clause-chained g c = let a = c.load_head-head.ensures in (was_spent _ _ _ a.found c.if-head-ge-POSITIONS.true, a.queue.1)
+
+pub returns-then-head-ge-POSITIONS-clause-notes : goal.returns-then-head-ge-POSITIONS-clause-notes
+returns-then-head-ge-POSITIONS-clause-notes g c = let a = c.load_head-head.ensures in spent_notes _ _ (was_spent _ _ _ a.found c.if-head-ge-POSITIONS.true)
 
 pub returns-then-head-tail-clause-ends : goal.returns-then-head-tail-clause-ends
-returns-then-head-tail-clause-ends g c = (search rules, slot_on g.Q.Quaject.made_by (g.Q.Quaject.fits c.args.self.now.table.shared.key.world.value) _ _ _ _ (stays_looked _ _ c.args.end.now.behind (looked_on _ _ _ c.load_head-head.ensures.seen c.load_tail-tail.ensures.seen)) (c.load_tail-tail.ensures.queue.1 ∙ c.load_head-head.ensures.queue.1) c.requires.1)
+returns-then-head-tail-clause-ends g c = let a = c.load_head-head.ensures in let b = c.load_tail-tail.ensures in let s = stays_found _ _ _ _ c.args.end.now.behind a.found in
+    (search rules, slot_on g.Q.Quaject.made_by (g.Q.Quaject.fits c.args.self.now.table.shared.key.world.value) _ _ _ _ (stays_on _ _ _ s (stays_found _ _ _ _ s.behind b.found)) (b.queue.1 ∙ a.queue.1) c.requires.1)
 
 pub returns-then-head-tail-clause-chained : goal.returns-then-head-tail-clause-chained
-returns-then-head-tail-clause-chained g c = let a = c.load_head-head.ensures in let b = c.load_tail-tail.ensures in was_full _ _ _ _ _ a.seen b.seen a.head b.tail c.if-head-tail.true
+returns-then-head-tail-clause-chained g c = let a = c.load_head-head.ensures in let b = c.load_tail-tail.ensures in (was_full _ _ _ _ _ a.found b.found c.if-head-ge-POSITIONS.false c.if-head-tail.true, b.queue.1 ∙ a.queue.1)
+
+pub returns-then-head-tail-clause-notes : goal.returns-then-head-tail-clause-notes
+returns-then-head-tail-clause-notes g c = let a = c.load_head-head.ensures in let b = c.load_tail-tail.ensures in full_notes _ _ _ _ (was_full _ _ _ _ _ a.found b.found c.if-head-ge-POSITIONS.false c.if-head-tail.true)
 
 pub returns-then-found-head-clause-ends : goal.returns-then-found-head-clause-ends
-returns-then-found-head-clause-ends g c = let m = c.exchange_head-found.ensures.miss c.if-found-head.true in (
-  search rules,
-  slot_on g.Q.Quaject.made_by (g.Q.Quaject.fits c.args.self.now.table.shared.key.world.value) _ _ _ _ (stays_looked _ _ c.args.end.now.behind (looked_on _ _ _ (looked_on _ _ _ c.load_head-head.ensures.seen c.load_tail-tail.ensures.seen) m.0))
-      (c.exchange_head-found.ensures.queue.1 ∙ (c.load_tail-tail.ensures.queue.1 ∙ c.load_head-head.ensures.queue.1)) c.requires.1,
-)
+returns-then-found-head-clause-ends g c = let a = c.load_head-head.ensures in let b = c.load_tail-tail.ensures in let e = c.exchange_head-found.ensures in 
+    let r = found_room c.args.end.now.seat.me.0 c.load_head-head.new.seat.me.0 c.load_tail-tail.new.seat.me.0 c.load_head-head.result c.load_tail-tail.result a.found b.found c.if-head-ge-POSITIONS.false c.if-head-tail.false in let m = e.miss c.if-found-head.true in let s = stays_room _ _ _ c.args.end.now.behind r in (
+      search rules,
+      slot_on g.Q.Quaject.made_by (g.Q.Quaject.fits c.args.self.now.table.shared.key.world.value) _ _ _ _ (stays_on _ _ _ s (stays_found _ _ _ _ s.behind m.0)) (e.queue.1 ∙ (b.queue.1 ∙ a.queue.1)) c.requires.1,
+    )
 
 pub returns-then-found-head-clause-chained : goal.returns-then-found-head-clause-chained
-returns-then-found-head-clause-chained g c = let a = c.load_head-head.ensures in let m = c.exchange_head-found.ensures.miss c.if-found-head.true in was_lost _ _ _ _ _ _ a.seen c.load_tail-tail.ensures.seen m.0 a.head m.1 c.if-found-head.true
+returns-then-found-head-clause-chained g c = let a = c.load_head-head.ensures in let b = c.load_tail-tail.ensures in let e = c.exchange_head-found.ensures in 
+    let r = found_room c.args.end.now.seat.me.0 c.load_head-head.new.seat.me.0 c.load_tail-tail.new.seat.me.0 c.load_head-head.result c.load_tail-tail.result a.found b.found c.if-head-ge-POSITIONS.false c.if-head-tail.false in (was_lost _ _ _ _ _ r (e.miss c.if-found-head.true).0 c.if-found-head.true, e.queue.1 ∙ (b.queue.1 ∙ a.queue.1))
+
+pub returns-then-found-head-clause-notes : goal.returns-then-found-head-clause-notes
+returns-then-found-head-clause-notes g c = let a = c.load_head-head.ensures in let b = c.load_tail-tail.ensures in let e = c.exchange_head-found.ensures in 
+    let r = found_room c.args.end.now.seat.me.0 c.load_head-head.new.seat.me.0 c.load_tail-tail.new.seat.me.0 c.load_head-head.result c.load_tail-tail.result a.found b.found c.if-head-ge-POSITIONS.false c.if-head-tail.false in lost_notes _ _ _ (was_lost _ _ _ _ _ r (e.miss c.if-found-head.true).0 c.if-found-head.true)
 
 pub store_place-requires-clause-mine : goal.store_place-requires-clause-mine
 store_place-requires-clause-mine g c = just_claimed _ _ _ _ _ _ (c.exchange_head-found.ensures.hit c.if-found-head.false) refl
 
 pub invariant_of-end-then-swap_more-eq-IDLE : goal.invariant_of-end-then-swap_more-eq-IDLE
-invariant_of-end-then-swap_more-eq-IDLE g c = let a = c.load_head-head.ensures in let b = c.load_tail-tail.ensures in let e = c.exchange_head-found.ensures in
-    let l = link c.args.end.now.seat.id _ _ _ _ _ _ _ _ _ (b.queue.0.1 ∙ a.queue.0.1) (e.queue.0.1 ∙ (b.queue.0.1 ∙ a.queue.0.1)) a.seen b.seen (e.hit c.if-found-head.false) c.store_place.ensures.raised in
-    let s = linked_stays _ _ _ _ l c.args.end.now.behind in let w = c.swap_more.ensures.won c.if-swap_more-eq-IDLE.true in
-    let f = ap (λ (z : View). z.part.queue) w.same in record {
+invariant_of-end-then-swap_more-eq-IDLE g c = let a = c.load_head-head.ensures in let b = c.load_tail-tail.ensures in let e = c.exchange_head-found.ensures in 
+    let r = found_room c.args.end.now.seat.me.0 c.load_head-head.new.seat.me.0 c.load_tail-tail.new.seat.me.0 c.load_head-head.result c.load_tail-tail.result a.found b.found c.if-head-ge-POSITIONS.false c.if-head-tail.false in 
+    let l = link c.args.end.now.seat.id _ _ _ _ _ _ _ _ (b.queue.0.1 ∙ a.queue.0.1) (e.queue.0.1 ∙ (b.queue.0.1 ∙ a.queue.0.1)) r (e.hit c.if-found-head.false) c.store_place.ensures.raised in
+    let s = linked_stays _ _ _ _ l c.args.end.now.behind in let w = c.swap_more.ensures.won c.if-swap_more-eq-IDLE.true in let f = ap (λ (z : View). z.part.queue) w.same in record {
       room = ap (λ (z : Positions). z.room) f ∙ (w.sees.later.0.room ∙ (s.room ∙ c.args.end.now.room));
       one = ap (λ (z : View). z.ends) w.same ∙ (s.ends ∙ c.args.end.now.one);
       turned = ap (λ (z : View). z.runner) w.same;
@@ -48,26 +60,36 @@ invariant_of-end-then-swap_more-eq-IDLE g c = let a = c.load_head-head.ensures i
     }
 
 pub returns-then-swap_more-eq-IDLE-clause-ends : goal.returns-then-swap_more-eq-IDLE-clause-ends
-returns-then-swap_more-eq-IDLE-clause-ends g c = let a = c.load_head-head.ensures in let b = c.load_tail-tail.ensures in let e = c.exchange_head-found.ensures in
-    let l = link c.args.end.now.seat.id _ _ _ _ _ _ _ _ _ (b.queue.0.1 ∙ a.queue.0.1) (e.queue.0.1 ∙ (b.queue.0.1 ∙ a.queue.0.1)) a.seen b.seen (e.hit c.if-found-head.false) c.store_place.ensures.raised in
-    let s = linked_stays _ _ _ _ l c.args.end.now.behind in let w = c.swap_more.ensures.won c.if-swap_more-eq-IDLE.true in
+returns-then-swap_more-eq-IDLE-clause-ends g c = let a = c.load_head-head.ensures in let b = c.load_tail-tail.ensures in let e = c.exchange_head-found.ensures in 
+    let r = found_room c.args.end.now.seat.me.0 c.load_head-head.new.seat.me.0 c.load_tail-tail.new.seat.me.0 c.load_head-head.result c.load_tail-tail.result a.found b.found c.if-head-ge-POSITIONS.false c.if-head-tail.false in 
+    let l = link c.args.end.now.seat.id _ _ _ _ _ _ _ _ (b.queue.0.1 ∙ a.queue.0.1) (e.queue.0.1 ∙ (b.queue.0.1 ∙ a.queue.0.1)) r (e.hit c.if-found-head.false) c.store_place.ensures.raised in
+    let s = linked_stays _ _ _ _ l c.args.end.now.behind in let w = c.swap_more.ensures.won c.if-swap_more-eq-IDLE.true in 
     (search rules, slot_won g.Q.Quaject.made_by (g.Q.Quaject.fits c.args.self.now.table.shared.key.world.value) _ _ _ w (c.store_place.ensures.queue.1 ∙ (e.queue.1 ∙ (b.queue.1 ∙ (a.queue.1 ∙ c.requires.1.1 (sym s.runner ∙ w.had_none))))))
 
 pub returns-then-swap_more-eq-IDLE-clause-chained : goal.returns-then-swap_more-eq-IDLE-clause-chained
-returns-then-swap_more-eq-IDLE-clause-chained g c = let a = c.load_head-head.ensures in let b = c.load_tail-tail.ensures in let e = c.exchange_head-found.ensures in
-    let l = link c.args.end.now.seat.id _ _ _ _ _ _ _ _ _ (b.queue.0.1 ∙ a.queue.0.1) (e.queue.0.1 ∙ (b.queue.0.1 ∙ a.queue.0.1)) a.seen b.seen (e.hit c.if-found-head.false) c.store_place.ensures.raised in
+returns-then-swap_more-eq-IDLE-clause-chained g c = let a = c.load_head-head.ensures in let b = c.load_tail-tail.ensures in let e = c.exchange_head-found.ensures in 
+    let r = found_room c.args.end.now.seat.me.0 c.load_head-head.new.seat.me.0 c.load_tail-tail.new.seat.me.0 c.load_head-head.result c.load_tail-tail.result a.found b.found c.if-head-ge-POSITIONS.false c.if-head-tail.false in 
+    let l = link c.args.end.now.seat.id _ _ _ _ _ _ _ _ (b.queue.0.1 ∙ a.queue.0.1) (e.queue.0.1 ∙ (b.queue.0.1 ∙ a.queue.0.1)) r (e.hit c.if-found-head.false) c.store_place.ensures.raised in
     let w = c.swap_more.ensures.won c.if-swap_more-eq-IDLE.true in let held = c.store_place.ensures.queue.1 ∙ (e.queue.1 ∙ (b.queue.1 ∙ a.queue.1)) in let id = c.store_place.ensures.queue.0.1 ∙ (e.queue.0.1 ∙ (b.queue.0.1 ∙ a.queue.0.1)) in
     (c.store_place.new.seat.me.0, l, won_as g.Q.Quaject.made_by (g.Q.Quaject.fits c.args.self.now.table.shared.key.world.value) _ _ _ _ _ _ id held w)
 
+pub returns-then-swap_more-eq-IDLE-clause-notes : goal.returns-then-swap_more-eq-IDLE-clause-notes
+returns-then-swap_more-eq-IDLE-clause-notes g c = let a = c.load_head-head.ensures in let b = c.load_tail-tail.ensures in let e = c.exchange_head-found.ensures in 
+    let r = found_room c.args.end.now.seat.me.0 c.load_head-head.new.seat.me.0 c.load_tail-tail.new.seat.me.0 c.load_head-head.result c.load_tail-tail.result a.found b.found c.if-head-ge-POSITIONS.false c.if-head-tail.false in 
+    let l = link c.args.end.now.seat.id _ _ _ _ _ _ _ _ (b.queue.0.1 ∙ a.queue.0.1) (e.queue.0.1 ∙ (b.queue.0.1 ∙ a.queue.0.1)) r (e.hit c.if-found-head.false) c.store_place.ensures.raised in
+    let w = c.swap_more.ensures.won c.if-swap_more-eq-IDLE.true in put_on _ _ _ _ (linked_put _ _ _ _ l) (ap (λ (z : View). z.part.runs) w.same) (ap (λ (z : View). z.part.takes) w.same)
+
 pub returns-then-swap_more-eq-IDLE-clause-turn : goal.returns-then-swap_more-eq-IDLE-clause-turn
-returns-then-swap_more-eq-IDLE-clause-turn g c = let a = c.load_head-head.ensures in let b = c.load_tail-tail.ensures in let e = c.exchange_head-found.ensures in
-    let l = link c.args.end.now.seat.id _ _ _ _ _ _ _ _ _ (b.queue.0.1 ∙ a.queue.0.1) (e.queue.0.1 ∙ (b.queue.0.1 ∙ a.queue.0.1)) a.seen b.seen (e.hit c.if-found-head.false) c.store_place.ensures.raised in
+returns-then-swap_more-eq-IDLE-clause-turn g c = let a = c.load_head-head.ensures in let b = c.load_tail-tail.ensures in let e = c.exchange_head-found.ensures in 
+    let r = found_room c.args.end.now.seat.me.0 c.load_head-head.new.seat.me.0 c.load_tail-tail.new.seat.me.0 c.load_head-head.result c.load_tail-tail.result a.found b.found c.if-head-ge-POSITIONS.false c.if-head-tail.false in 
+    let l = link c.args.end.now.seat.id _ _ _ _ _ _ _ _ (b.queue.0.1 ∙ a.queue.0.1) (e.queue.0.1 ∙ (b.queue.0.1 ∙ a.queue.0.1)) r (e.hit c.if-found-head.false) c.store_place.ensures.raised in
     let s = linked_stays _ _ _ _ l c.args.end.now.behind in let w = c.swap_more.ensures.won c.if-swap_more-eq-IDLE.true in λ _. (sym c.args.end.now.turned ∙ (sym s.runner ∙ w.had_none), refl)
 
 pub invariant_of-end-else-swap_more-eq-IDLE : goal.invariant_of-end-else-swap_more-eq-IDLE
-invariant_of-end-else-swap_more-eq-IDLE g c = let a = c.load_head-head.ensures in let b = c.load_tail-tail.ensures in let e = c.exchange_head-found.ensures in
-    let l = link c.args.end.now.seat.id _ _ _ _ _ _ _ _ _ (b.queue.0.1 ∙ a.queue.0.1) (e.queue.0.1 ∙ (b.queue.0.1 ∙ a.queue.0.1)) a.seen b.seen (e.hit c.if-found-head.false) c.store_place.ensures.raised in
-    let s = linked_stays _ _ _ _ l c.args.end.now.behind in let w = (c.swap_more.ensures.told c.if-swap_more-eq-IDLE.false).1 in let t = stays_on _ _ _ s (stays_told _ _ _ s.behind w) in
+invariant_of-end-else-swap_more-eq-IDLE g c = let a = c.load_head-head.ensures in let b = c.load_tail-tail.ensures in let e = c.exchange_head-found.ensures in 
+    let r = found_room c.args.end.now.seat.me.0 c.load_head-head.new.seat.me.0 c.load_tail-tail.new.seat.me.0 c.load_head-head.result c.load_tail-tail.result a.found b.found c.if-head-ge-POSITIONS.false c.if-head-tail.false in 
+    let l = link c.args.end.now.seat.id _ _ _ _ _ _ _ _ (b.queue.0.1 ∙ a.queue.0.1) (e.queue.0.1 ∙ (b.queue.0.1 ∙ a.queue.0.1)) r (e.hit c.if-found-head.false) c.store_place.ensures.raised in
+    let s = linked_stays _ _ _ _ l c.args.end.now.behind in let w = (c.swap_more.ensures.told c.if-swap_more-eq-IDLE.false).1 in let t = stays_on _ _ _ s (stays_told _ _ _ _ s.behind w) in
     let f = ap (λ (z : View). z.part.queue) w.same in record {
       room = t.room ∙ c.args.end.now.room;
       one = t.ends ∙ c.args.end.now.one;
@@ -80,20 +102,29 @@ invariant_of-end-else-swap_more-eq-IDLE g c = let a = c.load_head-head.ensures i
     }
 
 pub returns-clause-ends : goal.returns-clause-ends
-returns-clause-ends g c = let a = c.load_head-head.ensures in let b = c.load_tail-tail.ensures in let e = c.exchange_head-found.ensures in
-    let l = link c.args.end.now.seat.id _ _ _ _ _ _ _ _ _ (b.queue.0.1 ∙ a.queue.0.1) (e.queue.0.1 ∙ (b.queue.0.1 ∙ a.queue.0.1)) a.seen b.seen (e.hit c.if-found-head.false) c.store_place.ensures.raised in
+returns-clause-ends g c = let a = c.load_head-head.ensures in let b = c.load_tail-tail.ensures in let e = c.exchange_head-found.ensures in 
+    let r = found_room c.args.end.now.seat.me.0 c.load_head-head.new.seat.me.0 c.load_tail-tail.new.seat.me.0 c.load_head-head.result c.load_tail-tail.result a.found b.found c.if-head-ge-POSITIONS.false c.if-head-tail.false in 
+    let l = link c.args.end.now.seat.id _ _ _ _ _ _ _ _ (b.queue.0.1 ∙ a.queue.0.1) (e.queue.0.1 ∙ (b.queue.0.1 ∙ a.queue.0.1)) r (e.hit c.if-found-head.false) c.store_place.ensures.raised in
     let s = linked_stays _ _ _ _ l c.args.end.now.behind in let w = c.swap_more.ensures.told c.if-swap_more-eq-IDLE.false in (
       search rules,
-      slot_on g.Q.Quaject.made_by (g.Q.Quaject.fits c.args.self.now.table.shared.key.world.value) _ _ _ _ (stays_on _ _ _ s (stays_told _ _ _ s.behind w.1))
+      slot_on g.Q.Quaject.made_by (g.Q.Quaject.fits c.args.self.now.table.shared.key.world.value) _ _ _ _ (stays_on _ _ _ s (stays_told _ _ _ _ s.behind w.1))
           (w.0 ∙ (c.store_place.ensures.queue.1 ∙ (e.queue.1 ∙ (b.queue.1 ∙ a.queue.1)))) c.requires.1,
     )
 
 pub returns-clause-chained : goal.returns-clause-chained
-returns-clause-chained g c = let a = c.load_head-head.ensures in let b = c.load_tail-tail.ensures in let e = c.exchange_head-found.ensures in
-    let l = link c.args.end.now.seat.id _ _ _ _ _ _ _ _ _ (b.queue.0.1 ∙ a.queue.0.1) (e.queue.0.1 ∙ (b.queue.0.1 ∙ a.queue.0.1)) a.seen b.seen (e.hit c.if-found-head.false) c.store_place.ensures.raised in
-    let w = c.swap_more.ensures.told c.if-swap_more-eq-IDLE.false in let id = c.store_place.ensures.queue.0.1 ∙ (e.queue.0.1 ∙ (b.queue.0.1 ∙ a.queue.0.1)) in let v = c.store_place.new.seat.me.0 in let x = c.swap_more.new.seat.me.0 in (
+returns-clause-chained g c = let a = c.load_head-head.ensures in let b = c.load_tail-tail.ensures in let e = c.exchange_head-found.ensures in 
+    let r = found_room c.args.end.now.seat.me.0 c.load_head-head.new.seat.me.0 c.load_tail-tail.new.seat.me.0 c.load_head-head.result c.load_tail-tail.result a.found b.found c.if-head-ge-POSITIONS.false c.if-head-tail.false in 
+    let l = link c.args.end.now.seat.id _ _ _ _ _ _ _ _ (b.queue.0.1 ∙ a.queue.0.1) (e.queue.0.1 ∙ (b.queue.0.1 ∙ a.queue.0.1)) r (e.hit c.if-found-head.false) c.store_place.ensures.raised in
+    let w = c.swap_more.ensures.told c.if-swap_more-eq-IDLE.false in let id = c.store_place.ensures.queue.0.1 ∙ (e.queue.0.1 ∙ (b.queue.0.1 ∙ a.queue.0.1)) in let v = c.store_place.new.seat.me.0 in let x = c.swap_more.new.seat.me.0 in let n = c.swap_more.result in (
       v,
+      n,
       l,
-      subst (λ (z : ℕ). Notified z v x) id w.1,
+      subst (λ (z : ℕ). Notified z v n x) id w.1,
       w.0 ∙ (c.store_place.ensures.queue.1 ∙ (e.queue.1 ∙ (b.queue.1 ∙ a.queue.1))),
     )
+
+pub returns-clause-notes : goal.returns-clause-notes
+returns-clause-notes g c = let a = c.load_head-head.ensures in let b = c.load_tail-tail.ensures in let e = c.exchange_head-found.ensures in 
+    let r = found_room c.args.end.now.seat.me.0 c.load_head-head.new.seat.me.0 c.load_tail-tail.new.seat.me.0 c.load_head-head.result c.load_tail-tail.result a.found b.found c.if-head-ge-POSITIONS.false c.if-head-tail.false in 
+    let l = link c.args.end.now.seat.id _ _ _ _ _ _ _ _ (b.queue.0.1 ∙ a.queue.0.1) (e.queue.0.1 ∙ (b.queue.0.1 ∙ a.queue.0.1)) r (e.hit c.if-found-head.false) c.store_place.ensures.raised in
+    let w = c.swap_more.ensures.told c.if-swap_more-eq-IDLE.false in put_on _ _ _ _ (linked_put _ _ _ _ l) (ap (λ (z : View). z.part.runs) w.1.same) (ap (λ (z : View). z.part.takes) w.1.same)

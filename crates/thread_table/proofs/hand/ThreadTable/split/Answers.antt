@@ -1,13 +1,15 @@
 use Rattle.std.proofs.Common.{ℕ, List, Bool, sym, ap, subst}
 use Rattle.thread_table.specs.declared.rule.View.{View}
-use Rattle.thread_table.specs.Endings.{Divided, Newborn}
+use Rattle.thread_table.specs.Endings.{Divided, IsNewborn}
 use Rattle.thread_table.specs.Steps.{rest_of}
 use Rattle.thread_table.proofs.Handovers.{divided, born}
 use Rattle.thread_table.proofs.hand.ThreadTable.split.Goals as goal
 
 pub returns-clause-split : goal.returns-clause-split
 returns-clause-split c = let number : ℕ = c.args.processors in let mask : List Bool = c.marks_of-mask.result in let v : View = c.args.hand.now.seat.me.0 in let x : View = c.count_up.new.seat.me.0 in
-    let left = ap (λ z. z.0) c.split_off-seat.ensures.split.0 in let right = ap (λ z. z.0) c.split_off-seat.ensures.split.1 in (
-      subst (Divided number v) (sym left) (divided number mask v x c.marks_of-mask.ensures c.count_up.ensures.counted),
-      subst (λ (y : View). Newborn number y c.split_off-seat.result.me.0) (sym left) (subst (Newborn number (rest_of mask x)) (sym right) (born number mask x c.marks_of-mask.ensures)),
-    )
+    subst (Divided number v) (sym (ap (λ z. z.0) c.split_off-seat.ensures.split.0)) (divided number mask v x _ c.marks_of-mask.ensures c.count_up.ensures.counted)
+
+pub returns-clause-born : goal.returns-clause-born
+returns-clause-born c = let number : ℕ = c.args.processors in let mask : List Bool = c.marks_of-mask.result in let v : View = c.args.hand.now.seat.me.0 in let x : View = c.count_up.new.seat.me.0 in
+    let left = ap (λ z. z.0) c.split_off-seat.ensures.split.0 in let right = ap (λ z. z.0) c.split_off-seat.ensures.split.1 in
+    subst (λ (y : View). IsNewborn number v y c.split_off-seat.result.me.0) (sym left) (subst (IsNewborn number v (rest_of mask x)) (sym right) (born number mask v x _ c.marks_of-mask.ensures c.count_up.ensures.counted))

@@ -1,0 +1,73 @@
+-- What a closed queue was put and taken, by the lines of the end that lists all of it.
+use Rattle.std.proofs.Common.{◌≡◌, ◌≤◌, ◌<◌, ℕ, zero, suc, List, [], ◌∷◌, ◌++◌, map, length, take, drop, get_or, Some, None, refl, sym, ap, subst, ◌∙◌, arith, Bool}
+use Rattle.std.specs.List.{concat}
+use Rattle.std.specs.Prelude.{if◌then◌else◌}
+use Rattle.std.proofs.lemmas.List.{map-append, length-map}
+use Rattle.std.proofs.lemmas.Bool.{le-ltb}
+use mathlib.Core.Option as maybe
+use lib.ListN.{get_elem?}
+use Rattle.table_theory.specs.declared.queues.Cell.{Cell}
+use Rattle.table_theory.specs.declared.queues.Batch.{Batch}
+use Rattle.table_theory.specs.declared.queues.Positions.{Positions}
+use Rattle.table_theory.specs.Positioned.{blank, item_of, left_of}
+use Rattle.table_theory.specs.Filing.{Owned, ListedOnce}
+use Rattle.table_theory.specs.Listing.{all_places, ViewsShow, AllRaised}
+use Rattle.table_theory.proofs.Owned.{told, file_map}
+use Rattle.claim_queue.specs.declared.rule.View.{View}
+use Rattle.claim_queue.specs.Closings.{shown}
+use Rattle.claim_queue.specs.Lines.{line_of, lines_put, lines_taken, entry_of, IsCut, IsSettled}
+
+flat_lines : (log : List (Owned Batch)) → concat (map entry_of (map (told line_of) log)) ≡ map item_of (all_places log)
+flat_lines [] = refl
+flat_lines (o ∷ os) = ap (λ (z : List ℕ). line_of o.2 ++ z) (flat_lines os) ∙ sym (map-append item_of o.2.places (all_places os))
+
+cut_of : (log : List (Owned Batch)) (list : List Batch) (places : List Cell) → ListedOnce log (list ∷ []) → all_places log ≡ places → IsCut (map item_of places) (map line_of list)
+cut_of log list places h e = record { cut = map (told line_of) log; once = file_map line_of log (list ∷ []) h; whole = flat_lines log ∙ ap (map item_of) e }
+
+take_map : (n : ℕ) (l : List Cell) → map item_of (take n l) ≡ take n (map item_of l)
+take_map zero l = refl
+take_map (suc n) [] = refl
+take_map (suc n) (x ∷ l) = ap (λ (z : List ℕ). x.item ∷ z) (take_map n l)
+
+-- a queue that one end lists
+pub settled : (v : View) (q : Positions) (taken : ℕ) → ViewsShow q (v.part ∷ []) → q.taken ≤ length q.places → taken ≡ q.taken → IsSettled (map item_of q.places) taken (lines_put v) (lines_taken v)
+settled v q taken l behind is = let n = length-map q.places item_of in record {
+  behind = omega arith;
+  puts_are = cut_of l.runs v.part.runs q.places l.runs_filed l.runs_flat;
+  takes_are = subst (λ (z : List ℕ). IsCut z (lines_taken v)) (take_map q.taken q.places ∙ ap (λ (z : ℕ). take z (map item_of q.places)) (sym is)) (cut_of l.takes v.part.takes (take q.taken q.places) l.takes_filed l.takes_flat);
+}
+
+-- Where all runs are raised, so are all places
+
+abbrev IsUp : Cell → Type 0
+IsUp e = 2 ≤ e.written
+
+abbrev AllUp : List Cell → Type 0
+AllUp l = (i : ℕ) → i < length l → IsUp (get_or l i blank)
+
+up_append : (a b : List Cell) → AllUp a → AllUp b → AllUp (a ++ b)
+up_append [] b up up' i h = up' i h
+up_append (x ∷ xs) b up up' zero h = up 0 (omega arith)
+up_append (x ∷ xs) b up up' (suc i) h = up_append xs b (λ j k. up (suc j) (omega arith)) up' i (omega arith)
+
+all_up : (log : List (Owned Batch)) → ((k : ℕ) (o : Owned Batch) → get_elem? log k ≡ maybe.some o → AllUp o.2.places) → AllUp (all_places log)
+all_up [] each i h = absurd (omega arith)
+all_up (o ∷ os) each i h = up_append o.2.places (all_places os) (each 0 o refl) (all_up os (λ k p at. each (suc k) p at)) i h
+
+up_drop : (n : ℕ) (l : List Cell) → AllUp l → AllUp (drop n l)
+up_drop zero l up i h = up i h
+up_drop (suc n) [] up i h = absurd (omega arith)
+up_drop (suc n) (x ∷ xs) up i h = up_drop n xs (λ j k. up (suc j) (omega arith)) i h
+
+shown_up : (l : List Cell) → AllUp l → map shown l ≡ map Some (map item_of l)
+shown_up [] up = refl
+shown_up (x ∷ xs) up = (λ k. ap (λ (b : Bool). if b then None else Some x.item) (le-ltb x.written 2 (up 0 (omega arith))) k ∷ shown_up xs (λ i h. up (suc i) (omega arith)) k)
+
+-- the one list of a log with one owner
+one_list : (l m : List Batch) (c : ℕ) → get_elem? (l ∷ []) c ≡ maybe.some m → m ≡ l
+one_list l m zero e = sym (maybe.some-injective l m e)
+one_list l m (suc c) e = absurd (maybe.some-ne-none m (sym e))
+
+pub all_left : (v : View) (q : Positions) → ViewsShow q (v.part ∷ []) → AllRaised v.part.runs → map shown (drop q.taken q.places) ≡ map Some (left_of q)
+all_left v q l raised = shown_up (drop q.taken q.places) (up_drop q.taken q.places (subst AllUp l.runs_flat (all_up l.runs
+    (λ k o at. let s = l.runs_filed.stands k o at in raised o.1 o.2 (subst (λ (z : List Batch). get_elem? z o.1 ≡ maybe.some o.2) (one_list v.part.runs s.0 o.0 s.1) s.2)))))

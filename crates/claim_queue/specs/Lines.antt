@@ -1,0 +1,48 @@
+-- What an end put and took, as lines: a line is one claim, or one taking.
+use Rattle.std.specs.Prelude.{◌≡◌, ◌≤◌, ℕ, List, [], ◌∷◌, ◌++◌, map, length, take}
+use Rattle.std.specs.List.{concat}
+use Rattle.table_theory.specs.declared.queues.Batch.{Batch}
+use Rattle.table_theory.specs.Positioned.{item_of}
+use Rattle.table_theory.specs.Filing.{Owned, ListedOnce}
+use Rattle.claim_queue.specs.declared.rule.View.{View}
+
+abbrev pub line_of : Batch → List ℕ
+line_of e = map item_of e.places
+
+-- the lines that the end put, in the order of its claims
+abbrev pub lines_put : View → List (List ℕ)
+lines_put v = map line_of v.part.runs
+
+-- the lines that the end took, in the order of its takings
+abbrev pub lines_taken : View → List (List ℕ)
+lines_taken v = map line_of v.part.takes
+
+-- nothing was put and nothing taken
+pub record SameLines (v w : View) : Type 0 where
+  pub puts : lines_put w ≡ lines_put v
+  pub takes : lines_taken w ≡ lines_taken v
+
+-- one line more was put
+pub record PutLine (line : List ℕ) (v w : View) : Type 0 where
+  pub puts : lines_put w ≡ lines_put v ++ line ∷ []
+  pub takes : lines_taken w ≡ lines_taken v
+
+-- one line more was taken
+pub record TookLine (line : List ℕ) (v w : View) : Type 0 where
+  pub puts : lines_put w ≡ lines_put v
+  pub takes : lines_taken w ≡ lines_taken v ++ line ∷ []
+
+abbrev pub entry_of : {E : Type 0} → Owned E → E
+entry_of o = o.2
+
+-- the items, cut in order, are these lines, each once
+pub record IsCut (items : List ℕ) (lines : List (List ℕ)) : Type 0 where
+  pub cut : List (Owned (List ℕ))
+  pub once : ListedOnce cut (lines ∷ [])
+  pub whole : concat (map entry_of cut) ≡ items
+
+-- the items put are the lines put, each once, and the first of them are the lines taken, each once
+pub record IsSettled (items : List ℕ) (taken : ℕ) (puts takes : List (List ℕ)) : Type 0 where
+  pub behind : taken ≤ length items
+  pub puts_are : IsCut items puts
+  pub takes_are : IsCut (take taken items) takes

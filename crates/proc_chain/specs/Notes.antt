@@ -1,0 +1,29 @@
+-- What an end put and took: a run for each note that it chained, and a taking for each note that it ran.
+use Rattle.std.specs.Prelude.{◌≡◌, ℕ, List, [], ◌∷◌, ◌++◌, map}
+use Rattle.table_theory.specs.declared.queues.Batch.{Batch}
+use Rattle.table_theory.specs.Positioned.{item_of}
+use Rattle.proc_chain.specs.declared.rule.View.{View}
+
+abbrev pub line_of : Batch → List ℕ
+line_of e = map item_of e.places
+
+-- the notes that the end put, in the order of its claims, each in a run of its own
+abbrev pub notes_put : View → List (List ℕ)
+notes_put v = map line_of v.part.runs
+
+-- the notes that the end took, in order, each by a taking of its own
+abbrev pub notes_taken : View → List (List ℕ)
+notes_taken v = map line_of v.part.takes
+
+abbrev pub alone : ℕ → List ℕ
+alone note = note ∷ []
+
+-- no note was put, and none taken
+pub record SameNotes (v w : View) : Type 0 where
+  pub puts : notes_put w ≡ notes_put v
+  pub takes : notes_taken w ≡ notes_taken v
+
+-- one note more was put, and none taken
+pub record PutNote (note : ℕ) (v w : View) : Type 0 where
+  pub puts : notes_put w ≡ notes_put v ++ alone note ∷ []
+  pub takes : notes_taken w ≡ notes_taken v

@@ -1,0 +1,11 @@
+pub mod Counting
+pub mod Leaving
+pub mod Listing
+pub mod Logs
+pub mod Owned
+pub mod Positioned
+pub mod QueueEvents
+pub mod QueueOf
+pub mod Seeing
+pub mod Totals
+pub mod Windows

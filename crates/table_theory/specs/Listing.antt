@@ -1,0 +1,64 @@
+-- The views' parts list a queue: who claimed each run, and who took what.
+use Rattle.std.specs.Prelude.{◌≡◌, ◌==◌, if◌then◌else◌, ℕ, suc, ◌+◌, ◌<◌, ◌≤◌, List, [], ◌∷◌, ◌++◌, map, length, take}
+use Rattle.std.specs.Prelude.{slice_index_or, slice_set}
+use mathlib.Core.Option.{some}
+use lib.ListN.{get_elem?}
+use Rattle.table_theory.specs.declared.queues.Cell.{Cell}
+use Rattle.table_theory.specs.declared.queues.Batch.{Batch}
+use Rattle.table_theory.specs.declared.queues.Positions.{Positions}
+use Rattle.table_theory.specs.declared.queues.QueueView.{QueueView}
+use Rattle.table_theory.specs.Positioned.{blank, Grows}
+use Rattle.table_theory.specs.Filing.{Owned, ListedOnce}
+
+-- all places of the log, in order
+abbrev pub all_places : List (Owned Batch) → List Cell
+all_places [] = []
+all_places (o ∷ os) = o.2.places ++ all_places os
+
+-- each stretch starts where the one before it ends
+abbrev pub Chained : ℕ → List (Owned Batch) → Type 0
+Chained p [] = Unit {0}
+Chained p (o ∷ os) = (o.2.start ≡ p) × Chained (p + length o.2.places) os
+
+abbrev pub runs_of : QueueView → List Batch
+runs_of v = v.runs
+
+abbrev pub takes_of : QueueView → List Batch
+takes_of v = v.takes
+
+-- the queue is no earlier than what the end has seen and was joined
+abbrev pub Later : QueueView → Positions → Type 0
+Later v q = Grows v.queue q × Grows v.joined q
+
+pub record ViewsShow (q : Positions) (parts : List QueueView) : Type 0 where
+  pub runs : List (Owned Batch)
+  pub takes : List (Owned Batch)
+  pub solid : (k : ℕ) (o : Owned Batch) → get_elem? runs k ≡ some o → 0 < length o.2.places
+  pub runs_flat : all_places runs ≡ q.places
+  pub takes_flat : all_places takes ≡ take q.taken q.places
+  pub runs_chained : Chained q.first runs
+  pub takes_chained : Chained q.first takes
+  pub runs_filed : ListedOnce runs (map runs_of parts)
+  pub takes_filed : ListedOnce takes (map takes_of parts)
+  pub seen : (j : ℕ) (v : QueueView) → get_elem? parts j ≡ some v → Later v q
+
+-- n steps of writing are done at the place i of a stretch
+abbrev pub written_to : Batch → ℕ → ℕ → Batch
+written_to e i n = record {
+  start = e.start;
+  places = slice_set e.places i (record { item = (slice_index_or e.places i blank).item; written = n });
+}
+
+-- all places of the runs are raised
+abbrev pub AllRaised : List Batch → Type 0
+AllRaised l = (m : ℕ) (e : Batch) → get_elem? l m ≡ some e → (i : ℕ) → i < length e.places
+    → 2 ≤ (slice_index_or e.places i blank).written
+
+-- no two runs of a list have one start
+abbrev pub Distinct : List Batch → Type 0
+Distinct l = (m n : ℕ) (e f : Batch) → get_elem? l m ≡ some e → get_elem? l n ≡ some f → e.start ≡ f.start → m ≡ n
+
+-- the number of the run with this start
+abbrev pub number_of : ℕ → List Batch → ℕ
+number_of start [] = 0
+number_of start (e ∷ es) = if e.start == start then 0 else suc (number_of start es)

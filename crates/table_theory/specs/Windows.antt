@@ -1,0 +1,18 @@
+-- What the words of the places say of a queue. A table says how it reads the flag and the item of a place.
+use Rattle.std.specs.Prelude.{◌≡◌, ℕ, ◌+◌, ◌%◌, ◌<◌, ◌≤◌}
+use Rattle.table_theory.specs.declared.queues.Positions.{Positions}
+use Rattle.table_theory.specs.Positioned.{item_at, written_at}
+
+-- the place of the position i behind the first
+abbrev pub spot : Positions → ℕ → ℕ
+spot q i = (q.first + i) % q.room
+
+-- the flag is one more than the position exactly where it is raised, and no more than it before
+pub record PlaceShows (q : Positions) (flag datum : ℕ → ℕ) (i : ℕ) : Type 0 where
+  pub low : written_at q i < 2 → flag (spot q i) ≤ q.first + i
+  pub up : 2 ≤ written_at q i → flag (spot q i) ≡ q.first + i + 1
+  pub holds : 1 ≤ written_at q i → datum (spot q i) ≡ item_at q i
+
+pub record PlacesShow (q : Positions) (flag datum : ℕ → ℕ) : Type 0 where
+  pub some_room : 0 < q.room
+  pub each : (i : ℕ) → q.taken ≤ i → i < q.taken + q.room → PlaceShows q flag datum i

@@ -1,0 +1,7 @@
+use Rattle.std.proofs.Common.{false}
+use Rattle.thread_table.proofs.Entries.{ArePut, either_at}
+use Rattle.thread_table.proofs.hand.either.Given as goal
+
+-- the entries so far have the marks of both
+abbrev pub invariant-loop-i : goal.invariant-loop-i
+invariant-loop-i g l = ArePut false (either_at l.fn.marks l.fn.others) l.i l.fn.marks l.all

@@ -1,8 +1,0 @@
-use Rattle.std.proofs.Common.{◌∙◌, sym, arith, false, List, Bool}
-use Rattle.thread_table.specs.Steps.{either}
-use Rattle.thread_table.proofs.Entries.{either_at, put_all, length-either, get_or-either}
-use Rattle.thread_table.proofs.hand.either_served.Goals as goal
-
-pub returns : goal.returns
-returns c = let old : List Bool = c.args.served.now in let more : List Bool = c.args.others.now in
-    put_all false (either_at old more) c.loop-p.p old c.loop-p.all (either old more) (length-either old more) (omega arith) (λ i. get_or-either old more i (c.told-others ∙ sym c.told-served)) c.loop-p.invariant

@@ -1,0 +1,16 @@
+-- What a hand keeps while it looks, takes, moves, and marks.
+use Rattle.std.specs.Prelude.{◌≡◌}
+use Rattle.thread_table.specs.declared.rule.View.{View}
+
+-- the hand serves the same processors, and has the same on them and the same share
+pub record Keeps (v w : View) : Type 0 where
+  pub first : w.first ≡ v.first
+  pub serves : w.serves ≡ v.serves
+  pub on : w.on ≡ v.on
+  pub share : w.share ≡ v.share
+
+-- so it does, and it holds what it held, and made no event
+pub record Stays (v w : View) : Type 0 where
+  pub keeps : Keeps v w
+  pub held : w.held ≡ v.held
+  pub made : w.made ≡ v.made

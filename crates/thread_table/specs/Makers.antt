@@ -1,0 +1,60 @@
+-- Which hand made which event of the schedule.
+use Rattle.std.specs.Prelude.{◌≡◌, ◌<◌, ℕ, Bool, true, false, if◌then◌else◌, slice_index_or, List, [], ◌∷◌, map}
+use Rattle.std.specs.List.{filter, range_with_len}
+use mathlib.Core.Option.{some}
+use lib.ListN.{get_elem?}
+use Rattle.quaject_core.specs.Accounts.{is_done}
+use Rattle.quaject_core.specs.Elements.{Elements}
+use Rattle.table_theory.specs.Filing.{Owned, ListedOnce}
+use Rattle.quaject_core.specs.declared.event.Event.{Event}
+use Rattle.quaject_core.specs.declared.event.Event.TheVariants as events
+use Rattle.thread_table.specs.declared.rule.Made.{Made}
+use Rattle.std.specs.Result.{result_unwrap_or}
+use Rattle.quaject_core.specs.States.{State, step}
+use Rattle.thread_table.specs.declared.rule.View.{View}
+use Rattle.thread_table.specs.Schedules.{begun, thread_at}
+
+abbrev pub is_join : Event → Bool
+is_join (events.Join call other) = true
+is_join event = false
+
+abbrev pub made_of : View → List Made
+made_of v = v.made
+
+-- how many steps the element of a done event, or of a claim, had done before
+abbrev pub number_of : Event → State → ℕ
+number_of (events.Done call element) s = (thread_at s.elements element).done
+number_of (events.Claim call queue items) s = (thread_at s.elements (slice_index_or items 0 0)).done
+number_of (events.WaitAt call wait element ticket) s = (thread_at s.elements element).done
+number_of event s = 0
+
+-- the signals that an event delivers: those that it found pending
+abbrev pub signals_of : Event → State → List ℕ
+signals_of (events.Deliver call element) s = filter (thread_at s.elements element).pending (range_with_len 0 16)
+signals_of event s = []
+
+-- an event, where it found this state
+abbrev pub made_in : Event → State → Made
+made_in event s = record { event = event; number = number_of event s; signals = signals_of event s }
+
+-- the events but for the joins, each with the number that it found
+abbrev pub numbered : State → List Event → List Made
+numbered s [] = []
+numbered s (event ∷ events) = if is_join event then numbered (result_unwrap_or (step event s) s) events
+    else (made_in event s ∷ numbered (result_unwrap_or (step event s) s) events)
+
+abbrev pub entry_of : Owned Made → Made
+entry_of o = o.2
+
+-- the lists of the hands have the events of the schedule, each once, but for the joins
+pub record AreMade (events : List Event) (lists : List (List Made)) : Type 0 where
+  pub log : List (Owned Made)
+  pub listed : ListedOnce log lists
+  pub logged : map entry_of log ≡ numbered begun events
+
+-- each step that an element has done is counted by one event of the list
+pub record StepsOnce (made : List Made) (e : Elements) : Type 0 where
+  pub once : (i j element : ℕ) (a b : Made) → get_elem? made i ≡ some a → get_elem? made j ≡ some b
+      → is_done element a.event ≡ true → is_done element b.event ≡ true → a.number ≡ b.number → i ≡ j
+  pub all : (element number : ℕ) → number < (thread_at e element).done → (i : ℕ) × (a : Made)
+      × (get_elem? made i ≡ some a) × (is_done element a.event ≡ true) × (a.number ≡ number)

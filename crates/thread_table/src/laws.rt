@@ -1,0 +1,62 @@
+//! What a call leaves to its hand as it was.
+ghost use Rattle.std.specs.Prelude.{◌≡◌, ℕ, Bool, false, Result, Ok, Err};
+ghost use Rattle.thread_table.specs.declared.rule.View.{View};
+ghost use Rattle.thread_table.specs.declared.takings.NextRefusal.{NextRefusal};
+ghost use Rattle.thread_table.specs.declared.moves.MoveRefusal.{MoveRefusal};
+ghost use Rattle.thread_table.specs.declared.states.Started.{Started};
+ghost use Rattle.thread_table.specs.declared.states.Started.TheVariants as started;
+ghost use Rattle.thread_table.specs.declared.states.Lost.{Lost};
+ghost use Rattle.thread_table.specs.declared.states.Signalled.{Signalled};
+ghost use Rattle.thread_table.specs.declared.programs.Spent.{Spent};
+ghost use Rattle.thread_table.specs.Steps.{Found, Counts};
+ghost use Rattle.thread_table.specs.Answers.{TakeAnswer, MoveAnswer, WaitAnswer, IsTicket, StoppedNow, StartAnswer};
+ghost use Rattle.thread_table.specs.Answers.{ParkAnswer, SignalAnswer, DeliverAnswer, DoneAnswer};
+ghost use Rattle.thread_table.specs.Wakes.{WokeAll};
+ghost use Rattle.thread_table.specs.Keeping.{Keeps, Stays};
+
+/// A call that only looked, or that was refused, leaves to its hand all that it has, and made no event.
+///
+/// These are the refusals of all takings, moves, starts, parks, deliveries and counts, and the answers that come
+/// without an event: a ticket, the steps done, and a start, a park or a delivery where there is nothing to do.
+pub fn refusals_stay()
+    ensures looks { (v w : View) (word found : ℕ) → Found v word found w → Stays v w }
+    ensures takes { (call line : ℕ) (v w : View) (r : NextRefusal) → TakeAnswer call v line (Err r) w → Stays v w }
+    ensures moves { (call line element : ℕ) (v w : View) (r : MoveRefusal)
+        → MoveAnswer call v line element (Err r) w → Stays v w }
+    ensures waits { (call wait element ticket : ℕ) (v w : View) (r : MoveRefusal)
+        → WaitAnswer call v wait element ticket (Err r) w → Stays v w }
+    ensures tickets { (wait ticket : ℕ) (v w : View) → IsTicket v wait ticket w → Stays v w }
+    ensures starts { (call element : ℕ) (v w : View) (r : Lost) → StartAnswer call v element (Err r) w → Stays v w }
+    ensures goes_on { (call element : ℕ) (v w : View) → StartAnswer call v element (Ok started.NotStopped) w
+        → Stays v w }
+    ensures parks { (call element : ℕ) (v w : View) (r : Lost) → ParkAnswer call v element (Err r) w → Stays v w }
+    ensures runs { (call element : ℕ) (v w : View) → ParkAnswer call v element (Ok false) w → Stays v w }
+    ensures delivers { (call element : ℕ) (v w : View) (r : Lost) → DeliverAnswer call v element (Err r) w
+        → Stays v w }
+    ensures delivers_none { (call element : ℕ) (v w : View) → DeliverAnswer call v element (Ok 0) w → Stays v w }
+    ensures counts { (element found : ℕ) (v w : View) → Counts element v found w → Stays v w }
+    ensures spent { (call element : ℕ) (v w : View) (r : Spent) → DoneAnswer call v element (Err r) w → Stays v w }
+{}
+
+/// No taking, move, mark, start, park, delivery, step or wake changes the processors that its hand serves, what it has
+/// on them, or its share.
+pub fn answers_keep()
+    ensures takes { (call line : ℕ) (v w : View) (r : Result ℕ NextRefusal) → TakeAnswer call v line r w
+        → Keeps v w }
+    ensures moves { (call line element : ℕ) (v w : View) (r : Result (Unit {0}) MoveRefusal)
+        → MoveAnswer call v line element r w → Keeps v w }
+    ensures waits { (call wait element ticket : ℕ) (v w : View) (r : Result (Unit {0}) MoveRefusal)
+        → WaitAnswer call v wait element ticket r w → Keeps v w }
+    ensures stops { (call element : ℕ) (was : Bool) (v w : View) → StoppedNow call v element was w → Keeps v w }
+    ensures starts { (call element : ℕ) (v w : View) (r : Result Started Lost) → StartAnswer call v element r w
+        → Keeps v w }
+    ensures parks { (call element : ℕ) (v w : View) (r : Result Bool Lost) → ParkAnswer call v element r w
+        → Keeps v w }
+    ensures signals { (call element number : ℕ) (v w : View) (r : Signalled)
+        → SignalAnswer call v element number r w → Keeps v w }
+    ensures delivers { (call element : ℕ) (v w : View) (r : Result ℕ Lost) → DeliverAnswer call v element r w
+        → Keeps v w }
+    ensures steps { (call element : ℕ) (v w : View) (r : Result ℕ Spent) → DoneAnswer call v element r w
+        → Keeps v w }
+    ensures wakes { (call wait mask : ℕ) (v w : View) → WokeAll call v wait mask w → Keeps v w }
+{}

@@ -14,12 +14,14 @@ use Rattle.table_theory.proofs.Positioned.{grows_refl, claim_lawful}
 use Rattle.table_theory.proofs.Listing.{listed_claim, distinct}
 use Rattle.table_theory.proofs.QueueEvents.{claim_event}
 use Rattle.table_theory.proofs.Counting.{counted_look}
+use Rattle.table_theory.specs.Ends.{EndsLogged}
+use Rattle.table_theory.proofs.Ends.{logged_look}
 use Rattle.table_theory.proofs.Windows.{window_same, window_claim}
 use Rattle.claim_queue.specs.declared.rule.Shape.{Shape}
 use Rattle.claim_queue.specs.declared.rule.View.{View}
 use Rattle.claim_queue.specs.Shown.{mark, data_in, flag_in, WordsShow}
 use Rattle.table_theory.proofs.Totals.{total_kept}
-use Rattle.claim_queue.specs.Rules.{part_of, ends_of, share_of, shuts_of, IsIdle, Rule}
+use Rattle.claim_queue.specs.Rules.{part_of, ends_of, share_of, splits_of, joins_of, log_of, shuts_of, IsIdle, Rule}
 use Rattle.claim_queue.specs.Steps.{after, run, claimed, claims}
 use Rattle.claim_queue.proofs.Looks.{St, kept_look, found_now, sees_of}
 use Rattle.quaject_core.specs.Queues.{claim}
@@ -64,6 +66,7 @@ claims_head key n id call me old new xs mine is fits room live some_items s k _ 
         listed = subst (ViewsShow q') (sym (map-set part_of s.views id w)) listed';
         shut_once = total_kept shuts_of s.views id v w at refl ∙ k.shut_once;
         counted = subst (λ (c : ℕ). EndsCounted ends_of share_of IsIdle c (set s.views id w)) (sym (get_or-set_other s.words 0 2 new 0 (λ e. omega arith))) (counted_look ends_of share_of IsIdle (get_or s.words 2 0) s.views id v w k.counted at refl refl (λ none. absurd (omega arith)));
+        logged = subst (λ (c : ℕ). EndsLogged splits_of joins_of log_of c (set s.views id w)) (sym (get_or-set_other s.words 0 2 new 0 (λ e. omega arith))) (logged_look splits_of joins_of log_of (get_or s.words 2 0) s.views id v w k.logged at refl refl refl);
       },
       (
         refl,

@@ -17,23 +17,23 @@ use Rattle.claim_queue.specs.Answers.{ClaimedItems, Refused}
 use Rattle.claim_queue.specs.Takings.{TookItems, FoundTooFew, RefusedTake}
 use Rattle.claim_queue.specs.Puts.{Raised, RaisedFrom, IsPut, Tries, PutAnswer}
 use Rattle.claim_queue.specs.Lines.{line_of, lines_put, lines_taken, SameLines, PutLine, TookLine}
-use Rattle.claim_queue.proofs.Following.{same_runs, same_takes}
+use Rattle.claim_queue.proofs.Following.{same_runs, same_takes, same_share}
 use Rattle.claim_queue.specs.Claims.{KeepsClaims}
-use Rattle.claim_queue.proofs.Raising.{room_runs, room_takes, refused_runs, owns_same}
+use Rattle.claim_queue.proofs.Raising.{room_runs, room_takes, room_share, refused_runs, refused_share, owns_same}
 use Rattle.claim_queue.proofs.Staying.{Stays, stays_on, stays_found, stays_scanned, stays_stopped}
 
 -- where runs and takings stay, so do the lines
-pub lines_same : (v w : View) → w.part.runs ≡ v.part.runs → w.part.takes ≡ v.part.takes → SameLines v w
-lines_same v w runs takes = record { puts = ap (map line_of) runs; takes = ap (map line_of) takes }
+pub lines_same : (v w : View) → w.part.runs ≡ v.part.runs → w.part.takes ≡ v.part.takes → w.share ≡ v.share → SameLines v w
+lines_same v w runs takes share = record { puts = ap (map line_of) runs; takes = ap (map line_of) takes; share = share }
 
 pub lines_stay : (v w : View) → Stays v w → SameLines v w
-lines_stay v w s = lines_same v w s.runs s.takes
+lines_stay v w s = lines_same v w s.runs s.takes s.share
 
 pub same_on : (u v w : View) → SameLines u v → SameLines v w → SameLines u w
-same_on u v w a b = record { puts = b.puts ∙ a.puts; takes = b.takes ∙ a.takes }
+same_on u v w a b = record { puts = b.puts ∙ a.puts; takes = b.takes ∙ a.takes; share = b.share ∙ a.share }
 
 pub refused_lines : (room n : ℕ) (v w : View) (r : ClaimRefusal) → Refused room v n r w → SameLines v w
-refused_lines room n v w r h = let s = refused_runs room n v w r h in lines_same v w s.0 s.1
+refused_lines room n v w r h = let s = refused_runs room n v w r h in lines_same v w s.0 s.1 (refused_share room n v w r h)
 
 -- a claim is one line more
 pub claimed_line : (room call : ℕ) (v w : View) (start : ℕ) (items : List ℕ) → ClaimedItems room call v start items w → PutLine items v w
@@ -41,6 +41,7 @@ claimed_line room call v w start items h = let u = h.before in let c = h.claimed
   puts = ap lines_put c.same ∙ map-append line_of u.part.runs (run start items ∷ [])
       ∙ (λ k. map line_of (room_runs room v (length items) start u f k) ++ fresh_items items k ∷ []);
   takes = ap lines_taken c.same ∙ ap (map line_of) (room_takes room v (length items) start u f);
+  share = ap (λ (z : View). z.share) c.same ∙ room_share room v (length items) start u f;
 }
 
 same_lines_set : (l : List Batch) (m i n : ℕ) (e : Batch) → get_elem? l m ≡ some e → map line_of (set l m (written_to e i n)) ≡ map line_of l
@@ -49,19 +50,19 @@ same_lines_set (x ∷ xs) zero i n e h = ap (λ (z : List ℕ). z ∷ map line_o
 same_lines_set (x ∷ xs) (suc m) i n e h = ap (λ (z : List (List ℕ)). line_of x ∷ z) (same_lines_set xs m i n e h)
 
 pub wrote_lines : (call : ℕ) (v w : View) (m i n u x : ℕ) → Wrote call v m i n u x w → SameLines v w
-wrote_lines call v w m i n u x h = record { puts = ap lines_put h.same ∙ same_lines_set v.part.runs m i n h.run h.has; takes = ap lines_taken h.same }
+wrote_lines call v w m i n u x h = record { puts = ap lines_put h.same ∙ same_lines_set v.part.runs m i n h.run h.has; takes = ap lines_taken h.same; share = ap (λ (z : View). z.share) h.same }
 
 pub raised_lines : (room call : ℕ) (v w : View) (start i item : ℕ) → Raised room call v start i item w → SameLines v w
 raised_lines room call v w start i item h = same_on v h.between w (wrote_lines call v h.between _ i 1 _ _ h.stored) (wrote_lines call h.between w _ i 2 _ _ h.raised)
 
 pub raised_from_lines : (room call start : ℕ) (items : List ℕ) (v w : View) (n : ℕ) → RaisedFrom room call start items v w n → SameLines v w
-raised_from_lines room call start items v w zero h = record { puts = ap lines_put h; takes = ap lines_taken h }
+raised_from_lines room call start items v w zero h = record { puts = ap lines_put h; takes = ap lines_taken h; share = ap (λ (z : View). z.share) h }
 raised_from_lines room call start items v w (suc n) h = let u = h.0 in
     same_on v u w (raised_from_lines room call start items v u n h.1) (raised_lines room call u w start n (get_or items n 0) h.2)
 
 pub put_line : (room call : ℕ) (v w : View) (start : ℕ) (items : List ℕ) → IsPut room call v start items w → PutLine items v w
 put_line room call v w start items h = let u = h.0 in let c = claimed_line room call v u start items h.1 in let r = raised_from_lines room call start items u w (length items) h.2 in
-    record { puts = r.puts ∙ c.puts; takes = r.takes ∙ c.takes }
+    record { puts = r.puts ∙ c.puts; takes = r.takes ∙ c.takes; share = r.share ∙ c.share }
 
 pub put_lines : (room call : ℕ) (v w : View) (items : List ℕ) (r : Result ℕ ClaimRefusal) → MatchResult r (λ start. IsPut room call v start items w) (λ e. Refused room v (length items) e w)
     → MatchResult r (λ start. PutLine items v w) (λ e. SameLines v w)
@@ -69,16 +70,16 @@ put_lines room call v w items (Ok start) h = put_line room call v w start items 
 put_lines room call v w items (Err e) h = refused_lines room (length items) v w e h
 
 tries_lines : (room n : ℕ) (v w : View) (lost : List ℕ) → Tries room v n lost w → SameLines v w
-tries_lines room n v w [] t = record { puts = ap lines_put t; takes = ap lines_taken t }
+tries_lines room n v w [] t = record { puts = ap lines_put t; takes = ap lines_taken t; share = ap (λ (z : View). z.share) t }
 tries_lines room n v w (x ∷ xs) t = let l = t.1 in let f = l.found in
-    same_on v t.0 w (lines_same v t.0 (same_runs l.before t.0 0 x l.missed ∙ room_runs room v n l.first l.before f) (same_takes l.before t.0 0 x l.missed ∙ room_takes room v n l.first l.before f)) (tries_lines room n t.0 w xs t.2)
+    same_on v t.0 w (lines_same v t.0 (same_runs l.before t.0 0 x l.missed ∙ room_runs room v n l.first l.before f) (same_takes l.before t.0 0 x l.missed ∙ room_takes room v n l.first l.before f) (same_share l.before t.0 0 x l.missed ∙ room_share room v n l.first l.before f)) (tries_lines room n t.0 w xs t.2)
 
 tried : (room n : ℕ) (v u w : View) (lost : List ℕ) (e : ClaimRefusal) → Tries room v n lost u → Refused room u n e w → SameLines v w
 tried room n v u w lost e t h = same_on v u w (tries_lines room n v u lost t) (refused_lines room n u w e h)
 
 pub answer_lines : (room call : ℕ) (v w : View) (items : List ℕ) (r : Result ℕ ClaimRefusal) → PutAnswer room call v items r w → MatchResult r (λ start. PutLine items v w) (λ e. SameLines v w)
 answer_lines room call v w items (Ok start) h = let s = tries_lines room (length items) v h.1 h.0 h.2 in let p = put_line room call h.1 w start items h.3 in
-    record { puts = p.puts ∙ ap (λ (z : List (List ℕ)). z ++ items ∷ []) s.puts; takes = p.takes ∙ s.takes }
+    record { puts = p.puts ∙ ap (λ (z : List (List ℕ)). z ++ items ∷ []) s.puts; takes = p.takes ∙ s.takes; share = p.share ∙ s.share }
 answer_lines room call v w items (Err NoItems) h = tried room (length items) v h.1 w h.0 NoItems h.2 h.3
 answer_lines room call v w items (Err TooLong) h = tried room (length items) v h.1 w h.0 TooLong h.2 h.3
 answer_lines room call v w items (Err Closed) h = tried room (length items) v h.1 w h.0 Closed h.2 h.3
@@ -93,6 +94,7 @@ took_line room call v w items t = let q = t.taken.queue in let k = stays_on v t.
     puts = ap lines_put t.taken.same ∙ ap (map line_of) k.runs;
     takes = ap lines_taken t.taken.same ∙ map-append line_of t.before.part.takes (taking q (length items) ∷ [])
         ∙ (λ i. map line_of (k.takes i) ++ t.first_left i ∷ []);
+    share = ap (λ (z : View). z.share) t.taken.same ∙ k.share;
   },
   ap (λ (z : View). z.part.runs) t.taken.same ∙ k.runs,
 )

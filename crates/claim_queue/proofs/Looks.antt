@@ -12,11 +12,13 @@ use Rattle.table_theory.proofs.Listing.{listed_look}
 use Rattle.table_theory.specs.Seeing.{Sees}
 use Rattle.table_theory.proofs.Seeing.{sees_now}
 use Rattle.table_theory.proofs.Counting.{counted_look}
+use Rattle.table_theory.specs.Ends.{EndsLogged}
+use Rattle.table_theory.proofs.Ends.{logged_look}
 use Rattle.table_theory.proofs.Totals.{total_kept}
 use Rattle.claim_queue.specs.declared.rule.Shape.{Shape}
 use Rattle.claim_queue.specs.declared.rule.View.{View}
 use Rattle.claim_queue.specs.Shown.{WordsShow}
-use Rattle.claim_queue.specs.Rules.{part_of, ends_of, share_of, shuts_of, IsIdle, Rule}
+use Rattle.claim_queue.specs.Rules.{part_of, ends_of, share_of, splits_of, joins_of, log_of, shuts_of, IsIdle, Rule}
 use Rattle.claim_queue.specs.Steps.{after, Found, finds}
 
 abbrev pub St : Type 0
@@ -34,6 +36,7 @@ kept_look key s k i id found v at = let w : View = after v i found k.queue in le
   listed = subst (ViewsShow k.queue) (sym (map-set part_of s.views id w)) (listed_look k.queue (map part_of s.views) id v.part w.part k.listed (at_map part_of s.views id v at) refl refl (grows_refl k.queue, grows_refl k.queue));
   shut_once = total_kept shuts_of s.views id v w at refl ∙ k.shut_once;
   counted = subst (λ (n : ℕ). EndsCounted ends_of share_of IsIdle n (set s.views id w)) (ap (λ (z : List ℕ). get_or z 2 0) (sym same)) (counted_look ends_of share_of IsIdle (get_or s.words 2 0) s.views id v w k.counted at refl refl (λ _ h. h));
+  logged = subst (λ (c : ℕ). EndsLogged splits_of joins_of log_of c (set s.views id w)) (ap (λ (z : List ℕ). get_or z 2 0) (sym same)) (logged_look splits_of joins_of log_of (get_or s.words 2 0) s.views id v w k.logged at refl refl refl);
 }
 
 pub sees_of : (key : Shape) (s : St) (k : Rule key s) (id : ℕ) (v : View) → get_elem? s.views id ≡ some v → Sees v.part k.queue

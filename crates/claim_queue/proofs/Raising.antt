@@ -18,7 +18,7 @@ use Rattle.claim_queue.specs.Puts.{Raised}
 use Rattle.claim_queue.specs.Answers.{FoundRoom, ClaimedItems, Refused}
 use Rattle.claim_queue.specs.declared.claim.ClaimRefusal.{ClaimRefusal}
 use Rattle.claim_queue.specs.declared.claim.ClaimRefusal.TheVariants.{NoItems, TooLong, Closed, Spent, Full, Lost}
-use Rattle.claim_queue.proofs.Following.{same_runs, same_takes}
+use Rattle.claim_queue.proofs.Following.{same_runs, same_takes, same_share}
 use Rattle.claim_queue.specs.Claims.{raised_place, places_of, run_of, Owns, KeepsClaims, KeepsOthers}
 
 pub number_set : (start : ℕ) (l : List Batch) (m : ℕ) (e f : Batch) → get_elem? l m ≡ some e → f.start ≡ e.start → number_of start (set l m f) ≡ number_of start l
@@ -155,6 +155,17 @@ claims_claimed room call v w head items h = let u : View = h.before in let c = h
 
 pub room_takes : (room : ℕ) (v : View) (n head : ℕ) (w : View) → FoundRoom room v n head w → w.part.takes ≡ v.part.takes
 room_takes room v n head w f = same_takes f.loaded w 1 f.tail f.tail_loaded ∙ same_takes v f.loaded 0 head f.head_loaded
+
+pub room_share : (room : ℕ) (v : View) (n head : ℕ) (w : View) → FoundRoom room v n head w → w.share ≡ v.share
+room_share room v n head w f = same_share f.loaded w 1 f.tail f.tail_loaded ∙ same_share v f.loaded 0 head f.head_loaded
+
+pub refused_share : (room n : ℕ) (v w : View) (r : ClaimRefusal) → Refused room v n r w → w.share ≡ v.share
+refused_share room n v w NoItems h = ap (λ (z : View). z.share) h.1
+refused_share room n v w TooLong h = ap (λ (z : View). z.share) h.1
+refused_share room n v w Closed h = ⊎_elim (λ f. same_share v w 0 f.head f.loaded) (λ f. same_share f.before w 0 f.head f.missed ∙ room_share room v n f.first f.before f.found) h.1
+refused_share room n v w Spent h = let f = h.1 in same_share v w 0 f.head f.loaded
+refused_share room n v w (Full head tail) h = let f = h.1 in same_share f.loaded w 1 tail f.tail_loaded ∙ same_share v f.loaded 0 head f.head_loaded
+refused_share room n v w (Lost head) h = let f = h.1 in same_share f.before w 0 head f.missed ∙ room_share room v n f.first f.before f.found
 
 -- a refused claim leaves the end's claims as they are
 pub refused_runs : (room n : ℕ) (v w : View) (r : ClaimRefusal) → Refused room v n r w → (w.part.runs ≡ v.part.runs) × (w.part.takes ≡ v.part.takes)

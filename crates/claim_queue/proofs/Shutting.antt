@@ -15,6 +15,8 @@ use Rattle.table_theory.proofs.Positioned.{grows_refl, shut_lawful}
 use Rattle.table_theory.proofs.Listing.{listed_shut}
 use Rattle.table_theory.proofs.QueueEvents.{shut_event}
 use Rattle.table_theory.proofs.Counting.{counted_look}
+use Rattle.table_theory.specs.Ends.{EndsLogged}
+use Rattle.table_theory.proofs.Ends.{logged_look}
 use Rattle.table_theory.proofs.Windows.{window_same, window_shut}
 use Rattle.claim_queue.specs.declared.rule.Shape.{Shape}
 use Rattle.claim_queue.specs.declared.rule.View.{View}
@@ -24,7 +26,7 @@ use Rattle.table_theory.proofs.Totals.{total_set}
 use Rattle.table_theory.specs.Sharing.{total}
 use Rattle.table_theory.specs.QueueOf.{IsEvent}
 use Rattle.quaject_core.specs.Marks as marks
-use Rattle.claim_queue.specs.Rules.{part_of, ends_of, share_of, shuts_of, times_shut, IsIdle, Rule}
+use Rattle.claim_queue.specs.Rules.{part_of, ends_of, share_of, splits_of, joins_of, log_of, shuts_of, times_shut, IsIdle, Rule}
 use Rattle.claim_queue.specs.Steps.{shut_by, shuts}
 
 or_nothing : (h : ℕ) → bit_or h 0 ≡ h
@@ -64,6 +66,7 @@ shuts_head key n id call me mine live s k _ at _ = let v : View = me.0 in let q 
         listed = subst (ViewsShow (with_shut q)) (sym (map-set part_of s.views id w)) (listed_shut q (map part_of s.views) id v.part w.part k.listed (at_map part_of s.views id v at) refl refl (grows_refl (with_shut q), grows_refl (with_shut q)));
         shut_once = (let t = total_set shuts_of s.views id v w at in let o = k.shut_once in let m = shut_more q in let e : total shuts_of (set s.views id w) ≡ 1 = omega arith in e);
         counted = subst (λ (c : ℕ). EndsCounted ends_of share_of IsIdle c (set s.views id w)) (sym (get_or-set_other s.words 0 2 new 0 (λ e. omega arith))) (counted_look ends_of share_of IsIdle (get_or s.words 2 0) s.views id v w k.counted at refl refl (λ none. absurd (omega arith)));
+        logged = subst (λ (c : ℕ). EndsLogged splits_of joins_of log_of c (set s.views id w)) (sym (get_or-set_other s.words 0 2 new 0 (λ e. omega arith))) (logged_look splits_of joins_of log_of (get_or s.words 2 0) s.views id v w k.logged at refl refl refl);
       },
       (refl, record { queue = q; same = refl; sees = sees_of key s k id v at; is = h.head; event = subst (λ (z : ℕ). IsEvent q (with_shut q) z v.part w.part (λ c. Ok (marks.shut c))) (sym mine) (shut_event q (map part_of s.views) id v.part w.part k.listed (at_map part_of s.views id v at) k.lawful refl refl (grows_refl (with_shut q), grows_refl (with_shut q))) }),
     )

@@ -9,22 +9,23 @@ use Rattle.table_theory.proofs.Seeing.{sees_as, sees_on}
 use Rattle.claim_queue.specs.declared.rule.View.{View}
 use Rattle.claim_queue.specs.Steps.{Found, Took}
 use Rattle.claim_queue.specs.Takings.{Scanned, StoppedAt}
-use Rattle.claim_queue.proofs.Following.{same_runs, same_takes}
+use Rattle.claim_queue.proofs.Following.{same_runs, same_takes, same_share}
 
 -- the end has what it had, and has seen the queue again
 pub record Stays (v w : View) : Type 0 where
   pub runs : w.part.runs ≡ v.part.runs
   pub takes : w.part.takes ≡ v.part.takes
+  pub share : w.share ≡ v.share
   pub grows : Grows v.part.queue w.part.queue
 
 pub stays_refl : (v : View) → Stays v v
-stays_refl v = record { runs = refl; takes = refl; grows = grows_refl v.part.queue }
+stays_refl v = record { runs = refl; takes = refl; share = refl; grows = grows_refl v.part.queue }
 
 pub stays_on : (u v w : View) → Stays u v → Stays v w → Stays u w
-stays_on u v w a b = record { runs = b.runs ∙ a.runs; takes = b.takes ∙ a.takes; grows = grows_trans u.part.queue v.part.queue w.part.queue a.grows b.grows }
+stays_on u v w a b = record { runs = b.runs ∙ a.runs; takes = b.takes ∙ a.takes; share = b.share ∙ a.share; grows = grows_trans u.part.queue v.part.queue w.part.queue a.grows b.grows }
 
 pub stays_found : (v w : View) (i r : ℕ) → Found v i r w → Stays v w
-stays_found v w i r f = record { runs = same_runs v w i r f; takes = same_takes v w i r f; grows = f.sees.later.0 }
+stays_found v w i r f = record { runs = same_runs v w i r f; takes = same_takes v w i r f; share = same_share v w i r f; grows = f.sees.later.0 }
 
 pub stays_scanned : (room : ℕ) (v w : View) (p : ℕ) (xs : List ℕ) → Scanned room v p xs w → Stays v w
 stays_scanned room v w p [] s = subst (Stays v) (sym s) (stays_refl v)

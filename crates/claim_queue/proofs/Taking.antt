@@ -13,6 +13,8 @@ use Rattle.table_theory.proofs.Positioned.{grows_refl, take_lawful}
 use Rattle.table_theory.proofs.Listing.{listed_take}
 use Rattle.table_theory.proofs.QueueEvents.{take_event}
 use Rattle.table_theory.proofs.Counting.{counted_look}
+use Rattle.table_theory.specs.Ends.{EndsLogged}
+use Rattle.table_theory.proofs.Ends.{logged_look}
 use Rattle.table_theory.proofs.Windows.{window_same, window_take}
 use Rattle.claim_queue.specs.declared.rule.Shape.{Shape}
 use Rattle.claim_queue.specs.declared.rule.View.{View}
@@ -20,7 +22,7 @@ use Rattle.claim_queue.specs.Shown.{data_in, flag_in, WordsShow}
 use Rattle.table_theory.proofs.Totals.{total_kept}
 use Rattle.table_theory.specs.QueueOf.{IsEvent}
 use Rattle.quaject_core.specs.Queues.{take_first}
-use Rattle.claim_queue.specs.Rules.{part_of, ends_of, share_of, shuts_of, IsIdle, Rule}
+use Rattle.claim_queue.specs.Rules.{part_of, ends_of, share_of, splits_of, joins_of, log_of, shuts_of, IsIdle, Rule}
 use Rattle.claim_queue.specs.Steps.{after, took, takes}
 use Rattle.claim_queue.proofs.Looks.{kept_look, found_now, sees_of}
 use Rattle.claim_queue.proofs.Claiming.{Goes}
@@ -55,6 +57,7 @@ takes_tail key n id call me old new at mine le start up live s k _ has _ = let y
         listed = subst (ViewsShow q') (sym (map-set part_of s.views id w)) (listed_take q (map part_of s.views) id m v.part w.part k.listed (at_map part_of s.views id v has) k.lawful.behind refl refl (grows_refl q', grows_refl q'));
         shut_once = total_kept shuts_of s.views id v w has refl ∙ k.shut_once;
         counted = subst (λ (c : ℕ). EndsCounted ends_of share_of IsIdle c (set s.views id w)) (sym (get_or-set_other s.words 1 2 new 0 (λ e. omega arith))) (counted_look ends_of share_of IsIdle (get_or s.words 2 0) s.views id v w k.counted has refl refl (λ none. absurd (omega arith)));
+        logged = subst (λ (c : ℕ). EndsLogged splits_of joins_of log_of c (set s.views id w)) (sym (get_or-set_other s.words 1 2 new 0 (λ e. omega arith))) (logged_look splits_of joins_of log_of (get_or s.words 2 0) s.views id v w k.logged has refl refl refl);
       },
       (refl, (λ _. record { queue = q; same = refl; sees = sees_of key s k id v has; at = omega arith; event = subst (λ (z : ℕ). IsEvent q q' z v.part w.part (take_first q.room m)) (sym mine) (take_event q (map part_of s.views) id m v.part w.part k.listed (at_map part_of s.views id v has) k.lawful (omega arith) lawful'.behind still refl refl (grows_refl q', grows_refl q')); after_it = lawful' }), λ miss. absurd (miss hit)),
     ))

@@ -12,16 +12,18 @@ use Rattle.atomic_table.proofs.Lists.{at_map, set_else}
 use Rattle.table_theory.proofs.Positioned.{grows_refl}
 use Rattle.table_theory.proofs.Listing.{listed_look, listed_new, listed_join, listed_first, distinct}
 use Rattle.table_theory.specs.Sharing.{total}
-use Rattle.table_theory.proofs.Counting.{counted_up, counted_down, counted_split, counted_join, counted_first, count_found}
+use Rattle.table_theory.proofs.Counting.{counted_up, counted_down, counted_split, counted_join, counted_first, counted_look, count_found}
+use Rattle.table_theory.specs.Ends.{EndsLogged}
+use Rattle.table_theory.proofs.Ends.{begins_refl, logged_as, logged_up, logged_down, logged_split, logged_join, logged_first}
 use Rattle.table_theory.proofs.Totals.{total_kept, total_set, total_push}
 use Rattle.table_theory.proofs.Windows.{window_same}
 use Rattle.table_theory.specs.Windows.{spot}
 use Rattle.claim_queue.specs.declared.rule.Shape.{Shape}
 use Rattle.claim_queue.specs.declared.rule.View.{View}
 use Rattle.claim_queue.specs.Shown.{data_in, flag_in, WordsShow}
-use Rattle.claim_queue.specs.Rules.{part_of, ends_of, share_of, shuts_of, IsIdle, Rule, empty, newcomer}
-use Rattle.claim_queue.specs.Steps.{after, counts_up, counts_down, counts, rest_of, newborn, both, emptied}
-use Rattle.claim_queue.proofs.Looks.{St, kept_look, sees_of}
+use Rattle.claim_queue.specs.Rules.{part_of, ends_of, share_of, splits_of, joins_of, log_of, shuts_of, IsIdle, Rule, empty, newcomer}
+use Rattle.claim_queue.specs.Steps.{after, with_split, with_join, counts_up, counts_down, counts, rest_of, newborn, both, emptied}
+use Rattle.claim_queue.proofs.Looks.{St, sees_of}
 
 shows_count : (q : Positions) (words : List ℕ) (y : ℕ) → WordsShow q words → WordsShow q (set words 2 y)
 shows_count q words y h = record {
@@ -34,9 +36,9 @@ shows_count q words y h = record {
 }
 
 -- the rule, where the count becomes y and a view w that lists the same sees the queue as it is
-kept_count : (key : Shape) (s : St) (k : Rule key s) (id y : ℕ) (v w : View) → get_elem? s.views id ≡ some v → w.part ≡ record v.part { queue = k.queue; joined = k.queue } → w.shuts ≡ v.shuts → EndsCounted ends_of share_of IsIdle y (set s.views id w)
+kept_count : (key : Shape) (s : St) (k : Rule key s) (id y : ℕ) (v w : View) → get_elem? s.views id ≡ some v → w.part ≡ record v.part { queue = k.queue; joined = k.queue } → w.shuts ≡ v.shuts → EndsCounted ends_of share_of IsIdle y (set s.views id w) → EndsLogged splits_of joins_of log_of y (set s.views id w)
     → Rule key record { words = set s.words 2 y; homes = s.homes; views = set s.views id w }
-kept_count key s k id y v w at is same_shuts c = let wide = k.shows.wide in record {
+kept_count key s k id y v w at is same_shuts c l = let wide = k.shows.wide in record {
   queue = k.queue;
   first = k.first;
   room = k.room;
@@ -46,39 +48,55 @@ kept_count key s k id y v w at is same_shuts c = let wide = k.shows.wide in reco
       (subst (λ (z : QueueView). Later z k.queue) (sym is) (grows_refl k.queue, grows_refl k.queue)));
   shut_once = total_kept shuts_of s.views id v w at same_shuts ∙ k.shut_once;
   counted = subst (λ (c : ℕ). EndsCounted ends_of share_of IsIdle c (set s.views id w)) (sym (get_or-set_same s.words 2 y 0 (omega arith))) c;
+  logged = subst (λ (c : ℕ). EndsLogged splits_of joins_of log_of c (set s.views id w)) (sym (get_or-set_same s.words 2 y 0 (omega arith))) l;
 }
 
 pub ups : (key : Shape) (n id : ℕ) (me : Me Unit View) → me.0.ends + 1 ≤ me.0.share → Allows (Rule key) n id me 2 (λ x. (x + 1) % 18446744073709551616) (counts_up (step n 2 1 0 none) me)
-ups key n id me parts s k _ at _ = let v : View = me.0 in let c : ℕ = get_or s.words 2 0 in let w : View = record (after v 2 c k.queue) { ends = v.ends + 1 } in (
-  w,
-  keeps,
-  tt,
-  kept_count key s k id ((c + 1) % 18446744073709551616) v w at refl refl (counted_up ends_of share_of IsIdle c s.views id v w k.counted at parts refl refl),
-  (refl, record { queue = k.queue; same = refl; sees = sees_of key s k id v at }),
-)
+ups key n id me parts s k _ at _ = let v : View = me.0 in let c : ℕ = get_or s.words 2 0 in let y : ℕ = (c + 1) % 18446744073709551616 in let l = k.logged in let w : View = record (with_split v c k.queue l.log) { ends = v.ends + 1 } in
+    let e : EndsCounted ends_of share_of IsIdle y (set s.views id w) = counted_up ends_of share_of IsIdle c s.views id v w k.counted at parts refl refl in let t = total_set ends_of s.views id v w at in let old = k.counted.counted in let new = e.counted in (
+      w,
+      keeps,
+      tt,
+      kept_count key s k id y v w at refl refl e (logged_up splits_of joins_of log_of c y s.views id v w l at (omega arith) refl refl refl),
+      (refl, record { queue = k.queue; log = l.log; same = refl; sees = sees_of key s k id v at; later = l.seen id v at; number = l.number }),
+    )
 
 pub downs : (key : Shape) (n id : ℕ) (me : Me Unit View) → 2 ≤ me.0.ends → Allows (Rule key) n id me 2 (λ x. (x + (18446744073709551616 - 1)) % 18446744073709551616) (counts_down (step n 2 1 0 none) me)
-downs key n id me live s k _ at _ = let v : View = me.0 in let c : ℕ = get_or s.words 2 0 in let w : View = record (after v 2 c k.queue) { ends = v.ends - 1 } in (
-  w,
-  keeps,
-  tt,
-  kept_count key s k id ((c + (18446744073709551616 - 1)) % 18446744073709551616) v w at refl refl (counted_down ends_of share_of IsIdle c s.views id v w k.counted at (omega arith) (omega arith) refl),
-  (refl, record { queue = k.queue; same = refl; sees = sees_of key s k id v at; distinct = distinct k.queue (map part_of s.views) id v.part k.listed (at_map part_of s.views id v at) }),
-)
+downs key n id me live s k _ at _ = let v : View = me.0 in let c : ℕ = get_or s.words 2 0 in let y : ℕ = (c + (18446744073709551616 - 1)) % 18446744073709551616 in let l = k.logged in let w : View = record (with_join v c k.queue l.log) { ends = v.ends - 1 } in
+    let e : EndsCounted ends_of share_of IsIdle y (set s.views id w) = counted_down ends_of share_of IsIdle c s.views id v w k.counted at (omega arith) (omega arith) refl in let t = total_set ends_of s.views id v w at in let old = k.counted.counted in let new = e.counted in (
+      w,
+      keeps,
+      tt,
+      kept_count key s k id y v w at refl refl e (logged_down splits_of joins_of log_of c y s.views id v w l at (omega arith) refl refl refl),
+      (
+        refl,
+        record {
+          queue = k.queue;
+          log = l.log;
+          same = refl;
+          sees = sees_of key s k id v at;
+          later = l.seen id v at;
+          number = l.number;
+          distinct = distinct k.queue (map part_of s.views) id v.part k.listed (at_map part_of s.views id v at);
+        },
+      ),
+    )
 
 -- the count is found
 pub tallies : (key : Shape) (n id : ℕ) (me : Me Unit View) → me.0.ends ≡ 1 → Allows (Rule key) n id me 2 (λ x. x) (counts (step n 2 0 0 none) me)
-tallies key n id me one s k _ at _ = let v : View = me.0 in let c : ℕ = get_or s.words 2 0 in (
-  after v 2 c k.queue,
+tallies key n id me one s k _ at _ = let v : View = me.0 in let c : ℕ = get_or s.words 2 0 in let l = k.logged in let w : View = record (after v 2 c k.queue) { log = l.log } in (
+  w,
   keeps,
   tt,
-  kept_look key s k 2 id c v at,
+  kept_count key s k id c v w at refl refl (counted_look ends_of share_of IsIdle c s.views id v w k.counted at refl refl (λ _ h. h)) (logged_as splits_of joins_of log_of c s.views id v w l at refl refl (begins_refl l.log)),
   (
     refl,
     record {
       queue = k.queue;
       same = refl;
       sees = sees_of key s k id v at;
+      later = l.seen id v at;
+      number = l.number;
       count = count_found ends_of share_of IsIdle c s.views id v k.counted at one;
     },
   ),
@@ -95,6 +113,7 @@ splits key id v live s k at = let later = k.listed.seen id v.part (at_map part_o
       (listed_new k.queue (set (map part_of s.views) id v.part) (newborn v).part (listed_look k.queue (map part_of s.views) id v.part v.part k.listed (at_map part_of s.views id v at) refl refl later) refl refl later);
   shut_once = (let t = total_kept shuts_of s.views id v (rest_of v) at refl in let p = total_push shuts_of (set s.views id (rest_of v)) (newborn v) in let e : total shuts_of (set s.views id (rest_of v) ++ newborn v ∷ []) ≡ total shuts_of s.views = omega arith in e) ∙ k.shut_once;
   counted = counted_split ends_of share_of IsIdle (get_or s.words 2 0) s.views id v (rest_of v) (newborn v) k.counted at live (omega arith) refl refl refl;
+  logged = logged_split splits_of joins_of log_of (get_or s.words 2 0) s.views id v (rest_of v) (newborn v) k.logged at refl refl refl refl refl refl;
 }
 
 pub joins : (key : Shape) (id other : ℕ) (v w : View) → 1 ≤ v.ends → 1 ≤ w.ends → Joins (Rule key) id v other w (both v w) (emptied v)
@@ -109,6 +128,7 @@ joins key id other v w live live' s k at ne has = let at' : get_elem? s.views ot
           (listed_join k.queue (map part_of s.views) id other v.part w.part (both v w).part (emptied v).part k.listed (at_map part_of s.views id v at) (at_map part_of s.views other w at') ne refl refl refl refl (later.0, later'.0) later);
       shut_once = (let t = total_set shuts_of s.views id v (both v w) at in let t' = total_set shuts_of (set s.views id (both v w)) other w (emptied v) has in let e : total shuts_of (set (set s.views id (both v w)) other (emptied v)) ≡ total shuts_of s.views = omega arith in e) ∙ k.shut_once;
       counted = counted_join ends_of share_of IsIdle (get_or s.words 2 0) s.views id other v w (both v w) (emptied v) k.counted at at' ne live refl refl refl refl (refl, refl, refl);
+      logged = logged_join splits_of joins_of log_of (get_or s.words 2 0) s.views id other v w (both v w) (emptied v) k.logged at at' ne refl refl refl refl refl refl;
     }
 
 -- the table as it is made
@@ -136,6 +156,7 @@ opens key words room fits long head tail ends rest = let q : Positions = empty k
   listed = listed_first q (newcomer key).part refl refl refl refl (grows_refl q, grows_refl q);
   shut_once = omega arith;
   counted = subst (λ (c : ℕ). EndsCounted ends_of share_of IsIdle c (newcomer key ∷ [])) (sym ends) (counted_first ends_of share_of IsIdle (newcomer key) refl refl);
+  logged = subst (λ (c : ℕ). EndsLogged splits_of joins_of log_of c (newcomer key ∷ [])) (sym ends) (logged_first splits_of joins_of log_of (newcomer key) refl refl refl);
 }
 
 -- the words of a new table

@@ -17,12 +17,14 @@ use Rattle.table_theory.proofs.Listing.{Own, own, run_stands, listed_write}
 use Rattle.table_theory.proofs.QueueEvents.{raised_event, stored_event}
 use Rattle.table_theory.specs.QueueOf.{IsEvent}
 use Rattle.table_theory.proofs.Counting.{counted_look}
+use Rattle.table_theory.specs.Ends.{EndsLogged}
+use Rattle.table_theory.proofs.Ends.{logged_look}
 use Rattle.table_theory.proofs.Windows.{window_write}
 use Rattle.claim_queue.specs.declared.rule.Shape.{Shape}
 use Rattle.claim_queue.specs.declared.rule.View.{View}
 use Rattle.claim_queue.specs.Shown.{data_in, flag_in}
 use Rattle.table_theory.proofs.Totals.{total_kept}
-use Rattle.claim_queue.specs.Rules.{part_of, ends_of, share_of, shuts_of, IsIdle, Rule}
+use Rattle.claim_queue.specs.Rules.{part_of, ends_of, share_of, splits_of, joins_of, log_of, shuts_of, IsIdle, Rule}
 use Rattle.claim_queue.specs.Steps.{wrote, Wrote, writes, write_event}
 use Rattle.claim_queue.proofs.Looks.{St, sees_of}
 
@@ -54,6 +56,7 @@ kept_write key s k id m i n u x v e o at has below more past else_where mine =
       listed = subst (ViewsShow q') (sym (map-set part_of s.views id w)) (listed_write q (map part_of s.views) id m i n p v.part w.part e k.listed (at_map part_of s.views id v at) has below o.start o.from more refl refl (grows_refl q', grows_refl q'));
       shut_once = total_kept shuts_of s.views id v w at refl ∙ k.shut_once;
       counted = subst (λ (c : ℕ). EndsCounted ends_of share_of IsIdle c (set s.views id w)) (sym (other 2 (λ z. omega arith))) (counted_look ends_of share_of IsIdle (get_or s.words 2 0) s.views id v w k.counted at refl refl (λ _ none. absurd (some-ne-none e (sym (subst (λ (z : List Batch). get_elem? z m ≡ some e) none.0 has)))));
+      logged = subst (λ (c : ℕ). EndsLogged splits_of joins_of log_of c (set s.views id w)) (sym (other 2 (λ z. omega arith))) (logged_look splits_of joins_of log_of (get_or s.words 2 0) s.views id v w k.logged at refl refl refl);
     }
 
 pub wrote_now : (key : Shape) (s : St) (k : Rule key s) (id call m i n u x : ℕ) (v : View) (e : Batch) (o : Own k.queue e i) → call ≡ id → get_elem? s.views id ≡ some v → get_elem? v.part.runs m ≡ some e → written_at k.queue o.at ≤ n → written_at k.queue o.at < 2

@@ -17,20 +17,23 @@ lines_put v = map line_of v.part.runs
 abbrev pub lines_taken : View → List (List ℕ)
 lines_taken v = map line_of v.part.takes
 
--- nothing was put and nothing taken
+-- nothing was put and nothing taken, and the end has the share that it had
 pub record SameLines (v w : View) : Type 0 where
   pub puts : lines_put w ≡ lines_put v
   pub takes : lines_taken w ≡ lines_taken v
+  pub share : w.share ≡ v.share
 
--- one line more was put
+-- one line more was put, and the end has the share that it had
 pub record PutLine (line : List ℕ) (v w : View) : Type 0 where
   pub puts : lines_put w ≡ lines_put v ++ line ∷ []
   pub takes : lines_taken w ≡ lines_taken v
+  pub share : w.share ≡ v.share
 
--- one line more was taken
+-- one line more was taken, and the end has the share that it had
 pub record TookLine (line : List ℕ) (v w : View) : Type 0 where
   pub puts : lines_put w ≡ lines_put v
   pub takes : lines_taken w ≡ lines_taken v ++ line ∷ []
+  pub share : w.share ≡ v.share
 
 abbrev pub entry_of : {E : Type 0} → Owned E → E
 entry_of o = o.2

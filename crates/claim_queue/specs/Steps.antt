@@ -1,6 +1,6 @@
 -- What each step tells its end. Each adds one entry to the end's list: the word's number, what was found there, and the
 -- queue as it was then.
-use Rattle.std.specs.Prelude.{◌≡◌, ◌≢◌, ◌+◌, ◌-◌, ◌<◌, ◌≤◌, ℕ, false, ◌==◌, if◌then◌else◌, Result, Ok}
+use Rattle.std.specs.Prelude.{◌≡◌, ◌≢◌, ◌+◌, ◌-◌, ◌<◌, ◌≤◌, ℕ, Bool, true, false, ◌==◌, if◌then◌else◌, Result, Ok}
 use Rattle.std.specs.Prelude.{length, List, [], ◌∷◌, ◌++◌, map, take, drop, slice_index_or, slice_set}
 use mathlib.Core.Option.{some}
 use lib.ListN.{get_elem?}
@@ -15,6 +15,7 @@ use Rattle.quaject_core.specs.Marks as marks
 use Rattle.table_theory.specs.Listing.{written_to, Distinct, number_of}
 use Rattle.table_theory.specs.QueueOf.{IsEvent, no_event}
 use Rattle.table_theory.specs.Seeing.{Sees}
+use Rattle.table_theory.specs.Ends.{Begins, IsNumber, later_of}
 use Rattle.table_theory.specs.Sharing.{kept, given, IsCount}
 use Rattle.claim_queue.specs.declared.rule.View.{View}
 use Rattle.claim_queue.specs.Shown.{head_word, tail_word, ends_word, mark, WordsShow}
@@ -145,24 +146,40 @@ pub record Shut (call : ℕ) (v : View) (found : ℕ) (w : View) : Type 0 where
 abbrev pub shuts : ℕ → Step Unit → Me Unit View → ℕ → Me Unit View → Type 0
 shuts call st m r m' = (m'.1 ≡ m.1) × Shut call m.0 r m'.0
 
--- the number of ends is one more
+-- the view after so many ends were found, and a split more
+abbrev pub with_split : View → ℕ → Positions → List Bool → View
+with_split v found q log = record (after v ends_word found q) { splits = v.splits + 1; log = log ++ true ∷ [] }
+
+-- the same, and a join more
+abbrev pub with_join : View → ℕ → Positions → List Bool → View
+with_join v found q log = record (after v ends_word found q) { joins = v.joins + 1; log = log ++ false ∷ [] }
+
+-- The number of ends was found, and made one more
 pub record CountedUp (v : View) (found : ℕ) (w : View) : Type 0 where
   pub queue : Positions
-  pub same : w ≡ record (after v ends_word found queue) { ends = v.ends + 1 }
+  pub log : List Bool
+  pub same : w ≡ record (with_split v found queue log) { ends = v.ends + 1 }
   pub sees : Sees v.part queue
+  pub later : Begins v.log log
+  pub number : IsNumber log found
 
--- the number of ends is one less
+-- The number of ends was found, and made one less
 pub record CountedDown (v : View) (found : ℕ) (w : View) : Type 0 where
   pub queue : Positions
-  pub same : w ≡ record (after v ends_word found queue) { ends = v.ends - 1 }
+  pub log : List Bool
+  pub same : w ≡ record (with_join v found queue log) { ends = v.ends - 1 }
   pub sees : Sees v.part queue
+  pub later : Begins v.log log
+  pub number : IsNumber log found
   pub distinct : Distinct w.part.runs
 
--- the number of ends was found: 1 exactly where this end has the whole
+-- The number of ends was found: that of the splits and joins up to then, and 1 exactly where this end has the whole
 pub record Tallied (v : View) (found : ℕ) (w : View) : Type 0 where
   pub queue : Positions
-  pub same : w ≡ after v ends_word found queue
+  pub same : w ≡ record (after v ends_word found queue) { log = w.log }
   pub sees : Sees v.part queue
+  pub later : Begins v.log w.log
+  pub number : IsNumber w.log found
   pub count : IsCount v.share found
 
 abbrev pub counts_up : Step Unit → Me Unit View → ℕ → Me Unit View → Type 0
@@ -183,6 +200,9 @@ newborn v = record {
   part = record { queue = v.part.queue; joined = v.part.joined; runs = []; takes = [] };
   ends = 1;
   share = given v.share;
+  splits = 0;
+  joins = 0;
+  log = v.log;
   shuts = 0;
   steps = [];
 }
@@ -198,6 +218,9 @@ both v w = record {
   };
   ends = v.ends + w.ends;
   share = v.share + w.share;
+  splits = v.splits + w.splits;
+  joins = v.joins + w.joins;
+  log = later_of v.log w.log;
   shuts = v.shuts + w.shuts;
   steps = v.steps ++ w.steps;
 }
@@ -208,6 +231,9 @@ emptied v = record {
   part = record { queue = v.part.queue; joined = v.part.joined; runs = []; takes = [] };
   ends = 0;
   share = 0;
+  splits = 0;
+  joins = 0;
+  log = v.log;
   shuts = 0;
   steps = [];
 }

@@ -3,7 +3,7 @@ ghost use Rattle.std.specs.Prelude.{◌≡◌, ◌+◌, ◌≤◌, ◌<◌, [], 
 ghost use Rattle.claim_queue.specs.Rules.{newcomer};
 ghost use Rattle.claim_queue.specs.Claims.{KeepsClaims};
 ghost use Rattle.claim_queue.specs.Endings.{Divided, IsNewborn, TookIn};
-ghost use Rattle.claim_queue.specs.Lines.{SameLines, lines_put, lines_taken};
+ghost use Rattle.claim_queue.specs.Lines.{lines_put, lines_taken};
 ghost use Rattle.table_theory.specs.Listing.{Distinct};
 
 use crate::rule::{ClaimRule, Shape, View};
@@ -66,7 +66,8 @@ impl<const N: usize> ClaimQueue<N> {
         ensures split { Divided (view_of end.old) (view_of end.new) }
         ensures born { IsNewborn (view_of end.old) (view_of end.new) (view_of result) }
         ensures claims { KeepsClaims (view_of end.old) (view_of end.new) }
-        ensures lines { SameLines (view_of end.old) (view_of end.new) }
+        ensures lines { (lines_put (view_of end.new) ≡ lines_put (view_of end.old))
+            × (lines_taken (view_of end.new) ≡ lines_taken (view_of end.old)) }
     {
         count_up(&self.table.shared, &mut end.seat);
         let seat = split_off(&self.table.shared, &mut end.seat);

@@ -12,11 +12,15 @@ pub struct Shape {
 }
 
 /// What an end knows: its runs and takings in the queue as it was at the end's last step, how many of the ends counted it
-/// is and its share of the queue, how often it shut the queue, and every step that it made.
+/// is and its share of the queue, how often it was split and took in another end, the splits (true) and joins (false) of
+/// all ends up to its last step on their number, how often it shut the queue, and every step that it made.
 pub struct View {
     pub part: QueueView,
     pub ends: u64,
     pub share: u64,
+    pub splits: u64,
+    pub joins: u64,
+    pub log: LinkedList<bool>,
     pub shuts: u64,
     pub steps: LinkedList<Entry<Positions>>,
 }

@@ -81,7 +81,10 @@ fn example(rt: HostRuntime) -> Result<(), Fail> {
     assert_eq!(rt; queue.try_take_line(&mut taker, &mut line), Ok(3));
     assert_eq!(rt; line.as_slice(), [104, 105, 10].as_slice());
     assert!(rt; queue.shut(&mut putter));
-    assert_eq!(rt; queue.try_put(&mut putter, &[33]), Err(ClaimRefusal::Closed));
+    assert_eq!(rt;
+        queue.try_put(&mut putter, &[33]),
+        Err(ClaimRefusal::Closed)
+    );
     assert_eq!(rt; queue.try_take(&mut taker), Err(TakeRefusal::Closed));
     queue.join(&mut taker, putter);
     let Ok(closed) = queue.close(taker) else {

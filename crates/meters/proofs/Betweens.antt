@@ -37,6 +37,6 @@ shows_meters key s k = let m : Reading = k.meters in record {
     cancelled = k.listed.cancelled;
     once = λ a. (let x = k.lawful a in let f = k.listed.set a in let g = k.listed.fired a in let h = k.listed.cancelled a in omega arith);
   };
-  ends = (let e = k.shows.ends in let a = k.listed.splits in let b = k.listed.joins in omega arith);
+  ends = (let e = k.logged.number in let a = k.logged.splits in let b = k.logged.joins in omega arith);
   counted = k.counted;
 }

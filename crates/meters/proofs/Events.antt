@@ -10,7 +10,7 @@ use Rattle.quaject_core.specs.Results.{◌>>=◌, refused_if, change_at}
 use Rattle.quaject_core.proofs.MeterLaws.{tick_law, advance_law, set_alarm_law, fire_law, cancel_law}
 use Rattle.quaject_core.proofs.Inversions.{then_ok, test_ok, given_ok}
 use Rattle.meters.specs.declared.rule.Reading.{Reading}
-use Rattle.meters.specs.Changes.{meters_of, IsLawful, in_slot, AreAlike, IsSet, Happens, ticked, advanced, was_set, fired, cancelled, Leads, here, further, one_split, one_joined}
+use Rattle.meters.specs.Changes.{meters_of, IsLawful, in_slot, AreAlike, IsSet, Happens, ticked, advanced, was_set, fired, cancelled, Leads, here, further}
 
 pub got : {A : Type 0} (xs : List A) (i : ℕ) (d : A) → i < length xs → slice_get xs i ≡ Some (get_or xs i d)
 got [] i d h = absurd (omega arith)
@@ -128,12 +128,8 @@ clock_on m n (cancelled slot e) = let x : n.clock ≡ m.clock = cancel_clock slo
 
 pub clock_leads : (m n : Reading) → Leads m n → m.clock ≤ n.clock
 clock_leads m n here = omega arith
-clock_leads m n (further o _ l e same) = let a = clock_leads m o l in let b = clock_on o n e in omega arith
-clock_leads m n (one_split o _ l e) = let a = clock_leads m o l in let b : n.clock ≡ o.clock = ap (λ (z : Reading). z.clock) e in omega arith
-clock_leads m n (one_joined o _ l e) = let a = clock_leads m o l in let b : n.clock ≡ o.clock = ap (λ (z : Reading). z.clock) e in omega arith
+clock_leads m n (further o _ l e) = let a = clock_leads m o l in let b = clock_on o n e in omega arith
 
 pub leads_on : (m n o : Reading) → Leads m n → Leads n o → Leads m o
 leads_on m n _ l here = l
-leads_on m n o l (further p _ k e same) = further p o (leads_on m n p l k) e same
-leads_on m n o l (one_split p _ k e) = one_split p o (leads_on m n p l k) e
-leads_on m n o l (one_joined p _ k e) = one_joined p o (leads_on m n p l k) e
+leads_on m n o l (further p _ k e) = further p o (leads_on m n p l k) e

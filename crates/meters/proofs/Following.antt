@@ -3,6 +3,7 @@ use Rattle.std.proofs.Common.{◌≡◌, ◌≢◌, ℕ, suc, ◌+◌, ◌-◌, 
 use Rattle.std.proofs.lemmas.List.Elements.{filter_map-append}
 use Rattle.std.specs.Option.{is_some}
 use Rattle.quaject_core.specs.declared.alarm.Alarm.{Alarm}
+use Rattle.table_theory.specs.Ends.{Begins}
 use Rattle.table_theory.specs.Sharing.{kept, given}
 use Rattle.meters.specs.declared.rule.Reading.{Reading}
 use Rattle.meters.specs.declared.rule.View.{View}
@@ -10,7 +11,7 @@ use Rattle.meters.specs.Changes.{Leads, further, fired}
 use Rattle.meters.specs.Own.{Own, own_of, DidNothing, DidAdvance, DidSet, DidFire}
 use Rattle.meters.specs.Views.{Later}
 use Rattle.meters.specs.Words.{clock_word}
-use Rattle.meters.specs.Steps.{with_more, with_less, Found, Advanced, Fired, CountedUp, CountedDown, rest_of, newborn, both}
+use Rattle.meters.specs.Steps.{with_split, with_join, Found, Advanced, Fired, CountedUp, CountedDown, rest_of, newborn, both}
 use Rattle.meters.specs.Endings.{Divided, IsNewborn, TookIn}
 use Rattle.meters.specs.Answers.{WasLost, FoundIn, FoundOther, FoundAlarms, FoundEmpty, SetNow, FoundNoRoom, WasTaken, Visit, stays, goes, went, IsNotDue, Visited, AllVisited, gave, Gave}
 use Rattle.meters.proofs.Events.{clock_leads, leads_on}
@@ -98,7 +99,7 @@ pub clock_in : (v w : View) (clock slot : ℕ) (stood : Option Alarm) → FoundI
 clock_in v w clock slot stood f told = let up = clock_leads v.seen w.seen f.word.later.0 in omega arith
 
 pub clock_fired : (v w : View) (clock slot : ℕ) (alarm : Alarm) → Fired v slot alarm w → clock ≤ v.seen.clock → clock ≤ w.seen.clock
-clock_fired v w clock slot alarm h told = let up = clock_leads v.seen w.seen (further h.before w.seen h.later.0 (fired slot h.event) (ap (λ (z : View). z.seen.splits) h.same, ap (λ (z : View). z.seen.joins) h.same)) in omega arith
+clock_fired v w clock slot alarm h told = let up = clock_leads v.seen w.seen (further h.before w.seen h.later.0 (fired slot h.event)) in omega arith
 
 -- one slot more was visited
 pub visits_push : (v u w : View) (clock slot : ℕ) (visits : List Visit) (visit : Visit) → AllVisited v clock slot visits u → Visited u clock (slot + length visits) visit w → AllVisited v clock slot (visits ++ visit ∷ []) w
@@ -160,11 +161,12 @@ divided : (v u : View) (found : ℕ) → v.ends ≡ 1 → CountedUp v found u �
 divided v u found one c = (
   record {
     found = found;
-    before = c.before;
-    same = ap rest_of c.same ∙ (λ i. record (with_more v found c.before) { ends = less i; share = kept v.share });
+    log = c.log;
+    same = ap rest_of c.same ∙ (λ i. record (with_split v found u.seen c.log) { ends = less i; share = kept v.share });
     later = c.later;
     lawful = c.lawful;
-    is = c.is;
+    begins = c.begins;
+    number = c.number;
   },
   λ i. record (newborn u) { share = given (c.same i).share },
 )
@@ -180,11 +182,12 @@ split_views v u found one other a b sole c e e' = let d = divided v u found sole
 pub took_in : (v u b w : View) (found : ℕ) → v.ends ≡ 1 → u.ends ≡ 1 → b ≡ both v u → CountedDown b found w → TookIn v u w
 took_in v u b w found one one' is c = record {
   found = found;
-  before = c.before;
-  same = c.same ∙ (λ i. with_less (is i) found c.before) ∙ (λ i. record (with_less (both v u) found c.before) { ends = less i });
-  later = subst (λ (z : View). Later z c.before) is c.later;
+  log = c.log;
+  same = c.same ∙ (λ i. record (with_join (is i) found w.seen c.log) { ends = (is i).ends - 1 }) ∙ (λ i. record (with_join (both v u) found w.seen c.log) { ends = less i });
+  later = subst (λ (z : View). Later z w.seen) is c.later;
   lawful = c.lawful;
-  is = c.is;
+  begins = subst (λ (z : View). Begins z.log c.log) is c.begins;
+  number = c.number;
 }
   where
     less : v.ends + u.ends - 1 ≡ 1

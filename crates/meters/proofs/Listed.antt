@@ -13,7 +13,7 @@ use Rattle.table_theory.proofs.Totals.{total_set, total_push, sole_total}
 use Rattle.meters.specs.declared.rule.Reading.{Reading}
 use Rattle.meters.specs.declared.rule.Tick.{Tick}
 use Rattle.meters.specs.declared.rule.View.{View}
-use Rattle.meters.specs.Changes.{Happens, SameEnds, with_split, with_join, further, one_split, one_joined}
+use Rattle.meters.specs.Changes.{Happens, further}
 use Rattle.meters.proofs.Events.{with_tick, with_advance}
 use Rattle.meters.specs.Own.{Own, own_of, nothing_own}
 use Rattle.meters.specs.Views.{amount_on, times, times_to, Later, AdvancesShow, ViewsShow}
@@ -21,8 +21,8 @@ use Rattle.meters.specs.Views.{amount_on, times, times_to, Later, AdvancesShow, 
 abbrev wide : ℕ
 wide = 18446744073709551616
 
-pub later_on : (v : View) (m n : Reading) → Later v m → Happens m n → SameEnds m n → Later v n
-later_on v m n l e same = (further m n l.0 e same, further m n l.1 e same)
+pub later_on : (v : View) (m n : Reading) → Later v m → Happens m n → Later v n
+later_on v m n l e = (further m n l.0 e, further m n l.1 e)
 
 -- one more in a list
 pub times_push : (a alarm : Alarm) (alarms : List Alarm) → times a (alarms ++ alarm ∷ []) ≡ times a alarms + cond (is_alarm a alarm) 1 0
@@ -48,8 +48,6 @@ pub record Lists (m n : Reading) (v w : View) : Type 0 where
   pub set : (a : Alarm) → times a n.set + times a v.set ≡ times a m.set + times a w.set
   pub fired : (a : Alarm) → times a n.fired + times a v.fired ≡ times a m.fired + times a w.fired
   pub cancelled : (a : Alarm) → times a n.cancelled + times a v.cancelled ≡ times a m.cancelled + times a w.cancelled
-  pub splits : n.splits + v.splits ≡ m.splits + w.splits
-  pub joins : n.joins + v.joins ≡ m.joins + w.joins
 
 -- the advances, where each end lists as many as before, and to the same ticks
 advances_still : (first clock : ℕ) (views new : List View) → AdvancesShow first clock views → total (λ v. length v.advances) new ≡ total (λ v. length v.advances) views → ((tick : ℕ) → total (λ v. times_to tick v.advances) new ≡ total (λ v. times_to tick v.advances) views) → AdvancesShow first clock new
@@ -66,9 +64,9 @@ advances_kept first clock views id v w at same h = advances_still first clock vi
 advances_more : (first clock : ℕ) (views : List View) (id : ℕ) (v w : View) → get_elem? views id ≡ some v → w.advances ≡ v.advances ++ (clock + 1) ∷ [] → AdvancesShow first clock views → AdvancesShow first (clock + 1) (set views id w)
 advances_more first clock views id v w at more h =
     let on : (t : ℕ) → total (λ u. times_to t u.advances) (set views id w) ≡ total (λ u. times_to t u.advances) views + cond (eqb (clock + 1) t) 1 0 =
-      λ t. (let p : times_to t (v.advances ++ (clock + 1) ∷ []) ≡ times_to t v.advances + cond (eqb (clock + 1) t) 1 0 = sum_by_push (λ x. cond (eqb x t) 1 0) v.advances (clock + 1) in let q = ap (times_to t) more in let s = total_set (λ u. times_to t u.advances) views id v w at in omega arith) in
+    λ t. (let p : times_to t (v.advances ++ (clock + 1) ∷ []) ≡ times_to t v.advances + cond (eqb (clock + 1) t) 1 0 = sum_by_push (λ x. cond (eqb x t) 1 0) v.advances (clock + 1) in let q = ap (times_to t) more in let s = total_set (λ u. times_to t u.advances) views id v w at in omega arith) in
     let other : (t : ℕ) → clock + 1 ≢ t → total (λ u. times_to t u.advances) (set views id w) ≡ total (λ u. times_to t u.advances) views =
-      λ t ne. (let z : ◌≡◌ {A = ℕ} (cond (eqb (clock + 1) t) 1 0) 0 = ap (λ (x : Bool). cond {A = ℕ} x 1 0) (ne_eqb (clock + 1) t ne) in let o = on t in omega arith) in
+    λ t ne. (let z : ◌≡◌ {A = ℕ} (cond (eqb (clock + 1) t) 1 0) 0 = ap (λ (x : Bool). cond {A = ℕ} x 1 0) (ne_eqb (clock + 1) t ne) in let o = on t in omega arith) in
     let number = h.number in record {
       number = (let l = ap length more in let a = length-append v.advances ((clock + 1) ∷ []) in let s = total_set (λ u. length u.advances) views id v w at in omega arith);
       once = λ t past upto. dite (ℕ_discrete (clock + 1) t)
@@ -92,8 +90,6 @@ listed first m n views id v w h at d own on = record {
   set = λ a. summed (λ u. times a u.set) views id v w (times a m.set) (times a n.set) at (h.set a) (d.set a);
   fired = λ a. summed (λ u. times a u.fired) views id v w (times a m.fired) (times a n.fired) at (h.fired a) (d.fired a);
   cancelled = λ a. summed (λ u. times a u.cancelled) views id v w (times a m.cancelled) (times a n.cancelled) at (h.cancelled a) (d.cancelled a);
-  splits = summed (λ u. u.splits) views id v w m.splits n.splits at h.splits d.splits;
-  joins = summed (λ u. u.joins) views id v w m.joins n.joins at h.joins d.joins;
   later = later_all m n views id w h.later on own;
 }
 
@@ -102,19 +98,12 @@ pub listed_look : (first : ℕ) (m : Reading) (views : List View) (id : ℕ) (v 
 listed_look first m views id v w h at d own = listed first m m views id v w h at d own (λ u l. l)
 
 -- a step that is an event, but no tick and no advance
-pub listed_event : (first : ℕ) (m n : Reading) (views : List View) (id : ℕ) (v w : View) → ViewsShow first m views → get_elem? views id ≡ some v → Happens m n → SameEnds m n → Lists m n v w → Later w n → ViewsShow first n (set views id w)
-listed_event first m n views id v w h at e same d own = listed first m n views id v w h at d own (λ u l. later_on u m n l e same)
-
--- a split and a join
-pub listed_split : (first : ℕ) (m : Reading) (views : List View) (id : ℕ) (v w : View) → ViewsShow first m views → get_elem? views id ≡ some v → Lists m (with_split m) v w → Later w (with_split m) → ViewsShow first (with_split m) (set views id w)
-listed_split first m views id v w h at d own = listed first m (with_split m) views id v w h at d own (λ u l. (one_split m (with_split m) l.0 refl, one_split m (with_split m) l.1 refl))
-
-pub listed_joined : (first : ℕ) (m : Reading) (views : List View) (id : ℕ) (v w : View) → ViewsShow first m views → get_elem? views id ≡ some v → Lists m (with_join m) v w → Later w (with_join m) → ViewsShow first (with_join m) (set views id w)
-listed_joined first m views id v w h at d own = listed first m (with_join m) views id v w h at d own (λ u l. (one_joined m (with_join m) l.0 refl, one_joined m (with_join m) l.1 refl))
+pub listed_event : (first : ℕ) (m n : Reading) (views : List View) (id : ℕ) (v w : View) → ViewsShow first m views → get_elem? views id ≡ some v → Happens m n → Lists m n v w → Later w n → ViewsShow first n (set views id w)
+listed_event first m n views id v w h at e d own = listed first m n views id v w h at d own (λ u l. later_on u m n l e)
 
 -- the lists of an end that lists what it listed
-pub same_lists : (m : Reading) (v w : View) → w.ticks ≡ v.ticks → w.advances ≡ v.advances → w.set ≡ v.set → w.fired ≡ v.fired → w.cancelled ≡ v.cancelled → w.splits ≡ v.splits → w.joins ≡ v.joins → Lists m m v w
-same_lists m v w t a s f c sp j = record {
+pub same_lists : (m : Reading) (v w : View) → w.ticks ≡ v.ticks → w.advances ≡ v.advances → w.set ≡ v.set → w.fired ≡ v.fired → w.cancelled ≡ v.cancelled → Lists m m v w
+same_lists m v w t a s f c = record {
   ticks = t;
   gauges = refl;
   advances = a;
@@ -122,8 +111,6 @@ same_lists m v w t a s f c sp j = record {
   set = λ a. ap (λ z. times a m.set + times a z) (sym s);
   fired = λ a. ap (λ z. times a m.fired + times a z) (sym f);
   cancelled = λ a. ap (λ z. times a m.cancelled + times a z) (sym c);
-  splits = omega arith;
-  joins = omega arith;
 }
 
 -- a tick
@@ -131,8 +118,8 @@ amount_push : (j g n : ℕ) (ticks : List Tick) → amount_on j (ticks ++ record
 amount_push j g n ticks = sum_by_push (λ t. cond (eqb t.gauge j) t.amount 0) ticks (record { gauge = g; amount = n })
 
 pub listed_tick : (first : ℕ) (m : Reading) (views : List View) (id : ℕ) (v w : View) (g n : ℕ) → ViewsShow first m views → get_elem? views id ≡ some v → g < length m.gauges → Happens m (with_tick m g n) → w.ticks ≡ v.ticks ++ record { gauge = g; amount = n } ∷ []
-    → w.advances ≡ v.advances → w.set ≡ v.set → w.fired ≡ v.fired → w.cancelled ≡ v.cancelled → w.splits ≡ v.splits → w.joins ≡ v.joins → Later w (with_tick m g n) → ViewsShow first (with_tick m g n) (set views id w)
-listed_tick first m views id v w g n h at within e t adv s f c sp jn own = let d = same_lists m v (record w { ticks = v.ticks }) refl adv s f c sp jn in let z : ℕ = (get_or m.gauges g 0 + n) % wide in record {
+    → w.advances ≡ v.advances → w.set ≡ v.set → w.fired ≡ v.fired → w.cancelled ≡ v.cancelled → Later w (with_tick m g n) → ViewsShow first (with_tick m g n) (set views id w)
+listed_tick first m views id v w g n h at within e t adv s f c own = let d = same_lists m v (record w { ticks = v.ticks }) refl adv s f c in let z : ℕ = (get_or m.gauges g 0 + n) % wide in record {
   gauges = λ j b. let p = amount_push j g n v.ticks in dite (ℕ_discrete j g)
       (λ is. let yes : cond (eqb g j) n 0 ≡ n = ap (λ (x : Bool). cond x n 0) (eq-eqb g j (sym is)) in
       (λ i. get_or (set m.gauges g z) (is i) 0) ∙ (get_or-set_same m.gauges g z 0 within ∙ ((λ i. (get_or m.gauges (sym is i) 0 + n) % wide) ∙ gauge_on (λ u. amount_on j u.ticks) views id v w (get_or m.gauges j 0) n at (h.gauges j b) (ap (amount_on j) t ∙ (let q : amount_on j (v.ticks ++ record { gauge = g; amount = n } ∷ []) ≡ amount_on j v.ticks + n = omega arith in q)))))
@@ -142,35 +129,29 @@ listed_tick first m views id v w g n h at within e t adv s f c sp jn own = let d
   set = λ a. summed (λ u. times a u.set) views id v w (times a m.set) (times a m.set) at (h.set a) (d.set a);
   fired = λ a. summed (λ u. times a u.fired) views id v w (times a m.fired) (times a m.fired) at (h.fired a) (d.fired a);
   cancelled = λ a. summed (λ u. times a u.cancelled) views id v w (times a m.cancelled) (times a m.cancelled) at (h.cancelled a) (d.cancelled a);
-  splits = summed (λ u. u.splits) views id v w m.splits m.splits at h.splits d.splits;
-  joins = summed (λ u. u.joins) views id v w m.joins m.joins at h.joins d.joins;
-  later = later_all m (with_tick m g n) views id w h.later (λ u l. later_on u m (with_tick m g n) l e (refl, refl)) own;
+  later = later_all m (with_tick m g n) views id w h.later (λ u l. later_on u m (with_tick m g n) l e) own;
 }
 
 -- an advance
-pub listed_advance : (first : ℕ) (m : Reading) (views : List View) (id : ℕ) (v w : View) → ViewsShow first m views → get_elem? views id ≡ some v → Happens m (with_advance m) → w.advances ≡ v.advances ++ (m.clock + 1) ∷ [] → w.ticks ≡ v.ticks → w.set ≡ v.set → w.fired ≡ v.fired → w.cancelled ≡ v.cancelled → w.splits ≡ v.splits → w.joins ≡ v.joins
+pub listed_advance : (first : ℕ) (m : Reading) (views : List View) (id : ℕ) (v w : View) → ViewsShow first m views → get_elem? views id ≡ some v → Happens m (with_advance m) → w.advances ≡ v.advances ++ (m.clock + 1) ∷ [] → w.ticks ≡ v.ticks → w.set ≡ v.set → w.fired ≡ v.fired → w.cancelled ≡ v.cancelled
     → Later w (with_advance m) → ViewsShow first (with_advance m) (set views id w)
-listed_advance first m views id v w h at e more t s f c sp jn own = let d = same_lists m v (record w { advances = v.advances }) t refl s f c sp jn in record {
+listed_advance first m views id v w h at e more t s f c own = let d = same_lists m v (record w { advances = v.advances }) t refl s f c in record {
   gauges = λ g b. h.gauges g b ∙ ap (λ (z : ℕ). z % wide) (sym (same_total (λ u. amount_on g u.ticks) views id v w at (ap (amount_on g) t)));
   advances = advances_more first m.clock views id v w at more h.advances;
   set = λ a. summed (λ u. times a u.set) views id v w (times a m.set) (times a m.set) at (h.set a) (d.set a);
   fired = λ a. summed (λ u. times a u.fired) views id v w (times a m.fired) (times a m.fired) at (h.fired a) (d.fired a);
   cancelled = λ a. summed (λ u. times a u.cancelled) views id v w (times a m.cancelled) (times a m.cancelled) at (h.cancelled a) (d.cancelled a);
-  splits = summed (λ u. u.splits) views id v w m.splits m.splits at h.splits d.splits;
-  joins = summed (λ u. u.joins) views id v w m.joins m.joins at h.joins d.joins;
-  later = later_all m (with_advance m) views id w h.later (λ u l. later_on u m (with_advance m) l e (refl, refl)) own;
+  later = later_all m (with_advance m) views id w h.later (λ u l. later_on u m (with_advance m) l e) own;
 }
 
 -- a new end, which lists nothing
-pub listed_new : (first : ℕ) (m : Reading) (views : List View) (w : View) → ViewsShow first m views → w.ticks ≡ [] → w.advances ≡ [] → w.set ≡ [] → w.fired ≡ [] → w.cancelled ≡ [] → w.splits ≡ 0 → w.joins ≡ 0 → Later w m → ViewsShow first m (views ++ w ∷ [])
-listed_new first m views w h t adv s f c sp jn own = let more : (F : View → ℕ) → F w ≡ 0 → total F views ≡ total F (views ++ w ∷ []) = λ F z. (let p = total_push F views w in omega arith) in record {
+pub listed_new : (first : ℕ) (m : Reading) (views : List View) (w : View) → ViewsShow first m views → w.ticks ≡ [] → w.advances ≡ [] → w.set ≡ [] → w.fired ≡ [] → w.cancelled ≡ [] → Later w m → ViewsShow first m (views ++ w ∷ [])
+listed_new first m views w h t adv s f c own = let more : (F : View → ℕ) → F w ≡ 0 → total F views ≡ total F (views ++ w ∷ []) = λ F z. (let p = total_push F views w in omega arith) in record {
   gauges = λ g b. h.gauges g b ∙ ap (λ (z : ℕ). z % wide) (more (λ u. amount_on g u.ticks) (ap (amount_on g) t));
   advances = advances_still first m.clock views (views ++ w ∷ []) h.advances (sym (more (λ u. length u.advances) (ap length adv))) (λ k. sym (more (λ u. times_to k u.advances) (ap (times_to k) adv)));
   set = λ a. h.set a ∙ more (λ u. times a u.set) (ap (times a) s);
   fired = λ a. h.fired a ∙ more (λ u. times a u.fired) (ap (times a) f);
   cancelled = λ a. h.cancelled a ∙ more (λ u. times a u.cancelled) (ap (times a) c);
-  splits = h.splits ∙ more (λ u. u.splits) sp;
-  joins = h.joins ∙ more (λ u. u.joins) jn;
   later = λ j u has. ⊎_elim (λ e. h.later j u e) (λ e. subst (λ z. Later z m) e own) (at_snoc views w u j has);
 }
 
@@ -179,9 +160,9 @@ total_join : (f : View → ℕ) (views : List View) (id other : ℕ) (v u both s
 total_join f views id other v u both spent at at' ne sum nothing = let t = total_set f views id v both at in let t' = total_set f (set views id both) other u spent (set_else views id other both ne ∙ at') in omega arith
 
 pub listed_join : (first : ℕ) (m : Reading) (views : List View) (id other : ℕ) (v u both spent : View) → ViewsShow first m views → get_elem? views id ≡ some v → get_elem? views other ≡ some u → other ≢ id
-    → both.ticks ≡ v.ticks ++ u.ticks → both.advances ≡ v.advances ++ u.advances → both.set ≡ v.set ++ u.set → both.fired ≡ v.fired ++ u.fired → both.cancelled ≡ v.cancelled ++ u.cancelled → both.splits ≡ v.splits + u.splits → both.joins ≡ v.joins + u.joins → spent.ticks ≡ [] → spent.advances ≡ [] → spent.set ≡ [] → spent.fired ≡ [] → spent.cancelled ≡ [] → spent.splits ≡ 0 → spent.joins ≡ 0 → Later both m → Later spent m
+    → both.ticks ≡ v.ticks ++ u.ticks → both.advances ≡ v.advances ++ u.advances → both.set ≡ v.set ++ u.set → both.fired ≡ v.fired ++ u.fired → both.cancelled ≡ v.cancelled ++ u.cancelled → spent.ticks ≡ [] → spent.advances ≡ [] → spent.set ≡ [] → spent.fired ≡ [] → spent.cancelled ≡ [] → Later both m → Later spent m
     → ViewsShow first m (set (set views id both) other spent)
-listed_join first m views id other v u both spent h at at' ne t adv s f c sp jn t' adv' s' f' c' sp' jn' own own' =
+listed_join first m views id other v u both spent h at at' ne t adv s f c t' adv' s' f' c' own own' =
     let alarms : (a : Alarm) (xs ys : List Alarm) → times a (xs ++ ys) ≡ times a xs + times a ys = λ a xs ys. sum_by-append (λ x. cond (is_alarm a x) 1 0) xs ys in record {
       gauges = λ g b. h.gauges g b ∙ ap (λ (z : ℕ). z % wide) (total_join (λ x. amount_on g x.ticks) views id other v u both spent at at' ne (ap (amount_on g) t ∙ sum_by-append (λ x. cond (eqb x.gauge g) x.amount 0) v.ticks u.ticks) (ap (amount_on g) t'));
       advances = advances_still first m.clock views (set (set views id both) other spent) h.advances
@@ -190,8 +171,6 @@ listed_join first m views id other v u both spent h at at' ne t adv s f c sp jn 
       set = λ a. h.set a ∙ total_join (λ x. times a x.set) views id other v u both spent at at' ne (ap (times a) s ∙ alarms a v.set u.set) (ap (times a) s');
       fired = λ a. h.fired a ∙ total_join (λ x. times a x.fired) views id other v u both spent at at' ne (ap (times a) f ∙ alarms a v.fired u.fired) (ap (times a) f');
       cancelled = λ a. h.cancelled a ∙ total_join (λ x. times a x.cancelled) views id other v u both spent at at' ne (ap (times a) c ∙ alarms a v.cancelled u.cancelled) (ap (times a) c');
-      splits = h.splits ∙ total_join (λ x. x.splits) views id other v u both spent at at' ne sp sp';
-      joins = h.joins ∙ total_join (λ x. x.joins) views id other v u both spent at at' ne jn jn';
       later = λ j w has. ⊎_elim (λ e. subst (λ z. Later z m) e.1 own') (λ e. ⊎_elim (λ i. subst (λ z. Later z m) i.1 own) (λ i. h.later j w i.1) (at_set views id j both w e.1)) (at_set (set views id both) other j spent w has);
     }
 
@@ -199,17 +178,17 @@ listed_join first m views id other v u both spent h at at' ne t adv s f c sp jn 
 pub first_later : (m : Reading) (v : View) → Later v m → (j : ℕ) (u : View) → get_elem? (v ∷ []) j ≡ some u → Later u m
 first_later m v own j u has = ⊎_elim (λ e. absurd (some-ne-none u (sym e))) (λ e. subst (λ z. Later z m) e own) (at_snoc [] v u j has)
 
--- one end alone lists all, where all others list nothing
+-- one end alone has all, where all others have nothing
+pub sole_own : (views : List View) (id : ℕ) (v w : View) → get_elem? views id ≡ some w → ((i : ℕ) (u : View) → get_elem? views i ≡ some u → i ≢ id → own_of u ≡ nothing_own) → own_of w ≡ own_of v → (f : Own → ℕ) → f nothing_own ≡ 0 → total (λ u. f (own_of u)) (v ∷ []) ≡ total (λ u. f (own_of u)) views
+sole_own views id v w at idle same f none = let s = sole_total (λ u. f (own_of u)) views id w at (λ i u has ne. ap f (idle i u has ne) ∙ none) in let e = ap f same in omega arith
+
 pub sole_listed : (first : ℕ) (m : Reading) (views : List View) (id : ℕ) (v w : View) → ViewsShow first m views → get_elem? views id ≡ some w → ((i : ℕ) (u : View) → get_elem? views i ≡ some u → i ≢ id → own_of u ≡ nothing_own) → own_of w ≡ own_of v → Later v m → ViewsShow first m (v ∷ [])
 sole_listed first m views id v w h at idle same own =
-    let one : (f : Own → ℕ) → f nothing_own ≡ 0 → total (λ u. f (own_of u)) (v ∷ []) ≡ total (λ u. f (own_of u)) views =
-      λ f none. (let s = sole_total (λ u. f (own_of u)) views id w at (λ i u has ne. ap f (idle i u has ne) ∙ none) in let e = ap f same in omega arith) in record {
+    let one : (f : Own → ℕ) → f nothing_own ≡ 0 → total (λ u. f (own_of u)) (v ∷ []) ≡ total (λ u. f (own_of u)) views = sole_own views id v w at idle same in record {
       gauges = λ g b. h.gauges g b ∙ ap (λ (z : ℕ). z % wide) (sym (one (λ e. amount_on g e.ticks) refl));
       advances = advances_still first m.clock views (v ∷ []) h.advances (one (λ e. length e.advances) refl) (λ t. one (λ e. times_to t e.advances) refl);
       set = λ a. h.set a ∙ sym (one (λ e. times a e.set) refl);
       fired = λ a. h.fired a ∙ sym (one (λ e. times a e.fired) refl);
       cancelled = λ a. h.cancelled a ∙ sym (one (λ e. times a e.cancelled) refl);
-      splits = h.splits ∙ sym (one (λ e. e.splits) refl);
-      joins = h.joins ∙ sym (one (λ e. e.joins) refl);
       later = first_later m v own;
     }

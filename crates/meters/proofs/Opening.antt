@@ -5,11 +5,13 @@ use Rattle.atomic_table.specs.Table.{opening}
 use Rattle.quaject_core.specs.declared.alarm.Alarm.{Alarm}
 use Rattle.table_theory.specs.Sharing.{EndsCounted}
 use Rattle.table_theory.proofs.Counting.{counted_first}
+use Rattle.table_theory.specs.Ends.{EndsLogged}
+use Rattle.table_theory.proofs.Ends.{logged_first}
 use Rattle.meters.specs.declared.rule.Shape.{Shape}
 use Rattle.meters.specs.declared.rule.View.{View}
 use Rattle.meters.specs.Changes.{first_reading, here}
 use Rattle.meters.specs.Words.{word_of, Fits, WordsShow}
-use Rattle.meters.specs.Rules.{Rule, ends_of, share_of, IsIdle, newcomer}
+use Rattle.meters.specs.Rules.{Rule, ends_of, share_of, splits_of, joins_of, log_of, IsIdle, newcomer}
 use Rattle.meters.proofs.Listed.{first_later}
 
 none_set : (n j : ℕ) → get_or {A = Option Alarm} (repeat n (None ∷ [])) j None ≡ None
@@ -22,10 +24,9 @@ all_zero zero j = refl
 all_zero (suc n) zero = refl
 all_zero (suc n) (suc j) = all_zero n j
 
-shows_first : (key : Shape) (words : List ℕ) → key.clock < 4294967296 → length words ≡ 26 → get_or words 0 0 ≡ 1 → get_or words 9 0 ≡ key.clock → ((j : ℕ) → 0 < j → j ≢ 9 → get_or words j 0 ≡ 0) → WordsShow (first_reading key.clock) words
-shows_first key words small long one clock rest = record {
+shows_first : (key : Shape) (words : List ℕ) → key.clock < 4294967296 → length words ≡ 26 → get_or words 9 0 ≡ key.clock → ((j : ℕ) → 0 < j → j ≢ 9 → get_or words j 0 ≡ 0) → WordsShow (first_reading key.clock) words
+shows_first key words small long clock rest = record {
   wide = long;
-  ends = omega arith;
   eight = refl;
   gauges = λ g b. rest (1 + g) (omega arith) (λ e. omega arith) ∙ sym (all_zero 8 g);
   clock = clock;
@@ -41,18 +42,17 @@ pub opens : (key : Shape) (words : List ℕ) → key.clock < 4294967296 → leng
 opens key words small long ends clock rest = let v : View = newcomer key in record {
   meters = first_reading key.clock;
   lawful = λ alarm. refl;
-  shows = shows_first key words small long ends clock rest;
+  shows = shows_first key words small long clock rest;
   listed = record {
     gauges = λ g b. all_zero 8 g;
     advances = record { number = omega arith; once = λ t past upto. absurd (omega arith); never = λ t out. refl };
     set = λ a. refl;
     fired = λ a. refl;
     cancelled = λ a. refl;
-    splits = refl;
-    joins = refl;
     later = first_later (first_reading key.clock) v (here, here);
   };
   counted = subst (λ (c : ℕ). EndsCounted ends_of share_of IsIdle c (v ∷ [])) (sym ends) (counted_first ends_of share_of IsIdle v refl refl);
+  logged = subst (λ (c : ℕ). EndsLogged splits_of joins_of log_of c (v ∷ [])) (sym ends) (logged_first splits_of joins_of log_of v refl refl refl);
 }
 
 zeros : (n j : ℕ) → get_or {A = ℕ} (replicate n 0) j 0 ≡ 0

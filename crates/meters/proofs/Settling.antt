@@ -1,5 +1,5 @@
 -- What closing reads and tells.
-use Rattle.std.proofs.Common.{◌≡◌, ◌≢◌, ℕ, suc, zero, ◌+◌, ◌-◌, ◌%◌, ◌<◌, ◌≤◌, cond, List, [], ◌∷◌, ◌++◌, take, drop, length, length-drop, length-take, get_or, get_or-drop, get_or-take, get_or-set_same, get_or-set_other, take-suc, set, sym, refl, ap, ◌∙◌, subst, arith, Option, Some, None, count_by}
+use Rattle.std.proofs.Common.{◌≡◌, ◌≢◌, ℕ, suc, zero, ◌+◌, ◌-◌, ◌%◌, ◌<◌, ◌≤◌, cond, List, [], ◌∷◌, ◌++◌, take, drop, length, length-drop, length-take, get_or, get_or-drop, get_or-take, get_or-set_same, get_or-set_other, take-suc, set, ⊎_elim, sym, refl, ap, ◌∙◌, subst, arith, Option, Some, None, count_by}
 use Rattle.std.proofs.lemmas.Grind.{same_number_lists}
 use Rattle.std.proofs.lemmas.List.Elements.{filter_map-append}
 use Rattle.std.proofs.lemmas.List.Sums.{sum_by-cons}
@@ -8,23 +8,26 @@ use mathlib.Core.Logic.{dite}
 use native.Mathlib.Decide.{ℕ_discrete}
 use lib.ListN.{get_elem?}
 use Rattle.atomic_table.specs.Table.{Final, Seen}
+use Rattle.atomic_table.proofs.Lists.{at_snoc}
 use Rattle.quaject_core.specs.declared.alarm.Alarm.{Alarm}
 use Rattle.quaject_core.specs.Lawful.{is_alarm, stands}
 use Rattle.table_theory.specs.Sharing.{IsWhole}
-use Rattle.table_theory.proofs.Counting.{others_idle}
+use Rattle.table_theory.specs.Ends.{IsNumber, Begins, EndsLogged}
+use Rattle.table_theory.proofs.Counting.{others_idle, count_found}
+use Rattle.table_theory.proofs.Ends.{begins_trans}
 use Rattle.meters.specs.declared.rule.Reading.{Reading}
 use Rattle.meters.specs.declared.rule.Shape.{Shape}
 use Rattle.meters.specs.declared.rule.View.{View}
 use Rattle.meters.specs.Closings.{IsAllOf, ClosedNow, WereOpen}
-use Rattle.meters.specs.Rules.{Rule, ends_of, share_of, IsIdle}
+use Rattle.meters.specs.Rules.{Rule, ends_of, share_of, splits_of, joins_of, log_of, IsIdle}
 use Rattle.meters.specs.Steps.{Tallied}
 use Rattle.meters.specs.Changes.{IsLawful}
-use Rattle.meters.specs.Own.{own_of}
+use Rattle.meters.specs.Own.{own_of, nothing_own}
 use Rattle.meters.specs.Views.{ViewsShow, amount_on, times, times_to}
 use Rattle.meters.specs.Words.{word_of, Fits, SlotsShow, WordsShow, standing}
 use Rattle.meters.proofs.Betweens.{shown_gauges}
 use Rattle.meters.proofs.Following.{later_than}
-use Rattle.meters.proofs.Listed.{sole_listed}
+use Rattle.meters.proofs.Listed.{sole_own, sole_listed}
 use Rattle.meters.proofs.Stepping.{St}
 
 pub read_word : (l : List ℕ) (i x : ℕ) → get_elem? l i ≡ maybe.some x → get_or l i 0 ≡ x
@@ -78,17 +81,30 @@ all_of first m v lawful h = record {
 same_all : (v : View) (first : ℕ) (gauges gauges' : List ℕ) (clock clock' : ℕ) (alarms alarms' : List Alarm) → gauges ≡ gauges' → clock ≡ clock' → alarms ≡ alarms' → IsAllOf v first gauges' clock' alarms' → IsAllOf v first gauges clock alarms
 same_all v first gauges gauges' clock clock' alarms alarms' e f g a = subst (λ z. IsAllOf v first z clock alarms) (sym e) (subst (λ z. IsAllOf v first gauges' z alarms) (sym f) (subst (λ z. IsAllOf v first gauges' clock' z) (sym g) a))
 
-pub closes : (key : Shape) (v w : View) (found id : ℕ) (ws : List ℕ) (xs : List Unit) (gauges : List ℕ) (clock : ℕ) (alarms : List Alarm) → Tallied v found w → found ≡ 1 → Final (Seen (Rule key) id w) ws xs
+-- the one end lists all splits and joins
+sole_logged : (n : ℕ) (views : List View) (id : ℕ) (v w : View) (c : EndsLogged splits_of joins_of log_of n views) → n ≡ 1 → get_elem? views id ≡ maybe.some w → ((i : ℕ) (u : View) → get_elem? views i ≡ maybe.some u → i ≢ id → own_of u ≡ nothing_own) → own_of w ≡ own_of v → Begins v.log w.log → EndsLogged splits_of joins_of log_of 1 (v ∷ [])
+sole_logged n views id v w c one at idle same begins = let seen : Begins v.log c.log = begins_trans v.log w.log c.log begins (c.seen id w at) in record {
+  log = c.log;
+  number = subst (IsNumber c.log) one c.number;
+  splits = sole_own views id v w at idle same (λ e. e.splits) refl ∙ c.splits;
+  joins = sole_own views id v w at idle same (λ e. e.joins) refl ∙ c.joins;
+  seen = λ j u has. ⊎_elim (λ e. absurd (maybe.some-ne-none u (sym e))) (λ e. subst (λ (z : View). Begins z.log c.log) e seen) (at_snoc [] v u j has);
+}
+
+pub closes : (key : Shape) (v w : View) (found id : ℕ) (ws : List ℕ) (xs : List Unit) (gauges : List ℕ) (clock : ℕ) (alarms : List Alarm) → v.ends ≡ 1 → Tallied v found w → found ≡ 1 → Final (Seen (Rule key) id w) ws xs
     → gauges ≡ take 8 (drop 1 ws) → get_elem? ws 9 ≡ maybe.some clock → ((slots : List (Option Alarm)) → SlotsShow slots ws → alarms ≡ standing slots) → ClosedNow key.clock v gauges clock alarms
-closes key v w found id ws xs gauges clock alarms t is fin read_gauges read_clock read_alarms =
+closes key v w found id ws xs gauges clock alarms one_end t is fin read_gauges read_clock read_alarms =
     let s : St = fin.0 in let k = fin.1.0 in let m : Reading = k.meters in let shows : WordsShow m ws = subst (WordsShow m) fin.2 k.shows in let seen = k.listed.later id w fin.1.1 in
     let gauges_is : gauges ≡ m.gauges = read_gauges ∙ sym (shown_gauges m ws shows) in let alarms_is : alarms ≡ standing m.slots = read_alarms m.slots shows.slots in let clock_is : clock ≡ m.clock = sym (read_word ws 9 clock read_clock) ∙ shows.clock in
-    let whole : IsWhole v.share = t.count.alone is in let still : IsWhole w.share = subst (λ (z : View). IsWhole z.share) (sym t.ends_found.same) whole in
-    let listed : ViewsShow key.clock m (v ∷ []) = sole_listed key.clock m s.views id v w k.listed fin.1.1 (others_idle ends_of share_of IsIdle (get_or s.words 0 0) s.views id w k.counted fin.1.1 still) (ap own_of t.ends_found.same) (later_than v w.seen m t.ends_found.later seen.0) in record {
+    let whole : IsWhole v.share = t.count.alone is in let still : IsWhole w.share = subst (λ (z : View). IsWhole z.share) (sym t.same) whole in let n : ℕ = get_or s.words 0 0 in
+    let idle = others_idle ends_of share_of IsIdle n s.views id w k.counted fin.1.1 still in let same : own_of w ≡ own_of v = ap own_of t.same in
+    let one : n ≡ 1 = (count_found ends_of share_of IsIdle n s.views id w k.counted fin.1.1 (ap ends_of t.same ∙ one_end)).whole still in
+    let listed : ViewsShow key.clock m (v ∷ []) = sole_listed key.clock m s.views id v w k.listed fin.1.1 idle same (later_than v w.seen m t.later seen.0) in record {
       whole = whole;
       last = m;
       lawful = k.lawful;
       listed = listed;
+      logged = sole_logged n s.views id v w k.logged one fin.1.1 idle same t.begins;
       gauges_are = gauges_is;
       clock_is = clock_is;
       alarms_are = alarms_is;

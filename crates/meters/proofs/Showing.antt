@@ -4,30 +4,27 @@ use mathlib.Core.Logic.{dite}
 use native.Mathlib.Decide.{ℕ_discrete}
 use Rattle.quaject_core.specs.declared.alarm.Alarm.{Alarm}
 use Rattle.meters.specs.declared.rule.Reading.{Reading}
-use Rattle.meters.specs.Words.{word_of, Fits, IsEnds, SlotsShow, WordsShow}
-use Rattle.meters.specs.Changes.{SameEnds}
+use Rattle.meters.specs.Words.{word_of, Fits, SlotsShow, WordsShow}
 use Rattle.meters.proofs.Events.{with_tick, with_advance}
 
 -- a change beside the slots leaves what they show
 slots_still : (slots : List (Option Alarm)) (words : List ℕ) (i y : ℕ) → SlotsShow slots words → i < 10 → SlotsShow slots (set words i y)
 slots_still slots words i y h low = record { sixteen = h.sixteen; fit = h.fit; each = λ slot b. get_or-set_other words i (10 + slot) y 0 (λ e. omega arith) ∙ h.each slot b }
 
-pub shows_count : (m n : Reading) (words : List ℕ) (y : ℕ) → WordsShow m words → n.gauges ≡ m.gauges → n.clock ≡ m.clock → n.slots ≡ m.slots → IsEnds n y → WordsShow n (set words 0 y)
-shows_count m n words y h gauges clock slots ends = let wide = h.wide in record {
+pub shows_count : (m : Reading) (words : List ℕ) (y : ℕ) → WordsShow m words → WordsShow m (set words 0 y)
+shows_count m words y h = record {
   wide = length-set words 0 y ∙ h.wide;
-  ends = subst (IsEnds n) (sym (get_or-set_same words 0 y 0 (omega arith))) ends;
-  eight = ap length gauges ∙ h.eight;
-  gauges = λ g b. get_or-set_other words 0 (1 + g) y 0 (λ e. omega arith) ∙ (h.gauges g b ∙ (λ i. get_or (sym gauges i) g 0));
-  clock = get_or-set_other words 0 9 y 0 (λ e. omega arith) ∙ (h.clock ∙ sym clock);
-  small = subst (λ (z : ℕ). z < 4294967296) (sym clock) h.small;
-  slots = subst (λ z. SlotsShow z (set words 0 y)) (sym slots) (slots_still m.slots words 0 y h.slots (omega arith));
+  eight = h.eight;
+  gauges = λ g b. get_or-set_other words 0 (1 + g) y 0 (λ e. omega arith) ∙ h.gauges g b;
+  clock = get_or-set_other words 0 9 y 0 (λ e. omega arith) ∙ h.clock;
+  small = h.small;
+  slots = slots_still m.slots words 0 y h.slots (omega arith);
 }
 
 pub shows_tick : (m : Reading) (words : List ℕ) (g n : ℕ) → WordsShow m words → g < 8 → WordsShow (with_tick m g n) (set words (1 + g) ((get_or words (1 + g) 0 + n) % 18446744073709551616))
 shows_tick m words g n h below = let y : ℕ = (get_or words (1 + g) 0 + n) % 18446744073709551616 in let z : ℕ = (get_or m.gauges g 0 + n) % 18446744073709551616 in let wide = h.wide in let eight = h.eight in
     let same : y ≡ z = ap (λ (x : ℕ). (x + n) % 18446744073709551616) (h.gauges g below) in record {
       wide = length-set words (1 + g) y ∙ h.wide;
-      ends = subst (IsEnds m) (sym (get_or-set_other words (1 + g) 0 y 0 (λ e. omega arith))) h.ends;
       eight = length-set m.gauges g z ∙ h.eight;
       gauges = λ j b. dite (ℕ_discrete j g)
           (λ is. subst (λ (k : ℕ). get_or (set words (1 + g) y) (1 + k) 0 ≡ get_or (set m.gauges g z) k 0) (sym is) (get_or-set_same words (1 + g) y 0 (omega arith) ∙ (same ∙ sym (get_or-set_same m.gauges g z 0 (omega arith)))))
@@ -40,7 +37,6 @@ shows_tick m words g n h below = let y : ℕ = (get_or words (1 + g) 0 + n) % 18
 pub shows_clock : (m : Reading) (words : List ℕ) (y : ℕ) → WordsShow m words → y ≡ m.clock + 1 → m.clock < 4294967295 → WordsShow (with_advance m) (set words 9 y)
 shows_clock m words y h is small = let wide = h.wide in record {
   wide = length-set words 9 y ∙ h.wide;
-  ends = subst (IsEnds m) (sym (get_or-set_other words 9 0 y 0 (λ e. omega arith))) h.ends;
   eight = h.eight;
   gauges = λ g b. get_or-set_other words 9 (1 + g) y 0 (λ e. omega arith) ∙ h.gauges g b;
   clock = get_or-set_same words 9 y 0 (omega arith) ∙ is;
@@ -61,10 +57,9 @@ slots_changed slots words slot new h wide below fits = let y : ℕ = word_of new
 }
 
 -- the words, where one slot changes, whatever the lists of alarms become
-pub shows_slot : (m n : Reading) (words : List ℕ) (slot : ℕ) (new : Option Alarm) → WordsShow m words → slot < 16 → Fits new → n.gauges ≡ m.gauges → n.clock ≡ m.clock → n.slots ≡ set m.slots slot new → SameEnds m n → WordsShow n (set words (10 + slot) (word_of new))
-shows_slot m n words slot new h below fits gauges clock slots same = let y : ℕ = word_of new in record {
+pub shows_slot : (m n : Reading) (words : List ℕ) (slot : ℕ) (new : Option Alarm) → WordsShow m words → slot < 16 → Fits new → n.gauges ≡ m.gauges → n.clock ≡ m.clock → n.slots ≡ set m.slots slot new → WordsShow n (set words (10 + slot) (word_of new))
+shows_slot m n words slot new h below fits gauges clock slots = let y : ℕ = word_of new in record {
   wide = length-set words (10 + slot) y ∙ h.wide;
-  ends = (let z = get_or-set_other words (10 + slot) 0 y 0 (λ e. omega arith) in let e = h.ends in let a = same.0 in let b = same.1 in omega arith);
   eight = ap length gauges ∙ h.eight;
   gauges = λ g b. get_or-set_other words (10 + slot) (1 + g) y 0 (λ e. omega arith) ∙ (h.gauges g b ∙ (λ i. get_or (sym gauges i) g 0));
   clock = get_or-set_other words (10 + slot) 9 y 0 (λ e. omega arith) ∙ (h.clock ∙ sym clock);

@@ -9,14 +9,16 @@ use Rattle.atomic_table.proofs.Lists.{exchanged}
 use Rattle.quaject_core.specs.declared.alarm.Alarm.{Alarm}
 use Rattle.table_theory.specs.Sharing.{EndsCounted}
 use Rattle.table_theory.proofs.Counting.{counted_look}
+use Rattle.table_theory.specs.Ends.{EndsLogged}
+use Rattle.table_theory.proofs.Ends.{logged_look}
 use Rattle.meters.specs.declared.rule.Reading.{Reading}
 use Rattle.meters.specs.declared.rule.Shape.{Shape}
 use Rattle.meters.specs.declared.rule.Tick.{Tick}
 use Rattle.meters.specs.declared.rule.View.{View}
-use Rattle.meters.specs.Changes.{meters_of, IsLawful, in_slot, ticked, advanced, was_set, fired, cancelled, here}
+use Rattle.meters.specs.Changes.{IsLawful, in_slot, ticked, advanced, was_set, fired, cancelled, here}
 use Rattle.meters.specs.Views.{ViewsShow}
 use Rattle.meters.specs.Words.{word_of, IsInRange, WordsShow}
-use Rattle.meters.specs.Rules.{Rule, ends_of, share_of, IsIdle}
+use Rattle.meters.specs.Rules.{Rule, ends_of, share_of, splits_of, joins_of, log_of, IsIdle}
 use Rattle.meters.specs.Steps.{after, changed, Found, finds, Ticked, ticks, advances, SetIn, IsWordOf, sets, Fired, fires, Cancelled, cancels}
 use Rattle.meters.proofs.Codes.{same_alarm, no_word, one_word}
 use Rattle.meters.proofs.Events.{with_tick, with_advance, with_alarm, with_fired, with_cancelled, tick_is, advance_is, set_is, fire_is, cancel_is, tick_lawful, advance_lawful, set_lawful, fire_lawful, cancel_lawful, clock_leads}
@@ -31,14 +33,15 @@ abbrev pub Goes : Shape → St → ℕ → ℕ → Me Unit View → (Me Unit Vie
 Goes key s i id me joined y = (w : View) × (a : Act Unit) × Valid s.homes me.1 a × Rule key (stepped s i y id me.1 w a) × joined (w, carried_after me.1 a)
 
 -- the rule after an event of a live end
-kept_event : (key : Shape) (s : St) (k : Rule key s) (i y id : ℕ) (v w : View) (n : Reading) → get_elem? s.views id ≡ some v → 1 ≤ v.ends → w.ends ≡ v.ends → w.share ≡ v.share → 0 < i → IsLawful n → WordsShow n (set s.words i y) → ViewsShow key.clock n (set s.views id w)
+kept_event : (key : Shape) (s : St) (k : Rule key s) (i y id : ℕ) (v w : View) (n : Reading) → get_elem? s.views id ≡ some v → 1 ≤ v.ends → w.ends ≡ v.ends → w.share ≡ v.share → (w.splits ≡ v.splits) × (w.joins ≡ v.joins) × (w.log ≡ v.log) → 0 < i → IsLawful n → WordsShow n (set s.words i y) → ViewsShow key.clock n (set s.views id w)
     → Rule key record { words = set s.words i y; homes = s.homes; views = set s.views id w }
-kept_event key s k i y id v w n at live ends shares beside lawful shows listed = record {
+kept_event key s k i y id v w n at live ends shares log beside lawful shows listed = let still : get_or (set s.words i y) 0 0 ≡ get_or s.words 0 0 = get_or-set_other s.words i 0 y 0 (λ e. omega arith) in record {
   meters = n;
   lawful = lawful;
   shows = shows;
   listed = listed;
-  counted = subst (λ (c : ℕ). EndsCounted ends_of share_of IsIdle c (set s.views id w)) (sym (get_or-set_other s.words i 0 y 0 (λ e. omega arith))) (counted_look ends_of share_of IsIdle (get_or s.words 0 0) s.views id v w k.counted at ends shares (λ none _. absurd (omega arith)));
+  counted = subst (λ (c : ℕ). EndsCounted ends_of share_of IsIdle c (set s.views id w)) (sym still) (counted_look ends_of share_of IsIdle (get_or s.words 0 0) s.views id v w k.counted at ends shares (λ none _. absurd (omega arith)));
+  logged = subst (λ (c : ℕ). EndsLogged splits_of joins_of log_of c (set s.views id w)) (sym still) (logged_look splits_of joins_of log_of (get_or s.words 0 0) s.views id v w k.logged at log.0 log.1 log.2);
 }
 
 -- the rule, where the words stay, and a view has one entry more and sees the meters as they are
@@ -48,8 +51,9 @@ kept_look key s k i id found v at = let w : View = after v i found k.meters in l
   meters = k.meters;
   lawful = k.lawful;
   shows = subst (WordsShow k.meters) (sym same) k.shows;
-  listed = listed_look key.clock k.meters s.views id v w k.listed at (same_lists k.meters v w refl refl refl refl refl refl refl) (here, here);
+  listed = listed_look key.clock k.meters s.views id v w k.listed at (same_lists k.meters v w refl refl refl refl refl) (here, here);
   counted = subst (λ (n : ℕ). EndsCounted ends_of share_of IsIdle n (set s.views id w)) (ap (λ (z : List ℕ). get_or z 0 0) (sym same)) (counted_look ends_of share_of IsIdle (get_or s.words 0 0) s.views id v w k.counted at refl refl (λ _ h. h));
+  logged = subst (λ (n : ℕ). EndsLogged splits_of joins_of log_of n (set s.views id w)) (ap (λ (z : List ℕ). get_or z 0 0) (sym same)) (logged_look splits_of joins_of log_of (get_or s.words 0 0) s.views id v w k.logged at refl refl refl);
 }
 
 pub found_now : (key : Shape) (s : St) (k : Rule key s) (i id : ℕ) (v : View) → get_elem? s.views id ≡ some v → Found v i (get_or s.words i 0) (after v i (get_or s.words i 0) k.meters)
@@ -60,24 +64,24 @@ looks key n id me i s k _ at _ = let found : ℕ = get_or s.words i 0 in (after 
 
 pub ticks_gauge : (key : Shape) (n id : ℕ) (me : Me Unit View) (g amount : ℕ) → g < 8 → 1 ≤ me.0.ends → Allows (Rule key) n id me (1 + g) (λ x. (x + amount) % 18446744073709551616) (ticks (step n (1 + g) amount 0 none) me)
 ticks_gauge key n id me g amount below live s k _ at _ = let v : View = me.0 in let m : Reading = k.meters in let o : Reading = with_tick m g amount in let eight = k.shows.eight in let y : ℕ = (get_or s.words (1 + g) 0 + amount) % 18446744073709551616 in
-    let t : Tick = record { gauge = g; amount = amount } in let w : View = record (changed v (1 + g) (get_or s.words (1 + g) 0) m (meters_of o)) { ticks = v.ticks ++ t ∷ [] } in let within : g < length m.gauges = omega arith in (
+    let t : Tick = record { gauge = g; amount = amount } in let w : View = record (changed v (1 + g) (get_or s.words (1 + g) 0) m o) { ticks = v.ticks ++ t ∷ [] } in let within : g < length m.gauges = omega arith in (
       w,
       keeps,
       tt,
-      kept_event key s k (1 + g) y id v w o at live refl refl (omega arith) (tick_lawful m g amount within k.lawful) (shows_tick m s.words g amount k.shows below)
-          (listed_tick key.clock m s.views id v w g amount k.listed at within (ticked g amount (tick_is m g amount within)) refl refl refl refl refl refl refl (here, here)),
+      kept_event key s k (1 + g) y id v w o at live refl refl (refl, refl, refl) (omega arith) (tick_lawful m g amount within k.lawful) (shows_tick m s.words g amount k.shows below)
+          (listed_tick key.clock m s.views id v w g amount k.listed at within (ticked g amount (tick_is m g amount within)) refl refl refl refl refl (here, here)),
       (refl, λ gauge e. subst (λ (z : ℕ). Ticked v z amount (get_or s.words (1 + g) 0) w) (omega arith) (record { before = m; later = k.listed.later id v at; lawful = k.lawful; is = k.shows.gauges g below; event = tick_is m g amount within; same = refl })),
     )
 
 pub advances_clock : (key : Shape) (n id : ℕ) (me : Me Unit View) (clock : ℕ) → clock < 4294967295 → 1 ≤ me.0.ends → Allows (Rule key) n id me 9 (λ x. either (eqb x clock) (clock + 1) x) (advances (step n 9 clock (clock + 1) none) me)
 advances_clock key n id me clock small live s k _ at _ = let y : ℕ = get_or s.words 9 0 in let v : View = me.0 in let m : Reading = k.meters in
     exchanged y clock (clock + 1) (Goes key s 9 id me (advances (step n 9 clock (clock + 1) none) me y))
-    (λ hit. let o : Reading = with_advance m in let w : View = record (changed v 9 clock m (meters_of o)) { advances = v.advances ++ (clock + 1) ∷ [] } in let is = k.shows.clock in let now : m.clock ≡ clock = omega arith in let ne : m.clock ≢ 4294967295 = (λ e. omega arith) in (
+    (λ hit. let o : Reading = with_advance m in let w : View = record (changed v 9 clock m o) { advances = v.advances ++ (clock + 1) ∷ [] } in let is = k.shows.clock in let now : m.clock ≡ clock = omega arith in let ne : m.clock ≢ 4294967295 = (λ e. omega arith) in (
       w,
       keeps,
       tt,
-      kept_event key s k 9 (clock + 1) id v w o at live refl refl (omega arith) (advance_lawful m ne k.lawful) (shows_clock m s.words (clock + 1) k.shows (omega arith) (omega arith))
-          (listed_advance key.clock m s.views id v w k.listed at (advanced (advance_is m ne)) (λ i. v.advances ++ (sym now i + 1) ∷ []) refl refl refl refl refl refl (here, here)),
+      kept_event key s k 9 (clock + 1) id v w o at live refl refl (refl, refl, refl) (omega arith) (advance_lawful m ne k.lawful) (shows_clock m s.words (clock + 1) k.shows (omega arith) (omega arith))
+          (listed_advance key.clock m s.views id v w k.listed at (advanced (advance_is m ne)) (λ i. v.advances ++ (sym now i + 1) ∷ []) refl refl refl refl (here, here)),
       (refl, (λ _. record { before = m; later = k.listed.later id v at; lawful = k.lawful; at = now; event = advance_is m ne; same = refl }), λ miss. absurd (miss hit)),
     ))
     (λ miss. (after v 9 y m, keeps, tt, kept_look key s k 9 id y v at, (refl, (λ hit. absurd (miss hit)), λ _. found_now key s k 9 id v at)))
@@ -89,18 +93,16 @@ one_slot F slot alarm range f slot' alarm' e = let place = e.place in subst (λ 
 pub sets_slot : (key : Shape) (n id : ℕ) (me : Me Unit View) (slot : ℕ) (alarm : Alarm) → slot < 16 → IsInRange alarm → 1 ≤ me.0.ends → Allows (Rule key) n id me (10 + slot) (λ x. either (eqb x 0) (word_of (Some alarm)) x) (sets (step n (10 + slot) 0 (word_of (Some alarm)) none) me)
 sets_slot key n id me slot alarm below range live s k _ at _ = let y : ℕ = get_or s.words (10 + slot) 0 in let new : ℕ = word_of (Some alarm) in let v : View = me.0 in let m : Reading = k.meters in let sixteen = k.shows.slots.sixteen in let within : slot < length m.slots = omega arith in
     exchanged y 0 new (Goes key s (10 + slot) id me (sets (step n (10 + slot) 0 new none) me y))
-    (λ hit. let o : Reading = with_alarm m slot alarm in let w : View = record (changed v (10 + slot) 0 m (meters_of o)) { set = v.set ++ alarm ∷ [] } in let empty : in_slot m slot ≡ None = no_word (in_slot m slot) (sym (k.shows.slots.each slot below) ∙ hit) in let e = set_is m slot alarm within empty in (
+    (λ hit. let o : Reading = with_alarm m slot alarm in let w : View = record (changed v (10 + slot) 0 m o) { set = v.set ++ alarm ∷ [] } in let empty : in_slot m slot ≡ None = no_word (in_slot m slot) (sym (k.shows.slots.each slot below) ∙ hit) in let e = set_is m slot alarm within empty in (
       w,
       keeps,
       tt,
-      kept_event key s k (10 + slot) new id v w o at live refl refl (omega arith) (set_lawful m slot alarm within empty k.lawful) (shows_slot m o s.words slot (Some alarm) k.shows below range refl refl refl (refl, refl))
-          (listed_event key.clock m o s.views id v w k.listed at (was_set slot alarm e) (refl, refl) (record {
+      kept_event key s k (10 + slot) new id v w o at live refl refl (refl, refl, refl) (omega arith) (set_lawful m slot alarm within empty k.lawful) (shows_slot m o s.words slot (Some alarm) k.shows below range refl refl refl)
+          (listed_event key.clock m o s.views id v w k.listed at (was_set slot alarm e) (record {
             ticks = refl;
             gauges = refl;
             advances = refl;
             clock = refl;
-            splits = refl;
-            joins = refl;
             set = λ a. (let p = times_push a alarm m.set in let q = times_push a alarm v.set in omega arith);
             fired = λ a. refl;
             cancelled = λ a. refl;
@@ -113,19 +115,17 @@ pub fires_slot : (key : Shape) (n id : ℕ) (me : Me Unit View) (slot : ℕ) (al
     → Allows (Rule key) n id me (10 + slot) (λ x. either (eqb x (word_of (Some alarm))) 0 x) (fires (step n (10 + slot) (word_of (Some alarm)) 0 none) me)
 fires_slot key n id me slot alarm below range due live s k _ at _ = let y : ℕ = get_or s.words (10 + slot) 0 in let old : ℕ = word_of (Some alarm) in let v : View = me.0 in let m : Reading = k.meters in let sixteen = k.shows.slots.sixteen in let within : slot < length m.slots = omega arith in
     exchanged y old 0 (Goes key s (10 + slot) id me (fires (step n (10 + slot) old 0 none) me y))
-    (λ hit. let o : Reading = with_fired m slot alarm in let w : View = record (changed v (10 + slot) old m (meters_of o)) { fired = v.fired ++ alarm ∷ [] } in let stood : in_slot m slot ≡ Some alarm = one_word (in_slot m slot) alarm (k.shows.slots.fit slot below) range (sym (k.shows.slots.each slot below) ∙ hit) in
+    (λ hit. let o : Reading = with_fired m slot alarm in let w : View = record (changed v (10 + slot) old m o) { fired = v.fired ++ alarm ∷ [] } in let stood : in_slot m slot ≡ Some alarm = one_word (in_slot m slot) alarm (k.shows.slots.fit slot below) range (sym (k.shows.slots.each slot below) ∙ hit) in
     let now = clock_leads v.seen m (k.listed.later id v at).0 in let late : ltb m.clock alarm.due ≡ false = le-ltb m.clock alarm.due (omega arith) in let e = fire_is m slot alarm within stood late in (
       w,
       keeps,
       tt,
-      kept_event key s k (10 + slot) 0 id v w o at live refl refl (omega arith) (fire_lawful m slot alarm within stood late k.lawful) (shows_slot m o s.words slot None k.shows below tt refl refl refl (refl, refl))
-          (listed_event key.clock m o s.views id v w k.listed at (fired slot e) (refl, refl) (record {
+      kept_event key s k (10 + slot) 0 id v w o at live refl refl (refl, refl, refl) (omega arith) (fire_lawful m slot alarm within stood late k.lawful) (shows_slot m o s.words slot None k.shows below tt refl refl refl)
+          (listed_event key.clock m o s.views id v w k.listed at (fired slot e) (record {
             ticks = refl;
             gauges = refl;
             advances = refl;
             clock = refl;
-            splits = refl;
-            joins = refl;
             set = λ a. refl;
             fired = λ a. (let p = times_push a alarm m.fired in let q = times_push a alarm v.fired in omega arith);
             cancelled = λ a. refl;
@@ -138,19 +138,17 @@ pub cancels_slot : (key : Shape) (n id : ℕ) (me : Me Unit View) (slot : ℕ) (
     → Allows (Rule key) n id me (10 + slot) (λ x. either (eqb x (word_of (Some alarm))) 0 x) (cancels (step n (10 + slot) (word_of (Some alarm)) 0 none) me)
 cancels_slot key n id me slot alarm below range live s k _ at _ = let y : ℕ = get_or s.words (10 + slot) 0 in let old : ℕ = word_of (Some alarm) in let v : View = me.0 in let m : Reading = k.meters in let sixteen = k.shows.slots.sixteen in let within : slot < length m.slots = omega arith in
     exchanged y old 0 (Goes key s (10 + slot) id me (cancels (step n (10 + slot) old 0 none) me y))
-    (λ hit. let o : Reading = with_cancelled m slot alarm in let w : View = record (changed v (10 + slot) old m (meters_of o)) { cancelled = v.cancelled ++ alarm ∷ [] } in let stood : in_slot m slot ≡ Some alarm = one_word (in_slot m slot) alarm (k.shows.slots.fit slot below) range (sym (k.shows.slots.each slot below) ∙ hit) in
+    (λ hit. let o : Reading = with_cancelled m slot alarm in let w : View = record (changed v (10 + slot) old m o) { cancelled = v.cancelled ++ alarm ∷ [] } in let stood : in_slot m slot ≡ Some alarm = one_word (in_slot m slot) alarm (k.shows.slots.fit slot below) range (sym (k.shows.slots.each slot below) ∙ hit) in
     let e = cancel_is m slot alarm within stood in (
       w,
       keeps,
       tt,
-      kept_event key s k (10 + slot) 0 id v w o at live refl refl (omega arith) (cancel_lawful m slot alarm within stood k.lawful) (shows_slot m o s.words slot None k.shows below tt refl refl refl (refl, refl))
-          (listed_event key.clock m o s.views id v w k.listed at (cancelled slot e) (refl, refl) (record {
+      kept_event key s k (10 + slot) 0 id v w o at live refl refl (refl, refl, refl) (omega arith) (cancel_lawful m slot alarm within stood k.lawful) (shows_slot m o s.words slot None k.shows below tt refl refl refl)
+          (listed_event key.clock m o s.views id v w k.listed at (cancelled slot e) (record {
             ticks = refl;
             gauges = refl;
             advances = refl;
             clock = refl;
-            splits = refl;
-            joins = refl;
             set = λ a. refl;
             fired = λ a. refl;
             cancelled = λ a. (let p = times_push a alarm m.cancelled in let q = times_push a alarm v.cancelled in omega arith);

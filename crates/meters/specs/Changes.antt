@@ -1,5 +1,5 @@
--- How the meters change: by one event of the core at a time, or by an end that is split or joined.
-use Rattle.std.specs.Prelude.{◌≡◌, ℕ, ◌+◌, ◌∷◌, [], ◌<◌, length, slice_index_or, slice_set, Option, Some, None, Ok}
+-- How the meters change: by one event of the core at a time.
+use Rattle.std.specs.Prelude.{◌≡◌, ℕ, ◌∷◌, [], ◌<◌, length, slice_index_or, slice_set, Option, Some, None, Ok}
 use Rattle.std.specs.Prelude.{count_by}
 use Rattle.std.specs.List.{repeat}
 use Rattle.quaject_core.specs.declared.alarm.Alarm.{Alarm}
@@ -18,17 +18,6 @@ meters_of m = record {
   cancelled = m.cancelled;
 }
 
--- the reading with these meters
-abbrev pub with_meters : Reading → Meters → Reading
-with_meters m c = record m {
-  gauges = c.gauges;
-  clock = c.clock;
-  slots = c.slots;
-  set = c.set;
-  fired = c.fired;
-  cancelled = c.cancelled;
-}
-
 abbrev pub IsLawful : Reading → Type 0
 IsLawful m = IsLawfulMeters (meters_of m)
 
@@ -45,8 +34,6 @@ first_reading clock = record {
   set = [];
   fired = [];
   cancelled = [];
-  splits = 0;
-  joins = 0;
 }
 
 -- the same but for the slots that the same alarms stand in
@@ -76,19 +63,7 @@ pub data Happens (m n : Reading) : Type 0 where
   fired : (slot : ℕ) → fire slot (meters_of m) ≡ Ok (meters_of n) → Happens m n
   cancelled : (slot : ℕ) → cancel slot (meters_of m) ≡ Ok (meters_of n) → Happens m n
 
--- no end was split and none joined
-abbrev pub SameEnds : Reading → Reading → Type 0
-SameEnds m n = (n.splits ≡ m.splits) × (n.joins ≡ m.joins)
-
-abbrev pub with_split : Reading → Reading
-with_split m = record m { splits = m.splits + 1 }
-
-abbrev pub with_join : Reading → Reading
-with_join m = record m { joins = m.joins + 1 }
-
--- events of the core, and splits and joins of ends, one after another, lead from the one to the other
+-- events of the core, one after another, lead from the one to the other
 pub data Leads (m : Reading) : Reading → Type 0 where
   here : Leads m m
-  further : (n o : Reading) → Leads m n → Happens n o → SameEnds n o → Leads m o
-  one_split : (n o : Reading) → Leads m n → o ≡ with_split n → Leads m o
-  one_joined : (n o : Reading) → Leads m n → o ≡ with_join n → Leads m o
+  further : (n o : Reading) → Leads m n → Happens n o → Leads m o

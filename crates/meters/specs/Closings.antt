@@ -1,10 +1,12 @@
 -- What closing the meters answers.
 use Rattle.std.specs.Prelude.{◌≡◌, ◌+◌, ◌%◌, ◌<◌, ◌≤◌, ℕ, List, [], ◌∷◌, length, slice_index_or}
 use Rattle.quaject_core.specs.declared.alarm.Alarm.{Alarm}
+use Rattle.table_theory.specs.Ends.{EndsLogged}
 use Rattle.table_theory.specs.Sharing.{IsWhole}
 use Rattle.meters.specs.declared.rule.Reading.{Reading}
 use Rattle.meters.specs.declared.rule.View.{View}
 use Rattle.meters.specs.Changes.{IsLawful}
+use Rattle.meters.specs.Rules.{splits_of, joins_of, log_of}
 use Rattle.meters.specs.Steps.{Tallied}
 use Rattle.meters.specs.Views.{ViewsShow, amount_on, times, times_to}
 use Rattle.meters.specs.Words.{standing}
@@ -19,13 +21,14 @@ pub record IsAllOf (v : View) (first : ℕ) (gauges : List ℕ) (clock : ℕ) (a
   pub once : (alarm : Alarm)
       → times alarm v.set ≡ times alarm v.fired + times alarm v.cancelled + times alarm alarms
 
--- The meters are closed, by an end that has the whole and so lists all of them: these are the gauges, the clock and the
--- alarms that stand at the end
+-- The meters are closed, by an end that has the whole and so lists all of them, and all splits and joins: these are the
+-- gauges, the clock and the alarms that stand at the end
 pub record ClosedNow (first : ℕ) (v : View) (gauges : List ℕ) (clock : ℕ) (alarms : List Alarm) : Type 0 where
   pub whole : IsWhole v.share
   pub last : Reading
   pub lawful : IsLawful last
   pub listed : ViewsShow first last (v ∷ [])
+  pub logged : EndsLogged splits_of joins_of log_of 1 (v ∷ [])
   pub gauges_are : gauges ≡ last.gauges
   pub clock_is : clock ≡ last.clock
   pub alarms_are : alarms ≡ standing last.slots

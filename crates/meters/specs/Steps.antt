@@ -1,15 +1,17 @@
 -- What each step tells its end. Each adds one entry to the end's list: the word's number, what was found there, and the
 -- meters as they were then.
-use Rattle.std.specs.Prelude.{◌≡◌, ◌≢◌, ◌+◌, ◌-◌, ℕ, List, [], ◌∷◌, ◌++◌, slice_index_or, Some, Ok}
+use Rattle.std.specs.Prelude.{◌≡◌, ◌≢◌, ◌+◌, ◌-◌, ℕ, Bool, true, false, List, [], ◌∷◌, ◌++◌}
+use Rattle.std.specs.Prelude.{slice_index_or, Some, Ok}
 use Rattle.quaject_core.specs.declared.alarm.Alarm.{Alarm}
-use Rattle.quaject_core.specs.Meters.{Meters, tick, advance, fire, cancel}
+use Rattle.quaject_core.specs.Meters.{tick, advance, fire, cancel}
+use Rattle.table_theory.specs.Ends.{Begins, IsNumber, later_of}
 use Rattle.table_theory.specs.Sharing.{given, kept, IsCount}
 use Rattle.atomic_table.specs.Table.{Me, Step}
 use Rattle.meters.specs.declared.rule.Reading.{Reading}
 use Rattle.meters.specs.declared.rule.View.{View}
-use Rattle.meters.specs.Changes.{meters_of, with_meters, with_split, with_join, IsLawful, IsSet, in_slot}
+use Rattle.meters.specs.Changes.{meters_of, IsLawful, IsSet, in_slot}
 use Rattle.meters.specs.Views.{Later}
-use Rattle.meters.specs.Words.{ends_word, gauge_word, clock_word, slot_word, WordsShow, IsEnds, IsInRange, word_of}
+use Rattle.meters.specs.Words.{ends_word, gauge_word, clock_word, slot_word, WordsShow, IsInRange, word_of}
 
 -- the view after a step that found this number in this word, when the meters were so
 abbrev pub after : View → ℕ → ℕ → Reading → View
@@ -20,8 +22,8 @@ after v word found m = record v {
 }
 
 -- the same, where the step made these meters of those
-abbrev pub changed : View → ℕ → ℕ → Reading → Meters → View
-changed v word found m new = record (after v word found m) { seen = with_meters m new; joined = with_meters m new }
+abbrev pub changed : View → ℕ → ℕ → Reading → Reading → View
+changed v word found m new = record (after v word found m) { seen = new; joined = new }
 
 -- A number was found in a word, and nothing else changed for the end
 pub record Found (v : View) (word found : ℕ) (w : View) : Type 0 where
@@ -38,7 +40,7 @@ finds st m r m' = (m'.1 ≡ m.1) × Found m.0 st.word r m'.0
 -- the gauge was found at this number, and then one tick of the core was made
 pub record Ticked (v : View) (gauge amount found : ℕ) (w : View) : Type 0 where
   pub before : Reading
-  pub same : w ≡ record (changed v (gauge_word gauge) found before (meters_of w.seen)) {
+  pub same : w ≡ record (changed v (gauge_word gauge) found before w.seen) {
     ticks = v.ticks ++ record { gauge = gauge; amount = amount } ∷ [];
   }
   pub later : Later v before
@@ -53,7 +55,7 @@ ticks st m r m' =
 -- the clock was found at this tick, and moved on from it by one event of the core
 pub record Advanced (v : View) (clock : ℕ) (w : View) : Type 0 where
   pub before : Reading
-  pub same : w ≡ record (changed v clock_word clock before (meters_of w.seen)) {
+  pub same : w ≡ record (changed v clock_word clock before w.seen) {
     advances = v.advances ++ (clock + 1) ∷ [];
   }
   pub later : Later v before
@@ -75,7 +77,7 @@ pub record IsWordOf (slot : ℕ) (alarm : Alarm) (word bits : ℕ) : Type 0 wher
 -- the slot was found empty, and the alarm set in it by one event of the core
 pub record SetIn (v : View) (slot : ℕ) (alarm : Alarm) (w : View) : Type 0 where
   pub before : Reading
-  pub same : w ≡ record (changed v (slot_word slot) 0 before (meters_of w.seen)) { set = v.set ++ alarm ∷ [] }
+  pub same : w ≡ record (changed v (slot_word slot) 0 before w.seen) { set = v.set ++ alarm ∷ [] }
   pub later : Later v before
   pub lawful : IsLawful before
   pub event : IsSet slot alarm before w.seen
@@ -88,7 +90,7 @@ sets st m r m' = (m'.1 ≡ m.1)
 -- the alarm was found in this slot, and taken out as fired by one event of the core
 pub record Fired (v : View) (slot : ℕ) (alarm : Alarm) (w : View) : Type 0 where
   pub before : Reading
-  pub same : w ≡ record (changed v (slot_word slot) (word_of (Some alarm)) before (meters_of w.seen)) {
+  pub same : w ≡ record (changed v (slot_word slot) (word_of (Some alarm)) before w.seen) {
     fired = v.fired ++ alarm ∷ [];
   }
   pub later : Later v before
@@ -104,7 +106,7 @@ fires st m r m' = (m'.1 ≡ m.1)
 -- the same, as cancelled
 pub record Cancelled (v : View) (slot : ℕ) (alarm : Alarm) (w : View) : Type 0 where
   pub before : Reading
-  pub same : w ≡ record (changed v (slot_word slot) (word_of (Some alarm)) before (meters_of w.seen)) {
+  pub same : w ≡ record (changed v (slot_word slot) (word_of (Some alarm)) before w.seen) {
     cancelled = v.cancelled ++ alarm ∷ [];
   }
   pub later : Later v before
@@ -117,43 +119,42 @@ cancels st m r m' = (m'.1 ≡ m.1)
     × (r ≡ st.first → (slot : ℕ) (alarm : Alarm) → IsWordOf slot alarm st.word st.first → Cancelled m.0 slot alarm m'.0)
     × (r ≢ st.first → Found m.0 st.word r m'.0)
 
--- the view after the number of ends was found, and then one end more stood
-abbrev pub with_more : View → ℕ → Reading → View
-with_more v found m = record (after v ends_word found m) {
-  seen = with_split m;
-  joined = with_split m;
-  splits = v.splits + 1;
-  ends = v.ends + 1;
-}
+-- the view after so many ends were found, when the meters were so, and a split more
+abbrev pub with_split : View → ℕ → Reading → List Bool → View
+with_split v found m log = record (after v ends_word found m) { splits = v.splits + 1; log = log ++ true ∷ [] }
 
--- the same, where then one end less stood
-abbrev pub with_less : View → ℕ → Reading → View
-with_less v found m = record (after v ends_word found m) {
-  seen = with_join m;
-  joined = with_join m;
-  joins = v.joins + 1;
-  ends = v.ends - 1;
-}
+-- the same, and a join more
+abbrev pub with_join : View → ℕ → Reading → List Bool → View
+with_join v found m log = record (after v ends_word found m) { joins = v.joins + 1; log = log ++ false ∷ [] }
 
--- the number of ends was found, and made one more
+-- The number of ends was found, and made one more
 pub record CountedUp (v : View) (found : ℕ) (w : View) : Type 0 where
-  pub before : Reading
-  pub same : w ≡ with_more v found before
-  pub later : Later v before
-  pub lawful : IsLawful before
-  pub is : IsEnds before found
+  pub log : List Bool
+  pub same : w ≡ record (with_split v found w.seen log) { ends = v.ends + 1 }
+  pub later : Later v w.seen
+  pub lawful : IsLawful w.seen
+  pub begins : Begins v.log log
+  pub number : IsNumber log found
 
--- the number of ends was found, and made one less
+-- The number of ends was found, and made one less
 pub record CountedDown (v : View) (found : ℕ) (w : View) : Type 0 where
-  pub before : Reading
-  pub same : w ≡ with_less v found before
-  pub later : Later v before
-  pub lawful : IsLawful before
-  pub is : IsEnds before found
+  pub log : List Bool
+  pub same : w ≡ record (with_join v found w.seen log) { ends = v.ends - 1 }
+  pub later : Later v w.seen
+  pub lawful : IsLawful w.seen
+  pub begins : Begins v.log log
+  pub number : IsNumber log found
 
--- the number of ends was found: 1 exactly where this end has the whole
+-- The number of ends was found: that of the splits and joins up to then, and 1 exactly where this end has the whole
 pub record Tallied (v : View) (found : ℕ) (w : View) : Type 0 where
-  pub ends_found : Found v ends_word found w
+  pub same : w ≡ record (after v ends_word found w.seen) { log = w.log }
+  pub later : Later v w.seen
+  pub lawful : IsLawful w.seen
+  pub words : List ℕ
+  pub shows : WordsShow w.seen words
+  pub is : found ≡ slice_index_or words ends_word 0
+  pub begins : Begins v.log w.log
+  pub number : IsNumber w.log found
   pub count : IsCount v.share found
 
 abbrev pub counts_up : Step Unit → Me Unit View → ℕ → Me Unit View → Type 0
@@ -180,6 +181,7 @@ newborn v = record {
   cancelled = [];
   splits = 0;
   joins = 0;
+  log = v.log;
   ends = 1;
   share = given v.share;
   steps = [];
@@ -197,6 +199,7 @@ both v w = record {
   cancelled = v.cancelled ++ w.cancelled;
   splits = v.splits + w.splits;
   joins = v.joins + w.joins;
+  log = later_of v.log w.log;
   ends = v.ends + w.ends;
   share = v.share + w.share;
   steps = v.steps ++ w.steps;
@@ -214,6 +217,7 @@ emptied v = record {
   cancelled = [];
   splits = 0;
   joins = 0;
+  log = v.log;
   ends = 0;
   share = 0;
   steps = [];

@@ -33,8 +33,7 @@ pub record AdvancesShow (first clock : ℕ) (views : List View) : Type 0 where
   pub once : (tick : ℕ) → first < tick → tick ≤ clock → total (λ v. times_to tick v.advances) views ≡ 1
   pub never : (tick : ℕ) → (tick ≤ first) ⊎ (clock < tick) → total (λ v. times_to tick v.advances) views ≡ 0
 
--- the ends together list each tick, each advance from the first clock on, each alarm set, fired and cancelled, and how
--- often an end was split and joined
+-- the ends together list each tick, each advance from the first clock on, and each alarm set, fired and cancelled
 pub record ViewsShow (first : ℕ) (m : Reading) (views : List View) : Type 0 where
   pub gauges : (gauge : ℕ) → gauge < 8
       → slice_index_or m.gauges gauge 0 ≡ total (λ v. amount_on gauge v.ticks) views % 18446744073709551616
@@ -42,6 +41,4 @@ pub record ViewsShow (first : ℕ) (m : Reading) (views : List View) : Type 0 wh
   pub set : (alarm : Alarm) → times alarm m.set ≡ total (λ v. times alarm v.set) views
   pub fired : (alarm : Alarm) → times alarm m.fired ≡ total (λ v. times alarm v.fired) views
   pub cancelled : (alarm : Alarm) → times alarm m.cancelled ≡ total (λ v. times alarm v.cancelled) views
-  pub splits : m.splits ≡ total (λ v. v.splits) views
-  pub joins : m.joins ≡ total (λ v. v.joins) views
   pub later : (seat : ℕ) (v : View) → get_elem? views seat ≡ some v → Later v m

@@ -1,4 +1,4 @@
--- What the words of the table show: the number of ends, 8 gauges, the clock and 16 alarms.
+-- What the words of the table show: 8 gauges, the clock and 16 alarms, behind the number of ends.
 use Rattle.std.specs.Prelude.{◌≡◌, ℕ, ◌+◌, ◌*◌, ◌/◌, ◌%◌, ◌<◌, List, length}
 use Rattle.std.specs.Prelude.{filter_map, slice_index_or, Option, Some, None}
 use Rattle.quaject_core.specs.declared.alarm.Alarm.{Alarm}
@@ -39,10 +39,6 @@ abbrev pub Fits : Option Alarm → Type 0
 Fits None = Unit {0}
 Fits (Some alarm) = IsInRange alarm
 
--- the number of ends: one, and one more by each split, and one less by each join
-abbrev pub IsEnds : Reading → ℕ → Type 0
-IsEnds m number = number + m.joins ≡ m.splits + 1
-
 -- the alarms that stand, in the order of their slots
 abbrev pub standing : List (Option Alarm) → List Alarm
 standing slots = filter_map (λ slot. slot) slots
@@ -55,7 +51,6 @@ pub record SlotsShow (slots : List (Option Alarm)) (words : List ℕ) : Type 0 w
 
 pub record WordsShow (m : Reading) (words : List ℕ) : Type 0 where
   pub wide : length words ≡ 26
-  pub ends : IsEnds m (slice_index_or words ends_word 0)
   pub eight : length m.gauges ≡ 8
   pub gauges : (gauge : ℕ) → gauge < 8
       → slice_index_or words (gauge_word gauge) 0 ≡ slice_index_or m.gauges gauge 0

@@ -17,8 +17,8 @@ pub struct Tick {
     pub amount: u64,
 }
 
-/// The meters at one step: the gauges, the clock, what stands in each slot, all alarms that were set, fired and
-/// cancelled up to then, and how often an end was split and joined up to then.
+/// The meters at one step: the gauges, the clock, what stands in each slot, and all alarms that were set, fired and
+/// cancelled up to then.
 pub struct Reading {
     pub gauges: LinkedList<u64>,
     pub clock: u64,
@@ -26,13 +26,12 @@ pub struct Reading {
     pub set: LinkedList<Alarm>,
     pub fired: LinkedList<Alarm>,
     pub cancelled: LinkedList<Alarm>,
-    pub splits: u64,
-    pub joins: u64,
 }
 
 /// What an end knows: the meters at its last step, the meters as an end that it joined had seen them, its own ticks,
 /// the ticks that it moved the clock on to, the alarms that it set, fired and cancelled, how often it was split and
-/// took in another end, how many of the ends counted it is and its share of the meters, and every step that it made.
+/// took in another end, the splits (true) and joins (false) of all ends up to its last step on their number, how many
+/// of the ends counted it is and its share of the meters, and every step that it made.
 pub struct View {
     pub seen: Reading,
     pub joined: Reading,
@@ -43,6 +42,7 @@ pub struct View {
     pub cancelled: LinkedList<Alarm>,
     pub splits: u64,
     pub joins: u64,
+    pub log: LinkedList<bool>,
     pub ends: u64,
     pub share: u64,
     pub steps: LinkedList<Entry<Reading>>,

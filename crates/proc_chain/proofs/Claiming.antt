@@ -22,12 +22,14 @@ use Rattle.table_theory.proofs.Owned.{at_below, one_at}
 use Rattle.table_theory.proofs.Positioned.{grows_refl, claim_grows, claim_lawful, claim_old, claim_new, write_grows, write_lawful, write_here, write_else}
 use Rattle.table_theory.proofs.Listing.{Own, own, run_stands, listed_claim, listed_write, distinct}
 use Rattle.table_theory.proofs.Counting.{counted_look}
+use Rattle.table_theory.specs.Ends.{EndsLogged}
+use Rattle.table_theory.proofs.Ends.{logged_look}
 use Rattle.table_theory.proofs.Windows.{window_same, window_claim, window_write}
 use Rattle.proc_chain.specs.declared.rule.Shape.{Shape}
 use Rattle.proc_chain.specs.declared.rule.View.{View}
 use Rattle.proc_chain.specs.Shown.{note_in, mark_in, gate_in, WordsShow}
 use Rattle.proc_chain.specs.Gates.{IsSettled, GateShows, SlotShows}
-use Rattle.proc_chain.specs.Rules.{part_of, ends_of, share_of, IsIdle, Rule}
+use Rattle.proc_chain.specs.Rules.{part_of, ends_of, share_of, splits_of, joins_of, log_of, IsIdle, Rule}
 use Rattle.proc_chain.specs.Steps.{after, run, claimed, claims, raised, Raised, raises, notifies}
 use Rattle.proc_chain.proofs.Gates.{others_still, Covers, owed_on, covers_more, gated_same, gated_runs, gated_more, notes_same, housed_on}
 use Rattle.proc_chain.proofs.Looks.{listed_part, kept_look, sees_of, turn_of, found_now}
@@ -72,6 +74,7 @@ module _ {Q W : Type 0} (made : Q → List ℕ → Type 0) (fits : W → Q → T
           shows = shows_claim q s.words x new k.shows (omega arith) small;
           listed = subst (ViewsShow q') (sym (map-set part_of s.views id w)) listed';
           counted = subst (λ (c : ℕ). EndsCounted ends_of share_of IsIdle c (set s.views id w)) (sym (keep 2 (λ e. omega arith))) (counted_look ends_of share_of IsIdle (get_or s.words 2 0) s.views id v w k.counted at refl refl (λ none. absurd (omega arith)));
+          logged = subst (λ (c : ℕ). EndsLogged splits_of joins_of log_of c (set s.views id w)) (sym (keep 2 (λ e. omega arith))) (logged_look splits_of joins_of log_of (get_or s.words 2 0) s.views id v w k.logged at refl refl refl);
           gate = subst (λ (c : ℕ). GateShows q' c (set s.views id w)) (sym (keep 3 (λ e. omega arith))) (gated_same q q' (gate_in s.words) s.views id v w k.gate at refl refl (λ _. refl) (λ h. inl h) settled);
           slot = subst (λ (c : ℕ). SlotShows made fits key.world.value q' c s.homes) (sym (keep 3 (λ e. omega arith))) (housed_on made fits key.world.value q q' (gate_in s.words) s.homes k.slot (notes_same q q' (claim_grows q (x ∷ []) k.shows.is_open) refl behind));
         },
@@ -154,6 +157,7 @@ module _ {Q W : Type 0} (made : Q → List ℕ → Type 0) (fits : W → Q → T
           };
           listed = subst (ViewsShow q') (sym (map-set part_of s.views id w)) (listed_write q (map part_of s.views) id m 0 2 p v.part w.part e k.listed (at_map part_of s.views id v at) has below o.start o.from (omega arith) refl refl (grows_refl q', grows_refl q'));
           counted = subst (λ (c : ℕ). EndsCounted ends_of share_of IsIdle c (set s.views id w)) (sym (other 2 (λ z. omega arith))) (counted_look ends_of share_of IsIdle (get_or s.words 2 0) s.views id v w k.counted at refl refl (λ _ none. absurd (some-ne-none e (sym (subst (λ (z : List Batch). get_elem? z m ≡ some e) none.0 has)))));
+          logged = subst (λ (c : ℕ). EndsLogged splits_of joins_of log_of c (set s.views id w)) (sym (other 2 (λ z. omega arith))) (logged_look splits_of joins_of log_of (get_or s.words 2 0) s.views id v w k.logged at refl refl refl);
           gate = subst (λ (c : ℕ). GateShows q' c (set s.views id w)) (sym (other 3 (λ z. omega arith))) (gated_same q q' (gate_in s.words) s.views id v w k.gate at refl refl (λ _. refl) (λ h. inl h) settled);
           slot = subst (λ (c : ℕ). SlotShows made fits key.world.value q' c s.homes) (sym (other 3 (λ z. omega arith))) (housed_on made fits key.world.value q q' (gate_in s.words) s.homes k.slot (notes_same q q' (write_grows q p 2 o.below (omega arith)) refl k.lawful.behind));
         },
@@ -173,15 +177,16 @@ module _ {Q W : Type 0} (made : Q → List ℕ → Type 0) (fits : W → Q → T
   }
 
   -- the rule, where the gate becomes y and the slot is where `homes` says
-  pub kept_gate : (s : State Q View) (k : Rule made fits key s) (id y : ℕ) (v w : View) (homes : List (Option Q)) → get_elem? s.views id ≡ some v → w.part ≡ record v.part { queue = k.queue; joined = k.queue } → w.ends ≡ v.ends → w.share ≡ v.share → 1 ≤ v.ends
+  pub kept_gate : (s : State Q View) (k : Rule made fits key s) (id y : ℕ) (v w : View) (homes : List (Option Q)) → get_elem? s.views id ≡ some v → w.part ≡ record v.part { queue = k.queue; joined = k.queue } → w.ends ≡ v.ends → w.share ≡ v.share → (w.splits ≡ v.splits) × (w.joins ≡ v.joins) × (w.log ≡ v.log) → 1 ≤ v.ends
       → GateShows k.queue y (set s.views id w) → SlotShows made fits key.world.value k.queue y homes → Rule made fits key record { words = set s.words 3 y; homes = homes; views = set s.views id w }
-  kept_gate s k id y v w homes at is ends share live g h = let wide = k.shows.wide in let gate : get_or (set s.words 3 y) 3 0 ≡ y = get_or-set_same s.words 3 y 0 (omega arith) in record {
+  kept_gate s k id y v w homes at is ends share log live g h = let wide = k.shows.wide in let gate : get_or (set s.words 3 y) 3 0 ≡ y = get_or-set_same s.words 3 y 0 (omega arith) in record {
     queue = k.queue;
     first = k.first;
     lawful = k.lawful;
     shows = shows_gate k.queue s.words y k.shows;
     listed = listed_part k.queue s.views id v w k.listed at is;
     counted = subst (λ (c : ℕ). EndsCounted ends_of share_of IsIdle c (set s.views id w)) (sym (get_or-set_other s.words 3 2 y 0 (λ e. omega arith))) (counted_look ends_of share_of IsIdle (get_or s.words 2 0) s.views id v w k.counted at ends share (λ none. absurd (omega arith)));
+    logged = subst (λ (c : ℕ). EndsLogged splits_of joins_of log_of c (set s.views id w)) (sym (get_or-set_other s.words 3 2 y 0 (λ e. omega arith))) (logged_look splits_of joins_of log_of (get_or s.words 2 0) s.views id v w k.logged at log.0 log.1 log.2);
     gate = subst (λ (c : ℕ). GateShows k.queue c (set s.views id w)) (sym gate) g;
     slot = subst (λ (c : ℕ). SlotShows made fits key.world.value k.queue c homes) (sym gate) h;
   }
@@ -195,7 +200,7 @@ module _ {Q W : Type 0} (made : Q → List ℕ → Type 0) (fits : W → Q → T
         w,
         takes 0 x,
         subst (λ (z : List (Option Q)). get_elem? z 0 ≡ some (some x)) (sym h.1) refl,
-        kept_gate s k id 2 v w (set s.homes 0 none) at refl refl refl live gate' record { home = λ e. absurd (omega arith); held = λ _. ap (λ (z : List (Option Q)). set z 0 none) h.1 },
+        kept_gate s k id 2 v w (set s.homes 0 none) at refl refl refl (refl, refl, refl) live gate' record { home = λ e. absurd (omega arith); held = λ _. ap (λ (z : List (Option Q)). set z 0 none) h.1 },
         (
           (λ _. record {
             queue = q;
@@ -212,7 +217,7 @@ module _ {Q W : Type 0} (made : Q → List ℕ → Type 0) (fits : W → Q → T
         w,
         keeps,
         tt,
-        kept_gate s k id 2 v w s.homes at refl refl refl live (gated_more q (gate_in s.words) s.views id v w k.gate at up refl refl) record { home = λ e. absurd (omega arith); held = λ _. k.slot.held up },
+        kept_gate s k id 2 v w s.homes at refl refl refl (refl, refl, refl) live (gated_more q (gate_in s.words) s.views id v w k.gate at up refl refl) record { home = λ e. absurd (omega arith); held = λ _. k.slot.held up },
         (
           (λ down. absurd (up down)),
           λ _. (

@@ -19,7 +19,7 @@ use Rattle.atomic_table.specs.Table.{Me}
 use Rattle.proc_chain.specs.declared.rule.View.{View}
 use Rattle.proc_chain.specs.Shown.{head_word, tail_word, ends_word, place_word, raised_word, notes_of}
 use Rattle.proc_chain.specs.Notes.{line_of, notes_put, notes_taken, alone, SameNotes, PutNote}
-use Rattle.proc_chain.specs.Steps.{after, KeepsTaken, Found, run, Claimed, Raised, Notified, GotTurn, CountedUp, CountedDown, Tallied, rest_of, newborn, both}
+use Rattle.proc_chain.specs.Steps.{after, with_split, with_join, KeepsTaken, Found, run, Claimed, Raised, Notified, GotTurn, CountedUp, CountedDown, Tallied, rest_of, newborn, both}
 use Rattle.proc_chain.specs.Turns.{HasSlot}
 use Rattle.proc_chain.specs.Answers.{FoundRoom, WasFull, WasSpent, WasLost, IsPast, Linked}
 use Rattle.proc_chain.specs.Endings.{Divided, IsNewborn, TookIn}
@@ -204,9 +204,12 @@ stays_up v u found behind s = let q : Positions = s.queue in stays_by v (rest_of
 pub divided : (v u w : View) (found : ℕ) → CountedUp v found u → w ≡ rest_of u → Divided v w
 divided v u w found c is = let f : w.part.queue ≡ c.queue = ap (λ (z : View). z.part.queue) is ∙ ap (λ (z : View). z.part.queue) c.same in let n : v.ends + 1 - 1 ≡ v.ends = omega arith in record {
   found = found;
-  same = is ∙ (ap rest_of c.same ∙ (λ i. let x : View = record (after v ends_word found (sym f i)) { ends = n i; share = kept v.share } in x));
+  log = c.log;
+  same = is ∙ (ap rest_of c.same ∙ (λ i. let x : View = record (with_split v found (sym f i) c.log) { ends = n i; share = kept v.share } in x));
   sees = subst (Sees v.part) (sym f) c.sees;
   turn = subst (KeepsTaken v) (sym f) c.turn;
+  later = c.later;
+  number = c.number;
 }
 
 pub is_newborn : (v u w born : View) (found : ℕ) → CountedUp v found u → w ≡ rest_of u → born ≡ newborn u → IsNewborn v w born
@@ -218,9 +221,12 @@ joined_down v u m w found is s = subst (λ (z : View). CountedDown z found w) is
 pub took_in : (v u w : View) (found : ℕ) → v.ends ≡ 1 → u.ends ≡ 1 → CountedDown (both v u) found w → TookIn v u w
 took_in v u w found one one' c = let f : w.part.queue ≡ c.queue = ap (λ (z : View). z.part.queue) c.same in let n : v.ends + u.ends - 1 ≡ 1 = omega arith in record {
   found = found;
-  same = c.same ∙ (λ i. let x : View = record (after (both v u) ends_word found (sym f i)) { ends = n i } in x);
+  log = c.log;
+  same = c.same ∙ (λ i. let x : View = record (with_join (both v u) found (sym f i) c.log) { ends = n i } in x);
   sees = subst (Sees (both v u).part) (sym f) c.sees;
   turn = subst (KeepsTaken (both v u)) (sym f) c.turn;
+  later = c.later;
+  number = c.number;
 }
 
 pub joined_notes : (v u w : View) (found : ℕ) → v.part.queue.taken ≤ length v.part.queue.places → CountedDown (both v u) found w → v.runner ≡ true → notes_of w.part.queue ≡ notes_of v.part.queue

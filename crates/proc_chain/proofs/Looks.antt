@@ -14,11 +14,13 @@ use Rattle.table_theory.proofs.Positioned.{grows_refl}
 use Rattle.table_theory.proofs.Listing.{listed_look}
 use Rattle.table_theory.proofs.Seeing.{sees_now}
 use Rattle.table_theory.proofs.Counting.{counted_look}
+use Rattle.table_theory.specs.Ends.{EndsLogged}
+use Rattle.table_theory.proofs.Ends.{logged_look}
 use Rattle.proc_chain.specs.declared.rule.Shape.{Shape}
 use Rattle.proc_chain.specs.declared.rule.View.{View}
 use Rattle.proc_chain.specs.Shown.{gate_in, WordsShow}
 use Rattle.proc_chain.specs.Gates.{IsSettled, GateShows, SlotShows}
-use Rattle.proc_chain.specs.Rules.{part_of, ends_of, share_of, IsIdle, Rule}
+use Rattle.proc_chain.specs.Rules.{part_of, ends_of, share_of, splits_of, joins_of, log_of, IsIdle, Rule}
 use Rattle.proc_chain.specs.Steps.{after, KeepsTaken, Found, finds}
 use Rattle.proc_chain.proofs.Gates.{owed_on, covers_same, gated_same}
 
@@ -32,15 +34,16 @@ listed_part q views id v w l at is = subst (ViewsShow q) (sym (map-set part_of v
 
 module _ {Q W : Type 0} (made : Q → List ℕ → Type 0) (fits : W → Q → Type 0) (key : Shape W) where
   -- the rule, where the words stay
-  pub kept_word : (s : State Q View) (k : Rule made fits key s) (i id : ℕ) (v w : View) → get_elem? s.views id ≡ some v → w.part ≡ record v.part { queue = k.queue; joined = k.queue } → EndsCounted ends_of share_of IsIdle (get_or s.words 2 0) (set s.views id w)
+  pub kept_word : (s : State Q View) (k : Rule made fits key s) (i id : ℕ) (v w : View) → get_elem? s.views id ≡ some v → w.part ≡ record v.part { queue = k.queue; joined = k.queue } → EndsCounted ends_of share_of IsIdle (get_or s.words 2 0) (set s.views id w) → EndsLogged splits_of joins_of log_of (get_or s.words 2 0) (set s.views id w)
       → GateShows k.queue (gate_in s.words) (set s.views id w) → Rule made fits key record { words = set s.words i (get_or s.words i 0); homes = s.homes; views = set s.views id w }
-  kept_word s k i id v w at is c g = let same : set s.words i (get_or s.words i 0) ≡ s.words = set-get_or s.words i 0 in record {
+  kept_word s k i id v w at is c l g = let same : set s.words i (get_or s.words i 0) ≡ s.words = set-get_or s.words i 0 in record {
     queue = k.queue;
     first = k.first;
     lawful = k.lawful;
     shows = subst (WordsShow k.queue) (sym same) k.shows;
     listed = listed_part k.queue s.views id v w k.listed at is;
     counted = subst (λ (n : ℕ). EndsCounted ends_of share_of IsIdle n (set s.views id w)) (ap (λ (z : List ℕ). get_or z 2 0) (sym same)) c;
+    logged = subst (λ (n : ℕ). EndsLogged splits_of joins_of log_of n (set s.views id w)) (ap (λ (z : List ℕ). get_or z 2 0) (sym same)) l;
     gate = subst (λ (n : ℕ). GateShows k.queue n (set s.views id w)) (ap (λ (z : List ℕ). get_or z 3 0) (sym same)) g;
     slot = subst (λ (n : ℕ). SlotShows made fits key.world.value k.queue n s.homes) (ap (λ (z : List ℕ). get_or z 3 0) (sym same)) k.slot;
   }
@@ -49,7 +52,7 @@ module _ {Q W : Type 0} (made : Q → List ℕ → Type 0) (fits : W → Q → T
   pub kept_look : (s : State Q View) (k : Rule made fits key s) (i id found : ℕ) (v : View) → get_elem? s.views id ≡ some v
       → Rule made fits key record { words = set s.words i (get_or s.words i 0); homes = s.homes; views = set s.views id (after v i found k.queue) }
   kept_look s k i id found v at = let w : View = after v i found k.queue in
-      kept_word s k i id v w at refl (counted_look ends_of share_of IsIdle (get_or s.words 2 0) s.views id v w k.counted at refl refl (λ _ h. h))
+      kept_word s k i id v w at refl (counted_look ends_of share_of IsIdle (get_or s.words 2 0) s.views id v w k.counted at refl refl (λ _ h. h)) (logged_look splits_of joins_of log_of (get_or s.words 2 0) s.views id v w k.logged at refl refl refl)
       (gated_same k.queue k.queue (gate_in s.words) s.views id v w k.gate at refl refl (λ _. refl) (λ h. inl h) (settled_look k.queue s.views id v w at refl refl))
 
   pub sees_of : (s : State Q View) (k : Rule made fits key s) (id : ℕ) (v : View) → get_elem? s.views id ≡ some v → Sees v.part k.queue

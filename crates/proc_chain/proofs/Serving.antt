@@ -15,12 +15,14 @@ use Rattle.atomic_table.proofs.Lists.{at_map, exchanged}
 use Rattle.table_theory.proofs.Positioned.{grows_refl, take_lawful}
 use Rattle.table_theory.proofs.Listing.{listed_take}
 use Rattle.table_theory.proofs.Counting.{counted_look}
+use Rattle.table_theory.specs.Ends.{EndsLogged}
+use Rattle.table_theory.proofs.Ends.{logged_look}
 use Rattle.table_theory.proofs.Windows.{window_same, window_take, found_not_raised}
 use Rattle.proc_chain.specs.declared.rule.Shape.{Shape}
 use Rattle.proc_chain.specs.declared.rule.View.{View}
 use Rattle.proc_chain.specs.Shown.{note_in, mark_in, gate_in, WordsShow, notes_of}
 use Rattle.proc_chain.specs.Gates.{GateShows, SlotShows}
-use Rattle.proc_chain.specs.Rules.{part_of, ends_of, share_of, IsIdle, Rule}
+use Rattle.proc_chain.specs.Rules.{part_of, ends_of, share_of, splits_of, joins_of, log_of, IsIdle, Rule}
 use Rattle.proc_chain.specs.Steps.{after, spies, took, takes, rounds, leaves, Carries}
 use Rattle.proc_chain.proofs.Gates.{gated_same, gated_runs, gated_leaves, others_still, gate_up, notes_same}
 use Rattle.proc_chain.proofs.Looks.{settled_look, kept_word, kept_look, sees_of, turn_of, found_now}
@@ -52,7 +54,7 @@ module _ {Q W : Type 0} (made : Q → List ℕ → Type 0) (fits : W → Q → T
         w,
         keeps,
         tt,
-        kept_word made fits key s k i id v w at refl (counted_look ends_of share_of IsIdle (get_or s.words 2 0) s.views id v w k.counted at refl refl (λ none. absurd (omega arith)))
+        kept_word made fits key s k i id v w at refl (counted_look ends_of share_of IsIdle (get_or s.words 2 0) s.views id v w k.counted at refl refl (λ none. absurd (omega arith))) (logged_look splits_of joins_of log_of (get_or s.words 2 0) s.views id v w k.logged at refl refl refl)
             (gated_same q q (gate_in s.words) s.views id v w k.gate at refl refl (λ _. refl) (λ _. inr (λ up. absurd (omega arith))) (settled_look q s.views id v w at refl refl)),
         (refl, record { up = λ up. absurd (no up); low = λ _. record { same = refl; sees = sees_of made fits key s k id v at; turn = sym taken; words = s.words; shows = k.shows; is = refl; low = low } }),
       ))
@@ -79,6 +81,7 @@ module _ {Q W : Type 0} (made : Q → List ℕ → Type 0) (fits : W → Q → T
           shows = shows_take q s.words new k.shows k.lawful lawful'.behind (omega arith);
           listed = subst (ViewsShow q') (sym (map-set part_of s.views id w)) (listed_take q (map part_of s.views) id 1 v.part w.part k.listed (at_map part_of s.views id v at) k.lawful.behind refl refl (grows_refl q', grows_refl q'));
           counted = subst (λ (c : ℕ). EndsCounted ends_of share_of IsIdle c (set s.views id w)) (sym (keep 2 (λ e. omega arith))) (counted_look ends_of share_of IsIdle (get_or s.words 2 0) s.views id v w k.counted at refl refl (λ none. absurd (omega arith)));
+          logged = subst (λ (c : ℕ). EndsLogged splits_of joins_of log_of c (set s.views id w)) (sym (keep 2 (λ e. omega arith))) (logged_look splits_of joins_of log_of (get_or s.words 2 0) s.views id v w k.logged at refl refl refl);
           gate = subst (λ (c : ℕ). GateShows q' c (set s.views id w)) (sym (keep 3 (λ e. omega arith))) (gated_runs q' (gate_in s.words) s.views id v w at (others_still q (gate_in s.words) s.views id v k.gate at r) not_idle k.gate.small r refl refl);
           slot = subst (λ (c : ℕ). SlotShows made fits key.world.value q' c s.homes) (sym (keep 3 (λ e. omega arith))) record { home = λ down. absurd (not_idle down); held = k.slot.held };
         },
@@ -103,23 +106,23 @@ module _ {Q W : Type 0} (made : Q → List ℕ → Type 0) (fits : W → Q → T
       → Carries made (fits key.world.value) (notes_of me.0.part.queue) [] me.1 → Allows (Rule made fits key) n id me 3 (λ _. 1) (rounds made suits call (step n 3 1 0 none) me)
   rounds_gate suits n id call me own fit r live behind c s k _ at _ = let v : View = me.0 in let q : Positions = k.queue in let g = k.listed.seen id v.part (at_map part_of s.views id v at) in let not_idle = gate_up q (gate_in s.words) s.views id v k.gate at r in
       let w : View = record (after v 3 (gate_in s.words) q) { saw = false } in (
-    w,
-    keeps,
-    tt,
-    kept_gate made fits key s k id 1 v w s.homes at refl refl refl live (gated_runs q 1 s.views id v w at (others_still q (gate_in s.words) s.views id v k.gate at r) (λ e. omega arith) (omega arith) r refl refl)
-        record { home = λ e. absurd (omega arith); held = λ _. k.slot.held not_idle },
-    (
-      refl,
-      record {
-        queue = q;
-        same = refl;
-        sees = sees_of made fits key s k id v at;
-        turn = turn_of made fits key s k id v at r;
-        event = subst (λ (z : ℕ). IsChainEvent q q (gate_in s.words) 1 z v w (chains.round z)) (sym own) (round_event q (gate_in s.words) s.views id v w k.listed at k.lawful k.gate r refl refl (grows_refl q, grows_refl q) refl refl);
-        carries = carried suits q me fit g.0 (turn_of made fits key s k id v at r) behind c;
-      },
-    ),
-  )
+        w,
+        keeps,
+        tt,
+        kept_gate made fits key s k id 1 v w s.homes at refl refl refl (refl, refl, refl) live (gated_runs q 1 s.views id v w at (others_still q (gate_in s.words) s.views id v k.gate at r) (λ e. omega arith) (omega arith) r refl refl)
+            record { home = λ e. absurd (omega arith); held = λ _. k.slot.held not_idle },
+        (
+          refl,
+          record {
+            queue = q;
+            same = refl;
+            sees = sees_of made fits key s k id v at;
+            turn = turn_of made fits key s k id v at r;
+            event = subst (λ (z : ℕ). IsChainEvent q q (gate_in s.words) 1 z v w (chains.round z)) (sym own) (round_event q (gate_in s.words) s.views id v w k.listed at k.lawful k.gate r refl refl (grows_refl q, grows_refl q) refl refl);
+            carries = carried suits q me fit g.0 (turn_of made fits key s k id v at r) behind c;
+          },
+        ),
+      )
 
   pub leaves_gate : (suits : Q → Type 0) (n id call : ℕ) (me : Me Q View) → call ≡ id → ((x : Q) → fits key.world.value x → suits x) → me.0.runner ≡ true → me.0.saw ≡ true → 1 ≤ me.0.ends → me.0.part.queue.taken ≤ length me.0.part.queue.places → Carries made (fits key.world.value) (notes_of me.0.part.queue) [] me.1
       → Allows (Rule made fits key) n id me 3 (λ y. either (eqb y 1) 0 y) (leaves made suits call (step n 3 1 0 none) me)
@@ -129,7 +132,7 @@ module _ {Q W : Type 0} (made : Q → List ℕ → Type 0) (fits : W → Q → T
         w,
         gives,
         tt,
-        kept_gate made fits key s k id 0 v w (put_back s.homes me.1) at refl refl refl live gate'
+        kept_gate made fits key s k id 0 v w (put_back s.homes me.1) at refl refl refl (refl, refl, refl) live gate'
             record { home = λ _. (c.0, (λ i. put_back (k.slot.held not_idle i) (c.1 i)), subst (made c.0) (sym (notes_same v.part.queue q g.0 (sym taken) behind)) c.2, c.3); held = λ e. absurd (e refl) },
         (
           (λ _. (

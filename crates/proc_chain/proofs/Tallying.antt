@@ -12,14 +12,17 @@ use Rattle.table_theory.specs.Sharing.{EndsCounted}
 use Rattle.atomic_table.proofs.Lists.{at_map, set_else}
 use Rattle.table_theory.proofs.Positioned.{grows_refl}
 use Rattle.table_theory.proofs.Listing.{listed_look, listed_new, listed_join, listed_first, distinct}
-use Rattle.table_theory.proofs.Counting.{counted_up, counted_down, counted_split, counted_join, counted_first, count_found}
+use Rattle.table_theory.proofs.Counting.{counted_up, counted_down, counted_split, counted_join, counted_first, counted_look, count_found}
+use Rattle.table_theory.specs.Ends.{EndsLogged}
+use Rattle.table_theory.proofs.Totals.{total_set}
+use Rattle.table_theory.proofs.Ends.{begins_refl, logged_as, logged_up, logged_down, logged_split, logged_join, logged_first}
 use Rattle.table_theory.proofs.Windows.{window_same}
 use Rattle.proc_chain.specs.declared.rule.Shape.{Shape}
 use Rattle.proc_chain.specs.declared.rule.View.{View}
 use Rattle.proc_chain.specs.Shown.{note_in, mark_in, gate_in, WordsShow}
 use Rattle.proc_chain.specs.Gates.{GateShows, SlotShows}
-use Rattle.proc_chain.specs.Rules.{part_of, ends_of, share_of, IsIdle, Rule, empty_from, newcomer}
-use Rattle.proc_chain.specs.Steps.{after, counts_up, counts_down, counts, rest_of, newborn, both, emptied}
+use Rattle.proc_chain.specs.Rules.{part_of, ends_of, share_of, splits_of, joins_of, log_of, IsIdle, Rule, empty_from, newcomer}
+use Rattle.proc_chain.specs.Steps.{after, with_split, with_join, counts_up, counts_down, counts, rest_of, newborn, both, emptied}
 use Rattle.proc_chain.proofs.Gates.{owed_on, covers_more, gated_same, gated_new}
 use Rattle.proc_chain.proofs.Looks.{settled_look, kept_look, sees_of, turn_of}
 
@@ -53,8 +56,8 @@ zeros f (suc (suc (suc j))) h = all_zero 33 j
 module _ {Q W : Type 0} (made : Q → List ℕ → Type 0) (fits : W → Q → Type 0) (key : Shape W) where
   -- the rule, where the count becomes y and a view w that lists the same sees the queue as it is
   kept_count : (s : State Q View) (k : Rule made fits key s) (id y : ℕ) (v w : View) → get_elem? s.views id ≡ some v → w.part ≡ record v.part { queue = k.queue; joined = k.queue } → w.runner ≡ v.runner → w.owes ≡ v.owes → w.saw ≡ v.saw
-      → EndsCounted ends_of share_of IsIdle y (set s.views id w) → Rule made fits key record { words = set s.words 2 y; homes = s.homes; views = set s.views id w }
-  kept_count s k id y v w at is r ow sw c = let wide = k.shows.wide in let keep : gate_in (set s.words 2 y) ≡ gate_in s.words = get_or-set_other s.words 2 3 y 0 (λ e. omega arith) in record {
+      → EndsCounted ends_of share_of IsIdle y (set s.views id w) → EndsLogged splits_of joins_of log_of y (set s.views id w) → Rule made fits key record { words = set s.words 2 y; homes = s.homes; views = set s.views id w }
+  kept_count s k id y v w at is r ow sw c l = let wide = k.shows.wide in let keep : gate_in (set s.words 2 y) ≡ gate_in s.words = get_or-set_other s.words 2 3 y 0 (λ e. omega arith) in record {
     queue = k.queue;
     first = k.first;
     lawful = k.lawful;
@@ -62,35 +65,50 @@ module _ {Q W : Type 0} (made : Q → List ℕ → Type 0) (fits : W → Q → T
     listed = subst (ViewsShow k.queue) (sym (map-set part_of s.views id w)) (listed_look k.queue (map part_of s.views) id v.part w.part k.listed (at_map part_of s.views id v at) (ap (λ (z : QueueView). z.runs) is) (ap (λ (z : QueueView). z.takes) is)
         (subst (λ (z : QueueView). Later z k.queue) (sym is) (grows_refl k.queue, grows_refl k.queue)));
     counted = subst (λ (c : ℕ). EndsCounted ends_of share_of IsIdle c (set s.views id w)) (sym (get_or-set_same s.words 2 y 0 (omega arith))) c;
+    logged = subst (λ (c : ℕ). EndsLogged splits_of joins_of log_of c (set s.views id w)) (sym (get_or-set_same s.words 2 y 0 (omega arith))) l;
     gate = subst (λ (c : ℕ). GateShows k.queue c (set s.views id w)) (sym keep) (gated_same k.queue k.queue (gate_in s.words) s.views id v w k.gate at r refl (λ _. ap (λ (z : QueueView). z.queue.taken) is) (λ h. inl (sym sw ∙ h)) (settled_look k.queue s.views id v w at ow (ap (λ (z : QueueView). z.runs) is)));
     slot = subst (λ (c : ℕ). SlotShows made fits key.world.value k.queue c s.homes) (sym keep) k.slot;
   }
 
   pub ups : (n id : ℕ) (me : Me Q View) → me.0.ends + 1 ≤ me.0.share → Allows (Rule made fits key) n id me 2 (λ x. (x + 1) % 18446744073709551616) (counts_up (step n 2 1 0 none) me)
-  ups n id me parts s k _ at _ = let v : View = me.0 in let c : ℕ = get_or s.words 2 0 in let w : View = record (after v 2 c k.queue) { ends = v.ends + 1 } in (
-    w,
-    keeps,
-    tt,
-    kept_count s k id ((c + 1) % 18446744073709551616) v w at refl refl refl refl (counted_up ends_of share_of IsIdle c s.views id v w k.counted at parts refl refl),
-    (refl, record { queue = k.queue; same = refl; sees = sees_of made fits key s k id v at; turn = turn_of made fits key s k id v at }),
-  )
+  ups n id me parts s k _ at _ = let v : View = me.0 in let c : ℕ = get_or s.words 2 0 in let y : ℕ = (c + 1) % 18446744073709551616 in let l = k.logged in let w : View = record (with_split v c k.queue l.log) { ends = v.ends + 1 } in
+      let e : EndsCounted ends_of share_of IsIdle y (set s.views id w) = counted_up ends_of share_of IsIdle c s.views id v w k.counted at parts refl refl in let t = total_set ends_of s.views id v w at in let old = k.counted.counted in let new = e.counted in (
+        w,
+        keeps,
+        tt,
+        kept_count s k id y v w at refl refl refl refl e (logged_up splits_of joins_of log_of c y s.views id v w l at (omega arith) refl refl refl),
+        (refl, record { queue = k.queue; log = l.log; same = refl; sees = sees_of made fits key s k id v at; turn = turn_of made fits key s k id v at; later = l.seen id v at; number = l.number }),
+      )
 
   pub downs : (n id : ℕ) (me : Me Q View) → 2 ≤ me.0.ends → Allows (Rule made fits key) n id me 2 (λ x. (x + (18446744073709551616 - 1)) % 18446744073709551616) (counts_down (step n 2 1 0 none) me)
-  downs n id me live s k _ at _ = let v : View = me.0 in let c : ℕ = get_or s.words 2 0 in let w : View = record (after v 2 c k.queue) { ends = v.ends - 1 } in (
-    w,
-    keeps,
-    tt,
-    kept_count s k id ((c + (18446744073709551616 - 1)) % 18446744073709551616) v w at refl refl refl refl (counted_down ends_of share_of IsIdle c s.views id v w k.counted at (omega arith) (omega arith) refl),
-    (refl, record { queue = k.queue; same = refl; sees = sees_of made fits key s k id v at; turn = turn_of made fits key s k id v at; distinct = distinct k.queue (map part_of s.views) id v.part k.listed (at_map part_of s.views id v at) }),
-  )
+  downs n id me live s k _ at _ = let v : View = me.0 in let c : ℕ = get_or s.words 2 0 in let y : ℕ = (c + (18446744073709551616 - 1)) % 18446744073709551616 in let l = k.logged in let w : View = record (with_join v c k.queue l.log) { ends = v.ends - 1 } in
+      let e : EndsCounted ends_of share_of IsIdle y (set s.views id w) = counted_down ends_of share_of IsIdle c s.views id v w k.counted at (omega arith) (omega arith) refl in let t = total_set ends_of s.views id v w at in let old = k.counted.counted in let new = e.counted in (
+        w,
+        keeps,
+        tt,
+        kept_count s k id y v w at refl refl refl refl e (logged_down splits_of joins_of log_of c y s.views id v w l at (omega arith) refl refl refl),
+        (
+          refl,
+          record {
+            queue = k.queue;
+            log = l.log;
+            same = refl;
+            sees = sees_of made fits key s k id v at;
+            turn = turn_of made fits key s k id v at;
+            later = l.seen id v at;
+            number = l.number;
+            distinct = distinct k.queue (map part_of s.views) id v.part k.listed (at_map part_of s.views id v at);
+          },
+        ),
+      )
 
   -- the count is found
   pub tallies : (n id : ℕ) (me : Me Q View) → me.0.ends ≡ 1 → Allows (Rule made fits key) n id me 2 (λ x. x) (counts (step n 2 0 0 none) me)
-  tallies n id me one s k _ at _ = let v : View = me.0 in let c : ℕ = get_or s.words 2 0 in (
-    after v 2 c k.queue,
+  tallies n id me one s k _ at _ = let v : View = me.0 in let c : ℕ = get_or s.words 2 0 in let l = k.logged in let w : View = record (after v 2 c k.queue) { log = l.log } in (
+    w,
     keeps,
     tt,
-    kept_look made fits key s k 2 id c v at,
+    kept_count s k id c v w at refl refl refl refl (counted_look ends_of share_of IsIdle c s.views id v w k.counted at refl refl (λ _ h. h)) (logged_as splits_of joins_of log_of c s.views id v w l at refl refl (begins_refl l.log)),
     (
       refl,
       record {
@@ -98,6 +116,8 @@ module _ {Q W : Type 0} (made : Q → List ℕ → Type 0) (fits : W → Q → T
         same = refl;
         sees = sees_of made fits key s k id v at;
         turn = turn_of made fits key s k id v at;
+        later = l.seen id v at;
+        number = l.number;
         count = count_found ends_of share_of IsIdle c s.views id v k.counted at one;
       },
     ),
@@ -112,6 +132,7 @@ module _ {Q W : Type 0} (made : Q → List ℕ → Type 0) (fits : W → Q → T
     listed = subst (ViewsShow k.queue) (sym (map-append part_of (set s.views id (rest_of v)) (newborn v ∷ []) ∙ ap (λ (z : List QueueView). z ++ (newborn v).part ∷ []) (map-set part_of s.views id (rest_of v))))
         (listed_new k.queue (set (map part_of s.views) id v.part) (newborn v).part (listed_look k.queue (map part_of s.views) id v.part v.part k.listed (at_map part_of s.views id v at) refl refl later) refl refl later);
     counted = counted_split ends_of share_of IsIdle (get_or s.words 2 0) s.views id v (rest_of v) (newborn v) k.counted at two (omega arith) refl refl refl;
+    logged = logged_split splits_of joins_of log_of (get_or s.words 2 0) s.views id v (rest_of v) (newborn v) k.logged at refl refl refl refl refl refl;
     gate = gated_new k.queue (gate_in s.words) (set s.views id (rest_of v)) (newborn v) (gated_same k.queue k.queue (gate_in s.words) s.views id v (rest_of v) k.gate at refl refl (λ r. k.gate.takes id v at r) (λ h. inl h) (settled_look k.queue s.views id v (rest_of v) at refl refl)) refl;
     slot = k.slot;
   }
@@ -127,6 +148,7 @@ module _ {Q W : Type 0} (made : Q → List ℕ → Type 0) (fits : W → Q → T
         listed = subst (ViewsShow k.queue) (sym (map-set part_of (set s.views id (both v w)) other (emptied v) ∙ ap (λ (z : List QueueView). set z other (emptied v).part) (map-set part_of s.views id (both v w))))
             (listed_join k.queue (map part_of s.views) id other v.part w.part (both v w).part (emptied v).part k.listed (at_map part_of s.views id v at) (at_map part_of s.views other w at') ne refl refl refl refl (later.0, later'.0) later);
         counted = counted_join ends_of share_of IsIdle (get_or s.words 2 0) s.views id other v w (both v w) (emptied v) k.counted at at' ne live refl refl refl refl (refl, refl, refl, refl);
+        logged = logged_join splits_of joins_of log_of (get_or s.words 2 0) s.views id other v w (both v w) (emptied v) k.logged at at' ne refl refl refl refl refl refl;
         gate = gated_same k.queue k.queue (gate_in s.words) (set s.views id (both v w)) other w (emptied v) g has (sym r) refl (λ h. absurd (true≢false (sym h))) (λ h. absurd (true≢false (sym h)))
             (λ st up. owed_on k.queue k.queue (set s.views id (both v w)) other w (emptied v) has (st up) refl (λ h. absurd (true≢false (sym h ∙ ow))) (λ h. absurd (true≢false (sym h ∙ ow))));
         slot = k.slot;
@@ -157,6 +179,7 @@ module _ {Q W : Type 0} (made : Q → List ℕ → Type 0) (fits : W → Q → T
     };
     listed = listed_first q w.part refl refl refl refl (grows_refl q, grows_refl q);
     counted = subst (λ (c : ℕ). EndsCounted ends_of share_of IsIdle c (w ∷ [])) (sym ends) (counted_first ends_of share_of IsIdle w refl refl);
+    logged = subst (λ (c : ℕ). EndsLogged splits_of joins_of log_of c (w ∷ [])) (sym ends) (logged_first splits_of joins_of log_of w refl refl refl);
     gate = record {
       small = omega arith;
       runs = λ up. absurd (up down);

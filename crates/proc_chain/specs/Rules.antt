@@ -1,7 +1,8 @@
 -- The rule: there is a lawful queue of notes that the words and the views show, and the gate and the slot fit it.
-use Rattle.std.specs.Prelude.{◌≡◌, ℕ, false, List, [], map, slice_index_or}
+use Rattle.std.specs.Prelude.{◌≡◌, ℕ, Bool, false, List, [], map, slice_index_or}
 use Rattle.table_theory.specs.declared.queues.Positions.{Positions}
 use Rattle.table_theory.specs.declared.queues.QueueView.{QueueView}
+use Rattle.table_theory.specs.Ends.{EndsLogged}
 use Rattle.table_theory.specs.Sharing.{the_whole, EndsCounted}
 use Rattle.table_theory.specs.Positioned.{Lawful}
 use Rattle.table_theory.specs.Listing.{ViewsShow}
@@ -20,6 +21,15 @@ ends_of v = v.ends
 abbrev pub share_of : View → ℕ
 share_of v = v.share
 
+abbrev pub splits_of : View → ℕ
+splits_of v = v.splits
+
+abbrev pub joins_of : View → ℕ
+joins_of v = v.joins
+
+abbrev pub log_of : View → List Bool
+log_of v = v.log
+
 -- the end has no run, took nothing, has no turn and owes nothing
 abbrev pub IsIdle : View → Type 0
 IsIdle v = (v.part.runs ≡ []) × (v.part.takes ≡ []) × (v.runner ≡ false) × (v.owes ≡ false)
@@ -32,6 +42,7 @@ pub record Rule {Q W : Type 0} (made : Q → List ℕ → Type 0) (fits : W → 
   pub shows : WordsShow queue s.words
   pub listed : ViewsShow queue (map part_of s.views)
   pub counted : EndsCounted ends_of share_of IsIdle (slice_index_or s.words 2 0) s.views
+  pub logged : EndsLogged splits_of joins_of log_of (slice_index_or s.words 2 0) s.views
   pub gate : GateShows queue (gate_in s.words) s.views
   pub slot : SlotShows made fits key.world.value queue (gate_in s.words) s.homes
 
@@ -44,6 +55,9 @@ view_from first ends share = record {
   part = record { queue = empty_from first; joined = empty_from first; runs = []; takes = [] };
   ends = ends;
   share = share;
+  splits = 0;
+  joins = 0;
+  log = [];
   runner = false;
   owes = false;
   saw = false;

@@ -1,6 +1,6 @@
 -- What each step tells its end. Each adds one entry to the end's list: the word's number, what was found there (at a
 -- store, what was stored), and the queue as it was then.
-use Rattle.std.specs.Prelude.{◌≡◌, ◌≢◌, ◌+◌, ◌-◌, ◌/◌, ◌<◌, ℕ, true, false, length, List, [], ◌∷◌, ◌++◌}
+use Rattle.std.specs.Prelude.{◌≡◌, ◌≢◌, ◌+◌, ◌-◌, ◌/◌, ◌<◌, ℕ, Bool, true, false, length, List, [], ◌∷◌, ◌++◌}
 use Rattle.std.specs.Prelude.{take, drop, slice_index_or, slice_set}
 use mathlib.Core.Option.{some}
 use lib.ListN.{get_elem?}
@@ -11,6 +11,7 @@ use Rattle.table_theory.specs.Positioned.{written_at}
 use Rattle.table_theory.specs.Listing.{written_to, Distinct, number_of}
 use Rattle.quaject_core.specs.Chains as chains
 use Rattle.table_theory.specs.Seeing.{Sees}
+use Rattle.table_theory.specs.Ends.{Begins, IsNumber, later_of}
 use Rattle.table_theory.specs.Sharing.{given, kept, IsCount}
 use Rattle.atomic_table.specs.Table.{Me, Step, rest}
 use Rattle.proc_chain.specs.declared.rule.View.{View}
@@ -208,27 +209,43 @@ module _ {Q : Type 0} where
   leaves made fits call st m r m' = (r ≡ 1 → (m'.1 ≡ rest m.1) × HasLeft made fits call m m'.0)
       × (r ≢ 1 → (m'.1 ≡ m.1) × Found m.0 st.word r m'.0 × (r ≡ 2))
 
--- the number of ends is one more
+-- the view after so many ends were found, and a split more
+abbrev pub with_split : View → ℕ → Positions → List Bool → View
+with_split v found q log = record (after v ends_word found q) { splits = v.splits + 1; log = log ++ true ∷ [] }
+
+-- the same, and a join more
+abbrev pub with_join : View → ℕ → Positions → List Bool → View
+with_join v found q log = record (after v ends_word found q) { joins = v.joins + 1; log = log ++ false ∷ [] }
+
+-- The number of ends was found, and made one more
 pub record CountedUp (v : View) (found : ℕ) (w : View) : Type 0 where
   pub queue : Positions
-  pub same : w ≡ record (after v ends_word found queue) { ends = v.ends + 1 }
+  pub log : List Bool
+  pub same : w ≡ record (with_split v found queue log) { ends = v.ends + 1 }
   pub sees : Sees v.part queue
   pub turn : KeepsTaken v queue
+  pub later : Begins v.log log
+  pub number : IsNumber log found
 
--- the number of ends is one less
+-- The number of ends was found, and made one less
 pub record CountedDown (v : View) (found : ℕ) (w : View) : Type 0 where
   pub queue : Positions
-  pub same : w ≡ record (after v ends_word found queue) { ends = v.ends - 1 }
+  pub log : List Bool
+  pub same : w ≡ record (with_join v found queue log) { ends = v.ends - 1 }
   pub sees : Sees v.part queue
   pub turn : KeepsTaken v queue
+  pub later : Begins v.log log
+  pub number : IsNumber log found
   pub distinct : Distinct w.part.runs
 
--- the number of ends was found: 1 exactly where this end has the whole
+-- The number of ends was found: that of the splits and joins up to then, and 1 exactly where this end has the whole
 pub record Tallied (v : View) (found : ℕ) (w : View) : Type 0 where
   pub queue : Positions
-  pub same : w ≡ after v ends_word found queue
+  pub same : w ≡ record (after v ends_word found queue) { log = w.log }
   pub sees : Sees v.part queue
   pub turn : KeepsTaken v queue
+  pub later : Begins v.log w.log
+  pub number : IsNumber w.log found
   pub count : IsCount v.share found
 
 module _ {Q : Type 0} where
@@ -250,6 +267,9 @@ newborn v = record {
   part = record { queue = v.part.queue; joined = v.part.joined; runs = []; takes = [] };
   ends = 1;
   share = given v.share;
+  splits = 0;
+  joins = 0;
+  log = v.log;
   runner = false;
   owes = false;
   saw = false;
@@ -267,6 +287,9 @@ both v w = record v {
   };
   ends = v.ends + w.ends;
   share = v.share + w.share;
+  splits = v.splits + w.splits;
+  joins = v.joins + w.joins;
+  log = later_of v.log w.log;
   steps = v.steps ++ w.steps;
 }
 
@@ -276,6 +299,9 @@ emptied v = record {
   part = record { queue = v.part.queue; joined = v.part.joined; runs = []; takes = [] };
   ends = 0;
   share = 0;
+  splits = 0;
+  joins = 0;
+  log = v.log;
   runner = false;
   owes = false;
   saw = false;

@@ -14,11 +14,15 @@ pub struct Shape<W> {
 }
 
 /// What an end knows: its runs and takings in the queue of notes as it was at the end's last step, how many of the ends
-/// counted it is and its share of the chain, its turn, and every step that it made.
+/// counted it is and its share of the chain, how often it was split and took in another end, the splits (true) and joins
+/// (false) of all ends up to its last step on their number, its turn, and every step that it made.
 pub struct View {
     pub part: QueueView,
     pub ends: u64,
     pub share: u64,
+    pub splits: u64,
+    pub joins: u64,
+    pub log: LinkedList<bool>,
     /// It has the turn to run notes.
     pub runner: bool,
     /// It raised a note and has not yet notified.

@@ -1,4 +1,5 @@
 pub mod Counting
+pub mod Ends
 pub mod Leaving
 pub mod Listing
 pub mod Logs

@@ -1,3 +1,4 @@
+pub mod Ends
 pub mod Filing
 pub mod Listing
 pub mod Positioned

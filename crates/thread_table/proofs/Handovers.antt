@@ -3,7 +3,7 @@ use Rattle.std.proofs.Common.{◌≡◌, ℕ, zero, suc, ◌+◌, ◌-◌, Bool,
 use Rattle.table_theory.specs.Sharing.{given, kept}
 use Rattle.thread_table.specs.declared.rule.View.{View}
 use Rattle.thread_table.specs.Answers.{is_in}
-use Rattle.thread_table.specs.Steps.{after, CountedUp, CountedDown, parted, any_both, rest_of, newborn, both}
+use Rattle.thread_table.specs.Steps.{with_split, with_join, after, CountedUp, CountedDown, parted, any_both, rest_of, newborn, both}
 use Rattle.thread_table.specs.Endings.{Divided, IsNewborn, TookIn}
 use Rattle.thread_table.proofs.Entries.{get_or-parted, get_or-either}
 
@@ -38,10 +38,13 @@ both_low (b ∷ bs) (m ∷ ms) none (suc i) = both_low bs ms (no_mark (b && m) (
 pub divided : (number : ℕ) (mask : List Bool) (v x : View) (found : ℕ) → ((p : ℕ) → get_or mask p false ≡ is_in number p) → CountedUp v found x → Divided number v (rest_of mask x)
 divided number mask v x found is t = let ends : v.ends + 1 - 1 ≡ v.ends = omega arith in let serves : v.serves ≡ x.serves = sym (ap (λ (z : View). z.serves) t.same) in record {
   found = found;
-  same = ap (rest_of mask) t.same ∙ (λ i. let z : View = record (after v 0 found x.schedule) { serves = parted (serves i) mask; share = kept v.share; ends = ends i } in z);
+  log = t.log;
+  same = ap (rest_of mask) t.same ∙ (λ i. let z : View = record (with_split v found x.schedule t.log) { serves = parted (serves i) mask; share = kept v.share; ends = ends i } in z);
   serves = λ p below. get_or-parted x.serves mask p ∙ (and_not (get_or x.serves p false) (get_or mask p false)
       ∙ (ap (λ (z : List Bool). get_or z p false && not (get_or mask p false)) (ap (λ (z : View). z.serves) t.same) ∙ ap (λ (b : Bool). get_or v.serves p false && not b) (is p)));
   sees = t.sees;
+  later = t.later;
+  number = t.number;
 }
 
 pub born : (number : ℕ) (mask : List Bool) (v x : View) (found : ℕ) → ((p : ℕ) → get_or mask p false ≡ is_in number p) → CountedUp v found x → IsNewborn number v (rest_of mask x) (newborn mask x)
@@ -56,8 +59,11 @@ took_in v u w found one one' held serves t =
     let a = no_mark (v.doubled || u.doubled || any_both v.held u.held) (any_both v.serves u.serves) t.sees.undoubled in
     let b = no_mark (v.doubled || u.doubled) (any_both v.held u.held) a.0 in record {
       found = found;
-      same = t.same ∙ (λ i. let z : View = record (after (both v u) 0 found w.schedule) { ends = ends i } in z);
+      log = t.log;
+      same = t.same ∙ (λ i. let z : View = record (with_join (both v u) found w.schedule t.log) { ends = ends i } in z);
       sees = t.sees;
+      later = t.later;
+      number = t.number;
       apart = both_low v.held u.held b.1;
       alone = both_low v.serves u.serves a.1;
       held = λ e. ap (λ (z : View). get_or z.held e false) t.same ∙ (get_or-either v.held u.held e held ∙ or_is (get_or v.held e false) (get_or u.held e false));

@@ -14,11 +14,12 @@ use Rattle.quaject_core.specs.declared.refusal.Refusal.TheVariants.{UnknownName}
 use Rattle.atomic_table.proofs.Lists.{at_set, set_else}
 use Rattle.table_theory.proofs.Owned.{at_below}
 use Rattle.table_theory.proofs.Counting.{counted_join}
+use Rattle.table_theory.proofs.Ends.{logged_join}
 use Rattle.thread_table.specs.declared.rule.Shape.{Shape}
 use Rattle.thread_table.specs.declared.rule.View.{View}
 use Rattle.thread_table.specs.Schedules.{state_after, elements_after, line_at, element_at, IsAllowed, Grows}
 use Rattle.thread_table.specs.Shown.{WordsShow}
-use Rattle.thread_table.specs.Rules.{Rule, HandIs, Seen, ends_of, share_of, IsIdle, serves, running}
+use Rattle.thread_table.specs.Rules.{Rule, HandIs, Seen, ends_of, share_of, splits_of, joins_of, log_of, IsIdle, serves, running}
 use Rattle.thread_table.specs.Views.{claim_of}
 use Rattle.thread_table.specs.Steps.{either, either_on, both, emptied}
 use Rattle.thread_table.proofs.Owing.{AllOwned, IsOwned, owned_set}
@@ -118,7 +119,7 @@ or_left b c up = ap (λ (z : Bool). z || c) up
 held_apart : (id other : ℕ) (v w : View) (e : Elements) → other ≢ id → IsLawfulElements e → length e.threads ≡ 64 → HandIs id v e → HandIs other w e → (x : ℕ) → has v x ≡ true → has w x ≡ true → ⊥
 held_apart id other v w e ne lawful long mine its x up up' = dite (dec_lt x 64)
     (λ known. let low : may_step id x e ≡ false = others_count id other x e lawful long known ne (or_left (holds other x e) (list_any (is_put other x) e.processors) (its.held x ∙ up')) in
-        let high : may_step id x e ≡ true = or_left (holds id x e) (list_any (is_put id x) e.processors) (mine.held x ∙ up) in absurd (cc))
+    let high : may_step id x e ≡ true = or_left (holds id x e) (list_any (is_put id x) e.processors) (mine.held x ∙ up) in absurd (cc))
     (λ past. let l = mine.held_long in let none : has v x ≡ false = get_or-eq_default v.held false (omega (arith, past)) in absurd (cc))
 
 -- no processor is served by both
@@ -281,4 +282,5 @@ joins key id other v w live live' idle idle' s k at ne there = let at' : get_ele
           (sym (map-set made_of (set s.views id (both v w)) other (emptied v) ∙ ap (λ (z : List (List Made)). set z other []) (map-set made_of s.views id (both v w))))
           (made_join k.events (map made_of s.views) id other v.made w.made k.made (at_map made_of s.views id v at) (at_map made_of s.views other w at') ne);
       counted = counted_join ends_of share_of IsIdle (get_or s.words 0 0) s.views id other v w (both v w) (emptied v) k.counted at at' ne live refl refl refl refl (refl, refl, refl, refl, refl);
+      logged = logged_join splits_of joins_of log_of (get_or s.words 0 0) s.views id other v w (both v w) (emptied v) k.logged at at' ne refl refl refl refl refl refl;
     }

@@ -101,7 +101,6 @@ pub wait_keeps : (call wait element ticket : ℕ) (v w : View) (r : Result (Unit
 wait_keeps call wait element ticket v w (Ok done) a = moved_keeps call _ element _ v w a.moved
 wait_keeps call wait element ticket v w (Err r) a = (wait_stays call wait element ticket v w r a).keeps
 
-
 pub stop_keeps : (call element : ℕ) (was : Bool) (v w : View) → StoppedNow call v element was w → Keeps v w
 stop_keeps call element was v w a = did_keeps call v w _ _ _ _ record { first = λ _. refl; serves = λ _. refl; on = λ _. refl; share = λ _. refl } a.marks.did
 

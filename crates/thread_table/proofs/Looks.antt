@@ -7,6 +7,8 @@ use Rattle.atomic_table.specs.Table.{State, Me, step, keeps, Allows}
 use Rattle.atomic_table.proofs.Lists.{at_set, at_map}
 use Rattle.thread_table.specs.Makers.{AreMade, made_of}
 use Rattle.table_theory.proofs.Counting.{counted_look}
+use Rattle.table_theory.specs.Ends.{EndsLogged}
+use Rattle.table_theory.proofs.Ends.{logged_look}
 use Rattle.table_theory.specs.Sharing.{EndsCounted}
 use Rattle.quaject_core.specs.Elements.{Elements, hold}
 use Rattle.quaject_core.specs.declared.event.Event.{Event}
@@ -15,7 +17,7 @@ use Rattle.thread_table.specs.declared.rule.View.{View}
 use Rattle.thread_table.specs.declared.rule.Counted.{Counted}
 use Rattle.thread_table.specs.Schedules.{elements_after, Begins, Grows}
 use Rattle.thread_table.specs.Shown.{WordsShow}
-use Rattle.thread_table.specs.Rules.{IsSteady, IsNewest, done_at, HandIs, IsCounted, Seen, Rule, IsIdle, ends_of, share_of, serves}
+use Rattle.thread_table.specs.Rules.{IsSteady, IsNewest, done_at, HandIs, IsCounted, Seen, Rule, IsIdle, ends_of, share_of, splits_of, joins_of, log_of, serves}
 use Rattle.thread_table.specs.Steps.{after, Sees, Found, finds}
 use Rattle.thread_table.proofs.Effects.{Ready}
 use Rattle.thread_table.proofs.Owing.{claims_kept}
@@ -87,8 +89,8 @@ made_same past views id v w at same m = subst (AreMade past)
 -- the rule, where no event came, and a view has seen all
 pub kept : (key : Shape) (s : St) (k : Rule key s) (id : ℕ) (ws : List ℕ) (v w : View) → get_elem? s.views id ≡ some v → WordsShow key.first (elements_after k.events) ws
     → w.first ≡ v.first → w.schedule ≡ k.events → w.joined ≡ k.events → w.serves ≡ v.serves → w.claimed ≡ v.claimed → (w.made ≡ v.made) × (w.doubled ≡ v.doubled) → HandIs id w (elements_after k.events)
-    → EndsCounted ends_of share_of IsIdle (get_or ws 0 0) (set s.views id w) → Rule key record { words = ws; homes = s.homes; views = set s.views id w }
-kept key s k id ws v w at shows first schedule joined serving claimed own hand counted = record {
+    → EndsCounted ends_of share_of IsIdle (get_or ws 0 0) (set s.views id w) → EndsLogged splits_of joins_of log_of (get_or ws 0 0) (set s.views id w) → Rule key record { words = ws; homes = s.homes; views = set s.views id w }
+kept key s k id ws v w at shows first schedule joined serving claimed own hand counted logged = record {
   events = k.events;
   allowed = k.allowed;
   shows = shows;
@@ -103,6 +105,7 @@ kept key s k id ws v w at shows first schedule joined serving claimed own hand c
   newest = each_set (λ j u. IsNewest u k.events) s.views id w (λ j u ne has. k.newest j u has) (λ whole up. schedule);
   undoubled = each_set (λ j u. u.doubled ≡ false) s.views id w (λ j u ne has. k.undoubled j u has) (own.1 ∙ k.undoubled id v at);
   counted = counted;
+  logged = logged;
 }
 
 -- the rule, where the words stay, and a view has one entry more and sees the schedule as it is
@@ -112,6 +115,7 @@ kept_look key s k i id found v at = let w : View = after v i found k.events in l
     kept key s k id (set s.words i (get_or s.words i 0)) v w at (subst (WordsShow key.first (elements_after k.events)) (sym same) k.shows) refl refl refl refl refl (refl, refl)
     (hand_quiet id v w (elements_after k.events) refl refl refl refl refl (k.hands id v at))
     (subst (λ (n : ℕ). EndsCounted ends_of share_of IsIdle n (set s.views id w)) (ap (λ (z : List ℕ). get_or z 0 0) (sym same)) (counted_look ends_of share_of IsIdle (get_or s.words 0 0) s.views id v w k.counted at refl refl (λ _ h. h)))
+    (subst (λ (n : ℕ). EndsLogged splits_of joins_of log_of n (set s.views id w)) (ap (λ (z : List ℕ). get_or z 0 0) (sym same)) (logged_look splits_of joins_of log_of (get_or s.words 0 0) s.views id v w k.logged at refl refl refl))
 
 -- what the rule tells a hand at one of its steps
 unfoldable pub sees_of : (key : Shape) (s : St) (k : Rule key s) (id : ℕ) (v : View) → get_elem? s.views id ≡ some v → Sees v k.events

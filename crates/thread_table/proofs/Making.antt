@@ -12,13 +12,15 @@ use Rattle.quaject_core.specs.declared.event.Event.{Event}
 use Rattle.quaject_core.specs.declared.refusal.Refusal.{Refusal}
 use Rattle.table_theory.specs.Sharing.{IsWhole}
 use Rattle.table_theory.proofs.Counting.{counted_look}
+use Rattle.table_theory.specs.Ends.{EndsLogged}
+use Rattle.table_theory.proofs.Ends.{logged_look}
 use Rattle.table_theory.proofs.Totals.{two_of}
 use Rattle.table_theory.proofs.Owned.{at_below}
 use Rattle.thread_table.specs.declared.rule.Shape.{Shape}
 use Rattle.thread_table.specs.declared.rule.View.{View}
 use Rattle.thread_table.specs.Schedules.{state_after, elements_after, Grows, thread_at}
 use Rattle.thread_table.specs.Shown.{WordsShow}
-use Rattle.thread_table.specs.Rules.{IsSteady, IsNewest, HandIs, Seen, Rule, IsIdle, ends_of, share_of, may_step, serves}
+use Rattle.thread_table.specs.Rules.{IsSteady, IsNewest, HandIs, Seen, Rule, IsIdle, ends_of, share_of, splits_of, joins_of, log_of, may_step, serves}
 use Rattle.thread_table.specs.Steps.{made_by, Did}
 use Rattle.thread_table.specs.declared.rule.Made.{Made}
 use Rattle.thread_table.specs.Makers.{AreMade, made_of, made_in, is_join}
@@ -81,6 +83,7 @@ no_other n views id j v u c at live has ne whole = let t = two_of share_of views
 pub made : OthersCount → (key : Shape) (s : St) (k : Rule key s) (id : ℕ) (v : View) (event : Event) (change : Elements → Result Elements Refusal) (knows : List Event → View) (i y found : ℕ) → get_elem? s.views id ≡ some v → 1 ≤ v.ends → 0 < i
     → ((t : State) → effect event t ≡ in_elements change t) → (knows k.events).first ≡ v.first → (knows k.events).serves ≡ v.serves → (knows k.events).ends ≡ v.ends → (knows k.events).share ≡ v.share
     → (is_join event ≡ false) × ((knows k.events).made ≡ v.made) × ((knows k.events).doubled ≡ v.doubled)
+    × ((knows k.events).splits ≡ v.splits) × ((knows k.events).joins ≡ v.joins) × ((knows k.events).log ≡ v.log)
     → Effect id v (knows k.events) key.first change (elements_after k.events) (set s.words i y)
     → Rule key record { words = set s.words i y; homes = s.homes; views = set s.views id (made_by (knows k.events) i found k.events event) }
     × ((did : Did id v i found event knows (made_by (knows k.events) i found k.events event)) × (did.before ≡ k.events) × (did.sees.words ≡ s.words))
@@ -111,6 +114,7 @@ made others key s k id v event change knows i y found at live past is first serv
         newest = each_set (λ j u. IsNewest u new) s.views id w (λ j u ne has whole up. absurd (no_other (get_or s.words 0 0) s.views id j v u k.counted at live has ne whole)) (λ whole up. refl);
         undoubled = each_set (λ j u. u.doubled ≡ false) s.views id w (λ j u ne has. k.undoubled j u has) (own.2 ∙ k.undoubled id v at);
         counted = subst (λ (c : ℕ). EndsCounted ends_of share_of IsIdle c (set s.views id w)) (sym (get_or-set_other s.words i 0 y 0 (λ z. omega arith))) (counted_look ends_of share_of IsIdle (get_or s.words 0 0) s.views id v w k.counted at ends share (λ none. absurd (omega arith)));
+        logged = subst (λ (c : ℕ). EndsLogged splits_of joins_of log_of c (set s.views id w)) (sym (get_or-set_other s.words i 0 y 0 (λ z. omega arith))) (logged_look splits_of joins_of log_of (get_or s.words 0 0) s.views id v w k.logged at own.3 own.4 own.5);
       },
       (
         record {

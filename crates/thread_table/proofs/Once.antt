@@ -223,10 +223,10 @@ steps_once past l allowed m = record {
       (λ not_less. dite (dec_lt q.0 p.0)
       (λ less. absurd (apart past allowed q.0 p.0 x b a there here up' up less (sym same)))
       (λ not_more.
-          let e : p.0 ≡ q.0 = omega (arith, not_less, not_more) in
-          let o : Owned Made = (0, i, a) in
-          let u : Owned Made = (0, j, b) in
-          ap (λ (z : Owned Made). z.1) (some-injective o u (sym p.1 ∙ (ap (get_elem? m.log) e ∙ q.1)))));
+      let e : p.0 ≡ q.0 = omega (arith, not_less, not_more) in
+      let o : Owned Made = (0, i, a) in
+      let u : Owned Made = (0, j, b) in
+      ap (λ (z : Owned Made). z.1) (some-injective o u (sym p.1 ∙ (ap (get_elem? m.log) e ∙ q.1)))));
   all = λ x n below.
       let f : Made → ℕ = λ m. m.number + 1 in
       let few : n < done_of x (state_after past) = subst (λ (k : ℕ). n < k) (done_is past x) below in

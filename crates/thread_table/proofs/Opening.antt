@@ -14,11 +14,13 @@ use Rattle.quaject_core.specs.Runs.{Run}
 use Rattle.quaject_core.specs.States.{State}
 use Rattle.quaject_core.specs.declared.hold.Hold.{Hold}
 use Rattle.table_theory.proofs.Counting.{counted_first}
+use Rattle.table_theory.specs.Ends.{EndsLogged}
+use Rattle.table_theory.proofs.Ends.{logged_first}
 use Rattle.thread_table.specs.declared.rule.Shape.{Shape}
 use Rattle.thread_table.specs.declared.rule.View.{View}
 use Rattle.thread_table.specs.Schedules.{elements_after, line_at, thread_at, element_at, element_of, no_run}
 use Rattle.thread_table.specs.Shown.{WordsShow, LineShows, StateShows, head_word, tail_word, place_word, seat_shown, mark_of}
-use Rattle.thread_table.specs.Rules.{IsSteady, IsNewest, Rule, HandIs, Seen, IsOpen, newcomer, ends_of, share_of, IsIdle}
+use Rattle.thread_table.specs.Rules.{IsSteady, IsNewest, Rule, HandIs, Seen, IsOpen, newcomer, ends_of, share_of, splits_of, joins_of, log_of, IsIdle}
 use Rattle.thread_table.proofs.Owing.{AllOwned}
 use Rattle.thread_table.proofs.Filings.{made_first}
 use Rattle.thread_table.proofs.Copies.{length-copies, get_or-copies, slice_get-copies_by}
@@ -174,4 +176,5 @@ opens key words fits long ends none unstepped head tail items zeros = let w : Vi
   newest = only (λ (j : ℕ) (u : View). IsNewest u []) w (λ whole up. refl);
   undoubled = only (λ (j : ℕ) (u : View). u.doubled ≡ false) w refl;
   counted = subst (λ (c : ℕ). EndsCounted ends_of share_of IsIdle c (w ∷ [])) (sym ends) (counted_first ends_of share_of IsIdle w refl refl);
+  logged = subst (λ (c : ℕ). EndsLogged splits_of joins_of log_of c (w ∷ [])) (sym ends) (logged_first splits_of joins_of log_of w refl refl refl);
 }

@@ -48,6 +48,7 @@ pub goes_by : (key : Shape) (s : St) (k : Rule key s) (id : ℕ) (me : Me Unit V
     → get_elem? s.views id ≡ some me.0 → 1 ≤ me.0.ends → 0 < i → ((t : State) → effect event t ≡ in_elements change t)
     → (knows k.events).first ≡ me.0.first → (knows k.events).serves ≡ me.0.serves → (knows k.events).ends ≡ me.0.ends → (knows k.events).share ≡ me.0.share
     → (is_join event ≡ false) × ((knows k.events).made ≡ me.0.made) × ((knows k.events).doubled ≡ me.0.doubled)
+    × ((knows k.events).splits ≡ me.0.splits) × ((knows k.events).joins ≡ me.0.joins) × ((knows k.events).log ≡ me.0.log)
     → Effect id me.0 (knows k.events) key.first change (elements_after k.events) (set s.words i y)
     → ((did : Did id me.0 i found event knows (made_by (knows k.events) i found k.events event)) → did.before ≡ k.events → did.sees.words ≡ s.words → then (made_by (knows k.events) i found k.events event, me.1))
     → Goes key s i id me then y
@@ -95,7 +96,7 @@ claim_line_goes key n id line element me old new below known held live none_yet 
     let change : Elements → Result Elements Refusal = claim_element line id (element ∷ []) in
     let f : Effect id v (knows k.events) key.first change e (set s.words i new) = subst (λ (z : ℕ). Effect id v (knows k.events) key.first change e (set s.words i z)) more
     (claim_effect id v key.first e s.words line element (ready_of key s k id v at) none_yet below known held (omega arith)) in
-    goes_by key s k id me (claim_event id line element) change knows i new old (claims id line element (step n i old new none) me y) at live (omega arith) (claim_is line id element) refl refl refl refl (refl, refl, refl) f
+    goes_by key s k id me (claim_event id line element) change knows i new old (claims id line element (step n i old new none) me y) at live (omega arith) (claim_is line id element) refl refl refl refl (refl, refl, refl, refl, refl, refl) f
     (λ did before words. (refl, (λ _. record { did = did; head_is = head_before old key.first line k.events v did.before (k.first id v at) before head }), λ miss. absurd (miss hit))))
     (λ miss. (after v i y k.events, keeps, tt, kept_look key s k i id y v at, (refl, (λ hit. absurd (miss hit)), λ _. found_now key s k i id v at)))
 
@@ -119,7 +120,7 @@ wait_line_goes key n id wait element ticket me old new below known held live non
     let mark : mark_of e line ≡ ticket = omega arith in
     let f : Effect id v (knows k.events) key.first change e (set s.words i new) = subst (λ (z : ℕ). Effect id v (knows k.events) key.first change e (set s.words i z)) more
     (wait_at_effect id v key.first e s.words wait element ticket (ready_of key s k id v at) none_yet below known held (omega arith) mark) in
-    goes_by key s k id me (events.WaitAt id wait element ticket) change knows i new old (claims_at id wait element ticket (step n i old new none) me y) at live (omega arith) (λ t. refl) refl refl refl refl (refl, refl, refl) f
+    goes_by key s k id me (events.WaitAt id wait element ticket) change knows i new old (claims_at id wait element ticket (step n i old new none) me y) at live (omega arith) (λ t. refl) refl refl refl refl (refl, refl, refl, refl, refl, refl) f
     (λ did before words. (refl, (λ _. record { did = did; head_is = head_before old key.first line k.events v did.before (k.first id v at) before head }), λ miss. absurd (miss hit))))
     (λ miss. (after v i y k.events, keeps, tt, kept_look key s k i id y v at, (refl, (λ hit. absurd (miss hit)), λ _. found_now key s k i id v at)))
 
@@ -146,7 +147,7 @@ raise_line_goes key n id line run element me position new live claimed place is 
     let change : Elements → Result Elements Refusal = raise_element line id run 0 in
     let f : Effect id v (with_raise v) key.first change e (set s.words i new) = subst (λ (z : ℕ). Effect id v (with_raise v) key.first change e (set s.words i z)) (sym is)
     (subst (λ (p : ℕ). Effect id v (with_raise v) key.first change e (set s.words (place_word line p) (element + 256 * (p + 1)))) spot (raise_effect id v key.first e s.words line run element (ready_of key s k id v at) claimed)) in
-    goes_by key s k id me (events.Raise id (line_name line) run 0) change (λ before. with_raise v) i new new (raises id line run element (step n i new 0 none) me y) at live (omega arith) (raise_is line id run) refl refl refl refl (refl, refl, refl) f
+    goes_by key s k id me (events.Raise id (line_name line) run 0) change (λ before. with_raise v) i new new (raises id line run element (step n i new 0 none) me y) at live (omega arith) (raise_is line id run) refl refl refl refl (refl, refl, refl, refl, refl, refl) f
     (λ did before words. (refl, raised_at line run element position new v _ _ _ i place is refl did))
 
 pub raises_place : (key : Shape) (n id line run element : ℕ) (me : Me Unit View) (position new call place : ℕ) → call ≡ id → place ≡ place_word line position
@@ -171,7 +172,7 @@ take_line_goes key n id line me old new run below live none_yet next start up s 
     let change : Elements → Result Elements Refusal = take_element line id 1 in
     let f : Effect id v (knows k.events) key.first change e (set s.words i new) = subst (λ (z : ℕ). Effect id v (knows k.events) key.first change e (set s.words i z)) more
     (take_effect id v key.first e s.words line (ready_of key s k id v at) none_yet below still) in
-    goes_by key s k id me (events.Take id (line_name line) 1) change knows i new old (takes id line (step n i old new none) me y) at live (omega arith) (take_is line id) refl refl refl refl (refl, refl, refl) f
+    goes_by key s k id me (events.Take id (line_name line) 1) change knows i new old (takes id line (step n i old new none) me y) at live (omega arith) (take_is line id) refl refl refl refl (refl, refl, refl, refl, refl, refl) f
     (λ did before words. (refl, (λ _. record { did = did; tail_is = tail_before old key.first line k.events v did.before first before tail }), λ miss. absurd (miss hit))))
     (λ miss. (after v i y k.events, keeps, tt, kept_look key s k i id y v at, (refl, (λ hit. absurd (miss hit)), λ _. found_now key s k i id v at)))
 
@@ -190,7 +191,7 @@ notify_line_goes key n id wait me below live none_yet s k _ at _ =
     let shown : LineShows key.first e line s.words = k.shows.lines line (omega arith) in let new : ℕ = (y + 4294967296) % 18446744073709551616 in
     let f : Effect id v (quiet v) key.first (notify_wait wait) e (set s.words i new) = subst (λ (z : ℕ). Effect id v (quiet v) key.first (notify_wait wait) e (set s.words i ((z + 4294967296) % 18446744073709551616))) (sym shown.head)
     (notify_effect id v key.first e s.words wait (ready_of key s k id v at) none_yet below) in
-    goes_by key s k id me (events.NotifyWait id wait) (notify_wait wait) (λ before. quiet v) i new y (notifies id wait (step n i 4294967296 0 none) me y) at live (omega arith) (λ t. refl) refl refl refl refl (refl, refl, refl) f
+    goes_by key s k id me (events.NotifyWait id wait) (notify_wait wait) (λ before. quiet v) i new y (notifies id wait (step n i 4294967296 0 none) me y) at live (omega arith) (λ t. refl) refl refl refl refl (refl, refl, refl, refl, refl, refl) f
     (λ did before words. (refl, record { did = did; is = head_before y key.first line k.events v did.before (k.first id v at) before shown.head }))
 
 pub notifies_head : (key : Shape) (n id wait : ℕ) (me : Me Unit View) (call at place : ℕ) → call ≡ id → at ≡ wait → place ≡ head_word (wait + 2) → wait < 16 → 1 ≤ me.0.ends → me.0.claimed ≡ None

@@ -47,9 +47,9 @@ none_more lines = sym (append-nil (freed lines))
 same_runs : (lines : List Queue) (line : ℕ) (old new : Queue) → slice_get lines line ≡ Some old → new.history ≡ old.history → freed (set lines line new) ≡ freed lines
 same_runs lines line old new there same = dite (ℕ_discrete line 1)
     (λ is. let there' : slice_get lines 1 ≡ Some old = subst (λ (n : ℕ). slice_get lines n ≡ Some old) is there in
-        ap (λ (n : ℕ). freed (set lines n new)) is
-        ∙ (ap (λ (q : Queue). map items_of q.history) (get_or-set_same lines 1 new (empty_queue 64) (slice_get_within lines 1 old there'))
-        ∙ (ap (map items_of) same ∙ ap (λ (q : Queue). map items_of q.history) (sym (get_or_from_slice_get lines 1 old (empty_queue 64) there')))))
+    ap (λ (n : ℕ). freed (set lines n new)) is
+    ∙ (ap (λ (q : Queue). map items_of q.history) (get_or-set_same lines 1 new (empty_queue 64) (slice_get_within lines 1 old there'))
+    ∙ (ap (map items_of) same ∙ ap (λ (q : Queue). map items_of q.history) (sym (get_or_from_slice_get lines 1 old (empty_queue 64) there')))))
     (λ ne. ap (λ (q : Queue). map items_of q.history) (get_or-set_other lines line 1 new (empty_queue 64) (λ z. ne (sym z))))
 
 -- another queue has whatever runs

@@ -13,11 +13,12 @@ use Rattle.thread_table.proofs.Filings.{made_new}
 use Rattle.thread_table.proofs.Looks.{set_again}
 use Rattle.table_theory.proofs.Owned.{at_push}
 use Rattle.table_theory.proofs.Counting.{counted_split, given_kept, given_some, kept_some}
+use Rattle.table_theory.proofs.Ends.{logged_split}
 use Rattle.table_theory.proofs.Totals.{one_of}
 use Rattle.thread_table.specs.declared.rule.Shape.{Shape}
 use Rattle.thread_table.specs.declared.rule.View.{View}
 use Rattle.thread_table.specs.Schedules.{elements_after}
-use Rattle.thread_table.specs.Rules.{IsSteady, IsNewest, Rule, HandIs, Seen, ends_of, share_of, IsIdle, MayStep, has, serves, running}
+use Rattle.thread_table.specs.Rules.{IsSteady, IsNewest, Rule, HandIs, Seen, ends_of, share_of, splits_of, joins_of, log_of, IsIdle, MayStep, has, serves, running}
 use Rattle.std.specs.List.{repeat}
 use Rattle.thread_table.specs.Steps.{parted, rest_of, newborn}
 use Rattle.thread_table.proofs.Owing.{claims_kept}
@@ -143,4 +144,5 @@ splits key id v mask live long can s k at = let e : Elements = elements_after k.
       (sym (map-append made_of (set s.views id left) (right ∷ []) ∙ ap (λ (z : List (List Made)). z ++ [] ∷ []) (map-set made_of s.views id left ∙ set_again (map made_of s.views) id v.made (at_map made_of s.views id v at))))
       (made_new k.events (map made_of s.views) k.made);
   counted = counted_split ends_of share_of IsIdle (get_or s.words 0 0) s.views id v left right k.counted at live (omega arith) refl refl refl;
+  logged = logged_split splits_of joins_of log_of (get_or s.words 0 0) s.views id v left right k.logged at refl refl refl refl refl refl;
 }

@@ -54,7 +54,7 @@ puts key n id call p element i y me mine place is live free low known held servi
     subst (λ (z : ℕ). Effect id v w key.first (put_on id p element) e (set s.words z y)) (sym place)
     (subst (λ (z : ℕ). Effect id v w key.first (put_on id p element) e (set s.words (seat_word p) z)) (sym is)
     (on_effect id v key.first e s.words p element (ready_of key s k id v at) free low known held serving empty)) in
-    goes_by key s k id me (events.On id p element) (put_on id p element) (λ before. w) i y (get_or s.words i 0) (puts_on id p element (step n i y 0 none) me (get_or s.words i 0)) at live (omega (arith, place)) (λ t. refl) refl refl refl refl (refl, refl, refl) f
+    goes_by key s k id me (events.On id p element) (put_on id p element) (λ before. w) i y (get_or s.words i 0) (puts_on id p element (step n i y 0 none) me (get_or s.words i 0)) at live (omega (arith, place)) (λ t. refl) refl refl refl refl (refl, refl, refl, refl, refl, refl) f
     (λ did before words. (refl, did_at id v _ i (seat_word p) (get_or s.words i 0) 0 _ _ place (seat_found key s k id p i v None at place low serving empty) did)))
 
 -- the element of a processor is taken off
@@ -67,7 +67,7 @@ takes_back key n id call p element i me mine place live free low serving there =
     let f : Effect id v w key.first (take_off id p) e (set s.words i 0) =
     subst (λ (z : ℕ). Effect id v w key.first (take_off id p) e (set s.words z 0)) (sym place)
     (off_effect id v key.first e s.words p element (ready_of key s k id v at) free low serving there) in
-    goes_by key s k id me (events.Off id p) (take_off id p) (λ before. w) i 0 (get_or s.words i 0) (takes_off id p element (step n i 0 0 none) me (get_or s.words i 0)) at live (omega (arith, place)) (λ t. refl) refl refl refl refl (refl, refl, refl) f
+    goes_by key s k id me (events.Off id p) (take_off id p) (λ before. w) i 0 (get_or s.words i 0) (takes_off id p element (step n i 0 0 none) me (get_or s.words i 0)) at live (omega (arith, place)) (λ t. refl) refl refl refl refl (refl, refl, refl, refl, refl, refl) f
     (λ did before words. (refl, did_at id v _ i (seat_word p) (get_or s.words i 0) (element + 1) _ _ place (seat_found key s k id p i v (Some element) at place low serving there) did)))
 
 -- the word found is the one that the hand saw
@@ -88,7 +88,7 @@ stops_state key n id call element i me mine place live free known =
     let f : Effect id v (quiet v) key.first (stop element) e (set s.words i y) =
     subst (λ (z : ℕ). Effect id v (quiet v) key.first (stop element) e (set s.words z (bit_or (get_or s.words z 0) 65536))) (sym place)
     (stop_effect id v key.first e s.words element (ready_of key s k id v at) free known) in
-    goes_by key s k id me (events.Stop id element) (stop element) (λ before. quiet v) i y (get_or s.words i 0) (stops id element (step n i 65536 0 none) me (get_or s.words i 0)) at live (omega (arith, place)) (λ t. refl) refl refl refl refl (refl, refl, refl) f
+    goes_by key s k id me (events.Stop id element) (stop element) (λ before. quiet v) i y (get_or s.words i 0) (stops id element (step n i 65536 0 none) me (get_or s.words i 0)) at live (omega (arith, place)) (λ t. refl) refl refl refl refl (refl, refl, refl, refl, refl, refl) f
     (λ did before words. (refl, turn_at id element v _ i (get_or s.words i 0) _ _ place did (word_seen s.words did.sees.words element i place words))))
 
 -- a signal of an element becomes pending
@@ -101,7 +101,7 @@ signals_state key n id call element number i bit me mine place is live free know
     subst (λ (z : ℕ). Effect id v (quiet v) key.first (signal element number) e (set s.words z (bit_or (get_or s.words z 0) bit))) (sym place)
     (subst (λ (z : ℕ). Effect id v (quiet v) key.first (signal element number) e (set s.words (state_word element) (bit_or (get_or s.words (state_word element) 0) z))) (sym is)
     (signal_effect id v key.first e s.words element number (ready_of key s k id v at) free known small)) in
-    goes_by key s k id me (events.Signal id element number) (signal element number) (λ before. quiet v) i y (get_or s.words i 0) (signals id element number (step n i bit 0 none) me (get_or s.words i 0)) at live (omega (arith, place)) (λ t. refl) refl refl refl refl (refl, refl, refl) f
+    goes_by key s k id me (events.Signal id element number) (signal element number) (λ before. quiet v) i y (get_or s.words i 0) (signals id element number (step n i bit 0 none) me (get_or s.words i 0)) at live (omega (arith, place)) (λ t. refl) refl refl refl refl (refl, refl, refl, refl, refl, refl) f
     (λ did before words. (refl, turn_at id element v _ i (get_or s.words i 0) _ _ place did (word_seen s.words did.sees.words element i place words))))
 
 -- a one that is shifted by a signal's number is the signal's bit
@@ -122,6 +122,7 @@ record Leads (event : Event) (v : View) (knows : List Event → View) : Type 0 w
   plain : is_join event ≡ false
   made : (before : List Event) → (knows before).made ≡ v.made
   doubled : (before : List Event) → (knows before).doubled ≡ v.doubled
+  ways : (before : List Event) → ((knows before).splits ≡ v.splits) × ((knows before).joins ≡ v.joins) × ((knows before).log ≡ v.log)
 
 turned : (key : Shape) (n id element i old new : ℕ) (me : Me Unit View) (event : Event) (change : Elements → Result Elements Refusal) (knows : List Event → View) → i ≡ state_word element → 1 ≤ me.0.ends
     → ((t : State) → effect event t ≡ in_elements change t) → Leads event me.0 knows
@@ -131,7 +132,7 @@ turned key n id element i old new me event change knows place live is leads effe
     let v : View = me.0 in let e : Elements = elements_after k.events in let y : ℕ = get_or s.words i 0 in
     exchanged y old new (Goes key s i id me (Turned id element i old event knows me y))
     (λ hit. goes_by key s k id me event change knows i new old (Turned id element i old event knows me y) at live (omega (arith, place)) is
-    (leads.first k.events) (leads.serving k.events) (leads.ends k.events) (leads.share k.events) (leads.plain, leads.made k.events, leads.doubled k.events)
+    (leads.first k.events) (leads.serving k.events) (leads.ends k.events) (leads.share k.events) (leads.plain, leads.made k.events, leads.doubled k.events, (leads.ways k.events).0, (leads.ways k.events).1, (leads.ways k.events).2)
     (subst (λ (z : ℕ). Effect id v (knows k.events) key.first change e (set s.words z new)) (sym place) (effect_of s k at (ap (λ (z : ℕ). get_or s.words z 0) (sym place) ∙ hit)))
     (λ did before words. (refl, (λ _. turn_at id element v _ i old event knows place did (sym hit ∙ word_seen s.words did.sees.words element i place words)), λ miss. absurd (miss hit))))
     (λ miss. (after v i y k.events, keeps, tt, kept_look key s k i id y v at, (refl, (λ hit. absurd (miss hit)), λ _. found_now key s k i id v at)))
@@ -152,7 +153,7 @@ pub parks_state : (key : Shape) (n id call element i old new : ℕ) (me : Me Uni
 parks_state key n id call element i old new me mine place live free known held stops is = let v : View = me.0 in let w : View = with_held v element false in
     subst (λ (c : ℕ). Allows (Rule key) n id me i (λ x. either (eqb x old) new x) (parks c element (step n i old new none) me)) (sym mine)
     (turned key n id element i old new me (events.Park id element) (park id element) (λ before. w) place live (λ t. refl)
-    record { first = λ before. refl; serving = λ before. refl; ends = λ before. refl; share = λ before. refl; plain = refl; made = λ before. refl; doubled = λ before. refl }
+    record { first = λ before. refl; serving = λ before. refl; ends = λ before. refl; share = λ before. refl; plain = refl; made = λ before. refl; doubled = λ before. refl; ways = λ before. (refl, refl, refl) }
     (λ s k at hit. let e : Elements = elements_after k.events in
     subst (λ (z : ℕ). Effect id v w key.first (park id element) e (set s.words (state_word element) z)) (ap (λ (z : ℕ). bit_or z 131072) hit ∙ sym is)
     (park_effect id v key.first e s.words element (ready_of key s k id v at) free known held (stopping key s k element old known hit stops))))
@@ -165,7 +166,7 @@ starts_state key n id call element i old new me mine place live free known stops
     let knows : List Event → View = λ before. with_start v element (thread_at (elements_after before) element).parked in
     subst (λ (c : ℕ). Allows (Rule key) n id me i (λ x. either (eqb x old) new x) (starts c element (step n i old new none) me)) (sym mine)
     (turned key n id element i old new me (events.Start id element) (start id element) knows place live (λ t. refl)
-    record { first = λ before. refl; serving = λ before. refl; ends = λ before. refl; share = λ before. refl; plain = refl; made = λ before. refl; doubled = λ before. refl }
+    record { first = λ before. refl; serving = λ before. refl; ends = λ before. refl; share = λ before. refl; plain = refl; made = λ before. refl; doubled = λ before. refl; ways = λ before. (refl, refl, refl) }
     (λ s k at hit. let e : Elements = elements_after k.events in
     subst (λ (z : ℕ). Effect id v (knows k.events) key.first (start id element) e (set s.words (state_word element) z)) (ap (λ (z : ℕ). bit_and z 65535) hit ∙ sym is)
     (start_effect id v key.first e s.words element (ready_of key s k id v at) free known (stopping key s k element old known hit stops))))
@@ -177,7 +178,7 @@ pub delivers_state : (key : Shape) (n id call element i old new : ℕ) (me : Me 
 delivers_state key n id call element i old new me mine place live free known held is = let v : View = me.0 in
     subst (λ (c : ℕ). Allows (Rule key) n id me i (λ x. either (eqb x old) new x) (delivers c element (step n i old new none) me)) (sym mine)
     (turned key n id element i old new me (events.Deliver id element) (deliver id element) (λ before. quiet v) place live (λ t. refl)
-    record { first = λ before. refl; serving = λ before. refl; ends = λ before. refl; share = λ before. refl; plain = refl; made = λ before. refl; doubled = λ before. refl }
+    record { first = λ before. refl; serving = λ before. refl; ends = λ before. refl; share = λ before. refl; plain = refl; made = λ before. refl; doubled = λ before. refl; ways = λ before. (refl, refl, refl) }
     (λ s k at hit. let e : Elements = elements_after k.events in
     subst (λ (z : ℕ). Effect id v (quiet v) key.first (deliver id element) e (set s.words (state_word element) z)) (ap (λ (z : ℕ). bit_and z 196608) hit ∙ sym is)
     (deliver_effect id v key.first e s.words element (ready_of key s k id v at) free known held)))
@@ -203,5 +204,5 @@ steps_done key n id call element count i y me mine place is live free counted ro
     subst (λ (z : ℕ). Effect id v (quiet v) key.first (done id element) e (set s.words z y)) (sym place)
     (subst (λ (z : ℕ). Effect id v (quiet v) key.first (done id element) e (set s.words (done_word element) z)) (sym is)
     (done_effect id v key.first e s.words element count (ready_of key s k id v at) free counted room)) in
-    goes_by key s k id me (events.Done id element) (done id element) (λ before. quiet v) i y y (steps_on id element count (step n i y 0 none) me y) at live (omega (arith, place)) (λ t. refl) refl refl refl refl (refl, refl, refl) f
+    goes_by key s k id me (events.Done id element) (done id element) (λ before. quiet v) i y y (steps_on id element count (step n i y 0 none) me y) at live (omega (arith, place)) (λ t. refl) refl refl refl refl (refl, refl, refl, refl, refl, refl) f
     (λ did before words. (refl, did_at id v _ i (done_word element) y (count + 1) _ _ place is did)))

@@ -4,6 +4,7 @@ use Rattle.std.specs.Prelude.{slice_index_or, Option, Some, None, option_map}
 use Rattle.std.specs.List.{slice_get, list_any, repeat}
 use mathlib.Core.Option.{some}
 use lib.ListN.{get_elem?}
+use Rattle.table_theory.specs.Ends.{EndsLogged}
 use Rattle.table_theory.specs.Sharing.{the_whole, IsWhole, EndsCounted}
 use Rattle.quaject_core.specs.Elements.{Elements, hold, holds, is_put}
 use Rattle.quaject_core.specs.declared.event.Event.{Event}
@@ -22,6 +23,15 @@ ends_of v = v.ends
 
 abbrev pub share_of : View → ℕ
 share_of v = v.share
+
+abbrev pub splits_of : View → ℕ
+splits_of v = v.splits
+
+abbrev pub joins_of : View → ℕ
+joins_of v = v.joins
+
+abbrev pub log_of : View → List Bool
+log_of v = v.log
 
 -- no element is held
 abbrev pub nothing_held : List Bool
@@ -127,6 +137,7 @@ pub record Rule (key : Shape) (s : State Unit View) : Type 0 where
   pub newest : (j : ℕ) (v : View) → get_elem? s.views j ≡ some v → IsNewest v events
   pub undoubled : (j : ℕ) (v : View) → get_elem? s.views j ≡ some v → v.doubled ≡ false
   pub counted : EndsCounted ends_of share_of IsIdle (slice_index_or s.words 0 0) s.views
+  pub logged : EndsLogged splits_of joins_of log_of (slice_index_or s.words 0 0) s.views
 
 abbrev pub newcomer : Shape → View
 newcomer key = record {
@@ -144,4 +155,7 @@ newcomer key = record {
   doubled = false;
   ends = 1;
   share = the_whole;
+  splits = 0;
+  joins = 0;
+  log = [];
 }

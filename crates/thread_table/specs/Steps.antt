@@ -3,6 +3,7 @@
 use Rattle.std.specs.Prelude.{◌≡◌, ◌≢◌, ℕ, ◌+◌, ◌*◌, ◌-◌, ◌≤◌, Bool, true, false, ◌&&◌, ◌||◌, if◌then◌else◌, List, []}
 use Rattle.std.specs.Prelude.{◌∷◌, ◌++◌, length, slice_index_or, Some, None, Ok, Option}
 use Rattle.atomic_table.specs.Table.{Me, Step}
+use Rattle.table_theory.specs.Ends.{Begins, IsNumber, later_of}
 use Rattle.table_theory.specs.Sharing.{given, kept, IsCount}
 use Rattle.quaject_core.specs.Lawful.{IsLawfulElements}
 use Rattle.quaject_core.specs.States.{step}
@@ -189,20 +190,36 @@ Steps call element count v w =
 abbrev pub steps_on : ℕ → ℕ → ℕ → Step Unit → Me Unit View → ℕ → Me Unit View → Type 0
 steps_on call element count st m r m' = Makes (λ v found w. Steps call element count v w) st m r m'
 
--- the number of hands is one more
+-- the view after so many hands were found, and a split more
+abbrev pub with_split : View → ℕ → List Event → List Bool → View
+with_split v found events log = record (after v ends_word found events) { splits = v.splits + 1; log = log ++ true ∷ [] }
+
+-- the same, and a join more
+abbrev pub with_join : View → ℕ → List Event → List Bool → View
+with_join v found events log = record (after v ends_word found events) { joins = v.joins + 1; log = log ++ false ∷ [] }
+
+-- The number of hands was found, and made one more
 pub record CountedUp (v : View) (found : ℕ) (w : View) : Type 0 where
-  pub same : w ≡ record (after v ends_word found w.schedule) { ends = v.ends + 1 }
+  pub log : List Bool
+  pub same : w ≡ record (with_split v found w.schedule log) { ends = v.ends + 1 }
   pub sees : Sees v w.schedule
+  pub later : Begins v.log log
+  pub number : IsNumber log found
 
--- the number of hands is one less
+-- The number of hands was found, and made one less
 pub record CountedDown (v : View) (found : ℕ) (w : View) : Type 0 where
-  pub same : w ≡ record (after v ends_word found w.schedule) { ends = v.ends - 1 }
+  pub log : List Bool
+  pub same : w ≡ record (with_join v found w.schedule log) { ends = v.ends - 1 }
   pub sees : Sees v w.schedule
+  pub later : Begins v.log log
+  pub number : IsNumber log found
 
--- the number of hands was found: 1 exactly where this hand has the whole
+-- The number of hands was found: that of the splits and joins up to then, and 1 exactly where this hand has the whole
 pub record Tallied (v : View) (found : ℕ) (w : View) : Type 0 where
-  pub same : w ≡ after v ends_word found w.schedule
+  pub same : w ≡ record (after v ends_word found w.schedule) { log = w.log }
   pub sees : Sees v w.schedule
+  pub later : Begins v.log w.log
+  pub number : IsNumber w.log found
   pub count : IsCount v.share found
 
 abbrev pub counts_up : Step Unit → Me Unit View → ℕ → Me Unit View → Type 0
@@ -260,6 +277,9 @@ newborn mask v = record {
   doubled = false;
   ends = 1;
   share = given v.share;
+  splits = 0;
+  joins = 0;
+  log = v.log;
 }
 
 -- the view of a hand that took in a hand with the view w
@@ -279,6 +299,9 @@ both v w = record {
   doubled = v.doubled || w.doubled || any_both v.held w.held || any_both v.serves w.serves;
   ends = v.ends + w.ends;
   share = v.share + w.share;
+  splits = v.splits + w.splits;
+  joins = v.joins + w.joins;
+  log = later_of v.log w.log;
 }
 
 -- the view of a hand that was taken in
@@ -298,4 +321,7 @@ emptied v = record {
   doubled = false;
   ends = 0;
   share = 0;
+  splits = 0;
+  joins = 0;
+  log = v.log;
 }

@@ -100,13 +100,7 @@ impl ThreadTable {
         let mut hand = hand;
         let ends = count(&self.table.shared, &mut hand.seat);
         if ends != 1 {
-            return Err((
-                self,
-                hand,
-                OpenEnds {
-                    others: ends - 1,
-                },
-            ));
+            return Err((self, hand, OpenEnds { others: ends - 1 }));
         }
         let Hand {
             seat,

@@ -35,7 +35,8 @@ pub struct Made {
 /// a hand that it took in had seen it; what it holds, the processors that it serves and what it has on them; the run
 /// that it has claimed and not raised, and the number of steps that it has just found; the events that it made, and
 /// every step; whether it has made a step since it took in a hand, and whether both had something then; how many of the
-/// hands counted it is, and its share of the table. No value of it is made.
+/// hands counted it is, and its share of the table; how often it was split and took in another hand, and the splits (true)
+/// and joins (false) of all hands up to its last step on their number. No value of it is made.
 pub struct View {
     pub first: u64,
     pub schedule: LinkedList<Event>,
@@ -51,6 +52,9 @@ pub struct View {
     pub doubled: bool,
     pub ends: u64,
     pub share: u64,
+    pub splits: u64,
+    pub joins: u64,
+    pub log: LinkedList<bool>,
 }
 
 pub struct ThreadRule;

@@ -21,16 +21,14 @@ use crate::plays::{
     StartState, StoreDone, TakeOff, TakeTail,
 };
 use crate::rule::{Shape, ThreadRule, View};
-use crate::words::{
-    ENDS, NOTIFY, STOP, done_word, head_word, place_word, seat_word, state_word,
-};
+use crate::words::{ENDS, NOTIFY, STOP, done_word, head_word, place_word, seat_word, state_word};
 use atomic_table::{Seat, Shared};
 
 pub(crate) type Words = Shared<(), View, Shape, ThreadRule>;
 
 pub(crate) fn load(words: &Words, seat: &mut Seat<(), View>, word: usize) -> u64
     requires { (seat.old.table_id ≡ words.now.table_id) × (word < words.now.table_id.words) }
-    ensures { IsSame seat.old seat.new × (seat.new.me.1 ≡ seat.old.me.1) 
+    ensures { IsSame seat.old seat.new × (seat.new.me.1 ≡ seat.old.me.1)
         × Found seat.old.me.0 word result seat.new.me.0 }
 {
     words.load::<Look>(seat, word)

@@ -1,9 +1,11 @@
-ghost use Rattle.std.specs.Prelude.{◌≡◌};
-ghost use Rattle.thread_table.specs.Handles.{IsHandOf, IsSameHand};
+ghost use Rattle.std.specs.Prelude.{◌≡◌, ◌+◌, true, Some, IfOk};
+ghost use Rattle.thread_table.specs.Handles.{view_of, IsHandOf, IsSameHand};
+ghost use Rattle.thread_table.specs.Rules.{has, serves, running};
 
 use super::*;
 use quaject_core::{Element, OutOfMemory, Processor, Signal, WaitNumber};
 use std::alloc::Global;
+use std::sync::Wait;
 use std::test::*;
 
 /// Takes the next free element, which has to be this one.
@@ -48,6 +50,35 @@ fn wait(table: &ThreadTable, hand: &mut Hand, element: u8, queue: WaitNumber) ->
         return false;
     }
     table.try_wait(hand, element, queue) == Ok(()) && !hand.holds(element)
+}
+
+/// Wakes all, and then takes off what the hand has on a processor: that it serves it still, and that the same element
+/// stands there, is proved, not tried.
+fn wake_and_take_off<R: Wait>(
+    rt: &R,
+    table: &ThreadTable,
+    hand: &mut Hand,
+    wait: WaitNumber,
+    processor: Processor,
+) -> Result<Element, ProcessorEmpty>
+    requires table { IsHandOf table.now hand.old }
+    requires mine { serves (view_of hand.old) processor ≡ true }
+    ensures table { IsSameHand hand.old hand.new }
+    ensures stood { IfOk result (λ element. running (view_of hand.old) processor ≡ Some element) }
+{
+    table.wake_all(rt, hand, wait);
+    table.off(hand, processor)
+}
+
+/// The number of steps, and then one step more: that no other counts between the two is proved, not tried.
+fn count_on(table: &ThreadTable, hand: &mut Hand, element: Element) -> (u64, Result<u64, Spent>)
+    requires table { IsHandOf table.now hand.old }
+    requires mine { has (view_of hand.old) element ≡ true }
+    ensures table { IsSameHand hand.old hand.new }
+    ensures counted { IfOk result.1 (λ number. number ≡ result.0 + 1) }
+{
+    let count = table.pc(hand, element);
+    (count, table.step_done(hand, element))
 }
 
 #[test]
@@ -124,17 +155,19 @@ fn ready_in_turn(rt: HostRuntime) -> Result<(), Fail> {
 fn wakes_all(rt: HostRuntime) -> Result<(), Fail> {
     let (table, mut first) = ThreadTable::new(rt.alloc())?;
     let a = &mut first;
-    let (Some(e0), Some(w2)) = (Element::new(0), WaitNumber::new(2)) else {
+    let (Some(e0), Some(w2), Some(p0)) = (Element::new(0), WaitNumber::new(2), Processor::new(0))
+    else {
         panic!(rt; "names")
     };
     assert!(rt; free(&table, a, 0) && free(&table, a, 1));
     assert!(rt; wait(&table, a, 0, w2) && wait(&table, a, 1, w2));
     assert_eq!(rt; table.wake_all(&rt, a, w2), 3);
-    assert_eq!(rt; table.wake_all(&rt, a, w2), 0);
+    assert!(rt; a.holds(e0) && a.serves(p0));
+    assert_eq!(rt; table.on(a, p0, e0), Ok(()));
+    assert!(rt; a.serves(p0));
+    assert_eq!(rt; wake_and_take_off(&rt, &table, a, w2, p0), Ok(e0));
     assert!(rt; a.holds(e0));
-    assert_eq!(rt; table.pc(a, e0), 0);
-    assert!(rt; a.holds(e0));
-    assert_eq!(rt; table.step_done(a, e0), Ok(1));
+    assert_eq!(rt; count_on(&table, a, e0), (0, Ok(1)));
     assert!(rt; a.holds(e0));
     assert_eq!(rt; table.pc(a, e0), 1);
     let Ok(closed) = table.close(first) else {

@@ -27,26 +27,26 @@ pub returns-then-head-tail-clause-notes : goal.returns-then-head-tail-clause-not
 returns-then-head-tail-clause-notes g c = let a = c.load_head-head.ensures in let b = c.load_tail-tail.ensures in full_notes _ _ _ _ (was_full _ _ _ _ _ a.found b.found c.if-head-ge-POSITIONS.false c.if-head-tail.true)
 
 pub returns-then-found-head-clause-ends : goal.returns-then-found-head-clause-ends
-returns-then-found-head-clause-ends g c = let a = c.load_head-head.ensures in let b = c.load_tail-tail.ensures in let e = c.exchange_head-found.ensures in 
+returns-then-found-head-clause-ends g c = let a = c.load_head-head.ensures in let b = c.load_tail-tail.ensures in let e = c.exchange_head-found.ensures in
     let r = found_room c.args.end.now.seat.me.0 c.load_head-head.new.seat.me.0 c.load_tail-tail.new.seat.me.0 c.load_head-head.result c.load_tail-tail.result a.found b.found c.if-head-ge-POSITIONS.false c.if-head-tail.false in let m = e.miss c.if-found-head.true in let s = stays_room _ _ _ c.args.end.now.behind r in (
       search rules,
       slot_on g.Q.Quaject.made_by (g.Q.Quaject.fits c.args.self.now.table.shared.key.world.value) _ _ _ _ (stays_on _ _ _ s (stays_found _ _ _ _ s.behind m.0)) (e.queue.1 ∙ (b.queue.1 ∙ a.queue.1)) c.requires.1,
     )
 
 pub returns-then-found-head-clause-chained : goal.returns-then-found-head-clause-chained
-returns-then-found-head-clause-chained g c = let a = c.load_head-head.ensures in let b = c.load_tail-tail.ensures in let e = c.exchange_head-found.ensures in 
+returns-then-found-head-clause-chained g c = let a = c.load_head-head.ensures in let b = c.load_tail-tail.ensures in let e = c.exchange_head-found.ensures in
     let r = found_room c.args.end.now.seat.me.0 c.load_head-head.new.seat.me.0 c.load_tail-tail.new.seat.me.0 c.load_head-head.result c.load_tail-tail.result a.found b.found c.if-head-ge-POSITIONS.false c.if-head-tail.false in (was_lost _ _ _ _ _ r (e.miss c.if-found-head.true).0 c.if-found-head.true, e.queue.1 ∙ (b.queue.1 ∙ a.queue.1))
 
 pub returns-then-found-head-clause-notes : goal.returns-then-found-head-clause-notes
-returns-then-found-head-clause-notes g c = let a = c.load_head-head.ensures in let b = c.load_tail-tail.ensures in let e = c.exchange_head-found.ensures in 
+returns-then-found-head-clause-notes g c = let a = c.load_head-head.ensures in let b = c.load_tail-tail.ensures in let e = c.exchange_head-found.ensures in
     let r = found_room c.args.end.now.seat.me.0 c.load_head-head.new.seat.me.0 c.load_tail-tail.new.seat.me.0 c.load_head-head.result c.load_tail-tail.result a.found b.found c.if-head-ge-POSITIONS.false c.if-head-tail.false in lost_notes _ _ _ (was_lost _ _ _ _ _ r (e.miss c.if-found-head.true).0 c.if-found-head.true)
 
 pub store_place-requires-clause-mine : goal.store_place-requires-clause-mine
 store_place-requires-clause-mine g c = just_claimed _ _ _ _ _ _ (c.exchange_head-found.ensures.hit c.if-found-head.false) refl
 
 pub invariant_of-end-then-swap_more-eq-IDLE : goal.invariant_of-end-then-swap_more-eq-IDLE
-invariant_of-end-then-swap_more-eq-IDLE g c = let a = c.load_head-head.ensures in let b = c.load_tail-tail.ensures in let e = c.exchange_head-found.ensures in 
-    let r = found_room c.args.end.now.seat.me.0 c.load_head-head.new.seat.me.0 c.load_tail-tail.new.seat.me.0 c.load_head-head.result c.load_tail-tail.result a.found b.found c.if-head-ge-POSITIONS.false c.if-head-tail.false in 
+invariant_of-end-then-swap_more-eq-IDLE g c = let a = c.load_head-head.ensures in let b = c.load_tail-tail.ensures in let e = c.exchange_head-found.ensures in
+    let r = found_room c.args.end.now.seat.me.0 c.load_head-head.new.seat.me.0 c.load_tail-tail.new.seat.me.0 c.load_head-head.result c.load_tail-tail.result a.found b.found c.if-head-ge-POSITIONS.false c.if-head-tail.false in
     let l = link c.args.end.now.seat.id _ _ _ _ _ _ _ _ (b.queue.0.1 ∙ a.queue.0.1) (e.queue.0.1 ∙ (b.queue.0.1 ∙ a.queue.0.1)) r (e.hit c.if-found-head.false) c.store_place.ensures.raised in
     let s = linked_stays _ _ _ _ l c.args.end.now.behind in let w = c.swap_more.ensures.won c.if-swap_more-eq-IDLE.true in let f = ap (λ (z : View). z.part.queue) w.same in record {
       room = ap (λ (z : Positions). z.room) f ∙ (w.sees.later.0.room ∙ (s.room ∙ c.args.end.now.room));
@@ -60,34 +60,34 @@ invariant_of-end-then-swap_more-eq-IDLE g c = let a = c.load_head-head.ensures i
     }
 
 pub returns-then-swap_more-eq-IDLE-clause-ends : goal.returns-then-swap_more-eq-IDLE-clause-ends
-returns-then-swap_more-eq-IDLE-clause-ends g c = let a = c.load_head-head.ensures in let b = c.load_tail-tail.ensures in let e = c.exchange_head-found.ensures in 
-    let r = found_room c.args.end.now.seat.me.0 c.load_head-head.new.seat.me.0 c.load_tail-tail.new.seat.me.0 c.load_head-head.result c.load_tail-tail.result a.found b.found c.if-head-ge-POSITIONS.false c.if-head-tail.false in 
+returns-then-swap_more-eq-IDLE-clause-ends g c = let a = c.load_head-head.ensures in let b = c.load_tail-tail.ensures in let e = c.exchange_head-found.ensures in
+    let r = found_room c.args.end.now.seat.me.0 c.load_head-head.new.seat.me.0 c.load_tail-tail.new.seat.me.0 c.load_head-head.result c.load_tail-tail.result a.found b.found c.if-head-ge-POSITIONS.false c.if-head-tail.false in
     let l = link c.args.end.now.seat.id _ _ _ _ _ _ _ _ (b.queue.0.1 ∙ a.queue.0.1) (e.queue.0.1 ∙ (b.queue.0.1 ∙ a.queue.0.1)) r (e.hit c.if-found-head.false) c.store_place.ensures.raised in
-    let s = linked_stays _ _ _ _ l c.args.end.now.behind in let w = c.swap_more.ensures.won c.if-swap_more-eq-IDLE.true in 
+    let s = linked_stays _ _ _ _ l c.args.end.now.behind in let w = c.swap_more.ensures.won c.if-swap_more-eq-IDLE.true in
     (search rules, slot_won g.Q.Quaject.made_by (g.Q.Quaject.fits c.args.self.now.table.shared.key.world.value) _ _ _ w (c.store_place.ensures.queue.1 ∙ (e.queue.1 ∙ (b.queue.1 ∙ (a.queue.1 ∙ c.requires.1.1 (sym s.runner ∙ w.had_none))))))
 
 pub returns-then-swap_more-eq-IDLE-clause-chained : goal.returns-then-swap_more-eq-IDLE-clause-chained
-returns-then-swap_more-eq-IDLE-clause-chained g c = let a = c.load_head-head.ensures in let b = c.load_tail-tail.ensures in let e = c.exchange_head-found.ensures in 
-    let r = found_room c.args.end.now.seat.me.0 c.load_head-head.new.seat.me.0 c.load_tail-tail.new.seat.me.0 c.load_head-head.result c.load_tail-tail.result a.found b.found c.if-head-ge-POSITIONS.false c.if-head-tail.false in 
+returns-then-swap_more-eq-IDLE-clause-chained g c = let a = c.load_head-head.ensures in let b = c.load_tail-tail.ensures in let e = c.exchange_head-found.ensures in
+    let r = found_room c.args.end.now.seat.me.0 c.load_head-head.new.seat.me.0 c.load_tail-tail.new.seat.me.0 c.load_head-head.result c.load_tail-tail.result a.found b.found c.if-head-ge-POSITIONS.false c.if-head-tail.false in
     let l = link c.args.end.now.seat.id _ _ _ _ _ _ _ _ (b.queue.0.1 ∙ a.queue.0.1) (e.queue.0.1 ∙ (b.queue.0.1 ∙ a.queue.0.1)) r (e.hit c.if-found-head.false) c.store_place.ensures.raised in
     let w = c.swap_more.ensures.won c.if-swap_more-eq-IDLE.true in let held = c.store_place.ensures.queue.1 ∙ (e.queue.1 ∙ (b.queue.1 ∙ a.queue.1)) in let id = c.store_place.ensures.queue.0.1 ∙ (e.queue.0.1 ∙ (b.queue.0.1 ∙ a.queue.0.1)) in
     (c.store_place.new.seat.me.0, l, won_as g.Q.Quaject.made_by (g.Q.Quaject.fits c.args.self.now.table.shared.key.world.value) _ _ _ _ _ _ id held w)
 
 pub returns-then-swap_more-eq-IDLE-clause-notes : goal.returns-then-swap_more-eq-IDLE-clause-notes
-returns-then-swap_more-eq-IDLE-clause-notes g c = let a = c.load_head-head.ensures in let b = c.load_tail-tail.ensures in let e = c.exchange_head-found.ensures in 
-    let r = found_room c.args.end.now.seat.me.0 c.load_head-head.new.seat.me.0 c.load_tail-tail.new.seat.me.0 c.load_head-head.result c.load_tail-tail.result a.found b.found c.if-head-ge-POSITIONS.false c.if-head-tail.false in 
+returns-then-swap_more-eq-IDLE-clause-notes g c = let a = c.load_head-head.ensures in let b = c.load_tail-tail.ensures in let e = c.exchange_head-found.ensures in
+    let r = found_room c.args.end.now.seat.me.0 c.load_head-head.new.seat.me.0 c.load_tail-tail.new.seat.me.0 c.load_head-head.result c.load_tail-tail.result a.found b.found c.if-head-ge-POSITIONS.false c.if-head-tail.false in
     let l = link c.args.end.now.seat.id _ _ _ _ _ _ _ _ (b.queue.0.1 ∙ a.queue.0.1) (e.queue.0.1 ∙ (b.queue.0.1 ∙ a.queue.0.1)) r (e.hit c.if-found-head.false) c.store_place.ensures.raised in
     let w = c.swap_more.ensures.won c.if-swap_more-eq-IDLE.true in put_on _ _ _ _ (linked_put _ _ _ _ l) (ap (λ (z : View). z.part.runs) w.same) (ap (λ (z : View). z.part.takes) w.same)
 
 pub returns-then-swap_more-eq-IDLE-clause-turn : goal.returns-then-swap_more-eq-IDLE-clause-turn
-returns-then-swap_more-eq-IDLE-clause-turn g c = let a = c.load_head-head.ensures in let b = c.load_tail-tail.ensures in let e = c.exchange_head-found.ensures in 
-    let r = found_room c.args.end.now.seat.me.0 c.load_head-head.new.seat.me.0 c.load_tail-tail.new.seat.me.0 c.load_head-head.result c.load_tail-tail.result a.found b.found c.if-head-ge-POSITIONS.false c.if-head-tail.false in 
+returns-then-swap_more-eq-IDLE-clause-turn g c = let a = c.load_head-head.ensures in let b = c.load_tail-tail.ensures in let e = c.exchange_head-found.ensures in
+    let r = found_room c.args.end.now.seat.me.0 c.load_head-head.new.seat.me.0 c.load_tail-tail.new.seat.me.0 c.load_head-head.result c.load_tail-tail.result a.found b.found c.if-head-ge-POSITIONS.false c.if-head-tail.false in
     let l = link c.args.end.now.seat.id _ _ _ _ _ _ _ _ (b.queue.0.1 ∙ a.queue.0.1) (e.queue.0.1 ∙ (b.queue.0.1 ∙ a.queue.0.1)) r (e.hit c.if-found-head.false) c.store_place.ensures.raised in
     let s = linked_stays _ _ _ _ l c.args.end.now.behind in let w = c.swap_more.ensures.won c.if-swap_more-eq-IDLE.true in λ _. (sym c.args.end.now.turned ∙ (sym s.runner ∙ w.had_none), refl)
 
 pub invariant_of-end-else-swap_more-eq-IDLE : goal.invariant_of-end-else-swap_more-eq-IDLE
-invariant_of-end-else-swap_more-eq-IDLE g c = let a = c.load_head-head.ensures in let b = c.load_tail-tail.ensures in let e = c.exchange_head-found.ensures in 
-    let r = found_room c.args.end.now.seat.me.0 c.load_head-head.new.seat.me.0 c.load_tail-tail.new.seat.me.0 c.load_head-head.result c.load_tail-tail.result a.found b.found c.if-head-ge-POSITIONS.false c.if-head-tail.false in 
+invariant_of-end-else-swap_more-eq-IDLE g c = let a = c.load_head-head.ensures in let b = c.load_tail-tail.ensures in let e = c.exchange_head-found.ensures in
+    let r = found_room c.args.end.now.seat.me.0 c.load_head-head.new.seat.me.0 c.load_tail-tail.new.seat.me.0 c.load_head-head.result c.load_tail-tail.result a.found b.found c.if-head-ge-POSITIONS.false c.if-head-tail.false in
     let l = link c.args.end.now.seat.id _ _ _ _ _ _ _ _ (b.queue.0.1 ∙ a.queue.0.1) (e.queue.0.1 ∙ (b.queue.0.1 ∙ a.queue.0.1)) r (e.hit c.if-found-head.false) c.store_place.ensures.raised in
     let s = linked_stays _ _ _ _ l c.args.end.now.behind in let w = (c.swap_more.ensures.told c.if-swap_more-eq-IDLE.false).1 in let t = stays_on _ _ _ s (stays_told _ _ _ _ s.behind w) in
     let f = ap (λ (z : View). z.part.queue) w.same in record {
@@ -102,8 +102,8 @@ invariant_of-end-else-swap_more-eq-IDLE g c = let a = c.load_head-head.ensures i
     }
 
 pub returns-clause-ends : goal.returns-clause-ends
-returns-clause-ends g c = let a = c.load_head-head.ensures in let b = c.load_tail-tail.ensures in let e = c.exchange_head-found.ensures in 
-    let r = found_room c.args.end.now.seat.me.0 c.load_head-head.new.seat.me.0 c.load_tail-tail.new.seat.me.0 c.load_head-head.result c.load_tail-tail.result a.found b.found c.if-head-ge-POSITIONS.false c.if-head-tail.false in 
+returns-clause-ends g c = let a = c.load_head-head.ensures in let b = c.load_tail-tail.ensures in let e = c.exchange_head-found.ensures in
+    let r = found_room c.args.end.now.seat.me.0 c.load_head-head.new.seat.me.0 c.load_tail-tail.new.seat.me.0 c.load_head-head.result c.load_tail-tail.result a.found b.found c.if-head-ge-POSITIONS.false c.if-head-tail.false in
     let l = link c.args.end.now.seat.id _ _ _ _ _ _ _ _ (b.queue.0.1 ∙ a.queue.0.1) (e.queue.0.1 ∙ (b.queue.0.1 ∙ a.queue.0.1)) r (e.hit c.if-found-head.false) c.store_place.ensures.raised in
     let s = linked_stays _ _ _ _ l c.args.end.now.behind in let w = c.swap_more.ensures.told c.if-swap_more-eq-IDLE.false in (
       search rules,
@@ -112,8 +112,8 @@ returns-clause-ends g c = let a = c.load_head-head.ensures in let b = c.load_tai
     )
 
 pub returns-clause-chained : goal.returns-clause-chained
-returns-clause-chained g c = let a = c.load_head-head.ensures in let b = c.load_tail-tail.ensures in let e = c.exchange_head-found.ensures in 
-    let r = found_room c.args.end.now.seat.me.0 c.load_head-head.new.seat.me.0 c.load_tail-tail.new.seat.me.0 c.load_head-head.result c.load_tail-tail.result a.found b.found c.if-head-ge-POSITIONS.false c.if-head-tail.false in 
+returns-clause-chained g c = let a = c.load_head-head.ensures in let b = c.load_tail-tail.ensures in let e = c.exchange_head-found.ensures in
+    let r = found_room c.args.end.now.seat.me.0 c.load_head-head.new.seat.me.0 c.load_tail-tail.new.seat.me.0 c.load_head-head.result c.load_tail-tail.result a.found b.found c.if-head-ge-POSITIONS.false c.if-head-tail.false in
     let l = link c.args.end.now.seat.id _ _ _ _ _ _ _ _ (b.queue.0.1 ∙ a.queue.0.1) (e.queue.0.1 ∙ (b.queue.0.1 ∙ a.queue.0.1)) r (e.hit c.if-found-head.false) c.store_place.ensures.raised in
     let w = c.swap_more.ensures.told c.if-swap_more-eq-IDLE.false in let id = c.store_place.ensures.queue.0.1 ∙ (e.queue.0.1 ∙ (b.queue.0.1 ∙ a.queue.0.1)) in let v = c.store_place.new.seat.me.0 in let x = c.swap_more.new.seat.me.0 in let n = c.swap_more.result in (
       v,
@@ -124,7 +124,7 @@ returns-clause-chained g c = let a = c.load_head-head.ensures in let b = c.load_
     )
 
 pub returns-clause-notes : goal.returns-clause-notes
-returns-clause-notes g c = let a = c.load_head-head.ensures in let b = c.load_tail-tail.ensures in let e = c.exchange_head-found.ensures in 
-    let r = found_room c.args.end.now.seat.me.0 c.load_head-head.new.seat.me.0 c.load_tail-tail.new.seat.me.0 c.load_head-head.result c.load_tail-tail.result a.found b.found c.if-head-ge-POSITIONS.false c.if-head-tail.false in 
+returns-clause-notes g c = let a = c.load_head-head.ensures in let b = c.load_tail-tail.ensures in let e = c.exchange_head-found.ensures in
+    let r = found_room c.args.end.now.seat.me.0 c.load_head-head.new.seat.me.0 c.load_tail-tail.new.seat.me.0 c.load_head-head.result c.load_tail-tail.result a.found b.found c.if-head-ge-POSITIONS.false c.if-head-tail.false in
     let l = link c.args.end.now.seat.id _ _ _ _ _ _ _ _ (b.queue.0.1 ∙ a.queue.0.1) (e.queue.0.1 ∙ (b.queue.0.1 ∙ a.queue.0.1)) r (e.hit c.if-found-head.false) c.store_place.ensures.raised in
     let w = c.swap_more.ensures.told c.if-swap_more-eq-IDLE.false in put_on _ _ _ _ (linked_put _ _ _ _ l) (ap (λ (z : View). z.part.runs) w.1.same) (ap (λ (z : View). z.part.takes) w.1.same)

@@ -4,6 +4,8 @@
 
 mod between;
 mod chaining;
+#[cfg(test)]
+mod client_tests;
 mod close;
 mod ends;
 mod plays;

@@ -1,0 +1,135 @@
+//! A client as a kernel has it: a quaject that moves lines between two claim queues of its world.
+ghost use Rattle.std.specs.Prelude.{◌≡◌, ◌%◌, ◌^◌, ◌≤◌, length, true, false};
+ghost use Rattle.claim_queue.specs.Handles as queues;
+ghost use Rattle.proc_chain.specs.Handles.{turn_of, world_of, IsEndOf};
+
+use super::*;
+use arrayvec::ArrayVec;
+use claim_queue::{ClaimQueue, QueueEnd};
+use std::process::Abort;
+use std::test::*;
+
+type Queue = ClaimQueue<8>;
+
+/// The two queues that lines are moved between.
+#[derive(Drop)]
+struct Pair {
+    from: Queue,
+    to: Queue,
+}
+
+/// Moves one line for each note. A line that finds no room is held, and goes first at the next note.
+#[derive(Drop)]
+struct Mover {
+    source: QueueEnd<8>,
+    target: QueueEnd<8>,
+    held: ArrayVec<u64, 8>,
+    notes: u64,
+}
+
+impl Quaject for Mover {
+    type World = Pair;
+
+    ghost made_by = { λ mover notes. mover.notes ≡ length notes % 2 ^ 64 };
+
+    ghost fits = { λ pair mover. queues.IsEndOf pair.from mover.source × queues.IsEndOf pair.to mover.target };
+
+    fn run(&mut self, world: &Pair, _note: u16) -> Ran {
+        self.notes = self.notes.wrapping_add(1);
+        if self.held.is_empty() {
+            if world
+                .from
+                .try_take_line(&mut self.source, &mut self.held)
+                .is_err()
+            {
+                return Ran::Nothing;
+            }
+        }
+        if world
+            .to
+            .try_put(&mut self.target, self.held.as_slice())
+            .is_err()
+        {
+            return Ran::Nothing;
+        }
+        self.held.clear();
+        Ran::Worked
+    }
+}
+
+type Chain = ProcChain<Mover>;
+
+type End = ChainEnd<Mover>;
+
+/// Chains the note, and serves where it got the Turn.
+fn chain_one<R: Abort>(rt: &R, chain: &Chain, end: &mut End, pair: &Pair, note: u16) -> u32
+    requires { IsEndOf chain.now end.old × (turn_of end.old ≡ false) × (world_of chain.now ≡ pair.now) }
+    ensures { IsEndOf chain.now end.new × (turn_of end.new ≡ false) }
+{
+    let turn = match chain.try_chain(end, note) {
+        Ok(Chained::Run(turn)) => turn,
+        Ok(Chained::Left) => panic!(rt; "left"),
+        Err(_) => panic!(rt; "refused"),
+    };
+    match chain.serve(end, pair, turn, 8) {
+        Served::Done { ran } => ran,
+        Served::More { turn, ran: _ } => {
+            let Turn(()) = turn;
+            panic!(rt; "more")
+        }
+    }
+}
+
+/// Two lines are put, three notes chained, and the queues closed with the ends that come back.
+#[test]
+fn moved_lines(rt: HostRuntime) -> Result<(), Fail> {
+    let Ok((from, mut producer)) = Queue::new(rt.alloc(), 0) else {
+        panic!(rt; "no memory")
+    };
+    let Ok((to, mut consumer)) = Queue::new(rt.alloc(), 5) else {
+        panic!(rt; "no memory")
+    };
+    let source = from.split(&mut producer);
+    let target = to.split(&mut consumer);
+    let pair = Pair { from, to };
+    let mover = Mover {
+        source,
+        target,
+        held: ArrayVec::new(),
+        notes: 0,
+    };
+    let Ok((chain, mut end)) = Chain::new(rt.alloc(), 0, mover, &pair) else {
+        panic!(rt; "no memory")
+    };
+    assert!(rt; pair.from.try_put(&mut producer, &[104, 105, 10]).is_ok());
+    assert!(rt; pair.from.try_put(&mut producer, &[10]).is_ok());
+    for note in 0..3u16 {
+        assert_eq!(rt; chain_one(&rt, &chain, &mut end, &pair, note), 1);
+    }
+    let Ok(closed) = chain.close(end) else {
+        panic!(rt; "close")
+    };
+    assert_eq!(rt; (closed.put, closed.taken, closed.left.len()), (3, 3, 0));
+    let Mover {
+        source,
+        target,
+        held: _,
+        notes,
+    } = closed.quaject;
+    assert_eq!(rt; notes, 3);
+    let Pair { from, to } = pair;
+    from.join(&mut producer, source);
+    to.join(&mut consumer, target);
+    let mut line = ArrayVec::new();
+    assert_eq!(rt; to.try_take_line(&mut consumer, &mut line), Ok(3));
+    assert_eq!(rt; line.as_slice(), [104, 105, 10].as_slice());
+    let (Ok(emptied), Ok(moved)) = (from.close(producer), to.close(consumer)) else {
+        panic!(rt; "close")
+    };
+    assert_eq!(rt; (emptied.put, emptied.taken, emptied.left.len()), (4, 4, 0));
+    assert_eq!(rt;
+        (moved.put, moved.taken, moved.left.as_slice()),
+        (4, 3, [Some(10)].as_slice())
+    );
+    Ok(())
+}

@@ -8,4 +8,6 @@ all:
 
 test:
 	tools/refused-memory
+	tools/refused-memory-tests
+	tools/test-launcher
 	rt ci

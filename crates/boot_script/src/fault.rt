@@ -2,8 +2,7 @@
 //!
 //! The refusals are those of both kinds of scripts, so a list of events never meets some of them.
 
-ghost use Rattle.std.specs.Prelude.{◌≡◌, Some};
-ghost use Rattle.boot_script.specs.RefusalNames.{script_refusal_number};
+ghost use Rattle.std.specs.Prelude.{Some};
 
 use std::error::Error as StdError;
 use std::fmt;
@@ -45,15 +44,6 @@ pub struct ScriptFault {
     pub refusal: ScriptRefusal,
 }
 
-impl ScriptRefusal {
-    /// The refusal's number.
-    pub fn number(self) -> u8
-        ensures { result ≡ script_refusal_number self }
-    {
-        self as u8
-    }
-}
-
 impl fmt::Display for ScriptRefusal {
     ghost use Rattle.boot_script.specs.RefusalNames.{script_refusal_name};
 
@@ -84,7 +74,7 @@ impl fmt::Display for ScriptFault {
 
     fn fmt<W: fmt::Write>(&self, f: &mut fmt::Formatter<W>) -> fmt::Result {
         let line = self.line;
-        let number = self.refusal.number();
+        let number = self.refusal as u8;
         let refusal = self.refusal;
         write!(f, "line {line}: {number} {refusal}")
     }

@@ -11,19 +11,23 @@ ghost use Rattle.boot_script.specs.Spellings.{spelling, Fits, SpellsText};
 
 /// A line that says an event is that event's one spelling, and the event is in its ranges.
 pub fn one_spelling()
-    ensures { (version : Version) (line : List ℕ) (event : Event) → line_event version line ≡ Ok event → Fits version event × (line ≡ spelling event) }
+    ensures { (version : Version) (line : List ℕ) (event : Event) → line_event version line ≡ Ok event
+        → Fits version event × (line ≡ spelling event) }
 {}
 
 /// The spelling of an event that is in its ranges says that event.
 pub fn read_again()
-    ensures { (version : Version) (event : Event) → Fits version event → line_event version (spelling event) ≡ Ok event }
+    ensures { (version : Version) (event : Event) → Fits version event
+        → line_event version (spelling event) ≡ Ok event }
 {}
 
 /// A text says these events exactly where it is the first line of a version, and then lines each of which is silent or
 /// the spelling of the next event.
 pub fn whole_text()
-    ensures spelled { (text : List ℕ) (elements : ℕ) (events : List (ℕ × Event)) → text_events text ≡ Ok (elements, events) → SpellsText text elements events }
-    ensures read { (text : List ℕ) (elements : ℕ) (events : List (ℕ × Event)) → SpellsText text elements events → text_events text ≡ Ok (elements, events) }
+    ensures spelled { (text : List ℕ) (elements : ℕ) (events : List (ℕ × Event))
+        → text_events text ≡ Ok (elements, events) → SpellsText text elements events }
+    ensures read { (text : List ℕ) (elements : ℕ) (events : List (ℕ × Event)) → SpellsText text elements events
+        → text_events text ≡ Ok (elements, events) }
 {}
 
 /// No text is at fault by want of memory, so a reader that answers it has found no fault.

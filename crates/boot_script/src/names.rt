@@ -3,7 +3,8 @@
 //! Only the form and the range of a name are tested here. Whether there is such a queue is the core's to say.
 
 ghost use Rattle.std.specs.Prelude.{◌≡◌, ◌≤◌, IfOk, IfErr};
-ghost use Rattle.boot_script.specs.Names.{numbered_name, call_of, processor_of, element_of, gauge_of, signal_of, slot_of, byte_queue_of, chain_of, wait_of, queue_of, listener_of};
+ghost use Rattle.boot_script.specs.Names.{numbered_name, call_of, processor_of, element_of, gauge_of, signal_of};
+ghost use Rattle.boot_script.specs.Names.{slot_of, byte_queue_of, chain_of, wait_of, queue_of, listener_of};
 
 use crate::fault::ScriptRefusal;
 use crate::text::number;

@@ -1,11 +1,16 @@
 //! What is printed of a core: its status, and the event that it refused. Nothing here takes memory.
 //!
-//! Things that are as they were at first have no line, but for queues and chains.
+//! Things that are as they were at first have no line, but for queues and chains. Both go out as one text, for which
+//! the longest status of a core has room, so that who reads a pipe sees whole lines.
 
 ghost use Rattle.std.specs.Prelude.{◌≡◌, ◌<◌, OnOk};
 ghost use Rattle.std.specs.Io.KnownBytes.{Appends};
-ghost use Rattle.boot_script.specs.Printed.{word_if, numbered_lines, queue_line, gate_word, chain_line, place_words, hex_digit, hex_digits, is_first_state, element_words, element_line, gauge_line, clock_line, alarm_line, notified_line, status_text, refused_text};
+ghost use Rattle.boot_script.specs.Printed.{word_if, numbered_lines, queue_line, gate_word, chain_line, place_words};
+ghost use Rattle.boot_script.specs.Printed.{hex_digit, hex_digits, is_first_state, element_words, element_line};
+ghost use Rattle.boot_script.specs.Printed.{gauge_line, clock_line, alarm_line, notified_line, status_text};
+ghost use Rattle.boot_script.specs.Printed.{refused_text};
 
+use crate::page::Page;
 use quaject_core::{
     AlarmStatus, ChainStatus, ElementStatus, Gate, Place, QueueStatus, Refusal, Status,
 };
@@ -157,7 +162,8 @@ fn print_element<W: Write>(number: usize, element: &ElementStatus, out: &mut W) 
 
 /// The lines of the elements that aren't as they were at first.
 fn print_elements<W: Write>(elements: &[ElementStatus], out: &mut W) -> io::Result<()>
-    ensures { OnOk result (Appends (W.contents out.old) (W.contents out.new) (numbered_lines element_line 0 elements.now)) }
+    ensures { OnOk result (Appends (W.contents out.old) (W.contents out.new)
+        (numbered_lines element_line 0 elements.now)) }
 {
     for (number, element) in elements.iter().enumerate() {
         if !is_untouched(element) {
@@ -226,7 +232,8 @@ fn print_notified<W: Write>(number: usize, count: u32, out: &mut W) -> io::Resul
 
 /// The lines of the wait queues that had a notify.
 fn print_notifies<W: Write>(counts: &[u32], out: &mut W) -> io::Result<()>
-    ensures { OnOk result (Appends (W.contents out.old) (W.contents out.new) (numbered_lines notified_line 0 counts.now)) }
+    ensures { OnOk result (Appends (W.contents out.old) (W.contents out.new)
+        (numbered_lines notified_line 0 counts.now)) }
 {
     for (number, count) in counts.iter().enumerate() {
         print_notified(number, *count, out)?;
@@ -234,12 +241,9 @@ fn print_notifies<W: Write>(counts: &[u32], out: &mut W) -> io::Result<()>
     Ok(())
 }
 
-/// Prints the status of a core: how many events were allowed, a line for each queue and chain, and one for each element,
-/// gauge, clock and wait queue that isn't as it was at first. Takes no memory.
-///
-/// After a fault of the writer a front of the text may be written.
+/// The lines of a status.
 #[tactic(auto, unfolding(crate::specs::Printed::status_text))]
-pub fn print_status<W: Write>(status: &Status, out: &mut W) -> io::Result<()>
+fn print_lines<W: Write>(status: &Status, out: &mut W) -> io::Result<()>
     ensures { OnOk result (Appends (W.contents out.old) (W.contents out.new) (status_text status.now)) }
 {
     let events = status.events;
@@ -253,13 +257,39 @@ pub fn print_status<W: Write>(status: &Status, out: &mut W) -> io::Result<()>
     print_notifies(status.notified.as_slice(), out)
 }
 
-/// Prints the line of an event that was refused: its line in the script, and the refusal's number and name.
+/// Prints the status of a core: how many events were allowed, a line for each queue and chain, and one for each
+/// element, gauge, clock and wait queue that isn't as it was at first. Takes no memory.
 ///
-/// Takes no memory. After a fault of the writer a front of the line may be written.
+/// It is one text for the writer, up to 8,192 bytes; none that a core has is longer. After a fault of the writer a
+/// front of the text may be written.
+pub fn print_status<W: Write>(status: &Status, out: &mut W) -> io::Result<()>
+    ensures { OnOk result (Appends (W.contents out.old) (W.contents out.new) (status_text status.now)) }
+{
+    let mut page = Page::new();
+    match print_lines(status, &mut page) {
+        Ok(()) => out.write_all(page.text()),
+        Err(_) => print_lines(status, out),
+    }
+}
+
+/// The line of an event that was refused.
 #[tactic(auto, unfolding(crate::specs::Printed::refused_text))]
-pub fn print_refused<W: Write>(line: u32, refusal: Refusal, out: &mut W) -> io::Result<()>
+fn print_refusal<W: Write>(line: u32, refusal: Refusal, out: &mut W) -> io::Result<()>
     ensures { OnOk result (Appends (W.contents out.old) (W.contents out.new) (refused_text line refusal)) }
 {
     let number = refusal as u8;
     writeln!(out, "refused {line} {number} {refusal}")
+}
+
+/// Prints the line of an event that was refused: its line in the script, and the refusal's number and name.
+///
+/// Takes no memory. The line is one text for the writer. After a fault of the writer a front of it may be written.
+pub fn print_refused<W: Write>(line: u32, refusal: Refusal, out: &mut W) -> io::Result<()>
+    ensures { OnOk result (Appends (W.contents out.old) (W.contents out.new) (refused_text line refusal)) }
+{
+    let mut page = Page::new();
+    match print_refusal(line, refusal, &mut page) {
+        Ok(()) => out.write_all(page.text()),
+        Err(_) => print_refusal(line, refusal, out),
+    }
 }

@@ -24,7 +24,8 @@ const MOST_READS: u32 = 131_072;
 /// Takes no memory, so that a fault of the text is told where memory is wanting. Interrupted reads count.
 fn read_script<R: Read>(reader: &mut R, buffer: &mut [u8]) -> Result<usize, ReplayFault>
     requires { length buffer.old ≡ 65537 }
-    ensures said { IfOk result (λ n. IfSome (R.remaining reader.old) (λ bytes. text_events bytes ≡ text_events (take n buffer.new))) }
+    ensures said { IfOk result (λ n. IfSome (R.remaining reader.old) (λ bytes. text_events bytes ≡ text_events
+        (take n buffer.new))) }
     ensures within { IfOk result (λ n. n ≤ 65537) }
     ensures fault { IfErr result (λ fault. fault ≡ ReplayFault.Read) }
 {
@@ -98,9 +99,11 @@ fn print_replay<W: Write>(replayed: Replayed, status: &Status, writer: &mut W) -
 
 /// Runs the list of events that a text says on a fresh core, and prints the core's status.
 fn run_text<W: Write>(alloc: Global, text: &[u8], writer: &mut W) -> Result<Replayed, ReplayFault>
-    ensures ok { IfOk result (λ replayed. IsReplay (text_events text.now) replayed (W.contents writer.old) (W.contents writer.new)) }
+    ensures ok { IfOk result (λ replayed. IsReplay (text_events text.now) replayed (W.contents writer.old)
+        (W.contents writer.new)) }
     ensures fault { IfErr result (λ fault. IsReplayFault (text_events text.now) fault) }
-    ensures unwritten { IfErr result (λ fault. fault ≢ ReplayFault.Write → Keeps (W.contents writer.old) (W.contents writer.new)) }
+    ensures unwritten { IfErr result (λ fault. fault ≢ ReplayFault.Write
+        → Keeps (W.contents writer.old) (W.contents writer.new)) }
 {
     match parse_events(alloc, text) {
         Ok((elements, events)) => {
@@ -127,9 +130,12 @@ pub fn replay_on<R: Read, W: Write>(
     reader: &mut R,
     writer: &mut W,
 ) -> Result<Replayed, ReplayFault>
-    ensures ok { IfOk result (λ replayed. IfSome (R.remaining reader.old) (λ bytes. IsReplay (text_events bytes) replayed (W.contents writer.old) (W.contents writer.new))) }
-    ensures fault { IfErr result (λ fault. IfSome (R.remaining reader.old) (λ bytes. IsReplayFault (text_events bytes) fault)) }
-    ensures unwritten { IfErr result (λ fault. fault ≢ ReplayFault.Write → Keeps (W.contents writer.old) (W.contents writer.new)) }
+    ensures ok { IfOk result (λ replayed. IfSome (R.remaining reader.old) (λ bytes. IsReplay
+        (text_events bytes) replayed (W.contents writer.old) (W.contents writer.new))) }
+    ensures fault { IfErr result (λ fault. IfSome (R.remaining reader.old) (λ bytes. IsReplayFault
+        (text_events bytes) fault)) }
+    ensures unwritten { IfErr result (λ fault. fault ≢ ReplayFault.Write
+        → Keeps (W.contents writer.old) (W.contents writer.new)) }
 {
     let mut buffer = [0u8; MOST_BYTES + 1];
     let filled = read_script(reader, &mut buffer)?;
@@ -142,8 +148,10 @@ pub fn replay<R: Read + Drop, W: Write + Drop>(
     mut reader: R,
     mut writer: W,
 ) -> Result<Replayed, ReplayFault>
-    ensures ok { IfOk result (λ replayed. IfSome (R.remaining reader) (λ bytes. IsAnswer (text_events bytes) replayed)) }
-    ensures fault { IfErr result (λ fault. IfSome (R.remaining reader) (λ bytes. IsReplayFault (text_events bytes) fault)) }
+    ensures ok { IfOk result (λ replayed. IfSome (R.remaining reader) (λ bytes. IsAnswer
+        (text_events bytes) replayed)) }
+    ensures fault { IfErr result (λ fault. IfSome (R.remaining reader) (λ bytes. IsReplayFault
+        (text_events bytes) fault)) }
 {
     replay_on(alloc, &mut reader, &mut writer)
 }

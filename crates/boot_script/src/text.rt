@@ -2,7 +2,8 @@
 //!
 //! A line ends with 0x0A, words are parted by one space, and a number is the word that prints as its own value.
 
-ghost use Rattle.std.specs.Prelude.{◌≡◌, ◌∷◌, ◌<◌, ◌↔◌, ◌==◌, IsTrue, [], position, ◌≤◌, IfOk, IfErr, length, IfSome, IfNone};
+ghost use Rattle.std.specs.Prelude.{◌≡◌, ◌∷◌, ◌<◌, ◌↔◌, ◌==◌, IsTrue, [], position, ◌≤◌, IfOk, IfErr, length, IfSome};
+ghost use Rattle.std.specs.Prelude.{IfNone};
 ghost use Rattle.std.specs.Option.{option_copied};
 ghost use Rattle.boot_script.specs.Words.{pieces, pieces_left, first_word, later_words, words_of, number_of, lines_of};
 

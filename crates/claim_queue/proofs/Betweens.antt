@@ -8,13 +8,14 @@ use native.Mathlib.Decide.{dec_le}
 use Rattle.table_theory.specs.declared.queues.Cell.{Cell}
 use Rattle.table_theory.specs.declared.queues.Batch.{Batch}
 use Rattle.table_theory.specs.declared.queues.Positions.{Positions}
+use Rattle.atomic_table.proofs.Lists.{at_map}
 use Rattle.quaject_core.specs.Runs.{flat, pairs}
 use Rattle.quaject_core.specs.Queues.{is_raised}
 use Rattle.table_theory.specs.Positioned.{blank, item_of, place_at, item_at}
 use Rattle.table_theory.specs.Filing.{Owned, ListedOnce}
 use Rattle.table_theory.specs.Listing.{all_places, runs_of, takes_of, Chained}
 use Rattle.table_theory.specs.QueueOf.{run_in, is_up, queue_of}
-use Rattle.quaject_core.proofs.Histories.{length-pairs_from}
+use Rattle.quaject_core.proofs.Lists.Histories.{length-pairs_from}
 use Rattle.table_theory.proofs.QueueOf.{flat_of, up_of, long_is, is_lawful_queue}
 use Rattle.table_theory.proofs.QueueEvents.{history_of}
 use Rattle.claim_queue.specs.declared.rule.Shape.{Shape}
@@ -53,8 +54,14 @@ place_is key s k i from below = let q : Positions = k.queue in let l = k.listed 
 
 pub shows_queue : (key : Shape) (s : St) → Rule key s → ShowsQueue key s
 shows_queue key s k = let q : Positions = k.queue in let l = k.listed in let n = long_is q l.runs l.runs_flat in let h = k.shows in let first = k.first in let room = k.room in record {
+  now = q;
   queue = queue_of q l.runs;
-  counted = k.counted;
+  same = refl;
+  first = k.first;
+  history = history_of q (map part_of s.views) l;
+  seen = λ j v at. k.listed.seen j v.part (at_map part_of s.views j v at);
+  course = k.course;
+  ends = k.ends;
   shut_once = k.shut_once;
   lawful = is_lawful_queue q l.runs k.lawful (history_of q (map part_of s.views) l);
   shown = record {

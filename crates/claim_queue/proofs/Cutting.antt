@@ -10,12 +10,12 @@ use Rattle.table_theory.specs.declared.queues.Cell.{Cell}
 use Rattle.table_theory.specs.declared.queues.Batch.{Batch}
 use Rattle.table_theory.specs.declared.queues.Positions.{Positions}
 use Rattle.table_theory.specs.Positioned.{blank, item_of, left_of}
-use Rattle.table_theory.specs.Filing.{Owned, ListedOnce}
+use Rattle.table_theory.specs.Filing.{Owned, entry_of, ListedOnce}
 use Rattle.table_theory.specs.Listing.{all_places, ViewsShow, AllRaised}
 use Rattle.table_theory.proofs.Owned.{told, file_map}
 use Rattle.claim_queue.specs.declared.rule.View.{View}
 use Rattle.claim_queue.specs.Closings.{shown}
-use Rattle.claim_queue.specs.Lines.{line_of, lines_put, lines_taken, entry_of, IsCut, IsSettled}
+use Rattle.claim_queue.specs.Lines.{line_of, lines_put, lines_taken, IsCut, IsSettled}
 
 flat_lines : (log : List (Owned Batch)) → concat (map entry_of (map (told line_of) log)) ≡ map item_of (all_places log)
 flat_lines [] = refl

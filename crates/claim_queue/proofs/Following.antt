@@ -19,8 +19,8 @@ same_runs v w i r f = ap (λ (z : View). z.part.runs) f.same
 pub same_takes : (v w : View) (i r : ℕ) → Found v i r w → w.part.takes ≡ v.part.takes
 same_takes v w i r f = ap (λ (z : View). z.part.takes) f.same
 
-pub same_share : (v w : View) (i r : ℕ) → Found v i r w → w.share ≡ v.share
-same_share v w i r f = ap (λ (z : View). z.share) f.same
+pub same_share : (v w : View) (i r : ℕ) → Found v i r w → w.member.share ≡ v.member.share
+same_share v w i r f = ap (λ (z : View). z.member.share) f.same
 
 -- a head that was found without the mark is that of an open queue
 pub found_open : (v w : View) (head : ℕ) → Found v 0 head w → head < 4294967296 → w.part.queue.shut ≡ false

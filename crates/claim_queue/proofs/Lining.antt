@@ -23,7 +23,7 @@ use Rattle.claim_queue.proofs.Raising.{room_runs, room_takes, room_share, refuse
 use Rattle.claim_queue.proofs.Staying.{Stays, stays_on, stays_found, stays_scanned, stays_stopped}
 
 -- where runs and takings stay, so do the lines
-pub lines_same : (v w : View) → w.part.runs ≡ v.part.runs → w.part.takes ≡ v.part.takes → w.share ≡ v.share → SameLines v w
+pub lines_same : (v w : View) → w.part.runs ≡ v.part.runs → w.part.takes ≡ v.part.takes → w.member.share ≡ v.member.share → SameLines v w
 lines_same v w runs takes share = record { puts = ap (map line_of) runs; takes = ap (map line_of) takes; share = share }
 
 pub lines_stay : (v w : View) → Stays v w → SameLines v w
@@ -41,7 +41,7 @@ claimed_line room call v w start items h = let u = h.before in let c = h.claimed
   puts = ap lines_put c.same ∙ map-append line_of u.part.runs (run start items ∷ [])
       ∙ (λ k. map line_of (room_runs room v (length items) start u f k) ++ fresh_items items k ∷ []);
   takes = ap lines_taken c.same ∙ ap (map line_of) (room_takes room v (length items) start u f);
-  share = ap (λ (z : View). z.share) c.same ∙ room_share room v (length items) start u f;
+  share = ap (λ (z : View). z.member.share) c.same ∙ room_share room v (length items) start u f;
 }
 
 same_lines_set : (l : List Batch) (m i n : ℕ) (e : Batch) → get_elem? l m ≡ some e → map line_of (set l m (written_to e i n)) ≡ map line_of l
@@ -50,13 +50,13 @@ same_lines_set (x ∷ xs) zero i n e h = ap (λ (z : List ℕ). z ∷ map line_o
 same_lines_set (x ∷ xs) (suc m) i n e h = ap (λ (z : List (List ℕ)). line_of x ∷ z) (same_lines_set xs m i n e h)
 
 pub wrote_lines : (call : ℕ) (v w : View) (m i n u x : ℕ) → Wrote call v m i n u x w → SameLines v w
-wrote_lines call v w m i n u x h = record { puts = ap lines_put h.same ∙ same_lines_set v.part.runs m i n h.run h.has; takes = ap lines_taken h.same; share = ap (λ (z : View). z.share) h.same }
+wrote_lines call v w m i n u x h = record { puts = ap lines_put h.same ∙ same_lines_set v.part.runs m i n h.run h.has; takes = ap lines_taken h.same; share = ap (λ (z : View). z.member.share) h.same }
 
 pub raised_lines : (room call : ℕ) (v w : View) (start i item : ℕ) → Raised room call v start i item w → SameLines v w
 raised_lines room call v w start i item h = same_on v h.between w (wrote_lines call v h.between _ i 1 _ _ h.stored) (wrote_lines call h.between w _ i 2 _ _ h.raised)
 
 pub raised_from_lines : (room call start : ℕ) (items : List ℕ) (v w : View) (n : ℕ) → RaisedFrom room call start items v w n → SameLines v w
-raised_from_lines room call start items v w zero h = record { puts = ap lines_put h; takes = ap lines_taken h; share = ap (λ (z : View). z.share) h }
+raised_from_lines room call start items v w zero h = record { puts = ap lines_put h; takes = ap lines_taken h; share = ap (λ (z : View). z.member.share) h }
 raised_from_lines room call start items v w (suc n) h = let u = h.0 in
     same_on v u w (raised_from_lines room call start items v u n h.1) (raised_lines room call u w start n (get_or items n 0) h.2)
 
@@ -70,7 +70,7 @@ put_lines room call v w items (Ok start) h = put_line room call v w start items 
 put_lines room call v w items (Err e) h = refused_lines room (length items) v w e h
 
 tries_lines : (room n : ℕ) (v w : View) (lost : List ℕ) → Tries room v n lost w → SameLines v w
-tries_lines room n v w [] t = record { puts = ap lines_put t; takes = ap lines_taken t; share = ap (λ (z : View). z.share) t }
+tries_lines room n v w [] t = record { puts = ap lines_put t; takes = ap lines_taken t; share = ap (λ (z : View). z.member.share) t }
 tries_lines room n v w (x ∷ xs) t = let l = t.1 in let f = l.found in
     same_on v t.0 w (lines_same v t.0 (same_runs l.before t.0 0 x l.missed ∙ room_runs room v n l.first l.before f) (same_takes l.before t.0 0 x l.missed ∙ room_takes room v n l.first l.before f) (same_share l.before t.0 0 x l.missed ∙ room_share room v n l.first l.before f)) (tries_lines room n t.0 w xs t.2)
 
@@ -94,7 +94,7 @@ took_line room call v w items t = let q = t.taken.queue in let k = stays_on v t.
     puts = ap lines_put t.taken.same ∙ ap (map line_of) k.runs;
     takes = ap lines_taken t.taken.same ∙ map-append line_of t.before.part.takes (taking q (length items) ∷ [])
         ∙ (λ i. map line_of (k.takes i) ++ t.first_left i ∷ []);
-    share = ap (λ (z : View). z.share) t.taken.same ∙ k.share;
+    share = ap (λ (z : View). z.member.share) t.taken.same ∙ k.share;
   },
   ap (λ (z : View). z.part.runs) t.taken.same ∙ k.runs,
 )

@@ -92,8 +92,8 @@ own_after call u v w start r a x b y xs own below one two = let e : Batch = run_
 pub room_after : (call : ℕ) (v w : View) (m i n u x : ℕ) → Wrote call v m i n u x w → w.part.queue.room ≡ v.part.queue.room
 room_after call v w m i n u x h = ap (λ (z : View). z.part.queue.room) h.same ∙ h.sees.later.0.room
 
-pub ends_after : (call : ℕ) (v w : View) (m i n u x : ℕ) → Wrote call v m i n u x w → w.ends ≡ v.ends
-ends_after call v w m i n u x h = ap (λ (z : View). z.ends) h.same
+pub ends_after : (call : ℕ) (v w : View) (m i n u x : ℕ) → Wrote call v m i n u x w → w.member.ends ≡ v.member.ends
+ends_after call v w m i n u x h = ap (λ (z : View). z.member.ends) h.same
 
 -- a claim that was just made is the end's own
 pub owns_claimed : (call : ℕ) (v w : View) (head : ℕ) (xs ys : List ℕ) → Claimed call v head xs w → ys ≡ xs → Owns w head ys 0
@@ -156,12 +156,12 @@ claims_claimed room call v w head items h = let u : View = h.before in let c = h
 pub room_takes : (room : ℕ) (v : View) (n head : ℕ) (w : View) → FoundRoom room v n head w → w.part.takes ≡ v.part.takes
 room_takes room v n head w f = same_takes f.loaded w 1 f.tail f.tail_loaded ∙ same_takes v f.loaded 0 head f.head_loaded
 
-pub room_share : (room : ℕ) (v : View) (n head : ℕ) (w : View) → FoundRoom room v n head w → w.share ≡ v.share
+pub room_share : (room : ℕ) (v : View) (n head : ℕ) (w : View) → FoundRoom room v n head w → w.member.share ≡ v.member.share
 room_share room v n head w f = same_share f.loaded w 1 f.tail f.tail_loaded ∙ same_share v f.loaded 0 head f.head_loaded
 
-pub refused_share : (room n : ℕ) (v w : View) (r : ClaimRefusal) → Refused room v n r w → w.share ≡ v.share
-refused_share room n v w NoItems h = ap (λ (z : View). z.share) h.1
-refused_share room n v w TooLong h = ap (λ (z : View). z.share) h.1
+pub refused_share : (room n : ℕ) (v w : View) (r : ClaimRefusal) → Refused room v n r w → w.member.share ≡ v.member.share
+refused_share room n v w NoItems h = ap (λ (z : View). z.member.share) h.1
+refused_share room n v w TooLong h = ap (λ (z : View). z.member.share) h.1
 refused_share room n v w Closed h = ⊎_elim (λ f. same_share v w 0 f.head f.loaded) (λ f. same_share f.before w 0 f.head f.missed ∙ room_share room v n f.first f.before f.found) h.1
 refused_share room n v w Spent h = let f = h.1 in same_share v w 0 f.head f.loaded
 refused_share room n v w (Full head tail) h = let f = h.1 in same_share f.loaded w 1 tail f.tail_loaded ∙ same_share v f.loaded 0 head f.head_loaded

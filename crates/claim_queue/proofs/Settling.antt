@@ -11,6 +11,7 @@ use Rattle.table_theory.specs.declared.queues.Positions.{Positions}
 use Rattle.table_theory.specs.Positioned.{blank, place_at, item_at, written_at, head_of}
 use Rattle.claim_queue.specs.Shown.{mark, WordsShow}
 use Rattle.table_theory.specs.declared.queues.QueueView.{QueueView}
+use Rattle.table_theory.specs.declared.views.Member.{Member}
 use Rattle.table_theory.specs.Listing.{ViewsShow}
 use Rattle.atomic_table.proofs.Lists.{at_map}
 use Rattle.table_theory.proofs.Owned.{at_map_back}
@@ -18,14 +19,14 @@ use Rattle.table_theory.proofs.Listing.{listed_sole}
 use Rattle.table_theory.specs.Positioned.{Grows}
 use Rattle.table_theory.specs.Sharing.{IsWhole}
 use Rattle.table_theory.proofs.Totals.{sole_total}
-use Rattle.table_theory.proofs.Counting.{others_idle}
+use Rattle.table_theory.proofs.Members.{rest_idle}
 use Rattle.table_theory.proofs.Listing.{listed_look}
 use Rattle.table_theory.proofs.Seeing.{later_on}
 use Rattle.claim_queue.proofs.Cutting.{settled, all_left}
 use Rattle.atomic_table.specs.Table.{Final, Seen}
 use Rattle.claim_queue.specs.declared.rule.Shape.{Shape}
 use Rattle.claim_queue.specs.declared.rule.View.{View}
-use Rattle.claim_queue.specs.Rules.{part_of, ends_of, share_of, shuts_of, times_shut, IsIdle, Rule}
+use Rattle.claim_queue.specs.Rules.{part_of, member_of, shuts_of, times_shut, IsIdle, Rule}
 use Rattle.claim_queue.specs.Steps.{Tallied}
 use Rattle.claim_queue.specs.Closings.{WereOpen, left_at, left_from, shown, ClosedNow}
 use Rattle.claim_queue.proofs.Looks.{St}
@@ -75,25 +76,25 @@ low_of n h true small is = omega arith
 low_of n h false small is = omega arith
 
 -- an end with the whole lists the queue alone
-sole : (key : Shape) (s : St) (k : Rule key s) (id : ℕ) (w : View) → get_elem? s.views id ≡ maybe.some w → IsWhole w.share → ViewsShow k.queue (w.part ∷ [])
+sole : (key : Shape) (s : St) (k : Rule key s) (id : ℕ) (w : View) → get_elem? s.views id ≡ maybe.some w → IsWhole w.member.share → ViewsShow k.queue (w.part ∷ [])
 sole key s k id w at whole = listed_sole k.queue (map part_of s.views) id w.part k.listed (at_map part_of s.views id w at)
-    (λ i u has ne. let b = at_map_back part_of s.views i u has in subst (λ (z : QueueView). (z.runs ≡ []) × (z.takes ≡ [])) b.2 (let o = others_idle ends_of share_of IsIdle (get_or s.words 2 0) s.views id w k.counted at whole i b.0 b.1 ne in (o.0, o.1)))
+    (λ i u has ne. let b = at_map_back part_of s.views i u has in subst (λ (z : QueueView). (z.runs ≡ []) × (z.takes ≡ [])) b.2 (let o = rest_idle member_of IsIdle (get_or s.words 2 0) s.views id w k.ends at whole i b.0 b.1 ne in (o.0, o.1)))
 
 -- the end with the whole listed all of it, when it was given in
 given_in : (v w : View) (found : ℕ) (q : Positions) → Tallied v found w → ViewsShow q (w.part ∷ []) → ViewsShow q (v.part ∷ [])
 given_in v w found q t l = let runs : v.part.runs ≡ w.part.runs = sym (ap (λ (z : View). z.part.runs) t.same) in let takes : v.part.takes ≡ w.part.takes = sym (ap (λ (z : View). z.part.takes) t.same) in
-    let on : Grows t.queue q = subst (λ (z : View). Grows z.part.queue q) t.same (l.seen 0 w.part refl).0 in
-    listed_look q (w.part ∷ []) 0 w.part v.part l refl runs takes (later_on v.part t.queue q t.sees.later on)
+    let on : Grows w.part.queue q = (l.seen 0 w.part refl).0 in
+    listed_look q (w.part ∷ []) 0 w.part v.part l refl runs takes (later_on v.part w.part.queue q t.sees.later on)
 
 -- where the end with the view w has the whole, it alone has shut the queue
-shut_alone : (key : Shape) (s : St) (k : Rule key s) (id : ℕ) (w : View) → get_elem? s.views id ≡ maybe.some w → IsWhole w.share → w.shuts ≡ times_shut k.queue
-shut_alone key s k id w at whole = sym (sole_total shuts_of s.views id w at (λ i u has ne. (others_idle ends_of share_of IsIdle (get_or s.words 2 0) s.views id w k.counted at whole i u has ne).2)) ∙ k.shut_once
+shut_alone : (key : Shape) (s : St) (k : Rule key s) (id : ℕ) (w : View) → get_elem? s.views id ≡ maybe.some w → IsWhole w.member.share → w.shuts ≡ times_shut k.queue
+shut_alone key s k id w at whole = sym (sole_total shuts_of s.views id w at (λ i u has ne. (rest_idle member_of IsIdle (get_or s.words 2 0) s.views id w k.ends at whole i u has ne).2)) ∙ k.shut_once
 
 pub were_open : (v w : View) (found others : ℕ) → Tallied v found w → found ≢ 1 → others ≡ found - 1 → WereOpen v others w
-were_open v w found others t more is = let s = t.count.some_end in let e : found ≡ others + 1 = omega arith in record {
+were_open v w found others t more is = let s = t.member.count.some_end in let e : found ≡ others + 1 = omega arith in record {
   tallied = subst (λ (z : ℕ). Tallied v z w) e t;
   some_other = omega arith;
-  not_whole = λ whole. more (t.count.whole whole);
+  not_whole = λ whole. more (t.member.count.whole whole);
 }
 
 pub closes : (key : Shape) (v w : View) (found id h t put taken : ℕ) (ws : List ℕ) (xs : List Unit) (left : List (Option ℕ)) (at : ℕ) → key.first ≡ at → Tallied v found w → found ≡ 1 → Final (Seen (Rule key) id w) ws xs → get_elem? ws 0 ≡ maybe.some h → get_elem? ws 1 ≡ maybe.some t
@@ -103,7 +104,7 @@ closes key v w found id h t put taken ws xs left at at_is tallied one fin at_h a
     let first = k.first in let small = sh.small in let behind = k.lawful.behind in
     let hd : h % 4294967296 ≡ head_of q = low_of (head_of q) h q.shut small (sym (read_word ws 0 h at_h) ∙ sh.head) in let tl : t ≡ q.first + q.taken = sym (read_word ws 1 t at_t) ∙ sh.tail in
     let n : h % 4294967296 - t ≡ length q.places - q.taken = omega arith in let tk : taken ≡ q.taken = omega arith in
-    let whole : IsWhole v.share = tallied.count.alone one in let whole' : IsWhole w.share = ap (λ (z : View). z.share) tallied.same ∙ whole in
+    let whole : IsWhole v.member.share = tallied.member.count.alone one in let whole' : IsWhole w.member.share = ap (λ (z : Member). z.share) tallied.member.same ∙ whole in
     let listed : ViewsShow q (v.part ∷ []) = given_in v w found q tallied (sole key s k id w fin.1.1 whole') in
     let is : left ≡ map shown (drop q.taken q.places) = left_is ∙ ((λ i. left_from (sym k.room i) ws (tl i) (n i)) ∙ left_all q ws (length q.places - q.taken) q.taken sh (omega arith) (omega arith) k.lawful.within) in
     record {

@@ -15,7 +15,7 @@ use Rattle.claim_queue.proofs.Following.{same_runs, same_takes, same_share}
 pub record Stays (v w : View) : Type 0 where
   pub runs : w.part.runs ≡ v.part.runs
   pub takes : w.part.takes ≡ v.part.takes
-  pub share : w.share ≡ v.share
+  pub share : w.member.share ≡ v.member.share
   pub grows : Grows v.part.queue w.part.queue
 
 pub stays_refl : (v : View) → Stays v v
@@ -47,13 +47,13 @@ tail_on v w k = let f = k.grows.first in let m = k.grows.further in omega arith
 -- what the type of an end asks of its view stays through an exchange of the tail
 pub record Holds (v w : View) : Type 0 where
   pub room : w.part.queue.room ≡ v.part.queue.room
-  pub ends : w.ends ≡ v.ends
+  pub ends : w.member.ends ≡ v.member.ends
   pub runs : w.part.runs ≡ v.part.runs
 
 pub holds_found : (v w : View) (i r : ℕ) → Found v i r w → Holds v w
-holds_found v w i r f = record { room = f.sees.later.0.room; ends = ap (λ (z : View). z.ends) f.same; runs = same_runs v w i r f }
+holds_found v w i r f = record { room = f.sees.later.0.room; ends = ap (λ (z : View). z.member.ends) f.same; runs = same_runs v w i r f }
 
 pub holds_exchanged : (call : ℕ) (v w : View) (tail n i r : ℕ) (X : Type 0) → (r ≡ tail → Took call v tail n w) → (r ≢ tail → Found v i r w × X) → Holds v w
 holds_exchanged call v w tail n i r X hit miss = dite (ℕ_discrete r tail)
-    (λ e. let t = hit e in record { room = ap (λ (z : View). z.part.queue.room) t.same ∙ t.sees.later.0.room; ends = ap (λ (z : View). z.ends) t.same; runs = ap (λ (z : View). z.part.runs) t.same })
+    (λ e. let t = hit e in record { room = ap (λ (z : View). z.part.queue.room) t.same ∙ t.sees.later.0.room; ends = ap (λ (z : View). z.member.ends) t.same; runs = ap (λ (z : View). z.part.runs) t.same })
     (λ ne. holds_found v w i r (miss ne).0)

@@ -6,24 +6,24 @@ use lib.ListN.{get_elem?}
 use Rattle.atomic_table.specs.Table.{Me, step, keeps, Allows, Splits, Joins, opening}
 use Rattle.table_theory.specs.declared.queues.Positions.{Positions}
 use Rattle.table_theory.specs.declared.queues.QueueView.{QueueView}
-use Rattle.table_theory.specs.Listing.{Later, ViewsShow}
-use Rattle.table_theory.specs.Sharing.{EndsCounted}
+use Rattle.table_theory.specs.declared.views.Member.{Member}
+use Rattle.table_theory.specs.Listing.{ViewsShow}
+use Rattle.table_theory.specs.Members.{EndsKnown, with_split, with_join}
 use Rattle.atomic_table.proofs.Lists.{at_map, set_else}
 use Rattle.table_theory.proofs.Positioned.{grows_refl}
 use Rattle.table_theory.proofs.Listing.{listed_look, listed_new, listed_join, listed_first, distinct}
 use Rattle.table_theory.specs.Sharing.{total}
-use Rattle.table_theory.proofs.Counting.{counted_up, counted_down, counted_split, counted_join, counted_first, counted_look, count_found}
-use Rattle.table_theory.specs.Ends.{EndsLogged}
-use Rattle.table_theory.proofs.Ends.{begins_refl, logged_as, logged_up, logged_down, logged_split, logged_join, logged_first}
+use Rattle.table_theory.proofs.Courses.{course_step, course_split, course_join, course_first, looks_more}
+use Rattle.table_theory.proofs.Members.{known_up, known_down, known_tally, known_split, known_join, known_first, counted_more, counted_less, tallied}
 use Rattle.table_theory.proofs.Totals.{total_kept, total_set, total_push}
 use Rattle.table_theory.proofs.Windows.{window_same}
 use Rattle.table_theory.specs.Windows.{spot}
 use Rattle.claim_queue.specs.declared.rule.Shape.{Shape}
 use Rattle.claim_queue.specs.declared.rule.View.{View}
 use Rattle.claim_queue.specs.Shown.{data_in, flag_in, WordsShow}
-use Rattle.claim_queue.specs.Rules.{part_of, ends_of, share_of, splits_of, joins_of, log_of, shuts_of, IsIdle, Rule, empty, newcomer}
-use Rattle.claim_queue.specs.Steps.{after, with_split, with_join, counts_up, counts_down, counts, rest_of, newborn, both, emptied}
-use Rattle.claim_queue.proofs.Looks.{St, sees_of}
+use Rattle.claim_queue.specs.Rules.{part_of, member_of, steps_of, course_of, shuts_of, IsIdle, Rule, empty, newcomer}
+use Rattle.claim_queue.specs.Steps.{entry, counted, counts_up, counts_down, counts, rest_of, newborn, both, emptied}
+use Rattle.claim_queue.proofs.Looks.{St, steps_to, sees_of}
 
 shows_count : (q : Positions) (words : List ℕ) (y : ℕ) → WordsShow q words → WordsShow q (set words 2 y)
 shows_count q words y h = record {
@@ -35,74 +35,60 @@ shows_count q words y h = record {
       (λ k b. get_or-set_other words 2 (q.room + k + 3) y 0 (λ e. omega arith)) (λ k b. get_or-set_other words 2 (k + 3) y 0 (λ e. omega arith));
 }
 
--- the rule, where the count becomes y and a view w that lists the same sees the queue as it is
-kept_count : (key : Shape) (s : St) (k : Rule key s) (id y : ℕ) (v w : View) → get_elem? s.views id ≡ some v → w.part ≡ record v.part { queue = k.queue; joined = k.queue } → w.shuts ≡ v.shuts → EndsCounted ends_of share_of IsIdle y (set s.views id w) → EndsLogged splits_of joins_of log_of y (set s.views id w)
-    → Rule key record { words = set s.words 2 y; homes = s.homes; views = set s.views id w }
-kept_count key s k id y v w at is same_shuts c l = let wide = k.shows.wide in record {
+-- the rule, where the count becomes y, and another of the ends of the end, which lists the same and sees the queue as it is
+kept_count : (key : Shape) (s : St) (k : Rule key s) (id y found : ℕ) (v : View) (m : Member) → get_elem? s.views id ≡ some v → EndsKnown member_of IsIdle y (set s.views id (counted v found (steps_to k) k.queue m))
+    → Rule key record { words = set s.words 2 y; homes = s.homes; views = set s.views id (counted v found (steps_to k) k.queue m) }
+kept_count key s k id y found v m at e = let wide = k.shows.wide in let w : View = counted v found (steps_to k) k.queue m in record {
   queue = k.queue;
   first = k.first;
   room = k.room;
   lawful = k.lawful;
   shows = shows_count k.queue s.words y k.shows;
-  listed = subst (ViewsShow k.queue) (sym (map-set part_of s.views id w)) (listed_look k.queue (map part_of s.views) id v.part w.part k.listed (at_map part_of s.views id v at) (ap (λ (z : QueueView). z.runs) is) (ap (λ (z : QueueView). z.takes) is)
-      (subst (λ (z : QueueView). Later z k.queue) (sym is) (grows_refl k.queue, grows_refl k.queue)));
-  shut_once = total_kept shuts_of s.views id v w at same_shuts ∙ k.shut_once;
-  counted = subst (λ (c : ℕ). EndsCounted ends_of share_of IsIdle c (set s.views id w)) (sym (get_or-set_same s.words 2 y 0 (omega arith))) c;
-  logged = subst (λ (c : ℕ). EndsLogged splits_of joins_of log_of c (set s.views id w)) (sym (get_or-set_same s.words 2 y 0 (omega arith))) l;
+  listed = subst (ViewsShow k.queue) (sym (map-set part_of s.views id w)) (listed_look k.queue (map part_of s.views) id v.part w.part k.listed (at_map part_of s.views id v at) refl refl (grows_refl k.queue, grows_refl k.queue));
+  shut_once = total_kept shuts_of s.views id v w at refl ∙ k.shut_once;
+  ends = subst (λ (c : ℕ). EndsKnown member_of IsIdle c (set s.views id w)) (sym (get_or-set_same s.words 2 y 0 (omega arith))) e;
+  course = course_step steps_of course_of (empty key) k.queue s.views id v w (entry 2 found k.queue k.queue) k.course at refl refl refl;
 }
 
-pub ups : (key : Shape) (n id : ℕ) (me : Me Unit View) → me.0.ends + 1 ≤ me.0.share → Allows (Rule key) n id me 2 (λ x. (x + 1) % 18446744073709551616) (counts_up (step n 2 1 0 none) me)
-ups key n id me parts s k _ at _ = let v : View = me.0 in let c : ℕ = get_or s.words 2 0 in let y : ℕ = (c + 1) % 18446744073709551616 in let l = k.logged in let w : View = record (with_split v c k.queue l.log) { ends = v.ends + 1 } in
-    let e : EndsCounted ends_of share_of IsIdle y (set s.views id w) = counted_up ends_of share_of IsIdle c s.views id v w k.counted at parts refl refl in let t = total_set ends_of s.views id v w at in let old = k.counted.counted in let new = e.counted in (
-      w,
-      keeps,
-      tt,
-      kept_count key s k id y v w at refl refl e (logged_up splits_of joins_of log_of c y s.views id v w l at (omega arith) refl refl refl),
-      (refl, record { queue = k.queue; log = l.log; same = refl; sees = sees_of key s k id v at; later = l.seen id v at; number = l.number }),
-    )
-
-pub downs : (key : Shape) (n id : ℕ) (me : Me Unit View) → 2 ≤ me.0.ends → Allows (Rule key) n id me 2 (λ x. (x + (18446744073709551616 - 1)) % 18446744073709551616) (counts_down (step n 2 1 0 none) me)
-downs key n id me live s k _ at _ = let v : View = me.0 in let c : ℕ = get_or s.words 2 0 in let y : ℕ = (c + (18446744073709551616 - 1)) % 18446744073709551616 in let l = k.logged in let w : View = record (with_join v c k.queue l.log) { ends = v.ends - 1 } in
-    let e : EndsCounted ends_of share_of IsIdle y (set s.views id w) = counted_down ends_of share_of IsIdle c s.views id v w k.counted at (omega arith) (omega arith) refl in let t = total_set ends_of s.views id v w at in let old = k.counted.counted in let new = e.counted in (
-      w,
-      keeps,
-      tt,
-      kept_count key s k id y v w at refl refl e (logged_down splits_of joins_of log_of c y s.views id v w l at (omega arith) refl refl refl),
-      (
-        refl,
-        record {
-          queue = k.queue;
-          log = l.log;
-          same = refl;
-          sees = sees_of key s k id v at;
-          later = l.seen id v at;
-          number = l.number;
-          distinct = distinct k.queue (map part_of s.views) id v.part k.listed (at_map part_of s.views id v at);
-        },
-      ),
-    )
-
--- the count is found
-pub tallies : (key : Shape) (n id : ℕ) (me : Me Unit View) → me.0.ends ≡ 1 → Allows (Rule key) n id me 2 (λ x. x) (counts (step n 2 0 0 none) me)
-tallies key n id me one s k _ at _ = let v : View = me.0 in let c : ℕ = get_or s.words 2 0 in let l = k.logged in let w : View = record (after v 2 c k.queue) { log = l.log } in (
+pub ups : (key : Shape) (n id : ℕ) (me : Me Unit View) → me.0.member.ends + 1 ≤ me.0.member.share → Allows (Rule key) n id me 2 (λ x. (x + 1) % 18446744073709551616) (counts_up (step n 2 1 0 none) me)
+ups key n id me parts s k _ at _ = let v : View = me.0 in let c : ℕ = get_or s.words 2 0 in let m : Member = with_split v.member k.ends.logged.log in let w : View = counted v c (steps_to k) k.queue m in (
   w,
   keeps,
   tt,
-  kept_count key s k id c v w at refl refl (counted_look ends_of share_of IsIdle c s.views id v w k.counted at refl refl (λ _ h. h)) (logged_as splits_of joins_of log_of c s.views id v w l at refl refl (begins_refl l.log)),
+  kept_count key s k id ((c + 1) % 18446744073709551616) c v m at (known_up member_of IsIdle c s.views id v w k.ends at parts refl),
+  (refl, record { before = steps_to k; follows = k.course.seen id v at; same = refl; sees = sees_of key s k id v at; member = counted_more member_of IsIdle c s.views id v k.ends at }),
+)
+
+pub downs : (key : Shape) (n id : ℕ) (me : Me Unit View) → 2 ≤ me.0.member.ends → Allows (Rule key) n id me 2 (λ x. (x + (18446744073709551616 - 1)) % 18446744073709551616) (counts_down (step n 2 1 0 none) me)
+downs key n id me live s k _ at _ = let v : View = me.0 in let c : ℕ = get_or s.words 2 0 in let m : Member = with_join v.member k.ends.logged.log in let w : View = counted v c (steps_to k) k.queue m in (
+  w,
+  keeps,
+  tt,
+  kept_count key s k id ((c + (18446744073709551616 - 1)) % 18446744073709551616) c v m at (known_down member_of IsIdle c s.views id v w k.ends at live refl),
   (
     refl,
     record {
-      queue = k.queue;
+      before = steps_to k;
+      follows = k.course.seen id v at;
       same = refl;
       sees = sees_of key s k id v at;
-      later = l.seen id v at;
-      number = l.number;
-      count = count_found ends_of share_of IsIdle c s.views id v k.counted at one;
+      member = counted_less member_of IsIdle c s.views id v k.ends at;
+      distinct = distinct k.queue (map part_of s.views) id v.part k.listed (at_map part_of s.views id v at);
     },
   ),
 )
 
-pub splits : (key : Shape) (id : ℕ) (v : View) → v.ends ≡ 2 → Splits (Rule key) id v (rest_of v) (newborn v)
+-- the count is found
+pub tallies : (key : Shape) (n id : ℕ) (me : Me Unit View) → me.0.member.ends ≡ 1 → Allows (Rule key) n id me 2 (λ x. x) (counts (step n 2 0 0 none) me)
+tallies key n id me one s k _ at _ = let v : View = me.0 in let c : ℕ = get_or s.words 2 0 in let m : Member = record v.member { log = k.ends.logged.log } in let w : View = counted v c (steps_to k) k.queue m in (
+  w,
+  keeps,
+  tt,
+  kept_count key s k id c c v m at (known_tally member_of IsIdle c s.views id v w k.ends at refl (λ _ h. (h.0, h.1, h.2, looks_more v.steps (entry 2 c k.queue k.queue) h.3 refl))),
+  (refl, record { before = steps_to k; follows = k.course.seen id v at; same = refl; sees = sees_of key s k id v at; member = tallied member_of IsIdle c s.views id v k.ends at one }),
+)
+
+pub splits : (key : Shape) (id : ℕ) (v : View) → v.member.ends ≡ 2 → Splits (Rule key) id v (rest_of v) (newborn v)
 splits key id v live s k at = let later = k.listed.seen id v.part (at_map part_of s.views id v at) in record {
   queue = k.queue;
   first = k.first;
@@ -112,11 +98,11 @@ splits key id v live s k at = let later = k.listed.seen id v.part (at_map part_o
   listed = subst (ViewsShow k.queue) (sym (map-append part_of (set s.views id (rest_of v)) (newborn v ∷ []) ∙ ap (λ (z : List QueueView). z ++ (newborn v).part ∷ []) (map-set part_of s.views id (rest_of v))))
       (listed_new k.queue (set (map part_of s.views) id v.part) (newborn v).part (listed_look k.queue (map part_of s.views) id v.part v.part k.listed (at_map part_of s.views id v at) refl refl later) refl refl later);
   shut_once = (let t = total_kept shuts_of s.views id v (rest_of v) at refl in let p = total_push shuts_of (set s.views id (rest_of v)) (newborn v) in let e : total shuts_of (set s.views id (rest_of v) ++ newborn v ∷ []) ≡ total shuts_of s.views = omega arith in e) ∙ k.shut_once;
-  counted = counted_split ends_of share_of IsIdle (get_or s.words 2 0) s.views id v (rest_of v) (newborn v) k.counted at live (omega arith) refl refl refl;
-  logged = logged_split splits_of joins_of log_of (get_or s.words 2 0) s.views id v (rest_of v) (newborn v) k.logged at refl refl refl refl refl refl;
+  ends = known_split member_of IsIdle (get_or s.words 2 0) s.views id v (rest_of v) (newborn v) k.ends at live refl refl;
+  course = course_split steps_of course_of (empty key) k.queue s.views id v (rest_of v) (newborn v) k.course at refl refl refl refl;
 }
 
-pub joins : (key : Shape) (id other : ℕ) (v w : View) → 1 ≤ v.ends → 1 ≤ w.ends → Joins (Rule key) id v other w (both v w) (emptied v)
+pub joins : (key : Shape) (id other : ℕ) (v w : View) → 1 ≤ v.member.ends → 1 ≤ w.member.ends → Joins (Rule key) id v other w (both v w) (emptied v)
 joins key id other v w live live' s k at ne has = let at' : get_elem? s.views other ≡ some w = sym (set_else s.views id other (both v w) ne) ∙ has in
     let later = k.listed.seen id v.part (at_map part_of s.views id v at) in let later' = k.listed.seen other w.part (at_map part_of s.views other w at') in record {
       queue = k.queue;
@@ -127,8 +113,8 @@ joins key id other v w live live' s k at ne has = let at' : get_elem? s.views ot
       listed = subst (ViewsShow k.queue) (sym (map-set part_of (set s.views id (both v w)) other (emptied v) ∙ ap (λ (z : List QueueView). set z other (emptied v).part) (map-set part_of s.views id (both v w))))
           (listed_join k.queue (map part_of s.views) id other v.part w.part (both v w).part (emptied v).part k.listed (at_map part_of s.views id v at) (at_map part_of s.views other w at') ne refl refl refl refl (later.0, later'.0) later);
       shut_once = (let t = total_set shuts_of s.views id v (both v w) at in let t' = total_set shuts_of (set s.views id (both v w)) other w (emptied v) has in let e : total shuts_of (set (set s.views id (both v w)) other (emptied v)) ≡ total shuts_of s.views = omega arith in e) ∙ k.shut_once;
-      counted = counted_join ends_of share_of IsIdle (get_or s.words 2 0) s.views id other v w (both v w) (emptied v) k.counted at at' ne live refl refl refl refl (refl, refl, refl);
-      logged = logged_join splits_of joins_of log_of (get_or s.words 2 0) s.views id other v w (both v w) (emptied v) k.logged at at' ne refl refl refl refl refl refl;
+      ends = known_join member_of IsIdle (get_or s.words 2 0) s.views id other v w (both v w) (emptied v) k.ends at at' ne live refl refl (refl, refl, refl, tt);
+      course = course_join steps_of course_of (empty key) k.queue s.views id other v w (both v w) (emptied v) k.course at at' ne refl refl refl refl;
     }
 
 -- the table as it is made
@@ -155,8 +141,8 @@ opens key words room fits long head tail ends rest = let q : Positions = empty k
   };
   listed = listed_first q (newcomer key).part refl refl refl refl (grows_refl q, grows_refl q);
   shut_once = omega arith;
-  counted = subst (λ (c : ℕ). EndsCounted ends_of share_of IsIdle c (newcomer key ∷ [])) (sym ends) (counted_first ends_of share_of IsIdle (newcomer key) refl refl);
-  logged = subst (λ (c : ℕ). EndsLogged splits_of joins_of log_of c (newcomer key ∷ [])) (sym ends) (logged_first splits_of joins_of log_of (newcomer key) refl refl refl);
+  ends = subst (λ (c : ℕ). EndsKnown member_of IsIdle c (newcomer key ∷ [])) (sym ends) (known_first member_of IsIdle (newcomer key) refl);
+  course = course_first steps_of course_of q (newcomer key) refl refl;
 }
 
 -- the words of a new table

@@ -10,23 +10,22 @@ use Rattle.table_theory.specs.declared.queues.Positions.{Positions}
 use Rattle.table_theory.specs.Positioned.{blank, item_at, written_at, with_write}
 use Rattle.table_theory.specs.Windows.{spot, PlaceShows}
 use Rattle.table_theory.specs.Listing.{ViewsShow, number_of}
-use Rattle.table_theory.specs.Sharing.{EndsCounted}
+use Rattle.table_theory.specs.Members.{EndsKnown}
 use Rattle.atomic_table.proofs.Lists.{at_map}
 use Rattle.table_theory.proofs.Positioned.{grows_refl, write_lawful, write_here}
 use Rattle.table_theory.proofs.Listing.{Own, own, run_stands, listed_write}
 use Rattle.table_theory.proofs.QueueEvents.{raised_event, stored_event}
 use Rattle.table_theory.specs.QueueOf.{IsEvent}
-use Rattle.table_theory.proofs.Counting.{counted_look}
-use Rattle.table_theory.specs.Ends.{EndsLogged}
-use Rattle.table_theory.proofs.Ends.{logged_look}
+use Rattle.table_theory.proofs.Members.{known_look}
+use Rattle.table_theory.proofs.Courses.{course_step}
 use Rattle.table_theory.proofs.Windows.{window_write}
 use Rattle.claim_queue.specs.declared.rule.Shape.{Shape}
 use Rattle.claim_queue.specs.declared.rule.View.{View}
 use Rattle.claim_queue.specs.Shown.{data_in, flag_in}
 use Rattle.table_theory.proofs.Totals.{total_kept}
-use Rattle.claim_queue.specs.Rules.{part_of, ends_of, share_of, splits_of, joins_of, log_of, shuts_of, IsIdle, Rule}
-use Rattle.claim_queue.specs.Steps.{wrote, Wrote, writes, write_event}
-use Rattle.claim_queue.proofs.Looks.{St, sees_of}
+use Rattle.claim_queue.specs.Rules.{part_of, member_of, steps_of, course_of, shuts_of, IsIdle, Rule, empty}
+use Rattle.claim_queue.specs.Steps.{entry, wrote, Wrote, writes, write_event}
+use Rattle.claim_queue.proofs.Looks.{St, steps_to, sees_of}
 
 -- what the end knows of the place that it writes, as the queue is now
 pub owned : (key : Shape) (s : St) (k : Rule key s) (id m i : ℕ) (v : View) (e : Batch) → get_elem? s.views id ≡ some v → get_elem? v.part.runs m ≡ some e → i < length e.places → (get_or e.places i blank).written < 2 → Own k.queue e i
@@ -36,9 +35,9 @@ owned key s k id m i v e at has below low = own k.queue e i k.lawful (run_stands
 pub kept_write : (key : Shape) (s : St) (k : Rule key s) (id m i n u x : ℕ) (v : View) (e : Batch) (o : Own k.queue e i) → get_elem? s.views id ≡ some v → get_elem? v.part.runs m ≡ some e → i < length e.places → written_at k.queue o.at ≤ n
     → 3 ≤ u → ((j : ℕ) → j < k.queue.room → j ≢ spot k.queue o.at → (u ≢ k.queue.room + j + 3) × (u ≢ j + 3))
     → PlaceShows (with_write k.queue o.at n) (flag_in k.queue.room (set s.words u x)) (data_in k.queue.room (set s.words u x)) o.at
-    → Rule key record { words = set s.words u x; homes = s.homes; views = set s.views id (wrote v u x m i n e k.queue o.at) }
+    → Rule key record { words = set s.words u x; homes = s.homes; views = set s.views id (wrote v u x m i n e (steps_to k) k.queue o.at) }
 kept_write key s k id m i n u x v e o at has below more past else_where mine =
-    let q : Positions = k.queue in let p : ℕ = o.at in let q' : Positions = with_write q p n in let w : View = wrote v u x m i n e q p in let words' : List ℕ = set s.words u x in let r : ℕ = q.room in
+    let q : Positions = k.queue in let p : ℕ = o.at in let q' : Positions = with_write q p n in let w : View = wrote v u x m i n e (steps_to k) q p in let words' : List ℕ = set s.words u x in let r : ℕ = q.room in
     let other : (j : ℕ) → j ≢ u → get_or words' j 0 ≡ get_or s.words j 0 = λ j ne. get_or-set_other s.words u j x 0 ne in
     record {
       queue = q';
@@ -55,14 +54,14 @@ kept_write key s k id m i n u x v e o at has below more past else_where mine =
       };
       listed = subst (ViewsShow q') (sym (map-set part_of s.views id w)) (listed_write q (map part_of s.views) id m i n p v.part w.part e k.listed (at_map part_of s.views id v at) has below o.start o.from more refl refl (grows_refl q', grows_refl q'));
       shut_once = total_kept shuts_of s.views id v w at refl ∙ k.shut_once;
-      counted = subst (λ (c : ℕ). EndsCounted ends_of share_of IsIdle c (set s.views id w)) (sym (other 2 (λ z. omega arith))) (counted_look ends_of share_of IsIdle (get_or s.words 2 0) s.views id v w k.counted at refl refl (λ _ none. absurd (some-ne-none e (sym (subst (λ (z : List Batch). get_elem? z m ≡ some e) none.0 has)))));
-      logged = subst (λ (c : ℕ). EndsLogged splits_of joins_of log_of c (set s.views id w)) (sym (other 2 (λ z. omega arith))) (logged_look splits_of joins_of log_of (get_or s.words 2 0) s.views id v w k.logged at refl refl refl);
+      ends = subst (λ (c : ℕ). EndsKnown member_of IsIdle c (set s.views id w)) (sym (other 2 (λ z. omega arith))) (known_look member_of IsIdle (get_or s.words 2 0) s.views id v w k.ends at refl (λ _ none. absurd (some-ne-none e (sym (subst (λ (z : List Batch). get_elem? z m ≡ some e) none.0 has)))));
+      course = course_step steps_of course_of (empty key) k.queue s.views id v w (entry u x q q') k.course at refl refl refl;
     }
 
 pub wrote_now : (key : Shape) (s : St) (k : Rule key s) (id call m i n u x : ℕ) (v : View) (e : Batch) (o : Own k.queue e i) → call ≡ id → get_elem? s.views id ≡ some v → get_elem? v.part.runs m ≡ some e → written_at k.queue o.at ≤ n → written_at k.queue o.at < 2
-    → (number : ℕ) → (event : IsEvent k.queue (with_write k.queue o.at n) id v.part (wrote v u x m i n e k.queue o.at).part (write_event n id number i)) → get_elem? event.shown.runs number ≡ some (id, m, e) → Wrote call v m i n u x (wrote v u x m i n e k.queue o.at)
-wrote_now key s k id call m i n u x v e o mine at has more low number event is = subst (λ (z : ℕ). Wrote z v m i n u x (wrote v u x m i n e k.queue o.at)) (sym mine)
-    record { queue = k.queue; at = o.at; run = e; has = has; start = o.start; below = o.below; low = low; more = more; same = refl; sees = sees_of key s k id v at; run_number = number; event = event; is_run = is; after_it = write_lawful k.queue o.at n k.lawful o.below more }
+    → (number : ℕ) → (event : IsEvent k.queue (with_write k.queue o.at n) id v.part (wrote v u x m i n e (steps_to k) k.queue o.at).part (write_event n id number i)) → get_elem? event.shown.runs number ≡ some (id, m, e) → Wrote call v m i n u x (wrote v u x m i n e (steps_to k) k.queue o.at)
+wrote_now key s k id call m i n u x v e o mine at has more low number event is = subst (λ (z : ℕ). Wrote z v m i n u x (wrote v u x m i n e (steps_to k) k.queue o.at)) (sym mine)
+    record { queue = k.queue; at = o.at; run = e; has = has; start = o.start; below = o.below; low = low; more = more; before = steps_to k; follows = k.course.seen id v at; same = refl; sees = sees_of key s k id v at; run_number = number; event = event; is_run = is; after_it = write_lawful k.queue o.at n k.lawful o.below more }
 
 -- the end's view of the room and of the first position is that of the queue
 place_of : (key : Shape) (s : St) (k : Rule key s) (id i : ℕ) (v : View) (e : Batch) (o : Own k.queue e i) → get_elem? s.views id ≡ some v → (e.start + i) % v.part.queue.room ≡ spot k.queue o.at
@@ -76,14 +75,14 @@ stores_data key n id call me start i u x e mine has below low word is s k _ at _
     let old = k.shows.window.each p o.from o.to in let now = write_here q p 1 o.below in let written : written_at (with_write q p 1) p ≡ 1 = ap (λ (z : Cell). z.written) now in
     let flag : get_or (set s.words u x) (q.room + spot q p + 3) 0 ≡ get_or s.words (q.room + spot q p + 3) 0 = get_or-set_other s.words u (q.room + spot q p + 3) x 0 (λ z. omega arith) in
     let same_data : get_or (set s.words u x) (spot q p + 3) 0 ≡ x = ap (λ (z : ℕ). get_or (set s.words u x) z 0) (sym here) ∙ get_or-set_same s.words u x 0 (omega arith) in (
-      wrote v u x m i 1 e q p,
+      wrote v u x m i 1 e (steps_to k) q p,
       keeps,
       tt,
       kept_write key s k id m i 1 u x v e o at has below (omega arith) (omega arith) (λ j b ne. ((λ z. omega arith), λ z. ne (omega arith)))
           record { low = λ h. let f = old.low (omega arith) in omega arith; up = λ h. absurd (omega arith); holds = λ h. same_data ∙ (sym item ∙ sym (ap (λ (z : Cell). z.item) now)) },
       (
         refl,
-        (let r = stored_event q (map part_of s.views) id m i p v.part (wrote v u x m i 1 e q p).part e k.listed (at_map part_of s.views id v at) has below o.start k.lawful o.from (omega arith) (omega arith) refl refl (grows_refl (with_write q p 1), grows_refl (with_write q p 1)) in
+        (let r = stored_event q (map part_of s.views) id m i p v.part (wrote v u x m i 1 e (steps_to k) q p).part e k.listed (at_map part_of s.views id v at) has below o.start k.lawful o.from (omega arith) (omega arith) refl refl (grows_refl (with_write q p 1), grows_refl (with_write q p 1)) in
             wrote_now key s k id call m i 1 u x v e o mine at has (omega arith) (omega arith) r.0 r.1 r.2),
       ),
     )
@@ -96,14 +95,14 @@ stores_flag key n id call me start i u x e mine has below low word is s k _ at _
     let old = k.shows.window.each p o.from o.to in let now = write_here q p 2 o.below in let written : written_at (with_write q p 2) p ≡ 2 = ap (λ (z : Cell). z.written) now in
     let same_data : get_or (set s.words u x) (spot q p + 3) 0 ≡ get_or s.words (spot q p + 3) 0 = get_or-set_other s.words u (spot q p + 3) x 0 (λ z. omega arith) in
     let flag : get_or (set s.words u x) (q.room + spot q p + 3) 0 ≡ x = ap (λ (z : ℕ). get_or (set s.words u x) z 0) (sym here) ∙ get_or-set_same s.words u x 0 (omega arith) in (
-      wrote v u x m i 2 e q p,
+      wrote v u x m i 2 e (steps_to k) q p,
       keeps,
       tt,
       kept_write key s k id m i 2 u x v e o at has below (omega arith) (omega arith) (λ j b ne. ((λ z. ne (omega arith)), λ z. omega arith))
           record { low = λ h. absurd (omega arith); up = λ h. omega arith; holds = λ h. same_data ∙ (old.holds (omega arith) ∙ sym (ap (λ (z : Cell). z.item) now)) },
       (
         refl,
-        (let r = raised_event q (map part_of s.views) id m i p v.part (wrote v u x m i 2 e q p).part e k.listed (at_map part_of s.views id v at) has below o.start k.lawful o.from (omega arith) (omega arith) refl refl (grows_refl (with_write q p 2), grows_refl (with_write q p 2)) in
+        (let r = raised_event q (map part_of s.views) id m i p v.part (wrote v u x m i 2 e (steps_to k) q p).part e k.listed (at_map part_of s.views id v at) has below o.start k.lawful o.from (omega arith) (omega arith) refl refl (grows_refl (with_write q p 2), grows_refl (with_write q p 2)) in
             wrote_now key s k id call m i 2 u x v e o mine at has (omega arith) (omega arith) r.0 r.1 r.2),
       ),
     )

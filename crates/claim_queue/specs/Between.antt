@@ -1,19 +1,25 @@
 -- What holds between any two steps: a lawful queue of the core that the words and the views show.
-use Rattle.std.specs.Prelude.{◌≡◌, ℕ, ◌+◌, ◌%◌, ◌<◌, ◌≤◌, true, false, if◌then◌else◌, List, map, length, take, slice_index_or}
+use Rattle.std.specs.Prelude.{◌≡◌, ℕ, ◌+◌, ◌%◌, ◌<◌, ◌≤◌, true, false, if◌then◌else◌, List, map, length, take}
+use Rattle.std.specs.Prelude.{slice_index_or}
 use Rattle.std.specs.List.{slice_get}
+use mathlib.Core.Option.{some}
+use lib.ListN.{get_elem?}
 use Rattle.atomic_table.specs.Table.{State}
 use Rattle.table_theory.specs.declared.queues.Batch.{Batch}
+use Rattle.table_theory.specs.declared.queues.Positions.{Positions}
 use Rattle.quaject_core.specs.Runs.{flat, pairs}
 use Rattle.quaject_core.specs.Queues.{Queue, is_raised}
 use Rattle.quaject_core.specs.Lawful.{IsLawfulQueue}
 use Rattle.table_theory.specs.Positioned.{item_of}
 use Rattle.table_theory.specs.Filing.{Owned, ListedOnce}
-use Rattle.table_theory.specs.Listing.{all_places, Chained}
-use Rattle.table_theory.specs.QueueOf.{run_in, up_in}
+use Rattle.table_theory.specs.Listing.{all_places, Chained, Later}
+use Rattle.table_theory.specs.QueueOf.{run_in, up_in, queue_of, IsHistory}
 use Rattle.claim_queue.specs.declared.rule.Shape.{Shape}
 use Rattle.claim_queue.specs.declared.rule.View.{View}
-use Rattle.table_theory.specs.Sharing.{EndsCounted, total}
-use Rattle.claim_queue.specs.Rules.{ends_of, share_of, shuts_of, IsIdle}
+use Rattle.table_theory.specs.Courses.{IsCourse}
+use Rattle.table_theory.specs.Members.{EndsKnown}
+use Rattle.table_theory.specs.Sharing.{total}
+use Rattle.claim_queue.specs.Rules.{member_of, steps_of, course_of, shuts_of, IsIdle, empty}
 use Rattle.claim_queue.specs.Shown.{mark, data_in, flag_in}
 
 -- the pair (run, index) of the item with this number
@@ -50,10 +56,18 @@ pub record IsShown (key : Shape) (s : State Unit View) (c : Queue) : Type 0 wher
 
 -- there is a lawful queue that is shown
 pub record ShowsQueue (key : Shape) (s : State Unit View) : Type 0 where
+  pub now : Positions
   pub queue : Queue
   pub lawful : IsLawfulQueue queue
   pub shown : IsShown key s queue
-  -- each end that stands has its part of the share, and the word has their number
-  pub counted : EndsCounted ends_of share_of IsIdle (slice_index_or s.words 2 0) s.views
+  pub same : queue ≡ queue_of now shown.runs
+  pub first : now.first ≡ key.first
+  pub history : IsHistory now shown.runs
+  -- each end has seen the queue no later than now
+  pub seen : (j : ℕ) (v : View) → get_elem? s.views j ≡ some v → Later v.part now
+  -- the ends' steps lead to it from the empty queue, and each end has seen all of them up to its own last one
+  pub course : IsCourse steps_of course_of (empty key) now s.views
+  -- the word has the number of the ends that stand
+  pub ends : EndsKnown member_of IsIdle (slice_index_or s.words 2 0) s.views
   -- one end has shut the queue where it is shut, and none where it is open
   pub shut_once : total shuts_of s.views ≡ (if queue.shut then 1 else 0)

@@ -31,11 +31,11 @@ left_from room words p (suc n) = left_at room words p ∷ left_from room words (
 abbrev pub shown : Cell → Option ℕ
 shown p = if nat_lt p.written 2 then None else Some p.item
 
--- The queue is closed, by an end that has the whole and so lists all of it: what is left is what was put behind what was
--- taken, the lines put are the items put, and the lines taken the items taken. Where the end has raised all that it
+-- The queue is closed, by an end that has the whole and so lists all of it: what is left is what was put behind what
+-- was taken, the lines put are the items put, and the lines taken the items taken. Where the end has raised all that it
 -- claimed, each place left has its item
 pub record ClosedNow (v : View) (first put taken : ℕ) (left : List (Option ℕ)) : Type 0 where
-  pub whole : IsWhole v.share
+  pub whole : IsWhole v.member.share
   pub queue : Positions
   pub listed : ViewsShow queue (v.part ∷ [])
   pub starts : queue.first ≡ first
@@ -50,4 +50,4 @@ pub record ClosedNow (v : View) (first put taken : ℕ) (left : List (Option ℕ
 pub record WereOpen (v : View) (others : ℕ) (w : View) : Type 0 where
   pub tallied : Tallied v (others + 1) w
   pub some_other : 0 < others
-  pub not_whole : IsWhole v.share → ⊥
+  pub not_whole : IsWhole v.member.share → ⊥

@@ -16,11 +16,11 @@ call_of end = end.seat.id
 
 -- every other end was joined
 abbrev pub IsOnlyEnd : {n : ℕ} → QueueEnd n → Type 0
-IsOnlyEnd end = IsWhole end.seat.me.0.share
+IsOnlyEnd end = IsWhole end.seat.me.0.member.share
 
 -- the end can be split: it has two parts of the share or more
 abbrev pub IsDivisible : {n : ℕ} → QueueEnd n → Type 0
-IsDivisible end = 2 ≤ end.seat.me.0.share
+IsDivisible end = 2 ≤ end.seat.me.0.member.share
 
 -- it is an end of this queue
 abbrev pub IsEndOf : {n : ℕ} → ClaimQueue n → QueueEnd n → Type 0

@@ -3,7 +3,7 @@ use Rattle.std.specs.Prelude.{◌≡◌, ◌≤◌, ℕ, List, [], ◌∷◌, �
 use Rattle.std.specs.List.{concat}
 use Rattle.table_theory.specs.declared.queues.Batch.{Batch}
 use Rattle.table_theory.specs.Positioned.{item_of}
-use Rattle.table_theory.specs.Filing.{Owned, ListedOnce}
+use Rattle.table_theory.specs.Filing.{Owned, entry_of, ListedOnce}
 use Rattle.claim_queue.specs.declared.rule.View.{View}
 
 abbrev pub line_of : Batch → List ℕ
@@ -21,22 +21,19 @@ lines_taken v = map line_of v.part.takes
 pub record SameLines (v w : View) : Type 0 where
   pub puts : lines_put w ≡ lines_put v
   pub takes : lines_taken w ≡ lines_taken v
-  pub share : w.share ≡ v.share
+  pub share : w.member.share ≡ v.member.share
 
 -- one line more was put, and the end has the share that it had
 pub record PutLine (line : List ℕ) (v w : View) : Type 0 where
   pub puts : lines_put w ≡ lines_put v ++ line ∷ []
   pub takes : lines_taken w ≡ lines_taken v
-  pub share : w.share ≡ v.share
+  pub share : w.member.share ≡ v.member.share
 
 -- one line more was taken, and the end has the share that it had
 pub record TookLine (line : List ℕ) (v w : View) : Type 0 where
   pub puts : lines_put w ≡ lines_put v
   pub takes : lines_taken w ≡ lines_taken v ++ line ∷ []
-  pub share : w.share ≡ v.share
-
-abbrev pub entry_of : {E : Type 0} → Owned E → E
-entry_of o = o.2
+  pub share : w.member.share ≡ v.member.share
 
 -- the items, cut in order, are these lines, each once
 pub record IsCut (items : List ℕ) (lines : List (List ℕ)) : Type 0 where

@@ -1,5 +1,6 @@
 -- What raising and putting a run answer.
-use Rattle.std.specs.Prelude.{◌≡◌, ◌+◌, ℕ, zero, suc, List, [], ◌∷◌, length, slice_index_or, Bool, true, false, Result, Ok, Err}
+use Rattle.std.specs.Prelude.{◌≡◌, ◌+◌, ℕ, zero, suc, List, [], ◌∷◌, length, slice_index_or, Bool, true, false, Result}
+use Rattle.std.specs.Prelude.{Ok, Err}
 use Rattle.table_theory.specs.Listing.{number_of}
 use Rattle.claim_queue.specs.declared.rule.View.{View}
 use Rattle.claim_queue.specs.declared.claim.ClaimRefusal.{ClaimRefusal}

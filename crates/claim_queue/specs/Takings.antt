@@ -66,7 +66,8 @@ pub record FoundTooFew (Few : List ℕ → Type 0) (room : ℕ) (v : View) (tail
   pub head_loaded : Found stopped head_word head w
 
 -- There were too few items, the queue was not shut at that tail, and the tail was found again. So the place at `at` was
--- not raised while the tail was there, and then the queue was open or had something left. The end itself has not raised it
+-- not raised while the tail was there, and then the queue was open or had something left. The end itself has not raised
+-- it
 pub record WasEmpty (Few : List ℕ → Type 0) (room : ℕ) (v : View) (at : ℕ) (w : View) : Type 0 where
   pub tail : ℕ
   pub items : List ℕ

@@ -3,12 +3,15 @@
 ghost use Rattle.atomic_table.specs.Table.{State};
 ghost use Rattle.claim_queue.specs.declared.rule.Shape.{Shape};
 ghost use Rattle.claim_queue.specs.declared.rule.View.{View};
-ghost use Rattle.claim_queue.specs.Rules.{Rule};
 ghost use Rattle.claim_queue.specs.Between.{ShowsQueue};
+
+use crate::rule::{ClaimRule, Shape, View};
+use atomic_table::TableRule;
 
 /// Whatever the rule holds of is a lawful queue of the core, shown by the words and by what the ends list.
 ///
 /// Every atomic step of this crate keeps the rule, so it holds between any two steps, whoever makes them.
 pub fn between_steps()
-    ensures { (key : Shape) (state : State Unit View) → Rule key state → ShowsQueue key state }
+    ensures { (key : Shape) (state : State Unit View)
+        → ⟦<ClaimRule as TableRule<(), View, Shape>>⟧.holds key state → ShowsQueue key state }
 {}

@@ -19,8 +19,8 @@ use thiserror::Error;
 
 /// A run of places that an end claimed, and how many of them it has raised.
 ///
-/// It is raised by `raise_next`. A claim that is dropped leaves its other places unraised for good: nobody can take past
-/// them, and once N places are claimed behind the tail every claim is Full.
+/// It is raised by `raise_next`. A claim that is dropped leaves its other places unraised for good: nobody can take
+/// past them, and once N places are claimed behind the tail every claim is Full.
 #[derive(Drop)]
 pub struct Claim<const N: usize> {
     pub(crate) start: u32,
@@ -97,8 +97,9 @@ fn was_lost(answer: &Result<u32, ClaimRefusal>) -> bool
 impl<const N: usize> ClaimQueue<N> {
     ghost use Rattle.claim_queue.specs.Handles.{view_of, call_of, IsEndOf, IsSameEnd};
 
-    /// One try to claim a place for each of the items: it loads the head, then the tail, and exchanges the head. The items
-    /// can be taken once they are raised. The refusals are checked in the order in which `ClaimRefusal` lists them.
+    /// One try to claim a place for each of the items: it loads the head, then the tail, and exchanges the head. The
+    /// items can be taken once they are raised. The refusals are checked in the order in which `ClaimRefusal` lists
+    /// them.
     pub fn try_claim(&self, end: &mut QueueEnd<N>, items: &[u64]) -> Result<Claim<N>, ClaimRefusal>
         requires { IsEndOf self.now end.old }
         ensures queue { IsSameEnd end.old end.new }
@@ -205,8 +206,8 @@ impl<const N: usize> ClaimQueue<N> {
         store_flag::<Brand>(&self.table.shared, &mut end.seat, N, start, index);
     }
 
-    /// Stores the next item of the claim in its data word, and then its flag, which raises it. False, and no step, where
-    /// all items were raised.
+    /// Stores the next item of the claim in its data word, and then its flag, which raises it. False, and no step,
+    /// where all items were raised.
     ///
     /// Condition: the claim is the end's own.
     pub fn raise_next(&self, end: &mut QueueEnd<N>, claim: &mut Claim<N>) -> bool

@@ -56,8 +56,8 @@ fn read_left<const N: usize>(
 impl<const N: usize> ClaimQueue<N> {
     ghost use Rattle.claim_queue.specs.Handles.{view_of, call_of, first_of, IsEndOf, IsOnlyEnd, IsSameEnd};
 
-    /// Shuts the queue for claims, for good; what was put can still be taken. True where it was open, which one end alone
-    /// is ever told.
+    /// Shuts the queue for claims, for good; what was put can still be taken. True where it was open, which one end
+    /// alone is ever told.
     pub fn shut(&self, end: &mut QueueEnd<N>) -> bool
         requires { IsEndOf self.now end.old }
         ensures queue { IsSameEnd end.old end.new }

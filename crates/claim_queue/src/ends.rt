@@ -28,7 +28,7 @@ pub struct QueueEnd<const N: usize> {
     pub(crate) seat: Seat<(), View>,
     ghost room: { seat.me.0.part.queue.room ≡ N },
     ghost bare: { seat.me.1 ≡ [] },
-    ghost one: { seat.me.0.ends ≡ 1 },
+    ghost one: { seat.me.0.member.ends ≡ 1 },
     ghost distinct: { Distinct seat.me.0.part.runs },
 }
 
@@ -57,8 +57,8 @@ impl<const N: usize> ClaimQueue<N> {
     /// A new end, which has claimed and taken nothing. Both ends are to be joined again before the queue can be closed;
     /// an end that is dropped can never be joined.
     ///
-    /// Condition: the end has two parts or more of its queue's 2^64 - 1. The first end can be split a million times without
-    /// a join, and each of those ends twenty times in a chain.
+    /// Condition: the end has two parts or more of its queue's 2^64 - 1. The first end can be split a million times
+    /// without a join, and each of those ends twenty times in a chain.
     pub fn split(&self, end: &mut QueueEnd<N>) -> QueueEnd<N>
         requires queue { IsEndOf self.now end.old }
         requires parts { IsDivisible end.old }

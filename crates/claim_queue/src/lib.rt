@@ -18,13 +18,13 @@
 //! assert_eq!(rt; (closed.put, closed.taken), (3, 3));
 //! ```
 //!
-//! `N` is 1 to 256. An item is a `u64`. A position is a place of the queue from its beginning on, and is used once: a queue
-//! takes 4,294,967,295 items less its first position, and is then Spent. The numbers in an answer are positions.
+//! `N` is 1 to 256. An item is a `u64`. A position is a place of the queue from its beginning on, and is used once: a
+//! queue takes 4,294,967,295 items less its first position, and is then Spent. The numbers in an answer are positions.
 //!
-//! Every end may put and take. No call but `put` waits, and none but `new` takes memory. `put` tries again where another end
-//! claimed first, and gives up for every other reason. A claim that is dropped before all of it is raised leaves its places
-//! unraised: nobody takes past them, and with N places claimed behind the tail every claim is Full. An end that is dropped
-//! is never joined, so the queue can't be closed any more; all else goes on.
+//! Every end may put and take. No call but `put` waits, and none but `new` takes memory. `put` tries again where
+//! another end claimed first, and gives up for every other reason. A claim that is dropped before all of it is raised
+//! leaves its places unraised: nobody takes past them, and with N places claimed behind the tail every claim is Full.
+//! An end that is dropped is never joined, so the queue can't be closed any more; all else goes on.
 //!
 //! `ClaimRule`, `Shape` and `View` are for the proofs alone: they stand in the contracts of what the ends list.
 #![tactic(auto)]

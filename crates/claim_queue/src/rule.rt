@@ -2,7 +2,7 @@
 use atomic_table::TableRule;
 use std::collections::LinkedList;
 use table_theory::queues::{Positions, QueueView};
-use table_theory::views::Entry;
+use table_theory::views::{Entry, Member};
 
 /// What the rule is told when the table is made.
 #[derive(Drop)]
@@ -11,18 +11,14 @@ pub struct Shape {
     pub room: u64,
 }
 
-/// What an end knows: its runs and takings in the queue as it was at the end's last step, how many of the ends counted it
-/// is and its share of the queue, how often it was split and took in another end, the splits (true) and joins (false) of
-/// all ends up to its last step on their number, how often it shut the queue, and every step that it made.
+/// What an end knows: its runs and takings in the queue as it was at the end's last step, which of the ends it is, how
+/// often it shut the queue, every step that it made, and every step that any end had made up to its own last one.
 pub struct View {
     pub part: QueueView,
-    pub ends: u64,
-    pub share: u64,
-    pub splits: u64,
-    pub joins: u64,
-    pub log: LinkedList<bool>,
+    pub member: Member,
     pub shuts: u64,
     pub steps: LinkedList<Entry<Positions>>,
+    pub course: LinkedList<Entry<Positions>>,
 }
 
 pub struct ClaimRule;

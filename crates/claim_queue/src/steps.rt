@@ -64,7 +64,7 @@ pub(crate) fn exchange_head<J: ClaimItems>(
     items: &[u64],
 ) -> u64
     requires queue { (seat.old.table_id ≡ words.now.table_id) × (3 ≤ words.now.table_id.words) }
-    requires live { 1 ≤ seat.old.me.0.ends }
+    requires live { 1 ≤ seat.old.me.0.member.ends }
     requires call { J.call ≡ seat.old.id }
     requires items { (items.now ≡ J.items) × (0 < length items.now) }
     requires room { head + length items.now ≤ tail_of seat.old.me.0.part.queue + seat.old.me.0.part.queue.room }
@@ -163,7 +163,7 @@ pub(crate) fn exchange_tail<J: Caller>(
     new: u64,
 ) -> u64
     requires queue { (seat.old.table_id ≡ words.now.table_id) × (3 ≤ words.now.table_id.words) }
-    requires live { 1 ≤ seat.old.me.0.ends }
+    requires live { 1 ≤ seat.old.me.0.member.ends }
     requires call { J.call ≡ seat.old.id }
     requires new { (tail < new) × (seat.old.me.0.part.queue.first ≤ tail) }
     requires raised { (i : ℕ) → i < new - tail
@@ -178,7 +178,7 @@ pub(crate) fn exchange_tail<J: Caller>(
 
 pub(crate) fn or_head<J: Caller>(words: &Words, seat: &mut Seat<(), View>) -> u64
     requires queue { (seat.old.table_id ≡ words.now.table_id) × (3 ≤ words.now.table_id.words) }
-    requires live { 1 ≤ seat.old.me.0.ends }
+    requires live { 1 ≤ seat.old.me.0.member.ends }
     requires call { J.call ≡ seat.old.id }
     ensures queue { IsSame seat.old seat.new × (seat.new.me.1 ≡ seat.old.me.1) }
     ensures shut { Shut J.call seat.old.me.0 result seat.new.me.0 }
@@ -188,7 +188,7 @@ pub(crate) fn or_head<J: Caller>(words: &Words, seat: &mut Seat<(), View>) -> u6
 
 pub(crate) fn count_up(words: &Words, seat: &mut Seat<(), View>) -> u64
     requires queue { (seat.old.table_id ≡ words.now.table_id) × (3 ≤ words.now.table_id.words) }
-    requires parts { seat.old.me.0.ends + 1 ≤ seat.old.me.0.share }
+    requires parts { seat.old.me.0.member.ends + 1 ≤ seat.old.me.0.member.share }
     ensures queue { IsSame seat.old seat.new × (seat.new.me.1 ≡ seat.old.me.1) }
     ensures counted { CountedUp seat.old.me.0 result seat.new.me.0 }
 {
@@ -197,7 +197,7 @@ pub(crate) fn count_up(words: &Words, seat: &mut Seat<(), View>) -> u64
 
 pub(crate) fn count_down(words: &Words, seat: &mut Seat<(), View>) -> u64
     requires queue { (seat.old.table_id ≡ words.now.table_id) × (3 ≤ words.now.table_id.words) }
-    requires live { 2 ≤ seat.old.me.0.ends }
+    requires live { 2 ≤ seat.old.me.0.member.ends }
     ensures queue { IsSame seat.old seat.new × (seat.new.me.1 ≡ seat.old.me.1) }
     ensures counted { CountedDown seat.old.me.0 result seat.new.me.0 }
 {
@@ -206,7 +206,7 @@ pub(crate) fn count_down(words: &Words, seat: &mut Seat<(), View>) -> u64
 
 pub(crate) fn count(words: &Words, seat: &mut Seat<(), View>) -> u64
     requires queue { (seat.old.table_id ≡ words.now.table_id) × (3 ≤ words.now.table_id.words) }
-    requires live { seat.old.me.0.ends ≡ 1 }
+    requires live { seat.old.me.0.member.ends ≡ 1 }
     ensures queue { IsSame seat.old seat.new × (seat.new.me.1 ≡ seat.old.me.1) }
     ensures tallied { Tallied seat.old.me.0 result seat.new.me.0 }
 {
@@ -215,7 +215,7 @@ pub(crate) fn count(words: &Words, seat: &mut Seat<(), View>) -> u64
 
 pub(crate) fn split_off(words: &Words, seat: &mut Seat<(), View>) -> Seat<(), View>
     requires queue { (seat.old.table_id ≡ words.now.table_id) × (3 ≤ words.now.table_id.words) }
-    requires live { seat.old.me.0.ends ≡ 2 }
+    requires live { seat.old.me.0.member.ends ≡ 2 }
     ensures queue { IsSame seat.old seat.new × (result.table_id ≡ seat.old.table_id) }
     ensures split { (seat.new.me ≡ (rest_of seat.old.me.0, seat.old.me.1)) × (result.me ≡ (newborn seat.old.me.0, [])) }
 {
@@ -225,7 +225,7 @@ pub(crate) fn split_off(words: &Words, seat: &mut Seat<(), View>) -> Seat<(), Vi
 pub(crate) fn take_in<J: Spent>(words: &Words, seat: &mut Seat<(), View>, other: Seat<(), View>)
     requires queue { (seat.old.table_id ≡ words.now.table_id) × (other.table_id ≡ words.now.table_id)
         × (other.me.1 ≡ []) × (3 ≤ words.now.table_id.words) }
-    requires live { (1 ≤ seat.old.me.0.ends) × (1 ≤ other.me.0.ends) }
+    requires live { (1 ≤ seat.old.me.0.member.ends) × (1 ≤ other.me.0.member.ends) }
     requires spent { J.view ≡ emptied seat.old.me.0 }
     ensures queue { IsSame seat.old seat.new }
     ensures joined { seat.new.me ≡ (both seat.old.me.0 other.me.0, seat.old.me.1) }

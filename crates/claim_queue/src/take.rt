@@ -17,8 +17,8 @@ use thiserror::Error;
 /// Why nothing was taken.
 #[derive(Clone, Copy, Debug, PartialEq, Eq, Drop, Error)]
 pub enum TakeRefusal {
-    /// The place of this position was not raised, and up to it there was nothing to take: no item, or no whole line. The
-    /// tail was found again after that, and the queue was open or had something left.
+    /// The place of this position was not raised, and up to it there was nothing to take: no item, or no whole line.
+    /// The tail was found again after that, and the queue was open or had something left.
     #[error("nothing raised at {at}")]
     Empty { at: u32 },
     /// Another end took first: this is the tail that was found, past the one that was loaded.
@@ -123,9 +123,9 @@ impl<const N: usize> ClaimQueue<N> {
         true
     }
 
-    /// One try to take a line: the items up to and with the first 10, or N raised items without one. They are appended to
-    /// `line`, and their number is the answer; where the try is refused the list stays empty. All of them come by one
-    /// exchange, so no other end's item lies between them.
+    /// One try to take a line: the items up to and with the first 10, or N raised items without one. They are appended
+    /// to `line`, and their number is the answer; where the try is refused the list stays empty. All of them come by
+    /// one exchange, so no other end's item lies between them.
     ///
     /// Condition: the list is empty.
     pub fn try_take_line(
@@ -137,8 +137,8 @@ impl<const N: usize> ClaimQueue<N> {
         requires empty { line.old.items ≡ [] }
         ensures queue { IsSameEnd end.old end.new }
         ensures taken { MatchResult result (λ n. (n ≡ length line.new.items) × IsLine N line.new.items
-            × TookItems N (call_of end.old) (view_of end.old) line.new.items (view_of end.new)) (λ r. (line.new.items ≡ [])
-            × RefusedTake (IsBegun N) (IsLine N) N (view_of end.old) r (view_of end.new)) }
+            × TookItems N (call_of end.old) (view_of end.old) line.new.items (view_of end.new))
+            (λ r. (line.new.items ≡ []) × RefusedTake (IsBegun N) (IsLine N) N (view_of end.old) r (view_of end.new)) }
         ensures others { KeepsClaims (view_of end.old) (view_of end.new) }
         ensures lines { MatchResult result (λ n. TookLine line.new.items (view_of end.old) (view_of end.new))
             (λ r. SameLines (view_of end.old) (view_of end.new)) }

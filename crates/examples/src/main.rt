@@ -7,17 +7,8 @@ use std::alloc::Global;
 use std::process::ExitCode;
 use std::{fs, io};
 
-/// Each example: the list of events is in NAME.events, and what it prints in NAME.status.
-const NAMES: [&str; 8] = [
-    "two-producers",
-    "not-raised",
-    "full-queue",
-    "three-queues",
-    "not-owner",
-    "one-note",
-    "into-the-stop-cell",
-    "fault-of-text",
-];
+/// The table of events and refusals. Each other file is NAME.events, a list of events, or NAME.status, what it prints.
+const ROWS: &str = "rows.txt";
 
 /// Replays a list, and answers whether it prints what is wanted. Tells under which name where it doesn't.
 fn is_as_printed(
@@ -91,7 +82,7 @@ impl Row {
 /// Replays each row of the table, tells how many there are, and answers whether all print what is wanted. Rows are
 /// parted by empty lines.
 fn compare_rows(rt: &HostRuntime) -> io::Result<bool> {
-    let table = fs::read(rt, "rows.txt")?;
+    let table = fs::read(rt, ROWS)?;
     let mut row = Row::new(rt.alloc());
     let mut count = 0u32;
     let mut same = true;
@@ -108,10 +99,37 @@ fn compare_rows(rt: &HostRuntime) -> io::Result<bool> {
     Ok(same)
 }
 
+/// The names of all files of the folder that the program runs in, in their order.
+fn files(rt: &HostRuntime) -> io::Result<Vec<String>> {
+    let mut names = Vec::new(rt.alloc());
+    for entry in fs::read_dir(rt, ".")? {
+        names.push(String::from_str(rt.alloc(), entry?.file_name())?)?;
+    }
+    names.sort()?;
+    Ok(names)
+}
+
+/// Replays the example that a file has the list of events of. Another file has to be the status of such a list or the
+/// table; one that is neither is told, and the answer is then false.
+fn compare_file(rt: &HostRuntime, file: &str) -> io::Result<bool> {
+    if let Some(name) = file.strip_suffix(".events") {
+        return compare(rt, name);
+    }
+    if let Some(name) = file.strip_suffix(".status") {
+        if fs::exists(rt, format!(in rt.alloc(); "{name}.events")?)? {
+            return Ok(true);
+        }
+    }
+    if file != ROWS {
+        println!(rt; "{file}: no example has this file")?;
+    }
+    Ok(file == ROWS)
+}
+
 fn compare_all(rt: &HostRuntime) -> io::Result<bool> {
     let mut same = true;
-    for name in NAMES {
-        same = compare(rt, name)? && same;
+    for file in &files(rt)? {
+        same = compare_file(rt, file.as_str())? && same;
     }
     Ok(compare_rows(rt)? && same)
 }

@@ -1,5 +1,5 @@
 -- Whatever the rule holds of are lawful meters that are shown.
-use Rattle.std.proofs.Common.{◌≡◌, ℕ, List, map, take, drop, sym, ◌∙◌, arith, length-drop, length-take, get_or-drop, get_or-take, None}
+use Rattle.std.proofs.Common.{◌≡◌, ℕ, List, map, take, drop, refl, sym, ◌∙◌, arith, length-drop, length-take, get_or-drop, get_or-take, None}
 use Rattle.std.proofs.lemmas.Grind.{same_number_lists}
 use Rattle.std.proofs.lemmas.List.{length-map, get_or-map}
 use Rattle.meters.specs.declared.rule.Reading.{Reading}
@@ -21,7 +21,9 @@ shown_alarms m words h = let sixteen = h.slots.sixteen in let wide = h.wide in l
 
 pub shows_meters : (key : Shape) (s : State Unit View) → Rule key s → ShowsMeters key s
 shows_meters key s k = let m : Reading = k.meters in record {
+  now = m;
   meters = meters_of m;
+  same = refl;
   lawful = k.lawful;
   shown = record {
     long = k.shows.wide;
@@ -37,6 +39,7 @@ shows_meters key s k = let m : Reading = k.meters in record {
     cancelled = k.listed.cancelled;
     once = λ a. (let x = k.lawful a in let f = k.listed.set a in let g = k.listed.fired a in let h = k.listed.cancelled a in omega arith);
   };
-  ends = (let e = k.logged.number in let a = k.logged.splits in let b = k.logged.joins in omega arith);
-  counted = k.counted;
+  seen = k.listed.later;
+  course = k.course;
+  ends = k.ends;
 }

@@ -7,8 +7,8 @@ use Rattle.quaject_core.specs.declared.refusal.Refusal.TheVariants.{UnknownName,
 use Rattle.quaject_core.specs.Meters.{Meters, tick, advance, set_alarm, fire, cancel, is_empty, standing}
 use Rattle.quaject_core.specs.Lawful.{IsLawfulMeters, is_alarm, stands}
 use Rattle.quaject_core.specs.Results.{◌>>=◌, refused_if, change_at}
-use Rattle.quaject_core.proofs.MeterLaws.{tick_law, advance_law, set_alarm_law, fire_law, cancel_law}
-use Rattle.quaject_core.proofs.Inversions.{then_ok, test_ok, given_ok}
+use Rattle.quaject_core.proofs.Keeping.Meters.{tick_law, advance_law, set_alarm_law, fire_law, cancel_law}
+use Rattle.quaject_core.proofs.Lists.Inversions.{then_ok, test_ok, given_ok}
 use Rattle.meters.specs.declared.rule.Reading.{Reading}
 use Rattle.meters.specs.Changes.{meters_of, IsLawful, in_slot, AreAlike, IsSet, Happens, ticked, advanced, was_set, fired, cancelled, Leads, here, further}
 

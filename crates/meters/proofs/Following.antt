@@ -4,6 +4,7 @@ use Rattle.std.proofs.lemmas.List.Elements.{filter_map-append}
 use Rattle.std.specs.Option.{is_some}
 use Rattle.quaject_core.specs.declared.alarm.Alarm.{Alarm}
 use Rattle.table_theory.specs.Ends.{Begins}
+use Rattle.table_theory.specs.Members as members
 use Rattle.table_theory.specs.Sharing.{kept, given}
 use Rattle.meters.specs.declared.rule.Reading.{Reading}
 use Rattle.meters.specs.declared.rule.View.{View}
@@ -11,7 +12,7 @@ use Rattle.meters.specs.Changes.{Leads, further, fired}
 use Rattle.meters.specs.Own.{Own, own_of, DidNothing, DidAdvance, DidSet, DidFire}
 use Rattle.meters.specs.Views.{Later}
 use Rattle.meters.specs.Words.{clock_word}
-use Rattle.meters.specs.Steps.{with_split, with_join, Found, Advanced, Fired, CountedUp, CountedDown, rest_of, newborn, both}
+use Rattle.meters.specs.Steps.{counted, Found, Advanced, Fired, CountedUp, CountedDown, rest_of, newborn, both}
 use Rattle.meters.specs.Endings.{Divided, IsNewborn, TookIn}
 use Rattle.meters.specs.Answers.{WasLost, FoundIn, FoundOther, FoundAlarms, FoundEmpty, SetNow, FoundNoRoom, WasTaken, Visit, stays, goes, went, IsNotDue, Visited, AllVisited, gave, Gave}
 use Rattle.meters.proofs.Events.{clock_leads, leads_on}
@@ -99,7 +100,7 @@ pub clock_in : (v w : View) (clock slot : ℕ) (stood : Option Alarm) → FoundI
 clock_in v w clock slot stood f told = let up = clock_leads v.seen w.seen f.word.later.0 in omega arith
 
 pub clock_fired : (v w : View) (clock slot : ℕ) (alarm : Alarm) → Fired v slot alarm w → clock ≤ v.seen.clock → clock ≤ w.seen.clock
-clock_fired v w clock slot alarm h told = let up = clock_leads v.seen w.seen (further h.before w.seen h.later.0 (fired slot h.event)) in omega arith
+clock_fired v w clock slot alarm h told = let up = clock_leads v.seen w.seen (further h.meters w.seen h.later.0 (fired slot h.event)) in omega arith
 
 -- one slot more was visited
 pub visits_push : (v u w : View) (clock slot : ℕ) (visits : List Visit) (visit : Visit) → AllVisited v clock slot visits u → Visited u clock (slot + length visits) visit w → AllVisited v clock slot (visits ++ visit ∷ []) w
@@ -157,40 +158,50 @@ pub due_did : (v u w : View) (clock : ℕ) (alarms : List Alarm) → Found v clo
 due_did v u w clock alarms f s = visits_did u w clock 0 s.visits s.visited ∙ ((λ i. let e : Own = found_nothing v u clock_word clock f i in record e { fired = e.fired ++ filter_map gave s.visits }) ∙ (λ i. record (own_of v) { fired = v.fired ++ sym s.alarms_are i }))
 
 -- ends
-divided : (v u : View) (found : ℕ) → v.ends ≡ 1 → CountedUp v found u → Divided v (rest_of u) × IsNewborn v (rest_of u) (newborn u)
-divided v u found one c = (
+divided : (v u : View) (found : ℕ) → CountedUp v found u → Divided v (rest_of u) × IsNewborn v (rest_of u) (newborn u)
+divided v u found c = let n = c.member in (
   record {
     found = found;
-    log = c.log;
-    same = ap rest_of c.same ∙ (λ i. record (with_split v found u.seen c.log) { ends = less i; share = kept v.share });
+    before = c.before;
+    follows = c.follows;
+    same = ap rest_of c.same;
     later = c.later;
     lawful = c.lawful;
-    begins = c.begins;
-    number = c.number;
+    member = record {
+      log = n.log;
+      same = ap members.rest_of n.same ∙ (λ i. record (members.with_split v.member n.log) { ends = less i; share = kept v.member.share });
+      later = n.later;
+      number = n.number;
+    };
   },
-  λ i. record (newborn u) { share = given (c.same i).share },
+  λ i. record (newborn u) { member = record (members.newborn u.member) { share = given (n.same i).share } },
 )
   where
-    less : v.ends + 1 - 1 ≡ 1
+    less : v.member.ends + 1 - 1 ≡ v.member.ends
     less = omega arith
 
 -- the two ends of a split, as they are given back
-pub split_views : {A : Type 0} (v u : View) (found : ℕ) (one other : View × A) (a b : A) → v.ends ≡ 1 → CountedUp v found u → one ≡ (rest_of u, a) → other ≡ (newborn u, b) → Divided v one.0 × IsNewborn v one.0 other.0
-split_views v u found one other a b sole c e e' = let d = divided v u found sole c in (subst (λ z. Divided v z.0) (sym e) d.0, subst (λ z. IsNewborn v z.0 other.0) (sym e) (subst (λ z. IsNewborn v (rest_of u) z.0) (sym e') d.1))
+pub split_views : {A : Type 0} (v u : View) (found : ℕ) (one other : View × A) (a b : A) → CountedUp v found u → one ≡ (rest_of u, a) → other ≡ (newborn u, b) → Divided v one.0 × IsNewborn v one.0 other.0
+split_views v u found one other a b c e e' = let d = divided v u found c in (subst (λ z. Divided v z.0) (sym e) d.0, subst (λ z. IsNewborn v z.0 other.0) (sym e) (subst (λ z. IsNewborn v (rest_of u) z.0) (sym e') d.1))
 
 -- an end that took in another, and then was counted down
-pub took_in : (v u b w : View) (found : ℕ) → v.ends ≡ 1 → u.ends ≡ 1 → b ≡ both v u → CountedDown b found w → TookIn v u w
-took_in v u b w found one one' is c = record {
+pub took_in : (v u b w : View) (found : ℕ) → v.member.ends ≡ 1 → u.member.ends ≡ 1 → b ≡ both v u → CountedDown b found w → TookIn v u w
+took_in v u b w found one one' is c = let n = c.member in record {
   found = found;
-  log = c.log;
-  same = c.same ∙ (λ i. record (with_join (is i) found w.seen c.log) { ends = (is i).ends - 1 }) ∙ (λ i. record (with_join (both v u) found w.seen c.log) { ends = less i });
+  before = c.before;
+  follows = subst (λ (z : View). Begins z.course c.before) is c.follows;
+  same = c.same ∙ (λ i. counted (is i) found c.before w.seen w.member);
   later = subst (λ (z : View). Later z w.seen) is c.later;
   lawful = c.lawful;
-  begins = subst (λ (z : View). Begins z.log c.log) is c.begins;
-  number = c.number;
+  member = record {
+    log = n.log;
+    same = n.same ∙ ((λ i. members.with_join (is i).member n.log) ∙ (λ i. record (members.with_join (members.both v.member u.member) n.log) { ends = less i }));
+    later = subst (λ (z : View). Begins z.member.log n.log) is n.later;
+    number = n.number;
+  };
 }
   where
-    less : v.ends + u.ends - 1 ≡ 1
+    less : v.member.ends + u.member.ends - 1 ≡ 1
     less = omega arith
 
 -- the words of a load that found no alarm

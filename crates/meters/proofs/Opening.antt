@@ -3,15 +3,14 @@ use Rattle.std.proofs.Common.{◌≡◌, ℕ, suc, zero, replicate, ◌+◌, ◌
 use Rattle.std.specs.List.{repeat}
 use Rattle.atomic_table.specs.Table.{opening}
 use Rattle.quaject_core.specs.declared.alarm.Alarm.{Alarm}
-use Rattle.table_theory.specs.Sharing.{EndsCounted}
-use Rattle.table_theory.proofs.Counting.{counted_first}
-use Rattle.table_theory.specs.Ends.{EndsLogged}
-use Rattle.table_theory.proofs.Ends.{logged_first}
+use Rattle.table_theory.specs.Members.{EndsKnown}
+use Rattle.table_theory.proofs.Courses.{course_first}
+use Rattle.table_theory.proofs.Members.{known_first}
 use Rattle.meters.specs.declared.rule.Shape.{Shape}
 use Rattle.meters.specs.declared.rule.View.{View}
 use Rattle.meters.specs.Changes.{first_reading, here}
 use Rattle.meters.specs.Words.{word_of, Fits, WordsShow}
-use Rattle.meters.specs.Rules.{Rule, ends_of, share_of, splits_of, joins_of, log_of, IsIdle, newcomer}
+use Rattle.meters.specs.Rules.{Rule, member_of, steps_of, course_of, IsIdle, newcomer}
 use Rattle.meters.proofs.Listed.{first_later}
 
 none_set : (n j : ℕ) → get_or {A = Option Alarm} (repeat n (None ∷ [])) j None ≡ None
@@ -51,8 +50,8 @@ opens key words small long ends clock rest = let v : View = newcomer key in reco
     cancelled = λ a. refl;
     later = first_later (first_reading key.clock) v (here, here);
   };
-  counted = subst (λ (c : ℕ). EndsCounted ends_of share_of IsIdle c (v ∷ [])) (sym ends) (counted_first ends_of share_of IsIdle v refl refl);
-  logged = subst (λ (c : ℕ). EndsLogged splits_of joins_of log_of c (v ∷ [])) (sym ends) (logged_first splits_of joins_of log_of v refl refl refl);
+  ends = subst (λ (c : ℕ). EndsKnown member_of IsIdle c (v ∷ [])) (sym ends) (known_first member_of IsIdle v refl);
+  course = course_first steps_of course_of (first_reading key.clock) v refl refl;
 }
 
 zeros : (n j : ℕ) → get_or {A = ℕ} (replicate n 0) j 0 ≡ 0

@@ -12,14 +12,17 @@ use Rattle.atomic_table.proofs.Lists.{at_snoc}
 use Rattle.quaject_core.specs.declared.alarm.Alarm.{Alarm}
 use Rattle.quaject_core.specs.Lawful.{is_alarm, stands}
 use Rattle.table_theory.specs.Sharing.{IsWhole}
-use Rattle.table_theory.specs.Ends.{IsNumber, Begins, EndsLogged}
-use Rattle.table_theory.proofs.Counting.{others_idle, count_found}
+use Rattle.table_theory.specs.declared.views.Member.{Member}
+use Rattle.table_theory.specs.Ends.{IsNumber, Begins}
+use Rattle.table_theory.specs.Members.{EndsKnown}
+use Rattle.table_theory.proofs.Counting.{counted_first}
+use Rattle.table_theory.proofs.Members.{rest_idle, tallied}
 use Rattle.table_theory.proofs.Ends.{begins_trans}
 use Rattle.meters.specs.declared.rule.Reading.{Reading}
 use Rattle.meters.specs.declared.rule.Shape.{Shape}
 use Rattle.meters.specs.declared.rule.View.{View}
 use Rattle.meters.specs.Closings.{IsAllOf, ClosedNow, WereOpen}
-use Rattle.meters.specs.Rules.{Rule, ends_of, share_of, splits_of, joins_of, log_of, IsIdle}
+use Rattle.meters.specs.Rules.{Rule, member_of, IsIdle}
 use Rattle.meters.specs.Steps.{Tallied}
 use Rattle.meters.specs.Changes.{IsLawful}
 use Rattle.meters.specs.Own.{own_of, nothing_own}
@@ -82,29 +85,38 @@ same_all : (v : View) (first : ℕ) (gauges gauges' : List ℕ) (clock clock' : 
 same_all v first gauges gauges' clock clock' alarms alarms' e f g a = subst (λ z. IsAllOf v first z clock alarms) (sym e) (subst (λ z. IsAllOf v first gauges' z alarms) (sym f) (subst (λ z. IsAllOf v first gauges' clock' z) (sym g) a))
 
 -- the one end lists all splits and joins
-sole_logged : (n : ℕ) (views : List View) (id : ℕ) (v w : View) (c : EndsLogged splits_of joins_of log_of n views) → n ≡ 1 → get_elem? views id ≡ maybe.some w → ((i : ℕ) (u : View) → get_elem? views i ≡ maybe.some u → i ≢ id → own_of u ≡ nothing_own) → own_of w ≡ own_of v → Begins v.log w.log → EndsLogged splits_of joins_of log_of 1 (v ∷ [])
-sole_logged n views id v w c one at idle same begins = let seen : Begins v.log c.log = begins_trans v.log w.log c.log begins (c.seen id w at) in record {
-  log = c.log;
-  number = subst (IsNumber c.log) one c.number;
-  splits = sole_own views id v w at idle same (λ e. e.splits) refl ∙ c.splits;
-  joins = sole_own views id v w at idle same (λ e. e.joins) refl ∙ c.joins;
-  seen = λ j u has. ⊎_elim (λ e. absurd (maybe.some-ne-none u (sym e))) (λ e. subst (λ (z : View). Begins z.log c.log) e seen) (at_snoc [] v u j has);
+sole_known : (n : ℕ) (views : List View) (id : ℕ) (v w : View) → EndsKnown member_of IsIdle n views → n ≡ 1 → v.member.ends ≡ 1 → IsWhole v.member.share → get_elem? views id ≡ maybe.some w → ((i : ℕ) (u : View) → get_elem? views i ≡ maybe.some u → i ≢ id → own_of u ≡ nothing_own)
+    → own_of w ≡ own_of v → Begins v.member.log w.member.log → EndsKnown member_of IsIdle 1 (v ∷ [])
+sole_known n views id v w k one one_end whole at idle same begins = let c = k.logged in let seen : Begins v.member.log c.log = begins_trans v.member.log w.member.log c.log begins (c.seen id w at) in record {
+  counted = counted_first (λ u. u.member.ends) (λ u. u.member.share) IsIdle v one_end whole;
+  logged = record {
+    log = c.log;
+    number = subst (IsNumber c.log) one c.number;
+    splits = sole_own views id v w at idle same (λ e. e.splits) refl ∙ c.splits;
+    joins = sole_own views id v w at idle same (λ e. e.joins) refl ∙ c.joins;
+    seen = λ j u has. ⊎_elim (λ e. absurd (maybe.some-ne-none u (sym e))) (λ e. subst (λ (z : View). Begins z.member.log c.log) e seen) (at_snoc [] v u j has);
+  };
+  standing = λ j u has. ⊎_elim (λ e. absurd (maybe.some-ne-none u (sym e))) (λ e. subst (λ (z : View). z.member.ends ≡ 0 → (z.member.splits ≡ 0) × (z.member.joins ≡ 0)) e (λ none. absurd (omega arith))) (at_snoc [] v u j has);
 }
 
-pub closes : (key : Shape) (v w : View) (found id : ℕ) (ws : List ℕ) (xs : List Unit) (gauges : List ℕ) (clock : ℕ) (alarms : List Alarm) → v.ends ≡ 1 → Tallied v found w → found ≡ 1 → Final (Seen (Rule key) id w) ws xs
+-- a look at the number of ends is no event
+tally_nothing : (v w : View) (found : ℕ) → Tallied v found w → own_of w ≡ own_of v
+tally_nothing v w found t = ap own_of t.same ∙ (λ i. let m : Member = t.member.same i in record (own_of v) { splits = m.splits; joins = m.joins; share = m.share })
+
+pub closes : (key : Shape) (v w : View) (found id : ℕ) (ws : List ℕ) (xs : List Unit) (gauges : List ℕ) (clock : ℕ) (alarms : List Alarm) → v.member.ends ≡ 1 → Tallied v found w → found ≡ 1 → Final (Seen (Rule key) id w) ws xs
     → gauges ≡ take 8 (drop 1 ws) → get_elem? ws 9 ≡ maybe.some clock → ((slots : List (Option Alarm)) → SlotsShow slots ws → alarms ≡ standing slots) → ClosedNow key.clock v gauges clock alarms
 closes key v w found id ws xs gauges clock alarms one_end t is fin read_gauges read_clock read_alarms =
     let s : St = fin.0 in let k = fin.1.0 in let m : Reading = k.meters in let shows : WordsShow m ws = subst (WordsShow m) fin.2 k.shows in let seen = k.listed.later id w fin.1.1 in
     let gauges_is : gauges ≡ m.gauges = read_gauges ∙ sym (shown_gauges m ws shows) in let alarms_is : alarms ≡ standing m.slots = read_alarms m.slots shows.slots in let clock_is : clock ≡ m.clock = sym (read_word ws 9 clock read_clock) ∙ shows.clock in
-    let whole : IsWhole v.share = t.count.alone is in let still : IsWhole w.share = subst (λ (z : View). IsWhole z.share) (sym t.same) whole in let n : ℕ = get_or s.words 0 0 in
-    let idle = others_idle ends_of share_of IsIdle n s.views id w k.counted fin.1.1 still in let same : own_of w ≡ own_of v = ap own_of t.same in
-    let one : n ≡ 1 = (count_found ends_of share_of IsIdle n s.views id w k.counted fin.1.1 (ap ends_of t.same ∙ one_end)).whole still in
-    let listed : ViewsShow key.clock m (v ∷ []) = sole_listed key.clock m s.views id v w k.listed fin.1.1 idle same (later_than v w.seen m t.later seen.0) in record {
+    let whole : IsWhole v.member.share = t.member.count.alone is in let still : IsWhole w.member.share = ap (λ (z : Member). z.share) t.member.same ∙ whole in let n : ℕ = get_or s.words 0 0 in
+    let idle = rest_idle member_of IsIdle n s.views id w k.ends fin.1.1 still in let same : own_of w ≡ own_of v = tally_nothing v w found t in
+    let one : n ≡ 1 = (tallied member_of IsIdle n s.views id w k.ends fin.1.1 (ap (λ (z : Member). z.ends) t.member.same ∙ one_end)).count.whole still in
+    let listed : ViewsShow key.clock m (v ∷ []) = sole_listed key.clock m s.views id v w k.listed fin.1.1 (λ i u has ne. (idle i u has ne).0) same (later_than v w.seen m t.later seen.0) in record {
       whole = whole;
       last = m;
       lawful = k.lawful;
       listed = listed;
-      logged = sole_logged n s.views id v w k.logged one fin.1.1 idle same t.begins;
+      ends = sole_known n s.views id v w k.ends one one_end whole fin.1.1 (λ i u has ne. (idle i u has ne).0) same t.member.later;
       gauges_are = gauges_is;
       clock_is = clock_is;
       alarms_are = alarms_is;
@@ -112,8 +124,8 @@ closes key v w found id ws xs gauges clock alarms one_end t is fin read_gauges r
     }
 
 pub were_open : (v w : View) (found : ℕ) → Tallied v found w → found ≢ 1 → WereOpen v (found - 1) w
-were_open v w found t ne = let some_end = t.count.some_end in let e : found ≡ found - 1 + 1 = omega arith in record {
+were_open v w found t ne = let some_end = t.member.count.some_end in let e : found ≡ found - 1 + 1 = omega arith in record {
   tallied = subst (λ (z : ℕ). Tallied v z w) e t;
   some_other = omega arith;
-  not_whole = λ whole. ne (t.count.whole whole);
+  not_whole = λ whole. ne (t.member.count.whole whole);
 }

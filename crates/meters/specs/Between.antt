@@ -1,14 +1,20 @@
 -- What holds between any two steps: lawful meters of the core that the words and the views show.
 use Rattle.std.specs.Prelude.{◌≡◌, ℕ, ◌+◌, ◌%◌, ◌<◌, length, map, take, drop, slice_index_or, count_by, None}
+use mathlib.Core.Option.{some}
+use lib.ListN.{get_elem?}
 use Rattle.atomic_table.specs.Table.{State}
 use Rattle.quaject_core.specs.declared.alarm.Alarm.{Alarm}
 use Rattle.quaject_core.specs.Lawful.{IsLawfulMeters, stands}
 use Rattle.quaject_core.specs.Meters.{Meters}
-use Rattle.table_theory.specs.Sharing.{total, EndsCounted}
+use Rattle.table_theory.specs.Courses.{IsCourse}
+use Rattle.table_theory.specs.Members.{EndsKnown}
+use Rattle.table_theory.specs.Sharing.{total}
+use Rattle.meters.specs.declared.rule.Reading.{Reading}
 use Rattle.meters.specs.declared.rule.Shape.{Shape}
 use Rattle.meters.specs.declared.rule.View.{View}
-use Rattle.meters.specs.Rules.{ends_of, share_of, IsIdle}
-use Rattle.meters.specs.Views.{AdvancesShow, amount_on, times}
+use Rattle.meters.specs.Changes.{meters_of, first_reading}
+use Rattle.meters.specs.Rules.{member_of, steps_of, course_of, IsIdle}
+use Rattle.meters.specs.Views.{AdvancesShow, amount_on, times, Later}
 use Rattle.meters.specs.Words.{word_of, Fits}
 
 -- the words and the views show the meters
@@ -34,10 +40,14 @@ pub record IsShown (key : Shape) (s : State Unit View) (m : Meters) : Type 0 whe
 
 -- there are lawful meters that are shown
 pub record ShowsMeters (key : Shape) (s : State Unit View) : Type 0 where
+  pub now : Reading
   pub meters : Meters
   pub lawful : IsLawfulMeters meters
   pub shown : IsShown key s meters
-  -- the word has the number of ends: one, one more by each split that they list, and one less by each join
-  pub ends : slice_index_or s.words 0 0 + total (λ v. v.joins) s.views ≡ total (λ v. v.splits) s.views + 1
-  -- each end that stands has its part of the share
-  pub counted : EndsCounted ends_of share_of IsIdle (slice_index_or s.words 0 0) s.views
+  pub same : meters ≡ meters_of now
+  -- each end has seen the meters no later than now
+  pub seen : (j : ℕ) (v : View) → get_elem? s.views j ≡ some v → Later v now
+  -- the ends' steps lead to it from the first meters, and each end has seen all of them up to its own last one
+  pub course : IsCourse steps_of course_of (first_reading key.clock) now s.views
+  -- the word has the number of the ends that stand
+  pub ends : EndsKnown member_of IsIdle (slice_index_or s.words 0 0) s.views

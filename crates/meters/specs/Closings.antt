@@ -1,12 +1,12 @@
 -- What closing the meters answers.
 use Rattle.std.specs.Prelude.{◌≡◌, ◌+◌, ◌%◌, ◌<◌, ◌≤◌, ℕ, List, [], ◌∷◌, length, slice_index_or}
 use Rattle.quaject_core.specs.declared.alarm.Alarm.{Alarm}
-use Rattle.table_theory.specs.Ends.{EndsLogged}
+use Rattle.table_theory.specs.Members.{EndsKnown}
 use Rattle.table_theory.specs.Sharing.{IsWhole}
 use Rattle.meters.specs.declared.rule.Reading.{Reading}
 use Rattle.meters.specs.declared.rule.View.{View}
 use Rattle.meters.specs.Changes.{IsLawful}
-use Rattle.meters.specs.Rules.{splits_of, joins_of, log_of}
+use Rattle.meters.specs.Rules.{member_of, IsIdle}
 use Rattle.meters.specs.Steps.{Tallied}
 use Rattle.meters.specs.Views.{ViewsShow, amount_on, times, times_to}
 use Rattle.meters.specs.Words.{standing}
@@ -24,11 +24,11 @@ pub record IsAllOf (v : View) (first : ℕ) (gauges : List ℕ) (clock : ℕ) (a
 -- The meters are closed, by an end that has the whole and so lists all of them, and all splits and joins: these are the
 -- gauges, the clock and the alarms that stand at the end
 pub record ClosedNow (first : ℕ) (v : View) (gauges : List ℕ) (clock : ℕ) (alarms : List Alarm) : Type 0 where
-  pub whole : IsWhole v.share
+  pub whole : IsWhole v.member.share
   pub last : Reading
   pub lawful : IsLawful last
   pub listed : ViewsShow first last (v ∷ [])
-  pub logged : EndsLogged splits_of joins_of log_of 1 (v ∷ [])
+  pub ends : EndsKnown member_of IsIdle 1 (v ∷ [])
   pub gauges_are : gauges ≡ last.gauges
   pub clock_is : clock ≡ last.clock
   pub alarms_are : alarms ≡ standing last.slots
@@ -38,4 +38,4 @@ pub record ClosedNow (first : ℕ) (v : View) (gauges : List ℕ) (clock : ℕ) 
 pub record WereOpen (v : View) (others : ℕ) (w : View) : Type 0 where
   pub tallied : Tallied v (others + 1) w
   pub some_other : 0 < others
-  pub not_whole : IsWhole v.share → ⊥
+  pub not_whole : IsWhole v.member.share → ⊥

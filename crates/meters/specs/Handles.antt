@@ -16,11 +16,11 @@ first_of meters = meters.table.shared.key.clock
 
 -- every other end was joined
 abbrev pub IsOnlySeat : MeterSeat → Type 0
-IsOnlySeat end = IsWhole end.seat.me.0.share
+IsOnlySeat end = IsWhole end.seat.me.0.member.share
 
 -- the end can be split: it has two parts of the share or more
 abbrev pub IsDivisible : MeterSeat → Type 0
-IsDivisible end = 2 ≤ end.seat.me.0.share
+IsDivisible end = 2 ≤ end.seat.me.0.member.share
 
 -- it is an end of these meters
 abbrev pub IsSeatOf : Meters → MeterSeat → Type 0

@@ -24,9 +24,9 @@ own_of v = record {
   set = v.set;
   fired = v.fired;
   cancelled = v.cancelled;
-  splits = v.splits;
-  joins = v.joins;
-  share = v.share;
+  splits = v.member.splits;
+  joins = v.member.joins;
+  share = v.member.share;
 }
 
 abbrev pub nothing_own : Own
@@ -61,7 +61,7 @@ abbrev pub DidFire : List Alarm → View → View → Type 0
 DidFire alarms v w = own_of w ≡ record (own_of v) { fired = v.fired ++ alarms }
 
 abbrev pub DidSplit : View → View → Type 0
-DidSplit v w = own_of w ≡ record (own_of v) { splits = v.splits + 1; share = kept v.share }
+DidSplit v w = own_of w ≡ record (own_of v) { splits = v.member.splits + 1; share = kept v.member.share }
 
 -- the end then has what both had, and one join more
 abbrev pub DidBoth : View → View → View → Type 0
@@ -71,7 +71,7 @@ DidBoth v u w = own_of w ≡ record {
   set = v.set ++ u.set;
   fired = v.fired ++ u.fired;
   cancelled = v.cancelled ++ u.cancelled;
-  splits = v.splits + u.splits;
-  joins = v.joins + u.joins + 1;
-  share = v.share + u.share;
+  splits = v.member.splits + u.member.splits;
+  joins = v.member.joins + u.member.joins + 1;
+  share = v.member.share + u.member.share;
 }

@@ -1,7 +1,9 @@
--- The rule: there are lawful meters that the words and the views show, and the views log how the ends came and went.
-use Rattle.std.specs.Prelude.{◌≡◌, ℕ, Bool, List, [], slice_index_or}
-use Rattle.table_theory.specs.Ends.{EndsLogged}
-use Rattle.table_theory.specs.Sharing.{the_whole, EndsCounted}
+-- The rule: there are lawful meters that the words and the views show.
+use Rattle.std.specs.Prelude.{◌≡◌, List, [], slice_index_or}
+use Rattle.table_theory.specs.declared.views.Entry.{Entry}
+use Rattle.table_theory.specs.declared.views.Member.{Member}
+use Rattle.table_theory.specs.Courses.{AreLooks, IsCourse}
+use Rattle.table_theory.specs.Members.{first_member, EndsKnown}
 use Rattle.atomic_table.specs.Table.{State}
 use Rattle.meters.specs.declared.rule.Reading.{Reading}
 use Rattle.meters.specs.declared.rule.Shape.{Shape}
@@ -11,32 +13,26 @@ use Rattle.meters.specs.Own.{own_of, nothing_own}
 use Rattle.meters.specs.Views.{ViewsShow}
 use Rattle.meters.specs.Words.{ends_word, WordsShow}
 
-abbrev pub ends_of : View → ℕ
-ends_of v = v.ends
+abbrev pub member_of : View → Member
+member_of v = v.member
 
-abbrev pub share_of : View → ℕ
-share_of v = v.share
+abbrev pub steps_of : View → List (Entry Reading)
+steps_of v = v.steps
 
-abbrev pub splits_of : View → ℕ
-splits_of v = v.splits
+abbrev pub course_of : View → List (Entry Reading)
+course_of v = v.course
 
-abbrev pub joins_of : View → ℕ
-joins_of v = v.joins
-
-abbrev pub log_of : View → List Bool
-log_of v = v.log
-
--- the end has nothing of its own
+-- the end has nothing of its own, and none of its steps was an event
 abbrev pub IsIdle : View → Type 0
-IsIdle v = own_of v ≡ nothing_own
+IsIdle v = (own_of v ≡ nothing_own) × AreLooks v.steps
 
 pub record Rule (key : Shape) (s : State Unit View) : Type 0 where
   pub meters : Reading
   pub lawful : IsLawful meters
   pub shows : WordsShow meters s.words
   pub listed : ViewsShow key.clock meters s.views
-  pub counted : EndsCounted ends_of share_of IsIdle (slice_index_or s.words ends_word 0) s.views
-  pub logged : EndsLogged splits_of joins_of log_of (slice_index_or s.words ends_word 0) s.views
+  pub ends : EndsKnown member_of IsIdle (slice_index_or s.words ends_word 0) s.views
+  pub course : IsCourse steps_of course_of (first_reading key.clock) meters s.views
 
 abbrev pub newcomer : Shape → View
 newcomer key = record {
@@ -47,10 +43,7 @@ newcomer key = record {
   set = [];
   fired = [];
   cancelled = [];
-  splits = 0;
-  joins = 0;
-  log = [];
-  ends = 1;
-  share = the_whole;
+  member = first_member;
   steps = [];
+  course = [];
 }

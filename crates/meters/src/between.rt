@@ -3,17 +3,20 @@
 ghost use Rattle.atomic_table.specs.Table.{State};
 ghost use Rattle.meters.specs.declared.rule.Shape.{Shape};
 ghost use Rattle.meters.specs.declared.rule.View.{View};
-ghost use Rattle.meters.specs.Rules.{Rule};
 ghost use Rattle.std.specs.Prelude.{◌≤◌};
 ghost use Rattle.meters.specs.Changes.{Leads};
 ghost use Rattle.meters.specs.declared.rule.Reading.{Reading};
 ghost use Rattle.meters.specs.Between.{ShowsMeters};
+
+use crate::rule::{MeterRule, Shape, View};
+use atomic_table::TableRule;
 
 /// Whatever the rule holds of are lawful meters of the core, shown by the words and by what the ends list.
 ///
 /// Every atomic step of this crate keeps the rule, so it holds between any two steps, whoever makes them. And wherever
 /// the steps lead, the clock never goes down.
 pub fn between_steps()
-    ensures shown { (key : Shape) (state : State Unit View) → Rule key state → ShowsMeters key state }
+    ensures shown { (key : Shape) (state : State Unit View)
+        → ⟦<MeterRule as TableRule<(), View, Shape>>⟧.holds key state → ShowsMeters key state }
     ensures clock { (m n : Reading) → Leads m n → m.clock ≤ n.clock }
 {}

@@ -28,7 +28,7 @@ pub struct Meters {
 pub struct MeterSeat {
     pub(crate) seat: Seat<(), View>,
     ghost bare: { seat.me.1 ≡ [] },
-    ghost one: { seat.me.0.ends ≡ 1 },
+    ghost one: { seat.me.0.member.ends ≡ 1 },
 }
 
 impl Meters {

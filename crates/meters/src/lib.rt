@@ -1,8 +1,9 @@
 //! Gauges, a clock and alarms that several threads share: each call is one atomic step, or a few, and none waits.
 //!
 //! `Meters::new` gives the meters and their first end. Each thread steps with an end of its own, made by `split`, and
-//! the contracts speak of what an end knows: what it did, and every step that it made with the number that it found
-//! there. Once every other end is joined, `close` gives the gauges, the clock and the alarms that are left.
+//! the contracts speak of what an end knows: what it did, every step that it made with the number that it found there,
+//! and every step that any end had made up to its own last one. Once every other end is joined, `close` gives the
+//! gauges, the clock and the alarms that are left.
 //!
 //! Gauges and alarms follow Massalin (1992). What each does here is said by the meters of `quaject_core`.
 #![tactic(auto)]

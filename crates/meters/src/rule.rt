@@ -3,7 +3,7 @@
 use atomic_table::TableRule;
 use quaject_core::Alarm;
 use std::collections::LinkedList;
-use table_theory::views::Entry;
+use table_theory::views::{Entry, Member};
 
 /// What the rule is told when the table is made: the clock then.
 #[derive(Drop)]
@@ -29,9 +29,8 @@ pub struct Reading {
 }
 
 /// What an end knows: the meters at its last step, the meters as an end that it joined had seen them, its own ticks,
-/// the ticks that it moved the clock on to, the alarms that it set, fired and cancelled, how often it was split and
-/// took in another end, the splits (true) and joins (false) of all ends up to its last step on their number, how many
-/// of the ends counted it is and its share of the meters, and every step that it made.
+/// the ticks that it moved the clock on to, the alarms that it set, fired and cancelled, which of the ends it is, every
+/// step that it made, and every step that any end had made up to its own last one.
 pub struct View {
     pub seen: Reading,
     pub joined: Reading,
@@ -40,12 +39,9 @@ pub struct View {
     pub set: LinkedList<Alarm>,
     pub fired: LinkedList<Alarm>,
     pub cancelled: LinkedList<Alarm>,
-    pub splits: u64,
-    pub joins: u64,
-    pub log: LinkedList<bool>,
-    pub ends: u64,
-    pub share: u64,
+    pub member: Member,
     pub steps: LinkedList<Entry<Reading>>,
+    pub course: LinkedList<Entry<Reading>>,
 }
 
 pub struct MeterRule;

@@ -61,7 +61,7 @@ pub(crate) fn add_to_gauge(
     amount: u64,
 ) -> u64
     requires seat { (seat.old.table_id ≡ words.now.table_id) × (26 ≤ words.now.table_id.words) × (gauge < 8) }
-    requires live { 1 ≤ seat.old.me.0.ends }
+    requires live { 1 ≤ seat.old.me.0.member.ends }
     ensures seat { IsSame seat.old seat.new × (seat.new.me.1 ≡ seat.old.me.1) }
     ensures ticked { Ticked seat.old.me.0 gauge amount result seat.new.me.0 }
 {
@@ -70,7 +70,7 @@ pub(crate) fn add_to_gauge(
 
 pub(crate) fn exchange_clock(words: &Words, seat: &mut Seat<(), View>, clock: u64) -> u64
     requires seat { (seat.old.table_id ≡ words.now.table_id) × (26 ≤ words.now.table_id.words) }
-    requires live { 1 ≤ seat.old.me.0.ends }
+    requires live { 1 ≤ seat.old.me.0.member.ends }
     requires below { clock < 4294967295 }
     ensures seat { IsSame seat.old seat.new × (seat.new.me.1 ≡ seat.old.me.1) }
     ensures hit { result ≡ clock → Advanced seat.old.me.0 clock seat.new.me.0 }
@@ -89,7 +89,7 @@ pub(crate) fn exchange_in(
     alarm: Alarm,
 ) -> bool
     requires seat { (seat.old.table_id ≡ words.now.table_id) × (26 ≤ words.now.table_id.words) × (slot < 16) }
-    requires live { 1 ≤ seat.old.me.0.ends }
+    requires live { 1 ≤ seat.old.me.0.member.ends }
     ensures seat { IsSame seat.old seat.new × (seat.new.me.1 ≡ seat.old.me.1) }
     ensures hit { IsTrue result → SetIn seat.old.me.0 slot alarm seat.new.me.0 }
     ensures miss { IsFalse result → FoundTaken seat.old.me.0 slot seat.new.me.0 }
@@ -106,7 +106,7 @@ pub(crate) fn exchange_fired(
     alarm: Alarm,
 ) -> bool
     requires seat { (seat.old.table_id ≡ words.now.table_id) × (26 ≤ words.now.table_id.words) × (slot < 16) }
-    requires live { 1 ≤ seat.old.me.0.ends }
+    requires live { 1 ≤ seat.old.me.0.member.ends }
     requires due { alarm.due ≤ seat.old.me.0.seen.clock }
     ensures seat { IsSame seat.old seat.new × (seat.new.me.1 ≡ seat.old.me.1) }
     ensures hit { IsTrue result → Fired seat.old.me.0 slot alarm seat.new.me.0 }
@@ -124,7 +124,7 @@ pub(crate) fn exchange_cancelled(
     alarm: Alarm,
 ) -> bool
     requires seat { (seat.old.table_id ≡ words.now.table_id) × (26 ≤ words.now.table_id.words) × (slot < 16) }
-    requires live { 1 ≤ seat.old.me.0.ends }
+    requires live { 1 ≤ seat.old.me.0.member.ends }
     ensures seat { IsSame seat.old seat.new × (seat.new.me.1 ≡ seat.old.me.1) }
     ensures hit { IsTrue result → Cancelled seat.old.me.0 slot alarm seat.new.me.0 }
     ensures miss { IsFalse result → FoundOther seat.old.me.0 slot alarm seat.new.me.0 }
@@ -135,7 +135,7 @@ pub(crate) fn exchange_cancelled(
 
 pub(crate) fn count_up(words: &Words, seat: &mut Seat<(), View>) -> u64
     requires seat { (seat.old.table_id ≡ words.now.table_id) × (26 ≤ words.now.table_id.words) }
-    requires parts { seat.old.me.0.ends + 1 ≤ seat.old.me.0.share }
+    requires parts { seat.old.me.0.member.ends + 1 ≤ seat.old.me.0.member.share }
     ensures seat { IsSame seat.old seat.new × (seat.new.me.1 ≡ seat.old.me.1) }
     ensures counted { CountedUp seat.old.me.0 result seat.new.me.0 }
 {
@@ -144,7 +144,7 @@ pub(crate) fn count_up(words: &Words, seat: &mut Seat<(), View>) -> u64
 
 pub(crate) fn count_down(words: &Words, seat: &mut Seat<(), View>) -> u64
     requires seat { (seat.old.table_id ≡ words.now.table_id) × (26 ≤ words.now.table_id.words) }
-    requires live { 2 ≤ seat.old.me.0.ends }
+    requires live { 2 ≤ seat.old.me.0.member.ends }
     ensures seat { IsSame seat.old seat.new × (seat.new.me.1 ≡ seat.old.me.1) }
     ensures counted { CountedDown seat.old.me.0 result seat.new.me.0 }
 {
@@ -153,7 +153,7 @@ pub(crate) fn count_down(words: &Words, seat: &mut Seat<(), View>) -> u64
 
 pub(crate) fn count(words: &Words, seat: &mut Seat<(), View>) -> u64
     requires seat { (seat.old.table_id ≡ words.now.table_id) × (26 ≤ words.now.table_id.words) }
-    requires one { seat.old.me.0.ends ≡ 1 }
+    requires one { seat.old.me.0.member.ends ≡ 1 }
     ensures seat { IsSame seat.old seat.new × (seat.new.me.1 ≡ seat.old.me.1) }
     ensures tallied { Tallied seat.old.me.0 result seat.new.me.0 }
 {
@@ -162,7 +162,7 @@ pub(crate) fn count(words: &Words, seat: &mut Seat<(), View>) -> u64
 
 pub(crate) fn split_off(words: &Words, seat: &mut Seat<(), View>) -> Seat<(), View>
     requires seat { (seat.old.table_id ≡ words.now.table_id) × (26 ≤ words.now.table_id.words) }
-    requires two { seat.old.me.0.ends ≡ 2 }
+    requires two { seat.old.me.0.member.ends ≡ 2 }
     ensures seat { IsSame seat.old seat.new × (result.table_id ≡ seat.old.table_id) }
     ensures split { (seat.new.me ≡ (rest_of seat.old.me.0, seat.old.me.1)) × (result.me ≡ (newborn seat.old.me.0, [])) }
 {
@@ -172,7 +172,7 @@ pub(crate) fn split_off(words: &Words, seat: &mut Seat<(), View>) -> Seat<(), Vi
 pub(crate) fn take_in<J: Spent>(words: &Words, seat: &mut Seat<(), View>, other: Seat<(), View>)
     requires seat { (seat.old.table_id ≡ words.now.table_id) × (other.table_id ≡ words.now.table_id)
         × (other.me.1 ≡ []) × (26 ≤ words.now.table_id.words) }
-    requires live { (1 ≤ seat.old.me.0.ends) × (1 ≤ other.me.0.ends) }
+    requires live { (1 ≤ seat.old.me.0.member.ends) × (1 ≤ other.me.0.member.ends) }
     requires spent { J.view ≡ emptied seat.old.me.0 }
     ensures seat { IsSame seat.old seat.new }
     ensures joined { seat.new.me ≡ (both seat.old.me.0 other.me.0, seat.old.me.1) }

@@ -18,11 +18,12 @@ use Rattle.table_theory.specs.Positioned.{blank, item_of, place_at, item_at}
 use Rattle.table_theory.specs.Filing.{ListedOnce}
 use Rattle.table_theory.specs.Listing.{runs_of, takes_of, Chained}
 use Rattle.table_theory.proofs.QueueOf.{flat_of, long_is}
-use Rattle.table_theory.proofs.QueueEvents.{got}
+use Rattle.table_theory.proofs.QueueEvents.{history_of, got}
+use Rattle.atomic_table.proofs.Lists.{at_map}
 use Rattle.proc_chain.specs.declared.rule.Shape.{Shape}
 use Rattle.proc_chain.specs.declared.rule.View.{View}
 use Rattle.proc_chain.specs.Shown.{note_in, mark_in, gate_in, notes_of}
-use Rattle.proc_chain.specs.Rules.{part_of, Rule}
+use Rattle.proc_chain.specs.Rules.{part_of, moment, Rule}
 use Rattle.proc_chain.specs.Gates.{GateShows}
 use Rattle.proc_chain.specs.Chainings.{gate_of, runner_from, owes_in, chain_of}
 use Rattle.proc_chain.specs.Between.{pair_at, PlaceIs, ShowsChain}
@@ -66,6 +67,7 @@ module _ {Q W : Type 0} (made : Q → List ℕ → Type 0) (fits : W → Q → T
 
   pub shows_chain : ShowsChain made fits key s
   shows_chain = let q : Positions = k.queue in let l = k.listed in let n = long_is q l.runs l.runs_flat in let h = k.shows in let first = k.first in record {
+    now = moment q (gate_in s.words);
     chain = c;
     lawful = chain_is_lawful q (gate_in s.words) s.views l k.lawful k.gate;
     shown = record {
@@ -88,9 +90,15 @@ module _ {Q W : Type 0} (made : Q → List ℕ → Type 0) (fits : W → Q → T
       gate = refl;
       gate_word = k.gate.small;
       runner = runner_is q (gate_in s.words) s.views k.gate;
-      counted = k.counted;
       owing = λ call v at. sym (ap owes_in (got s.views call v at));
     };
+    same = refl;
+    first = k.first;
+    history = history_of q (map part_of s.views) l;
+    gate = refl;
+    seen = λ j v at. k.listed.seen j v.part (at_map part_of s.views j v at);
+    course = k.course;
+    ends = k.ends;
     home = λ idle. let x = k.slot.home (idle_word idle) in (x.0, x.1, subst (made x.0) notes_are x.2, x.3);
     held = λ busy. k.slot.held (λ down. busy (ap gate_of down));
   }

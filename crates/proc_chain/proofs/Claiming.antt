@@ -13,7 +13,7 @@ use Rattle.table_theory.specs.declared.queues.Positions.{Positions}
 use Rattle.table_theory.specs.Positioned.{blank, item_at, written_at, Lawful, fresh, with_claim, with_write, head_of, tail_of}
 use Rattle.table_theory.specs.Windows.{spot}
 use Rattle.table_theory.specs.Listing.{ViewsShow, number_of, written_to}
-use Rattle.table_theory.specs.Sharing.{EndsCounted}
+use Rattle.table_theory.specs.Members.{EndsKnown}
 use Rattle.atomic_table.proofs.Lists.{at_map, exchanged, set_here, set_else}
 use Rattle.quaject_core.specs.Chains as chains
 use Rattle.proc_chain.specs.Chainings.{IsChainEvent}
@@ -21,18 +21,16 @@ use Rattle.proc_chain.proofs.Events.{claim_event, raise_event, notify_idle, noti
 use Rattle.table_theory.proofs.Owned.{at_below, one_at}
 use Rattle.table_theory.proofs.Positioned.{grows_refl, claim_grows, claim_lawful, claim_old, claim_new, write_grows, write_lawful, write_here, write_else}
 use Rattle.table_theory.proofs.Listing.{Own, own, run_stands, listed_claim, listed_write, distinct}
-use Rattle.table_theory.proofs.Counting.{counted_look}
-use Rattle.table_theory.specs.Ends.{EndsLogged}
-use Rattle.table_theory.proofs.Ends.{logged_look}
+use Rattle.table_theory.proofs.Members.{known_look}
 use Rattle.table_theory.proofs.Windows.{window_same, window_claim, window_write}
 use Rattle.proc_chain.specs.declared.rule.Shape.{Shape}
 use Rattle.proc_chain.specs.declared.rule.View.{View}
 use Rattle.proc_chain.specs.Shown.{note_in, mark_in, gate_in, WordsShow}
 use Rattle.proc_chain.specs.Gates.{IsSettled, GateShows, SlotShows}
-use Rattle.proc_chain.specs.Rules.{part_of, ends_of, share_of, splits_of, joins_of, log_of, IsIdle, Rule}
-use Rattle.proc_chain.specs.Steps.{after, run, claimed, claims, raised, Raised, raises, notifies}
+use Rattle.proc_chain.specs.Rules.{part_of, member_of, IsIdle, moment, Rule}
+use Rattle.proc_chain.specs.Steps.{entry, after, looked, run, claimed, claims, raised, Raised, raises, notifies}
 use Rattle.proc_chain.proofs.Gates.{others_still, Covers, owed_on, covers_more, gated_same, gated_runs, gated_more, notes_same, housed_on}
-use Rattle.proc_chain.proofs.Looks.{listed_part, kept_look, sees_of, turn_of, found_now}
+use Rattle.proc_chain.proofs.Looks.{listed_part, undoubled_set, steps_to, course_on, kept_look, sees_of, turn_of, found_now}
 
 shows_claim : (q : Positions) (words : List ℕ) (x new : ℕ) → WordsShow q words → new ≡ head_of q + 1 → new < 4294967296 → WordsShow (with_claim q (x ∷ [])) (set words 0 new)
 shows_claim q words x new h is fits = let wide = h.wide in let long = length-append q.places (map fresh (x ∷ [])) in record {
@@ -51,13 +49,13 @@ module _ {Q W : Type 0} (made : Q → List ℕ → Type 0) (fits : W → Q → T
   abbrev pub Goes : State Q View → ℕ → ℕ → Me Q View → (Me Q View → Type 0) → ℕ → Type 0
   Goes s i id me told y = (w : View) × (a : Act Q) × Valid s.homes me.1 a × Rule made fits key (stepped s i y id me.1 w a) × told (w, carried_after me.1 a)
 
-  pub claims_head : (n id call : ℕ) (me : Me Q View) (old new x : ℕ) → call ≡ id → x < 65536 → new ≡ old + 1 → new < 4294967296 → old + 1 ≤ tail_of me.0.part.queue + me.0.part.queue.room → 1 ≤ me.0.ends
+  pub claims_head : (n id call : ℕ) (me : Me Q View) (old new x : ℕ) → call ≡ id → x < 65536 → new ≡ old + 1 → new < 4294967296 → old + 1 ≤ tail_of me.0.part.queue + me.0.part.queue.room → 1 ≤ me.0.member.ends
       → Allows (Rule made fits key) n id me 0 (λ y. either (eqb y old) new y) (claims call x (step n 0 old new none) me)
   claims_head n id call me old new x own tiny is small room live s k _ at _ = let y : ℕ = get_or s.words 0 0 in let v : View = me.0 in let q : Positions = k.queue in let g = k.listed.seen id v.part (at_map part_of s.views id v at) in
       exchanged y old new (Goes s 0 id me (claims call x (step n 0 old new none) me y))
       (λ hit. let hd = k.shows.head in let here : head_of q ≡ old = omega arith in
       let first = g.0.first in let same_room = g.0.room in let further = g.0.further in let behind = k.lawful.behind in
-      let w : View = claimed v old x q in let q' : Positions = with_claim q (x ∷ []) in
+      let w : View = claimed v old x (steps_to k) q (gate_in s.words) in let q' : Positions = with_claim q (x ∷ []) in
       let lawful' : Lawful q' = claim_lawful q (x ∷ []) k.lawful (omega arith) in
       let listed' : ViewsShow q' (set (map part_of s.views) id w.part) = listed_claim q (map part_of s.views) id v.part w.part (x ∷ []) k.listed (at_map part_of s.views id v at) behind k.shows.is_open (omega arith) (λ z. v.part.runs ++ run (sym here z) x ∷ []) refl (grows_refl q', grows_refl q') in
       let keep : (j : ℕ) → j ≢ 0 → get_or (set s.words 0 new) j 0 ≡ get_or s.words j 0 = λ j ne. get_or-set_other s.words 0 j new 0 ne in
@@ -73,21 +71,24 @@ module _ {Q W : Type 0} (made : Q → List ℕ → Type 0) (fits : W → Q → T
           lawful = lawful';
           shows = shows_claim q s.words x new k.shows (omega arith) small;
           listed = subst (ViewsShow q') (sym (map-set part_of s.views id w)) listed';
-          counted = subst (λ (c : ℕ). EndsCounted ends_of share_of IsIdle c (set s.views id w)) (sym (keep 2 (λ e. omega arith))) (counted_look ends_of share_of IsIdle (get_or s.words 2 0) s.views id v w k.counted at refl refl (λ none. absurd (omega arith)));
-          logged = subst (λ (c : ℕ). EndsLogged splits_of joins_of log_of c (set s.views id w)) (sym (keep 2 (λ e. omega arith))) (logged_look splits_of joins_of log_of (get_or s.words 2 0) s.views id v w k.logged at refl refl refl);
           gate = subst (λ (c : ℕ). GateShows q' c (set s.views id w)) (sym (keep 3 (λ e. omega arith))) (gated_same q q' (gate_in s.words) s.views id v w k.gate at refl refl (λ _. refl) (λ h. inl h) settled);
           slot = subst (λ (c : ℕ). SlotShows made fits key.world.value q' c s.homes) (sym (keep 3 (λ e. omega arith))) (housed_on made fits key.world.value q q' (gate_in s.words) s.homes k.slot (notes_same q q' (claim_grows q (x ∷ []) k.shows.is_open) refl behind));
+          undoubled = undoubled_set s.views id w k.undoubled (k.undoubled id v at);
+          ends = subst (λ (c : ℕ). EndsKnown member_of IsIdle c (set s.views id w)) (sym (keep 2 (λ e. omega arith))) (known_look member_of IsIdle (get_or s.words 2 0) s.views id v w k.ends at refl (λ none. absurd (omega arith)));
+          course = course_on made fits key s k id 0 old (gate_in s.words) (gate_in s.words) q' (set s.words 0 new) v w at refl (keep 3 (λ e. omega arith)) refl refl;
         },
         (
           refl,
           (λ _. record {
             queue = q;
+            gate = gate_in s.words;
+            before = steps_to k;
+            follows = k.course.seen id v at;
             same = refl;
             sees = sees_of made fits key s k id v at;
             turn = turn_of made fits key s k id v at;
             at = here;
             is_open = k.shows.is_open;
-            gate = gate_in s.words;
             event = subst (λ (z : ℕ). IsChainEvent q q' (gate_in s.words) (gate_in s.words) z v w (chains.claim_note z (x ∷ []))) (sym own)
                 (claim_event q (gate_in s.words) s.views id v w k.listed at k.lawful k.gate x tiny (omega arith) k.shows.is_open (λ z. v.part.runs ++ run (sym here z) x ∷ []) refl (grows_refl q', grows_refl q') refl refl);
             after_it = lawful';
@@ -96,14 +97,14 @@ module _ {Q W : Type 0} (made : Q → List ℕ → Type 0) (fits : W → Q → T
           λ miss. absurd (miss hit),
         ),
       ))
-      (λ miss. (after v 0 y q, keeps, tt, kept_look made fits key s k 0 id y v at, (refl, (λ hit. absurd (miss hit)), λ _. found_now made fits key s k 0 id v at)))
+      (λ miss. (looked v 0 y (steps_to k) (moment q (gate_in s.words)), keeps, tt, kept_look made fits key s k 0 id y v at, (refl, (λ hit. absurd (miss hit)), λ _. found_now made fits key s k 0 id v at)))
 
   -- the end raises the place of its run that starts at `start`
   pub raises_place : (n id call : ℕ) (me : Me Q View) (start u x : ℕ) (e : Batch) → call ≡ id → get_elem? me.0.part.runs (number_of start me.0.part.runs) ≡ some e → e.start ≡ start → 0 < length e.places → (get_or e.places 0 blank).written < 2 → u ≡ start % 32 + 4
       → x / 65536 ≡ start + 1 → x % 65536 ≡ (get_or e.places 0 blank).item → Allows (Rule made fits key) n id me u (λ _. x) (λ _. raises call (step n u x 0 none) me x)
   raises_place n id call me start u x e own_call has starts below low word flag_is note_is s k _ at _ = let v : View = me.0 in let m : ℕ = number_of start v.part.runs in let q : Positions = k.queue in
       let o : Own q e 0 = own q e 0 k.lawful (run_stands q (map part_of s.views) id m v.part e k.listed (at_map part_of s.views id v at) has) below low in let p : ℕ = o.at in let st = o.start in let from = o.from in
-      let q' : Positions = with_write q p 2 in let w : View = raised v u x m e q p in let words' : List ℕ = set s.words u x in let g = k.listed.seen id v.part (at_map part_of s.views id v at) in
+      let q' : Positions = with_write q p 2 in let w : View = raised v u x m e (steps_to k) q (gate_in s.words) p in let words' : List ℕ = set s.words u x in let g = k.listed.seen id v.part (at_map part_of s.views id v at) in
       let wide = k.shows.wide in let room = k.shows.room in let long = length-set q.places p (record { item = item_at q p; written = 2 }) in
       let was : written_at q p ≡ (get_or e.places 0 blank).written = ap (λ (z : Cell). z.written) o.same in let item : item_at q p ≡ x % 65536 = ap (λ (z : Cell). z.item) o.same ∙ sym note_is in
       let same_pos : start ≡ q.first + p = omega arith in let here : u ≡ spot q p + 4 = word ∙ (λ i. same_pos i % sym room i + 4) in let near : spot q p < q.room = mod-lt (q.first + p) k.shows.window.some_room in
@@ -122,16 +123,18 @@ module _ {Q W : Type 0} (made : Q → List ℕ → Type 0) (fits : W → Q → T
       let ev = raise_event q (gate_in s.words) s.views id v w k.listed at k.lawful k.gate m p e has below o.start o.from low (omega arith) refl refl (grows_refl q', grows_refl q') refl refl in
       let raised_now : Raised call v (x / 65536 - 1) u x w = let f : start ≡ x / 65536 - 1 = omega arith in subst (λ (z : ℕ). Raised z v (x / 65536 - 1) u x w) (sym own_call) (subst (λ (z : ℕ). Raised id v z u x w) f record {
         queue = q;
+        gate = gate_in s.words;
         at = p;
         run = e;
         has = has;
         start_is = o.start;
         below = o.below;
         low = omega arith;
+        before = steps_to k;
+        follows = k.course.seen id v at;
         same = refl;
         sees = sees_of made fits key s k id v at;
         turn = turn_of made fits key s k id v at;
-        gate = gate_in s.words;
         run_number = ev.0;
         event = ev.1;
         is_run = ev.2;
@@ -156,10 +159,11 @@ module _ {Q W : Type 0} (made : Q → List ℕ → Type 0) (fits : W → Q → T
                 record { low = λ h. absurd (omega arith); up = λ h. ap (λ (z : ℕ). z / 65536) mine ∙ (flag_is ∙ ap (λ (z : ℕ). z + 1) same_pos); holds = λ h. ap (λ (z : ℕ). z % 65536) mine ∙ (sym item ∙ sym (ap (λ (z : Cell). z.item) now)) };
           };
           listed = subst (ViewsShow q') (sym (map-set part_of s.views id w)) (listed_write q (map part_of s.views) id m 0 2 p v.part w.part e k.listed (at_map part_of s.views id v at) has below o.start o.from (omega arith) refl refl (grows_refl q', grows_refl q'));
-          counted = subst (λ (c : ℕ). EndsCounted ends_of share_of IsIdle c (set s.views id w)) (sym (other 2 (λ z. omega arith))) (counted_look ends_of share_of IsIdle (get_or s.words 2 0) s.views id v w k.counted at refl refl (λ _ none. absurd (some-ne-none e (sym (subst (λ (z : List Batch). get_elem? z m ≡ some e) none.0 has)))));
-          logged = subst (λ (c : ℕ). EndsLogged splits_of joins_of log_of c (set s.views id w)) (sym (other 2 (λ z. omega arith))) (logged_look splits_of joins_of log_of (get_or s.words 2 0) s.views id v w k.logged at refl refl refl);
           gate = subst (λ (c : ℕ). GateShows q' c (set s.views id w)) (sym (other 3 (λ z. omega arith))) (gated_same q q' (gate_in s.words) s.views id v w k.gate at refl refl (λ _. refl) (λ h. inl h) settled);
           slot = subst (λ (c : ℕ). SlotShows made fits key.world.value q' c s.homes) (sym (other 3 (λ z. omega arith))) (housed_on made fits key.world.value q q' (gate_in s.words) s.homes k.slot (notes_same q q' (write_grows q p 2 o.below (omega arith)) refl k.lawful.behind));
+          undoubled = undoubled_set s.views id w k.undoubled (k.undoubled id v at);
+          ends = subst (λ (c : ℕ). EndsKnown member_of IsIdle c (set s.views id w)) (sym (other 2 (λ z. omega arith))) (known_look member_of IsIdle (get_or s.words 2 0) s.views id v w k.ends at refl (λ _ none. absurd (some-ne-none e (sym (subst (λ (z : List Batch). get_elem? z m ≡ some e) none.0 has)))));
+          course = course_on made fits key s k id u x (gate_in s.words) (gate_in s.words) q' words' v w at refl (other 3 (λ z. omega arith)) refl refl;
         },
         (refl, raised_now),
       )
@@ -177,33 +181,37 @@ module _ {Q W : Type 0} (made : Q → List ℕ → Type 0) (fits : W → Q → T
   }
 
   -- the rule, where the gate becomes y and the slot is where `homes` says
-  pub kept_gate : (s : State Q View) (k : Rule made fits key s) (id y : ℕ) (v w : View) (homes : List (Option Q)) → get_elem? s.views id ≡ some v → w.part ≡ record v.part { queue = k.queue; joined = k.queue } → w.ends ≡ v.ends → w.share ≡ v.share → (w.splits ≡ v.splits) × (w.joins ≡ v.joins) × (w.log ≡ v.log) → 1 ≤ v.ends
+  pub kept_gate : (s : State Q View) (k : Rule made fits key s) (id gate y : ℕ) (v w : View) (homes : List (Option Q)) → get_elem? s.views id ≡ some v → w.part ≡ record v.part { queue = k.queue; joined = k.queue } → w.member ≡ v.member → w.doubled ≡ v.doubled → 1 ≤ v.member.ends → gate ≡ gate_in s.words
+      → w.steps ≡ v.steps ++ entry 3 gate (moment k.queue gate) (moment k.queue y) ∷ [] → w.course ≡ steps_to k ++ entry 3 gate (moment k.queue gate) (moment k.queue y) ∷ []
       → GateShows k.queue y (set s.views id w) → SlotShows made fits key.world.value k.queue y homes → Rule made fits key record { words = set s.words 3 y; homes = homes; views = set s.views id w }
-  kept_gate s k id y v w homes at is ends share log live g h = let wide = k.shows.wide in let gate : get_or (set s.words 3 y) 3 0 ≡ y = get_or-set_same s.words 3 y 0 (omega arith) in record {
+  kept_gate s k id gate y v w homes at is member doubled live from own all g h = let wide = k.shows.wide in let now : get_or (set s.words 3 y) 3 0 ≡ y = get_or-set_same s.words 3 y 0 (omega arith) in record {
     queue = k.queue;
     first = k.first;
     lawful = k.lawful;
     shows = shows_gate k.queue s.words y k.shows;
     listed = listed_part k.queue s.views id v w k.listed at is;
-    counted = subst (λ (c : ℕ). EndsCounted ends_of share_of IsIdle c (set s.views id w)) (sym (get_or-set_other s.words 3 2 y 0 (λ e. omega arith))) (counted_look ends_of share_of IsIdle (get_or s.words 2 0) s.views id v w k.counted at ends share (λ none. absurd (omega arith)));
-    logged = subst (λ (c : ℕ). EndsLogged splits_of joins_of log_of c (set s.views id w)) (sym (get_or-set_other s.words 3 2 y 0 (λ e. omega arith))) (logged_look splits_of joins_of log_of (get_or s.words 2 0) s.views id v w k.logged at log.0 log.1 log.2);
-    gate = subst (λ (c : ℕ). GateShows k.queue c (set s.views id w)) (sym gate) g;
-    slot = subst (λ (c : ℕ). SlotShows made fits key.world.value k.queue c homes) (sym gate) h;
+    gate = subst (λ (c : ℕ). GateShows k.queue c (set s.views id w)) (sym now) g;
+    slot = subst (λ (c : ℕ). SlotShows made fits key.world.value k.queue c homes) (sym now) h;
+    undoubled = undoubled_set s.views id w k.undoubled (doubled ∙ k.undoubled id v at);
+    ends = subst (λ (c : ℕ). EndsKnown member_of IsIdle c (set s.views id w)) (sym (get_or-set_other s.words 3 2 y 0 (λ e. omega arith))) (known_look member_of IsIdle (get_or s.words 2 0) s.views id v w k.ends at member (λ none. absurd (omega arith)));
+    course = course_on made fits key s k id 3 gate gate y k.queue (set s.words 3 y) v w at from now own all;
   }
 
-  pub notifies_gate : (suits : Q → Type 0) (n id call : ℕ) (me : Me Q View) → call ≡ id → 1 ≤ me.0.ends → me.0.owes ≡ true → ((x : Q) → fits key.world.value x → suits x) → Allows (Rule made fits key) n id me 3 (λ _. 2) (notifies made suits call (step n 3 2 0 none) me)
+  pub notifies_gate : (suits : Q → Type 0) (n id call : ℕ) (me : Me Q View) → call ≡ id → 1 ≤ me.0.member.ends → me.0.owes ≡ true → ((x : Q) → fits key.world.value x → suits x) → Allows (Rule made fits key) n id me 3 (λ _. 2) (notifies made suits call (step n 3 2 0 none) me)
   notifies_gate suits n id call me own live ow fit s k _ at _ = let v : View = me.0 in let q : Positions = k.queue in dite (ℕ_discrete (gate_in s.words) 0)
-      (λ down. let h = k.slot.home down in let x : Q = h.0 in let w : View = record (after v 3 0 q) { owes = false; runner = true; saw = false } in let none_runs = k.gate.still down in
+      (λ down. let h = k.slot.home down in let x : Q = h.0 in let w : View = record (after v 3 0 (steps_to k) (moment q 0) (moment q 2)) { owes = false; runner = true; saw = false } in let none_runs = k.gate.still down in
       let gate' : GateShows q 2 (set s.views id w) = gated_runs q 2 s.views id v w at (λ j u has ne. none_runs j u has) (λ e. omega arith) (omega arith) refl refl refl in
       let here : get_elem? (set s.views id w) id ≡ some w = set_here s.views id w (at_below s.views id v at) in
       let ev : IsChainEvent q q (gate_in s.words) 2 id v w (chains.notify id) = notify_idle q (gate_in s.words) s.views id v w k.listed at k.lawful k.gate down ow refl refl (grows_refl q, grows_refl q) refl refl (others_still q 2 (set s.views id w) id w gate' here refl) here in (
         w,
         takes 0 x,
         subst (λ (z : List (Option Q)). get_elem? z 0 ≡ some (some x)) (sym h.1) refl,
-        kept_gate s k id 2 v w (set s.homes 0 none) at refl refl refl (refl, refl, refl) live gate' record { home = λ e. absurd (omega arith); held = λ _. ap (λ (z : List (Option Q)). set z 0 none) h.1 },
+        kept_gate s k id 0 2 v w (set s.homes 0 none) at refl refl refl live (sym down) refl refl gate' record { home = λ e. absurd (omega arith); held = λ _. ap (λ (z : List (Option Q)). set z 0 none) h.1 },
         (
           (λ _. record {
             queue = q;
+            before = steps_to k;
+            follows = k.course.seen id v at;
             same = refl;
             sees = sees_of made fits key s k id v at;
             had_none = none_runs id v at;
@@ -213,17 +221,19 @@ module _ {Q W : Type 0} (made : Q → List ℕ → Type 0) (fits : W → Q → T
           λ up. absurd (up down),
         ),
       ))
-      (λ up. let w : View = record (after v 3 (gate_in s.words) q) { owes = false } in (
+      (λ up. let w : View = record (after v 3 (gate_in s.words) (steps_to k) (moment q (gate_in s.words)) (moment q 2)) { owes = false } in (
         w,
         keeps,
         tt,
-        kept_gate s k id 2 v w s.homes at refl refl refl (refl, refl, refl) live (gated_more q (gate_in s.words) s.views id v w k.gate at up refl refl) record { home = λ e. absurd (omega arith); held = λ _. k.slot.held up },
+        kept_gate s k id (gate_in s.words) 2 v w s.homes at refl refl refl live refl refl refl (gated_more q (gate_in s.words) s.views id v w k.gate at up refl refl) record { home = λ e. absurd (omega arith); held = λ _. k.slot.held up },
         (
           (λ down. absurd (up down)),
           λ _. (
             refl,
             record {
               queue = q;
+              before = steps_to k;
+              follows = k.course.seen id v at;
               same = refl;
               sees = sees_of made fits key s k id v at;
               turn = turn_of made fits key s k id v at;

@@ -10,11 +10,12 @@ use Rattle.table_theory.specs.declared.queues.Cell.{Cell}
 use Rattle.table_theory.specs.declared.queues.Batch.{Batch}
 use Rattle.table_theory.specs.declared.queues.Positions.{Positions}
 use Rattle.table_theory.specs.declared.queues.QueueView.{QueueView}
-use Rattle.table_theory.specs.Positioned.{blank, Grows, written_at, head_of}
+use Rattle.table_theory.specs.Positioned.{blank, written_at, head_of}
 use Rattle.table_theory.specs.Filing.{Owned}
 use Rattle.table_theory.specs.Listing.{ViewsShow, AllRaised, Later, all_places, runs_of}
 use Rattle.table_theory.specs.Sharing.{IsWhole}
-use Rattle.table_theory.proofs.Counting.{others_idle}
+use Rattle.table_theory.specs.declared.views.Member.{Member}
+use Rattle.table_theory.proofs.Members.{rest_idle}
 use Rattle.table_theory.proofs.Listing.{listed_look, listed_sole}
 use Rattle.table_theory.proofs.Seeing.{later_on}
 use Rattle.atomic_table.proofs.Lists.{at_map}
@@ -23,7 +24,7 @@ use Rattle.atomic_table.specs.Table.{State, Final, Seen}
 use Rattle.proc_chain.specs.declared.rule.Shape.{Shape}
 use Rattle.proc_chain.specs.declared.rule.View.{View}
 use Rattle.proc_chain.specs.Shown.{note_in, mark_in, gate_in, WordsShow, notes_of}
-use Rattle.proc_chain.specs.Rules.{part_of, ends_of, share_of, IsIdle, Rule}
+use Rattle.proc_chain.specs.Rules.{part_of, member_of, IsIdle, Rule}
 use Rattle.proc_chain.specs.Steps.{Tallied}
 use Rattle.proc_chain.specs.Closings.{left_at, left_from, ClosedNow, WereOpen}
 use Rattle.proc_chain.proofs.Linking.{all_same}
@@ -57,10 +58,10 @@ left_on ws t p xs x le is e = let a : p ≡ t + (p - t) = omega arith in let b :
     (λ k. is k ++ (e ∙ ap (left_at ws) a) k ∷ []) ∙ (sym (left_more ws t (p - t)) ∙ ap (left_from ws t) b)
 
 pub were_open : (v w : View) (found others : ℕ) → Tallied v found w → found ≢ 1 → others ≡ found - 1 → WereOpen v others w
-were_open v w found others t more is = let some = t.count.some_end in let e : found ≡ others + 1 = omega arith in record {
+were_open v w found others t more is = let some = t.member.count.some_end in let e : found ≡ others + 1 = omega arith in record {
   tallied = subst (λ (z : ℕ). Tallied v z w) e t;
   some_other = omega arith;
-  not_whole = λ whole. more (t.count.whole whole);
+  not_whole = λ whole. more (t.member.count.whole whole);
 }
 
 -- all places of a log are raised where those of its entries are
@@ -72,16 +73,16 @@ flat_raised (o ∷ os) h i b = let n : ℕ = length o.2.places in let long = len
 
 module _ {Q W : Type 0} (made : Q → List ℕ → Type 0) (fits : W → Q → Type 0) (key : Shape W) where
   -- an end with the whole lists the chain alone
-  sole : (s : State Q View) (k : Rule made fits key s) (id : ℕ) (w : View) → get_elem? s.views id ≡ maybe.some w → IsWhole w.share → ViewsShow k.queue (w.part ∷ [])
+  sole : (s : State Q View) (k : Rule made fits key s) (id : ℕ) (w : View) → get_elem? s.views id ≡ maybe.some w → IsWhole w.member.share → ViewsShow k.queue (w.part ∷ [])
   sole s k id w at whole = listed_sole k.queue (map part_of s.views) id w.part k.listed (at_map part_of s.views id w at)
-      (λ i u has ne. let b = at_map_back part_of s.views i u has in let idle = others_idle ends_of share_of IsIdle (get_or s.words 2 0) s.views id w k.counted at whole i b.0 b.1 ne in
+      (λ i u has ne. let b = at_map_back part_of s.views i u has in let idle = rest_idle member_of IsIdle (get_or s.words 2 0) s.views id w k.ends at whole i b.0 b.1 ne in
       subst (λ (z : QueueView). (z.runs ≡ []) × (z.takes ≡ [])) b.2 (idle.0, idle.1))
 
-  whole_closes : (id : ℕ) (w : View) (s : State Q View) (k : Rule made fits key s) (xs : List Q) (x : Q) → get_elem? s.views id ≡ maybe.some w → IsWhole w.share → w.runner ≡ false → w.owes ≡ false → AllRaised w.part.runs
+  whole_closes : (id : ℕ) (w : View) (s : State Q View) (k : Rule made fits key s) (xs : List Q) (x : Q) → get_elem? s.views id ≡ maybe.some w → IsWhole w.member.share → w.runner ≡ false → w.owes ≡ false → AllRaised w.part.runs
       → ((i : ℕ) (y : Q) → get_elem? s.homes i ≡ maybe.some (maybe.some y) → get_elem? xs i ≡ maybe.some y) → get_elem? xs 0 ≡ maybe.some x
       → made x (notes_of k.queue) × fits key.world.value x × (k.queue.taken ≡ length k.queue.places)
   whole_closes id w s k xs x at whole runner owes all home has =
-      let idle : (j : ℕ) (u : View) → get_elem? s.views j ≡ maybe.some u → j ≢ id → IsIdle u = others_idle ends_of share_of IsIdle (get_or s.words 2 0) s.views id w k.counted at whole in
+      let idle : (j : ℕ) (u : View) → get_elem? s.views j ≡ maybe.some u → j ≢ id → IsIdle u = rest_idle member_of IsIdle (get_or s.words 2 0) s.views id w k.ends at whole in
       let still : (j : ℕ) (u : View) → get_elem? s.views j ≡ maybe.some u → (u.runner ≡ false) × (u.owes ≡ false) = λ j u at_u. dite (ℕ_discrete j id)
       (λ same. let is : u ≡ w = one_at s.views id u w (subst (λ (z : ℕ). get_elem? s.views z ≡ maybe.some u) same at_u) at in (ap (λ (z : View). z.runner) is ∙ runner, ap (λ (z : View). z.owes) is ∙ owes))
       (λ ne. let i = idle j u at_u ne in (i.2, i.3)) in
@@ -104,11 +105,10 @@ module _ {Q W : Type 0} (made : Q → List ℕ → Type 0) (fits : W → Q → T
       let s : State Q View = fin.0 in let k = fin.1.0 in let q : Positions = k.queue in let sh : WordsShow q ws = subst (WordsShow q) fin.2 k.shows in
       let first = k.first in let hd : h ≡ head_of q = sym (read_word ws 0 h at_h) ∙ sh.head in let tl : t ≡ q.first + q.taken = sym (read_word ws 1 t at_t) ∙ sh.tail in
       let puts : put ≡ length q.places = omega arith in let takes_is : taken ≡ q.taken = omega arith in
-      let whole : IsWhole v.share = tallied.count.alone one in let whole' : IsWhole w.share = subst (λ (z : View). IsWhole z.share) (sym tallied.same) whole in
+      let whole : IsWhole v.member.share = tallied.member.count.alone one in let whole' : IsWhole w.member.share = ap (λ (z : Member). z.share) tallied.member.same ∙ whole in
       let c = whole_closes id w s k xs x fin.1.1 whole' (ap (λ (z : View). z.runner) tallied.same ∙ runner) (ap (λ (z : View). z.owes) tallied.same ∙ owes) (all_same v.part.runs w.part.runs (ap (λ (z : View). z.part.runs) tallied.same) all) fin.4 at_x in
       let all_taken : q.taken ≡ length q.places = c.2 in let none : h - t ≡ 0 = omega arith in
-      let saw : w.part.queue ≡ tallied.queue = ap (λ (z : View). z.part.queue) tallied.same in let seen : Later w.part q = k.listed.seen id w.part (at_map part_of s.views id w fin.1.1) in
-      let later : Later v.part q = later_on v.part tallied.queue q tallied.sees.later (subst (λ (z : Positions). Grows z q) saw seen.0) in
+      let seen : Later w.part q = k.listed.seen id w.part (at_map part_of s.views id w fin.1.1) in let later : Later v.part q = later_on v.part w.part.queue q tallied.sees.later seen.0 in
       record {
         whole = whole;
         queue = q;

@@ -22,9 +22,9 @@ use Rattle.table_theory.specs.Positioned.{blank, item_of, place_at, written_at, 
 use Rattle.table_theory.specs.Filing.{Owned}
 use Rattle.table_theory.specs.Listing.{all_places, runs_of, Chained, Later, ViewsShow, written_to}
 use Rattle.table_theory.specs.QueueOf.{run_in, is_up, queue_of}
-use Rattle.quaject_core.proofs.Histories.{length-pairs_from, length-pairs_of}
+use Rattle.quaject_core.proofs.Lists.Histories.{length-pairs_from, length-pairs_of}
 use Rattle.table_theory.proofs.Logs.{lies}
-use Rattle.quaject_core.proofs.Stores.{slice_get-drop}
+use Rattle.quaject_core.proofs.Stored.Layout.{slice_get-drop}
 use Rattle.table_theory.proofs.QueueOf.{Log, up_of, long_is, left_long, is_lawful_queue}
 use Rattle.table_theory.proofs.QueueEvents.{history_of, claimed_is, claim_goes, got, set_got, set_other, raised_is, raise_goes, take_goes, first_raised}
 use Rattle.table_theory.proofs.Listing.{listed_look, listed_claim, listed_write, listed_take}
@@ -102,7 +102,7 @@ up_is q runs same i below = let n = length-pairs_from 0 (map run_in runs) in let
     sym (get_or-map (is_raised (queue_of q runs)) (pairs (map run_in runs)) i (0, 0) false (omega arith))
     ∙ (ap (λ (z : List Bool). get_or z i false) (up_of q runs ∙ ap (map is_up) same) ∙ get_or-map is_up q.places i blank false below)
 
-and_false : (a : Bool) → (a && false) ≡ false
+pub and_false : (a : Bool) → (a && false) ≡ false
 and_false true = refl
 and_false false = refl
 

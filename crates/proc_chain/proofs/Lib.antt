@@ -4,6 +4,7 @@ pub mod Looks
 pub mod Claiming
 pub mod Serving
 pub mod Tallying
+pub mod Handing
 pub mod Turns
 pub mod Rounds
 pub mod Linking

@@ -1,5 +1,5 @@
 -- A claim, a raise and a notify together, and what other steps leave as it was.
-use Rattle.std.proofs.Common.{◌≡◌, ◌≢◌, ℕ, zero, suc, ◌+◌, ◌-◌, ◌<◌, ◌≤◌, ⊎_elim, true, false, true≢false, List, [], ◌∷◌, ◌++◌, map, length, get_or, set, sym, refl, ap, ◌∙◌, subst, arith}
+use Rattle.std.proofs.Common.{◌≡◌, ◌≢◌, ℕ, zero, suc, ◌+◌, ◌-◌, ◌<◌, ◌≤◌, ⊎_elim, Bool, true, false, ◌||◌, ◌&&◌, true≢false, List, [], ◌∷◌, ◌++◌, map, length, get_or, set, sym, refl, ap, ◌∙◌, subst, arith}
 use Rattle.std.proofs.lemmas.List.{map-append}
 use mathlib.Core.Option.{some, some-injective}
 use lib.ListN.{get_elem?}
@@ -7,8 +7,10 @@ use Rattle.table_theory.specs.declared.queues.Batch.{Batch}
 use Rattle.table_theory.specs.declared.queues.Positions.{Positions}
 use Rattle.table_theory.specs.Positioned.{blank, Lawful, Grows, fresh, with_claim, with_write, head_of, tail_of}
 use Rattle.table_theory.specs.Listing.{AllRaised, Distinct, number_of, written_to}
+use Rattle.table_theory.specs.declared.views.Member.{Member}
+use Rattle.table_theory.specs.Members as members
 use Rattle.table_theory.specs.Seeing.{Sees}
-use Rattle.table_theory.specs.Sharing.{given, kept}
+use Rattle.table_theory.specs.Sharing.{given}
 use Rattle.atomic_table.proofs.Lists.{at_set, at_last}
 use Rattle.table_theory.proofs.Owned.{at_push, one_at}
 use Rattle.table_theory.proofs.Leaving.{same_items}
@@ -17,9 +19,10 @@ use Rattle.table_theory.proofs.Seeing.{sees_own}
 use Rattle.table_theory.proofs.Listing.{found_by_start}
 use Rattle.atomic_table.specs.Table.{Me}
 use Rattle.proc_chain.specs.declared.rule.View.{View}
-use Rattle.proc_chain.specs.Shown.{head_word, tail_word, ends_word, place_word, raised_word, notes_of}
+use Rattle.proc_chain.specs.Shown.{head_word, tail_word, place_word, raised_word, notes_of}
 use Rattle.proc_chain.specs.Notes.{line_of, notes_put, notes_taken, alone, SameNotes, PutNote}
-use Rattle.proc_chain.specs.Steps.{after, with_split, with_join, KeepsTaken, Found, run, Claimed, Raised, Notified, GotTurn, CountedUp, CountedDown, Tallied, rest_of, newborn, both}
+use Rattle.proc_chain.specs.Rules.{moment}
+use Rattle.proc_chain.specs.Steps.{counted, KeepsTaken, Found, run, Claimed, Raised, Notified, GotTurn, CountedUp, CountedDown, Tallied, rest_of, newborn, both}
 use Rattle.proc_chain.specs.Turns.{HasSlot}
 use Rattle.proc_chain.specs.Answers.{FoundRoom, WasFull, WasSpent, WasLost, IsPast, Linked}
 use Rattle.proc_chain.specs.Endings.{Divided, IsNewborn, TookIn}
@@ -52,12 +55,12 @@ pub record Stays (v w : View) : Type 0 where
   pub notes : v.runner ≡ true → notes_of w.part.queue ≡ notes_of v.part.queue
   pub behind : w.part.queue.taken ≤ length w.part.queue.places
   pub room : w.part.queue.room ≡ v.part.queue.room
-  pub ends : w.ends ≡ v.ends
+  pub ends : w.member.ends ≡ v.member.ends
 
 pub stays_on : (u v w : View) → Stays u v → Stays v w → Stays u w
 stays_on u v w a b = record { runner = b.runner ∙ a.runner; notes = λ r. b.notes (a.runner ∙ r) ∙ a.notes r; behind = b.behind; room = b.room ∙ a.room; ends = b.ends ∙ a.ends }
 
-stays_by : (v w : View) (q q' : Positions) → v.part.queue.taken ≤ length v.part.queue.places → w.part.queue ≡ q' → w.runner ≡ v.runner → w.ends ≡ v.ends → Sees v.part q → (v.runner ≡ true → q.taken ≡ v.part.queue.taken) → Grows q q' → q'.taken ≡ q.taken → Lawful q' → Stays v w
+stays_by : (v w : View) (q q' : Positions) → v.part.queue.taken ≤ length v.part.queue.places → w.part.queue ≡ q' → w.runner ≡ v.runner → w.member.ends ≡ v.member.ends → Sees v.part q → (v.runner ≡ true → q.taken ≡ v.part.queue.taken) → Grows q q' → q'.taken ≡ q.taken → Lawful q' → Stays v w
 stays_by v w q q' behind is runner ends s turn more same l' = record {
   runner = runner;
   notes = λ r. ap notes_of is ∙ (notes_same q q' more same s.lawful.behind ∙ notes_same v.part.queue q s.later.0 (turn r) behind);
@@ -67,22 +70,22 @@ stays_by v w q q' behind is runner ends s turn more same l' = record {
 }
 
 pub stays_found : (v w : View) (word found : ℕ) → v.part.queue.taken ≤ length v.part.queue.places → Found v word found w → Stays v w
-stays_found v w word found behind s = let q : Positions = w.part.queue in stays_by v w q q behind refl (ap (λ (z : View). z.runner) s.same) (ap (λ (z : View). z.ends) s.same) s.sees s.turn (grows_refl q) refl s.sees.lawful
+stays_found v w word found behind s = let q : Positions = w.part.queue in stays_by v w q q behind refl (ap (λ (z : View). z.runner) s.same) (ap (λ (z : View). z.member.ends) s.same) s.sees s.turn (grows_refl q) refl s.sees.lawful
 
 pub stays_room : (v w : View) (head : ℕ) → v.part.queue.taken ≤ length v.part.queue.places → FoundRoom v head w → Stays v w
 stays_room v w head behind r = let a = stays_found v r.loaded head_word head behind r.head_loaded in stays_on v r.loaded w a (stays_found r.loaded w tail_word r.tail a.behind r.tail_loaded)
 
 stays_claimed : (call : ℕ) (v w : View) (head x : ℕ) → v.part.queue.taken ≤ length v.part.queue.places → Claimed call v head x w → Stays v w
-stays_claimed call v w head x behind s = let q : Positions = s.queue in stays_by v w q (with_claim q (x ∷ [])) behind (ap (λ (z : View). z.part.queue) s.same) (ap (λ (z : View). z.runner) s.same) (ap (λ (z : View). z.ends) s.same) s.sees s.turn (claim_grows q (x ∷ []) s.is_open) refl s.after_it
+stays_claimed call v w head x behind s = let q : Positions = s.queue in stays_by v w q (with_claim q (x ∷ [])) behind (ap (λ (z : View). z.part.queue) s.same) (ap (λ (z : View). z.runner) s.same) (ap (λ (z : View). z.member.ends) s.same) s.sees s.turn (claim_grows q (x ∷ []) s.is_open) refl s.after_it
 
 stays_raised : (call : ℕ) (v w : View) (start word stored : ℕ) → v.part.queue.taken ≤ length v.part.queue.places → Raised call v start word stored w → Stays v w
-stays_raised call v w start word stored behind s = let q : Positions = s.queue in let low = s.low in stays_by v w q (with_write q s.at 2) behind (ap (λ (z : View). z.part.queue) s.same) (ap (λ (z : View). z.runner) s.same) (ap (λ (z : View). z.ends) s.same) s.sees s.turn (write_grows q s.at 2 s.below (omega arith)) refl s.after_it
+stays_raised call v w start word stored behind s = let q : Positions = s.queue in let low = s.low in stays_by v w q (with_write q s.at 2) behind (ap (λ (z : View). z.part.queue) s.same) (ap (λ (z : View). z.runner) s.same) (ap (λ (z : View). z.member.ends) s.same) s.sees s.turn (write_grows q s.at 2 s.below (omega arith)) refl s.after_it
 
 pub stays_told : (call : ℕ) (v w : View) (found : ℕ) → v.part.queue.taken ≤ length v.part.queue.places → Notified call v found w → Stays v w
-stays_told call v w found behind s = let q : Positions = s.queue in stays_by v w q q behind (ap (λ (z : View). z.part.queue) s.same) (ap (λ (z : View). z.runner) s.same) (ap (λ (z : View). z.ends) s.same) s.sees s.turn (grows_refl q) refl s.sees.lawful
+stays_told call v w found behind s = let q : Positions = s.queue in stays_by v w q q behind (ap (λ (z : View). z.part.queue) s.same) (ap (λ (z : View). z.runner) s.same) (ap (λ (z : View). z.member.ends) s.same) s.sees s.turn (grows_refl q) refl s.sees.lawful
 
 pub stays_tallied : (v w : View) (found : ℕ) → v.part.queue.taken ≤ length v.part.queue.places → Tallied v found w → Stays v w
-stays_tallied v w found behind s = let q : Positions = s.queue in stays_by v w q q behind (ap (λ (z : View). z.part.queue) s.same) (ap (λ (z : View). z.runner) s.same) (ap (λ (z : View). z.ends) s.same) s.sees s.turn (grows_refl q) refl s.sees.lawful
+stays_tallied v w found behind s = let q : Positions = w.part.queue in stays_by v w q q behind refl (ap (λ (z : View). z.runner) s.same) (ap (λ (z : Member). z.ends) s.member.same) s.sees s.turn (grows_refl q) refl s.sees.lawful
 
 -- the run that was just claimed
 pub just_claimed : (call : ℕ) (v w : View) (head x y : ℕ) → Claimed call v head x w → x ≡ y → (e : Batch) × (get_elem? w.part.runs (number_of head w.part.runs) ≡ some e) × (e.start ≡ head) × (0 < length e.places) × ((get_or e.places 0 blank).written < 2) × ((get_or e.places 0 blank).item ≡ y)
@@ -199,38 +202,55 @@ module _ {Q : Type 0} (made : Q → List ℕ → Type 0) (fits : Q → Type 0) w
   slot_me m m' is h = subst (HasSlot made fits) (sym is) h
 
 pub stays_up : (v u : View) (found : ℕ) → v.part.queue.taken ≤ length v.part.queue.places → CountedUp v found u → Stays v (rest_of u)
-stays_up v u found behind s = let q : Positions = s.queue in stays_by v (rest_of u) q q behind (ap (λ (z : View). z.part.queue) s.same) (ap (λ (z : View). z.runner) s.same) (let e : u.ends ≡ v.ends + 1 = ap (λ (z : View). z.ends) s.same in omega arith) s.sees s.turn (grows_refl q) refl s.sees.lawful
+stays_up v u found behind s = let q : Positions = u.part.queue in stays_by v (rest_of u) q q behind refl (ap (λ (z : View). z.runner) s.same) (let e : u.member.ends ≡ v.member.ends + 1 = ap (λ (z : Member). z.ends) s.member.same in omega arith) s.sees s.turn (grows_refl q) refl s.sees.lawful
 
 pub divided : (v u w : View) (found : ℕ) → CountedUp v found u → w ≡ rest_of u → Divided v w
-divided v u w found c is = let f : w.part.queue ≡ c.queue = ap (λ (z : View). z.part.queue) is ∙ ap (λ (z : View). z.part.queue) c.same in let n : v.ends + 1 - 1 ≡ v.ends = omega arith in record {
+divided v u w found c is = let f : w.part.queue ≡ u.part.queue = ap (λ (z : View). z.part.queue) is in let m : w.member ≡ members.rest_of u.member = ap (λ (z : View). z.member) is in let n : v.member.ends + 1 - 1 ≡ v.member.ends = omega arith in record {
   found = found;
-  log = c.log;
-  same = is ∙ (ap rest_of c.same ∙ (λ i. let x : View = record (with_split v found (sym f i) c.log) { ends = n i; share = kept v.share } in x));
+  before = c.before;
+  follows = c.follows;
+  gate = c.gate;
+  same = is ∙ (ap rest_of c.same ∙ (λ i. counted v found c.before (moment (sym f i) c.gate) (sym m i)));
   sees = subst (Sees v.part) (sym f) c.sees;
   turn = subst (KeepsTaken v) (sym f) c.turn;
-  later = c.later;
-  number = c.number;
+  member = record {
+    log = c.member.log;
+    same = m ∙ (ap members.rest_of c.member.same ∙ (λ i. let x : Member = record (members.rest_of (members.with_split v.member c.member.log)) { ends = n i } in x));
+    later = c.member.later;
+    number = c.member.number;
+  };
 }
 
 pub is_newborn : (v u w born : View) (found : ℕ) → CountedUp v found u → w ≡ rest_of u → born ≡ newborn u → IsNewborn v w born
-is_newborn v u w born found c is born_is = born_is ∙ (λ i. let x : View = record (newborn (sym is i)) { share = given (c.same i).share } in x)
+is_newborn v u w born found c is born_is = born_is ∙ (λ i. let x : View = record (newborn (sym is i)) { member = record (members.newborn (sym is i).member) { share = given (c.member.same i).share } } in x)
 
 pub joined_down : (v u m w : View) (found : ℕ) → m ≡ both v u → CountedDown m found w → CountedDown (both v u) found w
 joined_down v u m w found is s = subst (λ (z : View). CountedDown z found w) is s
 
-pub took_in : (v u w : View) (found : ℕ) → v.ends ≡ 1 → u.ends ≡ 1 → CountedDown (both v u) found w → TookIn v u w
-took_in v u w found one one' c = let f : w.part.queue ≡ c.queue = ap (λ (z : View). z.part.queue) c.same in let n : v.ends + u.ends - 1 ≡ 1 = omega arith in record {
+no_mark : (a b : Bool) → (a || b) ≡ false → (a ≡ false) × (b ≡ false)
+no_mark true b h = absurd (true≢false h)
+no_mark false b h = (refl, h)
+
+pub took_in : (v u w : View) (found : ℕ) → v.member.ends ≡ 1 → u.member.ends ≡ 1 → CountedDown (both v u) found w → TookIn v u w
+took_in v u w found one one' c = let n : v.member.ends + u.member.ends - 1 ≡ 1 = omega arith in record {
   found = found;
-  log = c.log;
-  same = c.same ∙ (λ i. let x : View = record (with_join (both v u) found (sym f i) c.log) { ends = n i } in x);
-  sees = subst (Sees (both v u).part) (sym f) c.sees;
-  turn = subst (KeepsTaken (both v u)) (sym f) c.turn;
-  later = c.later;
-  number = c.number;
+  before = c.before;
+  follows = c.follows;
+  gate = c.gate;
+  same = c.same;
+  sees = c.sees;
+  turn = c.turn;
+  member = record {
+    log = c.member.log;
+    same = c.member.same ∙ (λ i. let x : Member = record (members.with_join (members.both v.member u.member) c.member.log) { ends = n i } in x);
+    later = c.member.later;
+    number = c.member.number;
+  };
+  one_turn = (no_mark (v.doubled || u.doubled) (v.runner && u.runner) c.undoubled).1;
 }
 
 pub joined_notes : (v u w : View) (found : ℕ) → v.part.queue.taken ≤ length v.part.queue.places → CountedDown (both v u) found w → v.runner ≡ true → notes_of w.part.queue ≡ notes_of v.part.queue
-joined_notes v u w found behind s r = ap (λ (z : View). notes_of z.part.queue) s.same ∙ notes_same v.part.queue s.queue s.sees.later.0 (s.turn r) behind
+joined_notes v u w found behind s r = notes_same v.part.queue w.part.queue s.sees.later.0 (s.turn r) behind
 
 all_append : (l m : List Batch) → AllRaised l → AllRaised m → AllRaised (l ++ m)
 all_append [] m a b k e has = b k e has

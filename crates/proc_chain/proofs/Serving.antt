@@ -10,22 +10,20 @@ use Rattle.table_theory.specs.declared.queues.Positions.{Positions}
 use Rattle.table_theory.specs.Positioned.{written_at, Lawful, Grows, with_take, tail_of}
 use Rattle.table_theory.specs.Windows.{spot}
 use Rattle.table_theory.specs.Listing.{ViewsShow}
-use Rattle.table_theory.specs.Sharing.{EndsCounted}
+use Rattle.table_theory.specs.Members.{EndsKnown}
 use Rattle.atomic_table.proofs.Lists.{at_map, exchanged}
 use Rattle.table_theory.proofs.Positioned.{grows_refl, take_lawful}
 use Rattle.table_theory.proofs.Listing.{listed_take}
-use Rattle.table_theory.proofs.Counting.{counted_look}
-use Rattle.table_theory.specs.Ends.{EndsLogged}
-use Rattle.table_theory.proofs.Ends.{logged_look}
+use Rattle.table_theory.proofs.Members.{known_look}
 use Rattle.table_theory.proofs.Windows.{window_same, window_take, found_not_raised}
 use Rattle.proc_chain.specs.declared.rule.Shape.{Shape}
 use Rattle.proc_chain.specs.declared.rule.View.{View}
 use Rattle.proc_chain.specs.Shown.{note_in, mark_in, gate_in, WordsShow, notes_of}
 use Rattle.proc_chain.specs.Gates.{GateShows, SlotShows}
-use Rattle.proc_chain.specs.Rules.{part_of, ends_of, share_of, splits_of, joins_of, log_of, IsIdle, Rule}
-use Rattle.proc_chain.specs.Steps.{after, spies, took, takes, rounds, leaves, Carries}
+use Rattle.proc_chain.specs.Rules.{part_of, member_of, IsIdle, moment, Rule}
+use Rattle.proc_chain.specs.Steps.{after, looked, spies, took, takes, rounds, leaves, Carries}
 use Rattle.proc_chain.proofs.Gates.{gated_same, gated_runs, gated_leaves, others_still, gate_up, notes_same}
-use Rattle.proc_chain.proofs.Looks.{settled_look, kept_word, kept_look, sees_of, turn_of, found_now}
+use Rattle.proc_chain.proofs.Looks.{settled_look, undoubled_set, steps_to, course_on, kept_word, kept_look, sees_of, turn_of, found_now}
 use Rattle.quaject_core.specs.Chains as chains
 use Rattle.proc_chain.specs.Chainings.{IsChainEvent}
 use Rattle.proc_chain.proofs.Events.{take_event, round_event, leave_event}
@@ -44,19 +42,19 @@ shows_take q words new h l below is = let wide = h.wide in record {
 }
 
 module _ {Q W : Type 0} (made : Q → List ℕ → Type 0) (fits : W → Q → Type 0) (key : Shape W) where
-  pub spies_place : (n id : ℕ) (me : Me Q View) (i : ℕ) → me.0.runner ≡ true → 1 ≤ me.0.ends → i ≡ tail_of me.0.part.queue % 32 + 4 → Allows (Rule made fits key) n id me i (λ x. x) (spies (step n i 0 0 none) me)
+  pub spies_place : (n id : ℕ) (me : Me Q View) (i : ℕ) → me.0.runner ≡ true → 1 ≤ me.0.member.ends → i ≡ tail_of me.0.part.queue % 32 + 4 → Allows (Rule made fits key) n id me i (λ x. x) (spies (step n i 0 0 none) me)
   spies_place n id me i r live word s k _ at _ = let v : View = me.0 in let q : Positions = k.queue in let g = k.listed.seen id v.part (at_map part_of s.views id v at) in let y : ℕ = get_or s.words i 0 in
       let taken = k.gate.takes id v at r in let first = g.0.first in let room = k.shows.room in let tail : tail_of v.part.queue ≡ tail_of q = omega arith in let behind = k.lawful.behind in
       dite (ℕ_discrete (y / 65536) (tail_of v.part.queue + 1))
-      (λ up. (after v i y q, keeps, tt, kept_look made fits key s k i id y v at, (refl, record { up = λ _. found_now made fits key s k i id v at; low = λ ne. absurd (ne up) })))
-      (λ no. let here : i ≡ spot q q.taken + 4 = word ∙ (λ j. tail j % sym room j + 4) in let w : View = record (after v i y q) { saw = true } in
+      (λ up. (looked v i y (steps_to k) (moment q (gate_in s.words)), keeps, tt, kept_look made fits key s k i id y v at, (refl, record { up = λ _. found_now made fits key s k i id v at; low = λ ne. absurd (ne up) })))
+      (λ no. let here : i ≡ spot q q.taken + 4 = word ∙ (λ j. tail j % sym room j + 4) in let w : View = record (looked v i y (steps_to k) (moment q (gate_in s.words))) { saw = true } in
       let low : written_at q q.taken < 2 = found_not_raised q (mark_in s.words) (note_in s.words) q.taken k.shows.window (omega arith) (omega arith) (λ h. no (ap (λ (z : ℕ). get_or s.words z 0 / 65536) here ∙ (h ∙ (omega arith)))) in (
         w,
         keeps,
         tt,
-        kept_word made fits key s k i id v w at refl (counted_look ends_of share_of IsIdle (get_or s.words 2 0) s.views id v w k.counted at refl refl (λ none. absurd (omega arith))) (logged_look splits_of joins_of log_of (get_or s.words 2 0) s.views id v w k.logged at refl refl refl)
+        kept_word made fits key s k i id y v w at refl refl refl (λ none. absurd (omega arith)) refl refl
             (gated_same q q (gate_in s.words) s.views id v w k.gate at refl refl (λ _. refl) (λ _. inr (λ up. absurd (omega arith))) (settled_look q s.views id v w at refl refl)),
-        (refl, record { up = λ up. absurd (no up); low = λ _. record { same = refl; sees = sees_of made fits key s k id v at; turn = sym taken; words = s.words; shows = k.shows; is = refl; low = low } }),
+        (refl, record { up = λ up. absurd (no up); low = λ _. record { before = steps_to k; follows = k.course.seen id v at; gate = gate_in s.words; same = refl; sees = sees_of made fits key s k id v at; turn = sym taken; words = s.words; shows = k.shows; gate_is = refl; is = refl; low = low } }),
       ))
 
   -- the quaject in hand was made by the notes taken
@@ -64,10 +62,10 @@ module _ {Q W : Type 0} (made : Q → List ℕ → Type 0) (fits : W → Q → T
       → Carries made (fits key.world.value) (notes_of me.0.part.queue) [] me.1 → Carries made suits (notes_of q) [] me.1
   carried suits q me fit g same behind c = (c.0, c.1, subst (made c.0) (sym (notes_same me.0.part.queue q g same behind)) c.2, fit c.0 c.3)
 
-  pub takes_note : (suits : Q → Type 0) (n id call : ℕ) (me : Me Q View) (new : ℕ) → call ≡ id → ((x : Q) → fits key.world.value x → suits x) → me.0.runner ≡ true → 1 ≤ me.0.ends → 2 ≤ written_at me.0.part.queue me.0.part.queue.taken → new ≡ tail_of me.0.part.queue + 1
+  pub takes_note : (suits : Q → Type 0) (n id call : ℕ) (me : Me Q View) (new : ℕ) → call ≡ id → ((x : Q) → fits key.world.value x → suits x) → me.0.runner ≡ true → 1 ≤ me.0.member.ends → 2 ≤ written_at me.0.part.queue me.0.part.queue.taken → new ≡ tail_of me.0.part.queue + 1
       → me.0.part.queue.taken ≤ length me.0.part.queue.places → Carries made (fits key.world.value) (notes_of me.0.part.queue) [] me.1 → Allows (Rule made fits key) n id me 1 (λ _. new) (λ _. takes made suits call (step n 1 new 0 none) me new)
   takes_note suits n id call me new own fit r live up is behind c s k _ at _ = let v : View = me.0 in let q : Positions = k.queue in let g = k.listed.seen id v.part (at_map part_of s.views id v at) in let taken = k.gate.takes id v at r in let first = g.0.first in
-      let w : View = took v new q in let q' : Positions = with_take q 1 in let more = g.0.more v.part.queue.taken in
+      let w : View = took v new (steps_to k) q (gate_in s.words) in let q' : Positions = with_take q 1 in let more = g.0.more v.part.queue.taken in
       let now : 2 ≤ written_at q q.taken = subst (λ (z : ℕ). 2 ≤ written_at q z) taken (let f : 2 ≤ written_at q v.part.queue.taken = omega arith in f) in
       let lawful' : Lawful q' = take_lawful q 1 k.lawful (λ i b. let e : q.taken ≡ q.taken + i = omega arith in subst (λ (z : ℕ). 2 ≤ written_at q z) e now) in
       let keep : (j : ℕ) → j ≢ 1 → get_or (set s.words 1 new) j 0 ≡ get_or s.words j 0 = λ j ne. get_or-set_other s.words 1 j new 0 ne in let not_idle = gate_up q (gate_in s.words) s.views id v k.gate at r in (
@@ -80,20 +78,23 @@ module _ {Q W : Type 0} (made : Q → List ℕ → Type 0) (fits : W → Q → T
           lawful = lawful';
           shows = shows_take q s.words new k.shows k.lawful lawful'.behind (omega arith);
           listed = subst (ViewsShow q') (sym (map-set part_of s.views id w)) (listed_take q (map part_of s.views) id 1 v.part w.part k.listed (at_map part_of s.views id v at) k.lawful.behind refl refl (grows_refl q', grows_refl q'));
-          counted = subst (λ (c : ℕ). EndsCounted ends_of share_of IsIdle c (set s.views id w)) (sym (keep 2 (λ e. omega arith))) (counted_look ends_of share_of IsIdle (get_or s.words 2 0) s.views id v w k.counted at refl refl (λ none. absurd (omega arith)));
-          logged = subst (λ (c : ℕ). EndsLogged splits_of joins_of log_of c (set s.views id w)) (sym (keep 2 (λ e. omega arith))) (logged_look splits_of joins_of log_of (get_or s.words 2 0) s.views id v w k.logged at refl refl refl);
           gate = subst (λ (c : ℕ). GateShows q' c (set s.views id w)) (sym (keep 3 (λ e. omega arith))) (gated_runs q' (gate_in s.words) s.views id v w at (others_still q (gate_in s.words) s.views id v k.gate at r) not_idle k.gate.small r refl refl);
           slot = subst (λ (c : ℕ). SlotShows made fits key.world.value q' c s.homes) (sym (keep 3 (λ e. omega arith))) record { home = λ down. absurd (not_idle down); held = k.slot.held };
+          undoubled = undoubled_set s.views id w k.undoubled (k.undoubled id v at);
+          ends = subst (λ (c : ℕ). EndsKnown member_of IsIdle c (set s.views id w)) (sym (keep 2 (λ e. omega arith))) (known_look member_of IsIdle (get_or s.words 2 0) s.views id v w k.ends at refl (λ none. absurd (omega arith)));
+          course = course_on made fits key s k id 1 new (gate_in s.words) (gate_in s.words) q' (set s.words 1 new) v w at refl (keep 3 (λ e. omega arith)) refl refl;
         },
         (
           refl,
           record {
             queue = q;
+            gate = gate_in s.words;
+            before = steps_to k;
+            follows = k.course.seen id v at;
             same = refl;
             sees = sees_of made fits key s k id v at;
             turn = sym taken;
             at = omega arith;
-            gate = gate_in s.words;
             event = subst (λ (z : ℕ). IsChainEvent q q' (gate_in s.words) (gate_in s.words) z v w (chains.take_note z 1)) (sym own)
                 (take_event q (gate_in s.words) s.views id v w k.listed at k.lawful k.gate r lawful'.behind now refl refl (grows_refl q', grows_refl q') refl refl);
             after_it = lawful';
@@ -102,19 +103,21 @@ module _ {Q W : Type 0} (made : Q → List ℕ → Type 0) (fits : W → Q → T
         ),
       )
 
-  pub rounds_gate : (suits : Q → Type 0) (n id call : ℕ) (me : Me Q View) → call ≡ id → ((x : Q) → fits key.world.value x → suits x) → me.0.runner ≡ true → 1 ≤ me.0.ends → me.0.part.queue.taken ≤ length me.0.part.queue.places
+  pub rounds_gate : (suits : Q → Type 0) (n id call : ℕ) (me : Me Q View) → call ≡ id → ((x : Q) → fits key.world.value x → suits x) → me.0.runner ≡ true → 1 ≤ me.0.member.ends → me.0.part.queue.taken ≤ length me.0.part.queue.places
       → Carries made (fits key.world.value) (notes_of me.0.part.queue) [] me.1 → Allows (Rule made fits key) n id me 3 (λ _. 1) (rounds made suits call (step n 3 1 0 none) me)
   rounds_gate suits n id call me own fit r live behind c s k _ at _ = let v : View = me.0 in let q : Positions = k.queue in let g = k.listed.seen id v.part (at_map part_of s.views id v at) in let not_idle = gate_up q (gate_in s.words) s.views id v k.gate at r in
-      let w : View = record (after v 3 (gate_in s.words) q) { saw = false } in (
+      let w : View = record (after v 3 (gate_in s.words) (steps_to k) (moment q (gate_in s.words)) (moment q 1)) { saw = false } in (
         w,
         keeps,
         tt,
-        kept_gate made fits key s k id 1 v w s.homes at refl refl refl (refl, refl, refl) live (gated_runs q 1 s.views id v w at (others_still q (gate_in s.words) s.views id v k.gate at r) (λ e. omega arith) (omega arith) r refl refl)
+        kept_gate made fits key s k id (gate_in s.words) 1 v w s.homes at refl refl refl live refl refl refl (gated_runs q 1 s.views id v w at (others_still q (gate_in s.words) s.views id v k.gate at r) (λ e. omega arith) (omega arith) r refl refl)
             record { home = λ e. absurd (omega arith); held = λ _. k.slot.held not_idle },
         (
           refl,
           record {
             queue = q;
+            before = steps_to k;
+            follows = k.course.seen id v at;
             same = refl;
             sees = sees_of made fits key s k id v at;
             turn = turn_of made fits key s k id v at r;
@@ -124,21 +127,23 @@ module _ {Q W : Type 0} (made : Q → List ℕ → Type 0) (fits : W → Q → T
         ),
       )
 
-  pub leaves_gate : (suits : Q → Type 0) (n id call : ℕ) (me : Me Q View) → call ≡ id → ((x : Q) → fits key.world.value x → suits x) → me.0.runner ≡ true → me.0.saw ≡ true → 1 ≤ me.0.ends → me.0.part.queue.taken ≤ length me.0.part.queue.places → Carries made (fits key.world.value) (notes_of me.0.part.queue) [] me.1
+  pub leaves_gate : (suits : Q → Type 0) (n id call : ℕ) (me : Me Q View) → call ≡ id → ((x : Q) → fits key.world.value x → suits x) → me.0.runner ≡ true → me.0.saw ≡ true → 1 ≤ me.0.member.ends → me.0.part.queue.taken ≤ length me.0.part.queue.places → Carries made (fits key.world.value) (notes_of me.0.part.queue) [] me.1
       → Allows (Rule made fits key) n id me 3 (λ y. either (eqb y 1) 0 y) (leaves made suits call (step n 3 1 0 none) me)
   leaves_gate suits n id call me own fit r sw live behind c s k _ at _ = let y : ℕ = gate_in s.words in let v : View = me.0 in let q : Positions = k.queue in let g = k.listed.seen id v.part (at_map part_of s.views id v at) in let not_idle = gate_up q y s.views id v k.gate at r in let taken = k.gate.takes id v at r in
       exchanged y 1 0 (Goes made fits key s 3 id me (leaves made suits call (step n 3 1 0 none) me y))
-      (λ hit. let w : View = record (after v 3 1 q) { runner = false; saw = false } in let gate' : GateShows q 0 (set s.views id w) = gated_leaves q s.views id v w (subst (λ (z : ℕ). GateShows q z s.views) hit k.gate) at r sw refl refl refl in (
+      (λ hit. let w : View = record (after v 3 1 (steps_to k) (moment q 1) (moment q 0)) { runner = false; saw = false } in let gate' : GateShows q 0 (set s.views id w) = gated_leaves q s.views id v w (subst (λ (z : ℕ). GateShows q z s.views) hit k.gate) at r sw refl refl refl in (
         w,
         gives,
         tt,
-        kept_gate made fits key s k id 0 v w (put_back s.homes me.1) at refl refl refl (refl, refl, refl) live gate'
+        kept_gate made fits key s k id 1 0 v w (put_back s.homes me.1) at refl refl refl live (sym hit) refl refl gate'
             record { home = λ _. (c.0, (λ i. put_back (k.slot.held not_idle i) (c.1 i)), subst (made c.0) (sym (notes_same v.part.queue q g.0 (sym taken) behind)) c.2, c.3); held = λ e. absurd (e refl) },
         (
           (λ _. (
             refl,
             record {
               queue = q;
+              before = steps_to k;
+              follows = k.course.seen id v at;
               same = refl;
               sees = sees_of made fits key s k id v at;
               turn = sym taken;
@@ -150,4 +155,4 @@ module _ {Q W : Type 0} (made : Q → List ℕ → Type 0) (fits : W → Q → T
           λ miss. absurd (miss hit),
         ),
       ))
-      (λ miss. let small = k.gate.small in (after v 3 y q, keeps, tt, kept_look made fits key s k 3 id y v at, ((λ hit. absurd (miss hit)), λ _. (refl, found_now made fits key s k 3 id v at, (let f : y ≢ 0 = not_idle in let m : y ≢ 1 = miss in omega arith)))))
+      (λ miss. let small = k.gate.small in (looked v 3 y (steps_to k) (moment q y), keeps, tt, kept_look made fits key s k 3 id y v at, ((λ hit. absurd (miss hit)), λ _. (refl, found_now made fits key s k 3 id v at, (let f : y ≢ 0 = not_idle in let m : y ≢ 1 = miss in omega arith)))))

@@ -35,7 +35,7 @@ pub served_more : (u v w : View) (ns : List ℕ) → HasServed u ns v → HasSer
 served_more u v w ns a b = subst (λ (z : List ℕ). HasServed u z w) (append-nil ns) (served_on u v w ns [] a b)
 
 -- a step that took nothing
-pub served_none : (v w : View) (q : Positions) → w.part ≡ record v.part { queue = q; joined = q } → w.ends ≡ v.ends → w.share ≡ v.share → w.owes ≡ v.owes → Sees v.part q → q.taken ≡ v.part.queue.taken → v.part.queue.taken ≤ length v.part.queue.places → HasServed v [] w
+pub served_none : (v w : View) (q : Positions) → w.part ≡ record v.part { queue = q; joined = q } → w.member.ends ≡ v.member.ends → w.member.share ≡ v.member.share → w.owes ≡ v.owes → Sees v.part q → q.taken ≡ v.part.queue.taken → v.part.queue.taken ≤ length v.part.queue.places → HasServed v [] w
 served_none v w q is ends share owes s same behind = let f : w.part.queue ≡ q = ap (λ (z : QueueView). z.queue) is in let t : w.part.queue.taken ≡ q.taken = ap (λ (z : Positions). z.taken) f in record {
   notes = ap notes_of f ∙ (notes_same v.part.queue q s.later.0 same behind ∙ sym (append-nil (notes_of v.part.queue)));
   taken = omega arith;
@@ -65,10 +65,10 @@ served_still v behind small grows = record {
 }
 
 pub served_found : (v w : View) (word found : ℕ) → v.runner ≡ true → v.part.queue.taken ≤ length v.part.queue.places → Found v word found w → HasServed v [] w
-served_found v w word found turn behind s = served_none v w w.part.queue (ap (λ (z : View). z.part) s.same) (ap (λ (z : View). z.ends) s.same) (ap (λ (z : View). z.share) s.same) (ap (λ (z : View). z.owes) s.same) s.sees (s.turn turn) behind
+served_found v w word found turn behind s = served_none v w w.part.queue (ap (λ (z : View). z.part) s.same) (ap (λ (z : View). z.member.ends) s.same) (ap (λ (z : View). z.member.share) s.same) (ap (λ (z : View). z.owes) s.same) s.sees (s.turn turn) behind
 
 pub served_low : (v w : View) (word found : ℕ) → v.part.queue.taken ≤ length v.part.queue.places → FoundNotRaised v word found w → HasServed v [] w
-served_low v w word found behind s = served_none v w w.part.queue (ap (λ (z : View). z.part) s.same) (ap (λ (z : View). z.ends) s.same) (ap (λ (z : View). z.share) s.same) (ap (λ (z : View). z.owes) s.same) s.sees s.turn behind
+served_low v w word found behind s = served_none v w w.part.queue (ap (λ (z : View). z.part) s.same) (ap (λ (z : View). z.member.ends) s.same) (ap (λ (z : View). z.member.share) s.same) (ap (λ (z : View). z.owes) s.same) s.sees s.turn behind
 
 -- the first cell behind the first i
 first_behind : (i : ℕ) (l : List Cell) → i < length l → map item_of (take 1 (drop i l)) ≡ (get_or l i blank).item ∷ []
@@ -78,10 +78,10 @@ first_behind (suc i) (x ∷ xs) h = first_behind i xs (omega arith)
 
 module _ {Q : Type 0} (made : Q → List ℕ → Type 0) (fits : Q → Type 0) where
   pub served_round : (call : ℕ) (m : Me Q View) (found : ℕ) (w : View) → m.0.part.queue.taken ≤ length m.0.part.queue.places → BegunRound made fits call m found w → HasServed m.0 [] w
-  served_round call m found w behind s = served_none m.0 w s.queue (ap (λ (z : View). z.part) s.same) (ap (λ (z : View). z.ends) s.same) (ap (λ (z : View). z.share) s.same) (ap (λ (z : View). z.owes) s.same) s.sees s.turn behind
+  served_round call m found w behind s = served_none m.0 w s.queue (ap (λ (z : View). z.part) s.same) (ap (λ (z : View). z.member.ends) s.same) (ap (λ (z : View). z.member.share) s.same) (ap (λ (z : View). z.owes) s.same) s.sees s.turn behind
 
   pub served_left : (call : ℕ) (m : Me Q View) (w : View) → m.0.part.queue.taken ≤ length m.0.part.queue.places → HasLeft made fits call m w → HasServed m.0 [] w
-  served_left call m w behind s = served_none m.0 w s.queue (ap (λ (z : View). z.part) s.same) (ap (λ (z : View). z.ends) s.same) (ap (λ (z : View). z.share) s.same) (ap (λ (z : View). z.owes) s.same) s.sees s.turn behind
+  served_left call m w behind s = served_none m.0 w s.queue (ap (λ (z : View). z.part) s.same) (ap (λ (z : View). z.member.ends) s.same) (ap (λ (z : View). z.member.share) s.same) (ap (λ (z : View). z.owes) s.same) s.sees s.turn behind
 
   -- the note that was taken is the one that the runner had found
   pub item_took : (call : ℕ) (m : Me Q View) (stored : ℕ) (w : View) (s : Took made fits call m stored w) → 2 ≤ written_at m.0.part.queue m.0.part.queue.taken → item_at s.queue s.queue.taken ≡ item_at m.0.part.queue m.0.part.queue.taken
@@ -98,8 +98,8 @@ module _ {Q : Type 0} (made : Q → List ℕ → Type 0) (fits : Q → Type 0) w
         small = subst (λ (z : Positions). head_of z < 4294967296) (sym f) s.sees.small;
         runs = ap (λ (z : View). z.part.runs) s.same;
         takes = ap notes_taken s.same ∙ (map-append line_of v.part.takes (taking q ∷ []) ∙ ap (λ (z : List ℕ). notes_taken v ++ z ∷ []) (first_behind q.taken q.places below' ∙ ap alone item));
-        ends = ap (λ (z : View). z.ends) s.same;
-        share = ap (λ (z : View). z.share) s.same;
+        ends = ap (λ (z : View). z.member.ends) s.same;
+        share = ap (λ (z : View). z.member.share) s.same;
         owes = ap (λ (z : View). z.owes) s.same;
       }
 

@@ -13,14 +13,16 @@ use Rattle.quaject_core.specs.Chains.{Chain, is_call}
 use Rattle.quaject_core.specs.Lawful.{IsLawfulChain}
 use Rattle.table_theory.specs.Positioned.{item_of}
 use Rattle.table_theory.specs.Filing.{Owned, ListedOnce}
-use Rattle.table_theory.specs.Listing.{all_places, Chained}
-use Rattle.table_theory.specs.QueueOf.{run_in, up_in}
-use Rattle.table_theory.specs.Sharing.{EndsCounted}
+use Rattle.table_theory.specs.Listing.{all_places, Chained, Later}
+use Rattle.table_theory.specs.QueueOf.{run_in, up_in, IsHistory}
+use Rattle.table_theory.specs.Courses.{IsCourse}
+use Rattle.table_theory.specs.Members.{EndsKnown}
+use Rattle.proc_chain.specs.declared.rule.Moment.{Moment}
 use Rattle.proc_chain.specs.declared.rule.Shape.{Shape}
 use Rattle.proc_chain.specs.declared.rule.View.{View}
 use Rattle.proc_chain.specs.Shown.{note_in, mark_in, gate_in}
-use Rattle.proc_chain.specs.Rules.{ends_of, share_of, IsIdle}
-use Rattle.proc_chain.specs.Chainings.{gate_of}
+use Rattle.proc_chain.specs.Rules.{member_of, steps_of, course_of, IsIdle, first_moment}
+use Rattle.proc_chain.specs.Chainings.{gate_of, chain_of}
 
 -- the pair (run, index) of the note with this number
 abbrev pub pair_at : Chain → ℕ → ℕ × ℕ
@@ -60,16 +62,27 @@ pub record IsShown {W : Type 0} (key : Shape W) (words : List ℕ) (views : List
   -- an end is the runner exactly where it knows so, and owes a notify exactly where it knows so
   pub runner : (call : ℕ) (v : View) → get_elem? views call ≡ some v → v.runner ≡ is_call call c.runner
   pub owing : (call : ℕ) (v : View) → get_elem? views call ≡ some v → v.owes ≡ c.owing call
-  -- a word has the exact number of ends
-  pub counted : EndsCounted ends_of share_of IsIdle (slice_index_or words 2 0) views
 
 -- There is a lawful chain that is shown. Where its gate is Idle, the quaject is in the slot, was made by the notes
--- taken, in order, and fits the world; else its runner holds the slot
+-- taken, in order, and fits the world; else the slot is out
 pub record ShowsChain {Q W : Type 0} (made : Q → List ℕ → Type 0) (fits : W → Q → Type 0) (key : Shape W)
     (s : State Q View) : Type 0 where
+  pub now : Moment
   pub chain : Chain
   pub lawful : IsLawfulChain chain
   pub shown : IsShown key s.words s.views chain
+  -- the chain is that of the queue and the gate now
+  pub same : chain ≡ chain_of now.queue shown.runs now.gate s.views
+  pub first : now.queue.first ≡ key.first
+  pub history : IsHistory now.queue shown.runs
+  pub gate : now.gate ≡ gate_in s.words
+  -- each end has seen the queue no later than now
+  pub seen : (j : ℕ) (v : View) → get_elem? s.views j ≡ some v → Later v.part now.queue
+  -- the ends' steps lead to them from the empty queue with its gate Idle, and each end has seen all of them up to its
+  -- own last one
+  pub course : IsCourse steps_of course_of (first_moment key.first) now s.views
+  -- the word has the number of the ends that stand
+  pub ends : EndsKnown member_of IsIdle (slice_index_or s.words 2 0) s.views
   pub home : chain.gate ≡ Idle → (x : Q) × (s.homes ≡ some x ∷ [])
       × made x (take chain.notes.taken (flat chain.notes.history)) × fits key.world.value x
   pub held : chain.gate ≢ Idle → s.homes ≡ none ∷ []

@@ -21,7 +21,7 @@ left_from words p (suc n) = left_at words p ∷ left_from words (suc p) n
 -- left, and the quaject that comes back was made by the notes taken, in order, and fits
 pub record ClosedNow {Q : Type 0} (made : Q → List ℕ → Type 0) (fits : Q → Type 0) (v : View) (first put taken : ℕ)
     (left : List (Option ℕ)) (quaject : Q) : Type 0 where
-  pub whole : IsWhole v.share
+  pub whole : IsWhole v.member.share
   pub queue : Positions
   pub listed : ViewsShow queue (v.part ∷ [])
   pub starts : queue.first ≡ first
@@ -35,4 +35,4 @@ pub record ClosedNow {Q : Type 0} (made : Q → List ℕ → Type 0) (fits : Q �
 pub record WereOpen (v : View) (others : ℕ) (w : View) : Type 0 where
   pub tallied : Tallied v (others + 1) w
   pub some_other : 0 < others
-  pub not_whole : IsWhole v.share → ⊥
+  pub not_whole : IsWhole v.member.share → ⊥

@@ -1,35 +1,43 @@
 -- What making and joining ends does to their views.
-use Rattle.std.specs.Prelude.{◌≡◌, ℕ, Bool, true, false, List}
-use Rattle.table_theory.specs.Ends.{Begins, IsNumber}
+use Rattle.std.specs.Prelude.{◌≡◌, ℕ, Bool, true, false, ◌&&◌}
+use Rattle.table_theory.specs.Ends.{Begins}
+use Rattle.table_theory.specs.Members as members
 use Rattle.table_theory.specs.Seeing.{Sees}
-use Rattle.table_theory.specs.Sharing.{given, kept}
+use Rattle.table_theory.specs.Sharing.{given}
 use Rattle.atomic_table.specs.Table.{Me}
 use Rattle.proc_chain.specs.declared.rule.View.{View}
-use Rattle.proc_chain.specs.Steps.{KeepsTaken, both, newborn, with_split, with_join}
+use Rattle.proc_chain.specs.Rules.{moment}
+use Rattle.proc_chain.specs.Steps.{Course, KeepsTaken, counted, both, newborn}
 
 -- The number of ends was found and made one more, and the end gave a part of its share away. Nothing else changed
 pub record Divided (v w : View) : Type 0 where
   pub found : ℕ
-  pub log : List Bool
-  pub same : w ≡ record (with_split v found w.part.queue log) { share = kept v.share }
+  pub before : Course
+  pub follows : Begins v.course before
+  pub gate : ℕ
+  pub same : w ≡ counted v found before (moment w.part.queue gate) w.member
   pub sees : Sees v.part w.part.queue
   pub turn : KeepsTaken v w.part.queue
-  pub later : Begins v.log log
-  pub number : IsNumber log found
+  pub member : members.Divided v.member found w.member
 
 -- the new end has nothing but the part of the share, and has seen what the other end had seen
 abbrev pub IsNewborn : View → View → View → Type 0
-IsNewborn old new born = born ≡ record (newborn new) { share = given old.share }
+IsNewborn old new born = born ≡ record (newborn new) {
+  member = record (members.newborn new.member) { share = given old.member.share };
+}
 
--- The end has what both had, and has seen what both had seen; then the number of ends was found and made one less
+-- The end has what both had, and has seen what both had seen; then the number of ends was found and made one less. Not
+-- both had the turn
 pub record TookIn (v u w : View) : Type 0 where
   pub found : ℕ
-  pub log : List Bool
-  pub same : w ≡ record (with_join (both v u) found w.part.queue log) { ends = 1 }
+  pub before : Course
+  pub follows : Begins (both v u).course before
+  pub gate : ℕ
+  pub same : w ≡ counted (both v u) found before (moment w.part.queue gate) w.member
   pub sees : Sees (both v u).part w.part.queue
   pub turn : KeepsTaken v w.part.queue
-  pub later : Begins (both v u).log log
-  pub number : IsNumber log found
+  pub member : members.TookIn v.member u.member found w.member
+  pub one_turn : (v.runner && u.runner) ≡ false
 
 -- the end that has the turn takes in the other, and holds what it held
 abbrev pub Joined : {Q : Type 0} → Bool → Me Q View → Me Q View → Me Q View → Type 0

@@ -37,11 +37,11 @@ module _ {Q W : Type 0} {g : Ghosts Q W} where
 
   -- the end can be split: it has two parts of the chain or more
   abbrev pub IsDivisible : ChainEnd Q W g → Type 0
-  IsDivisible end = 2 ≤ end.seat.me.0.share
+  IsDivisible end = 2 ≤ end.seat.me.0.member.share
 
   -- every other end was joined
   abbrev pub IsOnlyEnd : ChainEnd Q W g → Type 0
-  IsOnlyEnd end = IsWhole end.seat.me.0.share
+  IsOnlyEnd end = IsWhole end.seat.me.0.member.share
 
   -- It is an end of this chain. It holds the quaject where it has the turn, made by the notes taken and fitting the
   -- world, and holds nothing else

@@ -1,7 +1,8 @@
--- What each step tells its end. Each adds one entry to the end's list: the word's number, what was found there (at a
--- store, what was stored), and the queue as it was then.
-use Rattle.std.specs.Prelude.{◌≡◌, ◌≢◌, ◌+◌, ◌-◌, ◌/◌, ◌<◌, ℕ, Bool, true, false, length, List, [], ◌∷◌, ◌++◌}
-use Rattle.std.specs.Prelude.{take, drop, slice_index_or, slice_set}
+-- What each step tells its end. Each adds one entry to the end's list, and to the course of all ends' steps that it has
+-- seen: the word's number, what was found there (at a store, what was stored), and the queue and the gate as the step
+-- found them and left them.
+use Rattle.std.specs.Prelude.{◌≡◌, ◌≢◌, ◌+◌, ◌-◌, ◌/◌, ◌<◌, ℕ, true, false, ◌||◌, ◌&&◌, length, List, []}
+use Rattle.std.specs.Prelude.{◌∷◌, ◌++◌, take, drop, slice_index_or, slice_set}
 use mathlib.Core.Option.{some}
 use lib.ListN.{get_elem?}
 use Rattle.table_theory.specs.declared.queues.Positions.{Positions}
@@ -11,19 +12,36 @@ use Rattle.table_theory.specs.Positioned.{written_at}
 use Rattle.table_theory.specs.Listing.{written_to, Distinct, number_of}
 use Rattle.quaject_core.specs.Chains as chains
 use Rattle.table_theory.specs.Seeing.{Sees}
-use Rattle.table_theory.specs.Ends.{Begins, IsNumber, later_of}
-use Rattle.table_theory.specs.Sharing.{given, kept, IsCount}
+use Rattle.table_theory.specs.Ends.{Begins, later_of}
+use Rattle.table_theory.specs.Members as members
+use Rattle.table_theory.specs.declared.views.Entry.{Entry}
+use Rattle.table_theory.specs.declared.views.Member.{Member}
 use Rattle.atomic_table.specs.Table.{Me, Step, rest}
+use Rattle.proc_chain.specs.declared.rule.Moment.{Moment}
 use Rattle.proc_chain.specs.declared.rule.View.{View}
-use Rattle.proc_chain.specs.Shown.{head_word, tail_word, ends_word, gate_word, WordsShow, notes_of}
+use Rattle.proc_chain.specs.Shown.{head_word, tail_word, ends_word, gate_word, gate_in, WordsShow, notes_of}
+use Rattle.proc_chain.specs.Rules.{moment}
 use Rattle.proc_chain.specs.Chainings.{IsChainEvent}
 
--- the view after a step that found this number in this word, when the queue was so
-abbrev pub after : View → ℕ → ℕ → Positions → View
-after v word found q = record v {
-  part = record v.part { queue = q; joined = q };
-  steps = v.steps ++ record { word = word; found = found; then = q } ∷ [];
+-- steps of all ends, in their order
+abbrev pub Course : Type 0
+Course = List (Entry Moment)
+
+abbrev pub entry : ℕ → ℕ → Moment → Moment → Entry Moment
+entry word found m n = record { word = word; found = found; then = m; next = n }
+
+-- the view after a step that found this number in this word, behind all steps of the course: it found the queue and the
+-- gate so, and left them so
+abbrev pub after : View → ℕ → ℕ → Course → Moment → Moment → View
+after v word found before m n = record v {
+  part = record v.part { queue = n.queue; joined = n.queue };
+  steps = v.steps ++ entry word found m n ∷ [];
+  course = before ++ entry word found m n ∷ [];
 }
+
+-- the same, where the step left both as they were
+abbrev pub looked : View → ℕ → ℕ → Course → Moment → View
+looked v word found before m = after v word found before m m
 
 -- the runner finds as many notes taken as it knew of
 abbrev pub KeepsTaken : View → Positions → Type 0
@@ -31,20 +49,28 @@ KeepsTaken v q = v.runner ≡ true → q.taken ≡ v.part.queue.taken
 
 -- A number was found in a word, and nothing else changed for the end
 pub record Found (v : View) (word found : ℕ) (w : View) : Type 0 where
-  pub same : w ≡ after v word found w.part.queue
+  pub before : Course
+  pub follows : Begins v.course before
+  pub gate : ℕ
+  pub same : w ≡ looked v word found before (moment w.part.queue gate)
   pub sees : Sees v.part w.part.queue
   pub turn : KeepsTaken v w.part.queue
   pub words : List ℕ
   pub shows : WordsShow w.part.queue words
+  pub gate_is : gate_in words ≡ gate
   pub is : found ≡ slice_index_or words word 0
 
 -- The runner found in the word of the first place left that it was not raised
 pub record FoundNotRaised (v : View) (word found : ℕ) (w : View) : Type 0 where
-  pub same : w ≡ record (after v word found w.part.queue) { saw = true }
+  pub before : Course
+  pub follows : Begins v.course before
+  pub gate : ℕ
+  pub same : w ≡ record (looked v word found before (moment w.part.queue gate)) { saw = true }
   pub sees : Sees v.part w.part.queue
   pub turn : w.part.queue.taken ≡ v.part.queue.taken
   pub words : List ℕ
   pub shows : WordsShow w.part.queue words
+  pub gate_is : gate_in words ≡ gate
   pub is : found ≡ slice_index_or words word 0
   pub low : written_at w.part.queue w.part.queue.taken < 2
 
@@ -56,53 +82,59 @@ pub record LookedAtFirst (v : View) (word found : ℕ) (w : View) : Type 0 where
 abbrev pub run : ℕ → ℕ → Batch
 run head note = record { start = head; places = fresh note ∷ [] }
 
-abbrev pub claimed : View → ℕ → ℕ → Positions → View
-claimed v head note q = record (after v head_word head q) {
-  part = record {
-    queue = with_claim q (note ∷ []);
-    joined = with_claim q (note ∷ []);
-    runs = v.part.runs ++ run head note ∷ [];
-    takes = v.part.takes;
-  };
-}
+abbrev pub claimed : View → ℕ → ℕ → Course → Positions → ℕ → View
+claimed v head note before q gate =
+    record (after v head_word head before (moment q gate) (moment (with_claim q (note ∷ [])) gate)) {
+      part = record {
+        queue = with_claim q (note ∷ []);
+        joined = with_claim q (note ∷ []);
+        runs = v.part.runs ++ run head note ∷ [];
+        takes = v.part.takes;
+      };
+    }
 
 -- The note was claimed, at the head of the queue as it was at that step
 pub record Claimed (call : ℕ) (v : View) (head note : ℕ) (w : View) : Type 0 where
   pub queue : Positions
-  pub same : w ≡ claimed v head note queue
+  pub gate : ℕ
+  pub before : Course
+  pub follows : Begins v.course before
+  pub same : w ≡ claimed v head note before queue gate
   pub sees : Sees v.part queue
   pub turn : KeepsTaken v queue
   pub at : head_of queue ≡ head
   pub is_open : queue.shut ≡ false
-  pub gate : ℕ
   pub event : IsChainEvent queue (with_claim queue (note ∷ [])) gate gate call v w (chains.claim_note call (note ∷ []))
   pub after_it : Lawful (with_claim queue (note ∷ []))
   pub distinct : Distinct w.part.runs
 
-abbrev pub raised : View → ℕ → ℕ → ℕ → Batch → Positions → ℕ → View
-raised v word stored m e q at = record (after v word stored q) {
-  part = record {
-    queue = with_write q at 2;
-    joined = with_write q at 2;
-    runs = slice_set v.part.runs m (written_to e 0 2);
-    takes = v.part.takes;
-  };
-  owes = true;
-}
+abbrev pub raised : View → ℕ → ℕ → ℕ → Batch → Course → Positions → ℕ → ℕ → View
+raised v word stored m e before q gate at =
+    record (after v word stored before (moment q gate) (moment (with_write q at 2) gate)) {
+      part = record {
+        queue = with_write q at 2;
+        joined = with_write q at 2;
+        runs = slice_set v.part.runs m (written_to e 0 2);
+        takes = v.part.takes;
+      };
+      owes = true;
+    }
 
 -- The place of the end's run that starts there was raised: this number was stored in this word. The end owes a notify
 pub record Raised (call : ℕ) (v : View) (start word stored : ℕ) (w : View) : Type 0 where
   pub queue : Positions
+  pub gate : ℕ
   pub at : ℕ
   pub run : Batch
   pub has : get_elem? v.part.runs (number_of start v.part.runs) ≡ some run
   pub start_is : run.start + 0 ≡ queue.first + at
   pub below : at < length queue.places
   pub low : written_at queue at < 2
-  pub same : w ≡ raised v word stored (number_of start v.part.runs) run queue at
+  pub before : Course
+  pub follows : Begins v.course before
+  pub same : w ≡ raised v word stored (number_of start v.part.runs) run before queue gate at
   pub sees : Sees v.part queue
   pub turn : KeepsTaken v queue
-  pub gate : ℕ
   pub run_number : ℕ
   pub event : IsChainEvent queue (with_write queue at 2) gate gate call v w (chains.raise_note call run_number 0)
   pub is_run : get_elem? event.shown.runs run_number ≡ some (call, number_of start v.part.runs, run)
@@ -116,8 +148,8 @@ Carries {Q} made fits notes held c = (x : Q) × (c ≡ (0, x) ∷ held) × made 
 abbrev pub taking : Positions → Batch
 taking q = record { start = tail_of q; places = take 1 (drop q.taken q.places) }
 
-abbrev pub took : View → ℕ → Positions → View
-took v stored q = record (after v tail_word stored q) {
+abbrev pub took : View → ℕ → Course → Positions → ℕ → View
+took v stored before q gate = record (after v tail_word stored before (moment q gate) (moment (with_take q 1) gate)) {
   part = record {
     queue = with_take q 1;
     joined = with_take q 1;
@@ -132,11 +164,13 @@ took v stored q = record (after v tail_word stored q) {
 pub record Took {Q : Type 0} (made : Q → List ℕ → Type 0) (fits : Q → Type 0) (call : ℕ) (me : Me Q View) (stored : ℕ)
     (w : View) : Type 0 where
   pub queue : Positions
-  pub same : w ≡ took me.0 stored queue
+  pub gate : ℕ
+  pub before : Course
+  pub follows : Begins me.0.course before
+  pub same : w ≡ took me.0 stored before queue gate
   pub sees : Sees me.0.part queue
   pub turn : queue.taken ≡ me.0.part.queue.taken
   pub at : stored ≡ tail_of queue + 1
-  pub gate : ℕ
   pub event : IsChainEvent queue (with_take queue 1) gate gate call me.0 w (chains.take_note call 1)
   pub after_it : Lawful (with_take queue 1)
   pub carries : Carries made fits (notes_of queue) [] me.1
@@ -144,7 +178,9 @@ pub record Took {Q : Type 0} (made : Q → List ℕ → Type 0) (fits : Q → Ty
 -- The end has notified, and found a gate that was not Idle
 pub record Notified (call : ℕ) (v : View) (found : ℕ) (w : View) : Type 0 where
   pub queue : Positions
-  pub same : w ≡ record (after v gate_word found queue) { owes = false }
+  pub before : Course
+  pub follows : Begins v.course before
+  pub same : w ≡ record (after v gate_word found before (moment queue found) (moment queue 2)) { owes = false }
   pub sees : Sees v.part queue
   pub turn : KeepsTaken v queue
   pub not_idle : found ≢ 0
@@ -154,7 +190,13 @@ pub record Notified (call : ℕ) (v : View) (found : ℕ) (w : View) : Type 0 wh
 pub record GotTurn {Q : Type 0} (made : Q → List ℕ → Type 0) (fits : Q → Type 0) (call : ℕ) (me me' : Me Q View)
     : Type 0 where
   pub queue : Positions
-  pub same : me'.0 ≡ record (after me.0 gate_word 0 queue) { owes = false; runner = true; saw = false }
+  pub before : Course
+  pub follows : Begins me.0.course before
+  pub same : me'.0 ≡ record (after me.0 gate_word 0 before (moment queue 0) (moment queue 2)) {
+    owes = false;
+    runner = true;
+    saw = false;
+  }
   pub sees : Sees me.0.part queue
   pub had_none : me.0.runner ≡ false
   pub event : IsChainEvent queue queue 0 2 call me.0 me'.0 (chains.notify call)
@@ -164,7 +206,9 @@ pub record GotTurn {Q : Type 0} (made : Q → List ℕ → Type 0) (fits : Q →
 pub record BegunRound {Q : Type 0} (made : Q → List ℕ → Type 0) (fits : Q → Type 0) (call : ℕ) (me : Me Q View)
     (found : ℕ) (w : View) : Type 0 where
   pub queue : Positions
-  pub same : w ≡ record (after me.0 gate_word found queue) { saw = false }
+  pub before : Course
+  pub follows : Begins me.0.course before
+  pub same : w ≡ record (after me.0 gate_word found before (moment queue found) (moment queue 1)) { saw = false }
   pub sees : Sees me.0.part queue
   pub turn : queue.taken ≡ me.0.part.queue.taken
   pub event : IsChainEvent queue queue found 1 call me.0 w (chains.round call)
@@ -174,7 +218,12 @@ pub record BegunRound {Q : Type 0} (made : Q → List ℕ → Type 0) (fits : Q 
 pub record HasLeft {Q : Type 0} (made : Q → List ℕ → Type 0) (fits : Q → Type 0) (call : ℕ) (me : Me Q View) (w : View)
     : Type 0 where
   pub queue : Positions
-  pub same : w ≡ record (after me.0 gate_word 1 queue) { runner = false; saw = false }
+  pub before : Course
+  pub follows : Begins me.0.course before
+  pub same : w ≡ record (after me.0 gate_word 1 before (moment queue 1) (moment queue 0)) {
+    runner = false;
+    saw = false;
+  }
   pub sees : Sees me.0.part queue
   pub turn : queue.taken ≡ me.0.part.queue.taken
   pub event : IsChainEvent queue queue 1 0 call me.0 w (chains.leave call)
@@ -209,44 +258,41 @@ module _ {Q : Type 0} where
   leaves made fits call st m r m' = (r ≡ 1 → (m'.1 ≡ rest m.1) × HasLeft made fits call m m'.0)
       × (r ≢ 1 → (m'.1 ≡ m.1) × Found m.0 st.word r m'.0 × (r ≡ 2))
 
--- the view after so many ends were found, and a split more
-abbrev pub with_split : View → ℕ → Positions → List Bool → View
-with_split v found q log = record (after v ends_word found q) { splits = v.splits + 1; log = log ++ true ∷ [] }
-
--- the same, and a join more
-abbrev pub with_join : View → ℕ → Positions → List Bool → View
-with_join v found q log = record (after v ends_word found q) { joins = v.joins + 1; log = log ++ false ∷ [] }
+-- the view after so many ends were found, which makes another of them of the end
+abbrev pub counted : View → ℕ → Course → Moment → Member → View
+counted v found before m n = record (looked v ends_word found before m) { member = n }
 
 -- The number of ends was found, and made one more
 pub record CountedUp (v : View) (found : ℕ) (w : View) : Type 0 where
-  pub queue : Positions
-  pub log : List Bool
-  pub same : w ≡ record (with_split v found queue log) { ends = v.ends + 1 }
-  pub sees : Sees v.part queue
-  pub turn : KeepsTaken v queue
-  pub later : Begins v.log log
-  pub number : IsNumber log found
+  pub before : Course
+  pub follows : Begins v.course before
+  pub gate : ℕ
+  pub same : w ≡ counted v found before (moment w.part.queue gate) w.member
+  pub sees : Sees v.part w.part.queue
+  pub turn : KeepsTaken v w.part.queue
+  pub member : members.CountedUp v.member found w.member
 
 -- The number of ends was found, and made one less
 pub record CountedDown (v : View) (found : ℕ) (w : View) : Type 0 where
-  pub queue : Positions
-  pub log : List Bool
-  pub same : w ≡ record (with_join v found queue log) { ends = v.ends - 1 }
-  pub sees : Sees v.part queue
-  pub turn : KeepsTaken v queue
-  pub later : Begins v.log log
-  pub number : IsNumber log found
+  pub before : Course
+  pub follows : Begins v.course before
+  pub gate : ℕ
+  pub same : w ≡ counted v found before (moment w.part.queue gate) w.member
+  pub sees : Sees v.part w.part.queue
+  pub turn : KeepsTaken v w.part.queue
+  pub member : members.CountedDown v.member found w.member
   pub distinct : Distinct w.part.runs
+  pub undoubled : v.doubled ≡ false
 
 -- The number of ends was found: that of the splits and joins up to then, and 1 exactly where this end has the whole
 pub record Tallied (v : View) (found : ℕ) (w : View) : Type 0 where
-  pub queue : Positions
-  pub same : w ≡ record (after v ends_word found queue) { log = w.log }
-  pub sees : Sees v.part queue
-  pub turn : KeepsTaken v queue
-  pub later : Begins v.log w.log
-  pub number : IsNumber w.log found
-  pub count : IsCount v.share found
+  pub before : Course
+  pub follows : Begins v.course before
+  pub gate : ℕ
+  pub same : w ≡ counted v found before (moment w.part.queue gate) w.member
+  pub sees : Sees v.part w.part.queue
+  pub turn : KeepsTaken v w.part.queue
+  pub member : members.Tallied v.member found w.member
 
 module _ {Q : Type 0} where
   abbrev pub counts_up : Step Q → Me Q View → ℕ → Me Q View → Type 0
@@ -260,20 +306,18 @@ module _ {Q : Type 0} where
 
 -- what a split leaves, and the new end's view
 abbrev pub rest_of : View → View
-rest_of v = record v { ends = v.ends - 1; share = kept v.share }
+rest_of v = record v { member = members.rest_of v.member }
 
 abbrev pub newborn : View → View
 newborn v = record {
   part = record { queue = v.part.queue; joined = v.part.joined; runs = []; takes = [] };
-  ends = 1;
-  share = given v.share;
-  splits = 0;
-  joins = 0;
-  log = v.log;
+  member = members.newborn v.member;
   runner = false;
   owes = false;
   saw = false;
+  doubled = false;
   steps = [];
+  course = v.course;
 }
 
 -- the view of an end that took in an end with the view w
@@ -285,25 +329,21 @@ both v w = record v {
     runs = v.part.runs ++ w.part.runs;
     takes = v.part.takes ++ w.part.takes;
   };
-  ends = v.ends + w.ends;
-  share = v.share + w.share;
-  splits = v.splits + w.splits;
-  joins = v.joins + w.joins;
-  log = later_of v.log w.log;
+  member = members.both v.member w.member;
+  doubled = v.doubled || w.doubled || (v.runner && w.runner);
   steps = v.steps ++ w.steps;
+  course = later_of v.course w.course;
 }
 
--- the view of an end that was taken in by an end with the view v
+-- the view of an end that was taken in by an end with the view v, or that handed over all of v
 abbrev pub emptied : View → View
 emptied v = record {
   part = record { queue = v.part.queue; joined = v.part.joined; runs = []; takes = [] };
-  ends = 0;
-  share = 0;
-  splits = 0;
-  joins = 0;
-  log = v.log;
+  member = members.emptied v.member;
   runner = false;
   owes = false;
   saw = false;
+  doubled = false;
   steps = [];
+  course = v.course;
 }

@@ -21,6 +21,6 @@ pub record HasServed (v : View) (ns : List ℕ) (w : View) : Type 0 where
   pub small : head_of w.part.queue < 4294967296
   pub runs : w.part.runs ≡ v.part.runs
   pub takes : notes_taken w ≡ notes_taken v ++ map alone ns
-  pub ends : w.ends ≡ v.ends
-  pub share : w.share ≡ v.share
+  pub ends : w.member.ends ≡ v.member.ends
+  pub share : w.member.share ≡ v.member.share
   pub owes : w.owes ≡ v.owes

@@ -3,16 +3,18 @@
 ghost use Rattle.atomic_table.specs.Table.{State};
 ghost use Rattle.proc_chain.specs.declared.rule.Shape.{Shape};
 ghost use Rattle.proc_chain.specs.declared.rule.View.{View};
-ghost use Rattle.proc_chain.specs.Rules.{Rule};
 ghost use Rattle.proc_chain.specs.Between.{ShowsChain};
 
 use crate::quaject::Quaject;
+use crate::rule::{ChainRule, Shape, View};
+use atomic_table::TableRule;
 
 /// Whatever the rule holds of is a lawful chain of the core, shown by the words and by what the ends list; and where
 /// its gate is Idle, the quaject is at home, made by the notes taken.
 ///
 /// Every atomic step of this crate keeps the rule, so it holds between any two steps, whoever makes them.
 pub fn between_steps<Q: Quaject>()
-    ensures { (key : Shape Q.World) (state : State Q View) → Rule Q.made_by Q.fits key state
+    ensures { (key : Shape Q.World) (state : State Q View)
+        → ⟦<ChainRule as TableRule<Q, View, Shape<Q::World>>>⟧.holds key state
         → ShowsChain Q.made_by Q.fits key state }
 {}

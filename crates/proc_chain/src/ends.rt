@@ -1,7 +1,7 @@
 //! The chain and its ends.
 ghost use Rattle.std.specs.Prelude.{◌≡◌, ◌≤◌, ◌<◌, ◌||◌, [], true, false, length, IfOk, IfErr};
 ghost use Rattle.table_theory.specs.Listing.{Distinct, AllRaised};
-ghost use Rattle.table_theory.specs.Sharing.{the_whole};
+ghost use Rattle.table_theory.specs.Members.{first_member};
 ghost use Rattle.table_theory.specs.Positioned.{head_of};
 ghost use Rattle.proc_chain.specs.Rules.{view_from};
 ghost use Rattle.proc_chain.specs.Endings.{Divided, IsNewborn, TookIn, Joined};
@@ -9,7 +9,7 @@ ghost use Rattle.proc_chain.specs.Notes.{SameNotes};
 
 use crate::quaject::Quaject;
 use crate::rule::{ChainRule, Shape, View};
-use crate::steps::{count_down, count_up, split_off, take_in};
+use crate::steps::{count_down, count_up, hand_over, split_off, take_in};
 use atomic_table::{Seat, Table};
 use quaject_core::OutOfMemory;
 use std::alloc::Global;
@@ -35,7 +35,7 @@ pub struct ChainEnd<Q: Quaject> {
     pub(crate) seat: Seat<Q, View>,
     pub(crate) turn: bool,
     ghost room: { seat.me.0.part.queue.room ≡ 32 },
-    ghost one: { seat.me.0.ends ≡ 1 },
+    ghost one: { seat.me.0.member.ends ≡ 1 },
     ghost turned: { seat.me.0.runner ≡ turn },
     ghost settled: { seat.me.0.owes ≡ false },
     ghost behind: { seat.me.0.part.queue.taken ≤ length seat.me.0.part.queue.places },
@@ -70,7 +70,7 @@ impl<Q: Quaject> ProcChain<Q> {
         requires made { Q.made_by quaject [] }
         requires fits { Q.fits world.now quaject }
         ensures ok { IfOk result (λ r. IsEndOf r.0 r.1 × (first_of r.0 ≡ first) × (world_of r.0 ≡ world.now)
-            × (turn_of r.1 ≡ false) × (view_of r.1 ≡ view_from first 1 the_whole)) }
+            × (turn_of r.1 ≡ false) × (view_of r.1 ≡ view_from first first_member)) }
         ensures err { IfErr result (λ e. e.0 ≡ quaject) }
     {
         let shape = Shape {
@@ -120,13 +120,12 @@ impl<Q: Quaject> ProcChain<Q> {
     }
 
     /// The first end then has all that both had: their notes, what they took, their parts of the chain, and the Turn
-    /// that one of them had. It goes on under the number of the one that had the Turn, or else under its own.
-    ///
-    /// Condition: not both have a Turn. No two ends of one chain ever have, but one end alone can't know it.
+    /// that one of them had: no two ends of one chain have one. It goes on under the number of the one that had the
+    /// Turn, or else under its own.
     pub fn join(&self, end: &mut ChainEnd<Q>, other: ChainEnd<Q>)
         requires ends { IsEndOf self.now end.old × IsEndOf self.now other }
-        requires turns { turn_of other ≡ true → turn_of end.old ≡ false }
         ensures ends { IsEndOf self.now end.new }
+        ensures one_turn { turn_of other ≡ true → turn_of end.old ≡ false }
         ensures joined { Joined (turn_of other) (me_of end.old) (me_of other) (me_of end.new) }
         ensures turn { turn_of end.new ≡ (turn_of other || turn_of end.old) }
         ensures same { turn_of other ≡ false → IsSameEnd end.old end.new }
@@ -139,18 +138,21 @@ impl<Q: Quaject> ProcChain<Q> {
         self.take_over(end, other);
     }
 
-    // The first end then has all that both had. The other has no turn.
+    // The first end then has all that both had. Where the other has a turn, so has the first: the count then tells that
+    // this never is. A seat with the slot can't be taken in, so all but the slot is handed over before.
     fn take_over(&self, end: &mut ChainEnd<Q>, other: ChainEnd<Q>)
         requires ends { IsEndOf self.now end.old × IsEndOf self.now other }
-        requires turns { turn_of other ≡ false }
+        requires turns { turn_of other ≡ true → turn_of end.old ≡ true }
         ensures queue { IsSameEnd end.old end.new }
+        ensures none { turn_of other ≡ false }
         ensures turn { turn_of end.new ≡ turn_of end.old }
         ensures ends { IsEndOf self.now end.new }
         ensures joined { TookIn (view_of end.old) (view_of other) (view_of end.new)
             × ((me_of end.new).1 ≡ (me_of end.old).1) }
     {
-        let ChainEnd { seat, turn: _ } = other;
-        take_in::<Q, Brand>(&self.table.shared, &mut end.seat, seat);
+        let ChainEnd { mut seat, turn: _ } = other;
+        let rest = hand_over(&self.table.shared, &mut seat);
+        take_in::<Q, Brand>(&self.table.shared, &mut end.seat, rest);
         count_down(&self.table.shared, &mut end.seat);
     }
 }

@@ -24,6 +24,6 @@ pub use chaining::{ChainRefusal, Chained, Turn};
 pub use close::ChainClosed;
 pub use ends::{ChainEnd, ProcChain};
 pub use quaject::{Quaject, Ran};
-pub use rule::{ChainRule, Shape, View};
+pub use rule::{ChainRule, Moment, Shape, View};
 pub use serve::Served;
 pub use table_theory::OpenEnds;

@@ -1,7 +1,7 @@
 //! What each step tells. These types are for the proofs alone.
 ghost use Rattle.std.specs.Prelude.{ℕ};
 ghost use Rattle.proc_chain.specs.Steps.{finds, claims, raises, spies, takes, notifies, rounds, leaves, counts_up};
-ghost use Rattle.proc_chain.specs.Steps.{counts_down, counts, rest_of, newborn, both};
+ghost use Rattle.proc_chain.specs.Steps.{counts_down, counts, rest_of, newborn, both, emptied};
 ghost use Rattle.proc_chain.specs.declared.rule.View.{View};
 ghost use Rattle.proc_chain.specs.Rules.{nobody};
 
@@ -129,6 +129,14 @@ impl Split<View> for Gives {
     ghost left = { rest_of };
 
     ghost right = { newborn };
+}
+
+pub struct HandsOver;
+
+impl Split<View> for HandsOver {
+    ghost left = { emptied };
+
+    ghost right = { λ v. v };
 }
 
 /// The view of an end that was taken in.

@@ -4,7 +4,7 @@ use atomic_table::TableRule;
 use std::collections::LinkedList;
 use std::snapshot::Snapshot;
 use table_theory::queues::{Positions, QueueView};
-use table_theory::views::Entry;
+use table_theory::views::{Entry, Member};
 
 /// What the rule is told when the table is made.
 #[derive(Drop)]
@@ -13,23 +13,27 @@ pub struct Shape<W> {
     pub world: Snapshot<W>,
 }
 
-/// What an end knows: its runs and takings in the queue of notes as it was at the end's last step, how many of the ends
-/// counted it is and its share of the chain, how often it was split and took in another end, the splits (true) and joins
-/// (false) of all ends up to its last step on their number, its turn, and every step that it made.
+/// The queue of notes and the gate word at one moment. Proofs alone speak of it.
+pub struct Moment {
+    pub queue: Positions,
+    pub gate: u64,
+}
+
+/// What an end knows: its runs and takings in the queue of notes as it was at the end's last step, which of the ends it
+/// is, its turn, every step that it made, and every step that any end had made up to its own last one.
 pub struct View {
     pub part: QueueView,
-    pub ends: u64,
-    pub share: u64,
-    pub splits: u64,
-    pub joins: u64,
-    pub log: LinkedList<bool>,
+    pub member: Member,
     /// It has the turn to run notes.
     pub runner: bool,
     /// It raised a note and has not yet notified.
     pub owes: bool,
     /// As the runner it saw, since its last round, that the first note left was not raised.
     pub saw: bool,
-    pub steps: LinkedList<Entry<Positions>>,
+    /// It took in an end that had the turn while it had it itself: the rule says that no end ever did.
+    pub doubled: bool,
+    pub steps: LinkedList<Entry<Moment>>,
+    pub course: LinkedList<Entry<Moment>>,
 }
 
 pub struct ChainRule;

@@ -49,7 +49,7 @@ fn run_next<Q: Quaject>(
     world: &Q::World,
 ) -> bool
     requires queue { (seat.old.table_id ≡ words.now.table_id) × (words.now.table_id.words ≡ 36) }
-    requires live { (1 ≤ seat.old.me.0.ends) × (seat.old.me.0.runner ≡ true) }
+    requires live { (1 ≤ seat.old.me.0.member.ends) × (seat.old.me.0.runner ≡ true) }
     requires positions { (seat.old.me.0.part.queue.room ≡ 32)
         × (seat.old.me.0.part.queue.taken ≤ length seat.old.me.0.part.queue.places) }
     requires world { words.now.key.world.value ≡ world.now }
@@ -81,7 +81,7 @@ fn leave_or_round<Q: Quaject>(
     seat: &mut Seat<Q, View>,
 ) -> bool
     requires queue { (seat.old.table_id ≡ words.now.table_id) × (words.now.table_id.words ≡ 36) }
-    requires live { (1 ≤ seat.old.me.0.ends) × (seat.old.me.0.runner ≡ true) × (seat.old.me.0.saw ≡ true) }
+    requires live { (1 ≤ seat.old.me.0.member.ends) × (seat.old.me.0.runner ≡ true) × (seat.old.me.0.saw ≡ true) }
     requires behind { seat.old.me.0.part.queue.taken ≤ length seat.old.me.0.part.queue.places }
     requires carries { Carries Q.made_by (Q.fits words.now.key.world.value) (notes_of seat.old.me.0.part.queue) []
         seat.old.me.1 }
@@ -110,7 +110,7 @@ fn serve_seat<Q: Quaject>(
     limit: u32,
 ) -> (bool, u32)
     requires queue { (seat.old.table_id ≡ words.now.table_id) × (words.now.table_id.words ≡ 36) }
-    requires live { (1 ≤ seat.old.me.0.ends) × (seat.old.me.0.runner ≡ true) }
+    requires live { (1 ≤ seat.old.me.0.member.ends) × (seat.old.me.0.runner ≡ true) }
     requires positions { (seat.old.me.0.part.queue.room ≡ 32)
         × (seat.old.me.0.part.queue.taken ≤ length seat.old.me.0.part.queue.places) }
     requires world { words.now.key.world.value ≡ world.now }

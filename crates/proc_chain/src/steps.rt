@@ -13,8 +13,8 @@ ghost use Rattle.proc_chain.specs.Steps.{HasLeft, Carries, CountedUp, CountedDow
 ghost use Rattle.proc_chain.specs.Steps.{emptied};
 
 use crate::plays::{
-    Caller, ClaimedNote, Claims, Counts, CountsDown, CountsUp, Finds, Gives, Joins, Leaves,
-    Notifies, Raises, Rounds, Runner, Spent, Spies, Takes,
+    Caller, ClaimedNote, Claims, Counts, CountsDown, CountsUp, Finds, Gives, HandsOver, Joins,
+    Leaves, Notifies, Raises, Rounds, Runner, Spent, Spies, Takes,
 };
 use crate::quaject::Quaject;
 use crate::rule::{ChainRule, Shape, View};
@@ -82,7 +82,7 @@ pub(crate) fn exchange_head<Q: Quaject, J: ClaimedNote>(
     note: u16,
 ) -> u64
     requires queue { (seat.old.table_id ≡ words.now.table_id) × (words.now.table_id.words ≡ 36) }
-    requires live { 1 ≤ seat.old.me.0.ends }
+    requires live { 1 ≤ seat.old.me.0.member.ends }
     requires call { J.call ≡ seat.old.id }
     requires note { J.note ≡ note }
     requires room { head + 1 ≤ tail_of seat.old.me.0.part.queue + seat.old.me.0.part.queue.room }
@@ -123,7 +123,7 @@ pub(crate) fn swap_more<Q: Quaject, J: Runner<Q>>(
     seat: &mut Seat<Q, View>,
 ) -> u64
     requires queue { (seat.old.table_id ≡ words.now.table_id) × (words.now.table_id.words ≡ 36) }
-    requires live { (1 ≤ seat.old.me.0.ends) × (seat.old.me.0.owes ≡ true) }
+    requires live { (1 ≤ seat.old.me.0.member.ends) × (seat.old.me.0.owes ≡ true) }
     requires call { J.call ≡ seat.old.id }
     requires suits { (x : Q) → Q.fits words.now.key.world.value x → J.suits x }
     ensures queue { IsSame seat.old seat.new }
@@ -141,7 +141,7 @@ pub(crate) fn load_place<Q: Quaject>(
     tail: u64,
 ) -> PlaceWord
     requires queue { (seat.old.table_id ≡ words.now.table_id) × (words.now.table_id.words ≡ 36) }
-    requires live { (1 ≤ seat.old.me.0.ends) × (seat.old.me.0.runner ≡ true) }
+    requires live { (1 ≤ seat.old.me.0.member.ends) × (seat.old.me.0.runner ≡ true) }
     requires tail { (tail ≡ tail_of seat.old.me.0.part.queue) × (tail < 4294967296) }
     ensures queue { IsSame seat.old seat.new × (seat.new.me.1 ≡ seat.old.me.1) }
     ensures note { result.note < 65536 }
@@ -161,7 +161,7 @@ pub(crate) fn store_tail<Q: Quaject, J: Runner<Q>>(
     tail: u64,
 )
     requires queue { (seat.old.table_id ≡ words.now.table_id) × (words.now.table_id.words ≡ 36) }
-    requires live { (1 ≤ seat.old.me.0.ends) × (seat.old.me.0.runner ≡ true) }
+    requires live { (1 ≤ seat.old.me.0.member.ends) × (seat.old.me.0.runner ≡ true) }
     requires call { J.call ≡ seat.old.id }
     requires suits { (x : Q) → Q.fits words.now.key.world.value x → J.suits x }
     requires tail { (tail ≡ tail_of seat.old.me.0.part.queue) × (tail < 4294967296) }
@@ -181,7 +181,7 @@ pub(crate) fn swap_running<Q: Quaject, J: Runner<Q>>(
     seat: &mut Seat<Q, View>,
 ) -> u64
     requires queue { (seat.old.table_id ≡ words.now.table_id) × (words.now.table_id.words ≡ 36) }
-    requires live { (1 ≤ seat.old.me.0.ends) × (seat.old.me.0.runner ≡ true) }
+    requires live { (1 ≤ seat.old.me.0.member.ends) × (seat.old.me.0.runner ≡ true) }
     requires call { J.call ≡ seat.old.id }
     requires suits { (x : Q) → Q.fits words.now.key.world.value x → J.suits x }
     requires behind { seat.old.me.0.part.queue.taken ≤ length seat.old.me.0.part.queue.places }
@@ -199,7 +199,7 @@ pub(crate) fn exchange_gate<Q: Quaject, J: Runner<Q>>(
     seat: &mut Seat<Q, View>,
 ) -> u64
     requires queue { (seat.old.table_id ≡ words.now.table_id) × (words.now.table_id.words ≡ 36) }
-    requires live { (1 ≤ seat.old.me.0.ends) × (seat.old.me.0.runner ≡ true) × (seat.old.me.0.saw ≡ true) }
+    requires live { (1 ≤ seat.old.me.0.member.ends) × (seat.old.me.0.runner ≡ true) × (seat.old.me.0.saw ≡ true) }
     requires call { J.call ≡ seat.old.id }
     requires suits { (x : Q) → Q.fits words.now.key.world.value x → J.suits x }
     requires behind { seat.old.me.0.part.queue.taken ≤ length seat.old.me.0.part.queue.places }
@@ -218,7 +218,7 @@ pub(crate) fn count_up<Q: Quaject>(
     seat: &mut Seat<Q, View>,
 ) -> u64
     requires queue { (seat.old.table_id ≡ words.now.table_id) × (words.now.table_id.words ≡ 36) }
-    requires parts { seat.old.me.0.ends + 1 ≤ seat.old.me.0.share }
+    requires parts { seat.old.me.0.member.ends + 1 ≤ seat.old.me.0.member.share }
     ensures queue { IsSame seat.old seat.new × (seat.new.me.1 ≡ seat.old.me.1) }
     ensures counted { CountedUp seat.old.me.0 result seat.new.me.0 }
 {
@@ -230,7 +230,7 @@ pub(crate) fn count_down<Q: Quaject>(
     seat: &mut Seat<Q, View>,
 ) -> u64
     requires queue { (seat.old.table_id ≡ words.now.table_id) × (words.now.table_id.words ≡ 36) }
-    requires live { 2 ≤ seat.old.me.0.ends }
+    requires live { 2 ≤ seat.old.me.0.member.ends }
     ensures queue { IsSame seat.old seat.new × (seat.new.me.1 ≡ seat.old.me.1) }
     ensures counted { CountedDown seat.old.me.0 result seat.new.me.0 }
 {
@@ -242,7 +242,7 @@ pub(crate) fn count<Q: Quaject>(
     seat: &mut Seat<Q, View>,
 ) -> u64
     requires queue { (seat.old.table_id ≡ words.now.table_id) × (words.now.table_id.words ≡ 36) }
-    requires live { seat.old.me.0.ends ≡ 1 }
+    requires live { seat.old.me.0.member.ends ≡ 1 }
     ensures queue { IsSame seat.old seat.new × (seat.new.me.1 ≡ seat.old.me.1) }
     ensures tallied { Tallied seat.old.me.0 result seat.new.me.0 }
 {
@@ -254,12 +254,24 @@ pub(crate) fn split_off<Q: Quaject>(
     seat: &mut Seat<Q, View>,
 ) -> Seat<Q, View>
     requires queue { (seat.old.table_id ≡ words.now.table_id) × (words.now.table_id.words ≡ 36) }
-    requires live { seat.old.me.0.ends ≡ 2 }
+    requires live { seat.old.me.0.member.ends ≡ 2 }
     ensures queue { IsSame seat.old seat.new × (result.table_id ≡ seat.old.table_id) }
     ensures split { (seat.new.me ≡ (rest_of seat.old.me.0, seat.old.me.1))
         × (result.me ≡ (newborn seat.old.me.0, [])) }
 {
     words.split_seat::<Gives>(seat)
+}
+
+/// The new end has all that the end had but the slot. The end is spent, and may still hold that.
+pub(crate) fn hand_over<Q: Quaject>(
+    words: &Shared<Q, View, Shape<Q::World>, ChainRule>,
+    seat: &mut Seat<Q, View>,
+) -> Seat<Q, View>
+    requires queue { (seat.old.table_id ≡ words.now.table_id) × (words.now.table_id.words ≡ 36) }
+    ensures queue { result.table_id ≡ seat.old.table_id }
+    ensures moved { result.me ≡ (seat.old.me.0, []) }
+{
+    words.split_seat::<HandsOver>(seat)
 }
 
 pub(crate) fn take_in<Q: Quaject, J: Spent>(
@@ -269,8 +281,9 @@ pub(crate) fn take_in<Q: Quaject, J: Spent>(
 )
     requires queue { (seat.old.table_id ≡ words.now.table_id) × (other.table_id ≡ words.now.table_id)
         × (other.me.1 ≡ []) × (words.now.table_id.words ≡ 36) }
-    requires live { 1 ≤ seat.old.me.0.ends }
-    requires settled { (other.me.0.runner ≡ false) × (other.me.0.owes ≡ false) }
+    requires live { 1 ≤ seat.old.me.0.member.ends }
+    requires turns { other.me.0.runner ≡ true → seat.old.me.0.runner ≡ true }
+    requires settled { other.me.0.owes ≡ false }
     requires spent { J.view ≡ emptied seat.old.me.0 }
     ensures queue { IsSame seat.old seat.new }
     ensures joined { seat.new.me ≡ (both seat.old.me.0 other.me.0, seat.old.me.1) }

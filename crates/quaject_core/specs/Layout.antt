@@ -5,17 +5,17 @@ use Rattle.std.specs.List.{slice_get}
 use Rattle.std.specs.Coded.{×_prop, Coded-set, coded_ℕ}
 use Rattle.quaject_core.specs.Runs.{Run}
 use Rattle.quaject_core.specs.Queues.{Queue}
-use Rattle.quaject_core.specs.declared.stored.Place.{Place}
-use Rattle.quaject_core.specs.declared.stored.Span.{Span}
+use Rattle.quaject_core.specs.declared.queueing.StoredItem.{StoredItem}
+use Rattle.quaject_core.specs.declared.queueing.Span.{Span}
 
 -- a place as it is claimed
-abbrev pub fresh : ℕ → Place
+abbrev pub fresh : ℕ → StoredItem
 fresh item = record { item = item; raised = false }
 
-abbrev pub item_of : Place → ℕ
+abbrev pub item_of : StoredItem → ℕ
 item_of place = place.item
 
-abbrev pub flag_of : Place → Bool
+abbrev pub flag_of : StoredItem → Bool
 flag_of place = place.raised
 
 -- the run that lies there
@@ -28,7 +28,7 @@ flag_at flags index None = false
 flag_at flags index (Some span) = nat_lt index span.count && slice_index_or flags (span.start + index) false
 
 -- the queue that is stored so
-abbrev pub queue_at : ℕ → List Span → List Place → ℕ → Bool → Queue
+abbrev pub queue_at : ℕ → List Span → List StoredItem → ℕ → Bool → Queue
 queue_at capacity spans places taken shut = record {
   history = map (run_at (map item_of places)) spans;
   raised = λ run index. flag_at (map flag_of places) index (slice_get spans run);

@@ -4,7 +4,7 @@ use Rattle.std.specs.List.{slice_get}
 use Rattle.std.specs.List.Sorted.{IsPartitionPoint}
 use Rattle.quaject_core.specs.Runs.{Run}
 use Rattle.quaject_core.specs.Queues.{Queue, left_pairs}
-use Rattle.quaject_core.specs.declared.stored.Span.{Span}
+use Rattle.quaject_core.specs.declared.queueing.Span.{Span}
 
 abbrev pub call_of : Run → ℕ
 call_of run = run.call

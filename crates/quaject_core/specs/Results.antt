@@ -1,5 +1,5 @@
 -- What comes of an event, and what a call makes of it.
-use Rattle.std.specs.Prelude.{◌≡◌, Result, Ok, Err, IsOk, ℕ, if◌then◌else◌, Bool, List, slice_set}
+use Rattle.std.specs.Prelude.{◌≡◌, ◌≢◌, Result, Ok, Err, IsOk, IfErr, ℕ, if◌then◌else◌, Bool, List, slice_set}
 use Rattle.std.specs.List.{slice_get}
 use Rattle.std.specs.Option.{ok_or}
 use Rattle.quaject_core.specs.declared.refusal.Refusal.{Refusal}
@@ -27,6 +27,10 @@ change_at index change list = at index list >>= change >>= λ new. Ok (slice_set
 abbrev pub IsWhy : {A : Type 0} → Refusal → Result A Refusal → Type 0
 IsWhy OutOfMemory said = IsOk said
 IsWhy refusal said = said ≡ Err refusal
+
+-- memory wasn't wanting
+abbrev pub IsNotMemory : Result (Unit {0}) Refusal → Type 0
+IsNotMemory result = IfErr result (λ refusal. refusal ≢ OutOfMemory)
 
 -- what should come out came out, or it was refused and nothing changed
 abbrev pub Changes : {A : Type 0} → Result (Unit {0}) Refusal → Result A Refusal → A → A → Type 0

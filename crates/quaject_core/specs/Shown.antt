@@ -1,7 +1,7 @@
 -- The queue that the machine stores.
 use Rattle.quaject_core.specs.Queues.{Queue}
 use Rattle.quaject_core.specs.Layout.{queue_at}
-use Rattle.quaject_core.specs.declared.stored.StoredQueue.{StoredQueue}
+use Rattle.quaject_core.specs.declared.queueing.StoredQueue.{StoredQueue}
 
 -- the queue that is stored here
 abbrev pub queue : StoredQueue → Queue

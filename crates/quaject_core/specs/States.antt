@@ -1,5 +1,6 @@
 -- The state of the core, and what each event makes of it.
-use Rattle.std.specs.Prelude.{ℕ, ◌+◌, ◌%◌, nat_le, nat_lt, ◌==◌, ◌||◌, List, [], ◌∷◌, ◌++◌, length, map, Result, Ok}
+use Rattle.std.specs.Prelude.{ℕ, Bool, true, false, ◌+◌, ◌%◌, nat_le, nat_lt, ◌==◌, ◌||◌, List, [], ◌∷◌, ◌++◌, length}
+use Rattle.std.specs.Prelude.{map, Result, Ok}
 use Rattle.quaject_core.specs.Results.{◌>>=◌, refused_if, at, change_at}
 use Rattle.quaject_core.specs.Queues.{Queue, empty_queue, claim, raise, take_first, join_queue}
 use Rattle.quaject_core.specs.Chains.{Chain, empty_chain, claim_note, raise_note, take_note, notify, round, leave}
@@ -109,6 +110,20 @@ effect (events.Cancel call slot) = in_meters (cancel slot)
 effect (events.Shut call queue) = in_queue queue (λ q. Ok (shut q))
 effect (events.WaitAt call wait element ticket) = in_elements (wait_at call wait element ticket)
 effect (events.Join call other) = join call other
+
+-- what is stored may have to grow for the event
+abbrev pub may_grow : Event → Bool
+may_grow (events.Queue capacity) = true
+may_grow events.Chain = true
+may_grow (events.Claim call queue items) = true
+may_grow (events.Raise call queue run index) = true
+may_grow (events.Take call queue count) = true
+may_grow (events.Set call due element number) = true
+may_grow (events.Fire call slot) = true
+may_grow (events.Cancel call slot) = true
+may_grow (events.WaitAt call wait element ticket) = true
+may_grow (events.Join call other) = true
+may_grow event = false
 
 abbrev pub counted : State → State
 counted s = record s { events = (s.events + 1) % 18446744073709551616 }

@@ -6,9 +6,9 @@ ghost use Rattle.quaject_core.specs.Layout.{set_of};
 ghost use Rattle.quaject_core.specs.Chains.{join_set};
 
 use crate::names::Call;
+use crate::queueing::{StoredQueue, renamed};
 use crate::refusal::Refusal;
 use crate::status::{ChainStatus, Gate};
-use crate::stored::{StoredQueue, renamed};
 use std::alloc::Global;
 
 /// The notes, who runs them, and of each call whether it owes a notify.
@@ -25,6 +25,7 @@ impl StoredChain {
     ghost use Rattle.quaject_core.specs.Chains.{is_forgotten, leave, join_chain};
     ghost use Rattle.quaject_core.specs.Statuses.{chain_status};
     ghost use Rattle.quaject_core.specs.ShownChains.{chain, Does};
+    ghost use Rattle.quaject_core.specs.Results.{IsNotMemory};
 
     /// A chain with no note, that nobody runs. Takes no memory.
     pub(crate) fn new(alloc: Global) -> StoredChain
@@ -87,7 +88,8 @@ impl StoredChain {
 
     /// Tells the runner to look again. Where nobody runs the notes, the call does from now on.
     pub(crate) fn notify(&mut self, call: Call) -> Result<(), Refusal>
-        ensures { Does result (notify call) self.old self.new }
+        ensures change { Does result (notify call) self.old self.new }
+        ensures memory { IsNotMemory result }
     {
         if !self.owes(call) {
             return Err(Refusal::NotOwner);
@@ -102,7 +104,8 @@ impl StoredChain {
 
     /// The runner sees what was notified.
     pub(crate) fn round(&mut self, call: Call) -> Result<(), Refusal>
-        ensures { Does result (round call) self.old self.new }
+        ensures change { Does result (round call) self.old self.new }
+        ensures memory { IsNotMemory result }
     {
         if !self.is_runner(call) {
             return Err(Refusal::NotRunner);
@@ -123,7 +126,8 @@ impl StoredChain {
 
     /// The runner leaves, where it has seen all notifies and no note is forgotten.
     pub(crate) fn leave(&mut self, call: Call) -> Result<(), Refusal>
-        ensures { Does result (leave call) self.old self.new }
+        ensures change { Does result (leave call) self.old self.new }
+        ensures memory { IsNotMemory result }
     {
         if self.gate == Gate::More || self.is_forgotten() {
             return Err(Refusal::GateBusy);

@@ -6,9 +6,9 @@ ghost use Rattle.std.specs.List.{list_any};
 use crate::hold::Hold;
 use crate::holding::HeldList;
 use crate::names::{Call, Element, Processor, Signal, WaitNumber};
+use crate::queueing::StoredQueue;
 use crate::refusal::{OutOfMemory, Refusal};
 use crate::status::ElementStatus;
-use crate::stored::StoredQueue;
 use crate::threading::{StoredThread, new_threads};
 use crate::{lines, placing, seats};
 use std::alloc::Global;
@@ -22,6 +22,7 @@ pub(crate) struct StoredElements {
     processors: [Option<Hold>; 8],
     held: HeldList,
     ghost few: { vec_len lines ≤ 18 },
+    ghost all: { vec_len threads ≤ 64 },
 }
 
 impl StoredElements {
@@ -35,10 +36,13 @@ impl StoredElements {
     ghost use Rattle.quaject_core.specs.Lines.{first_hold};
     ghost use Rattle.quaject_core.specs.ShownThreads.{thread};
     ghost use Rattle.quaject_core.specs.ShownElements.{elements, Does};
+    ghost use Rattle.quaject_core.specs.Lawful.{IsLawfulElements};
+    ghost use Rattle.quaject_core.specs.Results.{IsNotMemory};
     ghost use Rattle.quaject_core.specs.Marks.{notify_wait, wait_at};
 
     /// So many elements, all of them free.
     pub(crate) fn new(alloc: Global, count: u8) -> Result<StoredElements, OutOfMemory>
+        requires { count ≤ 64 }
         ensures { IfOk result (λ stored. elements stored ≡ first_elements count) }
     {
         Ok(StoredElements {
@@ -46,7 +50,7 @@ impl StoredElements {
             lines: lines::new(alloc, count)?,
             notified: [0; 16],
             processors: [None; 8],
-            held: HeldList::new(alloc),
+            held: HeldList::new(alloc)?,
         })
     }
 
@@ -110,12 +114,12 @@ impl StoredElements {
 
     /// Takes the first element of an element queue, which the call then holds.
     pub(crate) fn take(&mut self, line: usize, call: Call, count: u32) -> Result<(), Refusal>
+        requires { IsLawfulElements (elements self.old) }
         ensures { Does result (take_element line call count) self.old self.new }
     {
         let element = lines::first_taken(&self.lines, line, count)?;
-        self.held.reserve()?;
         lines::take(&mut self.lines, line, count)?;
-        self.held.push_reserved(Hold { call, element });
+        self.held.push(Hold { call, element });
         Ok(())
     }
 
@@ -126,7 +130,8 @@ impl StoredElements {
         processor: Processor,
         element: Element,
     ) -> Result<(), Refusal>
-        ensures { Does result (put_on call processor element) self.old self.new }
+        ensures change { Does result (put_on call processor element) self.old self.new }
+        ensures memory { IsNotMemory result }
     {
         if !self.knows(element) {
             return Err(Refusal::UnknownName);
@@ -149,7 +154,9 @@ impl StoredElements {
 
     /// Takes the element off a processor that the call put it on.
     pub(crate) fn take_off(&mut self, call: Call, processor: Processor) -> Result<(), Refusal>
-        ensures { Does result (take_off call processor) self.old self.new }
+        requires { IsLawfulElements (elements self.old) }
+        ensures change { Does result (take_off call processor) self.old self.new }
+        ensures memory { IsNotMemory result }
     {
         let seat = usize::from(processor.number());
         let Some(hold) = self.processors[seat] else {
@@ -158,15 +165,15 @@ impl StoredElements {
         if hold.call != call {
             return Err(Refusal::NotOwner);
         }
-        self.held.reserve()?;
         self.processors[seat] = None;
-        self.held.push_reserved(hold);
+        self.held.push(hold);
         Ok(())
     }
 
     /// Sets the stop bit of an element.
     pub(crate) fn stop(&mut self, element: Element) -> Result<(), Refusal>
-        ensures { Does result (stop element) self.old self.new }
+        ensures change { Does result (stop element) self.old self.new }
+        ensures memory { IsNotMemory result }
     {
         if !self.knows(element) {
             return Err(Refusal::UnknownName);
@@ -177,7 +184,8 @@ impl StoredElements {
 
     /// Puts an element that the call holds into its stop cell.
     pub(crate) fn park(&mut self, call: Call, element: Element) -> Result<(), Refusal>
-        ensures { Does result (park call element) self.old self.new }
+        ensures change { Does result (park call element) self.old self.new }
+        ensures memory { IsNotMemory result }
     {
         let Some(thread) = self.thread(element) else {
             return Err(Refusal::UnknownName);
@@ -195,7 +203,9 @@ impl StoredElements {
 
     /// Clears the stop bit of an element; where it stands in its stop cell, the call then holds it.
     pub(crate) fn start(&mut self, call: Call, element: Element) -> Result<(), Refusal>
-        ensures { Does result (start call element) self.old self.new }
+        requires { IsLawfulElements (elements self.old) }
+        ensures change { Does result (start call element) self.old self.new }
+        ensures memory { IsNotMemory result }
     {
         let Some(thread) = self.thread(element) else {
             return Err(Refusal::UnknownName);
@@ -207,14 +217,15 @@ impl StoredElements {
             call,
             element: item_of(element),
         };
-        self.held.add_if(thread.is_parked(), hold)?;
+        self.held.push_if(thread.is_parked(), hold);
         self.threads[index_of(element)].start();
         Ok(())
     }
 
     /// Makes a signal of an element pending.
     pub(crate) fn signal(&mut self, element: Element, number: Signal) -> Result<(), Refusal>
-        ensures { Does result (signal element number) self.old self.new }
+        ensures change { Does result (signal element number) self.old self.new }
+        ensures memory { IsNotMemory result }
     {
         if !self.knows(element) {
             return Err(Refusal::UnknownName);
@@ -225,7 +236,8 @@ impl StoredElements {
 
     /// Delivers the pending signals of an element that the call holds.
     pub(crate) fn deliver(&mut self, call: Call, element: Element) -> Result<(), Refusal>
-        ensures { Does result (deliver call element) self.old self.new }
+        ensures change { Does result (deliver call element) self.old self.new }
+        ensures memory { IsNotMemory result }
     {
         if !self.knows(element) {
             return Err(Refusal::UnknownName);
@@ -247,7 +259,8 @@ impl StoredElements {
 
     /// Counts one more step of an element that the call holds or put on a processor.
     pub(crate) fn done(&mut self, call: Call, element: Element) -> Result<(), Refusal>
-        ensures { Does result (done call element) self.old self.new }
+        ensures change { Does result (done call element) self.old self.new }
+        ensures memory { IsNotMemory result }
     {
         let Some(thread) = self.thread(element) else {
             return Err(Refusal::UnknownName);
@@ -264,7 +277,8 @@ impl StoredElements {
 
     /// Counts one more notify of a wait queue.
     pub(crate) fn notify_wait(&mut self, wait: WaitNumber) -> Result<(), Refusal>
-        ensures { Does result (notify_wait wait) self.old self.new }
+        ensures change { Does result (notify_wait wait) self.old self.new }
+        ensures memory { IsNotMemory result }
     {
         let wait = usize::from(wait.number());
         self.notified[wait] = self.notified[wait].wrapping_add(1);

@@ -18,7 +18,7 @@ pub enum Event {
     Claim {
         call: Call,
         queue: QueueName,
-        items: Items,
+        items: Items<u64>,
     },
     /// Raises one item of a run, by the run's number and the item's index in it; in a chain the call then owes a
     /// notify.

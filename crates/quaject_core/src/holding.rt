@@ -1,31 +1,31 @@
 //! Which call holds which element.
 
 ghost use Rattle.std.specs.Prelude.{◌≡◌, ◌+◌, ◌<◌, ◌≤◌, ◌++◌, [], ◌∷◌, position, map, remove, Option, Some, None};
-ghost use Rattle.std.specs.Prelude.{vec_len, vec_capacity, IfOk, IfErr, OnOk, OnErr, if◌then◌else◌};
+ghost use Rattle.std.specs.Prelude.{vec_len, vec_capacity, length, true, IfOk, if◌then◌else◌};
 ghost use Rattle.std.specs.List.{list_any};
 ghost use Rattle.quaject_core.specs.Elements.{is_hold, join_hold};
-ghost use Rattle.quaject_core.specs.declared.refusal.Refusal.TheVariants as refusals;
 
 use crate::hold::Hold;
 use crate::names::Call;
-use crate::refusal::Refusal;
-use crate::stored::renamed;
+use crate::queueing::renamed;
+use crate::refusal::OutOfMemory;
 use std::alloc::Global;
 
-/// Each hold, in the order in which they began.
+/// Each hold, in the order in which they began. It has room for 64, one for each element that there may be.
 #[derive(Drop)]
 pub(crate) struct HeldList {
     holds: Vec<Hold>,
+    ghost roomy: { 64 ≤ vec_capacity holds },
 }
 
 impl HeldList {
-    /// No hold. Takes no memory.
-    pub(crate) fn new(alloc: Global) -> HeldList
-        ensures { result.holds.items ≡ [] }
+    /// No hold.
+    pub(crate) fn new(alloc: Global) -> Result<HeldList, OutOfMemory>
+        ensures { IfOk result (λ list. list.holds.items ≡ []) }
     {
-        HeldList {
-            holds: Vec::new(alloc),
-        }
+        Ok(HeldList {
+            holds: Vec::with_capacity(alloc, 64)?,
+        })
     }
 
     /// Each hold, in their order.
@@ -53,36 +53,22 @@ impl HeldList {
             .any(|hold| hold.call == call && hold.element == element)
     }
 
-    /// Makes room for one more.
-    pub(crate) fn reserve(&mut self) -> Result<(), Refusal>
-        ensures same { self.new.holds.items ≡ self.old.holds.items }
-        ensures room { IfOk result (λ done. vec_len self.new.holds < vec_capacity self.new.holds) }
-        ensures why { IfErr result (λ refusal. refusal ≡ refusals.OutOfMemory) }
-    {
-        self.holds.reserve(1)?;
-        Ok(())
-    }
-
-    /// One hold more, for which there is room.
-    pub(crate) fn push_reserved(&mut self, hold: Hold)
-        requires { vec_len self.old.holds < vec_capacity self.old.holds }
+    /// One hold more.
+    pub(crate) fn push(&mut self, hold: Hold)
+        requires { length self.old.holds.items < 64 }
         ensures { self.new.holds.items ≡ self.old.holds.items ++ hold ∷ [] }
     {
         self.holds.push_reserved(hold);
     }
 
     /// One hold more, where there is one.
-    pub(crate) fn add_if(&mut self, is_there: bool, hold: Hold) -> Result<(), Refusal>
-        ensures added { OnOk result
-            (self.new.holds.items ≡ self.old.holds.items ++ (if is_there then hold ∷ [] else [])) }
-        ensures same { OnErr result (self.new.holds.items ≡ self.old.holds.items) }
-        ensures why { IfErr result (λ refusal. refusal ≡ refusals.OutOfMemory) }
+    pub(crate) fn push_if(&mut self, is_there: bool, hold: Hold)
+        requires { is_there ≡ true → length self.old.holds.items < 64 }
+        ensures { self.new.holds.items ≡ self.old.holds.items ++ (if is_there then hold ∷ [] else []) }
     {
         if is_there {
-            self.reserve()?;
-            self.push_reserved(hold);
+            self.push(hold);
         }
-        Ok(())
     }
 
     /// The hold at this place ends.

@@ -1,38 +1,39 @@
 //! A list of items.
 
-ghost use Rattle.std.specs.Prelude.{◌≡◌, ℕ, List, length};
+ghost use Rattle.std.specs.Prelude.{◌≡◌, List};
 
 use std::marker::Model;
 
-/// The items of a claim, any number of them. Contracts see their list.
+/// Any number of items, in their order: those of a claim, or the numbers of each queue, chain or element. Contracts see
+/// their list.
 #[derive(Debug, Drop)]
-pub struct Items {
-    items: Vec<u64>,
+pub struct Items<T> {
+    items: Vec<T>,
 }
 
-impl Model for Items {
-    ghost Value = { List ℕ };
+impl<T> Model for Items<T> {
+    ghost Value = { List T };
 
     ghost view = { λ list. list.items.items };
 }
 
-impl Items {
+impl<T> Items<T> {
     /// These items, in their order. Takes no memory.
-    pub fn new(items: Vec<u64>) -> Self
+    pub fn new(items: Vec<T>) -> Self
         ensures { result ≡ items.items }
     {
         Items { items }
     }
 
     /// The items in their order.
-    pub fn as_slice(&self) -> &[u64]
+    pub fn as_slice(&self) -> &[T]
         ensures { result.now ≡ self.now }
     {
         self.items.as_slice()
     }
 
     /// Gives the list back. Takes no memory.
-    pub fn into_vec(self) -> Vec<u64>
+    pub fn into_vec(self) -> Vec<T>
         ensures { result.items ≡ self }
     {
         let Items { items } = self;

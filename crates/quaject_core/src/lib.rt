@@ -18,11 +18,11 @@ mod machine;
 mod metering;
 mod names;
 mod placing;
+mod queueing;
 mod refusal;
 mod seats;
 mod status;
 mod store;
-mod stored;
 mod threading;
 
 pub use alarm::Alarm;
@@ -33,10 +33,7 @@ pub use names::{
     Call, ChainNumber, Element, Gauge, Processor, QueueName, QueueNumber, Signal, Slot, WaitNumber,
 };
 pub use refusal::{OutOfMemory, Refusal};
-pub use status::{
-    AlarmStatus, ChainList, ChainStatus, ElementList, ElementStatus, Gate, Place, QueueList,
-    QueueStatus, Status,
-};
+pub use status::{AlarmStatus, ChainStatus, ElementStatus, Gate, Place, QueueStatus, Status};
 
 #[cfg(test)]
 mod tests;

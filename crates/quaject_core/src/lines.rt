@@ -9,8 +9,8 @@ ghost use Rattle.quaject_core.specs.Lines.{taken};
 ghost use Rattle.quaject_core.specs.Marks.{wait_line};
 
 use crate::names::{Call, WaitNumber};
+use crate::queueing::StoredQueue;
 use crate::refusal::{OutOfMemory, Refusal};
-use crate::stored::StoredQueue;
 use std::alloc::Global;
 
 /// The ready ring.

@@ -18,10 +18,10 @@ pub struct Core {
 }
 
 impl Core {
-    ghost use Rattle.std.specs.Prelude.{◌≡◌, ℕ, ◌≤◌, IfOk};
-    ghost use Rattle.quaject_core.specs.States.{first_state, step};
-    ghost use Rattle.quaject_core.specs.Results.{Changes};
-    ghost use Rattle.quaject_core.specs.Schedules.{AppliesAll};
+    ghost use Rattle.std.specs.Prelude.{◌≡◌, ℕ, ◌≤◌, false, IfOk};
+    ghost use Rattle.quaject_core.specs.States.{first_state, step, may_grow};
+    ghost use Rattle.quaject_core.specs.Results.{Changes, IsNotMemory};
+    ghost use Rattle.quaject_core.specs.Schedules.{AppliesAll, HadToGrow};
     ghost use Rattle.quaject_core.specs.Statuses.{status_of};
     ghost use Rattle.quaject_core.specs.ShownCores.{state};
 
@@ -48,6 +48,7 @@ impl Core {
     /// Applies one event. A refused event changes nothing.
     pub fn apply(&mut self, event: &Event) -> Result<(), Refusal>
         ensures exact { Changes result (step event.now (state self.old)) (state self.old) (state self.new) }
+        ensures memory { may_grow event.now ≡ false → IsNotMemory result }
         ensures lawful { IsLawful (state self.new) }
     {
         self.store.apply(event)
@@ -56,6 +57,7 @@ impl Core {
     /// Applies events in their order, up to the first that is refused, and gives that one's index and refusal.
     pub fn run(&mut self, events: &[Event]) -> Result<(), (usize, Refusal)>
         ensures exact { AppliesAll result events.now (state self.old) (state self.new) }
+        ensures memory { HadToGrow result events.now }
         ensures lawful { IsLawful (state self.new) }
     {
         for (index, event) in events.iter().enumerate() {

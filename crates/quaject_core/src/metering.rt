@@ -22,6 +22,7 @@ impl StoredMeters {
     ghost use Rattle.quaject_core.specs.Meters.{first_meters, tick, advance};
     ghost use Rattle.quaject_core.specs.Meters.{is_empty, set_alarm, standing, fire, cancel};
     ghost use Rattle.quaject_core.specs.ShownMeters.{meters, Does, alarm_status};
+    ghost use Rattle.quaject_core.specs.Results.{IsNotMemory};
 
     /// All gauges and the clock at 0, and no alarm. Takes no memory.
     pub(crate) fn new(alloc: Global) -> StoredMeters
@@ -47,7 +48,8 @@ impl StoredMeters {
 
     /// Moves the clock on by one tick.
     pub(crate) fn advance(&mut self) -> Result<(), Refusal>
-        ensures { Does result advance self.old self.new }
+        ensures change { Does result advance self.old self.new }
+        ensures memory { IsNotMemory result }
     {
         if self.clock == u32::MAX {
             return Err(Refusal::Full);

@@ -11,9 +11,9 @@ ghost use Rattle.quaject_core.specs.Places.{place_by, line_place, held_place, ho
 
 use crate::hold::Hold;
 use crate::names::{Call, Processor, WaitNumber};
+use crate::queueing::StoredQueue;
 use crate::refusal::OutOfMemory;
 use crate::status::{ElementStatus, Place};
-use crate::stored::StoredQueue;
 use crate::threading::StoredThread;
 use std::alloc::Global;
 
@@ -84,7 +84,7 @@ fn held_place(held: Option<Call>) -> Place
 }
 
 /// Where the element is.
-#[tactic(auto, using(crate::proofs::Numbers::position_map))]
+#[tactic(auto, using(crate::proofs::Stored::Numbers::position_map))]
 pub(crate) fn place(
     processors: &[Option<Hold>; 8],
     lines: &[StoredQueue],

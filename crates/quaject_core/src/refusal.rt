@@ -14,19 +14,20 @@ use thiserror::Error;
 /// `OutOfMemory` is the last of all.
 #[derive(Clone, Copy, Debug, PartialEq, Eq)]
 pub enum Refusal {
-    /// There is no such queue, run or item.
+    /// There is no such queue, chain, run, item, element or slot with an alarm, a note is past 65,535, or a call would
+    /// join itself.
     UnknownName = 1,
     /// A claim or a taking of no item.
     NoItems = 2,
     /// More items than a run or a queue may have.
     TooLong = 3,
-    /// There is no room.
+    /// There is no room, or the clock, or the steps of an element, are at 4,294,967,295.
     Full = 4,
     /// It is another call's.
     NotOwner = 5,
     /// The item was raised before.
     AlreadyRaised = 6,
-    /// One of the items to be taken isn't there or isn't raised.
+    /// One of the items to be taken isn't there or isn't raised, or an alarm to be fired isn't due.
     NotRaised = 7,
     /// The call doesn't hold the element.
     NotHeld = 8,
@@ -40,7 +41,8 @@ pub enum Refusal {
     GateBusy = 12,
     /// The call isn't the chain's runner.
     NotRunner = 13,
-    /// A growth was refused.
+    /// What is stored had to grow, and there was no memory. Of `Queue`, `Chain`, `Claim`, `Raise`, `Take`, `Set`,
+    /// `Fire`, `Cancel`, `WaitAt` and `Join` alone.
     OutOfMemory = 14,
     /// The queue is shut.
     Closed = 15,

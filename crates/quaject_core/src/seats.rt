@@ -6,7 +6,7 @@ ghost use Rattle.quaject_core.specs.Elements.{is_put, join_hold};
 
 use crate::hold::Hold;
 use crate::names::Call;
-use crate::stored::renamed;
+use crate::queueing::renamed;
 
 /// Whether the call put the element on one of the processors.
 pub(crate) fn is_put(processors: &[Option<Hold>; 8], call: Call, element: u64) -> bool

@@ -4,13 +4,14 @@ use crate::alarm::Alarm;
 use crate::chaining::StoredChain;
 use crate::elements::StoredElements;
 use crate::event::Event;
+use crate::items::Items;
 use crate::lines;
 use crate::lines::{FREE, READY};
 use crate::metering::StoredMeters;
 use crate::names::{Call, ChainNumber, QueueName, QueueNumber};
+use crate::queueing::StoredQueue;
 use crate::refusal::{OutOfMemory, Refusal};
-use crate::status::{ChainList, ElementList, QueueList, Status};
-use crate::stored::StoredQueue;
+use crate::status::{ChainStatus, QueueStatus, Status};
 use std::alloc::Global;
 
 /// The queues and chains by their numbers, the thread elements, the meters, and how many events were allowed.
@@ -25,20 +26,23 @@ pub(crate) struct Store {
 }
 
 impl Store {
-    ghost use Rattle.std.specs.Prelude.{◌≡◌, ℕ, Ok, Err, IfOk, map};
+    ghost use Rattle.std.specs.Prelude.{◌≡◌, ◌≤◌, ℕ, Ok, Err, IfOk, map, false};
     ghost use Rattle.quaject_core.specs.Marks.{shut};
     ghost use Rattle.quaject_core.specs.Queues.{claim, raise, take_first, join_queue};
     ghost use Rattle.quaject_core.specs.Chains.{claim_note, raise_note, take_note, notify, round, leave};
     ghost use Rattle.quaject_core.specs.States.{first_state, make_queue, make_chain, in_queue, in_chain, set_for};
-    ghost use Rattle.quaject_core.specs.States.{join, effect, step};
+    ghost use Rattle.quaject_core.specs.States.{join, effect, step, may_grow};
     ghost use Rattle.quaject_core.specs.Statuses.{status_of, queue_status, chain_status};
     ghost use Rattle.quaject_core.specs.declared.event.Event.TheVariants as events;
     ghost use Rattle.quaject_core.specs.Shown.{queue};
     ghost use Rattle.quaject_core.specs.ShownChains.{chain};
     ghost use Rattle.quaject_core.specs.ShownStates.{stored_state, Does};
+    ghost use Rattle.quaject_core.specs.Lawful.{IsLawful};
+    ghost use Rattle.quaject_core.specs.Results.{IsNotMemory};
 
     /// No queues, no chains, and so many free elements.
     pub(crate) fn new(alloc: Global, elements: u8) -> Result<Store, OutOfMemory>
+        requires { elements ≤ 64 }
         ensures { IfOk result (λ store. stored_state store ≡ first_state elements) }
     {
         Ok(Store {
@@ -53,7 +57,9 @@ impl Store {
 
     /// Applies one event. A refused event changes nothing.
     pub(crate) fn apply(&mut self, event: &Event) -> Result<(), Refusal>
-        ensures { Does result (step event.now) self.old self.new }
+        requires { IsLawful (stored_state self.old) }
+        ensures change { Does result (step event.now) self.old self.new }
+        ensures memory { may_grow event.now ≡ false → IsNotMemory result }
     {
         self.effect(event)?;
         self.events = self.events.wrapping_add(1);
@@ -62,7 +68,9 @@ impl Store {
 
     /// Applies one event, but for its counting.
     fn effect(&mut self, event: &Event) -> Result<(), Refusal>
-        ensures { Does result (effect event.now) self.old self.new }
+        requires { IsLawful (stored_state self.old) }
+        ensures change { Does result (effect event.now) self.old self.new }
+        ensures memory { may_grow event.now ≡ false → IsNotMemory result }
     {
         match event {
             Event::Queue { capacity } => self.make_queue(*capacity),
@@ -171,6 +179,7 @@ impl Store {
     }
 
     fn take(&mut self, call: Call, queue: QueueName, count: u32) -> Result<(), Refusal>
+        requires { IsLawful (stored_state self.old) }
         ensures { Does result (effect (events.Take call queue count)) self.old self.new }
     {
         match queue {
@@ -223,7 +232,8 @@ impl Store {
     }
 
     fn shut(&mut self, number: QueueNumber) -> Result<(), Refusal>
-        ensures { Does result (in_queue number (λ q. Ok (shut q))) self.old self.new }
+        ensures change { Does result (in_queue number (λ q. Ok (shut q))) self.old self.new }
+        ensures memory { IsNotMemory result }
     {
         let number = usize::from(number.number());
         if number >= self.queues.len() {
@@ -270,7 +280,8 @@ impl Store {
     }
 
     fn notify(&mut self, call: Call, number: ChainNumber) -> Result<(), Refusal>
-        ensures { Does result (in_chain number (notify call)) self.old self.new }
+        ensures change { Does result (in_chain number (notify call)) self.old self.new }
+        ensures memory { IsNotMemory result }
     {
         let number = usize::from(number.number());
         if number >= self.chains.len() {
@@ -280,7 +291,8 @@ impl Store {
     }
 
     fn round(&mut self, call: Call, number: ChainNumber) -> Result<(), Refusal>
-        ensures { Does result (in_chain number (round call)) self.old self.new }
+        ensures change { Does result (in_chain number (round call)) self.old self.new }
+        ensures memory { IsNotMemory result }
     {
         let number = usize::from(number.number());
         if number >= self.chains.len() {
@@ -290,7 +302,8 @@ impl Store {
     }
 
     fn leave(&mut self, call: Call, number: ChainNumber) -> Result<(), Refusal>
-        ensures { Does result (in_chain number (leave call)) self.old self.new }
+        ensures change { Does result (in_chain number (leave call)) self.old self.new }
+        ensures memory { IsNotMemory result }
     {
         let number = usize::from(number.number());
         if number >= self.chains.len() {
@@ -328,7 +341,7 @@ impl Store {
             events: self.events,
             queues: self.queue_list()?,
             chains: self.chain_list()?,
-            elements: ElementList::new(self.elements.statuses(self.alloc)?),
+            elements: Items::new(self.elements.statuses(self.alloc)?),
             gauges: self.meters.gauges(),
             clock: self.meters.clock(),
             alarms: self.meters.alarms(),
@@ -336,24 +349,24 @@ impl Store {
         })
     }
 
-    fn queue_list(&self) -> Result<QueueList, OutOfMemory>
+    fn queue_list(&self) -> Result<Items<QueueStatus>, OutOfMemory>
         ensures { IfOk result (λ list. list ≡ map queue_status (map queue self.now.queues.items)) }
     {
         let mut queues = Vec::new(self.alloc);
         for queue in &self.queues {
             queues.push(queue.status())?;
         }
-        Ok(QueueList::new(queues))
+        Ok(Items::new(queues))
     }
 
-    fn chain_list(&self) -> Result<ChainList, OutOfMemory>
+    fn chain_list(&self) -> Result<Items<ChainStatus>, OutOfMemory>
         ensures { IfOk result (λ list. list ≡ map chain_status (map chain self.now.chains.items)) }
     {
         let mut chains = Vec::new(self.alloc);
         for chain in &self.chains {
             chains.push(chain.status())?;
         }
-        Ok(ChainList::new(chains))
+        Ok(Items::new(chains))
     }
 }
 

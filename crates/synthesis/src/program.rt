@@ -36,9 +36,13 @@ pub fn run_on<R: Read, W: Write, E: Write>(
     writer: &mut W,
     errors: &mut E,
 ) -> Ended
-    ensures usage { map (λ word. word.now) words.now ≢ replay_command → IsTold result 2 usage_words (E.contents errors.old) (E.contents errors.new) }
-    ensures untouched { map (λ word. word.now) words.now ≢ replay_command → (reader.new ≡ reader.old) × (writer.new ≡ writer.old) }
-    ensures replay { map (λ word. word.now) words.now ≡ replay_command → (answer : Result Replayed ReplayFault) × IsReplayOf (R.remaining reader.old) answer (W.contents writer.old) (W.contents writer.new) × IsTold result (status_of answer) (words_of answer) (E.contents errors.old) (E.contents errors.new) }
+    ensures usage { map (λ word. word.now) words.now ≢ replay_command
+        → IsTold result 2 usage_words (E.contents errors.old) (E.contents errors.new) }
+    ensures untouched { map (λ word. word.now) words.now ≢ replay_command → (reader.new ≡ reader.old)
+        × (writer.new ≡ writer.old) }
+    ensures replay { map (λ word. word.now) words.now ≡ replay_command → (answer : Result Replayed ReplayFault)
+        × IsReplayOf (R.remaining reader.old) answer (W.contents writer.old) (W.contents writer.new)
+        × IsTold result (status_of answer) (words_of answer) (E.contents errors.old) (E.contents errors.new) }
 {
     if is_replay(words) {
         let answer = replay_on(alloc, reader, writer);
@@ -63,7 +67,8 @@ pub fn run_main<R: Read + Drop, W: Write + Drop, E: Write + Drop>(
     mut errors: E,
 ) -> u8
     ensures usage { map (λ word. word.now) words.now ≢ replay_command → result ≡ 2 }
-    ensures replay { map (λ word. word.now) words.now ≡ replay_command → IfSome (R.remaining reader) (λ bytes. IsStatus (text_events bytes) result) }
+    ensures replay { map (λ word. word.now) words.now ≡ replay_command
+        → IfSome (R.remaining reader) (λ bytes. IsStatus (text_events bytes) result) }
 {
     run_on(alloc, words, &mut reader, &mut writer, &mut errors).status
 }

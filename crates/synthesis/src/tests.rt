@@ -5,7 +5,31 @@ use std::io::{ErrorKind, Read, Write};
 use std::process::Abort;
 use std::test::Fail;
 
-/// Gives a byte at each call of read, and fails at the last of so many calls.
+/// The two forms of a run: streams that are lent, and streams that are handed over.
+#[derive(Clone, Copy)]
+enum Form {
+    Lent,
+    HandedOver,
+}
+
+const FORMS: [Form; 2] = [Form::Lent, Form::HandedOver];
+
+/// Runs the program in one form. What is handed over is a loan, so that all bytes can be seen behind either form.
+fn run_as<R: Read, W: Write, E: Write>(
+    form: Form,
+    alloc: Global,
+    words: &[&str],
+    reader: &mut R,
+    writer: &mut W,
+    errors: &mut E,
+) -> u8 {
+    match form {
+        Form::Lent => run_on(alloc, words, reader, writer, errors).status,
+        Form::HandedOver => run_main(alloc, words, reader, writer, errors),
+    }
+}
+
+/// Gives a byte at each call of read, and fails behind the last of so many calls.
 #[derive(Drop)]
 struct Failing<'a> {
     bytes: &'a [u8],
@@ -30,10 +54,18 @@ impl Read for Failing<'_> {
     }
 }
 
-/// Takes a byte at each call of write, and fails behind the last of so many calls.
+/// Takes a byte at each call of write and keeps it, and fails behind the last of so many calls.
 #[derive(Drop)]
 struct Full {
+    bytes: Vec<u8>,
     calls: usize,
+}
+
+impl Full {
+    fn new(alloc: Global, calls: usize) -> Full {
+        let bytes = Vec::new(alloc);
+        Full { bytes, calls }
+    }
 }
 
 impl Write for Full {
@@ -42,7 +74,13 @@ impl Write for Full {
             return Err(io::Error::from(ErrorKind::StorageFull));
         }
         self.calls -= 1;
-        Ok(buf.len().min(1))
+        match buf {
+            [] => Ok(0),
+            [first, ..] => {
+                self.bytes.push(*first)?;
+                Ok(1)
+            }
+        }
     }
 
     fn flush(&mut self) -> io::Result<()> {
@@ -64,7 +102,7 @@ const ALLOWED_STATUS: &[u8] =
 
 const USAGE: &[u8] = b"usage: synthesis replay | synthesis boot P TURNS\n";
 
-/// Asserts the status of a replay, and the bytes on both streams.
+/// Asserts the status of a replay in both forms, and the bytes on both streams.
 fn assert_replay(
     rt: &impl Abort,
     alloc: Global,
@@ -73,17 +111,16 @@ fn assert_replay(
     printed: &[u8],
     told: &[u8],
 ) {
-    let mut reader = script;
-    let mut output = Vec::new(alloc);
-    let mut errors = Vec::new(alloc);
-    let ended = run_on(alloc, &["replay"], &mut reader, &mut output, &mut errors);
-    assert_eq!(rt; ended.status, status);
-    assert!(rt; ended.told.is_ok());
-    assert_eq!(rt; output.as_slice(), printed);
-    assert_eq!(rt; errors.as_slice(), told);
-    let sink = Vec::<u8>::new(alloc);
-    let words = Vec::<u8>::new(alloc);
-    assert_eq!(rt; run_main(alloc, &["replay"], script, sink, words), status);
+    for form in FORMS {
+        let mut reader = script;
+        let mut output = Vec::new(alloc);
+        let mut errors = Vec::new(alloc);
+        let words = &["replay"];
+        let ended = run_as(form, alloc, words, &mut reader, &mut output, &mut errors);
+        assert_eq!(rt; ended, status);
+        assert_eq!(rt; output.as_slice(), printed);
+        assert_eq!(rt; errors.as_slice(), told);
+    }
 }
 
 #[test]
@@ -220,99 +257,102 @@ fn other_words_are_a_usage_fault(rt: HostRuntime) {
         &["help"],
     ];
     for words in commands {
-        let mut reader = REFUSED;
-        let mut output = Vec::new(rt.alloc());
-        let mut errors = Vec::new(rt.alloc());
-        let ended = run_on(rt.alloc(), words, &mut reader, &mut output, &mut errors);
-        assert_eq!(rt; ended.status, 2);
-        assert!(rt; ended.told.is_ok());
-        assert_eq!(rt; reader, REFUSED);
-        assert!(rt; output.is_empty());
-        assert_eq!(rt; errors.as_slice(), USAGE);
+        for form in FORMS {
+            let mut reader = REFUSED;
+            let mut output = Vec::new(rt.alloc());
+            let mut errors = Vec::new(rt.alloc());
+            let (out, told) = (&mut output, &mut errors);
+            assert_eq!(rt; run_as(form, rt.alloc(), words, &mut reader, out, told), 2);
+            assert_eq!(rt; reader, REFUSED);
+            assert!(rt; output.is_empty());
+            assert_eq!(rt; errors.as_slice(), USAGE);
+        }
     }
     let mut errors = Vec::new(rt.alloc());
     assert_eq!(rt; usage(&mut errors), 2);
     assert_eq!(rt; errors.as_slice(), USAGE);
 }
 
-#[test]
-fn tells_a_failing_reader(rt: HostRuntime) {
-    for calls in 0..=REFUSED.len() {
+/// Asserts that a replay in both forms ends with a read fault, and prints nothing.
+fn assert_read_fault(rt: &impl Abort, alloc: Global, kind: ErrorKind, calls: usize) {
+    for form in FORMS {
         let mut reader = Failing {
             bytes: REFUSED,
-            kind: ErrorKind::ConnectionReset,
+            kind,
             calls,
         };
-        let mut output = Vec::new(rt.alloc());
-        let mut errors = Vec::new(rt.alloc());
-        let ended = run_on(
-            rt.alloc(),
-            &["replay"],
-            &mut reader,
-            &mut output,
-            &mut errors,
-        );
-        assert_eq!(rt; ended.status, 5);
+        let mut output = Vec::new(alloc);
+        let mut errors = Vec::new(alloc);
+        let words = &["replay"];
+        let status = run_as(form, alloc, words, &mut reader, &mut output, &mut errors);
+        assert_eq!(rt; status, 5);
         assert!(rt; output.is_empty());
         assert_eq!(rt; errors.as_slice(), b"read fault\n".as_slice());
     }
 }
 
 #[test]
-fn ends_where_reads_are_interrupted_forever(rt: HostRuntime) {
-    let mut reader = Failing {
-        bytes: REFUSED,
-        kind: ErrorKind::Interrupted,
-        calls: 10,
-    };
-    let mut output = Vec::new(rt.alloc());
-    let mut errors = Vec::new(rt.alloc());
-    let ended = run_on(
-        rt.alloc(),
-        &["replay"],
-        &mut reader,
-        &mut output,
-        &mut errors,
-    );
-    assert_eq!(rt; ended.status, 5);
-    assert!(rt; output.is_empty());
-    assert_eq!(rt; errors.as_slice(), b"read fault\n".as_slice());
+fn tells_a_failing_reader(rt: HostRuntime) {
+    for calls in 0..=REFUSED.len() {
+        assert_read_fault(&rt, rt.alloc(), ErrorKind::ConnectionReset, calls);
+    }
 }
 
 #[test]
+fn ends_where_reads_are_interrupted_forever(rt: HostRuntime) {
+    assert_read_fault(&rt, rt.alloc(), ErrorKind::Interrupted, 10);
+}
+
+/// The bytes before the fault are a front of what is printed.
+#[test]
 fn tells_a_failing_writer(rt: HostRuntime) {
     for calls in 0..REFUSED_STATUS.len() {
-        let mut reader = REFUSED;
-        let mut errors = Vec::new(rt.alloc());
-        let ended = run_on(
-            rt.alloc(),
-            &["replay"],
-            &mut reader,
-            &mut Full { calls },
-            &mut errors,
-        );
-        assert_eq!(rt; ended.status, 5);
-        assert_eq!(rt; errors.as_slice(), b"write fault\n".as_slice());
+        for form in FORMS {
+            let mut reader = REFUSED;
+            let mut output = Full::new(rt.alloc(), calls);
+            let mut errors = Vec::new(rt.alloc());
+            let (out, told) = (&mut output, &mut errors);
+            let status = run_as(form, rt.alloc(), &["replay"], &mut reader, out, told);
+            assert_eq!(rt; status, 5);
+            assert_eq!(rt; output.bytes.as_slice(), &REFUSED_STATUS[..calls]);
+            assert_eq!(rt; errors.as_slice(), b"write fault\n".as_slice());
+        }
     }
 }
 
 #[test]
 fn a_failing_error_stream_changes_no_status(rt: HostRuntime) {
-    let mut output = Vec::new(rt.alloc());
-    let mut reader = b"events 1\nque 4".as_slice();
-    let Ended { status, told } = run_on(
-        rt.alloc(),
-        &["replay"],
-        &mut reader,
-        &mut output,
-        &mut Full { calls: 3 },
-    );
-    assert_eq!(rt; status, 1);
-    assert!(rt; told.is_err());
-    assert_eq!(rt; usage(&mut Full { calls: 0 }), 2);
-    assert_eq!(rt; no_memory(&mut Full { calls: 0 }), 3);
+    for form in FORMS {
+        let mut reader = b"events 1\nque 4".as_slice();
+        let mut output = Vec::new(rt.alloc());
+        let mut errors = Full::new(rt.alloc(), 3);
+        let (out, told) = (&mut output, &mut errors);
+        let status = run_as(form, rt.alloc(), &["replay"], &mut reader, out, told);
+        assert_eq!(rt; status, 1);
+        assert!(rt; output.is_empty());
+        assert_eq!(rt; errors.bytes.as_slice(), b"lin".as_slice());
+    }
+    let mut deaf = Full::new(rt.alloc(), 0);
+    assert_eq!(rt; usage(&mut deaf), 2);
+    assert_eq!(rt; no_memory(&mut deaf), 3);
+    assert!(rt; deaf.bytes.is_empty());
 }
 
+/// A run tells whether the error stream took its words.
+#[test]
+fn a_run_tells_of_the_error_stream(rt: HostRuntime) {
+    for (calls, took) in [(0, false), (USAGE.len() - 1, false), (USAGE.len(), true)] {
+        let mut reader = REFUSED;
+        let mut output = Vec::new(rt.alloc());
+        let mut errors = Full::new(rt.alloc(), calls);
+        let Ended { status, told } = run_on(rt.alloc(), &[], &mut reader, &mut output, &mut errors);
+        assert_eq!(rt; status, 2);
+        assert_eq!(rt; told.is_ok(), took);
+        assert_eq!(rt; Some(errors.bytes.as_slice()), USAGE.get(..calls));
+    }
+}
+
+/// No allocation is refused here: `tools/refused-memory` refuses each one of the built program in turn.
 #[test]
 fn tells_want_of_memory(rt: HostRuntime) {
     let mut errors = Vec::new(rt.alloc());

@@ -1,8 +1,10 @@
 pub mod Counting
+pub mod Courses
 pub mod Ends
 pub mod Leaving
 pub mod Listing
 pub mod Logs
+pub mod Members
 pub mod Owned
 pub mod Positioned
 pub mod QueueEvents

@@ -22,7 +22,7 @@ use Rattle.table_theory.specs.Filing.{Owned, moved}
 use Rattle.table_theory.specs.Listing.{all_places, ViewsShow, Later, written_to, runs_of}
 use Rattle.table_theory.specs.QueueOf.{run_in, is_up, up_in, queue_of, IsHistory, IsEvent, no_event}
 use Rattle.atomic_table.proofs.Lists.{set_again, at_map}
-use Rattle.quaject_core.proofs.Histories.{same_set}
+use Rattle.quaject_core.proofs.Lists.Histories.{same_set}
 use Rattle.table_theory.proofs.Leaving.{fresh_items, same_items}
 use Rattle.table_theory.proofs.Positioned.{fresh_written}
 use Rattle.table_theory.proofs.Logs.{moved_entry}

@@ -16,12 +16,12 @@ joins_in log = sum_by (λ is_split. if is_split then 0 else 1) log
 abbrev pub IsNumber : List Bool → ℕ → Type 0
 IsNumber log number = number + joins_in log ≡ splits_in log + 1
 
--- the log begins like this
-abbrev pub Begins : List Bool → List Bool → Type 0
-Begins log later = (rest : List Bool) × (log ++ rest ≡ later)
+-- the later list begins with the first
+abbrev pub Begins : {E : Type 0} → List E → List E → Type 0
+Begins {E} list later = (rest : List E) × (list ++ rest ≡ later)
 
--- of two logs that the same log begins like, the later
-abbrev pub later_of : List Bool → List Bool → List Bool
+-- of two lists with which the same list begins, the later
+abbrev pub later_of : {E : Type 0} → List E → List E → List E
 later_of one other = if nat_lt (length one) (length other) then other else one
 
 -- The word has the number of ends behind the log; each split and each join of the log is one of an end's own, and each

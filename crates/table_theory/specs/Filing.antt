@@ -7,6 +7,9 @@ use lib.ListN.{get_elem?}
 abbrev pub Owned : Type 0 → Type 0
 Owned E = ℕ × ℕ × E
 
+abbrev pub entry_of : {E : Type 0} → Owned E → E
+entry_of o = o.2
+
 -- the log and the lists have the same entries, each once
 pub record ListedOnce {E : Type 0} (log : List (Owned E)) (lists : List (List E)) : Type 0 where
   pub listed : (c : ℕ) (l : List E) (m : ℕ) (e : E) → get_elem? lists c ≡ some l → get_elem? l m ≡ some e → (k : ℕ)

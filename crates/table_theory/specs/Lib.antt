@@ -1,6 +1,8 @@
+pub mod Courses
 pub mod Ends
 pub mod Filing
 pub mod Listing
+pub mod Members
 pub mod Positioned
 pub mod QueueOf
 pub mod Seating

@@ -1,12 +1,25 @@
 //! What every end has, of whatever object: the steps that it made, and its place among the other ends.
+use std::collections::LinkedList;
 use thiserror::Error;
 
-/// One step of an end: the number of the word, what was found there (at a store, what was stored), and the object as it
-/// was just before the step. Proofs alone speak of it.
+/// One step of an end: the number of the word, what was found there (at a store, what was stored), and the object as
+/// the step found it and as it left it. Proofs alone speak of it.
 pub struct Entry<O> {
     pub word: u64,
     pub found: u64,
     pub then: O,
+    pub next: O,
+}
+
+/// An end among the ends of its object: how many of the ends counted it is, its share, how often it was split and took
+/// in another end, and the splits (true) and joins (false) of all ends up to its last step on their number. Proofs
+/// alone speak of it.
+pub struct Member {
+    pub ends: u64,
+    pub share: u64,
+    pub splits: u64,
+    pub joins: u64,
+    pub log: LinkedList<bool>,
 }
 
 /// Ends that were made and not joined, and their number.

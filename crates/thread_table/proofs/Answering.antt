@@ -7,7 +7,7 @@ use Rattle.quaject_core.specs.Elements.{Elements}
 use Rattle.quaject_core.specs.Queues.{Queue, left, empty_queue}
 use Rattle.quaject_core.specs.Lawful.{IsLawfulQueue}
 use Rattle.quaject_core.specs.declared.event.Event.{Event}
-use Rattle.quaject_core.proofs.ElementLaws.{every_at}
+use Rattle.quaject_core.proofs.Keeping.Elements.{every_at}
 use Rattle.thread_table.specs.declared.rule.View.{View}
 use Rattle.thread_table.specs.Schedules.{elements_after, line_at, element_at}
 use Rattle.thread_table.specs.Shown.{tail_shown, mark_of}
@@ -148,7 +148,7 @@ took_oldest call u v f w line tail found element mark below a b tail_is peek par
 
 -- a hand has no claim, and the processors and ends that it had
 pub record Stays (u w : View) : Type 0 where
-  pub ends : w.ends ≡ u.ends
+  pub ends : w.member.ends ≡ u.member.ends
   pub claimed : w.claimed ≡ None
   pub fresh : w.fresh ≡ true
   pub serves : u.serves ≡ w.serves
@@ -187,7 +187,7 @@ taken_first call caller u v f w line tail found element mark same none below fa 
       stays =
           let l : Looked u f = looked_on u v f a b in
           record {
-            ends = ap (λ (z : View). z.ends) t.did.same ∙ ap (λ (z : View). z.ends) l.same;
+            ends = ap (λ (z : View). z.member.ends) t.did.same ∙ ap (λ (z : View). z.member.ends) l.same;
             claimed = ap (λ (z : View). z.claimed) t.did.same ∙ (ap (λ (z : View). z.claimed) l.same ∙ none);
             fresh = ap (λ (z : View). z.fresh) t.did.same;
             serves = sym (ap (λ (z : View). z.serves) t.did.same ∙ ap (λ (z : View). z.serves) l.same);
@@ -297,7 +297,7 @@ moved_to call line element event word head mark u v m w below known fa more c pa
       was = refl;
       held = sym now;
       stays = record {
-        ends = ap (λ (z : View). z.ends) raises.same ∙ (ap (λ (z : View). z.ends) c.did.same ∙ ap (λ (z : View). z.ends) a.same);
+        ends = ap (λ (z : View). z.member.ends) raises.same ∙ (ap (λ (z : View). z.member.ends) c.did.same ∙ ap (λ (z : View). z.member.ends) a.same);
         claimed = ap (λ (z : View). z.claimed) raises.same;
         fresh = ap (λ (z : View). z.fresh) raises.same;
         serves = sym (ap (λ (z : View). z.serves) raises.same ∙ (ap (λ (z : View). z.serves) c.did.same ∙ ap (λ (z : View). z.serves) a.same));

@@ -4,8 +4,8 @@ use Rattle.quaject_core.specs.Elements.{Elements, holds}
 use Rattle.quaject_core.specs.Schedules.{Reaches}
 use Rattle.quaject_core.specs.States.{first_state}
 use Rattle.quaject_core.specs.declared.event.Event.{Event}
-use Rattle.quaject_core.proofs.Steps.{schedule_law}
-use Rattle.quaject_core.proofs.AccountLaws.{account_law}
+use Rattle.quaject_core.proofs.Keeping.Steps.{schedule_law}
+use Rattle.quaject_core.proofs.Keeping.Accounts.{account_law}
 use Rattle.atomic_table.specs.Table as tables
 use Rattle.thread_table.specs.declared.rule.Shape.{Shape}
 use Rattle.thread_table.specs.declared.rule.View.{View}
@@ -39,6 +39,9 @@ shows_elements key s k =
       retired = are_retired k.events k.allowed;
       sole = k.sole;
       owned = subst (AllOwned s.views) same k.owned;
-      counted = k.counted;
+      ends = k.ends;
+      joiner = k.joiner;
+      are_joins = k.are_joins;
+      course = k.course;
       no_others = λ call element far. subst (λ (z : Elements). holds call element z ≡ false) same (k.strange call element far);
     }

@@ -13,8 +13,8 @@ use Rattle.quaject_core.specs.Marks.{wait_at}
 use Rattle.quaject_core.specs.Lawful.{IsLawfulQueue, IsLawfulElements}
 use Rattle.quaject_core.specs.declared.hold.Hold.{Hold}
 use Rattle.quaject_core.specs.declared.refusal.Refusal.{Refusal}
-use Rattle.quaject_core.proofs.Places.{in_hands}
-use Rattle.quaject_core.proofs.ElementLaws.{every_at}
+use Rattle.quaject_core.proofs.Keeping.Places.{in_hands}
+use Rattle.quaject_core.proofs.Keeping.Elements.{every_at}
 use Rattle.table_theory.proofs.QueueEvents.{claim_goes}
 use Rattle.thread_table.specs.declared.rule.View.{View}
 use Rattle.thread_table.specs.declared.rule.Claimed.{Claimed}

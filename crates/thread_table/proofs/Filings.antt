@@ -3,12 +3,12 @@ use Rattle.std.proofs.Common.{◌≡◌, ◌≢◌, ℕ, ◌+◌, Bool, true, fa
 use Rattle.std.proofs.lemmas.List.{append-nil, map-append}
 use mathlib.Core.Option.{some}
 use lib.ListN.{get_elem?}
-use Rattle.table_theory.specs.Filing.{Owned, moved, sole}
+use Rattle.table_theory.specs.Filing.{Owned, entry_of, moved, sole}
 use Rattle.table_theory.proofs.Owned.{file_first, file_push, file_new, file_join, file_sole}
 use Rattle.quaject_core.specs.declared.event.Event.{Event}
 use Rattle.quaject_core.specs.declared.event.Event.TheVariants as events
 use Rattle.thread_table.specs.declared.rule.Made.{Made}
-use Rattle.thread_table.specs.Makers.{is_join, made_in, numbered, entry_of, AreMade}
+use Rattle.thread_table.specs.Makers.{is_join, made_in, numbered, AreMade}
 use Rattle.std.specs.Result.{result_unwrap_or}
 use Rattle.quaject_core.specs.States.{State, step}
 use Rattle.thread_table.specs.Schedules.{after, begun, state_after}

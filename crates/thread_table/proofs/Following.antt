@@ -1,19 +1,18 @@
 -- Steps of one hand, one after the other.
-use Rattle.std.proofs.Common.{◌≡◌, ⊎_elim, inl, inr, ℕ, true, None, List, ◌++◌, ◌∙◌, sym, ap, subst, arith, append_assoc}
+use Rattle.std.proofs.Common.{◌≡◌, ⊎_elim, inl, inr, ℕ, true, None, List, ◌∙◌, sym, ap, subst, arith}
 use Rattle.quaject_core.specs.declared.event.Event.{Event}
 use Rattle.thread_table.specs.declared.rule.View.{View}
-use Rattle.thread_table.specs.Schedules.{elements_after, Begins}
+use Rattle.thread_table.specs.Schedules.{elements_after}
+use Rattle.table_theory.specs.Ends.{Begins}
+use Rattle.table_theory.proofs.Ends.{begins_on, begins_trans}
 use Rattle.thread_table.specs.Shown.{WordsShow}
 use Rattle.thread_table.specs.Steps.{Sees, Found, Did}
 use Rattle.thread_table.specs.Rules.{has, serves, running}
-use Rattle.thread_table.proofs.Schedules.{begins_more, grows_trans}
-
-pub begins_trans : (p q r : List Event) → Begins p q → Begins q r → Begins p r
-begins_trans p q r a b = (a.0 ++ b.0, sym (append_assoc p a.0 b.0) ∙ (ap (λ (z : List Event). z ++ b.0) a.1 ∙ b.1))
+use Rattle.thread_table.proofs.Schedules.{grows_trans}
 
 -- what a hand that only looked knows then
 abbrev pub seen_as : View → View → View
-seen_as v w = record v { schedule = w.schedule; joined = w.schedule; counted = None; steps = w.steps; fresh = true }
+seen_as v w = record v { schedule = w.schedule; joined = w.schedule; counted = None; fresh = true; steps = w.steps; course = w.course }
 
 -- the hand only looked
 pub record Looked (v w : View) : Type 0 where
@@ -38,7 +37,7 @@ sees_on u v events a b = let s = a.sees.seen in let t = b.seen in record {
       (⊎_elim (λ held. inl (ap (λ (z : View). has z x) a.same ∙ held))
       (λ on. inr (on.0, ap (λ (z : View). serves z on.0) a.same ∙ on.1, ap (λ (z : View). running z on.0) a.same ∙ on.2)) may)
       ∙ a.sees.steady up x low may;
-  newest = λ whole up. a.sees.newest whole up ∙ b.newest (ap (λ (z : View). z.share) a.same ∙ whole) (ap (λ (z : View). z.fresh) a.same);
+  newest = λ whole up. a.sees.newest whole up ∙ b.newest (ap (λ (z : View). z.member.share) a.same ∙ whole) (ap (λ (z : View). z.fresh) a.same);
   undoubled = a.sees.undoubled;
   words = b.words;
   shows = subst (λ (z : ℕ). WordsShow z (elements_after events) b.words) (ap (λ (z : View). z.first) a.same) b.shows;
@@ -49,4 +48,4 @@ looked_on u v w a b = record { same = b.same ∙ ap (λ (z : View). seen_as z w)
 
 -- a step at which the hand made an event is later than what it had seen before
 pub did_later : (call : ℕ) (v w : View) (word found : ℕ) (event : Event) (knows : List Event → View) (d : Did call v word found event knows w) → Begins v.schedule w.schedule
-did_later call v w word found event knows d = subst (Begins v.schedule) (sym (ap (λ (z : View). z.schedule) d.same)) (begins_more v.schedule d.before event d.sees.seen.schedule)
+did_later call v w word found event knows d = subst (Begins v.schedule) (sym (ap (λ (z : View). z.schedule) d.same)) (begins_on v.schedule d.before event d.sees.seen.schedule)

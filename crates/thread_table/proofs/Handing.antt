@@ -5,7 +5,7 @@ use Rattle.std.specs.List.{list_any}
 use Rattle.quaject_core.specs.Elements.{Elements, holds}
 use Rattle.quaject_core.specs.Appearances.{appearances}
 use Rattle.quaject_core.specs.Lawful.{IsLawfulElements}
-use Rattle.quaject_core.proofs.Places.{in_hands}
+use Rattle.quaject_core.proofs.Keeping.Places.{in_hands}
 use Rattle.thread_table.specs.declared.rule.View.{View}
 use Rattle.thread_table.specs.declared.rule.Claimed.{Claimed}
 use Rattle.thread_table.specs.Rules.{HandIs, IsClaimed}

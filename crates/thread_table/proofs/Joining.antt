@@ -13,24 +13,25 @@ use Rattle.quaject_core.specs.declared.event.Event.TheVariants as events
 use Rattle.quaject_core.specs.declared.refusal.Refusal.TheVariants.{UnknownName}
 use Rattle.atomic_table.proofs.Lists.{at_set, set_else}
 use Rattle.table_theory.proofs.Owned.{at_below}
-use Rattle.table_theory.proofs.Counting.{counted_join}
-use Rattle.table_theory.proofs.Ends.{logged_join}
+use Rattle.table_theory.proofs.Ends.{begins_on}
+use Rattle.table_theory.proofs.Members.{known_join}
 use Rattle.thread_table.specs.declared.rule.Shape.{Shape}
 use Rattle.thread_table.specs.declared.rule.View.{View}
 use Rattle.thread_table.specs.Schedules.{state_after, elements_after, line_at, element_at, IsAllowed, Grows}
 use Rattle.thread_table.specs.Shown.{WordsShow}
-use Rattle.thread_table.specs.Rules.{Rule, HandIs, Seen, ends_of, share_of, splits_of, joins_of, log_of, IsIdle, serves, running}
+use Rattle.thread_table.specs.Rules.{Rule, HandIs, Seen, member_of, IsIdle, serves, running}
 use Rattle.thread_table.specs.Views.{claim_of}
 use Rattle.thread_table.specs.Steps.{either, either_on, both, emptied}
 use Rattle.thread_table.proofs.Owing.{AllOwned, IsOwned, owned_set}
 use Rattle.thread_table.proofs.QueueWords.{none_some}
 use Rattle.thread_table.proofs.Copies.{length-copies, get_or-copies}
 use Rattle.thread_table.proofs.Renaming.{renamed_call, renamed_other, renamed_third, held_third, held_call, held_other, seat_renamed, claim_third, count_third, grows_joined, open_joined, words_joined}
-use Rattle.thread_table.proofs.Schedules.{after_more, elements_after_more, elements_of, begins_more, grows_trans}
+use Rattle.thread_table.proofs.Schedules.{after_more, elements_after_more, elements_of, grows_trans}
 use Rattle.std.proofs.lemmas.List.{map-set}
 use Rattle.atomic_table.proofs.Lists.{at_map}
 use Rattle.thread_table.specs.declared.rule.Made.{Made}
 use Rattle.thread_table.specs.Makers.{AreMade, made_of}
+use Rattle.thread_table.proofs.Courses.{course_joined}
 use Rattle.thread_table.proofs.Filings.{made_join}
 use Rattle.thread_table.specs.Rules.{IsSteady, IsNewest, may_step, has}
 use Rattle.thread_table.specs.Steps.{any_both}
@@ -226,8 +227,8 @@ after_join id other past allowed ne = let s : core.State = state_after past in l
 
 seen_more : (u : View) (past : List Event) (event : Event) → Grows (elements_after past) (elements_after (past ++ event ∷ [])) → Seen u past → Seen u (past ++ event ∷ [])
 seen_more u past event more seen = record {
-  schedule = begins_more u.schedule past event seen.schedule;
-  joined = begins_more u.joined past event seen.joined;
+  schedule = begins_on u.schedule past event seen.schedule;
+  joined = begins_on u.joined past event seen.joined;
   grows = grows_trans (elements_after u.schedule) (elements_after past) (elements_after (past ++ event ∷ [])) seen.grows more;
 }
 
@@ -239,7 +240,7 @@ owned_joined views id other v w a b e at there idle idle' owned line run below i
     subst (λ (x : ℕ). IsOwned (set (set views id a) other b) (claim_of line run x)) (sym ((grows_joined id other e line).items run old.0))
     (owned_set (set views id a) other w b c there (λ claims. none_some c w.claimed idle' claims) (owned_set views id v a c at (λ claims. none_some c v.claimed idle claims) (owned line run below old)))
 
-pub joins : (key : Shape) (id other : ℕ) (v w : View) → 1 ≤ v.ends → 1 ≤ w.ends → v.claimed ≡ None → w.claimed ≡ None → Joins (Rule key) id v other w (both v w) (emptied v)
+pub joins : (key : Shape) (id other : ℕ) (v w : View) → 1 ≤ v.member.ends → 1 ≤ w.member.ends → v.claimed ≡ None → w.claimed ≡ None → Joins (Rule key) id v other w (both v w) (emptied v)
 joins key id other v w live live' idle idle' s k at ne there = let at' : get_elem? s.views other ≡ some w = sym (set_else s.views id other (both v w) ne) ∙ there in
     let e : Elements = elements_after k.events in let f : Elements = join_elements id other e in let ne' : id ≢ other = (λ z. ne (sym z)) in
     let two : Two id other v w e = record {
@@ -250,7 +251,8 @@ joins key id other v w live live' idle idle' s k at ne there = let at' : get_ele
     } in
     let after : After id other k.events = after_join id other k.events k.allowed ne' in let event : Event = events.Join id other in
     let more : Grows e (elements_after (k.events ++ event ∷ [])) = subst (Grows e) (sym after.elements) (grows_joined id other e) in
-    let mine : Seen v (k.events ++ event ∷ []) = seen_more v k.events event more (k.seen id v at) in let its : Seen w (k.events ++ event ∷ []) = seen_more w k.events event more (k.seen other w at') in record {
+    let mine : Seen v (k.events ++ event ∷ []) = seen_more v k.events event more (k.seen id v at) in let its : Seen w (k.events ++ event ∷ []) = seen_more w k.events event more (k.seen other w at') in
+    let course = course_joined k.events s.views k.joiner id other v w k.are_joins k.course at at' ne in record {
       events = k.events ++ event ∷ [];
       allowed = after.allowed;
       shows = subst (λ (z : Elements). WordsShow key.first z s.words) (sym after.elements) (words_joined id other key.first e s.words k.shows);
@@ -270,7 +272,7 @@ joins key id other v w live live' idle idle' s k at ne there = let at' : get_ele
           (λ j u a b has up x low may. ap (λ (z : Elements). (thread_at z x).done) after.elements ∙ k.steady j u has up x low may)
           (λ up x low may. absurd (cc)) (λ up x low may. absurd (cc));
       newest = each_joined (λ (j : ℕ) (u : View). IsNewest u (k.events ++ event ∷ [])) s.views id other (both v w) (emptied v)
-          (λ j u a b has whole up. absurd (no_other (get_or s.words 0 0) s.views id j v u k.counted at live has a whole))
+          (λ j u a b has whole up. absurd (no_other (get_or s.words 0 0) s.views id j v u k.ends at live has a whole))
           (λ whole up. absurd (cc)) (λ whole up. absurd (cc));
       undoubled = each_joined (λ (j : ℕ) (u : View). u.doubled ≡ false) s.views id other (both v w) (emptied v) (λ j u _ _ has. k.undoubled j u has)
           (let a = k.undoubled id v at in let b = k.undoubled other w at' in
@@ -281,6 +283,8 @@ joins key id other v w live live' idle idle' s k at ne there = let at' : get_ele
       made = subst (AreMade (k.events ++ event ∷ []))
           (sym (map-set made_of (set s.views id (both v w)) other (emptied v) ∙ ap (λ (z : List (List Made)). set z other []) (map-set made_of s.views id (both v w))))
           (made_join k.events (map made_of s.views) id other v.made w.made k.made (at_map made_of s.views id v at) (at_map made_of s.views other w at') ne);
-      counted = counted_join ends_of share_of IsIdle (get_or s.words 0 0) s.views id other v w (both v w) (emptied v) k.counted at at' ne live refl refl refl refl (refl, refl, refl, refl, refl);
-      logged = logged_join splits_of joins_of log_of (get_or s.words 0 0) s.views id other v w (both v w) (emptied v) k.logged at at' ne refl refl refl refl refl refl;
+      ends = known_join member_of IsIdle (get_or s.words 0 0) s.views id other v w (both v w) (emptied v) k.ends at at' ne live refl refl (refl, refl, refl, refl, refl, tt);
+      joiner = course.0;
+      are_joins = course.1;
+      course = course.2;
     }

@@ -25,7 +25,7 @@ stays_on u v w a b = record { keeps = keeps_on u v w a.keeps b.keeps; held = b.h
 
 pub stays_found : (v w : View) (word found : ℕ) → Found v word found w → Stays v w
 stays_found v w word found f = record {
-  keeps = record { first = ap (λ (z : View). z.first) f.same; serves = ap (λ (z : View). z.serves) f.same; on = ap (λ (z : View). z.on) f.same; share = ap (λ (z : View). z.share) f.same };
+  keeps = record { first = ap (λ (z : View). z.first) f.same; serves = ap (λ (z : View). z.serves) f.same; on = ap (λ (z : View). z.on) f.same; share = ap (λ (z : View). z.member.share) f.same };
   held = ap (λ (z : View). z.held) f.same;
   made = ap (λ (z : View). z.made) f.same;
 }
@@ -64,7 +64,7 @@ deliver_stays call element v w r a = found_two v a.before w _ _ _ _ a.loaded a.m
 
 pub counts_stay : (element found : ℕ) (v w : View) → Counts element v found w → Stays v w
 counts_stay element found v w c = record {
-  keeps = record { first = ap (λ (z : View). z.first) c.same; serves = ap (λ (z : View). z.serves) c.same; on = ap (λ (z : View). z.on) c.same; share = ap (λ (z : View). z.share) c.same };
+  keeps = record { first = ap (λ (z : View). z.first) c.same; serves = ap (λ (z : View). z.serves) c.same; on = ap (λ (z : View). z.on) c.same; share = ap (λ (z : View). z.member.share) c.same };
   held = ap (λ (z : View). z.held) c.same;
   made = ap (λ (z : View). z.made) c.same;
 }
@@ -74,14 +74,14 @@ record Leads (v : View) (knows : List Event → View) : Type 0 where
   first : (before : List Event) → (knows before).first ≡ v.first
   serves : (before : List Event) → (knows before).serves ≡ v.serves
   on : (before : List Event) → (knows before).on ≡ v.on
-  share : (before : List Event) → (knows before).share ≡ v.share
+  share : (before : List Event) → (knows before).member.share ≡ v.member.share
 
 did_keeps : (call : ℕ) (v w : View) (word found : ℕ) (event : Event) (knows : List Event → View) → Leads v knows → Did call v word found event knows w → Keeps v w
 did_keeps call v w word found event knows l d = record {
   first = ap (λ (z : View). z.first) d.same ∙ l.first d.before;
   serves = ap (λ (z : View). z.serves) d.same ∙ l.serves d.before;
   on = ap (λ (z : View). z.on) d.same ∙ l.on d.before;
-  share = ap (λ (z : View). z.share) d.same ∙ l.share d.before;
+  share = ap (λ (z : View). z.member.share) d.same ∙ l.share d.before;
 }
 
 moved_keeps : (call line element : ℕ) (event : Event) (v w : View) → MovedTo call v line element event w → Keeps v w
@@ -129,4 +129,4 @@ done_keeps call element v w (Ok number) a = keeps_on v a.between w (counts_stay 
 done_keeps call element v w (Err r) a = (counts_stay element 4294967295 v w a).keeps
 
 pub wake_keeps : (call wait mask : ℕ) (v w : View) → WokeAll call v wait mask w → Keeps v w
-wake_keeps call wait mask v w a = record { first = ap (λ (z : View). z.first) a.same; serves = ap (λ (z : View). z.serves) a.same; on = ap (λ (z : View). z.on) a.same; share = ap (λ (z : View). z.share) a.same }
+wake_keeps call wait mask v w a = record { first = ap (λ (z : View). z.first) a.same; serves = ap (λ (z : View). z.serves) a.same; on = ap (λ (z : View). z.on) a.same; share = ap (λ (z : View). z.member.share) a.same }

@@ -16,6 +16,7 @@ pub mod Handing
 pub mod Seatings
 pub mod Bits
 pub mod Parkings
+pub mod Courses
 pub mod Looks
 pub mod Making
 pub mod Counting

@@ -1,31 +1,37 @@
 -- The steps that are no event keep the rule.
-use Rattle.std.proofs.Common.{◌≡◌, ◌≢◌, ℕ, zero, suc, Bool, true, false, List, [], ◌∷◌, map, length, get_or, set, Some, None, Option, option_map, sym, refl, ap, ◌∙◌, subst, ⊎_elim, arith, length-set}
+use Rattle.std.proofs.Common.{◌≡◌, ◌≢◌, ℕ, zero, suc, Bool, true, false, List, [], ◌∷◌, ◌++◌, map, length, get_or, set, Some, None, Option, option_map, sym, refl, ap, ◌∙◌, subst, ⊎_elim, arith, length-set}
 use Rattle.std.proofs.lemmas.List.{set-get_or, map-set}
 use mathlib.Core.Option.{some, none, some-injective}
 use lib.ListN.{get_elem?}
 use Rattle.atomic_table.specs.Table.{State, Me, step, keeps, Allows}
 use Rattle.atomic_table.proofs.Lists.{at_set, at_map}
 use Rattle.thread_table.specs.Makers.{AreMade, made_of}
-use Rattle.table_theory.proofs.Counting.{counted_look}
-use Rattle.table_theory.specs.Ends.{EndsLogged}
-use Rattle.table_theory.proofs.Ends.{logged_look}
-use Rattle.table_theory.specs.Sharing.{EndsCounted}
+use Rattle.table_theory.specs.Ends.{Begins}
+use Rattle.table_theory.specs.Filing.{entry_of}
+use Rattle.table_theory.specs.Members.{EndsKnown}
+use Rattle.table_theory.proofs.Courses.{course_step, looks_more}
+use Rattle.table_theory.proofs.Ends.{begins_refl}
+use Rattle.table_theory.proofs.Members.{known_look}
 use Rattle.quaject_core.specs.Elements.{Elements, hold}
 use Rattle.quaject_core.specs.declared.event.Event.{Event}
 use Rattle.thread_table.specs.declared.rule.Shape.{Shape}
 use Rattle.thread_table.specs.declared.rule.View.{View}
 use Rattle.thread_table.specs.declared.rule.Counted.{Counted}
-use Rattle.thread_table.specs.Schedules.{elements_after, Begins, Grows}
+use Rattle.thread_table.specs.Schedules.{Course, elements_after, Grows}
 use Rattle.thread_table.specs.Shown.{WordsShow}
-use Rattle.thread_table.specs.Rules.{IsSteady, IsNewest, done_at, HandIs, IsCounted, Seen, Rule, IsIdle, ends_of, share_of, splits_of, joins_of, log_of, serves}
-use Rattle.thread_table.specs.Steps.{after, Sees, Found, finds}
+use Rattle.thread_table.specs.Rules.{IsSteady, IsNewest, done_at, HandIs, IsCounted, Seen, Rule, IsIdle, member_of, steps_of, course_of, serves}
+use Rattle.thread_table.specs.Steps.{entry, looked, Sees, Found, finds}
 use Rattle.thread_table.proofs.Effects.{Ready}
 use Rattle.thread_table.proofs.Owing.{claims_kept}
-use Rattle.thread_table.proofs.Schedules.{lawful_after, begins_refl, grows_refl}
+use Rattle.thread_table.proofs.Schedules.{lawful_after, grows_refl}
 use Rattle.thread_table.proofs.Once.{done_grows}
 
 abbrev pub St : Type 0
 St = State Unit View
+
+-- all steps of all hands, and their joins, up to now
+abbrev pub steps_to : {key : Shape} {s : St} → Rule key s → Course
+steps_to k = map entry_of k.course.course
 
 -- a hand that has the same, and counts what its call may count
 pub hand_counts : (call : ℕ) (v w : View) (e : Elements) → w.held ≡ v.held → w.serves ≡ v.serves → w.on ≡ v.on → w.claimed ≡ v.claimed
@@ -87,10 +93,10 @@ made_same past views id v w at same m = subst (AreMade past)
     (sym (map-set made_of views id w ∙ (ap (set (map made_of views) id) same ∙ set_again (map made_of views) id v.made (at_map made_of views id v at)))) m
 
 -- the rule, where no event came, and a view has seen all
-pub kept : (key : Shape) (s : St) (k : Rule key s) (id : ℕ) (ws : List ℕ) (v w : View) → get_elem? s.views id ≡ some v → WordsShow key.first (elements_after k.events) ws
+pub kept : (key : Shape) (s : St) (k : Rule key s) (id i found : ℕ) (ws : List ℕ) (v w : View) → get_elem? s.views id ≡ some v → WordsShow key.first (elements_after k.events) ws
     → w.first ≡ v.first → w.schedule ≡ k.events → w.joined ≡ k.events → w.serves ≡ v.serves → w.claimed ≡ v.claimed → (w.made ≡ v.made) × (w.doubled ≡ v.doubled) → HandIs id w (elements_after k.events)
-    → EndsCounted ends_of share_of IsIdle (get_or ws 0 0) (set s.views id w) → EndsLogged splits_of joins_of log_of (get_or ws 0 0) (set s.views id w) → Rule key record { words = ws; homes = s.homes; views = set s.views id w }
-kept key s k id ws v w at shows first schedule joined serving claimed own hand counted logged = record {
+    → EndsKnown member_of IsIdle (get_or ws 0 0) (set s.views id w) → w.steps ≡ v.steps ++ entry i found k.events k.events ∷ [] → w.course ≡ steps_to k ++ entry i found k.events k.events ∷ [] → Rule key record { words = ws; homes = s.homes; views = set s.views id w }
+kept key s k id i found ws v w at shows first schedule joined serving claimed own hand ends steps course = record {
   events = k.events;
   allowed = k.allowed;
   shows = shows;
@@ -104,18 +110,20 @@ kept key s k id ws v w at shows first schedule joined serving claimed own hand c
   steady = each_set (λ j u. IsSteady u k.events) s.views id w (λ j u ne has. k.steady j u has) (λ up x low may. ap (λ (z : List Event). done_at z x) (sym schedule));
   newest = each_set (λ j u. IsNewest u k.events) s.views id w (λ j u ne has. k.newest j u has) (λ whole up. schedule);
   undoubled = each_set (λ j u. u.doubled ≡ false) s.views id w (λ j u ne has. k.undoubled j u has) (own.1 ∙ k.undoubled id v at);
-  counted = counted;
-  logged = logged;
+  ends = ends;
+  joiner = k.joiner;
+  are_joins = k.are_joins;
+  course = course_step steps_of course_of [] k.events (k.joiner ∷ s.views) (suc id) v w (entry i found k.events k.events) k.course at refl steps course;
 }
 
 -- the rule, where the words stay, and a view has one entry more and sees the schedule as it is
 pub kept_look : (key : Shape) (s : St) (k : Rule key s) (i id found : ℕ) (v : View) → get_elem? s.views id ≡ some v
-    → Rule key record { words = set s.words i (get_or s.words i 0); homes = s.homes; views = set s.views id (after v i found k.events) }
-kept_look key s k i id found v at = let w : View = after v i found k.events in let same : set s.words i (get_or s.words i 0) ≡ s.words = set-get_or s.words i 0 in
-    kept key s k id (set s.words i (get_or s.words i 0)) v w at (subst (WordsShow key.first (elements_after k.events)) (sym same) k.shows) refl refl refl refl refl (refl, refl)
+    → Rule key record { words = set s.words i (get_or s.words i 0); homes = s.homes; views = set s.views id (looked v i found (steps_to k) k.events) }
+kept_look key s k i id found v at = let w : View = looked v i found (steps_to k) k.events in let same : set s.words i (get_or s.words i 0) ≡ s.words = set-get_or s.words i 0 in
+    kept key s k id i found (set s.words i (get_or s.words i 0)) v w at (subst (WordsShow key.first (elements_after k.events)) (sym same) k.shows) refl refl refl refl refl (refl, refl)
     (hand_quiet id v w (elements_after k.events) refl refl refl refl refl (k.hands id v at))
-    (subst (λ (n : ℕ). EndsCounted ends_of share_of IsIdle n (set s.views id w)) (ap (λ (z : List ℕ). get_or z 0 0) (sym same)) (counted_look ends_of share_of IsIdle (get_or s.words 0 0) s.views id v w k.counted at refl refl (λ _ h. h)))
-    (subst (λ (n : ℕ). EndsLogged splits_of joins_of log_of n (set s.views id w)) (ap (λ (z : List ℕ). get_or z 0 0) (sym same)) (logged_look splits_of joins_of log_of (get_or s.words 0 0) s.views id v w k.logged at refl refl refl))
+    (subst (λ (n : ℕ). EndsKnown member_of IsIdle n (set s.views id w)) (ap (λ (z : List ℕ). get_or z 0 0) (sym same)) (known_look member_of IsIdle (get_or s.words 0 0) s.views id v w k.ends at refl (λ _ h. (h.0, h.1, h.2, h.3, h.4, looks_more v.steps (entry i found k.events k.events) h.5 refl))))
+    refl refl
 
 -- what the rule tells a hand at one of its steps
 unfoldable pub sees_of : (key : Shape) (s : St) (k : Rule key s) (id : ℕ) (v : View) → get_elem? s.views id ≡ some v → Sees v k.events
@@ -138,8 +146,8 @@ sees_words key s k id v at = refl
 pub ready_of : (key : Shape) (s : St) (k : Rule key s) (id : ℕ) (v : View) → get_elem? s.views id ≡ some v → Ready id v key.first (elements_after k.events) s.words
 ready_of key s k id v at = record { lawful = lawful_after k.events k.allowed; hand = k.hands id v at; shows = k.shows }
 
-pub found_now : (key : Shape) (s : St) (k : Rule key s) (i id : ℕ) (v : View) → get_elem? s.views id ≡ some v → Found v i (get_or s.words i 0) (after v i (get_or s.words i 0) k.events)
-found_now key s k i id v at = record { same = refl; sees = sees_of key s k id v at; is = ap (λ (z : List ℕ). get_or z i 0) (sym (sees_words key s k id v at)) }
+pub found_now : (key : Shape) (s : St) (k : Rule key s) (i id : ℕ) (v : View) → get_elem? s.views id ≡ some v → Found v i (get_or s.words i 0) (looked v i (get_or s.words i 0) (steps_to k) k.events)
+found_now key s k i id v at = record { past = steps_to k; follows = k.course.seen (suc id) v at; same = refl; sees = sees_of key s k id v at; is = ap (λ (z : List ℕ). get_or z i 0) (sym (sees_words key s k id v at)) }
 
 pub looks : (key : Shape) (n id : ℕ) (me : Me Unit View) (i : ℕ) → Allows (Rule key) n id me i (λ x. x) (finds (step n i 0 0 none) me)
-looks key n id me i s k _ at _ = let found : ℕ = get_or s.words i 0 in (after me.0 i found k.events, keeps, tt, kept_look key s k i id found me.0 at, (refl, found_now key s k i id me.0 at))
+looks key n id me i s k _ at _ = let found : ℕ = get_or s.words i 0 in (looked me.0 i found (steps_to k) k.events, keeps, tt, kept_look key s k i id found me.0 at, (refl, found_now key s k i id me.0 at))

@@ -1,9 +1,9 @@
 -- A step that is an event keeps the rule.
-use Rattle.std.proofs.Common.{◌≡◌, ◌≢◌, ℕ, ◌<◌, ◌≤◌, Bool, true, false, ◌||◌, List, [], ◌∷◌, ◌++◌, map, length, get_or, set, Result, Ok, sym, refl, ap, ◌∙◌, subst, arith, length-set, get_or-set_other}
+use Rattle.std.proofs.Common.{◌≡◌, ◌≢◌, ℕ, suc, ◌<◌, ◌≤◌, Bool, true, false, ◌||◌, List, [], ◌∷◌, ◌++◌, map, length, get_or, set, Result, Ok, sym, refl, ap, ◌∙◌, subst, arith, length-set, get_or-set_other}
 use Rattle.std.specs.List.{list_any}
 use mathlib.Core.Option.{some}
 use lib.ListN.{get_elem?}
-use Rattle.table_theory.specs.Sharing.{EndsCounted}
+use Rattle.table_theory.specs.Members.{EndsKnown}
 use Rattle.quaject_core.specs.Elements.{Elements, holds, is_put}
 use Rattle.quaject_core.specs.Lawful.{IsLawfulElements}
 use Rattle.quaject_core.specs.Results.{◌>>=◌}
@@ -11,17 +11,17 @@ use Rattle.quaject_core.specs.States.{State, effect, in_elements, counted, step}
 use Rattle.quaject_core.specs.declared.event.Event.{Event}
 use Rattle.quaject_core.specs.declared.refusal.Refusal.{Refusal}
 use Rattle.table_theory.specs.Sharing.{IsWhole}
-use Rattle.table_theory.proofs.Counting.{counted_look}
-use Rattle.table_theory.specs.Ends.{EndsLogged}
-use Rattle.table_theory.proofs.Ends.{logged_look}
+use Rattle.table_theory.proofs.Courses.{course_step}
+use Rattle.table_theory.proofs.Ends.{begins_on}
+use Rattle.table_theory.proofs.Members.{known_look}
 use Rattle.table_theory.proofs.Totals.{two_of}
 use Rattle.table_theory.proofs.Owned.{at_below}
 use Rattle.thread_table.specs.declared.rule.Shape.{Shape}
 use Rattle.thread_table.specs.declared.rule.View.{View}
-use Rattle.thread_table.specs.Schedules.{state_after, elements_after, Grows, thread_at}
+use Rattle.thread_table.specs.Schedules.{Course, state_after, elements_after, Grows, thread_at}
 use Rattle.thread_table.specs.Shown.{WordsShow}
-use Rattle.thread_table.specs.Rules.{IsSteady, IsNewest, HandIs, Seen, Rule, IsIdle, ends_of, share_of, splits_of, joins_of, log_of, may_step, serves}
-use Rattle.thread_table.specs.Steps.{made_by, Did}
+use Rattle.thread_table.specs.Rules.{IsSteady, IsNewest, HandIs, Seen, Rule, IsIdle, member_of, steps_of, course_of, may_step, serves}
+use Rattle.thread_table.specs.Steps.{entry, made_by, Did}
 use Rattle.thread_table.specs.declared.rule.Made.{Made}
 use Rattle.thread_table.specs.Makers.{AreMade, made_of, made_in, is_join}
 use Rattle.thread_table.proofs.Filings.{made_push}
@@ -30,8 +30,8 @@ use Rattle.std.proofs.lemmas.List.{map-set}
 use Rattle.atomic_table.proofs.Lists.{at_map}
 use Rattle.thread_table.proofs.Effects.{Leaves, Effect}
 use Rattle.thread_table.proofs.Owing.{Owes, claims_set}
-use Rattle.thread_table.proofs.Looks.{St, hand_quiet, seen_all, each_set, sole_set, sees_of, sees_words}
-use Rattle.thread_table.proofs.Schedules.{after_more, elements_after_more, elements_of, lawful_after, begins_more, grows_trans}
+use Rattle.thread_table.proofs.Looks.{St, steps_to, hand_quiet, seen_all, each_set, sole_set, sees_of, sees_words}
+use Rattle.thread_table.proofs.Schedules.{after_more, elements_after_more, elements_of, lawful_after, grows_trans}
 
 -- an element whose step a call may count is no other call's
 abbrev pub OthersCount : Type 0
@@ -40,8 +40,8 @@ OthersCount = (id call element : ℕ) (e : Elements) → IsLawfulElements e → 
 -- what was seen is still earlier after one event more
 pub seen_more : (u : View) (events : List Event) (event : Event) → Seen u events → Grows (elements_after events) (elements_after (events ++ event ∷ [])) → Seen u (events ++ event ∷ [])
 seen_more u events event s grows = record {
-  schedule = begins_more u.schedule events event s.schedule;
-  joined = begins_more u.joined events event s.joined;
+  schedule = begins_on u.schedule events event s.schedule;
+  joined = begins_on u.joined events event s.joined;
   grows = grows_trans (elements_after u.schedule) (elements_after events) (elements_after (events ++ event ∷ [])) s.grows grows;
 }
 
@@ -77,18 +77,17 @@ steps events event change f is goes = let s : State = state_after events in let 
     ap (λ (z : Result State Refusal). z >>= λ next. Ok (counted next)) (is s ∙ ap (λ (z : Result Elements Refusal). z >>= λ elements. Ok (record s { elements = elements })) goes')
 
 -- beside a hand that stands none has the whole
-pub no_other : (n : ℕ) (views : List View) (id j : ℕ) (v u : View) → EndsCounted ends_of share_of IsIdle n views → get_elem? views id ≡ some v → 1 ≤ v.ends → get_elem? views j ≡ some u → j ≢ id → IsWhole u.share → ⊥
-no_other n views id j v u c at live has ne whole = let t = two_of share_of views j id u v has at ne in let s = c.shared in let w = c.within id v at in omega arith
+pub no_other : (n : ℕ) (views : List View) (id j : ℕ) (v u : View) → EndsKnown member_of IsIdle n views → get_elem? views id ≡ some v → 1 ≤ v.member.ends → get_elem? views j ≡ some u → j ≢ id → IsWhole u.member.share → ⊥
+no_other n views id j v u k at live has ne whole = let t = two_of (λ (z : View). z.member.share) views j id u v has at ne in let s = k.counted.shared in let w = k.counted.within id v at in omega arith
 
-pub made : OthersCount → (key : Shape) (s : St) (k : Rule key s) (id : ℕ) (v : View) (event : Event) (change : Elements → Result Elements Refusal) (knows : List Event → View) (i y found : ℕ) → get_elem? s.views id ≡ some v → 1 ≤ v.ends → 0 < i
-    → ((t : State) → effect event t ≡ in_elements change t) → (knows k.events).first ≡ v.first → (knows k.events).serves ≡ v.serves → (knows k.events).ends ≡ v.ends → (knows k.events).share ≡ v.share
-    → (is_join event ≡ false) × ((knows k.events).made ≡ v.made) × ((knows k.events).doubled ≡ v.doubled)
-    × ((knows k.events).splits ≡ v.splits) × ((knows k.events).joins ≡ v.joins) × ((knows k.events).log ≡ v.log)
+pub made : OthersCount → (key : Shape) (s : St) (k : Rule key s) (id : ℕ) (v : View) (event : Event) (change : Elements → Result Elements Refusal) (knows : List Event → View) (i y found : ℕ) → get_elem? s.views id ≡ some v → 1 ≤ v.member.ends → 0 < i
+    → ((t : State) → effect event t ≡ in_elements change t) → (knows k.events).first ≡ v.first → (knows k.events).serves ≡ v.serves → (knows k.events).member ≡ v.member
+    → (is_join event ≡ false) × ((knows k.events).made ≡ v.made) × ((knows k.events).doubled ≡ v.doubled) × ((knows k.events).steps ≡ v.steps)
     → Effect id v (knows k.events) key.first change (elements_after k.events) (set s.words i y)
-    → Rule key record { words = set s.words i y; homes = s.homes; views = set s.views id (made_by (knows k.events) i found k.events event) }
-    × ((did : Did id v i found event knows (made_by (knows k.events) i found k.events event)) × (did.before ≡ k.events) × (did.sees.words ≡ s.words))
-made others key s k id v event change knows i y found at live past is first serving ends share own effect =
-    let old : List Event = k.events in let new : List Event = old ++ event ∷ [] in let e : Elements = elements_after old in let f : Elements = effect.f in let w : View = made_by (knows old) i found old event in
+    → Rule key record { words = set s.words i y; homes = s.homes; views = set s.views id (made_by (knows k.events) i found (steps_to k) k.events event) }
+    × ((did : Did id v i found event knows (made_by (knows k.events) i found (steps_to k) k.events event)) × (did.before ≡ k.events) × (did.sees.words ≡ s.words))
+made others key s k id v event change knows i y found at live past is first serving member own effect =
+    let old : List Event = k.events in let new : List Event = old ++ event ∷ [] in let e : Elements = elements_after old in let f : Elements = effect.f in let w : View = made_by (knows old) i found (steps_to k) old event in
     let ok = steps old event change f is effect.goes in let more = after_more old event (counted (record (state_after old) { elements = f })) k.allowed ok in
     let same : elements_after new ≡ f = elements_after_more old event (counted (record (state_after old) { elements = f })) f refl more.0 in
     let leaves : Leaves id v e (elements_after new) = subst (Leaves id v e) (sym same) effect.leaves in
@@ -111,13 +110,17 @@ made others key s k id v event change knows i y found at live past is first serv
             (λ up x low may. refl);
         made = subst (AreMade new) (sym (map-set made_of s.views id w ∙ ap (λ (z : List Made). set (map made_of s.views) id (z ++ made_in event (state_after old) ∷ [])) own.1))
             (made_push old (map made_of s.views) id v.made event own.0 k.made (at_map made_of s.views id v at));
-        newest = each_set (λ j u. IsNewest u new) s.views id w (λ j u ne has whole up. absurd (no_other (get_or s.words 0 0) s.views id j v u k.counted at live has ne whole)) (λ whole up. refl);
+        newest = each_set (λ j u. IsNewest u new) s.views id w (λ j u ne has whole up. absurd (no_other (get_or s.words 0 0) s.views id j v u k.ends at live has ne whole)) (λ whole up. refl);
         undoubled = each_set (λ j u. u.doubled ≡ false) s.views id w (λ j u ne has. k.undoubled j u has) (own.2 ∙ k.undoubled id v at);
-        counted = subst (λ (c : ℕ). EndsCounted ends_of share_of IsIdle c (set s.views id w)) (sym (get_or-set_other s.words i 0 y 0 (λ z. omega arith))) (counted_look ends_of share_of IsIdle (get_or s.words 0 0) s.views id v w k.counted at ends share (λ none. absurd (omega arith)));
-        logged = subst (λ (c : ℕ). EndsLogged splits_of joins_of log_of c (set s.views id w)) (sym (get_or-set_other s.words i 0 y 0 (λ z. omega arith))) (logged_look splits_of joins_of log_of (get_or s.words 0 0) s.views id v w k.logged at own.3 own.4 own.5);
+        ends = subst (λ (c : ℕ). EndsKnown member_of IsIdle c (set s.views id w)) (sym (get_or-set_other s.words i 0 y 0 (λ z. omega arith))) (known_look member_of IsIdle (get_or s.words 0 0) s.views id v w k.ends at member (λ none. absurd (omega arith)));
+        joiner = k.joiner;
+        are_joins = k.are_joins;
+        course = course_step steps_of course_of [] old (k.joiner ∷ s.views) (suc id) v w (entry i found old new) k.course at refl (ap (λ (z : Course). z ++ entry i found old new ∷ []) own.3) refl;
       },
       (
         record {
+          past = steps_to k;
+          follows = k.course.seen (suc id) v at;
           before = old;
           sees = sees_of key s k id v at;
           hand = k.hands id v at;

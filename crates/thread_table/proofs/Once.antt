@@ -9,10 +9,11 @@ use mathlib.Core.Logic.{dite}
 use native.Mathlib.Decide.{dec_lt}
 use lib.ListN.{get_elem?}
 use Rattle.atomic_table.proofs.Lists.{at_map}
-use Rattle.quaject_core.proofs.AccountLaws.{account_law}
+use Rattle.quaject_core.proofs.Keeping.Accounts.{account_law}
 use Rattle.quaject_core.specs.Accounts.{moves, done_in, done_of, is_done, done_numbers, IsAccounted}
 use Rattle.quaject_core.specs.Elements.{Thread, new_thread}
-use Rattle.table_theory.specs.Filing.{Owned}
+use Rattle.table_theory.specs.Ends.{Begins}
+use Rattle.table_theory.specs.Filing.{Owned, entry_of}
 use Rattle.quaject_core.specs.States.{State, step, first_state}
 use Rattle.quaject_core.specs.declared.event.Event.{Event}
 use Rattle.quaject_core.specs.declared.event.Event.TheVariants as events
@@ -26,8 +27,8 @@ use Rattle.thread_table.proofs.Schedules.{elements_of, allowed_before}
 use Rattle.thread_table.proofs.Filings.{behind, by_join}
 use Rattle.table_theory.proofs.Owned.{at_map_back}
 use Rattle.thread_table.specs.declared.rule.Made.{Made}
-use Rattle.thread_table.specs.Schedules.{after, Begins, begun, state_after, elements_after, IsAllowed, thread_at}
-use Rattle.thread_table.specs.Makers.{is_join, number_of, made_in, numbered, entry_of, AreMade, StepsOnce}
+use Rattle.thread_table.specs.Schedules.{after, begun, state_after, elements_after, IsAllowed, thread_at}
+use Rattle.thread_table.specs.Makers.{is_join, number_of, made_in, numbered, AreMade, StepsOnce}
 
 module _ {A : Type 0} where
   -- what passes stands in the list of what passes

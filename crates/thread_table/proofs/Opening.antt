@@ -7,24 +7,24 @@ use Rattle.std.specs.List.{range_with_len}
 use mathlib.Core.Option.{some, some-injective, some-ne-none}
 use lib.ListN.{get_elem?}
 use Rattle.atomic_table.specs.Table.{opening}
-use Rattle.table_theory.specs.Sharing.{EndsCounted}
+use Rattle.table_theory.specs.Members.{EndsKnown}
 use Rattle.quaject_core.specs.Elements.{Elements, Thread, new_thread, first_elements, hold, holds}
 use Rattle.quaject_core.specs.Queues.{Queue, empty_queue, full_queue}
 use Rattle.quaject_core.specs.Runs.{Run}
 use Rattle.quaject_core.specs.States.{State}
 use Rattle.quaject_core.specs.declared.hold.Hold.{Hold}
-use Rattle.table_theory.proofs.Counting.{counted_first}
-use Rattle.table_theory.specs.Ends.{EndsLogged}
-use Rattle.table_theory.proofs.Ends.{logged_first}
+use Rattle.table_theory.proofs.Ends.{begins_refl}
+use Rattle.table_theory.proofs.Members.{known_first}
 use Rattle.thread_table.specs.declared.rule.Shape.{Shape}
 use Rattle.thread_table.specs.declared.rule.View.{View}
 use Rattle.thread_table.specs.Schedules.{elements_after, line_at, thread_at, element_at, element_of, no_run}
 use Rattle.thread_table.specs.Shown.{WordsShow, LineShows, StateShows, head_word, tail_word, place_word, seat_shown, mark_of}
-use Rattle.thread_table.specs.Rules.{IsSteady, IsNewest, Rule, HandIs, Seen, IsOpen, newcomer, ends_of, share_of, splits_of, joins_of, log_of, IsIdle}
+use Rattle.thread_table.specs.Rules.{IsSteady, IsNewest, Rule, HandIs, Seen, IsOpen, newcomer, member_of, IsIdle}
 use Rattle.thread_table.proofs.Owing.{AllOwned}
+use Rattle.thread_table.proofs.Courses.{no_joins, course_opened}
 use Rattle.thread_table.proofs.Filings.{made_first}
 use Rattle.thread_table.proofs.Copies.{length-copies, get_or-copies, slice_get-copies_by}
-use Rattle.thread_table.proofs.Schedules.{after_none, elements_of, begins_refl, grows_refl}
+use Rattle.thread_table.proofs.Schedules.{after_none, elements_of, grows_refl}
 
 -- an element queue that is empty, and whose words are as they were made
 empty_shows : (first line : ℕ) (e : Elements) (words : List ℕ) → line_at e line ≡ empty_queue 64 → mark_of e line ≡ 0 → first + 64 < 4294967296 → get_or words (head_word line) 0 ≡ first → get_or words (tail_word line) 0 ≡ first
@@ -175,6 +175,8 @@ opens key words fits long ends none unstepped head tail items zeros = let w : Vi
   made = made_first;
   newest = only (λ (j : ℕ) (u : View). IsNewest u []) w (λ whole up. refl);
   undoubled = only (λ (j : ℕ) (u : View). u.doubled ≡ false) w refl;
-  counted = subst (λ (c : ℕ). EndsCounted ends_of share_of IsIdle c (w ∷ [])) (sym ends) (counted_first ends_of share_of IsIdle w refl refl);
-  logged = subst (λ (c : ℕ). EndsLogged splits_of joins_of log_of c (w ∷ [])) (sym ends) (logged_first splits_of joins_of log_of w refl refl refl);
+  ends = subst (λ (c : ℕ). EndsKnown member_of IsIdle c (w ∷ [])) (sym ends) (known_first member_of IsIdle w refl);
+  joiner = w;
+  are_joins = no_joins;
+  course = course_opened w refl refl;
 }

@@ -18,18 +18,18 @@ use Rattle.quaject_core.specs.States.{State, effect, in_elements}
 use Rattle.quaject_core.specs.declared.event.Event.{Event}
 use Rattle.quaject_core.specs.declared.event.Event.TheVariants as events
 use Rattle.quaject_core.specs.declared.refusal.Refusal.{Refusal}
-use Rattle.quaject_core.proofs.ElementLaws.{every_at}
-use Rattle.quaject_core.proofs.Places.{one, sum_changed, in_joined}
+use Rattle.quaject_core.proofs.Keeping.Elements.{every_at}
+use Rattle.quaject_core.proofs.Keeping.Places.{one, sum_changed, in_joined}
 use Rattle.thread_table.specs.declared.rule.Shape.{Shape}
 use Rattle.thread_table.specs.declared.rule.View.{View}
 use Rattle.thread_table.specs.Schedules.{elements_after, line_at, element_at, line_name}
 use Rattle.thread_table.specs.Shown.{LineShows, PlaceShows, head_word, tail_word, place_word, head_shown, tail_shown, mark_of}
 use Rattle.thread_table.specs.Rules.{Rule, has}
 use Rattle.thread_table.specs.Views.{quiet, with_held, with_claim, with_raise, claim_of}
-use Rattle.thread_table.specs.Steps.{after, made_by, Sees, Found, Did, claim_event, claims, claims_at, raises, takes, notifies}
+use Rattle.thread_table.specs.Steps.{looked, made_by, Sees, Found, Did, claim_event, claims, claims_at, raises, takes, notifies}
 use Rattle.thread_table.specs.Reads.{Peeked}
 use Rattle.thread_table.proofs.Effects.{Effect}
-use Rattle.thread_table.proofs.Looks.{St, kept_look, found_now, ready_of}
+use Rattle.thread_table.proofs.Looks.{St, steps_to, kept_look, found_now, ready_of}
 use Rattle.thread_table.proofs.Making.{made}
 use Rattle.thread_table.specs.Makers.{is_join}
 use Rattle.thread_table.proofs.SingleRuns.{within_room, taken_raised, first_of_left}
@@ -45,16 +45,15 @@ Goes key s i id me then y = (w : View) × (a : Act Unit) × Valid s.homes me.1 a
 
 -- a step that is an event
 pub goes_by : (key : Shape) (s : St) (k : Rule key s) (id : ℕ) (me : Me Unit View) (event : Event) (change : Elements → Result Elements Refusal) (knows : List Event → View) (i y found : ℕ) (then : Me Unit View → Type 0)
-    → get_elem? s.views id ≡ some me.0 → 1 ≤ me.0.ends → 0 < i → ((t : State) → effect event t ≡ in_elements change t)
-    → (knows k.events).first ≡ me.0.first → (knows k.events).serves ≡ me.0.serves → (knows k.events).ends ≡ me.0.ends → (knows k.events).share ≡ me.0.share
-    → (is_join event ≡ false) × ((knows k.events).made ≡ me.0.made) × ((knows k.events).doubled ≡ me.0.doubled)
-    × ((knows k.events).splits ≡ me.0.splits) × ((knows k.events).joins ≡ me.0.joins) × ((knows k.events).log ≡ me.0.log)
+    → get_elem? s.views id ≡ some me.0 → 1 ≤ me.0.member.ends → 0 < i → ((t : State) → effect event t ≡ in_elements change t)
+    → (knows k.events).first ≡ me.0.first → (knows k.events).serves ≡ me.0.serves → (knows k.events).member ≡ me.0.member
+    → (is_join event ≡ false) × ((knows k.events).made ≡ me.0.made) × ((knows k.events).doubled ≡ me.0.doubled) × ((knows k.events).steps ≡ me.0.steps)
     → Effect id me.0 (knows k.events) key.first change (elements_after k.events) (set s.words i y)
-    → ((did : Did id me.0 i found event knows (made_by (knows k.events) i found k.events event)) → did.before ≡ k.events → did.sees.words ≡ s.words → then (made_by (knows k.events) i found k.events event, me.1))
+    → ((did : Did id me.0 i found event knows (made_by (knows k.events) i found (steps_to k) k.events event)) → did.before ≡ k.events → did.sees.words ≡ s.words → then (made_by (knows k.events) i found (steps_to k) k.events event, me.1))
     → Goes key s i id me then y
-goes_by key s k id me event change knows i y found then at live past is first serving ends share own effect tells =
-    let m = made others_count key s k id me.0 event change knows i y found at live past is first serving ends share own effect in
-    (made_by (knows k.events) i found k.events event, keeps, tt, m.0, tells m.1.0 m.1.1 m.1.2)
+goes_by key s k id me event change knows i y found then at live past is first serving member own effect tells =
+    let m = made others_count key s k id me.0 event change knows i y found at live past is first serving member own effect in
+    (made_by (knows k.events) i found (steps_to k) k.events event, keeps, tt, m.0, tells m.1.0 m.1.1 m.1.2)
 
 -- the words of the queues at the schedule before an event
 head_before : (word first line : ℕ) (k : List Event) (v : View) (before : List Event) → v.first ≡ first → before ≡ k → word ≡ head_shown first (elements_after k) line → word ≡ head_shown v.first (elements_after before) line
@@ -85,7 +84,7 @@ as_deed P call id at line item element place word mine there this here p =
     subst (λ (z : ℕ). P z at item place) (sym mine) (subst (λ (z : ℕ). P id z item place) (sym there) (subst (λ (z : ℕ). P id line z place) (sym this) (subst (P id line element) (sym here) p)))
 
 -- the exchange of a head
-claim_line_goes : (key : Shape) (n id line element : ℕ) (me : Me Unit View) (old new : ℕ) → line < 18 → element < 64 → has me.0 element ≡ true → 1 ≤ me.0.ends → me.0.claimed ≡ None → new ≡ old + 1 → old % 4294967296 + 1 < 4294967296
+claim_line_goes : (key : Shape) (n id line element : ℕ) (me : Me Unit View) (old new : ℕ) → line < 18 → element < 64 → has me.0 element ≡ true → 1 ≤ me.0.member.ends → me.0.claimed ≡ None → new ≡ old + 1 → old % 4294967296 + 1 < 4294967296
     → Allows (Rule key) n id me (head_word line) (λ x. either (eqb x old) new x) (claims id line element (step n (head_word line) old new none) me)
 claim_line_goes key n id line element me old new below known held live none_yet next fits s k _ at _ =
     let v : View = me.0 in let e : Elements = elements_after k.events in let i : ℕ = head_word line in let y : ℕ = get_or s.words i 0 in
@@ -96,19 +95,19 @@ claim_line_goes key n id line element me old new below known held live none_yet 
     let change : Elements → Result Elements Refusal = claim_element line id (element ∷ []) in
     let f : Effect id v (knows k.events) key.first change e (set s.words i new) = subst (λ (z : ℕ). Effect id v (knows k.events) key.first change e (set s.words i z)) more
     (claim_effect id v key.first e s.words line element (ready_of key s k id v at) none_yet below known held (omega arith)) in
-    goes_by key s k id me (claim_event id line element) change knows i new old (claims id line element (step n i old new none) me y) at live (omega arith) (claim_is line id element) refl refl refl refl (refl, refl, refl, refl, refl, refl) f
+    goes_by key s k id me (claim_event id line element) change knows i new old (claims id line element (step n i old new none) me y) at live (omega arith) (claim_is line id element) refl refl refl (refl, refl, refl, refl) f
     (λ did before words. (refl, (λ _. record { did = did; head_is = head_before old key.first line k.events v did.before (k.first id v at) before head }), λ miss. absurd (miss hit))))
-    (λ miss. (after v i y k.events, keeps, tt, kept_look key s k i id y v at, (refl, (λ hit. absurd (miss hit)), λ _. found_now key s k i id v at)))
+    (λ miss. (looked v i y (steps_to k) k.events, keeps, tt, kept_look key s k i id y v at, (refl, (λ hit. absurd (miss hit)), λ _. found_now key s k i id v at)))
 
 pub claims_head : (key : Shape) (n id line element : ℕ) (me : Me Unit View) (old new call at item place : ℕ) → call ≡ id → at ≡ line → item ≡ element → place ≡ head_word line
-    → line < 18 → element < 64 → has me.0 element ≡ true → 1 ≤ me.0.ends → me.0.claimed ≡ None → new ≡ old + 1 → old % 4294967296 + 1 < 4294967296
+    → line < 18 → element < 64 → has me.0 element ≡ true → 1 ≤ me.0.member.ends → me.0.claimed ≡ None → new ≡ old + 1 → old % 4294967296 + 1 < 4294967296
     → Allows (Rule key) n id me place (λ x. either (eqb x old) new x) (claims call at item (step n place old new none) me)
 claims_head key n id line element me old new call at item place mine there this here below known held live none_yet next fits =
     as_deed (λ c l x w. Allows (Rule key) n id me w (λ y. either (eqb y old) new y) (claims c l x (step n w old new none) me)) call id at line item element place (head_word line) mine there this here
     (claim_line_goes key n id line element me old new below known held live none_yet next fits)
 
 -- the exchange of a wait queue's head for a wait with a ticket
-wait_line_goes : (key : Shape) (n id wait element ticket : ℕ) (me : Me Unit View) (old new : ℕ) → wait < 16 → element < 64 → has me.0 element ≡ true → 1 ≤ me.0.ends → me.0.claimed ≡ None → new ≡ old + 1 → old % 4294967296 + 1 < 4294967296 → old / 4294967296 ≡ ticket
+wait_line_goes : (key : Shape) (n id wait element ticket : ℕ) (me : Me Unit View) (old new : ℕ) → wait < 16 → element < 64 → has me.0 element ≡ true → 1 ≤ me.0.member.ends → me.0.claimed ≡ None → new ≡ old + 1 → old % 4294967296 + 1 < 4294967296 → old / 4294967296 ≡ ticket
     → Allows (Rule key) n id me (head_word (wait + 2)) (λ x. either (eqb x old) new x) (claims_at id wait element ticket (step n (head_word (wait + 2)) old new none) me)
 wait_line_goes key n id wait element ticket me old new below known held live none_yet next fits is_ticket s k _ at _ =
     let v : View = me.0 in let e : Elements = elements_after k.events in let line : ℕ = wait + 2 in let i : ℕ = head_word line in let y : ℕ = get_or s.words i 0 in
@@ -120,12 +119,12 @@ wait_line_goes key n id wait element ticket me old new below known held live non
     let mark : mark_of e line ≡ ticket = omega arith in
     let f : Effect id v (knows k.events) key.first change e (set s.words i new) = subst (λ (z : ℕ). Effect id v (knows k.events) key.first change e (set s.words i z)) more
     (wait_at_effect id v key.first e s.words wait element ticket (ready_of key s k id v at) none_yet below known held (omega arith) mark) in
-    goes_by key s k id me (events.WaitAt id wait element ticket) change knows i new old (claims_at id wait element ticket (step n i old new none) me y) at live (omega arith) (λ t. refl) refl refl refl refl (refl, refl, refl, refl, refl, refl) f
+    goes_by key s k id me (events.WaitAt id wait element ticket) change knows i new old (claims_at id wait element ticket (step n i old new none) me y) at live (omega arith) (λ t. refl) refl refl refl (refl, refl, refl, refl) f
     (λ did before words. (refl, (λ _. record { did = did; head_is = head_before old key.first line k.events v did.before (k.first id v at) before head }), λ miss. absurd (miss hit))))
-    (λ miss. (after v i y k.events, keeps, tt, kept_look key s k i id y v at, (refl, (λ hit. absurd (miss hit)), λ _. found_now key s k i id v at)))
+    (λ miss. (looked v i y (steps_to k) k.events, keeps, tt, kept_look key s k i id y v at, (refl, (λ hit. absurd (miss hit)), λ _. found_now key s k i id v at)))
 
 pub claims_head_at : (key : Shape) (n id wait element ticket : ℕ) (me : Me Unit View) (old new call at item number place : ℕ) → call ≡ id → at ≡ wait → item ≡ element → number ≡ ticket → place ≡ head_word (wait + 2)
-    → wait < 16 → element < 64 → has me.0 element ≡ true → 1 ≤ me.0.ends → me.0.claimed ≡ None → new ≡ old + 1 → old % 4294967296 + 1 < 4294967296 → old / 4294967296 ≡ ticket
+    → wait < 16 → element < 64 → has me.0 element ≡ true → 1 ≤ me.0.member.ends → me.0.claimed ≡ None → new ≡ old + 1 → old % 4294967296 + 1 < 4294967296 → old / 4294967296 ≡ ticket
     → Allows (Rule key) n id me place (λ x. either (eqb x old) new x) (claims_at call at item number (step n place old new none) me)
 claims_head_at key n id wait element ticket me old new call at item number place mine there this same here below known held live none_yet next fits is_ticket =
     as_deed (λ c l x w. Allows (Rule key) n id me w (λ y. either (eqb y old) new y) (claims_at c l x number (step n w old new none) me)) call id at wait item element place (head_word (wait + 2)) mine there this here
@@ -138,7 +137,7 @@ raised_at line run element position new v w event id i place is at did = subst (
     (subst (λ (z : ℕ). Did id v (place_word line position) z event (λ before. with_raise v) w) is (subst (λ (z : ℕ). Did id v z new event (λ before. with_raise v) w) at did))
 
 -- the write of the place that the hand had claimed
-raise_line_goes : (key : Shape) (n id line run element : ℕ) (me : Me Unit View) (position new : ℕ) → 1 ≤ me.0.ends → me.0.claimed ≡ Some (claim_of line run element)
+raise_line_goes : (key : Shape) (n id line run element : ℕ) (me : Me Unit View) (position new : ℕ) → 1 ≤ me.0.member.ends → me.0.claimed ≡ Some (claim_of line run element)
     → position ≡ me.0.first + run → new ≡ element + 256 * (position + 1)
     → Allows (Rule key) n id me (place_word line position) (λ x. new) (raises id line run element (step n (place_word line position) new 0 none) me)
 raise_line_goes key n id line run element me position new live claimed place is s k _ at _ =
@@ -147,18 +146,18 @@ raise_line_goes key n id line run element me position new live claimed place is 
     let change : Elements → Result Elements Refusal = raise_element line id run 0 in
     let f : Effect id v (with_raise v) key.first change e (set s.words i new) = subst (λ (z : ℕ). Effect id v (with_raise v) key.first change e (set s.words i z)) (sym is)
     (subst (λ (p : ℕ). Effect id v (with_raise v) key.first change e (set s.words (place_word line p) (element + 256 * (p + 1)))) spot (raise_effect id v key.first e s.words line run element (ready_of key s k id v at) claimed)) in
-    goes_by key s k id me (events.Raise id (line_name line) run 0) change (λ before. with_raise v) i new new (raises id line run element (step n i new 0 none) me y) at live (omega arith) (raise_is line id run) refl refl refl refl (refl, refl, refl, refl, refl, refl) f
+    goes_by key s k id me (events.Raise id (line_name line) run 0) change (λ before. with_raise v) i new new (raises id line run element (step n i new 0 none) me y) at live (omega arith) (raise_is line id run) refl refl refl (refl, refl, refl, refl) f
     (λ did before words. (refl, raised_at line run element position new v _ _ _ i place is refl did))
 
 pub raises_place : (key : Shape) (n id line run element : ℕ) (me : Me Unit View) (position new call place : ℕ) → call ≡ id → place ≡ place_word line position
-    → 1 ≤ me.0.ends → me.0.claimed ≡ Some (claim_of line run element) → position ≡ me.0.first + run → new ≡ element + 256 * (position + 1)
+    → 1 ≤ me.0.member.ends → me.0.claimed ≡ Some (claim_of line run element) → position ≡ me.0.first + run → new ≡ element + 256 * (position + 1)
     → Allows (Rule key) n id me place (λ x. new) (raises call line run element (step n place new 0 none) me)
 raises_place key n id line run element me position new call place mine here live claimed spot is =
     as_deed (λ c l x w. Allows (Rule key) n id me w (λ y. new) (raises c l run x (step n w new 0 none) me)) call id line line element element place (place_word line position) mine refl refl here
     (raise_line_goes key n id line run element me position new live claimed spot is)
 
 -- the exchange of a tail at which the place was raised
-take_line_goes : (key : Shape) (n id line : ℕ) (me : Me Unit View) (old new run : ℕ) → line < 18 → 1 ≤ me.0.ends → me.0.claimed ≡ None → new ≡ old + 1 → old ≡ me.0.first + run → (line_at (elements_after me.0.schedule) line).raised run 0 ≡ true
+take_line_goes : (key : Shape) (n id line : ℕ) (me : Me Unit View) (old new run : ℕ) → line < 18 → 1 ≤ me.0.member.ends → me.0.claimed ≡ None → new ≡ old + 1 → old ≡ me.0.first + run → (line_at (elements_after me.0.schedule) line).raised run 0 ≡ true
     → Allows (Rule key) n id me (tail_word line) (λ x. either (eqb x old) new x) (takes id line (step n (tail_word line) old new none) me)
 take_line_goes key n id line me old new run below live none_yet next start up s k _ at _ =
     let v : View = me.0 in let e : Elements = elements_after k.events in let i : ℕ = tail_word line in let y : ℕ = get_or s.words i 0 in
@@ -172,29 +171,29 @@ take_line_goes key n id line me old new run below live none_yet next start up s 
     let change : Elements → Result Elements Refusal = take_element line id 1 in
     let f : Effect id v (knows k.events) key.first change e (set s.words i new) = subst (λ (z : ℕ). Effect id v (knows k.events) key.first change e (set s.words i z)) more
     (take_effect id v key.first e s.words line (ready_of key s k id v at) none_yet below still) in
-    goes_by key s k id me (events.Take id (line_name line) 1) change knows i new old (takes id line (step n i old new none) me y) at live (omega arith) (take_is line id) refl refl refl refl (refl, refl, refl, refl, refl, refl) f
+    goes_by key s k id me (events.Take id (line_name line) 1) change knows i new old (takes id line (step n i old new none) me y) at live (omega arith) (take_is line id) refl refl refl (refl, refl, refl, refl) f
     (λ did before words. (refl, (λ _. record { did = did; tail_is = tail_before old key.first line k.events v did.before first before tail }), λ miss. absurd (miss hit))))
-    (λ miss. (after v i y k.events, keeps, tt, kept_look key s k i id y v at, (refl, (λ hit. absurd (miss hit)), λ _. found_now key s k i id v at)))
+    (λ miss. (looked v i y (steps_to k) k.events, keeps, tt, kept_look key s k i id y v at, (refl, (λ hit. absurd (miss hit)), λ _. found_now key s k i id v at)))
 
 pub takes_tail : (key : Shape) (n id line : ℕ) (me : Me Unit View) (old new run call at place : ℕ) → call ≡ id → at ≡ line → place ≡ tail_word line
-    → line < 18 → 1 ≤ me.0.ends → me.0.claimed ≡ None → new ≡ old + 1 → old ≡ me.0.first + run → (line_at (elements_after me.0.schedule) line).raised run 0 ≡ true
+    → line < 18 → 1 ≤ me.0.member.ends → me.0.claimed ≡ None → new ≡ old + 1 → old ≡ me.0.first + run → (line_at (elements_after me.0.schedule) line).raised run 0 ≡ true
     → Allows (Rule key) n id me place (λ x. either (eqb x old) new x) (takes call at (step n place old new none) me)
 takes_tail key n id line me old new run call at place mine there here below live none_yet next start up =
     as_deed (λ c l x w. Allows (Rule key) n id me w (λ y. either (eqb y old) new y) (takes c l (step n w old new none) me)) call id at line 0 0 place (tail_word line) mine there refl here
     (take_line_goes key n id line me old new run below live none_yet next start up)
 
 -- the sum that notifies a wait queue
-notify_line_goes : (key : Shape) (n id wait : ℕ) (me : Me Unit View) → wait < 16 → 1 ≤ me.0.ends → me.0.claimed ≡ None
+notify_line_goes : (key : Shape) (n id wait : ℕ) (me : Me Unit View) → wait < 16 → 1 ≤ me.0.member.ends → me.0.claimed ≡ None
     → Allows (Rule key) n id me (head_word (wait + 2)) (λ x. (x + 4294967296) % 18446744073709551616) (notifies id wait (step n (head_word (wait + 2)) 4294967296 0 none) me)
 notify_line_goes key n id wait me below live none_yet s k _ at _ =
     let v : View = me.0 in let e : Elements = elements_after k.events in let line : ℕ = wait + 2 in let i : ℕ = head_word line in let y : ℕ = get_or s.words i 0 in
     let shown : LineShows key.first e line s.words = k.shows.lines line (omega arith) in let new : ℕ = (y + 4294967296) % 18446744073709551616 in
     let f : Effect id v (quiet v) key.first (notify_wait wait) e (set s.words i new) = subst (λ (z : ℕ). Effect id v (quiet v) key.first (notify_wait wait) e (set s.words i ((z + 4294967296) % 18446744073709551616))) (sym shown.head)
     (notify_effect id v key.first e s.words wait (ready_of key s k id v at) none_yet below) in
-    goes_by key s k id me (events.NotifyWait id wait) (notify_wait wait) (λ before. quiet v) i new y (notifies id wait (step n i 4294967296 0 none) me y) at live (omega arith) (λ t. refl) refl refl refl refl (refl, refl, refl, refl, refl, refl) f
+    goes_by key s k id me (events.NotifyWait id wait) (notify_wait wait) (λ before. quiet v) i new y (notifies id wait (step n i 4294967296 0 none) me y) at live (omega arith) (λ t. refl) refl refl refl (refl, refl, refl, refl) f
     (λ did before words. (refl, record { did = did; is = head_before y key.first line k.events v did.before (k.first id v at) before shown.head }))
 
-pub notifies_head : (key : Shape) (n id wait : ℕ) (me : Me Unit View) (call at place : ℕ) → call ≡ id → at ≡ wait → place ≡ head_word (wait + 2) → wait < 16 → 1 ≤ me.0.ends → me.0.claimed ≡ None
+pub notifies_head : (key : Shape) (n id wait : ℕ) (me : Me Unit View) (call at place : ℕ) → call ≡ id → at ≡ wait → place ≡ head_word (wait + 2) → wait < 16 → 1 ≤ me.0.member.ends → me.0.claimed ≡ None
     → Allows (Rule key) n id me place (λ x. (x + 4294967296) % 18446744073709551616) (notifies call at (step n place 4294967296 0 none) me)
 notifies_head key n id wait me call at place mine there here below live none_yet =
     as_deed (λ c l x w. Allows (Rule key) n id me w (λ y. (y + 4294967296) % 18446744073709551616) (notifies c l (step n w 4294967296 0 none) me)) call id at wait 0 0 place (head_word (wait + 2)) mine there refl here

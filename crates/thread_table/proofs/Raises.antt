@@ -8,7 +8,7 @@ use Rattle.quaject_core.specs.Queues.{Queue, empty_queue, with_pair, after_raise
 use Rattle.quaject_core.specs.Results.{◌>>=◌}
 use Rattle.quaject_core.specs.Runs.{Run}
 use Rattle.quaject_core.specs.Lawful.{IsLawfulQueue}
-use Rattle.quaject_core.proofs.ElementLaws.{every_at}
+use Rattle.quaject_core.proofs.Keeping.Elements.{every_at}
 use Rattle.thread_table.specs.declared.rule.View.{View}
 use Rattle.thread_table.specs.declared.rule.Claimed.{Claimed}
 use Rattle.thread_table.specs.Schedules.{QueueGrows, Grows, line_at, element_at, element_of, no_run}

@@ -8,7 +8,7 @@ use Rattle.quaject_core.specs.Elements.{Elements, hold, holds, is_hold, is_put, 
 use Rattle.quaject_core.specs.Queues.{Queue, empty_queue, renamed, join_run, join_queue}
 use Rattle.quaject_core.specs.Runs.{Run}
 use Rattle.quaject_core.specs.declared.hold.Hold.{Hold}
-use Rattle.quaject_core.proofs.JoinLaws.{slice_get_joined}
+use Rattle.quaject_core.proofs.Keeping.Joins.{slice_get_joined}
 use Rattle.thread_table.specs.declared.rule.Claimed.{Claimed}
 use Rattle.thread_table.specs.declared.rule.Counted.{Counted}
 use Rattle.thread_table.specs.Schedules.{line_at, element_of, no_run, QueueGrows, Grows}

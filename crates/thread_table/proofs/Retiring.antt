@@ -21,9 +21,9 @@ use Rattle.quaject_core.specs.declared.event.Event.TheVariants as events
 use Rattle.quaject_core.specs.declared.names.QueueName.TheVariants as names
 use Rattle.quaject_core.specs.declared.refusal.Refusal.{Refusal}
 use Rattle.quaject_core.specs.declared.refusal.Refusal.TheVariants.{UnknownName, TooLong, Full, Moved, NotStopped, ProcessorBusy}
-use Rattle.quaject_core.proofs.ChainLaws.{claim_ok, raise_ok}
-use Rattle.quaject_core.proofs.Keeping.{take_ok}
-use Rattle.quaject_core.proofs.Inversions.{then_ok, test_ok, given_ok, some_ok, change_ok}
+use Rattle.quaject_core.proofs.Keeping.Chains.{claim_ok, raise_ok}
+use Rattle.quaject_core.proofs.Keeping.Queues.{take_ok}
+use Rattle.quaject_core.proofs.Lists.Inversions.{then_ok, test_ok, given_ok, some_ok, change_ok}
 use Rattle.thread_table.specs.Schedules.{begun, state_after, IsAllowed}
 use Rattle.thread_table.specs.Retiring.{items_of, retired_by, retired_in, AreRetired}
 use Rattle.thread_table.proofs.Schedules.{elements_of}

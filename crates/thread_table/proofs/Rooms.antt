@@ -11,8 +11,8 @@ use Rattle.quaject_core.specs.Elements.{Elements, hold, is_hold, let_go}
 use Rattle.quaject_core.specs.Lawful.{IsLawfulElements}
 use Rattle.quaject_core.specs.Appearances.{appearances, in_list}
 use Rattle.quaject_core.specs.declared.hold.Hold.{Hold}
-use Rattle.quaject_core.proofs.Histories.{both}
-use Rattle.quaject_core.proofs.Places.{one, in_hands, let_go_count}
+use Rattle.quaject_core.proofs.Lists.Histories.{both}
+use Rattle.quaject_core.proofs.Keeping.Places.{one, in_hands, let_go_count}
 
 -- the list without a number
 abbrev without : ℕ → List ℕ → List ℕ

@@ -1,15 +1,16 @@
 -- What a schedule leads to.
-use Rattle.std.proofs.Common.{◌≡◌, List, [], ◌∷◌, ◌++◌, ◌∙◌, refl, sym, ap, subst, arith, Ok, Result, append-nil, append_assoc}
+use Rattle.std.proofs.Common.{◌≡◌, List, [], ◌∷◌, ◌++◌, ◌∙◌, refl, sym, ap, subst, arith, Ok, Result}
 use Rattle.std.specs.Result.{result_unwrap_or}
 use Rattle.quaject_core.specs.Elements.{Elements}
-use Rattle.quaject_core.proofs.Steps.{reaches_more, schedule_law}
+use Rattle.quaject_core.proofs.Keeping.Steps.{reaches_more, schedule_law}
 use Rattle.quaject_core.specs.Lawful.{IsLawfulElements}
 use Rattle.quaject_core.specs.Queues.{Queue}
 use Rattle.quaject_core.specs.Schedules.{Reaches}
 use Rattle.quaject_core.specs.States.{State, first_state, step}
 use Rattle.quaject_core.specs.declared.event.Event.{Event}
 use Rattle.quaject_core.specs.declared.refusal.Refusal.{Refusal}
-use Rattle.thread_table.specs.Schedules.{after, begun, state_after, elements_after, IsAllowed, Begins, QueueGrows, Grows}
+use Rattle.thread_table.specs.Schedules.{after, begun, state_after, elements_after, IsAllowed, QueueGrows, Grows}
+use Rattle.table_theory.specs.Ends.{Begins}
 
 after_is : (s : State) (events : List Event) (t : State) → Reaches s events t → after s events ≡ t
 unfolding after
@@ -53,12 +54,6 @@ elements_of events = refl
 pub lawful_after : (events : List Event) → IsAllowed events → IsLawfulElements (elements_after events)
 unfolding elements_after IsAllowed begun
 lawful_after events allowed = (schedule_law 64 events (state_after events) allowed).elements
-
-pub begins_refl : (events : List Event) → Begins events events
-begins_refl events = ([], append-nil events)
-
-pub begins_more : (past events : List Event) (event : Event) → Begins past events → Begins past (events ++ event ∷ [])
-begins_more past events event b = (b.0 ++ event ∷ [], sym (append_assoc past b.0 (event ∷ [])) ∙ ap (λ (z : List Event). z ++ event ∷ []) b.1)
 
 queue_refl : (q : Queue) → QueueGrows q q
 queue_refl q = record { longer = omega arith; further = omega arith; items = λ run h. refl; raised = λ run h. h }

@@ -10,7 +10,7 @@ use Rattle.quaject_core.specs.Appearances.{appearances, is_on}
 use Rattle.quaject_core.specs.Elements.{Elements, Thread, hold, is_hold, is_put, holds, put_on, take_off, new_thread}
 use Rattle.quaject_core.specs.Lawful.{IsLawfulElements}
 use Rattle.quaject_core.specs.declared.hold.Hold.{Hold}
-use Rattle.quaject_core.proofs.Places.{slice_get_set_same, slice_get_set_other}
+use Rattle.quaject_core.proofs.Keeping.Places.{slice_get_set_same, slice_get_set_other}
 use Rattle.thread_table.specs.declared.rule.View.{View}
 use Rattle.thread_table.specs.Schedules.{thread_at}
 use Rattle.thread_table.specs.Shown.{WordsShow, StateShows, seat_shown, seat_word, state_word, done_word}

@@ -6,9 +6,10 @@ use mathlib.Core.Logic.{dite}
 use native.Mathlib.Decide.{dec_lt, ℕ_discrete}
 use lib.ListN.{get_elem?}
 use Rattle.atomic_table.specs.Table.{State, Final, Seen}
-use Rattle.table_theory.proofs.Counting.{others_idle}
+use Rattle.table_theory.proofs.Members.{rest_idle}
 use Rattle.table_theory.proofs.Owned.{one_at}
 use Rattle.quaject_core.specs.Elements.{Elements}
+use Rattle.table_theory.specs.declared.views.Member.{Member}
 use Rattle.table_theory.specs.Sharing.{IsWhole}
 use Rattle.thread_table.specs.declared.places.Place.{Place}
 use Rattle.thread_table.specs.declared.places.Place.TheVariants as places
@@ -16,11 +17,11 @@ use Rattle.thread_table.specs.declared.rule.Claimed.{Claimed}
 use Rattle.thread_table.specs.declared.rule.Shape.{Shape}
 use Rattle.thread_table.specs.declared.rule.View.{View}
 use Rattle.thread_table.specs.Closings.{ClosedNow, WereOpen, PlaceOf, word_at}
-use Rattle.thread_table.specs.Rules.{Rule, HandIs, IsIdle, ends_of, share_of}
+use Rattle.thread_table.specs.Rules.{Rule, HandIs, IsIdle, member_of}
 use Rattle.thread_table.specs.Views.{quiet}
 use Rattle.thread_table.specs.Schedules.{state_after, elements_after, IsAllowed, line_at, thread_at}
 use Rattle.quaject_core.specs.declared.event.Event.{Event}
-use Rattle.quaject_core.proofs.AccountLaws.{account_law}
+use Rattle.quaject_core.proofs.Keeping.Accounts.{account_law}
 use Rattle.thread_table.proofs.Betweens.{reached}
 use Rattle.thread_table.proofs.Looks.{hand_quiet}
 use Rattle.thread_table.proofs.Stating.{pending_are}
@@ -40,10 +41,10 @@ use Rattle.thread_table.proofs.Once.{steps_once}
 use Rattle.thread_table.proofs.Retiring.{are_retired}
 
 pub were_open : (v w : View) (found others : ℕ) → Tallied v found w → found ≢ 1 → others ≡ found - 1 → WereOpen v others w
-were_open v w found others t more is = let some = t.count.some_end in let n : found ≡ others + 1 = omega arith in record {
+were_open v w found others t more is = let some = t.member.count.some_end in let n : found ≡ others + 1 = omega arith in record {
   tallied = subst (λ (z : ℕ). Tallied v z w) n t;
   some_other = omega arith;
-  not_whole = λ whole. more (t.count.whole whole);
+  not_whole = λ whole. more (t.member.count.whole whole);
 }
 
 there : {A : Type 0} (xs : List A) (i : ℕ) → i < length xs → (a : A) × (get_elem? xs i ≡ some a)
@@ -52,11 +53,11 @@ there (x ∷ xs) zero below = (x, refl)
 there (x ∷ xs) (suc i) below = there xs i (omega arith)
 
 -- beside the hand with the whole no hand has anything, and it has no claim to raise itself
-pub settled : (key : Shape) (s : State Unit View) (k : Rule key s) (id : ℕ) (w : View) → get_elem? s.views id ≡ some w → IsWhole w.share → w.claimed ≡ None
+pub settled : (key : Shape) (s : State Unit View) (k : Rule key s) (id : ℕ) (w : View) → get_elem? s.views id ≡ some w → IsWhole w.member.share → w.claimed ≡ None
     → Settled id key.first (elements_after k.events) s.words
 settled key s k id w at whole none =
     let e : Elements = elements_after k.events in
-    let idle : (i : ℕ) (u : View) → get_elem? s.views i ≡ some u → i ≢ id → IsIdle u = others_idle ends_of share_of IsIdle (get_or s.words 0 0) s.views id w k.counted at whole in
+    let idle : (i : ℕ) (u : View) → get_elem? s.views i ≡ some u → i ≢ id → IsIdle u = rest_idle member_of IsIdle (get_or s.words 0 0) s.views id w k.ends at whole in
     let unclaimed : (i : ℕ) (u : View) (c : Claimed) → get_elem? s.views i ≡ some u → u.claimed ≡ Some c → ⊥ = λ i u c has claims. dite (ℕ_discrete i id)
     (λ same. none_some c u.claimed (ap (λ (z : View). z.claimed) (one_at s.views id u w (subst (λ (j : ℕ). get_elem? s.views j ≡ some u) same has) at) ∙ none) claims)
     (λ ne. none_some c u.claimed (idle i u has ne).3 claims) in
@@ -74,9 +75,9 @@ settled key s k id w at whole none =
     up false not = absurd (not refl)
 
 -- beside the hand with the whole no hand lists an event
-all_made : (key : Shape) (s : State Unit View) (k : Rule key s) (id : ℕ) (w : View) → get_elem? s.views id ≡ some w → IsWhole w.share → AreMade k.events (w.made ∷ [])
+all_made : (key : Shape) (s : State Unit View) (k : Rule key s) (id : ℕ) (w : View) → get_elem? s.views id ≡ some w → IsWhole w.member.share → AreMade k.events (w.made ∷ [])
 all_made key s k id w at whole = made_sole k.events (map made_of s.views) id w.made k.made (at_map made_of s.views id w at)
-    (λ d l has ne. let b = at_map_back made_of s.views d l has in sym b.2 ∙ (others_idle ends_of share_of IsIdle (get_or s.words 0 0) s.views id w k.counted at whole d b.0 b.1 ne).4)
+    (λ d l has ne. let b = at_map_back made_of s.views d l has in sym b.2 ∙ (rest_idle member_of IsIdle (get_or s.words 0 0) s.views id w k.ends at whole d b.0 b.1 ne).4)
 
 pub closes : (key : Shape) (v w : View) (found id : ℕ) (ws : List ℕ) (xs : List Unit) (all : List Place) (pcs pending : List ℕ) (stops : ℕ) → v.fresh ≡ true → v.claimed ≡ None → Tallied v found w → found ≡ 1 → Final (Seen (Rule key) id w) ws xs
     → ((x : ℕ) → x < 64 → PlaceOf x ws (get_or all x places.Held))
@@ -85,8 +86,8 @@ pub closes : (key : Shape) (v w : View) (found id : ℕ) (ws : List ℕ) (xs : L
     → ((x : ℕ) → x < 64 → bit_at stops x ≡ bit_at (word_at ws (x + 9)) 16)
     → ClosedNow id v all pcs pending stops
 closes key v w found id ws xs all pcs pending stops up none tallied one fin place_of pc_of pending_of stop_of =
-    let s : State Unit View = fin.0 in let k : Rule key s = fin.1.0 in let at = fin.1.1 in let whole : IsWhole v.share = tallied.count.alone one in
-    let still : IsWhole w.share = subst (λ (z : View). IsWhole z.share) (sym tallied.same) whole in
+    let s : State Unit View = fin.0 in let k : Rule key s = fin.1.0 in let at = fin.1.1 in let whole : IsWhole v.member.share = tallied.member.count.alone one in
+    let still : IsWhole w.member.share = subst IsWhole (sym (ap (λ (m : Member). m.share) tallied.member.same)) whole in
     let now : k.events ≡ v.schedule = sym (tallied.sees.newest whole up ∙ k.newest id w at still (ap (λ (z : View). z.fresh) tallied.same)) in let e : Elements = elements_after v.schedule in
     let allowed : IsAllowed v.schedule = subst IsAllowed now k.allowed in let shows : WordsShow key.first e s.words = subst (λ (z : List Event). WordsShow key.first (elements_after z) s.words) now k.shows in
     let sh : WordsShow key.first e ws = subst (WordsShow key.first e) fin.2 shows in

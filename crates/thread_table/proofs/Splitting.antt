@@ -12,13 +12,14 @@ use Rattle.thread_table.specs.Makers.{AreMade, made_of}
 use Rattle.thread_table.proofs.Filings.{made_new}
 use Rattle.thread_table.proofs.Looks.{set_again}
 use Rattle.table_theory.proofs.Owned.{at_push}
-use Rattle.table_theory.proofs.Counting.{counted_split, given_kept, given_some, kept_some}
-use Rattle.table_theory.proofs.Ends.{logged_split}
+use Rattle.table_theory.proofs.Counting.{given_kept, given_some, kept_some}
+use Rattle.table_theory.proofs.Courses.{course_split}
+use Rattle.table_theory.proofs.Members.{known_split}
 use Rattle.table_theory.proofs.Totals.{one_of}
 use Rattle.thread_table.specs.declared.rule.Shape.{Shape}
 use Rattle.thread_table.specs.declared.rule.View.{View}
 use Rattle.thread_table.specs.Schedules.{elements_after}
-use Rattle.thread_table.specs.Rules.{IsSteady, IsNewest, Rule, HandIs, Seen, ends_of, share_of, splits_of, joins_of, log_of, IsIdle, MayStep, has, serves, running}
+use Rattle.thread_table.specs.Rules.{IsSteady, IsNewest, Rule, HandIs, Seen, member_of, steps_of, course_of, IsIdle, MayStep, has, serves, running}
 use Rattle.std.specs.List.{repeat}
 use Rattle.thread_table.specs.Steps.{parted, rest_of, newborn}
 use Rattle.thread_table.proofs.Owing.{claims_kept}
@@ -118,7 +119,7 @@ no_running p element is = none_some element (get_or (repeat 8 (none_on ∷ [])) 
 has_nothing : (v : View) (mask : List Bool) (x : ℕ) → MayStep (newborn mask v) x → ⊥
 has_nothing v mask x may = ⊎_elim (λ held. let no : has (newborn mask v) x ≡ false = get_or-copies 64 false x in absurd (cc)) (λ on. no_running on.0 x on.2) may
 
-pub splits : (key : Shape) (id : ℕ) (v : View) (mask : List Bool) → v.ends ≡ 2 → length mask ≡ 8 → ((p : ℕ) → get_or mask p false ≡ true → (serves v p ≡ true) × (running v p ≡ None)) → Splits (Rule key) id v (rest_of mask v) (newborn mask v)
+pub splits : (key : Shape) (id : ℕ) (v : View) (mask : List Bool) → v.member.ends ≡ 2 → length mask ≡ 8 → ((p : ℕ) → get_or mask p false ≡ true → (serves v p ≡ true) × (running v p ≡ None)) → Splits (Rule key) id v (rest_of mask v) (newborn mask v)
 splits key id v mask live long can s k at = let e : Elements = elements_after k.events in let left : View = rest_of mask v in let right : View = newborn mask v in let seen : Seen v k.events = k.seen id v at in let hand : HandIs id v e = k.hands id v at in record {
   events = k.events;
   allowed = k.allowed;
@@ -137,12 +138,14 @@ splits key id v mask live long can s k at = let e : Elements = elements_after k.
       (λ up x low may. k.steady id v at up x low (⊎_elim (λ held. inl held) (λ on. inr (on.0, (parted_true v.serves mask on.0 on.1).0, on.2)) may))
       (λ up x low may. absurd (has_nothing v mask x may));
   newest = each_split (λ (j : ℕ) (u : View). IsNewest u k.events) s.views id left right (λ j u ne there. k.newest j u there)
-      (λ whole up. let i = k.counted.within id v at in let b = given_kept v.share in let g = given_some v.share (omega arith) in let t = one_of share_of s.views id v at in let c = k.counted.shared in absurd (omega arith))
-      (λ whole up. let i = k.counted.within id v at in let b = given_kept v.share in let g = kept_some v.share (omega arith) in let t = one_of share_of s.views id v at in let c = k.counted.shared in absurd (omega arith));
+      (λ whole up. let i = k.ends.counted.within id v at in let b = given_kept v.member.share in let g = given_some v.member.share (omega arith) in let t = one_of (λ (z : View). z.member.share) s.views id v at in let c = k.ends.counted.shared in absurd (omega arith))
+      (λ whole up. let i = k.ends.counted.within id v at in let b = given_kept v.member.share in let g = kept_some v.member.share (omega arith) in let t = one_of (λ (z : View). z.member.share) s.views id v at in let c = k.ends.counted.shared in absurd (omega arith));
   undoubled = each_split (λ (j : ℕ) (u : View). u.doubled ≡ false) s.views id left right (λ j u ne there. k.undoubled j u there) (k.undoubled id v at) refl;
   made = subst (AreMade k.events)
       (sym (map-append made_of (set s.views id left) (right ∷ []) ∙ ap (λ (z : List (List Made)). z ++ [] ∷ []) (map-set made_of s.views id left ∙ set_again (map made_of s.views) id v.made (at_map made_of s.views id v at))))
       (made_new k.events (map made_of s.views) k.made);
-  counted = counted_split ends_of share_of IsIdle (get_or s.words 0 0) s.views id v left right k.counted at live (omega arith) refl refl refl;
-  logged = logged_split splits_of joins_of log_of (get_or s.words 0 0) s.views id v left right k.logged at refl refl refl refl refl refl;
+  ends = known_split member_of IsIdle (get_or s.words 0 0) s.views id v left right k.ends at live refl refl;
+  joiner = k.joiner;
+  are_joins = k.are_joins;
+  course = course_split steps_of course_of [] k.events (k.joiner ∷ s.views) (suc id) v left right k.course at refl refl refl refl;
 }

@@ -14,7 +14,7 @@ use Rattle.quaject_core.specs.Lawful.{IsLawfulElements, IsLawfulQueue}
 use Rattle.quaject_core.specs.Queues.{Queue, empty_queue, left}
 use Rattle.quaject_core.specs.Runs.{flat}
 use Rattle.quaject_core.specs.declared.hold.Hold.{Hold}
-use Rattle.quaject_core.proofs.ElementLaws.{every_at}
+use Rattle.quaject_core.proofs.Keeping.Elements.{every_at}
 use Rattle.thread_table.specs.Closings.{SeatOf, IsIn, LineOf, PlaceOf, StandsAt, is_left, line_place, place_by, word_at}
 use Rattle.thread_table.specs.Schedules.{line_at, thread_at, element_at, element_of, no_run}
 use Rattle.thread_table.specs.Shown.{WordsShow, seat_shown, state_word, place_word, bit_of}

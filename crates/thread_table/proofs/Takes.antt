@@ -15,8 +15,8 @@ use Rattle.quaject_core.specs.Lawful.{IsLawfulQueue, IsLawfulElements}
 use Rattle.quaject_core.specs.Appearances.{in_list}
 use Rattle.quaject_core.specs.declared.hold.Hold.{Hold}
 use Rattle.quaject_core.specs.declared.refusal.Refusal.TheVariants.{UnknownName}
-use Rattle.quaject_core.proofs.ElementLaws.{every_at}
-use Rattle.quaject_core.proofs.Places.{one, sum_changed, in_joined}
+use Rattle.quaject_core.proofs.Keeping.Elements.{every_at}
+use Rattle.quaject_core.proofs.Keeping.Places.{one, sum_changed, in_joined}
 use Rattle.table_theory.proofs.QueueEvents.{take_goes}
 use Rattle.thread_table.specs.declared.rule.View.{View}
 use Rattle.thread_table.specs.declared.rule.Claimed.{Claimed}

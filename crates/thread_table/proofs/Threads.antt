@@ -6,7 +6,7 @@ use Rattle.std.proofs.lemmas.Bool.Decides.{eqb_tells}
 use Rattle.quaject_core.specs.Chains.{with_number}
 use Rattle.quaject_core.specs.Elements.{Elements, Thread, new_thread, stop, signal, deliver}
 use Rattle.quaject_core.specs.declared.refusal.Refusal.{Refusal}
-use Rattle.quaject_core.proofs.ElementSteps.{changed, delivered_ok, done_ok}
+use Rattle.quaject_core.proofs.Stored.Elements.{changed, delivered_ok, done_ok}
 use Rattle.thread_table.specs.declared.rule.View.{View}
 use Rattle.thread_table.specs.declared.rule.Counted.{Counted}
 use Rattle.thread_table.specs.Schedules.{Grows, thread_at}

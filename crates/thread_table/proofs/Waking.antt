@@ -14,11 +14,11 @@ use Rattle.quaject_core.specs.Appearances.{appearances, in_list}
 use Rattle.quaject_core.specs.Lawful.{IsLawfulElements}
 use Rattle.quaject_core.specs.declared.event.Event.{Event}
 use Rattle.quaject_core.specs.declared.event.Event.TheVariants as events
-use Rattle.quaject_core.proofs.Places.{one, in_hands}
+use Rattle.quaject_core.proofs.Keeping.Places.{one, in_hands}
 use Rattle.thread_table.specs.declared.rule.View.{View}
 use Rattle.thread_table.specs.declared.takings.NextRefusal.{NextRefusal}
 use Rattle.thread_table.specs.declared.takings.NextRefusal.TheVariants as nexts
-use Rattle.thread_table.specs.Schedules.{elements_after, Begins, line_at, line_name, element_at, state_after}
+use Rattle.thread_table.specs.Schedules.{Course, elements_after, line_at, line_name, element_at, state_after}
 use Rattle.thread_table.specs.Shown.{tail_shown, tail_word}
 use Rattle.thread_table.specs.Rules.{has}
 use Rattle.thread_table.specs.Steps.{Found, Notifies, made_by}
@@ -29,11 +29,12 @@ use Rattle.thread_table.specs.Makers.{made_in}
 use Rattle.table_theory.proofs.Owned.{at_push}
 use mathlib.Core.Option.{some-ne-none}
 use Rattle.thread_table.specs.Views.{with_held}
-use Rattle.thread_table.proofs.Following.{Looked, seen_as, found_looked, looked_on, begins_trans, did_later}
+use Rattle.thread_table.proofs.Following.{Looked, seen_as, found_looked, looked_on, did_later}
 use Rattle.thread_table.proofs.Answering.{word_parts}
 use Rattle.thread_table.proofs.QueueSteps.{found_tail}
 use Rattle.thread_table.proofs.Rooms.{unheld}
-use Rattle.thread_table.proofs.Schedules.{begins_refl}
+use Rattle.table_theory.specs.Ends.{Begins}
+use Rattle.table_theory.proofs.Ends.{begins_refl, begins_trans}
 use Rattle.thread_table.proofs.StateBits.{bit_set_here, bit_set_other}
 
 -- what changes for the hand while it wakes
@@ -180,13 +181,13 @@ one_bit : (n : ℕ) → n < 64 → 2 ^ n ≡ 1 * 2 ^ n % 18446744073709551616
 one_bit n below = let m : 2 ^ n < 18446744073709551616 = pow-lt {i = n} {j = 64} below in omega arith
 
 -- what a taking makes of a view
-abbrev took_from : ℕ → ℕ → ℕ → List Event → View → View
-took_from call line tail before z =
-    made_by (with_held z (element_at (line_at (elements_after before) line) (line_at (elements_after before) line).taken) true) (tail_word line) tail before (events.Take call (line_name line) 1)
+abbrev took_from : ℕ → ℕ → ℕ → Course → List Event → View → View
+took_from call line tail past before z =
+    made_by (with_held z (element_at (line_at (elements_after before) line) (line_at (elements_after before) line).taken) true) (tail_word line) tail past before (events.Take call (line_name line) 1)
 
 took_more : (call line element : ℕ) (u v w : View) (mask : ℕ) → element < 64 → Woken call line u mask v → TookFirst call v line element w → Woken call line u (bit_or mask (2 ^ element)) w
 took_more call line element u v w mask small past t = record {
-  same = as_held u w (took_from call line t.tail t.took.did.before (seen_as (held_as u v) t.before)) (t.took.did.same ∙ ap (took_from call line t.tail t.took.did.before) (t_looked.same ∙ ap (λ (z : View). seen_as z t.before) past.same)) refl;
+  same = as_held u w (took_from call line t.tail t.took.did.past t.took.did.before (seen_as (held_as u v) t.before)) (t.took.did.same ∙ ap (took_from call line t.tail t.took.did.past t.took.did.before) (t_looked.same ∙ ap (λ (z : View). seen_as z t.before) past.same)) refl;
   made = (past.made.0 ++ one, ap (λ (z : View). z.made) t.took.did.same ∙ (ap (λ (z : View). z.made ++ one) t_looked.same ∙ (ap (λ (l : List Made). l ++ one) past.made.1 ∙ append_assoc u.made past.made.0 one)), λ m x has. ⊎_elim (λ h. past.made.2 m x h) (λ h. ap (λ (z : Made). z.event) (sym h.1)) (at_push past.made.0 (made_in (events.Take call (line_name line) 1) (state_after t.took.did.before)) x m has));
   later = begins_trans u.schedule v.schedule w.schedule past.later
       (begins_trans v.schedule t.before.schedule w.schedule t_looked.sees.seen.schedule (did_later _ _ _ _ _ _ _ t.took.did));

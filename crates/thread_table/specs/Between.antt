@@ -1,5 +1,5 @@
 -- What holds between any two steps.
-use Rattle.std.specs.Prelude.{◌≡◌, ℕ, ◌<◌, ◌≤◌, true, false, List, map, length, slice_index_or, Some}
+use Rattle.std.specs.Prelude.{◌≡◌, ℕ, ◌<◌, ◌≤◌, true, false, List, [], ◌∷◌, map, length, slice_index_or, Some}
 use mathlib.Core.Option.{some}
 use lib.ListN.{get_elem?}
 use Rattle.atomic_table.specs.Table as tables
@@ -10,12 +10,15 @@ use Rattle.quaject_core.specs.Lawful.{IsLawful}
 use Rattle.quaject_core.specs.Schedules.{Reaches}
 use Rattle.quaject_core.specs.States.{State, first_state}
 use Rattle.quaject_core.specs.declared.event.Event.{Event}
-use Rattle.table_theory.specs.Sharing.{EndsCounted}
+use Rattle.table_theory.specs.Courses.{IsCourse}
+use Rattle.table_theory.specs.Ends.{Begins}
+use Rattle.table_theory.specs.Members.{EndsKnown}
 use Rattle.thread_table.specs.declared.rule.Shape.{Shape}
 use Rattle.thread_table.specs.declared.rule.View.{View}
-use Rattle.thread_table.specs.Schedules.{Begins, line_at, element_at}
+use Rattle.thread_table.specs.Schedules.{line_at, element_at}
 use Rattle.thread_table.specs.Shown.{WordsShow}
-use Rattle.thread_table.specs.Rules.{HandIs, IsIdle, IsOpen, serves, ends_of, share_of}
+use Rattle.thread_table.specs.Rules.{HandIs, IsIdle, IsOpen, serves, member_of, steps_of, course_of}
+use Rattle.thread_table.specs.Joins.{AreJoins}
 use Rattle.thread_table.specs.Makers.{AreMade, made_of}
 use Rattle.thread_table.specs.Retiring.{AreRetired}
 use Rattle.thread_table.specs.Views.{claim_of}
@@ -44,5 +47,11 @@ pub record ShowsElements (key : Shape) (s : tables.State Unit View) : Type 0 whe
   pub owned : (line run : ℕ) → line < 18 → IsOpen line run core.elements → (j : ℕ) × (v : View)
       × (get_elem? s.views j ≡ some v)
       × (v.claimed ≡ Some (claim_of line run (element_at (line_at core.elements line) run)))
-  pub counted : EndsCounted ends_of share_of IsIdle (slice_index_or s.words 0 0) s.views
+  -- the word has the number of the hands that stand
+  pub ends : EndsKnown member_of IsIdle (slice_index_or s.words 0 0) s.views
+  -- the hands' steps lead to the events from none, with the joins among them, which this view, of no hand, has; and
+  -- each hand has seen all of them up to its own last step
+  pub joiner : View
+  pub are_joins : AreJoins joiner.steps
+  pub course : IsCourse steps_of course_of [] events (joiner ∷ s.views)
   pub no_others : (call element : ℕ) → length s.views ≤ call → holds call element core.elements ≡ false

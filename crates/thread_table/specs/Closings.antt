@@ -71,7 +71,7 @@ StandsAt call element e places.Held = holds call element e ≡ true
 -- list has each event of a hand once, each step that an element has done is counted by one of them, and each signal was
 -- made pending as often as it was delivered, once more where it is pending. Each element is in the place that is told
 pub record ClosedNow (call : ℕ) (v : View) (stands : List Place) (pcs pending : List ℕ) (stops : ℕ) : Type 0 where
-  pub whole : IsWhole v.share
+  pub whole : IsWhole v.member.share
   pub allowed : IsAllowed v.schedule
   pub accounted : IsAccounted (first_state 64) v.schedule (state_after v.schedule)
   pub hand : HandIs call (quiet v) (elements_after v.schedule)
@@ -87,4 +87,4 @@ pub record ClosedNow (call : ℕ) (v : View) (stands : List Place) (pcs pending 
 pub record WereOpen (v : View) (others : ℕ) (w : View) : Type 0 where
   pub tallied : Tallied v (others + 1) w
   pub some_other : 0 < others
-  pub not_whole : IsWhole v.share → ⊥
+  pub not_whole : IsWhole v.member.share → ⊥

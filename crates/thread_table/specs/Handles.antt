@@ -16,11 +16,11 @@ call_of hand = hand.seat.id
 
 -- every other hand was joined
 abbrev pub IsOnlyHand : Hand → Type 0
-IsOnlyHand hand = IsWhole hand.seat.me.0.share
+IsOnlyHand hand = IsWhole hand.seat.me.0.member.share
 
 -- the hand can be split: it has two parts of the share or more
 abbrev pub IsDivisible : Hand → Type 0
-IsDivisible hand = 2 ≤ hand.seat.me.0.share
+IsDivisible hand = 2 ≤ hand.seat.me.0.member.share
 
 -- it is a hand of this table
 abbrev pub IsHandOf : ThreadTable → Hand → Type 0

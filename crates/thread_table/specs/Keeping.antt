@@ -7,7 +7,7 @@ pub record Keeps (v w : View) : Type 0 where
   pub first : w.first ≡ v.first
   pub serves : w.serves ≡ v.serves
   pub on : w.on ≡ v.on
-  pub share : w.share ≡ v.share
+  pub share : w.member.share ≡ v.member.share
 
 -- so it does, and it holds what it held, and made no event
 pub record Stays (v w : View) : Type 0 where

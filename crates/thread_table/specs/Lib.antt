@@ -1,6 +1,7 @@
 pub mod Schedules
 pub mod Shown
 pub mod Views
+pub mod Joins
 pub mod Rules
 pub mod Steps
 pub mod Answers

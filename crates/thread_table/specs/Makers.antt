@@ -5,7 +5,7 @@ use mathlib.Core.Option.{some}
 use lib.ListN.{get_elem?}
 use Rattle.quaject_core.specs.Accounts.{is_done}
 use Rattle.quaject_core.specs.Elements.{Elements}
-use Rattle.table_theory.specs.Filing.{Owned, ListedOnce}
+use Rattle.table_theory.specs.Filing.{Owned, entry_of, ListedOnce}
 use Rattle.quaject_core.specs.declared.event.Event.{Event}
 use Rattle.quaject_core.specs.declared.event.Event.TheVariants as events
 use Rattle.thread_table.specs.declared.rule.Made.{Made}
@@ -42,9 +42,6 @@ abbrev pub numbered : State → List Event → List Made
 numbered s [] = []
 numbered s (event ∷ events) = if is_join event then numbered (result_unwrap_or (step event s) s) events
     else (made_in event s ∷ numbered (result_unwrap_or (step event s) s) events)
-
-abbrev pub entry_of : Owned Made → Made
-entry_of o = o.2
 
 -- the lists of the hands have the events of the schedule, each once, but for the joins
 pub record AreMade (events : List Event) (lists : List (List Made)) : Type 0 where

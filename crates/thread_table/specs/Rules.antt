@@ -4,8 +4,11 @@ use Rattle.std.specs.Prelude.{slice_index_or, Option, Some, None, option_map}
 use Rattle.std.specs.List.{slice_get, list_any, repeat}
 use mathlib.Core.Option.{some}
 use lib.ListN.{get_elem?}
-use Rattle.table_theory.specs.Ends.{EndsLogged}
-use Rattle.table_theory.specs.Sharing.{the_whole, IsWhole, EndsCounted}
+use Rattle.table_theory.specs.declared.views.Member.{Member}
+use Rattle.table_theory.specs.Courses.{AreLooks, IsCourse}
+use Rattle.table_theory.specs.Ends.{Begins}
+use Rattle.table_theory.specs.Members.{first_member, EndsKnown}
+use Rattle.table_theory.specs.Sharing.{IsWhole}
 use Rattle.quaject_core.specs.Elements.{Elements, hold, holds, is_put}
 use Rattle.quaject_core.specs.declared.event.Event.{Event}
 use Rattle.atomic_table.specs.Table.{State}
@@ -13,25 +16,20 @@ use Rattle.thread_table.specs.declared.rule.Shape.{Shape}
 use Rattle.thread_table.specs.declared.rule.View.{View}
 use Rattle.thread_table.specs.declared.rule.Claimed.{Claimed}
 use Rattle.thread_table.specs.declared.rule.Counted.{Counted}
-use Rattle.thread_table.specs.Schedules.{elements_after, IsAllowed, Begins, Grows, line_at, thread_at, element_at}
+use Rattle.thread_table.specs.Schedules.{Course, elements_after, IsAllowed, Grows, line_at, thread_at, element_at}
 use Rattle.thread_table.specs.Views.{claim_of}
+use Rattle.thread_table.specs.Joins.{AreJoins}
 use Rattle.thread_table.specs.Makers.{AreMade, made_of}
 use Rattle.thread_table.specs.Shown.{WordsShow}
 
-abbrev pub ends_of : View → ℕ
-ends_of v = v.ends
+abbrev pub member_of : View → Member
+member_of v = v.member
 
-abbrev pub share_of : View → ℕ
-share_of v = v.share
+abbrev pub steps_of : View → Course
+steps_of v = v.steps
 
-abbrev pub splits_of : View → ℕ
-splits_of v = v.splits
-
-abbrev pub joins_of : View → ℕ
-joins_of v = v.joins
-
-abbrev pub log_of : View → List Bool
-log_of v = v.log
+abbrev pub course_of : View → Course
+course_of v = v.course
 
 -- no element is held
 abbrev pub nothing_held : List Bool
@@ -94,10 +92,10 @@ abbrev pub IsOpen : ℕ → ℕ → Elements → Type 0
 IsOpen line run e =
     (run < length (line_at e line).history) × ((line_at e line).raised run 0 ≡ false)
 
--- an end that was joined has nothing
+-- an end that was joined has nothing, and none of its steps was an event
 abbrev pub IsIdle : View → Type 0
 IsIdle v = (v.held ≡ nothing_held) × (v.serves ≡ no_processors) × (v.on ≡ nothing_on) × (v.claimed ≡ None)
-    × (v.made ≡ [])
+    × (v.made ≡ []) × AreLooks v.steps
 
 -- the hand holds the element, or has it on a processor
 abbrev pub MayStep : View → ℕ → Type 0
@@ -114,7 +112,7 @@ IsSteady v events = v.fresh ≡ true → (element : ℕ) → element < 64 → Ma
 
 -- a hand that has the whole, and has made a step since it took in another, has seen all events
 abbrev pub IsNewest : View → List Event → Type 0
-IsNewest v events = IsWhole v.share → v.fresh ≡ true → v.schedule ≡ events
+IsNewest v events = IsWhole v.member.share → v.fresh ≡ true → v.schedule ≡ events
 
 -- The core allowed each of these events in its turn; what they lead to is what the words show and what the hands have.
 -- No processor is served by two hands, each run that isn't raised is a hand's that is about to raise it, no call but
@@ -136,8 +134,11 @@ pub record Rule (key : Shape) (s : State Unit View) : Type 0 where
   pub steady : (j : ℕ) (v : View) → get_elem? s.views j ≡ some v → IsSteady v events
   pub newest : (j : ℕ) (v : View) → get_elem? s.views j ≡ some v → IsNewest v events
   pub undoubled : (j : ℕ) (v : View) → get_elem? s.views j ≡ some v → v.doubled ≡ false
-  pub counted : EndsCounted ends_of share_of IsIdle (slice_index_or s.words 0 0) s.views
-  pub logged : EndsLogged splits_of joins_of log_of (slice_index_or s.words 0 0) s.views
+  pub ends : EndsKnown member_of IsIdle (slice_index_or s.words 0 0) s.views
+  -- the hands' steps lead to the events from none, with the joins among them, which this view, of no hand, has
+  pub joiner : View
+  pub are_joins : AreJoins joiner.steps
+  pub course : IsCourse steps_of course_of [] events (joiner ∷ s.views)
 
 abbrev pub newcomer : Shape → View
 newcomer key = record {
@@ -150,12 +151,9 @@ newcomer key = record {
   claimed = None;
   counted = None;
   made = [];
-  steps = [];
   fresh = true;
   doubled = false;
-  ends = 1;
-  share = the_whole;
-  splits = 0;
-  joins = 0;
-  log = [];
+  member = first_member;
+  steps = [];
+  course = [];
 }

@@ -1,5 +1,5 @@
 -- The schedule of a table: the events of all its hands, in the order of their steps.
-use Rattle.std.specs.Prelude.{◌≡◌, ℕ, zero, suc, ◌<◌, ◌≤◌, true, List, [], ◌∷◌, ◌++◌, length}
+use Rattle.std.specs.Prelude.{◌≡◌, ℕ, zero, suc, ◌<◌, ◌≤◌, true, List, [], ◌∷◌, length}
 use Rattle.std.specs.Prelude.{slice_index_or}
 use Rattle.std.specs.Result.{result_unwrap_or}
 use Rattle.quaject_core.specs.Elements.{Elements, Thread, new_thread}
@@ -10,6 +10,11 @@ use Rattle.quaject_core.specs.States.{State, first_state, step}
 use Rattle.quaject_core.specs.declared.event.Event.{Event}
 use Rattle.quaject_core.specs.declared.names.QueueName.{QueueName}
 use Rattle.quaject_core.specs.declared.names.QueueName.TheVariants as names
+use Rattle.table_theory.specs.declared.views.Entry.{Entry}
+
+-- steps of all hands and their joins, in their order: each found a schedule, and left one
+abbrev pub Course : Type 0
+Course = List (Entry (List Event))
 
 -- the state after these events; one that isn't allowed changes nothing
 unfoldable pub after : State → List Event → State
@@ -30,10 +35,6 @@ elements_after events = (state_after events).elements
 -- each of the events is allowed in its turn
 unfoldable pub IsAllowed : List Event → Type 0
 IsAllowed events = Reaches begun events (state_after events)
-
--- the events are the first of the others
-abbrev pub Begins : List Event → List Event → Type 0
-Begins events others = (rest : List Event) × (events ++ rest ≡ others)
 
 -- an element queue by its number: the ready ring, the free elements, and behind them the wait queues
 abbrev pub line_at : Elements → ℕ → Queue

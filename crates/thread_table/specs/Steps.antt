@@ -1,38 +1,48 @@
--- What each step tells its hand. Each adds one entry to the hand's list: the word's number, what was found there (at a
--- store, what was stored), and the schedule as it was just before the step.
-use Rattle.std.specs.Prelude.{◌≡◌, ◌≢◌, ℕ, ◌+◌, ◌*◌, ◌-◌, ◌≤◌, Bool, true, false, ◌&&◌, ◌||◌, if◌then◌else◌, List, []}
+-- What each step tells its hand. Each adds one entry to the hand's list, and to the course of all hands' steps that it
+-- has seen: the word's number, what was found there (at a store, what was stored), and the schedule as the step found
+-- it and left it.
+use Rattle.std.specs.Prelude.{◌≡◌, ◌≢◌, ℕ, ◌+◌, ◌*◌, ◌≤◌, Bool, true, false, ◌&&◌, ◌||◌, if◌then◌else◌, List, []}
 use Rattle.std.specs.Prelude.{◌∷◌, ◌++◌, length, slice_index_or, Some, None, Ok, Option}
 use Rattle.atomic_table.specs.Table.{Me, Step}
-use Rattle.table_theory.specs.Ends.{Begins, IsNumber, later_of}
-use Rattle.table_theory.specs.Sharing.{given, kept, IsCount}
+use Rattle.table_theory.specs.declared.views.Entry.{Entry}
+use Rattle.table_theory.specs.declared.views.Member.{Member}
+use Rattle.table_theory.specs.Ends.{Begins, later_of}
+use Rattle.table_theory.specs.Members as members
 use Rattle.quaject_core.specs.Lawful.{IsLawfulElements}
 use Rattle.quaject_core.specs.States.{step}
 use Rattle.quaject_core.specs.declared.event.Event.{Event}
 use Rattle.quaject_core.specs.declared.event.Event.TheVariants as events
 use Rattle.thread_table.specs.declared.rule.View.{View}
-use Rattle.thread_table.specs.Schedules.{state_after, elements_after, IsAllowed, line_at, thread_at, element_at}
-use Rattle.thread_table.specs.Schedules.{line_name}
+use Rattle.thread_table.specs.Schedules.{Course, state_after, elements_after, IsAllowed, line_at, thread_at}
+use Rattle.thread_table.specs.Schedules.{element_at, line_name}
 use Rattle.thread_table.specs.Shown.{WordsShow, head_shown, tail_shown}
 use Rattle.thread_table.specs.Shown.{ends_word, seat_word, state_word, done_word, head_word, tail_word, place_word}
 use Rattle.thread_table.specs.Rules.{HandIs, Seen, IsSteady, IsNewest, done_at, nothing_held, no_processors, nothing_on}
 use Rattle.thread_table.specs.Makers.{made_in}
 use Rattle.thread_table.specs.Views.{quiet, with_held, with_claim, with_raise, with_on, with_off, with_start, count_of}
 
--- the view after a step that found this number in this word, when the schedule was so
-abbrev pub after : View → ℕ → ℕ → List Event → View
-after v word found schedule = record v {
-  schedule = schedule;
-  joined = schedule;
+abbrev pub entry : ℕ → ℕ → List Event → List Event → Entry (List Event)
+entry word found old new = record { word = word; found = found; then = old; next = new }
+
+-- the view after a step that found this number in this word, behind all steps of the course: it found the schedule so,
+-- and left it so
+abbrev pub after : View → ℕ → ℕ → Course → List Event → List Event → View
+after v word found past old new = record v {
+  schedule = new;
+  joined = new;
   counted = None;
-  steps = v.steps ++ record { word = word; found = found; then = schedule } ∷ [];
   fresh = true;
+  steps = v.steps ++ entry word found old new ∷ [];
+  course = past ++ entry word found old new ∷ [];
 }
 
+-- the same, where the step left the schedule as it was
+abbrev pub looked : View → ℕ → ℕ → Course → List Event → View
+looked v word found past schedule = after v word found past schedule schedule
+
 -- the view after a step that made this event, behind those
-abbrev pub made_by : View → ℕ → ℕ → List Event → Event → View
-made_by v word found before event = record (after v word found before) {
-  schedule = before ++ event ∷ [];
-  joined = before ++ event ∷ [];
+abbrev pub made_by : View → ℕ → ℕ → Course → List Event → Event → View
+made_by v word found past before event = record (after v word found past before (before ++ event ∷ [])) {
   made = v.made ++ made_in event (state_after before) ∷ [];
 }
 
@@ -51,7 +61,9 @@ pub record Sees (v : View) (schedule : List Event) : Type 0 where
 
 -- A number was found in a word, and nothing else changed for the hand
 pub record Found (v : View) (word found : ℕ) (w : View) : Type 0 where
-  pub same : w ≡ after v word found w.schedule
+  pub past : Course
+  pub follows : Begins v.course past
+  pub same : w ≡ looked v word found past w.schedule
   pub sees : Sees v w.schedule
   pub is : found ≡ slice_index_or sees.words word 0
 
@@ -61,10 +73,12 @@ finds st m r m' = (m'.1 ≡ m.1) × Found m.0 st.word r m'.0
 -- The hand made this event: the schedule is the one before it, with the event at its end
 pub record Did (call : ℕ) (v : View) (word found : ℕ) (event : Event) (knows : List Event → View) (w : View)
     : Type 0 where
+  pub past : Course
+  pub follows : Begins v.course past
   pub before : List Event
   pub sees : Sees v before
   pub hand : HandIs call v (elements_after before)
-  pub same : w ≡ made_by (knows before) word found before event
+  pub same : w ≡ made_by (knows before) word found past before event
   pub step : step event (state_after before) ≡ Ok (state_after (before ++ event ∷ []))
   pub allowed : IsAllowed (before ++ event ∷ [])
 
@@ -175,7 +189,9 @@ delivers call element st m r m' = Tries (Delivers call element st.first) st m r 
 
 -- the number of steps that the element had done was found
 pub record Counts (element : ℕ) (v : View) (found : ℕ) (w : View) : Type 0 where
-  pub same : w ≡ record (after v (done_word element) found w.schedule) { counted = Some (count_of element found) }
+  pub past : Course
+  pub follows : Begins v.course past
+  pub same : w ≡ record (looked v (done_word element) found past w.schedule) { counted = Some (count_of element found) }
   pub sees : Sees v w.schedule
   pub is : found ≡ done_at w.schedule element
 
@@ -190,37 +206,33 @@ Steps call element count v w =
 abbrev pub steps_on : ℕ → ℕ → ℕ → Step Unit → Me Unit View → ℕ → Me Unit View → Type 0
 steps_on call element count st m r m' = Makes (λ v found w. Steps call element count v w) st m r m'
 
--- the view after so many hands were found, and a split more
-abbrev pub with_split : View → ℕ → List Event → List Bool → View
-with_split v found events log = record (after v ends_word found events) { splits = v.splits + 1; log = log ++ true ∷ [] }
-
--- the same, and a join more
-abbrev pub with_join : View → ℕ → List Event → List Bool → View
-with_join v found events log = record (after v ends_word found events) { joins = v.joins + 1; log = log ++ false ∷ [] }
+-- the view after so many hands were found, which makes another of them of the hand
+abbrev pub counted : View → ℕ → Course → List Event → Member → View
+counted v found past schedule m = record (looked v ends_word found past schedule) { member = m }
 
 -- The number of hands was found, and made one more
 pub record CountedUp (v : View) (found : ℕ) (w : View) : Type 0 where
-  pub log : List Bool
-  pub same : w ≡ record (with_split v found w.schedule log) { ends = v.ends + 1 }
+  pub past : Course
+  pub follows : Begins v.course past
+  pub same : w ≡ counted v found past w.schedule w.member
   pub sees : Sees v w.schedule
-  pub later : Begins v.log log
-  pub number : IsNumber log found
+  pub member : members.CountedUp v.member found w.member
 
 -- The number of hands was found, and made one less
 pub record CountedDown (v : View) (found : ℕ) (w : View) : Type 0 where
-  pub log : List Bool
-  pub same : w ≡ record (with_join v found w.schedule log) { ends = v.ends - 1 }
+  pub past : Course
+  pub follows : Begins v.course past
+  pub same : w ≡ counted v found past w.schedule w.member
   pub sees : Sees v w.schedule
-  pub later : Begins v.log log
-  pub number : IsNumber log found
+  pub member : members.CountedDown v.member found w.member
 
 -- The number of hands was found: that of the splits and joins up to then, and 1 exactly where this hand has the whole
 pub record Tallied (v : View) (found : ℕ) (w : View) : Type 0 where
-  pub same : w ≡ record (after v ends_word found w.schedule) { log = w.log }
+  pub past : Course
+  pub follows : Begins v.course past
+  pub same : w ≡ counted v found past w.schedule w.member
   pub sees : Sees v w.schedule
-  pub later : Begins v.log w.log
-  pub number : IsNumber w.log found
-  pub count : IsCount v.share found
+  pub member : members.Tallied v.member found w.member
 
 abbrev pub counts_up : Step Unit → Me Unit View → ℕ → Me Unit View → Type 0
 counts_up st m r m' = Makes CountedUp st m r m'
@@ -258,7 +270,7 @@ either_on (Some x ∷ xs) (y ∷ ys) = Some x ∷ either_on xs ys
 
 -- what a split leaves
 abbrev pub rest_of : List Bool → View → View
-rest_of mask v = record v { serves = parted v.serves mask; counted = None; ends = v.ends - 1; share = kept v.share }
+rest_of mask v = record v { serves = parted v.serves mask; counted = None; member = members.rest_of v.member }
 
 -- the view of a new hand, which serves the processors of the mask
 abbrev pub newborn : List Bool → View → View
@@ -272,14 +284,11 @@ newborn mask v = record {
   claimed = None;
   counted = None;
   made = [];
-  steps = [];
   fresh = true;
   doubled = false;
-  ends = 1;
-  share = given v.share;
-  splits = 0;
-  joins = 0;
-  log = v.log;
+  member = members.newborn v.member;
+  steps = [];
+  course = v.course;
 }
 
 -- the view of a hand that took in a hand with the view w
@@ -294,14 +303,11 @@ both v w = record {
   claimed = None;
   counted = None;
   made = v.made ++ w.made;
-  steps = v.steps ++ w.steps;
   fresh = false;
   doubled = v.doubled || w.doubled || any_both v.held w.held || any_both v.serves w.serves;
-  ends = v.ends + w.ends;
-  share = v.share + w.share;
-  splits = v.splits + w.splits;
-  joins = v.joins + w.joins;
-  log = later_of v.log w.log;
+  member = members.both v.member w.member;
+  steps = v.steps ++ w.steps;
+  course = later_of v.course w.course;
 }
 
 -- the view of a hand that was taken in
@@ -316,12 +322,9 @@ emptied v = record {
   claimed = None;
   counted = None;
   made = [];
-  steps = [];
   fresh = false;
   doubled = false;
-  ends = 0;
-  share = 0;
-  splits = 0;
-  joins = 0;
-  log = v.log;
+  member = members.emptied v.member;
+  steps = [];
+  course = v.course;
 }

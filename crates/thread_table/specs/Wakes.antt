@@ -46,8 +46,9 @@ holding_as v w = record v {
   joined = w.joined;
   counted = w.counted;
   made = w.made;
-  steps = w.steps;
   fresh = true;
+  steps = w.steps;
+  course = w.course;
 }
 
 -- each of these events is a taking of one element from the queue by the call

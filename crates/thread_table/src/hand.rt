@@ -34,7 +34,7 @@ pub struct Hand {
     pub(crate) served: [bool; 8],
     pub(crate) running: [Option<Element>; 8],
     ghost bare: { seat.me.1 ≡ [] },
-    ghost one: { seat.me.0.ends ≡ 1 },
+    ghost one: { seat.me.0.member.ends ≡ 1 },
     ghost none: { seat.me.0.claimed ≡ None },
     ghost fresh: { seat.me.0.fresh ≡ true },
     ghost holding: { held ≡ seat.me.0.held },

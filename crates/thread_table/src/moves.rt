@@ -1,12 +1,18 @@
 //! Moves: an element that the hand holds gets the next place of an element queue.
-ghost use Rattle.std.specs.Prelude.{◌≡◌, ◌<◌, ◌+◌, true};
+ghost use Rattle.std.specs.Prelude.{◌≡◌, ◌<◌, ◌≤◌, ◌+◌, true, false, slice_set, Some};
+ghost use Rattle.table_theory.specs.Seating.{IsSame};
 ghost use Rattle.thread_table.specs.Handles.{view_of, call_of, IsHandOf, IsSameHand};
 ghost use Rattle.thread_table.specs.Answers.{MoveAnswer, WaitAnswer, IsTicket};
 ghost use Rattle.thread_table.specs.Rules.{has};
+ghost use Rattle.thread_table.specs.Steps.{Raises};
+ghost use Rattle.thread_table.specs.Views.{claim_of};
 
-use crate::hand::{Hand, ThreadTable};
-use crate::steps::{exchange_head, exchange_head_at, load_head, store_place};
+use crate::hand::{Hand, ThreadTable, set_held};
+use crate::plays::Deed;
+use crate::rule::View;
+use crate::steps::{Words, exchange_head, exchange_head_at, load_head, store_place};
 use crate::words::{FREE, HeadWord, PlaceWord, READY, of_wait};
+use atomic_table::Seat;
 use quaject_core::{Element, WaitNumber};
 use std::marker::Brand;
 use thiserror::Error;
@@ -25,6 +31,32 @@ pub enum MoveRefusal {
     /// that the exchange found.
     #[error("the number of notifies is {mark}")]
     Moved { mark: u32 },
+}
+
+// Raises the place that the hand has claimed for the element, which it then holds no more.
+fn raise<J: Deed>(
+    words: &Words,
+    seat: &mut Seat<(), View>,
+    held: &mut [bool; 64],
+    line: usize,
+    head: u64,
+    element: u8,
+)
+    requires queue { (seat.old.table_id ≡ words.now.table_id) × (words.now.table_id.words ≡ 1325) × (line < 18) }
+    requires mine { 1 ≤ seat.old.me.0.member.ends }
+    requires deed { (J.call ≡ seat.old.id) × (J.at ≡ line) × (J.element ≡ element) × (element < 64) }
+    requires claimed { seat.old.me.0.claimed ≡ Some (claim_of J.at J.number J.element) }
+    requires position { (head ≡ seat.old.me.0.first + J.number) × (head < 4294967295) }
+    ensures queue { IsSame seat.old seat.new × (seat.new.me.1 ≡ seat.old.me.1) }
+    ensures raised { Raises J.call J.at J.number J.element seat.old.me.0 seat.new.me.0 }
+    ensures held { held.new ≡ slice_set held.old element false }
+{
+    let place = PlaceWord {
+        element,
+        mark: head + 1,
+    };
+    store_place::<J>(words, seat, line, head, element, place.word());
+    set_held(held, element, false);
 }
 
 impl ThreadTable {
@@ -84,19 +116,14 @@ impl ThreadTable {
         if found != word {
             return Err(MoveRefusal::Lost { seen: found });
         }
-        let place = PlaceWord {
-            element: number,
-            mark: head + 1,
-        };
-        store_place::<Brand>(
+        raise::<Brand>(
             &self.table.shared,
             &mut hand.seat,
+            &mut hand.held,
             line,
             head,
             number,
-            place.word(),
         );
-        hand.held[usize::from(number)] = false;
         Ok(())
     }
 
@@ -127,7 +154,8 @@ impl ThreadTable {
             (view_of hand.new) }
     {
         let (number, queue) = (element.number(), wait.number());
-        let word = load_head(&self.table.shared, &mut hand.seat, of_wait(queue));
+        let line = of_wait(queue);
+        let word = load_head(&self.table.shared, &mut hand.seat, line);
         let HeadWord { head, mark } = HeadWord::of(word);
         if head == u32::MAX as u64 {
             return Err(MoveRefusal::Spent);
@@ -150,20 +178,14 @@ impl ThreadTable {
             }
             return Err(MoveRefusal::Lost { seen: found });
         }
-        let place = PlaceWord {
-            element: number,
-            mark: head + 1,
-        };
-        let line = of_wait(queue);
-        store_place::<Brand>(
+        raise::<Brand>(
             &self.table.shared,
             &mut hand.seat,
+            &mut hand.held,
             line,
             head,
             number,
-            place.word(),
         );
-        hand.held[usize::from(number)] = false;
         Ok(())
     }
 }

@@ -2,7 +2,7 @@
 use atomic_table::TableRule;
 use quaject_core::Event;
 use std::collections::LinkedList;
-use table_theory::views::Entry;
+use table_theory::views::{Entry, Member};
 
 /// What the rule is told when the table is made: the first position of each element queue.
 #[derive(Drop)]
@@ -33,10 +33,10 @@ pub struct Made {
 
 /// What a hand knows: the first position of each element queue, the schedule as it was at the hand's last step, and as
 /// a hand that it took in had seen it; what it holds, the processors that it serves and what it has on them; the run
-/// that it has claimed and not raised, and the number of steps that it has just found; the events that it made, and
-/// every step; whether it has made a step since it took in a hand, and whether both had something then; how many of the
-/// hands counted it is, and its share of the table; how often it was split and took in another hand, and the splits (true)
-/// and joins (false) of all hands up to its last step on their number. No value of it is made.
+/// that it has claimed and not raised, and the number of steps that it has just found; the events that it made; whether
+/// it has made a step since it took in a hand, and whether both had something then; which of the hands it is, every
+/// step that it made, and every step that any hand had made, with every join, up to its own last one. No value of it is
+/// made.
 pub struct View {
     pub first: u64,
     pub schedule: LinkedList<Event>,
@@ -47,14 +47,11 @@ pub struct View {
     pub claimed: Option<Claimed>,
     pub counted: Option<Counted>,
     pub made: LinkedList<Made>,
-    pub steps: LinkedList<Entry<LinkedList<Event>>>,
     pub fresh: bool,
     pub doubled: bool,
-    pub ends: u64,
-    pub share: u64,
-    pub splits: u64,
-    pub joins: u64,
-    pub log: LinkedList<bool>,
+    pub member: Member,
+    pub steps: LinkedList<Entry<LinkedList<Event>>>,
+    pub course: LinkedList<Entry<LinkedList<Event>>>,
 }
 
 pub struct ThreadRule;

@@ -77,7 +77,7 @@ pub(crate) fn exchange_head<J: Deed>(
     head: u64,
 ) -> u64
     requires queue { (seat.old.table_id ≡ words.now.table_id) × (words.now.table_id.words ≡ 1325) × (line < 18) }
-    requires mine { (1 ≤ seat.old.me.0.ends) × (seat.old.me.0.claimed ≡ None) }
+    requires mine { (1 ≤ seat.old.me.0.member.ends) × (seat.old.me.0.claimed ≡ None) }
     requires deed { (J.call ≡ seat.old.id) × (J.at ≡ line) × (J.element ≡ element) }
     requires held { (element < 64) × (has seat.old.me.0 element ≡ true) }
     requires room { head % 4294967296 + 1 < 4294967296 }
@@ -100,7 +100,7 @@ pub(crate) fn exchange_head_at<J: Deed>(
     head: u64,
 ) -> u64
     requires queue { (seat.old.table_id ≡ words.now.table_id) × (words.now.table_id.words ≡ 1325) × (wait < 16) }
-    requires mine { (1 ≤ seat.old.me.0.ends) × (seat.old.me.0.claimed ≡ None) }
+    requires mine { (1 ≤ seat.old.me.0.member.ends) × (seat.old.me.0.claimed ≡ None) }
     requires deed { (J.call ≡ seat.old.id) × (J.at ≡ wait) × (J.element ≡ element) × (J.number ≡ ticket) }
     requires held { (element < 64) × (has seat.old.me.0 element ≡ true) }
     requires room { head % 4294967296 + 1 < 4294967296 }
@@ -125,7 +125,7 @@ pub(crate) fn store_place<J: Deed>(
     new: u64,
 )
     requires queue { (seat.old.table_id ≡ words.now.table_id) × (words.now.table_id.words ≡ 1325) × (line < 18) }
-    requires mine { 1 ≤ seat.old.me.0.ends }
+    requires mine { 1 ≤ seat.old.me.0.member.ends }
     requires deed { (J.call ≡ seat.old.id) × (J.at ≡ line) × (J.element ≡ element) }
     requires claimed { seat.old.me.0.claimed ≡ Some (claim_of J.at J.number J.element) }
     requires position { (position ≡ seat.old.me.0.first + J.number) × (new ≡ J.element + 256 * (position + 1)) }
@@ -144,7 +144,7 @@ pub(crate) fn exchange_tail<J: Deed>(
     tail: u64,
 ) -> u64
     requires queue { (seat.old.table_id ≡ words.now.table_id) × (words.now.table_id.words ≡ 1325) × (line < 18) }
-    requires mine { (1 ≤ seat.old.me.0.ends) × (seat.old.me.0.claimed ≡ None) }
+    requires mine { (1 ≤ seat.old.me.0.member.ends) × (seat.old.me.0.claimed ≡ None) }
     requires deed { (J.call ≡ seat.old.id) × (J.at ≡ line) }
     requires raised { (run : ℕ) × (tail ≡ seat.old.me.0.first + run)
         × ((line_at (elements_after seat.old.me.0.schedule) line).raised run 0 ≡ true) }
@@ -159,7 +159,7 @@ pub(crate) fn exchange_tail<J: Deed>(
 
 pub(crate) fn add_notify<J: Deed>(words: &Words, seat: &mut Seat<(), View>, wait: u8) -> u64
     requires queue { (seat.old.table_id ≡ words.now.table_id) × (words.now.table_id.words ≡ 1325) × (wait < 16) }
-    requires mine { (1 ≤ seat.old.me.0.ends) × (seat.old.me.0.claimed ≡ None) }
+    requires mine { (1 ≤ seat.old.me.0.member.ends) × (seat.old.me.0.claimed ≡ None) }
     requires deed { (J.call ≡ seat.old.id) × (J.at ≡ wait) }
     ensures queue { IsSame seat.old seat.new × (seat.new.me.1 ≡ seat.old.me.1) }
     ensures notified { Notifies J.call J.at seat.old.me.0 result seat.new.me.0 }
@@ -169,7 +169,7 @@ pub(crate) fn add_notify<J: Deed>(words: &Words, seat: &mut Seat<(), View>, wait
 
 pub(crate) fn swap_on<J: Deed>(words: &Words, seat: &mut Seat<(), View>, processor: u8, element: u8)
     requires queue { (seat.old.table_id ≡ words.now.table_id) × (words.now.table_id.words ≡ 1325) }
-    requires mine { (1 ≤ seat.old.me.0.ends) × (seat.old.me.0.claimed ≡ None) }
+    requires mine { (1 ≤ seat.old.me.0.member.ends) × (seat.old.me.0.claimed ≡ None) }
     requires deed { (J.call ≡ seat.old.id) × (J.at ≡ processor) × (J.element ≡ element) }
     requires held { (element < 64) × (has seat.old.me.0 element ≡ true) }
     requires empty { (processor < 8) × (serves seat.old.me.0 processor ≡ true)
@@ -187,7 +187,7 @@ pub(crate) fn swap_off<J: Deed>(
     element: u8,
 )
     requires queue { (seat.old.table_id ≡ words.now.table_id) × (words.now.table_id.words ≡ 1325) }
-    requires mine { (1 ≤ seat.old.me.0.ends) × (seat.old.me.0.claimed ≡ None) }
+    requires mine { (1 ≤ seat.old.me.0.member.ends) × (seat.old.me.0.claimed ≡ None) }
     requires deed { (J.call ≡ seat.old.id) × (J.at ≡ processor) × (J.element ≡ element) }
     requires there { (processor < 8) × (serves seat.old.me.0 processor ≡ true)
         × (running seat.old.me.0 processor ≡ Some element) }
@@ -209,7 +209,7 @@ pub(crate) fn load_state(words: &Words, seat: &mut Seat<(), View>, element: u8) 
 
 pub(crate) fn or_stop<J: Deed>(words: &Words, seat: &mut Seat<(), View>, element: u8) -> u64
     requires queue { (seat.old.table_id ≡ words.now.table_id) × (words.now.table_id.words ≡ 1325) × (element < 64) }
-    requires mine { (1 ≤ seat.old.me.0.ends) × (seat.old.me.0.claimed ≡ None) }
+    requires mine { (1 ≤ seat.old.me.0.member.ends) × (seat.old.me.0.claimed ≡ None) }
     requires deed { (J.call ≡ seat.old.id) × (J.element ≡ element) }
     ensures queue { IsSame seat.old seat.new × (seat.new.me.1 ≡ seat.old.me.1) }
     ensures stopped { Marks J.call J.element (events.Stop J.call J.element) seat.old.me.0 result seat.new.me.0 }
@@ -224,7 +224,7 @@ pub(crate) fn or_signal<J: Deed>(
     signal: u8,
 ) -> u64
     requires queue { (seat.old.table_id ≡ words.now.table_id) × (words.now.table_id.words ≡ 1325) × (element < 64) }
-    requires mine { (1 ≤ seat.old.me.0.ends) × (seat.old.me.0.claimed ≡ None) }
+    requires mine { (1 ≤ seat.old.me.0.member.ends) × (seat.old.me.0.claimed ≡ None) }
     requires deed { (J.call ≡ seat.old.id) × (J.element ≡ element) × (J.number ≡ signal) × (signal < 16) }
     ensures queue { IsSame seat.old seat.new × (seat.new.me.1 ≡ seat.old.me.1) }
     ensures signalled { Marks J.call J.element (events.Signal J.call J.element J.number) seat.old.me.0 result
@@ -241,7 +241,7 @@ pub(crate) fn exchange_park<J: Deed>(
     new: u64,
 ) -> u64
     requires queue { (seat.old.table_id ≡ words.now.table_id) × (words.now.table_id.words ≡ 1325) }
-    requires mine { (1 ≤ seat.old.me.0.ends) × (seat.old.me.0.claimed ≡ None) }
+    requires mine { (1 ≤ seat.old.me.0.member.ends) × (seat.old.me.0.claimed ≡ None) }
     requires deed { (J.call ≡ seat.old.id) × (J.element ≡ element) }
     requires held { (element < 64) × (has seat.old.me.0 element ≡ true) }
     requires stopping { (bit_at old 16 ≡ 1) × (new ≡ bit_or old 131072) }
@@ -261,7 +261,7 @@ pub(crate) fn exchange_start<J: Deed>(
     new: u64,
 ) -> u64
     requires queue { (seat.old.table_id ≡ words.now.table_id) × (words.now.table_id.words ≡ 1325) × (element < 64) }
-    requires mine { (1 ≤ seat.old.me.0.ends) × (seat.old.me.0.claimed ≡ None) }
+    requires mine { (1 ≤ seat.old.me.0.member.ends) × (seat.old.me.0.claimed ≡ None) }
     requires deed { (J.call ≡ seat.old.id) × (J.element ≡ element) }
     requires stopping { (bit_at old 16 ≡ 1) × (new ≡ bit_and old 65535) }
     ensures queue { IsSame seat.old seat.new × (seat.new.me.1 ≡ seat.old.me.1) }
@@ -280,7 +280,7 @@ pub(crate) fn exchange_deliver<J: Deed>(
     new: u64,
 ) -> u64
     requires queue { (seat.old.table_id ≡ words.now.table_id) × (words.now.table_id.words ≡ 1325) }
-    requires mine { (1 ≤ seat.old.me.0.ends) × (seat.old.me.0.claimed ≡ None) }
+    requires mine { (1 ≤ seat.old.me.0.member.ends) × (seat.old.me.0.claimed ≡ None) }
     requires deed { (J.call ≡ seat.old.id) × (J.element ≡ element) }
     requires held { (element < 64) × (has seat.old.me.0 element ≡ true) }
     requires new { new ≡ bit_and old 196608 }
@@ -295,7 +295,7 @@ pub(crate) fn exchange_deliver<J: Deed>(
 // The number of steps done of an element that the hand holds or has on a processor.
 pub(crate) fn load_done<J: Deed>(words: &Words, seat: &mut Seat<(), View>, element: u8) -> u64
     requires queue { (seat.old.table_id ≡ words.now.table_id) × (words.now.table_id.words ≡ 1325) × (element < 64) }
-    requires mine { (1 ≤ seat.old.me.0.ends) × MayStep seat.old.me.0 element × (J.element ≡ element) }
+    requires mine { (1 ≤ seat.old.me.0.member.ends) × MayStep seat.old.me.0 element × (J.element ≡ element) }
     ensures queue { IsSame seat.old seat.new × (seat.new.me.1 ≡ seat.old.me.1) }
     ensures counted { Counts J.element seat.old.me.0 result seat.new.me.0 }
     ensures small { result < 4294967296 }
@@ -305,7 +305,7 @@ pub(crate) fn load_done<J: Deed>(words: &Words, seat: &mut Seat<(), View>, eleme
 
 pub(crate) fn store_done<J: Deed>(words: &Words, seat: &mut Seat<(), View>, element: u8, done: u64)
     requires queue { (seat.old.table_id ≡ words.now.table_id) × (words.now.table_id.words ≡ 1325) × (element < 64) }
-    requires mine { (1 ≤ seat.old.me.0.ends) × (seat.old.me.0.claimed ≡ None) }
+    requires mine { (1 ≤ seat.old.me.0.member.ends) × (seat.old.me.0.claimed ≡ None) }
     requires deed { (J.call ≡ seat.old.id) × (J.element ≡ element) × (J.number ≡ done) }
     requires counted { (seat.old.me.0.counted ≡ Some (count_of J.element J.number)) × (done < 4294967295) }
     ensures queue { IsSame seat.old seat.new × (seat.new.me.1 ≡ seat.old.me.1) }
@@ -316,7 +316,7 @@ pub(crate) fn store_done<J: Deed>(words: &Words, seat: &mut Seat<(), View>, elem
 
 pub(crate) fn count_up(words: &Words, seat: &mut Seat<(), View>) -> u64
     requires queue { (seat.old.table_id ≡ words.now.table_id) × (words.now.table_id.words ≡ 1325) }
-    requires parts { seat.old.me.0.ends + 1 ≤ seat.old.me.0.share }
+    requires parts { seat.old.me.0.member.ends + 1 ≤ seat.old.me.0.member.share }
     ensures queue { IsSame seat.old seat.new × (seat.new.me.1 ≡ seat.old.me.1) }
     ensures counted { CountedUp seat.old.me.0 result seat.new.me.0 }
 {
@@ -325,7 +325,7 @@ pub(crate) fn count_up(words: &Words, seat: &mut Seat<(), View>) -> u64
 
 pub(crate) fn count_down(words: &Words, seat: &mut Seat<(), View>) -> u64
     requires queue { (seat.old.table_id ≡ words.now.table_id) × (words.now.table_id.words ≡ 1325) }
-    requires live { 2 ≤ seat.old.me.0.ends }
+    requires live { 2 ≤ seat.old.me.0.member.ends }
     ensures queue { IsSame seat.old seat.new × (seat.new.me.1 ≡ seat.old.me.1) }
     ensures counted { CountedDown seat.old.me.0 result seat.new.me.0 }
 {
@@ -334,7 +334,7 @@ pub(crate) fn count_down(words: &Words, seat: &mut Seat<(), View>) -> u64
 
 pub(crate) fn count(words: &Words, seat: &mut Seat<(), View>) -> u64
     requires queue { (seat.old.table_id ≡ words.now.table_id) × (words.now.table_id.words ≡ 1325) }
-    requires live { seat.old.me.0.ends ≡ 1 }
+    requires live { seat.old.me.0.member.ends ≡ 1 }
     ensures queue { IsSame seat.old seat.new × (seat.new.me.1 ≡ seat.old.me.1) }
     ensures tallied { Tallied seat.old.me.0 result seat.new.me.0 }
 {
@@ -348,7 +348,7 @@ pub(crate) fn split_off<J: Mask>(
     mask: &[bool; 8],
 ) -> Seat<(), View>
     requires queue { (seat.old.table_id ≡ words.now.table_id) × (words.now.table_id.words ≡ 1325) }
-    requires live { seat.old.me.0.ends ≡ 2 }
+    requires live { seat.old.me.0.member.ends ≡ 2 }
     requires mask { (J.mask ≡ mask.now) × ((p : ℕ) → slice_index_or mask.now p false ≡ true
         → (serves seat.old.me.0 p ≡ true) × (running seat.old.me.0 p ≡ None)) }
     ensures queue { IsSame seat.old seat.new × (result.table_id ≡ seat.old.table_id) }
@@ -362,7 +362,7 @@ pub(crate) fn split_off<J: Mask>(
 pub(crate) fn take_in<J: Spent>(words: &Words, seat: &mut Seat<(), View>, other: Seat<(), View>)
     requires queue { (seat.old.table_id ≡ words.now.table_id) × (other.table_id ≡ words.now.table_id)
         × (other.me.1 ≡ []) × (words.now.table_id.words ≡ 1325) }
-    requires live { (1 ≤ seat.old.me.0.ends) × (1 ≤ other.me.0.ends) }
+    requires live { (1 ≤ seat.old.me.0.member.ends) × (1 ≤ other.me.0.member.ends) }
     requires none { (seat.old.me.0.claimed ≡ None) × (other.me.0.claimed ≡ None) }
     requires spent { J.view ≡ emptied seat.old.me.0 }
     ensures queue { IsSame seat.old seat.new }

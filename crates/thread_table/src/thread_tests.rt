@@ -135,7 +135,7 @@ fn part(table: &ThreadTable, hand: &mut Hand, processor: Processor) -> Option<Ha
     requires parts { IsDivisible hand.old }
     ensures same { IsSameHand hand.old hand.new }
     ensures part { IfSome result (λ other. AreOfOneTable hand.old other
-        × ((view_of hand.new).share ≡ kept (view_of hand.old).share)) }
+        × ((view_of hand.new).member.share ≡ kept (view_of hand.old).member.share)) }
 {
     if !hand.serves(processor) {
         return None;

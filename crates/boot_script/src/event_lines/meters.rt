@@ -15,7 +15,8 @@ use quaject_core::Event;
 /// `tick c g n`
 #[tactic(auto, unfolding(crate::specs::Grammar::three_words))]
 pub(super) fn tick_said(words: &mut Words) -> Result<Event, ScriptRefusal>
-    ensures { Gives (λ event. event) result (three_words call_of gauge_of (number_of 18446744073709551615) Event.Tick words.old) }
+    ensures { Gives (λ event. event) result (three_words call_of gauge_of
+        (number_of 18446744073709551615) Event.Tick words.old) }
 {
     let call = call(words.next_word())?;
     let gauge = gauge(words.next_word())?;
@@ -41,7 +42,8 @@ pub(super) fn advance_said(words: &mut Words) -> Result<Event, ScriptRefusal>
 /// `set c due e s`
 #[tactic(auto, unfolding(crate::specs::Grammar::four_words))]
 pub(super) fn set_said(version: Version, words: &mut Words) -> Result<Event, ScriptRefusal>
-    ensures { Gives (λ event. event) result (four_words call_of (number_of 4294967295) (element_of version) signal_of Event.Set words.old) }
+    ensures { Gives (λ event. event) result (four_words call_of (number_of 4294967295)
+        (element_of version) signal_of Event.Set words.old) }
 {
     let call = call(words.next_word())?;
     let due = number_u32(words.next_word())?;

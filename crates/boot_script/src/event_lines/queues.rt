@@ -28,7 +28,7 @@ pub(super) fn queue_said(words: &mut Words) -> Result<Event, ScriptRefusal>
 }
 
 /// All words that are left, as items. After a refused growth the words are still checked.
-fn items(alloc: Global, words: &mut Words) -> Result<Items, ScriptRefusal>
+fn items(alloc: Global, words: &mut Words) -> Result<Items<u64>, ScriptRefusal>
     ensures { Gives (λ items. items) result (items_of words.old) }
 {
     let mut items = Vec::new(alloc);
@@ -66,7 +66,8 @@ pub(super) fn claim_said(
 /// `raise c Q run i`
 #[tactic(auto, unfolding(crate::specs::Grammar::four_words))]
 pub(super) fn raise_said(version: Version, words: &mut Words) -> Result<Event, ScriptRefusal>
-    ensures { Gives (λ event. event) result (four_words call_of (queue_of version) (number_of 4294967295) (number_of 4294967295) Event.Raise words.old) }
+    ensures { Gives (λ event. event) result (four_words call_of (queue_of version) (number_of 4294967295)
+        (number_of 4294967295) Event.Raise words.old) }
 {
     let call = call(words.next_word())?;
     let queue = queue(version, words.next_word())?;
@@ -84,7 +85,8 @@ pub(super) fn raise_said(version: Version, words: &mut Words) -> Result<Event, S
 /// `take c Q n`
 #[tactic(auto, unfolding(crate::specs::Grammar::three_words))]
 pub(super) fn take_said(version: Version, words: &mut Words) -> Result<Event, ScriptRefusal>
-    ensures { Gives (λ event. event) result (three_words call_of (queue_of version) (number_of 4294967295) Event.Take words.old) }
+    ensures { Gives (λ event. event) result (three_words call_of (queue_of version)
+        (number_of 4294967295) Event.Take words.old) }
 {
     let call = call(words.next_word())?;
     let queue = queue(version, words.next_word())?;

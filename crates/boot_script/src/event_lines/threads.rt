@@ -15,7 +15,8 @@ use quaject_core::Event;
 /// `on c p e`
 #[tactic(auto, unfolding(crate::specs::Grammar::three_words))]
 pub(super) fn on_said(version: Version, words: &mut Words) -> Result<Event, ScriptRefusal>
-    ensures { Gives (λ event. event) result (three_words call_of (processor_of version) (element_of version) Event.On words.old) }
+    ensures { Gives (λ event. event) result (three_words call_of (processor_of version)
+        (element_of version) Event.On words.old) }
 {
     let call = call(words.next_word())?;
     let processor = processor(version, words.next_word())?;
@@ -75,7 +76,8 @@ pub(super) fn start_said(version: Version, words: &mut Words) -> Result<Event, S
 /// `signal c e s`
 #[tactic(auto, unfolding(crate::specs::Grammar::three_words))]
 pub(super) fn signal_said(version: Version, words: &mut Words) -> Result<Event, ScriptRefusal>
-    ensures { Gives (λ event. event) result (three_words call_of (element_of version) signal_of Event.Signal words.old) }
+    ensures { Gives (λ event. event) result (three_words call_of
+        (element_of version) signal_of Event.Signal words.old) }
 {
     let call = call(words.next_word())?;
     let element = element(version, words.next_word())?;
@@ -113,7 +115,8 @@ pub(super) fn done_said(version: Version, words: &mut Words) -> Result<Event, Sc
 /// `waitat c w e T`
 #[tactic(auto, unfolding(crate::specs::Grammar::four_words))]
 pub(super) fn wait_at_said(version: Version, words: &mut Words) -> Result<Event, ScriptRefusal>
-    ensures { Gives (λ event. event) result (four_words call_of (wait_of version) (element_of version) (number_of 4294967295) Event.WaitAt words.old) }
+    ensures { Gives (λ event. event) result (four_words call_of (wait_of version) (element_of version)
+        (number_of 4294967295) Event.WaitAt words.old) }
 {
     let call = call(words.next_word())?;
     let wait = wait(version, words.next_word())?;

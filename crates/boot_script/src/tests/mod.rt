@@ -1,5 +1,42 @@
 //! Tests in tables: lists of events that are read or refused, what is printed, and whole replays.
 
+use std::alloc::Global;
+use std::io;
+use std::io::Write;
+
 mod printing;
 mod reading;
 mod replays;
+
+/// Keeps the bytes of all writes, and counts the writes and those that end with the end of a line.
+#[derive(Drop)]
+struct Counted {
+    bytes: Vec<u8>,
+    writes: u32,
+    whole: u32,
+}
+
+impl Counted {
+    fn new(alloc: Global) -> Counted {
+        Counted {
+            bytes: Vec::new(alloc),
+            writes: 0,
+            whole: 0,
+        }
+    }
+}
+
+impl Write for Counted {
+    fn write(&mut self, buf: &[u8]) -> io::Result<usize> {
+        self.bytes.extend_from_slice(buf)?;
+        self.writes = self.writes.saturating_add(1);
+        if buf.ends_with(b"\n") {
+            self.whole = self.whole.saturating_add(1);
+        }
+        Ok(buf.len())
+    }
+
+    fn flush(&mut self) -> io::Result<()> {
+        Ok(())
+    }
+}

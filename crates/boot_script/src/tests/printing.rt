@@ -1,9 +1,10 @@
 //! What is printed of a core, and of faults.
 
+use super::Counted;
 use crate::*;
 use quaject_core::{
-    AlarmStatus, Call, ChainList, ChainStatus, ElementList, ElementStatus, Gate, Place, Processor,
-    QueueList, QueueStatus, Refusal, Status, WaitNumber,
+    AlarmStatus, Call, ChainStatus, ElementStatus, Gate, Items, Place, Processor, QueueStatus,
+    Refusal, Status, WaitNumber,
 };
 use std::alloc::Global;
 use std::io;
@@ -109,9 +110,9 @@ fn full_status(alloc: Global) -> Result<Status, Fail> {
     ];
     Ok(Status {
         events: 18_446_744_073_709_551_615,
-        queues: QueueList::new(Vec::from_slice(alloc, &queues)?),
-        chains: ChainList::new(Vec::from_slice(alloc, &chains)?),
-        elements: ElementList::new(Vec::from_slice(alloc, &elements)?),
+        queues: Items::new(Vec::from_slice(alloc, &queues)?),
+        chains: Items::new(Vec::from_slice(alloc, &chains)?),
+        elements: Items::new(Vec::from_slice(alloc, &elements)?),
         gauges: [0, 7, 0, 0, 0, 0, 0, 18_446_744_073_709_551_615],
         clock: 9,
         alarms: AlarmStatus {
@@ -159,13 +160,84 @@ fn a_write_may_fail_at_each_call(rt: HostRuntime) -> Result<(), Fail> {
     Ok(())
 }
 
+/// As many queues as this, as many of all else as a core can have, and each number at its greatest.
+fn longest_status(alloc: Global, queues: usize) -> Result<Status, Fail> {
+    let queue = QueueStatus {
+        capacity: u16::MAX,
+        runs: u64::MAX,
+        put: u64::MAX,
+        taken: u64::MAX,
+        left: u64::MAX,
+        raised: u64::MAX,
+        shut: true,
+    };
+    let chain = ChainStatus {
+        put: u64::MAX,
+        taken: u64::MAX,
+        left: u64::MAX,
+        gate: Gate::Running,
+    };
+    let processor = Processor::new(7).ok_or("no processor")?;
+    let element = element_status(Place::Processor(processor), u32::MAX, u16::MAX, true);
+    Ok(Status {
+        events: u64::MAX,
+        queues: Items::new(vec![in alloc; queue; queues]?),
+        chains: Items::new(vec![in alloc; chain; 8]?),
+        elements: Items::new(vec![in alloc; element; 64]?),
+        gauges: [u64::MAX; 8],
+        clock: u32::MAX,
+        alarms: AlarmStatus {
+            set: u64::MAX,
+            fired: u64::MAX,
+            cancelled: u64::MAX,
+        },
+        notified: [u32::MAX; 16],
+    })
+}
+
+fn lines_of(bytes: &[u8]) -> usize {
+    bytes.iter().filter(|byte| **byte == b'\n').count()
+}
+
+/// The longest status that a core can have is one write.
+#[test]
+fn a_status_is_one_write(rt: HostRuntime) -> Result<(), Fail> {
+    let status = longest_status(rt.alloc(), 8)?;
+    let mut out = Counted::new(rt.alloc());
+    assert!(rt; print_status(&status, &mut out).is_ok());
+    assert_eq!(rt; (out.writes, out.whole), (1, 1));
+    assert_eq!(rt; lines_of(&out.bytes), 107);
+    assert!(rt; out.bytes.ends_with(b"notified w15 4294967295\n"));
+    Ok(())
+}
+
+/// A status that no core has may be longer than a page. It goes in pieces, and none is lost.
+#[test]
+fn a_longer_status_is_written_whole(rt: HostRuntime) -> Result<(), Fail> {
+    let status = longest_status(rt.alloc(), 100)?;
+    let mut out = Counted::new(rt.alloc());
+    assert!(rt; print_status(&status, &mut out).is_ok());
+    let mut front = Vec::from_slice(rt.alloc(), b"events 18446744073709551615\n")?;
+    let most = "18446744073709551615";
+    for number in 0..100 {
+        writeln!(
+            front,
+            "queue q{number} capacity 65535 runs {most} put {most} taken {most} left {most} raised {most} shut"
+        )?;
+    }
+    assert!(rt; out.bytes.starts_with(&front));
+    assert_eq!(rt; lines_of(&out.bytes), 199);
+    assert!(rt; out.bytes.ends_with(b"notified w15 4294967295\n"));
+    Ok(())
+}
+
 #[test]
 fn a_first_status_has_one_line(rt: HostRuntime) {
     let status = Status {
         events: 0,
-        queues: QueueList::new(Vec::new(rt.alloc())),
-        chains: ChainList::new(Vec::new(rt.alloc())),
-        elements: ElementList::new(Vec::new(rt.alloc())),
+        queues: Items::new(Vec::new(rt.alloc())),
+        chains: Items::new(Vec::new(rt.alloc())),
+        elements: Items::new(Vec::new(rt.alloc())),
         gauges: [0; 8],
         clock: 0,
         alarms: AlarmStatus {
@@ -199,7 +271,7 @@ fn faults_have_names_and_numbers(rt: HostRuntime) -> Result<(), Fail> {
         (ScriptRefusal::OutOfMemory, 10, "OutOfMemory"),
     ];
     for (refusal, number, name) in names {
-        assert_eq!(rt; refusal.number(), number);
+        assert_eq!(rt; refusal as u8, number);
         assert_eq!(rt; format!(in rt.alloc(); "{refusal}")?.as_str(), name);
     }
     let fault = ScriptFault {

@@ -16,7 +16,7 @@ fn script(alloc: Global, first: &[u8], line: &[u8]) -> Result<Vec<u8>, Fail> {
 fn fault_of(alloc: Global, text: &[u8]) -> (u32, u8) {
     match parse_events(alloc, text) {
         Ok(_) => (0, 0),
-        Err(fault) => (fault.line, fault.refusal.number()),
+        Err(fault) => (fault.line, fault.refusal as u8),
     }
 }
 
@@ -316,6 +316,9 @@ fn a_script_has_65536_bytes_at_most(rt: HostRuntime) -> Result<(), Fail> {
 
 /// Where an allocation is refused, the next try is as if it had not been. A fault of the text is told whether there is
 /// memory or not.
+///
+/// `tools/refused-memory-tests` refuses an allocation of this test, and `tools/refused-memory` each one of the
+/// built program, in lists with and without a fault.
 #[test]
 fn memory_may_be_wanting(rt: HostRuntime) {
     let faulty = b"events 1\nclaim c1 q0 1 2 3 4 5\nclaim c1 q0 1 2 3\nqueue\n";
@@ -339,8 +342,8 @@ fn versions_have_their_elements_and_laws_hold(rt: HostRuntime) {
     for (version, elements) in [(Version::One, 16), (Version::Two, 16), (Version::Three, 64)] {
         assert_eq!(rt; version.elements(), elements);
     }
-    one_spelling();
-    read_again();
-    whole_text();
-    memory_is_no_fault();
+    laws::one_spelling();
+    laws::read_again();
+    laws::whole_text();
+    laws::memory_is_no_fault();
 }

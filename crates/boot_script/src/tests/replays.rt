@@ -1,14 +1,16 @@
-//! Whole replays, and readers and writers that fail.
+//! Whole replays in both forms, and readers and writers that fail.
 
+use super::Counted;
 use crate::*;
 use quaject_core::Refusal;
 use std::alloc::Global;
 use std::io;
 use std::io::{ErrorKind, Read, Write};
+use std::process::Abort;
 use std::test::Fail;
 
 /// A text of 8 bytes is read by 9 calls: one for each byte, and one that finds the end.
-#[derive(Drop)]
+#[derive(Clone, Copy)]
 struct OneByOne<'a> {
     bytes: &'a [u8],
     interrupts: u32,
@@ -47,7 +49,7 @@ fn one_by_one(bytes: &[u8], interrupts: u32, fails_at: u32) -> OneByOne<'_> {
 }
 
 /// A page that takes no memory, and takes one byte a call. It fails at one call.
-#[derive(Drop)]
+#[derive(Clone, Copy)]
 struct Page {
     bytes: [u8; 128],
     len: usize,
@@ -89,6 +91,26 @@ impl Page {
     fn text(&self) -> &[u8] {
         self.bytes.get(..self.len).unwrap_or(&[])
     }
+}
+
+/// How a replay ends. Both forms answer the same, write the same bytes, and leave the reader at the same place: the
+/// streams are lent to each, so that all bytes are seen.
+fn replayed(
+    rt: &impl Abort,
+    alloc: Global,
+    reader: OneByOne<'_>,
+    page: Page,
+) -> (Result<Replayed, ReplayFault>, Page) {
+    let (mut read, mut written) = (reader, page);
+    let answer = replay_on(alloc, &mut read, &mut written);
+    let (mut read_by_value, mut written_by_value) = (reader, page);
+    let answer_by_value = replay(alloc, &mut read_by_value, &mut written_by_value);
+    assert_eq!(rt; answer_by_value, answer);
+    assert_eq!(rt; written_by_value.text(), written.text());
+    assert_eq!(rt; written_by_value.calls, written.calls);
+    assert_eq!(rt; read_by_value.bytes, read.bytes);
+    assert_eq!(rt; read_by_value.calls, read.calls);
+    (answer, written)
 }
 
 const REFUSED: &[u8] =
@@ -138,20 +160,38 @@ fn lists_of_events_are_replayed(rt: HostRuntime) -> Result<(), Fail> {
         let mut input = text;
         assert_eq!(rt; replay_on(rt.alloc(), &mut input, &mut out), Ok(answer));
         assert_eq!(rt; out.as_slice(), printed);
-        assert_eq!(rt; replay(rt.alloc(), text, Page::new(0)), Ok(answer));
+        assert!(rt; input.is_empty());
+        let (ended, page) = replayed(&rt, rt.alloc(), one_by_one(text, 0, 0), Page::new(0));
+        assert_eq!(rt; ended, Ok(answer));
+        assert_eq!(rt; page.text(), printed);
     }
     Ok(())
+}
+
+/// Nothing is written, by either form.
+#[test]
+fn a_fault_of_the_text_is_answered(rt: HostRuntime) {
+    let rows: [(&[u8], u32, ScriptRefusal); 3] = [
+        (b"", 1, ScriptRefusal::NotVersion),
+        (b"events 1\nqueue 4\nque", 3, ScriptRefusal::UnknownWord),
+        (&[b'#'; 65_537], 0, ScriptRefusal::TooMany),
+    ];
+    for (text, line, refusal) in rows {
+        let (ended, page) = replayed(&rt, rt.alloc(), one_by_one(text, 0, 0), Page::new(0));
+        let fault = ScriptFault { line, refusal };
+        assert_eq!(rt; ended, Err(ReplayFault::Script(fault)));
+        assert_eq!(rt; page.calls, 0);
+    }
 }
 
 #[test]
 fn a_read_may_fail_at_each_call(rt: HostRuntime) {
     for fails_at in 1..11 {
-        let mut reader = one_by_one(b"events 1", 3, fails_at);
-        let mut page = Page::new(0);
-        let answer = replay_on(rt.alloc(), &mut reader, &mut page);
+        let reader = one_by_one(b"events 1", 3, fails_at);
+        let (answer, page) = replayed(&rt, rt.alloc(), reader, Page::new(0));
         if fails_at < 10 {
             assert_eq!(rt; answer, Err(ReplayFault::Read));
-            assert_eq!(rt; page.len, 0);
+            assert_eq!(rt; page.calls, 0);
         } else {
             assert_eq!(rt; answer, Ok(Replayed::AllAllowed));
             assert_eq!(rt; page.text(), b"events 0\n".as_slice());
@@ -161,38 +201,57 @@ fn a_read_may_fail_at_each_call(rt: HostRuntime) {
 
 #[test]
 fn interrupted_reads_count(rt: HostRuntime) {
-    let mut page = Page::new(1);
-    let mut reader = one_by_one(b"", 131_072, 0);
-    assert_eq!(rt;
-        replay_on(rt.alloc(), &mut reader, &mut page),
-        Err(ReplayFault::Read)
-    );
-    let mut reader = one_by_one(b"", 131_071, 0);
+    let reader = one_by_one(b"", 131_072, 0);
+    let (answer, page) = replayed(&rt, rt.alloc(), reader, Page::new(1));
+    assert_eq!(rt; answer, Err(ReplayFault::Read));
+    assert_eq!(rt; page.calls, 0);
+    let reader = one_by_one(b"", 131_071, 0);
     let no_bytes = ScriptFault {
         line: 1,
         refusal: ScriptRefusal::NotVersion,
     };
-    assert_eq!(rt;
-        replay_on(rt.alloc(), &mut reader, &mut page),
-        Err(ReplayFault::Script(no_bytes))
-    );
-    assert_eq!(rt; page.len, 0);
+    let (answer, page) = replayed(&rt, rt.alloc(), reader, Page::new(1));
+    assert_eq!(rt; answer, Err(ReplayFault::Script(no_bytes)));
+    assert_eq!(rt; page.calls, 0);
 }
 
 #[test]
 fn a_write_may_fail_at_each_call(rt: HostRuntime) -> Result<(), Fail> {
     let calls = u32::try_from(REFUSED_PRINTED.len()).map_err(|_| "too long")?;
     for fails_at in 1..200 {
-        let mut input = REFUSED;
-        let mut page = Page::new(fails_at);
-        let answer = replay_on(rt.alloc(), &mut input, &mut page);
+        let reader = one_by_one(REFUSED, 0, 0);
+        let (answer, page) = replayed(&rt, rt.alloc(), reader, Page::new(fails_at));
         if fails_at <= calls {
             assert_eq!(rt; answer, Err(ReplayFault::Write));
+            assert_eq!(rt; page.calls, fails_at);
             assert!(rt; REFUSED_PRINTED.starts_with(page.text()));
         } else {
             assert_eq!(rt; answer, Ok(NOT_RAISED));
             assert_eq!(rt; page.text(), REFUSED_PRINTED);
         }
     }
+    Ok(())
+}
+
+/// 64 elements are taken, and then one more: 65 lines of a status and the line of the refusal are two writes.
+#[test]
+fn whole_lines_are_written(rt: HostRuntime) -> Result<(), Fail> {
+    let mut text = Vec::from_slice(rt.alloc(), b"events 3\n")?;
+    let mut printed = Vec::from_slice(rt.alloc(), b"events 64\n")?;
+    for element in 0..64 {
+        text.extend_from_slice(b"take c0 free 1\n")?;
+        writeln!(printed, "element e{element} held0 done 0 pending 0000")?;
+    }
+    text.extend_from_slice(b"take c0 free 1\n")?;
+    printed.extend_from_slice(b"refused 66 7 NotRaised\n")?;
+    let mut out = Counted::new(rt.alloc());
+    let mut input = text.as_slice();
+    let refused = Replayed::Refused {
+        line: 66,
+        refusal: Refusal::NotRaised,
+    };
+    assert_eq!(rt; replay(rt.alloc(), &mut input, &mut out), Ok(refused));
+    assert_eq!(rt; (out.writes, out.whole), (2, 2));
+    assert_eq!(rt; out.bytes.as_slice(), printed.as_slice());
     Ok(())
 }

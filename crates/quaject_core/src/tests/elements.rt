@@ -23,7 +23,8 @@ fn a_new_core_has_free_elements_alone(rt: HostRuntime) -> Result<(), Fail> {
     Ok(())
 }
 
-/// Where an allocation is refused, the events before it stand, and a run of the rest goes on from there.
+/// Where an allocation is refused, the events before it stand, and a run of the rest goes on from there. The gate refuses
+/// none here: it is for runs by hand with `rt try --test --fail-alloc N`.
 #[test]
 fn a_run_goes_on_after_refused_memory(rt: HostRuntime) -> Result<(), Fail> {
     let events = one_note(rt.alloc())?;

@@ -30,13 +30,13 @@ fn lists_give_their_items_back(rt: HostRuntime) -> Result<(), Fail> {
     let items = Items::new([3, 4].to_vec(rt.alloc())?);
     assert_eq!(rt; items.as_slice(), [3, 4].as_slice());
     assert_eq!(rt; items.into_vec().as_slice(), [3, 4].as_slice());
-    let queues = QueueList::new([SECOND_RAISED].to_vec(rt.alloc())?);
+    let queues = Items::new([SECOND_RAISED].to_vec(rt.alloc())?);
     assert_eq!(rt; queues.as_slice(), [SECOND_RAISED].as_slice());
     assert_eq!(rt; queues.into_vec().as_slice(), [SECOND_RAISED].as_slice());
-    let chains = ChainList::new([SERVED].to_vec(rt.alloc())?);
+    let chains = Items::new([SERVED].to_vec(rt.alloc())?);
     assert_eq!(rt; chains.as_slice(), [SERVED].as_slice());
     assert_eq!(rt; chains.into_vec().as_slice(), [SERVED].as_slice());
-    let elements = ElementList::new([FREE].to_vec(rt.alloc())?);
+    let elements = Items::new([FREE].to_vec(rt.alloc())?);
     assert_eq!(rt; elements.as_slice(), [FREE].as_slice());
     assert_eq!(rt; elements.into_vec().as_slice(), [FREE].as_slice());
     Ok(())

@@ -1,4 +1,4 @@
-use Rattle.quaject_core.proofs.ChainLaws.{claim_note_law, raise_note_law, take_note_law, notify_law, round_law, leave_law, join_chain_law}
+use Rattle.quaject_core.proofs.Keeping.Chains.{claim_note_law, raise_note_law, take_note_law, notify_law, round_law, leave_law, join_chain_law}
 use Rattle.quaject_core.proofs.laws.chains_keep_lawful.Goals as goal
 
 pub returns-clause-claim : goal.returns-clause-claim

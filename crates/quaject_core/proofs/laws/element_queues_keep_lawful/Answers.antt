@@ -1,5 +1,5 @@
-use Rattle.quaject_core.proofs.ElementLaws.{claim_element_law, raise_element_law, take_element_law, wait_at_law}
-use Rattle.quaject_core.proofs.ThreadLaws.{notify_wait_law}
+use Rattle.quaject_core.proofs.Keeping.Elements.{claim_element_law, raise_element_law, take_element_law, wait_at_law}
+use Rattle.quaject_core.proofs.Keeping.Threads.{notify_wait_law}
 use Rattle.quaject_core.proofs.laws.element_queues_keep_lawful.Goals as goal
 
 pub returns-clause-claimed : goal.returns-clause-claimed

@@ -1,4 +1,4 @@
-use Rattle.quaject_core.proofs.ElementLaws.{first_elements_law, join_elements_law}
+use Rattle.quaject_core.proofs.Keeping.Elements.{first_elements_law, join_elements_law}
 use Rattle.quaject_core.proofs.laws.elements_begin_and_join_lawful.Goals as goal
 
 pub returns-clause-first : goal.returns-clause-first

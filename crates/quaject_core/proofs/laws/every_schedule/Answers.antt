@@ -1,5 +1,5 @@
-use Rattle.quaject_core.proofs.Steps.{schedule_law}
-use Rattle.quaject_core.proofs.AccountLaws.{account_law}
+use Rattle.quaject_core.proofs.Keeping.Steps.{schedule_law}
+use Rattle.quaject_core.proofs.Keeping.Accounts.{account_law}
 use Rattle.quaject_core.proofs.laws.every_schedule.Goals as goal
 
 pub returns-clause-lawful : goal.returns-clause-lawful

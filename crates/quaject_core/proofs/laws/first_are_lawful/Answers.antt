@@ -1,6 +1,6 @@
-use Rattle.quaject_core.proofs.Filling.{empty_law, full_law}
-use Rattle.quaject_core.proofs.ChainLaws.{empty_chain_law}
-use Rattle.quaject_core.proofs.MeterLaws.{first_meters_law}
+use Rattle.quaject_core.proofs.Keeping.First.{empty_law, full_law}
+use Rattle.quaject_core.proofs.Keeping.Chains.{empty_chain_law}
+use Rattle.quaject_core.proofs.Keeping.Meters.{first_meters_law}
 use Rattle.quaject_core.proofs.laws.first_are_lawful.Goals as goal
 
 pub returns-clause-empty : goal.returns-clause-empty

@@ -1,4 +1,4 @@
-use Rattle.quaject_core.proofs.MeterLaws.{tick_law, advance_law, set_alarm_law, fire_law, cancel_law}
+use Rattle.quaject_core.proofs.Keeping.Meters.{tick_law, advance_law, set_alarm_law, fire_law, cancel_law}
 use Rattle.quaject_core.proofs.laws.meters_keep_lawful.Goals as goal
 
 pub returns-clause-tick : goal.returns-clause-tick

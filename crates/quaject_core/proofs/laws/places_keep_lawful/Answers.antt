@@ -1,5 +1,5 @@
-use Rattle.quaject_core.proofs.ElementLaws.{put_on_law, take_off_law}
-use Rattle.quaject_core.proofs.ThreadLaws.{park_law, start_law}
+use Rattle.quaject_core.proofs.Keeping.Elements.{put_on_law, take_off_law}
+use Rattle.quaject_core.proofs.Keeping.Threads.{park_law, start_law}
 use Rattle.quaject_core.proofs.laws.places_keep_lawful.Goals as goal
 
 pub returns-clause-put : goal.returns-clause-put

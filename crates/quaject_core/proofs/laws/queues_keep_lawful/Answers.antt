@@ -1,5 +1,5 @@
-use Rattle.quaject_core.proofs.Keeping.{claim_law, raise_law, take_law, shut_law}
-use Rattle.quaject_core.proofs.JoinLaws.{join_queue_law}
+use Rattle.quaject_core.proofs.Keeping.Queues.{claim_law, raise_law, take_law, shut_law}
+use Rattle.quaject_core.proofs.Keeping.Joins.{join_queue_law}
 use Rattle.quaject_core.proofs.laws.queues_keep_lawful.Goals as goal
 
 pub returns-clause-claim : goal.returns-clause-claim

@@ -1,4 +1,4 @@
-use Rattle.quaject_core.proofs.ThreadLaws.{stop_law, signal_law, deliver_law, done_law}
+use Rattle.quaject_core.proofs.Keeping.Threads.{stop_law, signal_law, deliver_law, done_law}
 use Rattle.quaject_core.proofs.laws.threads_keep_lawful.Goals as goal
 
 pub returns-clause-stopped : goal.returns-clause-stopped

@@ -3,7 +3,7 @@ use Rattle.std.proofs.lemmas.List.{map-set, length-map}
 use Rattle.std.proofs.Math.ListN.{get_or-map}
 use Rattle.quaject_core.specs.Queues.{join_queue}
 use Rattle.quaject_core.specs.Shown.{queue}
-use Rattle.quaject_core.proofs.Mapped.{mapped_set, mapped_all, written_back}
+use Rattle.quaject_core.proofs.Lists.Mapped.{mapped_set, mapped_all, written_back}
 use Rattle.quaject_core.proofs.lines.join.Goals as goal
 
 pub loop-line-preserved : goal.loop-line-preserved

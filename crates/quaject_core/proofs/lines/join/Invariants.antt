@@ -1,7 +1,7 @@
 use Rattle.std.proofs.Common.{◌≡◌, map}
 use Rattle.quaject_core.specs.Queues.{join_queue}
 use Rattle.quaject_core.specs.Shown.{queue}
-use Rattle.quaject_core.proofs.Mapped.{mapped}
+use Rattle.quaject_core.proofs.Lists.Mapped.{mapped}
 use Rattle.quaject_core.proofs.lines.join.Given as goal
 
 -- The lines so far are joined.

@@ -1,7 +1,7 @@
 use Rattle.std.proofs.Common.{◌∷◌, sym, ap, ◌∙◌, arith}
 use Rattle.quaject_core.specs.Queues.{Queue, empty_queue, full_queue}
 use Rattle.quaject_core.specs.Shown.{queue}
-use Rattle.quaject_core.proofs.Lifts.{shown_push, repeat_more}
+use Rattle.quaject_core.proofs.Stored.Lifts.{shown_push, repeat_more}
 use Rattle.quaject_core.proofs.lines.new.Goals as goal
 
 pub loop-preserved : goal.loop-preserved

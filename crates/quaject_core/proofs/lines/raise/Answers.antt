@@ -1,7 +1,7 @@
 use Rattle.std.proofs.Common.{arith}
 use Rattle.quaject_core.specs.Queues.{raise}
 use Rattle.quaject_core.specs.Shown.{queue}
-use Rattle.quaject_core.proofs.Lifts.{place_changes}
+use Rattle.quaject_core.proofs.Stored.Lifts.{place_changes}
 use Rattle.quaject_core.proofs.lines.raise.Goals as goal
 
 pub returns-clause-what : goal.returns-clause-what

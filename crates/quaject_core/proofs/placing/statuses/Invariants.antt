@@ -1,7 +1,7 @@
 use Rattle.std.proofs.Common.{◌≡◌, ◌++◌, ℕ, List, drop, map}
 use Rattle.quaject_core.specs.Statuses.{element_statuses}
 use Rattle.quaject_core.specs.ShownThreads.{thread}
-use Rattle.quaject_core.proofs.Numbers.{parts}
+use Rattle.quaject_core.proofs.Stored.Numbers.{parts}
 use Rattle.quaject_core.proofs.placing.statuses.Given as goal
 
 -- The numbers so far, and those of the elements that are left, are all.

@@ -1,6 +1,6 @@
 use Rattle.std.proofs.Common.{option_map, arith}
 use Rattle.quaject_core.specs.Elements.{join_hold}
-use Rattle.quaject_core.proofs.Mapped.{mapped_set}
+use Rattle.quaject_core.proofs.Lists.Mapped.{mapped_set}
 use Rattle.quaject_core.proofs.seats.join.Goals as goal
 
 pub loop-seat-preserved : goal.loop-seat-preserved

@@ -1,6 +1,6 @@
 use Rattle.std.proofs.Common.{◌≡◌, option_map}
 use Rattle.quaject_core.specs.Elements.{join_hold}
-use Rattle.quaject_core.proofs.Mapped.{mapped}
+use Rattle.quaject_core.proofs.Lists.Mapped.{mapped}
 use Rattle.quaject_core.proofs.seats.join.Given as goal
 
 -- The seats so far are renamed.

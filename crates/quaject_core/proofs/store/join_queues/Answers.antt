@@ -1,6 +1,6 @@
 use Rattle.quaject_core.specs.Queues.{join_queue}
 use Rattle.quaject_core.specs.Shown.{queue}
-use Rattle.quaject_core.proofs.Changing.{over_more, over_all}
+use Rattle.quaject_core.proofs.Stored.Parts.{over_more, over_all}
 use Rattle.quaject_core.proofs.store.join_queues.Goals as goal
 
 pub loop-queue-preserved : goal.loop-queue-preserved

@@ -1,7 +1,7 @@
 use Rattle.std.proofs.Common.{sym, ◌∙◌}
 use Rattle.quaject_core.specs.Elements.{Thread, new_thread}
 use Rattle.quaject_core.specs.ShownThreads.{thread}
-use Rattle.quaject_core.proofs.Lifts.{shown_push, repeat_more}
+use Rattle.quaject_core.proofs.Stored.Lifts.{shown_push, repeat_more}
 use Rattle.quaject_core.proofs.threading.new_threads.Goals as goal
 
 pub loop-preserved : goal.loop-preserved

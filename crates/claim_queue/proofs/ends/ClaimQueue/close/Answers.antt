@@ -15,4 +15,4 @@ pub returns-then-ends-ne1-clause-open : goal.returns-then-ends-ne1-clause-open
 returns-then-ends-ne1-clause-open g c = (refl, search rules, were_open _ _ _ _ c.count-ends.ensures.tallied c.if-ends-ne1.true (search rules))
 
 pub returns-then-ends-ne1-clause-only : goal.returns-then-ends-ne1-clause-only
-returns-then-ends-ne1-clause-only g c = λ whole. c.if-ends-ne1.true (c.count-ends.ensures.tallied.count.whole whole)
+returns-then-ends-ne1-clause-only g c = λ whole. c.if-ends-ne1.true (c.count-ends.ensures.tallied.member.count.whole whole)

@@ -8,4 +8,4 @@ pub returns-clause-others : goal.returns-clause-others
 returns-clause-others g c = let s = c.or_head.ensures.shut in owns_same c.args.end.now.seat.me.0 c.or_head.new.seat.me.0 (ap (λ (z : View). z.part.runs) s.same)
 
 pub returns-clause-lines : goal.returns-clause-lines
-returns-clause-lines g c = let s = c.or_head.ensures.shut in lines_same c.args.end.now.seat.me.0 c.or_head.new.seat.me.0 (ap (λ (z : View). z.part.runs) s.same) (ap (λ (z : View). z.part.takes) s.same) (ap (λ (z : View). z.share) s.same)
+returns-clause-lines g c = let s = c.or_head.ensures.shut in lines_same c.args.end.now.seat.me.0 c.or_head.new.seat.me.0 (ap (λ (z : View). z.part.runs) s.same) (ap (λ (z : View). z.part.takes) s.same) (ap (λ (z : View). z.member.share) s.same)

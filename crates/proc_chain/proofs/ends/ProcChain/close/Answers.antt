@@ -13,4 +13,4 @@ returns-then-ends-ne-ALONE-clause-open g c = let t = c.count-ends.ensures.tallie
     (refl, (search rules, slot_on g.Q.Quaject.made_by (g.Q.Quaject.fits c.args.self.table.shared.key.world.value) _ _ _ _ (stays_tallied _ _ _ c.args.end.behind t) c.count-ends.ensures.queue.1 c.requires.ends.1), search rules, search rules, were_open _ _ _ _ t c.if-ends-ne-ALONE.true (search rules))
 
 pub returns-then-ends-ne-ALONE-clause-only : goal.returns-then-ends-ne-ALONE-clause-only
-returns-then-ends-ne-ALONE-clause-only g c = λ whole. c.if-ends-ne-ALONE.true (c.count-ends.ensures.tallied.count.whole whole)
+returns-then-ends-ne-ALONE-clause-only g c = λ whole. c.if-ends-ne-ALONE.true (c.count-ends.ensures.tallied.member.count.whole whole)

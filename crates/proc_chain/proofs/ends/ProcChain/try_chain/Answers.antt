@@ -50,7 +50,7 @@ invariant_of-end-then-swap_more-eq-IDLE g c = let a = c.load_head-head.ensures i
     let l = link c.args.end.now.seat.id _ _ _ _ _ _ _ _ (b.queue.0.1 ∙ a.queue.0.1) (e.queue.0.1 ∙ (b.queue.0.1 ∙ a.queue.0.1)) r (e.hit c.if-found-head.false) c.store_place.ensures.raised in
     let s = linked_stays _ _ _ _ l c.args.end.now.behind in let w = c.swap_more.ensures.won c.if-swap_more-eq-IDLE.true in let f = ap (λ (z : View). z.part.queue) w.same in record {
       room = ap (λ (z : Positions). z.room) f ∙ (w.sees.later.0.room ∙ (s.room ∙ c.args.end.now.room));
-      one = ap (λ (z : View). z.ends) w.same ∙ (s.ends ∙ c.args.end.now.one);
+      one = ap (λ (z : View). z.member.ends) w.same ∙ (s.ends ∙ c.args.end.now.one);
       turned = ap (λ (z : View). z.runner) w.same;
       settled = ap (λ (z : View). z.owes) w.same;
       behind = subst (λ (z : Positions). z.taken ≤ length z.places) (sym f) w.sees.lawful.behind;

@@ -1,6 +1,6 @@
 use Rattle.std.proofs.Common.{sym, ◌∙◌, ap, not, ◌&&◌}
 use Rattle.quaject_core.specs.ShownChains.{chain}
-use Rattle.quaject_core.proofs.Owners.{forgotten_by}
+use Rattle.quaject_core.proofs.Stored.Owners.{forgotten_by}
 use Rattle.quaject_core.proofs.chaining.StoredChain.is_forgotten.Goals as goal
 
 pub returns-else-first_are_raised : goal.returns-else-first_are_raised

@@ -1,4 +1,4 @@
-use Rattle.quaject_core.proofs.ChainParts.{no_marks, same_chain}
+use Rattle.quaject_core.proofs.Stored.Chains.{no_marks, same_chain}
 use Rattle.quaject_core.proofs.chaining.StoredChain.new.Goals as goal
 
 pub returns : goal.returns

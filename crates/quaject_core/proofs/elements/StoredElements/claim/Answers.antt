@@ -2,8 +2,8 @@ use Rattle.std.proofs.Common.{List, map, Ok, refl, sym, ap, ◌∙◌}
 use Rattle.quaject_core.specs.Shown.{queue}
 use Rattle.quaject_core.specs.declared.hold.Hold.{Hold}
 use Rattle.quaject_core.specs.ShownElements.{elements}
-use Rattle.quaject_core.proofs.Lifts.{changes_err}
-use Rattle.quaject_core.proofs.LineSteps.{claimed_whole, claimed_not_held, claimed_why}
+use Rattle.quaject_core.proofs.Stored.Lifts.{changes_err}
+use Rattle.quaject_core.proofs.Stored.Lines.{claimed_whole, claimed_not_held, claimed_why}
 use Rattle.quaject_core.proofs.elements.StoredElements.claim.Goals as goal
 
 pub returns-in_default : goal.returns-in_default

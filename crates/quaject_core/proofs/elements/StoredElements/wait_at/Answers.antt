@@ -4,9 +4,9 @@ use Rattle.quaject_core.specs.Results.{◌>>=◌, IsWhy}
 use Rattle.quaject_core.specs.Shown.{queue}
 use Rattle.quaject_core.specs.declared.hold.Hold.{Hold}
 use Rattle.quaject_core.specs.ShownElements.{elements}
-use Rattle.quaject_core.proofs.ElementSteps.{known}
-use Rattle.quaject_core.proofs.Lifts.{changes_err, why_then}
-use Rattle.quaject_core.proofs.LineSteps.{stored_waits}
+use Rattle.quaject_core.proofs.Stored.Elements.{known}
+use Rattle.quaject_core.proofs.Stored.Lifts.{changes_err, why_then}
+use Rattle.quaject_core.proofs.Stored.Lines.{stored_waits}
 use Rattle.quaject_core.proofs.elements.StoredElements.wait_at.Goals as goal
 
 pub returns-in_err-claim : goal.returns-in_err-claim

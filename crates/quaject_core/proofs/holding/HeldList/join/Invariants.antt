@@ -1,6 +1,6 @@
 use Rattle.std.proofs.Common.{◌≡◌}
 use Rattle.quaject_core.specs.Elements.{join_hold}
-use Rattle.quaject_core.proofs.Mapped.{mapped}
+use Rattle.quaject_core.proofs.Lists.Mapped.{mapped}
 use Rattle.quaject_core.proofs.holding.HeldList.join.Given as goal
 
 -- The holds so far are renamed.

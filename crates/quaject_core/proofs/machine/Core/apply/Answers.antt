@@ -1,8 +1,8 @@
 use Rattle.quaject_core.specs.ShownStates.{stored_state}
-use Rattle.quaject_core.proofs.Steps.{changed_law}
+use Rattle.quaject_core.proofs.Keeping.Steps.{changed_law}
 use Rattle.quaject_core.proofs.machine.Core.apply.Goals as goal
 
 pub invariant_of-self : goal.invariant_of-self
 invariant_of-self c = record {
-  lawful = changed_law c.args.event.now c.apply.result (stored_state c.args.self.now.store) (stored_state c.apply.new.self) c.args.self.now.lawful c.apply.ensures;
+  lawful = changed_law c.args.event.now c.apply.result (stored_state c.args.self.now.store) (stored_state c.apply.new.self) c.args.self.now.lawful c.apply.ensures.change;
 }

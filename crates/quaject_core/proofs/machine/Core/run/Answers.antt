@@ -2,7 +2,7 @@ use Rattle.std.proofs.Common.{◌≡◌, ◌∙◌, ◌++◌, ◌∷◌, [], ◌
 use Rattle.std.proofs.lemmas.List.{take_more}
 use Rattle.quaject_core.specs.Schedules.{Reaches}
 use Rattle.quaject_core.specs.ShownCores.{state}
-use Rattle.quaject_core.proofs.Steps.{reaches_more}
+use Rattle.quaject_core.proofs.Keeping.Steps.{reaches_more}
 use Rattle.quaject_core.proofs.machine.Core.run.Goals as goal
 
 pub loop-index-preserved : goal.loop-index-preserved

@@ -1,6 +1,6 @@
 use Rattle.std.proofs.Common.{◌≡◌, ◌<◌, ◌∙◌, ◌++◌, ◌∷◌, [], ◌+◌, ap, sym, map, take, get_or, length, arith}
 use Rattle.std.proofs.lemmas.List.{map_more, take_all}
-use Rattle.quaject_core.proofs.Changing.{map-map}
+use Rattle.quaject_core.proofs.Stored.Parts.{map-map}
 use Rattle.quaject_core.specs.Statuses.{chain_status}
 use Rattle.quaject_core.specs.ShownChains.{chain}
 use Rattle.quaject_core.specs.declared.chaining.StoredChain.{StoredChain}

@@ -1,8 +1,8 @@
 use Rattle.std.proofs.Common.{◌∙◌, arith}
 use Rattle.quaject_core.specs.Chains.{round}
-use Rattle.quaject_core.proofs.Changing.{chain_changes}
+use Rattle.quaject_core.proofs.Stored.Parts.{chain_changes}
 use Rattle.quaject_core.proofs.store.Store.round.Goals as goal
 
-pub returns : goal.returns
-returns c = chain_changes c.args.self.now c.args.number c.from-number.result (round c.args.call) c.index_mut.result.now c.round.new.self c.round.result
-    (c.from-number.ensures ∙ c.number.ensures.value) (omega (arith, c.args.self.now.chains.ok)) c.index_mut.ensures.value c.round.ensures
+pub returns-clause-change : goal.returns-clause-change
+returns-clause-change c = chain_changes c.args.self.now c.args.number c.from-number.result (round c.args.call) c.index_mut.result.now c.round.new.self c.round.result
+    (c.from-number.ensures ∙ c.number.ensures.value) (omega (arith, c.args.self.now.chains.ok)) c.index_mut.ensures.value c.round.ensures.change

@@ -1,6 +1,6 @@
 use Rattle.std.proofs.Common.{◌∙◌, arith}
 use Rattle.quaject_core.specs.Chains.{take_note}
-use Rattle.quaject_core.proofs.Changing.{chain_changes}
+use Rattle.quaject_core.proofs.Stored.Parts.{chain_changes}
 use Rattle.quaject_core.proofs.store.Store.take_note.Goals as goal
 
 pub returns : goal.returns

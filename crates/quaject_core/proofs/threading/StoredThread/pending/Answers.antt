@@ -1,5 +1,5 @@
 use Rattle.std.proofs.Common.{arith, refl}
-use Rattle.quaject_core.proofs.Bits.{bits_next, bits_fit, bits_whole}
+use Rattle.quaject_core.proofs.Lists.Bits.{bits_next, bits_fit, bits_whole}
 use Rattle.quaject_core.proofs.threading.StoredThread.pending.Goals as goal
 
 pub overflow_mul-bits : goal.overflow_mul-bits

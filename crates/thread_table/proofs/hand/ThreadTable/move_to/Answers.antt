@@ -1,4 +1,4 @@
-use Rattle.std.proofs.Common.{rules, ◌<◌, ◌∙◌, ◌-◌, set, false}
+use Rattle.std.proofs.Common.{rules, ◌<◌, ◌∙◌, ◌-◌, set, false, arith}
 use Rattle.std.proofs.Math.Path.{transport}
 use Rattle.thread_table.specs.Steps.{Claims, Raises, claim_event}
 use Rattle.thread_table.proofs.Answering.{was_spent, overtaken, claim_known, moved_to}
@@ -11,17 +11,17 @@ pub returns-then-found-word-clause-moved : goal.returns-then-found-word-clause-m
 returns-then-found-word-clause-moved c = overtaken _ _ _ _ _ c.of-head.result.head c.of-head.result.mark _ c.load_head-word.ensures.found c.of-head.ensures.0 c.of-head.ensures.1 c.if-head.false
     (c.exchange_head-found.ensures.miss c.if-found-word.true).0 c.if-found-word.true
 
-pub store_place-requires-clause-claimed : goal.store_place-requires-clause-claimed
-store_place-requires-clause-claimed c =
+pub raise-requires-clause-claimed : goal.raise-requires-clause-claimed
+raise-requires-clause-claimed c =
     (claim_known _ _ _ _ _ _ c.of-head.result.mark _ _ c.requires.table.1 (c.exchange_head-found.ensures.hit c.if-found-word.false) c.of-head.ensures.0 c.of-head.ensures.1).0
 
-pub store_place-requires-clause-position : goal.store_place-requires-clause-position
-store_place-requires-clause-position c =
-    ((claim_known _ _ _ _ _ _ c.of-head.result.mark _ _ c.requires.table.1 (c.exchange_head-found.ensures.hit c.if-found-word.false) c.of-head.ensures.0 c.of-head.ensures.1).1, c.word.ensures)
+pub raise-requires-clause-position : goal.raise-requires-clause-position
+raise-requires-clause-position c =
+    ((claim_known _ _ _ _ _ _ c.of-head.result.mark _ _ c.requires.table.1 (c.exchange_head-found.ensures.hit c.if-found-word.false) c.of-head.ensures.0 c.of-head.ensures.1).1, omega (arith, c.of-head.ensures.1, c.if-head.false))
 
 pub invariant_of-hand-2 : goal.invariant_of-hand-2
-invariant_of-hand-2 c = let a = c.load_head-word.ensures in let x = c.exchange_head-found in let s = c.store_place.ensures in let id = a.queue.0.1 in let id' = x.ensures.queue.0.1 ∙ id in let n = c.number-number.ensures in
-    let line = c.args.line in let h = c.args.hand.now in let v = c.load_head-word.new.seat.me.0 in let m = x.new.seat.me.0 in let w = c.store_place.new.seat.me.0 in
+invariant_of-hand-2 c = let a = c.load_head-word.ensures in let x = c.exchange_head-found in let s = c.raise.ensures in let id = a.queue.0.1 in let id' = x.ensures.queue.0.1 ∙ id in let n = c.number-number.ensures in
+    let line = c.args.line in let h = c.args.hand.now in let v = c.load_head-word.new.seat.me.0 in let m = x.new.seat.me.0 in let w = c.raise.new.seat.me.0 in
     let claims = transport (λ i. Claims (id i) line (n.value i) (claim_event (id i) line (n.value i)) c.load_head-word.result v m) (x.ensures.hit c.if-found-word.false) in
     let raises = transport (λ i. Raises (id' i) line (c.of-head.result.head - m.first) (n.value i) m w) s.raised in
     let known : c.args.element < 64 = search rules in
@@ -30,14 +30,14 @@ invariant_of-hand-2 c = let a = c.load_head-word.ensures in let x = c.exchange_h
       one = k.stays.ends ∙ h.one;
       none = k.stays.claimed;
       fresh = k.stays.fresh;
-      holding = (λ i. set (h.holding i) ((c.from.ensures ∙ n.value) i) false) ∙ k.held;
+      holding = s.held ∙ ((λ i. set (h.holding i) (n.value i) false) ∙ k.held);
       serving = h.serving ∙ k.stays.serves;
       putting = h.putting ∙ k.stays.on;
     }
 
 pub returns-clause-moved : goal.returns-clause-moved
-returns-clause-moved c = let a = c.load_head-word.ensures in let x = c.exchange_head-found in let s = c.store_place.ensures in let id = a.queue.0.1 in let id' = x.ensures.queue.0.1 ∙ id in let n = c.number-number.ensures in
-    let line = c.args.line in let v = c.load_head-word.new.seat.me.0 in let m = x.new.seat.me.0 in let w = c.store_place.new.seat.me.0 in
+returns-clause-moved c = let a = c.load_head-word.ensures in let x = c.exchange_head-found in let s = c.raise.ensures in let id = a.queue.0.1 in let id' = x.ensures.queue.0.1 ∙ id in let n = c.number-number.ensures in
+    let line = c.args.line in let v = c.load_head-word.new.seat.me.0 in let m = x.new.seat.me.0 in let w = c.raise.new.seat.me.0 in
     let claims = transport (λ i. Claims (id i) line (n.value i) (claim_event (id i) line (n.value i)) c.load_head-word.result v m) (x.ensures.hit c.if-found-word.false) in
     let raises = transport (λ i. Raises (id' i) line (c.of-head.result.head - m.first) (n.value i) m w) s.raised in
     let known : c.args.element < 64 = search rules in

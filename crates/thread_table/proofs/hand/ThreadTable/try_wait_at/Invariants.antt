@@ -4,5 +4,5 @@ use Rattle.thread_table.proofs.hand.ThreadTable.try_wait_at.Given as goal
 abbrev pub ghosts-exchange_head_at : goal.ghosts-exchange_head_at
 ghosts-exchange_head_at a = record { call = a.seat.now.id; at = a.wait; element = a.element; number = a.ticket }
 
-abbrev pub ghosts-store_place : goal.ghosts-store_place
-ghosts-store_place a = record { call = a.seat.now.id; at = a.line; element = a.element; number = a.position - a.seat.now.me.0.first }
+abbrev pub ghosts-raise : goal.ghosts-raise
+ghosts-raise a = record { call = a.seat.now.id; at = a.line; element = a.element; number = a.head - a.seat.now.me.0.first }

@@ -1,0 +1,58 @@
+-- What an event makes of a part, and so of the whole.
+use Rattle.std.proofs.Common.{◌≡◌, ℕ, zero, suc, ◌+◌, ◌<◌, List, [], ◌∷◌, ◌++◌, ◌∙◌, map, length, set, get_or, refl, sym, ap, ap₂, subst, Result, Ok, Err, add-one}
+use Rattle.std.specs.Prelude.{IsOk, IsErrAnd}
+use Rattle.std.specs.List.{repeat}
+use Rattle.std.proofs.lemmas.List.{map-append}
+use Rattle.std.proofs.Math.Seq.{map-set_same}
+use Rattle.quaject_core.specs.Results.{◌>>=◌, at, change_at, IsWhy, Changes}
+use Rattle.quaject_core.specs.declared.refusal.Refusal.{Refusal}
+use Rattle.quaject_core.specs.declared.refusal.Refusal.TheVariants.{OutOfMemory}
+use Rattle.quaject_core.proofs.Stored.Elements.{found_at, shown_at, shown_set}
+
+-- the reason of a part is that of the whole
+pub why_given : {A B : Type 0} (e : Refusal) (said : Result A Refusal) (whole : Result B Refusal) → (said ≡ Err e → whole ≡ Err e) → (IsOk said → IsOk whole) → IsWhy e said → IsWhy e whole
+why_given OutOfMemory said whole refused fine why = fine why
+why_given e said whole refused fine why = refused why
+
+fine_then : {A B : Type 0} (said : Result A Refusal) (f : A → B) → IsOk said → IsOk (said >>= λ x. Ok (f x))
+fine_then (Ok x) f fine = fine
+fine_then (Err e) f fine = fine
+
+-- and of what comes of it
+pub why_then : {A B : Type 0} (e : Refusal) (said : Result A Refusal) (f : A → B) → IsWhy e said → IsWhy e (said >>= λ x. Ok (f x))
+why_then e said f why = why_given e said (said >>= λ x. Ok (f x)) (λ is. ap (λ s. s >>= λ x. Ok (f x)) is) (fine_then said f) why
+
+-- a change of what is shown of a place
+pub place_changes : {A B : Type 0} (f : A → B) (result : Result (Unit {0}) Refusal) (change : B → Result B Refusal) (items : List A) (k : ℕ) (old new : A)
+    → k < length items → old ≡ get_or items k old → Changes result (change (f old)) (f old) (f new)
+    → Changes result (change_at k change (map f items)) (map f items) (map f (set items k new))
+place_changes f (Ok done) change items k old new below is changes =
+    ap (λ said. said >>= change >>= λ x. Ok (set (map f items) k x)) (let e : at k (map f items) ≡ Ok (f old) = rw (shown_at f items k old (found_at items k k old refl below is)) refl in e)
+    ∙ (ap (λ said. said >>= λ x. Ok (set (map f items) k x)) changes ∙ ap Ok (sym (shown_set f items k k new (f new) refl refl)))
+place_changes f (Err e) change items k old new below is changes =
+    let here : at k (map f items) ≡ Ok (f old) = rw (shown_at f items k old (found_at items k k old refl below is)) refl in (
+      map-set_same f items k new old (changes.0 ∙ ap f is),
+      subst (λ said. IsWhy e (said >>= change >>= λ x. Ok (set (map f items) k x))) (sym here) (why_then e (change (f old)) (λ x. set (map f items) k x) changes.1),
+    )
+
+repeat-suc : {A : Type 0} (n : ℕ) (x : A) → x ∷ repeat n (x ∷ []) ≡ repeat n (x ∷ []) ++ x ∷ []
+repeat-suc zero x = refl
+repeat-suc (suc n) x = ap (λ xs. x ∷ xs) (repeat-suc n x)
+
+-- one more of the same
+pub repeat_more : {A : Type 0} (n : ℕ) (x : A) → repeat (n + 1) (x ∷ []) ≡ repeat n (x ∷ []) ++ x ∷ []
+repeat_more n x = ap (λ k. repeat k (x ∷ [])) (add-one n) ∙ repeat-suc n x
+
+-- what is shown after one more is pushed
+pub shown_push : {A B : Type 0} (f : A → B) (xs ys : List A) (new : A) (shown : List B) (y : B) → ys ≡ xs ++ new ∷ [] → map f xs ≡ shown → f new ≡ y → map f ys ≡ shown ++ y ∷ []
+shown_push f xs ys new shown y more so_far is =
+    ap (map f) more ∙ (map-append f xs (new ∷ []) ∙ ap₂ (λ zs z. zs ++ z ∷ []) so_far is)
+
+-- an error that was passed on
+pub changes_err : {A : Type 0} (passed : Result (Unit {0}) Refusal) (e : Refusal) (said : Result A Refusal) (old new : A) → IsErrAnd passed (λ x. x ≡ e) → new ≡ old → IsWhy e said → Changes passed said old new
+changes_err (Ok done) e said old new is same why = absurd is
+changes_err (Err x) e said old new is same why = (same, subst (λ y. IsWhy y said) (sym is) why)
+
+pub ok_of : {A : Type 0} (said : Result A Refusal) → IsOk said → (x : A) × (said ≡ Ok x)
+ok_of (Ok x) fine = (x, refl)
+ok_of (Err e) fine = absurd (cc)

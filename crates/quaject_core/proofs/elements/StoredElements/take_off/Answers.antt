@@ -1,0 +1,18 @@
+use Rattle.std.proofs.Common.{◌≡◌, Some, None, Ok, set, sym, ap, ◌∙◌, arith, slice_get}
+use Rattle.std.proofs.lemmas.List.{get_or_default, length-map}
+use Rattle.quaject_core.specs.ShownElements.{elements}
+use Rattle.quaject_core.specs.ShownThreads.{thread}
+use Rattle.quaject_core.proofs.Stored.Elements.{found_at}
+use Rattle.quaject_core.proofs.Keeping.Rooms.{taken_off_ok, taken_off_room}
+use Rattle.quaject_core.proofs.elements.StoredElements.take_off.Goals as goal
+
+pub push-requires : goal.push-requires
+push-requires c = let s = elements c.args.self.now in let seats = c.args.self.now.processors in let h = c.in-Some.hold in
+    let found : slice_get seats c.args.processor ≡ Some (Some h) = found_at seats c.from-seat.result c.args.processor (Some h) (c.from-seat.ensures ∙ c.number.ensures.value) (omega (arith, c.from-seat.ensures, c.number.ensures.within)) (sym c.in-Some.is ∙ get_or_default seats c.from-seat.result _ (Some h) (omega (arith, c.from-seat.ensures, c.number.ensures.within))) in
+    omega (arith, taken_off_room c.args.call c.args.processor s h c.requires found (sym c.ne.ensures ∙ c.if-ne.false), length-map c.args.self.now.threads.items thread, c.args.self.now.threads.ok, c.args.self.now.all)
+
+pub returns-clause-change : goal.returns-clause-change
+returns-clause-change c = let s = elements c.args.self.now in let seats = c.args.self.now.processors in let h = c.in-Some.hold in
+    let found : slice_get seats c.args.processor ≡ Some (Some h) = found_at seats c.from-seat.result c.args.processor (Some h) (c.from-seat.ensures ∙ c.number.ensures.value) (omega (arith, c.from-seat.ensures, c.number.ensures.within)) (sym c.in-Some.is ∙ get_or_default seats c.from-seat.result _ (Some h) (omega (arith, c.from-seat.ensures, c.number.ensures.within))) in
+    let seat : c.from-seat.result ≡ c.args.processor = c.from-seat.ensures ∙ c.number.ensures.value in
+    taken_off_ok c.args.call c.args.processor s h found (sym c.ne.ensures ∙ c.if-ne.false) ∙ (λ i. Ok (record s { processors = set seats (sym seat i) None; held = sym c.push.ensures i }))

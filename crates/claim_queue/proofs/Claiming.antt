@@ -84,4 +84,4 @@ claims_head key n id call me old new xs mine is fits room live some_items s k _ 
         λ miss. absurd (miss hit),
       ),
     ))
-    (λ miss. (looked v 0 y (steps_to k) q, keeps, tt, kept_look key s k 0 id y v at, (refl, (λ hit. absurd (miss hit)), λ _. found_now key s k 0 id v at)))
+    (λ miss. (looked v 0 y (steps_to k) q, keeps, tt, kept_look key s k 0 id y v at live, (refl, (λ hit. absurd (miss hit)), λ _. found_now key s k 0 id v at)))

@@ -60,4 +60,4 @@ takes_tail key n id call me old new at mine le start up live s k _ has _ = let y
       },
       (refl, (λ _. record { queue = q; before = steps_to k; follows = k.course.seen id v has; same = refl; sees = sees_of key s k id v has; at = omega arith; event = subst (λ (z : ℕ). IsEvent q q' z v.part w.part (take_first q.room m)) (sym mine) (take_event q (map part_of s.views) id m v.part w.part k.listed (at_map part_of s.views id v has) k.lawful (omega arith) lawful'.behind still refl refl (grows_refl q', grows_refl q')); after_it = lawful' }), λ miss. absurd (miss hit)),
     ))
-    (λ miss. (looked v 1 y (steps_to k) q, keeps, tt, kept_look key s k 1 id y v has, (refl, (λ hit. absurd (miss hit)), λ _. found_now key s k 1 id v has)))
+    (λ miss. (looked v 1 y (steps_to k) q, keeps, tt, kept_look key s k 1 id y v has live, (refl, (λ hit. absurd (miss hit)), λ _. found_now key s k 1 id v has)))

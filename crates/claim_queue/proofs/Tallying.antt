@@ -13,7 +13,7 @@ use Rattle.atomic_table.proofs.Lists.{at_map, set_else}
 use Rattle.table_theory.proofs.Positioned.{grows_refl}
 use Rattle.table_theory.proofs.Listing.{listed_look, listed_new, listed_join, listed_first, distinct}
 use Rattle.table_theory.specs.Sharing.{total}
-use Rattle.table_theory.proofs.Courses.{course_step, course_split, course_join, course_first, looks_more}
+use Rattle.table_theory.proofs.Courses.{course_step, course_split, course_join, course_first}
 use Rattle.table_theory.proofs.Members.{known_up, known_down, known_tally, known_split, known_join, known_first, counted_more, counted_less, tallied}
 use Rattle.table_theory.proofs.Totals.{total_kept, total_set, total_push}
 use Rattle.table_theory.proofs.Windows.{window_same}
@@ -84,7 +84,7 @@ tallies key n id me one s k _ at _ = let v : View = me.0 in let c : ℕ = get_or
   w,
   keeps,
   tt,
-  kept_count key s k id c c v m at (known_tally member_of IsIdle c s.views id v w k.ends at refl (λ _ h. (h.0, h.1, h.2, looks_more v.steps (entry 2 c k.queue k.queue) h.3 refl))),
+  kept_count key s k id c c v m at (known_tally member_of IsIdle c s.views id v w k.ends at refl (λ none. absurd (omega arith))),
   (refl, record { before = steps_to k; follows = k.course.seen id v at; same = refl; sees = sees_of key s k id v at; member = tallied member_of IsIdle c s.views id v k.ends at one }),
 )
 
@@ -113,7 +113,7 @@ joins key id other v w live live' s k at ne has = let at' : get_elem? s.views ot
       listed = subst (ViewsShow k.queue) (sym (map-set part_of (set s.views id (both v w)) other (emptied v) ∙ ap (λ (z : List QueueView). set z other (emptied v).part) (map-set part_of s.views id (both v w))))
           (listed_join k.queue (map part_of s.views) id other v.part w.part (both v w).part (emptied v).part k.listed (at_map part_of s.views id v at) (at_map part_of s.views other w at') ne refl refl refl refl (later.0, later'.0) later);
       shut_once = (let t = total_set shuts_of s.views id v (both v w) at in let t' = total_set shuts_of (set s.views id (both v w)) other w (emptied v) has in let e : total shuts_of (set (set s.views id (both v w)) other (emptied v)) ≡ total shuts_of s.views = omega arith in e) ∙ k.shut_once;
-      ends = known_join member_of IsIdle (get_or s.words 2 0) s.views id other v w (both v w) (emptied v) k.ends at at' ne live refl refl (refl, refl, refl, tt);
+      ends = known_join member_of IsIdle (get_or s.words 2 0) s.views id other v w (both v w) (emptied v) k.ends at at' ne live refl refl (refl, refl, refl, refl);
       course = course_join steps_of course_of (empty key) k.queue s.views id other v w (both v w) (emptied v) k.course at at' ne refl refl refl refl;
     }
 

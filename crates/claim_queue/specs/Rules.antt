@@ -6,7 +6,7 @@ use Rattle.table_theory.specs.declared.views.Entry.{Entry}
 use Rattle.table_theory.specs.declared.views.Member.{Member}
 use Rattle.table_theory.specs.Positioned.{Lawful}
 use Rattle.table_theory.specs.Listing.{ViewsShow}
-use Rattle.table_theory.specs.Courses.{AreLooks, IsCourse}
+use Rattle.table_theory.specs.Courses.{IsCourse}
 use Rattle.table_theory.specs.Members.{first_member, EndsKnown}
 use Rattle.table_theory.specs.Sharing.{total}
 use Rattle.atomic_table.specs.Table.{State}
@@ -29,9 +29,9 @@ course_of v = v.course
 abbrev pub shuts_of : View → ℕ
 shuts_of v = v.shuts
 
--- the end has no run, took nothing and shut nothing: none of its steps was an event
+-- the end has no run, took nothing, shut nothing and lists no step
 abbrev pub IsIdle : View → Type 0
-IsIdle v = (v.part.runs ≡ []) × (v.part.takes ≡ []) × (v.shuts ≡ 0) × AreLooks v.steps
+IsIdle v = (v.part.runs ≡ []) × (v.part.takes ≡ []) × (v.shuts ≡ 0) × (v.steps ≡ [])
 
 -- how often the queue was shut: at most once
 abbrev pub times_shut : Positions → ℕ

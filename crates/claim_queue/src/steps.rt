@@ -29,7 +29,8 @@ pub(crate) const ENDS: usize = 2;
 pub(crate) const SHUT: u64 = 4_294_967_296;
 
 pub(crate) fn load(words: &Words, seat: &mut Seat<(), View>, word: usize) -> u64
-    requires { (seat.old.table_id ≡ words.now.table_id) × (word < words.now.table_id.words) }
+    requires queue { (seat.old.table_id ≡ words.now.table_id) × (word < words.now.table_id.words) }
+    requires live { 1 ≤ seat.old.me.0.member.ends }
     ensures { IsSame seat.old seat.new × (seat.new.me.1 ≡ seat.old.me.1)
         × Found seat.old.me.0 word result seat.new.me.0 }
 {
@@ -37,7 +38,8 @@ pub(crate) fn load(words: &Words, seat: &mut Seat<(), View>, word: usize) -> u64
 }
 
 pub(crate) fn load_head(words: &Words, seat: &mut Seat<(), View>) -> u64
-    requires { (seat.old.table_id ≡ words.now.table_id) × (3 ≤ words.now.table_id.words) }
+    requires queue { (seat.old.table_id ≡ words.now.table_id) × (3 ≤ words.now.table_id.words) }
+    requires live { 1 ≤ seat.old.me.0.member.ends }
     ensures queue { IsSame seat.old seat.new × (seat.new.me.1 ≡ seat.old.me.1) }
     ensures found { Found seat.old.me.0 head_word result seat.new.me.0 }
     ensures head { result ≡ head_of seat.new.me.0.part.queue + mark seat.new.me.0.part.queue.shut }
@@ -47,7 +49,8 @@ pub(crate) fn load_head(words: &Words, seat: &mut Seat<(), View>) -> u64
 }
 
 pub(crate) fn load_tail(words: &Words, seat: &mut Seat<(), View>) -> u64
-    requires { (seat.old.table_id ≡ words.now.table_id) × (3 ≤ words.now.table_id.words) }
+    requires queue { (seat.old.table_id ≡ words.now.table_id) × (3 ≤ words.now.table_id.words) }
+    requires live { 1 ≤ seat.old.me.0.member.ends }
     ensures queue { IsSame seat.old seat.new × (seat.new.me.1 ≡ seat.old.me.1) }
     ensures found { Found seat.old.me.0 tail_word result seat.new.me.0 }
     ensures tail { result ≡ tail_of seat.new.me.0.part.queue }
@@ -128,6 +131,7 @@ pub(crate) fn store_flag<J: Spot>(
 pub(crate) fn load_flag(words: &Words, seat: &mut Seat<(), View>, room: usize, position: u64) -> u64
     requires queue { (seat.old.table_id ≡ words.now.table_id) × (words.now.table_id.words ≡ room + room + 3)
         × (0 < room) × (room ≤ 256) × (seat.old.me.0.part.queue.room ≡ room) }
+    requires live { 1 ≤ seat.old.me.0.member.ends }
     requires near { (seat.old.me.0.part.queue.first ≤ position)
         × (position < tail_of seat.old.me.0.part.queue + room) × (position < 8589934592) }
     ensures queue { IsSame seat.old seat.new × (seat.new.me.1 ≡ seat.old.me.1) }
@@ -144,6 +148,7 @@ pub(crate) fn load_flag(words: &Words, seat: &mut Seat<(), View>, room: usize, p
 pub(crate) fn load_data(words: &Words, seat: &mut Seat<(), View>, room: usize, position: u64) -> u64
     requires queue { (seat.old.table_id ≡ words.now.table_id) × (words.now.table_id.words ≡ room + room + 3)
         × (0 < room) × (room ≤ 256) × (seat.old.me.0.part.queue.room ≡ room) }
+    requires live { 1 ≤ seat.old.me.0.member.ends }
     requires near { (seat.old.me.0.part.queue.first ≤ position)
         × (position < tail_of seat.old.me.0.part.queue + room) × (position < 8589934592) }
     requires raised { 2 ≤ written_at seat.old.me.0.part.queue (position - seat.old.me.0.part.queue.first) }

@@ -9,7 +9,7 @@ use Rattle.atomic_table.proofs.Lists.{exchanged}
 use Rattle.quaject_core.specs.declared.alarm.Alarm.{Alarm}
 use Rattle.table_theory.specs.Filing.{entry_of}
 use Rattle.table_theory.specs.Members.{EndsKnown}
-use Rattle.table_theory.proofs.Courses.{course_step, looks_more}
+use Rattle.table_theory.proofs.Courses.{course_step}
 use Rattle.table_theory.proofs.Members.{known_look}
 use Rattle.meters.specs.declared.rule.Reading.{Reading}
 use Rattle.meters.specs.declared.rule.Shape.{Shape}
@@ -49,22 +49,22 @@ kept_event key s k i found y id v w n at live same own all beside lawful shows l
 }
 
 -- the rule, where the words stay, and a view has one entry more and sees the meters as they are
-pub kept_look : (key : Shape) (s : St) (k : Rule key s) (i id found : ℕ) (v : View) → get_elem? s.views id ≡ some v
+pub kept_look : (key : Shape) (s : St) (k : Rule key s) (i id found : ℕ) (v : View) → get_elem? s.views id ≡ some v → 1 ≤ v.member.ends
     → Rule key record { words = set s.words i (get_or s.words i 0); homes = s.homes; views = set s.views id (looked v i found (steps_to k) k.meters) }
-kept_look key s k i id found v at = let w : View = looked v i found (steps_to k) k.meters in let same : set s.words i (get_or s.words i 0) ≡ s.words = set-get_or s.words i 0 in record {
+kept_look key s k i id found v at live = let w : View = looked v i found (steps_to k) k.meters in let same : set s.words i (get_or s.words i 0) ≡ s.words = set-get_or s.words i 0 in record {
   meters = k.meters;
   lawful = k.lawful;
   shows = subst (WordsShow k.meters) (sym same) k.shows;
   listed = listed_look key.clock k.meters s.views id v w k.listed at (same_lists k.meters v w refl refl refl refl refl) (here, here);
-  ends = subst (λ (c : ℕ). EndsKnown member_of IsIdle c (set s.views id w)) (ap (λ (z : List ℕ). get_or z 0 0) (sym same)) (known_look member_of IsIdle (get_or s.words 0 0) s.views id v w k.ends at refl (λ _ h. (h.0, looks_more v.steps (entry i found k.meters k.meters) h.1 refl)));
+  ends = subst (λ (c : ℕ). EndsKnown member_of IsIdle c (set s.views id w)) (ap (λ (z : List ℕ). get_or z 0 0) (sym same)) (known_look member_of IsIdle (get_or s.words 0 0) s.views id v w k.ends at refl (λ none. absurd (omega arith)));
   course = course_step steps_of course_of (first_reading key.clock) k.meters s.views id v w (entry i found k.meters k.meters) k.course at refl refl refl;
 }
 
 pub found_now : (key : Shape) (s : St) (k : Rule key s) (i id : ℕ) (v : View) → get_elem? s.views id ≡ some v → Found v i (get_or s.words i 0) (looked v i (get_or s.words i 0) (steps_to k) k.meters)
 found_now key s k i id v at = record { before = steps_to k; follows = k.course.seen id v at; same = refl; later = k.listed.later id v at; lawful = k.lawful; words = s.words; shows = k.shows; is = refl }
 
-pub looks : (key : Shape) (n id : ℕ) (me : Me Unit View) (i : ℕ) → Allows (Rule key) n id me i (λ x. x) (finds (step n i 0 0 none) me)
-looks key n id me i s k _ at _ = let found : ℕ = get_or s.words i 0 in (looked me.0 i found (steps_to k) k.meters, keeps, tt, kept_look key s k i id found me.0 at, (refl, found_now key s k i id me.0 at))
+pub looks : (key : Shape) (n id : ℕ) (me : Me Unit View) (i : ℕ) → 1 ≤ me.0.member.ends → Allows (Rule key) n id me i (λ x. x) (finds (step n i 0 0 none) me)
+looks key n id me i live s k _ at _ = let found : ℕ = get_or s.words i 0 in (looked me.0 i found (steps_to k) k.meters, keeps, tt, kept_look key s k i id found me.0 at live, (refl, found_now key s k i id me.0 at))
 
 pub ticks_gauge : (key : Shape) (n id : ℕ) (me : Me Unit View) (g amount : ℕ) → g < 8 → 1 ≤ me.0.member.ends → Allows (Rule key) n id me (1 + g) (λ x. (x + amount) % 18446744073709551616) (ticks (step n (1 + g) amount 0 none) me)
 ticks_gauge key n id me g amount below live s k _ at _ = let v : View = me.0 in let m : Reading = k.meters in let o : Reading = with_tick m g amount in let eight = k.shows.eight in let y : ℕ = (get_or s.words (1 + g) 0 + amount) % 18446744073709551616 in
@@ -88,7 +88,7 @@ advances_clock key n id me clock small live s k _ at _ = let y : ℕ = get_or s.
           (listed_advance key.clock m s.views id v w k.listed at (advanced (advance_is m ne)) (λ i. v.advances ++ (sym now i + 1) ∷ []) refl refl refl refl (here, here)),
       (refl, (λ _. record { meters = m; before = steps_to k; follows = k.course.seen id v at; later = k.listed.later id v at; lawful = k.lawful; at = now; event = advance_is m ne; same = refl }), λ miss. absurd (miss hit)),
     ))
-    (λ miss. (looked v 9 y (steps_to k) m, keeps, tt, kept_look key s k 9 id y v at, (refl, (λ hit. absurd (miss hit)), λ _. found_now key s k 9 id v at)))
+    (λ miss. (looked v 9 y (steps_to k) m, keeps, tt, kept_look key s k 9 id y v at live, (refl, (λ hit. absurd (miss hit)), λ _. found_now key s k 9 id v at)))
 
 -- what the play of an exchange says of its own slot and alarm it says of those that have the same word
 one_slot : (F : ℕ → Alarm → Type 0) (slot : ℕ) (alarm : Alarm) → IsInRange alarm → F slot alarm → (slot' : ℕ) (alarm' : Alarm) → IsWordOf slot' alarm' (10 + slot) (word_of (Some alarm)) → F slot' alarm'
@@ -113,7 +113,7 @@ sets_slot key n id me slot alarm below range live s k _ at _ = let y : ℕ = get
           }) (here, here)),
       (refl, (λ _. one_slot (λ j a. SetIn v j a w) slot alarm range (record { meters = m; before = steps_to k; follows = k.course.seen id v at; later = k.listed.later id v at; lawful = k.lawful; event = e; same = refl })), λ miss. absurd (miss hit)),
     ))
-    (λ miss. (looked v (10 + slot) y (steps_to k) m, keeps, tt, kept_look key s k (10 + slot) id y v at, (refl, (λ hit. absurd (miss hit)), λ _. found_now key s k (10 + slot) id v at)))
+    (λ miss. (looked v (10 + slot) y (steps_to k) m, keeps, tt, kept_look key s k (10 + slot) id y v at live, (refl, (λ hit. absurd (miss hit)), λ _. found_now key s k (10 + slot) id v at)))
 
 pub fires_slot : (key : Shape) (n id : ℕ) (me : Me Unit View) (slot : ℕ) (alarm : Alarm) → slot < 16 → IsInRange alarm → alarm.due ≤ me.0.seen.clock → 1 ≤ me.0.member.ends
     → Allows (Rule key) n id me (10 + slot) (λ x. either (eqb x (word_of (Some alarm))) 0 x) (fires (step n (10 + slot) (word_of (Some alarm)) 0 none) me)
@@ -136,7 +136,7 @@ fires_slot key n id me slot alarm below range due live s k _ at _ = let y : ℕ 
           }) (here, here)),
       (refl, (λ _. one_slot (λ j a. Fired v j a w) slot alarm range (record { meters = m; before = steps_to k; follows = k.course.seen id v at; later = k.listed.later id v at; lawful = k.lawful; stood = stood; event = e; same = refl })), λ miss. absurd (miss hit)),
     ))
-    (λ miss. (looked v (10 + slot) y (steps_to k) m, keeps, tt, kept_look key s k (10 + slot) id y v at, (refl, (λ hit. absurd (miss hit)), λ _. found_now key s k (10 + slot) id v at)))
+    (λ miss. (looked v (10 + slot) y (steps_to k) m, keeps, tt, kept_look key s k (10 + slot) id y v at live, (refl, (λ hit. absurd (miss hit)), λ _. found_now key s k (10 + slot) id v at)))
 
 pub cancels_slot : (key : Shape) (n id : ℕ) (me : Me Unit View) (slot : ℕ) (alarm : Alarm) → slot < 16 → IsInRange alarm → 1 ≤ me.0.member.ends
     → Allows (Rule key) n id me (10 + slot) (λ x. either (eqb x (word_of (Some alarm))) 0 x) (cancels (step n (10 + slot) (word_of (Some alarm)) 0 none) me)
@@ -159,7 +159,7 @@ cancels_slot key n id me slot alarm below range live s k _ at _ = let y : ℕ = 
           }) (here, here)),
       (refl, (λ _. one_slot (λ j a. Cancelled v j a w) slot alarm range (record { meters = m; before = steps_to k; follows = k.course.seen id v at; later = k.listed.later id v at; lawful = k.lawful; stood = stood; event = e; same = refl })), λ miss. absurd (miss hit)),
     ))
-    (λ miss. (looked v (10 + slot) y (steps_to k) m, keeps, tt, kept_look key s k (10 + slot) id y v at, (refl, (λ hit. absurd (miss hit)), λ _. found_now key s k (10 + slot) id v at)))
+    (λ miss. (looked v (10 + slot) y (steps_to k) m, keeps, tt, kept_look key s k (10 + slot) id y v at live, (refl, (λ hit. absurd (miss hit)), λ _. found_now key s k (10 + slot) id v at)))
 
 -- the same, where the exchange has these bits
 pub sets_bits : (key : Shape) (n id : ℕ) (me : Me Unit View) (slot : ℕ) (alarm : Alarm) (bits : ℕ) → bits ≡ word_of (Some alarm) → slot < 16 → IsInRange alarm → 1 ≤ me.0.member.ends → Allows (Rule key) n id me (10 + slot) (λ x. either (eqb x 0) bits x) (sets (step n (10 + slot) 0 bits none) me)

@@ -6,7 +6,7 @@ use Rattle.atomic_table.specs.Table.{Me, step, keeps, Allows, Splits, Joins}
 use Rattle.atomic_table.proofs.Lists.{set_else}
 use Rattle.table_theory.specs.declared.views.Member.{Member}
 use Rattle.table_theory.specs.Members.{EndsKnown, with_split, with_join}
-use Rattle.table_theory.proofs.Courses.{course_step, course_split, course_join, looks_more}
+use Rattle.table_theory.proofs.Courses.{course_step, course_split, course_join}
 use Rattle.table_theory.proofs.Members.{known_up, known_down, known_tally, known_split, known_join, counted_more, counted_less, tallied}
 use Rattle.meters.specs.declared.rule.Shape.{Shape}
 use Rattle.meters.specs.declared.rule.View.{View}
@@ -54,7 +54,7 @@ tallies key n id me one s k _ at _ = let v : View = me.0 in let c : ℕ = get_or
   w,
   keeps,
   tt,
-  kept_count key s k id c c v m at (known_tally member_of IsIdle c s.views id v w k.ends at refl (λ _ h. (h.0, looks_more v.steps (entry 0 c k.meters k.meters) h.1 refl))),
+  kept_count key s k id c c v m at (known_tally member_of IsIdle c s.views id v w k.ends at refl (λ none. absurd (omega arith))),
   (
     refl,
     record {
@@ -87,6 +87,6 @@ joins key id other v w live live' s k at ne has = let at' : get_elem? s.views ot
   lawful = k.lawful;
   shows = k.shows;
   listed = listed_join key.clock k.meters s.views id other v w (both v w) (emptied v) k.listed at at' ne refl refl refl refl refl refl refl refl refl refl (later.0, later'.0) later;
-  ends = known_join member_of IsIdle (get_or s.words 0 0) s.views id other v w (both v w) (emptied v) k.ends at at' ne live refl refl (refl, tt);
+  ends = known_join member_of IsIdle (get_or s.words 0 0) s.views id other v w (both v w) (emptied v) k.ends at at' ne live refl refl (refl, refl);
   course = course_join steps_of course_of (first_reading key.clock) k.meters s.views id other v w (both v w) (emptied v) k.course at at' ne refl refl refl refl;
 }

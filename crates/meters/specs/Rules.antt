@@ -2,7 +2,7 @@
 use Rattle.std.specs.Prelude.{◌≡◌, List, [], slice_index_or}
 use Rattle.table_theory.specs.declared.views.Entry.{Entry}
 use Rattle.table_theory.specs.declared.views.Member.{Member}
-use Rattle.table_theory.specs.Courses.{AreLooks, IsCourse}
+use Rattle.table_theory.specs.Courses.{IsCourse}
 use Rattle.table_theory.specs.Members.{first_member, EndsKnown}
 use Rattle.atomic_table.specs.Table.{State}
 use Rattle.meters.specs.declared.rule.Reading.{Reading}
@@ -22,9 +22,9 @@ steps_of v = v.steps
 abbrev pub course_of : View → List (Entry Reading)
 course_of v = v.course
 
--- the end has nothing of its own, and none of its steps was an event
+-- the end has nothing of its own, and lists no step
 abbrev pub IsIdle : View → Type 0
-IsIdle v = (own_of v ≡ nothing_own) × AreLooks v.steps
+IsIdle v = (own_of v ≡ nothing_own) × (v.steps ≡ [])
 
 pub record Rule (key : Shape) (s : State Unit View) : Type 0 where
   pub meters : Reading

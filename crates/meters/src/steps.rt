@@ -29,7 +29,8 @@ pub(crate) const ALARMS: usize = 10;
 pub(crate) const SLOTS: usize = 16;
 
 pub(crate) fn load(words: &Words, seat: &mut Seat<(), View>, word: usize) -> u64
-    requires { (seat.old.table_id ≡ words.now.table_id) × (word < words.now.table_id.words) }
+    requires seat { (seat.old.table_id ≡ words.now.table_id) × (word < words.now.table_id.words) }
+    requires live { 1 ≤ seat.old.me.0.member.ends }
     ensures { IsSame seat.old seat.new × (seat.new.me.1 ≡ seat.old.me.1)
         × Found seat.old.me.0 word result seat.new.me.0 }
 {
@@ -37,7 +38,8 @@ pub(crate) fn load(words: &Words, seat: &mut Seat<(), View>, word: usize) -> u64
 }
 
 pub(crate) fn load_clock(words: &Words, seat: &mut Seat<(), View>) -> u64
-    requires { (seat.old.table_id ≡ words.now.table_id) × (26 ≤ words.now.table_id.words) }
+    requires seat { (seat.old.table_id ≡ words.now.table_id) × (26 ≤ words.now.table_id.words) }
+    requires live { 1 ≤ seat.old.me.0.member.ends }
     ensures seat { IsSame seat.old seat.new × (seat.new.me.1 ≡ seat.old.me.1) }
     ensures found { Found seat.old.me.0 clock_word result seat.new.me.0 }
     ensures clock { result ≡ seat.new.me.0.seen.clock }
@@ -47,7 +49,8 @@ pub(crate) fn load_clock(words: &Words, seat: &mut Seat<(), View>) -> u64
 }
 
 pub(crate) fn load_alarm(words: &Words, seat: &mut Seat<(), View>, slot: usize) -> Option<Alarm>
-    requires { (seat.old.table_id ≡ words.now.table_id) × (26 ≤ words.now.table_id.words) × (slot < 16) }
+    requires seat { (seat.old.table_id ≡ words.now.table_id) × (26 ≤ words.now.table_id.words) × (slot < 16) }
+    requires live { 1 ≤ seat.old.me.0.member.ends }
     ensures seat { IsSame seat.old seat.new × (seat.new.me.1 ≡ seat.old.me.1) }
     ensures found { FoundIn seat.old.me.0 slot result seat.new.me.0 }
 {

@@ -97,7 +97,7 @@ module _ {Q W : Type 0} (made : Q → List ℕ → Type 0) (fits : W → Q → T
           λ miss. absurd (miss hit),
         ),
       ))
-      (λ miss. (looked v 0 y (steps_to k) (moment q (gate_in s.words)), keeps, tt, kept_look made fits key s k 0 id y v at, (refl, (λ hit. absurd (miss hit)), λ _. found_now made fits key s k 0 id v at)))
+      (λ miss. (looked v 0 y (steps_to k) (moment q (gate_in s.words)), keeps, tt, kept_look made fits key s k 0 id y v at live, (refl, (λ hit. absurd (miss hit)), λ _. found_now made fits key s k 0 id v at)))
 
   -- the end raises the place of its run that starts at `start`
   pub raises_place : (n id call : ℕ) (me : Me Q View) (start u x : ℕ) (e : Batch) → call ≡ id → get_elem? me.0.part.runs (number_of start me.0.part.runs) ≡ some e → e.start ≡ start → 0 < length e.places → (get_or e.places 0 blank).written < 2 → u ≡ start % 32 + 4

@@ -121,7 +121,7 @@ module _ {Q W : Type 0} (made : Q → List ℕ → Type 0) (fits : W → Q → T
         gate = gated_moved s.views id v e at q (gate_in s.words) k.gate refl;
         slot = k.slot;
         undoubled = undoubled_moved s.views id v e at k.undoubled refl;
-        ends = known_moved s.views id v e at (get_or s.words 2 0) k.ends refl refl refl refl refl (refl, refl, refl, refl, tt);
+        ends = known_moved s.views id v e at (get_or s.words 2 0) k.ends refl refl refl refl refl (refl, refl, refl, refl, refl);
         course = subst (IsCourse steps_of course_of start now) (in_place s.views e v e id below)
             (course_join steps_of course_of start now (s.views ++ e ∷ []) (length s.views) id e v v e
             (subst (λ (z : List View). IsCourse steps_of course_of start now (z ++ e ∷ [])) (set_again s.views id v at) (course_split steps_of course_of start now s.views id v v e k.course at refl refl refl refl))

@@ -1,5 +1,5 @@
 -- The steps that are no event keep the rule.
-use Rattle.std.proofs.Common.{◌≡◌, ℕ, inl, ⊎_elim, false, List, [], ◌∷◌, ◌++◌, map, get_or, set, sym, refl, ap, ◌∙◌, subst}
+use Rattle.std.proofs.Common.{◌≡◌, ◌≤◌, ℕ, arith, inl, ⊎_elim, false, List, [], ◌∷◌, ◌++◌, map, get_or, set, sym, refl, ap, ◌∙◌, subst}
 use Rattle.std.proofs.lemmas.List.{map-set, set-get_or}
 use mathlib.Core.Option.{some, none}
 use lib.ListN.{get_elem?}
@@ -16,7 +16,7 @@ use Rattle.table_theory.proofs.Positioned.{grows_refl}
 use Rattle.table_theory.proofs.Listing.{listed_look}
 use Rattle.table_theory.proofs.Seeing.{sees_now}
 use Rattle.table_theory.proofs.Members.{known_look}
-use Rattle.table_theory.proofs.Courses.{course_step, looks_more}
+use Rattle.table_theory.proofs.Courses.{course_step}
 use Rattle.proc_chain.specs.declared.rule.Shape.{Shape}
 use Rattle.proc_chain.specs.declared.rule.View.{View}
 use Rattle.proc_chain.specs.Shown.{gate_in, WordsShow}
@@ -49,10 +49,10 @@ module _ {Q W : Type 0} (made : Q → List ℕ → Type 0) (fits : W → Q → T
       (course_step steps_of course_of (first_moment key.first) (moment k.queue (gate_in s.words)) s.views id v w (entry word found (moment k.queue gate) (moment q next)) k.course at (ap (moment k.queue) from) own all)
 
   -- the rule, where the words stay
-  pub kept_word : (s : State Q View) (k : Rule made fits key s) (i id found : ℕ) (v w : View) → get_elem? s.views id ≡ some v → w.part ≡ record v.part { queue = k.queue; joined = k.queue } → w.member ≡ v.member → w.doubled ≡ v.doubled → (v.member.ends ≡ 0 → IsIdle v → IsIdle w)
+  pub kept_word : (s : State Q View) (k : Rule made fits key s) (i id found : ℕ) (v w : View) → get_elem? s.views id ≡ some v → w.part ≡ record v.part { queue = k.queue; joined = k.queue } → w.member ≡ v.member → w.doubled ≡ v.doubled → 1 ≤ v.member.ends
       → w.steps ≡ v.steps ++ entry i found (moment k.queue (gate_in s.words)) (moment k.queue (gate_in s.words)) ∷ [] → w.course ≡ steps_to k ++ entry i found (moment k.queue (gate_in s.words)) (moment k.queue (gate_in s.words)) ∷ []
       → GateShows k.queue (gate_in s.words) (set s.views id w) → Rule made fits key record { words = set s.words i (get_or s.words i 0); homes = s.homes; views = set s.views id w }
-  kept_word s k i id found v w at is member doubled idle own all g = let same : set s.words i (get_or s.words i 0) ≡ s.words = set-get_or s.words i 0 in record {
+  kept_word s k i id found v w at is member doubled live own all g = let same : set s.words i (get_or s.words i 0) ≡ s.words = set-get_or s.words i 0 in record {
     queue = k.queue;
     first = k.first;
     lawful = k.lawful;
@@ -61,15 +61,15 @@ module _ {Q W : Type 0} (made : Q → List ℕ → Type 0) (fits : W → Q → T
     gate = subst (λ (n : ℕ). GateShows k.queue n (set s.views id w)) (ap (λ (z : List ℕ). get_or z 3 0) (sym same)) g;
     slot = subst (λ (n : ℕ). SlotShows made fits key.world.value k.queue n s.homes) (ap (λ (z : List ℕ). get_or z 3 0) (sym same)) k.slot;
     undoubled = undoubled_set s.views id w k.undoubled (doubled ∙ k.undoubled id v at);
-    ends = subst (λ (n : ℕ). EndsKnown member_of IsIdle n (set s.views id w)) (ap (λ (z : List ℕ). get_or z 2 0) (sym same)) (known_look member_of IsIdle (get_or s.words 2 0) s.views id v w k.ends at member idle);
+    ends = subst (λ (n : ℕ). EndsKnown member_of IsIdle n (set s.views id w)) (ap (λ (z : List ℕ). get_or z 2 0) (sym same)) (known_look member_of IsIdle (get_or s.words 2 0) s.views id v w k.ends at member (λ none. absurd (omega arith)));
     course = course_on s k id i found (gate_in s.words) (gate_in s.words) k.queue (set s.words i (get_or s.words i 0)) v w at refl (ap (λ (z : List ℕ). get_or z 3 0) same) own all;
   }
 
   -- and a view has one entry more and sees the queue as it is
-  pub kept_look : (s : State Q View) (k : Rule made fits key s) (i id found : ℕ) (v : View) → get_elem? s.views id ≡ some v
+  pub kept_look : (s : State Q View) (k : Rule made fits key s) (i id found : ℕ) (v : View) → get_elem? s.views id ≡ some v → 1 ≤ v.member.ends
       → Rule made fits key record { words = set s.words i (get_or s.words i 0); homes = s.homes; views = set s.views id (looked v i found (steps_to k) (moment k.queue (gate_in s.words))) }
-  kept_look s k i id found v at = let w : View = looked v i found (steps_to k) (moment k.queue (gate_in s.words)) in
-      kept_word s k i id found v w at refl refl refl (λ _ h. (h.0, h.1, h.2, h.3, looks_more v.steps (entry i found (moment k.queue (gate_in s.words)) (moment k.queue (gate_in s.words))) h.4 refl)) refl refl (gated_same k.queue k.queue (gate_in s.words) s.views id v w k.gate at refl refl (λ _. refl) (λ h. inl h) (settled_look k.queue s.views id v w at refl refl))
+  kept_look s k i id found v at live = let w : View = looked v i found (steps_to k) (moment k.queue (gate_in s.words)) in
+      kept_word s k i id found v w at refl refl refl live refl refl (gated_same k.queue k.queue (gate_in s.words) s.views id v w k.gate at refl refl (λ _. refl) (λ h. inl h) (settled_look k.queue s.views id v w at refl refl))
 
   pub sees_of : (s : State Q View) (k : Rule made fits key s) (id : ℕ) (v : View) → get_elem? s.views id ≡ some v → Sees v.part k.queue
   sees_of s k id v at = sees_now k.queue (map part_of s.views) id v.part k.listed (at_map part_of s.views id v at) k.lawful k.shows.small
@@ -91,5 +91,5 @@ module _ {Q W : Type 0} (made : Q → List ℕ → Type 0) (fits : W → Q → T
     is = refl;
   }
 
-  pub looks : (n id : ℕ) (me : Me Q View) (i : ℕ) → Allows (Rule made fits key) n id me i (λ x. x) (finds (step n i 0 0 none) me)
-  looks n id me i s k _ at _ = let found : ℕ = get_or s.words i 0 in (looked me.0 i found (steps_to k) (moment k.queue (gate_in s.words)), keeps, tt, kept_look s k i id found me.0 at, (refl, found_now s k i id me.0 at))
+  pub looks : (n id : ℕ) (me : Me Q View) (i : ℕ) → 1 ≤ me.0.member.ends → Allows (Rule made fits key) n id me i (λ x. x) (finds (step n i 0 0 none) me)
+  looks n id me i live s k _ at _ = let found : ℕ = get_or s.words i 0 in (looked me.0 i found (steps_to k) (moment k.queue (gate_in s.words)), keeps, tt, kept_look s k i id found me.0 at live, (refl, found_now s k i id me.0 at))

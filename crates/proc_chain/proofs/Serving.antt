@@ -46,13 +46,13 @@ module _ {Q W : Type 0} (made : Q → List ℕ → Type 0) (fits : W → Q → T
   spies_place n id me i r live word s k _ at _ = let v : View = me.0 in let q : Positions = k.queue in let g = k.listed.seen id v.part (at_map part_of s.views id v at) in let y : ℕ = get_or s.words i 0 in
       let taken = k.gate.takes id v at r in let first = g.0.first in let room = k.shows.room in let tail : tail_of v.part.queue ≡ tail_of q = omega arith in let behind = k.lawful.behind in
       dite (ℕ_discrete (y / 65536) (tail_of v.part.queue + 1))
-      (λ up. (looked v i y (steps_to k) (moment q (gate_in s.words)), keeps, tt, kept_look made fits key s k i id y v at, (refl, record { up = λ _. found_now made fits key s k i id v at; low = λ ne. absurd (ne up) })))
+      (λ up. (looked v i y (steps_to k) (moment q (gate_in s.words)), keeps, tt, kept_look made fits key s k i id y v at live, (refl, record { up = λ _. found_now made fits key s k i id v at; low = λ ne. absurd (ne up) })))
       (λ no. let here : i ≡ spot q q.taken + 4 = word ∙ (λ j. tail j % sym room j + 4) in let w : View = record (looked v i y (steps_to k) (moment q (gate_in s.words))) { saw = true } in
       let low : written_at q q.taken < 2 = found_not_raised q (mark_in s.words) (note_in s.words) q.taken k.shows.window (omega arith) (omega arith) (λ h. no (ap (λ (z : ℕ). get_or s.words z 0 / 65536) here ∙ (h ∙ (omega arith)))) in (
         w,
         keeps,
         tt,
-        kept_word made fits key s k i id y v w at refl refl refl (λ none. absurd (omega arith)) refl refl
+        kept_word made fits key s k i id y v w at refl refl refl live refl refl
             (gated_same q q (gate_in s.words) s.views id v w k.gate at refl refl (λ _. refl) (λ _. inr (λ up. absurd (omega arith))) (settled_look q s.views id v w at refl refl)),
         (refl, record { up = λ up. absurd (no up); low = λ _. record { before = steps_to k; follows = k.course.seen id v at; gate = gate_in s.words; same = refl; sees = sees_of made fits key s k id v at; turn = sym taken; words = s.words; shows = k.shows; gate_is = refl; is = refl; low = low } }),
       ))
@@ -155,4 +155,4 @@ module _ {Q W : Type 0} (made : Q → List ℕ → Type 0) (fits : W → Q → T
           λ miss. absurd (miss hit),
         ),
       ))
-      (λ miss. let small = k.gate.small in (looked v 3 y (steps_to k) (moment q y), keeps, tt, kept_look made fits key s k 3 id y v at, ((λ hit. absurd (miss hit)), λ _. (refl, found_now made fits key s k 3 id v at, (let f : y ≢ 0 = not_idle in let m : y ≢ 1 = miss in omega arith)))))
+      (λ miss. let small = k.gate.small in (looked v 3 y (steps_to k) (moment q y), keeps, tt, kept_look made fits key s k 3 id y v at live, ((λ hit. absurd (miss hit)), λ _. (refl, found_now made fits key s k 3 id v at, (let f : y ≢ 0 = not_idle in let m : y ≢ 1 = miss in omega arith)))))

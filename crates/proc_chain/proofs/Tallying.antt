@@ -14,7 +14,7 @@ use Rattle.table_theory.specs.Members.{EndsKnown, with_split, with_join}
 use Rattle.atomic_table.proofs.Lists.{at_map, set_else}
 use Rattle.table_theory.proofs.Positioned.{grows_refl}
 use Rattle.table_theory.proofs.Listing.{listed_look, listed_new, listed_join, listed_first, distinct}
-use Rattle.table_theory.proofs.Courses.{course_split, course_join, course_first, looks_more}
+use Rattle.table_theory.proofs.Courses.{course_split, course_join, course_first}
 use Rattle.table_theory.proofs.Members.{known_up, known_down, known_tally, known_split, known_join, known_first, counted_more, counted_less, tallied}
 use Rattle.table_theory.proofs.Windows.{window_same}
 use Rattle.proc_chain.specs.declared.rule.Shape.{Shape}
@@ -22,7 +22,7 @@ use Rattle.proc_chain.specs.declared.rule.View.{View}
 use Rattle.proc_chain.specs.Shown.{note_in, mark_in, gate_in, WordsShow}
 use Rattle.proc_chain.specs.Gates.{GateShows, SlotShows}
 use Rattle.proc_chain.specs.Rules.{part_of, member_of, steps_of, course_of, IsIdle, Rule, empty_from, moment, first_moment, newcomer}
-use Rattle.proc_chain.specs.Steps.{entry, counted, counts_up, counts_down, counts, rest_of, newborn, both, emptied}
+use Rattle.proc_chain.specs.Steps.{counted, counts_up, counts_down, counts, rest_of, newborn, both, emptied}
 use Rattle.table_theory.proofs.Owned.{at_push}
 use Rattle.proc_chain.proofs.Gates.{not_true, owed_on, covers_more, gated_same, gated_new}
 use Rattle.proc_chain.proofs.Events.{and_false}
@@ -126,7 +126,7 @@ module _ {Q W : Type 0} (made : Q → List ℕ → Type 0) (fits : W → Q → T
     w,
     keeps,
     tt,
-    kept_count s k id c c v m at (known_tally member_of IsIdle c s.views id v w k.ends at refl (λ _ h. (h.0, h.1, h.2, h.3, looks_more v.steps (entry 2 c (moment k.queue (gate_in s.words)) (moment k.queue (gate_in s.words))) h.4 refl))),
+    kept_count s k id c c v m at (known_tally member_of IsIdle c s.views id v w k.ends at refl (λ none. absurd (omega arith))),
     (
       refl,
       record {
@@ -171,7 +171,7 @@ module _ {Q W : Type 0} (made : Q → List ℕ → Type 0) (fits : W → Q → T
             (λ st up. owed_on k.queue k.queue (set s.views id (both v w)) other w (emptied v) has (st up) refl (λ h. absurd (true≢false (sym h ∙ ow))) (λ h. absurd (true≢false (sym h ∙ ow))));
         slot = k.slot;
         undoubled = undoubled_set (set s.views id (both v w)) other (emptied v) (undoubled_set s.views id (both v w) k.undoubled (none_doubled v.doubled w.doubled v.runner w.runner (k.undoubled id v at) (k.undoubled other w at') r)) refl;
-        ends = known_join member_of IsIdle (get_or s.words 2 0) s.views id other v w (both v w) (emptied v) k.ends at at' ne live refl refl (refl, refl, refl, refl, tt);
+        ends = known_join member_of IsIdle (get_or s.words 2 0) s.views id other v w (both v w) (emptied v) k.ends at at' ne live refl refl (refl, refl, refl, refl, refl);
         course = course_join steps_of course_of (first_moment key.first) (moment k.queue (gate_in s.words)) s.views id other v w (both v w) (emptied v) k.course at at' ne refl refl refl refl;
       }
 

@@ -8,7 +8,7 @@ use Rattle.table_theory.specs.declared.views.Entry.{Entry}
 use Rattle.table_theory.specs.declared.views.Member.{Member}
 use Rattle.table_theory.specs.Positioned.{Lawful}
 use Rattle.table_theory.specs.Listing.{ViewsShow}
-use Rattle.table_theory.specs.Courses.{AreLooks, IsCourse}
+use Rattle.table_theory.specs.Courses.{IsCourse}
 use Rattle.table_theory.specs.Members.{first_member, emptied, EndsKnown}
 use Rattle.atomic_table.specs.Table.{State}
 use Rattle.proc_chain.specs.declared.rule.Moment.{Moment}
@@ -29,9 +29,9 @@ steps_of v = v.steps
 abbrev pub course_of : View → List (Entry Moment)
 course_of v = v.course
 
--- the end has no run, took nothing, has no turn and owes nothing: none of its steps was an event
+-- the end has no run, took nothing, has no turn, owes nothing and lists no step
 abbrev pub IsIdle : View → Type 0
-IsIdle v = (v.part.runs ≡ []) × (v.part.takes ≡ []) × (v.runner ≡ false) × (v.owes ≡ false) × AreLooks v.steps
+IsIdle v = (v.part.runs ≡ []) × (v.part.takes ≡ []) × (v.runner ≡ false) × (v.owes ≡ false) × (v.steps ≡ [])
 
 -- a queue in which nothing was claimed
 abbrev pub empty_from : ℕ → Positions

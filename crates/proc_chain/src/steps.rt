@@ -41,7 +41,8 @@ pub(crate) fn load<Q: Quaject>(
     seat: &mut Seat<Q, View>,
     word: usize,
 ) -> u64
-    requires { (seat.old.table_id ≡ words.now.table_id) × (word < words.now.table_id.words) }
+    requires queue { (seat.old.table_id ≡ words.now.table_id) × (word < words.now.table_id.words) }
+    requires live { 1 ≤ seat.old.me.0.member.ends }
     ensures { IsSame seat.old seat.new × (seat.new.me.1 ≡ seat.old.me.1)
         × Found seat.old.me.0 word result seat.new.me.0 }
 {
@@ -52,7 +53,8 @@ pub(crate) fn load_head<Q: Quaject>(
     words: &Shared<Q, View, Shape<Q::World>, ChainRule>,
     seat: &mut Seat<Q, View>,
 ) -> u64
-    requires { (seat.old.table_id ≡ words.now.table_id) × (words.now.table_id.words ≡ 36) }
+    requires queue { (seat.old.table_id ≡ words.now.table_id) × (words.now.table_id.words ≡ 36) }
+    requires live { 1 ≤ seat.old.me.0.member.ends }
     ensures queue { IsSame seat.old seat.new × (seat.new.me.1 ≡ seat.old.me.1) }
     ensures found { Found seat.old.me.0 head_word result seat.new.me.0 }
     ensures head { result ≡ head_of seat.new.me.0.part.queue }
@@ -65,7 +67,8 @@ pub(crate) fn load_tail<Q: Quaject>(
     words: &Shared<Q, View, Shape<Q::World>, ChainRule>,
     seat: &mut Seat<Q, View>,
 ) -> u64
-    requires { (seat.old.table_id ≡ words.now.table_id) × (words.now.table_id.words ≡ 36) }
+    requires queue { (seat.old.table_id ≡ words.now.table_id) × (words.now.table_id.words ≡ 36) }
+    requires live { 1 ≤ seat.old.me.0.member.ends }
     ensures queue { IsSame seat.old seat.new × (seat.new.me.1 ≡ seat.old.me.1) }
     ensures found { Found seat.old.me.0 tail_word result seat.new.me.0 }
     ensures tail { result ≡ tail_of seat.new.me.0.part.queue }

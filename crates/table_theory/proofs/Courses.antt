@@ -1,5 +1,5 @@
 -- The course of an object, through each step of an end, a split and a join.
-use Rattle.std.proofs.Common.{◌≡◌, ◌≢◌, ℕ, zero, suc, ◌+◌, ◌<◌, ◌≤◌, ◌⊎◌, inl, inr, Bool, true, false, arith, length-set, length-append, List, [], ◌∷◌, ◌++◌, map, length, set, sym, refl, ap, ◌∙◌, subst, ⊎_elim}
+use Rattle.std.proofs.Common.{◌≡◌, ◌≢◌, ℕ, zero, suc, ◌+◌, ◌<◌, ◌⊎◌, inl, inr, Bool, true, false, arith, length-set, length-append, List, [], ◌∷◌, ◌++◌, map, length, set, sym, refl, ap, ◌∙◌, subst, ⊎_elim}
 use Rattle.std.specs.Prelude.{if◌then◌else◌, nat_lt}
 use Rattle.std.proofs.lemmas.Bool.{ltb-true, ltb-false}
 use Rattle.std.proofs.lemmas.List.{map-set, map-append, length-map}
@@ -10,7 +10,7 @@ use lib.ListN.{get_elem?}
 use Rattle.table_theory.specs.declared.views.Entry.{Entry}
 use Rattle.table_theory.specs.Ends.{Begins, later_of}
 use Rattle.table_theory.specs.Filing.{Owned, entry_of, ListedOnce, moved}
-use Rattle.table_theory.specs.Courses.{AreLooks, Continues, IsCourse}
+use Rattle.table_theory.specs.Courses.{Continues, IsCourse}
 use Rattle.atomic_table.proofs.Lists.{at_set, at_map, set_again}
 use Rattle.table_theory.proofs.Owned.{at_push, at_below, at_map_back, file_first, file_push, file_new, file_join, moved_hit, moved_miss}
 use Rattle.table_theory.proofs.Ends.{begins_refl, begins_on, later_begins}
@@ -18,10 +18,6 @@ use Rattle.table_theory.proofs.Ends.{begins_refl, begins_on, later_begins}
 continues_push : {O : Type 0} (first now : O) (es : List (Entry O)) (e : Entry O) → Continues first es now → e.then ≡ now → Continues first (es ++ e ∷ []) e.next
 continues_push first now [] e h t = (h ∙ sym t, refl)
 continues_push first now (x ∷ xs) e h t = (h.0, continues_push x.next now xs e h.1 t)
-
-pub looks_more : {O : Type 0} (es : List (Entry O)) (e : Entry O) → AreLooks es → e.then ≡ e.next → AreLooks (es ++ e ∷ [])
-looks_more [] e are look = (look, tt)
-looks_more (x ∷ xs) e are look = (are.0, looks_more xs e are.1 look)
 
 entry_moved : {E : Type 0} (c d n : ℕ) (o : Owned E) → entry_of (moved c d n o) ≡ entry_of o
 entry_moved c d n o = dite (ℕ_discrete o.0 d) (λ y. ap entry_of (moved_hit c d n o y)) (λ no. ap entry_of (moved_miss c d n o no))

@@ -11,11 +11,6 @@ abbrev pub Continues : {O : Type 0} → O → List (Entry O) → O → Type 0
 Continues first [] last = first ≡ last
 Continues first (e ∷ es) last = (first ≡ e.then) × Continues e.next es last
 
--- each of these steps left the object as it had found it
-abbrev pub AreLooks : {O : Type 0} → List (Entry O) → Type 0
-AreLooks [] = Unit {0}
-AreLooks (e ∷ es) = (e.then ≡ e.next) × AreLooks es
-
 -- The steps of all ends, each of which is in one end's list, lead to the object as it is. What an end has seen are all
 -- steps up to its own last one
 pub record IsCourse {V O : Type 0} (steps_of course_of : V → List (Entry O)) (first now : O) (views : List V)

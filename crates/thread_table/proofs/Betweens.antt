@@ -40,6 +40,7 @@ shows_elements key s k =
       sole = k.sole;
       owned = subst (AllOwned s.views) same k.owned;
       ends = k.ends;
+      joined = k.joined;
       joiner = k.joiner;
       are_joins = k.are_joins;
       course = k.course;

@@ -8,16 +8,17 @@ use Rattle.atomic_table.specs.Table.{Me, step, keeps, Allows}
 use Rattle.table_theory.specs.declared.views.Member.{Member}
 use Rattle.table_theory.specs.Members.{EndsKnown, with_split, with_join}
 use Rattle.quaject_core.specs.Elements.{Elements, hold, holds, is_hold, is_put}
-use Rattle.table_theory.proofs.Courses.{looks_more}
 use Rattle.table_theory.proofs.Members.{known_look, known_tally, known_up, known_down, tallied, counted_more, counted_less}
 use Rattle.thread_table.specs.declared.rule.Shape.{Shape}
 use Rattle.thread_table.specs.declared.rule.View.{View}
 use Rattle.thread_table.specs.declared.rule.Counted.{Counted}
 use Rattle.thread_table.specs.Schedules.{elements_after, line_at, thread_at}
 use Rattle.thread_table.specs.Shown.{WordsShow, LineShows, StateShows, PlaceShows, seat_word, state_word, done_word, head_word, tail_word, place_word}
-use Rattle.thread_table.specs.Rules.{HandIs, IsCounted, Rule, MayStep, IsIdle, member_of, may_step}
+use Rattle.thread_table.specs.Joins.{uncounted}
+use Rattle.thread_table.proofs.Joined.{joined_set, none_uncounted, one_uncounted}
+use Rattle.thread_table.specs.Rules.{IsActive, HandIs, IsCounted, Rule, MayStep, IsIdle, member_of, may_step}
 use Rattle.thread_table.specs.Views.{count_of}
-use Rattle.thread_table.specs.Steps.{entry, looked, counted, counts_up, counts_down, tallies, counts}
+use Rattle.thread_table.specs.Steps.{looked, counted, counts_up, counts_down, tallies, counts}
 use Rattle.thread_table.proofs.Looks.{St, steps_to, hand_counts, hand_quiet, kept, sees_of}
 
 -- the number of hands shows nothing of the elements
@@ -48,39 +49,40 @@ shows_count first y e words h = record {
 }
 
 -- the rule, where the number of hands becomes y, and another of them of the hand
-pub kept_count : (key : Shape) (s : St) (k : Rule key s) (id y found : ℕ) (v : View) (m : Member) → get_elem? s.views id ≡ some v → EndsKnown member_of IsIdle y (set s.views id (counted v found (steps_to k) k.events m))
+pub kept_count : (key : Shape) (s : St) (k : Rule key s) (id y found : ℕ) (v : View) (m : Member) → get_elem? s.views id ≡ some v → 1 ≤ v.member.ends → 1 ≤ m.ends → m.joins ≡ v.member.joins + uncounted v → EndsKnown member_of IsIdle y (set s.views id (counted v found (steps_to k) k.events m))
     → Rule key record { words = set s.words 0 y; homes = s.homes; views = set s.views id (counted v found (steps_to k) k.events m) }
-kept_count key s k id y found v m at e = let wide = k.shows.wide in let w : View = counted v found (steps_to k) k.events m in
+kept_count key s k id y found v m at live live' counts e = let wide = k.shows.wide in let w : View = counted v found (steps_to k) k.events m in
     kept key s k id 0 found (set s.words 0 y) v w at (shows_count key.first y (elements_after k.events) s.words k.shows) refl refl refl refl refl (refl, refl)
     (hand_quiet id v w (elements_after k.events) refl refl refl refl refl (k.hands id v at))
     (subst (λ (n : ℕ). EndsKnown member_of IsIdle n (set s.views id w)) (sym (get_or-set_same s.words 0 y 0 (omega arith))) e)
+    (joined_set k.events s.views id v w at live live' (omega arith) k.joined)
     refl refl
 
-pub ups : (key : Shape) (n id : ℕ) (me : Me Unit View) → me.0.member.ends + 1 ≤ me.0.member.share → Allows (Rule key) n id me 0 (λ x. (x + 1) % 18446744073709551616) (counts_up (step n 0 1 0 none) me)
-ups key n id me parts s k _ at _ = let v : View = me.0 in let c : ℕ = get_or s.words 0 0 in let m : Member = with_split v.member k.ends.logged.log in let w : View = counted v c (steps_to k) k.events m in (
+pub ups : (key : Shape) (n id : ℕ) (me : Me Unit View) → me.0.member.ends + 1 ≤ me.0.member.share → IsActive me.0 → Allows (Rule key) n id me 0 (λ x. (x + 1) % 18446744073709551616) (counts_up (step n 0 1 0 none) me)
+ups key n id me parts live s k _ at _ = let stands = live.0 in let v : View = me.0 in let c : ℕ = get_or s.words 0 0 in let m : Member = with_split v.member k.ends.logged.log in let w : View = counted v c (steps_to k) k.events m in (
   w,
   keeps,
   tt,
-  kept_count key s k id ((c + 1) % 18446744073709551616) c v m at (known_up member_of IsIdle c s.views id v w k.ends at parts refl),
+  kept_count key s k id ((c + 1) % 18446744073709551616) c v m at live.0 (omega arith) (let n = none_uncounted v live.1 in omega arith) (known_up member_of IsIdle c s.views id v w k.ends at parts refl),
   (refl, record { past = steps_to k; follows = k.course.seen (suc id) v at; same = refl; sees = sees_of key s k id v at; member = counted_more member_of IsIdle c s.views id v k.ends at }),
 )
 
-pub downs : (key : Shape) (n id : ℕ) (me : Me Unit View) → 2 ≤ me.0.member.ends → Allows (Rule key) n id me 0 (λ x. (x + (18446744073709551616 - 1)) % 18446744073709551616) (counts_down (step n 0 1 0 none) me)
-downs key n id me live s k _ at _ = let v : View = me.0 in let c : ℕ = get_or s.words 0 0 in let m : Member = with_join v.member k.ends.logged.log in let w : View = counted v c (steps_to k) k.events m in (
+pub downs : (key : Shape) (n id : ℕ) (me : Me Unit View) → 2 ≤ me.0.member.ends → me.0.fresh ≡ false → Allows (Rule key) n id me 0 (λ x. (x + (18446744073709551616 - 1)) % 18446744073709551616) (counts_down (step n 0 1 0 none) me)
+downs key n id me live stale s k _ at _ = let v : View = me.0 in let c : ℕ = get_or s.words 0 0 in let m : Member = with_join v.member k.ends.logged.log in let w : View = counted v c (steps_to k) k.events m in (
   w,
   keeps,
   tt,
-  kept_count key s k id ((c + (18446744073709551616 - 1)) % 18446744073709551616) c v m at (known_down member_of IsIdle c s.views id v w k.ends at live refl),
+  kept_count key s k id ((c + (18446744073709551616 - 1)) % 18446744073709551616) c v m at (omega arith) (omega arith) (let n = one_uncounted v stale (omega arith) in omega arith) (known_down member_of IsIdle c s.views id v w k.ends at live refl),
   (refl, record { past = steps_to k; follows = k.course.seen (suc id) v at; same = refl; sees = sees_of key s k id v at; member = counted_less member_of IsIdle c s.views id v k.ends at }),
 )
 
 -- the number of hands is found
-pub tallies_ends : (key : Shape) (n id : ℕ) (me : Me Unit View) → me.0.member.ends ≡ 1 → Allows (Rule key) n id me 0 (λ x. x) (tallies (step n 0 0 0 none) me)
-tallies_ends key n id me live s k _ at _ = let v : View = me.0 in let c : ℕ = get_or s.words 0 0 in let m : Member = record v.member { log = k.ends.logged.log } in let w : View = counted v c (steps_to k) k.events m in (
+pub tallies_ends : (key : Shape) (n id : ℕ) (me : Me Unit View) → me.0.member.ends ≡ 1 → me.0.fresh ≡ true → Allows (Rule key) n id me 0 (λ x. x) (tallies (step n 0 0 0 none) me)
+tallies_ends key n id me live fresh s k _ at _ = let v : View = me.0 in let c : ℕ = get_or s.words 0 0 in let m : Member = record v.member { log = k.ends.logged.log } in let w : View = counted v c (steps_to k) k.events m in (
   w,
   keeps,
   tt,
-  kept_count key s k id c c v m at (known_tally member_of IsIdle c s.views id v w k.ends at refl (λ _ h. (h.0, h.1, h.2, h.3, h.4, looks_more v.steps (entry 0 c k.events k.events) h.5 refl))),
+  kept_count key s k id c c v m at (omega arith) (omega arith) (let n = none_uncounted v fresh in omega arith) (known_tally member_of IsIdle c s.views id v w k.ends at refl (λ none. absurd (omega arith))),
   (refl, record { past = steps_to k; follows = k.course.seen (suc id) v at; same = refl; sees = sees_of key s k id v at; member = tallied member_of IsIdle c s.views id v k.ends at live }),
 )
 
@@ -111,7 +113,7 @@ may_of call v e element h may = ⊎_elim
     may
 
 -- the number of steps that an element had done is found
-pub counts_done : (key : Shape) (n id : ℕ) (me : Me Unit View) (element : ℕ) → element < 64 → MayStep me.0 element → 1 ≤ me.0.member.ends → Allows (Rule key) n id me (done_word element) (λ x. x) (counts element (step n (done_word element) 0 0 none) me)
+pub counts_done : (key : Shape) (n id : ℕ) (me : Me Unit View) (element : ℕ) → element < 64 → MayStep me.0 element → IsActive me.0 → Allows (Rule key) n id me (done_word element) (λ x. x) (counts element (step n (done_word element) 0 0 none) me)
 counts_done key n id me element known may live s k _ at _ = let v : View = me.0 in let e : Elements = elements_after k.events in let i : ℕ = done_word element in let found : ℕ = get_or s.words i 0 in
     let w : View = record (looked v i found (steps_to k) k.events) { counted = Some (count_of element found) } in let is : found ≡ (thread_at e element).done = k.shows.steps element known in
     let same : set s.words i found ≡ s.words = set-get_or s.words i 0 in (
@@ -120,6 +122,7 @@ counts_done key n id me element known may live s k _ at _ = let v : View = me.0 
       tt,
       kept key s k id i found (set s.words i found) v w at (subst (WordsShow key.first e) (sym same) k.shows) refl refl refl refl refl (refl, refl)
           (hand_counts id v w e refl refl refl refl (λ c has. subst (λ (z : Counted). IsCounted id z e) (some_count (count_of element found) c has) record { known = known; may = may_of id v e element (k.hands id v at) may; done = sym is }) (k.hands id v at))
-          (subst (λ (n : ℕ). EndsKnown member_of IsIdle n (set s.views id w)) (ap (λ (z : List ℕ). get_or z 0 0) (sym same)) (known_look member_of IsIdle (get_or s.words 0 0) s.views id v w k.ends at refl (λ _ h. (h.0, h.1, h.2, h.3, h.4, looks_more v.steps (entry i found k.events k.events) h.5 refl)))) refl refl,
+          (subst (λ (n : ℕ). EndsKnown member_of IsIdle n (set s.views id w)) (ap (λ (z : List ℕ). get_or z 0 0) (sym same)) (known_look member_of IsIdle (get_or s.words 0 0) s.views id v w k.ends at refl (λ none. let stands = live.0 in absurd (omega arith))))
+          (joined_set k.events s.views id v w at live.0 live.0 (let n = none_uncounted v live.1 in omega arith) k.joined) refl refl,
       (refl, record { past = steps_to k; follows = k.course.seen (suc id) v at; same = refl; sees = sees_of key s k id v at; is = is }),
     )

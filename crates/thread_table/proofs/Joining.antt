@@ -33,7 +33,8 @@ use Rattle.thread_table.specs.declared.rule.Made.{Made}
 use Rattle.thread_table.specs.Makers.{AreMade, made_of}
 use Rattle.thread_table.proofs.Courses.{course_joined}
 use Rattle.thread_table.proofs.Filings.{made_join}
-use Rattle.thread_table.specs.Rules.{IsSteady, IsNewest, may_step, has}
+use Rattle.thread_table.specs.Rules.{IsActive, IsSteady, IsNewest, may_step, has}
+use Rattle.thread_table.proofs.Joined.{joined_join}
 use Rattle.thread_table.specs.Steps.{any_both}
 use Rattle.std.specs.List.{list_any}
 use Rattle.quaject_core.specs.Elements.{is_put}
@@ -240,7 +241,7 @@ owned_joined views id other v w a b e at there idle idle' owned line run below i
     subst (λ (x : ℕ). IsOwned (set (set views id a) other b) (claim_of line run x)) (sym ((grows_joined id other e line).items run old.0))
     (owned_set (set views id a) other w b c there (λ claims. none_some c w.claimed idle' claims) (owned_set views id v a c at (λ claims. none_some c v.claimed idle claims) (owned line run below old)))
 
-pub joins : (key : Shape) (id other : ℕ) (v w : View) → 1 ≤ v.member.ends → 1 ≤ w.member.ends → v.claimed ≡ None → w.claimed ≡ None → Joins (Rule key) id v other w (both v w) (emptied v)
+pub joins : (key : Shape) (id other : ℕ) (v w : View) → IsActive v → IsActive w → v.claimed ≡ None → w.claimed ≡ None → Joins (Rule key) id v other w (both v w) (emptied v)
 joins key id other v w live live' idle idle' s k at ne there = let at' : get_elem? s.views other ≡ some w = sym (set_else s.views id other (both v w) ne) ∙ there in
     let e : Elements = elements_after k.events in let f : Elements = join_elements id other e in let ne' : id ≢ other = (λ z. ne (sym z)) in
     let two : Two id other v w e = record {
@@ -272,7 +273,7 @@ joins key id other v w live live' idle idle' s k at ne there = let at' : get_ele
           (λ j u a b has up x low may. ap (λ (z : Elements). (thread_at z x).done) after.elements ∙ k.steady j u has up x low may)
           (λ up x low may. absurd (cc)) (λ up x low may. absurd (cc));
       newest = each_joined (λ (j : ℕ) (u : View). IsNewest u (k.events ++ event ∷ [])) s.views id other (both v w) (emptied v)
-          (λ j u a b has whole up. absurd (no_other (get_or s.words 0 0) s.views id j v u k.ends at live has a whole))
+          (λ j u a b has whole up. absurd (no_other (get_or s.words 0 0) s.views id j v u k.ends at live.0 has a whole))
           (λ whole up. absurd (cc)) (λ whole up. absurd (cc));
       undoubled = each_joined (λ (j : ℕ) (u : View). u.doubled ≡ false) s.views id other (both v w) (emptied v) (λ j u _ _ has. k.undoubled j u has)
           (let a = k.undoubled id v at in let b = k.undoubled other w at' in
@@ -283,7 +284,8 @@ joins key id other v w live live' idle idle' s k at ne there = let at' : get_ele
       made = subst (AreMade (k.events ++ event ∷ []))
           (sym (map-set made_of (set s.views id (both v w)) other (emptied v) ∙ ap (λ (z : List (List Made)). set z other []) (map-set made_of s.views id (both v w))))
           (made_join k.events (map made_of s.views) id other v.made w.made k.made (at_map made_of s.views id v at) (at_map made_of s.views other w at') ne);
-      ends = known_join member_of IsIdle (get_or s.words 0 0) s.views id other v w (both v w) (emptied v) k.ends at at' ne live refl refl (refl, refl, refl, refl, refl, tt);
+      ends = known_join member_of IsIdle (get_or s.words 0 0) s.views id other v w (both v w) (emptied v) k.ends at at' ne live.0 refl refl (refl, refl, refl, refl, refl, refl);
+      joined = joined_join k.events s.views id other v w at at' ne live.0 live'.0 live.1 live'.1 k.joined;
       joiner = course.0;
       are_joins = course.1;
       course = course.2;

@@ -17,6 +17,7 @@ pub mod Seatings
 pub mod Bits
 pub mod Parkings
 pub mod Courses
+pub mod Joined
 pub mod Looks
 pub mod Making
 pub mod Counting

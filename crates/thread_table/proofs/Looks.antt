@@ -9,7 +9,7 @@ use Rattle.thread_table.specs.Makers.{AreMade, made_of}
 use Rattle.table_theory.specs.Ends.{Begins}
 use Rattle.table_theory.specs.Filing.{entry_of}
 use Rattle.table_theory.specs.Members.{EndsKnown}
-use Rattle.table_theory.proofs.Courses.{course_step, looks_more}
+use Rattle.table_theory.proofs.Courses.{course_step}
 use Rattle.table_theory.proofs.Ends.{begins_refl}
 use Rattle.table_theory.proofs.Members.{known_look}
 use Rattle.quaject_core.specs.Elements.{Elements, hold}
@@ -19,7 +19,9 @@ use Rattle.thread_table.specs.declared.rule.View.{View}
 use Rattle.thread_table.specs.declared.rule.Counted.{Counted}
 use Rattle.thread_table.specs.Schedules.{Course, elements_after, Grows}
 use Rattle.thread_table.specs.Shown.{WordsShow}
-use Rattle.thread_table.specs.Rules.{IsSteady, IsNewest, done_at, HandIs, IsCounted, Seen, Rule, IsIdle, member_of, steps_of, course_of, serves}
+use Rattle.thread_table.specs.Joins.{AreJoined}
+use Rattle.thread_table.proofs.Joined.{joined_set, none_uncounted}
+use Rattle.thread_table.specs.Rules.{IsActive, IsSteady, IsNewest, done_at, HandIs, IsCounted, Seen, Rule, IsIdle, member_of, steps_of, course_of, serves}
 use Rattle.thread_table.specs.Steps.{entry, looked, Sees, Found, finds}
 use Rattle.thread_table.proofs.Effects.{Ready}
 use Rattle.thread_table.proofs.Owing.{claims_kept}
@@ -95,8 +97,8 @@ made_same past views id v w at same m = subst (AreMade past)
 -- the rule, where no event came, and a view has seen all
 pub kept : (key : Shape) (s : St) (k : Rule key s) (id i found : ℕ) (ws : List ℕ) (v w : View) → get_elem? s.views id ≡ some v → WordsShow key.first (elements_after k.events) ws
     → w.first ≡ v.first → w.schedule ≡ k.events → w.joined ≡ k.events → w.serves ≡ v.serves → w.claimed ≡ v.claimed → (w.made ≡ v.made) × (w.doubled ≡ v.doubled) → HandIs id w (elements_after k.events)
-    → EndsKnown member_of IsIdle (get_or ws 0 0) (set s.views id w) → w.steps ≡ v.steps ++ entry i found k.events k.events ∷ [] → w.course ≡ steps_to k ++ entry i found k.events k.events ∷ [] → Rule key record { words = ws; homes = s.homes; views = set s.views id w }
-kept key s k id i found ws v w at shows first schedule joined serving claimed own hand ends steps course = record {
+    → EndsKnown member_of IsIdle (get_or ws 0 0) (set s.views id w) → AreJoined k.events (set s.views id w) → w.steps ≡ v.steps ++ entry i found k.events k.events ∷ [] → w.course ≡ steps_to k ++ entry i found k.events k.events ∷ [] → Rule key record { words = ws; homes = s.homes; views = set s.views id w }
+kept key s k id i found ws v w at shows first schedule joined serving claimed own hand ends joins steps course = record {
   events = k.events;
   allowed = k.allowed;
   shows = shows;
@@ -111,18 +113,20 @@ kept key s k id i found ws v w at shows first schedule joined serving claimed ow
   newest = each_set (λ j u. IsNewest u k.events) s.views id w (λ j u ne has. k.newest j u has) (λ whole up. schedule);
   undoubled = each_set (λ j u. u.doubled ≡ false) s.views id w (λ j u ne has. k.undoubled j u has) (own.1 ∙ k.undoubled id v at);
   ends = ends;
+  joined = joins;
   joiner = k.joiner;
   are_joins = k.are_joins;
   course = course_step steps_of course_of [] k.events (k.joiner ∷ s.views) (suc id) v w (entry i found k.events k.events) k.course at refl steps course;
 }
 
 -- the rule, where the words stay, and a view has one entry more and sees the schedule as it is
-pub kept_look : (key : Shape) (s : St) (k : Rule key s) (i id found : ℕ) (v : View) → get_elem? s.views id ≡ some v
+pub kept_look : (key : Shape) (s : St) (k : Rule key s) (i id found : ℕ) (v : View) → get_elem? s.views id ≡ some v → IsActive v
     → Rule key record { words = set s.words i (get_or s.words i 0); homes = s.homes; views = set s.views id (looked v i found (steps_to k) k.events) }
-kept_look key s k i id found v at = let w : View = looked v i found (steps_to k) k.events in let same : set s.words i (get_or s.words i 0) ≡ s.words = set-get_or s.words i 0 in
+kept_look key s k i id found v at live = let w : View = looked v i found (steps_to k) k.events in let same : set s.words i (get_or s.words i 0) ≡ s.words = set-get_or s.words i 0 in
     kept key s k id i found (set s.words i (get_or s.words i 0)) v w at (subst (WordsShow key.first (elements_after k.events)) (sym same) k.shows) refl refl refl refl refl (refl, refl)
     (hand_quiet id v w (elements_after k.events) refl refl refl refl refl (k.hands id v at))
-    (subst (λ (n : ℕ). EndsKnown member_of IsIdle n (set s.views id w)) (ap (λ (z : List ℕ). get_or z 0 0) (sym same)) (known_look member_of IsIdle (get_or s.words 0 0) s.views id v w k.ends at refl (λ _ h. (h.0, h.1, h.2, h.3, h.4, looks_more v.steps (entry i found k.events k.events) h.5 refl))))
+    (subst (λ (n : ℕ). EndsKnown member_of IsIdle n (set s.views id w)) (ap (λ (z : List ℕ). get_or z 0 0) (sym same)) (known_look member_of IsIdle (get_or s.words 0 0) s.views id v w k.ends at refl (λ none. let stands = live.0 in absurd (omega arith))))
+    (joined_set k.events s.views id v w at live.0 live.0 (let n = none_uncounted v live.1 in omega arith) k.joined)
     refl refl
 
 -- what the rule tells a hand at one of its steps
@@ -149,5 +153,5 @@ ready_of key s k id v at = record { lawful = lawful_after k.events k.allowed; ha
 pub found_now : (key : Shape) (s : St) (k : Rule key s) (i id : ℕ) (v : View) → get_elem? s.views id ≡ some v → Found v i (get_or s.words i 0) (looked v i (get_or s.words i 0) (steps_to k) k.events)
 found_now key s k i id v at = record { past = steps_to k; follows = k.course.seen (suc id) v at; same = refl; sees = sees_of key s k id v at; is = ap (λ (z : List ℕ). get_or z i 0) (sym (sees_words key s k id v at)) }
 
-pub looks : (key : Shape) (n id : ℕ) (me : Me Unit View) (i : ℕ) → Allows (Rule key) n id me i (λ x. x) (finds (step n i 0 0 none) me)
-looks key n id me i s k _ at _ = let found : ℕ = get_or s.words i 0 in (looked me.0 i found (steps_to k) k.events, keeps, tt, kept_look key s k i id found me.0 at, (refl, found_now key s k i id me.0 at))
+pub looks : (key : Shape) (n id : ℕ) (me : Me Unit View) (i : ℕ) → IsActive me.0 → Allows (Rule key) n id me i (λ x. x) (finds (step n i 0 0 none) me)
+looks key n id me i live s k _ at _ = let found : ℕ = get_or s.words i 0 in (looked me.0 i found (steps_to k) k.events, keeps, tt, kept_look key s k i id found me.0 at live, (refl, found_now key s k i id me.0 at))

@@ -20,7 +20,10 @@ use Rattle.thread_table.specs.declared.rule.Shape.{Shape}
 use Rattle.thread_table.specs.declared.rule.View.{View}
 use Rattle.thread_table.specs.Schedules.{Course, state_after, elements_after, Grows, thread_at}
 use Rattle.thread_table.specs.Shown.{WordsShow}
-use Rattle.thread_table.specs.Rules.{IsSteady, IsNewest, HandIs, Seen, Rule, IsIdle, member_of, steps_of, course_of, may_step, serves}
+use Rattle.table_theory.specs.declared.views.Member.{Member}
+use Rattle.thread_table.proofs.Courses.{joins_same}
+use Rattle.thread_table.proofs.Joined.{joined_event, joined_set, none_uncounted}
+use Rattle.thread_table.specs.Rules.{IsActive, IsSteady, IsNewest, HandIs, Seen, Rule, IsIdle, member_of, steps_of, course_of, may_step, serves}
 use Rattle.thread_table.specs.Steps.{entry, made_by, Did}
 use Rattle.thread_table.specs.declared.rule.Made.{Made}
 use Rattle.thread_table.specs.Makers.{AreMade, made_of, made_in, is_join}
@@ -80,7 +83,7 @@ steps events event change f is goes = let s : State = state_after events in let 
 pub no_other : (n : ℕ) (views : List View) (id j : ℕ) (v u : View) → EndsKnown member_of IsIdle n views → get_elem? views id ≡ some v → 1 ≤ v.member.ends → get_elem? views j ≡ some u → j ≢ id → IsWhole u.member.share → ⊥
 no_other n views id j v u k at live has ne whole = let t = two_of (λ (z : View). z.member.share) views j id u v has at ne in let s = k.counted.shared in let w = k.counted.within id v at in omega arith
 
-pub made : OthersCount → (key : Shape) (s : St) (k : Rule key s) (id : ℕ) (v : View) (event : Event) (change : Elements → Result Elements Refusal) (knows : List Event → View) (i y found : ℕ) → get_elem? s.views id ≡ some v → 1 ≤ v.member.ends → 0 < i
+pub made : OthersCount → (key : Shape) (s : St) (k : Rule key s) (id : ℕ) (v : View) (event : Event) (change : Elements → Result Elements Refusal) (knows : List Event → View) (i y found : ℕ) → get_elem? s.views id ≡ some v → IsActive v → 0 < i
     → ((t : State) → effect event t ≡ in_elements change t) → (knows k.events).first ≡ v.first → (knows k.events).serves ≡ v.serves → (knows k.events).member ≡ v.member
     → (is_join event ≡ false) × ((knows k.events).made ≡ v.made) × ((knows k.events).doubled ≡ v.doubled) × ((knows k.events).steps ≡ v.steps)
     → Effect id v (knows k.events) key.first change (elements_after k.events) (set s.words i y)
@@ -110,11 +113,13 @@ made others key s k id v event change knows i y found at live past is first serv
             (λ up x low may. refl);
         made = subst (AreMade new) (sym (map-set made_of s.views id w ∙ ap (λ (z : List Made). set (map made_of s.views) id (z ++ made_in event (state_after old) ∷ [])) own.1))
             (made_push old (map made_of s.views) id v.made event own.0 k.made (at_map made_of s.views id v at));
-        newest = each_set (λ j u. IsNewest u new) s.views id w (λ j u ne has whole up. absurd (no_other (get_or s.words 0 0) s.views id j v u k.ends at live has ne whole)) (λ whole up. refl);
+        newest = each_set (λ j u. IsNewest u new) s.views id w (λ j u ne has whole up. absurd (no_other (get_or s.words 0 0) s.views id j v u k.ends at live.0 has ne whole)) (λ whole up. refl);
         undoubled = each_set (λ j u. u.doubled ≡ false) s.views id w (λ j u ne has. k.undoubled j u has) (own.2 ∙ k.undoubled id v at);
-        ends = subst (λ (c : ℕ). EndsKnown member_of IsIdle c (set s.views id w)) (sym (get_or-set_other s.words i 0 y 0 (λ z. omega arith))) (known_look member_of IsIdle (get_or s.words 0 0) s.views id v w k.ends at member (λ none. absurd (omega arith)));
+        ends = subst (λ (c : ℕ). EndsKnown member_of IsIdle c (set s.views id w)) (sym (get_or-set_other s.words i 0 y 0 (λ z. omega arith))) (known_look member_of IsIdle (get_or s.words 0 0) s.views id v w k.ends at member (λ none. let stands = live.0 in absurd (omega arith)));
+        joined = (let ends = ap (λ (z : Member). z.ends) member in let joins = ap (λ (z : Member). z.joins) member in let n = none_uncounted v live.1 in let stands = live.0 in
+            joined_set new s.views id v w at live.0 (omega arith) (omega arith) (joined_event old event s.views own.0 k.joined));
         joiner = k.joiner;
-        are_joins = k.are_joins;
+        are_joins = joins_same old event k.joiner.steps own.0 k.are_joins;
         course = course_step steps_of course_of [] old (k.joiner ∷ s.views) (suc id) v w (entry i found old new) k.course at refl (ap (λ (z : Course). z ++ entry i found old new ∷ []) own.3) refl;
       },
       (

@@ -22,6 +22,7 @@ use Rattle.thread_table.specs.Shown.{WordsShow, LineShows, StateShows, head_word
 use Rattle.thread_table.specs.Rules.{IsSteady, IsNewest, Rule, HandIs, Seen, IsOpen, newcomer, member_of, IsIdle}
 use Rattle.thread_table.proofs.Owing.{AllOwned}
 use Rattle.thread_table.proofs.Courses.{no_joins, course_opened}
+use Rattle.thread_table.proofs.Joined.{joined_first}
 use Rattle.thread_table.proofs.Filings.{made_first}
 use Rattle.thread_table.proofs.Copies.{length-copies, get_or-copies, slice_get-copies_by}
 use Rattle.thread_table.proofs.Schedules.{after_none, elements_of, grows_refl}
@@ -176,6 +177,7 @@ opens key words fits long ends none unstepped head tail items zeros = let w : Vi
   newest = only (λ (j : ℕ) (u : View). IsNewest u []) w (λ whole up. refl);
   undoubled = only (λ (j : ℕ) (u : View). u.doubled ≡ false) w refl;
   ends = subst (λ (c : ℕ). EndsKnown member_of IsIdle c (w ∷ [])) (sym ends) (known_first member_of IsIdle w refl);
+  joined = joined_first w refl refl refl;
   joiner = w;
   are_joins = no_joins;
   course = course_opened w refl refl;

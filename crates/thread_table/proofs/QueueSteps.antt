@@ -24,7 +24,7 @@ use Rattle.thread_table.specs.declared.rule.Shape.{Shape}
 use Rattle.thread_table.specs.declared.rule.View.{View}
 use Rattle.thread_table.specs.Schedules.{elements_after, line_at, element_at, line_name}
 use Rattle.thread_table.specs.Shown.{LineShows, PlaceShows, head_word, tail_word, place_word, head_shown, tail_shown, mark_of}
-use Rattle.thread_table.specs.Rules.{Rule, has}
+use Rattle.thread_table.specs.Rules.{IsActive, Rule, has}
 use Rattle.thread_table.specs.Views.{quiet, with_held, with_claim, with_raise, claim_of}
 use Rattle.thread_table.specs.Steps.{looked, made_by, Sees, Found, Did, claim_event, claims, claims_at, raises, takes, notifies}
 use Rattle.thread_table.specs.Reads.{Peeked}
@@ -45,7 +45,7 @@ Goes key s i id me then y = (w : View) × (a : Act Unit) × Valid s.homes me.1 a
 
 -- a step that is an event
 pub goes_by : (key : Shape) (s : St) (k : Rule key s) (id : ℕ) (me : Me Unit View) (event : Event) (change : Elements → Result Elements Refusal) (knows : List Event → View) (i y found : ℕ) (then : Me Unit View → Type 0)
-    → get_elem? s.views id ≡ some me.0 → 1 ≤ me.0.member.ends → 0 < i → ((t : State) → effect event t ≡ in_elements change t)
+    → get_elem? s.views id ≡ some me.0 → IsActive me.0 → 0 < i → ((t : State) → effect event t ≡ in_elements change t)
     → (knows k.events).first ≡ me.0.first → (knows k.events).serves ≡ me.0.serves → (knows k.events).member ≡ me.0.member
     → (is_join event ≡ false) × ((knows k.events).made ≡ me.0.made) × ((knows k.events).doubled ≡ me.0.doubled) × ((knows k.events).steps ≡ me.0.steps)
     → Effect id me.0 (knows k.events) key.first change (elements_after k.events) (set s.words i y)
@@ -84,7 +84,7 @@ as_deed P call id at line item element place word mine there this here p =
     subst (λ (z : ℕ). P z at item place) (sym mine) (subst (λ (z : ℕ). P id z item place) (sym there) (subst (λ (z : ℕ). P id line z place) (sym this) (subst (P id line element) (sym here) p)))
 
 -- the exchange of a head
-claim_line_goes : (key : Shape) (n id line element : ℕ) (me : Me Unit View) (old new : ℕ) → line < 18 → element < 64 → has me.0 element ≡ true → 1 ≤ me.0.member.ends → me.0.claimed ≡ None → new ≡ old + 1 → old % 4294967296 + 1 < 4294967296
+claim_line_goes : (key : Shape) (n id line element : ℕ) (me : Me Unit View) (old new : ℕ) → line < 18 → element < 64 → has me.0 element ≡ true → IsActive me.0 → me.0.claimed ≡ None → new ≡ old + 1 → old % 4294967296 + 1 < 4294967296
     → Allows (Rule key) n id me (head_word line) (λ x. either (eqb x old) new x) (claims id line element (step n (head_word line) old new none) me)
 claim_line_goes key n id line element me old new below known held live none_yet next fits s k _ at _ =
     let v : View = me.0 in let e : Elements = elements_after k.events in let i : ℕ = head_word line in let y : ℕ = get_or s.words i 0 in
@@ -97,17 +97,17 @@ claim_line_goes key n id line element me old new below known held live none_yet 
     (claim_effect id v key.first e s.words line element (ready_of key s k id v at) none_yet below known held (omega arith)) in
     goes_by key s k id me (claim_event id line element) change knows i new old (claims id line element (step n i old new none) me y) at live (omega arith) (claim_is line id element) refl refl refl (refl, refl, refl, refl) f
     (λ did before words. (refl, (λ _. record { did = did; head_is = head_before old key.first line k.events v did.before (k.first id v at) before head }), λ miss. absurd (miss hit))))
-    (λ miss. (looked v i y (steps_to k) k.events, keeps, tt, kept_look key s k i id y v at, (refl, (λ hit. absurd (miss hit)), λ _. found_now key s k i id v at)))
+    (λ miss. (looked v i y (steps_to k) k.events, keeps, tt, kept_look key s k i id y v at live, (refl, (λ hit. absurd (miss hit)), λ _. found_now key s k i id v at)))
 
 pub claims_head : (key : Shape) (n id line element : ℕ) (me : Me Unit View) (old new call at item place : ℕ) → call ≡ id → at ≡ line → item ≡ element → place ≡ head_word line
-    → line < 18 → element < 64 → has me.0 element ≡ true → 1 ≤ me.0.member.ends → me.0.claimed ≡ None → new ≡ old + 1 → old % 4294967296 + 1 < 4294967296
+    → line < 18 → element < 64 → has me.0 element ≡ true → IsActive me.0 → me.0.claimed ≡ None → new ≡ old + 1 → old % 4294967296 + 1 < 4294967296
     → Allows (Rule key) n id me place (λ x. either (eqb x old) new x) (claims call at item (step n place old new none) me)
 claims_head key n id line element me old new call at item place mine there this here below known held live none_yet next fits =
     as_deed (λ c l x w. Allows (Rule key) n id me w (λ y. either (eqb y old) new y) (claims c l x (step n w old new none) me)) call id at line item element place (head_word line) mine there this here
     (claim_line_goes key n id line element me old new below known held live none_yet next fits)
 
 -- the exchange of a wait queue's head for a wait with a ticket
-wait_line_goes : (key : Shape) (n id wait element ticket : ℕ) (me : Me Unit View) (old new : ℕ) → wait < 16 → element < 64 → has me.0 element ≡ true → 1 ≤ me.0.member.ends → me.0.claimed ≡ None → new ≡ old + 1 → old % 4294967296 + 1 < 4294967296 → old / 4294967296 ≡ ticket
+wait_line_goes : (key : Shape) (n id wait element ticket : ℕ) (me : Me Unit View) (old new : ℕ) → wait < 16 → element < 64 → has me.0 element ≡ true → IsActive me.0 → me.0.claimed ≡ None → new ≡ old + 1 → old % 4294967296 + 1 < 4294967296 → old / 4294967296 ≡ ticket
     → Allows (Rule key) n id me (head_word (wait + 2)) (λ x. either (eqb x old) new x) (claims_at id wait element ticket (step n (head_word (wait + 2)) old new none) me)
 wait_line_goes key n id wait element ticket me old new below known held live none_yet next fits is_ticket s k _ at _ =
     let v : View = me.0 in let e : Elements = elements_after k.events in let line : ℕ = wait + 2 in let i : ℕ = head_word line in let y : ℕ = get_or s.words i 0 in
@@ -121,10 +121,10 @@ wait_line_goes key n id wait element ticket me old new below known held live non
     (wait_at_effect id v key.first e s.words wait element ticket (ready_of key s k id v at) none_yet below known held (omega arith) mark) in
     goes_by key s k id me (events.WaitAt id wait element ticket) change knows i new old (claims_at id wait element ticket (step n i old new none) me y) at live (omega arith) (λ t. refl) refl refl refl (refl, refl, refl, refl) f
     (λ did before words. (refl, (λ _. record { did = did; head_is = head_before old key.first line k.events v did.before (k.first id v at) before head }), λ miss. absurd (miss hit))))
-    (λ miss. (looked v i y (steps_to k) k.events, keeps, tt, kept_look key s k i id y v at, (refl, (λ hit. absurd (miss hit)), λ _. found_now key s k i id v at)))
+    (λ miss. (looked v i y (steps_to k) k.events, keeps, tt, kept_look key s k i id y v at live, (refl, (λ hit. absurd (miss hit)), λ _. found_now key s k i id v at)))
 
 pub claims_head_at : (key : Shape) (n id wait element ticket : ℕ) (me : Me Unit View) (old new call at item number place : ℕ) → call ≡ id → at ≡ wait → item ≡ element → number ≡ ticket → place ≡ head_word (wait + 2)
-    → wait < 16 → element < 64 → has me.0 element ≡ true → 1 ≤ me.0.member.ends → me.0.claimed ≡ None → new ≡ old + 1 → old % 4294967296 + 1 < 4294967296 → old / 4294967296 ≡ ticket
+    → wait < 16 → element < 64 → has me.0 element ≡ true → IsActive me.0 → me.0.claimed ≡ None → new ≡ old + 1 → old % 4294967296 + 1 < 4294967296 → old / 4294967296 ≡ ticket
     → Allows (Rule key) n id me place (λ x. either (eqb x old) new x) (claims_at call at item number (step n place old new none) me)
 claims_head_at key n id wait element ticket me old new call at item number place mine there this same here below known held live none_yet next fits is_ticket =
     as_deed (λ c l x w. Allows (Rule key) n id me w (λ y. either (eqb y old) new y) (claims_at c l x number (step n w old new none) me)) call id at wait item element place (head_word (wait + 2)) mine there this here
@@ -137,7 +137,7 @@ raised_at line run element position new v w event id i place is at did = subst (
     (subst (λ (z : ℕ). Did id v (place_word line position) z event (λ before. with_raise v) w) is (subst (λ (z : ℕ). Did id v z new event (λ before. with_raise v) w) at did))
 
 -- the write of the place that the hand had claimed
-raise_line_goes : (key : Shape) (n id line run element : ℕ) (me : Me Unit View) (position new : ℕ) → 1 ≤ me.0.member.ends → me.0.claimed ≡ Some (claim_of line run element)
+raise_line_goes : (key : Shape) (n id line run element : ℕ) (me : Me Unit View) (position new : ℕ) → IsActive me.0 → me.0.claimed ≡ Some (claim_of line run element)
     → position ≡ me.0.first + run → new ≡ element + 256 * (position + 1)
     → Allows (Rule key) n id me (place_word line position) (λ x. new) (raises id line run element (step n (place_word line position) new 0 none) me)
 raise_line_goes key n id line run element me position new live claimed place is s k _ at _ =
@@ -150,14 +150,14 @@ raise_line_goes key n id line run element me position new live claimed place is 
     (λ did before words. (refl, raised_at line run element position new v _ _ _ i place is refl did))
 
 pub raises_place : (key : Shape) (n id line run element : ℕ) (me : Me Unit View) (position new call place : ℕ) → call ≡ id → place ≡ place_word line position
-    → 1 ≤ me.0.member.ends → me.0.claimed ≡ Some (claim_of line run element) → position ≡ me.0.first + run → new ≡ element + 256 * (position + 1)
+    → IsActive me.0 → me.0.claimed ≡ Some (claim_of line run element) → position ≡ me.0.first + run → new ≡ element + 256 * (position + 1)
     → Allows (Rule key) n id me place (λ x. new) (raises call line run element (step n place new 0 none) me)
 raises_place key n id line run element me position new call place mine here live claimed spot is =
     as_deed (λ c l x w. Allows (Rule key) n id me w (λ y. new) (raises c l run x (step n w new 0 none) me)) call id line line element element place (place_word line position) mine refl refl here
     (raise_line_goes key n id line run element me position new live claimed spot is)
 
 -- the exchange of a tail at which the place was raised
-take_line_goes : (key : Shape) (n id line : ℕ) (me : Me Unit View) (old new run : ℕ) → line < 18 → 1 ≤ me.0.member.ends → me.0.claimed ≡ None → new ≡ old + 1 → old ≡ me.0.first + run → (line_at (elements_after me.0.schedule) line).raised run 0 ≡ true
+take_line_goes : (key : Shape) (n id line : ℕ) (me : Me Unit View) (old new run : ℕ) → line < 18 → IsActive me.0 → me.0.claimed ≡ None → new ≡ old + 1 → old ≡ me.0.first + run → (line_at (elements_after me.0.schedule) line).raised run 0 ≡ true
     → Allows (Rule key) n id me (tail_word line) (λ x. either (eqb x old) new x) (takes id line (step n (tail_word line) old new none) me)
 take_line_goes key n id line me old new run below live none_yet next start up s k _ at _ =
     let v : View = me.0 in let e : Elements = elements_after k.events in let i : ℕ = tail_word line in let y : ℕ = get_or s.words i 0 in
@@ -173,17 +173,17 @@ take_line_goes key n id line me old new run below live none_yet next start up s 
     (take_effect id v key.first e s.words line (ready_of key s k id v at) none_yet below still) in
     goes_by key s k id me (events.Take id (line_name line) 1) change knows i new old (takes id line (step n i old new none) me y) at live (omega arith) (take_is line id) refl refl refl (refl, refl, refl, refl) f
     (λ did before words. (refl, (λ _. record { did = did; tail_is = tail_before old key.first line k.events v did.before first before tail }), λ miss. absurd (miss hit))))
-    (λ miss. (looked v i y (steps_to k) k.events, keeps, tt, kept_look key s k i id y v at, (refl, (λ hit. absurd (miss hit)), λ _. found_now key s k i id v at)))
+    (λ miss. (looked v i y (steps_to k) k.events, keeps, tt, kept_look key s k i id y v at live, (refl, (λ hit. absurd (miss hit)), λ _. found_now key s k i id v at)))
 
 pub takes_tail : (key : Shape) (n id line : ℕ) (me : Me Unit View) (old new run call at place : ℕ) → call ≡ id → at ≡ line → place ≡ tail_word line
-    → line < 18 → 1 ≤ me.0.member.ends → me.0.claimed ≡ None → new ≡ old + 1 → old ≡ me.0.first + run → (line_at (elements_after me.0.schedule) line).raised run 0 ≡ true
+    → line < 18 → IsActive me.0 → me.0.claimed ≡ None → new ≡ old + 1 → old ≡ me.0.first + run → (line_at (elements_after me.0.schedule) line).raised run 0 ≡ true
     → Allows (Rule key) n id me place (λ x. either (eqb x old) new x) (takes call at (step n place old new none) me)
 takes_tail key n id line me old new run call at place mine there here below live none_yet next start up =
     as_deed (λ c l x w. Allows (Rule key) n id me w (λ y. either (eqb y old) new y) (takes c l (step n w old new none) me)) call id at line 0 0 place (tail_word line) mine there refl here
     (take_line_goes key n id line me old new run below live none_yet next start up)
 
 -- the sum that notifies a wait queue
-notify_line_goes : (key : Shape) (n id wait : ℕ) (me : Me Unit View) → wait < 16 → 1 ≤ me.0.member.ends → me.0.claimed ≡ None
+notify_line_goes : (key : Shape) (n id wait : ℕ) (me : Me Unit View) → wait < 16 → IsActive me.0 → me.0.claimed ≡ None
     → Allows (Rule key) n id me (head_word (wait + 2)) (λ x. (x + 4294967296) % 18446744073709551616) (notifies id wait (step n (head_word (wait + 2)) 4294967296 0 none) me)
 notify_line_goes key n id wait me below live none_yet s k _ at _ =
     let v : View = me.0 in let e : Elements = elements_after k.events in let line : ℕ = wait + 2 in let i : ℕ = head_word line in let y : ℕ = get_or s.words i 0 in
@@ -193,7 +193,7 @@ notify_line_goes key n id wait me below live none_yet s k _ at _ =
     goes_by key s k id me (events.NotifyWait id wait) (notify_wait wait) (λ before. quiet v) i new y (notifies id wait (step n i 4294967296 0 none) me y) at live (omega arith) (λ t. refl) refl refl refl (refl, refl, refl, refl) f
     (λ did before words. (refl, record { did = did; is = head_before y key.first line k.events v did.before (k.first id v at) before shown.head }))
 
-pub notifies_head : (key : Shape) (n id wait : ℕ) (me : Me Unit View) (call at place : ℕ) → call ≡ id → at ≡ wait → place ≡ head_word (wait + 2) → wait < 16 → 1 ≤ me.0.member.ends → me.0.claimed ≡ None
+pub notifies_head : (key : Shape) (n id wait : ℕ) (me : Me Unit View) (call at place : ℕ) → call ≡ id → at ≡ wait → place ≡ head_word (wait + 2) → wait < 16 → IsActive me.0 → me.0.claimed ≡ None
     → Allows (Rule key) n id me place (λ x. (x + 4294967296) % 18446744073709551616) (notifies call at (step n place 4294967296 0 none) me)
 notifies_head key n id wait me call at place mine there here below live none_yet =
     as_deed (λ c l x w. Allows (Rule key) n id me w (λ y. (y + 4294967296) % 18446744073709551616) (notifies c l (step n w 4294967296 0 none) me)) call id at wait 0 0 place (head_word (wait + 2)) mine there refl here

@@ -1,7 +1,6 @@
 -- There is room for an element that is held in each element queue, and what calls hold after it was let go.
-use Rattle.std.proofs.Common.{◌≡◌, ◌≢◌, ℕ, zero, suc, ◌+◌, ◌<◌, ◌≤◌, Bool, true, false, cond, ◌&&◌, ◌||◌, List, [], ◌∷◌, ◌∙◌, length, remove, position, get_or, refl, sym, ap, ap₂, subst, arith, Some, slice_get, eqb, ◌⊎◌, inl, inr, Ok}
+use Rattle.std.proofs.Common.{◌≡◌, ℕ, zero, suc, ◌+◌, ◌<◌, ◌≤◌, Bool, true, false, cond, ◌&&◌, ◌||◌, List, [], ◌∷◌, ◌∙◌, length, remove, position, get_or, refl, sym, ap, ap₂, subst, arith, Some, slice_get, eqb, ◌⊎◌, inl, inr, Ok}
 use Rattle.std.proofs.lemmas.Bool.{eqb-true, cases_lt, lt-ltb}
-use Rattle.std.proofs.lemmas.Bool.Decides.{eqb_tells, nat_tests}
 use Rattle.std.proofs.lemmas.Option.{get_or_from_slice_get, slice_get_within}
 use Rattle.std.proofs.lemmas.List.Quantifiers.{position-Some}
 use Rattle.std.proofs.lemmas.List.Sums.{sum_by-cons, get_or-le-sum_by}
@@ -13,52 +12,7 @@ use Rattle.quaject_core.specs.Appearances.{appearances, in_list}
 use Rattle.quaject_core.specs.declared.hold.Hold.{Hold}
 use Rattle.quaject_core.proofs.Lists.Histories.{both}
 use Rattle.quaject_core.proofs.Keeping.Places.{one, in_hands, let_go_count}
-
--- the list without a number
-abbrev without : ℕ → List ℕ → List ℕ
-without n [] = []
-without n (x ∷ xs) = cond (eqb x n) (without n xs) (x ∷ without n xs)
-
-in_more : (k x : ℕ) (xs : List ℕ) → in_list k (x ∷ xs) ≡ one x k + in_list k xs
-in_more k x xs = sum_by-cons (λ y. one y k) x xs
-
-itself : (x : ℕ) → one x x ≡ 1
-itself x = grind (arith, nat_tests)
-
-length_by : (b : Bool) (x : ℕ) (xs : List ℕ) → length (cond b xs (x ∷ xs)) + cond b 1 0 ≡ length xs + 1
-length_by true x xs = refl
-length_by false x xs = omega arith
-
-length-without : (n : ℕ) (xs : List ℕ) → length xs ≡ in_list n xs + length (without n xs)
-length-without n [] = refl
-length-without n (x ∷ xs) = omega (arith, in_more n x xs, length_by (eqb x n) x (without n xs), length-without n xs)
-
-fewer_by : (b : Bool) (k x : ℕ) (xs : List ℕ) → in_list k (cond b xs (x ∷ xs)) ≤ one x k + in_list k xs
-fewer_by true k x xs = omega arith
-fewer_by false k x xs = omega (arith, in_more k x xs)
-
-fewer : (n k : ℕ) (xs : List ℕ) → in_list k (without n xs) ≤ in_list k xs
-fewer n k [] = omega arith
-fewer n k (x ∷ xs) = omega (arith, in_more k x xs, fewer_by (eqb x n) k x (without n xs), fewer n k xs)
-
-none_by : (n x : ℕ) (xs : List ℕ) (b : Bool) → eqb x n ≡ b → in_list n xs ≡ 0 → in_list n (cond b xs (x ∷ xs)) ≡ 0
-none_by n x xs true is none = none
-none_by n x xs false is none = in_more n x xs ∙ (ap (λ t. cond t 1 0 + in_list n xs) is ∙ omega (arith, none))
-
-none_left : (n : ℕ) (xs : List ℕ) → in_list n (without n xs) ≡ 0
-none_left n [] = refl
-none_left n (x ∷ xs) = none_by n x (without n xs) (eqb x n) refl (none_left n xs)
-
-past_by : (n k : ℕ) (xs : List ℕ) → ((j : ℕ) → suc n ≤ j → in_list j xs ≡ 0) → n ≤ k → ((eqb k n ≡ true) × (k ≡ n)) ⊎ ((eqb k n ≡ false) × (k ≢ n)) → in_list k (without n xs) ≡ 0
-past_by n k xs none past (inl same) = subst (λ j. in_list j (without n xs) ≡ 0) (sym same.1) (none_left n xs)
-past_by n k xs none past (inr differ) = let ne = differ.1 in omega (arith, fewer n k xs, none k (omega arith))
-
--- numbers below n, each at most once, are no more than n
-pub few : (n : ℕ) (xs : List ℕ) → ((k : ℕ) → in_list k xs ≤ 1) → ((k : ℕ) → n ≤ k → in_list k xs ≡ 0) → length xs ≤ n
-few zero [] once none = omega arith
-few zero (x ∷ xs) once none = absurd (omega (arith, none x (omega arith), in_more x x xs, itself x))
-few (suc n) xs once none =
-    omega (arith, length-without n xs, once n, few n (without n xs) (λ k. omega (arith, fewer n k xs, once k)) (λ k past. past_by n k xs none past (eqb_tells k n)))
+use Rattle.quaject_core.proofs.Keeping.Rooms.{in_more, itself, few}
 
 -- an element is in one line no more often than in all
 in_one : (element line : ℕ) (e : Elements) (q : Queue) → slice_get e.lines line ≡ Some q → in_list element (left q) ≤ sum_by (λ l. in_list element (left l)) e.lines

@@ -10,6 +10,7 @@ use Rattle.std.proofs.lemmas.List.{map-append, map-set}
 use Rattle.thread_table.specs.declared.rule.Made.{Made}
 use Rattle.thread_table.specs.Makers.{AreMade, made_of}
 use Rattle.thread_table.proofs.Filings.{made_new}
+use Rattle.thread_table.proofs.Joined.{joined_set, joined_new, same_uncounted}
 use Rattle.thread_table.proofs.Looks.{set_again}
 use Rattle.table_theory.proofs.Owned.{at_push}
 use Rattle.table_theory.proofs.Counting.{given_kept, given_some, kept_some}
@@ -145,6 +146,7 @@ splits key id v mask live long can s k at = let e : Elements = elements_after k.
       (sym (map-append made_of (set s.views id left) (right ∷ []) ∙ ap (λ (z : List (List Made)). z ++ [] ∷ []) (map-set made_of s.views id left ∙ set_again (map made_of s.views) id v.made (at_map made_of s.views id v at))))
       (made_new k.events (map made_of s.views) k.made);
   ends = known_split member_of IsIdle (get_or s.words 0 0) s.views id v left right k.ends at live refl refl;
+  joined = joined_new k.events (set s.views id left) right (omega arith) refl (joined_set k.events s.views id v left at (omega arith) (omega arith) (let n = same_uncounted v left refl (omega arith) (omega arith) in omega arith) k.joined);
   joiner = k.joiner;
   are_joins = k.are_joins;
   course = course_split steps_of course_of [] k.events (k.joiner ∷ s.views) (suc id) v left right k.course at refl refl refl refl;

@@ -1,5 +1,5 @@
 -- The steps of processors, of state words and of the numbers of steps done keep the rule.
-use Rattle.std.proofs.Common.{◌≡◌, ◌≢◌, ℕ, ◌+◌, ◌*◌, ◌%◌, ◌^◌, ◌<◌, ◌≤◌, Bool, true, false, eqb, List, get_or, set, Some, None, Option, option_map, Result, sym, refl, ap, ◌∙◌, subst, arith}
+use Rattle.std.proofs.Common.{◌≡◌, ◌≢◌, ℕ, ◌+◌, ◌*◌, ◌%◌, ◌^◌, ◌<◌, Bool, true, false, eqb, List, get_or, set, Some, None, Option, option_map, Result, sym, refl, ap, ◌∙◌, subst, arith}
 use Rattle.std.proofs.Math.Nat.{mod-eq_of_lt}
 use Rattle.std.proofs.Math.Pow.{pow-lt}
 use Rattle.std.proofs.lemmas.Option.{get_or_from_slice_get}
@@ -19,7 +19,7 @@ use Rattle.thread_table.specs.declared.rule.Shape.{Shape}
 use Rattle.thread_table.specs.declared.rule.View.{View}
 use Rattle.thread_table.specs.Schedules.{elements_after, thread_at}
 use Rattle.thread_table.specs.Shown.{StateShows, seat_word, state_word, done_word, seat_shown, bit_of}
-use Rattle.thread_table.specs.Rules.{HandIs, Rule, MayStep, has, serves, running}
+use Rattle.thread_table.specs.Rules.{IsActive, HandIs, Rule, MayStep, has, serves, running}
 use Rattle.thread_table.specs.Views.{quiet, with_held, with_on, with_off, with_start, count_of}
 use Rattle.thread_table.specs.Steps.{looked, made_by, Found, Did, Turns, puts_on, takes_off, stops, signals, parks, starts, delivers, counts, steps_on}
 use Rattle.thread_table.proofs.Effects.{Effect}
@@ -44,7 +44,7 @@ pub did_at : (id : ℕ) (v w : View) (i place found number : ℕ) (event : Event
 did_at id v w i place found number event knows here is did = subst (λ (z : ℕ). Did id v z number event knows w) here (subst (λ (z : ℕ). Did id v i z event knows w) is did)
 
 -- an element is put on a processor, where there was none
-pub puts : (key : Shape) (n id call p element i y : ℕ) (me : Me Unit View) → call ≡ id → i ≡ seat_word p → y ≡ element + 1 → 1 ≤ me.0.member.ends → me.0.claimed ≡ None
+pub puts : (key : Shape) (n id call p element i y : ℕ) (me : Me Unit View) → call ≡ id → i ≡ seat_word p → y ≡ element + 1 → IsActive me.0 → me.0.claimed ≡ None
     → p < 8 → element < 64 → has me.0 element ≡ true → serves me.0 p ≡ true → running me.0 p ≡ None
     → Allows (Rule key) n id me i (λ x. y) (puts_on call p element (step n i y 0 none) me)
 puts key n id call p element i y me mine place is live free low known held serving empty =
@@ -58,7 +58,7 @@ puts key n id call p element i y me mine place is live free low known held servi
     (λ did before words. (refl, did_at id v _ i (seat_word p) (get_or s.words i 0) 0 _ _ place (seat_found key s k id p i v None at place low serving empty) did)))
 
 -- the element of a processor is taken off
-pub takes_back : (key : Shape) (n id call p element i : ℕ) (me : Me Unit View) → call ≡ id → i ≡ seat_word p → 1 ≤ me.0.member.ends → me.0.claimed ≡ None
+pub takes_back : (key : Shape) (n id call p element i : ℕ) (me : Me Unit View) → call ≡ id → i ≡ seat_word p → IsActive me.0 → me.0.claimed ≡ None
     → p < 8 → serves me.0 p ≡ true → running me.0 p ≡ Some element
     → Allows (Rule key) n id me i (λ x. 0) (takes_off call p element (step n i 0 0 none) me)
 takes_back key n id call p element i me mine place live free low serving there =
@@ -80,7 +80,7 @@ turn_at id element v w i found event knows place did is = let d : Did id v (stat
     record { did = d; is = is }
 
 -- the stop bit of an element is set
-pub stops_state : (key : Shape) (n id call element i : ℕ) (me : Me Unit View) → call ≡ id → i ≡ state_word element → 1 ≤ me.0.member.ends → me.0.claimed ≡ None → element < 64
+pub stops_state : (key : Shape) (n id call element i : ℕ) (me : Me Unit View) → call ≡ id → i ≡ state_word element → IsActive me.0 → me.0.claimed ≡ None → element < 64
     → Allows (Rule key) n id me i (λ x. bit_or x 65536) (stops call element (step n i 65536 0 none) me)
 stops_state key n id call element i me mine place live free known =
     subst (λ (c : ℕ). Allows (Rule key) n id me i (λ x. bit_or x 65536) (stops c element (step n i 65536 0 none) me)) (sym mine) (λ s k many at fits.
@@ -92,7 +92,7 @@ stops_state key n id call element i me mine place live free known =
     (λ did before words. (refl, turn_at id element v _ i (get_or s.words i 0) _ _ place did (word_seen s.words did.sees.words element i place words))))
 
 -- a signal of an element becomes pending
-pub signals_state : (key : Shape) (n id call element number i bit : ℕ) (me : Me Unit View) → call ≡ id → i ≡ state_word element → bit ≡ 2 ^ number → 1 ≤ me.0.member.ends → me.0.claimed ≡ None → element < 64 → number < 16
+pub signals_state : (key : Shape) (n id call element number i bit : ℕ) (me : Me Unit View) → call ≡ id → i ≡ state_word element → bit ≡ 2 ^ number → IsActive me.0 → me.0.claimed ≡ None → element < 64 → number < 16
     → Allows (Rule key) n id me i (λ x. bit_or x bit) (signals call element number (step n i bit 0 none) me)
 signals_state key n id call element number i bit me mine place is live free known small =
     subst (λ (c : ℕ). Allows (Rule key) n id me i (λ x. bit_or x bit) (signals c element number (step n i bit 0 none) me)) (sym mine) (λ s k many at fits.
@@ -123,7 +123,7 @@ record Leads (event : Event) (v : View) (knows : List Event → View) : Type 0 w
   doubled : (before : List Event) → (knows before).doubled ≡ v.doubled
   steps : (before : List Event) → (knows before).steps ≡ v.steps
 
-turned : (key : Shape) (n id element i old new : ℕ) (me : Me Unit View) (event : Event) (change : Elements → Result Elements Refusal) (knows : List Event → View) → i ≡ state_word element → 1 ≤ me.0.member.ends
+turned : (key : Shape) (n id element i old new : ℕ) (me : Me Unit View) (event : Event) (change : Elements → Result Elements Refusal) (knows : List Event → View) → i ≡ state_word element → IsActive me.0
     → ((t : State) → effect event t ≡ in_elements change t) → Leads event me.0 knows
     → ((s : St) (k : Rule key s) → get_elem? s.views id ≡ some me.0 → get_or s.words (state_word element) 0 ≡ old → Effect id me.0 (knows k.events) key.first change (elements_after k.events) (set s.words (state_word element) new))
     → Allows (Rule key) n id me i (λ x. either (eqb x old) new x) (Turned id element i old event knows me)
@@ -134,7 +134,7 @@ turned key n id element i old new me event change knows place live is leads effe
     (leads.first k.events) (leads.serving k.events) (leads.member k.events) (leads.plain, leads.made k.events, leads.doubled k.events, leads.steps k.events)
     (subst (λ (z : ℕ). Effect id v (knows k.events) key.first change e (set s.words z new)) (sym place) (effect_of s k at (ap (λ (z : ℕ). get_or s.words z 0) (sym place) ∙ hit)))
     (λ did before words. (refl, (λ _. turn_at id element v _ i old event knows place did (sym hit ∙ word_seen s.words did.sees.words element i place words)), λ miss. absurd (miss hit))))
-    (λ miss. (looked v i y (steps_to k) k.events, keeps, tt, kept_look key s k i id y v at, (refl, (λ hit. absurd (miss hit)), λ _. found_now key s k i id v at)))
+    (λ miss. (looked v i y (steps_to k) k.events, keeps, tt, kept_look key s k i id y v at live, (refl, (λ hit. absurd (miss hit)), λ _. found_now key s k i id v at)))
 
 bit_set : (b : Bool) → bit_of b ≡ 1 → b ≡ true
 bit_set true is = refl
@@ -146,7 +146,7 @@ stopping key s k element old known hit is = let shows : StateShows (thread_at (e
     bit_set (thread_at (elements_after k.events) element).stop (sym shows.stop ∙ (ap (λ (z : ℕ). bit_at z 16) hit ∙ is))
 
 -- an element that the hand held stands in its stop cell
-pub parks_state : (key : Shape) (n id call element i old new : ℕ) (me : Me Unit View) → call ≡ id → i ≡ state_word element → 1 ≤ me.0.member.ends → me.0.claimed ≡ None → element < 64 → has me.0 element ≡ true
+pub parks_state : (key : Shape) (n id call element i old new : ℕ) (me : Me Unit View) → call ≡ id → i ≡ state_word element → IsActive me.0 → me.0.claimed ≡ None → element < 64 → has me.0 element ≡ true
     → bit_at old 16 ≡ 1 → new ≡ bit_or old 131072
     → Allows (Rule key) n id me i (λ x. either (eqb x old) new x) (parks call element (step n i old new none) me)
 parks_state key n id call element i old new me mine place live free known held stops is = let v : View = me.0 in let w : View = with_held v element false in
@@ -158,7 +158,7 @@ parks_state key n id call element i old new me mine place live free known held s
     (park_effect id v key.first e s.words element (ready_of key s k id v at) free known held (stopping key s k element old known hit stops))))
 
 -- an element that was stopping starts
-pub starts_state : (key : Shape) (n id call element i old new : ℕ) (me : Me Unit View) → call ≡ id → i ≡ state_word element → 1 ≤ me.0.member.ends → me.0.claimed ≡ None → element < 64
+pub starts_state : (key : Shape) (n id call element i old new : ℕ) (me : Me Unit View) → call ≡ id → i ≡ state_word element → IsActive me.0 → me.0.claimed ≡ None → element < 64
     → bit_at old 16 ≡ 1 → new ≡ bit_and old 65535
     → Allows (Rule key) n id me i (λ x. either (eqb x old) new x) (starts call element (step n i old new none) me)
 starts_state key n id call element i old new me mine place live free known stops is = let v : View = me.0 in
@@ -171,7 +171,7 @@ starts_state key n id call element i old new me mine place live free known stops
     (start_effect id v key.first e s.words element (ready_of key s k id v at) free known (stopping key s k element old known hit stops))))
 
 -- the signals of an element that the hand holds are delivered
-pub delivers_state : (key : Shape) (n id call element i old new : ℕ) (me : Me Unit View) → call ≡ id → i ≡ state_word element → 1 ≤ me.0.member.ends → me.0.claimed ≡ None → element < 64 → has me.0 element ≡ true
+pub delivers_state : (key : Shape) (n id call element i old new : ℕ) (me : Me Unit View) → call ≡ id → i ≡ state_word element → IsActive me.0 → me.0.claimed ≡ None → element < 64 → has me.0 element ≡ true
     → new ≡ bit_and old 196608
     → Allows (Rule key) n id me i (λ x. either (eqb x old) new x) (delivers call element (step n i old new none) me)
 delivers_state key n id call element i old new me mine place live free known held is = let v : View = me.0 in
@@ -187,13 +187,13 @@ pub state_found : (element found : ℕ) (v w : View) → element < 64 → Found 
 state_found element found v w known f = subst (StateShows (thread_at (elements_after w.schedule) element)) (sym f.is) (f.sees.shows.states element known)
 
 -- the number of steps that an element had done is found
-pub counts_at : (key : Shape) (n id element i : ℕ) (me : Me Unit View) → i ≡ done_word element → 1 ≤ me.0.member.ends → element < 64 → MayStep me.0 element
+pub counts_at : (key : Shape) (n id element i : ℕ) (me : Me Unit View) → i ≡ done_word element → IsActive me.0 → element < 64 → MayStep me.0 element
     → Allows (Rule key) n id me i (λ x. x) (counts element (step n i 0 0 none) me)
 counts_at key n id element i me place live known may =
     subst (λ (z : ℕ). Allows (Rule key) n id me z (λ x. x) (counts element (step n z 0 0 none) me)) (sym place) (counts_done key n id me element known may live)
 
 -- one step more of the element whose number of steps the hand had found
-pub steps_done : (key : Shape) (n id call element count i y : ℕ) (me : Me Unit View) → call ≡ id → i ≡ done_word element → y ≡ count + 1 → 1 ≤ me.0.member.ends → me.0.claimed ≡ None
+pub steps_done : (key : Shape) (n id call element count i y : ℕ) (me : Me Unit View) → call ≡ id → i ≡ done_word element → y ≡ count + 1 → IsActive me.0 → me.0.claimed ≡ None
     → me.0.counted ≡ Some (count_of element count) → count < 4294967295
     → Allows (Rule key) n id me i (λ x. y) (λ found. steps_on call element count (step n i y 0 none) me y)
 steps_done key n id call element count i y me mine place is live free counted room =

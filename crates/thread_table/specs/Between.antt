@@ -18,7 +18,7 @@ use Rattle.thread_table.specs.declared.rule.View.{View}
 use Rattle.thread_table.specs.Schedules.{line_at, element_at}
 use Rattle.thread_table.specs.Shown.{WordsShow}
 use Rattle.thread_table.specs.Rules.{HandIs, IsIdle, IsOpen, serves, member_of, steps_of, course_of}
-use Rattle.thread_table.specs.Joins.{AreJoins}
+use Rattle.thread_table.specs.Joins.{AreJoins, AreJoined}
 use Rattle.thread_table.specs.Makers.{AreMade, made_of}
 use Rattle.thread_table.specs.Retiring.{AreRetired}
 use Rattle.thread_table.specs.Views.{claim_of}
@@ -49,9 +49,11 @@ pub record ShowsElements (key : Shape) (s : tables.State Unit View) : Type 0 whe
       × (v.claimed ≡ Some (claim_of line run (element_at (line_at core.elements line) run)))
   -- the word has the number of the hands that stand
   pub ends : EndsKnown member_of IsIdle (slice_index_or s.words 0 0) s.views
+  -- the joins of the schedule are the hands': each hand that doesn't stand any more was joined once, and no other
+  pub joined : AreJoined events s.views
   -- the hands' steps lead to the events from none, with the joins among them, which this view, of no hand, has; and
   -- each hand has seen all of them up to its own last step
   pub joiner : View
-  pub are_joins : AreJoins joiner.steps
+  pub are_joins : AreJoins events joiner.steps
   pub course : IsCourse steps_of course_of [] events (joiner ∷ s.views)
   pub no_others : (call element : ℕ) → length s.views ≤ call → holds call element core.elements ≡ false

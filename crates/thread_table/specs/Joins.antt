@@ -1,10 +1,13 @@
--- The joins among the steps: a join makes an event, but it is a step on no word.
-use Rattle.std.specs.Prelude.{◌≡◌, ℕ, List, [], ◌∷◌, ◌++◌}
+-- The joins among the steps, and which hands they were of: a join makes an event, but it is a step on no word.
+use Rattle.std.specs.Prelude.{◌≡◌, ◌==◌, ℕ, ◌+◌, ◌≤◌, Bool, false, if◌then◌else◌, List, [], ◌∷◌, ◌++◌, length, count_by}
 use mathlib.Core.Option.{some}
 use lib.ListN.{get_elem?}
 use Rattle.quaject_core.specs.declared.event.Event.{Event}
 use Rattle.quaject_core.specs.declared.event.Event.TheVariants as events
+use Rattle.table_theory.specs.Sharing.{total}
 use Rattle.table_theory.specs.declared.views.Entry.{Entry}
+use Rattle.thread_table.specs.declared.rule.View.{View}
+use Rattle.thread_table.specs.Makers.{is_join}
 use Rattle.thread_table.specs.Schedules.{Course}
 
 -- behind the last word
@@ -16,7 +19,31 @@ abbrev pub joining : List Event → ℕ → ℕ → Entry (List Event)
 joining before call other =
     record { word = no_word; found = 0; then = before; next = before ++ events.Join call other ∷ [] }
 
--- each of the entries is that of a join
-abbrev pub AreJoins : Course → Type 0
-AreJoins joins = (i : ℕ) (e : Entry (List Event)) → get_elem? joins i ≡ some e → (call : ℕ) × (other : ℕ)
-    × (e ≡ joining e.then call other)
+-- Each of the entries is that of a join, and they are all the joins of the schedule
+pub record AreJoins (schedule : List Event) (joins : Course) : Type 0 where
+  pub each : (i : ℕ) (e : Entry (List Event)) → get_elem? joins i ≡ some e → (call : ℕ) × (other : ℕ)
+      × (e ≡ joining e.then call other)
+  pub all : count_by is_join schedule ≡ length joins
+
+-- whether the event joins this hand to another
+abbrev pub is_join_of : ℕ → Event → Bool
+is_join_of hand (events.Join call other) = other == hand
+is_join_of hand event = false
+
+-- how often the hand was joined to another
+abbrev pub times_joined : ℕ → List Event → ℕ
+times_joined hand schedule = count_by (is_join_of hand) schedule
+
+-- how many joins the hand has yet to count: one, where it stands, took in another and has made no step since
+abbrev pub uncounted : View → ℕ
+uncounted v = if v.fresh then 0 else (if v.member.ends == 0 then 0 else 1)
+
+-- The joins of the schedule are as many as the hands have counted, and are about to count. Each hand that doesn't stand
+-- any more was joined once, and no other ever
+pub record AreJoined (schedule : List Event) (views : List View) : Type 0 where
+  pub number : count_by is_join schedule ≡ total (λ v. v.member.joins) views + total uncounted views
+  pub once : (hand : ℕ) (v : View) → get_elem? views hand ≡ some v → v.member.ends ≡ 0
+      → times_joined hand schedule ≡ 1
+  pub never : (hand : ℕ) (v : View) → get_elem? views hand ≡ some v → 1 ≤ v.member.ends
+      → times_joined hand schedule ≡ 0
+  pub strange : (hand : ℕ) → length views ≤ hand → times_joined hand schedule ≡ 0

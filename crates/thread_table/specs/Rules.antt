@@ -5,7 +5,7 @@ use Rattle.std.specs.List.{slice_get, list_any, repeat}
 use mathlib.Core.Option.{some}
 use lib.ListN.{get_elem?}
 use Rattle.table_theory.specs.declared.views.Member.{Member}
-use Rattle.table_theory.specs.Courses.{AreLooks, IsCourse}
+use Rattle.table_theory.specs.Courses.{IsCourse}
 use Rattle.table_theory.specs.Ends.{Begins}
 use Rattle.table_theory.specs.Members.{first_member, EndsKnown}
 use Rattle.table_theory.specs.Sharing.{IsWhole}
@@ -18,7 +18,7 @@ use Rattle.thread_table.specs.declared.rule.Claimed.{Claimed}
 use Rattle.thread_table.specs.declared.rule.Counted.{Counted}
 use Rattle.thread_table.specs.Schedules.{Course, elements_after, IsAllowed, Grows, line_at, thread_at, element_at}
 use Rattle.thread_table.specs.Views.{claim_of}
-use Rattle.thread_table.specs.Joins.{AreJoins}
+use Rattle.thread_table.specs.Joins.{AreJoins, AreJoined}
 use Rattle.thread_table.specs.Makers.{AreMade, made_of}
 use Rattle.thread_table.specs.Shown.{WordsShow}
 
@@ -92,10 +92,14 @@ abbrev pub IsOpen : ℕ → ℕ → Elements → Type 0
 IsOpen line run e =
     (run < length (line_at e line).history) × ((line_at e line).raised run 0 ≡ false)
 
--- an end that was joined has nothing, and none of its steps was an event
+-- a hand that was joined has nothing, and lists no step
 abbrev pub IsIdle : View → Type 0
 IsIdle v = (v.held ≡ nothing_held) × (v.serves ≡ no_processors) × (v.on ≡ nothing_on) × (v.claimed ≡ None)
-    × (v.made ≡ []) × AreLooks v.steps
+    × (v.made ≡ []) × (v.steps ≡ [])
+
+-- the hand stands, and has counted each join that it made
+abbrev pub IsActive : View → Type 0
+IsActive v = (1 ≤ v.member.ends) × (v.fresh ≡ true)
 
 -- the hand holds the element, or has it on a processor
 abbrev pub MayStep : View → ℕ → Type 0
@@ -116,7 +120,8 @@ IsNewest v events = IsWhole v.member.share → v.fresh ≡ true → v.schedule �
 
 -- The core allowed each of these events in its turn; what they lead to is what the words show and what the hands have.
 -- No processor is served by two hands, each run that isn't raised is a hand's that is about to raise it, no call but
--- the hands' holds an element, the hands list the events, and no hand was joined to one that had something of the same
+-- the hands' holds an element, the hands list the events, no hand was joined to one that had something of the same, and
+-- each hand that doesn't stand any more was joined once
 pub record Rule (key : Shape) (s : State Unit View) : Type 0 where
   pub events : List Event
   pub allowed : IsAllowed events
@@ -135,9 +140,10 @@ pub record Rule (key : Shape) (s : State Unit View) : Type 0 where
   pub newest : (j : ℕ) (v : View) → get_elem? s.views j ≡ some v → IsNewest v events
   pub undoubled : (j : ℕ) (v : View) → get_elem? s.views j ≡ some v → v.doubled ≡ false
   pub ends : EndsKnown member_of IsIdle (slice_index_or s.words 0 0) s.views
+  pub joined : AreJoined events s.views
   -- the hands' steps lead to the events from none, with the joins among them, which this view, of no hand, has
   pub joiner : View
-  pub are_joins : AreJoins joiner.steps
+  pub are_joins : AreJoins events joiner.steps
   pub course : IsCourse steps_of course_of [] events (joiner ∷ s.views)
 
 abbrev pub newcomer : Shape → View

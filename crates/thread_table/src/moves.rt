@@ -1,9 +1,9 @@
 //! Moves: an element that the hand holds gets the next place of an element queue.
-ghost use Rattle.std.specs.Prelude.{◌≡◌, ◌<◌, ◌≤◌, ◌+◌, true, false, slice_set, Some};
+ghost use Rattle.std.specs.Prelude.{◌≡◌, ◌<◌, ◌+◌, true, false, slice_set, Some};
 ghost use Rattle.table_theory.specs.Seating.{IsSame};
 ghost use Rattle.thread_table.specs.Handles.{view_of, call_of, IsHandOf, IsSameHand};
 ghost use Rattle.thread_table.specs.Answers.{MoveAnswer, WaitAnswer, IsTicket};
-ghost use Rattle.thread_table.specs.Rules.{has};
+ghost use Rattle.thread_table.specs.Rules.{IsActive, has};
 ghost use Rattle.thread_table.specs.Steps.{Raises};
 ghost use Rattle.thread_table.specs.Views.{claim_of};
 
@@ -43,7 +43,7 @@ fn raise<J: Deed>(
     element: u8,
 )
     requires queue { (seat.old.table_id ≡ words.now.table_id) × (words.now.table_id.words ≡ 1325) × (line < 18) }
-    requires mine { 1 ≤ seat.old.me.0.member.ends }
+    requires mine { IsActive seat.old.me.0 }
     requires deed { (J.call ≡ seat.old.id) × (J.at ≡ line) × (J.element ≡ element) × (element < 64) }
     requires claimed { seat.old.me.0.claimed ≡ Some (claim_of J.at J.number J.element) }
     requires position { (head ≡ seat.old.me.0.first + J.number) × (head < 4294967295) }

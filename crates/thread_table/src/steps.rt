@@ -7,7 +7,7 @@ ghost use Rattle.std.specs.Int.Bits.{bit_or, bit_and};
 ghost use Rattle.table_theory.specs.Seating.{IsSame};
 ghost use Rattle.thread_table.specs.Schedules.{elements_after, line_at, element_at};
 ghost use Rattle.thread_table.specs.Shown.{head_shown, tail_shown, head_word, tail_word, place_word, state_word};
-ghost use Rattle.thread_table.specs.Rules.{MayStep, has, serves, running};
+ghost use Rattle.thread_table.specs.Rules.{IsActive, MayStep, has, serves, running};
 ghost use Rattle.thread_table.specs.Views.{claim_of, count_of};
 ghost use Rattle.thread_table.specs.Steps.{Found, Claims, claim_event, Raises, Takes, Notifies, PutsOn, TakesOff};
 ghost use Rattle.thread_table.specs.Steps.{Marks, Counts, Steps, CountedUp, CountedDown, Tallied};
@@ -27,7 +27,8 @@ use atomic_table::{Seat, Shared};
 pub(crate) type Words = Shared<(), View, Shape, ThreadRule>;
 
 pub(crate) fn load(words: &Words, seat: &mut Seat<(), View>, word: usize) -> u64
-    requires { (seat.old.table_id ≡ words.now.table_id) × (word < words.now.table_id.words) }
+    requires queue { (seat.old.table_id ≡ words.now.table_id) × (word < words.now.table_id.words) }
+    requires live { IsActive seat.old.me.0 }
     ensures { IsSame seat.old seat.new × (seat.new.me.1 ≡ seat.old.me.1)
         × Found seat.old.me.0 word result seat.new.me.0 }
 {
@@ -35,7 +36,8 @@ pub(crate) fn load(words: &Words, seat: &mut Seat<(), View>, word: usize) -> u64
 }
 
 pub(crate) fn load_head(words: &Words, seat: &mut Seat<(), View>, line: usize) -> u64
-    requires { (seat.old.table_id ≡ words.now.table_id) × (words.now.table_id.words ≡ 1325) × (line < 18) }
+    requires queue { (seat.old.table_id ≡ words.now.table_id) × (words.now.table_id.words ≡ 1325) × (line < 18) }
+    requires live { IsActive seat.old.me.0 }
     ensures queue { IsSame seat.old seat.new × (seat.new.me.1 ≡ seat.old.me.1) }
     ensures found { Found seat.old.me.0 (head_word line) result seat.new.me.0 }
     ensures head { result ≡ head_shown seat.old.me.0.first (elements_after seat.new.me.0.schedule) line }
@@ -44,7 +46,8 @@ pub(crate) fn load_head(words: &Words, seat: &mut Seat<(), View>, line: usize) -
 }
 
 pub(crate) fn load_tail(words: &Words, seat: &mut Seat<(), View>, line: usize) -> u64
-    requires { (seat.old.table_id ≡ words.now.table_id) × (words.now.table_id.words ≡ 1325) × (line < 18) }
+    requires queue { (seat.old.table_id ≡ words.now.table_id) × (words.now.table_id.words ≡ 1325) × (line < 18) }
+    requires live { IsActive seat.old.me.0 }
     ensures queue { IsSame seat.old seat.new × (seat.new.me.1 ≡ seat.old.me.1) }
     ensures found { Found seat.old.me.0 (tail_word line) result seat.new.me.0 }
     ensures tail { result ≡ tail_shown seat.old.me.0.first (elements_after seat.new.me.0.schedule) line }
@@ -61,6 +64,7 @@ pub(crate) fn load_place(
     position: u64,
 ) -> u64
     requires queue { (seat.old.table_id ≡ words.now.table_id) × (words.now.table_id.words ≡ 1325) × (line < 18) }
+    requires live { IsActive seat.old.me.0 }
     requires tail { position ≡ tail_shown seat.old.me.0.first (elements_after seat.old.me.0.schedule) line }
     ensures queue { IsSame seat.old seat.new × (seat.new.me.1 ≡ seat.old.me.1) }
     ensures found { Found seat.old.me.0 (place_word line position) result seat.new.me.0 }
@@ -77,7 +81,7 @@ pub(crate) fn exchange_head<J: Deed>(
     head: u64,
 ) -> u64
     requires queue { (seat.old.table_id ≡ words.now.table_id) × (words.now.table_id.words ≡ 1325) × (line < 18) }
-    requires mine { (1 ≤ seat.old.me.0.member.ends) × (seat.old.me.0.claimed ≡ None) }
+    requires mine { IsActive seat.old.me.0 × (seat.old.me.0.claimed ≡ None) }
     requires deed { (J.call ≡ seat.old.id) × (J.at ≡ line) × (J.element ≡ element) }
     requires held { (element < 64) × (has seat.old.me.0 element ≡ true) }
     requires room { head % 4294967296 + 1 < 4294967296 }
@@ -100,7 +104,7 @@ pub(crate) fn exchange_head_at<J: Deed>(
     head: u64,
 ) -> u64
     requires queue { (seat.old.table_id ≡ words.now.table_id) × (words.now.table_id.words ≡ 1325) × (wait < 16) }
-    requires mine { (1 ≤ seat.old.me.0.member.ends) × (seat.old.me.0.claimed ≡ None) }
+    requires mine { IsActive seat.old.me.0 × (seat.old.me.0.claimed ≡ None) }
     requires deed { (J.call ≡ seat.old.id) × (J.at ≡ wait) × (J.element ≡ element) × (J.number ≡ ticket) }
     requires held { (element < 64) × (has seat.old.me.0 element ≡ true) }
     requires room { head % 4294967296 + 1 < 4294967296 }
@@ -125,7 +129,7 @@ pub(crate) fn store_place<J: Deed>(
     new: u64,
 )
     requires queue { (seat.old.table_id ≡ words.now.table_id) × (words.now.table_id.words ≡ 1325) × (line < 18) }
-    requires mine { 1 ≤ seat.old.me.0.member.ends }
+    requires mine { IsActive seat.old.me.0 }
     requires deed { (J.call ≡ seat.old.id) × (J.at ≡ line) × (J.element ≡ element) }
     requires claimed { seat.old.me.0.claimed ≡ Some (claim_of J.at J.number J.element) }
     requires position { (position ≡ seat.old.me.0.first + J.number) × (new ≡ J.element + 256 * (position + 1)) }
@@ -144,7 +148,7 @@ pub(crate) fn exchange_tail<J: Deed>(
     tail: u64,
 ) -> u64
     requires queue { (seat.old.table_id ≡ words.now.table_id) × (words.now.table_id.words ≡ 1325) × (line < 18) }
-    requires mine { (1 ≤ seat.old.me.0.member.ends) × (seat.old.me.0.claimed ≡ None) }
+    requires mine { IsActive seat.old.me.0 × (seat.old.me.0.claimed ≡ None) }
     requires deed { (J.call ≡ seat.old.id) × (J.at ≡ line) }
     requires raised { (run : ℕ) × (tail ≡ seat.old.me.0.first + run)
         × ((line_at (elements_after seat.old.me.0.schedule) line).raised run 0 ≡ true) }
@@ -159,7 +163,7 @@ pub(crate) fn exchange_tail<J: Deed>(
 
 pub(crate) fn add_notify<J: Deed>(words: &Words, seat: &mut Seat<(), View>, wait: u8) -> u64
     requires queue { (seat.old.table_id ≡ words.now.table_id) × (words.now.table_id.words ≡ 1325) × (wait < 16) }
-    requires mine { (1 ≤ seat.old.me.0.member.ends) × (seat.old.me.0.claimed ≡ None) }
+    requires mine { IsActive seat.old.me.0 × (seat.old.me.0.claimed ≡ None) }
     requires deed { (J.call ≡ seat.old.id) × (J.at ≡ wait) }
     ensures queue { IsSame seat.old seat.new × (seat.new.me.1 ≡ seat.old.me.1) }
     ensures notified { Notifies J.call J.at seat.old.me.0 result seat.new.me.0 }
@@ -169,7 +173,7 @@ pub(crate) fn add_notify<J: Deed>(words: &Words, seat: &mut Seat<(), View>, wait
 
 pub(crate) fn swap_on<J: Deed>(words: &Words, seat: &mut Seat<(), View>, processor: u8, element: u8)
     requires queue { (seat.old.table_id ≡ words.now.table_id) × (words.now.table_id.words ≡ 1325) }
-    requires mine { (1 ≤ seat.old.me.0.member.ends) × (seat.old.me.0.claimed ≡ None) }
+    requires mine { IsActive seat.old.me.0 × (seat.old.me.0.claimed ≡ None) }
     requires deed { (J.call ≡ seat.old.id) × (J.at ≡ processor) × (J.element ≡ element) }
     requires held { (element < 64) × (has seat.old.me.0 element ≡ true) }
     requires empty { (processor < 8) × (serves seat.old.me.0 processor ≡ true)
@@ -187,7 +191,7 @@ pub(crate) fn swap_off<J: Deed>(
     element: u8,
 )
     requires queue { (seat.old.table_id ≡ words.now.table_id) × (words.now.table_id.words ≡ 1325) }
-    requires mine { (1 ≤ seat.old.me.0.member.ends) × (seat.old.me.0.claimed ≡ None) }
+    requires mine { IsActive seat.old.me.0 × (seat.old.me.0.claimed ≡ None) }
     requires deed { (J.call ≡ seat.old.id) × (J.at ≡ processor) × (J.element ≡ element) }
     requires there { (processor < 8) × (serves seat.old.me.0 processor ≡ true)
         × (running seat.old.me.0 processor ≡ Some element) }
@@ -199,7 +203,8 @@ pub(crate) fn swap_off<J: Deed>(
 }
 
 pub(crate) fn load_state(words: &Words, seat: &mut Seat<(), View>, element: u8) -> u64
-    requires { (seat.old.table_id ≡ words.now.table_id) × (words.now.table_id.words ≡ 1325) × (element < 64) }
+    requires queue { (seat.old.table_id ≡ words.now.table_id) × (words.now.table_id.words ≡ 1325) × (element < 64) }
+    requires live { IsActive seat.old.me.0 }
     ensures queue { IsSame seat.old seat.new × (seat.new.me.1 ≡ seat.old.me.1) }
     ensures found { Found seat.old.me.0 (state_word element) result seat.new.me.0 }
     ensures state { StateIs element result seat.new.me.0 }
@@ -209,7 +214,7 @@ pub(crate) fn load_state(words: &Words, seat: &mut Seat<(), View>, element: u8) 
 
 pub(crate) fn or_stop<J: Deed>(words: &Words, seat: &mut Seat<(), View>, element: u8) -> u64
     requires queue { (seat.old.table_id ≡ words.now.table_id) × (words.now.table_id.words ≡ 1325) × (element < 64) }
-    requires mine { (1 ≤ seat.old.me.0.member.ends) × (seat.old.me.0.claimed ≡ None) }
+    requires mine { IsActive seat.old.me.0 × (seat.old.me.0.claimed ≡ None) }
     requires deed { (J.call ≡ seat.old.id) × (J.element ≡ element) }
     ensures queue { IsSame seat.old seat.new × (seat.new.me.1 ≡ seat.old.me.1) }
     ensures stopped { Marks J.call J.element (events.Stop J.call J.element) seat.old.me.0 result seat.new.me.0 }
@@ -224,7 +229,7 @@ pub(crate) fn or_signal<J: Deed>(
     signal: u8,
 ) -> u64
     requires queue { (seat.old.table_id ≡ words.now.table_id) × (words.now.table_id.words ≡ 1325) × (element < 64) }
-    requires mine { (1 ≤ seat.old.me.0.member.ends) × (seat.old.me.0.claimed ≡ None) }
+    requires mine { IsActive seat.old.me.0 × (seat.old.me.0.claimed ≡ None) }
     requires deed { (J.call ≡ seat.old.id) × (J.element ≡ element) × (J.number ≡ signal) × (signal < 16) }
     ensures queue { IsSame seat.old seat.new × (seat.new.me.1 ≡ seat.old.me.1) }
     ensures signalled { Marks J.call J.element (events.Signal J.call J.element J.number) seat.old.me.0 result
@@ -241,7 +246,7 @@ pub(crate) fn exchange_park<J: Deed>(
     new: u64,
 ) -> u64
     requires queue { (seat.old.table_id ≡ words.now.table_id) × (words.now.table_id.words ≡ 1325) }
-    requires mine { (1 ≤ seat.old.me.0.member.ends) × (seat.old.me.0.claimed ≡ None) }
+    requires mine { IsActive seat.old.me.0 × (seat.old.me.0.claimed ≡ None) }
     requires deed { (J.call ≡ seat.old.id) × (J.element ≡ element) }
     requires held { (element < 64) × (has seat.old.me.0 element ≡ true) }
     requires stopping { (bit_at old 16 ≡ 1) × (new ≡ bit_or old 131072) }
@@ -261,7 +266,7 @@ pub(crate) fn exchange_start<J: Deed>(
     new: u64,
 ) -> u64
     requires queue { (seat.old.table_id ≡ words.now.table_id) × (words.now.table_id.words ≡ 1325) × (element < 64) }
-    requires mine { (1 ≤ seat.old.me.0.member.ends) × (seat.old.me.0.claimed ≡ None) }
+    requires mine { IsActive seat.old.me.0 × (seat.old.me.0.claimed ≡ None) }
     requires deed { (J.call ≡ seat.old.id) × (J.element ≡ element) }
     requires stopping { (bit_at old 16 ≡ 1) × (new ≡ bit_and old 65535) }
     ensures queue { IsSame seat.old seat.new × (seat.new.me.1 ≡ seat.old.me.1) }
@@ -280,7 +285,7 @@ pub(crate) fn exchange_deliver<J: Deed>(
     new: u64,
 ) -> u64
     requires queue { (seat.old.table_id ≡ words.now.table_id) × (words.now.table_id.words ≡ 1325) }
-    requires mine { (1 ≤ seat.old.me.0.member.ends) × (seat.old.me.0.claimed ≡ None) }
+    requires mine { IsActive seat.old.me.0 × (seat.old.me.0.claimed ≡ None) }
     requires deed { (J.call ≡ seat.old.id) × (J.element ≡ element) }
     requires held { (element < 64) × (has seat.old.me.0 element ≡ true) }
     requires new { new ≡ bit_and old 196608 }
@@ -295,7 +300,7 @@ pub(crate) fn exchange_deliver<J: Deed>(
 // The number of steps done of an element that the hand holds or has on a processor.
 pub(crate) fn load_done<J: Deed>(words: &Words, seat: &mut Seat<(), View>, element: u8) -> u64
     requires queue { (seat.old.table_id ≡ words.now.table_id) × (words.now.table_id.words ≡ 1325) × (element < 64) }
-    requires mine { (1 ≤ seat.old.me.0.member.ends) × MayStep seat.old.me.0 element × (J.element ≡ element) }
+    requires mine { IsActive seat.old.me.0 × MayStep seat.old.me.0 element × (J.element ≡ element) }
     ensures queue { IsSame seat.old seat.new × (seat.new.me.1 ≡ seat.old.me.1) }
     ensures counted { Counts J.element seat.old.me.0 result seat.new.me.0 }
     ensures small { result < 4294967296 }
@@ -305,7 +310,7 @@ pub(crate) fn load_done<J: Deed>(words: &Words, seat: &mut Seat<(), View>, eleme
 
 pub(crate) fn store_done<J: Deed>(words: &Words, seat: &mut Seat<(), View>, element: u8, done: u64)
     requires queue { (seat.old.table_id ≡ words.now.table_id) × (words.now.table_id.words ≡ 1325) × (element < 64) }
-    requires mine { (1 ≤ seat.old.me.0.member.ends) × (seat.old.me.0.claimed ≡ None) }
+    requires mine { IsActive seat.old.me.0 × (seat.old.me.0.claimed ≡ None) }
     requires deed { (J.call ≡ seat.old.id) × (J.element ≡ element) × (J.number ≡ done) }
     requires counted { (seat.old.me.0.counted ≡ Some (count_of J.element J.number)) × (done < 4294967295) }
     ensures queue { IsSame seat.old seat.new × (seat.new.me.1 ≡ seat.old.me.1) }
@@ -316,6 +321,7 @@ pub(crate) fn store_done<J: Deed>(words: &Words, seat: &mut Seat<(), View>, elem
 
 pub(crate) fn count_up(words: &Words, seat: &mut Seat<(), View>) -> u64
     requires queue { (seat.old.table_id ≡ words.now.table_id) × (words.now.table_id.words ≡ 1325) }
+    requires live { IsActive seat.old.me.0 }
     requires parts { seat.old.me.0.member.ends + 1 ≤ seat.old.me.0.member.share }
     ensures queue { IsSame seat.old seat.new × (seat.new.me.1 ≡ seat.old.me.1) }
     ensures counted { CountedUp seat.old.me.0 result seat.new.me.0 }
@@ -325,7 +331,7 @@ pub(crate) fn count_up(words: &Words, seat: &mut Seat<(), View>) -> u64
 
 pub(crate) fn count_down(words: &Words, seat: &mut Seat<(), View>) -> u64
     requires queue { (seat.old.table_id ≡ words.now.table_id) × (words.now.table_id.words ≡ 1325) }
-    requires live { 2 ≤ seat.old.me.0.member.ends }
+    requires live { (2 ≤ seat.old.me.0.member.ends) × (seat.old.me.0.fresh ≡ false) }
     ensures queue { IsSame seat.old seat.new × (seat.new.me.1 ≡ seat.old.me.1) }
     ensures counted { CountedDown seat.old.me.0 result seat.new.me.0 }
 {
@@ -334,7 +340,7 @@ pub(crate) fn count_down(words: &Words, seat: &mut Seat<(), View>) -> u64
 
 pub(crate) fn count(words: &Words, seat: &mut Seat<(), View>) -> u64
     requires queue { (seat.old.table_id ≡ words.now.table_id) × (words.now.table_id.words ≡ 1325) }
-    requires live { seat.old.me.0.member.ends ≡ 1 }
+    requires live { (seat.old.me.0.member.ends ≡ 1) × (seat.old.me.0.fresh ≡ true) }
     ensures queue { IsSame seat.old seat.new × (seat.new.me.1 ≡ seat.old.me.1) }
     ensures tallied { Tallied seat.old.me.0 result seat.new.me.0 }
 {
@@ -362,7 +368,7 @@ pub(crate) fn split_off<J: Mask>(
 pub(crate) fn take_in<J: Spent>(words: &Words, seat: &mut Seat<(), View>, other: Seat<(), View>)
     requires queue { (seat.old.table_id ≡ words.now.table_id) × (other.table_id ≡ words.now.table_id)
         × (other.me.1 ≡ []) × (words.now.table_id.words ≡ 1325) }
-    requires live { (1 ≤ seat.old.me.0.member.ends) × (1 ≤ other.me.0.member.ends) }
+    requires live { IsActive seat.old.me.0 × IsActive other.me.0 }
     requires none { (seat.old.me.0.claimed ≡ None) × (other.me.0.claimed ≡ None) }
     requires spent { J.view ≡ emptied seat.old.me.0 }
     ensures queue { IsSame seat.old seat.new }

@@ -24,10 +24,11 @@ abbrev without : ℕ → List ℕ → List ℕ
 without n [] = []
 without n (x ∷ xs) = cond (eqb x n) (without n xs) (x ∷ without n xs)
 
-in_more : (k x : ℕ) (xs : List ℕ) → in_list k (x ∷ xs) ≡ one x k + in_list k xs
+-- how often a number stands in a longer list
+pub in_more : (k x : ℕ) (xs : List ℕ) → in_list k (x ∷ xs) ≡ one x k + in_list k xs
 in_more k x xs = sum_by-cons (λ y. one y k) x xs
 
-itself : (x : ℕ) → one x x ≡ 1
+pub itself : (x : ℕ) → one x x ≡ 1
 itself x = grind (arith, nat_tests)
 
 length_by : (b : Bool) (x : ℕ) (xs : List ℕ) → length (cond b xs (x ∷ xs)) + cond b 1 0 ≡ length xs + 1

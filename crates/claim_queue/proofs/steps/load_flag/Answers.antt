@@ -2,8 +2,8 @@ use Rattle.std.proofs.Common.{arith, sym, mod-lt, ◌∙◌, ◌<◌, ◌+◌, �
 use Rattle.claim_queue.proofs.Reading.{flag_raised, flag_low}
 use Rattle.claim_queue.proofs.steps.load_flag.Goals as goal
 
-pub load-requires : goal.load-requires
-load-requires c = let q = c.requires.queue in let wide = q.1 in let near : c.args.position % c.args.room < c.args.room = mod-lt c.args.position q.2 in (q.0, omega arith)
+pub load-requires-clause-queue : goal.load-requires-clause-queue
+load-requires-clause-queue c = let q = c.requires.queue in let wide = q.1 in let near : c.args.position % c.args.room < c.args.room = mod-lt c.args.position q.2 in (q.0, omega arith)
 
 pub returns-clause-raised : goal.returns-clause-raised
 returns-clause-raised c = let near = c.requires.near in let s = c.load.ensures.2 in let room = s.sees.later.0.room ∙ c.requires.queue.4 in let old = c.requires.queue.4 in

@@ -3,4 +3,4 @@ use Rattle.meters.proofs.Stepping.{looks}
 use Rattle.meters.proofs.steps.load.Goals as goal
 
 pub load-requires : goal.load-requires
-load-requires c = (search rules, search rules, looks _ _ _ _ _)
+load-requires c = (search rules, search rules, looks _ _ _ _ _ c.requires.live)

@@ -3,4 +3,4 @@ use Rattle.thread_table.proofs.Looks.{looks}
 use Rattle.thread_table.proofs.steps.load.Goals as goal
 
 pub load-requires : goal.load-requires
-load-requires c = (search rules, search rules, looks _ _ _ _ _)
+load-requires c = (search rules, search rules, looks _ _ _ _ _ c.requires.live)

@@ -5,4 +5,4 @@ pub returns-clause-found : goal.returns-clause-found
 returns-clause-found c = found_at _ _ _ _ _ c.head_word.ensures.0 c.load.ensures.2
 
 pub returns-clause-head : goal.returns-clause-head
-returns-clause-head c = found_head _ _ _ _ c.requires.2 (found_at _ _ _ _ _ c.head_word.ensures.0 c.load.ensures.2)
+returns-clause-head c = found_head _ _ _ _ c.requires.queue.2 (found_at _ _ _ _ _ c.head_word.ensures.0 c.load.ensures.2)

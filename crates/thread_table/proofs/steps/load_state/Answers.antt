@@ -6,4 +6,4 @@ pub returns-clause-found : goal.returns-clause-found
 returns-clause-found c = found_at _ _ _ _ _ c.state_word.ensures.0 c.load.ensures.2
 
 pub returns-clause-state : goal.returns-clause-state
-returns-clause-state c = state_found _ _ _ _ c.requires.2 (found_at _ _ _ _ _ c.state_word.ensures.0 c.load.ensures.2)
+returns-clause-state c = state_found _ _ _ _ c.requires.queue.2 (found_at _ _ _ _ _ c.state_word.ensures.0 c.load.ensures.2)

@@ -1,7 +1,9 @@
 -- Results that are refused, or go on.
-use Rattle.std.proofs.Common.{◌≡◌, ◌⊎◌, inl, inr, List, [], ◌∷◌, ℕ, refl, Bool, true, false, cond, Result, Ok, Err}
+use Rattle.std.proofs.Common.{◌≡◌, ◌⊎◌, inl, inr, List, [], ◌∷◌, ℕ, refl, ap, Bool, true, false, cond, Result, Ok, Err}
 use Rattle.boot_script.specs.declared.fault.ScriptRefusal.{ScriptRefusal}
 use Rattle.boot_script.specs.declared.fault.ScriptRefusal.TheVariants.{OutOfMemory}
+use Rattle.boot_script.specs.declared.fault.ScriptFault.{ScriptFault}
+use Rattle.boot_script.specs.Scripts.{at_line}
 use Rattle.boot_script.specs.Words.{◌>>=◌}
 use Rattle.boot_script.specs.Names.{◌or◌}
 use Rattle.boot_script.specs.Grammar.{no_more_of}
@@ -56,3 +58,22 @@ no_more_known (word ∷ words) = λ p. cc
 
 pub last_known : {A : Type 0} (words : List (List ℕ)) (x : A) → Known (no_more_of words >>= λ end. Ok x)
 last_known words x = bind_known (no_more_of words) _ (no_more_known words) (λ end. ok_known x)
+
+-- the same of a fault with its line
+abbrev pub IsKnown : {A : Type 0} → Result A ScriptFault → Type 0
+IsKnown said = (fault : ScriptFault) → said ≡ Err fault → fault.refusal ≡ OutOfMemory → ⊥
+
+pub bind_is_known : {A B : Type 0} (r : Result A ScriptFault) (f : A → Result B ScriptFault) → IsKnown r → ((x : A) → IsKnown (f x)) → IsKnown (r >>= f)
+bind_is_known (Ok x) f h k = k x
+bind_is_known (Err e) f h k = λ fault p. h fault (cc)
+
+pub test_is_known : {A : Type 0} (b : Bool) (x y : Result A ScriptFault) → IsKnown x → IsKnown y → IsKnown (cond b x y)
+test_is_known true x y h k = h
+test_is_known false x y h k = k
+
+pub ok_is_known : {A : Type 0} (x : A) → IsKnown (Ok x)
+ok_is_known x fault p e = absurd (cc)
+
+pub at_line_known : {A : Type 0} (number : ℕ) (r : Result A ScriptRefusal) → Known r → IsKnown (at_line number r)
+at_line_known number (Ok x) h = ok_is_known x
+at_line_known number (Err refusal) h = λ fault p e. let same : refusal ≡ OutOfMemory = cc in h (ap Err same)

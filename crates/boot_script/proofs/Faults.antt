@@ -1,27 +1,26 @@
 -- No text is at fault by want of memory.
 use Rattle.std.proofs.Common.{◌≡◌, inl, inr, ℕ, ◌+◌, List, [], ◌∷◌, ap, length, Bool, true, false, cond, Result, Ok, Err, IsOk}
-use Rattle.std.specs.Prelude.{nat_lt}
 use Rattle.std.specs.List.{list_all}
-use Rattle.std.specs.Str.{bytes_eq}
 use Rattle.quaject_core.specs.declared.event.Event.TheVariants as events
 use Rattle.boot_script.specs.declared.commands.Command.{Command}
 use Rattle.boot_script.specs.declared.commands.Command.TheVariants as command
 use Rattle.boot_script.specs.declared.fault.ScriptRefusal.{ScriptRefusal}
-use Rattle.boot_script.specs.declared.fault.ScriptRefusal.TheVariants.{NotVersion, TooMany, NotAscii, OutOfMemory}
+use Rattle.boot_script.specs.declared.fault.ScriptRefusal.TheVariants.{NotAscii, OutOfMemory}
 use Rattle.boot_script.specs.declared.fault.ScriptFault.{ScriptFault}
 use Rattle.boot_script.specs.declared.version.Version.{Version}
-use Rattle.boot_script.specs.declared.version.Version.TheVariants.{One, Two, Three}
-use Rattle.boot_script.specs.Words.{◌>>=◌, first_word, later_words, words_of, lines_of}
-use Rattle.boot_script.specs.Versions.{version_line}
+use Rattle.boot_script.specs.declared.version.Script.TheVariants.{Events}
+use Rattle.boot_script.specs.Words.{◌>>=◌, first_word, later_words, words_of}
 use Rattle.boot_script.specs.Commands.{command_of}
 use Rattle.boot_script.specs.Grammar.{notify_event, event_of, words_event, line_event, is_printable}
-use Rattle.boot_script.specs.Scripts.{says_nothing, at_line, events_from, version_of, script_of, text_events}
+use Rattle.boot_script.specs.Scripts.{says_nothing, at_line, events_from, opening_of, text_events}
 use Rattle.boot_script.specs.Answers.{IsFault}
 use Rattle.boot_script.proofs.Binds.{Known, bind_known, test_known, ok_known}
 use Rattle.boot_script.proofs.Named.{command_known}
 use Rattle.boot_script.proofs.Readers.{call_reader, processor_reader, element_reader, gauge_reader, small_reader, capacity_reader, short_reader, long_reader, byte_queue_reader, chain_reader, wait_reader, queue_reader, listener_reader}
 use Rattle.boot_script.proofs.Rows.{none_known, one_known, two_known, three_known, four_known}
 use Rattle.boot_script.proofs.Claims.{claim_known}
+use Rattle.boot_script.proofs.Binds.{IsKnown, bind_is_known, test_is_known, ok_is_known, at_line_known}
+use Rattle.boot_script.proofs.Openings.{opening_known}
 
 event_known : (version : Version) (command : Command) (words : List (List ℕ)) → Known (event_of version command words)
 unfolding event_of
@@ -57,34 +56,6 @@ line_known : (version : Version) (line : List ℕ) → Known (line_event version
 unfolding line_event
 line_known version line = test_known (list_all is_printable line) (words_event version (words_of line)) (Err NotAscii) (words_known version (words_of line)) (λ p. cc)
 
-version_known : (line : List ℕ) → Known (version_of line)
-unfolding version_of
-version_known line =
-    test_known (list_all is_printable line) _ (Err NotAscii)
-    (test_known (bytes_eq line (version_line One)) (Ok One) _ (ok_known One)
-    (test_known (bytes_eq line (version_line Two)) (Ok Two) _ (ok_known Two)
-    (test_known (bytes_eq line (version_line Three)) (Ok Three) (Err NotVersion) (ok_known Three) (λ p. cc))))
-    (λ p. cc)
-
--- the same of a fault with its line
-abbrev pub IsKnown : {A : Type 0} → Result A ScriptFault → Type 0
-IsKnown said = (fault : ScriptFault) → said ≡ Err fault → fault.refusal ≡ OutOfMemory → ⊥
-
-bind_is_known : {A B : Type 0} (r : Result A ScriptFault) (f : A → Result B ScriptFault) → IsKnown r → ((x : A) → IsKnown (f x)) → IsKnown (r >>= f)
-bind_is_known (Ok x) f h k = k x
-bind_is_known (Err e) f h k = λ fault p. h fault (cc)
-
-test_is_known : {A : Type 0} (b : Bool) (x y : Result A ScriptFault) → IsKnown x → IsKnown y → IsKnown (cond b x y)
-test_is_known true x y h k = h
-test_is_known false x y h k = k
-
-ok_is_known : {A : Type 0} (x : A) → IsKnown (Ok x)
-ok_is_known x fault p e = absurd (cc)
-
-at_line_known : {A : Type 0} (number : ℕ) (r : Result A ScriptRefusal) → Known r → IsKnown (at_line number r)
-at_line_known number (Ok x) h = ok_is_known x
-at_line_known number (Err refusal) h = λ fault p e. let same : refusal ≡ OutOfMemory = cc in h (ap Err same)
-
 events_known : (version : Version) (number : ℕ) (lines : List (List ℕ)) → IsKnown (events_from version number lines)
 unfolding events_from
 events_known version number [] = ok_is_known []
@@ -93,16 +64,11 @@ events_known version number (line ∷ lines) =
     (bind_is_known (at_line number (line_event version line)) _ (at_line_known number (line_event version line) (line_known version line))
     (λ event. bind_is_known (events_from version (number + 1) lines) _ (events_known version (number + 1) lines) (λ events. ok_is_known _)))
 
-script_known : (lines : List (List ℕ)) → IsKnown (script_of lines)
-unfolding script_of
-script_known [] = λ fault p e. absurd (cc)
-script_known (first ∷ lines) =
-    bind_is_known (at_line 1 (version_of first)) _ (at_line_known 1 (version_of first) (version_known first))
-    (λ version. bind_is_known (events_from version 2 lines) _ (events_known version 2 lines) (λ events. ok_is_known _))
-
 pub text_known : (text : List ℕ) → IsKnown (text_events text)
 unfolding text_events
-text_known text = test_is_known (nat_lt 65536 (length text)) (Err (record { line = 0; refusal = TooMany })) (script_of (lines_of text)) (λ fault p e. absurd (cc)) (script_known (lines_of text))
+text_known text =
+    bind_is_known (opening_of Events text) _ (opening_known Events text)
+    (λ opening. bind_is_known (events_from opening.0 2 opening.1) _ (events_known opening.0 2 opening.1) (λ events. ok_is_known _))
 
 -- memory is wanting only where the text has no fault
 pub memory_last : (text : List ℕ) (fault : ScriptFault) → fault.refusal ≡ OutOfMemory → IsFault fault (text_events text) → IsOk (text_events text)

@@ -1,12 +1,16 @@
 -- A buffer that is filled from a reader, and the text that it then has.
-use Rattle.std.proofs.Common.{◌≡◌, ◌⊎◌, inl, inr, ℕ, ◌<◌, ◌≤◌, ◌+◌, List, [], ◌++◌, ◌∙◌, refl, sym, ap, arith, append_assoc, length, length-append, take, true, Option, Some, None}
+use Rattle.std.proofs.Common.{◌≡◌, ◌⊎◌, inl, inr, ℕ, ◌<◌, ◌≤◌, ◌+◌, List, [], ◌++◌, ◌∙◌, refl, sym, ap, arith, append_assoc, length, length-append, take, true, Option, Some, None, Ok}
 use Rattle.std.proofs.lemmas.Bool.{cases_lt}
 use Rattle.std.proofs.lemmas.Bool.Decides.{nat_tests}
 use Rattle.std.proofs.lemmas.List.{append-nil, take-append-le}
 use Rattle.std.proofs.Math.Seq.{take-append-add}
 use Rattle.std.specs.Prelude.{nat_lt, IfSome}
 use Rattle.std.specs.Io.KnownBytes.{Consumes, IsAtEnd, Keeps}
-use Rattle.boot_script.specs.Scripts.{text_events}
+use Rattle.boot_script.specs.declared.version.Script.TheVariants.{Events}
+use Rattle.boot_script.specs.Words.{◌>>=◌}
+use Rattle.boot_script.specs.Versions.{elements_of}
+use Rattle.boot_script.specs.Scripts.{events_from, text_events}
+use Rattle.boot_script.proofs.Openings.{both_long}
 
 pub consumes_join : (a b c : Option (List ℕ)) (x y : List ℕ) → Consumes a b x → Consumes b c y → Consumes a c (x ++ y)
 consumes_join None b c x y h k = tt
@@ -25,16 +29,13 @@ consumes_none None = tt
 consumes_none (Some xs) = refl
 
 -- two texts that are both too long say the same
-both_long : (a b : List ℕ) → 65536 < length a → 65536 < length b → text_events a ≡ text_events b
+both_say : (a b : List ℕ) → 65536 < length a → 65536 < length b → text_events a ≡ text_events b
 unfolding text_events
-both_long a b la lb =
-    let ta : nat_lt 65536 (length a) ≡ true = grind (arith, nat_tests) in
-    let tb : nat_lt 65536 (length b) ≡ true = grind (arith, nat_tests) in
-    rw (ta, tb) refl
+both_say a b la lb = ap (λ o. o >>= λ opening. events_from opening.0 2 opening.1 >>= λ events. Ok (elements_of opening.0, events)) (both_long Events a b la lb)
 
 by_length : (text left : List ℕ) → (length text ≤ 65536 → left ≡ []) → (65536 < length text) ⊎ (length text ≤ 65536) → text_events (text ++ left) ≡ text_events text
 by_length text left end (inr short) = ap text_events (ap (λ xs. text ++ xs) (end short) ∙ append-nil text)
-by_length text left end (inl long) = both_long (text ++ left) text (omega (arith, length-append text left)) long
+by_length text left end (inl long) = both_say (text ++ left) text (omega (arith, length-append text left)) long
 
 -- what was read up to the end, or past the length that a script may have, says what the whole text says
 pub same_text : (old new : Option (List ℕ)) (text bytes : List ℕ) → old ≡ Some bytes → Consumes old new text → (length text ≤ 65536 → IsAtEnd new) → text_events bytes ≡ text_events text

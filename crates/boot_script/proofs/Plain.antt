@@ -44,7 +44,7 @@ unfolding is_plain
 printable c h = grind (arith, nat_tests, both (nat_le 33 c) (nat_le c 126) h)
 
 -- a word with no space is cut off whole
-cut_word : (word rest : List ℕ) → list_all is_plain word ≡ true → slice_split (λ b. eqb b 32) (word ++ 32 ∷ rest) ≡ word ∷ slice_split (λ b. eqb b 32) rest
+pub cut_word : (word rest : List ℕ) → list_all is_plain word ≡ true → slice_split (λ b. eqb b 32) (word ++ 32 ∷ rest) ≡ word ∷ slice_split (λ b. eqb b 32) rest
 cut_word [] rest h = slice_split-cons_yes (λ b. eqb b 32) 32 rest refl
 cut_word (c ∷ cs) rest h =
     let p = plain_parts c cs h in
@@ -67,7 +67,7 @@ print_word : (word : List ℕ) → list_all is_plain word ≡ true → list_all 
 print_word [] h = refl
 print_word (c ∷ cs) h = let p = plain_parts c cs h in rw (printable c p.0, print_word cs p.1) refl
 
-print_join : (word rest : List ℕ) → list_all is_plain word ≡ true → list_all is_printable rest ≡ true → list_all is_printable (word ++ 32 ∷ rest) ≡ true
+pub print_join : (word rest : List ℕ) → list_all is_plain word ≡ true → list_all is_printable rest ≡ true → list_all is_printable (word ++ 32 ∷ rest) ≡ true
 print_join [] rest h k = k
 print_join (c ∷ cs) rest h k = let p = plain_parts c cs h in rw (printable c p.0, print_join cs rest p.1 k) refl
 

@@ -85,7 +85,7 @@ event_ok version command.Shut words event k h =
 event_ok version command.WaitAt words event k h =
     four_ok call_reader (wait_reader version) (element_reader version) short_reader events.WaitAt words (IsSpelled version command.WaitAt words) (λ x y z u a b c d e. ((k, a, b, c, d), ap (λ ws. command_word command.WaitAt ∷ ws) e)) event h
 
-both_words : (words : List (List ℕ)) → (words ≡ [] → ⊥) → words ≡ first_word words ∷ later_words words
+pub both_words : (words : List (List ℕ)) → (words ≡ [] → ⊥) → words ≡ first_word words ∷ later_words words
 both_words [] some = absurd (some refl)
 both_words (word ∷ words) some = refl
 

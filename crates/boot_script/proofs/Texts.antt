@@ -11,46 +11,17 @@ use Rattle.boot_script.specs.declared.fault.ScriptRefusal.{ScriptRefusal}
 use Rattle.boot_script.specs.declared.fault.ScriptRefusal.TheVariants.{NotVersion, NotAscii}
 use Rattle.boot_script.specs.declared.fault.ScriptFault.{ScriptFault}
 use Rattle.boot_script.specs.declared.version.Version.{Version}
-use Rattle.boot_script.specs.declared.version.Version.TheVariants.{One, Two, Three}
+use Rattle.boot_script.specs.declared.version.Script.TheVariants.{Events}
 use Rattle.boot_script.specs.Words.{◌>>=◌, lines_of}
-use Rattle.boot_script.specs.Versions.{elements_of, version_line}
+use Rattle.boot_script.specs.Versions.{elements_of}
 use Rattle.boot_script.specs.Grammar.{is_printable, line_event}
-use Rattle.boot_script.specs.Scripts.{says_nothing, at_line, events_from, version_of, script_of, text_events}
+use Rattle.boot_script.specs.Scripts.{says_nothing, at_line, events_from, opening_of, text_events}
 use Rattle.boot_script.specs.Spellings.{spelling, Spells, SpellsText}
 use Rattle.boot_script.proofs.Binds.{bind_ok, chosen}
 use Rattle.boot_script.proofs.Spelled.{line_ok}
 use Rattle.boot_script.proofs.Again.{line_again}
 use Rattle.boot_script.proofs.EventsRead.{from_line}
-
-version_is : (line : List ℕ) (named version : Version) → bytes_eq line (version_line named) ≡ true → named ≡ version → line ≡ version_line version
-version_is line named version same e = (bytes_eq-Decides line (version_line named)).0 same ∙ ap version_line e
-
-version_ok : (line : List ℕ) (version : Version) → version_of line ≡ Ok version → line ≡ version_line version
-unfolding version_of
-version_ok line version h =
-    elim (chosen (list_all is_printable line) _ (Err NotAscii) (Ok version) h) [
-      | inl p ↦ elim (chosen (bytes_eq line (version_line One)) (Ok One) _ (Ok version) p.1) [
-        | inl q ↦ version_is line One version q.0 (cc (q.1))
-        | inr q ↦ elim (chosen (bytes_eq line (version_line Two)) (Ok Two) _ (Ok version) q.1) [
-          | inl r ↦ version_is line Two version r.0 (cc (r.1))
-          | inr r ↦ elim (chosen (bytes_eq line (version_line Three)) (Ok Three) (Err NotVersion) (Ok version) r.1) [
-            | inl s ↦ version_is line Three version s.0 (cc (s.1))
-            | inr s ↦ absurd (cc (s.1))
-          ]
-        ]
-      ]
-      | inr p ↦ absurd (cc (p.1))
-    ]
-
-version_again : (version : Version) → version_of (version_line version) ≡ Ok version
-unfolding version_of
-version_again One = refl
-version_again Two = refl
-version_again Three = refl
-
-at_line_ok : {A : Type 0} (number : ℕ) (said : Result A ScriptRefusal) (x : A) → at_line number said ≡ Ok x → said ≡ Ok x
-at_line_ok number (Ok y) x h = cc
-at_line_ok number (Err refusal) x h = absurd (cc)
+use Rattle.boot_script.proofs.Openings.{at_line_ok, opening_ok, opening_again}
 
 -- lines with no fault are silent or spell the events
 events_ok : (version : Version) (number : ℕ) (lines : List (List ℕ)) (events : List (ℕ × Event)) → events_from version number lines ≡ Ok events → Spells version number lines events
@@ -114,36 +85,19 @@ script_said said = Ok said
 parts : (x y : ℕ × List (ℕ × Event)) → script_said x ≡ script_said y → (x.0 ≡ y.0) × (x.1 ≡ y.1)
 parts x y h = let e : x ≡ y = cc in (ap (λ p. p.0) e, ap (λ p. p.1) e)
 
-script_ok : (lines : List (List ℕ)) (elements : ℕ) (events : List (ℕ × Event)) → script_of lines ≡ Ok (elements, events)
-    → (version : Version) × (later : List (List ℕ)) × (elements ≡ elements_of version) × (lines ≡ version_line version ∷ later) × Spells version 2 later events
-unfolding script_of
-script_ok [] elements events h = absurd (cc)
-script_ok (first ∷ lines) elements events h =
-    let a = bind_ok (at_line 1 (version_of first)) (λ version. events_from version 2 lines >>= λ events. Ok (elements_of version, events)) (elements, events) h in
-    let b = bind_ok (events_from a.0 2 lines) (λ events. Ok (elements_of a.0, events)) (elements, events) a.2 in
-    let k = parts (elements_of a.0, b.0) (elements, events) b.2 in
-    let version = version_ok first a.0 (at_line_ok 1 (version_of first) a.0 a.1) in
-    (a.0, lines, sym k.0, ap (λ line. line ∷ lines) version, events_ok a.0 2 lines events (b.1 ∙ ap Ok k.1))
-
-script_again : (version : Version) (later : List (List ℕ)) (events : List (ℕ × Event)) → Spells version 2 later events → script_of (version_line version ∷ later) ≡ Ok (elements_of version, events)
-unfolding script_of
-script_again version later events h = rw (version_again version, events_again version 2 later events h) refl
-
 pub text_ok : (text : List ℕ) (elements : ℕ) (events : List (ℕ × Event)) → text_events text ≡ Ok (elements, events) → SpellsText text elements events
 unfolding text_events
 text_ok text elements events h =
-    elim (chosen (nat_lt 65536 (length text)) _ (script_of (lines_of text)) (Ok (elements, events)) h) [
-      | inl p ↦ absurd (cc (p.1))
-      | inr p ↦
-          let test : nat_lt 65536 (length text) ≡ false = p.0 in
-          let short : length text ≤ 65536 = grind (arith, nat_tests) in
-          let k = script_ok (lines_of text) elements events p.1 in
-          (k.0, k.1, k.2, short, k.3, k.4)
-    ]
+    let o = bind_ok (opening_of Events text) (λ opening. events_from opening.0 2 opening.1 >>= λ events. Ok (elements_of opening.0, events)) (elements, events) h in
+    let version = o.0.0 in
+    let b = bind_ok (events_from version 2 o.0.1) (λ events. Ok (elements_of version, events)) (elements, events) o.2 in
+    let k = parts (elements_of version, b.0) (elements, events) b.2 in
+    let opened = opening_ok Events text o.0 o.1 in
+    (version, o.0.1, sym k.0, opened.0, opened.1, events_ok version 2 o.0.1 events (b.1 ∙ ap Ok k.1))
 
 pub text_again : (text : List ℕ) (elements : ℕ) (events : List (ℕ × Event)) → SpellsText text elements events → text_events text ≡ Ok (elements, events)
 unfolding text_events
 text_again text elements events h =
-    let short : length text ≤ 65536 = h.3 in
-    let test : nat_lt 65536 (length text) ≡ false = grind (arith, nat_tests) in
-    rw test (ap script_of h.4 ∙ (script_again h.0 h.1 events h.5 ∙ ap (λ n. Ok (n, events)) (sym h.2)))
+    let opened = opening_again Events text h.0 h.1 h.3 h.4 in
+    ap (λ o. o >>= λ opening. events_from opening.0 2 opening.1 >>= λ events. Ok (elements_of opening.0, events)) opened
+    ∙ (ap (λ e. e >>= λ events. Ok (elements_of h.0, events)) (events_again h.0 2 h.1 events h.5) ∙ ap (λ n. Ok (n, events)) (sym h.2))

@@ -26,3 +26,8 @@ IsFault fault said = ((fault ≡ no_memory) × IsOk said) ⊎ (said ≡ Err faul
 abbrev pub Says : {X Y : Type 0} → (X → Y) → Result X ScriptFault → Result Y ScriptFault → Type 0
 Says view (Ok x) said = said ≡ Ok (view x)
 Says view (Err fault) said = IsFault fault said
+
+-- an answer, seen by `view`, is exactly what was said; no memory is needed for it
+abbrev pub Equals : {X Y E : Type 0} → (X → Y) → Result X E → Result Y E → Type 0
+Equals view (Ok x) said = said ≡ Ok (view x)
+Equals view (Err e) said = said ≡ Err e

@@ -27,50 +27,50 @@ abbrev pub no_more_of : List (List ℕ) → Result (Unit {0}) ScriptRefusal
 no_more_of [] = Ok tt
 no_more_of (word ∷ words) = Err UnknownWord
 
--- an event of no words
-unfoldable pub no_words : Event → List (List ℕ) → Result Event ScriptRefusal
-no_words event words = do
+-- a value of no words
+unfoldable pub no_words : {R : Type 0} → R → List (List ℕ) → Result R ScriptRefusal
+no_words value words = do
   end ← no_more_of words
-  Ok event
+  Ok value
 
--- an event of one word
-unfoldable pub one_word : {A : Type 0} → Reader A → (A → Event) → List (List ℕ) → Result Event ScriptRefusal
-one_word first event words = do
+-- a value of one word
+unfoldable pub one_word : {A R : Type 0} → Reader A → (A → R) → List (List ℕ) → Result R ScriptRefusal
+one_word first value words = do
   a ← first (word_at 0 words)
   end ← no_more_of (words_from 1 words)
-  Ok (event a)
+  Ok (value a)
 
--- an event of two words
+-- a value of two words
 unfoldable pub two_words :
-    {A B : Type 0} → Reader A → Reader B → (A → B → Event) → List (List ℕ) → Result Event ScriptRefusal
-two_words first second event words = do
+    {A B R : Type 0} → Reader A → Reader B → (A → B → R) → List (List ℕ) → Result R ScriptRefusal
+two_words first second value words = do
   a ← first (word_at 0 words)
   b ← second (word_at 1 words)
   end ← no_more_of (words_from 2 words)
-  Ok (event a b)
+  Ok (value a b)
 
--- an event of three words
+-- a value of three words
 unfoldable pub three_words :
-    {A B C : Type 0} → Reader A → Reader B → Reader C → (A → B → C → Event) → List (List ℕ)
-    → Result Event ScriptRefusal
-three_words first second third event words = do
+    {A B C R : Type 0} → Reader A → Reader B → Reader C → (A → B → C → R) → List (List ℕ)
+    → Result R ScriptRefusal
+three_words first second third value words = do
   a ← first (word_at 0 words)
   b ← second (word_at 1 words)
   c ← third (word_at 2 words)
   end ← no_more_of (words_from 3 words)
-  Ok (event a b c)
+  Ok (value a b c)
 
--- an event of four words
+-- a value of four words
 unfoldable pub four_words :
-    {A B C D : Type 0} → Reader A → Reader B → Reader C → Reader D → (A → B → C → D → Event) → List (List ℕ)
-    → Result Event ScriptRefusal
-four_words first second third fourth event words = do
+    {A B C D R : Type 0} → Reader A → Reader B → Reader C → Reader D → (A → B → C → D → R) → List (List ℕ)
+    → Result R ScriptRefusal
+four_words first second third fourth value words = do
   a ← first (word_at 0 words)
   b ← second (word_at 1 words)
   c ← third (word_at 2 words)
   d ← fourth (word_at 3 words)
   end ← no_more_of (words_from 4 words)
-  Ok (event a b c d)
+  Ok (value a b c d)
 
 -- each word is a number
 abbrev pub numbers_of : ℕ → List (List ℕ) → Result (List ℕ) ScriptRefusal
@@ -78,7 +78,7 @@ numbers_of most [] = Ok []
 numbers_of most (word ∷ words) = number_of most word >>= λ n. numbers_of most words >>= λ ns. Ok (n ∷ ns)
 
 -- no more items than a line may have
-abbrev pub at_most_of : ℕ → List ℕ → Result (Unit {0}) ScriptRefusal
+abbrev pub at_most_of : {A : Type 0} → ℕ → List A → Result (Unit {0}) ScriptRefusal
 at_most_of most items = if nat_le (length items) most then Ok tt else Err TooMany
 
 -- the items of a claim are all read before they are counted

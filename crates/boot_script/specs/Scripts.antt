@@ -1,4 +1,4 @@
--- The list of events that a text says, or its first fault.
+-- What both scripts share, and the list of events that a text says, or its first fault.
 use Rattle.std.specs.Prelude.{ℕ, ◌+◌, Bool, true, List, [], ◌∷◌, length, Result, Ok, Err, nat_lt, ◌==◌}
 use Rattle.std.specs.Prelude.{if◌then◌else◌}
 use Rattle.std.specs.List.{list_all}
@@ -7,6 +7,8 @@ use Rattle.quaject_core.specs.declared.event.Event.{Event}
 use Rattle.boot_script.specs.declared.fault.ScriptRefusal.{ScriptRefusal}
 use Rattle.boot_script.specs.declared.fault.ScriptRefusal.TheVariants.{NotVersion, TooMany, NotAscii}
 use Rattle.boot_script.specs.declared.fault.ScriptFault.{ScriptFault}
+use Rattle.boot_script.specs.declared.version.Script.{Script}
+use Rattle.boot_script.specs.declared.version.Script.TheVariants.{Events}
 use Rattle.boot_script.specs.declared.version.Version.{Version}
 use Rattle.boot_script.specs.declared.version.Version.TheVariants.{One, Two, Three}
 use Rattle.boot_script.specs.Words.{◌>>=◌, lines_of}
@@ -32,25 +34,30 @@ events_from version number (line ∷ lines) =
     >>= λ event. events_from version (number + 1) lines
     >>= λ events. Ok ((number, event) ∷ events)
 
--- the version that the first line names
-unfoldable pub version_of : List ℕ → Result Version ScriptRefusal
-version_of line =
+-- the version that the first line of a script names
+unfoldable pub version_of : Script → List ℕ → Result Version ScriptRefusal
+version_of script line =
     if list_all is_printable line then
-    (if bytes_eq line (version_line One) then Ok One
-    else if bytes_eq line (version_line Two) then Ok Two
-    else if bytes_eq line (version_line Three) then Ok Three
+    (if bytes_eq line (version_line script One) then Ok One
+    else if bytes_eq line (version_line script Two) then Ok Two
+    else if bytes_eq line (version_line script Three) then Ok Three
     else Err NotVersion)
     else Err NotAscii
 
--- how many elements the version has, and the events of the lines behind the first
-unfoldable pub script_of : List (List ℕ) → Result (ℕ × List (ℕ × Event)) ScriptFault
-script_of [] = Err (record { line = 1; refusal = NotVersion })
-script_of (first ∷ lines) = do
-  version ← at_line 1 (version_of first)
-  events ← events_from version 2 lines
-  Ok (elements_of version, events)
+-- the version that the first line names, and the lines behind it
+unfoldable pub versioned : Script → List (List ℕ) → Result (Version × List (List ℕ)) ScriptFault
+versioned script [] = Err (record { line = 1; refusal = NotVersion })
+versioned script (first ∷ lines) = at_line 1 (version_of script first) >>= λ version. Ok (version, lines)
 
--- what a text says
+-- a text of at most 65,536 bytes: its version, and the lines behind the first
+unfoldable pub opening_of : Script → List ℕ → Result (Version × List (List ℕ)) ScriptFault
+opening_of script text =
+    if nat_lt 65536 (length text) then Err (record { line = 0; refusal = TooMany })
+    else versioned script (lines_of text)
+
+-- what a list of events says: how many elements its version has, and the events
 unfoldable pub text_events : List ℕ → Result (ℕ × List (ℕ × Event)) ScriptFault
-text_events text =
-    if nat_lt 65536 (length text) then Err (record { line = 0; refusal = TooMany }) else script_of (lines_of text)
+text_events text = do
+  opening ← opening_of Events text
+  events ← events_from opening.0 2 opening.1
+  Ok (elements_of opening.0, events)

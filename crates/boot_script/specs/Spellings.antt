@@ -9,6 +9,7 @@ use Rattle.quaject_core.specs.declared.event.Event.TheVariants.{Round, Leave, Ti
 use Rattle.quaject_core.specs.declared.event.Event.TheVariants.{Shut, WaitAt}
 use Rattle.quaject_core.specs.declared.names.QueueName.{QueueName}
 use Rattle.quaject_core.specs.declared.names.QueueName.TheVariants as queues
+use Rattle.boot_script.specs.declared.version.Script.TheVariants.{Events}
 use Rattle.boot_script.specs.declared.version.Version.{Version}
 use Rattle.boot_script.specs.Words.{lines_of}
 use Rattle.boot_script.specs.Versions.{elements_of, last_element, last_processor, last_wait, is_later, version_line}
@@ -144,4 +145,4 @@ Spells version number (line ∷ lines) events =
 abbrev pub SpellsText : List ℕ → ℕ → List (ℕ × Event) → Type 0
 SpellsText text elements events =
     (version : Version) × (lines : List (List ℕ)) × (elements ≡ elements_of version) × (length text ≤ 65536)
-    × (lines_of text ≡ version_line version ∷ lines) × Spells version 2 lines events
+    × (lines_of text ≡ version_line Events version ∷ lines) × Spells version 2 lines events

@@ -1,5 +1,7 @@
--- The versions of a list of events.
+-- The versions of both scripts.
 use Rattle.std.specs.Prelude.{ℕ, List, Bool, true, false, codes}
+use Rattle.boot_script.specs.declared.version.Script.{Script}
+use Rattle.boot_script.specs.declared.version.Script.TheVariants.{Events, Boot}
 use Rattle.boot_script.specs.declared.version.Version.{Version}
 use Rattle.boot_script.specs.declared.version.Version.TheVariants.{One, Two, Three}
 
@@ -33,8 +35,11 @@ is_later One = false
 is_later Two = true
 is_later Three = true
 
--- the first line of a list of events of a version
-abbrev pub version_line : Version → List ℕ
-version_line One = codes "events 1"
-version_line Two = codes "events 2"
-version_line Three = codes "events 3"
+-- the first line of a script of a version
+abbrev pub version_line : Script → Version → List ℕ
+version_line Events One = codes "events 1"
+version_line Events Two = codes "events 2"
+version_line Events Three = codes "events 3"
+version_line Boot One = codes "synthesis 1"
+version_line Boot Two = codes "synthesis 2"
+version_line Boot Three = codes "synthesis 3"

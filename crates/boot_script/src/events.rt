@@ -5,25 +5,16 @@
 
 ghost use Rattle.std.specs.Prelude.{◌≡◌, ◌≤◌, IfOk, length};
 ghost use Rattle.boot_script.specs.Words.{lines_of};
-ghost use Rattle.boot_script.specs.Scripts.{says_nothing, events_from, version_of, text_events};
+ghost use Rattle.boot_script.specs.Scripts.{events_from, text_events};
 ghost use Rattle.boot_script.specs.Answers.{Says};
 
-use crate::event_lines::{is_ascii, line_said};
+use crate::event_lines::line_said;
 use crate::fault::{ScriptFault, ScriptRefusal};
+use crate::opening::{is_silent, opening};
 use crate::text::first_line;
-use crate::version::Version;
+use crate::version::{Script, Version};
 use quaject_core::Event;
 use std::alloc::Global;
-
-/// How many bytes a script may have.
-pub(crate) const MOST_BYTES: usize = 65_536;
-
-/// An empty line and a comment say nothing.
-fn is_silent(line: &[u8]) -> bool
-    ensures { result ≡ says_nothing line.now }
-{
-    matches!(line, [] | [b'#', ..])
-}
 
 /// The events of the lines from line 2 on. After a refused growth the lines are still checked.
 fn events_said(
@@ -62,51 +53,17 @@ fn events_said(
     }
 }
 
-/// The version that the first line names.
-#[tactic(auto, unfolding(crate::specs::Scripts::version_of))]
-fn version_said(line: &[u8]) -> Result<Version, ScriptRefusal>
-    ensures { result ≡ version_of line.now }
-{
-    if !is_ascii(line) {
-        return Err(ScriptRefusal::NotAscii);
-    }
-    if line == b"events 1".as_slice() {
-        return Ok(Version::One);
-    }
-    if line == b"events 2".as_slice() {
-        return Ok(Version::Two);
-    }
-    if line == b"events 3".as_slice() {
-        return Ok(Version::Three);
-    }
-    Err(ScriptRefusal::NotVersion)
-}
-
 /// How many thread elements the version of the text has, and its events, each with the number of its line.
 ///
 /// The fault is the first of the text: the line at fault, or line 0 with `TooMany` where the text has more than 65,536
 /// bytes. Only where the text has no fault can a refused growth be the answer, as line 0 with `OutOfMemory`.
-#[tactic(auto, unfolding(crate::specs::Scripts::script_of, crate::specs::Scripts::text_events, crate::specs::Words::lines_of))]
+#[tactic(auto, unfolding(crate::specs::Scripts::text_events))]
 pub fn parse_events(alloc: Global, text: &[u8]) -> Result<(u8, Vec<(u32, Event)>), ScriptFault>
     ensures said { Says (λ script. (script.0, script.1.items)) result (text_events text.now) }
     ensures some { IfOk result (λ script. 1 ≤ script.0) }
     ensures within { IfOk result (λ script. script.0 ≤ 64) }
 {
-    if text.len() > MOST_BYTES {
-        return Err(ScriptFault {
-            line: 0,
-            refusal: ScriptRefusal::TooMany,
-        });
-    }
-    if text.is_empty() {
-        return Err(ScriptFault {
-            line: 1,
-            refusal: ScriptRefusal::NotVersion,
-        });
-    }
-    let (first, rest) = first_line(text);
-    match version_said(first) {
-        Ok(version) => Ok((version.elements(), events_said(alloc, version, rest)?)),
-        Err(refusal) => Err(ScriptFault { line: 1, refusal }),
-    }
+    let (version, rest) = opening(Script::Events, text)?;
+    let events = events_said(alloc, version, rest)?;
+    Ok((version.elements(), events))
 }

@@ -4,23 +4,41 @@
 //! core's status. Each text has one reading or one first fault, and each event one spelling.
 #![tactic(auto)]
 
+mod boot;
+pub mod boot_laws;
+mod boot_lines;
+mod boot_plan;
+mod boot_words;
 mod commands;
+mod declared_names;
+mod draft;
 mod event_lines;
 mod events;
 mod fault;
+mod fixed;
 pub mod laws;
 mod names;
+mod opening;
 mod outcome;
 mod page;
+pub mod plan;
 mod printing;
+pub mod report;
+mod report_printing;
 mod run;
 mod text;
+mod unescaping;
 mod version;
 
+pub use boot::parse_boot;
+pub use boot_plan::BootPlan;
 pub use events::parse_events;
 pub use fault::{ScriptFault, ScriptRefusal};
+pub use fixed::{Name, Text};
 pub use outcome::{ReplayFault, Replayed};
 pub use printing::{print_refused, print_status};
+pub use report::Report;
+pub use report_printing::print_report;
 pub use run::{replay, replay_on};
 pub use version::Version;
 

@@ -4,6 +4,8 @@
 
 ghost use Rattle.std.specs.Prelude.{◌≡◌, ◌≤◌, IfOk, IfErr};
 ghost use Rattle.boot_script.specs.Names.{numbered_name, call_of, processor_of, element_of, gauge_of, signal_of};
+ghost use Rattle.boot_script.specs.Versions.{last_wait};
+ghost use Rattle.boot_script.specs.Words.{number_of};
 ghost use Rattle.boot_script.specs.Names.{slot_of, byte_queue_of, chain_of, wait_of, queue_of, listener_of};
 
 use crate::fault::ScriptRefusal;
@@ -80,6 +82,15 @@ pub(crate) fn signal(word: &[u8]) -> Result<Signal, ScriptRefusal>
 {
     let number = number(word, 15)? as u8;
     Signal::new(number).ok_or(ScriptRefusal::BadNumber)
+}
+
+/// A wait queue of the version by its number alone, 0 to its last. Else BadNumber.
+pub(crate) fn wait_number(version: Version, word: &[u8]) -> Result<WaitNumber, ScriptRefusal>
+    ensures exact { result ≡ number_of (last_wait version) word.now }
+    ensures refused { IfErr result (λ refusal. refusal ≡ ScriptRefusal.BadNumber) }
+{
+    let number = number(word, u64::from(version.last_wait()))? as u8;
+    WaitNumber::new(number).ok_or(ScriptRefusal::BadNumber)
 }
 
 /// A slot of an alarm, 0 to 15. Else BadNumber.

@@ -125,7 +125,7 @@ fn digit_of(nibble: u8) -> u8
 
 /// The four digits of a set of signals.
 #[tactic(auto, unfolding(crate::specs::Printed::hex_digits))]
-fn digits_of(signals: u16) -> [u8; 4]
+pub(crate) fn digits_of(signals: u16) -> [u8; 4]
     ensures { result ≡ hex_digits signals }
 {
     [

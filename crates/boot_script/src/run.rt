@@ -7,8 +7,9 @@ ghost use Rattle.quaject_core.specs.ShownCores.{state};
 ghost use Rattle.boot_script.specs.Scripts.{text_events};
 ghost use Rattle.boot_script.specs.Replays.{Replays, replay_text, IsReplay, IsAnswer, IsReplayFault, Ends};
 
-use crate::events::{MOST_BYTES, parse_events};
+use crate::events::parse_events;
 use crate::fault::ScriptRefusal;
+use crate::opening::MOST_BYTES;
 use crate::outcome::{ReplayFault, Replayed};
 use crate::printing::{print_refused, print_status};
 use quaject_core::{Core, Event, Refusal, Status};

@@ -4,6 +4,7 @@
 
 ghost use Rattle.std.specs.Prelude.{◌≡◌, ◌∷◌, ◌<◌, ◌↔◌, ◌==◌, IsTrue, [], position, ◌≤◌, IfOk, IfErr, length, IfSome};
 ghost use Rattle.std.specs.Prelude.{IfNone};
+ghost use Rattle.std.specs.List.{join_with_byte};
 ghost use Rattle.std.specs.Option.{option_copied};
 ghost use Rattle.boot_script.specs.Words.{pieces, pieces_left, first_word, later_words, words_of, number_of, lines_of};
 
@@ -19,7 +20,7 @@ fn place_of(bytes: &[u8], separator: u8) -> Option<usize>
 
 /// The bytes before the first separator, and those behind it where there is one.
 #[tactic(auto, using(crate::proofs::Cuts::cut_at, crate::proofs::Cuts::cut_nowhere))]
-fn cut(bytes: &[u8], separator: u8) -> (&[u8], Option<&[u8]>)
+pub(crate) fn cut(bytes: &[u8], separator: u8) -> (&[u8], Option<&[u8]>)
     ensures pieces { pieces separator bytes.now ≡ result.0.now ∷ pieces_left separator (option_copied result.1) }
     ensures shorter { IfSome result.1 (λ rest. length rest.now < length bytes.now) }
     ensures whole { IfNone result.1 (result.0.now ≡ bytes.now) }
@@ -66,6 +67,16 @@ impl<'a> Words<'a> {
                 self.rest = rest;
                 word
             }
+        }
+    }
+
+    /// The words that are left, with the spaces between them.
+    pub(crate) fn text(&self) -> &'a [u8]
+        ensures { result.now ≡ join_with_byte 32 self.now }
+    {
+        match self.rest {
+            None => &[],
+            Some(bytes) => bytes,
         }
     }
 

@@ -1,20 +1,48 @@
-//! The versions of a list of events. Later versions have more words, names and thread elements.
+//! The versions of both scripts. Later versions have more words, names and thread elements.
 
 ghost use Rattle.std.specs.Prelude.{◌≡◌};
 
-/// A version of the list of events. Its first line names it.
+/// A kind of script.
+#[derive(Clone, Copy, Debug, PartialEq, Eq)]
+pub enum Script {
+    /// A list of events, to be replayed.
+    Events,
+    /// A boot script.
+    Boot,
+}
+
+/// A version of a script. Its first line names it.
 #[derive(Clone, Copy, Debug, PartialEq, Eq)]
 pub enum Version {
-    /// `events 1`
+    /// `events 1`, `synthesis 1`
     One,
-    /// `events 2`
+    /// `events 2`, `synthesis 2`
     Two,
-    /// `events 3`
+    /// `events 3`, `synthesis 3`
     Three,
 }
 
 impl Version {
     ghost use Rattle.boot_script.specs.Versions.{elements_of, is_later, last_element, last_processor, last_wait};
+    ghost use Rattle.boot_script.specs.Versions.{version_line};
+
+    /// The first line of a script of this version.
+    pub(crate) fn line(self, script: Script) -> &'static [u8]
+        ensures { result.now ≡ version_line script self }
+    {
+        match script {
+            Script::Events => match self {
+                Version::One => b"events 1",
+                Version::Two => b"events 2",
+                Version::Three => b"events 3",
+            },
+            Script::Boot => match self {
+                Version::One => b"synthesis 1",
+                Version::Two => b"synthesis 2",
+                Version::Three => b"synthesis 3",
+            },
+        }
+    }
 
     /// How many thread elements the version's core has.
     pub fn elements(self) -> u8

@@ -1,7 +1,8 @@
 //! A list of items.
 
-ghost use Rattle.std.specs.Prelude.{◌≡◌, List};
+ghost use Rattle.std.specs.Prelude.{◌≡◌, ◌++◌, ◌∷◌, [], List, IfErr, OnOk, OnErr};
 
+use std::alloc::AllocFailed;
 use std::marker::Model;
 
 /// Any number of items, in their order: those of a claim, or the numbers of each queue, chain or element. Contracts see
@@ -23,6 +24,15 @@ impl<T> Items<T> {
         ensures { result ≡ items.items }
     {
         Items { items }
+    }
+
+    /// Appends an item. Where a growth is refused the item comes back, and the list stays as it is.
+    pub fn push(&mut self, item: T) -> Result<(), AllocFailed<T>>
+        ensures pushed { OnOk result (self.new ≡ self.old ++ item ∷ []) }
+        ensures same { OnErr result (self.new ≡ self.old) }
+        ensures back { IfErr result (λ refused. refused.value ≡ item) }
+    {
+        self.items.push(item)
     }
 
     /// The items in their order.

@@ -28,7 +28,7 @@ use quaject_core::Event;
 use std::alloc::Global;
 
 /// No word is left; else UnknownWord.
-fn no_more(words: &Words) -> Result<(), ScriptRefusal>
+pub(crate) fn no_more(words: &Words) -> Result<(), ScriptRefusal>
     ensures exact { result ≡ no_more_of words.now }
     ensures refused { IfErr result (λ refusal. refusal ≡ ScriptRefusal.UnknownWord) }
 {

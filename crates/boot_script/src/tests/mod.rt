@@ -4,9 +4,11 @@ use std::alloc::Global;
 use std::io;
 use std::io::Write;
 
+mod boots;
 mod printing;
 mod reading;
 mod replays;
+mod reports;
 
 /// Keeps the bytes of all writes, and counts the writes and those that end with the end of a line.
 #[derive(Drop)]

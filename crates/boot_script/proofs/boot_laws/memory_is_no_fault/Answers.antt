@@ -1,0 +1,5 @@
+use Rattle.boot_script.proofs.BootFaults.{text_plan_known}
+use Rattle.boot_script.proofs.boot_laws.memory_is_no_fault.Goals as goal
+
+pub returns : goal.returns
+returns c = text_plan_known

@@ -1,0 +1,5 @@
+use Rattle.boot_script.proofs.BootAgain.{boot_line_again}
+use Rattle.boot_script.proofs.boot_laws.read_again.Goals as goal
+
+pub returns : goal.returns
+returns c = boot_line_again

@@ -1,0 +1,5 @@
+use Rattle.boot_script.proofs.PlanLimits.{plan_within}
+use Rattle.boot_script.proofs.boot_laws.within_limits.Goals as goal
+
+pub returns : goal.returns
+returns c = plan_within

@@ -1,0 +1,24 @@
+use Rattle.std.proofs.Common.{◌≡◌, ap, sym, ◌∙◌, get_or}
+use Rattle.std.specs.Str.{bytes_eq}
+use Rattle.boot_script.specs.declared.boot_words.BootWord.TheVariants.{Queue}
+use Rattle.boot_script.specs.BootWords.{boot_word, boot_words}
+use Rattle.boot_script.proofs.BootNamed.{word_more, word_here, word_nowhere}
+use Rattle.boot_script.proofs.boot_words.named_word.Goals as goal
+
+pub loop-known-preserved : goal.loop-known-preserved
+unfolding boot_words
+loop-known-preserved c =
+    let w : c.word.result.now ≡ boot_word (get_or boot_words c.loop-known.known-index Queue) = c.word.ensures in
+    let other = ap (bytes_eq c.args.word.now) (sym w) ∙ (sym c.eq.ensures ∙ c.if-eq.false) in
+    sym (word_more c.args.word.now boot_words c.loop-known.known-index Queue c.loop-known-test.true other) ∙ c.loop-known.invariant
+
+pub returns-then-eq-clause-exact : goal.returns-then-eq-clause-exact
+unfolding boot_words
+returns-then-eq-clause-exact c =
+    let w : c.word.result.now ≡ boot_word (get_or boot_words c.loop-known.known-index Queue) = c.word.ensures in
+    let same = ap (bytes_eq c.args.word.now) (sym w) ∙ (sym c.eq.ensures ∙ c.if-eq.true) in
+    sym (word_here c.args.word.now boot_words c.loop-known.known-index Queue c.loop-known-test.true same) ∙ c.loop-known.invariant
+
+pub returns-clause-exact : goal.returns-clause-exact
+unfolding boot_words
+returns-clause-exact c = sym (word_nowhere c.args.word.now boot_words c.loop-known.known-index c.loop-known-test.false) ∙ c.loop-known.invariant

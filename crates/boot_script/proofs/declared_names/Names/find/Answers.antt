@@ -1,0 +1,31 @@
+use Rattle.std.proofs.Common.{◌≡◌, refl, sym, ap, ◌∙◌, get_or, length, true, false, ℕ, Ok, Err}
+use Rattle.std.specs.Str.{bytes_eq}
+use Rattle.boot_script.specs.BootNames.{same_kind, if_kind, find}
+use Rattle.boot_script.proofs.NamesSoFar.{find_more, find_here, find_nowhere, within_kind}
+use Rattle.boot_script.proofs.declared_names.Names.find.Goals as goal
+
+pub loop-named-preserved : goal.loop-named-preserved
+loop-named-preserved c =
+    let names = c.as_slice-named-items.result.now in
+    let other : bytes_eq c.args.name.now c.named-item.result.name ≡ false = ap (bytes_eq c.args.name.now) (sym c.as_slice.ensures.bytes) ∙ (sym c.eq.ensures ∙ c.if-eq.false) in
+    sym (find_more c.args.kind c.args.name.now names c.loop-named.named-index c.named-item.result c.loop-named-test.true (ap (λ n. bytes_eq c.args.name.now n.name) (sym c.named-item.is) ∙ other)) ∙ c.loop-named.invariant
+
+pub returns-then-is-clause-exact : goal.returns-then-is-clause-exact
+returns-then-is-clause-exact c =
+    let names = c.as_slice-named-items.result.now in
+    let same : bytes_eq c.args.name.now c.named-item.result.name ≡ true = ap (bytes_eq c.args.name.now) (sym c.as_slice.ensures.bytes) ∙ (sym c.eq.ensures ∙ c.if-eq.true) in
+    let here = find_here c.args.kind c.args.name.now names c.loop-named.named-index c.named-item.result c.loop-named-test.true (ap (λ n. bytes_eq c.args.name.now n.name) (sym c.named-item.is) ∙ same) in
+    let kind : if_kind c.args.kind c.named-item.result ≡ Ok c.named-item.result.number = rw (sym c.is.ensures ∙ c.if-is.true) refl in
+    sym (sym c.loop-named.invariant ∙ (here ∙ (ap (if_kind c.args.kind) (sym c.named-item.is) ∙ kind)))
+
+pub returns-else-is-clause-exact : goal.returns-else-is-clause-exact
+returns-else-is-clause-exact c =
+    let names = c.as_slice-named-items.result.now in
+    let same : bytes_eq c.args.name.now c.named-item.result.name ≡ true = ap (bytes_eq c.args.name.now) (sym c.as_slice.ensures.bytes) ∙ (sym c.eq.ensures ∙ c.if-eq.true) in
+    let here = find_here c.args.kind c.args.name.now names c.loop-named.named-index c.named-item.result c.loop-named-test.true (ap (λ n. bytes_eq c.args.name.now n.name) (sym c.named-item.is) ∙ same) in
+    let kind : if_kind c.args.kind c.named-item.result ≡ Err _ = rw (sym c.is.ensures ∙ c.if-is.false) refl in
+    sym (sym c.loop-named.invariant ∙ (here ∙ (ap (if_kind c.args.kind) (sym c.named-item.is) ∙ kind)))
+
+pub returns-clause-exact : goal.returns-clause-exact
+returns-clause-exact c =
+    sym (sym c.loop-named.invariant ∙ find_nowhere c.args.kind c.args.name.now c.as_slice-named-items.result.now c.loop-named.named-index c.loop-named-test.false)

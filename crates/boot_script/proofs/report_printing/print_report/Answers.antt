@@ -1,0 +1,23 @@
+use Rattle.std.proofs.Common.{append_assoc}
+use Rattle.boot_script.specs.Reports.{report_text}
+use Rattle.boot_script.proofs.KnownBytes.{appends_join}
+use Rattle.boot_script.proofs.Buffers.{then_written_out}
+use Rattle.boot_script.proofs.report_printing.print_report.Goals as goal
+
+pub returns : goal.returns
+unfolding report_text
+returns g c =
+    let ttys = appends_join _ _ _ _ _ c.in_ok-put_all.ensures c.in_ok-put_all-2.ensures in
+    let movers = appends_join _ _ _ _ _ ttys c.in_ok-put_all-3.ensures in
+    let gauges = appends_join _ _ _ _ _ movers c.in_ok-put_all-4.ensures in
+    let alarms = appends_join _ _ _ _ _ gauges c.in_ok-put.ensures in
+    let threads = appends_join _ _ _ _ _ alarms c.in_ok-put_all-5.ensures in
+    let heard = appends_join _ _ _ _ _ threads c.in_ok-put_all-6.ensures in
+    let chained = appends_join _ _ _ _ _ heard c.in_ok-put-2.ensures in
+    let shown-queues = c.as_slice.ensures in
+    let shown-ttys = c.as_slice-2.ensures in
+    let shown-movers = c.as_slice-3.ensures in
+    let shown-gauges = c.as_slice-4.ensures in
+    let shown-threads = c.as_slice-5.ensures in
+    let shown-heard = c.as_slice-6.ensures in
+    then_written_out c.write_out.result _ _ _ _ _ _ _ c.new-buffer.ensures chained (simp (append_assoc, shown-queues, shown-ttys, shown-movers, shown-gauges, shown-threads, shown-heard)) c.write_out.ensures.text

@@ -1,0 +1,9 @@
+use Rattle.std.proofs.Common.{append_assoc}
+use Rattle.boot_script.specs.Reports.{tty_line}
+use Rattle.boot_script.proofs.KnownBytes.{then_appends}
+use Rattle.boot_script.proofs.report_printing.print_tty.Goals as goal
+
+pub returns : goal.returns
+unfolding tty_line
+returns g c =
+    then_appends c.writeln.result _ _ _ _ _ _ c.in_ok-print_named.ensures c.writeln.ensures.bytes (simp append_assoc)

@@ -1,0 +1,79 @@
+//! Boot scripts: a line that names the version, and then declarations and the steps of threads, one a line.
+//!
+//! Empty lines and comments, which begin with `#`, say nothing. The first line at fault decides, and want of memory is
+//! told only where no line is at fault.
+
+ghost use Rattle.std.specs.Prelude.{◌≡◌, ◌≤◌, length};
+ghost use Rattle.boot_script.specs.Words.{lines_of};
+ghost use Rattle.boot_script.specs.Plans.{first_draft, plan_from, plan_only, text_plan};
+ghost use Rattle.boot_script.specs.Answers.{Says};
+ghost use Rattle.boot_script.specs.BootPlans.{plan_of};
+ghost use Rattle.boot_script.specs.Drafts.{kept_plan};
+ghost use Rattle.boot_script.specs.PlanLimits.{IsPlan};
+
+use crate::boot_plan::BootPlan;
+use crate::draft::Draft;
+use crate::fault::{ScriptFault, ScriptRefusal};
+use crate::opening::{is_silent, opening};
+use crate::text::first_line;
+use crate::version::{Script, Version};
+use quaject_core::Items;
+use std::alloc::Global;
+
+/// The plan that was kept.
+fn plan_kept(draft: Draft) -> BootPlan
+    requires { IsPlan (kept_plan draft) }
+    ensures { plan_of result ≡ kept_plan draft }
+{
+    BootPlan {
+        queues: Items::new(draft.queues),
+        ttys: Items::new(draft.ttys),
+        movers: Items::new(draft.movers),
+        gauges: Items::new(draft.gauges),
+        alarms: Items::new(draft.alarms),
+        threads: Items::new(draft.threads),
+    }
+}
+
+/// What the lines from line 2 on say. After a refused growth the lines are still checked.
+fn plan_said(alloc: Global, version: Version, text: &[u8]) -> Result<BootPlan, ScriptFault>
+    requires { length text.now ≤ 65536 }
+    ensures { Says plan_of result (plan_only (plan_from version 2 (lines_of text.now) first_draft)) }
+{
+    let mut draft = Draft::new(alloc);
+    let mut rest = text;
+    let mut line_number: u32 = 2;
+    while !rest.is_empty() {
+        let (line, after) = first_line(rest);
+        if !is_silent(line) {
+            match draft.add_line(alloc, version, line) {
+                Ok(()) => {}
+                Err(refusal) => {
+                    return Err(ScriptFault {
+                        line: line_number,
+                        refusal,
+                    });
+                }
+            }
+        }
+        line_number += 1;
+        rest = after;
+    }
+    if draft.kept {
+        Ok(plan_kept(draft))
+    } else {
+        Err(ScriptFault::NO_MEMORY)
+    }
+}
+
+/// The plan that a boot script says.
+///
+/// The fault is the first of the text: the line at fault, or line 0 with `TooMany` where the text has more than 65,536
+/// bytes. Only where the text has no fault can a refused growth be the answer, as line 0 with `OutOfMemory`.
+#[tactic(auto, unfolding(crate::specs::Plans::text_plan))]
+pub fn parse_boot(alloc: Global, text: &[u8]) -> Result<BootPlan, ScriptFault>
+    ensures { Says plan_of result (text_plan text.now) }
+{
+    let (version, rest) = opening(Script::Boot, text)?;
+    plan_said(alloc, version, rest)
+}

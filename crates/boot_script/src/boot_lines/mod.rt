@@ -1,0 +1,101 @@
+//! What a line of a boot script says.
+//!
+//! A line is a word and what stands behind it. Each word has a function, which reads the words behind it from left to
+//! right, so that the first one at fault decides. What can be told only behind all of them, that there is no room for one
+//! more, is told where the line is added to the plan.
+
+ghost use Rattle.std.specs.Prelude.{◌≡◌};
+ghost use Rattle.boot_script.specs.BootLines.{line_of, boot_line};
+
+mod declarations;
+mod movers;
+mod steps;
+
+use crate::boot_lines::declarations::{
+    alarm_said, gauge_said, more_said, pipe_said, queue_said, thread_said, tty_said, type_said,
+};
+use crate::boot_lines::movers::{pump_said, switch_said};
+use crate::boot_lines::steps::{
+    close_said, hear_said, pass_said, poke_said, say_said, signal_said, start_said, stop_said,
+    tick_said, wait_said, wake_said,
+};
+use crate::boot_words::{BootWord, line_word};
+use crate::declared_names::{Names, TtyNumber};
+use crate::event_lines::is_ascii;
+use crate::fault::ScriptRefusal;
+use crate::fixed::{Name, Text};
+use crate::plan::{PlannedMover, PlannedQueue, Step};
+use crate::text::Words;
+use crate::version::Version;
+use quaject_core::{Alarm, Element};
+
+/// What a line declares, or a step.
+#[derive(Drop)]
+pub(crate) enum Line {
+    /// A queue or pipe.
+    Queue(PlannedQueue),
+    Tty(Name),
+    /// What the device of a tty types.
+    Types { tty: TtyNumber, text: Text<1024> },
+    /// A pump or switch.
+    Mover(PlannedMover),
+    Gauge(Name),
+    Alarm(Alarm),
+    Thread(Name),
+    /// The program of this thread goes on.
+    More(Element),
+    Step(Step),
+}
+
+/// What a word and those behind it say.
+#[tactic(auto, unfolding(crate::specs::BootLines::line_of))]
+fn word_said(
+    version: Version,
+    names: &Names,
+    word: BootWord,
+    words: &mut Words,
+) -> Result<Line, ScriptRefusal>
+    ensures { result ≡ line_of version names.now word words.old }
+{
+    match word {
+        BootWord::Queue => queue_said(names, words),
+        BootWord::Pipe => pipe_said(version, names, words),
+        BootWord::Tty => tty_said(names, words),
+        BootWord::Types => type_said(names, words),
+        BootWord::Pump => pump_said(names, words),
+        BootWord::Switch => switch_said(names, words),
+        BootWord::Gauge => gauge_said(names, words),
+        BootWord::Alarm => alarm_said(names, words),
+        BootWord::Thread => thread_said(names, words),
+        BootWord::More => more_said(names, words),
+        BootWord::Say => say_said(names, words),
+        BootWord::Hear => hear_said(names, words),
+        BootWord::Wait => wait_said(version, words),
+        BootWord::Wake => wake_said(version, words),
+        BootWord::Signal => signal_said(names, words),
+        BootWord::Stop => stop_said(names, words),
+        BootWord::Start => start_said(names, words),
+        BootWord::Tick => tick_said(names, words),
+        BootWord::Poke => poke_said(names, words),
+        BootWord::Pass => pass_said(words),
+        BootWord::Close => close_said(names, words),
+    }
+}
+
+/// What a line says, where a thread's program goes on or none does, or why it is refused.
+#[tactic(auto, unfolding(crate::specs::BootLines::boot_line))]
+pub(crate) fn line_said(
+    version: Version,
+    names: &Names,
+    going: bool,
+    line: &[u8],
+) -> Result<Line, ScriptRefusal>
+    ensures { result ≡ boot_line version names.now going line.now }
+{
+    if !is_ascii(line) {
+        return Err(ScriptRefusal::NotAscii);
+    }
+    let mut words = Words::new(line);
+    let word = line_word(version, going, words.next_word())?;
+    word_said(version, names, word, &mut words)
+}

@@ -1,0 +1,149 @@
+//! The words of a boot script: the first word of each line that says something.
+
+ghost use Rattle.std.specs.Prelude.{◌≡◌, IfErr};
+ghost use Rattle.boot_script.specs.BootWords.{boot_word, boot_words, word_named, is_step, has_word, boot_word_of};
+
+use crate::fault::ScriptRefusal;
+use crate::version::Version;
+
+/// What a line of a boot script declares, or what a thread does.
+#[derive(Clone, Copy, Debug)]
+pub(crate) enum BootWord {
+    Queue,
+    Pipe,
+    Tty,
+    Types,
+    Pump,
+    Switch,
+    Gauge,
+    Alarm,
+    Thread,
+    More,
+    Say,
+    Hear,
+    Wait,
+    Wake,
+    Signal,
+    Stop,
+    Start,
+    Tick,
+    Poke,
+    Pass,
+    Close,
+}
+
+/// All words.
+const BOOT_WORDS: [BootWord; 21] = [
+    BootWord::Queue,
+    BootWord::Pipe,
+    BootWord::Tty,
+    BootWord::Types,
+    BootWord::Pump,
+    BootWord::Switch,
+    BootWord::Gauge,
+    BootWord::Alarm,
+    BootWord::Thread,
+    BootWord::More,
+    BootWord::Say,
+    BootWord::Hear,
+    BootWord::Wait,
+    BootWord::Wake,
+    BootWord::Signal,
+    BootWord::Stop,
+    BootWord::Start,
+    BootWord::Tick,
+    BootWord::Poke,
+    BootWord::Pass,
+    BootWord::Close,
+];
+
+impl BootWord {
+    /// How the word is written.
+    fn word(self) -> &'static [u8]
+        ensures { result.now ≡ boot_word self }
+    {
+        match self {
+            BootWord::Queue => b"queue",
+            BootWord::Pipe => b"pipe",
+            BootWord::Tty => b"tty",
+            BootWord::Types => b"type",
+            BootWord::Pump => b"pump",
+            BootWord::Switch => b"switch",
+            BootWord::Gauge => b"gauge",
+            BootWord::Alarm => b"alarm",
+            BootWord::Thread => b"thread",
+            BootWord::More => b"more",
+            BootWord::Say => b"say",
+            BootWord::Hear => b"hear",
+            BootWord::Wait => b"wait",
+            BootWord::Wake => b"wake",
+            BootWord::Signal => b"signal",
+            BootWord::Stop => b"stop",
+            BootWord::Start => b"start",
+            BootWord::Tick => b"tick",
+            BootWord::Poke => b"poke",
+            BootWord::Pass => b"pass",
+            BootWord::Close => b"close",
+        }
+    }
+
+    /// Whether it is a step of a thread.
+    fn is_step(self) -> bool
+        ensures { result ≡ is_step self }
+    {
+        match self {
+            BootWord::Queue
+            | BootWord::Pipe
+            | BootWord::Tty
+            | BootWord::Types
+            | BootWord::Pump
+            | BootWord::Switch
+            | BootWord::Gauge
+            | BootWord::Alarm
+            | BootWord::Thread
+            | BootWord::More => false,
+            _ => true,
+        }
+    }
+
+    /// Whether a version has this word, where a thread's program goes on or none does.
+    fn is_in(self, version: Version, going: bool) -> bool
+        ensures { result ≡ has_word version going self }
+    {
+        match self {
+            BootWord::Close => version.is_later() && going,
+            _ => going || !self.is_step(),
+        }
+    }
+}
+
+/// The word that is written so, in whatever version. Else UnknownWord.
+fn named_word(word: &[u8]) -> Result<BootWord, ScriptRefusal>
+    ensures exact { result ≡ word_named word.now boot_words }
+    ensures refused { IfErr result (λ refusal. refusal ≡ ScriptRefusal.UnknownWord) }
+{
+    for known in BOOT_WORDS {
+        if word == known.word() {
+            return Ok(known);
+        }
+    }
+    Err(ScriptRefusal::UnknownWord)
+}
+
+/// The first word of a line of this version, where a thread's program goes on or none does. Else UnknownWord.
+#[tactic(auto, unfolding(crate::specs::BootWords::boot_word_of))]
+pub(crate) fn line_word(
+    version: Version,
+    going: bool,
+    word: &[u8],
+) -> Result<BootWord, ScriptRefusal>
+    ensures exact { result ≡ boot_word_of version going word.now }
+    ensures refused { IfErr result (λ refusal. refusal ≡ ScriptRefusal.UnknownWord) }
+{
+    let known = named_word(word)?;
+    if known.is_in(version, going) {
+        Ok(known)
+    } else {
+        Err(ScriptRefusal::UnknownWord)
+    }
+}

@@ -1,0 +1,357 @@
+//! What is printed of a report. Nothing here takes memory.
+//!
+//! Lines are gathered in a buffer, which is written out where the next lines don't fit, so that a report goes out in
+//! few writes, each of whole lines.
+
+ghost use Rattle.std.specs.Prelude.{◌≡◌, ◌<◌, ℕ, List, [], OnOk};
+ghost use Rattle.std.specs.Io.KnownBytes.{Appends, append_known};
+ghost use Rattle.std.specs.List.{flat_map};
+ghost use Rattle.boot_script.specs.Reports.{named, counts_words, queue_word, queue_line, tty_queue, tty_line};
+ghost use Rattle.boot_script.specs.Reports.{tty_lines, mover_word, mover_line, gauge_line, alarms_line, state_word};
+ghost use Rattle.boot_script.specs.Reports.{signals_words, thread_line, stands_for_itself, upper_digit, written_byte};
+ghost use Rattle.boot_script.specs.Reports.{heard_text, heard_line, chained_line, report_text};
+
+use crate::fixed::Name;
+use crate::printing::digits_of;
+use crate::report::{
+    AlarmCounts, GaugeLine, HeardLine, ItemCounts, MoverKind, MoverLine, QueueKind, QueueLine,
+    Report, ThreadLine, ThreadState, TtyLines,
+};
+use arrayvec::ArrayVec;
+use std::io;
+use std::io::Write;
+
+/// Lines that go out in one write.
+type Buffer = ArrayVec<u8, 8192>;
+
+/// What has lines in a report.
+trait Lines {
+    /// The bytes of its lines.
+    ghost text: { Self → List ℕ };
+
+    /// Prints its lines.
+    fn print<W: Write>(&self, out: &mut W) -> io::Result<()>
+        ensures { OnOk result (Appends (W.contents out.old) (W.contents out.new) (text self.now)) };
+}
+
+/// A line's first word, and a name.
+#[tactic(auto, unfolding(crate::specs::Reports::named))]
+fn print_named<W: Write>(word: &'static str, name: &Name, out: &mut W) -> io::Result<()>
+    ensures { OnOk result (Appends (W.contents out.old) (W.contents out.new) (named word.now name.now)) }
+{
+    write!(out, "{word} ")?;
+    out.write_all(name.as_slice())
+}
+
+/// The counts of a queue, which end its line.
+#[tactic(auto, unfolding(crate::specs::Reports::counts_words))]
+fn print_counts<W: Write>(items: ItemCounts, out: &mut W) -> io::Result<()>
+    ensures { OnOk result (Appends (W.contents out.old) (W.contents out.new) (counts_words items)) }
+{
+    let put = items.put;
+    let taken = items.taken;
+    let left = items.left;
+    writeln!(out, " put {put} taken {taken} left {left}")
+}
+
+/// The word that declares a queue or a pipe.
+fn word_of_queue(kind: QueueKind) -> &'static str
+    ensures { result.now ≡ queue_word kind }
+{
+    match kind {
+        QueueKind::Queue => "queue",
+        QueueKind::Pipe => "pipe",
+    }
+}
+
+impl Lines for QueueLine {
+    ghost text = { queue_line };
+
+    #[tactic(auto, unfolding(crate::specs::Reports::queue_line))]
+    fn print<W: Write>(&self, out: &mut W) -> io::Result<()> {
+        print_named(word_of_queue(self.kind), &self.name, out)?;
+        print_counts(self.items, out)
+    }
+}
+
+/// The line of one queue of a tty.
+#[tactic(auto, unfolding(crate::specs::Reports::tty_queue))]
+fn print_tty_queue<W: Write>(
+    name: &Name,
+    queue: &'static str,
+    items: ItemCounts,
+    out: &mut W,
+) -> io::Result<()>
+    ensures { OnOk result (Appends (W.contents out.old) (W.contents out.new) (tty_queue name.now queue.now items)) }
+{
+    print_named("tty", name, out)?;
+    write!(out, " {queue}")?;
+    print_counts(items, out)
+}
+
+/// The first line of a tty.
+#[tactic(auto, unfolding(crate::specs::Reports::tty_line))]
+fn print_tty<W: Write>(tty: &TtyLines, out: &mut W) -> io::Result<()>
+    ensures { OnOk result (Appends (W.contents out.old) (W.contents out.new) (tty_line tty.now)) }
+{
+    let typed = tty.typed;
+    let overrun = tty.overrun;
+    let notes = tty.notes;
+    let held = tty.held;
+    print_named("tty", &tty.name, out)?;
+    writeln!(
+        out,
+        " typed {typed} overrun {overrun} notes {notes} held {held}"
+    )
+}
+
+impl Lines for TtyLines {
+    ghost text = { tty_lines };
+
+    #[tactic(auto, unfolding(crate::specs::Reports::tty_lines))]
+    fn print<W: Write>(&self, out: &mut W) -> io::Result<()> {
+        print_tty(self, out)?;
+        print_tty_queue(&self.name, "raw", self.raw, out)?;
+        print_tty_queue(&self.name, "line", self.line, out)?;
+        print_tty_queue(&self.name, "screen", self.screen, out)
+    }
+}
+
+/// The word that declares a pump or a switch.
+fn word_of_mover(kind: MoverKind) -> &'static str
+    ensures { result.now ≡ mover_word kind }
+{
+    match kind {
+        MoverKind::Pump => "pump",
+        MoverKind::Switch => "switch",
+    }
+}
+
+impl Lines for MoverLine {
+    ghost text = { mover_line };
+
+    #[tactic(auto, unfolding(crate::specs::Reports::mover_line))]
+    fn print<W: Write>(&self, out: &mut W) -> io::Result<()> {
+        let notes = self.notes;
+        let taken = self.taken;
+        let put = self.put;
+        let held = self.held;
+        print_named(word_of_mover(self.kind), &self.name, out)?;
+        writeln!(out, " notes {notes} taken {taken} put {put} held {held}")
+    }
+}
+
+impl Lines for GaugeLine {
+    ghost text = { gauge_line };
+
+    #[tactic(auto, unfolding(crate::specs::Reports::gauge_line))]
+    fn print<W: Write>(&self, out: &mut W) -> io::Result<()> {
+        let value = self.value;
+        print_named("gauge", &self.name, out)?;
+        writeln!(out, " {value}")
+    }
+}
+
+impl Lines for AlarmCounts {
+    ghost text = { alarms_line };
+
+    #[tactic(auto, unfolding(crate::specs::Reports::alarms_line))]
+    fn print<W: Write>(&self, out: &mut W) -> io::Result<()> {
+        let set = self.set;
+        let fired = self.fired;
+        let left = self.left;
+        if set == 0 {
+            return Ok(());
+        }
+        writeln!(out, "alarms set {set} fired {fired} left {left}")
+    }
+}
+
+/// The word of a thread's state.
+fn print_state<W: Write>(state: ThreadState, out: &mut W) -> io::Result<()>
+    ensures { OnOk result (Appends (W.contents out.old) (W.contents out.new) (state_word state)) }
+{
+    match state {
+        ThreadState::Ended => write!(out, "ended"),
+        ThreadState::Ready => write!(out, "ready"),
+        ThreadState::Wait(wait) => {
+            let number = wait.number();
+            write!(out, "wait{number}")
+        }
+        ThreadState::Stopped => write!(out, "stopped"),
+        ThreadState::Held => write!(out, "held"),
+    }
+}
+
+/// The signals that were delivered, where one was.
+#[tactic(auto, unfolding(crate::specs::Reports::signals_words))]
+fn print_signals<W: Write>(signals: u16, out: &mut W) -> io::Result<()>
+    ensures { OnOk result (Appends (W.contents out.old) (W.contents out.new) (signals_words signals)) }
+{
+    if signals == 0 {
+        return Ok(());
+    }
+    write!(out, " signals ")?;
+    out.write_all(digits_of(signals).as_slice())
+}
+
+impl Lines for ThreadLine {
+    ghost text = { thread_line };
+
+    #[tactic(auto, unfolding(crate::specs::Reports::thread_line))]
+    fn print<W: Write>(&self, out: &mut W) -> io::Result<()> {
+        let steps = self.steps;
+        print_named("thread", &self.name, out)?;
+        write!(out, " ")?;
+        print_state(self.state, out)?;
+        write!(out, " {steps}")?;
+        print_signals(self.signals, out)?;
+        writeln!(out)
+    }
+}
+
+/// The digit of a number below 16.
+fn upper_digit_of(nibble: u8) -> u8
+    requires { nibble < 16 }
+    ensures { result ≡ upper_digit nibble }
+{
+    if nibble < 10 {
+        b'0' + nibble
+    } else {
+        b'A' - 10 + nibble
+    }
+}
+
+/// Whether a byte stands for itself in a text.
+fn is_plain(byte: u8) -> bool
+    ensures { result ≡ stands_for_itself byte }
+{
+    32 <= byte && byte <= 126 && byte != b'\\'
+}
+
+/// A byte of a text: itself, or `\` and two digits.
+#[tactic(auto, unfolding(crate::specs::Reports::written_byte))]
+fn print_byte<W: Write>(byte: u8, out: &mut W) -> io::Result<()>
+    ensures { OnOk result (Appends (W.contents out.old) (W.contents out.new) (written_byte byte)) }
+{
+    if is_plain(byte) {
+        return out.write_all(&[byte]);
+    }
+    out.write_all(&[b'\\', upper_digit_of(byte / 16), upper_digit_of(byte % 16)])
+}
+
+/// A list of items, each by its low 8 bits.
+fn print_items<W: Write>(items: &[u64], out: &mut W) -> io::Result<()>
+    ensures { OnOk result (Appends (W.contents out.old) (W.contents out.new) (heard_text items.now)) }
+{
+    for item in items {
+        print_byte((*item % 256) as u8, out)?;
+    }
+    Ok(())
+}
+
+impl Lines for HeardLine {
+    ghost text = { heard_line };
+
+    #[tactic(auto, unfolding(crate::specs::Reports::heard_line))]
+    fn print<W: Write>(&self, out: &mut W) -> io::Result<()> {
+        let step = self.step;
+        print_named("heard", &self.thread, out)?;
+        write!(out, " {step} ")?;
+        print_items(self.items.as_slice(), out)?;
+        writeln!(out)
+    }
+}
+
+/// The notes left in all chains.
+#[derive(Clone, Copy)]
+struct Chained {
+    notes: u64,
+}
+
+impl Lines for Chained {
+    ghost text = { λ chained. chained_line chained.notes };
+
+    #[tactic(auto, unfolding(crate::specs::Reports::chained_line))]
+    fn print<W: Write>(&self, out: &mut W) -> io::Result<()> {
+        let notes = self.notes;
+        writeln!(out, "chained {notes}")
+    }
+}
+
+/// Writes out what is in the buffer, and empties it.
+fn write_out<W: Write>(buffer: &mut Buffer, out: &mut W) -> io::Result<()>
+    ensures text { OnOk result (Appends (W.contents out.old) (W.contents out.new) buffer.old.items) }
+    ensures empty { OnOk result (buffer.new.items ≡ []) }
+{
+    out.write_all(buffer.as_slice())?;
+    buffer.clear();
+    Ok(())
+}
+
+/// Puts whole lines in the buffer. Where they don't fit beside what is there, that goes out first; where they don't fit
+/// even then, they go out by themselves.
+fn put_text<W: Write>(text: &[u8], buffer: &mut Buffer, out: &mut W) -> io::Result<()>
+    ensures { OnOk result (Appends (append_known (W.contents out.old) buffer.old.items)
+        (append_known (W.contents out.new) buffer.new.items) text.now) }
+{
+    if buffer.try_extend_from_slice(text).is_ok() {
+        return Ok(());
+    }
+    write_out(buffer, out)?;
+    if buffer.try_extend_from_slice(text).is_ok() {
+        return Ok(());
+    }
+    out.write_all(text)
+}
+
+/// Puts the lines of one thing in the buffer.
+fn put<L: Lines, W: Write>(lines: &L, buffer: &mut Buffer, out: &mut W) -> io::Result<()>
+    ensures { OnOk result (Appends (append_known (W.contents out.old) buffer.old.items)
+        (append_known (W.contents out.new) buffer.new.items) (L.text lines.now)) }
+{
+    let mut own = Buffer::new();
+    match lines.print(&mut own) {
+        Ok(()) => put_text(own.as_slice(), buffer, out),
+        Err(_) => {
+            // Longer than a buffer, as no lines of one thing are today.
+            write_out(buffer, out)?;
+            lines.print(out)
+        }
+    }
+}
+
+/// Puts the lines of all these in the buffer.
+fn put_all<L: Lines, W: Write>(all: &[L], buffer: &mut Buffer, out: &mut W) -> io::Result<()>
+    ensures { OnOk result (Appends (append_known (W.contents out.old) buffer.old.items)
+        (append_known (W.contents out.new) buffer.new.items) (flat_map L.text all.now)) }
+{
+    for lines in all {
+        put(lines, buffer, out)?;
+    }
+    Ok(())
+}
+
+/// Prints a report: the lines of its lists one behind the other, that of the alarms where one was set, and at the end
+/// that of the chains. Takes no memory.
+///
+/// The lines go out in writes of up to 8,192 bytes, each of whole lines. After a fault of the writer a front of the
+/// text may be written.
+#[tactic(auto, unfolding(crate::specs::Reports::report_text))]
+pub fn print_report<W: Write>(report: &Report, out: &mut W) -> io::Result<()>
+    ensures { OnOk result (Appends (W.contents out.old) (W.contents out.new) (report_text report.now)) }
+{
+    let mut buffer = Buffer::new();
+    let chained = Chained {
+        notes: report.chained,
+    };
+    put_all(report.queues.as_slice(), &mut buffer, out)?;
+    put_all(report.ttys.as_slice(), &mut buffer, out)?;
+    put_all(report.movers.as_slice(), &mut buffer, out)?;
+    put_all(report.gauges.as_slice(), &mut buffer, out)?;
+    put(&report.alarms, &mut buffer, out)?;
+    put_all(report.threads.as_slice(), &mut buffer, out)?;
+    put_all(report.heard.as_slice(), &mut buffer, out)?;
+    put(&chained, &mut buffer, out)?;
+    write_out(&mut buffer, out)
+}

@@ -1,0 +1,77 @@
+//! The text behind the other words of a line: each byte as itself, or as `\` and two digits.
+
+ghost use Rattle.std.specs.Prelude.{◌≡◌, ◌<◌, IfOk, IfErr, Err, length};
+ghost use Rattle.boot_script.specs.Texts.{before, digit_of, escape_of, bytes_of, text_of};
+
+use crate::fault::ScriptRefusal;
+use crate::fixed::Text;
+use crate::text::Words;
+
+/// The value of a digit, 0 to 9 or A to F. Else BadNumber.
+fn digit(byte: u8) -> Result<u8, ScriptRefusal>
+    ensures exact { result ≡ digit_of byte }
+    ensures within { IfOk result (λ value. value < 16) }
+    ensures refused { IfErr result (λ refusal. refusal ≡ ScriptRefusal.BadNumber) }
+{
+    match byte {
+        b'0'..=b'9' => Ok(byte - b'0'),
+        b'A'..=b'F' => Ok(byte - 55),
+        _ => Err(ScriptRefusal::BadNumber),
+    }
+}
+
+/// The byte of two digits. Else BadNumber.
+#[tactic(auto, unfolding(crate::specs::Texts::escape_of))]
+fn escape(high: u8, low: u8) -> Result<u8, ScriptRefusal>
+    ensures exact { result ≡ escape_of high low }
+    ensures refused { IfErr result (λ refusal. refusal ≡ ScriptRefusal.BadNumber) }
+{
+    let high = digit(high)?;
+    let low = digit(low)?;
+    Ok(high * 16 + low)
+}
+
+/// The first byte that a text says, and the text behind it. BadNumber where two digits are wanting.
+fn next_byte(text: &[u8]) -> Result<(u8, &[u8]), ScriptRefusal>
+    requires { 0 < length text.now }
+    ensures next { IfOk result (λ next. bytes_of text.now ≡ before next.0 (bytes_of next.1.now)) }
+    ensures shorter { IfOk result (λ next. length next.1.now < length text.now) }
+    ensures refused { IfErr result (λ refusal. bytes_of text.now ≡ Err refusal) }
+{
+    let byte = text[0];
+    let rest = &text[1..];
+    if byte != b'\\' {
+        return Ok((byte, rest));
+    }
+    if rest.len() < 2 {
+        return Err(ScriptRefusal::BadNumber);
+    }
+    match escape(rest[0], rest[1]) {
+        Ok(escaped) => Ok((escaped, &rest[2..])),
+        Err(refusal) => Err(refusal),
+    }
+}
+
+/// The text of the words that are left. BadNumber where two digits are wanting behind a `\`; behind that TextTooLong,
+/// where there is no room for all bytes.
+pub(crate) fn text_said<const N: usize>(words: &Words) -> Result<Text<N>, ScriptRefusal>
+    ensures { result ≡ text_of N words.now }
+{
+    let mut rest = words.text();
+    let mut text = Text::new();
+    let mut fits = true;
+    while !rest.is_empty() {
+        match next_byte(rest) {
+            Ok((byte, after)) => {
+                fits = text.push(byte) && fits;
+                rest = after;
+            }
+            Err(refusal) => return Err(refusal),
+        }
+    }
+    if fits {
+        Ok(text)
+    } else {
+        Err(ScriptRefusal::TextTooLong)
+    }
+}

@@ -1,0 +1,90 @@
+-- The ends of a queue that are joined, one behind the other.
+use Rattle.std.proofs.Common.{◌≡◌, ℕ, zero, suc, ◌+◌, ◌-◌, ◌<◌, List, [], ◌∷◌, ◌++◌, map, drop, length, slice_index_or, refl, sym, ap, subst, ◌∙◌, arith}
+use Rattle.std.specs.Prelude.{Option, Some, Result, Ok, Err, IfOk, IfErr}
+use Rattle.std.specs.List.{All, flat_map, sum_by}
+use Rattle.std.proofs.lemmas.List.{append-nil, map-append, drop-map, length-map, length-drop}
+use Rattle.std.proofs.lemmas.List.Concat.{flat_map-append}
+use Rattle.std.proofs.lemmas.List.Sums.{sum_by_push}
+use Rattle.table_theory.specs.declared.queues.Batch.{Batch}
+use Rattle.table_theory.specs.Listing.{AllRaised}
+use Rattle.table_theory.specs.Positioned.{item_of, left_of}
+use Rattle.table_theory.specs.Sharing.{IsWhole}
+use Rattle.table_theory.specs.declared.views.Member.{Member}
+use Rattle.claim_queue.specs.declared.ends.QueueEnd.{QueueEnd}
+use Rattle.claim_queue.specs.declared.rule.View.{View}
+use Rattle.claim_queue.specs.Closings.{ClosedNow, WereOpen, shown}
+use Rattle.claim_queue.specs.Endings.{TookIn}
+use Rattle.claim_queue.specs.Handles.{view_of}
+use Rattle.claim_queue.specs.Lines.{lines_put, lines_taken, IsSettled}
+use Rattle.quajects.specs.Settled.{views_of, share_of, HasRaised, HasAll, SettledNow, StillOpen}
+
+-- an end alone has what it has
+pub alone_has : (v : View) → HasAll (v ∷ []) v
+alone_has v = record { puts = sym (append-nil (lines_put v)); takes = sym (append-nil (lines_taken v)); share = omega arith; raised = λ h. h 0 v (omega arith) }
+
+raised_both : (a b : List Batch) → AllRaised a → AllRaised b → AllRaised (a ++ b)
+raised_both [] b ha hb m e at i l = hb m e at i l
+raised_both (x ∷ a) b ha hb zero e at i l = ha zero e at i l
+raised_both (x ∷ a) b ha hb (suc m) e at i l = raised_both a b (λ m. ha (suc m)) hb m e at i l
+
+module _ {X : Type 0} (P : X → Type 0) where
+  front_holds : (xs ys : List X) → All P (xs ++ ys) → All P xs
+  front_holds [] ys h k d l = absurd (omega arith)
+  front_holds (x ∷ xs) ys h zero d l = h zero d (omega arith)
+  front_holds (x ∷ xs) ys h (suc k) d l = front_holds xs ys (λ k d l. h (suc k) d (omega arith)) k d (omega arith)
+
+  last_holds : (xs : List X) (y : X) → All P (xs ++ y ∷ []) → P y
+  last_holds [] y h = h 0 y (omega arith)
+  last_holds (x ∷ xs) y h = last_holds xs y (λ k d l. h (suc k) d (omega arith))
+
+more_lines : (f : View → List (List ℕ)) (ends : List View) (v u w : View) → f v ≡ flat_map f ends → f w ≡ f v ++ f u → f w ≡ flat_map f (ends ++ u ∷ [])
+more_lines f ends v u w h e = e ∙ ap (λ (z : List (List ℕ)). z ++ f u) h ∙ ap (λ (z : List (List ℕ)). flat_map f ends ++ z) (sym (append-nil (f u))) ∙ sym (flat_map-append f ends (u ∷ []))
+
+-- an end more was joined
+pub joined_has : (ends : List View) (v u w : View) → HasAll ends v → TookIn v u w → (lines_put w ≡ lines_put v ++ lines_put u) × (lines_taken w ≡ lines_taken v ++ lines_taken u) → HasAll (ends ++ u ∷ []) w
+joined_has ends v u w h j l = record {
+  puts = more_lines lines_put ends v u w h.puts l.0;
+  takes = more_lines lines_taken ends v u w h.takes l.1;
+  share = ap (λ (z : Member). z.share) j.member.same ∙ ap (λ (z : ℕ). z + share_of u) h.share ∙ sym (sum_by_push share_of ends u);
+  raised = λ all. subst AllRaised (sym (ap (λ (z : View). z.part.runs) j.same))
+      (raised_both v.part.runs u.part.runs (h.raised (front_holds HasRaised ends (u ∷ []) all)) (last_holds HasRaised ends u all));
+}
+
+module _ {n : ℕ} where
+  views_more : (end : QueueEnd n) (others : List (QueueEnd n)) (other : QueueEnd n) → views_of end others ++ view_of other ∷ [] ≡ views_of end (others ++ other ∷ [])
+  views_more end others other = ap (λ (z : List View). view_of end ∷ z) (sym (map-append view_of others (other ∷ [])))
+
+  pub join_more : (end : QueueEnd n) (others : List (QueueEnd n)) (other before after : QueueEnd n) → HasAll (views_of end others) (view_of before) → TookIn (view_of before) (view_of other) (view_of after)
+      → (lines_put (view_of after) ≡ lines_put (view_of before) ++ lines_put (view_of other)) × (lines_taken (view_of after) ≡ lines_taken (view_of before) ++ lines_taken (view_of other)) → HasAll (views_of end (others ++ other ∷ [])) (view_of after)
+  join_more end others other before after h j l = subst (λ (z : List View). HasAll z (view_of after)) (views_more end others other) (joined_has (views_of end others) (view_of before) (view_of other) (view_of after) h j l)
+
+-- the end that had all closed the queue
+pub settled_now : (ends : List View) (w : View) (first put taken : ℕ) (left : List (Option ℕ)) → HasAll ends w → ClosedNow w first put taken left → SettledNow ends put taken left
+settled_now ends w first put taken left h c = let q = c.queue in let items = map item_of q.places in record {
+  whole = subst IsWhole h.share c.whole;
+  items = items;
+  put_is = c.puts ∙ sym (length-map q.places item_of);
+  settled = subst (λ (z : List (List ℕ)). IsSettled items taken z (flat_map lines_taken ends)) h.puts (subst (λ (z : List (List ℕ)). IsSettled items taken (lines_put w) z) h.takes c.settled);
+  left_number = ap length c.left_is ∙ length-map (drop q.taken q.places) shown ∙ length-drop q.taken q.places ∙ (λ i. sym c.puts i - sym c.taken_is i);
+  left_is = λ all. c.raised (h.raised all) ∙ ap (map Some) (sym (drop-map item_of q.taken q.places) ∙ ap (λ (z : ℕ). drop z items) (sym c.taken_is));
+}
+
+-- the end found others
+pub still_open : (ends : List View) (v w : View) (others : ℕ) → HasAll ends v → WereOpen v others w → StillOpen ends others w
+still_open ends v w others h o = let s = o.tallied.same in let share = ap (λ (z : Member). z.share) o.tallied.member.same in record {
+  has = record {
+    puts = ap lines_put s ∙ h.puts;
+    takes = ap lines_taken s ∙ h.takes;
+    share = share ∙ h.share;
+    raised = λ all. subst AllRaised (sym (ap (λ (z : View). z.part.runs) s)) (h.raised all);
+  };
+  some_other = o.some_other;
+}
+
+pub if_ok : {A B : Type 0} {P Q : A → Type 0} (r : Result A B) → IfOk r P → ((a : A) → P a → Q a) → IfOk r Q
+if_ok (Ok a) h f = f a h
+if_ok (Err b) h f = tt
+
+pub if_err : {A B : Type 0} {P Q : B → Type 0} (r : Result A B) → IfErr r P → ((b : B) → P b → Q b) → IfErr r Q
+if_err (Ok a) h f = tt
+if_err (Err b) h f = f b h

@@ -1,0 +1,10 @@
+pub mod Named
+pub mod Worlds
+pub mod Answered
+pub mod Counts
+pub mod Editing
+pub mod Cooks
+pub mod Routes
+pub mod Noting
+pub mod Joining
+pub mod Homing

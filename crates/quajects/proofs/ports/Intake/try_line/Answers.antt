@@ -1,0 +1,13 @@
+use Rattle.std.proofs.Common.{ℕ, ◌%◌, ◌^◌, ◌+◌, ap, ◌∙◌}
+use Rattle.quajects.proofs.Answered.{take_answered}
+use Rattle.quajects.proofs.Counts.{counted_held}
+use Rattle.quajects.proofs.ports.Intake.try_line.Goals as goal
+
+pub invariant_of-self : goal.invariant_of-self
+invariant_of-self g c = let t = take_answered _ _ _ _ _ _ _ c.try_take_line.ensures.taken c.try_take_line.ensures.lines in record {
+  number = ap (λ (z : ℕ). (c.args.self.now.taken + z) % 2 ^ 64) c.len.ensures.value ∙ counted_held _ _ _ _ c.args.self.now.number t.0;
+  only = t.1 ∙ c.args.self.now.only;
+}
+
+pub returns-clause-lines : goal.returns-clause-lines
+returns-clause-lines g c = (take_answered _ _ _ _ _ _ _ c.try_take_line.ensures.taken c.try_take_line.ensures.lines).0

@@ -1,0 +1,9 @@
+use Rattle.std.proofs.Common.{[], ◌∷◌}
+use Rattle.quajects.proofs.Answered.{put_byte, byte_lines}
+use Rattle.quajects.proofs.raw.RawTty.interrupt.Goals as goal
+
+pub returns-clause-put : goal.returns-clause-put
+returns-clause-put g c = put_byte _ _ _ c.args.byte _ _ c.is_ok-put.ensures.value c.put.ensures.put
+
+pub returns-clause-lines : goal.returns-clause-lines
+returns-clause-lines g c = byte_lines _ _ (c.args.byte ∷ []) _ _ c.is_ok-put.ensures.value c.put.ensures.lines

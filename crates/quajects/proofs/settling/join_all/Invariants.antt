@@ -1,0 +1,9 @@
+use Rattle.claim_queue.specs.Handles.{view_of, IsEndOf, IsSameEnd}
+use Rattle.quajects.specs.Settled.{views_of, HasAll}
+use Rattle.quajects.proofs.settling.join_all.Given as goal
+
+abbrev pub invariant-loop-other : goal.invariant-loop-other
+invariant-loop-other g l = record {
+  same : IsSameEnd l.initial.end l.end;
+  joined : HasAll (views_of l.initial.end l.yielded) (view_of l.end);
+}

@@ -1,0 +1,15 @@
+pub mod Cooked
+pub mod Lines
+pub mod Ports
+pub mod Tries
+pub mod Worlds
+pub mod Pumps
+pub mod Cooks
+pub mod Terminals
+pub mod Routes
+pub mod Switches
+pub mod Anys
+pub mod Notings
+pub mod Raws
+pub mod Settled
+pub mod Homes

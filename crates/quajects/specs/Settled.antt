@@ -1,0 +1,43 @@
+-- What a closed queue was put and taken, by the lines of all its ends.
+use Rattle.std.specs.Prelude.{◌≡◌, ◌-◌, ◌<◌, ℕ, List, ◌∷◌, map, drop, length, Option, Some}
+use Rattle.std.specs.List.{All, flat_map, sum_by}
+use Rattle.claim_queue.specs.declared.ends.QueueEnd.{QueueEnd}
+use Rattle.claim_queue.specs.declared.rule.View.{View}
+use Rattle.claim_queue.specs.Handles.{view_of}
+use Rattle.claim_queue.specs.Lines.{lines_put, lines_taken, IsSettled}
+use Rattle.table_theory.specs.Listing.{AllRaised}
+use Rattle.table_theory.specs.Sharing.{IsWhole}
+
+-- what these ends know, the one and the others
+abbrev pub views_of : {n : ℕ} → QueueEnd n → List (QueueEnd n) → List View
+views_of end others = view_of end ∷ map view_of others
+
+abbrev pub share_of : View → ℕ
+share_of v = v.member.share
+
+-- the end has raised all that it claimed
+abbrev pub HasRaised : View → Type 0
+HasRaised v = AllRaised v.part.runs
+
+-- The end has the lines of all these ends, end by end, and their shares; and it has raised all that it claimed where
+-- each of them has
+pub record HasAll (ends : List View) (w : View) : Type 0 where
+  pub puts : lines_put w ≡ flat_map lines_put ends
+  pub takes : lines_taken w ≡ flat_map lines_taken ends
+  pub share : share_of w ≡ sum_by share_of ends
+  pub raised : All HasRaised ends → HasRaised w
+
+-- The queue is closed, and these were all its ends. The items put are the lines that they put, each once; the first of
+-- them are the lines that they took, each once; and where each has raised all that it claimed, the others are left
+pub record SettledNow (ends : List View) (put taken : ℕ) (left : List (Option ℕ)) : Type 0 where
+  pub whole : IsWhole (sum_by share_of ends)
+  pub items : List ℕ
+  pub put_is : put ≡ length items
+  pub settled : IsSettled items taken (flat_map lines_put ends) (flat_map lines_taken ends)
+  pub left_number : length left ≡ put - taken
+  pub left_is : All HasRaised ends → left ≡ map Some (drop taken items)
+
+-- other ends stand, and this end has all that the others had
+pub record StillOpen (ends : List View) (others : ℕ) (w : View) : Type 0 where
+  pub has : HasAll ends w
+  pub some_other : 0 < others

@@ -1,0 +1,108 @@
+-- A cooked tty: what a caller sees of it, and what it does for a note.
+use Rattle.std.specs.Prelude.{◌≡◌, ◌≢◌, ℕ, ◌+◌, ◌||◌, ◌%◌, ◌^◌, Bool, true, false, List, [], ◌++◌, map, length}
+use Rattle.std.specs.Prelude.{if◌then◌else◌}
+use Rattle.claim_queue.specs.declared.ends.QueueEnd.{QueueEnd}
+use Rattle.claim_queue.specs.Handles.{view_of, call_of, IsSameEnd}
+use Rattle.claim_queue.specs.Lines.{lines_put, lines_taken}
+use Rattle.proc_chain.specs.declared.quaject.Ran.{Ran}
+use Rattle.proc_chain.specs.declared.quaject.Ran.TheVariants.{Worked, Nothing}
+use Rattle.quajects.specs.declared.world.Queues.{Queues}
+use Rattle.quajects.specs.declared.ports.Port.{Port}
+use Rattle.quajects.specs.declared.terminal.CookedTty.{CookedTty}
+use Rattle.quajects.specs.Cooked.{cooked}
+use Rattle.quajects.specs.Lines.{held_line}
+use Rattle.quajects.specs.Ports.{IsEndAt, port}
+use Rattle.quajects.specs.Cooks.{CookedRaw, TriedLine, TriedScreen}
+
+-- the end that it takes raw lines at
+abbrev pub raw_of : CookedTty → QueueEnd 64
+raw_of tty = tty.raw.end
+
+-- the end of the line queue
+abbrev pub line_of : CookedTty → QueueEnd 256
+line_of tty = tty.line.end
+
+-- the end of the screen queue
+abbrev pub screen_of : CookedTty → QueueEnd 256
+screen_of tty = tty.screen.end
+
+-- all three with the indexes of their queues
+abbrev pub raw_port : CookedTty → Port 64
+raw_port tty = port tty.raw.index (raw_of tty)
+
+abbrev pub line_port : CookedTty → Port 256
+line_port tty = port tty.line.index (line_of tty)
+
+abbrev pub screen_port : CookedTty → Port 256
+screen_port tty = port tty.screen.index (screen_of tty)
+
+-- the cooked line that it holds; none where this is empty
+abbrev pub held_of : CookedTty → List ℕ
+held_of tty = tty.held.items
+
+-- what it holds is in the line queue already
+abbrev pub is_in_line : CookedTty → Bool
+is_in_line tty = tty.in_line
+
+-- how many notes it has run, modulo 2^64
+abbrev pub notes_of : CookedTty → ℕ
+notes_of tty = tty.notes
+
+-- it is over these ends of the queues with these indexes, holds nothing and has run no note
+pub record IsNew (raw : ℕ) (raw_end : QueueEnd 64) (line : ℕ) (line_end : QueueEnd 256) (screen : ℕ)
+    (screen_end : QueueEnd 256) (tty : CookedTty) : Type 0 where
+  pub raw_index : tty.raw.index ≡ raw
+  pub raw_is : raw_of tty ≡ raw_end
+  pub line_index : tty.line.index ≡ line
+  pub line_is : line_of tty ≡ line_end
+  pub screen_index : tty.screen.index ≡ screen
+  pub screen_is : screen_of tty ≡ screen_end
+  pub none_held : held_of tty ≡ []
+  pub none_run : notes_of tty ≡ 0
+
+-- Its law: the cooked lines of the raw lines taken are the lines put in the screen queue, followed by the one held; and
+-- they are the lines put in the line queue, followed by the one held where that is not there yet. Nothing is there
+-- early: what counts as put in the line queue and not in the screen queue is held
+pub record IsKept (tty : CookedTty) : Type 0 where
+  pub screens : map cooked (lines_taken (view_of (raw_of tty)))
+      ≡ lines_put (view_of (screen_of tty)) ++ held_line (held_of tty)
+  pub lines : map cooked (lines_taken (view_of (raw_of tty)))
+      ≡ lines_put (view_of (line_of tty)) ++ (if is_in_line tty then [] else held_line (held_of tty))
+  pub full : is_in_line tty ≡ true → held_of tty ≢ []
+
+-- it has run so many notes
+abbrev pub HasRun : CookedTty → List ℕ → Type 0
+HasRun tty notes = notes_of tty ≡ length notes % 2 ^ 64
+
+-- its ends are those of the queues that it names
+abbrev pub Fits : Queues → CookedTty → Type 0
+Fits world tty = IsEndAt world.small.items tty.raw.index (raw_of tty)
+    × IsEndAt world.large.items tty.line.index (line_of tty)
+    × IsEndAt world.large.items tty.screen.index (screen_of tty)
+
+-- it has the same ends of the same queues
+pub record SameEnds (old new : CookedTty) : Type 0 where
+  pub raw_index : new.raw.index ≡ old.raw.index
+  pub raw : IsSameEnd (raw_of old) (raw_of new)
+  pub line_index : new.line.index ≡ old.line.index
+  pub line : IsSameEnd (line_of old) (line_of new)
+  pub screen_index : new.screen.index ≡ old.screen.index
+  pub screen : IsSameEnd (screen_of old) (screen_of new)
+
+-- With nothing held there was one try to take a raw line; what was then held and not in the line queue there was one
+-- try to put there; and what was then in the line queue there was one try to put in the screen queue
+pub record RanCooked (old new : CookedTty) (answer : Ran) : Type 0 where
+  pub line : List ℕ
+  pub in_line : Bool
+  pub took : Bool
+  pub put_line : Bool
+  pub put_screen : Bool
+  pub refilled : CookedRaw (call_of (raw_of old)) (view_of (raw_of old)) (held_of old) took line
+      (view_of (raw_of new))
+  pub flushed : TriedLine (call_of (line_of old)) (view_of (line_of old)) line (is_in_line old) put_line in_line
+      (view_of (line_of new))
+  pub screened : TriedScreen (call_of (screen_of old)) (view_of (screen_of old)) line in_line put_screen (held_of new)
+      (is_in_line new) (view_of (screen_of new))
+  pub answered : answer ≡ (if took || put_line || put_screen then Worked else Nothing)
+  pub noted : notes_of new ≡ (notes_of old + 1) % 2 ^ 64
+  pub same : SameEnds old new

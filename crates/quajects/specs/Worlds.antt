@@ -1,0 +1,16 @@
+-- The queues that are made, each with its only end.
+use Rattle.std.specs.Prelude.{◌≡◌, ℕ, List, length}
+use Rattle.std.specs.List.{AllZip}
+use Rattle.claim_queue.specs.declared.ends.ClaimQueue.{ClaimQueue}
+use Rattle.claim_queue.specs.declared.ends.QueueEnd.{QueueEnd}
+use Rattle.claim_queue.specs.Handles.{IsEndOf, first_of, view_of}
+use Rattle.claim_queue.specs.Rules.{newcomer}
+
+-- the queue is empty at 0, and this is its only end
+abbrev pub IsFresh : {n : ℕ} → ClaimQueue n → QueueEnd n → Type 0
+IsFresh {n} queue end = IsEndOf queue end × (first_of queue ≡ 0)
+    × (view_of end ≡ newcomer (record { first = 0; room = n }))
+
+-- there are so many queues, each empty at 0 and with its only end
+abbrev pub AreFresh : {n : ℕ} → ℕ → List (ClaimQueue n) → List (QueueEnd n) → Type 0
+AreFresh count queues ends = (length queues ≡ count) × AllZip IsFresh queues ends

@@ -1,0 +1,64 @@
+//! Closing a chain, and what comes home from it.
+ghost use Rattle.std.specs.Prelude.{◌≡◌, false, IfOk, IfErr, MatchResult};
+ghost use Rattle.proc_chain.specs.Closings.{WereOpen};
+ghost use Rattle.proc_chain.specs.Handles.{view_of, turn_of, world_of, IsEndOf, IsOnlyEnd, IsSameEnd};
+ghost use Rattle.quajects.specs.Homes.{IsHome, CameHome};
+
+use crate::any::AnyQuaject;
+use crate::ports::Port;
+use proc_chain::{ChainEnd, OpenEnds, ProcChain};
+
+/// What comes home from a chain: the quaject's ends with the indexes of their queues, in the order of its `new`, and
+/// its numbers. `chained` notes were put in the chain, `left` of them were not run.
+#[derive(Drop)]
+pub struct Home {
+    pub small: [Option<Port<64>>; 6],
+    pub large: [Option<Port<256>>; 2],
+    pub chained: u32,
+    pub left: usize,
+    pub notes: u64,
+    pub taken: u64,
+    pub put: u64,
+    pub held: usize,
+}
+
+type Chain = ProcChain<AnyQuaject>;
+
+type End = ChainEnd<AnyQuaject>;
+
+// What a quaject brings home, where so many notes were chained and left.
+fn home_of(quaject: AnyQuaject, chained: u32, left: usize) -> Home
+    ensures { IsHome quaject chained left result }
+{
+    let notes = quaject.notes();
+    let taken = quaject.taken();
+    let put = quaject.put();
+    let held = quaject.held();
+    let (small, large) = quaject.into_ports();
+    Home {
+        small,
+        large,
+        chained,
+        left,
+        notes,
+        taken,
+        put,
+        held,
+    }
+}
+
+/// Closes a chain where every other end has been joined, and gives what comes home. Else the chain and the end come
+/// back, and the number of the others. It takes no memory.
+///
+/// Conditions: the end is one of the chain, and has no Turn.
+pub fn retire(chain: Chain, end: End) -> Result<Home, (Chain, End, OpenEnds)>
+    requires ends { IsEndOf chain end }
+    requires turn { turn_of end ≡ false }
+    ensures home { IfOk result (λ home. CameHome (world_of chain) home) }
+    ensures open { IfErr result (λ e. (e.0 ≡ chain) × IsEndOf chain e.1 × IsSameEnd end e.1 × (turn_of e.1 ≡ false)
+        × WereOpen (view_of end) e.2.others (view_of e.1)) }
+    ensures only { IsOnlyEnd end → MatchResult result (λ home. Unit {0}) (λ e. ⊥) }
+{
+    let closed = chain.close(end)?;
+    Ok(home_of(closed.quaject, closed.put, closed.left.len()))
+}

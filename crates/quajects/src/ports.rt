@@ -1,0 +1,126 @@
+//! Where a quaject takes and puts lines: an end of a queue, which queue it is, and how many items went through.
+ghost use Rattle.std.specs.Prelude.{◌≡◌, [], ◌++◌, ◌∷◌, if◌then◌else◌};
+ghost use Rattle.table_theory.specs.Listing.{AllRaised};
+ghost use Rattle.claim_queue.specs.Handles.{view_of, call_of, IsSameEnd};
+ghost use Rattle.claim_queue.specs.Lines.{lines_put, lines_taken};
+ghost use Rattle.quajects.specs.Lines.{held_line, counted};
+ghost use Rattle.quajects.specs.Ports.{IsEndAt, IsUnused, port};
+ghost use Rattle.quajects.specs.Tries.{TriedTake, TriedPut};
+
+use arrayvec::ArrayVec;
+use claim_queue::{ClaimQueue, QueueEnd};
+
+/// An end of a queue, and the index of that queue.
+#[derive(Drop)]
+pub struct Port<const N: usize> {
+    pub index: usize,
+    pub end: QueueEnd<N>,
+}
+
+/// An end that a quaject takes lines at.
+#[derive(Drop)]
+pub struct Intake<const N: usize> {
+    pub(crate) index: usize,
+    pub(crate) end: QueueEnd<N>,
+    pub(crate) taken: u64,
+    ghost number: { taken ≡ counted (lines_taken (view_of end)) },
+    ghost only: { lines_put (view_of end) ≡ [] },
+}
+
+/// An end that a quaject puts lines at.
+#[derive(Drop)]
+pub struct Outlet<const N: usize> {
+    pub(crate) index: usize,
+    pub(crate) end: QueueEnd<N>,
+    pub(crate) put: u64,
+    ghost number: { put ≡ counted (lines_put (view_of end)) },
+    ghost only: { lines_taken (view_of end) ≡ [] },
+    ghost raised: { AllRaised (view_of end).part.runs },
+}
+
+impl<const N: usize> Intake<N> {
+    pub(crate) fn new(index: usize, end: QueueEnd<N>) -> Intake<N>
+        requires { IsUnused (view_of end) }
+        ensures { (result.index ≡ index) × (result.end ≡ end.entry) × (result.taken ≡ 0) }
+    {
+        Intake {
+            index,
+            end,
+            taken: 0,
+        }
+    }
+
+    pub(crate) fn into_end(self) -> QueueEnd<N>
+        ensures { result ≡ self.entry.end }
+    {
+        self.end
+    }
+
+    pub(crate) fn into_port(self) -> Port<N>
+        ensures { result ≡ port self.entry.index self.entry.end }
+    {
+        Port {
+            index: self.index,
+            end: self.end,
+        }
+    }
+
+    /// One try to take a line. True where one was taken.
+    pub(crate) fn try_line(&mut self, queues: &[ClaimQueue<N>], line: &mut ArrayVec<u64, N>) -> bool
+        requires at { IsEndAt queues.now self.old.index self.old.end }
+        requires empty { line.old.items ≡ [] }
+        ensures at { IsEndAt queues.now self.new.index self.new.end }
+        ensures same { (self.new.index ≡ self.old.index) × IsSameEnd self.old.end self.new.end }
+        ensures tried { TriedTake N (call_of self.old.end) (view_of self.old.end) result line.new.items
+            (view_of self.new.end) }
+        ensures lines { lines_taken (view_of self.new.end) ≡ lines_taken (view_of self.old.end)
+            ++ held_line line.new.items }
+    {
+        let source = &queues[self.index];
+        let took = source.try_take_line(&mut self.end, line).is_ok();
+        self.taken = self.taken.wrapping_add(line.len() as u64);
+        took
+    }
+}
+
+impl<const N: usize> Outlet<N> {
+    pub(crate) fn new(index: usize, end: QueueEnd<N>) -> Outlet<N>
+        requires { IsUnused (view_of end) }
+        ensures { (result.index ≡ index) × (result.end ≡ end.entry) × (result.put ≡ 0) }
+    {
+        Outlet { index, end, put: 0 }
+    }
+
+    pub(crate) fn into_end(self) -> QueueEnd<N>
+        ensures { result ≡ self.entry.end }
+    {
+        self.end
+    }
+
+    pub(crate) fn into_port(self) -> Port<N>
+        ensures { result ≡ port self.entry.index self.entry.end }
+    {
+        Port {
+            index: self.index,
+            end: self.end,
+        }
+    }
+
+    /// One try to put a line. True where it was put.
+    pub(crate) fn try_line(&mut self, queues: &[ClaimQueue<N>], line: &[u64]) -> bool
+        requires at { IsEndAt queues.now self.old.index self.old.end }
+        ensures at { IsEndAt queues.now self.new.index self.new.end }
+        ensures same { (self.new.index ≡ self.old.index) × IsSameEnd self.old.end self.new.end }
+        ensures tried { TriedPut N (call_of self.old.end) (view_of self.old.end) result line.now
+            (view_of self.new.end) }
+        ensures lines { lines_put (view_of self.new.end) ≡ (if result then lines_put (view_of self.old.end)
+            ++ line.now ∷ [] else lines_put (view_of self.old.end)) }
+    {
+        let target = &queues[self.index];
+        let put = target.try_put(&mut self.end, line).is_ok();
+        if put {
+            self.put = self.put.wrapping_add(line.len() as u64);
+        }
+        put
+    }
+}

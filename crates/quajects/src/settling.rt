@@ -1,0 +1,43 @@
+//! Closing a queue whose ends come back from several owners.
+ghost use Rattle.std.specs.Prelude.{◌≡◌, IfOk, IfErr, MatchResult};
+ghost use Rattle.std.specs.List.{All, sum_by};
+ghost use Rattle.table_theory.specs.Sharing.{IsWhole};
+ghost use Rattle.claim_queue.specs.Handles.{view_of, first_of, IsEndOf, IsSameEnd};
+ghost use Rattle.quajects.specs.Settled.{views_of, share_of, HasAll, SettledNow, StillOpen};
+
+use claim_queue::{ClaimQueue, Closed, OpenEnds, QueueEnd};
+
+// The end then has all that the others had.
+fn join_all<const N: usize>(queue: &ClaimQueue<N>, end: &mut QueueEnd<N>, others: Vec<QueueEnd<N>>)
+    requires end { IsEndOf queue.now end.old }
+    requires others { All (IsEndOf queue.now) others.items }
+    ensures same { IsSameEnd end.old end.new }
+    ensures joined { HasAll (views_of end.old others.entry.items) (view_of end.new) }
+{
+    for other in others {
+        queue.join(end, other);
+    }
+}
+
+/// Joins all these ends of a queue, and closes it. Where ends are missing, the queue comes back with the end that the
+/// others were joined to, and the number of those that are missing. It takes no memory.
+///
+/// Condition: they are ends of this queue.
+pub fn settle<const N: usize>(
+    queue: ClaimQueue<N>,
+    end: QueueEnd<N>,
+    others: Vec<QueueEnd<N>>,
+) -> Result<Closed<N>, (ClaimQueue<N>, QueueEnd<N>, OpenEnds)>
+    requires end { IsEndOf queue end }
+    requires others { All (IsEndOf queue) others.items }
+    ensures closed { IfOk result (λ c. (c.first ≡ first_of queue.entry)
+        × SettledNow (views_of end.entry others.entry.items) c.put c.taken c.left.items) }
+    ensures open { IfErr result (λ e. (e.0 ≡ queue.entry) × IsSameEnd end.entry e.1
+        × StillOpen (views_of end.entry others.entry.items) e.2.others (view_of e.1)) }
+    ensures only { IsWhole (sum_by share_of (views_of end.entry others.entry.items))
+        → MatchResult result (λ c. Unit {0}) (λ e. ⊥) }
+{
+    let mut end = end;
+    join_all(&queue, &mut end, others);
+    queue.close(end)
+}

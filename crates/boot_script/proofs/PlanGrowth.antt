@@ -19,7 +19,7 @@ use Rattle.boot_script.specs.declared.version.Version.{Version}
 use Rattle.boot_script.specs.declared.version.Version.TheVariants.{Three}
 use Rattle.boot_script.specs.BootNames.{same_kind, count_of, most_of, room_of, with_name}
 use Rattle.boot_script.specs.Plans.{Plan}
-use Rattle.boot_script.specs.PlanLimits.{many_of, IsQueueOf, IsStepOf, IsWayOf, IsMoverOf, IsAlarmOf, IsProgramOf}
+use Rattle.boot_script.specs.PlanLimits.{many_of, IsQueueOf, IsSaidTo, IsStepOf, IsWayOf, IsMoverOf, IsAlarmOf, IsProgramOf}
 use Rattle.boot_script.proofs.Bools.{room_ok}
 use Rattle.boot_script.proofs.NamesSoFar.{count_push, most_three}
 
@@ -38,8 +38,12 @@ queue_more : (many more : Kind → ℕ) (queue : QueueIndex) → Grows many more
 queue_more many more (Small queue) grows h = omega (arith, grows kind.Queue, h)
 queue_more many more (Large queue) grows h = omega (arith, grows kind.Tty, h)
 
+said_more : (many more : Kind → ℕ) (queue : QueueIndex) → Grows many more → IsSaidTo many queue → IsSaidTo more queue
+said_more many more (Small queue) grows h = omega (arith, grows kind.Queue, h)
+said_more many more (Large queue) grows h = (omega (arith, grows kind.Tty, h.0), h.1)
+
 pub step_more : (many more : Kind → ℕ) → Grows many more → (one : Step) → IsStepOf many one → IsStepOf more one
-step_more many more grows (step.Say queue text) h = queue_more many more queue grows h
+step_more many more grows (step.Say queue text) h = said_more many more queue grows h
 step_more many more grows (step.Hear queue) h = queue_more many more queue grows h
 step_more many more grows (step.Wait wait) h = tt
 step_more many more grows (step.Wake wait) h = tt
@@ -57,6 +61,8 @@ mover_more many more grows (Switch from other ways) h = (
   below_more many more kind.Queue from grows h.0,
   below_more many more kind.Queue other grows h.1,
   all_more (IsWayOf many) (IsWayOf more) (λ way k. below_more many more kind.Queue way.to grows k) ways h.2,
+  h.3,
+  h.4,
 )
 
 pub moved_more : (many more : Kind → ℕ) → Grows many more → (movers : List PlannedMover) → AllByRecursion (λ planned. IsMoverOf many planned.mover) movers → AllByRecursion (λ planned. IsMoverOf more planned.mover) movers

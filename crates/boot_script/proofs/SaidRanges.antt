@@ -1,5 +1,5 @@
 -- What a line in its ranges names is there.
-use Rattle.std.proofs.Common.{ℕ, List, [], ◌∷◌, true, false, Bool}
+use Rattle.std.proofs.Common.{◌≡◌, inl, inr, ℕ, List, [], ◌∷◌, true, false, Bool}
 use Rattle.std.specs.List.{AllByRecursion}
 use Rattle.boot_script.specs.declared.boot_lines.Line.{Line}
 use Rattle.boot_script.specs.declared.boot_lines.Line.TheVariants as line
@@ -16,7 +16,7 @@ use Rattle.boot_script.specs.declared.plan.Way.{Way}
 use Rattle.boot_script.specs.declared.version.Version.{Version}
 use Rattle.boot_script.specs.BootNames.{count_of}
 use Rattle.boot_script.specs.BootSpellings.{FitsQueue, FitWays, FitsMover, FitsStep, FitsLine}
-use Rattle.boot_script.specs.PlanLimits.{IsQueueOf, IsStepOf, IsWayOf, IsMoverOf, IsAlarmOf}
+use Rattle.boot_script.specs.PlanLimits.{IsQueueOf, IsSaidTo, IsStepOf, IsWayOf, AreApart, IsMoverOf, IsAlarmOf}
 use Rattle.boot_script.proofs.PlanGrowth.{Grows, below_more, step_more, mover_more}
 
 -- what a line names is there
@@ -39,16 +39,25 @@ queue_there : (heard : Bool) (names : List Named) (queue : QueueIndex) → FitsQ
 queue_there heard names (Small queue) h = h
 queue_there heard names (Large queue) h = h.0
 
+-- a line queue is only heard
+said_there : (names : List Named) (queue : QueueIndex) → FitsQueue false names queue → IsSaidTo (declared names) queue
+said_there names (Small queue) h = h
+said_there names (Large queue) h = elim h.1 [ inl p ↦ absurd cc | inr p ↦ (h.0, p) ]
+
 ways_there : (names : List Named) (keys : List ℕ) (ways : List Way) → FitWays names keys ways → AllByRecursion (IsWayOf (declared names)) ways
 ways_there names keys [] h = tt
 ways_there names keys (way ∷ ways) h = (h.3, ways_there names (way.key ∷ keys) ways h.4)
 
+ways_apart : (names : List Named) (keys : List ℕ) (ways : List Way) → FitWays names keys ways → AreApart keys ways
+ways_apart names keys [] h = tt
+ways_apart names keys (way ∷ ways) h = (h.2, ways_apart names (way.key ∷ keys) ways h.4)
+
 mover_there : (names : List Named) (mover : Mover) → FitsMover names mover → IsMoverOf (declared names) mover
 mover_there names (Pump from to) h = h
-mover_there names (Switch from other ways) h = (h.0, h.1, ways_there names [] ways h.2)
+mover_there names (Switch from other ways) h = (h.0, h.1, ways_there names [] ways h.2, h.3, ways_apart names [] ways h.2)
 
 step_there : (version : Version) (names : List Named) (one : Step) → FitsStep version names one → IsStepOf (declared names) one
-step_there version names (step.Say queue text) h = queue_there false names queue h.0
+step_there version names (step.Say queue text) h = said_there names queue h.0
 step_there version names (step.Hear queue) h = queue_there true names queue h
 step_there version names (step.Wait wait) h = tt
 step_there version names (step.Wake wait) h = tt

@@ -1,12 +1,14 @@
 -- What a line of a boot script says, or why it is refused. The order of the steps is the order of the refusals.
-use Rattle.std.specs.Prelude.{◌≡◌, ℕ, ◌<◌, slice_index_or, Bool, true, false, ◌||◌, ◌==◌, List, [], ◌∷◌, Option, Some, None, Result, Ok, Err, if◌then◌else◌}
+use Rattle.std.specs.Prelude.{◌≡◌, ℕ, ◌<◌, slice_index_or, Bool, true, false, ◌||◌, ◌==◌, List, [], ◌∷◌, Option, Some}
+use Rattle.std.specs.Prelude.{None, Result, Ok, Err, if◌then◌else◌}
 use Rattle.std.specs.List.{list_all}
 use Rattle.boot_script.specs.declared.fault.ScriptRefusal.{ScriptRefusal}
 use Rattle.boot_script.specs.declared.fault.ScriptRefusal.TheVariants.{BadName, NameTwice, NotAscii}
 use Rattle.boot_script.specs.declared.boot_words.BootWord.{BootWord}
 use Rattle.boot_script.specs.declared.boot_words.BootWord.TheVariants as word
 use Rattle.boot_script.specs.declared.boot_lines.Line.{Line}
-use Rattle.boot_script.specs.declared.boot_lines.Line.TheVariants.{Queue, Tty, Types, Mover, Gauge, Alarm, Thread, More, Step}
+use Rattle.boot_script.specs.declared.boot_lines.Line.TheVariants.{Queue, Tty, Types, Mover, Gauge, Alarm, Thread}
+use Rattle.boot_script.specs.declared.boot_lines.Line.TheVariants.{More, Step}
 use Rattle.boot_script.specs.declared.declared_names.Kind.TheVariants as kind
 use Rattle.boot_script.specs.declared.declared_names.Named.{Named}
 use Rattle.boot_script.specs.declared.plan.Mover.TheVariants.{Pump, Switch}

@@ -1,5 +1,5 @@
 -- The names that a boot script has declared so far: what each names, and its number among those of its kind.
-use Rattle.std.specs.Prelude.{ℕ, ◌+◌, ◌*◌, ◌&&◌, ◌||◌, Bool, true, false, List, [], ◌∷◌, ◌++◌, length, Result, Ok, Err, nat_le}
+use Rattle.std.specs.Prelude.{ℕ, ◌&&◌, ◌||◌, Bool, true, false, List, [], ◌∷◌, ◌++◌, length, Result, Ok, Err, nat_le}
 use Rattle.std.specs.Prelude.{nat_lt, if◌then◌else◌, codes}
 use Rattle.std.specs.List.{count_by, list_all, join_with_byte}
 use Rattle.std.specs.Str.{bytes_eq}
@@ -12,6 +12,7 @@ use Rattle.boot_script.specs.declared.plan.QueueIndex.{QueueIndex}
 use Rattle.boot_script.specs.declared.plan.QueueIndex.TheVariants.{Small, Large}
 use Rattle.boot_script.specs.declared.version.Version.{Version}
 use Rattle.boot_script.specs.declared.version.Version.TheVariants.{One, Two, Three}
+use Rattle.boot_script.specs.QueueLists.{line_queue, screen_queue}
 use Rattle.boot_script.specs.Words.{◌>>=◌, pieces, first_word, later_words}
 
 -- a to z
@@ -90,8 +91,8 @@ with_name kind name names = names ++ record { name = name; kind = kind; number =
 -- the part of a tty that a word names: its screen queue, and where a line is heard also its line queue
 abbrev pub part_of : Bool → ℕ → List ℕ → Result QueueIndex ScriptRefusal
 part_of heard tty part =
-    if bytes_eq part (codes "screen") then Ok (Large (tty * 2 + 1))
-    else if heard && bytes_eq part (codes "line") then Ok (Large (tty * 2))
+    if bytes_eq part (codes "screen") then Ok (Large (screen_queue tty))
+    else if heard && bytes_eq part (codes "line") then Ok (Large (line_queue tty))
     else Err NameUnknown
 
 -- a part of the tty of a name

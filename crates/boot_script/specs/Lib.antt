@@ -5,6 +5,7 @@ pub mod Commands
 pub mod Grammar
 pub mod Scripts
 pub mod Texts
+pub mod QueueLists
 pub mod BootNames
 pub mod Counted
 pub mod BootWords

@@ -1,5 +1,5 @@
 -- The limits of a plan: how many there are of what, and that each number in it names something of the plan.
-use Rattle.std.specs.Prelude.{ℕ, ◌<◌, ◌≤◌, ◌*◌, length}
+use Rattle.std.specs.Prelude.{◌≡◌, ◌≢◌, ℕ, ◌<◌, ◌≤◌, ◌*◌, ◌%◌, List, [], ◌∷◌, length}
 use Rattle.std.specs.List.{AllByRecursion}
 use Rattle.quaject_core.specs.declared.alarm.Alarm.{Alarm}
 use Rattle.boot_script.specs.declared.declared_names.Kind.{Kind}
@@ -29,9 +29,14 @@ abbrev pub IsQueueOf : (Kind → ℕ) → QueueIndex → Type 0
 IsQueueOf many (Small queue) = queue < many kind.Queue
 IsQueueOf many (Large queue) = queue < many kind.Tty * 2
 
+-- a queue or pipe, or the screen queue of a tty, which has the odd number
+abbrev pub IsSaidTo : (Kind → ℕ) → QueueIndex → Type 0
+IsSaidTo many (Small queue) = queue < many kind.Queue
+IsSaidTo many (Large queue) = (queue < many kind.Tty * 2) × (queue % 2 ≡ 1)
+
 -- what a step names is there
 abbrev pub IsStepOf : (Kind → ℕ) → Step → Type 0
-IsStepOf many (Say queue text) = IsQueueOf many queue
+IsStepOf many (Say queue text) = IsSaidTo many queue
 IsStepOf many (Hear queue) = IsQueueOf many queue
 IsStepOf many (Wait wait) = Unit {0}
 IsStepOf many (Wake wait) = Unit {0}
@@ -47,11 +52,17 @@ IsStepOf many (Close queue) = queue < many kind.Queue
 abbrev pub IsWayOf : (Kind → ℕ) → Way → Type 0
 IsWayOf many way = way.to < many kind.Queue
 
--- the queues of a pump or switch are there
+-- ways behind these keys: no two have the same key
+abbrev pub AreApart : List ℕ → List Way → Type 0
+AreApart keys [] = Unit {0}
+AreApart keys (way ∷ ways) = AllByRecursion (λ key. way.key ≢ key) keys × AreApart (way.key ∷ keys) ways
+
+-- the queues of a pump or switch are there; a switch has a way at least, and no two with the same key
 abbrev pub IsMoverOf : (Kind → ℕ) → Mover → Type 0
 IsMoverOf many (Pump from to) = (from < many kind.Queue) × (to < many kind.Queue)
 IsMoverOf many (Switch from other ways) =
     (from < many kind.Queue) × (other < many kind.Queue) × AllByRecursion (IsWayOf many) ways
+    × (1 ≤ length ways) × AreApart [] ways
 
 -- the thread of an alarm is there
 abbrev pub IsAlarmOf : (Kind → ℕ) → Alarm → Type 0

@@ -1,5 +1,6 @@
 -- The plan that a boot script says: its lines one after the other, each with the names declared so far.
-use Rattle.std.specs.Prelude.{ℕ, zero, suc, ◌+◌, Bool, true, false, List, [], ◌∷◌, ◌++◌, length, Option, Some, None, Result, Ok, Err}
+use Rattle.std.specs.Prelude.{ℕ, zero, suc, ◌+◌, Bool, true, false, List, [], ◌∷◌, ◌++◌, length, Option, Some, None}
+use Rattle.std.specs.Prelude.{Result, Ok, Err}
 use Rattle.std.specs.Prelude.{nat_le, nat_lt, if◌then◌else◌}
 use Rattle.std.specs.List.{slice_get}
 use Rattle.quaject_core.specs.declared.alarm.Alarm.{Alarm}
@@ -37,10 +38,11 @@ pub record Draft : Type 0 where
   pub names : List Named
   pub going : Option ℕ
 
--- nothing was said
+-- a plan with nothing in it
 abbrev pub no_plan : Plan
 no_plan = record { queues = []; ttys = []; movers = []; gauges = []; alarms = []; threads = [] }
 
+-- nothing was said, and no thread's program goes on
 abbrev pub first_draft : Draft
 first_draft = record { plan = no_plan; names = []; going = None }
 
@@ -54,6 +56,7 @@ abbrev pub typed_in : Option PlannedTty → List ℕ
 typed_in None = []
 typed_in (Some tty) = tty.typed
 
+-- what the device of the tty with this number types so far
 abbrev pub typed_at : List PlannedTty → ℕ → List ℕ
 typed_at ttys tty = typed_in (slice_get ttys tty)
 
@@ -62,6 +65,7 @@ abbrev pub steps_in : Option PlannedThread → List Step
 steps_in None = []
 steps_in (Some thread) = thread.steps
 
+-- the program so far of the thread with this number
 abbrev pub steps_at : List PlannedThread → ℕ → List Step
 steps_at threads thread = steps_in (slice_get threads thread)
 
@@ -71,9 +75,11 @@ change_at change [] place = []
 change_at change (x ∷ xs) zero = change x ∷ xs
 change_at change (x ∷ xs) (suc place) = x ∷ change_at change xs place
 
+-- a tty whose device types this besides
 abbrev pub with_text : List ℕ → PlannedTty → PlannedTty
 with_text text tty = record tty { typed = tty.typed ++ text }
 
+-- a thread with a step more
 abbrev pub with_step : Step → PlannedThread → PlannedThread
 with_step step thread = record thread { steps = thread.steps ++ step ∷ [] }
 

@@ -4,7 +4,8 @@
 ghost use Rattle.std.specs.Prelude.{◌≡◌, ◌<◌, ◌≤◌, [], IfOk, IfErr, OnOk, length, true};
 ghost use Rattle.std.specs.List.{list_all};
 ghost use Rattle.boot_script.specs.BootNames.{same_kind, is_letter, is_name_byte, is_name, name_of, find, number_named};
-ghost use Rattle.boot_script.specs.BootNames.{is_declared, new_name, count_of, most_of, room_of, with_name, part_of, tty_part, queue_named};
+ghost use Rattle.boot_script.specs.BootNames.{is_declared, new_name, count_of, most_of, room_of, with_name, part_of};
+ghost use Rattle.boot_script.specs.BootNames.{tty_part, queue_named};
 
 use crate::fault::ScriptRefusal;
 use crate::fixed::Name;

@@ -5,7 +5,8 @@
 
 ghost use Rattle.std.specs.Prelude.{◌≡◌, ◌<◌, ◌≤◌, ◌+◌, ◌++◌, ◌∷◌, [], Ok, Some, true, length, if◌then◌else◌};
 ghost use Rattle.boot_script.specs.declared.version.Version.{Version};
-ghost use Rattle.boot_script.specs.Plans.{first_draft, add_step, added, line_added, typed_at, change_at, with_text, with_step};
+ghost use Rattle.boot_script.specs.Plans.{first_draft, add_step, added, line_added, typed_at, change_at, with_text};
+ghost use Rattle.boot_script.specs.Plans.{with_step};
 ghost use Rattle.boot_script.specs.Drafts.{AddsTo, Draws};
 
 use crate::boot_lines::{Line, line_said};
@@ -137,7 +138,8 @@ impl Draft {
 
     /// What a tty's device types besides. TextTooLong where that were more than 1,024 bytes.
     fn add_text(&mut self, tty: TtyNumber, text: &Text<1024>) -> Result<(), ScriptRefusal>
-        ensures { (version : Version) → AddsTo self.old result self.new (λ d. added version (Line.Types tty text.now) d) }
+        ensures { (version : Version)
+            → AddsTo self.old result self.new (λ d. added version (Line.Types tty text.now) d) }
     {
         let at = usize::from(tty.number());
         let count = self.typed[at].saturating_add(text.as_slice().len());

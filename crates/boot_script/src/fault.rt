@@ -21,13 +21,14 @@ pub enum ScriptRefusal {
     BadNumber = 3,
     /// A word has not the form of the name that stands there.
     BadName = 4,
-    /// A name is declared a second time.
+    /// A name is declared a second time, or a way of a switch has the key of an earlier one.
     NameTwice = 5,
-    /// A name is not declared, or names something of another kind.
+    /// A name is not declared, or names something of another kind; or what stands behind its full stop is no such part.
     NameUnknown = 6,
-    /// The text has more than 65,536 bytes, or a line more items than it may have.
+    /// The text has more than 65,536 bytes, a line more items or ways than it may have, or the script more declarations
+    /// or steps.
     TooMany = 7,
-    /// A text is longer than it may be.
+    /// A text is longer than it may be, or would make what a tty's device types longer than that may be.
     TextTooLong = 8,
     /// A line that is no comment has a byte other than 0x20 to 0x7E.
     NotAscii = 9,

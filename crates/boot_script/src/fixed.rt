@@ -71,6 +71,8 @@ impl<const N: usize> Text<N> {
 }
 
 impl<const N: usize> Default for Text<N> {
+    ghost is_default = { λ text. text ≡ [] };
+
     fn default() -> Self {
         Text::new()
     }

@@ -1,7 +1,8 @@
 //! Scripts as text: what their lines say, what is wrong with them, and what is printed of them.
 //!
 //! A list of events has one event a line. `parse_events` reads it, and `replay` runs it on a fresh core and prints the
-//! core's status. Each text has one reading or one first fault, and each event one spelling.
+//! core's status. A boot script has one declaration or step a line. `parse_boot` reads it as a plan, and `print_report`
+//! prints what a boot reports. Each text has one reading or one first fault.
 #![tactic(auto)]
 
 mod boot;

@@ -73,7 +73,8 @@ pub(super) fn signal_said(names: &Names, words: &mut Words) -> Result<Line, Scri
 /// `stop THREAD`
 #[tactic(auto, unfolding(crate::specs::Grammar::one_word))]
 pub(super) fn stop_said(names: &Names, words: &mut Words) -> Result<Line, ScriptRefusal>
-    ensures { result ≡ one_word (number_named Kind.Thread names.now) (λ thread. Line.Step (Step.Stop thread)) words.old }
+    ensures { result ≡ one_word (number_named Kind.Thread names.now) (λ thread. Line.Step (Step.Stop thread))
+        words.old }
 {
     let thread = names.thread(words.next_word())?;
     no_more(words)?;

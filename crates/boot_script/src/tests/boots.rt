@@ -20,7 +20,7 @@ fn fault_of(alloc: Global, text: &[u8]) -> (u32, u8) {
 }
 
 /// Scripts, and their first fault.
-const SCRIPTS: [(&[u8], (u32, u8)); 38] = [
+const SCRIPTS: [(&[u8], (u32, u8)); 41] = [
     (b"", (1, 1)),
     (b"synthesis", (1, 1)),
     (b"synthesis 1 ", (1, 1)),
@@ -71,6 +71,18 @@ const SCRIPTS: [(&[u8], (u32, u8)); 38] = [
     (b"synthesis 1\nalarm 4294967296 a 0", (2, 3)),
     (b"synthesis 1\nalarm 4294967295 a 0", (2, 6)),
     (b"synthesis 1\nthread a\nalarm 4294967295 a 16", (3, 3)),
+    (
+        b"synthesis 1\nqueue q\npump a q q\npump b q q\nswitch c q q x q\npump d q q",
+        (0, 0),
+    ),
+    (
+        b"synthesis 1\nqueue q\npump a q q\npump b q q\nswitch c q q x q\npump d q q\nswitch e q q x q",
+        (7, 7),
+    ),
+    (
+        b"synthesis 1\nqueue q\npump a q q\npump b q q\nswitch c q q x q\npump d q q\npump e q q q",
+        (7, 2),
+    ),
 ];
 
 #[test]

@@ -44,12 +44,19 @@ large_fit world (any.Cooked tty) ports p f = subst (AllFit world.large.items) (s
 large_fit world (any.Pump pump) ports p f = subst (AllFit world.large.items) (sym p.1) tt
 large_fit world (any.Switch switch) ports p f = subst (AllFit world.large.items) (sym p.1) tt
 
-pub came_home : (world : Queues) (v : View) (first put taken : ℕ) (left : List (Option ℕ)) (x : AnyQuaject) (home : Home) → ClosedNow anys.HasRun (anys.Fits world) v first put taken left x → IsHome x put (length left) home → CameHome world home
+module _ {made : AnyQuaject → List ℕ → Type 0} {fits : AnyQuaject → Type 0} {v : View} {x : AnyQuaject} where
+  -- the same, by the number of notes alone
+  closed_as : (first put taken : ℕ) (left : List (Option ℕ)) (n : ℕ) → ClosedNow made fits v first put taken left x → put ≡ n → ClosedNow made fits v first n n [] x
+  closed_as first put taken left n c e = subst (λ (z : ℕ). ClosedNow made fits v first z z [] x) e
+      (subst (λ (z : ℕ). ClosedNow made fits v first put z [] x) c.all_taken (subst (λ (z : List (Option ℕ)). ClosedNow made fits v first put taken z x) c.none_left c))
+
+pub came_home : (world : Queues) (v : View) (first put taken : ℕ) (left : List (Option ℕ)) (x : AnyQuaject) (home : Home) → ClosedNow anys.HasRun (anys.Fits world) v first put taken left x → IsHome x put (length left) home → CameHome world first v home
 came_home world v first put taken left x home c h = let q = c.queue in
     let whole : q.taken ≡ length q.places = sym c.taken_is ∙ c.all_taken ∙ c.puts in
     let all : length (notes_of q) ≡ put = length-map (take q.taken q.places) item_of ∙ length-take-le q.taken q.places (subst (λ (z : ℕ). z ≤ length q.places) (sym whole) (omega arith)) ∙ whole ∙ sym c.puts in
     record {
       quaject = x;
+      closed = closed_as first put taken left home.chained c (sym h.chained_is);
       its = record { ports = h.ports; chained_is = refl; left_is = refl; notes = h.notes; taken = h.taken; put = h.put; held = h.held };
       kept = law_of x;
       small = small_fit world x (home.small, home.large) h.ports c.home.1;

@@ -16,11 +16,11 @@ use Rattle.claim_queue.specs.Closings.{ClosedNow, WereOpen, shown}
 use Rattle.claim_queue.specs.Endings.{TookIn}
 use Rattle.claim_queue.specs.Handles.{view_of}
 use Rattle.claim_queue.specs.Lines.{lines_put, lines_taken, IsSettled}
-use Rattle.quajects.specs.Settled.{views_of, share_of, HasRaised, HasAll, SettledNow, StillOpen}
+use Rattle.quajects.specs.Settled.{views_of, share_of, runs_of, takings_of, HasRaised, HasAll, SettledNow, StillOpen}
 
 -- an end alone has what it has
 pub alone_has : (v : View) → HasAll (v ∷ []) v
-alone_has v = record { puts = sym (append-nil (lines_put v)); takes = sym (append-nil (lines_taken v)); share = omega arith; raised = λ h. h 0 v (omega arith) }
+alone_has v = record { puts = sym (append-nil (lines_put v)); takes = sym (append-nil (lines_taken v)); share = omega arith; runs = sym (append-nil (runs_of v)); takings = sym (append-nil (takings_of v)); raised = λ h. h 0 v (omega arith) }
 
 raised_both : (a b : List Batch) → AllRaised a → AllRaised b → AllRaised (a ++ b)
 raised_both [] b ha hb m e at i l = hb m e at i l
@@ -37,8 +37,8 @@ module _ {X : Type 0} (P : X → Type 0) where
   last_holds [] y h = h 0 y (omega arith)
   last_holds (x ∷ xs) y h = last_holds xs y (λ k d l. h (suc k) d (omega arith))
 
-more_lines : (f : View → List (List ℕ)) (ends : List View) (v u w : View) → f v ≡ flat_map f ends → f w ≡ f v ++ f u → f w ≡ flat_map f (ends ++ u ∷ [])
-more_lines f ends v u w h e = e ∙ ap (λ (z : List (List ℕ)). z ++ f u) h ∙ ap (λ (z : List (List ℕ)). flat_map f ends ++ z) (sym (append-nil (f u))) ∙ sym (flat_map-append f ends (u ∷ []))
+more_lines : {A : Type 0} (f : View → List A) (ends : List View) (v u w : View) → f v ≡ flat_map f ends → f w ≡ f v ++ f u → f w ≡ flat_map f (ends ++ u ∷ [])
+more_lines {A} f ends v u w h e = e ∙ ap (λ (z : List A). z ++ f u) h ∙ ap (λ (z : List A). flat_map f ends ++ z) (sym (append-nil (f u))) ∙ sym (flat_map-append f ends (u ∷ []))
 
 -- an end more was joined
 pub joined_has : (ends : List View) (v u w : View) → HasAll ends v → TookIn v u w → (lines_put w ≡ lines_put v ++ lines_put u) × (lines_taken w ≡ lines_taken v ++ lines_taken u) → HasAll (ends ++ u ∷ []) w
@@ -46,6 +46,8 @@ joined_has ends v u w h j l = record {
   puts = more_lines lines_put ends v u w h.puts l.0;
   takes = more_lines lines_taken ends v u w h.takes l.1;
   share = ap (λ (z : Member). z.share) j.member.same ∙ ap (λ (z : ℕ). z + share_of u) h.share ∙ sym (sum_by_push share_of ends u);
+  runs = more_lines runs_of ends v u w h.runs (ap runs_of j.same);
+  takings = more_lines takings_of ends v u w h.takings (ap takings_of j.same);
   raised = λ all. subst AllRaised (sym (ap (λ (z : View). z.part.runs) j.same))
       (raised_both v.part.runs u.part.runs (h.raised (front_holds HasRaised ends (u ∷ []) all)) (last_holds HasRaised ends u all));
 }
@@ -59,8 +61,11 @@ module _ {n : ℕ} where
   join_more end others other before after h j l = subst (λ (z : List View). HasAll z (view_of after)) (views_more end others other) (joined_has (views_of end others) (view_of before) (view_of other) (view_of after) h j l)
 
 -- the end that had all closed the queue
-pub settled_now : (ends : List View) (w : View) (first put taken : ℕ) (left : List (Option ℕ)) → HasAll ends w → ClosedNow w first put taken left → SettledNow ends put taken left
+pub settled_now : (ends : List View) (w : View) (first put taken : ℕ) (left : List (Option ℕ)) → HasAll ends w → ClosedNow w first put taken left → SettledNow ends first put taken left
 settled_now ends w first put taken left h c = let q = c.queue in let items = map item_of q.places in record {
+  before = w;
+  has = h;
+  closed = c;
   whole = subst IsWhole h.share c.whole;
   items = items;
   put_is = c.puts ∙ sym (length-map q.places item_of);
@@ -72,10 +77,15 @@ settled_now ends w first put taken left h c = let q = c.queue in let items = map
 -- the end found others
 pub still_open : (ends : List View) (v w : View) (others : ℕ) → HasAll ends v → WereOpen v others w → StillOpen ends others w
 still_open ends v w others h o = let s = o.tallied.same in let share = ap (λ (z : Member). z.share) o.tallied.member.same in record {
+  before = v;
+  had = h;
+  found = o;
   has = record {
     puts = ap lines_put s ∙ h.puts;
     takes = ap lines_taken s ∙ h.takes;
     share = share ∙ h.share;
+    runs = ap runs_of s ∙ h.runs;
+    takings = ap takings_of s ∙ h.takings;
     raised = λ all. subst AllRaised (sym (ap (λ (z : View). z.part.runs) s)) (h.raised all);
   };
   some_other = o.some_other;

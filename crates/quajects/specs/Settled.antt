@@ -5,6 +5,8 @@ use Rattle.claim_queue.specs.declared.ends.QueueEnd.{QueueEnd}
 use Rattle.claim_queue.specs.declared.rule.View.{View}
 use Rattle.claim_queue.specs.Handles.{view_of}
 use Rattle.claim_queue.specs.Lines.{lines_put, lines_taken, IsSettled}
+use Rattle.table_theory.specs.declared.queues.Batch.{Batch}
+use Rattle.claim_queue.specs.Closings.{ClosedNow, WereOpen}
 use Rattle.table_theory.specs.Listing.{AllRaised}
 use Rattle.table_theory.specs.Sharing.{IsWhole}
 
@@ -19,17 +21,29 @@ share_of v = v.member.share
 abbrev pub HasRaised : View → Type 0
 HasRaised v = AllRaised v.part.runs
 
+-- what the end claimed, and what it took, with their positions
+abbrev pub runs_of : View → List Batch
+runs_of v = v.part.runs
+
+abbrev pub takings_of : View → List Batch
+takings_of v = v.part.takes
+
 -- The end has the lines of all these ends, end by end, and their shares; and it has raised all that it claimed where
 -- each of them has
 pub record HasAll (ends : List View) (w : View) : Type 0 where
   pub puts : lines_put w ≡ flat_map lines_put ends
   pub takes : lines_taken w ≡ flat_map lines_taken ends
   pub share : share_of w ≡ sum_by share_of ends
+  pub runs : runs_of w ≡ flat_map runs_of ends
+  pub takings : takings_of w ≡ flat_map takings_of ends
   pub raised : All HasRaised ends → HasRaised w
 
 -- The queue is closed, and these were all its ends. The items put are the lines that they put, each once; the first of
 -- them are the lines that they took, each once; and where each has raised all that it claimed, the others are left
-pub record SettledNow (ends : List View) (put taken : ℕ) (left : List (Option ℕ)) : Type 0 where
+pub record SettledNow (ends : List View) (first put taken : ℕ) (left : List (Option ℕ)) : Type 0 where
+  pub before : View
+  pub has : HasAll ends before
+  pub closed : ClosedNow before first put taken left
   pub whole : IsWhole (sum_by share_of ends)
   pub items : List ℕ
   pub put_is : put ≡ length items
@@ -39,5 +53,8 @@ pub record SettledNow (ends : List View) (put taken : ℕ) (left : List (Option 
 
 -- other ends stand, and this end has all that the others had
 pub record StillOpen (ends : List View) (others : ℕ) (w : View) : Type 0 where
+  pub before : View
+  pub had : HasAll ends before
+  pub found : WereOpen before others w
   pub has : HasAll ends w
   pub some_other : 0 < others

@@ -19,7 +19,7 @@ fn is_eraser(byte: u8) -> bool
 }
 
 /// The line that the typed bytes of `line` stand for: each erase takes back the byte before it, a kill all before it.
-/// An end of line is put behind.
+/// An end of line is put behind. `line` is without its own end: a 0x0A in it is a byte as any other.
 pub fn cook(line: &[u8], out: &mut ArrayVec<u8, 65>)
     requires short { length line.now ≤ 64 }
     requires empty { out.old.items ≡ [] }

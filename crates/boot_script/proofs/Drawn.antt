@@ -200,13 +200,6 @@ typed_is [] tty d within = absurd (omega (arith, within))
 typed_is (t ∷ ttys) zero d within = refl
 typed_is (t ∷ ttys) (suc tty) d within = typed_is ttys tty d (omega (arith, within))
 
--- a sum of 64 bits is at most 1,024 where it is so without a limit
-pub least : (a b limit : ℕ) → 1024 < limit → 1024 < min (a + b) limit → 1024 < a + b
-least a b limit h k = omega (arith, h, k)
-
-pub sum_is : (a b limit : ℕ) → 1024 < limit → min (a + b) limit ≤ 1024 → min (a + b) limit ≡ a + b
-sum_is a b limit h k = omega (arith, h, k)
-
 pub on_ok : {A E P : Type 0} (r : Result A E) → is_ok r ≡ true → OnOk r P → P
 on_ok (Ok x) h p = p
 on_ok (Err e) h p = absurd (cc h)

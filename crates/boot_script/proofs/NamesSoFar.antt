@@ -98,10 +98,6 @@ by_kinds : (names : List Named) → length names ≡ count_of Queue names + (cou
 by_kinds [] = refl
 by_kinds (n ∷ names) = omega (arith, by_kinds names, one_of n.kind, count_cons Queue n names, count_cons Tty n names, count_cons Mover n names, count_cons Gauge n names, count_cons Thread n names)
 
--- all names have room
-pub all_few : (names : List Named) → AreCounted names → length names ≤ 86
-all_few names h = omega (arith, by_kinds names, h.few Queue, h.few Tty, h.few Mover, h.few Gauge, h.few Thread)
-
 pub all_push : {A : Type 0} (P : A → Type 0) (xs : List A) (x : A) → AllByRecursion P xs → P x → AllByRecursion P (xs ++ x ∷ [])
 all_push P [] x all h = (h, tt)
 all_push P (y ∷ ys) x all h = (all.0, all_push P ys x all.1 h)

@@ -12,7 +12,7 @@ pub struct Text<const N: usize> {
     bytes: ArrayVec<u8, N>,
 }
 
-/// A name that a boot script declares: 1 to 8 bytes of a to z and 0 to 9, the first a letter.
+/// A name, of at most 8 bytes. In a plan that was read each is 1 to 8 bytes of a to z and 0 to 9, the first a letter.
 pub type Name = Text<8>;
 
 impl<const N: usize> Model for Text<N> {

@@ -72,7 +72,7 @@ module _ {Q W : Type 0} (made : Q → List ℕ → Type 0) (fits : W → Q → T
           shows = shows_claim q s.words x new k.shows (omega arith) small;
           listed = subst (ViewsShow q') (sym (map-set part_of s.views id w)) listed';
           gate = subst (λ (c : ℕ). GateShows q' c (set s.views id w)) (sym (keep 3 (λ e. omega arith))) (gated_same q q' (gate_in s.words) s.views id v w k.gate at refl refl (λ _. refl) (λ h. inl h) settled);
-          slot = subst (λ (c : ℕ). SlotShows made fits key.world.value q' c s.homes) (sym (keep 3 (λ e. omega arith))) (housed_on made fits key.world.value q q' (gate_in s.words) s.homes k.slot (notes_same q q' (claim_grows q (x ∷ []) k.shows.is_open) refl behind));
+          slot = subst (λ (c : ℕ). SlotShows made fits key.pact q' c s.homes) (sym (keep 3 (λ e. omega arith))) (housed_on made fits key.pact q q' (gate_in s.words) s.homes k.slot (notes_same q q' (claim_grows q (x ∷ []) k.shows.is_open) refl behind));
           undoubled = undoubled_set s.views id w k.undoubled (k.undoubled id v at);
           ends = subst (λ (c : ℕ). EndsKnown member_of IsIdle c (set s.views id w)) (sym (keep 2 (λ e. omega arith))) (known_look member_of IsIdle (get_or s.words 2 0) s.views id v w k.ends at refl (λ none. absurd (omega arith)));
           course = course_on made fits key s k id 0 old (gate_in s.words) (gate_in s.words) q' (set s.words 0 new) v w at refl (keep 3 (λ e. omega arith)) refl refl;
@@ -160,7 +160,7 @@ module _ {Q W : Type 0} (made : Q → List ℕ → Type 0) (fits : W → Q → T
           };
           listed = subst (ViewsShow q') (sym (map-set part_of s.views id w)) (listed_write q (map part_of s.views) id m 0 2 p v.part w.part e k.listed (at_map part_of s.views id v at) has below o.start o.from (omega arith) refl refl (grows_refl q', grows_refl q'));
           gate = subst (λ (c : ℕ). GateShows q' c (set s.views id w)) (sym (other 3 (λ z. omega arith))) (gated_same q q' (gate_in s.words) s.views id v w k.gate at refl refl (λ _. refl) (λ h. inl h) settled);
-          slot = subst (λ (c : ℕ). SlotShows made fits key.world.value q' c s.homes) (sym (other 3 (λ z. omega arith))) (housed_on made fits key.world.value q q' (gate_in s.words) s.homes k.slot (notes_same q q' (write_grows q p 2 o.below (omega arith)) refl k.lawful.behind));
+          slot = subst (λ (c : ℕ). SlotShows made fits key.pact q' c s.homes) (sym (other 3 (λ z. omega arith))) (housed_on made fits key.pact q q' (gate_in s.words) s.homes k.slot (notes_same q q' (write_grows q p 2 o.below (omega arith)) refl k.lawful.behind));
           undoubled = undoubled_set s.views id w k.undoubled (k.undoubled id v at);
           ends = subst (λ (c : ℕ). EndsKnown member_of IsIdle c (set s.views id w)) (sym (other 2 (λ z. omega arith))) (known_look member_of IsIdle (get_or s.words 2 0) s.views id v w k.ends at refl (λ _ none. absurd (some-ne-none e (sym (subst (λ (z : List Batch). get_elem? z m ≡ some e) none.0 has)))));
           course = course_on made fits key s k id u x (gate_in s.words) (gate_in s.words) q' words' v w at refl (other 3 (λ z. omega arith)) refl refl;
@@ -183,7 +183,7 @@ module _ {Q W : Type 0} (made : Q → List ℕ → Type 0) (fits : W → Q → T
   -- the rule, where the gate becomes y and the slot is where `homes` says
   pub kept_gate : (s : State Q View) (k : Rule made fits key s) (id gate y : ℕ) (v w : View) (homes : List (Option Q)) → get_elem? s.views id ≡ some v → w.part ≡ record v.part { queue = k.queue; joined = k.queue } → w.member ≡ v.member → w.doubled ≡ v.doubled → 1 ≤ v.member.ends → gate ≡ gate_in s.words
       → w.steps ≡ v.steps ++ entry 3 gate (moment k.queue gate) (moment k.queue y) ∷ [] → w.course ≡ steps_to k ++ entry 3 gate (moment k.queue gate) (moment k.queue y) ∷ []
-      → GateShows k.queue y (set s.views id w) → SlotShows made fits key.world.value k.queue y homes → Rule made fits key record { words = set s.words 3 y; homes = homes; views = set s.views id w }
+      → GateShows k.queue y (set s.views id w) → SlotShows made fits key.pact k.queue y homes → Rule made fits key record { words = set s.words 3 y; homes = homes; views = set s.views id w }
   kept_gate s k id gate y v w homes at is member doubled live from own all g h = let wide = k.shows.wide in let now : get_or (set s.words 3 y) 3 0 ≡ y = get_or-set_same s.words 3 y 0 (omega arith) in record {
     queue = k.queue;
     first = k.first;
@@ -191,13 +191,13 @@ module _ {Q W : Type 0} (made : Q → List ℕ → Type 0) (fits : W → Q → T
     shows = shows_gate k.queue s.words y k.shows;
     listed = listed_part k.queue s.views id v w k.listed at is;
     gate = subst (λ (c : ℕ). GateShows k.queue c (set s.views id w)) (sym now) g;
-    slot = subst (λ (c : ℕ). SlotShows made fits key.world.value k.queue c homes) (sym now) h;
+    slot = subst (λ (c : ℕ). SlotShows made fits key.pact k.queue c homes) (sym now) h;
     undoubled = undoubled_set s.views id w k.undoubled (doubled ∙ k.undoubled id v at);
     ends = subst (λ (c : ℕ). EndsKnown member_of IsIdle c (set s.views id w)) (sym (get_or-set_other s.words 3 2 y 0 (λ e. omega arith))) (known_look member_of IsIdle (get_or s.words 2 0) s.views id v w k.ends at member (λ none. absurd (omega arith)));
     course = course_on made fits key s k id 3 gate gate y k.queue (set s.words 3 y) v w at from now own all;
   }
 
-  pub notifies_gate : (suits : Q → Type 0) (n id call : ℕ) (me : Me Q View) → call ≡ id → 1 ≤ me.0.member.ends → me.0.owes ≡ true → ((x : Q) → fits key.world.value x → suits x) → Allows (Rule made fits key) n id me 3 (λ _. 2) (notifies made suits call (step n 3 2 0 none) me)
+  pub notifies_gate : (suits : Q → Type 0) (n id call : ℕ) (me : Me Q View) → call ≡ id → 1 ≤ me.0.member.ends → me.0.owes ≡ true → ((x : Q) → fits key.pact x → suits x) → Allows (Rule made fits key) n id me 3 (λ _. 2) (notifies made suits call (step n 3 2 0 none) me)
   notifies_gate suits n id call me own live ow fit s k _ at _ = let v : View = me.0 in let q : Positions = k.queue in dite (ℕ_discrete (gate_in s.words) 0)
       (λ down. let h = k.slot.home down in let x : Q = h.0 in let w : View = record (after v 3 0 (steps_to k) (moment q 0) (moment q 2)) { owes = false; runner = true; saw = false } in let none_runs = k.gate.still down in
       let gate' : GateShows q 2 (set s.views id w) = gated_runs q 2 s.views id v w at (λ j u has ne. none_runs j u has) (λ e. omega arith) (omega arith) refl refl refl in

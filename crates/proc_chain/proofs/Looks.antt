@@ -59,7 +59,7 @@ module _ {Q W : Type 0} (made : Q → List ℕ → Type 0) (fits : W → Q → T
     shows = subst (WordsShow k.queue) (sym same) k.shows;
     listed = listed_part k.queue s.views id v w k.listed at is;
     gate = subst (λ (n : ℕ). GateShows k.queue n (set s.views id w)) (ap (λ (z : List ℕ). get_or z 3 0) (sym same)) g;
-    slot = subst (λ (n : ℕ). SlotShows made fits key.world.value k.queue n s.homes) (ap (λ (z : List ℕ). get_or z 3 0) (sym same)) k.slot;
+    slot = subst (λ (n : ℕ). SlotShows made fits key.pact k.queue n s.homes) (ap (λ (z : List ℕ). get_or z 3 0) (sym same)) k.slot;
     undoubled = undoubled_set s.views id w k.undoubled (doubled ∙ k.undoubled id v at);
     ends = subst (λ (n : ℕ). EndsKnown member_of IsIdle n (set s.views id w)) (ap (λ (z : List ℕ). get_or z 2 0) (sym same)) (known_look member_of IsIdle (get_or s.words 2 0) s.views id v w k.ends at member (λ none. absurd (omega arith)));
     course = course_on s k id i found (gate_in s.words) (gate_in s.words) k.queue (set s.words i (get_or s.words i 0)) v w at refl (ap (λ (z : List ℕ). get_or z 3 0) same) own all;

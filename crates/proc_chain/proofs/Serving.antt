@@ -58,12 +58,12 @@ module _ {Q W : Type 0} (made : Q → List ℕ → Type 0) (fits : W → Q → T
       ))
 
   -- the quaject in hand was made by the notes taken
-  carried : (suits : Q → Type 0) (q : Positions) (me : Me Q View) → ((x : Q) → fits key.world.value x → suits x) → Grows me.0.part.queue q → q.taken ≡ me.0.part.queue.taken → me.0.part.queue.taken ≤ length me.0.part.queue.places
-      → Carries made (fits key.world.value) (notes_of me.0.part.queue) [] me.1 → Carries made suits (notes_of q) [] me.1
+  carried : (suits : Q → Type 0) (q : Positions) (me : Me Q View) → ((x : Q) → fits key.pact x → suits x) → Grows me.0.part.queue q → q.taken ≡ me.0.part.queue.taken → me.0.part.queue.taken ≤ length me.0.part.queue.places
+      → Carries made (fits key.pact) (notes_of me.0.part.queue) [] me.1 → Carries made suits (notes_of q) [] me.1
   carried suits q me fit g same behind c = (c.0, c.1, subst (made c.0) (sym (notes_same me.0.part.queue q g same behind)) c.2, fit c.0 c.3)
 
-  pub takes_note : (suits : Q → Type 0) (n id call : ℕ) (me : Me Q View) (new : ℕ) → call ≡ id → ((x : Q) → fits key.world.value x → suits x) → me.0.runner ≡ true → 1 ≤ me.0.member.ends → 2 ≤ written_at me.0.part.queue me.0.part.queue.taken → new ≡ tail_of me.0.part.queue + 1
-      → me.0.part.queue.taken ≤ length me.0.part.queue.places → Carries made (fits key.world.value) (notes_of me.0.part.queue) [] me.1 → Allows (Rule made fits key) n id me 1 (λ _. new) (λ _. takes made suits call (step n 1 new 0 none) me new)
+  pub takes_note : (suits : Q → Type 0) (n id call : ℕ) (me : Me Q View) (new : ℕ) → call ≡ id → ((x : Q) → fits key.pact x → suits x) → me.0.runner ≡ true → 1 ≤ me.0.member.ends → 2 ≤ written_at me.0.part.queue me.0.part.queue.taken → new ≡ tail_of me.0.part.queue + 1
+      → me.0.part.queue.taken ≤ length me.0.part.queue.places → Carries made (fits key.pact) (notes_of me.0.part.queue) [] me.1 → Allows (Rule made fits key) n id me 1 (λ _. new) (λ _. takes made suits call (step n 1 new 0 none) me new)
   takes_note suits n id call me new own fit r live up is behind c s k _ at _ = let v : View = me.0 in let q : Positions = k.queue in let g = k.listed.seen id v.part (at_map part_of s.views id v at) in let taken = k.gate.takes id v at r in let first = g.0.first in
       let w : View = took v new (steps_to k) q (gate_in s.words) in let q' : Positions = with_take q 1 in let more = g.0.more v.part.queue.taken in
       let now : 2 ≤ written_at q q.taken = subst (λ (z : ℕ). 2 ≤ written_at q z) taken (let f : 2 ≤ written_at q v.part.queue.taken = omega arith in f) in
@@ -79,7 +79,7 @@ module _ {Q W : Type 0} (made : Q → List ℕ → Type 0) (fits : W → Q → T
           shows = shows_take q s.words new k.shows k.lawful lawful'.behind (omega arith);
           listed = subst (ViewsShow q') (sym (map-set part_of s.views id w)) (listed_take q (map part_of s.views) id 1 v.part w.part k.listed (at_map part_of s.views id v at) k.lawful.behind refl refl (grows_refl q', grows_refl q'));
           gate = subst (λ (c : ℕ). GateShows q' c (set s.views id w)) (sym (keep 3 (λ e. omega arith))) (gated_runs q' (gate_in s.words) s.views id v w at (others_still q (gate_in s.words) s.views id v k.gate at r) not_idle k.gate.small r refl refl);
-          slot = subst (λ (c : ℕ). SlotShows made fits key.world.value q' c s.homes) (sym (keep 3 (λ e. omega arith))) record { home = λ down. absurd (not_idle down); held = k.slot.held };
+          slot = subst (λ (c : ℕ). SlotShows made fits key.pact q' c s.homes) (sym (keep 3 (λ e. omega arith))) record { home = λ down. absurd (not_idle down); held = k.slot.held };
           undoubled = undoubled_set s.views id w k.undoubled (k.undoubled id v at);
           ends = subst (λ (c : ℕ). EndsKnown member_of IsIdle c (set s.views id w)) (sym (keep 2 (λ e. omega arith))) (known_look member_of IsIdle (get_or s.words 2 0) s.views id v w k.ends at refl (λ none. absurd (omega arith)));
           course = course_on made fits key s k id 1 new (gate_in s.words) (gate_in s.words) q' (set s.words 1 new) v w at refl (keep 3 (λ e. omega arith)) refl refl;
@@ -103,8 +103,8 @@ module _ {Q W : Type 0} (made : Q → List ℕ → Type 0) (fits : W → Q → T
         ),
       )
 
-  pub rounds_gate : (suits : Q → Type 0) (n id call : ℕ) (me : Me Q View) → call ≡ id → ((x : Q) → fits key.world.value x → suits x) → me.0.runner ≡ true → 1 ≤ me.0.member.ends → me.0.part.queue.taken ≤ length me.0.part.queue.places
-      → Carries made (fits key.world.value) (notes_of me.0.part.queue) [] me.1 → Allows (Rule made fits key) n id me 3 (λ _. 1) (rounds made suits call (step n 3 1 0 none) me)
+  pub rounds_gate : (suits : Q → Type 0) (n id call : ℕ) (me : Me Q View) → call ≡ id → ((x : Q) → fits key.pact x → suits x) → me.0.runner ≡ true → 1 ≤ me.0.member.ends → me.0.part.queue.taken ≤ length me.0.part.queue.places
+      → Carries made (fits key.pact) (notes_of me.0.part.queue) [] me.1 → Allows (Rule made fits key) n id me 3 (λ _. 1) (rounds made suits call (step n 3 1 0 none) me)
   rounds_gate suits n id call me own fit r live behind c s k _ at _ = let v : View = me.0 in let q : Positions = k.queue in let g = k.listed.seen id v.part (at_map part_of s.views id v at) in let not_idle = gate_up q (gate_in s.words) s.views id v k.gate at r in
       let w : View = record (after v 3 (gate_in s.words) (steps_to k) (moment q (gate_in s.words)) (moment q 1)) { saw = false } in (
         w,
@@ -127,7 +127,7 @@ module _ {Q W : Type 0} (made : Q → List ℕ → Type 0) (fits : W → Q → T
         ),
       )
 
-  pub leaves_gate : (suits : Q → Type 0) (n id call : ℕ) (me : Me Q View) → call ≡ id → ((x : Q) → fits key.world.value x → suits x) → me.0.runner ≡ true → me.0.saw ≡ true → 1 ≤ me.0.member.ends → me.0.part.queue.taken ≤ length me.0.part.queue.places → Carries made (fits key.world.value) (notes_of me.0.part.queue) [] me.1
+  pub leaves_gate : (suits : Q → Type 0) (n id call : ℕ) (me : Me Q View) → call ≡ id → ((x : Q) → fits key.pact x → suits x) → me.0.runner ≡ true → me.0.saw ≡ true → 1 ≤ me.0.member.ends → me.0.part.queue.taken ≤ length me.0.part.queue.places → Carries made (fits key.pact) (notes_of me.0.part.queue) [] me.1
       → Allows (Rule made fits key) n id me 3 (λ y. either (eqb y 1) 0 y) (leaves made suits call (step n 3 1 0 none) me)
   leaves_gate suits n id call me own fit r sw live behind c s k _ at _ = let y : ℕ = gate_in s.words in let v : View = me.0 in let q : Positions = k.queue in let g = k.listed.seen id v.part (at_map part_of s.views id v at) in let not_idle = gate_up q y s.views id v k.gate at r in let taken = k.gate.takes id v at r in
       exchanged y 1 0 (Goes made fits key s 3 id me (leaves made suits call (step n 3 1 0 none) me y))

@@ -72,7 +72,7 @@ module _ {Q W : Type 0} (made : Q → List ℕ → Type 0) (fits : W → Q → T
     shows = shows_count k.queue s.words y k.shows;
     listed = listed_part k.queue s.views id v w k.listed at refl;
     gate = subst (λ (c : ℕ). GateShows k.queue c (set s.views id w)) (sym keep) (gated_same k.queue k.queue (gate_in s.words) s.views id v w k.gate at refl refl (λ _. refl) (λ h. inl h) (settled_look k.queue s.views id v w at refl refl));
-    slot = subst (λ (c : ℕ). SlotShows made fits key.world.value k.queue c s.homes) (sym keep) k.slot;
+    slot = subst (λ (c : ℕ). SlotShows made fits key.pact k.queue c s.homes) (sym keep) k.slot;
     undoubled = undoubled_set s.views id w k.undoubled (k.undoubled id v at);
     ends = subst (λ (c : ℕ). EndsKnown member_of IsIdle c (set s.views id w)) (sym (get_or-set_same s.words 2 y 0 (omega arith))) e;
     course = course_on made fits key s k id 2 found (gate_in s.words) (gate_in s.words) k.queue (set s.words 2 y) v w at refl keep refl refl;
@@ -177,7 +177,7 @@ module _ {Q W : Type 0} (made : Q → List ℕ → Type 0) (fits : W → Q → T
 
   -- the table as it is made
   pub opens : (x : Q) (words : List ℕ) → key.first < 4294967296 → length words ≡ 36 → get_or words 0 0 ≡ key.first → get_or words 1 0 ≡ key.first → get_or words 2 0 ≡ 1
-      → ((j : ℕ) → 3 ≤ j → get_or words j 0 ≡ 0) → made x [] → fits key.world.value x → Rule made fits key (opening words (x ∷ []) (newcomer key))
+      → ((j : ℕ) → 3 ≤ j → get_or words j 0 ≡ 0) → made x [] → fits key.pact x → Rule made fits key (opening words (x ∷ []) (newcomer key))
   opens x words small long head tail ends rest is_made is_fit = let q : Positions = empty_from key.first in let w : View = newcomer key in let down : gate_in words ≡ 0 = rest 3 (omega arith) in let nobody = first_gated q w refl refl in record {
     queue = q;
     first = refl;
@@ -214,5 +214,5 @@ module _ {Q W : Type 0} (made : Q → List ℕ → Type 0) (fits : W → Q → T
     course = subst (λ (g : ℕ). IsCourse steps_of course_of (first_moment key.first) (moment q g) (w ∷ [])) (sym down) (course_first steps_of course_of (first_moment key.first) w refl refl);
   }
 
-  pub opens_new : (x : Q) (xs : List Q) → key.first < 4294967296 → xs ≡ x ∷ [] → made x [] → fits key.world.value x → Rule made fits key (opening (key.first ∷ key.first ∷ 1 ∷ replicate 33 0) xs (newcomer key))
+  pub opens_new : (x : Q) (xs : List Q) → key.first < 4294967296 → xs ≡ x ∷ [] → made x [] → fits key.pact x → Rule made fits key (opening (key.first ∷ key.first ∷ 1 ∷ replicate 33 0) xs (newcomer key))
   opens_new x xs small is is_made is_fit = let f : ℕ = key.first in subst (λ (z : List Q). Rule made fits key (opening (f ∷ f ∷ 1 ∷ replicate 33 0) z (newcomer key))) (sym is) (opens x (f ∷ f ∷ 1 ∷ replicate 33 0) small refl refl refl refl (zeros f) is_made is_fit)

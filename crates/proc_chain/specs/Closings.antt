@@ -18,7 +18,7 @@ left_from words p zero = []
 left_from words p (suc n) = left_at words p ∷ left_from words (suc p) n
 
 -- The chain is closed, by an end that has the whole and so lists all of it. All that was put was taken, no note is
--- left, and the quaject that comes back was made by the notes taken, in order, and fits
+-- left, and the quaject that comes back was made by the notes taken, in order, and suits the chain
 pub record ClosedNow {Q : Type 0} (made : Q → List ℕ → Type 0) (fits : Q → Type 0) (v : View) (first put taken : ℕ)
     (left : List (Option ℕ)) (quaject : Q) : Type 0 where
   pub whole : IsWhole v.member.share

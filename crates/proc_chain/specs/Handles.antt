@@ -4,15 +4,25 @@ use Rattle.table_theory.specs.Seating.{IsSame}
 use Rattle.table_theory.specs.Sharing.{IsWhole}
 use Rattle.atomic_table.specs.Table.{Me}
 use Rattle.proc_chain.specs.declared.quaject.Quaject.{Ghosts}
+use Rattle.proc_chain.specs.declared.rule.Pact.{Pact}
 use Rattle.proc_chain.specs.declared.rule.View.{View}
 use Rattle.proc_chain.specs.declared.ends.ProcChain.{ProcChain}
 use Rattle.proc_chain.specs.declared.ends.ChainEnd.{ChainEnd}
+use Rattle.proc_chain.specs.Rules.{suits}
 use Rattle.proc_chain.specs.Turns.{HasSlot}
 
 module _ {Q W : Type 0} where
+  -- what binds the chain's quaject
+  abbrev pub pact_of : ProcChain Q W → Pact W Q
+  pact_of chain = chain.table.shared.key.pact
+
   -- the world of the chain's quaject
   abbrev pub world_of : ProcChain Q W → W
-  world_of chain = chain.table.shared.key.world.value
+  world_of chain = chain.table.shared.key.pact.world.value
+
+  -- the quaject that was given to `new`
+  abbrev pub opening_of : ProcChain Q W → Q
+  opening_of chain = chain.table.shared.key.pact.opening.value
 
   -- the chain's first position
   abbrev pub first_of : ProcChain Q W → ℕ
@@ -43,11 +53,11 @@ module _ {Q W : Type 0} {g : Ghosts Q W} where
   abbrev pub IsOnlyEnd : ChainEnd Q W g → Type 0
   IsOnlyEnd end = IsWhole end.seat.me.0.member.share
 
-  -- It is an end of this chain. It holds the quaject where it has the turn, made by the notes taken and fitting the
-  -- world, and holds nothing else
+  -- It is an end of this chain. It holds the quaject where it has the turn, made by the notes taken and suiting the
+  -- chain, and holds nothing else
   abbrev pub IsEndOf : ProcChain Q W → ChainEnd Q W g → Type 0
   IsEndOf chain end = (end.seat.table_id ≡ chain.table.shared.table_id)
-      × HasSlot g.made_by (g.fits chain.table.shared.key.world.value) end.seat.me
+      × HasSlot g.made_by (suits g.fits g.keeps chain.table.shared.key.pact) end.seat.me
 
   -- it is the same end of the same chain
   abbrev pub IsSameEnd : ChainEnd Q W g → ChainEnd Q W g → Type 0

@@ -12,10 +12,15 @@ use Rattle.table_theory.specs.Courses.{IsCourse}
 use Rattle.table_theory.specs.Members.{first_member, emptied, EndsKnown}
 use Rattle.atomic_table.specs.Table.{State}
 use Rattle.proc_chain.specs.declared.rule.Moment.{Moment}
+use Rattle.proc_chain.specs.declared.rule.Pact.{Pact}
 use Rattle.proc_chain.specs.declared.rule.Shape.{Shape}
 use Rattle.proc_chain.specs.declared.rule.View.{View}
 use Rattle.proc_chain.specs.Shown.{gate_in, WordsShow}
 use Rattle.proc_chain.specs.Gates.{GateShows, SlotShows}
+
+-- the quaject fits the world of the chain, and what no run changes is in it as it is in the one that was given to `new`
+abbrev pub suits : {Q W : Type 0} → (W → Q → Type 0) → (Q → Q → Type 0) → Pact W Q → Q → Type 0
+suits fits keeps pact x = fits pact.world.value x × keeps pact.opening.value x
 
 abbrev pub part_of : View → QueueView
 part_of v = v.part
@@ -52,7 +57,7 @@ pub record Rule {Q W : Type 0} (made : Q → List ℕ → Type 0) (fits : W → 
   pub shows : WordsShow queue s.words
   pub listed : ViewsShow queue (map part_of s.views)
   pub gate : GateShows queue (gate_in s.words) s.views
-  pub slot : SlotShows made fits key.world.value queue (gate_in s.words) s.homes
+  pub slot : SlotShows made fits key.pact queue (gate_in s.words) s.homes
   -- no end that had the turn took in another that had it
   pub undoubled : (j : ℕ) (v : View) → get_elem? s.views j ≡ some v → v.doubled ≡ false
   pub ends : EndsKnown member_of IsIdle (slice_index_or s.words 2 0) s.views

@@ -1,12 +1,14 @@
 //! What holds between any two steps of any threads.
 
 ghost use Rattle.atomic_table.specs.Table.{State};
+ghost use Rattle.proc_chain.specs.declared.rule.Pact.{Pact};
 ghost use Rattle.proc_chain.specs.declared.rule.Shape.{Shape};
 ghost use Rattle.proc_chain.specs.declared.rule.View.{View};
 ghost use Rattle.proc_chain.specs.Between.{ShowsChain};
+ghost use Rattle.proc_chain.specs.Rules.{suits};
 
 use crate::quaject::Quaject;
-use crate::rule::{ChainRule, Shape, View};
+use crate::rule::{ChainRule, Pact, Shape, View};
 use atomic_table::TableRule;
 
 /// Whatever the rule holds of is a lawful chain of the core, shown by the words and by what the ends list; and where
@@ -14,7 +16,7 @@ use atomic_table::TableRule;
 ///
 /// Every atomic step of this crate keeps the rule, so it holds between any two steps, whoever makes them.
 pub fn between_steps<Q: Quaject>()
-    ensures { (key : Shape Q.World) (state : State Q View)
-        → ⟦<ChainRule as TableRule<Q, View, Shape<Q::World>>>⟧.holds key state
-        → ShowsChain Q.made_by Q.fits key state }
+    ensures { (key : Shape (Pact Q.World Q)) (state : State Q View)
+        → ⟦<ChainRule as TableRule<Q, View, Shape<Pact<Q::World, Q>>>>⟧.holds key state
+        → ShowsChain Q.made_by (suits Q.fits Q.keeps) key state }
 {}

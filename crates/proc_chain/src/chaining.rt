@@ -1,6 +1,7 @@
 //! Chaining a note.
 ghost use Rattle.std.specs.Prelude.{◌≡◌, ◌+◌, ◌<◌, MatchResult, IfOk, false, true};
 ghost use Rattle.proc_chain.specs.Answers.{IsChained, Refused, is_run};
+ghost use Rattle.proc_chain.specs.Rules.{suits};
 ghost use Rattle.proc_chain.specs.Notes.{SameNotes, PutNote};
 
 use crate::ends::{ChainEnd, ProcChain};
@@ -40,7 +41,7 @@ pub enum ChainRefusal {
 }
 
 impl<Q: Quaject> ProcChain<Q> {
-    ghost use Rattle.proc_chain.specs.Handles.{view_of, me_of, call_of, turn_of, world_of, IsEndOf, IsSameEnd};
+    ghost use Rattle.proc_chain.specs.Handles.{view_of, me_of, call_of, turn_of, pact_of, IsEndOf, IsSameEnd};
 
     /// One try to chain a note: it loads the head, then the tail, and exchanges the head, which claims a place; it
     /// raises the note there, and swaps the gate to More, which notifies. Where that swap found the gate Idle, the
@@ -52,7 +53,7 @@ impl<Q: Quaject> ProcChain<Q> {
         ensures queue { IsSameEnd end.old end.new }
         ensures ends { IsEndOf self.now end.new }
         ensures chained { MatchResult result
-            (λ r. IsChained Q.made_by (Q.fits (world_of self.now)) (call_of end.old) (me_of end.old) note r
+            (λ r. IsChained Q.made_by (suits Q.fits Q.keeps (pact_of self.now)) (call_of end.old) (me_of end.old) note r
             (me_of end.new)) (λ e. Refused (me_of end.old) e (me_of end.new)) }
         ensures notes { MatchResult result (λ r. PutNote note (view_of end.old) (view_of end.new))
             (λ e. SameNotes (view_of end.old) (view_of end.new)) }

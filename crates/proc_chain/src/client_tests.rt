@@ -34,6 +34,9 @@ impl Quaject for Mover {
 
     ghost fits = { λ pair mover. queues.IsEndOf pair.from mover.source × queues.IsEndOf pair.to mover.target };
 
+    ghost keeps = { λ first mover. queues.IsSameEnd first.source mover.source
+        × queues.IsSameEnd first.target mover.target };
+
     fn run(&mut self, world: &Pair, _note: u16) -> Ran {
         self.notes = self.notes.wrapping_add(1);
         if self.held.is_empty() {

@@ -1,6 +1,7 @@
 //! Closing a chain.
 ghost use Rattle.std.specs.Prelude.{◌≡◌, ◌+◌, ◌-◌, ◌<◌, ◌≤◌, false, IfOk, IfErr, MatchResult};
 ghost use Rattle.std.specs.Mem.Slots.{slots_items, slots_len, IsFull};
+ghost use Rattle.proc_chain.specs.Rules.{suits};
 ghost use Rattle.proc_chain.specs.Closings.{ClosedNow, WereOpen, left_at, left_from};
 
 use crate::ends::{ChainEnd, ProcChain};
@@ -51,7 +52,7 @@ fn read_left<Q>(closed: &Closed<Q, Global>, tail: u64, head: u64) -> ArrayVec<Op
 }
 
 impl<Q: Quaject> ProcChain<Q> {
-    ghost use Rattle.proc_chain.specs.Handles.{view_of, turn_of, world_of, first_of, IsEndOf, IsOnlyEnd, IsSameEnd};
+    ghost use Rattle.proc_chain.specs.Handles.{view_of, turn_of, pact_of, first_of, IsEndOf, IsOnlyEnd, IsSameEnd};
 
     /// Closes the chain where every other end has been joined, and gives the quaject back. Else the chain and the end
     /// come back, and the number of the others. As each end has raised all that it claimed and told of it, no note is
@@ -64,7 +65,7 @@ impl<Q: Quaject> ProcChain<Q> {
     ) -> Result<ChainClosed<Q>, (ProcChain<Q>, ChainEnd<Q>, OpenEnds)>
         requires ends { IsEndOf self end }
         requires turn { turn_of end ≡ false }
-        ensures closed { IfOk result (λ c. ClosedNow Q.made_by (Q.fits (world_of self)) (view_of end)
+        ensures closed { IfOk result (λ c. ClosedNow Q.made_by (suits Q.fits Q.keeps (pact_of self)) (view_of end)
             (first_of self) c.put c.taken c.left.items c.quaject) }
         ensures open { IfErr result (λ e. (e.0 ≡ self) × IsEndOf self e.1 × IsSameEnd end e.1 × (turn_of e.1 ≡ false)
             × WereOpen (view_of end) e.2.others (view_of e.1)) }

@@ -8,7 +8,7 @@ ghost use Rattle.proc_chain.specs.Endings.{Divided, IsNewborn, TookIn, Joined};
 ghost use Rattle.proc_chain.specs.Notes.{SameNotes};
 
 use crate::quaject::Quaject;
-use crate::rule::{ChainRule, Shape, View};
+use crate::rule::{ChainRule, Pact, Shape, View};
 use crate::steps::{count_down, count_up, hand_over, split_off, take_in};
 use atomic_table::{Seat, Table};
 use quaject_core::OutOfMemory;
@@ -22,7 +22,7 @@ use std::snapshot::Snapshot;
 /// since its last round.
 #[derive(Drop)]
 pub struct ProcChain<Q: Quaject> {
-    pub(crate) table: Table<Q, View, Shape<Q::World>, ChainRule, Global>,
+    pub(crate) table: Table<Q, View, Shape<Pact<Q::World, Q>>, ChainRule, Global>,
     pub(crate) first: u32,
     ghost sized: { (table.shared.table_id.words ≡ 36) × (table.shared.table_id.slots ≡ 1) },
     ghost shaped: { table.shared.key.first ≡ first },
@@ -56,7 +56,7 @@ impl<Q: Quaject> ChainEnd<Q> {
 }
 
 impl<Q: Quaject> ProcChain<Q> {
-    ghost use Rattle.proc_chain.specs.Handles.{view_of, me_of, turn_of, world_of, first_of};
+    ghost use Rattle.proc_chain.specs.Handles.{view_of, me_of, turn_of, world_of, opening_of, first_of};
     ghost use Rattle.proc_chain.specs.Handles.{IsDivisible, IsEndOf, IsSameEnd};
 
     /// A chain whose first position is `first`, its gate Idle and the quaject in it, and its only end. Where an
@@ -69,13 +69,17 @@ impl<Q: Quaject> ProcChain<Q> {
     ) -> Result<(ProcChain<Q>, ChainEnd<Q>), (Q, OutOfMemory)>
         requires made { Q.made_by quaject [] }
         requires fits { Q.fits world.now quaject }
+        requires keeps { Q.keeps quaject quaject }
         ensures ok { IfOk result (λ r. IsEndOf r.0 r.1 × (first_of r.0 ≡ first) × (world_of r.0 ≡ world.now)
-            × (turn_of r.1 ≡ false) × (view_of r.1 ≡ view_from first first_member)) }
+            × (opening_of r.0 ≡ quaject) × (turn_of r.1 ≡ false) × (view_of r.1 ≡ view_from first first_member)) }
         ensures err { IfErr result (λ e. e.0 ≡ quaject) }
     {
         let shape = Shape {
             first: first as u64,
-            world: Snapshot::of(world),
+            pact: Pact {
+                world: Snapshot::of(world),
+                opening: Snapshot::of(&quaject),
+            },
         };
         let mut words = [0u64; 36];
         words[0] = first as u64;

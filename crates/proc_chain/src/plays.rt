@@ -60,7 +60,7 @@ impl<Q> Play<Q, View> for Spies {
     ghost then = { spies };
 }
 
-/// The number of an end that has the turn or may get it, and what fits the world of the chain.
+/// The number of an end that has the turn or may get it, and what suits the chain.
 pub trait Runner<Q> {
     ghost call: { ℕ };
 

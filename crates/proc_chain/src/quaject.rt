@@ -21,9 +21,13 @@ pub trait Quaject {
     // The quaject fits this world.
     ghost fits: { Self.World → Self → Type 0 };
 
+    // What no run changes is in the second quaject as it is in the first.
+    ghost keeps: { Self → Self → Type 0 };
+
     /// Runs one note.
     fn run(&mut self, world: &Self::World, note: u16) -> Ran
         requires { fits world.now self.old }
         ensures fits { fits world.now self.new }
+        ensures keeps { (first : Self) → keeps first self.old → keeps first self.new }
         ensures made { (notes : List ℕ) → made_by self.old notes → made_by self.new (notes ++ note ∷ []) };
 }

@@ -6,11 +6,18 @@ use std::snapshot::Snapshot;
 use table_theory::queues::{Positions, QueueView};
 use table_theory::views::{Entry, Member};
 
+/// What binds the quaject of a chain: the world that it fits, and the quaject that was given to `new`.
+#[derive(Drop)]
+pub struct Pact<W, Q> {
+    pub world: Snapshot<W>,
+    pub opening: Snapshot<Q>,
+}
+
 /// What the rule is told when the table is made.
 #[derive(Drop)]
-pub struct Shape<W> {
+pub struct Shape<P> {
     pub first: u64,
-    pub world: Snapshot<W>,
+    pub pact: P,
 }
 
 /// The queue of notes and the gate word at one moment. Proofs alone speak of it.
@@ -38,10 +45,10 @@ pub struct View {
 
 pub struct ChainRule;
 
-impl<Q: Quaject> TableRule<Q, View, Shape<Q::World>> for ChainRule {
-    ghost use Rattle.proc_chain.specs.Rules.{Rule, newcomer};
+impl<Q: Quaject> TableRule<Q, View, Shape<Pact<Q::World, Q>>> for ChainRule {
+    ghost use Rattle.proc_chain.specs.Rules.{Rule, newcomer, suits};
 
-    ghost holds = { Rule Q.made_by Q.fits };
+    ghost holds = { Rule Q.made_by (suits Q.fits Q.keeps) };
 
     ghost first = { newcomer };
 }

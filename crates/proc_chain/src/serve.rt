@@ -1,6 +1,7 @@
 //! Serving a Turn.
 ghost use Rattle.std.specs.Prelude.{◌≡◌, ◌+◌, ◌<◌, ◌≤◌, ℕ, List, true, false, [], ◌∷◌, ◌++◌, length, MatchBool};
 ghost use Rattle.table_theory.specs.Seating.{IsSame};
+ghost use Rattle.proc_chain.specs.Rules.{suits};
 ghost use Rattle.proc_chain.specs.Shown.{notes_of};
 ghost use Rattle.proc_chain.specs.Steps.{Carries};
 ghost use Rattle.proc_chain.specs.Turns.{HasServed};
@@ -10,7 +11,7 @@ ghost use Rattle.proc_chain.specs.Servings.{is_more};
 use crate::chaining::Turn;
 use crate::ends::{ChainEnd, ProcChain};
 use crate::quaject::Quaject;
-use crate::rule::{ChainRule, Shape, View};
+use crate::rule::{ChainRule, Pact, Shape, View};
 use crate::steps::{RUNNING, exchange_gate, load_place, load_tail, store_tail, swap_running};
 use atomic_table::{Seat, Shared};
 use std::marker::Brand;
@@ -27,16 +28,18 @@ pub enum Served {
 
 // Runs the note on the quaject in the slot that the seat holds.
 fn run_held<Q: Quaject>(
-    words: &Shared<Q, View, Shape<Q::World>, ChainRule>,
+    words: &Shared<Q, View, Shape<Pact<Q::World, Q>>, ChainRule>,
     seat: &mut Seat<Q, View>,
     world: &Q::World,
     note: u16,
 )
     requires queue { seat.old.table_id ≡ words.now.table_id }
-    requires held { (x : Q) × (seat.old.me.1 ≡ (0, x) ∷ []) × Q.fits world.now x }
+    requires world { words.now.key.pact.world.value ≡ world.now }
+    requires held { (x : Q) × (seat.old.me.1 ≡ (0, x) ∷ []) × suits Q.fits Q.keeps words.now.key.pact x }
     ensures queue { IsSame seat.old seat.new × (seat.new.me.0 ≡ seat.old.me.0) }
-    ensures ran { (notes : List ℕ) → Carries Q.made_by (Q.fits world.now) notes [] seat.old.me.1
-        → Carries Q.made_by (Q.fits world.now) (notes ++ note ∷ []) [] seat.new.me.1 }
+    ensures ran { (notes : List ℕ)
+        → Carries Q.made_by (suits Q.fits Q.keeps words.now.key.pact) notes [] seat.old.me.1
+        → Carries Q.made_by (suits Q.fits Q.keeps words.now.key.pact) (notes ++ note ∷ []) [] seat.new.me.1 }
 {
     let quaject = seat.slot_mut(words, 0);
     let _ran = quaject.run(world, note);
@@ -44,7 +47,7 @@ fn run_held<Q: Quaject>(
 
 // Takes the first note left and runs it, if it is raised.
 fn run_next<Q: Quaject>(
-    words: &Shared<Q, View, Shape<Q::World>, ChainRule>,
+    words: &Shared<Q, View, Shape<Pact<Q::World, Q>>, ChainRule>,
     seat: &mut Seat<Q, View>,
     world: &Q::World,
 ) -> bool
@@ -52,15 +55,15 @@ fn run_next<Q: Quaject>(
     requires live { (1 ≤ seat.old.me.0.member.ends) × (seat.old.me.0.runner ≡ true) }
     requires positions { (seat.old.me.0.part.queue.room ≡ 32)
         × (seat.old.me.0.part.queue.taken ≤ length seat.old.me.0.part.queue.places) }
-    requires world { words.now.key.world.value ≡ world.now }
-    requires carries { Carries Q.made_by (Q.fits words.now.key.world.value) (notes_of seat.old.me.0.part.queue) []
+    requires world { words.now.key.pact.world.value ≡ world.now }
+    requires carries { Carries Q.made_by (suits Q.fits Q.keeps words.now.key.pact) (notes_of seat.old.me.0.part.queue) []
         seat.old.me.1 }
     ensures queue { IsSame seat.old seat.new }
     ensures turn { seat.new.me.0.runner ≡ true }
-    ensures carries { Carries Q.made_by (Q.fits words.now.key.world.value) (notes_of seat.new.me.0.part.queue) []
+    ensures carries { Carries Q.made_by (suits Q.fits Q.keeps words.now.key.pact) (notes_of seat.new.me.0.part.queue) []
         seat.new.me.1 }
     ensures ran { MatchBool result
-        ((note : ℕ) × RanNote Q.made_by (Q.fits words.now.key.world.value) seat.old.id seat.old.me note seat.new.me
+        ((note : ℕ) × RanNote Q.made_by (suits Q.fits Q.keeps words.now.key.pact) seat.old.id seat.old.me note seat.new.me
         × HasServed seat.old.me.0 (note ∷ []) seat.new.me.0)
         (FoundNone seat.old.me.0 seat.new.me.0 × (seat.new.me.1 ≡ seat.old.me.1)
         × HasServed seat.old.me.0 [] seat.new.me.0) }
@@ -77,21 +80,21 @@ fn run_next<Q: Quaject>(
 
 // Leaves, if no other end has notified since the last round. Else it begins a new round.
 fn leave_or_round<Q: Quaject>(
-    words: &Shared<Q, View, Shape<Q::World>, ChainRule>,
+    words: &Shared<Q, View, Shape<Pact<Q::World, Q>>, ChainRule>,
     seat: &mut Seat<Q, View>,
 ) -> bool
     requires queue { (seat.old.table_id ≡ words.now.table_id) × (words.now.table_id.words ≡ 36) }
     requires live { (1 ≤ seat.old.me.0.member.ends) × (seat.old.me.0.runner ≡ true) × (seat.old.me.0.saw ≡ true) }
     requires behind { seat.old.me.0.part.queue.taken ≤ length seat.old.me.0.part.queue.places }
-    requires carries { Carries Q.made_by (Q.fits words.now.key.world.value) (notes_of seat.old.me.0.part.queue) []
+    requires carries { Carries Q.made_by (suits Q.fits Q.keeps words.now.key.pact) (notes_of seat.old.me.0.part.queue) []
         seat.old.me.1 }
     ensures queue { IsSame seat.old seat.new }
     ensures carries { MatchBool result ((seat.new.me.0.runner ≡ false) × (seat.new.me.1 ≡ []))
-        ((seat.new.me.0.runner ≡ true) × Carries Q.made_by (Q.fits words.now.key.world.value)
+        ((seat.new.me.0.runner ≡ true) × Carries Q.made_by (suits Q.fits Q.keeps words.now.key.pact)
         (notes_of seat.new.me.0.part.queue) [] seat.new.me.1) }
     ensures left { (v : View) → FoundNone v seat.old.me.0 → MatchBool result
-        (LeftNone Q.made_by (Q.fits words.now.key.world.value) seat.old.id (v, seat.old.me.1) seat.new.me)
-        (FoundMore Q.made_by (Q.fits words.now.key.world.value) seat.old.id (v, seat.old.me.1) seat.new.me) }
+        (LeftNone Q.made_by (suits Q.fits Q.keeps words.now.key.pact) seat.old.id (v, seat.old.me.1) seat.new.me)
+        (FoundMore Q.made_by (suits Q.fits Q.keeps words.now.key.pact) seat.old.id (v, seat.old.me.1) seat.new.me) }
     ensures served { HasServed seat.old.me.0 [] seat.new.me.0 }
 {
     if exchange_gate::<Q, Brand>(words, seat) == RUNNING {
@@ -104,7 +107,7 @@ fn leave_or_round<Q: Quaject>(
 // Serves until it leaves, or has run notes and failed to leave `limit` times. True where it left, and the number of
 // notes run.
 fn serve_seat<Q: Quaject>(
-    words: &Shared<Q, View, Shape<Q::World>, ChainRule>,
+    words: &Shared<Q, View, Shape<Pact<Q::World, Q>>, ChainRule>,
     seat: &mut Seat<Q, View>,
     world: &Q::World,
     limit: u32,
@@ -113,15 +116,15 @@ fn serve_seat<Q: Quaject>(
     requires live { (1 ≤ seat.old.me.0.member.ends) × (seat.old.me.0.runner ≡ true) }
     requires positions { (seat.old.me.0.part.queue.room ≡ 32)
         × (seat.old.me.0.part.queue.taken ≤ length seat.old.me.0.part.queue.places) }
-    requires world { words.now.key.world.value ≡ world.now }
-    requires carries { Carries Q.made_by (Q.fits words.now.key.world.value) (notes_of seat.old.me.0.part.queue) []
+    requires world { words.now.key.pact.world.value ≡ world.now }
+    requires carries { Carries Q.made_by (suits Q.fits Q.keeps words.now.key.pact) (notes_of seat.old.me.0.part.queue) []
         seat.old.me.1 }
     requires some_limit { 0 < limit }
     ensures queue { IsSame seat.old seat.new }
     ensures carries { MatchBool result.0 ((seat.new.me.0.runner ≡ false) × (seat.new.me.1 ≡ []))
-        ((seat.new.me.0.runner ≡ true) × Carries Q.made_by (Q.fits words.now.key.world.value)
+        ((seat.new.me.0.runner ≡ true) × Carries Q.made_by (suits Q.fits Q.keeps words.now.key.pact)
         (notes_of seat.new.me.0.part.queue) [] seat.new.me.1) }
-    ensures served { IsServing Q.made_by (Q.fits words.now.key.world.value) seat.old.id seat.old.me limit result.1
+    ensures served { IsServing Q.made_by (suits Q.fits Q.keeps words.now.key.pact) seat.old.id seat.old.me limit result.1
         result.0 seat.new.me }
 {
     let mut ran = 0u32;
@@ -137,7 +140,7 @@ fn serve_seat<Q: Quaject>(
 }
 
 impl<Q: Quaject> ProcChain<Q> {
-    ghost use Rattle.proc_chain.specs.Handles.{me_of, call_of, turn_of, world_of, IsEndOf, IsSameEnd};
+    ghost use Rattle.proc_chain.specs.Handles.{me_of, call_of, turn_of, world_of, pact_of, IsEndOf, IsSameEnd};
 
     /// Serves the end's Turn: it begins a round, by a swap of the gate to Running, and runs the notes in order. Each is
     /// taken, by a store of the tail, before it is run. At a place that isn't raised it leaves, by an exchange of a
@@ -152,7 +155,7 @@ impl<Q: Quaject> ProcChain<Q> {
         requires world { world_of self.now ≡ world.now }
         ensures queue { IsSameEnd end.old end.new }
         ensures ends { IsEndOf self.now end.new }
-        ensures served { IsServed Q.made_by (Q.fits (world_of self.now)) (call_of end.old) (me_of end.old) limit result
+        ensures served { IsServed Q.made_by (suits Q.fits Q.keeps (pact_of self.now)) (call_of end.old) (me_of end.old) limit result
             (me_of end.new) }
         ensures turn { turn_of end.new ≡ is_more result }
     {
@@ -184,7 +187,7 @@ impl<Q: Quaject> ProcChain<Q> {
         requires world { world_of self.now ≡ world.now }
         ensures queue { IsSameEnd end.old end.new }
         ensures ends { IsEndOf self.now end.new }
-        ensures served { AllServed Q.made_by (Q.fits (world_of self.now)) (call_of end.old) (me_of end.old) result
+        ensures served { AllServed Q.made_by (suits Q.fits Q.keeps (pact_of self.now)) (call_of end.old) (me_of end.old) result
             (me_of end.new) }
         ensures turn { turn_of end.new ≡ false }
     {

@@ -7,6 +7,7 @@ ghost use Rattle.table_theory.specs.declared.queues.Batch.{Batch};
 ghost use Rattle.table_theory.specs.Listing.{number_of};
 ghost use Rattle.table_theory.specs.Positioned.{blank, head_of, tail_of, written_at};
 ghost use Rattle.table_theory.specs.Seating.{IsSame};
+ghost use Rattle.proc_chain.specs.Rules.{suits};
 ghost use Rattle.proc_chain.specs.Shown.{head_word, tail_word, gate_word, place_word, raised_word, notes_of};
 ghost use Rattle.proc_chain.specs.Steps.{Found, FoundNotRaised, Claimed, Raised, Took, Notified, GotTurn, BegunRound};
 ghost use Rattle.proc_chain.specs.Steps.{HasLeft, Carries, CountedUp, CountedDown, Tallied, rest_of, newborn, both};
@@ -17,7 +18,7 @@ use crate::plays::{
     Leaves, Notifies, Raises, Rounds, Runner, Spent, Spies, Takes,
 };
 use crate::quaject::Quaject;
-use crate::rule::{ChainRule, Shape, View};
+use crate::rule::{ChainRule, Pact, Shape, View};
 use crate::word::PlaceWord;
 use atomic_table::{Seat, Shared};
 
@@ -37,7 +38,7 @@ pub(crate) const RUNNING: u64 = 1;
 pub(crate) const MORE: u64 = 2;
 
 pub(crate) fn load<Q: Quaject>(
-    words: &Shared<Q, View, Shape<Q::World>, ChainRule>,
+    words: &Shared<Q, View, Shape<Pact<Q::World, Q>>, ChainRule>,
     seat: &mut Seat<Q, View>,
     word: usize,
 ) -> u64
@@ -50,7 +51,7 @@ pub(crate) fn load<Q: Quaject>(
 }
 
 pub(crate) fn load_head<Q: Quaject>(
-    words: &Shared<Q, View, Shape<Q::World>, ChainRule>,
+    words: &Shared<Q, View, Shape<Pact<Q::World, Q>>, ChainRule>,
     seat: &mut Seat<Q, View>,
 ) -> u64
     requires queue { (seat.old.table_id ≡ words.now.table_id) × (words.now.table_id.words ≡ 36) }
@@ -64,7 +65,7 @@ pub(crate) fn load_head<Q: Quaject>(
 }
 
 pub(crate) fn load_tail<Q: Quaject>(
-    words: &Shared<Q, View, Shape<Q::World>, ChainRule>,
+    words: &Shared<Q, View, Shape<Pact<Q::World, Q>>, ChainRule>,
     seat: &mut Seat<Q, View>,
 ) -> u64
     requires queue { (seat.old.table_id ≡ words.now.table_id) × (words.now.table_id.words ≡ 36) }
@@ -79,7 +80,7 @@ pub(crate) fn load_tail<Q: Quaject>(
 
 /// The claim of one place.
 pub(crate) fn exchange_head<Q: Quaject, J: ClaimedNote>(
-    words: &Shared<Q, View, Shape<Q::World>, ChainRule>,
+    words: &Shared<Q, View, Shape<Pact<Q::World, Q>>, ChainRule>,
     seat: &mut Seat<Q, View>,
     head: u64,
     note: u16,
@@ -101,7 +102,7 @@ pub(crate) fn exchange_head<Q: Quaject, J: ClaimedNote>(
 
 /// The raise of the end's run that begins at `start`.
 pub(crate) fn store_place<Q: Quaject, J: Caller>(
-    words: &Shared<Q, View, Shape<Q::World>, ChainRule>,
+    words: &Shared<Q, View, Shape<Pact<Q::World, Q>>, ChainRule>,
     seat: &mut Seat<Q, View>,
     start: u64,
     note: u16,
@@ -122,13 +123,13 @@ pub(crate) fn store_place<Q: Quaject, J: Caller>(
 
 /// The notify.
 pub(crate) fn swap_more<Q: Quaject, J: Runner<Q>>(
-    words: &Shared<Q, View, Shape<Q::World>, ChainRule>,
+    words: &Shared<Q, View, Shape<Pact<Q::World, Q>>, ChainRule>,
     seat: &mut Seat<Q, View>,
 ) -> u64
     requires queue { (seat.old.table_id ≡ words.now.table_id) × (words.now.table_id.words ≡ 36) }
     requires live { (1 ≤ seat.old.me.0.member.ends) × (seat.old.me.0.owes ≡ true) }
     requires call { J.call ≡ seat.old.id }
-    requires suits { (x : Q) → Q.fits words.now.key.world.value x → J.suits x }
+    requires suits { (x : Q) → suits Q.fits Q.keeps words.now.key.pact x → J.suits x }
     ensures queue { IsSame seat.old seat.new }
     ensures won { result ≡ 0 → GotTurn Q.made_by J.suits J.call seat.old.me seat.new.me }
     ensures told { result ≢ 0 → (seat.new.me.1 ≡ seat.old.me.1)
@@ -139,7 +140,7 @@ pub(crate) fn swap_more<Q: Quaject, J: Runner<Q>>(
 
 /// The runner's look at the place of the tail.
 pub(crate) fn load_place<Q: Quaject>(
-    words: &Shared<Q, View, Shape<Q::World>, ChainRule>,
+    words: &Shared<Q, View, Shape<Pact<Q::World, Q>>, ChainRule>,
     seat: &mut Seat<Q, View>,
     tail: u64,
 ) -> PlaceWord
@@ -159,18 +160,18 @@ pub(crate) fn load_place<Q: Quaject>(
 
 /// The taking of one note: a single runner takes, so it stores. The quaject in its hand is not yet made by this note.
 pub(crate) fn store_tail<Q: Quaject, J: Runner<Q>>(
-    words: &Shared<Q, View, Shape<Q::World>, ChainRule>,
+    words: &Shared<Q, View, Shape<Pact<Q::World, Q>>, ChainRule>,
     seat: &mut Seat<Q, View>,
     tail: u64,
 )
     requires queue { (seat.old.table_id ≡ words.now.table_id) × (words.now.table_id.words ≡ 36) }
     requires live { (1 ≤ seat.old.me.0.member.ends) × (seat.old.me.0.runner ≡ true) }
     requires call { J.call ≡ seat.old.id }
-    requires suits { (x : Q) → Q.fits words.now.key.world.value x → J.suits x }
+    requires suits { (x : Q) → suits Q.fits Q.keeps words.now.key.pact x → J.suits x }
     requires tail { (tail ≡ tail_of seat.old.me.0.part.queue) × (tail < 4294967296) }
     requires raised { 2 ≤ written_at seat.old.me.0.part.queue seat.old.me.0.part.queue.taken }
     requires behind { seat.old.me.0.part.queue.taken ≤ length seat.old.me.0.part.queue.places }
-    requires carries { Carries Q.made_by (Q.fits words.now.key.world.value) (notes_of seat.old.me.0.part.queue) []
+    requires carries { Carries Q.made_by (suits Q.fits Q.keeps words.now.key.pact) (notes_of seat.old.me.0.part.queue) []
         seat.old.me.1 }
     ensures queue { IsSame seat.old seat.new × (seat.new.me.1 ≡ seat.old.me.1) }
     ensures took { Took Q.made_by J.suits J.call seat.old.me (tail + 1) seat.new.me.0 }
@@ -180,15 +181,15 @@ pub(crate) fn store_tail<Q: Quaject, J: Runner<Q>>(
 
 /// The begin of a round.
 pub(crate) fn swap_running<Q: Quaject, J: Runner<Q>>(
-    words: &Shared<Q, View, Shape<Q::World>, ChainRule>,
+    words: &Shared<Q, View, Shape<Pact<Q::World, Q>>, ChainRule>,
     seat: &mut Seat<Q, View>,
 ) -> u64
     requires queue { (seat.old.table_id ≡ words.now.table_id) × (words.now.table_id.words ≡ 36) }
     requires live { (1 ≤ seat.old.me.0.member.ends) × (seat.old.me.0.runner ≡ true) }
     requires call { J.call ≡ seat.old.id }
-    requires suits { (x : Q) → Q.fits words.now.key.world.value x → J.suits x }
+    requires suits { (x : Q) → suits Q.fits Q.keeps words.now.key.pact x → J.suits x }
     requires behind { seat.old.me.0.part.queue.taken ≤ length seat.old.me.0.part.queue.places }
-    requires carries { Carries Q.made_by (Q.fits words.now.key.world.value) (notes_of seat.old.me.0.part.queue) []
+    requires carries { Carries Q.made_by (suits Q.fits Q.keeps words.now.key.pact) (notes_of seat.old.me.0.part.queue) []
         seat.old.me.1 }
     ensures queue { IsSame seat.old seat.new × (seat.new.me.1 ≡ seat.old.me.1) }
     ensures rounded { BegunRound Q.made_by J.suits J.call seat.old.me result seat.new.me.0 }
@@ -198,15 +199,15 @@ pub(crate) fn swap_running<Q: Quaject, J: Runner<Q>>(
 
 /// The leave. The quaject goes back into the table where the gate was Running.
 pub(crate) fn exchange_gate<Q: Quaject, J: Runner<Q>>(
-    words: &Shared<Q, View, Shape<Q::World>, ChainRule>,
+    words: &Shared<Q, View, Shape<Pact<Q::World, Q>>, ChainRule>,
     seat: &mut Seat<Q, View>,
 ) -> u64
     requires queue { (seat.old.table_id ≡ words.now.table_id) × (words.now.table_id.words ≡ 36) }
     requires live { (1 ≤ seat.old.me.0.member.ends) × (seat.old.me.0.runner ≡ true) × (seat.old.me.0.saw ≡ true) }
     requires call { J.call ≡ seat.old.id }
-    requires suits { (x : Q) → Q.fits words.now.key.world.value x → J.suits x }
+    requires suits { (x : Q) → suits Q.fits Q.keeps words.now.key.pact x → J.suits x }
     requires behind { seat.old.me.0.part.queue.taken ≤ length seat.old.me.0.part.queue.places }
-    requires carries { Carries Q.made_by (Q.fits words.now.key.world.value) (notes_of seat.old.me.0.part.queue) []
+    requires carries { Carries Q.made_by (suits Q.fits Q.keeps words.now.key.pact) (notes_of seat.old.me.0.part.queue) []
         seat.old.me.1 }
     ensures queue { IsSame seat.old seat.new }
     ensures hit { result ≡ 1 → (seat.new.me.1 ≡ []) × HasLeft Q.made_by J.suits J.call seat.old.me seat.new.me.0 }
@@ -217,7 +218,7 @@ pub(crate) fn exchange_gate<Q: Quaject, J: Runner<Q>>(
 }
 
 pub(crate) fn count_up<Q: Quaject>(
-    words: &Shared<Q, View, Shape<Q::World>, ChainRule>,
+    words: &Shared<Q, View, Shape<Pact<Q::World, Q>>, ChainRule>,
     seat: &mut Seat<Q, View>,
 ) -> u64
     requires queue { (seat.old.table_id ≡ words.now.table_id) × (words.now.table_id.words ≡ 36) }
@@ -229,7 +230,7 @@ pub(crate) fn count_up<Q: Quaject>(
 }
 
 pub(crate) fn count_down<Q: Quaject>(
-    words: &Shared<Q, View, Shape<Q::World>, ChainRule>,
+    words: &Shared<Q, View, Shape<Pact<Q::World, Q>>, ChainRule>,
     seat: &mut Seat<Q, View>,
 ) -> u64
     requires queue { (seat.old.table_id ≡ words.now.table_id) × (words.now.table_id.words ≡ 36) }
@@ -241,7 +242,7 @@ pub(crate) fn count_down<Q: Quaject>(
 }
 
 pub(crate) fn count<Q: Quaject>(
-    words: &Shared<Q, View, Shape<Q::World>, ChainRule>,
+    words: &Shared<Q, View, Shape<Pact<Q::World, Q>>, ChainRule>,
     seat: &mut Seat<Q, View>,
 ) -> u64
     requires queue { (seat.old.table_id ≡ words.now.table_id) × (words.now.table_id.words ≡ 36) }
@@ -253,7 +254,7 @@ pub(crate) fn count<Q: Quaject>(
 }
 
 pub(crate) fn split_off<Q: Quaject>(
-    words: &Shared<Q, View, Shape<Q::World>, ChainRule>,
+    words: &Shared<Q, View, Shape<Pact<Q::World, Q>>, ChainRule>,
     seat: &mut Seat<Q, View>,
 ) -> Seat<Q, View>
     requires queue { (seat.old.table_id ≡ words.now.table_id) × (words.now.table_id.words ≡ 36) }
@@ -267,7 +268,7 @@ pub(crate) fn split_off<Q: Quaject>(
 
 /// The new end has all that the end had but the slot. The end is spent, and may still hold that.
 pub(crate) fn hand_over<Q: Quaject>(
-    words: &Shared<Q, View, Shape<Q::World>, ChainRule>,
+    words: &Shared<Q, View, Shape<Pact<Q::World, Q>>, ChainRule>,
     seat: &mut Seat<Q, View>,
 ) -> Seat<Q, View>
     requires queue { (seat.old.table_id ≡ words.now.table_id) × (words.now.table_id.words ≡ 36) }
@@ -278,7 +279,7 @@ pub(crate) fn hand_over<Q: Quaject>(
 }
 
 pub(crate) fn take_in<Q: Quaject, J: Spent>(
-    words: &Shared<Q, View, Shape<Q::World>, ChainRule>,
+    words: &Shared<Q, View, Shape<Pact<Q::World, Q>>, ChainRule>,
     seat: &mut Seat<Q, View>,
     other: Seat<Q, View>,
 )

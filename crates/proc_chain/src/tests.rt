@@ -25,6 +25,8 @@ impl Quaject for Keeper {
 
     ghost fits = { λ world keeper. Unit {0} };
 
+    ghost keeps = { λ first keeper. Unit {0} };
+
     fn run(&mut self, _world: &u16, note: u16) -> Ran {
         let place = self.count as usize;
         self.count = self.count.wrapping_add(1);

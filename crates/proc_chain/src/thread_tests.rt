@@ -27,6 +27,8 @@ impl Quaject for Tally {
 
     ghost fits = { λ world tally. Unit {0} };
 
+    ghost keeps = { λ first tally. Unit {0} };
+
     fn run(&mut self, _world: &u16, note: u16) -> Ran {
         self.count = self.count.wrapping_add(1);
         match self.next.get_mut((note / 1_000) as usize) {

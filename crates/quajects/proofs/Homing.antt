@@ -5,6 +5,8 @@ use Rattle.std.proofs.lemmas.List.{length-map, length-take-le}
 use Rattle.table_theory.specs.Positioned.{item_of}
 use Rattle.claim_queue.specs.declared.ends.ClaimQueue.{ClaimQueue}
 use Rattle.proc_chain.specs.declared.rule.View.{View}
+use Rattle.proc_chain.specs.declared.rule.Pact.{Pact}
+use Rattle.proc_chain.specs.Rules.{suits}
 use Rattle.proc_chain.specs.Closings.{ClosedNow}
 use Rattle.proc_chain.specs.Shown.{notes_of}
 use Rattle.quajects.specs.declared.world.Queues.{Queues}
@@ -15,8 +17,13 @@ use Rattle.quajects.specs.declared.any.AnyQuaject.{AnyQuaject}
 use Rattle.quajects.specs.declared.any.AnyQuaject.TheVariants as any
 use Rattle.quajects.specs.Anys as anys
 use Rattle.quajects.specs.Homes.{IsHome, CameHome}
-use Rattle.quajects.specs.Ports.{AllFit}
-use Rattle.quajects.specs.Routes.{WaysFit, port_of}
+use Rattle.table_theory.specs.declared.queues.Batch.{Batch}
+use Rattle.table_theory.specs.Listing.{AllRaised}
+use Rattle.claim_queue.specs.Handles.{view_of}
+use Rattle.claim_queue.specs.Lines.{line_of}
+use Rattle.quajects.specs.Ports.{Post, AllFit, AllUp, post_of, post_at}
+use Rattle.quajects.specs.Routes.{WaysFit, port_of, way_post}
+use Rattle.quajects.specs.Switches as switches
 
 -- the law of its type
 law_of : (x : AnyQuaject) → anys.IsKept x
@@ -44,14 +51,50 @@ large_fit world (any.Cooked tty) ports p f = subst (AllFit world.large.items) (s
 large_fit world (any.Pump pump) ports p f = subst (AllFit world.large.items) (sym p.1) tt
 large_fit world (any.Switch switch) ports p f = subst (AllFit world.large.items) (sym p.1) tt
 
+way_posts : (ways : List (Option Way)) → map post_at (map port_of ways) ≡ map way_post ways
+way_posts [] = refl
+way_posts (None ∷ ways) = ap (λ (z : List (Option Post)). None ∷ z) (way_posts ways)
+way_posts (Some way ∷ ways) = ap (λ (z : List (Option Post)). Some (post_of way.outlet.index way.outlet.end) ∷ z) (way_posts ways)
+
+-- the ends of a quaject that is still the first one are those of the first
+posts_home : (first x : AnyQuaject) (small : List (Option (Port 64))) (large : List (Option (Port 256))) → anys.SameEnds first x → anys.PortsOf x (small, large) → anys.PostsOf first (map post_at small, map post_at large)
+posts_home (any.Cooked f) (any.Cooked x) small large s p = (ap (map post_at) p.0 ∙ ap (λ (z : Post). Some z ∷ None ∷ None ∷ None ∷ None ∷ None ∷ []) s.raw, ap (map post_at) p.1 ∙ ap (λ (z : Post). Some z ∷ Some (post_of x.screen.index x.screen.end) ∷ []) s.line ∙ ap (λ (z : Post). Some (post_of f.line.index f.line.end) ∷ Some z ∷ []) s.screen)
+posts_home (any.Pump f) (any.Pump x) small large s p = (ap (map post_at) p.0 ∙ ap (λ (z : Post). Some z ∷ Some (post_of x.target.index x.target.end) ∷ None ∷ None ∷ None ∷ None ∷ []) s.source ∙ ap (λ (z : Post). Some (post_of f.source.index f.source.end) ∷ Some z ∷ None ∷ None ∷ None ∷ None ∷ []) s.target, ap (map post_at) p.1)
+posts_home (any.Switch f) (any.Switch x) small large s p = (
+  ap (map post_at) p.0 ∙ ap (λ (z : List (Option Post)). Some (post_of x.source.index x.source.end) ∷ Some (post_of x.other.index x.other.end) ∷ z) (way_posts x.ways ∙ s.ways)
+      ∙ ap (λ (z : Post). Some z ∷ Some (post_of x.other.index x.other.end) ∷ switches.way_posts f) s.source ∙ ap (λ (z : Post). Some (post_of f.source.index f.source.end) ∷ Some z ∷ switches.way_posts f) s.other,
+  ap (map post_at) p.1,
+)
+posts_home (any.Cooked f) (any.Pump x) small large s p = absurd s
+posts_home (any.Cooked f) (any.Switch x) small large s p = absurd s
+posts_home (any.Pump f) (any.Cooked x) small large s p = absurd s
+posts_home (any.Pump f) (any.Switch x) small large s p = absurd s
+posts_home (any.Switch f) (any.Cooked x) small large s p = absurd s
+posts_home (any.Switch f) (any.Pump x) small large s p = absurd s
+
+-- an end that put nothing has nothing to raise
+none_put : (runs : List Batch) → map line_of runs ≡ [] → AllRaised runs
+none_put [] h = λ m e at. cc
+none_put (run ∷ runs) h = cc
+
+ways_up : (ways : List (Option Way)) → AllUp (map port_of ways)
+ways_up [] = tt
+ways_up (None ∷ ways) = ways_up ways
+ways_up (Some way ∷ ways) = (way.outlet.raised, ways_up ways)
+
+ports_up : (x : AnyQuaject) (small : List (Option (Port 64))) (large : List (Option (Port 256))) → anys.PortsOf x (small, large) → AllUp small × AllUp large
+ports_up (any.Cooked tty) small large p = (subst AllUp (sym p.0) (none_put (view_of tty.raw.end).part.runs tty.raw.only, tt), subst AllUp (sym p.1) (tty.line.raised, (tty.screen.raised, tt)))
+ports_up (any.Pump pump) small large p = (subst AllUp (sym p.0) (none_put (view_of pump.source.end).part.runs pump.source.only, (pump.target.raised, tt)), subst AllUp (sym p.1) tt)
+ports_up (any.Switch switch) small large p = (subst AllUp (sym p.0) (none_put (view_of switch.source.end).part.runs switch.source.only, (switch.other.raised, ways_up switch.ways)), subst AllUp (sym p.1) tt)
+
 module _ {made : AnyQuaject → List ℕ → Type 0} {fits : AnyQuaject → Type 0} {v : View} {x : AnyQuaject} where
   -- the same, by the number of notes alone
   closed_as : (first put taken : ℕ) (left : List (Option ℕ)) (n : ℕ) → ClosedNow made fits v first put taken left x → put ≡ n → ClosedNow made fits v first n n [] x
   closed_as first put taken left n c e = subst (λ (z : ℕ). ClosedNow made fits v first z z [] x) e
       (subst (λ (z : ℕ). ClosedNow made fits v first put z [] x) c.all_taken (subst (λ (z : List (Option ℕ)). ClosedNow made fits v first put taken z x) c.none_left c))
 
-pub came_home : (world : Queues) (v : View) (first put taken : ℕ) (left : List (Option ℕ)) (x : AnyQuaject) (home : Home) → ClosedNow anys.HasRun (anys.Fits world) v first put taken left x → IsHome x put (length left) home → CameHome world first v home
-came_home world v first put taken left x home c h = let q = c.queue in
+pub came_home : (pact : Pact Queues AnyQuaject) (v : View) (first put taken : ℕ) (left : List (Option ℕ)) (x : AnyQuaject) (home : Home) → ClosedNow anys.HasRun (suits anys.Fits anys.SameEnds pact) v first put taken left x → IsHome x put (length left) home → CameHome pact first v home
+came_home pact v first put taken left x home c h = let q = c.queue in
     let whole : q.taken ≡ length q.places = sym c.taken_is ∙ c.all_taken ∙ c.puts in
     let all : length (notes_of q) ≡ put = length-map (take q.taken q.places) item_of ∙ length-take-le q.taken q.places (subst (λ (z : ℕ). z ≤ length q.places) (sym whole) (omega arith)) ∙ whole ∙ sym c.puts in
     record {
@@ -59,8 +102,10 @@ came_home world v first put taken left x home c h = let q = c.queue in
       closed = closed_as first put taken left home.chained c (sym h.chained_is);
       its = record { ports = h.ports; chained_is = refl; left_is = refl; notes = h.notes; taken = h.taken; put = h.put; held = h.held };
       kept = law_of x;
-      small = small_fit world x (home.small, home.large) h.ports c.home.1;
-      large = large_fit world x (home.small, home.large) h.ports c.home.1;
+      posts = posts_home pact.opening.value x home.small home.large c.home.1.1 h.ports;
+      small = small_fit pact.world.value x (home.small, home.large) h.ports c.home.1.0;
+      large = large_fit pact.world.value x (home.small, home.large) h.ports c.home.1.0;
+      raised = ports_up x home.small home.large h.ports;
       each = h.notes ∙ run_count x (notes_of q) c.home.0 ∙ ap (λ (z : ℕ). z % 2 ^ 64) (all ∙ sym h.chained_is);
       none_left = h.left_is ∙ ap length c.none_left;
     }

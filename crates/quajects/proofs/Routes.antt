@@ -5,16 +5,16 @@ use Rattle.std.specs.List.{slice_get, filter, All, AllZip}
 use Rattle.std.proofs.lemmas.List.{append-nil}
 use native.Mathlib.Decide.{dec_le}
 use Rattle.std.proofs.lemmas.Bool.{ne_eqb}
-use Rattle.claim_queue.specs.Handles.{view_of, call_of, IsSameEnd}
+use Rattle.claim_queue.specs.Handles.{view_of, call_of}
 use Rattle.claim_queue.specs.Lines.{lines_put}
 use Rattle.claim_queue.specs.declared.ends.ClaimQueue.{ClaimQueue}
 use Rattle.claim_queue.specs.declared.ends.QueueEnd.{QueueEnd}
-use Rattle.quajects.specs.Ports.{IsEndAt}
+use Rattle.quajects.specs.Ports.{IsEndAt, post_of}
 use Rattle.quajects.specs.Tries.{TriedPut}
 use Rattle.quajects.specs.declared.ports.Outlet.{Outlet}
 use Rattle.quajects.specs.declared.ways.Way.{Way}
 use Rattle.quajects.specs.Lines.{held_line}
-use Rattle.quajects.specs.Routes.{key_of, begins, begins_none, Routed, Given, IsGiven, IsGivenFit, given_key, given_index, given_end, index_of, end_of, RoutesEach, RoutesRest, KeysDiffer, WaysFit, TriedWay}
+use Rattle.quajects.specs.Routes.{key_of, way_post, begins, begins_none, Routed, Given, IsGiven, IsGivenFit, given_key, given_index, given_end, index_of, end_of, RoutesEach, RoutesRest, KeysDiffer, WaysFit, TriedWay}
 
 set_get : {A : Type 0} (l : List A) (i j : ℕ) (x y : A) → slice_get (slice_set l i x) j ≡ Some y → ((j ≡ i) × (x ≡ y)) ⊎ ((j ≢ i) × (slice_get l j ≡ Some y))
 set_get [] i j x y e = cc
@@ -41,8 +41,11 @@ module _ {A B : Type 0} (f : A → B) where
   get_map (a ∷ l) zero x at = let same : a ≡ x = cc in ap (λ (z : A). Some (f z)) same
   get_map (a ∷ l) (suc i) x at = get_map l i x at
 
-keys_same : (ways : List (Option Way)) (i : ℕ) (way : Way) (outlet : Outlet 64) → slice_get ways i ≡ Some (Some way) → map key_of (after ways i way outlet) ≡ map key_of ways
+pub keys_same : (ways : List (Option Way)) (i : ℕ) (way : Way) (outlet : Outlet 64) → slice_get ways i ≡ Some (Some way) → map key_of (after ways i way outlet) ≡ map key_of ways
 keys_same ways i way outlet at = map_set key_of ways i (Some (changed way outlet)) (Some way) at refl
+
+pub posts_same : (ways : List (Option Way)) (i : ℕ) (way : Way) (outlet : Outlet 64) → slice_get ways i ≡ Some (Some way) → post_of outlet.index outlet.end ≡ post_of way.outlet.index way.outlet.end → map way_post (after ways i way outlet) ≡ map way_post ways
+posts_same ways i way outlet at e = map_set way_post ways i (Some (changed way outlet)) (Some way) at (ap Some e)
 
 pub apart_after : (ways : List (Option Way)) (i : ℕ) (way : Way) (outlet : Outlet 64) → slice_get ways i ≡ Some (Some way) → KeysDiffer (map key_of ways) → KeysDiffer (map key_of (after ways i way outlet))
 apart_after ways i way outlet at h = subst KeysDiffer (sym (keys_same ways i way outlet at)) h
@@ -159,15 +162,14 @@ fit_after queues ways i way outlet fit at j v e = ⊎_elim
     (λ t. fit j v t.1) (set_get ways i j (Some (changed way outlet)) (Some v) e)
 
 tried_way : (ways : List (Option Way)) (i : ℕ) (known way : Way) (outlet : Outlet 64) (d : Option Way) (line : List ℕ) (put : Bool) → slice_get ways i ≡ Some (Some known) → slice_index line 0 ≡ known.key → slice_index_or ways i d ≡ Some way
-    → outlet.index ≡ way.outlet.index → IsSameEnd way.outlet.end outlet.end → TriedPut 64 (call_of way.outlet.end) (view_of way.outlet.end) put line (view_of outlet.end) → TriedWay ways line put (after ways i way outlet)
-tried_way ways i known way outlet d line put at key is index same tried = let e : known ≡ way = way_read ways i known way d at is in record {
+    → post_of outlet.index outlet.end ≡ post_of way.outlet.index way.outlet.end → TriedPut 64 (call_of way.outlet.end) (view_of way.outlet.end) put line (view_of outlet.end) → TriedWay ways line put (after ways i way outlet)
+tried_way ways i known way outlet d line put at key is same tried = let e : known ≡ way = way_read ways i known way d at is in record {
   number = i;
   way = way;
   was = at ∙ ap (λ (z : Way). Some (Some z)) e;
   key = key ∙ ap (λ (z : Way). z.key) e;
   outlet = outlet;
   now = refl;
-  index = index;
   same = same;
   tried = tried;
 }
@@ -176,8 +178,8 @@ pub fits_way : (queues : List (ClaimQueue 64)) (ways : List (Option Way)) (i : �
 fits_way queues ways i known way d fit at is = fit i way (at ∙ ap (λ (z : Way). Some (Some z)) (way_read ways i known way d at is))
 
 pub tried_as : (ways : List (Option Way)) (i : ℕ) (known way : Way) (outlet : Outlet 64) (d : Option Way) (line line' : List ℕ) (put put' : Bool) → slice_get ways i ≡ Some (Some known) → slice_index line 0 ≡ known.key → slice_index_or ways i d ≡ Some way
-    → line' ≡ line → put' ≡ put → outlet.index ≡ way.outlet.index → IsSameEnd way.outlet.end outlet.end → TriedPut 64 (call_of way.outlet.end) (view_of way.outlet.end) put' line' (view_of outlet.end) → TriedWay ways line put (after ways i way outlet)
-tried_as ways i known way outlet d line line' put put' at key is el ep index same tried = tried_way ways i known way outlet d line put at key is index same
+    → line' ≡ line → put' ≡ put → post_of outlet.index outlet.end ≡ post_of way.outlet.index way.outlet.end → TriedPut 64 (call_of way.outlet.end) (view_of way.outlet.end) put' line' (view_of outlet.end) → TriedWay ways line put (after ways i way outlet)
+tried_as ways i known way outlet d line line' put put' at key is el ep same tried = tried_way ways i known way outlet d line put at key is same
     (subst (λ (z : List ℕ). TriedPut 64 (call_of way.outlet.end) (view_of way.outlet.end) put z (view_of outlet.end)) el
     (subst (λ (z : Bool). TriedPut 64 (call_of way.outlet.end) (view_of way.outlet.end) z line' (view_of outlet.end)) ep tried))
 

@@ -9,6 +9,7 @@ use Rattle.quajects.specs.declared.world.Queues.{Queues}
 use Rattle.quajects.specs.declared.any.AnyQuaject.{AnyQuaject}
 use Rattle.quajects.specs.declared.any.AnyQuaject.TheVariants as any
 use Rattle.quajects.specs.declared.ports.Port.{Port}
+use Rattle.quajects.specs.Ports.{Post}
 use Rattle.quajects.specs.Pumps as pumps
 use Rattle.quajects.specs.Terminals as terminals
 use Rattle.quajects.specs.Switches as switches
@@ -50,6 +51,13 @@ Fits world (any.Cooked tty) = terminals.Fits world tty
 Fits world (any.Pump pump) = pumps.Fits world pump
 Fits world (any.Switch switch) = switches.Fits world switch
 
+-- it is of the same kind, and has the same ends of the same queues, with the same shares; a switch has the same keys
+abbrev pub SameEnds : AnyQuaject → AnyQuaject → Type 0
+SameEnds (any.Cooked old) (any.Cooked new) = terminals.SameEnds old new
+SameEnds (any.Pump old) (any.Pump new) = pumps.SameEnds old new
+SameEnds (any.Switch old) (any.Switch new) = switches.SameEnds old new
+SameEnds _ _ = ⊥
+
 -- its law
 abbrev pub IsKept : AnyQuaject → Type 0
 IsKept (any.Cooked tty) = terminals.IsKept tty
@@ -73,6 +81,17 @@ EndsOf (any.Pump pump) ends =
 EndsOf (any.Switch switch) ends =
     (ends.0 ≡ Some (switches.source_of switch) ∷ Some (switches.other_of switch) ∷ switches.way_ends switch)
     × (ends.1 ≡ None ∷ None ∷ [])
+
+-- these are what no note changes of its ends, in the same order
+abbrev pub PostsOf : AnyQuaject → List (Option Post) × List (Option Post) → Type 0
+PostsOf (any.Cooked tty) posts = (posts.0 ≡ Some (terminals.raw_post tty) ∷ None ∷ None ∷ None ∷ None ∷ None ∷ [])
+    × (posts.1 ≡ Some (terminals.line_post tty) ∷ Some (terminals.screen_post tty) ∷ [])
+PostsOf (any.Pump pump) posts =
+    (posts.0 ≡ Some (pumps.source_post pump) ∷ Some (pumps.target_post pump) ∷ None ∷ None ∷ None ∷ None ∷ [])
+    × (posts.1 ≡ None ∷ None ∷ [])
+PostsOf (any.Switch switch) posts =
+    (posts.0 ≡ Some (switches.source_post switch) ∷ Some (switches.other_post switch) ∷ switches.way_posts switch)
+    × (posts.1 ≡ None ∷ None ∷ [])
 
 -- these are its ends with the indexes of their queues, in the same order
 abbrev pub PortsOf : AnyQuaject → List (Option (Port 64)) × List (Option (Port 256)) → Type 0

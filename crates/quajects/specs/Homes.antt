@@ -1,13 +1,16 @@
 -- A quaject that came home from a closed chain.
-use Rattle.std.specs.Prelude.{◌≡◌, ℕ, ◌%◌, ◌^◌, length, []}
+use Rattle.std.specs.Prelude.{◌≡◌, ℕ, ◌%◌, ◌^◌, length, [], map}
 use Rattle.quajects.specs.declared.world.Queues.{Queues}
 use Rattle.quajects.specs.declared.any.AnyQuaject.{AnyQuaject}
 use Rattle.quajects.specs.declared.home.Home.{Home}
-use Rattle.quajects.specs.Anys.{PortsOf, IsKept, HasRun, Fits, notes_of, all_taken, all_puts, held_of}
+use Rattle.quajects.specs.Anys.{PortsOf, PostsOf, IsKept, HasRun, Fits, SameEnds, notes_of, all_taken, all_puts}
+use Rattle.quajects.specs.Anys.{held_of}
 use Rattle.proc_chain.specs.declared.rule.View.{View}
+use Rattle.proc_chain.specs.declared.rule.Pact.{Pact}
+use Rattle.proc_chain.specs.Rules.{suits}
 use Rattle.proc_chain.specs.Closings.{ClosedNow}
 use Rattle.quajects.specs.Lines.{counted}
-use Rattle.quajects.specs.Ports.{AllFit}
+use Rattle.quajects.specs.Ports.{AllFit, AllUp, post_at}
 
 -- these are the ends and the numbers of the quaject, and so many notes were chained and left
 pub record IsHome (quaject : AnyQuaject) (chained left : ℕ) (home : Home) : Type 0 where
@@ -19,14 +22,17 @@ pub record IsHome (quaject : AnyQuaject) (chained left : ℕ) (home : Home) : Ty
   pub put : home.put ≡ counted (all_puts quaject)
   pub held : home.held ≡ length (held_of quaject)
 
--- These are the ends and the numbers of a quaject that has kept its law. Each end is one of the queue that it names,
--- and each note that was chained was run once
-pub record CameHome (world : Queues) (first : ℕ) (v : View) (home : Home) : Type 0 where
+-- These are the ends and the numbers of a quaject that has kept its law. They are the ends of the quaject that was given
+-- to the chain, each in its place, each one of the queue that it names and with all raised that it claimed; and each note
+-- that was chained was run once
+pub record CameHome (pact : Pact Queues AnyQuaject) (first : ℕ) (v : View) (home : Home) : Type 0 where
   pub quaject : AnyQuaject
-  pub closed : ClosedNow HasRun (Fits world) v first home.chained home.chained [] quaject
+  pub closed : ClosedNow HasRun (suits Fits SameEnds pact) v first home.chained home.chained [] quaject
+  pub posts : PostsOf pact.opening.value (map post_at home.small, map post_at home.large)
   pub its : IsHome quaject home.chained home.left home
   pub kept : IsKept quaject
-  pub small : AllFit world.small.items home.small
-  pub large : AllFit world.large.items home.large
+  pub small : AllFit pact.world.value.small.items home.small
+  pub large : AllFit pact.world.value.large.items home.large
+  pub raised : AllUp home.small × AllUp home.large
   pub each : home.notes ≡ home.chained % 2 ^ 64
   pub none_left : home.left ≡ 0

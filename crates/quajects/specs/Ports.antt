@@ -1,10 +1,12 @@
 -- Where a quaject takes and puts lines.
 use Rattle.std.specs.Prelude.{◌≡◌, ℕ, ◌<◌, List, [], ◌∷◌, length, Option, Some, None}
 use Rattle.std.specs.List.{slice_get}
+use Rattle.atomic_table.specs.Seated.{TableId}
+use Rattle.table_theory.specs.Listing.{AllRaised}
 use Rattle.claim_queue.specs.declared.ends.ClaimQueue.{ClaimQueue}
 use Rattle.claim_queue.specs.declared.ends.QueueEnd.{QueueEnd}
 use Rattle.claim_queue.specs.declared.rule.View.{View}
-use Rattle.claim_queue.specs.Handles.{IsEndOf}
+use Rattle.claim_queue.specs.Handles.{view_of, call_of, IsEndOf}
 use Rattle.quajects.specs.declared.ports.Port.{Port}
 
 -- the index names a queue, and the end is one of that queue's
@@ -20,8 +22,33 @@ IsUnused v = (v.part.runs ≡ []) × (v.part.takes ≡ [])
 abbrev pub port : {n : ℕ} → ℕ → QueueEnd n → Port n
 port index end = record { index = index; end = end }
 
+-- what no try changes at a port: the index of its queue, and its end's table, number and share of the queue
+pub record Post : Type 0 where
+  pub index : ℕ
+  pub table : TableId
+  pub call : ℕ
+  pub share : ℕ
+
+abbrev pub post_of : {n : ℕ} → ℕ → QueueEnd n → Post
+post_of index end = record {
+  index = index;
+  table = end.seat.table_id;
+  call = call_of end;
+  share = (view_of end).member.share;
+}
+
+abbrev pub post_at : {n : ℕ} → Option (Port n) → Option Post
+post_at None = None
+post_at (Some port) = Some (post_of port.index port.end)
+
 -- each port's end is one of the queue that it names
 abbrev pub AllFit : {n : ℕ} → List (ClaimQueue n) → List (Option (Port n)) → Type 0
 AllFit queues [] = Unit {0}
 AllFit queues (None ∷ ports) = AllFit queues ports
 AllFit queues (Some port ∷ ports) = IsEndAt queues port.index port.end × AllFit queues ports
+
+-- each port's end has raised all that it claimed
+abbrev pub AllUp : {n : ℕ} → List (Option (Port n)) → Type 0
+AllUp [] = Unit {0}
+AllUp (None ∷ ports) = AllUp ports
+AllUp (Some port ∷ ports) = AllRaised (view_of port.end).part.runs × AllUp ports

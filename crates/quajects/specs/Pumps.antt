@@ -1,7 +1,7 @@
 -- A pump: what a caller sees of it, and what it does for a note.
 use Rattle.std.specs.Prelude.{◌≡◌, ℕ, ◌+◌, ◌||◌, ◌%◌, ◌^◌, Bool, List, [], ◌++◌, length, if◌then◌else◌}
 use Rattle.claim_queue.specs.declared.ends.QueueEnd.{QueueEnd}
-use Rattle.claim_queue.specs.Handles.{view_of, call_of, IsSameEnd}
+use Rattle.claim_queue.specs.Handles.{view_of, call_of}
 use Rattle.claim_queue.specs.Lines.{lines_put, lines_taken}
 use Rattle.proc_chain.specs.declared.quaject.Ran.{Ran}
 use Rattle.proc_chain.specs.declared.quaject.Ran.TheVariants.{Worked, Nothing}
@@ -9,7 +9,7 @@ use Rattle.quajects.specs.declared.world.Queues.{Queues}
 use Rattle.quajects.specs.declared.piping.Pump.{Pump}
 use Rattle.quajects.specs.declared.ports.Port.{Port}
 use Rattle.quajects.specs.Lines.{held_line}
-use Rattle.quajects.specs.Ports.{IsEndAt, port}
+use Rattle.quajects.specs.Ports.{Post, IsEndAt, port, post_of}
 use Rattle.quajects.specs.Tries.{Refilled, Flushed}
 
 -- the end that it takes lines at
@@ -26,6 +26,13 @@ source_port pump = port pump.source.index (source_of pump)
 
 abbrev pub target_port : Pump → Port 64
 target_port pump = port pump.target.index (target_of pump)
+
+-- what no note changes of them
+abbrev pub source_post : Pump → Post
+source_post pump = post_of pump.source.index (source_of pump)
+
+abbrev pub target_post : Pump → Post
+target_post pump = post_of pump.target.index (target_of pump)
 
 -- the line that it holds; none where this is empty
 abbrev pub held_of : Pump → List ℕ
@@ -57,12 +64,10 @@ abbrev pub Fits : Queues → Pump → Type 0
 Fits world pump = IsEndAt world.small.items pump.source.index (source_of pump)
     × IsEndAt world.small.items pump.target.index (target_of pump)
 
--- it has the same ends of the same queues
+-- it has the same ends of the same queues, with the same shares
 pub record SameEnds (old new : Pump) : Type 0 where
-  pub from : new.source.index ≡ old.source.index
-  pub source : IsSameEnd (source_of old) (source_of new)
-  pub to : new.target.index ≡ old.target.index
-  pub target : IsSameEnd (target_of old) (target_of new)
+  pub source : source_post new ≡ source_post old
+  pub target : target_post new ≡ target_post old
 
 -- With nothing held there was one try to take a line; what was then held there was one try to put
 pub record RanPump (old new : Pump) (answer : Ran) : Type 0 where

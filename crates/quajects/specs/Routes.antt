@@ -4,13 +4,13 @@ use Rattle.std.specs.Prelude.{map, slice_index, slice_set}
 use Rattle.std.specs.List.{slice_get, filter}
 use Rattle.claim_queue.specs.declared.ends.ClaimQueue.{ClaimQueue}
 use Rattle.claim_queue.specs.declared.ends.QueueEnd.{QueueEnd}
-use Rattle.claim_queue.specs.Handles.{view_of, call_of, IsSameEnd}
+use Rattle.claim_queue.specs.Handles.{view_of, call_of}
 use Rattle.claim_queue.specs.Lines.{lines_put}
 use Rattle.quajects.specs.declared.ports.Outlet.{Outlet}
 use Rattle.quajects.specs.declared.ports.Port.{Port}
 use Rattle.quajects.specs.declared.ways.Way.{Way}
 use Rattle.quajects.specs.Lines.{held_line}
-use Rattle.quajects.specs.Ports.{IsEndAt, IsUnused, port}
+use Rattle.quajects.specs.Ports.{Post, IsEndAt, IsUnused, port, post_of}
 use Rattle.quajects.specs.Tries.{TriedPut}
 
 -- the line begins with the key
@@ -46,6 +46,11 @@ end_of (Some way) = Some way.outlet.end
 abbrev pub port_of : Option Way → Option (Port 64)
 port_of None = None
 port_of (Some way) = Some (port way.outlet.index way.outlet.end)
+
+-- what no note changes of a way's end
+abbrev pub way_post : Option Way → Option Post
+way_post None = None
+way_post (Some way) = Some (post_of way.outlet.index way.outlet.end)
 
 -- the lines put at a way
 abbrev pub puts_of : Option Way → List (List ℕ)
@@ -115,8 +120,7 @@ pub record TriedWay (old : List (Option Way)) (line : List ℕ) (put : Bool) (ne
   pub key : slice_index line 0 ≡ way.key
   pub outlet : Outlet 64
   pub now : new ≡ slice_set old number (Some (record { key = way.key; outlet = outlet }))
-  pub index : outlet.index ≡ way.outlet.index
-  pub same : IsSameEnd way.outlet.end outlet.end
+  pub same : post_of outlet.index outlet.end ≡ post_of way.outlet.index way.outlet.end
   pub tried : TriedPut 64 (call_of way.outlet.end) (view_of way.outlet.end) put line (view_of outlet.end)
 
 -- The line that is held was tried at the target that its first item chooses, and at no other; it is held on where that

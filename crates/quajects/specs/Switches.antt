@@ -2,16 +2,17 @@
 use Rattle.std.specs.Prelude.{◌≡◌, ℕ, ◌+◌, ◌||◌, ◌%◌, ◌^◌, Bool, List, [], ◌++◌, map, length, Option, if◌then◌else◌}
 use Rattle.std.specs.List.{flat_map}
 use Rattle.claim_queue.specs.declared.ends.QueueEnd.{QueueEnd}
-use Rattle.claim_queue.specs.Handles.{view_of, call_of, IsSameEnd}
+use Rattle.claim_queue.specs.Handles.{view_of, call_of}
 use Rattle.claim_queue.specs.Lines.{lines_put, lines_taken}
 use Rattle.proc_chain.specs.declared.quaject.Ran.{Ran}
 use Rattle.proc_chain.specs.declared.quaject.Ran.TheVariants.{Worked, Nothing}
 use Rattle.quajects.specs.declared.world.Queues.{Queues}
 use Rattle.quajects.specs.declared.ports.Port.{Port}
 use Rattle.quajects.specs.declared.switching.Switch.{Switch}
-use Rattle.quajects.specs.Ports.{IsEndAt, port}
+use Rattle.quajects.specs.Ports.{Post, IsEndAt, port, post_of}
 use Rattle.quajects.specs.Tries.{Refilled}
-use Rattle.quajects.specs.Routes.{Given, given_key, given_index, given_end, key_of, index_of, end_of, port_of, puts_of}
+use Rattle.quajects.specs.Routes.{Given, given_key, given_index, given_end, key_of, index_of, end_of, port_of, way_post}
+use Rattle.quajects.specs.Routes.{puts_of}
 use Rattle.quajects.specs.Routes.{RoutesEach, RoutesRest, WaysFit, Switched}
 
 -- the end that it takes lines at
@@ -46,6 +47,16 @@ other_port switch = port switch.other.index (other_of switch)
 abbrev pub way_ports : Switch → List (Option (Port 64))
 way_ports switch = map port_of switch.ways
 
+-- what no note changes of them
+abbrev pub source_post : Switch → Post
+source_post switch = post_of switch.source.index (source_of switch)
+
+abbrev pub other_post : Switch → Post
+other_post switch = post_of switch.other.index (other_of switch)
+
+abbrev pub way_posts : Switch → List (Option Post)
+way_posts switch = map way_post switch.ways
+
 -- the lines put at all its targets
 abbrev pub all_puts : Switch → List (List ℕ)
 all_puts switch = lines_put (view_of (other_of switch)) ++ flat_map puts_of switch.ways
@@ -79,12 +90,12 @@ abbrev pub Fits : Queues → Switch → Type 0
 Fits world switch = IsEndAt world.small.items switch.source.index (source_of switch)
     × IsEndAt world.small.items switch.other.index (other_of switch) × WaysFit world.small.items switch.ways
 
--- it has the same ends of the same queues; of the ways says `TriedWay`
+-- it has the same ends of the same queues, with the same shares, and the same keys
 pub record SameEnds (old new : Switch) : Type 0 where
-  pub from : new.source.index ≡ old.source.index
-  pub source : IsSameEnd (source_of old) (source_of new)
-  pub to : new.other.index ≡ old.other.index
-  pub other : IsSameEnd (other_of old) (other_of new)
+  pub source : source_post new ≡ source_post old
+  pub other : other_post new ≡ other_post old
+  pub ways : way_posts new ≡ way_posts old
+  pub keys : map key_of new.ways ≡ map key_of old.ways
 
 -- With nothing held there was one try to take a line; what was then held was tried at the target that it chooses
 pub record RanSwitch (old new : Switch) (answer : Ran) : Type 0 where

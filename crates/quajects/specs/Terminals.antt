@@ -2,7 +2,7 @@
 use Rattle.std.specs.Prelude.{◌≡◌, ◌≢◌, ℕ, ◌+◌, ◌||◌, ◌%◌, ◌^◌, Bool, true, false, List, [], ◌++◌, map, length}
 use Rattle.std.specs.Prelude.{if◌then◌else◌}
 use Rattle.claim_queue.specs.declared.ends.QueueEnd.{QueueEnd}
-use Rattle.claim_queue.specs.Handles.{view_of, call_of, IsSameEnd}
+use Rattle.claim_queue.specs.Handles.{view_of, call_of}
 use Rattle.claim_queue.specs.Lines.{lines_put, lines_taken}
 use Rattle.proc_chain.specs.declared.quaject.Ran.{Ran}
 use Rattle.proc_chain.specs.declared.quaject.Ran.TheVariants.{Worked, Nothing}
@@ -11,7 +11,7 @@ use Rattle.quajects.specs.declared.ports.Port.{Port}
 use Rattle.quajects.specs.declared.terminal.CookedTty.{CookedTty}
 use Rattle.quajects.specs.Cooked.{cooked}
 use Rattle.quajects.specs.Lines.{held_line}
-use Rattle.quajects.specs.Ports.{IsEndAt, port}
+use Rattle.quajects.specs.Ports.{Post, IsEndAt, port, post_of}
 use Rattle.quajects.specs.Cooks.{CookedRaw, TriedLine, TriedScreen}
 
 -- the end that it takes raw lines at
@@ -35,6 +35,16 @@ line_port tty = port tty.line.index (line_of tty)
 
 abbrev pub screen_port : CookedTty → Port 256
 screen_port tty = port tty.screen.index (screen_of tty)
+
+-- what no note changes of them
+abbrev pub raw_post : CookedTty → Post
+raw_post tty = post_of tty.raw.index (raw_of tty)
+
+abbrev pub line_post : CookedTty → Post
+line_post tty = post_of tty.line.index (line_of tty)
+
+abbrev pub screen_post : CookedTty → Post
+screen_post tty = post_of tty.screen.index (screen_of tty)
 
 -- the cooked line that it holds; none where this is empty
 abbrev pub held_of : CookedTty → List ℕ
@@ -80,14 +90,11 @@ Fits world tty = IsEndAt world.small.items tty.raw.index (raw_of tty)
     × IsEndAt world.large.items tty.line.index (line_of tty)
     × IsEndAt world.large.items tty.screen.index (screen_of tty)
 
--- it has the same ends of the same queues
+-- it has the same ends of the same queues, with the same shares
 pub record SameEnds (old new : CookedTty) : Type 0 where
-  pub raw_index : new.raw.index ≡ old.raw.index
-  pub raw : IsSameEnd (raw_of old) (raw_of new)
-  pub line_index : new.line.index ≡ old.line.index
-  pub line : IsSameEnd (line_of old) (line_of new)
-  pub screen_index : new.screen.index ≡ old.screen.index
-  pub screen : IsSameEnd (screen_of old) (screen_of new)
+  pub raw : raw_post new ≡ raw_post old
+  pub line : line_post new ≡ line_post old
+  pub screen : screen_post new ≡ screen_post old
 
 -- With nothing held there was one try to take a raw line; what was then held and not in the line queue there was one
 -- try to put there; and what was then in the line queue there was one try to put in the screen queue

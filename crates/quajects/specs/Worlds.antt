@@ -1,6 +1,6 @@
 -- The queues that are made, each with its only end.
-use Rattle.std.specs.Prelude.{◌≡◌, ℕ, List, length}
-use Rattle.std.specs.List.{AllZip}
+use Rattle.std.specs.Prelude.{◌≡◌, ◌≤◌, ℕ, List, length, Some}
+use Rattle.std.specs.List.{AllZip, slice_get}
 use Rattle.claim_queue.specs.declared.ends.ClaimQueue.{ClaimQueue}
 use Rattle.claim_queue.specs.declared.ends.QueueEnd.{QueueEnd}
 use Rattle.claim_queue.specs.Handles.{IsEndOf, first_of, view_of}
@@ -14,3 +14,9 @@ IsFresh {n} queue end = IsEndOf queue end × (first_of queue ≡ 0)
 -- there are so many queues, each empty at 0 and with its only end
 abbrev pub AreFresh : {n : ℕ} → ℕ → List (ClaimQueue n) → List (QueueEnd n) → Type 0
 AreFresh count queues ends = (length queues ≡ count) × AllZip IsFresh queues ends
+
+-- the ends are the only ends of the first so many of the queues, each of which is empty at 0
+pub record AreFront {n : ℕ} (queues : List (ClaimQueue n)) (ends : List (QueueEnd n)) : Type 0 where
+  pub few : length ends ≤ length queues
+  pub fresh : (i : ℕ) (queue : ClaimQueue n) (end : QueueEnd n) → slice_get queues i ≡ Some queue
+      → slice_get ends i ≡ Some end → IsFresh queue end

@@ -1,10 +1,11 @@
 //! Queues for the tests, with two ends of each.
-ghost use Rattle.std.specs.Prelude.{◌≡◌, ◌≤◌, map, IfOk};
+ghost use Rattle.std.specs.Prelude.{◌≡◌, ◌≤◌, ◌+◌, length, map, IfOk};
 ghost use Rattle.std.specs.List.{All};
 ghost use Rattle.claim_queue.specs.Handles.{view_of, IsEndOf};
 ghost use Rattle.quajects.specs.Ports.{IsEndAt, IsUnused};
 ghost use Rattle.quajects.specs.Routes.{KeysDiffer, IsGivenFit, IsGivenUnused, given_key};
 ghost use Rattle.quajects.specs.Switches.{Fits};
+ghost use Rattle.quajects.specs.Worlds.{AreFront};
 
 use crate::switching::{GivenWay, Switch};
 use crate::world::Queues;
@@ -171,6 +172,37 @@ pub(crate) fn four_devices(alloc: Global) -> Result<Devices, OutOfMemory> {
         line,
         screen,
     })
+}
+
+/// Two ends of the queue with this index, made of the last end in the list.
+pub(crate) fn last_two<const N: usize>(
+    queues: &[ClaimQueue<N>],
+    ends: &mut Vec<QueueEnd<N>>,
+    index: usize,
+) -> Two<N>
+    requires last { length ends.old.items ≡ index + 1 }
+    requires front { AreFront queues.now ends.old.items }
+    ensures fewer { length ends.new.items ≡ index }
+    ensures front { AreFront queues.now ends.new.items }
+    ensures two { IsEndAt queues.now index result.mine × IsEndAt queues.now index result.other }
+{
+    let Some(mut mine) = ends.pop() else {
+        unreachable!()
+    };
+    let other = queues[index].split(&mut mine);
+    Two { mine, other }
+}
+
+/// So many queues as `Queues::new` makes them, and the only end of each.
+pub(crate) fn new_queues(
+    alloc: Global,
+    small: usize,
+    large: usize,
+) -> Result<(Queues, Vec<QueueEnd<64>>, Vec<QueueEnd<256>>), OutOfMemory>
+    ensures small { IfOk result (λ r. (length r.1.items ≡ small) × AreFront r.0.small.items r.1.items) }
+    ensures large { IfOk result (λ r. (length r.2.items ≡ large) × AreFront r.0.large.items r.2.items) }
+{
+    Queues::new(alloc, small, large)
 }
 
 /// `try_put` at the queue with this index.

@@ -1,7 +1,7 @@
 //! Closing a chain, and what comes home from it.
 ghost use Rattle.std.specs.Prelude.{◌≡◌, false, IfOk, IfErr, MatchResult};
 ghost use Rattle.proc_chain.specs.Closings.{WereOpen};
-ghost use Rattle.proc_chain.specs.Handles.{view_of, turn_of, world_of, first_of, IsEndOf, IsOnlyEnd, IsSameEnd};
+ghost use Rattle.proc_chain.specs.Handles.{view_of, turn_of, pact_of, first_of, IsEndOf, IsOnlyEnd, IsSameEnd};
 ghost use Rattle.quajects.specs.Homes.{IsHome, CameHome};
 
 use crate::any::AnyQuaject;
@@ -54,7 +54,7 @@ fn home_of(quaject: AnyQuaject, chained: u32, left: usize) -> Home
 pub fn retire(chain: Chain, end: End) -> Result<Home, (Chain, End, OpenEnds)>
     requires ends { IsEndOf chain end }
     requires turn { turn_of end ≡ false }
-    ensures home { IfOk result (λ home. CameHome (world_of chain) (first_of chain) (view_of end) home) }
+    ensures home { IfOk result (λ home. CameHome (pact_of chain) (first_of chain) (view_of end) home) }
     ensures open { IfErr result (λ e. (e.0 ≡ chain) × IsEndOf chain e.1 × IsSameEnd end e.1 × (turn_of e.1 ≡ false)
         × WereOpen (view_of end) e.2.others (view_of e.1)) }
     ensures only { IsOnlyEnd end → MatchResult result (λ home. Unit {0}) (λ e. ⊥) }

@@ -1,9 +1,9 @@
 //! The pump (Massalin 1992).
 ghost use Rattle.std.specs.Prelude.{◌≡◌, ℕ, List, [], ◌++◌, ◌∷◌, length};
-ghost use Rattle.claim_queue.specs.Handles.{view_of, call_of, IsSameEnd};
+ghost use Rattle.claim_queue.specs.Handles.{view_of, call_of};
 ghost use Rattle.claim_queue.specs.Lines.{lines_put, lines_taken};
 ghost use Rattle.quajects.specs.Lines.{held_line, counted};
-ghost use Rattle.quajects.specs.Ports.{IsEndAt, IsUnused};
+ghost use Rattle.quajects.specs.Ports.{IsEndAt, IsUnused, post_of};
 ghost use Rattle.quajects.specs.Tries.{Refilled, Flushed};
 
 use crate::ports::{Intake, Outlet, Port};
@@ -93,8 +93,8 @@ impl Pump {
         requires { IsEndAt queues.now self.old.source.index self.old.source.end }
         ensures rest { (self.new.target ≡ self.old.target) × (self.new.notes ≡ self.old.notes) }
         ensures at { IsEndAt queues.now self.new.source.index self.new.source.end }
-        ensures same { (self.new.source.index ≡ self.old.source.index) × IsSameEnd self.old.source.end
-            self.new.source.end }
+        ensures same { post_of self.new.source.index self.new.source.end
+            ≡ post_of self.old.source.index self.old.source.end }
         ensures tried { Refilled 64 (call_of self.old.source.end) (view_of self.old.source.end) self.old.held.items
             result self.new.held.items (view_of self.new.source.end) }
     {
@@ -106,8 +106,8 @@ impl Pump {
         requires { IsEndAt queues.now self.old.target.index self.old.target.end }
         ensures rest { (self.new.source ≡ self.old.source) × (self.new.notes ≡ self.old.notes) }
         ensures at { IsEndAt queues.now self.new.target.index self.new.target.end }
-        ensures same { (self.new.target.index ≡ self.old.target.index) × IsSameEnd self.old.target.end
-            self.new.target.end }
+        ensures same { post_of self.new.target.index self.new.target.end
+            ≡ post_of self.old.target.index self.old.target.end }
         ensures tried { Flushed 64 (call_of self.old.target.end) (view_of self.old.target.end) self.old.held.items
             result self.new.held.items (view_of self.new.target.end) }
     {
@@ -120,7 +120,7 @@ impl Pump {
 }
 
 impl Quaject for Pump {
-    ghost use Rattle.quajects.specs.Pumps.{HasRun, Fits, RanPump};
+    ghost use Rattle.quajects.specs.Pumps.{HasRun, Fits, SameEnds, RanPump};
 
     type World = Queues;
 
@@ -128,11 +128,14 @@ impl Quaject for Pump {
 
     ghost fits = { Fits };
 
+    ghost keeps = { SameEnds };
+
     /// With nothing held it takes a line from its source; then it puts what is held in its target. Each try is made
     /// once. `Worked` where a line was taken or put.
     fn run(&mut self, world: &Queues, _note: u16) -> Ran
         requires { Fits world.now self.old }
         ensures fits { Fits world.now self.new }
+        ensures keeps { (first : Pump) → SameEnds first self.old → SameEnds first self.new }
         ensures made { (notes : List ℕ) → HasRun self.old notes → HasRun self.new (notes ++ _note ∷ []) }
         ensures ran { RanPump self.old self.new result }
     {

@@ -1,10 +1,10 @@
 //! Where a quaject takes and puts lines: an end of a queue, which queue it is, and how many items went through.
 ghost use Rattle.std.specs.Prelude.{◌≡◌, [], ◌++◌, ◌∷◌, if◌then◌else◌};
 ghost use Rattle.table_theory.specs.Listing.{AllRaised};
-ghost use Rattle.claim_queue.specs.Handles.{view_of, call_of, IsSameEnd};
+ghost use Rattle.claim_queue.specs.Handles.{view_of, call_of};
 ghost use Rattle.claim_queue.specs.Lines.{lines_put, lines_taken};
 ghost use Rattle.quajects.specs.Lines.{held_line, counted};
-ghost use Rattle.quajects.specs.Ports.{IsEndAt, IsUnused, port};
+ghost use Rattle.quajects.specs.Ports.{IsEndAt, IsUnused, port, post_of};
 ghost use Rattle.quajects.specs.Tries.{TriedTake, TriedPut};
 
 use arrayvec::ArrayVec;
@@ -70,7 +70,7 @@ impl<const N: usize> Intake<N> {
         requires at { IsEndAt queues.now self.old.index self.old.end }
         requires empty { line.old.items ≡ [] }
         ensures at { IsEndAt queues.now self.new.index self.new.end }
-        ensures same { (self.new.index ≡ self.old.index) × IsSameEnd self.old.end self.new.end }
+        ensures same { post_of self.new.index self.new.end ≡ post_of self.old.index self.old.end }
         ensures tried { TriedTake N (call_of self.old.end) (view_of self.old.end) result line.new.items
             (view_of self.new.end) }
         ensures lines { lines_taken (view_of self.new.end) ≡ lines_taken (view_of self.old.end)
@@ -110,7 +110,7 @@ impl<const N: usize> Outlet<N> {
     pub(crate) fn try_line(&mut self, queues: &[ClaimQueue<N>], line: &[u64]) -> bool
         requires at { IsEndAt queues.now self.old.index self.old.end }
         ensures at { IsEndAt queues.now self.new.index self.new.end }
-        ensures same { (self.new.index ≡ self.old.index) × IsSameEnd self.old.end self.new.end }
+        ensures same { post_of self.new.index self.new.end ≡ post_of self.old.index self.old.end }
         ensures tried { TriedPut N (call_of self.old.end) (view_of self.old.end) result line.now
             (view_of self.new.end) }
         ensures lines { lines_put (view_of self.new.end) ≡ (if result then lines_put (view_of self.old.end)

@@ -2,13 +2,13 @@
 ghost use Rattle.std.specs.Prelude.{◌≡◌, ◌≢◌, ◌<◌, ℕ, List, [], ◌++◌, ◌∷◌, length, Option, Some, MatchOption};
 ghost use Rattle.std.specs.Prelude.{slice_index, map, if◌then◌else◌};
 ghost use Rattle.std.specs.List.{slice_get, All, AllZip};
-ghost use Rattle.claim_queue.specs.Handles.{view_of, call_of, IsSameEnd};
+ghost use Rattle.claim_queue.specs.Handles.{view_of, call_of};
 ghost use Rattle.claim_queue.specs.Lines.{lines_put, lines_taken};
 ghost use Rattle.quajects.specs.Lines.{held_line, counted};
-ghost use Rattle.quajects.specs.Ports.{IsEndAt, IsUnused};
+ghost use Rattle.quajects.specs.Ports.{IsEndAt, IsUnused, post_of};
 ghost use Rattle.quajects.specs.Tries.{Refilled, Flushed};
 ghost use Rattle.quajects.specs.Routes.{RoutesEach, RoutesRest, KeysDiffer, WaysFit, IsNoKey, TriedWay, Switched};
-ghost use Rattle.quajects.specs.Routes.{key_of, end_of, port_of, puts_of, given_key};
+ghost use Rattle.quajects.specs.Routes.{key_of, end_of, port_of, way_post, puts_of, given_key};
 ghost use Rattle.quajects.specs.Routes.{IsGivenUnused, IsGivenFit, IsGiven};
 ghost use Rattle.quajects.specs.declared.ways.Way.{Way};
 
@@ -193,8 +193,8 @@ impl Switch {
         ensures rest { (self.new.other ≡ self.old.other) × (self.new.ways ≡ self.old.ways)
             × (self.new.notes ≡ self.old.notes) }
         ensures at { IsEndAt queues.now self.new.source.index self.new.source.end }
-        ensures same { (self.new.source.index ≡ self.old.source.index) × IsSameEnd self.old.source.end
-            self.new.source.end }
+        ensures same { post_of self.new.source.index self.new.source.end
+            ≡ post_of self.old.source.index self.old.source.end }
         ensures tried { Refilled 64 (call_of self.old.source.end) (view_of self.old.source.end) self.old.held.items
             result self.new.held.items (view_of self.new.source.end) }
     {
@@ -227,6 +227,8 @@ impl Switch {
         ensures rest { (self.new.source ≡ self.old.source) × (self.new.other ≡ self.old.other)
             × (self.new.notes ≡ self.old.notes) }
         ensures fit { WaysFit queues.now self.new.ways }
+        ensures posts { (map way_post self.new.ways ≡ map way_post self.old.ways)
+            × (map key_of self.new.ways ≡ map key_of self.old.ways) }
         ensures tried { TriedWay self.old.ways self.old.held.items result self.new.ways }
         ensures held { self.new.held.items ≡ (if result then [] else self.old.held.items) }
     {
@@ -248,8 +250,8 @@ impl Switch {
         ensures rest { (self.new.source ≡ self.old.source) × (self.new.ways ≡ self.old.ways)
             × (self.new.notes ≡ self.old.notes) }
         ensures at { IsEndAt queues.now self.new.other.index self.new.other.end }
-        ensures same { (self.new.other.index ≡ self.old.other.index) × IsSameEnd self.old.other.end
-            self.new.other.end }
+        ensures same { post_of self.new.other.index self.new.other.end
+            ≡ post_of self.old.other.index self.old.other.end }
         ensures tried { Flushed 64 (call_of self.old.other.end) (view_of self.old.other.end) self.old.held.items
             result self.new.held.items (view_of self.new.other.end) }
     {
@@ -266,9 +268,11 @@ impl Switch {
         requires fit { WaysFit queues.now self.old.ways }
         ensures rest { (self.new.source ≡ self.old.source) × (self.new.notes ≡ self.old.notes) }
         ensures at { IsEndAt queues.now self.new.other.index self.new.other.end }
-        ensures same { (self.new.other.index ≡ self.old.other.index) × IsSameEnd self.old.other.end
-            self.new.other.end }
+        ensures same { post_of self.new.other.index self.new.other.end
+            ≡ post_of self.old.other.index self.old.other.end }
         ensures fit { WaysFit queues.now self.new.ways }
+        ensures posts { (map way_post self.new.ways ≡ map way_post self.old.ways)
+            × (map key_of self.new.ways ≡ map key_of self.old.ways) }
         ensures tried { Switched self.old.ways self.old.other self.old.held.items result self.new.held.items
             self.new.ways self.new.other }
     {
@@ -284,7 +288,7 @@ impl Switch {
 }
 
 impl Quaject for Switch {
-    ghost use Rattle.quajects.specs.Switches.{HasRun, Fits, RanSwitch};
+    ghost use Rattle.quajects.specs.Switches.{HasRun, Fits, SameEnds, RanSwitch};
 
     type World = Queues;
 
@@ -292,11 +296,14 @@ impl Quaject for Switch {
 
     ghost fits = { Fits };
 
+    ghost keeps = { SameEnds };
+
     /// With nothing held it takes a line from its source; then it puts what is held in the target that its first item
     /// chooses. Each try is made once. `Worked` where a line was taken or put.
     fn run(&mut self, world: &Queues, _note: u16) -> Ran
         requires { Fits world.now self.old }
         ensures fits { Fits world.now self.new }
+        ensures keeps { (first : Switch) → SameEnds first self.old → SameEnds first self.new }
         ensures made { (notes : List ℕ) → HasRun self.old notes → HasRun self.new (notes ++ _note ∷ []) }
         ensures ran { RanSwitch self.old self.new result }
     {

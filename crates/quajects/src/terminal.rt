@@ -1,10 +1,10 @@
 //! The cooked tty (Massalin 1992).
 ghost use Rattle.std.specs.Prelude.{◌≡◌, ◌≢◌, ℕ, true, List, [], ◌++◌, ◌∷◌, map, length, if◌then◌else◌};
-ghost use Rattle.claim_queue.specs.Handles.{view_of, call_of, IsSameEnd};
+ghost use Rattle.claim_queue.specs.Handles.{view_of, call_of};
 ghost use Rattle.claim_queue.specs.Lines.{lines_put, lines_taken};
 ghost use Rattle.quajects.specs.Cooked.{cooked};
 ghost use Rattle.quajects.specs.Lines.{held_line, counted};
-ghost use Rattle.quajects.specs.Ports.{IsEndAt, IsUnused};
+ghost use Rattle.quajects.specs.Ports.{IsEndAt, IsUnused, post_of};
 ghost use Rattle.quajects.specs.Cooks.{CookedRaw, TriedLine, TriedScreen};
 
 use crate::cooking::cooked_line;
@@ -123,7 +123,8 @@ impl CookedTty {
         ensures rest { (self.new.line ≡ self.old.line) × (self.new.screen ≡ self.old.screen)
             × (self.new.notes ≡ self.old.notes) × (self.new.in_line ≡ self.old.in_line) }
         ensures at { IsEndAt queues.now self.new.raw.index self.new.raw.end }
-        ensures same { (self.new.raw.index ≡ self.old.raw.index) × IsSameEnd self.old.raw.end self.new.raw.end }
+        ensures same { post_of self.new.raw.index self.new.raw.end
+            ≡ post_of self.old.raw.index self.old.raw.end }
         ensures tried { CookedRaw (call_of self.old.raw.end) (view_of self.old.raw.end) self.old.held.items result
             self.new.held.items (view_of self.new.raw.end) }
     {
@@ -144,7 +145,8 @@ impl CookedTty {
         ensures rest { (self.new.raw ≡ self.old.raw) × (self.new.screen ≡ self.old.screen)
             × (self.new.notes ≡ self.old.notes) × (self.new.held ≡ self.old.held) }
         ensures at { IsEndAt queues.now self.new.line.index self.new.line.end }
-        ensures same { (self.new.line.index ≡ self.old.line.index) × IsSameEnd self.old.line.end self.new.line.end }
+        ensures same { post_of self.new.line.index self.new.line.end
+            ≡ post_of self.old.line.index self.old.line.end }
         ensures tried { TriedLine (call_of self.old.line.end) (view_of self.old.line.end) self.old.held.items
             self.old.in_line result self.new.in_line (view_of self.new.line.end) }
     {
@@ -164,8 +166,8 @@ impl CookedTty {
         ensures rest { (self.new.raw ≡ self.old.raw) × (self.new.line ≡ self.old.line)
             × (self.new.notes ≡ self.old.notes) }
         ensures at { IsEndAt queues.now self.new.screen.index self.new.screen.end }
-        ensures same { (self.new.screen.index ≡ self.old.screen.index) × IsSameEnd self.old.screen.end
-            self.new.screen.end }
+        ensures same { post_of self.new.screen.index self.new.screen.end
+            ≡ post_of self.old.screen.index self.old.screen.end }
         ensures tried { TriedScreen (call_of self.old.screen.end) (view_of self.old.screen.end) self.old.held.items
             self.old.in_line result self.new.held.items self.new.in_line (view_of self.new.screen.end) }
     {
@@ -179,7 +181,7 @@ impl CookedTty {
 }
 
 impl Quaject for CookedTty {
-    ghost use Rattle.quajects.specs.Terminals.{HasRun, Fits, RanCooked};
+    ghost use Rattle.quajects.specs.Terminals.{HasRun, Fits, SameEnds, RanCooked};
 
     type World = Queues;
 
@@ -187,11 +189,14 @@ impl Quaject for CookedTty {
 
     ghost fits = { Fits };
 
+    ghost keeps = { SameEnds };
+
     /// With nothing held it takes a raw line, and holds the cooked one; then it puts what is held in the line queue,
     /// and once that is done in the screen queue. Each try is made once. `Worked` where a line was taken or put.
     fn run(&mut self, world: &Queues, _note: u16) -> Ran
         requires { Fits world.now self.old }
         ensures fits { Fits world.now self.new }
+        ensures keeps { (first : CookedTty) → SameEnds first self.old → SameEnds first self.new }
         ensures made { (notes : List ℕ) → HasRun self.old notes → HasRun self.new (notes ++ _note ∷ []) }
         ensures ran { RanCooked self.old self.new result }
     {

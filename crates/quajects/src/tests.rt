@@ -1,7 +1,7 @@
 ghost use Rattle.std.specs.Prelude.{◌≤◌, length};
 
 use super::*;
-use crate::fixtures::{Five, Two, five_small, put_at, shut_at, take_at};
+use crate::fixtures::{Five, Two, five_small, last_two, new_queues, put_at, shut_at, take_at};
 use arrayvec::ArrayVec;
 use claim_queue::{ClaimQueue, ClaimRefusal, TakeRefusal};
 use proc_chain::{Quaject, Ran};
@@ -57,6 +57,32 @@ fn pumps(rt: HostRuntime) -> Result<(), Fail> {
     assert!(rt; matches!(pump.run(&queues, 0), Ran::Nothing));
     assert_eq!(rt; (pump.taken(), pump.put(), pump.held()), (3, 3, 0));
     assert_eq!(rt; pump.notes(), 2);
+    let mut line = ArrayVec::new();
+    assert_eq!(rt; take_at(small, 1, &mut reader, &mut line), Ok(3));
+    assert_eq!(rt; line.as_slice(), [104, 105, 10].as_slice());
+    Ok(())
+}
+
+/// The same over queues that were made together.
+#[test]
+fn pumps_over_new_queues(rt: HostRuntime) -> Result<(), Fail> {
+    let (queues, mut ends, none) = new_queues(rt.alloc(), 2, 0)?;
+    assert!(rt; none.is_empty());
+    let small = queues.small.as_slice();
+    let Two {
+        mine: target,
+        other: mut reader,
+    } = last_two(small, &mut ends, 1);
+    let Two {
+        mine: source,
+        other: mut writer,
+    } = last_two(small, &mut ends, 0);
+    assert!(rt; ends.is_empty());
+    assert!(rt; put_at(small, 0, &mut writer, &[104, 105, 10]).is_ok());
+    let mut pump = Pump::new(0, source, 1, target);
+    assert!(rt; matches!(pump.run(&queues, 0), Ran::Worked));
+    assert_eq!(rt; (pump.taken(), pump.put(), pump.held()), (3, 3, 0));
+    assert!(rt; matches!(pump.run(&queues, 0), Ran::Nothing));
     let mut line = ArrayVec::new();
     assert_eq!(rt; take_at(small, 1, &mut reader, &mut line), Ok(3));
     assert_eq!(rt; line.as_slice(), [104, 105, 10].as_slice());
@@ -152,27 +178,31 @@ fn settles_with_all_ends(rt: HostRuntime) -> Result<(), Fail> {
     let (queue, mut first) = ClaimQueue::<64>::new(rt.alloc(), 0)?;
     let mut second = queue.split(&mut first);
     let mut third = queue.split(&mut second);
+    let mut fourth = queue.split(&mut third);
     assert_eq!(rt; queue.try_put(&mut second, &[104, 105, 10]), Ok(0));
     assert_eq!(rt; queue.try_put(&mut third, &[33]), Ok(3));
     assert_eq!(rt; queue.try_take(&mut first), Ok(104));
+    // Claimed, and never raised.
+    assert!(rt; queue.try_claim(&mut fourth, &[44]).is_ok());
     let mut others = Vec::new(rt.alloc());
     others.push(second)?;
     let (queue, first) = match settle(queue, first, others) {
-        Ok(_) => panic!(rt; "closed over an open end"),
+        Ok(_) => panic!(rt; "closed over open ends"),
         Err((queue, first, others)) => {
-            assert_eq!(rt; others.others, 1);
+            assert_eq!(rt; others.others, 2);
             (queue, first)
         }
     };
     let mut others = Vec::new(rt.alloc());
     others.push(third)?;
+    others.push(fourth)?;
     let Ok(closed) = settle(queue, first, others) else {
         panic!(rt; "open ends")
     };
-    assert_eq!(rt; (closed.first, closed.put, closed.taken), (0, 4, 1));
+    assert_eq!(rt; (closed.first, closed.put, closed.taken), (0, 5, 1));
     assert_eq!(rt;
         closed.left.as_slice(),
-        [Some(105), Some(10), Some(33)].as_slice()
+        [Some(105), Some(10), Some(33), None].as_slice()
     );
     Ok(())
 }

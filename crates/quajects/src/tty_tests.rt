@@ -4,7 +4,7 @@ ghost use Rattle.quajects.specs.Ports.{IsEndAt};
 ghost use Rattle.quajects.specs.Raws.{end_of};
 
 use super::*;
-use crate::fixtures::{Two, Typing, put_at, take_at, tty_queues};
+use crate::fixtures::{Two, Typing, last_two, new_queues, put_at, take_at, tty_queues};
 use arrayvec::ArrayVec;
 use claim_queue::TakeRefusal;
 use proc_chain::{ChainEnd, ProcChain, Quaject, Ran};
@@ -30,24 +30,19 @@ fn type_all<R: Abort + Wait>(rt: &R, queues: &Queues, chain: &Chain, tty: &mut R
 /// Five bytes typed are one cooked line in the line queue, and in the screen queue.
 #[test]
 fn types(rt: HostRuntime) -> Result<(), Fail> {
-    let Typing {
-        queues,
-        raw,
-        line,
-        screen,
-    } = tty_queues(rt.alloc())?;
+    let (queues, mut small, mut large) = new_queues(rt.alloc(), 1, 2)?;
     let Two {
         mine: raw_end,
         other: device,
-    } = raw;
-    let Two {
-        mine: line_end,
-        other: mut reader,
-    } = line;
+    } = last_two(queues.small.as_slice(), &mut small, 0);
     let Two {
         mine: screen_end,
         other: mut viewer,
-    } = screen;
+    } = last_two(queues.large.as_slice(), &mut large, 1);
+    let Two {
+        mine: line_end,
+        other: mut reader,
+    } = last_two(queues.large.as_slice(), &mut large, 0);
     let cooked = CookedTty::new(0, raw_end, 0, line_end, 1, screen_end);
     let Ok((chain, mut end)) = Chain::new(rt.alloc(), 0, AnyQuaject::Cooked(cooked), &queues) else {
         panic!(rt; "no memory")

@@ -3,7 +3,7 @@ use Rattle.std.specs.List.{slice_get}
 use Rattle.claim_queue.specs.Handles.{view_of}
 use Rattle.quajects.specs.declared.ways.Way.{Way}
 use Rattle.claim_queue.specs.Lines.{lines_put}
-use Rattle.quajects.proofs.Routes.{apart_after, each_refused, each_put, rest_same, rest_gone, way_read, fits_way, fit_after, tried_as}
+use Rattle.quajects.proofs.Routes.{apart_after, each_refused, each_put, rest_same, rest_gone, keys_same, posts_same, way_read, fits_way, fit_after, tried_as}
 use Rattle.quajects.proofs.switching.Switch.flush_way.Goals as goal
 
 pub invariant_of-self-then-not-try_line : goal.invariant_of-self-then-not-try_line
@@ -38,10 +38,20 @@ pub try_line-requires : goal.try_line-requires
 try_line-requires c = (search rules, (search rules, fits_way c.args.queues.now c.args.self.now.ways c.args.i c.requires.chosen.0 c.in-Some.way _ c.requires.fit c.requires.chosen.1 c.in-Some.is))
 
 pub returns-then-not-try_line-clause-tried : goal.returns-then-not-try_line-clause-tried
-returns-then-not-try_line-clause-tried c = let k = c.requires.chosen in tried_as c.args.self.now.ways c.args.i k.0 c.in-Some.way _ _ _ _ _ _ k.1 k.2 c.in-Some.is c.as_slice.ensures.value c.if-not-try_line.true c.try_line.ensures.same.0 c.try_line.ensures.same.1 c.try_line.ensures.tried
+returns-then-not-try_line-clause-tried c = let k = c.requires.chosen in tried_as c.args.self.now.ways c.args.i k.0 c.in-Some.way _ _ _ _ _ _ k.1 k.2 c.in-Some.is c.as_slice.ensures.value c.if-not-try_line.true c.try_line.ensures.same c.try_line.ensures.tried
 
 pub returns-clause-tried : goal.returns-clause-tried
-returns-clause-tried c = let k = c.requires.chosen in tried_as c.args.self.now.ways c.args.i k.0 c.in-Some.way _ _ _ _ _ _ k.1 k.2 c.in-Some.is c.as_slice.ensures.value c.if-not-try_line.false c.try_line.ensures.same.0 c.try_line.ensures.same.1 c.try_line.ensures.tried
+returns-clause-tried c = let k = c.requires.chosen in tried_as c.args.self.now.ways c.args.i k.0 c.in-Some.way _ _ _ _ _ _ k.1 k.2 c.in-Some.is c.as_slice.ensures.value c.if-not-try_line.false c.try_line.ensures.same c.try_line.ensures.tried
 
 pub returns-clause-fit : goal.returns-clause-fit
 returns-clause-fit c = fit_after c.args.queues.now c.args.self.now.ways c.args.i c.in-Some.way _ c.requires.fit c.try_line.ensures.at
+
+pub returns-then-not-try_line-clause-posts : goal.returns-then-not-try_line-clause-posts
+returns-then-not-try_line-clause-posts c = let s = c.args.self.now in let way = c.in-Some.way in let known = c.requires.chosen in
+    let at : slice_get s.ways c.args.i ≡ Some (Some way) = known.1 ∙ ap (λ (z : Way). Some (Some z)) (way_read s.ways c.args.i known.0 way _ known.1 c.in-Some.is) in
+    (posts_same s.ways c.args.i way _ at c.try_line.ensures.same, keys_same s.ways c.args.i way _ at)
+
+pub returns-clause-posts : goal.returns-clause-posts
+returns-clause-posts c = let s = c.args.self.now in let way = c.in-Some.way in let known = c.requires.chosen in
+    let at : slice_get s.ways c.args.i ≡ Some (Some way) = known.1 ∙ ap (λ (z : Way). Some (Some z)) (way_read s.ways c.args.i known.0 way _ known.1 c.in-Some.is) in
+    (posts_same s.ways c.args.i way _ at c.try_line.ensures.same, keys_same s.ways c.args.i way _ at)

@@ -1,8 +1,8 @@
 -- What is kept of a boot script, line by line.
-use Rattle.std.proofs.Common.{◌≡◌, inl, inr, min, ℕ, zero, suc, ◌<◌, ◌≤◌, ◌+◌, List, [], ◌∷◌, ◌++◌, ◌∙◌, refl, sym, ap, subst, arith, length, length-append, get_or, slice_index_or, slice_set, slice_get, true, false, Bool, cond, Option, Some, None, Result, Ok, Err}
+use Rattle.std.proofs.Common.{◌≡◌, ℕ, zero, suc, ◌<◌, ◌≤◌, ◌+◌, List, [], ◌∷◌, ◌++◌, ◌∙◌, refl, sym, ap, arith, length, length-append, get_or, slice_set, true, false, Bool, cond, Option, Some, None, Result, Ok, Err}
 use Rattle.std.proofs.Math.Dec.{eqb}
 use Rattle.std.proofs.lemmas.Bool.Decides.{nat_tests}
-use Rattle.std.proofs.lemmas.List.{append-nil, get_or-set_same, get_or-set_other, get_or-replicate}
+use Rattle.std.proofs.lemmas.List.{get_or-set_same, get_or-set_other}
 use Rattle.std.specs.Prelude.{nat_le, nat_lt, IsSome, IfSome, OnOk}
 use Rattle.std.specs.Result.{is_ok}
 use Rattle.boot_script.specs.declared.fault.ScriptRefusal.{ScriptRefusal}

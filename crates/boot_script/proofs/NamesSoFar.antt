@@ -1,14 +1,12 @@
 -- Names that were declared, one after the other.
-use Rattle.std.proofs.Common.{◌≡◌, ℕ, zero, ◌<◌, ◌≤◌, ◌+◌, suc, List, [], ◌∷◌, ◌++◌, ◌∙◌, refl, sym, ap, subst, arith, length, length-append, drop, get_or, add-one, true, false, Bool, cond, Result, Ok, Err}
+use Rattle.std.proofs.Common.{◌≡◌, ℕ, zero, ◌<◌, ◌≤◌, ◌+◌, suc, List, [], ◌∷◌, ◌++◌, ◌∙◌, refl, sym, ap, subst, arith, length, drop, get_or, add-one, true, false, Bool, cond, Ok, Err}
 use Rattle.std.proofs.Math.Seq.{drop-cons}
-use Rattle.std.proofs.lemmas.Bool.Decides.{nat_tests}
 use Rattle.std.proofs.lemmas.List.{drop_all}
 use Rattle.std.proofs.lemmas.List.Splits.{join_with_byte-slice_split}
 use Rattle.std.proofs.lemmas.List.Sums.{sum_by_push, sum_by-cons}
-use Rattle.std.specs.Prelude.{nat_lt}
-use Rattle.std.specs.List.{AllByRecursion, count_by, join_with_byte}
+use Rattle.std.specs.List.{AllByRecursion, join_with_byte}
 use Rattle.std.specs.Str.{bytes_eq}
-use Rattle.boot_script.specs.declared.fault.ScriptRefusal.TheVariants.{NameUnknown, TooMany}
+use Rattle.boot_script.specs.declared.fault.ScriptRefusal.TheVariants.{NameUnknown}
 use Rattle.boot_script.specs.declared.declared_names.Kind.{Kind}
 use Rattle.boot_script.specs.declared.declared_names.Kind.TheVariants.{Queue, Tty, Mover, Gauge, Thread}
 use Rattle.boot_script.specs.declared.declared_names.Named.{Named}

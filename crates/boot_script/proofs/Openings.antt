@@ -1,5 +1,5 @@
 -- The first line of a script.
-use Rattle.std.proofs.Common.{◌≡◌, inl, inr, ℕ, ◌<◌, ◌≤◌, List, [], ◌∷◌, ◌∙◌, refl, sym, ap, arith, length, true, false, Result, Ok, Err}
+use Rattle.std.proofs.Common.{◌≡◌, inl, inr, ℕ, ◌<◌, ◌≤◌, List, [], ◌∷◌, ◌∙◌, refl, ap, arith, length, true, false, Result, Ok, Err}
 use Rattle.std.proofs.lemmas.Bool.Decides.{nat_tests}
 use Rattle.std.proofs.lemmas.Slice.Eq.{bytes_eq-Decides}
 use Rattle.std.specs.Prelude.{nat_lt}
@@ -7,12 +7,11 @@ use Rattle.std.specs.List.{list_all}
 use Rattle.std.specs.Str.{bytes_eq}
 use Rattle.boot_script.specs.declared.fault.ScriptRefusal.{ScriptRefusal}
 use Rattle.boot_script.specs.declared.fault.ScriptRefusal.TheVariants.{NotVersion, NotAscii, TooMany}
-use Rattle.boot_script.specs.declared.fault.ScriptFault.{ScriptFault}
 use Rattle.boot_script.specs.declared.version.Script.{Script}
 use Rattle.boot_script.specs.declared.version.Script.TheVariants.{Events, Boot}
 use Rattle.boot_script.specs.declared.version.Version.{Version}
 use Rattle.boot_script.specs.declared.version.Version.TheVariants.{One, Two, Three}
-use Rattle.boot_script.specs.Words.{◌>>=◌, lines_of}
+use Rattle.boot_script.specs.Words.{lines_of}
 use Rattle.boot_script.specs.Versions.{version_line}
 use Rattle.boot_script.specs.Grammar.{is_printable}
 use Rattle.boot_script.specs.Scripts.{at_line, version_of, versioned, opening_of}

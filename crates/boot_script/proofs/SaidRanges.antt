@@ -1,5 +1,5 @@
 -- What a line in its ranges names is there.
-use Rattle.std.proofs.Common.{◌≡◌, inl, inr, ℕ, List, [], ◌∷◌, true, false, Bool}
+use Rattle.std.proofs.Common.{inl, inr, ℕ, List, [], ◌∷◌, true, false, Bool}
 use Rattle.std.specs.List.{AllByRecursion}
 use Rattle.boot_script.specs.declared.boot_lines.Line.{Line}
 use Rattle.boot_script.specs.declared.boot_lines.Line.TheVariants as line

@@ -1,20 +1,13 @@
 -- What a whole text says, and how it is spelled.
-use Rattle.std.proofs.Common.{◌≡◌, inl, inr, ℕ, ◌≤◌, ◌+◌, List, [], ◌∷◌, ◌∙◌, refl, sym, ap, arith, length, true, false, Result, Ok, Err}
-use Rattle.std.proofs.lemmas.Bool.Decides.{nat_tests}
-use Rattle.std.proofs.lemmas.Slice.Eq.{bytes_eq-Decides}
-use Rattle.std.specs.Prelude.{nat_lt}
-use Rattle.std.specs.List.{list_all}
-use Rattle.std.specs.Str.{bytes_eq}
+use Rattle.std.proofs.Common.{◌≡◌, inl, inr, ℕ, ◌+◌, List, [], ◌∷◌, ◌∙◌, refl, sym, ap, false, Result, Ok}
 use Rattle.quaject_core.specs.declared.event.Event.{Event}
 use Rattle.quaject_core.specs.declared.event.Event.TheVariants as events
-use Rattle.boot_script.specs.declared.fault.ScriptRefusal.{ScriptRefusal}
-use Rattle.boot_script.specs.declared.fault.ScriptRefusal.TheVariants.{NotVersion, NotAscii}
 use Rattle.boot_script.specs.declared.fault.ScriptFault.{ScriptFault}
 use Rattle.boot_script.specs.declared.version.Version.{Version}
 use Rattle.boot_script.specs.declared.version.Script.TheVariants.{Events}
-use Rattle.boot_script.specs.Words.{◌>>=◌, lines_of}
+use Rattle.boot_script.specs.Words.{◌>>=◌}
 use Rattle.boot_script.specs.Versions.{elements_of}
-use Rattle.boot_script.specs.Grammar.{is_printable, line_event}
+use Rattle.boot_script.specs.Grammar.{line_event}
 use Rattle.boot_script.specs.Scripts.{says_nothing, at_line, events_from, opening_of, text_events}
 use Rattle.boot_script.specs.Spellings.{spelling, Spells, SpellsText}
 use Rattle.boot_script.proofs.Binds.{bind_ok, chosen}

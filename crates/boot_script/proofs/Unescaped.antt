@@ -1,5 +1,5 @@
 -- Texts, byte by byte.
-use Rattle.std.proofs.Common.{◌≡◌, inl, inr, ℕ, ◌<◌, ◌≤◌, ◌+◌, ◌-◌, List, [], ◌∷◌, ◌++◌, ◌∙◌, refl, sym, ap, subst, arith, append_assoc, length, length-append, take, drop, slice_index_or, true, false, Bool, cond, Result, Ok, Err}
+use Rattle.std.proofs.Common.{◌≡◌, inl, inr, ℕ, ◌<◌, ◌≤◌, ◌+◌, ◌-◌, List, [], ◌∷◌, ◌++◌, ◌∙◌, refl, sym, ap, arith, append_assoc, length, length-append, take, drop, slice_index_or, true, false, Bool, Result, Ok, Err}
 use Rattle.std.proofs.Math.Dec.{eqb}
 use Rattle.std.proofs.lemmas.Bool.{cases_lt}
 use Rattle.std.proofs.lemmas.Bool.Decides.{nat_tests}
@@ -8,7 +8,7 @@ use Rattle.std.specs.Prelude.{nat_le}
 use Rattle.boot_script.specs.declared.fault.ScriptRefusal.{ScriptRefusal}
 use Rattle.boot_script.specs.declared.fault.ScriptRefusal.TheVariants.{BadNumber, TextTooLong}
 use Rattle.boot_script.specs.Words.{◌>>=◌}
-use Rattle.boot_script.specs.Texts.{digit_of, escape_of, before, bytes_of, within_of}
+use Rattle.boot_script.specs.Texts.{escape_of, before, bytes_of, within_of}
 
 -- all behind a place
 pub behind : (n : ℕ) (text : List ℕ) → take (length text - n) (drop n text) ≡ drop n text

@@ -1,5 +1,5 @@
 -- What a line of a boot script says, or why it is refused. The order of the steps is the order of the refusals.
-use Rattle.std.specs.Prelude.{◌≡◌, ℕ, ◌<◌, slice_index_or, Bool, true, false, ◌||◌, ◌==◌, List, [], ◌∷◌, Option, Some}
+use Rattle.std.specs.Prelude.{◌≡◌, ℕ, ◌<◌, slice_index_or, Bool, true, false, ◌||◌, ◌==◌, List, [], ◌∷◌, Some}
 use Rattle.std.specs.Prelude.{None, Result, Ok, Err, if◌then◌else◌}
 use Rattle.std.specs.List.{list_all}
 use Rattle.boot_script.specs.declared.fault.ScriptRefusal.{ScriptRefusal}

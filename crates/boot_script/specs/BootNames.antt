@@ -11,7 +11,7 @@ use Rattle.boot_script.specs.declared.declared_names.Named.{Named}
 use Rattle.boot_script.specs.declared.plan.QueueIndex.{QueueIndex}
 use Rattle.boot_script.specs.declared.plan.QueueIndex.TheVariants.{Small, Large}
 use Rattle.boot_script.specs.declared.version.Version.{Version}
-use Rattle.boot_script.specs.declared.version.Version.TheVariants.{One, Two, Three}
+use Rattle.boot_script.specs.declared.version.Version.TheVariants.{Three}
 use Rattle.boot_script.specs.QueueLists.{line_queue, screen_queue}
 use Rattle.boot_script.specs.Words.{◌>>=◌, pieces, first_word, later_words}
 

@@ -1,5 +1,5 @@
 -- What holds of the names that were declared.
-use Rattle.std.specs.Prelude.{ℕ, ◌<◌, ◌≤◌, List}
+use Rattle.std.specs.Prelude.{◌<◌, ◌≤◌, List}
 use Rattle.std.specs.List.{AllByRecursion}
 use Rattle.boot_script.specs.declared.declared_names.Kind.{Kind}
 use Rattle.boot_script.specs.declared.declared_names.Named.{Named}

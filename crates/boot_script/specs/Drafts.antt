@@ -1,5 +1,5 @@
 -- How what a reader has kept of a boot script compares with what the lines have said.
-use Rattle.std.specs.Prelude.{◌≡◌, ℕ, ◌<◌, true, List, [], length, Result, Ok, Err, slice_index_or}
+use Rattle.std.specs.Prelude.{◌≡◌, ℕ, ◌<◌, true, length, Result, Ok, Err, slice_index_or}
 use Rattle.boot_script.specs.declared.declared_names.Kind.TheVariants as kind
 use Rattle.boot_script.specs.declared.draft.Draft.{Draft}
 use Rattle.boot_script.specs.declared.fault.ScriptRefusal.{ScriptRefusal}

@@ -1,7 +1,7 @@
-use Rattle.std.proofs.Common.{◌≡◌, ◌∷◌, ◌∙◌, ◌+◌, ◌≤◌, ◌<◌, inl, inr, [], refl, sym, ap, subst, ℕ, arith, length, true, Ok}
+use Rattle.std.proofs.Common.{◌∙◌, inl, inr, refl, sym, ap, subst, arith, Ok}
 use Rattle.std.proofs.lemmas.Bool.Decides.{nat_tests}
 use Rattle.boot_script.specs.Words.{lines_of}
-use Rattle.boot_script.specs.Plans.{first_draft, line_added, plan_from, plan_only}
+use Rattle.boot_script.specs.Plans.{first_draft, plan_from, plan_only}
 use Rattle.boot_script.specs.PlanLimits.{IsPlan}
 use Rattle.boot_script.specs.Drafts.{Draws}
 use Rattle.boot_script.proofs.EventsRead.{no_text}

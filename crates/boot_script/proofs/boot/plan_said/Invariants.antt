@@ -1,4 +1,4 @@
-use Rattle.std.proofs.Common.{◌≡◌, ℕ, ◌+◌, ◌≤◌, length}
+use Rattle.std.proofs.Common.{◌+◌, ◌≤◌, length}
 use Rattle.boot_script.specs.Words.{lines_of}
 use Rattle.boot_script.specs.Plans.{first_draft, plan_from}
 use Rattle.boot_script.proofs.LinesDrawn.{IsDrawnSoFar}

@@ -1,6 +1,4 @@
-use Rattle.std.proofs.Common.{◌≡◌, ◌<◌, ◌≤◌, ◌∷◌, ◌++◌, [], ℕ, sym, ap, ◌∙◌, arith, length, true, Result, Ok, Err}
-use Rattle.std.specs.Prelude.{OnOk}
-use Rattle.std.specs.Result.{is_ok}
+use Rattle.std.proofs.Common.{◌≡◌, ◌<◌, ◌≤◌, sym, ap, ◌∙◌, arith, length}
 use Rattle.boot_script.specs.declared.plan.PlannedThread.{PlannedThread}
 use Rattle.boot_script.specs.Plans.{with_step}
 use Rattle.boot_script.proofs.Drawn.{change_set, change_past, on_ok}

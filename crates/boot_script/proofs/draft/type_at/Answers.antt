@@ -1,4 +1,4 @@
-use Rattle.std.proofs.Common.{◌≡◌, ◌<◌, ◌≤◌, ◌+◌, ◌++◌, ℕ, sym, ap, ◌∙◌, arith, length, get_or, slice_index_or}
+use Rattle.std.proofs.Common.{◌≡◌, ◌<◌, ◌≤◌, ◌+◌, sym, ap, ◌∙◌, arith, length}
 use Rattle.boot_script.specs.declared.plan.PlannedTty.{PlannedTty}
 use Rattle.boot_script.specs.Plans.{typed_at, with_text}
 use Rattle.boot_script.proofs.Drawn.{change_set, change_past, typed_is}

@@ -1,4 +1,4 @@
-use Rattle.std.proofs.Common.{◌≡◌, length}
+use Rattle.std.proofs.Common.{length}
 use Rattle.boot_script.specs.Texts.{bytes_of}
 use Rattle.std.specs.List.{join_with_byte}
 use Rattle.boot_script.proofs.Unescaped.{IsReadSoFar}

@@ -1,10 +1,10 @@
-use Rattle.std.proofs.Common.{◌≡◌, ◌<◌, ◌≤◌, [], ℕ, refl, sym, ap, subst, ◌∙◌, arith, length, true, false, Ok, Err, slice_set}
+use Rattle.std.proofs.Common.{◌≡◌, ◌<◌, [], sym, ap, subst, ◌∙◌, arith, length, true, false, Ok, slice_set}
 use Rattle.std.proofs.lemmas.List.{get_or-replicate, length-set, length-replicate}
 use Rattle.boot_script.specs.Words.{◌>>=◌}
 use Rattle.boot_script.specs.Grammar.{at_most_of}
-use Rattle.boot_script.specs.BootLines.{ways_from, ways_of}
+use Rattle.boot_script.specs.BootLines.{ways_from}
 use Rattle.boot_script.proofs.Unescaped.{no_room}
-use Rattle.boot_script.proofs.WaysSoFar.{AreReadSoFar, no_way_yet, pushed_way, full_way, way_refused, ways_read, ways_said, few_ways, many_ways, fewer_words, told}
+use Rattle.boot_script.proofs.WaysSoFar.{AreReadSoFar, no_way_yet, pushed_way, full_way, way_refused, ways_read, ways_said, few_ways, many_ways, told}
 use Rattle.boot_script.proofs.boot_lines.movers.ways.Goals as goal
 
 pub loop-seen-init : goal.loop-seen-init

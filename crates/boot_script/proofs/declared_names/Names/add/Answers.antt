@@ -1,5 +1,5 @@
-use Rattle.std.proofs.Common.{◌≡◌, ◌<◌, ◌≤◌, ◌++◌, ◌∷◌, [], ℕ, sym, ap, subst, ◌∙◌, arith, length}
-use Rattle.boot_script.specs.BootNames.{count_of, most_of, with_name}
+use Rattle.std.proofs.Common.{◌<◌, ◌++◌, ◌∷◌, [], sym, ap, subst, ◌∙◌, arith}
+use Rattle.boot_script.specs.BootNames.{count_of, most_of}
 use Rattle.boot_script.specs.Counted.{AreCounted}
 use Rattle.boot_script.specs.declared.version.Version.TheVariants.{Three}
 use Rattle.boot_script.proofs.NamesSoFar.{room_in, counted_more, most_three}

@@ -1,6 +1,5 @@
-use Rattle.std.proofs.Common.{◌≡◌, sym, ap, ◌∙◌, get_or, length, true, false, ℕ}
+use Rattle.std.proofs.Common.{◌≡◌, sym, ap, ◌∙◌, true, false}
 use Rattle.std.specs.Str.{bytes_eq}
-use Rattle.boot_script.specs.BootNames.{is_declared}
 use Rattle.boot_script.proofs.NamesSoFar.{has_more, has_here, has_nowhere}
 use Rattle.boot_script.proofs.declared_names.Names.has.Goals as goal
 

@@ -1,4 +1,4 @@
-use Rattle.std.proofs.Common.{◌≡◌, sym, subst, Ok}
+use Rattle.std.proofs.Common.{sym, subst, Ok}
 use Rattle.boot_script.specs.Plans.{added}
 use Rattle.boot_script.specs.Drafts.{Added}
 use Rattle.boot_script.proofs.draft.Draft.add.Goals as goal

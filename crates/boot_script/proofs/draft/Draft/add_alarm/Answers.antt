@@ -1,4 +1,4 @@
-use Rattle.std.proofs.Common.{◌≡◌, ◌<◌, ◌≤◌, ◌∷◌, ◌++◌, ◌+◌, [], refl, sym, ap, ◌∙◌, arith, length, length-append}
+use Rattle.std.proofs.Common.{◌<◌, ◌≤◌, ◌∷◌, ◌++◌, ◌+◌, [], sym, ap, ◌∙◌, arith, length, length-append}
 use Rattle.boot_script.specs.Plans.{added}
 use Rattle.boot_script.specs.Drafts.{kept_plan}
 use Rattle.boot_script.proofs.Drawn.{goes_ok, goes_wrong, alarm_fits, alarm_many, with_alarms}

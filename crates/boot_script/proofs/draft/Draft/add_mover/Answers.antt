@@ -1,9 +1,9 @@
-use Rattle.std.proofs.Common.{◌≡◌, ◌∷◌, ◌++◌, ◌+◌, [], refl, sym, ap, ◌∙◌, Some, length, length-append}
+use Rattle.std.proofs.Common.{◌∷◌, ◌++◌, [], refl, sym, ap, ◌∙◌}
 use Rattle.boot_script.specs.declared.declared_names.Kind.TheVariants as kind
 use Rattle.boot_script.specs.BootNames.{room_of, with_name}
 use Rattle.boot_script.specs.Plans.{added}
 use Rattle.boot_script.specs.Drafts.{kept_plan}
-use Rattle.boot_script.proofs.Drawn.{goes_ok, goes_wrong, count_other, count_same, typed_more, steps_more, with_movers}
+use Rattle.boot_script.proofs.Drawn.{goes_ok, goes_wrong, count_other, with_movers}
 use Rattle.boot_script.proofs.draft.Draft.add_mover.Goals as goal
 
 pub returns-in-Ok : goal.returns-in-Ok

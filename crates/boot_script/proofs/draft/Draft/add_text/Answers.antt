@@ -1,4 +1,4 @@
-use Rattle.std.proofs.Common.{◌≡◌, ◌<◌, ◌≤◌, ◌+◌, ℕ, sym, ap, ◌∙◌, arith, length, slice_index_or, slice_set}
+use Rattle.std.proofs.Common.{◌≡◌, ◌<◌, ◌≤◌, ◌+◌, sym, ap, ◌∙◌, arith, length, slice_index_or, slice_set}
 use Rattle.std.proofs.lemmas.List.{length-set}
 use Rattle.std.specs.Prelude.{nat_lt, if◌then◌else◌}
 use Rattle.boot_script.specs.declared.declared_names.Kind.TheVariants as kind

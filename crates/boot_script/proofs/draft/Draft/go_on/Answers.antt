@@ -1,4 +1,4 @@
-use Rattle.std.proofs.Common.{◌≡◌, refl}
+use Rattle.std.proofs.Common.{refl}
 use Rattle.boot_script.specs.Plans.{added}
 use Rattle.boot_script.proofs.draft.Draft.go_on.Goals as goal
 

@@ -1,0 +1,10 @@
+pub mod Tallies
+pub mod Calm
+pub mod Lawful
+pub mod Looks
+pub mod Sends
+pub mod Stepped
+pub mod Beginnings
+pub mod Delivered
+pub mod Wakes
+pub mod Raised

@@ -1,0 +1,34 @@
+-- What counting a step answers.
+use Rattle.std.specs.Prelude.{◌≡◌, ◌+◌, ◌<◌, ◌≢◌, ℕ, Bool, true, false, Ok}
+use Rattle.thread_table.specs.declared.rule.View.{View}
+use Rattle.thread_table.specs.Answers.{DoneAnswer}
+use Rattle.thread_table.specs.Rules.{MayStep, done_at}
+use Rattle.thread_table.specs.Steps.{Counts}
+use Rattle.hand_steps.specs.declared.counting.Counted.{Counted}
+use Rattle.hand_steps.specs.declared.counting.Counted.TheVariants as counted
+use Rattle.hand_steps.specs.Tallies.{Tally, no_events, one_step}
+
+-- A step that isn't done made no step of the table; else one more was counted, or 4,294,967,295 were found
+abbrev pub CountAnswer : ℕ → ℕ → Bool → View → Counted → View → Type 0
+CountAnswer call element false v counted.Undone w = w ≡ v
+CountAnswer call element true v (counted.Done number) w = DoneAnswer call v element (Ok number) w
+CountAnswer call element true v counted.Spent w = Counts element v 4294967295 w
+CountAnswer call element done v answer w = ⊥
+
+-- the step that was counted, if any, by how many the element had done before
+abbrev pub counted_step : Counted → ℕ → ℕ → Tally
+counted_step (counted.Done number) element before = one_step element before
+counted_step answer element before = no_events
+
+-- the number of the element's steps done is now one more where one was counted, and else what it was
+abbrev pub IsNumber : Counted → ℕ → View → View → Type 0
+IsNumber (counted.Done number) element v w =
+    (number ≡ done_at v.schedule element + 1) × (done_at w.schedule element ≡ number)
+IsNumber counted.Undone element v w = done_at w.schedule element ≡ done_at v.schedule element
+IsNumber counted.Spent element v w =
+    (done_at v.schedule element ≡ 4294967295) × (done_at w.schedule element ≡ 4294967295)
+
+-- no step was counted in between of any other element that the hand has before and after
+abbrev pub SteadyBut : ℕ → View → View → Type 0
+SteadyBut element v w = (e : ℕ) → e < 64 → e ≢ element → MayStep v e → MayStep w e
+    → done_at w.schedule e ≡ done_at v.schedule e

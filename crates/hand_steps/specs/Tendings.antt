@@ -1,0 +1,32 @@
+-- What tending the alarms does: the clock moves on, and the signals of the alarms that are due are raised.
+use Rattle.std.specs.Prelude.{◌≡◌, ℕ, List, [], ◌∷◌, ◌++◌, Result, Ok, Err, MatchResult}
+use Rattle.quaject_core.specs.declared.alarm.Alarm.{Alarm}
+use Rattle.meters.specs.declared.gauges.AdvanceRefusal.{AdvanceRefusal}
+use Rattle.meters.specs.declared.rule.View.{View as SeatView}
+use Rattle.meters.specs.Answers.{AdvancedNow, NotAdvanced, FiredNow}
+use Rattle.meters.specs.Own.{own_of}
+use Rattle.thread_table.specs.declared.rule.View.{View}
+use Rattle.thread_table.specs.declared.states.Signalled.{Signalled}
+use Rattle.thread_table.specs.Answers.{SignalAnswer}
+
+-- one try to move the clock on was made, and then the alarms that are due were fired
+pub record Fires (advanced : Result ℕ AdvanceRefusal) (fired : List Alarm) (v w : SeatView) : Type 0 where
+  pub between : SeatView
+  pub moved : MatchResult advanced (λ clock. AdvancedNow v clock between) (λ refusal. NotAdvanced v refusal between)
+  pub fires : FiredNow between fired w
+
+-- the tick that the clock was moved on to
+abbrev pub tick_to : Result ℕ AdvanceRefusal → List ℕ
+tick_to (Ok clock) = clock ∷ []
+tick_to (Err refusal) = []
+
+-- all that the seat lists of its own besides is as it was
+abbrev pub DidTend : Result ℕ AdvanceRefusal → List Alarm → SeatView → SeatView → Type 0
+DidTend advanced fired v w =
+    own_of w ≡ record (own_of v) { advances = v.advances ++ tick_to advanced; fired = v.fired ++ fired }
+
+-- each alarm's signal was raised at its element, one behind the other
+abbrev pub RaisedAll : ℕ → List Alarm → View → View → Type 0
+RaisedAll call [] v w = w ≡ v
+RaisedAll call (alarm ∷ alarms) v w = (u : View) × (answer : Signalled)
+    × SignalAnswer call v alarm.element alarm.signal answer u × RaisedAll call alarms u w

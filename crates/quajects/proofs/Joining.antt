@@ -16,11 +16,11 @@ use Rattle.claim_queue.specs.Closings.{ClosedNow, WereOpen, shown}
 use Rattle.claim_queue.specs.Endings.{TookIn}
 use Rattle.claim_queue.specs.Handles.{view_of}
 use Rattle.claim_queue.specs.Lines.{lines_put, lines_taken, IsSettled}
-use Rattle.quajects.specs.Settled.{views_of, share_of, runs_of, takings_of, HasRaised, HasAll, SettledNow, StillOpen}
+use Rattle.quajects.specs.Settled.{views_of, share_of, shuts_of, runs_of, takings_of, HasRaised, HasAll, SettledNow, StillOpen}
 
 -- an end alone has what it has
 pub alone_has : (v : View) → HasAll (v ∷ []) v
-alone_has v = record { puts = sym (append-nil (lines_put v)); takes = sym (append-nil (lines_taken v)); share = omega arith; runs = sym (append-nil (runs_of v)); takings = sym (append-nil (takings_of v)); raised = λ h. h 0 v (omega arith) }
+alone_has v = record { puts = sym (append-nil (lines_put v)); takes = sym (append-nil (lines_taken v)); share = omega arith; shuts = omega arith; runs = sym (append-nil (runs_of v)); takings = sym (append-nil (takings_of v)); raised = λ h. h 0 v (omega arith) }
 
 raised_both : (a b : List Batch) → AllRaised a → AllRaised b → AllRaised (a ++ b)
 raised_both [] b ha hb m e at i l = hb m e at i l
@@ -46,6 +46,7 @@ joined_has ends v u w h j l = record {
   puts = more_lines lines_put ends v u w h.puts l.0;
   takes = more_lines lines_taken ends v u w h.takes l.1;
   share = ap (λ (z : Member). z.share) j.member.same ∙ ap (λ (z : ℕ). z + share_of u) h.share ∙ sym (sum_by_push share_of ends u);
+  shuts = ap shuts_of j.same ∙ ap (λ (z : ℕ). z + shuts_of u) h.shuts ∙ sym (sum_by_push shuts_of ends u);
   runs = more_lines runs_of ends v u w h.runs (ap runs_of j.same);
   takings = more_lines takings_of ends v u w h.takings (ap takings_of j.same);
   raised = λ all. subst AllRaised (sym (ap (λ (z : View). z.part.runs) j.same))
@@ -84,6 +85,7 @@ still_open ends v w others h o = let s = o.tallied.same in let share = ap (λ (z
     puts = ap lines_put s ∙ h.puts;
     takes = ap lines_taken s ∙ h.takes;
     share = share ∙ h.share;
+    shuts = ap shuts_of s ∙ h.shuts;
     runs = ap runs_of s ∙ h.runs;
     takings = ap takings_of s ∙ h.takings;
     raised = λ all. subst AllRaised (sym (ap (λ (z : View). z.part.runs) s)) (h.raised all);

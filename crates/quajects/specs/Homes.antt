@@ -23,8 +23,8 @@ pub record IsHome (quaject : AnyQuaject) (chained left : ℕ) (home : Home) : Ty
   pub held : home.held ≡ length (held_of quaject)
 
 -- These are the ends and the numbers of a quaject that has kept its law. They are the ends of the quaject that was given
--- to the chain, each in its place, each one of the queue that it names and with all raised that it claimed; and each note
--- that was chained was run once
+-- to the chain, each in its place, each one of the queue that it names and with all raised that it claimed; and as
+-- many notes were run as were chained
 pub record CameHome (pact : Pact Queues AnyQuaject) (first : ℕ) (v : View) (home : Home) : Type 0 where
   pub quaject : AnyQuaject
   pub closed : ClosedNow HasRun (suits Fits SameEnds pact) v first home.chained home.chained [] quaject

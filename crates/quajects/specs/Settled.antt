@@ -17,6 +17,10 @@ views_of end others = view_of end ∷ map view_of others
 abbrev pub share_of : View → ℕ
 share_of v = v.member.share
 
+-- how often the end shut the queue
+abbrev pub shuts_of : View → ℕ
+shuts_of v = v.shuts
+
 -- the end has raised all that it claimed
 abbrev pub HasRaised : View → Type 0
 HasRaised v = AllRaised v.part.runs
@@ -28,12 +32,13 @@ runs_of v = v.part.runs
 abbrev pub takings_of : View → List Batch
 takings_of v = v.part.takes
 
--- The end has the lines of all these ends, end by end, and their shares; and it has raised all that it claimed where
--- each of them has
+-- The end has the lines of all these ends, end by end, and their shares; it shut the queue as often as they all did; and
+-- it has raised all that it claimed where each of them has
 pub record HasAll (ends : List View) (w : View) : Type 0 where
   pub puts : lines_put w ≡ flat_map lines_put ends
   pub takes : lines_taken w ≡ flat_map lines_taken ends
   pub share : share_of w ≡ sum_by share_of ends
+  pub shuts : shuts_of w ≡ sum_by shuts_of ends
   pub runs : runs_of w ≡ flat_map runs_of ends
   pub takings : takings_of w ≡ flat_map takings_of ends
   pub raised : All HasRaised ends → HasRaised w

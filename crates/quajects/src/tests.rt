@@ -188,8 +188,9 @@ fn settles_with_all_ends(rt: HostRuntime) -> Result<(), Fail> {
     others.push(second)?;
     let (queue, first) = match settle(queue, first, others) {
         Ok(_) => panic!(rt; "closed over open ends"),
-        Err((queue, first, others)) => {
+        Err((queue, mut first, others)) => {
             assert_eq!(rt; others.others, 2);
+            assert_eq!(rt; queue.try_put(&mut first, &[55]), Ok(5));
             (queue, first)
         }
     };
@@ -199,10 +200,10 @@ fn settles_with_all_ends(rt: HostRuntime) -> Result<(), Fail> {
     let Ok(closed) = settle(queue, first, others) else {
         panic!(rt; "open ends")
     };
-    assert_eq!(rt; (closed.first, closed.put, closed.taken), (0, 5, 1));
+    assert_eq!(rt; (closed.first, closed.put, closed.taken), (0, 6, 1));
     assert_eq!(rt;
         closed.left.as_slice(),
-        [Some(105), Some(10), Some(33), None].as_slice()
+        [Some(105), Some(10), Some(33), None, Some(55)].as_slice()
     );
     Ok(())
 }

@@ -1,0 +1,62 @@
+-- One end of a list of chain ends is used.
+use Rattle.std.proofs.Common.{◌≡◌, ℕ, ◌+◌, ◌<◌, Bool, true, false, List, [], ◌∷◌, ◌++◌, map, length, get_or, set, refl, sym, ap, subst, ◌∙◌, arith, true≢false, Some, slice_get, Result}
+use Rattle.std.specs.List.{All}
+use Rattle.std.proofs.Math.Seq.{map-set_same}
+use Rattle.std.proofs.lemmas.List.{append-nil}
+use Rattle.std.proofs.lemmas.Option.{slice_get-get_or}
+use Rattle.proc_chain.specs.declared.chaining.ChainRefusal.{ChainRefusal}
+use Rattle.proc_chain.specs.declared.ends.ChainEnd.{ChainEnd}
+use Rattle.proc_chain.specs.declared.ends.ProcChain.{ProcChain}
+use Rattle.proc_chain.specs.declared.quaject.Quaject.{Ghosts}
+use Rattle.proc_chain.specs.Handles.{world_of, IsEndOf, IsSameEnd}
+use Rattle.end_steps.specs.declared.poking.Poked.{Poked}
+use Rattle.end_steps.specs.Deeds.{HasPoked, PokedAt}
+use Rattle.end_steps.specs.EndLists.{chain_table, chain_end_table, chain_end_call, chain_end_puts, chain_end_takes, chain_end_share, IsIdle, AreChainsOver, AreChainEndsOf, AreSameChainEnds, only_at, number_at}
+use Rattle.end_steps.specs.Sums.{ChainEndWorked, ChainsWorked}
+use Rattle.end_steps.proofs.Places.{same_at, as_long, same_ends, on_end, grown_at, all_still}
+
+no_more : (n : ℕ) → n + 0 ≡ n
+no_more n = omega arith
+
+-- what holds of each holds of the one that is used
+one_of : {A : Type 0} (P : A → Type 0) (xs : List A) (q : ℕ) (x : A) → All P xs → q < length xs → x ≡ get_or xs q x → P x
+one_of P xs q x h below is = subst P (sym is) (h q x below)
+
+module _ {Q W : Type 0} where
+  pub its_world : (world : W) (chains : List (ProcChain Q W)) (q : ℕ) (chain : ProcChain Q W) → AreChainsOver world chains → q < length chains → chain ≡ get_or chains q chain → world_of chain ≡ world
+  its_world world chains q chain over below is = one_of (λ c. world_of c ≡ world) chains q chain over below is
+
+module _ {Q W : Type 0} {g : Ghosts Q W} where
+  pub in_ends : (chains : List (ProcChain Q W)) (ends : List (ChainEnd Q W g)) (q : ℕ) → AreChainEndsOf chains ends → q < length chains → q < length ends
+  in_ends chains ends q fit below = let long = as_long chain_end_table chain_table ends chains fit.tables in omega arith
+
+  -- an end of the chain's table without a Turn is an end of the chain
+  pub idle_end : (chain : ProcChain Q W) (end : ChainEnd Q W g) → end.seat.table_id ≡ chain.table.shared.table_id → IsIdle end → IsEndOf chain end
+  idle_end chain end same idle = (same, ((λ runs. absurd (true≢false (sym runs ∙ (end.turned ∙ idle.0)))), (λ rests. idle.1)))
+
+  pub is_idle : (chains : List (ProcChain Q W)) (ends : List (ChainEnd Q W g)) (q : ℕ) (end : ChainEnd Q W g) → AreChainEndsOf chains ends → q < length chains → end ≡ get_or ends q end → IsIdle end
+  is_idle chains ends q end fit below is = one_of IsIdle ends q end fit.idle (in_ends chains ends q fit below) is
+
+  pub its_end : (chains : List (ProcChain Q W)) (ends : List (ChainEnd Q W g)) (q : ℕ) (chain : ProcChain Q W) (end : ChainEnd Q W g) → AreChainEndsOf chains ends → q < length chains → end ≡ get_or ends q end → chain ≡ get_or chains q chain → IsEndOf chain end
+  its_end chains ends q chain end fit below is is' = idle_end chain end (same_at chain_end_table chain_table ends chains fit.tables q below end chain is is') (is_idle chains ends q end fit below is)
+
+  module _ (chains : List (ProcChain Q W)) (ends : List (ChainEnd Q W g)) (q : ℕ) (end after : ChainEnd Q W g) (fit : AreChainEndsOf chains ends) (below : q < length chains) (is : end ≡ get_or ends q end) where
+    pub ends_same : IsSameEnd end after → AreSameChainEnds ends (set ends q after)
+    ends_same same = same_ends ends q end after is chain_end_table chain_end_call same
+
+    pub ends_fit : IsSameEnd end after → IsIdle after → AreChainEndsOf chains (set ends q after)
+    ends_fit same idle = record { tables = (ends_same same).tables ∙ fit.tables; idle = all_still IsIdle ends q end after (in_ends chains ends q fit below) is (λ was. idle) fit.idle }
+
+    pub poked_at : (chain : ProcChain Q W) (note : ℕ) (answer : Result Poked ChainRefusal) → chain ≡ get_or chains q chain → HasPoked chain note answer end after → PokedAt chains q note answer ends (set ends q after)
+    poked_at chain note answer is' does = record {
+      chain = chain;
+      its = slice_get-get_or chains q chain below ∙ ap Some (sym is');
+      on = on_end ends q end after is (HasPoked chain note answer) (in_ends chains ends q fit below) does;
+    }
+
+    pub worked_at : (puts : List (List ℕ)) (runs : ℕ) → ChainEndWorked puts runs end after → ChainsWorked (only_at q puts) (number_at q runs) ends (set ends q after)
+    worked_at puts runs w = let inside = in_ends chains ends q fit below in record {
+      puts_are = grown_at chain_end_puts [] (λ z. z) (λ a b. a ++ b) [] append-nil ends q end after puts inside is w.puts_are;
+      runs_are = grown_at chain_end_takes [] length (λ a b. a + b) 0 no_more ends q end after runs inside is w.runs_are;
+      shares = map-set_same chain_end_share ends q after end (w.share_is ∙ ap chain_end_share is);
+    }

@@ -1,0 +1,16 @@
+use Rattle.std.proofs.Common.{◌≡◌, ◌++◌, length}
+use Rattle.std.specs.Vec.Iter.{into_iter_items, into_iter_len}
+use Rattle.end_steps.specs.EndLists.{AreSameChainEnds, AreChainEndsOf}
+use Rattle.end_steps.specs.Splits.{IsChainJoined}
+use Rattle.end_steps.proofs.Walking.{AsFar}
+use Rattle.end_steps.proofs.chain_splitting.join_chain_ends.Given as goal
+
+abbrev pub invariant-loop-other : goal.invariant-loop-other
+invariant-loop-other l = record {
+  walk : AsFar IsChainJoined l.initial.ends.items l.ends.items l.yielded l.i;
+  same : AreSameChainEnds l.initial.ends.items l.ends.items;
+  ends : AreChainEndsOf l.chains l.ends.items;
+  number : l.i ≡ length l.yielded;
+  parts : l.yielded ++ into_iter_items l.other-iterator ≡ into_iter_items l.initial.other-iterator;
+  left : into_iter_len l.other-iterator ≡ length (into_iter_items l.other-iterator);
+}

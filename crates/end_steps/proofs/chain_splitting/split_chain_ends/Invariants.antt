@@ -1,0 +1,17 @@
+use Rattle.std.proofs.Common.{◌≡◌, ◌≤◌, map, take, length, vec_len, vec_capacity}
+use Rattle.std.specs.List.{All}
+use Rattle.end_steps.specs.EndLists.{chain_table, chain_end_table, IsIdle, AreSameChainEnds, AreChainEndsOf}
+use Rattle.end_steps.specs.Splits.{IsChainSplit}
+use Rattle.end_steps.proofs.Walking.{AsFar}
+use Rattle.end_steps.proofs.chain_splitting.split_chain_ends.Given as goal
+
+abbrev pub invariant-loop-i : goal.invariant-loop-i
+invariant-loop-i l = record {
+  walk : AsFar IsChainSplit l.initial.ends.items l.ends.items l.born.items l.i;
+  same : AreSameChainEnds l.initial.ends.items l.ends.items;
+  ends : AreChainEndsOf l.chains l.ends.items;
+  tables : map chain_end_table l.born.items ≡ map chain_table (take l.i l.chains);
+  idle : All IsIdle l.born.items;
+  number : vec_len l.born ≡ l.i;
+  room : length l.chains ≤ vec_capacity l.born;
+}

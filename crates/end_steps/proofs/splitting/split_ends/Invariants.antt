@@ -1,0 +1,14 @@
+use Rattle.std.proofs.Common.{◌≡◌, ◌≤◌, map, take, length, vec_len, vec_capacity}
+use Rattle.end_steps.specs.EndLists.{queue_table, end_table, AreSameEnds}
+use Rattle.end_steps.specs.Splits.{IsSplit}
+use Rattle.end_steps.proofs.Walking.{AsFar}
+use Rattle.end_steps.proofs.splitting.split_ends.Given as goal
+
+abbrev pub invariant-loop-i : goal.invariant-loop-i
+invariant-loop-i g l = record {
+  walk : AsFar IsSplit l.initial.ends.items l.ends.items l.born.items l.i;
+  same : AreSameEnds l.initial.ends.items l.ends.items;
+  tables : map end_table l.born.items ≡ map queue_table (take l.i l.queues);
+  number : vec_len l.born ≡ l.i;
+  room : length l.queues ≤ vec_capacity l.born;
+}

@@ -1,0 +1,4 @@
+pub mod EndLists
+pub mod Deeds
+pub mod Sums
+pub mod Splits

@@ -1,0 +1,59 @@
+//! A second list of chain ends, for another owner: split off, and joined again.
+ghost use Rattle.std.specs.Prelude.{◌≡◌, ℕ, length, IfOk, IfErr};
+ghost use Rattle.std.specs.List.{All};
+ghost use Rattle.proc_chain.specs.Handles.{turn_of, IsEndOf};
+ghost use Rattle.end_steps.specs.EndLists.{AreChainEndsOf, AreSameChainEnds, IsChainDivisible};
+ghost use Rattle.end_steps.specs.Splits.{AreChainsSplit, AreChainsJoined};
+
+use proc_chain::{ChainEnd, ProcChain};
+use quaject_core::OutOfMemory;
+use quajects::AnyQuaject;
+use std::alloc::Global;
+
+/// A new end of each chain, in the order of the chains and without a Turn, split off from the one in the list.
+/// `OutOfMemory` comes only where an allocation was refused, before any end is split; nothing has changed then.
+///
+/// Conditions: the ends are those of the chains, in their order, without a Turn, and each has two parts or more of its
+/// chain's 2^64 - 1.
+pub fn split_chain_ends(
+    alloc: Global,
+    chains: &[ProcChain<AnyQuaject>],
+    ends: &mut Vec<ChainEnd<AnyQuaject>>,
+) -> Result<Vec<ChainEnd<AnyQuaject>>, OutOfMemory>
+    requires ends { AreChainEndsOf chains.now ends.old.items }
+    requires parts { All IsChainDivisible ends.old.items }
+    ensures same { AreSameChainEnds ends.old.items ends.new.items }
+    ensures ends { AreChainEndsOf chains.now ends.new.items }
+    ensures born { IfOk result (λ born. AreChainEndsOf chains.now born.items) }
+    ensures split { IfOk result (λ born. AreChainsSplit ends.old.items ends.new.items born.items) }
+    ensures refused { IfErr result (λ e. ends.new.items ≡ ends.old.items) }
+{
+    let mut born = Vec::with_capacity(alloc, chains.len())?;
+    for i in 0..chains.len() {
+        let end = chains[i].split(&mut ends[i]);
+        born.push_reserved(end);
+    }
+    Ok(born)
+}
+
+/// Joins each of the other ends to the one of the same chain in the list, which then has all that both had. It takes no
+/// memory.
+///
+/// Condition: both lists are ends of the chains, in their order, without a Turn.
+pub fn join_chain_ends(
+    chains: &[ProcChain<AnyQuaject>],
+    ends: &mut Vec<ChainEnd<AnyQuaject>>,
+    others: Vec<ChainEnd<AnyQuaject>>,
+)
+    requires ends { AreChainEndsOf chains.now ends.old.items }
+    requires others { AreChainEndsOf chains.now others.items }
+    ensures same { AreSameChainEnds ends.old.items ends.new.items }
+    ensures ends { AreChainEndsOf chains.now ends.new.items }
+    ensures joined { AreChainsJoined ends.old.items others.items ends.new.items }
+{
+    let mut i = 0usize;
+    for other in others {
+        chains[i].join(&mut ends[i], other);
+        i += 1;
+    }
+}

@@ -1,0 +1,21 @@
+//! What one step of a thread does at the ends of queues and chains: it says a line, hears one, shuts a queue or pokes a
+//! quaject. A processor has one end of each queue and of each chain, in a list beside that of the queues or chains.
+#![tactic(auto)]
+
+mod chain_splitting;
+#[cfg(test)]
+mod fixtures;
+mod gate;
+mod hearing;
+mod poking;
+mod saying;
+mod splitting;
+#[cfg(test)]
+mod tests;
+
+pub use chain_splitting::{join_chain_ends, split_chain_ends};
+pub use gate::{Gate, NoGate, Point};
+pub use hearing::{hear, shut_queue};
+pub use poking::{Poked, poke};
+pub use saying::say;
+pub use splitting::{join_ends, split_ends};

@@ -1,0 +1,74 @@
+//! Saying a line: it is put in a queue by one claim, and raised.
+ghost use Rattle.std.specs.Prelude.{◌≡◌, ◌<◌, ℕ, [], length};
+ghost use Rattle.claim_queue.specs.Claims.{Owns};
+ghost use Rattle.claim_queue.specs.Handles.{view_of, call_of, IsEndOf, IsSameEnd};
+ghost use Rattle.claim_queue.specs.Puts.{RaisedFrom};
+ghost use Rattle.end_steps.specs.Deeds.{Said};
+ghost use Rattle.end_steps.specs.EndLists.{AreEndsOf, AreSameEnds, OnEnd, only_at};
+ghost use Rattle.end_steps.specs.Sums.{EndWorked, Worked, line_if, no_lines, never};
+
+use crate::gate::{Gate, Point};
+use claim_queue::{Claim, ClaimQueue, ClaimRefusal, QueueEnd};
+
+// Raises all items of a run that was just claimed.
+fn raise_all<const N: usize>(queue: &ClaimQueue<N>, end: &mut QueueEnd<N>, claim: Claim<N>)
+    requires queue { IsEndOf queue.now end.old }
+    requires own { Owns (view_of end.old) claim.start claim.items.items 0 × (claim.raised ≡ 0) }
+    ensures queue { IsSameEnd end.old end.new }
+    ensures own { Owns (view_of end.new) claim.entry.start claim.entry.items.items
+        (length claim.entry.items.items) }
+    ensures raised { RaisedFrom N (call_of end.old) claim.entry.start claim.entry.items.items (view_of end.old)
+        (view_of end.new) (length claim.entry.items.items) }
+{
+    let mut claim = claim;
+    for i in 0..claim.items().len() {
+        let _raised = queue.raise_next(end, &mut claim);
+    }
+}
+
+// One claim of the line at this end, and all its raises.
+fn say_line<const N: usize, G: Gate>(
+    queue: &ClaimQueue<N>,
+    end: &mut QueueEnd<N>,
+    line: &[u64],
+    p: u8,
+    gate: &mut G,
+) -> Result<(), ClaimRefusal>
+    requires { IsEndOf queue.now end.old }
+    ensures same { IsSameEnd end.old end.new }
+    ensures said { Said line.now result end.old end.new }
+    ensures worked { EndWorked (line_if result line.now) [] 0 end.old end.new }
+{
+    match queue.try_claim(end, line) {
+        Ok(claim) => {
+            gate.between(p, Point::Claimed);
+            raise_all(queue, end, claim);
+            gate.between(p, Point::Raised);
+            Ok(())
+        }
+        Err(refusal) => Err(refusal),
+    }
+}
+
+/// One try to put a line in the queue with this index: one claim, and where it wins all its raises. The gate is called
+/// with `Claimed` behind the claim and with `Raised` behind the last raise, and not at all where the claim was refused.
+/// Any refusal of `ClaimQueue::try_claim` may come; nothing is put then.
+///
+/// Conditions: the ends are those of the queues, in their order, and the index is one of theirs.
+pub fn say<const N: usize, G: Gate>(
+    queues: &[ClaimQueue<N>],
+    ends: &mut Vec<QueueEnd<N>>,
+    index: usize,
+    line: &[u64],
+    p: u8,
+    gate: &mut G,
+) -> Result<(), ClaimRefusal>
+    requires ends { AreEndsOf queues.now ends.old.items }
+    requires known { index < length queues.now }
+    ensures same { AreSameEnds ends.old.items ends.new.items }
+    ensures ends { AreEndsOf queues.now ends.new.items }
+    ensures said { OnEnd index (Said line.now result) ends.old.items ends.new.items }
+    ensures worked { Worked (only_at index (line_if result line.now)) no_lines never ends.old.items ends.new.items }
+{
+    say_line(&queues[index], &mut ends[index], line, p, gate)
+}

@@ -1,0 +1,57 @@
+//! A second list of queue ends, for another owner: split off, and joined again.
+ghost use Rattle.std.specs.Prelude.{◌≡◌, ℕ, length, IfOk, IfErr};
+ghost use Rattle.std.specs.List.{All};
+ghost use Rattle.end_steps.specs.EndLists.{AreEndsOf, AreSameEnds, IsDivisible};
+ghost use Rattle.end_steps.specs.Splits.{AreSplit, AreJoined};
+
+use claim_queue::{ClaimQueue, QueueEnd};
+use quaject_core::OutOfMemory;
+use std::alloc::Global;
+
+/// A new end of each queue, in the order of the queues, split off from the one in the list. `OutOfMemory` comes only
+/// where an allocation was refused, before any end is split; nothing has changed then.
+///
+/// Conditions: the ends are those of the queues, in their order, and each has two parts or more of its queue's
+/// 2^64 - 1.
+pub fn split_ends<const N: usize>(
+    alloc: Global,
+    queues: &[ClaimQueue<N>],
+    ends: &mut Vec<QueueEnd<N>>,
+) -> Result<Vec<QueueEnd<N>>, OutOfMemory>
+    requires ends { AreEndsOf queues.now ends.old.items }
+    requires parts { All IsDivisible ends.old.items }
+    ensures same { AreSameEnds ends.old.items ends.new.items }
+    ensures ends { AreEndsOf queues.now ends.new.items }
+    ensures born { IfOk result (λ born. AreEndsOf queues.now born.items) }
+    ensures split { IfOk result (λ born. AreSplit ends.old.items ends.new.items born.items) }
+    ensures refused { IfErr result (λ e. ends.new.items ≡ ends.old.items) }
+{
+    let mut born = Vec::with_capacity(alloc, queues.len())?;
+    for i in 0..queues.len() {
+        let end = queues[i].split(&mut ends[i]);
+        born.push_reserved(end);
+    }
+    Ok(born)
+}
+
+/// Joins each of the other ends to the one of the same queue in the list, which then has all that both had. It takes no
+/// memory.
+///
+/// Condition: both lists are ends of the queues, in their order.
+pub fn join_ends<const N: usize>(
+    queues: &[ClaimQueue<N>],
+    ends: &mut Vec<QueueEnd<N>>,
+    others: Vec<QueueEnd<N>>,
+)
+    requires ends { AreEndsOf queues.now ends.old.items }
+    requires others { AreEndsOf queues.now others.items }
+    ensures same { AreSameEnds ends.old.items ends.new.items }
+    ensures ends { AreEndsOf queues.now ends.new.items }
+    ensures joined { AreJoined ends.old.items others.entry.items ends.new.items }
+{
+    let mut i = 0usize;
+    for other in others {
+        queues[i].join(&mut ends[i], other);
+        i += 1;
+    }
+}

@@ -1,8 +1,6 @@
 -- What a split and a join of all chain ends of a list say together.
-use Rattle.std.proofs.Common.{◌≡◌, ℕ, zero, suc, ◌+◌, ◌<◌, ◌||◌, Bool, true, false, List, [], ◌∷◌, ◌++◌, map, length, get_or, set, take, refl, sym, ap, subst, ◌∙◌, arith}
-use Rattle.std.specs.List.{All}
+use Rattle.std.proofs.Common.{◌≡◌, ◌+◌, ◌||◌, Bool, false, List, [], ◌++◌, refl, ap, subst, ◌∙◌}
 use Rattle.std.proofs.lemmas.List.{map-append}
-use Rattle.atomic_table.specs.Table.{Me}
 use Rattle.table_theory.specs.declared.views.Member.{Member}
 use Rattle.table_theory.specs.Sharing.{given, kept}
 use Rattle.proc_chain.specs.declared.ends.ChainEnd.{ChainEnd}
@@ -12,7 +10,7 @@ use Rattle.proc_chain.specs.declared.rule.View.{View}
 use Rattle.proc_chain.specs.Endings.{TookIn, Joined}
 use Rattle.proc_chain.specs.Handles.{view_of, me_of, turn_of, IsEndOf}
 use Rattle.proc_chain.specs.Notes.{line_of, notes_put, notes_taken}
-use Rattle.end_steps.specs.EndLists.{chain_table, chain_end_table, chain_end_puts, chain_end_takes, chain_end_share, IsIdle, AreChainEndsOf}
+use Rattle.end_steps.specs.EndLists.{chain_end_puts, chain_end_takes, chain_end_share, IsIdle}
 use Rattle.end_steps.specs.Splits.{AllThree, IsChainSplit, IsChainJoined, AreChainsSplit, AreChainsJoined}
 use Rattle.end_steps.proofs.Walking.{at_three, map_three}
 

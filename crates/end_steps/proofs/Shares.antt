@@ -1,7 +1,6 @@
 -- What the answers of a queue say of the runs, the takings, the share and the shuttings of an end.
-use Rattle.std.proofs.Common.{◌≡◌, ℕ, zero, suc, ◌+◌, ◌<◌, Bool, true, false, List, [], ◌∷◌, ◌++◌, map, length, get_or, set, refl, sym, ap, subst, ◌∙◌, arith, ⊎_elim, Result, Ok, Err}
+use Rattle.std.proofs.Common.{◌≡◌, ℕ, zero, suc, ◌+◌, List, [], ◌∷◌, length, get_or, sym, ap, subst, ◌∙◌, arith, ⊎_elim}
 use Rattle.std.proofs.lemmas.List.{append-nil}
-use Rattle.table_theory.specs.Listing.{AllRaised}
 use Rattle.claim_queue.specs.declared.ends.QueueEnd.{QueueEnd}
 use Rattle.claim_queue.specs.declared.rule.View.{View}
 use Rattle.claim_queue.specs.declared.claim.ClaimRefusal.{ClaimRefusal}
@@ -11,8 +10,8 @@ use Rattle.claim_queue.specs.declared.take.TakeRefusal.TheVariants as takes
 use Rattle.claim_queue.specs.Answers.{FoundRoom, ClaimedItems, Refused}
 use Rattle.claim_queue.specs.Claims.{Owns}
 use Rattle.claim_queue.specs.Handles.{view_of}
-use Rattle.claim_queue.specs.Lines.{SameLines, PutLine, TookLine}
-use Rattle.claim_queue.specs.Puts.{Raised, RaisedFrom, IsPut}
+use Rattle.claim_queue.specs.Lines.{SameLines}
+use Rattle.claim_queue.specs.Puts.{Raised, RaisedFrom}
 use Rattle.claim_queue.specs.Steps.{Found, Wrote}
 use Rattle.claim_queue.specs.Takings.{Scanned, StoppedAt, FoundTooFew, TookItems, RefusedTake}
 use Rattle.claim_queue.proofs.Lining.{put_line, took_line, refused_stays}

@@ -1,5 +1,5 @@
 -- What a poke tells.
-use Rattle.std.proofs.Common.{◌≡◌, ℕ, ◌+◌, ◌<◌, List, [], ◌∷◌, ◌++◌, map, length, get_or, set, refl, sym, ap, subst, ◌∙◌, arith, Ok, Err}
+use Rattle.std.proofs.Common.{◌≡◌, ℕ, ◌+◌, List, [], ◌∷◌, ◌++◌, map, length, sym, ap, subst, ◌∙◌, arith, Ok}
 use Rattle.atomic_table.specs.Table.{Me}
 use Rattle.proc_chain.specs.declared.rule.View.{View}
 use Rattle.proc_chain.specs.declared.chaining.Turn.{Turn}
@@ -8,7 +8,7 @@ use Rattle.proc_chain.specs.declared.chaining.Chained.TheVariants as chained
 use Rattle.proc_chain.specs.declared.chaining.ChainRefusal.{ChainRefusal}
 use Rattle.proc_chain.specs.Answers.{IsChained, Refused}
 use Rattle.proc_chain.specs.Servings.{AllServed}
-use Rattle.end_steps.specs.declared.poking.Poked.TheVariants.{Ran, Left}
+use Rattle.end_steps.specs.declared.poking.Poked.TheVariants.{Ran}
 use Rattle.std.proofs.lemmas.List.{append-nil, length-append, length-map}
 use Rattle.std.specs.List.{concat}
 use Rattle.proc_chain.specs.declared.chaining.ChainRefusal.TheVariants.{Spent, Full, Lost}

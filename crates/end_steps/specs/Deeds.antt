@@ -1,5 +1,5 @@
 -- What one step of a thread did at one end, by what it was answered.
-use Rattle.std.specs.Prelude.{◌≡◌, ◌+◌, ℕ, Bool, true, false, List, [], length, Some, Result, Ok, Err}
+use Rattle.std.specs.Prelude.{◌≡◌, ℕ, Bool, List, [], length, Some, Result, Ok, Err}
 use Rattle.std.specs.List.{slice_get}
 use Rattle.atomic_table.specs.Table.{Me}
 use Rattle.claim_queue.specs.declared.ends.QueueEnd.{QueueEnd}

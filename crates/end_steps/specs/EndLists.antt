@@ -1,5 +1,5 @@
 -- Lists of ends beside the lists of their objects: each object has one end there, in the same order.
-use Rattle.std.specs.Prelude.{◌≡◌, ◌≤◌, ◌==◌, ℕ, false, if◌then◌else◌, List, [], map, Some, slice_set, slice_index_or}
+use Rattle.std.specs.Prelude.{◌≡◌, ◌==◌, ℕ, false, if◌then◌else◌, List, [], map, Some, slice_set, slice_index_or}
 use Rattle.std.specs.List.{All, slice_get}
 use Rattle.atomic_table.specs.Seated.{TableId}
 use Rattle.table_theory.specs.Listing.{AllRaised}

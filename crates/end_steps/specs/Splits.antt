@@ -9,9 +9,9 @@ use Rattle.proc_chain.specs.declared.ends.ChainEnd.{ChainEnd}
 use Rattle.proc_chain.specs.declared.quaject.Quaject.{Ghosts}
 use Rattle.proc_chain.specs.Handles as chain_ends
 use Rattle.proc_chain.specs.Endings as chains
-use Rattle.end_steps.specs.EndLists.{end_puts, end_takes, end_share, end_shuts, HasRaised}
+use Rattle.end_steps.specs.EndLists.{end_puts, end_takes, end_shuts, HasRaised}
 use Rattle.end_steps.specs.EndLists.{lines_put_at, lines_taken_at, share_at, shuts_at}
-use Rattle.end_steps.specs.EndLists.{chain_end_puts, chain_end_takes, chain_end_share}
+use Rattle.end_steps.specs.EndLists.{chain_end_puts, chain_end_takes}
 use Rattle.end_steps.specs.EndLists.{notes_put_at, notes_taken_at, chain_share_at}
 
 -- R holds of the elements of three lists, place by place

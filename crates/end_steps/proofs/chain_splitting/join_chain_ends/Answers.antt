@@ -1,4 +1,4 @@
-use Rattle.std.proofs.Common.{rules, arith, ◌≡◌, ◌<◌, ◌∙◌, ◌+◌, ◌∷◌, [], ◌++◌, List, length, set, slice_index_or, subst, sym, ap, refl, append_assoc, append-nil}
+use Rattle.std.proofs.Common.{arith, ◌≡◌, ◌<◌, ◌∙◌, ◌∷◌, [], ◌++◌, length, set, slice_index_or, subst, sym, ap, append_assoc, append-nil}
 use Rattle.std.proofs.lemmas.List.{length_push}
 use Rattle.std.specs.Vec.Iter.{into_iter_items}
 use Rattle.end_steps.specs.EndLists.{chain_table, chain_end_table, chain_end_call}
@@ -6,7 +6,7 @@ use Rattle.end_steps.specs.Splits.{IsChainJoined, AreChainsJoined}
 use Rattle.end_steps.proofs.ChainParting.{took_in, still_idle, are_chains_joined}
 use Rattle.end_steps.proofs.Chains.{its_end, in_ends, is_idle, ends_same, ends_fit}
 use Rattle.end_steps.proofs.Places.{as_long}
-use Rattle.end_steps.proofs.Walking.{AsFar, walk_on, walked, same_on, next_of, none_left}
+use Rattle.end_steps.proofs.Walking.{walk_on, walked, same_on, next_of, none_left}
 use Rattle.end_steps.proofs.chain_splitting.join_chain_ends.Goals as goal
 
 pub join-requires : goal.join-requires

@@ -1,4 +1,4 @@
-use Rattle.std.proofs.Common.{rules, arith, ◌≡◌, ◌∙◌, ◌+◌, List, set, subst, sym}
+use Rattle.std.proofs.Common.{rules, arith, ◌∙◌, ◌+◌, set, subst, sym}
 use Rattle.std.specs.List.{All}
 use Rattle.std.proofs.lemmas.List.Elements.{All-push}
 use Rattle.end_steps.specs.EndLists.{chain_table, chain_end_table, chain_end_call, IsIdle, IsChainDivisible}

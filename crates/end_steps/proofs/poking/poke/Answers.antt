@@ -1,4 +1,3 @@
-use Rattle.std.proofs.Common.{rules}
 use Rattle.end_steps.proofs.Chains.{its_world, is_idle, its_end, ends_same, ends_fit, poked_at, worked_at}
 use Rattle.end_steps.proofs.poking.poke.Goals as goal
 

@@ -1,4 +1,4 @@
-use Rattle.std.proofs.Common.{rules, arith, ◌≡◌, ◌<◌, ◌∙◌, ◌+◌, ◌∷◌, [], ◌++◌, List, length, set, slice_index_or, subst, sym, ap, refl, append_assoc, append-nil}
+use Rattle.std.proofs.Common.{arith, ◌≡◌, ◌<◌, ◌∙◌, ◌∷◌, [], ◌++◌, List, length, set, slice_index_or, subst, sym, ap, append_assoc, append-nil}
 use Rattle.std.proofs.lemmas.List.{length_push}
 use Rattle.std.specs.Vec.Iter.{into_iter_items}
 use Rattle.claim_queue.specs.declared.ends.QueueEnd.{QueueEnd}
@@ -7,7 +7,7 @@ use Rattle.end_steps.specs.Splits.{IsJoined, AreJoined}
 use Rattle.end_steps.proofs.Parting.{are_joined}
 use Rattle.end_steps.proofs.Places.{as_long, same_at}
 use Rattle.end_steps.proofs.Using.{its_end, in_ends, ends_same}
-use Rattle.end_steps.proofs.Walking.{AsFar, walk_on, walked, same_on, next_of, none_left}
+use Rattle.end_steps.proofs.Walking.{walk_on, walked, same_on, next_of, none_left}
 use Rattle.end_steps.proofs.splitting.join_ends.Goals as goal
 
 pub join-requires : goal.join-requires

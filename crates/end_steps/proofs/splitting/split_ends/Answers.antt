@@ -1,4 +1,4 @@
-use Rattle.std.proofs.Common.{rules, arith, ◌≡◌, ◌∙◌, ◌+◌, List, set, subst, sym}
+use Rattle.std.proofs.Common.{rules, arith, ◌∙◌, ◌+◌, List, set, subst, sym}
 use Rattle.claim_queue.specs.declared.ends.QueueEnd.{QueueEnd}
 use Rattle.end_steps.specs.EndLists.{queue_table, end_table, end_call, IsDivisible}
 use Rattle.end_steps.specs.Splits.{IsSplit}

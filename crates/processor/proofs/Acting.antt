@@ -1,0 +1,65 @@
+-- What a hand keeps over several steps, and what its events come to.
+use Rattle.std.proofs.Common.{◌≡◌, inr, ℕ, true, List, [], ◌++◌, Some, None, false, get_or, refl, sym, ap, ◌∙◌, arith}
+use Rattle.std.proofs.lemmas.List.{append_assoc, append-nil}
+use Rattle.thread_table.specs.declared.rule.View.{View}
+use Rattle.thread_table.specs.Keeping.{Keeps}
+use Rattle.thread_table.specs.Rules.{serves, running}
+use Rattle.hand_steps.specs.Holdings.{OnlyAdds, Steady}
+use Rattle.hand_steps.specs.Tallies.{Tally, tally, behind, no_events, Adds}
+use Rattle.processor.specs.Acts.{Acts, NeverFalls, SteadyOn}
+use Rattle.processor.proofs.Rising.{rises_on}
+
+abbrev tally_of : List (ℕ × ℕ) → List (ℕ × ℕ) → List (ℕ × List ℕ) → List (ℕ × ℕ) → Tally
+tally_of d s v r = record { done = d; signalled = s; delivered = v; retired = r }
+
+behind_assoc : (a b c : Tally) → behind (behind a b) c ≡ behind a (behind b c)
+behind_assoc a b c =
+    ap (λ z. tally_of z ((a.signalled ++ b.signalled) ++ c.signalled) ((a.delivered ++ b.delivered) ++ c.delivered) ((a.retired ++ b.retired) ++ c.retired)) (append_assoc a.done b.done c.done)
+    ∙ ap (λ z. tally_of (a.done ++ (b.done ++ c.done)) z ((a.delivered ++ b.delivered) ++ c.delivered) ((a.retired ++ b.retired) ++ c.retired)) (append_assoc a.signalled b.signalled c.signalled)
+    ∙ ap (λ z. tally_of (a.done ++ (b.done ++ c.done)) (a.signalled ++ (b.signalled ++ c.signalled)) z ((a.retired ++ b.retired) ++ c.retired)) (append_assoc a.delivered b.delivered c.delivered)
+    ∙ ap (λ z. tally_of (a.done ++ (b.done ++ c.done)) (a.signalled ++ (b.signalled ++ c.signalled)) (a.delivered ++ (b.delivered ++ c.delivered)) z) (append_assoc a.retired b.retired c.retired)
+
+pub adds_on : (s t : Tally) (u v w : View) → Adds s u v → Adds t v w → Adds (behind s t) u w
+adds_on s t u v w a b = b ∙ ap (λ z. behind z t) a ∙ behind_assoc (tally u.made) s t
+
+pub nothing_behind : (t : Tally) → behind t no_events ≡ t
+nothing_behind t =
+    ap (λ z. tally_of z (t.signalled ++ []) (t.delivered ++ []) (t.retired ++ [])) (append-nil t.done)
+    ∙ ap (λ z. tally_of t.done z (t.delivered ++ []) (t.retired ++ [])) (append-nil t.signalled)
+    ∙ ap (λ z. tally_of t.done t.signalled z (t.retired ++ [])) (append-nil t.delivered)
+    ∙ ap (λ z. tally_of t.done t.signalled t.delivered z) (append-nil t.retired)
+
+pub keeps_on : (u v w : View) → Keeps u v → Keeps v w → Keeps u w
+keeps_on u v w a b = record { first = b.first ∙ a.first; serves = b.serves ∙ a.serves; on = b.on ∙ a.on; share = b.share ∙ a.share }
+
+serves_still : (v w : View) (p : ℕ) → Keeps v w → serves v p ≡ true → serves w p ≡ true
+serves_still v w p k h = ap (λ xs. get_or xs p false) k.serves ∙ h
+
+runs_still : (v w : View) (p e : ℕ) → Keeps v w → running v p ≡ Some e → running w p ≡ Some e
+runs_still v w p e k h = ap (λ xs. get_or xs p None) k.on ∙ h
+
+pub steady_on : (v w : View) → Keeps v w → Steady v w → SteadyOn v w
+steady_on v w k s p e low serve on = s e low (inr (p, serve, on)) (inr (p, serves_still v w p k serve, runs_still v w p e k on))
+
+pub acts_by : (t : Tally) (v w : View) → Keeps v w → Adds t v w → Steady v w → NeverFalls v w → Acts t v w
+acts_by t v w k a s r = record { keeps = k; adds = a; steady = steady_on v w k s; rises = r }
+
+pub acts_only : (t : Tally) (v w : View) → OnlyAdds t v w → NeverFalls v w → Acts t v w
+acts_only t v w o r = acts_by t v w o.keeps o.adds o.steady r
+
+pub acts_on : (s t : Tally) (u v w : View) → Acts s u v → Acts t v w → Acts (behind s t) u w
+acts_on s t u v w a b = record {
+  keeps = keeps_on u v w a.keeps b.keeps;
+  adds = adds_on s t u v w a.adds b.adds;
+  steady = λ p e low serve on. b.steady p e low (serves_still u v p a.keeps serve) (runs_still u v p e a.keeps on) ∙ a.steady p e low serve on;
+  rises = rises_on u v w a.rises b.rises;
+}
+
+-- nothing was done
+pub acts_none : (v : View) → Acts no_events v v
+acts_none v = record {
+  keeps = record { first = refl; serves = refl; on = refl; share = refl };
+  adds = sym (nothing_behind (tally v.made));
+  steady = λ p e low serve on. refl;
+  rises = λ e. omega arith;
+}

@@ -1,0 +1,6 @@
+pub mod Hearing
+pub mod Rooms
+pub mod Rising
+pub mod Fitted
+pub mod Rooming
+pub mod Acting

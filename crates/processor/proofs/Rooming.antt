@@ -1,0 +1,121 @@
+-- There is room for each line that is heard.
+use Rattle.std.proofs.Common.{◌≡◌, ℕ, ◌<◌, ◌==◌, ◌&&◌, Bool, true, false, List, [], ◌∷◌, ◌++◌, map, length, length-append, Some, refl, sym, ap, ◌∙◌, subst, arith}
+use Rattle.std.proofs.lemmas.Bool.{eqb-true}
+use Rattle.std.proofs.lemmas.List.{append-nil}
+use Rattle.std.specs.List.{AllByRecursion, IsDistinct}
+use Rattle.boot_script.specs.declared.boot_plan.BootPlan.{BootPlan}
+use Rattle.boot_script.specs.declared.plan.Step.{Step}
+use Rattle.boot_script.specs.declared.plan.Step.TheVariants as steps
+use Rattle.hand_steps.specs.declared.counting.Counted.{Counted}
+use Rattle.hand_steps.specs.declared.counting.Counted.TheVariants as counted
+use Rattle.hand_steps.specs.Countings.{CountAnswer, IsNumber}
+use Rattle.thread_table.specs.declared.rule.View.{View}
+use Rattle.thread_table.specs.Rules.{done_at}
+use Rattle.processor.specs.declared.deed.Deed.{Deed}
+use Rattle.processor.specs.declared.deed.Deed.TheVariants as deeds
+use Rattle.processor.specs.declared.station.Heard.{Heard}
+use Rattle.processor.specs.Acts.{NeverFalls}
+use Rattle.processor.specs.Programs.{Key, same_key, is_hear, IsHear, AreHears, hear_count, step_of}
+use Rattle.processor.specs.Rooms.{key_of, IsPast}
+use Rattle.processor.specs.Running.{Line, Stepped, line_heard, heard_in, is_heard}
+use Rattle.processor.specs.Steps.{HandDid}
+use Rattle.processor.proofs.Rooms.{few}
+
+abbrev line_key : Line → Key
+line_key l = l.0
+
+abbrev pub key_in : Deed → ℕ → ℕ → List Key
+key_in (deeds.Heard woken) e n = (e, n) ∷ []
+key_in deed e n = []
+
+keys_lines : (hs : List Heard) → map key_of hs ≡ map line_key (map line_heard hs)
+keys_lines [] = refl
+keys_lines (h ∷ hs) = ap (λ ks. key_of h ∷ ks) (keys_lines hs)
+
+map_more : (xs ys : List Line) → map line_key (xs ++ ys) ≡ map line_key xs ++ map line_key ys
+map_more [] ys = refl
+map_more (x ∷ xs) ys = ap (λ ks. x.0 ∷ ks) (map_more xs ys)
+
+key_of_heard : (deed : Deed) (e n : ℕ) (text : List ℕ) → map line_key (heard_in deed e n text) ≡ key_in deed e n
+key_of_heard (deeds.Heard woken) e n text = refl
+key_of_heard deed e n text = refl
+
+pub keys_more : (hs hs' : List Heard) (deed : Deed) (e n : ℕ) (text : List ℕ) → map line_heard hs' ≡ map line_heard hs ++ heard_in deed e n text
+    → map key_of hs' ≡ map key_of hs ++ key_in deed e n
+keys_more hs hs' deed e n text h = keys_lines hs' ∙ ap (map line_key) h ∙ map_more (map line_heard hs) (heard_in deed e n text)
+    ∙ ap (λ ks. ks ++ map line_key (heard_in deed e n text)) (sym (keys_lines hs)) ∙ ap (λ ks. map key_of hs ++ ks) (key_of_heard deed e n text)
+
+all_push : (P : Key → Type 0) (ks : List Key) (k : Key) → AllByRecursion P ks → P k → AllByRecursion P (ks ++ k ∷ [])
+all_push P [] k all p = (p, tt)
+all_push P (x ∷ xs) k all p = (all.0, all_push P xs k all.1 p)
+
+distinct_push : (ks : List Key) (k : Key) → IsDistinct same_key ks → AllByRecursion (λ x. same_key x k ≡ false) ks → IsDistinct same_key (ks ++ k ∷ [])
+unfolding IsDistinct
+distinct_push [] k d all = (tt, tt)
+distinct_push (x ∷ xs) k d all = (all_push (λ y. same_key x y ≡ false) xs k d.0 all.0, distinct_push xs k d.1 all.1)
+
+apart : (v : View) (e n : ℕ) (k : Key) → n ≡ done_at v.schedule e → IsPast v k → (b : Bool) → same_key k (e, n) ≡ b → b ≡ false
+apart v e n k is past false h = refl
+apart v e n k is past true h = absurd (clash (split (k.0 == e) (k.1 == n) h))
+  where
+    split : (a b : Bool) → (a && b) ≡ true → (a ≡ true) × (b ≡ true)
+    split true true h = (refl, refl)
+    split true false h = cc
+    split false b h = cc
+
+    clash : ((k.0 == e) ≡ true) × ((k.1 == n) ≡ true) → ⊥
+    clash p = let a = eqb-true k.0 e p.0 in let b = eqb-true k.1 n p.1 in
+        let low : k.1 < done_at v.schedule e = subst (λ (z : ℕ). k.1 < done_at v.schedule z) a past in omega arith
+
+all_apart : (v : View) (e n : ℕ) (ks : List Key) → n ≡ done_at v.schedule e → AllByRecursion (IsPast v) ks → AllByRecursion (λ x. same_key x (e, n) ≡ false) ks
+all_apart v e n [] is all = tt
+all_apart v e n (k ∷ ks) is all = (let f = apart v e n k is all.0 (same_key k (e, n)) refl in f, all_apart v e n ks is all.1)
+
+all_later : (v w : View) (ks : List Key) → NeverFalls v w → AllByRecursion (IsPast v) ks → AllByRecursion (IsPast w) ks
+all_later v w [] rises all = tt
+all_later v w (k ∷ ks) rises all = (let a = all.0 in let b = rises k.0 in omega arith, all_later v w ks rises all.1)
+
+-- a step that heard a line hears
+heard_hears : (call : ℕ) (plan : BootPlan) (step : Step) (deed : Deed) (v w : View) → HandDid call plan step deed v w → is_heard deed ≡ true → is_hear step ≡ true
+heard_hears call plan (steps.Hear queue) deed v w a h = refl
+heard_hears call plan (steps.Say queue text) (deeds.Heard woken) v w a h = absurd a
+heard_hears call plan (steps.Wait wait) (deeds.Heard woken) v w a h = absurd a
+heard_hears call plan (steps.Wake wait) (deeds.Heard woken) v w a h = absurd a
+heard_hears call plan (steps.Signal thread signal) (deeds.Heard woken) v w a h = absurd a
+heard_hears call plan (steps.Stop thread) (deeds.Heard woken) v w a h = absurd a
+heard_hears call plan (steps.Start thread) (deeds.Heard woken) v w a h = absurd a
+heard_hears call plan (steps.Tick gauge amount) (deeds.Heard woken) v w a h = absurd a
+heard_hears call plan (steps.Poke mover) (deeds.Heard woken) v w a h = absurd a
+heard_hears call plan steps.Pass (deeds.Heard woken) v w a h = absurd a
+heard_hears call plan (steps.Close queue) (deeds.Heard woken) v w a h = absurd a
+heard_hears call plan step deed v w a h = cc
+
+-- a step that is done is counted, where there are few enough
+counts_one : (call e : ℕ) (answer : Counted) (did after v w : View) → CountAnswer call e true did answer after → IsNumber answer e v w → done_at v.schedule e < 64
+    → done_at v.schedule e < done_at w.schedule e
+counts_one call e (counted.Done number) did after v w a is low = let p = is.0 in let q = is.1 in omega arith
+counts_one call e counted.Spent did after v w a is low = absurd (let p = is.0 in omega arith)
+counts_one call e counted.Undone did after v w a is low = absurd a
+
+-- with a line more that was heard
+pub hears_more : (call p e n : ℕ) (plan : BootPlan) (step : Step) (deed : Deed) (answer : Counted) (v u : View) (keys : List Key)
+    → step_of plan e n ≡ Some step → Stepped call plan p e step deed answer v u → n ≡ done_at v.schedule e
+    → AreHears plan keys → AllByRecursion (IsPast v) keys → AreHears plan (keys ++ key_in deed e n)
+hears_more call p e n plan step (deeds.Heard woken) answer v u keys is s now hears past = (
+  all_push (IsHear plan) keys (e, n) hears.0 (record { step = step; is = is; hears = heard_hears call plan step (deeds.Heard woken) s.on s.did s.does refl }),
+  distinct_push keys (e, n) hears.1 (all_apart v e n keys now past),
+)
+hears_more call p e n plan step deed answer v u keys is s now hears past = subst (AreHears plan) (sym (append-nil keys)) hears
+
+pub past_more : (call p e n : ℕ) (plan : BootPlan) (step : Step) (deed : Deed) (answer : Counted) (v u w : View) (keys : List Key)
+    → Stepped call plan p e step deed answer v u → IsNumber answer e v u → n ≡ done_at v.schedule e → n < 64 → NeverFalls v u → NeverFalls u w
+    → AllByRecursion (IsPast v) keys → AllByRecursion (IsPast w) (keys ++ key_in deed e n)
+past_more call p e n plan step (deeds.Heard woken) answer v u w keys s is now low rises on past =
+    let counts = counts_one call e answer s.did s.after v u s.counts is (omega (arith, now, low)) in
+    all_push (IsPast w) keys (e, n) (all_later u w keys on (all_later v u keys rises past)) (let q = on e in omega (arith, now, counts, q))
+past_more call p e n plan step deed answer v u w keys s is now low rises on past =
+    subst (AllByRecursion (IsPast w)) (sym (append-nil keys)) (all_later u w keys on (all_later v u keys rises past))
+
+pub room_left : (plan : BootPlan) (keys : List Key) (deed : Deed) (e n : ℕ) → AreHears plan (keys ++ key_in deed e n) → is_heard deed ≡ true → length keys < hear_count plan
+room_left plan keys (deeds.Heard woken) e n h is = let f = few plan (keys ++ (e, n) ∷ []) h in omega (arith, length-append keys ((e, n) ∷ []), f)
+room_left plan keys deed e n h is = cc

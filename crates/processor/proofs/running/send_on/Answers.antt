@@ -1,0 +1,14 @@
+use Rattle.processor.proofs.Rising.{sending, waited_at}
+use Rattle.processor.proofs.running.send_on.Goals as goal
+
+pub returns-in-Some-clause-rises : goal.returns-in-Some-clause-rises
+returns-in-Some-clause-rises g c = waited_at _ _ _ _ _ _ _ c.wait_at.ensures.waited
+
+pub returns-in-Some-wait_in_step-clause-rises : goal.returns-in-Some-wait_in_step-clause-rises
+returns-in-Some-wait_in_step-clause-rises g c = sending _ _ _ _ _ _ c.wait_in.ensures.sent
+
+pub returns-then-last-clause-rises : goal.returns-then-last-clause-rises
+returns-then-last-clause-rises g c = sending _ _ _ _ _ _ c.retire.ensures.sent
+
+pub returns-else-last-clause-rises : goal.returns-else-last-clause-rises
+returns-else-last-clause-rises g c = sending _ _ _ _ _ _ c.make_ready.ensures.sent

@@ -1,0 +1,49 @@
+use Rattle.std.proofs.Common.{◌≡◌, ◌<◌, ◌≤◌, ℕ, List, ◌++◌, map, vec_len, vec_capacity, sym, ap, ◌∙◌, subst, arith}
+use Rattle.std.proofs.lemmas.List.{length-map}
+use Rattle.std.specs.List.{AllByRecursion}
+use Rattle.thread_table.specs.Handles.{view_of}
+use Rattle.processor.specs.Programs.{Key, AreHears, hear_count}
+use Rattle.processor.specs.Rooms.{key_of, IsPast}
+use Rattle.processor.proofs.Rooming.{key_in, hears_more, past_more, room_left, keys_more}
+use Rattle.processor.proofs.turn.run_element.Goals as goal
+
+pub keep-requires-clause-room : goal.keep-requires-clause-room
+keep-requires-clause-room g c is =
+    let plan = c.args.shared.now.plan in
+    let heard = c.args.parts.now.heard in
+    let e = c.args.begun.element in
+    let n = c.args.begun.number in
+    let keys : List Key = map key_of heard.items in
+    let more = hears_more _ _ e n plan c.args.step.now c.run_step-tried.result.deed c.run_step-tried.result.counted (view_of c.args.parts.now.hand) (view_of c.run_step-tried.new.parts.hand) keys
+    c.requires.its c.run_step-tried.ensures.hand c.requires.known c.requires.room.hears c.requires.room.past in
+    let left = room_left plan keys c.run_step-tried.result.deed e n more is in
+    let long = length-map heard.items key_of in
+    let ok = heard.ok in
+    let room = c.requires.room.room in
+    let here : vec_len heard < vec_capacity heard = omega arith in
+    subst (λ z. vec_len z < vec_capacity z) (sym c.run_step-tried.ensures.heard) here
+
+pub returns-clause-room : goal.returns-clause-room
+returns-clause-room g c =
+    let plan = c.args.shared.now.plan in
+    let heard = c.args.parts.now.heard in
+    let e = c.args.begun.element in
+    let n = c.args.begun.number in
+    let deed = c.run_step-tried.result.deed in
+    let v = view_of c.args.parts.now.hand in
+    let u = view_of c.run_step-tried.new.parts.hand in
+    let w = view_of c.send_on-moved.new.hand in
+    let keys : List Key = map key_of heard.items in
+    let same = c.run_step-tried.ensures.heard in
+    let more = hears_more _ _ e n plan c.args.step.now deed c.run_step-tried.result.counted v u keys
+    c.requires.its c.run_step-tried.ensures.hand c.requires.known c.requires.room.hears c.requires.room.past in
+    let past = past_more _ _ e n plan c.args.step.now deed c.run_step-tried.result.counted v u w keys c.run_step-tried.ensures.hand c.run_step-tried.ensures.number
+    c.requires.known c.requires.low c.run_step-tried.ensures.rises c.send_on-moved.ensures.rises c.requires.room.past in
+    let are : map key_of c.keep.new.lines.items ≡ keys ++ key_in deed e n =
+    keys_more c.run_step-tried.new.parts.heard.items c.keep.new.lines.items deed e n _ c.keep.ensures.lines ∙ ap (λ z. map key_of z.items ++ key_in deed e n) same in
+    let sized : vec_capacity c.keep.new.lines ≡ vec_capacity heard = c.keep.ensures.room ∙ ap (λ z. vec_capacity z) same in
+    record {
+      room = subst (λ (z : ℕ). hear_count plan ≤ z) (sym sized) c.requires.room.room;
+      hears = subst (AreHears plan) (sym are) more;
+      past = subst (AllByRecursion (IsPast w)) (sym are) past;
+    }

@@ -1,0 +1,11 @@
+pub mod Programs
+pub mod Deeds
+pub mod Queues
+pub mod Acts
+pub mod Pipes
+pub mod Steps
+pub mod Running
+pub mod Rooms
+pub mod Turns
+pub mod Fitting
+pub mod Stations

@@ -1,0 +1,29 @@
+-- Those who wait at a pipe.
+use Rattle.std.specs.Prelude.{◌≡◌, ℕ, Option, Some, None}
+use Rattle.boot_script.specs.declared.plan.PipeWaits.{PipeWaits}
+use Rattle.hand_steps.specs.declared.waking.Woken.{Woken}
+use Rattle.hand_steps.specs.Wakings.{Woke}
+use Rattle.thread_table.specs.declared.rule.View.{View}
+use Rattle.thread_table.specs.Answers.{IsTicket}
+use Rattle.processor.specs.declared.deed.Ticket.{Ticket}
+
+-- the wait queue of those who wait to hear, and of those who wait for room
+abbrev pub readers_of : Option PipeWaits → Option ℕ
+readers_of None = None
+readers_of (Some waits) = Some waits.readers
+
+abbrev pub writers_of : Option PipeWaits → Option ℕ
+writers_of None = None
+writers_of (Some waits) = Some waits.writers
+
+-- the ticket of the wait queue was read, where there is one
+abbrev pub TicketFor : Option ℕ → View → Option Ticket → View → Type 0
+TicketFor None v None w = w ≡ v
+TicketFor (Some wait) v (Some ticket) w = (ticket.wait ≡ wait) × IsTicket v wait ticket.number w
+TicketFor wait v ticket w = ⊥
+
+-- all who waited in the wait queue were woken, where there is one
+abbrev pub WokeFor : ℕ → Option ℕ → View → Option Woken → View → Type 0
+WokeFor call None v None w = w ≡ v
+WokeFor call (Some wait) v (Some woken) w = Woke call wait woken v w
+WokeFor call wait v woken w = ⊥

@@ -1,0 +1,24 @@
+-- The room for heard lines.
+use Rattle.std.specs.Prelude.{◌<◌, ◌≤◌, map, vec_capacity}
+use Rattle.std.specs.List.{AllByRecursion}
+use Rattle.boot_script.specs.declared.boot_plan.BootPlan.{BootPlan}
+use Rattle.thread_table.specs.declared.rule.View.{View}
+use Rattle.thread_table.specs.Handles.{view_of}
+use Rattle.thread_table.specs.Rules.{done_at}
+use Rattle.processor.specs.declared.station.Heard.{Heard}
+use Rattle.processor.specs.declared.station.Parts.{Parts}
+use Rattle.processor.specs.Programs.{Key, AreHears, hear_count}
+
+abbrev pub key_of : Heard → Key
+key_of h = (h.thread, h.step)
+
+-- the step is done
+abbrev pub IsPast : View → Key → Type 0
+IsPast v key = key.1 < done_at v.schedule key.0
+
+-- The heard lines are those of steps of the plan that hear and are done, none of them twice, and there is room for as
+-- many as the plan has
+pub record HasRoom (plan : BootPlan) (parts : Parts) : Type 0 where
+  pub room : hear_count plan ≤ vec_capacity parts.heard
+  pub hears : AreHears plan (map key_of parts.heard.items)
+  pub past : AllByRecursion (IsPast (view_of parts.hand)) (map key_of parts.heard.items)

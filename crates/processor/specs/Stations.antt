@@ -1,0 +1,33 @@
+-- What a station is made of.
+use Rattle.std.specs.Prelude.{◌≡◌, ℕ, List, [], ◌∷◌}
+use Rattle.std.specs.List.{repeat}
+use Rattle.end_steps.specs.EndLists.{AreEndsOf, AreSameEnds, AreChainEndsOf, AreSameChainEnds}
+use Rattle.meters.specs.Handles as meters
+use Rattle.thread_table.specs.Handles as threads
+use Rattle.processor.specs.declared.shared.Shared.{Shared}
+use Rattle.processor.specs.declared.station.Parts.{Parts}
+
+-- no signal of any element
+abbrev pub no_signals : List ℕ
+no_signals = repeat 64 (0 ∷ [])
+
+-- nothing was heard, and no signal delivered
+pub record IsUnused (parts : Parts) : Type 0 where
+  pub heard : parts.heard.items ≡ []
+  pub signals : parts.signals ≡ no_signals
+
+-- the ends are those of the shared objects, in their order, and no end of a chain has a Turn
+pub record ArePartsOf (shared : Shared) (parts : Parts) : Type 0 where
+  pub hand : threads.IsHandOf shared.threads parts.hand
+  pub small : AreEndsOf shared.queues.small.items parts.small.items
+  pub large : AreEndsOf shared.queues.large.items parts.large.items
+  pub chains : AreChainEndsOf shared.chains.items parts.chains.items
+  pub meters : meters.IsSeatOf shared.meters parts.meters
+
+-- they are the same ends of the same objects
+pub record AreSameParts (old new : Parts) : Type 0 where
+  pub hand : threads.IsSameHand old.hand new.hand
+  pub small : AreSameEnds old.small.items new.small.items
+  pub large : AreSameEnds old.large.items new.large.items
+  pub chains : AreSameChainEnds old.chains.items new.chains.items
+  pub meters : meters.IsSameSeat old.meters new.meters

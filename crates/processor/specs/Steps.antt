@@ -1,0 +1,151 @@
+-- What the one try of a step did, by the step and by what came of it.
+use Rattle.std.specs.Prelude.{◌≡◌, ◌<◌, ℕ, Bool, true, false, List, [], ◌∷◌, length, Option, Ok, Err}
+use Rattle.boot_script.specs.declared.boot_plan.BootPlan.{BootPlan}
+use Rattle.boot_script.specs.declared.plan.QueueIndex.TheVariants.{Small}
+use Rattle.boot_script.specs.declared.plan.Step.{Step}
+use Rattle.boot_script.specs.declared.plan.Step.TheVariants as steps
+use Rattle.claim_queue.specs.declared.claim.ClaimRefusal.{ClaimRefusal}
+use Rattle.claim_queue.specs.declared.claim.ClaimRefusal.TheVariants as claims
+use Rattle.claim_queue.specs.declared.ends.QueueEnd.{QueueEnd}
+use Rattle.claim_queue.specs.declared.take.TakeRefusal.{TakeRefusal}
+use Rattle.claim_queue.specs.declared.take.TakeRefusal.TheVariants as takes
+use Rattle.end_steps.specs.Deeds.{HasShut, PokedAt}
+use Rattle.end_steps.specs.EndLists.{OnEnd, only_at, number_at}
+use Rattle.end_steps.specs.Sums.{no_lines, never, once_if, notes_run}
+use Rattle.hand_steps.specs.Tallies.{Tally, no_events, one_signal}
+use Rattle.hand_steps.specs.Wakings.{Woke, ResumeAnswer}
+use Rattle.meters.specs.declared.rule.Tick.{Tick}
+use Rattle.meters.specs.declared.rule.View.{View as SeatView}
+use Rattle.meters.specs.Own.{DidTick}
+use Rattle.meters.specs.Steps.{Ticked}
+use Rattle.proc_chain.specs.declared.ends.ChainEnd.{ChainEnd}
+use Rattle.proc_chain.specs.declared.ends.ProcChain.{ProcChain}
+use Rattle.proc_chain.specs.declared.quaject.Quaject.{Ghosts}
+use Rattle.proc_chain.specs.Notes.{alone}
+use Rattle.quajects.specs.declared.world.Queues.{Queues}
+use Rattle.thread_table.specs.declared.rule.View.{View}
+use Rattle.thread_table.specs.Answers.{SignalAnswer, StoppedNow}
+use Rattle.processor.specs.declared.deed.Deed.{Deed}
+use Rattle.processor.specs.declared.deed.Deed.TheVariants as deeds
+use Rattle.processor.specs.declared.deed.Ticket.{Ticket}
+use Rattle.processor.specs.Pipes.{TicketFor, WokeFor, readers_of, writers_of}
+use Rattle.processor.specs.Queues.{IsThere, SaidAt, HeardAt, said_line, small_at, large_at, waits_at}
+
+-- what a step names is there
+abbrev pub Fits : Queues → ℕ → Step → Type 0
+Fits queues chains (steps.Say queue text) = IsThere queues queue
+Fits queues chains (steps.Hear queue) = IsThere queues queue
+Fits queues chains (steps.Poke mover) = mover < chains
+Fits queues chains (steps.Close queue) = queue < length queues.small.items
+Fits queues chains step = Unit {0}
+
+-- the claim, or the taking, was refused since the queue is shut
+abbrev pub is_shut : ClaimRefusal → Bool
+is_shut claims.Closed = true
+is_shut refusal = false
+
+abbrev pub is_over : TakeRefusal → Bool
+is_over takes.Closed = true
+is_over refusal = false
+
+-- By the hand: a ticket is read before a try at a pipe, and those who wait there are woken behind a step that is done
+abbrev pub HandDid : ℕ → BootPlan → Step → Deed → View → View → Type 0
+HandDid call plan (steps.Say queue text) (deeds.Said woken) v w = (ticket : Option Ticket) × (u : View)
+    × TicketFor (writers_of (waits_at plan queue)) v ticket u × WokeFor call (readers_of (waits_at plan queue)) u woken w
+HandDid call plan (steps.Say queue text) deeds.SaidNothing v w =
+    (ticket : Option Ticket) × TicketFor (writers_of (waits_at plan queue)) v ticket w
+HandDid call plan (steps.Say queue text) (deeds.NotSaid refusal ticket) v w =
+    TicketFor (writers_of (waits_at plan queue)) v ticket w
+HandDid call plan (steps.Hear queue) (deeds.Heard woken) v w = (ticket : Option Ticket) × (u : View)
+    × TicketFor (readers_of (waits_at plan queue)) v ticket u × WokeFor call (writers_of (waits_at plan queue)) u woken w
+HandDid call plan (steps.Hear queue) (deeds.HeardNothing woken) v w = (ticket : Option Ticket) × (u : View)
+    × TicketFor (readers_of (waits_at plan queue)) v ticket u × WokeFor call (writers_of (waits_at plan queue)) u woken w
+HandDid call plan (steps.Hear queue) (deeds.NotHeard refusal ticket) v w =
+    TicketFor (readers_of (waits_at plan queue)) v ticket w
+HandDid call plan (steps.Wait wait) deeds.Waits v w = w ≡ v
+HandDid call plan (steps.Wake wait) (deeds.Woke woken) v w = Woke call wait woken v w
+HandDid call plan (steps.Signal thread signal) (deeds.Signalled answer) v w = SignalAnswer call v thread signal answer w
+HandDid call plan (steps.Stop thread) (deeds.Stopped was_clear) v w = StoppedNow call v thread was_clear w
+HandDid call plan (steps.Start thread) (deeds.Started answer) v w = ResumeAnswer call thread (Ok answer) v w
+HandDid call plan (steps.Start thread) (deeds.NotStarted lost) v w = ResumeAnswer call thread (Err lost) v w
+HandDid call plan (steps.Tick gauge amount) (deeds.Ticked before) v w = w ≡ v
+HandDid call plan (steps.Poke mover) (deeds.Poked answer) v w = w ≡ v
+HandDid call plan (steps.Poke mover) (deeds.NotPoked refusal) v w = w ≡ v
+HandDid call plan steps.Pass deeds.Passed v w = w ≡ v
+HandDid call plan (steps.Close queue) (deeds.Shut was_open readers writers) v w = (u : View)
+    × WokeFor call (readers_of (waits_at plan (Small queue))) v readers u
+    × WokeFor call (writers_of (waits_at plan (Small queue))) u writers w
+HandDid call plan step deed v w = ⊥
+
+-- at the ends of the queues
+abbrev pub QueuesDid : Step → Deed → List ℕ → List (QueueEnd 64) → List (QueueEnd 64) → List (QueueEnd 256)
+    → List (QueueEnd 256) → Type 0
+QueuesDid (steps.Say queue text) (deeds.Said woken) heard old new old' new' =
+    SaidAt queue (said_line text) (Ok tt) old new old' new'
+QueuesDid (steps.Say queue text) deeds.SaidNothing heard old new old' new' = (refusal : ClaimRefusal)
+    × (is_shut refusal ≡ true) × SaidAt queue (said_line text) (Err refusal) old new old' new'
+QueuesDid (steps.Say queue text) (deeds.NotSaid refusal ticket) heard old new old' new' =
+    (is_shut refusal ≡ false) × SaidAt queue (said_line text) (Err refusal) old new old' new'
+QueuesDid (steps.Hear queue) (deeds.Heard woken) heard old new old' new' = HeardAt queue heard (Ok tt) old new old' new'
+QueuesDid (steps.Hear queue) (deeds.HeardNothing woken) heard old new old' new' = (refusal : TakeRefusal)
+    × (is_over refusal ≡ true) × HeardAt queue heard (Err refusal) old new old' new'
+QueuesDid (steps.Hear queue) (deeds.NotHeard refusal ticket) heard old new old' new' =
+    (is_over refusal ≡ false) × HeardAt queue heard (Err refusal) old new old' new'
+QueuesDid (steps.Close queue) (deeds.Shut was_open readers writers) heard old new old' new' =
+    OnEnd queue (HasShut was_open) old new × (new' ≡ old')
+QueuesDid step deed heard old new old' new' = (new ≡ old) × (new' ≡ old')
+
+-- at the ends of the chains
+abbrev pub ChainsDid : {Q W : Type 0} {g : Ghosts Q W} → List (ProcChain Q W) → Step → Deed → List (ChainEnd Q W g)
+    → List (ChainEnd Q W g) → Type 0
+ChainsDid chains (steps.Poke mover) (deeds.Poked answer) old new = PokedAt chains mover 0 (Ok answer) old new
+ChainsDid chains (steps.Poke mover) (deeds.NotPoked refusal) old new = PokedAt chains mover 0 (Err refusal) old new
+ChainsDid chains step deed old new = new ≡ old
+
+-- at the meters
+abbrev pub SeatDid : Step → Deed → SeatView → SeatView → Type 0
+SeatDid (steps.Tick gauge amount) (deeds.Ticked before) v w =
+    Ticked v gauge amount before w × DidTick gauge amount v w
+SeatDid step deed v w = w ≡ v
+
+-- the lines that it put, among the small queues and among the large
+abbrev pub puts_small : Step → Deed → ℕ → List (List ℕ)
+puts_small (steps.Say queue text) (deeds.Said woken) = small_at queue (said_line text ∷ [])
+puts_small step deed = no_lines
+
+abbrev pub puts_large : Step → Deed → ℕ → List (List ℕ)
+puts_large (steps.Say queue text) (deeds.Said woken) = large_at queue (said_line text ∷ [])
+puts_large step deed = no_lines
+
+-- the lines that it took
+abbrev pub takes_small : Step → Deed → List ℕ → ℕ → List (List ℕ)
+takes_small (steps.Hear queue) (deeds.Heard woken) heard = small_at queue (heard ∷ [])
+takes_small step deed heard = no_lines
+
+abbrev pub takes_large : Step → Deed → List ℕ → ℕ → List (List ℕ)
+takes_large (steps.Hear queue) (deeds.Heard woken) heard = large_at queue (heard ∷ [])
+takes_large step deed heard = no_lines
+
+-- how often it shut a queue
+abbrev pub shuts_by : Step → Deed → ℕ → ℕ
+shuts_by (steps.Close queue) (deeds.Shut was_open readers writers) = number_at queue (once_if was_open)
+shuts_by step deed = never
+
+-- the notes that it chained, and how many it ran
+abbrev pub notes_by : Step → Deed → ℕ → List (List ℕ)
+notes_by (steps.Poke mover) (deeds.Poked answer) = only_at mover (alone 0 ∷ [])
+notes_by step deed = no_lines
+
+abbrev pub runs_by : Step → Deed → ℕ → ℕ
+runs_by (steps.Poke mover) (deeds.Poked answer) = number_at mover (notes_run (Ok answer))
+runs_by step deed = never
+
+-- the signal that it raised
+abbrev pub raised_by : Step → Deed → Tally
+raised_by (steps.Signal thread signal) (deeds.Signalled answer) = one_signal thread signal
+raised_by step deed = no_events
+
+-- the tick that it made
+abbrev pub ticks_by : Step → Deed → List Tick
+ticks_by (steps.Tick gauge amount) (deeds.Ticked before) = record { gauge = gauge; amount = amount } ∷ []
+ticks_by step deed = []

@@ -1,0 +1,82 @@
+//! What comes of the one try of a step.
+ghost use Rattle.std.specs.Prelude.{◌≡◌};
+
+use claim_queue::{ClaimRefusal, TakeRefusal};
+use end_steps::Poked;
+use hand_steps::{Resumed, Woken};
+use proc_chain::ChainRefusal;
+use quaject_core::WaitNumber;
+use thread_table::{Lost, Signalled};
+
+/// The number of notifies of a wait queue, as it was before the try of a step that may have to wait there.
+#[derive(Clone, Copy, Debug, PartialEq, Eq)]
+pub struct Ticket {
+    pub wait: WaitNumber,
+    pub number: u32,
+}
+
+/// What came of the one try of a step. A step is done unless it was refused.
+#[derive(Clone, Copy, Debug, PartialEq, Eq)]
+pub enum Deed {
+    /// The line was put. Those who waited to hear it are woken, where the queue is a pipe.
+    Said(Option<Woken>),
+    /// The queue is shut, and the line was not put.
+    SaidNothing,
+    /// The line was not put. On a pipe this was the ticket of those who wait for room, before the try.
+    NotSaid(ClaimRefusal, Option<Ticket>),
+    /// A line was taken. Those who waited for room are woken, where the queue is a pipe.
+    Heard(Option<Woken>),
+    /// The queue is shut and has no line left. Those who waited for room are woken, where the queue is a pipe.
+    HeardNothing(Option<Woken>),
+    /// No line was taken. On a pipe this was the ticket of those who wait for a line, before the try.
+    NotHeard(TakeRefusal, Option<Ticket>),
+    /// The element is to wait.
+    Waits,
+    /// Those who waited were woken.
+    Woke(Woken),
+    Signalled(Signalled),
+    /// The stop bit is set. True where it was clear.
+    Stopped(bool),
+    Started(Resumed),
+    NotStarted(Lost),
+    /// The gauge grew from this value.
+    Ticked(u64),
+    Poked(Poked),
+    NotPoked(ChainRefusal),
+    Passed,
+    /// The queue is shut, which was open or not. Those who waited to hear, and those who waited for room, are woken,
+    /// where it is a pipe.
+    Shut {
+        was_open: bool,
+        readers: Option<Woken>,
+        writers: Option<Woken>,
+    },
+}
+
+impl Deed {
+    ghost use Rattle.processor.specs.Deeds.{is_done, sleeps_on};
+
+    /// Whether the step is done.
+    pub fn is_done(&self) -> bool
+        ensures { result ≡ is_done self.now }
+    {
+        match self {
+            Deed::NotSaid(_, _) => false,
+            Deed::NotHeard(_, _) => false,
+            Deed::NotStarted(_) => false,
+            Deed::NotPoked(_) => false,
+            _ => true,
+        }
+    }
+
+    /// The ticket with which the element is to wait: where a pipe had no room for its line, or no line for it.
+    pub fn sleeps_on(&self) -> Option<Ticket>
+        ensures { result ≡ sleeps_on self.now }
+    {
+        match self {
+            Deed::NotSaid(ClaimRefusal::Full { head: _, tail: _ }, ticket) => *ticket,
+            Deed::NotHeard(TakeRefusal::Empty { at: _ }, ticket) => *ticket,
+            _ => None,
+        }
+    }
+}

@@ -1,0 +1,19 @@
+//! What a plan keeps for its processors: room for each line that is heard, and objects for each step.
+ghost use Rattle.std.specs.Prelude.{◌≡◌, ◌≤◌, ℕ, List, length, Some};
+ghost use Rattle.boot_script.specs.declared.boot_plan.BootPlan.{BootPlan};
+ghost use Rattle.boot_script.specs.declared.plan.Step.{Step};
+ghost use Rattle.processor.specs.declared.shared.Shared.{Shared};
+ghost use Rattle.processor.specs.Programs.{Key, AreHears, hear_count, program, step_of};
+ghost use Rattle.processor.specs.Steps.{Fits};
+
+/// Steps of a plan that hear, none of them twice, are no more than the plan has.
+pub fn hears_are_few()
+    ensures { (plan : BootPlan) (keys : List Key) → AreHears plan keys → length keys ≤ hear_count plan }
+{}
+
+/// What a step of the plan names is among the shared objects, and a program has 64 steps at most.
+pub fn steps_fit()
+    ensures there { (shared : Shared) (thread number : ℕ) (step : Step)
+        → step_of shared.plan thread number ≡ Some step → Fits shared.queues (length shared.chains.items) step }
+    ensures few { (plan : BootPlan) (thread : ℕ) → length (program plan thread) ≤ 64 }
+{}

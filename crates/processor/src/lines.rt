@@ -1,0 +1,117 @@
+//! A line said in a queue, or heard from it, whichever of the two lists it stands in.
+ghost use Rattle.std.specs.Prelude.{◌≡◌, ◌<◌, ◌≤◌, ℕ, [], length, IfOk};
+ghost use Rattle.end_steps.specs.EndLists.{AreEndsOf, AreSameEnds, OnEnd, only_at};
+ghost use Rattle.end_steps.specs.Deeds.{Heard};
+ghost use Rattle.end_steps.specs.Sums.{Worked, line_if, no_lines, never};
+ghost use Rattle.processor.specs.Queues.{IsThere, SaidAt, HeardAt, small_at, large_at, said_line};
+
+use arrayvec::ArrayVec;
+use boot_script::Text;
+use boot_script::plan::QueueIndex;
+use claim_queue::{ClaimRefusal, QueueEnd, TakeRefusal};
+use end_steps::{Gate, hear, say};
+use quajects::Queues;
+
+// The line that a text is said as.
+pub(crate) fn line_of(text: &Text<63>) -> ArrayVec<u64, 64>
+    ensures { result.items ≡ said_line text.now }
+{
+    let mut line = ArrayVec::new();
+    for byte in text.as_slice() {
+        line.push(u64::from(*byte));
+    }
+    line.push(0x0A);
+    line
+}
+
+// One try to say a line.
+pub(crate) fn say_at<G: Gate>(
+    queues: &Queues,
+    small: &mut Vec<QueueEnd<64>>,
+    large: &mut Vec<QueueEnd<256>>,
+    queue: QueueIndex,
+    line: &[u64],
+    p: u8,
+    gate: &mut G,
+) -> Result<(), ClaimRefusal>
+    requires small { AreEndsOf queues.now.small.items small.old.items }
+    requires large { AreEndsOf queues.now.large.items large.old.items }
+    requires there { IsThere queues.now queue }
+    ensures same { AreSameEnds small.old.items small.new.items × AreSameEnds large.old.items large.new.items }
+    ensures small { AreEndsOf queues.now.small.items small.new.items }
+    ensures large { AreEndsOf queues.now.large.items large.new.items }
+    ensures said { SaidAt queue line.now result small.old.items small.new.items large.old.items large.new.items }
+    ensures small_lines { Worked (small_at queue (line_if result line.now)) no_lines never small.old.items
+        small.new.items }
+    ensures large_lines { Worked (large_at queue (line_if result line.now)) no_lines never large.old.items
+        large.new.items }
+{
+    match queue {
+        QueueIndex::Small(at) => say(queues.small.as_slice(), small, at, line, p, gate),
+        QueueIndex::Large(at) => say(queues.large.as_slice(), large, at, line, p, gate),
+    }
+}
+
+// Copies a line of a small queue.
+fn copy(line: &[u64], text: &mut ArrayVec<u64, 256>)
+    requires empty { text.old.items ≡ [] }
+    requires short { length line.now ≤ 64 }
+    ensures { text.new.items ≡ line.now }
+{
+    let _ = text.try_extend_from_slice(line);
+}
+
+// One try to hear a line of a small queue.
+fn hear_small<G: Gate>(
+    queues: &Queues,
+    small: &mut Vec<QueueEnd<64>>,
+    at: usize,
+    text: &mut ArrayVec<u64, 256>,
+    p: u8,
+    gate: &mut G,
+) -> Result<(), TakeRefusal>
+    requires small { AreEndsOf queues.now.small.items small.old.items }
+    requires there { at < length queues.now.small.items }
+    requires empty { text.old.items ≡ [] }
+    ensures same { AreSameEnds small.old.items small.new.items }
+    ensures small { AreEndsOf queues.now.small.items small.new.items }
+    ensures heard { OnEnd at (Heard text.new.items result) small.old.items small.new.items }
+    ensures lines { Worked no_lines (only_at at (line_if result text.new.items)) never small.old.items small.new.items }
+    ensures long { IfOk result (λ done. 0 < length text.new.items) }
+{
+    let mut line = ArrayVec::<u64, 64>::new();
+    let answer = hear(queues.small.as_slice(), small, at, &mut line, p, gate);
+    copy(line.as_slice(), text);
+    answer
+}
+
+// One try to hear a line.
+pub(crate) fn hear_at<G: Gate>(
+    queues: &Queues,
+    small: &mut Vec<QueueEnd<64>>,
+    large: &mut Vec<QueueEnd<256>>,
+    queue: QueueIndex,
+    text: &mut ArrayVec<u64, 256>,
+    p: u8,
+    gate: &mut G,
+) -> Result<(), TakeRefusal>
+    requires small { AreEndsOf queues.now.small.items small.old.items }
+    requires large { AreEndsOf queues.now.large.items large.old.items }
+    requires there { IsThere queues.now queue }
+    requires empty { text.old.items ≡ [] }
+    ensures same { AreSameEnds small.old.items small.new.items × AreSameEnds large.old.items large.new.items }
+    ensures small { AreEndsOf queues.now.small.items small.new.items }
+    ensures large { AreEndsOf queues.now.large.items large.new.items }
+    ensures heard { HeardAt queue text.new.items result small.old.items small.new.items large.old.items
+        large.new.items }
+    ensures small_lines { Worked no_lines (small_at queue (line_if result text.new.items)) never small.old.items
+        small.new.items }
+    ensures large_lines { Worked no_lines (large_at queue (line_if result text.new.items)) never large.old.items
+        large.new.items }
+    ensures long { IfOk result (λ done. 0 < length text.new.items) }
+{
+    match queue {
+        QueueIndex::Small(at) => hear_small(queues, small, at, text, p, gate),
+        QueueIndex::Large(at) => hear(queues.large.as_slice(), large, at, text, p, gate),
+    }
+}

@@ -1,0 +1,151 @@
+//! An element's turn on a processor: its step is tried and counted, and the element moves on.
+ghost use Rattle.std.specs.Prelude.{◌≡◌, ◌<◌, ℕ, [], true, ◌++◌, length, map, vec_len, vec_capacity};
+ghost use Rattle.hand_steps.specs.Countings.{IsNumber};
+ghost use Rattle.hand_steps.specs.Holdings.{IsFree};
+ghost use Rattle.hand_steps.specs.Tallies.{Adds};
+ghost use Rattle.thread_table.specs.Handles.{view_of, call_of, IsHandOf, IsSameHand};
+ghost use Rattle.thread_table.specs.Keeping.{Keeps};
+ghost use Rattle.thread_table.specs.Rules.{has, done_at};
+ghost use Rattle.processor.specs.Acts.{NeverFalls};
+ghost use Rattle.processor.specs.Running.{Stepped, EndsDid, step_tally, wait_of, Goes, gone, line_heard, is_heard};
+ghost use Rattle.processor.specs.Running.{heard_in};
+ghost use Rattle.processor.specs.Stations.{ArePartsOf, AreSameParts};
+ghost use Rattle.processor.specs.Steps.{Fits};
+
+use crate::deed::Deed;
+use crate::shared::Shared;
+use crate::station::{Heard, Parts};
+use crate::steps::do_step;
+use arrayvec::ArrayVec;
+use boot_script::plan::Step;
+use end_steps::Gate;
+use hand_steps::{Counted, Waited, count, make_ready, put_on, retire, take_off, wait_at, wait_in};
+use quaject_core::{Element, Processor, WaitNumber};
+use std::sync::Wait;
+use thread_table::{Hand, ThreadTable};
+
+/// What came of a step that was tried on a processor, and of counting it.
+#[derive(Clone, Copy, Debug, PartialEq, Eq)]
+pub struct Tried {
+    pub deed: Deed,
+    pub counted: Counted,
+}
+
+/// Where an element went behind its turn. Where it isn't so, the queue has no position left, and the hand holds the
+/// element.
+#[derive(Clone, Copy, Debug, PartialEq, Eq)]
+pub enum Moved {
+    /// To the ready ring.
+    Ready(bool),
+    /// To the free elements: all steps are done.
+    Freed(bool),
+    /// To the wait queue of its step.
+    Waits(bool),
+    /// With its ticket to a wait queue of a pipe.
+    Ticketed(Waited),
+}
+
+// Tries a step of an element that the hand holds, on a processor that is free.
+pub(crate) fn run_step<R: Wait, G: Gate>(
+    rt: &R,
+    shared: &Shared,
+    parts: &mut Parts,
+    p: Processor,
+    element: Element,
+    step: &Step,
+    heard: &mut ArrayVec<u64, 256>,
+    gate: &mut G,
+) -> Tried
+    requires parts { ArePartsOf shared.now parts.old }
+    requires held { has (view_of parts.old.hand) element ≡ true }
+    requires free { IsFree p (view_of parts.old.hand) }
+    requires fits { Fits shared.now.queues (length shared.now.chains.items) step.now }
+    requires empty { heard.old.items ≡ [] }
+    ensures parts { ArePartsOf shared.now parts.new }
+    ensures same { AreSameParts parts.old parts.new }
+    ensures held { has (view_of parts.new.hand) element ≡ true }
+    ensures free { IsFree p (view_of parts.new.hand) }
+    ensures hand { Stepped (call_of parts.old.hand) shared.now.plan p element step.now result.deed result.counted
+        (view_of parts.old.hand) (view_of parts.new.hand) }
+    ensures ends { EndsDid shared.now step.now result.deed heard.new.items parts.old parts.new }
+    ensures adds { Adds (step_tally step.now result.deed result.counted element
+        (done_at (view_of parts.old.hand).schedule element)) (view_of parts.old.hand) (view_of parts.new.hand) }
+    ensures number { IsNumber result.counted element (view_of parts.old.hand) (view_of parts.new.hand) }
+    ensures rises { NeverFalls (view_of parts.old.hand) (view_of parts.new.hand) }
+    ensures serves { (view_of parts.new.hand).serves ≡ (view_of parts.old.hand).serves }
+    ensures share { (view_of parts.new.hand).member.share ≡ (view_of parts.old.hand).member.share }
+    ensures heard { parts.new.heard ≡ parts.old.heard }
+    ensures signals { parts.new.signals ≡ parts.old.signals }
+{
+    let threads = &shared.threads;
+    put_on(threads, &mut parts.hand, p, element);
+    let deed = do_step(rt, shared, parts, step, heard, p.number(), gate);
+    let counted = count(threads, &mut parts.hand, element, deed.is_done());
+    take_off(threads, &mut parts.hand, p);
+    Tried { deed, counted }
+}
+
+// The wait queue of a step that waits.
+fn wait_in_step(step: &Step) -> Option<WaitNumber>
+    ensures { result ≡ wait_of step.now }
+{
+    match step {
+        Step::Wait { wait } => Some(*wait),
+        _ => None,
+    }
+}
+
+// Moves an element on behind its step.
+pub(crate) fn send_on<R: Wait>(
+    rt: &R,
+    threads: &ThreadTable,
+    hand: &mut Hand,
+    element: Element,
+    step: &Step,
+    deed: &Deed,
+    last: bool,
+) -> Moved
+    requires table { IsHandOf threads.now hand.old }
+    requires held { has (view_of hand.old) element ≡ true }
+    ensures table { IsSameHand hand.old hand.new }
+    ensures goes { Goes (call_of hand.old) step.now deed.now last element result (view_of hand.old) (view_of hand.new) }
+    ensures keeps { Keeps (view_of hand.old) (view_of hand.new) }
+    ensures adds { Adds (gone result element (done_at (view_of hand.old).schedule element)) (view_of hand.old)
+        (view_of hand.new) }
+    ensures rises { NeverFalls (view_of hand.old) (view_of hand.new) }
+{
+    if let Some(ticket) = deed.sleeps_on() {
+        return Moved::Ticketed(wait_at(rt, threads, hand, element, ticket.wait, ticket.number));
+    }
+    if let Some(wait) = wait_in_step(step) {
+        return Moved::Waits(wait_in(rt, threads, hand, element, wait));
+    }
+    if last {
+        Moved::Freed(retire(rt, threads, hand, element))
+    } else {
+        Moved::Ready(make_ready(rt, threads, hand, element))
+    }
+}
+
+// Keeps a line that was heard.
+pub(crate) fn keep(
+    lines: &mut Vec<Heard>,
+    deed: &Deed,
+    thread: Element,
+    number: u64,
+    text: ArrayVec<u64, 256>,
+)
+    requires room { is_heard deed.now ≡ true → vec_len lines.old < vec_capacity lines.old }
+    requires low { number < 64 }
+    ensures lines { map line_heard lines.new.items
+        ≡ map line_heard lines.old.items ++ heard_in deed.now thread number text.items }
+    ensures room { vec_capacity lines.new ≡ vec_capacity lines.old }
+{
+    if let Deed::Heard(_) = deed {
+        lines.push_reserved(Heard {
+            thread: thread.number(),
+            step: number as u8,
+            text,
+        });
+    }
+}

@@ -1,0 +1,99 @@
+//! The station of a processor.
+ghost use Rattle.std.specs.Prelude.{◌≡◌, ◌≤◌, vec_capacity, IfOk, IfErr};
+ghost use Rattle.processor.specs.Programs.{hear_count};
+ghost use Rattle.processor.specs.Stations.{IsUnused};
+
+use crate::programs::hears_of;
+use crate::shared::Shared;
+use arrayvec::ArrayVec;
+use claim_queue::QueueEnd;
+use meters::MeterSeat;
+use proc_chain::ChainEnd;
+use quaject_core::OutOfMemory;
+use quajects::AnyQuaject;
+use std::alloc::Global;
+use thread_table::Hand;
+
+/// A line that a thread heard: the thread's number, the number of its step, and the line.
+#[derive(Drop)]
+pub struct Heard {
+    pub thread: u8,
+    pub step: u8,
+    pub text: ArrayVec<u64, 256>,
+}
+
+/// What a station is made of, and what its processor heard and was signalled: bit s of number e for signal s of element
+/// e.
+#[derive(Drop)]
+pub struct Parts {
+    pub hand: Hand,
+    pub small: Vec<QueueEnd<64>>,
+    pub large: Vec<QueueEnd<256>>,
+    pub chains: Vec<ChainEnd<AnyQuaject>>,
+    pub meters: MeterSeat,
+    pub heard: Vec<Heard>,
+    pub signals: [u16; 64],
+}
+
+/// The ends of one processor: a hand, an end of each queue and chain, and a seat of the meters. It has room for every
+/// line that the plan's threads can hear.
+#[derive(Drop)]
+pub struct Station {
+    pub(crate) parts: Parts,
+}
+
+impl Station {
+    /// The station of a processor, which has heard nothing and was signalled nothing, with room for as many heard lines
+    /// as the plan has hear steps. Where an allocation is refused, all ends come back.
+    pub fn new(
+        alloc: Global,
+        shared: &Shared,
+        hand: Hand,
+        small: Vec<QueueEnd<64>>,
+        large: Vec<QueueEnd<256>>,
+        chains: Vec<ChainEnd<AnyQuaject>>,
+        meters: MeterSeat,
+    ) -> Result<Station, (Parts, OutOfMemory)>
+        ensures ends { IfOk result (λ s. (s.parts.hand ≡ hand) × (s.parts.small ≡ small) × (s.parts.large ≡ large)
+            × (s.parts.chains ≡ chains) × (s.parts.meters ≡ meters)) }
+        ensures unused { IfOk result (λ s. IsUnused s.parts) }
+        ensures room { IfOk result (λ s. hear_count shared.now.plan ≤ vec_capacity s.parts.heard) }
+        ensures back { IfErr result (λ e. (e.0.hand ≡ hand) × (e.0.small ≡ small) × (e.0.large ≡ large)
+            × (e.0.chains ≡ chains) × (e.0.meters ≡ meters) × IsUnused e.0) }
+    {
+        let signals = [0; 64];
+        match Vec::with_capacity(alloc, hears_of(&shared.plan)) {
+            Ok(heard) => Ok(Station {
+                parts: Parts {
+                    hand,
+                    small,
+                    large,
+                    chains,
+                    meters,
+                    heard,
+                    signals,
+                },
+            }),
+            Err(_) => {
+                let parts = Parts {
+                    hand,
+                    small,
+                    large,
+                    chains,
+                    meters,
+                    heard: Vec::new(alloc),
+                    signals,
+                };
+                Err((parts, OutOfMemory))
+            }
+        }
+    }
+
+    /// Gives the ends away, and what was heard and signalled. Takes no memory.
+    pub fn into_parts(self) -> Parts
+        ensures { result ≡ self.parts }
+    {
+        let Station { parts } = self;
+        parts
+    }
+}

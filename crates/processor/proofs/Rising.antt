@@ -1,6 +1,7 @@
 -- No step of a hand undoes a step of a thread.
 use Rattle.std.proofs.lemmas.Bool.Decides.{eqb_tells}
 use Rattle.std.proofs.Common.{◌≡◌, ◌≢◌, ◌⊎◌, eqb, inl, inr, ⊎_elim, ℕ, zero, suc, ◌+◌, ◌≤◌, Bool, true, false, List, [], ◌∷◌, Result, Ok, Err, refl, sym, subst, arith}
+use Rattle.std.specs.Prelude.{MatchResult}
 use Rattle.quaject_core.specs.Accounts.{is_done}
 use Rattle.quaject_core.specs.declared.alarm.Alarm.{Alarm}
 use Rattle.quaject_core.specs.declared.event.Event.{Event}
@@ -197,3 +198,7 @@ counting call element true v w counted.Undone a is = absurd a
 counting call element false v w counted.Undone a is = rises_same v w a
 counting call element false v w (counted.Done number) a is = absurd a
 counting call element false v w counted.Spent a is = absurd a
+
+pub began_or_idle : (call : ℕ) (v w : View) (answer : Result Begun Idle) → MatchResult answer (λ begun. Began call begun v w) (λ i. WasIdle call i v w) → NeverFalls v w
+began_or_idle call v w (Ok begun) a = beginning call begun v w a
+began_or_idle call v w (Err i) a = idling call i v w a

@@ -1,5 +1,5 @@
 -- There is room for each line that is heard.
-use Rattle.std.proofs.Common.{◌≡◌, ℕ, ◌<◌, ◌==◌, ◌&&◌, Bool, true, false, List, [], ◌∷◌, ◌++◌, map, length, length-append, Some, refl, sym, ap, ◌∙◌, subst, arith}
+use Rattle.std.proofs.Common.{◌≡◌, ℕ, ◌<◌, ◌≤◌, ◌==◌, ◌&&◌, Bool, true, false, List, [], ◌∷◌, ◌++◌, map, vec_capacity, length, length-append, Some, refl, sym, ap, ◌∙◌, subst, arith}
 use Rattle.std.proofs.lemmas.Bool.{eqb-true}
 use Rattle.std.proofs.lemmas.List.{append-nil}
 use Rattle.std.specs.List.{AllByRecursion, IsDistinct}
@@ -16,7 +16,9 @@ use Rattle.processor.specs.declared.deed.Deed.TheVariants as deeds
 use Rattle.processor.specs.declared.station.Heard.{Heard}
 use Rattle.processor.specs.Acts.{NeverFalls}
 use Rattle.processor.specs.Programs.{Key, same_key, is_hear, IsHear, AreHears, hear_count, step_of}
-use Rattle.processor.specs.Rooms.{key_of, IsPast}
+use Rattle.processor.specs.Rooms.{key_of, IsPast, HasRoom}
+use Rattle.processor.specs.declared.station.Parts.{Parts}
+use Rattle.thread_table.specs.Handles.{view_of}
 use Rattle.processor.specs.Running.{Line, Stepped, line_heard, heard_in, is_heard}
 use Rattle.processor.specs.Steps.{HandDid}
 use Rattle.processor.proofs.Rooms.{few}
@@ -119,3 +121,20 @@ past_more call p e n plan step deed answer v u w keys s is now low rises on past
 pub room_left : (plan : BootPlan) (keys : List Key) (deed : Deed) (e n : ℕ) → AreHears plan (keys ++ key_in deed e n) → is_heard deed ≡ true → length keys < hear_count plan
 room_left plan keys (deeds.Heard woken) e n h is = let f = few plan (keys ++ (e, n) ∷ []) h in omega (arith, length-append keys ((e, n) ∷ []), f)
 room_left plan keys deed e n h is = cc
+
+-- nothing more was heard, and no step is undone
+pub room_kept : (plan : BootPlan) (old new : Parts) → HasRoom plan old → new.heard ≡ old.heard → NeverFalls (view_of old.hand) (view_of new.hand) → HasRoom plan new
+room_kept plan old new h same rises = record {
+  room = subst (λ z. hear_count plan ≤ vec_capacity z) (sym same) h.room;
+  hears = subst (λ z. AreHears plan (map key_of z.items)) (sym same) h.hears;
+  past = subst (λ z. AllByRecursion (IsPast (view_of new.hand)) (map key_of z.items)) (sym same) (all_later (view_of old.hand) (view_of new.hand) (map key_of old.heard.items) rises h.past);
+}
+
+-- nothing was heard
+pub room_new : (plan : BootPlan) (parts : Parts) → parts.heard.items ≡ [] → hear_count plan ≤ vec_capacity parts.heard → HasRoom plan parts
+unfolding IsDistinct
+room_new plan parts none room = record {
+  room = room;
+  hears = subst (λ (hs : List Heard). AreHears plan (map key_of hs)) (sym none) (tt, tt);
+  past = subst (λ (hs : List Heard). AllByRecursion (IsPast (view_of parts.hand)) (map key_of hs)) (sym none) tt;
+}

@@ -3,6 +3,7 @@ use Rattle.std.specs.Prelude.{◌≡◌, ◌≢◌, ◌≤◌, ◌+◌, ◌&&◌
 use Rattle.boot_script.specs.declared.plan.Step.{Step}
 use Rattle.hand_steps.specs.declared.alarms.Tended.{Tended}
 use Rattle.hand_steps.specs.declared.dispatch.Begun.{Begun}
+use Rattle.hand_steps.specs.declared.dispatch.Idle.{Idle}
 use Rattle.hand_steps.specs.Dispatches.{Began, WasIdle, mask_of}
 use Rattle.hand_steps.specs.Holdings.{Shows}
 use Rattle.hand_steps.specs.Sendings.{Sent}
@@ -11,6 +12,8 @@ use Rattle.hand_steps.specs.Tendings.{Fires, RaisedAll}
 use Rattle.meters.specs.Handles as meters
 use Rattle.thread_table.specs.declared.rule.View.{View}
 use Rattle.thread_table.specs.Handles.{view_of, call_of}
+use Rattle.processor.specs.declared.outcome.Had.{Had}
+use Rattle.processor.specs.declared.outcome.Had.TheVariants as hads
 use Rattle.processor.specs.declared.outcome.Outcome.{Outcome}
 use Rattle.processor.specs.declared.outcome.Outcome.TheVariants as outcomes
 use Rattle.processor.specs.declared.outcome.Turned.{Turned}
@@ -45,32 +48,39 @@ pub record BegunAt (begun : Begun) (old new : Parts) : Type 0 where
 
 -- The step of the element was tried on the processor, with what that did at all ends; a line that was heard is kept; and
 -- the element moved on
-pub record RanStep (shared : Shared) (p : ℕ) (begun : Begun) (tried : Tried) (moved : Moved) (old new : Parts)
+pub record RanStep (shared : Shared) (p : ℕ) (element number : ℕ) (tried : Tried) (moved : Moved) (old new : Parts)
     : Type 0 where
   pub step : Step
-  pub is : step_of shared.plan begun.element begun.number ≡ Some step
+  pub is : step_of shared.plan element number ≡ Some step
   pub text : List ℕ
   pub stepped : View
-  pub ran : Stepped (call_of old.hand) shared.plan p begun.element step tried.deed tried.counted (view_of old.hand)
+  pub ran : Stepped (call_of old.hand) shared.plan p element step tried.deed tried.counted (view_of old.hand)
       stepped
   pub goes : Goes (call_of old.hand) step tried.deed
-      (is_last (is_done tried.deed) begun.number (length (program shared.plan begun.element))) begun.element moved stepped
+      (is_last (is_done tried.deed) number (length (program shared.plan element))) element moved stepped
       (view_of new.hand)
   pub ends : EndsDid shared step tried.deed text old new
-  pub lines : heard_lines new ≡ heard_lines old ++ heard_in tried.deed begun.element begun.number text
+  pub lines : heard_lines new ≡ heard_lines old ++ heard_in tried.deed element number text
   pub signals : new.signals ≡ old.signals
 
--- What came of an element's turn: there was none at hand; or all its steps were done, and it was retired; or its step was
--- tried
-abbrev pub CameOf : Shared → ℕ → Outcome → Parts → Parts → Type 0
-CameOf shared p (outcomes.Idle idle) old new = WasIdle (call_of old.hand) idle (view_of old.hand) (view_of new.hand)
+-- no element was at hand
+abbrev pub IdleAt : Idle → Parts → Parts → Type 0
+IdleAt idle old new = WasIdle (call_of old.hand) idle (view_of old.hand) (view_of new.hand)
     × AreAtRest old new × (new.meters ≡ old.meters) × (new.signals ≡ old.signals)
-CameOf shared p (outcomes.Ended begun moved) old new = (mid : Parts) × BegunAt begun old mid
-    × (length (program shared.plan begun.element) ≤ begun.number)
-    × Sent (call_of old.hand) 1 begun.element moved (view_of mid.hand) (view_of new.hand)
-    × AreAtRest mid new × (new.meters ≡ mid.meters) × (new.signals ≡ mid.signals)
-CameOf shared p (outcomes.Ran begun tried moved) old new = (mid : Parts) × BegunAt begun old mid
-    × RanStep shared p begun tried moved mid new
+
+-- What came of the turn of an element at hand: all its steps were done, and it was retired; or its step was tried
+abbrev pub HadTurn : Shared → ℕ → ℕ → ℕ → Had → Parts → Parts → Type 0
+HadTurn shared p element number (hads.Ended moved) old new = (length (program shared.plan element) ≤ number)
+    × Sent (call_of old.hand) 1 element moved (view_of old.hand) (view_of new.hand)
+    × AreAtRest old new × (new.meters ≡ old.meters) × (new.signals ≡ old.signals)
+HadTurn shared p element number (hads.Ran tried moved) old new =
+    RanStep shared p element number tried moved old new
+
+-- what came of an element's turn, if one was at hand
+abbrev pub CameOf : Shared → ℕ → Outcome → Parts → Parts → Type 0
+CameOf shared p (outcomes.Idle idle) old new = IdleAt idle old new
+CameOf shared p (outcomes.Had begun had) old new = (mid : Parts) × BegunAt begun old mid
+    × HadTurn shared p begun.element begun.number had mid new
 
 -- processor 0 tended the alarms, and no other did
 abbrev pub TendedBy : ℕ → Option Tended → Parts → Parts → Type 0

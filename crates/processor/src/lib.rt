@@ -21,7 +21,8 @@ mod turn;
 
 pub use deed::{Deed, Ticket};
 pub use laws::{hears_are_few, steps_fit};
-pub use outcome::{Outcome, Turned};
+pub use outcome::{Had, Outcome, Turned};
 pub use running::{Moved, Tried};
 pub use shared::Shared;
 pub use station::{Heard, Parts, Station};
+pub use turn::run;

@@ -3,23 +3,21 @@
 use crate::running::{Moved, Tried};
 use hand_steps::{Begun, Idle, Tended};
 
-/// What came of an element's turn.
+/// What came of the turn of an element at hand.
+#[derive(Clone, Copy, Debug, PartialEq, Eq)]
+pub enum Had {
+    /// All its steps were done, and it was retired. Where it wasn't, the free elements have no position left, and the
+    /// hand holds it.
+    Ended(bool),
+    /// Its next step was tried.
+    Ran(Tried, Moved),
+}
+
+/// What came of an element's turn, if one was at hand.
 #[derive(Clone, Copy, Debug, PartialEq, Eq)]
 pub enum Outcome {
-    /// There was no element at hand.
     Idle(Idle),
-    /// All steps of the element were done, and it was retired. Where it isn't `moved`, the free elements have no
-    /// position left, and the hand holds it.
-    Ended {
-        begun: Begun,
-        moved: bool,
-    },
-    /// The step with this number was tried.
-    Ran {
-        begun: Begun,
-        tried: Tried,
-        moved: Moved,
-    },
+    Had(Begun, Had),
 }
 
 /// What came of a turn of a processor.

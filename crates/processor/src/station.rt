@@ -1,6 +1,6 @@
 //! The station of a processor.
-ghost use Rattle.std.specs.Prelude.{◌≡◌, ◌≤◌, vec_capacity, IfOk, IfErr};
-ghost use Rattle.processor.specs.Programs.{hear_count};
+ghost use Rattle.std.specs.Prelude.{◌≡◌, IfOk, IfErr};
+ghost use Rattle.processor.specs.Rooms.{HasRoom};
 ghost use Rattle.processor.specs.Stations.{IsUnused};
 
 use crate::programs::hears_of;
@@ -57,7 +57,7 @@ impl Station {
         ensures ends { IfOk result (λ s. (s.parts.hand ≡ hand) × (s.parts.small ≡ small) × (s.parts.large ≡ large)
             × (s.parts.chains ≡ chains) × (s.parts.meters ≡ meters)) }
         ensures unused { IfOk result (λ s. IsUnused s.parts) }
-        ensures room { IfOk result (λ s. hear_count shared.now.plan ≤ vec_capacity s.parts.heard) }
+        ensures room { IfOk result (λ s. HasRoom shared.now.plan s.parts) }
         ensures back { IfErr result (λ e. (e.0.hand ≡ hand) × (e.0.small ≡ small) × (e.0.large ≡ large)
             × (e.0.chains ≡ chains) × (e.0.meters ≡ meters) × IsUnused e.0) }
     {

@@ -1,15 +1,17 @@
 //! The turns of a processor.
-ghost use Rattle.std.specs.Prelude.{◌≡◌, ◌<◌, ◌+◌, ◌&&◌, ℕ, true, nat_le, length, Some};
+ghost use Rattle.std.specs.Prelude.{◌≡◌, ◌<◌, ◌+◌, ◌&&◌, ℕ, true, nat_le, length, Some, IfOk, MatchResult};
 ghost use Rattle.hand_steps.specs.Holdings.{IsFree};
-ghost use Rattle.thread_table.specs.Handles.{view_of};
+ghost use Rattle.hand_steps.specs.Sendings.{Sent};
+ghost use Rattle.thread_table.specs.Handles.{view_of, call_of};
 ghost use Rattle.thread_table.specs.Rules.{has, done_at};
 ghost use Rattle.processor.specs.Programs.{step_of};
 ghost use Rattle.processor.specs.Rooms.{HasRoom};
 ghost use Rattle.processor.specs.Stations.{ArePartsOf, AreSameParts};
-ghost use Rattle.processor.specs.Turns.{CameOf, TendedBy, TurnOf, Turns, RanStep, is_last};
+ghost use Rattle.processor.specs.Turns.{AreAtRest, BegunAt, IdleAt, HadTurn, CameOf, TendedBy, TurnOf, Turns, RanStep};
+ghost use Rattle.processor.specs.Turns.{is_last};
 
 use crate::laws::steps_fit;
-use crate::outcome::{Outcome, Turned};
+use crate::outcome::{Had, Outcome, Turned};
 use crate::programs::program_of;
 use crate::running::{Moved, Tried, keep, run_step, send_on};
 use crate::shared::Shared;
@@ -17,8 +19,8 @@ use crate::station::{Parts, Station};
 use arrayvec::ArrayVec;
 use boot_script::plan::Step;
 use end_steps::{Gate, Point};
-use hand_steps::{Begun, Tended, begin, retire, tend_alarms};
-use quaject_core::Processor;
+use hand_steps::{Begun, Idle, Tended, begin, retire, tend_alarms};
+use quaject_core::{Element, Processor};
 use std::sync::Wait;
 
 // Whether a step that was tried is done, and was the last of so many.
@@ -35,46 +37,232 @@ fn run_element<R: Wait, G: Gate>(
     shared: &Shared,
     parts: &mut Parts,
     p: Processor,
-    begun: Begun,
+    element: Element,
+    number: u64,
     step: &Step,
     gate: &mut G,
 ) -> (Tried, Moved)
     requires parts { ArePartsOf shared.now parts.old }
-    requires held { has (view_of parts.old.hand) begun.element ≡ true }
+    requires held { has (view_of parts.old.hand) element ≡ true }
     requires free { IsFree p (view_of parts.old.hand) }
     requires room { HasRoom shared.now.plan parts.old }
-    requires known { begun.number ≡ done_at (view_of parts.old.hand).schedule begun.element }
-    requires low { begun.number < 64 }
-    requires its { step_of shared.now.plan begun.element begun.number ≡ Some step.now }
+    requires known { number ≡ done_at (view_of parts.old.hand).schedule element }
+    requires low { number < 64 }
+    requires its { step_of shared.now.plan element number ≡ Some step.now }
     ensures parts { ArePartsOf shared.now parts.new }
     ensures same { AreSameParts parts.old parts.new }
     ensures free { IsFree p (view_of parts.new.hand) }
     ensures room { HasRoom shared.now.plan parts.new }
-    ensures ran { RanStep shared.now p begun result.0 result.1 parts.old parts.new }
+    ensures ran { RanStep shared.now p element number result.0 result.1 parts.old parts.new }
     ensures serves { (view_of parts.new.hand).serves ≡ (view_of parts.old.hand).serves }
     ensures share { (view_of parts.new.hand).member.share ≡ (view_of parts.old.hand).member.share }
 {
     steps_fit();
     let mut heard = ArrayVec::new();
-    let tried = run_step(rt, shared, parts, p, begun.element, step, &mut heard, gate);
-    keep(
-        &mut parts.heard,
-        &tried.deed,
-        begun.element,
-        begun.number,
-        heard,
-    );
-    let steps = program_of(&shared.plan, begun.element).len();
-    let last = is_last(tried.deed.is_done(), begun.number, steps);
+    let tried = run_step(rt, shared, parts, p, element, step, &mut heard, gate);
+    keep(&mut parts.heard, &tried.deed, element, number, heard);
+    let steps = program_of(&shared.plan, element).len();
+    let last = is_last(tried.deed.is_done(), number, steps);
     let threads = &shared.threads;
     let moved = send_on(
         rt,
         threads,
         &mut parts.hand,
-        begun.element,
+        element,
         step,
         &tried.deed,
         last,
     );
     (tried, moved)
+}
+
+// Takes an element from the ready ring, and delivers its signals.
+fn begin_turn<R: Wait>(
+    rt: &R,
+    shared: &Shared,
+    parts: &mut Parts,
+    p: Processor,
+) -> Result<Begun, Idle>
+    requires parts { ArePartsOf shared.now parts.old }
+    requires free { IsFree p (view_of parts.old.hand) }
+    requires room { HasRoom shared.now.plan parts.old }
+    ensures parts { ArePartsOf shared.now parts.new }
+    ensures same { AreSameParts parts.old parts.new }
+    ensures free { IsFree p (view_of parts.new.hand) }
+    ensures room { HasRoom shared.now.plan parts.new }
+    ensures begun { MatchResult result (λ begun. BegunAt begun parts.old parts.new)
+        (λ idle. IdleAt idle parts.old parts.new) }
+    ensures held { IfOk result (λ begun. has (view_of parts.new.hand) begun.element ≡ true) }
+    ensures number { IfOk result (λ begun. begun.number ≡ done_at (view_of parts.new.hand).schedule begun.element) }
+    ensures serves { (view_of parts.new.hand).serves ≡ (view_of parts.old.hand).serves }
+    ensures share { (view_of parts.new.hand).member.share ≡ (view_of parts.old.hand).member.share }
+{
+    let mut signals = parts.signals;
+    let begun = begin(rt, &shared.threads, &mut parts.hand, &mut signals);
+    parts.signals = signals;
+    begun
+}
+
+// Retires an element at hand.
+fn retire_at<R: Wait>(
+    rt: &R,
+    shared: &Shared,
+    parts: &mut Parts,
+    p: Processor,
+    element: Element,
+) -> bool
+    requires parts { ArePartsOf shared.now parts.old }
+    requires held { has (view_of parts.old.hand) element ≡ true }
+    requires free { IsFree p (view_of parts.old.hand) }
+    requires room { HasRoom shared.now.plan parts.old }
+    ensures parts { ArePartsOf shared.now parts.new }
+    ensures same { AreSameParts parts.old parts.new }
+    ensures free { IsFree p (view_of parts.new.hand) }
+    ensures room { HasRoom shared.now.plan parts.new }
+    ensures sent { Sent (call_of parts.old.hand) 1 element result (view_of parts.old.hand) (view_of parts.new.hand) }
+    ensures rest { AreAtRest parts.old parts.new }
+    ensures others { (parts.new.meters ≡ parts.old.meters) × (parts.new.signals ≡ parts.old.signals) }
+    ensures serves { (view_of parts.new.hand).serves ≡ (view_of parts.old.hand).serves }
+    ensures share { (view_of parts.new.hand).member.share ≡ (view_of parts.old.hand).member.share }
+{
+    let threads = &shared.threads;
+    retire(rt, threads, &mut parts.hand, element)
+}
+
+// An element at hand has its turn: its next step is tried, or it is retired where it has none left.
+fn take_turn<R: Wait, G: Gate>(
+    rt: &R,
+    shared: &Shared,
+    parts: &mut Parts,
+    p: Processor,
+    element: Element,
+    number: u64,
+    gate: &mut G,
+) -> Had
+    requires parts { ArePartsOf shared.now parts.old }
+    requires held { has (view_of parts.old.hand) element ≡ true }
+    requires free { IsFree p (view_of parts.old.hand) }
+    requires room { HasRoom shared.now.plan parts.old }
+    requires known { number ≡ done_at (view_of parts.old.hand).schedule element }
+    ensures parts { ArePartsOf shared.now parts.new }
+    ensures same { AreSameParts parts.old parts.new }
+    ensures free { IsFree p (view_of parts.new.hand) }
+    ensures room { HasRoom shared.now.plan parts.new }
+    ensures had { HadTurn shared.now p element number result parts.old parts.new }
+    ensures serves { (view_of parts.new.hand).serves ≡ (view_of parts.old.hand).serves }
+    ensures share { (view_of parts.new.hand).member.share ≡ (view_of parts.old.hand).member.share }
+{
+    steps_fit();
+    let steps = program_of(&shared.plan, element);
+    if number >= steps.len() as u64 {
+        let moved = retire_at(rt, shared, parts, p, element);
+        return Had::Ended(moved);
+    }
+    let step = &steps[number as usize];
+    let (tried, moved) = run_element(rt, shared, parts, p, element, number, step, gate);
+    Had::Ran(tried, moved)
+}
+
+// An element from the ready ring has its turn, if there is one.
+fn dispatch<R: Wait, G: Gate>(
+    rt: &R,
+    shared: &Shared,
+    parts: &mut Parts,
+    p: Processor,
+    gate: &mut G,
+) -> Outcome
+    requires parts { ArePartsOf shared.now parts.old }
+    requires free { IsFree p (view_of parts.old.hand) }
+    requires room { HasRoom shared.now.plan parts.old }
+    ensures parts { ArePartsOf shared.now parts.new }
+    ensures same { AreSameParts parts.old parts.new }
+    ensures free { IsFree p (view_of parts.new.hand) }
+    ensures room { HasRoom shared.now.plan parts.new }
+    ensures came { CameOf shared.now p result parts.old parts.new }
+    ensures serves { (view_of parts.new.hand).serves ≡ (view_of parts.old.hand).serves }
+    ensures share { (view_of parts.new.hand).member.share ≡ (view_of parts.old.hand).member.share }
+{
+    match begin_turn(rt, shared, parts, p) {
+        Ok(begun) => {
+            let had = take_turn(rt, shared, parts, p, begun.element, begun.number, gate);
+            Outcome::Had(begun, had)
+        }
+        Err(idle) => Outcome::Idle(idle),
+    }
+}
+
+// Processor 0 tends the alarms.
+fn tend(shared: &Shared, parts: &mut Parts, p: Processor) -> Option<Tended>
+    requires parts { ArePartsOf shared.now parts.old }
+    requires free { IsFree p (view_of parts.old.hand) }
+    requires room { HasRoom shared.now.plan parts.old }
+    ensures parts { ArePartsOf shared.now parts.new }
+    ensures same { AreSameParts parts.old parts.new }
+    ensures free { IsFree p (view_of parts.new.hand) }
+    ensures room { HasRoom shared.now.plan parts.new }
+    ensures tended { TendedBy p result parts.old parts.new }
+    ensures serves { (view_of parts.new.hand).serves ≡ (view_of parts.old.hand).serves }
+    ensures share { (view_of parts.new.hand).member.share ≡ (view_of parts.old.hand).member.share }
+{
+    if p.number() != 0 {
+        return None;
+    }
+    let threads = &shared.threads;
+    Some(tend_alarms(threads, &mut parts.hand, &shared.meters, &mut parts.meters))
+}
+
+// One turn.
+fn turn<R: Wait, G: Gate>(
+    rt: &R,
+    shared: &Shared,
+    parts: &mut Parts,
+    p: Processor,
+    gate: &mut G,
+) -> Turned
+    requires parts { ArePartsOf shared.now parts.old }
+    requires free { IsFree p (view_of parts.old.hand) }
+    requires room { HasRoom shared.now.plan parts.old }
+    ensures parts { ArePartsOf shared.now parts.new }
+    ensures same { AreSameParts parts.old parts.new }
+    ensures free { IsFree p (view_of parts.new.hand) }
+    ensures room { HasRoom shared.now.plan parts.new }
+    ensures turn { TurnOf shared.now p result parts.old parts.new }
+    ensures serves { (view_of parts.new.hand).serves ≡ (view_of parts.old.hand).serves }
+    ensures share { (view_of parts.new.hand).member.share ≡ (view_of parts.old.hand).member.share }
+{
+    let tended = tend(shared, parts, p);
+    let outcome = dispatch(rt, shared, parts, p, gate);
+    Turned { tended, outcome }
+}
+
+/// Exactly so many turns of a processor. In each the gate is called with its number, processor 0 tends the alarms, and
+/// the oldest element of the ready ring has its turn: one try of its next step. The station comes back, with what its
+/// ends did, and what was heard and signalled.
+///
+/// Conditions: the station is one of `shared`, and its hand serves the processor, on which nothing stands.
+pub fn run<R: Wait, G: Gate>(
+    rt: &R,
+    shared: &Shared,
+    station: Station,
+    p: Processor,
+    turns: u32,
+    gate: &mut G,
+) -> Station
+    requires station { ArePartsOf shared.now station.parts }
+    requires free { IsFree p (view_of station.parts.hand) }
+    requires room { HasRoom shared.now.plan station.parts }
+    ensures station { ArePartsOf shared.now result.parts }
+    ensures same { AreSameParts station.parts result.parts }
+    ensures free { IsFree p (view_of result.parts.hand) }
+    ensures room { HasRoom shared.now.plan result.parts }
+    ensures turns { Turns shared.now p station.parts result.parts turns }
+    ensures serves { (view_of result.parts.hand).serves ≡ (view_of station.parts.hand).serves }
+    ensures share { (view_of result.parts.hand).member.share ≡ (view_of station.parts.hand).member.share }
+{
+    let Station { mut parts } = station;
+    for number in 0..turns {
+        gate.between(p.number(), Point::Turn(number));
+        let _ = turn(rt, shared, &mut parts, p, gate);
+    }
+    Station { parts }
 }

@@ -11,8 +11,8 @@ pub keep-requires-clause-room : goal.keep-requires-clause-room
 keep-requires-clause-room g c is =
     let plan = c.args.shared.now.plan in
     let heard = c.args.parts.now.heard in
-    let e = c.args.begun.element in
-    let n = c.args.begun.number in
+    let e = c.args.element in
+    let n = c.args.number in
     let keys : List Key = map key_of heard.items in
     let more = hears_more _ _ e n plan c.args.step.now c.run_step-tried.result.deed c.run_step-tried.result.counted (view_of c.args.parts.now.hand) (view_of c.run_step-tried.new.parts.hand) keys
     c.requires.its c.run_step-tried.ensures.hand c.requires.known c.requires.room.hears c.requires.room.past in
@@ -27,8 +27,8 @@ pub returns-clause-room : goal.returns-clause-room
 returns-clause-room g c =
     let plan = c.args.shared.now.plan in
     let heard = c.args.parts.now.heard in
-    let e = c.args.begun.element in
-    let n = c.args.begun.number in
+    let e = c.args.element in
+    let n = c.args.number in
     let deed = c.run_step-tried.result.deed in
     let v = view_of c.args.parts.now.hand in
     let u = view_of c.run_step-tried.new.parts.hand in

@@ -1,0 +1,9 @@
+use Rattle.std.proofs.Common.{refl}
+use Rattle.thread_table.specs.Handles.{view_of}
+use Rattle.processor.proofs.Rising.{began_or_idle}
+use Rattle.processor.proofs.Rooming.{room_kept}
+use Rattle.processor.proofs.turn.begin_turn.Goals as goal
+
+pub returns-clause-room : goal.returns-clause-room
+returns-clause-room g c = room_kept c.args.shared.now.plan c.args.parts.now _ c.requires.room refl
+    (began_or_idle _ (view_of c.args.parts.now.hand) (view_of c.begin-begun.new.hand) c.begin-begun.result c.begin-begun.ensures.begun)

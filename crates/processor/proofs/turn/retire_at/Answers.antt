@@ -1,0 +1,7 @@
+use Rattle.std.proofs.Common.{refl}
+use Rattle.processor.proofs.Rising.{sending}
+use Rattle.processor.proofs.Rooming.{room_kept}
+use Rattle.processor.proofs.turn.retire_at.Goals as goal
+
+pub returns-clause-room : goal.returns-clause-room
+returns-clause-room g c = room_kept c.args.shared.now.plan c.args.parts.now _ c.requires.room refl (sending _ _ _ _ _ _ c.retire.ensures.sent)

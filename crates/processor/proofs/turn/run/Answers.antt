@@ -1,0 +1,29 @@
+use Rattle.std.proofs.Common.{ℕ, sym, ◌∙◌, subst, add-one}
+use Rattle.processor.specs.declared.station.Parts.{Parts}
+use Rattle.processor.specs.Stations.{AreSameParts}
+use Rattle.processor.specs.Turns.{Turns}
+use Rattle.processor.proofs.turn.run.Goals as goal
+
+same_on : (u v w : Parts) → AreSameParts u v → AreSameParts v w → AreSameParts u w
+same_on u v w a b = record {
+  hand = (b.hand.0 ∙ a.hand.0, b.hand.1 ∙ a.hand.1);
+  small = record { tables = b.small.tables ∙ a.small.tables; calls = b.small.calls ∙ a.small.calls };
+  large = record { tables = b.large.tables ∙ a.large.tables; calls = b.large.calls ∙ a.large.calls };
+  chains = record { tables = b.chains.tables ∙ a.chains.tables; calls = b.chains.calls ∙ a.chains.calls };
+  meters = (b.meters.0 ∙ a.meters.0, b.meters.1 ∙ a.meters.1);
+}
+
+pub loop-number-preserved : goal.loop-number-preserved
+loop-number-preserved g c =
+    let i = c.loop-number.invariant in
+    let e = c.turn.ensures in
+    let n = c.loop-number.number in (
+      e.parts,
+      same_on c.args.station.parts c.loop-number.parts c.turn.new.parts i.1 e.same,
+      e.free,
+      e.room,
+      subst (λ (k : ℕ). Turns c.args.shared.now c.args.p c.args.station.parts c.turn.new.parts k) (sym (add-one n))
+          (c.loop-number.parts, c.turn.result, i.4, e.turn),
+      e.serves ∙ i.5,
+      e.share ∙ i.6,
+    )

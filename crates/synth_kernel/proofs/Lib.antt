@@ -1,0 +1,4 @@
+pub mod Crews
+pub mod Handling
+pub mod Serving
+pub mod Stocks

@@ -1,0 +1,5 @@
+pub mod Devices
+pub mod Alarms
+pub mod Elements
+pub mod Crews
+pub mod Stocks

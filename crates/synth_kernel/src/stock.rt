@@ -1,0 +1,34 @@
+//! Ends that are split off for quajects and devices.
+ghost use Rattle.std.specs.Prelude.{◌≡◌, ◌<◌, ◌≤◌, length};
+ghost use Rattle.table_theory.specs.Sharing.{given, kept};
+ghost use Rattle.claim_queue.specs.Handles.{IsDivisible};
+ghost use Rattle.synth_kernel.specs.Stocks.{IsStock, IsIdleEnd, SplitOff, share_of, share_at};
+
+use claim_queue::{ClaimQueue, QueueEnd};
+
+// An end more of the queue, split off this one.
+fn split_one<const N: usize>(queue: &ClaimQueue<N>, end: &mut QueueEnd<N>) -> QueueEnd<N>
+    requires idle { IsIdleEnd queue.now end.old }
+    requires parts { IsDivisible end.old }
+    ensures idle { IsIdleEnd queue.now end.new × IsIdleEnd queue.now result }
+    ensures left { share_of end.new ≡ kept (share_of end.old) }
+    ensures given { share_of result ≡ given (share_of end.old) }
+{
+    queue.split(end)
+}
+
+/// An end more of the queue with this index, split off the one in the stock, which has an end of each queue.
+///
+/// Condition: the end in the stock has two parts of its queue or more.
+pub fn split_at<const N: usize>(
+    queues: &[ClaimQueue<N>],
+    stock: &mut Vec<QueueEnd<N>>,
+    index: usize,
+) -> QueueEnd<N>
+    requires named { index < length queues.now }
+    requires stock { IsStock queues.now stock.old.items }
+    requires parts { 2 ≤ share_at stock.old.items index }
+    ensures { SplitOff queues.now index stock.old.items stock.new.items result }
+{
+    split_one(&queues[index], &mut stock[index])
+}

@@ -8,6 +8,8 @@ use claim_queue::{ClaimRefusal, TakeRefusal};
 use proc_chain::{ChainRefusal, Chained};
 use quaject_core::OutOfMemory;
 use quajects::Queues;
+use std::alloc::Global;
+use std::process::Abort;
 use std::sync::Wait;
 use std::test::*;
 
@@ -216,25 +218,38 @@ fn splits_and_joins(rt: HostRuntime) -> Result<(), Fail> {
     Ok(())
 }
 
-/// Where an allocation is refused all stays as it was, and the ends go on.
-#[test]
-fn memory_may_be_wanting(rt: HostRuntime) -> Result<(), Fail> {
+// Where an allocation is refused all stays as it was, and the ends go on.
+fn split_and_poke<R: Abort + Wait>(rt: &R, alloc: Global, pumped: Pumped) {
     let Pumped {
         world,
         ends: _,
         chains,
         chain_ends,
         other: _,
-    } = make_pump(rt.alloc())?;
+    } = pumped;
     let mut chain_ends = chain_ends;
     let list = chains.as_slice();
-    match split_chain_ends(rt.alloc(), list, &mut chain_ends) {
+    match split_chain_ends(alloc, list, &mut chain_ends) {
         Ok(others) => join_chain_ends(list, &mut chain_ends, others),
         Err(error) => assert_eq!(rt; error, OutOfMemory),
     }
-    let poked = poke(&rt, &world, list, &mut chain_ends, 0, 0, &mut NoGate);
+    let poked = poke(rt, &world, list, &mut chain_ends, 0, 0, &mut NoGate);
     assert_eq!(rt; poked, Ok(Poked::Ran { notes: 1 }));
-    Ok(())
+}
+
+#[test]
+fn memory_may_be_wanting(rt: HostRuntime) {
+    let mut made = false;
+    for _ in 0..12u8 {
+        match make_pump(rt.alloc()) {
+            Ok(pumped) => {
+                split_and_poke(&rt, rt.alloc(), pumped);
+                made = true;
+            }
+            Err(error) => assert_eq!(rt; error, OutOfMemory),
+        }
+    }
+    assert!(rt; made);
 }
 
 /// The same of queues.

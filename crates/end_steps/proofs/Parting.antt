@@ -1,5 +1,5 @@
 -- What a split and a join of all ends of a list say together.
-use Rattle.std.proofs.Common.{◌≡◌, ℕ, zero, suc, ◌+◌, List, [], ◌∷◌, ◌++◌, refl, sym, ap, subst, ◌∙◌}
+use Rattle.std.proofs.Common.{◌≡◌, ℕ, zero, suc, ◌+◌, true, false, List, [], ◌∷◌, ◌++◌, refl, sym, ap, subst, ◌∙◌}
 use Rattle.std.proofs.lemmas.List.{map-append}
 use Rattle.table_theory.specs.declared.queues.Batch.{Batch}
 use Rattle.table_theory.specs.declared.views.Member.{Member}
@@ -9,7 +9,7 @@ use Rattle.claim_queue.specs.declared.ends.QueueEnd.{QueueEnd}
 use Rattle.claim_queue.specs.declared.rule.View.{View}
 use Rattle.claim_queue.specs.Handles.{view_of}
 use Rattle.claim_queue.specs.Lines.{line_of, lines_put, lines_taken}
-use Rattle.end_steps.specs.EndLists.{end_puts, end_takes, end_share, end_shuts, HasRaised}
+use Rattle.end_steps.specs.EndLists.{end_puts, end_takes, end_share, end_shuts, end_knows_shut, HasRaised}
 use Rattle.end_steps.specs.Splits.{AllThree, IsSplit, IsJoined, AreSplit, AreJoined}
 use Rattle.end_steps.proofs.Walking.{at_three, map_three, all_three, all_third}
 
@@ -30,6 +30,7 @@ module _ {n : ℕ} where
     shuts = map_three IsSplit end_shuts end_shuts (λ x y z s. ap (λ (v : View). v.shuts) s.0.same) old new born h;
     shares = at_three IsSplit end_share end_share end_share (λ a b c. b ≡ kept a) 0 refl (λ x y z s. ap (λ (m : Member). m.share) s.0.member.same) old new born h;
     raised = λ all. all_three IsSplit HasRaised HasRaised (λ z. Unit {0}) (λ x y z s r t. subst AllRaised (sym (ap (λ (v : View). v.part.runs) s.0.same)) r) old new born h all (λ k d l. tt);
+    known = at_three IsSplit end_knows_shut end_knows_shut end_knows_shut (λ a b c. a ≡ true → b ≡ true) false (λ k. k) (λ x y z s k. ap (λ (v : View). v.part.queue.shut) s.0.same ∙ s.0.sees.later.0.shut k) old new born h;
     none_put = at_three IsSplit end_puts end_puts end_puts (λ a b c. c ≡ []) [] refl (λ x y z s. ap lines_put s.1) old new born h;
     none_taken = at_three IsSplit end_takes end_takes end_takes (λ a b c. c ≡ []) [] refl (λ x y z s. ap lines_taken s.1) old new born h;
     none_shut = at_three IsSplit end_shuts end_shuts end_shuts (λ a b c. c ≡ 0) 0 refl (λ x y z s. ap (λ (v : View). v.shuts) s.1) old new born h;
@@ -46,4 +47,6 @@ module _ {n : ℕ} where
     shares = at_three IsJoined end_share end_share end_share (λ a b c. b ≡ a + c) 0 refl (λ x y z s. ap (λ (m : Member). m.share) s.member.same) old new others h;
     raised = all_three IsJoined HasRaised HasRaised HasRaised
         (λ x y z s p t. subst AllRaised (sym (ap (λ (v : View). v.part.runs) s.same)) (raised_both (view_of x).part.runs (view_of z).part.runs p t)) old new others h;
+    known = at_three IsJoined end_knows_shut end_knows_shut end_knows_shut (λ a b c. a ≡ true → b ≡ true) false (λ k. k) (λ x y z s k. s.sees.later.0.shut k) old new others h;
+    others_known = at_three IsJoined end_knows_shut end_knows_shut end_knows_shut (λ a b c. c ≡ true → b ≡ true) false (λ k. k) (λ x y z s k. s.sees.later.1.shut k) old new others h;
   }

@@ -63,3 +63,12 @@ module _ {E : Type 0} (P : E → Type 0) where
   all_still (e ∷ es) zero end after below is f h (suc k) d l = h (suc k) d (omega arith)
   all_still (e ∷ es) (suc i) end after below is f h zero d l = h zero d (omega arith)
   all_still (e ∷ es) (suc i) end after below is f h (suc k) d l = all_still es i end after (omega arith) is f (λ k d l. h (suc k) d (omega arith)) k d (omega arith)
+
+-- what each end knows it still does, where the one that was used does
+pub known_still : {E : Type 0} (f : E → Bool) (ends : List E) (i : ℕ) (end after : E) → i < length ends → end ≡ get_or ends i end → (f end ≡ true → f after ≡ true)
+    → (q : ℕ) → get_or (map f ends) q false ≡ true → get_or (map f (set ends i after)) q false ≡ true
+known_still f [] i end after below is h q k = absurd (omega arith)
+known_still f (e ∷ es) zero end after below is h zero k = h (ap f is ∙ k)
+known_still f (e ∷ es) zero end after below is h (suc q) k = k
+known_still f (e ∷ es) (suc i) end after below is h zero k = k
+known_still f (e ∷ es) (suc i) end after below is h (suc q) k = known_still f es i end after (omega arith) is h q k

@@ -5,9 +5,9 @@ use Rattle.std.proofs.lemmas.List.{append-nil}
 use Rattle.claim_queue.specs.declared.ends.ClaimQueue.{ClaimQueue}
 use Rattle.claim_queue.specs.declared.ends.QueueEnd.{QueueEnd}
 use Rattle.claim_queue.specs.Handles.{IsEndOf, IsSameEnd}
-use Rattle.end_steps.specs.EndLists.{queue_table, end_table, end_call, end_puts, end_takes, end_share, end_shuts, HasRaised, AreEndsOf, AreSameEnds, OnEnd, only_at, number_at, lines_put_at, lines_taken_at, shuts_at}
+use Rattle.end_steps.specs.EndLists.{queue_table, end_table, end_call, end_puts, end_takes, end_share, end_shuts, end_knows_shut, HasRaised, AreEndsOf, AreSameEnds, OnEnd, only_at, number_at, lines_put_at, lines_taken_at, shuts_at}
 use Rattle.end_steps.specs.Sums.{EndWorked, Worked, no_lines, never}
-use Rattle.end_steps.proofs.Places.{same_at, as_long, same_ends, on_end, none_at, zero_at, grown_at, all_still}
+use Rattle.end_steps.proofs.Places.{same_at, as_long, same_ends, on_end, none_at, zero_at, grown_at, all_still, known_still}
 
 no_more : (n : ℕ) → n + 0 ≡ n
 no_more n = omega arith
@@ -36,6 +36,7 @@ module _ {n : ℕ} where
       shuts_are = grown_at end_shuts 0 (λ z. z) (λ a b. a + b) 0 no_more ends q end after shuts inside is w.shuts_are;
       shares = map-set_same end_share ends q after end (w.share_is ∙ ap end_share is);
       raised = all_still HasRaised ends q end after inside is w.raised;
+      known = known_still end_knows_shut ends q end after inside is w.known;
     }
 
     pub put_at : (puts : List (List ℕ)) → q < length queues → EndWorked puts [] 0 end after → Worked (only_at q puts) no_lines never ends (set ends q after)
@@ -45,6 +46,7 @@ module _ {n : ℕ} where
       shuts_are = λ i. all.shuts_are i ∙ ap (λ z. shuts_at ends i + z) (zero_at q i);
       shares = all.shares;
       raised = all.raised;
+      known = all.known;
     }
 
     pub taken_at : (takes : List (List ℕ)) → q < length queues → EndWorked [] takes 0 end after → Worked no_lines (only_at q takes) never ends (set ends q after)
@@ -54,6 +56,7 @@ module _ {n : ℕ} where
       shuts_are = λ i. all.shuts_are i ∙ ap (λ z. shuts_at ends i + z) (zero_at q i);
       shares = all.shares;
       raised = all.raised;
+      known = all.known;
     }
 
     pub shut_at : (shuts : ℕ) → q < length queues → EndWorked [] [] shuts end after → Worked no_lines no_lines (number_at q shuts) ends (set ends q after)
@@ -63,4 +66,5 @@ module _ {n : ℕ} where
       shuts_are = all.shuts_are;
       shares = all.shares;
       raised = all.raised;
+      known = all.known;
     }

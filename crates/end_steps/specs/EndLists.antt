@@ -1,5 +1,5 @@
 -- Lists of ends beside the lists of their objects: each object has one end there, in the same order.
-use Rattle.std.specs.Prelude.{◌≡◌, ◌==◌, ℕ, false, if◌then◌else◌, List, [], map, Some, slice_set, slice_index_or}
+use Rattle.std.specs.Prelude.{◌≡◌, ◌==◌, ℕ, Bool, false, if◌then◌else◌, List, [], map, Some, slice_set, slice_index_or}
 use Rattle.std.specs.List.{All, slice_get}
 use Rattle.atomic_table.specs.Seated.{TableId}
 use Rattle.table_theory.specs.Listing.{AllRaised}
@@ -56,6 +56,10 @@ module _ {n : ℕ} where
   abbrev pub end_shuts : QueueEnd n → ℕ
   end_shuts end = (queues.view_of end).shuts
 
+  -- whether the queue was shut when the end last looked
+  abbrev pub end_knows_shut : QueueEnd n → Bool
+  end_knows_shut end = (queues.view_of end).part.queue.shut
+
   -- the end has raised all that it claimed
   abbrev pub HasRaised : QueueEnd n → Type 0
   HasRaised end = AllRaised (queues.view_of end).part.runs
@@ -84,6 +88,10 @@ module _ {n : ℕ} where
 
   abbrev pub shuts_at : List (QueueEnd n) → ℕ → ℕ
   shuts_at ends q = slice_index_or (map end_shuts ends) q 0
+
+  -- whether the end of the queue q knows that it is shut
+  abbrev pub knows_shut_at : List (QueueEnd n) → ℕ → Bool
+  knows_shut_at ends q = slice_index_or (map end_knows_shut ends) q false
 
 module _ {Q W : Type 0} where
   abbrev pub chain_table : ProcChain Q W → TableId

@@ -1,5 +1,5 @@
 -- What splitting and joining all ends of a list leave.
-use Rattle.std.specs.Prelude.{◌≡◌, ◌+◌, ℕ, List, [], ◌∷◌, ◌++◌, map}
+use Rattle.std.specs.Prelude.{◌≡◌, ◌+◌, ℕ, true, List, [], ◌∷◌, ◌++◌, map}
 use Rattle.std.specs.List.{All}
 use Rattle.table_theory.specs.Sharing.{given, kept}
 use Rattle.claim_queue.specs.declared.ends.QueueEnd.{QueueEnd}
@@ -10,7 +10,7 @@ use Rattle.proc_chain.specs.declared.quaject.Quaject.{Ghosts}
 use Rattle.proc_chain.specs.Handles as chain_ends
 use Rattle.proc_chain.specs.Endings as chains
 use Rattle.end_steps.specs.EndLists.{end_puts, end_takes, end_shuts, HasRaised}
-use Rattle.end_steps.specs.EndLists.{lines_put_at, lines_taken_at, share_at, shuts_at}
+use Rattle.end_steps.specs.EndLists.{lines_put_at, lines_taken_at, share_at, shuts_at, knows_shut_at}
 use Rattle.end_steps.specs.EndLists.{chain_end_puts, chain_end_takes}
 use Rattle.end_steps.specs.EndLists.{notes_put_at, notes_taken_at, chain_share_at}
 
@@ -39,6 +39,7 @@ module _ {n : ℕ} where
     pub shuts : map end_shuts new ≡ map end_shuts old
     pub shares : (q : ℕ) → share_at new q ≡ kept (share_at old q)
     pub raised : All HasRaised old → All HasRaised new
+    pub known : (q : ℕ) → knows_shut_at old q ≡ true → knows_shut_at new q ≡ true
     pub none_put : (q : ℕ) → lines_put_at born q ≡ []
     pub none_taken : (q : ℕ) → lines_taken_at born q ≡ []
     pub none_shut : (q : ℕ) → shuts_at born q ≡ 0
@@ -53,6 +54,8 @@ module _ {n : ℕ} where
     pub shuts : (q : ℕ) → shuts_at new q ≡ shuts_at old q + shuts_at others q
     pub shares : (q : ℕ) → share_at new q ≡ share_at old q + share_at others q
     pub raised : All HasRaised old → All HasRaised others → All HasRaised new
+    pub known : (q : ℕ) → knows_shut_at old q ≡ true → knows_shut_at new q ≡ true
+    pub others_known : (q : ℕ) → knows_shut_at others q ≡ true → knows_shut_at new q ≡ true
 
 module _ {Q W : Type 0} {g : Ghosts Q W} where
   -- the end gave a part of its share to a new end, which has nothing else

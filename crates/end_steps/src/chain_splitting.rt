@@ -1,5 +1,5 @@
 //! A second list of chain ends, for another owner: split off, and joined again.
-ghost use Rattle.std.specs.Prelude.{◌≡◌, ℕ, length, IfOk, IfErr};
+ghost use Rattle.std.specs.Prelude.{◌≡◌, ◌≤◌, ℕ, [], length, vec_capacity, IfOk, IfErr};
 ghost use Rattle.std.specs.List.{All};
 ghost use Rattle.proc_chain.specs.Handles.{turn_of, IsEndOf};
 ghost use Rattle.end_steps.specs.EndLists.{AreChainEndsOf, AreSameChainEnds, IsChainDivisible};
@@ -10,11 +10,34 @@ use quaject_core::OutOfMemory;
 use quajects::AnyQuaject;
 use std::alloc::Global;
 
-/// A new end of each chain, in the order of the chains and without a Turn, split off from the one in the list.
-/// `OutOfMemory` comes only where an allocation was refused, before any end is split; nothing has changed then.
+/// A new end of each chain, in the order of the chains and without a Turn, split off from the one in the list. They go
+/// into `born`, which is empty and has room for them, so it takes no memory.
 ///
 /// Conditions: the ends are those of the chains, in their order, without a Turn, and each has two parts or more of its
 /// chain's 2^64 - 1.
+pub fn split_chain_ends_into(
+    chains: &[ProcChain<AnyQuaject>],
+    ends: &mut Vec<ChainEnd<AnyQuaject>>,
+    born: Vec<ChainEnd<AnyQuaject>>,
+) -> Vec<ChainEnd<AnyQuaject>>
+    requires ends { AreChainEndsOf chains.now ends.old.items }
+    requires parts { All IsChainDivisible ends.old.items }
+    requires room { (born.items ≡ []) × (length chains.now ≤ vec_capacity born) }
+    ensures same { AreSameChainEnds ends.old.items ends.new.items }
+    ensures ends { AreChainEndsOf chains.now ends.new.items }
+    ensures born { AreChainEndsOf chains.now result.items }
+    ensures split { AreChainsSplit ends.old.items ends.new.items result.items }
+{
+    let mut born = born;
+    for i in 0..chains.len() {
+        let end = chains[i].split(&mut ends[i]);
+        born.push_reserved(end);
+    }
+    born
+}
+
+/// The same, with a list made for them. `OutOfMemory` comes only where its allocation was refused, before any end is
+/// split; nothing has changed then.
 pub fn split_chain_ends(
     alloc: Global,
     chains: &[ProcChain<AnyQuaject>],
@@ -28,12 +51,8 @@ pub fn split_chain_ends(
     ensures split { IfOk result (λ born. AreChainsSplit ends.old.items ends.new.items born.items) }
     ensures refused { IfErr result (λ e. ends.new.items ≡ ends.old.items) }
 {
-    let mut born = Vec::with_capacity(alloc, chains.len())?;
-    for i in 0..chains.len() {
-        let end = chains[i].split(&mut ends[i]);
-        born.push_reserved(end);
-    }
-    Ok(born)
+    let born = Vec::with_capacity(alloc, chains.len())?;
+    Ok(split_chain_ends_into(chains, ends, born))
 }
 
 /// Joins each of the other ends to the one of the same chain in the list, which then has all that both had. It takes no

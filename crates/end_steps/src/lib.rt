@@ -13,9 +13,9 @@ mod splitting;
 #[cfg(test)]
 mod tests;
 
-pub use chain_splitting::{join_chain_ends, split_chain_ends};
+pub use chain_splitting::{join_chain_ends, split_chain_ends, split_chain_ends_into};
 pub use gate::{Gate, NoGate, Point};
 pub use hearing::{hear, shut_queue};
 pub use poking::{Poked, poke};
 pub use saying::say;
-pub use splitting::{join_ends, split_ends};
+pub use splitting::{join_ends, split_ends, split_ends_into};

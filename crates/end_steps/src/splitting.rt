@@ -1,5 +1,5 @@
 //! A second list of queue ends, for another owner: split off, and joined again.
-ghost use Rattle.std.specs.Prelude.{◌≡◌, ℕ, length, IfOk, IfErr};
+ghost use Rattle.std.specs.Prelude.{◌≡◌, ◌≤◌, ℕ, [], length, vec_capacity, IfOk, IfErr};
 ghost use Rattle.std.specs.List.{All};
 ghost use Rattle.end_steps.specs.EndLists.{AreEndsOf, AreSameEnds, IsDivisible};
 ghost use Rattle.end_steps.specs.Splits.{AreSplit, AreJoined};
@@ -8,11 +8,34 @@ use claim_queue::{ClaimQueue, QueueEnd};
 use quaject_core::OutOfMemory;
 use std::alloc::Global;
 
-/// A new end of each queue, in the order of the queues, split off from the one in the list. `OutOfMemory` comes only
-/// where an allocation was refused, before any end is split; nothing has changed then.
+/// A new end of each queue, in the order of the queues, split off from the one in the list. They go into `born`, which is
+/// empty and has room for them, so it takes no memory.
 ///
 /// Conditions: the ends are those of the queues, in their order, and each has two parts or more of its queue's
 /// 2^64 - 1.
+pub fn split_ends_into<const N: usize>(
+    queues: &[ClaimQueue<N>],
+    ends: &mut Vec<QueueEnd<N>>,
+    born: Vec<QueueEnd<N>>,
+) -> Vec<QueueEnd<N>>
+    requires ends { AreEndsOf queues.now ends.old.items }
+    requires parts { All IsDivisible ends.old.items }
+    requires room { (born.items ≡ []) × (length queues.now ≤ vec_capacity born) }
+    ensures same { AreSameEnds ends.old.items ends.new.items }
+    ensures ends { AreEndsOf queues.now ends.new.items }
+    ensures born { AreEndsOf queues.now result.items }
+    ensures split { AreSplit ends.old.items ends.new.items result.items }
+{
+    let mut born = born;
+    for i in 0..queues.len() {
+        let end = queues[i].split(&mut ends[i]);
+        born.push_reserved(end);
+    }
+    born
+}
+
+/// The same, with a list made for them. `OutOfMemory` comes only where its allocation was refused, before any end is
+/// split; nothing has changed then.
 pub fn split_ends<const N: usize>(
     alloc: Global,
     queues: &[ClaimQueue<N>],
@@ -26,12 +49,8 @@ pub fn split_ends<const N: usize>(
     ensures split { IfOk result (λ born. AreSplit ends.old.items ends.new.items born.items) }
     ensures refused { IfErr result (λ e. ends.new.items ≡ ends.old.items) }
 {
-    let mut born = Vec::with_capacity(alloc, queues.len())?;
-    for i in 0..queues.len() {
-        let end = queues[i].split(&mut ends[i]);
-        born.push_reserved(end);
-    }
-    Ok(born)
+    let born = Vec::with_capacity(alloc, queues.len())?;
+    Ok(split_ends_into(queues, ends, born))
 }
 
 /// Joins each of the other ends to the one of the same queue in the list, which then has all that both had. It takes no

@@ -12,7 +12,7 @@ use Rattle.processor.proofs.Rising.{rises_on}
 abbrev tally_of : List (ℕ × ℕ) → List (ℕ × ℕ) → List (ℕ × List ℕ) → List (ℕ × ℕ) → Tally
 tally_of d s v r = record { done = d; signalled = s; delivered = v; retired = r }
 
-behind_assoc : (a b c : Tally) → behind (behind a b) c ≡ behind a (behind b c)
+pub behind_assoc : (a b c : Tally) → behind (behind a b) c ≡ behind a (behind b c)
 behind_assoc a b c =
     ap (λ z. tally_of z ((a.signalled ++ b.signalled) ++ c.signalled) ((a.delivered ++ b.delivered) ++ c.delivered) ((a.retired ++ b.retired) ++ c.retired)) (append_assoc a.done b.done c.done)
     ∙ ap (λ z. tally_of (a.done ++ (b.done ++ c.done)) z ((a.delivered ++ b.delivered) ++ c.delivered) ((a.retired ++ b.retired) ++ c.retired)) (append_assoc a.signalled b.signalled c.signalled)

@@ -4,3 +4,5 @@ pub mod Rising
 pub mod Fitted
 pub mod Rooming
 pub mod Acting
+pub mod Logging
+pub mod Signals

@@ -9,3 +9,5 @@ pub mod Rooms
 pub mod Turns
 pub mod Fitting
 pub mod Stations
+pub mod Logs
+pub mod Partings

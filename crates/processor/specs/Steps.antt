@@ -1,7 +1,7 @@
 -- What the one try of a step did, by the step and by what came of it.
-use Rattle.std.specs.Prelude.{◌≡◌, ◌<◌, ℕ, Bool, true, false, List, [], ◌∷◌, length, Option, Ok, Err}
+use Rattle.std.specs.Prelude.{◌≡◌, ◌<◌, ◌==◌, ℕ, Bool, true, false, List, [], ◌∷◌, length, Option, Ok, Err}
 use Rattle.boot_script.specs.declared.boot_plan.BootPlan.{BootPlan}
-use Rattle.boot_script.specs.declared.plan.QueueIndex.TheVariants.{Small}
+use Rattle.boot_script.specs.declared.plan.QueueIndex.TheVariants.{Small, Large}
 use Rattle.boot_script.specs.declared.plan.Step.{Step}
 use Rattle.boot_script.specs.declared.plan.Step.TheVariants as steps
 use Rattle.claim_queue.specs.declared.claim.ClaimRefusal.{ClaimRefusal}
@@ -47,6 +47,27 @@ is_shut refusal = false
 abbrev pub is_over : TakeRefusal → Bool
 is_over takes.Closed = true
 is_over refusal = false
+
+-- whether the one try of the step can come to this
+abbrev pub comes_of : Step → Deed → Bool
+comes_of (steps.Say queue text) (deeds.Said woken) = true
+comes_of (steps.Say queue text) deeds.SaidNothing = true
+comes_of (steps.Say queue text) (deeds.NotSaid refusal ticket) = true
+comes_of (steps.Hear queue) (deeds.Heard woken) = true
+comes_of (steps.Hear queue) (deeds.HeardNothing woken) = true
+comes_of (steps.Hear queue) (deeds.NotHeard refusal ticket) = true
+comes_of (steps.Wait wait) deeds.Waits = true
+comes_of (steps.Wake wait) (deeds.Woke woken) = true
+comes_of (steps.Signal thread signal) (deeds.Signalled answer) = true
+comes_of (steps.Stop thread) (deeds.Stopped was_clear) = true
+comes_of (steps.Start thread) (deeds.Started answer) = true
+comes_of (steps.Start thread) (deeds.NotStarted lost) = true
+comes_of (steps.Tick gauge amount) (deeds.Ticked before) = true
+comes_of (steps.Poke mover) (deeds.Poked answer) = true
+comes_of (steps.Poke mover) (deeds.NotPoked refusal) = true
+comes_of steps.Pass deeds.Passed = true
+comes_of (steps.Close queue) (deeds.Shut was_open readers writers) = true
+comes_of step deed = false
 
 -- By the hand: a ticket is read before a try at a pipe, and those who wait there are woken behind a step that is done
 abbrev pub HandDid : ℕ → BootPlan → Step → Deed → View → View → Type 0
@@ -130,6 +151,15 @@ takes_large step deed heard = no_lines
 abbrev pub shuts_by : Step → Deed → ℕ → ℕ
 shuts_by (steps.Close queue) (deeds.Shut was_open readers writers) = number_at queue (once_if was_open)
 shuts_by step deed = never
+
+-- whether it was told that the queue q is shut, among the small queues and among the large
+abbrev pub told_shut_small : Step → Deed → ℕ → Bool
+told_shut_small (steps.Say (Small queue) text) deeds.SaidNothing q = q == queue
+told_shut_small step deed q = false
+
+abbrev pub told_shut_large : Step → Deed → ℕ → Bool
+told_shut_large (steps.Say (Large queue) text) deeds.SaidNothing q = q == queue
+told_shut_large step deed q = false
 
 -- the notes that it chained, and how many it ran
 abbrev pub notes_by : Step → Deed → ℕ → List (List ℕ)

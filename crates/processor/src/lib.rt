@@ -14,6 +14,7 @@ mod programs;
 mod queue_steps;
 mod running;
 mod shared;
+mod splitting;
 mod station;
 mod steps;
 mod thread_steps;

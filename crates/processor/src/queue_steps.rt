@@ -1,5 +1,5 @@
 //! The steps at queues: saying a line, hearing one, and shutting a queue, with those who wait at a pipe.
-ghost use Rattle.std.specs.Prelude.{◌≡◌, ◌<◌, ℕ, List, [], length};
+ghost use Rattle.std.specs.Prelude.{◌≡◌, ◌<◌, ℕ, List, [], length, true};
 ghost use Rattle.claim_queue.specs.declared.ends.QueueEnd.{QueueEnd};
 ghost use Rattle.boot_script.specs.declared.plan.Step.TheVariants as steps;
 ghost use Rattle.end_steps.specs.EndLists.{AreEndsOf, AreSameEnds};
@@ -9,7 +9,7 @@ ghost use Rattle.thread_table.specs.Handles.{view_of, call_of, IsHandOf, IsSameH
 ghost use Rattle.processor.specs.Acts.{Acts};
 ghost use Rattle.processor.specs.Queues.{IsThere};
 ghost use Rattle.processor.specs.Steps.{HandDid, QueuesDid, puts_small, puts_large, takes_small, takes_large};
-ghost use Rattle.processor.specs.Steps.{shuts_by, is_shut, is_over};
+ghost use Rattle.processor.specs.Steps.{shuts_by, is_shut, is_over, comes_of};
 
 use crate::deed::Deed;
 use crate::lines::{hear_at, line_of, say_at};
@@ -53,6 +53,7 @@ pub(crate) fn say_step<R: Wait, G: Gate>(
     requires small { AreEndsOf shared.now.queues.small.items small.old.items }
     requires large { AreEndsOf shared.now.queues.large.items large.old.items }
     requires there { IsThere shared.now.queues queue }
+    ensures comes { comes_of (steps.Say queue text.now) result ≡ true }
     ensures same_hand { IsSameHand hand.old hand.new }
     ensures same_ends { AreSameEnds small.old.items small.new.items × AreSameEnds large.old.items large.new.items }
     ensures small { AreEndsOf shared.now.queues.small.items small.new.items }
@@ -108,6 +109,7 @@ pub(crate) fn hear_step<R: Wait, G: Gate>(
     requires large { AreEndsOf shared.now.queues.large.items large.old.items }
     requires there { IsThere shared.now.queues queue }
     requires empty { heard.old.items ≡ [] }
+    ensures comes { comes_of (steps.Hear queue) result ≡ true }
     ensures same_hand { IsSameHand hand.old hand.new }
     ensures same_ends { AreSameEnds small.old.items small.new.items × AreSameEnds large.old.items large.new.items }
     ensures small { AreEndsOf shared.now.queues.small.items small.new.items }
@@ -148,6 +150,7 @@ pub(crate) fn close_step<R: Wait>(
     requires hand { IsHandOf shared.now.threads hand.old }
     requires small { AreEndsOf shared.now.queues.small.items small.old.items }
     requires there { queue < length shared.now.queues.small.items }
+    ensures comes { comes_of (steps.Close queue) result ≡ true }
     ensures same_hand { IsSameHand hand.old hand.new }
     ensures same_ends { AreSameEnds small.old.items small.new.items }
     ensures small { AreEndsOf shared.now.queues.small.items small.new.items }

@@ -10,7 +10,7 @@ ghost use Rattle.processor.specs.Acts.{NeverFalls};
 ghost use Rattle.processor.specs.Running.{Stepped, EndsDid, step_tally, wait_of, Goes, gone, line_heard, is_heard};
 ghost use Rattle.processor.specs.Running.{heard_in};
 ghost use Rattle.processor.specs.Stations.{ArePartsOf, AreSameParts};
-ghost use Rattle.processor.specs.Steps.{Fits};
+ghost use Rattle.processor.specs.Steps.{Fits, comes_of};
 
 use crate::deed::Deed;
 use crate::shared::Shared;
@@ -67,6 +67,7 @@ pub(crate) fn run_step<R: Wait, G: Gate>(
     ensures free { IsFree p (view_of parts.new.hand) }
     ensures hand { Stepped (call_of parts.old.hand) shared.now.plan p element step.now result.deed result.counted
         (view_of parts.old.hand) (view_of parts.new.hand) }
+    ensures comes { comes_of step.now result.deed ≡ true }
     ensures ends { EndsDid shared.now step.now result.deed heard.new.items parts.old parts.new }
     ensures adds { Adds (step_tally step.now result.deed result.counted element
         (done_at (view_of parts.old.hand).schedule element)) (view_of parts.old.hand) (view_of parts.new.hand) }

@@ -1,5 +1,5 @@
 //! The one try of a step.
-ghost use Rattle.std.specs.Prelude.{◌≡◌, ◌<◌, ℕ, [], length};
+ghost use Rattle.std.specs.Prelude.{◌≡◌, ◌<◌, ℕ, [], length, true};
 ghost use Rattle.boot_script.specs.declared.plan.Step.TheVariants as steps;
 ghost use Rattle.end_steps.specs.EndLists.{AreChainEndsOf, AreSameChainEnds};
 ghost use Rattle.end_steps.specs.Sums.{Worked, ChainsWorked, never};
@@ -10,7 +10,7 @@ ghost use Rattle.processor.specs.Acts.{Acts};
 ghost use Rattle.processor.specs.Stations.{ArePartsOf, AreSameParts};
 ghost use Rattle.processor.specs.Steps.{Fits, HandDid, QueuesDid, ChainsDid, SeatDid};
 ghost use Rattle.processor.specs.Steps.{puts_small, puts_large, takes_small, takes_large, shuts_by, notes_by, runs_by};
-ghost use Rattle.processor.specs.Steps.{raised_by};
+ghost use Rattle.processor.specs.Steps.{comes_of, raised_by};
 
 use crate::deed::Deed;
 use crate::queue_steps::{close_step, hear_step, say_step};
@@ -35,6 +35,7 @@ fn poke_step<R: Wait, G: Gate>(
 ) -> Deed
     requires ends { AreChainEndsOf shared.now.chains.items ends.old.items }
     requires there { mover < length shared.now.chains.items }
+    ensures comes { comes_of (steps.Poke mover) result ≡ true }
     ensures same { AreSameChainEnds ends.old.items ends.new.items }
     ensures ends { AreChainEndsOf shared.now.chains.items ends.new.items }
     ensures chains { ChainsDid shared.now.chains.items (steps.Poke mover) result ends.old.items ends.new.items }
@@ -69,6 +70,7 @@ pub(crate) fn do_step<R: Wait, G: Gate>(
     requires parts { ArePartsOf shared.now parts.old }
     requires fits { Fits shared.now.queues (length shared.now.chains.items) step.now }
     requires empty { heard.old.items ≡ [] }
+    ensures comes { comes_of step.now result ≡ true }
     ensures parts { ArePartsOf shared.now parts.new }
     ensures same { AreSameParts parts.old parts.new }
     ensures hand { HandDid (call_of parts.old.hand) shared.now.plan step.now result (view_of parts.old.hand)

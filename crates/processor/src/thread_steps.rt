@@ -1,11 +1,11 @@
 //! The steps at the thread elements: waking, signalling, stopping and starting.
-ghost use Rattle.std.specs.Prelude.{◌≡◌};
+ghost use Rattle.std.specs.Prelude.{◌≡◌, true};
 ghost use Rattle.boot_script.specs.declared.boot_plan.BootPlan.{BootPlan};
 ghost use Rattle.boot_script.specs.declared.plan.Step.TheVariants as steps;
 ghost use Rattle.hand_steps.specs.Tallies.{no_events};
 ghost use Rattle.thread_table.specs.Handles.{view_of, call_of, IsHandOf, IsSameHand};
 ghost use Rattle.processor.specs.Acts.{Acts};
-ghost use Rattle.processor.specs.Steps.{HandDid, raised_by};
+ghost use Rattle.processor.specs.Steps.{HandDid, comes_of, raised_by};
 
 use crate::deed::Deed;
 use hand_steps::{calls_only_add, start, wake};
@@ -21,6 +21,7 @@ pub(crate) fn wake_step<R: Wait>(
     wait: WaitNumber,
 ) -> Deed
     requires { IsHandOf threads.now hand.old }
+    ensures comes { comes_of (steps.Wake wait) result ≡ true }
     ensures same { IsSameHand hand.old hand.new }
     ensures hand { (plan : BootPlan) → HandDid (call_of hand.old) plan (steps.Wake wait) result (view_of hand.old)
         (view_of hand.new) }
@@ -37,6 +38,7 @@ pub(crate) fn signal_step(
     signal: Signal,
 ) -> Deed
     requires { IsHandOf threads.now hand.old }
+    ensures comes { comes_of (steps.Signal thread signal) result ≡ true }
     ensures same { IsSameHand hand.old hand.new }
     ensures hand { (plan : BootPlan) → HandDid (call_of hand.old) plan (steps.Signal thread signal) result
         (view_of hand.old) (view_of hand.new) }
@@ -49,6 +51,7 @@ pub(crate) fn signal_step(
 // Sets a stop bit.
 pub(crate) fn stop_step(threads: &ThreadTable, hand: &mut Hand, thread: Element) -> Deed
     requires { IsHandOf threads.now hand.old }
+    ensures comes { comes_of (steps.Stop thread) result ≡ true }
     ensures same { IsSameHand hand.old hand.new }
     ensures hand { (plan : BootPlan) → HandDid (call_of hand.old) plan (steps.Stop thread) result (view_of hand.old)
         (view_of hand.new) }
@@ -66,6 +69,7 @@ pub(crate) fn start_step<R: Wait>(
     thread: Element,
 ) -> Deed
     requires { IsHandOf threads.now hand.old }
+    ensures comes { comes_of (steps.Start thread) result ≡ true }
     ensures same { IsSameHand hand.old hand.new }
     ensures hand { (plan : BootPlan) → HandDid (call_of hand.old) plan (steps.Start thread) result (view_of hand.old)
         (view_of hand.new) }

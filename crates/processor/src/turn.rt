@@ -1,10 +1,11 @@
 //! The turns of a processor.
-ghost use Rattle.std.specs.Prelude.{◌≡◌, ◌<◌, ◌+◌, ◌&&◌, ℕ, true, nat_le, length, Some, IfOk, MatchResult};
+ghost use Rattle.std.specs.Prelude.{◌≡◌, ◌<◌, ◌≤◌, ◌+◌, ◌&&◌, ℕ, true, nat_le, length, Some, IfOk, MatchResult};
 ghost use Rattle.hand_steps.specs.Holdings.{IsFree};
 ghost use Rattle.hand_steps.specs.Sendings.{Sent};
 ghost use Rattle.thread_table.specs.Handles.{view_of, call_of};
 ghost use Rattle.thread_table.specs.Rules.{has, done_at};
-ghost use Rattle.processor.specs.Programs.{step_of};
+ghost use Rattle.processor.specs.Logs.{Logged, IsFresh, HasLeft};
+ghost use Rattle.processor.specs.Programs.{program, step_of};
 ghost use Rattle.processor.specs.Rooms.{HasRoom};
 ghost use Rattle.processor.specs.Stations.{ArePartsOf, AreSameParts};
 ghost use Rattle.processor.specs.Turns.{AreAtRest, BegunAt, IdleAt, HadTurn, CameOf, TendedBy, TurnOf, Turns, RanStep};
@@ -54,6 +55,7 @@ fn run_element<R: Wait, G: Gate>(
     ensures free { IsFree p (view_of parts.new.hand) }
     ensures room { HasRoom shared.now.plan parts.new }
     ensures ran { RanStep shared.now p element number result.0 result.1 parts.old parts.new }
+    ensures logged { Logged shared.now.plan parts.old parts.new }
     ensures serves { (view_of parts.new.hand).serves ≡ (view_of parts.old.hand).serves }
     ensures share { (view_of parts.new.hand).member.share ≡ (view_of parts.old.hand).member.share }
 {
@@ -94,6 +96,7 @@ fn begin_turn<R: Wait>(
         (λ idle. IdleAt idle parts.old parts.new) }
     ensures held { IfOk result (λ begun. has (view_of parts.new.hand) begun.element ≡ true) }
     ensures number { IfOk result (λ begun. begun.number ≡ done_at (view_of parts.new.hand).schedule begun.element) }
+    ensures logged { Logged shared.now.plan parts.old parts.new }
     ensures serves { (view_of parts.new.hand).serves ≡ (view_of parts.old.hand).serves }
     ensures share { (view_of parts.new.hand).member.share ≡ (view_of parts.old.hand).member.share }
 {
@@ -115,6 +118,7 @@ fn retire_at<R: Wait>(
     requires held { has (view_of parts.old.hand) element ≡ true }
     requires free { IsFree p (view_of parts.old.hand) }
     requires room { HasRoom shared.now.plan parts.old }
+    requires over { length (program shared.now.plan element) ≤ done_at (view_of parts.old.hand).schedule element }
     ensures parts { ArePartsOf shared.now parts.new }
     ensures same { AreSameParts parts.old parts.new }
     ensures free { IsFree p (view_of parts.new.hand) }
@@ -122,6 +126,7 @@ fn retire_at<R: Wait>(
     ensures sent { Sent (call_of parts.old.hand) 1 element result (view_of parts.old.hand) (view_of parts.new.hand) }
     ensures rest { AreAtRest parts.old parts.new }
     ensures others { (parts.new.meters ≡ parts.old.meters) × (parts.new.signals ≡ parts.old.signals) }
+    ensures logged { Logged shared.now.plan parts.old parts.new }
     ensures serves { (view_of parts.new.hand).serves ≡ (view_of parts.old.hand).serves }
     ensures share { (view_of parts.new.hand).member.share ≡ (view_of parts.old.hand).member.share }
 {
@@ -149,6 +154,7 @@ fn take_turn<R: Wait, G: Gate>(
     ensures free { IsFree p (view_of parts.new.hand) }
     ensures room { HasRoom shared.now.plan parts.new }
     ensures had { HadTurn shared.now p element number result parts.old parts.new }
+    ensures logged { Logged shared.now.plan parts.old parts.new }
     ensures serves { (view_of parts.new.hand).serves ≡ (view_of parts.old.hand).serves }
     ensures share { (view_of parts.new.hand).member.share ≡ (view_of parts.old.hand).member.share }
 {
@@ -179,6 +185,7 @@ fn dispatch<R: Wait, G: Gate>(
     ensures free { IsFree p (view_of parts.new.hand) }
     ensures room { HasRoom shared.now.plan parts.new }
     ensures came { CameOf shared.now p result parts.old parts.new }
+    ensures logged { Logged shared.now.plan parts.old parts.new }
     ensures serves { (view_of parts.new.hand).serves ≡ (view_of parts.old.hand).serves }
     ensures share { (view_of parts.new.hand).member.share ≡ (view_of parts.old.hand).member.share }
 {
@@ -201,6 +208,7 @@ fn tend(shared: &Shared, parts: &mut Parts, p: Processor) -> Option<Tended>
     ensures free { IsFree p (view_of parts.new.hand) }
     ensures room { HasRoom shared.now.plan parts.new }
     ensures tended { TendedBy p result parts.old parts.new }
+    ensures logged { Logged shared.now.plan parts.old parts.new }
     ensures serves { (view_of parts.new.hand).serves ≡ (view_of parts.old.hand).serves }
     ensures share { (view_of parts.new.hand).member.share ≡ (view_of parts.old.hand).member.share }
 {
@@ -227,6 +235,7 @@ fn turn<R: Wait, G: Gate>(
     ensures free { IsFree p (view_of parts.new.hand) }
     ensures room { HasRoom shared.now.plan parts.new }
     ensures turn { TurnOf shared.now p result parts.old parts.new }
+    ensures logged { Logged shared.now.plan parts.old parts.new }
     ensures serves { (view_of parts.new.hand).serves ≡ (view_of parts.old.hand).serves }
     ensures share { (view_of parts.new.hand).member.share ≡ (view_of parts.old.hand).member.share }
 {
@@ -256,6 +265,8 @@ pub fn run<R: Wait, G: Gate>(
     ensures free { IsFree p (view_of result.parts.hand) }
     ensures room { HasRoom shared.now.plan result.parts }
     ensures turns { Turns shared.now p station.parts result.parts turns }
+    ensures logged { Logged shared.now.plan station.parts result.parts }
+    ensures leaves { IsFresh station.parts → HasLeft shared.now.plan result.parts }
     ensures serves { (view_of result.parts.hand).serves ≡ (view_of station.parts.hand).serves }
     ensures share { (view_of result.parts.hand).member.share ≡ (view_of station.parts.hand).member.share }
 {

@@ -1,9 +1,14 @@
 use Rattle.std.proofs.Common.{refl}
 use Rattle.thread_table.specs.Handles.{view_of}
 use Rattle.processor.proofs.Rising.{began_or_idle}
+use Rattle.processor.proofs.Logging.{begun_logged}
 use Rattle.processor.proofs.Rooming.{room_kept}
 use Rattle.processor.proofs.turn.begin_turn.Goals as goal
 
 pub returns-clause-room : goal.returns-clause-room
 returns-clause-room g c = room_kept c.args.shared.now.plan c.args.parts.now _ c.requires.room refl
     (began_or_idle _ (view_of c.args.parts.now.hand) (view_of c.begin-begun.new.hand) c.begin-begun.result c.begin-begun.ensures.begun)
+
+pub returns-clause-logged : goal.returns-clause-logged
+returns-clause-logged g c = begun_logged c.args.shared.now.plan c.begin-begun.result c.args.parts.now _ c.begin-begun.ensures.adds
+    (record { small = refl; large = refl; chains = refl; heard = refl }) refl c.begin-begun.ensures.signals

@@ -1,7 +1,8 @@
-use Rattle.std.proofs.Common.{ℕ, sym, ◌∙◌, subst, add-one}
+use Rattle.std.proofs.Common.{ℕ, refl, sym, ◌∙◌, subst, add-one}
 use Rattle.processor.specs.declared.station.Parts.{Parts}
 use Rattle.processor.specs.Stations.{AreSameParts}
 use Rattle.processor.specs.Turns.{Turns}
+use Rattle.processor.proofs.Logging.{logged_on, idle_logged, leaves}
 use Rattle.processor.proofs.turn.run.Goals as goal
 
 same_on : (u v w : Parts) → AreSameParts u v → AreSameParts v w → AreSameParts u w
@@ -26,4 +27,27 @@ loop-number-preserved g c =
           (c.loop-number.parts, c.turn.result, i.4, e.turn),
       e.serves ∙ i.5,
       e.share ∙ i.6,
+      logged_on c.args.shared.now.plan c.args.station.parts c.loop-number.parts c.turn.new.parts i.7 e.logged,
     )
+
+pub loop-number-init : goal.loop-number-init
+loop-number-init g c = (
+  c.requires.station,
+  record {
+    hand = (refl, refl);
+    small = record { tables = refl; calls = refl };
+    large = record { tables = refl; calls = refl };
+    chains = record { tables = refl; calls = refl };
+    meters = (refl, refl);
+  },
+  c.requires.free,
+  c.requires.room,
+  refl,
+  refl,
+  refl,
+  idle_logged c.args.shared.now.plan c.args.station.parts,
+)
+
+pub returns-clause-leaves : goal.returns-clause-leaves
+returns-clause-leaves g c fresh = let l = c.loop-number.invariant.7 in
+    record { log = l.log; its = leaves c.args.shared.now.plan l.log c.args.station.parts c.loop-number.parts fresh l.its }

@@ -1,10 +1,19 @@
-use Rattle.std.proofs.Common.{◌≡◌, ◌<◌, ◌≤◌, ℕ, List, ◌++◌, map, vec_len, vec_capacity, sym, ap, ◌∙◌, subst, arith}
+use Rattle.std.proofs.Common.{◌≡◌, ◌<◌, ◌≤◌, ℕ, List, [], ◌∷◌, refl, rules, length, ◌++◌, map, vec_len, vec_capacity, sym, ap, ◌∙◌, subst, arith}
 use Rattle.std.proofs.lemmas.List.{length-map}
 use Rattle.std.specs.List.{AllByRecursion}
 use Rattle.thread_table.specs.Handles.{view_of}
 use Rattle.processor.specs.Programs.{Key, AreHears, hear_count}
 use Rattle.processor.specs.Rooms.{key_of, IsPast}
 use Rattle.processor.proofs.Rooming.{key_in, hears_more, past_more, room_left, keys_more}
+use Rattle.hand_steps.specs.Tallies.{Adds}
+use Rattle.thread_table.specs.Rules.{done_at}
+use Rattle.processor.specs.declared.station.Parts.{Parts}
+use Rattle.processor.specs.Deeds.{is_done}
+use Rattle.processor.specs.Programs.{program}
+use Rattle.processor.specs.Turns.{is_last}
+use Rattle.processor.specs.Logs.Entry.{Tried}
+use Rattle.processor.specs.Running.{line_heard, heard_in, step_tally}
+use Rattle.processor.proofs.Logging.{logged_on, tried_logged, moved_logged, over_so}
 use Rattle.processor.proofs.turn.run_element.Goals as goal
 
 pub keep-requires-clause-room : goal.keep-requires-clause-room
@@ -47,3 +56,27 @@ returns-clause-room g c =
       hears = subst (AreHears plan) (sym are) more;
       past = subst (AllByRecursion (IsPast w)) (sym are) past;
     }
+
+pub returns-clause-logged : goal.returns-clause-logged
+returns-clause-logged g c =
+    let plan = c.args.shared.now.plan in
+    let e = c.args.element in
+    let n = c.args.number in
+    let old = c.args.parts.now in
+    let tried = c.run_step-tried.result in
+    let r = c.run_step-tried.ensures in
+    let mid : Parts = record c.run_step-tried.new.parts { heard = c.keep.new.lines } in
+    let text = c.run_step-tried.new.heard.items in
+    let lines = c.keep.ensures.lines ∙ ap (λ z. map line_heard z.items ++ heard_in tried.deed e n text) r.heard in
+    let last : c.is_last-last.result ≡ is_last (is_done tried.deed) n (length (program plan e)) = search rules in
+    logged_on plan old mid _
+    (record {
+      log = Tried e n c.args.step.now tried.deed tried.counted text ∷ [];
+      its = tried_logged plan c.args.shared.now _ _ e n c.args.step.now tried.deed tried.counted text old mid c.requires.its r.comes r.hand r.number c.requires.known c.requires.low
+          (subst (λ z. Adds (step_tally c.args.step.now tried.deed tried.counted e z) (view_of old.hand) (view_of mid.hand)) (sym c.requires.known) r.adds)
+          (record { queues = r.ends.queues; chains = r.ends.chains; seat = r.ends.seat; small_lines = r.ends.small_lines; large_lines = r.ends.large_lines; notes = r.ends.notes })
+          lines r.signals;
+    })
+    (moved_logged plan _ c.args.step.now tried.deed _ e (done_at (view_of mid.hand).schedule e) c.send_on-moved.result mid _ c.send_on-moved.ensures.goes
+    (λ k. over_so plan _ e n _ tried.counted r.hand.did r.hand.after _ (view_of mid.hand) r.hand.counts r.number c.requires.known c.requires.low (sym last ∙ k))
+    c.send_on-moved.ensures.adds (record { small = refl; large = refl; chains = refl; heard = refl }) refl refl)

@@ -2,7 +2,7 @@ use Rattle.std.proofs.Common.{◌≡◌, ◌≤◌, map, take, length, vec_len, 
 use Rattle.end_steps.specs.EndLists.{queue_table, end_table, AreSameEnds}
 use Rattle.end_steps.specs.Splits.{IsSplit}
 use Rattle.end_steps.proofs.Walking.{AsFar}
-use Rattle.end_steps.proofs.splitting.split_ends.Given as goal
+use Rattle.end_steps.proofs.splitting.split_ends_into.Given as goal
 
 abbrev pub invariant-loop-i : goal.invariant-loop-i
 invariant-loop-i g l = record {

@@ -3,7 +3,7 @@ use Rattle.std.specs.List.{All}
 use Rattle.end_steps.specs.EndLists.{chain_table, chain_end_table, IsIdle, AreSameChainEnds, AreChainEndsOf}
 use Rattle.end_steps.specs.Splits.{IsChainSplit}
 use Rattle.end_steps.proofs.Walking.{AsFar}
-use Rattle.end_steps.proofs.chain_splitting.split_chain_ends.Given as goal
+use Rattle.end_steps.proofs.chain_splitting.split_chain_ends_into.Given as goal
 
 abbrev pub invariant-loop-i : goal.invariant-loop-i
 invariant-loop-i l = record {

@@ -6,7 +6,7 @@ use Rattle.end_steps.proofs.Parting.{are_split}
 use Rattle.end_steps.proofs.Places.{as_long}
 use Rattle.end_steps.proofs.Using.{its_end, in_ends, ends_same}
 use Rattle.end_steps.proofs.Walking.{AsFar, walk_on, walked, next_holds, same_on, tables_more}
-use Rattle.end_steps.proofs.splitting.split_ends.Goals as goal
+use Rattle.end_steps.proofs.splitting.split_ends_into.Goals as goal
 
 pub split-end-requires : goal.split-end-requires
 split-end-requires g c = let v = c.loop-i.invariant in let fit = v.same.tables ∙ c.requires.ends in let below = in_ends c.args.queues.now c.loop-i.ends.items c.loop-i.i fit c.loop-i-test.true in (

@@ -7,7 +7,7 @@ use Rattle.end_steps.proofs.ChainParting.{rests, are_chains_split}
 use Rattle.end_steps.proofs.Chains.{its_end, in_ends, is_idle, ends_same, ends_fit}
 use Rattle.end_steps.proofs.Places.{as_long}
 use Rattle.end_steps.proofs.Walking.{AsFar, walk_on, walked, next_holds, same_on, tables_more}
-use Rattle.end_steps.proofs.chain_splitting.split_chain_ends.Goals as goal
+use Rattle.end_steps.proofs.chain_splitting.split_chain_ends_into.Goals as goal
 
 pub split-end-requires-clause-ends : goal.split-end-requires-clause-ends
 split-end-requires-clause-ends c =

@@ -1,0 +1,219 @@
+-- What a processor did, in its order, and what that comes to.
+use Rattle.std.specs.Prelude.{◌≡◌, ◌≤◌, ◌<◌, ◌+◌, ℕ, Bool, true, false, List, [], ◌∷◌, ◌++◌, flat_map, Some, Result, slice_index_or, length}
+use Rattle.std.specs.List.{AllByRecursion, sum_by, list_any}
+use Rattle.boot_script.specs.declared.boot_plan.BootPlan.{BootPlan}
+use Rattle.boot_script.specs.declared.plan.Step.{Step}
+use Rattle.end_steps.specs.EndLists.{lines_put_at, lines_taken_at, shuts_at, knows_shut_at, notes_put_at, notes_taken_at}
+use Rattle.end_steps.specs.Sums.{Worked, ChainsWorked, never}
+use Rattle.hand_steps.specs.declared.counting.Counted.{Counted}
+use Rattle.hand_steps.specs.declared.counting.Counted.TheVariants as counted
+use Rattle.hand_steps.specs.Holdings.{Shows}
+use Rattle.hand_steps.specs.Tallies.{Tally, tally, behind, no_events, one_delivery, one_retired, signals_for, Adds}
+use Rattle.hand_steps.specs.Tallies.{is_delivered}
+use Rattle.hand_steps.specs.Tendings.{tick_to}
+use Rattle.meters.specs.declared.gauges.AdvanceRefusal.{AdvanceRefusal}
+use Rattle.meters.specs.declared.rule.Tick.{Tick}
+use Rattle.meters.specs.declared.rule.View.{View as SeatView}
+use Rattle.meters.specs.Handles as meters
+use Rattle.meters.specs.Own.{Own, own_of, nothing_own}
+use Rattle.quaject_core.specs.declared.alarm.Alarm.{Alarm}
+use Rattle.thread_table.specs.Answers.{is_in}
+use Rattle.thread_table.specs.Handles.{view_of}
+use Rattle.processor.specs.declared.deed.Deed.{Deed}
+use Rattle.processor.specs.declared.station.Parts.{Parts}
+use Rattle.processor.specs.Deeds.{is_done}
+use Rattle.processor.specs.Programs.{program, step_of}
+use Rattle.processor.specs.Running.{Line, step_tally, heard_in}
+use Rattle.processor.specs.Steps.{puts_small, puts_large, takes_small, takes_large, shuts_by, notes_by, runs_by, ticks_by}
+use Rattle.processor.specs.Steps.{comes_of, told_shut_small, told_shut_large}
+use Rattle.processor.specs.Stations.{IsUnused}
+use Rattle.processor.specs.Turns.{heard_lines}
+
+-- One thing that a processor did: it tended the alarms, and these fired; it delivered these signals to an element; it
+-- tried the step of a thread with this number, with what came of it and the line that it heard; it put an element that
+-- had done so many steps behind the free ones
+pub data Entry : Type 0 where
+  Tended : Result ℕ AdvanceRefusal → List Alarm → Entry
+  Delivered : ℕ → ℕ → Entry
+  Tried : ℕ → ℕ → Step → Deed → Counted → List ℕ → Entry
+  Retired : ℕ → ℕ → Entry
+
+-- a step is counted by its number where it is done, and else it isn't
+abbrev pub count_of : Bool → ℕ → Counted
+count_of true number = counted.Done (number + 1)
+count_of false number = counted.Undone
+
+-- A step that was tried is the plan's step of this thread and number, came to what such a step can, and was counted where
+-- it is done; an element that was put behind the free ones had done all its steps
+abbrev pub IsPlanned : BootPlan → Entry → Type 0
+IsPlanned plan (Tried element number step deed count heard) =
+    (step_of plan element number ≡ Some step) × (comes_of step deed ≡ true) × (count ≡ count_of (is_done deed) number)
+IsPlanned plan (Retired element number) = length (program plan element) ≤ number
+IsPlanned plan entry = Unit {0}
+
+-- what an entry lists in the hand
+abbrev pub tally_by : Entry → Tally
+tally_by (Tended advanced alarms) = signals_for alarms
+tally_by (Delivered element mask) = one_delivery element mask
+tally_by (Tried element number step deed count heard) = step_tally step deed count element number
+tally_by (Retired element number) = one_retired element number
+
+-- the lines that it put in the queue q and took from it, among the small queues
+abbrev pub small_put_by : ℕ → Entry → List (List ℕ)
+small_put_by q (Tried element number step deed count heard) = puts_small step deed q
+small_put_by q entry = []
+
+abbrev pub small_taken_by : ℕ → Entry → List (List ℕ)
+small_taken_by q (Tried element number step deed count heard) = takes_small step deed heard q
+small_taken_by q entry = []
+
+-- and among the large
+abbrev pub large_put_by : ℕ → Entry → List (List ℕ)
+large_put_by q (Tried element number step deed count heard) = puts_large step deed q
+large_put_by q entry = []
+
+abbrev pub large_taken_by : ℕ → Entry → List (List ℕ)
+large_taken_by q (Tried element number step deed count heard) = takes_large step deed heard q
+large_taken_by q entry = []
+
+-- how often it shut the small queue q
+abbrev pub shut_by : ℕ → Entry → ℕ
+shut_by q (Tried element number step deed count heard) = shuts_by step deed q
+shut_by q entry = 0
+
+-- whether it was told, by a say, that the queue q is shut, among the small queues and among the large
+abbrev pub small_shut_told : ℕ → Entry → Bool
+small_shut_told q (Tried element number step deed count heard) = told_shut_small step deed q
+small_shut_told q entry = false
+
+abbrev pub large_shut_told : ℕ → Entry → Bool
+large_shut_told q (Tried element number step deed count heard) = told_shut_large step deed q
+large_shut_told q entry = false
+
+-- the notes that it chained at the chain q, and how many it ran there
+abbrev pub chained_by : ℕ → Entry → List (List ℕ)
+chained_by q (Tried element number step deed count heard) = notes_by step deed q
+chained_by q entry = []
+
+abbrev pub ran_by : ℕ → Entry → ℕ
+ran_by q (Tried element number step deed count heard) = runs_by step deed q
+ran_by q entry = 0
+
+-- the tick that it made, the tick that it moved the clock on to, and the alarms that fired
+abbrev pub ticked_by : Entry → List Tick
+ticked_by (Tried element number step deed count heard) = ticks_by step deed
+ticked_by entry = []
+
+abbrev pub clock_by : Entry → List ℕ
+clock_by (Tended advanced alarms) = tick_to advanced
+clock_by entry = []
+
+abbrev pub fired_by : Entry → List Alarm
+fired_by (Tended advanced alarms) = alarms
+fired_by entry = []
+
+-- the line that it heard
+abbrev pub heard_by : Entry → List Line
+heard_by (Tried element number step deed count heard) = heard_in deed element number heard
+heard_by entry = []
+
+-- what a log comes to: the sum of its entries, in their order
+abbrev pub tally_of : List Entry → Tally
+tally_of [] = no_events
+tally_of (entry ∷ log) = behind (tally_by entry) (tally_of log)
+
+abbrev pub small_put : List Entry → ℕ → List (List ℕ)
+small_put log q = flat_map (small_put_by q) log
+
+abbrev pub small_taken : List Entry → ℕ → List (List ℕ)
+small_taken log q = flat_map (small_taken_by q) log
+
+abbrev pub large_put : List Entry → ℕ → List (List ℕ)
+large_put log q = flat_map (large_put_by q) log
+
+abbrev pub large_taken : List Entry → ℕ → List (List ℕ)
+large_taken log q = flat_map (large_taken_by q) log
+
+abbrev pub times_shut : List Entry → ℕ → ℕ
+times_shut log q = sum_by (shut_by q) log
+
+-- whether a say of the log was told that the queue q is shut
+abbrev pub small_was_shut : List Entry → ℕ → Bool
+small_was_shut log q = list_any (small_shut_told q) log
+
+abbrev pub large_was_shut : List Entry → ℕ → Bool
+large_was_shut log q = list_any (large_shut_told q) log
+
+abbrev pub chained : List Entry → ℕ → List (List ℕ)
+chained log q = flat_map (chained_by q) log
+
+abbrev pub notes_ran : List Entry → ℕ → ℕ
+notes_ran log q = sum_by (ran_by q) log
+
+abbrev pub seat_after : List Entry → SeatView → Own
+seat_after log v = record (own_of v) {
+  ticks = v.ticks ++ flat_map ticked_by log;
+  advances = v.advances ++ flat_map clock_by log;
+  fired = v.fired ++ flat_map fired_by log;
+}
+
+-- what a seat with this share has of its own that did this and nothing else
+abbrev pub seat_of : List Entry → ℕ → Own
+seat_of log share = record nothing_own {
+  ticks = flat_map ticked_by log;
+  advances = flat_map clock_by log;
+  fired = flat_map fired_by log;
+  share = share;
+}
+
+-- what came of a processor's work: its ends did what the log says, each by itself, in its order, and nothing else
+pub record Logs (plan : BootPlan) (log : List Entry) (old new : Parts) : Type 0 where
+  pub planned : AllByRecursion (IsPlanned plan) log
+  pub hand : Adds (tally_of log) (view_of old.hand) (view_of new.hand)
+  pub small : Worked (small_put log) (small_taken log) (times_shut log) old.small.items new.small.items
+  pub large : Worked (large_put log) (large_taken log) never old.large.items new.large.items
+  pub small_shut : (q : ℕ) → small_was_shut log q ≡ true → knows_shut_at new.small.items q ≡ true
+  pub large_shut : (q : ℕ) → large_was_shut log q ≡ true → knows_shut_at new.large.items q ≡ true
+  pub chains : ChainsWorked (chained log) (notes_ran log) old.chains.items new.chains.items
+  pub meters : own_of (meters.view_of new.meters) ≡ seat_after log (meters.view_of old.meters)
+  pub heard : heard_lines new ≡ heard_lines old ++ flat_map heard_by log
+  pub signals : Shows (tally_of log).delivered old.signals new.signals
+
+pub record Logged (plan : BootPlan) (old new : Parts) : Type 0 where
+  pub log : List Entry
+  pub its : Logs plan log old new
+
+-- the ends of the station have done nothing
+pub record IsFresh (parts : Parts) : Type 0 where
+  pub hand : tally (view_of parts.hand).made ≡ no_events
+  pub small : (q : ℕ) → (lines_put_at parts.small.items q ≡ []) × (lines_taken_at parts.small.items q ≡ [])
+      × (shuts_at parts.small.items q ≡ 0)
+  pub large : (q : ℕ) → (lines_put_at parts.large.items q ≡ []) × (lines_taken_at parts.large.items q ≡ [])
+      × (shuts_at parts.large.items q ≡ 0)
+  pub chains : (q : ℕ) → (notes_put_at parts.chains.items q ≡ []) × (notes_taken_at parts.chains.items q ≡ [])
+  pub meters : own_of (meters.view_of parts.meters)
+      ≡ record nothing_own { share = (meters.view_of parts.meters).member.share }
+  pub unused : IsUnused parts
+
+-- What is left of a processor's work on a station that was fresh: all that its ends did is what the log says
+pub record Leaves (plan : BootPlan) (log : List Entry) (parts : Parts) : Type 0 where
+  pub planned : AllByRecursion (IsPlanned plan) log
+  pub hand : tally (view_of parts.hand).made ≡ tally_of log
+  pub small_puts : (q : ℕ) → lines_put_at parts.small.items q ≡ small_put log q
+  pub small_takes : (q : ℕ) → lines_taken_at parts.small.items q ≡ small_taken log q
+  pub small_shuts : (q : ℕ) → shuts_at parts.small.items q ≡ times_shut log q
+  pub large_puts : (q : ℕ) → lines_put_at parts.large.items q ≡ large_put log q
+  pub large_takes : (q : ℕ) → lines_taken_at parts.large.items q ≡ large_taken log q
+  pub large_shuts : (q : ℕ) → shuts_at parts.large.items q ≡ 0
+  pub small_shut : (q : ℕ) → small_was_shut log q ≡ true → knows_shut_at parts.small.items q ≡ true
+  pub large_shut : (q : ℕ) → large_was_shut log q ≡ true → knows_shut_at parts.large.items q ≡ true
+  pub notes : (q : ℕ) → notes_put_at parts.chains.items q ≡ chained log q
+  pub ran : (q : ℕ) → length (notes_taken_at parts.chains.items q) ≡ notes_ran log q
+  pub meters : own_of (meters.view_of parts.meters) ≡ seat_of log (meters.view_of parts.meters).member.share
+  pub heard : heard_lines parts ≡ flat_map heard_by log
+  pub shown : (element signal : ℕ) → element < 64 → signal < 16
+      → is_in (slice_index_or parts.signals element 0) signal ≡ is_delivered (tally_of log).delivered element signal
+
+pub record HasLeft (plan : BootPlan) (parts : Parts) : Type 0 where
+  pub log : List Entry
+  pub its : Leaves plan log parts

@@ -1,0 +1,63 @@
+-- What splitting a station and joining two leave.
+use Rattle.std.specs.Prelude.{◌≡◌, ◌≤◌, ◌<◌, ◌||◌, ℕ, List, [], length, slice_index_or, vec_capacity}
+use Rattle.std.specs.List.{All}
+use Rattle.end_steps.specs.EndLists.{IsDivisible, IsChainDivisible}
+use Rattle.end_steps.specs.Splits as splits
+use Rattle.meters.specs.Handles as seats
+use Rattle.meters.specs.Endings as seat_ends
+use Rattle.meters.specs.Own.{DidSplit, DidBoth}
+use Rattle.thread_table.specs.Answers.{is_in}
+use Rattle.thread_table.specs.Handles as threads
+use Rattle.thread_table.specs.Endings as hands
+use Rattle.processor.specs.declared.shared.Shared.{Shared}
+use Rattle.processor.specs.declared.splitting.Lists.{Lists}
+use Rattle.processor.specs.declared.station.Parts.{Parts}
+use Rattle.processor.specs.Programs.{hear_count}
+
+-- each end has two parts or more of its object
+pub record AreDivisible (parts : Parts) : Type 0 where
+  pub hand : threads.IsDivisible parts.hand
+  pub small : All IsDivisible parts.small.items
+  pub large : All IsDivisible parts.large.items
+  pub chains : All IsChainDivisible parts.chains.items
+  pub meters : seats.IsDivisible parts.meters
+
+-- the lists are empty, and have room for an end of each object and for each line that can be heard
+pub record HaveRoom (shared : Shared) (lists : Lists) : Type 0 where
+  pub small : (lists.small.items ≡ []) × (length shared.queues.small.items ≤ vec_capacity lists.small)
+  pub large : (lists.large.items ≡ []) × (length shared.queues.large.items ≤ vec_capacity lists.large)
+  pub chains : (lists.chains.items ≡ []) × (length shared.chains.items ≤ vec_capacity lists.chains)
+  pub heard : (lists.heard.items ≡ []) × (hear_count shared.plan ≤ vec_capacity lists.heard)
+
+-- Each end gave a part to a new one, and the hand the processors of the mask. What was heard and signalled is as it was
+pub record AreSplit (processors : ℕ) (old new born : Parts) : Type 0 where
+  pub hand : hands.Divided processors (threads.view_of old.hand) (threads.view_of new.hand)
+  pub born_hand : hands.IsNewborn processors (threads.view_of old.hand) (threads.view_of new.hand)
+      (threads.view_of born.hand)
+  pub small : splits.AreSplit old.small.items new.small.items born.small.items
+  pub large : splits.AreSplit old.large.items new.large.items born.large.items
+  pub chains : splits.AreChainsSplit old.chains.items new.chains.items born.chains.items
+  pub meters : seat_ends.Divided (seats.view_of old.meters) (seats.view_of new.meters)
+  pub born_meters : seat_ends.IsNewborn (seats.view_of old.meters) (seats.view_of new.meters)
+      (seats.view_of born.meters)
+  pub own : DidSplit (seats.view_of old.meters) (seats.view_of new.meters)
+  pub heard : new.heard ≡ old.heard
+  pub signals : new.signals ≡ old.signals
+
+-- the masks of the elements have the signals of both
+abbrev pub HaveBoth : List ℕ → List ℕ → List ℕ → Type 0
+HaveBoth a b both = (element signal : ℕ) → element < 64 → signal < 16
+    → is_in (slice_index_or both element 0) signal
+    ≡ (is_in (slice_index_or a element 0) signal || is_in (slice_index_or b element 0) signal)
+
+-- Each end took in the other's at its place, and has what both had; the signals are those of both. What was heard is as
+-- it was
+pub record AreJoined (old other new : Parts) : Type 0 where
+  pub hand : hands.TookIn (threads.view_of old.hand) (threads.view_of other.hand) (threads.view_of new.hand)
+  pub small : splits.AreJoined old.small.items other.small.items new.small.items
+  pub large : splits.AreJoined old.large.items other.large.items new.large.items
+  pub chains : splits.AreChainsJoined old.chains.items other.chains.items new.chains.items
+  pub meters : seat_ends.TookIn (seats.view_of old.meters) (seats.view_of other.meters) (seats.view_of new.meters)
+  pub own : DidBoth (seats.view_of old.meters) (seats.view_of other.meters) (seats.view_of new.meters)
+  pub heard : new.heard ≡ old.heard
+  pub signals : HaveBoth old.signals other.signals new.signals

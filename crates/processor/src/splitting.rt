@@ -1,0 +1,146 @@
+//! A second station, for another processor: split off, and joined again.
+ghost use Rattle.std.specs.Prelude.{◌≡◌, ◌<◌, ℕ, true, IfOk, IfErr};
+ghost use Rattle.hand_steps.specs.Holdings.{IsFree};
+ghost use Rattle.thread_table.specs.Answers.{is_in};
+ghost use Rattle.thread_table.specs.Handles.{view_of};
+ghost use Rattle.processor.specs.Logs.{IsFresh};
+ghost use Rattle.processor.specs.Partings.{AreDivisible, HaveRoom, HaveBoth, AreSplit, AreJoined};
+ghost use Rattle.processor.specs.Rooms.{HasRoom};
+ghost use Rattle.processor.specs.Stations.{ArePartsOf, AreSameParts};
+
+use crate::programs::hears_of;
+use crate::shared::Shared;
+use crate::station::{Heard, Parts, Station};
+use claim_queue::QueueEnd;
+use end_steps::{join_chain_ends, join_ends, split_chain_ends_into, split_ends_into};
+use proc_chain::ChainEnd;
+use quaject_core::OutOfMemory;
+use quajects::AnyQuaject;
+use std::alloc::Global;
+
+// The lists of a station, with room for all that goes in.
+struct Lists {
+    small: Vec<QueueEnd<64>>,
+    large: Vec<QueueEnd<256>>,
+    chains: Vec<ChainEnd<AnyQuaject>>,
+    heard: Vec<Heard>,
+}
+
+// Empty lists with room for a station's ends and its heard lines.
+fn lists_for(alloc: Global, shared: &Shared) -> Result<Lists, OutOfMemory>
+    ensures { IfOk result (HaveRoom shared.now) }
+{
+    let small = Vec::with_capacity(alloc, shared.queues.small.len())?;
+    let large = Vec::with_capacity(alloc, shared.queues.large.len())?;
+    let chains = Vec::with_capacity(alloc, shared.chains.len())?;
+    let heard = Vec::with_capacity(alloc, hears_of(&shared.plan))?;
+    Ok(Lists {
+        small,
+        large,
+        chains,
+        heard,
+    })
+}
+
+// A part of each end, into lists with room for them.
+fn split_parts(shared: &Shared, parts: &mut Parts, processors: u8, lists: Lists) -> Parts
+    requires parts { ArePartsOf shared.now parts.old }
+    requires divisible { AreDivisible parts.old }
+    requires free { (p : ℕ) → p < 8 → is_in processors p ≡ true → IsFree p (view_of parts.old.hand) }
+    requires room { HaveRoom shared.now lists }
+    ensures same { AreSameParts parts.old parts.new }
+    ensures parts { ArePartsOf shared.now parts.new }
+    ensures born { ArePartsOf shared.now result }
+    ensures split { AreSplit processors parts.old parts.new result }
+    ensures room { HasRoom shared.now.plan result }
+    ensures fresh { IsFresh result }
+{
+    let Lists {
+        small,
+        large,
+        chains,
+        heard,
+    } = lists;
+    Parts {
+        hand: shared.threads.split(&mut parts.hand, processors),
+        small: split_ends_into(shared.queues.small.as_slice(), &mut parts.small, small),
+        large: split_ends_into(shared.queues.large.as_slice(), &mut parts.large, large),
+        chains: split_chain_ends_into(shared.chains.as_slice(), &mut parts.chains, chains),
+        meters: shared.meters.split(&mut parts.meters),
+        heard,
+        signals: [0; 64],
+    }
+}
+
+// The signals of both.
+fn joined(a: &[u16; 64], b: &[u16; 64]) -> [u16; 64]
+    ensures { HaveBoth a.now b.now result }
+{
+    let mut all = *a;
+    for e in 0..64 {
+        all[e] |= b[e];
+    }
+    all
+}
+
+impl Station {
+    /// A station for other processors: its hand serves those of the mask (bit p for processor p), and it has an end of
+    /// each queue and chain and a seat of the meters, all split off from this station's. It has heard nothing and was
+    /// signalled nothing, and has room for as many heard lines as the plan has hear steps. `OutOfMemory` comes only
+    /// where an allocation was refused; nothing has changed then.
+    ///
+    /// Conditions: the station is one of `shared`, each of its ends has two parts or more of the 2^64 - 1 of its object,
+    /// and its hand serves the processors of the mask, on which nothing stands.
+    pub fn split(
+        &mut self,
+        alloc: Global,
+        shared: &Shared,
+        processors: u8,
+    ) -> Result<Station, OutOfMemory>
+        requires parts { ArePartsOf shared.now self.old.parts }
+        requires divisible { AreDivisible self.old.parts }
+        requires free { (p : ℕ) → p < 8 → is_in processors p ≡ true → IsFree p (view_of self.old.parts.hand) }
+        ensures same { AreSameParts self.old.parts self.new.parts }
+        ensures parts { ArePartsOf shared.now self.new.parts }
+        ensures born { IfOk result (λ s. ArePartsOf shared.now s.parts) }
+        ensures split { IfOk result (λ s. AreSplit processors self.old.parts self.new.parts s.parts) }
+        ensures room { IfOk result (λ s. HasRoom shared.now.plan s.parts) }
+        ensures fresh { IfOk result (λ s. IsFresh s.parts) }
+        ensures refused { IfErr result (λ e. self.new ≡ self.old) }
+    {
+        let lists = lists_for(alloc, shared)?;
+        let parts = split_parts(shared, &mut self.parts, processors, lists);
+        Ok(Station { parts })
+    }
+
+    /// Joins the ends of the other station to this one's, which then have all that both had, and its signals. The lines
+    /// that the other heard come back. It takes no memory.
+    ///
+    /// Condition: both stations are of `shared`.
+    pub fn join(&mut self, shared: &Shared, other: Station) -> Vec<Heard>
+        requires parts { ArePartsOf shared.now self.old.parts }
+        requires other { ArePartsOf shared.now other.parts }
+        ensures same { AreSameParts self.old.parts self.new.parts }
+        ensures parts { ArePartsOf shared.now self.new.parts }
+        ensures joined { AreJoined self.old.parts other.parts self.new.parts }
+        ensures heard { result ≡ other.parts.heard }
+    {
+        let Parts {
+            hand,
+            small,
+            large,
+            chains,
+            meters,
+            heard,
+            signals,
+        } = other.into_parts();
+        let parts = &mut self.parts;
+        shared.threads.join(&mut parts.hand, hand);
+        join_ends(shared.queues.small.as_slice(), &mut parts.small, small);
+        join_ends(shared.queues.large.as_slice(), &mut parts.large, large);
+        join_chain_ends(shared.chains.as_slice(), &mut parts.chains, chains);
+        shared.meters.join(&mut parts.meters, meters);
+        parts.signals = joined(&parts.signals, &signals);
+        heard
+    }
+}

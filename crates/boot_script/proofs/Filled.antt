@@ -5,9 +5,10 @@ use Rattle.std.proofs.lemmas.List.{append-nil, take-append-le}
 use Rattle.std.proofs.Math.Seq.{take-append-add}
 use Rattle.std.specs.Prelude.{IfSome}
 use Rattle.std.specs.Io.KnownBytes.{Consumes, IsAtEnd, Keeps}
-use Rattle.boot_script.specs.declared.version.Script.TheVariants.{Events}
+use Rattle.boot_script.specs.declared.version.Script.TheVariants.{Events, Boot}
 use Rattle.boot_script.specs.Words.{◌>>=◌}
 use Rattle.boot_script.specs.Versions.{elements_of}
+use Rattle.boot_script.specs.Plans.{first_draft, plan_from, plan_only, text_plan}
 use Rattle.boot_script.specs.Scripts.{events_from, text_events}
 use Rattle.boot_script.proofs.Openings.{both_long}
 
@@ -28,27 +29,38 @@ consumes_none None = tt
 consumes_none (Some xs) = refl
 
 -- two texts that are both too long say the same
-both_say : (a b : List ℕ) → 65536 < length a → 65536 < length b → text_events a ≡ text_events b
+events_long : (a b : List ℕ) → 65536 < length a → 65536 < length b → text_events a ≡ text_events b
 unfolding text_events
-both_say a b la lb = ap (λ o. o >>= λ opening. events_from opening.0 2 opening.1 >>= λ events. Ok (elements_of opening.0, events)) (both_long Events a b la lb)
+events_long a b la lb = ap (λ o. o >>= λ opening. events_from opening.0 2 opening.1 >>= λ events. Ok (elements_of opening.0, events)) (both_long Events a b la lb)
 
-by_length : (text left : List ℕ) → (length text ≤ 65536 → left ≡ []) → (65536 < length text) ⊎ (length text ≤ 65536) → text_events (text ++ left) ≡ text_events text
-by_length text left end (inr short) = ap text_events (ap (λ xs. text ++ xs) (end short) ∙ append-nil text)
-by_length text left end (inl long) = both_say (text ++ left) text (omega (arith, length-append text left)) long
+plans_long : (a b : List ℕ) → 65536 < length a → 65536 < length b → text_plan a ≡ text_plan b
+unfolding text_plan
+plans_long a b la lb = ap (λ o. o >>= λ opening. plan_only (plan_from opening.0 2 opening.1 first_draft)) (both_long Boot a b la lb)
 
--- what was read up to the end, or past the length that a script may have, says what the whole text says
-pub same_text : (old new : Option (List ℕ)) (text bytes : List ℕ) → old ≡ Some bytes → Consumes old new text → (length text ≤ 65536 → IsAtEnd new) → text_events bytes ≡ text_events text
-same_text None new text bytes e taken end = absurd (cc)
-same_text (Some xs) None text bytes e taken end = absurd taken
-same_text (Some xs) (Some ys) text bytes e taken end =
-    let same : bytes ≡ text ++ ys = cc in
-    ap text_events same ∙ by_length text ys end (cases_lt 65536 (length text))
+module _ {A : Type 0} (says : List ℕ → A) (both : (a b : List ℕ) → 65536 < length a → 65536 < length b → says a ≡ says b) where
+  by_length : (text left : List ℕ) → (length text ≤ 65536 → left ≡ []) → (65536 < length text) ⊎ (length text ≤ 65536) → says (text ++ left) ≡ says text
+  by_length text left end (inr short) = ap says (ap (λ xs. text ++ xs) (end short) ∙ append-nil text)
+  by_length text left end (inl long) = both (text ++ left) text (omega (arith, length-append text left)) long
+
+  -- what was read up to the end, or past the length that a script may have, says what the whole text says
+  same_text : (old new : Option (List ℕ)) (text bytes : List ℕ) → old ≡ Some bytes → Consumes old new text → (length text ≤ 65536 → IsAtEnd new) → says bytes ≡ says text
+  same_text None new text bytes e taken end = absurd (cc)
+  same_text (Some xs) None text bytes e taken end = absurd taken
+  same_text (Some xs) (Some ys) text bytes e taken end =
+      let same : bytes ≡ text ++ ys = cc in
+      ap says same ∙ by_length text ys end (cases_lt 65536 (length text))
+
+  -- where the bytes of the reader are known, they say what was read of them
+  said_of : (old new : Option (List ℕ)) (text : List ℕ) → Consumes old new text → (length text ≤ 65536 → IsAtEnd new) → IfSome old (λ bytes. says bytes ≡ says text)
+  said_of None new text taken end = tt
+  said_of (Some bytes) new text taken end = same_text (Some bytes) new text bytes refl taken end
 
 -- a part behind a front, of which the first bytes were read
 pub filled_more : (front part post : List ℕ) (filled n : ℕ) → length front ≡ filled → n ≤ length part → take (filled + n) (front ++ (part ++ post)) ≡ front ++ take n part
 filled_more front part post filled n e le = ap (λ k. take (k + n) (front ++ (part ++ post))) (sym e) ∙ (take-append-add front (part ++ post) n ∙ ap (λ xs. front ++ xs) (take-append-le n part post le))
 
--- where the bytes of the reader are known, they say what was read of them
-pub said_of : (old new : Option (List ℕ)) (text : List ℕ) → Consumes old new text → (length text ≤ 65536 → IsAtEnd new) → IfSome old (λ bytes. text_events bytes ≡ text_events text)
-said_of None new text taken end = tt
-said_of (Some bytes) new text taken end = same_text (Some bytes) new text bytes refl taken end
+pub events_of_read : (old new : Option (List ℕ)) (text : List ℕ) → Consumes old new text → (length text ≤ 65536 → IsAtEnd new) → IfSome old (λ bytes. text_events bytes ≡ text_events text)
+events_of_read = said_of text_events events_long
+
+pub plan_of_read : (old new : Option (List ℕ)) (text : List ℕ) → Consumes old new text → (length text ≤ 65536 → IsAtEnd new) → IfSome old (λ bytes. text_plan bytes ≡ text_plan text)
+plan_of_read = said_of text_plan plans_long

@@ -4,6 +4,7 @@ ghost use Rattle.std.specs.Prelude.{◌≡◌, Some};
 ghost use Rattle.boot_script.specs.declared.outcome.ReplayFault.TheVariants as faults;
 
 use crate::fault::ScriptFault;
+use crate::reading::ReadFault;
 use quaject_core::{OutOfMemory, Refusal};
 use std::error::Error as StdError;
 use std::fmt;
@@ -51,6 +52,14 @@ impl fmt::Display for ReplayFault {
 }
 
 impl StdError for ReplayFault {}
+
+impl From<ReadFault> for ReplayFault {
+    ghost from_gives = { λ _ fault. fault ≡ faults.Read };
+
+    fn from(_e: ReadFault) -> ReplayFault {
+        ReplayFault::Read
+    }
+}
 
 impl From<OutOfMemory> for ReplayFault {
     ghost from_gives = { λ _ fault. fault ≡ faults.Memory };

@@ -1,6 +1,6 @@
 //! Reading a list of events, running it on a fresh core, and printing the core's status.
 
-ghost use Rattle.std.specs.Prelude.{◌≡◌, ◌≢◌, ◌≤◌, ◌<◌, length, take, IfOk, IfErr, IfSome, OnOk};
+ghost use Rattle.std.specs.Prelude.{◌≡◌, ◌≢◌, ◌≤◌, IfOk, IfErr, IfSome, OnOk};
 ghost use Rattle.std.specs.Io.KnownBytes.{Appends, Keeps};
 ghost use Rattle.quaject_core.specs.States.{first_state};
 ghost use Rattle.quaject_core.specs.ShownCores.{state};
@@ -12,43 +12,11 @@ use crate::fault::ScriptRefusal;
 use crate::opening::MOST_BYTES;
 use crate::outcome::{ReplayFault, Replayed};
 use crate::printing::{print_refused, print_status};
+use crate::reading::read_script;
 use quaject_core::{Core, Event, Refusal, Status};
 use std::alloc::Global;
 use std::io;
-use std::io::{ErrorKind, Read, Write};
-
-/// How many calls of read a script may take.
-const MOST_READS: u32 = 131_072;
-
-/// Fills the front of the buffer up to the end of the reader, or just past the length that a script may have.
-///
-/// Takes no memory, so that a fault of the text is told where memory is wanting. Interrupted reads count.
-fn read_script<R: Read>(reader: &mut R, buffer: &mut [u8]) -> Result<usize, ReplayFault>
-    requires { length buffer.old ≡ 65537 }
-    ensures said { IfOk result (λ n. IfSome (R.remaining reader.old) (λ bytes. text_events bytes ≡ text_events
-        (take n buffer.new))) }
-    ensures within { IfOk result (λ n. n ≤ 65537) }
-    ensures fault { IfErr result (λ fault. fault ≡ ReplayFault.Read) }
-{
-    let mut filled = 0;
-    for _ in 0..MOST_READS {
-        match reader.read(&mut buffer[filled..]) {
-            Ok(0) => return Ok(filled),
-            Ok(n) => {
-                filled += n;
-                if filled > MOST_BYTES {
-                    return Ok(filled);
-                }
-            }
-            Err(error) => {
-                if error.kind() != ErrorKind::Interrupted {
-                    return Err(ReplayFault::Read);
-                }
-            }
-        }
-    }
-    Err(ReplayFault::Read)
-}
+use std::io::{Read, Write};
 
 /// Applies events up to the first that is refused.
 fn apply_all(core: &mut Core, events: &[(u32, Event)]) -> Result<Replayed, ReplayFault>

@@ -1,8 +1,8 @@
 use Rattle.std.proofs.Common.{◌≡◌, ◌∙◌, ◌-◌, ◌≤◌, length, length-append, length-take, take, arith}
 use borrow.Rule.Slice.PartMut.{same_len_mid, take_put}
-use Rattle.boot_script.proofs.Filled.{consumes_join, consumes_nothing, filled_more, said_of}
-use Rattle.boot_script.proofs.run.read_script.Goals as goal
-use Rattle.boot_script.proofs.run.read_script.Goals.{in-Ok+else-filled-gt-MOST_BYTES, in-Err+else-ne}
+use Rattle.boot_script.proofs.Filled.{consumes_join, consumes_nothing, filled_more, events_of_read, plan_of_read}
+use Rattle.boot_script.proofs.reading.read_script.Goals as goal
+use Rattle.boot_script.proofs.reading.read_script.Goals.{in-Ok+else-filled-gt-MOST_BYTES, in-Err+else-ne}
 
 pub loop-preserved : goal.loop-preserved
 loop-preserved g c =
@@ -23,11 +23,20 @@ loop-preserved g c =
       }
     ]
 
-pub returns-then-filled-gt-MOST_BYTES-clause-said : goal.returns-then-filled-gt-MOST_BYTES-clause-said
-returns-then-filled-gt-MOST_BYTES-clause-said g c =
+pub returns-then-filled-gt-MOST_BYTES-clause-events : goal.returns-then-filled-gt-MOST_BYTES-clause-events
+returns-then-filled-gt-MOST_BYTES-clause-events g c =
     let within : c.loop.filled ≤ length c.loop.buffer = omega (arith, c.loop.invariant.short, c.loop.invariant.sized) in
     let front : length (take c.loop.filled c.loop.buffer) ≡ c.loop.filled = omega (arith, length-take c.loop.filled c.loop.buffer) in
     let bound = c.in-Ok.ensures.bound.0 in
     rw (filled_more (take c.loop.filled c.loop.buffer) c.read.new.buf _ c.loop.filled c.in-Ok.n front bound)
-    (said_of _ _ _ (consumes_join _ _ _ _ _ c.loop.invariant.bytes c.in-Ok.ensures.bytes.0)
+    (events_of_read _ _ _ (consumes_join _ _ _ _ _ c.loop.invariant.bytes c.in-Ok.ensures.bytes.0)
+    (λ short. absurd (omega (arith, length-append (take c.loop.filled c.loop.buffer) (take c.in-Ok.n c.read.new.buf), length-take c.in-Ok.n c.read.new.buf))))
+
+pub returns-then-filled-gt-MOST_BYTES-clause-plan : goal.returns-then-filled-gt-MOST_BYTES-clause-plan
+returns-then-filled-gt-MOST_BYTES-clause-plan g c =
+    let within : c.loop.filled ≤ length c.loop.buffer = omega (arith, c.loop.invariant.short, c.loop.invariant.sized) in
+    let front : length (take c.loop.filled c.loop.buffer) ≡ c.loop.filled = omega (arith, length-take c.loop.filled c.loop.buffer) in
+    let bound = c.in-Ok.ensures.bound.0 in
+    rw (filled_more (take c.loop.filled c.loop.buffer) c.read.new.buf _ c.loop.filled c.in-Ok.n front bound)
+    (plan_of_read _ _ _ (consumes_join _ _ _ _ _ c.loop.invariant.bytes c.in-Ok.ensures.bytes.0)
     (λ short. absurd (omega (arith, length-append (take c.loop.filled c.loop.buffer) (take c.in-Ok.n c.read.new.buf), length-take c.in-Ok.n c.read.new.buf))))

@@ -1,6 +1,6 @@
 use Rattle.std.proofs.Common.{◌≡◌, ◌≤◌, length, take}
 use Rattle.std.specs.Io.KnownBytes.{Consumes}
-use Rattle.boot_script.proofs.run.read_script.Given as goal
+use Rattle.boot_script.proofs.reading.read_script.Given as goal
 
 -- The front of the buffer is what was taken from the reader.
 abbrev pub invariant-loop : goal.invariant-loop

@@ -17,6 +17,8 @@ mod shared;
 mod splitting;
 mod station;
 mod steps;
+#[cfg(test)]
+mod tests;
 mod thread_steps;
 mod turn;
 

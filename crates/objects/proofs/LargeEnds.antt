@@ -1,0 +1,17 @@
+-- What the kind of a quaject tells of its ends.
+use Rattle.std.proofs.Common.{◌≡◌, ℕ, refl}
+use Rattle.boot_script.specs.declared.plan.Mover.{Mover}
+use Rattle.boot_script.specs.declared.plan.Mover.TheVariants as mover
+use Rattle.quajects.specs.declared.any.AnyQuaject.{AnyQuaject}
+use Rattle.quajects.specs.declared.any.AnyQuaject.TheVariants as any
+use Rattle.objects.specs.Planned.{IsMover}
+use Rattle.objects.specs.Shares.{large_share}
+
+-- a pump or switch has no end of a large queue
+pub no_large : (m : Mover) (x : AnyQuaject) → IsMover m x → (q : ℕ) → large_share q x ≡ 0
+no_large (mover.Pump from to) (any.Pump pump) h q = refl
+no_large (mover.Pump from to) (any.Switch switch) h q = absurd h
+no_large (mover.Pump from to) (any.Cooked tty) h q = absurd h
+no_large (mover.Switch from other ways) (any.Switch switch) h q = refl
+no_large (mover.Switch from other ways) (any.Pump pump) h q = absurd h
+no_large (mover.Switch from other ways) (any.Cooked tty) h q = absurd h

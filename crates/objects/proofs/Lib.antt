@@ -1,0 +1,10 @@
+pub mod Dealing
+pub mod Stocks
+pub mod Ways
+pub mod Plans
+pub mod Idle
+pub mod Firsts
+pub mod Fresh
+pub mod Readiness
+pub mod Lists
+pub mod LargeEnds

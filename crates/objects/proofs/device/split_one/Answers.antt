@@ -1,0 +1,28 @@
+use Rattle.std.proofs.Common.{ap, ◌∙◌}
+use Rattle.table_theory.specs.declared.views.Member.{Member}
+use Rattle.proc_chain.specs.declared.rule.View.{View}
+use Rattle.proc_chain.specs.Notes.{notes_put, notes_taken}
+use Rattle.end_steps.proofs.ChainParting.{rests}
+use Rattle.objects.proofs.device.split_one.Goals as goal
+
+pub returns-clause-idle : goal.returns-clause-idle
+returns-clause-idle c = let s = c.split.ensures in let was = c.requires.idle in (
+  record {
+    its = s.ends.0;
+    idle = (s.turns.0 ∙ was.idle.0, s.split.1 ∙ was.idle.1);
+    puts = s.notes.puts ∙ was.puts;
+    takes = s.notes.takes ∙ was.takes;
+  },
+  record {
+    its = s.ends.1;
+    idle = rests c.args.chain.now c.split.result s.ends.1 s.turns.1;
+    puts = ap notes_put s.born;
+    takes = ap notes_taken s.born;
+  },
+)
+
+pub returns-clause-left : goal.returns-clause-left
+returns-clause-left c = ap (λ (m : Member). m.share) c.split.ensures.split.0.member.same
+
+pub returns-clause-given : goal.returns-clause-given
+returns-clause-given c = ap (λ (v : View). v.member.share) c.split.ensures.born

@@ -1,0 +1,10 @@
+use Rattle.std.proofs.Common.{◌≤◌}
+use Rattle.std.specs.Prelude.{vec_capacity}
+use Rattle.objects.specs.Makings.{MadeQuajects}
+use Rattle.objects.proofs.quaject_list.make_quajects.Given as goal
+
+abbrev pub invariant-loop-number : goal.invariant-loop-number
+invariant-loop-number l = record {
+  room : l.many ≤ vec_capacity l.quajects;
+  made : MadeQuajects l.queues l.plan l.number l.initial.small.items l.small.items l.initial.large.items l.large.items l.quajects.items;
+}

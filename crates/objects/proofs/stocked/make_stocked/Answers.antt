@@ -1,0 +1,53 @@
+use Rattle.std.proofs.Common.{◌+◌, ◌*◌, ℕ, length, sym, ap, subst, arith}
+use Rattle.std.specs.List.{sum_by}
+use Rattle.std.proofs.lemmas.Slice.Zip.{AllZip-long}
+use Rattle.end_steps.specs.EndLists.{end_share, chain_end_share}
+use Rattle.objects.specs.Devices.{MadeDevices}
+use Rattle.objects.specs.Objects.{AreQuajectsOf}
+use Rattle.objects.specs.Shares.{small_share, large_share}
+use Rattle.objects.specs.Stocks.{IsIdleEnd, IsIdleChainEnd, shares}
+use Rattle.objects.proofs.Dealing.{can_then}
+use Rattle.objects.proofs.Fresh.{can_whole, whole_here}
+use Rattle.objects.proofs.Plans.{few_movers}
+use Rattle.objects.proofs.stocked.make_stocked.Goals as goal
+
+pub make_quajects-requires-clause-parts : goal.make_quajects-requires-clause-parts
+make_quajects-requires-clause-parts c = let n = c.in_ok-queues.ensures in
+    (can_whole end_share 64 c.in_ok-queues.small.items (omega arith) n.small_whole, can_whole end_share 64 c.in_ok-queues.large.items (omega arith) n.large_whole)
+
+pub make_devices-requires-clause-parts : goal.make_devices-requires-clause-parts
+make_devices-requires-clause-parts c = let n = c.in_ok-queues.ensures in let few = few_movers c.args.plan.now in let many : ℕ = length c.args.plan.now.movers + length c.args.plan.now.ttys in (
+  can_then (many * 6) 8 64 _ (shares c.in_ok-queues.small.items) (shares c.make_quajects.new.small.items) (omega (arith, few)) (can_whole end_share 64 c.in_ok-queues.small.items (omega arith) n.small_whole) c.in_ok-quajects.ensures.small_gave,
+  can_whole chain_end_share 8 c.in_ok-chains.ends.items (omega arith) c.in_ok-chains.ensures.whole,
+)
+
+pub returns : goal.returns
+returns c =
+    let n = c.in_ok-queues.ensures in let q = c.in_ok-quajects.ensures in let m = c.in_ok-chains.ensures in
+    let queues = c.in_ok-queues.queues in let chains = c.in_ok-chains.chains.items in let quajects = c.in_ok-quajects.quajects.items in
+    let d : MadeDevices c.args.plan.now queues chains (length c.args.plan.now.ttys) c.make_quajects.new.small.items c.make_devices.new.small.items c.in_ok-chains.ends.items c.make_devices.new.ends.items c.in_ok-devices.devices.items
+    = subst (λ z. MadeDevices c.args.plan.now queues z (length c.args.plan.now.ttys) c.make_quajects.new.small.items c.make_devices.new.small.items c.in_ok-chains.ends.items c.make_devices.new.ends.items c.in_ok-devices.devices.items) c.as_slice-list.ensures.value c.in_ok-devices.ensures in
+    record {
+      sizes = n.sizes;
+      begin = record { small_begin = n.small_firsts; large_begin = n.large_firsts; chains_begin = m.firsts };
+      over = m.over;
+      small_stock = d.stock;
+      large_stock = q.large_stock;
+      chain_stock = d.chain_stock;
+      quajects = subst (AreQuajectsOf c.args.plan.now queues) (sym m.openings) (record { number = q.number; kinds = q.kinds; ready = q.ready });
+      devices_are = record { number = d.number; each = d.each };
+      shares = record {
+        small_whole = λ i l.
+            let long = AllZip-long IsIdleEnd queues.small.items c.in_ok-queues.small.items n.small_stock in
+            let whole = whole_here end_share c.in_ok-queues.small.items n.small_whole i (omega (arith, long, l)) in
+            let one = q.small_gave.rest i in let two = d.gave.rest i in let same = ap (sum_by (small_share i)) m.openings in omega (arith, whole, one, two, same);
+        large_whole = λ i l.
+            let long = AllZip-long IsIdleEnd queues.large.items c.in_ok-queues.large.items n.large_stock in
+            let whole = whole_here end_share c.in_ok-queues.large.items n.large_whole i (omega (arith, long, l)) in
+            let one = q.large_gave.rest i in let same = ap (sum_by (large_share i)) m.openings in omega (arith, whole, one, same);
+        chains_whole = λ k l.
+            let long = AllZip-long IsIdleChainEnd chains c.in_ok-chains.ends.items m.stock in
+            let whole = whole_here chain_end_share c.in_ok-chains.ends.items m.whole k (omega (arith, long, l)) in
+            let one = d.chain_gave.rest k in omega (arith, whole, one);
+      };
+    }

@@ -1,0 +1,6 @@
+pub mod Stocks
+pub mod Shares
+pub mod Planned
+pub mod Makings
+pub mod Devices
+pub mod Objects

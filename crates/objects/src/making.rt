@@ -1,0 +1,73 @@
+//! All objects of a plan.
+ghost use Rattle.std.specs.Prelude.{◌≡◌, IfOk};
+ghost use Rattle.processor.specs.Rooms.{HasRoom};
+ghost use Rattle.processor.specs.Stations.{ArePartsOf, IsUnused};
+ghost use Rattle.objects.specs.Devices.{AreDevicesOf};
+ghost use Rattle.objects.specs.Objects.{AreQuajectsOf, BeginAtZero, HaveAll, quajects_of};
+ghost use Rattle.objects.specs.Objects.{HaveDoneNothing, HaveNotedNothing, IsFirstHand, IsFirstSeat};
+
+use crate::device::Device;
+use crate::stocked::{Stocked, make_stocked};
+use boot_script::BootPlan;
+use meters::Meters;
+use processor::{Shared, Station};
+use quaject_core::OutOfMemory;
+use std::alloc::Global;
+use thread_table::ThreadTable;
+
+/// What the processors of a kernel share, the station of the first of them, and the devices of its ttys.
+#[derive(Drop)]
+pub struct Objects {
+    pub shared: Shared,
+    pub station: Station,
+    pub devices: Vec<Device>,
+}
+
+/// Makes all objects of a plan: the queues, each with an end in the station; the chains of its pumps, switches and
+/// ttys, in that order, each with its quaject and an end in the station; a device for each tty, with a line of 64
+/// places; the thread elements, all free, with their only hand in the station; and the meters, with their only seat
+/// there. `OutOfMemory` comes only where an allocation was refused; what was made until then is gone, and the plan too.
+pub fn make_objects(alloc: Global, plan: BootPlan) -> Result<Objects, OutOfMemory>
+    ensures plan { IfOk result (λ o. o.shared.plan ≡ plan) }
+    ensures parts { IfOk result (λ o. ArePartsOf o.shared o.station.parts) }
+    ensures unused { IfOk result (λ o. IsUnused o.station.parts) }
+    ensures room { IfOk result (λ o. HasRoom o.shared.plan o.station.parts) }
+    ensures hand { IfOk result (λ o. IsFirstHand o.shared.threads o.station.parts.hand) }
+    ensures seat { IfOk result (λ o. IsFirstSeat o.shared.meters o.station.parts.meters) }
+    ensures begin { IfOk result (λ o. BeginAtZero o.shared.queues o.shared.chains.items) }
+    ensures small { IfOk result (λ o. HaveDoneNothing o.station.parts.small.items) }
+    ensures large { IfOk result (λ o. HaveDoneNothing o.station.parts.large.items) }
+    ensures chains { IfOk result (λ o. HaveNotedNothing o.station.parts.chains.items) }
+    ensures quajects { IfOk result (λ o. AreQuajectsOf o.shared.plan o.shared.queues
+        (quajects_of o.shared.chains.items)) }
+    ensures devices { IfOk result (λ o. AreDevicesOf o.shared.plan o.shared.queues o.shared.chains.items
+        o.devices.items) }
+    ensures shares { IfOk result (λ o. HaveAll o.shared.queues o.shared.chains.items o.station.parts.small.items
+        o.station.parts.large.items o.station.parts.chains.items o.devices.items) }
+{
+    let Stocked {
+        queues,
+        small,
+        large,
+        chains,
+        ends,
+        devices,
+    } = make_stocked(alloc, &plan)?;
+    let (threads, hand) = ThreadTable::new(alloc)?;
+    let (meters, seat) = Meters::new(alloc, 0)?;
+    let shared = Shared {
+        queues,
+        chains,
+        threads,
+        meters,
+        plan,
+    };
+    match Station::new(alloc, &shared, hand, small, large, ends, seat) {
+        Ok(station) => Ok(Objects {
+            shared,
+            station,
+            devices,
+        }),
+        Err(_) => Err(OutOfMemory),
+    }
+}

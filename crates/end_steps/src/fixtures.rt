@@ -1,15 +1,20 @@
 //! Queues with an end of each, a pump over two of them, and a gate that keeps what it is told.
-ghost use Rattle.std.specs.Prelude.{◌≡◌, ◌≤◌, length};
+ghost use Rattle.std.specs.Prelude.{◌≡◌, ◌≤◌, ◌<◌, length};
 ghost use Rattle.std.specs.List.{All};
 ghost use Rattle.end_steps.specs.EndLists.{IsIdle, chain_table, chain_end_table};
 ghost use Rattle.end_steps.specs.EndLists.{AreEndsOf, AreChainEndsOf, AreChainsOver, IsDivisible, IsChainDivisible};
 
-use crate::gate::{Gate, Point};
-use claim_queue::{ClaimQueue, QueueEnd};
-use proc_chain::{ChainEnd, ProcChain};
+use crate::gate::{Gate, NoGate, Point};
+use crate::hearing::hear;
+use crate::poking::{Poked, poke};
+use crate::saying::say;
+use arrayvec::ArrayVec;
+use claim_queue::{ClaimQueue, ClaimRefusal, QueueEnd, TakeRefusal};
+use proc_chain::{ChainEnd, ChainRefusal, ProcChain};
 use quaject_core::OutOfMemory;
 use quajects::{AnyQuaject, Pump, Queues};
 use std::alloc::Global;
+use std::sync::Wait;
 
 pub(crate) type Chain = ProcChain<AnyQuaject>;
 
@@ -105,5 +110,76 @@ impl Recorder {
 impl Gate for Recorder {
     fn between(&mut self, p: u8, point: Point) {
         let _wanting = self.points.push((p, point));
+    }
+}
+
+/// What is answered at a point: whether 64 items more are put, whether a line is taken then, and how long it is.
+pub(crate) type Seen = (
+    Point,
+    Result<(), ClaimRefusal>,
+    Result<(), TakeRefusal>,
+    usize,
+);
+
+/// A gate that tries at each point, at other ends, to put as many items as a queue has places and then to take a line,
+/// and keeps what it is answered. So it tells how far a step is when the gate is called.
+#[derive(Drop)]
+pub(crate) struct Watcher<'a> {
+    pub(crate) queues: &'a [ClaimQueue<64>],
+    pub(crate) ends: Vec<QueueEnd<64>>,
+    pub(crate) index: usize,
+    pub(crate) seen: Vec<Seen>,
+    ghost fit: { AreEndsOf queues.now ends.items },
+    ghost known: { index < length queues.now },
+}
+
+impl<'a> Gate for Watcher<'a> {
+    fn between(&mut self, _p: u8, point: Point) {
+        let put = say(
+            self.queues,
+            &mut self.ends,
+            self.index,
+            &[7; 64],
+            0,
+            &mut NoGate,
+        );
+        let mut line = ArrayVec::new();
+        let taken = hear(
+            self.queues,
+            &mut self.ends,
+            self.index,
+            &mut line,
+            0,
+            &mut NoGate,
+        );
+        let _wanting = self.seen.push((point, put, taken, line.len()));
+    }
+}
+
+/// A gate that pokes the first of the chains at other ends, and keeps what it is answered.
+#[derive(Drop)]
+pub(crate) struct Poker<'a, R: Wait> {
+    pub(crate) rt: &'a R,
+    pub(crate) world: &'a Queues,
+    pub(crate) chains: &'a [Chain],
+    pub(crate) ends: Vec<End>,
+    pub(crate) poked: Vec<Result<Poked, ChainRefusal>>,
+    ghost fit: { AreChainEndsOf chains.now ends.items },
+    ghost one: { length chains.now ≡ 1 },
+    ghost over: { AreChainsOver world.now chains.now },
+}
+
+impl<'a, R: Wait> Gate for Poker<'a, R> {
+    fn between(&mut self, _p: u8, _point: Point) {
+        let poked = poke(
+            self.rt,
+            self.world,
+            self.chains,
+            &mut self.ends,
+            0,
+            0,
+            &mut NoGate,
+        );
+        let _wanting = self.poked.push(poked);
     }
 }

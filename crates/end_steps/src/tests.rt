@@ -2,7 +2,7 @@ ghost use Rattle.std.specs.Prelude.{◌≡◌, length};
 ghost use Rattle.end_steps.specs.EndLists.{AreChainEndsOf, AreChainsOver};
 
 use super::*;
-use crate::fixtures::{Chain, End, Pumped, Recorder, Two, make_pump, two_queues};
+use crate::fixtures::{Chain, End, Poker, Pumped, Recorder, Two, Watcher, make_pump, two_queues};
 use arrayvec::ArrayVec;
 use claim_queue::{ClaimRefusal, TakeRefusal};
 use proc_chain::{ChainRefusal, Chained};
@@ -41,6 +41,36 @@ fn says_and_hears(rt: HostRuntime) -> Result<(), Fail> {
         (3, Point::TakeAnswered),
     ];
     assert!(rt; gate.points.as_slice() == points.as_slice());
+    Ok(())
+}
+
+/// Other ends find the line claimed and not raised, then raised; and then a line taken.
+#[test]
+fn gate_between_the_parts(rt: HostRuntime) -> Result<(), Fail> {
+    let Two { queues, ends } = two_queues::<64>(rt.alloc())?;
+    let mut ends = ends;
+    let list = queues.as_slice();
+    let others = split_ends(rt.alloc(), list, &mut ends)?;
+    let mut gate = Watcher {
+        queues: list,
+        ends: others,
+        index: 1,
+        seen: Vec::new(rt.alloc()),
+    };
+    let full = Err(ClaimRefusal::Full { head: 3, tail: 0 });
+    let said = say(list, &mut ends, 1, &[104, 105, 10], 0, &mut gate);
+    assert_eq!(rt; said, Ok(()));
+    let between = [
+        (Point::Claimed, full, Err(TakeRefusal::Empty { at: 0 }), 0),
+        (Point::Raised, full, Ok(()), 3),
+    ];
+    assert!(rt; gate.seen.as_slice() == between.as_slice());
+    assert_eq!(rt; say(list, &mut ends, 1, &[10], 0, &mut NoGate), Ok(()));
+    gate.seen.clear();
+    let mut line = ArrayVec::new();
+    assert_eq!(rt; hear(list, &mut ends, 1, &mut line, 0, &mut gate), Ok(()));
+    let behind = [(Point::TakeAnswered, Ok(()), Ok(()), 64)];
+    assert!(rt; gate.seen.as_slice() == behind.as_slice());
     Ok(())
 }
 
@@ -188,6 +218,34 @@ fn left_and_full(rt: HostRuntime) -> Result<(), Fail> {
     assert_eq!(rt; poked, Err(ChainRefusal::Full { head: 32, tail: 0 }));
     let poked = poke(&rt, &world, list, &mut chain_ends, 0, 0, &mut NoGate);
     assert_eq!(rt; poked, Ok(Poked::Ran { notes: 1 }));
+    Ok(())
+}
+
+/// The gate is called when the note is chained and the Turn isn't served: a note of another end is left to it, and then
+/// it runs both.
+#[test]
+fn gate_before_the_turn(rt: HostRuntime) -> Result<(), Fail> {
+    let Pumped {
+        world,
+        ends: _,
+        chains,
+        chain_ends,
+        other: _,
+    } = make_pump(rt.alloc())?;
+    let mut chain_ends = chain_ends;
+    let list = chains.as_slice();
+    let others = split_chain_ends(rt.alloc(), list, &mut chain_ends)?;
+    let mut gate = Poker {
+        rt: &rt,
+        world: &world,
+        chains: list,
+        ends: others,
+        poked: Vec::new(rt.alloc()),
+    };
+    let poked = poke(&rt, &world, list, &mut chain_ends, 0, 5, &mut gate);
+    assert_eq!(rt; poked, Ok(Poked::Ran { notes: 2 }));
+    let left = [Ok(Poked::Left)];
+    assert!(rt; gate.poked.as_slice() == left.as_slice());
     Ok(())
 }
 

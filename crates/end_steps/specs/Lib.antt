@@ -2,3 +2,4 @@ pub mod EndLists
 pub mod Deeds
 pub mod Sums
 pub mod Splits
+pub mod Gates

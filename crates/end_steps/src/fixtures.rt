@@ -108,6 +108,8 @@ impl Recorder {
 }
 
 impl Gate for Recorder {
+    ghost told = { λ old p point new. Unit {0} };
+
     fn between(&mut self, p: u8, point: Point) {
         let _wanting = self.points.push((p, point));
     }
@@ -134,6 +136,8 @@ pub(crate) struct Watcher<'a> {
 }
 
 impl<'a> Gate for Watcher<'a> {
+    ghost told = { λ old p point new. Unit {0} };
+
     fn between(&mut self, _p: u8, point: Point) {
         let put = say(
             self.queues,
@@ -170,6 +174,8 @@ pub(crate) struct Poker<'a, R: Wait> {
 }
 
 impl<'a, R: Wait> Gate for Poker<'a, R> {
+    ghost told = { λ old p point new. Unit {0} };
+
     fn between(&mut self, _p: u8, _point: Point) {
         let poked = poke(
             self.rt,

@@ -1,4 +1,6 @@
 //! A gate: what a processor calls between the parts of a turn, so that a test can hold or watch it there.
+ghost use Rattle.std.specs.Prelude.{ℕ};
+ghost use Rattle.end_steps.specs.declared.gate.Point.{Point};
 
 /// Where a processor is in its turn.
 #[derive(Clone, Copy, Debug, PartialEq, Eq, Drop)]
@@ -17,7 +19,11 @@ pub enum Point {
 
 /// What is called between the parts of a turn, with the number of the processor.
 pub trait Gate {
-    fn between(&mut self, p: u8, point: Point);
+    // The first gate was told this point of this processor, and became the second.
+    ghost told: { Self → ℕ → Point → Self → Type 0 };
+
+    fn between(&mut self, p: u8, point: Point)
+        ensures { told self.old p point self.new };
 }
 
 /// The gate that does nothing.
@@ -25,5 +31,7 @@ pub trait Gate {
 pub struct NoGate;
 
 impl Gate for NoGate {
+    ghost told = { λ old p point new. Unit {0} };
+
     fn between(&mut self, _p: u8, _point: Point) {}
 }

@@ -1,6 +1,7 @@
 //! Hearing a line, and shutting a queue.
 ghost use Rattle.std.specs.Prelude.{◌≡◌, ◌<◌, ◌≤◌, ℕ, [], length, IfOk};
 ghost use Rattle.claim_queue.specs.Handles.{IsEndOf, IsSameEnd};
+ghost use Rattle.end_steps.specs.declared.gate.Point.TheVariants.{TakeAnswered};
 ghost use Rattle.end_steps.specs.Deeds.{Heard, HasShut};
 ghost use Rattle.end_steps.specs.EndLists.{AreEndsOf, AreSameEnds, OnEnd, only_at, number_at};
 ghost use Rattle.end_steps.specs.Sums.{EndWorked, Worked, line_if, once_if, no_lines, never};
@@ -22,6 +23,7 @@ fn hear_line<const N: usize, G: Gate>(
     ensures same { IsSameEnd end.old end.new }
     ensures heard { Heard line.new.items result end.old end.new }
     ensures worked { EndWorked [] (line_if result line.new.items) 0 end.old end.new }
+    ensures gate { G.told gate.old p TakeAnswered gate.new }
 {
     let answer = queue.try_take_line(end, line);
     gate.between(p, Point::TakeAnswered);
@@ -52,6 +54,7 @@ pub fn hear<const N: usize, G: Gate>(
     ensures heard { OnEnd index (Heard line.new.items result) ends.old.items ends.new.items }
     ensures worked { Worked no_lines (only_at index (line_if result line.new.items)) never ends.old.items
         ends.new.items }
+    ensures gate { G.told gate.old p TakeAnswered gate.new }
     ensures long { IfOk result (λ done. (0 < length line.new.items) × (length line.new.items ≤ N)) }
 {
     hear_line(&queues[index], &mut ends[index], line, p, gate)

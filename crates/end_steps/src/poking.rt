@@ -1,6 +1,7 @@
 //! Poking a chain: note 0 is chained, and a Turn is served to its end.
 ghost use Rattle.std.specs.Prelude.{◌≡◌, ◌<◌, ℕ, false, length, map};
 ghost use Rattle.proc_chain.specs.Handles.{turn_of, world_of, me_of, IsEndOf, IsSameEnd};
+ghost use Rattle.end_steps.specs.declared.gate.Point.TheVariants as points;
 ghost use Rattle.end_steps.specs.Deeds.{HasPoked, PokedAt};
 ghost use Rattle.end_steps.specs.EndLists.{AreChainsOver, AreChainEndsOf, AreSameChainEnds, IsIdle, only_at};
 ghost use Rattle.end_steps.specs.EndLists.{number_at};
@@ -39,6 +40,7 @@ fn poke_end<R: Wait, G: Gate>(
     ensures idle { IsIdle end.new }
     ensures poked { HasPoked chain.now 0 result end.old end.new }
     ensures worked { ChainEndWorked (note_if result 0) (notes_run result) end.old end.new }
+    ensures gate { G.told gate.old p points.Chained gate.new }
 {
     let answer = chain.try_chain(end, POKED);
     gate.between(p, Point::Chained);
@@ -77,6 +79,7 @@ pub fn poke<R: Wait, G: Gate>(
     ensures poked { PokedAt chains.now index 0 result ends.old.items ends.new.items }
     ensures worked { ChainsWorked (only_at index (note_if result 0)) (number_at index (notes_run result))
         ends.old.items ends.new.items }
+    ensures gate { G.told gate.old p points.Chained gate.new }
 {
     poke_end(rt, world, &chains[index], &mut ends[index], p, gate)
 }

@@ -5,6 +5,7 @@ ghost use Rattle.claim_queue.specs.Handles.{view_of, call_of, IsEndOf, IsSameEnd
 ghost use Rattle.claim_queue.specs.Puts.{RaisedFrom};
 ghost use Rattle.end_steps.specs.Deeds.{Said};
 ghost use Rattle.end_steps.specs.EndLists.{AreEndsOf, AreSameEnds, OnEnd, only_at};
+ghost use Rattle.end_steps.specs.Gates.{ToldOfSay};
 ghost use Rattle.end_steps.specs.Sums.{EndWorked, Worked, line_if, no_lines, never};
 
 use crate::gate::{Gate, Point};
@@ -38,6 +39,7 @@ fn say_line<const N: usize, G: Gate>(
     ensures same { IsSameEnd end.old end.new }
     ensures said { Said line.now result end.old end.new }
     ensures worked { EndWorked (line_if result line.now) [] 0 end.old end.new }
+    ensures gate { ToldOfSay G.told p result gate.old gate.new }
 {
     match queue.try_claim(end, line) {
         Ok(claim) => {
@@ -69,6 +71,7 @@ pub fn say<const N: usize, G: Gate>(
     ensures ends { AreEndsOf queues.now ends.new.items }
     ensures said { OnEnd index (Said line.now result) ends.old.items ends.new.items }
     ensures worked { Worked (only_at index (line_if result line.now)) no_lines never ends.old.items ends.new.items }
+    ensures gate { ToldOfSay G.told p result gate.old gate.new }
 {
     say_line(&queues[index], &mut ends[index], line, p, gate)
 }

@@ -276,6 +276,32 @@ fn splits_and_joins(rt: HostRuntime) -> Result<(), Fail> {
     Ok(())
 }
 
+/// With ample memory each chain gets another end, which pokes as the first does, and is joined again.
+#[test]
+fn chain_ends_split_and_joined(rt: HostRuntime) -> Result<(), Fail> {
+    let Pumped {
+        world,
+        ends: _,
+        chains,
+        chain_ends,
+        other: _,
+    } = make_pump(rt.alloc())?;
+    let mut chain_ends = chain_ends;
+    let list = chains.as_slice();
+    let Ok(others) = split_chain_ends(rt.alloc(), list, &mut chain_ends) else {
+        panic!(rt; "ample memory")
+    };
+    let mut others = others;
+    assert_eq!(rt; others.len(), 1);
+    let poked = poke(&rt, &world, list, &mut others, 0, 0, &mut NoGate);
+    assert_eq!(rt; poked, Ok(Poked::Ran { notes: 1 }));
+    join_chain_ends(list, &mut chain_ends, others);
+    assert_eq!(rt; chain_ends.len(), 1);
+    let poked = poke(&rt, &world, list, &mut chain_ends, 0, 0, &mut NoGate);
+    assert_eq!(rt; poked, Ok(Poked::Ran { notes: 1 }));
+    Ok(())
+}
+
 // Where an allocation is refused all stays as it was, and the ends go on.
 fn split_and_poke<R: Abort + Wait>(rt: &R, alloc: Global, pumped: Pumped) {
     let Pumped {

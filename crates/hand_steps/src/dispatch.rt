@@ -91,6 +91,8 @@ fn deliver(
 /// Begins a turn: takes the oldest element of the ready ring, parks it where its stop bit is set, and else delivers its
 /// signals, which are joined to the element's mask in `signals`, and finds how many steps it has done. The hand then
 /// holds it beside what it held.
+///
+/// An element whose park was lost is made ready, and that is tried again where another hand was first.
 pub fn begin<R: Wait>(
     rt: &R,
     threads: &ThreadTable,

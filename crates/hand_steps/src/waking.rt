@@ -96,8 +96,9 @@ fn resume<R: Wait>(
     }
 }
 
-/// Clears the stop bit of an element, and makes it ready where it stood in its stop cell. Lost where another hand
-/// changed the state word first: the stop bit was set, and nothing was done.
+/// Clears the stop bit of an element, and makes it ready where it stood in its stop cell, which is tried again where
+/// another hand was first. Lost where another hand changed the state word first: the stop bit was set, and nothing was
+/// done.
 pub fn start<R: Wait>(
     rt: &R,
     threads: &ThreadTable,

@@ -31,7 +31,8 @@ impl<S, B, J: Job<S, B>> Promise<B> for Told<S, J> {
     ghost kept_by = { λ told back. J.gives told.shared.value told.job.value back };
 }
 
-type Started<S, B, J> = Option<PromisedHandle<B, Told<S, J>>>;
+/// The thread of a job, until it is joined. None where it could not be started.
+pub type Started<S, B, J> = Option<PromisedHandle<B, Told<S, J>>>;
 
 // Starts a thread for a job. None where it can't be started.
 fn start_one<'s, E, R, S, B, J>(

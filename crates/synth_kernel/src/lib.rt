@@ -6,15 +6,21 @@ mod alarms;
 mod crew;
 mod device;
 mod elements;
+mod stationing;
 mod stock;
+mod threads;
 mod typing;
+mod work;
 
 pub use alarms::set_alarms;
-pub use crew::{Job, Told, join_all, run_all, start_all};
+pub use crew::{Job, Started, Told, join_all, run_all, start_all};
 pub use device::serve_device;
 pub use elements::prepare;
+pub use stationing::post_all;
 pub use stock::split_at;
-pub use typing::type_bytes;
+pub use threads::run_kernel;
+pub use typing::{type_all, type_bytes};
+pub use work::{Work, Worked};
 
 #[cfg(test)]
 mod tests;

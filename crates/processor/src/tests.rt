@@ -9,7 +9,9 @@ ghost use Rattle.processor.specs.Rooms.{HasRoom};
 ghost use Rattle.processor.specs.Stations.{ArePartsOf};
 
 mod elements;
+mod gates;
 mod memory;
+mod movers;
 mod pairs;
 mod queues;
 

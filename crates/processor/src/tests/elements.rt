@@ -25,6 +25,22 @@ fn alarms_fire_at_their_tick(rt: HostRuntime) -> Result<(), Fail> {
     Ok(())
 }
 
+/// Another processor than 0 leaves the clock and the alarms alone.
+#[test]
+fn another_processor_tends_no_alarms(rt: HostRuntime) -> Result<(), Fail> {
+    let plan = parse_boot(rt.alloc(), ALARM)?;
+    let Some(p) = Processor::new(7) else {
+        panic!(rt; "processor")
+    };
+    let (shared, station) = stand(&rt, rt.alloc(), plan, p)?;
+    let station = run(&rt, &shared, station, p, 4, &mut NoGate);
+    let ended = close_all(&rt, shared, station.into_parts());
+    check_states(&rt, &ended, &[ready(4)]);
+    let metered = &ended.metered;
+    assert_eq!(rt; (metered.clock, metered.alarms.len()), (0, 1));
+    Ok(())
+}
+
 const SIGNALS: &[u8] = b"synthesis 2
 thread a
 thread b

@@ -1,0 +1,145 @@
+//! Turns with a pump.
+ghost use Rattle.std.specs.Prelude.{◌≡◌, length, IfOk};
+ghost use Rattle.thread_table.specs.Handles.{view_of};
+ghost use Rattle.hand_steps.specs.Holdings.{IsFree};
+ghost use Rattle.end_steps.specs.EndLists.{AreEndsOf, AreChainEndsOf, AreChainsOver};
+ghost use Rattle.processor.specs.Rooms.{HasRoom};
+ghost use Rattle.processor.specs.Stations.{ArePartsOf};
+
+use super::*;
+use claim_queue::ClaimQueue;
+use proc_chain::{ChainEnd, ProcChain};
+use quajects::{AnyQuaject, Pump};
+use std::test::*;
+
+type Chain = ProcChain<AnyQuaject>;
+
+/// A pump from the first of two small queues to the second, with an end of each queue and one of its chain.
+#[derive(Drop)]
+struct Pumped {
+    queues: Queues,
+    small: Vec<QueueEnd<64>>,
+    large: Vec<QueueEnd<256>>,
+    chains: Vec<Chain>,
+    chain_ends: Vec<ChainEnd<AnyQuaject>>,
+    ghost small_fit: { AreEndsOf queues.small.items small.items },
+    ghost large_fit: { AreEndsOf queues.large.items large.items },
+    ghost counts: { (length queues.small.items ≡ 2) × (length queues.large.items ≡ 0) × (length chains.items ≡ 1) },
+    ghost chains_fit: { AreChainEndsOf chains.items chain_ends.items },
+    ghost over: { AreChainsOver queues chains.items },
+}
+
+fn make_pump(alloc: Global) -> Result<Pumped, OutOfMemory> {
+    let (first, mut source) = ClaimQueue::new(alloc, 0)?;
+    let a = first.split(&mut source);
+    let (second, mut target) = ClaimQueue::new(alloc, 0)?;
+    let b = second.split(&mut target);
+    let mut small = Vec::new(alloc);
+    small.push(first)?;
+    small.push(second)?;
+    let mut ends = Vec::new(alloc);
+    ends.push(a)?;
+    ends.push(b)?;
+    let queues = Queues {
+        small,
+        large: Vec::new(alloc),
+    };
+    let pump = AnyQuaject::Pump(Pump::new(0, source, 1, target));
+    let Ok((chain, end)) = Chain::new(alloc, 0, pump, &queues) else {
+        return Err(OutOfMemory);
+    };
+    let mut chains = Vec::new(alloc);
+    chains.push(chain)?;
+    let mut chain_ends = Vec::new(alloc);
+    chain_ends.push(end)?;
+    Ok(Pumped {
+        queues,
+        small: ends,
+        large: Vec::new(alloc),
+        chains,
+        chain_ends,
+    })
+}
+
+/// The plan has two queues and one pump.
+fn must_have_a_pump<R: Abort>(rt: &R, plan: &BootPlan)
+    ensures { (length plan.now.queues ≡ 2) × (length plan.now.ttys ≡ 0) × (length plan.now.movers ≡ 1) }
+{
+    if plan.queues.as_slice().len() != 2 {
+        panic!(rt; "queues");
+    }
+    if !plan.ttys.as_slice().is_empty() {
+        panic!(rt; "a tty");
+    }
+    if plan.movers.as_slice().len() != 1 {
+        panic!(rt; "pumps");
+    }
+}
+
+/// What the processors share of a plan with two queues and a pump from the first to the second, and the station of this
+/// one: an element is ready for each thread.
+fn stand_pumped<R: Abort + Wait>(
+    rt: &R,
+    alloc: Global,
+    plan: BootPlan,
+    p: Processor,
+) -> Result<(Shared, Station), OutOfMemory>
+    ensures parts { IfOk result (λ r. ArePartsOf r.0 r.1.parts) }
+    ensures free { IfOk result (λ r. IsFree p (view_of r.1.parts.hand)) }
+    ensures room { IfOk result (λ r. HasRoom r.0.plan r.1.parts) }
+{
+    must_have_a_pump(rt, &plan);
+    let (threads, mut hand) = ThreadTable::new(alloc)?;
+    ready_first(rt, &threads, &mut hand, plan.threads.as_slice().len());
+    must_be_free(rt, &hand, p);
+    let (meters, seat) = Meters::new(alloc, 0)?;
+    let Pumped {
+        queues,
+        small,
+        large,
+        chains,
+        chain_ends,
+    } = make_pump(alloc)?;
+    let shared = Shared {
+        queues,
+        chains,
+        threads,
+        meters,
+        plan,
+    };
+    match Station::new(alloc, &shared, hand, small, large, chain_ends, seat) {
+        Ok(station) => Ok((shared, station)),
+        Err((_parts, error)) => Err(error),
+    }
+}
+
+const PUMPED: &[u8] = b"synthesis 1
+queue in
+queue out
+pump p in out
+thread a
+poke p
+say in hi
+poke p
+hear out
+hear out
+";
+
+/// A poke with no line to move is done, and one with a line moves it before the next step.
+#[test]
+fn pokes_move_a_line(rt: HostRuntime) -> Result<(), Fail> {
+    let plan = parse_boot(rt.alloc(), PUMPED)?;
+    let Some(p) = Processor::new(0) else {
+        panic!(rt; "processor")
+    };
+    let (shared, station) = stand_pumped(&rt, rt.alloc(), plan, p)?;
+    let station = run(&rt, &shared, station, p, 5, &mut NoGate);
+    let ended = close_all(&rt, shared, station.into_parts());
+    check_states(&rt, &ended, &[ready(4)]);
+    let heard = ended.heard.as_slice();
+    assert_eq!(rt; heard.len(), 1);
+    for line in heard {
+        assert!(rt; is_line(line, &(0, 3, b"hi\n")));
+    }
+    Ok(())
+}

@@ -2,6 +2,7 @@ pub mod Dealing
 pub mod Stocks
 pub mod Ways
 pub mod Plans
+pub mod Homes
 pub mod Idle
 pub mod Firsts
 pub mod Fresh

@@ -20,20 +20,25 @@ use Rattle.objects.specs.declared.device.Device.{Device}
 use Rattle.objects.specs.Shares.{device_share, device_chain_share}
 use Rattle.objects.specs.Stocks.{Gave, IsStock, IsChainStock, shares, chain_shares}
 
+-- its ends are those of the queue and the chain that it names
+pub record IsAtWork (queues : List (ClaimQueue 64)) (chains : List (ProcChain AnyQuaject Queues)) (device : Device)
+    : Type 0 where
+  pub end : IsEndAt queues device.tty.index (end_of device.tty)
+  pub chain_named : device.chain < length chains
+  pub chain_end : (c : ProcChain AnyQuaject Queues) → slice_get chains device.chain ≡ Some c
+      → IsEndOf c device.tty.chain
+  pub idle : IsIdle device.tty.chain
+
 -- The device puts in the small queue with this index, at an end that has done nothing, and tells the chain with that
 -- index, at an end that has chained and run nothing. It has refused no byte. Its line has 64 places, and is empty
 pub record IsDevice (queues : List (ClaimQueue 64)) (chains : List (ProcChain AnyQuaject Queues)) (raw chain : ℕ)
     (device : Device) : Type 0 where
   pub raw_is : device.tty.index ≡ raw
   pub chain_is : device.chain ≡ chain
-  pub end_at : IsEndAt queues device.tty.index (end_of device.tty)
+  pub works : IsAtWork queues chains device
   pub unused : IsUnused (view_of (end_of device.tty))
   pub none_shut : end_shuts (end_of device.tty) ≡ 0
   pub none_refused : overruns_of device.tty ≡ 0
-  pub chain_named : device.chain < length chains
-  pub chain_end : (c : ProcChain AnyQuaject Queues) → slice_get chains device.chain ≡ Some c
-      → IsEndOf c device.tty.chain
-  pub idle : IsIdle device.tty.chain
   pub none_chained : chain_end_puts device.tty.chain ≡ []
   pub none_run : chain_end_takes device.tty.chain ≡ []
   pub line : IsLine device.input device.output

@@ -4,6 +4,7 @@
 
 mod chains;
 mod device;
+mod laws;
 mod making;
 mod movers;
 mod quaject_list;
@@ -13,4 +14,8 @@ mod stocked;
 mod ttys;
 
 pub use device::Device;
+pub use laws::shares_come_home;
 pub use making::{Objects, make_objects};
+
+#[cfg(test)]
+mod tests;

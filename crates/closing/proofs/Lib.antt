@@ -1,0 +1,3 @@
+pub mod ClosedFacts
+pub mod Drawing
+pub mod Gaining

@@ -1,0 +1,14 @@
+use Rattle.std.proofs.Common.{◌≡◌, ◌≤◌, length, vec_len, vec_capacity}
+use Rattle.std.specs.Vec.Iter.{into_iter_items, into_iter_len}
+use Rattle.closing.specs.ClosedQueues.{IsClosed}
+use Rattle.closing.proofs.Drawing.{Drawn}
+use Rattle.closing.proofs.queues.close_queues.Given as goal
+
+abbrev pub invariant-loop-queue : goal.invariant-loop-queue
+invariant-loop-queue g l = record {
+  drawn : Drawn IsClosed l.fn.queues.items l.fn.ends.items l.yielded (into_iter_items l.queue-iterator) (into_iter_items l.ends) l.closed.items;
+  left : into_iter_len l.queue-iterator ≡ length (into_iter_items l.queue-iterator);
+  rest : into_iter_len l.ends ≡ length (into_iter_items l.ends);
+  number : vec_len l.closed ≡ length l.yielded;
+  room : length l.fn.queues.items ≤ vec_capacity l.closed;
+}

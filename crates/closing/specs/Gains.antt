@@ -1,0 +1,35 @@
+-- What ends of a list gain by others that are joined to them.
+use Rattle.std.specs.Prelude.{◌≡◌, ◌+◌, ◌<◌, ℕ, true, List, ◌++◌, length, Some}
+use Rattle.std.specs.List.{All, slice_get}
+use Rattle.claim_queue.specs.declared.ends.QueueEnd.{QueueEnd}
+use Rattle.proc_chain.specs.declared.ends.ChainEnd.{ChainEnd}
+use Rattle.proc_chain.specs.declared.ends.ProcChain.{ProcChain}
+use Rattle.proc_chain.specs.declared.quaject.Quaject.{Ghosts}
+use Rattle.proc_chain.specs.Handles.{IsEndOf}
+use Rattle.end_steps.specs.EndLists.{HasRaised, lines_put_at, lines_taken_at, share_at, shuts_at, knows_shut_at}
+use Rattle.end_steps.specs.EndLists.{notes_put_at, notes_taken_at, chain_share_at}
+
+-- The end of each queue has these lines more that were put and taken, that much more of the share, and has shut the queue
+-- so many times more. Each has raised all that it claimed where each had and Raised holds, and knows still that its queue
+-- is shut where it did
+pub record Gained {n : ℕ} (puts takes : ℕ → List (List ℕ)) (shuts shares : ℕ → ℕ) (Raised : Type 0)
+    (old new : List (QueueEnd n)) : Type 0 where
+  pub puts_are : (q : ℕ) → lines_put_at new q ≡ lines_put_at old q ++ puts q
+  pub takes_are : (q : ℕ) → lines_taken_at new q ≡ lines_taken_at old q ++ takes q
+  pub shuts_are : (q : ℕ) → shuts_at new q ≡ shuts_at old q + shuts q
+  pub shares_are : (q : ℕ) → share_at new q ≡ share_at old q + shares q
+  pub raised : All HasRaised old → Raised → All HasRaised new
+  pub known : (q : ℕ) → knows_shut_at old q ≡ true → knows_shut_at new q ≡ true
+
+module _ {Q W : Type 0} {g : Ghosts Q W} where
+  -- the index names a chain, and the end is one of that chain's
+  pub record IsChainEndAt (list : List (ProcChain Q W)) (index : ℕ) (end : ChainEnd Q W g) : Type 0 where
+    pub named : index < length list
+    pub its : (chain : ProcChain Q W) → slice_get list index ≡ Some chain → IsEndOf chain end
+
+  -- the end of each chain has these notes more that were put and taken, and that much more of the share
+  pub record ChainsGained (puts takes : ℕ → List (List ℕ)) (shares : ℕ → ℕ) (old new : List (ChainEnd Q W g))
+      : Type 0 where
+    pub puts_are : (q : ℕ) → notes_put_at new q ≡ notes_put_at old q ++ puts q
+    pub takes_are : (q : ℕ) → notes_taken_at new q ≡ notes_taken_at old q ++ takes q
+    pub shares_are : (q : ℕ) → chain_share_at new q ≡ chain_share_at old q + shares q

@@ -1,0 +1,2 @@
+pub mod ClosedQueues
+pub mod Gains

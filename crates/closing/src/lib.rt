@@ -1,0 +1,12 @@
+//! Closing what the processors and the devices of a boot shared, when all have stopped and one owner has the ends: the
+//! queues, the chains, the thread elements and the meters.
+//!
+//! Nothing here takes memory: the lists of the results come in with room for them. Where the one end of an object has the
+//! whole, so that no other stands, closing it can't be refused.
+#![tactic(auto)]
+
+mod joining;
+mod queues;
+
+pub use joining::{join_at, join_chain_at};
+pub use queues::close_queues;

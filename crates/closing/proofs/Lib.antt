@@ -1,3 +1,4 @@
 pub mod ClosedFacts
 pub mod Drawing
 pub mod Gaining
+pub mod PortGains

@@ -1,2 +1,4 @@
 pub mod ClosedQueues
 pub mod Gains
+pub mod PortSums
+pub mod Retirals

@@ -5,8 +5,12 @@
 //! whole, so that no other stands, closing it can't be refused.
 #![tactic(auto)]
 
+mod chains;
+mod homing;
 mod joining;
 mod queues;
 
+pub use chains::retire_all;
+pub use homing::{Counts, bring_home};
 pub use joining::{join_at, join_chain_at};
 pub use queues::close_queues;

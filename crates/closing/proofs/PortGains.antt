@@ -1,0 +1,81 @@
+-- The ends of ports are joined to a list of ends, one behind the other.
+use Rattle.std.proofs.Common.{◌≡◌, ℕ, ◌+◌, List, [], ◌∷◌, ◌++◌, Some, None, append_assoc, sym, ap, subst, ◌∙◌, arith}
+use Rattle.std.specs.Prelude.{Option}
+use Rattle.std.specs.List.{flat_map, sum_by}
+use Rattle.std.proofs.lemmas.List.{append-nil}
+use Rattle.std.proofs.lemmas.List.Concat.{flat_map-append}
+use Rattle.std.proofs.lemmas.List.Sums.{sum_by_push}
+use Rattle.claim_queue.specs.declared.ends.ClaimQueue.{ClaimQueue}
+use Rattle.claim_queue.specs.declared.ends.QueueEnd.{QueueEnd}
+use Rattle.end_steps.specs.EndLists.{lines_put_at, lines_taken_at, share_at, shuts_at}
+use Rattle.quajects.specs.declared.ports.Port.{Port}
+use Rattle.quajects.specs.Ports.{AllFit, AllUp}
+use Rattle.closing.specs.Gains.{Gained}
+use Rattle.closing.specs.PortSums.{port_puts, port_takes, port_shuts, port_share, ports_put, ports_taken, ports_shut, ports_share}
+
+flat_more : {A B : Type 0} (f : A → List B) (xs : List A) (x : A) → flat_map f xs ++ f x ≡ flat_map f (xs ++ x ∷ [])
+flat_more f xs x = ap (λ z. flat_map f xs ++ z) (sym (append-nil (f x))) ∙ sym (flat_map-append f xs (x ∷ []))
+
+-- lines more, and lines more again
+lines_on : {A B : Type 0} (f : A → List B) (xs : List A) (x : A) (a b c : List B) → b ≡ a ++ flat_map f xs → c ≡ b ++ f x → c ≡ a ++ flat_map f (xs ++ x ∷ [])
+lines_on f xs x a b c e e' = e' ∙ (ap (λ z. z ++ f x) e ∙ (append_assoc a (flat_map f xs) (f x) ∙ ap (λ z. a ++ z) (flat_more f xs x)))
+
+sums_on : {A : Type 0} (f : A → ℕ) (xs : List A) (x : A) (a b c : ℕ) → b ≡ a + sum_by f xs → c ≡ b + f x → c ≡ a + sum_by f (xs ++ x ∷ [])
+sums_on f xs x a b c e e' = let s = sum_by_push f xs x in omega arith
+
+module _ {n : ℕ} where
+  pub gained_none : (ends : List (QueueEnd n)) → Gained (λ q. []) (λ q. []) (λ q. 0) (λ q. 0) (Unit {0}) ends ends
+  gained_none ends = record {
+    puts_are = λ q. sym (append-nil (lines_put_at ends q));
+    takes_are = λ q. sym (append-nil (lines_taken_at ends q));
+    shuts_are = λ q. omega arith;
+    shares_are = λ q. omega arith;
+    raised = λ all up. all;
+    known = λ q h. h;
+  }
+
+  pub gained_weaker : (puts takes : ℕ → List (List ℕ)) (shuts shares : ℕ → ℕ) (R S : Type 0) (old new : List (QueueEnd n)) → (S → R) → Gained puts takes shuts shares R old new → Gained puts takes shuts shares S old new
+  gained_weaker puts takes shuts shares R S old new f h = record {
+    puts_are = h.puts_are;
+    takes_are = h.takes_are;
+    shuts_are = h.shuts_are;
+    shares_are = h.shares_are;
+    raised = λ all s. h.raised all (f s);
+    known = h.known;
+  }
+
+  up_front : (xs ys : List (Option (Port n))) → AllUp (xs ++ ys) → AllUp xs
+  up_front [] ys h = tt
+  up_front (None ∷ xs) ys h = up_front xs ys h
+  up_front (Some x ∷ xs) ys h = (h.0, up_front xs ys h.1)
+
+  up_back : (xs ys : List (Option (Port n))) → AllUp (xs ++ ys) → AllUp ys
+  up_back [] ys h = h
+  up_back (None ∷ xs) ys h = up_back xs ys h
+  up_back (Some x ∷ xs) ys h = up_back xs ys h.1
+
+  fit_back : (queues : List (ClaimQueue n)) (xs ys : List (Option (Port n))) → AllFit queues (xs ++ ys) → AllFit queues ys
+  fit_back queues [] ys h = h
+  fit_back queues (None ∷ xs) ys h = fit_back queues xs ys h
+  fit_back queues (Some x ∷ xs) ys h = fit_back queues xs ys h.1
+
+  fit_one : (queues : List (ClaimQueue n)) (x : Option (Port n)) (ys : List (Option (Port n))) → AllFit queues (x ∷ ys) → AllFit queues (x ∷ [])
+  fit_one queues None ys h = tt
+  fit_one queues (Some x) ys h = (h.0, tt)
+
+  pub fit_next : (queues : List (ClaimQueue n)) (xs : List (Option (Port n))) (x : Option (Port n)) (ys all : List (Option (Port n))) → xs ++ x ∷ ys ≡ all → AllFit queues all → AllFit queues (x ∷ [])
+  fit_next queues xs x ys all e h = fit_one queues x ys (fit_back queues xs (x ∷ ys) (subst (AllFit queues) (sym e) h))
+
+  -- a port more
+  pub gained_more : (ports : List (Option (Port n))) (port : Option (Port n)) (a b c : List (QueueEnd n))
+      → Gained (ports_put ports) (ports_taken ports) (ports_shut ports) (ports_share ports) (AllUp ports) a b
+      → Gained (λ q. port_puts q port) (λ q. port_takes q port) (λ q. port_shuts q port) (λ q. port_share q port) (AllUp (port ∷ [])) b c
+      → (all : List (Option (Port n))) → all ≡ ports ++ port ∷ [] → Gained (ports_put all) (ports_taken all) (ports_shut all) (ports_share all) (AllUp all) a c
+  gained_more ports port a b c h k all e = subst (λ z. Gained (ports_put z) (ports_taken z) (ports_shut z) (ports_share z) (AllUp z) a c) (sym e) (record {
+    puts_are = λ q. lines_on (port_puts q) ports port (lines_put_at a q) (lines_put_at b q) (lines_put_at c q) (h.puts_are q) (k.puts_are q);
+    takes_are = λ q. lines_on (port_takes q) ports port (lines_taken_at a q) (lines_taken_at b q) (lines_taken_at c q) (h.takes_are q) (k.takes_are q);
+    shuts_are = λ q. sums_on (port_shuts q) ports port (shuts_at a q) (shuts_at b q) (shuts_at c q) (h.shuts_are q) (k.shuts_are q);
+    shares_are = λ q. sums_on (port_share q) ports port (share_at a q) (share_at b q) (share_at c q) (h.shares_are q) (k.shares_are q);
+    raised = λ up more. k.raised (h.raised up (up_front ports (port ∷ []) more)) (up_back ports (port ∷ []) more);
+    known = λ q s. k.known q (h.known q s);
+  })

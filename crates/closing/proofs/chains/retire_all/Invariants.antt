@@ -1,0 +1,14 @@
+use Rattle.std.proofs.Common.{◌≡◌, ◌≤◌, length, vec_len, vec_capacity}
+use Rattle.std.specs.Vec.Iter.{into_iter_items, into_iter_len}
+use Rattle.closing.specs.Retirals.{HasRetired}
+use Rattle.closing.proofs.Drawing.{Drawn}
+use Rattle.closing.proofs.chains.retire_all.Given as goal
+
+abbrev pub invariant-loop-chain : goal.invariant-loop-chain
+invariant-loop-chain l = record {
+  drawn : Drawn HasRetired l.fn.chains.items l.fn.ends.items l.yielded (into_iter_items l.chain-iterator) (into_iter_items l.ends) l.homes.items;
+  left : into_iter_len l.chain-iterator ≡ length (into_iter_items l.chain-iterator);
+  rest : into_iter_len l.ends ≡ length (into_iter_items l.ends);
+  number : vec_len l.homes ≡ length l.yielded;
+  room : length l.fn.chains.items ≤ vec_capacity l.homes;
+}

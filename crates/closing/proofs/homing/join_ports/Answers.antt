@@ -1,0 +1,29 @@
+use Rattle.std.proofs.Common.{arith, ◌∷◌, ◌++◌, refl, sym, ap, ◌∙◌, append_assoc, []}
+use Rattle.std.specs.Array.Iter.{array_into_iter_items}
+use Rattle.end_steps.specs.EndLists.{end_table, end_call}
+use Rattle.end_steps.proofs.Walking.{same_on}
+use Rattle.closing.proofs.PortGains.{fit_next, gained_more}
+use Rattle.closing.proofs.homing.join_ports.Goals as goal
+
+pub join_port-requires : goal.join_port-requires
+join_port-requires g c = let v = c.loop-port.invariant in (
+  omega arith,
+  (
+    omega arith,
+    (
+      omega arith,
+      (
+        v.same.tables ∙ c.requires.ends,
+        fit_next c.args.queues.now c.loop-port.yielded c.in-Some.port (array_into_iter_items c.next.new.self) c.args.ports
+            (ap (λ z. c.loop-port.yielded ++ z) (sym c.in-Some.ensures.steps) ∙ v.parts) c.requires.fits,
+      ),
+    ),
+  ),
+)
+
+pub loop-port-preserved : goal.loop-port-preserved
+loop-port-preserved g c = let v = c.loop-port.invariant in record {
+  gained = gained_more c.loop-port.yielded c.in-Some.port c.args.ends.now.items c.loop-port.ends.items c.join_port.new.ends.items v.gained c.join_port.ensures.gained _ refl;
+  same = same_on end_table end_call c.args.ends.now.items c.loop-port.ends.items c.join_port.new.ends.items v.same c.join_port.ensures.same;
+  parts = append_assoc c.loop-port.yielded (c.in-Some.port ∷ []) (array_into_iter_items c.next.new.self) ∙ (ap (λ z. c.loop-port.yielded ++ z) (sym c.in-Some.ensures.steps) ∙ v.parts);
+}

@@ -1,0 +1,105 @@
+//! The ends of a quaject that came home go to those of their queues.
+ghost use Rattle.std.specs.Prelude.{◌≡◌, ◌≤◌, [], ◌∷◌};
+ghost use Rattle.closing.specs.Gains.{Gained};
+ghost use Rattle.closing.specs.PortSums.{port_puts, port_takes, port_shuts, port_share};
+ghost use Rattle.closing.specs.PortSums.{ports_put, ports_taken, ports_shut, ports_share};
+ghost use Rattle.end_steps.specs.EndLists.{AreEndsOf, AreSameEnds};
+ghost use Rattle.quajects.specs.Ports.{AllFit, AllUp};
+
+use crate::joining::join_at;
+use claim_queue::{ClaimQueue, QueueEnd};
+use quajects::{Home, Port, Queues};
+
+/// The numbers of a quaject that came home: so many notes were put in its chain, `left` of them were not run; it ran so
+/// many notes, took and put so many items, and holds so many.
+#[derive(Clone, Copy, Debug, PartialEq, Eq, Drop)]
+pub struct Counts {
+    pub chained: u32,
+    pub left: usize,
+    pub notes: u64,
+    pub taken: u64,
+    pub put: u64,
+    pub held: usize,
+}
+
+// Joins the end of a port, where there is one, to the one of its queue.
+fn join_port<const N: usize>(
+    queues: &[ClaimQueue<N>],
+    ends: &mut Vec<QueueEnd<N>>,
+    port: Option<Port<N>>,
+)
+    requires ends { AreEndsOf queues.now ends.old.items }
+    requires fits { AllFit queues.now (port ∷ []) }
+    ensures same { AreSameEnds ends.old.items ends.new.items }
+    ensures gained { Gained (λ q. port_puts q port.entry) (λ q. port_takes q port.entry) (λ q. port_shuts q port.entry)
+        (λ q. port_share q port.entry) (AllUp (port.entry ∷ [])) ends.old.items ends.new.items }
+{
+    match port {
+        Some(Port { index, end }) => join_at(queues, ends, index, end),
+        None => {}
+    }
+}
+
+// Joins the ends of all ports.
+fn join_ports<const N: usize, const K: usize>(
+    queues: &[ClaimQueue<N>],
+    ends: &mut Vec<QueueEnd<N>>,
+    ports: [Option<Port<N>>; K],
+)
+    requires few { K ≤ 6 }
+    requires ends { AreEndsOf queues.now ends.old.items }
+    requires fits { AllFit queues.now ports }
+    ensures same { AreSameEnds ends.old.items ends.new.items }
+    ensures gained { Gained (ports_put ports.entry) (ports_taken ports.entry) (ports_shut ports.entry)
+        (ports_share ports.entry) (AllUp ports.entry) ends.old.items ends.new.items }
+{
+    for port in ports {
+        join_port(queues, ends, port);
+    }
+}
+
+/// Joins the ends of a quaject that came home, each to the one of its queue in the lists, which then have what those had,
+/// and gives its numbers. It takes no memory.
+///
+/// Conditions: the ends in the lists are those of the queues, in their order, and each end of the quaject is one of the
+/// queue that it names.
+pub fn bring_home(
+    queues: &Queues,
+    small: &mut Vec<QueueEnd<64>>,
+    large: &mut Vec<QueueEnd<256>>,
+    home: Home,
+) -> Counts
+    requires small { AreEndsOf queues.now.small.items small.old.items }
+    requires large { AreEndsOf queues.now.large.items large.old.items }
+    requires fits { AllFit queues.now.small.items home.small × AllFit queues.now.large.items home.large }
+    ensures same { AreSameEnds small.old.items small.new.items × AreSameEnds large.old.items large.new.items }
+    ensures small { AreEndsOf queues.now.small.items small.new.items }
+    ensures large { AreEndsOf queues.now.large.items large.new.items }
+    ensures small_gained { Gained (ports_put home.small) (ports_taken home.small) (ports_shut home.small)
+        (ports_share home.small) (AllUp home.small) small.old.items small.new.items }
+    ensures large_gained { Gained (ports_put home.large) (ports_taken home.large) (ports_shut home.large)
+        (ports_share home.large) (AllUp home.large) large.old.items large.new.items }
+    ensures notes { (result.chained ≡ home.chained) × (result.left ≡ home.left) × (result.notes ≡ home.notes) }
+    ensures items { (result.taken ≡ home.taken) × (result.put ≡ home.put) × (result.held ≡ home.held) }
+{
+    let Home {
+        small: mine,
+        large: others,
+        chained,
+        left,
+        notes,
+        taken,
+        put,
+        held,
+    } = home;
+    join_ports(queues.small.as_slice(), small, mine);
+    join_ports(queues.large.as_slice(), large, others);
+    Counts {
+        chained,
+        left,
+        notes,
+        taken,
+        put,
+        held,
+    }
+}

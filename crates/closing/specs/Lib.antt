@@ -1,4 +1,5 @@
 pub mod ClosedQueues
 pub mod Gains
+pub mod Placings
 pub mod PortSums
 pub mod Retirals

@@ -9,8 +9,10 @@ mod chains;
 mod homing;
 mod joining;
 mod queues;
+mod tables;
 
 pub use chains::retire_all;
 pub use homing::{Counts, bring_home};
 pub use joining::{join_at, join_chain_at};
 pub use queues::close_queues;
+pub use tables::{close_meters, close_threads};

@@ -1,7 +1,7 @@
 -- The ends of ports are joined to a list of ends, one behind the other.
-use Rattle.std.proofs.Common.{◌≡◌, ℕ, ◌+◌, List, [], ◌∷◌, ◌++◌, Some, None, append_assoc, sym, ap, subst, ◌∙◌, arith}
+use Rattle.std.proofs.Common.{◌≡◌, ℕ, zero, suc, ◌+◌, List, [], ◌∷◌, ◌++◌, Some, None, append_assoc, sym, ap, subst, ◌∙◌, arith}
 use Rattle.std.specs.Prelude.{Option}
-use Rattle.std.specs.List.{flat_map, sum_by}
+use Rattle.std.specs.List.{All, flat_map, sum_by}
 use Rattle.std.proofs.lemmas.List.{append-nil}
 use Rattle.std.proofs.lemmas.List.Concat.{flat_map-append}
 use Rattle.std.proofs.lemmas.List.Sums.{sum_by_push}
@@ -10,6 +10,8 @@ use Rattle.claim_queue.specs.declared.ends.QueueEnd.{QueueEnd}
 use Rattle.end_steps.specs.EndLists.{lines_put_at, lines_taken_at, share_at, shuts_at}
 use Rattle.quajects.specs.declared.ports.Port.{Port}
 use Rattle.quajects.specs.Ports.{AllFit, AllUp}
+use Rattle.quajects.specs.declared.home.Home.{Home}
+use Rattle.closing.specs.Comings.{GainedSmall, GainedLarge, GainedAllSmall, GainedAllLarge}
 use Rattle.closing.specs.Gains.{Gained}
 use Rattle.closing.specs.PortSums.{port_puts, port_takes, port_shuts, port_share, ports_put, ports_taken, ports_shut, ports_share}
 
@@ -66,16 +68,54 @@ module _ {n : ℕ} where
   pub fit_next : (queues : List (ClaimQueue n)) (xs : List (Option (Port n))) (x : Option (Port n)) (ys all : List (Option (Port n))) → xs ++ x ∷ ys ≡ all → AllFit queues all → AllFit queues (x ∷ [])
   fit_next queues xs x ys all e h = fit_one queues x ys (fit_back queues xs (x ∷ ys) (subst (AllFit queues) (sym e) h))
 
+  -- what one more adds, where each of a list adds so much
+  pub gained_on : {A : Type 0} (puts takes : ℕ → A → List (List ℕ)) (shuts shares : ℕ → A → ℕ) (R S T : Type 0) (xs : List A) (x : A) (a b c : List (QueueEnd n)) → (T → R × S)
+      → Gained (λ q. flat_map (puts q) xs) (λ q. flat_map (takes q) xs) (λ q. sum_by (shuts q) xs) (λ q. sum_by (shares q) xs) R a b
+      → Gained (λ q. puts q x) (λ q. takes q x) (λ q. shuts q x) (λ q. shares q x) S b c
+      → Gained (λ q. flat_map (puts q) (xs ++ x ∷ [])) (λ q. flat_map (takes q) (xs ++ x ∷ [])) (λ q. sum_by (shuts q) (xs ++ x ∷ [])) (λ q. sum_by (shares q) (xs ++ x ∷ [])) T a c
+  gained_on puts takes shuts shares R S T xs x a b c f h k = record {
+    puts_are = λ q. lines_on (puts q) xs x (lines_put_at a q) (lines_put_at b q) (lines_put_at c q) (h.puts_are q) (k.puts_are q);
+    takes_are = λ q. lines_on (takes q) xs x (lines_taken_at a q) (lines_taken_at b q) (lines_taken_at c q) (h.takes_are q) (k.takes_are q);
+    shuts_are = λ q. sums_on (shuts q) xs x (shuts_at a q) (shuts_at b q) (shuts_at c q) (h.shuts_are q) (k.shuts_are q);
+    shares_are = λ q. sums_on (shares q) xs x (share_at a q) (share_at b q) (share_at c q) (h.shares_are q) (k.shares_are q);
+    raised = λ up more. let both = f more in k.raised (h.raised up both.0) both.1;
+    known = λ q s. k.known q (h.known q s);
+  }
+
   -- a port more
   pub gained_more : (ports : List (Option (Port n))) (port : Option (Port n)) (a b c : List (QueueEnd n))
       → Gained (ports_put ports) (ports_taken ports) (ports_shut ports) (ports_share ports) (AllUp ports) a b
       → Gained (λ q. port_puts q port) (λ q. port_takes q port) (λ q. port_shuts q port) (λ q. port_share q port) (AllUp (port ∷ [])) b c
-      → (all : List (Option (Port n))) → all ≡ ports ++ port ∷ [] → Gained (ports_put all) (ports_taken all) (ports_shut all) (ports_share all) (AllUp all) a c
-  gained_more ports port a b c h k all e = subst (λ z. Gained (ports_put z) (ports_taken z) (ports_shut z) (ports_share z) (AllUp z) a c) (sym e) (record {
-    puts_are = λ q. lines_on (port_puts q) ports port (lines_put_at a q) (lines_put_at b q) (lines_put_at c q) (h.puts_are q) (k.puts_are q);
-    takes_are = λ q. lines_on (port_takes q) ports port (lines_taken_at a q) (lines_taken_at b q) (lines_taken_at c q) (h.takes_are q) (k.takes_are q);
-    shuts_are = λ q. sums_on (port_shuts q) ports port (shuts_at a q) (shuts_at b q) (shuts_at c q) (h.shuts_are q) (k.shuts_are q);
-    shares_are = λ q. sums_on (port_share q) ports port (share_at a q) (share_at b q) (share_at c q) (h.shares_are q) (k.shares_are q);
-    raised = λ up more. k.raised (h.raised up (up_front ports (port ∷ []) more)) (up_back ports (port ∷ []) more);
-    known = λ q s. k.known q (h.known q s);
-  })
+      → Gained (ports_put (ports ++ port ∷ [])) (ports_taken (ports ++ port ∷ [])) (ports_shut (ports ++ port ∷ [])) (ports_share (ports ++ port ∷ [])) (AllUp (ports ++ port ∷ [])) a c
+  gained_more ports port a b c h k = gained_on port_puts port_takes port_shuts port_share (AllUp ports) (AllUp (port ∷ [])) (AllUp (ports ++ port ∷ [])) ports port a b c
+      (λ up. (up_front ports (port ∷ []) up, up_back ports (port ∷ []) up)) h k
+
+module _ {A : Type 0} (P : A → Type 0) where
+  pub all_and_last : (xs : List A) (x : A) → All P (xs ++ x ∷ []) → All P xs × P x
+  all_and_last xs x h = (front xs h, last xs h)
+    where
+      front : (ys : List A) → All P (ys ++ x ∷ []) → All P ys
+      front [] h k d l = absurd (omega arith)
+      front (y ∷ ys) h zero d l = h zero d (omega arith)
+      front (y ∷ ys) h (suc k) d l = front ys (λ k d l. h (suc k) d (omega arith)) k d (omega arith)
+
+      last : (ys : List A) → All P (ys ++ x ∷ []) → P x
+      last [] h = h 0 x (omega arith)
+      last (y ∷ ys) h = last ys (λ k d l. h (suc k) d (omega arith))
+
+  -- what holds of each holds of the next
+  pub all_next : (xs : List A) (x : A) (ys all : List A) → xs ++ x ∷ ys ≡ all → All P all → P x
+  all_next xs x ys all e h = behind xs (subst (All P) (sym e) h)
+    where
+      behind : (zs : List A) → All P (zs ++ x ∷ ys) → P x
+      behind [] h = h 0 x (omega arith)
+      behind (z ∷ zs) h = behind zs (λ k d l. h (suc k) d (omega arith))
+
+module _ (homes : List Home) (home : Home) where
+  pub small_more : (a b c : List (QueueEnd 64)) → GainedAllSmall homes a b → GainedSmall home b c → GainedAllSmall (homes ++ home ∷ []) a c
+  small_more a b c h k = gained_on (λ q (x : Home). ports_put x.small q) (λ q (x : Home). ports_taken x.small q) (λ q (x : Home). ports_shut x.small q) (λ q (x : Home). ports_share x.small q)
+      (All (λ (x : Home). AllUp x.small) homes) (AllUp home.small) (All (λ (x : Home). AllUp x.small) (homes ++ home ∷ [])) homes home a b c (all_and_last (λ (x : Home). AllUp x.small) homes home) h k
+
+  pub large_more : (a b c : List (QueueEnd 256)) → GainedAllLarge homes a b → GainedLarge home b c → GainedAllLarge (homes ++ home ∷ []) a c
+  large_more a b c h k = gained_on (λ q (x : Home). ports_put x.large q) (λ q (x : Home). ports_taken x.large q) (λ q (x : Home). ports_shut x.large q) (λ q (x : Home). ports_share x.large q)
+      (All (λ (x : Home). AllUp x.large) homes) (AllUp home.large) (All (λ (x : Home). AllUp x.large) (homes ++ home ∷ [])) homes home a b c (all_and_last (λ (x : Home). AllUp x.large) homes home) h k

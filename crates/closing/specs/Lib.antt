@@ -1,4 +1,5 @@
 pub mod ClosedQueues
+pub mod Comings
 pub mod Gains
 pub mod Placings
 pub mod PortSums

@@ -1,5 +1,7 @@
 //! The ends of a quaject that came home go to those of their queues.
-ghost use Rattle.std.specs.Prelude.{◌≡◌, ◌≤◌, [], ◌∷◌};
+ghost use Rattle.std.specs.Prelude.{◌≡◌, ◌≤◌, [], ◌∷◌, map, length, vec_capacity};
+ghost use Rattle.std.specs.List.{All};
+ghost use Rattle.closing.specs.Comings.{GainedSmall, GainedLarge, GainedAllSmall, GainedAllLarge, FitsHome, counts_of};
 ghost use Rattle.closing.specs.Gains.{Gained};
 ghost use Rattle.closing.specs.PortSums.{port_puts, port_takes, port_shuts, port_share};
 ghost use Rattle.closing.specs.PortSums.{ports_put, ports_taken, ports_shut, ports_share};
@@ -71,16 +73,13 @@ pub fn bring_home(
 ) -> Counts
     requires small { AreEndsOf queues.now.small.items small.old.items }
     requires large { AreEndsOf queues.now.large.items large.old.items }
-    requires fits { AllFit queues.now.small.items home.small × AllFit queues.now.large.items home.large }
+    requires fits { FitsHome queues.now home }
     ensures same { AreSameEnds small.old.items small.new.items × AreSameEnds large.old.items large.new.items }
     ensures small { AreEndsOf queues.now.small.items small.new.items }
     ensures large { AreEndsOf queues.now.large.items large.new.items }
-    ensures small_gained { Gained (ports_put home.small) (ports_taken home.small) (ports_shut home.small)
-        (ports_share home.small) (AllUp home.small) small.old.items small.new.items }
-    ensures large_gained { Gained (ports_put home.large) (ports_taken home.large) (ports_shut home.large)
-        (ports_share home.large) (AllUp home.large) large.old.items large.new.items }
-    ensures notes { (result.chained ≡ home.chained) × (result.left ≡ home.left) × (result.notes ≡ home.notes) }
-    ensures items { (result.taken ≡ home.taken) × (result.put ≡ home.put) × (result.held ≡ home.held) }
+    ensures small_gained { GainedSmall home small.old.items small.new.items }
+    ensures large_gained { GainedLarge home large.old.items large.new.items }
+    ensures counts { result ≡ counts_of home }
 {
     let Home {
         small: mine,
@@ -102,4 +101,33 @@ pub fn bring_home(
         put,
         held,
     }
+}
+
+/// The same of all that came home, one behind the other. The numbers go into `counts`, in the order of the homes, which is
+/// empty and has room for them, so it takes no memory.
+///
+/// Conditions: those of `bring_home`, for each.
+pub fn bring_all_home(
+    queues: &Queues,
+    small: &mut Vec<QueueEnd<64>>,
+    large: &mut Vec<QueueEnd<256>>,
+    homes: Vec<Home>,
+    counts: Vec<Counts>,
+) -> Vec<Counts>
+    requires small { AreEndsOf queues.now.small.items small.old.items }
+    requires large { AreEndsOf queues.now.large.items large.old.items }
+    requires fits { All (FitsHome queues.now) homes.items }
+    requires room { (counts.items ≡ []) × (length homes.items ≤ vec_capacity counts) }
+    ensures same { AreSameEnds small.old.items small.new.items × AreSameEnds large.old.items large.new.items }
+    ensures small { AreEndsOf queues.now.small.items small.new.items }
+    ensures large { AreEndsOf queues.now.large.items large.new.items }
+    ensures small_gained { GainedAllSmall homes.items small.old.items small.new.items }
+    ensures large_gained { GainedAllLarge homes.items large.old.items large.new.items }
+    ensures counts { result.items ≡ map counts_of homes.items }
+{
+    let mut counts = counts;
+    for home in homes {
+        counts.push_reserved(bring_home(queues, small, large, home));
+    }
+    counts
 }

@@ -12,7 +12,7 @@ mod queues;
 mod tables;
 
 pub use chains::retire_all;
-pub use homing::{Counts, bring_home};
+pub use homing::{Counts, bring_all_home, bring_home};
 pub use joining::{join_at, join_chain_at};
 pub use queues::close_queues;
 pub use tables::{close_meters, close_threads};

@@ -1,4 +1,4 @@
-use Rattle.std.proofs.Common.{arith, ◌∷◌, ◌++◌, refl, sym, ap, ◌∙◌, append_assoc, []}
+use Rattle.std.proofs.Common.{arith, ◌∷◌, ◌++◌, sym, ap, ◌∙◌, append_assoc, []}
 use Rattle.std.specs.Array.Iter.{array_into_iter_items}
 use Rattle.end_steps.specs.EndLists.{end_table, end_call}
 use Rattle.end_steps.proofs.Walking.{same_on}
@@ -23,7 +23,7 @@ join_port-requires g c = let v = c.loop-port.invariant in (
 
 pub loop-port-preserved : goal.loop-port-preserved
 loop-port-preserved g c = let v = c.loop-port.invariant in record {
-  gained = gained_more c.loop-port.yielded c.in-Some.port c.args.ends.now.items c.loop-port.ends.items c.join_port.new.ends.items v.gained c.join_port.ensures.gained _ refl;
+  gained = gained_more c.loop-port.yielded c.in-Some.port c.args.ends.now.items c.loop-port.ends.items c.join_port.new.ends.items v.gained c.join_port.ensures.gained;
   same = same_on end_table end_call c.args.ends.now.items c.loop-port.ends.items c.join_port.new.ends.items v.same c.join_port.ensures.same;
   parts = append_assoc c.loop-port.yielded (c.in-Some.port ∷ []) (array_into_iter_items c.next.new.self) ∙ (ap (λ z. c.loop-port.yielded ++ z) (sym c.in-Some.ensures.steps) ∙ v.parts);
 }

@@ -1,0 +1,142 @@
+-- How the closed tables agree with the plan and with what the processors did.
+use Rattle.std.specs.Prelude.{◌≡◌, ◌⊎◌, ◌≤◌, ◌<◌, ◌+◌, ◌%◌, ◌==◌, ◌||◌, ℕ, nat_lt, if◌then◌else◌, List, [], ◌∷◌, ◌++◌}
+use Rattle.std.specs.Prelude.{length, map, take, flat_map, Option, Some, None, count_by}
+use Rattle.std.specs.List.{slice_get, list_any}
+use Rattle.boot_script.specs.declared.boot_plan.BootPlan.{BootPlan}
+use Rattle.boot_script.specs.declared.plan.Mover.{Mover}
+use Rattle.boot_script.specs.declared.plan.Mover.TheVariants as movers
+use Rattle.boot_script.specs.declared.plan.PlannedTty.{PlannedTty}
+use Rattle.boot_script.specs.declared.plan.Way.{Way as PlannedWay}
+use Rattle.boot_script.specs.QueueLists.{raw_queue, line_queue, screen_queue}
+use Rattle.claim_queue.specs.Lines.{IsCut}
+use Rattle.meters.specs.Views.{amount_on, times}
+use Rattle.quaject_core.specs.declared.alarm.Alarm.{Alarm}
+use Rattle.quajects.specs.declared.any.AnyQuaject.{AnyQuaject}
+use Rattle.quajects.specs.declared.any.AnyQuaject.TheVariants as any
+use Rattle.quajects.specs.declared.ways.Way.{Way}
+use Rattle.quajects.specs.Anys.{IsKept, notes_of, all_taken}
+use Rattle.thread_table.specs.declared.places.Place.{Place}
+use Rattle.thread_table.specs.declared.places.Place.TheVariants as places
+use Rattle.thread_table.specs.Answers.{is_in}
+use Rattle.processor.specs.Logs.{Entry, small_put, small_taken, large_put, large_taken, ticked_by, fired_by}
+use Rattle.processor.specs.Programs.{program, same_key}
+use Rattle.reports.specs.Closed.{Closed}
+use Rattle.reports.specs.Closed as closed
+use Rattle.reports.specs.Doings.{done_by, signals_by, is_poke, is_for}
+use Rattle.reports.specs.Lists.{all_of}
+
+-- THREADS
+
+-- the steps done are the first so many of the thread's program, each done once, whichever processor did it
+pub record StepsAgree (plan : BootPlan) (thread steps : ℕ) (logs : List (List Entry)) : Type 0 where
+  pub prefix : steps ≤ length (program plan thread)
+  pub once : (number : ℕ) → count_by (same_key (thread, number)) (flat_map done_by (all_of logs))
+      ≡ (if nat_lt number steps then 1 else 0)
+
+-- a free thread has done all its steps, and none stands on a processor
+abbrev pub PlaceAgrees : Place → ℕ → ℕ → Type 0
+PlaceAgrees places.Free steps all = steps ≡ all
+PlaceAgrees (places.Processor p) steps all = ⊥
+PlaceAgrees place steps all = Unit {0}
+
+-- a signal was shown, or is pending, exactly where a done step or a fired alarm raised it on the thread
+abbrev pub SignalsAgree : ℕ → closed.Thread → List Alarm → List (List Entry) → Type 0
+SignalsAgree thread t fired logs = (signal : ℕ) → signal < 16
+    → (is_in t.shown signal || is_in t.pending signal)
+    ≡ (list_any (same_key (thread, signal)) (flat_map signals_by (all_of logs)) || list_any (is_for thread signal) fired)
+
+pub record ThreadAgrees (plan : BootPlan) (thread : ℕ) (t : closed.Thread) (fired : List Alarm) (logs : List (List Entry))
+    : Type 0 where
+  pub ran : StepsAgree plan thread t.steps logs
+  pub place : PlaceAgrees t.place t.steps (length (program plan thread))
+  pub signals : SignalsAgree thread t fired logs
+
+-- QUEUES
+
+-- The lines that each processor put are those of its log, in that order, and the lines that it took; cut by claim, the
+-- items put are the lines put, each once; cut by taking, the items taken are the lines taken, each once
+pub record QueueAgrees (put taken : List Entry → List (List ℕ)) (q : closed.Queue) (logs : List (List Entry))
+    : Type 0 where
+  pub behind : q.taken ≤ length q.items
+  pub said : q.put_by ≡ map put logs
+  pub heard : q.taken_by ≡ map taken logs
+  pub claims : IsCut q.items (all_of q.put_by ++ q.put_by_others)
+  pub takings : IsCut (take q.taken q.items) (all_of q.taken_by ++ q.taken_by_others)
+
+abbrev pub SmallAgrees : ℕ → closed.Queue → List (List Entry) → Type 0
+SmallAgrees number q logs = QueueAgrees (λ log. small_put log number) (λ log. small_taken log number) q logs
+
+abbrev pub LargeAgrees : ℕ → closed.Queue → List (List Entry) → Type 0
+LargeAgrees number q logs = QueueAgrees (λ log. large_put log number) (λ log. large_taken log number) q logs
+
+-- the small queue that a quaject takes lines from
+abbrev pub source_of : AnyQuaject → ℕ
+source_of (any.Cooked tty) = tty.raw.index
+source_of (any.Pump pump) = pump.source.index
+source_of (any.Switch switch) = switch.source.index
+
+-- the lines that it took from the small queue with this number
+abbrev pub taken_from : ℕ → closed.Chain → List (List ℕ)
+taken_from number chain = if source_of chain.quaject == number then all_taken chain.quaject else []
+
+-- the lines that others than processors took from a small queue are those that the quajects took there
+abbrev pub IsTakenByQuajects : Closed → ℕ → closed.Queue → Type 0
+IsTakenByQuajects c number q = q.taken_by_others ≡ flat_map (taken_from number) (c.movers ++ c.ttys)
+
+-- TTYS
+
+-- these are the bytes, in their order, without the refused ones
+abbrev pub AreWithout : List ℕ → ℕ → List ℕ → Type 0
+AreWithout [] refused items = (items ≡ []) × (refused ≡ 0)
+AreWithout (b ∷ bytes) refused items =
+    ((rest : List ℕ) × (items ≡ b ∷ rest) × AreWithout bytes refused rest)
+    ⊎ ((fewer : ℕ) × (refused ≡ fewer + 1) × AreWithout bytes fewer items)
+
+-- it is a cooked tty over these three queues
+abbrev pub IsTty : ℕ → ℕ → ℕ → AnyQuaject → Type 0
+IsTty raw line screen (any.Cooked tty) = (tty.raw.index ≡ raw) × (tty.line.index ≡ line) × (tty.screen.index ≡ screen)
+IsTty raw line screen quaject = ⊥
+
+-- The device popped what the plan types; the raw items put are these bytes, in their order, without those refused; and
+-- the cooked tty kept its law
+pub record TtyAgrees (queues tty : ℕ) (p : PlannedTty) (t : closed.Chain) (d : closed.Device) (raw : closed.Queue)
+    : Type 0 where
+  pub typed : d.popped ≡ p.typed
+  pub bytes : AreWithout d.popped d.refused raw.items
+  pub its : IsTty (raw_queue queues tty) (line_queue tty) (screen_queue tty) t.quaject
+  pub cooked : IsKept t.quaject
+
+-- PUMPS AND SWITCHES
+
+abbrev pub route_of : PlannedWay → ℕ × ℕ
+route_of way = (way.key, way.to)
+
+abbrev pub routes_of : Option Way → List (ℕ × ℕ)
+routes_of None = []
+routes_of (Some way) = (way.key, way.outlet.index) ∷ []
+
+-- it is the pump or switch of the plan, over its queues and with its keys
+abbrev pub IsMover : Mover → AnyQuaject → Type 0
+IsMover (movers.Pump from to) (any.Pump pump) = (pump.source.index ≡ from) × (pump.target.index ≡ to)
+IsMover (movers.Switch from other ways) (any.Switch switch) = (switch.source.index ≡ from)
+    × (switch.other.index ≡ other) × (flat_map routes_of switch.ways ≡ map route_of ways)
+IsMover mover quaject = ⊥
+
+-- the lines that it took are those that it put, each where it belongs, and the one held; and the notes that it ran and
+-- those left in its chain are, by number, the done pokes
+pub record MoverAgrees (mover : ℕ) (planned : Mover) (m : closed.Chain) (logs : List (List Entry)) : Type 0 where
+  pub its : IsMover planned m.quaject
+  pub kept : IsKept m.quaject
+  pub pokes : notes_of m.quaject + m.left ≡ count_by (is_poke mover) (all_of logs)
+
+-- METERS
+
+-- a gauge is the sum of its ticks, modulo 2^64
+abbrev pub GaugesAgree : List ℕ → List (List Entry) → Type 0
+GaugesAgree gauges logs = (gauge value : ℕ) → slice_get gauges gauge ≡ Some value
+    → value ≡ amount_on gauge (flat_map ticked_by (all_of logs)) % 18446744073709551616
+
+-- the alarms of the plan are fired or left, each once, and the processors fired those fired
+pub record AlarmsAgree (plan : BootPlan) (c : Closed) (logs : List (List Entry)) : Type 0 where
+  pub each : (alarm : Alarm) → times alarm plan.alarms ≡ times alarm c.fired + times alarm c.left
+  pub by : c.fired ≡ flat_map fired_by (all_of logs)

@@ -1,0 +1,8 @@
+pub mod Lists
+pub mod Doings
+pub mod Closed
+pub mod Lines
+pub mod Agreements
+pub mod Reports
+pub mod Stations
+pub mod Endings

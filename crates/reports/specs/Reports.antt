@@ -1,0 +1,51 @@
+-- The report of a boot, and how it agrees with the plan, the closed tables and what the processors did.
+use Rattle.std.specs.Prelude.{◌≡◌, ◌⊎◌, ◌<◌, ℕ, List, [], flat_map, Some}
+use Rattle.std.specs.Prelude.{IsPermutation, length, ◌++◌}
+use Rattle.std.specs.List.{slice_get, AllByRecursion}
+use Rattle.boot_script.specs.declared.boot_plan.BootPlan.{BootPlan}
+use Rattle.boot_script.specs.declared.plan.PlannedMover.{PlannedMover}
+use Rattle.boot_script.specs.declared.plan.PlannedTty.{PlannedTty}
+use Rattle.boot_script.specs.declared.report.Report.{Report}
+use Rattle.boot_script.specs.QueueLists.{raw_queue}
+use Rattle.processor.specs.Logs.{Entry, IsPlanned, heard_by}
+use Rattle.processor.specs.Running.{Line}
+use Rattle.reports.specs.Agreements.{ThreadAgrees, SmallAgrees, LargeAgrees, IsTakenByQuajects, TtyAgrees, MoverAgrees}
+use Rattle.reports.specs.Agreements.{GaugesAgree, AlarmsAgree}
+use Rattle.reports.specs.Closed.{Closed}
+use Rattle.reports.specs.Closed as closed
+use Rattle.reports.specs.Lines.{Says}
+use Rattle.reports.specs.Lists.{all_of}
+
+-- the closed tables agree with the plan and with the processors' logs
+pub record TablesAgree (plan : BootPlan) (c : Closed) (logs : List (List Entry)) : Type 0 where
+  pub planned : AllByRecursion (AllByRecursion (IsPlanned plan)) logs
+  pub threads : (thread : ℕ) (t : closed.Thread) → slice_get c.threads thread ≡ Some t
+      → ThreadAgrees plan thread t c.fired logs
+  pub small : (number : ℕ) (q : closed.Queue) → slice_get c.small number ≡ Some q
+      → SmallAgrees number q logs × IsTakenByQuajects c number q
+  pub large : (number : ℕ) (q : closed.Queue) → slice_get c.large number ≡ Some q
+      → LargeAgrees number q logs × (q.taken_by_others ≡ [])
+  pub ttys : (tty : ℕ) (p : PlannedTty) (t : closed.Chain) (d : closed.Device) (raw : closed.Queue)
+      → slice_get plan.ttys tty ≡ Some p → slice_get c.ttys tty ≡ Some t → slice_get c.devices tty ≡ Some d
+      → slice_get c.small (raw_queue (length plan.queues) tty) ≡ Some raw
+      → TtyAgrees (length plan.queues) tty p t d raw
+  pub movers : (mover : ℕ) (p : PlannedMover) (m : closed.Chain) → slice_get plan.movers mover ≡ Some p
+      → slice_get c.movers mover ≡ Some m → MoverAgrees mover p.mover m logs
+  pub gauges : GaugesAgree c.gauges logs
+  pub alarms : AlarmsAgree plan c logs
+  pub none_left : (chain : closed.Chain) (k : ℕ) → slice_get (c.movers ++ c.ttys) k ≡ Some chain → chain.left ≡ 0
+
+-- by thread, and then by step
+abbrev pub IsBefore : Line → Line → Type 0
+IsBefore a b = (a.0.0 < b.0.0) ⊎ ((a.0.0 ≡ b.0.0) × (a.0.1 < b.0.1))
+
+abbrev pub AreSorted : List Line → Type 0
+AreSorted lines = (i j : ℕ) (a b : Line) → slice_get lines i ≡ Some a → slice_get lines j ≡ Some b → i < j → IsBefore a b
+
+-- The report: the closed tables agree with the plan and the logs, and it says their numbers; its heard lines are those of
+-- the logs, each once, by thread and then by step
+pub record IsReport (plan : BootPlan) (c : Closed) (logs : List (List Entry)) (heard : List Line) (r : Report) : Type 0 where
+  pub tables : TablesAgree plan c logs
+  pub all_heard : IsPermutation (flat_map heard_by (all_of logs)) heard
+  pub sorted : AreSorted heard
+  pub says : Says plan c heard r

@@ -1,0 +1,37 @@
+-- The stations of a boot: the first one, which prepared the threads, and those of the processors, which it took in.
+use Rattle.std.specs.Prelude.{◌≡◌, ◌≤◌, ℕ, List, [], ◌∷◌, length}
+use Rattle.std.specs.List.{AllByRecursion}
+use Rattle.boot_script.specs.declared.boot_plan.BootPlan.{BootPlan}
+use Rattle.end_steps.specs.EndLists.{lines_put_at, lines_taken_at, notes_put_at}
+use Rattle.hand_steps.specs.Tallies.{tally}
+use Rattle.meters.specs.Handles as meters
+use Rattle.thread_table.specs.Handles.{view_of}
+use Rattle.processor.specs.declared.station.Parts.{Parts}
+use Rattle.processor.specs.Partings.{AreJoined}
+use Rattle.processor.specs.Programs.{Key, program}
+use Rattle.processor.specs.Stations.{no_signals}
+
+-- each of the stations was joined, in this order
+abbrev pub AllJoined : Parts → List Parts → Parts → Type 0
+AllJoined first [] last = last ≡ first
+AllJoined first (station ∷ stations) last = (next : Parts) × AreJoined first station next × AllJoined next stations last
+
+-- an element that had done so many steps had no more to do
+abbrev pub HasDoneAll : BootPlan → Key → Type 0
+HasDoneAll plan retired = length (program plan retired.0) ≤ retired.1
+
+-- The first station did no step, raised and delivered no signal, and put and took no line and no note; the elements that
+-- it put behind the free ones had nothing to do; of the meters it set the plan's alarms, and did nothing else
+pub record IsPrepared (plan : BootPlan) (first : Parts) : Type 0 where
+  pub done : (tally (view_of first.hand).made).done ≡ []
+  pub signalled : (tally (view_of first.hand).made).signalled ≡ []
+  pub delivered : (tally (view_of first.hand).made).delivered ≡ []
+  pub retired : AllByRecursion (HasDoneAll plan) (tally (view_of first.hand).made).retired
+  pub small : (q : ℕ) → (lines_put_at first.small.items q ≡ []) × (lines_taken_at first.small.items q ≡ [])
+  pub large : (q : ℕ) → (lines_put_at first.large.items q ≡ []) × (lines_taken_at first.large.items q ≡ [])
+  pub chains : (q : ℕ) → notes_put_at first.chains.items q ≡ []
+  pub ticks : (meters.view_of first.meters).ticks ≡ []
+  pub alarms : (meters.view_of first.meters).set ≡ plan.alarms
+  pub fired : (meters.view_of first.meters).fired ≡ []
+  pub cancelled : (meters.view_of first.meters).cancelled ≡ []
+  pub signals : first.signals ≡ no_signals

@@ -1,3 +1,12 @@
 pub mod Lists
 pub mod Joining
 pub mod Queues
+pub mod Counts
+pub mod Shuffles
+pub mod Stepping
+pub mod Tallies
+pub mod Signals
+pub mod Deliveries
+pub mod Threads
+pub mod Freeing
+pub mod Places

@@ -1,11 +1,11 @@
 -- What the entries of the processors' logs come to, in the words of a report.
-use Rattle.std.specs.Prelude.{◌==◌, ◌&&◌, ℕ, if◌then◌else◌, Bool, false, List, [], ◌∷◌}
+use Rattle.std.specs.Prelude.{◌==◌, ℕ, if◌then◌else◌, Bool, false, List, [], ◌∷◌}
 use Rattle.boot_script.specs.declared.plan.Step.TheVariants as steps
 use Rattle.quaject_core.specs.declared.alarm.Alarm.{Alarm}
 use Rattle.processor.specs.declared.deed.Deed.TheVariants as deeds
 use Rattle.processor.specs.Deeds.{is_done}
 use Rattle.processor.specs.Logs.{Entry, Tried}
-use Rattle.processor.specs.Programs.{Key}
+use Rattle.processor.specs.Programs.{Key, same_key}
 use Rattle.processor.specs.Steps.{raised_by}
 
 -- the step that was done: the thread's number, and its own
@@ -25,4 +25,4 @@ is_poke mover entry = false
 
 -- the alarm raises this signal of this thread
 abbrev pub is_for : ℕ → ℕ → Alarm → Bool
-is_for thread signal alarm = (alarm.element == thread) && (alarm.signal == signal)
+is_for thread signal alarm = same_key (thread, signal) (alarm.element, alarm.signal)

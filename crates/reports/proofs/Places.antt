@@ -1,0 +1,135 @@
+-- Where the elements of the closed threads are.
+use Rattle.std.proofs.Common.{◌≡◌, ℕ, zero, suc, ◌<◌, ◌≤◌, true, List, [], ◌∷◌, ◌++◌, length, get_or, refl, sym, ap, ◌∙◌, subst, arith, Option, Some, None, slice_get, flat_map, option_map}
+use Rattle.std.specs.Prelude.{slice_index_or}
+use Rattle.std.specs.List.{AllZip, AllByRecursion}
+use mathlib.Core.Logic.{dite}
+use native.Mathlib.Decide.{dec_lt}
+use Rattle.boot_script.specs.declared.boot_plan.BootPlan.{BootPlan}
+use Rattle.quaject_core.specs.Appearances.{is_on}
+use Rattle.quaject_core.specs.Elements.{Elements, hold}
+use Rattle.quaject_core.specs.declared.hold.Hold.{Hold}
+use Rattle.hand_steps.specs.Holdings.{IsFree}
+use Rattle.hand_steps.specs.Tallies.{retired_by}
+use Rattle.hand_steps.specs.declared.counting.Counted.{Counted}
+use Rattle.hand_steps.specs.declared.counting.Counted.TheVariants as counted
+use Rattle.hand_steps.specs.Countings.{counted_step}
+use Rattle.boot_script.specs.declared.plan.Step.{Step}
+use Rattle.boot_script.specs.declared.plan.Step.TheVariants as steps
+use Rattle.thread_table.specs.declared.places.Place.{Place}
+use Rattle.thread_table.specs.declared.places.Place.TheVariants as places
+use Rattle.thread_table.specs.declared.rule.View.{View}
+use Rattle.thread_table.specs.Closings.{ClosedNow, StandsAt}
+use Rattle.thread_table.specs.Handles.{view_of}
+use Rattle.thread_table.specs.Schedules.{elements_after}
+use Rattle.thread_table.specs.Shown.{WordsShow}
+use Rattle.processor.specs.declared.deed.Deed.{Deed}
+use Rattle.processor.specs.declared.deed.Deed.TheVariants as deeds
+use Rattle.processor.specs.declared.station.Parts.{Parts}
+use Rattle.processor.specs.Logs.{Entry, Tended, Delivered, Tried, Retired, Leaves, IsPlanned, tally_by, tally_of, fired_by}
+use Rattle.processor.specs.Programs.{Key, program}
+use Rattle.processor.specs.Steps.{raised_by}
+use Rattle.reports.specs.Agreements.{PlaceAgrees, ThreadAgrees}
+use Rattle.reports.specs.Closed.{Closed}
+use Rattle.reports.specs.Closed as closed
+use Rattle.reports.specs.Endings.{ThreadsEnded}
+use Rattle.reports.specs.Lists.{all_of}
+use Rattle.reports.specs.Stations.{AllJoined, IsPrepared, HasDoneAll}
+use Rattle.reports.proofs.Freeing.{retired_once, has_done_all}
+use Rattle.reports.proofs.Tallies.{made_at, all_retired}
+use Rattle.reports.proofs.Threads.{known, done_are, steps_agree, signals_agree, planned_all}
+
+-- THE WORDS OF THE TABLE
+
+abbrev Shown : View → Type 0
+Shown v = (first : ℕ) × (words : List ℕ) × WordsShow first (elements_after v.schedule) words
+
+joined_shows : (first : Parts) (stations : List Parts) (last : Parts) → 0 < length stations → AllJoined first stations last → Shown (view_of last.hand)
+joined_shows first [] last low j = absurd (omega arith)
+joined_shows first (s ∷ []) last low j = subst (λ (p : Parts). Shown (view_of p.hand)) (sym j.2) (_, j.1.hand.sees.words, j.1.hand.sees.shows)
+joined_shows first (s ∷ r ∷ ss) last low j = joined_shows j.0 (r ∷ ss) last (omega arith) j.2
+
+got : (l : List (Option Hold)) (p : ℕ) (x : Option Hold) → slice_get l p ≡ Some x → get_or l p None ≡ x
+got [] p x e = absurd (cc)
+got (y ∷ l) zero x e = let h : y ≡ x = cc in h
+got (y ∷ l) (suc p) x e = got l p x e
+
+past : (l : List (Option Hold)) (p : ℕ) → length l ≤ p → get_or l p None ≡ None
+past [] p h = refl
+past (y ∷ l) zero h = absurd (omega arith)
+past (y ∷ l) (suc p) h = past l p (omega arith)
+
+none_on : (call : ℕ) (v : View) (stands : List Place) (pcs pending : List ℕ) (stops : ℕ) → ClosedNow call v stands pcs pending stops
+    → length (elements_after v.schedule).processors ≡ 8 → ((p : ℕ) → p < 8 → IsFree p v) → (x p : ℕ) → is_on x (get_or (elements_after v.schedule).processors p None) ≡ true → ⊥
+none_on call v stands pcs pending stops c long empty x p at =
+    let e : Elements = elements_after v.schedule in
+    let none : get_or e.processors p None ≡ None = dite (dec_lt p 8)
+    (λ under. let s = empty p under in got e.processors p None (c.hand.on p s.0 ∙ ap (λ z. Some (option_map (hold call) z)) s.1))
+    (λ over. past e.processors p (omega (arith, over))) in
+    let f : is_on x None ≡ true = ap (is_on x) (sym none) ∙ at in absurd (cc)
+
+-- RETIRED ELEMENTS
+
+raised_none : (step : Step) (deed : Deed) → (raised_by step deed).retired ≡ []
+raised_none (steps.Signal thread signal) (deeds.Signalled answer) = refl
+raised_none step deed = refl
+
+counted_none : (count : Counted) (element number : ℕ) → (counted_step count element number).retired ≡ []
+counted_none (counted.Done n) element number = refl
+counted_none count element number = refl
+
+plan_more : (plan : BootPlan) (l m : List Key) → AllByRecursion (HasDoneAll plan) l → AllByRecursion (HasDoneAll plan) m → AllByRecursion (HasDoneAll plan) (l ++ m)
+plan_more plan [] m p q = q
+plan_more plan (r ∷ l) m p q = (p.0, plan_more plan l m p.1 q)
+
+entry_retired : (plan : BootPlan) (entry : Entry) → IsPlanned plan entry → AllByRecursion (HasDoneAll plan) (tally_by entry).retired
+entry_retired plan (Tended advanced alarms) p = tt
+entry_retired plan (Delivered element mask) p = tt
+entry_retired plan (Tried element number step deed count heard) p =
+    subst (AllByRecursion (HasDoneAll plan)) (λ k. sym (raised_none step deed) k ++ sym (counted_none count element number) k) tt
+entry_retired plan (Retired element number) p = (p, tt)
+
+log_retired : (plan : BootPlan) (log : List Entry) → AllByRecursion (IsPlanned plan) log → AllByRecursion (HasDoneAll plan) (tally_of log).retired
+log_retired plan [] p = tt
+log_retired plan (entry ∷ log) p = plan_more plan (tally_by entry).retired (tally_of log).retired (entry_retired plan entry p.0) (log_retired plan log p.1)
+
+logs_retired : (plan : BootPlan) (logs : List (List Entry)) → AllByRecursion (AllByRecursion (IsPlanned plan)) logs → AllByRecursion (HasDoneAll plan) (flat_map (λ log. (tally_of log).retired) logs)
+logs_retired plan [] p = tt
+logs_retired plan (log ∷ logs) p = plan_more plan (tally_of log).retired (flat_map (λ log. (tally_of log).retired) logs) (log_retired plan log p.0) (logs_retired plan logs p.1)
+
+-- THREADS
+
+by_place : (call x steps all : ℕ) (e : Elements) (place : Place) → StandsAt call x e place → (StandsAt call x e places.Free → steps ≡ all)
+    → ((p : ℕ) → StandsAt call x e (places.Processor p) → ⊥) → PlaceAgrees place steps all
+by_place call x steps all e places.Free h free none = free h
+by_place call x steps all e (places.Processor p) h free none = none p h
+by_place call x steps all e place h free none = tt
+
+module _ (plan : BootPlan) (logs : List (List Entry)) (stations : List Parts) (first last : Parts) (left : AllZip (Leaves plan) logs stations)
+    (begun : IsPrepared plan first) (some : 0 < length stations) (joins : AllJoined first stations last) (c : Closed) (e : ThreadsEnded last c) (x : ℕ) (t : closed.Thread)
+    (at : slice_get c.threads x ≡ Some t) where
+  free_is_done : StandsAt e.call x (elements_after (view_of last.hand).schedule) places.Free → t.steps ≡ length (program plan x)
+  free_is_done free =
+      let k = e.closes in
+      let shows = joined_shows first stations last some joins in
+      let retired = subst (AllByRecursion (HasDoneAll plan)) (sym (all_retired plan logs stations first last left begun joins))
+      (plan_more plan (flat_map retired_by (made_at first)) (flat_map (λ log. (tally_of log).retired) logs) begun.retired (logs_retired plan logs (planned_all plan logs stations left))) in
+      let few = has_done_all plan x _ (flat_map retired_by (made_at last)) retired
+      (retired_once (view_of last.hand).schedule (made_at last) x k.allowed k.made k.retired (shows.2.lines 1 (omega arith)).single e.begun free) in
+      let same = done_are plan logs stations first last left begun joins c e x t at in
+      let prefix = (steps_agree plan logs stations first last left begun joins c e x t at).prefix in
+      omega arith
+
+  pub place_agrees : PlaceAgrees t.place t.steps (length (program plan x))
+  place_agrees =
+      let low = known plan logs stations first last left begun joins c e x t at in
+      let shows = joined_shows first stations last some joins in
+      subst (λ (z : Place). PlaceAgrees z t.steps (length (program plan x))) (sym (e.places x t at))
+      (by_place e.call x t.steps (length (program plan x)) (elements_after (view_of last.hand).schedule) (slice_index_or e.stands x places.Held) (e.closes.places x low) free_is_done
+      (λ p h. none_on e.call (view_of last.hand) e.stands e.pcs e.pending e.stops e.closes shows.2.processors e.none_on x p h))
+
+  pub thread_agrees : c.fired ≡ flat_map fired_by (all_of logs) → ThreadAgrees plan x t c.fired logs
+  thread_agrees fired = record {
+    ran = steps_agree plan logs stations first last left begun joins c e x t at;
+    place = place_agrees;
+    signals = signals_agree plan logs stations first last left begun joins c e x t at fired;
+  }

@@ -10,3 +10,5 @@ pub mod Deliveries
 pub mod Threads
 pub mod Freeing
 pub mod Places
+pub mod Meters
+pub mod Chains

@@ -20,7 +20,7 @@ signals_by entry = []
 
 -- a done poke of this pump or switch
 abbrev pub is_poke : ℕ → Entry → Bool
-is_poke mover (Tried element number (steps.Poke at) (deeds.Poked answer) count heard) = at == mover
+is_poke mover (Tried element number (steps.Poke at) (deeds.Poked answer) count heard) = mover == at
 is_poke mover entry = false
 
 -- the alarm raises this signal of this thread

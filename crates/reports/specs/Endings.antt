@@ -1,5 +1,5 @@
 -- What a boot knows once its processors have returned, their stations are joined and its tables closed.
-use Rattle.std.specs.Prelude.{◌≡◌, ◌<◌, ◌≤◌, ◌+◌, ◌==◌, ℕ, if◌then◌else◌, List, [], ◌∷◌, map, take, length, flat_map}
+use Rattle.std.specs.Prelude.{◌≡◌, ◌<◌, ◌≤◌, ◌+◌, ◌^◌, ◌==◌, ℕ, if◌then◌else◌, List, [], ◌∷◌, map, take, length, flat_map}
 use Rattle.std.specs.Prelude.{Option, Some, None, slice_index_or}
 use Rattle.std.specs.List.{slice_get, concat, AllByRecursion}
 use Rattle.boot_script.specs.declared.boot_plan.BootPlan.{BootPlan}
@@ -131,7 +131,7 @@ pub record ChainEnded (v : ChainView) (home : Home) (chain : closed.Chain) : Typ
   pub came : CameHome pact first v home
   pub quaject_is : chain.quaject ≡ came.quaject
   pub left_is : chain.left ≡ home.left
-  pub small_count : home.chained < 18446744073709551616
+  pub few : home.chained < 2 ^ 64
   pub sides : KeepsSides came.quaject
 
 -- a pump or switch of the plan: the last station's end was the last of its chain

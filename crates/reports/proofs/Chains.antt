@@ -1,5 +1,5 @@
 -- The closed chains of pumps and switches by the logs.
-use Rattle.std.proofs.Common.{◌≡◌, ℕ, zero, suc, ◌+◌, ◌<◌, ◌%◌, ◌^◌, Bool, true, false, List, [], ◌∷◌, ◌++◌, map, length, refl, sym, ap, ◌∙◌, subst, arith, Some, slice_get, flat_map, count_by, sum_by, mod-eq_of_lt, length-append}
+use Rattle.std.proofs.Common.{◌≡◌, ℕ, ◌+◌, Bool, true, false, List, [], ◌∷◌, map, length, refl, sym, ap, ◌∙◌, subst, arith, flat_map, count_by, sum_by, mod-eq_of_lt, length-append}
 use Rattle.std.specs.Prelude.{if◌then◌else◌, ◌==◌}
 use Rattle.std.specs.List.{AllZip, concat}
 use Rattle.std.proofs.lemmas.List.{length-map}
@@ -95,5 +95,5 @@ module _ (plan : BootPlan) (logs : List (List Entry)) (stations : List Parts) (f
     kept = kept (view_of e.end) home m e.ended;
     pokes = let none = none_left (view_of e.end) home m e.ended in
         let notes : notes_of m.quaject ≡ count_by (is_poke number) (all_of logs) = notes_are (view_of e.end) home m e.ended ∙ (chained_are (view_of e.end) home m e.ended
-            ∙ (ap (λ z. length (concat z)) (sym (at_its chain_end_puts last.chains.items number e.end [] e.its) ∙ put_are) ∙ pokes_are number (all_of logs))) in omega arith;
+        ∙ (ap (λ z. length (concat z)) (sym (at_its chain_end_puts last.chains.items number e.end [] e.its) ∙ put_are) ∙ pokes_are number (all_of logs))) in omega arith;
   }

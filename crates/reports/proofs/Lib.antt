@@ -12,3 +12,6 @@ pub mod Freeing
 pub mod Places
 pub mod Meters
 pub mod Chains
+pub mod Takings
+pub mod Raws
+pub mod Booting

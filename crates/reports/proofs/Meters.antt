@@ -1,16 +1,12 @@
 -- The closed meters by the logs.
-use Rattle.std.proofs.Common.{◌≡◌, ℕ, zero, suc, ◌+◌, ◌<◌, ◌≤◌, ◌%◌, List, [], ◌∷◌, ◌++◌, map, length, get_or, take, refl, sym, ap, ◌∙◌, subst, arith, append-nil, Some, slice_get, flat_map}
+use Rattle.std.proofs.Common.{◌≡◌, ℕ, zero, suc, ◌<◌, ◌%◌, List, [], ◌∷◌, ◌++◌, length, get_or, take, refl, sym, ap, ◌∙◌, subst, arith, append-nil, Some, slice_get, flat_map}
 use Rattle.std.specs.List.{AllZip}
 use Rattle.boot_script.specs.declared.boot_plan.BootPlan.{BootPlan}
-use Rattle.meters.specs.declared.rule.Tick.{Tick}
 use Rattle.meters.specs.declared.rule.View.{View}
 use Rattle.meters.specs.Handles.{view_of}
-use Rattle.meters.specs.Own.{own_of}
 use Rattle.meters.specs.Views.{amount_on, times}
-use Rattle.quaject_core.specs.declared.alarm.Alarm.{Alarm}
 use Rattle.processor.specs.declared.station.Parts.{Parts}
 use Rattle.processor.specs.Logs.{Entry, Leaves, ticked_by, fired_by}
-use Rattle.processor.specs.Partings.{AreJoined}
 use Rattle.reports.specs.Agreements.{GaugesAgree, AlarmsAgree}
 use Rattle.reports.specs.Closed.{Closed}
 use Rattle.reports.specs.Endings.{MetersEnded}

@@ -6,3 +6,4 @@ pub mod Agreements
 pub mod Reports
 pub mod Stations
 pub mod Endings
+pub mod Boots

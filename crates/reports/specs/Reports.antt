@@ -49,3 +49,4 @@ pub record IsReport (plan : BootPlan) (c : Closed) (logs : List (List Entry)) (h
   pub all_heard : IsPermutation (flat_map heard_by (all_of logs)) heard
   pub sorted : AreSorted heard
   pub says : Says plan c heard r
+  pub chained : r.chained ≡ 0

@@ -6,14 +6,20 @@
 ghost use Rattle.std.specs.Prelude.{◌≡◌, ◌<◌, ℕ, List, length, flat_map, Some};
 ghost use Rattle.std.specs.List.{AllZip, slice_get};
 ghost use Rattle.boot_script.specs.declared.boot_plan.BootPlan.{BootPlan};
+ghost use Rattle.boot_script.specs.declared.plan.PlannedMover.{PlannedMover};
+ghost use Rattle.boot_script.specs.declared.report.Report.{Report};
 ghost use Rattle.claim_queue.specs.declared.ends.QueueEnd.{QueueEnd};
+ghost use Rattle.quajects.specs.declared.home.Home.{Home};
 ghost use Rattle.processor.specs.declared.station.Parts.{Parts};
 ghost use Rattle.processor.specs.Logs.{Entry, Leaves, fired_by};
-ghost use Rattle.reports.specs.Agreements.{SmallAgrees, LargeAgrees, ThreadAgrees};
+ghost use Rattle.processor.specs.Running.{Line};
+ghost use Rattle.reports.specs.Agreements.{SmallAgrees, LargeAgrees, ThreadAgrees, GaugesAgree, AlarmsAgree, MoverAgrees};
+ghost use Rattle.reports.specs.Boots.{Boot, BootEnded};
 ghost use Rattle.reports.specs.Closed.{Closed};
 ghost use Rattle.reports.specs.Closed as closed;
-ghost use Rattle.reports.specs.Endings.{QueueEnded, ThreadsEnded, small_of, large_of};
+ghost use Rattle.reports.specs.Endings.{QueueEnded, ThreadsEnded, MetersEnded, MoverEnded, small_of, large_of};
 ghost use Rattle.reports.specs.Lists.{all_of};
+ghost use Rattle.reports.specs.Reports.{IsReport};
 ghost use Rattle.reports.specs.Stations.{AllJoined, IsPrepared};
 
 /// A queue that was closed by all its ends has the lines that the processors' logs tell, in their order; and cut by
@@ -38,4 +44,30 @@ pub fn threads_agree()
         → 0 < length stations → AllJoined first stations last → ThreadsEnded last c
         → slice_get c.threads thread ≡ Some t → c.fired ≡ flat_map fired_by (all_of logs)
         → ThreadAgrees plan thread t c.fired logs }
+{}
+
+/// The gauges of closed meters are the sums of the ticks of the logs, and the alarms of the plan are those that the logs
+/// fired and those left, each once.
+pub fn meters_agree()
+    ensures gauges { (plan : BootPlan) (logs : List (List Entry)) (stations : List Parts) (first last : Parts) (c : Closed)
+        → AllZip (Leaves plan) logs stations → IsPrepared plan first → AllJoined first stations last
+        → MetersEnded plan last c → GaugesAgree c.gauges logs }
+    ensures alarms { (plan : BootPlan) (logs : List (List Entry)) (stations : List Parts) (first last : Parts) (c : Closed)
+        → AllZip (Leaves plan) logs stations → IsPrepared plan first → AllJoined first stations last
+        → MetersEnded plan last c → AlarmsAgree plan c logs }
+{}
+
+/// The pump or switch that came home from a closed chain is the plan's and has kept its law, and it ran as many notes as
+/// the logs have done pokes of it.
+pub fn movers_agree()
+    ensures { (plan : BootPlan) (logs : List (List Entry)) (stations : List Parts) (first last : Parts) (number : ℕ)
+        (p : PlannedMover) (home : Home) (m : closed.Chain) → AllZip (Leaves plan) logs stations
+        → IsPrepared plan first → AllJoined first stations last → MoverEnded number p last home m
+        → MoverAgrees number p.mover m logs }
+{}
+
+/// What a boot knows at its end makes its report agree with the plan, the closed tables and the logs.
+pub fn reports_agree()
+    ensures { (plan : BootPlan) (logs : List (List Entry)) (boot : Boot) (c : Closed) (heard : List Line) (r : Report)
+        → BootEnded plan logs boot c heard r → IsReport plan c logs heard r }
 {}

@@ -1,0 +1,5 @@
+use Rattle.reports.proofs.Booting.{report_agrees}
+use Rattle.reports.proofs.reports_agree.Goals as goal
+
+pub returns : goal.returns
+returns c = report_agrees

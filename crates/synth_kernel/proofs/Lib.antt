@@ -1,7 +1,6 @@
 pub mod Crews
 pub mod Handling
 pub mod Serving
-pub mod Stocks
 pub mod TypedMore
 pub mod Working
 pub mod Posting

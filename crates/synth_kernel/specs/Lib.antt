@@ -2,7 +2,6 @@ pub mod Devices
 pub mod Alarms
 pub mod Elements
 pub mod Crews
-pub mod Stocks
 pub mod Works
 pub mod Typings
 pub mod Stationings

@@ -18,6 +18,8 @@ struct Recorder {
 }
 
 impl Gate for Recorder {
+    ghost told = { λ old p point new. Unit {0} };
+
     fn between(&mut self, p: u8, point: Point) {
         let _wanting = self.points.push((p, point));
     }

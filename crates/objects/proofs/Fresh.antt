@@ -44,5 +44,5 @@ module _ {E : Type 0} (share : E → ℕ) where
   whole_here (e ∷ ends) h zero l = All-head (λ end. share end ≡ the_whole) e ends h
   whole_here (e ∷ ends) h (suc q) l = whole_here ends (All-tail (λ end. share end ≡ the_whole) e ends h) q (omega arith)
 
-  pub can_whole : (splits : ℕ) (ends : List E) → splits ≤ 64 → All (λ end. share end ≡ the_whole) ends → CanGive splits (map share ends)
+  pub can_whole : (splits : ℕ) (ends : List E) → splits ≤ 2000 → All (λ end. share end ≡ the_whole) ends → CanGive splits (map share ends)
   can_whole splits ends few h = λ q l. let long = length-map ends share in let whole = whole_here ends h q (omega (arith, l, long)) in omega (arith, whole, few)

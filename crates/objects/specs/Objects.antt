@@ -26,7 +26,7 @@ use Rattle.objects.specs.declared.device.Device.{Device}
 use Rattle.objects.specs.Planned.{IsPlannedAt, IsReady}
 use Rattle.objects.specs.Devices.{AreDevicesOf}
 use Rattle.objects.specs.Makings.{AreQueuesOf}
-use Rattle.objects.specs.Stocks.{IsStock, IsChainStock}
+use Rattle.objects.specs.Stocks.{CanGive, IsStock, IsChainStock, shares, chain_shares}
 use Rattle.objects.specs.Shares.{small_share, large_share, device_share, device_chain_share}
 
 -- the quajects that were given to the chains
@@ -82,7 +82,8 @@ module _ {g : Ghosts AnyQuaject Queues} where
     pub chain_stock : IsChainStock chains ends
     pub quajects : AreQuajectsOf plan queues (quajects_of chains)
     pub devices_are : AreDevicesOf plan queues chains devices
-    pub shares : HaveAll queues chains small large ends devices
+    pub shares_are : HaveAll queues chains small large ends devices
+    pub splits : CanGive 1000 (shares small) × CanGive 1000 (shares large) × CanGive 1000 (chain_shares ends)
 
 -- The thread elements begin at 0, and this is their only hand. It holds none of them, and serves each processor, on which
 -- none stands

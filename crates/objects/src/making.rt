@@ -5,6 +5,7 @@ ghost use Rattle.processor.specs.Stations.{ArePartsOf, IsUnused};
 ghost use Rattle.objects.specs.Devices.{AreDevicesOf};
 ghost use Rattle.objects.specs.Objects.{AreQuajectsOf, BeginAtZero, HaveAll, quajects_of};
 ghost use Rattle.objects.specs.Objects.{HaveDoneNothing, HaveNotedNothing, IsFirstHand, IsFirstSeat};
+ghost use Rattle.objects.specs.Stocks.{CanGive, shares, chain_shares};
 
 use crate::device::Device;
 use crate::stocked::{Stocked, make_stocked};
@@ -26,7 +27,8 @@ pub struct Objects {
 /// Makes all objects of a plan: the queues, each with an end in the station; the chains of its pumps, switches and
 /// ttys, in that order, each with its quaject and an end in the station; a device for each tty, with a line of 64
 /// places; the thread elements, all free, with their only hand in the station; and the meters, with their only seat
-/// there. `OutOfMemory` comes only where an allocation was refused; what was made until then is gone, and the plan too.
+/// there. Each end of a queue or chain in the station can be split a thousand times. `OutOfMemory` comes only where an
+/// allocation was refused; what was made until then is gone, and the plan too.
 pub fn make_objects(alloc: Global, plan: BootPlan) -> Result<Objects, OutOfMemory>
     ensures plan { IfOk result (λ o. o.shared.plan ≡ plan) }
     ensures parts { IfOk result (λ o. ArePartsOf o.shared o.station.parts) }
@@ -42,7 +44,10 @@ pub fn make_objects(alloc: Global, plan: BootPlan) -> Result<Objects, OutOfMemor
         (quajects_of o.shared.chains.items)) }
     ensures devices { IfOk result (λ o. AreDevicesOf o.shared.plan o.shared.queues o.shared.chains.items
         o.devices.items) }
-    ensures shares { IfOk result (λ o. HaveAll o.shared.queues o.shared.chains.items o.station.parts.small.items
+    ensures splits { IfOk result (λ o. CanGive 1000 (shares o.station.parts.small.items)
+        × CanGive 1000 (shares o.station.parts.large.items)
+        × CanGive 1000 (chain_shares o.station.parts.chains.items)) }
+    ensures whole { IfOk result (λ o. HaveAll o.shared.queues o.shared.chains.items o.station.parts.small.items
         o.station.parts.large.items o.station.parts.chains.items o.devices.items) }
 {
     let Stocked {

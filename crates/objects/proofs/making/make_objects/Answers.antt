@@ -5,6 +5,7 @@ use Rattle.meters.specs.Handles as meters
 use Rattle.thread_table.specs.declared.hand.Hand.{Hand}
 use Rattle.thread_table.specs.Handles as threads
 use Rattle.objects.specs.Objects.{HaveDoneNothing, HaveNotedNothing, IsFirstHand}
+use Rattle.objects.specs.Stocks.{CanGive, shares, chain_shares}
 use Rattle.objects.proofs.Firsts.{first_hand}
 use Rattle.objects.proofs.Idle.{ends_of, chain_ends_of, done_nothing, noted_nothing}
 use Rattle.objects.proofs.making.make_objects.Goals as goal
@@ -29,3 +30,10 @@ returns-in-Ok-clause-large c = let made = c.in_ok-queues.field-0 in subst (λ z.
 
 pub returns-in-Ok-clause-chains : goal.returns-in-Ok-clause-chains
 returns-in-Ok-clause-chains c = let made = c.in_ok-queues.field-0 in subst (λ z. HaveNotedNothing z.items) (sym c.in-Ok.ensures.ends.3) (noted_nothing made.chains.items made.ends.items c.in_ok-queues.ensures.chain_stock)
+
+pub returns-in-Ok-clause-splits : goal.returns-in-Ok-clause-splits
+returns-in-Ok-clause-splits c = let e = c.in-Ok.ensures.ends in let h = c.in_ok-queues.ensures.splits in (
+  subst (λ z. CanGive 1000 (shares z.items)) (sym e.1) h.0,
+  subst (λ z. CanGive 1000 (shares z.items)) (sym e.2) h.1,
+  subst (λ z. CanGive 1000 (chain_shares z.items)) (sym e.3) h.2,
+)

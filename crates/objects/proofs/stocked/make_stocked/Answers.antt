@@ -5,10 +5,10 @@ use Rattle.end_steps.specs.EndLists.{end_share, chain_end_share}
 use Rattle.objects.specs.Devices.{MadeDevices}
 use Rattle.objects.specs.Objects.{AreQuajectsOf}
 use Rattle.objects.specs.Shares.{small_share, large_share}
-use Rattle.objects.specs.Stocks.{IsIdleEnd, IsIdleChainEnd, shares}
-use Rattle.objects.proofs.Dealing.{can_then}
+use Rattle.objects.specs.Stocks.{IsIdleEnd, IsIdleChainEnd, shares, chain_shares}
+use Rattle.objects.proofs.Dealing.{can_then, gave_more}
 use Rattle.objects.proofs.Fresh.{can_whole, whole_here}
-use Rattle.objects.proofs.Plans.{few_movers}
+use Rattle.objects.proofs.Plans.{few_movers, few_ttys}
 use Rattle.objects.proofs.stocked.make_stocked.Goals as goal
 
 pub make_quajects-requires-clause-parts : goal.make_quajects-requires-clause-parts
@@ -24,6 +24,7 @@ make_devices-requires-clause-parts c = let n = c.in_ok-queues.ensures in let few
 pub returns : goal.returns
 returns c =
     let n = c.in_ok-queues.ensures in let q = c.in_ok-quajects.ensures in let m = c.in_ok-chains.ensures in
+    let plan = c.args.plan.now in let few = few_movers plan in let ttys = few_ttys plan in let many : ℕ = length plan.movers + length plan.ttys in
     let queues = c.in_ok-queues.queues in let chains = c.in_ok-chains.chains.items in let quajects = c.in_ok-quajects.quajects.items in
     let d : MadeDevices c.args.plan.now queues chains (length c.args.plan.now.ttys) c.make_quajects.new.small.items c.make_devices.new.small.items c.in_ok-chains.ends.items c.make_devices.new.ends.items c.in_ok-devices.devices.items
     = subst (λ z. MadeDevices c.args.plan.now queues z (length c.args.plan.now.ttys) c.make_quajects.new.small.items c.make_devices.new.small.items c.in_ok-chains.ends.items c.make_devices.new.ends.items c.in_ok-devices.devices.items) c.as_slice-list.ensures.value c.in_ok-devices.ensures in
@@ -36,7 +37,14 @@ returns c =
       chain_stock = d.chain_stock;
       quajects = subst (AreQuajectsOf c.args.plan.now queues) (sym m.openings) (record { number = q.number; kinds = q.kinds; ready = q.ready });
       devices_are = record { number = d.number; each = d.each };
-      shares = record {
+      splits = (
+        can_then 2 1000 1002 _ (shares c.make_quajects.new.small.items) (shares c.make_devices.new.small.items) (omega arith)
+            (can_then 36 1002 1038 _ (shares c.in_ok-queues.small.items) (shares c.make_quajects.new.small.items) (omega arith) (can_whole end_share 1038 c.in_ok-queues.small.items (omega arith) n.small_whole) (gave_more (many * 6) 36 (omega (arith, few)) q.small_gave))
+            (gave_more (length plan.ttys) 2 ttys d.gave),
+        can_then 36 1000 1036 _ (shares c.in_ok-queues.large.items) (shares c.make_quajects.new.large.items) (omega arith) (can_whole end_share 1036 c.in_ok-queues.large.items (omega arith) n.large_whole) (gave_more (many * 6) 36 (omega (arith, few)) q.large_gave),
+        can_then 2 1000 1002 _ (chain_shares c.in_ok-chains.ends.items) (chain_shares c.make_devices.new.ends.items) (omega arith) (can_whole chain_end_share 1002 c.in_ok-chains.ends.items (omega arith) m.whole) (gave_more (length plan.ttys) 2 ttys d.chain_gave),
+      );
+      shares_are = record {
         small_whole = λ i l.
             let long = AllZip-long IsIdleEnd queues.small.items c.in_ok-queues.small.items n.small_stock in
             let whole = whole_here end_share c.in_ok-queues.small.items n.small_whole i (omega (arith, long, l)) in

@@ -15,3 +15,4 @@ pub mod Chains
 pub mod Takings
 pub mod Raws
 pub mod Booting
+pub mod Saying

@@ -65,7 +65,7 @@ module _ (plan : BootPlan) (x n : ℕ) (none : slice_get (program plan x) n ≡ 
   none_by (Tried element number step deed count heard) p = not_it element number step (is_done deed) p.0
   none_by (Retired element number) p = refl
 
-  none_in : (log : List Entry) → AllByRecursion (IsPlanned plan) log → count_by (same_key (x, n)) (flat_map doings.done_by log) ≡ 0
+  pub none_in : (log : List Entry) → AllByRecursion (IsPlanned plan) log → count_by (same_key (x, n)) (flat_map doings.done_by log) ≡ 0
   none_in [] p = refl
   none_in (entry ∷ log) p = many_more (same_key (x, n)) (doings.done_by entry) (flat_map doings.done_by log)
       ∙ (let a = none_by entry p.0 in let b = none_in log p.1 in omega arith)

@@ -43,10 +43,11 @@ PlaceAgrees place steps all = Unit {0}
 abbrev pub SignalsAgree : ℕ → closed.Thread → List Alarm → List (List Entry) → Type 0
 SignalsAgree thread t fired logs = (signal : ℕ) → signal < 16
     → (is_in t.shown signal || is_in t.pending signal)
-    ≡ (list_any (same_key (thread, signal)) (flat_map signals_by (all_of logs)) || list_any (is_for thread signal) fired)
+    ≡ (list_any (same_key (thread, signal)) (flat_map signals_by (all_of logs))
+    || list_any (is_for thread signal) fired)
 
-pub record ThreadAgrees (plan : BootPlan) (thread : ℕ) (t : closed.Thread) (fired : List Alarm) (logs : List (List Entry))
-    : Type 0 where
+pub record ThreadAgrees (plan : BootPlan) (thread : ℕ) (t : closed.Thread) (fired : List Alarm)
+    (logs : List (List Entry)) : Type 0 where
   pub ran : StepsAgree plan thread t.steps logs
   pub place : PlaceAgrees t.place t.steps (length (program plan thread))
   pub signals : SignalsAgree thread t fired logs

@@ -1,5 +1,6 @@
 -- What a boot knows once its processors have returned, their stations are joined and its tables closed.
-use Rattle.std.specs.Prelude.{◌≡◌, ◌<◌, ◌≤◌, ◌+◌, ◌^◌, ◌==◌, ℕ, if◌then◌else◌, List, [], ◌∷◌, map, take, length, flat_map}
+use Rattle.std.specs.Prelude.{◌≡◌, ◌<◌, ◌≤◌, ◌+◌, ◌^◌, ◌==◌, ℕ, if◌then◌else◌, List, [], ◌∷◌, map, take, length}
+use Rattle.std.specs.Prelude.{flat_map}
 use Rattle.std.specs.Prelude.{Option, Some, None, slice_index_or}
 use Rattle.std.specs.List.{slice_get, concat, AllByRecursion}
 use Rattle.boot_script.specs.declared.boot_plan.BootPlan.{BootPlan}
@@ -93,7 +94,8 @@ large_of parts = parts.large.items
 abbrev pub ends_at : {n : ℕ} → ℕ → List (Option (Port n)) → List (QueueEnd n)
 ends_at number [] = []
 ends_at number (None ∷ ports) = ends_at number ports
-ends_at number (Some port ∷ ports) = if port.index == number then port.end ∷ ends_at number ports else ends_at number ports
+ends_at number (Some port ∷ ports) =
+    if port.index == number then port.end ∷ ends_at number ports else ends_at number ports
 
 abbrev pub small_home : ℕ → Home → List (QueueEnd 64)
 small_home number home = ends_at number home.small
@@ -104,7 +106,8 @@ large_home number home = ends_at number home.large
 -- the end that the device of a tty had of its raw queue, where that is the queue with this number
 abbrev pub device_at : ℕ → ℕ → List (QueueEnd 64) → List (QueueEnd 64)
 device_at number raw [] = []
-device_at number raw (end ∷ ends) = if raw == number then end ∷ device_at number (raw + 1) ends else device_at number (raw + 1) ends
+device_at number raw (end ∷ ends) =
+    if raw == number then end ∷ device_at number (raw + 1) ends else device_at number (raw + 1) ends
 
 -- QUAJECTS
 
@@ -146,8 +149,8 @@ abbrev pub IsAscending : List Batch → Type 0
 IsAscending runs = (i j : ℕ) (e f : Batch) → get_elem? runs i ≡ some e → get_elem? runs j ≡ some f → i < j
     → e.start < f.start
 
--- A tty: its device popped the bytes typed, and put all but those refused, one behind the other; no other end of the raw
--- queue claimed anything, and the device took nothing there
+-- A tty: its device popped the bytes typed, and put all but those refused in the raw queue, one behind the other; it took
+-- nothing there
 pub record TtyEnded (many tty : ℕ) (p : PlannedTty) (v : ChainView) (home : Home) (t : closed.Chain)
     (raw : QueueEnd 64) (d : closed.Device) : Type 0 where
   pub ended : ChainEnded v home t

@@ -7,3 +7,4 @@ pub mod Reports
 pub mod Stations
 pub mod Endings
 pub mod Boots
+pub mod Saying

@@ -40,11 +40,13 @@ abbrev pub IsBefore : Line → Line → Type 0
 IsBefore a b = (a.0.0 < b.0.0) ⊎ ((a.0.0 ≡ b.0.0) × (a.0.1 < b.0.1))
 
 abbrev pub AreSorted : List Line → Type 0
-AreSorted lines = (i j : ℕ) (a b : Line) → slice_get lines i ≡ Some a → slice_get lines j ≡ Some b → i < j → IsBefore a b
+AreSorted lines = (i j : ℕ) (a b : Line) → slice_get lines i ≡ Some a → slice_get lines j ≡ Some b → i < j
+    → IsBefore a b
 
--- The report: the closed tables agree with the plan and the logs, and it says their numbers; its heard lines are those of
--- the logs, each once, by thread and then by step
-pub record IsReport (plan : BootPlan) (c : Closed) (logs : List (List Entry)) (heard : List Line) (r : Report) : Type 0 where
+-- The report: the closed tables agree with the plan and the logs, and it says their numbers; its heard lines are those
+-- of the logs, each once, by thread and then by step
+pub record IsReport (plan : BootPlan) (c : Closed) (logs : List (List Entry)) (heard : List Line) (r : Report)
+    : Type 0 where
   pub tables : TablesAgree plan c logs
   pub all_heard : IsPermutation (flat_map heard_by (all_of logs)) heard
   pub sorted : AreSorted heard

@@ -14,14 +14,15 @@ use Rattle.processor.specs.Stations.{no_signals}
 -- each of the stations was joined, in this order
 abbrev pub AllJoined : Parts → List Parts → Parts → Type 0
 AllJoined first [] last = last ≡ first
-AllJoined first (station ∷ stations) last = (next : Parts) × AreJoined first station next × AllJoined next stations last
+AllJoined first (station ∷ stations) last =
+    (next : Parts) × AreJoined first station next × AllJoined next stations last
 
 -- an element that had done so many steps had no more to do
 abbrev pub HasDoneAll : BootPlan → Key → Type 0
 HasDoneAll plan retired = length (program plan retired.0) ≤ retired.1
 
--- The first station did no step, raised and delivered no signal, and put and took no line and no note; the elements that
--- it put behind the free ones had nothing to do; of the meters it set the plan's alarms, and did nothing else
+-- The first station did no step, raised and delivered no signal, and put and took no line and no note; the elements
+-- that it put behind the free ones had nothing to do; of the meters it set the plan's alarms, and did nothing else
 pub record IsPrepared (plan : BootPlan) (first : Parts) : Type 0 where
   pub done : (tally (view_of first.hand).made).done ≡ []
   pub signalled : (tally (view_of first.hand).made).signalled ≡ []

@@ -13,13 +13,15 @@ ghost use Rattle.quajects.specs.declared.home.Home.{Home};
 ghost use Rattle.processor.specs.declared.station.Parts.{Parts};
 ghost use Rattle.processor.specs.Logs.{Entry, Leaves, fired_by};
 ghost use Rattle.processor.specs.Running.{Line};
-ghost use Rattle.reports.specs.Agreements.{SmallAgrees, LargeAgrees, ThreadAgrees, GaugesAgree, AlarmsAgree, MoverAgrees};
+ghost use Rattle.reports.specs.Agreements.{SmallAgrees, LargeAgrees, ThreadAgrees, GaugesAgree, AlarmsAgree};
+ghost use Rattle.reports.specs.Agreements.{MoverAgrees};
 ghost use Rattle.reports.specs.Boots.{Boot, BootEnded};
 ghost use Rattle.reports.specs.Closed.{Closed};
 ghost use Rattle.reports.specs.Closed as closed;
 ghost use Rattle.reports.specs.Endings.{QueueEnded, ThreadsEnded, MetersEnded, MoverEnded, small_of, large_of};
 ghost use Rattle.reports.specs.Lists.{all_of};
 ghost use Rattle.reports.specs.Reports.{IsReport};
+ghost use Rattle.reports.specs.Saying.{AllEnded, IsNeverShutSmall, IsNeverShutLarge, SmallIsSaid, LargeIsSaid};
 ghost use Rattle.reports.specs.Stations.{AllJoined, IsPrepared};
 
 /// A queue that was closed by all its ends has the lines that the processors' logs tell, in their order; and cut by
@@ -46,19 +48,19 @@ pub fn threads_agree()
         → ThreadAgrees plan thread t c.fired logs }
 {}
 
-/// The gauges of closed meters are the sums of the ticks of the logs, and the alarms of the plan are those that the logs
-/// fired and those left, each once.
+/// The gauges of closed meters are the sums of the ticks of the logs, and the alarms of the plan are those that the
+/// logs fired and those left, each once.
 pub fn meters_agree()
-    ensures gauges { (plan : BootPlan) (logs : List (List Entry)) (stations : List Parts) (first last : Parts) (c : Closed)
-        → AllZip (Leaves plan) logs stations → IsPrepared plan first → AllJoined first stations last
+    ensures gauges { (plan : BootPlan) (logs : List (List Entry)) (stations : List Parts) (first last : Parts)
+        (c : Closed) → AllZip (Leaves plan) logs stations → IsPrepared plan first → AllJoined first stations last
         → MetersEnded plan last c → GaugesAgree c.gauges logs }
-    ensures alarms { (plan : BootPlan) (logs : List (List Entry)) (stations : List Parts) (first last : Parts) (c : Closed)
-        → AllZip (Leaves plan) logs stations → IsPrepared plan first → AllJoined first stations last
+    ensures alarms { (plan : BootPlan) (logs : List (List Entry)) (stations : List Parts) (first last : Parts)
+        (c : Closed) → AllZip (Leaves plan) logs stations → IsPrepared plan first → AllJoined first stations last
         → MetersEnded plan last c → AlarmsAgree plan c logs }
 {}
 
-/// The pump or switch that came home from a closed chain is the plan's and has kept its law, and it ran as many notes as
-/// the logs have done pokes of it.
+/// The pump or switch that came home from a closed chain is the plan's and has kept its law, and it ran as many notes
+/// as the logs have done pokes of it.
 pub fn movers_agree()
     ensures { (plan : BootPlan) (logs : List (List Entry)) (stations : List Parts) (first last : Parts) (number : ℕ)
         (p : PlannedMover) (home : Home) (m : closed.Chain) → AllZip (Leaves plan) logs stations
@@ -70,4 +72,13 @@ pub fn movers_agree()
 pub fn reports_agree()
     ensures { (plan : BootPlan) (logs : List (List Entry)) (boot : Boot) (c : Closed) (heard : List Line) (r : Report)
         → BootEnded plan logs boot c heard r → IsReport plan c logs heard r }
+{}
+
+/// Where no thread of an agreeing report is live, and no say to the queue was told that it is shut, the lines that the
+/// logs said to it are those of the plan's steps, each once.
+pub fn all_are_said()
+    ensures small { (plan : BootPlan) (c : Closed) (logs : List (List Entry)) (heard : List Line) (r : Report) (q : ℕ)
+        → IsReport plan c logs heard r → AllEnded r → IsNeverShutSmall q logs → SmallIsSaid plan q logs }
+    ensures large { (plan : BootPlan) (c : Closed) (logs : List (List Entry)) (heard : List Line) (r : Report) (q : ℕ)
+        → IsReport plan c logs heard r → AllEnded r → IsNeverShutLarge q logs → LargeIsSaid plan q logs }
 {}

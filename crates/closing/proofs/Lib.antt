@@ -2,3 +2,4 @@ pub mod ClosedFacts
 pub mod Drawing
 pub mod Gaining
 pub mod PortGains
+pub mod Whole

@@ -6,10 +6,14 @@
 #![tactic(auto)]
 
 mod chains;
+#[cfg(test)]
+mod fixtures;
 mod homing;
 mod joining;
 mod queues;
 mod tables;
+#[cfg(test)]
+mod tests;
 
 pub use chains::retire_all;
 pub use homing::{Counts, bring_all_home, bring_home};

@@ -16,3 +16,4 @@ pub mod Takings
 pub mod Raws
 pub mod Booting
 pub mod Saying
+pub mod Shutting

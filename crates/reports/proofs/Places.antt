@@ -20,7 +20,7 @@ use Rattle.thread_table.specs.declared.places.Place.TheVariants as places
 use Rattle.thread_table.specs.declared.rule.View.{View}
 use Rattle.thread_table.specs.Closings.{ClosedNow, StandsAt}
 use Rattle.thread_table.specs.Handles.{view_of}
-use Rattle.thread_table.specs.Schedules.{elements_after}
+use Rattle.thread_table.specs.Schedules.{elements_after, line_at}
 use Rattle.thread_table.specs.Shown.{WordsShow}
 use Rattle.processor.specs.declared.deed.Deed.{Deed}
 use Rattle.processor.specs.declared.deed.Deed.TheVariants as deeds
@@ -35,6 +35,7 @@ use Rattle.reports.specs.Endings.{ThreadsEnded}
 use Rattle.reports.specs.Lists.{all_of}
 use Rattle.reports.specs.Stations.{AllJoined, IsPrepared, HasDoneAll}
 use Rattle.reports.proofs.Freeing.{retired_once, has_done_all}
+use Rattle.reports.proofs.Joining.{stays}
 use Rattle.reports.proofs.Tallies.{made_at, all_retired}
 use Rattle.reports.proofs.Threads.{known, done_are, steps_agree, signals_agree, planned_all}
 
@@ -47,6 +48,13 @@ joined_shows : (first : Parts) (stations : List Parts) (last : Parts) → 0 < le
 joined_shows first [] last low j = absurd (omega arith)
 joined_shows first (s ∷ []) last low j = subst (λ (p : Parts). Shown (view_of p.hand)) (sym j.2) (_, j.1.hand.sees.words, j.1.hand.sees.shows)
 joined_shows first (s ∷ r ∷ ss) last low j = joined_shows j.0 (r ∷ ss) last (omega arith) j.2
+
+-- once the free elements of the beginning were all taken, they stay so
+abbrev AllTaken : Parts → Type 0
+AllTaken p = 64 ≤ (line_at (elements_after (view_of p.hand).schedule) 1).taken
+
+all_taken : (first : Parts) (stations : List Parts) (last : Parts) → AllJoined first stations last → AllTaken first → AllTaken last
+all_taken first stations last j h = stays AllTaken (λ a b c k many. let f = (k.hand.sees.seen.grows 1).further in omega arith) first stations last j h
 
 got : (l : List (Option Hold)) (p : ℕ) (x : Option Hold) → slice_get l p ≡ Some x → get_or l p None ≡ x
 got [] p x e = absurd (cc)
@@ -114,7 +122,7 @@ module _ (plan : BootPlan) (logs : List (List Entry)) (stations : List Parts) (f
       let retired = subst (AllByRecursion (HasDoneAll plan)) (sym (all_retired plan logs stations first last left begun joins))
       (plan_more plan (flat_map retired_by (made_at first)) (flat_map (λ log. (tally_of log).retired) logs) begun.retired (logs_retired plan logs (planned_all plan logs stations left))) in
       let few = has_done_all plan x _ (flat_map retired_by (made_at last)) retired
-      (retired_once (view_of last.hand).schedule (made_at last) x k.allowed k.made k.retired (shows.2.lines 1 (omega arith)).single e.begun free) in
+      (retired_once (view_of last.hand).schedule (made_at last) x k.allowed k.made k.retired (shows.2.lines 1 (omega arith)).single (all_taken first stations last joins begun.taken) free) in
       let same = done_are plan logs stations first last left begun joins c e x t at in
       let prefix = (steps_agree plan logs stations first last left begun joins c e x t at).prefix in
       omega arith

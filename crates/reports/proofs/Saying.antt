@@ -1,11 +1,9 @@
 -- Where all steps were done, the lines said are those of the plan.
-use Rattle.std.proofs.Common.{◌≡◌, ◌≢◌, ◌⊎◌, inl, inr, ⊎_elim, ℕ, zero, suc, ◌+◌, ◌<◌, ◌≤◌, Bool, true, false, eqb, eq-eqb, ne_eqb, List, [], ◌∷◌, ◌++◌, map, length, refl, sym, ap, ◌∙◌, subst, arith, Option, Some, None, slice_get, append_assoc, append-nil, flat_map, count_by, IsPermutation}
+use Rattle.std.proofs.Common.{◌≡◌, ◌≢◌, ⊎_elim, ℕ, zero, suc, ◌+◌, ◌<◌, ◌≤◌, Bool, true, false, eqb, eq-eqb, ne_eqb, List, [], ◌∷◌, ◌++◌, map, length, refl, sym, ap, ◌∙◌, subst, arith, Option, Some, None, slice_get, append_assoc, append-nil, flat_map, count_by, IsPermutation}
 use Rattle.std.specs.Prelude.{if◌then◌else◌, ◌&&◌, ◌||◌, ◌==◌, nat_lt}
 use Rattle.std.specs.List.{range_with_len, list_any, AllByRecursion}
 use Rattle.std.proofs.lemmas.Bool.Decides.{eqb_tells, leb_tells}
 use Rattle.std.proofs.lemmas.Grind.{flat_map-append}
-use Rattle.std.proofs.lemmas.List.{map-append}
-use Rattle.std.proofs.lemmas.List.Folds.{list_any-append}
 use Rattle.std.proofs.lemmas.List.Sorted.{IsPermutation-refl, IsPermutation-trans, IsPermutation-append_comm, IsPermutation-append_left, IsPermutation-append_right}
 use mathlib.Core.Logic.{dite}
 use native.Mathlib.Decide.{dec_lt}
@@ -15,7 +13,6 @@ use Rattle.boot_script.specs.declared.plan.QueueIndex.TheVariants.{Small, Large}
 use Rattle.boot_script.specs.declared.plan.Step.{Step}
 use Rattle.boot_script.specs.declared.plan.Step.TheVariants as steps
 use Rattle.boot_script.specs.declared.report.Report.{Report}
-use Rattle.boot_script.specs.declared.report.ThreadState.{ThreadState}
 use Rattle.boot_script.specs.declared.report.ThreadState.TheVariants as states
 use Rattle.boot_script.specs.Plans.{steps_in, steps_at}
 use Rattle.thread_table.specs.declared.places.Place.{Place}
@@ -23,20 +20,18 @@ use Rattle.thread_table.specs.declared.places.Place.TheVariants as places
 use Rattle.processor.specs.declared.deed.Deed.{Deed}
 use Rattle.processor.specs.declared.deed.Deed.TheVariants as deeds
 use Rattle.processor.specs.Deeds.{is_done}
-use Rattle.processor.specs.Logs.{Entry, Tended, Delivered, Tried, Retired, IsPlanned, small_put, small_put_by, large_put, large_put_by, small_shut_told, large_shut_told, small_was_shut, large_was_shut}
+use Rattle.processor.specs.Logs.{Entry, Tended, Delivered, Tried, Retired, IsPlanned, small_put_by, large_put_by, small_shut_told, large_shut_told}
 use Rattle.processor.specs.Programs.{Key, same_key, program, step_of}
 use Rattle.processor.specs.Running.{Line}
 use Rattle.processor.specs.Steps.{comes_of, puts_small, puts_large, told_shut_small, told_shut_large}
 use Rattle.reports.specs.Agreements.{PlaceAgrees}
 use Rattle.reports.specs.Closed.{Closed}
-use Rattle.reports.specs.Closed as closed
 use Rattle.reports.specs.Doings as doings
 use Rattle.reports.specs.Lines.{state_for}
 use Rattle.reports.specs.Lists.{all_of}
 use Rattle.reports.specs.Reports.{IsReport}
 use Rattle.reports.specs.Saying.{says_small, says_large, all_small, all_large, IsNeverShutSmall, IsNeverShutLarge, SmallIsSaid, LargeIsSaid, AllEnded}
-use Rattle.reports.proofs.Counts.{plus, many_cons, many_more, by_bool, find_it, range_in, range_far}
-use Rattle.reports.proofs.Lists.{flat_all}
+use Rattle.reports.proofs.Counts.{plus, many_cons, many_more, find_it, range_in, range_far}
 use Rattle.reports.proofs.Threads.{none_in, all_planned}
 
 module _ {A B : Type 0} (f : A → List B) where

@@ -1,8 +1,8 @@
 -- What a boot knows once its processors have returned, their stations are joined and its tables closed.
-use Rattle.std.specs.Prelude.{◌≡◌, ◌<◌, ◌≤◌, ◌+◌, ◌^◌, ◌==◌, ℕ, if◌then◌else◌, List, [], ◌∷◌, map, take, length}
-use Rattle.std.specs.Prelude.{flat_map}
+use Rattle.std.specs.Prelude.{◌≡◌, ◌<◌, ◌≤◌, ◌+◌, ◌^◌, ◌==◌, ℕ, true, if◌then◌else◌, List, [], ◌∷◌, map, take}
+use Rattle.std.specs.Prelude.{length, flat_map}
 use Rattle.std.specs.Prelude.{Option, Some, None, slice_index_or}
-use Rattle.std.specs.List.{slice_get, concat, AllByRecursion}
+use Rattle.std.specs.List.{slice_get, concat, sum_by, AllByRecursion}
 use Rattle.boot_script.specs.declared.boot_plan.BootPlan.{BootPlan}
 use Rattle.boot_script.specs.declared.plan.PlannedMover.{PlannedMover}
 use Rattle.boot_script.specs.declared.plan.PlannedTty.{PlannedTty}
@@ -26,7 +26,7 @@ use Rattle.quajects.specs.declared.ways.Way.{Way}
 use Rattle.quajects.specs.declared.world.Queues.{Queues}
 use Rattle.quajects.specs.Homes.{CameHome}
 use Rattle.quajects.specs.Pumps as pumps
-use Rattle.quajects.specs.Settled.{SettledNow, views_of, runs_of}
+use Rattle.quajects.specs.Settled.{SettledNow, views_of, runs_of, shuts_of}
 use Rattle.quajects.specs.Switches as switches
 use Rattle.quajects.specs.Terminals as terminals
 use Rattle.table_theory.specs.declared.queues.Batch.{Batch}
@@ -35,7 +35,6 @@ use Rattle.thread_table.specs.declared.places.Place.{Place}
 use Rattle.thread_table.specs.declared.places.Place.TheVariants as places
 use Rattle.thread_table.specs.Closings.{ClosedNow}
 use Rattle.thread_table.specs.Handles.{view_of}
-use Rattle.thread_table.specs.Schedules.{elements_after, line_at}
 use Rattle.processor.specs.declared.station.Parts.{Parts}
 use Rattle.reports.specs.Agreements.{IsTty, IsMover, AreWithout}
 use Rattle.reports.specs.Closed.{Closed}
@@ -45,8 +44,8 @@ use lib.ListN.{get_elem?}
 
 -- THREADS
 
--- The last hand, which has all, closed the table: nothing stands on a processor, and the free elements with which the
--- table began were all taken. The closed threads are as the table told, and shown what any processor was shown
+-- The last hand, which has all, closed the table, and nothing stands on a processor. The closed threads are as the
+-- table told, and shown what any processor was shown
 pub record ThreadsEnded (last : Parts) (c : Closed) : Type 0 where
   pub call : ℕ
   pub stands : List Place
@@ -55,7 +54,6 @@ pub record ThreadsEnded (last : Parts) (c : Closed) : Type 0 where
   pub stops : ℕ
   pub closes : ClosedNow call (view_of last.hand) stands pcs pending stops
   pub none_on : (p : ℕ) → p < 8 → IsFree p (view_of last.hand)
-  pub begun : 64 ≤ (line_at (elements_after (view_of last.hand).schedule) 1).taken
   pub few : length c.threads ≤ 64
   pub steps : (thread : ℕ) (t : closed.Thread) → slice_get c.threads thread ≡ Some t
       → t.steps ≡ slice_index_or pcs thread 0
@@ -69,7 +67,8 @@ pub record ThreadsEnded (last : Parts) (c : Closed) : Type 0 where
 -- QUEUES
 
 -- The last station's end of the queue and these others were all its ends, and the queue is closed. The closed queue has
--- its items, and the lines of each station's end and of the others
+-- its items, and the lines of each station's end and of the others. What closed it knew that it was shut where the last
+-- station's end did, and the others never shut it
 pub record QueueEnded {n : ℕ} (ends : Parts → List (QueueEnd n)) (number : ℕ) (stations : List Parts) (last : Parts)
     (others : List (QueueEnd n)) (q : closed.Queue) : Type 0 where
   pub end : QueueEnd n
@@ -83,6 +82,8 @@ pub record QueueEnded {n : ℕ} (ends : Parts → List (QueueEnd n)) (number : �
   pub taken_by : q.taken_by ≡ map (λ station. lines_taken_at (ends station) number) stations
   pub put_by_others : q.put_by_others ≡ flat_map lines_put (map queues.view_of others)
   pub taken_by_others : q.taken_by_others ≡ flat_map lines_taken (map queues.view_of others)
+  pub known : (queues.view_of end).part.queue.shut ≡ true → closes.before.part.queue.shut ≡ true
+  pub none_shut : sum_by shuts_of (map queues.view_of others) ≡ 0
 
 abbrev pub small_of : Parts → List (QueueEnd 64)
 small_of parts = parts.small.items
@@ -149,8 +150,8 @@ abbrev pub IsAscending : List Batch → Type 0
 IsAscending runs = (i j : ℕ) (e f : Batch) → get_elem? runs i ≡ some e → get_elem? runs j ≡ some f → i < j
     → e.start < f.start
 
--- A tty: its device popped the bytes typed, and put all but those refused in the raw queue, one behind the other; it took
--- nothing there
+-- A tty: its device popped the bytes typed, and put all but those refused in the raw queue, one behind the other; it
+-- took nothing there
 pub record TtyEnded (many tty : ℕ) (p : PlannedTty) (v : ChainView) (home : Home) (t : closed.Chain)
     (raw : QueueEnd 64) (d : closed.Device) : Type 0 where
   pub ended : ChainEnded v home t

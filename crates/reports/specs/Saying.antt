@@ -9,6 +9,7 @@ use Rattle.boot_script.specs.declared.report.Report.{Report}
 use Rattle.boot_script.specs.declared.report.ThreadLine.{ThreadLine}
 use Rattle.boot_script.specs.declared.report.ThreadState.TheVariants as states
 use Rattle.processor.specs.Logs.{Entry, small_put, large_put, small_was_shut, large_was_shut}
+use Rattle.processor.specs.Programs.{step_of}
 use Rattle.processor.specs.Queues.{said_line, small_at, large_at}
 
 -- the line that a step says to the small queue q, and to the large
@@ -40,6 +41,10 @@ SmallIsSaid plan q logs = IsPermutation (flat_map (λ log. small_put log q) logs
 
 abbrev pub LargeIsSaid : BootPlan → ℕ → List (List Entry) → Type 0
 LargeIsSaid plan q logs = IsPermutation (flat_map (λ log. large_put log q) logs) (all_large plan q)
+
+-- no step of the plan shuts the small queue q
+abbrev pub IsNeverClosed : BootPlan → ℕ → Type 0
+IsNeverClosed plan q = (thread number : ℕ) → step_of plan thread number ≡ Some (steps.Close q) → ⊥
 
 -- no thread of the report is live
 abbrev pub AllEnded : Report → Type 0

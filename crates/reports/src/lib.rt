@@ -21,7 +21,8 @@ ghost use Rattle.reports.specs.Closed as closed;
 ghost use Rattle.reports.specs.Endings.{QueueEnded, ThreadsEnded, MetersEnded, MoverEnded, small_of, large_of};
 ghost use Rattle.reports.specs.Lists.{all_of};
 ghost use Rattle.reports.specs.Reports.{IsReport};
-ghost use Rattle.reports.specs.Saying.{AllEnded, IsNeverShutSmall, IsNeverShutLarge, SmallIsSaid, LargeIsSaid};
+ghost use Rattle.reports.specs.Saying.{AllEnded, IsNeverClosed, IsNeverShutSmall, IsNeverShutLarge};
+ghost use Rattle.reports.specs.Saying.{SmallIsSaid, LargeIsSaid};
 ghost use Rattle.reports.specs.Stations.{AllJoined, IsPrepared};
 
 /// A queue that was closed by all its ends has the lines that the processors' logs tell, in their order; and cut by
@@ -81,4 +82,15 @@ pub fn all_are_said()
         → IsReport plan c logs heard r → AllEnded r → IsNeverShutSmall q logs → SmallIsSaid plan q logs }
     ensures large { (plan : BootPlan) (c : Closed) (logs : List (List Entry)) (heard : List Line) (r : Report) (q : ℕ)
         → IsReport plan c logs heard r → AllEnded r → IsNeverShutLarge q logs → LargeIsSaid plan q logs }
+{}
+
+/// Where no thread of an ended boot's report is live, the lines that the logs said to a queue which no step of the plan
+/// shuts are those of the plan's steps, each once. No step shuts a large queue.
+pub fn ended_boots_said_all()
+    ensures small { (plan : BootPlan) (logs : List (List Entry)) (boot : Boot) (c : Closed) (heard : List Line)
+        (r : Report) (q : ℕ) (queue : closed.Queue) → BootEnded plan logs boot c heard r → AllEnded r
+        → slice_get c.small q ≡ Some queue → IsNeverClosed plan q → SmallIsSaid plan q logs }
+    ensures large { (plan : BootPlan) (logs : List (List Entry)) (boot : Boot) (c : Closed) (heard : List Line)
+        (r : Report) (q : ℕ) (queue : closed.Queue) → BootEnded plan logs boot c heard r → AllEnded r
+        → slice_get c.large q ≡ Some queue → LargeIsSaid plan q logs }
 {}

@@ -1,6 +1,6 @@
 -- Where all steps were done, the lines said are those of the plan.
 use Rattle.std.proofs.Common.{◌≡◌, ◌≢◌, ⊎_elim, ℕ, zero, suc, ◌+◌, ◌<◌, ◌≤◌, Bool, true, false, eqb, eq-eqb, ne_eqb, List, [], ◌∷◌, ◌++◌, map, length, refl, sym, ap, ◌∙◌, subst, arith, Option, Some, None, slice_get, append_assoc, append-nil, flat_map, count_by, IsPermutation}
-use Rattle.std.specs.Prelude.{if◌then◌else◌, ◌&&◌, ◌||◌, ◌==◌, nat_lt}
+use Rattle.std.specs.Prelude.{if◌then◌else◌, ◌&&◌, ◌||◌, ◌==◌, nat_lt, not}
 use Rattle.std.specs.List.{range_with_len, list_any, AllByRecursion}
 use Rattle.std.proofs.lemmas.Bool.Decides.{eqb_tells, leb_tells}
 use Rattle.std.proofs.lemmas.Grind.{flat_map-append}
@@ -13,6 +13,8 @@ use Rattle.boot_script.specs.declared.plan.QueueIndex.TheVariants.{Small, Large}
 use Rattle.boot_script.specs.declared.plan.Step.{Step}
 use Rattle.boot_script.specs.declared.plan.Step.TheVariants as steps
 use Rattle.boot_script.specs.declared.report.Report.{Report}
+use Rattle.boot_script.specs.declared.report.ThreadLine.{ThreadLine}
+use Rattle.boot_script.specs.declared.report.ThreadState.{ThreadState}
 use Rattle.boot_script.specs.declared.report.ThreadState.TheVariants as states
 use Rattle.boot_script.specs.Plans.{steps_in, steps_at}
 use Rattle.thread_table.specs.declared.places.Place.{Place}
@@ -30,8 +32,8 @@ use Rattle.reports.specs.Doings as doings
 use Rattle.reports.specs.Lines.{state_for}
 use Rattle.reports.specs.Lists.{all_of}
 use Rattle.reports.specs.Reports.{IsReport}
-use Rattle.reports.specs.Saying.{says_small, says_large, all_small, all_large, IsNeverShutSmall, IsNeverShutLarge, SmallIsSaid, LargeIsSaid, AllEnded}
-use Rattle.reports.proofs.Counts.{plus, many_cons, many_more, find_it, range_in, range_far}
+use Rattle.reports.specs.Saying.{says_small, says_large, all_small, all_large, IsNeverShutSmall, IsNeverShutLarge, SmallIsSaid, LargeIsSaid, AllEnded, is_ended, is_live}
+use Rattle.reports.proofs.Counts.{by_bool, plus, many_cons, many_more, find_it, range_in, range_far}
 use Rattle.reports.proofs.Threads.{none_in, all_planned}
 
 module _ {A B : Type 0} (f : A → List B) where
@@ -238,6 +240,17 @@ free_one : (place : Place) (steps all : ℕ) → state_for place ≡ states.Ende
 free_one places.Free steps all e h = h
 free_one place steps all e h = absurd (cc)
 
+is_end : (state : ThreadState) → is_ended state ≡ true → state ≡ states.Ended
+is_end states.Ended e = refl
+is_end state e = absurd (cc)
+
+none_live : (lines : List ThreadLine) → count_by is_live lines ≡ 0 → (k : ℕ) (line : ThreadLine) → slice_get lines k ≡ Some line → line.state ≡ states.Ended
+none_live [] h k line at = absurd (cc)
+none_live (l ∷ ls) h zero line at = let e : l ≡ line = cc in by_bool (is_ended l.state)
+    (λ is. ap (λ (z : ThreadLine). z.state) (sym e) ∙ is_end l.state is)
+    (λ isnt. let c = many_cons is_live l ls in let z : plus (is_live l) ≡ 1 = ap (λ b. plus (not b)) isnt in absurd (omega arith))
+none_live (l ∷ ls) h (suc k) line at = let c = many_cons is_live l ls in none_live ls (omega arith) k line at
+
 module _ (plan : BootPlan) (c : Closed) (logs : List (List Entry)) (heard : List Line) (r : Report) (report : IsReport plan c logs heard r) (ended : AllEnded r) where
   all_once : (x n : ℕ) → count_by (same_key (x, n)) (flat_map doings.done_by (all_of logs)) ≡ (if nat_lt n (length (program plan x)) then 1 else 0)
   all_once x n = dite (dec_lt x (length plan.threads))
@@ -248,7 +261,7 @@ module _ (plan : BootPlan) (c : Closed) (logs : List (List Entry)) (heard : List
       let l = there_is r.threads x (let e = w.threads in omega arith) in
       let a = report.tables.threads x t.0 t.1 in
       let said = report.says.threads x p.0 t.0 l.0 p.1 t.1 l.1 in
-      let full = free_one t.0.place t.0.steps (length (program plan x)) (sym said.state ∙ ended x l.0 l.1) a.place in
+      let full = free_one t.0.place t.0.steps (length (program plan x)) (sym said.state ∙ none_live r.threads ended x l.0 l.1) a.place in
       a.ran.once n ∙ ap (λ z. if nat_lt n z then 1 else 0) full)
       (λ high. let e : program plan x ≡ [] = no_program plan.threads x (omega (arith, high)) in
       none_in plan x n (ap (λ (z : List Step). slice_get z n) e) (all_of logs) (all_planned plan logs report.tables.planned)

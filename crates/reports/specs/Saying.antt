@@ -1,12 +1,13 @@
 -- The lines that a plan says, and those that the logs say of it.
-use Rattle.std.specs.Prelude.{◌≡◌, ℕ, false, List, [], ◌∷◌, flat_map, Some, IsPermutation}
-use Rattle.std.specs.List.{slice_get, AllByRecursion}
+use Rattle.std.specs.Prelude.{◌≡◌, ℕ, Bool, true, false, not, List, [], ◌∷◌, flat_map, count_by, Some, IsPermutation}
+use Rattle.std.specs.List.{AllByRecursion}
 use Rattle.boot_script.specs.declared.boot_plan.BootPlan.{BootPlan}
 use Rattle.boot_script.specs.declared.plan.PlannedThread.{PlannedThread}
 use Rattle.boot_script.specs.declared.plan.Step.{Step}
 use Rattle.boot_script.specs.declared.plan.Step.TheVariants as steps
 use Rattle.boot_script.specs.declared.report.Report.{Report}
 use Rattle.boot_script.specs.declared.report.ThreadLine.{ThreadLine}
+use Rattle.boot_script.specs.declared.report.ThreadState.{ThreadState}
 use Rattle.boot_script.specs.declared.report.ThreadState.TheVariants as states
 use Rattle.processor.specs.Logs.{Entry, small_put, large_put, small_was_shut, large_was_shut}
 use Rattle.processor.specs.Programs.{step_of}
@@ -46,6 +47,18 @@ LargeIsSaid plan q logs = IsPermutation (flat_map (λ log. large_put log q) logs
 abbrev pub IsNeverClosed : BootPlan → ℕ → Type 0
 IsNeverClosed plan q = (thread number : ℕ) → step_of plan thread number ≡ Some (steps.Close q) → ⊥
 
--- no thread of the report is live
+abbrev pub is_ended : ThreadState → Bool
+is_ended states.Ended = true
+is_ended state = false
+
+-- a thread that isn't ended is live
+abbrev pub is_live : ThreadLine → Bool
+is_live line = not (is_ended line.state)
+
+-- how many threads of the report are live
+abbrev pub live_threads : Report → ℕ
+live_threads r = count_by is_live r.threads
+
+-- none is live
 abbrev pub AllEnded : Report → Type 0
-AllEnded r = (thread : ℕ) (line : ThreadLine) → slice_get r.threads thread ≡ Some line → line.state ≡ states.Ended
+AllEnded r = live_threads r ≡ 0

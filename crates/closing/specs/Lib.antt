@@ -4,3 +4,5 @@ pub mod Gains
 pub mod Placings
 pub mod PortSums
 pub mod Retirals
+pub mod Rooms
+pub mod Wholes

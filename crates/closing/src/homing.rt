@@ -5,12 +5,17 @@ ghost use Rattle.closing.specs.Comings.{GainedSmall, GainedLarge, GainedAllSmall
 ghost use Rattle.closing.specs.Gains.{Gained};
 ghost use Rattle.closing.specs.PortSums.{port_puts, port_takes, port_shuts, port_share};
 ghost use Rattle.closing.specs.PortSums.{ports_put, ports_taken, ports_shut, ports_share};
-ghost use Rattle.end_steps.specs.EndLists.{AreEndsOf, AreSameEnds};
+ghost use Rattle.closing.specs.Retirals.{HaveRetired};
+ghost use Rattle.end_steps.specs.EndLists.{AreChainEndsOf, AreChainsOver, AreEndsOf, AreSameEnds};
+ghost use Rattle.proc_chain.specs.Handles.{IsOnlyEnd};
 ghost use Rattle.quajects.specs.Ports.{AllFit, AllUp};
 
+use crate::chains::retire_all;
 use crate::joining::join_at;
 use claim_queue::{ClaimQueue, QueueEnd};
-use quajects::{Home, Port, Queues};
+use proc_chain::{ChainEnd, ProcChain};
+use quajects::{AnyQuaject, Home, Port, Queues};
+use std::snapshot::Snapshot;
 
 /// The numbers of a quaject that came home: so many notes were put in its chain, `left` of them were not run; it ran so
 /// many notes, took and put so many items, and holds so many.
@@ -130,4 +135,40 @@ pub fn bring_all_home(
         counts.push_reserved(bring_home(queues, small, large, home));
     }
     counts
+}
+
+/// Closes each chain by its only end, and brings all home. The homes, as they came, go into the second answer, and their
+/// numbers into the first, in the order of the chains. `homes` and `counts` are empty and have room for them, so it takes
+/// no memory.
+///
+/// Conditions: the queues are the world of the chains, and the ends in the lists are those of the queues, in their order;
+/// those of the chains are theirs, in their order and without a Turn, and each has the whole of its chain.
+pub fn close_chains(
+    queues: &Queues,
+    chains: Vec<ProcChain<AnyQuaject>>,
+    ends: Vec<ChainEnd<AnyQuaject>>,
+    small: &mut Vec<QueueEnd<64>>,
+    large: &mut Vec<QueueEnd<256>>,
+    homes: Vec<Home>,
+    counts: Vec<Counts>,
+) -> (Vec<Counts>, Snapshot<Vec<Home>>)
+    requires world { AreChainsOver queues.now chains.items }
+    requires ends { AreChainEndsOf chains.items ends.items }
+    requires whole { All IsOnlyEnd ends.items }
+    requires small { AreEndsOf queues.now.small.items small.old.items }
+    requires large { AreEndsOf queues.now.large.items large.old.items }
+    requires homes_room { (homes.items ≡ []) × (length chains.items ≤ vec_capacity homes) }
+    requires counts_room { (counts.items ≡ []) × (length chains.items ≤ vec_capacity counts) }
+    ensures homes { HaveRetired chains.items ends.items result.1.value.items }
+    ensures counts { result.0.items ≡ map counts_of result.1.value.items }
+    ensures same { AreSameEnds small.old.items small.new.items × AreSameEnds large.old.items large.new.items }
+    ensures small { AreEndsOf queues.now.small.items small.new.items }
+    ensures large { AreEndsOf queues.now.large.items large.new.items }
+    ensures small_gained { GainedAllSmall result.1.value.items small.old.items small.new.items }
+    ensures large_gained { GainedAllLarge result.1.value.items large.old.items large.new.items }
+{
+    let homes = retire_all(chains, ends, homes);
+    let came = Snapshot::of(&homes);
+    let counts = bring_all_home(queues, small, large, homes, counts);
+    (counts, came)
 }

@@ -5,6 +5,7 @@
 //! whole, so that no other stands, closing it can't be refused.
 #![tactic(auto)]
 
+mod all;
 mod chains;
 #[cfg(test)]
 mod fixtures;
@@ -15,8 +16,9 @@ mod tables;
 #[cfg(test)]
 mod tests;
 
+pub use all::{Answers, Ended, close_all};
 pub use chains::retire_all;
-pub use homing::{Counts, bring_all_home, bring_home};
+pub use homing::{Counts, bring_all_home, bring_home, close_chains};
 pub use joining::{join_at, join_chain_at};
 pub use queues::close_queues;
 pub use tables::{close_meters, close_threads};

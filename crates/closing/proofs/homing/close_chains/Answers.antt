@@ -1,0 +1,12 @@
+use Rattle.std.proofs.Common.{arith}
+use Rattle.closing.specs.Retirals.{HasRetired}
+use Rattle.closing.proofs.Drawing.{three_long}
+use Rattle.closing.proofs.Whole.{homes_fit}
+use Rattle.closing.proofs.homing.close_chains.Goals as goal
+
+pub bring_all_home-counts-requires-clause-fits : goal.bring_all_home-counts-requires-clause-fits
+bring_all_home-counts-requires-clause-fits c = homes_fit c.args.queues.now c.args.chains.items c.args.ends.items c.retire_all-homes.result.items c.requires.world c.retire_all-homes.ensures
+
+pub bring_all_home-counts-requires-clause-room : goal.bring_all_home-counts-requires-clause-room
+bring_all_home-counts-requires-clause-room c = let long = three_long HasRetired c.args.chains.items c.args.ends.items c.retire_all-homes.result.items c.retire_all-homes.ensures in let same = long.1 in
+    let room = c.requires.counts_room.1 in (c.requires.counts_room.0, omega arith)

@@ -1,5 +1,5 @@
 -- What a hand keeps over several steps, and what its events come to.
-use Rattle.std.proofs.Common.{◌≡◌, inr, ℕ, true, List, [], ◌++◌, Some, None, false, get_or, refl, sym, ap, ◌∙◌, arith}
+use Rattle.std.proofs.Common.{◌≡◌, inr, ℕ, zero, suc, true, List, [], ◌∷◌, ◌++◌, Option, Some, None, false, get_or, set, refl, sym, ap, ◌∙◌, arith}
 use Rattle.std.proofs.lemmas.List.{append_assoc, append-nil}
 use Rattle.thread_table.specs.declared.rule.View.{View}
 use Rattle.thread_table.specs.Keeping.{Keeps}
@@ -63,3 +63,9 @@ acts_none v = record {
   steady = λ p e low serve on. refl;
   rises = λ e. omega arith;
 }
+
+-- what was put where nothing stood, and then taken off again
+pub on_back : (xs : List (Option ℕ)) (p e : ℕ) → get_or xs p None ≡ None → set (set xs p (Some e)) p None ≡ xs
+on_back [] p e none = refl
+on_back (x ∷ xs) zero e none = ap (λ y. y ∷ xs) (sym none)
+on_back (x ∷ xs) (suc p) e none = ap (λ ys. x ∷ ys) (on_back xs p e none)

@@ -69,7 +69,7 @@ comes_of steps.Pass deeds.Passed = true
 comes_of (steps.Close queue) (deeds.Shut was_open readers writers) = true
 comes_of step deed = false
 
--- By the hand: a ticket is read before a try at a pipe, and those who wait there are woken behind a step that is done
+-- By the hand: at a pipe a ticket was read, and those who wait there were woken where the step is done
 abbrev pub HandDid : ℕ → BootPlan → Step → Deed → View → View → Type 0
 HandDid call plan (steps.Say queue text) (deeds.Said woken) v w = (ticket : Option Ticket) × (u : View)
     × TicketFor (writers_of (waits_at plan queue)) v ticket u × WokeFor call (readers_of (waits_at plan queue)) u woken w

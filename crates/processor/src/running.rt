@@ -75,6 +75,7 @@ pub(crate) fn run_step<R: Wait, G: Gate>(
     ensures rises { NeverFalls (view_of parts.old.hand) (view_of parts.new.hand) }
     ensures serves { (view_of parts.new.hand).serves ≡ (view_of parts.old.hand).serves }
     ensures share { (view_of parts.new.hand).member.share ≡ (view_of parts.old.hand).member.share }
+    ensures on { (view_of parts.new.hand).on ≡ (view_of parts.old.hand).on }
     ensures heard { parts.new.heard ≡ parts.old.heard }
     ensures signals { parts.new.signals ≡ parts.old.signals }
 {

@@ -56,6 +56,7 @@ fn run_element<R: Wait, G: Gate>(
     ensures room { HasRoom shared.now.plan parts.new }
     ensures ran { RanStep shared.now p element number result.0 result.1 parts.old parts.new }
     ensures logged { Logged shared.now.plan parts.old parts.new }
+    ensures on { (view_of parts.new.hand).on ≡ (view_of parts.old.hand).on }
     ensures serves { (view_of parts.new.hand).serves ≡ (view_of parts.old.hand).serves }
     ensures share { (view_of parts.new.hand).member.share ≡ (view_of parts.old.hand).member.share }
 {
@@ -97,6 +98,7 @@ fn begin_turn<R: Wait>(
     ensures held { IfOk result (λ begun. has (view_of parts.new.hand) begun.element ≡ true) }
     ensures number { IfOk result (λ begun. begun.number ≡ done_at (view_of parts.new.hand).schedule begun.element) }
     ensures logged { Logged shared.now.plan parts.old parts.new }
+    ensures on { (view_of parts.new.hand).on ≡ (view_of parts.old.hand).on }
     ensures serves { (view_of parts.new.hand).serves ≡ (view_of parts.old.hand).serves }
     ensures share { (view_of parts.new.hand).member.share ≡ (view_of parts.old.hand).member.share }
 {
@@ -127,6 +129,7 @@ fn retire_at<R: Wait>(
     ensures rest { AreAtRest parts.old parts.new }
     ensures others { (parts.new.meters ≡ parts.old.meters) × (parts.new.signals ≡ parts.old.signals) }
     ensures logged { Logged shared.now.plan parts.old parts.new }
+    ensures on { (view_of parts.new.hand).on ≡ (view_of parts.old.hand).on }
     ensures serves { (view_of parts.new.hand).serves ≡ (view_of parts.old.hand).serves }
     ensures share { (view_of parts.new.hand).member.share ≡ (view_of parts.old.hand).member.share }
 {
@@ -155,6 +158,7 @@ fn take_turn<R: Wait, G: Gate>(
     ensures room { HasRoom shared.now.plan parts.new }
     ensures had { HadTurn shared.now p element number result parts.old parts.new }
     ensures logged { Logged shared.now.plan parts.old parts.new }
+    ensures on { (view_of parts.new.hand).on ≡ (view_of parts.old.hand).on }
     ensures serves { (view_of parts.new.hand).serves ≡ (view_of parts.old.hand).serves }
     ensures share { (view_of parts.new.hand).member.share ≡ (view_of parts.old.hand).member.share }
 {
@@ -186,6 +190,7 @@ fn dispatch<R: Wait, G: Gate>(
     ensures room { HasRoom shared.now.plan parts.new }
     ensures came { CameOf shared.now p result parts.old parts.new }
     ensures logged { Logged shared.now.plan parts.old parts.new }
+    ensures on { (view_of parts.new.hand).on ≡ (view_of parts.old.hand).on }
     ensures serves { (view_of parts.new.hand).serves ≡ (view_of parts.old.hand).serves }
     ensures share { (view_of parts.new.hand).member.share ≡ (view_of parts.old.hand).member.share }
 {
@@ -209,6 +214,7 @@ fn tend(shared: &Shared, parts: &mut Parts, p: Processor) -> Option<Tended>
     ensures room { HasRoom shared.now.plan parts.new }
     ensures tended { TendedBy p result parts.old parts.new }
     ensures logged { Logged shared.now.plan parts.old parts.new }
+    ensures on { (view_of parts.new.hand).on ≡ (view_of parts.old.hand).on }
     ensures serves { (view_of parts.new.hand).serves ≡ (view_of parts.old.hand).serves }
     ensures share { (view_of parts.new.hand).member.share ≡ (view_of parts.old.hand).member.share }
 {
@@ -236,6 +242,7 @@ fn turn<R: Wait, G: Gate>(
     ensures room { HasRoom shared.now.plan parts.new }
     ensures turn { TurnOf shared.now p result parts.old parts.new }
     ensures logged { Logged shared.now.plan parts.old parts.new }
+    ensures on { (view_of parts.new.hand).on ≡ (view_of parts.old.hand).on }
     ensures serves { (view_of parts.new.hand).serves ≡ (view_of parts.old.hand).serves }
     ensures share { (view_of parts.new.hand).member.share ≡ (view_of parts.old.hand).member.share }
 {
@@ -267,6 +274,7 @@ pub fn run<R: Wait, G: Gate>(
     ensures turns { Turns shared.now p station.parts result.parts turns }
     ensures logged { Logged shared.now.plan station.parts result.parts }
     ensures leaves { IsFresh station.parts → HasLeft shared.now.plan result.parts }
+    ensures on { (view_of result.parts.hand).on ≡ (view_of station.parts.hand).on }
     ensures serves { (view_of result.parts.hand).serves ≡ (view_of station.parts.hand).serves }
     ensures share { (view_of result.parts.hand).member.share ≡ (view_of station.parts.hand).member.share }
 {

@@ -28,6 +28,7 @@ loop-number-preserved g c =
       e.serves ∙ i.5,
       e.share ∙ i.6,
       logged_on c.args.shared.now.plan c.args.station.parts c.loop-number.parts c.turn.new.parts i.7 e.logged,
+      e.on ∙ i.8,
     )
 
 pub loop-number-init : goal.loop-number-init
@@ -46,6 +47,7 @@ loop-number-init g c = (
   refl,
   refl,
   idle_logged c.args.shared.now.plan c.args.station.parts,
+  refl,
 )
 
 pub returns-clause-leaves : goal.returns-clause-leaves

@@ -13,3 +13,4 @@ invariant-loop-number g l = ArePartsOf l.shared l.parts × AreSameParts l.fn.sta
     × ((view_of l.parts.hand).serves ≡ (view_of l.fn.station.parts.hand).serves)
     × ((view_of l.parts.hand).member.share ≡ (view_of l.fn.station.parts.hand).member.share)
     × Logged l.shared.plan l.fn.station.parts l.parts
+    × ((view_of l.parts.hand).on ≡ (view_of l.fn.station.parts.hand).on)

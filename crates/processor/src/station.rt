@@ -89,6 +89,13 @@ impl Station {
         }
     }
 
+    /// The station of these ends, which has heard and was signalled this. Takes no memory.
+    pub fn from_parts(parts: Parts) -> Station
+        ensures { result.parts ≡ parts }
+    {
+        Station { parts }
+    }
+
     /// Gives the ends away, and what was heard and signalled. Takes no memory.
     pub fn into_parts(self) -> Parts
         ensures { result ≡ self.parts }

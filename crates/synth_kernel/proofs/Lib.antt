@@ -4,3 +4,4 @@ pub mod Serving
 pub mod TypedMore
 pub mod Working
 pub mod Posting
+pub mod ServingMore

@@ -5,3 +5,4 @@ pub mod Crews
 pub mod Works
 pub mod Typings
 pub mod Stationings
+pub mod Readiness

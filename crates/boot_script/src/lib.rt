@@ -2,7 +2,7 @@
 //!
 //! A list of events has one event a line. `parse_events` reads it, and `replay` runs it on a fresh core and prints the
 //! core's status. A boot script has one declaration or step a line. `parse_boot` reads it as a plan, and `print_report`
-//! prints what a boot reports. Each text has one reading or one first fault.
+//! prints what a boot reports. Each text has one reading or one first fault. `parse_number` reads a number as both do.
 #![tactic(auto)]
 
 mod boot;
@@ -40,9 +40,13 @@ pub use fixed::{Name, Text};
 pub use outcome::{ReplayFault, Replayed};
 pub use printing::{print_refused, print_status};
 pub use reading::{ReadFault, read_script};
-pub use report::Report;
+pub use report::{
+    AlarmCounts, GaugeLine, HeardItems, HeardLine, ItemCounts, MoverKind, MoverLine, QueueKind,
+    QueueLine, Report, ThreadLine, ThreadState, TtyLines,
+};
 pub use report_printing::print_report;
 pub use run::{replay, replay_on};
+pub use text::number as parse_number;
 pub use version::Version;
 
 #[cfg(test)]

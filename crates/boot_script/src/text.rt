@@ -89,8 +89,8 @@ impl<'a> Words<'a> {
     }
 }
 
-/// The number that a word spells, at most `most`, with no sign and no leading zero. Else BadNumber.
-pub(crate) fn number(word: &[u8], most: u64) -> Result<u64, ScriptRefusal>
+/// The number that a word of a script spells, at most `most`, with no sign and no leading zero. Else `BadNumber`.
+pub fn number(word: &[u8], most: u64) -> Result<u64, ScriptRefusal>
     ensures exact { result ≡ number_of most word.now }
     ensures within { IfOk result (λ n. n ≤ most) }
     ensures refused { IfErr result (λ refusal. refusal ≡ ScriptRefusal.BadNumber) }

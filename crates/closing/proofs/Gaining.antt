@@ -9,16 +9,16 @@ use Rattle.table_theory.specs.Listing.{AllRaised}
 use Rattle.claim_queue.specs.declared.ends.QueueEnd.{QueueEnd}
 use Rattle.claim_queue.specs.declared.rule.View.{View}
 use Rattle.claim_queue.specs.Handles.{view_of}
-use Rattle.claim_queue.specs.Lines.{line_of}
 use Rattle.proc_chain.specs.declared.ends.ChainEnd.{ChainEnd}
 use Rattle.proc_chain.specs.declared.quaject.Quaject.{Ghosts}
 use Rattle.proc_chain.specs.Handles as chains
 use Rattle.proc_chain.specs.Notes as notes
-use Rattle.end_steps.specs.EndLists.{HasRaised, end_puts, end_takes, end_share, end_shuts, end_knows_shut, only_at, number_at, knows_shut_at}
+use Rattle.end_steps.specs.EndLists.{HasRaised, end_share, end_shuts, end_knows_shut, only_at, number_at, knows_shut_at}
 use Rattle.end_steps.specs.EndLists.{chain_end_puts, chain_end_takes, chain_end_share}
 use Rattle.end_steps.specs.Splits.{IsJoined, IsChainJoined}
 use Rattle.end_steps.proofs.Places.{grown_at, all_still, known_still}
-use Rattle.closing.specs.Gains.{Gained, ChainsGained}
+use Rattle.quajects.specs.Settled.{runs_of, takings_of}
+use Rattle.closing.specs.Gains.{Gained, ChainsGained, end_runs, end_takings}
 
 no_more : (n : ℕ) → n + 0 ≡ n
 no_more n = omega arith
@@ -27,7 +27,7 @@ no_more n = omega arith
 pub its_own : {A : Type 0} (P : A → Type 0) (list : List A) (index : ℕ) (x : A) → index < length list → ((y : A) → slice_get list index ≡ Some y → P y) → x ≡ get_or list index x → P x
 its_own P list index x below its is = its x (slice_get-get_or list index x below ∙ ap Some (sym is))
 
-raised_both : (a b : List Batch) → AllRaised a → AllRaised b → AllRaised (a ++ b)
+pub raised_both : (a b : List Batch) → AllRaised a → AllRaised b → AllRaised (a ++ b)
 raised_both [] b ha hb m e at i l = hb m e at i l
 raised_both (x ∷ a) b ha hb zero e at i l = ha zero e at i l
 raised_both (x ∷ a) b ha hb (suc m) e at i l = raised_both a b (λ m. ha (suc m)) hb m e at i l
@@ -39,12 +39,10 @@ set_at f (y ∷ xs) zero x d l = λ k. f x
 set_at f (y ∷ xs) (suc i) x d l = set_at f xs i x d (omega arith)
 
 module _ {n : ℕ} (ends : List (QueueEnd n)) (i : ℕ) (end after other : QueueEnd n) (inside : i < length ends) (is : end ≡ get_or ends i end) (j : IsJoined end after other) where
-  pub gained_at : Gained (only_at i (end_puts other)) (only_at i (end_takes other)) (number_at i (end_shuts other)) (number_at i (end_share other)) (HasRaised other) ends (set ends i after)
+  pub gained_at : Gained (only_at i (end_runs other)) (only_at i (end_takings other)) (number_at i (end_shuts other)) (number_at i (end_share other)) (HasRaised other) ends (set ends i after)
   gained_at = record {
-    puts_are = grown_at end_puts [] (λ z. z) (λ a b. a ++ b) [] append-nil ends i end after (end_puts other) inside is
-        (ap (λ (v : View). map line_of v.part.runs) j.same ∙ map-append line_of (view_of end).part.runs (view_of other).part.runs);
-    takes_are = grown_at end_takes [] (λ z. z) (λ a b. a ++ b) [] append-nil ends i end after (end_takes other) inside is
-        (ap (λ (v : View). map line_of v.part.takes) j.same ∙ map-append line_of (view_of end).part.takes (view_of other).part.takes);
+    runs_are = grown_at end_runs [] (λ z. z) (λ a b. a ++ b) [] append-nil ends i end after (end_runs other) inside is (ap runs_of j.same);
+    takings_are = grown_at end_takings [] (λ z. z) (λ a b. a ++ b) [] append-nil ends i end after (end_takings other) inside is (ap takings_of j.same);
     shuts_are = grown_at end_shuts 0 (λ z. z) (λ a b. a + b) 0 no_more ends i end after (end_shuts other) inside is (ap (λ (v : View). v.shuts) j.same);
     shares_are = grown_at end_share 0 (λ z. z) (λ a b. a + b) 0 no_more ends i end after (end_share other) inside is (ap (λ (m : Member). m.share) j.member.same);
     raised = λ all up. all_still HasRaised ends i end after inside is

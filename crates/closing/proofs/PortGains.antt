@@ -7,13 +7,14 @@ use Rattle.std.proofs.lemmas.List.Concat.{flat_map-append}
 use Rattle.std.proofs.lemmas.List.Sums.{sum_by_push}
 use Rattle.claim_queue.specs.declared.ends.ClaimQueue.{ClaimQueue}
 use Rattle.claim_queue.specs.declared.ends.QueueEnd.{QueueEnd}
-use Rattle.end_steps.specs.EndLists.{lines_put_at, lines_taken_at, share_at, shuts_at}
+use Rattle.end_steps.specs.EndLists.{share_at, shuts_at}
+use Rattle.table_theory.specs.declared.queues.Batch.{Batch}
 use Rattle.quajects.specs.declared.ports.Port.{Port}
 use Rattle.quajects.specs.Ports.{AllFit, AllUp}
 use Rattle.quajects.specs.declared.home.Home.{Home}
 use Rattle.closing.specs.Comings.{GainedSmall, GainedLarge, GainedAllSmall, GainedAllLarge}
-use Rattle.closing.specs.Gains.{Gained}
-use Rattle.closing.specs.PortSums.{port_puts, port_takes, port_shuts, port_share, ports_put, ports_taken, ports_shut, ports_share}
+use Rattle.closing.specs.Gains.{Gained, runs_at, takings_at}
+use Rattle.closing.specs.PortSums.{port_runs, port_takings, port_shuts, port_share, ports_runs, ports_takings, ports_shut, ports_share}
 
 flat_more : {A B : Type 0} (f : A → List B) (xs : List A) (x : A) → flat_map f xs ++ f x ≡ flat_map f (xs ++ x ∷ [])
 flat_more f xs x = ap (λ z. flat_map f xs ++ z) (sym (append-nil (f x))) ∙ sym (flat_map-append f xs (x ∷ []))
@@ -28,30 +29,30 @@ sums_on f xs x a b c e e' = let s = sum_by_push f xs x in omega arith
 module _ {n : ℕ} where
   pub gained_none : (ends : List (QueueEnd n)) → Gained (λ q. []) (λ q. []) (λ q. 0) (λ q. 0) (Unit {0}) ends ends
   gained_none ends = record {
-    puts_are = λ q. sym (append-nil (lines_put_at ends q));
-    takes_are = λ q. sym (append-nil (lines_taken_at ends q));
+    runs_are = λ q. sym (append-nil (runs_at ends q));
+    takings_are = λ q. sym (append-nil (takings_at ends q));
     shuts_are = λ q. omega arith;
     shares_are = λ q. omega arith;
     raised = λ all up. all;
     known = λ q h. h;
   }
 
-  pub gained_weaker : (puts takes : ℕ → List (List ℕ)) (shuts shares : ℕ → ℕ) (R S : Type 0) (old new : List (QueueEnd n)) → (S → R) → Gained puts takes shuts shares R old new → Gained puts takes shuts shares S old new
-  gained_weaker puts takes shuts shares R S old new f h = record {
-    puts_are = h.puts_are;
-    takes_are = h.takes_are;
+  pub gained_weaker : (runs takings : ℕ → List Batch) (shuts shares : ℕ → ℕ) (R S : Type 0) (old new : List (QueueEnd n)) → (S → R) → Gained runs takings shuts shares R old new → Gained runs takings shuts shares S old new
+  gained_weaker runs takings shuts shares R S old new f h = record {
+    runs_are = h.runs_are;
+    takings_are = h.takings_are;
     shuts_are = h.shuts_are;
     shares_are = h.shares_are;
     raised = λ all s. h.raised all (f s);
     known = h.known;
   }
 
-  up_front : (xs ys : List (Option (Port n))) → AllUp (xs ++ ys) → AllUp xs
+  pub up_front : (xs ys : List (Option (Port n))) → AllUp (xs ++ ys) → AllUp xs
   up_front [] ys h = tt
   up_front (None ∷ xs) ys h = up_front xs ys h
   up_front (Some x ∷ xs) ys h = (h.0, up_front xs ys h.1)
 
-  up_back : (xs ys : List (Option (Port n))) → AllUp (xs ++ ys) → AllUp ys
+  pub up_back : (xs ys : List (Option (Port n))) → AllUp (xs ++ ys) → AllUp ys
   up_back [] ys h = h
   up_back (None ∷ xs) ys h = up_back xs ys h
   up_back (Some x ∷ xs) ys h = up_back xs ys h.1
@@ -69,13 +70,13 @@ module _ {n : ℕ} where
   fit_next queues xs x ys all e h = fit_one queues x ys (fit_back queues xs (x ∷ ys) (subst (AllFit queues) (sym e) h))
 
   -- what one more adds, where each of a list adds so much
-  pub gained_on : {A : Type 0} (puts takes : ℕ → A → List (List ℕ)) (shuts shares : ℕ → A → ℕ) (R S T : Type 0) (xs : List A) (x : A) (a b c : List (QueueEnd n)) → (T → R × S)
-      → Gained (λ q. flat_map (puts q) xs) (λ q. flat_map (takes q) xs) (λ q. sum_by (shuts q) xs) (λ q. sum_by (shares q) xs) R a b
-      → Gained (λ q. puts q x) (λ q. takes q x) (λ q. shuts q x) (λ q. shares q x) S b c
-      → Gained (λ q. flat_map (puts q) (xs ++ x ∷ [])) (λ q. flat_map (takes q) (xs ++ x ∷ [])) (λ q. sum_by (shuts q) (xs ++ x ∷ [])) (λ q. sum_by (shares q) (xs ++ x ∷ [])) T a c
-  gained_on puts takes shuts shares R S T xs x a b c f h k = record {
-    puts_are = λ q. lines_on (puts q) xs x (lines_put_at a q) (lines_put_at b q) (lines_put_at c q) (h.puts_are q) (k.puts_are q);
-    takes_are = λ q. lines_on (takes q) xs x (lines_taken_at a q) (lines_taken_at b q) (lines_taken_at c q) (h.takes_are q) (k.takes_are q);
+  pub gained_on : {A : Type 0} (runs takings : ℕ → A → List Batch) (shuts shares : ℕ → A → ℕ) (R S T : Type 0) (xs : List A) (x : A) (a b c : List (QueueEnd n)) → (T → R × S)
+      → Gained (λ q. flat_map (runs q) xs) (λ q. flat_map (takings q) xs) (λ q. sum_by (shuts q) xs) (λ q. sum_by (shares q) xs) R a b
+      → Gained (λ q. runs q x) (λ q. takings q x) (λ q. shuts q x) (λ q. shares q x) S b c
+      → Gained (λ q. flat_map (runs q) (xs ++ x ∷ [])) (λ q. flat_map (takings q) (xs ++ x ∷ [])) (λ q. sum_by (shuts q) (xs ++ x ∷ [])) (λ q. sum_by (shares q) (xs ++ x ∷ [])) T a c
+  gained_on runs takings shuts shares R S T xs x a b c f h k = record {
+    runs_are = λ q. lines_on (runs q) xs x (runs_at a q) (runs_at b q) (runs_at c q) (h.runs_are q) (k.runs_are q);
+    takings_are = λ q. lines_on (takings q) xs x (takings_at a q) (takings_at b q) (takings_at c q) (h.takings_are q) (k.takings_are q);
     shuts_are = λ q. sums_on (shuts q) xs x (shuts_at a q) (shuts_at b q) (shuts_at c q) (h.shuts_are q) (k.shuts_are q);
     shares_are = λ q. sums_on (shares q) xs x (share_at a q) (share_at b q) (share_at c q) (h.shares_are q) (k.shares_are q);
     raised = λ up more. let both = f more in k.raised (h.raised up both.0) both.1;
@@ -84,10 +85,10 @@ module _ {n : ℕ} where
 
   -- a port more
   pub gained_more : (ports : List (Option (Port n))) (port : Option (Port n)) (a b c : List (QueueEnd n))
-      → Gained (ports_put ports) (ports_taken ports) (ports_shut ports) (ports_share ports) (AllUp ports) a b
-      → Gained (λ q. port_puts q port) (λ q. port_takes q port) (λ q. port_shuts q port) (λ q. port_share q port) (AllUp (port ∷ [])) b c
-      → Gained (ports_put (ports ++ port ∷ [])) (ports_taken (ports ++ port ∷ [])) (ports_shut (ports ++ port ∷ [])) (ports_share (ports ++ port ∷ [])) (AllUp (ports ++ port ∷ [])) a c
-  gained_more ports port a b c h k = gained_on port_puts port_takes port_shuts port_share (AllUp ports) (AllUp (port ∷ [])) (AllUp (ports ++ port ∷ [])) ports port a b c
+      → Gained (ports_runs ports) (ports_takings ports) (ports_shut ports) (ports_share ports) (AllUp ports) a b
+      → Gained (λ q. port_runs q port) (λ q. port_takings q port) (λ q. port_shuts q port) (λ q. port_share q port) (AllUp (port ∷ [])) b c
+      → Gained (ports_runs (ports ++ port ∷ [])) (ports_takings (ports ++ port ∷ [])) (ports_shut (ports ++ port ∷ [])) (ports_share (ports ++ port ∷ [])) (AllUp (ports ++ port ∷ [])) a c
+  gained_more ports port a b c h k = gained_on port_runs port_takings port_shuts port_share (AllUp ports) (AllUp (port ∷ [])) (AllUp (ports ++ port ∷ [])) ports port a b c
       (λ up. (up_front ports (port ∷ []) up, up_back ports (port ∷ []) up)) h k
 
 module _ {A : Type 0} (P : A → Type 0) where
@@ -113,9 +114,9 @@ module _ {A : Type 0} (P : A → Type 0) where
 
 module _ (homes : List Home) (home : Home) where
   pub small_more : (a b c : List (QueueEnd 64)) → GainedAllSmall homes a b → GainedSmall home b c → GainedAllSmall (homes ++ home ∷ []) a c
-  small_more a b c h k = gained_on (λ q (x : Home). ports_put x.small q) (λ q (x : Home). ports_taken x.small q) (λ q (x : Home). ports_shut x.small q) (λ q (x : Home). ports_share x.small q)
+  small_more a b c h k = gained_on (λ q (x : Home). ports_runs x.small q) (λ q (x : Home). ports_takings x.small q) (λ q (x : Home). ports_shut x.small q) (λ q (x : Home). ports_share x.small q)
       (All (λ (x : Home). AllUp x.small) homes) (AllUp home.small) (All (λ (x : Home). AllUp x.small) (homes ++ home ∷ [])) homes home a b c (all_and_last (λ (x : Home). AllUp x.small) homes home) h k
 
   pub large_more : (a b c : List (QueueEnd 256)) → GainedAllLarge homes a b → GainedLarge home b c → GainedAllLarge (homes ++ home ∷ []) a c
-  large_more a b c h k = gained_on (λ q (x : Home). ports_put x.large q) (λ q (x : Home). ports_taken x.large q) (λ q (x : Home). ports_shut x.large q) (λ q (x : Home). ports_share x.large q)
+  large_more a b c h k = gained_on (λ q (x : Home). ports_runs x.large q) (λ q (x : Home). ports_takings x.large q) (λ q (x : Home). ports_shut x.large q) (λ q (x : Home). ports_share x.large q)
       (All (λ (x : Home). AllUp x.large) homes) (AllUp home.large) (All (λ (x : Home). AllUp x.large) (homes ++ home ∷ [])) homes home a b c (all_and_last (λ (x : Home). AllUp x.large) homes home) h k

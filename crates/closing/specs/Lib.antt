@@ -1,8 +1,11 @@
 pub mod ClosedQueues
 pub mod Comings
+pub mod Endings
 pub mod Gains
 pub mod Placings
 pub mod PortSums
+pub mod RawEnds
 pub mod Retirals
 pub mod Rooms
 pub mod Wholes
+pub mod Unshut

@@ -1,21 +1,10 @@
 //! Closing all that a boot shared, in the order in which it has to be: the chains first, whose quajects have ends of the
 //! queues.
-ghost use Rattle.std.specs.Prelude.{◌≡◌, ◌<◌, ℕ, false, map, IfOk};
-ghost use Rattle.std.specs.List.{All};
-ghost use Rattle.closing.specs.ClosedQueues.{AreClosed};
-ghost use Rattle.closing.specs.Comings.{GainedAllSmall, GainedAllLarge, counts_of};
-ghost use Rattle.closing.specs.Placings.{NoneOn, NoneHeld};
-ghost use Rattle.closing.specs.Retirals.{HaveRetired};
+ghost use Rattle.std.specs.Prelude.{IfOk};
+ghost use Rattle.closing.specs.Endings.{AllClosed};
 ghost use Rattle.closing.specs.Rooms.{HaveRoom};
 ghost use Rattle.closing.specs.Wholes.{HasWholes};
-ghost use Rattle.end_steps.specs.EndLists.{HasRaised};
-ghost use Rattle.hand_steps.specs.Holdings.{IsFree};
-ghost use Rattle.meters.specs.Closings as metering;
-ghost use Rattle.meters.specs.Handles as seats;
 ghost use Rattle.processor.specs.Stations.{ArePartsOf};
-ghost use Rattle.thread_table.specs.Closings.{ClosedNow};
-ghost use Rattle.thread_table.specs.Handles.{view_of, call_of};
-ghost use Rattle.thread_table.specs.Rules.{has};
 
 use crate::homing::{Counts, close_chains};
 use crate::queues::close_queues;
@@ -84,21 +73,7 @@ pub fn close_all(shared: Shared, parts: Parts, answers: Answers) -> Ended
     requires parts { ArePartsOf shared parts }
     requires wholes { HasWholes shared parts }
     requires room { HaveRoom shared answers }
-    ensures homes { HaveRetired shared.chains.items parts.chains.items result.homes.value.items }
-    ensures counts { result.counts.items ≡ map counts_of result.homes.value.items }
-    ensures small_gained { GainedAllSmall result.homes.value.items parts.small.items result.small_ends.value.items }
-    ensures large_gained { GainedAllLarge result.homes.value.items parts.large.items result.large_ends.value.items }
-    ensures small_raised { All HasRaised parts.small.items → All HasRaised result.small_ends.value.items }
-    ensures large_raised { All HasRaised parts.large.items → All HasRaised result.large_ends.value.items }
-    ensures small { AreClosed shared.queues.small.items result.small_ends.value.items result.small.items }
-    ensures large { AreClosed shared.queues.large.items result.large_ends.value.items result.large.items }
-    ensures threads { ClosedNow (call_of parts.hand) (view_of parts.hand) result.threads.places result.threads.pcs
-        result.threads.pending result.threads.stops }
-    ensures off { ((p : ℕ) → p < 8 → IsFree p (view_of parts.hand)) → NoneOn result.threads.places }
-    ensures put { ((e : ℕ) → e < 64 → has (view_of parts.hand) e ≡ false) → NoneHeld result.threads.places }
-    ensures meters { metering.ClosedNow (seats.first_of shared.meters) (seats.view_of parts.meters)
-        result.meters.gauges result.meters.clock result.meters.alarms.items }
-    ensures rest { (result.heard ≡ parts.heard) × (result.signals ≡ parts.signals) × (result.plan ≡ shared.plan) }
+    ensures { AllClosed shared parts result }
 {
     let Shared {
         queues,

@@ -1,7 +1,7 @@
 //! Closing the chains of a list, each by its only end.
 ghost use Rattle.std.specs.Prelude.{◌≡◌, ◌≤◌, [], false, length, vec_capacity};
 ghost use Rattle.std.specs.List.{All};
-ghost use Rattle.closing.specs.Retirals.{HasRetired, HaveRetired};
+ghost use Rattle.closing.specs.Retirals.{HasRetired, HaveRetired, IsFew};
 ghost use Rattle.end_steps.specs.EndLists.{AreChainEndsOf};
 ghost use Rattle.proc_chain.specs.Handles.{turn_of, IsEndOf, IsOnlyEnd};
 
@@ -13,7 +13,8 @@ fn retire_chain(chain: ProcChain<AnyQuaject>, end: ChainEnd<AnyQuaject>) -> Home
     requires ends { IsEndOf chain end }
     requires turn { turn_of end ≡ false }
     requires whole { IsOnlyEnd end }
-    ensures { HasRetired chain end result }
+    ensures home { HasRetired chain end result }
+    ensures few { IsFew result }
 {
     match retire(chain, end) {
         Ok(home) => home,
@@ -34,7 +35,8 @@ pub fn retire_all(
     requires ends { AreChainEndsOf chains.items ends.items }
     requires whole { All IsOnlyEnd ends.items }
     requires room { (homes.items ≡ []) × (length chains.items ≤ vec_capacity homes) }
-    ensures { HaveRetired chains.items ends.items result.items }
+    ensures homes { HaveRetired chains.items ends.items result.items }
+    ensures few { All IsFew result.items }
 {
     let mut homes = homes;
     let mut ends = ends.into_iter();

@@ -3,9 +3,9 @@ ghost use Rattle.std.specs.Prelude.{◌≡◌, ◌≤◌, [], ◌∷◌, map, le
 ghost use Rattle.std.specs.List.{All};
 ghost use Rattle.closing.specs.Comings.{GainedSmall, GainedLarge, GainedAllSmall, GainedAllLarge, FitsHome, counts_of};
 ghost use Rattle.closing.specs.Gains.{Gained};
-ghost use Rattle.closing.specs.PortSums.{port_puts, port_takes, port_shuts, port_share};
-ghost use Rattle.closing.specs.PortSums.{ports_put, ports_taken, ports_shut, ports_share};
-ghost use Rattle.closing.specs.Retirals.{HaveRetired};
+ghost use Rattle.closing.specs.PortSums.{port_runs, port_takings, port_shuts, port_share};
+ghost use Rattle.closing.specs.PortSums.{ports_runs, ports_takings, ports_shut, ports_share};
+ghost use Rattle.closing.specs.Retirals.{HaveRetired, IsFew};
 ghost use Rattle.end_steps.specs.EndLists.{AreChainEndsOf, AreChainsOver, AreEndsOf, AreSameEnds};
 ghost use Rattle.proc_chain.specs.Handles.{IsOnlyEnd};
 ghost use Rattle.quajects.specs.Ports.{AllFit, AllUp};
@@ -38,7 +38,7 @@ fn join_port<const N: usize>(
     requires ends { AreEndsOf queues.now ends.old.items }
     requires fits { AllFit queues.now (port ∷ []) }
     ensures same { AreSameEnds ends.old.items ends.new.items }
-    ensures gained { Gained (λ q. port_puts q port.entry) (λ q. port_takes q port.entry) (λ q. port_shuts q port.entry)
+    ensures gained { Gained (λ q. port_runs q port.entry) (λ q. port_takings q port.entry) (λ q. port_shuts q port.entry)
         (λ q. port_share q port.entry) (AllUp (port.entry ∷ [])) ends.old.items ends.new.items }
 {
     match port {
@@ -57,7 +57,7 @@ fn join_ports<const N: usize, const K: usize>(
     requires ends { AreEndsOf queues.now ends.old.items }
     requires fits { AllFit queues.now ports }
     ensures same { AreSameEnds ends.old.items ends.new.items }
-    ensures gained { Gained (ports_put ports.entry) (ports_taken ports.entry) (ports_shut ports.entry)
+    ensures gained { Gained (ports_runs ports.entry) (ports_takings ports.entry) (ports_shut ports.entry)
         (ports_share ports.entry) (AllUp ports.entry) ends.old.items ends.new.items }
 {
     for port in ports {
@@ -160,6 +160,7 @@ pub fn close_chains(
     requires homes_room { (homes.items ≡ []) × (length chains.items ≤ vec_capacity homes) }
     requires counts_room { (counts.items ≡ []) × (length chains.items ≤ vec_capacity counts) }
     ensures homes { HaveRetired chains.items ends.items result.1.value.items }
+    ensures few { All IsFew result.1.value.items }
     ensures counts { result.0.items ≡ map counts_of result.1.value.items }
     ensures same { AreSameEnds small.old.items small.new.items × AreSameEnds large.old.items large.new.items }
     ensures small { AreEndsOf queues.now.small.items small.new.items }

@@ -1,9 +1,9 @@
 //! One end more, for an object of a list.
 ghost use Rattle.std.specs.Prelude.{◌≡◌, true, false};
-ghost use Rattle.closing.specs.Gains.{Gained, ChainsGained, IsChainEndAt};
+ghost use Rattle.closing.specs.Gains.{Gained, ChainsGained, IsChainEndAt, end_runs, end_takings};
 ghost use Rattle.end_steps.specs.EndLists.{AreChainEndsOf, AreSameChainEnds, chain_end_puts, chain_end_takes};
 ghost use Rattle.end_steps.specs.EndLists.{AreEndsOf, AreSameEnds, HasRaised, OnEnd, only_at, number_at};
-ghost use Rattle.end_steps.specs.EndLists.{chain_end_share, end_puts, end_takes, end_share, end_shuts};
+ghost use Rattle.end_steps.specs.EndLists.{chain_end_share, end_share, end_shuts};
 ghost use Rattle.end_steps.specs.EndLists.{end_knows_shut, knows_shut_at};
 ghost use Rattle.end_steps.specs.Splits.{IsJoined, IsChainJoined};
 ghost use Rattle.proc_chain.specs.Handles.{turn_of};
@@ -27,7 +27,7 @@ pub fn join_at<const N: usize>(
     ensures same { AreSameEnds ends.old.items ends.new.items }
     ensures ends { AreEndsOf queues.now ends.new.items }
     ensures joined { OnEnd index (λ old new. IsJoined old new other.entry) ends.old.items ends.new.items }
-    ensures gained { Gained (only_at index (end_puts other.entry)) (only_at index (end_takes other.entry))
+    ensures gained { Gained (only_at index (end_runs other.entry)) (only_at index (end_takings other.entry))
         (number_at index (end_shuts other.entry)) (number_at index (end_share other.entry)) (HasRaised other.entry)
         ends.old.items ends.new.items }
     ensures known { end_knows_shut other.entry ≡ true → knows_shut_at ends.new.items index ≡ true }

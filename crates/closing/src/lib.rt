@@ -11,7 +11,9 @@ mod chains;
 mod fixtures;
 mod homing;
 mod joining;
+mod laws;
 mod queues;
+mod raws;
 mod tables;
 #[cfg(test)]
 mod tests;
@@ -20,5 +22,7 @@ pub use all::{Answers, Ended, close_all};
 pub use chains::retire_all;
 pub use homing::{Counts, bring_all_home, bring_home, close_chains};
 pub use joining::{join_at, join_chain_at};
+pub use laws::homes_shut_nothing;
 pub use queues::close_queues;
+pub use raws::join_raws;
 pub use tables::{close_meters, close_threads};

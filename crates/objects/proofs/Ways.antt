@@ -7,9 +7,10 @@ use Rattle.claim_queue.specs.declared.ends.QueueEnd.{QueueEnd}
 use Rattle.claim_queue.specs.Handles.{view_of}
 use Rattle.claim_queue.specs.Lines.{line_of, lines_put}
 use Rattle.quajects.specs.declared.ways.Way as ways
+use Rattle.quajects.specs.Ports.{NoneShut}
 use Rattle.quajects.specs.Routes.{Given, given_index, given_end, index_of, end_of, way_post, puts_of, IsGivenUnused}
-use Rattle.end_steps.specs.EndLists.{end_share, number_at}
-use Rattle.objects.specs.Makings.{given_share, givens_share}
+use Rattle.end_steps.specs.EndLists.{end_share, end_shuts, number_at}
+use Rattle.objects.specs.Makings.{given_share, givens_share, IsGivenOpen}
 use Rattle.objects.specs.Shares.{posts_share}
 use Rattle.objects.specs.Stocks.{Gave}
 use Rattle.objects.proofs.Dealing.{gave_both}
@@ -50,3 +51,14 @@ none_given (Some w ∷ switch) (Some g ∷ given) e unused =
     let none = All-head IsGivenUnused (Some g) given unused in
     let put : lines_put (view_of w.outlet.end) ≡ [] = ap (λ (z : QueueEnd 64). lines_put (view_of z)) end ∙ ap (map line_of) none.0 in
     let h = none_given switch given (cc) (All-tail IsGivenUnused (Some g) given unused) in λ j. put j ++ h j
+
+-- ways over ends that have shut nothing have shut nothing
+pub open_given : (switch : List (Option ways.Way)) (given : List Given) → map end_of switch ≡ map given_end given → All IsGivenOpen given → NoneShut (map way_post switch)
+open_given [] given e none = tt
+open_given (w ∷ switch) [] e none = cc
+open_given (None ∷ switch) (None ∷ given) e none = open_given switch given (cc) (All-tail IsGivenOpen None given none)
+open_given (None ∷ switch) (Some g ∷ given) e none = cc
+open_given (Some w ∷ switch) (None ∷ given) e none = cc
+open_given (Some w ∷ switch) (Some g ∷ given) e none =
+    let end : w.outlet.end ≡ g.2 = cc in
+    (ap (λ (z : QueueEnd 64). end_shuts z) end ∙ All-head IsGivenOpen (Some g) given none, open_given switch given (cc) (All-tail IsGivenOpen (Some g) given none))

@@ -54,12 +54,18 @@ abbrev pub givens_share : ℕ → List Given → ℕ
 givens_share q [] = 0
 givens_share q (given ∷ rest) = given_share q given + givens_share q rest
 
+-- the end of a way has not shut its queue
+abbrev pub IsGivenOpen : Given → Type 0
+IsGivenOpen None = Unit {0}
+IsGivenOpen (Some given) = end_shuts given.2 ≡ 0
+
 -- the way is the one of the plan, with an end of its queue that was split off; there is none where the plan has none
 pub record GaveWay (world : Queues) (way : Option Way) (old new : List (QueueEnd 64)) (given : Given) : Type 0 where
   pub stock : IsStock world.small.items new
   pub key : given_key given ≡ way_key way
   pub index : given_index given ≡ way_to way
   pub unused : IsGivenUnused given
+  pub none_shut : IsGivenOpen given
   pub fit : IsGivenFit world.small.items given
   pub gave : Gave 1 (λ q. given_share q given) (shares old) (shares new)
 
@@ -70,6 +76,7 @@ pub record GaveWays (world : Queues) (ways : List Way) (old new : List (QueueEnd
   pub keys : map given_key given ≡ map way_key (four_ways ways)
   pub indexes : map given_index given ≡ map way_to (four_ways ways)
   pub unused : All IsGivenUnused given
+  pub none_shut : All IsGivenOpen given
   pub fit : All (IsGivenFit world.small.items) given
   pub gave : Gave 4 (λ q. givens_share q given) (shares old) (shares new)
 

@@ -1,5 +1,5 @@
 -- The quajects that a plan asks for.
-use Rattle.std.specs.Prelude.{◌≡◌, ◌-◌, ℕ, List, [], ◌∷◌, length, map, Option, Some, None}
+use Rattle.std.specs.Prelude.{◌≡◌, ◌≤◌, ◌-◌, ℕ, List, [], ◌∷◌, length, map, Option, Some, None}
 use Rattle.std.specs.List.{slice_get}
 use Rattle.boot_script.specs.declared.boot_plan.BootPlan.{BootPlan}
 use Rattle.boot_script.specs.declared.plan.Mover.{Mover}
@@ -13,14 +13,15 @@ use Rattle.quajects.specs.declared.piping.Pump.{Pump}
 use Rattle.quajects.specs.declared.switching.Switch.{Switch}
 use Rattle.quajects.specs.declared.terminal.CookedTty.{CookedTty}
 use Rattle.quajects.specs.declared.world.Queues.{Queues}
-use Rattle.quajects.specs.Anys.{Fits, all_taken, all_puts, held_of, notes_of}
+use Rattle.quajects.specs.Anys.{Fits, HasShutNothing, all_taken, all_puts, held_of, notes_of}
 use Rattle.quajects.specs.Routes.{key_of, index_of}
 
--- its ends are those of the queues that it names, it has taken and put nothing, holds nothing and has run no note
+-- its ends are those of the queues that it names, it has taken, put and shut nothing, holds nothing and has run no note
 pub record IsReady (world : Queues) (quaject : AnyQuaject) : Type 0 where
   pub fits : Fits world quaject
   pub none_taken : all_taken quaject ≡ []
   pub none_put : all_puts quaject ≡ []
+  pub none_shut : HasShutNothing quaject
   pub none_held : held_of quaject ≡ []
   pub none_run : notes_of quaject ≡ 0
 
@@ -42,8 +43,9 @@ pub record IsPump (from to : ℕ) (pump : Pump) : Type 0 where
   pub from_is : pump.source.index ≡ from
   pub to_is : pump.target.index ≡ to
 
--- it takes from this small queue; each of these keys leads to its queue, and what has none to the other
+-- it takes from this small queue; each of these keys, four at most, leads to its queue, and what has none to the other
 pub record IsSwitch (from other : ℕ) (ways : List Way) (switch : Switch) : Type 0 where
+  pub few : length ways ≤ 4
   pub from_is : switch.source.index ≡ from
   pub other_is : switch.other.index ≡ other
   pub keys_are : map key_of switch.ways ≡ map way_key (four_ways ways)

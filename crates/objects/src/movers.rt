@@ -1,5 +1,5 @@
 //! The pumps and switches of a plan.
-ghost use Rattle.std.specs.Prelude.{◌≡◌, ◌<◌, [], length, map};
+ghost use Rattle.std.specs.Prelude.{◌≡◌, ◌<◌, ◌≤◌, [], length, map};
 ghost use Rattle.std.specs.List.{All, slice_get};
 ghost use Rattle.boot_script.specs.declared.plan.Mover.TheVariants as planned;
 ghost use Rattle.objects.specs.Makings.{IsThere, AreWays, GaveWay, GaveWays, MadeMover};
@@ -60,6 +60,7 @@ fn make_switch(
     ways: &[Way],
 ) -> AnyQuaject
     requires there { IsThere (length queues.now.small.items) (planned.Switch from other ways.now) }
+    requires few { length ways.now ≤ 4 }
     requires stock { IsStock queues.now.small.items small.old.items }
     requires parts { CanGive 6 (shares small.old.items) }
     ensures { MadeMover queues.now (planned.Switch from other ways.now) small.old.items small.new.items result }

@@ -25,6 +25,7 @@ mod turn;
 pub use deed::{Deed, Ticket};
 pub use laws::{hears_are_few, steps_fit};
 pub use outcome::{Had, Outcome, Turned};
+pub use programs::hears_of;
 pub use running::{Moved, Tried};
 pub use shared::Shared;
 pub use station::{Heard, Parts, Station};

@@ -27,8 +27,8 @@ fn hears_in(steps: &[Step]) -> usize
         .count()
 }
 
-// How many steps of a plan hear.
-pub(crate) fn hears_of(plan: &BootPlan) -> usize
+/// How many steps of a plan hear.
+pub fn hears_of(plan: &BootPlan) -> usize
     ensures { result ≡ hear_count plan.now }
 {
     let mut hears = 0;

@@ -1,6 +1,7 @@
 -- A quaject that came home.
 use Rattle.std.proofs.Common.{◌≡◌, ℕ, suc, ◌≤◌, ◌%◌, ◌^◌, List, [], ◌∷◌, map, length, take, refl, sym, ap, subst, ◌∙◌, arith}
 use Rattle.std.specs.Prelude.{Option, Some, None}
+use Rattle.std.specs.List.{AllByRecursion}
 use Rattle.std.proofs.lemmas.List.{length-map, length-take-le}
 use Rattle.table_theory.specs.Positioned.{item_of}
 use Rattle.claim_queue.specs.declared.ends.ClaimQueue.{ClaimQueue}
@@ -22,7 +23,7 @@ use Rattle.table_theory.specs.Listing.{AllRaised}
 use Rattle.claim_queue.specs.Handles.{view_of}
 use Rattle.claim_queue.specs.Lines.{line_of}
 use Rattle.quajects.specs.Ports.{Post, AllFit, AllUp, post_of, post_at}
-use Rattle.quajects.specs.Routes.{WaysFit, port_of, way_post}
+use Rattle.quajects.specs.Routes.{WaysFit, port_of, way_post, TookNothing}
 use Rattle.quajects.specs.Switches as switches
 
 -- the law of its type
@@ -30,6 +31,17 @@ law_of : (x : AnyQuaject) → anys.IsKept x
 law_of (any.Cooked tty) = record { screens = tty.screens; lines = tty.lines; full = tty.full }
 law_of (any.Pump pump) = pump.law
 law_of (any.Switch switch) = record { each = switch.each; rest = switch.rest }
+
+ways_sides : (ways : List (Option Way)) → AllByRecursion TookNothing ways
+ways_sides [] = tt
+ways_sides (None ∷ ways) = (tt, ways_sides ways)
+ways_sides (Some way ∷ ways) = (way.outlet.only, ways_sides ways)
+
+-- its ends are of the types that say it
+sides_of : (x : AnyQuaject) → anys.KeepsSides x
+sides_of (any.Cooked tty) = (tty.raw.only, tty.line.only, tty.screen.only)
+sides_of (any.Pump pump) = (pump.source.only, pump.target.only)
+sides_of (any.Switch switch) = (switch.source.only, switch.other.only, ways_sides switch.ways)
 
 run_count : (x : AnyQuaject) (notes : List ℕ) → anys.HasRun x notes → anys.notes_of x ≡ length notes % 2 ^ 64
 run_count (any.Cooked tty) notes h = h
@@ -102,6 +114,7 @@ came_home pact v first put taken left x home c h = let q = c.queue in
       closed = closed_as first put taken left home.chained c (sym h.chained_is);
       its = record { ports = h.ports; chained_is = refl; left_is = refl; notes = h.notes; taken = h.taken; put = h.put; held = h.held };
       kept = law_of x;
+      sides = sides_of x;
       posts = posts_home pact.opening.value x home.small home.large c.home.1.1 h.ports;
       small = small_fit pact.world.value x (home.small, home.large) h.ports c.home.1.0;
       large = large_fit pact.world.value x (home.small, home.large) h.ports c.home.1.0;

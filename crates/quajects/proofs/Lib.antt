@@ -1,5 +1,6 @@
 pub mod Named
 pub mod Worlds
+pub mod Staying
 pub mod Answered
 pub mod Counts
 pub mod Editing

@@ -1,6 +1,5 @@
 -- Any quaject: what a caller sees of it, what it keeps, and what it does for a note.
-use Rattle.std.specs.Prelude.{◌≡◌, ℕ, List, [], ◌∷◌, ◌++◌, map, Option, Some, None}
-use Rattle.claim_queue.specs.declared.ends.ClaimQueue.{ClaimQueue}
+use Rattle.std.specs.Prelude.{◌≡◌, ℕ, List, [], ◌∷◌, ◌++◌, Option, Some, None}
 use Rattle.claim_queue.specs.declared.ends.QueueEnd.{QueueEnd}
 use Rattle.claim_queue.specs.Handles.{view_of}
 use Rattle.claim_queue.specs.Lines.{lines_put, lines_taken}
@@ -9,7 +8,7 @@ use Rattle.quajects.specs.declared.world.Queues.{Queues}
 use Rattle.quajects.specs.declared.any.AnyQuaject.{AnyQuaject}
 use Rattle.quajects.specs.declared.any.AnyQuaject.TheVariants as any
 use Rattle.quajects.specs.declared.ports.Port.{Port}
-use Rattle.quajects.specs.Ports.{Post}
+use Rattle.quajects.specs.Ports.{Post, NoneShut}
 use Rattle.quajects.specs.Pumps as pumps
 use Rattle.quajects.specs.Terminals as terminals
 use Rattle.quajects.specs.Switches as switches
@@ -51,7 +50,8 @@ Fits world (any.Cooked tty) = terminals.Fits world tty
 Fits world (any.Pump pump) = pumps.Fits world pump
 Fits world (any.Switch switch) = switches.Fits world switch
 
--- it is of the same kind, and has the same ends of the same queues, with the same shares; a switch has the same keys
+-- it is of the same kind, and has the same ends of the same queues, with the same shares, each of which has shut its
+-- queue as often; a switch has the same keys
 abbrev pub SameEnds : AnyQuaject → AnyQuaject → Type 0
 SameEnds (any.Cooked old) (any.Cooked new) = terminals.SameEnds old new
 SameEnds (any.Pump old) (any.Pump new) = pumps.SameEnds old new
@@ -63,6 +63,20 @@ abbrev pub IsKept : AnyQuaject → Type 0
 IsKept (any.Cooked tty) = terminals.IsKept tty
 IsKept (any.Pump pump) = pumps.IsKept pump
 IsKept (any.Switch switch) = switches.IsKept switch
+
+-- it put nothing where it takes lines, and took nothing where it puts them
+abbrev pub KeepsSides : AnyQuaject → Type 0
+KeepsSides (any.Cooked tty) = terminals.KeepsSides tty
+KeepsSides (any.Pump pump) = pumps.KeepsSides pump
+KeepsSides (any.Switch switch) = switches.KeepsSides switch
+
+-- none of its ends has shut its queue
+abbrev pub HasShutNothing : AnyQuaject → Type 0
+HasShutNothing (any.Cooked tty) =
+    NoneShut (Some (terminals.raw_post tty) ∷ Some (terminals.line_post tty) ∷ Some (terminals.screen_post tty) ∷ [])
+HasShutNothing (any.Pump pump) = NoneShut (Some (pumps.source_post pump) ∷ Some (pumps.target_post pump) ∷ [])
+HasShutNothing (any.Switch switch) =
+    NoneShut (Some (switches.source_post switch) ∷ Some (switches.other_post switch) ∷ switches.way_posts switch)
 
 -- it is of the kind that it was, and made the tries of that kind
 abbrev pub RanAny : AnyQuaject → AnyQuaject → Ran → Type 0

@@ -22,12 +22,14 @@ IsUnused v = (v.part.runs ≡ []) × (v.part.takes ≡ [])
 abbrev pub port : {n : ℕ} → ℕ → QueueEnd n → Port n
 port index end = record { index = index; end = end }
 
--- what no try changes at a port: the index of its queue, and its end's table, number and share of the queue
+-- What no try changes at a port: the index of its queue, and its end's table, number and share of the queue; and how
+-- often that end has shut it
 pub record Post : Type 0 where
   pub index : ℕ
   pub table : TableId
   pub call : ℕ
   pub share : ℕ
+  pub shuts : ℕ
 
 abbrev pub post_of : {n : ℕ} → ℕ → QueueEnd n → Post
 post_of index end = record {
@@ -35,11 +37,18 @@ post_of index end = record {
   table = end.seat.table_id;
   call = call_of end;
   share = (view_of end).member.share;
+  shuts = (view_of end).shuts;
 }
 
 abbrev pub post_at : {n : ℕ} → Option (Port n) → Option Post
 post_at None = None
 post_at (Some port) = Some (post_of port.index port.end)
+
+-- none of the ends at these posts has shut its queue
+abbrev pub NoneShut : List (Option Post) → Type 0
+NoneShut [] = Unit {0}
+NoneShut (None ∷ posts) = NoneShut posts
+NoneShut (Some post ∷ posts) = (post.shuts ≡ 0) × NoneShut posts
 
 -- each port's end is one of the queue that it names
 abbrev pub AllFit : {n : ℕ} → List (ClaimQueue n) → List (Option (Port n)) → Type 0

@@ -55,6 +55,10 @@ pub record IsNew (from : ℕ) (source : QueueEnd 64) (to : ℕ) (target : QueueE
 abbrev pub IsKept : Pump → Type 0
 IsKept pump = lines_taken (view_of (source_of pump)) ≡ lines_put (view_of (target_of pump)) ++ held_line (held_of pump)
 
+-- it put nothing where it takes lines, and took nothing where it puts them
+abbrev pub KeepsSides : Pump → Type 0
+KeepsSides pump = (lines_put (view_of (source_of pump)) ≡ []) × (lines_taken (view_of (target_of pump)) ≡ [])
+
 -- it has run so many notes
 abbrev pub HasRun : Pump → List ℕ → Type 0
 HasRun pump notes = notes_of pump ≡ length notes % 2 ^ 64
@@ -64,7 +68,7 @@ abbrev pub Fits : Queues → Pump → Type 0
 Fits world pump = IsEndAt world.small.items pump.source.index (source_of pump)
     × IsEndAt world.small.items pump.target.index (target_of pump)
 
--- it has the same ends of the same queues, with the same shares
+-- it has the same ends of the same queues, with the same shares, and each has shut its queue as often
 pub record SameEnds (old new : Pump) : Type 0 where
   pub source : source_post new ≡ source_post old
   pub target : target_post new ≡ target_post old

@@ -5,7 +5,7 @@ use Rattle.std.specs.List.{slice_get, filter}
 use Rattle.claim_queue.specs.declared.ends.ClaimQueue.{ClaimQueue}
 use Rattle.claim_queue.specs.declared.ends.QueueEnd.{QueueEnd}
 use Rattle.claim_queue.specs.Handles.{view_of, call_of}
-use Rattle.claim_queue.specs.Lines.{lines_put}
+use Rattle.claim_queue.specs.Lines.{lines_put, lines_taken}
 use Rattle.quajects.specs.declared.ports.Outlet.{Outlet}
 use Rattle.quajects.specs.declared.ports.Port.{Port}
 use Rattle.quajects.specs.declared.ways.Way.{Way}
@@ -56,6 +56,11 @@ way_post (Some way) = Some (post_of way.outlet.index way.outlet.end)
 abbrev pub puts_of : Option Way → List (List ℕ)
 puts_of None = []
 puts_of (Some way) = lines_put (view_of way.outlet.end)
+
+-- nothing was taken at a way's end
+abbrev pub TookNothing : Option Way → Type 0
+TookNothing None = Unit {0}
+TookNothing (Some way) = lines_taken (view_of way.outlet.end) ≡ []
 
 -- a way as it is given: its key, and its queue with an end of it
 abbrev pub Given : Type 0

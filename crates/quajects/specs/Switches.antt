@@ -1,6 +1,6 @@
 -- A switch: what a caller sees of it, and what it does for a note.
 use Rattle.std.specs.Prelude.{◌≡◌, ℕ, ◌+◌, ◌||◌, ◌%◌, ◌^◌, Bool, List, [], ◌++◌, map, length, Option, if◌then◌else◌}
-use Rattle.std.specs.List.{flat_map}
+use Rattle.std.specs.List.{flat_map, AllByRecursion}
 use Rattle.claim_queue.specs.declared.ends.QueueEnd.{QueueEnd}
 use Rattle.claim_queue.specs.Handles.{view_of, call_of}
 use Rattle.claim_queue.specs.Lines.{lines_put, lines_taken}
@@ -12,7 +12,7 @@ use Rattle.quajects.specs.declared.switching.Switch.{Switch}
 use Rattle.quajects.specs.Ports.{Post, IsEndAt, port, post_of}
 use Rattle.quajects.specs.Tries.{Refilled}
 use Rattle.quajects.specs.Routes.{Given, given_key, given_index, given_end, key_of, index_of, end_of, port_of, way_post}
-use Rattle.quajects.specs.Routes.{puts_of}
+use Rattle.quajects.specs.Routes.{puts_of, TookNothing}
 use Rattle.quajects.specs.Routes.{RoutesEach, RoutesRest, WaysFit, Switched}
 
 -- the end that it takes lines at
@@ -81,6 +81,11 @@ pub record IsKept (switch : Switch) : Type 0 where
   pub rest : RoutesRest switch.ways (lines_taken (view_of (source_of switch))) (held_of switch)
       (lines_put (view_of (other_of switch)))
 
+-- it put nothing where it takes lines, and took nothing where it puts them
+abbrev pub KeepsSides : Switch → Type 0
+KeepsSides switch = (lines_put (view_of (source_of switch)) ≡ [])
+    × (lines_taken (view_of (other_of switch)) ≡ []) × AllByRecursion TookNothing switch.ways
+
 -- it has run so many notes
 abbrev pub HasRun : Switch → List ℕ → Type 0
 HasRun switch notes = notes_of switch ≡ length notes % 2 ^ 64
@@ -90,7 +95,8 @@ abbrev pub Fits : Queues → Switch → Type 0
 Fits world switch = IsEndAt world.small.items switch.source.index (source_of switch)
     × IsEndAt world.small.items switch.other.index (other_of switch) × WaysFit world.small.items switch.ways
 
--- it has the same ends of the same queues, with the same shares, and the same keys
+-- it has the same ends of the same queues, with the same shares, each of which has shut its queue as often, and the
+-- same keys
 pub record SameEnds (old new : Switch) : Type 0 where
   pub source : source_post new ≡ source_post old
   pub other : other_post new ≡ other_post old

@@ -1,5 +1,5 @@
 -- A cooked tty: what a caller sees of it, and what it does for a note.
-use Rattle.std.specs.Prelude.{◌≡◌, ◌≢◌, ℕ, ◌+◌, ◌||◌, ◌%◌, ◌^◌, Bool, true, false, List, [], ◌++◌, map, length}
+use Rattle.std.specs.Prelude.{◌≡◌, ◌≢◌, ℕ, ◌+◌, ◌||◌, ◌%◌, ◌^◌, Bool, true, List, [], ◌++◌, map, length}
 use Rattle.std.specs.Prelude.{if◌then◌else◌}
 use Rattle.claim_queue.specs.declared.ends.QueueEnd.{QueueEnd}
 use Rattle.claim_queue.specs.Handles.{view_of, call_of}
@@ -80,6 +80,11 @@ pub record IsKept (tty : CookedTty) : Type 0 where
       ≡ lines_put (view_of (line_of tty)) ++ (if is_in_line tty then [] else held_line (held_of tty))
   pub full : is_in_line tty ≡ true → held_of tty ≢ []
 
+-- it put nothing where it takes lines, and took nothing where it puts them
+abbrev pub KeepsSides : CookedTty → Type 0
+KeepsSides tty = (lines_put (view_of (raw_of tty)) ≡ [])
+    × (lines_taken (view_of (line_of tty)) ≡ []) × (lines_taken (view_of (screen_of tty)) ≡ [])
+
 -- it has run so many notes
 abbrev pub HasRun : CookedTty → List ℕ → Type 0
 HasRun tty notes = notes_of tty ≡ length notes % 2 ^ 64
@@ -90,7 +95,7 @@ Fits world tty = IsEndAt world.small.items tty.raw.index (raw_of tty)
     × IsEndAt world.large.items tty.line.index (line_of tty)
     × IsEndAt world.large.items tty.screen.index (screen_of tty)
 
--- it has the same ends of the same queues, with the same shares
+-- it has the same ends of the same queues, with the same shares, and each has shut its queue as often
 pub record SameEnds (old new : CookedTty) : Type 0 where
   pub raw : raw_post new ≡ raw_post old
   pub line : line_post new ≡ line_post old

@@ -23,7 +23,7 @@ use Rattle.quajects.specs.Settled.{runs_of}
 use Rattle.processor.specs.Logs.{Entry, Leaves, heard_by, fired_by}
 use Rattle.processor.specs.Running.{Line}
 use Rattle.processor.specs.Turns.{heard_lines}
-use Rattle.reports.specs.Agreements.{IsTakenByQuajects, IsMover, IsTty, TtyAgrees, AreWithout, taken_from}
+use Rattle.reports.specs.Agreements.{IsTakenByQuajects, IsMover, IsTty, TtyAgrees, AreWithout}
 use Rattle.reports.specs.Boots.{TtyEnds, Boot, BootEnded, home_of, raw_of, homes, small_others, large_others}
 use Rattle.reports.specs.Closed.{Closed}
 use Rattle.reports.specs.Closed as closed
@@ -38,12 +38,13 @@ use Rattle.reports.proofs.Meters.{gauges_agree, alarms_agree, fired_are}
 use Rattle.reports.proofs.Places.{thread_agrees}
 use Rattle.reports.proofs.Queues.{small_agrees, large_agrees}
 use Rattle.reports.proofs.Raws.{put_in_order, none_put_all, stays_below, its_device}
+use Rattle.reports.proofs.Sorting.{sorted}
 use Rattle.reports.proofs.Takings.{CameBack, IsBelow, of_ends, of_more, of_homes, homes_took, homes_took_none, devices_took_none, home_put_none, no_runs}
 use Rattle.reports.proofs.Threads.{planned_all, within}
 
 -- LISTS BESIDE LISTS
 
-there : {A : Type 0} (l : List A) (k : ℕ) → k < length l → (x : A) × (slice_get l k ≡ Some x)
+pub there : {A : Type 0} (l : List A) (k : ℕ) → k < length l → (x : A) × (slice_get l k ≡ Some x)
 there [] k low = absurd (omega arith)
 there (x ∷ l) zero low = (x, refl)
 there (x ∷ l) (suc k) low = there l k (omega arith)
@@ -146,10 +147,9 @@ module _ (plan : BootPlan) (logs : List (List Entry)) (boot : Boot) (c : Closed)
   taken_small : (number : ℕ) (q : closed.Queue) → slice_get c.small number ≡ Some q → IsTakenByQuajects c number q
   taken_small number q at =
       (b.small number q at).taken_by_others
-      ∙ (of_more lines_taken (flat_map (small_home number) (homes boot)) (device_at number (length plan.queues) (map raw_of boot.ttys))
-      ∙ ((λ k. homes_took number (homes boot) (c.movers ++ c.ttys) came_back k
-      ++ devices_took_none number (length plan.queues) (map raw_of boot.ttys) (all_from (λ (end : QueueEnd 64). lines_taken (view_of end) ≡ []) raw_of boot.ttys (λ k ends at. (tty_of_ends k ends at).3.took_none)) k)
-      ∙ append-nil (flat_map (taken_from number) (c.movers ++ c.ttys))))
+      ∙ (of_more lines_taken (device_at number (length plan.queues) (map raw_of boot.ttys)) (flat_map (small_home number) (homes boot))
+      ∙ (λ k. devices_took_none number (length plan.queues) (map raw_of boot.ttys) (all_from (λ (end : QueueEnd 64). lines_taken (view_of end) ≡ []) raw_of boot.ttys (λ k ends at. (tty_of_ends k ends at).3.device.took_none)) k
+      ++ homes_took number (homes boot) (c.movers ++ c.ttys) came_back k))
 
   taken_large : (number : ℕ) (q : closed.Queue) → slice_get c.large number ≡ Some q → q.taken_by_others ≡ []
   taken_large number q at = (b.large number q at).taken_by_others ∙ homes_took_none number (homes boot) (c.movers ++ c.ttys) came_back
@@ -167,11 +167,11 @@ module _ (plan : BootPlan) (logs : List (List Entry)) (boot : Boot) (c : Closed)
           let m = there c.movers k (omega arith) in let e = mover_there k home m.0 at m.1 in let d = e.2.ended in
           let below = stays_below (plan_of plan) e.0.mover d.came.quaject (subst (IsMover e.0.mover) d.quaject_is e.2.of_plan)
           (all_at (λ (planned : PlannedMover). IsMoverOf (many_of (plan_of plan)) planned.mover) plan.movers k e.0 h.moved e.1) in
-          let none = ap length (home_put_none number (length plan.queues) d.came.quaject home.chained home.left home d.came.its d.sides far below) in omega arith
+          let none = ap length (home_put_none number (length plan.queues) d.came.quaject home.chained home.left home d.came.its d.came.sides far below) in omega arith
 
       of_tty : (k : ℕ) (ends : TtyEnds) → slice_get boot.ttys k ≡ Some ends → PutNone number (home_of ends)
       of_tty k ends at = let e = (tty_of_ends k ends at).3 in let d = e.ended in
-          home_put_none number (length plan.queues) d.came.quaject ends.home.chained ends.home.left ends.home d.came.its d.sides far
+          home_put_none number (length plan.queues) d.came.quaject ends.home.chained ends.home.left ends.home d.came.its d.came.sides far
           (tty_below (length plan.queues) _ _ _ d.came.quaject (subst (IsTty _ _ _) d.quaject_is e.of_plan))
 
   raw_items : (tty : ℕ) (p : PlannedTty) (ends : TtyEnds) (t : closed.Chain) (d : closed.Device) (raw : closed.Queue) → slice_get boot.ttys tty ≡ Some ends
@@ -185,10 +185,10 @@ module _ (plan : BootPlan) (logs : List (List Entry)) (boot : Boot) (c : Closed)
       ∙ (joined_from_none (λ s. lines_put_at (small_of s) number) (λ x y z j. j.small.puts number) boot.first boot.stations boot.last (b.prepared.small number).0 b.joined
       ∙ none_put_all plan number far logs boot.stations b.left)) in
       let others : of_ends runs_of (small_others plan boot number) ≡ runs_of (view_of ends.raw) =
-      of_more runs_of (flat_map (small_home number) (homes boot)) (device_at number (length plan.queues) (map raw_of boot.ttys))
-      ∙ (λ k. all_put_none number (homes boot) (put_none number far) k
-      ++ its_device number (length plan.queues) tty (map raw_of boot.ttys) ends.raw refl (mapped boot.ttys tty ends at) k) in
-      put_in_order small_of number boot.stations boot.last (small_others plan boot number) raw q (view_of ends.raw) (λ k. own k ++ others k) e.ascends
+      of_more runs_of (device_at number (length plan.queues) (map raw_of boot.ttys)) (flat_map (small_home number) (homes boot))
+      ∙ ((λ k. its_device number (length plan.queues) tty (map raw_of boot.ttys) ends.raw refl (mapped boot.ttys tty ends at) k
+      ++ all_put_none number (homes boot) (put_none number far) k) ∙ append-nil (runs_of (view_of ends.raw))) in
+      put_in_order small_of number boot.stations boot.last (small_others plan boot number) raw q (view_of ends.raw) (λ k. own k ++ others k) e.device.ascends
     where
       mapped : (l : List TtyEnds) (k : ℕ) (x : TtyEnds) → slice_get l k ≡ Some x → slice_get (map raw_of l) k ≡ Some x.raw
       mapped [] k x h = absurd (cc)
@@ -201,8 +201,8 @@ module _ (plan : BootPlan) (logs : List (List Entry)) (boot : Boot) (c : Closed)
       let w = within plan.ttys tty p at in let x = b.all_ttys in
       let ends = there boot.ttys tty (omega arith) in
       let e = b.ttys tty p ends.0 t d at ends.1 at' at'' in record {
-        typed = e.popped;
-        bytes = subst (AreWithout d.popped d.refused) (sym (raw_items tty p ends.0 t d raw ends.1 e is)) e.put;
+        typed = e.device.popped;
+        bytes = subst (AreWithout d.popped d.refused) (sym (raw_items tty p ends.0 t d raw ends.1 e is)) e.device.put;
         its = e.of_plan;
         cooked = kept ends.0.chain ends.0.home t e.ended;
       }
@@ -230,12 +230,15 @@ module _ (plan : BootPlan) (logs : List (List Entry)) (boot : Boot) (c : Closed)
   split_all P [] ys h = (tt, h)
   split_all P (x ∷ xs) ys h = let s = split_all P xs ys h.1 in ((h.0, s.0), s.1)
 
+  all_heard : IsPermutation (flat_map heard_by (all_of logs)) heard
+  all_heard = subst (λ (l : List Line). IsPermutation l heard)
+      (zip_lists (Leaves plan) heard_lines (flat_map heard_by) (λ log p l. l.heard) logs boot.stations b.left ∙ sym (flat_all heard_by logs)) b.all_heard
+
   pub report_agrees : IsReport plan c logs heard r
   report_agrees = let none = split_all (λ (x : closed.Chain). x.left ≡ 0) c.movers c.ttys none_left_at in record {
     tables = tables_agree;
-    all_heard = subst (λ (l : List Line). IsPermutation l heard)
-        (zip_lists (Leaves plan) heard_lines (flat_map heard_by) (λ log p l. l.heard) logs boot.stations b.left ∙ sym (flat_all heard_by logs)) b.all_heard;
-    sorted = b.sorted;
+    all_heard = all_heard;
+    sorted = sorted plan logs boot.stations boot.first boot.last b.left b.prepared b.joined c b.threads heard all_heard b.ascend;
     says = b.says;
     chained = b.says.chained ∙ (let x = no_sum c.movers none.0 in let y = no_sum c.ttys none.1 in omega arith);
   }

@@ -1,4 +1,5 @@
 pub mod Lists
+pub mod Items
 pub mod Joining
 pub mod Queues
 pub mod Counts
@@ -12,8 +13,13 @@ pub mod Freeing
 pub mod Places
 pub mod Meters
 pub mod Chains
+pub mod Sorting
 pub mod Takings
+pub mod QueueEnds
 pub mod Raws
 pub mod Booting
+pub mod ShutDown
+pub mod Planning
 pub mod Saying
 pub mod Shutting
+pub mod Wholes

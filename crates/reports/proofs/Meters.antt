@@ -15,7 +15,7 @@ use Rattle.reports.specs.Stations.{AllJoined, IsPrepared}
 use Rattle.reports.proofs.Joining.{joined_lists, joined_from_none}
 use Rattle.reports.proofs.Lists.{zip_lists, flat_all}
 
-got_take : {A : Type 0} (n : ℕ) (l : List A) (k : ℕ) (x d : A) → slice_get (take n l) k ≡ Some x → (k < n) × (get_or l k d ≡ x)
+pub got_take : {A : Type 0} (n : ℕ) (l : List A) (k : ℕ) (x d : A) → slice_get (take n l) k ≡ Some x → (k < n) × (get_or l k d ≡ x)
 got_take zero l k x d e = absurd (cc)
 got_take (suc n) [] k x d e = absurd (cc)
 got_take (suc n) (y ∷ l) zero x d e = let h : y ≡ x = cc in (omega arith, h)

@@ -41,10 +41,10 @@ use Rattle.reports.proofs.Threads.{known, done_are, steps_agree, signals_agree, 
 
 -- THE WORDS OF THE TABLE
 
-abbrev Shown : View → Type 0
+abbrev pub Shown : View → Type 0
 Shown v = (first : ℕ) × (words : List ℕ) × WordsShow first (elements_after v.schedule) words
 
-joined_shows : (first : Parts) (stations : List Parts) (last : Parts) → 0 < length stations → AllJoined first stations last → Shown (view_of last.hand)
+pub joined_shows : (first : Parts) (stations : List Parts) (last : Parts) → 0 < length stations → AllJoined first stations last → Shown (view_of last.hand)
 joined_shows first [] last low j = absurd (omega arith)
 joined_shows first (s ∷ []) last low j = subst (λ (p : Parts). Shown (view_of p.hand)) (sym j.2) (_, j.1.hand.sees.words, j.1.hand.sees.shows)
 joined_shows first (s ∷ r ∷ ss) last low j = joined_shows j.0 (r ∷ ss) last (omega arith) j.2

@@ -41,6 +41,7 @@ use Rattle.table_theory.proofs.Owned.{at_map_back}
 use Rattle.reports.specs.Agreements.{IsMover, route_of}
 use Rattle.reports.specs.Closed as closed
 use Rattle.reports.specs.Endings.{QueueEnded, IsAscending, small_of, device_at}
+use Rattle.reports.proofs.Items.{of_first}
 use Rattle.reports.proofs.Takings.{of_ends, IsBelow}
 
 -- A LIST IN ORDER IS THE LOG
@@ -93,10 +94,6 @@ log_ascends p (o ∷ os) c solid zero (suc j) e f at at' low =
     let g : o.2.start ≡ e.start = ap start_of (some-injective o.2 e at) in let k = c.0 in omega arith
 log_ascends p (o ∷ os) c solid (suc i) zero e f at at' low = absurd (omega arith)
 log_ascends p (o ∷ os) c solid (suc i) (suc j) e f at at' low = log_ascends (p + length o.2.places) os c.1 (λ k q h. solid (suc k) q h) i j e f at at' (omega arith)
-
-of_first : (l k : List Batch) (c m : ℕ) (x : Batch) → get_elem? {A = List Batch} (l ∷ []) c ≡ some k → get_elem? k m ≡ some x → get_elem? l m ≡ some x
-of_first l k zero m x has is = subst (λ (z : List Batch). get_elem? z m ≡ some x) (sym (some-injective l k has)) is
-of_first l k (suc c) m x has is = absurd (some-ne-none k (sym has))
 
 in_order : (p : ℕ) (log : List (Owned Batch)) (l : List Batch) → ListedOnce log (l ∷ []) → Chained p log → ((k : ℕ) (o : Owned Batch) → get_elem? log k ≡ some o → 0 < length o.2.places)
     → IsAscending l → map entry_of log ≡ l

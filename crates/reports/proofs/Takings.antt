@@ -14,17 +14,17 @@ use Rattle.quajects.specs.declared.any.AnyQuaject.TheVariants as any
 use Rattle.quajects.specs.declared.home.Home.{Home}
 use Rattle.quajects.specs.declared.ports.Port.{Port}
 use Rattle.quajects.specs.declared.ways.Way.{Way}
-use Rattle.quajects.specs.Anys.{all_taken}
+use Rattle.quajects.specs.Anys.{KeepsSides, all_taken}
 use Rattle.quajects.specs.Homes.{IsHome}
 use Rattle.quajects.specs.Pumps as pumps
-use Rattle.quajects.specs.Routes.{port_of}
+use Rattle.quajects.specs.Routes.{port_of, TookNothing}
 use Rattle.quajects.specs.Settled.{runs_of}
 use Rattle.quajects.specs.Switches as switches
 use Rattle.quajects.specs.Terminals as terminals
 use Rattle.table_theory.specs.declared.queues.Batch.{Batch}
 use Rattle.reports.specs.Agreements.{source_of, taken_from, routes_of}
 use Rattle.reports.specs.Closed as closed
-use Rattle.reports.specs.Endings.{ends_at, small_home, large_home, device_at, TookNothing, KeepsSides, ChainEnded}
+use Rattle.reports.specs.Endings.{ends_at, small_home, large_home, device_at, ChainEnded}
 
 -- WHAT ENDS LIST
 
@@ -97,7 +97,7 @@ homes_took number homes chains z = of_homes lines_taken number (small_home numbe
     by [] (c ∷ cs) z = absurd z
     by (h ∷ hs) [] z = absurd z
     by (h ∷ hs) (c ∷ cs) z = let e = z.0.1 in
-        λ k. (home_took number e.came.quaject h.chained h.left h e.came.its e.sides ∙ ap (λ (q : AnyQuaject). if source_of q == number then all_taken q else []) (sym e.quaject_is)) k ++ by hs cs z.1 k
+        λ k. (home_took number e.came.quaject h.chained h.left h e.came.its e.came.sides ∙ ap (λ (q : AnyQuaject). if source_of q == number then all_taken q else []) (sym e.quaject_is)) k ++ by hs cs z.1 k
 
 pub homes_took_none : (number : ℕ) (homes : List Home) (chains : List closed.Chain) → AllZip CameBack homes chains
     → of_ends lines_taken (flat_map (large_home number) homes) ≡ []
@@ -107,7 +107,7 @@ homes_took_none number homes chains z = of_homes lines_taken number (large_home 
     by [] [] z = refl
     by [] (c ∷ cs) z = absurd z
     by (h ∷ hs) [] z = absurd z
-    by (h ∷ hs) (c ∷ cs) z = let e = z.0.1 in λ k. home_took_none number e.came.quaject h.chained h.left h e.came.its e.sides k ++ by hs cs z.1 k
+    by (h ∷ hs) (c ∷ cs) z = let e = z.0.1 in λ k. home_took_none number e.came.quaject h.chained h.left h e.came.its e.came.sides k ++ by hs cs z.1 k
 
 -- the devices' ends took nothing
 pub devices_took_none : (number raw : ℕ) (ends : List (QueueEnd 64)) → AllByRecursion (λ (end : QueueEnd 64). lines_taken (view_of end) ≡ []) ends → of_ends lines_taken (device_at number raw ends) ≡ []

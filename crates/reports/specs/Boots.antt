@@ -17,7 +17,7 @@ use Rattle.reports.specs.Closed as closed
 use Rattle.reports.specs.Endings.{ThreadsEnded, QueueEnded, MoverEnded, TtyEnded, MetersEnded, small_of, large_of}
 use Rattle.reports.specs.Endings.{small_home, large_home, device_at}
 use Rattle.reports.specs.Lines.{Says}
-use Rattle.reports.specs.Reports.{AreSorted}
+use Rattle.reports.specs.Reports.{Ascend}
 use Rattle.reports.specs.Stations.{AllJoined, IsPrepared}
 
 -- what was had of a tty: what came home of its cooked tty, what the last end of its chain knew, and its device's end of
@@ -45,10 +45,10 @@ raw_of ends = ends.raw
 abbrev pub homes : Boot → List Home
 homes boot = boot.movers ++ map home_of boot.ttys
 
--- the ends of a queue that quajects and devices had
+-- the ends of a queue that devices and quajects had
 abbrev pub small_others : BootPlan → Boot → ℕ → List (QueueEnd 64)
-small_others plan boot number = flat_map (small_home number) (homes boot)
-    ++ device_at number (length plan.queues) (map raw_of boot.ttys)
+small_others plan boot number = device_at number (length plan.queues) (map raw_of boot.ttys)
+    ++ flat_map (small_home number) (homes boot)
 
 abbrev pub large_others : Boot → ℕ → List (QueueEnd 256)
 large_others boot number = flat_map (large_home number) (homes boot)
@@ -76,5 +76,5 @@ pub record BootEnded (plan : BootPlan) (logs : List (List Entry)) (boot : Boot) 
       → slice_get c.devices tty ≡ Some d → TtyEnded (length plan.queues) tty p ends.chain ends.home t ends.raw d
   pub meters : MetersEnded plan boot.last c
   pub all_heard : IsPermutation (flat_map heard_lines boot.stations) heard
-  pub sorted : AreSorted heard
+  pub ascend : Ascend heard
   pub says : Says plan c heard r

@@ -2,7 +2,7 @@
 use Rattle.std.specs.Prelude.{◌≡◌, ◌<◌, ◌≤◌, ◌+◌, ◌^◌, ◌==◌, ℕ, true, if◌then◌else◌, List, [], ◌∷◌, map, take}
 use Rattle.std.specs.Prelude.{length, flat_map}
 use Rattle.std.specs.Prelude.{Option, Some, None, slice_index_or}
-use Rattle.std.specs.List.{slice_get, concat, sum_by, AllByRecursion}
+use Rattle.std.specs.List.{slice_get, concat, sum_by}
 use Rattle.boot_script.specs.declared.boot_plan.BootPlan.{BootPlan}
 use Rattle.boot_script.specs.declared.plan.PlannedMover.{PlannedMover}
 use Rattle.boot_script.specs.declared.plan.PlannedTty.{PlannedTty}
@@ -19,16 +19,11 @@ use Rattle.proc_chain.specs.declared.rule.Pact.{Pact}
 use Rattle.proc_chain.specs.declared.rule.View.{View as ChainView}
 use Rattle.proc_chain.specs.Handles as chains
 use Rattle.quajects.specs.declared.any.AnyQuaject.{AnyQuaject}
-use Rattle.quajects.specs.declared.any.AnyQuaject.TheVariants as any
 use Rattle.quajects.specs.declared.home.Home.{Home}
 use Rattle.quajects.specs.declared.ports.Port.{Port}
-use Rattle.quajects.specs.declared.ways.Way.{Way}
 use Rattle.quajects.specs.declared.world.Queues.{Queues}
 use Rattle.quajects.specs.Homes.{CameHome}
-use Rattle.quajects.specs.Pumps as pumps
 use Rattle.quajects.specs.Settled.{SettledNow, views_of, runs_of, shuts_of}
-use Rattle.quajects.specs.Switches as switches
-use Rattle.quajects.specs.Terminals as terminals
 use Rattle.table_theory.specs.declared.queues.Batch.{Batch}
 use Rattle.table_theory.specs.Positioned.{item_of}
 use Rattle.thread_table.specs.declared.places.Place.{Place}
@@ -112,22 +107,6 @@ device_at number raw (end ∷ ends) =
 
 -- QUAJECTS
 
--- nothing was put at a way's end but by the quaject, and nothing taken there
-abbrev pub TookNothing : Option Way → Type 0
-TookNothing None = Unit {0}
-TookNothing (Some way) = lines_taken (queues.view_of way.outlet.end) ≡ []
-
--- it put nothing where it takes lines, and took nothing where it puts them
-abbrev pub KeepsSides : AnyQuaject → Type 0
-KeepsSides (any.Cooked tty) = (lines_put (queues.view_of (terminals.raw_of tty)) ≡ [])
-    × (lines_taken (queues.view_of (terminals.line_of tty)) ≡ [])
-    × (lines_taken (queues.view_of (terminals.screen_of tty)) ≡ [])
-KeepsSides (any.Pump pump) = (lines_put (queues.view_of (pumps.source_of pump)) ≡ [])
-    × (lines_taken (queues.view_of (pumps.target_of pump)) ≡ [])
-KeepsSides (any.Switch switch) = (lines_put (queues.view_of (switches.source_of switch)) ≡ [])
-    × (lines_taken (queues.view_of (switches.other_of switch)) ≡ [])
-    × AllByRecursion TookNothing switch.ways
-
 -- the quaject came home from its closed chain, whose last end knew this
 pub record ChainEnded (v : ChainView) (home : Home) (chain : closed.Chain) : Type 0 where
   pub pact : Pact Queues AnyQuaject
@@ -136,7 +115,6 @@ pub record ChainEnded (v : ChainView) (home : Home) (chain : closed.Chain) : Typ
   pub quaject_is : chain.quaject ≡ came.quaject
   pub left_is : chain.left ≡ home.left
   pub few : home.chained < 2 ^ 64
-  pub sides : KeepsSides came.quaject
 
 -- a pump or switch of the plan: the last station's end was the last of its chain
 pub record MoverEnded (number : ℕ) (p : PlannedMover) (last : Parts) (home : Home) (m : closed.Chain) : Type 0 where
@@ -150,16 +128,21 @@ abbrev pub IsAscending : List Batch → Type 0
 IsAscending runs = (i j : ℕ) (e f : Batch) → get_elem? runs i ≡ some e → get_elem? runs j ≡ some f → i < j
     → e.start < f.start
 
--- A tty: its device popped the bytes typed, and put all but those refused in the raw queue, one behind the other; it
--- took nothing there
-pub record TtyEnded (many tty : ℕ) (p : PlannedTty) (v : ChainView) (home : Home) (t : closed.Chain)
-    (raw : QueueEnd 64) (d : closed.Device) : Type 0 where
-  pub ended : ChainEnded v home t
-  pub of_plan : IsTty (raw_queue many tty) (line_queue tty) (screen_queue tty) t.quaject
+-- A device popped the bytes typed, and put all but those refused at its end of the raw queue, one behind the other; it
+-- took nothing there, and shut nothing
+pub record DeviceEnded (p : PlannedTty) (raw : QueueEnd 64) (d : closed.Device) : Type 0 where
   pub popped : d.popped ≡ p.typed
   pub put : AreWithout d.popped d.refused (concat (lines_put (queues.view_of raw)))
   pub ascends : IsAscending (runs_of (queues.view_of raw))
   pub took_none : lines_taken (queues.view_of raw) ≡ []
+  pub shut_none : shuts_of (queues.view_of raw) ≡ 0
+
+-- a tty: its cooked tty, and its device
+pub record TtyEnded (many tty : ℕ) (p : PlannedTty) (v : ChainView) (home : Home) (t : closed.Chain)
+    (raw : QueueEnd 64) (d : closed.Device) : Type 0 where
+  pub ended : ChainEnded v home t
+  pub of_plan : IsTty (raw_queue many tty) (line_queue tty) (screen_queue tty) t.quaject
+  pub device : DeviceEnded p raw d
 
 -- METERS
 

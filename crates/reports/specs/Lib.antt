@@ -7,4 +7,6 @@ pub mod Reports
 pub mod Stations
 pub mod Endings
 pub mod Boots
+pub mod Closings
 pub mod Saying
+pub mod Wholes

@@ -1,5 +1,5 @@
 -- The report of a boot, and how it agrees with the plan, the closed tables and what the processors did.
-use Rattle.std.specs.Prelude.{◌≡◌, ◌⊎◌, ◌<◌, ℕ, List, [], flat_map, Some}
+use Rattle.std.specs.Prelude.{◌≡◌, ◌⊎◌, ◌<◌, ◌≤◌, ℕ, List, [], flat_map, Some}
 use Rattle.std.specs.Prelude.{IsPermutation, length, ◌++◌}
 use Rattle.std.specs.List.{slice_get, AllByRecursion}
 use Rattle.boot_script.specs.declared.boot_plan.BootPlan.{BootPlan}
@@ -42,6 +42,13 @@ IsBefore a b = (a.0.0 < b.0.0) ⊎ ((a.0.0 ≡ b.0.0) × (a.0.1 < b.0.1))
 abbrev pub AreSorted : List Line → Type 0
 AreSorted lines = (i j : ℕ) (a b : Line) → slice_get lines i ≡ Some a → slice_get lines j ≡ Some b → i < j
     → IsBefore a b
+
+-- the same, or at the same thread and step
+abbrev pub IsUpTo : Line → Line → Type 0
+IsUpTo a b = (a.0.0 < b.0.0) ⊎ ((a.0.0 ≡ b.0.0) × (a.0.1 ≤ b.0.1))
+
+abbrev pub Ascend : List Line → Type 0
+Ascend lines = (i j : ℕ) (a b : Line) → slice_get lines i ≡ Some a → slice_get lines j ≡ Some b → i < j → IsUpTo a b
 
 -- The report: the closed tables agree with the plan and the logs, and it says their numbers; its heard lines are those
 -- of the logs, each once, by thread and then by step

@@ -3,27 +3,36 @@
 //! There is no running code here but laws: functions with empty bodies, whose contracts name what is proved.
 #![tactic(auto)]
 
-ghost use Rattle.std.specs.Prelude.{◌≡◌, ◌<◌, ℕ, List, length, flat_map, Some};
+ghost use Rattle.std.specs.Prelude.{◌≡◌, ◌<◌, ℕ, List, length, flat_map, Some, IsPermutation};
 ghost use Rattle.std.specs.List.{AllZip, slice_get};
 ghost use Rattle.boot_script.specs.declared.boot_plan.BootPlan.{BootPlan};
 ghost use Rattle.boot_script.specs.declared.plan.PlannedMover.{PlannedMover};
 ghost use Rattle.boot_script.specs.declared.report.Report.{Report};
 ghost use Rattle.claim_queue.specs.declared.ends.QueueEnd.{QueueEnd};
+ghost use Rattle.closing.specs.declared.all.Ended.{Ended};
+ghost use Rattle.closing.specs.Wholes.{HasWholes};
+ghost use Rattle.objects.specs.declared.device.Device.{Device};
 ghost use Rattle.quajects.specs.declared.home.Home.{Home};
+ghost use Rattle.quajects.specs.declared.raw.RawTty.{RawTty};
+ghost use Rattle.processor.specs.declared.shared.Shared.{Shared};
 ghost use Rattle.processor.specs.declared.station.Parts.{Parts};
 ghost use Rattle.processor.specs.Logs.{Entry, Leaves, fired_by};
 ghost use Rattle.processor.specs.Running.{Line};
+ghost use Rattle.processor.specs.Turns.{heard_lines};
 ghost use Rattle.reports.specs.Agreements.{SmallAgrees, LargeAgrees, ThreadAgrees, GaugesAgree, AlarmsAgree};
 ghost use Rattle.reports.specs.Agreements.{MoverAgrees};
 ghost use Rattle.reports.specs.Boots.{Boot, BootEnded};
 ghost use Rattle.reports.specs.Closed.{Closed};
 ghost use Rattle.reports.specs.Closed as closed;
+ghost use Rattle.reports.specs.Closings.{BootShut, boot_shut, closed_shut};
 ghost use Rattle.reports.specs.Endings.{QueueEnded, ThreadsEnded, MetersEnded, MoverEnded, small_of, large_of};
 ghost use Rattle.reports.specs.Lists.{all_of};
-ghost use Rattle.reports.specs.Reports.{IsReport};
+ghost use Rattle.reports.specs.Lines.{Says};
+ghost use Rattle.reports.specs.Reports.{Ascend, IsReport};
 ghost use Rattle.reports.specs.Saying.{AllEnded, IsNeverClosed, IsNeverShutSmall, IsNeverShutLarge};
 ghost use Rattle.reports.specs.Saying.{SmallIsSaid, LargeIsSaid};
 ghost use Rattle.reports.specs.Stations.{AllJoined, IsPrepared};
+ghost use Rattle.reports.specs.Wholes.{KeptShares};
 
 /// A queue that was closed by all its ends has the lines that the processors' logs tell, in their order; and cut by
 /// claim, and by taking, the lines of the processors and of the others, each once.
@@ -73,6 +82,26 @@ pub fn movers_agree()
 pub fn reports_agree()
     ensures { (plan : BootPlan) (logs : List (List Entry)) (boot : Boot) (c : Closed) (heard : List Line) (r : Report)
         → BootEnded plan logs boot c heard r → IsReport plan c logs heard r }
+{}
+
+/// Where the last station has the shares that the first had, and the devices' raw ttys came back with theirs and were
+/// joined to it, the owner of these parts has the whole of each object, with what the quajects have: so all can be
+/// closed.
+pub fn wholes_come_home()
+    ensures { (shared : Shared) (first last : Parts) (devices : List Device) (ttys : List RawTty) (parts : Parts)
+        → KeptShares shared first last devices ttys parts → HasWholes shared parts }
+{}
+
+/// What is known when a boot is shut down is all that a boot knows at its end: its queues, threads, quajects, ttys and
+/// meters ended as its report's laws ask, for the closed tables that are made of what closing gave.
+pub fn shut_boots_end()
+    ensures { (shared : Shared) (logs : List (List Entry)) (first : Parts) (stations : List Parts) (last : Parts)
+        (ttys : List RawTty) (devices : List closed.Device) (parts : Parts) (ended : Ended) (heard : List Line)
+        (r : Report) (shut : BootShut shared logs first stations last ttys devices parts ended)
+        → IsPermutation (flat_map heard_lines stations) heard → Ascend heard
+        → Says shared.plan (closed_shut shared logs first stations last ttys devices parts ended shut) heard r
+        → BootEnded shared.plan logs (boot_shut shared logs first stations last ttys devices parts ended shut)
+        (closed_shut shared logs first stations last ttys devices parts ended shut) heard r }
 {}
 
 /// Where no thread of an agreeing report is live, and no say to the queue was told that it is shut, the lines that the

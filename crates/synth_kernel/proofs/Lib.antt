@@ -1,7 +1,6 @@
-pub mod Crews
-pub mod Handling
-pub mod Serving
-pub mod TypedMore
-pub mod Working
-pub mod Posting
-pub mod ServingMore
+pub mod Answering
+pub mod Backs
+pub mod Facts
+pub mod Placing
+pub mod Shut
+pub mod Sorting

@@ -1,8 +1,4 @@
-pub mod Devices
-pub mod Alarms
-pub mod Elements
-pub mod Crews
-pub mod Works
-pub mod Typings
-pub mod Stationings
-pub mod Readiness
+pub mod Boots
+pub mod Faults
+pub mod Gatherings
+pub mod Readies

@@ -1,26 +1,18 @@
-//! The kernel: it makes the objects of a plan, starts a thread for each processor and each device, types each tty's
-//! bytes into its line, and joins all again.
+//! The kernel: from the bytes of a boot script to the report of its boot.
+//!
+//! A boot makes all objects of the script's plan and takes all the memory that it needs. Then each processor and each
+//! device has a thread of its own, while the caller types the bytes of the ttys. When all have stopped, their ends are
+//! joined, all is closed, and the report is made and printed.
 #![tactic(auto)]
 
-mod alarms;
-mod crew;
-mod device;
-mod elements;
-mod setting_up;
-mod stationing;
-mod threads;
-mod typing;
-mod work;
+mod booting;
+mod gathering;
+mod kernel;
+mod outcome;
+mod ready;
 
-pub use alarms::set_alarms;
-pub use crew::{Job, Started, Told, join_all, run_all, start_all};
-pub use device::serve_device;
-pub use elements::prepare;
-pub use setting_up::{add_devices, prepare_station};
-pub use stationing::post_all;
-pub use threads::run_kernel;
-pub use typing::{type_all, type_bytes};
-pub use work::{Work, Worked};
+pub use kernel::{boot, boot_on, boot_on_with, boot_with};
+pub use outcome::{BootFault, Ended};
 
 #[cfg(test)]
 mod tests;

@@ -1,5 +1,5 @@
 -- What the exit status and the words of a run say.
-use Rattle.std.specs.Prelude.{◌≡◌, ◌≢◌, ℕ, List, [], ◌∷◌, ◌++◌, codes, Option, Result, Ok, Err, IfSome, OnOk}
+use Rattle.std.specs.Prelude.{◌≡◌, ◌≢◌, ℕ, List, [], ◌++◌, codes, Option, Result, Ok, Err, IfSome, OnOk}
 use Rattle.std.specs.Io.KnownBytes.{Appends, Keeps}
 use Rattle.quaject_core.specs.declared.event.Event.{Event}
 use Rattle.boot_script.specs.declared.fault.ScriptFault.{ScriptFault}
@@ -8,13 +8,16 @@ use Rattle.boot_script.specs.declared.outcome.Replayed.TheVariants.{AllAllowed, 
 use Rattle.boot_script.specs.declared.outcome.ReplayFault.{ReplayFault}
 use Rattle.boot_script.specs.declared.outcome.ReplayFault.TheVariants.{Script, Memory, Read, Write}
 use Rattle.boot_script.specs.Printed.{end_of_line, replay_fault_text}
+use Rattle.boot_script.specs.Plans.{Plan, text_plan}
 use Rattle.boot_script.specs.Scripts.{text_events}
 use Rattle.boot_script.specs.Replays.{IsReplay, IsAnswer, IsReplayFault}
+use Rattle.synth_kernel.specs.declared.outcome.Ended as endings
+use Rattle.synth_kernel.specs.declared.outcome.Ended.TheVariants.{AllEnded, Unfinished}
+use Rattle.synth_kernel.specs.declared.outcome.BootFault.{BootFault}
+use Rattle.synth_kernel.specs.declared.outcome.BootFault.TheVariants as boot_faults
+use Rattle.synth_kernel.specs.Faults.{boot_fault_text}
+use Rattle.synth_kernel.specs.Boots.{IsBoot, IsBootAnswer, IsBootFault}
 use Rattle.synthesis.specs.declared.program.Ended.{Ended}
-
--- the words that ask for a replay
-abbrev pub replay_command : List (List ℕ)
-replay_command = codes "replay" ∷ []
 
 -- what is told of other words
 abbrev pub usage_words : List ℕ
@@ -62,3 +65,44 @@ IsAnswerOf said (Err fault) = IsReplayFault said fault
 -- an exit status is that of a replay of a text that says this
 abbrev pub IsStatus : Result (ℕ × List (ℕ × Event)) ScriptFault → ℕ → Type 0
 IsStatus said status = (answer : Result Replayed ReplayFault) × IsAnswerOf said answer × (status ≡ status_of answer)
+
+-- the exit status of a boot
+abbrev pub boot_status_of : Result endings.Ended BootFault → ℕ
+boot_status_of (Ok AllEnded) = 0
+boot_status_of (Ok (Unfinished live)) = 4
+boot_status_of (Err (boot_faults.Script fault)) = 1
+boot_status_of (Err boot_faults.Memory) = 3
+boot_status_of (Err boot_faults.Read) = 5
+boot_status_of (Err boot_faults.Write) = 5
+
+-- what is told of a boot: nothing of one whose report was printed, else the line that names its fault
+abbrev pub boot_words_of : Result endings.Ended BootFault → List ℕ
+boot_words_of (Ok ended) = []
+boot_words_of (Err fault) = boot_fault_text fault ++ end_of_line
+
+-- a text that says this has the answer on so many processors, and where that is printed, just the report is appended
+abbrev pub BootAnswers : Result Plan ScriptFault → ℕ → Result endings.Ended BootFault
+    → Option (List ℕ) → Option (List ℕ) → Type 0
+BootAnswers said processors (Ok ended) old new = IsBoot said processors ended old new
+BootAnswers said processors (Err fault) old new = IsBootFault said fault
+
+-- nothing was written under another fault of a boot than the writer's
+abbrev pub IsBootUnwritten : Result endings.Ended BootFault → Option (List ℕ) → Option (List ℕ) → Type 0
+IsBootUnwritten (Ok ended) old new = Unit {0}
+IsBootUnwritten (Err fault) old new = fault ≢ boot_faults.Write → Keeps old new
+
+-- a boot of the bytes, where they are known, has this answer, and turns the bytes of the writer from old to new
+abbrev pub IsBootedBy : Option (List ℕ) → ℕ → Result endings.Ended BootFault
+    → Option (List ℕ) → Option (List ℕ) → Type 0
+IsBootedBy known processors answer old new =
+    IfSome known (λ bytes. BootAnswers (text_plan bytes) processors answer old new) × IsBootUnwritten answer old new
+
+-- the answer of a boot alone
+abbrev pub IsBootAnswerOf : Result Plan ScriptFault → ℕ → Result endings.Ended BootFault → Type 0
+IsBootAnswerOf said processors (Ok ended) = IsBootAnswer said processors ended
+IsBootAnswerOf said processors (Err fault) = IsBootFault said fault
+
+-- an exit status is that of a boot of a text that says this, on so many processors
+abbrev pub IsBootStatus : Result Plan ScriptFault → ℕ → ℕ → Type 0
+IsBootStatus said processors status =
+    (answer : Result endings.Ended BootFault) × IsBootAnswerOf said processors answer × (status ≡ boot_status_of answer)

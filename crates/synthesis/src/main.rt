@@ -1,28 +1,32 @@
 //! The program `synthesis`: runs scripts of the kernel's core and tells how they end.
 #![tactic(auto)]
 
+mod command;
 mod program;
 
 use program::{no_memory, run_main, usage};
 use std::io::ErrorKind;
 use std::process::ExitCode;
+use std::sync::Wait;
+use std::thread::Threads;
 use std::{env, io};
 
 /// Runs the program with the words that it was given, without its own name.
-fn run(rt: &HostRuntime) -> io::Result<u8> {
-    let mut arguments = Vec::new(rt.alloc());
-    for argument in env::args(rt)?.skip(1) {
+fn run<RT: Threads + Wait + Sync>(rt: &RT, host: &HostRuntime) -> io::Result<u8> {
+    let mut arguments = Vec::new(host.alloc());
+    for argument in env::args(host)?.skip(1) {
         arguments.push(argument)?;
     }
-    let mut words = Vec::new(rt.alloc());
+    let mut words = Vec::new(host.alloc());
     for argument in &arguments {
         words.push(argument.as_str())?;
     }
-    Ok(run_main(rt.alloc(), &words, rt.stdin(), rt.stdout(), rt.stderr()))
+    let (input, output, errors) = (host.stdin(), host.stdout(), host.stderr());
+    Ok(run_main(rt, host.alloc(), &words, input, output, errors))
 }
 
 fn main(rt: HostRuntime) -> ExitCode {
-    ExitCode::from(match run(&rt) {
+    ExitCode::from(match run(&rt, &rt) {
         Ok(status) => status,
         Err(error) if error.kind() == ErrorKind::OutOfMemory => no_memory(&mut rt.stderr()),
         // a word that is not text

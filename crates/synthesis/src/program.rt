@@ -1,16 +1,25 @@
-//! The commands, the exit status of each run, and the words for standard error.
+//! The exit status of each run, and the words for standard error.
 
-ghost use Rattle.std.specs.Prelude.{◌≡◌, ◌≢◌, ◌↔◌, map, IsTrue, IfSome, OnOk, Result};
+ghost use Rattle.std.specs.Prelude.{◌≡◌, ◌≢◌, ◌≤◌, ℕ, map, IfSome, OnOk, Result};
 ghost use Rattle.std.specs.Io.KnownBytes.{Appends};
 ghost use Rattle.boot_script.specs.declared.outcome.Replayed.{Replayed};
 ghost use Rattle.boot_script.specs.declared.outcome.ReplayFault.{ReplayFault};
+ghost use Rattle.boot_script.specs.Plans.{text_plan};
 ghost use Rattle.boot_script.specs.Scripts.{text_events};
-ghost use Rattle.synthesis.specs.Runs.{replay_command, usage_words, status_of, words_of, IsReplayOf, IsTold, IsStatus};
+ghost use Rattle.synth_kernel.specs.declared.outcome.Ended as endings;
+ghost use Rattle.synth_kernel.specs.declared.outcome.BootFault.{BootFault};
+ghost use Rattle.synthesis.specs.Commands.{replay_command, IsBootCommand, IsNoCommand};
+ghost use Rattle.synthesis.specs.Runs.{usage_words, status_of, words_of, IsReplayOf, IsTold, IsStatus};
+ghost use Rattle.synthesis.specs.Runs.{boot_status_of, boot_words_of, IsBootedBy, IsBootStatus};
 
+use crate::command::{Command, command_of};
 use boot_script::{ReplayFault, Replayed, replay_on};
 use std::alloc::Global;
 use std::io;
 use std::io::{Read, Write};
+use std::sync::Wait;
+use std::thread::Threads;
+use synth_kernel::{BootFault, boot_on};
 
 /// The status of words that are no command.
 const USAGE_FAULT: u8 = 2;
@@ -26,51 +35,88 @@ pub struct Ended {
 
 /// Runs the program with its words.
 ///
-/// The words are looked at before anything is read. Status 0 and 1 say that a replay was printed, with each event
-/// allowed or one refused; 1 also that the script is at fault; 2 that the words are no command; 3 that memory was
-/// wanting; 5 that the reader or the writer failed. Under 2, 3 and a fault of the script nothing was written.
-pub fn run_on<R: Read, W: Write, E: Write>(
+/// The words are looked at before anything is read. Status 0 says that each event of a replay was allowed, or that all
+/// threads of a boot have ended; 1 that an event was refused, or that the script is at fault; 2 that the words are no
+/// command; 3 that memory was wanting; 4 that threads of a boot have not ended; 5 that the reader or the writer failed.
+/// Under 2, 3 and a fault of the script nothing was written.
+pub fn run_on<RT: Threads + Wait + Sync, R: Read, W: Write, E: Write>(
+    rt: &RT,
     alloc: Global,
     words: &[&str],
     reader: &mut R,
     writer: &mut W,
     errors: &mut E,
 ) -> Ended
-    ensures usage { map (λ word. word.now) words.now ≢ replay_command
+    ensures usage { IsNoCommand (map (λ word. word.now) words.now)
         → IsTold result 2 usage_words (E.contents errors.old) (E.contents errors.new) }
-    ensures untouched { map (λ word. word.now) words.now ≢ replay_command → (reader.new ≡ reader.old)
+    ensures untouched { IsNoCommand (map (λ word. word.now) words.now) → (reader.new ≡ reader.old)
         × (writer.new ≡ writer.old) }
     ensures replay { map (λ word. word.now) words.now ≡ replay_command → (answer : Result Replayed ReplayFault)
         × IsReplayOf (R.remaining reader.old) answer (W.contents writer.old) (W.contents writer.new)
         × IsTold result (status_of answer) (words_of answer) (E.contents errors.old) (E.contents errors.new) }
+    ensures boot { (processors turns : ℕ) → IsBootCommand (map (λ word. word.now) words.now) processors turns
+        → (answer : Result endings.Ended BootFault)
+        × IsBootedBy (R.remaining reader.old) processors answer (W.contents writer.old) (W.contents writer.new)
+        × IsTold result (boot_status_of answer) (boot_words_of answer) (E.contents errors.old) (E.contents errors.new) }
 {
-    if is_replay(words) {
-        let answer = replay_on(alloc, reader, writer);
-        Ended {
-            status: status(answer),
-            told: tell(answer, errors),
+    match command_of(words) {
+        Some(Command::Replay) => run_replay(alloc, reader, writer, errors),
+        Some(Command::Boot { processors, turns }) => {
+            let answer = boot_on(rt, alloc, reader, writer, processors, turns);
+            told_of_boot(answer, errors)
         }
-    } else {
-        Ended {
+        None => Ended {
             status: USAGE_FAULT,
             told: tell_usage(errors),
-        }
+        },
     }
 }
 
 /// The same of streams that are handed over, with the exit status alone. Faults of the error stream are ignored.
-pub fn run_main<R: Read + Drop, W: Write + Drop, E: Write + Drop>(
+pub fn run_main<RT: Threads + Wait + Sync, R: Read + Drop, W: Write + Drop, E: Write + Drop>(
+    rt: &RT,
     alloc: Global,
     words: &[&str],
     mut reader: R,
     mut writer: W,
     mut errors: E,
 ) -> u8
-    ensures usage { map (λ word. word.now) words.now ≢ replay_command → result ≡ 2 }
+    ensures usage { IsNoCommand (map (λ word. word.now) words.now) → result ≡ 2 }
     ensures replay { map (λ word. word.now) words.now ≡ replay_command
         → IfSome (R.remaining reader) (λ bytes. IsStatus (text_events bytes) result) }
+    ensures boot { (processors turns : ℕ) → IsBootCommand (map (λ word. word.now) words.now) processors turns
+        → IfSome (R.remaining reader) (λ bytes. IsBootStatus (text_plan bytes) processors result) }
 {
-    run_on(alloc, words, &mut reader, &mut writer, &mut errors).status
+    run_on(rt, alloc, words, &mut reader, &mut writer, &mut errors).status
+}
+
+/// Replays, and tells how that has ended.
+fn run_replay<R: Read, W: Write, E: Write>(
+    alloc: Global,
+    reader: &mut R,
+    writer: &mut W,
+    errors: &mut E,
+) -> Ended
+    ensures { (answer : Result Replayed ReplayFault)
+        × IsReplayOf (R.remaining reader.old) answer (W.contents writer.old) (W.contents writer.new)
+        × IsTold result (status_of answer) (words_of answer) (E.contents errors.old) (E.contents errors.new) }
+{
+    let answer = replay_on(alloc, reader, writer);
+    Ended {
+        status: status(answer),
+        told: tell(answer, errors),
+    }
+}
+
+/// Tells how a boot has ended.
+fn told_of_boot<E: Write>(answer: Result<synth_kernel::Ended, BootFault>, errors: &mut E) -> Ended
+    ensures { IsTold result (boot_status_of answer) (boot_words_of answer) (E.contents errors.old)
+        (E.contents errors.new) }
+{
+    Ended {
+        status: boot_status(answer),
+        told: tell_boot(answer, errors),
+    }
 }
 
 /// Tells that there is no memory, and gives the status of that.
@@ -88,13 +134,6 @@ pub fn usage<E: Write>(errors: &mut E) -> u8
 {
     let _ = tell_usage(errors);
     USAGE_FAULT
-}
-
-/// The one word is the command `replay`.
-fn is_replay(words: &[&str]) -> bool
-    ensures { IsTrue result ↔ (map (λ word. word.now) words.now ≡ replay_command) }
-{
-    words.len() == 1 && words[0] == "replay"
 }
 
 /// The exit status of a replay.
@@ -124,4 +163,30 @@ fn tell_usage<E: Write>(errors: &mut E) -> io::Result<()>
     ensures { OnOk result (Appends (E.contents errors.old) (E.contents errors.new) usage_words) }
 {
     writeln!(errors, "usage: synthesis replay | synthesis boot P TURNS")
+}
+
+/// The exit status of a boot.
+fn boot_status(answer: Result<synth_kernel::Ended, BootFault>) -> u8
+    ensures { result ≡ boot_status_of answer }
+{
+    match answer {
+        Ok(synth_kernel::Ended::AllEnded) => 0,
+        Ok(synth_kernel::Ended::Unfinished { .. }) => 4,
+        Err(BootFault::Script(_)) => 1,
+        Err(BootFault::Memory) => 3,
+        Err(BootFault::Read | BootFault::Write) => 5,
+    }
+}
+
+/// Tells why a boot printed no report. Of one that did nothing is told.
+fn tell_boot<E: Write>(
+    answer: Result<synth_kernel::Ended, BootFault>,
+    errors: &mut E,
+) -> io::Result<()>
+    ensures { OnOk result (Appends (E.contents errors.old) (E.contents errors.new) (boot_words_of answer)) }
+{
+    match answer {
+        Ok(_ended) => Ok(()),
+        Err(why) => writeln!(errors, "{why}"),
+    }
 }

@@ -3,7 +3,9 @@ use std::alloc::Global;
 use std::io;
 use std::io::{ErrorKind, Read, Write};
 use std::process::Abort;
+use std::sync::Wait;
 use std::test::Fail;
+use std::thread::Threads;
 
 /// The two forms of a run: streams that are lent, and streams that are handed over.
 #[derive(Clone, Copy)]
@@ -15,8 +17,9 @@ enum Form {
 const FORMS: [Form; 2] = [Form::Lent, Form::HandedOver];
 
 /// Runs the program in one form. What is handed over is a loan, so that all bytes can be seen behind either form.
-fn run_as<R: Read, W: Write, E: Write>(
+fn run_as<RT: Threads + Wait + Sync, R: Read, W: Write, E: Write>(
     form: Form,
+    rt: &RT,
     alloc: Global,
     words: &[&str],
     reader: &mut R,
@@ -24,8 +27,8 @@ fn run_as<R: Read, W: Write, E: Write>(
     errors: &mut E,
 ) -> u8 {
     match form {
-        Form::Lent => run_on(alloc, words, reader, writer, errors).status,
-        Form::HandedOver => run_main(alloc, words, reader, writer, errors),
+        Form::Lent => run_on(rt, alloc, words, reader, writer, errors).status,
+        Form::HandedOver => run_main(rt, alloc, words, reader, writer, errors),
     }
 }
 
@@ -102,10 +105,11 @@ const ALLOWED_STATUS: &[u8] =
 
 const USAGE: &[u8] = b"usage: synthesis replay | synthesis boot P TURNS\n";
 
-/// Asserts the status of a replay in both forms, and the bytes on both streams.
-fn assert_replay(
-    rt: &impl Abort,
+/// Asserts the status of a run in both forms, and the bytes on both streams.
+fn assert_run<RT: Threads + Wait + Sync + Abort>(
+    rt: &RT,
     alloc: Global,
+    words: &[&str],
     script: &[u8],
     status: u8,
     printed: &[u8],
@@ -115,12 +119,24 @@ fn assert_replay(
         let mut reader = script;
         let mut output = Vec::new(alloc);
         let mut errors = Vec::new(alloc);
-        let words = &["replay"];
-        let ended = run_as(form, alloc, words, &mut reader, &mut output, &mut errors);
+        let (out, to_tell) = (&mut output, &mut errors);
+        let ended = run_as(form, rt, alloc, words, &mut reader, out, to_tell);
         assert_eq!(rt; ended, status);
         assert_eq!(rt; output.as_slice(), printed);
         assert_eq!(rt; errors.as_slice(), told);
     }
+}
+
+/// The same of a replay.
+fn assert_replay<RT: Threads + Wait + Sync + Abort>(
+    rt: &RT,
+    alloc: Global,
+    script: &[u8],
+    status: u8,
+    printed: &[u8],
+    told: &[u8],
+) {
+    assert_run(rt, alloc, &["replay"], script, status, printed, told);
 }
 
 #[test]
@@ -244,9 +260,56 @@ fn tells_a_fault_of_the_script(rt: HostRuntime) {
     }
 }
 
+const SAID: &[u8] = b"synthesis 1\nqueue out\nthread a\nsay out hi\n";
+
+const SAID_REPORT: &[u8] = b"queue out put 3 taken 0 left 3\nthread a ended 1\nchained 0\n";
+
+/// A boot ends with the status of its threads, or with its script's fault.
+#[test]
+fn boots_a_script(rt: HostRuntime) {
+    let most: &[&str] = &["boot", "8", "100"];
+    let none: &[&str] = &["boot", "1", "0"];
+    let runs: [(&[&str], &[u8], u8, &[u8], &[u8]); 7] = [
+        (&["boot", "1", "100"], SAID, 0, SAID_REPORT, b""),
+        (most, b"synthesis 1", 0, b"chained 0\n", b""),
+        (
+            none,
+            SAID,
+            4,
+            b"queue out put 0 taken 0 left 0\nthread a ready 0\nchained 0\n",
+            b"",
+        ),
+        (
+            &["boot", "1", "100000000"],
+            b"",
+            1,
+            b"",
+            b"line 1: 1 NotVersion\n",
+        ),
+        (
+            none,
+            b"synthesis 1\nque",
+            1,
+            b"",
+            b"line 2: 2 UnknownWord\n",
+        ),
+        (
+            none,
+            b"synthesis 1\nqueue q\nthread a\nthread a",
+            1,
+            b"",
+            b"line 4: 5 NameTwice\n",
+        ),
+        (none, &[b'#'; 65_537], 1, b"", b"line 0: 7 TooMany\n"),
+    ];
+    for (words, script, status, printed, told) in runs {
+        assert_run(&rt, rt.alloc(), words, script, status, printed, told);
+    }
+}
+
 #[test]
 fn other_words_are_a_usage_fault(rt: HostRuntime) {
-    let commands: [&[&str]; 8] = [
+    let commands: [&[&str]; 22] = [
         &[],
         &[""],
         &["Replay"],
@@ -255,6 +318,20 @@ fn other_words_are_a_usage_fault(rt: HostRuntime) {
         &["replay", "replay"],
         &["boot"],
         &["help"],
+        &["boot", "1"],
+        &["boot", "1", "1", ""],
+        &["Boot", "1", "1"],
+        &["replay", "1", "1"],
+        &["boot", "0", "1"],
+        &["boot", "9", "1"],
+        &["boot", "01", "1"],
+        &["boot", "+1", "1"],
+        &["boot", "", "1"],
+        &["boot", "1", ""],
+        &["boot", "1", "01"],
+        &["boot", "1", "+1"],
+        &["boot", "1", "100000001"],
+        &["boot", "257", "1"],
     ];
     for words in commands {
         for form in FORMS {
@@ -262,7 +339,10 @@ fn other_words_are_a_usage_fault(rt: HostRuntime) {
             let mut output = Vec::new(rt.alloc());
             let mut errors = Vec::new(rt.alloc());
             let (out, told) = (&mut output, &mut errors);
-            assert_eq!(rt; run_as(form, rt.alloc(), words, &mut reader, out, told), 2);
+            assert_eq!(rt;
+                run_as(form, &rt, rt.alloc(), words, &mut reader, out, told),
+                2
+            );
             assert_eq!(rt; reader, REFUSED);
             assert!(rt; output.is_empty());
             assert_eq!(rt; errors.as_slice(), USAGE);
@@ -273,8 +353,17 @@ fn other_words_are_a_usage_fault(rt: HostRuntime) {
     assert_eq!(rt; errors.as_slice(), USAGE);
 }
 
-/// Asserts that a replay in both forms ends with a read fault, and prints nothing.
-fn assert_read_fault(rt: &impl Abort, alloc: Global, kind: ErrorKind, calls: usize) {
+/// The words of a replay and those of a boot.
+const COMMANDS: [&[&str]; 2] = [&["replay"], &["boot", "1", "100"]];
+
+/// Asserts that a run in both forms ends with a read fault, and prints nothing.
+fn assert_read_fault<RT: Threads + Wait + Sync + Abort>(
+    rt: &RT,
+    alloc: Global,
+    words: &[&str],
+    kind: ErrorKind,
+    calls: usize,
+) {
     for form in FORMS {
         let mut reader = Failing {
             bytes: REFUSED,
@@ -283,8 +372,8 @@ fn assert_read_fault(rt: &impl Abort, alloc: Global, kind: ErrorKind, calls: usi
         };
         let mut output = Vec::new(alloc);
         let mut errors = Vec::new(alloc);
-        let words = &["replay"];
-        let status = run_as(form, alloc, words, &mut reader, &mut output, &mut errors);
+        let (out, told) = (&mut output, &mut errors);
+        let status = run_as(form, rt, alloc, words, &mut reader, out, told);
         assert_eq!(rt; status, 5);
         assert!(rt; output.is_empty());
         assert_eq!(rt; errors.as_slice(), b"read fault\n".as_slice());
@@ -293,30 +382,49 @@ fn assert_read_fault(rt: &impl Abort, alloc: Global, kind: ErrorKind, calls: usi
 
 #[test]
 fn tells_a_failing_reader(rt: HostRuntime) {
-    for calls in 0..=REFUSED.len() {
-        assert_read_fault(&rt, rt.alloc(), ErrorKind::ConnectionReset, calls);
+    for words in COMMANDS {
+        for calls in 0..=REFUSED.len() {
+            assert_read_fault(&rt, rt.alloc(), words, ErrorKind::ConnectionReset, calls);
+        }
     }
 }
 
 #[test]
 fn ends_where_reads_are_interrupted_forever(rt: HostRuntime) {
-    assert_read_fault(&rt, rt.alloc(), ErrorKind::Interrupted, 10);
+    for words in COMMANDS {
+        assert_read_fault(&rt, rt.alloc(), words, ErrorKind::Interrupted, 10);
+    }
 }
 
-/// The bytes before the fault are a front of what is printed.
+/// Asserts that a run in both forms ends with a write fault behind so many bytes, which are a front of what is printed.
+fn assert_write_fault<RT: Threads + Wait + Sync + Abort>(
+    rt: &RT,
+    alloc: Global,
+    words: &[&str],
+    script: &[u8],
+    printed: &[u8],
+    calls: usize,
+) {
+    for form in FORMS {
+        let mut reader = script;
+        let mut output = Full::new(alloc, calls);
+        let mut errors = Vec::new(alloc);
+        let (out, told) = (&mut output, &mut errors);
+        let status = run_as(form, rt, alloc, words, &mut reader, out, told);
+        assert_eq!(rt; status, 5);
+        assert_eq!(rt; Some(output.bytes.as_slice()), printed.get(..calls));
+        assert_eq!(rt; errors.as_slice(), b"write fault\n".as_slice());
+    }
+}
+
 #[test]
 fn tells_a_failing_writer(rt: HostRuntime) {
     for calls in 0..REFUSED_STATUS.len() {
-        for form in FORMS {
-            let mut reader = REFUSED;
-            let mut output = Full::new(rt.alloc(), calls);
-            let mut errors = Vec::new(rt.alloc());
-            let (out, told) = (&mut output, &mut errors);
-            let status = run_as(form, rt.alloc(), &["replay"], &mut reader, out, told);
-            assert_eq!(rt; status, 5);
-            assert_eq!(rt; output.bytes.as_slice(), &REFUSED_STATUS[..calls]);
-            assert_eq!(rt; errors.as_slice(), b"write fault\n".as_slice());
-        }
+        assert_write_fault(&rt, rt.alloc(), &["replay"], REFUSED, REFUSED_STATUS, calls);
+    }
+    for calls in 0..SAID_REPORT.len() {
+        let words = &["boot", "1", "100"];
+        assert_write_fault(&rt, rt.alloc(), words, SAID, SAID_REPORT, calls);
     }
 }
 
@@ -327,7 +435,7 @@ fn a_failing_error_stream_changes_no_status(rt: HostRuntime) {
         let mut output = Vec::new(rt.alloc());
         let mut errors = Full::new(rt.alloc(), 3);
         let (out, told) = (&mut output, &mut errors);
-        let status = run_as(form, rt.alloc(), &["replay"], &mut reader, out, told);
+        let status = run_as(form, &rt, rt.alloc(), &["replay"], &mut reader, out, told);
         assert_eq!(rt; status, 1);
         assert!(rt; output.is_empty());
         assert_eq!(rt; errors.bytes.as_slice(), b"lin".as_slice());
@@ -345,7 +453,14 @@ fn a_run_tells_of_the_error_stream(rt: HostRuntime) {
         let mut reader = REFUSED;
         let mut output = Vec::new(rt.alloc());
         let mut errors = Full::new(rt.alloc(), calls);
-        let Ended { status, told } = run_on(rt.alloc(), &[], &mut reader, &mut output, &mut errors);
+        let Ended { status, told } = run_on(
+            &rt,
+            rt.alloc(),
+            &[],
+            &mut reader,
+            &mut output,
+            &mut errors,
+        );
         assert_eq!(rt; status, 2);
         assert_eq!(rt; told.is_ok(), took);
         assert_eq!(rt; Some(errors.bytes.as_slice()), USAGE.get(..calls));

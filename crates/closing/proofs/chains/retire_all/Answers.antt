@@ -1,12 +1,14 @@
-use Rattle.std.proofs.Common.{arith, length, ap}
+use Rattle.std.proofs.Common.{arith, length, ap, subst, sym}
 use Rattle.std.proofs.lemmas.List.{length_push}
+use Rattle.std.specs.List.{All}
 use Rattle.std.specs.Vec.Iter.{into_iter_items}
 use Rattle.proc_chain.specs.Handles.{IsOnlyEnd}
 use Rattle.end_steps.specs.EndLists.{chain_table, chain_end_table, IsIdle}
 use Rattle.end_steps.proofs.Chains.{idle_end}
 use Rattle.end_steps.proofs.Places.{as_long}
 use Rattle.end_steps.proofs.Walking.{none_left}
-use Rattle.closing.specs.Retirals.{HasRetired}
+use Rattle.closing.specs.Retirals.{HasRetired, IsFew}
+use Rattle.std.proofs.lemmas.List.Elements.{All-push}
 use Rattle.closing.proofs.Drawing.{drawn_more, rest_long, all_drawn, next_fit, next_holds}
 use Rattle.closing.proofs.chains.retire_all.Goals as goal
 
@@ -30,13 +32,14 @@ retire_chain-requires-clause-whole c = next_holds HasRetired IsOnlyEnd _ _ _ _ _
 
 pub loop-chain-preserved : goal.loop-chain-preserved
 loop-chain-preserved c = let v = c.loop-chain.invariant in record {
-  drawn = drawn_more HasRetired _ _ _ _ _ _ c.in-Some.chain _ c.in-Some-next.end _ c.retire_chain.result _ v.drawn c.in-Some.ensures.steps.0 c.in-Some-next.ensures.items c.push_reserved.ensures.items c.retire_chain.ensures;
+  drawn = drawn_more HasRetired _ _ _ _ _ _ c.in-Some.chain _ c.in-Some-next.end _ c.retire_chain.result _ v.drawn c.in-Some.ensures.steps.0 c.in-Some-next.ensures.items c.push_reserved.ensures.items c.retire_chain.ensures.home;
   left = let was = v.left in let gone = c.in-Some.ensures.steps.1 in let short = ap length c.in-Some.ensures.steps.0 in omega arith;
   rest = let was = v.rest in let gone = c.in-Some-next.ensures.len in let short = ap length c.in-Some-next.ensures.items in omega arith;
   number = let was = v.number in let more = length_push c.loop-chain.yielded c.in-Some.chain in let put = c.push_reserved.ensures.len in omega arith;
+  few = subst (All IsFew) (sym c.push_reserved.ensures.items) (All-push IsFew c.loop-chain.homes.items c.retire_chain.result v.few c.retire_chain.ensures.few);
   room = let was = v.room in let same = c.push_reserved.ensures.capacity in omega arith;
 }
 
-pub returns : goal.returns
-returns c = let v = c.loop-chain.invariant in let empty = none_left (into_iter_items c.loop-chain.chain-iterator) (let l = v.left in let n = c.in-None.ensures.steps.0 in omega arith) in
+pub returns-clause-homes : goal.returns-clause-homes
+returns-clause-homes c = let v = c.loop-chain.invariant in let empty = none_left (into_iter_items c.loop-chain.chain-iterator) (let l = v.left in let n = c.in-None.ensures.steps.0 in omega arith) in
     all_drawn HasRetired _ _ _ _ _ _ (as_long chain_end_table chain_table c.args.ends.items c.args.chains.items c.requires.ends.tables) empty v.drawn

@@ -1,6 +1,7 @@
 use Rattle.std.proofs.Common.{◌≡◌, ◌≤◌, length, vec_len, vec_capacity}
+use Rattle.std.specs.List.{All}
 use Rattle.std.specs.Vec.Iter.{into_iter_items, into_iter_len}
-use Rattle.closing.specs.Retirals.{HasRetired}
+use Rattle.closing.specs.Retirals.{HasRetired, IsFew}
 use Rattle.closing.proofs.Drawing.{Drawn}
 use Rattle.closing.proofs.chains.retire_all.Given as goal
 
@@ -10,5 +11,6 @@ invariant-loop-chain l = record {
   left : into_iter_len l.chain-iterator ≡ length (into_iter_items l.chain-iterator);
   rest : into_iter_len l.ends ≡ length (into_iter_items l.ends);
   number : vec_len l.homes ≡ length l.yielded;
+  few : All IsFew l.homes.items;
   room : length l.fn.chains.items ≤ vec_capacity l.homes;
 }

@@ -5,8 +5,8 @@ use Rattle.closing.proofs.Whole.{homes_fit}
 use Rattle.closing.proofs.homing.close_chains.Goals as goal
 
 pub bring_all_home-counts-requires-clause-fits : goal.bring_all_home-counts-requires-clause-fits
-bring_all_home-counts-requires-clause-fits c = homes_fit c.args.queues.now c.args.chains.items c.args.ends.items c.retire_all-homes.result.items c.requires.world c.retire_all-homes.ensures
+bring_all_home-counts-requires-clause-fits c = homes_fit c.args.queues.now c.args.chains.items c.args.ends.items c.retire_all-homes.result.items c.requires.world c.retire_all-homes.ensures.homes
 
 pub bring_all_home-counts-requires-clause-room : goal.bring_all_home-counts-requires-clause-room
-bring_all_home-counts-requires-clause-room c = let long = three_long HasRetired c.args.chains.items c.args.ends.items c.retire_all-homes.result.items c.retire_all-homes.ensures in let same = long.1 in
+bring_all_home-counts-requires-clause-room c = let long = three_long HasRetired c.args.chains.items c.args.ends.items c.retire_all-homes.result.items c.retire_all-homes.ensures.homes in let same = long.1 in
     let room = c.requires.counts_room.1 in (c.requires.counts_room.0, omega arith)

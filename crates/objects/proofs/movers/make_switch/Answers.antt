@@ -6,11 +6,11 @@ use Rattle.claim_queue.specs.Lines.{line_of, lines_put, lines_taken}
 use Rattle.claim_queue.specs.declared.ends.ClaimQueue.{ClaimQueue}
 use Rattle.quajects.specs.Ports.{IsEndAt}
 use Rattle.quajects.specs.Routes.{puts_of}
-use Rattle.end_steps.specs.EndLists.{end_share, number_at}
+use Rattle.end_steps.specs.EndLists.{end_share, end_shuts, number_at}
 use Rattle.objects.specs.Makings.{givens_share}
 use Rattle.objects.specs.Stocks.{shares}
 use Rattle.objects.proofs.Dealing.{gave_both}
-use Rattle.objects.proofs.Ways.{posts_given, none_given}
+use Rattle.objects.proofs.Ways.{posts_given, none_given, open_given}
 use Rattle.objects.proofs.movers.make_switch.Goals as goal
 
 pub returns : goal.returns
@@ -23,12 +23,16 @@ returns c =
     let put : lines_put (view_of c.new.result.other.end) ≡ [] = ap (λ (z : QueueEnd 64). lines_put (view_of z)) n.other_is ∙ ap (map line_of) b.ensures.unused.0 in
     let puts : flat_map puts_of c.new.result.ways ≡ [] = none_given c.new.result.ways d.result n.ends_are d.ensures.unused in record {
       stock = d.ensures.stock;
-      kind = record { from_is = n.from_is; other_is = n.to_is; keys_are = n.keys_are ∙ d.ensures.keys; indexes_are = n.indexes_are ∙ d.ensures.indexes };
+      kind = record { few = c.requires.few; from_is = n.from_is; other_is = n.to_is; keys_are = n.keys_are ∙ d.ensures.keys; indexes_are = n.indexes_are ∙ d.ensures.indexes };
       ready = record {
         fits = c.new.ensures.fits c.args.queues.now (subst (λ (z : List (ClaimQueue 64)). IsEndAt z c.args.from a.result) c.as_slice.ensures.value a.ensures.its)
             (subst (λ (z : List (ClaimQueue 64)). IsEndAt z c.args.other b.result) c.as_slice-2.ensures.value b.ensures.its) d.ensures.fit;
         none_taken = taken;
         none_put = λ i. put i ++ puts i;
+        none_shut = (
+          ap (λ (z : QueueEnd 64). end_shuts z) n.source_is ∙ a.ensures.shuts,
+          (ap (λ (z : QueueEnd 64). end_shuts z) n.other_is ∙ b.ensures.shuts, open_given c.new.result.ways d.result n.ends_are d.ensures.none_shut),
+        );
         none_held = n.none_held;
         none_run = n.none_run;
       };

@@ -1,6 +1,7 @@
-use Rattle.std.proofs.Common.{ℕ, ◌%◌, ◌^◌, ◌+◌, ap, ◌∙◌}
+use Rattle.std.proofs.Common.{ℕ, ◌%◌, ◌^◌, ◌+◌, ap, refl, ◌∙◌}
 use Rattle.quajects.proofs.Answered.{take_answered}
 use Rattle.quajects.proofs.Counts.{counted_held}
+use Rattle.quajects.proofs.Staying.{take_post}
 use Rattle.quajects.proofs.ports.Intake.try_line.Goals as goal
 
 pub invariant_of-self : goal.invariant_of-self
@@ -11,3 +12,6 @@ invariant_of-self g c = let t = take_answered _ _ _ _ _ _ _ c.try_take_line.ensu
 
 pub returns-clause-lines : goal.returns-clause-lines
 returns-clause-lines g c = (take_answered _ _ _ _ _ _ _ c.try_take_line.ensures.taken c.try_take_line.ensures.lines).0
+
+pub returns-clause-same : goal.returns-clause-same
+returns-clause-same g c = take_post _ _ c.args.self.now.end c.try_take_line.new.end _ _ _ refl c.try_take_line.ensures.queue c.try_take_line.ensures.taken c.try_take_line.ensures.lines

@@ -1,6 +1,7 @@
-use Rattle.std.proofs.Common.{◌∙◌}
+use Rattle.std.proofs.Common.{refl, ◌∙◌}
 use Rattle.quajects.proofs.Answered.{put_answered}
 use Rattle.quajects.proofs.Counts.{counted_more}
+use Rattle.quajects.proofs.Staying.{put_post}
 use Rattle.quajects.proofs.ports.Outlet.try_line.Goals as goal
 
 pub invariant_of-self : goal.invariant_of-self
@@ -9,3 +10,9 @@ invariant_of-self g c = let t = put_answered _ _ _ _ _ c.is_ok-put.ensures.value
   only = t.1 ∙ c.args.self.now.only;
   raised = c.try_put.ensures.raised c.args.self.now.raised;
 }
+
+pub returns-then-put-clause-same : goal.returns-then-put-clause-same
+returns-then-put-clause-same g c = put_post _ _ c.args.self.now.end c.try_put.new.end _ _ _ refl c.try_put.ensures.queue c.try_put.ensures.put c.try_put.ensures.lines
+
+pub returns-else-put-clause-same : goal.returns-else-put-clause-same
+returns-else-put-clause-same g c = put_post _ _ c.args.self.now.end c.try_put.new.end _ _ _ refl c.try_put.ensures.queue c.try_put.ensures.put c.try_put.ensures.lines

@@ -1,0 +1,15 @@
+pub mod Crews
+pub mod FreeTakings
+pub mod Handling
+pub mod DevicePuts
+pub mod Typeds
+pub mod Allowing
+pub mod Returning
+pub mod Reunion
+pub mod Serving
+pub mod TypedMore
+pub mod Working
+pub mod Posting
+pub mod Preparedness
+pub mod Firstness
+pub mod ServingMore

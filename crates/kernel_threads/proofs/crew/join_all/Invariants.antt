@@ -1,0 +1,11 @@
+use Rattle.std.proofs.Common.{◌+◌, ◌≤◌, vec_len, vec_capacity}
+use Rattle.std.specs.List.{AllZip}
+use Rattle.std.specs.Vec.Iter.{into_iter_len}
+use Rattle.kernel_threads.specs.Crews.{WasJoined}
+use Rattle.kernel_threads.proofs.crew.join_all.Given as goal
+
+abbrev pub invariant-loop-handle : goal.invariant-loop-handle
+invariant-loop-handle g l = record {
+  room : vec_len l.backs + into_iter_len l.handle-iterator ≤ vec_capacity l.backs;
+  joined : AllZip (WasJoined g.J.Job.gives) l.yielded l.backs.items;
+}

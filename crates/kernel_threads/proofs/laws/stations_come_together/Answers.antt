@@ -1,0 +1,14 @@
+use Rattle.std.proofs.Common.{List, Option, subst}
+use Rattle.std.specs.List.{AllZip}
+use Rattle.kernel_threads.specs.declared.work.Worked.{Worked}
+use Rattle.kernel_threads.specs.Crews.{GaveBack}
+use Rattle.kernel_threads.specs.Works.{HasWorked}
+use Rattle.kernel_threads.proofs.Returning.{posts_first}
+use Rattle.kernel_threads.proofs.Reunion.{came_together}
+use Rattle.kernel_threads.proofs.laws.stations_come_together.Goals as goal
+
+pub returns : goal.returns
+returns g c = λ shared turns gates old new last posts works devices backs stations posted serving gave are joined none free.
+    came_together shared turns gates old new last posts stations posted
+    (subst (λ (z : List (Option Worked)). AllZip (GaveBack HasWorked shared) posts z) are (posts_first (GaveBack HasWorked shared) shared.plan.ttys devices posts works backs serving gave))
+    joined none free

@@ -1,0 +1,12 @@
+use Rattle.std.proofs.Common.{◌≡◌, ◌+◌, ◌≤◌, take, length, vec_len, vec_capacity}
+use Rattle.std.specs.Vec.Iter.{into_iter_len}
+use Rattle.kernel_threads.specs.Typings.{AreTyped}
+use Rattle.kernel_threads.proofs.typing.type_all.Given as goal
+
+abbrev pub invariant-loop-line : goal.invariant-loop-line
+invariant-loop-line g l = record {
+  room : vec_len l.typed + into_iter_len l.line-iterator ≤ vec_capacity l.typed;
+  number : l.t ≡ length l.yielded;
+  rest : l.t + into_iter_len l.line-iterator ≡ length l.ttys;
+  typed : AreTyped (take l.t l.ttys) (take l.t l.devices) l.yielded l.typed.items;
+}

@@ -1,0 +1,74 @@
+//! What the threads of a kernel do: each processor has its turns, and each device serves its tty.
+ghost use Rattle.std.specs.Prelude.{◌≡◌, ◌<◌, length};
+ghost use Rattle.kernel_threads.specs.Works.{MayWork, HasWorked};
+
+use crate::crew::Job;
+use crate::device::serve_device;
+use end_steps::Gate;
+use processor::{Shared, Station, run};
+use quaject_core::Processor;
+use quajects::RawTty;
+use spsc_line::LineOut;
+use std::sync::Wait;
+
+/// What a thread of the kernel does.
+#[derive(Drop)]
+pub enum Work<G> {
+    /// A processor has so many turns.
+    Process {
+        station: Station,
+        p: Processor,
+        turns: u32,
+        gate: G,
+    },
+    /// A device serves a tty, whose chain has this index, until it has had so many bytes.
+    Serve {
+        chain: usize,
+        line: LineOut,
+        tty: RawTty,
+        count: usize,
+    },
+}
+
+/// What a thread of the kernel gives back.
+#[derive(Drop)]
+pub enum Worked {
+    Processed(Station),
+    Served { line: LineOut, tty: RawTty },
+}
+
+impl<G: Gate + Drop> Job<Shared, Worked> for Work<G> {
+    ghost may_run = { MayWork };
+
+    ghost gives = { HasWorked };
+
+    fn run<R: Wait>(self, rt: &R, shared: &Shared) -> Worked {
+        match self {
+            Work::Process {
+                station,
+                p,
+                turns,
+                gate,
+            } => {
+                let mut gate = gate;
+                Worked::Processed(run(rt, shared, station, p, turns, &mut gate))
+            }
+            Work::Serve {
+                chain,
+                line,
+                tty,
+                count,
+            } => {
+                let (line, tty) = serve_device(
+                    rt,
+                    &shared.queues,
+                    &shared.chains[chain],
+                    line,
+                    tty,
+                    count,
+                );
+                Worked::Served { line, tty }
+            }
+        }
+    }
+}

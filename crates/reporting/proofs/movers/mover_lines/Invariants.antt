@@ -1,0 +1,10 @@
+use Rattle.std.proofs.Common.{◌≡◌, ◌≤◌, ◌++◌, drop, length, vec_len, vec_capacity}
+use Rattle.reporting.specs.Made.{numbered, mover_line}
+use Rattle.reporting.proofs.movers.mover_lines.Given as goal
+
+abbrev pub invariant-loop-number : goal.invariant-loop-number
+invariant-loop-number l = record {
+  lines : l.lines.items ++ numbered (mover_line l.counts) l.number (drop l.number l.movers) ≡ numbered (mover_line l.counts) 0 l.movers;
+  number : vec_len l.lines ≡ l.number;
+  room : length l.movers ≤ vec_capacity l.lines;
+}

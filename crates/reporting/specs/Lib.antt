@@ -1,0 +1,5 @@
+pub mod Amounts
+pub mod Made
+pub mod Reported
+pub mod Rooms
+pub mod Shown

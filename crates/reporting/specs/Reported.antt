@@ -1,0 +1,23 @@
+-- What a report of what was closed says, whatever the closed tables are.
+use Rattle.std.specs.Prelude.{List, map, IsPermutation}
+use Rattle.std.specs.Global.{Vec}
+use Rattle.boot_script.specs.declared.report.Report.{Report}
+use Rattle.closing.specs.declared.all.Ended.{Ended}
+use Rattle.processor.specs.declared.station.Heard.{Heard}
+use Rattle.processor.specs.Running.{Line, line_heard}
+use Rattle.reports.specs.Closed.{Closed}
+use Rattle.reports.specs.Lines.{Says}
+use Rattle.reports.specs.Reports.{Ascend}
+use Rattle.reporting.specs.declared.ttys.Typed.{Typed}
+use Rattle.reporting.specs.Shown.{Shows}
+
+-- what one processor heard
+abbrev pub lines_of : Vec Heard → List Line
+lines_of heard = map line_heard heard.items
+
+-- its heard lines are these, in order; and it says the numbers of any closed tables that are shown
+pub record IsReported (ended : Ended) (lines : List Line) (typed : List Typed) (r : Report) : Type 0 where
+  pub heard : List Line
+  pub all_heard : IsPermutation lines heard
+  pub ascend : Ascend heard
+  pub says : (c : Closed) → Shows c ended typed → Says ended.plan c heard r

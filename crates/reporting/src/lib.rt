@@ -1,0 +1,28 @@
+//! The report of a boot, made of what was closed.
+//!
+//! The lines of a report are allocated before the threads of a boot start (`Lines`), so that sorting what was heard and
+//! making the report of what was closed take no memory.
+#![tactic(auto)]
+
+mod amounts;
+mod heard;
+mod laws;
+mod lines;
+mod live;
+mod making;
+mod movers;
+mod queues;
+mod sorting;
+#[cfg(test)]
+mod tests;
+mod threads;
+mod ttys;
+
+pub use laws::{
+    alarms_are_all, heard_lines_are_few, reported_boots_end, shut_boots_show, threads_fit,
+};
+pub use lines::{Lines, Room};
+pub use live::live_of;
+pub use making::{make_report, report_boot};
+pub use sorting::sort_heard;
+pub use ttys::Typed;

@@ -1,0 +1,22 @@
+-- An element of a list, by what stands before and behind it.
+use Rattle.std.proofs.Common.{◌≡◌, zero, suc, List, [], ◌∷◌, ◌++◌, map, length, refl, ap, sym, subst, arith}
+use Rattle.std.specs.List.{All, AllZip}
+
+pub here : {A B : Type 0} (f : A → B) (P : B → Type 0) (before : List A) (x : A) (behind all : List A) → before ++ x ∷ behind ≡ all → All P (map f all) → P (f x)
+here {A = A} f P [] x behind all is each = subst (λ (z : List A). All P (map f z)) (sym is) each zero (f x) (omega arith)
+here f P (y ∷ before) x behind [] is each = absurd cc
+here f P (y ∷ before) x behind (z ∷ all) is each = here f P before x behind all (cc) (λ k d l. each (suc k) d (omega arith))
+
+-- the heads of two lists, and their tails, place by place
+module _ {A B : Type 0} (R : A → B → Type 0) where
+  pub zip_head : (xs : List A) (ys : List B) (x : A) (y : B) (xs' : List A) (ys' : List B) → AllZip R xs ys → xs ≡ x ∷ xs' → ys ≡ y ∷ ys' → R x y
+  zip_head xs ys x y xs' ys' h e f = let g = subst (λ z. AllZip R (x ∷ xs') z) f (subst (λ z. AllZip R z ys) e h) in g.0
+
+  pub zip_tail : (xs : List A) (ys : List B) (x : A) (y : B) (xs' : List A) (ys' : List B) → AllZip R xs ys → xs ≡ x ∷ xs' → ys ≡ y ∷ ys' → AllZip R xs' ys'
+  zip_tail xs ys x y xs' ys' h e f = let g = subst (λ z. AllZip R (x ∷ xs') z) f (subst (λ z. AllZip R z ys) e h) in g.1
+
+  pub zip_long : (xs : List A) (ys : List B) → AllZip R xs ys → length ys ≡ length xs
+  zip_long [] [] h = refl
+  zip_long [] (y ∷ ys) h = absurd h
+  zip_long (x ∷ xs) [] h = absurd h
+  zip_long (x ∷ xs) (y ∷ ys) h = ap suc (zip_long xs ys h.1)

@@ -1,0 +1,211 @@
+-- What a boot knows when all that it gave its threads came back, and all was joined and closed.
+use Rattle.std.proofs.Common.{◌≡◌, ◌≤◌, ℕ, zero, suc, ◌+◌, true, List, [], ◌∷◌, map, drop, length, Option, Some, flat_map, refl, sym, ap, subst, ◌∙◌, arith}
+use Rattle.std.proofs.lemmas.List.{length-map}
+use Rattle.std.specs.List.{All, AllZip}
+use Rattle.boot_script.specs.declared.boot_plan.BootPlan.{BootPlan}
+use Rattle.boot_script.specs.declared.report.Report.{Report}
+use Rattle.closing.specs.declared.all.Ended.{Ended}
+use Rattle.closing.specs.Endings.{AllClosed}
+use Rattle.closing.specs.RawEnds.{AreRawsOf, TookRaws}
+use Rattle.closing.specs.Wholes.{HasWholes}
+use Rattle.end_steps.specs.Splits.{AllThree}
+use Rattle.processor.specs.declared.shared.Shared.{Shared}
+use Rattle.processor.specs.declared.station.Parts.{Parts}
+use Rattle.processor.specs.declared.station.Station.{Station}
+use Rattle.processor.specs.Logs.{Leaves}
+use Rattle.processor.specs.Programs.{hear_count}
+use Rattle.processor.specs.Stations.{ArePartsOf}
+use Rattle.processor.specs.Turns.{heard_lines}
+use Rattle.processor.specs.Running.{Line}
+use Rattle.quajects.specs.declared.raw.RawTty.{RawTty}
+use Rattle.reporting.specs.declared.ttys.Typed.{Typed}
+use Rattle.reporting.specs.Reported.{IsReported}
+use Rattle.reporting.proofs.Shutting.{ends, heard_is_few}
+use Rattle.reports.specs.Closings.{BootShut, closed_shut}
+use Rattle.reports.specs.Stations.{AllJoined}
+use Rattle.reports.proofs.Booting.{report_agrees}
+use Rattle.reports.proofs.Wholes.{has_wholes}
+use Rattle.spsc_line.specs.declared.line_in.LineIn.{LineIn}
+use Rattle.spsc_line.specs.Lines.{IsLine}
+use Rattle.kernel_threads.specs.declared.work.Work.{Work}
+use Rattle.kernel_threads.specs.declared.work.Worked.{Worked}
+use Rattle.kernel_threads.specs.declared.work.Worked.TheVariants as worked
+use Rattle.kernel_threads.specs.Backs.{CameTogether, parts_of, back_of}
+use Rattle.kernel_threads.specs.Crews.{GaveBack}
+use Rattle.kernel_threads.specs.Readiness.{input_of}
+use Rattle.kernel_threads.specs.Stationings.{ArePosted}
+use Rattle.kernel_threads.specs.Typings.{AreTyped}
+use Rattle.kernel_threads.specs.Works.{HasWorked}
+use Rattle.kernel_threads.proofs.Allowing.{as_many_posts}
+use Rattle.kernel_threads.proofs.Firstness.{all_back}
+use Rattle.kernel_threads.proofs.Returning.{posts_first}
+use Rattle.kernel_threads.proofs.Reunion.{came_together}
+use Rattle.synth_kernel.specs.declared.gathering.Served.{Served}
+use Rattle.synth_kernel.specs.declared.ready.Ready.{Ready}
+use Rattle.synth_kernel.specs.Boots.{IsBootOf}
+use Rattle.synth_kernel.specs.Gatherings.{stations_in, served_in, all_there, tty_of, IsTold}
+use Rattle.synth_kernel.specs.Readies.{IsReady}
+use Rattle.synth_kernel.proofs.Backs.{Sorted, few_back, sort_back, stations_are, served_are, first_back}
+use Rattle.synth_kernel.proofs.Facts.{did_of, lines_pair, raws_are, kept_shares, devices_ended, devices_shown}
+
+-- each station that came back is of the shared objects
+parts_all : {G : Type 0} (shared : Shared) (p turns : ℕ) (gates : List G) (old new : Parts) (posts : List (Work G)) (stations : List Station) → ArePosted shared p turns gates old new posts
+    → AllZip (GaveBack (HasWorked {G = G}) shared) posts (map back_of stations) → All (ArePartsOf shared) (map parts_of stations)
+parts_all shared p turns gates old new posts [] a z k d l = absurd (omega arith)
+parts_all shared p turns [] old new [] (s ∷ stations) a z k d l = absurd z
+parts_all shared p turns (g ∷ gates) old new [] (s ∷ stations) a z k d l = absurd a
+parts_all shared p turns [] old new (w ∷ posts) (s ∷ stations) a z k d l = absurd a
+parts_all {G} shared p turns (g ∷ gates) old new (w ∷ posts) (s ∷ stations) a z zero d l = let r = subst (λ (x : Work G). GaveBack (HasWorked {G = G}) shared x (Some (worked.Processed s))) a.1.is z.0 in r.usable.parts
+parts_all shared p turns (g ∷ gates) old new (w ∷ posts) (s ∷ stations) a z (suc k) d l = parts_all shared (p + 1) turns gates a.0 new posts stations a.2 z.1 k d (omega arith)
+
+module _ {A B : Type 0} (R : A → B → Type 0) where
+  logs_long : (xs : List A) (ys : List B) → AllZip R xs ys → length xs ≡ length ys
+  logs_long [] [] h = refl
+  logs_long [] (y ∷ ys) h = absurd h
+  logs_long (x ∷ xs) [] h = absurd h
+  logs_long (x ∷ xs) (y ∷ ys) h = ap suc (logs_long xs ys h.1)
+
+module _ {G : Type 0} (plan : BootPlan) (turns : ℕ) (gates : List G) (ready : Ready G) (r : IsReady plan turns gates ready) (backs : List (Option Worked)) (inputs : List LineIn)
+    (gave : AllZip (GaveBack (HasWorked {G = G}) ready.shared) ready.works.items backs) (typed : AreTyped ready.shared.plan.ttys (drop (length gates) backs) ready.inputs.items inputs) where
+  posts_long : length r.posts ≡ length gates
+  posts_long = as_many_posts ready.shared 0 turns gates r.first ready.station.parts r.posts r.posted
+
+  pub few_came : (length (stations_in backs) ≤ length gates) × (length (served_in backs) ≤ length ready.shared.plan.ttys)
+  few_came = let f = few_back ready.shared 0 turns gates r.first ready.station.parts ready.shared.plan.ttys r.devices r.posts ready.works.items backs r.posted r.works gave in
+      (subst (λ (z : ℕ). length (stations_in backs) ≤ z) posts_long f.0, f.1)
+
+  typed_in : AreTyped ready.shared.plan.ttys (drop (length r.posts) backs) (map input_of r.devices) inputs
+  typed_in = subst (λ (z : ℕ). AreTyped ready.shared.plan.ttys (drop z backs) (map input_of r.devices) inputs) (sym posts_long)
+      (subst (λ (z : List LineIn). AreTyped ready.shared.plan.ttys (drop (length gates) backs) z inputs) r.inputs typed)
+
+  module _ (all : all_there backs ≡ true) where
+    pub its : Sorted (length r.posts) (length ready.shared.plan.ttys) backs
+    its = sort_back ready.shared 0 turns gates r.first ready.station.parts ready.shared.plan.ttys r.devices r.posts ready.works.items backs r.posted r.works gave all
+
+    pub stations_came : stations_in backs ≡ its.stations
+    stations_came = stations_are (length r.posts) (length ready.shared.plan.ttys) backs its
+
+    pub served_came : served_in backs ≡ its.served
+    served_came = served_are (length r.posts) (length ready.shared.plan.ttys) backs its
+
+    ran : AllZip (GaveBack (HasWorked {G = G}) ready.shared) r.posts (map back_of its.stations)
+    ran = subst (AllZip (GaveBack (HasWorked {G = G}) ready.shared) r.posts) (first_back (length r.posts) (length ready.shared.plan.ttys) backs its)
+        (posts_first (GaveBack (HasWorked {G = G}) ready.shared) ready.shared.plan.ttys r.devices r.posts ready.works.items backs r.works gave)
+
+    pub lines_came : AllZip (λ (one : Served) (input : LineIn). IsLine input one.line) its.served inputs
+    lines_came = lines_pair ready.shared r.devices r.posts ready.works.items backs inputs r.devices_are r.works gave typed_in its
+
+    pub parts_came : All (ArePartsOf ready.shared) (map parts_of its.stations)
+    parts_came = parts_all ready.shared 0 turns gates r.first ready.station.parts r.posts its.stations r.posted ran
+
+    pub raws_came : AreRawsOf ready.shared (map tty_of its.served)
+    raws_came = raws_are ready.shared r.devices r.posts ready.works.items backs inputs r.devices_are r.works gave typed_in its
+
+    module _ (last : Parts) (joined : AllJoined ready.station.parts (map parts_of its.stations) last) where
+      came : CameTogether ready.shared r.first last (map parts_of its.stations)
+      came = came_together ready.shared turns gates r.first ready.station.parts last r.posts its.stations r.posted ran joined r.none_on r.free
+
+      pub wholes : (parts : Parts) → ArePartsOf ready.shared parts → TookRaws (length ready.shared.plan.queues) (length ready.shared.plan.movers) (map tty_of its.served) last parts → HasWholes ready.shared parts
+      wholes parts are took =
+          let back = all_back ready.shared.plan ready.shared.threads ready.shared.meters r.made r.first last r.hand r.seat r.first_is came.shares in
+          has_wholes ready.shared r.made last r.devices (map tty_of its.served) parts (record {
+            made = r.whole;
+            its_devices = r.devices_are;
+            small = back.2.small;
+            large = back.2.large;
+            chains = back.2.chains;
+            all_ttys = length-map its.served tty_of ∙ (its.ttys_are ∙ sym r.devices_are.number);
+            ttys_share = kept_shares ready.shared r.devices r.posts ready.works.items backs inputs r.devices_are r.works gave typed_in its;
+            took = took;
+            its = are;
+            hand = back.0;
+            meters = back.1;
+          })
+
+      module _ (some : 1 ≤ length gates) (its_parts : ArePartsOf ready.shared last) (told : List Typed) (tolds : AllThree IsTold its.served inputs told) (parts : Parts)
+          (took : TookRaws (length ready.shared.plan.queues) (length ready.shared.plan.movers) (map tty_of its.served) last parts) (ended : Ended) (closes : AllClosed ready.shared parts ended) where
+        many : length (map parts_of its.stations) ≡ length gates
+        many = length-map its.stations parts_of ∙ (its.posts_are ∙ posts_long)
+
+        shut : BootShut ready.shared came.logs ready.station.parts (map parts_of its.stations) last (map tty_of its.served) (map did_of its.served) parts ended
+        shut = record {
+          left = came.left;
+          some_processor = let m = many in omega arith;
+          prepared = r.prepared;
+          joined = joined;
+          free = came.free;
+          its = its_parts;
+          all_ttys = (length-map its.served tty_of ∙ its.ttys_are, length-map its.served did_of ∙ its.ttys_are);
+          ttys_ended = devices_ended ready.shared r.devices r.posts ready.works.items backs inputs r.devices_are r.works gave typed_in its told tolds;
+          took = took;
+          closed = closes;
+          quajects = r.quajects;
+        }
+
+        pub few_lines : length (flat_map heard_lines (map parts_of its.stations)) ≤ hear_count ready.shared.plan
+        few_lines = heard_is_few ready.shared came.logs ready.station.parts (map parts_of its.stations) last (map tty_of its.served) (map did_of its.served) parts ended shut []
+
+        pub booted : (report : Report) → IsReported ended (flat_map heard_lines (map parts_of its.stations)) told report → IsBootOf plan (length gates) report
+        booted report reported =
+            let e = ends ready.shared came.logs ready.station.parts (map parts_of its.stations) last (map tty_of its.served) (map did_of its.served) parts ended shut told report
+            (devices_shown ready.shared r.devices r.posts ready.works.items backs inputs r.devices_are r.works gave typed_in its told tolds) reported in
+            subst (λ (z : BootPlan). IsBootOf z (length gates) report) r.plan_is (record {
+              closed = closed_shut ready.shared came.logs ready.station.parts (map parts_of its.stations) last (map tty_of its.served) (map did_of its.served) parts ended shut;
+              logs = came.logs;
+              heard = reported.heard;
+              number = logs_long (Leaves ready.shared.plan) came.logs (map parts_of its.stations) came.left ∙ many;
+              agrees = report_agrees _ _ _ _ _ _ e;
+            })
+
+    -- the same of the lists that were sorted out
+    module _ (stations : List Station) (served : List Served) (se : stations ≡ stations_in backs) (de : served ≡ served_in backs) where
+      same_s : its.stations ≡ stations
+      same_s = sym (se ∙ stations_came)
+
+      same_d : its.served ≡ served
+      same_d = sym (de ∙ served_came)
+
+      pub lines_sorted : AllZip (λ (one : Served) (input : LineIn). IsLine input one.line) served inputs
+      lines_sorted = subst (λ (z : List Served). AllZip (λ (one : Served) (input : LineIn). IsLine input one.line) z inputs) same_d lines_came
+
+      pub parts_sorted : All (ArePartsOf ready.shared) (map parts_of stations)
+      parts_sorted = subst (λ (z : List Station). All (ArePartsOf ready.shared) (map parts_of z)) same_s parts_came
+
+      pub few_served : length served ≤ length ready.shared.plan.ttys
+      few_served = let l = ap length de in let f = few_came.1 in omega arith
+
+      pub few_stations : length stations ≤ length gates
+      few_stations = let l = ap length se in let f = few_came.0 in omega arith
+
+      module _ (ttys : List RawTty) (te : ttys ≡ map tty_of served) where
+        same_t : ttys ≡ map tty_of its.served
+        same_t = te ∙ ap (map tty_of) (sym same_d)
+
+        pub raws_sorted : AreRawsOf ready.shared ttys
+        raws_sorted = subst (AreRawsOf ready.shared) (sym same_t) raws_came
+
+        module _ (last : Parts) (joined : AllJoined ready.station.parts (map parts_of stations) last) where
+          joined_same : AllJoined ready.station.parts (map parts_of its.stations) last
+          joined_same = subst (λ (z : List Station). AllJoined ready.station.parts (map parts_of z) last) (sym same_s) joined
+
+          took_same : (parts : Parts) → TookRaws (length ready.shared.plan.queues) (length ready.shared.plan.movers) ttys last parts
+              → TookRaws (length ready.shared.plan.queues) (length ready.shared.plan.movers) (map tty_of its.served) last parts
+          took_same parts took = subst (λ (z : List RawTty). TookRaws (length ready.shared.plan.queues) (length ready.shared.plan.movers) z last parts) same_t took
+
+          pub wholes_sorted : (parts : Parts) → ArePartsOf ready.shared parts → TookRaws (length ready.shared.plan.queues) (length ready.shared.plan.movers) ttys last parts → HasWholes ready.shared parts
+          wholes_sorted parts are took = wholes last joined_same parts are (took_same parts took)
+
+          module _ (some : 1 ≤ length gates) (its_parts : ArePartsOf ready.shared last) (told : List Typed) (tolds : AllThree IsTold served inputs told) (parts : Parts)
+              (took : TookRaws (length ready.shared.plan.queues) (length ready.shared.plan.movers) ttys last parts) (ended : Ended) (closes : AllClosed ready.shared parts ended) where
+            tolds_same : AllThree IsTold its.served inputs told
+            tolds_same = subst (λ (z : List Served). AllThree IsTold z inputs told) (sym same_d) tolds
+
+            pub few_sorted : (lines : List Line) → lines ≡ flat_map heard_lines (map parts_of stations) → length lines ≤ hear_count ended.plan
+            few_sorted lines e =
+                let f = few_lines last joined_same some its_parts told tolds_same parts (took_same parts took) ended closes in
+                subst (λ (z : BootPlan). length lines ≤ hear_count z) (sym closes.rest.2)
+                (subst (λ (z : List Line). length z ≤ hear_count ready.shared.plan) (ap (λ (z : List Station). flat_map heard_lines (map parts_of z)) same_s ∙ sym e) f)
+
+            pub booted_sorted : (lines : List Line) → lines ≡ flat_map heard_lines (map parts_of stations) → (report : Report) → IsReported ended lines told report → IsBootOf plan (length gates) report
+            booted_sorted lines e report reported = booted last joined_same some its_parts told tolds_same parts (took_same parts took) ended closes report
+                (subst (λ (z : List Line). IsReported ended z told report) (e ∙ ap (λ (z : List Station). flat_map heard_lines (map parts_of z)) (sym same_s)) reported)

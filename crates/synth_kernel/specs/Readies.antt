@@ -1,0 +1,61 @@
+-- What a boot has before its threads start.
+use Rattle.std.specs.Prelude.{◌≡◌, ◌+◌, ◌<◌, ◌≤◌, ℕ, List, [], map, length, vec_capacity}
+use Rattle.std.specs.List.{All}
+use Rattle.boot_script.specs.declared.boot_plan.BootPlan.{BootPlan}
+use Rattle.closing.specs.Rooms as closing
+use Rattle.hand_steps.specs.Holdings.{IsFree}
+use Rattle.objects.specs.declared.device.Device.{Device}
+use Rattle.objects.specs.Devices.{AreDevicesOf}
+use Rattle.objects.specs.Objects.{AreQuajectsOf, HaveAll, IsFirstHand, IsFirstSeat, quajects_of}
+use Rattle.processor.specs.declared.shared.Shared.{Shared}
+use Rattle.processor.specs.declared.station.Parts.{Parts}
+use Rattle.processor.specs.Stations.{ArePartsOf}
+use Rattle.reporting.specs.Rooms as reporting
+use Rattle.reports.specs.Stations.{IsPrepared}
+use Rattle.thread_table.specs.Handles.{view_of}
+use Rattle.kernel_threads.specs.declared.work.Work.{Work}
+use Rattle.kernel_threads.specs.Readiness.{AreServing, HasPrepared, input_of}
+use Rattle.kernel_threads.specs.Stationings.{NoneOn, ArePosted}
+use Rattle.kernel_threads.specs.Works.{MayWork}
+use Rattle.synth_kernel.specs.declared.ready.Ready.{Ready}
+use Rattle.synth_kernel.specs.declared.ready.Room.{Room}
+
+-- The lists are empty, and have room for what so many processors and the devices of the plan give back, for the answers
+-- of closing all, and for the report
+pub record HasPlaces (shared : Shared) (processors : ℕ) (room : Room) : Type 0 where
+  pub backs : (room.backs.items ≡ []) × (processors + length shared.plan.ttys ≤ vec_capacity room.backs)
+  pub typed : (room.typed.items ≡ []) × (length shared.plan.ttys ≤ vec_capacity room.typed)
+  pub stations : (room.stations.items ≡ []) × (processors ≤ vec_capacity room.stations)
+  pub served : (room.served.items ≡ []) × (length shared.plan.ttys ≤ vec_capacity room.served)
+  pub ttys : (room.ttys.items ≡ []) × (length shared.plan.ttys ≤ vec_capacity room.ttys)
+  pub heards : (room.heards.items ≡ []) × (processors ≤ vec_capacity room.heards)
+  pub told : (room.told.items ≡ []) × (length shared.plan.ttys ≤ vec_capacity room.told)
+  pub answers : closing.HaveRoom shared room.answers
+  pub report : reporting.HasAllRoom shared.plan room.report
+
+-- All objects of the plan were made, with all their shares at the first station, the devices and the quajects. The
+-- station was prepared, gave each processor one of its own. Each processor and each device has its
+-- work, which may be done
+pub record IsReady {G : Type 0} (plan : BootPlan) (turns : ℕ) (gates : List G) (ready : Ready G) : Type 0 where
+  pub plan_is : ready.shared.plan ≡ plan
+  pub quajects : AreQuajectsOf ready.shared.plan ready.shared.queues (quajects_of ready.shared.chains.items)
+  pub devices : List Device
+  pub devices_are : AreDevicesOf ready.shared.plan ready.shared.queues ready.shared.chains.items devices
+  pub made : Parts
+  pub hand : IsFirstHand ready.shared.threads made.hand
+  pub seat : IsFirstSeat ready.shared.meters made.meters
+  pub whole : HaveAll ready.shared.queues ready.shared.chains.items made.small.items made.large.items made.chains.items
+      devices
+  pub first : Parts
+  pub first_is : HasPrepared ready.shared.plan made first
+  pub posts : List (Work G)
+  pub posted : ArePosted ready.shared 0 turns gates first ready.station.parts posts
+  pub works : AreServing ready.shared.plan.ttys devices posts ready.works.items
+  pub may : All (MayWork ready.shared) ready.works.items
+  pub number : length ready.works.items ≡ length gates + length ready.shared.plan.ttys
+  pub inputs : ready.inputs.items ≡ map input_of devices
+  pub parts : ArePartsOf ready.shared ready.station.parts
+  pub prepared : IsPrepared ready.shared.plan ready.station.parts
+  pub none_on : NoneOn ready.station.parts
+  pub free : (k : ℕ) → length gates ≤ k → k < 8 → IsFree k (view_of ready.station.parts.hand)
+  pub room : HasPlaces ready.shared (length gates) ready.room

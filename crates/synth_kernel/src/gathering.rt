@@ -1,0 +1,133 @@
+//! What the threads of a kernel gave back, joined.
+ghost use Rattle.std.specs.Prelude.{◌≡◌, ◌≤◌, ◌+◌, ◌++◌, [], ◌∷◌, false, true, length, map, vec_capacity, Option, Some, None, IfSome};
+ghost use Rattle.std.specs.List.{All, AllZip, flat_map};
+ghost use Rattle.processor.specs.Stations.{ArePartsOf};
+ghost use Rattle.kernel_threads.specs.Backs.{parts_of};
+ghost use Rattle.processor.specs.Turns.{heard_lines};
+ghost use Rattle.reporting.specs.Reported.{lines_of};
+ghost use Rattle.reports.specs.Stations.{AllJoined};
+ghost use Rattle.synth_kernel.specs.Gatherings.{stations_in, served_in, all_there, tty_of, IsTold};
+ghost use Rattle.end_steps.specs.Splits.{AllThree};
+ghost use Rattle.spsc_line.specs.Lines.{IsLine};
+
+use kernel_threads::Worked;
+use processor::{Heard, Shared, Station};
+use quajects::RawTty;
+use reporting::Typed;
+use spsc_line::{LineIn, LineOut, finish};
+
+/// What a device gave back: the end of its line from which it popped, and its raw tty.
+#[derive(Drop)]
+pub(crate) struct Served {
+    pub(crate) line: LineOut,
+    pub(crate) tty: RawTty,
+}
+
+// What a thread gave back goes to its list.
+fn sort_back(back: Worked, stations: &mut Vec<Station>, served: &mut Vec<Served>)
+    requires stations { length (stations.old.items ++ stations_in (Some back ∷ [])) ≤ vec_capacity stations.old }
+    requires served { length (served.old.items ++ served_in (Some back ∷ [])) ≤ vec_capacity served.old }
+    ensures stations { stations.new.items ≡ stations.old.items ++ stations_in (Some back ∷ []) }
+    ensures served { served.new.items ≡ served.old.items ++ served_in (Some back ∷ []) }
+    ensures room { (vec_capacity stations.new ≡ vec_capacity stations.old) × (vec_capacity served.new ≡ vec_capacity served.old) }
+{
+    match back {
+        Worked::Processed(station) => stations.push_reserved(station),
+        Worked::Served { line, tty } => served.push_reserved(Served { line, tty }),
+    }
+}
+
+/// The stations of the processors, and what the devices gave back, each in their order. None where a thread gave
+/// nothing back, since it couldn't be started. It takes no memory: both lists have room.
+pub(crate) fn sort_backs(
+    backs: Vec<Option<Worked>>,
+    stations: Vec<Station>,
+    served: Vec<Served>,
+) -> Option<(Vec<Station>, Vec<Served>)>
+    requires stations { (stations.items ≡ []) × (length (stations_in backs.items) ≤ vec_capacity stations) }
+    requires served { (served.items ≡ []) × (length (served_in backs.items) ≤ vec_capacity served) }
+    ensures sorted { IfSome result (λ r. (r.0.items ≡ stations_in backs.items) × (r.1.items ≡ served_in backs.items)
+        × (all_there backs.items ≡ true)) }
+    ensures missing { result ≡ None → all_there backs.items ≡ false }
+{
+    let mut stations = stations;
+    let mut served = served;
+    let mut all = true;
+    for back in backs {
+        match back {
+            Some(back) => sort_back(back, &mut stations, &mut served),
+            None => all = false,
+        }
+    }
+    if all { Some((stations, served)) } else { None }
+}
+
+/// Joins all these stations to the first, one after the other. What each heard goes into `heards`, in their order, which
+/// is empty and has room for them, so it takes no memory.
+///
+/// Conditions: all stations are of `shared`.
+pub(crate) fn join_stations(
+    shared: &Shared,
+    first: Station,
+    stations: Vec<Station>,
+    heards: Vec<Vec<Heard>>,
+) -> (Station, Vec<Vec<Heard>>)
+    requires first { ArePartsOf shared.now first.parts }
+    requires stations { All (ArePartsOf shared.now) (map parts_of stations.items) }
+    requires room { (heards.items ≡ []) × (length stations.items ≤ vec_capacity heards) }
+    ensures parts { ArePartsOf shared.now result.0.parts }
+    ensures joined { AllJoined first.parts (map parts_of stations.items) result.0.parts }
+    ensures heard { flat_map lines_of result.1.items ≡ flat_map heard_lines (map parts_of stations.items) }
+{
+    let mut first = first;
+    let mut heards = heards;
+    for station in stations {
+        heards.push_reserved(first.join(shared, station));
+    }
+    (first, heards)
+}
+
+// Ends the line of a device, and tells what it did.
+fn finish_one(input: LineIn, served: Served) -> (RawTty, Typed)
+    requires { IsLine input served.line }
+    ensures tty { result.0 ≡ served.tty }
+    ensures told { IsTold served input result.1 }
+{
+    let Served { line, tty } = served;
+    let totals = finish(input, line);
+    let told = Typed {
+        popped: totals.received as u64,
+        refused: tty.overruns(),
+    };
+    (tty, told)
+}
+
+/// Ends the lines of all devices, and tells what each did, in their order. The raw ttys go into `ttys`, and what is told
+/// into `told`; both are empty and have room, so it takes no memory.
+///
+/// Conditions: there is an input for each device, in their order, which is that of its line.
+pub(crate) fn finish_all(
+    inputs: Vec<LineIn>,
+    served: Vec<Served>,
+    ttys: Vec<RawTty>,
+    told: Vec<Typed>,
+) -> (Vec<RawTty>, Vec<Typed>)
+    requires lines { AllZip (λ one input. IsLine input one.line) served.items inputs.items }
+    requires ttys { (ttys.items ≡ []) × (length served.items ≤ vec_capacity ttys) }
+    requires told { (told.items ≡ []) × (length served.items ≤ vec_capacity told) }
+    ensures ttys { result.0.items ≡ map tty_of served.items }
+    ensures told { AllThree IsTold served.items inputs.items result.1.items }
+{
+    let mut ttys = ttys;
+    let mut told = told;
+    let mut inputs = inputs.into_iter();
+    for one in served {
+        let Some(input) = inputs.next() else {
+            unreachable!()
+        };
+        let (tty, what) = finish_one(input, one);
+        ttys.push_reserved(tty);
+        told.push_reserved(what);
+    }
+    (ttys, told)
+}

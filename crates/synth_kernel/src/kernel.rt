@@ -1,0 +1,206 @@
+//! A boot, from the bytes of its script to the printed report.
+ghost use Rattle.std.specs.Prelude.{◌≡◌, ◌≢◌, ◌≤◌, ℕ, vec_len, IfOk, IfErr, IfSome, OnOk};
+ghost use Rattle.std.specs.Io.KnownBytes.{Appends, Keeps};
+ghost use Rattle.boot_script.specs.Answers.{Says};
+ghost use Rattle.boot_script.specs.BootPlans.{plan_of};
+ghost use Rattle.boot_script.specs.Plans.{text_plan};
+ghost use Rattle.synth_kernel.specs.Boots.{IsBoot, IsBootFault, IsBootAnswer, IsRun, IsRead, IsLate};
+
+use crate::booting::boot_plan;
+use crate::outcome::{BootFault, Ended};
+use boot_script::{BootPlan, ScriptRefusal, parse_boot, print_report, read_script};
+use end_steps::{Gate, NoGate};
+use quaject_core::OutOfMemory;
+use reporting::live_of;
+use std::alloc::Global;
+use std::io::{Read, Write};
+use std::sync::Wait;
+use std::thread::Threads;
+
+/// How many bytes a script may have, and one more.
+const BUFFER_BYTES: usize = 65_537;
+
+// The plan that a text says.
+fn plan_said(alloc: Global, text: &[u8]) -> Result<BootPlan, BootFault>
+    ensures read { IsRead (text_plan text.now) result }
+    ensures unwritten { IfErr result (λ fault. fault ≢ BootFault.Write) }
+{
+    match parse_boot(alloc, text) {
+        Ok(plan) => Ok(plan),
+        Err(fault) => match fault.refusal {
+            ScriptRefusal::OutOfMemory => Err(BootFault::Memory),
+            _ => Err(BootFault::Script(fault)),
+        },
+    }
+}
+
+// The plan that is read.
+fn read_plan<I: Read>(alloc: Global, reader: &mut I) -> Result<BootPlan, BootFault>
+    ensures read { IfSome (I.remaining reader.old) (λ bytes. IsRead (text_plan bytes) result) }
+    ensures unwritten { IfErr result (λ fault. fault ≢ BootFault.Write) }
+{
+    let mut buffer = [0u8; BUFFER_BYTES];
+    let filled = read_script(reader, &mut buffer)?;
+    plan_said(alloc, &buffer[..filled])
+}
+
+// Boots a plan, and prints the report.
+fn boot_and_print<R, O, G>(
+    rt: &R,
+    alloc: Global,
+    plan: BootPlan,
+    writer: &mut O,
+    turns: u32,
+    gates: Vec<G>,
+) -> Result<Ended, BootFault>
+where
+    R: Threads + Wait + Sync,
+    O: Write,
+    G: Gate + Send + Drop,
+    requires gates { (1 ≤ vec_len gates) × (vec_len gates ≤ 8) }
+    ensures ok { IfOk result (λ ended. IsRun plan (vec_len gates) ended (O.contents writer.old)
+        (O.contents writer.new)) }
+    ensures fault { IfErr result (λ fault. IsLate fault) }
+    ensures unwritten { IfErr result (λ fault. fault ≢ BootFault.Write
+        → Keeps (O.contents writer.old) (O.contents writer.new)) }
+{
+    let report = boot_plan(rt, alloc, plan, turns, gates)?;
+    match print_report(&report, writer) {
+        Ok(()) => match live_of(&report) {
+            0 => Ok(Ended::AllEnded),
+            live => Ok(Ended::Unfinished { live }),
+        },
+        Err(_) => Err(BootFault::Write),
+    }
+}
+
+// So many gates that do nothing.
+fn no_gates(alloc: Global, processors: u8) -> Result<Vec<NoGate>, OutOfMemory>
+    ensures { IfOk result (λ gates. vec_len gates ≡ processors) }
+{
+    let mut gates = Vec::with_capacity(alloc, processors as usize)?;
+    for number in 0..processors {
+        gates.push_reserved(NoGate);
+    }
+    Ok(gates)
+}
+
+/// Boots the script that is read on so many processors, with so many turns on each, and prints the report.
+///
+/// After a fault other than `Write` nothing was written. `Memory` is answered only where the text has no fault: an
+/// allocation was refused, or a thread could not be started.
+///
+/// Condition: there are 1 to 8 processors.
+pub fn boot_on<R, I, O>(
+    rt: &R,
+    alloc: Global,
+    reader: &mut I,
+    writer: &mut O,
+    processors: u8,
+    turns: u32,
+) -> Result<Ended, BootFault>
+where
+    R: Threads + Wait + Sync,
+    I: Read,
+    O: Write,
+    requires { (1 ≤ processors) × (processors ≤ 8) }
+    ensures ok { IfOk result (λ ended. IfSome (I.remaining reader.old) (λ bytes. IsBoot (text_plan bytes)
+        processors ended (O.contents writer.old) (O.contents writer.new))) }
+    ensures fault { IfErr result (λ fault. IfSome (I.remaining reader.old) (λ bytes. IsBootFault
+        (text_plan bytes) fault)) }
+    ensures unwritten { IfErr result (λ fault. fault ≢ BootFault.Write
+        → Keeps (O.contents writer.old) (O.contents writer.new)) }
+{
+    let plan = read_plan(alloc, reader)?;
+    let gates = no_gates(alloc, processors)?;
+    boot_and_print(rt, alloc, plan, writer, turns, gates)
+}
+
+/// The same with a gate for each processor, from 0 on, which the processor calls between the parts of its turns.
+///
+/// Conditions: there are 1 to 8 processors, and a gate for each.
+pub fn boot_on_with<R, I, O, G>(
+    rt: &R,
+    alloc: Global,
+    reader: &mut I,
+    writer: &mut O,
+    processors: u8,
+    turns: u32,
+    gates: Vec<G>,
+) -> Result<Ended, BootFault>
+where
+    R: Threads + Wait + Sync,
+    I: Read,
+    O: Write,
+    G: Gate + Send + Drop,
+    requires number { (1 ≤ processors) × (processors ≤ 8) }
+    requires gates { vec_len gates ≡ processors }
+    ensures ok { IfOk result (λ ended. IfSome (I.remaining reader.old) (λ bytes. IsBoot (text_plan bytes)
+        processors ended (O.contents writer.old) (O.contents writer.new))) }
+    ensures fault { IfErr result (λ fault. IfSome (I.remaining reader.old) (λ bytes. IsBootFault
+        (text_plan bytes) fault)) }
+    ensures unwritten { IfErr result (λ fault. fault ≢ BootFault.Write
+        → Keeps (O.contents writer.old) (O.contents writer.new)) }
+{
+    let plan = read_plan(alloc, reader)?;
+    boot_and_print(rt, alloc, plan, writer, turns, gates)
+}
+
+/// The same as `boot_on`, of a reader and a writer that are handed over.
+///
+/// Condition: there are 1 to 8 processors.
+pub fn boot<R, I, O>(
+    rt: &R,
+    alloc: Global,
+    mut reader: I,
+    mut writer: O,
+    processors: u8,
+    turns: u32,
+) -> Result<Ended, BootFault>
+where
+    R: Threads + Wait + Sync,
+    I: Read + Drop,
+    O: Write + Drop,
+    requires { (1 ≤ processors) × (processors ≤ 8) }
+    ensures ok { IfOk result (λ ended. IfSome (I.remaining reader) (λ bytes. IsBootAnswer (text_plan bytes)
+        processors ended)) }
+    ensures fault { IfErr result (λ fault. IfSome (I.remaining reader) (λ bytes. IsBootFault (text_plan bytes)
+        fault)) }
+{
+    boot_on(rt, alloc, &mut reader, &mut writer, processors, turns)
+}
+
+/// The same as `boot_on_with`, of a reader and a writer that are handed over.
+///
+/// Conditions: there are 1 to 8 processors, and a gate for each.
+pub fn boot_with<R, I, O, G>(
+    rt: &R,
+    alloc: Global,
+    mut reader: I,
+    mut writer: O,
+    processors: u8,
+    turns: u32,
+    gates: Vec<G>,
+) -> Result<Ended, BootFault>
+where
+    R: Threads + Wait + Sync,
+    I: Read + Drop,
+    O: Write + Drop,
+    G: Gate + Send + Drop,
+    requires number { (1 ≤ processors) × (processors ≤ 8) }
+    requires gates { vec_len gates ≡ processors }
+    ensures ok { IfOk result (λ ended. IfSome (I.remaining reader) (λ bytes. IsBootAnswer (text_plan bytes)
+        processors ended)) }
+    ensures fault { IfErr result (λ fault. IfSome (I.remaining reader) (λ bytes. IsBootFault (text_plan bytes)
+        fault)) }
+{
+    boot_on_with(
+        rt,
+        alloc,
+        &mut reader,
+        &mut writer,
+        processors,
+        turns,
+        gates,
+    )
+}

@@ -1,0 +1,64 @@
+//! How a boot ends.
+
+ghost use Rattle.std.specs.Prelude.{◌≡◌, Some};
+ghost use Rattle.synth_kernel.specs.declared.outcome.BootFault.TheVariants as faults;
+
+use boot_script::{ReadFault, ScriptFault};
+use quaject_core::OutOfMemory;
+use std::error::Error as StdError;
+use std::fmt;
+
+/// How a boot ended whose report was printed.
+#[derive(Clone, Copy, Debug, PartialEq, Eq)]
+pub enum Ended {
+    /// All threads have ended.
+    AllEnded,
+    /// So many have not.
+    Unfinished { live: usize },
+}
+
+/// Why a boot printed no report. Nothing was written, but where the fault is `Write`.
+#[derive(Clone, Copy, Debug, PartialEq, Eq)]
+pub enum BootFault {
+    /// The script is at fault.
+    Script(ScriptFault),
+    /// A growth was refused, or a thread couldn't be started, and the script is not at fault.
+    Memory,
+    /// The reader failed, or there were more than 131,072 reads.
+    Read,
+    /// The writer failed. A front of the report may be written.
+    Write,
+}
+
+impl fmt::Display for BootFault {
+    ghost use Rattle.synth_kernel.specs.Faults.{boot_fault_text};
+
+    ghost output = { λ fault. Some (boot_fault_text fault) };
+
+    fn fmt<W: fmt::Write>(&self, f: &mut fmt::Formatter<W>) -> fmt::Result {
+        match self {
+            BootFault::Script(fault) => write!(f, "{fault}"),
+            BootFault::Memory => write!(f, "no memory"),
+            BootFault::Read => write!(f, "read fault"),
+            BootFault::Write => write!(f, "write fault"),
+        }
+    }
+}
+
+impl StdError for BootFault {}
+
+impl From<ReadFault> for BootFault {
+    ghost from_gives = { λ _ fault. fault ≡ faults.Read };
+
+    fn from(_e: ReadFault) -> BootFault {
+        BootFault::Read
+    }
+}
+
+impl From<OutOfMemory> for BootFault {
+    ghost from_gives = { λ _ fault. fault ≡ faults.Memory };
+
+    fn from(_e: OutOfMemory) -> BootFault {
+        BootFault::Memory
+    }
+}

@@ -1,0 +1,112 @@
+//! What a boot has before its threads start, with the memory that it takes.
+ghost use Rattle.std.specs.Prelude.{◌≡◌, ◌≤◌, ◌+◌, length, vec_len, IfOk};
+ghost use Rattle.reporting.specs.Rooms.{HasAllRoom};
+ghost use Rattle.synth_kernel.specs.Readies.{HasPlaces, IsReady};
+
+use crate::gathering::Served;
+use boot_script::BootPlan;
+use closing::Answers;
+use end_steps::Gate;
+use kernel_threads::{Work, Worked, add_devices, post_all, prepare_station};
+use objects::{Objects, make_objects};
+use processor::{Heard, Shared, Station};
+use quaject_core::OutOfMemory;
+use quajects::RawTty;
+use reporting::{Room as ReportRoom, Typed};
+use spsc_line::LineIn;
+use std::alloc::Global;
+use std::sync::Wait;
+
+/// Room for what the threads give back, and for what is made of it.
+#[derive(Drop)]
+pub(crate) struct Room {
+    pub(crate) backs: Vec<Option<Worked>>,
+    pub(crate) typed: Vec<LineIn>,
+    pub(crate) stations: Vec<Station>,
+    pub(crate) served: Vec<Served>,
+    pub(crate) ttys: Vec<RawTty>,
+    pub(crate) heards: Vec<Vec<Heard>>,
+    pub(crate) told: Vec<Typed>,
+    pub(crate) answers: Answers,
+    pub(crate) report: ReportRoom,
+}
+
+/// All objects of a boot, what is left of the first station, the work of each processor and then that of each device,
+/// the ends of the lines into which the ttys' bytes are typed, and room.
+#[derive(Drop)]
+pub(crate) struct Ready<G> {
+    pub(crate) shared: Shared,
+    pub(crate) station: Station,
+    pub(crate) works: Vec<Work<G>>,
+    pub(crate) inputs: Vec<LineIn>,
+    pub(crate) room: Room,
+}
+
+// Room for what so many processors and the devices give back.
+fn make_room(
+    alloc: Global,
+    shared: &Shared,
+    processors: usize,
+    report: ReportRoom,
+) -> Result<Room, OutOfMemory>
+    requires few { processors ≤ 8 }
+    requires report { HasAllRoom shared.now.plan report }
+    ensures { IfOk result (HasPlaces shared.now processors) }
+{
+    let devices = shared.plan.ttys.as_slice().len();
+    let backs = Vec::with_capacity(alloc, processors + devices)?;
+    let typed = Vec::with_capacity(alloc, devices)?;
+    let stations = Vec::with_capacity(alloc, processors)?;
+    let served = Vec::with_capacity(alloc, devices)?;
+    let ttys = Vec::with_capacity(alloc, devices)?;
+    let heards = Vec::with_capacity(alloc, processors)?;
+    let told = Vec::with_capacity(alloc, devices)?;
+    let answers = Answers::new(alloc, shared)?;
+    Ok(Room {
+        backs,
+        typed,
+        stations,
+        served,
+        ttys,
+        heards,
+        told,
+        answers,
+        report,
+    })
+}
+
+/// Makes all that a plan asks for, prepares the thread elements and the alarms, and gives each gate's processor, from 0
+/// on, and each device its work. `OutOfMemory` comes only where an allocation was refused.
+///
+/// Condition: there are 8 gates at most.
+pub(crate) fn get_ready<R: Wait, G: Gate + Drop>(
+    rt: &R,
+    alloc: Global,
+    plan: BootPlan,
+    turns: u32,
+    gates: Vec<G>,
+) -> Result<Ready<G>, OutOfMemory>
+    requires { vec_len gates ≤ 8 }
+    ensures { IfOk result (IsReady plan turns gates.items) }
+{
+    let report = ReportRoom::new(alloc, &plan)?;
+    let Objects {
+        shared,
+        station,
+        devices,
+    } = make_objects(alloc, plan)?;
+    let processors = gates.len();
+    let works = Vec::with_capacity(alloc, processors + devices.len())?;
+    let inputs = Vec::with_capacity(alloc, devices.len())?;
+    let room = make_room(alloc, &shared, processors, report)?;
+    let mut station = prepare_station(rt, &shared, station);
+    let works = post_all(alloc, &shared, &mut station, turns, gates, works)?;
+    let (works, inputs) = add_devices(shared.plan.ttys.as_slice(), devices, works, inputs);
+    Ok(Ready {
+        shared,
+        station,
+        works,
+        inputs,
+        room,
+    })
+}

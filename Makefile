@@ -7,7 +7,4 @@ all:
 	tools/build
 
 test:
-	tools/refused-memory
-	tools/refused-memory-tests
-	tools/test-launcher
-	rt ci
+	tools/gate

@@ -1,6 +1,7 @@
 pub mod Counting
 pub mod Courses
 pub mod Ends
+pub mod Interleaving
 pub mod Leaving
 pub mod Listing
 pub mod Logs

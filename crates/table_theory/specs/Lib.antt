@@ -1,6 +1,7 @@
 pub mod Courses
 pub mod Ends
 pub mod Filing
+pub mod Interleaving
 pub mod Listing
 pub mod Members
 pub mod Positioned

@@ -12,8 +12,9 @@ ghost use Rattle.table_theory.specs.declared.queues.Positions.{Positions};
 ghost use Rattle.table_theory.specs.declared.queues.QueueView.{QueueView};
 ghost use Rattle.table_theory.specs.Positioned.{Lawful, head_of, left_of, fresh, written_at, with_claim, with_take};
 ghost use Rattle.table_theory.specs.Positioned.{blank, tail_of, with_shut, with_write};
-ghost use Rattle.table_theory.specs.Filing.{Owned, moved};
-ghost use Rattle.table_theory.specs.Listing.{ViewsShow, Later, written_to};
+ghost use Rattle.table_theory.specs.Filing.{Owned, entry_of, moved, ListedOnce};
+ghost use Rattle.table_theory.specs.Interleaving.{Ascending, joined, Interleaves};
+ghost use Rattle.table_theory.specs.Listing.{Chained, ViewsShow, Later, written_to};
 ghost use Rattle.table_theory.specs.QueueOf.{IsHistory, IsEvent, no_event, queue_of};
 
 /// The queue that a table's positions are is lawful, and each step of a table on its positions is one event of that
@@ -56,4 +57,13 @@ pub fn positions_are_queues()
         → IsEvent q (with_shut q) seat v w (λ c. Ok (shut c)) }
     ensures joined { (q : Positions) (call other count : ℕ) (runs : List (Owned Batch))
         → queue_of q (map (moved call other count) runs) ≡ join_queue call other (queue_of q runs) }
+{}
+
+/// Where each end lists its entries in their order, the log of all of them interleaves the ends' lists. So it is with the
+/// runs of a queue, and with its takings.
+pub fn logs_interleave()
+    ensures { (first : ℕ) (log : List (Owned Batch)) (lists : List (List Batch))
+        → Chained first log → ((k : ℕ) (o : Owned Batch) → get_elem? log k ≡ some o → 0 < length o.2.places)
+        → ListedOnce log (joined lists ∷ []) → ((k : ℕ) (l : List Batch) → get_elem? lists k ≡ some l → Ascending l)
+        → Interleaves (map entry_of log) lists }
 {}

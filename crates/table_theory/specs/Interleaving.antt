@@ -1,0 +1,20 @@
+-- Several lists, and one order of all their entries.
+use Rattle.std.specs.Prelude.{◌≡◌, ◌<◌, ℕ, List, [], ◌∷◌, ◌++◌, slice_set}
+use mathlib.Core.Option.{some}
+use lib.ListN.{get_elem?}
+use Rattle.table_theory.specs.declared.queues.Batch.{Batch}
+
+-- each stretch starts behind the one before it
+abbrev pub Ascending : List Batch → Type 0
+Ascending l = (m n : ℕ) (e f : Batch) → get_elem? l m ≡ some e → get_elem? l n ≡ some f → m < n → e.start < f.start
+
+-- the lists, one behind the other
+abbrev pub joined : {A : Type 0} → List (List A) → List A
+joined [] = []
+joined (l ∷ lists) = l ++ joined lists
+
+-- the order takes one entry after the other from the front of one of the lists, until all are empty
+abbrev pub Interleaves : {A : Type 0} → List A → List (List A) → Type 0
+Interleaves {A} [] lists = (k : ℕ) (l : List A) → get_elem? lists k ≡ some l → l ≡ []
+Interleaves {A} (x ∷ order) lists = (k : ℕ) × (rest : List A) × (get_elem? lists k ≡ some (x ∷ rest))
+    × Interleaves order (slice_set lists k rest)

@@ -6,6 +6,7 @@ pub mod Leaving
 pub mod Listing
 pub mod Logs
 pub mod Members
+pub mod Ordering
 pub mod Owned
 pub mod Positioned
 pub mod QueueEvents

@@ -1,5 +1,5 @@
 -- Several lists, and one order of all their entries.
-use Rattle.std.specs.Prelude.{◌≡◌, ◌<◌, ℕ, List, [], ◌∷◌, ◌++◌, slice_set}
+use Rattle.std.specs.Prelude.{◌≡◌, ◌<◌, ℕ, List, [], ◌∷◌, ◌++◌, length, slice_set}
 use mathlib.Core.Option.{some}
 use lib.ListN.{get_elem?}
 use Rattle.table_theory.specs.declared.queues.Batch.{Batch}
@@ -7,6 +7,10 @@ use Rattle.table_theory.specs.declared.queues.Batch.{Batch}
 -- each stretch starts behind the one before it
 abbrev pub Ascending : List Batch → Type 0
 Ascending l = (m n : ℕ) (e f : Batch) → get_elem? l m ≡ some e → get_elem? l n ≡ some f → m < n → e.start < f.start
+
+-- the stretches ascend, and each has a place
+abbrev pub InOrder : List Batch → Type 0
+InOrder l = Ascending l × ((m : ℕ) (e : Batch) → get_elem? l m ≡ some e → 0 < length e.places)
 
 -- the lists, one behind the other
 abbrev pub joined : {A : Type 0} → List (List A) → List A

@@ -1,5 +1,7 @@
 -- Lists in order are interleaved by the log that has all their entries, each once.
-use Rattle.std.proofs.Common.{◌≡◌, ℕ, suc, zero, ◌+◌, ◌<◌, ◌≤◌, ⊎_elim, List, [], ◌∷◌, map, length, set, sym, refl, ap, ◌∙◌, subst, arith}
+use Rattle.std.proofs.Common.{◌≡◌, ℕ, suc, zero, ◌+◌, ◌<◌, ◌≤◌, ⊎_elim, List, [], ◌∷◌, ◌++◌, map, take, length, set, sym, refl, ap, ◌∙◌, subst, arith}
+use Rattle.std.specs.List.{concat}
+use Rattle.std.proofs.lemmas.List.{map-append}
 use mathlib.Core.Option.{some, some-injective, some-ne-none}
 use mathlib.Core.Logic.{dite}
 use native.Mathlib.Decide.{ℕ_discrete}
@@ -8,7 +10,10 @@ use Rattle.atomic_table.proofs.Lists.{at_set, set_here, set_else, at_longer, at_
 use Rattle.table_theory.specs.declared.queues.Batch.{Batch}
 use Rattle.table_theory.specs.Filing.{Owned, entry_of, ListedOnce}
 use Rattle.table_theory.specs.Interleaving.{Ascending, joined, Interleaves}
-use Rattle.table_theory.specs.Listing.{Chained}
+use Rattle.table_theory.specs.Listing.{all_places, Chained, ViewsShow}
+use Rattle.table_theory.specs.Positioned.{item_of}
+use Rattle.table_theory.specs.declared.queues.Positions.{Positions}
+use Rattle.table_theory.specs.declared.queues.QueueView.{QueueView}
 use Rattle.table_theory.proofs.Logs.{one_start}
 use Rattle.table_theory.proofs.Owned.{at_below, at_behind, at_joined, at_map_back, one_at}
 
@@ -171,3 +176,49 @@ module _ (p : ℕ) (log : List (Owned Batch)) (lists : List (List Batch)) (c : C
     stands = λ e i. let b = at_map_back entry_of log i.0 e i.1 in let s = f.stands i.0 b.0 b.1 in
         in_joined lists b.0.1 e (subst (λ (z : List Batch). get_elem? z b.0.1 ≡ some e) (only (joined lists) s.0 b.0.0 s.1) (s.2 ∙ ap some b.2));
   })
+
+-- WHAT IS TOLD OF EACH ENTRY
+
+module _ {A B : Type 0} (f : A → B) where
+  map_set : (lists : List (List A)) (k : ℕ) (l : List A) → set (map (map f) lists) k (map f l) ≡ map (map f) (set lists k l)
+  map_set [] k l = refl
+  map_set (x ∷ lists) zero l = refl
+  map_set (x ∷ lists) (suc k) l = ap (λ (z : List (List B)). map f x ∷ z) (map_set lists k l)
+
+  all_empty : (lists : List (List A)) → Interleaves [] lists → Interleaves [] (map (map f) lists)
+  all_empty lists none k l at = let b = at_map_back (map f) lists k l at in sym b.2 ∙ ap (map f) (none k b.0 b.1)
+
+  pub interleaves_map : (order : List A) (lists : List (List A)) → Interleaves order lists → Interleaves (map f order) (map (map f) lists)
+  interleaves_map [] lists i = all_empty lists i
+  interleaves_map (x ∷ order) lists i =
+      (i.0, map f i.1, at_map (map f) lists i.0 (x ∷ i.1) i.2, subst (λ (z : List (List B)). Interleaves (map f order) z) (sym (map_set lists i.0 i.1)) (interleaves_map order (set lists i.0 i.1) i.3))
+
+-- THE RUNS AND THE TAKINGS OF A QUEUE THAT ONE END LISTS
+
+abbrev pub items_in : Batch → List ℕ
+items_in e = map item_of e.places
+
+items_flat : (log : List (Owned Batch)) → concat (map items_in (map entry_of log)) ≡ map item_of (all_places log)
+items_flat [] = refl
+items_flat (o ∷ os) = ap (λ (z : List ℕ). items_in o.2 ++ z) (items_flat os) ∙ sym (map-append item_of o.2.places (all_places os))
+
+-- the stretches of these lists, as lines, in the order of their positions
+abbrev pub Merges : List (List Batch) → List ℕ → Type 0
+Merges lists items = (order : List (List ℕ)) × Interleaves order (map (map items_in) lists) × (concat order ≡ items)
+
+module _ (q : Positions) (v : QueueView) (lists : List (List Batch)) (s : ViewsShow q (v ∷ [])) (ups : (k : ℕ) (l : List Batch) → get_elem? lists k ≡ some l → Ascending l) where
+  pub runs_merge : v.runs ≡ joined lists → Merges lists (map item_of q.places)
+  runs_merge is = (
+    map items_in (map entry_of s.runs),
+    interleaves_map items_in (map entry_of s.runs) lists (interleaved q.first s.runs lists s.runs_chained s.solid (subst (λ (z : List Batch). ListedOnce s.runs (z ∷ [])) is s.runs_filed) ups),
+    items_flat s.runs ∙ ap (map item_of) s.runs_flat,
+  )
+
+  pub takes_merge : v.takes ≡ joined lists → ((k : ℕ) (e : Batch) → get_elem? v.takes k ≡ some e → 0 < length e.places) → Merges lists (map item_of (take q.taken q.places))
+  takes_merge is solid = (
+    map items_in (map entry_of s.takes),
+    interleaves_map items_in (map entry_of s.takes) lists (interleaved q.first s.takes lists s.takes_chained
+        (λ k o at. let r = s.takes_filed.stands k o at in solid o.1 o.2 (subst (λ (z : List Batch). get_elem? z o.1 ≡ some o.2) (only v.takes r.0 o.0 r.1) r.2))
+        (subst (λ (z : List Batch). ListedOnce s.takes (z ∷ [])) is s.takes_filed) ups),
+    items_flat s.takes ∙ ap (map item_of) s.takes_flat,
+  )

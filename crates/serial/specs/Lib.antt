@@ -1,0 +1,4 @@
+pub mod Made
+pub mod Notes
+pub mod Sent
+pub mod Texts

@@ -1,0 +1,4 @@
+pub mod Putting
+pub mod Taking
+pub mod Wholes
+pub mod Settling

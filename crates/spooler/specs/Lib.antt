@@ -1,0 +1,5 @@
+pub mod Doings
+pub mod Ends
+pub mod Lines
+pub mod Spooled
+pub mod Wholes

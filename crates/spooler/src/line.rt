@@ -1,0 +1,48 @@
+//! A line of text, as the queue has it.
+ghost use Rattle.std.specs.Prelude.{◌≡◌, [], ◌∷◌, ◌++◌, IfSome};
+ghost use Rattle.spooler.specs.Wholes.{IsWhole};
+
+use arrayvec::ArrayVec;
+use std::fmt;
+use std::fmt::{Display, Formatter};
+
+/// The item that ends a line.
+const END: u64 = 10;
+
+/// The items of a line, up to and with its end: at most 64, which is the queue's room.
+#[derive(PartialEq, Eq, PartialOrd, Ord, Drop)]
+pub struct Line {
+    pub items: ArrayVec<u64, 64>,
+    ghost whole: { IsWhole items.items },
+}
+
+impl Line {
+    /// The line with this text, and an end behind it. None where the text has more than 63 bytes, or an end of a line.
+    pub fn of(text: &[u8]) -> Option<Line>
+        ensures { IfSome result (λ line. line.items.items ≡ text.now ++ 10 ∷ []) }
+    {
+        if text.len() >= 64 {
+            return None;
+        }
+        let mut items = ArrayVec::new();
+        for byte in text {
+            let item = *byte as u64;
+            if item == END {
+                return None;
+            }
+            items.push(item);
+        }
+        items.push(END);
+        Some(Line { items })
+    }
+}
+
+impl Display for Line {
+    fn fmt<W: fmt::Write>(&self, f: &mut Formatter<W>) -> fmt::Result {
+        for item in self.items.as_slice() {
+            let byte = u8::try_from(*item).unwrap_or(b'?');
+            write!(f, "{}", byte as char)?;
+        }
+        Ok(())
+    }
+}

@@ -6,3 +6,4 @@ pub mod Rooming
 pub mod Acting
 pub mod Logging
 pub mod Signals
+pub mod Pointing

@@ -7,6 +7,7 @@ pub mod Steps
 pub mod Running
 pub mod Rooms
 pub mod Turns
+pub mod Points
 pub mod Fitting
 pub mod Stations
 pub mod Logs

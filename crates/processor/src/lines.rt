@@ -1,7 +1,9 @@
 //! A line said in a queue, or heard from it, whichever of the two lists it stands in.
 ghost use Rattle.std.specs.Prelude.{◌≡◌, ◌<◌, ◌≤◌, ℕ, [], length, IfOk};
 ghost use Rattle.end_steps.specs.EndLists.{AreEndsOf, AreSameEnds, OnEnd, only_at};
+ghost use Rattle.end_steps.specs.declared.gate.Point.TheVariants.{TakeAnswered};
 ghost use Rattle.end_steps.specs.Deeds.{Heard};
+ghost use Rattle.end_steps.specs.Gates.{ToldOfSay};
 ghost use Rattle.end_steps.specs.Sums.{Worked, line_if, no_lines, never};
 ghost use Rattle.processor.specs.Queues.{IsThere, SaidAt, HeardAt, small_at, large_at, said_line};
 
@@ -45,6 +47,7 @@ pub(crate) fn say_at<G: Gate>(
         small.new.items }
     ensures large_lines { Worked (large_at queue (line_if result line.now)) no_lines never large.old.items
         large.new.items }
+    ensures gate { ToldOfSay G.told p result gate.old gate.new }
 {
     match queue {
         QueueIndex::Small(at) => say(queues.small.as_slice(), small, at, line, p, gate),
@@ -78,6 +81,7 @@ fn hear_small<G: Gate>(
     ensures heard { OnEnd at (Heard text.new.items result) small.old.items small.new.items }
     ensures lines { Worked no_lines (only_at at (line_if result text.new.items)) never small.old.items small.new.items }
     ensures long { IfOk result (λ done. 0 < length text.new.items) }
+    ensures gate { G.told gate.old p TakeAnswered gate.new }
 {
     let mut line = ArrayVec::<u64, 64>::new();
     let answer = hear(queues.small.as_slice(), small, at, &mut line, p, gate);
@@ -109,6 +113,7 @@ pub(crate) fn hear_at<G: Gate>(
     ensures large_lines { Worked no_lines (large_at queue (line_if result text.new.items)) never large.old.items
         large.new.items }
     ensures long { IfOk result (λ done. 0 < length text.new.items) }
+    ensures gate { G.told gate.old p TakeAnswered gate.new }
 {
     match queue {
         QueueIndex::Small(at) => hear_small(queues, small, at, text, p, gate),

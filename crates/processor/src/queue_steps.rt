@@ -7,6 +7,7 @@ ghost use Rattle.end_steps.specs.Sums.{Worked, no_lines, never};
 ghost use Rattle.hand_steps.specs.Tallies.{no_events};
 ghost use Rattle.thread_table.specs.Handles.{view_of, call_of, IsHandOf, IsSameHand};
 ghost use Rattle.processor.specs.Acts.{Acts};
+ghost use Rattle.processor.specs.Points.{Told, points_of};
 ghost use Rattle.processor.specs.Queues.{IsThere};
 ghost use Rattle.processor.specs.Steps.{HandDid, QueuesDid, puts_small, puts_large, takes_small, takes_large};
 ghost use Rattle.processor.specs.Steps.{shuts_by, is_shut, is_over, comes_of};
@@ -63,6 +64,7 @@ pub(crate) fn say_step<R: Wait, G: Gate>(
     ensures acts { Acts no_events (view_of hand.old) (view_of hand.new) }
     ensures queues { QueuesDid (steps.Say queue text.now) result [] small.old.items small.new.items large.old.items
         large.new.items }
+    ensures gate { Told G.told p (points_of result) gate.old gate.new }
     ensures small_lines { Worked (puts_small (steps.Say queue text.now) result) no_lines never small.old.items
         small.new.items }
     ensures large_lines { Worked (puts_large (steps.Say queue text.now) result) no_lines never large.old.items
@@ -119,6 +121,7 @@ pub(crate) fn hear_step<R: Wait, G: Gate>(
     ensures acts { Acts no_events (view_of hand.old) (view_of hand.new) }
     ensures queues { QueuesDid (steps.Hear queue) result heard.new.items small.old.items small.new.items
         large.old.items large.new.items }
+    ensures gate { Told G.told p (points_of result) gate.old gate.new }
     ensures small_lines { Worked no_lines (takes_small (steps.Hear queue) result heard.new.items) never
         small.old.items small.new.items }
     ensures large_lines { Worked no_lines (takes_large (steps.Hear queue) result heard.new.items) never
@@ -161,6 +164,7 @@ pub(crate) fn close_step<R: Wait>(
         small.new.items others others }
     ensures small_lines { Worked no_lines no_lines (shuts_by (steps.Close queue) result) small.old.items
         small.new.items }
+    ensures points { points_of result ≡ [] }
 {
     let at = QueueIndex::Small(queue);
     let to_hear = readers_at(&shared.plan, at);

@@ -7,6 +7,7 @@ ghost use Rattle.thread_table.specs.Handles.{view_of, call_of, IsHandOf, IsSameH
 ghost use Rattle.thread_table.specs.Keeping.{Keeps};
 ghost use Rattle.thread_table.specs.Rules.{has, done_at};
 ghost use Rattle.processor.specs.Acts.{NeverFalls};
+ghost use Rattle.processor.specs.Points.{Told, points_of};
 ghost use Rattle.processor.specs.Running.{Stepped, EndsDid, step_tally, wait_of, Goes, gone, line_heard, is_heard};
 ghost use Rattle.processor.specs.Running.{heard_in};
 ghost use Rattle.processor.specs.Stations.{ArePartsOf, AreSameParts};
@@ -78,6 +79,7 @@ pub(crate) fn run_step<R: Wait, G: Gate>(
     ensures on { (view_of parts.new.hand).on ≡ (view_of parts.old.hand).on }
     ensures heard { parts.new.heard ≡ parts.old.heard }
     ensures signals { parts.new.signals ≡ parts.old.signals }
+    ensures gate { Told G.told p (points_of result.deed) gate.old gate.new }
 {
     let threads = &shared.threads;
     put_on(threads, &mut parts.hand, p, element);

@@ -1,10 +1,11 @@
 //! The steps at the thread elements: waking, signalling, stopping and starting.
-ghost use Rattle.std.specs.Prelude.{◌≡◌, true};
+ghost use Rattle.std.specs.Prelude.{◌≡◌, [], true};
 ghost use Rattle.boot_script.specs.declared.boot_plan.BootPlan.{BootPlan};
 ghost use Rattle.boot_script.specs.declared.plan.Step.TheVariants as steps;
 ghost use Rattle.hand_steps.specs.Tallies.{no_events};
 ghost use Rattle.thread_table.specs.Handles.{view_of, call_of, IsHandOf, IsSameHand};
 ghost use Rattle.processor.specs.Acts.{Acts};
+ghost use Rattle.processor.specs.Points.{points_of};
 ghost use Rattle.processor.specs.Steps.{HandDid, comes_of, raised_by};
 
 use crate::deed::Deed;
@@ -22,6 +23,7 @@ pub(crate) fn wake_step<R: Wait>(
 ) -> Deed
     requires { IsHandOf threads.now hand.old }
     ensures comes { comes_of (steps.Wake wait) result ≡ true }
+    ensures points { points_of result ≡ [] }
     ensures same { IsSameHand hand.old hand.new }
     ensures hand { (plan : BootPlan) → HandDid (call_of hand.old) plan (steps.Wake wait) result (view_of hand.old)
         (view_of hand.new) }
@@ -39,6 +41,7 @@ pub(crate) fn signal_step(
 ) -> Deed
     requires { IsHandOf threads.now hand.old }
     ensures comes { comes_of (steps.Signal thread signal) result ≡ true }
+    ensures points { points_of result ≡ [] }
     ensures same { IsSameHand hand.old hand.new }
     ensures hand { (plan : BootPlan) → HandDid (call_of hand.old) plan (steps.Signal thread signal) result
         (view_of hand.old) (view_of hand.new) }
@@ -52,6 +55,7 @@ pub(crate) fn signal_step(
 pub(crate) fn stop_step(threads: &ThreadTable, hand: &mut Hand, thread: Element) -> Deed
     requires { IsHandOf threads.now hand.old }
     ensures comes { comes_of (steps.Stop thread) result ≡ true }
+    ensures points { points_of result ≡ [] }
     ensures same { IsSameHand hand.old hand.new }
     ensures hand { (plan : BootPlan) → HandDid (call_of hand.old) plan (steps.Stop thread) result (view_of hand.old)
         (view_of hand.new) }
@@ -70,6 +74,7 @@ pub(crate) fn start_step<R: Wait>(
 ) -> Deed
     requires { IsHandOf threads.now hand.old }
     ensures comes { comes_of (steps.Start thread) result ≡ true }
+    ensures points { points_of result ≡ [] }
     ensures same { IsSameHand hand.old hand.new }
     ensures hand { (plan : BootPlan) → HandDid (call_of hand.old) plan (steps.Start thread) result (view_of hand.old)
         (view_of hand.new) }

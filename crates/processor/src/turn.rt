@@ -5,6 +5,7 @@ ghost use Rattle.hand_steps.specs.Sendings.{Sent};
 ghost use Rattle.thread_table.specs.Handles.{view_of, call_of};
 ghost use Rattle.thread_table.specs.Rules.{has, done_at};
 ghost use Rattle.processor.specs.Logs.{Logged, IsFresh, HasLeft};
+ghost use Rattle.processor.specs.Points.{Told, ToldTurns, points_of, points_had, points_out};
 ghost use Rattle.processor.specs.Programs.{program, step_of};
 ghost use Rattle.processor.specs.Rooms.{HasRoom};
 ghost use Rattle.processor.specs.Stations.{ArePartsOf, AreSameParts};
@@ -59,6 +60,7 @@ fn run_element<R: Wait, G: Gate>(
     ensures on { (view_of parts.new.hand).on ≡ (view_of parts.old.hand).on }
     ensures serves { (view_of parts.new.hand).serves ≡ (view_of parts.old.hand).serves }
     ensures share { (view_of parts.new.hand).member.share ≡ (view_of parts.old.hand).member.share }
+    ensures gate { Told G.told p (points_of result.0.deed) gate.old gate.new }
 {
     steps_fit();
     let mut heard = ArrayVec::new();
@@ -161,6 +163,7 @@ fn take_turn<R: Wait, G: Gate>(
     ensures on { (view_of parts.new.hand).on ≡ (view_of parts.old.hand).on }
     ensures serves { (view_of parts.new.hand).serves ≡ (view_of parts.old.hand).serves }
     ensures share { (view_of parts.new.hand).member.share ≡ (view_of parts.old.hand).member.share }
+    ensures gate { Told G.told p (points_had result) gate.old gate.new }
 {
     steps_fit();
     let steps = program_of(&shared.plan, element);
@@ -193,6 +196,7 @@ fn dispatch<R: Wait, G: Gate>(
     ensures on { (view_of parts.new.hand).on ≡ (view_of parts.old.hand).on }
     ensures serves { (view_of parts.new.hand).serves ≡ (view_of parts.old.hand).serves }
     ensures share { (view_of parts.new.hand).member.share ≡ (view_of parts.old.hand).member.share }
+    ensures gate { Told G.told p (points_out result) gate.old gate.new }
 {
     match begin_turn(rt, shared, parts, p) {
         Ok(begun) => {
@@ -245,15 +249,17 @@ fn turn<R: Wait, G: Gate>(
     ensures on { (view_of parts.new.hand).on ≡ (view_of parts.old.hand).on }
     ensures serves { (view_of parts.new.hand).serves ≡ (view_of parts.old.hand).serves }
     ensures share { (view_of parts.new.hand).member.share ≡ (view_of parts.old.hand).member.share }
+    ensures gate { Told G.told p (points_out result.outcome) gate.old gate.new }
 {
     let tended = tend(shared, parts, p);
     let outcome = dispatch(rt, shared, parts, p, gate);
     Turned { tended, outcome }
 }
 
-/// Exactly so many turns of a processor. In each the gate is called with its number, processor 0 tends the alarms, and
-/// the oldest element of the ready ring has its turn: one try of its next step. The station comes back, with what its
-/// ends did, and what was heard and signalled.
+/// Exactly so many turns of a processor. In each the gate is called with its number, from 0, processor 0 tends the
+/// alarms, and the oldest element of the ready ring has its turn: one try of its next step. Within a step the gate is
+/// called as `Point` says, and else never. The station comes back, with what its ends did, and what was heard and
+/// signalled.
 ///
 /// Conditions: the station is one of `shared`, and its hand serves the processor, on which nothing stands.
 pub fn run<R: Wait, G: Gate>(
@@ -277,6 +283,7 @@ pub fn run<R: Wait, G: Gate>(
     ensures on { (view_of result.parts.hand).on ≡ (view_of station.parts.hand).on }
     ensures serves { (view_of result.parts.hand).serves ≡ (view_of station.parts.hand).serves }
     ensures share { (view_of result.parts.hand).member.share ≡ (view_of station.parts.hand).member.share }
+    ensures told { ToldTurns G.told shared.now p station.parts result.parts turns gate.old gate.new }
 {
     let Station { mut parts } = station;
     for number in 0..turns {

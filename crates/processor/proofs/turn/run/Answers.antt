@@ -1,5 +1,7 @@
 use Rattle.std.proofs.Common.{ℕ, refl, sym, ◌∙◌, subst, add-one}
+use Rattle.end_steps.specs.declared.gate.Point.TheVariants.{Turn}
 use Rattle.processor.specs.declared.station.Parts.{Parts}
+use Rattle.processor.specs.Points.{ToldTurns}
 use Rattle.processor.specs.Stations.{AreSameParts}
 use Rattle.processor.specs.Turns.{Turns}
 use Rattle.processor.proofs.Logging.{logged_on, idle_logged, leaves}
@@ -18,7 +20,8 @@ pub loop-number-preserved : goal.loop-number-preserved
 loop-number-preserved g c =
     let i = c.loop-number.invariant in
     let e = c.turn.ensures in
-    let n = c.loop-number.number in (
+    let n = c.loop-number.number in
+    let said = subst (λ (q : ℕ). g.G.Gate.told c.loop-number.gate q (Turn n) c.between.new.self) c.number.ensures.value c.between.ensures in (
       e.parts,
       same_on c.args.station.parts c.loop-number.parts c.turn.new.parts i.1 e.same,
       e.free,
@@ -29,6 +32,8 @@ loop-number-preserved g c =
       e.share ∙ i.6,
       logged_on c.args.shared.now.plan c.args.station.parts c.loop-number.parts c.turn.new.parts i.7 e.logged,
       e.on ∙ i.8,
+      subst (λ (k : ℕ). ToldTurns g.G.Gate.told c.args.shared.now c.args.p c.args.station.parts c.turn.new.parts k c.args.gate.now c.turn.new.gate) (sym (add-one n))
+          (c.loop-number.parts, c.turn.result, c.loop-number.gate, i.9, e.turn, (c.between.new.self, said, e.gate)),
     )
 
 pub loop-number-init : goal.loop-number-init
@@ -48,6 +53,7 @@ loop-number-init g c = (
   refl,
   idle_logged c.args.shared.now.plan c.args.station.parts,
   refl,
+  (refl, refl),
 )
 
 pub returns-clause-leaves : goal.returns-clause-leaves

@@ -2,6 +2,7 @@ use Rattle.std.proofs.Common.{◌≡◌}
 use Rattle.hand_steps.specs.Holdings.{IsFree}
 use Rattle.thread_table.specs.Handles.{view_of}
 use Rattle.processor.specs.Logs.{Logged}
+use Rattle.processor.specs.Points.{ToldTurns}
 use Rattle.processor.specs.Rooms.{HasRoom}
 use Rattle.processor.specs.Stations.{ArePartsOf, AreSameParts}
 use Rattle.processor.specs.Turns.{Turns}
@@ -14,3 +15,4 @@ invariant-loop-number g l = ArePartsOf l.shared l.parts × AreSameParts l.fn.sta
     × ((view_of l.parts.hand).member.share ≡ (view_of l.fn.station.parts.hand).member.share)
     × Logged l.shared.plan l.fn.station.parts l.parts
     × ((view_of l.parts.hand).on ≡ (view_of l.fn.station.parts.hand).on)
+    × ToldTurns g.G.Gate.told l.shared l.p l.fn.station.parts l.parts l.number l.fn.gate l.gate

@@ -1,5 +1,5 @@
 //! Turns of processors over plans that are read from boot scripts.
-ghost use Rattle.std.specs.Prelude.{◌≡◌, [], length, IfOk};
+ghost use Rattle.std.specs.Prelude.{◌≡◌, ◌≤◌, [], length, IfOk};
 ghost use Rattle.std.specs.List.{All};
 ghost use Rattle.thread_table.specs.Handles.{view_of, IsHandOf, IsSameHand};
 ghost use Rattle.meters.specs.Handles.{IsSeatOf, IsSameSeat};
@@ -9,11 +9,14 @@ ghost use Rattle.processor.specs.Rooms.{HasRoom};
 ghost use Rattle.processor.specs.Stations.{ArePartsOf};
 
 mod elements;
+mod elsewhere;
 mod gates;
 mod memory;
 mod movers;
 mod pairs;
+mod partings;
 mod queues;
+mod refusals;
 
 use super::*;
 use boot_script::{BootPlan, parse_boot};
@@ -178,25 +181,77 @@ fn station_of(alloc: Global, shared: &Shared, ends: Ends) -> Result<Station, Out
     }
 }
 
-/// What the processors of a plan share that has no ttys, pumps and switches, and the station of this one: an element is
-/// ready for each thread, and the alarms are set.
-fn stand<R: Abort + Wait>(
+/// Empty tables, with the only hand and the only seat, and queues with an end of each.
+#[derive(Drop)]
+struct Tables {
+    threads: ThreadTable,
+    hand: Hand,
+    meters: Meters,
+    seat: MeterSeat,
+    queues: Queues,
+    small: Vec<QueueEnd<64>>,
+    large: Vec<QueueEnd<256>>,
+    ghost hand_fits: { IsHandOf threads hand },
+    ghost seat_fits: { IsSeatOf meters seat },
+    ghost small_fit: { AreEndsOf queues.small.items small.items },
+    ghost large_fit: { AreEndsOf queues.large.items large.items },
+    ghost no_large: { length queues.large.items ≡ 0 },
+}
+
+/// Tables whose element queues begin at this position, and whose clock begins at this tick, over queues.
+fn make_tables(
+    alloc: Global,
+    first: u32,
+    clock: u32,
+    made: (Queues, Vec<QueueEnd<64>>, Vec<QueueEnd<256>>),
+) -> Result<Tables, OutOfMemory>
+    requires low { first ≤ 4294967231 }
+    requires small { AreEndsOf made.0.small.items made.1.items }
+    requires large { AreEndsOf made.0.large.items made.2.items }
+    requires no_large { length made.0.large.items ≡ 0 }
+    ensures { IfOk result (λ t. length t.queues.small.items ≡ length made.0.small.items) }
+{
+    let (queues, small, large) = made;
+    let (threads, hand) = ThreadTable::new_at(alloc, first)?;
+    let (meters, seat) = Meters::new(alloc, clock)?;
+    Ok(Tables {
+        threads,
+        hand,
+        meters,
+        seat,
+        queues,
+        small,
+        large,
+    })
+}
+
+/// What the processors of a plan share that has no ttys, pumps and switches, and the station of this one, over these
+/// tables: an element is ready for each thread, and the alarms are set.
+fn stand_on<R: Abort + Wait>(
     rt: &R,
     alloc: Global,
     plan: BootPlan,
     p: Processor,
+    tables: Tables,
 ) -> Result<(Shared, Station), OutOfMemory>
+    requires queues { length tables.queues.small.items ≡ length plan.queues }
     ensures parts { IfOk result (λ r. ArePartsOf r.0 r.1.parts) }
     ensures free { IfOk result (λ r. IsFree p (view_of r.1.parts.hand)) }
     ensures room { IfOk result (λ r. HasRoom r.0.plan r.1.parts) }
 {
     must_be_bare(rt, &plan);
-    let (threads, mut hand) = ThreadTable::new(alloc)?;
+    let Tables {
+        threads,
+        mut hand,
+        meters,
+        mut seat,
+        queues,
+        small,
+        large,
+    } = tables;
     ready_first(rt, &threads, &mut hand, plan.threads.as_slice().len());
     must_be_free(rt, &hand, p);
-    let (meters, mut seat) = Meters::new(alloc, 0)?;
     set_all(&meters, &mut seat, plan.alarms.as_slice());
-    let (queues, small, large) = make_queues(alloc, plan.queues.as_slice().len())?;
     let shared = Shared {
         queues,
         chains: Vec::new(alloc),
@@ -212,6 +267,22 @@ fn stand<R: Abort + Wait>(
     };
     let station = station_of(alloc, &shared, ends)?;
     Ok((shared, station))
+}
+
+/// The same over tables at 0.
+fn stand<R: Abort + Wait>(
+    rt: &R,
+    alloc: Global,
+    plan: BootPlan,
+    p: Processor,
+) -> Result<(Shared, Station), OutOfMemory>
+    ensures parts { IfOk result (λ r. ArePartsOf r.0 r.1.parts) }
+    ensures free { IfOk result (λ r. IsFree p (view_of r.1.parts.hand)) }
+    ensures room { IfOk result (λ r. HasRoom r.0.plan r.1.parts) }
+{
+    let made = make_queues(alloc, plan.queues.as_slice().len())?;
+    let tables = make_tables(alloc, 0, 0, made)?;
+    stand_on(rt, alloc, plan, p, tables)
 }
 
 /// What there is once the turns are over.
@@ -302,6 +373,14 @@ fn check_states<R: Abort>(rt: &R, ended: &AtEnd, states: &[State]) {
     }
 }
 
+/// These lines were heard, in this order.
+fn check_lines<R: Abort>(rt: &R, heard: &[Heard], lines: &[Line]) {
+    assert_eq!(rt; heard.len(), lines.len());
+    for (heard, line) in heard.iter().zip(lines) {
+        assert!(rt; is_line(heard, line));
+    }
+}
+
 /// Runs so many turns of processor 0 over the plan of a script, and compares what there is then: the states of the first
 /// threads, and all lines that were heard, in their order.
 fn check<R: Abort + Wait>(
@@ -314,9 +393,6 @@ fn check<R: Abort + Wait>(
 ) -> Result<Metered, Fail> {
     let ended = booted(rt, alloc, script, turns)?;
     check_states(rt, &ended, states);
-    assert_eq!(rt; ended.heard.len(), lines.len());
-    for (heard, line) in ended.heard.as_slice().iter().zip(lines) {
-        assert!(rt; is_line(heard, line));
-    }
+    check_lines(rt, ended.heard.as_slice(), lines);
     Ok(ended.metered)
 }

@@ -78,7 +78,7 @@ fn part<R: Abort>(rt: &R, threads: &ThreadTable, hand: &mut Hand, p: Processor) 
 
 /// What two processors of a plan share that has no ttys, pumps, switches and alarms, and the station of each: an element
 /// is ready for each thread.
-fn stand_two<R: Abort + Wait>(
+pub(super) fn stand_two<R: Abort + Wait>(
     rt: &R,
     alloc: Global,
     plan: BootPlan,
@@ -153,7 +153,7 @@ fn run_two<R: Threads + Wait + Sync>(
 }
 
 /// All ends of both in one, and the lines that the other heard.
-fn join_two(shared: &Shared, one: Station, other: Station) -> (Parts, Vec<Heard>)
+pub(super) fn join_two(shared: &Shared, one: Station, other: Station) -> (Parts, Vec<Heard>)
     requires one { ArePartsOf shared.now one.parts }
     requires other { ArePartsOf shared.now other.parts }
     ensures { ArePartsOf shared.now result.0 }

@@ -1,0 +1,110 @@
+-- Rows that are kept, event after event.
+use Rattle.std.proofs.Common.{◌≡◌, arith, add-one, ℕ, ◌<◌, ◌≤◌, ◌+◌, nat_le, Bool, true, false, if◌then◌else◌, List, [], ◌∷◌, ◌++◌, ◌∙◌, refl, sym, ap, subst, length, length-append, take, get_or, min, append_assoc, Ok, Err, IsSomeAnd}
+use Rattle.std.proofs.lemmas.List.{map_push, take_more}
+use Rattle.std.proofs.lemmas.Bool.{leb-true, leb-false}
+use Rattle.std.proofs.Math.Nat.{min-le_right, min-le_left, min-eq_left, min-eq_right, lt_irrefl, le_of_lt}
+use Rattle.std.proofs.lemmas.Option.{slice_get_read}
+use Rattle.std.specs.List.{remove}
+use Rattle.quaject_core.specs.declared.event.Event.{Event}
+use Rattle.quaject_core.specs.States.{State, step}
+use Rattle.quaject_core.specs.Schedules.{Reaches}
+use Rattle.boot_script.specs.Replays.{alone, Replays}
+use Rattle.boot_script.specs.declared.outcome.Replayed.{Replayed}
+use Rattle.boot_script.specs.declared.outcome.Replayed.TheVariants.{AllAllowed, Refused}
+use Rattle.draw.specs.declared.history.Row.{Row}
+use Rattle.draw.specs.Histories.{Tells, TellsAll, TellsLast, IsRefused, kept}
+
+-- the front of a list of events is one event longer
+pub longer : (events : List (ℕ × Event)) (at : ℕ) (numbered : ℕ × Event) → at < length events → numbered ≡ get_or events at numbered → take (at + 1) events ≡ take at events ++ numbered ∷ []
+longer events at numbered within is = take_more events at numbered within ∙ ap (λ x. take at events ++ x ∷ []) (sym is)
+
+reaches_more : (s : State) (events : List Event) (t : State) (event : Event) (u : State) → Reaches s events t → step event t ≡ Ok u → Reaches s (events ++ event ∷ []) u
+reaches_more s [] t event u there next = (u, ap (step event) (sym there) ∙ next, refl)
+reaches_more s (e ∷ events) t event u there next = (there.0, there.1, reaches_more there.0 events t event u there.2 next)
+
+reaches_numbered : (s : State) (events : List (ℕ × Event)) (t : State) (numbered : ℕ × Event) (u : State) → Reaches s (alone events) t → step numbered.1 t ≡ Ok u → Reaches s (alone (events ++ numbered ∷ [])) u
+reaches_numbered s events t numbered u there next =
+    rw (map_push (λ x. x.1) events numbered) (reaches_more s (alone events) t numbered.1 u there next)
+
+tells_more : (rows : List Row) (events : List (ℕ × Event)) (old new : State) (row : Row) (numbered : ℕ × Event) (next : State)
+    → TellsAll rows events old new → step numbered.1 new ≡ Ok next → Tells row numbered.0 next → TellsAll (rows ++ row ∷ []) (events ++ numbered ∷ []) old next
+tells_more [] [] old new row numbered next told stepped tells = (next, ap (step numbered.1) (sym told) ∙ stepped, tells, refl)
+tells_more [] (e ∷ events) old new row numbered next told stepped tells = absurd told
+tells_more (r ∷ rows) [] old new row numbered next told stepped tells = absurd told
+tells_more (r ∷ rows) (e ∷ events) old new row numbered next told stepped tells =
+    (told.0, told.1, told.2, tells_more rows events told.0 new row numbered next told.3 stepped tells)
+
+last_more : (rows : List Row) (events : List (ℕ × Event)) (old new : State) (row : Row) (numbered : ℕ × Event) (next : State)
+    → TellsLast rows events old new → step numbered.1 new ≡ Ok next → Tells row numbered.0 next → TellsLast (rows ++ row ∷ []) (events ++ numbered ∷ []) old next
+last_more rows events old new row numbered next h stepped tells = record {
+  earlier = h.earlier;
+  later = h.later ++ numbered ∷ [];
+  parts = ap (λ w. w ++ numbered ∷ []) h.parts ∙ append_assoc h.earlier h.later (numbered ∷ []);
+  middle = h.middle;
+  reached = h.reached;
+  told = tells_more rows h.later h.middle new row numbered next h.told stepped tells;
+}
+
+without_first : (row : Row) (rows : List Row) (events earlier later : List (ℕ × Event)) (old middle new : State) → events ≡ earlier ++ later → Reaches old (alone earlier) middle
+    → TellsAll (row ∷ rows) later middle new → TellsLast rows events old new
+without_first row rows events earlier [] old middle new parts reached told = absurd told
+without_first row rows events earlier (numbered ∷ later) old middle new parts reached told = record {
+  earlier = earlier ++ numbered ∷ [];
+  later = later;
+  parts = parts ∙ sym (append_assoc earlier (numbered ∷ []) later);
+  middle = told.0;
+  reached = reaches_numbered old earlier middle numbered told.0 reached told.1;
+  told = told.3;
+}
+
+last_less : (rows : List Row) (events : List (ℕ × Event)) (old new : State) → TellsLast rows events old new → TellsLast (remove rows 0) events old new
+last_less [] events old new h = h
+last_less (row ∷ rows) events old new h = without_first row rows events h.earlier h.later old h.middle new h.parts h.reached h.told
+
+last_where : (first_goes : Bool) (rows : List Row) (events : List (ℕ × Event)) (old new : State) → TellsLast rows events old new → TellsLast (if first_goes then remove rows 0 else rows) events old new
+last_where true rows events old new h = last_less rows events old new h
+last_where false rows events old new h = h
+
+-- the rows that are kept tell of one event more
+pub last_kept : (rows : List Row) (events : List (ℕ × Event)) (old new : State) (row : Row) (numbered : ℕ × Event) (next : State)
+    → TellsLast rows events old new → step numbered.1 new ≡ Ok next → Tells row numbered.0 next → TellsLast (kept rows row) (events ++ numbered ∷ []) old next
+last_kept rows events old new row numbered next h = last_more (if nat_le 200 (length rows) then remove rows 0 else rows) events old new row numbered next (last_where (nat_le 200 (length rows)) rows events old new h)
+
+full_of : (k n : ℕ) → nat_le 200 k ≡ true → k ≡ min 200 n → k ≡ min 200 (n + 1)
+full_of k n e h =
+    let many : 200 ≤ k = leb-true 200 k e in
+    let within : k ≤ n = subst (λ m. m ≤ n) (sym h) (min-le_right 200 n) in
+    let least : k ≤ 200 = subst (λ m. m ≤ 200) (sym h) (min-le_left 200 n) in
+    let enough : 200 ≤ n + 1 = omega arith in
+    let full : k ≡ 200 = omega arith in
+    full ∙ sym (min-eq_left enough)
+
+small_where : (full : Bool) (n : ℕ) → nat_le 200 n ≡ full → min 200 n < 200 → min 200 n ≡ n
+small_where true n e h = absurd (lt_irrefl 200 (subst (λ m. m < 200) (min-eq_left (leb-true 200 n e)) h))
+small_where false n e h = min-eq_right (le_of_lt (leb-false 200 n e))
+
+small_min : (n : ℕ) → min 200 n < 200 → min 200 n ≡ n
+small_min n h = small_where (nat_le 200 n) n refl h
+
+one_more_of : (k n : ℕ) → nat_le 200 k ≡ false → k ≡ min 200 n → k + 1 ≡ min 200 (n + 1)
+one_more_of k n e h =
+    let few : k < 200 = leb-false 200 k e in
+    let same : k ≡ n = h ∙ small_min n (subst (λ m. m < 200) h few) in
+    let within : n + 1 ≤ 200 = omega arith in
+    ap (λ m. m + 1) same ∙ sym (min-eq_right within)
+
+many_where : (first_goes : Bool) (rows : List Row) (row : Row) (n : ℕ) → nat_le 200 (length rows) ≡ first_goes → length rows ≡ min 200 n
+    → length ((if first_goes then remove rows 0 else rows) ++ row ∷ []) ≡ min 200 (n + 1)
+many_where true [] row n e h = absurd cc
+many_where true (r ∷ rows) row n e h = length-append rows (row ∷ []) ∙ (add-one (length rows) ∙ full_of (length (r ∷ rows)) n e h)
+many_where false rows row n e h = length-append rows (row ∷ []) ∙ one_more_of (length rows) n e h
+
+pub as_many_kept : (rows : List Row) (row : Row) (n : ℕ) → length rows ≡ min 200 n → length (kept rows row) ≡ min 200 (n + 1)
+as_many_kept rows row n h = many_where (nat_le 200 (length rows)) rows row n refl h
+
+-- the refused event stands behind those that were allowed
+pub refused_here : (events : List (ℕ × Event)) (at : ℕ) (numbered : ℕ × Event) (old new : State) (end : Replayed) → at < length events → numbered ≡ get_or events at numbered
+    → Reaches old (alone (take at events)) new → IsRefused end numbered.0 (step numbered.1 new) → Replays end events old new
+refused_here events at numbered old new AllAllowed within is reached refused = absurd refused
+refused_here events at numbered old new (Refused line refusal) within is reached refused =
+    (at, reached, subst (λ found. IsSomeAnd found (λ n. (n.0 ≡ line) × (step n.1 new ≡ Err refusal))) (sym (slice_get_read events (length events) at numbered refl within is)) (sym refused.0, refused.1))

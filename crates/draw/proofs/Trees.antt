@@ -1,0 +1,75 @@
+-- The text of trees that stand beside each other.
+use Rattle.std.proofs.Common.{◌≡◌, append_assoc, append-nil, ℕ, suc, ◌<◌, ◌+◌, List, [], ◌∷◌, ◌++◌, ◌∙◌, sym, ap, length, drop, get_or, add-one, refl, Option}
+use Rattle.std.proofs.Math.Seq.{drop-cons}
+use Rattle.std.specs.Io.KnownBytes.{Appends}
+use Rattle.boot_script.proofs.KnownBytes.{appends_join}
+use Rattle.draw.specs.declared.shapes.Colour.{Colour}
+use Rattle.draw.specs.declared.shapes.Colour.TheVariants.{Ink, Dim, Faint, White, Grey, Orange, Sky, Green, Yellow, Pink, Red}
+use Rattle.draw.specs.declared.shapes.Anchor.{Anchor}
+use Rattle.draw.specs.declared.shapes.Anchor.TheVariants.{Start, Middle}
+use Rattle.draw.specs.declared.shapes.Picture.{Picture}
+use Rattle.draw.specs.declared.shapes.Shape.{Shape}
+use Rattle.draw.specs.declared.shapes.Shape.TheVariants.{Cell, Bar, Down, Up, Words}
+use Rattle.std.specs.Prelude.{codes}
+use Rattle.std.specs.List.{flat_map}
+use Rattle.draw.specs.Colours.{colour_code, anchor_code}
+use Rattle.draw.specs.Forests.{Attribute, attribute_text, Forest, Nothing, Text, Element, element_text, escaped, forest_text}
+use Rattle.draw.specs.Pictures.{numeric, worded, box_attributes, words_attributes, path_from, shape_tree, shapes_forest, picture_attributes, picture_text}
+
+pub colour_escaped : (colour : Colour) → escaped (colour_code colour) ≡ colour_code colour
+colour_escaped Ink = refl
+colour_escaped Dim = refl
+colour_escaped Faint = refl
+colour_escaped White = refl
+colour_escaped Grey = refl
+colour_escaped Orange = refl
+colour_escaped Sky = refl
+colour_escaped Green = refl
+colour_escaped Yellow = refl
+colour_escaped Pink = refl
+colour_escaped Red = refl
+
+pub anchor_escaped : (anchor : Anchor) → escaped (anchor_code anchor) ≡ anchor_code anchor
+anchor_escaped Start = refl
+anchor_escaped Middle = refl
+
+element_before : (name : List ℕ) (attributes : List Attribute) (inside behind : Forest) → forest_text (Element name attributes inside Nothing) ++ forest_text behind ≡ forest_text (Element name attributes inside behind)
+element_before name attributes inside behind =
+    let text : List ℕ = element_text name attributes (forest_text inside) in
+    let bare : text ++ [] ≡ text = append-nil text in
+    ap (λ w. w ++ forest_text behind) bare
+
+-- the text of a part and of those behind it
+pub shape_before : (shape : Shape) (behind : Forest) → forest_text (shape_tree shape Nothing) ++ forest_text behind ≡ forest_text (shape_tree shape behind)
+shape_before (Cell x y width height fill) behind = element_before (codes "rect") (worded (codes "stroke") (codes "#222222") ∷ box_attributes x y width height fill) Nothing behind
+shape_before (Bar x y width height fill) behind = element_before (codes "rect") (box_attributes x y width height fill) Nothing behind
+shape_before (Down x y) behind = element_before (codes "path") (path_from x y (codes "h8l-4 5z") ∷ []) Nothing behind
+shape_before (Up x y) behind = element_before (codes "path") (path_from x y (codes "h8l-4-5z") ∷ []) Nothing behind
+shape_before (Words x y anchor ink text) behind = element_before (codes "text") (words_attributes x y anchor ink) (Text text Nothing) behind
+
+-- a part that is printed before those that are left
+pub shapes_more : (old new later : Option (List ℕ)) (i : ℕ) (shapes : List Shape) (shape : Shape) → i < length shapes → shape ≡ get_or shapes i shape
+    → Appends old new (forest_text (shape_tree shape Nothing)) → Appends new later (forest_text (shapes_forest (drop (i + 1) shapes))) → Appends old later (forest_text (shapes_forest (drop i shapes)))
+shapes_more old new later i shapes shape within is h k =
+    let e : drop i shapes ≡ shape ∷ drop (i + 1) shapes = drop-cons shapes i shape within ∙ (ap (λ y. y ∷ drop (suc i) shapes) (sym is) ∙ ap (λ n. shape ∷ drop n shapes) (sym (add-one i))) in
+    rw (e, sym (shape_before shape (shapes_forest (drop (i + 1) shapes)))) (appends_join old new later _ _ h k)
+
+svg_text : (attributes : List Attribute) (inside : List ℕ) → (((codes "<svg" ++ flat_map attribute_text attributes) ++ codes ">") ++ inside) ++ codes "</svg>\n" ≡ element_text (codes "svg") attributes inside
+unfolding element_text
+svg_text attributes inside =
+    let front : List ℕ = ((codes "<svg" ++ flat_map attribute_text attributes) ++ codes ">") ++ inside in
+    sym (append_assoc (front ++ codes "</") (codes "svg") (codes ">\n") ∙ append_assoc front (codes "</") (codes "svg" ++ codes ">\n"))
+
+-- what is printed of a picture, part by part, is its text
+pub picture_joined : (picture : Picture) → ((((codes "<svg" ++ flat_map attribute_text (picture_attributes picture.width picture.height)) ++ codes ">") ++ element_text (codes "title") [] (escaped picture.title)) ++ forest_text (shapes_forest picture.shapes)) ++ codes "</svg>\n" ≡ picture_text picture
+unfolding picture_text
+picture_joined picture =
+    let attributes : List Attribute = picture_attributes picture.width picture.height in
+    let opened : List ℕ = (codes "<svg" ++ flat_map attribute_text attributes) ++ codes ">" in
+    let title : List ℕ = element_text (codes "title") [] (escaped picture.title) in
+    let shapes : List ℕ = forest_text (shapes_forest picture.shapes) in
+    let inside : List ℕ = element_text (codes "title") [] (escaped picture.title ++ []) ++ shapes in
+    let bare : escaped picture.title ≡ escaped picture.title ++ [] = sym (append-nil (escaped picture.title)) in
+    let alone : element_text (codes "svg") attributes inside ≡ element_text (codes "svg") attributes inside ++ [] = sym (append-nil (element_text (codes "svg") attributes inside)) in
+    ap (λ w. w ++ codes "</svg>\n") (append_assoc opened title shapes) ∙ (svg_text attributes (title ++ shapes)
+    ∙ (ap (λ t. element_text (codes "svg") attributes (element_text (codes "title") [] t ++ shapes)) bare ∙ alone))

@@ -1,0 +1,77 @@
+-- What a drawing of a list of events answers, prints and tells.
+use Rattle.std.specs.Prelude.{◌≡◌, ◌≢◌, ℕ, List, [], ◌++◌, codes, Option, Result, Ok, Err, IfSome, OnOk}
+use Rattle.std.specs.Io.KnownBytes.{Appends, Keeps}
+use Rattle.quaject_core.specs.declared.event.Event.{Event}
+use Rattle.quaject_core.specs.States.{first_state}
+use Rattle.boot_script.specs.declared.fault.ScriptFault.{ScriptFault}
+use Rattle.boot_script.specs.declared.outcome.Replayed.{Replayed}
+use Rattle.boot_script.specs.declared.outcome.Replayed.TheVariants.{AllAllowed, Refused}
+use Rattle.boot_script.specs.declared.outcome.ReplayFault.{ReplayFault}
+use Rattle.boot_script.specs.declared.outcome.ReplayFault.TheVariants.{Script, Memory, Read, Write}
+use Rattle.boot_script.specs.Printed.{end_of_line, replay_fault_text}
+use Rattle.boot_script.specs.Replays.{IsReplayFault}
+use Rattle.boot_script.specs.Scripts.{text_events}
+use Rattle.draw.specs.declared.history.History.{History}
+use Rattle.draw.specs.declared.program.Ended.{Ended}
+use Rattle.draw.specs.declared.shapes.Picture.{Picture}
+use Rattle.draw.specs.Histories.{IsHistory}
+use Rattle.draw.specs.Pictures.{picture_text}
+
+-- the text has no fault, the answer is that of its events on a fresh core, and the page is the text of a picture
+abbrev pub IsDrawn : Result (ℕ × List (ℕ × Event)) ScriptFault → Replayed → List ℕ → Type 0
+IsDrawn (Err fault) replayed page = ⊥
+IsDrawn (Ok said) replayed page =
+    (past : History) × IsHistory past said.1 (first_state said.0) × (replayed ≡ past.replayed)
+    × ((picture : Picture) × (page ≡ picture_text picture))
+
+-- such a page is appended
+abbrev pub IsDrawing :
+    Result (ℕ × List (ℕ × Event)) ScriptFault → Replayed → Option (List ℕ) → Option (List ℕ) → Type 0
+IsDrawing said replayed old new = (page : List ℕ) × IsDrawn said replayed page × Appends old new page
+
+-- the exit status of a drawing
+abbrev pub status_of : Result Replayed ReplayFault → ℕ
+status_of (Ok AllAllowed) = 0
+status_of (Ok (Refused line refusal)) = 1
+status_of (Err (Script fault)) = 1
+status_of (Err Memory) = 3
+status_of (Err Read) = 5
+status_of (Err Write) = 5
+
+-- what is told of a drawing: nothing of one that was printed, else the line that names its fault
+abbrev pub words_of : Result Replayed ReplayFault → List ℕ
+words_of (Ok replayed) = []
+words_of (Err fault) = replay_fault_text fault ++ end_of_line
+
+-- what is told where there are words
+abbrev pub usage_words : List ℕ
+usage_words = codes "usage: draw < LIST" ++ end_of_line
+
+-- the text has the answer, and where that is printed, just that is appended
+abbrev pub Answers :
+    Result (ℕ × List (ℕ × Event)) ScriptFault → Result Replayed ReplayFault → Option (List ℕ) → Option (List ℕ) → Type 0
+Answers said (Ok replayed) old new = IsDrawing said replayed old new
+Answers said (Err fault) old new = IsReplayFault said fault
+
+-- nothing was written under another fault than the writer's
+abbrev pub IsUnwritten : Result Replayed ReplayFault → Option (List ℕ) → Option (List ℕ) → Type 0
+IsUnwritten (Ok replayed) old new = Unit {0}
+IsUnwritten (Err fault) old new = fault ≢ Write → Keeps old new
+
+-- a drawing of the bytes, where they are known, has this answer, and turns the bytes of the writer from old to new
+abbrev pub IsDrawingOf : Option (List ℕ) → Result Replayed ReplayFault → Option (List ℕ) → Option (List ℕ) → Type 0
+IsDrawingOf known answer old new =
+    IfSome known (λ bytes. Answers (text_events bytes) answer old new) × IsUnwritten answer old new
+
+-- a run has the status, and where the error stream took all that was told, just the words are appended to it
+abbrev pub IsTold : Ended → ℕ → List ℕ → Option (List ℕ) → Option (List ℕ) → Type 0
+IsTold ended status words old new = (ended.status ≡ status) × OnOk ended.told (Appends old new words)
+
+-- the answer alone
+abbrev pub IsAnswerOf : Result (ℕ × List (ℕ × Event)) ScriptFault → Result Replayed ReplayFault → Type 0
+IsAnswerOf said (Ok replayed) = (page : List ℕ) × IsDrawn said replayed page
+IsAnswerOf said (Err fault) = IsReplayFault said fault
+
+-- an exit status is that of a drawing of a text that says this
+abbrev pub IsStatus : Result (ℕ × List (ℕ × Event)) ScriptFault → ℕ → Type 0
+IsStatus said status = (answer : Result Replayed ReplayFault) × IsAnswerOf said answer × (status ≡ status_of answer)

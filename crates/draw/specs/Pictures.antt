@@ -1,0 +1,65 @@
+-- A picture as a tree, whose text is SVG.
+use Rattle.std.specs.Prelude.{ℕ, List, [], ◌∷◌, codes}
+use Rattle.draw.specs.declared.shapes.Colour.{Colour}
+use Rattle.draw.specs.declared.shapes.Anchor.{Anchor}
+use Rattle.draw.specs.declared.shapes.Shape.{Shape}
+use Rattle.draw.specs.declared.shapes.Shape.TheVariants.{Cell, Bar, Down, Up, Words}
+use Rattle.draw.specs.declared.shapes.Picture.{Picture}
+use Rattle.draw.specs.Colours.{colour_code, anchor_code}
+use Rattle.draw.specs.Forests.{Piece, Word, Number, Attribute, Forest, Nothing, Text, Element, forest_text}
+
+-- an attribute that is a number, and one that is a word
+abbrev pub numeric : List ℕ → ℕ → Attribute
+numeric name n = record { name = name; value = Number n ∷ [] }
+
+abbrev pub worded : List ℕ → List ℕ → Attribute
+worded name word = record { name = name; value = Word word ∷ [] }
+
+-- where a box is, how large, and its colour
+abbrev pub box_attributes : ℕ → ℕ → ℕ → ℕ → Colour → List Attribute
+box_attributes x y width height fill =
+    numeric (codes "x") x ∷ numeric (codes "y") y ∷ numeric (codes "width") width ∷ numeric (codes "height") height
+    ∷ worded (codes "fill") (colour_code fill) ∷ []
+
+-- where a text is, and how
+abbrev pub words_attributes : ℕ → ℕ → Anchor → Colour → List Attribute
+words_attributes x y anchor ink =
+    numeric (codes "x") x ∷ numeric (codes "y") y ∷ worded (codes "text-anchor") (anchor_code anchor)
+    ∷ worded (codes "fill") (colour_code ink) ∷ []
+
+-- a path that begins at a point
+abbrev pub path_from : ℕ → ℕ → List ℕ → Attribute
+path_from x y steps =
+    record { name = codes "d"; value = Word (codes "M") ∷ Number x ∷ Word (codes " ") ∷ Number y ∷ Word steps ∷ [] }
+
+-- a part of a picture, before others
+abbrev pub shape_tree : Shape → Forest → Forest
+shape_tree (Cell x y width height fill) behind =
+    Element (codes "rect") (worded (codes "stroke") (codes "#222222") ∷ box_attributes x y width height fill)
+    Nothing behind
+shape_tree (Bar x y width height fill) behind =
+    Element (codes "rect") (box_attributes x y width height fill) Nothing behind
+shape_tree (Down x y) behind = Element (codes "path") (path_from x y (codes "h8l-4 5z") ∷ []) Nothing behind
+shape_tree (Up x y) behind = Element (codes "path") (path_from x y (codes "h8l-4-5z") ∷ []) Nothing behind
+shape_tree (Words x y anchor ink text) behind =
+    Element (codes "text") (words_attributes x y anchor ink) (Text text Nothing) behind
+
+abbrev pub shapes_forest : List Shape → Forest
+shapes_forest [] = Nothing
+shapes_forest (shape ∷ shapes) = shape_tree shape (shapes_forest shapes)
+
+-- the attributes of the whole: its size, and its font
+abbrev pub picture_attributes : ℕ → ℕ → List Attribute
+picture_attributes width height =
+    worded (codes "xmlns") (codes "http://www.w3.org/2000/svg") ∷ numeric (codes "width") width
+    ∷ numeric (codes "height") height ∷ worded (codes "font-family") (codes "monospace")
+    ∷ numeric (codes "font-size") 12 ∷ []
+
+-- a picture is one tree: its title, and then its parts
+abbrev pub picture_tree : Picture → Forest
+picture_tree picture =
+    Element (codes "svg") (picture_attributes picture.width picture.height)
+    (Element (codes "title") [] (Text picture.title Nothing) (shapes_forest picture.shapes)) Nothing
+
+unfoldable pub picture_text : Picture → List ℕ
+picture_text picture = forest_text (picture_tree picture)

@@ -1,0 +1,115 @@
+//! What a picture is made of: boxes, bars, marks and words, each at its place.
+//!
+//! Places count in pixels from the picture's left upper corner, to the right and down.
+
+ghost use Rattle.std.specs.Prelude.{◌≡◌, Some};
+ghost use Rattle.draw.specs.Colours.{colour_code, anchor_code};
+
+use quaject_core::Items;
+use std::fmt;
+
+/// A colour. Those of states are told apart by readers who see fewer colours too (Okabe and Ito, 2008).
+#[derive(Clone, Copy, Debug, PartialEq, Eq)]
+pub enum Colour {
+    Ink,
+    Dim,
+    Faint,
+    White,
+    Grey,
+    Orange,
+    Sky,
+    Green,
+    Yellow,
+    Pink,
+    Red,
+}
+
+impl fmt::Display for Colour {
+    ghost use Rattle.draw.specs.Colours.{colour_code};
+
+    ghost output = { λ colour. Some (colour_code colour) };
+
+    fn fmt<W: fmt::Write>(&self, f: &mut fmt::Formatter<W>) -> fmt::Result {
+        match self {
+            Colour::Ink => write!(f, "#222222"),
+            Colour::Dim => write!(f, "#767676"),
+            Colour::Faint => write!(f, "#e4e4e4"),
+            Colour::White => write!(f, "#ffffff"),
+            Colour::Grey => write!(f, "#cccccc"),
+            Colour::Orange => write!(f, "#f0b040"),
+            Colour::Sky => write!(f, "#7cc6f0"),
+            Colour::Green => write!(f, "#40b890"),
+            Colour::Yellow => write!(f, "#f4e85c"),
+            Colour::Pink => write!(f, "#dc9cbc"),
+            Colour::Red => write!(f, "#c03a00"),
+        }
+    }
+}
+
+/// Where the point of a text lies: at its start, or in its middle.
+#[derive(Clone, Copy, Debug, PartialEq, Eq)]
+pub enum Anchor {
+    Start,
+    Middle,
+}
+
+impl fmt::Display for Anchor {
+    ghost use Rattle.draw.specs.Colours.{anchor_code};
+
+    ghost output = { λ anchor. Some (anchor_code anchor) };
+
+    fn fmt<W: fmt::Write>(&self, f: &mut fmt::Formatter<W>) -> fmt::Result {
+        match self {
+            Anchor::Start => write!(f, "start"),
+            Anchor::Middle => write!(f, "middle"),
+        }
+    }
+}
+
+/// A part of a picture.
+#[derive(Debug, Drop)]
+pub enum Shape {
+    /// A box with a border.
+    Cell {
+        x: u32,
+        y: u32,
+        width: u32,
+        height: u32,
+        fill: Colour,
+    },
+    /// A bar without one.
+    Bar {
+        x: u32,
+        y: u32,
+        width: u32,
+        height: u32,
+        fill: Colour,
+    },
+    /// A small triangle with its upper side here, which points down.
+    Down {
+        x: u32,
+        y: u32,
+    },
+    /// A small triangle with its lower side here, which points up.
+    Up {
+        x: u32,
+        y: u32,
+    },
+    /// A line of text, with its base line here.
+    Words {
+        x: u32,
+        y: u32,
+        anchor: Anchor,
+        ink: Colour,
+        text: Items<u8>,
+    },
+}
+
+/// A picture: its size, its title, and its parts, later ones upon earlier ones.
+#[derive(Debug, Drop)]
+pub struct Picture {
+    pub width: u32,
+    pub height: u32,
+    pub title: Items<u8>,
+    pub shapes: Items<Shape>,
+}

@@ -1,0 +1,41 @@
+//! Texts of a picture, made in memory.
+
+use quaject_core::{Items, OutOfMemory};
+use std::alloc::Global;
+
+/// These bytes as a text of their own.
+pub(crate) fn text_of(alloc: Global, bytes: &[u8]) -> Result<Items<u8>, OutOfMemory> {
+    Ok(Items::new(bytes.to_vec(alloc)?))
+}
+
+/// The front of a line; where the line is longer, two full stops end it.
+pub(crate) fn front_of(alloc: Global, line: &[u8], most: usize) -> Result<Items<u8>, OutOfMemory> {
+    if line.len() <= most {
+        return text_of(alloc, line);
+    }
+    let mut text = line[..most].to_vec(alloc)?;
+    text.extend_from_slice(b"..")?;
+    Ok(Items::new(text))
+}
+
+/// The line of this number, from 1 on; nothing where there is none.
+pub(crate) fn line_at(script: &[u8], number: u32) -> &[u8] {
+    let mut at = 1u32;
+    for line in script.split(|byte| *byte == b'\n') {
+        if at == number {
+            return line;
+        }
+        at = at.saturating_add(1);
+    }
+    b""
+}
+
+/// What the first comment says; nothing where there is none.
+pub(crate) fn first_comment(script: &[u8]) -> &[u8] {
+    for line in script.split(|byte| *byte == b'\n') {
+        if let Some(comment) = line.strip_prefix(b"# ") {
+            return comment;
+        }
+    }
+    b""
+}

@@ -14,7 +14,7 @@ use Rattle.std.specs.Prelude.{codes}
 use Rattle.std.specs.List.{flat_map}
 use Rattle.draw.specs.Colours.{colour_code, anchor_code}
 use Rattle.draw.specs.Forests.{Attribute, attribute_text, Forest, Nothing, Text, Element, element_text, escaped, forest_text}
-use Rattle.draw.specs.Pictures.{numeric, worded, box_attributes, words_attributes, path_from, shape_tree, shapes_forest, picture_attributes, picture_text}
+use Rattle.draw.specs.Pictures.{worded, box_attributes, words_attributes, path_from, shape_tree, shapes_forest, picture_attributes, picture_text}
 
 pub colour_escaped : (colour : Colour) → escaped (colour_code colour) ≡ colour_code colour
 colour_escaped Ink = refl

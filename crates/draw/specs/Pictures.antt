@@ -6,7 +6,7 @@ use Rattle.draw.specs.declared.shapes.Shape.{Shape}
 use Rattle.draw.specs.declared.shapes.Shape.TheVariants.{Cell, Bar, Down, Up, Words}
 use Rattle.draw.specs.declared.shapes.Picture.{Picture}
 use Rattle.draw.specs.Colours.{colour_code, anchor_code}
-use Rattle.draw.specs.Forests.{Piece, Word, Number, Attribute, Forest, Nothing, Text, Element, forest_text}
+use Rattle.draw.specs.Forests.{Word, Number, Attribute, Forest, Nothing, Text, Element, forest_text}
 
 -- an attribute that is a number, and one that is a word
 abbrev pub numeric : List ℕ → ℕ → Attribute

@@ -1,4 +1,4 @@
-use Rattle.std.proofs.Common.{◌≡◌, ◌+◌, ◌∙◌, sym, ap, subst, length, take, min, arith}
+use Rattle.std.proofs.Common.{◌+◌, ◌∙◌, sym, ap, subst, length, take, min, arith}
 use Rattle.quaject_core.specs.ShownCores.{state}
 use Rattle.quaject_core.specs.States.{first_state}
 use Rattle.boot_script.proofs.Schedules.{reaches_next}

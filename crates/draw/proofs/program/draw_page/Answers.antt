@@ -1,4 +1,4 @@
-use Rattle.std.proofs.Common.{◌≡◌, ◌++◌, ◌∙◌, refl, sym, ap, subst}
+use Rattle.std.proofs.Common.{◌++◌, ◌∙◌, refl, sym, ap, subst}
 use Rattle.quaject_core.specs.States.{first_state}
 use Rattle.boot_script.proofs.Faults.{memory_last}
 use Rattle.draw.specs.Drawings.{IsDrawn}

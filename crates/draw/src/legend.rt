@@ -58,12 +58,12 @@ fn add_marks(alloc: Global, y: u32, shapes: &mut Vec<Shape>) -> Result<(), OutOf
         x: 478,
         y: y.saturating_add(7),
     })?;
-    add_words(alloc, b"tail", 492, y, shapes)?;
+    add_words(alloc, b"head", 492, y, shapes)?;
     shapes.push(Shape::Up {
         x: 538,
         y: y.saturating_add(12),
     })?;
-    add_words(alloc, b"head", 552, y, shapes)?;
+    add_words(alloc, b"tail", 552, y, shapes)?;
     shapes.push(Shape::Bar {
         x: 602,
         y,

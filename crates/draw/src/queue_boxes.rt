@@ -36,14 +36,14 @@ impl PlaceState {
     }
 }
 
-/// The seat of a place, where it is claimed: the first that is left lies at the head.
+/// The seat of a place, where it is claimed: the first that is left lies at the tail.
 fn seat_at<'a>(left: &'a [Seat], queue: &QueueStatus, place: u16) -> Option<&'a Seat> {
     let places = u64::from(queue.capacity);
     if places == 0 {
         return None;
     }
-    let head = queue.taken % places;
-    let behind = (u64::from(place) + places - head) % places;
+    let tail = queue.taken % places;
+    let behind = (u64::from(place) + places - tail) % places;
     left.get(usize::try_from(behind).unwrap_or(usize::MAX))
 }
 
@@ -113,7 +113,7 @@ fn side_of(column: &QueueColumn, count: u64) -> u32 {
         .saturating_add(place.saturating_mul(column.place))
 }
 
-/// The marks: the head, which is taken next, below, and the tail, which is claimed next, above.
+/// The marks: the tail, which is taken next, below, and the head, which is claimed next, above.
 fn add_marks(
     queue: &QueueStatus,
     column: &QueueColumn,

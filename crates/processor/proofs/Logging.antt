@@ -12,9 +12,9 @@ use Rattle.std.proofs.lemmas.Grind.{flat_map-append}
 use Rattle.boot_script.specs.declared.boot_plan.BootPlan.{BootPlan}
 use Rattle.claim_queue.specs.declared.claim.ClaimRefusal.{ClaimRefusal}
 use Rattle.claim_queue.specs.declared.claim.ClaimRefusal.TheVariants as claims
-use Rattle.claim_queue.specs.declared.ends.QueueEnd.{QueueEnd}
 use Rattle.claim_queue.specs.declared.take.TakeRefusal.{TakeRefusal}
 use Rattle.claim_queue.specs.declared.take.TakeRefusal.TheVariants as takes
+use Rattle.claim_queue.specs.declared.ends.QueueEnd.{QueueEnd}
 use Rattle.boot_script.specs.declared.plan.QueueIndex.TheVariants.{Small, Large}
 use Rattle.boot_script.specs.declared.plan.Step.{Step}
 use Rattle.boot_script.specs.declared.plan.Step.TheVariants as steps
@@ -48,7 +48,7 @@ use Rattle.processor.specs.declared.shared.Shared.{Shared}
 use Rattle.processor.specs.declared.station.Parts.{Parts}
 use Rattle.processor.specs.Deeds.{is_done}
 use Rattle.processor.specs.Logs.{Entry, IsPlanned, tally_by, tally_of, Logs, Logged, seat_after, times_shut, notes_ran}
-use Rattle.processor.specs.Logs.{small_shut_told, large_shut_told, small_over_told, large_over_told}
+use Rattle.processor.specs.Logs.{small_shut_told, large_shut_told}
 use Rattle.processor.specs.Logs.{small_put_by, small_taken_by, large_put_by, large_taken_by, shut_by, chained_by, ran_by}
 use Rattle.processor.specs.Logs.{ticked_by, clock_by, fired_by, heard_by, small_put, small_taken, large_put, large_taken, chained}
 use Rattle.processor.specs.Logs.Entry.{Tended, Delivered, Tried, Retired}
@@ -58,7 +58,7 @@ use Rattle.processor.specs.Queues.{said_line}
 use Rattle.processor.specs.Running.{Stepped, EndsDid, Goes, gone, line_heard, heard_in, step_tally}
 use Rattle.processor.specs.declared.running.Moved.{Moved}
 use Rattle.processor.specs.declared.running.Moved.TheVariants as moveds
-use Rattle.processor.specs.Steps.{SeatDid, QueuesDid, is_shut, is_over, told_shut_small, told_shut_large, told_over_small, told_over_large, comes_of, ticks_by, raised_by}
+use Rattle.processor.specs.Steps.{SeatDid, QueuesDid, is_shut, is_over, told_shut_small, told_shut_large, comes_of, ticks_by, raised_by}
 use Rattle.processor.specs.Stations.{no_signals}
 use Rattle.processor.specs.Turns.{heard_lines, AreAtRest, is_last}
 use Rattle.processor.proofs.Acting.{behind_assoc, nothing_behind, adds_on}
@@ -165,8 +165,6 @@ logs_on plan xs ys a b c f g = record {
       (worked_on (large_put xs) (large_put ys) (large_taken xs) (large_taken ys) never never a.large.items b.large.items c.large.items f.large g.large);
   small_shut = λ q h. told_on (small_shut_told q) xs ys (λ z. knows_shut_at z q ≡ true) b.small.items c.small.items (g.small.known q) (f.small_shut q) (g.small_shut q) h;
   large_shut = λ q h. told_on (large_shut_told q) xs ys (λ z. knows_shut_at z q ≡ true) b.large.items c.large.items (g.large.known q) (f.large_shut q) (g.large_shut q) h;
-  small_over = λ q h. told_on (small_over_told q) xs ys (λ z. knows_shut_at z q ≡ true) b.small.items c.small.items (g.small.known q) (f.small_over q) (g.small_over q) h;
-  large_over = λ q h. told_on (large_over_told q) xs ys (λ z. knows_shut_at z q ≡ true) b.large.items c.large.items (g.large.known q) (f.large_over q) (g.large_over q) h;
   chains = chains_as _ _ _ _ _ _ (λ q. sym (flat_map-append (chained_by q) xs ys)) (λ q. sym (sum_by-append (ran_by q) xs ys))
       (chains_on (chained xs) (chained ys) (notes_ran xs) (notes_ran ys) a.chains.items b.chains.items c.chains.items f.chains g.chains);
   meters = seat_on xs ys (meters.view_of a.meters) (meters.view_of b.meters) (meters.view_of c.meters) f.meters g.meters;
@@ -213,21 +211,17 @@ pub one_entry : (plan : BootPlan) (x : Entry) (old new : Parts) → IsPlanned pl
     → Worked (λ q. large_put_by q x) (λ q. large_taken_by q x) never old.large.items new.large.items
     → ((q : ℕ) → small_shut_told q x ≡ true → knows_shut_at new.small.items q ≡ true)
     → ((q : ℕ) → large_shut_told q x ≡ true → knows_shut_at new.large.items q ≡ true)
-    → ((q : ℕ) → small_over_told q x ≡ true → knows_shut_at new.small.items q ≡ true)
-    → ((q : ℕ) → large_over_told q x ≡ true → knows_shut_at new.large.items q ≡ true)
     → ChainsWorked (λ q. chained_by q x) (λ q. ran_by q x) old.chains.items new.chains.items
     → own_of (meters.view_of new.meters) ≡ seat_after (x ∷ []) (meters.view_of old.meters)
     → heard_lines new ≡ heard_lines old ++ heard_by x → Shows (tally_by x).delivered old.signals new.signals
     → Logs plan (x ∷ []) old new
-one_entry plan x old new p h s l st lt so lo c m lines sig = record {
+one_entry plan x old new p h s l st lt c m lines sig = record {
   planned = (p, tt);
   hand = h ∙ ap (λ z. behind (tally (view_of old.hand).made) z) (sym (nothing_behind (tally_by x)));
   small = worked_as _ _ _ _ _ _ _ _ (λ q. sym (append-nil (small_put_by q x))) (λ q. sym (append-nil (small_taken_by q x))) (λ q. zero_first (shut_by q x)) s;
   large = worked_as _ _ _ _ _ _ _ _ (λ q. sym (append-nil (large_put_by q x))) (λ q. sym (append-nil (large_taken_by q x))) (λ q. refl) l;
   small_shut = λ q k. st q (only (small_shut_told q x) k);
   large_shut = λ q k. lt q (only (large_shut_told q x) k);
-  small_over = λ q k. so q (only (small_over_told q x) k);
-  large_over = λ q k. lo q (only (large_over_told q x) k);
   chains = chains_as _ _ _ _ _ _ (λ q. sym (append-nil (chained_by q x))) (λ q. zero_first (ran_by q x)) c;
   meters = m;
   heard = lines ∙ ap (λ z. heard_lines old ++ z) (sym (append-nil (heard_by x)));
@@ -244,8 +238,6 @@ nothing_logged plan old new h r m s = record {
   large = rests _ _ (ap (λ z. z.items) r.large);
   small_shut = λ q k. cc;
   large_shut = λ q k. cc;
-  small_over = λ q k. cc;
-  large_over = λ q k. cc;
   chains = chains_rest _ _ (ap (λ z. z.items) r.chains);
   meters = seat_rests (meters.view_of old.meters) (meters.view_of new.meters) (ap (λ z. own_of (meters.view_of z)) m);
   heard = ap (λ z. map line_heard z.items) r.heard ∙ sym (append-nil (heard_lines old));
@@ -256,7 +248,7 @@ nothing_logged plan old new h r m s = record {
 pub delivered_logged : (plan : BootPlan) (e mask : ℕ) (old new : Parts) → Adds (one_delivery e mask) (view_of old.hand) (view_of new.hand) → AreAtRest old new
     → new.meters ≡ old.meters → Shows (delivery e mask) old.signals new.signals → Logs plan (Delivered e mask ∷ []) old new
 delivered_logged plan e mask old new h r m s = one_entry plan (Delivered e mask) old new tt h
-    (rests _ _ (ap (λ z. z.items) r.small)) (rests _ _ (ap (λ z. z.items) r.large)) (λ q k. cc) (λ q k. cc) (λ q k. cc) (λ q k. cc) (chains_rest _ _ (ap (λ z. z.items) r.chains))
+    (rests _ _ (ap (λ z. z.items) r.small)) (rests _ _ (ap (λ z. z.items) r.large)) (λ q k. cc) (λ q k. cc) (chains_rest _ _ (ap (λ z. z.items) r.chains))
     (seat_rests (meters.view_of old.meters) (meters.view_of new.meters) (ap (λ z. own_of (meters.view_of z)) m)) (ap (λ z. map line_heard z.items) r.heard ∙ sym (append-nil (heard_lines old))) s
 
 -- an element was put behind the free ones, or stayed where it was
@@ -265,7 +257,7 @@ pub retired_logged : (plan : BootPlan) (e n : ℕ) (moved : Bool) (old new : Par
 retired_logged plan e n true old new p h r m s = record {
   log = Retired e n ∷ [];
   its = one_entry plan (Retired e n) old new p h
-      (rests _ _ (ap (λ z. z.items) r.small)) (rests _ _ (ap (λ z. z.items) r.large)) (λ q k. cc) (λ q k. cc) (λ q k. cc) (λ q k. cc) (chains_rest _ _ (ap (λ z. z.items) r.chains))
+      (rests _ _ (ap (λ z. z.items) r.small)) (rests _ _ (ap (λ z. z.items) r.large)) (λ q k. cc) (λ q k. cc) (chains_rest _ _ (ap (λ z. z.items) r.chains))
       (seat_rests (meters.view_of old.meters) (meters.view_of new.meters) (ap (λ z. own_of (meters.view_of z)) m)) (ap (λ z. map line_heard z.items) r.heard ∙ sym (append-nil (heard_lines old))) (shows_none _ _ s);
 }
 retired_logged plan e n false old new p h r m s = record { log = []; its = nothing_logged plan old new h r m s }
@@ -275,7 +267,7 @@ pub tended_logged : (plan : BootPlan) (advanced : Result ℕ AdvanceRefusal) (al
     → Adds (signals_for alarms) (view_of old.hand) (view_of new.hand) → AreAtRest old new
     → DidTend advanced alarms (meters.view_of old.meters) (meters.view_of new.meters) → new.signals ≡ old.signals → Logs plan (Tended advanced alarms ∷ []) old new
 tended_logged plan advanced alarms old new h r m s = one_entry plan (Tended advanced alarms) old new tt h
-    (rests _ _ (ap (λ z. z.items) r.small)) (rests _ _ (ap (λ z. z.items) r.large)) (λ q k. cc) (λ q k. cc) (λ q k. cc) (λ q k. cc) (chains_rest _ _ (ap (λ z. z.items) r.chains))
+    (rests _ _ (ap (λ z. z.items) r.small)) (rests _ _ (ap (λ z. z.items) r.large)) (λ q k. cc) (λ q k. cc) (chains_rest _ _ (ap (λ z. z.items) r.chains))
     (m ∙ own_eq (own_of (meters.view_of old.meters)) _ _ _ _ _ _ (sym (append-nil (meters.view_of old.meters).ticks))
     (ap (λ z. (meters.view_of old.meters).advances ++ z) (sym (append-nil (tick_to advanced)))) (ap (λ z. (meters.view_of old.meters).fired ++ z) (sym (append-nil alarms)))) (ap (λ z. map line_heard z.items) r.heard ∙ sym (append-nil (heard_lines old))) (shows_none _ _ s)
 
@@ -302,36 +294,31 @@ set_there f [] k end after at h = absurd (cc)
 set_there f (x ∷ xs) zero end after at h = h
 set_there f (x ∷ xs) (suc k) end after at h = set_there f xs k end after at h
 
--- a hear that was told so found its queue shut
-found_over : {n : ℕ} (line : List ℕ) (refusal : TakeRefusal) (old new : QueueEnd n) → is_over refusal ≡ true → Heard {A = Unit {0}} line (Err refusal) old new → end_knows_shut new ≡ true
-found_over line takes.Closed old new is h = h.1.shut
-found_over line refusal old new is h = cc
+-- and so did a hear
+heard_so : {n : ℕ} (line : List ℕ) (refusal : TakeRefusal) (old new : QueueEnd n) → is_over refusal ≡ true → Heard {A = Unit {0}} line (Err refusal) old new → end_knows_shut new ≡ true
+heard_so line takes.Closed old new is h = h.1.shut
+heard_so line refusal old new is h = cc
 
--- an end that is shown to know it is the one at its place
-on_so : {n : ℕ} (P : QueueEnd n → QueueEnd n → Type 0) (k : ℕ) (old new : List (QueueEnd n)) → ((end after : QueueEnd n) → P end after → end_knows_shut after ≡ true) → OnEnd k P old new
+on_so : {n : ℕ} (R : QueueEnd n → QueueEnd n → Type 0) (k : ℕ) (old new : List (QueueEnd n)) → ((a b : QueueEnd n) → R a b → end_knows_shut b ≡ true) → OnEnd k R old new
     → (q : ℕ) → (q == k) ≡ true → knows_shut_at new q ≡ true
-on_so P k old new knows o q at = let e = eqb-true q k at in
-    subst (λ (z : ℕ). knows_shut_at new z ≡ true) (sym e) (ap (λ z. knows_shut_at z k) o.now ∙ set_there end_knows_shut old k o.end o.after o.was (knows o.end o.after o.does))
+on_so R k old new so o q at = let e = eqb-true q k at in
+    subst (λ (z : ℕ). knows_shut_at new z ≡ true) (sym e) (ap (λ z. knows_shut_at z k) o.now ∙ set_there end_knows_shut old k o.end o.after o.was (so o.end o.after o.does))
 
 told_small : (step : Step) (deed : Deed) (heard : List ℕ) (old new : List (QueueEnd 64)) (old' new' : List (QueueEnd 256)) → QueuesDid step deed heard old new old' new'
     → (q : ℕ) → told_shut_small step deed q ≡ true → knows_shut_at new q ≡ true
-told_small (steps.Say (Small k) text) deeds.SaidNothing heard old new old' new' d q at = on_so (Said {A = Unit {0}} (said_line text) (Err d.0)) k old new (λ end after. found_so (said_line text) d.0 end after d.1) d.2.0 q at
+told_small (steps.Say (Small k) text) deeds.SaidNothing heard old new old' new' d q at =
+    on_so (Said {A = Unit {0}} (said_line text) (Err d.0)) k old new (λ a b. found_so (said_line text) d.0 a b d.1) d.2.0 q at
+told_small (steps.Hear (Small k)) (deeds.HeardNothing woken) heard old new old' new' d q at =
+    on_so (Heard {A = Unit {0}} heard (Err d.0)) k old new (λ a b. heard_so heard d.0 a b d.1) d.2.0 q at
 told_small step deed heard old new old' new' d q at = cc
 
 told_large : (step : Step) (deed : Deed) (heard : List ℕ) (old new : List (QueueEnd 64)) (old' new' : List (QueueEnd 256)) → QueuesDid step deed heard old new old' new'
     → (q : ℕ) → told_shut_large step deed q ≡ true → knows_shut_at new' q ≡ true
-told_large (steps.Say (Large k) text) deeds.SaidNothing heard old new old' new' d q at = on_so (Said {A = Unit {0}} (said_line text) (Err d.0)) k old' new' (λ end after. found_so (said_line text) d.0 end after d.1) d.2.0 q at
+told_large (steps.Say (Large k) text) deeds.SaidNothing heard old new old' new' d q at =
+    on_so (Said {A = Unit {0}} (said_line text) (Err d.0)) k old' new' (λ a b. found_so (said_line text) d.0 a b d.1) d.2.0 q at
+told_large (steps.Hear (Large k)) (deeds.HeardNothing woken) heard old new old' new' d q at =
+    on_so (Heard {A = Unit {0}} heard (Err d.0)) k old' new' (λ a b. heard_so heard d.0 a b d.1) d.2.0 q at
 told_large step deed heard old new old' new' d q at = cc
-
-over_small : (step : Step) (deed : Deed) (heard : List ℕ) (old new : List (QueueEnd 64)) (old' new' : List (QueueEnd 256)) → QueuesDid step deed heard old new old' new'
-    → (q : ℕ) → told_over_small step deed q ≡ true → knows_shut_at new q ≡ true
-over_small (steps.Hear (Small k)) (deeds.HeardNothing woken) heard old new old' new' d q at = on_so (Heard {A = Unit {0}} heard (Err d.0)) k old new (λ end after. found_over heard d.0 end after d.1) d.2.0 q at
-over_small step deed heard old new old' new' d q at = cc
-
-over_large : (step : Step) (deed : Deed) (heard : List ℕ) (old new : List (QueueEnd 64)) (old' new' : List (QueueEnd 256)) → QueuesDid step deed heard old new old' new'
-    → (q : ℕ) → told_over_large step deed q ≡ true → knows_shut_at new' q ≡ true
-over_large (steps.Hear (Large k)) (deeds.HeardNothing woken) heard old new old' new' d q at = on_so (Heard {A = Unit {0}} heard (Err d.0)) k old' new' (λ end after. found_over heard d.0 end after d.1) d.2.0 q at
-over_large step deed heard old new old' new' d q at = cc
 
 counted_so : (call element : ℕ) (done : Bool) (number : ℕ) (answer : Counted) (did after v w : View) → CountAnswer call element done did answer after → IsNumber answer element v w
     → number ≡ done_at v.schedule element → number < 64 → answer ≡ count_of done number
@@ -351,7 +338,7 @@ pub tried_logged : (plan : BootPlan) (shared : Shared) (call p element number : 
 tried_logged plan shared call p element number step deed answer text old new is comes s nth now low h e lines sig =
     one_entry plan (Tried element number step deed answer text) old new
     (is, comes, counted_so call element (is_done deed) number answer s.did s.after _ _ s.counts nth now low) h e.small_lines e.large_lines
-    (told_small step deed text _ _ _ _ e.queues) (told_large step deed text _ _ _ _ e.queues) (over_small step deed text _ _ _ _ e.queues) (over_large step deed text _ _ _ _ e.queues) e.notes
+    (told_small step deed text _ _ _ _ e.queues) (told_large step deed text _ _ _ _ e.queues) e.notes
     (ticked step deed _ _ e.seat ∙ own_eq (own_of (meters.view_of old.meters)) _ _ _ _ _ _ (ap (λ z. (meters.view_of old.meters).ticks ++ z) (sym (append-nil (ticks_by step deed))))
     (sym (append-nil (meters.view_of old.meters).advances)) (sym (append-nil (meters.view_of old.meters).fired)))
     lines
@@ -376,8 +363,6 @@ leaves plan log old new f l = record {
   large_takes = λ q. l.large.takes_are q ∙ ap (λ z. z ++ large_taken log q) ((f.large q).1);
   small_shut = l.small_shut;
   large_shut = l.large_shut;
-  small_over = l.small_over;
-  large_over = l.large_over;
   large_shuts = λ q. let a = l.large.shuts_are q in let b = (f.large q).2 in omega arith;
   notes = λ q. l.chains.puts_are q ∙ ap (λ z. z ++ chained log q) ((f.chains q).0);
   ran = λ q. let a = l.chains.runs_are q in let b = ap (λ z. length z) ((f.chains q).1) in omega arith;

@@ -25,7 +25,7 @@ use Rattle.processor.specs.Deeds.{is_done}
 use Rattle.processor.specs.Programs.{program, step_of}
 use Rattle.processor.specs.Running.{Line, step_tally, heard_in}
 use Rattle.processor.specs.Steps.{puts_small, puts_large, takes_small, takes_large, shuts_by, notes_by, runs_by, ticks_by}
-use Rattle.processor.specs.Steps.{comes_of, told_shut_small, told_shut_large, told_over_small, told_over_large}
+use Rattle.processor.specs.Steps.{comes_of, told_shut_small, told_shut_large}
 use Rattle.processor.specs.Stations.{IsUnused}
 use Rattle.processor.specs.Turns.{heard_lines}
 
@@ -81,7 +81,7 @@ abbrev pub shut_by : ℕ → Entry → ℕ
 shut_by q (Tried element number step deed count heard) = shuts_by step deed q
 shut_by q entry = 0
 
--- whether it was told, by a say, that the queue q is shut, among the small queues and among the large
+-- whether it was told, by a say or a hear, that the queue q is shut, among the small queues and among the large
 abbrev pub small_shut_told : ℕ → Entry → Bool
 small_shut_told q (Tried element number step deed count heard) = told_shut_small step deed q
 small_shut_told q entry = false
@@ -89,15 +89,6 @@ small_shut_told q entry = false
 abbrev pub large_shut_told : ℕ → Entry → Bool
 large_shut_told q (Tried element number step deed count heard) = told_shut_large step deed q
 large_shut_told q entry = false
-
--- and by a hear, that it is shut and has nothing left
-abbrev pub small_over_told : ℕ → Entry → Bool
-small_over_told q (Tried element number step deed count heard) = told_over_small step deed q
-small_over_told q entry = false
-
-abbrev pub large_over_told : ℕ → Entry → Bool
-large_over_told q (Tried element number step deed count heard) = told_over_large step deed q
-large_over_told q entry = false
 
 -- the notes that it chained at the chain q, and how many it ran there
 abbrev pub chained_by : ℕ → Entry → List (List ℕ)
@@ -146,19 +137,12 @@ large_taken log q = flat_map (large_taken_by q) log
 abbrev pub times_shut : List Entry → ℕ → ℕ
 times_shut log q = sum_by (shut_by q) log
 
--- whether a say of the log was told that the queue q is shut
+-- whether a say or hear of the log was told that the queue q is shut
 abbrev pub small_was_shut : List Entry → ℕ → Bool
 small_was_shut log q = list_any (small_shut_told q) log
 
 abbrev pub large_was_shut : List Entry → ℕ → Bool
 large_was_shut log q = list_any (large_shut_told q) log
-
--- whether a hear of the log was told that the queue q is shut and has nothing left
-abbrev pub small_was_over : List Entry → ℕ → Bool
-small_was_over log q = list_any (small_over_told q) log
-
-abbrev pub large_was_over : List Entry → ℕ → Bool
-large_was_over log q = list_any (large_over_told q) log
 
 abbrev pub chained : List Entry → ℕ → List (List ℕ)
 chained log q = flat_map (chained_by q) log
@@ -194,8 +178,6 @@ pub record Logs (plan : BootPlan) (log : List Entry) (old new : Parts) : Type 0 
   pub meters : own_of (meters.view_of new.meters) ≡ seat_after log (meters.view_of old.meters)
   pub heard : heard_lines new ≡ heard_lines old ++ flat_map heard_by log
   pub signals : Shows (tally_of log).delivered old.signals new.signals
-  pub small_over : (q : ℕ) → small_was_over log q ≡ true → knows_shut_at new.small.items q ≡ true
-  pub large_over : (q : ℕ) → large_was_over log q ≡ true → knows_shut_at new.large.items q ≡ true
 
 pub record Logged (plan : BootPlan) (old new : Parts) : Type 0 where
   pub log : List Entry
@@ -231,8 +213,6 @@ pub record Leaves (plan : BootPlan) (log : List Entry) (parts : Parts) : Type 0 
   pub heard : heard_lines parts ≡ flat_map heard_by log
   pub shown : (element signal : ℕ) → element < 64 → signal < 16
       → is_in (slice_index_or parts.signals element 0) signal ≡ is_delivered (tally_of log).delivered element signal
-  pub small_over : (q : ℕ) → small_was_over log q ≡ true → knows_shut_at parts.small.items q ≡ true
-  pub large_over : (q : ℕ) → large_was_over log q ≡ true → knows_shut_at parts.large.items q ≡ true
 
 pub record HasLeft (plan : BootPlan) (parts : Parts) : Type 0 where
   pub log : List Entry

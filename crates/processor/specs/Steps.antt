@@ -152,23 +152,16 @@ abbrev pub shuts_by : Step → Deed → ℕ → ℕ
 shuts_by (steps.Close queue) (deeds.Shut was_open readers writers) = number_at queue (once_if was_open)
 shuts_by step deed = never
 
--- whether it was told, by a say, that the queue q is shut, among the small queues and among the large
+-- whether it was told that the queue q is shut, among the small queues and among the large
 abbrev pub told_shut_small : Step → Deed → ℕ → Bool
 told_shut_small (steps.Say (Small queue) text) deeds.SaidNothing q = q == queue
+told_shut_small (steps.Hear (Small queue)) (deeds.HeardNothing woken) q = q == queue
 told_shut_small step deed q = false
 
 abbrev pub told_shut_large : Step → Deed → ℕ → Bool
 told_shut_large (steps.Say (Large queue) text) deeds.SaidNothing q = q == queue
+told_shut_large (steps.Hear (Large queue)) (deeds.HeardNothing woken) q = q == queue
 told_shut_large step deed q = false
-
--- whether it was told, by a hear, that the queue q is shut and has nothing left
-abbrev pub told_over_small : Step → Deed → ℕ → Bool
-told_over_small (steps.Hear (Small queue)) (deeds.HeardNothing woken) q = q == queue
-told_over_small step deed q = false
-
-abbrev pub told_over_large : Step → Deed → ℕ → Bool
-told_over_large (steps.Hear (Large queue)) (deeds.HeardNothing woken) q = q == queue
-told_over_large step deed q = false
 
 -- the notes that it chained, and how many it ran
 abbrev pub notes_by : Step → Deed → ℕ → List (List ℕ)

@@ -23,7 +23,7 @@ use Rattle.quajects.specs.Settled.{runs_of}
 use Rattle.processor.specs.Logs.{Entry, Leaves, heard_by, fired_by}
 use Rattle.processor.specs.Running.{Line}
 use Rattle.processor.specs.Turns.{heard_lines}
-use Rattle.reports.specs.Agreements.{IsTakenByQuajects, IsMover, IsTty, TtyAgrees, AreWithout}
+use Rattle.reports.specs.Agreements.{IsTakenByQuajects, IsSmallPutByQuajects, IsLargePutByQuajects, IsMover, IsTty, TtyAgrees, AreWithout}
 use Rattle.reports.specs.Boots.{TtyEnds, Boot, BootEnded, home_of, raw_of, homes, small_others, large_others}
 use Rattle.reports.specs.Closed.{Closed}
 use Rattle.reports.specs.Closed as closed
@@ -38,8 +38,9 @@ use Rattle.reports.proofs.Meters.{gauges_agree, alarms_agree, fired_are}
 use Rattle.reports.proofs.Places.{thread_agrees}
 use Rattle.reports.proofs.Queues.{small_agrees, large_agrees}
 use Rattle.reports.proofs.Raws.{put_in_order, none_put_all, stays_below, its_device}
+use Rattle.reports.proofs.Shutting.{small_open, large_open}
 use Rattle.reports.proofs.Sorting.{sorted}
-use Rattle.reports.proofs.Takings.{CameBack, IsBelow, of_ends, of_more, of_homes, homes_took, homes_took_none, devices_took_none, home_put_none, no_runs}
+use Rattle.reports.proofs.Takings.{CameBack, IsBelow, of_ends, of_more, of_homes, homes_took, homes_took_none, homes_put, homes_put_large, no_device, devices_took_none, home_put_none, no_runs}
 use Rattle.reports.proofs.Threads.{planned_all, within}
 
 -- LISTS BESIDE LISTS
@@ -154,6 +155,15 @@ module _ (plan : BootPlan) (logs : List (List Entry)) (boot : Boot) (c : Closed)
   taken_large : (number : ℕ) (q : closed.Queue) → slice_get c.large number ≡ Some q → q.taken_by_others ≡ []
   taken_large number q at = (b.large number q at).taken_by_others ∙ homes_took_none number (homes boot) (c.movers ++ c.ttys) came_back
 
+  small_put : (number : ℕ) (q : closed.Queue) → number < length plan.queues → slice_get c.small number ≡ Some q → IsSmallPutByQuajects c number q
+  small_put number q low at =
+      (b.small number q at).put_by_others
+      ∙ (of_more lines_put (device_at number (length plan.queues) (map raw_of boot.ttys)) (flat_map (small_home number) (homes boot))
+      ∙ (λ k. no_device number (length plan.queues) (map raw_of boot.ttys) low k ++ homes_put number (homes boot) (c.movers ++ c.ttys) came_back k))
+
+  large_put : (number : ℕ) (q : closed.Queue) → slice_get c.large number ≡ Some q → IsLargePutByQuajects c number q
+  large_put number q at = (b.large number q at).put_by_others ∙ homes_put_large number (homes boot) (c.movers ++ c.ttys) came_back
+
   -- RAW QUEUES
 
   put_none : (number : ℕ) → length plan.queues ≤ number → AllByRecursion (PutNone number) (homes boot)
@@ -218,6 +228,10 @@ module _ (plan : BootPlan) (logs : List (List Entry)) (boot : Boot) (c : Closed)
     threads = λ x t at. thread_agrees plan logs boot.stations boot.first boot.last b.left b.prepared b.some_processor b.joined c b.threads x t at fired;
     small = λ number q at. (small_agrees plan logs boot.stations boot.first boot.last b.left b.prepared b.joined number (small_others plan boot number) q (b.small number q at), taken_small number q at);
     large = λ number q at. (large_agrees plan logs boot.stations boot.first boot.last b.left b.prepared b.joined number (large_others boot number) q (b.large number q at), taken_large number q at);
+    small_put = small_put;
+    large_put = large_put;
+    small_open = λ number q at. small_open plan logs boot.stations boot.first boot.last b.left b.prepared b.joined number (small_others plan boot number) q (b.small number q at);
+    large_open = λ number q at. large_open plan logs boot.stations boot.first boot.last b.left b.prepared b.joined number (large_others boot number) q (b.large number q at);
     ttys = tty_agrees;
     movers = λ k p m at at'. let w = within plan.movers k p at in let x = b.all_movers in let home = there boot.movers k (omega arith) in
         mover_agrees plan logs boot.stations boot.first boot.last b.left b.prepared b.joined k p home.0 m (b.movers k p home.0 m at home.1 at');

@@ -21,7 +21,7 @@ use Rattle.processor.specs.Steps.{shuts_by}
 use Rattle.quajects.specs.Settled.{shuts_of}
 use Rattle.reports.specs.Closed as closed
 use Rattle.reports.specs.Endings.{QueueEnded, small_of, large_of}
-use Rattle.reports.specs.Saying.{IsNeverClosed, IsNeverShutSmall, IsNeverShutLarge}
+use Rattle.reports.specs.Saying.{IsLeftOpen, IsNeverClosed, IsNeverShutSmall, IsNeverShutLarge}
 use Rattle.reports.specs.Stations.{AllJoined, IsPrepared}
 use Rattle.reports.proofs.Counts.{by_bool}
 use Rattle.reports.proofs.Joining.{stays}
@@ -67,6 +67,12 @@ module _ {n : ℕ} (ends : Parts → List (QueueEnd n)) (number : ℕ) (stations
       let its : (view_of e.end).part.queue.shut ≡ true = sym (at_its end_knows_shut (ends last) number e.end false e.its) ∙ knows in
       one_none c.queue.shut (sym zero_shuts ∙ c.shut_once) ((c.listed.seen 0 e.closes.before.part refl).0.shut (e.known its))
 
+zip_with_all : {A B : Type 0} (R : A → B → Type 0) (P : A → Type 0) (xs : List A) (ys : List B) → AllZip R xs ys → AllByRecursion P xs → AllZip (λ x y. R x y × P x) xs ys
+zip_with_all R P [] [] z p = tt
+zip_with_all R P [] (y ∷ ys) z p = absurd z
+zip_with_all R P (x ∷ xs) [] z p = absurd z
+zip_with_all R P (x ∷ xs) (y ∷ ys) z p = ((z.0, p.0), zip_with_all R P xs ys z.1 p.1)
+
 module _ (plan : BootPlan) (q : ℕ) (never : IsNeverClosed plan q) where
   by_step : (element number : ℕ) (step : Step) (deed : Deed) → step_of plan element number ≡ Some step → shuts_by step deed q ≡ 0
   by_step element number (steps.Close queue) (deeds.Shut was_open readers writers) is = ⊎_elim
@@ -85,14 +91,18 @@ module _ (plan : BootPlan) (q : ℕ) (never : IsNeverClosed plan q) where
   by_log [] p = refl
   by_log (entry ∷ log) p = sum_by-cons (shut_by q) entry log ∙ (let a = by_entry entry p.0 in let b = by_log log p.1 in omega arith)
 
+  pub left_open : (logs : List (List Entry)) → AllByRecursion (AllByRecursion (IsPlanned plan)) logs → IsLeftOpen q logs
+  left_open [] p = tt
+  left_open (log ∷ logs) p = (by_log log p.0, left_open logs p.1)
+
 module _ (plan : BootPlan) (logs : List (List Entry)) (stations : List Parts) (first last : Parts) (left : AllZip (Leaves plan) logs stations)
     (begun : IsPrepared plan first) (joins : AllJoined first stations last) (number : ℕ) where
-  pub small_open : (others : List (QueueEnd 64)) (q : closed.Queue) → QueueEnded small_of number stations last others q → IsNeverClosed plan number → IsNeverShutSmall number logs
-  small_open others q e never = never_told (λ log. small_was_shut log number) (λ p. knows_shut_at (small_of p) number ≡ true)
+  pub small_open : (others : List (QueueEnd 64)) (q : closed.Queue) → QueueEnded small_of number stations last others q → IsLeftOpen number logs → IsNeverShutSmall number logs
+  small_open others q e none = never_told (λ log. small_was_shut log number) (λ p. knows_shut_at (small_of p) number ≡ true)
       (λ a b c j h. j.small.known number h) (λ a b c j h. j.small.others_known number h) (Leaves plan) (λ log p l is. l.small_shut number is) logs first stations last left joins
       (is_open small_of number stations last others q e
-      (none_in_all (λ p. shuts_at (small_of p) number) (λ a b c j. j.small.shuts number) (Leaves plan) (λ log p l. l.small_shuts number ∙ by_log plan number never log l.planned)
-      logs first stations last left joins (begun.small_shuts number)))
+      (none_in_all (λ p. shuts_at (small_of p) number) (λ a b c j. j.small.shuts number) (λ log p. Leaves plan log p × (times_shut log number ≡ 0)) (λ log p l. l.0.small_shuts number ∙ l.1)
+      logs first stations last (zip_with_all (Leaves plan) (λ log. times_shut log number ≡ 0) logs stations left none) joins (begun.small_shuts number)))
 
   pub large_open : (others : List (QueueEnd 256)) (q : closed.Queue) → QueueEnded large_of number stations last others q → IsNeverShutLarge number logs
   large_open others q e = never_told (λ log. large_was_shut log number) (λ p. knows_shut_at (large_of p) number ≡ true)

@@ -22,7 +22,7 @@ use Rattle.quajects.specs.Settled.{runs_of}
 use Rattle.quajects.specs.Switches as switches
 use Rattle.quajects.specs.Terminals as terminals
 use Rattle.table_theory.specs.declared.queues.Batch.{Batch}
-use Rattle.reports.specs.Agreements.{source_of, taken_from, routes_of}
+use Rattle.reports.specs.Agreements.{source_of, taken_from, routes_of, small_targets, large_targets, put_at}
 use Rattle.reports.specs.Closed as closed
 use Rattle.reports.specs.Endings.{ends_at, small_home, large_home, device_at, ChainEnded}
 
@@ -109,6 +109,58 @@ homes_took_none number homes chains z = of_homes lines_taken number (large_home 
     by (h ∷ hs) [] z = absurd z
     by (h ∷ hs) (c ∷ cs) z = let e = z.0.1 in λ k. home_took_none number e.came.quaject h.chained h.left h e.came.its e.came.sides k ++ by hs cs z.1 k
 
+-- PUTS
+
+put_there : {n : ℕ} (number : ℕ) (ports : List (Option (Port n))) → of_ends lines_put (ends_at number ports) ≡ put_at number ports
+put_there number [] = refl
+put_there number (None ∷ ports) = put_there number ports
+put_there number (Some p ∷ ports) = of_one lines_put (p.index == number) p.end (ends_at number ports) ∙ ap (λ z. (if p.index == number then lines_put (view_of p.end) else []) ++ z) (put_there number ports)
+
+abbrev all_put_at : {n : ℕ} → ℕ → List (Option (Port n)) → List (List ℕ)
+all_put_at number ports = of_ends lines_put (ends_at number ports)
+
+home_put : (number : ℕ) (quaject : AnyQuaject) (count left : ℕ) (home : Home) → IsHome quaject count left home → KeepsSides quaject → all_put_at number home.small ≡ put_at number (small_targets quaject)
+home_put number (any.Cooked tty) count left home h k = ap (all_put_at number) h.ports.0 ∙ idle lines_put number (terminals.raw_port tty) (None ∷ None ∷ None ∷ None ∷ None ∷ []) k.0
+home_put number (any.Pump pump) count left home h k = ap (all_put_at number) h.ports.0
+    ∙ (idle lines_put number (pumps.source_port pump) (Some (pumps.target_port pump) ∷ None ∷ None ∷ None ∷ None ∷ []) k.0 ∙ put_there number (Some (pumps.target_port pump) ∷ None ∷ None ∷ None ∷ None ∷ []))
+home_put number (any.Switch switch) count left home h k = ap (all_put_at number) h.ports.0
+    ∙ (idle lines_put number (switches.source_port switch) (Some (switches.other_port switch) ∷ switches.way_ports switch) k.0 ∙ put_there number (Some (switches.other_port switch) ∷ switches.way_ports switch))
+
+home_put_large : (number : ℕ) (quaject : AnyQuaject) (count left : ℕ) (home : Home) → IsHome quaject count left home → all_put_at number home.large ≡ put_at number (large_targets quaject)
+home_put_large number (any.Cooked tty) count left home h = ap (all_put_at number) h.ports.1 ∙ put_there number (Some (terminals.line_port tty) ∷ Some (terminals.screen_port tty) ∷ [])
+home_put_large number (any.Pump pump) count left home h = ap (all_put_at number) h.ports.1
+home_put_large number (any.Switch switch) count left home h = ap (all_put_at number) h.ports.1
+
+pub homes_put : (number : ℕ) (homes : List Home) (chains : List closed.Chain) → AllZip CameBack homes chains
+    → of_ends lines_put (flat_map (small_home number) homes) ≡ flat_map (λ (chain : closed.Chain). put_at number (small_targets chain.quaject)) chains
+homes_put number homes chains z = of_homes lines_put number (small_home number) homes ∙ by homes chains z
+  where
+    by : (homes : List Home) (chains : List closed.Chain) → AllZip CameBack homes chains
+        → flat_map (λ home. of_ends lines_put (small_home number home)) homes ≡ flat_map (λ (chain : closed.Chain). put_at number (small_targets chain.quaject)) chains
+    by [] [] z = refl
+    by [] (c ∷ cs) z = absurd z
+    by (h ∷ hs) [] z = absurd z
+    by (h ∷ hs) (c ∷ cs) z = let e = z.0.1 in
+        λ k. (home_put number e.came.quaject h.chained h.left h e.came.its e.came.sides ∙ ap (λ (q : AnyQuaject). put_at number (small_targets q)) (sym e.quaject_is)) k ++ by hs cs z.1 k
+
+pub homes_put_large : (number : ℕ) (homes : List Home) (chains : List closed.Chain) → AllZip CameBack homes chains
+    → of_ends lines_put (flat_map (large_home number) homes) ≡ flat_map (λ (chain : closed.Chain). put_at number (large_targets chain.quaject)) chains
+homes_put_large number homes chains z = of_homes lines_put number (large_home number) homes ∙ by homes chains z
+  where
+    by : (homes : List Home) (chains : List closed.Chain) → AllZip CameBack homes chains
+        → flat_map (λ home. of_ends lines_put (large_home number home)) homes ≡ flat_map (λ (chain : closed.Chain). put_at number (large_targets chain.quaject)) chains
+    by [] [] z = refl
+    by [] (c ∷ cs) z = absurd z
+    by (h ∷ hs) [] z = absurd z
+    by (h ∷ hs) (c ∷ cs) z = let e = z.0.1 in
+        λ k. (home_put_large number e.came.quaject h.chained h.left h e.came.its ∙ ap (λ (q : AnyQuaject). put_at number (large_targets q)) (sym e.quaject_is)) k ++ by hs cs z.1 k
+
+-- no device has an end of a queue below the raw ones
+pub no_device : (number raw : ℕ) (ends : List (QueueEnd 64)) → number < raw → of_ends lines_put (device_at number raw ends) ≡ []
+no_device number raw [] low = refl
+no_device number raw (end ∷ ends) low = ap (λ (b : Bool). of_ends lines_put (if b then end ∷ device_at number (raw + 1) ends else device_at number (raw + 1) ends)) (ne_eqb raw number (λ e. omega arith))
+    ∙ no_device number (raw + 1) ends (omega arith)
+
 -- the devices' ends took nothing
 pub devices_took_none : (number raw : ℕ) (ends : List (QueueEnd 64)) → AllByRecursion (λ (end : QueueEnd 64). lines_taken (view_of end) ≡ []) ends → of_ends lines_taken (device_at number raw ends) ≡ []
 devices_took_none number raw [] h = refl
@@ -128,8 +180,8 @@ no_lines (x ∷ l) e = absurd (cc)
 pub no_runs : (v : View) → lines_put v ≡ [] → runs_of v ≡ []
 no_runs v e = no_lines v.part.runs e
 
-abbrev put_at : {n : ℕ} → ℕ → List (Option (Port n)) → List Batch
-put_at number ports = of_ends runs_of (ends_at number ports)
+abbrev runs_at : {n : ℕ} → ℕ → List (Option (Port n)) → List Batch
+runs_at number ports = of_ends runs_of (ends_at number ports)
 
 -- the small queues of a pump or switch are among the first so many; a cooked tty takes from the one small queue that it has
 abbrev pub IsBelow : ℕ → AnyQuaject → Type 0
@@ -137,19 +189,19 @@ IsBelow many (any.Cooked tty) = Unit {0}
 IsBelow many (any.Pump pump) = (pump.source.index < many) × (pump.target.index < many)
 IsBelow many (any.Switch switch) = (switch.source.index < many) × (switch.other.index < many) × AllByRecursion (λ (r : ℕ × ℕ). r.1 < many) (flat_map routes_of switch.ways)
 
-ways_put_none : (number many : ℕ) (ways : List (Option Way)) → many ≤ number → AllByRecursion (λ (r : ℕ × ℕ). r.1 < many) (flat_map routes_of ways) → put_at number (map port_of ways) ≡ []
+ways_put_none : (number many : ℕ) (ways : List (Option Way)) → many ≤ number → AllByRecursion (λ (r : ℕ × ℕ). r.1 < many) (flat_map routes_of ways) → runs_at number (map port_of ways) ≡ []
 ways_put_none number many [] low h = refl
 ways_put_none number many (None ∷ ways) low h = ways_put_none number many ways low h
 ways_put_none number many (Some way ∷ ways) low h = elsewhere runs_of number (record { index = way.outlet.index; end = way.outlet.end }) (map port_of ways) (λ e. let b = h.0 in omega arith)
     ∙ ways_put_none number many ways low h.1
 
 pub home_put_none : (number many : ℕ) (quaject : AnyQuaject) (count left : ℕ) (home : Home) → IsHome quaject count left home → KeepsSides quaject → many ≤ number → IsBelow many quaject
-    → put_at number home.small ≡ []
-home_put_none number many (any.Cooked tty) count left home h k low b = ap (put_at number) h.ports.0 ∙ idle runs_of number (terminals.raw_port tty) (None ∷ None ∷ None ∷ None ∷ None ∷ []) (no_runs (view_of (terminals.raw_of tty)) k.0)
-home_put_none number many (any.Pump pump) count left home h k low b = ap (put_at number) h.ports.0
+    → runs_at number home.small ≡ []
+home_put_none number many (any.Cooked tty) count left home h k low b = ap (runs_at number) h.ports.0 ∙ idle runs_of number (terminals.raw_port tty) (None ∷ None ∷ None ∷ None ∷ None ∷ []) (no_runs (view_of (terminals.raw_of tty)) k.0)
+home_put_none number many (any.Pump pump) count left home h k low b = ap (runs_at number) h.ports.0
     ∙ (elsewhere runs_of number (pumps.source_port pump) (Some (pumps.target_port pump) ∷ None ∷ None ∷ None ∷ None ∷ []) (λ e. let c = b.0 in omega arith)
     ∙ elsewhere runs_of number (pumps.target_port pump) (None ∷ None ∷ None ∷ None ∷ []) (λ e. let c = b.1 in omega arith))
-home_put_none number many (any.Switch switch) count left home h k low b = ap (put_at number) h.ports.0
+home_put_none number many (any.Switch switch) count left home h k low b = ap (runs_at number) h.ports.0
     ∙ (elsewhere runs_of number (switches.source_port switch) (Some (switches.other_port switch) ∷ switches.way_ports switch) (λ e. let c = b.0 in omega arith)
     ∙ (elsewhere runs_of number (switches.other_port switch) (switches.way_ports switch) (λ e. let c = b.1 in omega arith)
     ∙ ways_put_none number many switch.ways low b.2))

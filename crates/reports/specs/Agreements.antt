@@ -8,13 +8,18 @@ use Rattle.boot_script.specs.declared.plan.Mover.TheVariants as movers
 use Rattle.boot_script.specs.declared.plan.PlannedTty.{PlannedTty}
 use Rattle.boot_script.specs.declared.plan.Way.{Way as PlannedWay}
 use Rattle.boot_script.specs.QueueLists.{raw_queue, line_queue, screen_queue}
-use Rattle.claim_queue.specs.Lines.{IsCut}
+use Rattle.claim_queue.specs.Handles.{view_of}
+use Rattle.claim_queue.specs.Lines.{IsCut, lines_put}
 use Rattle.meters.specs.Views.{amount_on, times}
 use Rattle.quaject_core.specs.declared.alarm.Alarm.{Alarm}
 use Rattle.quajects.specs.declared.any.AnyQuaject.{AnyQuaject}
 use Rattle.quajects.specs.declared.any.AnyQuaject.TheVariants as any
+use Rattle.quajects.specs.declared.ports.Port.{Port}
 use Rattle.quajects.specs.declared.ways.Way.{Way}
 use Rattle.quajects.specs.Anys.{IsKept, notes_of, all_taken}
+use Rattle.quajects.specs.Pumps as pumps
+use Rattle.quajects.specs.Switches as switches
+use Rattle.quajects.specs.Terminals as terminals
 use Rattle.thread_table.specs.declared.places.Place.{Place}
 use Rattle.thread_table.specs.declared.places.Place.TheVariants as places
 use Rattle.thread_table.specs.Answers.{is_in}
@@ -83,6 +88,32 @@ taken_from number chain = if source_of chain.quaject == number then all_taken ch
 -- the lines that others than processors took from a small queue are those that the quajects took there
 abbrev pub IsTakenByQuajects : Closed → ℕ → closed.Queue → Type 0
 IsTakenByQuajects c number q = q.taken_by_others ≡ flat_map (taken_from number) (c.movers ++ c.ttys)
+
+-- where a quaject puts lines: its ends of small queues, and of large ones
+abbrev pub small_targets : AnyQuaject → List (Option (Port 64))
+small_targets (any.Cooked tty) = []
+small_targets (any.Pump pump) = Some (pumps.target_port pump) ∷ []
+small_targets (any.Switch switch) = Some (switches.other_port switch) ∷ switches.way_ports switch
+
+abbrev pub large_targets : AnyQuaject → List (Option (Port 256))
+large_targets (any.Cooked tty) = Some (terminals.line_port tty) ∷ Some (terminals.screen_port tty) ∷ []
+large_targets quaject = []
+
+-- the lines put at those of these ends that are of the queue with this number
+abbrev pub put_at : {n : ℕ} → ℕ → List (Option (Port n)) → List (List ℕ)
+put_at number [] = []
+put_at number (None ∷ ports) = put_at number ports
+put_at number (Some port ∷ ports) =
+    (if port.index == number then lines_put (view_of port.end) else []) ++ put_at number ports
+
+-- the lines that others than processors put in the queue are those that the quajects put there
+abbrev pub IsSmallPutByQuajects : Closed → ℕ → closed.Queue → Type 0
+IsSmallPutByQuajects c number q =
+    q.put_by_others ≡ flat_map (λ chain. put_at number (small_targets chain.quaject)) (c.movers ++ c.ttys)
+
+abbrev pub IsLargePutByQuajects : Closed → ℕ → closed.Queue → Type 0
+IsLargePutByQuajects c number q =
+    q.put_by_others ≡ flat_map (λ chain. put_at number (large_targets chain.quaject)) (c.movers ++ c.ttys)
 
 -- TTYS
 

@@ -10,13 +10,16 @@ use Rattle.boot_script.specs.QueueLists.{raw_queue}
 use Rattle.processor.specs.Logs.{Entry, IsPlanned, heard_by}
 use Rattle.processor.specs.Running.{Line}
 use Rattle.reports.specs.Agreements.{ThreadAgrees, SmallAgrees, LargeAgrees, IsTakenByQuajects, TtyAgrees, MoverAgrees}
-use Rattle.reports.specs.Agreements.{GaugesAgree, AlarmsAgree}
+use Rattle.reports.specs.Agreements.{GaugesAgree, AlarmsAgree, IsSmallPutByQuajects, IsLargePutByQuajects}
 use Rattle.reports.specs.Closed.{Closed}
 use Rattle.reports.specs.Closed as closed
 use Rattle.reports.specs.Lines.{Says}
 use Rattle.reports.specs.Lists.{all_of}
+use Rattle.reports.specs.Saying.{IsLeftOpen, IsNeverShutSmall, IsNeverShutLarge}
 
--- the closed tables agree with the plan and with the processors' logs
+-- The closed tables agree with the plan and with the processors' logs. In a queue or pipe of the plan, and in a line or
+-- screen queue, put only the processors and the quajects; what is in a raw queue is what its device put. No say and no
+-- hear is told that its queue is shut but where a step shut that
 pub record TablesAgree (plan : BootPlan) (c : Closed) (logs : List (List Entry)) : Type 0 where
   pub planned : AllByRecursion (AllByRecursion (IsPlanned plan)) logs
   pub threads : (thread : ℕ) (t : closed.Thread) → slice_get c.threads thread ≡ Some t
@@ -25,6 +28,12 @@ pub record TablesAgree (plan : BootPlan) (c : Closed) (logs : List (List Entry))
       → SmallAgrees number q logs × IsTakenByQuajects c number q
   pub large : (number : ℕ) (q : closed.Queue) → slice_get c.large number ≡ Some q
       → LargeAgrees number q logs × (q.taken_by_others ≡ [])
+  pub small_put : (number : ℕ) (q : closed.Queue) → number < length plan.queues → slice_get c.small number ≡ Some q
+      → IsSmallPutByQuajects c number q
+  pub large_put : (number : ℕ) (q : closed.Queue) → slice_get c.large number ≡ Some q → IsLargePutByQuajects c number q
+  pub small_open : (number : ℕ) (q : closed.Queue) → slice_get c.small number ≡ Some q → IsLeftOpen number logs
+      → IsNeverShutSmall number logs
+  pub large_open : (number : ℕ) (q : closed.Queue) → slice_get c.large number ≡ Some q → IsNeverShutLarge number logs
   pub ttys : (tty : ℕ) (p : PlannedTty) (t : closed.Chain) (d : closed.Device) (raw : closed.Queue)
       → slice_get plan.ttys tty ≡ Some p → slice_get c.ttys tty ≡ Some t → slice_get c.devices tty ≡ Some d
       → slice_get c.small (raw_queue (length plan.queues) tty) ≡ Some raw

@@ -113,13 +113,13 @@ pub fn all_are_said()
         → IsReport plan c logs heard r → AllEnded r → IsNeverShutLarge q logs → LargeIsSaid plan q logs }
 {}
 
-/// Where no thread of an ended boot's report is live, the lines that the logs said to a queue which no step of the plan
-/// shuts are those of the plan's steps, each once. No step shuts a large queue.
+/// Where no thread of an agreeing report is live, the lines that the logs said to a queue which no step of the plan shuts
+/// are those of the plan's steps, each once. No step shuts a large queue.
 pub fn ended_boots_said_all()
-    ensures small { (plan : BootPlan) (logs : List (List Entry)) (boot : Boot) (c : Closed) (heard : List Line)
-        (r : Report) (q : ℕ) (queue : closed.Queue) → BootEnded plan logs boot c heard r → AllEnded r
-        → slice_get c.small q ≡ Some queue → IsNeverClosed plan q → SmallIsSaid plan q logs }
-    ensures large { (plan : BootPlan) (logs : List (List Entry)) (boot : Boot) (c : Closed) (heard : List Line)
-        (r : Report) (q : ℕ) (queue : closed.Queue) → BootEnded plan logs boot c heard r → AllEnded r
-        → slice_get c.large q ≡ Some queue → LargeIsSaid plan q logs }
+    ensures small { (plan : BootPlan) (c : Closed) (logs : List (List Entry)) (heard : List Line) (r : Report) (q : ℕ)
+        (queue : closed.Queue) → IsReport plan c logs heard r → AllEnded r → slice_get c.small q ≡ Some queue
+        → IsNeverClosed plan q → SmallIsSaid plan q logs }
+    ensures large { (plan : BootPlan) (c : Closed) (logs : List (List Entry)) (heard : List Line) (r : Report) (q : ℕ)
+        (queue : closed.Queue) → IsReport plan c logs heard r → AllEnded r → slice_get c.large q ≡ Some queue
+        → LargeIsSaid plan q logs }
 {}

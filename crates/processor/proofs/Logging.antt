@@ -52,7 +52,7 @@ use Rattle.processor.specs.Logs.{small_shut_told, large_shut_told}
 use Rattle.processor.specs.Logs.{small_put_by, small_taken_by, large_put_by, large_taken_by, shut_by, chained_by, ran_by}
 use Rattle.processor.specs.Logs.{ticked_by, clock_by, fired_by, heard_by, small_put, small_taken, large_put, large_taken, chained}
 use Rattle.processor.specs.Logs.Entry.{Tended, Delivered, Tried, Retired}
-use Rattle.processor.specs.Logs.{count_of, seat_of, IsFresh, Leaves}
+use Rattle.processor.specs.Logs.{count_of, seat_of, IsFresh, IsOneLine, Leaves}
 use Rattle.processor.specs.Programs.{program, step_of}
 use Rattle.processor.specs.Queues.{said_line}
 use Rattle.processor.specs.Running.{Stepped, EndsDid, Goes, gone, line_heard, heard_in, step_tally}
@@ -320,6 +320,12 @@ told_large (steps.Hear (Large k)) (deeds.HeardNothing woken) heard old new old' 
     on_so (Heard {A = Unit {0}} heard (Err d.0)) k old' new' (λ a b. heard_so heard d.0 a b d.1) d.2.0 q at
 told_large step deed heard old new old' new' d q at = cc
 
+-- what was heard is one line
+one_line : (step : Step) (deed : Deed) (heard : List ℕ) (old new : List (QueueEnd 64)) (old' new' : List (QueueEnd 256)) → QueuesDid step deed heard old new old' new' → IsOneLine step deed heard
+one_line (steps.Hear (Small k)) (deeds.Heard woken) heard old new old' new' d = d.0.does.0
+one_line (steps.Hear (Large k)) (deeds.Heard woken) heard old new old' new' d = d.0.does.0
+one_line step deed heard old new old' new' d = tt
+
 counted_so : (call element : ℕ) (done : Bool) (number : ℕ) (answer : Counted) (did after v w : View) → CountAnswer call element done did answer after → IsNumber answer element v w
     → number ≡ done_at v.schedule element → number < 64 → answer ≡ count_of done number
 counted_so call element true number (counted.Done m) did after v w a is now low = ap counted.Done (is.0 ∙ ap (λ z. z + 1) (sym now))
@@ -337,7 +343,7 @@ pub tried_logged : (plan : BootPlan) (shared : Shared) (call p element number : 
     → Logs plan (Tried element number step deed answer text ∷ []) old new
 tried_logged plan shared call p element number step deed answer text old new is comes s nth now low h e lines sig =
     one_entry plan (Tried element number step deed answer text) old new
-    (is, comes, counted_so call element (is_done deed) number answer s.did s.after _ _ s.counts nth now low) h e.small_lines e.large_lines
+    (is, comes, counted_so call element (is_done deed) number answer s.did s.after _ _ s.counts nth now low, one_line step deed text _ _ _ _ e.queues) h e.small_lines e.large_lines
     (told_small step deed text _ _ _ _ e.queues) (told_large step deed text _ _ _ _ e.queues) e.notes
     (ticked step deed _ _ e.seat ∙ own_eq (own_of (meters.view_of old.meters)) _ _ _ _ _ _ (ap (λ z. (meters.view_of old.meters).ticks ++ z) (sym (append-nil (ticks_by step deed))))
     (sym (append-nil (meters.view_of old.meters).advances)) (sym (append-nil (meters.view_of old.meters).fired)))

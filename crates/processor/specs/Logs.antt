@@ -2,7 +2,10 @@
 use Rattle.std.specs.Prelude.{◌≡◌, ◌≤◌, ◌<◌, ◌+◌, ℕ, Bool, true, false, List, [], ◌∷◌, ◌++◌, flat_map, Some, Result, slice_index_or, length}
 use Rattle.std.specs.List.{AllByRecursion, sum_by, list_any}
 use Rattle.boot_script.specs.declared.boot_plan.BootPlan.{BootPlan}
+use Rattle.boot_script.specs.declared.plan.QueueIndex.TheVariants.{Small, Large}
 use Rattle.boot_script.specs.declared.plan.Step.{Step}
+use Rattle.boot_script.specs.declared.plan.Step.TheVariants as steps
+use Rattle.claim_queue.specs.Takings.{IsLine}
 use Rattle.end_steps.specs.EndLists.{lines_put_at, lines_taken_at, shuts_at, knows_shut_at, notes_put_at, notes_taken_at}
 use Rattle.end_steps.specs.Sums.{Worked, ChainsWorked, never}
 use Rattle.hand_steps.specs.declared.counting.Counted.{Counted}
@@ -20,6 +23,7 @@ use Rattle.quaject_core.specs.declared.alarm.Alarm.{Alarm}
 use Rattle.thread_table.specs.Answers.{is_in}
 use Rattle.thread_table.specs.Handles.{view_of}
 use Rattle.processor.specs.declared.deed.Deed.{Deed}
+use Rattle.processor.specs.declared.deed.Deed.TheVariants as deeds
 use Rattle.processor.specs.declared.station.Parts.{Parts}
 use Rattle.processor.specs.Deeds.{is_done}
 use Rattle.processor.specs.Programs.{program, step_of}
@@ -43,11 +47,18 @@ abbrev pub count_of : Bool → ℕ → Counted
 count_of true number = counted.Done (number + 1)
 count_of false number = counted.Undone
 
+-- what a hear took of a queue of so many places is one line
+abbrev pub IsOneLine : Step → Deed → List ℕ → Type 0
+IsOneLine (steps.Hear (Small queue)) (deeds.Heard woken) heard = IsLine 64 heard
+IsOneLine (steps.Hear (Large queue)) (deeds.Heard woken) heard = IsLine 256 heard
+IsOneLine step deed heard = Unit {0}
+
 -- A step that was tried is the plan's step of this thread and number, came to what such a step can, and was counted where
--- it is done; an element that was put behind the free ones had done all its steps
+-- it is done; what it heard is one line; an element that was put behind the free ones had done all its steps
 abbrev pub IsPlanned : BootPlan → Entry → Type 0
 IsPlanned plan (Tried element number step deed count heard) =
     (step_of plan element number ≡ Some step) × (comes_of step deed ≡ true) × (count ≡ count_of (is_done deed) number)
+    × IsOneLine step deed heard
 IsPlanned plan (Retired element number) = length (program plan element) ≤ number
 IsPlanned plan entry = Unit {0}
 

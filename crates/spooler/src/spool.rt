@@ -160,7 +160,9 @@ fn put_and_take<R: Threads + Wait + Sync>(
 /// and when all is taken it is closed. Each line that was put was taken once, and there is one order of all lines in
 /// which those of each producer stand in its order, and those of each taker in the order in which it took them.
 ///
-/// A queue takes 4,294,967,295 items. With more than that, the producers wait for ever.
+/// A queue takes 4,294,967,295 items. With more than that, the producers wait for ever. Where a thread can't be started,
+/// its work is done before that beside it, so that producers of more lines than the queue has room for may then wait for
+/// ever.
 pub fn run_spool<R: Threads + Wait + Sync>(
     rt: &R,
     alloc: Global,

@@ -98,3 +98,34 @@ pub fn pair<R: Threads + Wait + Clock + Sync>(
     );
     watch.stop(rt, sum)
 }
+
+/// Pushes the items of that many lines in two threads and pops them in two others, each thread a half of them.
+pub fn four<R: Threads + Wait + Clock + Sync>(
+    rt: &R,
+    alloc: Global,
+    line: &[u64],
+    lines: u64,
+) -> Result<Measured, Fault> {
+    let queue = Queue::new(alloc, PLACES)?;
+    let queue = &queue;
+    let (length, half) = (line.len(), lines / 2);
+    let watch = Watch::start(rt)?;
+    let (_pushed, (one, other)) = thread::join(
+        rt,
+        move || {
+            thread::join(
+                rt,
+                move || push_all(rt, queue, line, half),
+                move || push_all(rt, queue, line, half),
+            )
+        },
+        move || {
+            thread::join(
+                rt,
+                move || pop_all(rt, queue, length, half),
+                move || pop_all(rt, queue, length, half),
+            )
+        },
+    );
+    watch.stop(rt, one.wrapping_add(other))
+}

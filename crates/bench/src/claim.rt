@@ -123,3 +123,80 @@ pub fn pair<R: Threads + Wait + Clock + Sync>(
     );
     watch.stop(rt, sum)
 }
+
+fn put_two<R: Threads + Wait + Sync>(
+    rt: &R,
+    queue: &Queue,
+    ends: (End, End),
+    line: &[u64],
+    lines: u64,
+) -> (End, End)
+    requires { IsEndOf queue.now ends.0 × IsEndOf queue.now ends.1 }
+    ensures { IsEndOf queue.now result.0 × IsEndOf queue.now result.1 }
+{
+    let (one, other) = ends;
+    thread::join(
+        rt,
+        move || -> End
+            requires { IsSync R.row × IsEndOf queue.now one }
+            ensures { IsEndOf queue.entry.now result }
+        { put_all(rt, queue, one, line, lines) },
+        move || -> End
+            requires { IsSync R.row × IsEndOf queue.now other }
+            ensures { IsEndOf queue.entry.now result }
+        { put_all(rt, queue, other, line, lines) },
+    )
+}
+
+fn take_two<R: Threads + Wait + Sync>(
+    rt: &R,
+    queue: &Queue,
+    ends: (End, End),
+    lines: u64,
+) -> ((End, u64), (End, u64))
+    requires { IsEndOf queue.now ends.0 × IsEndOf queue.now ends.1 }
+    ensures { IsEndOf queue.now result.0.0 × IsEndOf queue.now result.1.0 }
+{
+    let (one, other) = ends;
+    thread::join(
+        rt,
+        move || -> (End, u64)
+            requires { IsSync R.row × IsEndOf queue.now one }
+            ensures { IsEndOf queue.entry.now result.0 }
+        { take_all(rt, queue, one, lines) },
+        move || -> (End, u64)
+            requires { IsSync R.row × IsEndOf queue.now other }
+            ensures { IsEndOf queue.entry.now result.0 }
+        { take_all(rt, queue, other, lines) },
+    )
+}
+
+/// Puts that many lines in two threads and takes them in two others, each thread a half of them.
+pub fn four<R: Threads + Wait + Clock + Sync>(
+    rt: &R,
+    alloc: Global,
+    line: &[u64],
+    lines: u64,
+) -> Result<Measured, Fault> {
+    let (queue, mut giver) = Queue::new(alloc, 0)?;
+    let other_giver = queue.split(&mut giver);
+    let taker = queue.split(&mut giver);
+    let other_taker = queue.split(&mut giver);
+    let (givers, takers) = ((giver, other_giver), (taker, other_taker));
+    let queue = &queue;
+    let half = lines / 2;
+    let watch = Watch::start(rt)?;
+    let (_givers, taken) = thread::join(
+        rt,
+        move || -> (End, End)
+            requires { IsSync R.row × IsEndOf queue.now givers.0 × IsEndOf queue.now givers.1 }
+            ensures { IsEndOf queue.entry.now result.0 × IsEndOf queue.entry.now result.1 }
+        { put_two(rt, queue, givers, line, half) },
+        move || -> ((End, u64), (End, u64))
+            requires { IsSync R.row × IsEndOf queue.now takers.0 × IsEndOf queue.now takers.1 }
+            ensures { IsEndOf queue.entry.now result.0.0 × IsEndOf queue.entry.now result.1.0 }
+        { take_two(rt, queue, takers, half) },
+    );
+    let ((_taker, one), (_other_taker, other)) = taken;
+    watch.stop(rt, one.wrapping_add(other))
+}

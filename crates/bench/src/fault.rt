@@ -9,9 +9,9 @@ use thiserror::Error;
 #[derive(Clone, Copy, Debug, PartialEq, Eq, Drop, Error)]
 pub enum Fault {
     /// The words are none that the program has.
-    #[error("other words than alone, pairs or all")]
+    #[error("other words than those of a command")]
     Words,
-    /// There was no memory for a queue.
+    /// There was no memory for what is measured, or a thread could not be started.
     #[error("no memory")]
     Memory,
     /// The clock could not be read.
@@ -20,9 +20,9 @@ pub enum Fault {
     /// Standard output did not take a row.
     #[error("a row can't be written")]
     Write,
-    /// Other items were taken than were put.
-    #[error("other items were taken than were put")]
-    Items,
+    /// What was done doesn't add up to what was to be measured.
+    #[error("something else was done than was to be measured")]
+    Miscount,
 }
 
 impl Fault {
@@ -48,7 +48,7 @@ impl Fault {
     /// The exit status of the run.
     pub fn status(self) -> u8 {
         match self {
-            Fault::Items => 1,
+            Fault::Miscount => 1,
             Fault::Words => 2,
             Fault::Memory => 3,
             Fault::Clock | Fault::Write => 5,

@@ -1,12 +1,20 @@
-//! The program `bench`: measures the claim queue beside the kit's `ArrayQueue`.
+//! The program `bench`: measures queues and chains beside the kit's `ArrayQueue`, the ready ring, boots and replays.
 #![tactic(auto)]
 
 mod array;
+mod boots;
+mod chains;
 mod claim;
 mod fault;
+mod figures;
 mod line;
 mod measure;
+mod notes;
 mod program;
+mod queues;
+mod replays;
+mod ring;
+mod scripts;
 
 use fault::Fault;
 use program::{Command, run_command};

@@ -1,0 +1,117 @@
+//! Whole boots of scripts that are held in memory, from the first byte read to the last one written.
+use crate::fault::Fault;
+use crate::measure::{Done, Watch};
+use crate::scripts::{Counted, Script, THREADS, counts_of};
+use std::alloc::Global;
+use std::fmt;
+use std::fmt::{Display, Formatter};
+use std::rt::Clock;
+use std::sync::Wait;
+use std::thread::Threads;
+use std::time::Duration;
+use synth_kernel::boot_on;
+
+/// Boots of a script on so many processors, 1 to 8, with no turn.
+#[derive(Clone, Copy)]
+pub struct Setups {
+    pub script: Script,
+    pub processors: u8,
+}
+
+/// Boots of the same with turns.
+#[derive(Clone, Copy)]
+pub struct Turns {
+    pub boot: Setups,
+}
+
+impl Setups {
+    // How many turns each processor has where turns are measured.
+    fn turns_each(self) -> u32 {
+        (self.script.turns() / self.processors.max(1) as u64).min(1_000_000) as u32
+    }
+}
+
+// The time of a boot with so many turns on each processor, and what its report counts.
+fn time_of<R: Threads + Wait + Clock + Sync>(
+    rt: &R,
+    alloc: Global,
+    boot: Setups,
+    turns: u32,
+) -> Result<(Duration, Counted), Fault> {
+    let text = boot.script.text(alloc)?;
+    let mut reader = text.as_str().as_bytes();
+    let mut report = Vec::new(alloc);
+    let processors = boot.processors.max(1).min(8);
+    let watch = Watch::start(rt)?;
+    let booted = boot_on(rt, alloc, &mut reader, &mut report, processors, turns);
+    let measured = watch.stop(rt, 0)?;
+    match booted {
+        Ok(_ended) => Ok((measured.time, counts_of(report.as_slice()))),
+        Err(_fault) => Err(Fault::Miscount),
+    }
+}
+
+impl Display for Setups {
+    fn fmt<W: fmt::Write>(&self, f: &mut Formatter<W>) -> fmt::Result {
+        write!(f, "setup {} {}", self.script, self.processors)
+    }
+}
+
+/// Measures them once.
+pub fn measure_setup<R: Threads + Wait + Clock + Sync>(
+    rt: &R,
+    alloc: Global,
+    setup: Setups,
+) -> Result<Done, Fault> {
+    let (time, counted) = time_of(rt, alloc, setup, 0)?;
+    if counted.threads != THREADS || counted.steps != 0 {
+        return Err(Fault::Miscount);
+    }
+    Ok(Done { time, count: 1 })
+}
+
+impl Display for Turns {
+    fn fmt<W: fmt::Write>(&self, f: &mut Formatter<W>) -> fmt::Result {
+        write!(f, "boot {} {}", self.boot.script, self.boot.processors)
+    }
+}
+
+/// Measures them once.
+pub fn measure_turns<R: Threads + Wait + Clock + Sync>(
+    rt: &R,
+    alloc: Global,
+    turns: Turns,
+) -> Result<Done, Fault> {
+    let Turns { boot } = turns;
+    let each = boot.turns_each();
+    let (time, counted) = time_of(rt, alloc, boot, each)?;
+    let total = (each as u64).wrapping_mul(boot.processors as u64);
+    let count = done_of(boot.script, counted, total)?;
+    if boot.processors == 1 && count != wanted_of(boot.script, total) {
+        return Err(Fault::Miscount);
+    }
+    Ok(Done { time, count })
+}
+
+// How many things were done that are measured: turns with a step done, lines heard, or, where no step can be done, all
+// turns.
+fn done_of(script: Script, counted: Counted, turns: u64) -> Result<u64, Fault> {
+    let talked = counted.said.wrapping_add(counted.heard);
+    let (count, right) = match script {
+        Script::Pass => (counted.steps, talked == 0),
+        Script::Talk => (counted.heard, talked == counted.steps),
+        Script::Listen => (turns, talked == 0 && counted.steps == 0),
+    };
+    if !right || counted.threads != THREADS || count == 0 || count > turns {
+        return Err(Fault::Miscount);
+    }
+    Ok(count)
+}
+
+// How many are done where one processor makes all turns: then each step is done at its first try.
+fn wanted_of(script: Script, turns: u64) -> u64 {
+    match script {
+        Script::Pass | Script::Listen => turns,
+        Script::Talk => turns / 2,
+    }
+}

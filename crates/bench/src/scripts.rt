@@ -1,0 +1,117 @@
+//! The boot scripts that are measured, and what their reports count.
+use crate::fault::Fault;
+use boot_script::parse_number;
+use std::alloc::Global;
+use std::fmt;
+use std::fmt::{Display, Formatter};
+
+/// How many threads each script has.
+pub const THREADS: u64 = 64;
+
+/// How many steps a thread can have.
+const STEPS: u64 = 64;
+
+/// How many items the line `hi` has with its end.
+const ITEMS: u64 = 3;
+
+/// What the threads of a script do.
+#[derive(Clone, Copy)]
+pub enum Script {
+    /// Each thread has 64 steps that do nothing.
+    Pass,
+    /// A half of the threads say 64 lines each, and the others hear them, in eight queues.
+    Talk,
+    /// Each thread tries to hear from a queue in which nothing is ever said.
+    Listen,
+}
+
+impl Display for Script {
+    fn fmt<W: fmt::Write>(&self, f: &mut Formatter<W>) -> fmt::Result {
+        f.write_str(match self {
+            Script::Pass => "pass",
+            Script::Talk => "talk",
+            Script::Listen => "listen",
+        })
+    }
+}
+
+/// What a report counts.
+#[derive(Clone, Copy)]
+pub struct Counted {
+    /// The threads that it lists.
+    pub threads: u64,
+    /// The steps that they have done.
+    pub steps: u64,
+    /// The lines that were put in all queues.
+    pub said: u64,
+    /// The lines that were taken from all queues.
+    pub heard: u64,
+}
+
+impl Script {
+    /// The text of the script.
+    pub fn text(self, alloc: Global) -> Result<String, Fault> {
+        let mut text = String::new(alloc);
+        text.push_str("synthesis 3\n")?;
+        for queue in 0..8u64 {
+            text.push_str(format!(in alloc; "queue q{queue}\n")?.as_str())?;
+        }
+        for thread in 0..THREADS {
+            text.push_str(format!(in alloc; "thread t{thread}\n")?.as_str())?;
+            self.add_steps(alloc, &mut text, thread)?;
+        }
+        Ok(text)
+    }
+
+    // The steps of one thread. Threads of even numbers say, and those of odd numbers hear.
+    fn add_steps(self, alloc: Global, text: &mut String, thread: u64) -> Result<(), Fault> {
+        let queue = thread / 2 % 8;
+        let (step, times) = match self {
+            Script::Pass => (format!(in alloc; "pass\n")?, STEPS),
+            Script::Talk if thread % 2 == 0 => (format!(in alloc; "say q{queue} hi\n")?, STEPS),
+            Script::Talk => (format!(in alloc; "hear q{queue}\n")?, STEPS),
+            Script::Listen => (format!(in alloc; "hear q0\n")?, 1),
+        };
+        for _ in 0..times {
+            text.push_str(step.as_str())?;
+        }
+        Ok(())
+    }
+
+    /// How many turns do all steps of all threads, where each is done at its first try.
+    pub fn turns(self) -> u64 {
+        match self {
+            Script::Pass | Script::Talk => THREADS * STEPS,
+            Script::Listen => 200_000,
+        }
+    }
+}
+
+// The number in this place of a line, where one stands there.
+fn number_at(line: &[u8], place: usize) -> u64 {
+    match line.split(|byte| *byte == b' ').nth(place) {
+        Some(word) => parse_number(word, u64::MAX).unwrap_or(0),
+        None => 0,
+    }
+}
+
+/// What a report counts, of threads and of queues of the line `hi`.
+pub fn counts_of(report: &[u8]) -> Counted {
+    let mut counted = Counted {
+        threads: 0,
+        steps: 0,
+        said: 0,
+        heard: 0,
+    };
+    for line in report.split(|byte| *byte == b'\n') {
+        if line.starts_with(b"thread ") {
+            counted.threads = counted.threads.wrapping_add(1);
+            counted.steps = counted.steps.wrapping_add(number_at(line, 3));
+        }
+        if line.starts_with(b"queue ") {
+            counted.said = counted.said.wrapping_add(number_at(line, 3) / ITEMS);
+            counted.heard = counted.heard.wrapping_add(number_at(line, 5) / ITEMS);
+        }
+    }
+    counted
+}

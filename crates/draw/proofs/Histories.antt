@@ -26,29 +26,29 @@ reaches_numbered : (s : State) (events : List (ℕ × Event)) (t : State) (numbe
 reaches_numbered s events t numbered u there next =
     rw (map_push (λ x. x.1) events numbered) (reaches_more s (alone events) t numbered.1 u there next)
 
-tells_more : (rows : List Row) (events : List (ℕ × Event)) (old new : State) (row : Row) (numbered : ℕ × Event) (next : State)
-    → TellsAll rows events old new → step numbered.1 new ≡ Ok next → Tells row numbered.0 next → TellsAll (rows ++ row ∷ []) (events ++ numbered ∷ []) old next
+tells_more : (all : List Row) (events : List (ℕ × Event)) (old new : State) (row : Row) (numbered : ℕ × Event) (next : State)
+    → TellsAll all events old new → step numbered.1 new ≡ Ok next → Tells row numbered.0 next → TellsAll (all ++ row ∷ []) (events ++ numbered ∷ []) old next
 tells_more [] [] old new row numbered next told stepped tells = (next, ap (step numbered.1) (sym told) ∙ stepped, tells, refl)
 tells_more [] (e ∷ events) old new row numbered next told stepped tells = absurd told
-tells_more (r ∷ rows) [] old new row numbered next told stepped tells = absurd told
-tells_more (r ∷ rows) (e ∷ events) old new row numbered next told stepped tells =
-    (told.0, told.1, told.2, tells_more rows events told.0 new row numbered next told.3 stepped tells)
+tells_more (r ∷ all) [] old new row numbered next told stepped tells = absurd told
+tells_more (r ∷ all) (e ∷ events) old new row numbered next told stepped tells =
+    (told.0, told.1, told.2, tells_more all events told.0 new row numbered next told.3 stepped tells)
 
-last_more : (rows : List Row) (events : List (ℕ × Event)) (old new : State) (row : Row) (numbered : ℕ × Event) (next : State)
-    → TellsLast rows events old new → step numbered.1 new ≡ Ok next → Tells row numbered.0 next → TellsLast (rows ++ row ∷ []) (events ++ numbered ∷ []) old next
-last_more rows events old new row numbered next h stepped tells = record {
+last_more : (all : List Row) (events : List (ℕ × Event)) (old new : State) (row : Row) (numbered : ℕ × Event) (next : State)
+    → TellsLast all events old new → step numbered.1 new ≡ Ok next → Tells row numbered.0 next → TellsLast (all ++ row ∷ []) (events ++ numbered ∷ []) old next
+last_more all events old new row numbered next h stepped tells = record {
   earlier = h.earlier;
   later = h.later ++ numbered ∷ [];
   parts = ap (λ w. w ++ numbered ∷ []) h.parts ∙ append_assoc h.earlier h.later (numbered ∷ []);
   middle = h.middle;
   reached = h.reached;
-  told = tells_more rows h.later h.middle new row numbered next h.told stepped tells;
+  told = tells_more all h.later h.middle new row numbered next h.told stepped tells;
 }
 
-without_first : (row : Row) (rows : List Row) (events earlier later : List (ℕ × Event)) (old middle new : State) → events ≡ earlier ++ later → Reaches old (alone earlier) middle
-    → TellsAll (row ∷ rows) later middle new → TellsLast rows events old new
-without_first row rows events earlier [] old middle new parts reached told = absurd told
-without_first row rows events earlier (numbered ∷ later) old middle new parts reached told = record {
+without_first : (row : Row) (all : List Row) (events earlier later : List (ℕ × Event)) (old middle new : State) → events ≡ earlier ++ later → Reaches old (alone earlier) middle
+    → TellsAll (row ∷ all) later middle new → TellsLast all events old new
+without_first row all events earlier [] old middle new parts reached told = absurd told
+without_first row all events earlier (numbered ∷ later) old middle new parts reached told = record {
   earlier = earlier ++ numbered ∷ [];
   later = later;
   parts = parts ∙ sym (append_assoc earlier (numbered ∷ []) later);
@@ -57,18 +57,18 @@ without_first row rows events earlier (numbered ∷ later) old middle new parts 
   told = told.3;
 }
 
-last_less : (rows : List Row) (events : List (ℕ × Event)) (old new : State) → TellsLast rows events old new → TellsLast (remove rows 0) events old new
+last_less : (all : List Row) (events : List (ℕ × Event)) (old new : State) → TellsLast all events old new → TellsLast (remove all 0) events old new
 last_less [] events old new h = h
-last_less (row ∷ rows) events old new h = without_first row rows events h.earlier h.later old h.middle new h.parts h.reached h.told
+last_less (row ∷ all) events old new h = without_first row all events h.earlier h.later old h.middle new h.parts h.reached h.told
 
-last_where : (first_goes : Bool) (rows : List Row) (events : List (ℕ × Event)) (old new : State) → TellsLast rows events old new → TellsLast (if first_goes then remove rows 0 else rows) events old new
-last_where true rows events old new h = last_less rows events old new h
-last_where false rows events old new h = h
+last_where : (first_goes : Bool) (all : List Row) (events : List (ℕ × Event)) (old new : State) → TellsLast all events old new → TellsLast (if first_goes then remove all 0 else all) events old new
+last_where true all events old new h = last_less all events old new h
+last_where false all events old new h = h
 
 -- the rows that are kept tell of one event more
-pub last_kept : (rows : List Row) (events : List (ℕ × Event)) (old new : State) (row : Row) (numbered : ℕ × Event) (next : State)
-    → TellsLast rows events old new → step numbered.1 new ≡ Ok next → Tells row numbered.0 next → TellsLast (kept rows row) (events ++ numbered ∷ []) old next
-last_kept rows events old new row numbered next h = last_more (if nat_le 200 (length rows) then remove rows 0 else rows) events old new row numbered next (last_where (nat_le 200 (length rows)) rows events old new h)
+pub last_kept : (all : List Row) (events : List (ℕ × Event)) (old new : State) (row : Row) (numbered : ℕ × Event) (next : State)
+    → TellsLast all events old new → step numbered.1 new ≡ Ok next → Tells row numbered.0 next → TellsLast (kept all row) (events ++ numbered ∷ []) old next
+last_kept all events old new row numbered next h = last_more (if nat_le 200 (length all) then remove all 0 else all) events old new row numbered next (last_where (nat_le 200 (length all)) all events old new h)
 
 full_of : (k n : ℕ) → nat_le 200 k ≡ true → k ≡ min 200 n → k ≡ min 200 (n + 1)
 full_of k n e h =
@@ -93,14 +93,14 @@ one_more_of k n e h =
     let within : n + 1 ≤ 200 = omega arith in
     ap (λ m. m + 1) same ∙ sym (min-eq_right within)
 
-many_where : (first_goes : Bool) (rows : List Row) (row : Row) (n : ℕ) → nat_le 200 (length rows) ≡ first_goes → length rows ≡ min 200 n
-    → length ((if first_goes then remove rows 0 else rows) ++ row ∷ []) ≡ min 200 (n + 1)
+many_where : (first_goes : Bool) (all : List Row) (row : Row) (n : ℕ) → nat_le 200 (length all) ≡ first_goes → length all ≡ min 200 n
+    → length ((if first_goes then remove all 0 else all) ++ row ∷ []) ≡ min 200 (n + 1)
 many_where true [] row n e h = absurd cc
-many_where true (r ∷ rows) row n e h = length-append rows (row ∷ []) ∙ (add-one (length rows) ∙ full_of (length (r ∷ rows)) n e h)
-many_where false rows row n e h = length-append rows (row ∷ []) ∙ one_more_of (length rows) n e h
+many_where true (r ∷ all) row n e h = length-append all (row ∷ []) ∙ (add-one (length all) ∙ full_of (length (r ∷ all)) n e h)
+many_where false all row n e h = length-append all (row ∷ []) ∙ one_more_of (length all) n e h
 
-pub as_many_kept : (rows : List Row) (row : Row) (n : ℕ) → length rows ≡ min 200 n → length (kept rows row) ≡ min 200 (n + 1)
-as_many_kept rows row n h = many_where (nat_le 200 (length rows)) rows row n refl h
+pub as_many_kept : (all : List Row) (row : Row) (n : ℕ) → length all ≡ min 200 n → length (kept all row) ≡ min 200 (n + 1)
+as_many_kept all row n h = many_where (nat_le 200 (length all)) all row n refl h
 
 -- the refused event stands behind those that were allowed
 pub refused_here : (events : List (ℕ × Event)) (at : ℕ) (numbered : ℕ × Event) (old new : State) (end : Replayed) → at < length events → numbered ≡ get_or events at numbered

@@ -15,7 +15,7 @@ use Rattle.draw.specs.declared.history.History.{History}
 
 -- the rows with one more; where there are 200 before, the first one goes
 abbrev pub kept : List Row → Row → List Row
-kept rows row = (if nat_le 200 (length rows) then remove rows 0 else rows) ++ row ∷ []
+kept all row = (if nat_le 200 (length all) then remove all 0 else all) ++ row ∷ []
 
 -- a row tells of an event in a line, and of the state that it led to
 pub record Tells (row : Row) (line : ℕ) (s : State) : Type 0 where

@@ -12,6 +12,7 @@ pub mod Settling
 pub mod Scanning
 pub mod Betweens
 pub mod Putting
+pub mod Order
 pub mod Refusals
 pub mod Staying
 pub mod Lining

@@ -11,7 +11,9 @@ use Rattle.claim_queue.specs.Handles.{view_of}
 use Rattle.claim_queue.specs.Lines.{SameLines}
 use Rattle.claim_queue.specs.Puts.{RaisedFrom}
 use Rattle.claim_queue.specs.Takings.{TookItems, RefusedTake}
+use Rattle.table_theory.specs.Interleaving.{InOrder}
 use Rattle.claim_queue.proofs.Lining.{put_line, took_line, refused_stays}
+use Rattle.claim_queue.proofs.Order.{claimed_order, raised_order}
 use Rattle.claim_queue.proofs.Putting.{raised_put, same_raised}
 use Rattle.claim_queue.proofs.Raising.{refused_runs}
 use Rattle.quajects.proofs.Staying.{Stays, put_stays, took_stays, refused_claim_stays, refused_take_stays}
@@ -29,6 +31,7 @@ module _ {n : ℕ} (old new : QueueEnd n) where
     known = stays.1;
     share_is = s.share;
     raised = same_raised (view_of old) (view_of new) runs;
+    order = λ up. subst InOrder (sym runs) up;
   }
 
   -- a line that was put, all of it raised
@@ -40,6 +43,7 @@ module _ {n : ℕ} (old new : QueueEnd n) where
     known = (put_stays n call (view_of old) u (view_of new) start line c r).1;
     share_is = p.share;
     raised = raised_put n call (view_of old) u (view_of new) start line c own r;
+    order = λ up. raised_order n call start line u (view_of new) (length line) r (claimed_order n call (view_of old) u start line c up);
   }
 
   pub refused_worked : (count : ℕ) (r : ClaimRefusal) → Refused n (view_of old) count r (view_of new) → SameLines (view_of old) (view_of new) → EndWorked [] [] 0 old new
@@ -54,6 +58,7 @@ module _ {n : ℕ} (old new : QueueEnd n) where
     known = (took_stays n call (view_of old) (view_of new) line t).1;
     share_is = l.share;
     raised = same_raised (view_of old) (view_of new) p.1;
+    order = λ up. subst InOrder (sym p.1) up;
   }
 
   pub refused_take_worked : (Few Enough : List ℕ → Type 0) (r : TakeRefusal) → RefusedTake Few Enough n (view_of old) r (view_of new) → SameLines (view_of old) (view_of new) → EndWorked [] [] 0 old new

@@ -5,7 +5,7 @@ use Rattle.std.proofs.lemmas.List.{append-nil}
 use Rattle.claim_queue.specs.declared.ends.ClaimQueue.{ClaimQueue}
 use Rattle.claim_queue.specs.declared.ends.QueueEnd.{QueueEnd}
 use Rattle.claim_queue.specs.Handles.{IsEndOf, IsSameEnd}
-use Rattle.end_steps.specs.EndLists.{queue_table, end_table, end_call, end_puts, end_takes, end_share, end_shuts, end_knows_shut, HasRaised, AreEndsOf, AreSameEnds, OnEnd, only_at, number_at, lines_put_at, lines_taken_at, shuts_at}
+use Rattle.end_steps.specs.EndLists.{queue_table, end_table, end_call, end_puts, end_takes, end_share, end_shuts, end_knows_shut, HasRaised, ClaimedInOrder, AreEndsOf, AreSameEnds, OnEnd, only_at, number_at, lines_put_at, lines_taken_at, shuts_at}
 use Rattle.end_steps.specs.Sums.{EndWorked, Worked, no_lines, never}
 use Rattle.end_steps.proofs.Places.{same_at, as_long, same_ends, on_end, none_at, zero_at, grown_at, all_still, known_still}
 
@@ -36,6 +36,7 @@ module _ {n : ℕ} where
       shuts_are = grown_at end_shuts 0 (λ z. z) (λ a b. a + b) 0 no_more ends q end after shuts inside is w.shuts_are;
       shares = map-set_same end_share ends q after end (w.share_is ∙ ap end_share is);
       raised = all_still HasRaised ends q end after inside is w.raised;
+      order = all_still ClaimedInOrder ends q end after inside is w.order;
       known = known_still end_knows_shut ends q end after inside is w.known;
     }
 
@@ -46,6 +47,7 @@ module _ {n : ℕ} where
       shuts_are = λ i. all.shuts_are i ∙ ap (λ z. shuts_at ends i + z) (zero_at q i);
       shares = all.shares;
       raised = all.raised;
+      order = all.order;
       known = all.known;
     }
 
@@ -56,6 +58,7 @@ module _ {n : ℕ} where
       shuts_are = λ i. all.shuts_are i ∙ ap (λ z. shuts_at ends i + z) (zero_at q i);
       shares = all.shares;
       raised = all.raised;
+      order = all.order;
       known = all.known;
     }
 
@@ -66,5 +69,6 @@ module _ {n : ℕ} where
       shuts_are = all.shuts_are;
       shares = all.shares;
       raised = all.raised;
+      order = all.order;
       known = all.known;
     }

@@ -2,6 +2,7 @@
 use Rattle.std.specs.Prelude.{◌≡◌, ◌==◌, ℕ, Bool, false, if◌then◌else◌, List, [], map, Some, slice_set, slice_index_or}
 use Rattle.std.specs.List.{All, slice_get}
 use Rattle.atomic_table.specs.Seated.{TableId}
+use Rattle.table_theory.specs.Interleaving.{InOrder}
 use Rattle.table_theory.specs.Listing.{AllRaised}
 use Rattle.claim_queue.specs.declared.ends.ClaimQueue.{ClaimQueue}
 use Rattle.claim_queue.specs.declared.ends.QueueEnd.{QueueEnd}
@@ -63,6 +64,10 @@ module _ {n : ℕ} where
   -- the end has raised all that it claimed
   abbrev pub HasRaised : QueueEnd n → Type 0
   HasRaised end = AllRaised (queues.view_of end).part.runs
+
+  -- the end claimed its runs one behind the other: each starts behind the one before it
+  abbrev pub ClaimedInOrder : QueueEnd n → Type 0
+  ClaimedInOrder end = InOrder (queues.view_of end).part.runs
 
   abbrev pub IsDivisible : QueueEnd n → Type 0
   IsDivisible end = queues.IsDivisible end

@@ -1,12 +1,12 @@
 -- What a processor did, in its order, and what that comes to.
 use Rattle.std.specs.Prelude.{◌≡◌, ◌≤◌, ◌<◌, ◌+◌, ℕ, Bool, true, false, List, [], ◌∷◌, ◌++◌, flat_map, Some, Result, slice_index_or, length}
-use Rattle.std.specs.List.{AllByRecursion, sum_by, list_any}
+use Rattle.std.specs.List.{All, AllByRecursion, sum_by, list_any}
 use Rattle.boot_script.specs.declared.boot_plan.BootPlan.{BootPlan}
 use Rattle.boot_script.specs.declared.plan.QueueIndex.TheVariants.{Small, Large}
 use Rattle.boot_script.specs.declared.plan.Step.{Step}
 use Rattle.boot_script.specs.declared.plan.Step.TheVariants as steps
 use Rattle.claim_queue.specs.Takings.{IsLine}
-use Rattle.end_steps.specs.EndLists.{lines_put_at, lines_taken_at, shuts_at, knows_shut_at, notes_put_at, notes_taken_at}
+use Rattle.end_steps.specs.EndLists.{ClaimedInOrder, lines_put_at, lines_taken_at, shuts_at, knows_shut_at, notes_put_at, notes_taken_at}
 use Rattle.end_steps.specs.Sums.{Worked, ChainsWorked, never}
 use Rattle.hand_steps.specs.declared.counting.Counted.{Counted}
 use Rattle.hand_steps.specs.declared.counting.Counted.TheVariants as counted
@@ -206,14 +206,17 @@ pub record IsFresh (parts : Parts) : Type 0 where
       ≡ record nothing_own { share = (meters.view_of parts.meters).member.share }
   pub unused : IsUnused parts
 
--- What is left of a processor's work on a station that was fresh: all that its ends did is what the log says
+-- What is left of a processor's work on a station that was fresh: all that its ends did is what the log says, and each
+-- claimed in order
 pub record Leaves (plan : BootPlan) (log : List Entry) (parts : Parts) : Type 0 where
   pub planned : AllByRecursion (IsPlanned plan) log
   pub hand : tally (view_of parts.hand).made ≡ tally_of log
   pub small_puts : (q : ℕ) → lines_put_at parts.small.items q ≡ small_put log q
+  pub small_order : All ClaimedInOrder parts.small.items
   pub small_takes : (q : ℕ) → lines_taken_at parts.small.items q ≡ small_taken log q
   pub small_shuts : (q : ℕ) → shuts_at parts.small.items q ≡ times_shut log q
   pub large_puts : (q : ℕ) → lines_put_at parts.large.items q ≡ large_put log q
+  pub large_order : All ClaimedInOrder parts.large.items
   pub large_takes : (q : ℕ) → lines_taken_at parts.large.items q ≡ large_taken log q
   pub large_shuts : (q : ℕ) → shuts_at parts.large.items q ≡ 0
   pub small_shut : (q : ℕ) → small_was_shut log q ≡ true → knows_shut_at parts.small.items q ≡ true

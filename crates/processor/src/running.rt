@@ -22,6 +22,7 @@ use boot_script::plan::Step;
 use end_steps::Gate;
 use hand_steps::{Counted, Waited, count, make_ready, put_on, retire, take_off, wait_at, wait_in};
 use quaject_core::{Element, Processor, WaitNumber};
+use std::mem;
 use std::sync::Wait;
 use thread_table::{Hand, ThreadTable};
 
@@ -131,25 +132,25 @@ pub(crate) fn send_on<R: Wait>(
     }
 }
 
-// Keeps a line that was heard.
+// Keeps a line that was heard, and leaves none in `text`.
 pub(crate) fn keep(
     lines: &mut Vec<Heard>,
     deed: &Deed,
     thread: Element,
     number: u64,
-    text: ArrayVec<u64, 256>,
+    text: &mut ArrayVec<u64, 256>,
 )
     requires room { is_heard deed.now ≡ true → vec_len lines.old < vec_capacity lines.old }
     requires low { number < 64 }
     ensures lines { map line_heard lines.new.items
-        ≡ map line_heard lines.old.items ++ heard_in deed.now thread number text.items }
+        ≡ map line_heard lines.old.items ++ heard_in deed.now thread number text.old.items }
     ensures room { vec_capacity lines.new ≡ vec_capacity lines.old }
 {
     if let Deed::Heard(_) = deed {
         lines.push_reserved(Heard {
             thread: thread.number(),
             step: number as u8,
-            text,
+            text: mem::replace(text, ArrayVec::new()),
         });
     }
 }

@@ -33,7 +33,7 @@ fn is_last(done: bool, number: u64, steps: usize) -> bool
     done && steps as u64 <= number + 1
 }
 
-// The step of an element at hand is tried, and the element moves on.
+// The step of an element at hand is tried, and the element moves on. `line` has room for a line that is heard.
 fn run_element<R: Wait, G: Gate>(
     rt: &R,
     shared: &Shared,
@@ -42,6 +42,7 @@ fn run_element<R: Wait, G: Gate>(
     element: Element,
     number: u64,
     step: &Step,
+    line: &mut ArrayVec<u64, 256>,
     gate: &mut G,
 ) -> (Tried, Moved)
     requires parts { ArePartsOf shared.now parts.old }
@@ -63,9 +64,9 @@ fn run_element<R: Wait, G: Gate>(
     ensures gate { Told G.told p (points_of result.0.deed) gate.old gate.new }
 {
     steps_fit();
-    let mut heard = ArrayVec::new();
-    let tried = run_step(rt, shared, parts, p, element, step, &mut heard, gate);
-    keep(&mut parts.heard, &tried.deed, element, number, heard);
+    line.clear();
+    let tried = run_step(rt, shared, parts, p, element, step, line, gate);
+    keep(&mut parts.heard, &tried.deed, element, number, line);
     let steps = program_of(&shared.plan, element).len();
     let last = is_last(tried.deed.is_done(), number, steps);
     let threads = &shared.threads;
@@ -104,10 +105,7 @@ fn begin_turn<R: Wait>(
     ensures serves { (view_of parts.new.hand).serves ≡ (view_of parts.old.hand).serves }
     ensures share { (view_of parts.new.hand).member.share ≡ (view_of parts.old.hand).member.share }
 {
-    let mut signals = parts.signals;
-    let begun = begin(rt, &shared.threads, &mut parts.hand, &mut signals);
-    parts.signals = signals;
-    begun
+    begin(rt, &shared.threads, &mut parts.hand, &mut parts.signals)
 }
 
 // Retires an element at hand.
@@ -147,6 +145,7 @@ fn take_turn<R: Wait, G: Gate>(
     p: Processor,
     element: Element,
     number: u64,
+    line: &mut ArrayVec<u64, 256>,
     gate: &mut G,
 ) -> Had
     requires parts { ArePartsOf shared.now parts.old }
@@ -172,7 +171,7 @@ fn take_turn<R: Wait, G: Gate>(
         return Had::Ended(moved);
     }
     let step = &steps[number as usize];
-    let (tried, moved) = run_element(rt, shared, parts, p, element, number, step, gate);
+    let (tried, moved) = run_element(rt, shared, parts, p, element, number, step, line, gate);
     Had::Ran(tried, moved)
 }
 
@@ -182,6 +181,7 @@ fn dispatch<R: Wait, G: Gate>(
     shared: &Shared,
     parts: &mut Parts,
     p: Processor,
+    line: &mut ArrayVec<u64, 256>,
     gate: &mut G,
 ) -> Outcome
     requires parts { ArePartsOf shared.now parts.old }
@@ -200,7 +200,16 @@ fn dispatch<R: Wait, G: Gate>(
 {
     match begin_turn(rt, shared, parts, p) {
         Ok(begun) => {
-            let had = take_turn(rt, shared, parts, p, begun.element, begun.number, gate);
+            let had = take_turn(
+                rt,
+                shared,
+                parts,
+                p,
+                begun.element,
+                begun.number,
+                line,
+                gate,
+            );
             Outcome::Had(begun, had)
         }
         Err(idle) => Outcome::Idle(idle),
@@ -235,6 +244,7 @@ fn turn<R: Wait, G: Gate>(
     shared: &Shared,
     parts: &mut Parts,
     p: Processor,
+    line: &mut ArrayVec<u64, 256>,
     gate: &mut G,
 ) -> Turned
     requires parts { ArePartsOf shared.now parts.old }
@@ -252,7 +262,7 @@ fn turn<R: Wait, G: Gate>(
     ensures gate { Told G.told p (points_out result.outcome) gate.old gate.new }
 {
     let tended = tend(shared, parts, p);
-    let outcome = dispatch(rt, shared, parts, p, gate);
+    let outcome = dispatch(rt, shared, parts, p, line, gate);
     Turned { tended, outcome }
 }
 
@@ -286,9 +296,10 @@ pub fn run<R: Wait, G: Gate>(
     ensures told { ToldTurns G.told shared.now p station.parts result.parts turns gate.old gate.new }
 {
     let Station { mut parts } = station;
+    let mut line = ArrayVec::new();
     for number in 0..turns {
         gate.between(p.number(), Point::Turn(number));
-        let _ = turn(rt, shared, &mut parts, p, gate);
+        let _ = turn(rt, shared, &mut parts, p, &mut line, gate);
     }
     Station { parts }
 }

@@ -1,6 +1,7 @@
 pub mod Lists
 pub mod Items
 pub mod Joining
+pub mod Weaving
 pub mod Queues
 pub mod Counts
 pub mod Shuffles

@@ -161,7 +161,7 @@ raws_at number raw (tty ∷ ttys) = ap (λ (z : List (QueueEnd 64)). if raw == n
 
 -- THE LAST END
 
-map_flat : (f : View → List Batch) (vs : List View) → map line_of (flat_map f vs) ≡ flat_map (λ v. map line_of (f v)) vs
+pub map_flat : (f : View → List Batch) (vs : List View) → map line_of (flat_map f vs) ≡ flat_map (λ v. map line_of (f v)) vs
 map_flat f [] = refl
 map_flat f (v ∷ vs) = map-append line_of (f v) (flat_map f vs) ∙ ap (λ z. map line_of (f v) ++ z) (map_flat f vs)
 

@@ -1,7 +1,7 @@
 -- How the closed tables agree with the plan and with what the processors did.
 use Rattle.std.specs.Prelude.{◌≡◌, ◌⊎◌, ◌≤◌, ◌<◌, ◌+◌, ◌%◌, ◌==◌, ◌||◌, ℕ, nat_lt, if◌then◌else◌, List, [], ◌∷◌, ◌++◌}
 use Rattle.std.specs.Prelude.{length, map, take, flat_map, Option, Some, None, count_by}
-use Rattle.std.specs.List.{slice_get, list_any}
+use Rattle.std.specs.List.{slice_get, list_any, concat}
 use Rattle.boot_script.specs.declared.boot_plan.BootPlan.{BootPlan}
 use Rattle.boot_script.specs.declared.plan.Mover.{Mover}
 use Rattle.boot_script.specs.declared.plan.Mover.TheVariants as movers
@@ -20,6 +20,7 @@ use Rattle.quajects.specs.Anys.{IsKept, notes_of, all_taken}
 use Rattle.quajects.specs.Pumps as pumps
 use Rattle.quajects.specs.Switches as switches
 use Rattle.quajects.specs.Terminals as terminals
+use Rattle.table_theory.specs.Interleaving.{Interleaves}
 use Rattle.thread_table.specs.declared.places.Place.{Place}
 use Rattle.thread_table.specs.declared.places.Place.TheVariants as places
 use Rattle.thread_table.specs.Answers.{is_in}
@@ -59,14 +60,26 @@ pub record ThreadAgrees (plan : BootPlan) (thread : ℕ) (t : closed.Thread) (fi
 
 -- QUEUES
 
--- The lines that each processor put are those of its log, in that order, and the lines that it took; cut by claim, the
--- items put are the lines put, each once; cut by taking, the items taken are the lines taken, each once
+-- each of these in a list of its own
+abbrev pub each_alone : {A : Type 0} → List A → List (List A)
+each_alone xs = map (λ x. x ∷ []) xs
+
+-- The items are lines one behind the other: those of each of the lists in the list's order, and the others wherever they
+-- are, each line once
+pub record IsWoven (items : List ℕ) (lists : List (List (List ℕ))) (others : List (List ℕ)) : Type 0 where
+  pub order : List (List ℕ)
+  pub whole : concat order ≡ items
+  pub woven : Interleaves order (lists ++ each_alone others)
+
+-- The lines that each processor put are those of its log, and so are the lines that it took; cut by claim, the items put
+-- are the lines put, each once, and those of each processor stand in the order of its log; cut by taking, the items
+-- taken are the lines taken, each once
 pub record QueueAgrees (put taken : List Entry → List (List ℕ)) (q : closed.Queue) (logs : List (List Entry))
     : Type 0 where
   pub behind : q.taken ≤ length q.items
   pub said : q.put_by ≡ map put logs
   pub heard : q.taken_by ≡ map taken logs
-  pub claims : IsCut q.items (all_of q.put_by ++ q.put_by_others)
+  pub claims : IsWoven q.items q.put_by q.put_by_others
   pub takings : IsCut (take q.taken q.items) (all_of q.taken_by ++ q.taken_by_others)
 
 abbrev pub SmallAgrees : ℕ → closed.Queue → List (List Entry) → Type 0

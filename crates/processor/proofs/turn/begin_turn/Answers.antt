@@ -7,8 +7,8 @@ use Rattle.processor.proofs.turn.begin_turn.Goals as goal
 
 pub returns-clause-room : goal.returns-clause-room
 returns-clause-room g c = room_kept c.args.shared.now.plan c.args.parts.now _ c.requires.room refl
-    (began_or_idle _ (view_of c.args.parts.now.hand) (view_of c.begin-begun.new.hand) c.begin-begun.result c.begin-begun.ensures.begun)
+    (began_or_idle _ (view_of c.args.parts.now.hand) (view_of c.begin.new.hand) c.begin.result c.begin.ensures.begun)
 
 pub returns-clause-logged : goal.returns-clause-logged
-returns-clause-logged g c = begun_logged c.args.shared.now.plan c.begin-begun.result c.args.parts.now _ c.begin-begun.ensures.adds
-    (record { small = refl; large = refl; chains = refl; heard = refl }) refl c.begin-begun.ensures.signals
+returns-clause-logged g c = begun_logged c.args.shared.now.plan c.begin.result c.args.parts.now _ c.begin.ensures.adds
+    (record { small = refl; large = refl; chains = refl; heard = refl }) refl c.begin.ensures.signals

@@ -38,10 +38,6 @@ mod plays;
 mod rule;
 mod steps;
 mod take;
-#[cfg(test)]
-mod tests;
-#[cfg(test)]
-mod thread_tests;
 
 pub use between::between_steps;
 pub use claim::{Claim, ClaimRefusal};

@@ -262,6 +262,97 @@ fn no_position_left(rt: HostRuntime) -> Result<(), Fail> {
     Ok(())
 }
 
+/// Makes an element ready that the hand holds, and takes it again, so often. False where one of these is refused.
+fn readies<R: Wait>(
+    rt: &R,
+    threads: &ThreadTable,
+    hand: &mut Hand,
+    element: Element,
+    times: u32,
+) -> bool
+    requires { IsHandOf threads.now hand.old }
+    ensures { IsSameHand hand.old hand.new }
+{
+    for _ in 0..times {
+        if !hand.holds(element) {
+            return false;
+        }
+        if !make_ready(rt, threads, hand, element) {
+            return false;
+        }
+        if begun(rt, threads, hand).is_none() {
+            return false;
+        }
+    }
+    true
+}
+
+/// Puts an element that the hand holds in a wait queue, and wakes it, so often. False where it isn't held, or is refused.
+fn waits<R: Wait>(
+    rt: &R,
+    threads: &ThreadTable,
+    hand: &mut Hand,
+    element: Element,
+    wait: WaitNumber,
+    times: u32,
+) -> bool
+    requires { IsHandOf threads.now hand.old }
+    ensures { IsSameHand hand.old hand.new }
+{
+    for _ in 0..times {
+        if !hand.holds(element) {
+            return false;
+        }
+        if !wait_in(rt, threads, hand, element, wait) {
+            return false;
+        }
+        wake(rt, threads, hand, wait);
+    }
+    true
+}
+
+/// Where the ready ring has no position left, an element that is started stays in the hand, and so does one that is woken;
+/// and where its wait queue has none, one that would wait.
+#[test]
+fn held_by_who_starts_it(rt: HostRuntime) -> Result<(), Fail> {
+    let (threads, mut hand) = ThreadTable::new_at(rt.alloc(), 4_294_967_167)?;
+    let Some(w) = WaitNumber::new(7) else {
+        panic!(rt; "wait")
+    };
+    let Some(e) = freed(&threads, &mut hand) else {
+        panic!(rt; "free")
+    };
+    assert!(rt; readies(&rt, &threads, &mut hand, e, 128));
+    if !hand.holds(e) {
+        panic!(rt; "held");
+    }
+    assert!(rt; !make_ready(&rt, &threads, &mut hand, e));
+    assert!(rt; threads.stop(&mut hand, e));
+    if !hand.holds(e) {
+        panic!(rt; "held");
+    }
+    assert_eq!(rt; threads.try_park(&mut hand, e), Ok(true));
+    assert!(rt; !hand.holds(e));
+    assert_eq!(rt; start(&rt, &threads, &mut hand, e), Ok(Resumed::Held));
+    assert!(rt; hand.holds(e));
+    assert!(rt; waits(&rt, &threads, &mut hand, e, w, 128));
+    let ticket = threads.ticket(&mut hand, w);
+    assert_eq!(rt; ticket, 128);
+    if !hand.holds(e) {
+        panic!(rt; "held");
+    }
+    assert_eq!(rt;
+        wait_at(&rt, &threads, &mut hand, e, w, ticket),
+        Waited::Spent
+    );
+    if !hand.holds(e) {
+        panic!(rt; "held");
+    }
+    assert!(rt; !wait_in(&rt, &threads, &mut hand, e, w));
+    assert!(rt; hand.holds(e));
+    Ok(())
+}
+
 #[test]
 fn alarms_that_are_due(rt: HostRuntime) -> Result<(), Fail> {
     let (threads, mut hand) = ThreadTable::new(rt.alloc())?;

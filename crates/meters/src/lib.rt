@@ -16,10 +16,6 @@ mod gauges;
 mod plays;
 mod rule;
 mod steps;
-#[cfg(test)]
-mod tests;
-#[cfg(test)]
-mod thread_tests;
 mod word;
 
 pub use alarms::SetRefusal;

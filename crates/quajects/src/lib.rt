@@ -4,23 +4,13 @@
 
 mod any;
 mod cooking;
-#[cfg(test)]
-mod fixtures;
 mod home;
 mod piping;
 mod ports;
 mod raw;
 mod settling;
-#[cfg(test)]
-mod switch_tests;
 mod switching;
 mod terminal;
-#[cfg(test)]
-mod tests;
-#[cfg(test)]
-mod thread_tests;
-#[cfg(test)]
-mod tty_tests;
 mod ways;
 mod world;
 

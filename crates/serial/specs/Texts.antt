@@ -1,7 +1,7 @@
 -- What a port's bytes make of its page.
 use Rattle.std.specs.Prelude.{ℕ, List, [], ◌∷◌, ◌++◌, ◌==◌, if◌then◌else◌, length, map, nat_lt}
 use Rattle.std.specs.List.{fold}
-use Rattle.serial.specs.declared.page.Page.{Page}
+use Rattle.serial.specs.declared.collector.Page.{Page}
 
 -- the lines that were ended, and the one begun
 pub record Text : Type 0 where

@@ -1,31 +1,57 @@
 //! The quaject that the ports share.
 ghost use Rattle.std.specs.Prelude.{◌≡◌};
 ghost use Rattle.serial.specs.Made.{IsMadeBy};
-ghost use Rattle.serial.specs.Texts.{blank, text_of};
+ghost use Rattle.serial.specs.Texts.{blank, text_of, react};
 
-use crate::page::Page;
+use arrayvec::ArrayVec;
 use proc_chain::{Quaject, Ran};
+use std::mem;
 
 /// The numbers of the second port's notes begin here.
 pub const SECOND_PORT: u16 = 256;
+
+/// The byte that ends a line.
+const END: u8 = 10;
+
+/// A line without its end.
+pub type Line = ArrayVec<u8, 64>;
+
+/// The lines that a port has ended, and the one that it has begun.
+#[derive(Drop)]
+pub struct Page {
+    pub lines: ArrayVec<Line, 16>,
+    pub begun: Line,
+}
+
+impl Page {
+    /// A page with nothing on it.
+    pub fn new() -> Page
+        ensures { text_of result ≡ blank }
+    {
+        Page {
+            lines: ArrayVec::new(),
+            begun: ArrayVec::new(),
+        }
+    }
+
+    /// One byte more: 10 ends the line. What finds no room is dropped.
+    fn react(&mut self, byte: u8)
+        ensures { text_of self.new ≡ react (text_of self.old) byte }
+    {
+        if byte != END {
+            let _full = self.begun.try_push(byte);
+        } else if !self.lines.is_full() {
+            self.lines
+                .push(mem::replace(&mut self.begun, ArrayVec::new()));
+        }
+    }
+}
 
 /// A page for each of two ports. A note is a byte, and 256 more where the second port has sent it.
 #[derive(Drop)]
 pub struct Collector {
     pub first: Page,
     pub second: Page,
-}
-
-impl Collector {
-    /// A collector to which no port has sent.
-    pub fn new() -> Collector
-        ensures { (text_of result.first ≡ blank) × (text_of result.second ≡ blank) }
-    {
-        Collector {
-            first: Page::new(),
-            second: Page::new(),
-        }
-    }
 }
 
 impl Quaject for Collector {

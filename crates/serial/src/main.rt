@@ -4,14 +4,9 @@
 
 mod collector;
 mod device;
-mod fault;
-mod page;
 
-use collector::Collector;
+use collector::Page;
 use device::collect;
-use fault::Fault;
-use page::Page;
-use proc_chain::ChainClosed;
 use std::process::ExitCode;
 use std::str;
 use std::sync::Wait;
@@ -21,37 +16,37 @@ const FIRST: &[u8] = b"the first port says\nthat all is well\n";
 
 const SECOND: &[u8] = b"the second\nsays so\ntoo\n";
 
+/// Why a run ends early.
+type Fault = &'static str;
+
 /// Prints the lines of a page, each behind the name of its port.
 fn print_page<R: Print>(rt: &R, port: &str, page: &Page) -> Result<(), Fault> {
     for line in page.lines.as_slice() {
         let text = str::from_utf8(line.as_slice()).unwrap_or("no text");
-        println!(rt; "{port}: {text}").map_err(Fault::of_line)?;
+        println!(rt; "{port}: {text}").map_err(|_| "a line can't be written")?;
     }
     Ok(())
 }
 
-/// Prints what was collected, and the numbers of the chain.
-fn print_closed<R: Print>(rt: &R, closed: &ChainClosed<Collector>) -> Result<(), Fault> {
+/// Collects what both ports send, and prints it, with the numbers of the chain.
+fn run<R: Threads + Wait + Print + AllocGlobal + Sync>(rt: &R) -> Result<(), Fault> {
+    let closed = collect(rt, rt.alloc(), FIRST, SECOND).map_err(|_| "no memory")?;
     print_page(rt, "first", &closed.quaject.first)?;
     print_page(rt, "second", &closed.quaject.second)?;
     let (put, left) = (closed.put, closed.left.len());
-    println!(rt; "{put} notes were chained, and {left} are left").map_err(Fault::of_line)
-}
-
-/// Collects what both ports send, and prints it.
-fn run<R: Threads + Wait + Print + AllocGlobal + Sync>(rt: &R) -> Result<(), Fault> {
-    let closed = collect(rt, rt.alloc(), FIRST, SECOND)?;
-    print_closed(rt, &closed)
+    println!(rt; "{put} notes were chained, and {left} are left").map_err(
+        |_| "a line can't be written",
+    )
 }
 
 fn main(rt: HostRuntime) -> ExitCode {
-    ExitCode::from(match run(&rt) {
-        Ok(()) => 0,
+    match run(&rt) {
+        Ok(()) => ExitCode::SUCCESS,
         Err(fault) => {
             let _ = eprintln!(rt; "serial: {fault}");
-            fault.status()
+            ExitCode::FAILURE
         }
-    })
+    }
 }
 
 #[cfg(test)]

@@ -2,7 +2,7 @@ use super::*;
 use std::test::*;
 
 /// The text of a line.
-fn text(line: Option<&page::Line>) -> &str {
+fn text(line: Option<&collector::Line>) -> &str {
     str::from_utf8(line.map_or(&[], |line| line.as_slice())).unwrap_or("no text")
 }
 

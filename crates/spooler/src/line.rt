@@ -3,8 +3,6 @@ ghost use Rattle.std.specs.Prelude.{◌≡◌, [], ◌∷◌, ◌++◌, IfSome};
 ghost use Rattle.spooler.specs.Wholes.{IsWhole};
 
 use arrayvec::ArrayVec;
-use std::fmt;
-use std::fmt::{Display, Formatter};
 
 /// The item that ends a line.
 const END: u64 = 10;
@@ -34,15 +32,5 @@ impl Line {
         }
         items.push(END);
         Some(Line { items })
-    }
-}
-
-impl Display for Line {
-    fn fmt<W: fmt::Write>(&self, f: &mut Formatter<W>) -> fmt::Result {
-        for item in self.items.as_slice() {
-            let byte = u8::try_from(*item).unwrap_or(b'?');
-            write!(f, "{}", byte as char)?;
-        }
-        Ok(())
     }
 }

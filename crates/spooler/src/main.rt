@@ -4,15 +4,11 @@
 
 ghost use Rattle.std.specs.Prelude.{◌++◌, IfOk, IsPermutation};
 
-mod fault;
 mod line;
-mod producer;
 mod spool;
-mod taker;
 
-use fault::Fault;
 use line::Line;
-use spool::{Spooled, run_spool};
+use spool::run_spool;
 use std::alloc::Global;
 use std::process::ExitCode;
 use std::sync::Wait;
@@ -24,56 +20,58 @@ const BEN: [&str; 2] = ["ben 1 of 2", "ben 2 of 2"];
 
 const EVE: [&str; 4] = ["eve 1 of 4", "eve 2 of 4", "eve 3 of 4", "eve 4 of 4"];
 
+/// Why a run ends early.
+type Fault = &'static str;
+
 /// The lines of these texts.
 fn job(alloc: Global, texts: &[&str]) -> Result<Vec<Line>, Fault> {
     let mut lines = Vec::new(alloc);
     for text in texts {
-        lines
-            .push(Line::of(text.as_bytes()).ok_or(Fault::Text)?)
-            .map_err(Fault::of_push)?;
+        let line = Line::of(text.as_bytes()).ok_or("a text is no line")?;
+        lines.push(line).map_err(|_| "no memory")?;
     }
     Ok(lines)
 }
 
 /// All lines that were taken, each as often as it was taken, in alphabetical order.
-pub fn sorted(spooled: Spooled) -> Result<Vec<Line>, Fault>
-    ensures { IfOk result (λ lines. IsPermutation (spooled.one.items ++ spooled.other.items) lines.items) }
+pub fn sorted(one: Vec<Line>, other: Vec<Line>) -> Result<Vec<Line>, Fault>
+    ensures { IfOk result (λ lines. IsPermutation (one.items ++ other.items) lines.items) }
 {
-    let Spooled { one, mut other } = spooled;
-    let mut lines = one;
-    lines.append(&mut other)?;
+    let (mut lines, mut other) = (one, other);
+    lines.append(&mut other).map_err(|_| "no memory")?;
     lines.sort_unstable();
     Ok(lines)
 }
 
+/// Prints a line.
+fn print_line<R: Print>(rt: &R, line: &Line) -> Result<(), Fault> {
+    for item in line.items.as_slice() {
+        print!(rt; "{}", (*item % 256) as u8 as char).map_err(|_| "a line can't be written")?;
+    }
+    Ok(())
+}
+
 /// Spools three jobs, and prints all lines.
 fn run<R: Threads + Wait + Print + AllocGlobal + Sync>(rt: &R) -> Result<(), Fault> {
-    let (ann, ben, eve) = (
-        job(rt.alloc(), &ANN)?,
-        job(rt.alloc(), &BEN)?,
-        job(rt.alloc(), &EVE)?,
-    );
-    let spooled = run_spool(
-        rt,
-        rt.alloc(),
-        ann.as_slice(),
-        ben.as_slice(),
-        eve.as_slice(),
+    let alloc = rt.alloc();
+    let (ann, ben, eve) = (job(alloc, &ANN)?, job(alloc, &BEN)?, job(alloc, &EVE)?);
+    let (one, other) = run_spool(rt, alloc, ann.as_slice(), ben.as_slice(), eve.as_slice()).map_err(
+        |_| "no memory",
     )?;
-    for line in sorted(spooled)? {
-        print!(rt; "{line}").map_err(Fault::of_line)?;
+    for line in sorted(one, other)? {
+        print_line(rt, &line)?;
     }
     Ok(())
 }
 
 fn main(rt: HostRuntime) -> ExitCode {
-    ExitCode::from(match run(&rt) {
-        Ok(()) => 0,
+    match run(&rt) {
+        Ok(()) => ExitCode::SUCCESS,
         Err(fault) => {
             let _ = eprintln!(rt; "spooler: {fault}");
-            fault.status()
+            ExitCode::FAILURE
         }
-    })
+    }
 }
 
 #[cfg(test)]

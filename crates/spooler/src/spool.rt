@@ -1,16 +1,17 @@
 //! Three producers and two takers, each in a thread of its own.
-ghost use Rattle.std.specs.Prelude.{◌≡◌, [], ◌∷◌, IfOk};
+ghost use Rattle.std.specs.Prelude.{◌≡◌, [], ◌∷◌, ◌++◌, IfOk, IfSome, IsTrue};
 ghost use Rattle.std.specs.Thread.{IsSync};
 ghost use Rattle.claim_queue.specs.Handles.{view_of, IsEndOf};
 ghost use Rattle.claim_queue.specs.Lines.{SameLines};
+ghost use Rattle.spooler.specs.Doings.{HasPut, HasTaken, KeepsPuts};
 ghost use Rattle.spooler.specs.Ends.{Puts, Takes};
 ghost use Rattle.spooler.specs.Lines.{lines_of};
 ghost use Rattle.spooler.specs.Spooled.{IsSpooled};
+ghost use Rattle.spooler.specs.Wholes.{IsWhole};
 
 use crate::line::Line;
-use crate::producer::put_lines;
-use crate::taker::{Taker, take_lines};
-use claim_queue::{ClaimQueue, QueueEnd};
+use arrayvec::ArrayVec;
+use claim_queue::{ClaimQueue, QueueEnd, TakeRefusal};
 use quaject_core::OutOfMemory;
 use std::alloc::Global;
 use std::sync::Wait;
@@ -21,139 +22,59 @@ type Queue = ClaimQueue<64>;
 
 type End = QueueEnd<64>;
 
-/// The lines that each taker took, in its order.
-#[derive(Drop)]
-pub struct Spooled {
-    pub one: Vec<Line>,
-    pub other: Vec<Line>,
+/// What a taker comes back with: its end, and the lines that it took. None where there was no memory for one of them.
+type Taker = (End, Option<Vec<Line>>);
+
+/// Puts one line, which is one claim. It tries again for as long as the queue is full.
+fn put_line<R: Wait>(rt: &R, queue: &Queue, end: &mut End, line: &Line)
+    requires { IsEndOf queue.now end.old }
+    ensures queue { IsEndOf queue.now end.new }
+    ensures put { HasPut (line.now.items.items ∷ []) (view_of end.old) (view_of end.new) }
+{
+    for _ in rt.forever() {
+        match queue.put(rt, end, line.items.as_slice()) {
+            Ok(_) => return,
+            Err(_) => thread::yield_now(),
+        }
+    }
 }
 
-/// Two producers put their lines.
-fn put_two<R: Threads + Wait + Sync>(
-    rt: &R,
-    queue: &Queue,
-    ends: (End, End),
-    first: &[Line],
-    second: &[Line],
-) -> (End, End)
-    requires { IsEndOf queue.now ends.0 × IsEndOf queue.now ends.1 }
-    ensures one { Puts queue.now first.now ends.0 result.0 }
-    ensures other { Puts queue.now second.now ends.1 result.1 }
+/// Puts the lines, in their order.
+fn put_lines<R: Wait>(rt: &R, queue: &Queue, end: End, lines: &[Line]) -> End
+    requires { IsEndOf queue.now end }
+    ensures { Puts queue.now lines.now end result }
 {
-    let (one, other) = ends;
-    thread::join(
-        rt,
-        move || -> End
-            requires { IsSync R.row × IsEndOf queue.now one }
-            ensures { Puts queue.entry.now first.entry.now one result }
-        { put_lines(rt, queue, one, first) },
-        move || -> End
-            requires { IsSync R.row × IsEndOf queue.now other }
-            ensures { Puts queue.entry.now second.entry.now other result }
-        { put_lines(rt, queue, other, second) },
-    )
+    let mut end = end;
+    for line in lines {
+        put_line(rt, queue, &mut end, line);
+    }
+    end
 }
 
-/// Three producers put their lines. Then the last end shuts the queue.
-fn put_and_shut<R: Threads + Wait + Sync>(
-    rt: &R,
-    queue: &Queue,
-    last: End,
-    ends: (End, (End, End)),
-    first: &[Line],
-    second: &[Line],
-    third: &[Line],
-) -> (End, (End, (End, End)))
-    requires { IsEndOf queue.now last × IsEndOf queue.now ends.0 × IsEndOf queue.now ends.1.0
-        × IsEndOf queue.now ends.1.1 }
-    ensures last { IsEndOf queue.now result.0 × SameLines (view_of last) (view_of result.0) }
-    ensures first { Puts queue.now first.now ends.0 result.1.0 }
-    ensures second { Puts queue.now second.now ends.1.0 result.1.1.0 }
-    ensures third { Puts queue.now third.now ends.1.1 result.1.1.1 }
+/// Keeps a line behind the others. False where there is no memory for it.
+fn keep(lines: &mut Vec<Line>, items: ArrayVec<u64, 64>) -> bool
+    requires { IsWhole items.items }
+    ensures { IsTrue result → lines_of lines.new.items ≡ lines_of lines.old.items ++ items.items ∷ [] }
 {
-    let mut last = last;
-    let (one, others) = ends;
-    let back = thread::join(
-        rt,
-        move || -> End
-            requires { IsSync R.row × IsEndOf queue.now one }
-            ensures { Puts queue.entry.now first.entry.now one result }
-        { put_lines(rt, queue, one, first) },
-        move || -> (End, End)
-            requires { IsSync R.row × IsEndOf queue.now others.0 × IsEndOf queue.now others.1 }
-            ensures { Puts queue.entry.now second.entry.now others.0 result.0
-                × Puts queue.entry.now third.entry.now others.1 result.1 }
-        { put_two(rt, queue, others, second, third) },
-    );
-    let _was_open = queue.shut(&mut last);
-    (last, back)
+    lines.push(Line { items }).is_ok()
 }
 
-/// Two takers take all lines.
-fn take_two<R: Threads + Wait + Sync>(
-    rt: &R,
-    alloc: Global,
-    queue: &Queue,
-    ends: (End, End),
-) -> (Taker, Taker)
-    requires { IsEndOf queue.now ends.0 × IsEndOf queue.now ends.1 }
-    ensures one { Takes queue.now ends.0 result.0 }
-    ensures other { Takes queue.now ends.1 result.1 }
+/// Takes lines until the queue is shut and empty. Where there is no memory for a line it goes on, so that no producer
+/// waits for it.
+fn take_lines<R: Wait>(rt: &R, alloc: Global, queue: &Queue, end: End) -> Taker
+    requires { IsEndOf queue.now end }
+    ensures { Takes queue.now end result }
 {
-    let (one, other) = ends;
-    thread::join(
-        rt,
-        move || -> Taker
-            requires { IsSync R.row × IsEndOf queue.now one }
-            ensures { Takes queue.entry.now one result }
-        { take_lines(rt, alloc, queue, one) },
-        move || -> Taker
-            requires { IsSync R.row × IsEndOf queue.now other }
-            ensures { Takes queue.entry.now other result }
-        { take_lines(rt, alloc, queue, other) },
-    )
-}
-
-/// What the producers' ends and the takers come back with, and the end that shut the queue.
-type Back = ((End, (End, (End, End))), (Taker, Taker));
-
-/// Puts and takes all lines, in five threads.
-fn put_and_take<R: Threads + Wait + Sync>(
-    rt: &R,
-    alloc: Global,
-    queue: &Queue,
-    last: End,
-    producers: (End, (End, End)),
-    takers: (End, End),
-    jobs: (&[Line], &[Line], &[Line]),
-) -> Back
-    requires last { IsEndOf queue.now last }
-    requires producers { IsEndOf queue.now producers.0 × IsEndOf queue.now producers.1.0
-        × IsEndOf queue.now producers.1.1 }
-    requires takers { IsEndOf queue.now takers.0 × IsEndOf queue.now takers.1 }
-    ensures last { IsEndOf queue.now result.0.0 × SameLines (view_of last) (view_of result.0.0) }
-    ensures first { Puts queue.now jobs.entry.0.now producers.0 result.0.1.0 }
-    ensures second { Puts queue.now jobs.entry.1.now producers.1.0 result.0.1.1.0 }
-    ensures third { Puts queue.now jobs.entry.2.now producers.1.1 result.0.1.1.1 }
-    ensures one { Takes queue.now takers.0 result.1.0 }
-    ensures other { Takes queue.now takers.1 result.1.1 }
-{
-    let (first, second, third) = jobs;
-    thread::join(
-        rt,
-        move || -> (End, (End, (End, End)))
-            requires { IsSync R.row × IsEndOf queue.now last × IsEndOf queue.now producers.0
-                × IsEndOf queue.now producers.1.0 × IsEndOf queue.now producers.1.1 }
-            ensures { (IsEndOf queue.entry.now result.0 × SameLines (view_of last) (view_of result.0))
-                × Puts queue.entry.now first.entry.now producers.0 result.1.0
-                × Puts queue.entry.now second.entry.now producers.1.0 result.1.1.0
-                × Puts queue.entry.now third.entry.now producers.1.1 result.1.1.1 }
-        { put_and_shut(rt, queue, last, producers, first, second, third) },
-        move || -> (Taker, Taker)
-            requires { IsSync R.row × IsEndOf queue.now takers.0 × IsEndOf queue.now takers.1 }
-            ensures { Takes queue.entry.now takers.0 result.0 × Takes queue.entry.now takers.1 result.1 }
-        { take_two(rt, alloc, queue, takers) },
-    )
+    let (mut end, mut lines, mut kept) = (end, Vec::new(alloc), true);
+    for _ in rt.forever() {
+        let mut items = ArrayVec::new();
+        match queue.try_take_line(&mut end, &mut items) {
+            Ok(_) => kept = keep(&mut lines, items) && kept,
+            Err(TakeRefusal::Closed) => return (end, kept.then_some(lines)),
+            Err(_) => thread::yield_now(),
+        }
+    }
+    unreachable!()
 }
 
 /// Spools three jobs: a producer puts the lines of each, and two takers take them. When all is put the queue is shut,
@@ -169,30 +90,81 @@ pub fn run_spool<R: Threads + Wait + Sync>(
     first: &[Line],
     second: &[Line],
     third: &[Line],
-) -> Result<Spooled, OutOfMemory>
+) -> Result<(Vec<Line>, Vec<Line>), OutOfMemory>
     ensures { IfOk result (λ s. IsSpooled (lines_of first.now ∷ lines_of second.now ∷ lines_of third.now ∷ [])
-        (lines_of s.one.items ∷ lines_of s.other.items ∷ [])) }
+        (lines_of s.0.items ∷ lines_of s.1.items ∷ [])) }
 {
     let (queue, mut last) = Queue::new(alloc, 0)?;
-    let (a, b, c) = (
-        queue.split(&mut last),
-        queue.split(&mut last),
-        queue.split(&mut last),
+    let (a, b) = (queue.split(&mut last), queue.split(&mut last));
+    let (c, d) = (queue.split(&mut last), queue.split(&mut last));
+    let e = queue.split(&mut last);
+    let shared = &queue;
+    let back = thread::join(
+        rt,
+        move || -> (End, (End, (End, End)))
+            requires { IsSync R.row × IsEndOf shared.now last × IsEndOf shared.now a × IsEndOf shared.now b
+                × IsEndOf shared.now c }
+            ensures { (IsEndOf shared.entry.now result.0 × SameLines (view_of last) (view_of result.0))
+                × Puts shared.entry.now first.entry.now a result.1.0
+                × Puts shared.entry.now second.entry.now b result.1.1.0
+                × Puts shared.entry.now third.entry.now c result.1.1.1 }
+        {
+            let mut last = last;
+            let back = thread::join(
+                rt,
+                move || -> End
+                    requires { IsSync R.row × IsEndOf shared.now a }
+                    ensures { Puts shared.entry.now first.entry.now a result }
+                { put_lines(rt, shared, a, first) },
+                move || -> (End, End)
+                    requires { IsSync R.row × IsEndOf shared.now b × IsEndOf shared.now c }
+                    ensures { Puts shared.entry.now second.entry.now b result.0
+                        × Puts shared.entry.now third.entry.now c result.1 }
+                {
+                    thread::join(
+                        rt,
+                        move || -> End
+                            requires { IsSync R.row × IsEndOf shared.now b }
+                            ensures { Puts shared.entry.now second.entry.now b result }
+                        { put_lines(rt, shared, b, second) },
+                        move || -> End
+                            requires { IsSync R.row × IsEndOf shared.now c }
+                            ensures { Puts shared.entry.now third.entry.now c result }
+                        { put_lines(rt, shared, c, third) },
+                    )
+                },
+            );
+            let _was_open = shared.shut(&mut last);
+            (last, back)
+        },
+        move || -> (Taker, Taker)
+            requires { IsSync R.row × IsEndOf shared.now d × IsEndOf shared.now e }
+            ensures { Takes shared.entry.now d result.0 × Takes shared.entry.now e result.1 }
+        {
+            thread::join(
+                rt,
+                move || -> Taker
+                    requires { IsSync R.row × IsEndOf shared.now d }
+                    ensures { Takes shared.entry.now d result }
+                { take_lines(rt, alloc, shared, d) },
+                move || -> Taker
+                    requires { IsSync R.row × IsEndOf shared.now e }
+                    ensures { Takes shared.entry.now e result }
+                { take_lines(rt, alloc, shared, e) },
+            )
+        },
     );
-    let (d, e) = (queue.split(&mut last), queue.split(&mut last));
-    let jobs = (first, second, third);
-    let back = put_and_take(rt, alloc, &queue, last, (a, (b, c)), (d, e), jobs);
-    let ((mut last, (a, (b, c))), (one, other)) = back;
+    let ((mut last, (a, (b, c))), ((d, one), (e, other))) = back;
     queue.join(&mut last, a);
     queue.join(&mut last, b);
     queue.join(&mut last, c);
-    queue.join(&mut last, one.end);
-    queue.join(&mut last, other.end);
+    queue.join(&mut last, d);
+    queue.join(&mut last, e);
     let Ok(_closed) = queue.close(last) else {
         unreachable!()
     };
-    match (one.lines, other.lines) {
-        (Some(one), Some(other)) => Ok(Spooled { one, other }),
+    match (one, other) {
+        (Some(one), Some(other)) => Ok((one, other)),
         _ => Err(OutOfMemory),
     }
 }

@@ -5,8 +5,8 @@ use std::test::*;
 fn every_line_comes_once(rt: HostRuntime) -> Result<(), Fail> {
     let alloc = rt.alloc();
     let (ann, ben, eve) = (job(alloc, &ANN)?, job(alloc, &BEN)?, job(alloc, &EVE)?);
-    let spooled = run_spool(&rt, alloc, ann.as_slice(), ben.as_slice(), eve.as_slice())?;
-    let lines = sorted(spooled)?;
+    let (one, other) = run_spool(&rt, alloc, ann.as_slice(), ben.as_slice(), eve.as_slice())?;
+    let lines = sorted(one, other)?;
     assert_eq!(rt; lines.len(), 9);
     for (line, text) in lines
         .iter()

@@ -22,10 +22,6 @@ mod rule;
 mod states;
 mod steps;
 mod takings;
-#[cfg(test)]
-mod tests;
-#[cfg(test)]
-mod thread_tests;
 mod wakes;
 mod words;
 

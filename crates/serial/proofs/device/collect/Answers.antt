@@ -13,11 +13,11 @@ all g c =
     let none : u.part.runs ≡ [] = ap (λ (z : View). z.part.runs) c.split-other.ensures.split.0.same ∙ ap (λ (z : View). z.part.runs) c.in-Ok.ensures.ok.5 in
     let born : View = view_of c.split-other.result in
     let none' : born.part.runs ≡ [] = ap (λ (z : View). z.part.runs) c.split-other.ensures.born in
-    let s = c.send_both-one.ensures in
-    let a = sent_all u (view_of c.send_both-one.result.0) _ none s.one.2 in
-    let b = sent_all born (view_of c.send_both-one.result.1) _ none' s.other.2 in
-    let runs = joined_runs _ (me_of c.send_both-one.result.0) (me_of c.send_both-one.result.1) (me_of c.join.new.end) s.other.1 c.join.ensures.joined in
-    collected_all IsMadeBy _ (view_of c.send_both-one.result.0) (view_of c.send_both-one.result.1) (view_of c.join.new.end) c.args.first.now c.args.second.now _ _ _ _ _
+    let s = c.join-back.ensures in
+    let a = sent_all u (view_of c.join-back.result.0) _ none s.first.1 in
+    let b = sent_all born (view_of c.join-back.result.1) _ none' s.second.1 in
+    let runs = joined_runs _ (me_of c.join-back.result.0) (me_of c.join-back.result.1) (me_of c.join.new.end) s.second.0.1 c.join.ensures.joined in
+    collected_all IsMadeBy _ (view_of c.join-back.result.0) (view_of c.join-back.result.1) (view_of c.join.new.end) c.args.first.now c.args.second.now _ _ _ _ _
     (small c.args.first.now (λ k. let h = c.type_inv.first k in omega arith)) (small c.args.second.now (λ k. let h = c.type_inv.second k in omega arith)) a.0 a.1 b.0 b.1 runs c.in-Ok-close.ensures.closed
 
 pub returns-clause-chained : goal.returns-clause-chained

@@ -53,14 +53,15 @@ returns-in-Some-Some g c =
     let ic = born_idle v2 v3 c0 c.split-c.ensures.born in
     let id = born_idle v3 v4 d0 c.split-d.ensures.born in
     let ie = born_idle v4 v5 e0 c.split-e.ensures.born in
-    let back = c.put_and_take-back.result in
-    let did = c.put_and_take-back.ensures in
+    let back = c.join-back.result in
+    let put = c.join-back.ensures.first in
+    let took = c.join-back.ensures.second in
     let l : View = view_of back.0.0 in
     let a : View = view_of back.0.1.0 in
     let b : View = view_of back.0.1.1.0 in
     let d : View = view_of back.0.1.1.1 in
-    let t : View = view_of back.1.0.end in
-    let u : View = view_of back.1.1.end in
+    let t : View = view_of back.1.0.0 in
+    let u : View = view_of back.1.1.0 in
     let j1 : View = view_of c.join.new.end in
     let j2 : View = view_of c.join-2.new.end in
     let j3 : View = view_of c.join-3.new.end in
@@ -75,13 +76,13 @@ returns-in-Some-Some g c =
     (on_top j2.part.runs _ j3.part.runs d.part.runs (joined_runs j2 d j3 t3) (on_top j1.part.runs _ j2.part.runs b.part.runs (joined_runs j1 b j2 t2) (joined_runs l a j1 t1)))) in
     let takes = on_top j4.part.takes _ j5.part.takes u.part.takes (joined_takes j4 u j5 t5) (on_top j3.part.takes _ j4.part.takes t.part.takes (joined_takes j3 t j4 t4)
     (on_top j2.part.takes _ j3.part.takes d.part.takes (joined_takes j2 d j3 t3) (on_top j1.part.takes _ j2.part.takes b.part.takes (joined_takes j1 b j2 t2) (joined_takes l a j1 t1)))) in
-    let one : HasTaken (lines_of c.in-Some-Some.one.items) d0 t = subst (λ (z : Option _). IfSome z (λ lines. HasTaken (lines_of lines.items) d0 t)) c.in-Some-Some.is-0 did.one.2 in
-    let other : HasTaken (lines_of c.in-Some-Some.other.items) e0 u = subst (λ (z : Option _). IfSome z (λ lines. HasTaken (lines_of lines.items) e0 u)) c.in-Some-Some.is-1 did.other.2 in
+    let one : HasTaken (lines_of c.in-Some-Some.one.items) d0 t = subst (λ (z : Option _). IfSome z (λ lines. HasTaken (lines_of lines.items) d0 t)) c.in-Some-Some.is-0 took.0.2 in
+    let other : HasTaken (lines_of c.in-Some-Some.other.items) e0 u = subst (λ (z : Option _). IfSome z (λ lines. HasTaken (lines_of lines.items) e0 u)) c.in-Some-Some.is-1 took.1.2 in
     spooled c.args.first.now c.args.second.now c.args.third.now c.in-Some-Some.one.items c.in-Some-Some.other.items l a b d t u j5 _ _ _ _
-    (idle v5 l i5.0 i5.1 did.last.1.puts did.last.1.takes)
-    (produced (lines_of c.args.first.now) a0 a ia.0 ia.1 did.first.1)
-    (produced (lines_of c.args.second.now) b0 b ib.0 ib.1 did.second.1)
-    (produced (lines_of c.args.third.now) c0 d ic.0 ic.1 did.third.1)
-    (taken (lines_of c.in-Some-Some.one.items) d0 t id.0 id.1 did.one.1 one)
-    (taken (lines_of c.in-Some-Some.other.items) e0 u ie.0 ie.1 did.other.1 other)
+    (idle v5 l i5.0 i5.1 put.0.1.puts put.0.1.takes)
+    (produced (lines_of c.args.first.now) a0 a ia.0 ia.1 put.1.1)
+    (produced (lines_of c.args.second.now) b0 b ib.0 ib.1 put.2.1)
+    (produced (lines_of c.args.third.now) c0 d ic.0 ic.1 put.3.1)
+    (taken (lines_of c.in-Some-Some.one.items) d0 t id.0 id.1 took.0.1 one)
+    (taken (lines_of c.in-Some-Some.other.items) e0 u ie.0 ie.1 took.1.1 other)
     runs takes (grows_trans t.part.queue j4.part.queue j5.part.queue t4.sees.later.1 t5.sees.later.0) c.in-Ok.ensures.closed.1

@@ -1,0 +1,11 @@
+use Rattle.std.proofs.Common.{[]}
+use Rattle.claim_queue.specs.Handles.{view_of, IsEndOf}
+use Rattle.spooler.specs.Doings.{HasPut}
+use Rattle.spooler.proofs.spool.put_line.Given as goal
+
+abbrev pub invariant-loop : goal.invariant-loop
+invariant-loop g l = record {
+  steps : (goal.iterator-loop g).can_next l.iterator' × (goal.iterator-loop g).is_finite l.iterator';
+  mine : IsEndOf l.queue l.end;
+  none : HasPut [] (view_of l.initial.end) (view_of l.end);
+}

@@ -1,0 +1,54 @@
+use Rattle.std.specs.Global.{Vec}
+use Rattle.std.specs.Bool.{then_some}
+use Rattle.std.proofs.Common.{rules, ◌≡◌, ◌∙◌, Bool, Option, IfSome, true, false, refl, sym, subst}
+use Rattle.claim_queue.specs.Handles.{view_of}
+use Rattle.claim_queue.specs.Takings.{IsBegun, IsLine}
+use Rattle.spooler.specs.declared.line.Line.{Line}
+use Rattle.spooler.specs.Doings.{HasTaken}
+use Rattle.spooler.specs.Lines.{lines_of}
+use Rattle.spooler.proofs.Taking.{more_taken, puts_through, all_taken, took_order, refused_order}
+use Rattle.spooler.proofs.spool.take_lines.Goals as goal
+
+never : false ≡ true → ⊥
+never e = absurd cc
+
+pub loop-preserved : goal.loop-preserved
+loop-preserved g c = let i = c.loop.invariant in let s = c.in-Err.ensures.lines in record {
+  steps = search rules;
+  mine = search rules;
+  puts = puts_through (view_of c.args.end) (view_of c.loop.end) (view_of c.try_take_line.new.end) i.puts s.puts s.share;
+  order = λ o. refused_order (IsBegun 64) (IsLine 64) 64 (view_of c.loop.end) (view_of c.try_take_line.new.end) c.in-Err.field-0 c.in-Err.ensures.taken.1 (i.order o);
+  taken = λ k. s.takes ∙ i.taken k;
+}
+
+pub loop-preserved-then-keep : goal.loop-preserved-then-keep
+loop-preserved-then-keep g c = let i = c.loop.invariant in let t = c.in-Ok.ensures.lines in let items = c.try_take_line.new.line.items in record {
+  steps = search rules;
+  mine = search rules;
+  puts = puts_through (view_of c.args.end) (view_of c.loop.end) (view_of c.try_take_line.new.end) i.puts t.puts t.share;
+  order = λ o. took_order 64 _ (view_of c.loop.end) (view_of c.try_take_line.new.end) items c.in-Ok.ensures.taken.1.1 c.in-Ok.ensures.taken.2 (i.order o);
+  taken = λ k. more_taken (view_of c.args.end) (view_of c.loop.end) (view_of c.try_take_line.new.end) items (lines_of c.loop.lines.items) (lines_of c.keep.new.lines.items) t (i.taken k) (c.keep.ensures c.if-keep.true);
+}
+
+pub loop-preserved-else-keep : goal.loop-preserved-else-keep
+loop-preserved-else-keep g c = let i = c.loop.invariant in let t = c.in-Ok.ensures.lines in let items = c.try_take_line.new.line.items in record {
+  steps = search rules;
+  mine = search rules;
+  puts = puts_through (view_of c.args.end) (view_of c.loop.end) (view_of c.try_take_line.new.end) i.puts t.puts t.share;
+  order = λ o. took_order 64 _ (view_of c.loop.end) (view_of c.try_take_line.new.end) items c.in-Ok.ensures.taken.1.1 c.in-Ok.ensures.taken.2 (i.order o);
+  taken = λ k. absurd (never (sym c.if-keep.false ∙ k));
+}
+
+-- what is kept of the lines, where all found memory
+kept_lines : (kept : Bool) (lines : Vec Line) (result : Option (Vec Line)) (P : Vec Line → Type 0) → result ≡ then_some kept lines → (kept ≡ true → P lines) → IfSome result P
+kept_lines true lines result P is h = subst (λ (z : Option (Vec Line)). IfSome z P) (sym is) (h refl)
+kept_lines false lines result P is h = subst (λ (z : Option (Vec Line)). IfSome z P) (sym is) tt
+
+pub returns-in-Err-Closed : goal.returns-in-Err-Closed
+returns-in-Err-Closed g c = let i = c.loop.invariant in let s = c.in-Err-Closed.ensures.lines in (
+  (search rules),
+  puts_through (view_of c.args.end) (view_of c.loop.end) (view_of c.try_take_line.new.end) i.puts s.puts s.share,
+  kept_lines c.loop.kept c.loop.lines c.then_some.result (λ lines. HasTaken (lines_of lines.items) (view_of c.args.end) (view_of c.try_take_line.new.end)) c.then_some.ensures
+      (λ k. all_taken (view_of c.args.end) (view_of c.loop.end) (view_of c.try_take_line.new.end) (lines_of c.loop.lines.items) c.try_take_line.new.line.items c.in-Err-Closed.field-0 c.in-Err-Closed.field-0-is
+      c.in-Err-Closed.ensures.taken c.in-Err-Closed.ensures.lines i.order (i.taken k)),
+)

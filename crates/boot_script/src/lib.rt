@@ -48,6 +48,3 @@ pub use report_printing::print_report;
 pub use run::{replay, replay_on};
 pub use text::number as parse_number;
 pub use version::Version;
-
-#[cfg(test)]
-mod tests;

@@ -7,16 +7,12 @@
 
 mod all;
 mod chains;
-#[cfg(test)]
-mod fixtures;
 mod homing;
 mod joining;
 mod laws;
 mod queues;
 mod raws;
 mod tables;
-#[cfg(test)]
-mod tests;
 
 pub use all::{Answers, Ended, close_all};
 pub use chains::retire_all;

@@ -28,7 +28,7 @@ fn a_text_is_escaped(rt: HostRuntime) -> Result<(), Fail> {
     let wanted = b"<svg xmlns=\"http://www.w3.org/2000/svg\" width=\"1\" height=\"20\" \
         font-family=\"monospace\" font-size=\"12\">\
         <title>a&lt;b&gt;&amp;&quot;c??</title>\n<path d=\"M3 4h8l-4 5z\"></path>\n</svg>\n";
-    assert_eq!(rt; page.as_slice(), wanted.as_slice());
+    assert!(rt; page.as_slice() == wanted.as_slice());
     Ok(())
 }
 
@@ -63,7 +63,7 @@ fn ticks(alloc: Global, count: usize) -> io::Result<Vec<u8>> {
 #[test]
 fn a_long_list_is_drawn_by_its_last_events(rt: HostRuntime) -> Result<(), Fail> {
     let (answer, page) = drawn_of(rt.alloc(), &ticks(rt.alloc(), 203)?);
-    assert_eq!(rt; answer, Ok(Replayed::AllAllowed));
+    assert!(rt; answer == Ok(Replayed::AllAllowed));
     assert!(rt;
         has(
             &page,
@@ -74,7 +74,7 @@ fn a_long_list_is_drawn_by_its_last_events(rt: HostRuntime) -> Result<(), Fail> 
     assert!(rt; has(&page, b">5</text>"));
     assert!(rt; !has(&page, b">4</text>"));
     let (answer, page) = drawn_of(rt.alloc(), &ticks(rt.alloc(), 200)?);
-    assert_eq!(rt; answer, Ok(Replayed::AllAllowed));
+    assert!(rt; answer == Ok(Replayed::AllAllowed));
     assert!(rt; has(&page, b">2</text>"));
     assert!(rt; !has(&page, b"the last"));
     Ok(())
@@ -83,7 +83,7 @@ fn a_long_list_is_drawn_by_its_last_events(rt: HostRuntime) -> Result<(), Fail> 
 #[test]
 fn an_empty_list_is_drawn(rt: HostRuntime) {
     let (answer, page) = drawn_of(rt.alloc(), b"events 3\n# nothing & no one\n");
-    assert_eq!(rt; answer, Ok(Replayed::AllAllowed));
+    assert!(rt; answer == Ok(Replayed::AllAllowed));
     assert!(rt; has(&page, b"<title>nothing &amp; no one</title>"));
     assert!(rt; page.as_slice().ends_with(b"</svg>\n"));
 }
@@ -95,7 +95,7 @@ fn a_refused_event_is_told(rt: HostRuntime) {
         line: 3,
         refusal: Refusal::NotRaised,
     };
-    assert_eq!(rt; answer, Ok(refused));
+    assert!(rt; answer == Ok(refused));
     assert!(rt; has(&page, b">take c1 q0 1</text>"));
     assert!(rt; has(&page, b">refused: 7 NotRaised</text>"));
     assert!(rt; !has(&page, b">queue 3</text>"));
@@ -113,8 +113,8 @@ fn a_fault_draws_nothing(rt: HostRuntime) {
         let (answer, page) = drawn_of(rt.alloc(), script);
         match answer {
             Err(ReplayFault::Script(fault)) => {
-                assert_eq!(rt; fault.line, line);
-                assert_eq!(rt; fault.refusal, refusal);
+                assert!(rt; fault.line == line);
+                assert!(rt; fault.refusal == refusal);
             }
             _ => panic!(rt; "no fault of the script"),
         }
@@ -154,9 +154,9 @@ fn assert_run<RT: Abort, R: Read, W: Write>(
 ) {
     let mut errors = Vec::new(alloc);
     let ended = run_on(alloc, words, reader, writer, &mut errors);
-    assert_eq!(rt; ended.status, status);
+    assert!(rt; ended.status == status);
     assert!(rt; ended.told.is_ok());
-    assert_eq!(rt; errors.as_slice(), told);
+    assert!(rt; errors.as_slice() == told);
 }
 
 #[test]
@@ -193,16 +193,10 @@ fn runs_end_with_their_status(rt: HostRuntime) {
         b"write fault\n",
     );
     let mut errors = Vec::new(rt.alloc());
-    assert_eq!(rt; usage(&mut errors), 2);
-    assert_eq!(rt; no_memory(&mut errors), 3);
-    assert_eq!(rt;
-        errors.as_slice(),
-        b"usage: draw < LIST\nno memory\n".as_slice()
-    );
-    assert_eq!(rt;
-        run_main(rt.alloc(), 0, b"events 1".as_slice(), Failing, Failing),
-        5
-    );
+    assert!(rt; usage(&mut errors) == 2);
+    assert!(rt; no_memory(&mut errors) == 3);
+    assert!(rt; errors.as_slice() == b"usage: draw < LIST\nno memory\n".as_slice());
+    assert!(rt; run_main(rt.alloc(), 0, b"events 1".as_slice(), Failing, Failing) == 5);
 }
 
 /// Where an allocation is refused there is no picture, and the next try is as if it had not been.
@@ -240,15 +234,15 @@ fn places_agree_with_the_core(rt: HostRuntime) -> Result<(), Fail> {
     let (elements, events) = parse_events(rt.alloc(), PLACES)?;
     assert!(rt; 1 <= elements && elements <= 64);
     let past = replay_rows(rt.alloc(), elements, &events)?;
-    assert_eq!(rt; past.replayed, Replayed::AllAllowed);
-    assert_eq!(rt; past.rows.len(), 21);
+    assert!(rt; past.replayed == Replayed::AllAllowed);
+    assert!(rt; past.rows.len() == 21);
     for row in &past.rows {
         let queues = row.status.queues.as_slice();
-        assert_eq!(rt; row.places.as_slice().len(), queues.len());
+        assert!(rt; row.places.as_slice().len() == queues.len());
         for (queue, left) in queues.iter().zip(row.places.as_slice()) {
             let raised = left.as_slice().iter().filter(|seat| seat.raised).count();
-            assert_eq!(rt; left.as_slice().len() as u64, queue.left);
-            assert_eq!(rt; raised as u64, queue.raised);
+            assert!(rt; left.as_slice().len() as u64 == queue.left);
+            assert!(rt; raised as u64 == queue.raised);
         }
     }
     Ok(())

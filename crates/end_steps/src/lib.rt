@@ -3,15 +3,11 @@
 #![tactic(auto)]
 
 mod chain_splitting;
-#[cfg(test)]
-mod fixtures;
 mod gate;
 mod hearing;
 mod poking;
 mod saying;
 mod splitting;
-#[cfg(test)]
-mod tests;
 
 pub use chain_splitting::{join_chain_ends, split_chain_ends, split_chain_ends_into};
 pub use gate::{Gate, NoGate, Point};

@@ -13,10 +13,6 @@ mod dispatch;
 mod laws;
 mod moving;
 mod seating;
-#[cfg(test)]
-mod tests;
-#[cfg(test)]
-mod thread_tests;
 mod waking;
 
 pub use alarms::{Tended, tend_alarms};

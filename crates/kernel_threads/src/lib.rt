@@ -26,8 +26,3 @@ pub use stationing::post_all;
 pub use threads::run_kernel;
 pub use typing::{type_all, type_bytes};
 pub use work::{Work, Worked};
-
-#[cfg(test)]
-mod kernel_tests;
-#[cfg(test)]
-mod tests;

@@ -35,8 +35,8 @@ fn alone(alloc: Global, clock: u32) -> Result<Metered, OutOfMemory>
 #[test]
 fn the_only_end(rt: HostRuntime) -> Result<(), Fail> {
     let metered = alone(rt.alloc(), 9)?;
-    assert_eq!(rt; metered.gauges, [0, 0, 0, 7, 0, 0, 0, 0]);
-    assert_eq!(rt; (metered.clock, metered.alarms.len()), (9, 0));
+    assert!(rt; metered.gauges == [0, 0, 0, 7, 0, 0, 0, 0]);
+    assert!(rt; (metered.clock, metered.alarms.len()) == (9, 0));
     Ok(())
 }
 
@@ -49,40 +49,40 @@ fn alarms_alone(rt: HostRuntime) -> Result<(), Fail> {
         panic!(rt; "alarm")
     };
     let (now, last) = (&now, &last);
-    assert_eq!(rt; meters.try_set(&mut seat, *now), Ok(0));
-    assert_eq!(rt; meters.due(&mut seat).as_slice(), [*now].as_slice());
-    assert_eq!(rt; meters.due(&mut seat).len(), 0);
-    assert_eq!(rt; meters.try_set(&mut seat, *last), Ok(0));
-    assert_eq!(rt; meters.due(&mut seat).len(), 0);
+    assert!(rt; meters.try_set(&mut seat, *now) == Ok(0));
+    assert!(rt; meters.due(&mut seat).as_slice() == [*now].as_slice());
+    assert!(rt; meters.due(&mut seat).len() == 0);
+    assert!(rt; meters.try_set(&mut seat, *last) == Ok(0));
+    assert!(rt; meters.due(&mut seat).len() == 0);
     for slot in 1..16usize {
-        assert_eq!(rt; meters.try_set(&mut seat, *last), Ok(slot));
+        assert!(rt; meters.try_set(&mut seat, *last) == Ok(slot));
     }
-    assert_eq!(rt; meters.try_set(&mut seat, *last), Err(SetRefusal::NoRoom));
+    assert!(rt; meters.try_set(&mut seat, *last) == Err(SetRefusal::NoRoom));
     assert!(rt; !meters.cancel(&mut seat, 0, *now));
     assert!(rt; meters.cancel(&mut seat, 0, *last));
     assert!(rt; !meters.cancel(&mut seat, 0, *last));
-    assert_eq!(rt; meters.tick(&mut seat, 0, 5), 0);
-    assert_eq!(rt; meters.tick(&mut seat, 0, 18_446_744_073_709_551_615), 5);
-    assert_eq!(rt; meters.tick(&mut seat, 0, 0), 4);
+    assert!(rt; meters.tick(&mut seat, 0, 5) == 0);
+    assert!(rt; meters.tick(&mut seat, 0, 18_446_744_073_709_551_615) == 5);
+    assert!(rt; meters.tick(&mut seat, 0, 0) == 4);
     let Ok(metered) = meters.close(seat) else {
         panic!(rt; "close")
     };
-    assert_eq!(rt; metered.gauges, [4, 0, 0, 0, 0, 0, 0, 0]);
-    assert_eq!(rt; metered.clock, 0);
-    assert_eq!(rt; metered.alarms.as_slice(), [*last; 15].as_slice());
+    assert!(rt; metered.gauges == [4, 0, 0, 0, 0, 0, 0, 0]);
+    assert!(rt; metered.clock == 0);
+    assert!(rt; metered.alarms.as_slice() == [*last; 15].as_slice());
     Ok(())
 }
 
 #[test]
 fn last_tick(rt: HostRuntime) -> Result<(), Fail> {
     let (meters, mut seat) = Meters::new(rt.alloc(), 4_294_967_294)?;
-    assert_eq!(rt; meters.advance(&mut seat), Ok(4_294_967_295));
-    assert_eq!(rt; meters.advance(&mut seat), Err(AdvanceRefusal::Spent));
+    assert!(rt; meters.advance(&mut seat) == Ok(4_294_967_295));
+    assert!(rt; meters.advance(&mut seat) == Err(AdvanceRefusal::Spent));
     let Ok(metered) = meters.close(seat) else {
         panic!(rt; "close")
     };
-    assert_eq!(rt; metered.gauges, [0; 8]);
-    assert_eq!(rt; (metered.clock, metered.alarms.len()), (4_294_967_295, 0));
+    assert!(rt; metered.gauges == [0; 8]);
+    assert!(rt; (metered.clock, metered.alarms.len()) == (4_294_967_295, 0));
     Ok(())
 }
 
@@ -92,8 +92,8 @@ fn nothing_happened(rt: HostRuntime) -> Result<(), Fail> {
     let Ok(metered) = meters.close(seat) else {
         panic!(rt; "close")
     };
-    assert_eq!(rt; metered.gauges, [0; 8]);
-    assert_eq!(rt; (metered.clock, metered.alarms.len()), (7, 0));
+    assert!(rt; metered.gauges == [0; 8]);
+    assert!(rt; (metered.clock, metered.alarms.len()) == (7, 0));
     Ok(())
 }
 
@@ -108,20 +108,20 @@ fn due_alarms_in_the_order_of_slots(rt: HostRuntime) -> Result<(), Fail> {
         panic!(rt; "alarm")
     };
     let (late, soon, now) = (&late, &soon, &now);
-    assert_eq!(rt; meters.try_set(&mut seat, *late), Ok(0));
-    assert_eq!(rt; meters.try_set(&mut seat, *soon), Ok(1));
-    assert_eq!(rt; meters.try_set(&mut seat, *now), Ok(2));
-    assert_eq!(rt; meters.advance(&mut seat), Ok(1));
-    assert_eq!(rt; meters.due(&mut seat).as_slice(), [*soon, *now].as_slice());
-    assert_eq!(rt; meters.try_set(&mut seat, *now), Ok(1));
-    assert_eq!(rt; meters.tick(&mut seat, 7, 3), 0);
-    assert_eq!(rt; meters.tick(&mut seat, 3, 1), 0);
+    assert!(rt; meters.try_set(&mut seat, *late) == Ok(0));
+    assert!(rt; meters.try_set(&mut seat, *soon) == Ok(1));
+    assert!(rt; meters.try_set(&mut seat, *now) == Ok(2));
+    assert!(rt; meters.advance(&mut seat) == Ok(1));
+    assert!(rt; meters.due(&mut seat).as_slice() == [*soon, *now].as_slice());
+    assert!(rt; meters.try_set(&mut seat, *now) == Ok(1));
+    assert!(rt; meters.tick(&mut seat, 7, 3) == 0);
+    assert!(rt; meters.tick(&mut seat, 3, 1) == 0);
     let Ok(metered) = meters.close(seat) else {
         panic!(rt; "close")
     };
-    assert_eq!(rt; metered.gauges, [0, 0, 0, 1, 0, 0, 0, 3]);
-    assert_eq!(rt; metered.clock, 1);
-    assert_eq!(rt; metered.alarms.as_slice(), [*late, *now].as_slice());
+    assert!(rt; metered.gauges == [0, 0, 0, 1, 0, 0, 0, 3]);
+    assert!(rt; metered.clock == 1);
+    assert!(rt; metered.alarms.as_slice() == [*late, *now].as_slice());
     Ok(())
 }
 
@@ -133,18 +133,18 @@ fn closes_once_all_are_joined(rt: HostRuntime) -> Result<(), Fail> {
     let Err((meters, mut seat, open)) = meters.close(seat) else {
         panic!(rt; "close")
     };
-    assert_eq!(rt; open, OpenEnds { others: 2 });
-    assert_eq!(rt; meters.tick(&mut a, 0, 2), 0);
+    assert!(rt; open == OpenEnds { others: 2 });
+    assert!(rt; meters.tick(&mut a, 0, 2) == 0);
     meters.join(&mut seat, a);
     let Err((meters, mut seat, open)) = meters.close(seat) else {
         panic!(rt; "close")
     };
-    assert_eq!(rt; open, OpenEnds { others: 1 });
+    assert!(rt; open == OpenEnds { others: 1 });
     meters.join(&mut seat, b);
     let Ok(metered) = meters.close(seat) else {
         panic!(rt; "close")
     };
-    assert_eq!(rt; metered.gauges, [2, 0, 0, 0, 0, 0, 0, 0]);
+    assert!(rt; metered.gauges == [2, 0, 0, 0, 0, 0, 0, 0]);
     Ok(())
 }
 
@@ -154,11 +154,11 @@ fn words_give_back_their_alarms(rt: HostRuntime) {
         panic!(rt; "alarm")
     };
     let word = AlarmWord::of(alarm);
-    assert_eq!(rt; word.bits(), 0x8000_0f3f_ffff_ffff);
-    assert_eq!(rt; word.alarm(), Some(alarm));
-    assert_eq!(rt; word.due(), 4_294_967_295);
+    assert!(rt; word.bits() == 0x8000_0f3f_ffff_ffff);
+    assert!(rt; word.alarm() == Some(alarm));
+    assert!(rt; word.due() == 4_294_967_295);
     assert!(rt; !word.is_empty() && AlarmWord::from_bits(0).is_empty());
-    assert_eq!(rt; AlarmWord::from_bits(0).alarm(), None);
+    assert!(rt; AlarmWord::from_bits(0).alarm() == None);
 }
 
 /// Where an allocation is refused there are no meters, and a later try makes them.
@@ -168,7 +168,7 @@ fn memory_may_be_wanting(rt: HostRuntime) {
     for _ in 0..3 {
         match Meters::new(rt.alloc(), 5) {
             Ok((meters, seat)) => made = meters.close(seat).is_ok(),
-            Err(error) => assert_eq!(rt; error, OutOfMemory),
+            Err(error) => assert!(rt; error == OutOfMemory),
         }
     }
     assert!(rt; made);
@@ -182,16 +182,10 @@ fn refusals_are_told(rt: HostRuntime) -> Result<(), Fail> {
     let no_room = SetRefusal::NoRoom;
     let taken = SetRefusal::Lost { slot: 3 };
     let open = OpenEnds { others: 2 };
-    assert_eq!(rt; format!(in alloc; "{spent}")?.as_str(), "no ticks left");
-    assert_eq!(rt; format!(in alloc; "{lost}")?.as_str(), "lost, clock 9");
-    assert_eq!(rt;
-        format!(in alloc; "{no_room}")?.as_str(),
-        "no slot is empty"
-    );
-    assert_eq!(rt; format!(in alloc; "{taken}")?.as_str(), "lost, slot 3");
-    assert_eq!(rt;
-        format!(in alloc; "{open}")?.as_str(),
-        "2 other ends are not joined"
-    );
+    assert!(rt; format!(in alloc; "{spent}")?.as_str() == "no ticks left");
+    assert!(rt; format!(in alloc; "{lost}")?.as_str() == "lost, clock 9");
+    assert!(rt; format!(in alloc; "{no_room}")?.as_str() == "no slot is empty");
+    assert!(rt; format!(in alloc; "{taken}")?.as_str() == "lost, slot 3");
+    assert!(rt; format!(in alloc; "{open}")?.as_str() == "2 other ends are not joined");
     Ok(())
 }

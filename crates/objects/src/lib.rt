@@ -16,6 +16,3 @@ mod ttys;
 pub use device::Device;
 pub use laws::shares_come_home;
 pub use making::{Objects, make_objects};
-
-#[cfg(test)]
-mod tests;

@@ -107,32 +107,29 @@ fn moved_lines(rt: HostRuntime) -> Result<(), Fail> {
     assert!(rt; pair.from.try_put(&mut producer, &[104, 105, 10]).is_ok());
     assert!(rt; pair.from.try_put(&mut producer, &[10]).is_ok());
     for note in 0..3u16 {
-        assert_eq!(rt; chain_one(&rt, &chain, &mut end, &pair, note), 1);
+        assert!(rt; chain_one(&rt, &chain, &mut end, &pair, note) == 1);
     }
     let Ok(closed) = chain.close(end) else {
         panic!(rt; "close")
     };
-    assert_eq!(rt; (closed.put, closed.taken, closed.left.len()), (3, 3, 0));
+    assert!(rt; (closed.put, closed.taken, closed.left.len()) == (3, 3, 0));
     let Mover {
         source,
         target,
         held: _,
         notes,
     } = closed.quaject;
-    assert_eq!(rt; notes, 3);
+    assert!(rt; notes == 3);
     let Pair { from, to } = pair;
     from.join(&mut producer, source);
     to.join(&mut consumer, target);
     let mut line = ArrayVec::new();
-    assert_eq!(rt; to.try_take_line(&mut consumer, &mut line), Ok(3));
-    assert_eq!(rt; line.as_slice(), [104, 105, 10].as_slice());
+    assert!(rt; to.try_take_line(&mut consumer, &mut line) == Ok(3));
+    assert!(rt; line.as_slice() == [104, 105, 10].as_slice());
     let (Ok(emptied), Ok(moved)) = (from.close(producer), to.close(consumer)) else {
         panic!(rt; "close")
     };
-    assert_eq!(rt; (emptied.put, emptied.taken, emptied.left.len()), (4, 4, 0));
-    assert_eq!(rt;
-        (moved.put, moved.taken, moved.left.as_slice()),
-        (4, 3, [Some(10)].as_slice())
-    );
+    assert!(rt; (emptied.put, emptied.taken, emptied.left.len()) == (4, 4, 0));
+    assert!(rt; (moved.put, moved.taken, moved.left.as_slice()) == (4, 3, [Some(10)].as_slice()));
     Ok(())
 }

@@ -153,15 +153,15 @@ fn two_ends(rt: HostRuntime) -> Result<(), Fail> {
     must_leave(&rt, &chain, &mut b, 2);
     let (turn, ran) = must_stay(&rt, &chain, &mut a, &world, turn, 1);
     let more = must_end(&rt, &chain, &mut a, &world, turn, 10);
-    assert_eq!(rt; (ran, more), (1, 2));
+    assert!(rt; (ran, more) == (1, 2));
     assert!(rt; !a.has_turn());
     chain.join(&mut a, b);
     let Ok(closed) = chain.close(a) else {
         panic!(rt; "close")
     };
-    assert_eq!(rt; (closed.put, closed.taken, closed.left.len()), (3, 3, 0));
-    assert_eq!(rt; closed.quaject.count, 3);
-    assert_eq!(rt; closed.quaject.first(3), [7, 1, 2].as_slice());
+    assert!(rt; (closed.put, closed.taken, closed.left.len()) == (3, 3, 0));
+    assert!(rt; closed.quaject.count == 3);
+    assert!(rt; closed.quaject.first(3) == [7, 1, 2].as_slice());
     Ok(())
 }
 
@@ -177,16 +177,13 @@ fn full_chain(rt: HostRuntime) -> Result<(), Fail> {
     }
     let refused = refusal(&rt, &chain, &mut end, 31);
     let ran = must_end(&rt, &chain, &mut end, &world, turn, 40);
-    assert_eq!(rt; refused, ChainRefusal::Full { head: 32, tail: 0 });
-    assert_eq!(rt; ran, 32);
+    assert!(rt; refused == ChainRefusal::Full { head: 32, tail: 0 });
+    assert!(rt; ran == 32);
     let Ok(closed) = chain.close(end) else {
         panic!(rt; "close")
     };
-    assert_eq!(rt; (closed.put, closed.taken, closed.left.len()), (32, 32, 0));
-    assert_eq!(rt;
-        (closed.quaject.notes[0], closed.quaject.notes[31]),
-        (1_000, 30)
-    );
+    assert!(rt; (closed.put, closed.taken, closed.left.len()) == (32, 32, 0));
+    assert!(rt; (closed.quaject.notes[0], closed.quaject.notes[31]) == (1_000, 30));
     Ok(())
 }
 
@@ -200,12 +197,12 @@ fn last_position(rt: HostRuntime) -> Result<(), Fail> {
     let refused = refusal(&rt, &chain, &mut end, 2);
     let (turn, none) = must_stay(&rt, &chain, &mut end, &world, turn, 0);
     let all = chain.serve_all(&rt, &mut end, &world, turn);
-    assert_eq!(rt; refused, ChainRefusal::Spent);
-    assert_eq!(rt; (none, all), (0, 1));
+    assert!(rt; refused == ChainRefusal::Spent);
+    assert!(rt; (none, all) == (0, 1));
     let Ok(closed) = chain.close(end) else {
         panic!(rt; "close")
     };
-    assert_eq!(rt; (closed.put, closed.taken, closed.left.len()), (1, 1, 0));
+    assert!(rt; (closed.put, closed.taken, closed.left.len()) == (1, 1, 0));
     Ok(())
 }
 
@@ -222,7 +219,7 @@ fn spent_and_full(rt: HostRuntime) -> Result<(), Fail> {
     }
     let refused = refusal(&rt, &chain, &mut end, 32);
     let ran = must_end(&rt, &chain, &mut end, &world, turn, 40);
-    assert_eq!(rt; (refused, ran), (ChainRefusal::Spent, 32));
+    assert!(rt; (refused, ran) == (ChainRefusal::Spent, 32));
     Ok(())
 }
 
@@ -238,14 +235,14 @@ fn a_note_after_the_first_round(rt: HostRuntime) -> Result<(), Fail> {
     must_leave(&rt, &chain, &mut end, 2);
     let (turn, second) = must_stay(&rt, &chain, &mut end, &world, turn, 1);
     let last = must_end(&rt, &chain, &mut end, &world, turn, 1);
-    assert_eq!(rt; (first, second, last), (1, 1, 0));
+    assert!(rt; (first, second, last) == (1, 1, 0));
     let turn = must_run(&rt, &chain, &mut end, 3);
     let ran = must_end(&rt, &chain, &mut end, &world, turn, 2);
-    assert_eq!(rt; ran, 1);
+    assert!(rt; ran == 1);
     let Ok(closed) = chain.close(end) else {
         panic!(rt; "close")
     };
-    assert_eq!(rt; closed.quaject.first(3), [1, 2, 3].as_slice());
+    assert!(rt; closed.quaject.first(3) == [1, 2, 3].as_slice());
     Ok(())
 }
 
@@ -259,13 +256,13 @@ fn open_ends(rt: HostRuntime) -> Result<(), Fail> {
     let Err((chain, mut a, open)) = chain.close(a) else {
         panic!(rt; "open")
     };
-    assert_eq!(rt; open.others, 1);
+    assert!(rt; open.others == 1);
     chain.join(&mut a, b);
     let Ok(closed) = chain.close(a) else {
         panic!(rt; "close")
     };
-    assert_eq!(rt; (closed.put, closed.taken, closed.left.len()), (0, 0, 0));
-    assert_eq!(rt; closed.quaject.count, 0);
+    assert!(rt; (closed.put, closed.taken, closed.left.len()) == (0, 0, 0));
+    assert!(rt; closed.quaject.count == 0);
     Ok(())
 }
 
@@ -283,11 +280,11 @@ fn joined_turn(rt: HostRuntime) -> Result<(), Fail> {
     let had = a.has_turn();
     let ran = must_end(&rt, &chain, &mut a, &world, turn, 3);
     assert!(rt; had);
-    assert_eq!(rt; ran, 2);
+    assert!(rt; ran == 2);
     let Ok(closed) = chain.close(a) else {
         panic!(rt; "close")
     };
-    assert_eq!(rt; closed.quaject.first(2), [9, 8].as_slice());
+    assert!(rt; closed.quaject.first(2) == [9, 8].as_slice());
     Ok(())
 }
 
@@ -310,7 +307,7 @@ fn split_and_joined(alloc: Global, world: &u16) -> Result<ChainClosed<Keeper>, O
 #[test]
 fn joined_ends_close(rt: HostRuntime) -> Result<(), Fail> {
     let closed = split_and_joined(rt.alloc(), &3)?;
-    assert_eq!(rt; (closed.put, closed.taken, closed.left.len()), (0, 0, 0));
+    assert!(rt; (closed.put, closed.taken, closed.left.len()) == (0, 0, 0));
     Ok(())
 }
 
@@ -323,12 +320,12 @@ fn memory_may_be_wanting(rt: HostRuntime) {
         match Chain::new(rt.alloc(), 0, empty_keeper(), &world) {
             Ok((chain, mut end)) => {
                 let turn = must_run(&rt, &chain, &mut end, 1);
-                assert_eq!(rt; must_end(&rt, &chain, &mut end, &world, turn, 2), 1);
+                assert!(rt; must_end(&rt, &chain, &mut end, &world, turn, 2) == 1);
                 made = true;
             }
             Err((keeper, error)) => {
-                assert_eq!(rt; keeper.count, 0);
-                assert_eq!(rt; error, OutOfMemory);
+                assert!(rt; keeper.count == 0);
+                assert!(rt; error == OutOfMemory);
             }
         }
     }

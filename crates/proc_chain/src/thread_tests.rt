@@ -159,12 +159,9 @@ fn four_threads(rt: HostRuntime) -> Result<(), Fail> {
     let Ok(closed) = chain.close(a) else {
         panic!(rt; "close")
     };
-    assert_eq!(rt;
-        (closed.put, closed.taken, closed.left.len()),
-        (4_000, 4_000, 0)
-    );
-    assert_eq!(rt; closed.quaject.count, 4_000);
-    assert_eq!(rt; closed.quaject.next, [1_000; 4]);
+    assert!(rt; (closed.put, closed.taken, closed.left.len()) == (4_000, 4_000, 0));
+    assert!(rt; closed.quaject.count == 4_000);
+    assert!(rt; closed.quaject.next == [1_000; 4]);
     assert!(rt; closed.quaject.in_order);
     Ok(())
 }

@@ -17,8 +17,6 @@ mod shared;
 mod splitting;
 mod station;
 mod steps;
-#[cfg(test)]
-mod tests;
 mod thread_steps;
 mod turn;
 

@@ -34,6 +34,3 @@ pub use names::{
 };
 pub use refusal::{OutOfMemory, Refusal};
 pub use status::{AlarmStatus, ChainStatus, ElementStatus, Gate, Place, QueueStatus, Status};
-
-#[cfg(test)]
-mod tests;

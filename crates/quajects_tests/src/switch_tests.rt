@@ -59,21 +59,21 @@ fn lines_go_their_ways(rt: HostRuntime) -> Result<(), Fail> {
     let mut switch = switch_over(&queues, 0, source, 1, other, ways);
     all_work(&rt, &queues, &mut switch, 6);
     assert!(rt; matches!(switch.run(&queues, 0), Ran::Nothing));
-    assert_eq!(rt; (switch.taken(), switch.put(), switch.held()), (16, 16, 0));
-    assert_eq!(rt; switch.notes(), 7);
+    assert!(rt; (switch.taken(), switch.put(), switch.held()) == (16, 16, 0));
+    assert!(rt; switch.notes() == 7);
     let mut line = ArrayVec::new();
-    assert_eq!(rt; take_at(small, 2, &mut a_reader, &mut line), Ok(3));
-    assert_eq!(rt; line.as_slice(), [97, 1, 10].as_slice());
-    assert_eq!(rt; take_at(small, 2, &mut a_reader, &mut line), Ok(3));
-    assert_eq!(rt; line.as_slice(), [97, 3, 10].as_slice());
-    assert_eq!(rt; take_at(small, 3, &mut b_reader, &mut line), Ok(3));
-    assert_eq!(rt; line.as_slice(), [98, 2, 10].as_slice());
-    assert_eq!(rt; take_at(small, 4, &mut c_reader, &mut line), Ok(1));
-    assert_eq!(rt; line.as_slice(), [10].as_slice());
-    assert_eq!(rt; take_at(small, 1, &mut rest_reader, &mut line), Ok(4));
-    assert_eq!(rt; line.as_slice(), [120, 97, 98, 10].as_slice());
-    assert_eq!(rt; take_at(small, 1, &mut rest_reader, &mut line), Ok(2));
-    assert_eq!(rt; line.as_slice(), [99, 10].as_slice());
+    assert!(rt; take_at(small, 2, &mut a_reader, &mut line) == Ok(3));
+    assert!(rt; line.as_slice() == [97, 1, 10].as_slice());
+    assert!(rt; take_at(small, 2, &mut a_reader, &mut line) == Ok(3));
+    assert!(rt; line.as_slice() == [97, 3, 10].as_slice());
+    assert!(rt; take_at(small, 3, &mut b_reader, &mut line) == Ok(3));
+    assert!(rt; line.as_slice() == [98, 2, 10].as_slice());
+    assert!(rt; take_at(small, 4, &mut c_reader, &mut line) == Ok(1));
+    assert!(rt; line.as_slice() == [10].as_slice());
+    assert!(rt; take_at(small, 1, &mut rest_reader, &mut line) == Ok(4));
+    assert!(rt; line.as_slice() == [120, 97, 98, 10].as_slice());
+    assert!(rt; take_at(small, 1, &mut rest_reader, &mut line) == Ok(2));
+    assert!(rt; line.as_slice() == [99, 10].as_slice());
     Ok(())
 }
 
@@ -102,17 +102,17 @@ fn none_overtakes(rt: HostRuntime) -> Result<(), Fail> {
     let mut switch = switch_over(&queues, 0, source, 1, other, ways);
     assert!(rt; matches!(switch.run(&queues, 0), Ran::Worked));
     assert!(rt; matches!(switch.run(&queues, 0), Ran::Nothing));
-    assert_eq!(rt; (switch.taken(), switch.put(), switch.held()), (2, 0, 2));
+    assert!(rt; (switch.taken(), switch.put(), switch.held()) == (2, 0, 2));
     let mut line = ArrayVec::new();
     let nothing = take_at(small, 1, &mut reader, &mut line);
-    assert_eq!(rt; nothing, Err(TakeRefusal::Empty { at: 0 }));
-    assert_eq!(rt; take_at(small, 2, &mut filler, &mut line), Ok(64));
+    assert!(rt; nothing == Err(TakeRefusal::Empty { at: 0 }));
+    assert!(rt; take_at(small, 2, &mut filler, &mut line) == Ok(64));
     assert!(rt; matches!(switch.run(&queues, 0), Ran::Worked));
     assert!(rt; matches!(switch.run(&queues, 0), Ran::Worked));
-    assert_eq!(rt; take_at(small, 2, &mut filler, &mut line), Ok(2));
-    assert_eq!(rt; line.as_slice(), [97, 10].as_slice());
-    assert_eq!(rt; take_at(small, 1, &mut reader, &mut line), Ok(2));
-    assert_eq!(rt; line.as_slice(), [98, 10].as_slice());
+    assert!(rt; take_at(small, 2, &mut filler, &mut line) == Ok(2));
+    assert!(rt; line.as_slice() == [97, 10].as_slice());
+    assert!(rt; take_at(small, 1, &mut reader, &mut line) == Ok(2));
+    assert!(rt; line.as_slice() == [98, 10].as_slice());
     Ok(())
 }
 
@@ -133,10 +133,10 @@ fn a_way_into_its_source(rt: HostRuntime) -> Result<(), Fail> {
     let ways = [Some((97, 0, way)), None, None, None];
     let mut switch = switch_over(&queues, 0, source, 0, rest, ways);
     all_work(&rt, &queues, &mut switch, 3);
-    assert_eq!(rt; (switch.taken(), switch.put(), switch.held()), (6, 6, 0));
+    assert!(rt; (switch.taken(), switch.put(), switch.held()) == (6, 6, 0));
     let mut line = ArrayVec::new();
-    assert_eq!(rt; take_at(small, 0, &mut writer, &mut line), Ok(2));
-    assert_eq!(rt; line.as_slice(), [97, 10].as_slice());
+    assert!(rt; take_at(small, 0, &mut writer, &mut line) == Ok(2));
+    assert!(rt; line.as_slice() == [97, 10].as_slice());
     assert!(rt; matches!(switch.run(&queues, 0), Ran::Nothing));
     Ok(())
 }

@@ -30,7 +30,7 @@ fn cooks(rt: HostRuntime) {
     );
     let mut out = ArrayVec::new();
     cook(&[b'a'; 64], &mut out);
-    assert_eq!(rt; out.len(), 65);
+    assert!(rt; out.len() == 65);
     for i in 0..64usize {
         assert!(rt; out.as_slice().get(i) == Some(&b'a'));
     }
@@ -53,13 +53,13 @@ fn pumps(rt: HostRuntime) -> Result<(), Fail> {
     assert!(rt; put_at(small, 0, &mut writer, &[104, 105, 10]).is_ok());
     let mut pump = Pump::new(0, source, 1, target);
     assert!(rt; matches!(pump.run(&queues, 0), Ran::Worked));
-    assert_eq!(rt; (pump.taken(), pump.put(), pump.held()), (3, 3, 0));
+    assert!(rt; (pump.taken(), pump.put(), pump.held()) == (3, 3, 0));
     assert!(rt; matches!(pump.run(&queues, 0), Ran::Nothing));
-    assert_eq!(rt; (pump.taken(), pump.put(), pump.held()), (3, 3, 0));
-    assert_eq!(rt; pump.notes(), 2);
+    assert!(rt; (pump.taken(), pump.put(), pump.held()) == (3, 3, 0));
+    assert!(rt; pump.notes() == 2);
     let mut line = ArrayVec::new();
-    assert_eq!(rt; take_at(small, 1, &mut reader, &mut line), Ok(3));
-    assert_eq!(rt; line.as_slice(), [104, 105, 10].as_slice());
+    assert!(rt; take_at(small, 1, &mut reader, &mut line) == Ok(3));
+    assert!(rt; line.as_slice() == [104, 105, 10].as_slice());
     Ok(())
 }
 
@@ -81,11 +81,11 @@ fn pumps_over_new_queues(rt: HostRuntime) -> Result<(), Fail> {
     assert!(rt; put_at(small, 0, &mut writer, &[104, 105, 10]).is_ok());
     let mut pump = Pump::new(0, source, 1, target);
     assert!(rt; matches!(pump.run(&queues, 0), Ran::Worked));
-    assert_eq!(rt; (pump.taken(), pump.put(), pump.held()), (3, 3, 0));
+    assert!(rt; (pump.taken(), pump.put(), pump.held()) == (3, 3, 0));
     assert!(rt; matches!(pump.run(&queues, 0), Ran::Nothing));
     let mut line = ArrayVec::new();
-    assert_eq!(rt; take_at(small, 1, &mut reader, &mut line), Ok(3));
-    assert_eq!(rt; line.as_slice(), [104, 105, 10].as_slice());
+    assert!(rt; take_at(small, 1, &mut reader, &mut line) == Ok(3));
+    assert!(rt; line.as_slice() == [104, 105, 10].as_slice());
     Ok(())
 }
 
@@ -107,16 +107,16 @@ fn pump_holds_what_finds_no_room(rt: HostRuntime) -> Result<(), Fail> {
     assert!(rt; put_at(small, 1, &mut filler, &[7; 64]).is_ok());
     let mut pump = Pump::new(0, source, 1, target);
     assert!(rt; matches!(pump.run(&queues, 0), Ran::Worked));
-    assert_eq!(rt; (pump.taken(), pump.put(), pump.held()), (3, 0, 3));
+    assert!(rt; (pump.taken(), pump.put(), pump.held()) == (3, 0, 3));
     assert!(rt; matches!(pump.run(&queues, 0), Ran::Nothing));
-    assert_eq!(rt; (pump.taken(), pump.put(), pump.held()), (3, 0, 3));
+    assert!(rt; (pump.taken(), pump.put(), pump.held()) == (3, 0, 3));
     let mut line = ArrayVec::new();
-    assert_eq!(rt; take_at(small, 1, &mut filler, &mut line), Ok(64));
+    assert!(rt; take_at(small, 1, &mut filler, &mut line) == Ok(64));
     assert!(rt; matches!(pump.run(&queues, 0), Ran::Worked));
-    assert_eq!(rt; (pump.taken(), pump.put(), pump.held()), (3, 3, 0));
+    assert!(rt; (pump.taken(), pump.put(), pump.held()) == (3, 3, 0));
     assert!(rt; matches!(pump.run(&queues, 0), Ran::Worked));
-    assert_eq!(rt; (pump.taken(), pump.put(), pump.held()), (4, 4, 0));
-    assert_eq!(rt; pump.notes(), 4);
+    assert!(rt; (pump.taken(), pump.put(), pump.held()) == (4, 4, 0));
+    assert!(rt; pump.notes() == 4);
     Ok(())
 }
 
@@ -139,18 +139,15 @@ fn pump_over_shut_queues(rt: HostRuntime) -> Result<(), Fail> {
     let mut pump = Pump::new(0, source, 1, target);
     assert!(rt; matches!(pump.run(&queues, 0), Ran::Worked));
     assert!(rt; matches!(pump.run(&queues, 0), Ran::Nothing));
-    assert_eq!(rt; (pump.taken(), pump.put(), pump.held()), (2, 0, 2));
+    assert!(rt; (pump.taken(), pump.put(), pump.held()) == (2, 0, 2));
     let mut line = ArrayVec::new();
-    assert_eq!(rt; take_at(small, 0, &mut writer, &mut line), Ok(2));
+    assert!(rt; take_at(small, 0, &mut writer, &mut line) == Ok(2));
     assert!(rt; shut_at(small, 0, &mut writer));
     let full = put_at(small, 0, &mut writer, &[1]);
-    assert_eq!(rt; full, Err(ClaimRefusal::Closed));
-    assert_eq!(rt;
-        take_at(small, 0, &mut writer, &mut line),
-        Err(TakeRefusal::Closed)
-    );
+    assert!(rt; full == Err(ClaimRefusal::Closed));
+    assert!(rt; take_at(small, 0, &mut writer, &mut line) == Err(TakeRefusal::Closed));
     assert!(rt; matches!(pump.run(&queues, 0), Ran::Nothing));
-    assert_eq!(rt; (pump.taken(), pump.put(), pump.held()), (2, 0, 2));
+    assert!(rt; (pump.taken(), pump.put(), pump.held()) == (2, 0, 2));
     Ok(())
 }
 
@@ -169,7 +166,7 @@ fn pump_over_a_shut_empty_source(rt: HostRuntime) -> Result<(), Fail> {
     assert!(rt; shut_at(queues.small.as_slice(), 0, &mut closer));
     let mut pump = Pump::new(0, source, 1, target);
     assert!(rt; matches!(pump.run(&queues, 0), Ran::Nothing));
-    assert_eq!(rt; (pump.taken(), pump.put(), pump.held()), (0, 0, 0));
+    assert!(rt; (pump.taken(), pump.put(), pump.held()) == (0, 0, 0));
     Ok(())
 }
 
@@ -179,9 +176,9 @@ fn settles_with_all_ends(rt: HostRuntime) -> Result<(), Fail> {
     let mut second = queue.split(&mut first);
     let mut third = queue.split(&mut second);
     let mut fourth = queue.split(&mut third);
-    assert_eq!(rt; queue.try_put(&mut second, &[104, 105, 10]), Ok(0));
-    assert_eq!(rt; queue.try_put(&mut third, &[33]), Ok(3));
-    assert_eq!(rt; queue.try_take(&mut first), Ok(104));
+    assert!(rt; queue.try_put(&mut second, &[104, 105, 10]) == Ok(0));
+    assert!(rt; queue.try_put(&mut third, &[33]) == Ok(3));
+    assert!(rt; queue.try_take(&mut first) == Ok(104));
     // Claimed, and never raised.
     assert!(rt; queue.try_claim(&mut fourth, &[44]).is_ok());
     let mut others = Vec::new(rt.alloc());
@@ -189,8 +186,8 @@ fn settles_with_all_ends(rt: HostRuntime) -> Result<(), Fail> {
     let (queue, first) = match settle(queue, first, others) {
         Ok(_) => panic!(rt; "closed over open ends"),
         Err((queue, mut first, others)) => {
-            assert_eq!(rt; others.others, 2);
-            assert_eq!(rt; queue.try_put(&mut first, &[55]), Ok(5));
+            assert!(rt; others.others == 2);
+            assert!(rt; queue.try_put(&mut first, &[55]) == Ok(5));
             (queue, first)
         }
     };
@@ -200,10 +197,9 @@ fn settles_with_all_ends(rt: HostRuntime) -> Result<(), Fail> {
     let Ok(closed) = settle(queue, first, others) else {
         panic!(rt; "open ends")
     };
-    assert_eq!(rt; (closed.first, closed.put, closed.taken), (0, 6, 1));
-    assert_eq!(rt;
-        closed.left.as_slice(),
-        [Some(105), Some(10), Some(33), None, Some(55)].as_slice()
+    assert!(rt; (closed.first, closed.put, closed.taken) == (0, 6, 1));
+    assert!(rt;
+        closed.left.as_slice() == [Some(105), Some(10), Some(33), None, Some(55)].as_slice()
     );
     Ok(())
 }
@@ -221,10 +217,7 @@ fn gives_its_ends_away(rt: HostRuntime) -> Result<(), Fail> {
         other: _reader,
     } = to;
     let pump = AnyQuaject::Pump(Pump::new(3, source, 4, target));
-    assert_eq!(rt;
-        (pump.notes(), pump.taken(), pump.put(), pump.held()),
-        (0, 0, 0, 0)
-    );
+    assert!(rt; (pump.notes(), pump.taken(), pump.put(), pump.held()) == (0, 0, 0, 0));
     let (small, large) = pump.into_ends();
     let [first, second, third, fourth, fifth, sixth] = small;
     assert!(rt; first.is_some());
@@ -247,8 +240,8 @@ fn pipes_are_plain_data(rt: HostRuntime) {
         readers: 0,
         writers: 1,
     };
-    assert_eq!(rt; pipe, pipe);
-    assert_eq!(rt; (pipe.index, pipe.readers, pipe.writers), (3, 0, 1));
+    assert!(rt; pipe == pipe);
+    assert!(rt; (pipe.index, pipe.readers, pipe.writers) == (3, 0, 1));
 }
 
 #[test]
@@ -257,11 +250,11 @@ fn memory_may_be_wanting(rt: HostRuntime) {
     for _ in 0..12u8 {
         match Queues::new(rt.alloc(), 2, 1) {
             Ok((queues, small, large)) => {
-                assert_eq!(rt; (queues.small.len(), queues.large.len()), (2, 1));
-                assert_eq!(rt; (small.len(), large.len()), (2, 1));
+                assert!(rt; (queues.small.len(), queues.large.len()) == (2, 1));
+                assert!(rt; (small.len(), large.len()) == (2, 1));
                 made = true;
             }
-            Err(error) => assert_eq!(rt; error, OutOfMemory),
+            Err(error) => assert!(rt; error == OutOfMemory),
         }
     }
     assert!(rt; made);

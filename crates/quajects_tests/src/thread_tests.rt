@@ -206,7 +206,7 @@ fn four_threads(rt: HostRuntime) -> Result<(), Fail> {
     chain.join(&mut end, mine);
     hear_rest(&queues, &mut rest, &mut hearing);
     assert!(rt; hearing.in_order);
-    assert_eq!(rt; hearing.count.wrapping_add(overruns), 128);
+    assert!(rt; hearing.count.wrapping_add(overruns) == 128);
     let (_second, mine) = second.into_parts();
     chain.join(&mut end, mine);
     let (_third, mine) = third.into_parts();
@@ -216,7 +216,7 @@ fn four_threads(rt: HostRuntime) -> Result<(), Fail> {
     let Ok(home) = retire(chain, end) else {
         panic!(rt; "close")
     };
-    assert_eq!(rt; (home.left, home.held), (0, 0));
-    assert_eq!(rt; home.notes, home.chained as u64);
+    assert!(rt; (home.left, home.held) == (0, 0));
+    assert!(rt; home.notes == home.chained as u64);
     Ok(())
 }

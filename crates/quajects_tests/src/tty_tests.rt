@@ -50,23 +50,23 @@ fn types(rt: HostRuntime) -> Result<(), Fail> {
     let mine = chain.split(&mut end);
     let mut tty = RawTty::new(0, device, mine);
     type_all(&rt, &queues, &chain, &mut tty, b"ab\x7Fc\n".as_slice());
-    assert_eq!(rt; tty.overruns(), 0);
+    assert!(rt; tty.overruns() == 0);
     let (device, mine) = tty.into_parts();
     drop(device);
     chain.join(&mut end, mine);
     let Ok(home) = retire(chain, end) else {
         panic!(rt; "close")
     };
-    assert_eq!(rt; (home.chained, home.left, home.notes), (5, 0, 5));
-    assert_eq!(rt; (home.taken, home.put, home.held), (5, 6, 0));
+    assert!(rt; (home.chained, home.left, home.notes) == (5, 0, 5));
+    assert!(rt; (home.taken, home.put, home.held) == (5, 6, 0));
     let mut heard = ArrayVec::new();
     let large = queues.large.as_slice();
-    assert_eq!(rt; take_at(large, 0, &mut reader, &mut heard), Ok(3));
-    assert_eq!(rt; heard.as_slice(), [97, 99, 10].as_slice());
-    assert_eq!(rt; take_at(large, 1, &mut viewer, &mut heard), Ok(3));
-    assert_eq!(rt; heard.as_slice(), [97, 99, 10].as_slice());
+    assert!(rt; take_at(large, 0, &mut reader, &mut heard) == Ok(3));
+    assert!(rt; heard.as_slice() == [97, 99, 10].as_slice());
+    assert!(rt; take_at(large, 1, &mut viewer, &mut heard) == Ok(3));
+    assert!(rt; heard.as_slice() == [97, 99, 10].as_slice());
     let nothing = take_at(large, 0, &mut reader, &mut heard);
-    assert_eq!(rt; nothing, Err(TakeRefusal::Empty { at: 3 }));
+    assert!(rt; nothing == Err(TakeRefusal::Empty { at: 3 }));
     Ok(())
 }
 
@@ -99,26 +99,26 @@ fn held_until_there_is_room(rt: HostRuntime) -> Result<(), Fail> {
     let mut tty = CookedTty::new(0, raw_end, 0, line_end, 1, screen_end);
     assert!(rt; matches!(tty.run(&queues, 0), Ran::Worked));
     assert!(rt; matches!(tty.run(&queues, 0), Ran::Nothing));
-    assert_eq!(rt; (tty.taken(), tty.put(), tty.held()), (2, 0, 2));
+    assert!(rt; (tty.taken(), tty.put(), tty.held()) == (2, 0, 2));
     let mut heard = ArrayVec::new();
-    assert_eq!(rt; take_at(large, 0, &mut reader, &mut heard), Ok(256));
+    assert!(rt; take_at(large, 0, &mut reader, &mut heard) == Ok(256));
     assert!(rt; put_at(large, 1, &mut viewer, &[7; 256]).is_ok());
     assert!(rt; matches!(tty.run(&queues, 0), Ran::Worked));
     assert!(rt; matches!(tty.run(&queues, 0), Ran::Nothing));
-    assert_eq!(rt; (tty.taken(), tty.put(), tty.held()), (2, 2, 2));
-    assert_eq!(rt; take_at(large, 1, &mut viewer, &mut heard), Ok(256));
+    assert!(rt; (tty.taken(), tty.put(), tty.held()) == (2, 2, 2));
+    assert!(rt; take_at(large, 1, &mut viewer, &mut heard) == Ok(256));
     assert!(rt; matches!(tty.run(&queues, 0), Ran::Worked));
-    assert_eq!(rt; (tty.taken(), tty.put(), tty.held()), (2, 4, 0));
+    assert!(rt; (tty.taken(), tty.put(), tty.held()) == (2, 4, 0));
     assert!(rt; matches!(tty.run(&queues, 0), Ran::Worked));
-    assert_eq!(rt; (tty.taken(), tty.put(), tty.held()), (4, 8, 0));
+    assert!(rt; (tty.taken(), tty.put(), tty.held()) == (4, 8, 0));
     assert!(rt; matches!(tty.run(&queues, 0), Ran::Nothing));
-    assert_eq!(rt; take_at(large, 0, &mut reader, &mut heard), Ok(2));
-    assert_eq!(rt; heard.as_slice(), [120, 10].as_slice());
-    assert_eq!(rt; take_at(large, 0, &mut reader, &mut heard), Ok(2));
-    assert_eq!(rt; heard.as_slice(), [121, 10].as_slice());
-    assert_eq!(rt; take_at(large, 1, &mut viewer, &mut heard), Ok(2));
-    assert_eq!(rt; take_at(large, 1, &mut viewer, &mut heard), Ok(2));
-    assert_eq!(rt; heard.as_slice(), [121, 10].as_slice());
+    assert!(rt; take_at(large, 0, &mut reader, &mut heard) == Ok(2));
+    assert!(rt; heard.as_slice() == [120, 10].as_slice());
+    assert!(rt; take_at(large, 0, &mut reader, &mut heard) == Ok(2));
+    assert!(rt; heard.as_slice() == [121, 10].as_slice());
+    assert!(rt; take_at(large, 1, &mut viewer, &mut heard) == Ok(2));
+    assert!(rt; take_at(large, 1, &mut viewer, &mut heard) == Ok(2));
+    assert!(rt; heard.as_slice() == [121, 10].as_slice());
     Ok(())
 }
 
@@ -166,15 +166,15 @@ fn nobody_hears(rt: HostRuntime) -> Result<(), Fail> {
     };
     let mine = chain.split(&mut end);
     let mut tty = RawTty::new(0, device, mine);
-    assert_eq!(rt; type_ends(&rt, &queues, &chain, &mut tty, 400), 321);
-    assert_eq!(rt; tty.overruns(), 79);
+    assert!(rt; type_ends(&rt, &queues, &chain, &mut tty, 400) == 321);
+    assert!(rt; tty.overruns() == 79);
     let (device, mine) = tty.into_parts();
     chain.join(&mut end, mine);
     let Ok(home) = retire(chain, end) else {
         panic!(rt; "close")
     };
-    assert_eq!(rt; (home.chained, home.left, home.notes), (400, 0, 400));
-    assert_eq!(rt; (home.taken, home.put, home.held), (257, 512, 1));
+    assert!(rt; (home.chained, home.left, home.notes) == (400, 0, 400));
+    assert!(rt; (home.taken, home.put, home.held) == (257, 512, 1));
     drop(device);
     drop(line_other);
     drop(screen_other);

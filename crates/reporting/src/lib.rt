@@ -13,8 +13,6 @@ mod making;
 mod movers;
 mod queues;
 mod sorting;
-#[cfg(test)]
-mod tests;
 mod threads;
 mod ttys;
 

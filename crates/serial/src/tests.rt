@@ -9,11 +9,11 @@ fn text(line: Option<&collector::Line>) -> &str {
 #[test]
 fn two_ports_send_at_once(rt: HostRuntime) -> Result<(), Fail> {
     let closed = collect(&rt, rt.alloc(), FIRST, SECOND)?;
-    assert_eq!(rt; (closed.put, closed.taken, closed.left.len()), (60, 60, 0));
+    assert!(rt; (closed.put, closed.taken, closed.left.len()) == (60, 60, 0));
     let (first, second) = (&closed.quaject.first, &closed.quaject.second);
-    assert_eq!(rt; (first.lines.len(), second.lines.len()), (2, 3));
-    assert_eq!(rt; text(first.lines.get(1)), "that all is well");
-    assert_eq!(rt; text(second.lines.get(2)), "too");
+    assert!(rt; (first.lines.len(), second.lines.len()) == (2, 3));
+    assert!(rt; text(first.lines.get(1)) == "that all is well");
+    assert!(rt; text(second.lines.get(2)) == "too");
     assert!(rt; first.begun.is_empty() && second.begun.is_empty());
     Ok(())
 }
@@ -21,10 +21,7 @@ fn two_ports_send_at_once(rt: HostRuntime) -> Result<(), Fail> {
 #[test]
 fn a_line_has_room_for_64_bytes(rt: HostRuntime) -> Result<(), Fail> {
     let closed = collect(&rt, rt.alloc(), &[b'a'; 65], b"b")?;
-    assert_eq!(rt;
-        closed.quaject.first.begun.as_slice(),
-        [b'a'; 64].as_slice()
-    );
-    assert_eq!(rt; text(Some(&closed.quaject.second.begun)), "b");
+    assert!(rt; closed.quaject.first.begun.as_slice() == [b'a'; 64].as_slice());
+    assert!(rt; text(Some(&closed.quaject.second.begun)) == "b");
     Ok(())
 }

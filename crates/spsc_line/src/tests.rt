@@ -11,17 +11,17 @@ use std::thread::Threads;
 #[test]
 fn a_line_of_two(rt: HostRuntime) -> Result<(), Fail> {
     let (mut input, mut output) = line(rt.alloc(), 2)?;
-    assert_eq!(rt; output.pop(), None);
-    assert_eq!(rt; input.push(1), Ok(()));
-    assert_eq!(rt; input.push(2), Ok(()));
-    assert_eq!(rt; input.push(3), Err(3));
-    assert_eq!(rt; output.pop(), Some(1));
+    assert!(rt; output.pop() == None);
+    assert!(rt; input.push(1) == Ok(()));
+    assert!(rt; input.push(2) == Ok(()));
+    assert!(rt; input.push(3) == Err(3));
+    assert!(rt; output.pop() == Some(1));
     let totals = LineTotals {
         sent: 2,
         received: 1,
         left: 1,
     };
-    assert_eq!(rt; finish(input, output), totals);
+    assert!(rt; finish(input, output) == totals);
     Ok(())
 }
 
@@ -30,17 +30,17 @@ fn a_line_of_two(rt: HostRuntime) -> Result<(), Fail> {
 fn places_come_back(rt: HostRuntime) -> Result<(), Fail> {
     let (mut input, mut output) = line(rt.alloc(), 1)?;
     for byte in 0..=255u8 {
-        assert_eq!(rt; output.pop(), None);
-        assert_eq!(rt; input.push(byte), Ok(()));
-        assert_eq!(rt; input.push(byte), Err(byte));
-        assert_eq!(rt; output.pop(), Some(byte));
+        assert!(rt; output.pop() == None);
+        assert!(rt; input.push(byte) == Ok(()));
+        assert!(rt; input.push(byte) == Err(byte));
+        assert!(rt; output.pop() == Some(byte));
     }
     let totals = LineTotals {
         sent: 256,
         received: 256,
         left: 0,
     };
-    assert_eq!(rt; finish(input, output), totals);
+    assert!(rt; finish(input, output) == totals);
     Ok(())
 }
 
@@ -49,15 +49,15 @@ fn places_come_back(rt: HostRuntime) -> Result<(), Fail> {
 fn the_longest_line(rt: HostRuntime) -> Result<(), Fail> {
     let (mut input, output) = line(rt.alloc(), MOST_BYTES)?;
     for _ in 0..65_536 {
-        assert_eq!(rt; input.push(7), Ok(()));
+        assert!(rt; input.push(7) == Ok(()));
     }
-    assert_eq!(rt; input.push(8), Err(8));
+    assert!(rt; input.push(8) == Err(8));
     let totals = LineTotals {
         sent: 65_536,
         received: 0,
         left: 65_536,
     };
-    assert_eq!(rt; finish(input, output), totals);
+    assert!(rt; finish(input, output) == totals);
     Ok(())
 }
 
@@ -73,10 +73,10 @@ fn memory_may_be_wanting(rt: HostRuntime) {
                     received: 0,
                     left: 0,
                 };
-                assert_eq!(rt; finish(input, output), totals);
+                assert!(rt; finish(input, output) == totals);
                 made = true;
             }
-            Err(error) => assert_eq!(rt; error, OutOfMemory),
+            Err(error) => assert!(rt; error == OutOfMemory),
         }
     }
     assert!(rt; made);
@@ -84,10 +84,7 @@ fn memory_may_be_wanting(rt: HostRuntime) {
 
 #[test]
 fn the_error_is_told(rt: HostRuntime) -> Result<(), Fail> {
-    assert_eq!(rt;
-        format!(in rt.alloc(); "{OutOfMemory}")?.as_str(),
-        "no memory"
-    );
+    assert!(rt; format!(in rt.alloc(); "{OutOfMemory}")?.as_str() == "no memory");
     Ok(())
 }
 
@@ -162,6 +159,6 @@ fn bytes_pass_in_order(rt: HostRuntime) -> Result<(), Fail> {
         received: 100_000,
         left: 0,
     };
-    assert_eq!(rt; pass_all(&rt, rt.alloc(), 100_000)?, (totals, true));
+    assert!(rt; pass_all(&rt, rt.alloc(), 100_000)? == (totals, true));
     Ok(())
 }

@@ -13,6 +13,3 @@ mod ready;
 
 pub use kernel::{boot, boot_on, boot_on_with, boot_with};
 pub use outcome::{BootFault, Ended};
-
-#[cfg(test)]
-mod tests;

@@ -121,9 +121,9 @@ fn assert_run<RT: Threads + Wait + Sync + Abort>(
         let mut errors = Vec::new(alloc);
         let (out, to_tell) = (&mut output, &mut errors);
         let ended = run_as(form, rt, alloc, words, &mut reader, out, to_tell);
-        assert_eq!(rt; ended, status);
-        assert_eq!(rt; output.as_slice(), printed);
-        assert_eq!(rt; errors.as_slice(), told);
+        assert!(rt; ended == status);
+        assert!(rt; output.as_slice() == printed);
+        assert!(rt; errors.as_slice() == told);
     }
 }
 
@@ -339,18 +339,15 @@ fn other_words_are_a_usage_fault(rt: HostRuntime) {
             let mut output = Vec::new(rt.alloc());
             let mut errors = Vec::new(rt.alloc());
             let (out, told) = (&mut output, &mut errors);
-            assert_eq!(rt;
-                run_as(form, &rt, rt.alloc(), words, &mut reader, out, told),
-                2
-            );
-            assert_eq!(rt; reader, REFUSED);
+            assert!(rt; run_as(form, &rt, rt.alloc(), words, &mut reader, out, told) == 2);
+            assert!(rt; reader == REFUSED);
             assert!(rt; output.is_empty());
-            assert_eq!(rt; errors.as_slice(), USAGE);
+            assert!(rt; errors.as_slice() == USAGE);
         }
     }
     let mut errors = Vec::new(rt.alloc());
-    assert_eq!(rt; usage(&mut errors), 2);
-    assert_eq!(rt; errors.as_slice(), USAGE);
+    assert!(rt; usage(&mut errors) == 2);
+    assert!(rt; errors.as_slice() == USAGE);
 }
 
 /// The words of a replay and those of a boot.
@@ -374,9 +371,9 @@ fn assert_read_fault<RT: Threads + Wait + Sync + Abort>(
         let mut errors = Vec::new(alloc);
         let (out, told) = (&mut output, &mut errors);
         let status = run_as(form, rt, alloc, words, &mut reader, out, told);
-        assert_eq!(rt; status, 5);
+        assert!(rt; status == 5);
         assert!(rt; output.is_empty());
-        assert_eq!(rt; errors.as_slice(), b"read fault\n".as_slice());
+        assert!(rt; errors.as_slice() == b"read fault\n".as_slice());
     }
 }
 
@@ -411,9 +408,9 @@ fn assert_write_fault<RT: Threads + Wait + Sync + Abort>(
         let mut errors = Vec::new(alloc);
         let (out, told) = (&mut output, &mut errors);
         let status = run_as(form, rt, alloc, words, &mut reader, out, told);
-        assert_eq!(rt; status, 5);
-        assert_eq!(rt; Some(output.bytes.as_slice()), printed.get(..calls));
-        assert_eq!(rt; errors.as_slice(), b"write fault\n".as_slice());
+        assert!(rt; status == 5);
+        assert!(rt; Some(output.bytes.as_slice()) == printed.get(..calls));
+        assert!(rt; errors.as_slice() == b"write fault\n".as_slice());
     }
 }
 
@@ -436,13 +433,13 @@ fn a_failing_error_stream_changes_no_status(rt: HostRuntime) {
         let mut errors = Full::new(rt.alloc(), 3);
         let (out, told) = (&mut output, &mut errors);
         let status = run_as(form, &rt, rt.alloc(), &["replay"], &mut reader, out, told);
-        assert_eq!(rt; status, 1);
+        assert!(rt; status == 1);
         assert!(rt; output.is_empty());
-        assert_eq!(rt; errors.bytes.as_slice(), b"lin".as_slice());
+        assert!(rt; errors.bytes.as_slice() == b"lin".as_slice());
     }
     let mut deaf = Full::new(rt.alloc(), 0);
-    assert_eq!(rt; usage(&mut deaf), 2);
-    assert_eq!(rt; no_memory(&mut deaf), 3);
+    assert!(rt; usage(&mut deaf) == 2);
+    assert!(rt; no_memory(&mut deaf) == 3);
     assert!(rt; deaf.bytes.is_empty());
 }
 
@@ -461,9 +458,9 @@ fn a_run_tells_of_the_error_stream(rt: HostRuntime) {
             &mut output,
             &mut errors,
         );
-        assert_eq!(rt; status, 2);
-        assert_eq!(rt; told.is_ok(), took);
-        assert_eq!(rt; Some(errors.bytes.as_slice()), USAGE.get(..calls));
+        assert!(rt; status == 2);
+        assert!(rt; told.is_ok() == took);
+        assert!(rt; Some(errors.bytes.as_slice()) == USAGE.get(..calls));
     }
 }
 
@@ -471,6 +468,6 @@ fn a_run_tells_of_the_error_stream(rt: HostRuntime) {
 #[test]
 fn tells_want_of_memory(rt: HostRuntime) {
     let mut errors = Vec::new(rt.alloc());
-    assert_eq!(rt; no_memory(&mut errors), 3);
-    assert_eq!(rt; errors.as_slice(), b"no memory\n".as_slice());
+    assert!(rt; no_memory(&mut errors) == 3);
+    assert!(rt; errors.as_slice() == b"no memory\n".as_slice());
 }

@@ -97,25 +97,25 @@ fn processors_and_stops(rt: HostRuntime) -> Result<(), Fail> {
     assert!(rt; free(&table, a, 0));
     assert!(rt; a.serves(p0));
     assert!(rt; a.holds(e0));
-    assert_eq!(rt; table.on(a, p0, e0), Ok(()));
-    assert_eq!(rt; (a.holds(e0), a.on_processor(p0)), (false, Some(e0)));
+    assert!(rt; table.on(a, p0, e0) == Ok(()));
+    assert!(rt; (a.holds(e0), a.on_processor(p0)) == (false, Some(e0)));
     assert!(rt; free(&table, a, 1));
     assert!(rt; a.serves(p0));
     assert!(rt; a.holds(e1));
-    assert_eq!(rt; table.on(a, p0, e1), Err(ProcessorBusy));
+    assert!(rt; table.on(a, p0, e1) == Err(ProcessorBusy));
     assert!(rt; table.stop(a, e0));
     assert!(rt; a.serves(p0));
-    assert_eq!(rt; table.off(a, p0), Ok(e0));
+    assert!(rt; table.off(a, p0) == Ok(e0));
     assert!(rt; a.serves(p0));
-    assert_eq!(rt; table.off(a, p0), Err(ProcessorEmpty));
+    assert!(rt; table.off(a, p0) == Err(ProcessorEmpty));
     assert!(rt; a.holds(e0));
-    assert_eq!(rt; table.try_park(a, e0), Ok(true));
-    assert_eq!(rt; table.try_start(a, e0), Ok(Started::Held));
-    assert_eq!(rt; table.try_start(a, e0), Ok(Started::NotStopped));
+    assert!(rt; table.try_park(a, e0) == Ok(true));
+    assert!(rt; table.try_start(a, e0) == Ok(Started::Held));
+    assert!(rt; table.try_start(a, e0) == Ok(Started::NotStopped));
     assert!(rt; table.stop(a, e0));
-    assert_eq!(rt; table.try_start(a, e0), Ok(Started::Cleared));
+    assert!(rt; table.try_start(a, e0) == Ok(Started::Cleared));
     assert!(rt; a.holds(e0));
-    assert_eq!(rt; table.try_park(a, e0), Ok(false));
+    assert!(rt; table.try_park(a, e0) == Ok(false));
     table.join(a, b);
     assert!(rt; a.serves(p1));
     Ok(())
@@ -130,14 +130,14 @@ fn signals(rt: HostRuntime) -> Result<(), Fail> {
         panic!(rt; "names")
     };
     assert!(rt; free(&table, a, 0) && wait(&table, a, 0, w2));
-    assert_eq!(rt; table.signal(a, e0, s3), Signalled::Raised);
-    assert_eq!(rt; table.signal(a, e0, s3), Signalled::Merged);
-    assert_eq!(rt; table.try_next(a), Err(NextRefusal::NoneReady));
-    assert_eq!(rt; table.try_wake(a, w2), Ok(e0));
+    assert!(rt; table.signal(a, e0, s3) == Signalled::Raised);
+    assert!(rt; table.signal(a, e0, s3) == Signalled::Merged);
+    assert!(rt; table.try_next(a) == Err(NextRefusal::NoneReady));
+    assert!(rt; table.try_wake(a, w2) == Ok(e0));
     assert!(rt; a.holds(e0));
-    assert_eq!(rt; table.try_deliver(a, e0), Ok(8));
+    assert!(rt; table.try_deliver(a, e0) == Ok(8));
     assert!(rt; a.holds(e0));
-    assert_eq!(rt; table.try_deliver(a, e0), Ok(0));
+    assert!(rt; table.try_deliver(a, e0) == Ok(0));
     Ok(())
 }
 
@@ -161,26 +161,23 @@ fn wakes_all(rt: HostRuntime) -> Result<(), Fail> {
     };
     assert!(rt; free(&table, a, 0) && free(&table, a, 1));
     assert!(rt; wait(&table, a, 0, w2) && wait(&table, a, 1, w2));
-    assert_eq!(rt; table.wake_all(&rt, a, w2), 3);
+    assert!(rt; table.wake_all(&rt, a, w2) == 3);
     assert!(rt; a.holds(e0) && a.serves(p0));
-    assert_eq!(rt; table.on(a, p0, e0), Ok(()));
+    assert!(rt; table.on(a, p0, e0) == Ok(()));
     assert!(rt; a.serves(p0));
-    assert_eq!(rt; wake_and_take_off(&rt, &table, a, w2, p0), Ok(e0));
+    assert!(rt; wake_and_take_off(&rt, &table, a, w2, p0) == Ok(e0));
     assert!(rt; a.holds(e0));
-    assert_eq!(rt; count_on(&table, a, e0), (0, Ok(1)));
+    assert!(rt; count_on(&table, a, e0) == (0, Ok(1)));
     assert!(rt; a.holds(e0));
-    assert_eq!(rt; table.pc(a, e0), 1);
+    assert!(rt; table.pc(a, e0) == 1);
     let Ok(closed) = table.close(first) else {
         panic!(rt; "close")
     };
-    assert_eq!(rt;
-        (closed.places[0], closed.places[1]),
-        (Place::Held, Place::Held)
-    );
+    assert!(rt; (closed.places[0], closed.places[1]) == (Place::Held, Place::Held));
     for e in 2..64usize {
-        assert_eq!(rt; (closed.places[e], closed.pcs[e]), (Place::Free, 0));
+        assert!(rt; (closed.places[e], closed.pcs[e]) == (Place::Free, 0));
     }
-    assert_eq!(rt; (closed.pcs[0], closed.pcs[1], closed.stops), (1, 0, 0));
+    assert!(rt; (closed.pcs[0], closed.pcs[1], closed.stops) == (1, 0, 0));
     Ok(())
 }
 
@@ -196,11 +193,11 @@ fn first_in_first_out(rt: HostRuntime) -> Result<(), Fail> {
     }
     assert!(rt; ready(&table, a, 2) && ready(&table, a, 0) && ready(&table, a, 1));
     assert!(rt; next(&table, a, 2) && next(&table, a, 0) && next(&table, a, 1));
-    assert_eq!(rt; table.try_next(a), Err(NextRefusal::NoneReady));
+    assert!(rt; table.try_next(a) == Err(NextRefusal::NoneReady));
     assert!(rt; wait(&table, a, 5, w3) && wait(&table, a, 4, w3));
-    assert_eq!(rt; table.try_wake(a, w3), Ok(e5));
+    assert!(rt; table.try_wake(a, w3) == Ok(e5));
     assert!(rt; wait(&table, a, 5, w3));
-    assert_eq!(rt; table.wake_all(&rt, a, w3), 48);
+    assert!(rt; table.wake_all(&rt, a, w3) == 48);
     Ok(())
 }
 
@@ -213,7 +210,7 @@ fn last_positions(rt: HostRuntime) -> Result<(), Fail> {
     };
     assert!(rt; free(&table, a, 0));
     assert!(rt; a.holds(e0));
-    assert_eq!(rt; table.try_retire(a, e0), Err(MoveRefusal::Spent));
+    assert!(rt; table.try_retire(a, e0) == Err(MoveRefusal::Spent));
     assert!(rt; a.holds(e0));
     assert!(rt; ready(&table, a, 0) && next(&table, a, 0));
     Ok(())
@@ -227,16 +224,13 @@ fn tickets(rt: HostRuntime) -> Result<(), Fail> {
         panic!(rt; "names")
     };
     assert!(rt; free(&table, a, 0));
-    assert_eq!(rt; table.ticket(a, w2), 0);
-    assert_eq!(rt; table.wake_all(&rt, a, w2), 0);
+    assert!(rt; table.ticket(a, w2) == 0);
+    assert!(rt; table.wake_all(&rt, a, w2) == 0);
     assert!(rt; a.holds(e0));
-    assert_eq!(rt;
-        table.try_wait_at(a, e0, w2, 0),
-        Err(MoveRefusal::Moved { mark: 1 })
-    );
+    assert!(rt; table.try_wait_at(a, e0, w2, 0) == Err(MoveRefusal::Moved { mark: 1 }));
     assert!(rt; a.holds(e0));
-    assert_eq!(rt; table.try_wait_at(a, e0, w2, 1), Ok(()));
-    assert_eq!(rt; table.wake_all(&rt, a, w2), 1);
+    assert!(rt; table.try_wait_at(a, e0, w2, 1) == Ok(()));
+    assert!(rt; table.wake_all(&rt, a, w2) == 1);
     Ok(())
 }
 
@@ -248,7 +242,7 @@ fn hands_to_join(rt: HostRuntime) -> Result<(), Fail> {
     let Err((table, first, open)) = table.close(first) else {
         panic!(rt; "closed")
     };
-    assert_eq!(rt; open, OpenEnds { others: 1 });
+    assert!(rt; open == OpenEnds { others: 1 });
     let mut first = first;
     table.join(&mut first, b);
     let Some(e0) = Element::new(0) else {
@@ -258,10 +252,7 @@ fn hands_to_join(rt: HostRuntime) -> Result<(), Fail> {
     let Ok(closed) = table.close(first) else {
         panic!(rt; "close")
     };
-    assert_eq!(rt;
-        (closed.places[0], closed.places[63]),
-        (Place::Held, Place::Free)
-    );
+    assert!(rt; (closed.places[0], closed.places[63]) == (Place::Held, Place::Free));
     Ok(())
 }
 
@@ -282,12 +273,9 @@ fn split_and_joined(alloc: Global) -> Result<Places, OutOfMemory> {
 fn joined_hands_close(rt: HostRuntime) -> Result<(), Fail> {
     let closed = split_and_joined(rt.alloc())?;
     for e in 0..64usize {
-        assert_eq!(rt;
-            (closed.places[e], closed.pcs[e], closed.pending[e]),
-            (Place::Free, 0, 0)
-        );
+        assert!(rt; (closed.places[e], closed.pcs[e], closed.pending[e]) == (Place::Free, 0, 0));
     }
-    assert_eq!(rt; closed.stops, 0);
+    assert!(rt; closed.stops == 0);
     Ok(())
 }
 
@@ -306,27 +294,18 @@ fn stopped_at_the_close(rt: HostRuntime) -> Result<(), Fail> {
     );
     assert!(rt; table.stop(a, e0));
     assert!(rt; a.holds(e0));
-    assert_eq!(rt; table.try_park(a, e0), Ok(true));
-    assert_eq!(rt; table.signal(a, e0, s3), Signalled::Raised);
+    assert!(rt; table.try_park(a, e0) == Ok(true));
+    assert!(rt; table.signal(a, e0, s3) == Signalled::Raised);
     assert!(rt; a.serves(p7));
     assert!(rt; a.holds(e1));
-    assert_eq!(rt; table.on(a, p7, e1), Ok(()));
+    assert!(rt; table.on(a, p7, e1) == Ok(()));
     assert!(rt; wait(&table, a, 2, w15) && ready(&table, a, 3));
     let Ok(closed) = table.close(first) else {
         panic!(rt; "close")
     };
-    assert_eq!(rt;
-        (closed.places[0], closed.places[1]),
-        (Place::Stopped, Place::Processor(7))
-    );
-    assert_eq!(rt;
-        (closed.places[2], closed.places[3]),
-        (Place::Wait(15), Place::Ready)
-    );
-    assert_eq!(rt;
-        (closed.stops, closed.pending[0], closed.pending[1]),
-        (1, 8, 0)
-    );
+    assert!(rt; (closed.places[0], closed.places[1]) == (Place::Stopped, Place::Processor(7)));
+    assert!(rt; (closed.places[2], closed.places[3]) == (Place::Wait(15), Place::Ready));
+    assert!(rt; (closed.stops, closed.pending[0], closed.pending[1]) == (1, 8, 0));
     Ok(())
 }
 
@@ -340,7 +319,7 @@ fn memory_may_be_wanting(rt: HostRuntime) {
                 assert!(rt; free(&table, &mut hand, 0));
                 made = true;
             }
-            Err(error) => assert_eq!(rt; error, OutOfMemory),
+            Err(error) => assert!(rt; error == OutOfMemory),
         }
     }
     assert!(rt; made);

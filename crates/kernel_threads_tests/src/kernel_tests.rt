@@ -1,0 +1,103 @@
+//! A whole kernel: its objects, its first station, its works, and its run.
+ghost use Rattle.std.specs.Prelude.{◌≡◌, ◌+◌, ◌≤◌, All, length, vec_len};
+ghost use Rattle.kernel_threads.specs.Works.{MayWork};
+ghost use Rattle.reports.specs.Stations.{IsPrepared};
+
+use boot_script::parse_boot;
+use end_steps::NoGate;
+use kernel_threads::*;
+use objects::{Objects, make_objects};
+use processor::{Shared, Station};
+use spsc_line::LineIn;
+use std::alloc::Global;
+use std::process::Abort;
+use std::sync::Wait;
+use std::test::Fail;
+
+/// Two ttys, bytes for one of them, and a thread that hears a line.
+const SCRIPT: &[u8] =
+    b"synthesis 3\ntty t\ntype t hi\ntty u\ngauge g\nthread v\nhear t.line\nalarm 2 v 3";
+
+/// What a kernel has before its threads start.
+#[derive(Drop)]
+struct Kernel {
+    shared: Shared,
+    station: Station,
+    works: Vec<Work<NoGate>>,
+    lines: Vec<LineIn>,
+}
+
+/// A kernel with a processor for each gate.
+fn make_kernel<R: Abort + Wait>(rt: &R, alloc: Global, gates: Vec<NoGate>, turns: u32) -> Kernel
+    requires { vec_len gates ≤ 8 }
+    ensures number { (vec_len result.works ≡ vec_len gates + length result.shared.plan.ttys)
+        × (vec_len result.lines ≡ length result.shared.plan.ttys) }
+    ensures may { All (MayWork result.shared) result.works.items }
+    ensures prepared { IsPrepared result.shared.plan result.station.parts }
+{
+    first_is_prepared();
+    first_is_ready();
+    works_may_run::<NoGate>();
+    let Ok(plan) = parse_boot(alloc, SCRIPT) else {
+        panic!(rt; "script")
+    };
+    let Ok(made) = make_objects(alloc, plan) else {
+        panic!(rt; "memory")
+    };
+    let Objects {
+        shared,
+        station,
+        devices,
+    } = made;
+    let Ok(works) = Vec::with_capacity(alloc, gates.len() + devices.len()) else {
+        panic!(rt; "memory")
+    };
+    let Ok(lines) = Vec::with_capacity(alloc, devices.len()) else {
+        panic!(rt; "memory")
+    };
+    let mut station = prepare_station(rt, &shared, station);
+    let Ok(works) = post_all(alloc, &shared, &mut station, turns, gates, works) else {
+        panic!(rt; "memory")
+    };
+    let (works, lines) = add_devices(shared.plan.ttys.as_slice(), devices, works, lines);
+    Kernel {
+        shared,
+        station,
+        works,
+        lines,
+    }
+}
+
+/// Two processors and the devices of two ttys run, and all come back; no byte was refused.
+#[test]
+fn all_come_back(rt: HostRuntime) -> Result<(), Fail> {
+    let mut gates = Vec::new(rt.alloc());
+    gates.push(NoGate)?;
+    gates.push(NoGate)?;
+    let Kernel {
+        shared,
+        station: _rest,
+        works,
+        lines,
+    } = make_kernel(&rt, rt.alloc(), gates, 3);
+    let handles = Vec::with_capacity(rt.alloc(), works.len())?;
+    let backs = Vec::with_capacity(rt.alloc(), works.len())?;
+    let typed = Vec::with_capacity(rt.alloc(), lines.len())?;
+    let (backs, typed) = run_kernel(&rt, &shared, works, 2, handles, backs, lines, typed);
+    let mut processors = 0u64;
+    let mut devices = 0u64;
+    let mut refused = 0u64;
+    for back in backs {
+        match back {
+            Some(Worked::Processed(_station)) => processors = processors.wrapping_add(1),
+            Some(Worked::Served { line: _line, tty }) => {
+                devices = devices.wrapping_add(1);
+                refused = refused.wrapping_add(tty.overruns());
+            }
+            None => {}
+        }
+    }
+    assert!(rt; (processors, devices, refused) == (2, 2, 0));
+    assert!(rt; typed.len() == 2);
+    Ok(())
+}

@@ -1,0 +1,157 @@
+//! What another processor does at a point of this one's turn.
+ghost use Rattle.std.specs.Prelude.{◌≡◌, ◌<◌, length};
+ghost use Rattle.thread_table.specs.Handles.{view_of, IsHandOf};
+ghost use Rattle.hand_steps.specs.Holdings.{IsFree};
+ghost use Rattle.end_steps.specs.EndLists.{AreEndsOf};
+ghost use Rattle.processor.specs.Rooms.{HasRoom};
+ghost use Rattle.processor.specs.Stations.{ArePartsOf};
+
+use super::pairs::{join_two, stand_two};
+use super::*;
+use end_steps::{Gate, Point, say, shut_queue};
+use hand_steps::wake;
+use quaject_core::WaitNumber;
+use std::test::*;
+
+/// A gate that says a line in the first queue, or shuts it, and wakes those who wait to hear, behind each try of a hear.
+#[derive(Drop)]
+struct Sayer<'r, 's, R: Wait> {
+    rt: &'r R,
+    shared: &'s Shared,
+    ends: Vec<QueueEnd<64>>,
+    hand: Hand,
+    wait: WaitNumber,
+    shuts: bool,
+    ghost fit: { AreEndsOf shared.now.queues.small.items ends.items },
+    ghost known: { 0 < length shared.now.queues.small.items },
+    ghost hand_fits: { IsHandOf shared.now.threads hand },
+}
+
+impl<'r, 's, R: Wait> Gate for Sayer<'r, 's, R> {
+    ghost told = { λ old p point new. new.shared.now ≡ old.shared.now };
+
+    fn between(&mut self, _p: u8, point: Point) {
+        if point != Point::TakeAnswered {
+            return;
+        }
+        let queues = self.shared.queues.small.as_slice();
+        if self.shuts {
+            let _open = shut_queue(queues, &mut self.ends, 0);
+        } else {
+            let _said = say(queues, &mut self.ends, 0, &[122, 10], 0, &mut NoGate);
+        }
+        let _woken = wake(self.rt, &self.shared.threads, &mut self.hand, self.wait);
+    }
+}
+
+/// There is a queue.
+fn must_have_a_queue<R: Abort>(rt: &R, shared: &Shared)
+    ensures { 0 < length shared.now.queues.small.items }
+{
+    if shared.queues.small.as_slice().is_empty() {
+        panic!(rt; "no queue");
+    }
+}
+
+/// So many turns of the one station's processor, while the other station's ends say or shut. Both stations come back.
+fn run_beside<R: Abort + Wait>(
+    rt: &R,
+    shared: &Shared,
+    one: (Station, Processor),
+    other: Station,
+    turns: u32,
+    shuts: bool,
+) -> (Station, Station)
+    requires parts { ArePartsOf shared.now one.0.parts × ArePartsOf shared.now other.parts }
+    requires free { IsFree one.1 (view_of one.0.parts.hand) }
+    requires room { HasRoom shared.now.plan one.0.parts }
+    ensures { ArePartsOf shared.now result.0.parts × ArePartsOf shared.now result.1.parts }
+{
+    must_have_a_queue(rt, shared);
+    let Some(wait) = WaitNumber::new(2) else {
+        panic!(rt; "wait queue")
+    };
+    let Parts {
+        hand,
+        small,
+        large,
+        chains,
+        meters,
+        heard,
+        signals,
+    } = other.into_parts();
+    let mut gate = Sayer {
+        rt,
+        shared,
+        ends: small,
+        hand,
+        wait,
+        shuts,
+    };
+    let station = run(rt, shared, one.0, one.1, turns, &mut gate);
+    let Sayer {
+        rt: _,
+        shared: _,
+        ends,
+        hand,
+        wait: _,
+        shuts: _,
+    } = gate;
+    let parts = Parts {
+        hand,
+        small: ends,
+        large,
+        chains,
+        meters,
+        heard,
+        signals,
+    };
+    (station, Station::from_parts(parts))
+}
+
+const HEARS: &[u8] = b"synthesis 2
+pipe p 2 3
+thread a
+hear p
+";
+
+/// What there is once processor 0 had so many turns.
+fn heard_beside<R: Abort + Wait>(
+    rt: &R,
+    alloc: Global,
+    turns: u32,
+    shuts: bool,
+) -> Result<AtEnd, Fail> {
+    let plan = parse_boot(alloc, HEARS)?;
+    let (Some(p), Some(q)) = (Processor::new(0), Processor::new(1)) else {
+        panic!(rt; "processors")
+    };
+    let (shared, one, other) = stand_two(rt, alloc, plan, p, q)?;
+    let (one, other) = run_beside(rt, &shared, (one, p), other, turns, shuts);
+    let (parts, _lines) = join_two(&shared, one, other);
+    Ok(close_all(rt, shared, parts))
+}
+
+/// A line that is said behind a hear's try, and before its element waits, wakes nobody. But the ticket has moved, so the
+/// element is ready again, and hears the line in its next turn.
+#[test]
+fn said_before_the_wait(rt: HostRuntime) -> Result<(), Fail> {
+    let once = heard_beside(&rt, rt.alloc(), 1, false)?;
+    check_states(&rt, &once, &[ready(0)]);
+    assert!(rt; once.heard.len() == 0);
+    let twice = heard_beside(&rt, rt.alloc(), 2, false)?;
+    check_states(&rt, &twice, &[ended(1)]);
+    check_lines(&rt, twice.heard.as_slice(), &[(0, 0, b"z\n")]);
+    Ok(())
+}
+
+/// The same where the pipe is shut: the element hears nothing in its next turn, and its step is done.
+#[test]
+fn shut_before_the_wait(rt: HostRuntime) -> Result<(), Fail> {
+    let once = heard_beside(&rt, rt.alloc(), 1, true)?;
+    check_states(&rt, &once, &[ready(0)]);
+    let twice = heard_beside(&rt, rt.alloc(), 2, true)?;
+    check_states(&rt, &twice, &[ended(1)]);
+    assert!(rt; twice.heard.len() == 0);
+    Ok(())
+}

@@ -1,0 +1,50 @@
+//! A station where memory is refused.
+
+use super::*;
+use boot_script::ScriptRefusal;
+use std::test::*;
+
+const SAID: &[u8] = b"synthesis 1
+queue q
+thread a
+say q x
+hear q
+";
+
+/// Boots once, and says whether there was memory.
+fn boots<R: Abort + Wait>(rt: &R, alloc: Global, p: Processor) -> bool {
+    let plan = match parse_boot(alloc, SAID) {
+        Ok(plan) => plan,
+        Err(fault) => {
+            assert!(rt; fault.refusal == ScriptRefusal::OutOfMemory);
+            return false;
+        }
+    };
+    let (shared, station) = match stand(rt, alloc, plan, p) {
+        Ok(made) => made,
+        Err(error) => {
+            assert!(rt; error == OutOfMemory);
+            return false;
+        }
+    };
+    let station = run(rt, &shared, station, p, 2, &mut NoGate);
+    let ended = close_all(rt, shared, station.into_parts());
+    check_states(rt, &ended, &[at(Place::Free, 2)]);
+    assert!(rt; ended.heard.len() == 1);
+    true
+}
+
+/// Where an allocation is refused a boot has no memory, or goes on with the ends that came back; others go on.
+#[test]
+fn memory_may_be_wanting(rt: HostRuntime) {
+    let Some(p) = Processor::new(0) else {
+        panic!(rt; "processor")
+    };
+    let mut booted = 0u8;
+    for _ in 0..3u8 {
+        if boots(&rt, rt.alloc(), p) {
+            booted = booted.wrapping_add(1);
+        }
+    }
+    assert!(rt; booted >= 2);
+}

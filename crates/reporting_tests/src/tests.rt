@@ -1,0 +1,240 @@
+//! The report of hand-made closed values, as it is printed.
+
+use arrayvec::ArrayVec;
+use boot_script::{BootPlan, ScriptRefusal, parse_boot, print_report};
+use claim_queue::Closed;
+use closing::{Counts, Ended};
+use meters::Metered;
+use processor::{Heard, hears_of};
+use quaject_core::OutOfMemory;
+use reporting::*;
+use std::alloc::Global;
+use std::process::Abort;
+use std::snapshot::Snapshot;
+use std::test::*;
+use thread_table::{Place, Places};
+
+/// A script with a thing of each kind, and a thread for each place.
+const SCRIPT: &[u8] =
+    b"synthesis 3\nqueue a\npipe b 0 1\ntty t\ntype t hi\ntty u\npump p a b\nswitch s b a x a\ngauge g\ngauge h\nthread v\nsay a hi\nhear b\nhear t.line\nthread w\nhear b\nwait 9\nthread x\npass\nthread y\nthread z\nalarm 2 v 3\nalarm 5 w 4\nalarm 7 w 6";
+
+/// What is to be printed of it.
+const PRINTED: &[u8] = b"queue a put 12 taken 5 left 7
+pipe b put 3 taken 3 left 0
+tty t typed 9 overrun 2 notes 7 held 4
+tty t raw put 8 taken 6 left 2
+tty t line put 21 taken 20 left 1
+tty t screen put 41 taken 0 left 41
+tty u typed 1 overrun 0 notes 1 held 0
+tty u raw put 1 taken 0 left 1
+tty u line put 2 taken 1 left 1
+tty u screen put 4 taken 2 left 2
+pump p notes 3 taken 12 put 9 held 3
+switch s notes 2 taken 6 put 5 held 1
+gauge g 31
+gauge h 18446744073709551615
+alarms set 3 fired 2 left 1
+thread v ended 3 signals 0008
+thread w wait9 1
+thread x ready 0 signals 8001
+thread y stopped 0
+thread z held 0
+heard v 1 one\\0A
+heard v 2 \\0A
+heard w 0 two\\0A
+chained 5
+";
+
+fn plan<R: Abort>(rt: &R, alloc: Global) -> BootPlan {
+    let Ok(plan) = parse_boot(alloc, SCRIPT) else {
+        panic!(rt; "script")
+    };
+    plan
+}
+
+/// A queue that had so many items put and taken.
+fn closed<R: Abort, const N: usize>(rt: &R, put: u32, taken: u32) -> Closed<N> {
+    let mut left = ArrayVec::new();
+    for item in taken..put {
+        if left.try_push(Some(u64::from(item))).is_err() {
+            panic!(rt; "room")
+        }
+    }
+    Closed {
+        first: 0,
+        put,
+        taken,
+        left,
+    }
+}
+
+/// The numbers of a quaject.
+fn numbers(left: usize, notes: u64, taken: u64, put: u64, held: usize) -> Counts {
+    Counts {
+        chained: 0,
+        left,
+        notes,
+        taken,
+        put,
+        held,
+    }
+}
+
+fn heard<R: Abort>(rt: &R, thread: u8, step: u8, line: &[u64]) -> Heard {
+    let mut text = ArrayVec::new();
+    for item in line {
+        if text.try_push(*item).is_err() {
+            panic!(rt; "room")
+        }
+    }
+    Heard { thread, step, text }
+}
+
+fn places() -> Places {
+    let mut places = [Place::Held; 64];
+    places[0] = Place::Free;
+    places[1] = Place::Wait(9);
+    places[2] = Place::Ready;
+    places[3] = Place::Stopped;
+    places[4] = Place::Processor(1);
+    let mut pcs = [0; 64];
+    pcs[0] = 3;
+    pcs[1] = 1;
+    Places {
+        places,
+        pcs,
+        pending: [0; 64],
+        stops: 0,
+    }
+}
+
+fn metered<R: Abort>(rt: &R, plan: &BootPlan) -> Metered {
+    let mut alarms = ArrayVec::new();
+    for alarm in plan.alarms.as_slice().iter().take(1) {
+        if alarms.try_push(*alarm).is_err() {
+            panic!(rt; "room")
+        }
+    }
+    Metered {
+        gauges: [31, u64::MAX, 5, 5, 5, 5, 5, 5],
+        clock: 6,
+        alarms,
+    }
+}
+
+fn ended<R: Abort>(rt: &R, alloc: Global) -> Result<Ended, Fail> {
+    let plan = plan(rt, alloc);
+    let mut signals = [0u16; 64];
+    signals[0] = 8;
+    signals[2] = 0x8001;
+    let meters = metered(rt, &plan);
+    Ok(Ended {
+        counts: vec![in alloc;
+            numbers(1, 3, 12, 9, 3),
+            numbers(4, 2, 6, 5, 1),
+            numbers(0, 7, 100, 200, 4),
+            numbers(0, 1, 300, 400, 0),
+        ]?,
+        small: vec![in alloc;
+            closed(rt, 12, 5),
+            closed(rt, 3, 3),
+            closed(rt, 8, 6),
+            closed(rt, 1, 0),
+        ]?,
+        large: vec![in alloc;
+            closed(rt, 21, 20),
+            closed(rt, 41, 0),
+            closed(rt, 2, 1),
+            closed(rt, 4, 2),
+        ]?,
+        threads: places(),
+        meters,
+        heard: vec![in alloc;
+            heard(rt, 1, 0, &[116, 119, 111, 10]),
+            heard(rt, 0, 2, &[10]),
+            heard(rt, 0, 1, &[111, 110, 101, 10]),
+        ]?,
+        signals,
+        plan,
+        homes: Snapshot::of(&Vec::new(alloc)),
+        small_ends: Snapshot::of(&Vec::new(alloc)),
+        large_ends: Snapshot::of(&Vec::new(alloc)),
+    })
+}
+
+/// What the devices of the two ttys did.
+const TYPED: [Typed; 2] = [
+    Typed {
+        popped: 9,
+        refused: 2,
+    },
+    Typed {
+        popped: 1,
+        refused: 0,
+    },
+];
+
+/// The report of all this is printed with each number in its place, and what was heard in its order.
+#[test]
+fn reports_what_was_closed(rt: HostRuntime) -> Result<(), Fail> {
+    let ended = ended(&rt, rt.alloc())?;
+    let room = Room::new(rt.alloc(), &ended.plan)?;
+    let first = vec![in rt.alloc();
+        heard(&rt, 1, 0, &[116, 119, 111, 10]),
+        heard(&rt, 0, 2, &[10]),
+    ]?;
+    let second = vec![in rt.alloc(); heard(&rt, 0, 1, &[111, 110, 101, 10])]?;
+    if first.len() + second.len() > hears_of(&ended.plan) {
+        panic!(rt; "heard")
+    }
+    let all = vec![in rt.alloc(); first, second]?;
+    let report = report_boot(ended, all, &TYPED, room);
+    assert!(rt; live_of(&report) == 4);
+    let mut page = Vec::new(rt.alloc());
+    print_report(&report, &mut page)?;
+    assert!(rt; page.as_slice() == PRINTED);
+    Ok(())
+}
+
+/// What was heard is sorted in place, and is reported in the order in which it stands.
+#[test]
+fn sorts_what_was_heard(rt: HostRuntime) -> Result<(), Fail> {
+    let ended = ended(&rt, rt.alloc())?;
+    let lines = Lines::new(rt.alloc(), &ended.plan)?;
+    let mut lines_heard = vec![in rt.alloc();
+        heard(&rt, 1, 0, &[116, 119, 111, 10]),
+        heard(&rt, 0, 2, &[10]),
+        heard(&rt, 0, 1, &[111, 110, 101, 10]),
+    ]?;
+    sort_heard(&mut lines_heard);
+    let [first, second, third] = lines_heard.as_slice() else {
+        panic!(rt; "three")
+    };
+    assert!(rt; (first.thread, first.step) == (0, 1));
+    assert!(rt; (second.thread, second.step) == (0, 2));
+    assert!(rt; (third.thread, third.step) == (1, 0));
+    if lines_heard.len() > hears_of(&ended.plan) {
+        panic!(rt; "heard")
+    }
+    let report = make_report(ended, lines_heard, &TYPED, lines);
+    let mut page = Vec::new(rt.alloc());
+    print_report(&report, &mut page)?;
+    assert!(rt; page.as_slice() == PRINTED);
+    Ok(())
+}
+
+/// Where an allocation is refused there are no lines, and the next try has them.
+#[test]
+fn memory_may_be_wanting(rt: HostRuntime) {
+    let mut made = false;
+    for _ in 0..4u8 {
+        match parse_boot(rt.alloc(), SCRIPT) {
+            Ok(plan) => match Room::new(rt.alloc(), &plan) {
+                Ok(_) => made = true,
+                Err(error) => assert!(rt; error == OutOfMemory),
+            },
+            Err(fault) => assert!(rt; fault.refusal == ScriptRefusal::OutOfMemory),
+        }
+    }
+    assert!(rt; made);
+}

@@ -1,0 +1,52 @@
+//! Whole boots, from their scripts to their reports.
+
+mod crowds;
+mod faults;
+mod gates;
+mod memory;
+mod passes;
+mod rows;
+
+use std::alloc::Global;
+use std::process::Abort;
+use std::sync::Wait;
+use std::thread::Threads;
+use synth_kernel::*;
+
+/// How a script ends, and what it prints.
+#[derive(Clone, Copy)]
+struct Wanted<'a> {
+    ended: Ended,
+    printed: &'a [u8],
+}
+
+/// What is wanted where all threads end.
+fn all_ended(printed: &str) -> Wanted<'_> {
+    Wanted {
+        ended: Ended::AllEnded,
+        printed: printed.as_bytes(),
+    }
+}
+
+/// What is wanted where so many threads don't end.
+fn unfinished(live: usize, printed: &str) -> Wanted<'_> {
+    Wanted {
+        ended: Ended::Unfinished { live },
+        printed: printed.as_bytes(),
+    }
+}
+
+/// Asserts how a script ends that is booted on one processor with so many turns, and what it prints.
+fn assert_boot<R: Threads + Wait + Sync + Abort>(
+    rt: &R,
+    alloc: Global,
+    script: &str,
+    turns: u32,
+    wanted: Wanted<'_>,
+) {
+    let mut reader = script.as_bytes();
+    let mut output = Vec::new(alloc);
+    let answer = boot_on(rt, alloc, &mut reader, &mut output, 1, turns);
+    assert!(rt; answer == Ok(wanted.ended));
+    assert!(rt; output.as_slice() == wanted.printed);
+}

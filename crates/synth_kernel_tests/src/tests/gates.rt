@@ -1,0 +1,215 @@
+//! Processors that are held at points of their turns until others are at points of theirs.
+
+use super::*;
+use crossbeam_utils::Backoff;
+use crossbeam_utils::atomic::AtomicCell;
+use end_steps::{Gate, Point};
+use std::alloc::AllocError;
+
+/// How often a processor that is held looks whether it may go on.
+const LOOKS: u32 = 10_000_000;
+
+/// Counts in one cell how often its processor is at one point, and holds it at another until so many are counted in
+/// another cell. It gives up after many looks, and tells that.
+#[derive(Drop)]
+struct Hold<'a> {
+    counted: Point,
+    count: &'a AtomicCell<u32>,
+    held: Point,
+    awaited: &'a AtomicCell<u32>,
+    number: u32,
+    given_up: &'a AtomicCell<bool>,
+}
+
+/// Looks until so many are counted, or until it gives up, which it tells.
+fn may_go_on(awaited: &AtomicCell<u32>, number: u32) -> bool {
+    let backoff = Backoff::new();
+    for _ in 0..LOOKS {
+        if number <= awaited.load() {
+            return true;
+        }
+        backoff.snooze();
+    }
+    false
+}
+
+impl Gate for Hold<'_> {
+    ghost told = { λ old p point new. Unit {0} };
+
+    fn between(&mut self, _p: u8, point: Point) {
+        if point == self.counted {
+            self.count.fetch_add(1);
+        }
+        if point == self.held && !may_go_on(self.awaited, self.number) {
+            self.given_up.store(true);
+        }
+    }
+}
+
+/// Boots a script with a gate for each processor, and gives the answer and what is printed.
+fn boot_held<R: Threads + Wait + Sync + Abort>(
+    rt: &R,
+    alloc: Global,
+    script: &str,
+    processors: u8,
+    turns: u32,
+    gates: Vec<Hold<'_>>,
+) -> (Result<Ended, BootFault>, Vec<u8>) {
+    if processors < 1 || 8 < processors || gates.len() != processors as usize {
+        panic!(rt; "gates");
+    }
+    let mut reader = script.as_bytes();
+    let mut output = Vec::new(alloc);
+    let (input, printed) = (&mut reader, &mut output);
+    let answer = boot_on_with(rt, alloc, input, printed, processors, turns, gates);
+    (answer, output)
+}
+
+/// The gates of two processors, of which the second is held until the first is at one point, and the first is held there
+/// until the second is at another.
+fn pair<'a>(
+    alloc: Global,
+    points: (Point, Point),
+    one: &'a AtomicCell<u32>,
+    other: &'a AtomicCell<u32>,
+    given_up: &'a AtomicCell<bool>,
+) -> Result<Vec<Hold<'a>>, AllocError> {
+    let mut gates = Vec::with_capacity(alloc, 2)?;
+    gates.push(Hold {
+        counted: points.0,
+        count: one,
+        held: points.0,
+        awaited: other,
+        number: 1,
+        given_up,
+    })?;
+    gates.push(Hold {
+        counted: points.1,
+        count: other,
+        held: Point::Turn(0),
+        awaited: one,
+        number: 1,
+        given_up,
+    })?;
+    Ok(gates)
+}
+
+/// Boots a script on two processors that are held so. Gives whether all threads have ended, and what is printed.
+fn boot_pair<R: Threads + Wait + Sync + Abort>(
+    rt: &R,
+    alloc: Global,
+    script: &str,
+    turns: u32,
+    points: (Point, Point),
+) -> (bool, Vec<u8>) {
+    let given_up = AtomicCell::new(false);
+    let one = AtomicCell::new(0);
+    let other = AtomicCell::new(0);
+    let Ok(gates) = pair(alloc, points, &one, &other, &given_up) else {
+        panic!(rt; "memory")
+    };
+    let (answer, printed) = boot_held(rt, alloc, script, 2, turns, gates);
+    assert!(rt; !given_up.load());
+    assert!(rt; 1 <= one.load() && 1 <= other.load());
+    (answer == Ok(Ended::AllEnded), printed)
+}
+
+/// Asserts what is printed, where all threads have ended. Boots again, at most twice, where they have not, since a
+/// schedule may leave one behind.
+fn assert_pair<R: Threads + Wait + Sync + Abort>(
+    rt: &R,
+    alloc: Global,
+    script: &str,
+    turns: u32,
+    points: (Point, Point),
+    wanted: &str,
+) {
+    for _ in 0..3u32 {
+        let (ended, printed) = boot_pair(rt, alloc, script, turns, points);
+        if ended {
+            assert!(rt; printed.as_slice() == wanted.as_bytes());
+            return;
+        }
+    }
+    panic!(rt; "threads are left")
+}
+
+/// One processor says while the other hears: a line is claimed, a take of it is answered, and then the line is raised.
+#[test]
+fn two_processors_meet_in_a_queue(rt: HostRuntime) {
+    assert_pair(
+        &rt,
+        rt.alloc(),
+        "synthesis 1\nqueue q\nthread a\nsay q x\nthread b\nhear q\n",
+        1_000,
+        (Point::Claimed, Point::TakeAnswered),
+        "queue q put 2 taken 2 left 0\nthread a ended 1\nthread b ended 1\nheard b 0 x\\0A\nchained 0\n",
+    );
+}
+
+/// A processor that stands still at any point for a thousand turns of the other changes nothing of what is done.
+#[test]
+fn a_processor_stands_still(rt: HostRuntime) {
+    let points = [
+        Point::Claimed,
+        Point::Raised,
+        Point::Chained,
+        Point::TakeAnswered,
+    ];
+    for point in points {
+        assert_pair(
+            &rt,
+            rt.alloc(),
+            "synthesis 1\nqueue in\nqueue out\npump p in out\nthread a\nthread b\npoke p\n\
+            more a\nsay in hi\npoke p\nhear out\n",
+            2_000,
+            (point, Point::Turn(1_000)),
+            "queue in put 3 taken 3 left 0\nqueue out put 3 taken 3 left 0\n\
+            pump p notes 2 taken 3 put 3 held 0\nthread a ended 3\nthread b ended 1\n\
+            heard a 2 hi\\0A\nchained 0\n",
+        );
+    }
+}
+
+/// The gates of so many processors, each of which is held in its first turn until all have been there.
+fn meeting<'a>(
+    alloc: Global,
+    processors: u8,
+    count: &'a AtomicCell<u32>,
+    given_up: &'a AtomicCell<bool>,
+) -> Result<Vec<Hold<'a>>, AllocError> {
+    let mut gates = Vec::new(alloc);
+    for _ in 0..processors {
+        gates.push(Hold {
+            counted: Point::Turn(0),
+            count,
+            held: Point::Turn(0),
+            awaited: count,
+            number: u32::from(processors),
+            given_up,
+        })?;
+    }
+    Ok(gates)
+}
+
+/// Asserts that so many processors meet.
+fn assert_meeting<R: Threads + Wait + Sync + Abort>(rt: &R, alloc: Global, processors: u8) {
+    let given_up = AtomicCell::new(false);
+    let count = AtomicCell::new(0);
+    let Ok(gates) = meeting(alloc, processors, &count, &given_up) else {
+        panic!(rt; "memory")
+    };
+    let script = "synthesis 1\nthread a\npass\n";
+    let (answer, printed) = boot_held(rt, alloc, script, processors, 1_000, gates);
+    assert!(rt; !given_up.load());
+    assert!(rt; answer == Ok(Ended::AllEnded));
+    assert!(rt; printed.as_slice() == b"thread a ended 1\nchained 0\n".as_slice());
+}
+
+/// Each processor has a thread of its own.
+#[test]
+fn all_processors_meet(rt: HostRuntime) {
+    for processors in 2..=8u8 {
+        assert_meeting(&rt, rt.alloc(), processors);
+    }
+}

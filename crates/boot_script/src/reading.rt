@@ -17,6 +17,10 @@ const MOST_READS: u32 = 131_072;
 pub struct ReadFault;
 
 impl fmt::Display for ReadFault {
+    ghost use Rattle.std.specs.Prelude.{Some, codes};
+
+    ghost output = { λ _. Some (codes "read fault") };
+
     fn fmt<W: fmt::Write>(&self, f: &mut fmt::Formatter<W>) -> fmt::Result {
         f.write_str("read fault")
     }

@@ -41,7 +41,7 @@ pub enum ClaimRefusal {
     /// The queue is shut: the head that was loaded, or the one that the exchange found, has the shut mark.
     #[error("the queue is shut")]
     Closed,
-    /// The run would go past the last position, 4,294,967,295. Shorter runs may still fit; no position comes back.
+    /// The run would go past the last position, 4,294,967,294. Shorter runs may still fit; no position comes back.
     #[error("no positions left")]
     Spent,
     /// There was no room for the run between this head and the tail that was loaded after it: `head` and the number of

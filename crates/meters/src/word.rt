@@ -1,5 +1,5 @@
 //! The word of a slot.
-ghost use Rattle.std.specs.Prelude.{◌≡◌, ◌%◌, ◌==◌, Some, Option};
+ghost use Rattle.std.specs.Prelude.{◌≡◌, ◌%◌, ◌==◌, Some, Option, IfSome};
 ghost use Rattle.meters.specs.Words.{word_of, Fits, IsInRange};
 ghost use Rattle.quaject_core.specs.declared.alarm.Alarm.{Alarm};
 
@@ -62,19 +62,21 @@ impl AlarmWord {
         (self.bits % ELEMENT) as u32
     }
 
-    /// The alarm that stands here, which is the one that the word was made of.
+    /// The alarm that stands here, which is the one that the word was made of. None where the word is 0, and where it is
+    /// the word of no alarm.
     pub fn alarm(self) -> Option<Alarm>
-        ensures { (slot : Option Alarm) → Fits slot → self.bits ≡ word_of slot → result ≡ slot }
+        ensures stands { (slot : Option Alarm) → Fits slot → self.bits ≡ word_of slot → result ≡ slot }
+        ensures made { IfSome result (λ alarm. self.bits ≡ word_of (Some alarm)) }
     {
-        if self.is_empty() {
-            return None;
-        }
-        let element = Element::new((self.bits / ELEMENT % 256) as u8)?;
-        let signal = Signal::new((self.bits / SIGNAL % 256) as u8)?;
-        Some(Alarm {
+        let alarm = Alarm {
             due: self.due(),
-            element,
-            signal,
-        })
+            element: Element::new((self.bits / ELEMENT % 256) as u8)?,
+            signal: Signal::new((self.bits / SIGNAL % 256) as u8)?,
+        };
+        if AlarmWord::of(alarm).bits() == self.bits {
+            Some(alarm)
+        } else {
+            None
+        }
     }
 }

@@ -159,6 +159,8 @@ fn words_give_back_their_alarms(rt: HostRuntime) {
     assert!(rt; word.due() == 4_294_967_295);
     assert!(rt; !word.is_empty() && AlarmWord::from_bits(0).is_empty());
     assert!(rt; AlarmWord::from_bits(0).alarm() == None);
+    assert!(rt; AlarmWord::from_bits(7).alarm() == None);
+    assert!(rt; AlarmWord::from_bits(word.bits() + 0x0001_0000_0000_0000).alarm() == None);
 }
 
 /// Where an allocation is refused there are no meters, and a later try makes them.

@@ -131,6 +131,9 @@ posted shared p turns gate old new station low s parts room fresh = record {
   is = refl;
   usable = record { parts = parts; free = born_free p old new station.parts low s; room = room };
   fresh = fresh;
+  unmoved = (ap (λ (v : View). v.made) s.born_hand.same, ap (λ (v : View). v.held) s.born_hand.same);
+  as_moved = (ap (λ (v : View). v.made) s.hand.same, ap (λ (v : View). v.held) s.hand.same);
+  seat = s.own;
   alone = λ k below. s.born_hand.serves k below ∙ mask_bit p k low;
   none_on = ap (λ (v : View). v.on) s.born_hand.same;
   parted = parted (1 * 2 ^ p % 256) old new station.parts s;

@@ -5,7 +5,7 @@ use Rattle.boot_script.specs.declared.boot_plan.BootPlan.{BootPlan}
 use Rattle.boot_script.specs.declared.plan.PlannedThread.{PlannedThread}
 use Rattle.boot_script.specs.declared.plan.Step.{Step}
 use Rattle.boot_script.specs.Plans.{steps_in}
-use Rattle.end_steps.specs.EndLists.{lines_put_at, lines_taken_at, shuts_at, notes_put_at}
+use Rattle.end_steps.specs.EndLists.{lines_put_at, lines_taken_at, shuts_at, notes_put_at, notes_taken_at}
 use Rattle.hand_steps.specs.Tallies.{done_by, signalled_by, delivered_by, retired_by, step_by, signal_by, delivery_by, retiring_by}
 use Rattle.meters.specs.declared.ends.Meters.{Meters}
 use Rattle.meters.specs.declared.rule.View.{View as SeatView}
@@ -177,8 +177,10 @@ first_prepared plan table meters old new unused hand seat small large chains p =
       large = λ q. (ap (λ z. lines_put_at z.items q) p.large ∙ large.none_put q, ap (λ z. lines_taken_at z.items q) p.large ∙ large.none_taken q);
       large_shuts = λ q. ap (λ z. shuts_at z.items q) p.large ∙ large.none_shut q;
       chains = λ q. ap (λ z. notes_put_at z.items q) p.chains ∙ chains.none_put q;
+      ran = λ q. ap (λ z. notes_taken_at z.items q) p.chains ∙ chains.none_run q;
       ticks = ap (λ (z : Own). z.ticks) p.alarms ∙ ap (λ (z : SeatView). z.ticks) seat.knows;
       alarms = ap (λ (z : Own). z.set) p.alarms ∙ ap (λ (z : SeatView). z.set ++ plan.alarms) seat.knows;
+      advances = ap (λ (z : Own). z.advances) p.alarms ∙ ap (λ (z : SeatView). z.advances) seat.knows;
       fired = ap (λ (z : Own). z.fired) p.alarms ∙ ap (λ (z : SeatView). z.fired) seat.knows;
       cancelled = ap (λ (z : Own). z.cancelled) p.alarms ∙ ap (λ (z : SeatView). z.cancelled) seat.knows;
       signals = p.signals ∙ unused.signals;
@@ -204,8 +206,10 @@ still_prepared mask old new born s plan p =
       large = λ q. (ap (λ (z : List (List (List ℕ))). get_or z q []) s.large.puts ∙ (p.large q).0, ap (λ (z : List (List (List ℕ))). get_or z q []) s.large.takes ∙ (p.large q).1);
       large_shuts = λ q. ap (λ (z : List ℕ). get_or z q 0) s.large.shuts ∙ p.large_shuts q;
       chains = λ q. ap (λ (z : List (List (List ℕ))). get_or z q []) s.chains.puts ∙ p.chains q;
+      ran = λ q. ap (λ (z : List (List (List ℕ))). get_or z q []) s.chains.takes ∙ p.ran q;
       ticks = ap (λ (z : Own). z.ticks) s.own ∙ p.ticks;
       alarms = ap (λ (z : Own). z.set) s.own ∙ p.alarms;
+      advances = ap (λ (z : Own). z.advances) s.own ∙ p.advances;
       fired = ap (λ (z : Own). z.fired) s.own ∙ p.fired;
       cancelled = ap (λ (z : Own). z.cancelled) s.own ∙ p.cancelled;
       signals = s.signals ∙ p.signals;

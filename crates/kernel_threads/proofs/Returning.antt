@@ -7,6 +7,7 @@ use Rattle.boot_script.specs.declared.boot_plan.BootPlan.{BootPlan}
 use Rattle.boot_script.specs.declared.plan.PlannedTty.{PlannedTty}
 use Rattle.boot_script.specs.QueueLists.{raw_queue}
 use Rattle.closing.specs.RawEnds.{IsRawAt}
+use Rattle.end_steps.specs.declared.gate.Point.{Point}
 use Rattle.proc_chain.specs.declared.ends.ProcChain.{ProcChain}
 use Rattle.proc_chain.specs.Handles.{IsEndOf}
 use Rattle.quajects.specs.declared.any.AnyQuaject.{AnyQuaject}
@@ -111,10 +112,10 @@ pub still_line : (i i' : LineIn) (o o' : LineOut) → IsLine i o → SameIn i i'
 still_line i i' o o' line a b =
     let x = a.0 in let y = b.0 in (y.0 ∙ line.0 ∙ sym x.0, y.1 ∙ line.1 ∙ sym x.1, y.2 ∙ line.2 ∙ sym x.2, y.3 ∙ line.3 ∙ sym x.3)
 
-gave_served : (G : Type 0) (shared : Shared) (chain count : ℕ) (line : LineOut) (tty : RawTty) (back : Worked) → HasWorked {G = G} shared (works.Serve chain line tty count) back
+gave_served : (G : Type 0) (T : G → ℕ → Point → G → Type 0) (shared : Shared) (chain count : ℕ) (line : LineOut) (tty : RawTty) (back : Worked) → HasWorked T shared (works.Serve chain line tty count) back
     → (line' : LineOut) × (tty' : RawTty) × (back ≡ worked.Served line' tty') × HasServed shared chain count line tty line' tty'
-gave_served G shared chain count line tty (worked.Processed station) h = absurd h
-gave_served G shared chain count line tty (worked.Served line' tty') h = (line', tty', refl, h)
+gave_served G T shared chain count line tty (worked.Processed station) h = absurd h
+gave_served G T shared chain count line tty (worked.Served line' tty') h = (line', tty', refl, h)
 
 pub short : (plan : BootPlan) (t : ℕ) (p : PlannedTty) → slice_get plan.ttys t ≡ Some p → length p.typed < 2 ^ 64
 short plan t p at =
@@ -133,14 +134,14 @@ raws_at shared t count device line tty d s = (
   },
 )
 
-pub device_back : {G : Type 0} (shared : Shared) (devices : List Device) (posts ws : List (Work G)) (backs : List (Option Worked)) (inputs : List LineIn)
-    → AreDevicesOf shared.plan shared.queues shared.chains.items devices → AreServing shared.plan.ttys devices posts ws → AllZip (GaveBack HasWorked shared) ws backs
+pub device_back : {G : Type 0} (T : G → ℕ → Point → G → Type 0) (shared : Shared) (devices : List Device) (posts ws : List (Work G)) (backs : List (Option Worked)) (inputs : List LineIn)
+    → AreDevicesOf shared.plan shared.queues shared.chains.items devices → AreServing shared.plan.ttys devices posts ws → AllZip (GaveBack (HasWorked T) shared) ws backs
     → AreTyped shared.plan.ttys (drop (length posts) backs) (map input_of devices) inputs
     → (t : ℕ) (p : PlannedTty) (device : Device) (input : LineIn) (back : Worked) → slice_get shared.plan.ttys t ≡ Some p → slice_get devices t ≡ Some device → slice_get inputs t ≡ Some input
     → slice_get backs (length posts + t) ≡ Some (Some back) → (line : LineOut) × (tty : RawTty) × (back ≡ worked.Served line tty) × IsDeviceBack shared t p device input line tty
-device_back {G} shared devices posts ws backs inputs all serving gave typed t p device input back at at' at'' its =
-    let one = served_at (GaveBack (HasWorked {G = G}) shared) shared.plan.ttys devices posts ws backs t p device (Some back) serving gave at at' its in
-    let s = gave_served G shared device.chain (length p.typed) device.output device.tty back one in
+device_back {G} T shared devices posts ws backs inputs all serving gave typed t p device input back at at' at'' its =
+    let one = served_at (GaveBack (HasWorked T) shared) shared.plan.ttys devices posts ws backs t p device (Some back) serving gave at at' its in
+    let s = gave_served G T shared device.chain (length p.typed) device.output device.tty back one in
     let d : IsDeviceOf shared.plan shared.queues shared.chains.items t device = all.each t device at' in
     let sent : IsTyped (Some back) p device.input input = typed_at shared.plan.ttys (drop (length posts) backs) devices inputs t p back device input typed at (get_dropped backs (length posts) t ∙ its) at' at'' in (
       s.0,

@@ -4,6 +4,7 @@ use Rattle.std.specs.List.{AllZip}
 use mathlib.Core.Logic.{dite}
 use native.Mathlib.Decide.{dec_lt}
 use Rattle.end_steps.specs.EndLists.{share_at, chain_share_at}
+use Rattle.end_steps.specs.declared.gate.Point.{Point}
 use Rattle.hand_steps.specs.Holdings.{IsFree}
 use Rattle.meters.specs.Own.{Own}
 use Rattle.processor.specs.declared.shared.Shared.{Shared}
@@ -22,53 +23,66 @@ use Rattle.kernel_threads.specs.declared.work.Work.{Work}
 use Rattle.kernel_threads.specs.Backs.{CameTogether, back_of, parts_of}
 use Rattle.kernel_threads.specs.Crews.{GaveBack}
 use Rattle.kernel_threads.specs.Stationings.{NoneOn, AreParted, IsPosted, ArePosted, hand_share, seat_share}
-use Rattle.kernel_threads.specs.Works.{HasWorked, HasRun}
+use Rattle.kernel_threads.specs.Works.{HasWorked, HasRun, AllToldTurns}
 
 -- what a processor gave back, by the work that it was told
-ran : (G : Type 0) (shared : Shared) (p turns : ℕ) (gate : G) (old new : Parts) (work : Work G) (posted : IsPosted shared p turns gate old new work) (back : Station)
-    → GaveBack (HasWorked {G = G}) shared work (back_of back) → HasRun shared p turns posted.station back
-ran G shared p turns gate old new work posted back gave = subst (λ (w : Work G). GaveBack (HasWorked {G = G}) shared w (back_of back)) posted.is gave
+ran : (G : Type 0) (T : G → ℕ → Point → G → Type 0) (shared : Shared) (p turns : ℕ) (gate : G) (old new : Parts) (work : Work G) (posted : IsPosted shared p turns gate old new work) (back : Station)
+    → GaveBack (HasWorked T) shared work (back_of back) → HasRun T shared p turns gate posted.station back
+ran G T shared p turns gate old new work posted back gave = subst (λ (w : Work G). GaveBack (HasWorked T) shared w (back_of back)) posted.is gave
 
 -- THEIR LOGS
 
-logs_of : (G : Type 0) (shared : Shared) (p turns : ℕ) (gates : List G) (old new : Parts) (posts : List (Work G)) (stations : List Station)
-    → ArePosted shared p turns gates old new posts → AllZip (GaveBack (HasWorked {G = G}) shared) posts (map back_of stations) → (logs : List (List Entry)) × AllZip (Leaves shared.plan) logs (map parts_of stations)
-logs_of G shared p turns [] old new [] [] a z = ([], tt)
-logs_of G shared p turns [] old new [] (s ∷ stations) a z = absurd z
-logs_of G shared p turns [] old new (w ∷ posts) stations a z = absurd a
-logs_of G shared p turns (g ∷ gates) old new [] stations a z = absurd a
-logs_of G shared p turns (g ∷ gates) old new (w ∷ posts) [] a z = absurd z
-logs_of G shared p turns (g ∷ gates) old new (w ∷ posts) (s ∷ stations) a z =
-    let run = ran G shared p turns g old a.0 w a.1 s z.0 in
+logs_of : (G : Type 0) (T : G → ℕ → Point → G → Type 0) (shared : Shared) (p turns : ℕ) (gates : List G) (old new : Parts) (posts : List (Work G)) (stations : List Station)
+    → ArePosted shared p turns gates old new posts → AllZip (GaveBack (HasWorked T) shared) posts (map back_of stations) → (logs : List (List Entry)) × AllZip (Leaves shared.plan) logs (map parts_of stations)
+logs_of G T shared p turns [] old new [] [] a z = ([], tt)
+logs_of G T shared p turns [] old new [] (s ∷ stations) a z = absurd z
+logs_of G T shared p turns [] old new (w ∷ posts) stations a z = absurd a
+logs_of G T shared p turns (g ∷ gates) old new [] stations a z = absurd a
+logs_of G T shared p turns (g ∷ gates) old new (w ∷ posts) [] a z = absurd z
+logs_of G T shared p turns (g ∷ gates) old new (w ∷ posts) (s ∷ stations) a z =
+    let run = ran G T shared p turns g old a.0 w a.1 s z.0 in
     let mine = run.leaves a.1.fresh in
-    let rest = logs_of G shared (p + 1) turns gates a.0 new posts stations a.2 z.1 in
+    let rest = logs_of G T shared (p + 1) turns gates a.0 new posts stations a.2 z.1 in
     (mine.log ∷ rest.0, (mine.its, rest.1))
+
+-- THEIR GATES
+
+pub gates_told : (G : Type 0) (T : G → ℕ → Point → G → Type 0) (shared : Shared) (p turns : ℕ) (gates : List G) (old new : Parts) (posts : List (Work G)) (stations : List Station)
+    → ArePosted shared p turns gates old new posts → AllZip (GaveBack (HasWorked T) shared) posts (map back_of stations) → AllToldTurns T p turns gates
+gates_told G T shared p turns [] old new posts stations a z = tt
+gates_told G T shared p turns (g ∷ gates) old new [] stations a z = absurd a
+gates_told G T shared p turns (g ∷ gates) old new (w ∷ posts) [] a z = absurd z
+gates_told G T shared p turns (g ∷ gates) old new (w ∷ posts) (s ∷ stations) a z =
+    let run = ran G T shared p turns g old a.0 w a.1 s z.0 in (
+      record { shared = shared; old = a.1.station.parts; new = s.parts; after = run.gate_after; told = run.told },
+      gates_told G T shared (p + 1) turns gates a.0 new posts stations a.2 z.1,
+    )
 
 -- THEIR SHARES
 
 -- a share that is parted, kept over a run, and added by a join
-record IsShare (f : Parts → ℕ) : Type 0 where
+record IsShare (G : Type 0) (T : G → ℕ → Point → G → Type 0) (f : Parts → ℕ) : Type 0 where
   parted : (old new born : Parts) → AreParted old new born → f old ≡ f new + f born
-  kept : (shared : Shared) (p turns : ℕ) (station back : Station) → HasRun shared p turns station back → f back.parts ≡ f station.parts
+  kept : (shared : Shared) (p turns : ℕ) (gate : G) (station back : Station) → HasRun T shared p turns gate station back → f back.parts ≡ f station.parts
   joined : (a b c : Parts) → AreJoined a b c → f c ≡ f a + f b
 
-module _ (f : Parts → ℕ) (is : IsShare f) where
+module _ (G : Type 0) (T : G → ℕ → Point → G → Type 0) (f : Parts → ℕ) (is : IsShare G T f) where
   abbrev total : List Station → ℕ
   total [] = 0
   total (s ∷ stations) = f s.parts + total stations
 
-  given_away : (G : Type 0) (shared : Shared) (p turns : ℕ) (gates : List G) (old new : Parts) (posts : List (Work G)) (stations : List Station)
-      → ArePosted shared p turns gates old new posts → AllZip (GaveBack (HasWorked {G = G}) shared) posts (map back_of stations) → f old ≡ f new + total stations
-  given_away G shared p turns [] old new [] [] a z = let e : f new ≡ f old = ap f a in omega arith
-  given_away G shared p turns [] old new [] (s ∷ stations) a z = absurd z
-  given_away G shared p turns [] old new (w ∷ posts) stations a z = absurd a
-  given_away G shared p turns (g ∷ gates) old new [] stations a z = absurd a
-  given_away G shared p turns (g ∷ gates) old new (w ∷ posts) [] a z = absurd z
-  given_away G shared p turns (g ∷ gates) old new (w ∷ posts) (s ∷ stations) a z =
-      let run = ran G shared p turns g old a.0 w a.1 s z.0 in
+  given_away : (shared : Shared) (p turns : ℕ) (gates : List G) (old new : Parts) (posts : List (Work G)) (stations : List Station)
+      → ArePosted shared p turns gates old new posts → AllZip (GaveBack (HasWorked T) shared) posts (map back_of stations) → f old ≡ f new + total stations
+  given_away shared p turns [] old new [] [] a z = let e : f new ≡ f old = ap f a in omega arith
+  given_away shared p turns [] old new [] (s ∷ stations) a z = absurd z
+  given_away shared p turns [] old new (w ∷ posts) stations a z = absurd a
+  given_away shared p turns (g ∷ gates) old new [] stations a z = absurd a
+  given_away shared p turns (g ∷ gates) old new (w ∷ posts) [] a z = absurd z
+  given_away shared p turns (g ∷ gates) old new (w ∷ posts) (s ∷ stations) a z =
+      let run = ran G T shared p turns g old a.0 w a.1 s z.0 in
       let x = is.parted old a.0 a.1.station.parts a.1.parted in
-      let y = is.kept shared p turns a.1.station s run in
-      let rest = given_away G shared (p + 1) turns gates a.0 new posts stations a.2 z.1 in
+      let y = is.kept shared p turns g a.1.station s run in
+      let rest = given_away shared (p + 1) turns gates a.0 new posts stations a.2 z.1 in
       omega arith
 
   taken_in : (first : Parts) (stations : List Station) (last : Parts) → AllJoined first (map parts_of stations) last → f last ≡ f first + total stations
@@ -78,48 +92,48 @@ module _ (f : Parts → ℕ) (is : IsShare f) where
       let rest = taken_in j.0 stations last j.2 in
       omega arith
 
-  same_share : (G : Type 0) (shared : Shared) (turns : ℕ) (gates : List G) (old new last : Parts) (posts : List (Work G)) (stations : List Station)
-      → ArePosted shared 0 turns gates old new posts → AllZip (GaveBack (HasWorked {G = G}) shared) posts (map back_of stations) → AllJoined new (map parts_of stations) last → f last ≡ f old
-  same_share G shared turns gates old new last posts stations a z j =
-      let x = given_away G shared 0 turns gates old new posts stations a z in
+  same_share : (shared : Shared) (turns : ℕ) (gates : List G) (old new last : Parts) (posts : List (Work G)) (stations : List Station)
+      → ArePosted shared 0 turns gates old new posts → AllZip (GaveBack (HasWorked T) shared) posts (map back_of stations) → AllJoined new (map parts_of stations) last → f last ≡ f old
+  same_share shared turns gates old new last posts stations a z j =
+      let x = given_away shared 0 turns gates old new posts stations a z in
       let y = taken_in new stations last j in
       omega arith
 
 at_place : (xs ys : List ℕ) (q : ℕ) → ys ≡ xs → get_or ys q 0 ≡ get_or xs q 0
 at_place xs ys q same = ap (λ (z : List ℕ). get_or z q 0) same
 
-hand_is : IsShare hand_share
-hand_is = record {
+hand_is : (G : Type 0) (T : G → ℕ → Point → G → Type 0) → IsShare G T hand_share
+hand_is G T = record {
   parted = λ old new born p. p.hand;
-  kept = λ shared p turns s b h. h.share;
+  kept = λ shared p turns g s b h. h.share;
   joined = λ a b c j. ap (λ (m : Member). m.share) j.hand.member.same;
 }
 
-small_is : (q : ℕ) → IsShare (λ (parts : Parts). share_at parts.small.items q)
-small_is q = record {
+small_is : (G : Type 0) (T : G → ℕ → Point → G → Type 0) (q : ℕ) → IsShare G T (λ (parts : Parts). share_at parts.small.items q)
+small_is G T q = record {
   parted = λ old new born p. p.small q;
-  kept = λ shared p turns s b h. at_place _ _ q h.logged.its.small.shares;
+  kept = λ shared p turns g s b h. at_place _ _ q h.logged.its.small.shares;
   joined = λ a b c j. j.small.shares q;
 }
 
-large_is : (q : ℕ) → IsShare (λ (parts : Parts). share_at parts.large.items q)
-large_is q = record {
+large_is : (G : Type 0) (T : G → ℕ → Point → G → Type 0) (q : ℕ) → IsShare G T (λ (parts : Parts). share_at parts.large.items q)
+large_is G T q = record {
   parted = λ old new born p. p.large q;
-  kept = λ shared p turns s b h. at_place _ _ q h.logged.its.large.shares;
+  kept = λ shared p turns g s b h. at_place _ _ q h.logged.its.large.shares;
   joined = λ a b c j. j.large.shares q;
 }
 
-chains_are : (q : ℕ) → IsShare (λ (parts : Parts). chain_share_at parts.chains.items q)
-chains_are q = record {
+chains_are : (G : Type 0) (T : G → ℕ → Point → G → Type 0) (q : ℕ) → IsShare G T (λ (parts : Parts). chain_share_at parts.chains.items q)
+chains_are G T q = record {
   parted = λ old new born p. p.chains q;
-  kept = λ shared p turns s b h. at_place _ _ q h.logged.its.chains.shares;
+  kept = λ shared p turns g s b h. at_place _ _ q h.logged.its.chains.shares;
   joined = λ a b c j. j.chains.shares q;
 }
 
-seat_is : IsShare seat_share
-seat_is = record {
+seat_is : (G : Type 0) (T : G → ℕ → Point → G → Type 0) → IsShare G T seat_share
+seat_is G T = record {
   parted = λ old new born p. p.meters;
-  kept = λ shared p turns s b h. ap (λ (o : Own). o.share) h.logged.its.meters;
+  kept = λ shared p turns g s b h. ap (λ (o : Own). o.share) h.logged.its.meters;
   joined = λ a b c j. ap (λ (o : Own). o.share) j.own;
 }
 
@@ -140,18 +154,18 @@ serves_on : (first : Parts) (stations : List Station) (last : Parts) (k : ℕ) �
 serves_on first [] last k j h = subst (λ (z : Parts). Serves z k) (sym j) h
 serves_on first (s ∷ stations) last k j h = serves_on j.0 stations last k j.2 (j.1.hand.serves k ∙ or_left _ _ h)
 
-each_served : (G : Type 0) (shared : Shared) (p turns : ℕ) (gates : List G) (old new first last : Parts) (posts : List (Work G)) (stations : List Station) (k : ℕ)
-    → ArePosted shared p turns gates old new posts → AllZip (GaveBack (HasWorked {G = G}) shared) posts (map back_of stations) → AllJoined first (map parts_of stations) last
+each_served : (G : Type 0) (T : G → ℕ → Point → G → Type 0) (shared : Shared) (p turns : ℕ) (gates : List G) (old new first last : Parts) (posts : List (Work G)) (stations : List Station) (k : ℕ)
+    → ArePosted shared p turns gates old new posts → AllZip (GaveBack (HasWorked T) shared) posts (map back_of stations) → AllJoined first (map parts_of stations) last
     → p ≤ k → k < p + length gates → Serves last k
-each_served G shared p turns [] old new first last [] [] k a z j low high = absurd (omega arith)
-each_served G shared p turns [] old new first last [] (s ∷ stations) k a z j low high = absurd z
-each_served G shared p turns [] old new first last (w ∷ posts) stations k a z j low high = absurd a
-each_served G shared p turns (g ∷ gates) old new first last [] stations k a z j low high = absurd a
-each_served G shared p turns (g ∷ gates) old new first last (w ∷ posts) [] k a z j low high = absurd z
-each_served G shared p turns (g ∷ gates) old new first last (w ∷ posts) (s ∷ stations) k a z j low high = dite (dec_lt p k)
-    (λ past. each_served G shared (p + 1) turns gates a.0 new j.0 last posts stations k a.2 z.1 j.2 (omega arith) (omega arith))
+each_served G T shared p turns [] old new first last [] [] k a z j low high = absurd (omega arith)
+each_served G T shared p turns [] old new first last [] (s ∷ stations) k a z j low high = absurd z
+each_served G T shared p turns [] old new first last (w ∷ posts) stations k a z j low high = absurd a
+each_served G T shared p turns (g ∷ gates) old new first last [] stations k a z j low high = absurd a
+each_served G T shared p turns (g ∷ gates) old new first last (w ∷ posts) [] k a z j low high = absurd z
+each_served G T shared p turns (g ∷ gates) old new first last (w ∷ posts) (s ∷ stations) k a z j low high = dite (dec_lt p k)
+    (λ past. each_served G T shared (p + 1) turns gates a.0 new j.0 last posts stations k a.2 z.1 j.2 (omega arith) (omega arith))
     (λ no. let here : p ≡ k = omega arith in
-    let run = ran G shared p turns g old a.0 w a.1 s z.0 in
+    let run = ran G T shared p turns g old a.0 w a.1 s z.0 in
     serves_on j.0 stations last k j.2 (j.1.hand.serves k ∙ or_right _ _ (subst (λ (z : ℕ). Serves s.parts z) here run.usable.free.0)))
 
 -- WHAT STANDS ON THEM
@@ -159,37 +173,37 @@ each_served G shared p turns (g ∷ gates) old new first last (w ∷ posts) (s �
 none_either : (xs ys : List (Option ℕ)) → xs ≡ nothing_on → ys ≡ nothing_on → either_on xs ys ≡ nothing_on
 none_either xs ys a b = ap (λ (z : List (Option ℕ)). either_on z ys) a ∙ ap (either_on nothing_on) b
 
-none_after : (G : Type 0) (shared : Shared) (p turns : ℕ) (gates : List G) (old new first last : Parts) (posts : List (Work G)) (stations : List Station)
-    → ArePosted shared p turns gates old new posts → AllZip (GaveBack (HasWorked {G = G}) shared) posts (map back_of stations) → AllJoined first (map parts_of stations) last
+none_after : (G : Type 0) (T : G → ℕ → Point → G → Type 0) (shared : Shared) (p turns : ℕ) (gates : List G) (old new first last : Parts) (posts : List (Work G)) (stations : List Station)
+    → ArePosted shared p turns gates old new posts → AllZip (GaveBack (HasWorked T) shared) posts (map back_of stations) → AllJoined first (map parts_of stations) last
     → NoneOn first → NoneOn last
-none_after G shared p turns [] old new first last [] [] a z j none = subst NoneOn (sym j) none
-none_after G shared p turns [] old new first last [] (s ∷ stations) a z j none = absurd z
-none_after G shared p turns [] old new first last (w ∷ posts) stations a z j none = absurd a
-none_after G shared p turns (g ∷ gates) old new first last [] stations a z j none = absurd a
-none_after G shared p turns (g ∷ gates) old new first last (w ∷ posts) [] a z j none = absurd z
-none_after G shared p turns (g ∷ gates) old new first last (w ∷ posts) (s ∷ stations) a z j none =
-    let run = ran G shared p turns g old a.0 w a.1 s z.0 in
-    none_after G shared (p + 1) turns gates a.0 new j.0 last posts stations a.2 z.1 j.2
+none_after G T shared p turns [] old new first last [] [] a z j none = subst NoneOn (sym j) none
+none_after G T shared p turns [] old new first last [] (s ∷ stations) a z j none = absurd z
+none_after G T shared p turns [] old new first last (w ∷ posts) stations a z j none = absurd a
+none_after G T shared p turns (g ∷ gates) old new first last [] stations a z j none = absurd a
+none_after G T shared p turns (g ∷ gates) old new first last (w ∷ posts) [] a z j none = absurd z
+none_after G T shared p turns (g ∷ gates) old new first last (w ∷ posts) (s ∷ stations) a z j none =
+    let run = ran G T shared p turns g old a.0 w a.1 s z.0 in
+    none_after G T shared (p + 1) turns gates a.0 new j.0 last posts stations a.2 z.1 j.2
     (ap (λ (v : View). v.on) j.1.hand.same ∙ none_either _ _ none (run.on ∙ a.1.none_on))
 
-pub came_together : {G : Type 0} (shared : Shared) (turns : ℕ) (gates : List G) (old new last : Parts) (posts : List (Work G)) (stations : List Station)
-    → ArePosted shared 0 turns gates old new posts → AllZip (GaveBack HasWorked shared) posts (map back_of stations) → AllJoined new (map parts_of stations) last
+pub came_together : {G : Type 0} (T : G → ℕ → Point → G → Type 0) (shared : Shared) (turns : ℕ) (gates : List G) (old new last : Parts) (posts : List (Work G)) (stations : List Station)
+    → ArePosted shared 0 turns gates old new posts → AllZip (GaveBack (HasWorked T) shared) posts (map back_of stations) → AllJoined new (map parts_of stations) last
     → NoneOn new → ((k : ℕ) → length gates ≤ k → k < 8 → IsFree k (threads.view_of new.hand)) → CameTogether shared old last (map parts_of stations)
-came_together {G} shared turns gates old new last posts stations a z j none free =
-    let logs = logs_of G shared 0 turns gates old new posts stations a z in
-    let empty : NoneOn last = none_after G shared 0 turns gates old new new last posts stations a z j none in record {
+came_together {G} T shared turns gates old new last posts stations a z j none free =
+    let logs = logs_of G T shared 0 turns gates old new posts stations a z in
+    let empty : NoneOn last = none_after G T shared 0 turns gates old new new last posts stations a z j none in record {
       logs = logs.0;
       left = logs.1;
       shares = record {
-        hand = same_share hand_share hand_is G shared turns gates old new last posts stations a z j;
-        small = λ q. same_share (λ (parts : Parts). share_at parts.small.items q) (small_is q) G shared turns gates old new last posts stations a z j;
-        large = λ q. same_share (λ (parts : Parts). share_at parts.large.items q) (large_is q) G shared turns gates old new last posts stations a z j;
-        chains = λ q. same_share (λ (parts : Parts). chain_share_at parts.chains.items q) (chains_are q) G shared turns gates old new last posts stations a z j;
-        meters = same_share seat_share seat_is G shared turns gates old new last posts stations a z j;
+        hand = same_share G T hand_share (hand_is G T) shared turns gates old new last posts stations a z j;
+        small = λ q. same_share G T (λ (parts : Parts). share_at parts.small.items q) (small_is G T q) shared turns gates old new last posts stations a z j;
+        large = λ q. same_share G T (λ (parts : Parts). share_at parts.large.items q) (large_is G T q) shared turns gates old new last posts stations a z j;
+        chains = λ q. same_share G T (λ (parts : Parts). chain_share_at parts.chains.items q) (chains_are G T q) shared turns gates old new last posts stations a z j;
+        meters = same_share G T seat_share (seat_is G T) shared turns gates old new last posts stations a z j;
       };
       free = λ p low. (
         dite (dec_lt p (length gates))
-            (λ posted. each_served G shared 0 turns gates old new new last posts stations p a z j (omega arith) (omega arith))
+            (λ posted. each_served G T shared 0 turns gates old new new last posts stations p a z j (omega arith) (omega arith))
             (λ rest. serves_on new stations last p j (free p (omega arith) low).0),
         ap (λ (xs : List (Option ℕ)). get_or xs p None) empty ∙ get_or-copies 8 None p,
       );

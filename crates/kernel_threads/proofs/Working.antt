@@ -1,5 +1,6 @@
 -- What a device gives back keeps what its work promises.
 use Rattle.std.proofs.Common.{◌≡◌, ℕ, zero, suc, false, List, [], ◌∷◌, get_or, slice_get, Some, sym, subst, ◌∙◌}
+use Rattle.end_steps.specs.declared.gate.Point.{Point}
 use Rattle.proc_chain.specs.declared.ends.ProcChain.{ProcChain}
 use Rattle.proc_chain.specs.Handles.{turn_of, IsEndOf}
 use Rattle.processor.specs.declared.shared.Shared.{Shared}
@@ -21,12 +22,12 @@ there [] i x y at is = absurd (cc)
 there (z ∷ xs) zero x y at is = let e : z ≡ x = cc in is ∙ e
 there (z ∷ xs) (suc i) x y at is = there xs i x y at is
 
-pub served_so : {G : Type 0} (shared : Shared) (work : Work G) (chain count : ℕ) (line line' : LineOut) (tty tty' : RawTty) (its : ProcChain AnyQuaject Queues)
+pub served_so : {G : Type 0} (T : G → ℕ → Point → G → Type 0) (shared : Shared) (work : Work G) (chain count : ℕ) (line line' : LineOut) (tty tty' : RawTty) (its : ProcChain AnyQuaject Queues)
     → work ≡ works.Serve chain line tty count → MayWork shared work → its ≡ get_or shared.chains.items chain its
     → SameOut line line' → tty'.index ≡ tty.index → IsEndAt shared.queues.small.items tty'.index (end_of tty') → IsEndOf its tty'.chain → turn_of tty'.chain ≡ false
-    → Served its count line tty line' tty' → HasWorked shared work (worked.Served line' tty')
-served_so {G} shared work chain count line line' tty tty' its is may at same index raw ends idle served =
-    subst (λ (w : Work G). HasWorked shared w (worked.Served line' tty')) (sym is) (by (subst (λ (w : Work G). MayWork shared w) is may))
+    → Served its count line tty line' tty' → HasWorked T shared work (worked.Served line' tty')
+served_so {G} T shared work chain count line line' tty tty' its is may at same index raw ends idle served =
+    subst (λ (w : Work G). HasWorked T shared w (worked.Served line' tty')) (sym is) (by (subst (λ (w : Work G). MayWork shared w) is may))
   where
     by : IsServable shared chain tty → HasServed shared chain count line tty line' tty'
     by m = let e : its ≡ m.its = there shared.chains.items chain m.its its m.is at in record {

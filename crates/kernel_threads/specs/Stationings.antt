@@ -2,12 +2,13 @@
 use Rattle.std.specs.Prelude.{◌≡◌, ℕ, ◌+◌, ◌*◌, ◌<◌, ◌≤◌, ◌==◌, List, [], ◌∷◌, length}
 use Rattle.end_steps.specs.EndLists.{share_at, chain_share_at}
 use Rattle.meters.specs.Handles as seats
+use Rattle.meters.specs.Own.{DidSplit}
 use Rattle.processor.specs.declared.shared.Shared.{Shared}
 use Rattle.processor.specs.declared.station.Parts.{Parts}
 use Rattle.processor.specs.declared.station.Station.{Station}
 use Rattle.processor.specs.Logs.{IsFresh}
 use Rattle.thread_table.specs.Handles as threads
-use Rattle.thread_table.specs.Rules.{serves, nothing_on}
+use Rattle.thread_table.specs.Rules.{serves, nothing_on, nothing_held}
 use Rattle.kernel_threads.specs.declared.work.Work.{Work}
 use Rattle.kernel_threads.specs.declared.work.Work.TheVariants as works
 use Rattle.kernel_threads.specs.Works.{IsUsable}
@@ -40,14 +41,26 @@ pub record AreParted (old new born : Parts) : Type 0 where
 abbrev pub NoneOn : Parts → Type 0
 NoneOn parts = (threads.view_of parts.hand).on ≡ nothing_on
 
--- the work of a processor on a station that has done nothing yet, of which the first has given a part: it serves this
--- processor alone
+-- the hand has made no event and holds no element
+abbrev pub IsUnmoved : Parts → Type 0
+IsUnmoved parts = ((threads.view_of parts.hand).made ≡ []) × ((threads.view_of parts.hand).held ≡ nothing_held)
+
+-- the hand has made no event more, and holds what it held
+abbrev pub IsAsMoved : Parts → Parts → Type 0
+IsAsMoved old new = ((threads.view_of new.hand).made ≡ (threads.view_of old.hand).made)
+    × ((threads.view_of new.hand).held ≡ (threads.view_of old.hand).held)
+
+-- the work of a processor on a station that has done nothing yet, of which the first has given a part and has done
+-- nothing else: it serves this processor alone
 pub record IsPosted {G : Type 0} (shared : Shared) (p turns : ℕ) (gate : G) (old new : Parts) (work : Work G)
     : Type 0 where
   pub station : Station
   pub is : work ≡ works.Process station p turns gate
   pub usable : IsUsable shared p station
   pub fresh : IsFresh station.parts
+  pub unmoved : IsUnmoved station.parts
+  pub as_moved : IsAsMoved old new
+  pub seat : DidSplit (seats.view_of old.meters) (seats.view_of new.meters)
   pub alone : (k : ℕ) → k < 8 → serves (threads.view_of station.parts.hand) k ≡ (k == p)
   pub none_on : NoneOn station.parts
   pub parted : AreParted old new station.parts

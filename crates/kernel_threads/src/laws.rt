@@ -38,6 +38,8 @@ ghost use Rattle.kernel_threads.specs.Stationings.{CanSplit, NoneOn, ArePosted};
 ghost use Rattle.kernel_threads.specs.Typings.{AreTyped};
 ghost use Rattle.kernel_threads.specs.Works.{MayWork, HasWorked};
 
+use end_steps::Gate;
+
 /// The first station of new objects, once it is prepared, is as the report of a boot asks: all free elements were
 /// taken, those that were freed again have no program, the plan's alarms were set, and nothing else was done.
 pub fn first_is_prepared()
@@ -91,11 +93,11 @@ pub fn all_is_served()
 /// Where the works of new objects' devices stand behind the others, and the bytes of each tty were typed, the device of
 /// each tty that gave anything back served its tty, and its ends have the shares that they had; and once its line is
 /// finished, all that the plan types was served.
-pub fn devices_come_back<G>()
+pub fn devices_come_back<G: Gate>()
     ensures { (shared : Shared) (devices : List Device) (posts works : List (Work G))
         (backs : List (Option Worked)) (inputs : List LineIn)
         → AreDevicesOf shared.plan shared.queues shared.chains.items devices
-        → AreServing shared.plan.ttys devices posts works → AllZip (GaveBack HasWorked shared) works backs
+        → AreServing shared.plan.ttys devices posts works → AllZip (GaveBack (HasWorked G.told) shared) works backs
         → AreTyped shared.plan.ttys (drop (length posts) backs) (map input_of devices) inputs
         → (t : ℕ) (p : PlannedTty) (device : Device) (input : LineIn) (back : Worked)
         → slice_get shared.plan.ttys t ≡ Some p → slice_get devices t ≡ Some device
@@ -106,11 +108,11 @@ pub fn devices_come_back<G>()
 
 /// Where each processor gave its station back, each left on it what its log says; and once all stations are joined to
 /// what the first had kept, that has the shares again that it had, and serves all processors, on which nothing stands.
-pub fn stations_come_together<G>()
+pub fn stations_come_together<G: Gate>()
     ensures { (shared : Shared) (turns : ℕ) (gates : List G) (old new last : Parts) (posts works : List (Work G))
         (devices : List Device) (backs : List (Option Worked)) (stations : List Station)
         → ArePosted shared 0 turns gates old new posts → AreServing shared.plan.ttys devices posts works
-        → AllZip (GaveBack HasWorked shared) works backs → take (length posts) backs ≡ map back_of stations
+        → AllZip (GaveBack (HasWorked G.told) shared) works backs → take (length posts) backs ≡ map back_of stations
         → AllJoined new (map parts_of stations) last → NoneOn new
         → ((k : ℕ) → length gates ≤ k → k < 8 → IsFree k (view_of new.hand))
         → CameTogether shared old last (map parts_of stations) }

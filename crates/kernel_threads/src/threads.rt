@@ -70,7 +70,7 @@ where
     requires handles { (handles.items ≡ []) × (vec_len works ≤ vec_capacity handles) }
     requires backs { (backs.items ≡ []) × (vec_len works ≤ vec_capacity backs) }
     requires room { (typed.items ≡ []) × (vec_len lines ≤ vec_capacity typed) }
-    ensures worked { AllZip (GaveBack HasWorked shared.now) works.items result.0.items }
+    ensures worked { AllZip (GaveBack (HasWorked G.told) shared.now) works.items result.0.items }
     ensures typed { AreTyped shared.now.plan.ttys (drop processors result.0.items) lines.items result.1.items }
 {
     let (handles, typed) = thread::scope(

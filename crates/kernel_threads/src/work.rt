@@ -40,7 +40,7 @@ pub enum Worked {
 impl<G: Gate + Drop> Job<Shared, Worked> for Work<G> {
     ghost may_run = { MayWork };
 
-    ghost gives = { HasWorked };
+    ghost gives = { HasWorked G.told };
 
     fn run<R: Wait>(self, rt: &R, shared: &Shared) -> Worked {
         match self {

@@ -105,7 +105,7 @@ module _ {made : AnyQuaject → List ℕ → Type 0} {fits : AnyQuaject → Type
   closed_as first put taken left n c e = subst (λ (z : ℕ). ClosedNow made fits v first z z [] x) e
       (subst (λ (z : ℕ). ClosedNow made fits v first put z [] x) c.all_taken (subst (λ (z : List (Option ℕ)). ClosedNow made fits v first put taken z x) c.none_left c))
 
-pub came_home : (pact : Pact Queues AnyQuaject) (v : View) (first put taken : ℕ) (left : List (Option ℕ)) (x : AnyQuaject) (home : Home) → ClosedNow anys.HasRun (suits anys.Fits anys.SameEnds pact) v first put taken left x → IsHome x put (length left) home → CameHome pact first v home
+pub came_home : (pact : Pact Queues AnyQuaject) (v : View) (first put taken : ℕ) (left : List (Option ℕ)) (x : AnyQuaject) (home : Home) → ClosedNow anys.HasRun (suits anys.Fits anys.CameOf pact) v first put taken left x → IsHome x put (length left) home → CameHome pact first v home
 came_home pact v first put taken left x home c h = let q = c.queue in
     let whole : q.taken ≡ length q.places = sym c.taken_is ∙ c.all_taken ∙ c.puts in
     let all : length (notes_of q) ≡ put = length-map (take q.taken q.places) item_of ∙ length-take-le q.taken q.places (subst (λ (z : ℕ). z ≤ length q.places) (sym whole) (omega arith)) ∙ whole ∙ sym c.puts in
@@ -115,7 +115,7 @@ came_home pact v first put taken left x home c h = let q = c.queue in
       its = record { ports = h.ports; chained_is = refl; left_is = refl; notes = h.notes; taken = h.taken; put = h.put; held = h.held };
       kept = law_of x;
       sides = sides_of x;
-      posts = posts_home pact.opening.value x home.small home.large c.home.1.1 h.ports;
+      posts = posts_home pact.opening.value x home.small home.large c.home.1.1.same h.ports;
       small = small_fit pact.world.value x (home.small, home.large) h.ports c.home.1.0;
       large = large_fit pact.world.value x (home.small, home.large) h.ports c.home.1.0;
       raised = ports_up x home.small home.large h.ports;

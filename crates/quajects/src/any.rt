@@ -123,7 +123,7 @@ impl AnyQuaject {
 }
 
 impl Quaject for AnyQuaject {
-    ghost use Rattle.quajects.specs.Anys.{HasRun, Fits, SameEnds, RanAny};
+    ghost use Rattle.quajects.specs.Anys.{HasRun, Fits, CameOf, RanAny};
 
     type World = Queues;
 
@@ -131,13 +131,13 @@ impl Quaject for AnyQuaject {
 
     ghost fits = { Fits };
 
-    ghost keeps = { SameEnds };
+    ghost keeps = { CameOf };
 
     /// What its kind does for a note.
     fn run(&mut self, world: &Queues, note: u16) -> Ran
         requires { Fits world.now self.old }
         ensures fits { Fits world.now self.new }
-        ensures keeps { (first : AnyQuaject) → SameEnds first self.old → SameEnds first self.new }
+        ensures keeps { (first : AnyQuaject) → CameOf first self.old → CameOf first self.new }
         ensures made { (notes : List ℕ) → HasRun self.old notes → HasRun self.new (notes ++ note ∷ []) }
         ensures ran { RanAny self.old self.new result }
     {

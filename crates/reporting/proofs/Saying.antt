@@ -15,33 +15,20 @@ use Rattle.boot_script.specs.declared.report.ThreadLine.{ThreadLine}
 use Rattle.boot_script.specs.declared.report.TtyLines.{TtyLines}
 use Rattle.boot_script.specs.QueueLists.{raw_queue, line_queue, screen_queue}
 use Rattle.closing.specs.declared.all.Ended.{Ended}
-use Rattle.processor.specs.declared.station.Heard.{Heard}
-use Rattle.processor.specs.Running.{Line, line_heard}
+use Rattle.processor.specs.Running.{Line}
 use Rattle.processor.proofs.Fitted.{few_steps}
 use Rattle.reports.specs.Closed.{Closed}
 use Rattle.reports.specs.Closed as closed
 use Rattle.reports.specs.Lines.{Says, AreWhole, QueueSaid, TtySaid, TtyQueuesSaid, MoverSaid, GaugeSaid, AlarmsSaid, ThreadSaid, HeardSaid}
 use Rattle.reports.proofs.Meters.{got_take}
 use Rattle.reporting.specs.declared.ttys.Typed.{Typed}
-use Rattle.reporting.specs.Made.{numbered, queue_line, gauge_line, mover_line, tty_lines, thread_line, heard_line, alarm_counts, left_in}
+use Rattle.reporting.specs.Made.{IsMade, numbered, queue_line, gauge_line, mover_line, tty_lines, thread_line, heard_line, alarm_counts, left_in}
 use Rattle.reporting.specs.Shown.{Shows}
 use Rattle.reporting.proofs.Limits.{few_ttys, few_movers, few_gauges}
 use Rattle.reporting.proofs.Numbering.{as_many, made_at, mapped_at}
 use Rattle.reporting.proofs.Shown.{got_left, got_right, counts_are, chain_is, device_is, all_left, said_at, few_is}
 
--- the report is made, line by line, of what was closed
-pub record IsMade (ended : Ended) (heard : List Heard) (typed : List Typed) (r : Report) : Type 0 where
-  pub queues : r.queues ≡ numbered (queue_line ended.small.items) 0 ended.plan.queues
-  pub ttys : r.ttys ≡ numbered (tty_lines ended typed) 0 ended.plan.ttys
-  pub movers : r.movers ≡ numbered (mover_line ended.counts.items) 0 ended.plan.movers
-  pub gauges : r.gauges ≡ numbered (gauge_line ended.meters.gauges) 0 ended.plan.gauges
-  pub alarms : r.alarms ≡ alarm_counts (length ended.plan.alarms) (length ended.meters.alarms.items)
-  pub threads : r.threads ≡ numbered (thread_line ended) 0 ended.plan.threads
-  pub heard_is : r.heard ≡ map (heard_line ended.plan.threads) (map line_heard heard)
-  pub chained : r.chained ≡ sum_by left_in ended.counts.items % 2 ^ 64
-  pub eight : length ended.meters.gauges ≡ 8
-
-module _ (c : Closed) (ended : Ended) (heard : List Heard) (typed : List Typed) (r : Report) (s : Shows c ended typed) (m : IsMade ended heard typed r) where
+module _ (c : Closed) (ended : Ended) (heard : List Line) (typed : List Typed) (r : Report) (s : Shows c ended typed) (m : IsMade ended heard typed r) (eight : length ended.meters.gauges ≡ 8) where
   whole : AreWhole ended.plan c r
   whole = record {
     queues = ap length m.queues ∙ as_many (queue_line ended.small.items) 0 ended.plan.queues;
@@ -53,7 +40,7 @@ module _ (c : Closed) (ended : Ended) (heard : List Heard) (typed : List Typed) 
     large = s.all.large;
     all_ttys = (s.all.ttys, s.all.devices);
     all_movers = s.all.movers;
-    all_gauges = let few = few_gauges ended.plan in let e = m.eight in ap length s.gauges ∙ length-take-le (length ended.plan.gauges) ended.meters.gauges (omega arith);
+    all_gauges = let few = few_gauges ended.plan in let e = eight in ap length s.gauges ∙ length-take-le (length ended.plan.gauges) ended.meters.gauges (omega arith);
     all_threads = s.all.threads;
   }
 
@@ -112,14 +99,14 @@ module _ (c : Closed) (ended : Ended) (heard : List Heard) (typed : List Typed) 
         signals = sym its.shown;
       })
 
-  heard_said : (k : ℕ) (line : Line) (said : HeardLine) → slice_get (map line_heard heard) k ≡ Some line
+  heard_said : (k : ℕ) (line : Line) (said : HeardLine) → slice_get heard k ≡ Some line
       → slice_get r.heard k ≡ Some said → HeardSaid ended.plan line said
   heard_said k line said here mine =
-      let is : said ≡ heard_line ended.plan.threads line = mapped_at (heard_line ended.plan.threads) (map line_heard heard) k line said here
+      let is : said ≡ heard_line ended.plan.threads line = mapped_at (heard_line ended.plan.threads) heard k line said here
       (subst (λ l. slice_get l k ≡ Some said) m.heard_is mine) in
       subst (λ z. HeardSaid ended.plan line z) (sym is) (record { thread = refl; step = refl; items = refl })
 
-  pub says : Says ended.plan c (map line_heard heard) r
+  pub says : Says ended.plan c heard r
   says = record {
     whole = whole;
     queues = queues_said;
@@ -128,7 +115,7 @@ module _ (c : Closed) (ended : Ended) (heard : List Heard) (typed : List Typed) 
     gauges = gauges_said;
     alarms = alarms_said;
     threads = threads_said;
-    many_heard = ap length m.heard_is ∙ length-map (map line_heard heard) (heard_line ended.plan.threads);
+    many_heard = ap length m.heard_is ∙ length-map heard (heard_line ended.plan.threads);
     heard_lines = heard_said;
     chained = m.chained ∙ all_left c.movers c.ttys ended.counts.items s.chains (let a = few_movers ended.plan in let b = few_ttys ended.plan in let d = s.all.movers in let e = s.all.ttys in omega arith);
   }

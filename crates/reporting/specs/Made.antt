@@ -1,7 +1,7 @@
 -- The lines of a report, each made of a thing of the plan and of the numbers at its place.
-use Rattle.std.specs.Prelude.{◌+◌, ◌-◌, ℕ, nat_lt, if◌then◌else◌, List, [], ◌∷◌, length, Option, Some, None}
-use Rattle.std.specs.Prelude.{slice_index_or}
-use Rattle.std.specs.List.{slice_get}
+use Rattle.std.specs.Prelude.{◌≡◌, ◌+◌, ◌-◌, ◌%◌, ◌^◌, ℕ, nat_lt, if◌then◌else◌, List, [], ◌∷◌, length, Option, Some, None}
+use Rattle.std.specs.Prelude.{slice_index_or, map}
+use Rattle.std.specs.List.{slice_get, sum_by}
 use Rattle.boot_script.specs.declared.plan.PlannedMover.{PlannedMover}
 use Rattle.boot_script.specs.declared.plan.PlannedQueue.{PlannedQueue}
 use Rattle.boot_script.specs.declared.plan.PlannedThread.{PlannedThread}
@@ -11,6 +11,7 @@ use Rattle.boot_script.specs.declared.report.GaugeLine.{GaugeLine}
 use Rattle.boot_script.specs.declared.report.HeardLine.{HeardLine}
 use Rattle.boot_script.specs.declared.report.MoverLine.{MoverLine}
 use Rattle.boot_script.specs.declared.report.QueueLine.{QueueLine}
+use Rattle.boot_script.specs.declared.report.Report.{Report}
 use Rattle.boot_script.specs.declared.report.ThreadLine.{ThreadLine}
 use Rattle.boot_script.specs.declared.report.ThreadState.{ThreadState}
 use Rattle.boot_script.specs.declared.report.ThreadState.TheVariants as states
@@ -126,3 +127,14 @@ heard_line threads heard = record {
 -- so many alarms were set and are left; the others fired
 abbrev pub alarm_counts : ℕ → ℕ → AlarmCounts
 alarm_counts set left = record { set = set; fired = set - left; left = left }
+
+-- the report is made, line by line, of what was closed, of these lines that were heard, and of what the devices did
+pub record IsMade (ended : Ended) (heard : List Line) (typed : List Typed) (r : Report) : Type 0 where
+  pub queues : r.queues ≡ numbered (queue_line ended.small.items) 0 ended.plan.queues
+  pub ttys : r.ttys ≡ numbered (tty_lines ended typed) 0 ended.plan.ttys
+  pub movers : r.movers ≡ numbered (mover_line ended.counts.items) 0 ended.plan.movers
+  pub gauges : r.gauges ≡ numbered (gauge_line ended.meters.gauges) 0 ended.plan.gauges
+  pub alarms : r.alarms ≡ alarm_counts (length ended.plan.alarms) (length ended.meters.alarms.items)
+  pub threads : r.threads ≡ numbered (thread_line ended) 0 ended.plan.threads
+  pub heard_is : r.heard ≡ map (heard_line ended.plan.threads) heard
+  pub chained : r.chained ≡ sum_by left_in ended.counts.items % 2 ^ 64

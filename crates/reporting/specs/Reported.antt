@@ -9,15 +9,18 @@ use Rattle.reports.specs.Closed.{Closed}
 use Rattle.reports.specs.Lines.{Says}
 use Rattle.reports.specs.Reports.{Ascend}
 use Rattle.reporting.specs.declared.ttys.Typed.{Typed}
+use Rattle.reporting.specs.Made.{IsMade}
 use Rattle.reporting.specs.Shown.{Shows}
 
 -- what one processor heard
 abbrev pub lines_of : Vec Heard → List Line
 lines_of heard = map line_heard heard.items
 
--- its heard lines are these, in order; and it says the numbers of any closed tables that are shown
+-- it is made of what was closed, its heard lines are these, in order, and it says the numbers of any closed tables that
+-- are shown
 pub record IsReported (ended : Ended) (lines : List Line) (typed : List Typed) (r : Report) : Type 0 where
   pub heard : List Line
   pub all_heard : IsPermutation lines heard
   pub ascend : Ascend heard
+  pub made : IsMade ended heard typed r
   pub says : (c : Closed) → Shows c ended typed → Says ended.plan c heard r

@@ -4,7 +4,7 @@ ghost use Rattle.processor.specs.Programs.{hear_count};
 ghost use Rattle.processor.specs.Running.{line_heard};
 ghost use Rattle.reports.specs.Closed.{Closed};
 ghost use Rattle.reports.specs.Lines.{Says};
-ghost use Rattle.reporting.specs.Made.{alarm_counts};
+ghost use Rattle.reporting.specs.Made.{IsMade, alarm_counts};
 ghost use Rattle.reporting.specs.Reported.{IsReported, lines_of};
 ghost use Rattle.reporting.specs.Rooms.{HasRoom, HasAllRoom};
 ghost use Rattle.reporting.specs.Shown.{Shows};
@@ -39,7 +39,8 @@ fn counts_of_alarms(set: usize, left: usize) -> AlarmCounts
 pub fn make_report(ended: Ended, heard: Vec<Heard>, typed: &[Typed], lines: Lines) -> Report
     requires room { HasRoom ended.plan lines }
     requires few { length heard.items ≤ hear_count ended.plan }
-    ensures { (c : Closed) → Shows c ended typed.now → Says ended.plan c (map line_heard heard.items) result }
+    ensures made { IsMade ended (map line_heard heard.items) typed.now result }
+    ensures says { (c : Closed) → Shows c ended typed.now → Says ended.plan c (map line_heard heard.items) result }
 {
     let plan = &ended.plan;
     let counts = ended.counts.as_slice();

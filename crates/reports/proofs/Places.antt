@@ -37,7 +37,7 @@ use Rattle.reports.specs.Stations.{AllJoined, IsPrepared, HasDoneAll}
 use Rattle.reports.proofs.Freeing.{retired_once, has_done_all}
 use Rattle.reports.proofs.Joining.{stays}
 use Rattle.reports.proofs.Tallies.{made_at, all_retired}
-use Rattle.reports.proofs.Threads.{known, done_are, steps_agree, signals_agree, planned_all}
+use Rattle.reports.proofs.Threads.{known, done_are, steps_agree, shown_agrees, signals_agree, planned_all}
 
 -- THE WORDS OF THE TABLE
 
@@ -139,5 +139,6 @@ module _ (plan : BootPlan) (logs : List (List Entry)) (stations : List Parts) (f
   thread_agrees fired = record {
     ran = steps_agree plan logs stations first last left begun joins c e x t at;
     place = place_agrees;
+    shown = shown_agrees plan logs stations first last left begun joins c e x t at;
     signals = signals_agree plan logs stations first last left begun joins c e x t at fired;
   }

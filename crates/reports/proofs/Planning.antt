@@ -1,5 +1,6 @@
 -- What was made for a plan is the plan's after any note.
-use Rattle.std.proofs.Common.{◌≡◌, ℕ, zero, suc, ◌≤◌, List, [], ◌∷◌, ◌++◌, map, length, refl, sym, ap, ◌∙◌, arith, Option, Some, None, slice_get, flat_map}
+use Rattle.std.proofs.Common.{◌≡◌, ℕ, zero, suc, ◌≤◌, List, [], ◌∷◌, ◌++◌, map, length, refl, sym, ap, ◌∙◌, arith, Option, Some, None, slice_get, flat_map, subst}
+use Rattle.std.specs.List.{All}
 use Rattle.boot_script.specs.declared.boot_plan.BootPlan.{BootPlan}
 use Rattle.boot_script.specs.declared.plan.Mover.{Mover}
 use Rattle.boot_script.specs.declared.plan.Mover.TheVariants as movers
@@ -8,17 +9,17 @@ use Rattle.boot_script.specs.declared.plan.Way.{Way as PlannedWay}
 use Rattle.boot_script.specs.QueueLists.{raw_queue, line_queue, screen_queue}
 use Rattle.objects.specs.Objects.{AreQuajectsOf, quajects_of}
 use Rattle.objects.specs.Planned as objects
-use Rattle.objects.specs.Planned.{four_ways, way_key, way_to}
+use Rattle.objects.specs.Planned.{IsReady, four_ways, way_key, way_to}
 use Rattle.proc_chain.specs.declared.ends.ProcChain.{ProcChain}
 use Rattle.proc_chain.specs.Handles.{opening_of}
 use Rattle.quajects.specs.declared.any.AnyQuaject.{AnyQuaject}
 use Rattle.quajects.specs.declared.any.AnyQuaject.TheVariants as any
 use Rattle.quajects.specs.declared.ways.Way.{Way}
 use Rattle.quajects.specs.declared.world.Queues.{Queues}
-use Rattle.quajects.specs.Anys.{SameEnds}
+use Rattle.quajects.specs.Anys.{SameEnds, CameOf}
 use Rattle.quajects.specs.Ports.{Post}
 use Rattle.quajects.specs.Routes.{key_of, index_of, way_post}
-use Rattle.reports.specs.Agreements.{IsMover, IsTty, route_of, routes_of}
+use Rattle.reports.specs.Agreements.{IsMover, IsTty, CameOfNew, route_of, routes_of}
 use Rattle.reports.specs.Closings.{IsPlanned, IsOfPlan}
 
 -- WAYS
@@ -103,3 +104,20 @@ opening_at (x ∷ list) (suc k) chain e = opening_at list k chain e
 pub planned_stay : (plan : BootPlan) (world : Queues) (list : List (ProcChain AnyQuaject Queues)) → AreQuajectsOf plan world (quajects_of list)
     → (number : ℕ) (chain : ProcChain AnyQuaject Queues) (quaject : AnyQuaject) → slice_get list number ≡ Some chain → SameEnds (opening_of chain) quaject → IsOfPlan plan number quaject
 planned_stay plan world list are number chain quaject at s = stays _ _ (slice_get plan.movers number) (opening_of chain) quaject (are.kinds number (opening_of chain) (opening_at list number chain at)) s
+
+its_ready : (world : Queues) (xs : List AnyQuaject) (k : ℕ) (x : AnyQuaject) → All (IsReady world) xs → slice_get xs k ≡ Some x → IsReady world x
+its_ready world [] k x all e = absurd (cc)
+its_ready world (y ∷ xs) zero x all e = let same : y ≡ x = cc in subst (IsReady world) same (all 0 y (omega arith))
+its_ready world (y ∷ xs) (suc k) x all e = its_ready world xs k x (λ k d l. all (suc k) d (omega arith)) e
+
+pub came_new : (plan : BootPlan) (world : Queues) (list : List (ProcChain AnyQuaject Queues)) → AreQuajectsOf plan world (quajects_of list)
+    → (number : ℕ) (chain : ProcChain AnyQuaject Queues) (quaject : AnyQuaject) → slice_get list number ≡ Some chain → CameOf (opening_of chain) quaject → CameOfNew quaject
+came_new plan world list are number chain quaject at c =
+    let r = its_ready world (quajects_of list) number (opening_of chain) are.ready (opening_at list number chain at) in record {
+      first = opening_of chain;
+      none_taken = r.none_taken;
+      none_put = r.none_put;
+      none_held = r.none_held;
+      none_run = r.none_run;
+      came = c;
+    }

@@ -48,7 +48,7 @@ use Rattle.quajects.specs.Settled.{shuts_of}
 use Rattle.thread_table.specs.declared.hand.Hand.{Hand}
 use Rattle.thread_table.specs.Closings as tables
 use Rattle.thread_table.specs.Handles as threads
-use Rattle.reports.specs.Agreements.{IsTty}
+use Rattle.reports.specs.Agreements.{IsTty, CameOfNew}
 use Rattle.reports.specs.Boots.{Boot, TtyEnds, BootEnded, home_of, raw_of, homes, small_others, large_others}
 use Rattle.reports.specs.Closed.{Closed}
 use Rattle.reports.specs.Closed as closed
@@ -57,7 +57,7 @@ use Rattle.reports.specs.Endings.{QueueEnded, ThreadsEnded, MetersEnded, MoverEn
 use Rattle.reports.specs.Lines.{Says}
 use Rattle.reports.specs.Reports.{Ascend}
 use Rattle.reports.proofs.Booting.{there}
-use Rattle.reports.proofs.Planning.{planned_stay}
+use Rattle.reports.proofs.Planning.{planned_stay, came_new}
 use Rattle.reports.proofs.Threads.{within}
 use Rattle.reports.proofs.QueueEnds.{GainedEnds, sum_ends, sum_more, sum_one, gained_ports, gained_small, gained_large, gained_both, gained_same, raws_at, homes_sum, shuts_summed, queue_ended}
 
@@ -299,7 +299,11 @@ module _ (shared : Shared) (logs : List (List Entry)) (first : Parts) (stations 
   of_plan : (k : ℕ) (chain : closed.Chain) (d : ChainShut shared.chains.items parts.chains.items all_homes k chain)
       → IsPlanned (length plan.queues) (k - length plan.movers) (slice_get plan.movers k) chain.quaject
   of_plan k chain d = subst (IsPlanned (length plan.queues) (k - length plan.movers) (slice_get plan.movers k)) (sym (ap (λ (z : closed.Chain). z.quaject) d.is))
-      (planned_stay plan shared.queues shared.chains.items s.quajects k d.its d.came.quaject d.at d.came.closed.home.1.1)
+      (planned_stay plan shared.queues shared.chains.items s.quajects k d.its d.came.quaject d.at d.came.closed.home.1.1.same)
+
+  of_new : (k : ℕ) (chain : closed.Chain) → ChainShut shared.chains.items parts.chains.items all_homes k chain → CameOfNew chain.quaject
+  of_new k chain d = subst CameOfNew (sym (ap (λ (z : closed.Chain). z.quaject) d.is))
+      (came_new plan shared.queues shared.chains.items s.quajects k d.its d.came.quaject d.at d.came.closed.home.1.1)
 
   pub mover_ended : (k : ℕ) (p : PlannedMover) (home : Home) (m : closed.Chain) → slice_get plan.movers k ≡ Some p → slice_get boot.movers k ≡ Some home → slice_get c.movers k ≡ Some m
       → MoverEnded k p last home m
@@ -310,6 +314,7 @@ module _ (shared : Shared) (logs : List (List Entry)) (first : Parts) (stations 
         its = sym (s.took.before k h.0) ∙ d.end_at;
         ended = chain_ended shared.chains.items parts.chains.items all_homes k m d s.closed.few d.end home d.end_at h.1;
         of_plan = subst (λ (z : Option PlannedMover). IsPlanned (length plan.queues) (k - length plan.movers) z m.quaject) at (of_plan k m d);
+        of_new = of_new k m d;
       }
 
   pub tty_ended : (tty : ℕ) (p : PlannedTty) (had : TtyEnds) (t : closed.Chain) (d : closed.Device) → slice_get plan.ttys tty ≡ Some p → slice_get boot.ttys tty ≡ Some had → slice_get c.ttys tty ≡ Some t
@@ -322,6 +327,7 @@ module _ (shared : Shared) (logs : List (List Entry)) (first : Parts) (stations 
         ended = chain_ended shared.chains.items parts.chains.items all_homes (m + tty) t x s.closed.few h.end h.home (sym (slice_get-drop parts.chains.items m tty) ∙ h.end_at) (sym (slice_get-drop all_homes m tty) ∙ h.home_at);
         of_plan = subst (λ (z : ℕ). IsTty (raw_queue (length plan.queues) z) (line_queue z) (screen_queue z) t.quaject) (let z : m + tty - m ≡ tty = omega arith in z)
             (subst (λ (z : Option PlannedMover). IsPlanned (length plan.queues) (m + tty - m) z t.quaject) (slice_get_past plan.movers (m + tty) (omega arith)) (of_plan (m + tty) t x));
+        of_new = of_new (m + tty) t x;
         device = s.ttys_ended tty p h.tty d at h.tty_at at3;
       })
 

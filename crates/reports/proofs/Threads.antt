@@ -18,7 +18,7 @@ use Rattle.processor.specs.Deeds.{is_done}
 use Rattle.processor.specs.Logs.{Entry, Tended, Delivered, Tried, Retired, Leaves, IsPlanned, tally_of, fired_by}
 use Rattle.processor.specs.Programs.{program, same_key}
 use Rattle.processor.specs.Stations.{no_signals}
-use Rattle.reports.specs.Agreements.{StepsAgree, SignalsAgree}
+use Rattle.reports.specs.Agreements.{StepsAgree, ShownAgrees, SignalsAgree}
 use Rattle.reports.specs.Closed.{Closed}
 use Rattle.reports.specs.Closed as closed
 use Rattle.reports.specs.Doings as doings
@@ -147,13 +147,16 @@ module _ (plan : BootPlan) (logs : List (List Entry)) (stations : List Parts) (f
     once = once;
   }
 
+  pub shown_agrees : ShownAgrees x t logs
+  shown_agrees n low = ap (λ m. is_in m n) (e.shown x t at) ∙ (shown_joined x n known low first stations last joins
+      ∙ (ap (λ z. z || list_any (shown_by x n) stations) (ap (λ l. is_in (get_or l x 0) n) begun.signals ∙ fresh_shown x n)
+      ∙ shown_left x n known low plan logs stations left))
+
   pub signals_agree : c.fired ≡ flat_map fired_by (all_of logs) → SignalsAgree x t c.fired logs
   signals_agree fired n low =
       let k = e.closes in
       let shown : is_in t.shown n ≡ is_delivered (flat_map delivered_by (made_at last)) x n =
-      ap (λ m. is_in m n) (e.shown x t at) ∙ (shown_joined x n known low first stations last joins
-      ∙ (ap (λ z. z || list_any (shown_by x n) stations) (ap (λ l. is_in (get_or l x 0) n) begun.signals ∙ fresh_shown x n)
-      ∙ (shown_left x n known low plan logs stations left ∙ ap (list_any (is_it x n)) (sym (all_deliveries plan logs stations first last left begun joins))))) in
+      shown_agrees n low ∙ ap (list_any (is_it x n)) (sym (all_deliveries plan logs stations first last left begun joins)) in
       let pending : is_in t.pending n ≡ _ = ap (λ m. is_in m n) (e.pending_are x t at) ∙ sym (k.signals x known n low) in
       (λ i. shown i || pending i)
       ∙ (told x n (view_of last.hand).schedule (made_at last) k.allowed k.made low

@@ -10,13 +10,14 @@ use Rattle.boot_script.specs.declared.plan.Way.{Way as PlannedWay}
 use Rattle.boot_script.specs.QueueLists.{raw_queue, line_queue, screen_queue}
 use Rattle.claim_queue.specs.Handles.{view_of}
 use Rattle.claim_queue.specs.Lines.{IsCut, lines_put}
+use Rattle.hand_steps.specs.Tallies.{is_delivered}
 use Rattle.meters.specs.Views.{amount_on, times}
 use Rattle.quaject_core.specs.declared.alarm.Alarm.{Alarm}
 use Rattle.quajects.specs.declared.any.AnyQuaject.{AnyQuaject}
 use Rattle.quajects.specs.declared.any.AnyQuaject.TheVariants as any
 use Rattle.quajects.specs.declared.ports.Port.{Port}
 use Rattle.quajects.specs.declared.ways.Way.{Way}
-use Rattle.quajects.specs.Anys.{IsKept, notes_of, all_taken}
+use Rattle.quajects.specs.Anys.{IsKept, CameOf, notes_of, all_taken, all_puts, held_of}
 use Rattle.quajects.specs.Pumps as pumps
 use Rattle.quajects.specs.Switches as switches
 use Rattle.quajects.specs.Terminals as terminals
@@ -24,7 +25,7 @@ use Rattle.table_theory.specs.Interleaving.{Interleaves}
 use Rattle.thread_table.specs.declared.places.Place.{Place}
 use Rattle.thread_table.specs.declared.places.Place.TheVariants as places
 use Rattle.thread_table.specs.Answers.{is_in}
-use Rattle.processor.specs.Logs.{Entry, small_put, small_taken, large_put, large_taken, ticked_by, fired_by}
+use Rattle.processor.specs.Logs.{Entry, tally_of, small_put, small_taken, large_put, large_taken, ticked_by, fired_by}
 use Rattle.processor.specs.Programs.{program, same_key}
 use Rattle.reports.specs.Closed.{Closed}
 use Rattle.reports.specs.Closed as closed
@@ -45,6 +46,11 @@ PlaceAgrees places.Free steps all = steps ≡ all
 PlaceAgrees (places.Processor p) steps all = ⊥
 PlaceAgrees place steps all = Unit {0}
 
+-- a signal was shown exactly where the logs delivered it to the thread
+abbrev pub ShownAgrees : ℕ → closed.Thread → List (List Entry) → Type 0
+ShownAgrees thread t logs = (signal : ℕ) → signal < 16
+    → is_in t.shown signal ≡ is_delivered (flat_map (λ log. (tally_of log).delivered) logs) thread signal
+
 -- a signal was shown, or is pending, exactly where a done step or a fired alarm raised it on the thread
 abbrev pub SignalsAgree : ℕ → closed.Thread → List Alarm → List (List Entry) → Type 0
 SignalsAgree thread t fired logs = (signal : ℕ) → signal < 16
@@ -56,6 +62,7 @@ pub record ThreadAgrees (plan : BootPlan) (thread : ℕ) (t : closed.Thread) (fi
     (logs : List (List Entry)) : Type 0 where
   pub ran : StepsAgree plan thread t.steps logs
   pub place : PlaceAgrees t.place t.steps (length (program plan thread))
+  pub shown : ShownAgrees thread t logs
   pub signals : SignalsAgree thread t fired logs
 
 -- QUEUES
@@ -142,13 +149,23 @@ abbrev pub IsTty : ℕ → ℕ → ℕ → AnyQuaject → Type 0
 IsTty raw line screen (any.Cooked tty) = (tty.raw.index ≡ raw) × (tty.line.index ≡ line) × (tty.screen.index ≡ screen)
 IsTty raw line screen quaject = ⊥
 
+-- the quaject came, by runs of notes alone, of one that had done nothing
+pub record CameOfNew (quaject : AnyQuaject) : Type 0 where
+  pub first : AnyQuaject
+  pub none_taken : all_taken first ≡ []
+  pub none_put : all_puts first ≡ []
+  pub none_held : held_of first ≡ []
+  pub none_run : notes_of first ≡ 0
+  pub came : CameOf first quaject
+
 -- The device popped what the plan types; the raw items put are these bytes, in their order, without those refused; and
--- the cooked tty kept its law
+-- the cooked tty, which its notes alone ran, kept its law
 pub record TtyAgrees (queues tty : ℕ) (p : PlannedTty) (t : closed.Chain) (d : closed.Device) (raw : closed.Queue)
     : Type 0 where
   pub typed : d.popped ≡ p.typed
   pub bytes : AreWithout d.popped d.refused raw.items
   pub its : IsTty (raw_queue queues tty) (line_queue tty) (screen_queue tty) t.quaject
+  pub came : CameOfNew t.quaject
   pub cooked : IsKept t.quaject
 
 -- PUMPS AND SWITCHES
@@ -167,10 +184,11 @@ IsMover (movers.Switch from other ways) (any.Switch switch) = (switch.source.ind
     × (switch.other.index ≡ other) × (flat_map routes_of switch.ways ≡ map route_of ways)
 IsMover mover quaject = ⊥
 
--- the lines that it took are those that it put, each where it belongs, and the one held; and the notes that it ran and
--- those left in its chain are, by number, the done pokes
+-- its notes alone ran it; the lines that it took are those that it put, each where it belongs, and the one held; and the
+-- notes that it ran and those left in its chain are, by number, the done pokes
 pub record MoverAgrees (mover : ℕ) (planned : Mover) (m : closed.Chain) (logs : List (List Entry)) : Type 0 where
   pub its : IsMover planned m.quaject
+  pub came : CameOfNew m.quaject
   pub kept : IsKept m.quaject
   pub pokes : notes_of m.quaject + m.left ≡ count_by (is_poke mover) (all_of logs)
 

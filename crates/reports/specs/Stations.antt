@@ -2,7 +2,7 @@
 use Rattle.std.specs.Prelude.{◌≡◌, ◌≤◌, ℕ, List, [], ◌∷◌, length}
 use Rattle.std.specs.List.{AllByRecursion}
 use Rattle.boot_script.specs.declared.boot_plan.BootPlan.{BootPlan}
-use Rattle.end_steps.specs.EndLists.{lines_put_at, lines_taken_at, notes_put_at, shuts_at}
+use Rattle.end_steps.specs.EndLists.{lines_put_at, lines_taken_at, notes_put_at, notes_taken_at, shuts_at}
 use Rattle.hand_steps.specs.Tallies.{tally}
 use Rattle.meters.specs.Handles as meters
 use Rattle.thread_table.specs.Handles.{view_of}
@@ -36,7 +36,9 @@ pub record IsPrepared (plan : BootPlan) (first : Parts) : Type 0 where
   pub large : (q : ℕ) → (lines_put_at first.large.items q ≡ []) × (lines_taken_at first.large.items q ≡ [])
   pub large_shuts : (q : ℕ) → shuts_at first.large.items q ≡ 0
   pub chains : (q : ℕ) → notes_put_at first.chains.items q ≡ []
+  pub ran : (q : ℕ) → notes_taken_at first.chains.items q ≡ []
   pub ticks : (meters.view_of first.meters).ticks ≡ []
+  pub advances : (meters.view_of first.meters).advances ≡ []
   pub alarms : (meters.view_of first.meters).set ≡ plan.alarms
   pub fired : (meters.view_of first.meters).fired ≡ []
   pub cancelled : (meters.view_of first.meters).cancelled ≡ []

@@ -3,6 +3,7 @@ use Rattle.std.proofs.Common.{◌≡◌, ◌≤◌, ℕ, zero, suc, ◌+◌, tru
 use Rattle.std.proofs.lemmas.List.{length-map}
 use Rattle.std.specs.List.{AllZip}
 use Rattle.boot_script.specs.declared.plan.PlannedTty.{PlannedTty}
+use Rattle.end_steps.specs.declared.gate.Point.{Point}
 use Rattle.end_steps.specs.Splits.{AllThree}
 use Rattle.objects.specs.declared.device.Device.{Device}
 use Rattle.processor.specs.declared.shared.Shared.{Shared}
@@ -31,12 +32,12 @@ pub record Sorted (posts ttys : ℕ) (backs : List (Option Worked)) : Type 0 whe
   pub posts_are : length stations ≡ posts
   pub ttys_are : length served ≡ ttys
 
-module _ {G : Type 0} (shared : Shared) where
+module _ {G : Type 0} (T : G → ℕ → Point → G → Type 0) (shared : Shared) where
   Gave : Work G → Option Worked → Type 0
-  Gave = GaveBack (HasWorked {G = G}) shared
+  Gave = GaveBack (HasWorked T) shared
 
   -- one device's work
-  few_serve : (ttys : List PlannedTty) (devices : List Device) (ws : List (Work G)) (backs : List (Option Worked)) → AllThree IsServing ttys devices ws → AllZip (GaveBack (HasWorked {G = G}) shared) ws backs
+  few_serve : (ttys : List PlannedTty) (devices : List Device) (ws : List (Work G)) (backs : List (Option Worked)) → AllThree IsServing ttys devices ws → AllZip (GaveBack (HasWorked T) shared) ws backs
       → (stations_in backs ≡ []) × (length (served_in backs) ≤ length ttys)
   few_serve [] [] [] [] s r = (refl, omega arith)
   few_serve [] [] [] (x ∷ backs) s r = absurd r
@@ -46,11 +47,11 @@ module _ {G : Type 0} (shared : Shared) where
   few_serve (t ∷ ttys) (d ∷ devices) [] backs s r = absurd s
   few_serve (t ∷ ttys) (d ∷ devices) (w ∷ ws) [] s r = absurd r
   few_serve (t ∷ ttys) (d ∷ devices) (w ∷ ws) (None ∷ backs) s r = let f = few_serve ttys devices ws backs s.1 r.1 in (f.0, let g = f.1 in omega arith)
-  few_serve (t ∷ ttys) (d ∷ devices) (w ∷ ws) (Some (worked.Processed b) ∷ backs) s r = absurd (subst (λ (z : Work G). GaveBack (HasWorked {G = G}) shared z (Some (worked.Processed b))) s.0 r.0)
+  few_serve (t ∷ ttys) (d ∷ devices) (w ∷ ws) (Some (worked.Processed b) ∷ backs) s r = absurd (subst (λ (z : Work G). GaveBack (HasWorked T) shared z (Some (worked.Processed b))) s.0 r.0)
   few_serve (t ∷ ttys) (d ∷ devices) (w ∷ ws) (Some (worked.Served l y) ∷ backs) s r = let f = few_serve ttys devices ws backs s.1 r.1 in (f.0, let g = f.1 in omega arith)
 
   pub few_back : (p turns : ℕ) (gates : List G) (old new : Parts) (ttys : List PlannedTty) (devices : List Device) (posts ws : List (Work G)) (backs : List (Option Worked)) → ArePosted shared p turns gates old new posts
-      → AreServing ttys devices posts ws → AllZip (GaveBack (HasWorked {G = G}) shared) ws backs → (length (stations_in backs) ≤ length posts) × (length (served_in backs) ≤ length ttys)
+      → AreServing ttys devices posts ws → AllZip (GaveBack (HasWorked T) shared) ws backs → (length (stations_in backs) ≤ length posts) × (length (served_in backs) ≤ length ttys)
   few_back p turns [] old new ttys devices [] ws backs a s r = let f = few_serve ttys devices ws backs s r in let e = ap length f.0 in (omega arith, f.1)
   few_back p turns [] old new ttys devices (w ∷ posts) ws backs a s r = absurd a
   few_back p turns (g ∷ gates) old new ttys devices [] ws backs a s r = absurd a
@@ -59,9 +60,9 @@ module _ {G : Type 0} (shared : Shared) where
   few_back p turns (g ∷ gates) old new ttys devices (w ∷ posts) (w' ∷ ws) (None ∷ backs) a s r = let f = few_back (p + 1) turns gates a.0 new ttys devices posts ws backs a.2 s.1 r.1 in (let e = f.0 in omega arith, f.1)
   few_back p turns (g ∷ gates) old new ttys devices (w ∷ posts) (w' ∷ ws) (Some (worked.Processed b) ∷ backs) a s r = let f = few_back (p + 1) turns gates a.0 new ttys devices posts ws backs a.2 s.1 r.1 in (let e = f.0 in omega arith, f.1)
   few_back p turns (g ∷ gates) old new ttys devices (w ∷ posts) (w' ∷ ws) (Some (worked.Served l y) ∷ backs) a s r =
-      absurd (subst (λ (z : Work G). GaveBack (HasWorked {G = G}) shared z (Some (worked.Served l y))) (s.0 ∙ a.1.is) r.0)
+      absurd (subst (λ (z : Work G). GaveBack (HasWorked T) shared z (Some (worked.Served l y))) (s.0 ∙ a.1.is) r.0)
 
-  sort_serve : (ttys : List PlannedTty) (devices : List Device) (ws : List (Work G)) (backs : List (Option Worked)) → AllThree IsServing ttys devices ws → AllZip (GaveBack (HasWorked {G = G}) shared) ws backs
+  sort_serve : (ttys : List PlannedTty) (devices : List Device) (ws : List (Work G)) (backs : List (Option Worked)) → AllThree IsServing ttys devices ws → AllZip (GaveBack (HasWorked T) shared) ws backs
       → all_there backs ≡ true → Sorted 0 (length ttys) backs
   sort_serve [] [] [] [] s r all = record { stations = []; served = []; is = refl; posts_are = refl; ttys_are = refl }
   sort_serve [] [] [] (x ∷ backs) s r all = absurd r
@@ -71,7 +72,7 @@ module _ {G : Type 0} (shared : Shared) where
   sort_serve (t ∷ ttys) (d ∷ devices) [] backs s r all = absurd s
   sort_serve (t ∷ ttys) (d ∷ devices) (w ∷ ws) [] s r all = absurd r
   sort_serve (t ∷ ttys) (d ∷ devices) (w ∷ ws) (None ∷ backs) s r all = absurd cc
-  sort_serve (t ∷ ttys) (d ∷ devices) (w ∷ ws) (Some (worked.Processed b) ∷ backs) s r all = absurd (subst (λ (z : Work G). GaveBack (HasWorked {G = G}) shared z (Some (worked.Processed b))) s.0 r.0)
+  sort_serve (t ∷ ttys) (d ∷ devices) (w ∷ ws) (Some (worked.Processed b) ∷ backs) s r all = absurd (subst (λ (z : Work G). GaveBack (HasWorked T) shared z (Some (worked.Processed b))) s.0 r.0)
   sort_serve (t ∷ ttys) (d ∷ devices) (w ∷ ws) (Some (worked.Served l y) ∷ backs) s r all = let f = sort_serve ttys devices ws backs s.1 r.1 all in record {
     stations = [];
     served = record { line = l; tty = y } ∷ f.served;
@@ -85,7 +86,7 @@ module _ {G : Type 0} (shared : Shared) where
       none_of (x ∷ xs) h = absurd (omega arith)
 
   pub sort_back : (p turns : ℕ) (gates : List G) (old new : Parts) (ttys : List PlannedTty) (devices : List Device) (posts ws : List (Work G)) (backs : List (Option Worked)) → ArePosted shared p turns gates old new posts
-      → AreServing ttys devices posts ws → AllZip (GaveBack (HasWorked {G = G}) shared) ws backs → all_there backs ≡ true → Sorted (length posts) (length ttys) backs
+      → AreServing ttys devices posts ws → AllZip (GaveBack (HasWorked T) shared) ws backs → all_there backs ≡ true → Sorted (length posts) (length ttys) backs
   sort_back p turns [] old new ttys devices [] ws backs a s r all = sort_serve ttys devices ws backs s r all
   sort_back p turns [] old new ttys devices (w ∷ posts) ws backs a s r all = absurd a
   sort_back p turns (g ∷ gates) old new ttys devices [] ws backs a s r all = absurd a
@@ -100,7 +101,7 @@ module _ {G : Type 0} (shared : Shared) where
     ttys_are = f.ttys_are;
   }
   sort_back p turns (g ∷ gates) old new ttys devices (w ∷ posts) (w' ∷ ws) (Some (worked.Served l y) ∷ backs) a s r all =
-      absurd (subst (λ (z : Work G). GaveBack (HasWorked {G = G}) shared z (Some (worked.Served l y))) (s.0 ∙ a.1.is) r.0)
+      absurd (subst (λ (z : Work G). GaveBack (HasWorked T) shared z (Some (worked.Served l y))) (s.0 ∙ a.1.is) r.0)
 
 stations_back : (xs : List Station) → stations_in (map back_of xs) ≡ xs
 stations_back [] = refl

@@ -8,6 +8,7 @@ use Rattle.closing.specs.declared.all.Ended.{Ended}
 use Rattle.closing.specs.Endings.{AllClosed}
 use Rattle.closing.specs.RawEnds.{AreRawsOf, TookRaws}
 use Rattle.closing.specs.Wholes.{HasWholes}
+use Rattle.end_steps.specs.declared.gate.Point.{Point}
 use Rattle.end_steps.specs.Splits.{AllThree}
 use Rattle.processor.specs.declared.shared.Shared.{Shared}
 use Rattle.processor.specs.declared.station.Parts.{Parts}
@@ -35,11 +36,11 @@ use Rattle.kernel_threads.specs.Crews.{GaveBack}
 use Rattle.kernel_threads.specs.Readiness.{input_of}
 use Rattle.kernel_threads.specs.Stationings.{ArePosted}
 use Rattle.kernel_threads.specs.Typings.{AreTyped}
-use Rattle.kernel_threads.specs.Works.{HasWorked}
+use Rattle.kernel_threads.specs.Works.{HasWorked, AllToldTurns}
 use Rattle.kernel_threads.proofs.Allowing.{as_many_posts}
 use Rattle.kernel_threads.proofs.Firstness.{all_back}
 use Rattle.kernel_threads.proofs.Returning.{posts_first}
-use Rattle.kernel_threads.proofs.Reunion.{came_together}
+use Rattle.kernel_threads.proofs.Reunion.{came_together, gates_told}
 use Rattle.synth_kernel.specs.declared.gathering.Served.{Served}
 use Rattle.synth_kernel.specs.declared.ready.Ready.{Ready}
 use Rattle.synth_kernel.specs.Boots.{IsBootOf}
@@ -49,14 +50,14 @@ use Rattle.synth_kernel.proofs.Backs.{Sorted, few_back, sort_back, stations_are,
 use Rattle.synth_kernel.proofs.Facts.{did_of, lines_pair, raws_are, kept_shares, devices_ended, devices_shown}
 
 -- each station that came back is of the shared objects
-parts_all : {G : Type 0} (shared : Shared) (p turns : ℕ) (gates : List G) (old new : Parts) (posts : List (Work G)) (stations : List Station) → ArePosted shared p turns gates old new posts
-    → AllZip (GaveBack (HasWorked {G = G}) shared) posts (map back_of stations) → All (ArePartsOf shared) (map parts_of stations)
-parts_all shared p turns gates old new posts [] a z k d l = absurd (omega arith)
-parts_all shared p turns [] old new [] (s ∷ stations) a z k d l = absurd z
-parts_all shared p turns (g ∷ gates) old new [] (s ∷ stations) a z k d l = absurd a
-parts_all shared p turns [] old new (w ∷ posts) (s ∷ stations) a z k d l = absurd a
-parts_all {G} shared p turns (g ∷ gates) old new (w ∷ posts) (s ∷ stations) a z zero d l = let r = subst (λ (x : Work G). GaveBack (HasWorked {G = G}) shared x (Some (worked.Processed s))) a.1.is z.0 in r.usable.parts
-parts_all shared p turns (g ∷ gates) old new (w ∷ posts) (s ∷ stations) a z (suc k) d l = parts_all shared (p + 1) turns gates a.0 new posts stations a.2 z.1 k d (omega arith)
+parts_all : {G : Type 0} (T : G → ℕ → Point → G → Type 0) (shared : Shared) (p turns : ℕ) (gates : List G) (old new : Parts) (posts : List (Work G)) (stations : List Station) → ArePosted shared p turns gates old new posts
+    → AllZip (GaveBack (HasWorked T) shared) posts (map back_of stations) → All (ArePartsOf shared) (map parts_of stations)
+parts_all T shared p turns gates old new posts [] a z k d l = absurd (omega arith)
+parts_all T shared p turns [] old new [] (s ∷ stations) a z k d l = absurd z
+parts_all T shared p turns (g ∷ gates) old new [] (s ∷ stations) a z k d l = absurd a
+parts_all T shared p turns [] old new (w ∷ posts) (s ∷ stations) a z k d l = absurd a
+parts_all {G} T shared p turns (g ∷ gates) old new (w ∷ posts) (s ∷ stations) a z zero d l = let r = subst (λ (x : Work G). GaveBack (HasWorked T) shared x (Some (worked.Processed s))) a.1.is z.0 in r.usable.parts
+parts_all T shared p turns (g ∷ gates) old new (w ∷ posts) (s ∷ stations) a z (suc k) d l = parts_all T shared (p + 1) turns gates a.0 new posts stations a.2 z.1 k d (omega arith)
 
 module _ {A B : Type 0} (R : A → B → Type 0) where
   logs_long : (xs : List A) (ys : List B) → AllZip R xs ys → length xs ≡ length ys
@@ -65,13 +66,13 @@ module _ {A B : Type 0} (R : A → B → Type 0) where
   logs_long (x ∷ xs) [] h = absurd h
   logs_long (x ∷ xs) (y ∷ ys) h = ap suc (logs_long xs ys h.1)
 
-module _ {G : Type 0} (plan : BootPlan) (turns : ℕ) (gates : List G) (ready : Ready G) (r : IsReady plan turns gates ready) (backs : List (Option Worked)) (inputs : List LineIn)
-    (gave : AllZip (GaveBack (HasWorked {G = G}) ready.shared) ready.works.items backs) (typed : AreTyped ready.shared.plan.ttys (drop (length gates) backs) ready.inputs.items inputs) where
+module _ {G : Type 0} (T : G → ℕ → Point → G → Type 0) (plan : BootPlan) (turns : ℕ) (gates : List G) (ready : Ready G) (r : IsReady plan turns gates ready) (backs : List (Option Worked)) (inputs : List LineIn)
+    (gave : AllZip (GaveBack (HasWorked T) ready.shared) ready.works.items backs) (typed : AreTyped ready.shared.plan.ttys (drop (length gates) backs) ready.inputs.items inputs) where
   posts_long : length r.posts ≡ length gates
   posts_long = as_many_posts ready.shared 0 turns gates r.first ready.station.parts r.posts r.posted
 
   pub few_came : (length (stations_in backs) ≤ length gates) × (length (served_in backs) ≤ length ready.shared.plan.ttys)
-  few_came = let f = few_back ready.shared 0 turns gates r.first ready.station.parts ready.shared.plan.ttys r.devices r.posts ready.works.items backs r.posted r.works gave in
+  few_came = let f = few_back T ready.shared 0 turns gates r.first ready.station.parts ready.shared.plan.ttys r.devices r.posts ready.works.items backs r.posted r.works gave in
       (subst (λ (z : ℕ). length (stations_in backs) ≤ z) posts_long f.0, f.1)
 
   typed_in : AreTyped ready.shared.plan.ttys (drop (length r.posts) backs) (map input_of r.devices) inputs
@@ -80,7 +81,7 @@ module _ {G : Type 0} (plan : BootPlan) (turns : ℕ) (gates : List G) (ready : 
 
   module _ (all : all_there backs ≡ true) where
     pub its : Sorted (length r.posts) (length ready.shared.plan.ttys) backs
-    its = sort_back ready.shared 0 turns gates r.first ready.station.parts ready.shared.plan.ttys r.devices r.posts ready.works.items backs r.posted r.works gave all
+    its = sort_back T ready.shared 0 turns gates r.first ready.station.parts ready.shared.plan.ttys r.devices r.posts ready.works.items backs r.posted r.works gave all
 
     pub stations_came : stations_in backs ≡ its.stations
     stations_came = stations_are (length r.posts) (length ready.shared.plan.ttys) backs its
@@ -88,22 +89,25 @@ module _ {G : Type 0} (plan : BootPlan) (turns : ℕ) (gates : List G) (ready : 
     pub served_came : served_in backs ≡ its.served
     served_came = served_are (length r.posts) (length ready.shared.plan.ttys) backs its
 
-    ran : AllZip (GaveBack (HasWorked {G = G}) ready.shared) r.posts (map back_of its.stations)
-    ran = subst (AllZip (GaveBack (HasWorked {G = G}) ready.shared) r.posts) (first_back (length r.posts) (length ready.shared.plan.ttys) backs its)
-        (posts_first (GaveBack (HasWorked {G = G}) ready.shared) ready.shared.plan.ttys r.devices r.posts ready.works.items backs r.works gave)
+    ran : AllZip (GaveBack (HasWorked T) ready.shared) r.posts (map back_of its.stations)
+    ran = subst (AllZip (GaveBack (HasWorked T) ready.shared) r.posts) (first_back (length r.posts) (length ready.shared.plan.ttys) backs its)
+        (posts_first (GaveBack (HasWorked T) ready.shared) ready.shared.plan.ttys r.devices r.posts ready.works.items backs r.works gave)
+
+    pub gates_were_told : AllToldTurns T 0 turns gates
+    gates_were_told = gates_told G T ready.shared 0 turns gates r.first ready.station.parts r.posts its.stations r.posted ran
 
     pub lines_came : AllZip (λ (one : Served) (input : LineIn). IsLine input one.line) its.served inputs
-    lines_came = lines_pair ready.shared r.devices r.posts ready.works.items backs inputs r.devices_are r.works gave typed_in its
+    lines_came = lines_pair T ready.shared r.devices r.posts ready.works.items backs inputs r.devices_are r.works gave typed_in its
 
     pub parts_came : All (ArePartsOf ready.shared) (map parts_of its.stations)
-    parts_came = parts_all ready.shared 0 turns gates r.first ready.station.parts r.posts its.stations r.posted ran
+    parts_came = parts_all T ready.shared 0 turns gates r.first ready.station.parts r.posts its.stations r.posted ran
 
     pub raws_came : AreRawsOf ready.shared (map tty_of its.served)
-    raws_came = raws_are ready.shared r.devices r.posts ready.works.items backs inputs r.devices_are r.works gave typed_in its
+    raws_came = raws_are T ready.shared r.devices r.posts ready.works.items backs inputs r.devices_are r.works gave typed_in its
 
     module _ (last : Parts) (joined : AllJoined ready.station.parts (map parts_of its.stations) last) where
       came : CameTogether ready.shared r.first last (map parts_of its.stations)
-      came = came_together ready.shared turns gates r.first ready.station.parts last r.posts its.stations r.posted ran joined r.none_on r.free
+      came = came_together T ready.shared turns gates r.first ready.station.parts last r.posts its.stations r.posted ran joined r.none_on r.free
 
       pub wholes : (parts : Parts) → ArePartsOf ready.shared parts → TookRaws (length ready.shared.plan.queues) (length ready.shared.plan.movers) (map tty_of its.served) last parts → HasWholes ready.shared parts
       wholes parts are took =
@@ -115,7 +119,7 @@ module _ {G : Type 0} (plan : BootPlan) (turns : ℕ) (gates : List G) (ready : 
             large = back.2.large;
             chains = back.2.chains;
             all_ttys = length-map its.served tty_of ∙ (its.ttys_are ∙ sym r.devices_are.number);
-            ttys_share = kept_shares ready.shared r.devices r.posts ready.works.items backs inputs r.devices_are r.works gave typed_in its;
+            ttys_share = kept_shares T ready.shared r.devices r.posts ready.works.items backs inputs r.devices_are r.works gave typed_in its;
             took = took;
             its = are;
             hand = back.0;
@@ -136,7 +140,7 @@ module _ {G : Type 0} (plan : BootPlan) (turns : ℕ) (gates : List G) (ready : 
           free = came.free;
           its = its_parts;
           all_ttys = (length-map its.served tty_of ∙ its.ttys_are, length-map its.served did_of ∙ its.ttys_are);
-          ttys_ended = devices_ended ready.shared r.devices r.posts ready.works.items backs inputs r.devices_are r.works gave typed_in its told tolds;
+          ttys_ended = devices_ended T ready.shared r.devices r.posts ready.works.items backs inputs r.devices_are r.works gave typed_in its told tolds;
           took = took;
           closed = closes;
           quajects = r.quajects;
@@ -148,7 +152,7 @@ module _ {G : Type 0} (plan : BootPlan) (turns : ℕ) (gates : List G) (ready : 
         pub booted : (report : Report) → IsReported ended (flat_map heard_lines (map parts_of its.stations)) told report → IsBootOf plan (length gates) report
         booted report reported =
             let e = ends ready.shared came.logs ready.station.parts (map parts_of its.stations) last (map tty_of its.served) (map did_of its.served) parts ended shut told report
-            (devices_shown ready.shared r.devices r.posts ready.works.items backs inputs r.devices_are r.works gave typed_in its told tolds) reported in
+            (devices_shown T ready.shared r.devices r.posts ready.works.items backs inputs r.devices_are r.works gave typed_in its told tolds) reported in
             subst (λ (z : BootPlan). IsBootOf z (length gates) report) r.plan_is (record {
               closed = closed_shut ready.shared came.logs ready.station.parts (map parts_of its.stations) last (map tty_of its.served) (map did_of its.served) parts ended shut;
               logs = came.logs;

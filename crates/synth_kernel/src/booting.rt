@@ -1,5 +1,6 @@
 //! A boot, from its plan to its report.
 ghost use Rattle.std.specs.Prelude.{◌≤◌, vec_len, IfOk};
+ghost use Rattle.kernel_threads.specs.Works.{AllToldTurns};
 ghost use Rattle.synth_kernel.specs.Boots.{IsBootOf};
 
 use crate::gathering::{finish_all, join_stations, sort_backs};
@@ -29,7 +30,8 @@ where
     R: Threads + Wait + Sync,
     G: Gate + Send + Drop,
     requires gates { (1 ≤ vec_len gates) × (vec_len gates ≤ 8) }
-    ensures { IfOk result (λ report. IsBootOf plan (vec_len gates) report) }
+    ensures booted { IfOk result (λ report. IsBootOf plan (vec_len gates) report) }
+    ensures told { IfOk result (λ report. AllToldTurns G.told 0 turns gates.items) }
 {
     let processors = gates.len();
     let Ready {

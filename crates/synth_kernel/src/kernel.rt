@@ -4,6 +4,7 @@ ghost use Rattle.std.specs.Io.KnownBytes.{Appends, Keeps};
 ghost use Rattle.boot_script.specs.Answers.{Says};
 ghost use Rattle.boot_script.specs.BootPlans.{plan_of};
 ghost use Rattle.boot_script.specs.Plans.{text_plan};
+ghost use Rattle.kernel_threads.specs.Works.{AllToldTurns};
 ghost use Rattle.synth_kernel.specs.Boots.{IsBoot, IsBootFault, IsBootAnswer, IsRun, IsRead, IsLate};
 
 use crate::booting::boot_plan;
@@ -60,6 +61,7 @@ where
     requires gates { (1 ≤ vec_len gates) × (vec_len gates ≤ 8) }
     ensures ok { IfOk result (λ ended. IsRun plan (vec_len gates) ended (O.contents writer.old)
         (O.contents writer.new)) }
+    ensures told { IfOk result (λ ended. AllToldTurns G.told 0 turns gates.items) }
     ensures fault { IfErr result (λ fault. IsLate fault) }
     ensures unwritten { IfErr result (λ fault. fault ≢ BootFault.Write
         → Keeps (O.contents writer.old) (O.contents writer.new)) }
@@ -116,7 +118,8 @@ where
     boot_and_print(rt, alloc, plan, writer, turns, gates)
 }
 
-/// The same with a gate for each processor, from 0 on, which the processor calls between the parts of its turns.
+/// The same with a gate for each processor, from 0 on, which the processor calls between the parts of its turns: where
+/// the boot answers `Ok`, with the number of each turn, and then with the points of its step.
 ///
 /// Conditions: there are 1 to 8 processors, and a gate for each.
 pub fn boot_on_with<R, I, O, G>(
@@ -137,6 +140,7 @@ where
     requires gates { vec_len gates ≡ processors }
     ensures ok { IfOk result (λ ended. IfSome (I.remaining reader.old) (λ bytes. IsBoot (text_plan bytes)
         processors ended (O.contents writer.old) (O.contents writer.new))) }
+    ensures told { IfOk result (λ ended. AllToldTurns G.told 0 turns gates.items) }
     ensures fault { IfErr result (λ fault. IfSome (I.remaining reader.old) (λ bytes. IsBootFault
         (text_plan bytes) fault)) }
     ensures unwritten { IfErr result (λ fault. fault ≢ BootFault.Write
@@ -191,6 +195,7 @@ where
     requires gates { vec_len gates ≡ processors }
     ensures ok { IfOk result (λ ended. IfSome (I.remaining reader) (λ bytes. IsBootAnswer (text_plan bytes)
         processors ended)) }
+    ensures told { IfOk result (λ ended. AllToldTurns G.told 0 turns gates.items) }
     ensures fault { IfErr result (λ fault. IfSome (I.remaining reader) (λ bytes. IsBootFault (text_plan bytes)
         fault)) }
 {

@@ -5,16 +5,15 @@ use Rattle.reporting.specs.Made.{numbered, queue_line, gauge_line, mover_line, h
 use Rattle.reporting.proofs.Saying.{says}
 use Rattle.reporting.proofs.making.make_report.Goals as goal
 
-pub returns : goal.returns
-returns c =
+pub returns-clause-made : goal.returns-clause-made
+returns-clause-made c =
     let counts = c.as_slice-counts.ensures.value in
     let queues = c.as_slice.ensures in
     let small = c.as_slice-2.ensures.value in
     let movers = c.as_slice-3.ensures in
     let gauges = c.as_slice-4.ensures in
     let alarms = c.as_slice-5.ensures in
-    let threads = c.as_slice-6.ensures in
-    λ closed shows. says closed c.args.ended c.args.heard.items c.args.typed.now _ shows (record {
+    let threads = c.as_slice-6.ensures in record {
       queues = c.new.ensures ∙ (c.queue_lines-queues.ensures ∙ (λ i. numbered (queue_line (small i)) 0 (queues i)));
       ttys = c.new-2.ensures ∙ c.lines_of_ttys-ttys.ensures;
       movers = c.new-3.ensures ∙ (c.mover_lines-movers.ensures ∙ (λ i. numbered (mover_line (counts i)) 0 (movers i)));
@@ -23,5 +22,7 @@ returns c =
       threads = c.new-5.ensures ∙ c.thread_lines-threads.ensures;
       heard_is = c.new-6.ensures ∙ (c.heard_lines-heard.ensures ∙ (λ i. map (heard_line (threads i)) (map line_heard c.args.heard.items)));
       chained = c.all_left-chained.ensures ∙ (λ i. sum_by left_in (counts i) % 2 ^ 64);
-      eight = c.gauge_lines-gauges.ensures.eight;
-    })
+    }
+
+pub returns-clause-says : goal.returns-clause-says
+returns-clause-says c = λ closed shows. says closed c.args.ended (map line_heard c.args.heard.items) c.args.typed.now _ shows (returns-clause-made c) c.gauge_lines-gauges.ensures.eight

@@ -18,5 +18,6 @@ returns c = record {
   heard = map line_heard c.sort_heard.new.heard.items;
   all_heard = subst (λ (z : List Line). IsPermutation z (map line_heard c.sort_heard.new.heard.items)) c.gather-heard.ensures c.sort_heard.ensures.all;
   ascend = c.sort_heard.ensures.ascend;
-  says = c.make_report.ensures;
+  made = c.make_report.ensures.made;
+  says = c.make_report.ensures.says;
 }

@@ -1,4 +1,5 @@
 pub mod Putting
 pub mod Taking
 pub mod Wholes
+pub mod Gathering
 pub mod Settling

@@ -1,5 +1,5 @@
 -- What a producer put, one line behind the other.
-use Rattle.std.proofs.Common.{◌≡◌, ℕ, List, [], ◌∷◌, ◌++◌, ◌∙◌, refl, sym, ap, append_assoc, Result}
+use Rattle.std.proofs.Common.{ℕ, List, [], ◌∷◌, ◌++◌, ◌∙◌, refl, sym, ap, append_assoc, Result}
 use Rattle.std.proofs.lemmas.List.{append-nil}
 use Rattle.claim_queue.specs.declared.rule.View.{View}
 use Rattle.claim_queue.specs.declared.claim.ClaimRefusal.{ClaimRefusal}

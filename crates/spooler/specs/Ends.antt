@@ -1,6 +1,9 @@
 -- What comes back from a thread, with the end that it was given.
 use Rattle.std.specs.Global.{Vec}
-use Rattle.std.specs.Prelude.{List, Option, IfSome}
+use Rattle.std.specs.Prelude.{◌≡◌, ◌+◌, ◌<◌, ℕ, List, [], ◌∷◌, ◌++◌, map, length, Option, IfSome, slice_index_or}
+use Rattle.table_theory.specs.Interleaving.{joined}
+use Rattle.table_theory.specs.Sharing.{total}
+use Rattle.claim_queue.specs.declared.rule.View.{View}
 use Rattle.claim_queue.specs.declared.ends.ClaimQueue.{ClaimQueue}
 use Rattle.claim_queue.specs.declared.ends.QueueEnd.{QueueEnd}
 use Rattle.claim_queue.specs.Handles.{view_of, IsEndOf}
@@ -16,3 +19,26 @@ Puts queue lines end back = IsEndOf queue back × HasPut (lines_of lines) (view_
 abbrev pub Takes : ClaimQueue 64 → QueueEnd 64 → QueueEnd 64 × Option (Vec Line) → Type 0
 Takes queue end taker = IsEndOf queue taker.0 × KeepsPuts (view_of end) (view_of taker.0)
     × IfSome taker.1 (λ lines. HasTaken (lines_of lines.items) (view_of end) (view_of taker.0))
+
+-- each is an end of this queue
+abbrev pub AreEndsOf : ClaimQueue 64 → List (QueueEnd 64) → Type 0
+AreEndsOf queue ends = (i : ℕ) (d : QueueEnd 64) → i < length ends → IsEndOf queue (slice_index_or ends i d)
+
+-- each of these ends put the lines of its job
+abbrev pub PutsEach : List (List (List ℕ)) → List View → List View → Type 0
+PutsEach [] vs ws = (vs ≡ []) × (ws ≡ [])
+PutsEach (job ∷ jobs) [] ws = ⊥
+PutsEach (job ∷ jobs) (v ∷ vs) [] = ⊥
+PutsEach (job ∷ jobs) (v ∷ vs) (w ∷ ws) = HasPut job v w × PutsEach jobs vs ws
+
+-- it took in these ends, one after the other
+pub record Gathered (v : View) (others : List View) (w : View) : Type 0 where
+  pub runs : w.part.runs ≡ v.part.runs ++ joined (map (λ u. u.part.runs) others)
+  pub takes : w.part.takes ≡ v.part.takes ++ joined (map (λ u. u.part.takes) others)
+  pub share : w.member.share ≡ v.member.share + total (λ u. u.member.share) others
+
+-- Each of these ends put the lines of its job; then the end took in all of them
+pub record PutsAll (jobs : List (List (List ℕ))) (v : View) (ends : List View) (w : View) : Type 0 where
+  pub backs : List View
+  pub puts : PutsEach jobs ends backs
+  pub gathered : Gathered v backs w

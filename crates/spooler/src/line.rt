@@ -4,8 +4,8 @@ ghost use Rattle.spooler.specs.Wholes.{IsWhole};
 
 use arrayvec::ArrayVec;
 
-/// The item that ends a line.
-const END: u64 = 10;
+/// The byte that ends a line.
+const END: u8 = b'\n';
 
 /// The items of a line, up to and with its end: at most 64, which is the queue's room.
 #[derive(PartialEq, Eq, PartialOrd, Ord, Drop)]
@@ -19,18 +19,14 @@ impl Line {
     pub fn of(text: &[u8]) -> Option<Line>
         ensures { IfSome result (λ line. line.items.items ≡ text.now ++ 10 ∷ []) }
     {
-        if text.len() >= 64 {
+        if text.len() >= 64 || text.contains(&END) {
             return None;
         }
         let mut items = ArrayVec::new();
         for byte in text {
-            let item = *byte as u64;
-            if item == END {
-                return None;
-            }
-            items.push(item);
+            items.push(*byte as u64);
         }
-        items.push(END);
+        items.push(END as u64);
         Some(Line { items })
     }
 }

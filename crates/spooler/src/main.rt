@@ -34,32 +34,23 @@ fn job(alloc: Global, texts: &[&str]) -> Result<Vec<Line>, Fault> {
 }
 
 /// All lines that were taken, each as often as it was taken, in alphabetical order.
-pub fn sorted(one: Vec<Line>, other: Vec<Line>) -> Result<Vec<Line>, Fault>
+pub fn sorted(mut one: Vec<Line>, mut other: Vec<Line>) -> Result<Vec<Line>, Fault>
     ensures { IfOk result (λ lines. IsPermutation (one.items ++ other.items) lines.items) }
 {
-    let (mut lines, mut other) = (one, other);
-    lines.append(&mut other).map_err(|_| "no memory")?;
-    lines.sort_unstable();
-    Ok(lines)
-}
-
-/// Prints a line.
-fn print_line<R: Print>(rt: &R, line: &Line) -> Result<(), Fault> {
-    for item in line.items.as_slice() {
-        print!(rt; "{}", (*item % 256) as u8 as char).map_err(|_| "a line can't be written")?;
-    }
-    Ok(())
+    one.append(&mut other).map_err(|_| "no memory")?;
+    one.sort_unstable();
+    Ok(one)
 }
 
 /// Spools three jobs, and prints all lines.
 fn run<R: Threads + Wait + Print + AllocGlobal + Sync>(rt: &R) -> Result<(), Fault> {
     let alloc = rt.alloc();
-    let (ann, ben, eve) = (job(alloc, &ANN)?, job(alloc, &BEN)?, job(alloc, &EVE)?);
-    let (one, other) = run_spool(rt, alloc, ann.as_slice(), ben.as_slice(), eve.as_slice()).map_err(
-        |_| "no memory",
-    )?;
+    let jobs = [job(alloc, &ANN)?, job(alloc, &BEN)?, job(alloc, &EVE)?];
+    let (one, other) = run_spool(rt, alloc, &jobs).map_err(|_| "no memory")?;
     for line in sorted(one, other)? {
-        print_line(rt, &line)?;
+        for item in line.items.as_slice() {
+            print!(rt; "{}", (*item % 256) as u8 as char).map_err(|_| "a line can't be written")?;
+        }
     }
     Ok(())
 }

@@ -4,8 +4,8 @@ use std::test::*;
 #[test]
 fn every_line_comes_once(rt: HostRuntime) -> Result<(), Fail> {
     let alloc = rt.alloc();
-    let (ann, ben, eve) = (job(alloc, &ANN)?, job(alloc, &BEN)?, job(alloc, &EVE)?);
-    let (one, other) = run_spool(&rt, alloc, ann.as_slice(), ben.as_slice(), eve.as_slice())?;
+    let jobs = [job(alloc, &ANN)?, job(alloc, &BEN)?, job(alloc, &EVE)?];
+    let (one, other) = run_spool(&rt, alloc, &jobs)?;
     let lines = sorted(one, other)?;
     assert!(rt; lines.len() == 9);
     for (line, text) in lines

@@ -16,8 +16,8 @@ loop-line-preserved g c =
     let i : ℕ = c.loop-line.line-index in
     let next : suc i ≡ i + 1 = omega arith in
     let more = one_more c.args.lines.now i c.line-item.result c.line-item.is c.loop-line-test.true in
-    let h = put_on (view_of c.args.end) (view_of c.loop-line.end) (view_of c.put_line.new.end) (lines_of (take i c.args.lines.now)) (c.line-item.result.items.items ∷ []) c.loop-line.invariant.1 c.put_line.ensures.put in (
+    let h = put_on (view_of c.args.end.now) (view_of c.loop-line.end) (view_of c.put_line.new.end) (lines_of (take i c.args.lines.now)) (c.line-item.result.items.items ∷ []) c.loop-line.invariant.1 c.put_line.ensures.put in (
       (search rules),
-      subst (λ (z : ℕ). HasPut (lines_of (take z c.args.lines.now)) (view_of c.args.end) (view_of c.put_line.new.end)) next
-          (subst (λ (z : List (List ℕ)). HasPut z (view_of c.args.end) (view_of c.put_line.new.end)) (sym more) h),
+      subst (λ (z : ℕ). HasPut (lines_of (take z c.args.lines.now)) (view_of c.args.end.now) (view_of c.put_line.new.end)) next
+          (subst (λ (z : List (List ℕ)). HasPut z (view_of c.args.end.now) (view_of c.put_line.new.end)) (sym more) h),
     )

@@ -1,16 +1,18 @@
-use Rattle.std.proofs.Common.{◌≡◌, ◌++◌, ◌∙◌, [], List, Option, IfSome, ap, subst}
+use Rattle.std.specs.Global.{Vec}
+use Rattle.std.specs.Prelude.{Some, None}
+use Rattle.std.specs.Option.{ok_or, option_zip}
+use Rattle.std.proofs.Common.{◌≡◌, ◌+◌, ◌++◌, ◌∙◌, List, Option, Result, IfOk, IfSome, sym, ap, subst, arith}
 use Rattle.table_theory.specs.declared.queues.Batch.{Batch}
+use Rattle.table_theory.specs.Sharing.{given, kept}
 use Rattle.table_theory.proofs.Positioned.{grows_trans}
 use Rattle.claim_queue.specs.Handles.{view_of}
 use Rattle.claim_queue.specs.Endings.{Divided, IsNewborn, TookIn}
 use Rattle.claim_queue.specs.declared.rule.View.{View}
+use Rattle.spooler.specs.declared.line.Line.{Line}
 use Rattle.spooler.specs.Doings.{HasTaken}
 use Rattle.spooler.specs.Lines.{lines_of}
-use Rattle.spooler.proofs.Settling.{spooled, produced, taken, idle}
+use Rattle.spooler.proofs.Settling.{Idle, spooled, produced, taken, same_share}
 use Rattle.spooler.proofs.spool.run_spool.Goals as goal
-
-abbrev Idle : View → Type 0
-Idle v = (v.part.runs ≡ []) × (v.part.takes ≡ [])
 
 -- a split leaves an end with nothing as it was, and gives one with nothing
 split_idle : (v w : View) → Divided v w → Idle v → Idle w
@@ -19,17 +21,50 @@ split_idle v w d i = (ap (λ (z : View). z.part.runs) d.same ∙ i.0, ap (λ (z 
 born_idle : (v w born : View) → IsNewborn v w born → Idle born
 born_idle v w born b = (ap (λ (z : View). z.part.runs) b, ap (λ (z : View). z.part.takes) b)
 
-joined_runs : (v u w : View) → TookIn v u w → w.part.runs ≡ v.part.runs ++ u.part.runs
-joined_runs v u w t = ap (λ (z : View). z.part.runs) t.same
+-- the shares of both are the share that was split
+split_share : (v w born : View) → Divided v w → IsNewborn v w born → w.member.share + born.member.share ≡ v.member.share
+split_share v w born d b =
+    let left : w.member.share ≡ kept v.member.share = ap (λ m. m.share) d.member.same in
+    let gone : born.member.share ≡ given v.member.share = ap (λ (z : View). z.member.share) b in
+    omega arith
 
-joined_takes : (v u w : View) → TookIn v u w → w.part.takes ≡ v.part.takes ++ u.part.takes
-joined_takes v u w t = ap (λ (z : View). z.part.takes) t.same
+joined_share : (v u w : View) → TookIn v u w → w.member.share ≡ v.member.share + u.member.share
+joined_share v u w t = ap (λ m. m.share) t.member.same
 
-on_top : (x y z u : List Batch) → z ≡ x ++ u → x ≡ y → z ≡ y ++ u
-on_top x y z u a b = a ∙ ap (λ (w : List Batch). w ++ u) b
+-- what both came back with
+both_kept : {E : Type 0} (one other : Option (Vec Line)) (r : Result (Vec Line × Vec Line) E) (e : E) (H K : Vec Line → Type 0) (P : Vec Line × Vec Line → Type 0)
+    → r ≡ ok_or (option_zip one other) e → IfSome one H → IfSome other K → ((x y : Vec Line) → H x → K y → P (x, y)) → IfOk r P
+both_kept None other r e H K P is h k f = subst (λ z. IfOk z P) (sym is) tt
+both_kept (Some x) None r e H K P is h k f = subst (λ z. IfOk z P) (sym is) tt
+both_kept (Some x) (Some y) r e H K P is h k f = subst (λ z. IfOk z P) (sym is) (f x y h k)
 
-pub returns-in-Some-Some : goal.returns-in-Some-Some
-returns-in-Some-Some g c =
+pub unreachable-requires : goal.unreachable-requires
+unreachable-requires g c =
+    let v0 : View = view_of c.in_ok-queue.last in
+    let v1 : View = view_of c.split-a.new.end in
+    let v2 : View = view_of c.split-b.new.end in
+    let v3 : View = view_of c.split-c.new.end in
+    let v4 : View = view_of c.split-d.new.end in
+    let v5 : View = view_of c.split-e.new.end in
+    let back = c.join-last.result in
+    let whole = ap (λ (z : View). z.member.share) c.in_ok-queue.ensures.2 in
+    let s1 = split_share v0 v1 (view_of c.split-a.result) c.split-a.ensures.split c.split-a.ensures.born in
+    let s2 = split_share v1 v2 (view_of c.split-b.result) c.split-b.ensures.split c.split-b.ensures.born in
+    let s3 = split_share v2 v3 (view_of c.split-c.result) c.split-c.ensures.split c.split-c.ensures.born in
+    let s4 = split_share v3 v4 (view_of c.split-d.result) c.split-d.ensures.split c.split-d.ensures.born in
+    let s5 = split_share v4 v5 (view_of c.split-e.result) c.split-e.ensures.split c.split-e.ensures.born in
+    let put = c.join-last.ensures.first.1 in
+    let took = c.join-last.ensures.second in
+    let p = put.gathered.share in
+    let same = same_share _ _ put.backs put.puts in
+    let t = took.0.1.share in
+    let u = took.1.1.share in
+    let j1 = joined_share (view_of back.0) (view_of back.1.0.0) (view_of c.join.new.end) c.join.ensures.joined in
+    let j2 = joined_share (view_of c.join.new.end) (view_of back.1.1.0) (view_of c.join-2.new.end) c.join-2.ensures.joined in
+    c.in_default.ensures.only (omega arith)
+
+pub returns : goal.returns
+returns g c =
     let v0 : View = view_of c.in_ok-queue.last in
     let v1 : View = view_of c.split-a.new.end in
     let v2 : View = view_of c.split-b.new.end in
@@ -43,46 +78,28 @@ returns-in-Some-Some g c =
     let i3 : Idle v3 = split_idle v2 v3 c.split-c.ensures.split i2 in
     let i4 : Idle v4 = split_idle v3 v4 c.split-d.ensures.split i3 in
     let i5 : Idle v5 = split_idle v4 v5 c.split-e.ensures.split i4 in
-    let a0 : View = view_of c.split-a.result in
-    let b0 : View = view_of c.split-b.result in
-    let c0 : View = view_of c.split-c.result in
+    let ia = born_idle v0 v1 (view_of c.split-a.result) c.split-a.ensures.born in
+    let ib = born_idle v1 v2 (view_of c.split-b.result) c.split-b.ensures.born in
+    let ic = born_idle v2 v3 (view_of c.split-c.result) c.split-c.ensures.born in
+    let id = born_idle v3 v4 (view_of c.split-d.result) c.split-d.ensures.born in
+    let ie = born_idle v4 v5 (view_of c.split-e.result) c.split-e.ensures.born in
+    let back = c.join-last.result in
+    let put = c.join-last.ensures.first.1 in
+    let took = c.join-last.ensures.second in
     let d0 : View = view_of c.split-d.result in
     let e0 : View = view_of c.split-e.result in
-    let ia = born_idle v0 v1 a0 c.split-a.ensures.born in
-    let ib = born_idle v1 v2 b0 c.split-b.ensures.born in
-    let ic = born_idle v2 v3 c0 c.split-c.ensures.born in
-    let id = born_idle v3 v4 d0 c.split-d.ensures.born in
-    let ie = born_idle v4 v5 e0 c.split-e.ensures.born in
-    let back = c.join-back.result in
-    let put = c.join-back.ensures.first in
-    let took = c.join-back.ensures.second in
-    let l : View = view_of back.0.0 in
-    let a : View = view_of back.0.1.0 in
-    let b : View = view_of back.0.1.1.0 in
-    let d : View = view_of back.0.1.1.1 in
+    let p : View = view_of back.0 in
     let t : View = view_of back.1.0.0 in
     let u : View = view_of back.1.1.0 in
     let j1 : View = view_of c.join.new.end in
     let j2 : View = view_of c.join-2.new.end in
-    let j3 : View = view_of c.join-3.new.end in
-    let j4 : View = view_of c.join-4.new.end in
-    let j5 : View = view_of c.join-5.new.end in
     let t1 = c.join.ensures.joined in
     let t2 = c.join-2.ensures.joined in
-    let t3 = c.join-3.ensures.joined in
-    let t4 = c.join-4.ensures.joined in
-    let t5 = c.join-5.ensures.joined in
-    let runs = on_top j4.part.runs _ j5.part.runs u.part.runs (joined_runs j4 u j5 t5) (on_top j3.part.runs _ j4.part.runs t.part.runs (joined_runs j3 t j4 t4)
-    (on_top j2.part.runs _ j3.part.runs d.part.runs (joined_runs j2 d j3 t3) (on_top j1.part.runs _ j2.part.runs b.part.runs (joined_runs j1 b j2 t2) (joined_runs l a j1 t1)))) in
-    let takes = on_top j4.part.takes _ j5.part.takes u.part.takes (joined_takes j4 u j5 t5) (on_top j3.part.takes _ j4.part.takes t.part.takes (joined_takes j3 t j4 t4)
-    (on_top j2.part.takes _ j3.part.takes d.part.takes (joined_takes j2 d j3 t3) (on_top j1.part.takes _ j2.part.takes b.part.takes (joined_takes j1 b j2 t2) (joined_takes l a j1 t1)))) in
-    let one : HasTaken (lines_of c.in-Some-Some.one.items) d0 t = subst (λ (z : Option _). IfSome z (λ lines. HasTaken (lines_of lines.items) d0 t)) c.in-Some-Some.is-0 took.0.2 in
-    let other : HasTaken (lines_of c.in-Some-Some.other.items) e0 u = subst (λ (z : Option _). IfSome z (λ lines. HasTaken (lines_of lines.items) e0 u)) c.in-Some-Some.is-1 took.1.2 in
-    spooled c.args.first.now c.args.second.now c.args.third.now c.in-Some-Some.one.items c.in-Some-Some.other.items l a b d t u j5 _ _ _ _
-    (idle v5 l i5.0 i5.1 put.0.1.puts put.0.1.takes)
-    (produced (lines_of c.args.first.now) a0 a ia.0 ia.1 put.1.1)
-    (produced (lines_of c.args.second.now) b0 b ib.0 ib.1 put.2.1)
-    (produced (lines_of c.args.third.now) c0 d ic.0 ic.1 put.3.1)
-    (taken (lines_of c.in-Some-Some.one.items) d0 t id.0 id.1 took.0.1 one)
-    (taken (lines_of c.in-Some-Some.other.items) e0 u ie.0 ie.1 took.1.1 other)
-    runs takes (grows_trans t.part.queue j4.part.queue j5.part.queue t4.sees.later.1 t5.sees.later.0) c.in-Ok.ensures.closed.1
+    let runs : j2.part.runs ≡ (p.part.runs ++ t.part.runs) ++ u.part.runs = ap (λ (z : View). z.part.runs) t2.same ∙ ap (λ (l : List Batch). l ++ u.part.runs) (ap (λ (z : View). z.part.runs) t1.same) in
+    let takes : j2.part.takes ≡ (p.part.takes ++ t.part.takes) ++ u.part.takes = ap (λ (z : View). z.part.takes) t2.same ∙ ap (λ (l : List Batch). l ++ u.part.takes) (ap (λ (z : View). z.part.takes) t1.same) in
+    both_kept back.1.0.1 back.1.1.1 c.ok_or.result _ (λ lines. HasTaken (lines_of lines.items) d0 t) (λ lines. HasTaken (lines_of lines.items) e0 u) _
+    (c.ok_or.ensures.value ∙ ap (λ z. ok_or z _) c.zip.ensures) took.0.2 took.1.2
+    (λ x y h k. spooled c.args.jobs.now x.items y.items v5 p t u j2 put.backs _ _ _ _ i5
+    (produced _ _ put.backs (ia, (ib, (ic, tt))) put.puts) put.gathered
+    (taken (lines_of x.items) d0 t id.0 id.1 took.0.1 h) (taken (lines_of y.items) e0 u ie.0 ie.1 took.1.1 k)
+    runs takes (grows_trans t.part.queue j1.part.queue j2.part.queue t1.sees.later.1 t2.sees.later.0) c.in-Ok.ensures.closed.1)

@@ -1,6 +1,8 @@
 use Rattle.std.specs.Global.{Vec}
 use Rattle.std.specs.Bool.{then_some}
-use Rattle.std.proofs.Common.{rules, ◌≡◌, ◌∙◌, Bool, Option, IfSome, true, false, refl, sym, subst}
+use Rattle.std.proofs.Common.{rules, ◌≡◌, ◌∙◌, ◌++◌, ◌∷◌, [], List, Bool, Option, IfSome, true, false, refl, sym, ap, subst}
+use Rattle.std.specs.Prelude.{if◌then◌else◌}
+use Rattle.std.proofs.lemmas.List.{map-append}
 use Rattle.claim_queue.specs.Handles.{view_of}
 use Rattle.claim_queue.specs.Takings.{IsBegun, IsLine}
 use Rattle.spooler.specs.declared.line.Line.{Line}
@@ -21,22 +23,26 @@ loop-preserved g c = let i = c.loop.invariant in let s = c.in-Err.ensures.lines 
   taken = λ k. s.takes ∙ i.taken k;
 }
 
-pub loop-preserved-then-keep : goal.loop-preserved-then-keep
-loop-preserved-then-keep g c = let i = c.loop.invariant in let t = c.in-Ok.ensures.lines in let items = c.try_take_line.new.line.items in record {
+pushed : (is : Bool) (new old : List Line) (line : Line) → new ≡ (if is then old ++ line ∷ [] else old) → is ≡ true → lines_of new ≡ lines_of old ++ line.items.items ∷ []
+pushed true new old line is _ = ap lines_of is ∙ map-append (λ (z : Line). z.items.items) old (line ∷ [])
+pushed false new old line is e = absurd (never e)
+
+pub loop-preserved-then-is_ok : goal.loop-preserved-then-is_ok
+loop-preserved-then-is_ok g c = let i = c.loop.invariant in let t = c.in-Ok.ensures.lines in let items = c.try_take_line.new.line.items in record {
   steps = search rules;
   mine = search rules;
   puts = puts_through (view_of c.args.end) (view_of c.loop.end) (view_of c.try_take_line.new.end) i.puts t.puts t.share;
   order = λ o. took_order 64 _ (view_of c.loop.end) (view_of c.try_take_line.new.end) items c.in-Ok.ensures.taken.1.1 c.in-Ok.ensures.taken.2 (i.order o);
-  taken = λ k. more_taken (view_of c.args.end) (view_of c.loop.end) (view_of c.try_take_line.new.end) items (lines_of c.loop.lines.items) (lines_of c.keep.new.lines.items) t (i.taken k) (c.keep.ensures c.if-keep.true);
+  taken = λ k. more_taken (view_of c.args.end) (view_of c.loop.end) (view_of c.try_take_line.new.end) items (lines_of c.loop.lines.items) (lines_of c.push.new.self.items) t (i.taken k) (pushed _ _ _ _ c.push.ensures.items (sym c.is_ok.ensures.value ∙ c.if-is_ok.true));
 }
 
-pub loop-preserved-else-keep : goal.loop-preserved-else-keep
-loop-preserved-else-keep g c = let i = c.loop.invariant in let t = c.in-Ok.ensures.lines in let items = c.try_take_line.new.line.items in record {
+pub loop-preserved-else-is_ok : goal.loop-preserved-else-is_ok
+loop-preserved-else-is_ok g c = let i = c.loop.invariant in let t = c.in-Ok.ensures.lines in let items = c.try_take_line.new.line.items in record {
   steps = search rules;
   mine = search rules;
   puts = puts_through (view_of c.args.end) (view_of c.loop.end) (view_of c.try_take_line.new.end) i.puts t.puts t.share;
   order = λ o. took_order 64 _ (view_of c.loop.end) (view_of c.try_take_line.new.end) items c.in-Ok.ensures.taken.1.1 c.in-Ok.ensures.taken.2 (i.order o);
-  taken = λ k. absurd (never (sym c.if-keep.false ∙ k));
+  taken = λ k. absurd (never (sym c.if-is_ok.false ∙ k));
 }
 
 -- what is kept of the lines, where all found memory

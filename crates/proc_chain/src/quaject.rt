@@ -21,7 +21,7 @@ pub trait Quaject {
     // The quaject fits this world.
     ghost fits: { Self.World → Self → Type 0 };
 
-    // What no run changes is in the second quaject as it is in the first.
+    // Runs may make the second quaject of the first: what no run changes is in it as it is in the first.
     ghost keeps: { Self → Self → Type 0 };
 
     /// Runs one note.

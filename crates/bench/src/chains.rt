@@ -25,11 +25,9 @@ pub struct Nothing;
 impl Quaject for Runner {
     type World = Nothing;
 
-    ghost made_by = { λ runner notes. Unit {0} };
+    ghost made_by = { λ first runner notes. Unit {0} };
 
     ghost fits = { λ world runner. Unit {0} };
-
-    ghost keeps = { λ first runner. Unit {0} };
 
     fn run(&mut self, _world: &Nothing, note: u16) -> Ran {
         self.take(note);

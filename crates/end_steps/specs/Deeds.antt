@@ -19,7 +19,7 @@ use Rattle.proc_chain.specs.declared.ends.ProcChain.{ProcChain}
 use Rattle.proc_chain.specs.declared.rule.View.{View}
 use Rattle.proc_chain.specs.Answers as chains
 use Rattle.proc_chain.specs.Handles as chain_ends
-use Rattle.proc_chain.specs.Rules.{suits}
+use Rattle.proc_chain.specs.Rules.{suits, makes}
 use Rattle.proc_chain.specs.Servings.{AllServed}
 use Rattle.end_steps.specs.declared.poking.Poked.{Poked}
 use Rattle.end_steps.specs.declared.poking.Poked.TheVariants.{Ran, Left}
@@ -53,7 +53,8 @@ ToldOnce made fits call me note (Err refusal) me' = chains.Refused me refusal me
 module _ {Q W : Type 0} {g : Ghosts Q W} where
   -- the end of this chain told it the note, by one try
   abbrev pub HasPoked : ProcChain Q W → ℕ → Result Poked ChainRefusal → ChainEnd Q W g → ChainEnd Q W g → Type 0
-  HasPoked chain note answer old new = ToldOnce g.made_by (suits g.fits g.keeps (chain_ends.pact_of chain))
+  HasPoked chain note answer old new =
+      ToldOnce (makes g.made_by (chain_ends.pact_of chain)) (suits g.fits (chain_ends.pact_of chain))
       (chain_ends.call_of old) (chain_ends.me_of old) note answer (chain_ends.me_of new)
 
   -- the end of the chain with this index told it the note, and the other ends did nothing

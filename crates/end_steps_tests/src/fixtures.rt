@@ -59,7 +59,7 @@ pub(crate) struct Pumped {
     ghost other_idle: { IsIdle other },
 }
 
-#[tactic(auto, using(quajects::proofs::Coming::came_of_itself))]
+#[tactic(auto, using(quajects::proofs::Making::made_of_itself))]
 pub(crate) fn make_pump(alloc: Global) -> Result<Pumped, OutOfMemory> {
     let (first, mut source) = ClaimQueue::new(alloc, 0)?;
     let a = first.split(&mut source);

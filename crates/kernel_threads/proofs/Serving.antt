@@ -13,11 +13,11 @@ use Rattle.proc_chain.specs.declared.ends.ProcChain.{ProcChain}
 use Rattle.proc_chain.specs.declared.rule.View as chains
 use Rattle.proc_chain.specs.Handles.{pact_of, me_of, call_of, IsSameEnd}
 use Rattle.proc_chain.specs.Notes.{notes_put, alone}
-use Rattle.proc_chain.specs.Rules.{suits}
+use Rattle.proc_chain.specs.Rules.{suits, makes}
 use Rattle.quajects.specs.declared.any.AnyQuaject.{AnyQuaject}
 use Rattle.quajects.specs.declared.world.Queues.{Queues}
 use Rattle.quajects.specs.declared.raw.RawTty.{RawTty}
-use Rattle.quajects.specs.Anys.{HasRun, Fits, CameOf}
+use Rattle.quajects.specs.Anys.{MadeOf, Fits}
 use Rattle.quajects.specs.Notings.{Noted}
 use Rattle.quajects.specs.Raws.{end_of, overruns_of, PutByte}
 use Rattle.kernel_threads.specs.Devices.{without_refused, refused, PutEach, NotedEach, zeros, Served}
@@ -124,14 +124,14 @@ module _ (chain : ProcChain AnyQuaject Queues) (line : LineOut) (tty : RawTty) w
       → MatchBool put (PutLine (byte ∷ []) (claims.view_of (end_of tty1)) (claims.view_of (end_of tty2))) (SameLines (claims.view_of (end_of tty1)) (claims.view_of (end_of tty2)))
       → overruns_of tty2 ≡ (if put then overruns_of tty1 else (overruns_of tty1 + 1) % 2 ^ 64)
       → IsSameEnd tty1.chain tty2.chain
-      → Noted HasRun (suits Fits CameOf (pact_of chain)) (call_of tty1.chain) (me_of tty1.chain) 0 (me_of tty2.chain)
+      → Noted (makes MadeOf (pact_of chain)) (suits Fits (pact_of chain)) (call_of tty1.chain) (me_of tty1.chain) 0 (me_of tty2.chain)
       → Served chain (count + 1) line tty line2 tty2
   served_more count byte put line1 line2 tty1 tty2 s received same tried lines overruns same_chain noted =
       let call = claims.call_of (end_of tty) in
       let v = claims.view_of (end_of tty) in
       let u = claims.view_of (end_of tty1) in
       let w = claims.view_of (end_of tty2) in
-      let fits = suits Fits CameOf (pact_of chain) in
+      let made = makes MadeOf (pact_of chain) in let fits = suits Fits (pact_of chain) in
       let few = few_more count (notes_put (me_of tty.chain).0) (notes_put (me_of tty1.chain).0) (notes_put (me_of tty2.chain).0) noted.answer (record { chained = s.chained; at_most = s.at_most; notes = s.notes }) noted.puts in record {
         bytes = s.bytes ++ byte ∷ [];
         many = length-append s.bytes (byte ∷ []) ∙ ap (λ (z : ℕ). z + 1) s.many;
@@ -143,8 +143,8 @@ module _ (chain : ProcChain AnyQuaject Queues) (line : LineOut) (tty : RawTty) w
         overruns = overruns_more (overruns_of tty) (overruns_of tty1) (overruns_of tty2) s.puts put s.overruns overruns;
         share = put_share (byte ∷ []) put u w lines ∙ s.share;
         same_chain = (same_chain.0 ∙ s.same_chain.0, same_chain.1 ∙ s.same_chain.1);
-        noted = noted_more HasRun fits (call_of tty.chain) s.bytes byte (me_of tty.chain) (me_of tty1.chain) (me_of tty2.chain) s.noted
-            (subst (λ (z : ℕ). Noted HasRun fits z (me_of tty1.chain) 0 (me_of tty2.chain)) s.same_chain.1 noted);
+        noted = noted_more made fits (call_of tty.chain) s.bytes byte (me_of tty.chain) (me_of tty1.chain) (me_of tty2.chain) s.noted
+            (subst (λ (z : ℕ). Noted made fits z (me_of tty1.chain) 0 (me_of tty2.chain)) s.same_chain.1 noted);
         chained = few.chained;
         at_most = few.at_most;
         notes = few.notes;

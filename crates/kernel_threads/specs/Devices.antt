@@ -11,11 +11,11 @@ use Rattle.proc_chain.specs.declared.ends.ProcChain.{ProcChain}
 use Rattle.proc_chain.specs.declared.rule.View as chains
 use Rattle.proc_chain.specs.Handles.{pact_of, me_of, call_of, IsSameEnd}
 use Rattle.proc_chain.specs.Notes.{notes_put, alone}
-use Rattle.proc_chain.specs.Rules.{suits}
+use Rattle.proc_chain.specs.Rules.{suits, makes}
 use Rattle.quajects.specs.declared.any.AnyQuaject.{AnyQuaject}
 use Rattle.quajects.specs.declared.world.Queues.{Queues}
 use Rattle.quajects.specs.declared.raw.RawTty.{RawTty}
-use Rattle.quajects.specs.Anys.{HasRun, Fits, CameOf}
+use Rattle.quajects.specs.Anys.{MadeOf, Fits}
 use Rattle.quajects.specs.Notings.{Noted}
 use Rattle.quajects.specs.Raws.{end_of, overruns_of, PutByte}
 
@@ -65,8 +65,8 @@ pub record Served (chain : ProcChain AnyQuaject Queues) (count : ℕ) (line : Li
   pub overruns : overruns_of tty' ≡ (overruns_of tty + refused puts) % 2 ^ 64
   pub share : (claims.view_of (end_of tty')).member.share ≡ (claims.view_of (end_of tty)).member.share
   pub same_chain : IsSameEnd tty.chain tty'.chain
-  pub noted : NotedEach HasRun (suits Fits CameOf (pact_of chain)) (call_of tty.chain) (me_of tty.chain) bytes
-      (me_of tty'.chain)
+  pub noted : NotedEach (makes MadeOf (pact_of chain)) (suits Fits (pact_of chain)) (call_of tty.chain)
+      (me_of tty.chain) bytes (me_of tty'.chain)
   pub chained : ℕ
   pub at_most : chained ≤ count
   pub notes : notes_put (me_of tty'.chain).0 ≡ notes_put (me_of tty.chain).0 ++ zeros chained

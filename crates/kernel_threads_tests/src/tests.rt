@@ -156,7 +156,7 @@ fn type_and_serve<R: Threads + Wait + Sync>(
 
 /// Two hundred bytes go over a line of 64 places, and come out cooked.
 #[test]
-#[tactic(auto, using(quajects::proofs::Coming::came_of_itself))]
+#[tactic(auto, using(quajects::proofs::Making::made_of_itself))]
 fn typed_bytes_arrive(rt: HostRuntime) -> Result<(), Fail> {
     let Typing {
         queues,

@@ -6,6 +6,5 @@ pub mod Homes
 pub mod Idle
 pub mod Firsts
 pub mod Fresh
-pub mod Readiness
 pub mod Lists
 pub mod LargeEnds

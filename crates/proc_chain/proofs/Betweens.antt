@@ -41,7 +41,7 @@ runner_is q gate views g call v at = dite (ℕ_discrete gate 0)
     (λ ne. let e : eqb (0 + r.number) call ≡ false = ne_eqb (0 + r.number) call (λ z. ne (omega arith)) in
     others_still q gate views r.number r.view g r.is_view r.runner call v at ne ∙ (sym e ∙ ap (is_call call) (sym is))))
 
-module _ {Q W : Type 0} (made : Q → List ℕ → Type 0) (fits : W → Q → Type 0) (key : Shape W) (s : State Q View) (k : Rule made fits key s) where
+module _ {Q W : Type 0} (made : W → Q → List ℕ → Type 0) (fits : W → Q → Type 0) (key : Shape W) (s : State Q View) (k : Rule made fits key s) where
   abbrev c : Chain
   c = chain_of k.queue k.listed.runs (gate_in s.words) s.views
 
@@ -99,6 +99,6 @@ module _ {Q W : Type 0} (made : Q → List ℕ → Type 0) (fits : W → Q → T
     seen = λ j v at. k.listed.seen j v.part (at_map part_of s.views j v at);
     course = k.course;
     ends = k.ends;
-    home = λ idle. let x = k.slot.home (idle_word idle) in (x.0, x.1, subst (made x.0) notes_are x.2, x.3);
+    home = λ idle. let x = k.slot.home (idle_word idle) in (x.0, x.1, subst (made key.pact x.0) notes_are x.2, x.3);
     held = λ busy. k.slot.held (λ down. busy (ap gate_of down));
   }

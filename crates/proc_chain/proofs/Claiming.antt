@@ -25,7 +25,7 @@ use Rattle.table_theory.proofs.Members.{known_look}
 use Rattle.table_theory.proofs.Windows.{window_same, window_claim, window_write}
 use Rattle.proc_chain.specs.declared.rule.Shape.{Shape}
 use Rattle.proc_chain.specs.declared.rule.View.{View}
-use Rattle.proc_chain.specs.Shown.{note_in, mark_in, gate_in, WordsShow}
+use Rattle.proc_chain.specs.Shown.{note_in, mark_in, gate_in, notes_of, WordsShow}
 use Rattle.proc_chain.specs.Gates.{IsSettled, GateShows, SlotShows}
 use Rattle.proc_chain.specs.Rules.{part_of, member_of, IsIdle, moment, Rule}
 use Rattle.proc_chain.specs.Steps.{entry, after, looked, run, claimed, claims, raised, Raised, raises, notifies}
@@ -44,7 +44,7 @@ shows_claim q words x new h is fits = let wide = h.wide in let long = length-app
       (λ k b. ap (λ (z : ℕ). z / 65536) (get_or-set_other words 0 (k + 4) new 0 (λ e. omega arith))) (λ k b. ap (λ (z : ℕ). z % 65536) (get_or-set_other words 0 (k + 4) new 0 (λ e. omega arith)));
 }
 
-module _ {Q W : Type 0} (made : Q → List ℕ → Type 0) (fits : W → Q → Type 0) (key : Shape W) where
+module _ {Q W : Type 0} (made : W → Q → List ℕ → Type 0) (fits : W → Q → Type 0) (key : Shape W) where
   -- what a step with no slot owes, where the word becomes y
   abbrev pub Goes : State Q View → ℕ → ℕ → Me Q View → (Me Q View → Type 0) → ℕ → Type 0
   Goes s i id me told y = (w : View) × (a : Act Q) × Valid s.homes me.1 a × Rule made fits key (stepped s i y id me.1 w a) × told (w, carried_after me.1 a)
@@ -197,8 +197,8 @@ module _ {Q W : Type 0} (made : Q → List ℕ → Type 0) (fits : W → Q → T
     course = course_on made fits key s k id 3 gate gate y k.queue (set s.words 3 y) v w at from now own all;
   }
 
-  pub notifies_gate : (suits : Q → Type 0) (n id call : ℕ) (me : Me Q View) → call ≡ id → 1 ≤ me.0.member.ends → me.0.owes ≡ true → ((x : Q) → fits key.pact x → suits x) → Allows (Rule made fits key) n id me 3 (λ _. 2) (notifies made suits call (step n 3 2 0 none) me)
-  notifies_gate suits n id call me own live ow fit s k _ at _ = let v : View = me.0 in let q : Positions = k.queue in dite (ℕ_discrete (gate_in s.words) 0)
+  pub notifies_gate : (makes : Q → List ℕ → Type 0) (suits : Q → Type 0) (n id call : ℕ) (me : Me Q View) → call ≡ id → 1 ≤ me.0.member.ends → me.0.owes ≡ true → ((x : Q) → fits key.pact x → suits x) → ((x : Q) (notes : List ℕ) → made key.pact x notes → makes x notes) → Allows (Rule made fits key) n id me 3 (λ _. 2) (notifies makes suits call (step n 3 2 0 none) me)
+  notifies_gate makes suits n id call me own live ow fit make s k _ at _ = let v : View = me.0 in let q : Positions = k.queue in dite (ℕ_discrete (gate_in s.words) 0)
       (λ down. let h = k.slot.home down in let x : Q = h.0 in let w : View = record (after v 3 0 (steps_to k) (moment q 0) (moment q 2)) { owes = false; runner = true; saw = false } in let none_runs = k.gate.still down in
       let gate' : GateShows q 2 (set s.views id w) = gated_runs q 2 s.views id v w at (λ j u has ne. none_runs j u has) (λ e. omega arith) (omega arith) refl refl refl in
       let here : get_elem? (set s.views id w) id ≡ some w = set_here s.views id w (at_below s.views id v at) in
@@ -216,7 +216,7 @@ module _ {Q W : Type 0} (made : Q → List ℕ → Type 0) (fits : W → Q → T
             sees = sees_of made fits key s k id v at;
             had_none = none_runs id v at;
             event = subst (λ (z : ℕ). IsChainEvent q q 0 2 z v w (chains.notify z)) (sym own) (subst (λ (z : ℕ). IsChainEvent q q z 2 id v w (chains.notify id)) down ev);
-            carries = (x, refl, h.2, fit x h.3);
+            carries = (x, refl, make x (notes_of q) h.2, fit x h.3);
           }),
           λ up. absurd (up down),
         ),

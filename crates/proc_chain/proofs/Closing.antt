@@ -71,7 +71,7 @@ flat_raised (o ∷ os) h i b = let n : ℕ = length o.2.places in let long = len
     (λ y. subst (λ (z : Cell). 2 ≤ z.written) (sym (get_or_append_left o.2.places (all_places os) blank i y)) (h 0 o refl i y))
     (λ no. let e = get_or-append_right o.2.places (all_places os) n i blank refl (omega arith) in subst (λ (z : Cell). 2 ≤ z.written) (sym e) (flat_raised os (λ k. h (suc k)) (i - n) (omega arith)))
 
-module _ {Q W : Type 0} (made : Q → List ℕ → Type 0) (fits : W → Q → Type 0) (key : Shape W) where
+module _ {Q W : Type 0} (made : W → Q → List ℕ → Type 0) (fits : W → Q → Type 0) (key : Shape W) where
   -- an end with the whole lists the chain alone
   sole : (s : State Q View) (k : Rule made fits key s) (id : ℕ) (w : View) → get_elem? s.views id ≡ maybe.some w → IsWhole w.member.share → ViewsShow k.queue (w.part ∷ [])
   sole s k id w at whole = listed_sole k.queue (map part_of s.views) id w.part k.listed (at_map part_of s.views id w at)
@@ -80,7 +80,7 @@ module _ {Q W : Type 0} (made : Q → List ℕ → Type 0) (fits : W → Q → T
 
   whole_closes : (id : ℕ) (w : View) (s : State Q View) (k : Rule made fits key s) (xs : List Q) (x : Q) → get_elem? s.views id ≡ maybe.some w → IsWhole w.member.share → w.runner ≡ false → w.owes ≡ false → AllRaised w.part.runs
       → ((i : ℕ) (y : Q) → get_elem? s.homes i ≡ maybe.some (maybe.some y) → get_elem? xs i ≡ maybe.some y) → get_elem? xs 0 ≡ maybe.some x
-      → made x (notes_of k.queue) × fits key.pact x × (k.queue.taken ≡ length k.queue.places)
+      → made key.pact x (notes_of k.queue) × fits key.pact x × (k.queue.taken ≡ length k.queue.places)
   whole_closes id w s k xs x at whole runner owes all home has =
       let idle : (j : ℕ) (u : View) → get_elem? s.views j ≡ maybe.some u → j ≢ id → IsIdle u = rest_idle member_of IsIdle (get_or s.words 2 0) s.views id w k.ends at whole in
       let still : (j : ℕ) (u : View) → get_elem? s.views j ≡ maybe.some u → (u.runner ≡ false) × (u.owes ≡ false) = λ j u at_u. dite (ℕ_discrete j id)
@@ -97,10 +97,10 @@ module _ {Q W : Type 0} (made : Q → List ℕ → Type 0) (fits : W → Q → T
       (λ ne. let l : st.0 ≡ [] = sym b.2 ∙ (ap (λ (z : QueueView). z.runs) (sym d.2) ∙ (idle o.0 d.0 d.1 ne).0) in absurd (maybe.some-ne-none o.2 (sym (subst (λ (z : List Batch). get_elem? z o.1 ≡ maybe.some o.2) l st.2)))))) in
       let behind = k.lawful.behind in
       let none_left : k.queue.taken ≡ length k.queue.places = dite (dec_lt k.queue.taken (length k.queue.places)) (λ y. let o = k.gate.idle down (raised k.queue.taken y) in absurd (true≢false (sym o.owes ∙ (still o.owner o.view o.is_view).1))) (λ no. omega arith) in
-      (subst (λ (z : Q). made z (notes_of k.queue)) is h.2, subst (fits key.pact) is h.3, none_left)
+      (subst (λ (z : Q). made key.pact z (notes_of k.queue)) is h.2, subst (fits key.pact) is h.3, none_left)
 
   pub closes : (v w : View) (found id h t put taken at : ℕ) (ws : List ℕ) (xs : List Q) (x : Q) (left : List (Option ℕ)) → key.first ≡ at → Tallied v found w → found ≡ 1 → v.runner ≡ false → v.owes ≡ false → AllRaised v.part.runs
-      → Final (Seen (Rule made fits key) id w) ws xs → get_elem? ws 0 ≡ maybe.some h → get_elem? ws 1 ≡ maybe.some t → get_elem? xs 0 ≡ maybe.some x → put ≡ h - key.first → taken ≡ t - key.first → left ≡ left_from ws t (h - t) → ClosedNow made (fits key.pact) v at put taken left x
+      → Final (Seen (Rule made fits key) id w) ws xs → get_elem? ws 0 ≡ maybe.some h → get_elem? ws 1 ≡ maybe.some t → get_elem? xs 0 ≡ maybe.some x → put ≡ h - key.first → taken ≡ t - key.first → left ≡ left_from ws t (h - t) → ClosedNow (made key.pact) (fits key.pact) v at put taken left x
   closes v w found id h t put taken at ws xs x left at_is tallied one runner owes all fin at_h at_t at_x put_is taken_is left_is =
       let s : State Q View = fin.0 in let k = fin.1.0 in let q : Positions = k.queue in let sh : WordsShow q ws = subst (WordsShow q) fin.2 k.shows in
       let first = k.first in let hd : h ≡ head_of q = sym (read_word ws 0 h at_h) ∙ sh.head in let tl : t ≡ q.first + q.taken = sym (read_word ws 1 t at_t) ∙ sh.tail in

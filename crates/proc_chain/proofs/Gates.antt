@@ -132,6 +132,6 @@ more_items (suc n) (x ∷ xs) h = ap (λ (z : List ℕ). item_of x ∷ z) (more_
 pub notes_take : (q : Positions) → q.taken < length q.places → notes_of (with_take q 1) ≡ notes_of q ++ item_at q q.taken ∷ []
 notes_take q h = let e : q.taken + 1 ≡ suc q.taken = omega arith in ap (λ (n : ℕ). map item_of (take n q.places)) e ∙ more_items q.taken q.places h
 
-module _ {Q W : Type 0} (made : Q → List ℕ → Type 0) (fits : W → Q → Type 0) (world : W) where
+module _ {Q W : Type 0} (made : W → Q → List ℕ → Type 0) (fits : W → Q → Type 0) (world : W) where
   pub housed_on : (q q' : Positions) (gate : ℕ) (homes : List (Option Q)) → SlotShows made fits world q gate homes → notes_of q' ≡ notes_of q → SlotShows made fits world q' gate homes
-  housed_on q q' gate homes h same = record { home = λ down. let x = h.home down in (x.0, x.1, subst (made x.0) (sym same) x.2, x.3); held = h.held }
+  housed_on q q' gate homes h same = record { home = λ down. let x = h.home down in (x.0, x.1, subst (made world x.0) (sym same) x.2, x.3); held = h.held }

@@ -108,7 +108,7 @@ module _ (views : List View) (id : ℕ) (v e : View) (at : get_elem? views id �
   pub undoubled_moved : ((j : ℕ) (u : View) → get_elem? views j ≡ some u → u.doubled ≡ false) → e.doubled ≡ false → (j : ℕ) (u : View) → get_elem? new j ≡ some u → u.doubled ≡ false
   undoubled_moved old mine j u has = ⊎_elim (λ t. ap (λ (z : View). z.doubled) (sym t) ∙ mine) (λ t. old t.0 u t.1) (moved_from j u has)
 
-module _ {Q W : Type 0} (made : Q → List ℕ → Type 0) (fits : W → Q → Type 0) (key : Shape W) where
+module _ {Q W : Type 0} (made : W → Q → List ℕ → Type 0) (fits : W → Q → Type 0) (key : Shape W) where
   pub hands_over : (id : ℕ) (v : View) → Splits (Rule made fits key) id v (emptied v) v
   hands_over id v s k at = let e : View = emptied v in let q : Positions = k.queue in let parts : List QueueView = map part_of s.views in let at_part = at_map part_of s.views id v at in let below : id < length s.views = at_below s.views id v at in let below' : id < length parts = at_below parts id v.part at_part in
       let later = k.listed.seen id v.part at_part in let now : Moment = moment q (gate_in s.words) in let start : Moment = first_moment key.first in record {

@@ -34,14 +34,14 @@ listed_part q views id v w l at is = subst (ViewsShow q) (sym (map-set part_of v
     (subst (λ (z : QueueView). Later z q) (sym is) (grows_refl q, grows_refl q)))
 
 -- all steps of all ends up to now
-abbrev pub steps_to : {Q W : Type 0} {made : Q → List ℕ → Type 0} {fits : W → Q → Type 0} {key : Shape W} {s : State Q View} → Rule made fits key s → Course
+abbrev pub steps_to : {Q W : Type 0} {made : W → Q → List ℕ → Type 0} {fits : W → Q → Type 0} {key : Shape W} {s : State Q View} → Rule made fits key s → Course
 steps_to k = map entry_of k.course.course
 
 -- no view is doubled, where one is set
 pub undoubled_set : (views : List View) (id : ℕ) (w : View) → ((j : ℕ) (u : View) → get_elem? views j ≡ some u → u.doubled ≡ false) → w.doubled ≡ false → (j : ℕ) (u : View) → get_elem? (set views id w) j ≡ some u → u.doubled ≡ false
 undoubled_set views id w old own j u has = ⊎_elim (λ t. ap (λ (z : View). z.doubled) (sym t.1) ∙ own) (λ t. old j u t.1) (at_set views id j w u has)
 
-module _ {Q W : Type 0} (made : Q → List ℕ → Type 0) (fits : W → Q → Type 0) (key : Shape W) where
+module _ {Q W : Type 0} (made : W → Q → List ℕ → Type 0) (fits : W → Q → Type 0) (key : Shape W) where
   -- the course of all ends, where a step of one found this gate, and left this queue and this gate
   pub course_on : (s : State Q View) (k : Rule made fits key s) (id word found gate next : ℕ) (q : Positions) (words : List ℕ) (v w : View) → get_elem? s.views id ≡ some v → gate ≡ gate_in s.words → gate_in words ≡ next → w.steps ≡ v.steps ++ entry word found (moment k.queue gate) (moment q next) ∷ []
       → w.course ≡ steps_to k ++ entry word found (moment k.queue gate) (moment q next) ∷ [] → IsCourse steps_of course_of (first_moment key.first) (moment q (gate_in words)) (set s.views id w)

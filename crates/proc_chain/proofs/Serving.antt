@@ -41,7 +41,7 @@ shows_take q words new h l below is = let wide = h.wide in record {
       (λ k b. ap (λ (z : ℕ). z / 65536) (get_or-set_other words 1 (k + 4) new 0 (λ e. omega arith))) (λ k b. ap (λ (z : ℕ). z % 65536) (get_or-set_other words 1 (k + 4) new 0 (λ e. omega arith)));
 }
 
-module _ {Q W : Type 0} (made : Q → List ℕ → Type 0) (fits : W → Q → Type 0) (key : Shape W) where
+module _ {Q W : Type 0} (made : W → Q → List ℕ → Type 0) (fits : W → Q → Type 0) (key : Shape W) where
   pub spies_place : (n id : ℕ) (me : Me Q View) (i : ℕ) → me.0.runner ≡ true → 1 ≤ me.0.member.ends → i ≡ tail_of me.0.part.queue % 32 + 4 → Allows (Rule made fits key) n id me i (λ x. x) (spies (step n i 0 0 none) me)
   spies_place n id me i r live word s k _ at _ = let v : View = me.0 in let q : Positions = k.queue in let g = k.listed.seen id v.part (at_map part_of s.views id v at) in let y : ℕ = get_or s.words i 0 in
       let taken = k.gate.takes id v at r in let first = g.0.first in let room = k.shows.room in let tail : tail_of v.part.queue ≡ tail_of q = omega arith in let behind = k.lawful.behind in
@@ -58,13 +58,13 @@ module _ {Q W : Type 0} (made : Q → List ℕ → Type 0) (fits : W → Q → T
       ))
 
   -- the quaject in hand was made by the notes taken
-  carried : (suits : Q → Type 0) (q : Positions) (me : Me Q View) → ((x : Q) → fits key.pact x → suits x) → Grows me.0.part.queue q → q.taken ≡ me.0.part.queue.taken → me.0.part.queue.taken ≤ length me.0.part.queue.places
-      → Carries made (fits key.pact) (notes_of me.0.part.queue) [] me.1 → Carries made suits (notes_of q) [] me.1
-  carried suits q me fit g same behind c = (c.0, c.1, subst (made c.0) (sym (notes_same me.0.part.queue q g same behind)) c.2, fit c.0 c.3)
+  carried : (makes : Q → List ℕ → Type 0) (suits : Q → Type 0) (q : Positions) (me : Me Q View) → ((x : Q) → fits key.pact x → suits x) → ((x : Q) (notes : List ℕ) → made key.pact x notes → makes x notes) → Grows me.0.part.queue q → q.taken ≡ me.0.part.queue.taken → me.0.part.queue.taken ≤ length me.0.part.queue.places
+      → Carries (made key.pact) (fits key.pact) (notes_of me.0.part.queue) [] me.1 → Carries makes suits (notes_of q) [] me.1
+  carried makes suits q me fit make g same behind c = (c.0, c.1, make c.0 (notes_of q) (subst (made key.pact c.0) (sym (notes_same me.0.part.queue q g same behind)) c.2), fit c.0 c.3)
 
-  pub takes_note : (suits : Q → Type 0) (n id call : ℕ) (me : Me Q View) (new : ℕ) → call ≡ id → ((x : Q) → fits key.pact x → suits x) → me.0.runner ≡ true → 1 ≤ me.0.member.ends → 2 ≤ written_at me.0.part.queue me.0.part.queue.taken → new ≡ tail_of me.0.part.queue + 1
-      → me.0.part.queue.taken ≤ length me.0.part.queue.places → Carries made (fits key.pact) (notes_of me.0.part.queue) [] me.1 → Allows (Rule made fits key) n id me 1 (λ _. new) (λ _. takes made suits call (step n 1 new 0 none) me new)
-  takes_note suits n id call me new own fit r live up is behind c s k _ at _ = let v : View = me.0 in let q : Positions = k.queue in let g = k.listed.seen id v.part (at_map part_of s.views id v at) in let taken = k.gate.takes id v at r in let first = g.0.first in
+  pub takes_note : (makes : Q → List ℕ → Type 0) (suits : Q → Type 0) (n id call : ℕ) (me : Me Q View) (new : ℕ) → call ≡ id → ((x : Q) → fits key.pact x → suits x) → ((x : Q) (notes : List ℕ) → made key.pact x notes → makes x notes) → me.0.runner ≡ true → 1 ≤ me.0.member.ends → 2 ≤ written_at me.0.part.queue me.0.part.queue.taken → new ≡ tail_of me.0.part.queue + 1
+      → me.0.part.queue.taken ≤ length me.0.part.queue.places → Carries (made key.pact) (fits key.pact) (notes_of me.0.part.queue) [] me.1 → Allows (Rule made fits key) n id me 1 (λ _. new) (λ _. takes makes suits call (step n 1 new 0 none) me new)
+  takes_note makes suits n id call me new own fit make r live up is behind c s k _ at _ = let v : View = me.0 in let q : Positions = k.queue in let g = k.listed.seen id v.part (at_map part_of s.views id v at) in let taken = k.gate.takes id v at r in let first = g.0.first in
       let w : View = took v new (steps_to k) q (gate_in s.words) in let q' : Positions = with_take q 1 in let more = g.0.more v.part.queue.taken in
       let now : 2 ≤ written_at q q.taken = subst (λ (z : ℕ). 2 ≤ written_at q z) taken (let f : 2 ≤ written_at q v.part.queue.taken = omega arith in f) in
       let lawful' : Lawful q' = take_lawful q 1 k.lawful (λ i b. let e : q.taken ≡ q.taken + i = omega arith in subst (λ (z : ℕ). 2 ≤ written_at q z) e now) in
@@ -98,14 +98,14 @@ module _ {Q W : Type 0} (made : Q → List ℕ → Type 0) (fits : W → Q → T
             event = subst (λ (z : ℕ). IsChainEvent q q' (gate_in s.words) (gate_in s.words) z v w (chains.take_note z 1)) (sym own)
                 (take_event q (gate_in s.words) s.views id v w k.listed at k.lawful k.gate r lawful'.behind now refl refl (grows_refl q', grows_refl q') refl refl);
             after_it = lawful';
-            carries = carried suits q me fit g.0 (sym taken) behind c;
+            carries = carried makes suits q me fit make g.0 (sym taken) behind c;
           },
         ),
       )
 
-  pub rounds_gate : (suits : Q → Type 0) (n id call : ℕ) (me : Me Q View) → call ≡ id → ((x : Q) → fits key.pact x → suits x) → me.0.runner ≡ true → 1 ≤ me.0.member.ends → me.0.part.queue.taken ≤ length me.0.part.queue.places
-      → Carries made (fits key.pact) (notes_of me.0.part.queue) [] me.1 → Allows (Rule made fits key) n id me 3 (λ _. 1) (rounds made suits call (step n 3 1 0 none) me)
-  rounds_gate suits n id call me own fit r live behind c s k _ at _ = let v : View = me.0 in let q : Positions = k.queue in let g = k.listed.seen id v.part (at_map part_of s.views id v at) in let not_idle = gate_up q (gate_in s.words) s.views id v k.gate at r in
+  pub rounds_gate : (makes : Q → List ℕ → Type 0) (suits : Q → Type 0) (n id call : ℕ) (me : Me Q View) → call ≡ id → ((x : Q) → fits key.pact x → suits x) → ((x : Q) (notes : List ℕ) → made key.pact x notes → makes x notes) → me.0.runner ≡ true → 1 ≤ me.0.member.ends → me.0.part.queue.taken ≤ length me.0.part.queue.places
+      → Carries (made key.pact) (fits key.pact) (notes_of me.0.part.queue) [] me.1 → Allows (Rule made fits key) n id me 3 (λ _. 1) (rounds makes suits call (step n 3 1 0 none) me)
+  rounds_gate makes suits n id call me own fit make r live behind c s k _ at _ = let v : View = me.0 in let q : Positions = k.queue in let g = k.listed.seen id v.part (at_map part_of s.views id v at) in let not_idle = gate_up q (gate_in s.words) s.views id v k.gate at r in
       let w : View = record (after v 3 (gate_in s.words) (steps_to k) (moment q (gate_in s.words)) (moment q 1)) { saw = false } in (
         w,
         keeps,
@@ -122,21 +122,21 @@ module _ {Q W : Type 0} (made : Q → List ℕ → Type 0) (fits : W → Q → T
             sees = sees_of made fits key s k id v at;
             turn = turn_of made fits key s k id v at r;
             event = subst (λ (z : ℕ). IsChainEvent q q (gate_in s.words) 1 z v w (chains.round z)) (sym own) (round_event q (gate_in s.words) s.views id v w k.listed at k.lawful k.gate r refl refl (grows_refl q, grows_refl q) refl refl);
-            carries = carried suits q me fit g.0 (turn_of made fits key s k id v at r) behind c;
+            carries = carried makes suits q me fit make g.0 (turn_of made fits key s k id v at r) behind c;
           },
         ),
       )
 
-  pub leaves_gate : (suits : Q → Type 0) (n id call : ℕ) (me : Me Q View) → call ≡ id → ((x : Q) → fits key.pact x → suits x) → me.0.runner ≡ true → me.0.saw ≡ true → 1 ≤ me.0.member.ends → me.0.part.queue.taken ≤ length me.0.part.queue.places → Carries made (fits key.pact) (notes_of me.0.part.queue) [] me.1
-      → Allows (Rule made fits key) n id me 3 (λ y. either (eqb y 1) 0 y) (leaves made suits call (step n 3 1 0 none) me)
-  leaves_gate suits n id call me own fit r sw live behind c s k _ at _ = let y : ℕ = gate_in s.words in let v : View = me.0 in let q : Positions = k.queue in let g = k.listed.seen id v.part (at_map part_of s.views id v at) in let not_idle = gate_up q y s.views id v k.gate at r in let taken = k.gate.takes id v at r in
-      exchanged y 1 0 (Goes made fits key s 3 id me (leaves made suits call (step n 3 1 0 none) me y))
+  pub leaves_gate : (makes : Q → List ℕ → Type 0) (suits : Q → Type 0) (n id call : ℕ) (me : Me Q View) → call ≡ id → ((x : Q) → fits key.pact x → suits x) → ((x : Q) (notes : List ℕ) → made key.pact x notes → makes x notes) → me.0.runner ≡ true → me.0.saw ≡ true → 1 ≤ me.0.member.ends → me.0.part.queue.taken ≤ length me.0.part.queue.places → Carries (made key.pact) (fits key.pact) (notes_of me.0.part.queue) [] me.1
+      → Allows (Rule made fits key) n id me 3 (λ y. either (eqb y 1) 0 y) (leaves makes suits call (step n 3 1 0 none) me)
+  leaves_gate makes suits n id call me own fit make r sw live behind c s k _ at _ = let y : ℕ = gate_in s.words in let v : View = me.0 in let q : Positions = k.queue in let g = k.listed.seen id v.part (at_map part_of s.views id v at) in let not_idle = gate_up q y s.views id v k.gate at r in let taken = k.gate.takes id v at r in
+      exchanged y 1 0 (Goes made fits key s 3 id me (leaves makes suits call (step n 3 1 0 none) me y))
       (λ hit. let w : View = record (after v 3 1 (steps_to k) (moment q 1) (moment q 0)) { runner = false; saw = false } in let gate' : GateShows q 0 (set s.views id w) = gated_leaves q s.views id v w (subst (λ (z : ℕ). GateShows q z s.views) hit k.gate) at r sw refl refl refl in (
         w,
         gives,
         tt,
         kept_gate made fits key s k id 1 0 v w (put_back s.homes me.1) at refl refl refl live (sym hit) refl refl gate'
-            record { home = λ _. (c.0, (λ i. put_back (k.slot.held not_idle i) (c.1 i)), subst (made c.0) (sym (notes_same v.part.queue q g.0 (sym taken) behind)) c.2, c.3); held = λ e. absurd (e refl) },
+            record { home = λ _. (c.0, (λ i. put_back (k.slot.held not_idle i) (c.1 i)), subst (made key.pact c.0) (sym (notes_same v.part.queue q g.0 (sym taken) behind)) c.2, c.3); held = λ e. absurd (e refl) },
         (
           (λ _. (
             refl,
@@ -149,7 +149,7 @@ module _ {Q W : Type 0} (made : Q → List ℕ → Type 0) (fits : W → Q → T
               turn = sym taken;
               event = subst (λ (z : ℕ). IsChainEvent q q 1 0 z v w (chains.leave z)) (sym own) (subst (λ (z : ℕ). IsChainEvent q q z 0 id v w (chains.leave id)) hit
                   (leave_event q y s.views id v w k.listed at k.lawful k.gate hit r (k.gate.seen id v at r sw hit) refl refl (grows_refl q, grows_refl q) (gate'.still refl) refl));
-              carries = carried suits q me fit g.0 (sym taken) behind c;
+              carries = carried makes suits q me fit make g.0 (sym taken) behind c;
             },
           )),
           λ miss. absurd (miss hit),

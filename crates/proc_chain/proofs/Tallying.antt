@@ -61,7 +61,7 @@ zeros f (suc zero) h = absurd (omega arith)
 zeros f (suc (suc zero)) h = absurd (omega arith)
 zeros f (suc (suc (suc j))) h = all_zero 33 j
 
-module _ {Q W : Type 0} (made : Q → List ℕ → Type 0) (fits : W → Q → Type 0) (key : Shape W) where
+module _ {Q W : Type 0} (made : W → Q → List ℕ → Type 0) (fits : W → Q → Type 0) (key : Shape W) where
   -- the rule, where the count becomes y, and another of the ends of the end, which lists the same and sees the queue as it is
   kept_count : (s : State Q View) (k : Rule made fits key s) (id y found : ℕ) (v : View) (m : Member) → get_elem? s.views id ≡ some v → EndsKnown member_of IsIdle y (set s.views id (counted v found (steps_to k) (moment k.queue (gate_in s.words)) m))
       → Rule made fits key record { words = set s.words 2 y; homes = s.homes; views = set s.views id (counted v found (steps_to k) (moment k.queue (gate_in s.words)) m) }
@@ -177,7 +177,7 @@ module _ {Q W : Type 0} (made : Q → List ℕ → Type 0) (fits : W → Q → T
 
   -- the table as it is made
   pub opens : (x : Q) (words : List ℕ) → key.first < 4294967296 → length words ≡ 36 → get_or words 0 0 ≡ key.first → get_or words 1 0 ≡ key.first → get_or words 2 0 ≡ 1
-      → ((j : ℕ) → 3 ≤ j → get_or words j 0 ≡ 0) → made x [] → fits key.pact x → Rule made fits key (opening words (x ∷ []) (newcomer key))
+      → ((j : ℕ) → 3 ≤ j → get_or words j 0 ≡ 0) → made key.pact x [] → fits key.pact x → Rule made fits key (opening words (x ∷ []) (newcomer key))
   opens x words small long head tail ends rest is_made is_fit = let q : Positions = empty_from key.first in let w : View = newcomer key in let down : gate_in words ≡ 0 = rest 3 (omega arith) in let nobody = first_gated q w refl refl in record {
     queue = q;
     first = refl;
@@ -214,5 +214,5 @@ module _ {Q W : Type 0} (made : Q → List ℕ → Type 0) (fits : W → Q → T
     course = subst (λ (g : ℕ). IsCourse steps_of course_of (first_moment key.first) (moment q g) (w ∷ [])) (sym down) (course_first steps_of course_of (first_moment key.first) w refl refl);
   }
 
-  pub opens_new : (x : Q) (xs : List Q) → key.first < 4294967296 → xs ≡ x ∷ [] → made x [] → fits key.pact x → Rule made fits key (opening (key.first ∷ key.first ∷ 1 ∷ replicate 33 0) xs (newcomer key))
+  pub opens_new : (x : Q) (xs : List Q) → key.first < 4294967296 → xs ≡ x ∷ [] → made key.pact x [] → fits key.pact x → Rule made fits key (opening (key.first ∷ key.first ∷ 1 ∷ replicate 33 0) xs (newcomer key))
   opens_new x xs small is is_made is_fit = let f : ℕ = key.first in subst (λ (z : List Q). Rule made fits key (opening (f ∷ f ∷ 1 ∷ replicate 33 0) z (newcomer key))) (sym is) (opens x (f ∷ f ∷ 1 ∷ replicate 33 0) small refl refl refl refl (zeros f) is_made is_fit)

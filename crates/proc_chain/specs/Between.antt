@@ -65,7 +65,7 @@ pub record IsShown {W : Type 0} (key : Shape W) (words : List ℕ) (views : List
 
 -- There is a lawful chain that is shown. Where its gate is Idle, the quaject is in the slot, was made by the notes
 -- taken, in order, and suits the chain; else the slot is out
-pub record ShowsChain {Q W : Type 0} (made : Q → List ℕ → Type 0) (fits : W → Q → Type 0) (key : Shape W)
+pub record ShowsChain {Q W : Type 0} (made : W → Q → List ℕ → Type 0) (fits : W → Q → Type 0) (key : Shape W)
     (s : State Q View) : Type 0 where
   pub now : Moment
   pub chain : Chain
@@ -84,5 +84,5 @@ pub record ShowsChain {Q W : Type 0} (made : Q → List ℕ → Type 0) (fits : 
   -- the word has the number of the ends that stand
   pub ends : EndsKnown member_of IsIdle (slice_index_or s.words 2 0) s.views
   pub home : chain.gate ≡ Idle → (x : Q) × (s.homes ≡ some x ∷ [])
-      × made x (take chain.notes.taken (flat chain.notes.history)) × fits key.pact x
+      × made key.pact x (take chain.notes.taken (flat chain.notes.history)) × fits key.pact x
   pub held : chain.gate ≢ Idle → s.homes ≡ none ∷ []

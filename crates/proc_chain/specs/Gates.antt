@@ -44,7 +44,7 @@ pub record GateShows (q : Positions) (gate : ℕ) (views : List View) : Type 0 w
       → IsSettled q views
 
 -- Where the gate is Idle the quaject is in the slot, made by the notes taken, and suits the chain; else the slot is held
-pub record SlotShows {Q W : Type 0} (made : Q → List ℕ → Type 0) (fits : W → Q → Type 0) (pact : W) (q : Positions)
+pub record SlotShows {Q W : Type 0} (made : W → Q → List ℕ → Type 0) (fits : W → Q → Type 0) (pact : W) (q : Positions)
     (gate : ℕ) (homes : List (Option Q)) : Type 0 where
-  pub home : gate ≡ 0 → (x : Q) × (homes ≡ some x ∷ []) × made x (notes_of q) × fits pact x
+  pub home : gate ≡ 0 → (x : Q) × (homes ≡ some x ∷ []) × made pact x (notes_of q) × fits pact x
   pub held : gate ≢ 0 → homes ≡ none ∷ []

@@ -8,7 +8,7 @@ use Rattle.proc_chain.specs.declared.rule.Pact.{Pact}
 use Rattle.proc_chain.specs.declared.rule.View.{View}
 use Rattle.proc_chain.specs.declared.ends.ProcChain.{ProcChain}
 use Rattle.proc_chain.specs.declared.ends.ChainEnd.{ChainEnd}
-use Rattle.proc_chain.specs.Rules.{suits}
+use Rattle.proc_chain.specs.Rules.{suits, makes}
 use Rattle.proc_chain.specs.Turns.{HasSlot}
 
 module _ {Q W : Type 0} where
@@ -57,7 +57,7 @@ module _ {Q W : Type 0} {g : Ghosts Q W} where
   -- chain, and holds nothing else
   abbrev pub IsEndOf : ProcChain Q W → ChainEnd Q W g → Type 0
   IsEndOf chain end = (end.seat.table_id ≡ chain.table.shared.table_id)
-      × HasSlot g.made_by (suits g.fits g.keeps chain.table.shared.key.pact) end.seat.me
+      × HasSlot (makes g.made_by chain.table.shared.key.pact) (suits g.fits chain.table.shared.key.pact) end.seat.me
 
   -- it is the same end of the same chain
   abbrev pub IsSameEnd : ChainEnd Q W g → ChainEnd Q W g → Type 0

@@ -18,9 +18,13 @@ use Rattle.proc_chain.specs.declared.rule.View.{View}
 use Rattle.proc_chain.specs.Shown.{gate_in, WordsShow}
 use Rattle.proc_chain.specs.Gates.{GateShows, SlotShows}
 
--- the quaject fits the world of the chain, and what no run changes is in it as it is in the one that was given to `new`
-abbrev pub suits : {Q W : Type 0} → (W → Q → Type 0) → (Q → Q → Type 0) → Pact W Q → Q → Type 0
-suits fits keeps pact x = fits pact.world.value x × keeps pact.opening.value x
+-- the quaject fits the world of the chain
+abbrev pub suits : {Q W : Type 0} → (W → Q → Type 0) → Pact W Q → Q → Type 0
+suits fits pact x = fits pact.world.value x
+
+-- runs of these notes, in order, made it of the quaject that was given to `new`
+abbrev pub makes : {Q W : Type 0} → (Q → Q → List ℕ → Type 0) → Pact W Q → Q → List ℕ → Type 0
+makes made_by pact x notes = made_by pact.opening.value x notes
 
 abbrev pub part_of : View → QueueView
 part_of v = v.part
@@ -49,8 +53,8 @@ moment q gate = record { queue = q; gate = gate }
 abbrev pub first_moment : ℕ → Moment
 first_moment first = moment (empty_from first) 0
 
-pub record Rule {Q W : Type 0} (made : Q → List ℕ → Type 0) (fits : W → Q → Type 0) (key : Shape W) (s : State Q View)
-    : Type 0 where
+pub record Rule {Q W : Type 0} (made : W → Q → List ℕ → Type 0) (fits : W → Q → Type 0) (key : Shape W)
+    (s : State Q View) : Type 0 where
   pub queue : Positions
   pub first : queue.first ≡ key.first
   pub lawful : Lawful queue

@@ -5,7 +5,7 @@ ghost use Rattle.proc_chain.specs.declared.rule.Pact.{Pact};
 ghost use Rattle.proc_chain.specs.declared.rule.Shape.{Shape};
 ghost use Rattle.proc_chain.specs.declared.rule.View.{View};
 ghost use Rattle.proc_chain.specs.Between.{ShowsChain};
-ghost use Rattle.proc_chain.specs.Rules.{suits};
+ghost use Rattle.proc_chain.specs.Rules.{suits, makes};
 
 use crate::quaject::Quaject;
 use crate::rule::{ChainRule, Pact, Shape, View};
@@ -18,5 +18,5 @@ use atomic_table::TableRule;
 pub fn between_steps<Q: Quaject>()
     ensures { (key : Shape (Pact Q.World Q)) (state : State Q View)
         → ⟦<ChainRule as TableRule<Q, View, Shape<Pact<Q::World, Q>>>>⟧.holds key state
-        → ShowsChain Q.made_by (suits Q.fits Q.keeps) key state }
+        → ShowsChain (makes Q.made_by) (suits Q.fits) key state }
 {}

@@ -1,7 +1,7 @@
 //! Chaining a note.
 ghost use Rattle.std.specs.Prelude.{◌≡◌, ◌+◌, ◌<◌, MatchResult, IfOk, false, true};
 ghost use Rattle.proc_chain.specs.Answers.{IsChained, Refused, is_run};
-ghost use Rattle.proc_chain.specs.Rules.{suits};
+ghost use Rattle.proc_chain.specs.Rules.{suits, makes};
 ghost use Rattle.proc_chain.specs.Notes.{SameNotes, PutNote};
 
 use crate::ends::{ChainEnd, ProcChain};
@@ -53,8 +53,8 @@ impl<Q: Quaject> ProcChain<Q> {
         ensures queue { IsSameEnd end.old end.new }
         ensures ends { IsEndOf self.now end.new }
         ensures chained { MatchResult result
-            (λ r. IsChained Q.made_by (suits Q.fits Q.keeps (pact_of self.now)) (call_of end.old) (me_of end.old) note r
-            (me_of end.new)) (λ e. Refused (me_of end.old) e (me_of end.new)) }
+            (λ r. IsChained (makes Q.made_by (pact_of self.now)) (suits Q.fits (pact_of self.now)) (call_of end.old)
+            (me_of end.old) note r (me_of end.new)) (λ e. Refused (me_of end.old) e (me_of end.new)) }
         ensures notes { MatchResult result (λ r. PutNote note (view_of end.old) (view_of end.new))
             (λ e. SameNotes (view_of end.old) (view_of end.new)) }
         ensures turn { MatchResult result (λ r. is_run r ≡ true → (turn_of end.old ≡ false) × (turn_of end.new ≡ true))

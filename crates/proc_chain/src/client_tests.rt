@@ -30,12 +30,10 @@ struct Mover {
 impl Quaject for Mover {
     type World = Pair;
 
-    ghost made_by = { λ mover notes. mover.notes ≡ length notes % 2 ^ 64 };
+    ghost made_by = { λ first mover notes. queues.IsSameEnd first.source mover.source
+        × queues.IsSameEnd first.target mover.target × (mover.notes ≡ length notes % 2 ^ 64) };
 
     ghost fits = { λ pair mover. queues.IsEndOf pair.from mover.source × queues.IsEndOf pair.to mover.target };
-
-    ghost keeps = { λ first mover. queues.IsSameEnd first.source mover.source
-        × queues.IsSameEnd first.target mover.target };
 
     fn run(&mut self, world: &Pair, _note: u16) -> Ran {
         self.notes = self.notes.wrapping_add(1);

@@ -1,7 +1,7 @@
 //! Closing a chain.
 ghost use Rattle.std.specs.Prelude.{◌≡◌, ◌+◌, ◌-◌, ◌<◌, ◌≤◌, false, IfOk, IfErr, MatchResult};
 ghost use Rattle.std.specs.Mem.Slots.{slots_items, slots_len, IsFull};
-ghost use Rattle.proc_chain.specs.Rules.{suits};
+ghost use Rattle.proc_chain.specs.Rules.{suits, makes};
 ghost use Rattle.proc_chain.specs.Closings.{ClosedNow, WereOpen, left_at, left_from};
 
 use crate::ends::{ChainEnd, ProcChain};
@@ -65,8 +65,8 @@ impl<Q: Quaject> ProcChain<Q> {
     ) -> Result<ChainClosed<Q>, (ProcChain<Q>, ChainEnd<Q>, OpenEnds)>
         requires ends { IsEndOf self end }
         requires turn { turn_of end ≡ false }
-        ensures closed { IfOk result (λ c. ClosedNow Q.made_by (suits Q.fits Q.keeps (pact_of self)) (view_of end)
-            (first_of self) c.put c.taken c.left.items c.quaject) }
+        ensures closed { IfOk result (λ c. ClosedNow (makes Q.made_by (pact_of self)) (suits Q.fits (pact_of self))
+            (view_of end) (first_of self) c.put c.taken c.left.items c.quaject) }
         ensures open { IfErr result (λ e. (e.0 ≡ self) × IsEndOf self e.1 × IsSameEnd end e.1 × (turn_of e.1 ≡ false)
             × WereOpen (view_of end) e.2.others (view_of e.1)) }
         ensures only { IsOnlyEnd end → MatchResult result (λ c. Unit {0}) (λ e. ⊥) }

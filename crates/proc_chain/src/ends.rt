@@ -67,9 +67,8 @@ impl<Q: Quaject> ProcChain<Q> {
         quaject: Q,
         world: &Q::World,
     ) -> Result<(ProcChain<Q>, ChainEnd<Q>), (Q, OutOfMemory)>
-        requires made { Q.made_by quaject [] }
+        requires made { Q.made_by quaject quaject [] }
         requires fits { Q.fits world.now quaject }
-        requires keeps { Q.keeps quaject quaject }
         ensures ok { IfOk result (λ r. IsEndOf r.0 r.1 × (first_of r.0 ≡ first) × (world_of r.0 ≡ world.now)
             × (opening_of r.0 ≡ quaject) × (turn_of r.1 ≡ false) × (view_of r.1 ≡ view_from first first_member)) }
         ensures err { IfErr result (λ e. e.0 ≡ quaject) }

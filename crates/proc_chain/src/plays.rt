@@ -1,5 +1,5 @@
 //! What each step tells. These types are for the proofs alone.
-ghost use Rattle.std.specs.Prelude.{ℕ};
+ghost use Rattle.std.specs.Prelude.{ℕ, List};
 ghost use Rattle.proc_chain.specs.Steps.{finds, claims, raises, spies, takes, notifies, rounds, leaves, counts_up};
 ghost use Rattle.proc_chain.specs.Steps.{counts_down, counts, rest_of, newborn, both, emptied};
 ghost use Rattle.proc_chain.specs.declared.rule.View.{View};
@@ -60,15 +60,19 @@ impl<Q> Play<Q, View> for Spies {
     ghost then = { spies };
 }
 
-/// The number of an end that has the turn or may get it, and what suits the chain.
+/// The number of an end that has the turn or may get it, what notes make its quaject, and what suits the chain.
 pub trait Runner<Q> {
     ghost call: { ℕ };
+
+    ghost made: { Q → List ℕ → Type 0 };
 
     ghost suits: { Q → Type 0 };
 }
 
 impl<Q> Runner<Q> for Brand {
     ghost call = { 0 };
+
+    ghost made = { λ _ _. Unit {0} };
 
     ghost suits = { λ _. Unit {0} };
 }
@@ -78,7 +82,7 @@ pub struct Takes<J> {
 }
 
 impl<Q: Quaject, J: Runner<Q>> Play<Q, View> for Takes<J> {
-    ghost then = { takes Q.made_by J.suits J.call };
+    ghost then = { takes J.made J.suits J.call };
 }
 
 pub struct Notifies<J> {
@@ -86,7 +90,7 @@ pub struct Notifies<J> {
 }
 
 impl<Q: Quaject, J: Runner<Q>> Play<Q, View> for Notifies<J> {
-    ghost then = { notifies Q.made_by J.suits J.call };
+    ghost then = { notifies J.made J.suits J.call };
 }
 
 pub struct Rounds<J> {
@@ -94,7 +98,7 @@ pub struct Rounds<J> {
 }
 
 impl<Q: Quaject, J: Runner<Q>> Play<Q, View> for Rounds<J> {
-    ghost then = { rounds Q.made_by J.suits J.call };
+    ghost then = { rounds J.made J.suits J.call };
 }
 
 pub struct Leaves<J> {
@@ -102,7 +106,7 @@ pub struct Leaves<J> {
 }
 
 impl<Q: Quaject, J: Runner<Q>> Play<Q, View> for Leaves<J> {
-    ghost then = { leaves Q.made_by J.suits J.call };
+    ghost then = { leaves J.made J.suits J.call };
 }
 
 pub struct CountsUp;

@@ -46,9 +46,9 @@ pub struct View {
 pub struct ChainRule;
 
 impl<Q: Quaject> TableRule<Q, View, Shape<Pact<Q::World, Q>>> for ChainRule {
-    ghost use Rattle.proc_chain.specs.Rules.{Rule, newcomer, suits};
+    ghost use Rattle.proc_chain.specs.Rules.{Rule, newcomer, suits, makes};
 
-    ghost holds = { Rule Q.made_by (suits Q.fits Q.keeps) };
+    ghost holds = { Rule (makes Q.made_by) (suits Q.fits) };
 
     ghost first = { newcomer };
 }

@@ -1,7 +1,7 @@
 //! Serving a Turn.
 ghost use Rattle.std.specs.Prelude.{◌≡◌, ◌+◌, ◌<◌, ◌≤◌, ℕ, List, true, false, [], ◌∷◌, ◌++◌, length, MatchBool};
 ghost use Rattle.table_theory.specs.Seating.{IsSame};
-ghost use Rattle.proc_chain.specs.Rules.{suits};
+ghost use Rattle.proc_chain.specs.Rules.{suits, makes};
 ghost use Rattle.proc_chain.specs.Shown.{notes_of};
 ghost use Rattle.proc_chain.specs.Steps.{Carries};
 ghost use Rattle.proc_chain.specs.Turns.{HasServed};
@@ -35,11 +35,12 @@ fn run_held<Q: Quaject>(
 )
     requires queue { seat.old.table_id ≡ words.now.table_id }
     requires world { words.now.key.pact.world.value ≡ world.now }
-    requires held { (x : Q) × (seat.old.me.1 ≡ (0, x) ∷ []) × suits Q.fits Q.keeps words.now.key.pact x }
+    requires held { (x : Q) × (seat.old.me.1 ≡ (0, x) ∷ []) × suits Q.fits words.now.key.pact x }
     ensures queue { IsSame seat.old seat.new × (seat.new.me.0 ≡ seat.old.me.0) }
     ensures ran { (notes : List ℕ)
-        → Carries Q.made_by (suits Q.fits Q.keeps words.now.key.pact) notes [] seat.old.me.1
-        → Carries Q.made_by (suits Q.fits Q.keeps words.now.key.pact) (notes ++ note ∷ []) [] seat.new.me.1 }
+        → Carries (makes Q.made_by words.now.key.pact) (suits Q.fits words.now.key.pact) notes [] seat.old.me.1
+        → Carries (makes Q.made_by words.now.key.pact) (suits Q.fits words.now.key.pact) (notes ++ note ∷ []) []
+        seat.new.me.1 }
 {
     let quaject = seat.slot_mut(words, 0);
     let _ran = quaject.run(world, note);
@@ -56,14 +57,15 @@ fn run_next<Q: Quaject>(
     requires positions { (seat.old.me.0.part.queue.room ≡ 32)
         × (seat.old.me.0.part.queue.taken ≤ length seat.old.me.0.part.queue.places) }
     requires world { words.now.key.pact.world.value ≡ world.now }
-    requires carries { Carries Q.made_by (suits Q.fits Q.keeps words.now.key.pact) (notes_of seat.old.me.0.part.queue) []
-        seat.old.me.1 }
+    requires carries { Carries (makes Q.made_by words.now.key.pact) (suits Q.fits words.now.key.pact)
+        (notes_of seat.old.me.0.part.queue) [] seat.old.me.1 }
     ensures queue { IsSame seat.old seat.new }
     ensures turn { seat.new.me.0.runner ≡ true }
-    ensures carries { Carries Q.made_by (suits Q.fits Q.keeps words.now.key.pact) (notes_of seat.new.me.0.part.queue) []
-        seat.new.me.1 }
+    ensures carries { Carries (makes Q.made_by words.now.key.pact) (suits Q.fits words.now.key.pact)
+        (notes_of seat.new.me.0.part.queue) [] seat.new.me.1 }
     ensures ran { MatchBool result
-        ((note : ℕ) × RanNote Q.made_by (suits Q.fits Q.keeps words.now.key.pact) seat.old.id seat.old.me note seat.new.me
+        ((note : ℕ) × RanNote (makes Q.made_by words.now.key.pact) (suits Q.fits words.now.key.pact) seat.old.id
+        seat.old.me note seat.new.me
         × HasServed seat.old.me.0 (note ∷ []) seat.new.me.0)
         (FoundNone seat.old.me.0 seat.new.me.0 × (seat.new.me.1 ≡ seat.old.me.1)
         × HasServed seat.old.me.0 [] seat.new.me.0) }
@@ -86,15 +88,18 @@ fn leave_or_round<Q: Quaject>(
     requires queue { (seat.old.table_id ≡ words.now.table_id) × (words.now.table_id.words ≡ 36) }
     requires live { (1 ≤ seat.old.me.0.member.ends) × (seat.old.me.0.runner ≡ true) × (seat.old.me.0.saw ≡ true) }
     requires behind { seat.old.me.0.part.queue.taken ≤ length seat.old.me.0.part.queue.places }
-    requires carries { Carries Q.made_by (suits Q.fits Q.keeps words.now.key.pact) (notes_of seat.old.me.0.part.queue) []
-        seat.old.me.1 }
+    requires carries { Carries (makes Q.made_by words.now.key.pact) (suits Q.fits words.now.key.pact)
+        (notes_of seat.old.me.0.part.queue) [] seat.old.me.1 }
     ensures queue { IsSame seat.old seat.new }
     ensures carries { MatchBool result ((seat.new.me.0.runner ≡ false) × (seat.new.me.1 ≡ []))
-        ((seat.new.me.0.runner ≡ true) × Carries Q.made_by (suits Q.fits Q.keeps words.now.key.pact)
+        ((seat.new.me.0.runner ≡ true)
+        × Carries (makes Q.made_by words.now.key.pact) (suits Q.fits words.now.key.pact)
         (notes_of seat.new.me.0.part.queue) [] seat.new.me.1) }
     ensures left { (v : View) → FoundNone v seat.old.me.0 → MatchBool result
-        (LeftNone Q.made_by (suits Q.fits Q.keeps words.now.key.pact) seat.old.id (v, seat.old.me.1) seat.new.me)
-        (FoundMore Q.made_by (suits Q.fits Q.keeps words.now.key.pact) seat.old.id (v, seat.old.me.1) seat.new.me) }
+        (LeftNone (makes Q.made_by words.now.key.pact) (suits Q.fits words.now.key.pact) seat.old.id
+        (v, seat.old.me.1) seat.new.me)
+        (FoundMore (makes Q.made_by words.now.key.pact) (suits Q.fits words.now.key.pact) seat.old.id
+        (v, seat.old.me.1) seat.new.me) }
     ensures served { HasServed seat.old.me.0 [] seat.new.me.0 }
 {
     if exchange_gate::<Q, Brand>(words, seat) == RUNNING {
@@ -117,15 +122,16 @@ fn serve_seat<Q: Quaject>(
     requires positions { (seat.old.me.0.part.queue.room ≡ 32)
         × (seat.old.me.0.part.queue.taken ≤ length seat.old.me.0.part.queue.places) }
     requires world { words.now.key.pact.world.value ≡ world.now }
-    requires carries { Carries Q.made_by (suits Q.fits Q.keeps words.now.key.pact) (notes_of seat.old.me.0.part.queue) []
-        seat.old.me.1 }
+    requires carries { Carries (makes Q.made_by words.now.key.pact) (suits Q.fits words.now.key.pact)
+        (notes_of seat.old.me.0.part.queue) [] seat.old.me.1 }
     requires some_limit { 0 < limit }
     ensures queue { IsSame seat.old seat.new }
     ensures carries { MatchBool result.0 ((seat.new.me.0.runner ≡ false) × (seat.new.me.1 ≡ []))
-        ((seat.new.me.0.runner ≡ true) × Carries Q.made_by (suits Q.fits Q.keeps words.now.key.pact)
+        ((seat.new.me.0.runner ≡ true)
+        × Carries (makes Q.made_by words.now.key.pact) (suits Q.fits words.now.key.pact)
         (notes_of seat.new.me.0.part.queue) [] seat.new.me.1) }
-    ensures served { IsServing Q.made_by (suits Q.fits Q.keeps words.now.key.pact) seat.old.id seat.old.me limit result.1
-        result.0 seat.new.me }
+    ensures served { IsServing (makes Q.made_by words.now.key.pact) (suits Q.fits words.now.key.pact) seat.old.id
+        seat.old.me limit result.1 result.0 seat.new.me }
 {
     let mut ran = 0u32;
     swap_running::<Q, Brand>(words, seat);
@@ -155,8 +161,8 @@ impl<Q: Quaject> ProcChain<Q> {
         requires world { world_of self.now ≡ world.now }
         ensures queue { IsSameEnd end.old end.new }
         ensures ends { IsEndOf self.now end.new }
-        ensures served { IsServed Q.made_by (suits Q.fits Q.keeps (pact_of self.now)) (call_of end.old) (me_of end.old) limit result
-            (me_of end.new) }
+        ensures served { IsServed (makes Q.made_by (pact_of self.now)) (suits Q.fits (pact_of self.now))
+            (call_of end.old) (me_of end.old) limit result (me_of end.new) }
         ensures turn { turn_of end.new ≡ is_more result }
     {
         if limit == 0 {
@@ -187,8 +193,8 @@ impl<Q: Quaject> ProcChain<Q> {
         requires world { world_of self.now ≡ world.now }
         ensures queue { IsSameEnd end.old end.new }
         ensures ends { IsEndOf self.now end.new }
-        ensures served { AllServed Q.made_by (suits Q.fits Q.keeps (pact_of self.now)) (call_of end.old) (me_of end.old) result
-            (me_of end.new) }
+        ensures served { AllServed (makes Q.made_by (pact_of self.now)) (suits Q.fits (pact_of self.now))
+            (call_of end.old) (me_of end.old) result (me_of end.new) }
         ensures turn { turn_of end.new ≡ false }
     {
         let mut turn = turn;

@@ -1,5 +1,5 @@
 //! The atomic steps. No signature has a const parameter, since a call of such a function could not pick ghost members.
-ghost use Rattle.std.specs.Prelude.{◌≡◌, ◌≢◌, ◌+◌, ◌-◌, ◌/◌, ◌%◌, ◌<◌, ◌≤◌, ℕ, true, false, [], length};
+ghost use Rattle.std.specs.Prelude.{◌≡◌, ◌≢◌, ◌+◌, ◌-◌, ◌/◌, ◌%◌, ◌<◌, ◌≤◌, ℕ, List, true, false, [], length};
 ghost use Rattle.std.specs.Prelude.{slice_index_or};
 ghost use mathlib.Core.Option.{some};
 ghost use lib.ListN.{get_elem?};
@@ -7,7 +7,7 @@ ghost use Rattle.table_theory.specs.declared.queues.Batch.{Batch};
 ghost use Rattle.table_theory.specs.Listing.{number_of};
 ghost use Rattle.table_theory.specs.Positioned.{blank, head_of, tail_of, written_at};
 ghost use Rattle.table_theory.specs.Seating.{IsSame};
-ghost use Rattle.proc_chain.specs.Rules.{suits};
+ghost use Rattle.proc_chain.specs.Rules.{suits, makes};
 ghost use Rattle.proc_chain.specs.Shown.{head_word, tail_word, gate_word, place_word, raised_word, notes_of};
 ghost use Rattle.proc_chain.specs.Steps.{Found, FoundNotRaised, Claimed, Raised, Took, Notified, GotTurn, BegunRound};
 ghost use Rattle.proc_chain.specs.Steps.{HasLeft, Carries, CountedUp, CountedDown, Tallied, rest_of, newborn, both};
@@ -129,9 +129,10 @@ pub(crate) fn swap_more<Q: Quaject, J: Runner<Q>>(
     requires queue { (seat.old.table_id ≡ words.now.table_id) × (words.now.table_id.words ≡ 36) }
     requires live { (1 ≤ seat.old.me.0.member.ends) × (seat.old.me.0.owes ≡ true) }
     requires call { J.call ≡ seat.old.id }
-    requires suits { (x : Q) → suits Q.fits Q.keeps words.now.key.pact x → J.suits x }
+    requires suits { (x : Q) → suits Q.fits words.now.key.pact x → J.suits x }
+    requires makes { (x : Q) (notes : List ℕ) → makes Q.made_by words.now.key.pact x notes → J.made x notes }
     ensures queue { IsSame seat.old seat.new }
-    ensures won { result ≡ 0 → GotTurn Q.made_by J.suits J.call seat.old.me seat.new.me }
+    ensures won { result ≡ 0 → GotTurn J.made J.suits J.call seat.old.me seat.new.me }
     ensures told { result ≢ 0 → (seat.new.me.1 ≡ seat.old.me.1)
         × Notified J.call seat.old.me.0 result seat.new.me.0 }
 {
@@ -167,14 +168,15 @@ pub(crate) fn store_tail<Q: Quaject, J: Runner<Q>>(
     requires queue { (seat.old.table_id ≡ words.now.table_id) × (words.now.table_id.words ≡ 36) }
     requires live { (1 ≤ seat.old.me.0.member.ends) × (seat.old.me.0.runner ≡ true) }
     requires call { J.call ≡ seat.old.id }
-    requires suits { (x : Q) → suits Q.fits Q.keeps words.now.key.pact x → J.suits x }
+    requires suits { (x : Q) → suits Q.fits words.now.key.pact x → J.suits x }
+    requires makes { (x : Q) (notes : List ℕ) → makes Q.made_by words.now.key.pact x notes → J.made x notes }
     requires tail { (tail ≡ tail_of seat.old.me.0.part.queue) × (tail < 4294967296) }
     requires raised { 2 ≤ written_at seat.old.me.0.part.queue seat.old.me.0.part.queue.taken }
     requires behind { seat.old.me.0.part.queue.taken ≤ length seat.old.me.0.part.queue.places }
-    requires carries { Carries Q.made_by (suits Q.fits Q.keeps words.now.key.pact) (notes_of seat.old.me.0.part.queue) []
-        seat.old.me.1 }
+    requires carries { Carries (makes Q.made_by words.now.key.pact) (suits Q.fits words.now.key.pact)
+        (notes_of seat.old.me.0.part.queue) [] seat.old.me.1 }
     ensures queue { IsSame seat.old seat.new × (seat.new.me.1 ≡ seat.old.me.1) }
-    ensures took { Took Q.made_by J.suits J.call seat.old.me (tail + 1) seat.new.me.0 }
+    ensures took { Took J.made J.suits J.call seat.old.me (tail + 1) seat.new.me.0 }
 {
     words.store::<Takes<J>>(seat, TAIL, tail + 1);
 }
@@ -187,12 +189,13 @@ pub(crate) fn swap_running<Q: Quaject, J: Runner<Q>>(
     requires queue { (seat.old.table_id ≡ words.now.table_id) × (words.now.table_id.words ≡ 36) }
     requires live { (1 ≤ seat.old.me.0.member.ends) × (seat.old.me.0.runner ≡ true) }
     requires call { J.call ≡ seat.old.id }
-    requires suits { (x : Q) → suits Q.fits Q.keeps words.now.key.pact x → J.suits x }
+    requires suits { (x : Q) → suits Q.fits words.now.key.pact x → J.suits x }
+    requires makes { (x : Q) (notes : List ℕ) → makes Q.made_by words.now.key.pact x notes → J.made x notes }
     requires behind { seat.old.me.0.part.queue.taken ≤ length seat.old.me.0.part.queue.places }
-    requires carries { Carries Q.made_by (suits Q.fits Q.keeps words.now.key.pact) (notes_of seat.old.me.0.part.queue) []
-        seat.old.me.1 }
+    requires carries { Carries (makes Q.made_by words.now.key.pact) (suits Q.fits words.now.key.pact)
+        (notes_of seat.old.me.0.part.queue) [] seat.old.me.1 }
     ensures queue { IsSame seat.old seat.new × (seat.new.me.1 ≡ seat.old.me.1) }
-    ensures rounded { BegunRound Q.made_by J.suits J.call seat.old.me result seat.new.me.0 }
+    ensures rounded { BegunRound J.made J.suits J.call seat.old.me result seat.new.me.0 }
 {
     words.swap::<Rounds<J>>(seat, GATE, RUNNING)
 }
@@ -205,12 +208,13 @@ pub(crate) fn exchange_gate<Q: Quaject, J: Runner<Q>>(
     requires queue { (seat.old.table_id ≡ words.now.table_id) × (words.now.table_id.words ≡ 36) }
     requires live { (1 ≤ seat.old.me.0.member.ends) × (seat.old.me.0.runner ≡ true) × (seat.old.me.0.saw ≡ true) }
     requires call { J.call ≡ seat.old.id }
-    requires suits { (x : Q) → suits Q.fits Q.keeps words.now.key.pact x → J.suits x }
+    requires suits { (x : Q) → suits Q.fits words.now.key.pact x → J.suits x }
+    requires makes { (x : Q) (notes : List ℕ) → makes Q.made_by words.now.key.pact x notes → J.made x notes }
     requires behind { seat.old.me.0.part.queue.taken ≤ length seat.old.me.0.part.queue.places }
-    requires carries { Carries Q.made_by (suits Q.fits Q.keeps words.now.key.pact) (notes_of seat.old.me.0.part.queue) []
-        seat.old.me.1 }
+    requires carries { Carries (makes Q.made_by words.now.key.pact) (suits Q.fits words.now.key.pact)
+        (notes_of seat.old.me.0.part.queue) [] seat.old.me.1 }
     ensures queue { IsSame seat.old seat.new }
-    ensures hit { result ≡ 1 → (seat.new.me.1 ≡ []) × HasLeft Q.made_by J.suits J.call seat.old.me seat.new.me.0 }
+    ensures hit { result ≡ 1 → (seat.new.me.1 ≡ []) × HasLeft J.made J.suits J.call seat.old.me seat.new.me.0 }
     ensures miss { result ≢ 1 → (result ≡ 2) × (seat.new.me.1 ≡ seat.old.me.1)
         × Found seat.old.me.0 gate_word result seat.new.me.0 }
 {

@@ -21,11 +21,9 @@ struct Keeper {
 impl Quaject for Keeper {
     type World = u16;
 
-    ghost made_by = { λ keeper notes. keeper.count ≡ length notes % 2 ^ 64 };
+    ghost made_by = { λ first keeper notes. keeper.count ≡ length notes % 2 ^ 64 };
 
     ghost fits = { λ world keeper. Unit {0} };
-
-    ghost keeps = { λ first keeper. Unit {0} };
 
     fn run(&mut self, _world: &u16, note: u16) -> Ran {
         let place = self.count as usize;

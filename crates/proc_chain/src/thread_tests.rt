@@ -23,11 +23,9 @@ struct Tally {
 impl Quaject for Tally {
     type World = u16;
 
-    ghost made_by = { λ tally notes. Unit {0} };
+    ghost made_by = { λ first tally notes. Unit {0} };
 
     ghost fits = { λ world tally. Unit {0} };
-
-    ghost keeps = { λ first tally. Unit {0} };
 
     fn run(&mut self, _world: &u16, note: u16) -> Ran {
         self.count = self.count.wrapping_add(1);

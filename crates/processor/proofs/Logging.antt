@@ -1,12 +1,14 @@
 -- What several pieces of a processor's work come to: their logs stand one behind the other.
-use Rattle.std.proofs.Common.{◌≡◌, ◌+◌, ◌||◌, ◌&&◌, ◌==◌, ◌<◌, ◌≤◌, ℕ, Bool, true, false, Some, Result, Ok, Err, MatchResult, ◌⊎◌, inl, inr, ⊎_elim, zero, suc, get_or, set, slice_get, subst, map, length, List, [], ◌∷◌, ◌++◌, flat_map, refl, sym, ap, ◌∙◌, arith, slice_index_or}
+use Rattle.std.proofs.Common.{◌≡◌, ◌+◌, ◌||◌, ◌&&◌, ◌==◌, ◌<◌, ◌≤◌, ℕ, Bool, true, false, cond, Some, Result, Ok, Err, MatchResult, ◌⊎◌, inl, inr, ⊎_elim, zero, suc, get_or, set, slice_get, subst, map, length, List, [], ◌∷◌, ◌++◌, flat_map, refl, sym, ap, ◌∙◌, arith, slice_index_or}
 use Rattle.quaject_core.specs.declared.alarm.Alarm.{Alarm}
-use Rattle.std.specs.List.{AllByRecursion, All, list_any}
-use Rattle.std.proofs.lemmas.List.{append_assoc, append-nil}
+use Rattle.std.specs.Prelude.{if◌then◌else◌}
+use Rattle.std.specs.List.{AllByRecursion, All, list_any, filter}
+use Rattle.std.proofs.lemmas.List.{append_assoc, append-nil, map-append}
+use Rattle.std.proofs.lemmas.List.Elements.{filter-append}
 use Rattle.std.proofs.lemmas.List.Folds.{list_any-append}
 use Rattle.std.proofs.lemmas.List.Sums.{sum_by-append}
 use Rattle.std.proofs.lemmas.Bool.{eqb-true, leb-true}
-use Rattle.std.proofs.lemmas.Bool.Decides.{nat_tests}
+use Rattle.std.proofs.lemmas.Bool.Decides.{eqb_tells, nat_tests}
 use Rattle.thread_table.proofs.Copies.{get_or-copies}
 use Rattle.std.proofs.lemmas.Grind.{flat_map-append}
 use Rattle.boot_script.specs.declared.boot_plan.BootPlan.{BootPlan}
@@ -46,6 +48,7 @@ use Rattle.thread_table.specs.Answers.{is_in}
 use Rattle.thread_table.specs.declared.rule.View.{View}
 use Rattle.thread_table.specs.Handles.{view_of}
 use Rattle.thread_table.specs.Rules.{done_at}
+use Rattle.processor.specs.Acts.{NeverFalls}
 use Rattle.processor.specs.declared.deed.Deed.{Deed}
 use Rattle.processor.specs.declared.deed.Deed.TheVariants as deeds
 use Rattle.processor.specs.declared.shared.Shared.{Shared}
@@ -56,8 +59,8 @@ use Rattle.processor.specs.Logs.{small_shut_told, large_shut_told}
 use Rattle.processor.specs.Logs.{small_put_by, small_taken_by, large_put_by, large_taken_by, shut_by, chained_by, ran_by}
 use Rattle.processor.specs.Logs.{ticked_by, clock_by, fired_by, heard_by, small_put, small_taken, large_put, large_taken, chained}
 use Rattle.processor.specs.Logs.Entry.{Tended, Delivered, Tried, Retired}
-use Rattle.processor.specs.Logs.{count_of, seat_of, IsFresh, IsOneLine, Leaves}
-use Rattle.processor.specs.Programs.{program, step_of}
+use Rattle.processor.specs.Logs.{count_of, seat_of, done_by, numbers_done, Climbs, IsFresh, IsOneLine, Leaves}
+use Rattle.processor.specs.Programs.{Key, program, step_of}
 use Rattle.processor.specs.Queues.{said_line}
 use Rattle.processor.specs.Running.{Stepped, EndsDid, Goes, gone, line_heard, heard_in, step_tally}
 use Rattle.processor.specs.declared.running.Moved.{Moved}
@@ -161,10 +164,34 @@ told_on : {n : ℕ} (t : Entry → Bool) (xs ys : List Entry) (P : List (QueueEn
     → list_any t (xs ++ ys) ≡ true → P c
 told_on t xs ys P b c still f g h = ⊎_elim (λ l. still (f l)) (λ r. g r) (either_of (list_any t xs) (list_any t ys) (sym (list_any-append t xs ys) ∙ h))
 
+-- the numbers of a thread's steps among these
+abbrev its_numbers : ℕ → List Key → List ℕ
+its_numbers t keys = map (λ key. key.1) (filter (λ key. t == key.0) keys)
+
+numbers_on : (xs ys : List Entry) (t : ℕ) → numbers_done (xs ++ ys) t ≡ numbers_done xs t ++ numbers_done ys t
+numbers_on xs ys t = ap (its_numbers t) (flat_map-append done_by xs ys)
+    ∙ ap (map (λ (key : Key). key.1)) (filter-append (λ (key : Key). t == key.0) (flat_map done_by xs) (flat_map done_by ys))
+    ∙ map-append (λ (key : Key). key.1) _ _
+
+-- from further below they climb as well
+climbs_from : (xs : List ℕ) (a b c : ℕ) → a ≤ b → Climbs xs b c → Climbs xs a c
+climbs_from [] a b c low h = omega arith
+climbs_from (x ∷ xs) a b c low h = (let p = h.0 in omega arith, h.1)
+
+climbs_on : (xs ys : List ℕ) (a b c : ℕ) → Climbs xs a b → Climbs ys b c → Climbs (xs ++ ys) a c
+climbs_on [] ys a b c f g = climbs_from ys a b c f g
+climbs_on (x ∷ xs) ys a b c f g = (f.0, climbs_on xs ys (x + 1) b c f.1 g)
+
+-- how many steps of a thread the hand of the station knows to be done
+abbrev known_done : Parts → ℕ → ℕ
+known_done parts t = done_at (view_of parts.hand).schedule t
+
 pub logs_on : (plan : BootPlan) (xs ys : List Entry) (a b c : Parts) → Logs plan xs a b → Logs plan ys b c → Logs plan (xs ++ ys) a c
 logs_on plan xs ys a b c f g = record {
   planned = all_on (IsPlanned plan) xs ys f.planned g.planned;
   hand = adds_on (tally_of xs) (tally_of ys) (view_of a.hand) (view_of b.hand) (view_of c.hand) f.hand g.hand ∙ ap (λ z. behind (tally (view_of a.hand).made) z) (sym (tally_on xs ys));
+  order = λ t. subst (λ z. Climbs z (known_done a t) (known_done c t)) (sym (numbers_on xs ys t))
+      (climbs_on (numbers_done xs t) (numbers_done ys t) (known_done a t) (known_done b t) (known_done c t) (f.order t) (g.order t));
   small = worked_as _ _ _ _ _ _ _ _ (λ q. sym (flat_map-append (small_put_by q) xs ys)) (λ q. sym (flat_map-append (small_taken_by q) xs ys)) (λ q. sym (sum_by-append (shut_by q) xs ys))
       (worked_on (small_put xs) (small_put ys) (small_taken xs) (small_taken ys) (times_shut xs) (times_shut ys) a.small.items b.small.items c.small.items f.small g.small);
   large = worked_as _ _ _ _ _ _ _ _ (λ q. sym (flat_map-append (large_put_by q) xs ys)) (λ q. sym (flat_map-append (large_taken_by q) xs ys)) (λ q. refl)
@@ -221,10 +248,11 @@ pub one_entry : (plan : BootPlan) (x : Entry) (old new : Parts) → IsPlanned pl
     → ChainsWorked (λ q. chained_by q x) (λ q. ran_by q x) old.chains.items new.chains.items
     → own_of (meters.view_of new.meters) ≡ seat_after (x ∷ []) (meters.view_of old.meters)
     → heard_lines new ≡ heard_lines old ++ heard_by x → Shows (tally_by x).delivered old.signals new.signals
-    → Logs plan (x ∷ []) old new
-one_entry plan x old new p h s l st lt c m lines sig = record {
+    → ((t : ℕ) → Climbs (numbers_done (x ∷ []) t) (known_done old t) (known_done new t)) → Logs plan (x ∷ []) old new
+one_entry plan x old new p h s l st lt c m lines sig o = record {
   planned = (p, tt);
   hand = h ∙ ap (λ z. behind (tally (view_of old.hand).made) z) (sym (nothing_behind (tally_by x)));
+  order = o;
   small = worked_as _ _ _ _ _ _ _ _ (λ q. sym (append-nil (small_put_by q x))) (λ q. sym (append-nil (small_taken_by q x))) (λ q. zero_first (shut_by q x)) s;
   large = worked_as _ _ _ _ _ _ _ _ (λ q. sym (append-nil (large_put_by q x))) (λ q. sym (append-nil (large_taken_by q x))) (λ q. refl) l;
   small_shut = λ q k. st q (only (small_shut_told q x) k);
@@ -236,11 +264,12 @@ one_entry plan x old new p h s l st lt c m lines sig = record {
 }
 
 -- no end but the hand did anything
-pub nothing_logged : (plan : BootPlan) (old new : Parts) → Adds no_events (view_of old.hand) (view_of new.hand) → AreAtRest old new → new.meters ≡ old.meters
-    → new.signals ≡ old.signals → Logs plan [] old new
-nothing_logged plan old new h r m s = record {
+pub nothing_logged : (plan : BootPlan) (old new : Parts) → Adds no_events (view_of old.hand) (view_of new.hand) → NeverFalls (view_of old.hand) (view_of new.hand)
+    → AreAtRest old new → new.meters ≡ old.meters → new.signals ≡ old.signals → Logs plan [] old new
+nothing_logged plan old new h up r m s = record {
   planned = tt;
   hand = h;
+  order = up;
   small = rests _ _ (ap (λ z. z.items) r.small);
   large = rests _ _ (ap (λ z. z.items) r.large);
   small_shut = λ q k. cc;
@@ -252,31 +281,31 @@ nothing_logged plan old new h r m s = record {
 }
 
 -- signals were delivered
-pub delivered_logged : (plan : BootPlan) (e mask : ℕ) (old new : Parts) → Adds (one_delivery e mask) (view_of old.hand) (view_of new.hand) → AreAtRest old new
-    → new.meters ≡ old.meters → Shows (delivery e mask) old.signals new.signals → Logs plan (Delivered e mask ∷ []) old new
-delivered_logged plan e mask old new h r m s = one_entry plan (Delivered e mask) old new tt h
+pub delivered_logged : (plan : BootPlan) (e mask : ℕ) (old new : Parts) → Adds (one_delivery e mask) (view_of old.hand) (view_of new.hand)
+    → NeverFalls (view_of old.hand) (view_of new.hand) → AreAtRest old new → new.meters ≡ old.meters → Shows (delivery e mask) old.signals new.signals → Logs plan (Delivered e mask ∷ []) old new
+delivered_logged plan e mask old new h up r m s = one_entry plan (Delivered e mask) old new tt h
     (rests _ _ (ap (λ z. z.items) r.small)) (rests _ _ (ap (λ z. z.items) r.large)) (λ q k. cc) (λ q k. cc) (chains_rest _ _ (ap (λ z. z.items) r.chains))
-    (seat_rests (meters.view_of old.meters) (meters.view_of new.meters) (ap (λ z. own_of (meters.view_of z)) m)) (ap (λ z. map line_heard z.items) r.heard ∙ sym (append-nil (heard_lines old))) s
+    (seat_rests (meters.view_of old.meters) (meters.view_of new.meters) (ap (λ z. own_of (meters.view_of z)) m)) (ap (λ z. map line_heard z.items) r.heard ∙ sym (append-nil (heard_lines old))) s up
 
 -- an element was put behind the free ones, or stayed where it was
 pub retired_logged : (plan : BootPlan) (e n : ℕ) (moved : Bool) (old new : Parts) → length (program plan e) ≤ n
-    → Adds (retired moved e n) (view_of old.hand) (view_of new.hand) → AreAtRest old new → new.meters ≡ old.meters → new.signals ≡ old.signals → Logged plan old new
-retired_logged plan e n true old new p h r m s = record {
+    → Adds (retired moved e n) (view_of old.hand) (view_of new.hand) → NeverFalls (view_of old.hand) (view_of new.hand) → AreAtRest old new → new.meters ≡ old.meters → new.signals ≡ old.signals → Logged plan old new
+retired_logged plan e n true old new p h up r m s = record {
   log = Retired e n ∷ [];
   its = one_entry plan (Retired e n) old new p h
       (rests _ _ (ap (λ z. z.items) r.small)) (rests _ _ (ap (λ z. z.items) r.large)) (λ q k. cc) (λ q k. cc) (chains_rest _ _ (ap (λ z. z.items) r.chains))
-      (seat_rests (meters.view_of old.meters) (meters.view_of new.meters) (ap (λ z. own_of (meters.view_of z)) m)) (ap (λ z. map line_heard z.items) r.heard ∙ sym (append-nil (heard_lines old))) (shows_none _ _ s);
+      (seat_rests (meters.view_of old.meters) (meters.view_of new.meters) (ap (λ z. own_of (meters.view_of z)) m)) (ap (λ z. map line_heard z.items) r.heard ∙ sym (append-nil (heard_lines old))) (shows_none _ _ s) up;
 }
-retired_logged plan e n false old new p h r m s = record { log = []; its = nothing_logged plan old new h r m s }
+retired_logged plan e n false old new p h up r m s = record { log = []; its = nothing_logged plan old new h up r m s }
 
 -- the alarms were tended
 pub tended_logged : (plan : BootPlan) (advanced : Result ℕ AdvanceRefusal) (alarms : List Alarm) (old new : Parts)
-    → Adds (signals_for alarms) (view_of old.hand) (view_of new.hand) → AreAtRest old new
+    → Adds (signals_for alarms) (view_of old.hand) (view_of new.hand) → NeverFalls (view_of old.hand) (view_of new.hand) → AreAtRest old new
     → DidTend advanced alarms (meters.view_of old.meters) (meters.view_of new.meters) → new.signals ≡ old.signals → Logs plan (Tended advanced alarms ∷ []) old new
-tended_logged plan advanced alarms old new h r m s = one_entry plan (Tended advanced alarms) old new tt h
+tended_logged plan advanced alarms old new h up r m s = one_entry plan (Tended advanced alarms) old new tt h
     (rests _ _ (ap (λ z. z.items) r.small)) (rests _ _ (ap (λ z. z.items) r.large)) (λ q k. cc) (λ q k. cc) (chains_rest _ _ (ap (λ z. z.items) r.chains))
     (m ∙ own_eq (own_of (meters.view_of old.meters)) _ _ _ _ _ _ (sym (append-nil (meters.view_of old.meters).ticks))
-    (ap (λ z. (meters.view_of old.meters).advances ++ z) (sym (append-nil (tick_to advanced)))) (ap (λ z. (meters.view_of old.meters).fired ++ z) (sym (append-nil alarms)))) (ap (λ z. map line_heard z.items) r.heard ∙ sym (append-nil (heard_lines old))) (shows_none _ _ s)
+    (ap (λ z. (meters.view_of old.meters).advances ++ z) (sym (append-nil (tick_to advanced)))) (ap (λ z. (meters.view_of old.meters).fired ++ z) (sym (append-nil alarms)))) (ap (λ z. map line_heard z.items) r.heard ∙ sym (append-nil (heard_lines old))) (shows_none _ _ s) up
 
 -- a step was tried
 ticked : (step : Step) (deed : Deed) (v w : SeatView) → SeatDid step deed v w → own_of w ≡ record (own_of v) { ticks = v.ticks ++ ticks_by step deed }
@@ -342,13 +371,33 @@ counted_so call element false number counted.Undone did after v w a is now low =
 counted_so call element false number (counted.Done m) did after v w a is now low = absurd a
 counted_so call element false number counted.Spent did after v w a is now low = absurd a
 
+-- a step that is done is one more
+one_more : (call element : ℕ) (done : Bool) (number : ℕ) (answer : Counted) (did after v w : View) → CountAnswer call element done did answer after → IsNumber answer element v w
+    → number ≡ done_at v.schedule element → number < 64 → done ≡ true → done_at w.schedule element ≡ number + 1
+one_more call element true number (counted.Done m) did after v w a is now low done = is.1 ∙ is.0 ∙ ap (λ z. z + 1) (sym now)
+one_more call element true number counted.Spent did after v w a is now low done = absurd (let p = is.0 in omega arith)
+one_more call element true number counted.Undone did after v w a is now low done = absurd a
+one_more call element false number answer did after v w a is now low done = absurd cc
+
+-- and so the number of the step that was tried, where it is done, is between
+tried_climbs : (done : Bool) (element number t : ℕ) (v w : View) → NeverFalls v w → number ≡ done_at v.schedule element
+    → (done ≡ true → done_at w.schedule element ≡ number + 1)
+    → Climbs (its_numbers t ((if done then (element, number) ∷ [] else []) ++ [])) (done_at v.schedule t) (done_at w.schedule t)
+tried_climbs false element number t v w up now more = up t
+tried_climbs true element number t v w up now more = ⊎_elim
+    (λ same. subst (λ z. Climbs z (done_at v.schedule t) (done_at w.schedule t)) (sym (ap (λ (b : Bool). map (λ (key : Key). key.1) (cond b ((element, number) ∷ []) [])) same.0))
+    (let a = ap (done_at v.schedule) same.1 in let b = ap (done_at w.schedule) same.1 in let m = more refl in (omega arith, omega arith)))
+    (λ other. subst (λ z. Climbs z (done_at v.schedule t) (done_at w.schedule t)) (sym (ap (λ (b : Bool). map (λ (key : Key). key.1) (cond b ((element, number) ∷ []) [])) other.0)) (up t))
+    (eqb_tells t element)
+
 pub tried_logged : (plan : BootPlan) (shared : Shared) (call p element number : ℕ) (step : Step) (deed : Deed) (answer : Counted) (text : List ℕ) (old new : Parts)
     → step_of plan element number ≡ Some step → comes_of step deed ≡ true → Stepped call plan p element step deed answer (view_of old.hand) (view_of new.hand)
-    → IsNumber answer element (view_of old.hand) (view_of new.hand) → number ≡ done_at (view_of old.hand).schedule element → number < 64
+    → IsNumber answer element (view_of old.hand) (view_of new.hand) → NeverFalls (view_of old.hand) (view_of new.hand)
+    → number ≡ done_at (view_of old.hand).schedule element → number < 64
     → Adds (step_tally step deed answer element number) (view_of old.hand) (view_of new.hand)
     → EndsDid shared step deed text old new → heard_lines new ≡ heard_lines old ++ heard_in deed element number text → new.signals ≡ old.signals
     → Logs plan (Tried element number step deed answer text ∷ []) old new
-tried_logged plan shared call p element number step deed answer text old new is comes s nth now low h e lines sig =
+tried_logged plan shared call p element number step deed answer text old new is comes s nth up now low h e lines sig =
     one_entry plan (Tried element number step deed answer text) old new
     (is, comes, counted_so call element (is_done deed) number answer s.did s.after _ _ s.counts nth now low, one_line step deed text _ _ _ _ e.queues) h e.small_lines e.large_lines
     (told_small step deed text _ _ _ _ e.queues) (told_large step deed text _ _ _ _ e.queues) e.notes
@@ -357,6 +406,8 @@ tried_logged plan shared call p element number step deed answer text old new is 
     lines
     (λ i k low small. shows_none _ _ sig i k low small
     ∙ ap (λ z. slice_is i k old.signals || is_delivered z i k) (sym (ap (λ z. z ++ (counted_step answer element number).delivered) (raises_only step deed) ∙ counts_only answer element number)))
+    (λ t. tried_climbs (is_done deed) element number t (view_of old.hand) (view_of new.hand) up now
+    (one_more call element (is_done deed) number answer s.did s.after (view_of old.hand) (view_of new.hand) s.counts nth now low))
 
 none_in : (s : ℕ) → is_in 0 s ≡ false
 none_in s = grind (arith, nat_tests)
@@ -379,6 +430,7 @@ pub leaves : (plan : BootPlan) (log : List Entry) (old new : Parts) → IsFresh 
 leaves plan log old new f l = record {
   planned = l.planned;
   hand = l.hand ∙ ap (λ z. behind z (tally_of log)) f.hand;
+  order = λ t. climbs_from (numbers_done log t) 0 (known_done old t) (known_done new t) (omega arith) (l.order t);
   small_puts = λ q. l.small.puts_are q ∙ ap (λ z. z ++ small_put log q) ((f.small q).0);
   small_order = l.small.order (none_claimed old.small.items (λ q. (f.small q).0));
   small_takes = λ q. l.small.takes_are q ∙ ap (λ z. z ++ small_taken log q) ((f.small q).1);
@@ -400,24 +452,24 @@ leaves plan log old new f l = record {
 
 pub begun_logged : (plan : BootPlan) (begun : Result Begun Idle) (old new : Parts)
     → MatchResult begun (λ b. Adds (one_delivery b.element (mask_of b.delivered)) (view_of old.hand) (view_of new.hand)) (λ i. Adds no_events (view_of old.hand) (view_of new.hand))
-    → AreAtRest old new → new.meters ≡ old.meters
+    → NeverFalls (view_of old.hand) (view_of new.hand) → AreAtRest old new → new.meters ≡ old.meters
     → MatchResult begun (λ b. Shows (delivery b.element (mask_of b.delivered)) old.signals new.signals) (λ i. new.signals ≡ old.signals) → Logged plan old new
-begun_logged plan (Ok b) old new h r m s = record { log = Delivered b.element (mask_of b.delivered) ∷ []; its = delivered_logged plan b.element (mask_of b.delivered) old new h r m s }
-begun_logged plan (Err i) old new h r m s = record { log = []; its = nothing_logged plan old new h r m s }
+begun_logged plan (Ok b) old new h up r m s = record { log = Delivered b.element (mask_of b.delivered) ∷ []; its = delivered_logged plan b.element (mask_of b.delivered) old new h up r m s }
+begun_logged plan (Err i) old new h up r m s = record { log = []; its = nothing_logged plan old new h up r m s }
 
 -- nothing was done
 pub idle_logged : (plan : BootPlan) (parts : Parts) → Logged plan parts parts
 idle_logged plan parts = record {
   log = [];
-  its = nothing_logged plan parts parts (sym (nothing_behind (tally (view_of parts.hand).made))) (record { small = refl; large = refl; chains = refl; heard = refl }) refl refl;
+  its = nothing_logged plan parts parts (sym (nothing_behind (tally (view_of parts.hand).made))) (λ e. omega arith) (record { small = refl; large = refl; chains = refl; heard = refl }) refl refl;
 }
 
 -- an element moved on behind its step
 pub moved_logged : (plan : BootPlan) (call : ℕ) (step : Step) (deed : Deed) (last : Bool) (e n : ℕ) (moved : Moved) (old new : Parts)
     → Goes call step deed last e moved (view_of old.hand) (view_of new.hand) → (last ≡ true → length (program plan e) ≤ n)
-    → Adds (gone moved e n) (view_of old.hand) (view_of new.hand) → AreAtRest old new → new.meters ≡ old.meters → new.signals ≡ old.signals → Logged plan old new
-moved_logged plan call step deed last e n (moveds.Freed moved) old new g over h r m s = retired_logged plan e n moved old new (over g.2) h r m s
-moved_logged plan call step deed last e n moved old new g over h r m s = record { log = []; its = nothing_logged plan old new h r m s }
+    → Adds (gone moved e n) (view_of old.hand) (view_of new.hand) → NeverFalls (view_of old.hand) (view_of new.hand) → AreAtRest old new → new.meters ≡ old.meters → new.signals ≡ old.signals → Logged plan old new
+moved_logged plan call step deed last e n (moveds.Freed moved) old new g over h up r m s = retired_logged plan e n moved old new (over g.2) h up r m s
+moved_logged plan call step deed last e n moved old new g over h up r m s = record { log = []; its = nothing_logged plan old new h up r m s }
 
 -- behind the last step no step is left
 pub over_so : (plan : BootPlan) (call e number : ℕ) (done : Bool) (answer : Counted) (did after v w : View) → CountAnswer call e done did answer after → IsNumber answer e v w

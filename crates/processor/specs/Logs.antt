@@ -1,5 +1,6 @@
 -- What a processor did, in its order, and what that comes to.
-use Rattle.std.specs.Prelude.{◌≡◌, ◌≤◌, ◌<◌, ◌+◌, ℕ, Bool, true, false, List, [], ◌∷◌, ◌++◌, flat_map, Some, Result, slice_index_or, length}
+use Rattle.std.specs.Prelude.{◌≡◌, ◌≤◌, ◌<◌, ◌+◌, ◌==◌, ℕ, if◌then◌else◌, Bool, true, false, List, [], ◌∷◌, ◌++◌}
+use Rattle.std.specs.Prelude.{flat_map, map, filter, length, slice_index_or, Some, Result}
 use Rattle.std.specs.List.{All, AllByRecursion, sum_by, list_any}
 use Rattle.boot_script.specs.declared.boot_plan.BootPlan.{BootPlan}
 use Rattle.boot_script.specs.declared.plan.QueueIndex.TheVariants.{Small, Large}
@@ -22,11 +23,12 @@ use Rattle.meters.specs.Own.{Own, own_of, nothing_own}
 use Rattle.quaject_core.specs.declared.alarm.Alarm.{Alarm}
 use Rattle.thread_table.specs.Answers.{is_in}
 use Rattle.thread_table.specs.Handles.{view_of}
+use Rattle.thread_table.specs.Rules.{done_at}
 use Rattle.processor.specs.declared.deed.Deed.{Deed}
 use Rattle.processor.specs.declared.deed.Deed.TheVariants as deeds
 use Rattle.processor.specs.declared.station.Parts.{Parts}
 use Rattle.processor.specs.Deeds.{is_done}
-use Rattle.processor.specs.Programs.{program, step_of}
+use Rattle.processor.specs.Programs.{Key, program, step_of}
 use Rattle.processor.specs.Running.{Line, step_tally, heard_in}
 use Rattle.processor.specs.Steps.{puts_small, puts_large, takes_small, takes_large, shuts_by, notes_by, runs_by, ticks_by}
 use Rattle.processor.specs.Steps.{comes_of, told_shut_small, told_shut_large}
@@ -68,6 +70,11 @@ tally_by (Tended advanced alarms) = signals_for alarms
 tally_by (Delivered element mask) = one_delivery element mask
 tally_by (Tried element number step deed count heard) = step_tally step deed count element number
 tally_by (Retired element number) = one_retired element number
+
+-- the step that was done: the thread's number, and its own
+abbrev pub done_by : Entry → List Key
+done_by (Tried element number step deed count heard) = if is_done deed then (element, number) ∷ [] else []
+done_by entry = []
 
 -- the lines that it put in the queue q and took from it, among the small queues
 abbrev pub small_put_by : ℕ → Entry → List (List ℕ)
@@ -161,6 +168,16 @@ chained log q = flat_map (chained_by q) log
 abbrev pub notes_ran : List Entry → ℕ → ℕ
 notes_ran log q = sum_by (ran_by q) log
 
+-- the numbers of the thread's steps that were done, in the log's order
+abbrev pub numbers_done : List Entry → ℕ → List ℕ
+numbers_done log thread = map (λ key. key.1) (filter (λ key. thread == key.0) (flat_map done_by log))
+
+-- These numbers climb from low to high: the first is at least low, each is above the one before it, and all are below
+-- high; where there are none, high is at least low
+abbrev pub Climbs : List ℕ → ℕ → ℕ → Type 0
+Climbs [] low high = low ≤ high
+Climbs (number ∷ numbers) low high = (low ≤ number) × Climbs numbers (number + 1) high
+
 abbrev pub seat_after : List Entry → SeatView → Own
 seat_after log v = record (own_of v) {
   ticks = v.ticks ++ flat_map ticked_by log;
@@ -177,10 +194,13 @@ seat_of log share = record nothing_own {
   share = share;
 }
 
--- what came of a processor's work: its ends did what the log says, each by itself, in its order, and nothing else
+-- What came of a processor's work: its ends did what the log says, each by itself, in its order, and nothing else; and
+-- the numbers of a thread's steps that were done climb from as many as the hand had seen done to as many as it has now
 pub record Logs (plan : BootPlan) (log : List Entry) (old new : Parts) : Type 0 where
   pub planned : AllByRecursion (IsPlanned plan) log
   pub hand : Adds (tally_of log) (view_of old.hand) (view_of new.hand)
+  pub order : (thread : ℕ) → Climbs (numbers_done log thread) (done_at (view_of old.hand).schedule thread)
+      (done_at (view_of new.hand).schedule thread)
   pub small : Worked (small_put log) (small_taken log) (times_shut log) old.small.items new.small.items
   pub large : Worked (large_put log) (large_taken log) never old.large.items new.large.items
   pub small_shut : (q : ℕ) → small_was_shut log q ≡ true → knows_shut_at new.small.items q ≡ true
@@ -207,10 +227,11 @@ pub record IsFresh (parts : Parts) : Type 0 where
   pub unused : IsUnused parts
 
 -- What is left of a processor's work on a station that was fresh: all that its ends did is what the log says, and each
--- claimed in order
+-- claimed in order; and the numbers of a thread's steps that were done climb up to as many as the hand has seen done
 pub record Leaves (plan : BootPlan) (log : List Entry) (parts : Parts) : Type 0 where
   pub planned : AllByRecursion (IsPlanned plan) log
   pub hand : tally (view_of parts.hand).made ≡ tally_of log
+  pub order : (thread : ℕ) → Climbs (numbers_done log thread) 0 (done_at (view_of parts.hand).schedule thread)
   pub small_puts : (q : ℕ) → lines_put_at parts.small.items q ≡ small_put log q
   pub small_order : All ClaimedInOrder parts.small.items
   pub small_takes : (q : ℕ) → lines_taken_at parts.small.items q ≡ small_taken log q

@@ -9,7 +9,7 @@ use Rattle.std.proofs.Math.Nat.{add-mul-mod_self_left, div-add-mod}
 use Rattle.quajects.specs.Lines.{held_line}
 use Rattle.quajects.specs.Lines.{counted}
 
-mod_add : (m a b : ℕ) → (a % m + b) % m ≡ (a + b) % m
+pub mod_add : (m a b : ℕ) → (a % m + b) % m ≡ (a + b) % m
 mod_add m a b = let e : a % m + b + m * (a / m) ≡ a + b = (let d = div-add-mod a m in let x : ℕ = m * (a / m) in let d' : x + a % m ≡ a = d in omega arith) in
     sym (add-mul-mod_self_left (a % m + b) m (a / m)) ∙ ap (λ (z : ℕ). z % m) e
 

@@ -7,7 +7,7 @@ use Rattle.table_theory.specs.Positioned.{item_of}
 use Rattle.claim_queue.specs.declared.ends.ClaimQueue.{ClaimQueue}
 use Rattle.proc_chain.specs.declared.rule.View.{View}
 use Rattle.proc_chain.specs.declared.rule.Pact.{Pact}
-use Rattle.proc_chain.specs.Rules.{suits}
+use Rattle.proc_chain.specs.Rules.{suits, makes}
 use Rattle.proc_chain.specs.Closings.{ClosedNow}
 use Rattle.proc_chain.specs.Shown.{notes_of}
 use Rattle.quajects.specs.declared.world.Queues.{Queues}
@@ -43,7 +43,7 @@ sides_of (any.Cooked tty) = (tty.raw.only, tty.line.only, tty.screen.only)
 sides_of (any.Pump pump) = (pump.source.only, pump.target.only)
 sides_of (any.Switch switch) = (switch.source.only, switch.other.only, ways_sides switch.ways)
 
-run_count : (x : AnyQuaject) (notes : List ℕ) → anys.HasRun x notes → anys.notes_of x ≡ length notes % 2 ^ 64
+pub run_count : (x : AnyQuaject) (notes : List ℕ) → anys.HasRun x notes → anys.notes_of x ≡ length notes % 2 ^ 64
 run_count (any.Cooked tty) notes h = h
 run_count (any.Pump pump) notes h = h
 run_count (any.Switch switch) notes h = h
@@ -105,20 +105,25 @@ module _ {made : AnyQuaject → List ℕ → Type 0} {fits : AnyQuaject → Type
   closed_as first put taken left n c e = subst (λ (z : ℕ). ClosedNow made fits v first z z [] x) e
       (subst (λ (z : ℕ). ClosedNow made fits v first put z [] x) c.all_taken (subst (λ (z : List (Option ℕ)). ClosedNow made fits v first put taken z x) c.none_left c))
 
-pub came_home : (pact : Pact Queues AnyQuaject) (v : View) (first put taken : ℕ) (left : List (Option ℕ)) (x : AnyQuaject) (home : Home) → ClosedNow anys.HasRun (suits anys.Fits anys.CameOf pact) v first put taken left x → IsHome x put (length left) home → CameHome pact first v home
+  -- as many notes made it as were put
+  pub notes_long : {first put taken : ℕ} {left : List (Option ℕ)} (c : ClosedNow made fits v first put taken left x) → length (notes_of c.queue) ≡ put
+  notes_long {put = put} c = let q = c.queue in
+      let whole : q.taken ≡ length q.places = sym c.taken_is ∙ c.all_taken ∙ c.puts in
+      length-map (take q.taken q.places) item_of ∙ length-take-le q.taken q.places (subst (λ (z : ℕ). z ≤ length q.places) (sym whole) (omega arith)) ∙ whole ∙ sym c.puts
+
+pub came_home : (pact : Pact Queues AnyQuaject) (v : View) (first put taken : ℕ) (left : List (Option ℕ)) (x : AnyQuaject) (home : Home) → ClosedNow (makes anys.MadeOf pact) (suits anys.Fits pact) v first put taken left x → IsHome x put (length left) home → CameHome pact first v home
 came_home pact v first put taken left x home c h = let q = c.queue in
-    let whole : q.taken ≡ length q.places = sym c.taken_is ∙ c.all_taken ∙ c.puts in
-    let all : length (notes_of q) ≡ put = length-map (take q.taken q.places) item_of ∙ length-take-le q.taken q.places (subst (λ (z : ℕ). z ≤ length q.places) (sym whole) (omega arith)) ∙ whole ∙ sym c.puts in
+    let all : length (notes_of q) ≡ put = notes_long c in
     record {
       quaject = x;
       closed = closed_as first put taken left home.chained c (sym h.chained_is);
       its = record { ports = h.ports; chained_is = refl; left_is = refl; notes = h.notes; taken = h.taken; put = h.put; held = h.held };
       kept = law_of x;
       sides = sides_of x;
-      posts = posts_home pact.opening.value x home.small home.large c.home.1.1.same h.ports;
-      small = small_fit pact.world.value x (home.small, home.large) h.ports c.home.1.0;
-      large = large_fit pact.world.value x (home.small, home.large) h.ports c.home.1.0;
+      posts = posts_home pact.opening.value x home.small home.large c.home.0.same_ends h.ports;
+      small = small_fit pact.world.value x (home.small, home.large) h.ports c.home.1;
+      large = large_fit pact.world.value x (home.small, home.large) h.ports c.home.1;
       raised = ports_up x home.small home.large h.ports;
-      each = h.notes ∙ run_count x (notes_of q) c.home.0 ∙ ap (λ (z : ℕ). z % 2 ^ 64) (all ∙ sym h.chained_is);
+      each = h.notes ∙ run_count x (notes_of q) c.home.0.count ∙ ap (λ (z : ℕ). z % 2 ^ 64) (all ∙ sym h.chained_is);
       none_left = h.left_is ∙ ap length c.none_left;
     }

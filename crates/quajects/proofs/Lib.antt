@@ -4,7 +4,7 @@ pub mod Staying
 pub mod Answered
 pub mod Counts
 pub mod Editing
-pub mod Coming
+pub mod Making
 pub mod Cooks
 pub mod Routes
 pub mod Noting

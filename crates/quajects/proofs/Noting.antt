@@ -1,5 +1,5 @@
 -- A note that is told to a chain, after tries that were lost.
-use Rattle.std.proofs.Common.{◌≡◌, ℕ, List, [], ◌∷◌, ◌++◌, map, refl, sym, ap, subst, ◌∙◌, Ok, Err}
+use Rattle.std.proofs.Common.{◌≡◌, ℕ, List, [], ◌∷◌, ◌++◌, map, refl, ap, subst, ◌∙◌, Ok, Err}
 use Rattle.atomic_table.specs.Table.{Me}
 use Rattle.table_theory.specs.declared.queues.Batch.{Batch}
 use Rattle.proc_chain.specs.declared.rule.View.{View}
@@ -12,7 +12,7 @@ use Rattle.proc_chain.specs.Answers.{FoundRoom, WasLost, Linked, IsChained, Refu
 use Rattle.proc_chain.specs.Notes.{line_of, notes_put, alone, PutNote}
 use Rattle.proc_chain.specs.Servings.{AllServed}
 use Rattle.proc_chain.specs.Steps.{Found, Notified}
-use Rattle.quajects.specs.Notings.{LostTries, Told, Noted}
+use Rattle.quajects.specs.Notings.{LostTries, Noted}
 
 -- the runs of the end and its share stay
 pub record Stays (v w : View) : Type 0 where

@@ -1,5 +1,5 @@
 -- Any quaject: what a caller sees of it, what it keeps, and what it does for a note.
-use Rattle.std.specs.Prelude.{◌≡◌, ℕ, zero, suc, List, [], ◌∷◌, ◌++◌, Option, Some, None}
+use Rattle.std.specs.Prelude.{◌≡◌, ℕ, List, [], ◌∷◌, ◌++◌, Option, Some, None}
 use Rattle.claim_queue.specs.declared.ends.QueueEnd.{QueueEnd}
 use Rattle.claim_queue.specs.Handles.{view_of}
 use Rattle.claim_queue.specs.Lines.{lines_put, lines_taken}
@@ -9,6 +9,7 @@ use Rattle.quajects.specs.declared.any.AnyQuaject.{AnyQuaject}
 use Rattle.quajects.specs.declared.any.AnyQuaject.TheVariants as any
 use Rattle.quajects.specs.declared.ports.Port.{Port}
 use Rattle.quajects.specs.Ports.{Post, NoneShut}
+use Rattle.quajects.specs.Runs.{MadeBy}
 use Rattle.quajects.specs.Pumps as pumps
 use Rattle.quajects.specs.Terminals as terminals
 use Rattle.quajects.specs.Switches as switches
@@ -85,17 +86,10 @@ RanAny (any.Pump old) (any.Pump new) answer = pumps.RanPump old new answer
 RanAny (any.Switch old) (any.Switch new) answer = switches.RanSwitch old new answer
 RanAny _ _ answer = ⊥
 
--- so many notes were run, one behind the other, and made it of the first
-abbrev pub RanAll : ℕ → AnyQuaject → AnyQuaject → Type 0
-RanAll zero first x = x ≡ first
-RanAll (suc n) first x = (between : AnyQuaject) × (answer : Ran) × RanAll n first between × RanAny between x answer
-
--- It came of the first by runs of notes alone, so many: its numbers and its ends changed by the tries of these runs and by
+-- Runs of these notes, in order, made it of the first: its numbers and its ends changed by the tries of these runs and by
 -- nothing else
-pub record CameOf (first x : AnyQuaject) : Type 0 where
-  pub same : SameEnds first x
-  pub runs : ℕ
-  pub ran : RanAll runs first x
+abbrev pub MadeOf : AnyQuaject → AnyQuaject → List ℕ → Type 0
+MadeOf = MadeBy SameEnds HasRun RanAny
 
 -- these are its ends, in the order of `new`, and None behind them
 abbrev pub EndsOf : AnyQuaject → List (Option (QueueEnd 64)) × List (Option (QueueEnd 256)) → Type 0

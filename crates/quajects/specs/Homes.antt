@@ -3,11 +3,11 @@ use Rattle.std.specs.Prelude.{◌≡◌, ℕ, ◌%◌, ◌^◌, length, [], map}
 use Rattle.quajects.specs.declared.world.Queues.{Queues}
 use Rattle.quajects.specs.declared.any.AnyQuaject.{AnyQuaject}
 use Rattle.quajects.specs.declared.home.Home.{Home}
-use Rattle.quajects.specs.Anys.{PortsOf, PostsOf, IsKept, HasRun, Fits, CameOf, notes_of, all_taken, all_puts}
+use Rattle.quajects.specs.Anys.{PortsOf, PostsOf, IsKept, MadeOf, Fits, notes_of, all_taken, all_puts}
 use Rattle.quajects.specs.Anys.{held_of, KeepsSides}
 use Rattle.proc_chain.specs.declared.rule.View.{View}
 use Rattle.proc_chain.specs.declared.rule.Pact.{Pact}
-use Rattle.proc_chain.specs.Rules.{suits}
+use Rattle.proc_chain.specs.Rules.{suits, makes}
 use Rattle.proc_chain.specs.Closings.{ClosedNow}
 use Rattle.quajects.specs.Lines.{counted}
 use Rattle.quajects.specs.Ports.{AllFit, AllUp, post_at}
@@ -27,7 +27,7 @@ pub record IsHome (quaject : AnyQuaject) (chained left : ℕ) (home : Home) : Ty
 -- with all raised that it claimed and as many shuts as it had; and as many notes were run as were chained
 pub record CameHome (pact : Pact Queues AnyQuaject) (first : ℕ) (v : View) (home : Home) : Type 0 where
   pub quaject : AnyQuaject
-  pub closed : ClosedNow HasRun (suits Fits CameOf pact) v first home.chained home.chained [] quaject
+  pub closed : ClosedNow (makes MadeOf pact) (suits Fits pact) v first home.chained home.chained [] quaject
   pub posts : PostsOf pact.opening.value (map post_at home.small, map post_at home.large)
   pub its : IsHome quaject home.chained home.left home
   pub kept : IsKept quaject

@@ -3,6 +3,7 @@ pub mod Lines
 pub mod Ports
 pub mod Tries
 pub mod Worlds
+pub mod Runs
 pub mod Pumps
 pub mod Cooks
 pub mod Terminals

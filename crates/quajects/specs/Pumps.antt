@@ -10,6 +10,7 @@ use Rattle.quajects.specs.declared.piping.Pump.{Pump}
 use Rattle.quajects.specs.declared.ports.Port.{Port}
 use Rattle.quajects.specs.Lines.{held_line}
 use Rattle.quajects.specs.Ports.{Post, IsEndAt, port, post_of}
+use Rattle.quajects.specs.Runs.{MadeBy}
 use Rattle.quajects.specs.Tries.{Refilled, Flushed}
 
 -- the end that it takes lines at
@@ -85,3 +86,7 @@ pub record RanPump (old new : Pump) (answer : Ran) : Type 0 where
   pub answered : answer ≡ (if took || put then Worked else Nothing)
   pub noted : notes_of new ≡ (notes_of old + 1) % 2 ^ 64
   pub same : SameEnds old new
+
+-- runs of these notes, in order, made it of the first
+abbrev pub MadeOf : Pump → Pump → List ℕ → Type 0
+MadeOf = MadeBy SameEnds HasRun RanPump

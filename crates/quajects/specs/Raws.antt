@@ -1,5 +1,5 @@
 -- A raw tty: what a caller sees of it, and what the put of a byte was answered.
-use Rattle.std.specs.Prelude.{◌≡◌, ℕ, Bool, true, false, [], ◌∷◌, Ok, Err}
+use Rattle.std.specs.Prelude.{ℕ, Bool, true, false, [], ◌∷◌, Ok, Err}
 use Rattle.claim_queue.specs.declared.ends.QueueEnd.{QueueEnd}
 use Rattle.claim_queue.specs.declared.rule.View.{View}
 use Rattle.claim_queue.specs.declared.claim.ClaimRefusal.{ClaimRefusal}

@@ -10,6 +10,7 @@ use Rattle.quajects.specs.declared.world.Queues.{Queues}
 use Rattle.quajects.specs.declared.ports.Port.{Port}
 use Rattle.quajects.specs.declared.switching.Switch.{Switch}
 use Rattle.quajects.specs.Ports.{Post, IsEndAt, port, post_of}
+use Rattle.quajects.specs.Runs.{MadeBy}
 use Rattle.quajects.specs.Tries.{Refilled}
 use Rattle.quajects.specs.Routes.{Given, given_key, given_index, given_end, key_of, index_of, end_of, port_of, way_post}
 use Rattle.quajects.specs.Routes.{puts_of, TookNothing}
@@ -114,3 +115,7 @@ pub record RanSwitch (old new : Switch) (answer : Ran) : Type 0 where
   pub answered : answer ≡ (if took || put then Worked else Nothing)
   pub noted : notes_of new ≡ (notes_of old + 1) % 2 ^ 64
   pub same : SameEnds old new
+
+-- runs of these notes, in order, made it of the first
+abbrev pub MadeOf : Switch → Switch → List ℕ → Type 0
+MadeOf = MadeBy SameEnds HasRun RanSwitch

@@ -11,6 +11,7 @@ use Rattle.quajects.specs.declared.ports.Port.{Port}
 use Rattle.quajects.specs.declared.terminal.CookedTty.{CookedTty}
 use Rattle.quajects.specs.Cooked.{cooked}
 use Rattle.quajects.specs.Lines.{held_line}
+use Rattle.quajects.specs.Runs.{MadeBy}
 use Rattle.quajects.specs.Ports.{Post, IsEndAt, port, post_of}
 use Rattle.quajects.specs.Cooks.{CookedRaw, TriedLine, TriedScreen}
 
@@ -118,3 +119,7 @@ pub record RanCooked (old new : CookedTty) (answer : Ran) : Type 0 where
   pub answered : answer ≡ (if took || put_line || put_screen then Worked else Nothing)
   pub noted : notes_of new ≡ (notes_of old + 1) % 2 ^ 64
   pub same : SameEnds old new
+
+-- runs of these notes, in order, made it of the first
+abbrev pub MadeOf : CookedTty → CookedTty → List ℕ → Type 0
+MadeOf = MadeBy SameEnds HasRun RanCooked

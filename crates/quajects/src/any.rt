@@ -123,22 +123,20 @@ impl AnyQuaject {
 }
 
 impl Quaject for AnyQuaject {
-    ghost use Rattle.quajects.specs.Anys.{HasRun, Fits, CameOf, RanAny};
+    ghost use Rattle.quajects.specs.Anys.{MadeOf, Fits, RanAny};
 
     type World = Queues;
 
-    ghost made_by = { HasRun };
+    ghost made_by = { MadeOf };
 
     ghost fits = { Fits };
-
-    ghost keeps = { CameOf };
 
     /// What its kind does for a note.
     fn run(&mut self, world: &Queues, note: u16) -> Ran
         requires { Fits world.now self.old }
         ensures fits { Fits world.now self.new }
-        ensures keeps { (first : AnyQuaject) → CameOf first self.old → CameOf first self.new }
-        ensures made { (notes : List ℕ) → HasRun self.old notes → HasRun self.new (notes ++ note ∷ []) }
+        ensures made { (first : AnyQuaject) (notes : List ℕ)
+            → MadeOf first self.old notes → MadeOf first self.new (notes ++ note ∷ []) }
         ensures ran { RanAny self.old self.new result }
     {
         match self {

@@ -120,23 +120,21 @@ impl Pump {
 }
 
 impl Quaject for Pump {
-    ghost use Rattle.quajects.specs.Pumps.{HasRun, Fits, SameEnds, RanPump};
+    ghost use Rattle.quajects.specs.Pumps.{MadeOf, Fits, RanPump};
 
     type World = Queues;
 
-    ghost made_by = { HasRun };
+    ghost made_by = { MadeOf };
 
     ghost fits = { Fits };
-
-    ghost keeps = { SameEnds };
 
     /// With nothing held it takes a line from its source; then it puts what is held in its target. Each try is made
     /// once. `Worked` where a line was taken or put.
     fn run(&mut self, world: &Queues, _note: u16) -> Ran
         requires { Fits world.now self.old }
         ensures fits { Fits world.now self.new }
-        ensures keeps { (first : Pump) → SameEnds first self.old → SameEnds first self.new }
-        ensures made { (notes : List ℕ) → HasRun self.old notes → HasRun self.new (notes ++ _note ∷ []) }
+        ensures made { (first : Pump) (notes : List ℕ)
+            → MadeOf first self.old notes → MadeOf first self.new (notes ++ _note ∷ []) }
         ensures ran { RanPump self.old self.new result }
     {
         self.notes = self.notes.wrapping_add(1);

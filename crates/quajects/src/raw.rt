@@ -4,8 +4,8 @@ ghost use Rattle.table_theory.specs.Listing.{AllRaised};
 ghost use Rattle.claim_queue.specs.Handles as claims;
 ghost use Rattle.claim_queue.specs.Lines.{lines_taken, PutLine, SameLines};
 ghost use Rattle.proc_chain.specs.Handles.{turn_of, world_of, pact_of, me_of, call_of, IsEndOf, IsSameEnd};
-ghost use Rattle.quajects.specs.Anys.{HasRun, Fits, CameOf};
-ghost use Rattle.proc_chain.specs.Rules.{suits};
+ghost use Rattle.quajects.specs.Anys.{MadeOf, Fits};
+ghost use Rattle.proc_chain.specs.Rules.{suits, makes};
 ghost use Rattle.quajects.specs.Notings.{Noted};
 ghost use Rattle.quajects.specs.Ports.{IsEndAt, IsUnused};
 
@@ -43,8 +43,8 @@ fn tell<R: Wait>(
     requires world { world_of chain.now ≡ queues.now }
     ensures end { IsEndOf chain.now end.new × IsSameEnd end.old end.new }
     ensures idle { turn_of end.new ≡ false }
-    ensures noted { Noted HasRun (suits Fits CameOf (pact_of chain.now)) (call_of end.old) (me_of end.old) note
-        (me_of end.new) }
+    ensures noted { Noted (makes MadeOf (pact_of chain.now)) (suits Fits (pact_of chain.now)) (call_of end.old)
+        (me_of end.old) note (me_of end.new) }
 {
     for _ in rt.forever() {
         match chain.try_chain(end, note) {
@@ -121,8 +121,8 @@ impl RawTty {
             (SameLines (claims.view_of (end_of self.old)) (claims.view_of (end_of self.new))) }
         ensures overruns { overruns_of self.new ≡ (if result then overruns_of self.old else
             (overruns_of self.old + 1) % 2 ^ 64) }
-        ensures noted { Noted HasRun (suits Fits CameOf (pact_of chain.now)) (call_of self.old.chain) (me_of self.old.chain) 0
-            (me_of self.new.chain) }
+        ensures noted { Noted (makes MadeOf (pact_of chain.now)) (suits Fits (pact_of chain.now)) (call_of self.old.chain)
+            (me_of self.old.chain) 0 (me_of self.new.chain) }
     {
         let item = [byte as u64];
         let queue = &queues.small[self.index];

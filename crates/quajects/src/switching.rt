@@ -288,23 +288,21 @@ impl Switch {
 }
 
 impl Quaject for Switch {
-    ghost use Rattle.quajects.specs.Switches.{HasRun, Fits, SameEnds, RanSwitch};
+    ghost use Rattle.quajects.specs.Switches.{MadeOf, Fits, RanSwitch};
 
     type World = Queues;
 
-    ghost made_by = { HasRun };
+    ghost made_by = { MadeOf };
 
     ghost fits = { Fits };
-
-    ghost keeps = { SameEnds };
 
     /// With nothing held it takes a line from its source; then it puts what is held in the target that its first item
     /// chooses. Each try is made once. `Worked` where a line was taken or put.
     fn run(&mut self, world: &Queues, _note: u16) -> Ran
         requires { Fits world.now self.old }
         ensures fits { Fits world.now self.new }
-        ensures keeps { (first : Switch) → SameEnds first self.old → SameEnds first self.new }
-        ensures made { (notes : List ℕ) → HasRun self.old notes → HasRun self.new (notes ++ _note ∷ []) }
+        ensures made { (first : Switch) (notes : List ℕ)
+            → MadeOf first self.old notes → MadeOf first self.new (notes ++ _note ∷ []) }
         ensures ran { RanSwitch self.old self.new result }
     {
         self.notes = self.notes.wrapping_add(1);

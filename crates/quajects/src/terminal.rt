@@ -181,23 +181,21 @@ impl CookedTty {
 }
 
 impl Quaject for CookedTty {
-    ghost use Rattle.quajects.specs.Terminals.{HasRun, Fits, SameEnds, RanCooked};
+    ghost use Rattle.quajects.specs.Terminals.{MadeOf, Fits, RanCooked};
 
     type World = Queues;
 
-    ghost made_by = { HasRun };
+    ghost made_by = { MadeOf };
 
     ghost fits = { Fits };
-
-    ghost keeps = { SameEnds };
 
     /// With nothing held it takes a raw line, and holds the cooked one; then it puts what is held in the line queue,
     /// and once that is done in the screen queue. Each try is made once. `Worked` where a line was taken or put.
     fn run(&mut self, world: &Queues, _note: u16) -> Ran
         requires { Fits world.now self.old }
         ensures fits { Fits world.now self.new }
-        ensures keeps { (first : CookedTty) → SameEnds first self.old → SameEnds first self.new }
-        ensures made { (notes : List ℕ) → HasRun self.old notes → HasRun self.new (notes ++ _note ∷ []) }
+        ensures made { (first : CookedTty) (notes : List ℕ)
+            → MadeOf first self.old notes → MadeOf first self.new (notes ++ _note ∷ []) }
         ensures ran { RanCooked self.old self.new result }
     {
         self.notes = self.notes.wrapping_add(1);

@@ -159,7 +159,7 @@ fn hear_rest(queues: &Queues, device: &mut QueueEnd<64>, hearing: &mut Hearing)
 }
 
 #[test]
-#[tactic(auto, using(quajects::proofs::Coming::came_of_itself))]
+#[tactic(auto, using(quajects::proofs::Making::made_of_itself))]
 fn four_threads(rt: HostRuntime) -> Result<(), Fail> {
     let Devices {
         queues,

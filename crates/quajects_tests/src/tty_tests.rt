@@ -29,7 +29,7 @@ fn type_all<R: Abort + Wait>(rt: &R, queues: &Queues, chain: &Chain, tty: &mut R
 
 /// Five bytes typed are one cooked line in the line queue, and in the screen queue.
 #[test]
-#[tactic(auto, using(quajects::proofs::Coming::came_of_itself))]
+#[tactic(auto, using(quajects::proofs::Making::made_of_itself))]
 fn types(rt: HostRuntime) -> Result<(), Fail> {
     let (queues, mut small, mut large) = new_queues(rt.alloc(), 1, 2)?;
     let Two {
@@ -142,7 +142,7 @@ fn type_ends<R: Wait>(rt: &R, queues: &Queues, chain: &Chain, tty: &mut RawTty, 
 
 /// 400 ends of a line while nobody hears: the line and the screen queue fill up, then the raw queue.
 #[test]
-#[tactic(auto, using(quajects::proofs::Coming::came_of_itself))]
+#[tactic(auto, using(quajects::proofs::Making::made_of_itself))]
 fn nobody_hears(rt: HostRuntime) -> Result<(), Fail> {
     let Typing {
         queues,

@@ -214,7 +214,7 @@ module _ (plan : BootPlan) (logs : List (List Entry)) (boot : Boot) (c : Closed)
         typed = e.device.popped;
         bytes = subst (AreWithout d.popped d.refused) (sym (raw_items tty p ends.0 t d raw ends.1 e is)) e.device.put;
         its = e.of_plan;
-        came = e.of_new;
+        made = e.of_new;
         cooked = kept ends.0.chain ends.0.home t e.ended;
       }
 

@@ -92,7 +92,7 @@ module _ (plan : BootPlan) (logs : List (List Entry)) (stations : List Parts) (f
   pub mover_agrees : (p : PlannedMover) (home : Home) (m : closed.Chain) → MoverEnded number p last home m → MoverAgrees number p.mover m logs
   mover_agrees p home m e = record {
     its = e.of_plan;
-    came = e.of_new;
+    made = e.of_new;
     kept = kept (view_of e.end) home m e.ended;
     pokes = let none = none_left (view_of e.end) home m e.ended in
         let notes : notes_of m.quaject ≡ count_by (is_poke number) (all_of logs) = notes_are (view_of e.end) home m e.ended ∙ (chained_are (view_of e.end) home m e.ended

@@ -1,6 +1,7 @@
 -- What was made for a plan is the plan's after any note.
-use Rattle.std.proofs.Common.{◌≡◌, ℕ, zero, suc, ◌≤◌, List, [], ◌∷◌, ◌++◌, map, length, refl, sym, ap, ◌∙◌, arith, Option, Some, None, slice_get, flat_map, subst}
+use Rattle.std.proofs.Common.{◌≡◌, ℕ, zero, suc, ◌≤◌, ◌<◌, ◌^◌, List, [], ◌∷◌, ◌++◌, map, length, refl, sym, ap, ◌∙◌, arith, Option, Some, None, slice_get, flat_map, subst}
 use Rattle.std.specs.List.{All}
+use Rattle.std.proofs.Math.Nat.{mod-eq_of_lt}
 use Rattle.boot_script.specs.declared.boot_plan.BootPlan.{BootPlan}
 use Rattle.boot_script.specs.declared.plan.Mover.{Mover}
 use Rattle.boot_script.specs.declared.plan.Mover.TheVariants as movers
@@ -16,10 +17,11 @@ use Rattle.quajects.specs.declared.any.AnyQuaject.{AnyQuaject}
 use Rattle.quajects.specs.declared.any.AnyQuaject.TheVariants as any
 use Rattle.quajects.specs.declared.ways.Way.{Way}
 use Rattle.quajects.specs.declared.world.Queues.{Queues}
-use Rattle.quajects.specs.Anys.{SameEnds, CameOf}
+use Rattle.quajects.specs.Anys.{SameEnds, MadeOf, notes_of}
 use Rattle.quajects.specs.Ports.{Post}
 use Rattle.quajects.specs.Routes.{key_of, index_of, way_post}
-use Rattle.reports.specs.Agreements.{IsMover, IsTty, CameOfNew, route_of, routes_of}
+use Rattle.quajects.proofs.Homing.{run_count}
+use Rattle.reports.specs.Agreements.{IsMover, IsTty, MadeOfNew, route_of, routes_of}
 use Rattle.reports.specs.Closings.{IsPlanned, IsOfPlan}
 
 -- WAYS
@@ -110,14 +112,16 @@ its_ready world [] k x all e = absurd (cc)
 its_ready world (y ∷ xs) zero x all e = let same : y ≡ x = cc in subst (IsReady world) same (all 0 y (omega arith))
 its_ready world (y ∷ xs) (suc k) x all e = its_ready world xs k x (λ k d l. all (suc k) d (omega arith)) e
 
-pub came_new : (plan : BootPlan) (world : Queues) (list : List (ProcChain AnyQuaject Queues)) → AreQuajectsOf plan world (quajects_of list)
-    → (number : ℕ) (chain : ProcChain AnyQuaject Queues) (quaject : AnyQuaject) → slice_get list number ≡ Some chain → CameOf (opening_of chain) quaject → CameOfNew quaject
-came_new plan world list are number chain quaject at c =
+pub made_new : (plan : BootPlan) (world : Queues) (list : List (ProcChain AnyQuaject Queues)) → AreQuajectsOf plan world (quajects_of list)
+    → (number : ℕ) (chain : ProcChain AnyQuaject Queues) (quaject : AnyQuaject) (notes : List ℕ) → slice_get list number ≡ Some chain → MadeOf (opening_of chain) quaject notes → length notes < 2 ^ 64 → MadeOfNew quaject
+made_new plan world list are number chain quaject notes at m few =
     let r = its_ready world (quajects_of list) number (opening_of chain) are.ready (opening_at list number chain at) in record {
       first = opening_of chain;
       none_taken = r.none_taken;
       none_put = r.none_put;
       none_held = r.none_held;
       none_run = r.none_run;
-      came = c;
+      notes = notes;
+      made = m;
+      all = run_count quaject notes m.count ∙ mod-eq_of_lt few;
     }

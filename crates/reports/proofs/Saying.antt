@@ -22,13 +22,12 @@ use Rattle.thread_table.specs.declared.places.Place.TheVariants as places
 use Rattle.processor.specs.declared.deed.Deed.{Deed}
 use Rattle.processor.specs.declared.deed.Deed.TheVariants as deeds
 use Rattle.processor.specs.Deeds.{is_done}
-use Rattle.processor.specs.Logs.{Entry, Tended, Delivered, Tried, Retired, IsPlanned, small_put_by, large_put_by, small_shut_told, large_shut_told}
+use Rattle.processor.specs.Logs.{Entry, Tended, Delivered, Tried, Retired, IsPlanned, done_by, small_put_by, large_put_by, small_shut_told, large_shut_told}
 use Rattle.processor.specs.Programs.{Key, same_key, program, step_of}
 use Rattle.processor.specs.Running.{Line}
 use Rattle.processor.specs.Steps.{comes_of, puts_small, puts_large, told_shut_small, told_shut_large}
 use Rattle.reports.specs.Agreements.{PlaceAgrees}
 use Rattle.reports.specs.Closed.{Closed}
-use Rattle.reports.specs.Doings as doings
 use Rattle.reports.specs.Lines.{state_for}
 use Rattle.reports.specs.Lists.{all_of}
 use Rattle.reports.specs.Reports.{IsReport}
@@ -195,34 +194,34 @@ module _ (q : ℕ) where
   by_key says plan true element number step is = sym (append-nil (says step)) ∙ ap (λ z. lines_at says plan z ++ []) (sym is)
   by_key says plan false element number step is = refl
 
-  small_entry : (plan : BootPlan) (entry : Entry) → IsPlanned plan entry → small_shut_told q entry ≡ false → small_put_by q entry ≡ flat_map (line_at (says_small q) plan) (doings.done_by entry)
+  small_entry : (plan : BootPlan) (entry : Entry) → IsPlanned plan entry → small_shut_told q entry ≡ false → small_put_by q entry ≡ flat_map (line_at (says_small q) plan) (done_by entry)
   small_entry plan (Tended advanced alarms) p t = refl
   small_entry plan (Delivered element mask) p t = refl
   small_entry plan (Tried element number step deed count heard) p t = small_step step deed p.1 t ∙ by_key (says_small q) plan (is_done deed) element number step p.0
   small_entry plan (Retired element number) p t = refl
 
-  large_entry : (plan : BootPlan) (entry : Entry) → IsPlanned plan entry → large_shut_told q entry ≡ false → large_put_by q entry ≡ flat_map (line_at (says_large q) plan) (doings.done_by entry)
+  large_entry : (plan : BootPlan) (entry : Entry) → IsPlanned plan entry → large_shut_told q entry ≡ false → large_put_by q entry ≡ flat_map (line_at (says_large q) plan) (done_by entry)
   large_entry plan (Tended advanced alarms) p t = refl
   large_entry plan (Delivered element mask) p t = refl
   large_entry plan (Tried element number step deed count heard) p t = large_step step deed p.1 t ∙ by_key (says_large q) plan (is_done deed) element number step p.0
   large_entry plan (Retired element number) p t = refl
 
   said_log : (plan : BootPlan) (says : Step → List (List ℕ)) (told : Entry → Bool) (put : Entry → List (List ℕ))
-      → ((entry : Entry) → IsPlanned plan entry → told entry ≡ false → put entry ≡ flat_map (line_at says plan) (doings.done_by entry))
-      → (log : List Entry) → AllByRecursion (IsPlanned plan) log → list_any told log ≡ false → flat_map put log ≡ flat_map (line_at says plan) (flat_map doings.done_by log)
+      → ((entry : Entry) → IsPlanned plan entry → told entry ≡ false → put entry ≡ flat_map (line_at says plan) (done_by entry))
+      → (log : List Entry) → AllByRecursion (IsPlanned plan) log → list_any told log ≡ false → flat_map put log ≡ flat_map (line_at says plan) (flat_map done_by log)
   said_log plan says told put one [] p t = refl
   said_log plan says told put one (entry ∷ log) p t = let s = or_false (told entry) (list_any told log) t in
-      (λ k. one entry p.0 s.0 k ++ said_log plan says told put one log p.1 s.1 k) ∙ sym (flat_map-append (line_at says plan) (doings.done_by entry) (flat_map doings.done_by log))
+      (λ k. one entry p.0 s.0 k ++ said_log plan says told put one log p.1 s.1 k) ∙ sym (flat_map-append (line_at says plan) (done_by entry) (flat_map done_by log))
 
   said_logs : (plan : BootPlan) (says : Step → List (List ℕ)) (told : Entry → Bool) (put : Entry → List (List ℕ))
-      → ((entry : Entry) → IsPlanned plan entry → told entry ≡ false → put entry ≡ flat_map (line_at says plan) (doings.done_by entry))
+      → ((entry : Entry) → IsPlanned plan entry → told entry ≡ false → put entry ≡ flat_map (line_at says plan) (done_by entry))
       → (logs : List (List Entry)) → AllByRecursion (AllByRecursion (IsPlanned plan)) logs → AllByRecursion (λ log. list_any told log ≡ false) logs
-      → flat_map (flat_map put) logs ≡ flat_map (line_at says plan) (flat_map doings.done_by (all_of logs))
+      → flat_map (flat_map put) logs ≡ flat_map (line_at says plan) (flat_map done_by (all_of logs))
   said_logs plan says told put one [] p t = refl
   said_logs plan says told put one (log ∷ logs) p t =
       (λ k. said_log plan says told put one log p.0 t.0 k ++ said_logs plan says told put one logs p.1 t.1 k)
-      ∙ (sym (flat_map-append (line_at says plan) (flat_map doings.done_by log) (flat_map doings.done_by (all_of logs)))
-      ∙ ap (flat_map (line_at says plan)) (sym (flat_map-append doings.done_by log (all_of logs))))
+      ∙ (sym (flat_map-append (line_at says plan) (flat_map done_by log) (flat_map done_by (all_of logs)))
+      ∙ ap (flat_map (line_at says plan)) (sym (flat_map-append done_by log (all_of logs))))
 
 -- ALL ENDED
 
@@ -252,7 +251,7 @@ none_live (l ∷ ls) h zero line at = let e : l ≡ line = cc in by_bool (is_end
 none_live (l ∷ ls) h (suc k) line at = let c = many_cons is_live l ls in none_live ls (omega arith) k line at
 
 module _ (plan : BootPlan) (c : Closed) (logs : List (List Entry)) (heard : List Line) (r : Report) (report : IsReport plan c logs heard r) (ended : AllEnded r) where
-  all_once : (x n : ℕ) → count_by (same_key (x, n)) (flat_map doings.done_by (all_of logs)) ≡ (if nat_lt n (length (program plan x)) then 1 else 0)
+  all_once : (x n : ℕ) → count_by (same_key (x, n)) (flat_map done_by (all_of logs)) ≡ (if nat_lt n (length (program plan x)) then 1 else 0)
   all_once x n = dite (dec_lt x (length plan.threads))
       (λ low.
       let w = report.says.whole in
@@ -270,9 +269,9 @@ module _ (plan : BootPlan) (c : Closed) (logs : List (List Entry)) (heard : List
   pub small_said : (q : ℕ) → IsNeverShutSmall q logs → SmallIsSaid plan q logs
   small_said q never = subst (λ z. IsPermutation z (all_small plan q))
       (sym (said_logs q plan (says_small q) (small_shut_told q) (small_put_by q) (small_entry q plan) logs report.tables.planned never))
-      (all_done (says_small q) plan (flat_map doings.done_by (all_of logs)) all_once)
+      (all_done (says_small q) plan (flat_map done_by (all_of logs)) all_once)
 
   pub large_said : (q : ℕ) → IsNeverShutLarge q logs → LargeIsSaid plan q logs
   large_said q never = subst (λ z. IsPermutation z (all_large plan q))
       (sym (said_logs q plan (says_large q) (large_shut_told q) (large_put_by q) (large_entry q plan) logs report.tables.planned never))
-      (all_done (says_large q) plan (flat_map doings.done_by (all_of logs)) all_once)
+      (all_done (says_large q) plan (flat_map done_by (all_of logs)) all_once)

@@ -33,6 +33,7 @@ use Rattle.proc_chain.specs.declared.ends.ChainEnd.{ChainEnd}
 use Rattle.proc_chain.specs.declared.ends.ProcChain.{ProcChain}
 use Rattle.proc_chain.specs.declared.quaject.Quaject.{Ghosts}
 use Rattle.proc_chain.specs.Handles as chains
+use Rattle.proc_chain.specs.Shown.{notes_of}
 use Rattle.processor.specs.declared.shared.Shared.{Shared}
 use Rattle.processor.specs.declared.station.Parts.{Parts}
 use Rattle.processor.specs.Logs.{Entry}
@@ -45,10 +46,11 @@ use Rattle.quajects.specs.declared.raw.RawTty.{RawTty}
 use Rattle.quajects.specs.declared.world.Queues.{Queues}
 use Rattle.quajects.specs.Raws.{end_of}
 use Rattle.quajects.specs.Settled.{shuts_of}
+use Rattle.quajects.proofs.Homing.{notes_long}
 use Rattle.thread_table.specs.declared.hand.Hand.{Hand}
 use Rattle.thread_table.specs.Closings as tables
 use Rattle.thread_table.specs.Handles as threads
-use Rattle.reports.specs.Agreements.{IsTty, CameOfNew}
+use Rattle.reports.specs.Agreements.{IsTty, MadeOfNew}
 use Rattle.reports.specs.Boots.{Boot, TtyEnds, BootEnded, home_of, raw_of, homes, small_others, large_others}
 use Rattle.reports.specs.Closed.{Closed}
 use Rattle.reports.specs.Closed as closed
@@ -57,7 +59,7 @@ use Rattle.reports.specs.Endings.{QueueEnded, ThreadsEnded, MetersEnded, MoverEn
 use Rattle.reports.specs.Lines.{Says}
 use Rattle.reports.specs.Reports.{Ascend}
 use Rattle.reports.proofs.Booting.{there}
-use Rattle.reports.proofs.Planning.{planned_stay, came_new}
+use Rattle.reports.proofs.Planning.{planned_stay, made_new}
 use Rattle.reports.proofs.Threads.{within}
 use Rattle.reports.proofs.QueueEnds.{GainedEnds, sum_ends, sum_more, sum_one, gained_ports, gained_small, gained_large, gained_both, gained_same, raws_at, homes_sum, shuts_summed, queue_ended}
 
@@ -299,11 +301,12 @@ module _ (shared : Shared) (logs : List (List Entry)) (first : Parts) (stations 
   of_plan : (k : ℕ) (chain : closed.Chain) (d : ChainShut shared.chains.items parts.chains.items all_homes k chain)
       → IsPlanned (length plan.queues) (k - length plan.movers) (slice_get plan.movers k) chain.quaject
   of_plan k chain d = subst (IsPlanned (length plan.queues) (k - length plan.movers) (slice_get plan.movers k)) (sym (ap (λ (z : closed.Chain). z.quaject) d.is))
-      (planned_stay plan shared.queues shared.chains.items s.quajects k d.its d.came.quaject d.at d.came.closed.home.1.1.same)
+      (planned_stay plan shared.queues shared.chains.items s.quajects k d.its d.came.quaject d.at d.came.closed.home.0.same_ends)
 
-  of_new : (k : ℕ) (chain : closed.Chain) → ChainShut shared.chains.items parts.chains.items all_homes k chain → CameOfNew chain.quaject
-  of_new k chain d = subst CameOfNew (sym (ap (λ (z : closed.Chain). z.quaject) d.is))
-      (came_new plan shared.queues shared.chains.items s.quajects k d.its d.came.quaject d.at d.came.closed.home.1.1)
+  of_new : (k : ℕ) (chain : closed.Chain) → ChainShut shared.chains.items parts.chains.items all_homes k chain → MadeOfNew chain.quaject
+  of_new k chain d = subst MadeOfNew (sym (ap (λ (z : closed.Chain). z.quaject) d.is))
+      (made_new plan shared.queues shared.chains.items s.quajects k d.its d.came.quaject (notes_of d.came.closed.queue) d.at d.came.closed.home.0
+      (let e = notes_long d.came.closed in let f = all_got IsFew all_homes k d.home s.closed.few d.home_at in omega (arith, e)))
 
   pub mover_ended : (k : ℕ) (p : PlannedMover) (home : Home) (m : closed.Chain) → slice_get plan.movers k ≡ Some p → slice_get boot.movers k ≡ Some home → slice_get c.movers k ≡ Some m
       → MoverEnded k p last home m

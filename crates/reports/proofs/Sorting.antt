@@ -11,11 +11,10 @@ use Rattle.thread_table.specs.Rules.{done_at}
 use Rattle.processor.specs.declared.deed.Deed.{Deed}
 use Rattle.processor.specs.declared.deed.Deed.TheVariants as deeds
 use Rattle.processor.specs.declared.station.Parts.{Parts}
-use Rattle.processor.specs.Logs.{Entry, Tended, Delivered, Tried, Retired, Leaves, heard_by}
+use Rattle.processor.specs.Logs.{Entry, Tended, Delivered, Tried, Retired, Leaves, done_by, heard_by}
 use Rattle.processor.specs.Programs.{Key, same_key}
 use Rattle.processor.specs.Running.{Line}
 use Rattle.reports.specs.Closed.{Closed}
-use Rattle.reports.specs.Doings.{done_by}
 use Rattle.reports.specs.Endings.{ThreadsEnded}
 use Rattle.reports.specs.Lists.{all_of}
 use Rattle.reports.specs.Reports.{AreSorted, Ascend}

@@ -20,6 +20,7 @@ use Rattle.processor.specs.declared.deed.Deed.TheVariants as deeds
 use Rattle.processor.specs.declared.station.Parts.{Parts}
 use Rattle.processor.specs.Deeds.{is_done}
 use Rattle.processor.specs.Logs.{Entry, Tended, Delivered, Tried, Retired, Leaves, IsPlanned, count_of, tally_by, tally_of, fired_by}
+use Rattle.processor.specs.Logs as entries
 use Rattle.processor.specs.Partings.{AreJoined}
 use Rattle.processor.specs.Programs.{same_key}
 use Rattle.processor.specs.Steps.{raised_by}
@@ -62,14 +63,14 @@ counted_one : (b : Bool) (element number : ℕ) → (counted_step (count_of b nu
 counted_one true element number = refl
 counted_one false element number = refl
 
-pub entry_steps : (plan : BootPlan) (entry : Entry) → IsPlanned plan entry → (tally_by entry).done ≡ doings.done_by entry
+pub entry_steps : (plan : BootPlan) (entry : Entry) → IsPlanned plan entry → (tally_by entry).done ≡ entries.done_by entry
 entry_steps plan (Tended advanced alarms) p = refl
 entry_steps plan (Delivered element mask) p = refl
 entry_steps plan (Tried element number step deed count heard) p =
     (λ k. raised_none step deed k ++ (counted_step (p.2 k) element number).done) ∙ counted_one (is_done deed) element number
 entry_steps plan (Retired element number) p = refl
 
-pub log_steps : (plan : BootPlan) (log : List Entry) → AllByRecursion (IsPlanned plan) log → (tally_of log).done ≡ flat_map doings.done_by log
+pub log_steps : (plan : BootPlan) (log : List Entry) → AllByRecursion (IsPlanned plan) log → (tally_of log).done ≡ flat_map entries.done_by log
 log_steps plan [] p = refl
 log_steps plan (entry ∷ log) p = λ k. entry_steps plan entry p.0 k ++ log_steps plan log p.1 k
 
@@ -131,10 +132,10 @@ module _ (x n : ℕ) where
 
 module _ (plan : BootPlan) (logs : List (List Entry)) (stations : List Parts) (first last : Parts) (left : AllZip (Leaves plan) logs stations)
     (begun : IsPrepared plan first) (joins : AllJoined first stations last) where
-  pub all_steps : flat_map done_by (made_at last) ≡ flat_map doings.done_by (all_of logs)
+  pub all_steps : flat_map done_by (made_at last) ≡ flat_map entries.done_by (all_of logs)
   all_steps = joined_from_none (λ p. flat_map done_by (made_at p)) steps_more first stations last begun.done joins
-      ∙ (zip_lists (Leaves plan) (λ p. flat_map done_by (made_at p)) (flat_map doings.done_by) (λ log p l. ap (λ t. t.done) l.hand ∙ log_steps plan log l.planned) logs stations left
-      ∙ sym (flat_all doings.done_by logs))
+      ∙ (zip_lists (Leaves plan) (λ p. flat_map done_by (made_at p)) (flat_map entries.done_by) (λ log p l. ap (λ t. t.done) l.hand ∙ log_steps plan log l.planned) logs stations left
+      ∙ sym (flat_all entries.done_by logs))
 
   pub all_signals : flat_map signalled_by (made_at last) ≡ flat_map (λ log. (tally_of log).signalled) logs
   all_signals = joined_from_none (λ p. flat_map signalled_by (made_at p)) signals_more first stations last begun.signalled joins

@@ -1,9 +1,10 @@
 -- The closed threads by the logs: their steps and their signals.
-use Rattle.std.proofs.Common.{◌≡◌, ⊎_elim, ℕ, zero, suc, ◌<◌, Bool, true, false, List, [], ◌∷◌, ◌++◌, length, get_or, refl, sym, ap, ◌∙◌, arith, Some, None, slice_get, flat_map, count_by, eqb}
+use Rattle.std.proofs.Common.{◌≡◌, ⊎_elim, ℕ, zero, suc, ◌+◌, ◌<◌, ◌≤◌, Bool, true, false, List, [], ◌∷◌, ◌++◌, length, get_or, refl, sym, ap, ◌∙◌, arith, Some, None, slice_get, flat_map, count_by, cond, eqb, eq-eqb, map}
 use Rattle.std.specs.Prelude.{if◌then◌else◌, ◌||◌, ◌==◌, ◌&&◌, nat_lt}
-use Rattle.std.specs.List.{AllZip, AllByRecursion, list_any}
-use Rattle.std.proofs.lemmas.Bool.Decides.{eqb_tells, nat_tests}
+use Rattle.std.specs.List.{AllZip, AllByRecursion, list_any, filter}
+use Rattle.std.proofs.lemmas.Bool.Decides.{eqb_tells, leb_tells, nat_tests}
 use Rattle.std.proofs.lemmas.List.Folds.{list_any-append}
+use Rattle.std.proofs.lemmas.Grind.{flat_map-append}
 use Rattle.thread_table.proofs.Copies.{get_or-copies}
 use mathlib.Core.Logic.{dite}
 use native.Mathlib.Decide.{dec_lt}
@@ -15,8 +16,8 @@ use Rattle.thread_table.specs.Handles.{view_of}
 use Rattle.thread_table.specs.Rules.{done_at}
 use Rattle.processor.specs.declared.station.Parts.{Parts}
 use Rattle.processor.specs.Deeds.{is_done}
-use Rattle.processor.specs.Logs.{Entry, Tended, Delivered, Tried, Retired, Leaves, IsPlanned, tally_of, fired_by}
-use Rattle.processor.specs.Programs.{program, same_key}
+use Rattle.processor.specs.Logs.{Entry, Tended, Delivered, Tried, Retired, Leaves, IsPlanned, tally_of, fired_by, done_by, numbers_done, Climbs}
+use Rattle.processor.specs.Programs.{Key, program, same_key}
 use Rattle.processor.specs.Stations.{no_signals}
 use Rattle.reports.specs.Agreements.{StepsAgree, ShownAgrees, SignalsAgree}
 use Rattle.reports.specs.Closed.{Closed}
@@ -59,15 +60,15 @@ module _ (plan : BootPlan) (x n : ℕ) (none : slice_get (program plan x) n ≡ 
       let z : None ≡ Some step = sym none ∙ a in absurd (cc))
       (λ isnt. let z : plus (same_key (x, n) (element, number)) ≡ 0 = ap plus isnt in omega arith)
 
-  none_by : (entry : Entry) → IsPlanned plan entry → count_by (same_key (x, n)) (doings.done_by entry) ≡ 0
+  none_by : (entry : Entry) → IsPlanned plan entry → count_by (same_key (x, n)) (done_by entry) ≡ 0
   none_by (Tended advanced alarms) p = refl
   none_by (Delivered element mask) p = refl
   none_by (Tried element number step deed count heard) p = not_it element number step (is_done deed) p.0
   none_by (Retired element number) p = refl
 
-  pub none_in : (log : List Entry) → AllByRecursion (IsPlanned plan) log → count_by (same_key (x, n)) (flat_map doings.done_by log) ≡ 0
+  pub none_in : (log : List Entry) → AllByRecursion (IsPlanned plan) log → count_by (same_key (x, n)) (flat_map done_by log) ≡ 0
   none_in [] p = refl
-  none_in (entry ∷ log) p = many_more (same_key (x, n)) (doings.done_by entry) (flat_map doings.done_by log)
+  none_in (entry ∷ log) p = many_more (same_key (x, n)) (done_by entry) (flat_map done_by log)
       ∙ (let a = none_by entry p.0 in let b = none_in log p.1 in omega arith)
 
 pub planned_all : (plan : BootPlan) (logs : List (List Entry)) (stations : List Parts) → AllZip (Leaves plan) logs stations → AllByRecursion (AllByRecursion (IsPlanned plan)) logs
@@ -83,6 +84,44 @@ plan_more plan (e ∷ l) m p q = (p.0, plan_more plan l m p.1 q)
 pub all_planned : (plan : BootPlan) (logs : List (List Entry)) → AllByRecursion (AllByRecursion (IsPlanned plan)) logs → AllByRecursion (IsPlanned plan) (all_of logs)
 all_planned plan [] p = tt
 all_planned plan (log ∷ logs) p = plan_more plan log (all_of logs) p.0 (all_planned plan logs p.1)
+
+-- ORDER
+
+-- a step is among those done as often as its number is among the numbers of its thread's
+module _ (x n : ℕ) where
+  numbered : (keys : List Key) → count_by (eqb n) (map (λ key. key.1) (filter (λ key. x == key.0) keys)) ≡ count_by (same_key (x, n)) keys
+  numbered [] = refl
+  numbered (key ∷ keys) =
+      let f : List Key → List ℕ = map (λ key. key.1) in
+      let rest : List Key = filter (λ key. x == key.0) keys in
+      let c = many_cons (same_key (x, n)) key keys in let h = numbered keys in by_bool (x == key.0)
+      (λ is. let same : plus (same_key (x, n) key) ≡ plus (eqb n key.1) = ap (λ b. plus (b && (n == key.1))) is in
+      let d = many_cons (eqb n) key.1 (f rest) in
+      let e : count_by (eqb n) (f (filter (λ key. x == key.0) (key ∷ keys))) ≡ count_by (eqb n) (key.1 ∷ f rest) = ap (λ b. count_by (eqb n) (f (cond b (key ∷ rest) rest))) is in omega arith)
+      (λ isnt. let none : plus (same_key (x, n) key) ≡ 0 = ap (λ b. plus (b && (n == key.1))) isnt in
+      let e : count_by (eqb n) (f (filter (λ key. x == key.0) (key ∷ keys))) ≡ count_by (eqb n) (f rest) = ap (λ b. count_by (eqb n) (f (cond b (key ∷ rest) rest))) isnt in omega arith)
+
+-- numbers that climb, all of them below a top, climb up to it
+climbs_below : (numbers : List ℕ) (low high top : ℕ) → low ≤ top → ((n : ℕ) → 1 ≤ count_by (eqb n) numbers → n < top) → Climbs numbers low high → Climbs numbers low top
+climbs_below [] low high top up below h = up
+climbs_below (y ∷ ys) low high top up below h =
+    let c = many_cons (eqb y) y ys in let one : plus (eqb y y) ≡ 1 = ap plus (eq-eqb y y refl) in
+    (h.0, climbs_below ys (y + 1) high top (let k = below y (omega arith) in omega arith) (λ n some. below n (let d = many_cons (eqb n) y ys in omega arith)) h.1)
+
+module _ (plan : BootPlan) (x top : ℕ) where
+  all_climb : (logs : List (List Entry)) (stations : List Parts) → AllZip (Leaves plan) logs stations
+      → ((n : ℕ) → 1 ≤ count_by (same_key (x, n)) (flat_map done_by (all_of logs)) → n < top) → AllByRecursion (λ log. Climbs (numbers_done log x) 0 top) logs
+  all_climb [] [] z below = tt
+  all_climb [] (s ∷ ss) z below = absurd z
+  all_climb (l ∷ ls) [] z below = absurd z
+  all_climb (l ∷ ls) (s ∷ ss) z below =
+      let parts : (n : ℕ) → count_by (same_key (x, n)) (flat_map done_by (all_of (l ∷ ls)))
+      ≡ count_by (same_key (x, n)) (flat_map done_by l) + count_by (same_key (x, n)) (flat_map done_by (all_of ls)) =
+      λ n. ap (count_by (same_key (x, n))) (flat_map-append done_by l (all_of ls)) ∙ many_more (same_key (x, n)) (flat_map done_by l) (flat_map done_by (all_of ls)) in (
+        climbs_below (numbers_done l x) 0 (done_at (view_of s.hand).schedule x) top (omega arith)
+            (λ n some. below n (let e = numbered x n (flat_map done_by l) in let p = parts n in omega arith)) (z.0.order x),
+        all_climb ls ss z.1 (λ n some. below n (let p = parts n in omega arith)),
+      )
 
 -- SIGNALS
 
@@ -132,7 +171,7 @@ module _ (plan : BootPlan) (logs : List (List Entry)) (stations : List Parts) (f
   pub done_are : t.steps ≡ done_at (view_of last.hand).schedule x
   done_are = e.steps x t at ∙ e.closes.steps x known
 
-  pub once : (n : ℕ) → count_by (same_key (x, n)) (flat_map doings.done_by (all_of logs)) ≡ (if nat_lt n t.steps then 1 else 0)
+  pub once : (n : ℕ) → count_by (same_key (x, n)) (flat_map done_by (all_of logs)) ≡ (if nat_lt n t.steps then 1 else 0)
   once n = sym (ap (count_by (same_key (x, n))) (all_steps plan logs stations first last left begun joins))
       ∙ (steps_counted (view_of last.hand).schedule (made_at last) e.closes.allowed e.closes.made x n
       ∙ ap (λ z. if nat_lt n z then 1 else 0) (sym done_are))
@@ -145,6 +184,8 @@ module _ (plan : BootPlan) (logs : List (List Entry)) (stations : List Parts) (f
         let h = once (length (program plan x)) in absurd (omega arith))
         (λ low. omega (arith, low));
     once = once;
+    order = all_climb plan x t.steps logs stations left (λ n some. ⊎_elim (λ less. less.1)
+        (λ not_less. let e = once n ∙ ap (λ b. if b then 1 else 0) not_less.0 in absurd (omega arith)) (leb_tells (suc n) t.steps));
   }
 
   pub shown_agrees : ShownAgrees x t logs

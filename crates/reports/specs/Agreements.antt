@@ -1,7 +1,7 @@
 -- How the closed tables agree with the plan and with what the processors did.
 use Rattle.std.specs.Prelude.{◌≡◌, ◌⊎◌, ◌≤◌, ◌<◌, ◌+◌, ◌%◌, ◌==◌, ◌||◌, ℕ, nat_lt, if◌then◌else◌, List, [], ◌∷◌, ◌++◌}
 use Rattle.std.specs.Prelude.{length, map, take, flat_map, Option, Some, None, count_by}
-use Rattle.std.specs.List.{slice_get, list_any, concat}
+use Rattle.std.specs.List.{slice_get, list_any, concat, AllByRecursion}
 use Rattle.boot_script.specs.declared.boot_plan.BootPlan.{BootPlan}
 use Rattle.boot_script.specs.declared.plan.Mover.{Mover}
 use Rattle.boot_script.specs.declared.plan.Mover.TheVariants as movers
@@ -17,7 +17,7 @@ use Rattle.quajects.specs.declared.any.AnyQuaject.{AnyQuaject}
 use Rattle.quajects.specs.declared.any.AnyQuaject.TheVariants as any
 use Rattle.quajects.specs.declared.ports.Port.{Port}
 use Rattle.quajects.specs.declared.ways.Way.{Way}
-use Rattle.quajects.specs.Anys.{IsKept, CameOf, notes_of, all_taken, all_puts, held_of}
+use Rattle.quajects.specs.Anys.{IsKept, MadeOf, notes_of, all_taken, all_puts, held_of}
 use Rattle.quajects.specs.Pumps as pumps
 use Rattle.quajects.specs.Switches as switches
 use Rattle.quajects.specs.Terminals as terminals
@@ -25,20 +25,23 @@ use Rattle.table_theory.specs.Interleaving.{Interleaves}
 use Rattle.thread_table.specs.declared.places.Place.{Place}
 use Rattle.thread_table.specs.declared.places.Place.TheVariants as places
 use Rattle.thread_table.specs.Answers.{is_in}
-use Rattle.processor.specs.Logs.{Entry, tally_of, small_put, small_taken, large_put, large_taken, ticked_by, fired_by}
+use Rattle.processor.specs.Logs.{Entry, tally_of, done_by, numbers_done, Climbs, small_put, small_taken, large_put}
+use Rattle.processor.specs.Logs.{large_taken, ticked_by, fired_by}
 use Rattle.processor.specs.Programs.{program, same_key}
 use Rattle.reports.specs.Closed.{Closed}
 use Rattle.reports.specs.Closed as closed
-use Rattle.reports.specs.Doings.{done_by, signals_by, is_poke, is_for}
+use Rattle.reports.specs.Doings.{signals_by, is_poke, is_for}
 use Rattle.reports.specs.Lists.{all_of}
 
 -- THREADS
 
--- the steps done are the first so many of the thread's program, each done once, whichever processor did it
+-- The steps done are the first so many of the thread's program, each done once, whichever processor did it; and those
+-- that one processor did, it did in their order
 pub record StepsAgree (plan : BootPlan) (thread steps : ℕ) (logs : List (List Entry)) : Type 0 where
   pub prefix : steps ≤ length (program plan thread)
   pub once : (number : ℕ) → count_by (same_key (thread, number)) (flat_map done_by (all_of logs))
       ≡ (if nat_lt number steps then 1 else 0)
+  pub order : AllByRecursion (λ log. Climbs (numbers_done log thread) 0 steps) logs
 
 -- a free thread has done all its steps, and none stands on a processor
 abbrev pub PlaceAgrees : Place → ℕ → ℕ → Type 0
@@ -149,14 +152,16 @@ abbrev pub IsTty : ℕ → ℕ → ℕ → AnyQuaject → Type 0
 IsTty raw line screen (any.Cooked tty) = (tty.raw.index ≡ raw) × (tty.line.index ≡ line) × (tty.screen.index ≡ screen)
 IsTty raw line screen quaject = ⊥
 
--- the quaject came, by runs of notes alone, of one that had done nothing
-pub record CameOfNew (quaject : AnyQuaject) : Type 0 where
+-- the runs of so many notes as it counts, and nothing else, made the quaject of one that had done nothing
+pub record MadeOfNew (quaject : AnyQuaject) : Type 0 where
   pub first : AnyQuaject
   pub none_taken : all_taken first ≡ []
   pub none_put : all_puts first ≡ []
   pub none_held : held_of first ≡ []
   pub none_run : notes_of first ≡ 0
-  pub came : CameOf first quaject
+  pub notes : List ℕ
+  pub made : MadeOf first quaject notes
+  pub all : notes_of quaject ≡ length notes
 
 -- The device popped what the plan types; the raw items put are these bytes, in their order, without those refused; and
 -- the cooked tty, which its notes alone ran, kept its law
@@ -165,7 +170,7 @@ pub record TtyAgrees (queues tty : ℕ) (p : PlannedTty) (t : closed.Chain) (d :
   pub typed : d.popped ≡ p.typed
   pub bytes : AreWithout d.popped d.refused raw.items
   pub its : IsTty (raw_queue queues tty) (line_queue tty) (screen_queue tty) t.quaject
-  pub came : CameOfNew t.quaject
+  pub made : MadeOfNew t.quaject
   pub cooked : IsKept t.quaject
 
 -- PUMPS AND SWITCHES
@@ -188,7 +193,7 @@ IsMover mover quaject = ⊥
 -- notes that it ran and those left in its chain are, by number, the done pokes
 pub record MoverAgrees (mover : ℕ) (planned : Mover) (m : closed.Chain) (logs : List (List Entry)) : Type 0 where
   pub its : IsMover planned m.quaject
-  pub came : CameOfNew m.quaject
+  pub made : MadeOfNew m.quaject
   pub kept : IsKept m.quaject
   pub pokes : notes_of m.quaject + m.left ≡ count_by (is_poke mover) (all_of logs)
 

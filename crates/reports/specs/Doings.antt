@@ -1,17 +1,11 @@
 -- What the entries of the processors' logs come to, in the words of a report.
-use Rattle.std.specs.Prelude.{◌==◌, ℕ, if◌then◌else◌, Bool, false, List, [], ◌∷◌}
+use Rattle.std.specs.Prelude.{◌==◌, ℕ, Bool, false, List, []}
 use Rattle.boot_script.specs.declared.plan.Step.TheVariants as steps
 use Rattle.quaject_core.specs.declared.alarm.Alarm.{Alarm}
 use Rattle.processor.specs.declared.deed.Deed.TheVariants as deeds
-use Rattle.processor.specs.Deeds.{is_done}
 use Rattle.processor.specs.Logs.{Entry, Tried}
 use Rattle.processor.specs.Programs.{Key, same_key}
 use Rattle.processor.specs.Steps.{raised_by}
-
--- the step that was done: the thread's number, and its own
-abbrev pub done_by : Entry → List Key
-done_by (Tried element number step deed count heard) = if is_done deed then (element, number) ∷ [] else []
-done_by entry = []
 
 -- the signal that a step raised: the thread's number, and its own
 abbrev pub signals_by : Entry → List Key

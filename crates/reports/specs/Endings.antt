@@ -31,7 +31,7 @@ use Rattle.thread_table.specs.declared.places.Place.TheVariants as places
 use Rattle.thread_table.specs.Closings.{ClosedNow}
 use Rattle.thread_table.specs.Handles.{view_of}
 use Rattle.processor.specs.declared.station.Parts.{Parts}
-use Rattle.reports.specs.Agreements.{IsTty, IsMover, CameOfNew, AreWithout}
+use Rattle.reports.specs.Agreements.{IsTty, IsMover, MadeOfNew, AreWithout}
 use Rattle.reports.specs.Closed.{Closed}
 use Rattle.reports.specs.Closed as closed
 use mathlib.Core.Option.{some}
@@ -122,7 +122,7 @@ pub record MoverEnded (number : ℕ) (p : PlannedMover) (last : Parts) (home : H
   pub its : slice_get last.chains.items number ≡ Some end
   pub ended : ChainEnded (chains.view_of end) home m
   pub of_plan : IsMover p.mover m.quaject
-  pub of_new : CameOfNew m.quaject
+  pub of_new : MadeOfNew m.quaject
 
 -- each run starts behind the one before it
 abbrev pub IsAscending : List Batch → Type 0
@@ -143,7 +143,7 @@ pub record TtyEnded (many tty : ℕ) (p : PlannedTty) (v : ChainView) (home : Ho
     (raw : QueueEnd 64) (d : closed.Device) : Type 0 where
   pub ended : ChainEnded v home t
   pub of_plan : IsTty (raw_queue many tty) (line_queue tty) (screen_queue tty) t.quaject
-  pub of_new : CameOfNew t.quaject
+  pub of_new : MadeOfNew t.quaject
   pub device : DeviceEnded p raw d
 
 -- METERS

@@ -47,9 +47,10 @@ pub fn queues_agree()
         → QueueEnded large_of number stations last others q → LargeAgrees number q logs }
 {}
 
-/// Each step of a closed thread stands once in the logs where it is below the number of its steps done, and else never;
-/// a thread that is among the free elements has done all its steps, and none stands on a processor; a signal was shown
-/// exactly where the logs delivered it, and was shown or is pending exactly where a step or an alarm of them raised it.
+/// Each step of a closed thread stands once in the logs where it is below the number of its steps done, and else never,
+/// and in each log its steps stand in their order; a thread that is among the free elements has done all its steps, and
+/// none stands on a processor; a signal was shown exactly where the logs delivered it, and was shown or is pending
+/// exactly where a step or an alarm of them raised it.
 pub fn threads_agree()
     ensures { (plan : BootPlan) (logs : List (List Entry)) (stations : List Parts) (first last : Parts) (c : Closed)
         (thread : ℕ) (t : closed.Thread) → AllZip (Leaves plan) logs stations → IsPrepared plan first

@@ -57,11 +57,9 @@ pub struct Collector {
 impl Quaject for Collector {
     type World = ();
 
-    ghost made_by = { IsMadeBy };
+    ghost made_by = { λ first collector notes. IsMadeBy collector notes };
 
     ghost fits = { λ world collector. Unit {0} };
-
-    ghost keeps = { λ opening collector. Unit {0} };
 
     fn run(&mut self, _world: &(), note: u16) -> Ran {
         let byte = (note % SECOND_PORT) as u8;

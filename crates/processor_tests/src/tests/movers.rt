@@ -35,7 +35,7 @@ struct Pumped {
 }
 
 /// The pump's chain begins at this position.
-#[tactic(auto, using(quajects::proofs::Coming::came_of_itself))]
+#[tactic(auto, using(quajects::proofs::Making::made_of_itself))]
 fn make_pump(alloc: Global, at: u32) -> Result<Pumped, OutOfMemory> {
     let (first, mut source) = ClaimQueue::new(alloc, 0)?;
     let a = first.split(&mut source);

@@ -1,6 +1,6 @@
 use Rattle.std.proofs.Common.{rules, subst, sym}
 use Rattle.atomic_table.specs.Table.{Joins}
-use Rattle.proc_chain.specs.Rules.{suits}
+use Rattle.proc_chain.specs.Rules.{suits, makes}
 use Rattle.proc_chain.specs.Rules.{Rule}
 use Rattle.proc_chain.specs.Steps.{both}
 use Rattle.proc_chain.proofs.Tallying.{joins}
@@ -12,5 +12,5 @@ join_seat-requires g c = let a = c.args.seat.now in let b = c.args.other in (
   search rules,
   c.requires.queue.2,
   search rules,
-  subst (Joins (Rule g.Q.Quaject.made_by (suits g.Q.Quaject.fits g.Q.Quaject.keeps) c.args.words.now.key) a.id a.me.0 b.id b.me.0 (both a.me.0 b.me.0)) (sym c.requires.spent) (joins g.Q.Quaject.made_by (suits g.Q.Quaject.fits g.Q.Quaject.keeps) c.args.words.now.key a.id b.id a.me.0 b.me.0 c.requires.live c.requires.turns c.requires.settled),
+  subst (Joins (Rule (makes g.Q.Quaject.made_by) (suits g.Q.Quaject.fits) c.args.words.now.key) a.id a.me.0 b.id b.me.0 (both a.me.0 b.me.0)) (sym c.requires.spent) (joins (makes g.Q.Quaject.made_by) (suits g.Q.Quaject.fits) c.args.words.now.key a.id b.id a.me.0 b.me.0 c.requires.live c.requires.turns c.requires.settled),
 )

@@ -11,4 +11,5 @@ returns-clause-room g c = room_kept c.args.shared.now.plan c.args.parts.now _ c.
 
 pub returns-clause-logged : goal.returns-clause-logged
 returns-clause-logged g c = begun_logged c.args.shared.now.plan c.begin.result c.args.parts.now _ c.begin.ensures.adds
+    (began_or_idle _ (view_of c.args.parts.now.hand) (view_of c.begin.new.hand) c.begin.result c.begin.ensures.begun)
     (record { small = refl; large = refl; chains = refl; heard = refl }) refl c.begin.ensures.signals

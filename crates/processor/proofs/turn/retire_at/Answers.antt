@@ -9,4 +9,4 @@ returns-clause-room g c = room_kept c.args.shared.now.plan c.args.parts.now _ c.
 
 pub returns-clause-logged : goal.returns-clause-logged
 returns-clause-logged g c = retired_logged c.args.shared.now.plan c.args.element _ c.retire.result c.args.parts.now _ c.requires.over c.retire.ensures.adds
-    (record { small = refl; large = refl; chains = refl; heard = refl }) refl refl
+    (sending _ _ _ _ _ _ c.retire.ensures.sent) (record { small = refl; large = refl; chains = refl; heard = refl }) refl refl

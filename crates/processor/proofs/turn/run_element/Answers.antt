@@ -72,11 +72,11 @@ returns-clause-logged g c =
     logged_on plan old mid _
     (record {
       log = Tried e n c.args.step.now tried.deed tried.counted text ∷ [];
-      its = tried_logged plan c.args.shared.now _ _ e n c.args.step.now tried.deed tried.counted text old mid c.requires.its r.comes r.hand r.number c.requires.known c.requires.low
+      its = tried_logged plan c.args.shared.now _ _ e n c.args.step.now tried.deed tried.counted text old mid c.requires.its r.comes r.hand r.number r.rises c.requires.known c.requires.low
           (subst (λ z. Adds (step_tally c.args.step.now tried.deed tried.counted e z) (view_of old.hand) (view_of mid.hand)) (sym c.requires.known) r.adds)
           (record { queues = r.ends.queues; chains = r.ends.chains; seat = r.ends.seat; small_lines = r.ends.small_lines; large_lines = r.ends.large_lines; notes = r.ends.notes })
           lines r.signals;
     })
     (moved_logged plan _ c.args.step.now tried.deed _ e (done_at (view_of mid.hand).schedule e) c.send_on-moved.result mid _ c.send_on-moved.ensures.goes
     (λ k. over_so plan _ e n _ tried.counted r.hand.did r.hand.after _ (view_of mid.hand) r.hand.counts r.number c.requires.known c.requires.low (sym last ∙ k))
-    c.send_on-moved.ensures.adds (record { small = refl; large = refl; chains = refl; heard = refl }) refl refl)
+    c.send_on-moved.ensures.adds c.send_on-moved.ensures.rises (record { small = refl; large = refl; chains = refl; heard = refl }) refl refl)

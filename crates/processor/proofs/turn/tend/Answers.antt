@@ -15,5 +15,5 @@ pub returns-clause-logged : goal.returns-clause-logged
 returns-clause-logged c = record {
   log = Tended c.tend_alarms.result.advanced c.tend_alarms.result.fired.items ∷ [];
   its = tended_logged c.args.shared.now.plan c.tend_alarms.result.advanced c.tend_alarms.result.fired.items c.args.parts.now _ c.tend_alarms.ensures.only.adds
-      (record { small = refl; large = refl; chains = refl; heard = refl }) c.tend_alarms.ensures.own refl;
+      (raising _ _ _ _ c.tend_alarms.ensures.raised) (record { small = refl; large = refl; chains = refl; heard = refl }) c.tend_alarms.ensures.own refl;
 }

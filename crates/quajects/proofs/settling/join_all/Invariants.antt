@@ -1,4 +1,4 @@
-use Rattle.claim_queue.specs.Handles.{view_of, IsEndOf, IsSameEnd}
+use Rattle.claim_queue.specs.Handles.{view_of, IsSameEnd}
 use Rattle.quajects.specs.Settled.{views_of, HasAll}
 use Rattle.quajects.proofs.settling.join_all.Given as goal
 

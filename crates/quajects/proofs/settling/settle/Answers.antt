@@ -1,6 +1,5 @@
-use Rattle.std.proofs.Common.{◌∙◌, subst}
+use Rattle.std.proofs.Common.{◌∙◌}
 use Rattle.claim_queue.specs.Handles.{view_of}
-use Rattle.table_theory.specs.Sharing.{IsWhole}
 use Rattle.quajects.proofs.Joining.{settled_now, still_open, if_ok, if_err}
 use Rattle.quajects.proofs.settling.settle.Goals as goal
 

@@ -1,6 +1,6 @@
 use Rattle.std.proofs.Common.{rules, refl, sym, subst, false, [], ◌∷◌, ◌++◌, List, ℕ}
 use Rattle.table_theory.proofs.Positioned.{grows_refl}
-use Rattle.proc_chain.specs.Rules.{suits}
+use Rattle.proc_chain.specs.Rules.{suits, makes}
 use Rattle.proc_chain.specs.Turns.{HasServed}
 use Rattle.proc_chain.specs.Servings.{IsServing, notes_run}
 use Rattle.proc_chain.proofs.Turns.{served_on, served_still}
@@ -20,11 +20,11 @@ loop-init g c = let end = c.args.end.now in record {
 }
 
 pub returns-in-Done-clause-served : goal.returns-in-Done-clause-served
-returns-in-Done-clause-served g c = let l = c.loop.invariant in let made = g.Q.Quaject.made_by in let fits = suits g.Q.Quaject.fits g.Q.Quaject.keeps c.args.self.now.table.shared.key.pact in
+returns-in-Done-clause-served g c = let l = c.loop.invariant in let made = makes g.Q.Quaject.made_by c.args.self.now.table.shared.key.pact in let fits = suits g.Q.Quaject.fits c.args.self.now.table.shared.key.pact in
     all_done made fits c.loop.end.seat.id c.args.end.now.seat.id c.args.end.now.seat.me c.loop.end.seat.me c.serve.new.end.seat.me l.used_up c.loop.total c.in-Done.ran l.same.1 l.servings l.number l.served c.in-Done.ensures.served
 
 pub loop-preserved : goal.loop-preserved
-loop-preserved g c = let l = c.loop.invariant in let made = g.Q.Quaject.made_by in let fits = suits g.Q.Quaject.fits g.Q.Quaject.keeps c.args.self.now.table.shared.key.pact in
+loop-preserved g c = let l = c.loop.invariant in let made = makes g.Q.Quaject.made_by c.args.self.now.table.shared.key.pact in let fits = suits g.Q.Quaject.fits c.args.self.now.table.shared.key.pact in
     let s = subst (λ (z : ℕ). IsServing made fits z c.loop.end.seat.me 4294967295 c.in-More.ran false c.serve.new.end.seat.me) l.same.1 c.in-More.ensures.served in record {
       steps = search rules;
       same = search rules;

@@ -1,12 +1,12 @@
 use Rattle.std.proofs.Common.{rules, refl, ap, ◌∙◌}
-use Rattle.proc_chain.specs.Rules.{suits}
+use Rattle.proc_chain.specs.Rules.{suits, makes}
 use Rattle.proc_chain.specs.declared.rule.View.{View}
 use Rattle.proc_chain.specs.Steps.{rest_of, newborn}
 use Rattle.proc_chain.proofs.Linking.{stays_up, slot_on, slot_none, slot_me, divided, is_newborn, notes_same_of}
 use Rattle.proc_chain.proofs.ends.ProcChain.split.Goals as goal
 
 pub returns-clause-ends : goal.returns-clause-ends
-returns-clause-ends g c = let made = g.Q.Quaject.made_by in let fits = suits g.Q.Quaject.fits g.Q.Quaject.keeps c.args.self.now.table.shared.key.pact in let s = c.split_off-seat.ensures.split in
+returns-clause-ends g c = let made = makes g.Q.Quaject.made_by c.args.self.now.table.shared.key.pact in let fits = suits g.Q.Quaject.fits c.args.self.now.table.shared.key.pact in let s = c.split_off-seat.ensures.split in
     let v = c.args.end.now.seat.me in let u = c.count_up.new.seat.me in (
       (search rules, slot_me made fits (rest_of u.0, u.1) _ s.0 (slot_on made fits v.0 (rest_of u.0) v.1 u.1 (stays_up v.0 u.0 c.count_up.result c.args.end.now.behind c.count_up.ensures.counted) c.count_up.ensures.queue.1 c.requires.ends.1)),
       (search rules, slot_me made fits (newborn u.0, _) _ s.1 (slot_none made fits (newborn u.0) refl)),

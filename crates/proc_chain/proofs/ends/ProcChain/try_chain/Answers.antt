@@ -2,14 +2,14 @@ use Rattle.std.proofs.Common.{rules, refl, sym, ap, subst, ◌∙◌, ◌≤◌,
 use Rattle.table_theory.specs.Listing.{Distinct}
 use Rattle.table_theory.specs.Positioned.{head_of}
 use Rattle.table_theory.specs.declared.queues.Positions.{Positions}
-use Rattle.proc_chain.specs.Rules.{suits}
+use Rattle.proc_chain.specs.Rules.{suits, makes}
 use Rattle.proc_chain.specs.declared.rule.View.{View}
 use Rattle.proc_chain.specs.Steps.{Notified}
 use Rattle.proc_chain.proofs.Linking.{was_spent, was_full, found_room, was_lost, stays_on, stays_found, stays_room, stays_told, just_claimed, link, linked_stays, linked_distinct, linked_raised, linked_put, put_on, spent_notes, full_notes, lost_notes, all_same, slot_on, slot_won, won_as}
 use Rattle.proc_chain.proofs.ends.ProcChain.try_chain.Goals as goal
 
 pub returns-then-head-ge-POSITIONS-clause-ends : goal.returns-then-head-ge-POSITIONS-clause-ends
-returns-then-head-ge-POSITIONS-clause-ends g c = let a = c.load_head-head.ensures in (search rules, slot_on g.Q.Quaject.made_by (suits g.Q.Quaject.fits g.Q.Quaject.keeps c.args.self.now.table.shared.key.pact) _ _ _ _ (stays_found _ _ _ _ c.args.end.now.behind a.found) a.queue.1 c.requires.1)
+returns-then-head-ge-POSITIONS-clause-ends g c = let a = c.load_head-head.ensures in (search rules, slot_on (makes g.Q.Quaject.made_by c.args.self.now.table.shared.key.pact) (suits g.Q.Quaject.fits c.args.self.now.table.shared.key.pact) _ _ _ _ (stays_found _ _ _ _ c.args.end.now.behind a.found) a.queue.1 c.requires.1)
 
 pub returns-then-head-ge-POSITIONS-clause-chained : goal.returns-then-head-ge-POSITIONS-clause-chained
 returns-then-head-ge-POSITIONS-clause-chained g c = let a = c.load_head-head.ensures in (was_spent _ _ _ a.found c.if-head-ge-POSITIONS.true, a.queue.1)
@@ -19,7 +19,7 @@ returns-then-head-ge-POSITIONS-clause-notes g c = let a = c.load_head-head.ensur
 
 pub returns-then-head-tail-clause-ends : goal.returns-then-head-tail-clause-ends
 returns-then-head-tail-clause-ends g c = let a = c.load_head-head.ensures in let b = c.load_tail-tail.ensures in let s = stays_found _ _ _ _ c.args.end.now.behind a.found in
-    (search rules, slot_on g.Q.Quaject.made_by (suits g.Q.Quaject.fits g.Q.Quaject.keeps c.args.self.now.table.shared.key.pact) _ _ _ _ (stays_on _ _ _ s (stays_found _ _ _ _ s.behind b.found)) (b.queue.1 ∙ a.queue.1) c.requires.1)
+    (search rules, slot_on (makes g.Q.Quaject.made_by c.args.self.now.table.shared.key.pact) (suits g.Q.Quaject.fits c.args.self.now.table.shared.key.pact) _ _ _ _ (stays_on _ _ _ s (stays_found _ _ _ _ s.behind b.found)) (b.queue.1 ∙ a.queue.1) c.requires.1)
 
 pub returns-then-head-tail-clause-chained : goal.returns-then-head-tail-clause-chained
 returns-then-head-tail-clause-chained g c = let a = c.load_head-head.ensures in let b = c.load_tail-tail.ensures in (was_full _ _ _ _ _ a.found b.found c.if-head-ge-POSITIONS.false c.if-head-tail.true, b.queue.1 ∙ a.queue.1)
@@ -31,7 +31,7 @@ pub returns-then-found-head-clause-ends : goal.returns-then-found-head-clause-en
 returns-then-found-head-clause-ends g c = let a = c.load_head-head.ensures in let b = c.load_tail-tail.ensures in let e = c.exchange_head-found.ensures in
     let r = found_room c.args.end.now.seat.me.0 c.load_head-head.new.seat.me.0 c.load_tail-tail.new.seat.me.0 c.load_head-head.result c.load_tail-tail.result a.found b.found c.if-head-ge-POSITIONS.false c.if-head-tail.false in let m = e.miss c.if-found-head.true in let s = stays_room _ _ _ c.args.end.now.behind r in (
       search rules,
-      slot_on g.Q.Quaject.made_by (suits g.Q.Quaject.fits g.Q.Quaject.keeps c.args.self.now.table.shared.key.pact) _ _ _ _ (stays_on _ _ _ s (stays_found _ _ _ _ s.behind m.0)) (e.queue.1 ∙ (b.queue.1 ∙ a.queue.1)) c.requires.1,
+      slot_on (makes g.Q.Quaject.made_by c.args.self.now.table.shared.key.pact) (suits g.Q.Quaject.fits c.args.self.now.table.shared.key.pact) _ _ _ _ (stays_on _ _ _ s (stays_found _ _ _ _ s.behind m.0)) (e.queue.1 ∙ (b.queue.1 ∙ a.queue.1)) c.requires.1,
     )
 
 pub returns-then-found-head-clause-chained : goal.returns-then-found-head-clause-chained
@@ -65,14 +65,14 @@ returns-then-swap_more-eq-IDLE-clause-ends g c = let a = c.load_head-head.ensure
     let r = found_room c.args.end.now.seat.me.0 c.load_head-head.new.seat.me.0 c.load_tail-tail.new.seat.me.0 c.load_head-head.result c.load_tail-tail.result a.found b.found c.if-head-ge-POSITIONS.false c.if-head-tail.false in
     let l = link c.args.end.now.seat.id _ _ _ _ _ _ _ _ (b.queue.0.1 ∙ a.queue.0.1) (e.queue.0.1 ∙ (b.queue.0.1 ∙ a.queue.0.1)) r (e.hit c.if-found-head.false) c.store_place.ensures.raised in
     let s = linked_stays _ _ _ _ l c.args.end.now.behind in let w = c.swap_more.ensures.won c.if-swap_more-eq-IDLE.true in
-    (search rules, slot_won g.Q.Quaject.made_by (suits g.Q.Quaject.fits g.Q.Quaject.keeps c.args.self.now.table.shared.key.pact) _ _ _ w (c.store_place.ensures.queue.1 ∙ (e.queue.1 ∙ (b.queue.1 ∙ (a.queue.1 ∙ c.requires.1.1 (sym s.runner ∙ w.had_none))))))
+    (search rules, slot_won (makes g.Q.Quaject.made_by c.args.self.now.table.shared.key.pact) (suits g.Q.Quaject.fits c.args.self.now.table.shared.key.pact) _ _ _ w (c.store_place.ensures.queue.1 ∙ (e.queue.1 ∙ (b.queue.1 ∙ (a.queue.1 ∙ c.requires.1.1 (sym s.runner ∙ w.had_none))))))
 
 pub returns-then-swap_more-eq-IDLE-clause-chained : goal.returns-then-swap_more-eq-IDLE-clause-chained
 returns-then-swap_more-eq-IDLE-clause-chained g c = let a = c.load_head-head.ensures in let b = c.load_tail-tail.ensures in let e = c.exchange_head-found.ensures in
     let r = found_room c.args.end.now.seat.me.0 c.load_head-head.new.seat.me.0 c.load_tail-tail.new.seat.me.0 c.load_head-head.result c.load_tail-tail.result a.found b.found c.if-head-ge-POSITIONS.false c.if-head-tail.false in
     let l = link c.args.end.now.seat.id _ _ _ _ _ _ _ _ (b.queue.0.1 ∙ a.queue.0.1) (e.queue.0.1 ∙ (b.queue.0.1 ∙ a.queue.0.1)) r (e.hit c.if-found-head.false) c.store_place.ensures.raised in
     let w = c.swap_more.ensures.won c.if-swap_more-eq-IDLE.true in let held = c.store_place.ensures.queue.1 ∙ (e.queue.1 ∙ (b.queue.1 ∙ a.queue.1)) in let id = c.store_place.ensures.queue.0.1 ∙ (e.queue.0.1 ∙ (b.queue.0.1 ∙ a.queue.0.1)) in
-    (c.store_place.new.seat.me.0, l, won_as g.Q.Quaject.made_by (suits g.Q.Quaject.fits g.Q.Quaject.keeps c.args.self.now.table.shared.key.pact) _ _ _ _ _ _ id held w)
+    (c.store_place.new.seat.me.0, l, won_as (makes g.Q.Quaject.made_by c.args.self.now.table.shared.key.pact) (suits g.Q.Quaject.fits c.args.self.now.table.shared.key.pact) _ _ _ _ _ _ id held w)
 
 pub returns-then-swap_more-eq-IDLE-clause-notes : goal.returns-then-swap_more-eq-IDLE-clause-notes
 returns-then-swap_more-eq-IDLE-clause-notes g c = let a = c.load_head-head.ensures in let b = c.load_tail-tail.ensures in let e = c.exchange_head-found.ensures in
@@ -108,7 +108,7 @@ returns-clause-ends g c = let a = c.load_head-head.ensures in let b = c.load_tai
     let l = link c.args.end.now.seat.id _ _ _ _ _ _ _ _ (b.queue.0.1 ∙ a.queue.0.1) (e.queue.0.1 ∙ (b.queue.0.1 ∙ a.queue.0.1)) r (e.hit c.if-found-head.false) c.store_place.ensures.raised in
     let s = linked_stays _ _ _ _ l c.args.end.now.behind in let w = c.swap_more.ensures.told c.if-swap_more-eq-IDLE.false in (
       search rules,
-      slot_on g.Q.Quaject.made_by (suits g.Q.Quaject.fits g.Q.Quaject.keeps c.args.self.now.table.shared.key.pact) _ _ _ _ (stays_on _ _ _ s (stays_told _ _ _ _ s.behind w.1))
+      slot_on (makes g.Q.Quaject.made_by c.args.self.now.table.shared.key.pact) (suits g.Q.Quaject.fits c.args.self.now.table.shared.key.pact) _ _ _ _ (stays_on _ _ _ s (stays_told _ _ _ _ s.behind w.1))
           (w.0 ∙ (c.store_place.ensures.queue.1 ∙ (e.queue.1 ∙ (b.queue.1 ∙ a.queue.1)))) c.requires.1,
     )
 

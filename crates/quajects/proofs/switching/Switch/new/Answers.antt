@@ -1,8 +1,8 @@
 use Rattle.std.proofs.Common.{◌≡◌, [], map, refl, ap, ◌∙◌, subst, sym}
 use Rattle.claim_queue.specs.Handles.{view_of}
 use Rattle.claim_queue.specs.Lines.{line_of, lines_put, lines_taken}
-use Rattle.quajects.specs.Routes.{KeysDiffer, IsGiven}
-use Rattle.quajects.proofs.Routes.{zip_length, given_keys, given_indexes, given_ends, each_new, rest_new, given_fit, end_at}
+use Rattle.quajects.specs.Routes.{KeysDiffer}
+use Rattle.quajects.proofs.Routes.{given_keys, given_indexes, given_ends, each_new, rest_new, given_fit, end_at}
 use Rattle.quajects.proofs.switching.Switch.new.Goals as goal
 
 pub invariant_of-result : goal.invariant_of-result

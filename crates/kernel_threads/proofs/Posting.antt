@@ -137,6 +137,7 @@ posted shared p turns gate old new station low s parts room fresh = record {
   alone = λ k below. s.born_hand.serves k below ∙ mask_bit p k low;
   none_on = ap (λ (v : View). v.on) s.born_hand.same;
   parted = parted (1 * 2 ^ p % 256) old new station.parts s;
+  split = (1 * 2 ^ p % 256, s);
 }
 
 -- one gate more

@@ -3,6 +3,7 @@ use Rattle.std.specs.Prelude.{◌≡◌, ℕ, ◌+◌, ◌*◌, ◌<◌, ◌≤�
 use Rattle.end_steps.specs.EndLists.{share_at, chain_share_at}
 use Rattle.meters.specs.Handles as seats
 use Rattle.meters.specs.Own.{DidSplit}
+use Rattle.processor.specs.Partings.{AreSplit}
 use Rattle.processor.specs.declared.shared.Shared.{Shared}
 use Rattle.processor.specs.declared.station.Parts.{Parts}
 use Rattle.processor.specs.declared.station.Station.{Station}
@@ -64,6 +65,7 @@ pub record IsPosted {G : Type 0} (shared : Shared) (p turns : ℕ) (gate : G) (o
   pub alone : (k : ℕ) → k < 8 → serves (threads.view_of station.parts.hand) k ≡ (k == p)
   pub none_on : NoneOn station.parts
   pub parted : AreParted old new station.parts
+  pub split : (mask : ℕ) × AreSplit mask old new station.parts
 
 -- so it is with each gate, for the processors from this one on, one behind the other
 abbrev pub ArePosted : {G : Type 0} → Shared → ℕ → ℕ → List G → Parts → Parts → List (Work G) → Type 0

@@ -12,8 +12,7 @@ use Rattle.proc_chain.specs.Steps.{Carries, Found, FoundNotRaised, Took, BegunRo
 use Rattle.proc_chain.specs.Turns.{HasServed}
 
 -- The runner loaded the tail and the word of its place, found this note raised there, and took it by a store of the
--- tail. Up to that store the quaject in its hand was made by the notes taken before, and then by this one too: the note
--- was run between that store and the next step
+-- tail. The quaject that it had was made by the notes taken before, and the one that it has then by this one too
 pub record RanNote {Q : Type 0} (made : Q → List ℕ → Type 0) (fits : Q → Type 0) (call : ℕ) (me : Me Q View) (note : ℕ)
     (me' : Me Q View) : Type 0 where
   pub tail : ℕ

@@ -8,6 +8,8 @@ mod chaining;
 mod client_tests;
 mod close;
 mod ends;
+#[cfg(test)]
+mod place_tests;
 mod plays;
 mod quaject;
 mod rule;

@@ -38,7 +38,7 @@ ways_sides (None ∷ ways) = (tt, ways_sides ways)
 ways_sides (Some way ∷ ways) = (way.outlet.only, ways_sides ways)
 
 -- its ends are of the types that say it
-sides_of : (x : AnyQuaject) → anys.KeepsSides x
+pub sides_of : (x : AnyQuaject) → anys.KeepsSides x
 sides_of (any.Cooked tty) = (tty.raw.only, tty.line.only, tty.screen.only)
 sides_of (any.Pump pump) = (pump.source.only, pump.target.only)
 sides_of (any.Switch switch) = (switch.source.only, switch.other.only, ways_sides switch.ways)

@@ -20,7 +20,7 @@ use Rattle.quajects.specs.declared.world.Queues.{Queues}
 use Rattle.quajects.specs.Anys.{SameEnds, MadeOf, notes_of}
 use Rattle.quajects.specs.Ports.{Post}
 use Rattle.quajects.specs.Routes.{key_of, index_of, way_post}
-use Rattle.quajects.proofs.Homing.{run_count}
+use Rattle.quajects.proofs.Homing.{run_count, sides_of}
 use Rattle.reports.specs.Agreements.{IsMover, IsTty, MadeOfNew, route_of, routes_of}
 use Rattle.reports.specs.Closings.{IsPlanned, IsOfPlan}
 
@@ -121,6 +121,8 @@ made_new plan world list are number chain quaject notes at m few =
       none_put = r.none_put;
       none_held = r.none_held;
       none_run = r.none_run;
+      sides = sides_of (opening_of chain);
+      none_shut = r.none_shut;
       notes = notes;
       made = m;
       all = run_count quaject notes m.count ∙ mod-eq_of_lt few;

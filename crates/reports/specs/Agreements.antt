@@ -17,7 +17,7 @@ use Rattle.quajects.specs.declared.any.AnyQuaject.{AnyQuaject}
 use Rattle.quajects.specs.declared.any.AnyQuaject.TheVariants as any
 use Rattle.quajects.specs.declared.ports.Port.{Port}
 use Rattle.quajects.specs.declared.ways.Way.{Way}
-use Rattle.quajects.specs.Anys.{IsKept, MadeOf, notes_of, all_taken, all_puts, held_of}
+use Rattle.quajects.specs.Anys.{IsKept, KeepsSides, HasShutNothing, MadeOf, notes_of, all_taken, all_puts, held_of}
 use Rattle.quajects.specs.Pumps as pumps
 use Rattle.quajects.specs.Switches as switches
 use Rattle.quajects.specs.Terminals as terminals
@@ -159,6 +159,8 @@ pub record MadeOfNew (quaject : AnyQuaject) : Type 0 where
   pub none_put : all_puts first ≡ []
   pub none_held : held_of first ≡ []
   pub none_run : notes_of first ≡ 0
+  pub sides : KeepsSides first
+  pub none_shut : HasShutNothing first
   pub notes : List ℕ
   pub made : MadeOf first quaject notes
   pub all : notes_of quaject ≡ length notes

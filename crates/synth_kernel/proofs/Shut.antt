@@ -13,7 +13,7 @@ use Rattle.end_steps.specs.Splits.{AllThree}
 use Rattle.processor.specs.declared.shared.Shared.{Shared}
 use Rattle.processor.specs.declared.station.Parts.{Parts}
 use Rattle.processor.specs.declared.station.Station.{Station}
-use Rattle.processor.specs.Logs.{Leaves}
+use Rattle.processor.specs.Logs.{Entry, Leaves}
 use Rattle.processor.specs.Programs.{hear_count}
 use Rattle.processor.specs.Stations.{ArePartsOf}
 use Rattle.processor.specs.Turns.{heard_lines}
@@ -36,14 +36,14 @@ use Rattle.kernel_threads.specs.Crews.{GaveBack}
 use Rattle.kernel_threads.specs.Readiness.{input_of}
 use Rattle.kernel_threads.specs.Stationings.{ArePosted}
 use Rattle.kernel_threads.specs.Typings.{AreTyped}
-use Rattle.kernel_threads.specs.Works.{HasWorked, AllToldTurns}
+use Rattle.kernel_threads.specs.Works.{HasWorked, HasRun, AllToldTurns}
 use Rattle.kernel_threads.proofs.Allowing.{as_many_posts}
 use Rattle.kernel_threads.proofs.Firstness.{all_back}
 use Rattle.kernel_threads.proofs.Returning.{posts_first}
 use Rattle.kernel_threads.proofs.Reunion.{came_together, gates_told}
 use Rattle.synth_kernel.specs.declared.gathering.Served.{Served}
 use Rattle.synth_kernel.specs.declared.ready.Ready.{Ready}
-use Rattle.synth_kernel.specs.Boots.{IsBootOf}
+use Rattle.synth_kernel.specs.Boots.{IsBootOf, IsLogOf, AreLogsOf}
 use Rattle.synth_kernel.specs.Gatherings.{stations_in, served_in, all_there, tty_of, IsTold}
 use Rattle.synth_kernel.specs.Readies.{IsReady}
 use Rattle.synth_kernel.proofs.Backs.{Sorted, few_back, sort_back, stations_are, served_are, first_back}
@@ -58,6 +58,23 @@ parts_all T shared p turns (g ∷ gates) old new [] (s ∷ stations) a z k d l =
 parts_all T shared p turns [] old new (w ∷ posts) (s ∷ stations) a z k d l = absurd a
 parts_all {G} T shared p turns (g ∷ gates) old new (w ∷ posts) (s ∷ stations) a z zero d l = let r = subst (λ (x : Work G). GaveBack (HasWorked T) shared x (Some (worked.Processed s))) a.1.is z.0 in r.usable.parts
 parts_all T shared p turns (g ∷ gates) old new (w ∷ posts) (s ∷ stations) a z (suc k) d l = parts_all T shared (p + 1) turns gates a.0 new posts stations a.2 z.1 k d (omega arith)
+
+-- each processor's log, by what its gate was told
+gates_logged : {G : Type 0} (T : G → ℕ → Point → G → Type 0) (shared : Shared) (p turns : ℕ) (gates : List G) (old new : Parts) (posts : List (Work G)) (stations : List Station) → ArePosted shared p turns gates old new posts
+    → AllZip (GaveBack (HasWorked T) shared) posts (map back_of stations) → (logs : List (List Entry)) × AllZip (Leaves shared.plan) logs (map parts_of stations) × AreLogsOf T shared p turns gates logs
+gates_logged T shared p turns [] old new [] [] a z = ([], tt, tt)
+gates_logged T shared p turns [] old new [] (s ∷ stations) a z = absurd z
+gates_logged T shared p turns [] old new (w ∷ posts) stations a z = absurd a
+gates_logged T shared p turns (g ∷ gates) old new [] stations a z = absurd a
+gates_logged T shared p turns (g ∷ gates) old new (w ∷ posts) [] a z = absurd z
+gates_logged {G} T shared p turns (g ∷ gates) old new (w ∷ posts) (s ∷ stations) a z =
+    let run : HasRun T shared p turns g a.1.station s = subst (λ (x : Work G). GaveBack (HasWorked T) shared x (Some (worked.Processed s))) a.1.is z.0 in
+    let mine = run.leaves a.1.fresh in
+    let rest = gates_logged T shared (p + 1) turns gates a.0 new posts stations a.2 z.1 in (
+      mine.log ∷ rest.0,
+      (mine.its, rest.1),
+      (record { old = a.1.station.parts; fresh = a.1.fresh; new = s.parts; gate_after = run.gate_after; told = run.told; left = mine.its }, rest.2),
+    )
 
 module _ {A B : Type 0} (R : A → B → Type 0) where
   logs_long : (xs : List A) (ys : List B) → AllZip R xs ys → length xs ≡ length ys
@@ -96,6 +113,9 @@ module _ {G : Type 0} (T : G → ℕ → Point → G → Type 0) (plan : BootPla
     pub gates_were_told : AllToldTurns T 0 turns gates
     gates_were_told = gates_told G T ready.shared 0 turns gates r.first ready.station.parts r.posts its.stations r.posted ran
 
+    logged : (logs : List (List Entry)) × AllZip (Leaves ready.shared.plan) logs (map parts_of its.stations) × AreLogsOf T ready.shared 0 turns gates logs
+    logged = gates_logged T ready.shared 0 turns gates r.first ready.station.parts r.posts its.stations r.posted ran
+
     pub lines_came : AllZip (λ (one : Served) (input : LineIn). IsLine input one.line) its.served inputs
     lines_came = lines_pair T ready.shared r.devices r.posts ready.works.items backs inputs r.devices_are r.works gave typed_in its
 
@@ -131,9 +151,9 @@ module _ {G : Type 0} (T : G → ℕ → Point → G → Type 0) (plan : BootPla
         many : length (map parts_of its.stations) ≡ length gates
         many = length-map its.stations parts_of ∙ (its.posts_are ∙ posts_long)
 
-        shut : BootShut ready.shared came.logs ready.station.parts (map parts_of its.stations) last (map tty_of its.served) (map did_of its.served) parts ended
+        shut : BootShut ready.shared logged.0 ready.station.parts (map parts_of its.stations) last (map tty_of its.served) (map did_of its.served) parts ended
         shut = record {
-          left = came.left;
+          left = logged.1;
           some_processor = let m = many in omega arith;
           prepared = r.prepared;
           joined = joined;
@@ -147,17 +167,19 @@ module _ {G : Type 0} (T : G → ℕ → Point → G → Type 0) (plan : BootPla
         }
 
         pub few_lines : length (flat_map heard_lines (map parts_of its.stations)) ≤ hear_count ready.shared.plan
-        few_lines = heard_is_few ready.shared came.logs ready.station.parts (map parts_of its.stations) last (map tty_of its.served) (map did_of its.served) parts ended shut []
+        few_lines = heard_is_few ready.shared logged.0 ready.station.parts (map parts_of its.stations) last (map tty_of its.served) (map did_of its.served) parts ended shut []
 
-        pub booted : (report : Report) → IsReported ended (flat_map heard_lines (map parts_of its.stations)) told report → IsBootOf plan (length gates) report
+        pub booted : (report : Report) → IsReported ended (flat_map heard_lines (map parts_of its.stations)) told report → IsBootOf T plan turns gates report
         booted report reported =
-            let e = ends ready.shared came.logs ready.station.parts (map parts_of its.stations) last (map tty_of its.served) (map did_of its.served) parts ended shut told report
+            let e = ends ready.shared logged.0 ready.station.parts (map parts_of its.stations) last (map tty_of its.served) (map did_of its.served) parts ended shut told report
             (devices_shown T ready.shared r.devices r.posts ready.works.items backs inputs r.devices_are r.works gave typed_in its told tolds) reported in
-            subst (λ (z : BootPlan). IsBootOf z (length gates) report) r.plan_is (record {
-              closed = closed_shut ready.shared came.logs ready.station.parts (map parts_of its.stations) last (map tty_of its.served) (map did_of its.served) parts ended shut;
-              logs = came.logs;
+            subst (λ (z : BootPlan). IsBootOf T z turns gates report) r.plan_is (record {
+              shared = ready.shared;
+              plan_is = refl;
+              closed = closed_shut ready.shared logged.0 ready.station.parts (map parts_of its.stations) last (map tty_of its.served) (map did_of its.served) parts ended shut;
+              logs = logged.0;
               heard = reported.heard;
-              number = logs_long (Leaves ready.shared.plan) came.logs (map parts_of its.stations) came.left ∙ many;
+              turned = logged.2;
               agrees = report_agrees _ _ _ _ _ _ e;
             })
 
@@ -210,6 +232,6 @@ module _ {G : Type 0} (T : G → ℕ → Point → G → Type 0) (plan : BootPla
                 subst (λ (z : BootPlan). length lines ≤ hear_count z) (sym closes.rest.2)
                 (subst (λ (z : List Line). length z ≤ hear_count ready.shared.plan) (ap (λ (z : List Station). flat_map heard_lines (map parts_of z)) same_s ∙ sym e) f)
 
-            pub booted_sorted : (lines : List Line) → lines ≡ flat_map heard_lines (map parts_of stations) → (report : Report) → IsReported ended lines told report → IsBootOf plan (length gates) report
+            pub booted_sorted : (lines : List Line) → lines ≡ flat_map heard_lines (map parts_of stations) → (report : Report) → IsReported ended lines told report → IsBootOf T plan turns gates report
             booted_sorted lines e report reported = booted last joined_same some its_parts told tolds_same parts (took_same parts took) ended closes report
                 (subst (λ (z : List Line). IsReported ended z told report) (e ∙ ap (λ (z : List Station). flat_map heard_lines (map parts_of z)) (sym same_s)) reported)

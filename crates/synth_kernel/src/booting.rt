@@ -30,7 +30,7 @@ where
     R: Threads + Wait + Sync,
     G: Gate + Send + Drop,
     requires gates { (1 ≤ vec_len gates) × (vec_len gates ≤ 8) }
-    ensures booted { IfOk result (λ report. IsBootOf plan (vec_len gates) report) }
+    ensures booted { IfOk result (λ report. IsBootOf G.told plan turns gates.items report) }
     ensures told { IfOk result (λ report. AllToldTurns G.told 0 turns gates.items) }
 {
     let processors = gates.len();

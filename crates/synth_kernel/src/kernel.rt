@@ -5,7 +5,7 @@ ghost use Rattle.boot_script.specs.Answers.{Says};
 ghost use Rattle.boot_script.specs.BootPlans.{plan_of};
 ghost use Rattle.boot_script.specs.Plans.{text_plan};
 ghost use Rattle.kernel_threads.specs.Works.{AllToldTurns};
-ghost use Rattle.synth_kernel.specs.Boots.{IsBoot, IsBootFault, IsBootAnswer, IsRun, IsRead, IsLate};
+ghost use Rattle.synth_kernel.specs.Boots.{IsBoot, IsBootFault, IsBootAnswer, IsPlainBoot, IsPlainAnswer, IsRun, IsRead, IsLate};
 
 use crate::booting::boot_plan;
 use crate::outcome::{BootFault, Ended};
@@ -59,7 +59,7 @@ where
     O: Write,
     G: Gate + Send + Drop,
     requires gates { (1 ≤ vec_len gates) × (vec_len gates ≤ 8) }
-    ensures ok { IfOk result (λ ended. IsRun plan (vec_len gates) ended (O.contents writer.old)
+    ensures ok { IfOk result (λ ended. IsRun G.told plan turns gates.items ended (O.contents writer.old)
         (O.contents writer.new)) }
     ensures told { IfOk result (λ ended. AllToldTurns G.told 0 turns gates.items) }
     ensures fault { IfErr result (λ fault. IsLate fault) }
@@ -106,8 +106,8 @@ where
     I: Read,
     O: Write,
     requires { (1 ≤ processors) × (processors ≤ 8) }
-    ensures ok { IfOk result (λ ended. IfSome (I.remaining reader.old) (λ bytes. IsBoot (text_plan bytes)
-        processors ended (O.contents writer.old) (O.contents writer.new))) }
+    ensures ok { IfOk result (λ ended. IfSome (I.remaining reader.old) (λ bytes. IsPlainBoot (text_plan bytes)
+        processors turns ended (O.contents writer.old) (O.contents writer.new))) }
     ensures fault { IfErr result (λ fault. IfSome (I.remaining reader.old) (λ bytes. IsBootFault
         (text_plan bytes) fault)) }
     ensures unwritten { IfErr result (λ fault. fault ≢ BootFault.Write
@@ -138,8 +138,8 @@ where
     G: Gate + Send + Drop,
     requires number { (1 ≤ processors) × (processors ≤ 8) }
     requires gates { vec_len gates ≡ processors }
-    ensures ok { IfOk result (λ ended. IfSome (I.remaining reader.old) (λ bytes. IsBoot (text_plan bytes)
-        processors ended (O.contents writer.old) (O.contents writer.new))) }
+    ensures ok { IfOk result (λ ended. IfSome (I.remaining reader.old) (λ bytes. IsBoot G.told (text_plan bytes)
+        turns gates.items ended (O.contents writer.old) (O.contents writer.new))) }
     ensures told { IfOk result (λ ended. AllToldTurns G.told 0 turns gates.items) }
     ensures fault { IfErr result (λ fault. IfSome (I.remaining reader.old) (λ bytes. IsBootFault
         (text_plan bytes) fault)) }
@@ -166,8 +166,8 @@ where
     I: Read + Drop,
     O: Write + Drop,
     requires { (1 ≤ processors) × (processors ≤ 8) }
-    ensures ok { IfOk result (λ ended. IfSome (I.remaining reader) (λ bytes. IsBootAnswer (text_plan bytes)
-        processors ended)) }
+    ensures ok { IfOk result (λ ended. IfSome (I.remaining reader) (λ bytes. IsPlainAnswer (text_plan bytes)
+        processors turns ended)) }
     ensures fault { IfErr result (λ fault. IfSome (I.remaining reader) (λ bytes. IsBootFault (text_plan bytes)
         fault)) }
 {
@@ -193,8 +193,8 @@ where
     G: Gate + Send + Drop,
     requires number { (1 ≤ processors) × (processors ≤ 8) }
     requires gates { vec_len gates ≡ processors }
-    ensures ok { IfOk result (λ ended. IfSome (I.remaining reader) (λ bytes. IsBootAnswer (text_plan bytes)
-        processors ended)) }
+    ensures ok { IfOk result (λ ended. IfSome (I.remaining reader) (λ bytes. IsBootAnswer G.told (text_plan bytes)
+        turns gates.items ended)) }
     ensures told { IfOk result (λ ended. AllToldTurns G.told 0 turns gates.items) }
     ensures fault { IfErr result (λ fault. IfSome (I.remaining reader) (λ bytes. IsBootFault (text_plan bytes)
         fault)) }

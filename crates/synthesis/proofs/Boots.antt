@@ -7,17 +7,21 @@ use Rattle.synth_kernel.specs.declared.outcome.BootFault.{BootFault}
 use Rattle.synthesis.specs.Runs.{BootAnswers, IsBootAnswerOf, IsBootStatus, boot_status_of}
 
 answer_alone :
-    (said : Result Plan ScriptFault) (processors : ℕ) (answer : Result endings.Ended BootFault) (old new : Option (List ℕ))
-    → BootAnswers said processors answer old new → IsBootAnswerOf said processors answer
-answer_alone said processors (Ok ended) old new h =
-    record { plan = h.plan; says = h.says; report = h.run.report; booted = h.run.booted; ends = h.run.ends }
-answer_alone said processors (Err fault) old new h = h
+    (said : Result Plan ScriptFault) (processors turns : ℕ) (answer : Result endings.Ended BootFault)
+    (old new : Option (List ℕ))
+    → BootAnswers said processors turns answer old new → IsBootAnswerOf said processors turns answer
+answer_alone said processors turns (Ok ended) old new h = (
+  h.0,
+  h.1,
+  record { plan = h.2.plan; says = h.2.says; report = h.2.run.report; booted = h.2.run.booted; ends = h.2.run.ends },
+)
+answer_alone said processors turns (Err fault) old new h = h
 
 -- where the bytes are known, the status is that of a boot of them
 pub status_said :
-    (known : Option (List ℕ)) (processors : ℕ) (answer : Result endings.Ended BootFault) (old new : Option (List ℕ))
-    (status : ℕ) → IfSome known (λ bytes. BootAnswers (text_plan bytes) processors answer old new)
-    → status ≡ boot_status_of answer → IfSome known (λ bytes. IsBootStatus (text_plan bytes) processors status)
-status_said None processors answer old new status h e = h
-status_said (Some bytes) processors answer old new status h e =
-    (answer, answer_alone (text_plan bytes) processors answer old new h, e)
+    (known : Option (List ℕ)) (processors turns : ℕ) (answer : Result endings.Ended BootFault) (old new : Option (List ℕ))
+    (status : ℕ) → IfSome known (λ bytes. BootAnswers (text_plan bytes) processors turns answer old new)
+    → status ≡ boot_status_of answer → IfSome known (λ bytes. IsBootStatus (text_plan bytes) processors turns status)
+status_said None processors turns answer old new status h e = h
+status_said (Some bytes) processors turns answer old new status h e =
+    (answer, answer_alone (text_plan bytes) processors turns answer old new h, e)

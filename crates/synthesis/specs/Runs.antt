@@ -16,7 +16,7 @@ use Rattle.synth_kernel.specs.declared.outcome.Ended.TheVariants.{AllEnded, Unfi
 use Rattle.synth_kernel.specs.declared.outcome.BootFault.{BootFault}
 use Rattle.synth_kernel.specs.declared.outcome.BootFault.TheVariants as boot_faults
 use Rattle.synth_kernel.specs.Faults.{boot_fault_text}
-use Rattle.synth_kernel.specs.Boots.{IsBoot, IsBootAnswer, IsBootFault}
+use Rattle.synth_kernel.specs.Boots.{IsPlainBoot, IsPlainAnswer, IsBootFault}
 use Rattle.synthesis.specs.declared.program.Ended.{Ended}
 
 -- what is told of other words
@@ -80,11 +80,12 @@ abbrev pub boot_words_of : Result endings.Ended BootFault → List ℕ
 boot_words_of (Ok ended) = []
 boot_words_of (Err fault) = boot_fault_text fault ++ end_of_line
 
--- a text that says this has the answer on so many processors, and where that is printed, just the report is appended
-abbrev pub BootAnswers : Result Plan ScriptFault → ℕ → Result endings.Ended BootFault
+-- a text that says this has the answer on so many processors, after so many turns of each, and where that is printed,
+-- just the report is appended
+abbrev pub BootAnswers : Result Plan ScriptFault → ℕ → ℕ → Result endings.Ended BootFault
     → Option (List ℕ) → Option (List ℕ) → Type 0
-BootAnswers said processors (Ok ended) old new = IsBoot said processors ended old new
-BootAnswers said processors (Err fault) old new = IsBootFault said fault
+BootAnswers said processors turns (Ok ended) old new = IsPlainBoot said processors turns ended old new
+BootAnswers said processors turns (Err fault) old new = IsBootFault said fault
 
 -- nothing was written under another fault of a boot than the writer's
 abbrev pub IsBootUnwritten : Result endings.Ended BootFault → Option (List ℕ) → Option (List ℕ) → Type 0
@@ -92,17 +93,18 @@ IsBootUnwritten (Ok ended) old new = Unit {0}
 IsBootUnwritten (Err fault) old new = fault ≢ boot_faults.Write → Keeps old new
 
 -- a boot of the bytes, where they are known, has this answer, and turns the bytes of the writer from old to new
-abbrev pub IsBootedBy : Option (List ℕ) → ℕ → Result endings.Ended BootFault
+abbrev pub IsBootedBy : Option (List ℕ) → ℕ → ℕ → Result endings.Ended BootFault
     → Option (List ℕ) → Option (List ℕ) → Type 0
-IsBootedBy known processors answer old new =
-    IfSome known (λ bytes. BootAnswers (text_plan bytes) processors answer old new) × IsBootUnwritten answer old new
+IsBootedBy known processors turns answer old new =
+    IfSome known (λ bytes. BootAnswers (text_plan bytes) processors turns answer old new)
+    × IsBootUnwritten answer old new
 
 -- the answer of a boot alone
-abbrev pub IsBootAnswerOf : Result Plan ScriptFault → ℕ → Result endings.Ended BootFault → Type 0
-IsBootAnswerOf said processors (Ok ended) = IsBootAnswer said processors ended
-IsBootAnswerOf said processors (Err fault) = IsBootFault said fault
+abbrev pub IsBootAnswerOf : Result Plan ScriptFault → ℕ → ℕ → Result endings.Ended BootFault → Type 0
+IsBootAnswerOf said processors turns (Ok ended) = IsPlainAnswer said processors turns ended
+IsBootAnswerOf said processors turns (Err fault) = IsBootFault said fault
 
--- an exit status is that of a boot of a text that says this, on so many processors
-abbrev pub IsBootStatus : Result Plan ScriptFault → ℕ → ℕ → Type 0
-IsBootStatus said processors status =
-    (answer : Result endings.Ended BootFault) × IsBootAnswerOf said processors answer × (status ≡ boot_status_of answer)
+-- an exit status is that of a boot of a text that says this, on so many processors, after so many turns of each
+abbrev pub IsBootStatus : Result Plan ScriptFault → ℕ → ℕ → ℕ → Type 0
+IsBootStatus said processors turns status = (answer : Result endings.Ended BootFault)
+    × IsBootAnswerOf said processors turns answer × (status ≡ boot_status_of answer)

@@ -56,7 +56,7 @@ pub fn run_on<RT: Threads + Wait + Sync, R: Read, W: Write, E: Write>(
         × IsTold result (status_of answer) (words_of answer) (E.contents errors.old) (E.contents errors.new) }
     ensures boot { (processors turns : ℕ) → IsBootCommand (map (λ word. word.now) words.now) processors turns
         → (answer : Result endings.Ended BootFault)
-        × IsBootedBy (R.remaining reader.old) processors answer (W.contents writer.old) (W.contents writer.new)
+        × IsBootedBy (R.remaining reader.old) processors turns answer (W.contents writer.old) (W.contents writer.new)
         × IsTold result (boot_status_of answer) (boot_words_of answer) (E.contents errors.old) (E.contents errors.new) }
 {
     match command_of(words) {
@@ -85,7 +85,7 @@ pub fn run_main<RT: Threads + Wait + Sync, R: Read + Drop, W: Write + Drop, E: W
     ensures replay { map (λ word. word.now) words.now ≡ replay_command
         → IfSome (R.remaining reader) (λ bytes. IsStatus (text_events bytes) result) }
     ensures boot { (processors turns : ℕ) → IsBootCommand (map (λ word. word.now) words.now) processors turns
-        → IfSome (R.remaining reader) (λ bytes. IsBootStatus (text_plan bytes) processors result) }
+        → IfSome (R.remaining reader) (λ bytes. IsBootStatus (text_plan bytes) processors turns result) }
 {
     run_on(rt, alloc, words, &mut reader, &mut writer, &mut errors).status
 }

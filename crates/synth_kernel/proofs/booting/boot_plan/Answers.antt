@@ -105,7 +105,7 @@ returns-clause-booted g c =
     let inputs = c.run_kernel-backs.result.1.items in
     let long = c.len-processors.ensures ∙ c.args.gates.ok.0 in
     let typed = subst (λ (z : ℕ). AreTyped o.shared.plan.ttys (drop z backs) o.inputs.items inputs) long c.run_kernel-backs.ensures.typed in
-    let b = booted_sorted g.G.Gate.told c.args.plan c.args.turns c.args.gates.items o c.in_ok-shared.ensures backs inputs c.run_kernel-backs.ensures.worked typed c.in-Some.ensures.sorted.2 c.in-Some.stations.items c.in-Some.served.items c.in-Some.ensures.sorted.0 c.in-Some.ensures.sorted.1 c.finish_all-ttys.result.0.items c.finish_all-ttys.ensures.ttys c.join_stations-station.result.0.parts c.join_stations-station.ensures.joined (let n = c.requires.gates.0 in let l = c.args.gates.ok.0 in omega arith) c.join_stations-station.ensures.parts c.finish_all-ttys.result.1.items c.finish_all-ttys.ensures.told c.join_raws.new.parts (subst (λ (z : Parts). TookRaws (length o.shared.plan.queues) (length o.shared.plan.movers) c.finish_all-ttys.result.0.items z c.join_raws.new.parts) c.into_parts-parts.ensures c.join_raws.ensures.took) c.close_all-ended.result c.close_all-ended.ensures _ c.join_stations-station.ensures.heard c.report_boot.result (subst (λ (z : List Typed). IsReported c.close_all-ended.result (flat_map lines_of c.join_stations-station.result.1.items) z c.report_boot.result) c.as_slice.ensures.value c.report_boot.ensures) in subst (λ (z : ℕ). IsBootOf c.args.plan z c.report_boot.result) (sym c.args.gates.ok.0) b
+    booted_sorted g.G.Gate.told c.args.plan c.args.turns c.args.gates.items o c.in_ok-shared.ensures backs inputs c.run_kernel-backs.ensures.worked typed c.in-Some.ensures.sorted.2 c.in-Some.stations.items c.in-Some.served.items c.in-Some.ensures.sorted.0 c.in-Some.ensures.sorted.1 c.finish_all-ttys.result.0.items c.finish_all-ttys.ensures.ttys c.join_stations-station.result.0.parts c.join_stations-station.ensures.joined (let n = c.requires.gates.0 in let l = c.args.gates.ok.0 in omega arith) c.join_stations-station.ensures.parts c.finish_all-ttys.result.1.items c.finish_all-ttys.ensures.told c.join_raws.new.parts (subst (λ (z : Parts). TookRaws (length o.shared.plan.queues) (length o.shared.plan.movers) c.finish_all-ttys.result.0.items z c.join_raws.new.parts) c.into_parts-parts.ensures c.join_raws.ensures.took) c.close_all-ended.result c.close_all-ended.ensures _ c.join_stations-station.ensures.heard c.report_boot.result (subst (λ (z : List Typed). IsReported c.close_all-ended.result (flat_map lines_of c.join_stations-station.result.1.items) z c.report_boot.result) c.as_slice.ensures.value c.report_boot.ensures)
 
 pub returns-clause-told : goal.returns-clause-told
 returns-clause-told g c =

@@ -35,7 +35,8 @@ abbrev pub replay_text : Replayed → Status → List ℕ
 replay_text AllAllowed status = status_text status
 replay_text (Refused line refusal) status = status_text status ++ refused_text line refusal
 
--- the text has no fault, the answer is that of its events on a fresh core, and their status is appended
+-- the text has no fault, the answer is that of its events on a fresh core, and their status is appended, with the
+-- refusal behind it where an event was refused
 abbrev pub IsReplay :
     Result (ℕ × List (ℕ × Event)) ScriptFault → Replayed → Option (List ℕ) → Option (List ℕ) → Type 0
 IsReplay (Err fault) replayed old new = ⊥
@@ -47,7 +48,8 @@ abbrev pub IsAnswer : Result (ℕ × List (ℕ × Event)) ScriptFault → Replay
 IsAnswer (Err fault) replayed = ⊥
 IsAnswer (Ok said) replayed = (status : Status) × Ends replayed status said.1 (first_state said.0)
 
--- a script's fault is the first of the text; memory is wanting, or the writer fails, only where the text has none
+-- a script's fault is the first of the text; memory is wanting, or the writer fails, only where the text has none; the
+-- reader may fail with any text
 abbrev pub IsReplayFault : Result (ℕ × List (ℕ × Event)) ScriptFault → ReplayFault → Type 0
 IsReplayFault said (Script fault) = said ≡ Err fault
 IsReplayFault said Memory = IsOk said

@@ -52,6 +52,7 @@ pub record Rule (key : Shape) (s : State Unit View) : Type 0 where
   pub ends : EndsKnown member_of IsIdle (slice_index_or s.words 2 0) s.views
   pub course : IsCourse steps_of course_of (empty key) queue s.views
 
+-- what the first end of a queue knows
 abbrev pub newcomer : Shape → View
 newcomer key = record {
   part = record { queue = empty key; joined = empty key; runs = []; takes = [] };

@@ -27,7 +27,7 @@ pub record StoppedAt (room : ℕ) (v : View) (position : ℕ) (xs : List ℕ) (w
 abbrev pub NoEnd : List ℕ → Type 0
 NoEnd xs = (i : ℕ) → i < length xs → slice_index_or xs i 0 ≢ 10
 
--- up to and with the first end of a line, or as many items as there is room for
+-- up to and with the first end of a line, or as many items as there is room for and no end among them but the last
 abbrev pub IsLine : ℕ → List ℕ → Type 0
 IsLine room xs = ((i : ℕ) → i + 1 < length xs → slice_index_or xs i 0 ≢ 10) × (0 < length xs)
     × ((slice_index_or xs (length xs - 1) 0 ≡ 10) ⊎ (length xs ≡ room))

@@ -46,7 +46,8 @@ small_of posts = posts.0
 abbrev pub large_of : Posts → List (Option Post)
 large_of posts = posts.1
 
--- the owner of these parts has the whole of each object: no end of another stands
+-- the owner of these parts has the whole of each object; of a queue, together with the ends that the chains' quajects
+-- had when they were given to the chains
 pub record HasWholes (shared : Shared) (parts : Parts) : Type 0 where
   pub hand : IsOnlyHand parts.hand
   pub meters : IsOnlySeat parts.meters

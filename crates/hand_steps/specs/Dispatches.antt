@@ -33,7 +33,7 @@ WasIdle call (idle.Parked element) v w = (taken : View) × TakeAnswer call v 0 (
 WasIdle call (idle.ParkLost element lost ready) v w = (taken : View) × TakeAnswer call v 0 (Ok element) taken
     × (held : View) × ParkAnswer call taken element (Err lost) held × Sent call 0 element ready held w
 
--- the hand holds what it held, but for an element that was neither parked nor made ready
+-- the hand holds what it held, and an element more that was neither parked nor made ready
 abbrev pub IdleHolds : Idle → View → View → Type 0
 IdleHolds (idle.NothingReady refusal) v w = HoldsSame v w
 IdleHolds (idle.Parked element) v w = HoldsSame v w

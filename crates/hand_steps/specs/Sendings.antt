@@ -34,7 +34,7 @@ pub record Sent (call line element : ℕ) (moved : Bool) (v w : View) : Type 0 w
   pub tries : LostTries call line element v before lost
   pub last : LastTry call before line element moved w
 
--- the hand holds an element that was moved no more
+-- the hand holds what it held, without the element where that was moved
 abbrev pub HoldsUnless : Bool → ℕ → View → View → Type 0
 HoldsUnless true element v w = HoldsLess element v w
 HoldsUnless false element v w = HoldsSame v w

@@ -39,7 +39,8 @@ pub record Woke (call wait : ℕ) (woken : Woken) (v w : View) : Type 0 where
   pub took : WokeAll call v wait woken.taken between
   pub sent : AllReady call woken between 64 w
 
--- the hand holds beside what it held the elements that it took and that were not made ready
+-- the hand holds beside what it held the elements that it took and that were not made ready; it held none of those
+-- taken
 abbrev pub HoldsWoken : Woken → View → View → Type 0
 HoldsWoken woken v w = (e : ℕ) → e < 64
     → (has w e ≡ (has v e || (is_in woken.taken e && not (is_in woken.ready e))))

@@ -26,6 +26,7 @@ pub record HasPrepared (plan : BootPlan) (old new : Parts) : Type 0 where
   pub heard : new.heard ≡ old.heard
   pub signals : new.signals ≡ old.signals
 
+-- the end of a device's line at which bytes are typed
 abbrev pub input_of : Device → LineIn
 input_of device = device.input
 

@@ -41,9 +41,12 @@ nothing_own = record {
   share = 0;
 }
 
+-- the end's own is as it was
 abbrev pub DidNothing : View → View → Type 0
 DidNothing v w = own_of w ≡ own_of v
 
+-- one of these more, and nothing else: a tick of this gauge by this amount; a move of the clock on to this tick; an
+-- alarm set; an alarm cancelled; these alarms fired
 abbrev pub DidTick : ℕ → ℕ → View → View → Type 0
 DidTick gauge amount v w =
     own_of w ≡ record (own_of v) { ticks = v.ticks ++ record { gauge = gauge; amount = amount } ∷ [] }
@@ -60,6 +63,7 @@ DidCancel alarm v w = own_of w ≡ record (own_of v) { cancelled = v.cancelled +
 abbrev pub DidFire : List Alarm → View → View → Type 0
 DidFire alarms v w = own_of w ≡ record (own_of v) { fired = v.fired ++ alarms }
 
+-- a split more, and the share that is kept
 abbrev pub DidSplit : View → View → Type 0
 DidSplit v w = own_of w ≡ record (own_of v) { splits = v.member.splits + 1; share = kept v.member.share }
 

@@ -34,6 +34,7 @@ pub record Rule (key : Shape) (s : State Unit View) : Type 0 where
   pub ends : EndsKnown member_of IsIdle (slice_index_or s.words ends_word 0) s.views
   pub course : IsCourse steps_of course_of (first_reading key.clock) meters s.views
 
+-- what the first end of the meters knows
 abbrev pub newcomer : Shape → View
 newcomer key = record {
   seen = first_reading key.clock;

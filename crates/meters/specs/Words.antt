@@ -30,6 +30,7 @@ alarm_in word = record {
   signal = word / 1099511627776 % 256;
 }
 
+-- it can be said by a word
 pub record IsInRange (alarm : Alarm) : Type 0 where
   pub due : alarm.due < 4294967296
   pub element : alarm.element < 64

@@ -39,7 +39,8 @@ pub record TookIn (v u w : View) : Type 0 where
   pub member : members.TookIn v.member u.member found w.member
   pub one_turn : (v.runner && u.runner) ≡ false
 
--- the end that has the turn takes in the other, and holds what it held
+-- the end takes in the other, or is taken in by it, where that is told to have the turn; it then holds what that end
+-- held
 abbrev pub Joined : {Q : Type 0} → Bool → Me Q View → Me Q View → Me Q View → Type 0
 Joined false me other me' = TookIn me.0 other.0 me'.0 × (me'.1 ≡ me.1)
 Joined true me other me' = TookIn other.0 me.0 me'.0 × (me'.1 ≡ other.1)

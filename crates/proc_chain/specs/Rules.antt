@@ -67,6 +67,7 @@ pub record Rule {Q W : Type 0} (made : W → Q → List ℕ → Type 0) (fits : 
   pub ends : EndsKnown member_of IsIdle (slice_index_or s.words 2 0) s.views
   pub course : IsCourse steps_of course_of (first_moment key.first) (moment queue (gate_in s.words)) s.views
 
+-- what an end knows of a chain that begins there, and in which nothing was done
 abbrev pub view_from : ℕ → Member → View
 view_from first member = record {
   part = record { queue = empty_from first; joined = empty_from first; runs = []; takes = [] };
@@ -79,6 +80,7 @@ view_from first member = record {
   course = [];
 }
 
+-- what the first end of a chain knows
 abbrev pub newcomer : {W : Type 0} → Shape W → View
 newcomer key = view_from key.first first_member
 

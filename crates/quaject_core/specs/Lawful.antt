@@ -27,14 +27,15 @@ abbrev pub is_idle : Gate → Bool
 is_idle Idle = true
 is_idle gate = false
 
--- there is a runner exactly where the gate isn't Idle; and where it is Idle and the first note left is raised, the
--- call that owns its run owes a notify
+-- its notes are a lawful queue; there is a runner exactly where the gate isn't Idle; and where it is Idle and the first
+-- note left is raised, the call that owns its run owes a notify
 pub record IsLawfulChain (c : Chain) : Type 0 where
   pub notes : IsLawfulQueue c.notes
   pub run : is_some c.runner ≡ not (is_idle c.gate)
   pub promised : (is_idle c.gate && is_forgotten c) ≡ false
 
--- each element appears exactly once, and nothing else does; an element in its stop cell has its stop bit set
+-- the element queues are lawful; each element appears exactly once, and nothing else does; an element in its stop cell
+-- has its stop bit set
 pub record IsLawfulElements (s : Elements) : Type 0 where
   pub lines : All IsLawfulQueue s.lines
   pub once : (element : ℕ) → element < length s.threads → appearances element s ≡ 1

@@ -148,6 +148,8 @@ pub record TtyEnded (many tty : ℕ) (p : PlannedTty) (v : ChainView) (home : Ho
 
 -- METERS
 
+-- the meters were closed by the last station's end, which fired the alarms fired; the plan's gauges are the first of
+-- the gauges
 pub record MetersEnded (plan : BootPlan) (last : Parts) (c : Closed) : Type 0 where
   pub first : ℕ
   pub clock : ℕ

@@ -4,6 +4,7 @@ use Rattle.boot_script.specs.Printed.{fault_text}
 use Rattle.synth_kernel.specs.declared.outcome.BootFault.{BootFault}
 use Rattle.synth_kernel.specs.declared.outcome.BootFault.TheVariants.{Script, Memory, Read, Write}
 
+-- how a fault is told
 abbrev pub boot_fault_text : BootFault → List ℕ
 boot_fault_text (Script fault) = fault_text fault
 boot_fault_text Memory = codes "no memory"

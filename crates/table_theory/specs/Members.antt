@@ -6,6 +6,7 @@ use Rattle.table_theory.specs.declared.views.Member.{Member}
 use Rattle.table_theory.specs.Ends.{IsNumber, Begins, later_of, EndsLogged}
 use Rattle.table_theory.specs.Sharing.{the_whole, given, kept, IsCount, EndsCounted}
 
+-- the only end, which has the whole
 abbrev pub first_member : Member
 first_member = record { ends = 1; share = the_whole; splits = 0; joins = 0; log = [] }
 

@@ -4,6 +4,7 @@ use Rattle.std.specs.Prelude.{slice_set}
 use Rattle.table_theory.specs.declared.queues.Cell.{Cell}
 use Rattle.table_theory.specs.declared.queues.Positions.{Positions}
 
+-- a place in which nothing is
 abbrev pub blank : Cell
 blank = record { item = 0; written = 0 }
 
@@ -11,12 +12,14 @@ blank = record { item = 0; written = 0 }
 abbrev pub place_at : Positions → ℕ → Cell
 place_at q i = slice_index_or q.places i blank
 
+-- its item, and how many steps of writing are done there
 abbrev pub item_at : Positions → ℕ → ℕ
 item_at q i = (place_at q i).item
 
 abbrev pub written_at : Positions → ℕ → ℕ
 written_at q i = (place_at q i).written
 
+-- the position behind the last place that was claimed, and the first that is left
 abbrev pub head_of : Positions → ℕ
 head_of q = q.first + length q.places
 
@@ -44,6 +47,7 @@ pub record Grows (q r : Positions) : Type 0 where
 abbrev pub fresh : ℕ → Cell
 fresh x = record { item = x; written = 0 }
 
+-- places for these items were claimed
 abbrev pub with_claim : Positions → List ℕ → Positions
 with_claim q xs = record q { places = q.places ++ map fresh xs }
 
@@ -51,9 +55,11 @@ with_claim q xs = record q { places = q.places ++ map fresh xs }
 abbrev pub with_write : Positions → ℕ → ℕ → Positions
 with_write q i n = record q { places = slice_set q.places i (record { item = item_at q i; written = n }) }
 
+-- n more were taken
 abbrev pub with_take : Positions → ℕ → Positions
 with_take q n = record q { taken = q.taken + n }
 
+-- it was shut
 abbrev pub with_shut : Positions → Positions
 with_shut q = record q { shut = true }
 

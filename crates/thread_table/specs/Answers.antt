@@ -74,7 +74,7 @@ pub record PassedMeanwhile (v : View) (line seen : ℕ) (w : View) : Type 0 wher
   pub missed : Found before (tail_word line) seen w
   pub past : tail < seen
 
--- the answer to a taking
+-- the answer to a taking: the first element; or there was none that was ready; or another hand took first
 abbrev pub TakeAnswer : ℕ → View → ℕ → Result ℕ NextRefusal → View → Type 0
 TakeAnswer call v line (Ok element) w = TookFirst call v line element w
 TakeAnswer call v line (Err nexts.NoneReady) w = WasNotRaised v line w
@@ -118,7 +118,8 @@ pub record WasOvertaken (v : View) (line seen : ℕ) (w : View) : Type 0 where
   pub missed : Found before (head_word line) seen w
   pub differs : seen ≢ word
 
--- the answer to a move without a ticket
+-- the answer to a move without a ticket: the element is in the queue; or no position was left; or another hand moved
+-- first
 abbrev pub MoveAnswer : ℕ → View → ℕ → ℕ → Result (Unit {0}) MoveRefusal → View → Type 0
 MoveAnswer call v line element (Ok done) w = MovedTo call v line element (claim_event call line element) w
 MoveAnswer call v line element (Err moves.Spent) w = WasSpent v line w
@@ -161,7 +162,8 @@ pub record OvertakenAt (v : View) (wait ticket seen : ℕ) (w : View) : Type 0 w
   pub was : mark_in lost.word ≡ ticket
   pub still : mark_in seen ≡ ticket
 
--- the answer to a wait with a ticket
+-- the answer to a wait with a ticket: the element is in the wait queue; or no position was left; or another hand moved
+-- first; or the number of notifies was no more the ticket
 abbrev pub WaitAnswer : ℕ → View → ℕ → ℕ → ℕ → Result (Unit {0}) MoveRefusal → View → Type 0
 WaitAnswer call v wait element ticket (Ok done) w = WaitedAt call v wait element ticket w
 WaitAnswer call v wait element ticket (Err moves.Spent) w = WasSpent v (wait + 2) w
@@ -184,7 +186,7 @@ pub record SignalledNow (call : ℕ) (v : View) (element number : ℕ) (was_pend
   pub marks : Marks call element (events.Signal call element number) v word w
   pub was : (thread_at (elements_after marks.did.before) element).pending number ≡ was_pending
 
--- the answer to a signal
+-- the answer to a signal: whether it was pending before
 abbrev pub SignalAnswer : ℕ → View → ℕ → ℕ → Signalled → View → Type 0
 SignalAnswer call v element number signalled.Raised w = SignalledNow call v element number false w
 SignalAnswer call v element number signalled.Merged w = SignalledNow call v element number true w
@@ -219,7 +221,8 @@ HasStop word = bit_at word 16 ≡ 1
 abbrev pub HasSignals : ℕ → Type 0
 HasSignals word = 0 < word % 65536
 
--- the answer to a start
+-- the answer to a start: the stop bit was clear; or it is now, and the hand holds the element where that was parked; or
+-- the state word was changed meanwhile
 abbrev pub StartAnswer : ℕ → View → ℕ → Result Started Lost → View → Type 0
 StartAnswer call v element (Ok started.NotStopped) w = FoundRunning v element w
 StartAnswer call v element (Ok started.Cleared) w = (b : FoundThen v element (Starts call element) w)
@@ -260,7 +263,7 @@ pub record CountedStep (call : ℕ) (v : View) (element number : ℕ) (w : View)
   pub steps : Steps call element count between w
   pub is : number ≡ count + 1
 
--- the answer to a step done: the new number of steps
+-- the answer to a step done: the new number of steps; or Spent, where 4,294,967,295 were found to be done
 abbrev pub DoneAnswer : ℕ → View → ℕ → Result ℕ Spent → View → Type 0
 DoneAnswer call v element (Ok number) w = CountedStep call v element number w
 DoneAnswer call v element (Err spent) w = Counts element v 4294967295 w

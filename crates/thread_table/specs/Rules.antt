@@ -146,6 +146,7 @@ pub record Rule (key : Shape) (s : State Unit View) : Type 0 where
   pub are_joins : AreJoins events joiner.steps
   pub course : IsCourse steps_of course_of [] events (joiner ∷ s.views)
 
+-- what the first hand of a table knows
 abbrev pub newcomer : Shape → View
 newcomer key = record {
   first = key.first;

@@ -132,7 +132,7 @@ pub record Notifies (call wait : ℕ) (v : View) (found : ℕ) (w : View) : Type
 abbrev pub notifies : ℕ → ℕ → Step Unit → Me Unit View → ℕ → Me Unit View → Type 0
 notifies call wait st m r m' = Makes (Notifies call wait) st m r m'
 
--- an element that the hand held is on a processor that it serves, whose word was 0
+-- an element that the hand held is on a processor, whose word was 0
 abbrev pub PutsOn : ℕ → ℕ → ℕ → View → View → Type 0
 PutsOn call p element v w =
     Did call v (seat_word p) 0 (events.On call p element) (λ before. with_on v p element) w

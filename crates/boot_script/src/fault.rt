@@ -51,18 +51,18 @@ impl fmt::Display for ScriptRefusal {
     ghost output = { λ refusal. Some (script_refusal_name refusal) };
 
     fn fmt<W: fmt::Write>(&self, f: &mut fmt::Formatter<W>) -> fmt::Result {
-        match self {
-            ScriptRefusal::NotVersion => write!(f, "NotVersion"),
-            ScriptRefusal::UnknownWord => write!(f, "UnknownWord"),
-            ScriptRefusal::BadNumber => write!(f, "BadNumber"),
-            ScriptRefusal::BadName => write!(f, "BadName"),
-            ScriptRefusal::NameTwice => write!(f, "NameTwice"),
-            ScriptRefusal::NameUnknown => write!(f, "NameUnknown"),
-            ScriptRefusal::TooMany => write!(f, "TooMany"),
-            ScriptRefusal::TextTooLong => write!(f, "TextTooLong"),
-            ScriptRefusal::NotAscii => write!(f, "NotAscii"),
-            ScriptRefusal::OutOfMemory => write!(f, "OutOfMemory"),
-        }
+        f.write_str(match self {
+            ScriptRefusal::NotVersion => "NotVersion",
+            ScriptRefusal::UnknownWord => "UnknownWord",
+            ScriptRefusal::BadNumber => "BadNumber",
+            ScriptRefusal::BadName => "BadName",
+            ScriptRefusal::NameTwice => "NameTwice",
+            ScriptRefusal::NameUnknown => "NameUnknown",
+            ScriptRefusal::TooMany => "TooMany",
+            ScriptRefusal::TextTooLong => "TextTooLong",
+            ScriptRefusal::NotAscii => "NotAscii",
+            ScriptRefusal::OutOfMemory => "OutOfMemory",
+        })
     }
 }
 

@@ -2,6 +2,10 @@
 #![tactic(auto)]
 
 #[cfg(test)]
+mod pause_tests;
+#[cfg(test)]
+mod scripts;
+#[cfg(test)]
 mod tests;
 #[cfg(test)]
 mod thread_tests;

@@ -1,73 +1,12 @@
 ghost use Rattle.claim_queue.specs.Handles.{IsEndOf};
 
+use crate::scripts::{Act, Four, Script, closes, does, new_four, plays};
 use arrayvec::ArrayVec;
 use claim_queue::*;
 use quaject_core::OutOfMemory;
 use std::alloc::Global;
+use std::process::Abort;
 use std::test::*;
-
-type Four = ClaimQueue<4>;
-
-/// In the pause, another end puts two items.
-#[derive(Drop)]
-struct Putting<'a> {
-    queue: &'a Four,
-    end: QueueEnd<4>,
-    done: bool,
-    ghost of: { IsEndOf queue.now end },
-}
-
-impl<'a> Pause for Putting<'a> {
-    fn between(&mut self) {
-        self.done = matches!(self.queue.try_put(&mut self.end, &[2, 3]), Ok(0));
-    }
-}
-
-/// In the pause, another end takes an item.
-#[derive(Drop)]
-struct Taking<'a> {
-    queue: &'a Four,
-    end: QueueEnd<4>,
-    done: bool,
-    ghost of: { IsEndOf queue.now end },
-}
-
-impl<'a> Pause for Taking<'a> {
-    fn between(&mut self) {
-        self.done = matches!(self.queue.try_take(&mut self.end), Ok(1));
-    }
-}
-
-/// In the pause, another end shuts the queue.
-#[derive(Drop)]
-struct Shutting<'a> {
-    queue: &'a Four,
-    end: QueueEnd<4>,
-    done: bool,
-    ghost of: { IsEndOf queue.now end },
-}
-
-impl<'a> Pause for Shutting<'a> {
-    fn between(&mut self) {
-        self.done = self.queue.shut(&mut self.end);
-    }
-}
-
-/// In the pause, another end puts an item and shuts the queue.
-#[derive(Drop)]
-struct PuttingAndShutting<'a> {
-    queue: &'a Four,
-    end: QueueEnd<4>,
-    done: bool,
-    ghost of: { IsEndOf queue.now end },
-}
-
-impl<'a> Pause for PuttingAndShutting<'a> {
-    fn between(&mut self) {
-        let put = matches!(self.queue.try_put(&mut self.end, &[2]), Ok(1));
-        self.done = self.queue.shut(&mut self.end) && put;
-    }
-}
 
 // The example of the crate's first page.
 #[test]
@@ -91,270 +30,250 @@ fn example(rt: HostRuntime) -> Result<(), Fail> {
     Ok(())
 }
 
+const ONE_END_ALONE: Script = Script {
+    first: 0,
+    acts: &[
+        Act::Put(&[10, 11], Ok(0)),
+        Act::Put(&[12, 13], Ok(2)),
+        Act::Put(&[14], Err(ClaimRefusal::Full { head: 4, tail: 0 })),
+        Act::Take(Ok(10)),
+        Act::Put(&[14], Ok(4)),
+        Act::Put(&[], Err(ClaimRefusal::NoItems)),
+        Act::Put(&[1, 2, 3, 4, 5], Err(ClaimRefusal::TooLong)),
+        Act::Take(Ok(11)),
+        Act::Take(Ok(12)),
+        Act::Take(Ok(13)),
+        Act::Take(Ok(14)),
+        Act::Take(Err(TakeRefusal::Empty { at: 5 })),
+        Act::Put(&[1, 2, 3, 4], Ok(5)),
+        Act::Put(&[5], Err(ClaimRefusal::Full { head: 9, tail: 5 })),
+    ],
+    put: 9,
+    taken: 5,
+    left: &[Some(1), Some(2), Some(3), Some(4)],
+};
+
+const RUNS_THAT_NEVER_FIT: Script = Script {
+    first: 0,
+    acts: &[
+        Act::Put(&[], Err(ClaimRefusal::NoItems)),
+        Act::Put(&[1, 2, 3, 4, 5], Err(ClaimRefusal::TooLong)),
+        Act::Take(Err(TakeRefusal::Empty { at: 0 })),
+    ],
+    put: 0,
+    taken: 0,
+    left: &[],
+};
+
+const SPENT_BEFORE_FULL: Script = Script {
+    first: 4_294_967_291,
+    acts: &[
+        Act::Put(&[1, 2, 3, 4], Ok(4_294_967_291)),
+        Act::Put(&[5], Err(ClaimRefusal::Spent)),
+    ],
+    put: 4,
+    taken: 0,
+    left: &[Some(1), Some(2), Some(3), Some(4)],
+};
+
+const PUT_ALONE: Script = Script {
+    first: 0,
+    acts: &[
+        Act::PutAgain(&[1], Ok(0)),
+        Act::PutAgain(&[1, 2, 3, 4, 5], Err(ClaimRefusal::TooLong)),
+    ],
+    put: 1,
+    taken: 0,
+    left: &[Some(1)],
+};
+
+const LAST_POSITIONS: Script = Script {
+    first: 4_294_967_292,
+    acts: &[
+        Act::Put(&[1, 2, 3, 4], Err(ClaimRefusal::Spent)),
+        Act::Put(&[1, 2, 3], Ok(4_294_967_292)),
+        Act::Put(&[4], Err(ClaimRefusal::Spent)),
+        Act::Take(Ok(1)),
+        Act::Take(Ok(2)),
+        Act::Take(Ok(3)),
+        Act::Take(Err(TakeRefusal::Empty { at: 4_294_967_295 })),
+        Act::Put(&[4], Err(ClaimRefusal::Spent)),
+    ],
+    put: 3,
+    taken: 3,
+    left: &[],
+};
+
+const LINES: Script = Script {
+    first: 0,
+    acts: &[
+        Act::Put(&[97, 10, 98], Ok(0)),
+        Act::Line(Ok(2), &[97, 10]),
+        Act::Line(Err(TakeRefusal::Empty { at: 3 }), &[]),
+        Act::Put(&[99, 100, 101], Ok(3)),
+        Act::Line(Ok(4), &[98, 99, 100, 101]),
+        Act::Line(Err(TakeRefusal::Empty { at: 6 }), &[]),
+    ],
+    put: 6,
+    taken: 6,
+    left: &[],
+};
+
+const SHUT_QUEUE: Script = Script {
+    first: 0,
+    acts: &[
+        Act::Put(&[1, 2], Ok(0)),
+        Act::Shut(true),
+        Act::Shut(false),
+        Act::Put(&[3], Err(ClaimRefusal::Closed)),
+        Act::Put(&[], Err(ClaimRefusal::NoItems)),
+        Act::Take(Ok(1)),
+        Act::Take(Ok(2)),
+        Act::Take(Err(TakeRefusal::Closed)),
+    ],
+    put: 2,
+    taken: 2,
+    left: &[],
+};
+
 #[test]
-fn one_end_alone(rt: HostRuntime) -> Result<(), Fail> {
-    let (queue, mut end) = Four::new(rt.alloc(), 0)?;
-    let end = &mut end;
-    assert!(rt; queue.try_put(end, &[10, 11]) == Ok(0));
-    assert!(rt; queue.try_put(end, &[12, 13]) == Ok(2));
-    assert!(rt; queue.try_put(end, &[14]) == Err(ClaimRefusal::Full { head: 4, tail: 0 }));
-    assert!(rt; queue.try_take(end) == Ok(10));
-    assert!(rt; queue.try_put(end, &[14]) == Ok(4));
-    assert!(rt; queue.try_put(end, &[]) == Err(ClaimRefusal::NoItems));
-    assert!(rt; queue.try_put(end, &[1, 2, 3, 4, 5]) == Err(ClaimRefusal::TooLong));
-    for item in 11..15u64 {
-        assert!(rt; queue.try_take(end) == Ok(item));
-    }
-    assert!(rt; queue.try_take(end) == Err(TakeRefusal::Empty { at: 5 }));
-    assert!(rt; queue.try_put(end, &[1, 2, 3, 4]) == Ok(5));
-    assert!(rt; queue.try_put(end, &[5]) == Err(ClaimRefusal::Full { head: 9, tail: 5 }));
-    Ok(())
+fn one_end_alone(rt: HostRuntime) {
+    plays(&rt, rt.alloc(), &ONE_END_ALONE);
 }
 
 #[test]
-fn runs_that_never_fit(rt: HostRuntime) -> Result<(), Fail> {
-    let (queue, mut end) = Four::new(rt.alloc(), 0)?;
-    assert!(rt; queue.try_put(&mut end, &[]) == Err(ClaimRefusal::NoItems));
-    assert!(rt; queue.try_put(&mut end, &[1, 2, 3, 4, 5]) == Err(ClaimRefusal::TooLong));
-    assert!(rt; queue.try_take(&mut end) == Err(TakeRefusal::Empty { at: 0 }));
-    Ok(())
+fn runs_that_never_fit(rt: HostRuntime) {
+    plays(&rt, rt.alloc(), &RUNS_THAT_NEVER_FIT);
 }
 
 #[test]
-fn spent_before_full(rt: HostRuntime) -> Result<(), Fail> {
-    let (queue, mut end) = Four::new(rt.alloc(), 4_294_967_291)?;
-    assert!(rt; queue.try_put(&mut end, &[1, 2, 3, 4]) == Ok(4_294_967_291));
-    assert!(rt; queue.try_put(&mut end, &[5]) == Err(ClaimRefusal::Spent));
-    Ok(())
+fn spent_before_full(rt: HostRuntime) {
+    plays(&rt, rt.alloc(), &SPENT_BEFORE_FULL);
 }
 
 #[test]
-fn put_alone(rt: HostRuntime) -> Result<(), Fail> {
-    let (queue, mut end) = Four::new(rt.alloc(), 0)?;
-    assert!(rt; queue.put(&rt, &mut end, &[1]) == Ok(0));
-    assert!(rt; queue.put(&rt, &mut end, &[1, 2, 3, 4, 5]) == Err(ClaimRefusal::TooLong));
-    Ok(())
+fn put_alone(rt: HostRuntime) {
+    plays(&rt, rt.alloc(), &PUT_ALONE);
 }
 
 #[test]
-fn last_positions(rt: HostRuntime) -> Result<(), Fail> {
-    let (queue, mut end) = Four::new(rt.alloc(), 4_294_967_292)?;
-    let end = &mut end;
-    assert!(rt; queue.try_put(end, &[1, 2, 3, 4]) == Err(ClaimRefusal::Spent));
-    assert!(rt; queue.try_put(end, &[1, 2, 3]) == Ok(4_294_967_292));
-    assert!(rt; queue.try_put(end, &[4]) == Err(ClaimRefusal::Spent));
-    for item in 1..4u64 {
-        assert!(rt; queue.try_take(end) == Ok(item));
-    }
-    assert!(rt; queue.try_take(end) == Err(TakeRefusal::Empty { at: 4_294_967_295 }));
-    assert!(rt; queue.try_put(end, &[4]) == Err(ClaimRefusal::Spent));
-    Ok(())
+fn last_positions(rt: HostRuntime) {
+    plays(&rt, rt.alloc(), &LAST_POSITIONS);
 }
 
 #[test]
-fn dropped_claim(rt: HostRuntime) -> Result<(), Fail> {
-    let (queue, mut end) = Four::new(rt.alloc(), 0)?;
+fn lines(rt: HostRuntime) {
+    plays(&rt, rt.alloc(), &LINES);
+}
+
+#[test]
+fn shut_queue(rt: HostRuntime) {
+    plays(&rt, rt.alloc(), &SHUT_QUEUE);
+}
+
+#[test]
+fn dropped_claim(rt: HostRuntime) {
+    let (queue, mut end) = new_four(&rt, rt.alloc(), 0);
     let Ok(mut claim) = queue.try_claim(&mut end, &[7, 8, 9]) else {
         panic!(rt; "claim")
     };
-    assert!(rt; queue.raise_next(&mut end, &mut claim));
-    assert!(rt; (claim.start(), claim.raised()) == (0, 1));
+    let raised = queue.raise_next(&mut end, &mut claim);
+    assert!(rt; (raised, claim.start(), claim.raised()) == (true, 0, 1));
     assert!(rt; claim.items() == [7, 8, 9].as_slice());
     drop(claim);
-    let Ok(closed) = queue.close(end) else {
-        panic!(rt; "close")
-    };
-    assert!(rt; (closed.first, closed.put, closed.taken) == (0, 3, 0));
-    assert!(rt; closed.left.as_slice() == [Some(7), None, None].as_slice());
-    Ok(())
+    closes(&rt, queue, end, (0, 3, 0), &[Some(7), None, None]);
 }
 
+/// While a claim has nothing raised, an item behind it is put, and none is taken.
+const BEHIND_A_CLAIM: [Act; 2] = [
+    Act::Put(&[3], Ok(2)),
+    Act::Take(Err(TakeRefusal::Empty { at: 0 })),
+];
+
+const ALL_RAISED: [Act; 4] = [
+    Act::Take(Ok(1)),
+    Act::Take(Ok(2)),
+    Act::Take(Ok(3)),
+    Act::Take(Err(TakeRefusal::Empty { at: 3 })),
+];
+
 #[test]
-fn raised_later_claim_first(rt: HostRuntime) -> Result<(), Fail> {
-    let (queue, mut a) = Four::new(rt.alloc(), 0)?;
+fn raised_later_claim_first(rt: HostRuntime) {
+    let (queue, mut a) = new_four(&rt, rt.alloc(), 0);
     let mut b = queue.split(&mut a);
     let Ok(mut first) = queue.try_claim(&mut a, &[1, 2]) else {
         panic!(rt; "claim")
     };
-    assert!(rt; queue.try_put(&mut b, &[3]) == Ok(2));
-    assert!(rt; queue.try_take(&mut b) == Err(TakeRefusal::Empty { at: 0 }));
-    assert!(rt; queue.raise_next(&mut a, &mut first));
-    assert!(rt; queue.raise_next(&mut a, &mut first));
-    assert!(rt; !queue.raise_next(&mut a, &mut first));
-    for item in 1..4u64 {
-        assert!(rt; queue.try_take(&mut a) == Ok(item));
-    }
-    assert!(rt; queue.try_take(&mut a) == Err(TakeRefusal::Empty { at: 3 }));
-    Ok(())
+    does(&rt, &queue, &mut b, &BEHIND_A_CLAIM);
+    let one = queue.raise_next(&mut a, &mut first);
+    let two = queue.raise_next(&mut a, &mut first);
+    let three = queue.raise_next(&mut a, &mut first);
+    assert!(rt; (one, two, three) == (true, true, false));
+    does(&rt, &queue, &mut a, &ALL_RAISED);
 }
 
 #[test]
-fn lost_head(rt: HostRuntime) -> Result<(), Fail> {
-    let (queue, mut a) = Four::new(rt.alloc(), 0)?;
-    let b = queue.split(&mut a);
-    let mut held = Putting {
-        queue: &queue,
-        end: b,
-        done: false,
-    };
-    let answer = queue.try_claim_paused(&mut a, &[1], &mut held);
-    assert!(rt; matches!(answer, Err(ClaimRefusal::Lost { head: 2 })));
-    assert!(rt; held.done);
-    assert!(rt; queue.try_put(&mut a, &[1]) == Ok(2));
-    assert!(rt; queue.try_take(&mut a) == Ok(2));
-    assert!(rt; queue.try_take(&mut a) == Ok(3));
-    assert!(rt; queue.try_take(&mut a) == Ok(1));
-    Ok(())
-}
-
-#[test]
-fn lost_tail(rt: HostRuntime) -> Result<(), Fail> {
-    let (queue, mut a) = Four::new(rt.alloc(), 0)?;
-    let b = queue.split(&mut a);
-    assert!(rt; queue.try_put(&mut a, &[1, 2]) == Ok(0));
-    let mut held = Taking {
-        queue: &queue,
-        end: b,
-        done: false,
-    };
-    let answer = queue.try_take_paused(&mut a, &mut held);
-    assert!(rt; answer == Err(TakeRefusal::Lost { tail: 1 }));
-    assert!(rt; held.done);
-    assert!(rt; queue.try_take(&mut a) == Ok(2));
-    assert!(rt; held.queue.try_take(&mut held.end) == Err(TakeRefusal::Empty { at: 2 }));
-    Ok(())
-}
-
-#[test]
-fn lines(rt: HostRuntime) -> Result<(), Fail> {
-    let (queue, mut end) = Four::new(rt.alloc(), 0)?;
-    let end = &mut end;
-    let mut line = ArrayVec::new();
-    assert!(rt; queue.try_put(end, &[97, 10, 98]) == Ok(0));
-    assert!(rt; queue.try_take_line(end, &mut line) == Ok(2));
-    assert!(rt; line.as_slice() == [97, 10].as_slice());
-    line.clear();
-    assert!(rt; queue.try_take_line(end, &mut line) == Err(TakeRefusal::Empty { at: 3 }));
-    assert!(rt; line.is_empty());
-    assert!(rt; queue.try_put(end, &[99, 100, 101]) == Ok(3));
-    assert!(rt; queue.try_take_line(end, &mut line) == Ok(4));
-    assert!(rt; line.as_slice() == [98, 99, 100, 101].as_slice());
-    line.clear();
-    assert!(rt; queue.try_take_line(end, &mut line) == Err(TakeRefusal::Empty { at: 6 }));
-    assert!(rt; line.is_empty());
-    Ok(())
-}
-
-#[test]
-fn open_ends(rt: HostRuntime) -> Result<(), Fail> {
-    let (queue, mut a) = Four::new(rt.alloc(), 0)?;
+fn open_ends(rt: HostRuntime) {
+    let (queue, mut a) = new_four(&rt, rt.alloc(), 0);
     let b = queue.split(&mut a);
     let Err((queue, mut a, open)) = queue.close(a) else {
         panic!(rt; "open")
     };
     assert!(rt; open.others == 1);
     queue.join(&mut a, b);
-    let Ok(closed) = queue.close(a) else {
-        panic!(rt; "close")
-    };
-    assert!(rt; (closed.first, closed.put, closed.taken, closed.left.len()) == (0, 0, 0, 0));
-    Ok(())
+    closes(&rt, queue, a, (0, 0, 0), &[]);
+}
+
+/// The number of the other ends, for which the queue isn't closed.
+fn must_be_open<R: Abort>(rt: &R, queue: Four, end: QueueEnd<4>) -> (Four, QueueEnd<4>, u64)
+    requires { IsEndOf queue end }
+    ensures { IsEndOf result.0 result.1 }
+{
+    match queue.close(end) {
+        Ok(_closed) => panic!(rt; "open"),
+        Err((queue, end, open)) => (queue, end, open.others),
+    }
 }
 
 #[test]
-fn dropped_end(rt: HostRuntime) -> Result<(), Fail> {
-    let (queue, mut a) = Four::new(rt.alloc(), 0)?;
+fn dropped_end(rt: HostRuntime) {
+    let (queue, mut a) = new_four(&rt, rt.alloc(), 0);
     drop(queue.split(&mut a));
-    let Err((queue, mut a, open)) = queue.close(a) else {
-        panic!(rt; "open")
-    };
-    assert!(rt; open.others == 1);
-    assert!(rt; queue.try_put(&mut a, &[1]) == Ok(0));
-    assert!(rt; queue.try_take(&mut a) == Ok(1));
-    let Err((_queue, _a, open)) = queue.close(a) else {
-        panic!(rt; "open")
-    };
-    assert!(rt; open.others == 1);
-    Ok(())
+    let (queue, mut a, before) = must_be_open(&rt, queue, a);
+    does(
+        &rt,
+        &queue,
+        &mut a,
+        &[Act::Put(&[1], Ok(0)), Act::Take(Ok(1))],
+    );
+    let (_queue, _a, after) = must_be_open(&rt, queue, a);
+    assert!(rt; (before, after) == (1, 1));
 }
 
+const BEHIND_A_CLAIM_OF_ONE: [Act; 3] = [
+    Act::Put(&[2, 3, 4], Ok(1)),
+    Act::Put(&[5], Err(ClaimRefusal::Full { head: 4, tail: 0 })),
+    Act::Take(Err(TakeRefusal::Empty { at: 0 })),
+];
+
 #[test]
-fn claim_never_raised(rt: HostRuntime) -> Result<(), Fail> {
-    let (queue, mut a) = Four::new(rt.alloc(), 0)?;
+fn claim_never_raised(rt: HostRuntime) {
+    let (queue, mut a) = new_four(&rt, rt.alloc(), 0);
     let mut b = queue.split(&mut a);
     drop(queue.try_claim(&mut a, &[1]));
-    assert!(rt; queue.try_put(&mut b, &[2, 3, 4]) == Ok(1));
-    assert!(rt; queue.try_put(&mut b, &[5]) == Err(ClaimRefusal::Full { head: 4, tail: 0 }));
-    assert!(rt; queue.try_take(&mut b) == Err(TakeRefusal::Empty { at: 0 }));
+    does(&rt, &queue, &mut b, &BEHIND_A_CLAIM_OF_ONE);
     queue.join(&mut a, b);
-    let Ok(closed) = queue.close(a) else {
-        panic!(rt; "close")
-    };
-    assert!(rt; (closed.put, closed.taken) == (4, 0));
-    assert!(rt; closed.left.as_slice() == [None, Some(2), Some(3), Some(4)].as_slice());
-    Ok(())
+    let left = [None, Some(2), Some(3), Some(4)];
+    closes(&rt, queue, a, (0, 4, 0), &left);
 }
 
 #[test]
-fn shut_queue(rt: HostRuntime) -> Result<(), Fail> {
-    let (queue, mut end) = Four::new(rt.alloc(), 0)?;
-    assert!(rt; queue.try_put(&mut end, &[1, 2]) == Ok(0));
-    assert!(rt; queue.shut(&mut end));
-    assert!(rt; !queue.shut(&mut end));
-    assert!(rt; queue.try_put(&mut end, &[3]) == Err(ClaimRefusal::Closed));
-    assert!(rt; queue.try_put(&mut end, &[]) == Err(ClaimRefusal::NoItems));
-    assert!(rt; queue.try_take(&mut end) == Ok(1));
-    assert!(rt; queue.try_take(&mut end) == Ok(2));
-    assert!(rt; queue.try_take(&mut end) == Err(TakeRefusal::Closed));
-    let Ok(closed) = queue.close(end) else {
-        panic!(rt; "close")
-    };
-    assert!(rt; (closed.put, closed.taken, closed.left.len()) == (2, 2, 0));
-    Ok(())
-}
-
-#[test]
-fn shut_in_the_pause(rt: HostRuntime) -> Result<(), Fail> {
-    let (queue, mut a) = Four::new(rt.alloc(), 0)?;
-    let b = queue.split(&mut a);
-    let mut held = Shutting {
-        queue: &queue,
-        end: b,
-        done: false,
-    };
-    let answer = queue.try_claim_paused(&mut a, &[1], &mut held);
-    assert!(rt; matches!(answer, Err(ClaimRefusal::Closed)));
-    assert!(rt; held.done);
-    Ok(())
-}
-
-#[test]
-fn closed_when_all_is_taken(rt: HostRuntime) -> Result<(), Fail> {
-    let (queue, mut a) = Four::new(rt.alloc(), 0)?;
-    let b = queue.split(&mut a);
-    assert!(rt; queue.try_put(&mut a, &[1]) == Ok(0));
-    let mut held = PuttingAndShutting {
-        queue: &queue,
-        end: b,
-        done: false,
-    };
-    let answer = queue.try_take_paused(&mut a, &mut held);
-    assert!(rt; answer == Ok(1));
-    assert!(rt; held.done);
-    assert!(rt; queue.try_take(&mut a) == Ok(2));
-    assert!(rt; queue.try_take(&mut a) == Err(TakeRefusal::Closed));
-    let mut line = ArrayVec::new();
-    assert!(rt; queue.try_take_line(&mut a, &mut line) == Err(TakeRefusal::Closed));
-    Ok(())
-}
-
-#[test]
-fn shut_over_a_claim(rt: HostRuntime) -> Result<(), Fail> {
-    let (queue, mut end) = Four::new(rt.alloc(), 0)?;
+fn shut_over_a_claim(rt: HostRuntime) {
+    let (queue, mut end) = new_four(&rt, rt.alloc(), 0);
     drop(queue.try_claim(&mut end, &[9]));
-    assert!(rt; queue.shut(&mut end));
-    assert!(rt; queue.try_take(&mut end) == Err(TakeRefusal::Empty { at: 0 }));
-    Ok(())
+    let was_open = queue.shut(&mut end);
+    let none = queue.try_take(&mut end);
+    assert!(rt; (was_open, none) == (true, Err(TakeRefusal::Empty { at: 0 })));
 }
 
 /// Where all ends are joined, the queue is closed: that no other answer comes is proved, not tried.
@@ -371,10 +290,11 @@ fn split_and_joined(alloc: Global) -> Result<Closed<4>, OutOfMemory> {
 }
 
 #[test]
-fn joined_ends_close(rt: HostRuntime) -> Result<(), Fail> {
-    let closed = split_and_joined(rt.alloc())?;
+fn joined_ends_close(rt: HostRuntime) {
+    let Ok(closed) = split_and_joined(rt.alloc()) else {
+        panic!(rt; "no memory")
+    };
     assert!(rt; (closed.first, closed.put, closed.taken, closed.left.len()) == (7, 0, 0, 0));
-    Ok(())
 }
 
 /// Where an allocation is refused there is no queue, and a later try makes one.
@@ -384,8 +304,12 @@ fn memory_may_be_wanting(rt: HostRuntime) {
     for _ in 0..3 {
         match Four::new(rt.alloc(), 0) {
             Ok((queue, mut end)) => {
-                assert!(rt; queue.try_put(&mut end, &[1]) == Ok(0));
-                assert!(rt; queue.try_take(&mut end) == Ok(1));
+                does(
+                    &rt,
+                    &queue,
+                    &mut end,
+                    &[Act::Put(&[1], Ok(0)), Act::Take(Ok(1))],
+                );
                 made = true;
             }
             Err(error) => assert!(rt; error == OutOfMemory),

@@ -4,7 +4,8 @@ ghost use Rattle.claim_queue.specs.Handles.{IsEndOf};
 
 use arrayvec::ArrayVec;
 use claim_queue::*;
-use std::alloc::{AllocError, Global};
+use std::alloc::Global;
+use std::process::Abort;
 use std::sync::Wait;
 use std::test::*;
 use std::thread;
@@ -182,38 +183,60 @@ fn feed_and_drain<R: Threads + Wait + Sync>(
     )
 }
 
-fn nothing_had(alloc: Global) -> Result<Had, AllocError> {
-    Ok(Had {
-        times: Vec::from_elem(alloc, 0u64, 40_000)?,
+fn nothing_had<R: Abort>(rt: &R, alloc: Global) -> Had {
+    let Ok(times) = Vec::from_elem(alloc, 0u64, 40_000) else {
+        panic!(rt; "no memory")
+    };
+    Had {
+        times,
         in_order: true,
-    })
+    }
 }
 
-#[test]
-fn two_put_and_two_take(rt: HostRuntime) -> Result<(), Fail> {
-    let alloc = rt.alloc();
-    let (queue, mut last) = Lines::new(alloc, 0)?;
-    let a = queue.split(&mut last);
-    let b = queue.split(&mut last);
-    let one = (queue.split(&mut last), nothing_had(alloc)?);
-    let other = (queue.split(&mut last), nothing_had(alloc)?);
-    let (last, (one, other)) = feed_and_drain(&rt, &queue, (last, a, b), one, other);
+/// How many lines came once, to one of the two takers.
+fn came_once(one: &Had, other: &Had) -> u64 {
+    let mut once = 0u64;
+    for (mine, theirs) in one.times.iter().zip(other.times.iter()) {
+        if mine.wrapping_add(*theirs) == 1 {
+            once = once.wrapping_add(1);
+        }
+    }
+    once
+}
+
+/// The queue is closed with its last three ends, and nothing is left in it.
+fn closes<R: Abort>(
+    rt: &R,
+    queue: Lines,
+    last: QueueEnd<64>,
+    one: QueueEnd<64>,
+    other: QueueEnd<64>,
+)
+    requires { IsEndOf queue last × IsEndOf queue one × IsEndOf queue other }
+{
     let mut last = last;
-    let (one, had) = one;
-    let (other, more) = other;
     queue.join(&mut last, one);
     queue.join(&mut last, other);
     let Ok(closed) = queue.close(last) else {
         panic!(rt; "close")
     };
     assert!(rt; (closed.put, closed.left.len()) == (closed.taken, 0));
+}
+
+#[test]
+fn two_put_and_two_take(rt: HostRuntime) {
+    let alloc = rt.alloc();
+    let Ok((queue, mut last)) = Lines::new(alloc, 0) else {
+        panic!(rt; "no memory")
+    };
+    let a = queue.split(&mut last);
+    let b = queue.split(&mut last);
+    let one = (queue.split(&mut last), nothing_had(&rt, alloc));
+    let other = (queue.split(&mut last), nothing_had(&rt, alloc));
+    let (last, (one, other)) = feed_and_drain(&rt, &queue, (last, a, b), one, other);
+    let (one, had) = one;
+    let (other, more) = other;
+    closes(&rt, queue, last, one, other);
     assert!(rt; had.in_order && more.in_order);
-    let mut once = 0u64;
-    for (mine, theirs) in had.times.iter().zip(more.times.iter()) {
-        if mine.wrapping_add(*theirs) == 1 {
-            once = once.wrapping_add(1);
-        }
-    }
-    assert!(rt; once == 40_000);
-    Ok(())
+    assert!(rt; came_once(&had, &more) == 40_000);
 }

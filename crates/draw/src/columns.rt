@@ -26,7 +26,7 @@ pub(crate) const MOST_LETTERS: usize = 36;
 const LEGEND: u32 = 752;
 
 /// The columns, each by its left side.
-#[derive(Debug, Drop)]
+#[derive(Drop)]
 pub(crate) struct Columns {
     pub(crate) queues: Items<QueueColumn>,
     pub(crate) chains: Items<u32>,
@@ -38,7 +38,7 @@ pub(crate) struct Columns {
 }
 
 /// A queue's column: its left side, how many places it has, and how wide each of them is.
-#[derive(Clone, Copy, Debug)]
+#[derive(Clone, Copy)]
 pub(crate) struct QueueColumn {
     pub(crate) left: u32,
     pub(crate) places: u16,

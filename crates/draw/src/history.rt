@@ -14,7 +14,7 @@ use std::alloc::Global;
 pub(crate) const MOST_ROWS: usize = 200;
 
 /// An event that was allowed, by its line, and what it led to.
-#[derive(Debug, Drop)]
+#[derive(Drop)]
 pub(crate) struct Row {
     pub(crate) line: u32,
     /// The state after the event.
@@ -24,7 +24,7 @@ pub(crate) struct Row {
 }
 
 /// The last rows of a list of events, how many were allowed in all, and how it ends.
-#[derive(Debug, Drop)]
+#[derive(Drop)]
 pub(crate) struct History {
     pub(crate) rows: Vec<Row>,
     pub(crate) allowed: usize,

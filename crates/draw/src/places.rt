@@ -6,7 +6,7 @@ use quaject_core::{Call, Event, Items, OutOfMemory, QueueName};
 use std::alloc::Global;
 
 /// An item that was claimed: by which call, as which one of which run, and whether it is raised.
-#[derive(Clone, Copy, Debug, PartialEq, Eq)]
+#[derive(Clone, Copy)]
 pub(crate) struct Seat {
     pub(crate) call: Call,
     pub(crate) run: usize,
@@ -15,7 +15,7 @@ pub(crate) struct Seat {
 }
 
 /// All items of one queue that were ever claimed, in claim order, and the call of each run.
-#[derive(Debug, Drop)]
+#[derive(Drop)]
 pub(crate) struct Tape {
     calls: Vec<Call>,
     seats: Vec<Seat>,
@@ -69,7 +69,7 @@ impl Tape {
 }
 
 /// The byte queues, by their numbers.
-#[derive(Debug, Drop)]
+#[derive(Drop)]
 pub(crate) struct Tapes {
     tapes: Vec<Tape>,
 }

@@ -24,7 +24,7 @@ const USAGE_FAULT: u8 = 2;
 const BUFFER: usize = 65_537;
 
 /// How a run has ended.
-#[derive(Debug, Drop)]
+#[derive(Drop)]
 pub struct Ended {
     /// The exit status.
     pub status: u8,

@@ -13,7 +13,7 @@ pub(crate) const BOX: u32 = 18;
 const ROOM_FOR_NUMBER: u32 = 20;
 
 /// A place of a queue.
-#[derive(Clone, Copy, Debug, PartialEq, Eq)]
+#[derive(Clone, Copy)]
 pub(crate) enum PlaceState {
     /// Never claimed.
     Free,

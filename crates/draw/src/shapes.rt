@@ -9,7 +9,7 @@ use quaject_core::Items;
 use std::fmt;
 
 /// A colour. Those of states are told apart by readers who see fewer colours too (Okabe and Ito, 2008).
-#[derive(Clone, Copy, Debug, PartialEq, Eq)]
+#[derive(Clone, Copy)]
 pub enum Colour {
     Ink,
     Dim,
@@ -30,24 +30,24 @@ impl fmt::Display for Colour {
     ghost output = { λ colour. Some (colour_code colour) };
 
     fn fmt<W: fmt::Write>(&self, f: &mut fmt::Formatter<W>) -> fmt::Result {
-        match self {
-            Colour::Ink => write!(f, "#222222"),
-            Colour::Dim => write!(f, "#767676"),
-            Colour::Faint => write!(f, "#e4e4e4"),
-            Colour::White => write!(f, "#ffffff"),
-            Colour::Grey => write!(f, "#cccccc"),
-            Colour::Orange => write!(f, "#f0b040"),
-            Colour::Sky => write!(f, "#7cc6f0"),
-            Colour::Green => write!(f, "#40b890"),
-            Colour::Yellow => write!(f, "#f4e85c"),
-            Colour::Pink => write!(f, "#dc9cbc"),
-            Colour::Red => write!(f, "#c03a00"),
-        }
+        f.write_str(match self {
+            Colour::Ink => "#222222",
+            Colour::Dim => "#767676",
+            Colour::Faint => "#e4e4e4",
+            Colour::White => "#ffffff",
+            Colour::Grey => "#cccccc",
+            Colour::Orange => "#f0b040",
+            Colour::Sky => "#7cc6f0",
+            Colour::Green => "#40b890",
+            Colour::Yellow => "#f4e85c",
+            Colour::Pink => "#dc9cbc",
+            Colour::Red => "#c03a00",
+        })
     }
 }
 
 /// Where the point of a text lies: at its start, or in its middle.
-#[derive(Clone, Copy, Debug, PartialEq, Eq)]
+#[derive(Clone, Copy)]
 pub enum Anchor {
     Start,
     Middle,
@@ -59,15 +59,15 @@ impl fmt::Display for Anchor {
     ghost output = { λ anchor. Some (anchor_code anchor) };
 
     fn fmt<W: fmt::Write>(&self, f: &mut fmt::Formatter<W>) -> fmt::Result {
-        match self {
-            Anchor::Start => write!(f, "start"),
-            Anchor::Middle => write!(f, "middle"),
-        }
+        f.write_str(match self {
+            Anchor::Start => "start",
+            Anchor::Middle => "middle",
+        })
     }
 }
 
 /// A part of a picture.
-#[derive(Debug, Drop)]
+#[derive(Drop)]
 pub enum Shape {
     /// A box with a border.
     Cell {
@@ -106,7 +106,7 @@ pub enum Shape {
 }
 
 /// A picture: its size, its title, and its parts, later ones upon earlier ones.
-#[derive(Debug, Drop)]
+#[derive(Drop)]
 pub struct Picture {
     pub width: u32,
     pub height: u32,

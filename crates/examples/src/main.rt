@@ -1,16 +1,40 @@
 //! Replays each example and compares what is printed with the status that lies beside it, and so each row of the
-//! table of events and refusals.
+//! table of events and refusals. Reads each text of the tables of faults, and compares what is told of it.
 #![tactic(auto)]
 
+mod faults;
+
 use boot_script::{ReplayFault, Replayed, replay_on};
+use faults::{TABLES, compare_faults};
 use std::alloc::Global;
 use std::process::ExitCode;
 use std::{fs, io};
 
-/// The table of events and refusals. Each other file is NAME.events, a list of events, or NAME.status, what it prints.
+/// The table of events and refusals. Each file beside the tables is NAME.events, a list of events, or NAME.status, what
+/// it prints.
 const ROWS: &str = "rows.txt";
 
-/// Replays a list, and answers whether it prints what is wanted. Tells under which name where it doesn't.
+/// Whether the answer of a replay says what is printed: which event was refused, that none was, or nothing at all.
+fn is_as_answered(
+    alloc: Global,
+    replayed: &Result<Replayed, ReplayFault>,
+    printed: &[u8],
+) -> io::Result<bool> {
+    Ok(match replayed {
+        Ok(Replayed::AllAllowed) => !printed
+            .split(|byte| *byte == b'\n')
+            .any(|line| line.starts_with(b"refused ")),
+        Ok(Replayed::Refused { line, refusal }) => {
+            let number = *refusal as u8;
+            let last = format!(in alloc; "\nrefused {line} {number} {refusal}\n")?;
+            printed.ends_with(last.as_bytes())
+        }
+        Err(_) => printed.is_empty(),
+    })
+}
+
+/// Replays a list, and answers whether it is read to its end, prints what is wanted and answers so. Tells under which
+/// name where it doesn't.
 fn is_as_printed(
     rt: &HostRuntime,
     name: &str,
@@ -20,7 +44,8 @@ fn is_as_printed(
     let mut reader = events;
     let mut printed = Vec::new(rt.alloc());
     let replayed = replay_on(rt.alloc(), &mut reader, &mut printed);
-    if printed.as_slice() == wanted {
+    let answered = is_as_answered(rt.alloc(), &replayed, wanted)?;
+    if answered && reader.is_empty() && printed.as_slice() == wanted {
         return Ok((true, replayed));
     }
     let text = String::from_utf8_lossy(rt.alloc(), &printed)?;
@@ -109,7 +134,7 @@ fn files(rt: &HostRuntime) -> io::Result<Vec<String>> {
     Ok(names)
 }
 
-/// Replays the example that a file has the list of events of. Another file has to be the status of such a list or the
+/// Replays the example that a file has the list of events of. Another file has to be the status of such a list or a
 /// table; one that is neither is told, and the answer is then false.
 fn compare_file(rt: &HostRuntime, file: &str) -> io::Result<bool> {
     if let Some(name) = file.strip_suffix(".events") {
@@ -120,16 +145,20 @@ fn compare_file(rt: &HostRuntime, file: &str) -> io::Result<bool> {
             return Ok(true);
         }
     }
-    if file != ROWS {
+    let is_table = file == ROWS || TABLES.contains(&file);
+    if !is_table {
         println!(rt; "{file}: no example has this file")?;
     }
-    Ok(file == ROWS)
+    Ok(is_table)
 }
 
 fn compare_all(rt: &HostRuntime) -> io::Result<bool> {
     let mut same = true;
     for file in &files(rt)? {
         same = compare_file(rt, file.as_str())? && same;
+    }
+    for table in TABLES {
+        same = compare_faults(rt, table)? && same;
     }
     Ok(compare_rows(rt)? && same)
 }

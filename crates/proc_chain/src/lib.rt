@@ -4,21 +4,13 @@
 
 mod between;
 mod chaining;
-#[cfg(test)]
-mod client_tests;
 mod close;
 mod ends;
-#[cfg(test)]
-mod place_tests;
 mod plays;
 mod quaject;
 mod rule;
 mod serve;
 mod steps;
-#[cfg(test)]
-mod tests;
-#[cfg(test)]
-mod thread_tests;
 mod word;
 
 pub use between::between_steps;

@@ -56,24 +56,24 @@ impl fmt::Display for Refusal {
     ghost output = { λ refusal. Some (refusal_name refusal) };
 
     fn fmt<W: fmt::Write>(&self, f: &mut fmt::Formatter<W>) -> fmt::Result {
-        match self {
-            Refusal::UnknownName => write!(f, "UnknownName"),
-            Refusal::NoItems => write!(f, "NoItems"),
-            Refusal::TooLong => write!(f, "TooLong"),
-            Refusal::Full => write!(f, "Full"),
-            Refusal::NotOwner => write!(f, "NotOwner"),
-            Refusal::AlreadyRaised => write!(f, "AlreadyRaised"),
-            Refusal::NotRaised => write!(f, "NotRaised"),
-            Refusal::NotHeld => write!(f, "NotHeld"),
-            Refusal::ProcessorBusy => write!(f, "ProcessorBusy"),
-            Refusal::ProcessorEmpty => write!(f, "ProcessorEmpty"),
-            Refusal::NotStopped => write!(f, "NotStopped"),
-            Refusal::GateBusy => write!(f, "GateBusy"),
-            Refusal::NotRunner => write!(f, "NotRunner"),
-            Refusal::OutOfMemory => write!(f, "OutOfMemory"),
-            Refusal::Closed => write!(f, "Closed"),
-            Refusal::Moved => write!(f, "Moved"),
-        }
+        f.write_str(match self {
+            Refusal::UnknownName => "UnknownName",
+            Refusal::NoItems => "NoItems",
+            Refusal::TooLong => "TooLong",
+            Refusal::Full => "Full",
+            Refusal::NotOwner => "NotOwner",
+            Refusal::AlreadyRaised => "AlreadyRaised",
+            Refusal::NotRaised => "NotRaised",
+            Refusal::NotHeld => "NotHeld",
+            Refusal::ProcessorBusy => "ProcessorBusy",
+            Refusal::ProcessorEmpty => "ProcessorEmpty",
+            Refusal::NotStopped => "NotStopped",
+            Refusal::GateBusy => "GateBusy",
+            Refusal::NotRunner => "NotRunner",
+            Refusal::OutOfMemory => "OutOfMemory",
+            Refusal::Closed => "Closed",
+            Refusal::Moved => "Moved",
+        })
     }
 }
 

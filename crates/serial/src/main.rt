@@ -14,7 +14,8 @@ use std::thread::Threads;
 
 const FIRST: &[u8] = b"the first port says\nthat all is well\n";
 
-const SECOND: &[u8] = b"the second\nsays so\ntoo\n";
+const SECOND: &[u8] =
+    b"the second\nsays so\ntoo, and what stands behind the 64th byte of a line is left out, as these words are\n";
 
 /// Why a run ends early.
 type Fault = &'static str;
@@ -48,6 +49,3 @@ fn main(rt: HostRuntime) -> ExitCode {
         }
     }
 }
-
-#[cfg(test)]
-mod tests;

@@ -1,5 +1,6 @@
 //! A line of text, as the queue has it.
-ghost use Rattle.std.specs.Prelude.{◌≡◌, [], ◌∷◌, ◌++◌, IfSome};
+ghost use Rattle.std.specs.Prelude.{◌≡◌, [], ◌∷◌, ◌++◌, ◌<◌, IfSome, IsSome, false, length, nat_eq};
+ghost use Rattle.std.specs.List.{list_any};
 ghost use Rattle.spooler.specs.Wholes.{IsWhole};
 
 use arrayvec::ArrayVec;
@@ -17,7 +18,8 @@ pub struct Line {
 impl Line {
     /// The line with this text, and an end behind it. None where the text has more than 63 bytes, or an end of a line.
     pub fn of(text: &[u8]) -> Option<Line>
-        ensures { IfSome result (λ line. line.items.items ≡ text.now ++ 10 ∷ []) }
+        ensures text { IfSome result (λ line. line.items.items ≡ text.now ++ 10 ∷ []) }
+        ensures given { length text.now < 64 → list_any (λ byte. nat_eq byte 10) text.now ≡ false → IsSome result }
     {
         if text.len() >= 64 || text.contains(&END) {
             return None;

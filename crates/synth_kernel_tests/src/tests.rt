@@ -1,11 +1,10 @@
-//! Whole boots, from their scripts to their reports.
+//! Boots with gates, of each number of turns, with streams that are handed over, and where memory is refused. The built
+//! program boots more scripts, and all kinds of them, in `tools/test-boots` and `tools/test-program`.
 
-mod crowds;
-mod faults;
 mod gates;
 mod memory;
 mod passes;
-mod rows;
+mod streams;
 
 use std::alloc::Global;
 use std::process::Abort;

@@ -33,6 +33,3 @@ fn main(rt: HostRuntime) -> ExitCode {
         Err(_) => usage(&mut rt.stderr()),
     })
 }
-
-#[cfg(test)]
-mod tests;

@@ -1,6 +1,8 @@
-//! Tests in tables: lists of events that are read or refused, what is printed, and whole replays.
+//! Tests of what no table of texts can say: what is read, readers and writers that fail, and statuses and reports that
+//! are made of parts. `examples` has the tables.
 
 use std::alloc::Global;
+use std::fmt::Debug;
 use std::io;
 use std::io::Write;
 
@@ -41,4 +43,13 @@ impl Write for Counted {
     fn flush(&mut self) -> io::Result<()> {
         Ok(())
     }
+}
+
+/// Whether `{:?}` writes a value so.
+fn shows<T: Debug>(alloc: Global, value: &T, wanted: &str) -> bool {
+    format!(in alloc; "{value:?}").is_ok_and(|text| text.as_str() == wanted)
+}
+
+fn lines_of(bytes: &[u8]) -> usize {
+    bytes.iter().filter(|byte| **byte == b'\n').count()
 }

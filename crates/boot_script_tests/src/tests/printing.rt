@@ -1,15 +1,20 @@
 //! What is printed of a core, and of faults.
 
-use super::Counted;
+use super::{Counted, lines_of};
 use boot_script::*;
 use quaject_core::{
     AlarmStatus, Call, ChainStatus, ElementStatus, Gate, Items, Place, Processor, QueueStatus,
-    Refusal, Status, WaitNumber,
+    Status, WaitNumber,
 };
 use std::alloc::Global;
+use std::fmt::Display;
 use std::io;
 use std::io::{ErrorKind, Write};
-use std::test::Fail;
+
+/// Whether `{}` writes a value so.
+fn reads<T: Copy + Display>(alloc: Global, value: T, wanted: &str) -> bool {
+    format!(in alloc; "{value}").is_ok_and(|text| text.as_str() == wanted)
+}
 
 /// A page that takes no memory, and takes one byte a call. It fails at one call.
 #[derive(Drop)]
@@ -56,6 +61,13 @@ impl Page {
     }
 }
 
+/// What is written of a status where one call fails, and whether none failed.
+fn printed(status: &Status, fails_at: u32) -> (Page, bool) {
+    let mut page = Page::new(fails_at);
+    let all = print_status(status, &mut page).is_ok();
+    (page, all)
+}
+
 fn queue_status(capacity: u16, put: u64, taken: u64, shut: bool) -> QueueStatus {
     QueueStatus {
         capacity,
@@ -86,17 +98,28 @@ fn element_status(place: Place, done: u32, pending: u16, stop: bool) -> ElementS
     }
 }
 
-/// A status with lines of each kind.
-fn full_status(alloc: Global) -> Result<Status, Fail> {
+const ALARMS: AlarmStatus = AlarmStatus {
+    set: 3,
+    fired: 2,
+    cancelled: 1,
+};
+
+fn full_queues(alloc: Global) -> Option<Items<QueueStatus>> {
     let queues = [queue_status(4, 8, 1, false), queue_status(256, 0, 0, true)];
+    Some(Items::new(Vec::from_slice(alloc, &queues).ok()?))
+}
+
+fn full_chains(alloc: Global) -> Option<Items<ChainStatus>> {
     let chains = [
         chain_status(1, 0, Gate::Idle),
         chain_status(2, 1, Gate::Running),
         chain_status(40, 40, Gate::More),
     ];
-    let processor = Processor::new(3).ok_or("no processor")?;
-    let wait = WaitNumber::new(15).ok_or("no wait queue")?;
-    let call = Call::new(63).ok_or("no call")?;
+    Some(Items::new(Vec::from_slice(alloc, &chains).ok()?))
+}
+
+fn full_elements(alloc: Global) -> Option<Items<ElementStatus>> {
+    let (processor, wait, call) = (Processor::new(3)?, WaitNumber::new(15)?, Call::new(63)?);
     let elements = [
         element_status(Place::Free, 0, 0, false),
         element_status(Place::Free, 1, 0, false),
@@ -108,18 +131,19 @@ fn full_status(alloc: Global) -> Result<Status, Fail> {
         element_status(Place::Stopped, 2, 0x0F19, true),
         element_status(Place::Held(call), 0, 0, false),
     ];
-    Ok(Status {
+    Some(Items::new(Vec::from_slice(alloc, &elements).ok()?))
+}
+
+/// A status with lines of each kind.
+fn full_status(alloc: Global) -> Option<Status> {
+    Some(Status {
         events: 18_446_744_073_709_551_615,
-        queues: Items::new(Vec::from_slice(alloc, &queues)?),
-        chains: Items::new(Vec::from_slice(alloc, &chains)?),
-        elements: Items::new(Vec::from_slice(alloc, &elements)?),
+        queues: full_queues(alloc)?,
+        chains: full_chains(alloc)?,
+        elements: full_elements(alloc)?,
         gauges: [0, 7, 0, 0, 0, 0, 0, 18_446_744_073_709_551_615],
         clock: 9,
-        alarms: AlarmStatus {
-            set: 3,
-            fired: 2,
-            cancelled: 1,
-        },
+        alarms: ALARMS,
         notified: [1, 0, 0, 0, 0, 0, 0, 0, 0, 0, 0, 0, 0, 0, 0, 4_294_967_295],
     })
 }
@@ -147,43 +171,44 @@ notified w15 4294967295
 ";
 
 #[test]
-fn a_write_may_fail_at_each_call(rt: HostRuntime) -> Result<(), Fail> {
-    let status = full_status(rt.alloc())?;
-    let calls = u32::try_from(FULL_STATUS.len()).map_err(|_| "too long")?;
+fn a_write_may_fail_at_each_call(rt: HostRuntime) {
+    let Some(status) = full_status(rt.alloc()) else {
+        panic!(rt; "no status")
+    };
     for fails_at in 1..900 {
-        let mut page = Page::new(fails_at);
-        let printed = print_status(&status, &mut page).is_ok();
-        assert!(rt; printed == (fails_at > calls));
-        assert!(rt; FULL_STATUS.starts_with(page.text()));
-        assert!(rt; printed == (page.text() == FULL_STATUS));
+        let (page, all) = printed(&status, fails_at);
+        let count = FULL_STATUS.len().min(fails_at as usize - 1);
+        assert!(rt; all == (count == FULL_STATUS.len()));
+        assert!(rt; page.text() == &FULL_STATUS[..count]);
     }
-    Ok(())
 }
 
+const LONGEST_QUEUE: QueueStatus = QueueStatus {
+    capacity: u16::MAX,
+    runs: u64::MAX,
+    put: u64::MAX,
+    taken: u64::MAX,
+    left: u64::MAX,
+    raised: u64::MAX,
+    shut: true,
+};
+
+const LONGEST_CHAIN: ChainStatus = ChainStatus {
+    put: u64::MAX,
+    taken: u64::MAX,
+    left: u64::MAX,
+    gate: Gate::Running,
+};
+
 /// As many queues as this, as many of all else as a core can have, and each number at its greatest.
-fn longest_status(alloc: Global, queues: usize) -> Result<Status, Fail> {
-    let queue = QueueStatus {
-        capacity: u16::MAX,
-        runs: u64::MAX,
-        put: u64::MAX,
-        taken: u64::MAX,
-        left: u64::MAX,
-        raised: u64::MAX,
-        shut: true,
-    };
-    let chain = ChainStatus {
-        put: u64::MAX,
-        taken: u64::MAX,
-        left: u64::MAX,
-        gate: Gate::Running,
-    };
-    let processor = Processor::new(7).ok_or("no processor")?;
-    let element = element_status(Place::Processor(processor), u32::MAX, u16::MAX, true);
-    Ok(Status {
+fn longest_status(alloc: Global, queues: usize) -> Option<Status> {
+    let place = Place::Processor(Processor::new(7)?);
+    let element = element_status(place, u32::MAX, u16::MAX, true);
+    Some(Status {
         events: u64::MAX,
-        queues: Items::new(vec![in alloc; queue; queues]?),
-        chains: Items::new(vec![in alloc; chain; 8]?),
-        elements: Items::new(vec![in alloc; element; 64]?),
+        queues: Items::new(vec![in alloc; LONGEST_QUEUE; queues].ok()?),
+        chains: Items::new(vec![in alloc; LONGEST_CHAIN; 8].ok()?),
+        elements: Items::new(vec![in alloc; element; 64].ok()?),
         gauges: [u64::MAX; 8],
         clock: u32::MAX,
         alarms: AlarmStatus {
@@ -195,94 +220,89 @@ fn longest_status(alloc: Global, queues: usize) -> Result<Status, Fail> {
     })
 }
 
-fn lines_of(bytes: &[u8]) -> usize {
-    bytes.iter().filter(|byte| **byte == b'\n').count()
+/// The writes of the longest status with so many queues.
+fn longest_printed(alloc: Global, queues: usize) -> Option<Counted> {
+    let status = longest_status(alloc, queues)?;
+    let mut out = Counted::new(alloc);
+    print_status(&status, &mut out).ok()?;
+    Some(out)
 }
 
 /// The longest status that a core can have is one write.
 #[test]
-fn a_status_is_one_write(rt: HostRuntime) -> Result<(), Fail> {
-    let status = longest_status(rt.alloc(), 8)?;
-    let mut out = Counted::new(rt.alloc());
-    assert!(rt; print_status(&status, &mut out).is_ok());
+fn a_status_is_one_write(rt: HostRuntime) {
+    let Some(out) = longest_printed(rt.alloc(), 8) else {
+        panic!(rt; "not printed")
+    };
     assert!(rt; (out.writes, out.whole) == (1, 1));
     assert!(rt; lines_of(&out.bytes) == 107);
     assert!(rt; out.bytes.ends_with(b"notified w15 4294967295\n"));
-    Ok(())
 }
 
-/// A status that no core has may be longer than a page. It goes in pieces, and none is lost.
-#[test]
-fn a_longer_status_is_written_whole(rt: HostRuntime) -> Result<(), Fail> {
-    let status = longest_status(rt.alloc(), 100)?;
-    let mut out = Counted::new(rt.alloc());
-    assert!(rt; print_status(&status, &mut out).is_ok());
-    let mut front = Vec::from_slice(rt.alloc(), b"events 18446744073709551615\n")?;
-    let most = "18446744073709551615";
-    for number in 0..100 {
+/// The lines of the events and of so many queues.
+fn longest_front(alloc: Global, queues: usize) -> io::Result<Vec<u8>> {
+    let mut front = Vec::from_slice(alloc, b"events 18446744073709551615\n")?;
+    let most = u64::MAX;
+    for number in 0..queues {
         writeln!(
             front,
             "queue q{number} capacity 65535 runs {most} put {most} taken {most} left {most} raised {most} shut"
         )?;
     }
+    Ok(front)
+}
+
+/// A status that no core has may be longer than a page. It goes in pieces, and none is lost.
+#[test]
+fn a_longer_status_is_written_whole(rt: HostRuntime) {
+    let Some(out) = longest_printed(rt.alloc(), 100) else {
+        panic!(rt; "not printed")
+    };
+    let Ok(front) = longest_front(rt.alloc(), 100) else {
+        panic!(rt; "no memory")
+    };
     assert!(rt; out.bytes.starts_with(&front));
     assert!(rt; lines_of(&out.bytes) == 199);
     assert!(rt; out.bytes.ends_with(b"notified w15 4294967295\n"));
-    Ok(())
 }
 
-#[test]
-fn a_first_status_has_one_line(rt: HostRuntime) {
-    let status = Status {
-        events: 0,
-        queues: Items::new(Vec::new(rt.alloc())),
-        chains: Items::new(Vec::new(rt.alloc())),
-        elements: Items::new(Vec::new(rt.alloc())),
-        gauges: [0; 8],
-        clock: 0,
-        alarms: AlarmStatus {
-            set: 0,
-            fired: 0,
-            cancelled: 0,
-        },
-        notified: [0; 16],
-    };
-    let mut page = Page::new(0);
-    assert!(rt; print_status(&status, &mut page).is_ok());
-    assert!(rt; print_refused(18, Refusal::NotRaised, &mut page).is_ok());
-    assert!(rt; page.text() == b"events 0\nrefused 18 7 NotRaised\n".as_slice());
-}
+const REFUSALS: &[(ScriptRefusal, u8, &str)] = &[
+    (ScriptRefusal::NotVersion, 1, "NotVersion"),
+    (ScriptRefusal::UnknownWord, 2, "UnknownWord"),
+    (ScriptRefusal::BadNumber, 3, "BadNumber"),
+    (ScriptRefusal::BadName, 4, "BadName"),
+    (ScriptRefusal::NameTwice, 5, "NameTwice"),
+    (ScriptRefusal::NameUnknown, 6, "NameUnknown"),
+    (ScriptRefusal::TooMany, 7, "TooMany"),
+    (ScriptRefusal::TextTooLong, 8, "TextTooLong"),
+    (ScriptRefusal::NotAscii, 9, "NotAscii"),
+    (ScriptRefusal::OutOfMemory, 10, "OutOfMemory"),
+];
 
 #[test]
-fn faults_have_names_and_numbers(rt: HostRuntime) -> Result<(), Fail> {
-    let names = [
-        (ScriptRefusal::NotVersion, 1, "NotVersion"),
-        (ScriptRefusal::UnknownWord, 2, "UnknownWord"),
-        (ScriptRefusal::BadNumber, 3, "BadNumber"),
-        (ScriptRefusal::BadName, 4, "BadName"),
-        (ScriptRefusal::NameTwice, 5, "NameTwice"),
-        (ScriptRefusal::NameUnknown, 6, "NameUnknown"),
-        (ScriptRefusal::TooMany, 7, "TooMany"),
-        (ScriptRefusal::TextTooLong, 8, "TextTooLong"),
-        (ScriptRefusal::NotAscii, 9, "NotAscii"),
-        (ScriptRefusal::OutOfMemory, 10, "OutOfMemory"),
-    ];
-    for (refusal, number, name) in names {
-        assert!(rt; refusal as u8 == number);
-        assert!(rt; format!(in rt.alloc(); "{refusal}")?.as_str() == name);
+fn refusals_have_names_and_numbers(rt: HostRuntime) {
+    for (refusal, number, name) in REFUSALS {
+        assert!(rt; *refusal as u8 == *number);
+        assert!(rt; reads(rt.alloc(), *refusal, name));
     }
-    let fault = ScriptFault {
-        line: 12,
-        refusal: ScriptRefusal::BadName,
-    };
-    let texts = [
-        (ReplayFault::Script(fault), "line 12: 4 BadName"),
-        (ReplayFault::Memory, "no memory"),
-        (ReplayFault::Read, "read fault"),
-        (ReplayFault::Write, "write fault"),
-    ];
-    for (fault, text) in texts {
-        assert!(rt; format!(in rt.alloc(); "{fault}")?.as_str() == text);
+}
+
+const FAULTS: &[(ReplayFault, &str)] = &[
+    (
+        ReplayFault::Script(ScriptFault {
+            line: 12,
+            refusal: ScriptRefusal::BadName,
+        }),
+        "line 12: 4 BadName",
+    ),
+    (ReplayFault::Memory, "no memory"),
+    (ReplayFault::Read, "read fault"),
+    (ReplayFault::Write, "write fault"),
+];
+
+#[test]
+fn faults_have_names(rt: HostRuntime) {
+    for (fault, text) in FAULTS {
+        assert!(rt; reads(rt.alloc(), *fault, text));
     }
-    Ok(())
 }

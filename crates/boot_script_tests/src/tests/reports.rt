@@ -6,7 +6,6 @@ use quaject_core::{Items, WaitNumber};
 use std::alloc::Global;
 use std::io;
 use std::io::{ErrorKind, Write};
-use std::test::Fail;
 
 /// Takes at most so many bytes a call, and fails at one call.
 #[derive(Drop)]
@@ -44,68 +43,77 @@ impl Parts {
     }
 }
 
-fn name(bytes: &[u8]) -> Result<Name, Fail> {
+/// What is written of a report by calls of at most so many bytes of which one fails, and whether none failed.
+fn printed(alloc: Global, report: &Report, most: usize, fails_at: usize) -> (Parts, bool) {
+    let mut out = Parts::new(alloc, most, fails_at);
+    let all = print_report(report, &mut out).is_ok();
+    (out, all)
+}
+
+/// A name of these bytes, of as many as there is room for.
+fn name(bytes: &[u8]) -> Name {
     let mut name = Name::new();
     for byte in bytes {
         if !name.push(*byte) {
-            return Err("a name is too long".into());
+            break;
         }
     }
-    Ok(name)
+    name
 }
 
 fn counts(put: u64, taken: u64, left: u64) -> ItemCounts {
     ItemCounts { put, taken, left }
 }
 
-fn queue(kind: QueueKind, called: &[u8], items: ItemCounts) -> Result<QueueLine, Fail> {
-    Ok(QueueLine {
+fn queue(kind: QueueKind, called: &[u8], items: ItemCounts) -> QueueLine {
+    QueueLine {
         kind,
-        name: name(called)?,
+        name: name(called),
         items,
-    })
+    }
 }
 
-fn mover(kind: MoverKind, called: &[u8], numbers: [u64; 4]) -> Result<MoverLine, Fail> {
+fn mover(kind: MoverKind, called: &[u8], numbers: [u64; 4]) -> MoverLine {
     let [notes, taken, put, held] = numbers;
-    Ok(MoverLine {
+    MoverLine {
         kind,
-        name: name(called)?,
+        name: name(called),
         notes,
         taken,
         put,
         held,
-    })
+    }
 }
 
-fn gauge(called: &[u8], value: u64) -> Result<GaugeLine, Fail> {
-    Ok(GaugeLine {
-        name: name(called)?,
+fn gauge(called: &[u8], value: u64) -> GaugeLine {
+    GaugeLine {
+        name: name(called),
         value,
-    })
+    }
 }
 
-fn thread(called: &[u8], state: ThreadState, steps: u32, signals: u16) -> Result<ThreadLine, Fail> {
-    Ok(ThreadLine {
-        name: name(called)?,
+fn thread(called: &[u8], state: ThreadState, steps: u32, signals: u16) -> ThreadLine {
+    ThreadLine {
+        name: name(called),
         state,
         steps,
         signals,
-    })
+    }
 }
 
-fn heard(called: &[u8], step: u32, list: &[u64]) -> Result<HeardLine, Fail> {
+/// A heard line of these items, of as many as there is room for.
+fn heard(called: &[u8], step: u32, list: &[u64]) -> HeardLine {
     let mut items = ArrayVec::new();
     for item in list {
         if items.try_push(*item).is_err() {
-            return Err("a line is too long".into());
+            break;
         }
     }
-    Ok(HeardLine {
-        thread: name(called)?,
+    HeardLine {
+        thread: name(called),
         step,
         items: HeardItems::new(items),
-    })
+    }
 }
 
 /// A report that has nothing to tell.
@@ -126,9 +134,9 @@ fn empty_report(alloc: Global) -> Report {
     }
 }
 
-fn full_ttys(alloc: Global) -> Result<Items<TtyLines>, Fail> {
-    let busy = TtyLines {
-        name: name(b"t")?,
+fn busy_tty() -> TtyLines {
+    TtyLines {
+        name: name(b"t"),
         typed: 14,
         overrun: 2,
         notes: 3,
@@ -136,9 +144,12 @@ fn full_ttys(alloc: Global) -> Result<Items<TtyLines>, Fail> {
         raw: counts(12, 11, 1),
         line: counts(6, 4, 2),
         screen: counts(8, 0, 8),
-    };
-    let idle = TtyLines {
-        name: name(b"console8")?,
+    }
+}
+
+fn idle_tty() -> TtyLines {
+    TtyLines {
+        name: name(b"console8"),
         typed: 0,
         overrun: 0,
         notes: 0,
@@ -146,55 +157,52 @@ fn full_ttys(alloc: Global) -> Result<Items<TtyLines>, Fail> {
         raw: counts(0, 0, 0),
         line: counts(0, 0, 0),
         screen: counts(0, 0, 0),
-    };
-    Ok(Items::new(vec![in alloc; busy, idle]?))
+    }
 }
 
-fn full_threads(alloc: Global) -> Result<Items<ThreadLine>, Fail> {
-    let first = WaitNumber::new(0).ok_or("no wait queue")?;
-    let last = WaitNumber::new(15).ok_or("no wait queue")?;
-    Ok(Items::new(vec![in alloc;
-        thread(b"a", ThreadState::Ended, 2, 0)?,
-        thread(b"b", ThreadState::Ready, 0, 0)?,
-        thread(b"c", ThreadState::Wait(first), 4, 1)?,
-        thread(b"d", ThreadState::Wait(last), 4_294_967_295, 0xABCD)?,
-        thread(b"e", ThreadState::Stopped, 64, 0x8000)?,
-        thread(b"f", ThreadState::Held, 1, 0x0F10)?,
-    ]?))
+fn full_threads(alloc: Global) -> Option<Items<ThreadLine>> {
+    let (first, last) = (WaitNumber::new(0)?, WaitNumber::new(15)?);
+    let threads = vec![in alloc;
+        thread(b"a", ThreadState::Ended, 2, 0),
+        thread(b"b", ThreadState::Ready, 0, 0),
+        thread(b"c", ThreadState::Wait(first), 4, 1),
+        thread(b"d", ThreadState::Wait(last), 4_294_967_295, 0xABCD),
+        thread(b"e", ThreadState::Stopped, 64, 0x8000),
+        thread(b"f", ThreadState::Held, 1, 0x0F10),
+    ];
+    Some(Items::new(threads.ok()?))
 }
 
-fn full_queues(alloc: Global) -> Result<Items<QueueLine>, Fail> {
-    Ok(Items::new(vec![in alloc;
-        queue(QueueKind::Pipe, b"wire", counts(3, 3, 0))?,
-        queue(QueueKind::Queue, b"q", counts(12, 5, 7))?,
-        queue(QueueKind::Pipe, b"p8", counts(u64::MAX, 0, u64::MAX))?,
-    ]?))
+fn full_queues(alloc: Global) -> Option<Items<QueueLine>> {
+    let wire = queue(QueueKind::Pipe, b"wire", counts(3, 3, 0));
+    let named = queue(QueueKind::Queue, b"q", counts(12, 5, 7));
+    let long = queue(QueueKind::Pipe, b"p8", counts(u64::MAX, 0, u64::MAX));
+    Some(Items::new(vec![in alloc; wire, named, long].ok()?))
 }
 
-fn full_movers(alloc: Global) -> Result<Items<MoverLine>, Fail> {
-    Ok(Items::new(vec![in alloc;
-        mover(MoverKind::Switch, b"s", [4, 9, 6, 3])?,
-        mover(MoverKind::Pump, b"m", [1, 2, 2, 0])?,
-        mover(MoverKind::Switch, b"z9", [0, 0, 0, 0])?,
-    ]?))
+fn full_movers(alloc: Global) -> Option<Items<MoverLine>> {
+    let switch = mover(MoverKind::Switch, b"s", [4, 9, 6, 3]);
+    let pump = mover(MoverKind::Pump, b"m", [1, 2, 2, 0]);
+    let idle = mover(MoverKind::Switch, b"z9", [0, 0, 0, 0]);
+    Some(Items::new(vec![in alloc; switch, pump, idle].ok()?))
 }
 
-fn full_heard(alloc: Global) -> Result<Items<HeardLine>, Fail> {
-    Ok(Items::new(vec![in alloc;
-        heard(b"a", 0, &[120, 92, 121, 126, 10])?,
-        heard(b"a", 63, &[])?,
-        heard(b"b", 4_294_967_295, &[321, u64::MAX, 256, 544, 127])?,
-    ]?))
+fn full_heard(alloc: Global) -> Option<Items<HeardLine>> {
+    let line = heard(b"a", 0, &[120, 92, 121, 126, 10]);
+    let nothing = heard(b"a", 63, &[]);
+    let wide = heard(b"b", 4_294_967_295, &[321, u64::MAX, 256, 544, 127]);
+    Some(Items::new(vec![in alloc; line, nothing, wide].ok()?))
 }
 
 /// A report with lines of each kind.
-fn full_report(alloc: Global) -> Result<Report, Fail> {
-    let gauges = vec![in alloc; gauge(b"load", 0)?, gauge(b"g", u64::MAX)?]?;
-    Ok(Report {
+fn full_report(alloc: Global) -> Option<Report> {
+    let gauges = vec![in alloc; gauge(b"load", 0), gauge(b"g", u64::MAX)];
+    let ttys = vec![in alloc; busy_tty(), idle_tty()];
+    Some(Report {
         queues: full_queues(alloc)?,
-        ttys: full_ttys(alloc)?,
+        ttys: Items::new(ttys.ok()?),
         movers: full_movers(alloc)?,
-        gauges: Items::new(gauges),
+        gauges: Items::new(gauges.ok()?),
         alarms: AlarmCounts {
             set: 6,
             fired: 4,
@@ -236,34 +244,33 @@ chained 7
 
 /// A report of up to a page is one write.
 #[test]
-fn a_report_has_lines_of_each_kind(rt: HostRuntime) -> Result<(), Fail> {
-    let report = full_report(rt.alloc())?;
-    let mut out = Parts::new(rt.alloc(), usize::MAX, 0);
-    assert!(rt; print_report(&report, &mut out).is_ok());
+fn a_report_has_lines_of_each_kind(rt: HostRuntime) {
+    let Some(report) = full_report(rt.alloc()) else {
+        panic!(rt; "no report")
+    };
+    let (out, all) = printed(rt.alloc(), &report, usize::MAX, 0);
+    assert!(rt; all && out.calls == 1);
     assert!(rt; out.bytes.as_slice() == FULL_REPORT);
-    assert!(rt; out.calls == 1);
-    Ok(())
 }
 
 #[test]
 fn an_empty_report_has_one_line(rt: HostRuntime) {
-    let mut out = Parts::new(rt.alloc(), usize::MAX, 0);
-    assert!(rt; print_report(&empty_report(rt.alloc()), &mut out).is_ok());
+    let (out, all) = printed(rt.alloc(), &empty_report(rt.alloc()), usize::MAX, 0);
+    assert!(rt; all && out.calls == 1);
     assert!(rt; out.bytes.as_slice() == b"chained 0\n".as_slice());
-    assert!(rt; out.calls == 1);
 }
 
 #[test]
-fn a_write_of_a_report_may_fail_at_each_call(rt: HostRuntime) -> Result<(), Fail> {
-    let report = full_report(rt.alloc())?;
+fn a_write_of_a_report_may_fail_at_each_call(rt: HostRuntime) {
+    let Some(report) = full_report(rt.alloc()) else {
+        panic!(rt; "no report")
+    };
     for fails_at in 1..FULL_REPORT.len() + 3 {
-        let mut out = Parts::new(rt.alloc(), 1, fails_at);
-        let printed = print_report(&report, &mut out).is_ok();
-        assert!(rt; printed == (fails_at > FULL_REPORT.len()));
-        assert!(rt; FULL_REPORT.starts_with(&out.bytes));
-        assert!(rt; out.bytes.len() == FULL_REPORT.len().min(fails_at - 1));
+        let (out, all) = printed(rt.alloc(), &report, 1, fails_at);
+        let count = FULL_REPORT.len().min(fails_at - 1);
+        assert!(rt; all == (fails_at > FULL_REPORT.len()));
+        assert!(rt; out.bytes.as_slice() == &FULL_REPORT[..count]);
     }
-    Ok(())
 }
 
 /// The text of each byte, 64 to a line; 0x5C is `\`.
@@ -283,48 +290,68 @@ heard a 3 \x5CC0\x5CC1\x5CC2\x5CC3\x5CC4\x5CC5\x5CC6\x5CC7\x5CC8\x5CC9\x5CCA\x5C
 chained 0
 ";
 
-#[test]
-fn each_byte_is_written(rt: HostRuntime) -> Result<(), Fail> {
-    let mut report = empty_report(rt.alloc());
-    let mut lines = Vec::new(rt.alloc());
-    for step in 0..4u32 {
-        let mut items = [0; 64];
-        for i in 0..64u32 {
-            items[i as usize] = (64 * step + i) as u64;
-        }
-        lines.push(heard(b"a", step, &items)?)?;
+/// A line of the 64 items from this one on.
+fn heard_from(step: u32, first: u64) -> HeardLine {
+    let mut items = [0; 64];
+    for (item, number) in items.iter_mut().zip(first..) {
+        *item = number;
     }
-    report.heard = Items::new(lines);
-    let mut out = Parts::new(rt.alloc(), usize::MAX, 0);
-    assert!(rt; print_report(&report, &mut out).is_ok());
-    assert!(rt; out.bytes.as_slice() == ALL_BYTES);
-    Ok(())
+    heard(b"a", step, &items)
 }
 
-/// Heard lines as long as they can be, of 795 bytes each: ten fit on a page. Each write is of whole lines.
+fn report_of(alloc: Global, heard: Items<HeardLine>) -> Report {
+    let mut report = empty_report(alloc);
+    report.heard = heard;
+    report
+}
+
 #[test]
-fn a_longer_report_is_written_in_whole_lines(rt: HostRuntime) -> Result<(), Fail> {
-    let mut report = empty_report(rt.alloc());
-    let mut lines = Vec::new(rt.alloc());
+fn each_byte_is_written(rt: HostRuntime) {
+    let (first, second) = (heard_from(0, 0), heard_from(1, 64));
+    let (third, last) = (heard_from(2, 128), heard_from(3, 192));
+    let Ok(lines) = vec![in rt.alloc(); first, second, third, last] else {
+        panic!(rt; "no lines")
+    };
+    let report = report_of(rt.alloc(), Items::new(lines));
+    let (out, all) = printed(rt.alloc(), &report, usize::MAX, 0);
+    assert!(rt; all);
+    assert!(rt; out.bytes.as_slice() == ALL_BYTES);
+}
+
+/// Heard lines as long as they can be, of 795 bytes each: ten fit on a page.
+fn longest_lines(alloc: Global) -> Option<Vec<HeardLine>> {
+    let mut lines = Vec::new(alloc);
     for _ in 0..25 {
-        lines.push(heard(b"longname", 4_294_967_295, &[255; 256])?)?;
+        lines
+            .push(heard(b"longname", 4_294_967_295, &[255; 256]))
+            .ok()?;
     }
-    report.heard = Items::new(lines);
-    for (fails_at, written) in [(1, 0), (2, 7950), (3, 15_900), (4, 19_885), (0, 19_885)] {
-        let mut out = Parts::new(rt.alloc(), usize::MAX, fails_at);
-        assert!(rt; print_report(&report, &mut out).is_ok() == (written == 19_885));
-        assert!(rt; out.bytes.len() == written);
-        assert!(rt; written == 0 || out.bytes.ends_with(b"\n"));
-        assert!(rt; out.bytes.ends_with(b"\\FF\nchained 0\n") == (written == 19_885));
+    Some(lines)
+}
+
+/// The call that fails, and how many bytes are written then.
+const PAGES: &[(usize, usize)] = &[(1, 0), (2, 7950), (3, 15_900), (4, 19_885), (0, 19_885)];
+
+/// Each write is of whole lines.
+#[test]
+fn a_longer_report_is_written_in_whole_lines(rt: HostRuntime) {
+    let Some(lines) = longest_lines(rt.alloc()) else {
+        panic!(rt; "no lines")
+    };
+    let report = report_of(rt.alloc(), Items::new(lines));
+    for (fails_at, written) in PAGES {
+        let (out, all) = printed(rt.alloc(), &report, usize::MAX, *fails_at);
+        assert!(rt; all == (*written == 19_885));
+        assert!(rt; out.bytes.len() == *written);
+        assert!(rt; *written == 0 || out.bytes.ends_with(b"\n"));
+        assert!(rt; out.bytes.ends_with(b"\\FF\nchained 0\n") == all);
     }
-    Ok(())
 }
 
 /// Items are given back as they were.
 #[test]
-fn heard_items_are_given_back(rt: HostRuntime) -> Result<(), Fail> {
-    let line = heard(b"a", 0, &[7, 300])?;
+fn heard_items_are_given_back(rt: HostRuntime) {
+    let line = heard(b"a", 0, &[7, 300]);
     assert!(rt; line.items.as_slice() == [7, 300].as_slice());
     assert!(rt; line.items.into_array_vec().as_slice() == [7, 300].as_slice());
-    Ok(())
 }

@@ -2,69 +2,101 @@
 
 use super::*;
 
-#[test]
-fn names_stay_in_their_ranges(rt: HostRuntime) -> Result<(), Fail> {
-    assert!(rt; Call::new(63).map(Call::number) == Some(63));
-    assert!(rt; Call::new(64) == None);
-    assert!(rt; QueueNumber::new(7).map(QueueNumber::number) == Some(7));
-    assert!(rt; QueueNumber::new(8) == None);
-    assert!(rt; ChainNumber::new(7).map(ChainNumber::number) == Some(7));
-    assert!(rt; ChainNumber::new(8) == None);
-    assert!(rt; WaitNumber::new(15).map(WaitNumber::number) == Some(15));
-    assert!(rt; WaitNumber::new(16) == None);
-    assert!(rt; Processor::new(7).map(Processor::number) == Some(7));
-    assert!(rt; Processor::new(8) == None);
-    assert!(rt; Element::new(63).map(Element::number) == Some(63));
-    assert!(rt; Element::new(64) == None);
-    assert!(rt; Signal::new(15).map(Signal::number) == Some(15));
-    assert!(rt; Signal::new(16) == None);
-    assert!(rt; Gauge::new(7).map(Gauge::number) == Some(7));
-    assert!(rt; Gauge::new(8) == None);
-    assert!(rt; Slot::new(15).map(Slot::number) == Some(15));
-    assert!(rt; Slot::new(16) == None);
-    Ok(())
+/// These numbers as names of each kind: of a call, a queue, a chain, a wait queue, a processor, an element, a signal, a
+/// gauge and a slot.
+fn named(numbers: [u8; 9]) -> [Option<u8>; 9] {
+    let [
+        call,
+        queue,
+        chain,
+        wait,
+        processor,
+        element,
+        signal,
+        gauge,
+        slot,
+    ] = numbers;
+    [
+        Call::new(call).map(Call::number),
+        QueueNumber::new(queue).map(QueueNumber::number),
+        ChainNumber::new(chain).map(ChainNumber::number),
+        WaitNumber::new(wait).map(WaitNumber::number),
+        Processor::new(processor).map(Processor::number),
+        Element::new(element).map(Element::number),
+        Signal::new(signal).map(Signal::number),
+        Gauge::new(gauge).map(Gauge::number),
+        Slot::new(slot).map(Slot::number),
+    ]
 }
 
 #[test]
-fn lists_give_their_items_back(rt: HostRuntime) -> Result<(), Fail> {
-    let items = Items::new([3, 4].to_vec(rt.alloc())?);
-    assert!(rt; items.as_slice() == [3, 4].as_slice());
-    assert!(rt; items.into_vec().as_slice() == [3, 4].as_slice());
-    let queues = Items::new([SECOND_RAISED].to_vec(rt.alloc())?);
-    assert!(rt; queues.as_slice() == [SECOND_RAISED].as_slice());
-    assert!(rt; queues.into_vec().as_slice() == [SECOND_RAISED].as_slice());
-    let chains = Items::new([SERVED].to_vec(rt.alloc())?);
-    assert!(rt; chains.as_slice() == [SERVED].as_slice());
-    assert!(rt; chains.into_vec().as_slice() == [SERVED].as_slice());
-    let elements = Items::new([FREE].to_vec(rt.alloc())?);
-    assert!(rt; elements.as_slice() == [FREE].as_slice());
-    assert!(rt; elements.into_vec().as_slice() == [FREE].as_slice());
-    Ok(())
+fn names_stay_in_their_ranges(rt: HostRuntime) {
+    let last = [63, 7, 7, 15, 7, 63, 15, 7, 15];
+    assert!(rt; named(last) == last.map(Some));
+    assert!(rt; named([64, 8, 8, 16, 8, 64, 16, 8, 16]) == [None; 9]);
+}
+
+/// Whether a list of these items shows them, and gives them back.
+fn gives_back<T: Copy + PartialEq>(alloc: Global, items: &[T]) -> bool {
+    let Ok(list) = items.to_vec(alloc) else {
+        return false;
+    };
+    let list = Items::new(list);
+    list.as_slice() == items && list.into_vec().as_slice() == items
+}
+
+const SHUT: QueueStatus = QueueStatus {
+    capacity: 4,
+    runs: 2,
+    put: 3,
+    taken: 0,
+    left: 3,
+    raised: 1,
+    shut: true,
+};
+
+const TOLD: ChainStatus = ChainStatus {
+    put: 2,
+    taken: 1,
+    left: 1,
+    gate: Gate::More,
+};
+
+#[test]
+fn lists_give_their_items_back(rt: HostRuntime) {
+    assert!(rt; gives_back(rt.alloc(), &[3, 4]));
+    assert!(rt; gives_back(rt.alloc(), &[SHUT]));
+    assert!(rt; gives_back(rt.alloc(), &[TOLD]));
+    assert!(rt; gives_back(rt.alloc(), &[FREE]));
+}
+
+const REFUSALS: &[(Refusal, u8, &str)] = &[
+    (Refusal::UnknownName, 1, "UnknownName"),
+    (Refusal::NoItems, 2, "NoItems"),
+    (Refusal::TooLong, 3, "TooLong"),
+    (Refusal::Full, 4, "Full"),
+    (Refusal::NotOwner, 5, "NotOwner"),
+    (Refusal::AlreadyRaised, 6, "AlreadyRaised"),
+    (Refusal::NotRaised, 7, "NotRaised"),
+    (Refusal::NotHeld, 8, "NotHeld"),
+    (Refusal::ProcessorBusy, 9, "ProcessorBusy"),
+    (Refusal::ProcessorEmpty, 10, "ProcessorEmpty"),
+    (Refusal::NotStopped, 11, "NotStopped"),
+    (Refusal::GateBusy, 12, "GateBusy"),
+    (Refusal::NotRunner, 13, "NotRunner"),
+    (Refusal::OutOfMemory, 14, "OutOfMemory"),
+    (Refusal::Closed, 15, "Closed"),
+    (Refusal::Moved, 16, "Moved"),
+];
+
+fn is_called(alloc: Global, refusal: Refusal, name: &str) -> bool {
+    format!(in alloc; "{refusal}").is_ok_and(|text| text.as_str() == name)
 }
 
 #[test]
-fn refusals_have_names_and_numbers(rt: HostRuntime) -> Result<(), Fail> {
-    let names = [
-        (Refusal::UnknownName, 1, "UnknownName"),
-        (Refusal::NoItems, 2, "NoItems"),
-        (Refusal::TooLong, 3, "TooLong"),
-        (Refusal::Full, 4, "Full"),
-        (Refusal::NotOwner, 5, "NotOwner"),
-        (Refusal::AlreadyRaised, 6, "AlreadyRaised"),
-        (Refusal::NotRaised, 7, "NotRaised"),
-        (Refusal::NotHeld, 8, "NotHeld"),
-        (Refusal::ProcessorBusy, 9, "ProcessorBusy"),
-        (Refusal::ProcessorEmpty, 10, "ProcessorEmpty"),
-        (Refusal::NotStopped, 11, "NotStopped"),
-        (Refusal::GateBusy, 12, "GateBusy"),
-        (Refusal::NotRunner, 13, "NotRunner"),
-        (Refusal::OutOfMemory, 14, "OutOfMemory"),
-        (Refusal::Closed, 15, "Closed"),
-        (Refusal::Moved, 16, "Moved"),
-    ];
-    for (refusal, number, name) in names {
-        assert!(rt; refusal as u8 == number);
-        assert!(rt; format!(in rt.alloc(); "{refusal}")?.as_str() == name);
+fn refusals_have_names_and_numbers(rt: HostRuntime) {
+    for (refusal, number, name) in REFUSALS {
+        assert!(rt; *refusal as u8 == *number);
+        assert!(rt; is_called(rt.alloc(), *refusal, name));
     }
-    Ok(())
 }

@@ -11,6 +11,8 @@ use proc_chain::{ChainEnd, ChainRefusal, ProcChain};
 use quaject_core::OutOfMemory;
 use quajects::{AnyQuaject, Pump, Queues};
 use std::alloc::Global;
+use std::panic::Expect;
+use std::process::Abort;
 use std::sync::Wait;
 
 pub(crate) type Chain = ProcChain<AnyQuaject>;
@@ -27,18 +29,18 @@ pub(crate) struct Two<const N: usize> {
     ghost parts: { All IsDivisible ends.items },
 }
 
-pub(crate) fn two_queues<const N: usize>(alloc: Global) -> Result<Two<N>, OutOfMemory>
+pub(crate) fn two_queues<R: Abort, const N: usize>(rt: &R, alloc: Global) -> Two<N>
     requires { (1 ≤ N) × (N ≤ 256) }
 {
-    let (first, a) = ClaimQueue::new(alloc, 0)?;
-    let (second, b) = ClaimQueue::new(alloc, 0)?;
+    let (first, a) = ClaimQueue::new(alloc, 0).expect(rt, "memory");
+    let (second, b) = ClaimQueue::new(alloc, 0).expect(rt, "memory");
     let mut queues = Vec::new(alloc);
-    queues.push(first)?;
-    queues.push(second)?;
+    queues.push(first).expect(rt, "memory");
+    queues.push(second).expect(rt, "memory");
     let mut ends = Vec::new(alloc);
-    ends.push(a)?;
-    ends.push(b)?;
-    Ok(Two { queues, ends })
+    ends.push(a).expect(rt, "memory");
+    ends.push(b).expect(rt, "memory");
+    Two { queues, ends }
 }
 
 /// A pump from the first of two small queues to the second, with an end of each queue and two of its chain.
@@ -51,6 +53,7 @@ pub(crate) struct Pumped {
     pub(crate) other: End,
     ghost fit: { AreEndsOf world.small.items ends.items },
     ghost two: { length world.small.items ≡ 2 },
+    ghost ends_divide: { All IsDivisible ends.items },
     ghost chains_fit: { AreChainEndsOf chains.items chain_ends.items },
     ghost one: { length chains.items ≡ 1 },
     ghost over: { AreChainsOver world chains.items },

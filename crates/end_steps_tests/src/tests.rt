@@ -9,13 +9,14 @@ use proc_chain::{ChainRefusal, Chained};
 use quaject_core::OutOfMemory;
 use quajects::Queues;
 use std::alloc::Global;
+use std::panic::Expect;
 use std::process::Abort;
 use std::sync::Wait;
 use std::test::*;
 
 #[test]
-fn says_and_hears(rt: HostRuntime) -> Result<(), Fail> {
-    let Two { queues, ends } = two_queues::<64>(rt.alloc())?;
+fn says_and_hears(rt: HostRuntime) {
+    let Two { queues, ends } = two_queues::<_, 64>(&rt, rt.alloc());
     let mut ends = ends;
     let mut gate = Recorder::new(rt.alloc());
     let said = say(
@@ -41,16 +42,15 @@ fn says_and_hears(rt: HostRuntime) -> Result<(), Fail> {
         (3, Point::TakeAnswered),
     ];
     assert!(rt; gate.points.as_slice() == points.as_slice());
-    Ok(())
 }
 
 /// Other ends find the line claimed and not raised, then raised; and then a line taken.
 #[test]
-fn gate_between_the_parts(rt: HostRuntime) -> Result<(), Fail> {
-    let Two { queues, ends } = two_queues::<64>(rt.alloc())?;
+fn gate_between_the_parts(rt: HostRuntime) {
+    let Two { queues, ends } = two_queues::<_, 64>(&rt, rt.alloc());
     let mut ends = ends;
     let list = queues.as_slice();
-    let others = split_ends(rt.alloc(), list, &mut ends)?;
+    let others = split_ends(rt.alloc(), list, &mut ends).expect(&rt, "memory");
     let mut gate = Watcher {
         queues: list,
         ends: others,
@@ -71,12 +71,11 @@ fn gate_between_the_parts(rt: HostRuntime) -> Result<(), Fail> {
     assert!(rt; hear(list, &mut ends, 1, &mut line, 0, &mut gate) == Ok(()));
     let behind = [(Point::TakeAnswered, Ok(()), Ok(()), 64)];
     assert!(rt; gate.seen.as_slice() == behind.as_slice());
-    Ok(())
 }
 
 #[test]
-fn large_queues(rt: HostRuntime) -> Result<(), Fail> {
-    let Two { queues, ends } = two_queues::<256>(rt.alloc())?;
+fn large_queues(rt: HostRuntime) {
+    let Two { queues, ends } = two_queues::<_, 256>(&rt, rt.alloc());
     let mut ends = ends;
     let said = say(queues.as_slice(), &mut ends, 0, &[7; 256], 0, &mut NoGate);
     assert!(rt; said == Ok(()));
@@ -84,12 +83,11 @@ fn large_queues(rt: HostRuntime) -> Result<(), Fail> {
     let heard = hear(queues.as_slice(), &mut ends, 0, &mut line, 0, &mut NoGate);
     assert!(rt; heard == Ok(()));
     assert!(rt; line.len() == 256);
-    Ok(())
 }
 
 #[test]
-fn refused_lines(rt: HostRuntime) -> Result<(), Fail> {
-    let Two { queues, ends } = two_queues::<64>(rt.alloc())?;
+fn refused_lines(rt: HostRuntime) {
+    let Two { queues, ends } = two_queues::<_, 64>(&rt, rt.alloc());
     let mut ends = ends;
     let mut gate = Recorder::new(rt.alloc());
     assert!(rt; say(queues.as_slice(), &mut ends, 0, &[7; 64], 0, &mut gate) == Ok(()));
@@ -100,12 +98,11 @@ fn refused_lines(rt: HostRuntime) -> Result<(), Fail> {
     let empty = say(queues.as_slice(), &mut ends, 1, &[], 0, &mut gate);
     assert!(rt; empty == Err(ClaimRefusal::NoItems));
     assert!(rt; gate.points.len() == 2);
-    Ok(())
 }
 
 #[test]
-fn shuts(rt: HostRuntime) -> Result<(), Fail> {
-    let Two { queues, ends } = two_queues::<64>(rt.alloc())?;
+fn shuts(rt: HostRuntime) {
+    let Two { queues, ends } = two_queues::<_, 64>(&rt, rt.alloc());
     let mut ends = ends;
     assert!(rt; shut_queue(queues.as_slice(), &mut ends, 1));
     assert!(rt; !shut_queue(queues.as_slice(), &mut ends, 1));
@@ -115,19 +112,18 @@ fn shuts(rt: HostRuntime) -> Result<(), Fail> {
     let heard = hear(queues.as_slice(), &mut ends, 1, &mut line, 0, &mut NoGate);
     assert!(rt; heard == Err(TakeRefusal::Closed));
     assert!(rt; say(queues.as_slice(), &mut ends, 0, &[10], 0, &mut NoGate) == Ok(()));
-    Ok(())
 }
 
 /// A pump moves the line that was said; without a line it runs its note all the same.
 #[test]
-fn pokes(rt: HostRuntime) -> Result<(), Fail> {
+fn pokes(rt: HostRuntime) {
     let Pumped {
         world,
         ends,
         chains,
         chain_ends,
         other: _,
-    } = make_pump(rt.alloc())?;
+    } = make_pump(rt.alloc()).expect(&rt, "memory");
     let (mut ends, mut chain_ends) = (ends, chain_ends);
     let mut gate = Recorder::new(rt.alloc());
     let small = world.small.as_slice();
@@ -157,7 +153,6 @@ fn pokes(rt: HostRuntime) -> Result<(), Fail> {
     assert!(rt; poked == Ok(Poked::Ran { notes: 1 }));
     let points = [(5, Point::Chained), (5, Point::Chained)];
     assert!(rt; gate.points.as_slice() == points.as_slice());
-    Ok(())
 }
 
 /// Pokes so often, and gives the number of notes that were left to another end.
@@ -183,14 +178,14 @@ fn left_to_another<R: Wait>(
 
 /// Another end has the Turn: 31 notes more are left to it, the next finds the chain full, and it runs all 32.
 #[test]
-fn left_and_full(rt: HostRuntime) -> Result<(), Fail> {
+fn left_and_full(rt: HostRuntime) {
     let Pumped {
         world,
         ends: _,
         chains,
         chain_ends,
         other,
-    } = make_pump(rt.alloc())?;
+    } = make_pump(rt.alloc()).expect(&rt, "memory");
     let (mut chain_ends, mut other) = (chain_ends, other);
     let list = chains.as_slice();
     let chain = &list[0];
@@ -206,23 +201,22 @@ fn left_and_full(rt: HostRuntime) -> Result<(), Fail> {
     assert!(rt; poked == Err(ChainRefusal::Full { head: 32, tail: 0 }));
     let poked = poke(&rt, &world, list, &mut chain_ends, 0, 0, &mut NoGate);
     assert!(rt; poked == Ok(Poked::Ran { notes: 1 }));
-    Ok(())
 }
 
 /// The gate is called when the note is chained and the Turn isn't served: a note of another end is left to it, and then
 /// it runs both.
 #[test]
-fn gate_before_the_turn(rt: HostRuntime) -> Result<(), Fail> {
+fn gate_before_the_turn(rt: HostRuntime) {
     let Pumped {
         world,
         ends: _,
         chains,
         chain_ends,
         other: _,
-    } = make_pump(rt.alloc())?;
+    } = make_pump(rt.alloc()).expect(&rt, "memory");
     let mut chain_ends = chain_ends;
     let list = chains.as_slice();
-    let others = split_chain_ends(rt.alloc(), list, &mut chain_ends)?;
+    let others = split_chain_ends(rt.alloc(), list, &mut chain_ends).expect(&rt, "memory");
     let mut gate = Poker {
         rt: &rt,
         world: &world,
@@ -234,16 +228,15 @@ fn gate_before_the_turn(rt: HostRuntime) -> Result<(), Fail> {
     assert!(rt; poked == Ok(Poked::Ran { notes: 2 }));
     let left = [Ok(Poked::Left)];
     assert!(rt; gate.poked.as_slice() == left.as_slice());
-    Ok(())
 }
 
 /// What is said at the other ends is heard at these, and all ends are joined again.
 #[test]
-fn splits_and_joins(rt: HostRuntime) -> Result<(), Fail> {
-    let Two { queues, ends } = two_queues::<64>(rt.alloc())?;
+fn splits_and_joins(rt: HostRuntime) {
+    let Two { queues, ends } = two_queues::<_, 64>(&rt, rt.alloc());
     let mut ends = ends;
     let list = queues.as_slice();
-    let mut others = split_ends(rt.alloc(), list, &mut ends)?;
+    let mut others = split_ends(rt.alloc(), list, &mut ends).expect(&rt, "memory");
     assert!(rt; others.len() == 2);
     assert!(rt; say(list, &mut others, 1, &[104, 10], 0, &mut NoGate) == Ok(()));
     let mut line = ArrayVec::new();
@@ -258,19 +251,18 @@ fn splits_and_joins(rt: HostRuntime) -> Result<(), Fail> {
         panic!(rt; "close")
     };
     assert!(rt; (closed.put, closed.taken, closed.left.len()) == (2, 2, 0));
-    Ok(())
 }
 
 /// With ample memory each chain gets another end, which pokes as the first does, and is joined again.
 #[test]
-fn chain_ends_split_and_joined(rt: HostRuntime) -> Result<(), Fail> {
+fn chain_ends_split_and_joined(rt: HostRuntime) {
     let Pumped {
         world,
         ends: _,
         chains,
         chain_ends,
         other: _,
-    } = make_pump(rt.alloc())?;
+    } = make_pump(rt.alloc()).expect(&rt, "memory");
     let mut chain_ends = chain_ends;
     let list = chains.as_slice();
     let Ok(others) = split_chain_ends(rt.alloc(), list, &mut chain_ends) else {
@@ -284,19 +276,24 @@ fn chain_ends_split_and_joined(rt: HostRuntime) -> Result<(), Fail> {
     assert!(rt; chain_ends.len() == 1);
     let poked = poke(&rt, &world, list, &mut chain_ends, 0, 0, &mut NoGate);
     assert!(rt; poked == Ok(Poked::Ran { notes: 1 }));
-    Ok(())
 }
 
 // Where an allocation is refused all stays as it was, and the ends go on.
 fn split_and_poke<R: Abort + Wait>(rt: &R, alloc: Global, pumped: Pumped) {
     let Pumped {
         world,
-        ends: _,
+        ends,
         chains,
         chain_ends,
         other: _,
     } = pumped;
-    let mut chain_ends = chain_ends;
+    let (mut ends, mut chain_ends) = (ends, chain_ends);
+    let small = world.small.as_slice();
+    match split_ends(alloc, small, &mut ends) {
+        Ok(others) => join_ends(small, &mut ends, others),
+        Err(error) => assert!(rt; error == OutOfMemory),
+    }
+    assert!(rt; say(small, &mut ends, 0, &[10], 0, &mut NoGate) == Ok(()));
     let list = chains.as_slice();
     match split_chain_ends(alloc, list, &mut chain_ends) {
         Ok(others) => join_chain_ends(list, &mut chain_ends, others),
@@ -319,18 +316,4 @@ fn memory_may_be_wanting(rt: HostRuntime) {
         }
     }
     assert!(rt; made);
-}
-
-/// The same of queues.
-#[test]
-fn queues_without_memory(rt: HostRuntime) -> Result<(), Fail> {
-    let Two { queues, ends } = two_queues::<64>(rt.alloc())?;
-    let mut ends = ends;
-    let list = queues.as_slice();
-    match split_ends(rt.alloc(), list, &mut ends) {
-        Ok(others) => join_ends(list, &mut ends, others),
-        Err(error) => assert!(rt; error == OutOfMemory),
-    }
-    assert!(rt; say(list, &mut ends, 0, &[10], 0, &mut NoGate) == Ok(()));
-    Ok(())
 }

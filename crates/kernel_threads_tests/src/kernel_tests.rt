@@ -10,9 +10,9 @@ use objects::{Objects, make_objects};
 use processor::{Shared, Station};
 use spsc_line::LineIn;
 use std::alloc::Global;
+use std::panic::Expect;
 use std::process::Abort;
 use std::sync::Wait;
-use std::test::Fail;
 
 /// Two ttys, bytes for one of them, and a thread that hears a line.
 const SCRIPT: &[u8] =
@@ -68,36 +68,38 @@ fn make_kernel<R: Abort + Wait>(rt: &R, alloc: Global, gates: Vec<NoGate>, turns
     }
 }
 
+/// How many processors came back, how many devices, and how many bytes these refused.
+fn counted(backs: &[Option<Worked>]) -> (u64, u64, u64) {
+    let mut counts = (0u64, 0u64, 0u64);
+    for back in backs {
+        match back {
+            Some(Worked::Processed(_)) => counts.0 = counts.0.wrapping_add(1),
+            Some(Worked::Served { line: _, tty }) => {
+                counts.1 = counts.1.wrapping_add(1);
+                counts.2 = counts.2.wrapping_add(tty.overruns());
+            }
+            None => {}
+        }
+    }
+    counts
+}
+
 /// Two processors and the devices of two ttys run, and all come back; no byte was refused.
 #[test]
-fn all_come_back(rt: HostRuntime) -> Result<(), Fail> {
+fn all_come_back(rt: HostRuntime) {
     let mut gates = Vec::new(rt.alloc());
-    gates.push(NoGate)?;
-    gates.push(NoGate)?;
+    gates.push(NoGate).expect(&rt, "memory");
+    gates.push(NoGate).expect(&rt, "memory");
     let Kernel {
         shared,
         station: _rest,
         works,
         lines,
     } = make_kernel(&rt, rt.alloc(), gates, 3);
-    let handles = Vec::with_capacity(rt.alloc(), works.len())?;
-    let backs = Vec::with_capacity(rt.alloc(), works.len())?;
-    let typed = Vec::with_capacity(rt.alloc(), lines.len())?;
+    let handles = Vec::with_capacity(rt.alloc(), works.len()).expect(&rt, "memory");
+    let backs = Vec::with_capacity(rt.alloc(), works.len()).expect(&rt, "memory");
+    let typed = Vec::with_capacity(rt.alloc(), lines.len()).expect(&rt, "memory");
     let (backs, typed) = run_kernel(&rt, &shared, works, 2, handles, backs, lines, typed);
-    let mut processors = 0u64;
-    let mut devices = 0u64;
-    let mut refused = 0u64;
-    for back in backs {
-        match back {
-            Some(Worked::Processed(_station)) => processors = processors.wrapping_add(1),
-            Some(Worked::Served { line: _line, tty }) => {
-                devices = devices.wrapping_add(1);
-                refused = refused.wrapping_add(tty.overruns());
-            }
-            None => {}
-        }
-    }
-    assert!(rt; (processors, devices, refused) == (2, 2, 0));
+    assert!(rt; counted(backs.as_slice()) == (2, 2, 0));
     assert!(rt; typed.len() == 2);
-    Ok(())
 }

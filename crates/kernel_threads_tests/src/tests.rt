@@ -13,12 +13,13 @@ use claim_queue::{ClaimQueue, QueueEnd, TakeRefusal};
 use kernel_threads::*;
 use meters::Meters;
 use proc_chain::ProcChain;
-use quaject_core::{Alarm, Element, OutOfMemory, Signal};
+use quaject_core::{Alarm, Element, Signal};
 use quajects::{AnyQuaject, CookedTty, Queues, RawTty, retire};
 use spsc_line::{LineIn, LineOut, finish, line};
 use std::alloc::Global;
+use std::panic::Expect;
+use std::process::Abort;
 use std::sync::{Barrier, Wait};
-use std::test::Fail;
 use std::thread;
 use std::thread::Threads;
 use thread_table::{Hand, NextRefusal, ThreadTable};
@@ -36,8 +37,8 @@ fn alarm_at(due: u32, element: u8) -> Alarm {
 
 /// The alarms of a plan stand once all are set: those that are due fire, in the order in which they were set.
 #[test]
-fn alarms_stand(rt: HostRuntime) -> Result<(), Fail> {
-    let (meters, seat) = Meters::new(rt.alloc(), 0)?;
+fn alarms_stand(rt: HostRuntime) {
+    let (meters, seat) = Meters::new(rt.alloc(), 0).expect(&rt, "memory");
     let alarms = [alarm_at(0, 3), alarm_at(2, 4), alarm_at(0, 5)];
     let mut seat = set_alarms(&rt, &meters, seat, &alarms);
     let fired = meters.due(&mut seat);
@@ -46,7 +47,6 @@ fn alarms_stand(rt: HostRuntime) -> Result<(), Fail> {
         panic!(rt; "close")
     };
     assert!(rt; metered.alarms.as_slice() == [alarm_at(2, 4)].as_slice());
-    Ok(())
 }
 
 /// Takes all free elements from this number on, and says whether they came in their order, and no other.
@@ -62,15 +62,14 @@ fn are_free_from(threads: &ThreadTable, hand: &mut Hand, first: u8) -> bool
 
 /// Of three threads the elements are ready in their order, and the other 61 are free, in theirs.
 #[test]
-fn three_threads_are_ready(rt: HostRuntime) -> Result<(), Fail> {
-    let (threads, hand) = ThreadTable::new(rt.alloc())?;
+fn three_threads_are_ready(rt: HostRuntime) {
+    let (threads, hand) = ThreadTable::new(rt.alloc()).expect(&rt, "memory");
     let mut hand = prepare(&rt, &threads, hand, 3);
     assert!(rt; threads.try_next(&mut hand) == Ok(Element::default()));
     assert!(rt; threads.try_next(&mut hand).map(Element::number) == Ok(1));
     assert!(rt; threads.try_next(&mut hand).map(Element::number) == Ok(2));
     assert!(rt; threads.try_next(&mut hand) == Err(NextRefusal::NoneReady));
     assert!(rt; are_free_from(&threads, &mut hand, 3));
-    Ok(())
 }
 
 /// A raw queue, a line queue with a reader, and a screen queue, with an end of each for a cooked tty.
@@ -89,25 +88,25 @@ struct Typing {
     ghost screen_at: { IsEndAt queues.large.items 1 screen × IsUnused (view_of screen) },
 }
 
-fn tty_queues(alloc: Global) -> Result<Typing, OutOfMemory> {
-    let (raws, mut raw) = ClaimQueue::new(alloc, 0)?;
+fn tty_queues<R: Abort>(rt: &R, alloc: Global) -> Typing {
+    let (raws, mut raw) = ClaimQueue::new(alloc, 0).expect(rt, "memory");
     let device = raws.split(&mut raw);
-    let (lines, mut line) = ClaimQueue::new(alloc, 0)?;
+    let (lines, mut line) = ClaimQueue::new(alloc, 0).expect(rt, "memory");
     let reader = lines.split(&mut line);
-    let (screens, screen) = ClaimQueue::new(alloc, 0)?;
+    let (screens, screen) = ClaimQueue::new(alloc, 0).expect(rt, "memory");
     let mut small = Vec::new(alloc);
-    small.push(raws)?;
+    small.push(raws).expect(rt, "memory");
     let mut large = Vec::new(alloc);
-    large.push(lines)?;
-    large.push(screens)?;
-    Ok(Typing {
+    large.push(lines).expect(rt, "memory");
+    large.push(screens).expect(rt, "memory");
+    Typing {
         queues: Queues { small, large },
         raw,
         device,
         line,
         reader,
         screen,
-    })
+    }
 }
 
 /// A line of the first line queue.
@@ -157,7 +156,7 @@ fn type_and_serve<R: Threads + Wait + Sync>(
 /// Two hundred bytes go over a line of 64 places, and come out cooked.
 #[test]
 #[tactic(auto, using(quajects::proofs::Making::made_of_itself))]
-fn typed_bytes_arrive(rt: HostRuntime) -> Result<(), Fail> {
+fn typed_bytes_arrive(rt: HostRuntime) {
     let Typing {
         queues,
         raw,
@@ -165,14 +164,16 @@ fn typed_bytes_arrive(rt: HostRuntime) -> Result<(), Fail> {
         line: line_end,
         mut reader,
         screen,
-    } = tty_queues(rt.alloc())?;
+    } = tty_queues(&rt, rt.alloc());
     let cooked = CookedTty::new(0, raw, 0, line_end, 1, screen);
     let Ok((chain, mut end)) = Chain::new(rt.alloc(), 0, AnyQuaject::Cooked(cooked), &queues) else {
         panic!(rt; "no memory")
     };
     let tty = RawTty::new(0, device, chain.split(&mut end));
-    let (input, output) = line(rt.alloc(), 64)?;
-    let bytes = [97, 98, 127, 99, 10].repeat(rt.alloc(), 40)?;
+    let (input, output) = line(rt.alloc(), 64).expect(&rt, "memory");
+    let bytes = [97, 98, 127, 99, 10]
+        .repeat(rt.alloc(), 40)
+        .expect(&rt, "memory");
     let (input, (output, tty)) = type_and_serve(
         &rt,
         &queues,
@@ -193,7 +194,6 @@ fn typed_bytes_arrive(rt: HostRuntime) -> Result<(), Fail> {
     let mut heard = ArrayVec::new();
     assert!(rt; hear_first(&queues, &mut reader, &mut heard) == Ok(3));
     assert!(rt; heard.as_slice() == [97, 99, 10].as_slice());
-    Ok(())
 }
 
 /// A job that meets the others, and gives its number back with what all share added.
@@ -220,19 +220,18 @@ impl Job<Meeting, u64> for Meet {
 
 /// Four jobs meet, which they can only in four threads, and what they give back is in their order.
 #[test]
-fn jobs_meet(rt: HostRuntime) -> Result<(), Fail> {
+fn jobs_meet(rt: HostRuntime) {
     let shared = Meeting {
         barrier: Barrier::new(4),
         add: 10,
     };
     let mut jobs = Vec::new(rt.alloc());
-    jobs.push(Meet(0))?;
-    jobs.push(Meet(1))?;
-    jobs.push(Meet(2))?;
-    jobs.push(Meet(3))?;
-    let handles = Vec::with_capacity(rt.alloc(), 4)?;
-    let backs = Vec::with_capacity(rt.alloc(), 4)?;
+    jobs.push(Meet(0)).expect(&rt, "memory");
+    jobs.push(Meet(1)).expect(&rt, "memory");
+    jobs.push(Meet(2)).expect(&rt, "memory");
+    jobs.push(Meet(3)).expect(&rt, "memory");
+    let handles = Vec::with_capacity(rt.alloc(), 4).expect(&rt, "memory");
+    let backs = Vec::with_capacity(rt.alloc(), 4).expect(&rt, "memory");
     let backs = run_all(&rt, &shared, jobs, handles, backs);
     assert!(rt; backs.as_slice() == [Some(10), Some(11), Some(12), Some(13)].as_slice());
-    Ok(())
 }

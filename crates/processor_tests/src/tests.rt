@@ -1,4 +1,5 @@
-//! Turns of processors over plans that are read from boot scripts.
+//! Turns of processors over plans that are read from boot scripts: what a report doesn't tell, and what no script can
+//! bring about. What it does tell, the program's own boots show.
 ghost use Rattle.std.specs.Prelude.{◌≡◌, ◌≤◌, [], length, IfOk};
 ghost use Rattle.std.specs.List.{All};
 ghost use Rattle.thread_table.specs.Handles.{view_of, IsHandOf, IsSameHand};
@@ -15,11 +16,10 @@ mod memory;
 mod movers;
 mod pairs;
 mod partings;
-mod queues;
 mod refusals;
 
 use boot_script::{BootPlan, parse_boot};
-use claim_queue::QueueEnd;
+use claim_queue::{ClaimQueue, QueueEnd};
 use end_steps::NoGate;
 use hand_steps::make_ready;
 use meters::{Alarm, MeterSeat, Metered, Meters};
@@ -309,63 +309,64 @@ fn stand<R: Abort + Wait>(
     stand_on(rt, alloc, plan, p, tables)
 }
 
-/// What there is once the turns are over.
+/// What there is once the turns are over, with the small queues and an end of each.
 #[derive(Drop)]
 struct AtEnd {
     places: Places,
     metered: Metered,
     heard: Vec<Heard>,
     signals: [u16; 64],
+    queues: Vec<ClaimQueue<64>>,
+    ends: Vec<QueueEnd<64>>,
+    ghost fit: { AreEndsOf queues.items ends.items },
 }
 
 /// Closes the thread table and the meters.
 fn close_all<R: Abort>(rt: &R, shared: Shared, parts: Parts) -> AtEnd
     requires { ArePartsOf shared parts }
 {
-    let Shared {
-        queues: _,
-        chains: _,
-        threads,
-        meters,
-        plan: _,
-    } = shared;
-    let Parts {
-        hand,
-        small: _,
-        large: _,
-        chains: _,
-        meters: seat,
-        heard,
-        signals,
-    } = parts;
-    let Ok(places) = threads.close(hand) else {
+    let Ok(places) = shared.threads.close(parts.hand) else {
         panic!(rt; "threads")
     };
-    let Ok(metered) = meters.close(seat) else {
+    let Ok(metered) = shared.meters.close(parts.meters) else {
         panic!(rt; "meters")
     };
+    let signals = parts.signals;
     AtEnd {
         places,
         metered,
-        heard,
+        heard: parts.heard,
         signals,
+        queues: shared.queues.small,
+        ends: parts.small,
     }
 }
 
-/// Runs so many turns of processor 0 over the plan of a script.
-fn booted<R: Abort + Wait>(
-    rt: &R,
-    alloc: Global,
-    script: &[u8],
-    turns: u32,
-) -> Result<AtEnd, Fail> {
-    let plan = parse_boot(alloc, script)?;
-    let Some(p) = Processor::new(0) else {
+/// The plan of a script.
+fn plan_of<R: Abort>(rt: &R, alloc: Global, script: &[u8]) -> BootPlan {
+    let Ok(plan) = parse_boot(alloc, script) else {
+        panic!(rt; "script")
+    };
+    plan
+}
+
+/// The processor with this number.
+fn processor<R: Abort>(rt: &R, number: u8) -> Processor {
+    let Some(p) = Processor::new(number) else {
         panic!(rt; "processor")
     };
-    let (shared, station) = stand(rt, alloc, plan, p)?;
+    p
+}
+
+/// Runs so many turns of the processor with this number, alone, over the plan of a script.
+fn booted<R: Abort + Wait>(rt: &R, alloc: Global, script: &[u8], number: u8, turns: u32) -> AtEnd {
+    let plan = plan_of(rt, alloc, script);
+    let p = processor(rt, number);
+    let Ok((shared, station)) = stand(rt, alloc, plan, p) else {
+        panic!(rt; "memory")
+    };
     let station = run(rt, &shared, station, p, turns, &mut NoGate);
-    Ok(close_all(rt, shared, station.into_parts()))
+    close_all(rt, shared, station.into_parts())
 }
 
 /// Whether these items are these bytes.
@@ -403,20 +404,4 @@ fn check_lines<R: Abort>(rt: &R, heard: &[Heard], lines: &[Line]) {
     for (heard, line) in heard.iter().zip(lines) {
         assert!(rt; is_line(heard, line));
     }
-}
-
-/// Runs so many turns of processor 0 over the plan of a script, and compares what there is then: the states of the first
-/// threads, and all lines that were heard, in their order.
-fn check<R: Abort + Wait>(
-    rt: &R,
-    alloc: Global,
-    script: &[u8],
-    turns: u32,
-    states: &[State],
-    lines: &[Line],
-) -> Result<Metered, Fail> {
-    let ended = booted(rt, alloc, script, turns)?;
-    check_states(rt, &ended, states);
-    check_lines(rt, ended.heard.as_slice(), lines);
-    Ok(ended.metered)
 }

@@ -1,11 +1,17 @@
-ghost use Rattle.std.specs.Prelude.{◌≤◌, length};
+ghost use Rattle.std.specs.Prelude.{◌≤◌, length, map};
+ghost use Rattle.std.specs.List.{All};
+ghost use Rattle.claim_queue.specs.Handles.{view_of};
+ghost use Rattle.quajects.specs.Ports.{IsEndAt, IsUnused};
+ghost use Rattle.quajects.specs.Routes.{KeysDiffer, IsGivenFit, IsGivenUnused, given_key};
+ghost use Rattle.quajects.specs.Switches.{Fits};
 
-use crate::fixtures::{Five, Two, five_small, last_two, new_queues, put_at, shut_at, take_at};
+use crate::fixtures::{Three, puts_at, queue_with_two, takes_at, three_small};
 use arrayvec::ArrayVec;
-use claim_queue::{ClaimQueue, ClaimRefusal, TakeRefusal};
+use claim_queue::{ClaimQueue, QueueEnd};
 use proc_chain::{Quaject, Ran};
 use quaject_core::OutOfMemory;
 use quajects::*;
+use std::panic::Expect;
 use std::process::Abort;
 use std::test::*;
 
@@ -37,142 +43,52 @@ fn cooks(rt: HostRuntime) {
     assert!(rt; out.as_slice().get(64) == Some(&b'\n'));
 }
 
+/// A switch over these queues, from the first, with the second as its rest.
+fn switch_over(
+    queues: &Queues,
+    source: QueueEnd<64>,
+    other: QueueEnd<64>,
+    ways: [GivenWay; 4],
+) -> Switch
+    requires source { IsEndAt queues.now.small.items 0 source × IsUnused (view_of source) }
+    requires other { IsEndAt queues.now.small.items 1 other × IsUnused (view_of other) }
+    requires ways { All (IsGivenFit queues.now.small.items) ways × All IsGivenUnused ways }
+    requires keys { KeysDiffer (map given_key ways) }
+    ensures { Fits queues.now result }
+{
+    let _queues = queues.small.len();
+    Switch::new(0, source, 1, other, ways)
+}
+
+/// A way whose key is the end of a line takes the empty lines, and no others.
 #[test]
-fn pumps(rt: HostRuntime) -> Result<(), Fail> {
-    let Five { queues, ends } = five_small(rt.alloc())?;
-    let (from, to, _c, _d, _e) = ends;
-    let Two {
-        mine: source,
-        other: mut writer,
-    } = from;
-    let Two {
-        mine: target,
-        other: mut reader,
-    } = to;
+fn empty_lines_have_a_way(rt: HostRuntime) {
+    let Three { queues, ends } = three_small(&rt, rt.alloc());
+    let (from, rest, way) = ends;
+    let (source, mut writer) = (from.mine, from.other);
+    let (other, mut rest_reader) = (rest.mine, rest.other);
+    let (way, mut reader) = (way.mine, way.other);
     let small = queues.small.as_slice();
-    assert!(rt; put_at(small, 0, &mut writer, &[104, 105, 10]).is_ok());
-    let mut pump = Pump::new(0, source, 1, target);
-    assert!(rt; matches!(pump.run(&queues, 0), Ran::Worked));
-    assert!(rt; (pump.taken(), pump.put(), pump.held()) == (3, 3, 0));
-    assert!(rt; matches!(pump.run(&queues, 0), Ran::Nothing));
-    assert!(rt; (pump.taken(), pump.put(), pump.held()) == (3, 3, 0));
-    assert!(rt; pump.notes() == 2);
+    assert!(rt; puts_at(small, 0, &mut writer, &[97, 10]));
+    assert!(rt; puts_at(small, 0, &mut writer, &[10]));
+    let mut switch = switch_over(
+        &queues,
+        source,
+        other,
+        [Some((10, 2, way)), None, None, None],
+    );
+    assert!(rt; matches!(switch.run(&queues, 0), Ran::Worked));
+    assert!(rt; matches!(switch.run(&queues, 0), Ran::Worked));
+    assert!(rt; matches!(switch.run(&queues, 0), Ran::Nothing));
+    assert!(rt; (switch.notes(), switch.taken(), switch.put(), switch.held()) == (3, 3, 3, 0));
     let mut line = ArrayVec::new();
-    assert!(rt; take_at(small, 1, &mut reader, &mut line) == Ok(3));
-    assert!(rt; line.as_slice() == [104, 105, 10].as_slice());
-    Ok(())
-}
-
-/// The same over queues that were made together.
-#[test]
-fn pumps_over_new_queues(rt: HostRuntime) -> Result<(), Fail> {
-    let (queues, mut ends, none) = new_queues(rt.alloc(), 2, 0)?;
-    assert!(rt; none.is_empty());
-    let small = queues.small.as_slice();
-    let Two {
-        mine: target,
-        other: mut reader,
-    } = last_two(small, &mut ends, 1);
-    let Two {
-        mine: source,
-        other: mut writer,
-    } = last_two(small, &mut ends, 0);
-    assert!(rt; ends.is_empty());
-    assert!(rt; put_at(small, 0, &mut writer, &[104, 105, 10]).is_ok());
-    let mut pump = Pump::new(0, source, 1, target);
-    assert!(rt; matches!(pump.run(&queues, 0), Ran::Worked));
-    assert!(rt; (pump.taken(), pump.put(), pump.held()) == (3, 3, 0));
-    assert!(rt; matches!(pump.run(&queues, 0), Ran::Nothing));
-    let mut line = ArrayVec::new();
-    assert!(rt; take_at(small, 1, &mut reader, &mut line) == Ok(3));
-    assert!(rt; line.as_slice() == [104, 105, 10].as_slice());
-    Ok(())
+    assert!(rt; takes_at(small, 1, &mut rest_reader, &mut line, &[97, 10]));
+    assert!(rt; takes_at(small, 2, &mut reader, &mut line, &[10]));
 }
 
 #[test]
-fn pump_holds_what_finds_no_room(rt: HostRuntime) -> Result<(), Fail> {
-    let Five { queues, ends } = five_small(rt.alloc())?;
-    let (from, to, _c, _d, _e) = ends;
-    let Two {
-        mine: source,
-        other: mut writer,
-    } = from;
-    let Two {
-        mine: target,
-        other: mut filler,
-    } = to;
-    let small = queues.small.as_slice();
-    assert!(rt; put_at(small, 0, &mut writer, &[104, 105, 10]).is_ok());
-    assert!(rt; put_at(small, 0, &mut writer, &[10]).is_ok());
-    assert!(rt; put_at(small, 1, &mut filler, &[7; 64]).is_ok());
-    let mut pump = Pump::new(0, source, 1, target);
-    assert!(rt; matches!(pump.run(&queues, 0), Ran::Worked));
-    assert!(rt; (pump.taken(), pump.put(), pump.held()) == (3, 0, 3));
-    assert!(rt; matches!(pump.run(&queues, 0), Ran::Nothing));
-    assert!(rt; (pump.taken(), pump.put(), pump.held()) == (3, 0, 3));
-    let mut line = ArrayVec::new();
-    assert!(rt; take_at(small, 1, &mut filler, &mut line) == Ok(64));
-    assert!(rt; matches!(pump.run(&queues, 0), Ran::Worked));
-    assert!(rt; (pump.taken(), pump.put(), pump.held()) == (3, 3, 0));
-    assert!(rt; matches!(pump.run(&queues, 0), Ran::Worked));
-    assert!(rt; (pump.taken(), pump.put(), pump.held()) == (4, 4, 0));
-    assert!(rt; pump.notes() == 4);
-    Ok(())
-}
-
-#[test]
-fn pump_over_shut_queues(rt: HostRuntime) -> Result<(), Fail> {
-    let Five { queues, ends } = five_small(rt.alloc())?;
-    let (from, to, _c, _d, _e) = ends;
-    let Two {
-        mine: source,
-        other: mut writer,
-    } = from;
-    let Two {
-        mine: target,
-        other: mut closer,
-    } = to;
-    let small = queues.small.as_slice();
-    assert!(rt; put_at(small, 0, &mut writer, &[104, 10]).is_ok());
-    assert!(rt; put_at(small, 0, &mut writer, &[105, 10]).is_ok());
-    assert!(rt; shut_at(small, 1, &mut closer));
-    let mut pump = Pump::new(0, source, 1, target);
-    assert!(rt; matches!(pump.run(&queues, 0), Ran::Worked));
-    assert!(rt; matches!(pump.run(&queues, 0), Ran::Nothing));
-    assert!(rt; (pump.taken(), pump.put(), pump.held()) == (2, 0, 2));
-    let mut line = ArrayVec::new();
-    assert!(rt; take_at(small, 0, &mut writer, &mut line) == Ok(2));
-    assert!(rt; shut_at(small, 0, &mut writer));
-    let full = put_at(small, 0, &mut writer, &[1]);
-    assert!(rt; full == Err(ClaimRefusal::Closed));
-    assert!(rt; take_at(small, 0, &mut writer, &mut line) == Err(TakeRefusal::Closed));
-    assert!(rt; matches!(pump.run(&queues, 0), Ran::Nothing));
-    assert!(rt; (pump.taken(), pump.put(), pump.held()) == (2, 0, 2));
-    Ok(())
-}
-
-#[test]
-fn pump_over_a_shut_empty_source(rt: HostRuntime) -> Result<(), Fail> {
-    let Five { queues, ends } = five_small(rt.alloc())?;
-    let (from, to, _c, _d, _e) = ends;
-    let Two {
-        mine: source,
-        other: mut closer,
-    } = from;
-    let Two {
-        mine: target,
-        other: _reader,
-    } = to;
-    assert!(rt; shut_at(queues.small.as_slice(), 0, &mut closer));
-    let mut pump = Pump::new(0, source, 1, target);
-    assert!(rt; matches!(pump.run(&queues, 0), Ran::Nothing));
-    assert!(rt; (pump.taken(), pump.put(), pump.held()) == (0, 0, 0));
-    Ok(())
-}
-
-#[test]
-fn settles_with_all_ends(rt: HostRuntime) -> Result<(), Fail> {
-    let (queue, mut first) = ClaimQueue::<64>::new(rt.alloc(), 0)?;
+fn settles_with_all_ends(rt: HostRuntime) {
+    let (queue, mut first) = ClaimQueue::<64>::new(rt.alloc(), 0).expect(&rt, "memory");
     let mut second = queue.split(&mut first);
     let mut third = queue.split(&mut second);
     let mut fourth = queue.split(&mut third);
@@ -182,7 +98,7 @@ fn settles_with_all_ends(rt: HostRuntime) -> Result<(), Fail> {
     // Claimed, and never raised.
     assert!(rt; queue.try_claim(&mut fourth, &[44]).is_ok());
     let mut others = Vec::new(rt.alloc());
-    others.push(second)?;
+    others.push(second).expect(&rt, "memory");
     let (queue, first) = match settle(queue, first, others) {
         Ok(_) => panic!(rt; "closed over open ends"),
         Err((queue, mut first, others)) => {
@@ -192,8 +108,8 @@ fn settles_with_all_ends(rt: HostRuntime) -> Result<(), Fail> {
         }
     };
     let mut others = Vec::new(rt.alloc());
-    others.push(third)?;
-    others.push(fourth)?;
+    others.push(third).expect(&rt, "memory");
+    others.push(fourth).expect(&rt, "memory");
     let Ok(closed) = settle(queue, first, others) else {
         panic!(rt; "open ends")
     };
@@ -201,36 +117,18 @@ fn settles_with_all_ends(rt: HostRuntime) -> Result<(), Fail> {
     assert!(rt;
         closed.left.as_slice() == [Some(105), Some(10), Some(33), None, Some(55)].as_slice()
     );
-    Ok(())
 }
 
 #[test]
-fn gives_its_ends_away(rt: HostRuntime) -> Result<(), Fail> {
-    let Five { queues, ends } = five_small(rt.alloc())?;
-    let (from, to, _c, _d, _e) = ends;
-    let Two {
-        mine: source,
-        other: _writer,
-    } = from;
-    let Two {
-        mine: target,
-        other: _reader,
-    } = to;
-    let pump = AnyQuaject::Pump(Pump::new(3, source, 4, target));
+fn gives_its_ends_away(rt: HostRuntime) {
+    let (_queue, two) = queue_with_two::<_, 64>(&rt, rt.alloc());
+    let pump = AnyQuaject::Pump(Pump::new(3, two.mine, 4, two.other));
     assert!(rt; (pump.notes(), pump.taken(), pump.put(), pump.held()) == (0, 0, 0, 0));
     let (small, large) = pump.into_ends();
-    let [first, second, third, fourth, fifth, sixth] = small;
-    assert!(rt; first.is_some());
-    assert!(rt; second.is_some());
-    assert!(rt; third.is_none());
-    assert!(rt; fourth.is_none());
-    assert!(rt; fifth.is_none());
-    assert!(rt; sixth.is_none());
-    let [line, screen] = large;
-    assert!(rt; line.is_none());
-    assert!(rt; screen.is_none());
-    drop(queues);
-    Ok(())
+    for (at, end) in small.iter().enumerate() {
+        assert!(rt; end.is_some() == (at < 2));
+    }
+    assert!(rt; large.iter().all(Option::is_none));
 }
 
 #[test]

@@ -1,20 +1,74 @@
 ghost use Rattle.std.specs.Prelude.{◌≡◌, length};
 ghost use Rattle.std.specs.Thread.{IsSync};
 ghost use Rattle.proc_chain.specs.Handles.{world_of, IsEndOf};
-ghost use Rattle.quajects.specs.Ports.{IsEndAt};
+ghost use Rattle.claim_queue.specs.Handles.{view_of};
+ghost use Rattle.quajects.specs.Ports.{IsEndAt, IsUnused};
 ghost use Rattle.quajects.specs.Raws.{end_of};
 
-use crate::fixtures::{Devices, Two, four_devices, take_at, take_one_at};
+use crate::fixtures::{Two, queue_with_two};
 use arrayvec::ArrayVec;
-use claim_queue::QueueEnd;
+use claim_queue::{ClaimQueue, QueueEnd};
 use proc_chain::ProcChain;
 use quajects::*;
+use std::alloc::Global;
+use std::panic::Expect;
+use std::process::Abort;
 use std::sync::Wait;
 use std::test::*;
 use std::thread;
 use std::thread::Threads;
 
 type Chain = ProcChain<AnyQuaject>;
+
+/// A raw queue with its taker, another end and four devices, a line queue with a reader, and a screen queue.
+#[derive(Drop)]
+struct Devices {
+    queues: Queues,
+    raw: Two<64>,
+    devices: (Two<64>, Two<64>),
+    line: Two<256>,
+    screen: QueueEnd<256>,
+    ghost raw_at: { IsEndAt queues.small.items 0 raw.mine × IsEndAt queues.small.items 0 raw.other },
+    ghost first_at: { IsEndAt queues.small.items 0 devices.0.mine × IsEndAt queues.small.items 0 devices.0.other },
+    ghost second_at: { IsEndAt queues.small.items 0 devices.1.mine × IsEndAt queues.small.items 0 devices.1.other },
+    ghost line_at: { IsEndAt queues.large.items 0 line.mine × IsEndAt queues.large.items 0 line.other },
+    ghost screen_at: { IsEndAt queues.large.items 1 screen × IsUnused (view_of screen) },
+}
+
+fn four_devices<R: Abort>(rt: &R, alloc: Global) -> Devices {
+    let (queue, mut taker) = ClaimQueue::new(alloc, 0).expect(rt, "memory");
+    let mut rest = queue.split(&mut taker);
+    let mut first = queue.split(&mut rest);
+    let mut second = queue.split(&mut first);
+    let mut third = queue.split(&mut second);
+    let fourth = queue.split(&mut third);
+    let (lines, line) = queue_with_two(rt, alloc);
+    let (screens, screen) = ClaimQueue::new(alloc, 0).expect(rt, "memory");
+    let mut small = Vec::new(alloc);
+    small.push(queue).expect(rt, "memory");
+    let mut large = Vec::new(alloc);
+    large.push(lines).expect(rt, "memory");
+    large.push(screens).expect(rt, "memory");
+    Devices {
+        queues: Queues { small, large },
+        raw: Two {
+            mine: taker,
+            other: rest,
+        },
+        devices: (
+            Two {
+                mine: first,
+                other: second,
+            },
+            Two {
+                mine: third,
+                other: fourth,
+            },
+        ),
+        line,
+        screen,
+    }
+}
 
 /// Types 32 bytes, from this one on.
 fn type_bytes<R: Wait>(rt: &R, queues: &Queues, chain: &Chain, tty: RawTty, first: u8) -> RawTty
@@ -139,7 +193,8 @@ fn hear_lines(queues: &Queues, reader: &mut QueueEnd<256>, hearing: &mut Hearing
 {
     let mut heard = ArrayVec::new();
     for _ in 0..3u8 {
-        if take_at(queues.large.as_slice(), 0, reader, &mut heard).is_ok() {
+        heard.clear();
+        if queues.large[0].try_take_line(reader, &mut heard).is_ok() {
             for item in heard.as_slice() {
                 hearing.hear(*item);
             }
@@ -152,7 +207,7 @@ fn hear_rest(queues: &Queues, device: &mut QueueEnd<64>, hearing: &mut Hearing)
     requires { IsEndAt queues.now.small.items 0 device.old }
 {
     for _ in 0..64u8 {
-        if let Ok(item) = take_one_at(queues.small.as_slice(), 0, device) {
+        if let Ok(item) = queues.small[0].try_take(device) {
             hearing.hear(item);
         }
     }
@@ -160,14 +215,14 @@ fn hear_rest(queues: &Queues, device: &mut QueueEnd<64>, hearing: &mut Hearing)
 
 #[test]
 #[tactic(auto, using(quajects::proofs::Making::made_of_itself))]
-fn four_threads(rt: HostRuntime) -> Result<(), Fail> {
+fn four_threads(rt: HostRuntime) {
     let Devices {
         queues,
         raw,
         devices,
         line,
         screen,
-    } = four_devices(rt.alloc())?;
+    } = four_devices(&rt, rt.alloc());
     let (Two { mine: a, other: b }, Two { mine: c, other: d }) = devices;
     let Two {
         mine: raw,
@@ -219,5 +274,4 @@ fn four_threads(rt: HostRuntime) -> Result<(), Fail> {
     };
     assert!(rt; (home.left, home.held) == (0, 0));
     assert!(rt; home.notes == home.chained as u64);
-    Ok(())
 }

@@ -9,6 +9,7 @@ use processor::{Heard, hears_of};
 use quaject_core::OutOfMemory;
 use reporting::*;
 use std::alloc::Global;
+use std::panic::Expect;
 use std::process::Abort;
 use std::snapshot::Snapshot;
 use std::test::*;
@@ -122,44 +123,48 @@ fn metered<R: Abort>(rt: &R, plan: &BootPlan) -> Metered {
     }
 }
 
-fn ended<R: Abort>(rt: &R, alloc: Global) -> Result<Ended, Fail> {
+fn ended<R: Abort>(rt: &R, alloc: Global) -> Ended {
     let plan = plan(rt, alloc);
     let mut signals = [0u16; 64];
     signals[0] = 8;
     signals[2] = 0x8001;
     let meters = metered(rt, &plan);
-    Ok(Ended {
+    Ended {
         counts: vec![in alloc;
             numbers(1, 3, 12, 9, 3),
             numbers(4, 2, 6, 5, 1),
             numbers(0, 7, 100, 200, 4),
             numbers(0, 1, 300, 400, 0),
-        ]?,
+        ]
+        .expect(rt, "memory"),
         small: vec![in alloc;
             closed(rt, 12, 5),
             closed(rt, 3, 3),
             closed(rt, 8, 6),
             closed(rt, 1, 0),
-        ]?,
+        ]
+        .expect(rt, "memory"),
         large: vec![in alloc;
             closed(rt, 21, 20),
             closed(rt, 41, 0),
             closed(rt, 2, 1),
             closed(rt, 4, 2),
-        ]?,
+        ]
+        .expect(rt, "memory"),
         threads: places(),
         meters,
         heard: vec![in alloc;
             heard(rt, 1, 0, &[116, 119, 111, 10]),
             heard(rt, 0, 2, &[10]),
             heard(rt, 0, 1, &[111, 110, 101, 10]),
-        ]?,
+        ]
+        .expect(rt, "memory"),
         signals,
         plan,
         homes: Snapshot::of(&Vec::new(alloc)),
         small_ends: Snapshot::of(&Vec::new(alloc)),
         large_ends: Snapshot::of(&Vec::new(alloc)),
-    })
+    }
 }
 
 /// What the devices of the two ttys did.
@@ -176,36 +181,37 @@ const TYPED: [Typed; 2] = [
 
 /// The report of all this is printed with each number in its place, and what was heard in its order.
 #[test]
-fn reports_what_was_closed(rt: HostRuntime) -> Result<(), Fail> {
-    let ended = ended(&rt, rt.alloc())?;
-    let room = Room::new(rt.alloc(), &ended.plan)?;
+fn reports_what_was_closed(rt: HostRuntime) {
+    let ended = ended(&rt, rt.alloc());
+    let room = Room::new(rt.alloc(), &ended.plan).expect(&rt, "memory");
     let first = vec![in rt.alloc();
         heard(&rt, 1, 0, &[116, 119, 111, 10]),
         heard(&rt, 0, 2, &[10]),
-    ]?;
-    let second = vec![in rt.alloc(); heard(&rt, 0, 1, &[111, 110, 101, 10])]?;
+    ]
+    .expect(&rt, "memory");
+    let second = vec![in rt.alloc(); heard(&rt, 0, 1, &[111, 110, 101, 10])].expect(&rt, "memory");
     if first.len() + second.len() > hears_of(&ended.plan) {
         panic!(rt; "heard")
     }
-    let all = vec![in rt.alloc(); first, second]?;
+    let all = vec![in rt.alloc(); first, second].expect(&rt, "memory");
     let report = report_boot(ended, all, &TYPED, room);
     assert!(rt; live_of(&report) == 4);
     let mut page = Vec::new(rt.alloc());
-    print_report(&report, &mut page)?;
+    print_report(&report, &mut page).expect(&rt, "memory");
     assert!(rt; page.as_slice() == PRINTED);
-    Ok(())
 }
 
 /// What was heard is sorted in place, and is reported in the order in which it stands.
 #[test]
-fn sorts_what_was_heard(rt: HostRuntime) -> Result<(), Fail> {
-    let ended = ended(&rt, rt.alloc())?;
-    let lines = Lines::new(rt.alloc(), &ended.plan)?;
+fn sorts_what_was_heard(rt: HostRuntime) {
+    let ended = ended(&rt, rt.alloc());
+    let lines = Lines::new(rt.alloc(), &ended.plan).expect(&rt, "memory");
     let mut lines_heard = vec![in rt.alloc();
         heard(&rt, 1, 0, &[116, 119, 111, 10]),
         heard(&rt, 0, 2, &[10]),
         heard(&rt, 0, 1, &[111, 110, 101, 10]),
-    ]?;
+    ]
+    .expect(&rt, "memory");
     sort_heard(&mut lines_heard);
     let [first, second, third] = lines_heard.as_slice() else {
         panic!(rt; "three")
@@ -218,9 +224,8 @@ fn sorts_what_was_heard(rt: HostRuntime) -> Result<(), Fail> {
     }
     let report = make_report(ended, lines_heard, &TYPED, lines);
     let mut page = Vec::new(rt.alloc());
-    print_report(&report, &mut page)?;
+    print_report(&report, &mut page).expect(&rt, "memory");
     assert!(rt; page.as_slice() == PRINTED);
-    Ok(())
 }
 
 /// Where an allocation is refused there are no lines, and the next try has them.

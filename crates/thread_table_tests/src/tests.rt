@@ -2,55 +2,14 @@ ghost use Rattle.std.specs.Prelude.{◌≡◌, ◌+◌, true, Some, IfOk};
 ghost use Rattle.thread_table.specs.Handles.{view_of, IsHandOf, IsSameHand};
 ghost use Rattle.thread_table.specs.Rules.{has, serves, running};
 
-use quaject_core::{Element, OutOfMemory, Processor, Signal, WaitNumber};
+use crate::scripts::{Act, begins, does, free, plays};
+use quaject_core::{Element, OutOfMemory, Processor, WaitNumber};
 use std::alloc::Global;
+use std::panic::Expect;
+use std::process::Abort;
 use std::sync::Wait;
 use std::test::*;
 use thread_table::*;
-
-/// Takes the next free element, which has to be this one.
-fn free(table: &ThreadTable, hand: &mut Hand, element: u8) -> bool
-    requires { IsHandOf table.now hand.old }
-    ensures { IsSameHand hand.old hand.new }
-{
-    matches!(table.try_free(hand), Ok(found) if found.number() == element)
-}
-
-/// Takes the next ready element, which has to be this one.
-fn next(table: &ThreadTable, hand: &mut Hand, element: u8) -> bool
-    requires { IsHandOf table.now hand.old }
-    ensures { IsSameHand hand.old hand.new }
-{
-    matches!(table.try_next(hand), Ok(found) if found.number() == element)
-}
-
-/// Makes an element ready, which the hand has to hold.
-fn ready(table: &ThreadTable, hand: &mut Hand, element: u8) -> bool
-    requires { IsHandOf table.now hand.old }
-    ensures { IsSameHand hand.old hand.new }
-{
-    let Some(element) = Element::new(element) else {
-        return false;
-    };
-    if !hand.holds(element) {
-        return false;
-    }
-    table.try_ready(hand, element) == Ok(()) && !hand.holds(element)
-}
-
-/// Puts an element into a wait queue, which the hand has to hold.
-fn wait(table: &ThreadTable, hand: &mut Hand, element: u8, queue: WaitNumber) -> bool
-    requires { IsHandOf table.now hand.old }
-    ensures { IsSameHand hand.old hand.new }
-{
-    let Some(element) = Element::new(element) else {
-        return false;
-    };
-    if !hand.holds(element) {
-        return false;
-    }
-    table.try_wait(hand, element, queue) == Ok(()) && !hand.holds(element)
-}
 
 /// Wakes all, and then takes off what the hand has on a processor: that it serves it still, and that the same element
 /// stands there, is proved, not tried.
@@ -81,95 +40,150 @@ fn count_on(table: &ThreadTable, hand: &mut Hand, element: Element) -> (u64, Res
     (count, table.step_done(hand, element))
 }
 
+const PROCESSORS: &[Act] = &[
+    Act::Free(0),
+    Act::On(0, 0, Ok(())),
+    Act::Free(1),
+    Act::On(0, 1, Err(ProcessorBusy)),
+    Act::Stop(0),
+    Act::Off(0, Some(0)),
+    Act::Off(0, None),
+    Act::Park(0, true),
+    Act::Start(0, Started::Held),
+    Act::Start(0, Started::NotStopped),
+    Act::Stop(0),
+    Act::Start(0, Started::Cleared),
+    Act::Park(0, false),
+];
+
 #[test]
-fn processors_and_stops(rt: HostRuntime) -> Result<(), Fail> {
-    let (table, mut first) = ThreadTable::new(rt.alloc())?;
+fn processors_and_stops(rt: HostRuntime) {
+    let (table, mut first) = ThreadTable::new(rt.alloc()).expect(&rt, "memory");
     let a = &mut first;
-    let (Some(e0), Some(e1)) = (Element::new(0), Element::new(1)) else {
-        panic!(rt; "elements")
-    };
     let (Some(p0), Some(p1)) = (Processor::new(0), Processor::new(1)) else {
         panic!(rt; "processors")
     };
     assert!(rt; a.serves(p1) && a.on_processor(p1).is_none());
     let b = table.split(a, 2);
     assert!(rt; b.serves(p1) && !b.serves(p0) && !a.serves(p1));
-    assert!(rt; free(&table, a, 0));
-    assert!(rt; a.serves(p0));
-    assert!(rt; a.holds(e0));
-    assert!(rt; table.on(a, p0, e0) == Ok(()));
-    assert!(rt; (a.holds(e0), a.on_processor(p0)) == (false, Some(e0)));
-    assert!(rt; free(&table, a, 1));
-    assert!(rt; a.serves(p0));
-    assert!(rt; a.holds(e1));
-    assert!(rt; table.on(a, p0, e1) == Err(ProcessorBusy));
-    assert!(rt; table.stop(a, e0));
-    assert!(rt; a.serves(p0));
-    assert!(rt; table.off(a, p0) == Ok(e0));
-    assert!(rt; a.serves(p0));
-    assert!(rt; table.off(a, p0) == Err(ProcessorEmpty));
-    assert!(rt; a.holds(e0));
-    assert!(rt; table.try_park(a, e0) == Ok(true));
-    assert!(rt; table.try_start(a, e0) == Ok(Started::Held));
-    assert!(rt; table.try_start(a, e0) == Ok(Started::NotStopped));
-    assert!(rt; table.stop(a, e0));
-    assert!(rt; table.try_start(a, e0) == Ok(Started::Cleared));
-    assert!(rt; a.holds(e0));
-    assert!(rt; table.try_park(a, e0) == Ok(false));
+    does(&rt, &table, a, PROCESSORS);
     table.join(a, b);
     assert!(rt; a.serves(p1));
-    Ok(())
 }
 
+const SIGNALS: &[Act] = &[
+    Act::Free(0),
+    Act::Wait(0, 2),
+    Act::Signal(0, 3, Signalled::Raised),
+    Act::Signal(0, 3, Signalled::Merged),
+    Act::NoneReady,
+    Act::Wake(2, 0),
+    Act::Deliver(0, 8),
+    Act::Deliver(0, 0),
+];
+
 #[test]
-fn signals(rt: HostRuntime) -> Result<(), Fail> {
-    let (table, mut first) = ThreadTable::new(rt.alloc())?;
-    let a = &mut first;
-    let (Some(e0), Some(w2), Some(s3)) = (Element::new(0), WaitNumber::new(2), Signal::new(3))
-    else {
+fn signals(rt: HostRuntime) {
+    let ends = [(0, Place::Held)];
+    plays(&rt, rt.alloc(), 0, SIGNALS, &ends);
+}
+
+const READY_IN_TURN: &[Act] = &[
+    Act::Free(0),
+    Act::Free(1),
+    Act::Free(2),
+    Act::Ready(0),
+    Act::Ready(1),
+    Act::Ready(2),
+    Act::Next(0),
+    Act::Ready(0),
+    Act::Next(1),
+];
+
+#[test]
+fn ready_in_turn(rt: HostRuntime) {
+    let ends = [(0, Place::Ready), (1, Place::Held), (2, Place::Ready)];
+    plays(&rt, rt.alloc(), 0, READY_IN_TURN, &ends);
+}
+
+const FIRST_IN_FIRST_OUT: &[Act] = &[
+    Act::Free(0),
+    Act::Free(1),
+    Act::Free(2),
+    Act::Free(3),
+    Act::Free(4),
+    Act::Free(5),
+    Act::Ready(2),
+    Act::Ready(0),
+    Act::Ready(1),
+    Act::Next(2),
+    Act::Next(0),
+    Act::Next(1),
+    Act::NoneReady,
+    Act::Wait(5, 3),
+    Act::Wait(4, 3),
+    Act::Wake(3, 5),
+    Act::Wait(5, 3),
+    Act::WakeAll(3, 48),
+];
+
+#[test]
+fn first_in_first_out(rt: HostRuntime) {
+    let ends = [(4, Place::Held), (5, Place::Held), (6, Place::Free)];
+    plays(&rt, rt.alloc(), 0, FIRST_IN_FIRST_OUT, &ends);
+}
+
+const LAST_POSITIONS: &[Act] = &[
+    Act::Free(0),
+    Act::Retire(0, Err(MoveRefusal::Spent)),
+    Act::Ready(0),
+    Act::Next(0),
+];
+
+#[test]
+fn last_positions(rt: HostRuntime) {
+    let ends = [(0, Place::Held), (1, Place::Free)];
+    plays(&rt, rt.alloc(), 4_294_967_231, LAST_POSITIONS, &ends);
+}
+
+const TICKETS: &[Act] = &[
+    Act::Free(0),
+    Act::Ticket(2, 0),
+    Act::WakeAll(2, 0),
+    Act::WaitAt(0, 2, 0, Err(MoveRefusal::Moved { mark: 1 })),
+    Act::WaitAt(0, 2, 1, Ok(())),
+    Act::WakeAll(2, 1),
+];
+
+#[test]
+fn tickets(rt: HostRuntime) {
+    let ends = [(0, Place::Held), (1, Place::Free)];
+    plays(&rt, rt.alloc(), 0, TICKETS, &ends);
+}
+
+const TWO_WAIT: &[Act] = &[
+    Act::Free(0),
+    Act::Free(1),
+    Act::Wait(0, 2),
+    Act::Wait(1, 2),
+    Act::WakeAll(2, 3),
+    Act::On(0, 0, Ok(())),
+];
+
+#[test]
+fn wakes_all(rt: HostRuntime) {
+    let (table, mut first) = begins(&rt, rt.alloc(), 0);
+    let (Some(w2), Some(p0)) = (WaitNumber::new(2), Processor::new(0)) else {
         panic!(rt; "names")
     };
-    assert!(rt; free(&table, a, 0) && wait(&table, a, 0, w2));
-    assert!(rt; table.signal(a, e0, s3) == Signalled::Raised);
-    assert!(rt; table.signal(a, e0, s3) == Signalled::Merged);
-    assert!(rt; table.try_next(a) == Err(NextRefusal::NoneReady));
-    assert!(rt; table.try_wake(a, w2) == Ok(e0));
-    assert!(rt; a.holds(e0));
-    assert!(rt; table.try_deliver(a, e0) == Ok(8));
-    assert!(rt; a.holds(e0));
-    assert!(rt; table.try_deliver(a, e0) == Ok(0));
-    Ok(())
-}
-
-#[test]
-fn ready_in_turn(rt: HostRuntime) -> Result<(), Fail> {
-    let (table, mut first) = ThreadTable::new(rt.alloc())?;
     let a = &mut first;
-    assert!(rt; free(&table, a, 0) && free(&table, a, 1) && free(&table, a, 2));
-    assert!(rt; ready(&table, a, 0) && ready(&table, a, 1) && ready(&table, a, 2));
-    assert!(rt; next(&table, a, 0) && ready(&table, a, 0) && next(&table, a, 1));
-    Ok(())
-}
-
-#[test]
-fn wakes_all(rt: HostRuntime) -> Result<(), Fail> {
-    let (table, mut first) = ThreadTable::new(rt.alloc())?;
-    let a = &mut first;
-    let (Some(e0), Some(w2), Some(p0)) = (Element::new(0), WaitNumber::new(2), Processor::new(0))
-    else {
-        panic!(rt; "names")
-    };
-    assert!(rt; free(&table, a, 0) && free(&table, a, 1));
-    assert!(rt; wait(&table, a, 0, w2) && wait(&table, a, 1, w2));
-    assert!(rt; table.wake_all(&rt, a, w2) == 3);
-    assert!(rt; a.holds(e0) && a.serves(p0));
-    assert!(rt; table.on(a, p0, e0) == Ok(()));
+    does(&rt, &table, a, TWO_WAIT);
     assert!(rt; a.serves(p0));
-    assert!(rt; wake_and_take_off(&rt, &table, a, w2, p0) == Ok(e0));
+    let Ok(e0) = wake_and_take_off(&rt, &table, a, w2, p0) else {
+        panic!(rt; "empty")
+    };
     assert!(rt; a.holds(e0));
     assert!(rt; count_on(&table, a, e0) == (0, Ok(1)));
-    assert!(rt; a.holds(e0));
-    assert!(rt; table.pc(a, e0) == 1);
     let Ok(closed) = table.close(first) else {
         panic!(rt; "close")
     };
@@ -178,60 +192,6 @@ fn wakes_all(rt: HostRuntime) -> Result<(), Fail> {
         assert!(rt; (closed.places[e], closed.pcs[e]) == (Place::Free, 0));
     }
     assert!(rt; (closed.pcs[0], closed.pcs[1], closed.stops) == (1, 0, 0));
-    Ok(())
-}
-
-#[test]
-fn first_in_first_out(rt: HostRuntime) -> Result<(), Fail> {
-    let (table, mut first) = ThreadTable::new(rt.alloc())?;
-    let a = &mut first;
-    let (Some(e5), Some(w3)) = (Element::new(5), WaitNumber::new(3)) else {
-        panic!(rt; "names")
-    };
-    for e in 0..6u8 {
-        assert!(rt; free(&table, a, e));
-    }
-    assert!(rt; ready(&table, a, 2) && ready(&table, a, 0) && ready(&table, a, 1));
-    assert!(rt; next(&table, a, 2) && next(&table, a, 0) && next(&table, a, 1));
-    assert!(rt; table.try_next(a) == Err(NextRefusal::NoneReady));
-    assert!(rt; wait(&table, a, 5, w3) && wait(&table, a, 4, w3));
-    assert!(rt; table.try_wake(a, w3) == Ok(e5));
-    assert!(rt; wait(&table, a, 5, w3));
-    assert!(rt; table.wake_all(&rt, a, w3) == 48);
-    Ok(())
-}
-
-#[test]
-fn last_positions(rt: HostRuntime) -> Result<(), Fail> {
-    let (table, mut first) = ThreadTable::new_at(rt.alloc(), 4_294_967_231)?;
-    let a = &mut first;
-    let Some(e0) = Element::new(0) else {
-        panic!(rt; "element")
-    };
-    assert!(rt; free(&table, a, 0));
-    assert!(rt; a.holds(e0));
-    assert!(rt; table.try_retire(a, e0) == Err(MoveRefusal::Spent));
-    assert!(rt; a.holds(e0));
-    assert!(rt; ready(&table, a, 0) && next(&table, a, 0));
-    Ok(())
-}
-
-#[test]
-fn tickets(rt: HostRuntime) -> Result<(), Fail> {
-    let (table, mut first) = ThreadTable::new(rt.alloc())?;
-    let a = &mut first;
-    let (Some(e0), Some(w2)) = (Element::new(0), WaitNumber::new(2)) else {
-        panic!(rt; "names")
-    };
-    assert!(rt; free(&table, a, 0));
-    assert!(rt; table.ticket(a, w2) == 0);
-    assert!(rt; table.wake_all(&rt, a, w2) == 0);
-    assert!(rt; a.holds(e0));
-    assert!(rt; table.try_wait_at(a, e0, w2, 0) == Err(MoveRefusal::Moved { mark: 1 }));
-    assert!(rt; a.holds(e0));
-    assert!(rt; table.try_wait_at(a, e0, w2, 1) == Ok(()));
-    assert!(rt; table.wake_all(&rt, a, w2) == 1);
-    Ok(())
 }
 
 #[test]
@@ -279,34 +239,29 @@ fn joined_hands_close(rt: HostRuntime) -> Result<(), Fail> {
     Ok(())
 }
 
+const STOPPED_AT_THE_CLOSE: &[Act] = &[
+    Act::Free(0),
+    Act::Free(1),
+    Act::Free(2),
+    Act::Free(3),
+    Act::Stop(0),
+    Act::Park(0, true),
+    Act::Signal(0, 3, Signalled::Raised),
+    Act::On(7, 1, Ok(())),
+    Act::Wait(2, 15),
+    Act::Ready(3),
+];
+
 #[test]
-fn stopped_at_the_close(rt: HostRuntime) -> Result<(), Fail> {
-    let (table, mut first) = ThreadTable::new(rt.alloc())?;
-    let a = &mut first;
-    let (Some(e0), Some(e1), Some(s3)) = (Element::new(0), Element::new(1), Signal::new(3)) else {
-        panic!(rt; "names")
-    };
-    let (Some(p7), Some(w15)) = (Processor::new(7), WaitNumber::new(15)) else {
-        panic!(rt; "names")
-    };
-    assert!(rt;
-        free(&table, a, 0) && free(&table, a, 1) && free(&table, a, 2) && free(&table, a, 3)
-    );
-    assert!(rt; table.stop(a, e0));
-    assert!(rt; a.holds(e0));
-    assert!(rt; table.try_park(a, e0) == Ok(true));
-    assert!(rt; table.signal(a, e0, s3) == Signalled::Raised);
-    assert!(rt; a.serves(p7));
-    assert!(rt; a.holds(e1));
-    assert!(rt; table.on(a, p7, e1) == Ok(()));
-    assert!(rt; wait(&table, a, 2, w15) && ready(&table, a, 3));
-    let Ok(closed) = table.close(first) else {
-        panic!(rt; "close")
-    };
-    assert!(rt; (closed.places[0], closed.places[1]) == (Place::Stopped, Place::Processor(7)));
-    assert!(rt; (closed.places[2], closed.places[3]) == (Place::Wait(15), Place::Ready));
+fn stopped_at_the_close(rt: HostRuntime) {
+    let ends = [
+        (0, Place::Stopped),
+        (1, Place::Processor(7)),
+        (2, Place::Wait(15)),
+        (3, Place::Ready),
+    ];
+    let closed = plays(&rt, rt.alloc(), 0, STOPPED_AT_THE_CLOSE, &ends);
     assert!(rt; (closed.stops, closed.pending[0], closed.pending[1]) == (1, 8, 0));
-    Ok(())
 }
 
 /// Where an allocation is refused there is no table, and a later try makes one.

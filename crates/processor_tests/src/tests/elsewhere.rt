@@ -6,7 +6,7 @@ ghost use Rattle.end_steps.specs.EndLists.{AreEndsOf};
 ghost use Rattle.processor.specs.Rooms.{HasRoom};
 ghost use Rattle.processor.specs.Stations.{ArePartsOf};
 
-use super::pairs::{join_two, stand_two};
+use super::partings::stand_two;
 use super::*;
 use end_steps::{Gate, Point, say, shut_queue};
 use hand_steps::wake;
@@ -116,42 +116,33 @@ hear p
 ";
 
 /// What there is once processor 0 had so many turns.
-fn heard_beside<R: Abort + Wait>(
-    rt: &R,
-    alloc: Global,
-    turns: u32,
-    shuts: bool,
-) -> Result<AtEnd, Fail> {
-    let plan = parse_boot(alloc, HEARS)?;
-    let (Some(p), Some(q)) = (Processor::new(0), Processor::new(1)) else {
-        panic!(rt; "processors")
-    };
-    let (shared, one, other) = stand_two(rt, alloc, plan, p, q)?;
-    let (one, other) = run_beside(rt, &shared, (one, p), other, turns, shuts);
-    let (parts, _lines) = join_two(&shared, one, other);
-    Ok(close_all(rt, shared, parts))
+fn heard_beside<R: Abort + Wait>(rt: &R, alloc: Global, turns: u32, shuts: bool) -> AtEnd {
+    let plan = plan_of(rt, alloc, HEARS);
+    let (p, q) = (processor(rt, 0), processor(rt, 1));
+    let (shared, one, other) = stand_two(rt, alloc, plan, p, q);
+    let (mut one, other) = run_beside(rt, &shared, (one, p), other, turns, shuts);
+    let _lines = one.join(&shared, other);
+    close_all(rt, shared, one.into_parts())
 }
 
 /// A line that is said behind a hear's try, and before its element waits, wakes nobody. But the ticket has moved, so the
 /// element is ready again, and hears the line in its next turn.
 #[test]
-fn said_before_the_wait(rt: HostRuntime) -> Result<(), Fail> {
-    let once = heard_beside(&rt, rt.alloc(), 1, false)?;
+fn said_before_the_wait(rt: HostRuntime) {
+    let once = heard_beside(&rt, rt.alloc(), 1, false);
     check_states(&rt, &once, &[ready(0)]);
     assert!(rt; once.heard.len() == 0);
-    let twice = heard_beside(&rt, rt.alloc(), 2, false)?;
+    let twice = heard_beside(&rt, rt.alloc(), 2, false);
     check_states(&rt, &twice, &[ended(1)]);
     check_lines(&rt, twice.heard.as_slice(), &[(0, 0, b"z\n")]);
-    Ok(())
 }
 
 /// The same where the pipe is shut: the element hears nothing in its next turn, and its step is done.
 #[test]
-fn shut_before_the_wait(rt: HostRuntime) -> Result<(), Fail> {
-    let once = heard_beside(&rt, rt.alloc(), 1, true)?;
+fn shut_before_the_wait(rt: HostRuntime) {
+    let once = heard_beside(&rt, rt.alloc(), 1, true);
     check_states(&rt, &once, &[ready(0)]);
-    let twice = heard_beside(&rt, rt.alloc(), 2, true)?;
+    let twice = heard_beside(&rt, rt.alloc(), 2, true);
     check_states(&rt, &twice, &[ended(1)]);
     assert!(rt; twice.heard.len() == 0);
-    Ok(())
 }

@@ -28,12 +28,12 @@ impl Gate for Recorder {
 /// The gate is told each turn, with its number, and what stands between the parts of a say and behind the try of a
 /// hear; a turn with no thread at hand is told too.
 #[test]
-fn turns_are_told(rt: HostRuntime) -> Result<(), Fail> {
-    let plan = parse_boot(rt.alloc(), SAID)?;
-    let Some(p) = Processor::new(5) else {
-        panic!(rt; "processor")
+fn turns_are_told(rt: HostRuntime) {
+    let plan = plan_of(&rt, rt.alloc(), SAID);
+    let p = processor(&rt, 5);
+    let Ok((shared, station)) = stand(&rt, rt.alloc(), plan, p) else {
+        panic!(rt; "memory")
     };
-    let (shared, station) = stand(&rt, rt.alloc(), plan, p)?;
     let mut gate = Recorder {
         points: Vec::new(rt.alloc()),
     };
@@ -49,5 +49,4 @@ fn turns_are_told(rt: HostRuntime) -> Result<(), Fail> {
     assert!(rt; gate.points.as_slice() == points.as_slice());
     let ended = close_all(&rt, shared, station.into_parts());
     check_states(&rt, &ended, &[at(Place::Free, 2)]);
-    Ok(())
 }

@@ -37,9 +37,7 @@ fn boots<R: Abort + Wait>(rt: &R, alloc: Global, p: Processor) -> bool {
 /// Where an allocation is refused a boot has no memory, or goes on with the ends that came back; others go on.
 #[test]
 fn memory_may_be_wanting(rt: HostRuntime) {
-    let Some(p) = Processor::new(0) else {
-        panic!(rt; "processor")
-    };
+    let p = processor(&rt, 0);
     let mut booted = 0u8;
     for _ in 0..3u8 {
         if boots(&rt, rt.alloc(), p) {

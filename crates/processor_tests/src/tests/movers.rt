@@ -1,5 +1,5 @@
 //! Turns with a pump.
-ghost use Rattle.std.specs.Prelude.{◌≡◌, length, IfOk};
+ghost use Rattle.std.specs.Prelude.{◌≡◌, length};
 ghost use Rattle.std.specs.List.{All};
 ghost use Rattle.thread_table.specs.Handles.{view_of};
 ghost use Rattle.hand_steps.specs.Holdings.{IsFree};
@@ -12,6 +12,7 @@ use super::*;
 use claim_queue::ClaimQueue;
 use proc_chain::{ChainEnd, Chained, ProcChain};
 use quajects::{AnyQuaject, Pump};
+use std::panic::Expect;
 use std::test::*;
 
 type Chain = ProcChain<AnyQuaject>;
@@ -36,38 +37,38 @@ struct Pumped {
 
 /// The pump's chain begins at this position.
 #[tactic(auto, using(quajects::proofs::Making::made_of_itself))]
-fn make_pump(alloc: Global, at: u32) -> Result<Pumped, OutOfMemory> {
-    let (first, mut source) = ClaimQueue::new(alloc, 0)?;
+fn make_pump<R: Abort>(rt: &R, alloc: Global, at: u32) -> Pumped {
+    let (first, mut source) = ClaimQueue::new(alloc, 0).expect(rt, "memory");
     let a = first.split(&mut source);
-    let (second, mut target) = ClaimQueue::new(alloc, 0)?;
+    let (second, mut target) = ClaimQueue::new(alloc, 0).expect(rt, "memory");
     let b = second.split(&mut target);
     let mut small = Vec::new(alloc);
-    small.push(first)?;
-    small.push(second)?;
+    small.push(first).expect(rt, "memory");
+    small.push(second).expect(rt, "memory");
     let mut ends = Vec::new(alloc);
-    ends.push(a)?;
-    ends.push(b)?;
+    ends.push(a).expect(rt, "memory");
+    ends.push(b).expect(rt, "memory");
     let queues = Queues {
         small,
         large: Vec::new(alloc),
     };
     let pump = AnyQuaject::Pump(Pump::new(0, source, 1, target));
     let Ok((chain, mut end)) = Chain::new(alloc, at, pump, &queues) else {
-        return Err(OutOfMemory);
+        panic!(rt; "memory")
     };
     let other = chain.split(&mut end);
     let mut chains = Vec::new(alloc);
-    chains.push(chain)?;
+    chains.push(chain).expect(rt, "memory");
     let mut chain_ends = Vec::new(alloc);
-    chain_ends.push(end)?;
-    Ok(Pumped {
+    chain_ends.push(end).expect(rt, "memory");
+    Pumped {
         queues,
         small: ends,
         large: Vec::new(alloc),
         chains,
         chain_ends,
         other,
-    })
+    }
 }
 
 /// The plan has two queues and one pump.
@@ -93,55 +94,43 @@ fn stand_pumped<R: Abort + Wait>(
     plan: BootPlan,
     p: Processor,
     at: u32,
-) -> Result<(Shared, Station, ChainEnd<AnyQuaject>), OutOfMemory>
-    ensures parts { IfOk result (λ r. ArePartsOf r.0 r.1.parts) }
-    ensures free { IfOk result (λ r. IsFree p (view_of r.1.parts.hand)) }
-    ensures room { IfOk result (λ r. HasRoom r.0.plan r.1.parts) }
-    ensures one { IfOk result (λ r. length r.0.chains.items ≡ 1) }
-    ensures other { IfOk result (λ r. All (λ chain. chain_end_table r.2 ≡ chain_table chain) r.0.chains.items
-        × IsIdle r.2) }
+) -> (Shared, Station, ChainEnd<AnyQuaject>)
+    ensures parts { ArePartsOf result.0 result.1.parts }
+    ensures free { IsFree p (view_of result.1.parts.hand) }
+    ensures room { HasRoom result.0.plan result.1.parts }
+    ensures one { length result.0.chains.items ≡ 1 }
+    ensures other { All (λ chain. chain_end_table result.2 ≡ chain_table chain) result.0.chains.items
+        × IsIdle result.2 }
 {
     must_have_a_pump(rt, &plan);
-    let (threads, mut hand) = ThreadTable::new(alloc)?;
+    let Ok((threads, mut hand)) = ThreadTable::new(alloc) else {
+        panic!(rt; "memory")
+    };
     ready_first(rt, &threads, &mut hand, plan.threads.as_slice().len());
     must_be_free(rt, &hand, p);
-    let (meters, seat) = Meters::new(alloc, 0)?;
-    let Pumped {
-        queues,
-        small,
-        large,
-        chains,
-        chain_ends,
-        other,
-    } = make_pump(alloc, at)?;
+    let Ok((meters, seat)) = Meters::new(alloc, 0) else {
+        panic!(rt; "memory")
+    };
+    let made = make_pump(rt, alloc, at);
     let shared = Shared {
-        queues,
-        chains,
+        queues: made.queues,
+        chains: made.chains,
         threads,
         meters,
         plan,
     };
-    match Station::new(alloc, &shared, hand, small, large, chain_ends, seat) {
-        Ok(station) => Ok((shared, station, other)),
-        Err((_parts, error)) => Err(error),
-    }
-}
-
-/// Runs so many turns of processor 0 over the plan of a script with a pump, whose chain begins at this position.
-fn run_pumped<R: Abort + Wait>(
-    rt: &R,
-    alloc: Global,
-    script: &[u8],
-    at: u32,
-    turns: u32,
-) -> Result<AtEnd, Fail> {
-    let plan = parse_boot(alloc, script)?;
-    let Some(p) = Processor::new(0) else {
-        panic!(rt; "processor")
+    let Ok(station) = Station::new(
+        alloc,
+        &shared,
+        hand,
+        made.small,
+        made.large,
+        made.chain_ends,
+        seat,
+    ) else {
+        panic!(rt; "memory")
     };
-    let (shared, station, _other) = stand_pumped(rt, alloc, plan, p, at)?;
-    let station = run(rt, &shared, station, p, turns, &mut NoGate);
-    Ok(close_all(rt, shared, station.into_parts()))
+    (shared, station, made.other)
 }
 
 const PUMPED: &[u8] = b"synthesis 1
@@ -156,27 +145,17 @@ hear out
 hear out
 ";
 
-/// A poke with no line to move is done, and one with a line moves it before the next step.
-#[test]
-fn pokes_move_a_line(rt: HostRuntime) -> Result<(), Fail> {
-    let ended = run_pumped(&rt, rt.alloc(), PUMPED, 0, 5)?;
-    check_states(&rt, &ended, &[ready(4)]);
-    let heard = ended.heard.as_slice();
-    assert!(rt; heard.len() == 1);
-    for line in heard {
-        assert!(rt; is_line(line, &(0, 3, b"hi\n")));
-    }
-    Ok(())
-}
-
 /// A chain at its last position takes one note more. The next poke is refused for good, and its step is tried in each
 /// turn of its thread.
 #[test]
-fn pokes_past_the_last_position(rt: HostRuntime) -> Result<(), Fail> {
-    let ended = run_pumped(&rt, rt.alloc(), PUMPED, 4294967294, 6)?;
+fn pokes_past_the_last_position(rt: HostRuntime) {
+    let plan = plan_of(&rt, rt.alloc(), PUMPED);
+    let p = processor(&rt, 0);
+    let (shared, station, _other) = stand_pumped(&rt, rt.alloc(), plan, p, 4294967294);
+    let station = run(&rt, &shared, station, p, 6, &mut NoGate);
+    let ended = close_all(&rt, shared, station.into_parts());
     check_states(&rt, &ended, &[ready(2)]);
     assert!(rt; ended.heard.len() == 0);
-    Ok(())
 }
 
 const MANY_POKES: &[u8] = b"synthesis 1
@@ -221,12 +200,10 @@ poke p
 /// While another end has the Turn and hasn't served it, a thread's pokes are left to it, 31 behind the end's own note.
 /// The next is refused, since the chain is full, and its step is tried again, and done once the notes are served.
 #[test]
-fn pokes_of_a_full_chain(rt: HostRuntime) -> Result<(), Fail> {
-    let plan = parse_boot(rt.alloc(), MANY_POKES)?;
-    let Some(p) = Processor::new(0) else {
-        panic!(rt; "processor")
-    };
-    let (shared, station, other) = stand_pumped(&rt, rt.alloc(), plan, p, 0)?;
+fn pokes_of_a_full_chain(rt: HostRuntime) {
+    let plan = plan_of(&rt, rt.alloc(), MANY_POKES);
+    let p = processor(&rt, 0);
+    let (shared, station, other) = stand_pumped(&rt, rt.alloc(), plan, p, 0);
     let mut other = other;
     let chain = &shared.chains.as_slice()[0];
     let turn = match chain.try_chain(&mut other, 9) {
@@ -240,5 +217,4 @@ fn pokes_of_a_full_chain(rt: HostRuntime) -> Result<(), Fail> {
     let station = run(&rt, &shared, station, p, 1, &mut NoGate);
     let ended = close_all(&rt, shared, station.into_parts());
     check_states(&rt, &ended, &[at(Place::Free, 32)]);
-    Ok(())
 }

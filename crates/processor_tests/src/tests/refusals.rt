@@ -1,13 +1,13 @@
 //! Steps and moves that find no position left, and a clock with no tick left.
-ghost use Rattle.std.specs.Prelude.{◌≡◌, length, IfOk};
+ghost use Rattle.std.specs.Prelude.{◌≡◌, ◌≤◌, length, IfOk};
 ghost use Rattle.end_steps.specs.EndLists.{AreEndsOf};
 
 use super::*;
 use claim_queue::ClaimQueue;
 use std::test::*;
 
-/// The first position of element queues that have 64 left each.
-const LAST: u32 = 4294967231;
+/// Element queues that have 64 positions left each, and a clock at 0.
+const LAST: (u32, u32) = (4294967231, 0);
 
 /// One queue that has positions left for two items.
 fn late_queue(alloc: Global) -> Result<(Queues, Vec<QueueEnd<64>>, Vec<QueueEnd<256>>), OutOfMemory>
@@ -35,30 +35,37 @@ fn check_on<R: Abort + Wait>(
     tables: Tables,
     turns: u32,
     states: &[State],
-) -> Result<AtEnd, Fail>
+) -> AtEnd
     requires { length tables.queues.small.items ≡ length plan.queues }
 {
-    let Some(p) = Processor::new(0) else {
-        panic!(rt; "processor")
+    let p = processor(rt, 0);
+    let Ok((shared, station)) = stand_on(rt, alloc, plan, p, tables) else {
+        panic!(rt; "memory")
     };
-    let (shared, station) = stand_on(rt, alloc, plan, p, tables)?;
     let station = run(rt, &shared, station, p, turns, &mut NoGate);
     let ended = close_all(rt, shared, station.into_parts());
     check_states(rt, &ended, states);
-    Ok(ended)
+    ended
 }
 
-/// The same over a script, with element queues at their last positions.
+/// The same over a script, with element queues that begin at this position, and a clock that begins at this tick.
 fn check_late<R: Abort + Wait>(
     rt: &R,
     alloc: Global,
     script: &[u8],
+    begin: (u32, u32),
     turns: u32,
     states: &[State],
-) -> Result<AtEnd, Fail> {
-    let plan = parse_boot(alloc, script)?;
-    let made = make_queues(alloc, plan.queues.as_slice().len())?;
-    let tables = make_tables(alloc, LAST, 0, made)?;
+) -> AtEnd
+    requires { begin.0 ≤ 4294967231 }
+{
+    let plan = plan_of(rt, alloc, script);
+    let Ok(made) = make_queues(alloc, plan.queues.as_slice().len()) else {
+        panic!(rt; "memory")
+    };
+    let Ok(tables) = make_tables(alloc, begin.0, begin.1, made) else {
+        panic!(rt; "memory")
+    };
     check_on(rt, alloc, plan, tables, turns, states)
 }
 
@@ -78,16 +85,19 @@ hear p
 
 /// A say that finds no position left is refused for good. Its element doesn't wait at the pipe, but is tried again.
 #[test]
-fn says_past_the_last_position(rt: HostRuntime) -> Result<(), Fail> {
-    let plan = parse_boot(rt.alloc(), LATE_PIPE)?;
+fn says_past_the_last_position(rt: HostRuntime) {
+    let plan = plan_of(&rt, rt.alloc(), LATE_PIPE);
     if plan.queues.as_slice().len() != 1 {
         panic!(rt; "one pipe");
     }
-    let made = late_queue(rt.alloc())?;
-    let tables = make_tables(rt.alloc(), 0, 0, made)?;
-    let ended = check_on(&rt, rt.alloc(), plan, tables, 6, &[ready(1), waits(0, 1)])?;
+    let Ok(made) = late_queue(rt.alloc()) else {
+        panic!(rt; "memory")
+    };
+    let Ok(tables) = make_tables(rt.alloc(), 0, 0, made) else {
+        panic!(rt; "memory")
+    };
+    let ended = check_on(&rt, rt.alloc(), plan, tables, 6, &[ready(1), waits(0, 1)]);
     assert!(rt; ended.heard.len() == 1);
-    Ok(())
 }
 
 const ONE_STEP: &[u8] = b"synthesis 1
@@ -102,11 +112,10 @@ thread a
 /// Where the free elements have no position left, an element that is to be retired stays in the hand, whether it had a
 /// turn or no step.
 #[test]
-fn held_in_place_of_retired(rt: HostRuntime) -> Result<(), Fail> {
-    check_late(&rt, rt.alloc(), ONE_STEP, 1, &[held(1)])?;
-    check_late(&rt, rt.alloc(), NO_STEP, 1, &[held(0)])?;
-    check_late(&rt, rt.alloc(), NO_STEP, 4, &[held(0)])?;
-    Ok(())
+fn held_in_place_of_retired(rt: HostRuntime) {
+    check_late(&rt, rt.alloc(), ONE_STEP, LAST, 1, &[held(1)]);
+    check_late(&rt, rt.alloc(), NO_STEP, LAST, 1, &[held(0)]);
+    check_late(&rt, rt.alloc(), NO_STEP, LAST, 4, &[held(0)]);
 }
 
 const NOTHING_SAID: &[u8] = b"synthesis 1
@@ -118,11 +127,10 @@ hear q
 /// The ready ring has 64 positions: one in which the element was first made ready, and one for each of 63 turns. Behind
 /// the next turn the element stays in the hand.
 #[test]
-fn held_in_place_of_ready(rt: HostRuntime) -> Result<(), Fail> {
-    check_late(&rt, rt.alloc(), NOTHING_SAID, 63, &[ready(0)])?;
-    check_late(&rt, rt.alloc(), NOTHING_SAID, 64, &[held(0)])?;
-    check_late(&rt, rt.alloc(), NOTHING_SAID, 70, &[held(0)])?;
-    Ok(())
+fn held_in_place_of_ready(rt: HostRuntime) {
+    check_late(&rt, rt.alloc(), NOTHING_SAID, LAST, 63, &[ready(0)]);
+    check_late(&rt, rt.alloc(), NOTHING_SAID, LAST, 64, &[held(0)]);
+    check_late(&rt, rt.alloc(), NOTHING_SAID, LAST, 70, &[held(0)]);
 }
 
 const OLD_ALARM: &[u8] = b"synthesis 2
@@ -134,13 +142,9 @@ pass
 
 /// At its last tick the clock stays, and an alarm that is due fires all the same.
 #[test]
-fn last_tick(rt: HostRuntime) -> Result<(), Fail> {
-    let plan = parse_boot(rt.alloc(), OLD_ALARM)?;
-    let made = make_queues(rt.alloc(), plan.queues.as_slice().len())?;
-    let tables = make_tables(rt.alloc(), 0, 4294967295, made)?;
+fn last_tick(rt: HostRuntime) {
     let states = [signalled(ready(1), 8, 0)];
-    let ended = check_on(&rt, rt.alloc(), plan, tables, 1, states.as_slice())?;
+    let ended = check_late(&rt, rt.alloc(), OLD_ALARM, (0, 4294967295), 1, &states);
     let metered = &ended.metered;
     assert!(rt; (metered.clock, metered.alarms.len()) == (4294967295, 0));
-    Ok(())
 }

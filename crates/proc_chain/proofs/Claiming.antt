@@ -1,5 +1,5 @@
 -- The exchange of the head, the store of a place and the swap of the gate to More keep the rule.
-use Rattle.std.proofs.Common.{◌≡◌, ◌≢◌, ℕ, ◌+◌, ◌-◌, ◌/◌, ◌%◌, ◌<◌, ◌≤◌, inl, true, false, eqb, List, [], ◌∷◌, ◌++◌, map, length, get_or, set, sym, refl, ap, ◌∙◌, subst, arith, mod-lt, length-set, length-append, get_or-set_same, get_or-set_other}
+use Rattle.std.proofs.Common.{◌≡◌, ◌≢◌, ℕ, ◌+◌, ◌-◌, ◌*◌, ◌/◌, ◌%◌, ◌<◌, ◌≤◌, inl, true, false, eqb, List, [], ◌∷◌, ◌++◌, map, length, get_or, set, sym, refl, ap, ◌∙◌, subst, arith, mod-lt, length-set, length-append, get_or-set_same, get_or-set_other}
 use Rattle.std.proofs.lemmas.List.{map-set}
 use mathlib.Core.Option.{Option, some, none, some-ne-none}
 use mathlib.Core.Logic.{dite}
@@ -25,7 +25,7 @@ use Rattle.table_theory.proofs.Members.{known_look}
 use Rattle.table_theory.proofs.Windows.{window_same, window_claim, window_write}
 use Rattle.proc_chain.specs.declared.rule.Shape.{Shape}
 use Rattle.proc_chain.specs.declared.rule.View.{View}
-use Rattle.proc_chain.specs.Shown.{note_in, mark_in, gate_in, notes_of, WordsShow}
+use Rattle.proc_chain.specs.Shown.{note_in, mark_in, gate_in, notes_of, place_word, raised_word, WordsShow}
 use Rattle.proc_chain.specs.Gates.{IsSettled, GateShows, SlotShows}
 use Rattle.proc_chain.specs.Rules.{part_of, member_of, IsIdle, moment, Rule}
 use Rattle.proc_chain.specs.Steps.{entry, after, looked, run, claimed, claims, raised, Raised, raises, notifies}
@@ -243,3 +243,8 @@ module _ {Q W : Type 0} (made : W → Q → List ℕ → Type 0) (fits : W → Q
           ),
         ),
       ))
+
+-- the stored word tells where the run starts that was raised
+pub raised_at : (call : ℕ) (v w : View) (start note mark low word stored : ℕ) → note < 65536 → word ≡ place_word start → mark ≡ start + 1 → low ≡ note → stored ≡ mark * 65536 + low → Raised call v (stored / 65536 - 1) word stored w → Raised call v start (place_word start) (raised_word start note) w
+raised_at call v w start note mark low word stored small at mark_is low_is is r = let e : stored / 65536 - 1 ≡ start = omega arith in let e' : stored ≡ raised_word start note = omega arith in
+    subst (λ (z : ℕ). Raised call v start (place_word start) z w) e' (subst (λ (z : ℕ). Raised call v start z stored w) at (subst (λ (z : ℕ). Raised call v z word stored w) e r))

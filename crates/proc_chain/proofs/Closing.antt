@@ -1,5 +1,5 @@
 -- What is known when a chain closes, and what is read of it.
-use Rattle.std.proofs.Common.{◌≡◌, ◌≢◌, ℕ, zero, suc, ◌+◌, ◌-◌, ◌/◌, ◌%◌, ◌<◌, ◌≤◌, Bool, false, true≢false, eq-eqb, ne_eqb, Option, Some, None, List, [], ◌∷◌, ◌++◌, map, length, get_or, sym, refl, ap, ◌∙◌, subst, arith, length-append}
+use Rattle.std.proofs.Common.{◌≡◌, ◌≢◌, ℕ, zero, suc, ◌+◌, ◌-◌, ◌/◌, ◌%◌, ◌<◌, ◌≤◌, Bool, false, true≢false, eq-eqb, ne_eqb, Option, Some, None, List, [], ◌∷◌, ◌++◌, map, length, get_or, set, sym, refl, ap, ◌∙◌, subst, arith, length-append}
 use Rattle.std.proofs.lemmas.List.{get_or_append_left, get_or-append_right}
 use Rattle.std.specs.Prelude.{if◌then◌else◌}
 use mathlib.Core.Option as maybe
@@ -64,6 +64,18 @@ were_open v w found others t more is = let some = t.member.count.some_end in let
   not_whole = λ whole. more (t.member.count.whole whole);
 }
 
+-- the head is not before the tail, within the room behind it and small
+pub record Spans (tail head : ℕ) : Type 0 where
+  pub behind : tail ≤ head
+  pub within : head ≤ tail + 32
+  pub small : head < 4294967296
+
+-- where one slot stands and it was emptied, none is filled
+pub emptied_slot : (before after : List Bool) (count k : ℕ) → after ≡ set before 0 false → count ≡ 1 → k < count → get_or after k false ≡ false
+emptied_slot [] after count k is one below = ap (λ (z : List Bool). get_or z k false) is
+emptied_slot (x ∷ xs) after count zero is one below = ap (λ (z : List Bool). get_or z 0 false) is
+emptied_slot (x ∷ xs) after count (suc k) is one below = absurd (omega arith)
+
 -- all places of a log are raised where those of its entries are
 flat_raised : (log : List (Owned Batch)) → ((k : ℕ) (o : Owned Batch) → get_elem? log k ≡ maybe.some o → (i : ℕ) → i < length o.2.places → 2 ≤ (get_or o.2.places i blank).written) → (i : ℕ) → i < length (all_places log) → 2 ≤ (get_or (all_places log) i blank).written
 flat_raised [] h i b = absurd (omega arith)
@@ -98,6 +110,12 @@ module _ {Q W : Type 0} (made : W → Q → List ℕ → Type 0) (fits : W → Q
       let behind = k.lawful.behind in
       let none_left : k.queue.taken ≡ length k.queue.places = dite (dec_lt k.queue.taken (length k.queue.places)) (λ y. let o = k.gate.idle down (raised k.queue.taken y) in absurd (true≢false (sym o.owes ∙ (still o.owner o.view o.is_view).1))) (λ no. omega arith) in
       (subst (λ (z : Q). made key.pact z (notes_of k.queue)) is h.2, subst (fits key.pact) is h.3, none_left)
+
+  -- the tail and the head that are read of a closed chain
+  pub spans : (id h t : ℕ) (w : View) (ws : List ℕ) (xs : List Q) → Final (Seen (Rule made fits key) id w) ws xs → get_elem? ws 0 ≡ maybe.some h → get_elem? ws 1 ≡ maybe.some t → Spans t h
+  spans id h t w ws xs fin at_h at_t = let k = fin.1.0 in let q : Positions = k.queue in let sh : WordsShow q ws = subst (WordsShow q) fin.2 k.shows in
+      let hd : h ≡ head_of q = sym (read_word ws 0 h at_h) ∙ sh.head in let tl : t ≡ q.first + q.taken = sym (read_word ws 1 t at_t) ∙ sh.tail in let behind = k.lawful.behind in let within = k.lawful.within in let room = sh.room in let low = sh.small in
+      record { behind = omega arith; within = omega arith; small = omega arith }
 
   pub closes : (v w : View) (found id h t put taken at : ℕ) (ws : List ℕ) (xs : List Q) (x : Q) (left : List (Option ℕ)) → key.first ≡ at → Tallied v found w → found ≡ 1 → v.runner ≡ false → v.owes ≡ false → AllRaised v.part.runs
       → Final (Seen (Rule made fits key) id w) ws xs → get_elem? ws 0 ≡ maybe.some h → get_elem? ws 1 ≡ maybe.some t → get_elem? xs 0 ≡ maybe.some x → put ≡ h - key.first → taken ≡ t - key.first → left ≡ left_from ws t (h - t) → ClosedNow (made key.pact) (fits key.pact) v at put taken left x

@@ -1,7 +1,7 @@
 -- A claim, a raise and a notify together, and what other steps leave as it was.
 use Rattle.std.proofs.Common.{◌≡◌, ◌≢◌, ℕ, zero, suc, ◌+◌, ◌-◌, ◌<◌, ◌≤◌, ⊎_elim, Bool, true, false, ◌||◌, ◌&&◌, true≢false, List, [], ◌∷◌, ◌++◌, map, length, get_or, set, sym, refl, ap, ◌∙◌, subst, arith}
 use Rattle.std.proofs.lemmas.List.{map-append}
-use mathlib.Core.Option.{some, some-injective}
+use mathlib.Core.Option.{some, some-injective, some-ne-none}
 use lib.ListN.{get_elem?}
 use Rattle.table_theory.specs.declared.queues.Batch.{Batch}
 use Rattle.table_theory.specs.declared.queues.Positions.{Positions}
@@ -9,6 +9,7 @@ use Rattle.table_theory.specs.Positioned.{blank, Lawful, Grows, fresh, with_clai
 use Rattle.table_theory.specs.Listing.{AllRaised, Distinct, number_of, written_to}
 use Rattle.table_theory.specs.declared.views.Member.{Member}
 use Rattle.table_theory.specs.Members as members
+use Rattle.table_theory.specs.Members.{first_member}
 use Rattle.table_theory.specs.Seeing.{Sees}
 use Rattle.table_theory.specs.Sharing.{given}
 use Rattle.atomic_table.proofs.Lists.{at_set, at_last}
@@ -21,8 +22,8 @@ use Rattle.atomic_table.specs.Table.{Me}
 use Rattle.proc_chain.specs.declared.rule.View.{View}
 use Rattle.proc_chain.specs.Shown.{head_word, tail_word, place_word, raised_word, notes_of}
 use Rattle.proc_chain.specs.Notes.{line_of, notes_put, notes_taken, alone, SameNotes, PutNote}
-use Rattle.proc_chain.specs.Rules.{moment}
-use Rattle.proc_chain.specs.Steps.{counted, KeepsTaken, Found, run, Claimed, Raised, Notified, GotTurn, CountedUp, CountedDown, Tallied, rest_of, newborn, both}
+use Rattle.proc_chain.specs.Rules.{moment, view_from}
+use Rattle.proc_chain.specs.Steps.{counted, KeepsTaken, Found, run, Claimed, Raised, Notified, GotTurn, CountedUp, CountedDown, Tallied, Carries, rest_of, newborn, both}
 use Rattle.proc_chain.specs.Turns.{HasSlot}
 use Rattle.proc_chain.specs.Answers.{FoundRoom, WasFull, WasSpent, WasLost, IsPast, Linked}
 use Rattle.proc_chain.specs.Endings.{Divided, IsNewborn, TookIn}
@@ -44,10 +45,22 @@ was_full v l w head tail f g small past = let h = loaded_head v l head f in let 
 pub found_room : (v l w : View) (head tail : ℕ) → Found v head_word head l → Found l tail_word tail w → head < 4294967295 → head + 1 ≤ tail + 32 → FoundRoom v head w
 found_room v l w head tail f g small room = record { tail = tail; loaded = l; head_loaded = f; tail_loaded = g; position = small; fits = omega arith }
 
+-- the room that was found is left in the queue
+pub room_left : (w : View) (head tail : ℕ) → tail ≡ tail_of w.part.queue → w.part.queue.room ≡ 32 → head + 1 ≤ tail + 32 → head + 1 ≤ tail_of w.part.queue + w.part.queue.room
+room_left w head tail is room fits = omega arith
+
+-- behind a head below the last position there is a position
+pub next_position : (head : ℕ) → head < 4294967295 → head + 1 < 4294967296
+next_position head small = omega arith
+
 pub was_lost : (v b w : View) (first found : ℕ) → FoundRoom v first b → Found b head_word found w → found ≢ first → WasLost v found w
 was_lost v b w first found r f ne = let h = loaded_head v r.loaded first r.head_loaded in let h' = loaded_head b w found f in let g = r.tail_loaded.sees.later.0 in let g' = f.sees.later.0 in
     let longer = g.longer in let longer' = g'.longer in let same = g.first in let same' = g'.first in
     record { first = first; before = b; found = r; missed = f; past = omega arith }
+
+-- one end is some end
+pub one_end : (ends : ℕ) → ends ≡ 1 → 1 ≤ ends
+one_end ends one = omega arith
 
 -- the turn, the room and the ends stay, and no note was taken by an end with the turn
 pub record Stays (v w : View) : Type 0 where
@@ -74,6 +87,19 @@ stays_found v w word found behind s = let q : Positions = w.part.queue in stays_
 
 pub stays_room : (v w : View) (head : ℕ) → v.part.queue.taken ≤ length v.part.queue.places → FoundRoom v head w → Stays v w
 stays_room v w head behind r = let a = stays_found v r.loaded head_word head behind r.head_loaded in stays_on v r.loaded w a (stays_found r.loaded w tail_word r.tail a.behind r.tail_loaded)
+
+-- the end only looked: its runs, what it owes and what stays
+pub record Looks (v w : View) : Type 0 where
+  pub stays : Stays v w
+  pub owes : w.owes ≡ v.owes
+  pub runs : w.part.runs ≡ v.part.runs
+  pub small : head_of w.part.queue < 4294967296
+
+pub looks_found : (v w : View) (word found : ℕ) → v.part.queue.taken ≤ length v.part.queue.places → Found v word found w → Looks v w
+looks_found v w word found behind s = record { stays = stays_found v w word found behind s; owes = ap (λ (z : View). z.owes) s.same; runs = ap (λ (z : View). z.part.runs) s.same; small = s.sees.small }
+
+pub looks_on : (u v w : View) → Looks u v → Looks v w → Looks u w
+looks_on u v w a b = record { stays = stays_on u v w a.stays b.stays; owes = b.owes ∙ a.owes; runs = b.runs ∙ a.runs; small = b.small }
 
 stays_claimed : (call : ℕ) (v w : View) (head x : ℕ) → v.part.queue.taken ≤ length v.part.queue.places → Claimed call v head x w → Stays v w
 stays_claimed call v w head x behind s = let q : Positions = s.queue in stays_by v w q (with_claim q (x ∷ [])) behind (ap (λ (z : View). z.part.queue) s.same) (ap (λ (z : View). z.runner) s.same) (ap (λ (z : View). z.member.ends) s.same) s.sees s.turn (claim_grows q (x ∷ []) s.is_open) refl s.after_it
@@ -129,15 +155,15 @@ is_past : (v w : View) (head : ℕ) → Found v head_word head w → IsPast v he
 is_past v w head f m e has = let h = loaded_head v w head f in let st = sees_own v.part w.part.queue m e f.sees has in let start = st.start in let within = st.within in omega arith
 
 -- all that one end does up to its notify
-pub link : (call c d : ℕ) (v b w x : View) (head note : ℕ) → c ≡ call → d ≡ call → FoundRoom v head b → Claimed c b head note w → Raised d w head (place_word head) (raised_word head note) x → Linked call v note x
-link call c d v b w x head note same same' room claimed raised = record {
+pub link : (call c d : ℕ) (v l b w x : View) (head tail note : ℕ) → c ≡ call → d ≡ call → Found v head_word head l → Found l tail_word tail b → head < 4294967295 → head + 1 ≤ tail + 32 → Claimed c b head note w → Raised d w head (place_word head) (raised_word head note) x → Linked call v note x
+link call c d v l b w x head tail note same same' f g small room claimed raised = record {
   head = head;
   before = b;
-  found = room;
+  found = found_room v l b head tail f g small room;
   between = w;
   claimed = subst (λ (z : ℕ). Claimed z b head note w) same claimed;
   raised = subst (λ (z : ℕ). Raised z w head (place_word head) (raised_word head note) x) same' raised;
-  past = is_past v room.loaded head room.head_loaded;
+  past = is_past v l head f;
 }
 
 same_lines_set : (l : List Batch) (m i n : ℕ) (e : Batch) → get_elem? l m ≡ some e → map line_of (set l m (written_to e i n)) ≡ map line_of l
@@ -197,6 +223,14 @@ module _ {Q : Type 0} (made : Q → List ℕ → Type 0) (fits : Q → Type 0) w
 
   pub slot_none : (v : View) → v.runner ≡ false → HasSlot made fits (v, [])
   slot_none v r = ((λ t. absurd (true≢false (sym t ∙ r))), λ _. refl)
+
+  -- an end with no turn that holds nothing
+  pub slot_down : (m : Me Q View) → m.0.runner ≡ false → m.1 ≡ [] → HasSlot made fits m
+  slot_down m r none_held = ((λ t. absurd (true≢false (sym t ∙ r))), λ _. none_held)
+
+  -- an end with the turn, and the quaject
+  pub slot_up : (m : Me Q View) → m.0.runner ≡ true → Carries made fits (notes_of m.0.part.queue) [] m.1 → HasSlot made fits m
+  slot_up m r carries = ((λ _. carries), λ t. absurd (true≢false (sym r ∙ t)))
 
   pub slot_me : (m m' : Me Q View) → m' ≡ m → HasSlot made fits m → HasSlot made fits m'
   slot_me m m' is h = subst (HasSlot made fits) (sym is) h
@@ -262,3 +296,8 @@ all_same l m is h = subst AllRaised (sym is) h
 
 pub all_join : (l m n : List Batch) → n ≡ l ++ m → AllRaised l → AllRaised m → AllRaised n
 all_join l m n is a b = subst AllRaised (sym is) (all_append l m a b)
+
+-- an end that knows of nothing done has taken no more than was claimed, and lists no run
+pub of_newcomer : (first : ℕ) (v : View) → v ≡ view_from first first_member → first < 4294967296 → (v.part.queue.taken ≤ length v.part.queue.places) × (head_of v.part.queue < 4294967296) × Distinct v.part.runs × AllRaised v.part.runs
+of_newcomer first v is small = let n : View = view_from first first_member in subst (λ (z : View). (z.part.queue.taken ≤ length z.part.queue.places) × (head_of z.part.queue < 4294967296) × Distinct z.part.runs × AllRaised z.part.runs) (sym is)
+    (omega arith, omega arith, (λ m k e f has. absurd (some-ne-none e (sym has))), λ m e has. absurd (some-ne-none e (sym has)))

@@ -188,3 +188,7 @@ module _ (v t u : View) (tail note : ℕ) (runner : v.runner ≡ true) (room : v
         served_on v u w [] (note ∷ []) looks served,
         now,
       )
+
+-- fewer notes than positions were run
+pub few_run : (v w : View) (ns : List ℕ) → HasServed v ns w → length ns < 4294967296
+few_run v w ns s = let taken = s.taken in let behind = s.behind in let small = s.small in omega arith

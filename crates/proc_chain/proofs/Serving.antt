@@ -18,10 +18,10 @@ use Rattle.table_theory.proofs.Members.{known_look}
 use Rattle.table_theory.proofs.Windows.{window_same, window_take, found_not_raised}
 use Rattle.proc_chain.specs.declared.rule.Shape.{Shape}
 use Rattle.proc_chain.specs.declared.rule.View.{View}
-use Rattle.proc_chain.specs.Shown.{note_in, mark_in, gate_in, WordsShow, notes_of}
+use Rattle.proc_chain.specs.Shown.{note_in, mark_in, gate_in, raised_word, WordsShow, notes_of}
 use Rattle.proc_chain.specs.Gates.{GateShows, SlotShows}
 use Rattle.proc_chain.specs.Rules.{part_of, member_of, IsIdle, moment, Rule}
-use Rattle.proc_chain.specs.Steps.{after, looked, spies, took, takes, rounds, leaves, Carries}
+use Rattle.proc_chain.specs.Steps.{Found, FoundNotRaised, LookedAtFirst, after, looked, spies, took, takes, rounds, leaves, Carries}
 use Rattle.proc_chain.proofs.Gates.{gated_same, gated_runs, gated_leaves, others_still, gate_up, notes_same}
 use Rattle.proc_chain.proofs.Looks.{settled_look, undoubled_set, steps_to, course_on, kept_word, kept_look, sees_of, turn_of, found_now}
 use Rattle.quaject_core.specs.Chains as chains
@@ -156,3 +156,11 @@ module _ {Q W : Type 0} (made : W → Q → List ℕ → Type 0) (fits : W → Q
         ),
       ))
       (λ miss. let small = k.gate.small in (looked v 3 y (steps_to k) (moment q y), keeps, tt, kept_look made fits key s k 3 id y v at live, ((λ hit. absurd (miss hit)), λ _. (refl, found_now made fits key s k 3 id v at, (let f : y ≢ 0 = not_idle in let m : y ≢ 1 = miss in omega arith)))))
+
+-- the runner read the word of the raised place
+pub read_raised : (v w : View) (tail mark note word found : ℕ) → tail ≡ tail_of v.part.queue → mark ≡ found / 65536 → note ≡ found % 65536 → LookedAtFirst v word found w → mark ≡ tail + 1 → Found v word (raised_word tail note) w
+read_raised v w tail mark note word found is m n l up = let e : found ≡ raised_word tail note = omega arith in subst (λ (z : ℕ). Found v word z w) e (l.up (omega arith))
+
+-- the runner read a word that is not the raised one
+pub read_low : (v w : View) (tail mark word found : ℕ) → tail ≡ tail_of v.part.queue → mark ≡ found / 65536 → LookedAtFirst v word found w → mark ≢ tail + 1 → (x : ℕ) × (x / 65536 ≡ mark) × FoundNotRaised v word x w
+read_low v w tail mark word found is m l low = (found, sym m, l.low (λ e. low (omega arith)))

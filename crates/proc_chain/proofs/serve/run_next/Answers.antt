@@ -1,5 +1,6 @@
-use Rattle.std.proofs.Common.{sym, subst, ◌+◌, ◌∙◌, ◌++◌, [], ◌∷◌, List, ℕ}
+use Rattle.std.proofs.Common.{sym, ap, subst, ◌≤◌, ◌+◌, ◌∙◌, ◌++◌, [], ◌∷◌, List, ℕ}
 use Rattle.proc_chain.specs.Rules.{suits, makes}
+use Rattle.proc_chain.specs.declared.rule.View.{View}
 use Rattle.proc_chain.specs.Steps.{Carries, Took}
 use Rattle.proc_chain.proofs.Turns.{served_on, served_found, served_low, carries_to}
 use Rattle.proc_chain.proofs.Rounds.{found_none, looked_twice, up_now, tail_now, ran_note}
@@ -42,3 +43,20 @@ returns-clause-ran g c = let t = c.load_tail-tail.ensures in let p = c.load_plac
     let id = p.queue.0.1 ∙ t.queue.0.1 in let took = subst (λ (z : ℕ). Took made fits z (u, d) (c.load_tail-tail.result + 1) w) id s.took in
     let all = ran_note _ _ _ _ _ c.requires.live.1 c.requires.positions.0 c.requires.positions.1 t.found t.tail p.note (p.up c.if-word-tail.false) made fits c.args.seat.now.id _ _ _ _ _ (p.queue.1 ∙ t.queue.1) took r.queue.1 run c.requires.carries in
     (note, all.0, all.1)
+
+pub load_place-word-requires-clause-live : goal.load_place-word-requires-clause-live
+load_place-word-requires-clause-live g c = let t = c.load_tail-tail.ensures.found in (subst (λ (z : View). 1 ≤ z.member.ends) (sym t.same) c.requires.live.0, ap (λ (z : View). z.runner) t.same ∙ c.requires.live.1)
+
+pub store_tail-requires-clause-live : goal.store_tail-requires-clause-live
+store_tail-requires-clause-live g c = let t = c.load_tail-tail.ensures.found in let p = c.load_place-word.ensures.up c.if-word-tail.false in
+    (subst (λ (z : View). 1 ≤ z.member.ends) (sym p.same) (subst (λ (z : View). 1 ≤ z.member.ends) (sym t.same) c.requires.live.0), ap (λ (z : View). z.runner) p.same ∙ (ap (λ (z : View). z.runner) t.same ∙ c.requires.live.1))
+
+pub run_held-requires-clause-held : goal.run_held-requires-clause-held
+run_held-requires-clause-held g c = let h = c.requires.carries in (h.0, c.store_tail.ensures.queue.1 ∙ (c.load_place-word.ensures.queue.1 ∙ (c.load_tail-tail.ensures.queue.1 ∙ h.1)), h.3)
+
+pub returns-then-word-tail-clause-turn : goal.returns-then-word-tail-clause-turn
+returns-then-word-tail-clause-turn g c = let low = (c.load_place-word.ensures.low c.if-word-tail.true).2 in ap (λ (z : View). z.runner) low.same ∙ (ap (λ (z : View). z.runner) c.load_tail-tail.ensures.found.same ∙ c.requires.live.1)
+
+pub returns-clause-turn : goal.returns-clause-turn
+returns-clause-turn g c = let t = c.load_tail-tail.ensures.found in let p = c.load_place-word.ensures.up c.if-word-tail.false in let s = c.store_tail.ensures.took in
+    ap (λ (z : View). z.runner) c.run_held.ensures.queue.1 ∙ (ap (λ (z : View). z.runner) s.same ∙ (ap (λ (z : View). z.runner) p.same ∙ (ap (λ (z : View). z.runner) t.same ∙ c.requires.live.1)))

@@ -1,4 +1,4 @@
-use Rattle.std.proofs.Common.{rules, sym, ap, subst, ◌∙◌, ◌+◌, [], ℕ}
+use Rattle.std.proofs.Common.{rules, arith, sym, ap, subst, ◌∙◌, ◌+◌, [], ℕ}
 use Rattle.atomic_table.specs.declared.shared.Seat.{Seat}
 use Rattle.proc_chain.specs.Rules.{suits, makes}
 use Rattle.proc_chain.specs.declared.rule.View.{View}
@@ -31,3 +31,12 @@ loop-used-preserved g c = let made = makes g.Q.Quaject.made_by c.args.words.now.
 pub returns-clause-served : goal.returns-clause-served
 returns-clause-served g c = let made = makes g.Q.Quaject.made_by c.args.words.now.key.pact in let fits = suits g.Q.Quaject.fits c.args.words.now.key.pact in
     rounds_all made fits c.args.seat.now c.loop-used.seat c.args.limit c.loop-used.used c.loop-used.ran c.loop-used.invariant c.requires.some_limit (search rules)
+
+pub overflow_add-ran : goal.overflow_add-ran
+overflow_add-ran g c = let few = c.loop-used.invariant.few in let used = c.loop-used-test.true in let limit = c.ranges.limit.fits in record { fits = omega arith }
+
+pub returns-then-leave_or_round-clause-carries : goal.returns-then-leave_or_round-clause-carries
+returns-then-leave_or_round-clause-carries g c = c.if-leave_or_round.ensures.carries
+
+pub returns-clause-carries : goal.returns-clause-carries
+returns-clause-carries g c = let l = c.loop-used.invariant in (l.runner, l.carries)

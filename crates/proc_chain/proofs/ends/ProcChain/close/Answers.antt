@@ -1,8 +1,43 @@
-use Rattle.std.proofs.Common.{rules, refl, sym, ◌∙◌, ◌-◌}
+use Rattle.std.proofs.Common.{arith, refl, sym, ap, subst, ◌∙◌, ◌-◌}
+use Rattle.table_theory.specs.Listing.{Distinct}
 use Rattle.proc_chain.specs.Rules.{suits, makes}
-use Rattle.proc_chain.proofs.Closing.{closes, were_open}
-use Rattle.proc_chain.proofs.Linking.{slot_on, stays_tallied}
+use Rattle.proc_chain.specs.declared.rule.View.{View}
+use Rattle.proc_chain.proofs.Closing.{spans, emptied_slot, closes, were_open}
+use Rattle.proc_chain.proofs.Linking.{slot_on, stays_tallied, all_same}
 use Rattle.proc_chain.proofs.ends.ProcChain.close.Goals as goal
+
+pub count-ends-requires-clause-queue : goal.count-ends-requires-clause-queue
+count-ends-requires-clause-queue g c = (c.requires.ends.0, c.args.self.sized.0)
+
+pub count-ends-requires-clause-live : goal.count-ends-requires-clause-live
+count-ends-requires-clause-live g c = c.args.end.one
+
+pub invariant_of-end : goal.invariant_of-end
+invariant_of-end g c = let end = c.args.end in let t = c.count-ends.ensures.tallied in let s = stays_tallied _ _ _ end.behind t in let runs = ap (λ (z : View). z.part.runs) t.same in record {
+  room = s.room ∙ end.room;
+  one = s.ends ∙ end.one;
+  turned = s.runner ∙ end.turned;
+  settled = ap (λ (z : View). z.owes) t.same ∙ end.settled;
+  behind = s.behind;
+  small = t.sees.small;
+  distinct = subst Distinct (sym runs) end.distinct;
+  raised = all_same _ _ runs end.raised;
+}
+
+pub close_with-closed-requires : goal.close_with-closed-requires
+close_with-closed-requires g c = c.count-ends.ensures.queue.0.0 ∙ c.requires.ends.0
+
+pub read_left-left-requires-clause-range : goal.read_left-left-requires-clause-range
+read_left-left-requires-clause-range g c = let s = spans (makes g.Q.Quaject.made_by) (suits g.Q.Quaject.fits) c.args.self.table.shared.key _ _ _ _ _ _ c.close_with-closed.ensures.values.2 c.word-head.ensures c.word-tail.ensures in (s.behind, s.within, s.small)
+
+pub free-requires : goal.free-requires
+free-requires g c = let slots = c.take-quaject.ensures.others in λ k below. emptied_slot _ _ _ k slots.1 (slots.2 ∙ (c.close_with-closed.ensures.counts.1 ∙ c.args.self.sized.1)) below
+
+pub overflow_cast-result-2 : goal.overflow_cast-result-2
+overflow_cast-result-2 g c = let s = spans (makes g.Q.Quaject.made_by) (suits g.Q.Quaject.fits) c.args.self.table.shared.key _ _ _ _ _ _ c.close_with-closed.ensures.values.2 c.word-head.ensures c.word-tail.ensures in let h = s.small in record { fits = omega arith }
+
+pub overflow_cast-result-4 : goal.overflow_cast-result-4
+overflow_cast-result-4 g c = let s = spans (makes g.Q.Quaject.made_by) (suits g.Q.Quaject.fits) c.args.self.table.shared.key _ _ _ _ _ _ c.close_with-closed.ensures.values.2 c.word-head.ensures c.word-tail.ensures in let h = s.small in let b = s.behind in record { fits = omega arith }
 
 pub returns-clause-closed : goal.returns-clause-closed
 returns-clause-closed g c = let k = c.args.self.table.shared.key in let first = c.args.self.shaped in let end = c.args.end in
@@ -11,7 +46,7 @@ returns-clause-closed g c = let k = c.args.self.table.shared.key in let first = 
 
 pub returns-then-ends-ne-ALONE-clause-open : goal.returns-then-ends-ne-ALONE-clause-open
 returns-then-ends-ne-ALONE-clause-open g c = let t = c.count-ends.ensures.tallied in
-    (refl, (search rules, slot_on (makes g.Q.Quaject.made_by c.args.self.table.shared.key.pact) (suits g.Q.Quaject.fits c.args.self.table.shared.key.pact) _ _ _ _ (stays_tallied _ _ _ c.args.end.behind t) c.count-ends.ensures.queue.1 c.requires.ends.1), search rules, search rules, were_open _ _ _ _ t c.if-ends-ne-ALONE.true (search rules))
+    (refl, (c.count-ends.ensures.queue.0.0 ∙ c.requires.ends.0, slot_on (makes g.Q.Quaject.made_by c.args.self.table.shared.key.pact) (suits g.Q.Quaject.fits c.args.self.table.shared.key.pact) _ _ _ _ (stays_tallied _ _ _ c.args.end.behind t) c.count-ends.ensures.queue.1 c.requires.ends.1), c.count-ends.ensures.queue.0, c.requires.turn, were_open _ _ _ _ t c.if-ends-ne-ALONE.true refl)
 
 pub returns-then-ends-ne-ALONE-clause-only : goal.returns-then-ends-ne-ALONE-clause-only
 returns-then-ends-ne-ALONE-clause-only g c = λ whole. c.if-ends-ne-ALONE.true (c.count-ends.ensures.tallied.member.count.whole whole)

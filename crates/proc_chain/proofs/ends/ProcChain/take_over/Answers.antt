@@ -1,4 +1,4 @@
-use Rattle.std.proofs.Common.{rules, arith, sym, ap, subst, ◌∙◌, ◌≡◌, ◌≤◌, ◌<◌, ◌+◌, ◌-◌, length}
+use Rattle.std.proofs.Common.{arith, sym, ap, subst, ◌∙◌, ◌≡◌, ◌≤◌, ◌<◌, ◌+◌, ◌-◌, length}
 use Rattle.table_theory.specs.declared.queues.Positions.{Positions}
 use Rattle.table_theory.specs.declared.views.Member.{Member}
 use Rattle.table_theory.specs.Positioned.{head_of}
@@ -24,7 +24,7 @@ invariant_of-end g c = let v : View = c.args.end.now.seat.me.0 in let u : View =
 pub returns-clause-ends : goal.returns-clause-ends
 returns-clause-ends g c = let made = makes g.Q.Quaject.made_by c.args.self.now.table.shared.key.pact in let fits = suits g.Q.Quaject.fits c.args.self.now.table.shared.key.pact in let v : View = c.args.end.now.seat.me.0 in let u : View = c.args.other.seat.me.0 in let w : View = c.count_down.new.seat.me.0 in let n = c.count_down.result in let j = c.take_in.ensures.joined in
     let d = joined_down v u c.take_in.new.seat.me.0 w n ((λ i. (j i).0) ∙ (λ i. both v (c.hand_over-rest.ensures.moved i).0)) c.count_down.ensures.counted in
-    (search rules, slot_by made fits v w _ _ (ap (λ (z : View). z.runner) d.same) (joined_notes v u w n c.args.end.now.behind d) (c.count_down.ensures.queue.1 ∙ (λ i. (j i).1)) c.requires.ends.0.1)
+    (c.count_down.ensures.queue.0.0 ∙ (c.take_in.ensures.queue.0 ∙ c.requires.ends.0.0), slot_by made fits v w _ _ (ap (λ (z : View). z.runner) d.same) (joined_notes v u w n c.args.end.now.behind d) (c.count_down.ensures.queue.1 ∙ (λ i. (j i).1)) c.requires.ends.0.1)
 
 pub returns-clause-joined : goal.returns-clause-joined
 returns-clause-joined g c = let v : View = c.args.end.now.seat.me.0 in let u : View = c.args.other.seat.me.0 in let w : View = c.count_down.new.seat.me.0 in let n = c.count_down.result in

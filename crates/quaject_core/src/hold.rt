@@ -3,7 +3,7 @@
 use crate::names::Call;
 
 /// A call and an element that it holds, or put on a processor.
-#[derive(Clone, Copy, Debug, PartialEq, Eq)]
+#[derive(Clone, Copy)]
 pub(crate) struct Hold {
     pub(crate) call: Call,
     pub(crate) element: u64,

@@ -116,8 +116,9 @@ pub(crate) fn first_taken(lines: &Vec<StoredQueue>, line: usize, count: u32) -> 
     if line >= lines.len() {
         return Err(Refusal::UnknownName);
     }
-    lines[line].check_take(1, count)?;
-    lines[line].first_left().ok_or(Refusal::NotRaised)
+    let stored = &lines[line];
+    stored.check_take(1, count)?;
+    stored.first_left().ok_or(Refusal::NotRaised)
 }
 
 /// Takes the first element.

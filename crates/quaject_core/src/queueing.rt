@@ -13,7 +13,7 @@ use crate::status::QueueStatus;
 use std::alloc::Global;
 
 /// Where a run lies: its call, the position of its first item and how many it has.
-#[derive(Clone, Copy, Debug)]
+#[derive(Clone, Copy)]
 pub(crate) struct Span {
     call: Call,
     start: usize,
@@ -21,7 +21,7 @@ pub(crate) struct Span {
 }
 
 /// A claimed item and its flag.
-#[derive(Clone, Copy, Debug)]
+#[derive(Clone, Copy)]
 pub(crate) struct StoredItem {
     item: u64,
     raised: bool,

@@ -10,7 +10,7 @@ use crate::refusal::OutOfMemory;
 use std::alloc::Global;
 
 /// The signals that are pending, how many steps are done, the stop bit, and whether it stands in its stop cell.
-#[derive(Clone, Copy, Debug)]
+#[derive(Clone, Copy)]
 pub(crate) struct StoredThread {
     pending: [bool; 16],
     done: u32,

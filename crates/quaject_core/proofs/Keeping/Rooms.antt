@@ -1,21 +1,21 @@
 -- No more elements are held than there are, so there is room for each that comes to be held.
-use Rattle.std.proofs.Common.{◌≡◌, ◌≢◌, ℕ, zero, suc, ◌+◌, ◌<◌, ◌≤◌, Bool, true, false, not, cond, List, [], ◌∷◌, ◌++◌, ◌∙◌, length, map, set, take, refl, sym, ap, subst, arith, eqb, ◌⊎◌, inl, inr, Ok, Some, None, slice_get, length-set}
+use Rattle.std.proofs.Common.{◌≡◌, ◌≢◌, ℕ, zero, suc, ◌+◌, ◌<◌, ◌≤◌, Bool, true, false, not, cond, List, [], ◌∷◌, ◌++◌, ◌∙◌, length, map, set, take, refl, sym, ap, subst, arith, eqb, ◌⊎◌, inl, inr, Ok, Err, Option, Some, None, slice_get, length-set}
 use Rattle.std.proofs.lemmas.Bool.{cases_lt}
 use Rattle.std.proofs.lemmas.Bool.Decides.{eqb_tells, nat_tests}
 use Rattle.std.proofs.lemmas.List.{length-map, length-append}
 use Rattle.std.proofs.lemmas.List.Sums.{sum_by-cons}
-use Rattle.std.specs.List.{sum_by, repeat}
+use Rattle.std.specs.List.{repeat}
 use Rattle.quaject_core.specs.Queues.{Queue, left, take_first}
-use Rattle.quaject_core.specs.Elements.{Elements, Thread, hold, take_element, take_off, start}
+use Rattle.quaject_core.specs.Elements.{Elements, Thread, hold, take_element, take_off}
 use Rattle.quaject_core.specs.Lines.{taken}
-use Rattle.quaject_core.specs.Results.{◌>>=◌, at, change_at}
-use Rattle.quaject_core.specs.declared.refusal.Refusal.TheVariants.{UnknownName}
+use Rattle.quaject_core.specs.Results.{at, change_at}
+use Rattle.quaject_core.specs.declared.refusal.Refusal.TheVariants.{NotOwner, ProcessorEmpty}
 use Rattle.quaject_core.specs.Lawful.{IsLawfulElements}
-use Rattle.quaject_core.specs.Appearances.{appearances, in_list}
+use Rattle.quaject_core.specs.Appearances.{in_list}
 use Rattle.quaject_core.specs.declared.hold.Hold.{Hold}
 use Rattle.quaject_core.proofs.Keeping.Elements.{take_element_law, take_off_law}
 use Rattle.quaject_core.proofs.Stored.Elements.{started_ok}
-use Rattle.quaject_core.proofs.Lists.Inversions.{then_ok, change_ok, given_ok, some_ok}
+use Rattle.quaject_core.proofs.Lists.Inversions.{then_ok, given_ok}
 use Rattle.quaject_core.proofs.Keeping.Places.{one, in_hands, sum_mapped}
 use Rattle.quaject_core.proofs.Keeping.Threads.{start_law}
 
@@ -102,6 +102,17 @@ one_more s t h lawful held same = omega (arith, held_few t lawful, ap length hel
 pub taken_off_ok : (call processor : ℕ) (s : Elements) (h : Hold) → slice_get s.processors processor ≡ Some (Some h) → not (eqb h.call call) ≡ false
     → take_off call processor s ≡ Ok (record s { processors = set s.processors processor None; held = s.held ++ h ∷ [] })
 taken_off_ok call processor s h found own = rw (found, own) refl
+
+empty : (seat : Option Hold) → ((h : Hold) → seat ≡ Some h → ⊥) → seat ≡ None
+empty None none = refl
+empty (Some h) none = absurd (none h refl)
+
+-- nothing is taken off an empty processor, and nothing that another call put there
+pub none_taken_off : (call processor : ℕ) (s : Elements) (seat : Option Hold) → slice_get s.processors processor ≡ Some seat → ((h : Hold) → seat ≡ Some h → ⊥) → take_off call processor s ≡ Err ProcessorEmpty
+none_taken_off call processor s seat found none = rw (found, empty seat none) refl
+
+pub other_put_on : (call processor : ℕ) (s : Elements) (h : Hold) → slice_get s.processors processor ≡ Some (Some h) → not (eqb h.call call) ≡ true → take_off call processor s ≡ Err NotOwner
+other_put_on call processor s h found other = rw (found, other) refl
 
 pub taken_off_room : (call processor : ℕ) (s : Elements) (h : Hold) → IsLawfulElements s → slice_get s.processors processor ≡ Some (Some h) → not (eqb h.call call) ≡ false → length s.held < length s.threads
 taken_off_room call processor s h lawful found own = let t : Elements = record s { processors = set s.processors processor None; held = s.held ++ h ∷ [] } in

@@ -1,23 +1,35 @@
 -- When each event of the thread elements is allowed, and what it then makes of the stored elements.
-use Rattle.std.proofs.Common.{◌≡◌, ℕ, ◌+◌, ◌<◌, Bool, true, false, ◌||◌, not, cond, List, [], ◌∷◌, ◌++◌, ◌∙◌, map, length, remove, position, set, get_or, refl, sym, ap, ap₂, subst, arith, Some, None, slice_get, option_map, eqb, ltb, Result, Ok, Err}
+use Rattle.std.proofs.Common.{◌≡◌, ℕ, zero, suc, ◌+◌, ◌%◌, ◌<◌, Bool, true, false, ◌||◌, not, cond, List, [], ◌∷◌, ◌++◌, ◌∙◌, map, length, remove, position, set, get_or, refl, sym, ap, ap₂, subst, arith, Option, Some, None, slice_get, option_map, eqb, ltb, Result, Ok, Err}
 use Rattle.std.proofs.lemmas.Bool.Decides.{nat_tests}
 use Rattle.std.proofs.lemmas.Bool.{ltb-true}
 use Rattle.std.proofs.lemmas.List.{map-set, length-map}
-use Rattle.std.proofs.lemmas.Option.{slice_get-map, slice_get_read, slice_get_within}
+use Rattle.std.proofs.lemmas.Option.{slice_get-map, slice_get_read, slice_get_within, slice_get-get_or}
 use Rattle.std.specs.List.{list_any}
-use Rattle.quaject_core.specs.Elements.{Thread, Elements, hold, is_hold, is_put, holds, park, start, deliver, done, change_thread}
+use Rattle.std.specs.Option.{is_some}
+use Rattle.quaject_core.specs.Elements.{Thread, Elements, hold, is_hold, is_put, is_busy, holds, put_on, park, start, deliver, done, change_thread}
+use Rattle.quaject_core.specs.Marks.{notify_wait}
 use Rattle.quaject_core.specs.Results.{refused_if}
 use Rattle.quaject_core.specs.ShownElements.{elements}
 use Rattle.quaject_core.specs.ShownThreads.{thread}
 use Rattle.quaject_core.specs.declared.hold.Hold.{Hold}
 use Rattle.quaject_core.specs.declared.refusal.Refusal.{Refusal}
-use Rattle.quaject_core.specs.declared.refusal.Refusal.TheVariants.{Full, NotHeld}
+use Rattle.quaject_core.specs.declared.refusal.Refusal.TheVariants.{Full, NotHeld, ProcessorBusy, NotStopped}
 use Rattle.quaject_core.specs.declared.elements.StoredElements.{StoredElements}
 use Rattle.quaject_core.specs.declared.threading.StoredThread.{StoredThread}
 
 -- what was read at a place
 pub found_at : {A : Type 0} (xs : List A) (k e : ℕ) (x : A) → k ≡ e → k < length xs → x ≡ get_or xs k x → slice_get xs e ≡ Some x
 found_at xs k e x same below is = ap (slice_get xs) (sym same) ∙ slice_get_read xs (length xs) k x refl below is
+
+-- what stands within a list
+pub is_there : {A : Type 0} (xs : List A) (k : ℕ) → k < length xs → (x : A) × (slice_get xs k ≡ Some x)
+is_there [] k below = absurd (omega arith)
+is_there (x ∷ xs) zero below = (x, refl)
+is_there (x ∷ xs) (suc k) below = is_there xs k (omega arith)
+
+-- what was read at a place, whatever would be read past the end
+pub read_at : {A : Type 0} (xs : List A) (k e : ℕ) (d x : A) → k ≡ e → k < length xs → get_or xs k d ≡ x → slice_get xs e ≡ Some x
+read_at xs k e d x same below is = ap (slice_get xs) (sym same) ∙ (slice_get-get_or xs k d below ∙ ap Some is)
 
 -- two reads of one place
 pub same_read : {A : Type 0} (xs : List A) (k e : ℕ) (x y : A) → k ≡ e → k < length xs → x ≡ get_or xs k x → slice_get xs e ≡ Some y → x ≡ y
@@ -51,6 +63,26 @@ pub parked_ok : (call e index : ℕ) (s : Elements) (old : Thread) → slice_get
     → park call e s ≡ Ok (record s { threads = set s.threads e (record old { parked = true }); held = remove s.held index })
 parked_ok call e index s old found held stopped = rw (found, held, stopped) refl
 
+-- an element is not parked by a call that does not hold it, and not parked or started while its stop bit is clear
+park_not_held : (call e : ℕ) (s : Elements) (old : Thread) → slice_get s.threads e ≡ Some old → position (is_hold call e) s.held ≡ None → park call e s ≡ Err NotHeld
+park_not_held call e s old found none = rw (found, none) refl
+
+park_not_stopped : (call e index : ℕ) (s : Elements) (old : Thread) → slice_get s.threads e ≡ Some old → position (is_hold call e) s.held ≡ Some index → old.stop ≡ false → park call e s ≡ Err NotStopped
+park_not_stopped call e index s old found held running = rw (found, held, running) refl
+
+start_not_stopped : (call e : ℕ) (s : Elements) (old : Thread) → slice_get s.threads e ≡ Some old → old.stop ≡ false → start call e s ≡ Err NotStopped
+start_not_stopped call e s old found running = rw (found, running) refl
+
+-- an element is put on a processor by a call that holds it, where none stands there
+put_not_held : (call processor e : ℕ) (s : Elements) (old : Thread) (seat : Option Hold) → slice_get s.threads e ≡ Some old → slice_get s.processors processor ≡ Some seat
+    → position (is_hold call e) s.held ≡ None → put_on call processor e s ≡ Err NotHeld
+put_not_held call processor e s old seat found there none = rw (found, there, none) refl
+
+put_held : (call processor e index : ℕ) (s : Elements) (old : Thread) (seat : Option Hold) (busy : Bool) → slice_get s.threads e ≡ Some old → slice_get s.processors processor ≡ Some seat
+    → position (is_hold call e) s.held ≡ Some index → is_busy seat ≡ busy
+    → put_on call processor e s ≡ refused_if busy ProcessorBusy (Ok (record s { processors = set s.processors processor (Some (hold call e)); held = remove s.held index }))
+put_held call processor e index s old seat busy found there held is = rw (found, there, held, is) refl
+
 pub started_ok : (call e : ℕ) (s : Elements) (old : Thread) → slice_get s.threads e ≡ Some old → old.stop ≡ true
     → start call e s ≡ Ok (record s { threads = set s.threads e (record old { stop = false; parked = false }); held = s.held ++ cond old.parked (hold call e ∷ []) [] })
 started_ok call e s old found stopped = rw (found, stopped) refl
@@ -58,6 +90,9 @@ started_ok call e s old found stopped = rw (found, stopped) refl
 pub delivered_ok : (call e : ℕ) (s : Elements) (old : Thread) → slice_get s.threads e ≡ Some old → holds call e s ≡ true
     → deliver call e s ≡ Ok (record s { threads = set s.threads e (record old { pending = λ signal. false }) })
 delivered_ok call e s old found held = changed e _ s old _ found (rw held refl)
+
+deliver_not_held : (call e : ℕ) (s : Elements) (old : Thread) → slice_get s.threads e ≡ Some old → holds call e s ≡ false → deliver call e s ≡ Err NotHeld
+deliver_not_held call e s old found none = not_changed e _ s old NotHeld found (rw none refl)
 
 may_not_step : (call e : ℕ) (s : Elements) (old : Thread) (full can : Bool) → eqb old.done 4294967295 ≡ full → (holds call e s || list_any (is_put call e) s.processors) ≡ can
     → refused_if (eqb old.done 4294967295) Full (refused_if (not (holds call e s || list_any (is_put call e) s.processors)) NotHeld (Ok (record old { done = old.done + 1 })))
@@ -143,3 +178,50 @@ known s e answer is there = omega (arith, ltb-true e (length (elements s).thread
 
 pub not_all : (n : ℕ) → n < 4294967296 → (n ≡ 4294967295 → ⊥) → n < 4294967295
 not_all n fits not = omega arith
+
+-- the same of the stored elements
+pub stored_not_held : (s : StoredElements) (call e item : ℕ) (first : StoredThread) → item ≡ e → slice_get s.threads.items e ≡ Some first → position (is_hold call item) s.held.holds.items ≡ None
+    → park call e (elements s) ≡ Err NotHeld
+stored_not_held s call e item first own seen none =
+    park_not_held call e (elements s) (thread first) (shown_at thread s.threads.items e first seen) (ap (λ n. position (is_hold call n) s.held.holds.items) (sym own) ∙ none)
+
+pub stored_not_stopped : (s : StoredElements) (call e item index : ℕ) (first : StoredThread) → item ≡ e → slice_get s.threads.items e ≡ Some first
+    → position (is_hold call item) s.held.holds.items ≡ Some index → first.stop ≡ false → park call e (elements s) ≡ Err NotStopped
+stored_not_stopped s call e item index first own seen found running =
+    park_not_stopped call e index (elements s) (thread first) (shown_at thread s.threads.items e first seen) (ap (λ n. position (is_hold call n) s.held.holds.items) (sym own) ∙ found) running
+
+pub stored_not_started : (s : StoredElements) (call e : ℕ) (first : StoredThread) → slice_get s.threads.items e ≡ Some first → first.stop ≡ false → start call e (elements s) ≡ Err NotStopped
+stored_not_started s call e first seen running = start_not_stopped call e (elements s) (thread first) (shown_at thread s.threads.items e first seen) running
+
+pub stored_not_delivered : (s : StoredElements) (call e item : ℕ) → item ≡ e → e < length s.threads.items → list_any (is_hold call item) s.held.holds.items ≡ false → deliver call e (elements s) ≡ Err NotHeld
+stored_not_delivered s call e item own below none =
+    let there = is_there s.threads.items e below in
+    deliver_not_held call e (elements s) (thread there.0) (shown_at thread s.threads.items e there.0 there.1) (ap (λ n. list_any (is_hold call n) s.held.holds.items) (sym own) ∙ none)
+
+-- a stored element is put on a processor, or is not
+pub stored_not_put : (s : StoredElements) (call processor e item : ℕ) → e < length s.threads.items → processor < length s.processors → item ≡ e → position (is_hold call item) s.held.holds.items ≡ None
+    → put_on call processor e (elements s) ≡ Err NotHeld
+stored_not_put s call processor e item below within own none =
+    let there = is_there s.threads.items e below in let seat = is_there s.processors processor within in
+    put_not_held call processor e (elements s) (thread there.0) seat.0 (shown_at thread s.threads.items e there.0 there.1) seat.1 (ap (λ n. position (is_hold call n) s.held.holds.items) (sym own) ∙ none)
+
+busy : (seat : Option Hold) → is_some seat ≡ is_busy seat
+busy None = refl
+busy (Some h) = refl
+
+pub stored_put : (s : StoredElements) (call processor e item k index : ℕ) (seat : Option Hold) (taken : Bool) → e < length s.threads.items → item ≡ e → k ≡ processor → k < length s.processors
+    → taken ≡ is_some (get_or s.processors k seat) → position (is_hold call item) s.held.holds.items ≡ Some index
+    → put_on call processor e (elements s)
+    ≡ refused_if taken ProcessorBusy (Ok (record (elements s) { processors = set s.processors k (Some (hold call item)); held = remove s.held.holds.items index }))
+stored_put s call processor e item k index seat taken below own same within is found =
+    let there = is_there s.threads.items e below in
+    put_held call processor e index (elements s) (thread there.0) (get_or s.processors k seat) taken (shown_at thread s.threads.items e there.0 there.1)
+    (read_at s.processors k processor seat _ same within refl) (ap (λ n. position (is_hold call n) s.held.holds.items) (sym own) ∙ found) (sym (is ∙ busy (get_or s.processors k seat)))
+    ∙ ap₂ (λ p n. refused_if taken ProcessorBusy (Ok (record (elements s) { processors = set s.processors p (Some (hold call n)); held = remove s.held.holds.items index }))) (sym same) (sym own)
+
+-- a stored wait queue has one more notify
+pub stored_notified : (s : StoredElements) (wait k : ℕ) → k ≡ wait → k < length s.notified
+    → notify_wait wait (elements s) ≡ Ok (record (elements s) { notified = set s.notified k ((get_or s.notified k 0 + 1) % 4294967296) })
+stored_notified s wait k same within =
+    subst (λ n. notify_wait n (elements s) ≡ Ok (record (elements s) { notified = set s.notified k ((get_or s.notified k 0 + 1) % 4294967296) })) same
+    (rw (slice_get-get_or s.notified k 0 within) refl)

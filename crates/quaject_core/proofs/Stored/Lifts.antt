@@ -22,18 +22,21 @@ fine_then (Err e) f fine = fine
 pub why_then : {A B : Type 0} (e : Refusal) (said : Result A Refusal) (f : A → B) → IsWhy e said → IsWhy e (said >>= λ x. Ok (f x))
 why_then e said f why = why_given e said (said >>= λ x. Ok (f x)) (λ is. ap (λ s. s >>= λ x. Ok (f x)) is) (fine_then said f) why
 
+-- what is shown of a place
+pub at_there : {A B : Type 0} (f : A → B) (items : List A) (k : ℕ) (here : A) → k < length items → here ≡ get_or items k here → at k (map f items) ≡ Ok (f here)
+at_there f items k here below is = rw (shown_at f items k here (found_at items k k here refl below is)) refl
+
 -- a change of what is shown of a place
 pub place_changes : {A B : Type 0} (f : A → B) (result : Result (Unit {0}) Refusal) (change : B → Result B Refusal) (items : List A) (k : ℕ) (old new : A)
     → k < length items → old ≡ get_or items k old → Changes result (change (f old)) (f old) (f new)
     → Changes result (change_at k change (map f items)) (map f items) (map f (set items k new))
 place_changes f (Ok done) change items k old new below is changes =
-    ap (λ said. said >>= change >>= λ x. Ok (set (map f items) k x)) (let e : at k (map f items) ≡ Ok (f old) = rw (shown_at f items k old (found_at items k k old refl below is)) refl in e)
+    ap (λ said. said >>= change >>= λ x. Ok (set (map f items) k x)) (at_there f items k old below is)
     ∙ (ap (λ said. said >>= λ x. Ok (set (map f items) k x)) changes ∙ ap Ok (sym (shown_set f items k k new (f new) refl refl)))
-place_changes f (Err e) change items k old new below is changes =
-    let here : at k (map f items) ≡ Ok (f old) = rw (shown_at f items k old (found_at items k k old refl below is)) refl in (
-      map-set_same f items k new old (changes.0 ∙ ap f is),
-      subst (λ said. IsWhy e (said >>= change >>= λ x. Ok (set (map f items) k x))) (sym here) (why_then e (change (f old)) (λ x. set (map f items) k x) changes.1),
-    )
+place_changes f (Err e) change items k old new below is changes = (
+  map-set_same f items k new old (changes.0 ∙ ap f is),
+  subst (λ said. IsWhy e (said >>= change >>= λ x. Ok (set (map f items) k x))) (sym (at_there f items k old below is)) (why_then e (change (f old)) (λ x. set (map f items) k x) changes.1),
+)
 
 repeat-suc : {A : Type 0} (n : ℕ) (x : A) → x ∷ repeat n (x ∷ []) ≡ repeat n (x ∷ []) ++ x ∷ []
 repeat-suc zero x = refl

@@ -1,28 +1,29 @@
 -- When an event of an element queue is allowed, and what it then makes of the elements.
-use Rattle.std.proofs.Common.{◌≡◌, ℕ, zero, suc, ◌+◌, ◌<◌, Bool, true, false, List, [], ◌∷◌, ◌∙◌, length, remove, position, refl, sym, ap, ap₂, subst, arith, Some, None, slice_get, eqb, ltb, leb, Ok, Err}
-use Rattle.std.specs.Prelude.{IsOk}
+use Rattle.std.proofs.Common.{◌≡◌, ℕ, ◌+◌, ◌<◌, ◌≤◌, Bool, true, false, cond, List, [], ◌∷◌, ◌∙◌, map, length, take, set, get_or, remove, position, refl, sym, ap, ap₂, subst, arith, Option, Some, None, slice_get, ok_or, eqb, ltb, leb, Result, Ok, Err}
+use Rattle.std.specs.Prelude.{IsOk, IsErrAnd, MatchResult}
 use Rattle.std.specs.List.{list_any}
+use Rattle.std.proofs.lemmas.Bool.{eqb-false, ne_eqb, lt-ltb, le-ltb, leb-true}
 use Rattle.std.proofs.lemmas.Bool.Decides.{nat_tests}
-use Rattle.quaject_core.specs.Queues.{Queue, claim}
+use Rattle.quaject_core.specs.Queues.{Queue, left, claim, after_claim, take_first}
 use Rattle.quaject_core.specs.Elements.{Elements, Thread, is_hold, let_all_go, claim_element}
-use Rattle.quaject_core.specs.Lines.{first_hold}
+use Rattle.quaject_core.specs.Lines.{first_hold, taken}
+use Rattle.quaject_core.specs.Statuses.{queue_status}
 use Rattle.quaject_core.specs.Results.{◌>>=◌, at, change_at, IsWhy}
 use Rattle.quaject_core.specs.declared.hold.Hold.{Hold}
 use Rattle.quaject_core.specs.declared.refusal.Refusal.{Refusal}
-use Rattle.quaject_core.specs.declared.refusal.Refusal.TheVariants.{NoItems, TooLong, NotHeld}
+use Rattle.quaject_core.specs.declared.refusal.Refusal.TheVariants.{NoItems, TooLong, Full, NotRaised, NotHeld, Closed, Moved}
 use Rattle.quaject_core.proofs.Lists.Inversions.{change_ok, test_ok}
+use Rattle.quaject_core.specs.Shown.{queue}
 use Rattle.quaject_core.specs.ShownElements.{elements}
 use Rattle.quaject_core.specs.ShownThreads.{thread}
 use Rattle.quaject_core.specs.Marks.{wait_at}
 use Rattle.quaject_core.specs.declared.elements.StoredElements.{StoredElements}
-use Rattle.quaject_core.proofs.Stored.Elements.{shown_at}
-use Rattle.quaject_core.proofs.Stored.Lifts.{why_given, ok_of}
-
--- what stands within a list
-pub is_there : {A : Type 0} (xs : List A) (k : ℕ) → k < length xs → (x : A) × (slice_get xs k ≡ Some x)
-is_there [] k below = absurd (omega arith)
-is_there (x ∷ xs) zero below = (x, refl)
-is_there (x ∷ xs) (suc k) below = is_there xs k (omega arith)
+use Rattle.quaject_core.specs.declared.queueing.StoredQueue.{StoredQueue}
+use Rattle.quaject_core.specs.declared.status.QueueStatus.{QueueStatus}
+use Rattle.quaject_core.proofs.Keeping.Queues.{take_ok}
+use Rattle.quaject_core.proofs.Lists.Histories.{both}
+use Rattle.quaject_core.proofs.Stored.Elements.{is_there, shown_at}
+use Rattle.quaject_core.proofs.Stored.Lifts.{why_given, ok_of, at_there}
 
 -- a claim of one element is a run of one
 pub one_item : (call : ℕ) (items : List ℕ) (q r : Queue) → claim 1 call items q ≡ Ok r → length items ≡ 1
@@ -36,6 +37,56 @@ one_item call items q r ok =
 pub claim_one : (line call : ℕ) (items : List ℕ) (lines r : List Queue) → change_at line (claim 1 call items) lines ≡ Ok r → length items ≡ 1
 claim_one line call items lines r ok =
     let h = change_ok line (claim 1 call items) lines r ok in one_item call items h.0 h.1 h.3
+
+-- a claim in a stored queue comes to what its tests say
+pub claim_tested : (line call : ℕ) (items : List ℕ) (lines : List StoredQueue) (stored : StoredQueue) (none long shut full : Bool) → line < length lines → stored ≡ get_or lines line stored
+    → eqb (length items) 0 ≡ none → ltb 1 (length items) ≡ long → stored.shut ≡ shut → ltb stored.capacity (length (left (queue stored)) + length items) ≡ full
+    → change_at line (claim 1 call items) (map queue lines)
+    ≡ (cond none (Err NoItems) (cond long (Err TooLong) (cond shut (Err Closed) (cond full (Err Full) (Ok (after_claim call items (queue stored)))))) >>= λ new. Ok (set (map queue lines) line new))
+claim_tested line call items lines stored none long shut full within is no_items too_long closed no_room =
+    rw (at_there queue lines line stored within is, no_items, too_long, closed, no_room) refl
+
+-- the test for room, by the numbers of the queue
+pub no_room : (q : Queue) (status : QueueStatus) (capacity : ℕ) (items : List ℕ) → status ≡ queue_status q → capacity ≡ status.capacity → eqb (length items) 0 ≡ false → capacity ≤ status.left
+    → ltb q.capacity (length (left q) + length items) ≡ true
+no_room q status capacity items is same some past =
+    lt-ltb q.capacity (length (left q) + length items) (omega (arith, ap (λ s. s.capacity) is, ap (λ s. s.left) is, same, eqb-false (length items) 0 some, past))
+
+pub some_room : (q : Queue) (status : QueueStatus) (capacity : ℕ) (items : List ℕ) → status ≡ queue_status q → capacity ≡ status.capacity → length items ≤ 1 → status.left < capacity
+    → ltb q.capacity (length (left q) + length items) ≡ false
+some_room q status capacity items is same short below =
+    le-ltb q.capacity (length (left q) + length items) (omega (arith, ap (λ s. s.capacity) is, ap (λ s. s.left) is, same, short, below))
+
+-- what a taking from a stored queue takes
+taken_there : (line count : ℕ) (lines : List StoredQueue) (stored : StoredQueue) (said : Result Queue Refusal) → line < length lines → stored ≡ get_or lines line stored
+    → take_first 1 count (queue stored) ≡ said → taken line count (map queue lines) ≡ (said >>= λ new. Ok (take count (left (queue stored))))
+taken_there line count lines stored said within is takes = rw (at_there queue lines line stored within is, takes) refl
+
+-- it is the first that is left
+first_of : (count : ℕ) (items : List ℕ) → count ≡ 1 → leb count (length items) ≡ true → (x : ℕ) × (slice_get items 0 ≡ Some x) × (take count items ≡ x ∷ [])
+first_of count [] one enough = absurd (omega (arith, leb-true count 0 enough))
+first_of count (x ∷ items) one enough = (x, refl, ap (λ n. take n (x ∷ items)) one)
+
+first_taken : (count : ℕ) (q new : Queue) → take_first 1 count q ≡ Ok new → (x : ℕ) × (slice_get (left q) 0 ≡ Some x) × (take count (left q) ≡ x ∷ [])
+first_taken count q new takes =
+    let h = take_ok 1 count q new takes in first_of count (left q) (omega (arith, h.1, h.2)) ((both (leb count (length (left q))) _ h.3).0)
+
+-- the element that a taking takes, or why it takes none
+abbrev pub Takes : ℕ → ℕ → List StoredQueue → Result ℕ Refusal → Type 0
+Takes line count lines said =
+    MatchResult said (λ element. taken line count (map queue lines) ≡ Ok (element ∷ [])) (λ refusal. taken line count (map queue lines) ≡ Err refusal)
+
+-- a stored queue gives its first item that is left, or says why not
+pub takes_first : (line count : ℕ) (lines : List StoredQueue) (stored : StoredQueue) (new : Queue) (first : Option ℕ) (said : Result ℕ Refusal) → line < length lines → stored ≡ get_or lines line stored
+    → take_first 1 count (queue stored) ≡ Ok new → first ≡ slice_get (left (queue stored)) 0 → said ≡ ok_or first NotRaised → Takes line count lines said
+takes_first line count lines stored new first said within is takes first_is said_is =
+    let h = first_taken count (queue stored) new takes in
+    subst (Takes line count lines) (sym (said_is ∙ ap (λ o. ok_or o NotRaised) (first_is ∙ h.1))) (taken_there line count lines stored (Ok new) within is takes ∙ ap Ok h.2)
+
+pub takes_none : (line count : ℕ) (lines : List StoredQueue) (stored : StoredQueue) (e : Refusal) (passed : Result ℕ Refusal) → line < length lines → stored ≡ get_or lines line stored
+    → take_first 1 count (queue stored) ≡ Err e → IsErrAnd passed (λ x. x ≡ e) → Takes line count lines passed
+takes_none line count lines stored e (Ok x) within is takes err = absurd err
+takes_none line count lines stored e (Err x) within is takes err = taken_there line count lines stored (Err e) within is takes ∙ ap Err (sym err)
 
 -- the one element is let go
 pub one_goes : (call index : ℕ) (items : List ℕ) (held : List Hold) → length items ≡ 1 → first_hold call (slice_get items 0) held ≡ Some index → let_all_go call items held ≡ Ok (remove held index)
@@ -76,6 +127,15 @@ pub waits : (call wait element ticket index count : ℕ) (thread : Thread) (s : 
     → wait_at call wait element ticket s ≡ (change_at (wait + 2) (claim 1 call (element ∷ [])) s.lines >>= λ lines. Ok (record s { lines = lines; held = remove s.held index }))
 waits call wait element ticket index count thread s known heard found same = rw (known, heard, found, same) refl
 
+-- and why a wait is refused
+wait_not_held : (call wait element ticket count : ℕ) (thread : Thread) (s : Elements) → slice_get s.threads element ≡ Some thread → slice_get s.notified wait ≡ Some count
+    → position (is_hold call element) s.held ≡ None → wait_at call wait element ticket s ≡ Err NotHeld
+wait_not_held call wait element ticket count thread s known heard found = rw (known, heard, found) refl
+
+wait_moved : (call wait element ticket index count : ℕ) (thread : Thread) (s : Elements) → slice_get s.threads element ≡ Some thread → slice_get s.notified wait ≡ Some count
+    → position (is_hold call element) s.held ≡ Some index → eqb count ticket ≡ false → wait_at call wait element ticket s ≡ Err Moved
+wait_moved call wait element ticket index count thread s known heard found other = rw (known, heard, found, other) refl
+
 -- a wait in the stored elements
 pub stored_waits : (s : StoredElements) (call wait element item line ticket index count : ℕ) → element < length s.threads.items → item ≡ element → line ≡ wait + 2 → slice_get s.notified wait ≡ Some count
     → position (is_hold call item) s.held.holds.items ≡ Some index → count ≡ ticket
@@ -87,3 +147,18 @@ stored_waits s call wait element item line ticket index count below own at heard
     waits call wait element ticket index count (thread there.0) (elements s) (shown_at thread s.threads.items element there.0 there.1) heard
     (ap (λ n. position (is_hold call n) s.held.holds.items) (sym own) ∙ found) equal
     ∙ ap₂ (λ l i. change_at l (claim 1 call (i ∷ [])) (elements s).lines >>= λ lines. Ok (record (elements s) { lines = lines; held = remove s.held.holds.items index })) (sym at) (sym own)
+
+-- a wait that is refused in the stored elements
+pub stored_not_waiting : (s : StoredElements) (call wait element item ticket : ℕ) → element < length s.threads.items → wait < length s.notified → item ≡ element
+    → position (is_hold call item) s.held.holds.items ≡ None → wait_at call wait element ticket (elements s) ≡ Err NotHeld
+stored_not_waiting s call wait element item ticket below within own none =
+    let there = is_there s.threads.items element below in let heard = is_there s.notified wait within in
+    wait_not_held call wait element ticket heard.0 (thread there.0) (elements s) (shown_at thread s.threads.items element there.0 there.1) heard.1
+    (ap (λ n. position (is_hold call n) s.held.holds.items) (sym own) ∙ none)
+
+pub stored_moved : (s : StoredElements) (call wait element item ticket index count : ℕ) → element < length s.threads.items → item ≡ element → slice_get s.notified wait ≡ Some count
+    → position (is_hold call item) s.held.holds.items ≡ Some index → (count ≡ ticket → ⊥) → wait_at call wait element ticket (elements s) ≡ Err Moved
+stored_moved s call wait element item ticket index count below own heard found other =
+    let there = is_there s.threads.items element below in
+    wait_moved call wait element ticket index count (thread there.0) (elements s) (shown_at thread s.threads.items element there.0 there.1) heard
+    (ap (λ n. position (is_hold call n) s.held.holds.items) (sym own) ∙ found) (ne_eqb count ticket other)

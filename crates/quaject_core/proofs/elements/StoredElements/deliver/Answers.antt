@@ -1,6 +1,13 @@
-use Rattle.std.proofs.Common.{sym, ◌∙◌, arith}
-use Rattle.quaject_core.proofs.Stored.Elements.{stored_delivered, known}
+use Rattle.std.proofs.Common.{refl, sym, ◌∙◌, arith}
+use Rattle.quaject_core.proofs.Stored.Elements.{stored_delivered, stored_not_delivered, known}
 use Rattle.quaject_core.proofs.elements.StoredElements.deliver.Goals as goal
+
+pub returns-then-not-holds-clause-change : goal.returns-then-not-holds-clause-change
+returns-then-not-holds-clause-change c = (
+  refl,
+  stored_not_delivered c.args.self.now c.args.call c.args.element c.item_of.result c.item_of.ensures (known c.args.self.now c.args.element c.knows.result c.knows.ensures c.if-not-knows.false)
+      (sym c.holds.ensures ∙ c.if-not-holds.true),
+)
 
 pub returns-clause-change : goal.returns-clause-change
 returns-clause-change c =

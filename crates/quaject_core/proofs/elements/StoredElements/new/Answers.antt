@@ -1,5 +1,4 @@
-use Rattle.std.proofs.Common.{length, sym, ap, ◌∙◌, arith}
-use Rattle.std.proofs.lemmas.List.{length-map}
+use Rattle.std.proofs.Common.{arith}
 use Rattle.quaject_core.specs.Elements.{new_thread}
 use Rattle.quaject_core.specs.ShownThreads.{thread}
 use Rattle.quaject_core.proofs.Keeping.Rooms.{so_many}

@@ -1,6 +1,17 @@
-use Rattle.std.proofs.Common.{sym, ◌∙◌, arith}
-use Rattle.quaject_core.proofs.Stored.Elements.{stored_parked, found_within}
+use Rattle.std.proofs.Common.{refl, sym, ◌∙◌, arith}
+use Rattle.quaject_core.proofs.Stored.Elements.{stored_parked, stored_not_held, stored_not_stopped, found_within}
 use Rattle.quaject_core.proofs.elements.StoredElements.park.Goals as goal
+
+pub returns-in_default-find-clause-change : goal.returns-in_default-find-clause-change
+returns-in_default-find-clause-change c =
+    (refl, stored_not_held c.args.self.now c.args.call c.args.element c.item_of.result c.in-Some.thread c.item_of.ensures (sym c.in-Some.ensures) (sym c.find.ensures ∙ c.in_default-find.is))
+
+pub returns-then-not-is_stopping-clause-change : goal.returns-then-not-is_stopping-clause-change
+returns-then-not-is_stopping-clause-change c = (
+  refl,
+  stored_not_stopped c.args.self.now c.args.call c.args.element c.item_of.result c.in-Some-find.index c.in-Some.thread c.item_of.ensures (sym c.in-Some.ensures) (sym c.in-Some-find.ensures)
+      (sym c.is_stopping.ensures ∙ c.if-not-is_stopping.true),
+)
 
 pub returns-clause-change : goal.returns-clause-change
 returns-clause-change c =

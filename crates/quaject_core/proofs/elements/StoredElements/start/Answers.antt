@@ -1,10 +1,14 @@
-use Rattle.std.proofs.Common.{sym, ◌∙◌, arith}
-use Rattle.quaject_core.proofs.Stored.Elements.{stored_started, found_within, shown_at}
+use Rattle.std.proofs.Common.{refl, sym, ◌∙◌, arith}
+use Rattle.quaject_core.proofs.Stored.Elements.{stored_started, stored_not_started, found_within, shown_at}
 use Rattle.std.proofs.lemmas.List.{length-map}
 use Rattle.quaject_core.specs.ShownElements.{elements}
 use Rattle.quaject_core.specs.ShownThreads.{thread}
 use Rattle.quaject_core.proofs.Keeping.Rooms.{started_room}
 use Rattle.quaject_core.proofs.elements.StoredElements.start.Goals as goal
+
+pub returns-then-not-is_stopping-clause-change : goal.returns-then-not-is_stopping-clause-change
+returns-then-not-is_stopping-clause-change c =
+    (refl, stored_not_started c.args.self.now c.args.call c.args.element c.in-Some.thread (sym c.in-Some.ensures) (sym c.is_stopping.ensures ∙ c.if-not-is_stopping.true))
 
 pub push_if-requires : goal.push_if-requires
 push_if-requires c = λ parked. let found = sym c.in-Some.ensures in

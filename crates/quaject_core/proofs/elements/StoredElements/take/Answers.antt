@@ -1,4 +1,4 @@
-use Rattle.std.proofs.Common.{sym, ap, ◌∙◌, arith}
+use Rattle.std.proofs.Common.{arith}
 use Rattle.std.proofs.lemmas.List.{length-map}
 use Rattle.quaject_core.specs.ShownElements.{elements}
 use Rattle.quaject_core.specs.ShownThreads.{thread}

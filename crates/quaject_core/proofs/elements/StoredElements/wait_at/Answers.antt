@@ -1,4 +1,4 @@
-use Rattle.std.proofs.Common.{List, map, remove, Ok, sym, ap, subst, ◌∙◌}
+use Rattle.std.proofs.Common.{List, map, remove, Ok, refl, sym, ap, subst, ◌∙◌, arith}
 use Rattle.quaject_core.specs.Queues.{Queue}
 use Rattle.quaject_core.specs.Results.{◌>>=◌, IsWhy}
 use Rattle.quaject_core.specs.Shown.{queue}
@@ -6,8 +6,22 @@ use Rattle.quaject_core.specs.declared.hold.Hold.{Hold}
 use Rattle.quaject_core.specs.ShownElements.{elements}
 use Rattle.quaject_core.proofs.Stored.Elements.{known}
 use Rattle.quaject_core.proofs.Stored.Lifts.{changes_err, why_then}
-use Rattle.quaject_core.proofs.Stored.Lines.{stored_waits}
+use Rattle.quaject_core.proofs.Stored.Lines.{stored_waits, stored_not_waiting, stored_moved}
 use Rattle.quaject_core.proofs.elements.StoredElements.wait_at.Goals as goal
+
+pub returns-in_default : goal.returns-in_default
+returns-in_default c = (
+  refl,
+  stored_not_waiting c.args.self.now c.args.call c.args.wait c.args.element c.item_of-item.result c.args.ticket (known c.args.self.now c.args.element c.knows.result c.knows.ensures c.if-not-knows.false) (omega arith)
+      c.item_of-item.ensures (sym c.find.ensures ∙ c.in_default.is),
+)
+
+pub returns-then-notifies-ticket : goal.returns-then-notifies-ticket
+returns-then-notifies-ticket c = (
+  refl,
+  stored_moved c.args.self.now c.args.call c.args.wait c.args.element c.item_of-item.result c.args.ticket c.in-Some.index c.notifies.result
+      (known c.args.self.now c.args.element c.knows.result c.knows.ensures c.if-not-knows.false) c.item_of-item.ensures c.notifies.ensures (sym c.in-Some.ensures) c.if-notifies-ticket.true,
+)
 
 pub returns-in_err-claim : goal.returns-in_err-claim
 returns-in_err-claim c =

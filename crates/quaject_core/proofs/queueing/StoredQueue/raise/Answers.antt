@@ -1,6 +1,12 @@
 use Rattle.std.proofs.Common.{◌+◌, refl, sym, ◌∙◌, arith}
-use Rattle.quaject_core.proofs.Stored.Queues.{not_true, not_false, raise_other, raise_again, raised_laid, raised_lawful, raised_ok, place_within, same_place}
+use Rattle.quaject_core.proofs.Stored.Queues.{not_true, not_false, raise_unknown_run, raise_past, raise_other, raise_again, raised_laid, raised_lawful, raised_ok, place_within, same_place}
 use Rattle.quaject_core.proofs.queueing.StoredQueue.raise.Goals as goal
+
+pub returns-in_default : goal.returns-in_default
+returns-in_default c = (refl, raise_unknown_run c.args.self.now c.args.call c.args.run c.args.index (sym c.span.ensures ∙ c.in_default.is))
+
+pub returns-then-index-span : goal.returns-then-index-span
+returns-then-index-span c = (refl, raise_past c.args.self.now c.args.call c.args.run c.args.index c.in-Some.span (sym c.in-Some.ensures) c.if-index-span.true)
 
 pub returns-then-ne : goal.returns-then-ne
 returns-then-ne c = (refl, raise_other c.args.self.now c.args.call c.args.run c.args.index c.in-Some.span (sym c.in-Some.ensures) c.if-index-span.false (not_true _ c.if-ne.ensures))

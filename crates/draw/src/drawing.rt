@@ -292,6 +292,24 @@ fn height_of(history: &History, columns: &Columns) -> u32 {
         .saturating_add(legend::height(columns))
 }
 
+/// Adds the ground, the title, the note, the names, the rows and the legend, in this order.
+fn add_all(
+    alloc: Global,
+    script: &[u8],
+    history: &History,
+    columns: &Columns,
+    height: u32,
+    shapes: &mut Vec<Shape>,
+) -> Result<(), OutOfMemory> {
+    shapes.push(ground(columns.width, height))?;
+    let shown = front_of(alloc, first_comment(script), TITLE_LETTERS)?;
+    add_words(NUMBERS, TITLE, Colour::Ink, shown, shapes)?;
+    add_note(alloc, history, shapes)?;
+    add_names(alloc, columns, shapes)?;
+    let below = add_rows(alloc, script, history, columns, shapes)?;
+    add_legend(alloc, columns, below.saturating_add(14), shapes)
+}
+
 /// The picture of what a list of events led to. Its title is the first comment of the script.
 pub(crate) fn picture(
     alloc: Global,
@@ -299,16 +317,10 @@ pub(crate) fn picture(
     history: &History,
 ) -> Result<Picture, OutOfMemory> {
     let columns = columns_of(alloc, &history.rows, letters(script, history))?;
-    let mut shapes = Vec::new(alloc);
     let height = height_of(history, &columns);
-    shapes.push(ground(columns.width, height))?;
     let title = text_of(alloc, first_comment(script))?;
-    let shown = front_of(alloc, first_comment(script), TITLE_LETTERS)?;
-    add_words(NUMBERS, TITLE, Colour::Ink, shown, &mut shapes)?;
-    add_note(alloc, history, &mut shapes)?;
-    add_names(alloc, &columns, &mut shapes)?;
-    let below = add_rows(alloc, script, history, &columns, &mut shapes)?;
-    add_legend(alloc, &columns, below.saturating_add(14), &mut shapes)?;
+    let mut shapes = Vec::new(alloc);
+    add_all(alloc, script, history, &columns, height, &mut shapes)?;
     Ok(Picture {
         width: columns.width,
         height,

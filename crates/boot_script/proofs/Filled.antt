@@ -1,11 +1,14 @@
 -- A buffer that is filled from a reader, and the text that it then has.
-use Rattle.std.proofs.Common.{◌≡◌, ◌⊎◌, inl, inr, ℕ, ◌<◌, ◌≤◌, ◌+◌, List, [], ◌++◌, ◌∙◌, refl, sym, ap, arith, append_assoc, length, length-append, take, Option, Some, None, Ok}
+use Rattle.std.proofs.Common.{◌≡◌, ◌⊎◌, inl, inr, ℕ, ◌<◌, ◌≤◌, ◌+◌, List, [], ◌++◌, ◌∙◌, refl, sym, ap, subst, arith, append_assoc, length, length-append, take, Option, Some, None, Result, Ok, Err}
 use Rattle.std.proofs.lemmas.Bool.{cases_lt}
 use Rattle.std.proofs.lemmas.List.{append-nil, take-append-le}
 use Rattle.std.proofs.Math.Seq.{take-append-add}
-use Rattle.std.specs.Prelude.{IfSome}
+use Rattle.std.specs.Prelude.{IfOk, IfErr, IfSome}
 use Rattle.std.specs.Io.KnownBytes.{Consumes, IsAtEnd, Keeps}
 use Rattle.boot_script.specs.declared.version.Script.TheVariants.{Events, Boot}
+use Rattle.boot_script.specs.declared.outcome.Replayed.{Replayed}
+use Rattle.boot_script.specs.declared.outcome.ReplayFault.{ReplayFault}
+use Rattle.boot_script.specs.Replays.{IsReplay, IsReplayFault}
 use Rattle.boot_script.specs.Words.{◌>>=◌}
 use Rattle.boot_script.specs.Versions.{elements_of}
 use Rattle.boot_script.specs.Plans.{first_draft, plan_from, plan_only, text_plan}
@@ -64,3 +67,19 @@ events_of_read = said_of text_events events_long
 
 pub plan_of_read : (old new : Option (List ℕ)) (text : List ℕ) → Consumes old new text → (length text ≤ 65536 → IsAtEnd new) → IfSome old (λ bytes. text_plan bytes ≡ text_plan text)
 plan_of_read = said_of text_plan plans_long
+
+-- a replay of the text that was filled in is one of all that was read
+pub replay_of_read : (remaining : Option (List ℕ)) (text : List ℕ) (result : Result Replayed ReplayFault) (old new : Option (List ℕ)) → IfSome remaining (λ bytes. text_events bytes ≡ text_events text)
+    → IfOk result (λ replayed. IsReplay (text_events text) replayed old new) → IfOk result (λ replayed. IfSome remaining (λ bytes. IsReplay (text_events bytes) replayed old new))
+replay_of_read None text (Ok replayed) old new same h = tt
+replay_of_read None text (Err fault) old new same h = tt
+replay_of_read (Some bytes) text (Ok replayed) old new same h = subst (λ said. IsReplay said replayed old new) (sym same) h
+replay_of_read (Some bytes) text (Err fault) old new same h = tt
+
+-- a fault of the text that was filled in is one of all that was read
+pub fault_of_read : (remaining : Option (List ℕ)) (text : List ℕ) (result : Result Replayed ReplayFault) → IfSome remaining (λ bytes. text_events bytes ≡ text_events text)
+    → IfErr result (IsReplayFault (text_events text)) → IfErr result (λ fault. IfSome remaining (λ bytes. IsReplayFault (text_events bytes) fault))
+fault_of_read None text (Ok replayed) same h = tt
+fault_of_read None text (Err fault) same h = tt
+fault_of_read (Some bytes) text (Ok replayed) same h = tt
+fault_of_read (Some bytes) text (Err fault) same h = subst (λ said. IsReplayFault said fault) (sym same) h

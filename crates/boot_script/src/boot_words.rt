@@ -7,7 +7,7 @@ use crate::fault::ScriptRefusal;
 use crate::version::Version;
 
 /// What a line of a boot script declares, or what a thread does.
-#[derive(Clone, Copy, Debug)]
+#[derive(Clone, Copy)]
 pub(crate) enum BootWord {
     Queue,
     Pipe,

@@ -7,7 +7,7 @@ use crate::fault::ScriptRefusal;
 use crate::version::Version;
 
 /// What a line of a list of events tells the core to do.
-#[derive(Clone, Copy, Debug)]
+#[derive(Clone, Copy)]
 pub(crate) enum Command {
     Queue,
     Chain,

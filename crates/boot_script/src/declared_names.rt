@@ -17,7 +17,7 @@ use quaject_core::{Element, Gauge};
 use std::marker::Model;
 
 /// What a name was declared for.
-#[derive(Clone, Copy, Debug)]
+#[derive(Clone, Copy)]
 pub(crate) enum Kind {
     /// A queue or pipe.
     Queue,
@@ -29,7 +29,7 @@ pub(crate) enum Kind {
 }
 
 /// The number of a tty. Contracts see it as a number.
-#[derive(Clone, Copy, Debug)]
+#[derive(Clone, Copy)]
 pub(crate) struct TtyNumber {
     number: u8,
 }

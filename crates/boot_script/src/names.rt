@@ -16,7 +16,7 @@ use quaject_core::{
 };
 
 /// Who is told by a notify.
-#[derive(Clone, Copy, Debug)]
+#[derive(Clone, Copy)]
 pub(crate) enum Listener {
     /// The runner of a chain.
     Chain(ChainNumber),

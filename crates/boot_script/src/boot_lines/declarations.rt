@@ -9,9 +9,8 @@ ghost use Rattle.boot_script.specs.BootNames.{number_named, new_name};
 ghost use Rattle.boot_script.specs.BootLines.{type_words};
 ghost use Rattle.boot_script.specs.declared.declared_names.Kind.TheVariants as kind;
 
-use crate::boot_lines::Line;
+use crate::boot_lines::{Line, at_end};
 use crate::declared_names::Names;
-use crate::event_lines::no_more;
 use crate::fault::ScriptRefusal;
 use crate::names::{signal, wait_number};
 use crate::plan::{PipeWaits, PlannedQueue};
@@ -21,18 +20,17 @@ use crate::version::Version;
 use quaject_core::Alarm;
 
 /// `queue NAME`
-#[tactic(auto, unfolding(crate::specs::Grammar::one_word))]
+#[tactic(auto, unfolding(crate::specs::Grammar::one_word, crate::specs::Grammar::no_words))]
 pub(super) fn queue_said(names: &Names, words: &mut Words) -> Result<Line, ScriptRefusal>
     ensures { result ≡ one_word (new_name names.now)
         (λ name. Line.Queue (record { name = name; waits = None })) words.old }
 {
     let name = names.new_name(words.next_word())?;
-    no_more(words)?;
-    Ok(Line::Queue(PlannedQueue { name, waits: None }))
+    at_end(words, Line::Queue(PlannedQueue { name, waits: None }))
 }
 
 /// `pipe NAME R W`
-#[tactic(auto, unfolding(crate::specs::Grammar::three_words))]
+#[tactic(auto, unfolding(crate::specs::Grammar::three_words, crate::specs::Grammar::no_words))]
 pub(super) fn pipe_said(
     version: Version,
     names: &Names,
@@ -46,19 +44,17 @@ pub(super) fn pipe_said(
     let name = names.new_name(words.next_word())?;
     let readers = wait_number(version, words.next_word())?;
     let writers = wait_number(version, words.next_word())?;
-    no_more(words)?;
     let waits = Some(PipeWaits { readers, writers });
-    Ok(Line::Queue(PlannedQueue { name, waits }))
+    at_end(words, Line::Queue(PlannedQueue { name, waits }))
 }
 
 /// `tty NAME`
-#[tactic(auto, unfolding(crate::specs::Grammar::one_word))]
+#[tactic(auto, unfolding(crate::specs::Grammar::one_word, crate::specs::Grammar::no_words))]
 pub(super) fn tty_said(names: &Names, words: &mut Words) -> Result<Line, ScriptRefusal>
     ensures { result ≡ one_word (new_name names.now) Line.Tty words.old }
 {
     let name = names.new_name(words.next_word())?;
-    no_more(words)?;
-    Ok(Line::Tty(name))
+    at_end(words, Line::Tty(name))
 }
 
 /// `type TTY TEXT`
@@ -72,17 +68,16 @@ pub(super) fn type_said(names: &Names, words: &mut Words) -> Result<Line, Script
 }
 
 /// `gauge NAME`
-#[tactic(auto, unfolding(crate::specs::Grammar::one_word))]
+#[tactic(auto, unfolding(crate::specs::Grammar::one_word, crate::specs::Grammar::no_words))]
 pub(super) fn gauge_said(names: &Names, words: &mut Words) -> Result<Line, ScriptRefusal>
     ensures { result ≡ one_word (new_name names.now) Line.Gauge words.old }
 {
     let name = names.new_name(words.next_word())?;
-    no_more(words)?;
-    Ok(Line::Gauge(name))
+    at_end(words, Line::Gauge(name))
 }
 
 /// `alarm TICK THREAD S`
-#[tactic(auto, unfolding(crate::specs::Grammar::three_words))]
+#[tactic(auto, unfolding(crate::specs::Grammar::three_words, crate::specs::Grammar::no_words))]
 pub(super) fn alarm_said(names: &Names, words: &mut Words) -> Result<Line, ScriptRefusal>
     ensures { result ≡ three_words (number_of 4294967295) (number_named kind.Thread names.now) signal_of
         (λ due thread signal. Line.Alarm (record { due = due; element = thread; signal = signal })) words.old }
@@ -90,30 +85,30 @@ pub(super) fn alarm_said(names: &Names, words: &mut Words) -> Result<Line, Scrip
     let due = number_u32(words.next_word())?;
     let element = names.thread(words.next_word())?;
     let signal = signal(words.next_word())?;
-    no_more(words)?;
-    Ok(Line::Alarm(Alarm {
-        due,
-        element,
-        signal,
-    }))
+    at_end(
+        words,
+        Line::Alarm(Alarm {
+            due,
+            element,
+            signal,
+        }),
+    )
 }
 
 /// `thread NAME`
-#[tactic(auto, unfolding(crate::specs::Grammar::one_word))]
+#[tactic(auto, unfolding(crate::specs::Grammar::one_word, crate::specs::Grammar::no_words))]
 pub(super) fn thread_said(names: &Names, words: &mut Words) -> Result<Line, ScriptRefusal>
     ensures { result ≡ one_word (new_name names.now) Line.Thread words.old }
 {
     let name = names.new_name(words.next_word())?;
-    no_more(words)?;
-    Ok(Line::Thread(name))
+    at_end(words, Line::Thread(name))
 }
 
 /// `more THREAD`
-#[tactic(auto, unfolding(crate::specs::Grammar::one_word))]
+#[tactic(auto, unfolding(crate::specs::Grammar::one_word, crate::specs::Grammar::no_words))]
 pub(super) fn more_said(names: &Names, words: &mut Words) -> Result<Line, ScriptRefusal>
     ensures { result ≡ one_word (number_named kind.Thread names.now) Line.More words.old }
 {
     let thread = names.thread(words.next_word())?;
-    no_more(words)?;
-    Ok(Line::More(thread))
+    at_end(words, Line::More(thread))
 }

@@ -6,6 +6,7 @@
 
 ghost use Rattle.std.specs.Prelude.{◌≡◌};
 ghost use Rattle.boot_script.specs.BootLines.{line_of, boot_line};
+ghost use Rattle.boot_script.specs.Grammar.{no_words};
 
 mod declarations;
 mod movers;
@@ -21,7 +22,7 @@ use crate::boot_lines::steps::{
 };
 use crate::boot_words::{BootWord, line_word};
 use crate::declared_names::{Names, TtyNumber};
-use crate::event_lines::is_ascii;
+use crate::event_lines::{is_ascii, no_more};
 use crate::fault::ScriptRefusal;
 use crate::fixed::{Name, Text};
 use crate::plan::{PlannedMover, PlannedQueue, Step};
@@ -45,6 +46,15 @@ pub(crate) enum Line {
     /// The program of this thread goes on.
     More(Element),
     Step(Step),
+}
+
+/// What is said, where no word is left; else UnknownWord.
+#[tactic(auto, unfolding(crate::specs::Grammar::no_words))]
+fn at_end(words: &Words, said: Line) -> Result<Line, ScriptRefusal>
+    ensures { result ≡ no_words said words.now }
+{
+    no_more(words)?;
+    Ok(said)
 }
 
 /// What a word and those behind it say.

@@ -6,15 +6,14 @@ ghost use Rattle.boot_script.specs.Grammar.{three_words};
 ghost use Rattle.boot_script.specs.BootNames.{number_named, new_name};
 ghost use Rattle.boot_script.specs.BootLines.{AreSeen, key_of, way_of, ways_of, switch_words};
 
-use crate::boot_lines::Line;
+use crate::boot_lines::{Line, at_end};
 use crate::declared_names::{Kind, Names};
-use crate::event_lines::no_more;
 use crate::fault::ScriptRefusal;
 use crate::plan::{Mover, PlannedMover, Way, Ways};
 use crate::text::Words;
 
 /// `pump NAME FROM TO`
-#[tactic(auto, unfolding(crate::specs::Grammar::three_words))]
+#[tactic(auto, unfolding(crate::specs::Grammar::three_words, crate::specs::Grammar::no_words))]
 pub(super) fn pump_said(names: &Names, words: &mut Words) -> Result<Line, ScriptRefusal>
     ensures { result ≡ three_words (new_name names.now) (number_named Kind.Queue names.now)
         (number_named Kind.Queue names.now)
@@ -23,9 +22,8 @@ pub(super) fn pump_said(names: &Names, words: &mut Words) -> Result<Line, Script
     let name = names.new_name(words.next_word())?;
     let from = names.number(Kind::Queue, words.next_word())?;
     let to = names.number(Kind::Queue, words.next_word())?;
-    no_more(words)?;
     let mover = Mover::Pump { from, to };
-    Ok(Line::Mover(PlannedMover { name, mover }))
+    at_end(words, Line::Mover(PlannedMover { name, mover }))
 }
 
 /// The key that a word is, where no way has it yet. Else BadName, NameTwice.

@@ -8,9 +8,8 @@ ghost use Rattle.boot_script.specs.Grammar.{no_words, one_word, two_words};
 ghost use Rattle.boot_script.specs.BootNames.{number_named, queue_named};
 ghost use Rattle.boot_script.specs.BootLines.{say_words};
 
-use crate::boot_lines::Line;
+use crate::boot_lines::{Line, at_end};
 use crate::declared_names::{Kind, Names};
-use crate::event_lines::no_more;
 use crate::fault::ScriptRefusal;
 use crate::names::{signal, wait_number};
 use crate::plan::Step;
@@ -29,106 +28,95 @@ pub(super) fn say_said(names: &Names, words: &mut Words) -> Result<Line, ScriptR
 }
 
 /// `hear Q`
-#[tactic(auto, unfolding(crate::specs::Grammar::one_word))]
+#[tactic(auto, unfolding(crate::specs::Grammar::one_word, crate::specs::Grammar::no_words))]
 pub(super) fn hear_said(names: &Names, words: &mut Words) -> Result<Line, ScriptRefusal>
     ensures { result ≡ one_word (queue_named true names.now) (λ queue. Line.Step (Step.Hear queue)) words.old }
 {
     let queue = names.queue(true, words.next_word())?;
-    no_more(words)?;
-    Ok(Line::Step(Step::Hear { queue }))
+    at_end(words, Line::Step(Step::Hear { queue }))
 }
 
 /// `wait W`
-#[tactic(auto, unfolding(crate::specs::Grammar::one_word))]
+#[tactic(auto, unfolding(crate::specs::Grammar::one_word, crate::specs::Grammar::no_words))]
 pub(super) fn wait_said(version: Version, words: &mut Words) -> Result<Line, ScriptRefusal>
     ensures { result ≡ one_word (number_of (last_wait version)) (λ wait. Line.Step (Step.Wait wait)) words.old }
 {
     let wait = wait_number(version, words.next_word())?;
-    no_more(words)?;
-    Ok(Line::Step(Step::Wait { wait }))
+    at_end(words, Line::Step(Step::Wait { wait }))
 }
 
 /// `wake W`
-#[tactic(auto, unfolding(crate::specs::Grammar::one_word))]
+#[tactic(auto, unfolding(crate::specs::Grammar::one_word, crate::specs::Grammar::no_words))]
 pub(super) fn wake_said(version: Version, words: &mut Words) -> Result<Line, ScriptRefusal>
     ensures { result ≡ one_word (number_of (last_wait version)) (λ wait. Line.Step (Step.Wake wait)) words.old }
 {
     let wait = wait_number(version, words.next_word())?;
-    no_more(words)?;
-    Ok(Line::Step(Step::Wake { wait }))
+    at_end(words, Line::Step(Step::Wake { wait }))
 }
 
 /// `signal THREAD S`
-#[tactic(auto, unfolding(crate::specs::Grammar::two_words))]
+#[tactic(auto, unfolding(crate::specs::Grammar::two_words, crate::specs::Grammar::no_words))]
 pub(super) fn signal_said(names: &Names, words: &mut Words) -> Result<Line, ScriptRefusal>
     ensures { result ≡ two_words (number_named Kind.Thread names.now) signal_of
         (λ thread signal. Line.Step (Step.Signal thread signal)) words.old }
 {
     let thread = names.thread(words.next_word())?;
     let signal = signal(words.next_word())?;
-    no_more(words)?;
-    Ok(Line::Step(Step::Signal { thread, signal }))
+    at_end(words, Line::Step(Step::Signal { thread, signal }))
 }
 
 /// `stop THREAD`
-#[tactic(auto, unfolding(crate::specs::Grammar::one_word))]
+#[tactic(auto, unfolding(crate::specs::Grammar::one_word, crate::specs::Grammar::no_words))]
 pub(super) fn stop_said(names: &Names, words: &mut Words) -> Result<Line, ScriptRefusal>
     ensures { result ≡ one_word (number_named Kind.Thread names.now) (λ thread. Line.Step (Step.Stop thread))
         words.old }
 {
     let thread = names.thread(words.next_word())?;
-    no_more(words)?;
-    Ok(Line::Step(Step::Stop { thread }))
+    at_end(words, Line::Step(Step::Stop { thread }))
 }
 
 /// `start THREAD`
-#[tactic(auto, unfolding(crate::specs::Grammar::one_word))]
+#[tactic(auto, unfolding(crate::specs::Grammar::one_word, crate::specs::Grammar::no_words))]
 pub(super) fn start_said(names: &Names, words: &mut Words) -> Result<Line, ScriptRefusal>
     ensures { result ≡ one_word (number_named Kind.Thread names.now) (λ thread. Line.Step (Step.Start thread))
         words.old }
 {
     let thread = names.thread(words.next_word())?;
-    no_more(words)?;
-    Ok(Line::Step(Step::Start { thread }))
+    at_end(words, Line::Step(Step::Start { thread }))
 }
 
 /// `tick GAUGE N`
-#[tactic(auto, unfolding(crate::specs::Grammar::two_words))]
+#[tactic(auto, unfolding(crate::specs::Grammar::two_words, crate::specs::Grammar::no_words))]
 pub(super) fn tick_said(names: &Names, words: &mut Words) -> Result<Line, ScriptRefusal>
     ensures { result ≡ two_words (number_named Kind.Gauge names.now) (number_of 18446744073709551615)
         (λ gauge amount. Line.Step (Step.Tick gauge amount)) words.old }
 {
     let gauge = names.gauge(words.next_word())?;
     let amount = number(words.next_word(), u64::MAX)?;
-    no_more(words)?;
-    Ok(Line::Step(Step::Tick { gauge, amount }))
+    at_end(words, Line::Step(Step::Tick { gauge, amount }))
 }
 
 /// `poke NAME`
-#[tactic(auto, unfolding(crate::specs::Grammar::one_word))]
+#[tactic(auto, unfolding(crate::specs::Grammar::one_word, crate::specs::Grammar::no_words))]
 pub(super) fn poke_said(names: &Names, words: &mut Words) -> Result<Line, ScriptRefusal>
     ensures { result ≡ one_word (number_named Kind.Mover names.now) (λ mover. Line.Step (Step.Poke mover)) words.old }
 {
     let mover = names.number(Kind::Mover, words.next_word())?;
-    no_more(words)?;
-    Ok(Line::Step(Step::Poke { mover }))
+    at_end(words, Line::Step(Step::Poke { mover }))
 }
 
 /// `pass`
-#[tactic(auto, unfolding(crate::specs::Grammar::no_words))]
 pub(super) fn pass_said(words: &mut Words) -> Result<Line, ScriptRefusal>
     ensures { result ≡ no_words (Line.Step Step.Pass) words.old }
 {
-    no_more(words)?;
-    Ok(Line::Step(Step::Pass))
+    at_end(words, Line::Step(Step::Pass))
 }
 
 /// `close Q`
-#[tactic(auto, unfolding(crate::specs::Grammar::one_word))]
+#[tactic(auto, unfolding(crate::specs::Grammar::one_word, crate::specs::Grammar::no_words))]
 pub(super) fn close_said(names: &Names, words: &mut Words) -> Result<Line, ScriptRefusal>
     ensures { result ≡ one_word (number_named Kind.Queue names.now) (λ queue. Line.Step (Step.Close queue)) words.old }
 {
     let queue = names.number(Kind::Queue, words.next_word())?;
-    no_more(words)?;
-    Ok(Line::Step(Step::Close { queue }))
+    at_end(words, Line::Step(Step::Close { queue }))
 }

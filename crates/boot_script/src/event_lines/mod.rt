@@ -5,7 +5,7 @@
 
 ghost use Rattle.std.specs.Prelude.{◌≡◌, IfErr};
 ghost use Rattle.std.specs.List.{list_all};
-ghost use Rattle.boot_script.specs.Grammar.{no_more_of, event_of, line_event, is_printable};
+ghost use Rattle.boot_script.specs.Grammar.{no_more_of, no_words, event_of, line_event, is_printable};
 ghost use Rattle.boot_script.specs.Answers.{Gives};
 
 mod chains;
@@ -37,6 +37,15 @@ pub(crate) fn no_more(words: &Words) -> Result<(), ScriptRefusal>
     } else {
         Err(ScriptRefusal::UnknownWord)
     }
+}
+
+/// The event, where no word is left; else UnknownWord.
+#[tactic(auto, unfolding(crate::specs::Grammar::no_words))]
+fn at_end(words: &Words, event: Event) -> Result<Event, ScriptRefusal>
+    ensures { Gives (λ event. event) result (no_words event words.now) }
+{
+    no_more(words)?;
+    Ok(event)
 }
 
 /// The event that a command and the words behind it say.

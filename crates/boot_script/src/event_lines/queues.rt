@@ -6,7 +6,7 @@ ghost use Rattle.boot_script.specs.Names.{byte_queue_of, call_of, queue_of};
 ghost use Rattle.boot_script.specs.Grammar.{claim_words, four_words, items_of, one_word, three_words, two_words};
 ghost use Rattle.boot_script.specs.Answers.{Gives};
 
-use crate::event_lines::no_more;
+use crate::event_lines::at_end;
 use crate::fault::ScriptRefusal;
 use crate::names::{byte_queue, call, queue};
 use crate::text::{Words, number, number_u32};
@@ -18,13 +18,12 @@ use std::alloc::Global;
 const MOST_ITEMS: usize = 256;
 
 /// `queue N`
-#[tactic(auto, unfolding(crate::specs::Grammar::one_word))]
+#[tactic(auto, unfolding(crate::specs::Grammar::one_word, crate::specs::Grammar::no_words))]
 pub(super) fn queue_said(words: &mut Words) -> Result<Event, ScriptRefusal>
     ensures { Gives (λ event. event) result (one_word (number_of 65535) Event.Queue words.old) }
 {
     let capacity = number(words.next_word(), u64::from(u16::MAX))? as u16;
-    no_more(words)?;
-    Ok(Event::Queue { capacity })
+    at_end(words, Event::Queue { capacity })
 }
 
 /// All words that are left, as items. After a refused growth the words are still checked.
@@ -64,7 +63,7 @@ pub(super) fn claim_said(
 }
 
 /// `raise c Q run i`
-#[tactic(auto, unfolding(crate::specs::Grammar::four_words))]
+#[tactic(auto, unfolding(crate::specs::Grammar::four_words, crate::specs::Grammar::no_words))]
 pub(super) fn raise_said(version: Version, words: &mut Words) -> Result<Event, ScriptRefusal>
     ensures { Gives (λ event. event) result (four_words call_of (queue_of version) (number_of 4294967295)
         (number_of 4294967295) Event.Raise words.old) }
@@ -73,17 +72,19 @@ pub(super) fn raise_said(version: Version, words: &mut Words) -> Result<Event, S
     let queue = queue(version, words.next_word())?;
     let run = number_u32(words.next_word())?;
     let index = number_u32(words.next_word())?;
-    no_more(words)?;
-    Ok(Event::Raise {
-        call,
-        queue,
-        run,
-        index,
-    })
+    at_end(
+        words,
+        Event::Raise {
+            call,
+            queue,
+            run,
+            index,
+        },
+    )
 }
 
 /// `take c Q n`
-#[tactic(auto, unfolding(crate::specs::Grammar::three_words))]
+#[tactic(auto, unfolding(crate::specs::Grammar::three_words, crate::specs::Grammar::no_words))]
 pub(super) fn take_said(version: Version, words: &mut Words) -> Result<Event, ScriptRefusal>
     ensures { Gives (λ event. event) result (three_words call_of (queue_of version)
         (number_of 4294967295) Event.Take words.old) }
@@ -91,17 +92,15 @@ pub(super) fn take_said(version: Version, words: &mut Words) -> Result<Event, Sc
     let call = call(words.next_word())?;
     let queue = queue(version, words.next_word())?;
     let count = number_u32(words.next_word())?;
-    no_more(words)?;
-    Ok(Event::Take { call, queue, count })
+    at_end(words, Event::Take { call, queue, count })
 }
 
 /// `shut c q`
-#[tactic(auto, unfolding(crate::specs::Grammar::two_words))]
+#[tactic(auto, unfolding(crate::specs::Grammar::two_words, crate::specs::Grammar::no_words))]
 pub(super) fn shut_said(words: &mut Words) -> Result<Event, ScriptRefusal>
     ensures { Gives (λ event. event) result (two_words call_of byte_queue_of Event.Shut words.old) }
 {
     let call = call(words.next_word())?;
     let queue = byte_queue(words.next_word())?;
-    no_more(words)?;
-    Ok(Event::Shut { call, queue })
+    at_end(words, Event::Shut { call, queue })
 }

@@ -1,4 +1,3 @@
-use Rattle.std.proofs.Common.{append_assoc}
 use Rattle.boot_script.specs.Printed.{status_text}
 use Rattle.boot_script.proofs.KnownBytes.{appends_join, then_appends}
 use Rattle.boot_script.proofs.printing.print_lines.Goals as goal
@@ -17,4 +16,4 @@ returns g c =
     let shown-elements = c.as_slice-3.ensures in
     let shown-gauges = c.as_slice-4.ensures in
     let shown-notified = c.as_slice-5.ensures in
-    then_appends c.print_notifies.result _ _ _ _ _ _ alarms c.print_notifies.ensures (simp (append_assoc, shown-queues, shown-chains, shown-elements, shown-gauges, shown-notified))
+    then_appends c.print_notifies.result _ _ _ _ _ _ alarms c.print_notifies.ensures (simp (shown-queues, shown-chains, shown-elements, shown-gauges, shown-notified))

@@ -1,4 +1,3 @@
-use Rattle.std.proofs.Common.{append_assoc}
 use Rattle.boot_script.specs.Reports.{report_text}
 use Rattle.boot_script.proofs.KnownBytes.{appends_join}
 use Rattle.boot_script.proofs.Buffers.{then_written_out}
@@ -20,4 +19,4 @@ returns g c =
     let shown-gauges = c.as_slice-4.ensures in
     let shown-threads = c.as_slice-5.ensures in
     let shown-heard = c.as_slice-6.ensures in
-    then_written_out c.write_out.result _ _ _ _ _ _ _ c.new-buffer.ensures chained (simp (append_assoc, shown-queues, shown-ttys, shown-movers, shown-gauges, shown-threads, shown-heard)) c.write_out.ensures.text
+    then_written_out c.write_out.result _ _ _ _ _ _ _ c.new-buffer.ensures chained (simp (shown-queues, shown-ttys, shown-movers, shown-gauges, shown-threads, shown-heard)) c.write_out.ensures.text

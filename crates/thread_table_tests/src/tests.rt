@@ -84,8 +84,8 @@ const SIGNALS: &[Act] = &[
 
 #[test]
 fn signals(rt: HostRuntime) {
-    let ends = [(0, Place::Held)];
-    plays(&rt, rt.alloc(), 0, SIGNALS, &ends);
+    let places = [(0, Place::Held)];
+    plays(&rt, rt.alloc(), 0, SIGNALS, &places);
 }
 
 const READY_IN_TURN: &[Act] = &[
@@ -102,8 +102,8 @@ const READY_IN_TURN: &[Act] = &[
 
 #[test]
 fn ready_in_turn(rt: HostRuntime) {
-    let ends = [(0, Place::Ready), (1, Place::Held), (2, Place::Ready)];
-    plays(&rt, rt.alloc(), 0, READY_IN_TURN, &ends);
+    let places = [(0, Place::Ready), (1, Place::Held), (2, Place::Ready)];
+    plays(&rt, rt.alloc(), 0, READY_IN_TURN, &places);
 }
 
 const FIRST_IN_FIRST_OUT: &[Act] = &[
@@ -129,8 +129,8 @@ const FIRST_IN_FIRST_OUT: &[Act] = &[
 
 #[test]
 fn first_in_first_out(rt: HostRuntime) {
-    let ends = [(4, Place::Held), (5, Place::Held), (6, Place::Free)];
-    plays(&rt, rt.alloc(), 0, FIRST_IN_FIRST_OUT, &ends);
+    let places = [(4, Place::Held), (5, Place::Held), (6, Place::Free)];
+    plays(&rt, rt.alloc(), 0, FIRST_IN_FIRST_OUT, &places);
 }
 
 const LAST_POSITIONS: &[Act] = &[
@@ -142,8 +142,8 @@ const LAST_POSITIONS: &[Act] = &[
 
 #[test]
 fn last_positions(rt: HostRuntime) {
-    let ends = [(0, Place::Held), (1, Place::Free)];
-    plays(&rt, rt.alloc(), 4_294_967_231, LAST_POSITIONS, &ends);
+    let places = [(0, Place::Held), (1, Place::Free)];
+    plays(&rt, rt.alloc(), 4_294_967_231, LAST_POSITIONS, &places);
 }
 
 const TICKETS: &[Act] = &[
@@ -157,8 +157,8 @@ const TICKETS: &[Act] = &[
 
 #[test]
 fn tickets(rt: HostRuntime) {
-    let ends = [(0, Place::Held), (1, Place::Free)];
-    plays(&rt, rt.alloc(), 0, TICKETS, &ends);
+    let places = [(0, Place::Held), (1, Place::Free)];
+    plays(&rt, rt.alloc(), 0, TICKETS, &places);
 }
 
 const TWO_WAIT: &[Act] = &[
@@ -254,13 +254,13 @@ const STOPPED_AT_THE_CLOSE: &[Act] = &[
 
 #[test]
 fn stopped_at_the_close(rt: HostRuntime) {
-    let ends = [
+    let places = [
         (0, Place::Stopped),
         (1, Place::Processor(7)),
         (2, Place::Wait(15)),
         (3, Place::Ready),
     ];
-    let closed = plays(&rt, rt.alloc(), 0, STOPPED_AT_THE_CLOSE, &ends);
+    let closed = plays(&rt, rt.alloc(), 0, STOPPED_AT_THE_CLOSE, &places);
     assert!(rt; (closed.stops, closed.pending[0], closed.pending[1]) == (1, 8, 0));
 }
 

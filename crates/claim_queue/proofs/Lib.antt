@@ -16,4 +16,5 @@ pub mod Order
 pub mod Refusals
 pub mod Staying
 pub mod Lining
+pub mod TakingOrder
 pub mod Cutting

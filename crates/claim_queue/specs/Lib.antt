@@ -10,4 +10,5 @@ pub mod Lines
 pub mod Closings
 pub mod Between
 pub mod Puts
+pub mod Orders
 pub mod Reads

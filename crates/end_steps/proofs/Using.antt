@@ -5,7 +5,7 @@ use Rattle.std.proofs.lemmas.List.{append-nil}
 use Rattle.claim_queue.specs.declared.ends.ClaimQueue.{ClaimQueue}
 use Rattle.claim_queue.specs.declared.ends.QueueEnd.{QueueEnd}
 use Rattle.claim_queue.specs.Handles.{IsEndOf, IsSameEnd}
-use Rattle.end_steps.specs.EndLists.{queue_table, end_table, end_call, end_puts, end_takes, end_share, end_shuts, end_knows_shut, HasRaised, ClaimedInOrder, AreEndsOf, AreSameEnds, OnEnd, only_at, number_at, lines_put_at, lines_taken_at, shuts_at}
+use Rattle.end_steps.specs.EndLists.{queue_table, end_table, end_call, end_puts, end_takes, end_share, end_shuts, end_knows_shut, HasRaised, ClaimedInOrder, TookInOrder, AreEndsOf, AreSameEnds, OnEnd, only_at, number_at, lines_put_at, lines_taken_at, shuts_at}
 use Rattle.end_steps.specs.Sums.{EndWorked, Worked, no_lines, never}
 use Rattle.end_steps.proofs.Places.{same_at, as_long, same_ends, on_end, none_at, zero_at, grown_at, all_still, known_still}
 
@@ -37,6 +37,7 @@ module _ {n : ℕ} where
       shares = map-set_same end_share ends q after end (w.share_is ∙ ap end_share is);
       raised = all_still HasRaised ends q end after inside is w.raised;
       order = all_still ClaimedInOrder ends q end after inside is w.order;
+      takes_order = all_still TookInOrder ends q end after inside is w.takes_order;
       known = known_still end_knows_shut ends q end after inside is w.known;
     }
 
@@ -48,6 +49,7 @@ module _ {n : ℕ} where
       shares = all.shares;
       raised = all.raised;
       order = all.order;
+      takes_order = all.takes_order;
       known = all.known;
     }
 
@@ -59,6 +61,7 @@ module _ {n : ℕ} where
       shares = all.shares;
       raised = all.raised;
       order = all.order;
+      takes_order = all.takes_order;
       known = all.known;
     }
 
@@ -70,5 +73,6 @@ module _ {n : ℕ} where
       shares = all.shares;
       raised = all.raised;
       order = all.order;
+      takes_order = all.takes_order;
       known = all.known;
     }

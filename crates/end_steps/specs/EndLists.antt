@@ -2,12 +2,12 @@
 use Rattle.std.specs.Prelude.{◌≡◌, ◌==◌, ℕ, Bool, false, if◌then◌else◌, List, [], map, Some, slice_set, slice_index_or}
 use Rattle.std.specs.List.{All, slice_get}
 use Rattle.atomic_table.specs.Seated.{TableId}
-use Rattle.table_theory.specs.Interleaving.{InOrder}
 use Rattle.table_theory.specs.Listing.{AllRaised}
 use Rattle.claim_queue.specs.declared.ends.ClaimQueue.{ClaimQueue}
 use Rattle.claim_queue.specs.declared.ends.QueueEnd.{QueueEnd}
 use Rattle.claim_queue.specs.Handles as queues
 use Rattle.claim_queue.specs.Lines.{lines_put, lines_taken}
+use Rattle.claim_queue.specs.Orders.{ClaimsInOrder, TakesInOrder}
 use Rattle.proc_chain.specs.declared.quaject.Quaject.{Ghosts}
 use Rattle.proc_chain.specs.declared.ends.ProcChain.{ProcChain}
 use Rattle.proc_chain.specs.declared.ends.ChainEnd.{ChainEnd}
@@ -65,9 +65,13 @@ module _ {n : ℕ} where
   abbrev pub HasRaised : QueueEnd n → Type 0
   HasRaised end = AllRaised (queues.view_of end).part.runs
 
-  -- the end claimed its runs one behind the other: each starts behind the one before it
+  -- the end claimed its runs one behind the other
   abbrev pub ClaimedInOrder : QueueEnd n → Type 0
-  ClaimedInOrder end = InOrder (queues.view_of end).part.runs
+  ClaimedInOrder end = ClaimsInOrder (queues.view_of end)
+
+  -- the end took its lines one behind the other
+  abbrev pub TookInOrder : QueueEnd n → Type 0
+  TookInOrder end = TakesInOrder (queues.view_of end)
 
   abbrev pub IsDivisible : QueueEnd n → Type 0
   IsDivisible end = queues.IsDivisible end

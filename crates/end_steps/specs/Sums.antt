@@ -8,7 +8,8 @@ use Rattle.proc_chain.specs.declared.ends.ChainEnd.{ChainEnd}
 use Rattle.proc_chain.specs.declared.quaject.Quaject.{Ghosts}
 use Rattle.end_steps.specs.declared.poking.Poked.{Poked}
 use Rattle.end_steps.specs.declared.poking.Poked.TheVariants.{Ran, Left}
-use Rattle.end_steps.specs.EndLists.{HasRaised, ClaimedInOrder, end_puts, end_takes, end_share, end_shuts, end_knows_shut}
+use Rattle.end_steps.specs.EndLists.{HasRaised, ClaimedInOrder, TookInOrder, end_puts, end_takes, end_share}
+use Rattle.end_steps.specs.EndLists.{end_shuts, end_knows_shut}
 use Rattle.end_steps.specs.EndLists.{lines_put_at, lines_taken_at, shuts_at, knows_shut_at}
 use Rattle.end_steps.specs.EndLists.{chain_end_puts, chain_end_takes, chain_end_share, notes_put_at, notes_taken_at}
 
@@ -38,8 +39,8 @@ notes_run (Ok Left) = 0
 notes_run (Err refusal) = 0
 
 -- The end put these lines more and took those, and shut its queue so many times more. It has the share that it had, has
--- raised all that it claimed where it had, claimed still in order where it had, and knows still that the queue is shut
--- where it did
+-- raised all that it claimed where it had, claimed and took still in order where it had, and knows still that the queue
+-- is shut where it did
 pub record EndWorked {n : ℕ} (puts takes : List (List ℕ)) (shuts : ℕ) (old new : QueueEnd n) : Type 0 where
   pub puts_are : end_puts new ≡ end_puts old ++ puts
   pub takes_are : end_takes new ≡ end_takes old ++ takes
@@ -47,11 +48,12 @@ pub record EndWorked {n : ℕ} (puts takes : List (List ℕ)) (shuts : ℕ) (old
   pub share_is : end_share new ≡ end_share old
   pub raised : HasRaised old → HasRaised new
   pub order : ClaimedInOrder old → ClaimedInOrder new
+  pub takes_order : TookInOrder old → TookInOrder new
   pub known : end_knows_shut old ≡ true → end_knows_shut new ≡ true
 
 -- The end of each queue put these lines more and took those, and shut the queue so many times more. Each has the share
--- that it had, has raised all that it claimed where each had, claimed still in order where each had, and knows still
--- that its queue is shut where it did
+-- that it had, has raised all that it claimed where each had, claimed and took still in order where each had, and knows
+-- still that its queue is shut where it did
 pub record Worked {n : ℕ} (puts takes : ℕ → List (List ℕ)) (shuts : ℕ → ℕ) (old new : List (QueueEnd n))
     : Type 0 where
   pub puts_are : (q : ℕ) → lines_put_at new q ≡ lines_put_at old q ++ puts q
@@ -60,6 +62,7 @@ pub record Worked {n : ℕ} (puts takes : ℕ → List (List ℕ)) (shuts : ℕ 
   pub shares : map end_share new ≡ map end_share old
   pub raised : All HasRaised old → All HasRaised new
   pub order : All ClaimedInOrder old → All ClaimedInOrder new
+  pub takes_order : All TookInOrder old → All TookInOrder new
   pub known : (q : ℕ) → knows_shut_at old q ≡ true → knows_shut_at new q ≡ true
 
 -- The end chained these notes more, and ran so many more. It has the share that it had

@@ -228,7 +228,7 @@ module _ (q : Positions) (gate : ℕ) (views : List View) (id : ℕ) (v w : View
     views = views;
     here = at;
     shown = l;
-    new_shown = listed_take q (map part_of views) id 1 v.part w.part l at_part lawful.behind takes runs grown;
+    new_shown = listed_take q (map part_of views) id 1 v.part w.part l at_part (omega arith) long takes runs grown;
     lawful = chain_is_lawful q gate views l lawful g;
     made = take_note_goes id c (after_take 1 c.notes) (take_goes 1 1 c.notes (omega arith) (omega arith) (first_raised q l.runs 1 l.runs_flat long (λ i h. let e : q.taken ≡ q.taken + i = omega arith in subst (λ (z : ℕ). 2 ≤ written_at q z) e up))) (the_runner r)
         ∙ ap Ok (same_chain (after_take 1 c.notes) (queue_of (with_take q 1) l.runs) c.gate c.gate c.runner (runner_from 0 (set views id w)) c.owing (λ call. owes_in (slice_get (set views id w) call)) refl refl (sym (runner_set 0 id views v w at runner)) (owing_same views id v w at owing));

@@ -77,7 +77,7 @@ module _ {Q W : Type 0} (made : W → Q → List ℕ → Type 0) (fits : W → Q
           first = k.first;
           lawful = lawful';
           shows = shows_take q s.words new k.shows k.lawful lawful'.behind (omega arith);
-          listed = subst (ViewsShow q') (sym (map-set part_of s.views id w)) (listed_take q (map part_of s.views) id 1 v.part w.part k.listed (at_map part_of s.views id v at) k.lawful.behind refl refl (grows_refl q', grows_refl q'));
+          listed = subst (ViewsShow q') (sym (map-set part_of s.views id w)) (listed_take q (map part_of s.views) id 1 v.part w.part k.listed (at_map part_of s.views id v at) (omega arith) lawful'.behind refl refl (grows_refl q', grows_refl q'));
           gate = subst (λ (c : ℕ). GateShows q' c (set s.views id w)) (sym (keep 3 (λ e. omega arith))) (gated_runs q' (gate_in s.words) s.views id v w at (others_still q (gate_in s.words) s.views id v k.gate at r) not_idle k.gate.small r refl refl);
           slot = subst (λ (c : ℕ). SlotShows made fits key.pact q' c s.homes) (sym (keep 3 (λ e. omega arith))) record { home = λ down. absurd (not_idle down); held = k.slot.held };
           undoubled = undoubled_set s.views id w k.undoubled (k.undoubled id v at);

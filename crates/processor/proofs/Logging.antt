@@ -17,15 +17,21 @@ use Rattle.claim_queue.specs.declared.claim.ClaimRefusal.TheVariants as claims
 use Rattle.claim_queue.specs.declared.take.TakeRefusal.{TakeRefusal}
 use Rattle.claim_queue.specs.declared.take.TakeRefusal.TheVariants as takes
 use Rattle.claim_queue.specs.declared.ends.QueueEnd.{QueueEnd}
+use Rattle.claim_queue.specs.declared.rule.View.{View as EndView}
 use Rattle.claim_queue.specs.Lines.{line_of}
+use Rattle.claim_queue.specs.Handles as queues
+use Rattle.claim_queue.specs.Orders.{TakesInOrder}
+use mathlib.Core.Option.{some, some-ne-none}
+use lib.ListN.{get_elem?}
 use Rattle.table_theory.specs.declared.queues.Batch.{Batch}
 use Rattle.table_theory.specs.Interleaving.{InOrder}
 use Rattle.table_theory.proofs.Ordering.{order_none}
 use Rattle.boot_script.specs.declared.plan.QueueIndex.TheVariants.{Small, Large}
 use Rattle.boot_script.specs.declared.plan.Step.{Step}
 use Rattle.boot_script.specs.declared.plan.Step.TheVariants as steps
-use Rattle.end_steps.specs.EndLists.{HasRaised, ClaimedInOrder, lines_put_at, lines_taken_at, shuts_at, knows_shut_at, notes_put_at, notes_taken_at, OnEnd, end_share, end_knows_shut, chain_end_share}
+use Rattle.end_steps.specs.EndLists.{HasRaised, ClaimedInOrder, TookInOrder, lines_put_at, lines_taken_at, shuts_at, knows_shut_at, notes_put_at, notes_taken_at, OnEnd, end_share, end_knows_shut, chain_end_share}
 use Rattle.end_steps.specs.Deeds.{Said, Heard}
+use Rattle.end_steps.proofs.Shares.{none_of}
 use Rattle.end_steps.specs.Sums.{Worked, ChainsWorked, no_lines, never}
 use Rattle.hand_steps.specs.declared.counting.Counted.{Counted}
 use Rattle.hand_steps.specs.declared.counting.Counted.TheVariants as counted
@@ -89,6 +95,7 @@ worked_on p p' t t' s s' xs ys zs a b = record {
   shares = b.shares ∙ a.shares;
   raised = λ h. b.raised (a.raised h);
   order = λ h. b.order (a.order h);
+  takes_order = λ h. b.takes_order (a.takes_order h);
   known = λ q h. b.known q (a.known q h);
 }
 
@@ -101,6 +108,7 @@ worked_as p p' t t' s s' xs ys e f g w = record {
   shares = w.shares;
   raised = w.raised;
   order = w.order;
+  takes_order = w.takes_order;
   known = w.known;
 }
 
@@ -216,6 +224,7 @@ rests xs ys e = record {
   shares = ap (λ z. map end_share z) e;
   raised = λ h. subst (All HasRaised) (sym e) h;
   order = λ h. subst (All ClaimedInOrder) (sym e) h;
+  takes_order = λ h. subst (All TookInOrder) (sym e) h;
   known = λ q h. ap (λ z. knows_shut_at z q) e ∙ h;
 }
 
@@ -416,14 +425,23 @@ fresh_shown : (e s : ℕ) → is_in (slice_index_or no_signals e 0) s ≡ false
 fresh_shown e s = ap (λ z. is_in z s) (get_or-copies 64 0 e) ∙ none_in s
 
 no_claims : (runs : List Batch) → map line_of runs ≡ [] → InOrder runs
-no_claims [] e = order_none
-no_claims (x ∷ xs) e = absurd cc
+no_claims runs e = subst InOrder (sym (none_of runs e)) order_none
+
+no_takings : (v : EndView) → map line_of v.part.takes ≡ [] → TakesInOrder v
+no_takings v e = let none = none_of v.part.takes e in
+    (subst InOrder (sym none) order_none, λ m b at. absurd (some-ne-none b (sym (subst (λ (z : List Batch). get_elem? z m ≡ some b) none at))))
 
 -- ends that put no line
 none_claimed : {n : ℕ} (ends : List (QueueEnd n)) → ((q : ℕ) → lines_put_at ends q ≡ []) → All ClaimedInOrder ends
 none_claimed [] h k d low = absurd (omega arith)
 none_claimed (x ∷ xs) h zero d low = no_claims _ (h 0)
 none_claimed (x ∷ xs) h (suc k) d low = none_claimed xs (λ q. h (suc q)) k d (omega arith)
+
+-- ends that took no line
+none_taken : {n : ℕ} (ends : List (QueueEnd n)) → ((q : ℕ) → lines_taken_at ends q ≡ []) → All TookInOrder ends
+none_taken [] h k d low = absurd (omega arith)
+none_taken (x ∷ xs) h zero d low = no_takings (queues.view_of x) (h 0)
+none_taken (x ∷ xs) h (suc k) d low = none_taken xs (λ q. h (suc q)) k d (omega arith)
 
 -- what a station that was fresh has done is what its log says
 pub leaves : (plan : BootPlan) (log : List Entry) (old new : Parts) → IsFresh old → Logs plan log old new → Leaves plan log new
@@ -434,10 +452,12 @@ leaves plan log old new f l = record {
   small_puts = λ q. l.small.puts_are q ∙ ap (λ z. z ++ small_put log q) ((f.small q).0);
   small_order = l.small.order (none_claimed old.small.items (λ q. (f.small q).0));
   small_takes = λ q. l.small.takes_are q ∙ ap (λ z. z ++ small_taken log q) ((f.small q).1);
+  small_takes_order = l.small.takes_order (none_taken old.small.items (λ q. (f.small q).1));
   small_shuts = λ q. let a = l.small.shuts_are q in let b = (f.small q).2 in omega arith;
   large_puts = λ q. l.large.puts_are q ∙ ap (λ z. z ++ large_put log q) ((f.large q).0);
   large_order = l.large.order (none_claimed old.large.items (λ q. (f.large q).0));
   large_takes = λ q. l.large.takes_are q ∙ ap (λ z. z ++ large_taken log q) ((f.large q).1);
+  large_takes_order = l.large.takes_order (none_taken old.large.items (λ q. (f.large q).1));
   small_shut = l.small_shut;
   large_shut = l.large_shut;
   large_shuts = λ q. let a = l.large.shuts_are q in let b = (f.large q).2 in omega arith;

@@ -7,7 +7,8 @@ use Rattle.boot_script.specs.declared.plan.QueueIndex.TheVariants.{Small, Large}
 use Rattle.boot_script.specs.declared.plan.Step.{Step}
 use Rattle.boot_script.specs.declared.plan.Step.TheVariants as steps
 use Rattle.claim_queue.specs.Takings.{IsLine}
-use Rattle.end_steps.specs.EndLists.{ClaimedInOrder, lines_put_at, lines_taken_at, shuts_at, knows_shut_at, notes_put_at, notes_taken_at}
+use Rattle.end_steps.specs.EndLists.{ClaimedInOrder, TookInOrder, lines_put_at, lines_taken_at, shuts_at, knows_shut_at}
+use Rattle.end_steps.specs.EndLists.{notes_put_at, notes_taken_at}
 use Rattle.end_steps.specs.Sums.{Worked, ChainsWorked, never}
 use Rattle.hand_steps.specs.declared.counting.Counted.{Counted}
 use Rattle.hand_steps.specs.declared.counting.Counted.TheVariants as counted
@@ -227,7 +228,8 @@ pub record IsFresh (parts : Parts) : Type 0 where
   pub unused : IsUnused parts
 
 -- What is left of a processor's work on a station that was fresh: all that its ends did is what the log says, and each
--- claimed in order; and the numbers of a thread's steps that were done climb up to as many as the hand has seen done
+-- claimed and took in order; and the numbers of a thread's steps that were done climb up to as many as the hand has
+-- seen done
 pub record Leaves (plan : BootPlan) (log : List Entry) (parts : Parts) : Type 0 where
   pub planned : AllByRecursion (IsPlanned plan) log
   pub hand : tally (view_of parts.hand).made ≡ tally_of log
@@ -235,10 +237,12 @@ pub record Leaves (plan : BootPlan) (log : List Entry) (parts : Parts) : Type 0 
   pub small_puts : (q : ℕ) → lines_put_at parts.small.items q ≡ small_put log q
   pub small_order : All ClaimedInOrder parts.small.items
   pub small_takes : (q : ℕ) → lines_taken_at parts.small.items q ≡ small_taken log q
+  pub small_takes_order : All TookInOrder parts.small.items
   pub small_shuts : (q : ℕ) → shuts_at parts.small.items q ≡ times_shut log q
   pub large_puts : (q : ℕ) → lines_put_at parts.large.items q ≡ large_put log q
   pub large_order : All ClaimedInOrder parts.large.items
   pub large_takes : (q : ℕ) → lines_taken_at parts.large.items q ≡ large_taken log q
+  pub large_takes_order : All TookInOrder parts.large.items
   pub large_shuts : (q : ℕ) → shuts_at parts.large.items q ≡ 0
   pub small_shut : (q : ℕ) → small_was_shut log q ≡ true → knows_shut_at parts.small.items q ≡ true
   pub large_shut : (q : ℕ) → large_was_shut log q ≡ true → knows_shut_at parts.large.items q ≡ true

@@ -17,7 +17,7 @@ use Rattle.quajects.specs.declared.any.AnyQuaject.{AnyQuaject}
 use Rattle.quajects.specs.declared.any.AnyQuaject.TheVariants as any
 use Rattle.quajects.specs.declared.ways.Way.{Way}
 use Rattle.quajects.specs.declared.world.Queues.{Queues}
-use Rattle.quajects.specs.Anys.{SameEnds, MadeOf, notes_of}
+use Rattle.quajects.specs.Anys.{SameEnds, MadeOf}
 use Rattle.quajects.specs.Ports.{Post}
 use Rattle.quajects.specs.Routes.{key_of, index_of, way_post}
 use Rattle.quajects.proofs.Homing.{run_count, sides_of}

@@ -9,7 +9,7 @@ use Rattle.boot_script.specs.declared.plan.PlannedTty.{PlannedTty}
 use Rattle.boot_script.specs.declared.plan.Way.{Way as PlannedWay}
 use Rattle.boot_script.specs.QueueLists.{raw_queue, line_queue, screen_queue}
 use Rattle.claim_queue.specs.Handles.{view_of}
-use Rattle.claim_queue.specs.Lines.{IsCut, lines_put}
+use Rattle.claim_queue.specs.Lines.{lines_put}
 use Rattle.hand_steps.specs.Tallies.{is_delivered}
 use Rattle.meters.specs.Views.{amount_on, times}
 use Rattle.quaject_core.specs.declared.alarm.Alarm.{Alarm}
@@ -82,15 +82,15 @@ pub record IsWoven (items : List ℕ) (lists : List (List (List ℕ))) (others :
   pub woven : Interleaves order (lists ++ each_alone others)
 
 -- The lines that each processor put are those of its log, and so are the lines that it took; cut by claim, the items put
--- are the lines put, each once, and those of each processor stand in the order of its log; cut by taking, the items
--- taken are the lines taken, each once
+-- are the lines put, each once, and cut by taking, the items taken are the lines taken, each once: those of each
+-- processor stand in both in the order of its log
 pub record QueueAgrees (put taken : List Entry → List (List ℕ)) (q : closed.Queue) (logs : List (List Entry))
     : Type 0 where
   pub behind : q.taken ≤ length q.items
   pub said : q.put_by ≡ map put logs
   pub heard : q.taken_by ≡ map taken logs
   pub claims : IsWoven q.items q.put_by q.put_by_others
-  pub takings : IsCut (take q.taken q.items) (all_of q.taken_by ++ q.taken_by_others)
+  pub takings : IsWoven (take q.taken q.items) q.taken_by q.taken_by_others
 
 abbrev pub SmallAgrees : ℕ → closed.Queue → List (List Entry) → Type 0
 SmallAgrees number q logs = QueueAgrees (λ log. small_put log number) (λ log. small_taken log number) q logs

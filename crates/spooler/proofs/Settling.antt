@@ -1,5 +1,5 @@
 -- The closed queue's lines, as its producers put them and its takers took them.
-use Rattle.std.proofs.Common.{◌≡◌, ⊎_elim, ℕ, zero, suc, ◌<◌, ◌≤◌, true, List, [], ◌∷◌, ◌++◌, ◌∙◌, map, length, take, refl, sym, ap, subst, arith}
+use Rattle.std.proofs.Common.{◌≡◌, ℕ, zero, suc, ◌≤◌, true, List, [], ◌∷◌, ◌++◌, ◌∙◌, map, length, take, refl, sym, ap, subst, arith}
 use Rattle.std.specs.Global.{Vec}
 use Rattle.std.specs.Prelude.{Option}
 use Rattle.std.specs.List.{concat}
@@ -14,7 +14,6 @@ use Rattle.table_theory.specs.Positioned.{Grows, item_of}
 use Rattle.table_theory.specs.Sharing.{total}
 use Rattle.table_theory.proofs.Interleaving.{runs_merge, takes_merge}
 use Rattle.table_theory.proofs.Ordering.{order_none}
-use Rattle.table_theory.proofs.Owned.{at_joined}
 use Rattle.table_theory.proofs.Positioned.{grows_trans}
 use Rattle.claim_queue.specs.declared.rule.View.{View}
 use Rattle.claim_queue.specs.Closings.{ClosedNow}
@@ -95,9 +94,6 @@ two a b l x y zero at = subst Ascending (some-injective a l at) x
 two a b l x y (suc zero) at = subst Ascending (some-injective b l at) y
 two a b l x y (suc (suc k)) at = absurd (some-ne-none l (sym at))
 
-solid : (t u : List Batch) → InOrder t → InOrder u → (k : ℕ) (e : Batch) → get_elem? (t ++ (u ++ [])) k ≡ some e → 0 < length e.places
-solid t u x y k e at = ⊎_elim (λ h. x.1 k e h) (λ h. y.1 h.0 e (subst (λ (z : List Batch). get_elem? z h.0 ≡ some e) (append-nil u) h.2)) (at_joined t (u ++ []) k e at)
-
 whole_jobs : (jobs : List (Vec Line)) (l : List (List ℕ)) (k : ℕ) → get_elem? (map (λ (job : Vec Line). lines_of job.items) jobs) k ≡ some l → AllWhole l
 whole_jobs [] l k at = absurd (some-ne-none l (sym at))
 whole_jobs (j ∷ jobs) l zero at = subst AllWhole (some-injective (lines_of j.items) l at) (all_whole j.items)
@@ -129,8 +125,7 @@ module _ (jobs : List (Vec Line)) (one other : List Line) (first p t u v : View)
       let put_is : v.part.runs ≡ joined runs_in = runs ∙ ((λ i. (p.part.runs ++ s'.none i) ++ s''.none i) ∙ (append-nil (p.part.runs ++ []) ∙ (append-nil p.part.runs ∙ p_runs))) in
       let now : v.part.takes ≡ joined (t.part.takes ∷ u.part.takes ∷ []) = takes ∙ ((λ i. (p_takes i ++ t.part.takes) ++ u.part.takes) ∙ ap (λ (z : List Batch). t.part.takes ++ z) (sym (append-nil u.part.takes))) in
       let m = runs_merge q v.part runs_in closed.listed s.up put_is in
-      let n = takes_merge q v.part (t.part.takes ∷ u.part.takes ∷ []) closed.listed (λ k z at. two t.part.takes u.part.takes z s'.order.0 s''.order.0 k at) now
-      (λ k e at. solid t.part.takes u.part.takes s'.order s''.order k e (subst (λ (z : List Batch). get_elem? z k ≡ some e) now at)) in
+      let n = takes_merge q v.part (t.part.takes ∷ u.part.takes ∷ []) closed.listed (λ k z at. two t.part.takes u.part.takes z s'.order.0 s''.order.0 k at) now in
       let put_so : Interleaves m.0 lines_in = subst (λ (z : List (List (List ℕ))). Interleaves m.0 z) s.puts m.1 in
       let took_so : Interleaves n.0 (lines_of one ∷ lines_of other ∷ []) = subst (λ (z : List (List (List ℕ))). Interleaves n.0 z) (λ i. s'.takes i ∷ s''.takes i ∷ []) n.1 in
       let later : Grows v.part.queue q = (closed.listed.seen 0 v.part refl).0 in

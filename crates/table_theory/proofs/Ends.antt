@@ -1,12 +1,11 @@
 -- The log of the ends, through each step that looks at their number or changes it.
-use Rattle.std.proofs.Common.{◌≡◌, ◌≢◌, ℕ, zero, suc, ◌+◌, ◌<◌, ◌≤◌, Bool, true, false, List, [], ◌∷◌, ◌++◌, set, sym, refl, ap, ◌∙◌, subst, arith, ⊎_elim}
+use Rattle.std.proofs.Common.{◌≡◌, ◌≢◌, ℕ, zero, suc, ◌+◌, Bool, true, false, List, [], ◌∷◌, ◌++◌, set, sym, refl, ap, ◌∙◌, subst, arith, ⊎_elim}
 use Rattle.std.proofs.lemmas.List.{append_assoc, append-nil}
 use Rattle.std.proofs.lemmas.List.Sums.{sum_by-append}
 use mathlib.Core.Option.{some, some-injective, some-ne-none}
 use lib.ListN.{get_elem?}
 use Rattle.std.specs.Prelude.{if◌then◌else◌, nat_lt, length}
-use Rattle.table_theory.specs.Sharing.{total}
-use Rattle.table_theory.specs.Ends.{splits_in, joins_in, IsNumber, Begins, later_of, EndsLogged}
+use Rattle.table_theory.specs.Ends.{splits_in, joins_in, Begins, later_of, EndsLogged}
 use Rattle.atomic_table.proofs.Lists.{at_set, set_else}
 use Rattle.table_theory.proofs.Owned.{at_push}
 use Rattle.table_theory.proofs.Totals.{total_set, total_kept, total_push}

@@ -1,6 +1,6 @@
 -- Each step keeps what the views list.
 use Rattle.std.proofs.Common.{◌≡◌, ℕ, suc, zero, ◌+◌, ◌<◌, ◌≤◌, ◌≢◌, ⊎_elim, Bool, false, eq-eqb, ne_eqb, List, [], ◌∷◌, ◌++◌, map, length, get_or, set, take, drop, sym, refl, ap, ◌∙◌, subst, arith, length-set}
-use Rattle.std.proofs.lemmas.List.{map-set, map-append, take-append-le, take-set-le, length-take-le, length-map}
+use Rattle.std.proofs.lemmas.List.{map-set, map-append, take-append-le, take-set-le, length-take-le, length-drop, length-map}
 use Rattle.std.specs.Prelude.{if◌then◌else◌}
 use mathlib.Core.Option.{some, some-injective, some-ne-none}
 use mathlib.Core.Logic.{dite}
@@ -33,6 +33,7 @@ listed_look q parts j v w l at runs takes grown = record {
   runs = l.runs;
   takes = l.takes;
   solid = l.solid;
+  takes_solid = l.takes_solid;
   runs_flat = l.runs_flat;
   takes_flat = l.takes_flat;
   runs_chained = l.runs_chained;
@@ -50,6 +51,7 @@ listed_claim q parts j v w xs l at behind is_open some_items runs takes grown =
       runs = l.runs ++ o ∷ [];
       takes = l.takes;
       solid = λ k x has. ⊎_elim (λ old. l.solid k x old) (λ new. subst (λ (z : Owned Batch). 0 < length z.2.places) new.1 (let n = length-map xs fresh in omega arith)) (at_push l.runs o x k has);
+      takes_solid = l.takes_solid;
       runs_flat = flat_push l.runs o ∙ ap (λ (z : List Cell). z ++ map fresh xs) l.runs_flat;
       takes_flat = l.takes_flat ∙ sym (take-append-le q.taken q.places (map fresh xs) behind);
       runs_chained = chained_push q.first l.runs o l.runs_chained (ap (λ (z : List Cell). q.first + length z) (sym l.runs_flat));
@@ -93,6 +95,7 @@ listed_write q parts j m i n p v w e l at has below is ahead more runs takes gro
       runs = set l.runs k o;
       takes = l.takes;
       solid = λ y z in_log. ⊎_elim (λ t. subst (λ (u : Owned Batch). 0 < length u.2.places) t.1 (let n = length-set e.places i (record { item = (get_or e.places i blank).item; written = n }) in omega arith)) (λ t. l.solid y z t.1) (at_set l.runs k y o z in_log);
+      takes_solid = l.takes_solid;
       runs_flat = s.change j m i (record { item = (get_or e.places i blank).item; written = n }) below ∙ (λ z. set (l.runs_flat z) (sym here z) (record { item = sym item z; written = n }));
       takes_flat = l.takes_flat ∙ sym (take-set-le q.taken q.places p x ahead);
       runs_chained = s.chained j m i (record { item = (get_or e.places i blank).item; written = n });
@@ -108,14 +111,17 @@ take_on (suc n) zero [] = let e : suc n + 0 ≡ suc n = omega arith in ap (λ (z
 take_on (suc n) (suc m) [] = let e : suc n + suc m ≡ suc (n + suc m) = omega arith in ap (λ (z : ℕ). take {A = Cell} z []) e
 take_on (suc n) m (x ∷ xs) = let e : suc n + m ≡ suc (n + m) = omega arith in ap (λ (z : ℕ). take z (x ∷ xs)) e ∙ ap (λ (z : List Cell). x ∷ z) (take_on n m xs)
 
-unfoldable pub listed_take : (q : Positions) (parts : List QueueView) (j n : ℕ) (v w : QueueView) → ViewsShow q parts → get_elem? parts j ≡ some v → q.taken ≤ length q.places
+unfoldable pub listed_take : (q : Positions) (parts : List QueueView) (j n : ℕ) (v w : QueueView) → ViewsShow q parts → get_elem? parts j ≡ some v → 0 < n → q.taken + n ≤ length q.places
     → w.takes ≡ v.takes ++ record { start = tail_of q; places = take n (drop q.taken q.places) } ∷ [] → w.runs ≡ v.runs → Later w (with_take q n) → ViewsShow (with_take q n) (set parts j w)
-listed_take q parts j n v w l at behind takes runs grown =
+listed_take q parts j n v w l at some_place long takes runs grown =
+    let behind : q.taken ≤ length q.places = omega arith in let rest = length-drop q.taken q.places in
+    let taken : length (take n (drop q.taken q.places)) ≡ n = length-take-le n (drop q.taken q.places) (omega arith) in
     let e : Batch = record { start = tail_of q; places = take n (drop q.taken q.places) } in let o : Owned Batch = (j, length v.takes, e) in
     record {
       runs = l.runs;
       takes = l.takes ++ o ∷ [];
       solid = l.solid;
+      takes_solid = λ k x has. ⊎_elim (λ old. l.takes_solid k x old) (λ new. subst (λ (z : Owned Batch). 0 < length z.2.places) new.1 (omega arith)) (at_push l.takes o x k has);
       runs_flat = l.runs_flat;
       takes_flat = flat_push l.takes o ∙ (ap (λ (z : List Cell). z ++ take n (drop q.taken q.places)) l.takes_flat ∙ sym (take_on q.taken n q.places));
       runs_chained = l.runs_chained;
@@ -130,6 +136,7 @@ listed_shut q parts j v w l at runs takes grown = record {
   runs = l.runs;
   takes = l.takes;
   solid = l.solid;
+  takes_solid = l.takes_solid;
   runs_flat = l.runs_flat;
   takes_flat = l.takes_flat;
   runs_chained = l.runs_chained;
@@ -144,6 +151,7 @@ listed_new q parts w l runs takes grown = record {
   runs = l.runs;
   takes = l.takes;
   solid = l.solid;
+  takes_solid = l.takes_solid;
   runs_flat = l.runs_flat;
   takes_flat = l.takes_flat;
   runs_chained = l.runs_chained;
@@ -163,6 +171,7 @@ listed_join q parts c d a b both spent l at_c at_d apart runs takes no_runs no_t
       runs = map (moved c d (length a.runs)) l.runs;
       takes = map (moved c d (length a.takes)) l.takes;
       solid = λ k o has. let back = at_map_back (moved c d (length a.runs)) l.runs k o has in let n = l.solid k back.0 back.1 in subst (λ (z : Owned Batch). 0 < length z.2.places) back.2 (subst (λ (z : Batch). 0 < length z.places) (sym (moved_entry c d (length a.runs) back.0)) n);
+      takes_solid = λ k o has. let back = at_map_back (moved c d (length a.takes)) l.takes k o has in let n = l.takes_solid k back.0 back.1 in subst (λ (z : Owned Batch). 0 < length z.2.places) back.2 (subst (λ (z : Batch). 0 < length z.places) (sym (moved_entry c d (length a.takes) back.0)) n);
       runs_flat = flat_moved c d (length a.runs) l.runs ∙ l.runs_flat;
       takes_flat = flat_moved c d (length a.takes) l.takes ∙ l.takes_flat;
       runs_chained = chained_moved c d (length a.runs) q.first l.runs l.runs_chained;
@@ -182,6 +191,7 @@ listed_first q w none start runs takes grown = record {
   runs = [];
   takes = [];
   solid = λ k o has. absurd (some-ne-none o (sym has));
+  takes_solid = λ k o has. absurd (some-ne-none o (sym has));
   runs_flat = sym none;
   takes_flat = λ k. take (sym start k) q.places;
   runs_chained = tt;
@@ -210,6 +220,7 @@ listed_sole q parts j v l at others = record {
   runs = map sole l.runs;
   takes = map sole l.takes;
   solid = λ k o has. let back = at_map_back sole l.runs k o has in subst (λ (z : Owned Batch). 0 < length z.2.places) back.2 (l.solid k back.0 back.1);
+  takes_solid = λ k o has. let back = at_map_back sole l.takes k o has in subst (λ (z : Owned Batch). 0 < length z.2.places) back.2 (l.takes_solid k back.0 back.1);
   runs_flat = flat_sole l.runs ∙ l.runs_flat;
   takes_flat = flat_sole l.takes ∙ l.takes_flat;
   runs_chained = chained_sole q.first l.runs l.runs_chained;

@@ -4,7 +4,7 @@ use mathlib.Core.Option.{some, some-injective, some-ne-none}
 use lib.ListN.{get_elem?}
 use Rattle.atomic_table.proofs.Lists.{at_map}
 use Rattle.table_theory.specs.declared.queues.Batch.{Batch}
-use Rattle.table_theory.specs.Interleaving.{Ascending, InOrder}
+use Rattle.table_theory.specs.Interleaving.{InOrder}
 use Rattle.table_theory.specs.Listing.{written_to}
 use Rattle.table_theory.specs.Positioned.{blank}
 use Rattle.table_theory.proofs.Owned.{at_below, at_map_back, at_push}

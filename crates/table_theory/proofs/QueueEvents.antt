@@ -215,7 +215,7 @@ take_event q parts j n v w l at lawful some_items long up_to takes runs grown = 
   views = parts;
   here = at;
   shown = l;
-  new_shown = listed_take q parts j n v w l at lawful.behind takes runs grown;
+  new_shown = listed_take q parts j n v w l at some_items long takes runs grown;
   lawful = is_lawful_queue q l.runs lawful h;
   made = take_goes q.room n (queue_of q l.runs) some_items (omega arith) (first_raised q l.runs n h.places long up_to);
 }

@@ -30,10 +30,15 @@ takes_of v = v.takes
 abbrev pub Later : QueueView → Positions → Type 0
 Later v q = Grows v.queue q × Grows v.joined q
 
+-- each entry of the log has a place
+abbrev pub IsSolid : List (Owned Batch) → Type 0
+IsSolid log = (k : ℕ) (o : Owned Batch) → get_elem? log k ≡ some o → 0 < length o.2.places
+
 pub record ViewsShow (q : Positions) (parts : List QueueView) : Type 0 where
   pub runs : List (Owned Batch)
   pub takes : List (Owned Batch)
-  pub solid : (k : ℕ) (o : Owned Batch) → get_elem? runs k ≡ some o → 0 < length o.2.places
+  pub solid : IsSolid runs
+  pub takes_solid : IsSolid takes
   pub runs_flat : all_places runs ≡ q.places
   pub takes_flat : all_places takes ≡ take q.taken q.places
   pub runs_chained : Chained q.first runs

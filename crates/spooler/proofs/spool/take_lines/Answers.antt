@@ -8,7 +8,8 @@ use Rattle.claim_queue.specs.Takings.{IsBegun, IsLine}
 use Rattle.spooler.specs.declared.line.Line.{Line}
 use Rattle.spooler.specs.Doings.{HasTaken}
 use Rattle.spooler.specs.Lines.{lines_of}
-use Rattle.spooler.proofs.Taking.{more_taken, puts_through, all_taken, took_order, refused_order}
+use Rattle.claim_queue.proofs.TakingOrder.{took_order, refused_order}
+use Rattle.spooler.proofs.Taking.{more_taken, puts_through, all_taken}
 use Rattle.spooler.proofs.spool.take_lines.Goals as goal
 
 never : false ≡ true → ⊥

@@ -1,7 +1,8 @@
 use Rattle.std.proofs.Common.{◌≡◌, true, ◌++◌}
 use Rattle.claim_queue.specs.Handles.{view_of, IsEndOf}
 use Rattle.claim_queue.specs.Lines.{lines_taken}
-use Rattle.spooler.specs.Doings.{KeepsPuts, TakesInOrder}
+use Rattle.claim_queue.specs.Orders.{TakesInOrder}
+use Rattle.spooler.specs.Doings.{KeepsPuts}
 use Rattle.spooler.specs.Lines.{lines_of}
 use Rattle.spooler.proofs.spool.take_lines.Given as goal
 

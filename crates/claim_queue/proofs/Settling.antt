@@ -114,6 +114,7 @@ closes key v w found id h t put taken ws xs left at at_is tallied one fin at_h a
       starts = first ∙ at_is;
       puts = omega arith;
       taken_is = tk;
+      within = let room = (listed.seen 0 v.part refl).0.room in let most = k.lawful.within in omega arith;
       left_is = is;
       shut_once = sym (ap (λ (z : View). z.shuts) tallied.same) ∙ shut_alone key s k id w fin.1.1 whole';
       settled = settled v q taken listed behind tk;

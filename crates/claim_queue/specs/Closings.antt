@@ -1,5 +1,5 @@
 -- What closing a queue and shutting it answer.
-use Rattle.std.specs.Prelude.{◌≡◌, ◌+◌, ◌%◌, ◌==◌, ◌<◌, ℕ, zero, suc, Bool, List, [], ◌∷◌, Option, Some, None}
+use Rattle.std.specs.Prelude.{◌≡◌, ◌+◌, ◌%◌, ◌==◌, ◌<◌, ◌≤◌, ℕ, zero, suc, Bool, List, [], ◌∷◌, Option, Some, None}
 use Rattle.std.specs.Prelude.{if◌then◌else◌, length, map, drop, slice_index_or, nat_lt}
 use Rattle.table_theory.specs.declared.queues.Cell.{Cell}
 use Rattle.table_theory.specs.declared.queues.Positions.{Positions}
@@ -32,8 +32,8 @@ abbrev pub shown : Cell → Option ℕ
 shown p = if nat_lt p.written 2 then None else Some p.item
 
 -- The queue is closed, by an end that has the whole and so lists all of it: what is left is what was put behind what
--- was taken, the lines put are the items put, and the lines taken the items taken. Where the end has raised all that it
--- claimed, each place left has its item
+-- was taken, no more than the queue has places; the lines put are the items put, and the lines taken the items taken.
+-- Where the end has raised all that it claimed, each place left has its item
 pub record ClosedNow (v : View) (first put taken : ℕ) (left : List (Option ℕ)) : Type 0 where
   pub whole : IsWhole v.member.share
   pub queue : Positions
@@ -41,6 +41,7 @@ pub record ClosedNow (v : View) (first put taken : ℕ) (left : List (Option ℕ
   pub starts : queue.first ≡ first
   pub puts : put ≡ length queue.places
   pub taken_is : taken ≡ queue.taken
+  pub within : put ≤ taken + v.part.queue.room
   pub left_is : left ≡ map shown (drop queue.taken queue.places)
   pub shut_once : v.shuts ≡ times_shut queue
   pub settled : IsSettled (map item_of queue.places) taken (lines_put v) (lines_taken v)

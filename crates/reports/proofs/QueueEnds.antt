@@ -1,15 +1,16 @@
 -- The last end of a closed queue has what the stations' ends, the devices' and the quajects' had.
-use Rattle.std.proofs.Common.{◌≡◌, ⊎_elim, ℕ, zero, suc, ◌+◌, Bool, true, false, eqb, eq-eqb, ne_eqb, List, [], ◌∷◌, ◌++◌, append_assoc, map, length, refl, sym, ap, ◌∙◌, subst, arith, Option, Some, None, slice_get, flat_map, sum_by}
+use Rattle.std.proofs.Common.{◌≡◌, ◌≤◌, ⊎_elim, ℕ, zero, suc, ◌+◌, Bool, true, false, eqb, eq-eqb, ne_eqb, List, [], ◌∷◌, ◌++◌, append_assoc, map, length, refl, sym, ap, ◌∙◌, subst, arith, Option, Some, None, slice_get, flat_map, sum_by}
 use Rattle.std.specs.Prelude.{if◌then◌else◌, ◌==◌}
 use Rattle.std.specs.List.{All}
 use Rattle.std.proofs.lemmas.Bool.Decides.{eqb_tells}
-use Rattle.std.proofs.lemmas.List.{map-append}
+use Rattle.std.proofs.lemmas.List.{map-append, length-map}
 use Rattle.std.proofs.lemmas.List.Sums.{sum_by-cons, sum_by-append}
 use mathlib.Core.Option.{some-ne-none}
 use Rattle.claim_queue.specs.declared.close.Closed.{Closed as Shut}
 use Rattle.claim_queue.specs.declared.ends.ClaimQueue.{ClaimQueue}
 use Rattle.claim_queue.specs.declared.ends.QueueEnd.{QueueEnd}
 use Rattle.claim_queue.specs.declared.rule.View.{View}
+use Rattle.claim_queue.specs.Closings.{ClosedNow}
 use Rattle.claim_queue.specs.Handles.{view_of}
 use Rattle.claim_queue.specs.Lines.{line_of, lines_put, lines_taken, IsSettled}
 use Rattle.closing.specs.ClosedQueues.{IsClosed, AreClosed}
@@ -26,10 +27,11 @@ use Rattle.quajects.specs.declared.raw.RawTty.{RawTty}
 use Rattle.quajects.specs.Raws.{end_of}
 use Rattle.quajects.specs.Settled.{views_of, share_of, shuts_of, runs_of, takings_of, HasRaised, HasAll}
 use Rattle.table_theory.specs.declared.queues.Batch.{Batch}
+use Rattle.table_theory.specs.Positioned.{item_of}
 use Rattle.table_theory.specs.Listing.{AllRaised}
 use Rattle.table_theory.specs.Sharing.{IsWhole}
 use Rattle.reports.specs.Closed as closed
-use Rattle.reports.specs.Closings.{queue_of, queues_from}
+use Rattle.reports.specs.Closings.{items_from, queue_of, queues_from}
 use Rattle.reports.specs.Endings.{QueueEnded, ends_at, small_home, large_home, device_at}
 use Rattle.reports.proofs.Items.{items_are}
 use Rattle.reports.proofs.Lists.{at_its}
@@ -216,6 +218,12 @@ module _ {n : ℕ} where
       is = h.is ∙ ap (λ (m : ℕ). queue_of ends stations others m h.end h.shut) (let m : from + 1 + k ≡ from + suc k = omega arith in m);
     }
 
+    -- no more is left than there are places
+    few_left : (end : QueueEnd n) (shut : Shut n) (c : ClosedNow (view_of end) shut.first shut.put shut.taken shut.left.items) → length (items_from (view_of end).part.runs shut.first shut.put) ≤ shut.taken + n
+    few_left end shut c =
+        let items = ap length (items_are (view_of end) shut.first shut.put shut.taken shut.left.items c) ∙ length-map c.queue.places item_of in
+        let room = end.room in let put = c.puts in let within = c.within in omega arith
+
     there : (l : List (QueueEnd n)) (m : List (QueueEnd n)) (k : ℕ) (e : QueueEnd n) → length m ≡ length l → slice_get l k ≡ Some e → (x : QueueEnd n) × (slice_get m k ≡ Some x)
     there [] m k e long at = absurd (cc)
     there (x ∷ l) [] k e long at = absurd (omega arith)
@@ -250,6 +258,7 @@ module _ {n : ℕ} where
             left_is = λ all. s.closes.left_is (has.raised all);
           };
           items = items_are (view_of s.end) s.shut.first s.shut.put s.shut.taken s.shut.left.items s.closes.now;
+          within = few_left s.end s.shut s.closes.now;
           put_by = refl;
           taken_by = refl;
           put_by_others = refl;

@@ -22,9 +22,10 @@ module _ {n : ℕ} (ends : Parts → List (QueueEnd n)) (number : ℕ) (stations
   pub queue_agrees : (put taken : List Entry → List (List ℕ)) (logs : List (List Entry))
       → map (λ s. lines_put_at (ends s) number) stations ≡ map put logs → map (λ s. lines_taken_at (ends s) number) stations ≡ map taken logs
       → runs_at (ends last) number ≡ flat_map (λ s. runs_at (ends s) number) stations → AllInOrder end_runs ends number stations
-      → takings_at (ends last) number ≡ flat_map (λ s. takings_at (ends s) number) stations → AllInOrder end_takings ends number stations → QueueAgrees put taken q logs
+      → takings_at (ends last) number ≡ flat_map (λ s. takings_at (ends s) number) stations → AllInOrder end_takings ends number stations → QueueAgrees n put taken q logs
   queue_agrees put taken logs by by' runs up takings up' = let s = e.closes.closed.settled in record {
     behind = subst (λ (z : List ℕ). q.taken ≤ length z) (sym e.items) s.behind;
+    within = e.within;
     said = e.put_by ∙ by;
     heard = e.taken_by ∙ by';
     claims = claims_woven ends number stations last others q e runs up;

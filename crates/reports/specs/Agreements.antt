@@ -83,20 +83,21 @@ pub record IsWoven (items : List ℕ) (lists : List (List (List ℕ))) (others :
 
 -- The lines that each processor put are those of its log, and so are the lines that it took; cut by claim, the items put
 -- are the lines put, each once, and cut by taking, the items taken are the lines taken, each once: those of each
--- processor stand in both in the order of its log
-pub record QueueAgrees (put taken : List Entry → List (List ℕ)) (q : closed.Queue) (logs : List (List Entry))
-    : Type 0 where
+-- processor stand in both in the order of its log. No more is left than the queue has places
+pub record QueueAgrees (places : ℕ) (put taken : List Entry → List (List ℕ)) (q : closed.Queue)
+    (logs : List (List Entry)) : Type 0 where
   pub behind : q.taken ≤ length q.items
+  pub within : length q.items ≤ q.taken + places
   pub said : q.put_by ≡ map put logs
   pub heard : q.taken_by ≡ map taken logs
   pub claims : IsWoven q.items q.put_by q.put_by_others
   pub takings : IsWoven (take q.taken q.items) q.taken_by q.taken_by_others
 
 abbrev pub SmallAgrees : ℕ → closed.Queue → List (List Entry) → Type 0
-SmallAgrees number q logs = QueueAgrees (λ log. small_put log number) (λ log. small_taken log number) q logs
+SmallAgrees number q logs = QueueAgrees 64 (λ log. small_put log number) (λ log. small_taken log number) q logs
 
 abbrev pub LargeAgrees : ℕ → closed.Queue → List (List Entry) → Type 0
-LargeAgrees number q logs = QueueAgrees (λ log. large_put log number) (λ log. large_taken log number) q logs
+LargeAgrees number q logs = QueueAgrees 256 (λ log. large_put log number) (λ log. large_taken log number) q logs
 
 -- the small queue that a quaject takes lines from
 abbrev pub source_of : AnyQuaject → ℕ

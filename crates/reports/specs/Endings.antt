@@ -62,8 +62,8 @@ pub record ThreadsEnded (last : Parts) (c : Closed) : Type 0 where
 -- QUEUES
 
 -- The last station's end of the queue and these others were all its ends, and the queue is closed. The closed queue has
--- its items, and the lines of each station's end and of the others. What closed it knew that it was shut where the last
--- station's end did, and the others never shut it
+-- its items, no more of them left than there are places, and the lines of each station's end and of the others. What
+-- closed it knew that it was shut where the last station's end did, and the others never shut it
 pub record QueueEnded {n : ℕ} (ends : Parts → List (QueueEnd n)) (number : ℕ) (stations : List Parts) (last : Parts)
     (others : List (QueueEnd n)) (q : closed.Queue) : Type 0 where
   pub end : QueueEnd n
@@ -73,6 +73,7 @@ pub record QueueEnded {n : ℕ} (ends : Parts → List (QueueEnd n)) (number : �
   pub left : List (Option ℕ)
   pub closes : SettledNow (views_of end others) position put q.taken left
   pub items : q.items ≡ map item_of closes.closed.queue.places
+  pub within : length q.items ≤ q.taken + n
   pub put_by : q.put_by ≡ map (λ station. lines_put_at (ends station) number) stations
   pub taken_by : q.taken_by ≡ map (λ station. lines_taken_at (ends station) number) stations
   pub put_by_others : q.put_by_others ≡ flat_map lines_put (map queues.view_of others)

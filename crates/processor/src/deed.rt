@@ -9,14 +9,14 @@ use quaject_core::WaitNumber;
 use thread_table::{Lost, Signalled};
 
 /// The number of notifies of a wait queue, as it was before the try of a step that may have to wait there.
-#[derive(Clone, Copy, Debug, PartialEq, Eq)]
+#[derive(Clone, Copy)]
 pub struct Ticket {
     pub wait: WaitNumber,
     pub number: u32,
 }
 
 /// What came of the one try of a step. A step is done unless it was refused.
-#[derive(Clone, Copy, Debug, PartialEq, Eq)]
+#[derive(Clone, Copy)]
 pub enum Deed {
     /// The line was put. Those who waited to hear it are woken, where the queue is a pipe.
     Said(Option<Woken>),

@@ -4,7 +4,7 @@ use crate::running::{Moved, Tried};
 use hand_steps::{Begun, Idle, Tended};
 
 /// What came of the turn of an element at hand.
-#[derive(Clone, Copy, Debug, PartialEq, Eq)]
+#[derive(Clone, Copy)]
 pub enum Had {
     /// All its steps were done, and it was retired. Where it wasn't, the free elements have no position left, and the
     /// hand holds it.
@@ -14,7 +14,7 @@ pub enum Had {
 }
 
 /// What came of an element's turn, if one was at hand.
-#[derive(Clone, Copy, Debug, PartialEq, Eq)]
+#[derive(Clone, Copy)]
 pub enum Outcome {
     Idle(Idle),
     Had(Begun, Had),

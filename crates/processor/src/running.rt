@@ -27,7 +27,7 @@ use std::sync::Wait;
 use thread_table::{Hand, ThreadTable};
 
 /// What came of a step that was tried on a processor, and of counting it.
-#[derive(Clone, Copy, Debug, PartialEq, Eq)]
+#[derive(Clone, Copy)]
 pub struct Tried {
     pub deed: Deed,
     pub counted: Counted,
@@ -35,7 +35,7 @@ pub struct Tried {
 
 /// Where an element went behind its turn. Where it isn't so, the queue has no position left, and the hand holds the
 /// element.
-#[derive(Clone, Copy, Debug, PartialEq, Eq)]
+#[derive(Clone, Copy)]
 pub enum Moved {
     /// To the ready ring.
     Ready(bool),

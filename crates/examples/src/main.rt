@@ -1,17 +1,20 @@
 //! Replays each example and compares what is printed with the status that lies beside it, and so each row of the
-//! table of events and refusals. Reads each text of the tables of faults, and compares what is told of it.
+//! table of events and refusals. Reads each text of the tables of faults, and compares what is told of it. Reads each
+//! boot script.
 #![tactic(auto)]
 
+mod boots;
 mod faults;
 
 use boot_script::{ReplayFault, Replayed, replay_on};
+use boots::{BOOTS, read_boots};
 use faults::{TABLES, compare_faults};
 use std::alloc::Global;
 use std::process::ExitCode;
 use std::{fs, io};
 
-/// The table of events and refusals. Each file beside the tables is NAME.events, a list of events, or NAME.status, what
-/// it prints.
+/// The table of events and refusals. Each file beside the tables and the folder of boot scripts is NAME.events, a list
+/// of events, or NAME.status, what it prints.
 const ROWS: &str = "rows.txt";
 
 /// Whether the answer of a replay says what is printed: which event was refused, that none was, or nothing at all.
@@ -124,18 +127,18 @@ fn compare_rows(rt: &HostRuntime) -> io::Result<bool> {
     Ok(same)
 }
 
-/// The names of all files of the folder that the program runs in, in their order.
-fn files(rt: &HostRuntime) -> io::Result<Vec<String>> {
+/// The names of all files and folders of a folder, in their order.
+fn files(rt: &HostRuntime, folder: &str) -> io::Result<Vec<String>> {
     let mut names = Vec::new(rt.alloc());
-    for entry in fs::read_dir(rt, ".")? {
+    for entry in fs::read_dir(rt, folder)? {
         names.push(String::from_str(rt.alloc(), entry?.file_name())?)?;
     }
     names.sort()?;
     Ok(names)
 }
 
-/// Replays the example that a file has the list of events of. Another file has to be the status of such a list or a
-/// table; one that is neither is told, and the answer is then false.
+/// Replays the example that a file has the list of events of. Another file has to be the status of such a list, a table
+/// or the folder of boot scripts; one that is none of these is told, and the answer is then false.
 fn compare_file(rt: &HostRuntime, file: &str) -> io::Result<bool> {
     if let Some(name) = file.strip_suffix(".events") {
         return compare(rt, name);
@@ -145,21 +148,22 @@ fn compare_file(rt: &HostRuntime, file: &str) -> io::Result<bool> {
             return Ok(true);
         }
     }
-    let is_table = file == ROWS || TABLES.contains(&file);
-    if !is_table {
+    let is_known = file == ROWS || file == BOOTS || TABLES.contains(&file);
+    if !is_known {
         println!(rt; "{file}: no example has this file")?;
     }
-    Ok(is_table)
+    Ok(is_known)
 }
 
 fn compare_all(rt: &HostRuntime) -> io::Result<bool> {
     let mut same = true;
-    for file in &files(rt)? {
+    for file in &files(rt, ".")? {
         same = compare_file(rt, file.as_str())? && same;
     }
     for table in TABLES {
         same = compare_faults(rt, table)? && same;
     }
+    same = read_boots(rt, &files(rt, BOOTS)?)? && same;
     Ok(compare_rows(rt)? && same)
 }
 

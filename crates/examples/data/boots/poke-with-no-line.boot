@@ -1,0 +1,12 @@
+synthesis 1
+# A poke with no line to move is done, and one with a line moves it before the next step.
+# boot 1 5, status 4
+queue in
+queue out
+pump p in out
+thread a
+poke p
+say in hi
+poke p
+hear out
+hear out

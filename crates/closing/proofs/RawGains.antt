@@ -11,6 +11,7 @@ use Rattle.proc_chain.specs.declared.ends.ChainEnd.{ChainEnd}
 use Rattle.proc_chain.specs.declared.quaject.Quaject.{Ghosts}
 use Rattle.processor.specs.declared.shared.Shared.{Shared}
 use Rattle.processor.specs.declared.station.Parts.{Parts}
+use Rattle.processor.specs.RawEnds.{IsRawAt}
 use Rattle.quaject_core.proofs.Keeping.Places.{slice_get_set_other}
 use Rattle.quajects.specs.declared.ports.Port.{Port}
 use Rattle.quajects.specs.declared.raw.RawTty.{RawTty}
@@ -18,7 +19,7 @@ use Rattle.quajects.specs.Ports.{AllUp, port}
 use Rattle.quajects.specs.Raws.{end_of}
 use Rattle.closing.specs.Gains.{Gained, ChainsGained, end_runs, end_takings, runs_at, takings_at}
 use Rattle.closing.specs.PortSums.{port_runs, port_takings, port_shuts, port_share, ports_runs, ports_takings, ports_shut, ports_share}
-use Rattle.closing.specs.RawEnds.{raw_ports, raw_chained, raw_ran, raw_shares, IsRawAt, TookRaws}
+use Rattle.closing.specs.RawEnds.{raw_ports, raw_chained, raw_ran, raw_shares, TookRaws}
 use Rattle.closing.proofs.PortGains.{gained_none, gained_more, gained_weaker, up_front, up_back}
 
 -- ONE

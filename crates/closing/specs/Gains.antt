@@ -1,11 +1,9 @@
 -- What ends of a list gain by others that are joined to them.
-use Rattle.std.specs.Prelude.{◌≡◌, ◌+◌, ◌<◌, ℕ, true, List, [], ◌++◌, length, map, slice_index_or, Some}
-use Rattle.std.specs.List.{All, slice_get}
+use Rattle.std.specs.Prelude.{◌≡◌, ◌+◌, ℕ, true, List, [], ◌++◌, map, slice_index_or}
+use Rattle.std.specs.List.{All}
 use Rattle.claim_queue.specs.declared.ends.QueueEnd.{QueueEnd}
 use Rattle.proc_chain.specs.declared.ends.ChainEnd.{ChainEnd}
-use Rattle.proc_chain.specs.declared.ends.ProcChain.{ProcChain}
 use Rattle.proc_chain.specs.declared.quaject.Quaject.{Ghosts}
-use Rattle.proc_chain.specs.Handles.{IsEndOf}
 use Rattle.claim_queue.specs.Handles.{view_of}
 use Rattle.end_steps.specs.EndLists.{HasRaised, share_at, shuts_at, knows_shut_at}
 use Rattle.end_steps.specs.EndLists.{notes_put_at, notes_taken_at, chain_share_at}
@@ -40,11 +38,6 @@ pub record Gained {n : ℕ} (runs takings : ℕ → List Batch) (shuts shares : 
   pub known : (q : ℕ) → knows_shut_at old q ≡ true → knows_shut_at new q ≡ true
 
 module _ {Q W : Type 0} {g : Ghosts Q W} where
-  -- the index names a chain, and the end is one of that chain's
-  pub record IsChainEndAt (list : List (ProcChain Q W)) (index : ℕ) (end : ChainEnd Q W g) : Type 0 where
-    pub named : index < length list
-    pub its : (chain : ProcChain Q W) → slice_get list index ≡ Some chain → IsEndOf chain end
-
   -- the end of each chain has these notes more that were put and taken, and that much more of the share
   pub record ChainsGained (puts takes : ℕ → List (List ℕ)) (shares : ℕ → ℕ) (old new : List (ChainEnd Q W g))
       : Type 0 where

@@ -2,14 +2,15 @@
 use Rattle.std.specs.Prelude.{◌≡◌, ◌+◌, ◌<◌, ℕ, List, [], ◌∷◌, ◌++◌, length, Option, Some}
 use Rattle.std.specs.List.{slice_get}
 use Rattle.boot_script.specs.QueueLists.{raw_queue}
-use Rattle.closing.specs.Gains.{Gained, ChainsGained, IsChainEndAt}
+use Rattle.closing.specs.Gains.{Gained, ChainsGained}
 use Rattle.closing.specs.PortSums.{ports_runs, ports_takings, ports_shut, ports_share}
 use Rattle.end_steps.specs.EndLists.{chain_end_puts, chain_end_takes, chain_end_share, only_at, number_at}
 use Rattle.processor.specs.declared.shared.Shared.{Shared}
 use Rattle.processor.specs.declared.station.Parts.{Parts}
+use Rattle.processor.specs.RawEnds.{IsRawAt}
 use Rattle.quajects.specs.declared.ports.Port.{Port}
 use Rattle.quajects.specs.declared.raw.RawTty.{RawTty}
-use Rattle.quajects.specs.Ports.{AllUp, IsEndAt, port}
+use Rattle.quajects.specs.Ports.{AllUp, port}
 use Rattle.quajects.specs.Raws.{end_of}
 
 -- the ends of these raw ttys at their queues, the first of which has this index
@@ -29,11 +30,6 @@ raw_ran chain (tty ∷ ttys) k = only_at chain (chain_end_takes tty.chain) k ++ 
 abbrev pub raw_shares : ℕ → List RawTty → ℕ → ℕ
 raw_shares chain [] k = 0
 raw_shares chain (tty ∷ ttys) k = number_at chain (chain_end_share tty.chain) k + raw_shares (chain + 1) ttys k
-
--- the raw tty's ends are those of the small queue and the chain with these indexes
-abbrev pub IsRawAt : Shared → ℕ → ℕ → RawTty → Type 0
-IsRawAt shared raw chain tty =
-    IsEndAt shared.queues.small.items raw (end_of tty) × IsChainEndAt shared.chains.items chain tty.chain
 
 -- they are the raw ttys of the plan's ttys, in their order
 abbrev pub AreRawsOf : Shared → List RawTty → Type 0

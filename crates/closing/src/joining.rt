@@ -1,12 +1,13 @@
 //! One end more, for an object of a list.
 ghost use Rattle.std.specs.Prelude.{◌≡◌, true, false};
-ghost use Rattle.closing.specs.Gains.{Gained, ChainsGained, IsChainEndAt, end_runs, end_takings};
+ghost use Rattle.closing.specs.Gains.{Gained, ChainsGained, end_runs, end_takings};
 ghost use Rattle.end_steps.specs.EndLists.{AreChainEndsOf, AreSameChainEnds, chain_end_puts, chain_end_takes};
 ghost use Rattle.end_steps.specs.EndLists.{AreEndsOf, AreSameEnds, HasRaised, OnEnd, only_at, number_at};
 ghost use Rattle.end_steps.specs.EndLists.{chain_end_share, end_share, end_shuts};
 ghost use Rattle.end_steps.specs.EndLists.{end_knows_shut, knows_shut_at};
 ghost use Rattle.end_steps.specs.Splits.{IsJoined, IsChainJoined};
 ghost use Rattle.proc_chain.specs.Handles.{turn_of};
+ghost use Rattle.processor.specs.RawEnds.{IsChainEndAt};
 ghost use Rattle.quajects.specs.Ports.{IsEndAt};
 
 use claim_queue::{ClaimQueue, QueueEnd};

@@ -1,6 +1,7 @@
 //! The ends that devices had go to those of their queues and chains.
 ghost use Rattle.std.specs.Prelude.{[], ◌∷◌, length};
-ghost use Rattle.closing.specs.RawEnds.{AreRawsOf, IsRawAt, TookRaws};
+ghost use Rattle.closing.specs.RawEnds.{AreRawsOf, TookRaws};
+ghost use Rattle.processor.specs.RawEnds.{IsRawAt};
 ghost use Rattle.processor.specs.Stations.{ArePartsOf};
 
 use crate::joining::{join_at, join_chain_at};

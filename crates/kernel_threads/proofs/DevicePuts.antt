@@ -5,6 +5,7 @@ use Rattle.std.specs.Prelude.{Err}
 use Rattle.std.proofs.lemmas.List.{map-append, length-map, length-append, append-nil}
 use mathlib.Core.Option.{some, some-injective, some-ne-none}
 use lib.ListN.{get_elem?}
+use Rattle.objects.specs.DeviceEndings.{AreWithout, IsAscending}
 use Rattle.table_theory.specs.declared.queues.Batch.{Batch}
 use Rattle.table_theory.specs.Listing.{written_to}
 use Rattle.table_theory.specs.Positioned.{blank, fresh}
@@ -16,8 +17,6 @@ use Rattle.claim_queue.specs.Puts.{Tries, Raised, RaisedFrom, PutAnswer}
 use Rattle.claim_queue.specs.Steps.{Found, Wrote, run}
 use Rattle.quajects.specs.Raws.{PutByte}
 use Rattle.quajects.specs.Settled.{runs_of}
-use Rattle.reports.specs.Agreements.{AreWithout}
-use Rattle.reports.specs.Endings.{IsAscending}
 use Rattle.kernel_threads.specs.Devices.{without_refused, refused, PutEach}
 
 -- where a run starts, and how many places it has

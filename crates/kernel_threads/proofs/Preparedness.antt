@@ -15,10 +15,10 @@ use Rattle.processor.specs.declared.station.Parts.{Parts}
 use Rattle.processor.specs.Partings.{AreSplit}
 use Rattle.processor.specs.Programs.{program}
 use Rattle.processor.specs.Stations.{IsUnused}
+use Rattle.processor.specs.Preparing.{HasDoneAll, IsPrepared}
 use Rattle.quaject_core.specs.declared.event.Event.{Event}
 use Rattle.quaject_core.specs.declared.event.Event.TheVariants as events
 use Rattle.quaject_core.specs.declared.names.QueueName.TheVariants as names
-use Rattle.reports.specs.Stations.{HasDoneAll, IsPrepared}
 use Rattle.thread_table.specs.declared.hand.ThreadTable.{ThreadTable}
 use Rattle.thread_table.specs.declared.rule.Made.{Made}
 use Rattle.thread_table.specs.declared.rule.View.{View}

@@ -6,7 +6,6 @@ use Rattle.std.proofs.Math.Logic.{∥∥₁_elim}
 use Rattle.boot_script.specs.declared.boot_plan.BootPlan.{BootPlan}
 use Rattle.boot_script.specs.declared.plan.PlannedTty.{PlannedTty}
 use Rattle.boot_script.specs.QueueLists.{raw_queue}
-use Rattle.closing.specs.RawEnds.{IsRawAt}
 use Rattle.end_steps.specs.declared.gate.Point.{Point}
 use Rattle.proc_chain.specs.declared.ends.ProcChain.{ProcChain}
 use Rattle.proc_chain.specs.Handles.{IsEndOf}
@@ -20,6 +19,7 @@ use Rattle.end_steps.specs.Splits.{AllThree}
 use Rattle.objects.specs.declared.device.Device.{Device}
 use Rattle.objects.specs.Devices.{AreDevicesOf, IsDeviceOf}
 use Rattle.processor.specs.declared.shared.Shared.{Shared}
+use Rattle.processor.specs.RawEnds.{IsRawAt}
 use Rattle.quajects.specs.declared.raw.RawTty.{RawTty}
 use Rattle.spsc_line.specs.declared.line_in.LineIn.{LineIn}
 use Rattle.spsc_line.specs.declared.line_out.LineOut.{LineOut}

@@ -11,8 +11,7 @@ use Rattle.processor.specs.declared.shared.Shared.{Shared}
 use Rattle.processor.specs.declared.station.Parts.{Parts}
 use Rattle.processor.specs.declared.station.Station.{Station}
 use Rattle.processor.specs.Logs.{Entry, Leaves}
-use Rattle.processor.specs.Partings.{AreJoined}
-use Rattle.reports.specs.Stations.{AllJoined}
+use Rattle.processor.specs.Partings.{AreJoined, AllJoined}
 use Rattle.table_theory.specs.declared.views.Member.{Member}
 use Rattle.thread_table.proofs.Copies.{get_or-copies}
 use Rattle.thread_table.specs.declared.rule.View.{View}

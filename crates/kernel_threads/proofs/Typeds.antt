@@ -9,17 +9,16 @@ use Rattle.claim_queue.specs.Handles.{view_of, call_of}
 use Rattle.claim_queue.specs.Lines.{line_of, lines_put}
 use Rattle.objects.specs.declared.device.Device.{Device}
 use Rattle.objects.specs.Devices.{IsDevice}
+use Rattle.objects.specs.DeviceEndings.{AreWithout, DeviceEnded}
 use Rattle.proc_chain.specs.declared.ends.ProcChain.{ProcChain}
 use Rattle.quajects.specs.declared.any.AnyQuaject.{AnyQuaject}
 use Rattle.quajects.specs.declared.raw.RawTty.{RawTty}
 use Rattle.quajects.specs.declared.world.Queues.{Queues}
 use Rattle.quajects.specs.Raws.{end_of, overruns_of}
-use Rattle.reports.specs.Agreements.{AreWithout}
 use Rattle.spsc_line.specs.declared.line_in.LineIn.{LineIn}
 use Rattle.spsc_line.specs.declared.line_out.LineOut.{LineOut}
 use Rattle.spsc_line.specs.Lines.{bytes_sent, bytes_received, bytes_left}
 use Rattle.table_theory.specs.declared.queues.Batch.{Batch}
-use Rattle.reports.specs.Endings.{DeviceEnded}
 use Rattle.kernel_threads.specs.Backs.{device_of}
 use Rattle.kernel_threads.specs.Devices.{Served, without_refused, refused}
 use Rattle.kernel_threads.proofs.DevicePuts.{puts_ascend, puts_shut_none, as_many_answers, few_refused, put_without, all_received}

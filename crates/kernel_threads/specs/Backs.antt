@@ -3,18 +3,18 @@ use Rattle.std.specs.Prelude.{◌≡◌, ◌++◌, ◌+◌, ◌<◌, ℕ, List, 
 use Rattle.std.specs.List.{AllZip}
 use Rattle.boot_script.specs.declared.plan.PlannedTty.{PlannedTty}
 use Rattle.boot_script.specs.QueueLists.{raw_queue}
-use Rattle.closing.specs.RawEnds.{IsRawAt}
 use Rattle.end_steps.specs.EndLists.{share_at, chain_share_at, end_share, chain_end_share}
 use Rattle.hand_steps.specs.Holdings.{IsFree}
 use Rattle.objects.specs.declared.device.Device.{Device}
+use Rattle.objects.specs.DeviceEndings as ended
+use Rattle.objects.specs.DeviceEndings.{DeviceEnded}
 use Rattle.processor.specs.declared.shared.Shared.{Shared}
 use Rattle.processor.specs.declared.station.Parts.{Parts}
 use Rattle.processor.specs.declared.station.Station.{Station}
 use Rattle.processor.specs.Logs.{Entry, Leaves}
+use Rattle.processor.specs.RawEnds.{IsRawAt}
 use Rattle.quajects.specs.declared.raw.RawTty.{RawTty}
 use Rattle.quajects.specs.Raws.{end_of, overruns_of}
-use Rattle.reports.specs.Closed as closed
-use Rattle.reports.specs.Endings.{DeviceEnded}
 use Rattle.spsc_line.specs.declared.line_in.LineIn.{LineIn}
 use Rattle.spsc_line.specs.declared.line_out.LineOut.{LineOut}
 use Rattle.spsc_line.specs.Lines.{bytes_sent, bytes_received, bytes_left, IsLine}
@@ -25,7 +25,7 @@ use Rattle.kernel_threads.specs.Stationings.{hand_share, seat_share}
 use Rattle.kernel_threads.specs.Works.{HasServed}
 
 -- what a device popped, and how many bytes it was refused
-abbrev pub device_of : LineOut → RawTty → closed.Device
+abbrev pub device_of : LineOut → RawTty → ended.Device
 device_of line tty = record { popped = bytes_received line; refused = overruns_of tty }
 
 -- The device of this tty served it: its ends are still those of its queue and its chain, with the shares that they had.

@@ -3,7 +3,7 @@ ghost use Rattle.std.specs.Prelude.{◌≡◌, ◌+◌, ◌<◌, ◌≤◌, ℕ,
 ghost use Rattle.boot_script.specs.declared.boot_plan.BootPlan.{BootPlan};
 ghost use Rattle.hand_steps.specs.Holdings.{IsFree};
 ghost use Rattle.processor.specs.Stations.{ArePartsOf, AreSameParts};
-ghost use Rattle.reports.specs.Stations.{IsPrepared};
+ghost use Rattle.processor.specs.Preparing.{IsPrepared};
 ghost use Rattle.thread_table.specs.Handles.{view_of};
 ghost use Rattle.kernel_threads.specs.Stationings.{CanSplit, NoneOn, IsPosted, ArePosted};
 

@@ -1,7 +1,7 @@
 //! A whole kernel: its objects, its first station, its works, and its run.
 ghost use Rattle.std.specs.Prelude.{◌≡◌, ◌+◌, ◌≤◌, All, length, vec_len};
 ghost use Rattle.kernel_threads.specs.Works.{MayWork};
-ghost use Rattle.reports.specs.Stations.{IsPrepared};
+ghost use Rattle.processor.specs.Preparing.{IsPrepared};
 
 use boot_script::parse_boot;
 use end_steps::NoGate;

@@ -4,3 +4,4 @@ pub mod Planned
 pub mod Makings
 pub mod Devices
 pub mod Objects
+pub mod DeviceEndings

@@ -12,3 +12,5 @@ pub mod Fitting
 pub mod Stations
 pub mod Logs
 pub mod Partings
+pub mod Preparing
+pub mod RawEnds

@@ -1,5 +1,5 @@
 -- What splitting a station and joining two leave.
-use Rattle.std.specs.Prelude.{◌≡◌, ◌≤◌, ◌<◌, ◌||◌, ℕ, List, [], length, slice_index_or, vec_capacity}
+use Rattle.std.specs.Prelude.{◌≡◌, ◌≤◌, ◌<◌, ◌||◌, ℕ, List, [], ◌∷◌, length, slice_index_or, vec_capacity}
 use Rattle.std.specs.List.{All}
 use Rattle.end_steps.specs.EndLists.{IsDivisible, IsChainDivisible}
 use Rattle.end_steps.specs.Splits as splits
@@ -61,3 +61,9 @@ pub record AreJoined (old other new : Parts) : Type 0 where
   pub own : DidBoth (seats.view_of old.meters) (seats.view_of other.meters) (seats.view_of new.meters)
   pub heard : new.heard ≡ old.heard
   pub signals : HaveBoth old.signals other.signals new.signals
+
+-- each of the stations was joined, in this order
+abbrev pub AllJoined : Parts → List Parts → Parts → Type 0
+AllJoined first [] last = last ≡ first
+AllJoined first (station ∷ stations) last =
+    (next : Parts) × AreJoined first station next × AllJoined next stations last

@@ -20,11 +20,11 @@ use Rattle.thread_table.specs.Handles.{view_of}
 use Rattle.thread_table.specs.Schedules.{elements_after, line_at}
 use Rattle.processor.specs.declared.station.Parts.{Parts}
 use Rattle.processor.specs.Logs.{Entry}
+use Rattle.processor.specs.Partings.{AllJoined}
 use Rattle.reports.specs.Agreements.{AlarmsAgree}
 use Rattle.reports.specs.Closed.{Closed}
 use Rattle.reports.specs.Closed as closed
 use Rattle.reports.specs.Endings.{ThreadsEnded}
-use Rattle.reports.specs.Stations.{AllJoined}
 use Rattle.reports.proofs.Counts.{many_more}
 use Rattle.reports.proofs.Places.{joined_shows}
 use Rattle.reports.proofs.Shuffles.{same_counts}

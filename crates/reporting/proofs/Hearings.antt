@@ -14,11 +14,12 @@ use Rattle.processor.specs.Programs.{Key, IsHear, same_key, is_hear, hear_count,
 use Rattle.processor.specs.Running.{Line}
 use Rattle.processor.specs.Steps.{comes_of}
 use Rattle.processor.specs.Turns.{heard_lines}
+use Rattle.processor.specs.Partings.{AllJoined}
+use Rattle.processor.specs.Preparing.{IsPrepared}
 use Rattle.processor.proofs.Rooms.{few}
 use Rattle.reports.specs.Closed.{Closed}
 use Rattle.reports.specs.Endings.{ThreadsEnded}
 use Rattle.reports.specs.Lists.{all_of}
-use Rattle.reports.specs.Stations.{AllJoined, IsPrepared}
 use Rattle.reports.proofs.Counts.{plus, by_bool, many_cons}
 use Rattle.reports.proofs.Lists.{zip_lists, flat_all}
 use Rattle.reports.proofs.Sorting.{heard_few, once_most}

@@ -15,6 +15,7 @@ use Rattle.claim_queue.specs.declared.ends.QueueEnd.{QueueEnd}
 use Rattle.claim_queue.specs.Handles.{view_of}
 use Rattle.claim_queue.specs.Lines.{lines_put, lines_taken}
 use Rattle.end_steps.specs.EndLists.{end_puts, lines_put_at}
+use Rattle.objects.specs.DeviceEndings.{AreWithout}
 use Rattle.proc_chain.specs.Handles as chains
 use Rattle.quajects.specs.declared.any.AnyQuaject.{AnyQuaject}
 use Rattle.quajects.specs.declared.any.AnyQuaject.TheVariants as any
@@ -23,7 +24,7 @@ use Rattle.quajects.specs.Settled.{runs_of}
 use Rattle.processor.specs.Logs.{Entry, Leaves, heard_by, fired_by}
 use Rattle.processor.specs.Running.{Line}
 use Rattle.processor.specs.Turns.{heard_lines}
-use Rattle.reports.specs.Agreements.{IsTakenByQuajects, IsSmallPutByQuajects, IsLargePutByQuajects, IsMover, IsTty, TtyAgrees, AreWithout}
+use Rattle.reports.specs.Agreements.{IsTakenByQuajects, IsSmallPutByQuajects, IsLargePutByQuajects, IsMover, IsTty, TtyAgrees}
 use Rattle.reports.specs.Boots.{TtyEnds, Boot, BootEnded, home_of, raw_of, homes, small_others, large_others}
 use Rattle.reports.specs.Closed.{Closed}
 use Rattle.reports.specs.Closed as closed

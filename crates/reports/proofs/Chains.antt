@@ -24,12 +24,13 @@ use Rattle.processor.specs.declared.deed.Deed.{Deed}
 use Rattle.processor.specs.declared.deed.Deed.TheVariants as deeds
 use Rattle.processor.specs.declared.station.Parts.{Parts}
 use Rattle.processor.specs.Logs.{Entry, Tended, Delivered, Tried, Retired, Leaves, chained_by, chained}
+use Rattle.processor.specs.Partings.{AllJoined}
+use Rattle.processor.specs.Preparing.{IsPrepared}
 use Rattle.reports.specs.Agreements.{MoverAgrees}
 use Rattle.reports.specs.Closed as closed
 use Rattle.reports.specs.Doings.{is_poke}
 use Rattle.reports.specs.Endings.{ChainEnded, MoverEnded}
 use Rattle.reports.specs.Lists.{all_of}
-use Rattle.reports.specs.Stations.{AllJoined, IsPrepared}
 use Rattle.reports.proofs.Counts.{plus, many_cons}
 use Rattle.reports.proofs.Joining.{joined_from_none}
 use Rattle.reports.proofs.Lists.{at_its, zip_lists, flat_all}

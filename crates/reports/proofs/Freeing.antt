@@ -30,7 +30,7 @@ use Rattle.thread_table.specs.Schedules.{begun, state_after, elements_after, IsA
 use Rattle.thread_table.proofs.SingleRuns.{Singles, flat_single}
 use Rattle.thread_table.proofs.Schedules.{elements_of}
 use Rattle.processor.specs.Programs.{Key, program}
-use Rattle.reports.specs.Stations.{HasDoneAll}
+use Rattle.processor.specs.Preparing.{HasDoneAll}
 use Rattle.reports.proofs.Counts.{many_more, by_bool}
 use Rattle.reports.proofs.Shuffles.{filed_shuffle}
 

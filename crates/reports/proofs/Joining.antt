@@ -1,8 +1,7 @@
 -- What stations have that were joined, one behind the other.
 use Rattle.std.proofs.Common.{◌≡◌, List, [], ◌∷◌, ◌++◌, sym, ap, ◌∙◌, append_assoc, append-nil, flat_map, subst}
 use Rattle.processor.specs.declared.station.Parts.{Parts}
-use Rattle.processor.specs.Partings.{AreJoined}
-use Rattle.reports.specs.Stations.{AllJoined}
+use Rattle.processor.specs.Partings.{AreJoined, AllJoined}
 
 -- what each join puts one behind the other, all joins do
 pub joined_lists : {E : Type 0} (f : Parts → List E) → ((a b c : Parts) → AreJoined a b c → f c ≡ f a ++ f b)

@@ -7,11 +7,12 @@ use Rattle.meters.specs.Handles.{view_of}
 use Rattle.meters.specs.Views.{amount_on, times}
 use Rattle.processor.specs.declared.station.Parts.{Parts}
 use Rattle.processor.specs.Logs.{Entry, Leaves, ticked_by, fired_by}
+use Rattle.processor.specs.Partings.{AllJoined}
+use Rattle.processor.specs.Preparing.{IsPrepared}
 use Rattle.reports.specs.Agreements.{GaugesAgree, AlarmsAgree}
 use Rattle.reports.specs.Closed.{Closed}
 use Rattle.reports.specs.Endings.{MetersEnded}
 use Rattle.reports.specs.Lists.{all_of}
-use Rattle.reports.specs.Stations.{AllJoined, IsPrepared}
 use Rattle.reports.proofs.Joining.{joined_lists, joined_from_none}
 use Rattle.reports.proofs.Lists.{zip_lists, flat_all}
 

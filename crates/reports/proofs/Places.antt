@@ -28,12 +28,13 @@ use Rattle.processor.specs.declared.station.Parts.{Parts}
 use Rattle.processor.specs.Logs.{Entry, Tended, Delivered, Tried, Retired, Leaves, IsPlanned, tally_by, tally_of, fired_by}
 use Rattle.processor.specs.Programs.{Key, program}
 use Rattle.processor.specs.Steps.{raised_by}
+use Rattle.processor.specs.Partings.{AllJoined}
+use Rattle.processor.specs.Preparing.{IsPrepared, HasDoneAll}
 use Rattle.reports.specs.Agreements.{PlaceAgrees, ThreadAgrees}
 use Rattle.reports.specs.Closed.{Closed}
 use Rattle.reports.specs.Closed as closed
 use Rattle.reports.specs.Endings.{ThreadsEnded}
 use Rattle.reports.specs.Lists.{all_of}
-use Rattle.reports.specs.Stations.{AllJoined, IsPrepared, HasDoneAll}
 use Rattle.reports.proofs.Freeing.{retired_once, has_done_all}
 use Rattle.reports.proofs.Joining.{stays}
 use Rattle.reports.proofs.Tallies.{made_at, all_retired}

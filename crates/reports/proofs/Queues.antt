@@ -9,10 +9,11 @@ use Rattle.end_steps.specs.EndLists.{end_puts, end_takes, lines_put_at, lines_ta
 use Rattle.end_steps.specs.Splits.{IsJoined}
 use Rattle.processor.specs.declared.station.Parts.{Parts}
 use Rattle.processor.specs.Logs.{Entry, Leaves, small_put, small_taken, large_put, large_taken}
+use Rattle.processor.specs.Partings.{AllJoined}
+use Rattle.processor.specs.Preparing.{IsPrepared}
 use Rattle.reports.specs.Agreements.{QueueAgrees, SmallAgrees, LargeAgrees}
 use Rattle.reports.specs.Closed as closed
 use Rattle.reports.specs.Endings.{QueueEnded, small_of, large_of}
-use Rattle.reports.specs.Stations.{AllJoined, IsPrepared}
 use Rattle.reports.proofs.Lists.{zip_maps}
 use Rattle.reports.proofs.Joining.{joined_from_none}
 use Rattle.reports.proofs.Weaving.{AllInOrder, all_in_order, claims_woven, takings_woven, none_at, joined_at}

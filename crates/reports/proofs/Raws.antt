@@ -24,6 +24,7 @@ use Rattle.claim_queue.specs.declared.rule.View.{View}
 use Rattle.claim_queue.specs.Handles.{view_of}
 use Rattle.claim_queue.specs.Lines.{line_of, lines_put}
 use Rattle.end_steps.specs.EndLists.{lines_put_at}
+use Rattle.objects.specs.DeviceEndings.{IsAscending}
 use Rattle.processor.specs.declared.deed.Deed.{Deed}
 use Rattle.processor.specs.declared.deed.Deed.TheVariants as deeds
 use Rattle.processor.specs.declared.station.Parts.{Parts}
@@ -40,7 +41,7 @@ use Rattle.table_theory.specs.Positioned.{item_of}
 use Rattle.table_theory.proofs.Owned.{at_map_back}
 use Rattle.reports.specs.Agreements.{IsMover, route_of}
 use Rattle.reports.specs.Closed as closed
-use Rattle.reports.specs.Endings.{QueueEnded, IsAscending, small_of, device_at}
+use Rattle.reports.specs.Endings.{QueueEnded, small_of, device_at}
 use Rattle.reports.proofs.Items.{of_first}
 use Rattle.reports.proofs.Takings.{of_ends, IsBelow}
 

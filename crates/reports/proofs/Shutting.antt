@@ -15,14 +15,14 @@ use Rattle.processor.specs.declared.deed.Deed.{Deed}
 use Rattle.processor.specs.declared.deed.Deed.TheVariants as deeds
 use Rattle.processor.specs.declared.station.Parts.{Parts}
 use Rattle.processor.specs.Logs.{Entry, Tended, Delivered, Tried, Retired, Leaves, IsPlanned, shut_by, times_shut, small_was_shut, large_was_shut}
-use Rattle.processor.specs.Partings.{AreJoined}
+use Rattle.processor.specs.Partings.{AreJoined, AllJoined}
 use Rattle.processor.specs.Programs.{step_of}
 use Rattle.processor.specs.Steps.{shuts_by}
+use Rattle.processor.specs.Preparing.{IsPrepared}
 use Rattle.quajects.specs.Settled.{shuts_of}
 use Rattle.reports.specs.Closed as closed
 use Rattle.reports.specs.Endings.{QueueEnded, small_of, large_of}
 use Rattle.reports.specs.Saying.{IsLeftOpen, IsNeverClosed, IsNeverShutSmall, IsNeverShutLarge}
-use Rattle.reports.specs.Stations.{AllJoined, IsPrepared}
 use Rattle.reports.proofs.Counts.{by_bool}
 use Rattle.reports.proofs.Joining.{stays}
 use Rattle.reports.proofs.Lists.{at_its}

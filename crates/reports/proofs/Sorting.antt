@@ -14,11 +14,12 @@ use Rattle.processor.specs.declared.station.Parts.{Parts}
 use Rattle.processor.specs.Logs.{Entry, Tended, Delivered, Tried, Retired, Leaves, done_by, heard_by}
 use Rattle.processor.specs.Programs.{Key, same_key}
 use Rattle.processor.specs.Running.{Line}
+use Rattle.processor.specs.Partings.{AllJoined}
+use Rattle.processor.specs.Preparing.{IsPrepared}
 use Rattle.reports.specs.Closed.{Closed}
 use Rattle.reports.specs.Endings.{ThreadsEnded}
 use Rattle.reports.specs.Lists.{all_of}
 use Rattle.reports.specs.Reports.{AreSorted, Ascend}
-use Rattle.reports.specs.Stations.{AllJoined, IsPrepared}
 use Rattle.reports.proofs.Counts.{plus, many_cons, many_more, many_shuffled}
 use Rattle.reports.proofs.Stepping.{steps_counted}
 use Rattle.reports.proofs.Tallies.{made_at, all_steps}

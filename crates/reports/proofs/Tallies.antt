@@ -21,12 +21,12 @@ use Rattle.processor.specs.declared.station.Parts.{Parts}
 use Rattle.processor.specs.Deeds.{is_done}
 use Rattle.processor.specs.Logs.{Entry, Tended, Delivered, Tried, Retired, Leaves, IsPlanned, count_of, tally_by, tally_of, fired_by}
 use Rattle.processor.specs.Logs as entries
-use Rattle.processor.specs.Partings.{AreJoined}
+use Rattle.processor.specs.Partings.{AreJoined, AllJoined}
 use Rattle.processor.specs.Programs.{same_key}
 use Rattle.processor.specs.Steps.{raised_by}
+use Rattle.processor.specs.Preparing.{IsPrepared}
 use Rattle.reports.specs.Doings as doings
 use Rattle.reports.specs.Lists.{all_of}
-use Rattle.reports.specs.Stations.{AllJoined, IsPrepared}
 use Rattle.reports.proofs.Lists.{zip_lists, flat_all}
 use Rattle.reports.proofs.Joining.{joined_from_none, joined_lists}
 

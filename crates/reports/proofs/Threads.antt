@@ -19,13 +19,14 @@ use Rattle.processor.specs.Deeds.{is_done}
 use Rattle.processor.specs.Logs.{Entry, Tended, Delivered, Tried, Retired, Leaves, IsPlanned, tally_of, fired_by, done_by, numbers_done, Climbs}
 use Rattle.processor.specs.Programs.{Key, program, same_key}
 use Rattle.processor.specs.Stations.{no_signals}
+use Rattle.processor.specs.Partings.{AllJoined}
+use Rattle.processor.specs.Preparing.{IsPrepared}
 use Rattle.reports.specs.Agreements.{StepsAgree, ShownAgrees, SignalsAgree}
 use Rattle.reports.specs.Closed.{Closed}
 use Rattle.reports.specs.Closed as closed
 use Rattle.reports.specs.Doings as doings
 use Rattle.reports.specs.Endings.{ThreadsEnded}
 use Rattle.reports.specs.Lists.{all_of}
-use Rattle.reports.specs.Stations.{AllJoined, IsPrepared}
 use Rattle.reports.proofs.Counts.{plus, many_cons, many_more, by_bool, is_less}
 use Rattle.reports.proofs.Stepping.{steps_counted}
 use Rattle.reports.proofs.Deliveries.{told}

@@ -1,5 +1,5 @@
 -- How the closed tables agree with the plan and with what the processors did.
-use Rattle.std.specs.Prelude.{◌≡◌, ◌⊎◌, ◌≤◌, ◌<◌, ◌+◌, ◌%◌, ◌==◌, ◌||◌, ℕ, nat_lt, if◌then◌else◌, List, [], ◌∷◌, ◌++◌}
+use Rattle.std.specs.Prelude.{◌≡◌, ◌≤◌, ◌<◌, ◌+◌, ◌%◌, ◌==◌, ◌||◌, ℕ, nat_lt, if◌then◌else◌, List, [], ◌∷◌, ◌++◌}
 use Rattle.std.specs.Prelude.{length, map, take, flat_map, Option, Some, None, count_by}
 use Rattle.std.specs.List.{slice_get, list_any, concat, AllByRecursion}
 use Rattle.boot_script.specs.declared.boot_plan.BootPlan.{BootPlan}
@@ -12,6 +12,7 @@ use Rattle.claim_queue.specs.Handles.{view_of}
 use Rattle.claim_queue.specs.Lines.{lines_put}
 use Rattle.hand_steps.specs.Tallies.{is_delivered}
 use Rattle.meters.specs.Views.{amount_on, times}
+use Rattle.objects.specs.DeviceEndings.{AreWithout}
 use Rattle.quaject_core.specs.declared.alarm.Alarm.{Alarm}
 use Rattle.quajects.specs.declared.any.AnyQuaject.{AnyQuaject}
 use Rattle.quajects.specs.declared.any.AnyQuaject.TheVariants as any
@@ -140,13 +141,6 @@ IsLargePutByQuajects c number q =
     q.put_by_others ≡ flat_map (λ chain. put_at number (large_targets chain.quaject)) (c.movers ++ c.ttys)
 
 -- TTYS
-
--- these are the bytes, in their order, without the refused ones
-abbrev pub AreWithout : List ℕ → ℕ → List ℕ → Type 0
-AreWithout [] refused items = (items ≡ []) × (refused ≡ 0)
-AreWithout (b ∷ bytes) refused items =
-    ((rest : List ℕ) × (items ≡ b ∷ rest) × AreWithout bytes refused rest)
-    ⊎ ((fewer : ℕ) × (refused ≡ fewer + 1) × AreWithout bytes fewer items)
 
 -- it is a cooked tty over these three queues
 abbrev pub IsTty : ℕ → ℕ → ℕ → AnyQuaject → Type 0

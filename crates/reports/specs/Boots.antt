@@ -12,13 +12,14 @@ use Rattle.processor.specs.declared.station.Parts.{Parts}
 use Rattle.processor.specs.Logs.{Entry, Leaves}
 use Rattle.processor.specs.Running.{Line}
 use Rattle.processor.specs.Turns.{heard_lines}
+use Rattle.processor.specs.Partings.{AllJoined}
+use Rattle.processor.specs.Preparing.{IsPrepared}
 use Rattle.reports.specs.Closed.{Closed}
 use Rattle.reports.specs.Closed as closed
 use Rattle.reports.specs.Endings.{ThreadsEnded, QueueEnded, MoverEnded, TtyEnded, MetersEnded, small_of, large_of}
 use Rattle.reports.specs.Endings.{small_home, large_home, device_at}
 use Rattle.reports.specs.Lines.{Says}
 use Rattle.reports.specs.Reports.{Ascend}
-use Rattle.reports.specs.Stations.{AllJoined, IsPrepared}
 
 -- what was had of a tty: what came home of its cooked tty, what the last end of its chain knew, and its device's end of
 -- the raw queue

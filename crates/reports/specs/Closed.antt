@@ -3,6 +3,7 @@ use Rattle.std.specs.Prelude.{ℕ, List}
 use Rattle.quaject_core.specs.declared.alarm.Alarm.{Alarm}
 use Rattle.thread_table.specs.declared.places.Place.{Place}
 use Rattle.quajects.specs.declared.any.AnyQuaject.{AnyQuaject}
+pub use Rattle.objects.specs.DeviceEndings.{Device}
 
 -- A queue: the items put, in the order of their claims, and how many were taken; the lines that each processor put and
 -- took, in the order of its steps, and those that quajects and devices did
@@ -25,11 +26,6 @@ pub record Thread : Type 0 where
 pub record Chain : Type 0 where
   pub quaject : AnyQuaject
   pub left : ℕ
-
--- a tty's device: the bytes that it popped, and how many of them the raw queue refused
-pub record Device : Type 0 where
-  pub popped : List ℕ
-  pub refused : ℕ
 
 -- the small queues and the large, the threads, the pumps and switches, the cooked ttys and their devices, the gauges,
 -- and the alarms that fired and those left

@@ -19,6 +19,7 @@ use Rattle.end_steps.specs.EndLists.{lines_put_at, lines_taken_at}
 use Rattle.hand_steps.specs.Holdings.{IsFree}
 use Rattle.meters.specs.Handles as meters
 use Rattle.objects.specs.Objects.{AreQuajectsOf, quajects_of}
+use Rattle.objects.specs.DeviceEndings.{DeviceEnded}
 use Rattle.proc_chain.specs.declared.ends.ChainEnd.{ChainEnd}
 use Rattle.proc_chain.specs.declared.ends.ProcChain.{ProcChain}
 use Rattle.proc_chain.specs.declared.quaject.Quaject.{Ghosts}
@@ -27,6 +28,8 @@ use Rattle.processor.specs.declared.shared.Shared.{Shared}
 use Rattle.processor.specs.declared.station.Parts.{Parts}
 use Rattle.processor.specs.Logs.{Entry, Leaves}
 use Rattle.processor.specs.Stations.{ArePartsOf}
+use Rattle.processor.specs.Partings.{AllJoined}
+use Rattle.processor.specs.Preparing.{IsPrepared}
 use Rattle.quajects.specs.declared.any.AnyQuaject.{AnyQuaject}
 use Rattle.quajects.specs.declared.home.Home.{Home}
 use Rattle.quajects.specs.declared.raw.RawTty.{RawTty}
@@ -37,8 +40,7 @@ use Rattle.reports.specs.Agreements.{IsMover, IsTty}
 use Rattle.reports.specs.Boots.{Boot, TtyEnds, small_others, large_others}
 use Rattle.reports.specs.Closed.{Closed}
 use Rattle.reports.specs.Closed as closed
-use Rattle.reports.specs.Endings.{DeviceEnded, small_of, large_of}
-use Rattle.reports.specs.Stations.{AllJoined, IsPrepared}
+use Rattle.reports.specs.Endings.{small_of, large_of}
 use Rattle.table_theory.specs.declared.queues.Batch.{Batch}
 use Rattle.table_theory.specs.Positioned.{blank}
 use Rattle.thread_table.specs.declared.close.Places.{Places}

@@ -2,7 +2,7 @@
 use Rattle.std.specs.Prelude.{◌≡◌, ◌<◌, ◌≤◌, ◌+◌, ◌^◌, ◌==◌, ℕ, true, if◌then◌else◌, List, [], ◌∷◌, map, take}
 use Rattle.std.specs.Prelude.{length, flat_map}
 use Rattle.std.specs.Prelude.{Option, Some, None, slice_index_or}
-use Rattle.std.specs.List.{slice_get, concat, sum_by}
+use Rattle.std.specs.List.{slice_get, sum_by}
 use Rattle.boot_script.specs.declared.boot_plan.BootPlan.{BootPlan}
 use Rattle.boot_script.specs.declared.plan.PlannedMover.{PlannedMover}
 use Rattle.boot_script.specs.declared.plan.PlannedTty.{PlannedTty}
@@ -14,6 +14,7 @@ use Rattle.end_steps.specs.EndLists.{lines_put_at, lines_taken_at}
 use Rattle.hand_steps.specs.Holdings.{IsFree}
 use Rattle.meters.specs.Closings as seats
 use Rattle.meters.specs.Handles as meters
+use Rattle.objects.specs.DeviceEndings.{DeviceEnded}
 use Rattle.proc_chain.specs.declared.ends.ChainEnd.{ChainEnd}
 use Rattle.proc_chain.specs.declared.rule.Pact.{Pact}
 use Rattle.proc_chain.specs.declared.rule.View.{View as ChainView}
@@ -23,19 +24,16 @@ use Rattle.quajects.specs.declared.home.Home.{Home}
 use Rattle.quajects.specs.declared.ports.Port.{Port}
 use Rattle.quajects.specs.declared.world.Queues.{Queues}
 use Rattle.quajects.specs.Homes.{CameHome}
-use Rattle.quajects.specs.Settled.{SettledNow, views_of, runs_of, shuts_of}
-use Rattle.table_theory.specs.declared.queues.Batch.{Batch}
+use Rattle.quajects.specs.Settled.{SettledNow, views_of, shuts_of}
 use Rattle.table_theory.specs.Positioned.{item_of}
 use Rattle.thread_table.specs.declared.places.Place.{Place}
 use Rattle.thread_table.specs.declared.places.Place.TheVariants as places
 use Rattle.thread_table.specs.Closings.{ClosedNow}
 use Rattle.thread_table.specs.Handles.{view_of}
 use Rattle.processor.specs.declared.station.Parts.{Parts}
-use Rattle.reports.specs.Agreements.{IsTty, IsMover, MadeOfNew, AreWithout}
+use Rattle.reports.specs.Agreements.{IsTty, IsMover, MadeOfNew}
 use Rattle.reports.specs.Closed.{Closed}
 use Rattle.reports.specs.Closed as closed
-use mathlib.Core.Option.{some}
-use lib.ListN.{get_elem?}
 
 -- THREADS
 
@@ -124,20 +122,6 @@ pub record MoverEnded (number : ℕ) (p : PlannedMover) (last : Parts) (home : H
   pub ended : ChainEnded (chains.view_of end) home m
   pub of_plan : IsMover p.mover m.quaject
   pub of_new : MadeOfNew m.quaject
-
--- each run starts behind the one before it
-abbrev pub IsAscending : List Batch → Type 0
-IsAscending runs = (i j : ℕ) (e f : Batch) → get_elem? runs i ≡ some e → get_elem? runs j ≡ some f → i < j
-    → e.start < f.start
-
--- A device popped the bytes typed, and put all but those refused at its end of the raw queue, one behind the other; it
--- took nothing there, and shut nothing
-pub record DeviceEnded (p : PlannedTty) (raw : QueueEnd 64) (d : closed.Device) : Type 0 where
-  pub popped : d.popped ≡ p.typed
-  pub put : AreWithout d.popped d.refused (concat (lines_put (queues.view_of raw)))
-  pub ascends : IsAscending (runs_of (queues.view_of raw))
-  pub took_none : lines_taken (queues.view_of raw) ≡ []
-  pub shut_none : shuts_of (queues.view_of raw) ≡ 0
 
 -- a tty: its cooked tty, and its device
 pub record TtyEnded (many tty : ℕ) (p : PlannedTty) (v : ChainView) (home : Home) (t : closed.Chain)

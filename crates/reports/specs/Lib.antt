@@ -4,7 +4,6 @@ pub mod Closed
 pub mod Lines
 pub mod Agreements
 pub mod Reports
-pub mod Stations
 pub mod Endings
 pub mod Boots
 pub mod Closings

@@ -19,6 +19,8 @@ ghost use Rattle.processor.specs.declared.station.Parts.{Parts};
 ghost use Rattle.processor.specs.Logs.{Entry, Leaves, fired_by};
 ghost use Rattle.processor.specs.Running.{Line};
 ghost use Rattle.processor.specs.Turns.{heard_lines};
+ghost use Rattle.processor.specs.Partings.{AllJoined};
+ghost use Rattle.processor.specs.Preparing.{IsPrepared};
 ghost use Rattle.reports.specs.Agreements.{SmallAgrees, LargeAgrees, ThreadAgrees, GaugesAgree, AlarmsAgree};
 ghost use Rattle.reports.specs.Agreements.{MoverAgrees};
 ghost use Rattle.reports.specs.Boots.{Boot, BootEnded};
@@ -31,7 +33,6 @@ ghost use Rattle.reports.specs.Lines.{Says};
 ghost use Rattle.reports.specs.Reports.{Ascend, IsReport};
 ghost use Rattle.reports.specs.Saying.{AllEnded, IsNeverClosed, IsNeverShutSmall, IsNeverShutLarge};
 ghost use Rattle.reports.specs.Saying.{SmallIsSaid, LargeIsSaid};
-ghost use Rattle.reports.specs.Stations.{AllJoined, IsPrepared};
 ghost use Rattle.reports.specs.Wholes.{KeptShares};
 
 /// A queue that was closed by all its ends has the lines that the processors' logs tell, in their order; and cut by

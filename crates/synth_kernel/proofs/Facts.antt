@@ -4,19 +4,20 @@ use Rattle.std.proofs.lemmas.List.{length-map}
 use Rattle.std.specs.List.{AllZip}
 use Rattle.boot_script.specs.declared.plan.PlannedTty.{PlannedTty}
 use Rattle.boot_script.specs.QueueLists.{raw_queue}
-use Rattle.closing.specs.RawEnds.{AreRawsOf, IsRawAt}
+use Rattle.closing.specs.RawEnds.{AreRawsOf}
 use Rattle.end_steps.specs.declared.gate.Point.{Point}
 use Rattle.end_steps.specs.EndLists.{end_share, chain_end_share}
 use Rattle.end_steps.specs.Splits.{AllThree}
 use Rattle.objects.specs.declared.device.Device.{Device}
 use Rattle.objects.specs.Devices.{AreDevicesOf}
+use Rattle.objects.specs.DeviceEndings.{DeviceEnded}
 use Rattle.processor.specs.declared.shared.Shared.{Shared}
+use Rattle.processor.specs.RawEnds.{IsRawAt}
 use Rattle.quajects.specs.declared.raw.RawTty.{RawTty}
 use Rattle.quajects.specs.Raws.{end_of}
 use Rattle.reporting.specs.declared.ttys.Typed.{Typed}
 use Rattle.reporting.specs.Shown.{ShowsDevice, ShowsDevices}
 use Rattle.reports.specs.Closed as closed
-use Rattle.reports.specs.Endings.{DeviceEnded}
 use Rattle.spsc_line.specs.declared.line_in.LineIn.{LineIn}
 use Rattle.spsc_line.specs.declared.line_out.LineOut.{LineOut}
 use Rattle.spsc_line.specs.Lines.{IsLine, bytes_received}

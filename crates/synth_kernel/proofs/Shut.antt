@@ -18,12 +18,12 @@ use Rattle.processor.specs.Programs.{hear_count}
 use Rattle.processor.specs.Stations.{ArePartsOf}
 use Rattle.processor.specs.Turns.{heard_lines}
 use Rattle.processor.specs.Running.{Line}
+use Rattle.processor.specs.Partings.{AllJoined}
 use Rattle.quajects.specs.declared.raw.RawTty.{RawTty}
 use Rattle.reporting.specs.declared.ttys.Typed.{Typed}
 use Rattle.reporting.specs.Reported.{IsReported}
 use Rattle.reporting.proofs.Shutting.{ends, heard_is_few}
 use Rattle.reports.specs.Closings.{BootShut, closed_shut}
-use Rattle.reports.specs.Stations.{AllJoined}
 use Rattle.reports.proofs.Booting.{report_agrees}
 use Rattle.reports.proofs.Wholes.{has_wholes}
 use Rattle.spsc_line.specs.declared.line_in.LineIn.{LineIn}

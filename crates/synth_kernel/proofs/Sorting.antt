@@ -1,10 +1,9 @@
 -- What the threads gave back, one more.
 use Rattle.std.proofs.Common.{◌≡◌, ◌≤◌, append-nil, length-append, ℕ, false, List, [], ◌∷◌, ◌++◌, length, Option, Some, None, refl, sym, ap, subst, ◌∙◌, arith}
 use Rattle.processor.specs.declared.station.Parts.{Parts}
-use Rattle.processor.specs.Partings.{AreJoined}
+use Rattle.processor.specs.Partings.{AreJoined, AllJoined}
 use Rattle.kernel_threads.specs.declared.work.Worked.{Worked}
 use Rattle.kernel_threads.specs.declared.work.Worked.TheVariants as worked
-use Rattle.reports.specs.Stations.{AllJoined}
 use Rattle.synth_kernel.specs.Gatherings.{stations_in, served_in, all_there}
 
 pub stations_append : (xs ys : List (Option Worked)) → stations_in (xs ++ ys) ≡ stations_in xs ++ stations_in ys

@@ -10,8 +10,8 @@ use Rattle.objects.specs.Objects.{AreQuajectsOf, HaveAll, IsFirstHand, IsFirstSe
 use Rattle.processor.specs.declared.shared.Shared.{Shared}
 use Rattle.processor.specs.declared.station.Parts.{Parts}
 use Rattle.processor.specs.Stations.{ArePartsOf}
+use Rattle.processor.specs.Preparing.{IsPrepared}
 use Rattle.reporting.specs.Rooms as reporting
-use Rattle.reports.specs.Stations.{IsPrepared}
 use Rattle.thread_table.specs.Handles.{view_of}
 use Rattle.kernel_threads.specs.declared.work.Work.{Work}
 use Rattle.kernel_threads.specs.Readiness.{AreServing, HasPrepared, input_of}

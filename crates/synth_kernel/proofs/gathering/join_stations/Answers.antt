@@ -4,9 +4,9 @@ use Rattle.std.proofs.lemmas.List.{map-append}
 use Rattle.std.specs.Vec.Iter.{into_iter_items}
 use Rattle.processor.specs.declared.station.Parts.{Parts}
 use Rattle.processor.specs.Stations.{ArePartsOf}
-use Rattle.reports.specs.Stations.{AllJoined}
 use Rattle.kernel_threads.specs.Backs.{parts_of}
 use Rattle.processor.specs.Turns.{heard_lines}
+use Rattle.processor.specs.Partings.{AllJoined}
 use Rattle.reporting.specs.Reported.{lines_of}
 use Rattle.synth_kernel.proofs.Sorting.{joined_more}
 use Rattle.synth_kernel.proofs.Placing.{here}

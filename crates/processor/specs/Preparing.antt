@@ -1,5 +1,5 @@
--- The stations of a boot: the first one, which prepared the threads, and those of the processors, which it took in.
-use Rattle.std.specs.Prelude.{◌≡◌, ◌≤◌, ℕ, List, [], ◌∷◌, length}
+-- The first station of a boot, which prepared the threads.
+use Rattle.std.specs.Prelude.{◌≡◌, ◌≤◌, ℕ, [], length}
 use Rattle.std.specs.List.{AllByRecursion}
 use Rattle.boot_script.specs.declared.boot_plan.BootPlan.{BootPlan}
 use Rattle.end_steps.specs.EndLists.{lines_put_at, lines_taken_at, notes_put_at, notes_taken_at, shuts_at}
@@ -8,15 +8,8 @@ use Rattle.meters.specs.Handles as meters
 use Rattle.thread_table.specs.Handles.{view_of}
 use Rattle.thread_table.specs.Schedules.{elements_after, line_at}
 use Rattle.processor.specs.declared.station.Parts.{Parts}
-use Rattle.processor.specs.Partings.{AreJoined}
 use Rattle.processor.specs.Programs.{Key, program}
 use Rattle.processor.specs.Stations.{no_signals}
-
--- each of the stations was joined, in this order
-abbrev pub AllJoined : Parts → List Parts → Parts → Type 0
-AllJoined first [] last = last ≡ first
-AllJoined first (station ∷ stations) last =
-    (next : Parts) × AreJoined first station next × AllJoined next stations last
 
 -- an element that had done so many steps had no more to do
 abbrev pub HasDoneAll : BootPlan → Key → Type 0

@@ -1,10 +1,19 @@
-# make: proves and builds the program where it is missing or older than its sources
+# make: proves and builds the programs where one is missing or older than its sources
 # make test: the gate. The last line is that of `rt ci`, and so is the status.
+
+# No source is made from another, and to look for such rules takes seconds.
+MAKEFLAGS += --no-builtin-rules
+
+programs := crates/synthesis/out/synthesis crates/draw/out/draw
+# Folders count too, since a file may have been taken away.
+sources := $(shell find crates/*/src crates/*/specs crates/*/proofs crates.txt HANDLES)
 
 .PHONY: all test
 
-all:
-	tools/build
+all: $(programs)
+
+$(programs) &: $(sources)
+	tools/prove
 
 test:
 	tools/gate

@@ -5,8 +5,8 @@ ghost use Rattle.processor.specs.Preparing.{IsPrepared};
 
 use boot_script::parse_boot;
 use end_steps::NoGate;
+use first_station::{Objects, make_objects};
 use kernel_threads::*;
-use objects::{Objects, make_objects};
 use processor::{Shared, Station};
 use spsc_line::LineIn;
 use std::alloc::Global;

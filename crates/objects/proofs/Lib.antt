@@ -3,8 +3,6 @@ pub mod Stocks
 pub mod Ways
 pub mod Plans
 pub mod Homes
-pub mod Idle
-pub mod Firsts
 pub mod Fresh
 pub mod Lists
 pub mod LargeEnds

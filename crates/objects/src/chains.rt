@@ -9,9 +9,9 @@ use quaject_core::OutOfMemory;
 use quajects::{AnyQuaject, Queues};
 use std::alloc::Global;
 
-pub(crate) type Chain = ProcChain<AnyQuaject>;
+pub type Chain = ProcChain<AnyQuaject>;
 
-pub(crate) type End = ChainEnd<AnyQuaject>;
+pub type End = ChainEnd<AnyQuaject>;
 
 // A chain with this quaject, and its only end.
 fn make_chain(

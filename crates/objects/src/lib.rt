@@ -1,11 +1,10 @@
-//! The objects of a plan, made before any thread starts: queues, quajects in their chains, devices with their lines, the
-//! thread table, the meters, and the station of the first processor.
+//! The objects of a plan that lines and notes go through, made before any thread starts: queues, quajects in their chains,
+//! and devices with their lines.
 #![tactic(auto)]
 
 mod chains;
 mod device;
 mod laws;
-mod making;
 mod movers;
 mod quaject_list;
 mod queue_list;
@@ -15,4 +14,4 @@ mod ttys;
 
 pub use device::Device;
 pub use laws::shares_come_home;
-pub use making::{Objects, make_objects};
+pub use stocked::{Stocked, make_stocked};

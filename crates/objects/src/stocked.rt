@@ -14,18 +14,18 @@ use std::alloc::Global;
 
 /// The queues, chains and devices of a plan, and an end of each queue and chain.
 #[derive(Drop)]
-pub(crate) struct Stocked {
-    pub(crate) queues: Queues,
-    pub(crate) small: Vec<QueueEnd<64>>,
-    pub(crate) large: Vec<QueueEnd<256>>,
-    pub(crate) chains: Vec<Chain>,
-    pub(crate) ends: Vec<End>,
-    pub(crate) devices: Vec<Device>,
+pub struct Stocked {
+    pub queues: Queues,
+    pub small: Vec<QueueEnd<64>>,
+    pub large: Vec<QueueEnd<256>>,
+    pub chains: Vec<Chain>,
+    pub ends: Vec<End>,
+    pub devices: Vec<Device>,
 }
 
 /// The queues of the plan, a chain for each of its quajects, a device for each of its ttys, and an end of each queue and
 /// chain. `OutOfMemory` comes only where an allocation was refused.
-pub(crate) fn make_stocked(alloc: Global, plan: &BootPlan) -> Result<Stocked, OutOfMemory>
+pub fn make_stocked(alloc: Global, plan: &BootPlan) -> Result<Stocked, OutOfMemory>
     ensures { IfOk result (λ s. AreStocked plan.now s.queues s.small.items s.large.items s.chains.items s.ends.items
         s.devices.items) }
 {

@@ -1,7 +1,7 @@
 //! The objects of a script.
 
 use boot_script::{ScriptRefusal, parse_boot};
-use objects::make_objects;
+use first_station::make_objects;
 use quaject_core::OutOfMemory;
 use std::panic::Expect;
 use std::test::*;

@@ -6,9 +6,9 @@ use Rattle.thread_table.specs.declared.hand.Hand.{Hand}
 use Rattle.thread_table.specs.Handles as threads
 use Rattle.objects.specs.Objects.{HaveDoneNothing, HaveNotedNothing, IsFirstHand}
 use Rattle.objects.specs.Stocks.{CanGive, shares, chain_shares}
-use Rattle.objects.proofs.Firsts.{first_hand}
-use Rattle.objects.proofs.Idle.{ends_of, chain_ends_of, done_nothing, noted_nothing}
-use Rattle.objects.proofs.making.make_objects.Goals as goal
+use Rattle.first_station.proofs.Firsts.{first_hand}
+use Rattle.first_station.proofs.Idle.{ends_of, chain_ends_of, done_nothing, noted_nothing}
+use Rattle.first_station.proofs.make_objects.Goals as goal
 
 pub returns-in-Ok-clause-parts : goal.returns-in-Ok-clause-parts
 returns-in-Ok-clause-parts c = let e = c.in-Ok.ensures.ends in let s = c.in_ok-queues.ensures in let made = c.in_ok-queues.field-0 in record {

@@ -1,4 +1,6 @@
-//! All objects of a plan.
+//! All objects of a plan, and the station of the first processor, which has an end of each.
+#![tactic(auto)]
+
 ghost use Rattle.std.specs.Prelude.{◌≡◌, IfOk};
 ghost use Rattle.processor.specs.Rooms.{HasRoom};
 ghost use Rattle.processor.specs.Stations.{ArePartsOf, IsUnused};
@@ -7,10 +9,9 @@ ghost use Rattle.objects.specs.Objects.{AreQuajectsOf, BeginAtZero, HaveAll, qua
 ghost use Rattle.objects.specs.Objects.{HaveDoneNothing, HaveNotedNothing, IsFirstHand, IsFirstSeat};
 ghost use Rattle.objects.specs.Stocks.{CanGive, shares, chain_shares};
 
-use crate::device::Device;
-use crate::stocked::{Stocked, make_stocked};
 use boot_script::BootPlan;
 use meters::Meters;
+use objects::{Device, Stocked, make_stocked};
 use processor::{Shared, Station};
 use quaject_core::OutOfMemory;
 use std::alloc::Global;

@@ -1,0 +1,37 @@
+//! A station where memory is refused.
+
+use super::*;
+use crate::fixtures::scripts::plan_if_given;
+use std::test::*;
+
+/// Boots once, and says whether there was memory.
+fn boots<R: Abort + Wait>(rt: &R, alloc: Global, p: Processor) -> bool {
+    let Some(plan) = plan_if_given(rt, alloc, SAID) else {
+        return false;
+    };
+    let (shared, station) = match stand(rt, alloc, plan, p) {
+        Ok(made) => made,
+        Err(error) => {
+            assert!(rt; error == OutOfMemory);
+            return false;
+        }
+    };
+    let station = run(rt, &shared, station, p, 2, &mut NoGate);
+    let ended = close_all(rt, shared, station.into_parts());
+    check_states(rt, &ended, &[at(Place::Free, 2)]);
+    assert!(rt; ended.heard.len() == 1);
+    true
+}
+
+/// Where an allocation is refused a boot has no memory, or goes on with the ends that came back; others go on.
+#[test]
+fn memory_may_be_wanting(rt: HostRuntime) {
+    let p = processor(&rt, 0);
+    let mut booted = 0u8;
+    for _ in 0..3u8 {
+        if boots(&rt, rt.alloc(), p) {
+            booted = booted.wrapping_add(1);
+        }
+    }
+    assert!(rt; booted >= 2);
+}

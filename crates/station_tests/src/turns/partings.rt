@@ -1,0 +1,115 @@
+//! A station that is split for another processor, and joined again.
+ghost use Rattle.std.specs.Prelude.{◌≡◌};
+ghost use Rattle.thread_table.specs.Handles.{view_of};
+ghost use Rattle.hand_steps.specs.Holdings.{IsFree};
+ghost use Rattle.end_steps.specs.EndLists.{AreEndsOf};
+ghost use Rattle.processor.specs.Partings.{AreDivisible};
+ghost use Rattle.processor.specs.Rooms.{HasRoom};
+ghost use Rattle.processor.specs.Stations.{ArePartsOf};
+
+use super::stands::{first_station, make_queues, readied};
+use super::*;
+use std::test::*;
+
+/// A station for one processor more, split off this one, on which nothing stands.
+fn split_for<R: Abort>(
+    rt: &R,
+    alloc: Global,
+    shared: &Shared,
+    station: Station,
+    q: Processor,
+) -> (Station, Station)
+    requires parts { ArePartsOf shared.now station.parts }
+    requires divisible { AreDivisible station.parts }
+    ensures heard { result.0.parts.heard ≡ station.parts.heard }
+    ensures parts { ArePartsOf shared.now result.0.parts × ArePartsOf shared.now result.1.parts }
+    ensures free { IsFree q (view_of result.1.parts.hand) }
+    ensures room { HasRoom shared.now.plan result.1.parts }
+{
+    let mut station = freed(rt, station, q);
+    let Ok(other) = station.split(alloc, shared, 1 << q.number()) else {
+        panic!(rt; "memory")
+    };
+    (station, freed(rt, other, q))
+}
+
+/// What two processors of a plan share that has no ttys, pumps and switches, and the station of each: an element is ready
+/// for each thread.
+pub(super) fn stand_two<R: Abort + Wait>(
+    rt: &R,
+    alloc: Global,
+    plan: BootPlan,
+    p: Processor,
+    q: Processor,
+) -> (Shared, Station, Station)
+    ensures parts { ArePartsOf result.0 result.1.parts × ArePartsOf result.0 result.2.parts }
+    ensures free { IsFree p (view_of result.1.parts.hand) × IsFree q (view_of result.2.parts.hand) }
+    ensures room { HasRoom result.0.plan result.1.parts × HasRoom result.0.plan result.2.parts }
+{
+    let Ok(ways) = make_queues(alloc, plan.queues.as_slice().len()) else {
+        panic!(rt; "memory")
+    };
+    let Ok((shared, first)) = first_station(rt, alloc, plan, (0, 0), ways) else {
+        panic!(rt; "memory")
+    };
+    let (first, other) = split_for(rt, alloc, &shared, first, q);
+    let one = readied(rt, &shared, first, p);
+    (shared, one, other)
+}
+
+/// Closes the last queue of a list: how many items were put, and taken, and are left.
+fn close_last<R: Abort>(
+    rt: &R,
+    queues: Vec<ClaimQueue<64>>,
+    ends: Vec<QueueEnd<64>>,
+) -> (u32, u32, usize)
+    requires { AreEndsOf queues.items ends.items }
+{
+    let (mut queues, mut ends) = (queues, ends);
+    let (Some(queue), Some(end)) = (queues.pop(), ends.pop()) else {
+        panic!(rt; "a queue")
+    };
+    let Ok(closed) = queue.close(end) else {
+        panic!(rt; "queue")
+    };
+    (closed.put, closed.taken, closed.left.len())
+}
+
+const BOTH: &[u8] = b"synthesis 2
+queue q
+gauge g
+thread a
+say q xy
+thread b
+hear q
+tick g 3
+more a
+signal b 4
+tick g 2
+";
+
+/// What two stations did is in one once they are joined: the line that the one said and the other heard, the signal that
+/// the other delivered, and the ticks of both. What the other heard comes back; and all closes.
+#[test]
+fn split_and_joined(rt: HostRuntime) {
+    let plan = plan_of(&rt, rt.alloc(), BOTH);
+    let (p, q) = (processor(&rt, 0), processor(&rt, 1));
+    let (shared, one, other) = stand_two(&rt, rt.alloc(), plan, p, q);
+    let one = run(&rt, &shared, one, p, 1, &mut NoGate);
+    let other = run(&rt, &shared, other, q, 1, &mut NoGate);
+    let one = run(&rt, &shared, one, p, 1, &mut NoGate);
+    let other = run(&rt, &shared, other, q, 1, &mut NoGate);
+    let one = run(&rt, &shared, one, p, 1, &mut NoGate);
+    let (mut one, heard, mask) = told(one, 1);
+    assert!(rt; (heard, mask) == (0, 0));
+    let (other, heard, mask) = told(other, 1);
+    assert!(rt; (heard, mask) == (1, 16));
+    let lines = one.join(&shared, other);
+    check_lines(&rt, lines.as_slice(), &[(1, 0, b"xy\n")]);
+    let ended = close_all(&rt, shared, one.into_parts());
+    assert!(rt; ended.heard.len() == 0);
+    let other = signalled(at(Place::Free, 2), 16, 0);
+    check_states(&rt, &ended, &[at(Place::Free, 3), other]);
+    assert!(rt; ended.metered.gauges[0] == 5);
+    assert!(rt; close_last(&rt, ended.queues, ended.ends) == (3, 3, 0));
+}

@@ -4,3 +4,4 @@ pub mod Facts
 pub mod Placing
 pub mod Shut
 pub mod Sorting
+pub mod Stopping

@@ -43,7 +43,7 @@ use Rattle.kernel_threads.proofs.Returning.{posts_first}
 use Rattle.kernel_threads.proofs.Reunion.{came_together, gates_told}
 use Rattle.synth_kernel.specs.declared.gathering.Served.{Served}
 use Rattle.synth_kernel.specs.declared.ready.Ready.{Ready}
-use Rattle.synth_kernel.specs.Boots.{IsBootOf, IsLogOf, AreLogsOf}
+use Rattle.synth_kernel.specs.Boots.{IsBootOf, AreLogsOf}
 use Rattle.synth_kernel.specs.Gatherings.{stations_in, served_in, all_there, tty_of, IsTold}
 use Rattle.synth_kernel.specs.Readies.{IsReady}
 use Rattle.synth_kernel.proofs.Backs.{Sorted, few_back, sort_back, stations_are, served_are, first_back}
@@ -183,55 +183,42 @@ module _ {G : Type 0} (T : G → ℕ → Point → G → Type 0) (plan : BootPla
               agrees = report_agrees _ _ _ _ _ _ e;
             })
 
-    -- the same of the lists that were sorted out
-    module _ (stations : List Station) (served : List Served) (se : stations ≡ stations_in backs) (de : served ≡ served_in backs) where
-      same_s : its.stations ≡ stations
-      same_s = sym (se ∙ stations_came)
+    -- the same of the lists that are sorted out
+    pub lines_sorted : AllZip (λ (one : Served) (input : LineIn). IsLine input one.line) (served_in backs) inputs
+    lines_sorted = subst (λ (z : List Served). AllZip (λ (one : Served) (input : LineIn). IsLine input one.line) z inputs) (sym served_came) lines_came
 
-      same_d : its.served ≡ served
-      same_d = sym (de ∙ served_came)
+    pub parts_sorted : All (ArePartsOf ready.shared) (map parts_of (stations_in backs))
+    parts_sorted = subst (λ (z : List Station). All (ArePartsOf ready.shared) (map parts_of z)) (sym stations_came) parts_came
 
-      pub lines_sorted : AllZip (λ (one : Served) (input : LineIn). IsLine input one.line) served inputs
-      lines_sorted = subst (λ (z : List Served). AllZip (λ (one : Served) (input : LineIn). IsLine input one.line) z inputs) same_d lines_came
+    module _ (ttys : List RawTty) (te : ttys ≡ map tty_of (served_in backs)) where
+      same_t : ttys ≡ map tty_of its.served
+      same_t = te ∙ ap (map tty_of) served_came
 
-      pub parts_sorted : All (ArePartsOf ready.shared) (map parts_of stations)
-      parts_sorted = subst (λ (z : List Station). All (ArePartsOf ready.shared) (map parts_of z)) same_s parts_came
+      pub raws_sorted : AreRawsOf ready.shared ttys
+      raws_sorted = subst (AreRawsOf ready.shared) (sym same_t) raws_came
 
-      pub few_served : length served ≤ length ready.shared.plan.ttys
-      few_served = let l = ap length de in let f = few_came.1 in omega arith
+      module _ (last : Parts) (joined : AllJoined ready.station.parts (map parts_of (stations_in backs)) last) where
+        joined_same : AllJoined ready.station.parts (map parts_of its.stations) last
+        joined_same = subst (λ (z : List Station). AllJoined ready.station.parts (map parts_of z) last) stations_came joined
 
-      pub few_stations : length stations ≤ length gates
-      few_stations = let l = ap length se in let f = few_came.0 in omega arith
+        took_same : (parts : Parts) → TookRaws (length ready.shared.plan.queues) (length ready.shared.plan.movers) ttys last parts
+            → TookRaws (length ready.shared.plan.queues) (length ready.shared.plan.movers) (map tty_of its.served) last parts
+        took_same parts took = subst (λ (z : List RawTty). TookRaws (length ready.shared.plan.queues) (length ready.shared.plan.movers) z last parts) same_t took
 
-      module _ (ttys : List RawTty) (te : ttys ≡ map tty_of served) where
-        same_t : ttys ≡ map tty_of its.served
-        same_t = te ∙ ap (map tty_of) (sym same_d)
+        pub wholes_sorted : (parts : Parts) → ArePartsOf ready.shared parts → TookRaws (length ready.shared.plan.queues) (length ready.shared.plan.movers) ttys last parts → HasWholes ready.shared parts
+        wholes_sorted parts are took = wholes last joined_same parts are (took_same parts took)
 
-        pub raws_sorted : AreRawsOf ready.shared ttys
-        raws_sorted = subst (AreRawsOf ready.shared) (sym same_t) raws_came
+        module _ (some : 1 ≤ length gates) (its_parts : ArePartsOf ready.shared last) (told : List Typed) (tolds : AllThree IsTold (served_in backs) inputs told) (parts : Parts)
+            (took : TookRaws (length ready.shared.plan.queues) (length ready.shared.plan.movers) ttys last parts) (ended : Ended) (closes : AllClosed ready.shared parts ended) where
+          tolds_same : AllThree IsTold its.served inputs told
+          tolds_same = subst (λ (z : List Served). AllThree IsTold z inputs told) served_came tolds
 
-        module _ (last : Parts) (joined : AllJoined ready.station.parts (map parts_of stations) last) where
-          joined_same : AllJoined ready.station.parts (map parts_of its.stations) last
-          joined_same = subst (λ (z : List Station). AllJoined ready.station.parts (map parts_of z) last) (sym same_s) joined
+          pub few_sorted : (lines : List Line) → lines ≡ flat_map heard_lines (map parts_of (stations_in backs)) → length lines ≤ hear_count ended.plan
+          few_sorted lines e =
+              let f = few_lines last joined_same some its_parts told tolds_same parts (took_same parts took) ended closes in
+              subst (λ (z : BootPlan). length lines ≤ hear_count z) (sym closes.rest.2)
+              (subst (λ (z : List Line). length z ≤ hear_count ready.shared.plan) (ap (λ (z : List Station). flat_map heard_lines (map parts_of z)) (sym stations_came) ∙ sym e) f)
 
-          took_same : (parts : Parts) → TookRaws (length ready.shared.plan.queues) (length ready.shared.plan.movers) ttys last parts
-              → TookRaws (length ready.shared.plan.queues) (length ready.shared.plan.movers) (map tty_of its.served) last parts
-          took_same parts took = subst (λ (z : List RawTty). TookRaws (length ready.shared.plan.queues) (length ready.shared.plan.movers) z last parts) same_t took
-
-          pub wholes_sorted : (parts : Parts) → ArePartsOf ready.shared parts → TookRaws (length ready.shared.plan.queues) (length ready.shared.plan.movers) ttys last parts → HasWholes ready.shared parts
-          wholes_sorted parts are took = wholes last joined_same parts are (took_same parts took)
-
-          module _ (some : 1 ≤ length gates) (its_parts : ArePartsOf ready.shared last) (told : List Typed) (tolds : AllThree IsTold served inputs told) (parts : Parts)
-              (took : TookRaws (length ready.shared.plan.queues) (length ready.shared.plan.movers) ttys last parts) (ended : Ended) (closes : AllClosed ready.shared parts ended) where
-            tolds_same : AllThree IsTold its.served inputs told
-            tolds_same = subst (λ (z : List Served). AllThree IsTold z inputs told) (sym same_d) tolds
-
-            pub few_sorted : (lines : List Line) → lines ≡ flat_map heard_lines (map parts_of stations) → length lines ≤ hear_count ended.plan
-            few_sorted lines e =
-                let f = few_lines last joined_same some its_parts told tolds_same parts (took_same parts took) ended closes in
-                subst (λ (z : BootPlan). length lines ≤ hear_count z) (sym closes.rest.2)
-                (subst (λ (z : List Line). length z ≤ hear_count ready.shared.plan) (ap (λ (z : List Station). flat_map heard_lines (map parts_of z)) same_s ∙ sym e) f)
-
-            pub booted_sorted : (lines : List Line) → lines ≡ flat_map heard_lines (map parts_of stations) → (report : Report) → IsReported ended lines told report → IsBootOf T plan turns gates report
-            booted_sorted lines e report reported = booted last joined_same some its_parts told tolds_same parts (took_same parts took) ended closes report
-                (subst (λ (z : List Line). IsReported ended z told report) (e ∙ ap (λ (z : List Station). flat_map heard_lines (map parts_of z)) (sym same_s)) reported)
+          pub booted_sorted : (lines : List Line) → lines ≡ flat_map heard_lines (map parts_of (stations_in backs)) → (report : Report) → IsReported ended lines told report → IsBootOf T plan turns gates report
+          booted_sorted lines e report reported = booted last joined_same some its_parts told tolds_same parts (took_same parts took) ended closes report
+              (subst (λ (z : List Line). IsReported ended z told report) (e ∙ ap (λ (z : List Station). flat_map heard_lines (map parts_of z)) stations_came) reported)

@@ -1,13 +1,23 @@
 -- What the threads of a kernel gave back, sorted and joined.
-use Rattle.std.specs.Prelude.{◌≡◌, ◌++◌, ◌%◌, ◌^◌, length, List, [], ◌∷◌, Option, Some, None, Bool, true, false}
+use Rattle.std.specs.Prelude.{◌≡◌, ◌≤◌, ◌++◌, ◌%◌, ◌^◌, map, flat_map, length, vec_capacity, List, [], ◌∷◌, Option, Some, None}
+use Rattle.std.specs.Prelude.{Bool, true, false}
+use Rattle.end_steps.specs.Splits.{AllThree}
+use Rattle.processor.specs.declared.shared.Shared.{Shared}
 use Rattle.processor.specs.declared.station.Station.{Station}
+use Rattle.processor.specs.Partings.{AllJoined}
+use Rattle.processor.specs.Stations.{ArePartsOf}
+use Rattle.processor.specs.Turns.{heard_lines}
 use Rattle.quajects.specs.declared.raw.RawTty.{RawTty}
 use Rattle.kernel_threads.specs.declared.work.Worked.{Worked}
 use Rattle.kernel_threads.specs.declared.work.Worked.TheVariants as worked
+use Rattle.kernel_threads.specs.Backs.{parts_of}
 use Rattle.quajects.specs.Raws.{overruns_of}
+use Rattle.reporting.specs.Reported.{lines_of}
 use Rattle.reporting.specs.declared.ttys.Typed.{Typed}
 use Rattle.spsc_line.specs.declared.line_in.LineIn.{LineIn}
 use Rattle.spsc_line.specs.Lines.{bytes_sent, bytes_received, bytes_left}
+use Rattle.synth_kernel.specs.declared.gathering.Gathered.{Gathered}
+use Rattle.synth_kernel.specs.declared.gathering.Lists.{Lists}
 use Rattle.synth_kernel.specs.declared.gathering.Served.{Served}
 
 -- the stations that came back, in their order
@@ -39,3 +49,22 @@ pub record IsTold (served : Served) (input : LineIn) (told : Typed) : Type 0 whe
   pub whole : bytes_received served.line ++ bytes_left input served.line ≡ bytes_sent input
   pub popped : told.popped ≡ length (bytes_received served.line) % 2 ^ 64
   pub refused : told.refused ≡ overruns_of served.tty
+
+-- the lists are empty, and have room for what is sorted out of all that came back, and for what is made of it
+pub record HaveRoomFor (backs : List (Option Worked)) (lists : Lists) : Type 0 where
+  pub stations : (lists.stations.items ≡ []) × (length (stations_in backs) ≤ vec_capacity lists.stations)
+  pub served : (lists.served.items ≡ []) × (length (served_in backs) ≤ vec_capacity lists.served)
+  pub ttys : (lists.ttys.items ≡ []) × (length (served_in backs) ≤ vec_capacity lists.ttys)
+  pub heards : (lists.heards.items ≡ []) × (length (stations_in backs) ≤ vec_capacity lists.heards)
+  pub told : (lists.told.items ≡ []) × (length (served_in backs) ≤ vec_capacity lists.told)
+
+-- Each thread gave something back. The stations were joined to the first, which is then the last, and what they heard is
+-- there. The raw ttys are there, and what each device did, by its input
+pub record IsGathered (shared : Shared) (first : Station) (backs : List (Option Worked)) (inputs : List LineIn)
+    (gathered : Gathered) : Type 0 where
+  pub all : all_there backs ≡ true
+  pub parts : ArePartsOf shared gathered.station.parts
+  pub joined : AllJoined first.parts (map parts_of (stations_in backs)) gathered.station.parts
+  pub heard : flat_map lines_of gathered.heards.items ≡ flat_map heard_lines (map parts_of (stations_in backs))
+  pub ttys : gathered.ttys.items ≡ map tty_of (served_in backs)
+  pub told : AllThree IsTold (served_in backs) inputs gathered.told.items

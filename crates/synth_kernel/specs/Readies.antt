@@ -59,3 +59,8 @@ pub record IsReady {G : Type 0} (plan : BootPlan) (turns : ℕ) (gates : List G)
   pub none_on : NoneOn ready.station.parts
   pub free : (k : ℕ) → length gates ≤ k → k < 8 → IsFree k (view_of ready.station.parts.hand)
   pub room : HasPlaces ready.shared (length gates) ready.room
+
+-- all is ready for so many processors, with some gate for each and some number of turns
+abbrev pub IsReadyFor : {G : Type 0} → ℕ → Ready G → Type 0
+IsReadyFor {G} processors ready =
+    (turns : ℕ) × (gates : List G) × (processors ≡ length gates) × IsReady ready.shared.plan turns gates ready

@@ -3,12 +3,12 @@ ghost use Rattle.std.specs.Prelude.{◌≤◌, vec_len, IfOk};
 ghost use Rattle.kernel_threads.specs.Works.{AllToldTurns};
 ghost use Rattle.synth_kernel.specs.Boots.{IsBootOf};
 
-use crate::gathering::{finish_all, join_stations, sort_backs};
-use crate::ready::{Ready, Room, get_ready};
+use crate::gathering::Gathered;
+use crate::ready::get_ready;
+use crate::running::{Stopped, run_threads};
+use crate::shutting::shut_down;
 use boot_script::{BootPlan, Report};
-use closing::{close_all, join_raws};
 use end_steps::Gate;
-use kernel_threads::run_kernel;
 use quaject_core::OutOfMemory;
 use reporting::report_boot;
 use std::alloc::Global;
@@ -34,35 +34,20 @@ where
     ensures told { IfOk result (λ report. AllToldTurns G.told 0 turns gates.items) }
 {
     let processors = gates.len();
-    let Ready {
+    let ready = get_ready(rt, alloc, plan, turns, gates)?;
+    let stopped = run_threads(rt, alloc, ready, processors)?;
+    let Stopped {
         shared,
-        station,
-        works,
-        inputs,
-        room,
-    } = get_ready(rt, alloc, plan, turns, gates)?;
-    let Room {
-        backs,
-        typed,
-        stations,
-        served,
-        ttys,
-        heards,
-        told,
+        gathered,
         answers,
         report,
-    } = room;
-    let handles = Vec::with_capacity(alloc, works.len())?;
-    let (backs, inputs) = run_kernel(
-        rt, &shared, works, processors, handles, backs, inputs, typed,
-    );
-    let Some((stations, served)) = sort_backs(backs, stations, served) else {
-        return Err(OutOfMemory);
-    };
-    let (ttys, told) = finish_all(inputs, served, ttys, told);
-    let (station, heards) = join_stations(&shared, station, stations, heards);
-    let mut parts = station.into_parts();
-    join_raws(&shared, &mut parts, ttys);
-    let ended = close_all(shared, parts, answers);
+    } = stopped;
+    let Gathered {
+        station,
+        heards,
+        ttys,
+        told,
+    } = gathered;
+    let ended = shut_down(shared, station, ttys, answers);
     Ok(report_boot(ended, heards, told.as_slice(), report))
 }

@@ -6,7 +6,7 @@ ghost use Rattle.kernel_threads.specs.Backs.{parts_of};
 ghost use Rattle.processor.specs.Turns.{heard_lines};
 ghost use Rattle.processor.specs.Partings.{AllJoined};
 ghost use Rattle.reporting.specs.Reported.{lines_of};
-ghost use Rattle.synth_kernel.specs.Gatherings.{stations_in, served_in, all_there, tty_of, IsTold};
+ghost use Rattle.synth_kernel.specs.Gatherings.{stations_in, served_in, all_there, tty_of, IsTold, HaveRoomFor, IsGathered};
 ghost use Rattle.end_steps.specs.Splits.{AllThree};
 ghost use Rattle.spsc_line.specs.Lines.{IsLine};
 
@@ -23,6 +23,26 @@ pub(crate) struct Served {
     pub(crate) tty: RawTty,
 }
 
+/// Lists for what is sorted out of all that the threads give back, and for what is made of it.
+#[derive(Drop)]
+pub(crate) struct Lists {
+    pub(crate) stations: Vec<Station>,
+    pub(crate) served: Vec<Served>,
+    pub(crate) ttys: Vec<RawTty>,
+    pub(crate) heards: Vec<Vec<Heard>>,
+    pub(crate) told: Vec<Typed>,
+}
+
+/// What was made of all that the threads gave back: the last station, to which all are joined, what each processor
+/// heard, the raw ttys, and what each device did.
+#[derive(Drop)]
+pub(crate) struct Gathered {
+    pub(crate) station: Station,
+    pub(crate) heards: Vec<Vec<Heard>>,
+    pub(crate) ttys: Vec<RawTty>,
+    pub(crate) told: Vec<Typed>,
+}
+
 // What a thread gave back goes to its list.
 fn sort_back(back: Worked, stations: &mut Vec<Station>, served: &mut Vec<Served>)
     requires stations { length (stations.old.items ++ stations_in (Some back ∷ [])) ≤ vec_capacity stations.old }
@@ -37,9 +57,9 @@ fn sort_back(back: Worked, stations: &mut Vec<Station>, served: &mut Vec<Served>
     }
 }
 
-/// The stations of the processors, and what the devices gave back, each in their order. None where a thread gave
-/// nothing back, since it couldn't be started. It takes no memory: both lists have room.
-pub(crate) fn sort_backs(
+// The stations of the processors, and what the devices gave back, each in their order. None where a thread gave
+// nothing back, since it couldn't be started. It takes no memory: both lists have room.
+fn sort_backs(
     backs: Vec<Option<Worked>>,
     stations: Vec<Station>,
     served: Vec<Served>,
@@ -62,11 +82,11 @@ pub(crate) fn sort_backs(
     if all { Some((stations, served)) } else { None }
 }
 
-/// Joins all these stations to the first, one after the other. What each heard goes into `heards`, in their order, which
-/// is empty and has room for them, so it takes no memory.
-///
-/// Conditions: all stations are of `shared`.
-pub(crate) fn join_stations(
+// Joins all these stations to the first, one after the other. What each heard goes into `heards`, in their order, which
+// is empty and has room for them, so it takes no memory.
+//
+// Conditions: all stations are of `shared`.
+fn join_stations(
     shared: &Shared,
     first: Station,
     stations: Vec<Station>,
@@ -102,11 +122,11 @@ fn finish_one(input: LineIn, served: Served) -> (RawTty, Typed)
     (tty, told)
 }
 
-/// Ends the lines of all devices, and tells what each did, in their order. The raw ttys go into `ttys`, and what is told
-/// into `told`; both are empty and have room, so it takes no memory.
-///
-/// Conditions: there is an input for each device, in their order, which is that of its line.
-pub(crate) fn finish_all(
+// Ends the lines of all devices, and tells what each did, in their order. The raw ttys go into `ttys`, and what is told
+// into `told`; both are empty and have room, so it takes no memory.
+//
+// Conditions: there is an input for each device, in their order, which is that of its line.
+fn finish_all(
     inputs: Vec<LineIn>,
     served: Vec<Served>,
     ttys: Vec<RawTty>,
@@ -130,4 +150,43 @@ pub(crate) fn finish_all(
         told.push_reserved(what);
     }
     (ttys, told)
+}
+
+/// Joins the stations of the processors to the first, and ends the devices' lines, each in their order. None where a
+/// thread gave nothing back, since it couldn't be started. It takes no memory: all lists have room.
+///
+/// Conditions: where each thread gave something back, the stations are of `shared`, and there is an input for each
+/// device, in their order, which is that of its line.
+pub(crate) fn gather(
+    shared: &Shared,
+    first: Station,
+    backs: Vec<Option<Worked>>,
+    inputs: Vec<LineIn>,
+    lists: Lists,
+) -> Option<Gathered>
+    requires first { ArePartsOf shared.now first.parts }
+    requires stations { all_there backs.items ≡ true → All (ArePartsOf shared.now) (map parts_of
+        (stations_in backs.items)) }
+    requires lines { all_there backs.items ≡ true → AllZip (λ one input. IsLine input one.line)
+        (served_in backs.items) inputs.items }
+    requires room { HaveRoomFor backs.items lists }
+    ensures gathered { IfSome result (IsGathered shared.now first backs.items inputs.items) }
+    ensures missing { result ≡ None → all_there backs.items ≡ false }
+{
+    let Lists {
+        stations,
+        served,
+        ttys,
+        heards,
+        told,
+    } = lists;
+    let (stations, served) = sort_backs(backs, stations, served)?;
+    let (ttys, told) = finish_all(inputs, served, ttys, told);
+    let (station, heards) = join_stations(shared, first, stations, heards);
+    Some(Gathered {
+        station,
+        heards,
+        ttys,
+        told,
+    })
 }

@@ -10,6 +10,8 @@ mod gathering;
 mod kernel;
 mod outcome;
 mod ready;
+mod running;
+mod shutting;
 
 pub use kernel::{boot, boot_on, boot_on_with, boot_with};
 pub use outcome::{BootFault, Ended};

@@ -1,0 +1,45 @@
+use Rattle.std.proofs.Common.{ℕ, drop, length, ap, subst, ◌∙◌, refl, arith}
+use Rattle.std.proofs.lemmas.List.{length-map}
+use Rattle.kernel_threads.specs.Readiness.{input_of}
+use Rattle.kernel_threads.specs.Typings.{AreTyped}
+use Rattle.synth_kernel.proofs.Shut.{few_came, lines_sorted, parts_sorted}
+use Rattle.synth_kernel.proofs.running.run_threads.Goals as goal
+
+pub run_kernel-backs-requires-clause-number : goal.run_kernel-backs-requires-clause-number
+run_kernel-backs-requires-clause-number g c = let n = c.requires.ready.3.number in let p = c.requires.ready.2 in let l = c.args.ready.works.ok.0 in omega arith
+
+pub run_kernel-backs-requires-clause-lines : goal.run_kernel-backs-requires-clause-lines
+run_kernel-backs-requires-clause-lines g c = λ κs within. c.args.ready.inputs.ok.0 ∙ (ap length c.requires.ready.3.inputs ∙ (length-map c.requires.ready.3.devices input_of ∙ c.requires.ready.3.devices_are.number))
+
+pub gather-requires : goal.gather-requires
+gather-requires g c =
+    let o = c.args.ready in let r = c.requires.ready.3 in
+    let backs = c.run_kernel-backs.result.0.items in
+    let inputs = c.run_kernel-backs.result.1.items in
+    let worked = c.run_kernel-backs.ensures.worked in
+    let typed = subst (λ (z : ℕ). AreTyped o.shared.plan.ttys (drop z backs) o.inputs.items inputs) c.requires.ready.2 c.run_kernel-backs.ensures.typed in
+    let few = few_came g.G.Gate.told o.shared.plan c.requires.ready.0 c.requires.ready.1 o r backs inputs worked typed in
+    record {
+      first = r.parts;
+      stations = λ all. parts_sorted g.G.Gate.told o.shared.plan c.requires.ready.0 c.requires.ready.1 o r backs inputs worked typed all;
+      lines = λ all. lines_sorted g.G.Gate.told o.shared.plan c.requires.ready.0 c.requires.ready.1 o r backs inputs worked typed all;
+      room = record {
+        stations = (r.room.stations.0, let n = r.room.stations.1 in let f = few.0 in omega arith);
+        served = (r.room.served.0, let n = r.room.served.1 in let f = few.1 in omega arith);
+        ttys = (r.room.ttys.0, let n = r.room.ttys.1 in let f = few.1 in omega arith);
+        heards = (r.room.heards.0, let n = r.room.heards.1 in let f = few.0 in omega arith);
+        told = (r.room.told.0, let n = r.room.told.1 in let f = few.1 in omega arith);
+      };
+    }
+
+pub returns-in-Some : goal.returns-in-Some
+returns-in-Some g c = record {
+  shared_is = refl;
+  backs = c.run_kernel-backs.result.0.items;
+  worked = c.run_kernel-backs.ensures.worked;
+  inputs = c.run_kernel-backs.result.1.items;
+  typed = c.run_kernel-backs.ensures.typed;
+  gathered = c.in-Some.ensures.gathered;
+  answers_are = refl;
+  report_is = refl;
+}

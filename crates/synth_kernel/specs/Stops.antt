@@ -1,0 +1,25 @@
+-- What a boot has when its threads have stopped.
+use Rattle.std.specs.Prelude.{◌≡◌, ℕ, List, drop, Option}
+use Rattle.std.specs.List.{AllZip}
+use Rattle.end_steps.specs.declared.gate.Point.{Point}
+use Rattle.kernel_threads.specs.declared.work.Worked.{Worked}
+use Rattle.kernel_threads.specs.Crews.{GaveBack}
+use Rattle.kernel_threads.specs.Typings.{AreTyped}
+use Rattle.kernel_threads.specs.Works.{HasWorked}
+use Rattle.spsc_line.specs.declared.line_in.LineIn.{LineIn}
+use Rattle.synth_kernel.specs.declared.ready.Ready.{Ready}
+use Rattle.synth_kernel.specs.declared.running.Stopped.{Stopped}
+use Rattle.synth_kernel.specs.Gatherings.{IsGathered}
+
+-- Each work was done, while the ttys' bytes were typed into the inputs of the devices, which come behind so many
+-- processors; and what came back was gathered. All objects are those that were ready, and so is the room
+pub record HasStopped {G : Type 0} (T : G → ℕ → Point → G → Type 0) (processors : ℕ) (ready : Ready G)
+    (stopped : Stopped) : Type 0 where
+  pub shared_is : stopped.shared ≡ ready.shared
+  pub backs : List (Option Worked)
+  pub worked : AllZip (GaveBack (HasWorked T) ready.shared) ready.works.items backs
+  pub inputs : List LineIn
+  pub typed : AreTyped ready.shared.plan.ttys (drop processors backs) ready.inputs.items inputs
+  pub gathered : IsGathered ready.shared ready.station backs inputs stopped.gathered
+  pub answers_are : stopped.answers ≡ ready.room.answers
+  pub report_is : stopped.report ≡ ready.room.report

@@ -1,0 +1,82 @@
+//! The threads of a boot, from what is ready for them to what is made of all that they gave back.
+ghost use Rattle.std.specs.Prelude.{IfOk};
+ghost use Rattle.synth_kernel.specs.Readies.{IsReadyFor};
+ghost use Rattle.synth_kernel.specs.Stops.{HasStopped};
+
+use crate::gathering::{Gathered, Lists, gather};
+use crate::ready::{Ready, Room};
+use closing::Answers;
+use end_steps::Gate;
+use kernel_threads::run_kernel;
+use processor::Shared;
+use quaject_core::OutOfMemory;
+use reporting::Room as ReportRoom;
+use std::alloc::Global;
+use std::sync::Wait;
+use std::thread::Threads;
+
+/// What a boot has when its threads have stopped: all objects, what the threads gave back, and room for what is made of
+/// it.
+#[derive(Drop)]
+pub(crate) struct Stopped {
+    pub(crate) shared: Shared,
+    pub(crate) gathered: Gathered,
+    pub(crate) answers: Answers,
+    pub(crate) report: ReportRoom,
+}
+
+/// Runs a thread for each work and types the ttys' bytes meanwhile, and gathers what they gave back. `OutOfMemory` comes
+/// only where the list of threads was refused its memory, before the first starts, or a thread could not be started.
+///
+/// Condition: all is ready for so many processors.
+pub(crate) fn run_threads<R, G>(
+    rt: &R,
+    alloc: Global,
+    ready: Ready<G>,
+    processors: usize,
+) -> Result<Stopped, OutOfMemory>
+where
+    R: Threads + Wait + Sync,
+    G: Gate + Send + Drop,
+    requires ready { IsReadyFor processors ready }
+    ensures { IfOk result (HasStopped G.told processors ready) }
+{
+    let handles = Vec::with_capacity(alloc, ready.works.len())?;
+    let Ready {
+        shared,
+        station,
+        works,
+        inputs,
+        room,
+    } = ready;
+    let Room {
+        backs,
+        typed,
+        stations,
+        served,
+        ttys,
+        heards,
+        told,
+        answers,
+        report,
+    } = room;
+    let (backs, inputs) = run_kernel(
+        rt, &shared, works, processors, handles, backs, inputs, typed,
+    );
+    let lists = Lists {
+        stations,
+        served,
+        ttys,
+        heards,
+        told,
+    };
+    match gather(&shared, station, backs, inputs, lists) {
+        Some(gathered) => Ok(Stopped {
+            shared,
+            gathered,
+            answers,
+            report,
+        }),
+        None => Err(OutOfMemory),
+    }
+}

@@ -41,7 +41,8 @@ pub fn alone<R: Wait + Clock>(
     watch.stop(rt, sum)
 }
 
-fn push_one<R: Wait>(rt: &R, queue: &Queue, item: u64) {
+/// Pushes an item, again while the queue is full.
+pub fn push_one<R: Wait, T: Copy>(rt: &R, queue: &ArrayQueue<T>, item: T) {
     let backoff = Backoff::new();
     for _ in rt.forever() {
         if queue.push(rt, item).is_ok() {
@@ -51,7 +52,8 @@ fn push_one<R: Wait>(rt: &R, queue: &Queue, item: u64) {
     }
 }
 
-fn pop_one<R: Wait>(rt: &R, queue: &Queue) -> u64 {
+/// Pops an item, once there is one.
+pub fn pop_one<R: Wait, T: Copy>(rt: &R, queue: &ArrayQueue<T>) -> T {
     let backoff = Backoff::new();
     for _ in rt.forever() {
         if let Some(item) = queue.pop(rt) {

@@ -3,45 +3,29 @@ use crate::fault::Fault;
 use crate::measure::{Done, Watch};
 use crate::scripts::{Counted, Script, THREADS, counts_of};
 use std::alloc::Global;
-use std::fmt;
-use std::fmt::{Display, Formatter};
 use std::rt::Clock;
 use std::sync::Wait;
 use std::thread::Threads;
 use std::time::Duration;
 use synth_kernel::boot_on;
 
-/// Boots of a script on so many processors, 1 to 8, with no turn.
-#[derive(Clone, Copy)]
-pub struct Setups {
-    pub script: Script,
-    pub processors: u8,
-}
-
-/// Boots of the same with turns.
-#[derive(Clone, Copy)]
-pub struct Turns {
-    pub boot: Setups,
-}
-
-impl Setups {
-    // How many turns each processor has where turns are measured.
-    fn turns_each(self) -> u32 {
-        (self.script.turns() / self.processors.max(1) as u64).min(1_000_000) as u32
-    }
+// How many turns each processor has where turns are measured.
+fn turns_each(script: Script, processors: u8) -> u32 {
+    (script.turns() / processors.max(1) as u64).min(1_000_000) as u32
 }
 
 // The time of a boot with so many turns on each processor, and what its report counts.
 fn time_of<R: Threads + Wait + Clock + Sync>(
     rt: &R,
     alloc: Global,
-    boot: Setups,
+    script: Script,
+    processors: u8,
     turns: u32,
 ) -> Result<(Duration, Counted), Fault> {
-    let text = boot.script.text(alloc)?;
+    let text = script.text(alloc)?;
     let mut reader = text.as_str().as_bytes();
     let mut report = Vec::new(alloc);
-    let processors = boot.processors.max(1).min(8);
+    let processors = processors.max(1).min(8);
     let watch = Watch::start(rt)?;
     let booted = boot_on(rt, alloc, &mut reader, &mut report, processors, turns);
     let measured = watch.stop(rt, 0)?;
@@ -51,43 +35,32 @@ fn time_of<R: Threads + Wait + Clock + Sync>(
     }
 }
 
-impl Display for Setups {
-    fn fmt<W: fmt::Write>(&self, f: &mut Formatter<W>) -> fmt::Result {
-        write!(f, "setup {} {}", self.script, self.processors)
-    }
-}
-
-/// Measures them once.
+/// Measures a boot on so many processors, 1 to 8, with no turn, once.
 pub fn measure_setup<R: Threads + Wait + Clock + Sync>(
     rt: &R,
     alloc: Global,
-    setup: Setups,
+    script: Script,
+    processors: u8,
 ) -> Result<Done, Fault> {
-    let (time, counted) = time_of(rt, alloc, setup, 0)?;
+    let (time, counted) = time_of(rt, alloc, script, processors, 0)?;
     if counted.threads != THREADS || counted.steps != 0 {
         return Err(Fault::Miscount);
     }
     Ok(Done { time, count: 1 })
 }
 
-impl Display for Turns {
-    fn fmt<W: fmt::Write>(&self, f: &mut Formatter<W>) -> fmt::Result {
-        write!(f, "boot {} {}", self.boot.script, self.boot.processors)
-    }
-}
-
-/// Measures them once.
+/// Measures a boot of the same with turns, once.
 pub fn measure_turns<R: Threads + Wait + Clock + Sync>(
     rt: &R,
     alloc: Global,
-    turns: Turns,
+    script: Script,
+    processors: u8,
 ) -> Result<Done, Fault> {
-    let Turns { boot } = turns;
-    let each = boot.turns_each();
-    let (time, counted) = time_of(rt, alloc, boot, each)?;
-    let total = (each as u64).wrapping_mul(boot.processors as u64);
-    let count = done_of(boot.script, counted, total)?;
-    if boot.processors == 1 && count != wanted_of(boot.script, total) {
+    let each = turns_each(script, processors);
+    let (time, counted) = time_of(rt, alloc, script, processors, each)?;
+    let total = (each as u64).wrapping_mul(processors as u64);
+    let count = done_of(script, counted, total)?;
+    if processors == 1 && count != wanted_of(script, total) {
         return Err(Fault::Miscount);
     }
     Ok(Done { time, count })

@@ -1,12 +1,12 @@
 //! Why a run has ended early.
 use quaject_core::OutOfMemory;
-use std::alloc::AllocError;
+use std::alloc::{AllocError, AllocFailed};
 use std::io;
 use std::io::ErrorKind;
 use thiserror::Error;
 
 /// Why a run has ended early.
-#[derive(Clone, Copy, Debug, PartialEq, Eq, Drop, Error)]
+#[derive(Debug, Drop, Error)]
 pub enum Fault {
     /// The words are none that the program has.
     #[error("other words than those of a command")]
@@ -58,6 +58,12 @@ impl Fault {
 
 impl From<AllocError> for Fault {
     fn from(_: AllocError) -> Fault {
+        Fault::Memory
+    }
+}
+
+impl From<AllocFailed<String>> for Fault {
+    fn from(_: AllocFailed<String>) -> Fault {
         Fault::Memory
     }
 }

@@ -14,30 +14,28 @@ mod program;
 mod queues;
 mod replays;
 mod ring;
+mod rows;
 mod scripts;
 
 use fault::Fault;
-use program::{Command, run_command};
+use program::run_command;
 use std::alloc::Global;
 use std::env;
 use std::process::ExitCode;
 
-/// The command that the program was given.
-fn command(rt: &HostRuntime) -> Result<Command, Fault> {
-    let mut words = env::args(rt).map_err(Fault::of_words)?.skip(1);
-    let Some(word) = words.next() else {
-        return Ok(Command::Usage);
-    };
-    if words.next().is_some() {
-        return Ok(Command::Unknown);
+/// The words that the program was given, without its own name.
+fn words(rt: &HostRuntime) -> Result<Vec<String>, Fault> {
+    let mut words = Vec::new(rt.alloc());
+    for word in env::args(rt).map_err(Fault::of_words)?.skip(1) {
+        words.push(word)?;
     }
-    Ok(Command::of_word(word.as_str()))
+    Ok(words)
 }
 
 fn main(rt: HostRuntime) -> ExitCode {
     let alloc: Global = rt.alloc();
-    let ended = match command(&rt) {
-        Ok(command) => run_command(&rt, alloc, command),
+    let ended = match words(&rt) {
+        Ok(words) => run_command(&rt, alloc, words.as_slice()),
         Err(fault) => Err(fault),
     };
     ExitCode::from(match ended {

@@ -1,15 +1,14 @@
 //! Notes and who runs them: a chain's quaject, or a thread that pops them from the kit's `ArrayQueue`.
+use crate::array::{pop_one, push_one};
 use crate::chains;
 use crate::fault::Fault;
 use crate::measure::{Done, Measured, Watch};
 use crossbeam_queue::ArrayQueue;
-use crossbeam_utils::Backoff;
 use std::alloc::Global;
-use std::fmt::{Display, Formatter};
 use std::rt::Clock;
 use std::sync::Wait;
+use std::thread;
 use std::thread::Threads;
-use std::{fmt, thread};
 
 /// How many notes each measurement hands over.
 const NOTES: u64 = 400_000;
@@ -59,37 +58,16 @@ pub enum Notes {
     ArrayThree,
 }
 
-fn push_note<R: Wait>(rt: &R, queue: &Queue, note: u16) {
-    let backoff = Backoff::new();
-    for _ in rt.forever() {
-        if queue.push(rt, note).is_ok() {
-            break;
-        }
-        backoff.snooze();
-    }
-}
-
-fn pop_note<R: Wait>(rt: &R, queue: &Queue) -> u16 {
-    let backoff = Backoff::new();
-    for _ in rt.forever() {
-        if let Some(note) = queue.pop(rt) {
-            return note;
-        }
-        backoff.snooze();
-    }
-    unreachable!()
-}
-
 fn push_notes<R: Wait>(rt: &R, queue: &Queue, notes: u64) {
     for number in 0..notes {
-        push_note(rt, queue, note_of(number));
+        push_one(rt, queue, note_of(number));
     }
 }
 
 fn run_notes<R: Wait>(rt: &R, queue: &Queue, notes: u64) -> u64 {
     let mut runner = Runner::new();
     for _ in 0..notes {
-        runner.take(pop_note(rt, queue));
+        runner.take(pop_one(rt, queue));
     }
     runner.sum()
 }
@@ -99,8 +77,8 @@ fn array_alone<R: Wait + Clock>(rt: &R, alloc: Global) -> Result<Measured, Fault
     let mut runner = Runner::new();
     let watch = Watch::start(rt)?;
     for number in 0..NOTES {
-        push_note(rt, &queue, note_of(number));
-        runner.take(pop_note(rt, &queue));
+        push_one(rt, &queue, note_of(number));
+        runner.take(pop_one(rt, &queue));
     }
     watch.stop(rt, runner.sum())
 }
@@ -130,17 +108,6 @@ fn sum_to(notes: u64) -> u64 {
         sum = sum.wrapping_add(note_of(number) as u64);
     }
     sum
-}
-
-impl Display for Notes {
-    fn fmt<W: fmt::Write>(&self, f: &mut Formatter<W>) -> fmt::Result {
-        f.write_str(match self {
-            Notes::ChainAlone => "note ProcChain 1",
-            Notes::ChainPair => "note ProcChain 2",
-            Notes::ArrayAlone => "note ArrayQueue 1",
-            Notes::ArrayThree => "note ArrayQueue 3",
-        })
-    }
 }
 
 /// Measures them once.

@@ -1,11 +1,9 @@
 //! Lines of items through a queue: the claim queue, which puts and takes whole lines, or the kit's `ArrayQueue`.
 use crate::fault::Fault;
 use crate::line::{line_of, sum_of};
-use crate::measure::Done;
+use crate::measure::{Done, Measured};
 use crate::{array, claim};
 use std::alloc::Global;
-use std::fmt;
-use std::fmt::{Display, Formatter};
 use std::rt::Clock;
 use std::sync::Wait;
 use std::thread::Threads;
@@ -31,45 +29,36 @@ pub enum Structure {
     ArrayQueue,
 }
 
-/// Lines of `length` items, 1 to 64.
-#[derive(Clone, Copy)]
-pub struct Lines {
-    pub course: Course,
-    pub structure: Structure,
-    pub length: u8,
-}
-
-impl Display for Lines {
-    fn fmt<W: fmt::Write>(&self, f: &mut Formatter<W>) -> fmt::Result {
-        let course = match self.course {
-            Course::Alone => "alone",
-            Course::Pair => "pair",
-            Course::Four => "four",
-        };
-        let structure = match self.structure {
-            Structure::ClaimQueue => "ClaimQueue",
-            Structure::ArrayQueue => "ArrayQueue",
-        };
-        write!(f, "{course} {structure} {}", self.length)
-    }
-}
-
-/// Measures them once.
-pub fn measure_lines<R: Threads + Wait + Clock + Sync>(
+// The time of so many lines, and the sum of what was taken.
+fn time_lines<R: Threads + Wait + Clock + Sync>(
     rt: &R,
     alloc: Global,
-    figure: Lines,
-) -> Result<Done, Fault> {
-    let line = line_of(figure.length as usize);
-    let line = line.as_slice();
-    let lines = ITEMS / figure.length.max(1) as u64;
-    let measured = match (figure.course, figure.structure) {
+    course: Course,
+    structure: Structure,
+    line: &[u64],
+    lines: u64,
+) -> Result<Measured, Fault> {
+    match (course, structure) {
         (Course::Alone, Structure::ClaimQueue) => claim::alone(rt, alloc, line, lines),
         (Course::Pair, Structure::ClaimQueue) => claim::pair(rt, alloc, line, lines),
         (Course::Four, Structure::ClaimQueue) => claim::four(rt, alloc, line, lines),
         (Course::Alone, Structure::ArrayQueue) => array::alone(rt, alloc, line, lines),
         (Course::Pair, Structure::ArrayQueue) => array::pair(rt, alloc, line, lines),
         (Course::Four, Structure::ArrayQueue) => array::four(rt, alloc, line, lines),
-    }?;
+    }
+}
+
+/// Measures lines of `length` items, 1 to 64, once.
+pub fn measure_lines<R: Threads + Wait + Clock + Sync>(
+    rt: &R,
+    alloc: Global,
+    course: Course,
+    structure: Structure,
+    length: u8,
+) -> Result<Done, Fault> {
+    let line = line_of(length as usize);
+    let line = line.as_slice();
+    let lines = ITEMS / length.max(1) as u64;
+    let measured = time_lines(rt, alloc, course, structure, line, lines)?;
     measured.done(sum_of(line).wrapping_mul(lines), ITEMS)
 }

@@ -9,8 +9,6 @@ use crossbeam_utils::Backoff;
 use kernel_threads::{Job, prepare, run_all};
 use quaject_core::{Element, Processor};
 use std::alloc::Global;
-use std::fmt;
-use std::fmt::{Display, Formatter};
 use std::rt::Clock;
 use std::sync::Wait;
 use std::thread::Threads;
@@ -21,12 +19,6 @@ const ELEMENTS: u8 = 64;
 
 /// How many passes each processor makes.
 const PASSES: u64 = 100_000;
-
-/// Passes on so many processors, 1 to 8, each in a thread.
-#[derive(Clone, Copy)]
-pub struct Passes {
-    pub processors: u8,
-}
 
 /// A processor that is to make passes, and the hand that serves it.
 #[derive(Drop)]
@@ -175,21 +167,15 @@ fn count_ready(table: &ThreadTable, hand: Hand) -> u8
     count
 }
 
-impl Display for Passes {
-    fn fmt<W: fmt::Write>(&self, f: &mut Formatter<W>) -> fmt::Result {
-        write!(f, "ring ThreadTable {}", self.processors)
-    }
-}
-
-/// Measures them once.
+/// Measures passes on so many processors, 1 to 8, each in a thread, once.
 pub fn measure_passes<R: Threads + Wait + Clock + Sync>(
     rt: &R,
     alloc: Global,
-    passes: Passes,
+    processors: u8,
 ) -> Result<Done, Fault> {
-    let wanted = PASSES.wrapping_mul(passes.processors as u64);
+    let wanted = PASSES.wrapping_mul(processors as u64);
     let (table, mut first) = ThreadTable::new(alloc)?;
-    let passers = parts(alloc, &table, &mut first, passes.processors)?;
+    let passers = parts(alloc, &table, &mut first, processors)?;
     let first = prepare(rt, &table, first, ELEMENTS);
     let handles = Vec::with_capacity(alloc, passers.len())?;
     let backs = Vec::with_capacity(alloc, passers.len())?;

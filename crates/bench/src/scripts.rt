@@ -1,9 +1,6 @@
 //! The boot scripts that are measured, and what their reports count.
-use crate::fault::Fault;
 use boot_script::parse_number;
-use std::alloc::Global;
-use std::fmt;
-use std::fmt::{Display, Formatter};
+use std::alloc::{AllocError, Global};
 
 /// How many threads each script has.
 pub const THREADS: u64 = 64;
@@ -25,16 +22,6 @@ pub enum Script {
     Listen,
 }
 
-impl Display for Script {
-    fn fmt<W: fmt::Write>(&self, f: &mut Formatter<W>) -> fmt::Result {
-        f.write_str(match self {
-            Script::Pass => "pass",
-            Script::Talk => "talk",
-            Script::Listen => "listen",
-        })
-    }
-}
-
 /// What a report counts.
 #[derive(Clone, Copy)]
 pub struct Counted {
@@ -50,7 +37,7 @@ pub struct Counted {
 
 impl Script {
     /// The text of the script.
-    pub fn text(self, alloc: Global) -> Result<String, Fault> {
+    pub fn text(self, alloc: Global) -> Result<String, AllocError> {
         let mut text = String::new(alloc);
         text.push_str("synthesis 3\n")?;
         for queue in 0..8u64 {
@@ -63,16 +50,27 @@ impl Script {
         Ok(text)
     }
 
-    // The steps of one thread. Threads of even numbers say, and those of odd numbers hear.
-    fn add_steps(self, alloc: Global, text: &mut String, thread: u64) -> Result<(), Fault> {
-        let queue = thread / 2 % 8;
-        let (step, times) = match self {
-            Script::Pass => (format!(in alloc; "pass\n")?, STEPS),
-            Script::Talk if thread % 2 == 0 => (format!(in alloc; "say q{queue} hi\n")?, STEPS),
-            Script::Talk => (format!(in alloc; "hear q{queue}\n")?, STEPS),
-            Script::Listen => (format!(in alloc; "hear q0\n")?, 1),
-        };
-        for _ in 0..times {
+    // The step of one thread, which it has again and again.
+    fn step(self, alloc: Global, thread: u64) -> Result<String, AllocError> {
+        match self {
+            Script::Pass => "pass\n".to_string(alloc),
+            Script::Talk => talked(alloc, thread),
+            Script::Listen => "hear q0\n".to_string(alloc),
+        }
+    }
+
+    // How many steps a thread has.
+    fn steps(self) -> u64 {
+        match self {
+            Script::Pass | Script::Talk => STEPS,
+            Script::Listen => 1,
+        }
+    }
+
+    // The steps of one thread.
+    fn add_steps(self, alloc: Global, text: &mut String, thread: u64) -> Result<(), AllocError> {
+        let step = self.step(alloc, thread)?;
+        for _ in 0..self.steps() {
             text.push_str(step.as_str())?;
         }
         Ok(())
@@ -84,6 +82,16 @@ impl Script {
             Script::Pass | Script::Talk => THREADS * STEPS,
             Script::Listen => 200_000,
         }
+    }
+}
+
+// The step of a thread that talks: those of even numbers say, and those of odd numbers hear.
+fn talked(alloc: Global, thread: u64) -> Result<String, AllocError> {
+    let queue = thread / 2 % 8;
+    if thread % 2 == 0 {
+        format!(in alloc; "say q{queue} hi\n")
+    } else {
+        format!(in alloc; "hear q{queue}\n")
     }
 }
 

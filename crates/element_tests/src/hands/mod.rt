@@ -1,0 +1,5 @@
+//! The tests of `hand_steps`.
+
+mod scripts;
+mod tests;
+mod thread_tests;

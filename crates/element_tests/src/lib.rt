@@ -1,0 +1,12 @@
+//! The tests of `thread_table`, `meters` and `hand_steps`, in a crate of their own: beside a library they would prove it
+//! once more, and each crate of tests links all that it stands on.
+#![tactic(auto)]
+
+#[cfg(test)]
+mod fixtures;
+#[cfg(test)]
+mod hands;
+#[cfg(test)]
+mod tables;
+#[cfg(test)]
+mod timing;

@@ -1,0 +1,275 @@
+ghost use Rattle.std.specs.Prelude.{◌≡◌, ◌+◌, true, Some, IfOk};
+ghost use Rattle.thread_table.specs.Handles.{view_of, IsHandOf, IsSameHand};
+ghost use Rattle.thread_table.specs.Rules.{has, serves, running};
+
+use crate::fixtures::{begins, element, processor, wait_queue};
+use crate::tables::scripts::{Act, does, free, plays};
+use quaject_core::{Element, OutOfMemory, Processor, WaitNumber};
+use std::alloc::Global;
+use std::panic::Expect;
+use std::process::Abort;
+use std::sync::Wait;
+use std::test::*;
+use thread_table::*;
+
+/// Wakes all, and then takes off what the hand has on a processor: that it serves it still, and that the same element
+/// stands there, is proved, not tried.
+fn wake_and_take_off<R: Wait>(
+    rt: &R,
+    table: &ThreadTable,
+    hand: &mut Hand,
+    wait: WaitNumber,
+    processor: Processor,
+) -> Result<Element, ProcessorEmpty>
+    requires table { IsHandOf table.now hand.old }
+    requires mine { serves (view_of hand.old) processor ≡ true }
+    ensures table { IsSameHand hand.old hand.new }
+    ensures stood { IfOk result (λ element. running (view_of hand.old) processor ≡ Some element) }
+{
+    table.wake_all(rt, hand, wait);
+    table.off(hand, processor)
+}
+
+/// The number of steps, and then one step more: that no other counts between the two is proved, not tried.
+fn count_on(table: &ThreadTable, hand: &mut Hand, element: Element) -> (u64, Result<u64, Spent>)
+    requires table { IsHandOf table.now hand.old }
+    requires mine { has (view_of hand.old) element ≡ true }
+    ensures table { IsSameHand hand.old hand.new }
+    ensures counted { IfOk result.1 (λ number. number ≡ result.0 + 1) }
+{
+    let count = table.pc(hand, element);
+    (count, table.step_done(hand, element))
+}
+
+const PROCESSORS: &[Act] = &[
+    Act::Free(0),
+    Act::On(0, 0, Ok(())),
+    Act::Free(1),
+    Act::On(0, 1, Err(ProcessorBusy)),
+    Act::Stop(0),
+    Act::Off(0, Some(0)),
+    Act::Off(0, None),
+    Act::Park(0, true),
+    Act::Start(0, Started::Held),
+    Act::Start(0, Started::NotStopped),
+    Act::Stop(0),
+    Act::Start(0, Started::Cleared),
+    Act::Park(0, false),
+];
+
+#[test]
+fn processors_and_stops(rt: HostRuntime) {
+    let (table, mut first) = ThreadTable::new(rt.alloc()).expect(&rt, "memory");
+    let a = &mut first;
+    let (p0, p1) = (processor(&rt, 0), processor(&rt, 1));
+    assert!(rt; a.serves(p1) && a.on_processor(p1).is_none());
+    let b = table.split(a, 2);
+    assert!(rt; b.serves(p1) && !b.serves(p0) && !a.serves(p1));
+    does(&rt, &table, a, PROCESSORS);
+    table.join(a, b);
+    assert!(rt; a.serves(p1));
+}
+
+const SIGNALS: &[Act] = &[
+    Act::Free(0),
+    Act::Wait(0, 2),
+    Act::Signal(0, 3, Signalled::Raised),
+    Act::Signal(0, 3, Signalled::Merged),
+    Act::NoneReady,
+    Act::Wake(2, 0),
+    Act::Deliver(0, 8),
+    Act::Deliver(0, 0),
+];
+
+#[test]
+fn signals(rt: HostRuntime) {
+    let places = [(0, Place::Held)];
+    plays(&rt, rt.alloc(), 0, SIGNALS, &places);
+}
+
+const READY_IN_TURN: &[Act] = &[
+    Act::Free(0),
+    Act::Free(1),
+    Act::Free(2),
+    Act::Ready(0),
+    Act::Ready(1),
+    Act::Ready(2),
+    Act::Next(0),
+    Act::Ready(0),
+    Act::Next(1),
+];
+
+#[test]
+fn ready_in_turn(rt: HostRuntime) {
+    let places = [(0, Place::Ready), (1, Place::Held), (2, Place::Ready)];
+    plays(&rt, rt.alloc(), 0, READY_IN_TURN, &places);
+}
+
+const FIRST_IN_FIRST_OUT: &[Act] = &[
+    Act::Free(0),
+    Act::Free(1),
+    Act::Free(2),
+    Act::Free(3),
+    Act::Free(4),
+    Act::Free(5),
+    Act::Ready(2),
+    Act::Ready(0),
+    Act::Ready(1),
+    Act::Next(2),
+    Act::Next(0),
+    Act::Next(1),
+    Act::NoneReady,
+    Act::Wait(5, 3),
+    Act::Wait(4, 3),
+    Act::Wake(3, 5),
+    Act::Wait(5, 3),
+    Act::WakeAll(3, 48),
+];
+
+#[test]
+fn first_in_first_out(rt: HostRuntime) {
+    let places = [(4, Place::Held), (5, Place::Held), (6, Place::Free)];
+    plays(&rt, rt.alloc(), 0, FIRST_IN_FIRST_OUT, &places);
+}
+
+const LAST_POSITIONS: &[Act] = &[
+    Act::Free(0),
+    Act::Retire(0, Err(MoveRefusal::Spent)),
+    Act::Ready(0),
+    Act::Next(0),
+];
+
+#[test]
+fn last_positions(rt: HostRuntime) {
+    let places = [(0, Place::Held), (1, Place::Free)];
+    plays(&rt, rt.alloc(), 4_294_967_231, LAST_POSITIONS, &places);
+}
+
+const TICKETS: &[Act] = &[
+    Act::Free(0),
+    Act::Ticket(2, 0),
+    Act::WakeAll(2, 0),
+    Act::WaitAt(0, 2, 0, Err(MoveRefusal::Moved { mark: 1 })),
+    Act::WaitAt(0, 2, 1, Ok(())),
+    Act::WakeAll(2, 1),
+];
+
+#[test]
+fn tickets(rt: HostRuntime) {
+    let places = [(0, Place::Held), (1, Place::Free)];
+    plays(&rt, rt.alloc(), 0, TICKETS, &places);
+}
+
+const TWO_WAIT: &[Act] = &[
+    Act::Free(0),
+    Act::Free(1),
+    Act::Wait(0, 2),
+    Act::Wait(1, 2),
+    Act::WakeAll(2, 3),
+    Act::On(0, 0, Ok(())),
+];
+
+#[test]
+fn wakes_all(rt: HostRuntime) {
+    let (table, mut first) = begins(&rt, rt.alloc(), 0);
+    let (w2, p0) = (wait_queue(&rt, 2), processor(&rt, 0));
+    let a = &mut first;
+    does(&rt, &table, a, TWO_WAIT);
+    assert!(rt; a.serves(p0));
+    let Ok(e0) = wake_and_take_off(&rt, &table, a, w2, p0) else {
+        panic!(rt; "empty")
+    };
+    assert!(rt; a.holds(e0));
+    assert!(rt; count_on(&table, a, e0) == (0, Ok(1)));
+    let Ok(closed) = table.close(first) else {
+        panic!(rt; "close")
+    };
+    assert!(rt; (closed.places[0], closed.places[1]) == (Place::Held, Place::Held));
+    for e in 2..64usize {
+        assert!(rt; (closed.places[e], closed.pcs[e]) == (Place::Free, 0));
+    }
+    assert!(rt; (closed.pcs[0], closed.pcs[1], closed.stops) == (1, 0, 0));
+}
+
+#[test]
+fn hands_to_join(rt: HostRuntime) -> Result<(), Fail> {
+    let (table, mut first) = ThreadTable::new(rt.alloc())?;
+    let mut b = table.split(&mut first, 0);
+    assert!(rt; free(&table, &mut b, 0));
+    let Err((table, first, open)) = table.close(first) else {
+        panic!(rt; "closed")
+    };
+    assert!(rt; open == OpenEnds { others: 1 });
+    let mut first = first;
+    table.join(&mut first, b);
+    assert!(rt; first.holds(element(&rt, 0)));
+    let Ok(closed) = table.close(first) else {
+        panic!(rt; "close")
+    };
+    assert!(rt; (closed.places[0], closed.places[63]) == (Place::Held, Place::Free));
+    Ok(())
+}
+
+/// Where all hands are joined, the table is closed: that no other answer comes is proved, not tried.
+fn split_and_joined(alloc: Global) -> Result<Places, OutOfMemory> {
+    let (table, mut a) = ThreadTable::new(alloc)?;
+    let b = table.split(&mut a, 0);
+    let c = table.split(&mut a, 0);
+    table.join(&mut a, b);
+    table.join(&mut a, c);
+    match table.close(a) {
+        Ok(closed) => Ok(closed),
+        Err(_) => unreachable!(),
+    }
+}
+
+#[test]
+fn joined_hands_close(rt: HostRuntime) -> Result<(), Fail> {
+    let closed = split_and_joined(rt.alloc())?;
+    for e in 0..64usize {
+        assert!(rt; (closed.places[e], closed.pcs[e], closed.pending[e]) == (Place::Free, 0, 0));
+    }
+    assert!(rt; closed.stops == 0);
+    Ok(())
+}
+
+const STOPPED_AT_THE_CLOSE: &[Act] = &[
+    Act::Free(0),
+    Act::Free(1),
+    Act::Free(2),
+    Act::Free(3),
+    Act::Stop(0),
+    Act::Park(0, true),
+    Act::Signal(0, 3, Signalled::Raised),
+    Act::On(7, 1, Ok(())),
+    Act::Wait(2, 15),
+    Act::Ready(3),
+];
+
+#[test]
+fn stopped_at_the_close(rt: HostRuntime) {
+    let places = [
+        (0, Place::Stopped),
+        (1, Place::Processor(7)),
+        (2, Place::Wait(15)),
+        (3, Place::Ready),
+    ];
+    let closed = plays(&rt, rt.alloc(), 0, STOPPED_AT_THE_CLOSE, &places);
+    assert!(rt; (closed.stops, closed.pending[0], closed.pending[1]) == (1, 8, 0));
+}
+
+/// Where an allocation is refused there is no table, and a later try makes one.
+#[test]
+fn memory_may_be_wanting(rt: HostRuntime) {
+    let mut made = false;
+    for _ in 0..3 {
+        match ThreadTable::new(rt.alloc()) {
+            Ok((table, mut hand)) => {
+                assert!(rt; free(&table, &mut hand, 0));
+                made = true;
+            }
+            Err(error) => assert!(rt; error == OutOfMemory),
+        }
+    }
+    assert!(rt; made);
+}

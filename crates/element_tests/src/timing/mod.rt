@@ -1,0 +1,4 @@
+//! The tests of `meters`.
+
+mod tests;
+mod thread_tests;

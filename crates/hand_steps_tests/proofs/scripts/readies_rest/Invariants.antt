@@ -1,5 +1,0 @@
-use Rattle.thread_table.specs.Handles.{IsSameHand}
-use Rattle.hand_steps_tests.proofs.scripts.readies_rest.Given as goal
-
-abbrev pub invariant-loop : goal.invariant-loop
-invariant-loop g l = IsSameHand l.fn.hand l.hand

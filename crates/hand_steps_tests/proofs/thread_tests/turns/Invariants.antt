@@ -1,6 +1,0 @@
-use Rattle.thread_table.specs.Handles.{view_of, IsHandOf}
-use Rattle.hand_steps.specs.Holdings.{IsFree}
-use Rattle.hand_steps_tests.proofs.thread_tests.turns.Given as goal
-
-abbrev pub invariant-loop-t : goal.invariant-loop-t
-invariant-loop-t g l = IsHandOf l.threads l.hand × IsFree l.p (view_of l.hand)

@@ -1,5 +1,0 @@
-use Rattle.thread_table.specs.Handles.{IsHandOf}
-use Rattle.hand_steps_tests.proofs.thread_tests.two_processors.Given as goal
-
-abbrev pub invariant-loop : goal.invariant-loop
-invariant-loop g l = IsHandOf l.threads l.first

@@ -1,5 +1,0 @@
-use Rattle.meters.specs.Handles.{IsSeatOf}
-use Rattle.meters_tests.proofs.thread_tests.work.Given as goal
-
-abbrev pub invariant-loop-count : goal.invariant-loop-count
-invariant-loop-count l = IsSeatOf l.meters l.seat

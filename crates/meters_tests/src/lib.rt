@@ -1,7 +1,0 @@
-//! The tests of `meters`, in a crate of their own: beside it they would prove it once more.
-#![tactic(auto)]
-
-#[cfg(test)]
-mod tests;
-#[cfg(test)]
-mod thread_tests;

@@ -115,37 +115,51 @@ fn wide(count: usize, each: u32) -> u32 {
         .saturating_mul(each)
 }
 
+/// The side behind so many things of this width from here on, and a space.
+fn behind(from: u32, count: usize, each: u32) -> u32 {
+    from.saturating_add(wide(count, each)).saturating_add(GAP)
+}
+
+/// How many elements these rows show.
+fn shown_in(rows: &[Row]) -> usize {
+    let mut shown = 0;
+    for row in rows {
+        shown = touched(row.status.elements.as_slice()).max(shown);
+    }
+    shown
+}
+
+/// The queues of the last row.
+fn queues_in(rows: &[Row]) -> &[QueueStatus] {
+    match rows.last() {
+        Some(row) => row.status.queues.as_slice(),
+        None => &[],
+    }
+}
+
+/// How many chains the last row has.
+fn chains_in(rows: &[Row]) -> usize {
+    match rows.last() {
+        Some(row) => row.status.chains.as_slice().len(),
+        None => 0,
+    }
+}
+
 /// The columns of a picture with these rows, whose events have so many letters at most.
 pub(crate) fn columns_of(
     alloc: Global,
     rows: &[Row],
     letters: usize,
 ) -> Result<Columns, OutOfMemory> {
-    let start = EVENT
-        .saturating_add(wide(letters, LETTER))
-        .saturating_add(GAP);
-    let mut shown = 0;
-    for row in rows {
-        shown = touched(row.status.elements.as_slice()).max(shown);
-    }
-    let queues: &[QueueStatus] = match rows.last() {
-        Some(row) => row.status.queues.as_slice(),
-        None => &[],
-    };
-    let chains = match rows.last() {
-        Some(row) => row.status.chains.as_slice().len(),
-        None => 0,
-    };
-    let (queues, after_queues) = queue_columns(alloc, queues, start)?;
-    let (chains, elements) = chain_columns(alloc, chains, after_queues)?;
-    let width = elements
-        .saturating_add(wide(shown, ELEMENT))
-        .saturating_add(GAP);
+    let start = behind(EVENT, letters, LETTER);
+    let shown = shown_in(rows);
+    let (queues, after_queues) = queue_columns(alloc, queues_in(rows), start)?;
+    let (chains, elements) = chain_columns(alloc, chains_in(rows), after_queues)?;
     Ok(Columns {
         queues,
         chains,
         elements,
         shown,
-        width: width.max(LEGEND),
+        width: behind(elements, shown, ELEMENT).max(LEGEND),
     })
 }

@@ -1,10 +1,11 @@
 //! The thread elements in a row: a cell each, with a letter and a colour for its place.
 
+use crate::canvas::{BOX, Canvas};
 use crate::columns::ELEMENT;
-use crate::queue_boxes::BOX;
-use crate::shapes::{Anchor, Colour, Shape};
+use crate::shapes::{Anchor, Colour};
+use crate::words::{numbered, text_of};
 use quaject_core::{ElementStatus, Items, OutOfMemory, Place};
-use std::alloc::{AllocError, Global};
+use std::alloc::Global;
 
 /// A place's colour.
 fn colour(place: Place) -> Colour {
@@ -19,79 +20,61 @@ fn colour(place: Place) -> Colour {
 }
 
 /// A place's letter, with its number where it has one.
-fn letter(alloc: Global, place: Place) -> Result<String, AllocError> {
+fn letter(alloc: Global, place: &Place) -> Result<Items<u8>, OutOfMemory> {
     match place {
-        Place::Free => format!(in alloc; "F"),
-        Place::Ready => format!(in alloc; "R"),
-        Place::Processor(processor) => {
-            let number = processor.number();
-            format!(in alloc; "P{number}")
-        }
-        Place::Wait(wait) => {
-            let number = wait.number();
-            format!(in alloc; "W{number}")
-        }
-        Place::Stopped => format!(in alloc; "S"),
-        Place::Held(call) => {
-            let number = call.number();
-            format!(in alloc; "H{number}")
-        }
+        Place::Free => text_of(alloc, b"F"),
+        Place::Ready => text_of(alloc, b"R"),
+        Place::Processor(processor) => numbered(alloc, "P", u64::from(processor.number())),
+        Place::Wait(wait) => numbered(alloc, "W", u64::from(wait.number())),
+        Place::Stopped => text_of(alloc, b"S"),
+        Place::Held(call) => numbered(alloc, "H", u64::from(call.number())),
     }
 }
 
-/// Adds a cell for a place.
+/// Draws a cell for a place.
 pub(crate) fn add_place(
-    alloc: Global,
+    canvas: &mut Canvas,
     place: Place,
     x: u32,
     y: u32,
-    shapes: &mut Vec<Shape>,
 ) -> Result<(), OutOfMemory> {
-    shapes.push(Shape::Cell {
-        x,
-        y,
-        width: ELEMENT,
-        height: BOX,
-        fill: colour(place),
-    })?;
-    Ok(shapes.push(Shape::Words {
-        x: x.saturating_add(ELEMENT / 2),
-        y: y.saturating_add(13),
-        anchor: Anchor::Middle,
-        ink: Colour::Ink,
-        text: Items::new(letter(alloc, place)?.into_bytes()),
-    })?)
+    let text = letter(canvas.alloc, &place)?;
+    canvas.cell(x, y, ELEMENT, colour(place))?;
+    canvas.label(x.saturating_add(ELEMENT / 2), y, Anchor::Middle, text)
 }
 
-/// Adds the mark of a stop bit that is set: a bar under the cell.
-pub(crate) fn add_stop(x: u32, y: u32, shapes: &mut Vec<Shape>) -> Result<(), OutOfMemory> {
-    Ok(shapes.push(Shape::Bar {
-        x,
-        y: y.saturating_add(BOX + 2),
-        width: ELEMENT,
-        height: 4,
-        fill: Colour::Red,
-    })?)
+/// Draws the mark of a stop bit that is set: a bar under the cell.
+pub(crate) fn add_stop(canvas: &mut Canvas, x: u32, y: u32) -> Result<(), OutOfMemory> {
+    canvas.bar(x, y.saturating_add(BOX + 2), ELEMENT, 4, Colour::Red)
 }
 
-/// Adds the cells of the first so many elements.
+/// Draws an element.
+fn add_element(
+    canvas: &mut Canvas,
+    element: &ElementStatus,
+    x: u32,
+    y: u32,
+) -> Result<(), OutOfMemory> {
+    add_place(canvas, element.place, x, y)?;
+    if element.stop {
+        add_stop(canvas, x, y)
+    } else {
+        Ok(())
+    }
+}
+
+/// Draws the first so many elements.
 pub(crate) fn add_elements(
-    alloc: Global,
+    canvas: &mut Canvas,
     elements: &[ElementStatus],
     shown: usize,
     left: u32,
     y: u32,
-    shapes: &mut Vec<Shape>,
 ) -> Result<(), OutOfMemory> {
     let mut x = left;
-    for (number, element) in elements.iter().enumerate() {
-        if number < shown {
-            add_place(alloc, element.place, x, y, shapes)?;
-            if element.stop {
-                add_stop(x, y, shapes)?;
-            }
-            x = x.saturating_add(ELEMENT);
-        }
+    for element in elements.iter().take(shown) {
+        add_element(canvas, element, x, y)?;
+        x = x.saturating_add(ELEMENT);
     }
     Ok(())
 }

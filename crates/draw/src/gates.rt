@@ -1,11 +1,10 @@
 //! A chain in a row: its gate, and how many notes are left in it.
 
+use crate::canvas::Canvas;
 use crate::columns::GATE;
-use crate::queue_boxes::BOX;
-use crate::shapes::{Anchor, Colour, Shape};
+use crate::shapes::{Anchor, Colour};
 use crate::words::text_of;
 use quaject_core::{ChainStatus, Gate, Items, OutOfMemory};
-use std::alloc::Global;
 
 /// A gate's colour.
 fn colour(gate: Gate) -> Colour {
@@ -25,46 +24,23 @@ fn word(gate: Gate) -> &'static [u8] {
     }
 }
 
-/// Adds a gate: a box with its word.
-pub(crate) fn add_gate(
-    alloc: Global,
-    gate: Gate,
-    x: u32,
-    y: u32,
-    shapes: &mut Vec<Shape>,
-) -> Result<(), OutOfMemory> {
-    shapes.push(Shape::Cell {
-        x,
-        y,
-        width: GATE,
-        height: BOX,
-        fill: colour(gate),
-    })?;
-    Ok(shapes.push(Shape::Words {
-        x: x.saturating_add(GATE / 2),
-        y: y.saturating_add(13),
-        anchor: Anchor::Middle,
-        ink: Colour::Ink,
-        text: text_of(alloc, word(gate))?,
-    })?)
+/// Draws a gate: a box with its word.
+pub(crate) fn add_gate(canvas: &mut Canvas, gate: Gate, x: u32, y: u32) -> Result<(), OutOfMemory> {
+    canvas.cell(x, y, GATE, colour(gate))?;
+    let text = text_of(canvas.alloc, word(gate))?;
+    canvas.label(x.saturating_add(GATE / 2), y, Anchor::Middle, text)
 }
 
-/// Adds a chain: its gate, and how many notes are left.
+/// Draws a chain: its gate, and how many notes are left.
 pub(crate) fn add_chain(
-    alloc: Global,
+    canvas: &mut Canvas,
     chain: &ChainStatus,
     x: u32,
     y: u32,
-    shapes: &mut Vec<Shape>,
 ) -> Result<(), OutOfMemory> {
-    add_gate(alloc, chain.gate, x, y, shapes)?;
+    add_gate(canvas, chain.gate, x, y)?;
     let left = chain.left;
-    let text = format!(in alloc; "{left} left")?;
-    Ok(shapes.push(Shape::Words {
-        x: x.saturating_add(GATE + 6),
-        y: y.saturating_add(13),
-        anchor: Anchor::Start,
-        ink: Colour::Ink,
-        text: Items::new(text.into_bytes()),
-    })?)
+    let text = format!(in canvas.alloc; "{left} left")?;
+    let text = Items::new(text.into_bytes());
+    canvas.label(x.saturating_add(GATE + 6), y, Anchor::Start, text)
 }

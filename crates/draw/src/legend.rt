@@ -1,171 +1,161 @@
 //! The legend: what the boxes, the marks and the letters stand for.
 
+use crate::canvas::{BOX, Canvas};
 use crate::columns::Columns;
 use crate::element_cells::{add_place, add_stop};
 use crate::gates::add_gate;
-use crate::queue_boxes::{BOX, PlaceState};
-use crate::shapes::{Anchor, Colour, Shape};
-use crate::words::text_of;
+use crate::queue_boxes::PlaceState;
+use crate::shapes::Colour;
 use quaject_core::{Call, Gate, OutOfMemory, Place, Processor, WaitNumber};
-use std::alloc::Global;
 
-/// Where its lines begin, and how far they are from each other.
-const LEFT: u32 = 12;
+/// How far its lines are from each other.
+const LINE: u32 = 32;
 
-pub(crate) const LINE: u32 = 32;
-
-/// Adds words in ink.
-fn add_words(
-    alloc: Global,
-    words: &[u8],
-    x: u32,
-    y: u32,
-    shapes: &mut Vec<Shape>,
-) -> Result<(), OutOfMemory> {
-    Ok(shapes.push(Shape::Words {
-        x,
-        y: y.saturating_add(13),
-        anchor: Anchor::Start,
-        ink: Colour::Ink,
-        text: text_of(alloc, words)?,
-    })?)
+/// A thing in a line of the legend.
+#[derive(Clone, Copy)]
+enum Sample {
+    Words(&'static [u8]),
+    /// A box of a queue's place.
+    Box(PlaceState),
+    /// The mark of a queue's head.
+    Head,
+    /// The mark of its tail.
+    Tail,
+    /// The bar of a queue that is shut.
+    Shut,
+    Gate(Gate),
+    /// The cell of an element that is free, ready or stopped.
+    Free,
+    Ready,
+    Stopped,
+    /// The cell of one on this processor, in this wait queue, or held by this call.
+    Processor(u8),
+    Wait(u8),
+    Held(u8),
+    /// The mark of a stop bit.
+    Stop,
 }
 
-/// Adds a box of a place in this state, with a call's number in it, and its words.
-fn add_state(
-    alloc: Global,
-    state: PlaceState,
-    number: &[u8],
-    words: &[u8],
-    x: u32,
-    y: u32,
-    shapes: &mut Vec<Shape>,
-) -> Result<(), OutOfMemory> {
-    shapes.push(Shape::Cell {
-        x,
-        y,
-        width: 20,
-        height: BOX,
-        fill: state.colour(),
-    })?;
-    add_words(alloc, number, x.saturating_add(6), y, shapes)?;
-    add_words(alloc, words, x.saturating_add(26), y, shapes)
-}
+/// A line of the legend: each thing by its left side.
+type Line = &'static [(u32, Sample)];
 
-/// The marks of a queue.
-fn add_marks(alloc: Global, y: u32, shapes: &mut Vec<Shape>) -> Result<(), OutOfMemory> {
-    shapes.push(Shape::Down {
-        x: 478,
-        y: y.saturating_add(7),
-    })?;
-    add_words(alloc, b"head", 492, y, shapes)?;
-    shapes.push(Shape::Up {
-        x: 538,
-        y: y.saturating_add(12),
-    })?;
-    add_words(alloc, b"tail", 552, y, shapes)?;
-    shapes.push(Shape::Bar {
-        x: 602,
-        y,
-        width: 4,
-        height: BOX,
-        fill: Colour::Red,
-    })?;
-    add_words(alloc, b"shut", 614, y, shapes)
-}
+/// How wide the box of a queue's place is.
+const PLACE: u32 = 20;
 
 /// The line of queues.
-fn add_queues(alloc: Global, y: u32, shapes: &mut Vec<Shape>) -> Result<(), OutOfMemory> {
-    add_words(alloc, b"queue", LEFT, y, shapes)?;
-    add_state(alloc, PlaceState::Free, b"", b"free", 76, y, shapes)?;
-    add_state(
-        alloc,
-        PlaceState::Claimed,
-        b"1",
-        b"claimed by c1",
-        152,
-        y,
-        shapes,
-    )?;
-    add_state(alloc, PlaceState::Raised, b"1", b"raised", 300, y, shapes)?;
-    add_state(alloc, PlaceState::Taken, b"", b"taken", 392, y, shapes)?;
-    add_marks(alloc, y, shapes)
-}
+#[rattlefmt::skip]
+static QUEUES: [(u32, Sample); 19] = [
+    (12, Sample::Words(b"queue")),
+    (76, Sample::Box(PlaceState::Free)), (82, Sample::Words(b"")), (102, Sample::Words(b"free")),
+    (152, Sample::Box(PlaceState::Claimed)), (158, Sample::Words(b"1")), (178, Sample::Words(b"claimed by c1")),
+    (300, Sample::Box(PlaceState::Raised)), (306, Sample::Words(b"1")), (326, Sample::Words(b"raised")),
+    (392, Sample::Box(PlaceState::Taken)), (398, Sample::Words(b"")), (418, Sample::Words(b"taken")),
+    (478, Sample::Head), (492, Sample::Words(b"head")),
+    (538, Sample::Tail), (552, Sample::Words(b"tail")),
+    (602, Sample::Shut), (614, Sample::Words(b"shut")),
+];
 
 /// The line of chains.
-fn add_gates(alloc: Global, y: u32, shapes: &mut Vec<Shape>) -> Result<(), OutOfMemory> {
-    add_words(alloc, b"gate", LEFT, y, shapes)?;
-    add_gate(alloc, Gate::Idle, 76, y, shapes)?;
-    add_gate(alloc, Gate::Running, 150, y, shapes)?;
-    add_gate(alloc, Gate::More, 224, y, shapes)?;
-    add_words(alloc, b"and how many notes are left", 298, y, shapes)
-}
-
-/// Adds a cell of an element, and its words.
-fn add_cell(
-    alloc: Global,
-    place: Place,
-    words: &[u8],
-    x: u32,
-    y: u32,
-    shapes: &mut Vec<Shape>,
-) -> Result<(), OutOfMemory> {
-    add_place(alloc, place, x, y, shapes)?;
-    add_words(alloc, words, x.saturating_add(38), y, shapes)
-}
+#[rattlefmt::skip]
+static GATES: [(u32, Sample); 5] = [
+    (12, Sample::Words(b"gate")),
+    (76, Sample::Gate(Gate::Idle)), (150, Sample::Gate(Gate::Running)), (224, Sample::Gate(Gate::More)),
+    (298, Sample::Words(b"and how many notes are left")),
+];
 
 /// The line of elements.
-fn add_cells(alloc: Global, y: u32, shapes: &mut Vec<Shape>) -> Result<(), OutOfMemory> {
-    add_words(alloc, b"element", LEFT, y, shapes)?;
-    add_cell(alloc, Place::Free, b"free", 76, y, shapes)?;
-    add_cell(alloc, Place::Ready, b"ready", 152, y, shapes)?;
-    if let Some(processor) = Processor::new(1) {
-        add_cell(alloc, Place::Processor(processor), b"on p1", 236, y, shapes)?;
+#[rattlefmt::skip]
+static ELEMENTS: [(u32, Sample); 15] = [
+    (12, Sample::Words(b"element")),
+    (76, Sample::Free), (114, Sample::Words(b"free")),
+    (152, Sample::Ready), (190, Sample::Words(b"ready")),
+    (236, Sample::Processor(1)), (274, Sample::Words(b"on p1")),
+    (320, Sample::Wait(2)), (358, Sample::Words(b"in w2")),
+    (404, Sample::Held(3)), (442, Sample::Words(b"held by c3")),
+    (526, Sample::Stopped), (564, Sample::Words(b"stopped")),
+    (634, Sample::Stop), (674, Sample::Words(b"stop bit")),
+];
+
+/// The place that a cell shows.
+fn place_of(sample: Sample) -> Option<Place> {
+    match sample {
+        Sample::Free => Some(Place::Free),
+        Sample::Ready => Some(Place::Ready),
+        Sample::Stopped => Some(Place::Stopped),
+        Sample::Processor(number) => Some(Place::Processor(Processor::new(number)?)),
+        Sample::Wait(number) => Some(Place::Wait(WaitNumber::new(number)?)),
+        Sample::Held(number) => Some(Place::Held(Call::new(number)?)),
+        _ => None,
     }
-    if let Some(wait) = WaitNumber::new(2) {
-        add_cell(alloc, Place::Wait(wait), b"in w2", 320, y, shapes)?;
-    }
-    if let Some(call) = Call::new(3) {
-        add_cell(alloc, Place::Held(call), b"held by c3", 404, y, shapes)?;
-    }
-    add_cell(alloc, Place::Stopped, b"stopped", 526, y, shapes)?;
-    add_stop(634, y.saturating_sub(12), shapes)?;
-    add_words(alloc, b"stop bit", 674, y, shapes)
 }
 
-/// Adds the lines of the legend that a picture with these columns needs, with their upper side here.
+/// Draws the cell of an element.
+fn add_cell(canvas: &mut Canvas, sample: Sample, x: u32, y: u32) -> Result<(), OutOfMemory> {
+    match place_of(sample) {
+        Some(place) => add_place(canvas, place, x, y),
+        None => Ok(()),
+    }
+}
+
+/// Draws a thing.
+fn add_sample(canvas: &mut Canvas, sample: Sample, x: u32, y: u32) -> Result<(), OutOfMemory> {
+    match sample {
+        Sample::Words(words) => canvas.words(x, y, words),
+        Sample::Box(state) => canvas.cell(x, y, PLACE, state.colour()),
+        Sample::Head => canvas.down(x, y.saturating_add(7)),
+        Sample::Tail => canvas.up(x, y.saturating_add(12)),
+        Sample::Shut => canvas.bar(x, y, 4, BOX, Colour::Red),
+        Sample::Gate(gate) => add_gate(canvas, gate, x, y),
+        Sample::Stop => add_stop(canvas, x, y.saturating_sub(12)),
+        _ => add_cell(canvas, sample, x, y),
+    }
+}
+
+/// Draws a line.
+fn add_line(canvas: &mut Canvas, line: Line, y: u32) -> Result<(), OutOfMemory> {
+    for (x, sample) in line {
+        add_sample(canvas, *sample, *x, y)?;
+    }
+    Ok(())
+}
+
+/// A line where there is something that it is about, else none.
+fn line_for(is_there: bool, line: Line) -> Line {
+    if is_there { line } else { &[] }
+}
+
+/// The lines of a picture with these columns; those that it doesn't need are empty.
+fn lines_of(columns: &Columns) -> [Line; 3] {
+    [
+        line_for(!columns.queues.as_slice().is_empty(), &QUEUES),
+        line_for(!columns.chains.as_slice().is_empty(), &GATES),
+        line_for(columns.shown > 0, &ELEMENTS),
+    ]
+}
+
+/// Draws the lines of the legend that a picture with these columns needs, with their upper side here.
 pub(crate) fn add_legend(
-    alloc: Global,
+    canvas: &mut Canvas,
     columns: &Columns,
     y: u32,
-    shapes: &mut Vec<Shape>,
 ) -> Result<(), OutOfMemory> {
     let mut y = y;
-    if !columns.queues.as_slice().is_empty() {
-        add_queues(alloc, y, shapes)?;
-        y = y.saturating_add(LINE);
-    }
-    if !columns.chains.as_slice().is_empty() {
-        add_gates(alloc, y, shapes)?;
-        y = y.saturating_add(LINE);
-    }
-    if columns.shown > 0 {
-        add_cells(alloc, y, shapes)?;
+    for line in lines_of(columns) {
+        if !line.is_empty() {
+            add_line(canvas, line, y)?;
+            y = y.saturating_add(LINE);
+        }
     }
     Ok(())
 }
 
 /// How high the legend of such a picture is.
 pub(crate) fn height(columns: &Columns) -> u32 {
-    let mut lines = 0u32;
-    if !columns.queues.as_slice().is_empty() {
-        lines += 1;
+    let mut height = 0u32;
+    for line in lines_of(columns) {
+        if !line.is_empty() {
+            height = height.saturating_add(LINE);
+        }
     }
-    if !columns.chains.as_slice().is_empty() {
-        lines += 1;
-    }
-    if columns.shown > 0 {
-        lines += 1;
-    }
-    lines * LINE
+    height
 }

@@ -1,12 +1,14 @@
 //! The program `draw`: prints a picture of a list of the core's events.
 #![tactic(auto)]
 
+mod canvas;
 mod columns;
 mod drawing;
 mod element_cells;
 mod gates;
 mod history;
 mod legend;
+mod names;
 mod places;
 mod printing;
 mod program;

@@ -1,13 +1,11 @@
 //! A queue's places in a row: a box each, with the marks of its head and its tail.
 
+use crate::canvas::{BOX, Canvas};
 use crate::columns::QueueColumn;
 use crate::places::Seat;
-use crate::shapes::{Anchor, Colour, Shape};
-use quaject_core::{Items, OutOfMemory, QueueStatus};
-use std::alloc::Global;
-
-/// How high a box is.
-pub(crate) const BOX: u32 = 18;
+use crate::shapes::{Anchor, Colour};
+use crate::words::numbered;
+use quaject_core::{OutOfMemory, QueueStatus};
 
 /// The narrowest box that has its call's number inside.
 const ROOM_FOR_NUMBER: u32 = 20;
@@ -58,45 +56,31 @@ fn state_of(seat: Option<&Seat>, queue: &QueueStatus, place: u16) -> PlaceState 
 }
 
 /// The number of the call that claimed a place, inside its box.
-fn add_number(
-    alloc: Global,
-    seat: &Seat,
-    x: u32,
-    y: u32,
-    shapes: &mut Vec<Shape>,
-) -> Result<(), OutOfMemory> {
-    let number = seat.call.number();
-    let text = format!(in alloc; "{number}")?;
-    Ok(shapes.push(Shape::Words {
-        x: x.saturating_add(ROOM_FOR_NUMBER / 2),
-        y: y.saturating_add(13),
-        anchor: Anchor::Middle,
-        ink: Colour::Ink,
-        text: Items::new(text.into_bytes()),
-    })?)
+fn add_number(canvas: &mut Canvas, seat: &Seat, x: u32, y: u32) -> Result<(), OutOfMemory> {
+    let text = numbered(canvas.alloc, "", u64::from(seat.call.number()))?;
+    canvas.label(
+        x.saturating_add(ROOM_FOR_NUMBER / 2),
+        y,
+        Anchor::Middle,
+        text,
+    )
 }
 
 /// The box of one place.
 fn add_place(
-    alloc: Global,
+    canvas: &mut Canvas,
     queue: &QueueStatus,
     left: &[Seat],
     place: u16,
     width: u32,
     x: u32,
     y: u32,
-    shapes: &mut Vec<Shape>,
 ) -> Result<(), OutOfMemory> {
     let seat = seat_at(left, queue, place);
-    shapes.push(Shape::Cell {
-        x,
-        y,
-        width,
-        height: BOX,
-        fill: state_of(seat, queue, place).colour(),
-    })?;
+    let fill = state_of(seat, queue, place).colour();
+    canvas.cell(x, y, width, fill)?;
     match seat {
-        Some(seat) if width >= ROOM_FOR_NUMBER => add_number(alloc, seat, x, y, shapes),
+        Some(seat) if width >= ROOM_FOR_NUMBER => add_number(canvas, seat, x, y),
         _ => Ok(()),
     }
 }
@@ -115,44 +99,63 @@ fn side_of(column: &QueueColumn, count: u64) -> u32 {
 
 /// The marks: the tail, which is taken next, below, and the head, which is claimed next, above.
 fn add_marks(
+    canvas: &mut Canvas,
     queue: &QueueStatus,
     column: &QueueColumn,
     y: u32,
-    shapes: &mut Vec<Shape>,
 ) -> Result<(), OutOfMemory> {
     let inside = column.place.saturating_sub(8) / 2;
-    shapes.push(Shape::Up {
-        x: side_of(column, queue.taken).saturating_add(inside),
-        y: y.saturating_add(BOX).saturating_add(7),
-    })?;
-    Ok(shapes.push(Shape::Down {
-        x: side_of(column, queue.put).saturating_add(inside),
-        y: y.saturating_sub(7),
-    })?)
+    let tail = side_of(column, queue.taken).saturating_add(inside);
+    let head = side_of(column, queue.put).saturating_add(inside);
+    canvas.up(tail, y.saturating_add(BOX + 7))?;
+    canvas.down(head, y.saturating_sub(7))
 }
 
-/// Adds a queue's places at a height: their boxes, and the marks. A queue that is shut has a bar at its right side.
-pub(crate) fn add_queue(
-    alloc: Global,
+/// The boxes of all places. The answer is their right side.
+fn add_places(
+    canvas: &mut Canvas,
     queue: &QueueStatus,
     left: &[Seat],
     column: &QueueColumn,
     y: u32,
-    shapes: &mut Vec<Shape>,
-) -> Result<(), OutOfMemory> {
+) -> Result<u32, OutOfMemory> {
     let mut x = column.left;
     for place in 0..column.places {
-        add_place(alloc, queue, left, place, column.place, x, y, shapes)?;
+        add_place(canvas, queue, left, place, column.place, x, y)?;
         x = x.saturating_add(column.place);
     }
+    Ok(x)
+}
+
+/// The bar of a queue that is shut, at its right side.
+fn add_shut(
+    canvas: &mut Canvas,
+    queue: &QueueStatus,
+    side: u32,
+    y: u32,
+) -> Result<(), OutOfMemory> {
     if queue.shut {
-        shapes.push(Shape::Bar {
-            x: x.saturating_add(3),
-            y: y.saturating_sub(3),
-            width: 4,
-            height: BOX + 6,
-            fill: Colour::Red,
-        })?;
+        canvas.bar(
+            side.saturating_add(3),
+            y.saturating_sub(3),
+            4,
+            BOX + 6,
+            Colour::Red,
+        )
+    } else {
+        Ok(())
     }
-    add_marks(queue, column, y, shapes)
+}
+
+/// Draws a queue's places at a height: their boxes, and the marks. A queue that is shut has a bar at its right side.
+pub(crate) fn add_queue(
+    canvas: &mut Canvas,
+    queue: &QueueStatus,
+    left: &[Seat],
+    column: &QueueColumn,
+    y: u32,
+) -> Result<(), OutOfMemory> {
+    let side = add_places(canvas, queue, left, column, y)?;
+    add_shut(canvas, queue, side, y)?;
+    add_marks(canvas, queue, column, y)
 }

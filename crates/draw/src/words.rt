@@ -8,6 +8,12 @@ pub(crate) fn text_of(alloc: Global, bytes: &[u8]) -> Result<Items<u8>, OutOfMem
     Ok(Items::new(bytes.to_vec(alloc)?))
 }
 
+/// A letter, or none, and a number behind it.
+pub(crate) fn numbered(alloc: Global, letter: &str, number: u64) -> Result<Items<u8>, OutOfMemory> {
+    let text = format!(in alloc; "{letter}{number}")?;
+    Ok(Items::new(text.into_bytes()))
+}
+
 /// The front of a line; where the line is longer, two full stops end it.
 pub(crate) fn front_of(alloc: Global, line: &[u8], most: usize) -> Result<Items<u8>, OutOfMemory> {
     if line.len() <= most {

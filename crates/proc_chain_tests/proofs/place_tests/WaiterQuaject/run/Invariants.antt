@@ -1,5 +1,0 @@
-use Rattle.claim_queue.specs.Handles as queues
-use Rattle.proc_chain_tests.proofs.place_tests.WaiterQuaject.run.Given as goal
-
-abbrev pub invariant-loop : goal.invariant-loop
-invariant-loop l = queues.IsEndOf l.world l.self.end

@@ -1,0 +1,5 @@
+use Rattle.end_steps.specs.EndLists.{AreChainEndsOf}
+use Rattle.queue_tests.proofs.at_ends.tests.left_to_another.Given as goal
+
+abbrev pub invariant-loop : goal.invariant-loop
+invariant-loop g l = AreChainEndsOf l.chains l.ends.items

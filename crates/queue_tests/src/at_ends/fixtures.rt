@@ -1,0 +1,321 @@
+//! Queues with an end of each, a pump over two of them, and a gate that keeps what it is told.
+ghost use Rattle.std.specs.Prelude.{◌≡◌, ◌≤◌, ◌<◌, length, IfOk};
+ghost use Rattle.std.specs.List.{All};
+ghost use Rattle.claim_queue.specs.Handles.{view_of};
+ghost use Rattle.quajects.specs.Ports.{IsEndAt, IsUnused};
+ghost use Rattle.end_steps.specs.EndLists.{IsIdle, chain_table, chain_end_table};
+ghost use Rattle.end_steps.specs.EndLists.{AreEndsOf, AreChainEndsOf, AreChainsOver, IsDivisible, IsChainDivisible};
+
+use arrayvec::ArrayVec;
+use claim_queue::{ClaimQueue, ClaimRefusal, QueueEnd, TakeRefusal};
+use end_steps::{Gate, NoGate, Point, Poked, hear, poke, say};
+use proc_chain::{ChainEnd, ChainRefusal, ProcChain};
+use quaject_core::OutOfMemory;
+use quajects::{AnyQuaject, Pump, Queues};
+use std::alloc::Global;
+use std::panic::Expect;
+use std::process::Abort;
+use std::sync::Wait;
+
+pub(crate) type Chain = ProcChain<AnyQuaject>;
+
+pub(crate) type End = ChainEnd<AnyQuaject>;
+
+/// Two queues with an end of each, and other ends.
+#[derive(Drop)]
+pub(crate) struct TwoQueues<const N: usize> {
+    pub(crate) queues: Vec<ClaimQueue<N>>,
+    pub(crate) ends: Vec<QueueEnd<N>>,
+    ghost fit: { AreEndsOf queues.items ends.items },
+    ghost two: { length queues.items ≡ 2 },
+    ghost parts: { All IsDivisible ends.items },
+}
+
+pub(crate) fn two_queues<R: Abort, const N: usize>(rt: &R, alloc: Global) -> TwoQueues<N>
+    requires { (1 ≤ N) × (N ≤ 256) }
+{
+    let (first, a) = ClaimQueue::new(alloc, 0).expect(rt, "memory");
+    let (second, b) = ClaimQueue::new(alloc, 0).expect(rt, "memory");
+    let mut queues = Vec::new(alloc);
+    queues.push(first).expect(rt, "memory");
+    queues.push(second).expect(rt, "memory");
+    let mut ends = Vec::new(alloc);
+    ends.push(a).expect(rt, "memory");
+    ends.push(b).expect(rt, "memory");
+    TwoQueues { queues, ends }
+}
+
+/// A pump from the first of two small queues to the second, with an end of each queue and two of its chain.
+#[derive(Drop)]
+pub(crate) struct Pumped {
+    pub(crate) world: Queues,
+    pub(crate) ends: Vec<QueueEnd<64>>,
+    pub(crate) chains: Vec<Chain>,
+    pub(crate) chain_ends: Vec<End>,
+    pub(crate) other: End,
+    ghost fit: { AreEndsOf world.small.items ends.items },
+    ghost two: { length world.small.items ≡ 2 },
+    ghost ends_divide: { All IsDivisible ends.items },
+    ghost chains_fit: { AreChainEndsOf chains.items chain_ends.items },
+    ghost one: { length chains.items ≡ 1 },
+    ghost over: { AreChainsOver world chains.items },
+    ghost parts: { All IsChainDivisible chain_ends.items },
+    ghost other_fits: { All (λ chain. chain_end_table other ≡ chain_table chain) chains.items },
+    ghost other_idle: { IsIdle other },
+}
+
+/// Two small queues with an end of each, and the ends of a pump from the first to the second.
+#[derive(Drop)]
+struct Piped {
+    queues: Vec<ClaimQueue<64>>,
+    ends: Vec<QueueEnd<64>>,
+    source: QueueEnd<64>,
+    target: QueueEnd<64>,
+    ghost fit: { AreEndsOf queues.items ends.items },
+    ghost two: { length queues.items ≡ 2 },
+    ghost ends_divide: { All IsDivisible ends.items },
+    ghost source_at: { IsEndAt queues.items 0 source × IsUnused (view_of source) },
+    ghost target_at: { IsEndAt queues.items 1 target × IsUnused (view_of target) },
+}
+
+fn make_pipe(alloc: Global) -> Result<Piped, OutOfMemory> {
+    let (first, mut source) = ClaimQueue::new(alloc, 0)?;
+    let a = first.split(&mut source);
+    let (second, mut target) = ClaimQueue::new(alloc, 0)?;
+    let b = second.split(&mut target);
+    let mut queues = Vec::new(alloc);
+    queues.push(first)?;
+    queues.push(second)?;
+    let mut ends = Vec::new(alloc);
+    ends.push(a)?;
+    ends.push(b)?;
+    Ok(Piped {
+        queues,
+        ends,
+        source,
+        target,
+    })
+}
+
+/// The chain of a pump in a list, with two ends of it.
+#[tactic(auto, using(quajects::proofs::Making::made_of_itself))]
+fn chain_pump(
+    alloc: Global,
+    world: &Queues,
+    source: QueueEnd<64>,
+    target: QueueEnd<64>,
+) -> Result<(Vec<Chain>, Vec<End>, End), OutOfMemory>
+    requires source { IsEndAt world.now.small.items 0 source × IsUnused (view_of source) }
+    requires target { IsEndAt world.now.small.items 1 target × IsUnused (view_of target) }
+    ensures fit { IfOk result (λ r. AreChainEndsOf r.0.items r.1.items × (length r.0.items ≡ 1)) }
+    ensures over { IfOk result (λ r. AreChainsOver world.now r.0.items) }
+    ensures parts { IfOk result (λ r. All IsChainDivisible r.1.items) }
+    ensures other { IfOk result (λ r. All (λ chain. chain_end_table r.2 ≡ chain_table chain) r.0.items × IsIdle r.2) }
+{
+    let pump = AnyQuaject::Pump(Pump::new(0, source, 1, target));
+    let Ok((chain, mut end)) = Chain::new(alloc, 0, pump, world) else {
+        return Err(OutOfMemory);
+    };
+    let other = chain.split(&mut end);
+    let mut chains = Vec::new(alloc);
+    chains.push(chain)?;
+    let mut ends = Vec::new(alloc);
+    ends.push(end)?;
+    Ok((chains, ends, other))
+}
+
+pub(crate) fn make_pump(alloc: Global) -> Result<Pumped, OutOfMemory> {
+    let Piped {
+        queues,
+        ends,
+        source,
+        target,
+    } = make_pipe(alloc)?;
+    let large = Vec::new(alloc);
+    let world = Queues {
+        small: queues,
+        large,
+    };
+    let (chains, chain_ends, other) = chain_pump(alloc, &world, source, target)?;
+    Ok(Pumped {
+        world,
+        ends,
+        chains,
+        chain_ends,
+        other,
+    })
+}
+
+/// A gate that keeps the points that it is told, in their order, while there is memory.
+#[derive(Drop)]
+pub(crate) struct Recorder {
+    pub(crate) points: Vec<(u8, Point)>,
+}
+
+impl Recorder {
+    pub(crate) fn new(alloc: Global) -> Recorder {
+        Recorder {
+            points: Vec::new(alloc),
+        }
+    }
+}
+
+impl Gate for Recorder {
+    ghost told = { λ old p point new. Unit {0} };
+
+    fn between(&mut self, p: u8, point: Point) {
+        let _wanting = self.points.push((p, point));
+    }
+}
+
+/// Puts the items in the queue with this index, on this processor with this gate.
+pub(crate) fn puts_by<G: Gate, const N: usize>(
+    queues: &[ClaimQueue<N>],
+    ends: &mut Vec<QueueEnd<N>>,
+    index: usize,
+    items: &[u64],
+    p: u8,
+    gate: &mut G,
+) -> Result<(), ClaimRefusal>
+    requires { AreEndsOf queues.now ends.old.items × (index < length queues.now) }
+    ensures { AreEndsOf queues.now ends.new.items }
+{
+    say(queues, ends, index, items, p, gate)
+}
+
+/// Puts the items in the queue with this index.
+pub(crate) fn puts<const N: usize>(
+    queues: &[ClaimQueue<N>],
+    ends: &mut Vec<QueueEnd<N>>,
+    index: usize,
+    items: &[u64],
+) -> Result<(), ClaimRefusal>
+    requires { AreEndsOf queues.now ends.old.items × (index < length queues.now) }
+    ensures { AreEndsOf queues.now ends.new.items }
+{
+    say(queues, ends, index, items, 0, &mut NoGate)
+}
+
+/// Takes a line from the queue with this index, on this processor with this gate: the answer, and whether it has these
+/// items.
+pub(crate) fn takes_by<G: Gate>(
+    queues: &[ClaimQueue<64>],
+    ends: &mut Vec<QueueEnd<64>>,
+    index: usize,
+    items: &[u64],
+    p: u8,
+    gate: &mut G,
+) -> (Result<(), TakeRefusal>, bool)
+    requires { AreEndsOf queues.now ends.old.items × (index < length queues.now) }
+    ensures { AreEndsOf queues.now ends.new.items }
+{
+    let mut line = ArrayVec::new();
+    let taken = hear(queues, ends, index, &mut line, p, gate);
+    (taken, line.as_slice() == items)
+}
+
+/// Whether a line of these items is taken from the queue with this index.
+pub(crate) fn takes(
+    queues: &[ClaimQueue<64>],
+    ends: &mut Vec<QueueEnd<64>>,
+    index: usize,
+    items: &[u64],
+) -> bool
+    requires { AreEndsOf queues.now ends.old.items × (index < length queues.now) }
+    ensures { AreEndsOf queues.now ends.new.items }
+{
+    takes_by(queues, ends, index, items, 0, &mut NoGate) == (Ok(()), true)
+}
+
+/// Pokes the only chain, on this processor with this gate.
+pub(crate) fn pokes_by<R: Wait, G: Gate>(
+    rt: &R,
+    world: &Queues,
+    chains: &[Chain],
+    ends: &mut Vec<End>,
+    p: u8,
+    gate: &mut G,
+) -> Result<Poked, ChainRefusal>
+    requires ends { AreChainEndsOf chains.now ends.old.items × (length chains.now ≡ 1) }
+    requires world { AreChainsOver world.now chains.now }
+    ensures { AreChainEndsOf chains.now ends.new.items }
+{
+    poke(rt, world, chains, ends, 0, p, gate)
+}
+
+/// Pokes the only chain.
+pub(crate) fn pokes_it<R: Wait>(
+    rt: &R,
+    world: &Queues,
+    chains: &[Chain],
+    ends: &mut Vec<End>,
+) -> Result<Poked, ChainRefusal>
+    requires ends { AreChainEndsOf chains.now ends.old.items × (length chains.now ≡ 1) }
+    requires world { AreChainsOver world.now chains.now }
+    ensures { AreChainEndsOf chains.now ends.new.items }
+{
+    poke(rt, world, chains, ends, 0, 0, &mut NoGate)
+}
+
+/// What is answered at a point: whether 64 items more are put, whether a line is taken then, and how long it is.
+pub(crate) type Seen = (
+    Point,
+    Result<(), ClaimRefusal>,
+    Result<(), TakeRefusal>,
+    usize,
+);
+
+/// As many items as a small queue has places.
+pub(crate) const SIXTY_FOUR: &[u64] = &[7; 64];
+
+/// A gate that tries at each point, at other ends, to put as many items as a queue has places and then to take a line,
+/// and keeps what it is answered. So it tells how far a step is when the gate is called.
+#[derive(Drop)]
+pub(crate) struct Watcher<'a> {
+    pub(crate) queues: &'a [ClaimQueue<64>],
+    pub(crate) ends: Vec<QueueEnd<64>>,
+    pub(crate) index: usize,
+    pub(crate) seen: Vec<Seen>,
+    ghost fit: { AreEndsOf queues.now ends.items },
+    ghost known: { index < length queues.now },
+}
+
+impl<'a> Gate for Watcher<'a> {
+    ghost told = { λ old p point new. Unit {0} };
+
+    fn between(&mut self, _p: u8, point: Point) {
+        let put = puts(self.queues, &mut self.ends, self.index, SIXTY_FOUR);
+        let mut line = ArrayVec::new();
+        let taken = hear(
+            self.queues,
+            &mut self.ends,
+            self.index,
+            &mut line,
+            0,
+            &mut NoGate,
+        );
+        let _wanting = self.seen.push((point, put, taken, line.len()));
+    }
+}
+
+/// A gate that pokes the first of the chains at other ends, and keeps what it is answered.
+#[derive(Drop)]
+pub(crate) struct Poker<'a, R: Wait> {
+    pub(crate) rt: &'a R,
+    pub(crate) world: &'a Queues,
+    pub(crate) chains: &'a [Chain],
+    pub(crate) ends: Vec<End>,
+    pub(crate) poked: Vec<Result<Poked, ChainRefusal>>,
+    ghost fit: { AreChainEndsOf chains.now ends.items },
+    ghost one: { length chains.now ≡ 1 },
+    ghost over: { AreChainsOver world.now chains.now },
+}
+
+impl<'a, R: Wait> Gate for Poker<'a, R> {
+    ghost told = { λ old p point new. Unit {0} };
+
+    fn between(&mut self, _p: u8, _point: Point) {
+        let poked = pokes_it(self.rt, self.world, self.chains, &mut self.ends);
+        let _wanting = self.poked.push(poked);
+    }
+}

@@ -1,0 +1,4 @@
+//! The tests of `end_steps`.
+
+mod fixtures;
+mod tests;

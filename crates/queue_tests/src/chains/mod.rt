@@ -1,0 +1,6 @@
+//! The tests of `proc_chain`.
+
+mod client_tests;
+mod place_tests;
+mod tests;
+mod thread_tests;

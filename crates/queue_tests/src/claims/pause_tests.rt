@@ -1,0 +1,143 @@
+//! What another end does between the steps of a claim or a take.
+ghost use Rattle.claim_queue.specs.Handles.{IsEndOf};
+
+use crate::claims::scripts::{Act, Four, does, new_four};
+use claim_queue::*;
+use std::alloc::Global;
+use std::process::Abort;
+use std::sync::Wait;
+use std::test::*;
+
+/// In the pause, another end does these acts.
+#[derive(Drop)]
+struct Held<'a, R: Abort + Wait> {
+    rt: &'a R,
+    queue: &'a Four,
+    end: QueueEnd<4>,
+    acts: &'static [Act],
+    done: bool,
+    ghost of: { IsEndOf queue.now end },
+}
+
+impl<'a, R: Abort + Wait> Pause for Held<'a, R> {
+    fn between(&mut self) {
+        does(self.rt, self.queue, &mut self.end, self.acts);
+        self.done = true;
+    }
+}
+
+/// The call with a pause, and how it is answered.
+enum Call {
+    /// A claim of the item 1.
+    Claim(ClaimRefusal),
+    Take(Result<u64, TakeRefusal>),
+}
+
+/// What an end does before its call and behind it, what another does in the pause, and that one behind all.
+struct Script {
+    before: &'static [Act],
+    call: Call,
+    pause: &'static [Act],
+    behind: &'static [Act],
+    other: &'static [Act],
+}
+
+fn is_answered<R: Abort + Wait>(
+    queue: &Four,
+    end: &mut QueueEnd<4>,
+    call: &Call,
+    held: &mut Held<R>,
+) -> bool
+    requires { IsEndOf queue.now end.old }
+    ensures { IsEndOf queue.now end.new }
+{
+    match call {
+        Call::Claim(refusal) => match queue.try_claim_paused(end, &[1], held) {
+            Ok(_) => false,
+            Err(answer) => answer == *refusal,
+        },
+        Call::Take(answer) => queue.try_take_paused(end, held) == *answer,
+    }
+}
+
+fn plays<R: Abort + Wait>(rt: &R, alloc: Global, script: &Script) {
+    let (queue, mut end) = new_four(rt, alloc, 0);
+    let other = queue.split(&mut end);
+    does(rt, &queue, &mut end, script.before);
+    let mut held = Held {
+        rt,
+        queue: &queue,
+        end: other,
+        acts: script.pause,
+        done: false,
+    };
+    assert!(rt; is_answered(&queue, &mut end, &script.call, &mut held));
+    assert!(rt; held.done);
+    does(rt, &queue, &mut end, script.behind);
+    does(rt, held.queue, &mut held.end, script.other);
+}
+
+/// Another end puts two items first: what stands behind the run is put and taken behind it.
+const LOST_HEAD: Script = Script {
+    before: &[],
+    call: Call::Claim(ClaimRefusal::Lost { head: 2 }),
+    pause: &[Act::Put(&[2, 3], Ok(0))],
+    behind: &[
+        Act::Put(&[1], Ok(2)),
+        Act::Take(Ok(2)),
+        Act::Take(Ok(3)),
+        Act::Take(Ok(1)),
+    ],
+    other: &[],
+};
+
+/// Another end takes the item first.
+const LOST_TAIL: Script = Script {
+    before: &[Act::Put(&[1, 2], Ok(0))],
+    call: Call::Take(Err(TakeRefusal::Lost { tail: 1 })),
+    pause: &[Act::Take(Ok(1))],
+    behind: &[Act::Take(Ok(2))],
+    other: &[Act::Take(Err(TakeRefusal::Empty { at: 2 }))],
+};
+
+/// Another end shuts the queue.
+const SHUT_IN_THE_PAUSE: Script = Script {
+    before: &[],
+    call: Call::Claim(ClaimRefusal::Closed),
+    pause: &[Act::Shut(true)],
+    behind: &[],
+    other: &[],
+};
+
+/// Another end puts an item and shuts the queue, and what is in it is taken.
+const CLOSED_WHEN_ALL_IS_TAKEN: Script = Script {
+    before: &[Act::Put(&[1], Ok(0))],
+    call: Call::Take(Ok(1)),
+    pause: &[Act::Put(&[2], Ok(1)), Act::Shut(true)],
+    behind: &[
+        Act::Take(Ok(2)),
+        Act::Take(Err(TakeRefusal::Closed)),
+        Act::Line(Err(TakeRefusal::Closed), &[]),
+    ],
+    other: &[],
+};
+
+#[test]
+fn lost_head(rt: HostRuntime) {
+    plays(&rt, rt.alloc(), &LOST_HEAD);
+}
+
+#[test]
+fn lost_tail(rt: HostRuntime) {
+    plays(&rt, rt.alloc(), &LOST_TAIL);
+}
+
+#[test]
+fn shut_in_the_pause(rt: HostRuntime) {
+    plays(&rt, rt.alloc(), &SHUT_IN_THE_PAUSE);
+}
+
+#[test]
+fn closed_when_all_is_taken(rt: HostRuntime) {
+    plays(&rt, rt.alloc(), &CLOSED_WHEN_ALL_IS_TAKEN);
+}

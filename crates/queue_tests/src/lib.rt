@@ -1,0 +1,14 @@
+//! The tests of `claim_queue`, `proc_chain`, `quajects` and `end_steps`, in a crate of their own: beside a library they
+//! would prove it once more, and each crate of tests links all that it stands on.
+#![tactic(auto)]
+
+#[cfg(test)]
+mod at_ends;
+#[cfg(test)]
+mod chains;
+#[cfg(test)]
+mod claims;
+#[cfg(test)]
+mod fixtures;
+#[cfg(test)]
+mod movers;

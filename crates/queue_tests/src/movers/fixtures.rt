@@ -1,0 +1,92 @@
+//! Queues for the tests, with ends of each.
+ghost use Rattle.quajects.specs.Ports.{IsEndAt};
+
+use crate::fixtures::{Two, queue_with_two};
+use arrayvec::ArrayVec;
+use claim_queue::{ClaimQueue, QueueEnd};
+use quajects::Queues;
+use std::alloc::Global;
+use std::panic::Expect;
+use std::process::Abort;
+
+/// Three small queues, and two ends of each.
+#[derive(Drop)]
+pub(crate) struct Three {
+    pub(crate) queues: Queues,
+    pub(crate) ends: (Two<64>, Two<64>, Two<64>),
+    ghost first: { IsEndAt queues.small.items 0 ends.0.mine × IsEndAt queues.small.items 0 ends.0.other },
+    ghost second: { IsEndAt queues.small.items 1 ends.1.mine × IsEndAt queues.small.items 1 ends.1.other },
+    ghost third: { IsEndAt queues.small.items 2 ends.2.mine × IsEndAt queues.small.items 2 ends.2.other },
+}
+
+pub(crate) fn three_small<R: Abort>(rt: &R, alloc: Global) -> Three {
+    let (first, a) = queue_with_two(rt, alloc, 0);
+    let (second, b) = queue_with_two(rt, alloc, 0);
+    let (third, c) = queue_with_two(rt, alloc, 0);
+    let mut small = Vec::new(alloc);
+    small.push(first).expect(rt, "memory");
+    small.push(second).expect(rt, "memory");
+    small.push(third).expect(rt, "memory");
+    let large = Vec::new(alloc);
+    Three {
+        queues: Queues { small, large },
+        ends: (a, b, c),
+    }
+}
+
+/// A raw queue, a line queue and a screen queue, and two ends of each.
+#[derive(Drop)]
+pub(crate) struct Typing {
+    pub(crate) queues: Queues,
+    pub(crate) raw: Two<64>,
+    pub(crate) line: Two<256>,
+    pub(crate) screen: Two<256>,
+    ghost raw_at: { IsEndAt queues.small.items 0 raw.mine × IsEndAt queues.small.items 0 raw.other },
+    ghost line_at: { IsEndAt queues.large.items 0 line.mine × IsEndAt queues.large.items 0 line.other },
+    ghost screen_at: { IsEndAt queues.large.items 1 screen.mine × IsEndAt queues.large.items 1 screen.other },
+}
+
+pub(crate) fn tty_queues<R: Abort>(rt: &R, alloc: Global) -> Typing {
+    let (first, raw) = queue_with_two(rt, alloc, 0);
+    let (second, line) = queue_with_two(rt, alloc, 0);
+    let (third, screen) = queue_with_two(rt, alloc, 0);
+    let mut small = Vec::new(alloc);
+    small.push(first).expect(rt, "memory");
+    let mut large = Vec::new(alloc);
+    large.push(second).expect(rt, "memory");
+    large.push(third).expect(rt, "memory");
+    Typing {
+        queues: Queues { small, large },
+        raw,
+        line,
+        screen,
+    }
+}
+
+/// Whether `try_put` puts the items in the queue with this index.
+pub(crate) fn puts_at<const N: usize>(
+    queues: &[ClaimQueue<N>],
+    index: usize,
+    end: &mut QueueEnd<N>,
+    items: &[u64],
+) -> bool
+    requires { IsEndAt queues.now index end.old }
+    ensures { IsEndAt queues.now index end.new }
+{
+    queues[index].try_put(end, items).is_ok()
+}
+
+/// Whether `try_take_line` takes these items from the queue with this index.
+pub(crate) fn takes_at<const N: usize>(
+    queues: &[ClaimQueue<N>],
+    index: usize,
+    end: &mut QueueEnd<N>,
+    line: &mut ArrayVec<u64, N>,
+    items: &[u64],
+) -> bool
+    requires { IsEndAt queues.now index end.old }
+    ensures { IsEndAt queues.now index end.new }
+{
+    line.clear();
+    queues[index].try_take_line(end, line).is_ok() && line.as_slice() == items
+}

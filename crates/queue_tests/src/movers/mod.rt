@@ -1,0 +1,7 @@
+//! The tests of `quajects`. What pumps, switches and ttys do for a script's pokes and typed bytes, the program's boots
+//! show.
+
+mod fixtures;
+mod tests;
+mod thread_tests;
+mod tty_tests;

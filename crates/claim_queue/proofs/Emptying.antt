@@ -1,5 +1,5 @@
 -- What the steps of a taking say together.
-use Rattle.std.proofs.Common.{◌≡◌, ◌≢◌, ℕ, ◌+◌, ◌-◌, ◌<◌, ◌≤◌, ◌⊎◌, inl, inr, Bool, true, false, List, length, get_or, map, take, drop, sym, refl, ap, ◌∙◌, subst, arith, length-drop}
+use Rattle.std.proofs.Common.{◌≡◌, ◌≢◌, ℕ, ◌+◌, ◌-◌, ◌<◌, ◌≤◌, ◌⊎◌, inl, inr, Bool, true, false, List, [], length, get_or, map, take, drop, sym, refl, ap, ◌∙◌, subst, arith, length-drop}
 use Rattle.std.proofs.lemmas.List.{ext_get_or, get_or-map, get_or-take, get_or-drop, length-map, length-take-le}
 use Rattle.table_theory.specs.declared.queues.Cell.{Cell}
 use Rattle.table_theory.specs.declared.queues.Positions.{Positions}
@@ -18,7 +18,7 @@ use Rattle.claim_queue.specs.Shown.{mark}
 use Rattle.claim_queue.specs.Steps.{took, Found, Took}
 use Rattle.claim_queue.specs.Reads.{HasFound}
 use Rattle.claim_queue.proofs.Staying.{stays_scanned, stays_stopped, tail_on, sees_through}
-use Rattle.claim_queue.specs.Takings.{Scanned, StoppedAt, TookItems, FoundTooFew, IsRefusedAt, RefusedTake, WasEmpty, PassedBefore, PassedMeanwhile, WasDone}
+use Rattle.claim_queue.specs.Takings.{Scanned, StoppedAt, TookItems, FoundTooFew, IsRefusedAt, RefusedTake, WasEmpty, PassedBefore, PassedMeanwhile, WasDone, IsNone, PausedTake}
 
 shut_at : (n m : ℕ) (b : Bool) → n < 4294967296 → n + mark b ≡ 4294967296 + m → (b ≡ true) × (n ≡ m)
 shut_at n m true h e = (refl, omega arith)
@@ -121,3 +121,9 @@ refused_few Few Enough room u v s w tail at xs (Empty position) a stop few is lo
     (emptied_at Few room u h.2 w tail h.1 tail xs (too_few Few room u v s h.2 tail h.1 xs a stop few h.3) low h.4 h.5 refl)
 refused_few Few Enough room u v s w tail at xs (Lost now) a stop few is low h = inl (passed_before Few room u h.1 w tail h.0 now xs (too_few Few room u v s h.1 tail h.0 xs a stop few h.2) h.3 h.4 h.5)
 refused_few Few Enough room u v s w tail at xs Closed a stop few is low h = done Few room u w tail (4294967296 + tail) xs (too_few Few room u v s w tail (4294967296 + tail) xs a stop few h) refl
+
+-- where the end stopped at the first place, its pause was not called
+pub refused_unpaused : {P : Type 0} → (Called : P → P → Type 0) (room : ℕ) (u v s w : View) (tail at : ℕ) (r : TakeRefusal) (p : P) → Found u 1 tail v → StoppedAt room v tail [] s → IsRefusedAt s tail at r w → PausedTake Called room u r w p p
+refused_unpaused Called room u v s w tail at (Empty position) p a stop h = refl
+refused_unpaused Called room u v s w tail at (Lost now) p a stop h = inl (passed_before IsNone room u h.1 w tail h.0 now [] (too_few IsNone room u v s h.1 tail h.0 [] a stop refl h.2) h.3 h.4 h.5, refl)
+refused_unpaused Called room u v s w tail at Closed p a stop h = refl

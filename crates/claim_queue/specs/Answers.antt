@@ -79,3 +79,11 @@ Refused room v n Closed w = Fits room n × (FoundShut v w ⊎ ShutMeanwhile room
 Refused room v n Spent w = Fits room n × WasSpent v n w
 Refused room v n (Full head tail) w = Fits room n × WasFull room v n head tail w
 Refused room v n (Lost head) w = Fits room n × WasLost room v n head w
+
+-- What a refused claim of n items did to its pause: called it once where it came to its exchange, and else left it as
+-- it was. Closed comes with the exchange and without it, as the entries tell: head, tail and head, or the head alone
+abbrev pub PausedClaim : {P : Type 0} → (P → P → Type 0) → ℕ → View → ℕ → ClaimRefusal → View → P → P → Type 0
+PausedClaim Called room v n Closed w old new =
+    (FoundShut v w × (new ≡ old)) ⊎ (ShutMeanwhile room v n w × Called old new)
+PausedClaim Called room v n (Lost head) w old new = Called old new
+PausedClaim Called room v n refusal w old new = new ≡ old

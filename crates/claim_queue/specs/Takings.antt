@@ -126,3 +126,11 @@ IsRefusedAt v tail at (Empty position) w = (position ≡ at) × (head : ℕ) × 
 IsRefusedAt v tail at (Lost now) w = (head : ℕ) × (u : View) × Found v head_word head u
     × (head ≢ 4294967296 + tail) × Found u tail_word now w × (now ≢ tail)
 IsRefusedAt v tail at Closed w = Found v head_word (4294967296 + tail) w
+
+-- What a refused taking of one item did to its pause: called it once where it came to its exchange, and else left it as
+-- it was. Lost comes with the exchange and without it, as the entries tell: tail, flag, data and tail, or tail, flag,
+-- head and tail
+abbrev pub PausedTake : {P : Type 0} → (P → P → Type 0) → ℕ → View → TakeRefusal → View → P → P → Type 0
+PausedTake Called room v (Lost tail) w old new =
+    (PassedBefore IsNone room v tail w × (new ≡ old)) ⊎ (PassedMeanwhile IsOne room v tail w × Called old new)
+PausedTake Called room v refusal w old new = new ≡ old

@@ -3,7 +3,7 @@
 ghost use Rattle.std.specs.Prelude.{◌≡◌, ◌+◌, ◌<◌, ◌≤◌, ℕ, true, length, MatchResult, MatchBool, IfOk, slice_index};
 ghost use Rattle.table_theory.specs.Listing.{AllRaised};
 ghost use Rattle.claim_queue.specs.Claims.{Owns, KeepsClaims, KeepsOthers};
-ghost use Rattle.claim_queue.specs.Answers.{ClaimedItems, Refused};
+ghost use Rattle.claim_queue.specs.Answers.{ClaimedItems, Refused, PausedClaim};
 ghost use Rattle.claim_queue.specs.declared.claim.ClaimRefusal.TheVariants as refusals;
 ghost use Rattle.claim_queue.specs.Lines.{SameLines, PutLine};
 ghost use Rattle.claim_queue.specs.Puts.{Raised, RaisedFrom, IsPut, PutAnswer, is_lost};
@@ -116,7 +116,8 @@ impl<const N: usize> ClaimQueue<N> {
         self.try_claim_paused(end, items, &mut NoPause)
     }
 
-    /// `try_claim`, with a pause before the exchange, in which another end may step.
+    /// `try_claim`, with a pause just before the exchange, in which another end may step. A try that is refused before
+    /// its exchange does not call it.
     pub fn try_claim_paused<P: Pause>(
         &self,
         end: &mut QueueEnd<N>,
@@ -134,6 +135,8 @@ impl<const N: usize> ClaimQueue<N> {
             (λ r. SameLines (view_of end.old) (view_of end.new)) }
         ensures shut { (view_of end.old).part.queue.shut ≡ true → 0 < length items.now → length items.now ≤ N
             → MatchResult result (λ claim. ⊥) (λ refusal. refusal ≡ refusals.Closed) }
+        ensures paused { MatchResult result (λ c. P.paused pause.old pause.new) (λ r. PausedClaim P.paused N
+            (view_of end.old) (length items.now) r (view_of end.new) pause.old pause.new) }
     {
         let start = self.claim_places(end, items, pause)?;
         Ok(Claim {
@@ -156,6 +159,8 @@ impl<const N: usize> ClaimQueue<N> {
             (λ start. ClaimedItems N (call_of end.old) (view_of end.old) start items.now (view_of end.new))
             (λ r. Refused N (view_of end.old) (length items.now) r (view_of end.new)) }
         ensures own { IfOk result (λ start. Owns (view_of end.new) start items.now 0 × (length items.now ≤ N)) }
+        ensures paused { MatchResult result (λ start. P.paused pause.old pause.new) (λ r. PausedClaim P.paused N
+            (view_of end.old) (length items.now) r (view_of end.new) pause.old pause.new) }
     {
         let count = items.len();
         if count == 0 {

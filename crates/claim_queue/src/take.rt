@@ -3,7 +3,7 @@ ghost use Rattle.std.specs.Prelude.{◌≡◌, ◌+◌, ◌-◌, ◌<◌, ◌≤
 ghost use Rattle.table_theory.specs.Positioned.{tail_of, written_at};
 ghost use Rattle.claim_queue.specs.Claims.{KeepsClaims};
 ghost use Rattle.claim_queue.specs.Lines.{SameLines, TookLine};
-ghost use Rattle.claim_queue.specs.Takings.{TookItems, RefusedTake, Scanned, StoppedAt};
+ghost use Rattle.claim_queue.specs.Takings.{TookItems, RefusedTake, Scanned, StoppedAt, PausedTake};
 ghost use Rattle.claim_queue.specs.Takings.{IsLine, IsBegun, IsOne, IsNone, IsRefusedAt};
 ghost use Rattle.claim_queue.specs.Reads.{HasFound};
 
@@ -46,7 +46,8 @@ impl<const N: usize> ClaimQueue<N> {
         self.try_take_paused(end, &mut NoPause)
     }
 
-    /// `try_take`, with a pause before the exchange, in which another end may step.
+    /// `try_take`, with a pause just before the exchange, in which another end may step. A try that is refused before
+    /// its exchange does not call it.
     pub fn try_take_paused<P: Pause>(
         &self,
         end: &mut QueueEnd<N>,
@@ -60,6 +61,8 @@ impl<const N: usize> ClaimQueue<N> {
         ensures others { KeepsClaims (view_of end.old) (view_of end.new) }
         ensures lines { MatchResult result (λ x. TookLine (x ∷ []) (view_of end.old) (view_of end.new))
             (λ r. SameLines (view_of end.old) (view_of end.new)) }
+        ensures paused { MatchResult result (λ x. P.paused pause.old pause.new)
+            (λ r. PausedTake P.paused N (view_of end.old) r (view_of end.new) pause.old pause.new) }
     {
         let tail = load_tail(&self.table.shared, &mut end.seat);
         let flag = load_flag(&self.table.shared, &mut end.seat, N, tail);

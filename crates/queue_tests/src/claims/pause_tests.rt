@@ -1,4 +1,5 @@
 //! What another end does between the steps of a claim or a take.
+ghost use Rattle.std.specs.Prelude.{◌≡◌, true};
 ghost use Rattle.claim_queue.specs.Handles.{IsEndOf};
 
 use crate::claims::scripts::{Act, Four, does, new_four};
@@ -20,7 +21,11 @@ struct Held<'a, R: Abort + Wait> {
 }
 
 impl<'a, R: Abort + Wait> Pause for Held<'a, R> {
+    ghost paused = { λ old new. new.done ≡ true };
+
     fn between(&mut self) {
+        let rt = self.rt;
+        assert!(rt; !self.done, "called once");
         does(self.rt, self.queue, &mut self.end, self.acts);
         self.done = true;
     }
@@ -28,12 +33,13 @@ impl<'a, R: Abort + Wait> Pause for Held<'a, R> {
 
 /// The call with a pause, and how it is answered.
 enum Call {
-    /// A claim of the item 1.
-    Claim(ClaimRefusal),
+    /// A claim of these items.
+    Claim(&'static [u64], ClaimRefusal),
     Take(Result<u64, TakeRefusal>),
 }
 
-/// What an end does before its call and behind it, what another does in the pause, and that one behind all.
+/// What an end does before its call and behind it, what another does in the pause, and that one behind all. The call
+/// comes to its exchange.
 struct Script {
     before: &'static [Act],
     call: Call,
@@ -52,7 +58,7 @@ fn is_answered<R: Abort + Wait>(
     ensures { IsEndOf queue.now end.new }
 {
     match call {
-        Call::Claim(refusal) => match queue.try_claim_paused(end, &[1], held) {
+        Call::Claim(items, refusal) => match queue.try_claim_paused(end, items, held) {
             Ok(_) => false,
             Err(answer) => answer == *refusal,
         },
@@ -77,10 +83,35 @@ fn plays<R: Abort + Wait>(rt: &R, alloc: Global, script: &Script) {
     does(rt, held.queue, &mut held.end, script.other);
 }
 
+/// A call that is refused before its exchange, at a queue whose first position is `first`: what its end does before, and
+/// what another would do in the pause, and does behind the call.
+struct Early {
+    first: u32,
+    before: &'static [Act],
+    call: Call,
+    pause: &'static [Act],
+}
+
+fn does_not_pause<R: Abort + Wait>(rt: &R, alloc: Global, early: &Early) {
+    let (queue, mut end) = new_four(rt, alloc, early.first);
+    let other = queue.split(&mut end);
+    does(rt, &queue, &mut end, early.before);
+    let mut held = Held {
+        rt,
+        queue: &queue,
+        end: other,
+        acts: early.pause,
+        done: false,
+    };
+    assert!(rt; is_answered(&queue, &mut end, &early.call, &mut held));
+    assert!(rt; !held.done);
+    does(rt, held.queue, &mut held.end, early.pause);
+}
+
 /// Another end puts two items first: what stands behind the run is put and taken behind it.
 const LOST_HEAD: Script = Script {
     before: &[],
-    call: Call::Claim(ClaimRefusal::Lost { head: 2 }),
+    call: Call::Claim(&[1], ClaimRefusal::Lost { head: 2 }),
     pause: &[Act::Put(&[2, 3], Ok(0))],
     behind: &[
         Act::Put(&[1], Ok(2)),
@@ -103,7 +134,7 @@ const LOST_TAIL: Script = Script {
 /// Another end shuts the queue.
 const SHUT_IN_THE_PAUSE: Script = Script {
     before: &[],
-    call: Call::Claim(ClaimRefusal::Closed),
+    call: Call::Claim(&[1], ClaimRefusal::Closed),
     pause: &[Act::Shut(true)],
     behind: &[],
     other: &[],
@@ -140,4 +171,68 @@ fn shut_in_the_pause(rt: HostRuntime) {
 #[test]
 fn closed_when_all_is_taken(rt: HostRuntime) {
     plays(&rt, rt.alloc(), &CLOSED_WHEN_ALL_IS_TAKEN);
+}
+
+const CLAIMS_WITHOUT_AN_EXCHANGE: &[Early] = &[
+    Early {
+        first: 0,
+        before: &[],
+        call: Call::Claim(&[], ClaimRefusal::NoItems),
+        pause: &[Act::Put(&[1], Ok(0))],
+    },
+    Early {
+        first: 0,
+        before: &[],
+        call: Call::Claim(&[1, 2, 3, 4, 5], ClaimRefusal::TooLong),
+        pause: &[Act::Put(&[1], Ok(0))],
+    },
+    Early {
+        first: 0,
+        before: &[Act::Shut(true)],
+        call: Call::Claim(&[1], ClaimRefusal::Closed),
+        pause: &[Act::Shut(false)],
+    },
+    Early {
+        first: 4_294_967_294,
+        before: &[Act::Put(&[1], Ok(4_294_967_294))],
+        call: Call::Claim(&[2], ClaimRefusal::Spent),
+        pause: &[Act::Take(Ok(1))],
+    },
+    // With the first item taken there would be room.
+    Early {
+        first: 0,
+        before: &[Act::Put(&[1, 2, 3, 4], Ok(0))],
+        call: Call::Claim(&[5], ClaimRefusal::Full { head: 4, tail: 0 }),
+        pause: &[Act::Take(Ok(1))],
+    },
+];
+
+const TAKES_WITHOUT_AN_EXCHANGE: &[Early] = &[
+    // With an item put there would be one to take.
+    Early {
+        first: 0,
+        before: &[],
+        call: Call::Take(Err(TakeRefusal::Empty { at: 0 })),
+        pause: &[Act::Put(&[1], Ok(0))],
+    },
+    Early {
+        first: 0,
+        before: &[Act::Put(&[1], Ok(0)), Act::Take(Ok(1)), Act::Shut(true)],
+        call: Call::Take(Err(TakeRefusal::Closed)),
+        pause: &[Act::Shut(false)],
+    },
+];
+
+#[test]
+fn claims_without_an_exchange(rt: HostRuntime) {
+    for early in CLAIMS_WITHOUT_AN_EXCHANGE {
+        does_not_pause(&rt, rt.alloc(), early);
+    }
+}
+
+#[test]
+fn takes_without_an_exchange(rt: HostRuntime) {
+    for early in TAKES_WITHOUT_AN_EXCHANGE {
+        does_not_pause(&rt, rt.alloc(), early);
+    }
 }

@@ -33,3 +33,12 @@ returns-then-found-head-clause-ok g c = let a = c.load_head-head.ensures.found i
 
 pub returns-then-found-head-clause-own : goal.returns-then-found-head-clause-own
 returns-then-found-head-clause-own g c = (owns_claimed _ _ _ _ _ _ (c.exchange_head-found.ensures.hit c.if-found-head.true) refl, search rules)
+
+pub returns-then-head-ge-SHUT-clause-paused : goal.returns-then-head-ge-SHUT-clause-paused
+returns-then-head-ge-SHUT-clause-paused g c = let a = c.load_head-head.ensures.found in
+    inl (record { head = _; loaded = a; marked = c.if-head-ge-SHUT.true; shut = found_shut _ _ _ a c.if-head-ge-SHUT.true }, refl)
+
+pub returns-then-found-ge-SHUT-clause-paused : goal.returns-then-found-ge-SHUT-clause-paused
+returns-then-found-ge-SHUT-clause-paused g c = let a = c.load_head-head.ensures.found in let b = c.load_tail-tail.ensures.found in let e = c.exchange_head-found.ensures.miss c.if-found-head.false in
+    let room : FoundRoom g.row.N c.args.end.now.seat.me.0 (length c.args.items.now) c.load_head-head.result c.load_tail-tail.new.seat.me.0 = room_found _ _ _ (length c.args.items.now) _ _ _ _ a b (search rules) c.if-new-ge-SHUT.false c.if-new-tail.false in
+    inr (shut_meanwhile _ _ _ _ _ _ _ room e.0 c.if-found-ge-SHUT.true, search rules)

@@ -1,6 +1,6 @@
 //! Closing all that a boot shared, in the order in which it has to be: the chains first, whose quajects have ends of the
 //! queues.
-ghost use Rattle.std.specs.Prelude.{IfOk};
+ghost use Rattle.std.specs.Prelude.{◌≡◌, IfOk, length};
 ghost use Rattle.closing.specs.Endings.{AllClosed};
 ghost use Rattle.closing.specs.Rooms.{HaveRoom};
 ghost use Rattle.closing.specs.Wholes.{HasWholes};
@@ -17,7 +17,7 @@ use quaject_core::OutOfMemory;
 use quajects::{Home, Queues};
 use std::alloc::Global;
 use std::snapshot::Snapshot;
-use thread_table::Places;
+use thread_table::{Place, Places};
 
 /// Empty lists with room for the answers of closing all.
 #[derive(Drop)]
@@ -48,20 +48,86 @@ impl Answers {
 
 /// What all had at the end: the numbers of each quaject, in the order of the chains, what each queue was put and taken and
 /// what is left, the thread elements, the meters, and what was heard and signalled. The last three are for the contract
-/// alone: what came home, and the last end of each queue.
+/// alone: what came home, and the last end of each queue. Only `close_all` makes one, and nobody changes it: a report is
+/// made of what was closed.
 #[derive(Drop)]
 pub struct Ended {
-    pub counts: Vec<Counts>,
-    pub small: Vec<Closed<64>>,
-    pub large: Vec<Closed<256>>,
-    pub threads: Places,
-    pub meters: Metered,
-    pub heard: Vec<Heard>,
-    pub signals: [u16; 64],
-    pub plan: BootPlan,
-    pub homes: Snapshot<Vec<Home>>,
-    pub small_ends: Snapshot<Vec<QueueEnd<64>>>,
-    pub large_ends: Snapshot<Vec<QueueEnd<256>>>,
+    counts: Vec<Counts>,
+    small: Vec<Closed<64>>,
+    large: Vec<Closed<256>>,
+    threads: Places,
+    meters: Metered,
+    heard: Vec<Heard>,
+    signals: [u16; 64],
+    plan: BootPlan,
+    homes: Snapshot<Vec<Home>>,
+    small_ends: Snapshot<Vec<QueueEnd<64>>>,
+    large_ends: Snapshot<Vec<QueueEnd<256>>>,
+}
+
+impl Ended {
+    /// The plan of all that was closed.
+    pub fn plan(&self) -> &BootPlan
+        ensures { result.now ≡ self.now.plan }
+    {
+        &self.plan
+    }
+
+    /// The numbers of each quaject, in the order of the chains.
+    pub fn counts(&self) -> &[Counts]
+        ensures { result.now ≡ self.now.counts.items }
+    {
+        self.counts.as_slice()
+    }
+
+    /// What each small queue was put and taken, and what is left in it, in the order of the queues.
+    pub fn small(&self) -> &[Closed<64>]
+        ensures { result.now ≡ self.now.small.items }
+    {
+        self.small.as_slice()
+    }
+
+    /// The same of each large queue.
+    pub fn large(&self) -> &[Closed<256>]
+        ensures { result.now ≡ self.now.large.items }
+    {
+        self.large.as_slice()
+    }
+
+    /// Where each thread element is, by its number.
+    pub fn places(&self) -> &[Place; 64]
+        ensures { result.now ≡ self.now.threads.places }
+    {
+        &self.threads.places
+    }
+
+    /// How many steps each thread element has done, by its number.
+    pub fn pcs(&self) -> &[u64; 64]
+        ensures { result.now ≡ self.now.threads.pcs }
+    {
+        &self.threads.pcs
+    }
+
+    /// The signals that were shown to each thread element, by its number: bit s for signal s.
+    pub fn signals(&self) -> &[u16; 64]
+        ensures { result.now ≡ self.now.signals }
+    {
+        &self.signals
+    }
+
+    /// The gauges, by their numbers.
+    pub fn gauges(&self) -> &[u64; 8]
+        ensures { result.now ≡ self.now.meters.gauges }
+    {
+        &self.meters.gauges
+    }
+
+    /// How many alarms were set and did not fire.
+    pub fn alarms_left(&self) -> usize
+        ensures { result ≡ length self.now.meters.alarms.items }
+    {
+        self.meters.alarms.len()
+    }
 }
 
 /// Closes the chains and brings their quajects home, and then closes the queues, the thread table and the meters. It takes

@@ -42,14 +42,14 @@ pub fn make_report(ended: Ended, heard: Vec<Heard>, typed: &[Typed], lines: Line
     ensures made { IsMade ended (map line_heard heard.items) typed.now result }
     ensures says { (c : Closed) → Shows c ended typed.now → Says ended.plan c (map line_heard heard.items) result }
 {
-    let plan = &ended.plan;
-    let counts = ended.counts.as_slice();
-    let queues = queue_lines(plan.queues.as_slice(), ended.small.as_slice(), lines.queues);
+    let plan = ended.plan();
+    let counts = ended.counts();
+    let queues = queue_lines(plan.queues.as_slice(), ended.small(), lines.queues);
     let ttys = lines_of_ttys(&ended, typed, lines.ttys);
     let movers = mover_lines(plan.movers.as_slice(), counts, lines.movers);
-    let gauges = gauge_lines(plan.gauges.as_slice(), &ended.meters.gauges, lines.gauges);
+    let gauges = gauge_lines(plan.gauges.as_slice(), ended.gauges(), lines.gauges);
     let threads = thread_lines(&ended, lines.threads);
-    let alarms = counts_of_alarms(plan.alarms.as_slice().len(), ended.meters.alarms.len());
+    let alarms = counts_of_alarms(plan.alarms.as_slice().len(), ended.alarms_left());
     let chained = all_left(counts);
     let heard = heard_lines(plan.threads.as_slice(), heard, lines.heard);
     Report {

@@ -56,9 +56,9 @@ fn line_of(number: usize, thread: &PlannedThread, ended: &Ended) -> ThreadLine
 {
     ThreadLine {
         name: copy_of(&thread.name),
-        state: state_in(&ended.threads.places, number),
-        steps: steps_of(number_in(&ended.threads.pcs, number)),
-        signals: shown_in(&ended.signals, number),
+        state: state_in(ended.places(), number),
+        steps: steps_of(number_in(ended.pcs(), number)),
+        signals: shown_in(ended.signals(), number),
     }
 }
 
@@ -68,7 +68,7 @@ pub(crate) fn thread_lines(ended: &Ended, lines: Vec<ThreadLine>) -> Vec<ThreadL
     ensures { result.items ≡ numbered (thread_line ended.now) 0 ended.now.plan.threads }
 {
     let mut lines = lines;
-    for (number, thread) in ended.plan.threads.as_slice().iter().enumerate() {
+    for (number, thread) in ended.plan().threads.as_slice().iter().enumerate() {
         lines.push_reserved(line_of(number, thread, ended));
     }
     lines

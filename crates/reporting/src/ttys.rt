@@ -32,19 +32,19 @@ fn lines_of(number: usize, tty: &PlannedTty, ended: &Ended, typed: &[Typed]) -> 
     requires low { number < 2 }
     ensures { result ≡ tty_lines ended.now typed.now number tty.now }
 {
-    let queues = ended.plan.queues.as_slice().len();
-    let movers = ended.plan.movers.as_slice().len();
+    let queues = ended.plan().queues.as_slice().len();
+    let movers = ended.plan().movers.as_slice().len();
     let device = typed_in(typed, number);
-    let quaject = numbers_in(ended.counts.as_slice(), movers + number);
+    let quaject = numbers_in(ended.counts(), movers + number);
     TtyLines {
         name: copy_of(&tty.name),
         typed: device.popped,
         overrun: device.refused,
         notes: quaject.notes,
         held: quaject.held as u64,
-        raw: counts_in(ended.small.as_slice(), queues + number),
-        line: counts_in(ended.large.as_slice(), number * 2),
-        screen: counts_in(ended.large.as_slice(), number * 2 + 1),
+        raw: counts_in(ended.small(), queues + number),
+        line: counts_in(ended.large(), number * 2),
+        screen: counts_in(ended.large(), number * 2 + 1),
     }
 }
 
@@ -54,7 +54,7 @@ pub(crate) fn lines_of_ttys(ended: &Ended, typed: &[Typed], lines: Vec<TtyLines>
     ensures { result.items ≡ numbered (tty_lines ended.now typed.now) 0 ended.now.plan.ttys }
 {
     let mut lines = lines;
-    for (number, tty) in ended.plan.ttys.as_slice().iter().enumerate() {
+    for (number, tty) in ended.plan().ttys.as_slice().iter().enumerate() {
         lines.push_reserved(lines_of(number, tty, ended, typed));
     }
     lines

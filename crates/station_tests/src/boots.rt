@@ -2,6 +2,7 @@
 //! program boots more scripts, and all kinds of them, in `tools/test-boots` and `tools/test-program`.
 
 mod gates;
+mod kinds;
 mod memory;
 mod passes;
 mod streams;

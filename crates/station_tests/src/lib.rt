@@ -11,10 +11,10 @@ mod crews;
 #[cfg(test)]
 mod fixtures;
 #[cfg(test)]
+mod heard;
+#[cfg(test)]
 mod kernels;
 #[cfg(test)]
 mod making;
-#[cfg(test)]
-mod printed;
 #[cfg(test)]
 mod turns;

@@ -3,6 +3,7 @@
 #![tactic(auto)]
 
 ghost use Rattle.std.specs.Prelude.{◌++◌, IfOk, IsPermutation};
+ghost use Rattle.spooler.specs.Lines.{AreSorted};
 
 mod line;
 mod spool;
@@ -33,9 +34,11 @@ fn job(alloc: Global, texts: &[&str]) -> Result<Vec<Line>, Fault> {
     Ok(lines)
 }
 
-/// All lines that were taken, each as often as it was taken, in alphabetical order.
+/// All lines that were taken, each as often as it was taken, in alphabetical order: of two lines the one with the lesser
+/// byte, where they first differ, stands first.
 pub fn sorted(mut one: Vec<Line>, mut other: Vec<Line>) -> Result<Vec<Line>, Fault>
-    ensures { IfOk result (λ lines. IsPermutation (one.items ++ other.items) lines.items) }
+    ensures all { IfOk result (λ lines. IsPermutation (one.items ++ other.items) lines.items) }
+    ensures sorted { IfOk result (λ lines. AreSorted lines.items) }
 {
     one.append(&mut other).map_err(|_| "no memory")?;
     one.sort_unstable();

@@ -23,6 +23,10 @@ use Rattle.synthesis.specs.declared.program.Ended.{Ended}
 abbrev pub usage_words : List ℕ
 usage_words = codes "usage: synthesis replay | synthesis boot P TURNS" ++ end_of_line
 
+-- what is told where there is no memory
+abbrev pub no_memory_words : List ℕ
+no_memory_words = codes "no memory" ++ end_of_line
+
 -- the exit status of a replay
 abbrev pub status_of : Result Replayed ReplayFault → ℕ
 status_of (Ok AllAllowed) = 0

@@ -28,8 +28,8 @@ fn run<RT: Threads + Wait + Sync>(rt: &RT, host: &HostRuntime) -> io::Result<u8>
 fn main(rt: HostRuntime) -> ExitCode {
     ExitCode::from(match run(&rt, &rt) {
         Ok(status) => status,
-        Err(error) if error.kind() == ErrorKind::OutOfMemory => no_memory(&mut rt.stderr()),
+        Err(error) if error.kind() == ErrorKind::OutOfMemory => no_memory(&mut rt.stderr()).status,
         // a word that is not text
-        Err(_) => usage(&mut rt.stderr()),
+        Err(_) => usage(&mut rt.stderr()).status,
     })
 }

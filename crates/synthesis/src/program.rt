@@ -9,7 +9,8 @@ ghost use Rattle.boot_script.specs.Scripts.{text_events};
 ghost use Rattle.synth_kernel.specs.declared.outcome.Ended as endings;
 ghost use Rattle.synth_kernel.specs.declared.outcome.BootFault.{BootFault};
 ghost use Rattle.synthesis.specs.Commands.{replay_command, IsBootCommand, IsNoCommand};
-ghost use Rattle.synthesis.specs.Runs.{usage_words, status_of, words_of, IsReplayOf, IsTold, IsStatus};
+ghost use Rattle.synthesis.specs.Runs.{usage_words, no_memory_words, status_of, words_of};
+ghost use Rattle.synthesis.specs.Runs.{IsReplayOf, IsTold, IsStatus};
 ghost use Rattle.synthesis.specs.Runs.{boot_status_of, boot_words_of, IsBootedBy, IsBootStatus};
 
 use crate::command::{Command, command_of};
@@ -65,10 +66,7 @@ pub fn run_on<RT: Threads + Wait + Sync, R: Read, W: Write, E: Write>(
             let answer = boot_on(rt, alloc, reader, writer, processors, turns);
             told_of_boot(answer, errors)
         }
-        None => Ended {
-            status: USAGE_FAULT,
-            told: tell_usage(errors),
-        },
+        None => usage(errors),
     }
 }
 
@@ -102,6 +100,13 @@ fn run_replay<R: Read, W: Write, E: Write>(
         × IsTold result (status_of answer) (words_of answer) (E.contents errors.old) (E.contents errors.new) }
 {
     let answer = replay_on(alloc, reader, writer);
+    told_of_replay(answer, errors)
+}
+
+/// Tells how a replay has ended.
+fn told_of_replay<E: Write>(answer: Result<Replayed, ReplayFault>, errors: &mut E) -> Ended
+    ensures { IsTold result (status_of answer) (words_of answer) (E.contents errors.old) (E.contents errors.new) }
+{
     Ended {
         status: status(answer),
         told: tell(answer, errors),
@@ -119,21 +124,21 @@ fn told_of_boot<E: Write>(answer: Result<synth_kernel::Ended, BootFault>, errors
     }
 }
 
-/// Tells that there is no memory, and gives the status of that.
-pub fn no_memory<E: Write>(errors: &mut E) -> u8
-    ensures { result ≡ 3 }
+/// Tells that there is no memory, as of a replay that wants it.
+pub fn no_memory<E: Write>(errors: &mut E) -> Ended
+    ensures { IsTold result 3 no_memory_words (E.contents errors.old) (E.contents errors.new) }
 {
-    let answer = Err(ReplayFault::Memory);
-    let _ = tell(answer, errors);
-    status(answer)
+    told_of_replay(Err(ReplayFault::Memory), errors)
 }
 
-/// Tells the commands, and gives the status of other words.
-pub fn usage<E: Write>(errors: &mut E) -> u8
-    ensures { result ≡ 2 }
+/// Tells the commands, as to words that are none.
+pub fn usage<E: Write>(errors: &mut E) -> Ended
+    ensures { IsTold result 2 usage_words (E.contents errors.old) (E.contents errors.new) }
 {
-    let _ = tell_usage(errors);
-    USAGE_FAULT
+    Ended {
+        status: USAGE_FAULT,
+        told: tell_usage(errors),
+    }
 }
 
 /// The exit status of a replay.

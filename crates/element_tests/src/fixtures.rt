@@ -1,4 +1,5 @@
-//! Elements and what goes with them by their numbers, tables with their only hand, and hands split off from one.
+//! Elements and what goes with them by their numbers, tables with their only hand, hands split off from one, and what is
+//! told of a refusal.
 ghost use Rattle.std.specs.Prelude.{◌≡◌, ◌≤◌, IfSome};
 ghost use Rattle.thread_table.specs.Handles.{view_of, IsDivisible, IsHandOf, IsSameHand, AreOfOneTable};
 ghost use Rattle.table_theory.specs.Sharing.{kept};
@@ -6,6 +7,7 @@ ghost use Rattle.table_theory.specs.Sharing.{kept};
 use meters::Alarm;
 use quaject_core::{Element, Processor, Signal, WaitNumber};
 use std::alloc::Global;
+use std::fmt::Display;
 use std::panic::Expect;
 use std::process::Abort;
 use thread_table::{Hand, Place, Places, ThreadTable};
@@ -85,4 +87,9 @@ pub(crate) fn steps_of(closed: &Places) -> u64 {
         steps = steps.wrapping_add(done);
     }
     steps
+}
+
+/// Whether a refusal is told in these words.
+pub(crate) fn is_told<T: Copy + Display>(alloc: Global, refusal: T, words: &str) -> bool {
+    format!(in alloc; "{refusal}").is_ok_and(|text| text.as_str() == words)
 }

@@ -2,7 +2,7 @@ ghost use Rattle.std.specs.Prelude.{◌≡◌, ◌+◌, true, Some, IfOk};
 ghost use Rattle.thread_table.specs.Handles.{view_of, IsHandOf, IsSameHand};
 ghost use Rattle.thread_table.specs.Rules.{has, serves, running};
 
-use crate::fixtures::{begins, element, processor, wait_queue};
+use crate::fixtures::{begins, element, is_told, processor, wait_queue};
 use crate::tables::scripts::{Act, does, free, plays};
 use quaject_core::{Element, OutOfMemory, Processor, WaitNumber};
 use std::alloc::Global;
@@ -13,21 +13,21 @@ use std::test::*;
 use thread_table::*;
 
 /// Wakes all, and then takes off what the hand has on a processor: that it serves it still, and that the same element
-/// stands there, is proved, not tried.
+/// stands there, is proved, not tried. The mask of what was woken comes back too.
 fn wake_and_take_off<R: Wait>(
     rt: &R,
     table: &ThreadTable,
     hand: &mut Hand,
     wait: WaitNumber,
     processor: Processor,
-) -> Result<Element, ProcessorEmpty>
+) -> (u64, Result<Element, ProcessorEmpty>)
     requires table { IsHandOf table.now hand.old }
     requires mine { serves (view_of hand.old) processor ≡ true }
     ensures table { IsSameHand hand.old hand.new }
-    ensures stood { IfOk result (λ element. running (view_of hand.old) processor ≡ Some element) }
+    ensures stood { IfOk result.1 (λ element. running (view_of hand.old) processor ≡ Some element) }
 {
-    table.wake_all(rt, hand, wait);
-    table.off(hand, processor)
+    let woken = table.wake_all(rt, hand, wait);
+    (woken, table.off(hand, processor))
 }
 
 /// The number of steps, and then one step more: that no other counts between the two is proved, not tried.
@@ -176,11 +176,14 @@ fn wakes_all(rt: HostRuntime) {
     let a = &mut first;
     does(&rt, &table, a, TWO_WAIT);
     assert!(rt; a.serves(p0));
-    let Ok(e0) = wake_and_take_off(&rt, &table, a, w2, p0) else {
+    let (woken, Ok(e0)) = wake_and_take_off(&rt, &table, a, w2, p0) else {
         panic!(rt; "empty")
     };
+    assert!(rt; woken == 0);
     assert!(rt; a.holds(e0));
     assert!(rt; count_on(&table, a, e0) == (0, Ok(1)));
+    assert!(rt; a.holds(e0));
+    assert!(rt; table.pc(a, e0) == 1);
     let Ok(closed) = table.close(first) else {
         panic!(rt; "close")
     };
@@ -189,6 +192,26 @@ fn wakes_all(rt: HostRuntime) {
         assert!(rt; (closed.places[e], closed.pcs[e]) == (Place::Free, 0));
     }
     assert!(rt; (closed.pcs[0], closed.pcs[1], closed.stops) == (1, 0, 0));
+}
+
+const THREE_WAIT: &[Act] = &[
+    Act::Free(0),
+    Act::Free(1),
+    Act::Free(2),
+    Act::Wait(2, 5),
+    Act::Wait(0, 5),
+    Act::Wait(1, 5),
+    Act::WakeAll(5, 7),
+    Act::WakeAll(5, 0),
+    Act::Wait(1, 5),
+    Act::WakeAll(5, 2),
+];
+
+/// Of three that wait all are woken at once, and none again.
+#[test]
+fn three_wake_once(rt: HostRuntime) {
+    let places = [(0, Place::Held), (1, Place::Held), (2, Place::Held)];
+    plays(&rt, rt.alloc(), 0, THREE_WAIT, &places);
 }
 
 #[test]
@@ -272,4 +295,45 @@ fn memory_may_be_wanting(rt: HostRuntime) {
         }
     }
     assert!(rt; made);
+}
+
+const TAKINGS_TOLD: &[(NextRefusal, &str)] = &[
+    (NextRefusal::NoneReady, "nothing is raised at the tail"),
+    (
+        NextRefusal::Lost { seen: 5 },
+        "another hand moved the tail to 5",
+    ),
+];
+
+const MOVES_TOLD: &[(MoveRefusal, &str)] = &[
+    (MoveRefusal::Spent, "the queue's positions are spent"),
+    (
+        MoveRefusal::Lost {
+            seen: 4_294_967_303,
+        },
+        "another hand changed the head word to 4294967303",
+    ),
+    (
+        MoveRefusal::Moved { mark: 6 },
+        "the number of notifies is 6",
+    ),
+];
+
+/// Each refusal is told in its words, with its number.
+#[test]
+fn refusals_are_told(rt: HostRuntime) {
+    let alloc = rt.alloc();
+    for (refusal, words) in TAKINGS_TOLD {
+        assert!(rt; is_told(alloc, *refusal, words));
+    }
+    for (refusal, words) in MOVES_TOLD {
+        assert!(rt; is_told(alloc, *refusal, words));
+    }
+    let lost = Lost { seen: 65_536 };
+    assert!(rt; is_told(alloc, lost, "another hand changed the state word to 65536"));
+    assert!(rt; is_told(alloc, ProcessorBusy, "an element stands on the processor"));
+    assert!(rt; is_told(alloc, ProcessorEmpty, "no element stands on the processor"));
+    assert!(rt; is_told(alloc, Spent, "the element's steps are spent"));
+    let open = OpenEnds { others: 3 };
+    assert!(rt; is_told(alloc, open, "3 other ends are not joined"));
 }

@@ -1,4 +1,4 @@
-//! Queues with their ends, and notes that are chained until there is room for them.
+//! Queues with their ends, notes that are chained until there is room for them, and what is told of a refusal.
 ghost use Rattle.std.specs.Prelude.{◌≡◌, ◌≤◌, false, true};
 ghost use Rattle.claim_queue.specs.Handles as queues;
 ghost use Rattle.proc_chain.specs.Handles.{turn_of, world_of, IsEndOf};
@@ -7,6 +7,7 @@ ghost use Rattle.quajects.specs.Ports.{IsUnused};
 use claim_queue::{ClaimQueue, Closed, QueueEnd};
 use proc_chain::{ChainClosed, ChainEnd, ChainRefusal, Chained, ProcChain, Quaject, Turn};
 use std::alloc::Global;
+use std::fmt::Display;
 use std::panic::Expect;
 use std::process::Abort;
 use std::sync::Wait;
@@ -102,4 +103,9 @@ pub(crate) fn chain_one<R: Wait, Q: Quaject>(
             Err(_) => thread::yield_now(),
         }
     }
+}
+
+/// Whether a refusal is told in these words.
+pub(crate) fn is_told<T: Copy + Display>(alloc: Global, refusal: T, words: &str) -> bool {
+    format!(in alloc; "{refusal}").is_ok_and(|text| text.as_str() == words)
 }

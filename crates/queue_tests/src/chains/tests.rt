@@ -1,7 +1,7 @@
 ghost use Rattle.std.specs.Prelude.{◌≡◌, ◌%◌, ◌^◌, true, length};
 ghost use Rattle.proc_chain.specs.Handles.{turn_of, world_of, IsEndOf};
 
-use crate::fixtures::close_chain;
+use crate::fixtures::{close_chain, is_told};
 use proc_chain::*;
 use quaject_core::OutOfMemory;
 use std::alloc::Global;
@@ -456,4 +456,23 @@ fn memory_may_be_wanting(rt: HostRuntime) {
         }
     }
     assert!(rt; made);
+}
+
+const TOLD: &[(ChainRefusal, &str)] = &[
+    (ChainRefusal::Spent, "no positions left"),
+    (
+        ChainRefusal::Full { head: 40, tail: 8 },
+        "full at head 40, tail 8",
+    ),
+    (ChainRefusal::Lost { head: 41 }, "lost, head 41"),
+];
+
+/// Each refusal is told in its words, with its numbers.
+#[test]
+fn refusals_are_told(rt: HostRuntime) {
+    for (refusal, words) in TOLD {
+        assert!(rt; is_told(rt.alloc(), *refusal, words));
+    }
+    let open = OpenEnds { others: 3 };
+    assert!(rt; is_told(rt.alloc(), open, "3 other ends are not joined"));
 }

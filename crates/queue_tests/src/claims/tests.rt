@@ -1,6 +1,7 @@
 ghost use Rattle.claim_queue.specs.Handles.{IsEndOf};
 
 use crate::claims::scripts::{Act, Four, Script, closes, does, new_four, plays};
+use crate::fixtures::is_told;
 use arrayvec::ArrayVec;
 use claim_queue::*;
 use quaject_core::OutOfMemory;
@@ -63,6 +64,23 @@ const RUNS_THAT_NEVER_FIT: Script = Script {
     put: 0,
     taken: 0,
     left: &[],
+};
+
+const RUNS_THAT_NEVER_FIT_AGAIN: Script = Script {
+    first: 0,
+    acts: &[
+        Act::Put(&[1, 2, 10], Ok(0)),
+        Act::Line(Ok(3), &[1, 2, 10]),
+        Act::Put(&[], Err(ClaimRefusal::NoItems)),
+        Act::Put(&[3, 4, 5, 6, 7], Err(ClaimRefusal::TooLong)),
+        Act::PutAgain(&[], Err(ClaimRefusal::NoItems)),
+        Act::PutAgain(&[3, 4, 5, 6, 7], Err(ClaimRefusal::TooLong)),
+        Act::Take(Err(TakeRefusal::Empty { at: 3 })),
+        Act::Put(&[3, 4, 5, 6], Ok(3)),
+    ],
+    put: 7,
+    taken: 3,
+    left: &[Some(3), Some(4), Some(5), Some(6)],
 };
 
 const SPENT_BEFORE_FULL: Script = Script {
@@ -144,6 +162,12 @@ fn one_end_alone(rt: HostRuntime) {
 #[test]
 fn runs_that_never_fit(rt: HostRuntime) {
     plays(&rt, rt.alloc(), &RUNS_THAT_NEVER_FIT);
+}
+
+/// So it is in a queue that had items, and is empty again.
+#[test]
+fn runs_that_never_fit_again(rt: HostRuntime) {
+    plays(&rt, rt.alloc(), &RUNS_THAT_NEVER_FIT_AGAIN);
 }
 
 #[test]
@@ -316,4 +340,35 @@ fn memory_may_be_wanting(rt: HostRuntime) {
         }
     }
     assert!(rt; made);
+}
+
+const CLAIMS_TOLD: &[(ClaimRefusal, &str)] = &[
+    (ClaimRefusal::NoItems, "no items"),
+    (ClaimRefusal::TooLong, "more items than places"),
+    (ClaimRefusal::Closed, "the queue is shut"),
+    (ClaimRefusal::Spent, "no positions left"),
+    (
+        ClaimRefusal::Full { head: 9, tail: 5 },
+        "full at head 9, tail 5",
+    ),
+    (ClaimRefusal::Lost { head: 8 }, "lost, head 8"),
+];
+
+const TAKINGS_TOLD: &[(TakeRefusal, &str)] = &[
+    (TakeRefusal::Empty { at: 6 }, "nothing raised at 6"),
+    (TakeRefusal::Lost { tail: 7 }, "lost, tail 7"),
+    (TakeRefusal::Closed, "the queue is shut and empty"),
+];
+
+/// Each refusal is told in its words, with its numbers.
+#[test]
+fn refusals_are_told(rt: HostRuntime) {
+    for (refusal, words) in CLAIMS_TOLD {
+        assert!(rt; is_told(rt.alloc(), *refusal, words));
+    }
+    for (refusal, words) in TAKINGS_TOLD {
+        assert!(rt; is_told(rt.alloc(), *refusal, words));
+    }
+    let open = OpenEnds { others: 3 };
+    assert!(rt; is_told(rt.alloc(), open, "3 other ends are not joined"));
 }

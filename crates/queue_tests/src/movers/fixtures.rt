@@ -1,13 +1,18 @@
-//! Queues for the tests, with ends of each.
+//! Queues for the tests, with ends of each, and a tty that leaves its chain.
+ghost use Rattle.std.specs.Prelude.{◌≡◌, false};
+ghost use Rattle.proc_chain.specs.Handles.{turn_of, IsEndOf};
 ghost use Rattle.quajects.specs.Ports.{IsEndAt};
 
 use crate::fixtures::{Two, queue_with_two};
 use arrayvec::ArrayVec;
 use claim_queue::{ClaimQueue, QueueEnd};
-use quajects::Queues;
+use proc_chain::{ChainEnd, ProcChain};
+use quajects::{AnyQuaject, Queues, RawTty};
 use std::alloc::Global;
 use std::panic::Expect;
 use std::process::Abort;
+
+pub(crate) type Chain = ProcChain<AnyQuaject>;
 
 /// Three small queues, and two ends of each.
 #[derive(Drop)]
@@ -89,4 +94,13 @@ pub(crate) fn takes_at<const N: usize>(
 {
     line.clear();
     queues[index].try_take_line(end, line).is_ok() && line.as_slice() == items
+}
+
+/// Joins the end that the tty has of the chain.
+pub(crate) fn join_tty(chain: &Chain, end: &mut ChainEnd<AnyQuaject>, tty: RawTty)
+    requires { IsEndOf chain.now end.old × (turn_of end.old ≡ false) × IsEndOf chain.now tty.chain }
+    ensures { IsEndOf chain.now end.new × (turn_of end.new ≡ false) }
+{
+    let (_raw, mine) = tty.into_parts();
+    chain.join(end, mine);
 }

@@ -2,6 +2,7 @@
 //! show.
 
 mod fixtures;
+mod pump_tests;
 mod tests;
 mod thread_tests;
 mod tty_tests;

@@ -1,14 +1,14 @@
-ghost use Rattle.std.specs.Prelude.{◌≡◌, false, length};
+ghost use Rattle.std.specs.Prelude.{◌≡◌, length};
 ghost use Rattle.std.specs.Thread.{IsSync};
-ghost use Rattle.proc_chain.specs.Handles.{turn_of, world_of, IsEndOf};
+ghost use Rattle.proc_chain.specs.Handles.{world_of, IsEndOf};
 ghost use Rattle.claim_queue.specs.Handles.{view_of};
 ghost use Rattle.quajects.specs.Ports.{IsEndAt, IsUnused};
 ghost use Rattle.quajects.specs.Raws.{end_of};
 
 use crate::fixtures::{Two, queue_with_two};
+use crate::movers::fixtures::{Chain, join_tty};
 use arrayvec::ArrayVec;
 use claim_queue::{ClaimQueue, QueueEnd};
-use proc_chain::{ChainEnd, ProcChain};
 use quajects::*;
 use std::alloc::Global;
 use std::panic::Expect;
@@ -17,8 +17,6 @@ use std::sync::Wait;
 use std::test::*;
 use std::thread;
 use std::thread::Threads;
-
-type Chain = ProcChain<AnyQuaject>;
 
 /// A raw queue with its taker, another end and four devices, a line queue with a reader, and a screen queue.
 #[derive(Drop)]
@@ -231,15 +229,6 @@ fn heard(queues: &Queues, reader: QueueEnd<256>, rest: QueueEnd<64>) -> Hearing
 /// How many bytes the two were refused.
 fn overruns(one: &RawTty, other: &RawTty) -> u64 {
     one.overruns().wrapping_add(other.overruns())
-}
-
-/// Joins the end that the tty has of the chain.
-fn join_tty(chain: &Chain, end: &mut ChainEnd<AnyQuaject>, tty: RawTty)
-    requires { IsEndOf chain.now end.old × (turn_of end.old ≡ false) × IsEndOf chain.now tty.chain }
-    ensures { IsEndOf chain.now end.new × (turn_of end.new ≡ false) }
-{
-    let (_raw, mine) = tty.into_parts();
-    chain.join(end, mine);
 }
 
 #[test]

@@ -1,12 +1,16 @@
+ghost use Rattle.std.specs.Prelude.{◌≡◌};
+ghost use Rattle.proc_chain.specs.Handles.{world_of, IsEndOf};
 ghost use Rattle.quajects.specs.Ports.{IsEndAt};
+ghost use Rattle.quajects.specs.Raws.{end_of};
 ghost use Rattle.quajects.specs.Terminals.{Fits};
 
-use crate::movers::fixtures::{Typing, puts_at, takes_at, tty_queues};
+use crate::movers::fixtures::{Chain, Typing, join_tty, puts_at, takes_at, tty_queues};
 use arrayvec::ArrayVec;
 use claim_queue::QueueEnd;
 use proc_chain::{Quaject, Ran};
 use quajects::*;
 use std::process::Abort;
+use std::sync::Wait;
 use std::test::*;
 
 /// What is done at a cooked tty and its queues.
@@ -105,4 +109,55 @@ fn held_until_there_is_room(rt: HostRuntime) {
     let tty = CookedTty::new(0, raw.mine, 0, line.mine, 1, screen.mine);
     let ends = (raw.other, line.other, screen.other);
     does(&rt, &queues, ends, tty, HELD_UNTIL_THERE_IS_ROOM);
+}
+
+/// Types the bytes, each of which has to be put.
+fn type_all<R: Abort + Wait>(
+    rt: &R,
+    queues: &Queues,
+    chain: &Chain,
+    tty: RawTty,
+    bytes: &[u8],
+) -> RawTty
+    requires fits { IsEndAt queues.now.small.items tty.index (end_of tty) }
+    requires chain { IsEndOf chain.now tty.chain }
+    requires world { world_of chain.now ≡ queues.now }
+    ensures { IsEndOf chain.now result.chain }
+{
+    let mut tty = tty;
+    for byte in bytes {
+        assert!(rt; tty.interrupt(rt, queues, chain, *byte));
+    }
+    tty
+}
+
+/// A byte is put before the note for it is served: the fifth note finds the fifth byte, which ends the line, and the line
+/// is cooked, put and shown.
+#[test]
+#[tactic(auto, using(quajects::proofs::Making::made_of_itself))]
+fn a_byte_is_put_before_its_note_is_served(rt: HostRuntime) {
+    let Typing {
+        queues,
+        raw,
+        line,
+        screen,
+    } = tty_queues(&rt, rt.alloc());
+    let (mut reader, mut viewer) = (line.other, screen.other);
+    let cooked = CookedTty::new(0, raw.mine, 0, line.mine, 1, screen.mine);
+    let Ok((chain, mut end)) = Chain::new(rt.alloc(), 0, AnyQuaject::Cooked(cooked), &queues) else {
+        panic!(rt; "no memory")
+    };
+    let tty = RawTty::new(0, raw.other, chain.split(&mut end));
+    let tty = type_all(&rt, &queues, &chain, tty, b"ab\x7Fc\n");
+    let large = queues.large.as_slice();
+    let mut heard = ArrayVec::new();
+    assert!(rt; takes_at(large, 0, &mut reader, &mut heard, &[97, 99, 10]));
+    assert!(rt; takes_at(large, 1, &mut viewer, &mut heard, &[97, 99, 10]));
+    assert!(rt; tty.overruns() == 0);
+    join_tty(&chain, &mut end, tty);
+    let Ok(home) = retire(chain, end) else {
+        panic!(rt; "close")
+    };
+    assert!(rt; (home.chained, home.left, home.notes) == (5, 0, 5));
+    assert!(rt; (home.taken, home.put, home.held) == (5, 6, 0));
 }

@@ -1,5 +1,5 @@
 //! Why a run has ended early.
-use quaject_core::OutOfMemory;
+use event_theory::OutOfMemory;
 use std::alloc::{AllocError, AllocFailed};
 use std::io;
 use std::io::ErrorKind;

@@ -6,8 +6,8 @@ ghost use Rattle.thread_table.specs.Handles.{view_of, IsDivisible, IsHandOf, IsS
 use crate::fault::Fault;
 use crate::measure::{Done, Watch};
 use crossbeam_utils::Backoff;
+use event_theory::{Element, Processor};
 use kernel_threads::{Job, prepare, run_all};
-use quaject_core::{Element, Processor};
 use std::alloc::Global;
 use std::rt::Clock;
 use std::sync::Wait;

@@ -1,8 +1,8 @@
 -- What is spelled as events are is read again.
 use Rattle.std.proofs.Common.{◌≡◌, ℕ, List, ◌∷◌, ◌∙◌, refl, sym, ap, subst, true, Ok}
 use Rattle.std.specs.List.{join_with_byte}
-use Rattle.quaject_core.specs.declared.event.Event.{Event}
-use Rattle.quaject_core.specs.declared.event.Event.TheVariants as events
+use Rattle.event_theory.specs.declared.event.Event.{Event}
+use Rattle.event_theory.specs.declared.event.Event.TheVariants as events
 use Rattle.boot_script.specs.declared.commands.Command.{Command}
 use Rattle.boot_script.specs.declared.commands.Command.TheVariants as command
 use Rattle.boot_script.specs.declared.names.Listener.TheVariants as listeners

@@ -7,14 +7,14 @@ use Rattle.boot_script.specs.declared.boot_words.BootWord.{BootWord}
 use Rattle.boot_script.specs.declared.boot_words.BootWord.TheVariants as word
 use Rattle.boot_script.specs.declared.boot_lines.Line.{Line}
 use Rattle.boot_script.specs.declared.boot_lines.Line.TheVariants as line
-use Rattle.boot_script.specs.declared.declared_names.Kind.TheVariants as kind
+use Rattle.boot_data.specs.declared.kind.Kind.TheVariants as kind
 use Rattle.boot_script.specs.declared.declared_names.Named.{Named}
-use Rattle.boot_script.specs.declared.plan.Mover.{Mover}
-use Rattle.boot_script.specs.declared.plan.Mover.TheVariants.{Pump, Switch}
-use Rattle.boot_script.specs.declared.plan.PipeWaits.{PipeWaits}
-use Rattle.boot_script.specs.declared.plan.QueueIndex.{QueueIndex}
-use Rattle.boot_script.specs.declared.plan.Step.{Step}
-use Rattle.boot_script.specs.declared.plan.Step.TheVariants as step
+use Rattle.boot_data.specs.declared.plan.Mover.{Mover}
+use Rattle.boot_data.specs.declared.plan.Mover.TheVariants.{Pump, Switch}
+use Rattle.boot_data.specs.declared.plan.PipeWaits.{PipeWaits}
+use Rattle.boot_data.specs.declared.plan.QueueIndex.{QueueIndex}
+use Rattle.boot_data.specs.declared.plan.Step.{Step}
+use Rattle.boot_data.specs.declared.plan.Step.TheVariants as step
 use Rattle.boot_script.specs.declared.version.Version.{Version}
 use Rattle.boot_script.specs.Words.{◌>>=◌, words_of}
 use Rattle.boot_script.specs.Versions.{is_later}

@@ -11,11 +11,11 @@ use Rattle.boot_script.specs.declared.boot_words.BootWord.{BootWord}
 use Rattle.boot_script.specs.declared.boot_words.BootWord.TheVariants as word
 use Rattle.boot_script.specs.declared.boot_lines.Line.{Line}
 use Rattle.boot_script.specs.declared.boot_lines.Line.TheVariants as line
-use Rattle.boot_script.specs.declared.declared_names.Kind.{Kind}
-use Rattle.boot_script.specs.declared.declared_names.Kind.TheVariants as kind
+use Rattle.boot_data.specs.declared.kind.Kind.{Kind}
+use Rattle.boot_data.specs.declared.kind.Kind.TheVariants as kind
 use Rattle.boot_script.specs.declared.declared_names.Named.{Named}
-use Rattle.boot_script.specs.declared.plan.QueueIndex.TheVariants.{Small, Large}
-use Rattle.boot_script.specs.declared.plan.Step.{Step}
+use Rattle.boot_data.specs.declared.plan.QueueIndex.TheVariants.{Small, Large}
+use Rattle.boot_data.specs.declared.plan.Step.{Step}
 use Rattle.boot_script.specs.declared.version.Version.{Version}
 use Rattle.boot_script.specs.declared.version.Script.TheVariants.{Boot}
 use Rattle.boot_script.specs.Words.{◌>>=◌, pieces, words_of, first_word, later_words, number_of}
@@ -26,7 +26,8 @@ use Rattle.boot_script.specs.Grammar.{Reader, is_printable, at_most_of, no_words
 use Rattle.boot_script.specs.BootNames.{is_name, same_kind, if_kind, find, is_declared, if_new, name_of, number_named, new_name, count_of, most_of, room_of, part_of, queue_or_part, queue_named}
 use Rattle.boot_script.specs.BootWords.{boot_word, boot_words, word_named, has_word, if_had, boot_word_of}
 use Rattle.boot_script.specs.BootLines.{is_key, key_of, way_of, ways_from, ways_of, switch_words, type_words, say_words, line_of, words_line, boot_line}
-use Rattle.boot_script.specs.Plans.{Draft, first_draft, goes_on, typed_at, steps_at, text_room, alarm_room, step_room, add_step, added, line_added, plan_from, plan_only, text_plan}
+use Rattle.boot_data.specs.Plans.{steps_at}
+use Rattle.boot_script.specs.Plans.{Draft, first_draft, goes_on, typed_at, text_room, alarm_room, step_room, add_step, added, line_added, plan_from, plan_only, text_plan}
 use Rattle.boot_script.specs.Scripts.{says_nothing, at_line, opening_of}
 use Rattle.boot_script.proofs.Binds.{Known, bind_known, test_known, ok_known, last_known, IsKnown, bind_is_known, test_is_known, ok_is_known, at_line_known}
 use Rattle.boot_script.proofs.Readers.{number_known}

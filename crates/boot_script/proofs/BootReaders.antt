@@ -10,11 +10,11 @@ use Rattle.std.specs.List.{list_all, join_with_byte, onto_first}
 use Rattle.std.specs.Str.{bytes_eq}
 use Rattle.std.specs.Fmt.{decimal}
 use Rattle.boot_script.specs.declared.fault.ScriptRefusal.TheVariants.{NameUnknown, NameTwice, BadName}
-use Rattle.boot_script.specs.declared.declared_names.Kind.{Kind}
-use Rattle.boot_script.specs.declared.declared_names.Kind.TheVariants as kind
+use Rattle.boot_data.specs.declared.kind.Kind.{Kind}
+use Rattle.boot_data.specs.declared.kind.Kind.TheVariants as kind
 use Rattle.boot_script.specs.declared.declared_names.Named.{Named}
-use Rattle.boot_script.specs.declared.plan.QueueIndex.{QueueIndex}
-use Rattle.boot_script.specs.declared.plan.QueueIndex.TheVariants.{Small, Large}
+use Rattle.boot_data.specs.declared.plan.QueueIndex.{QueueIndex}
+use Rattle.boot_data.specs.declared.plan.QueueIndex.TheVariants.{Small, Large}
 use Rattle.boot_script.specs.declared.version.Version.{Version}
 use Rattle.boot_script.specs.declared.version.Version.TheVariants.{One, Two, Three}
 use Rattle.boot_script.specs.Words.{◌>>=◌, pieces, first_word, later_words, number_of}

@@ -4,9 +4,9 @@ use Rattle.std.proofs.lemmas.Bool.Decides.{nat_tests}
 use Rattle.std.specs.Prelude.{nat_le}
 use Rattle.std.specs.List.{AllByRecursion}
 use Rattle.std.specs.Fmt.{decimal}
-use Rattle.quaject_core.specs.declared.event.Event.{Event}
-use Rattle.quaject_core.specs.declared.event.Event.TheVariants.{Claim}
-use Rattle.quaject_core.specs.declared.names.QueueName.{QueueName}
+use Rattle.event_theory.specs.declared.event.Event.{Event}
+use Rattle.event_theory.specs.declared.event.Event.TheVariants.{Claim}
+use Rattle.event_theory.specs.declared.names.QueueName.{QueueName}
 use Rattle.boot_script.specs.declared.fault.ScriptRefusal.TheVariants.{TooMany}
 use Rattle.boot_script.specs.declared.version.Version.{Version}
 use Rattle.boot_script.specs.Words.{◌>>=◌, number_of, first_word, later_words}

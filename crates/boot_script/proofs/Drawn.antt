@@ -7,20 +7,21 @@ use Rattle.std.specs.Prelude.{nat_le, nat_lt, IsSome, IfSome, OnOk}
 use Rattle.std.specs.Result.{is_ok}
 use Rattle.boot_script.specs.declared.fault.ScriptRefusal.{ScriptRefusal}
 use Rattle.boot_script.specs.declared.fault.ScriptRefusal.TheVariants.{TooMany, TextTooLong}
-use Rattle.boot_script.specs.declared.declared_names.Kind.{Kind}
+use Rattle.boot_data.specs.declared.kind.Kind.{Kind}
 use Rattle.boot_script.specs.declared.declared_names.Named.{Named}
-use Rattle.boot_script.specs.declared.declared_names.Kind.TheVariants.{Thread}
+use Rattle.boot_data.specs.declared.kind.Kind.TheVariants.{Thread}
 use Rattle.boot_script.specs.declared.version.Version.{Version}
 use Rattle.boot_script.specs.BootNames.{same_kind, count_of, most_of, room_of, with_name}
 use Rattle.boot_script.proofs.NamesSoFar.{count_push, most_three}
-use Rattle.quaject_core.specs.declared.alarm.Alarm.{Alarm}
-use Rattle.boot_script.specs.declared.plan.PlannedQueue.{PlannedQueue}
-use Rattle.boot_script.specs.declared.plan.PlannedMover.{PlannedMover}
-use Rattle.boot_script.specs.declared.plan.PlannedTty.{PlannedTty}
-use Rattle.boot_script.specs.declared.plan.PlannedThread.{PlannedThread}
-use Rattle.boot_script.specs.declared.plan.Step.{Step}
+use Rattle.event_theory.specs.declared.alarm.Alarm.{Alarm}
+use Rattle.boot_data.specs.declared.plan.PlannedQueue.{PlannedQueue}
+use Rattle.boot_data.specs.declared.plan.PlannedMover.{PlannedMover}
+use Rattle.boot_data.specs.declared.plan.PlannedTty.{PlannedTty}
+use Rattle.boot_data.specs.declared.plan.PlannedThread.{PlannedThread}
+use Rattle.boot_data.specs.declared.plan.Step.{Step}
 use Rattle.boot_script.specs.Words.{◌>>=◌}
-use Rattle.boot_script.specs.Plans.{Plan, no_plan, typed_at, steps_at, change_at, with_text, with_step, text_room, alarm_room, step_room}
+use Rattle.boot_data.specs.Plans.{Plan, steps_at}
+use Rattle.boot_script.specs.Plans.{no_plan, typed_at, change_at, with_text, with_step, text_room, alarm_room, step_room}
 
 abbrev pub plan_with : List PlannedQueue → List PlannedTty → List PlannedMover → List (List ℕ) → List Alarm → List PlannedThread → Plan
 plan_with queues ttys movers gauges alarms threads = record { queues = queues; ttys = ttys; movers = movers; gauges = gauges; alarms = alarms; threads = threads }

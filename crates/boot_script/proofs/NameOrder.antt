@@ -6,7 +6,7 @@ use Rattle.std.proofs.lemmas.List.{append-nil}
 use Rattle.std.proofs.lemmas.Slice.Eq.{bytes_eq-Decides}
 use Rattle.std.specs.Str.{bytes_eq}
 use Rattle.boot_script.specs.declared.fault.ScriptRefusal.TheVariants.{NameUnknown}
-use Rattle.boot_script.specs.declared.declared_names.Kind.{Kind}
+use Rattle.boot_data.specs.declared.kind.Kind.{Kind}
 use Rattle.boot_script.specs.declared.declared_names.Named.{Named}
 use Rattle.boot_script.specs.BootNames.{is_name, same_kind, if_kind, find, is_declared, count_of}
 use Rattle.boot_script.specs.BootSpellings.{FollowInOrder, name_of_number}

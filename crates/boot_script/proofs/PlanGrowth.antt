@@ -3,23 +3,23 @@ use Rattle.std.proofs.Common.{◌≡◌, ℕ, ◌<◌, ◌≤◌, ◌+◌, List,
 use Rattle.std.proofs.lemmas.Bool.Decides.{nat_tests}
 use Rattle.std.specs.Prelude.{nat_lt}
 use Rattle.std.specs.List.{AllByRecursion}
-use Rattle.quaject_core.specs.declared.alarm.Alarm.{Alarm}
-use Rattle.boot_script.specs.declared.declared_names.Kind.{Kind}
-use Rattle.boot_script.specs.declared.declared_names.Kind.TheVariants as kind
+use Rattle.event_theory.specs.declared.alarm.Alarm.{Alarm}
+use Rattle.boot_data.specs.declared.kind.Kind.{Kind}
+use Rattle.boot_data.specs.declared.kind.Kind.TheVariants as kind
 use Rattle.boot_script.specs.declared.declared_names.Named.{Named}
-use Rattle.boot_script.specs.declared.plan.Mover.{Mover}
-use Rattle.boot_script.specs.declared.plan.Mover.TheVariants.{Pump, Switch}
-use Rattle.boot_script.specs.declared.plan.PlannedMover.{PlannedMover}
-use Rattle.boot_script.specs.declared.plan.PlannedThread.{PlannedThread}
-use Rattle.boot_script.specs.declared.plan.QueueIndex.{QueueIndex}
-use Rattle.boot_script.specs.declared.plan.QueueIndex.TheVariants.{Small, Large}
-use Rattle.boot_script.specs.declared.plan.Step.{Step}
-use Rattle.boot_script.specs.declared.plan.Step.TheVariants as step
+use Rattle.boot_data.specs.declared.plan.Mover.{Mover}
+use Rattle.boot_data.specs.declared.plan.Mover.TheVariants.{Pump, Switch}
+use Rattle.boot_data.specs.declared.plan.PlannedMover.{PlannedMover}
+use Rattle.boot_data.specs.declared.plan.PlannedThread.{PlannedThread}
+use Rattle.boot_data.specs.declared.plan.QueueIndex.{QueueIndex}
+use Rattle.boot_data.specs.declared.plan.QueueIndex.TheVariants.{Small, Large}
+use Rattle.boot_data.specs.declared.plan.Step.{Step}
+use Rattle.boot_data.specs.declared.plan.Step.TheVariants as step
 use Rattle.boot_script.specs.declared.version.Version.{Version}
 use Rattle.boot_script.specs.declared.version.Version.TheVariants.{Three}
 use Rattle.boot_script.specs.BootNames.{same_kind, count_of, most_of, room_of, with_name}
-use Rattle.boot_script.specs.Plans.{Plan}
-use Rattle.boot_script.specs.PlanLimits.{many_of, IsQueueOf, IsSaidTo, IsStepOf, IsWayOf, IsMoverOf, IsAlarmOf, IsProgramOf}
+use Rattle.boot_data.specs.Plans.{Plan}
+use Rattle.boot_data.specs.PlanLimits.{many_of, IsQueueOf, IsSaidTo, IsStepOf, IsWayOf, IsMoverOf, IsAlarmOf, IsProgramOf}
 use Rattle.boot_script.proofs.Bools.{room_ok}
 use Rattle.boot_script.proofs.NamesSoFar.{count_push, most_three}
 

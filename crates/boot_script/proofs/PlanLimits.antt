@@ -3,24 +3,25 @@ use Rattle.std.proofs.Common.{◌≡◌, inl, inr, ℕ, zero, suc, ◌≤◌, �
 use Rattle.std.proofs.lemmas.Bool.Decides.{nat_tests}
 use Rattle.std.specs.Prelude.{nat_le, nat_lt}
 use Rattle.std.specs.List.{AllByRecursion, slice_get}
-use Rattle.quaject_core.specs.declared.alarm.Alarm.{Alarm}
+use Rattle.event_theory.specs.declared.alarm.Alarm.{Alarm}
 use Rattle.boot_script.specs.declared.fault.ScriptFault.{ScriptFault}
 use Rattle.boot_script.specs.declared.boot_lines.Line.{Line}
 use Rattle.boot_script.specs.declared.boot_lines.Line.TheVariants as line
-use Rattle.boot_script.specs.declared.declared_names.Kind.{Kind}
-use Rattle.boot_script.specs.declared.declared_names.Kind.TheVariants as kind
-use Rattle.boot_script.specs.declared.plan.PlannedQueue.{PlannedQueue}
-use Rattle.boot_script.specs.declared.plan.PlannedTty.{PlannedTty}
-use Rattle.boot_script.specs.declared.plan.PlannedMover.{PlannedMover}
-use Rattle.boot_script.specs.declared.plan.PlannedThread.{PlannedThread}
-use Rattle.boot_script.specs.declared.plan.Step.{Step}
+use Rattle.boot_data.specs.declared.kind.Kind.{Kind}
+use Rattle.boot_data.specs.declared.kind.Kind.TheVariants as kind
+use Rattle.boot_data.specs.declared.plan.PlannedQueue.{PlannedQueue}
+use Rattle.boot_data.specs.declared.plan.PlannedTty.{PlannedTty}
+use Rattle.boot_data.specs.declared.plan.PlannedMover.{PlannedMover}
+use Rattle.boot_data.specs.declared.plan.PlannedThread.{PlannedThread}
+use Rattle.boot_data.specs.declared.plan.Step.{Step}
 use Rattle.boot_script.specs.declared.version.Version.{Version}
 use Rattle.boot_script.specs.declared.version.Script.TheVariants.{Boot}
 use Rattle.boot_script.specs.BootNames.{count_of, room_of, with_name}
 use Rattle.boot_script.specs.BootLines.{boot_line}
 use Rattle.boot_script.specs.Scripts.{says_nothing, at_line, opening_of}
-use Rattle.boot_script.specs.Plans.{Plan, Draft, first_draft, no_plan, goes_on, typed_in, typed_at, steps_in, steps_at, change_at, with_text, with_step, text_room, alarm_room, step_room, add_step, added, line_added, plan_from, plan_only, text_plan}
-use Rattle.boot_script.specs.PlanLimits.{many_of, IsStepOf, IsMoverOf, IsAlarmOf, IsProgramOf, IsTyped, IsPlan}
+use Rattle.boot_data.specs.Plans.{Plan, steps_in, steps_at}
+use Rattle.boot_script.specs.Plans.{Draft, first_draft, no_plan, goes_on, typed_in, typed_at, change_at, with_text, with_step, text_room, alarm_room, step_room, add_step, added, line_added, plan_from, plan_only, text_plan}
+use Rattle.boot_data.specs.PlanLimits.{many_of, IsStepOf, IsMoverOf, IsAlarmOf, IsProgramOf, IsTyped, IsPlan}
 use Rattle.boot_script.specs.BootSpellings.{AreInOrder}
 use Rattle.boot_script.proofs.Bools.{room_ok}
 use Rattle.boot_script.proofs.Binds.{bind_ok, chosen}

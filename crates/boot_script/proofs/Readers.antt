@@ -10,8 +10,8 @@ use Rattle.std.specs.List.{list_all}
 use Rattle.std.specs.Str.{bytes_eq}
 use Rattle.std.specs.Str.Parse.{digits_value}
 use Rattle.std.specs.Fmt.{decimal}
-use Rattle.quaject_core.specs.declared.names.QueueName.{QueueName}
-use Rattle.quaject_core.specs.declared.names.QueueName.TheVariants as queues
+use Rattle.event_theory.specs.declared.names.QueueName.{QueueName}
+use Rattle.event_theory.specs.declared.names.QueueName.TheVariants as queues
 use Rattle.boot_script.specs.declared.fault.ScriptRefusal.{ScriptRefusal}
 use Rattle.boot_script.specs.declared.fault.ScriptRefusal.TheVariants.{BadNumber, BadName}
 use Rattle.boot_script.specs.declared.names.Listener.{Listener}

@@ -1,9 +1,9 @@
 -- Events that are allowed one after the other.
 use Rattle.std.proofs.Common.{◌≡◌, ℕ, ◌<◌, ◌+◌, List, [], ◌∷◌, ◌++◌, ◌∙◌, refl, sym, ap, length, take, get_or, Ok}
 use Rattle.std.proofs.lemmas.List.{map_push, take_more}
-use Rattle.quaject_core.specs.declared.event.Event.{Event}
-use Rattle.quaject_core.specs.States.{State, step}
-use Rattle.quaject_core.specs.Schedules.{Reaches}
+use Rattle.event_theory.specs.declared.event.Event.{Event}
+use Rattle.event_theory.specs.States.{State, step}
+use Rattle.event_theory.specs.Schedules.{Reaches}
 use Rattle.boot_script.specs.Replays.{alone}
 
 reaches_more : (s : State) (events : List Event) (t : State) (event : Event) (u : State) → Reaches s events t → step event t ≡ Ok u → Reaches s (events ++ event ∷ []) u

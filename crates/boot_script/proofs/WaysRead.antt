@@ -7,10 +7,10 @@ use Rattle.std.specs.List.{AllByRecursion, list_all}
 use Rattle.boot_script.specs.declared.fault.ScriptRefusal.TheVariants.{NameTwice}
 use Rattle.boot_script.specs.declared.boot_lines.Line.{Line}
 use Rattle.boot_script.specs.declared.boot_lines.Line.TheVariants as line
-use Rattle.boot_script.specs.declared.declared_names.Kind.TheVariants as kind
+use Rattle.boot_data.specs.declared.kind.Kind.TheVariants as kind
 use Rattle.boot_script.specs.declared.declared_names.Named.{Named}
-use Rattle.boot_script.specs.declared.plan.Mover.TheVariants.{Switch}
-use Rattle.boot_script.specs.declared.plan.Way.{Way}
+use Rattle.boot_data.specs.declared.plan.Mover.TheVariants.{Switch}
+use Rattle.boot_data.specs.declared.plan.Way.{Way}
 use Rattle.boot_script.specs.Words.{◌>>=◌, first_word, later_words}
 use Rattle.boot_script.specs.Grammar.{at_most_of}
 use Rattle.boot_script.specs.BootNames.{count_of, number_named}

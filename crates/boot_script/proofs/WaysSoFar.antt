@@ -7,7 +7,7 @@ use Rattle.std.specs.Prelude.{nat_le, ◌||◌}
 use Rattle.boot_script.specs.declared.fault.ScriptRefusal.{ScriptRefusal}
 use Rattle.boot_script.specs.declared.fault.ScriptRefusal.TheVariants.{TooMany}
 use Rattle.boot_script.specs.declared.declared_names.Named.{Named}
-use Rattle.boot_script.specs.declared.plan.Way.{Way}
+use Rattle.boot_data.specs.declared.plan.Way.{Way}
 use Rattle.boot_script.specs.Words.{◌>>=◌, word_at, words_from}
 use Rattle.boot_script.specs.Grammar.{at_most_of}
 use Rattle.boot_script.specs.BootLines.{AreSeen, is_key, way_of, ways_from, ways_of}

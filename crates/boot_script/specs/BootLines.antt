@@ -9,11 +9,11 @@ use Rattle.boot_script.specs.declared.boot_words.BootWord.TheVariants as word
 use Rattle.boot_script.specs.declared.boot_lines.Line.{Line}
 use Rattle.boot_script.specs.declared.boot_lines.Line.TheVariants.{Queue, Tty, Types, Mover, Gauge, Alarm, Thread}
 use Rattle.boot_script.specs.declared.boot_lines.Line.TheVariants.{More, Step}
-use Rattle.boot_script.specs.declared.declared_names.Kind.TheVariants as kind
+use Rattle.boot_data.specs.declared.kind.Kind.TheVariants as kind
 use Rattle.boot_script.specs.declared.declared_names.Named.{Named}
-use Rattle.boot_script.specs.declared.plan.Mover.TheVariants.{Pump, Switch}
-use Rattle.boot_script.specs.declared.plan.Step.TheVariants as step
-use Rattle.boot_script.specs.declared.plan.Way.{Way}
+use Rattle.boot_data.specs.declared.plan.Mover.TheVariants.{Pump, Switch}
+use Rattle.boot_data.specs.declared.plan.Step.TheVariants as step
+use Rattle.boot_data.specs.declared.plan.Way.{Way}
 use Rattle.boot_script.specs.declared.version.Version.{Version}
 use Rattle.boot_script.specs.BootWords.{boot_word_of}
 use Rattle.boot_script.specs.BootNames.{number_named, new_name, queue_named}

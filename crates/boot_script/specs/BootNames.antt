@@ -5,14 +5,14 @@ use Rattle.std.specs.List.{count_by, list_all, join_with_byte}
 use Rattle.std.specs.Str.{bytes_eq}
 use Rattle.boot_script.specs.declared.fault.ScriptRefusal.{ScriptRefusal}
 use Rattle.boot_script.specs.declared.fault.ScriptRefusal.TheVariants.{BadName, NameTwice, NameUnknown, TooMany}
-use Rattle.boot_script.specs.declared.declared_names.Kind.{Kind}
-use Rattle.boot_script.specs.declared.declared_names.Kind.TheVariants.{Queue, Tty, Mover, Gauge, Thread}
+use Rattle.boot_data.specs.declared.kind.Kind.{Kind}
+use Rattle.boot_data.specs.declared.kind.Kind.TheVariants.{Queue, Tty, Mover, Gauge, Thread}
 use Rattle.boot_script.specs.declared.declared_names.Named.{Named}
-use Rattle.boot_script.specs.declared.plan.QueueIndex.{QueueIndex}
-use Rattle.boot_script.specs.declared.plan.QueueIndex.TheVariants.{Small, Large}
+use Rattle.boot_data.specs.declared.plan.QueueIndex.{QueueIndex}
+use Rattle.boot_data.specs.declared.plan.QueueIndex.TheVariants.{Small, Large}
 use Rattle.boot_script.specs.declared.version.Version.{Version}
 use Rattle.boot_script.specs.declared.version.Version.TheVariants.{Three}
-use Rattle.boot_script.specs.QueueLists.{line_queue, screen_queue}
+use Rattle.boot_data.specs.QueueLists.{line_queue, screen_queue}
 use Rattle.boot_script.specs.Words.{◌>>=◌, pieces, first_word, later_words}
 
 -- a to z

@@ -6,22 +6,23 @@ use Rattle.std.specs.Fmt.{decimal}
 use Rattle.boot_script.specs.declared.boot_lines.Line.{Line}
 use Rattle.boot_script.specs.declared.boot_lines.Line.TheVariants.{Queue, Tty, Types, Mover, Gauge, Alarm}
 use Rattle.boot_script.specs.declared.boot_lines.Line.TheVariants.{Thread, More, Step}
-use Rattle.boot_script.specs.declared.declared_names.Kind.{Kind}
-use Rattle.boot_script.specs.declared.declared_names.Kind.TheVariants as kind
+use Rattle.boot_data.specs.declared.kind.Kind.{Kind}
+use Rattle.boot_data.specs.declared.kind.Kind.TheVariants as kind
 use Rattle.boot_script.specs.declared.declared_names.Named.{Named}
-use Rattle.boot_script.specs.declared.plan.Mover as movers
-use Rattle.boot_script.specs.declared.plan.Mover.TheVariants as mover
-use Rattle.boot_script.specs.declared.plan.PipeWaits.{PipeWaits}
-use Rattle.boot_script.specs.declared.plan.QueueIndex.{QueueIndex}
-use Rattle.boot_script.specs.declared.plan.QueueIndex.TheVariants.{Small, Large}
-use Rattle.boot_script.specs.declared.plan.Step as steps
-use Rattle.boot_script.specs.declared.plan.Step.TheVariants as step
-use Rattle.boot_script.specs.declared.plan.Way.{Way}
+use Rattle.boot_data.specs.declared.plan.Mover as movers
+use Rattle.boot_data.specs.declared.plan.Mover.TheVariants as mover
+use Rattle.boot_data.specs.declared.plan.PipeWaits.{PipeWaits}
+use Rattle.boot_data.specs.declared.plan.QueueIndex.{QueueIndex}
+use Rattle.boot_data.specs.declared.plan.QueueIndex.TheVariants.{Small, Large}
+use Rattle.boot_data.specs.declared.plan.Step as steps
+use Rattle.boot_data.specs.declared.plan.Step.TheVariants as step
+use Rattle.boot_data.specs.declared.plan.Way.{Way}
 use Rattle.boot_script.specs.declared.version.Script.TheVariants.{Boot}
 use Rattle.boot_script.specs.declared.version.Version.{Version}
 use Rattle.boot_script.specs.BootNames.{is_name, same_kind, is_declared, count_of}
 use Rattle.boot_script.specs.Grammar.{is_printable}
-use Rattle.boot_script.specs.Plans.{Plan, Draft, first_draft, goes_on, added}
+use Rattle.boot_data.specs.Plans.{Plan}
+use Rattle.boot_script.specs.Plans.{Draft, first_draft, goes_on, added}
 use Rattle.boot_script.specs.Scripts.{says_nothing}
 use Rattle.boot_script.specs.Versions.{last_wait, is_later, version_line}
 use Rattle.boot_script.specs.Words.{lines_of}

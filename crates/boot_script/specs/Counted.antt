@@ -1,7 +1,7 @@
 -- What holds of the names that were declared.
 use Rattle.std.specs.Prelude.{◌<◌, ◌≤◌, List}
 use Rattle.std.specs.List.{AllByRecursion}
-use Rattle.boot_script.specs.declared.declared_names.Kind.{Kind}
+use Rattle.boot_data.specs.declared.kind.Kind.{Kind}
 use Rattle.boot_script.specs.declared.declared_names.Named.{Named}
 use Rattle.boot_script.specs.declared.version.Version.TheVariants.{Three}
 use Rattle.boot_script.specs.BootNames.{count_of, most_of}

@@ -1,11 +1,12 @@
 -- How what a reader has kept of a boot script compares with what the lines have said.
 use Rattle.std.specs.Prelude.{◌≡◌, ℕ, ◌<◌, true, length, Result, Ok, Err, slice_index_or}
-use Rattle.boot_script.specs.declared.declared_names.Kind.TheVariants as kind
+use Rattle.boot_data.specs.declared.kind.Kind.TheVariants as kind
 use Rattle.boot_script.specs.declared.draft.Draft.{Draft}
 use Rattle.boot_script.specs.declared.fault.ScriptRefusal.{ScriptRefusal}
 use Rattle.boot_script.specs.BootNames.{count_of}
 use Rattle.boot_script.specs.Plans as plans
-use Rattle.boot_script.specs.Plans.{Plan, typed_at, steps_at}
+use Rattle.boot_data.specs.Plans.{Plan, steps_at}
+use Rattle.boot_script.specs.Plans.{typed_at}
 
 -- the plan that is kept
 abbrev pub kept_plan : Draft → Plan

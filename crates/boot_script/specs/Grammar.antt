@@ -1,11 +1,11 @@
 -- The event that a line says, or why the line is refused. The order of the steps is the order of the refusals.
 use Rattle.std.specs.Prelude.{ℕ, ◌&&◌, Bool, List, [], ◌∷◌, length, Result, Ok, Err, nat_le, if◌then◌else◌}
 use Rattle.std.specs.List.{list_all}
-use Rattle.quaject_core.specs.declared.event.Event.{Event}
-use Rattle.quaject_core.specs.declared.event.Event.TheVariants.{Queue, Chain, Claim, Raise, Take, On, Off, Stop, Park}
-use Rattle.quaject_core.specs.declared.event.Event.TheVariants.{Start, Signal, Deliver, Done, Notify, NotifyWait}
-use Rattle.quaject_core.specs.declared.event.Event.TheVariants.{Round, Leave, Tick, Advance, Set, Fire, Cancel, Join}
-use Rattle.quaject_core.specs.declared.event.Event.TheVariants.{Shut, WaitAt}
+use Rattle.event_theory.specs.declared.event.Event.{Event}
+use Rattle.event_theory.specs.declared.event.Event.TheVariants.{Queue, Chain, Claim, Raise, Take, On, Off, Stop, Park}
+use Rattle.event_theory.specs.declared.event.Event.TheVariants.{Start, Signal, Deliver, Done, Notify, NotifyWait}
+use Rattle.event_theory.specs.declared.event.Event.TheVariants.{Round, Leave, Tick, Advance, Set, Fire, Cancel, Join}
+use Rattle.event_theory.specs.declared.event.Event.TheVariants.{Shut, WaitAt}
 use Rattle.boot_script.specs.declared.commands.Command.{Command}
 use Rattle.boot_script.specs.declared.commands.Command.TheVariants as command
 use Rattle.boot_script.specs.declared.fault.ScriptRefusal.{ScriptRefusal}

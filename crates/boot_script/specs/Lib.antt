@@ -5,15 +5,12 @@ pub mod Commands
 pub mod Grammar
 pub mod Scripts
 pub mod Texts
-pub mod QueueLists
 pub mod BootNames
 pub mod Counted
 pub mod BootWords
 pub mod BootLines
 pub mod Plans
-pub mod PlanLimits
 pub mod Drafts
-pub mod BootPlans
 pub mod Spellings
 pub mod BootSpellings
 pub mod Answers

@@ -1,8 +1,8 @@
 -- The names in a line of a list of events.
 use Rattle.std.specs.Prelude.{ℕ, List, [], ◌∷◌, Result, Ok, Err, ◌==◌, if◌then◌else◌, codes}
 use Rattle.std.specs.Str.{bytes_eq}
-use Rattle.quaject_core.specs.declared.names.QueueName.{QueueName}
-use Rattle.quaject_core.specs.declared.names.QueueName.TheVariants.{Bytes, Notes, Wait, Ready, Free}
+use Rattle.event_theory.specs.declared.names.QueueName.{QueueName}
+use Rattle.event_theory.specs.declared.names.QueueName.TheVariants.{Bytes, Notes, Wait, Ready, Free}
 use Rattle.boot_script.specs.declared.fault.ScriptRefusal.{ScriptRefusal}
 use Rattle.boot_script.specs.declared.fault.ScriptRefusal.TheVariants.{BadName}
 use Rattle.boot_script.specs.declared.names.Listener.{Listener}

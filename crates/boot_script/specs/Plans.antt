@@ -3,34 +3,26 @@ use Rattle.std.specs.Prelude.{ℕ, zero, suc, ◌+◌, Bool, true, false, List, 
 use Rattle.std.specs.Prelude.{Result, Ok, Err}
 use Rattle.std.specs.Prelude.{nat_le, nat_lt, if◌then◌else◌}
 use Rattle.std.specs.List.{slice_get}
-use Rattle.quaject_core.specs.declared.alarm.Alarm.{Alarm}
+use Rattle.event_theory.specs.declared.alarm.Alarm.{Alarm}
 use Rattle.boot_script.specs.declared.fault.ScriptRefusal.{ScriptRefusal}
 use Rattle.boot_script.specs.declared.fault.ScriptRefusal.TheVariants.{TooMany, TextTooLong}
 use Rattle.boot_script.specs.declared.fault.ScriptFault.{ScriptFault}
 use Rattle.boot_script.specs.declared.boot_lines.Line.{Line}
 use Rattle.boot_script.specs.declared.boot_lines.Line.TheVariants as line
-use Rattle.boot_script.specs.declared.declared_names.Kind.TheVariants as kind
+use Rattle.boot_data.specs.declared.kind.Kind.TheVariants as kind
 use Rattle.boot_script.specs.declared.declared_names.Named.{Named}
-use Rattle.boot_script.specs.declared.plan.PlannedQueue.{PlannedQueue}
-use Rattle.boot_script.specs.declared.plan.PlannedTty.{PlannedTty}
-use Rattle.boot_script.specs.declared.plan.PlannedMover.{PlannedMover}
-use Rattle.boot_script.specs.declared.plan.PlannedThread.{PlannedThread}
-use Rattle.boot_script.specs.declared.plan.Step.{Step}
+use Rattle.boot_data.specs.declared.plan.PlannedQueue.{PlannedQueue}
+use Rattle.boot_data.specs.declared.plan.PlannedTty.{PlannedTty}
+use Rattle.boot_data.specs.declared.plan.PlannedMover.{PlannedMover}
+use Rattle.boot_data.specs.declared.plan.PlannedThread.{PlannedThread}
+use Rattle.boot_data.specs.declared.plan.Step.{Step}
 use Rattle.boot_script.specs.declared.version.Version.{Version}
 use Rattle.boot_script.specs.declared.version.Script.TheVariants.{Boot}
+use Rattle.boot_data.specs.Plans.{Plan, steps_at}
 use Rattle.boot_script.specs.BootLines.{boot_line}
 use Rattle.boot_script.specs.BootNames.{count_of, room_of, with_name}
 use Rattle.boot_script.specs.Scripts.{says_nothing, at_line, opening_of}
 use Rattle.boot_script.specs.Words.{◌>>=◌}
-
--- what a boot script says, each list in the order of the script
-pub record Plan : Type 0 where
-  pub queues : List PlannedQueue
-  pub ttys : List PlannedTty
-  pub movers : List PlannedMover
-  pub gauges : List (List ℕ)
-  pub alarms : List Alarm
-  pub threads : List PlannedThread
 
 -- What lines have said so far: the plan, the names that they declared, and the thread whose program goes on
 pub record Draft : Type 0 where
@@ -59,15 +51,6 @@ typed_in (Some tty) = tty.typed
 -- what the device of the tty with this number types so far
 abbrev pub typed_at : List PlannedTty → ℕ → List ℕ
 typed_at ttys tty = typed_in (slice_get ttys tty)
-
--- the program of a thread so far
-abbrev pub steps_in : Option PlannedThread → List Step
-steps_in None = []
-steps_in (Some thread) = thread.steps
-
--- the program so far of the thread with this number
-abbrev pub steps_at : List PlannedThread → ℕ → List Step
-steps_at threads thread = steps_in (slice_get threads thread)
 
 -- the list with the item at a place changed
 abbrev pub change_at : {A : Type 0} → (A → A) → List A → ℕ → List A

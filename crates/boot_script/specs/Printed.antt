@@ -2,17 +2,17 @@
 use Rattle.std.specs.Prelude.{ℕ, ◌+◌, ◌/◌, ◌%◌, ◌==◌, ◌&&◌, Bool, true, false, not, List, [], ◌∷◌, ◌++◌, nat_lt}
 use Rattle.std.specs.Prelude.{if◌then◌else◌, codes}
 use Rattle.std.specs.Fmt.{decimal}
-use Rattle.quaject_core.specs.declared.refusal.Refusal.{Refusal}
-use Rattle.quaject_core.specs.declared.status.AlarmStatus.{AlarmStatus}
-use Rattle.quaject_core.specs.declared.status.ChainStatus.{ChainStatus}
-use Rattle.quaject_core.specs.declared.status.ElementStatus.{ElementStatus}
-use Rattle.quaject_core.specs.declared.status.Gate.{Gate}
-use Rattle.quaject_core.specs.declared.status.Gate.TheVariants.{Idle, Running, More}
-use Rattle.quaject_core.specs.declared.status.Place.{Place}
-use Rattle.quaject_core.specs.declared.status.Place.TheVariants.{Processor, Ready, Wait, Stopped, Free, Held}
-use Rattle.quaject_core.specs.declared.status.QueueStatus.{QueueStatus}
-use Rattle.quaject_core.specs.declared.status.Status.{Status}
-use Rattle.quaject_core.specs.RefusalNames.{refusal_name, refusal_number}
+use Rattle.event_theory.specs.declared.refusal.Refusal.{Refusal}
+use Rattle.event_theory.specs.declared.status.AlarmStatus.{AlarmStatus}
+use Rattle.event_theory.specs.declared.status.ChainStatus.{ChainStatus}
+use Rattle.event_theory.specs.declared.status.ElementStatus.{ElementStatus}
+use Rattle.event_theory.specs.declared.status.Gate.{Gate}
+use Rattle.event_theory.specs.declared.status.Gate.TheVariants.{Idle, Running, More}
+use Rattle.event_theory.specs.declared.status.Place.{Place}
+use Rattle.event_theory.specs.declared.status.Place.TheVariants.{Processor, Ready, Wait, Stopped, Free, Held}
+use Rattle.event_theory.specs.declared.status.QueueStatus.{QueueStatus}
+use Rattle.event_theory.specs.declared.status.Status.{Status}
+use Rattle.event_theory.specs.RefusalNames.{refusal_name, refusal_number}
 use Rattle.boot_script.specs.declared.fault.ScriptFault.{ScriptFault}
 use Rattle.boot_script.specs.declared.outcome.ReplayFault.{ReplayFault}
 use Rattle.boot_script.specs.declared.outcome.ReplayFault.TheVariants.{Script, Memory, Read, Write}

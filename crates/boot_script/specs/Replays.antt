@@ -2,11 +2,11 @@
 use Rattle.std.specs.Prelude.{◌≡◌, ℕ, List, ◌++◌, map, take, Option, Result, Ok, Err, IsOk, IsSomeAnd}
 use Rattle.std.specs.List.{slice_get}
 use Rattle.std.specs.Io.KnownBytes.{Appends}
-use Rattle.quaject_core.specs.declared.event.Event.{Event}
-use Rattle.quaject_core.specs.States.{State, first_state, step}
-use Rattle.quaject_core.specs.Schedules.{Reaches}
-use Rattle.quaject_core.specs.declared.status.Status.{Status}
-use Rattle.quaject_core.specs.Statuses.{status_of}
+use Rattle.event_theory.specs.declared.event.Event.{Event}
+use Rattle.event_theory.specs.States.{State, first_state, step}
+use Rattle.event_theory.specs.Schedules.{Reaches}
+use Rattle.event_theory.specs.declared.status.Status.{Status}
+use Rattle.event_theory.specs.Statuses.{status_of}
 use Rattle.boot_script.specs.declared.fault.ScriptFault.{ScriptFault}
 use Rattle.boot_script.specs.declared.outcome.Replayed.{Replayed}
 use Rattle.boot_script.specs.declared.outcome.Replayed.TheVariants.{AllAllowed, Refused}

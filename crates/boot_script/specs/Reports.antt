@@ -3,21 +3,21 @@ use Rattle.std.specs.Prelude.{ℕ, ◌+◌, ◌/◌, ◌%◌, ◌==◌, ◌&&◌
 use Rattle.std.specs.Prelude.{if◌then◌else◌, codes}
 use Rattle.std.specs.Fmt.{decimal}
 use Rattle.std.specs.List.{flat_map}
-use Rattle.boot_script.specs.declared.report.AlarmCounts.{AlarmCounts}
-use Rattle.boot_script.specs.declared.report.GaugeLine.{GaugeLine}
-use Rattle.boot_script.specs.declared.report.HeardLine.{HeardLine}
-use Rattle.boot_script.specs.declared.report.ItemCounts.{ItemCounts}
-use Rattle.boot_script.specs.declared.report.MoverKind.{MoverKind}
-use Rattle.boot_script.specs.declared.report.MoverKind.TheVariants.{Pump, Switch}
-use Rattle.boot_script.specs.declared.report.MoverLine.{MoverLine}
-use Rattle.boot_script.specs.declared.report.QueueKind.{QueueKind}
-use Rattle.boot_script.specs.declared.report.QueueKind.TheVariants.{Queue, Pipe}
-use Rattle.boot_script.specs.declared.report.QueueLine.{QueueLine}
-use Rattle.boot_script.specs.declared.report.Report.{Report}
-use Rattle.boot_script.specs.declared.report.ThreadLine.{ThreadLine}
-use Rattle.boot_script.specs.declared.report.ThreadState.{ThreadState}
-use Rattle.boot_script.specs.declared.report.ThreadState.TheVariants.{Ended, Ready, Wait, Stopped, Held}
-use Rattle.boot_script.specs.declared.report.TtyLines.{TtyLines}
+use Rattle.boot_data.specs.declared.report.AlarmCounts.{AlarmCounts}
+use Rattle.boot_data.specs.declared.report.GaugeLine.{GaugeLine}
+use Rattle.boot_data.specs.declared.report.HeardLine.{HeardLine}
+use Rattle.boot_data.specs.declared.report.ItemCounts.{ItemCounts}
+use Rattle.boot_data.specs.declared.report.MoverKind.{MoverKind}
+use Rattle.boot_data.specs.declared.report.MoverKind.TheVariants.{Pump, Switch}
+use Rattle.boot_data.specs.declared.report.MoverLine.{MoverLine}
+use Rattle.boot_data.specs.declared.report.QueueKind.{QueueKind}
+use Rattle.boot_data.specs.declared.report.QueueKind.TheVariants.{Queue, Pipe}
+use Rattle.boot_data.specs.declared.report.QueueLine.{QueueLine}
+use Rattle.boot_data.specs.declared.report.Report.{Report}
+use Rattle.boot_data.specs.declared.report.ThreadLine.{ThreadLine}
+use Rattle.boot_data.specs.declared.report.ThreadState.{ThreadState}
+use Rattle.boot_data.specs.declared.report.ThreadState.TheVariants.{Ended, Ready, Wait, Stopped, Held}
+use Rattle.boot_data.specs.declared.report.TtyLines.{TtyLines}
 use Rattle.boot_script.specs.Printed.{end_of_line, hex_digits}
 
 -- a line's first word, and a name

@@ -3,7 +3,7 @@ use Rattle.std.specs.Prelude.{ℕ, ◌+◌, Bool, true, List, [], ◌∷◌, len
 use Rattle.std.specs.Prelude.{if◌then◌else◌}
 use Rattle.std.specs.List.{list_all}
 use Rattle.std.specs.Str.{bytes_eq}
-use Rattle.quaject_core.specs.declared.event.Event.{Event}
+use Rattle.event_theory.specs.declared.event.Event.{Event}
 use Rattle.boot_script.specs.declared.fault.ScriptRefusal.{ScriptRefusal}
 use Rattle.boot_script.specs.declared.fault.ScriptRefusal.TheVariants.{NotVersion, TooMany, NotAscii}
 use Rattle.boot_script.specs.declared.fault.ScriptFault.{ScriptFault}

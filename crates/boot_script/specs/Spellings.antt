@@ -2,13 +2,13 @@
 use Rattle.std.specs.Prelude.{◌≡◌, ◌⊎◌, ℕ, ◌+◌, ◌≤◌, true, List, [], ◌∷◌, length, map, codes}
 use Rattle.std.specs.List.{AllByRecursion, join_with_byte}
 use Rattle.std.specs.Fmt.{decimal}
-use Rattle.quaject_core.specs.declared.event.Event.{Event}
-use Rattle.quaject_core.specs.declared.event.Event.TheVariants.{Queue, Chain, Claim, Raise, Take, On, Off, Stop, Park}
-use Rattle.quaject_core.specs.declared.event.Event.TheVariants.{Start, Signal, Deliver, Done, Notify, NotifyWait}
-use Rattle.quaject_core.specs.declared.event.Event.TheVariants.{Round, Leave, Tick, Advance, Set, Fire, Cancel, Join}
-use Rattle.quaject_core.specs.declared.event.Event.TheVariants.{Shut, WaitAt}
-use Rattle.quaject_core.specs.declared.names.QueueName.{QueueName}
-use Rattle.quaject_core.specs.declared.names.QueueName.TheVariants as queues
+use Rattle.event_theory.specs.declared.event.Event.{Event}
+use Rattle.event_theory.specs.declared.event.Event.TheVariants.{Queue, Chain, Claim, Raise, Take, On, Off, Stop, Park}
+use Rattle.event_theory.specs.declared.event.Event.TheVariants.{Start, Signal, Deliver, Done, Notify, NotifyWait}
+use Rattle.event_theory.specs.declared.event.Event.TheVariants.{Round, Leave, Tick, Advance, Set, Fire, Cancel, Join}
+use Rattle.event_theory.specs.declared.event.Event.TheVariants.{Shut, WaitAt}
+use Rattle.event_theory.specs.declared.names.QueueName.{QueueName}
+use Rattle.event_theory.specs.declared.names.QueueName.TheVariants as queues
 use Rattle.boot_script.specs.declared.version.Script.TheVariants.{Events}
 use Rattle.boot_script.specs.declared.version.Version.{Version}
 use Rattle.boot_script.specs.Words.{lines_of}

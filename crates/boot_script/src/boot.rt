@@ -7,17 +7,17 @@ ghost use Rattle.std.specs.Prelude.{◌≡◌, ◌≤◌, length};
 ghost use Rattle.boot_script.specs.Words.{lines_of};
 ghost use Rattle.boot_script.specs.Plans.{first_draft, plan_from, plan_only, text_plan};
 ghost use Rattle.boot_script.specs.Answers.{Says};
-ghost use Rattle.boot_script.specs.BootPlans.{plan_of};
+ghost use Rattle.boot_data.specs.BootPlans.{plan_of};
 ghost use Rattle.boot_script.specs.Drafts.{kept_plan};
-ghost use Rattle.boot_script.specs.PlanLimits.{IsPlan};
+ghost use Rattle.boot_data.specs.PlanLimits.{IsPlan};
 
-use crate::boot_plan::BootPlan;
 use crate::draft::Draft;
 use crate::fault::{ScriptFault, ScriptRefusal};
 use crate::opening::{is_silent, opening};
 use crate::text::first_line;
 use crate::version::{Script, Version};
-use quaject_core::Items;
+use boot_data::BootPlan;
+use event_theory::Items;
 use std::alloc::Global;
 
 /// The plan that was kept.

@@ -11,8 +11,9 @@ ghost use Rattle.boot_script.specs.declared.version.Version.{Version};
 ghost use Rattle.boot_script.specs.BootLines.{boot_line};
 ghost use Rattle.boot_script.specs.BootSpellings.{AreInOrder, FitsLine, IsSpelling, IsText, SpellsPlan};
 ghost use Rattle.boot_script.specs.Grammar.{is_printable};
-ghost use Rattle.boot_script.specs.PlanLimits.{IsPlan};
-ghost use Rattle.boot_script.specs.Plans.{Draft, Plan, first_draft, plan_from, text_plan};
+ghost use Rattle.boot_data.specs.PlanLimits.{IsPlan};
+ghost use Rattle.boot_data.specs.Plans.{Plan};
+ghost use Rattle.boot_script.specs.Plans.{Draft, first_draft, plan_from, text_plan};
 ghost use Rattle.boot_script.specs.Texts.{bytes_of};
 
 /// Each list of bytes is spelled by a text of printable bytes.

@@ -8,25 +8,13 @@ ghost use Rattle.boot_script.specs.BootNames.{is_declared, new_name, count_of, m
 ghost use Rattle.boot_script.specs.BootNames.{tty_part, queue_named};
 
 use crate::fault::ScriptRefusal;
-use crate::fixed::Name;
-use crate::plan::QueueIndex;
 use crate::text::cut;
 use crate::version::Version;
 use arrayvec::ArrayVec;
-use quaject_core::{Element, Gauge};
+use boot_data::plan::QueueIndex;
+use boot_data::{Kind, Name};
+use event_theory::{Element, Gauge};
 use std::marker::Model;
-
-/// What a name was declared for.
-#[derive(Clone, Copy)]
-pub(crate) enum Kind {
-    /// A queue or pipe.
-    Queue,
-    Tty,
-    /// A pump or switch.
-    Mover,
-    Gauge,
-    Thread,
-}
 
 /// The number of a tty. Contracts see it as a number.
 #[derive(Clone, Copy)]
@@ -92,34 +80,32 @@ impl Default for Named {
     }
 }
 
-impl Kind {
-    /// Whether two kinds are one.
-    fn is(self, other: Kind) -> bool
-        ensures { result ≡ same_kind self other }
-    {
-        matches!(
-            (self, other),
-            (Kind::Queue, Kind::Queue)
-                | (Kind::Tty, Kind::Tty)
-                | (Kind::Mover, Kind::Mover)
-                | (Kind::Gauge, Kind::Gauge)
-                | (Kind::Thread, Kind::Thread)
-        )
-    }
+/// Whether two kinds are one.
+fn same_kind(one: Kind, other: Kind) -> bool
+    ensures { result ≡ same_kind one other }
+{
+    matches!(
+        (one, other),
+        (Kind::Queue, Kind::Queue)
+            | (Kind::Tty, Kind::Tty)
+            | (Kind::Mover, Kind::Mover)
+            | (Kind::Gauge, Kind::Gauge)
+            | (Kind::Thread, Kind::Thread)
+    )
+}
 
-    /// How many of this kind a script of a version may have.
-    fn most(self, version: Version) -> usize
-        ensures { result ≡ most_of version self }
-    {
-        match self {
-            Kind::Queue | Kind::Gauge => 8,
-            Kind::Tty => 2,
-            Kind::Mover => 4,
-            Kind::Thread => match version {
-                Version::One | Version::Two => 16,
-                Version::Three => 64,
-            },
-        }
+/// How many of this kind a script of a version may have.
+fn most_of(version: Version, kind: Kind) -> usize
+    ensures { result ≡ most_of version kind }
+{
+    match kind {
+        Kind::Queue | Kind::Gauge => 8,
+        Kind::Tty => 2,
+        Kind::Mover => 4,
+        Kind::Thread => match version {
+            Version::One | Version::Two => 16,
+            Version::Three => 64,
+        },
     }
 }
 
@@ -185,7 +171,7 @@ impl Names {
     {
         for named in self.names.as_slice() {
             if name == named.name.as_slice() {
-                return if named.kind.is(kind) {
+                return if same_kind(named.kind, kind) {
                     Ok(named.number)
                 } else {
                     Err(ScriptRefusal::NameUnknown)
@@ -259,7 +245,7 @@ impl Names {
     {
         let mut count = 0;
         for named in self.names.as_slice() {
-            if named.kind.is(kind) {
+            if same_kind(named.kind, kind) {
                 count += 1;
             }
         }
@@ -277,7 +263,7 @@ impl Names {
         ensures added { OnOk result (self.new ≡ with_name kind name.now self.old) }
     {
         let number = self.count(kind);
-        if number >= kind.most(version) {
+        if number >= most_of(version, kind) {
             return Err(ScriptRefusal::TooMany);
         }
         let name = Name::of(name.as_slice());

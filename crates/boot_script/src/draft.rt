@@ -10,12 +10,12 @@ ghost use Rattle.boot_script.specs.Plans.{with_step};
 ghost use Rattle.boot_script.specs.Drafts.{AddsTo, Draws};
 
 use crate::boot_lines::{Line, line_said};
-use crate::declared_names::{Kind, Names, TtyNumber};
+use crate::declared_names::{Names, TtyNumber};
 use crate::fault::ScriptRefusal;
-use crate::fixed::{Name, Text};
-use crate::plan::{PlannedMover, PlannedQueue, PlannedThread, PlannedTty, Step};
 use crate::version::Version;
-use quaject_core::{Alarm, Element, Items};
+use boot_data::plan::{PlannedMover, PlannedQueue, PlannedThread, PlannedTty, Step};
+use boot_data::{Kind, Name, Text};
+use event_theory::{Alarm, Element, Items};
 use std::alloc::Global;
 
 /// How many bytes a tty's device may type.

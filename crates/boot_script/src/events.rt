@@ -13,7 +13,7 @@ use crate::fault::{ScriptFault, ScriptRefusal};
 use crate::opening::{is_silent, opening};
 use crate::text::first_line;
 use crate::version::{Script, Version};
-use quaject_core::Event;
+use event_theory::Event;
 use std::alloc::Global;
 
 /// The events of the lines from line 2 on. After a refused growth the lines are still checked.

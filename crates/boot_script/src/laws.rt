@@ -3,7 +3,7 @@
 ghost use Rattle.std.specs.Prelude.{◌≡◌, ◌≢◌, ℕ, List, Ok, Err};
 ghost use Rattle.boot_script.specs.declared.fault.ScriptRefusal.TheVariants.{OutOfMemory};
 ghost use Rattle.boot_script.specs.declared.fault.ScriptFault.{ScriptFault};
-ghost use Rattle.quaject_core.specs.declared.event.Event.{Event};
+ghost use Rattle.event_theory.specs.declared.event.Event.{Event};
 ghost use Rattle.boot_script.specs.declared.version.Version.{Version};
 ghost use Rattle.boot_script.specs.Grammar.{line_event};
 ghost use Rattle.boot_script.specs.Scripts.{text_events};

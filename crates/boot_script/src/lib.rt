@@ -8,7 +8,6 @@
 mod boot;
 pub mod boot_laws;
 mod boot_lines;
-mod boot_plan;
 mod boot_words;
 mod commands;
 mod declared_names;
@@ -16,16 +15,13 @@ mod draft;
 mod event_lines;
 mod events;
 mod fault;
-mod fixed;
 pub mod laws;
 mod names;
 mod opening;
 mod outcome;
 mod page;
-pub mod plan;
 mod printing;
 pub mod reading;
-mod report;
 mod report_printing;
 mod run;
 mod text;
@@ -33,17 +29,15 @@ mod unescaping;
 mod version;
 
 pub use boot::parse_boot;
-pub use boot_plan::BootPlan;
+pub use boot_data::{
+    AlarmCounts, BootPlan, GaugeLine, HeardItems, HeardLine, ItemCounts, MoverKind, MoverLine,
+    Name, QueueKind, QueueLine, Report, Text, ThreadLine, ThreadState, TtyLines, plan,
+};
 pub use events::parse_events;
 pub use fault::{ScriptFault, ScriptRefusal};
-pub use fixed::{Name, Text};
 pub use outcome::{ReplayFault, Replayed};
 pub use printing::{print_refused, print_status};
 pub use reading::{ReadFault, read_script};
-pub use report::{
-    AlarmCounts, GaugeLine, HeardItems, HeardLine, ItemCounts, MoverKind, MoverLine, QueueKind,
-    QueueLine, Report, ThreadLine, ThreadState, TtyLines,
-};
 pub use report_printing::print_report;
 pub use run::{replay, replay_on};
 pub use text::number as parse_number;

@@ -11,7 +11,7 @@ ghost use Rattle.boot_script.specs.Names.{slot_of, byte_queue_of, chain_of, wait
 use crate::fault::ScriptRefusal;
 use crate::text::number;
 use crate::version::Version;
-use quaject_core::{
+use event_theory::{
     Call, ChainNumber, Element, Gauge, Processor, QueueName, QueueNumber, Signal, Slot, WaitNumber,
 };
 

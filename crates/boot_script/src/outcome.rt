@@ -5,7 +5,7 @@ ghost use Rattle.boot_script.specs.declared.outcome.ReplayFault.TheVariants as f
 
 use crate::fault::ScriptFault;
 use crate::reading::ReadFault;
-use quaject_core::{OutOfMemory, Refusal};
+use event_theory::{OutOfMemory, Refusal};
 use std::error::Error as StdError;
 use std::fmt;
 

@@ -11,7 +11,7 @@ ghost use Rattle.boot_script.specs.Printed.{gauge_line, clock_line, alarm_line, 
 ghost use Rattle.boot_script.specs.Printed.{refused_text};
 
 use crate::page::Page;
-use quaject_core::{
+use event_theory::{
     AlarmStatus, ChainStatus, ElementStatus, Gate, Place, QueueStatus, Refusal, Status,
 };
 use std::io;

@@ -11,13 +11,12 @@ ghost use Rattle.boot_script.specs.Reports.{tty_lines, mover_word, mover_line, g
 ghost use Rattle.boot_script.specs.Reports.{signals_words, thread_line, stands_for_itself, upper_digit, written_byte};
 ghost use Rattle.boot_script.specs.Reports.{heard_text, heard_line, chained_line, report_text};
 
-use crate::fixed::Name;
 use crate::printing::digits_of;
-use crate::report::{
-    AlarmCounts, GaugeLine, HeardLine, ItemCounts, MoverKind, MoverLine, QueueKind, QueueLine,
-    Report, ThreadLine, ThreadState, TtyLines,
-};
 use arrayvec::ArrayVec;
+use boot_data::{
+    AlarmCounts, GaugeLine, HeardLine, ItemCounts, MoverKind, MoverLine, Name, QueueKind,
+    QueueLine, Report, ThreadLine, ThreadState, TtyLines,
+};
 use std::io;
 use std::io::Write;
 

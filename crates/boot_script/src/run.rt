@@ -2,7 +2,7 @@
 
 ghost use Rattle.std.specs.Prelude.{◌≡◌, ◌≢◌, ◌≤◌, IfOk, IfErr, IfSome, OnOk};
 ghost use Rattle.std.specs.Io.KnownBytes.{Appends, Keeps};
-ghost use Rattle.quaject_core.specs.States.{first_state};
+ghost use Rattle.event_theory.specs.States.{first_state};
 ghost use Rattle.quaject_core.specs.ShownCores.{state};
 ghost use Rattle.boot_script.specs.Scripts.{text_events};
 ghost use Rattle.boot_script.specs.Replays.{Replays, replay_text, IsReplay, IsAnswer, IsReplayFault, Ends};
@@ -13,7 +13,8 @@ use crate::opening::MOST_BYTES;
 use crate::outcome::{ReplayFault, Replayed};
 use crate::printing::{print_refused, print_status};
 use crate::reading::read_script;
-use quaject_core::{Core, Event, Refusal, Status};
+use event_theory::{Event, Refusal, Status};
+use quaject_core::Core;
 use std::alloc::Global;
 use std::io;
 use std::io::{Read, Write};

@@ -4,8 +4,8 @@ ghost use Rattle.std.specs.Prelude.{◌≡◌, ◌<◌, IfOk, IfErr, Err, length
 ghost use Rattle.boot_script.specs.Texts.{before, digit_of, escape_of, bytes_of, text_of};
 
 use crate::fault::ScriptRefusal;
-use crate::fixed::Text;
 use crate::text::Words;
+use boot_data::Text;
 
 /// The value of a digit, 0 to 9 or A to F. Else BadNumber.
 fn digit(byte: u8) -> Result<u8, ScriptRefusal>

@@ -9,13 +9,13 @@ use Rattle.table_theory.specs.declared.queues.Cell.{Cell}
 use Rattle.table_theory.specs.declared.queues.Batch.{Batch}
 use Rattle.table_theory.specs.declared.queues.Positions.{Positions}
 use Rattle.atomic_table.proofs.Lists.{at_map}
-use Rattle.quaject_core.specs.Runs.{flat, pairs}
-use Rattle.quaject_core.specs.Queues.{is_raised}
+use Rattle.event_theory.specs.Runs.{flat, pairs}
+use Rattle.event_theory.specs.Queues.{is_raised}
 use Rattle.table_theory.specs.Positioned.{blank, item_of, place_at, item_at}
 use Rattle.table_theory.specs.Filing.{Owned, ListedOnce}
 use Rattle.table_theory.specs.Listing.{all_places, runs_of, takes_of, Chained}
 use Rattle.table_theory.specs.QueueOf.{run_in, is_up, queue_of}
-use Rattle.quaject_core.proofs.Lists.Histories.{length-pairs_from}
+use Rattle.event_theory.proofs.Lists.Histories.{length-pairs_from}
 use Rattle.table_theory.proofs.QueueOf.{flat_of, up_of, long_is, is_lawful_queue}
 use Rattle.table_theory.proofs.QueueEvents.{history_of}
 use Rattle.claim_queue.specs.declared.rule.Shape.{Shape}

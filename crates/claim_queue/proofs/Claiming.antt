@@ -23,7 +23,7 @@ use Rattle.table_theory.proofs.Totals.{total_kept}
 use Rattle.claim_queue.specs.Rules.{part_of, member_of, steps_of, course_of, shuts_of, IsIdle, Rule, empty}
 use Rattle.claim_queue.specs.Steps.{entry, looked, run, claimed, claims}
 use Rattle.claim_queue.proofs.Looks.{St, steps_to, kept_look, found_now, sees_of}
-use Rattle.quaject_core.specs.Queues.{claim}
+use Rattle.event_theory.specs.Queues.{claim}
 use Rattle.table_theory.specs.QueueOf.{IsEvent}
 
 -- what a step with no slot owes, where the word becomes y

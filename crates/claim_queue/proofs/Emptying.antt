@@ -6,7 +6,7 @@ use Rattle.table_theory.specs.declared.queues.Positions.{Positions}
 use Rattle.table_theory.specs.declared.queues.QueueView.{QueueView}
 use Rattle.table_theory.specs.Positioned.{blank, item_of, item_at, written_at, head_of, tail_of, Lawful}
 use Rattle.table_theory.proofs.Positioned.{raised_below}
-use Rattle.quaject_core.specs.Queues.{take_first}
+use Rattle.event_theory.specs.Queues.{take_first}
 use Rattle.table_theory.specs.Positioned.{with_take}
 use Rattle.table_theory.specs.QueueOf.{IsEvent}
 use Rattle.table_theory.specs.Seeing.{Sees, HasRaised}

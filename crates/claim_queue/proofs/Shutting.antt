@@ -24,7 +24,7 @@ use Rattle.claim_queue.specs.Shown.{mark, data_in, flag_in}
 use Rattle.table_theory.proofs.Totals.{total_set}
 use Rattle.table_theory.specs.Sharing.{total}
 use Rattle.table_theory.specs.QueueOf.{IsEvent}
-use Rattle.quaject_core.specs.Marks as marks
+use Rattle.event_theory.specs.Marks as marks
 use Rattle.claim_queue.specs.Rules.{part_of, member_of, steps_of, course_of, shuts_of, times_shut, IsIdle, Rule, empty}
 use Rattle.claim_queue.specs.Steps.{entry, shut_by, shuts}
 

@@ -20,7 +20,7 @@ use Rattle.claim_queue.specs.declared.rule.View.{View}
 use Rattle.claim_queue.specs.Shown.{data_in, flag_in, WordsShow}
 use Rattle.table_theory.proofs.Totals.{total_kept}
 use Rattle.table_theory.specs.QueueOf.{IsEvent}
-use Rattle.quaject_core.specs.Queues.{take_first}
+use Rattle.event_theory.specs.Queues.{take_first}
 use Rattle.claim_queue.specs.Rules.{part_of, member_of, steps_of, course_of, shuts_of, IsIdle, Rule, empty}
 use Rattle.claim_queue.specs.Steps.{entry, looked, took, takes}
 use Rattle.claim_queue.proofs.Looks.{steps_to, kept_look, found_now, sees_of}

@@ -7,9 +7,9 @@ use lib.ListN.{get_elem?}
 use Rattle.atomic_table.specs.Table.{State}
 use Rattle.table_theory.specs.declared.queues.Batch.{Batch}
 use Rattle.table_theory.specs.declared.queues.Positions.{Positions}
-use Rattle.quaject_core.specs.Runs.{flat, pairs}
-use Rattle.quaject_core.specs.Queues.{Queue, is_raised}
-use Rattle.quaject_core.specs.Lawful.{IsLawfulQueue}
+use Rattle.event_theory.specs.Runs.{flat, pairs}
+use Rattle.event_theory.specs.Queues.{Queue, is_raised}
+use Rattle.event_theory.specs.Lawful.{IsLawfulQueue}
 use Rattle.table_theory.specs.Positioned.{item_of}
 use Rattle.table_theory.specs.Filing.{Owned, ListedOnce}
 use Rattle.table_theory.specs.Listing.{all_places, Chained, Later}

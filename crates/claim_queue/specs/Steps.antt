@@ -5,13 +5,13 @@ use Rattle.std.specs.Prelude.{length, List, [], ◌∷◌, ◌++◌, map, take, 
 use mathlib.Core.Option.{some}
 use lib.ListN.{get_elem?}
 use Rattle.atomic_table.specs.Table.{Me, Step}
-use Rattle.quaject_core.specs.declared.refusal.Refusal.{Refusal}
+use Rattle.event_theory.specs.declared.refusal.Refusal.{Refusal}
 use Rattle.table_theory.specs.declared.queues.Positions.{Positions}
 use Rattle.table_theory.specs.declared.queues.Batch.{Batch}
 use Rattle.table_theory.specs.Positioned.{Lawful, fresh, with_claim, with_write, with_take, with_shut, head_of}
 use Rattle.table_theory.specs.Positioned.{tail_of, written_at}
-use Rattle.quaject_core.specs.Queues.{Queue, claim, raise, take_first}
-use Rattle.quaject_core.specs.Marks as marks
+use Rattle.event_theory.specs.Queues.{Queue, claim, raise, take_first}
+use Rattle.event_theory.specs.Marks as marks
 use Rattle.table_theory.specs.Listing.{written_to, Distinct, number_of}
 use Rattle.table_theory.specs.QueueOf.{IsEvent, no_event}
 use Rattle.table_theory.specs.Seeing.{Sees}

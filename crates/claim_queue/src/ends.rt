@@ -9,7 +9,7 @@ ghost use Rattle.table_theory.specs.Listing.{Distinct};
 use crate::rule::{ClaimRule, Shape, View};
 use crate::steps::{count_down, count_up, split_off, take_in};
 use atomic_table::{Seat, Table};
-use quaject_core::OutOfMemory;
+use event_theory::OutOfMemory;
 use std::alloc::Global;
 use std::marker::Brand;
 

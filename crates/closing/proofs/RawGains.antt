@@ -12,7 +12,7 @@ use Rattle.proc_chain.specs.declared.quaject.Quaject.{Ghosts}
 use Rattle.processor.specs.declared.shared.Shared.{Shared}
 use Rattle.processor.specs.declared.station.Parts.{Parts}
 use Rattle.processor.specs.RawEnds.{IsRawAt}
-use Rattle.quaject_core.proofs.Keeping.Places.{slice_get_set_other}
+use Rattle.event_theory.proofs.Keeping.Places.{slice_get_set_other}
 use Rattle.quajects.specs.declared.ports.Port.{Port}
 use Rattle.quajects.specs.declared.raw.RawTty.{RawTty}
 use Rattle.quajects.specs.Ports.{AllUp, port}

@@ -1,7 +1,7 @@
 -- The ends that devices had, joined to those of their queues and chains.
 use Rattle.std.specs.Prelude.{◌≡◌, ◌+◌, ◌<◌, ℕ, List, [], ◌∷◌, ◌++◌, length, Option, Some}
 use Rattle.std.specs.List.{slice_get}
-use Rattle.boot_script.specs.QueueLists.{raw_queue}
+use Rattle.boot_data.specs.QueueLists.{raw_queue}
 use Rattle.closing.specs.Gains.{Gained, ChainsGained}
 use Rattle.closing.specs.PortSums.{ports_runs, ports_takings, ports_shut, ports_share}
 use Rattle.end_steps.specs.EndLists.{chain_end_puts, chain_end_takes, chain_end_share, only_at, number_at}

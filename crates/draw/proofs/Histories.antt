@@ -5,9 +5,9 @@ use Rattle.std.proofs.lemmas.Bool.{leb-true, leb-false}
 use Rattle.std.proofs.Math.Nat.{min-le_right, min-le_left, min-eq_left, min-eq_right, lt_irrefl, le_of_lt}
 use Rattle.std.proofs.lemmas.Option.{slice_get_read}
 use Rattle.std.specs.List.{remove}
-use Rattle.quaject_core.specs.declared.event.Event.{Event}
-use Rattle.quaject_core.specs.States.{State, step}
-use Rattle.quaject_core.specs.Schedules.{Reaches}
+use Rattle.event_theory.specs.declared.event.Event.{Event}
+use Rattle.event_theory.specs.States.{State, step}
+use Rattle.event_theory.specs.Schedules.{Reaches}
 use Rattle.boot_script.specs.Replays.{alone, Replays}
 use Rattle.boot_script.specs.declared.outcome.Replayed.{Replayed}
 use Rattle.boot_script.specs.declared.outcome.Replayed.TheVariants.{AllAllowed, Refused}

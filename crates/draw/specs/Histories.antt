@@ -2,11 +2,11 @@
 use Rattle.std.specs.Prelude.{◌≡◌, ℕ, ◌≤◌, nat_le, if◌then◌else◌, List, [], ◌∷◌, ◌++◌, length, take, min, Option}
 use Rattle.std.specs.Prelude.{Some, None, Result, Ok, Err}
 use Rattle.std.specs.List.{remove}
-use Rattle.quaject_core.specs.declared.event.Event.{Event}
-use Rattle.quaject_core.specs.States.{State, step}
-use Rattle.quaject_core.specs.Schedules.{Reaches}
-use Rattle.quaject_core.specs.Statuses.{status_of}
-use Rattle.quaject_core.specs.declared.refusal.Refusal.{Refusal}
+use Rattle.event_theory.specs.declared.event.Event.{Event}
+use Rattle.event_theory.specs.States.{State, step}
+use Rattle.event_theory.specs.Schedules.{Reaches}
+use Rattle.event_theory.specs.Statuses.{status_of}
+use Rattle.event_theory.specs.declared.refusal.Refusal.{Refusal}
 use Rattle.boot_script.specs.declared.outcome.Replayed.{Replayed}
 use Rattle.boot_script.specs.declared.outcome.Replayed.TheVariants.{AllAllowed, Refused}
 use Rattle.boot_script.specs.Replays.{alone, Replays}

@@ -2,7 +2,7 @@
 
 use crate::shapes::{Anchor, Colour, Shape};
 use crate::words::text_of;
-use quaject_core::{Items, OutOfMemory};
+use event_theory::{Items, OutOfMemory};
 use std::alloc::Global;
 
 /// How high a box is, and how far below its upper side its letters stand.

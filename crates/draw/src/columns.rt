@@ -1,7 +1,7 @@
 //! Where the columns of a picture stand: the events, each queue, each chain, and the thread elements.
 
 use crate::history::Row;
-use quaject_core::{ElementStatus, Items, OutOfMemory, Place, QueueStatus};
+use event_theory::{ElementStatus, Items, OutOfMemory, Place, QueueStatus};
 use std::alloc::Global;
 
 /// How wide a digit or a letter is, and the space between columns.

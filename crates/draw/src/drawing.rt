@@ -12,7 +12,7 @@ use crate::queue_boxes::add_queue;
 use crate::shapes::{Anchor, Colour, Picture};
 use crate::words::{first_comment, front_of, line_at, numbered, text_of};
 use boot_script::Replayed;
-use quaject_core::{ChainStatus, Items, OutOfMemory, QueueStatus, Refusal};
+use event_theory::{ChainStatus, Items, OutOfMemory, QueueStatus, Refusal};
 use std::alloc::Global;
 
 /// How high a row is, and where its boxes begin in it.

@@ -4,7 +4,7 @@ use crate::canvas::{BOX, Canvas};
 use crate::columns::ELEMENT;
 use crate::shapes::{Anchor, Colour};
 use crate::words::{numbered, text_of};
-use quaject_core::{ElementStatus, Items, OutOfMemory, Place};
+use event_theory::{ElementStatus, Items, OutOfMemory, Place};
 use std::alloc::Global;
 
 /// A place's colour.

@@ -4,7 +4,7 @@ use crate::canvas::Canvas;
 use crate::columns::GATE;
 use crate::shapes::{Anchor, Colour};
 use crate::words::text_of;
-use quaject_core::{ChainStatus, Gate, Items, OutOfMemory};
+use event_theory::{ChainStatus, Gate, Items, OutOfMemory};
 
 /// A gate's colour.
 fn colour(gate: Gate) -> Colour {

@@ -2,12 +2,13 @@
 
 ghost use Rattle.std.specs.Prelude.{◌≡◌, ◌≤◌, IfOk, OnOk};
 ghost use Rattle.quaject_core.specs.ShownCores.{state};
-ghost use Rattle.quaject_core.specs.States.{first_state};
+ghost use Rattle.event_theory.specs.States.{first_state};
 ghost use Rattle.draw.specs.Histories.{Tells, IsHistory, IsNext, kept};
 
 use crate::places::{Seat, Tapes};
 use boot_script::Replayed;
-use quaject_core::{Core, Event, Items, OutOfMemory, Refusal, Status};
+use event_theory::{Event, Items, OutOfMemory, Refusal, Status};
+use quaject_core::Core;
 use std::alloc::Global;
 
 /// How many rows a picture has at most, but for that of a refused event.

@@ -6,7 +6,7 @@ use crate::element_cells::{add_place, add_stop};
 use crate::gates::add_gate;
 use crate::queue_boxes::PlaceState;
 use crate::shapes::Colour;
-use quaject_core::{Call, Gate, OutOfMemory, Place, Processor, WaitNumber};
+use event_theory::{Call, Gate, OutOfMemory, Place, Processor, WaitNumber};
 
 /// How far its lines are from each other.
 const LINE: u32 = 32;

@@ -4,7 +4,7 @@ use crate::canvas::Canvas;
 use crate::columns::{Columns, ELEMENT, QueueColumn};
 use crate::shapes::{Anchor, Colour};
 use crate::words::numbered;
-use quaject_core::OutOfMemory;
+use event_theory::OutOfMemory;
 
 /// How far below the picture's upper side the names stand.
 const NAMES: u32 = 66;

@@ -2,7 +2,7 @@
 
 ghost use Rattle.std.specs.Prelude.{◌≡◌};
 
-use quaject_core::{Call, Event, Items, OutOfMemory, QueueName};
+use event_theory::{Call, Event, Items, OutOfMemory, QueueName};
 use std::alloc::Global;
 
 /// An item that was claimed: by which call, as which one of which run, and whether it is raised.

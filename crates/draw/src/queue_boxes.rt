@@ -5,7 +5,7 @@ use crate::columns::QueueColumn;
 use crate::places::Seat;
 use crate::shapes::{Anchor, Colour};
 use crate::words::numbered;
-use quaject_core::{OutOfMemory, QueueStatus};
+use event_theory::{OutOfMemory, QueueStatus};
 
 /// The narrowest box that has its call's number inside.
 const ROOM_FOR_NUMBER: u32 = 20;

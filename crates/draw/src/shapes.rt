@@ -5,7 +5,7 @@
 ghost use Rattle.std.specs.Prelude.{◌≡◌, Some};
 ghost use Rattle.draw.specs.Colours.{colour_code, anchor_code};
 
-use quaject_core::Items;
+use event_theory::Items;
 use std::fmt;
 
 /// A colour. Those of states are told apart by readers who see fewer colours too (Okabe and Ito, 2008).

@@ -1,6 +1,6 @@
 //! Texts of a picture, made in memory.
 
-use quaject_core::{Items, OutOfMemory};
+use event_theory::{Items, OutOfMemory};
 use std::alloc::Global;
 
 /// These bytes as a text of their own.

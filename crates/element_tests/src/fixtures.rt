@@ -4,8 +4,8 @@ ghost use Rattle.std.specs.Prelude.{◌≡◌, ◌≤◌, IfSome};
 ghost use Rattle.thread_table.specs.Handles.{view_of, IsDivisible, IsHandOf, IsSameHand, AreOfOneTable};
 ghost use Rattle.table_theory.specs.Sharing.{kept};
 
+use event_theory::{Element, Processor, Signal, WaitNumber};
 use meters::Alarm;
-use quaject_core::{Element, Processor, Signal, WaitNumber};
 use std::alloc::Global;
 use std::fmt::Display;
 use std::panic::Expect;

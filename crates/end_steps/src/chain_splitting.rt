@@ -5,8 +5,8 @@ ghost use Rattle.proc_chain.specs.Handles.{turn_of, IsEndOf};
 ghost use Rattle.end_steps.specs.EndLists.{AreChainEndsOf, AreSameChainEnds, IsChainDivisible};
 ghost use Rattle.end_steps.specs.Splits.{AreChainsSplit, AreChainsJoined};
 
+use event_theory::OutOfMemory;
 use proc_chain::{ChainEnd, ProcChain};
-use quaject_core::OutOfMemory;
 use quajects::AnyQuaject;
 use std::alloc::Global;
 

@@ -5,7 +5,7 @@ ghost use Rattle.end_steps.specs.EndLists.{AreEndsOf, AreSameEnds, IsDivisible};
 ghost use Rattle.end_steps.specs.Splits.{AreSplit, AreJoined};
 
 use claim_queue::{ClaimQueue, QueueEnd};
-use quaject_core::OutOfMemory;
+use event_theory::OutOfMemory;
 use std::alloc::Global;
 
 /// A new end of each queue, in the order of the queues, split off from the one in the list. They go into `born`, which is

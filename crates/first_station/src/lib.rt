@@ -9,11 +9,11 @@ ghost use Rattle.objects.specs.Objects.{AreQuajectsOf, BeginAtZero, HaveAll, qua
 ghost use Rattle.objects.specs.Objects.{HaveDoneNothing, HaveNotedNothing, IsFirstHand, IsFirstSeat};
 ghost use Rattle.objects.specs.Stocks.{CanGive, shares, chain_shares};
 
-use boot_script::BootPlan;
+use boot_data::BootPlan;
+use event_theory::OutOfMemory;
 use meters::Meters;
 use objects::{Device, Stocked, make_stocked};
 use processor::{Shared, Station};
-use quaject_core::OutOfMemory;
 use std::alloc::Global;
 use thread_table::ThreadTable;
 

@@ -1,7 +1,7 @@
 -- What a hand keeps over several steps, what they add, and that no step is counted of what it has.
 use Rattle.std.proofs.Common.{◌≡◌, inl, inr, ℕ, ◌<◌, true, false, List, [], ◌∷◌, get_or, Some, None, refl, sym, ap, ◌∙◌}
-use Rattle.quaject_core.specs.Accounts.{is_done}
-use Rattle.quaject_core.specs.declared.event.Event.{Event}
+use Rattle.event_theory.specs.Accounts.{is_done}
+use Rattle.event_theory.specs.declared.event.Event.{Event}
 use Rattle.thread_table.specs.declared.rule.View.{View}
 use Rattle.thread_table.specs.Keeping.{Keeps}
 use Rattle.thread_table.specs.Makers.{made_in}

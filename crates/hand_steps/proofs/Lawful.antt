@@ -8,12 +8,12 @@ use Rattle.std.proofs.lemmas.Bool.Decides.{eqb_tells, nat_tests}
 use Rattle.std.proofs.lemmas.List.Sums.{sum_by-cons, get_or-le-sum_by}
 use Rattle.std.proofs.lemmas.Option.{slice_get-get_or, get_or_from_slice_get}
 use Rattle.std.specs.List.{sum_by}
-use Rattle.quaject_core.specs.Appearances.{appearances, in_list, in_cell, is_on}
-use Rattle.quaject_core.specs.declared.hold.Hold.{Hold}
-use Rattle.quaject_core.specs.Elements.{Elements, Thread, hold, holds, new_thread}
-use Rattle.quaject_core.specs.Lawful.{IsLawfulElements}
-use Rattle.quaject_core.specs.Queues.{Queue, left, empty_queue}
-use Rattle.quaject_core.proofs.Keeping.Places.{one, in_hands}
+use Rattle.event_theory.specs.Appearances.{appearances, in_list, in_cell, is_on}
+use Rattle.event_theory.specs.declared.hold.Hold.{Hold}
+use Rattle.event_theory.specs.Elements.{Elements, Thread, hold, holds, new_thread}
+use Rattle.event_theory.specs.Lawful.{IsLawfulElements}
+use Rattle.event_theory.specs.Queues.{Queue, left, empty_queue}
+use Rattle.event_theory.proofs.Keeping.Places.{one, in_hands}
 use Rattle.thread_table.specs.declared.rule.View.{View}
 use Rattle.thread_table.specs.Answers.{TookFirst, FoundThen}
 use Rattle.thread_table.specs.Rules.{has, serves, running}

@@ -1,15 +1,15 @@
 -- Moves, tried again where they were lost.
 use Rattle.std.proofs.Common.{◌≡◌, inl, ℕ, zero, suc, ◌+◌, ◌<◌, Bool, true, false, List, [], ◌∷◌, get_or, Ok, Err, refl, sym, ap, ◌∙◌, subst, arith}
 use Rattle.std.specs.Prelude.{◌==◌, if◌then◌else◌}
-use Rattle.quaject_core.specs.Accounts.{is_done}
-use Rattle.quaject_core.specs.Elements.{Elements}
-use Rattle.quaject_core.specs.declared.event.Event.{Event}
+use Rattle.event_theory.specs.Accounts.{is_done}
+use Rattle.event_theory.specs.Elements.{Elements}
+use Rattle.event_theory.specs.declared.event.Event.{Event}
 use Rattle.thread_table.specs.declared.rule.View.{View}
 use Rattle.thread_table.specs.declared.moves.MoveRefusal.TheVariants as moves
 use Rattle.thread_table.specs.Answers.{MovedTo, MoveAnswer, WaitAnswer}
 use Rattle.thread_table.specs.Makers.{made_in}
 use Rattle.thread_table.specs.Rules.{done_at, has}
-use Rattle.quaject_core.specs.States.{State}
+use Rattle.event_theory.specs.States.{State}
 use Rattle.thread_table.specs.Schedules.{state_after, thread_at}
 use Rattle.thread_table.specs.Steps.{claim_event}
 use Rattle.thread_table.proofs.Following.{found_looked}

@@ -5,14 +5,14 @@ use Rattle.std.specs.List.{list_any}
 use Rattle.std.proofs.lemmas.Bool.Decides.{eqb_tells}
 use Rattle.std.proofs.lemmas.List.{get_or-set_same}
 use Rattle.std.proofs.lemmas.Option.{slice_get-get_or}
-use Rattle.quaject_core.specs.Accounts.{is_done}
-use Rattle.quaject_core.specs.Elements.{Elements, Thread, new_thread, holds, is_put}
-use Rattle.quaject_core.specs.Results.{◌>>=◌, refused_if}
-use Rattle.quaject_core.specs.States.{State, step, counted}
-use Rattle.quaject_core.specs.declared.event.Event.TheVariants as events
-use Rattle.quaject_core.specs.declared.refusal.Refusal.{Refusal}
-use Rattle.quaject_core.specs.declared.refusal.Refusal.TheVariants.{Full, NotHeld}
-use Rattle.quaject_core.proofs.Stored.Elements.{changed, not_changed}
+use Rattle.event_theory.specs.Accounts.{is_done}
+use Rattle.event_theory.specs.Elements.{Elements, Thread, new_thread, holds, is_put}
+use Rattle.event_theory.specs.Results.{◌>>=◌, refused_if}
+use Rattle.event_theory.specs.States.{State, step, counted}
+use Rattle.event_theory.specs.declared.event.Event.TheVariants as events
+use Rattle.event_theory.specs.declared.refusal.Refusal.{Refusal}
+use Rattle.event_theory.specs.declared.refusal.Refusal.TheVariants.{Full, NotHeld}
+use Rattle.event_theory.proofs.Outcomes.{changed, not_changed}
 use Rattle.thread_table.specs.declared.rule.View.{View}
 use Rattle.thread_table.specs.Answers.{CountedStep}
 use Rattle.thread_table.specs.Rules.{MayStep, done_at}

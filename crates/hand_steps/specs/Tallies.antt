@@ -3,10 +3,10 @@
 use Rattle.std.specs.Prelude.{◌≡◌, ◌==◌, ◌&&◌, ℕ, zero, suc, Bool, List, [], ◌∷◌, ◌++◌, map, slice_index_or}
 use Rattle.std.specs.Prelude.{filter, flat_map}
 use Rattle.std.specs.List.{list_any, range_with_len}
-use Rattle.quaject_core.specs.declared.alarm.Alarm.{Alarm}
-use Rattle.quaject_core.specs.declared.event.Event.{Event}
-use Rattle.quaject_core.specs.declared.event.Event.TheVariants as events
-use Rattle.quaject_core.specs.declared.names.QueueName.TheVariants as names
+use Rattle.event_theory.specs.declared.alarm.Alarm.{Alarm}
+use Rattle.event_theory.specs.declared.event.Event.{Event}
+use Rattle.event_theory.specs.declared.event.Event.TheVariants as events
+use Rattle.event_theory.specs.declared.names.QueueName.TheVariants as names
 use Rattle.thread_table.specs.declared.rule.Made.{Made}
 use Rattle.thread_table.specs.declared.rule.View.{View}
 use Rattle.thread_table.specs.Answers.{is_in}

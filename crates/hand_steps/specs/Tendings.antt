@@ -1,6 +1,6 @@
 -- What tending the alarms does: the clock moves on, and the signals of the alarms that are due are raised.
 use Rattle.std.specs.Prelude.{◌≡◌, ℕ, List, [], ◌∷◌, ◌++◌, Result, Ok, Err, MatchResult}
-use Rattle.quaject_core.specs.declared.alarm.Alarm.{Alarm}
+use Rattle.event_theory.specs.declared.alarm.Alarm.{Alarm}
 use Rattle.meters.specs.declared.gauges.AdvanceRefusal.{AdvanceRefusal}
 use Rattle.meters.specs.declared.rule.View.{View as SeatView}
 use Rattle.meters.specs.Answers.{AdvancedNow, NotAdvanced, FiredNow}

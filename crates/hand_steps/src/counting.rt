@@ -7,7 +7,7 @@ ghost use Rattle.hand_steps.specs.Countings.{CountAnswer, IsNumber, SteadyBut, c
 ghost use Rattle.hand_steps.specs.Holdings.{HoldsSame};
 ghost use Rattle.hand_steps.specs.Tallies.{Adds};
 
-use quaject_core::Element;
+use event_theory::Element;
 use thread_table::{Hand, Spent, ThreadTable};
 
 /// What came of counting a step.

@@ -9,7 +9,7 @@ ghost use Rattle.hand_steps.specs.Holdings.{HoldsMore, Shows, Steady};
 ghost use Rattle.hand_steps.specs.Tallies.{Adds, no_events, one_delivery, delivery};
 
 use crate::moving::make_ready;
-use quaject_core::Element;
+use event_theory::Element;
 use std::sync::Wait;
 use thread_table::{Hand, Lost, NextRefusal, ThreadTable};
 

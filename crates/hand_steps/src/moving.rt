@@ -8,7 +8,7 @@ ghost use Rattle.hand_steps.specs.Holdings.{Steady};
 ghost use Rattle.hand_steps.specs.Sendings.{Sent, WaitedAt, HoldsUnless, line_of, retired, has_gone};
 ghost use Rattle.hand_steps.specs.Tallies.{Adds, no_events};
 
-use quaject_core::{Element, WaitNumber};
+use event_theory::{Element, WaitNumber};
 use std::sync::Wait;
 use thread_table::{Hand, MoveRefusal, ThreadTable};
 

@@ -6,7 +6,7 @@ ghost use Rattle.thread_table.specs.Steps.{PutsOn, TakesOff};
 ghost use Rattle.hand_steps.specs.Holdings.{IsFree, IsOn, HoldsMore, HoldsLess, KeepsBut, Steady};
 ghost use Rattle.hand_steps.specs.Tallies.{Adds, no_events};
 
-use quaject_core::{Element, Processor};
+use event_theory::{Element, Processor};
 use thread_table::{Hand, ThreadTable};
 
 /// Puts an element that the hand holds on a processor that it serves, on which nothing stands, by one step.

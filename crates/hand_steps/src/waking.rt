@@ -7,7 +7,7 @@ ghost use Rattle.hand_steps.specs.Tallies.{Adds, no_events};
 ghost use Rattle.hand_steps.specs.Wakings.{Woke, HoldsWoken, AllReady, CanWake, IsMember, ResumeAnswer, ResumeHolds};
 
 use crate::moving::make_ready;
-use quaject_core::{Element, WaitNumber};
+use event_theory::{Element, WaitNumber};
 use std::sync::Wait;
 use thread_table::{Hand, Lost, Started, ThreadTable};
 

@@ -1,7 +1,7 @@
 -- The works of a boot may be done.
 use Rattle.std.proofs.Common.{◌≡◌, ℕ, zero, suc, ◌+◌, ◌<◌, List, [], ◌∷◌, ◌∙◌, length, refl, sym, ap, subst, arith, Some, slice_get}
 use Rattle.std.specs.List.{All}
-use Rattle.boot_script.specs.declared.plan.PlannedTty.{PlannedTty}
+use Rattle.boot_data.specs.declared.plan.PlannedTty.{PlannedTty}
 use Rattle.end_steps.specs.Splits.{AllThree}
 use Rattle.objects.specs.declared.device.Device.{Device}
 use Rattle.objects.specs.Devices.{AreDevicesOf, IsAtWork}

@@ -1,7 +1,7 @@
 -- The first station of new objects, once it is prepared: its shares, and the processors that it serves.
 use Rattle.std.proofs.Common.{◌≡◌, ℕ, ◌+◌, ◌*◌, ◌<◌, ◌≤◌, Bool, false, List, ◌∙◌, length, get_or, ap, arith, Option, None}
 use Rattle.std.proofs.lemmas.List.{length-map}
-use Rattle.boot_script.specs.declared.boot_plan.BootPlan.{BootPlan}
+use Rattle.boot_data.specs.declared.boot_plan.BootPlan.{BootPlan}
 use Rattle.end_steps.specs.EndLists.{end_share, chain_end_share, share_at, chain_share_at}
 use Rattle.hand_steps.specs.Holdings.{IsFree}
 use Rattle.meters.specs.declared.ends.Meters.{Meters}

@@ -6,18 +6,18 @@ use Rattle.std.specs.Prelude.{nat_le}
 use Rattle.std.proofs.lemmas.Option.{get_or_from_slice_get, slice_get_within}
 use mathlib.Core.Logic.{dite}
 use native.Mathlib.Decide.{ℕ_discrete}
-use Rattle.quaject_core.specs.Queues.{Queue, empty_queue, claim, raise, take_first}
-use Rattle.quaject_core.specs.Elements.{Elements, let_all_go, claim_element, raise_element, take_element}
-use Rattle.quaject_core.specs.Results.{◌>>=◌, at, change_at}
-use Rattle.quaject_core.specs.States.{State, effect, step, counted}
-use Rattle.quaject_core.specs.declared.event.Event.{Event}
-use Rattle.quaject_core.specs.declared.event.Event.TheVariants as events
-use Rattle.quaject_core.specs.declared.names.QueueName.TheVariants as names
-use Rattle.quaject_core.specs.declared.refusal.Refusal.{Refusal}
-use Rattle.quaject_core.specs.declared.refusal.Refusal.TheVariants.{UnknownName}
-use Rattle.quaject_core.proofs.Keeping.Chains.{claim_ok, raise_ok}
-use Rattle.quaject_core.proofs.Keeping.Queues.{take_ok}
-use Rattle.quaject_core.proofs.Lists.Inversions.{then_ok, test_ok, given_ok, some_ok, change_ok}
+use Rattle.event_theory.specs.Queues.{Queue, empty_queue, claim, raise, take_first}
+use Rattle.event_theory.specs.Elements.{Elements, let_all_go, claim_element, raise_element, take_element}
+use Rattle.event_theory.specs.Results.{◌>>=◌, at, change_at}
+use Rattle.event_theory.specs.States.{State, effect, step, counted}
+use Rattle.event_theory.specs.declared.event.Event.{Event}
+use Rattle.event_theory.specs.declared.event.Event.TheVariants as events
+use Rattle.event_theory.specs.declared.names.QueueName.TheVariants as names
+use Rattle.event_theory.specs.declared.refusal.Refusal.{Refusal}
+use Rattle.event_theory.specs.declared.refusal.Refusal.TheVariants.{UnknownName}
+use Rattle.event_theory.proofs.Keeping.Chains.{claim_ok, raise_ok}
+use Rattle.event_theory.proofs.Keeping.Queues.{take_ok}
+use Rattle.event_theory.proofs.Lists.Inversions.{then_ok, test_ok, given_ok, some_ok, change_ok}
 use Rattle.thread_table.specs.declared.rule.View.{View}
 use Rattle.thread_table.specs.Schedules.{state_after, elements_after, line_at}
 use Rattle.thread_table.specs.Steps.{Did}

@@ -1,10 +1,10 @@
 -- The first station, once it is prepared, and while parts of it are given away.
 use Rattle.std.proofs.Common.{◌≡◌, ℕ, zero, suc, ◌+◌, ◌-◌, ◌≤◌, List, [], ◌∷◌, ◌++◌, ◌∙◌, length, get_or, refl, sym, ap, subst, arith, None, slice_get, flat_map}
 use Rattle.std.specs.List.{AllByRecursion, range_with_len}
-use Rattle.boot_script.specs.declared.boot_plan.BootPlan.{BootPlan}
-use Rattle.boot_script.specs.declared.plan.PlannedThread.{PlannedThread}
-use Rattle.boot_script.specs.declared.plan.Step.{Step}
-use Rattle.boot_script.specs.Plans.{steps_in}
+use Rattle.boot_data.specs.declared.boot_plan.BootPlan.{BootPlan}
+use Rattle.boot_data.specs.declared.plan.PlannedThread.{PlannedThread}
+use Rattle.boot_data.specs.declared.plan.Step.{Step}
+use Rattle.boot_data.specs.Plans.{steps_in}
 use Rattle.end_steps.specs.EndLists.{lines_put_at, lines_taken_at, shuts_at, notes_put_at, notes_taken_at}
 use Rattle.hand_steps.specs.Tallies.{done_by, signalled_by, delivered_by, retired_by, step_by, signal_by, delivery_by, retiring_by}
 use Rattle.meters.specs.declared.ends.Meters.{Meters}
@@ -16,9 +16,9 @@ use Rattle.processor.specs.Partings.{AreSplit}
 use Rattle.processor.specs.Programs.{program}
 use Rattle.processor.specs.Stations.{IsUnused}
 use Rattle.processor.specs.Preparing.{HasDoneAll, IsPrepared}
-use Rattle.quaject_core.specs.declared.event.Event.{Event}
-use Rattle.quaject_core.specs.declared.event.Event.TheVariants as events
-use Rattle.quaject_core.specs.declared.names.QueueName.TheVariants as names
+use Rattle.event_theory.specs.declared.event.Event.{Event}
+use Rattle.event_theory.specs.declared.event.Event.TheVariants as events
+use Rattle.event_theory.specs.declared.names.QueueName.TheVariants as names
 use Rattle.thread_table.specs.declared.hand.ThreadTable.{ThreadTable}
 use Rattle.thread_table.specs.declared.rule.Made.{Made}
 use Rattle.thread_table.specs.declared.rule.View.{View}

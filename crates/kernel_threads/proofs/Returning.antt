@@ -3,9 +3,9 @@ use Rattle.std.proofs.Common.{◌≡◌, ℕ, zero, suc, ◌+◌, ◌<◌, ◌�
 use Rattle.std.specs.List.{AllByRecursion, AllZip}
 use Rattle.std.proofs.Math.Bridge.{le_prop}
 use Rattle.std.proofs.Math.Logic.{∥∥₁_elim}
-use Rattle.boot_script.specs.declared.boot_plan.BootPlan.{BootPlan}
-use Rattle.boot_script.specs.declared.plan.PlannedTty.{PlannedTty}
-use Rattle.boot_script.specs.QueueLists.{raw_queue}
+use Rattle.boot_data.specs.declared.boot_plan.BootPlan.{BootPlan}
+use Rattle.boot_data.specs.declared.plan.PlannedTty.{PlannedTty}
+use Rattle.boot_data.specs.QueueLists.{raw_queue}
 use Rattle.end_steps.specs.declared.gate.Point.{Point}
 use Rattle.proc_chain.specs.declared.ends.ProcChain.{ProcChain}
 use Rattle.proc_chain.specs.Handles.{IsEndOf}
@@ -13,8 +13,8 @@ use Rattle.quajects.specs.declared.any.AnyQuaject.{AnyQuaject}
 use Rattle.quajects.specs.declared.world.Queues.{Queues}
 use Rattle.quajects.specs.Ports.{IsEndAt}
 use Rattle.quajects.specs.Raws.{end_of}
-use Rattle.boot_script.specs.BootPlans.{plan_of}
-use Rattle.boot_script.specs.PlanLimits.{IsPlan, IsTyped as IsShort}
+use Rattle.boot_data.specs.BootPlans.{plan_of}
+use Rattle.boot_data.specs.PlanLimits.{IsPlan, IsTyped as IsShort}
 use Rattle.end_steps.specs.Splits.{AllThree}
 use Rattle.objects.specs.declared.device.Device.{Device}
 use Rattle.objects.specs.Devices.{AreDevicesOf, IsDeviceOf}

@@ -1,6 +1,6 @@
 -- One device more has its work.
 use Rattle.std.proofs.Common.{refl, List, [], ◌∷◌, ◌++◌}
-use Rattle.boot_script.specs.declared.plan.PlannedTty.{PlannedTty}
+use Rattle.boot_data.specs.declared.plan.PlannedTty.{PlannedTty}
 use Rattle.end_steps.specs.Splits.{AllThree}
 use Rattle.objects.specs.declared.device.Device.{Device}
 use Rattle.kernel_threads.specs.declared.work.Work.{Work}

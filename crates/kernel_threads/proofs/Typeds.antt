@@ -2,7 +2,7 @@
 use Rattle.std.proofs.Common.{◌≡◌, ℕ, ◌+◌, ◌<◌, ◌%◌, ◌^◌, List, [], ◌++◌, ◌∙◌, map, length, sym, ap, subst, arith}
 use Rattle.std.specs.List.{concat}
 use Rattle.std.proofs.Math.Nat.{mod-eq_of_lt}
-use Rattle.boot_script.specs.declared.plan.PlannedTty.{PlannedTty}
+use Rattle.boot_data.specs.declared.plan.PlannedTty.{PlannedTty}
 use Rattle.claim_queue.specs.declared.ends.ClaimQueue.{ClaimQueue}
 use Rattle.claim_queue.specs.declared.rule.View.{View}
 use Rattle.claim_queue.specs.Handles.{view_of, call_of}

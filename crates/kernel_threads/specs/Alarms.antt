@@ -1,6 +1,6 @@
 -- The alarms that an end of the meters set.
 use Rattle.std.specs.Prelude.{◌≡◌, List, ◌++◌}
-use Rattle.quaject_core.specs.declared.alarm.Alarm.{Alarm}
+use Rattle.event_theory.specs.declared.alarm.Alarm.{Alarm}
 use Rattle.meters.specs.declared.rule.View.{View}
 use Rattle.meters.specs.Own.{own_of}
 

@@ -1,8 +1,8 @@
 -- What the threads of a kernel gave back, and what that tells where they began with new objects.
 use Rattle.std.specs.Prelude.{◌≡◌, ◌++◌, ◌+◌, ◌<◌, ℕ, List, length, Option, Some}
 use Rattle.std.specs.List.{AllZip}
-use Rattle.boot_script.specs.declared.plan.PlannedTty.{PlannedTty}
-use Rattle.boot_script.specs.QueueLists.{raw_queue}
+use Rattle.boot_data.specs.declared.plan.PlannedTty.{PlannedTty}
+use Rattle.boot_data.specs.QueueLists.{raw_queue}
 use Rattle.end_steps.specs.EndLists.{share_at, chain_share_at, end_share, chain_end_share}
 use Rattle.hand_steps.specs.Holdings.{IsFree}
 use Rattle.objects.specs.declared.device.Device.{Device}

@@ -1,7 +1,7 @@
 -- What a boot has before its threads start.
 use Rattle.std.specs.Prelude.{◌≡◌, List, [], ◌∷◌, length}
-use Rattle.boot_script.specs.declared.boot_plan.BootPlan.{BootPlan}
-use Rattle.boot_script.specs.declared.plan.PlannedTty.{PlannedTty}
+use Rattle.boot_data.specs.declared.boot_plan.BootPlan.{BootPlan}
+use Rattle.boot_data.specs.declared.plan.PlannedTty.{PlannedTty}
 use Rattle.end_steps.specs.Splits.{AllThree}
 use Rattle.meters.specs.Handles as seats
 use Rattle.objects.specs.declared.device.Device.{Device}

@@ -3,8 +3,8 @@ ghost use Rattle.meters.specs.Handles.{view_of, IsSeatOf, IsSameSeat};
 ghost use Rattle.meters.specs.Own.{DidSet};
 ghost use Rattle.kernel_threads.specs.Alarms.{DidSetAll};
 
+use event_theory::Alarm;
 use meters::{MeterSeat, Meters};
-use quaject_core::Alarm;
 use std::sync::Wait;
 
 // Sets an alarm, again where no slot was empty or another end was first.

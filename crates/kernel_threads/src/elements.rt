@@ -5,7 +5,7 @@ ghost use Rattle.thread_table.specs.Handles.{view_of, IsHandOf, IsSameHand};
 ghost use Rattle.thread_table.specs.Rules.{has};
 ghost use Rattle.kernel_threads.specs.Elements.{Moved, TookFree, MadeReady, Freed, HoldsFrom, Prepared};
 
-use quaject_core::Element;
+use event_theory::Element;
 use std::sync::Wait;
 use thread_table::{Hand, ThreadTable};
 

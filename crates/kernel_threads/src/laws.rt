@@ -1,8 +1,8 @@
 //! What it comes to that a station is prepared, and that the threads of a kernel ran.
 ghost use Rattle.std.specs.Prelude.{◌≡◌, ◌<◌, ◌≤◌, ◌+◌, ◌^◌, ◌++◌, ℕ, List, Option, Some, length, map, take, drop};
 ghost use Rattle.std.specs.List.{All, AllZip, slice_get};
-ghost use Rattle.boot_script.specs.declared.boot_plan.BootPlan.{BootPlan};
-ghost use Rattle.boot_script.specs.declared.plan.PlannedTty.{PlannedTty};
+ghost use Rattle.boot_data.specs.declared.boot_plan.BootPlan.{BootPlan};
+ghost use Rattle.boot_data.specs.declared.plan.PlannedTty.{PlannedTty};
 ghost use Rattle.claim_queue.specs.declared.ends.ClaimQueue.{ClaimQueue};
 ghost use Rattle.hand_steps.specs.Holdings.{IsFree};
 ghost use Rattle.meters.specs.declared.ends.Meters.{Meters};

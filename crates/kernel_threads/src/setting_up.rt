@@ -6,7 +6,7 @@ ghost use Rattle.kernel_threads.specs.Readiness.{HasPrepared, IsServing, AreServ
 use crate::alarms::set_alarms;
 use crate::elements::prepare;
 use crate::work::Work;
-use boot_script::plan::PlannedTty;
+use boot_data::plan::PlannedTty;
 use objects::Device;
 use processor::{Shared, Station};
 use spsc_line::LineIn;

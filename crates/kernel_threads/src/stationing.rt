@@ -1,6 +1,6 @@
 //! A station for each processor, split off from the first.
 ghost use Rattle.std.specs.Prelude.{◌≡◌, ◌+◌, ◌<◌, ◌≤◌, ℕ, [], vec_len, vec_capacity, IfOk};
-ghost use Rattle.boot_script.specs.declared.boot_plan.BootPlan.{BootPlan};
+ghost use Rattle.boot_data.specs.declared.boot_plan.BootPlan.{BootPlan};
 ghost use Rattle.hand_steps.specs.Holdings.{IsFree};
 ghost use Rattle.processor.specs.Stations.{ArePartsOf, AreSameParts};
 ghost use Rattle.processor.specs.Preparing.{IsPrepared};
@@ -9,8 +9,8 @@ ghost use Rattle.kernel_threads.specs.Stationings.{CanSplit, NoneOn, IsPosted, A
 
 use crate::work::Work;
 use end_steps::Gate;
+use event_theory::{OutOfMemory, Processor};
 use processor::{Shared, Station};
-use quaject_core::{OutOfMemory, Processor};
 use std::alloc::Global;
 
 // A station for this processor, and its work.

@@ -3,7 +3,7 @@ ghost use Rattle.std.specs.Prelude.{◌≡◌, ◌≤◌, ◌++◌, ◌∷◌, [
 ghost use Rattle.spsc_line.specs.Lines.{bytes_sent, SameIn};
 ghost use Rattle.kernel_threads.specs.Typings.{IsTyped, AreTyped};
 
-use boot_script::plan::PlannedTty;
+use boot_data::plan::PlannedTty;
 use spsc_line::LineIn;
 use std::sync::Wait;
 use std::thread;

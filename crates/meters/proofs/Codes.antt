@@ -1,6 +1,6 @@
 -- A word gives back the alarm that it was made of.
 use Rattle.std.proofs.Common.{◌≡◌, ◌≢◌, ℕ, ◌+◌, ◌*◌, ◌/◌, ◌%◌, ◌<◌, refl, sym, ap, ◌∙◌, arith, Option, Some, None}
-use Rattle.quaject_core.specs.declared.alarm.Alarm.{Alarm}
+use Rattle.event_theory.specs.declared.alarm.Alarm.{Alarm}
 use Rattle.meters.specs.Words.{word_of, alarm_in, IsInRange, Fits}
 
 parts : (s e d : ℕ) → s < 16 → e < 64 → d < 4294967296 → ((9223372036854775808 + s * 1099511627776 + e * 4294967296 + d) % 4294967296 ≡ d)

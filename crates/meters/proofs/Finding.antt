@@ -1,7 +1,7 @@
 -- What a word that was found says.
 use Rattle.std.proofs.Common.{◌≡◌, ◌≢◌, ℕ, ◌<◌, eqb, refl, sym, ap, ◌∙◌, subst, IsFalse, Option, Some, None}
 use Rattle.std.proofs.lemmas.Bool.{eqb-false}
-use Rattle.quaject_core.specs.declared.alarm.Alarm.{Alarm}
+use Rattle.event_theory.specs.declared.alarm.Alarm.{Alarm}
 use Rattle.meters.specs.declared.rule.View.{View}
 use Rattle.meters.specs.Changes.{in_slot}
 use Rattle.meters.specs.Words.{word_of, clock_word, slot_word}

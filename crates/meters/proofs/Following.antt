@@ -2,7 +2,7 @@
 use Rattle.std.proofs.Common.{◌≡◌, ◌≢◌, ℕ, suc, ◌+◌, ◌-◌, ◌<◌, ◌≤◌, true, false, List, [], ◌∷◌, ◌++◌, length, length-append, filter_map, refl, sym, ap, ◌∙◌, subst, arith, Option, Some, None, append_assoc, append-nil, true≢false}
 use Rattle.std.proofs.lemmas.List.Elements.{filter_map-append}
 use Rattle.std.specs.Option.{is_some}
-use Rattle.quaject_core.specs.declared.alarm.Alarm.{Alarm}
+use Rattle.event_theory.specs.declared.alarm.Alarm.{Alarm}
 use Rattle.table_theory.specs.Ends.{Begins}
 use Rattle.table_theory.specs.Members as members
 use Rattle.table_theory.specs.Sharing.{kept, given}

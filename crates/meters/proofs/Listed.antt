@@ -6,8 +6,8 @@ use Rattle.std.proofs.lemmas.List.Sums.{sum_by_push, sum_by-append}
 use mathlib.Core.Option.{some, some-ne-none}
 use lib.ListN.{get_elem?}
 use Rattle.atomic_table.proofs.Lists.{at_set, at_snoc, set_else}
-use Rattle.quaject_core.specs.declared.alarm.Alarm.{Alarm}
-use Rattle.quaject_core.specs.Lawful.{is_alarm}
+use Rattle.event_theory.specs.declared.alarm.Alarm.{Alarm}
+use Rattle.event_theory.specs.Lawful.{is_alarm}
 use Rattle.table_theory.specs.Sharing.{total}
 use Rattle.table_theory.proofs.Totals.{total_set, total_push, sole_total}
 use Rattle.meters.specs.declared.rule.Reading.{Reading}

@@ -2,7 +2,7 @@
 use Rattle.std.proofs.Common.{◌≡◌, ℕ, suc, zero, replicate, ◌+◌, ◌<◌, ◌≢◌, List, [], ◌∷◌, length, get_or, set, sym, refl, ap, ◌∙◌, subst, arith, get_or-set_other, Option, None}
 use Rattle.std.specs.List.{repeat}
 use Rattle.atomic_table.specs.Table.{opening}
-use Rattle.quaject_core.specs.declared.alarm.Alarm.{Alarm}
+use Rattle.event_theory.specs.declared.alarm.Alarm.{Alarm}
 use Rattle.table_theory.specs.Members.{EndsKnown}
 use Rattle.table_theory.proofs.Courses.{course_first}
 use Rattle.table_theory.proofs.Members.{known_first}

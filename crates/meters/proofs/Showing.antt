@@ -2,7 +2,7 @@
 use Rattle.std.proofs.Common.{◌≡◌, ℕ, ◌+◌, ◌%◌, ◌<◌, List, length, length-set, set, get_or, get_or-set_same, get_or-set_other, sym, ap, ◌∙◌, subst, arith, Option, None}
 use mathlib.Core.Logic.{dite}
 use native.Mathlib.Decide.{ℕ_discrete}
-use Rattle.quaject_core.specs.declared.alarm.Alarm.{Alarm}
+use Rattle.event_theory.specs.declared.alarm.Alarm.{Alarm}
 use Rattle.meters.specs.declared.rule.Reading.{Reading}
 use Rattle.meters.specs.Words.{word_of, Fits, SlotsShow, WordsShow}
 use Rattle.meters.proofs.Events.{with_tick, with_advance}

@@ -3,9 +3,9 @@ use Rattle.std.specs.Prelude.{◌≡◌, ℕ, ◌+◌, ◌%◌, ◌<◌, length,
 use mathlib.Core.Option.{some}
 use lib.ListN.{get_elem?}
 use Rattle.atomic_table.specs.Table.{State}
-use Rattle.quaject_core.specs.declared.alarm.Alarm.{Alarm}
-use Rattle.quaject_core.specs.Lawful.{IsLawfulMeters, stands}
-use Rattle.quaject_core.specs.Meters.{Meters}
+use Rattle.event_theory.specs.declared.alarm.Alarm.{Alarm}
+use Rattle.event_theory.specs.Lawful.{IsLawfulMeters, stands}
+use Rattle.event_theory.specs.Meters.{Meters}
 use Rattle.table_theory.specs.Courses.{IsCourse}
 use Rattle.table_theory.specs.Members.{EndsKnown}
 use Rattle.table_theory.specs.Sharing.{total}

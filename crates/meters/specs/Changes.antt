@@ -2,9 +2,9 @@
 use Rattle.std.specs.Prelude.{◌≡◌, ℕ, ◌∷◌, [], ◌<◌, length, slice_index_or, slice_set, Option, Some, None, Ok}
 use Rattle.std.specs.Prelude.{count_by}
 use Rattle.std.specs.List.{repeat}
-use Rattle.quaject_core.specs.declared.alarm.Alarm.{Alarm}
-use Rattle.quaject_core.specs.Meters.{Meters, tick, advance, set_alarm, fire, cancel}
-use Rattle.quaject_core.specs.Lawful.{IsLawfulMeters, stands}
+use Rattle.event_theory.specs.declared.alarm.Alarm.{Alarm}
+use Rattle.event_theory.specs.Meters.{Meters, tick, advance, set_alarm, fire, cancel}
+use Rattle.event_theory.specs.Lawful.{IsLawfulMeters, stands}
 use Rattle.meters.specs.declared.rule.Reading.{Reading}
 
 -- the core's meters that a reading has

@@ -1,6 +1,6 @@
 -- What is an end's own: what it did, and its share. Each call says how its end's own changes.
 use Rattle.std.specs.Prelude.{◌≡◌, ℕ, ◌+◌, List, [], ◌∷◌, ◌++◌}
-use Rattle.quaject_core.specs.declared.alarm.Alarm.{Alarm}
+use Rattle.event_theory.specs.declared.alarm.Alarm.{Alarm}
 use Rattle.table_theory.specs.Sharing.{kept}
 use Rattle.meters.specs.declared.rule.Tick.{Tick}
 use Rattle.meters.specs.declared.rule.View.{View}

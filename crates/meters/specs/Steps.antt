@@ -2,8 +2,8 @@
 -- seen: the word's number, what was found there, and the meters as the step found them and left them.
 use Rattle.std.specs.Prelude.{◌≡◌, ◌≢◌, ◌+◌, ℕ, List, [], ◌∷◌, ◌++◌}
 use Rattle.std.specs.Prelude.{slice_index_or, Some, Ok}
-use Rattle.quaject_core.specs.declared.alarm.Alarm.{Alarm}
-use Rattle.quaject_core.specs.Meters.{tick, advance, fire, cancel}
+use Rattle.event_theory.specs.declared.alarm.Alarm.{Alarm}
+use Rattle.event_theory.specs.Meters.{tick, advance, fire, cancel}
 use Rattle.table_theory.specs.Ends.{Begins, later_of}
 use Rattle.table_theory.specs.Members as members
 use Rattle.table_theory.specs.declared.views.Entry.{Entry}

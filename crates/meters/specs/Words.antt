@@ -1,7 +1,7 @@
 -- What the words of the table show: 8 gauges, the clock and 16 alarms, behind the number of ends.
 use Rattle.std.specs.Prelude.{◌≡◌, ℕ, ◌+◌, ◌*◌, ◌/◌, ◌%◌, ◌<◌, List, length}
 use Rattle.std.specs.Prelude.{filter_map, slice_index_or, Option, Some, None}
-use Rattle.quaject_core.specs.declared.alarm.Alarm.{Alarm}
+use Rattle.event_theory.specs.declared.alarm.Alarm.{Alarm}
 use Rattle.meters.specs.declared.rule.Reading.{Reading}
 
 -- the numbers of the words

@@ -9,7 +9,7 @@ use crate::steps::{
     SLOTS, exchange_cancelled, exchange_fired, exchange_in, load_alarm, load_clock,
 };
 use arrayvec::ArrayVec;
-use quaject_core::Alarm;
+use event_theory::Alarm;
 use thiserror::Error;
 
 /// Why an alarm was not set.

@@ -1,7 +1,7 @@
 //! Closing.
 ghost use Rattle.std.specs.Prelude.{◌≡◌, List, Option, take, drop, IfOk, IfErr, MatchResult};
 ghost use Rattle.std.specs.Mem.Slots.{slots_items, slots_len, IsFull};
-ghost use Rattle.quaject_core.specs.declared.alarm.Alarm.{Alarm};
+ghost use Rattle.event_theory.specs.declared.alarm.Alarm.{Alarm};
 ghost use Rattle.meters.specs.Words.{SlotsShow, standing};
 ghost use Rattle.meters.specs.Closings.{ClosedNow, WereOpen};
 
@@ -10,7 +10,7 @@ use crate::steps::{ALARMS, CLOCK, GAUGES, SLOTS, count};
 use crate::word::AlarmWord;
 use arrayvec::ArrayVec;
 use atomic_table::Closed;
-use quaject_core::Alarm;
+use event_theory::Alarm;
 use std::alloc::Global;
 use table_theory::OpenEnds;
 

@@ -7,7 +7,7 @@ ghost use Rattle.meters.specs.Own.{DidSplit, DidBoth};
 use crate::rule::{MeterRule, Shape, View};
 use crate::steps::{CLOCK, ENDS, count_down, count_up, split_off, take_in};
 use atomic_table::{Seat, Table};
-use quaject_core::OutOfMemory;
+use event_theory::OutOfMemory;
 use std::alloc::Global;
 use std::marker::Brand;
 

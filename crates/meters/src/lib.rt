@@ -5,7 +5,7 @@
 //! and every step that any end had made up to its own last one. Once every other end is joined, `close` gives the
 //! gauges, the clock and the alarms that are left.
 //!
-//! Gauges and alarms follow Massalin (1992). What each does here is said by the meters of `quaject_core`.
+//! Gauges and alarms follow Massalin (1992). What each does here is said by the meters of `event_theory`.
 #![tactic(auto)]
 
 mod alarms;
@@ -22,8 +22,8 @@ pub use alarms::SetRefusal;
 pub use between::between_steps;
 pub use close::Metered;
 pub use ends::{MeterSeat, Meters};
+pub use event_theory::Alarm;
 pub use gauges::AdvanceRefusal;
-pub use quaject_core::Alarm;
 pub use rule::{MeterRule, Reading, Shape, Tick, View};
 pub use table_theory::OpenEnds;
 pub use word::AlarmWord;

@@ -1,7 +1,7 @@
 //! The rule of the table. Its types are for the proofs alone: no program makes a value of them but the meters
 //! themselves.
 use atomic_table::TableRule;
-use quaject_core::Alarm;
+use event_theory::Alarm;
 use std::collections::LinkedList;
 use table_theory::views::{Entry, Member};
 

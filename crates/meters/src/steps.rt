@@ -12,7 +12,7 @@ use crate::plays::{
 use crate::rule::{MeterRule, Shape, View};
 use crate::word::AlarmWord;
 use atomic_table::{Seat, Shared};
-use quaject_core::Alarm;
+use event_theory::Alarm;
 
 pub(crate) type Words = Shared<(), View, Shape, MeterRule>;
 

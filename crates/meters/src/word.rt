@@ -1,9 +1,9 @@
 //! The word of a slot.
 ghost use Rattle.std.specs.Prelude.{◌≡◌, ◌%◌, ◌==◌, Some, Option, IfSome};
 ghost use Rattle.meters.specs.Words.{word_of, Fits, IsInRange};
-ghost use Rattle.quaject_core.specs.declared.alarm.Alarm.{Alarm};
+ghost use Rattle.event_theory.specs.declared.alarm.Alarm.{Alarm};
 
-use quaject_core::{Alarm, Element, Signal};
+use event_theory::{Alarm, Element, Signal};
 
 /// Bit 63: an alarm stands here.
 const STANDS: u64 = 9_223_372_036_854_775_808;

@@ -1,7 +1,7 @@
 -- What the kind of a quaject tells of its ends.
 use Rattle.std.proofs.Common.{◌≡◌, ℕ, refl}
-use Rattle.boot_script.specs.declared.plan.Mover.{Mover}
-use Rattle.boot_script.specs.declared.plan.Mover.TheVariants as mover
+use Rattle.boot_data.specs.declared.plan.Mover.{Mover}
+use Rattle.boot_data.specs.declared.plan.Mover.TheVariants as mover
 use Rattle.quajects.specs.declared.any.AnyQuaject.{AnyQuaject}
 use Rattle.quajects.specs.declared.any.AnyQuaject.TheVariants as any
 use Rattle.objects.specs.Planned.{IsMover}

@@ -2,11 +2,11 @@
 use Rattle.std.specs.Prelude.{◌≡◌, ℕ, ◌+◌, ◌*◌, ◌<◌, List, [], ◌∷◌, map, length, Option, Some, None}
 use Rattle.std.specs.List.{All, slice_get, sum_by}
 use Rattle.table_theory.specs.Sharing.{the_whole}
-use Rattle.boot_script.specs.declared.boot_plan.BootPlan.{BootPlan}
-use Rattle.boot_script.specs.declared.plan.Mover.{Mover}
-use Rattle.boot_script.specs.declared.plan.Mover.TheVariants as mover
-use Rattle.boot_script.specs.declared.plan.Way.{Way}
-use Rattle.boot_script.specs.QueueLists.{raw_queue, line_queue}
+use Rattle.boot_data.specs.declared.boot_plan.BootPlan.{BootPlan}
+use Rattle.boot_data.specs.declared.plan.Mover.{Mover}
+use Rattle.boot_data.specs.declared.plan.Mover.TheVariants as mover
+use Rattle.boot_data.specs.declared.plan.Way.{Way}
+use Rattle.boot_data.specs.QueueLists.{raw_queue, line_queue}
 use Rattle.claim_queue.specs.declared.ends.ClaimQueue.{ClaimQueue}
 use Rattle.claim_queue.specs.declared.ends.QueueEnd.{QueueEnd}
 use Rattle.claim_queue.specs.Handles as claims

@@ -2,7 +2,7 @@
 use Rattle.std.specs.Prelude.{◌≡◌, ℕ, ◌+◌, ◌<◌, false, List, [], map, length, Some}
 use Rattle.std.specs.List.{All, slice_get, sum_by}
 use Rattle.table_theory.specs.Sharing.{IsWhole}
-use Rattle.boot_script.specs.declared.boot_plan.BootPlan.{BootPlan}
+use Rattle.boot_data.specs.declared.boot_plan.BootPlan.{BootPlan}
 use Rattle.claim_queue.specs.declared.ends.QueueEnd.{QueueEnd}
 use Rattle.claim_queue.specs.Handles as queues
 use Rattle.proc_chain.specs.declared.quaject.Quaject.{Ghosts}

@@ -4,8 +4,8 @@ ghost use Rattle.std.specs.List.{All};
 ghost use Rattle.objects.specs.Makings.{MadeChain, MadeChains};
 ghost use Rattle.objects.specs.Planned.{IsReady};
 
+use event_theory::OutOfMemory;
 use proc_chain::{ChainEnd, ProcChain};
-use quaject_core::OutOfMemory;
 use quajects::{AnyQuaject, Queues};
 use std::alloc::Global;
 

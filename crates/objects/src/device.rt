@@ -9,9 +9,9 @@ ghost use Rattle.objects.specs.Stocks.{CanGive, IsIdleChainEnd, IsStock, IsChain
 
 use crate::chains::{Chain, End};
 use crate::stock::split_at;
-use boot_script::BootPlan;
+use boot_data::BootPlan;
 use claim_queue::{ClaimQueue, QueueEnd};
-use quaject_core::OutOfMemory;
+use event_theory::OutOfMemory;
 use quajects::{Queues, RawTty};
 use spsc_line::{LineIn, LineOut, line};
 use std::alloc::Global;

@@ -1,12 +1,12 @@
 //! The pumps and switches of a plan.
 ghost use Rattle.std.specs.Prelude.{◌≡◌, ◌<◌, ◌≤◌, [], length, map};
 ghost use Rattle.std.specs.List.{All, slice_get};
-ghost use Rattle.boot_script.specs.declared.plan.Mover.TheVariants as planned;
+ghost use Rattle.boot_data.specs.declared.plan.Mover.TheVariants as planned;
 ghost use Rattle.objects.specs.Makings.{IsThere, AreWays, GaveWay, GaveWays, MadeMover};
 ghost use Rattle.objects.specs.Stocks.{CanGive, IsStock, shares};
 
 use crate::stock::split_at;
-use boot_script::plan::{Mover, Way};
+use boot_data::plan::{Mover, Way};
 use claim_queue::QueueEnd;
 use quajects::{AnyQuaject, GivenWay, Pump, Queues, Switch};
 

@@ -5,9 +5,9 @@ ghost use Rattle.objects.specs.Stocks.{CanGive, IsStock, shares};
 
 use crate::movers::make_mover;
 use crate::ttys::make_tty;
-use boot_script::BootPlan;
+use boot_data::BootPlan;
 use claim_queue::QueueEnd;
-use quaject_core::OutOfMemory;
+use event_theory::OutOfMemory;
 use quajects::{AnyQuaject, Queues};
 use std::alloc::Global;
 

@@ -2,9 +2,9 @@
 ghost use Rattle.std.specs.Prelude.{IfOk};
 ghost use Rattle.objects.specs.Makings.{NewQueues};
 
-use boot_script::BootPlan;
+use boot_data::BootPlan;
 use claim_queue::QueueEnd;
-use quaject_core::OutOfMemory;
+use event_theory::OutOfMemory;
 use quajects::Queues;
 use std::alloc::Global;
 

@@ -6,9 +6,9 @@ use crate::chains::{Chain, End, make_chains};
 use crate::device::{Device, make_devices};
 use crate::quaject_list::make_quajects;
 use crate::queue_list::make_queues;
-use boot_script::BootPlan;
+use boot_data::BootPlan;
 use claim_queue::QueueEnd;
-use quaject_core::OutOfMemory;
+use event_theory::OutOfMemory;
 use quajects::Queues;
 use std::alloc::Global;
 

@@ -1,6 +1,6 @@
 //! The cooked ttys of a plan.
 ghost use Rattle.std.specs.Prelude.{◌<◌, length};
-ghost use Rattle.boot_script.specs.QueueLists.{screen_queue};
+ghost use Rattle.boot_data.specs.QueueLists.{screen_queue};
 ghost use Rattle.objects.specs.Makings.{MadeTty};
 ghost use Rattle.objects.specs.Stocks.{CanGive, IsStock, shares};
 

@@ -8,12 +8,12 @@ use mathlib.Core.Logic.{dite}
 use native.Mathlib.Decide.{dec_le, ℕ_discrete}
 use lib.ListN.{get_elem?}
 use Rattle.atomic_table.specs.Table.{State}
-use Rattle.quaject_core.specs.declared.status.Gate.TheVariants.{Idle}
+use Rattle.event_theory.specs.declared.status.Gate.TheVariants.{Idle}
 use Rattle.table_theory.specs.declared.queues.Positions.{Positions}
-use Rattle.quaject_core.specs.Runs.{flat}
-use Rattle.quaject_core.specs.Queues.{is_raised}
-use Rattle.quaject_core.specs.Chains.{Chain, is_call}
-use Rattle.quaject_core.specs.Lawful.{is_idle}
+use Rattle.event_theory.specs.Runs.{flat}
+use Rattle.event_theory.specs.Queues.{is_raised}
+use Rattle.event_theory.specs.Chains.{Chain, is_call}
+use Rattle.event_theory.specs.Lawful.{is_idle}
 use Rattle.table_theory.specs.Positioned.{blank, item_of, place_at, item_at}
 use Rattle.table_theory.specs.Filing.{ListedOnce}
 use Rattle.table_theory.specs.Listing.{runs_of, takes_of, Chained}

@@ -15,7 +15,7 @@ use Rattle.table_theory.specs.Windows.{spot}
 use Rattle.table_theory.specs.Listing.{ViewsShow, number_of, written_to}
 use Rattle.table_theory.specs.Members.{EndsKnown}
 use Rattle.atomic_table.proofs.Lists.{at_map, exchanged, set_here, set_else}
-use Rattle.quaject_core.specs.Chains as chains
+use Rattle.event_theory.specs.Chains as chains
 use Rattle.proc_chain.specs.Chainings.{IsChainEvent}
 use Rattle.proc_chain.proofs.Events.{claim_event, raise_event, notify_idle, notify_busy}
 use Rattle.table_theory.proofs.Owned.{at_below, one_at}

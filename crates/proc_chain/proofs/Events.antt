@@ -9,22 +9,22 @@ use mathlib.Core.Option.{some, some-ne-none, some-injective}
 use mathlib.Core.Logic.{dite}
 use native.Mathlib.Decide.{ℕ_discrete, dec_lt}
 use lib.ListN.{get_elem?}
-use Rattle.quaject_core.specs.declared.status.Gate.{Gate}
-use Rattle.quaject_core.specs.declared.status.Gate.TheVariants.{Idle, Running, More}
+use Rattle.event_theory.specs.declared.status.Gate.{Gate}
+use Rattle.event_theory.specs.declared.status.Gate.TheVariants.{Idle, Running, More}
 use Rattle.table_theory.specs.declared.queues.Cell.{Cell}
 use Rattle.table_theory.specs.declared.queues.Batch.{Batch}
 use Rattle.table_theory.specs.declared.queues.Positions.{Positions}
-use Rattle.quaject_core.specs.Runs.{pairs, pairs_of, pairs_from}
-use Rattle.quaject_core.specs.Queues.{Queue, left_pairs, is_raised, after_claim, after_raise, after_take, claim, raise, take_first}
-use Rattle.quaject_core.specs.Chains.{Chain, with_number, is_call, owes, forgotten, is_forgotten, claim_note, raise_note, take_note, runner_after, notify, round, is_more, leave}
-use Rattle.quaject_core.specs.Lawful.{IsLawfulChain, is_idle}
+use Rattle.event_theory.specs.Runs.{pairs, pairs_of, pairs_from}
+use Rattle.event_theory.specs.Queues.{Queue, left_pairs, is_raised, after_claim, after_raise, after_take, claim, raise, take_first}
+use Rattle.event_theory.specs.Chains.{Chain, with_number, is_call, owes, forgotten, is_forgotten, claim_note, raise_note, take_note, runner_after, notify, round, is_more, leave}
+use Rattle.event_theory.specs.Lawful.{IsLawfulChain, is_idle}
 use Rattle.table_theory.specs.Positioned.{blank, item_of, place_at, written_at, head_of, tail_of, Lawful, fresh, with_claim, with_write, with_take}
 use Rattle.table_theory.specs.Filing.{Owned}
 use Rattle.table_theory.specs.Listing.{all_places, runs_of, Chained, Later, ViewsShow, written_to}
 use Rattle.table_theory.specs.QueueOf.{run_in, is_up, queue_of}
-use Rattle.quaject_core.proofs.Lists.Histories.{length-pairs_from, length-pairs_of}
+use Rattle.event_theory.proofs.Lists.Histories.{length-pairs_from, length-pairs_of}
 use Rattle.table_theory.proofs.Logs.{lies}
-use Rattle.quaject_core.proofs.Stored.Layout.{slice_get-drop}
+use Rattle.event_theory.proofs.Lists.Histories.{slice_get-drop}
 use Rattle.table_theory.proofs.QueueOf.{Log, up_of, long_is, left_long, is_lawful_queue}
 use Rattle.table_theory.proofs.QueueEvents.{history_of, claimed_is, claim_goes, got, set_got, set_other, raised_is, raise_goes, take_goes, first_raised}
 use Rattle.table_theory.proofs.Listing.{listed_look, listed_claim, listed_write, listed_take}

@@ -24,7 +24,7 @@ use Rattle.proc_chain.specs.Rules.{part_of, member_of, IsIdle, moment, Rule}
 use Rattle.proc_chain.specs.Steps.{Found, FoundNotRaised, LookedAtFirst, after, looked, spies, took, takes, rounds, leaves, Carries}
 use Rattle.proc_chain.proofs.Gates.{gated_same, gated_runs, gated_leaves, others_still, gate_up, notes_same}
 use Rattle.proc_chain.proofs.Looks.{settled_look, undoubled_set, steps_to, course_on, kept_word, kept_look, sees_of, turn_of, found_now}
-use Rattle.quaject_core.specs.Chains as chains
+use Rattle.event_theory.specs.Chains as chains
 use Rattle.proc_chain.specs.Chainings.{IsChainEvent}
 use Rattle.proc_chain.proofs.Events.{take_event, round_event, leave_event}
 use Rattle.proc_chain.proofs.Claiming.{Goes, kept_gate}

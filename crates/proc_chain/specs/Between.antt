@@ -5,12 +5,12 @@ use Rattle.std.specs.List.{slice_get}
 use mathlib.Core.Option.{some, none}
 use lib.ListN.{get_elem?}
 use Rattle.atomic_table.specs.Table.{State}
-use Rattle.quaject_core.specs.declared.status.Gate.TheVariants.{Idle}
+use Rattle.event_theory.specs.declared.status.Gate.TheVariants.{Idle}
 use Rattle.table_theory.specs.declared.queues.Batch.{Batch}
-use Rattle.quaject_core.specs.Runs.{flat, pairs}
-use Rattle.quaject_core.specs.Queues.{is_raised}
-use Rattle.quaject_core.specs.Chains.{Chain, is_call}
-use Rattle.quaject_core.specs.Lawful.{IsLawfulChain}
+use Rattle.event_theory.specs.Runs.{flat, pairs}
+use Rattle.event_theory.specs.Queues.{is_raised}
+use Rattle.event_theory.specs.Chains.{Chain, is_call}
+use Rattle.event_theory.specs.Lawful.{IsLawfulChain}
 use Rattle.table_theory.specs.Positioned.{item_of}
 use Rattle.table_theory.specs.Filing.{Owned, ListedOnce}
 use Rattle.table_theory.specs.Listing.{all_places, Chained, Later}

@@ -4,16 +4,16 @@ use Rattle.std.specs.Prelude.{Option, Some, None, Result, Ok}
 use Rattle.std.specs.List.{slice_get}
 use mathlib.Core.Option.{some}
 use lib.ListN.{get_elem?}
-use Rattle.quaject_core.specs.declared.refusal.Refusal.{Refusal}
-use Rattle.quaject_core.specs.declared.status.Gate.{Gate}
-use Rattle.quaject_core.specs.declared.status.Gate.TheVariants.{Idle, Running, More}
+use Rattle.event_theory.specs.declared.refusal.Refusal.{Refusal}
+use Rattle.event_theory.specs.declared.status.Gate.{Gate}
+use Rattle.event_theory.specs.declared.status.Gate.TheVariants.{Idle, Running, More}
 use Rattle.table_theory.specs.declared.queues.Batch.{Batch}
 use Rattle.table_theory.specs.declared.queues.Positions.{Positions}
 use Rattle.table_theory.specs.Filing.{Owned}
 use Rattle.table_theory.specs.Listing.{ViewsShow}
 use Rattle.table_theory.specs.QueueOf.{queue_of}
-use Rattle.quaject_core.specs.Chains.{Chain}
-use Rattle.quaject_core.specs.Lawful.{IsLawfulChain}
+use Rattle.event_theory.specs.Chains.{Chain}
+use Rattle.event_theory.specs.Lawful.{IsLawfulChain}
 use Rattle.proc_chain.specs.declared.rule.View.{View}
 use Rattle.proc_chain.specs.Rules.{part_of}
 

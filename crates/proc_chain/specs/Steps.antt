@@ -10,7 +10,7 @@ use Rattle.table_theory.specs.declared.queues.Batch.{Batch}
 use Rattle.table_theory.specs.Positioned.{Lawful, fresh, with_claim, with_write, with_take, head_of, tail_of}
 use Rattle.table_theory.specs.Positioned.{written_at}
 use Rattle.table_theory.specs.Listing.{written_to, Distinct, number_of}
-use Rattle.quaject_core.specs.Chains as chains
+use Rattle.event_theory.specs.Chains as chains
 use Rattle.table_theory.specs.Seeing.{Sees}
 use Rattle.table_theory.specs.Ends.{Begins, later_of}
 use Rattle.table_theory.specs.Members as members

@@ -11,7 +11,7 @@ use crate::quaject::Quaject;
 use crate::rule::{ChainRule, Pact, Shape, View};
 use crate::steps::{count_down, count_up, hand_over, split_off, take_in};
 use atomic_table::{Seat, Table};
-use quaject_core::OutOfMemory;
+use event_theory::OutOfMemory;
 use std::alloc::Global;
 use std::marker::Brand;
 use std::mem;

@@ -3,15 +3,15 @@ use Rattle.std.proofs.Common.{◌≡◌, ℕ, zero, suc, ◌≤◌, List, [], �
 use Rattle.std.proofs.Math.Bridge.{le_prop}
 use Rattle.std.proofs.Math.Logic.{∥∥₁_elim}
 use Rattle.std.specs.List.{slice_get, AllByRecursion}
-use Rattle.boot_script.specs.declared.boot_plan.BootPlan.{BootPlan}
-use Rattle.boot_script.specs.declared.plan.PlannedThread.{PlannedThread}
-use Rattle.boot_script.specs.declared.plan.QueueIndex.{QueueIndex}
-use Rattle.boot_script.specs.declared.plan.QueueIndex.TheVariants.{Small, Large}
-use Rattle.boot_script.specs.declared.plan.Step.{Step}
-use Rattle.boot_script.specs.declared.plan.Step.TheVariants as steps
-use Rattle.boot_script.specs.BootPlans.{plan_of}
-use Rattle.boot_script.specs.Plans.{Plan, steps_at}
-use Rattle.boot_script.specs.PlanLimits.{IsPlan, IsProgramOf, IsStepOf, many_of}
+use Rattle.boot_data.specs.declared.boot_plan.BootPlan.{BootPlan}
+use Rattle.boot_data.specs.declared.plan.PlannedThread.{PlannedThread}
+use Rattle.boot_data.specs.declared.plan.QueueIndex.{QueueIndex}
+use Rattle.boot_data.specs.declared.plan.QueueIndex.TheVariants.{Small, Large}
+use Rattle.boot_data.specs.declared.plan.Step.{Step}
+use Rattle.boot_data.specs.declared.plan.Step.TheVariants as steps
+use Rattle.boot_data.specs.BootPlans.{plan_of}
+use Rattle.boot_data.specs.Plans.{Plan, steps_at}
+use Rattle.boot_data.specs.PlanLimits.{IsPlan, IsProgramOf, IsStepOf, many_of}
 use Rattle.processor.specs.declared.shared.Shared.{Shared}
 use Rattle.processor.specs.Programs.{program, step_of}
 use Rattle.processor.specs.Steps.{Fits}

@@ -4,11 +4,11 @@ use Rattle.std.proofs.Math.Bridge.{le_prop}
 use Rattle.std.proofs.Math.Logic.{∥∥₁_elim}
 use Rattle.std.proofs.lemmas.List.Sums.{sum_by-cons, count_by-le-length}
 use Rattle.std.specs.List.{sum_by, AllByRecursion}
-use Rattle.boot_script.specs.declared.boot_plan.BootPlan.{BootPlan}
-use Rattle.boot_script.specs.declared.plan.PlannedThread.{PlannedThread}
-use Rattle.boot_script.specs.Plans.{Plan}
-use Rattle.boot_script.specs.PlanLimits.{IsPlan, IsProgramOf, many_of}
-use Rattle.boot_script.specs.BootPlans.{plan_of}
+use Rattle.boot_data.specs.declared.boot_plan.BootPlan.{BootPlan}
+use Rattle.boot_data.specs.declared.plan.PlannedThread.{PlannedThread}
+use Rattle.boot_data.specs.Plans.{Plan}
+use Rattle.boot_data.specs.PlanLimits.{IsPlan, IsProgramOf, many_of}
+use Rattle.boot_data.specs.BootPlans.{plan_of}
 use Rattle.processor.specs.Programs.{is_hear, hears_in, hear_count}
 
 hears_in_few : (plan : Plan) (threads : List PlannedThread) → AllByRecursion (IsProgramOf (many_of plan)) threads → sum_by hears_in threads ≤ 64 * length threads

@@ -1,6 +1,6 @@
 -- What several pieces of a processor's work come to: their logs stand one behind the other.
 use Rattle.std.proofs.Common.{◌≡◌, ◌+◌, ◌||◌, ◌&&◌, ◌==◌, ◌<◌, ◌≤◌, ℕ, Bool, true, false, cond, Some, Result, Ok, Err, MatchResult, ◌⊎◌, inl, inr, ⊎_elim, zero, suc, get_or, set, slice_get, subst, map, length, List, [], ◌∷◌, ◌++◌, flat_map, refl, sym, ap, ◌∙◌, arith, slice_index_or}
-use Rattle.quaject_core.specs.declared.alarm.Alarm.{Alarm}
+use Rattle.event_theory.specs.declared.alarm.Alarm.{Alarm}
 use Rattle.std.specs.Prelude.{if◌then◌else◌}
 use Rattle.std.specs.List.{AllByRecursion, All, list_any, filter}
 use Rattle.std.proofs.lemmas.List.{append_assoc, append-nil, map-append}
@@ -11,7 +11,7 @@ use Rattle.std.proofs.lemmas.Bool.{eqb-true, leb-true}
 use Rattle.std.proofs.lemmas.Bool.Decides.{eqb_tells, nat_tests}
 use Rattle.thread_table.proofs.Copies.{get_or-copies}
 use Rattle.std.proofs.lemmas.Grind.{flat_map-append}
-use Rattle.boot_script.specs.declared.boot_plan.BootPlan.{BootPlan}
+use Rattle.boot_data.specs.declared.boot_plan.BootPlan.{BootPlan}
 use Rattle.claim_queue.specs.declared.claim.ClaimRefusal.{ClaimRefusal}
 use Rattle.claim_queue.specs.declared.claim.ClaimRefusal.TheVariants as claims
 use Rattle.claim_queue.specs.declared.take.TakeRefusal.{TakeRefusal}
@@ -26,9 +26,9 @@ use lib.ListN.{get_elem?}
 use Rattle.table_theory.specs.declared.queues.Batch.{Batch}
 use Rattle.table_theory.specs.Interleaving.{InOrder}
 use Rattle.table_theory.proofs.Ordering.{order_none}
-use Rattle.boot_script.specs.declared.plan.QueueIndex.TheVariants.{Small, Large}
-use Rattle.boot_script.specs.declared.plan.Step.{Step}
-use Rattle.boot_script.specs.declared.plan.Step.TheVariants as steps
+use Rattle.boot_data.specs.declared.plan.QueueIndex.TheVariants.{Small, Large}
+use Rattle.boot_data.specs.declared.plan.Step.{Step}
+use Rattle.boot_data.specs.declared.plan.Step.TheVariants as steps
 use Rattle.end_steps.specs.EndLists.{HasRaised, ClaimedInOrder, TookInOrder, lines_put_at, lines_taken_at, shuts_at, knows_shut_at, notes_put_at, notes_taken_at, OnEnd, end_share, end_knows_shut, chain_end_share}
 use Rattle.end_steps.specs.Deeds.{Said, Heard}
 use Rattle.end_steps.proofs.Shares.{none_of}

@@ -2,10 +2,10 @@
 use Rattle.std.proofs.lemmas.Bool.Decides.{eqb_tells}
 use Rattle.std.proofs.Common.{◌≡◌, ◌≢◌, ◌⊎◌, eqb, inl, inr, ⊎_elim, ℕ, zero, suc, ◌+◌, ◌≤◌, Bool, true, false, List, [], ◌∷◌, Result, Ok, Err, refl, sym, subst, arith}
 use Rattle.std.specs.Prelude.{MatchResult}
-use Rattle.quaject_core.specs.Accounts.{is_done}
-use Rattle.quaject_core.specs.declared.alarm.Alarm.{Alarm}
-use Rattle.quaject_core.specs.declared.event.Event.{Event}
-use Rattle.quaject_core.specs.declared.event.Event.TheVariants as events
+use Rattle.event_theory.specs.Accounts.{is_done}
+use Rattle.event_theory.specs.declared.alarm.Alarm.{Alarm}
+use Rattle.event_theory.specs.declared.event.Event.{Event}
+use Rattle.event_theory.specs.declared.event.Event.TheVariants as events
 use Rattle.thread_table.specs.declared.rule.View.{View}
 use Rattle.thread_table.specs.declared.moves.MoveRefusal.{MoveRefusal}
 use Rattle.thread_table.specs.declared.moves.MoveRefusal.TheVariants as moves

@@ -1,7 +1,7 @@
 -- The objects that a plan asks for.
 use Rattle.std.specs.Prelude.{◌≡◌, ◌+◌, List, length}
-use Rattle.boot_script.specs.declared.boot_plan.BootPlan.{BootPlan}
-use Rattle.boot_script.specs.QueueLists.{raw_queue, line_queue}
+use Rattle.boot_data.specs.declared.boot_plan.BootPlan.{BootPlan}
+use Rattle.boot_data.specs.QueueLists.{raw_queue, line_queue}
 use Rattle.proc_chain.specs.declared.ends.ProcChain.{ProcChain}
 use Rattle.quajects.specs.declared.any.AnyQuaject.{AnyQuaject}
 use Rattle.quajects.specs.declared.world.Queues.{Queues}

@@ -2,10 +2,10 @@
 use Rattle.std.specs.Prelude.{◌≡◌, ◌≤◌, ◌<◌, ◌+◌, ◌==◌, ℕ, if◌then◌else◌, Bool, true, false, List, [], ◌∷◌, ◌++◌}
 use Rattle.std.specs.Prelude.{flat_map, map, filter, length, slice_index_or, Some, Result}
 use Rattle.std.specs.List.{All, AllByRecursion, sum_by, list_any}
-use Rattle.boot_script.specs.declared.boot_plan.BootPlan.{BootPlan}
-use Rattle.boot_script.specs.declared.plan.QueueIndex.TheVariants.{Small, Large}
-use Rattle.boot_script.specs.declared.plan.Step.{Step}
-use Rattle.boot_script.specs.declared.plan.Step.TheVariants as steps
+use Rattle.boot_data.specs.declared.boot_plan.BootPlan.{BootPlan}
+use Rattle.boot_data.specs.declared.plan.QueueIndex.TheVariants.{Small, Large}
+use Rattle.boot_data.specs.declared.plan.Step.{Step}
+use Rattle.boot_data.specs.declared.plan.Step.TheVariants as steps
 use Rattle.claim_queue.specs.Takings.{IsLine}
 use Rattle.end_steps.specs.EndLists.{ClaimedInOrder, TookInOrder, lines_put_at, lines_taken_at, shuts_at, knows_shut_at}
 use Rattle.end_steps.specs.EndLists.{notes_put_at, notes_taken_at}
@@ -21,7 +21,7 @@ use Rattle.meters.specs.declared.rule.Tick.{Tick}
 use Rattle.meters.specs.declared.rule.View.{View as SeatView}
 use Rattle.meters.specs.Handles as meters
 use Rattle.meters.specs.Own.{Own, own_of, nothing_own}
-use Rattle.quaject_core.specs.declared.alarm.Alarm.{Alarm}
+use Rattle.event_theory.specs.declared.alarm.Alarm.{Alarm}
 use Rattle.thread_table.specs.Answers.{is_in}
 use Rattle.thread_table.specs.Handles.{view_of}
 use Rattle.thread_table.specs.Rules.{done_at}

@@ -1,6 +1,6 @@
 -- Those who wait at a pipe.
 use Rattle.std.specs.Prelude.{◌≡◌, ℕ, Option, Some, None}
-use Rattle.boot_script.specs.declared.plan.PipeWaits.{PipeWaits}
+use Rattle.boot_data.specs.declared.plan.PipeWaits.{PipeWaits}
 use Rattle.hand_steps.specs.declared.waking.Woken.{Woken}
 use Rattle.hand_steps.specs.Wakings.{Woke}
 use Rattle.thread_table.specs.declared.rule.View.{View}

@@ -1,7 +1,7 @@
 -- The first station of a boot, which prepared the threads.
 use Rattle.std.specs.Prelude.{◌≡◌, ◌≤◌, ℕ, [], length}
 use Rattle.std.specs.List.{AllByRecursion}
-use Rattle.boot_script.specs.declared.boot_plan.BootPlan.{BootPlan}
+use Rattle.boot_data.specs.declared.boot_plan.BootPlan.{BootPlan}
 use Rattle.end_steps.specs.EndLists.{lines_put_at, lines_taken_at, notes_put_at, notes_taken_at, shuts_at}
 use Rattle.hand_steps.specs.Tallies.{tally}
 use Rattle.meters.specs.Handles as meters

@@ -1,11 +1,11 @@
 -- The programs of a plan, and the steps of it that hear.
 use Rattle.std.specs.Prelude.{◌≡◌, ℕ, ◌==◌, ◌&&◌, Bool, true, false, List, Option, Some}
 use Rattle.std.specs.List.{slice_get, count_by, sum_by, AllByRecursion, IsDistinct}
-use Rattle.boot_script.specs.declared.boot_plan.BootPlan.{BootPlan}
-use Rattle.boot_script.specs.declared.plan.PlannedThread.{PlannedThread}
-use Rattle.boot_script.specs.declared.plan.Step.{Step}
-use Rattle.boot_script.specs.declared.plan.Step.TheVariants as steps
-use Rattle.boot_script.specs.Plans.{steps_at}
+use Rattle.boot_data.specs.declared.boot_plan.BootPlan.{BootPlan}
+use Rattle.boot_data.specs.declared.plan.PlannedThread.{PlannedThread}
+use Rattle.boot_data.specs.declared.plan.Step.{Step}
+use Rattle.boot_data.specs.declared.plan.Step.TheVariants as steps
+use Rattle.boot_data.specs.Plans.{steps_at}
 
 -- the program of the thread with this number
 abbrev pub program : BootPlan → ℕ → List Step

@@ -1,7 +1,7 @@
 -- The room for heard lines.
 use Rattle.std.specs.Prelude.{◌<◌, ◌≤◌, map, vec_capacity}
 use Rattle.std.specs.List.{AllByRecursion}
-use Rattle.boot_script.specs.declared.boot_plan.BootPlan.{BootPlan}
+use Rattle.boot_data.specs.declared.boot_plan.BootPlan.{BootPlan}
 use Rattle.thread_table.specs.declared.rule.View.{View}
 use Rattle.thread_table.specs.Handles.{view_of}
 use Rattle.thread_table.specs.Rules.{done_at}

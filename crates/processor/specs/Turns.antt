@@ -1,6 +1,6 @@
 -- The turns of a processor.
 use Rattle.std.specs.Prelude.{◌≡◌, ◌≢◌, ◌≤◌, ◌+◌, ◌&&◌, ℕ, zero, suc, Bool, nat_le, List, ◌++◌, map, length, Option, Some, None}
-use Rattle.boot_script.specs.declared.plan.Step.{Step}
+use Rattle.boot_data.specs.declared.plan.Step.{Step}
 use Rattle.hand_steps.specs.declared.alarms.Tended.{Tended}
 use Rattle.hand_steps.specs.declared.dispatch.Begun.{Begun}
 use Rattle.hand_steps.specs.declared.dispatch.Idle.{Idle}

@@ -3,9 +3,9 @@ ghost use Rattle.std.specs.Prelude.{◌≡◌};
 
 use claim_queue::{ClaimRefusal, TakeRefusal};
 use end_steps::Poked;
+use event_theory::WaitNumber;
 use hand_steps::{Resumed, Woken};
 use proc_chain::ChainRefusal;
-use quaject_core::WaitNumber;
 use thread_table::{Lost, Signalled};
 
 /// The number of notifies of a wait queue, as it was before the try of a step that may have to wait there.

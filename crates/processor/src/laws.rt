@@ -1,7 +1,7 @@
 //! What a plan keeps for its processors: room for each line that is heard, and objects for each step.
 ghost use Rattle.std.specs.Prelude.{◌≡◌, ◌≤◌, ℕ, List, length, Some};
-ghost use Rattle.boot_script.specs.declared.boot_plan.BootPlan.{BootPlan};
-ghost use Rattle.boot_script.specs.declared.plan.Step.{Step};
+ghost use Rattle.boot_data.specs.declared.boot_plan.BootPlan.{BootPlan};
+ghost use Rattle.boot_data.specs.declared.plan.Step.{Step};
 ghost use Rattle.processor.specs.declared.shared.Shared.{Shared};
 ghost use Rattle.processor.specs.Programs.{Key, AreHears, hear_count, program, step_of};
 ghost use Rattle.processor.specs.Steps.{Fits};

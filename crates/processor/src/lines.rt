@@ -8,8 +8,8 @@ ghost use Rattle.end_steps.specs.Sums.{Worked, line_if, no_lines, never};
 ghost use Rattle.processor.specs.Queues.{IsThere, SaidAt, HeardAt, small_at, large_at, said_line};
 
 use arrayvec::ArrayVec;
-use boot_script::Text;
-use boot_script::plan::QueueIndex;
+use boot_data::Text;
+use boot_data::plan::QueueIndex;
 use claim_queue::{ClaimRefusal, QueueEnd, TakeRefusal};
 use end_steps::{Gate, hear, say};
 use quajects::Queues;

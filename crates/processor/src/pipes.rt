@@ -7,10 +7,10 @@ ghost use Rattle.processor.specs.Pipes.{TicketFor, WokeFor, readers_of, writers_
 ghost use Rattle.processor.specs.Queues.{waits_at};
 
 use crate::deed::Ticket;
-use boot_script::BootPlan;
-use boot_script::plan::{PipeWaits, QueueIndex};
+use boot_data::BootPlan;
+use boot_data::plan::{PipeWaits, QueueIndex};
+use event_theory::WaitNumber;
 use hand_steps::{Woken, wake};
-use quaject_core::WaitNumber;
 use std::sync::Wait;
 use thread_table::{Hand, ThreadTable};
 

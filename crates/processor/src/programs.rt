@@ -3,9 +3,9 @@ ghost use Rattle.std.specs.Prelude.{◌≡◌};
 ghost use Rattle.std.specs.List.{count_by};
 ghost use Rattle.processor.specs.Programs.{program, is_hear, hear_count};
 
-use boot_script::BootPlan;
-use boot_script::plan::Step;
-use quaject_core::Element;
+use boot_data::BootPlan;
+use boot_data::plan::Step;
+use event_theory::Element;
 
 // The program of the thread with this number; of a thread that the plan lacks, no steps.
 pub(crate) fn program_of(plan: &BootPlan, thread: Element) -> &[Step]

@@ -1,7 +1,7 @@
 //! The steps at queues: saying a line, hearing one, and shutting a queue, with those who wait at a pipe.
 ghost use Rattle.std.specs.Prelude.{◌≡◌, ◌<◌, ℕ, List, [], length, true};
 ghost use Rattle.claim_queue.specs.declared.ends.QueueEnd.{QueueEnd};
-ghost use Rattle.boot_script.specs.declared.plan.Step.TheVariants as steps;
+ghost use Rattle.boot_data.specs.declared.plan.Step.TheVariants as steps;
 ghost use Rattle.end_steps.specs.EndLists.{AreEndsOf, AreSameEnds};
 ghost use Rattle.end_steps.specs.Sums.{Worked, no_lines, never};
 ghost use Rattle.hand_steps.specs.Tallies.{no_events};
@@ -17,8 +17,8 @@ use crate::lines::{hear_at, line_of, say_at};
 use crate::pipes::{readers_at, ticket_for, wake_for, writers_at};
 use crate::shared::Shared;
 use arrayvec::ArrayVec;
-use boot_script::Text;
-use boot_script::plan::QueueIndex;
+use boot_data::Text;
+use boot_data::plan::QueueIndex;
 use claim_queue::{ClaimRefusal, QueueEnd, TakeRefusal};
 use end_steps::{Gate, shut_queue};
 use std::sync::Wait;

@@ -2,7 +2,7 @@
 ghost use Rattle.end_steps.specs.EndLists.{AreChainsOver};
 ghost use Rattle.processor.specs.Fitting.{HasObjects};
 
-use boot_script::BootPlan;
+use boot_data::BootPlan;
 use meters::Meters;
 use proc_chain::ProcChain;
 use quajects::{AnyQuaject, Queues};

@@ -13,8 +13,8 @@ use crate::shared::Shared;
 use crate::station::{Heard, Parts, Station};
 use claim_queue::QueueEnd;
 use end_steps::{join_chain_ends, join_ends, split_chain_ends_into, split_ends_into};
+use event_theory::OutOfMemory;
 use proc_chain::ChainEnd;
-use quaject_core::OutOfMemory;
 use quajects::AnyQuaject;
 use std::alloc::Global;
 

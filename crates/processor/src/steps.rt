@@ -1,6 +1,6 @@
 //! The one try of a step.
 ghost use Rattle.std.specs.Prelude.{◌≡◌, ◌<◌, ℕ, [], length, true};
-ghost use Rattle.boot_script.specs.declared.plan.Step.TheVariants as steps;
+ghost use Rattle.boot_data.specs.declared.plan.Step.TheVariants as steps;
 ghost use Rattle.end_steps.specs.EndLists.{AreChainEndsOf, AreSameChainEnds};
 ghost use Rattle.end_steps.specs.Sums.{Worked, ChainsWorked, never};
 ghost use Rattle.meters.specs.Handles as seats;
@@ -19,7 +19,7 @@ use crate::shared::Shared;
 use crate::station::Parts;
 use crate::thread_steps::{signal_step, start_step, stop_step, wake_step};
 use arrayvec::ArrayVec;
-use boot_script::plan::Step;
+use boot_data::plan::Step;
 use end_steps::{Gate, poke};
 use proc_chain::ChainEnd;
 use quajects::AnyQuaject;

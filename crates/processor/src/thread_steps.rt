@@ -1,7 +1,7 @@
 //! The steps at the thread elements: waking, signalling, stopping and starting.
 ghost use Rattle.std.specs.Prelude.{◌≡◌, [], true};
-ghost use Rattle.boot_script.specs.declared.boot_plan.BootPlan.{BootPlan};
-ghost use Rattle.boot_script.specs.declared.plan.Step.TheVariants as steps;
+ghost use Rattle.boot_data.specs.declared.boot_plan.BootPlan.{BootPlan};
+ghost use Rattle.boot_data.specs.declared.plan.Step.TheVariants as steps;
 ghost use Rattle.hand_steps.specs.Tallies.{no_events};
 ghost use Rattle.thread_table.specs.Handles.{view_of, call_of, IsHandOf, IsSameHand};
 ghost use Rattle.processor.specs.Acts.{Acts};
@@ -9,8 +9,8 @@ ghost use Rattle.processor.specs.Points.{points_of};
 ghost use Rattle.processor.specs.Steps.{HandDid, comes_of, raised_by};
 
 use crate::deed::Deed;
+use event_theory::{Element, Signal, WaitNumber};
 use hand_steps::{calls_only_add, start, wake};
-use quaject_core::{Element, Signal, WaitNumber};
 use std::sync::Wait;
 use thread_table::{Hand, ThreadTable};
 

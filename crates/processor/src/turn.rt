@@ -19,10 +19,10 @@ use crate::running::{Moved, Tried, keep, run_step, send_on};
 use crate::shared::Shared;
 use crate::station::{Parts, Station};
 use arrayvec::ArrayVec;
-use boot_script::plan::Step;
+use boot_data::plan::Step;
 use end_steps::{Gate, Point};
+use event_theory::{Element, Processor};
 use hand_steps::{Begun, Idle, Tended, begin, retire, tend_alarms};
-use quaject_core::{Element, Processor};
 use std::sync::Wait;
 
 // Whether a step that was tried is done, and was the last of so many.

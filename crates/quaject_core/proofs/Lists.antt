@@ -1,5 +1,3 @@
--- Lists, bits and histories.
+-- Lists and bits.
 pub mod Bits
-pub mod Histories
-pub mod Inversions
 pub mod Mapped

@@ -1,6 +1,6 @@
 -- What a join makes of what the machine stores.
 use Rattle.std.specs.Prelude.{ℕ}
-use Rattle.quaject_core.specs.Queues.{renamed}
+use Rattle.event_theory.specs.Queues.{renamed}
 use Rattle.quaject_core.specs.declared.queueing.Span.{Span}
 
 -- where a run lies after the join of another call to the first

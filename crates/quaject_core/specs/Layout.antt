@@ -3,8 +3,8 @@ use Rattle.std.specs.Prelude.{◌≡◌, ℕ, ◌+◌, nat_lt, Bool, false, ◌&
 use Rattle.std.specs.Prelude.{Option, Some, None}
 use Rattle.std.specs.List.{slice_get}
 use Rattle.std.specs.Coded.{×_prop, Coded-set, coded_ℕ}
-use Rattle.quaject_core.specs.Runs.{Run}
-use Rattle.quaject_core.specs.Queues.{Queue}
+use Rattle.event_theory.specs.Runs.{Run}
+use Rattle.event_theory.specs.Queues.{Queue}
 use Rattle.quaject_core.specs.declared.queueing.StoredItem.{StoredItem}
 use Rattle.quaject_core.specs.declared.queueing.Span.{Span}
 

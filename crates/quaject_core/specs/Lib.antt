@@ -1,21 +1,7 @@
-pub mod Accounts
 pub mod Allowed
-pub mod Appearances
-pub mod Chains
-pub mod Elements
 pub mod Joined
-pub mod Lawful
 pub mod Layout
-pub mod Lines
-pub mod Marks
-pub mod Meters
 pub mod Owners
-pub mod Places
-pub mod Queues
-pub mod RefusalNames
-pub mod Results
-pub mod Runs
-pub mod Schedules
 pub mod Shown
 pub mod ShownChains
 pub mod ShownCores
@@ -23,5 +9,3 @@ pub mod ShownElements
 pub mod ShownMeters
 pub mod ShownStates
 pub mod ShownThreads
-pub mod States
-pub mod Statuses

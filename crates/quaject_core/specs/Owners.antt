@@ -2,8 +2,8 @@
 use Rattle.std.specs.Prelude.{ℕ, ◌<◌, ◌≤◌, List, Option, Some, None, option_map}
 use Rattle.std.specs.List.{slice_get}
 use Rattle.std.specs.List.Sorted.{IsPartitionPoint}
-use Rattle.quaject_core.specs.Runs.{Run}
-use Rattle.quaject_core.specs.Queues.{Queue, left_pairs}
+use Rattle.event_theory.specs.Runs.{Run}
+use Rattle.event_theory.specs.Queues.{Queue, left_pairs}
 use Rattle.quaject_core.specs.declared.queueing.Span.{Span}
 
 abbrev pub call_of : Run → ℕ

@@ -1,5 +1,5 @@
 -- The queue that the machine stores.
-use Rattle.quaject_core.specs.Queues.{Queue}
+use Rattle.event_theory.specs.Queues.{Queue}
 use Rattle.quaject_core.specs.Layout.{queue_at}
 use Rattle.quaject_core.specs.declared.queueing.StoredQueue.{StoredQueue}
 

@@ -1,10 +1,10 @@
 -- The chain that the machine stores.
 use Rattle.std.specs.Prelude.{Result}
-use Rattle.quaject_core.specs.Chains.{Chain}
+use Rattle.event_theory.specs.Chains.{Chain}
 use Rattle.quaject_core.specs.Layout.{set_of}
 use Rattle.quaject_core.specs.Shown.{queue}
-use Rattle.quaject_core.specs.Results.{Changes}
-use Rattle.quaject_core.specs.declared.refusal.Refusal.{Refusal}
+use Rattle.event_theory.specs.Results.{Changes}
+use Rattle.event_theory.specs.declared.refusal.Refusal.{Refusal}
 use Rattle.quaject_core.specs.declared.chaining.StoredChain.{StoredChain}
 
 -- the chain that is stored here

@@ -1,5 +1,5 @@
 -- The state of a core.
-use Rattle.quaject_core.specs.States.{State}
+use Rattle.event_theory.specs.States.{State}
 use Rattle.quaject_core.specs.ShownStates.{stored_state}
 use Rattle.quaject_core.specs.declared.machine.Core.{Core}
 

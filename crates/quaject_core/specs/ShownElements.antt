@@ -1,10 +1,10 @@
 -- The thread elements that the machine stores.
 use Rattle.std.specs.Prelude.{map, Result}
-use Rattle.quaject_core.specs.Elements.{Elements}
+use Rattle.event_theory.specs.Elements.{Elements}
 use Rattle.quaject_core.specs.Shown.{queue}
 use Rattle.quaject_core.specs.ShownThreads.{thread}
-use Rattle.quaject_core.specs.Results.{Changes}
-use Rattle.quaject_core.specs.declared.refusal.Refusal.{Refusal}
+use Rattle.event_theory.specs.Results.{Changes}
+use Rattle.event_theory.specs.declared.refusal.Refusal.{Refusal}
 use Rattle.quaject_core.specs.declared.elements.StoredElements.{StoredElements}
 
 -- the elements that are stored here

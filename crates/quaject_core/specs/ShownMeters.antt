@@ -1,9 +1,9 @@
 -- The gauges, the clock and the alarms that the machine stores.
 use Rattle.std.specs.Prelude.{length, Result}
-use Rattle.quaject_core.specs.Meters.{Meters}
-use Rattle.quaject_core.specs.Results.{Changes}
-use Rattle.quaject_core.specs.declared.refusal.Refusal.{Refusal}
-use Rattle.quaject_core.specs.declared.status.AlarmStatus.{AlarmStatus}
+use Rattle.event_theory.specs.Meters.{Meters}
+use Rattle.event_theory.specs.Results.{Changes}
+use Rattle.event_theory.specs.declared.refusal.Refusal.{Refusal}
+use Rattle.event_theory.specs.declared.status.AlarmStatus.{AlarmStatus}
 use Rattle.quaject_core.specs.declared.metering.StoredMeters.{StoredMeters}
 
 -- what is stored here

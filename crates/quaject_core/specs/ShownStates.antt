@@ -1,12 +1,12 @@
 -- The state that the machine stores.
 use Rattle.std.specs.Prelude.{map, Result}
-use Rattle.quaject_core.specs.Results.{Changes}
-use Rattle.quaject_core.specs.States.{State}
+use Rattle.event_theory.specs.Results.{Changes}
+use Rattle.event_theory.specs.States.{State}
 use Rattle.quaject_core.specs.Shown.{queue}
 use Rattle.quaject_core.specs.ShownChains.{chain}
 use Rattle.quaject_core.specs.ShownElements.{elements}
 use Rattle.quaject_core.specs.ShownMeters.{meters}
-use Rattle.quaject_core.specs.declared.refusal.Refusal.{Refusal}
+use Rattle.event_theory.specs.declared.refusal.Refusal.{Refusal}
 use Rattle.quaject_core.specs.declared.store.Store.{Store}
 
 -- the state that is stored here

@@ -1,5 +1,5 @@
 -- The thread element that the machine stores.
-use Rattle.quaject_core.specs.Elements.{Thread}
+use Rattle.event_theory.specs.Elements.{Thread}
 use Rattle.quaject_core.specs.Layout.{set_of}
 use Rattle.quaject_core.specs.declared.threading.StoredThread.{StoredThread}
 

@@ -3,12 +3,10 @@
 ghost use Rattle.std.specs.Prelude.{◌≡◌, nat_lt};
 ghost use Rattle.std.specs.List.{list_any};
 ghost use Rattle.quaject_core.specs.Layout.{set_of};
-ghost use Rattle.quaject_core.specs.Chains.{join_set};
+ghost use Rattle.event_theory.specs.Chains.{join_set};
 
-use crate::names::Call;
 use crate::queueing::{StoredQueue, renamed};
-use crate::refusal::Refusal;
-use crate::status::{ChainStatus, Gate};
+use event_theory::{Call, ChainStatus, Gate, Refusal};
 use std::alloc::Global;
 
 /// The notes, who runs them, and of each call whether it owes a notify.
@@ -21,11 +19,11 @@ pub(crate) struct StoredChain {
 }
 
 impl StoredChain {
-    ghost use Rattle.quaject_core.specs.Chains.{empty_chain, is_call, claim_note, raise_note, take_note, notify, round};
-    ghost use Rattle.quaject_core.specs.Chains.{is_forgotten, leave, join_chain};
-    ghost use Rattle.quaject_core.specs.Statuses.{chain_status};
+    ghost use Rattle.event_theory.specs.Chains.{empty_chain, is_call, claim_note, raise_note, take_note, notify, round};
+    ghost use Rattle.event_theory.specs.Chains.{is_forgotten, leave, join_chain};
+    ghost use Rattle.event_theory.specs.Statuses.{chain_status};
     ghost use Rattle.quaject_core.specs.ShownChains.{chain, Does};
-    ghost use Rattle.quaject_core.specs.Results.{IsNotMemory};
+    ghost use Rattle.event_theory.specs.Results.{IsNotMemory};
 
     /// A chain with no note, that nobody runs. Takes no memory.
     pub(crate) fn new(alloc: Global) -> StoredChain

@@ -3,14 +3,13 @@
 ghost use Rattle.std.specs.Prelude.{◌≡◌, ◌≤◌, nat_le, vec_len};
 ghost use Rattle.std.specs.List.{list_any};
 
-use crate::hold::Hold;
 use crate::holding::HeldList;
-use crate::names::{Call, Element, Processor, Signal, WaitNumber};
 use crate::queueing::StoredQueue;
-use crate::refusal::{OutOfMemory, Refusal};
-use crate::status::ElementStatus;
 use crate::threading::{StoredThread, new_threads};
 use crate::{lines, placing, seats};
+use event_theory::{
+    Call, Element, ElementStatus, Hold, OutOfMemory, Processor, Refusal, Signal, WaitNumber,
+};
 use std::alloc::Global;
 
 /// Each element, and where it is.
@@ -28,17 +27,17 @@ pub(crate) struct StoredElements {
 impl StoredElements {
     ghost use Rattle.std.specs.Prelude.{◌<◌, length, nat_lt, ◌||◌, Some, IfOk};
     ghost use Rattle.std.specs.List.{slice_get};
-    ghost use Rattle.quaject_core.specs.Elements.{first_elements, join_elements, claim_element, raise_element};
-    ghost use Rattle.quaject_core.specs.Elements.{take_element};
-    ghost use Rattle.quaject_core.specs.Elements.{is_put, put_on, take_off, stop, park, start, signal, deliver, done};
-    ghost use Rattle.quaject_core.specs.Elements.{holds};
-    ghost use Rattle.quaject_core.specs.Statuses.{element_statuses};
-    ghost use Rattle.quaject_core.specs.Lines.{first_hold};
+    ghost use Rattle.event_theory.specs.Elements.{first_elements, join_elements, claim_element, raise_element};
+    ghost use Rattle.event_theory.specs.Elements.{take_element};
+    ghost use Rattle.event_theory.specs.Elements.{is_put, put_on, take_off, stop, park, start, signal, deliver, done};
+    ghost use Rattle.event_theory.specs.Elements.{holds};
+    ghost use Rattle.event_theory.specs.Statuses.{element_statuses};
+    ghost use Rattle.event_theory.specs.Lines.{first_hold};
     ghost use Rattle.quaject_core.specs.ShownThreads.{thread};
     ghost use Rattle.quaject_core.specs.ShownElements.{elements, Does};
-    ghost use Rattle.quaject_core.specs.Lawful.{IsLawfulElements};
-    ghost use Rattle.quaject_core.specs.Results.{IsNotMemory};
-    ghost use Rattle.quaject_core.specs.Marks.{notify_wait, wait_at};
+    ghost use Rattle.event_theory.specs.Lawful.{IsLawfulElements};
+    ghost use Rattle.event_theory.specs.Results.{IsNotMemory};
+    ghost use Rattle.event_theory.specs.Marks.{notify_wait, wait_at};
 
     /// So many elements, all of them free.
     pub(crate) fn new(alloc: Global, count: u8) -> Result<StoredElements, OutOfMemory>

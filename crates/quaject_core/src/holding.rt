@@ -3,12 +3,10 @@
 ghost use Rattle.std.specs.Prelude.{◌≡◌, ◌+◌, ◌<◌, ◌≤◌, ◌++◌, [], ◌∷◌, position, map, remove, Option, Some, None};
 ghost use Rattle.std.specs.Prelude.{vec_len, vec_capacity, length, true, IfOk, if◌then◌else◌};
 ghost use Rattle.std.specs.List.{list_any};
-ghost use Rattle.quaject_core.specs.Elements.{is_hold, join_hold};
+ghost use Rattle.event_theory.specs.Elements.{is_hold, join_hold};
 
-use crate::hold::Hold;
-use crate::names::Call;
 use crate::queueing::renamed;
-use crate::refusal::OutOfMemory;
+use event_theory::{Call, Hold, OutOfMemory};
 use std::alloc::Global;
 
 /// Each hold, in the order in which they began. It has room for 64, one for each element that there may be.

@@ -2,15 +2,14 @@
 
 ghost use Rattle.std.specs.Prelude.{◌≡◌, [], ◌∷◌, map, IsOk, IfOk, Ok, Err, MatchResult, vec_len};
 ghost use Rattle.std.specs.List.{repeat};
-ghost use Rattle.quaject_core.specs.Queues.{empty_queue, full_queue, claim, raise, take_first, join_queue};
-ghost use Rattle.quaject_core.specs.Results.{Changes, change_at};
+ghost use Rattle.event_theory.specs.Queues.{empty_queue, full_queue, claim, raise, take_first, join_queue};
+ghost use Rattle.event_theory.specs.Results.{Changes, change_at};
 ghost use Rattle.quaject_core.specs.Shown.{queue};
-ghost use Rattle.quaject_core.specs.Lines.{taken};
-ghost use Rattle.quaject_core.specs.Marks.{wait_line};
+ghost use Rattle.event_theory.specs.Lines.{taken};
+ghost use Rattle.event_theory.specs.Marks.{wait_line};
 
-use crate::names::{Call, WaitNumber};
 use crate::queueing::StoredQueue;
-use crate::refusal::{OutOfMemory, Refusal};
+use event_theory::{Call, OutOfMemory, Refusal, WaitNumber};
 use std::alloc::Global;
 
 /// The ready ring.

@@ -1,12 +1,10 @@
 //! The core.
 
-ghost use Rattle.quaject_core.specs.Lawful.{IsLawful};
+ghost use Rattle.event_theory.specs.Lawful.{IsLawful};
 ghost use Rattle.quaject_core.specs.ShownStates.{stored_state};
 
-use crate::event::Event;
-use crate::refusal::{OutOfMemory, Refusal};
-use crate::status::Status;
 use crate::store::Store;
+use event_theory::{Event, OutOfMemory, Refusal, Status};
 use std::alloc::Global;
 
 /// The plain machine: the queues, chains, thread elements and meters of a kernel, changed by one atomic event at a
@@ -19,10 +17,10 @@ pub struct Core {
 
 impl Core {
     ghost use Rattle.std.specs.Prelude.{◌≡◌, ℕ, ◌≤◌, false, IfOk};
-    ghost use Rattle.quaject_core.specs.States.{first_state, step, may_grow};
-    ghost use Rattle.quaject_core.specs.Results.{Changes, IsNotMemory};
-    ghost use Rattle.quaject_core.specs.Schedules.{AppliesAll, HadToGrow};
-    ghost use Rattle.quaject_core.specs.Statuses.{status_of};
+    ghost use Rattle.event_theory.specs.States.{first_state, step, may_grow};
+    ghost use Rattle.event_theory.specs.Results.{Changes, IsNotMemory};
+    ghost use Rattle.event_theory.specs.Schedules.{AppliesAll, HadToGrow};
+    ghost use Rattle.event_theory.specs.Statuses.{status_of};
     ghost use Rattle.quaject_core.specs.ShownCores.{state};
 
     /// A core with no queues and no chains, and with sixteen thread elements, all of them free.

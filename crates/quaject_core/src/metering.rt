@@ -1,9 +1,6 @@
 //! The gauges, the clock and the alarms as the machine stores them.
 
-use crate::alarm::Alarm;
-use crate::names::{Gauge, Slot};
-use crate::refusal::Refusal;
-use crate::status::AlarmStatus;
+use event_theory::{Alarm, AlarmStatus, Gauge, Refusal, Slot};
 use std::alloc::Global;
 
 /// The gauges, the clock, the alarm that stands in each slot, and all alarms that were set, fired and cancelled.
@@ -19,10 +16,10 @@ pub(crate) struct StoredMeters {
 
 impl StoredMeters {
     ghost use Rattle.std.specs.Prelude.{◌≡◌, Ok, position};
-    ghost use Rattle.quaject_core.specs.Meters.{first_meters, tick, advance};
-    ghost use Rattle.quaject_core.specs.Meters.{is_empty, set_alarm, standing, fire, cancel};
+    ghost use Rattle.event_theory.specs.Meters.{first_meters, tick, advance};
+    ghost use Rattle.event_theory.specs.Meters.{is_empty, set_alarm, standing, fire, cancel};
     ghost use Rattle.quaject_core.specs.ShownMeters.{meters, Does, alarm_status};
-    ghost use Rattle.quaject_core.specs.Results.{IsNotMemory};
+    ghost use Rattle.event_theory.specs.Results.{IsNotMemory};
 
     /// All gauges and the clock at 0, and no alarm. Takes no memory.
     pub(crate) fn new(alloc: Global) -> StoredMeters

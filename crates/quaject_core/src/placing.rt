@@ -2,19 +2,16 @@
 
 ghost use Rattle.std.specs.Prelude.{◌≡◌, ◌==◌, ◌<◌, ◌≤◌, ℕ, List, position, length, map, IfOk};
 ghost use Rattle.std.specs.List.{list_any};
-ghost use Rattle.quaject_core.specs.Queues.{left};
-ghost use Rattle.quaject_core.specs.Statuses.{element_statuses};
+ghost use Rattle.event_theory.specs.Queues.{left};
+ghost use Rattle.event_theory.specs.Statuses.{element_statuses};
 ghost use Rattle.quaject_core.specs.Shown.{queue};
 ghost use Rattle.quaject_core.specs.ShownThreads.{thread};
-ghost use Rattle.quaject_core.specs.Appearances.{is_on};
-ghost use Rattle.quaject_core.specs.Places.{place_by, line_place, held_place, holder};
+ghost use Rattle.event_theory.specs.Appearances.{is_on};
+ghost use Rattle.event_theory.specs.Places.{place_by, line_place, held_place, holder};
 
-use crate::hold::Hold;
-use crate::names::{Call, Processor, WaitNumber};
 use crate::queueing::StoredQueue;
-use crate::refusal::OutOfMemory;
-use crate::status::{ElementStatus, Place};
 use crate::threading::StoredThread;
+use event_theory::{Call, ElementStatus, Hold, OutOfMemory, Place, Processor, WaitNumber};
 use std::alloc::Global;
 
 /// Whether the element stands on this processor.

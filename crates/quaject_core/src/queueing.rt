@@ -3,13 +3,11 @@
 ghost use Rattle.std.specs.Prelude.{◌≡◌, ◌==◌, ◌+◌, ◌≤◌, ◌++◌, length, map, count_by, vec_len, vec_capacity};
 ghost use Rattle.std.specs.List.{list_all, list_any};
 ghost use Rattle.quaject_core.specs.Layout.{Laid, Laid-prop, queue_at, fresh, flag_of};
-ghost use Rattle.quaject_core.specs.Lawful.{IsLawfulQueue};
-ghost use Rattle.quaject_core.specs.Queues.{renamed};
+ghost use Rattle.event_theory.specs.Lawful.{IsLawfulQueue};
+ghost use Rattle.event_theory.specs.Queues.{renamed};
 ghost use Rattle.quaject_core.specs.Joined.{renamed_span};
 
-use crate::names::Call;
-use crate::refusal::{OutOfMemory, Refusal};
-use crate::status::QueueStatus;
+use event_theory::{Call, OutOfMemory, QueueStatus, Refusal};
 use std::alloc::Global;
 
 /// Where a run lies: its call, the position of its first item and how many it has.
@@ -42,14 +40,14 @@ pub(crate) struct StoredQueue {
 impl StoredQueue {
     ghost use Rattle.std.specs.Prelude.{◌≡◌, ◌==◌, ◌+◌, ◌≤◌, length, drop, vec_len, IfOk};
     ghost use Rattle.std.specs.List.{slice_get, list_any};
-    ghost use Rattle.quaject_core.specs.Queues.{left, empty_queue, full_queue, claim, raise, take_first, after_take};
-    ghost use Rattle.quaject_core.specs.Queues.{first_are_raised, join_queue};
+    ghost use Rattle.event_theory.specs.Queues.{left, empty_queue, full_queue, claim, raise, take_first, after_take};
+    ghost use Rattle.event_theory.specs.Queues.{first_are_raised, join_queue};
     ghost use Rattle.quaject_core.specs.Owners.{first_call, AreBegun};
-    ghost use Rattle.quaject_core.specs.Statuses.{queue_status};
-    ghost use Rattle.quaject_core.specs.Results.{Changes};
+    ghost use Rattle.event_theory.specs.Statuses.{queue_status};
+    ghost use Rattle.event_theory.specs.Results.{Changes};
     ghost use Rattle.quaject_core.specs.Allowed.{allowed};
     ghost use Rattle.quaject_core.specs.Shown.{queue};
-    ghost use Rattle.quaject_core.specs.Marks.{shut};
+    ghost use Rattle.event_theory.specs.Marks.{shut};
 
     /// An empty queue. Takes no memory.
     pub(crate) fn new(alloc: Global, capacity: u16) -> StoredQueue

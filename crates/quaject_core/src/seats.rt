@@ -2,11 +2,10 @@
 
 ghost use Rattle.std.specs.Prelude.{◌≡◌, map, option_map};
 ghost use Rattle.std.specs.List.{list_any};
-ghost use Rattle.quaject_core.specs.Elements.{is_put, join_hold};
+ghost use Rattle.event_theory.specs.Elements.{is_put, join_hold};
 
-use crate::hold::Hold;
-use crate::names::Call;
 use crate::queueing::renamed;
+use event_theory::{Call, Hold};
 
 /// Whether the call put the element on one of the processors.
 pub(crate) fn is_put(processors: &[Option<Hold>; 8], call: Call, element: u64) -> bool

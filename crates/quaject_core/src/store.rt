@@ -1,17 +1,15 @@
 //! What a core stores, and what each event makes of it.
 
-use crate::alarm::Alarm;
 use crate::chaining::StoredChain;
 use crate::elements::StoredElements;
-use crate::event::Event;
-use crate::items::Items;
 use crate::lines;
 use crate::lines::{FREE, READY};
 use crate::metering::StoredMeters;
-use crate::names::{Call, ChainNumber, QueueName, QueueNumber};
 use crate::queueing::StoredQueue;
-use crate::refusal::{OutOfMemory, Refusal};
-use crate::status::{ChainStatus, QueueStatus, Status};
+use event_theory::{
+    Alarm, Call, ChainNumber, ChainStatus, Event, Items, OutOfMemory, QueueName, QueueNumber,
+    QueueStatus, Refusal, Status,
+};
 use std::alloc::Global;
 
 /// The queues and chains by their numbers, the thread elements, the meters, and how many events were allowed.
@@ -27,18 +25,18 @@ pub(crate) struct Store {
 
 impl Store {
     ghost use Rattle.std.specs.Prelude.{◌≡◌, ◌≤◌, ℕ, Ok, Err, IfOk, map, false};
-    ghost use Rattle.quaject_core.specs.Marks.{shut};
-    ghost use Rattle.quaject_core.specs.Queues.{claim, raise, take_first, join_queue};
-    ghost use Rattle.quaject_core.specs.Chains.{claim_note, raise_note, take_note, notify, round, leave};
-    ghost use Rattle.quaject_core.specs.States.{first_state, make_queue, make_chain, in_queue, in_chain, set_for};
-    ghost use Rattle.quaject_core.specs.States.{join, effect, step, may_grow};
-    ghost use Rattle.quaject_core.specs.Statuses.{status_of, queue_status, chain_status};
-    ghost use Rattle.quaject_core.specs.declared.event.Event.TheVariants as events;
+    ghost use Rattle.event_theory.specs.Marks.{shut};
+    ghost use Rattle.event_theory.specs.Queues.{claim, raise, take_first, join_queue};
+    ghost use Rattle.event_theory.specs.Chains.{claim_note, raise_note, take_note, notify, round, leave};
+    ghost use Rattle.event_theory.specs.States.{first_state, make_queue, make_chain, in_queue, in_chain, set_for};
+    ghost use Rattle.event_theory.specs.States.{join, effect, step, may_grow};
+    ghost use Rattle.event_theory.specs.Statuses.{status_of, queue_status, chain_status};
+    ghost use Rattle.event_theory.specs.declared.event.Event.TheVariants as events;
     ghost use Rattle.quaject_core.specs.Shown.{queue};
     ghost use Rattle.quaject_core.specs.ShownChains.{chain};
     ghost use Rattle.quaject_core.specs.ShownStates.{stored_state, Does};
-    ghost use Rattle.quaject_core.specs.Lawful.{IsLawful};
-    ghost use Rattle.quaject_core.specs.Results.{IsNotMemory};
+    ghost use Rattle.event_theory.specs.Lawful.{IsLawful};
+    ghost use Rattle.event_theory.specs.Results.{IsNotMemory};
 
     /// No queues, no chains, and so many free elements.
     pub(crate) fn new(alloc: Global, elements: u8) -> Result<Store, OutOfMemory>
@@ -371,8 +369,8 @@ impl Store {
 }
 
 ghost use Rattle.std.specs.Prelude.{◌≡◌, map};
-ghost use Rattle.quaject_core.specs.Queues.{join_queue};
-ghost use Rattle.quaject_core.specs.Chains.{join_chain};
+ghost use Rattle.event_theory.specs.Queues.{join_queue};
+ghost use Rattle.event_theory.specs.Chains.{join_chain};
 ghost use Rattle.quaject_core.specs.Shown.{queue};
 ghost use Rattle.quaject_core.specs.ShownChains.{chain};
 

@@ -2,11 +2,10 @@
 
 ghost use Rattle.std.specs.Prelude.{◌≡◌, [], ◌∷◌, map, IfOk};
 ghost use Rattle.std.specs.List.{repeat};
-ghost use Rattle.quaject_core.specs.Elements.{new_thread};
+ghost use Rattle.event_theory.specs.Elements.{new_thread};
 ghost use Rattle.quaject_core.specs.ShownThreads.{thread};
 
-use crate::names::Signal;
-use crate::refusal::OutOfMemory;
+use event_theory::{OutOfMemory, Signal};
 use std::alloc::Global;
 
 /// The signals that are pending, how many steps are done, the stop bit, and whether it stands in its stop cell.
@@ -20,8 +19,8 @@ pub(crate) struct StoredThread {
 
 impl StoredThread {
     ghost use Rattle.std.specs.Prelude.{◌+◌, ◌<◌, true, false};
-    ghost use Rattle.quaject_core.specs.Chains.{with_number};
-    ghost use Rattle.quaject_core.specs.Statuses.{bits_from};
+    ghost use Rattle.event_theory.specs.Chains.{with_number};
+    ghost use Rattle.event_theory.specs.Statuses.{bits_from};
 
     pub(crate) fn new() -> StoredThread
         ensures { thread result ≡ new_thread }

@@ -3,7 +3,7 @@ ghost use Rattle.std.specs.Prelude.{◌≡◌, ◌≤◌, IfOk};
 ghost use Rattle.quajects.specs.Worlds.{AreFresh};
 
 use claim_queue::{ClaimQueue, QueueEnd};
-use quaject_core::OutOfMemory;
+use event_theory::OutOfMemory;
 use std::alloc::Global;
 
 /// What the quajects work on, and do not own: the small queues, and the large ones, which are the line and screen

@@ -2,9 +2,9 @@
 use Rattle.std.proofs.Common.{◌≤◌, length}
 use Rattle.std.proofs.Math.Bridge.{le_prop}
 use Rattle.std.proofs.Math.Logic.{∥∥₁_elim}
-use Rattle.boot_script.specs.declared.boot_plan.BootPlan.{BootPlan}
-use Rattle.boot_script.specs.BootPlans.{plan_of}
-use Rattle.boot_script.specs.PlanLimits.{IsPlan}
+use Rattle.boot_data.specs.declared.boot_plan.BootPlan.{BootPlan}
+use Rattle.boot_data.specs.BootPlans.{plan_of}
+use Rattle.boot_data.specs.PlanLimits.{IsPlan}
 
 module _ (plan : BootPlan) where
   pub few_ttys : length plan.ttys ≤ 2

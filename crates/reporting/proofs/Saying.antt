@@ -2,18 +2,18 @@
 use Rattle.std.proofs.Common.{◌≡◌, ℕ, ◌+◌, ◌%◌, ◌^◌, List, ◌++◌, length, get_or, map, refl, sym, ap, ◌∙◌, subst, arith, Some, slice_get}
 use Rattle.std.specs.List.{sum_by}
 use Rattle.std.proofs.lemmas.List.{length-take-le, length-map}
-use Rattle.boot_script.specs.declared.plan.PlannedMover.{PlannedMover}
-use Rattle.boot_script.specs.declared.plan.PlannedQueue.{PlannedQueue}
-use Rattle.boot_script.specs.declared.plan.PlannedThread.{PlannedThread}
-use Rattle.boot_script.specs.declared.plan.PlannedTty.{PlannedTty}
-use Rattle.boot_script.specs.declared.report.GaugeLine.{GaugeLine}
-use Rattle.boot_script.specs.declared.report.HeardLine.{HeardLine}
-use Rattle.boot_script.specs.declared.report.MoverLine.{MoverLine}
-use Rattle.boot_script.specs.declared.report.QueueLine.{QueueLine}
-use Rattle.boot_script.specs.declared.report.Report.{Report}
-use Rattle.boot_script.specs.declared.report.ThreadLine.{ThreadLine}
-use Rattle.boot_script.specs.declared.report.TtyLines.{TtyLines}
-use Rattle.boot_script.specs.QueueLists.{raw_queue, line_queue, screen_queue}
+use Rattle.boot_data.specs.declared.plan.PlannedMover.{PlannedMover}
+use Rattle.boot_data.specs.declared.plan.PlannedQueue.{PlannedQueue}
+use Rattle.boot_data.specs.declared.plan.PlannedThread.{PlannedThread}
+use Rattle.boot_data.specs.declared.plan.PlannedTty.{PlannedTty}
+use Rattle.boot_data.specs.declared.report.GaugeLine.{GaugeLine}
+use Rattle.boot_data.specs.declared.report.HeardLine.{HeardLine}
+use Rattle.boot_data.specs.declared.report.MoverLine.{MoverLine}
+use Rattle.boot_data.specs.declared.report.QueueLine.{QueueLine}
+use Rattle.boot_data.specs.declared.report.Report.{Report}
+use Rattle.boot_data.specs.declared.report.ThreadLine.{ThreadLine}
+use Rattle.boot_data.specs.declared.report.TtyLines.{TtyLines}
+use Rattle.boot_data.specs.QueueLists.{raw_queue, line_queue, screen_queue}
 use Rattle.closing.specs.declared.all.Ended.{Ended}
 use Rattle.processor.specs.Running.{Line}
 use Rattle.processor.proofs.Fitted.{few_steps}

@@ -1,8 +1,8 @@
 -- What was closed when a boot was shut down shows the numbers of its closed tables.
 use Rattle.std.proofs.Common.{◌≡◌, ℕ, zero, suc, ◌+◌, ◌*◌, ◌≤◌, List, [], ◌∷◌, ◌++◌, length, map, take, refl, sym, ap, ◌∙◌, subst, arith, Some, slice_get, flat_map}
-use Rattle.boot_script.specs.declared.report.Report.{Report}
+use Rattle.boot_data.specs.declared.report.Report.{Report}
 use Rattle.std.proofs.lemmas.List.{length-map, length-drop, length-take-le, take-append-drop}
-use Rattle.boot_script.specs.declared.boot_plan.BootPlan.{BootPlan}
+use Rattle.boot_data.specs.declared.boot_plan.BootPlan.{BootPlan}
 use Rattle.claim_queue.specs.declared.close.Closed.{Closed as Shut}
 use Rattle.claim_queue.specs.declared.ends.ClaimQueue.{ClaimQueue}
 use Rattle.claim_queue.specs.declared.ends.QueueEnd.{QueueEnd}

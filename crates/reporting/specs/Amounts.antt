@@ -1,7 +1,7 @@
 -- The numbers of what was closed, each by its place, and 0 where there is none.
 use Rattle.std.specs.Prelude.{ℕ, List, length, Option, Some, None}
 use Rattle.std.specs.List.{slice_get}
-use Rattle.boot_script.specs.declared.report.ItemCounts.{ItemCounts}
+use Rattle.boot_data.specs.declared.report.ItemCounts.{ItemCounts}
 use Rattle.claim_queue.specs.declared.close.Closed.{Closed}
 use Rattle.closing.specs.declared.homing.Counts.{Counts}
 

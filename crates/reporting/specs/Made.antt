@@ -2,21 +2,21 @@
 use Rattle.std.specs.Prelude.{◌≡◌, ◌+◌, ◌-◌, ◌%◌, ◌^◌, ℕ, nat_lt, if◌then◌else◌, List, [], ◌∷◌, length, Option, Some, None}
 use Rattle.std.specs.Prelude.{slice_index_or, map}
 use Rattle.std.specs.List.{slice_get, sum_by}
-use Rattle.boot_script.specs.declared.plan.PlannedMover.{PlannedMover}
-use Rattle.boot_script.specs.declared.plan.PlannedQueue.{PlannedQueue}
-use Rattle.boot_script.specs.declared.plan.PlannedThread.{PlannedThread}
-use Rattle.boot_script.specs.declared.plan.PlannedTty.{PlannedTty}
-use Rattle.boot_script.specs.declared.report.AlarmCounts.{AlarmCounts}
-use Rattle.boot_script.specs.declared.report.GaugeLine.{GaugeLine}
-use Rattle.boot_script.specs.declared.report.HeardLine.{HeardLine}
-use Rattle.boot_script.specs.declared.report.MoverLine.{MoverLine}
-use Rattle.boot_script.specs.declared.report.QueueLine.{QueueLine}
-use Rattle.boot_script.specs.declared.report.Report.{Report}
-use Rattle.boot_script.specs.declared.report.ThreadLine.{ThreadLine}
-use Rattle.boot_script.specs.declared.report.ThreadState.{ThreadState}
-use Rattle.boot_script.specs.declared.report.ThreadState.TheVariants as states
-use Rattle.boot_script.specs.declared.report.TtyLines.{TtyLines}
-use Rattle.boot_script.specs.QueueLists.{raw_queue, line_queue, screen_queue}
+use Rattle.boot_data.specs.declared.plan.PlannedMover.{PlannedMover}
+use Rattle.boot_data.specs.declared.plan.PlannedQueue.{PlannedQueue}
+use Rattle.boot_data.specs.declared.plan.PlannedThread.{PlannedThread}
+use Rattle.boot_data.specs.declared.plan.PlannedTty.{PlannedTty}
+use Rattle.boot_data.specs.declared.report.AlarmCounts.{AlarmCounts}
+use Rattle.boot_data.specs.declared.report.GaugeLine.{GaugeLine}
+use Rattle.boot_data.specs.declared.report.HeardLine.{HeardLine}
+use Rattle.boot_data.specs.declared.report.MoverLine.{MoverLine}
+use Rattle.boot_data.specs.declared.report.QueueLine.{QueueLine}
+use Rattle.boot_data.specs.declared.report.Report.{Report}
+use Rattle.boot_data.specs.declared.report.ThreadLine.{ThreadLine}
+use Rattle.boot_data.specs.declared.report.ThreadState.{ThreadState}
+use Rattle.boot_data.specs.declared.report.ThreadState.TheVariants as states
+use Rattle.boot_data.specs.declared.report.TtyLines.{TtyLines}
+use Rattle.boot_data.specs.QueueLists.{raw_queue, line_queue, screen_queue}
 use Rattle.claim_queue.specs.declared.close.Closed.{Closed}
 use Rattle.closing.specs.declared.all.Ended.{Ended}
 use Rattle.closing.specs.declared.homing.Counts.{Counts}

@@ -1,7 +1,7 @@
 -- What a report of what was closed says, whatever the closed tables are.
 use Rattle.std.specs.Prelude.{List, map, IsPermutation}
 use Rattle.std.specs.Global.{Vec}
-use Rattle.boot_script.specs.declared.report.Report.{Report}
+use Rattle.boot_data.specs.declared.report.Report.{Report}
 use Rattle.closing.specs.declared.all.Ended.{Ended}
 use Rattle.processor.specs.declared.station.Heard.{Heard}
 use Rattle.processor.specs.Running.{Line, line_heard}

@@ -1,6 +1,6 @@
 -- Room for the lines of a report.
 use Rattle.std.specs.Prelude.{◌≡◌, ◌≤◌, [], length, vec_capacity}
-use Rattle.boot_script.specs.declared.boot_plan.BootPlan.{BootPlan}
+use Rattle.boot_data.specs.declared.boot_plan.BootPlan.{BootPlan}
 use Rattle.processor.specs.Programs.{hear_count}
 use Rattle.reporting.specs.declared.lines.Lines.{Lines}
 use Rattle.reporting.specs.declared.lines.Room.{Room}

@@ -2,7 +2,7 @@
 ghost use Rattle.std.specs.Prelude.{◌≡◌, slice_index_or};
 ghost use Rattle.reporting.specs.Amounts.{counts_at, numbers_at};
 
-use boot_script::{ItemCounts, Name, Text};
+use boot_data::{ItemCounts, Name, Text};
 use claim_queue::Closed;
 use closing::Counts;
 

@@ -6,8 +6,8 @@ ghost use Rattle.processor.specs.Running.{line_heard};
 ghost use Rattle.reporting.specs.Made.{heard_line};
 
 use crate::amounts::copy_of;
-use boot_script::plan::PlannedThread;
-use boot_script::{HeardItems, HeardLine, Name, Text};
+use boot_data::plan::PlannedThread;
+use boot_data::{HeardItems, HeardLine, Name, Text};
 use processor::Heard;
 
 // The name of the thread with this number; of a thread that the plan lacks, the empty one.

@@ -1,8 +1,8 @@
 //! What a boot knows at its end gives what a report of it needs besides the numbers.
 ghost use Rattle.std.specs.Prelude.{◌≡◌, ◌+◌, ◌<◌, ◌≤◌, ℕ, List, length, flat_map, Some};
 ghost use Rattle.std.specs.List.{AllZip, slice_get};
-ghost use Rattle.boot_script.specs.declared.boot_plan.BootPlan.{BootPlan};
-ghost use Rattle.boot_script.specs.declared.report.Report.{Report};
+ghost use Rattle.boot_data.specs.declared.boot_plan.BootPlan.{BootPlan};
+ghost use Rattle.boot_data.specs.declared.report.Report.{Report};
 ghost use Rattle.closing.specs.declared.all.Ended.{Ended};
 ghost use Rattle.processor.specs.declared.shared.Shared.{Shared};
 ghost use Rattle.processor.specs.declared.station.Parts.{Parts};

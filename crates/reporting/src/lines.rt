@@ -2,9 +2,9 @@
 ghost use Rattle.std.specs.Prelude.{IfOk};
 ghost use Rattle.reporting.specs.Rooms.{HasRoom, HasAllRoom};
 
-use boot_script::{BootPlan, GaugeLine, HeardLine, MoverLine, QueueLine, ThreadLine, TtyLines};
+use boot_data::{BootPlan, GaugeLine, HeardLine, MoverLine, QueueLine, ThreadLine, TtyLines};
+use event_theory::OutOfMemory;
 use processor::{Heard, hears_of};
-use quaject_core::OutOfMemory;
 use std::alloc::Global;
 
 /// Empty lists with room for the lines of a report.

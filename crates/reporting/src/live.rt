@@ -2,7 +2,7 @@
 ghost use Rattle.std.specs.Prelude.{◌≡◌};
 ghost use Rattle.reports.specs.Saying.{live_threads, is_live};
 
-use boot_script::{Report, ThreadLine, ThreadState};
+use boot_data::{Report, ThreadLine, ThreadState};
 
 // Whether the thread of this line is live.
 fn is_live_line(line: &ThreadLine) -> bool

@@ -16,10 +16,10 @@ use crate::queues::{gauge_lines, queue_lines};
 use crate::sorting::{gather, sort_heard};
 use crate::threads::thread_lines;
 use crate::ttys::{Typed, lines_of_ttys};
-use boot_script::{AlarmCounts, Report};
+use boot_data::{AlarmCounts, Report};
 use closing::Ended;
+use event_theory::Items;
 use processor::Heard;
-use quaject_core::Items;
 
 // How many alarms were set, fired and left.
 fn counts_of_alarms(set: usize, left: usize) -> AlarmCounts

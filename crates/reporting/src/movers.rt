@@ -5,8 +5,8 @@ ghost use Rattle.reports.specs.Lines.{kind_of_mover};
 ghost use Rattle.reporting.specs.Made.{numbered, mover_line, left_in};
 
 use crate::amounts::{copy_of, numbers_in};
-use boot_script::plan::{Mover, PlannedMover};
-use boot_script::{MoverKind, MoverLine};
+use boot_data::plan::{Mover, PlannedMover};
+use boot_data::{MoverKind, MoverLine};
 use closing::Counts;
 
 // The word of the script that declares it.

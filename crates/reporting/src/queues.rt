@@ -4,8 +4,8 @@ ghost use Rattle.reports.specs.Lines.{kind_of_queue};
 ghost use Rattle.reporting.specs.Made.{numbered, queue_line, gauge_line};
 
 use crate::amounts::{copy_of, counts_in, number_in};
-use boot_script::plan::{PipeWaits, PlannedQueue};
-use boot_script::{GaugeLine, Name, QueueKind, QueueLine};
+use boot_data::plan::{PipeWaits, PlannedQueue};
+use boot_data::{GaugeLine, Name, QueueKind, QueueLine};
 use claim_queue::Closed;
 
 // The word of the script that declares a queue with these wait queues.

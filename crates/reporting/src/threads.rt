@@ -3,10 +3,10 @@ ghost use Rattle.std.specs.Prelude.{◌≡◌, ◌≤◌, [], length, vec_capaci
 ghost use Rattle.reporting.specs.Made.{numbered, thread_line, told, state_at, few, shown_at};
 
 use crate::amounts::{copy_of, number_in};
-use boot_script::plan::PlannedThread;
-use boot_script::{ThreadLine, ThreadState};
+use boot_data::plan::PlannedThread;
+use boot_data::{ThreadLine, ThreadState};
 use closing::Ended;
-use quaject_core::WaitNumber;
+use event_theory::WaitNumber;
 use thread_table::Place;
 
 // The word for a place.

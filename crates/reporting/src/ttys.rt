@@ -3,8 +3,8 @@ ghost use Rattle.std.specs.Prelude.{◌≡◌, ◌≤◌, ◌+◌, ◌<◌, [], 
 ghost use Rattle.reporting.specs.Made.{numbered, tty_lines, typed_at};
 
 use crate::amounts::{copy_of, counts_in, numbers_in};
-use boot_script::TtyLines;
-use boot_script::plan::PlannedTty;
+use boot_data::TtyLines;
+use boot_data::plan::PlannedTty;
 use closing::Ended;
 
 /// What the device of a tty did: how many bytes it popped, and how many of them the raw queue refused.

@@ -6,11 +6,11 @@ use Rattle.std.specs.Result.{result_unwrap_or}
 use Rattle.std.proofs.lemmas.Bool.Decides.{eqb_tells}
 use mathlib.Core.Logic.{dite}
 use native.Mathlib.Decide.{ℕ_discrete}
-use Rattle.quaject_core.specs.Accounts.{moves, is_pending, pending_in, delivered, is_deliver, is_signal}
-use Rattle.quaject_core.specs.Elements.{Thread, new_thread}
-use Rattle.quaject_core.specs.States.{State, step}
-use Rattle.quaject_core.specs.declared.event.Event.{Event}
-use Rattle.quaject_core.specs.declared.event.Event.TheVariants as events
+use Rattle.event_theory.specs.Accounts.{moves, is_pending, pending_in, delivered, is_deliver, is_signal}
+use Rattle.event_theory.specs.Elements.{Thread, new_thread}
+use Rattle.event_theory.specs.States.{State, step}
+use Rattle.event_theory.specs.declared.event.Event.{Event}
+use Rattle.event_theory.specs.declared.event.Event.TheVariants as events
 use Rattle.thread_table.specs.declared.rule.Made.{Made}
 use Rattle.thread_table.specs.Schedules.{begun, elements_after, IsAllowed, thread_at}
 use Rattle.thread_table.specs.Makers.{is_join, made_in, numbered, signals_of, AreMade}

@@ -9,17 +9,17 @@ use Rattle.std.proofs.lemmas.List.FromFn.{length-range_with_len}
 use Rattle.std.proofs.lemmas.List.Folds.{list_any-append}
 use Rattle.std.proofs.lemmas.List.Sorted.{list_any-IsPermutation}
 use Rattle.std.proofs.lemmas.List.Sums.{length-filter}
-use Rattle.boot_script.specs.declared.boot_plan.BootPlan.{BootPlan}
-use Rattle.quaject_core.proofs.Keeping.Accounts.{account_law}
-use Rattle.quaject_core.specs.Accounts.{moves, done_in, done_of, is_done, IsAccounted}
-use Rattle.quaject_core.specs.Elements.{Thread, new_thread}
-use Rattle.quaject_core.specs.Queues.{Queue, left}
-use Rattle.quaject_core.specs.Runs.{Run, flat}
-use Rattle.quaject_core.specs.Schedules.{Reaches}
-use Rattle.quaject_core.specs.States.{State, step, first_state}
-use Rattle.quaject_core.specs.declared.event.Event.{Event}
-use Rattle.quaject_core.specs.declared.event.Event.TheVariants as events
-use Rattle.quaject_core.specs.declared.names.QueueName.TheVariants as names
+use Rattle.boot_data.specs.declared.boot_plan.BootPlan.{BootPlan}
+use Rattle.event_theory.proofs.Keeping.Accounts.{account_law}
+use Rattle.event_theory.specs.Accounts.{moves, done_in, done_of, is_done, IsAccounted}
+use Rattle.event_theory.specs.Elements.{Thread, new_thread}
+use Rattle.event_theory.specs.Queues.{Queue, left}
+use Rattle.event_theory.specs.Runs.{Run, flat}
+use Rattle.event_theory.specs.Schedules.{Reaches}
+use Rattle.event_theory.specs.States.{State, step, first_state}
+use Rattle.event_theory.specs.declared.event.Event.{Event}
+use Rattle.event_theory.specs.declared.event.Event.TheVariants as events
+use Rattle.event_theory.specs.declared.names.QueueName.TheVariants as names
 use Rattle.table_theory.specs.Filing.{entry_of}
 use Rattle.hand_steps.specs.Tallies.{retired_by}
 use Rattle.thread_table.specs.declared.rule.Made.{Made}

@@ -1,7 +1,7 @@
 -- The closed meters by the logs.
 use Rattle.std.proofs.Common.{◌≡◌, ℕ, zero, suc, ◌<◌, ◌%◌, List, [], ◌∷◌, ◌++◌, length, get_or, take, refl, sym, ap, ◌∙◌, subst, arith, append-nil, Some, slice_get, flat_map}
 use Rattle.std.specs.List.{AllZip}
-use Rattle.boot_script.specs.declared.boot_plan.BootPlan.{BootPlan}
+use Rattle.boot_data.specs.declared.boot_plan.BootPlan.{BootPlan}
 use Rattle.meters.specs.declared.rule.View.{View}
 use Rattle.meters.specs.Handles.{view_of}
 use Rattle.meters.specs.Views.{amount_on, times}

@@ -4,17 +4,17 @@ use Rattle.std.specs.Prelude.{slice_index_or}
 use Rattle.std.specs.List.{AllZip, AllByRecursion}
 use mathlib.Core.Logic.{dite}
 use native.Mathlib.Decide.{dec_lt}
-use Rattle.boot_script.specs.declared.boot_plan.BootPlan.{BootPlan}
-use Rattle.quaject_core.specs.Appearances.{is_on}
-use Rattle.quaject_core.specs.Elements.{Elements, hold}
-use Rattle.quaject_core.specs.declared.hold.Hold.{Hold}
+use Rattle.boot_data.specs.declared.boot_plan.BootPlan.{BootPlan}
+use Rattle.event_theory.specs.Appearances.{is_on}
+use Rattle.event_theory.specs.Elements.{Elements, hold}
+use Rattle.event_theory.specs.declared.hold.Hold.{Hold}
 use Rattle.hand_steps.specs.Holdings.{IsFree}
 use Rattle.hand_steps.specs.Tallies.{retired_by}
 use Rattle.hand_steps.specs.declared.counting.Counted.{Counted}
 use Rattle.hand_steps.specs.declared.counting.Counted.TheVariants as counted
 use Rattle.hand_steps.specs.Countings.{counted_step}
-use Rattle.boot_script.specs.declared.plan.Step.{Step}
-use Rattle.boot_script.specs.declared.plan.Step.TheVariants as steps
+use Rattle.boot_data.specs.declared.plan.Step.{Step}
+use Rattle.boot_data.specs.declared.plan.Step.TheVariants as steps
 use Rattle.thread_table.specs.declared.places.Place.{Place}
 use Rattle.thread_table.specs.declared.places.Place.TheVariants as places
 use Rattle.thread_table.specs.declared.rule.View.{View}

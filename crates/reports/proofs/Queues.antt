@@ -1,7 +1,7 @@
 -- A closed queue by the logs.
 use Rattle.std.proofs.Common.{◌≡◌, ◌≤◌, ℕ, List, ◌++◌, map, length, refl, sym, ap, ◌∙◌, subst, flat_map}
 use Rattle.std.specs.List.{AllZip}
-use Rattle.boot_script.specs.declared.boot_plan.BootPlan.{BootPlan}
+use Rattle.boot_data.specs.declared.boot_plan.BootPlan.{BootPlan}
 use Rattle.claim_queue.specs.declared.ends.QueueEnd.{QueueEnd}
 use Rattle.closing.specs.Gains.{end_runs, end_takings, runs_at, takings_at}
 use Rattle.claim_queue.specs.declared.rule.View.{View}

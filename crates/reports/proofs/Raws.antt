@@ -8,17 +8,17 @@ use Rattle.std.proofs.lemmas.List.{map-append}
 use mathlib.Core.Option.{some, some-injective, some-ne-none}
 use lib.ListN.{get_elem?}
 use Rattle.atomic_table.proofs.Lists.{at_map}
-use Rattle.boot_script.specs.declared.boot_plan.BootPlan.{BootPlan}
-use Rattle.boot_script.specs.declared.plan.Mover.{Mover}
-use Rattle.boot_script.specs.declared.plan.Mover.TheVariants as movers
-use Rattle.boot_script.specs.declared.plan.PlannedThread.{PlannedThread}
-use Rattle.boot_script.specs.declared.plan.QueueIndex.TheVariants.{Small, Large}
-use Rattle.boot_script.specs.declared.plan.Step.{Step}
-use Rattle.boot_script.specs.declared.plan.Step.TheVariants as steps
-use Rattle.boot_script.specs.declared.plan.Way.{Way as PlannedWay}
-use Rattle.boot_script.specs.BootPlans.{plan_of}
-use Rattle.boot_script.specs.Plans.{Plan, steps_at}
-use Rattle.boot_script.specs.PlanLimits.{IsPlan, IsProgramOf, IsStepOf, IsMoverOf, IsWayOf, many_of}
+use Rattle.boot_data.specs.declared.boot_plan.BootPlan.{BootPlan}
+use Rattle.boot_data.specs.declared.plan.Mover.{Mover}
+use Rattle.boot_data.specs.declared.plan.Mover.TheVariants as movers
+use Rattle.boot_data.specs.declared.plan.PlannedThread.{PlannedThread}
+use Rattle.boot_data.specs.declared.plan.QueueIndex.TheVariants.{Small, Large}
+use Rattle.boot_data.specs.declared.plan.Step.{Step}
+use Rattle.boot_data.specs.declared.plan.Step.TheVariants as steps
+use Rattle.boot_data.specs.declared.plan.Way.{Way as PlannedWay}
+use Rattle.boot_data.specs.BootPlans.{plan_of}
+use Rattle.boot_data.specs.Plans.{Plan, steps_at}
+use Rattle.boot_data.specs.PlanLimits.{IsPlan, IsProgramOf, IsStepOf, IsMoverOf, IsWayOf, many_of}
 use Rattle.claim_queue.specs.declared.ends.QueueEnd.{QueueEnd}
 use Rattle.claim_queue.specs.declared.rule.View.{View}
 use Rattle.claim_queue.specs.Handles.{view_of}

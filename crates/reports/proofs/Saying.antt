@@ -7,16 +7,16 @@ use Rattle.std.proofs.lemmas.Grind.{flat_map-append}
 use Rattle.std.proofs.lemmas.List.Sorted.{IsPermutation-refl, IsPermutation-trans, IsPermutation-append_comm, IsPermutation-append_left, IsPermutation-append_right}
 use mathlib.Core.Logic.{dite}
 use native.Mathlib.Decide.{dec_lt}
-use Rattle.boot_script.specs.declared.boot_plan.BootPlan.{BootPlan}
-use Rattle.boot_script.specs.declared.plan.PlannedThread.{PlannedThread}
-use Rattle.boot_script.specs.declared.plan.QueueIndex.TheVariants.{Small, Large}
-use Rattle.boot_script.specs.declared.plan.Step.{Step}
-use Rattle.boot_script.specs.declared.plan.Step.TheVariants as steps
-use Rattle.boot_script.specs.declared.report.Report.{Report}
-use Rattle.boot_script.specs.declared.report.ThreadLine.{ThreadLine}
-use Rattle.boot_script.specs.declared.report.ThreadState.{ThreadState}
-use Rattle.boot_script.specs.declared.report.ThreadState.TheVariants as states
-use Rattle.boot_script.specs.Plans.{steps_in, steps_at}
+use Rattle.boot_data.specs.declared.boot_plan.BootPlan.{BootPlan}
+use Rattle.boot_data.specs.declared.plan.PlannedThread.{PlannedThread}
+use Rattle.boot_data.specs.declared.plan.QueueIndex.TheVariants.{Small, Large}
+use Rattle.boot_data.specs.declared.plan.Step.{Step}
+use Rattle.boot_data.specs.declared.plan.Step.TheVariants as steps
+use Rattle.boot_data.specs.declared.report.Report.{Report}
+use Rattle.boot_data.specs.declared.report.ThreadLine.{ThreadLine}
+use Rattle.boot_data.specs.declared.report.ThreadState.{ThreadState}
+use Rattle.boot_data.specs.declared.report.ThreadState.TheVariants as states
+use Rattle.boot_data.specs.Plans.{steps_in, steps_at}
 use Rattle.thread_table.specs.declared.places.Place.{Place}
 use Rattle.thread_table.specs.declared.places.Place.TheVariants as places
 use Rattle.processor.specs.declared.deed.Deed.{Deed}

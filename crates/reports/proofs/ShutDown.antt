@@ -7,13 +7,13 @@ use Rattle.std.proofs.Math.Logic.{∥∥₁_elim}
 use Rattle.std.proofs.lemmas.List.{length-drop, take-append-drop}
 use Rattle.std.proofs.lemmas.List.Sums.{sum_by-cons}
 use Rattle.std.proofs.lemmas.Option.{slice_get_past}
-use Rattle.boot_script.specs.declared.boot_plan.BootPlan.{BootPlan}
-use Rattle.boot_script.specs.declared.plan.PlannedMover.{PlannedMover}
-use Rattle.boot_script.specs.declared.plan.PlannedTty.{PlannedTty}
-use Rattle.boot_script.specs.declared.report.Report.{Report}
-use Rattle.boot_script.specs.BootPlans.{plan_of}
-use Rattle.boot_script.specs.PlanLimits.{IsPlan}
-use Rattle.boot_script.specs.QueueLists.{raw_queue, line_queue, screen_queue}
+use Rattle.boot_data.specs.declared.boot_plan.BootPlan.{BootPlan}
+use Rattle.boot_data.specs.declared.plan.PlannedMover.{PlannedMover}
+use Rattle.boot_data.specs.declared.plan.PlannedTty.{PlannedTty}
+use Rattle.boot_data.specs.declared.report.Report.{Report}
+use Rattle.boot_data.specs.BootPlans.{plan_of}
+use Rattle.boot_data.specs.PlanLimits.{IsPlan}
+use Rattle.boot_data.specs.QueueLists.{raw_queue, line_queue, screen_queue}
 use Rattle.claim_queue.specs.declared.ends.QueueEnd.{QueueEnd}
 use Rattle.claim_queue.specs.Handles.{view_of}
 use Rattle.closing.specs.declared.all.Ended.{Ended}
@@ -39,7 +39,7 @@ use Rattle.processor.specs.declared.station.Parts.{Parts}
 use Rattle.processor.specs.Logs.{Entry}
 use Rattle.processor.specs.Running.{Line}
 use Rattle.processor.specs.Turns.{heard_lines}
-use Rattle.quaject_core.proofs.Stored.Layout.{slice_get-drop}
+use Rattle.event_theory.proofs.Lists.Histories.{slice_get-drop}
 use Rattle.quajects.specs.declared.any.AnyQuaject.{AnyQuaject}
 use Rattle.quajects.specs.declared.home.Home.{Home}
 use Rattle.quajects.specs.declared.raw.RawTty.{RawTty}

@@ -3,13 +3,13 @@ use Rattle.std.proofs.Common.{◌≡◌, ◌⊎◌, inl, inr, ⊎_elim, ℕ, zer
 use Rattle.std.specs.Prelude.{if◌then◌else◌, ◌&&◌, ◌||◌, nat_lt, Result}
 use Rattle.std.specs.Result.{result_unwrap_or}
 use Rattle.std.proofs.lemmas.Bool.Decides.{leb_tells}
-use Rattle.quaject_core.proofs.Keeping.Accounts.{account_law}
-use Rattle.quaject_core.specs.Accounts.{moves, is_pending, pending_in, made_pending, delivered, is_signal, IsAccounted}
-use Rattle.quaject_core.specs.Elements.{Thread, Elements, new_thread}
-use Rattle.quaject_core.specs.Schedules.{Reaches}
-use Rattle.quaject_core.specs.States.{State, step, first_state}
-use Rattle.quaject_core.specs.declared.event.Event.{Event}
-use Rattle.quaject_core.specs.declared.event.Event.TheVariants as events
+use Rattle.event_theory.proofs.Keeping.Accounts.{account_law}
+use Rattle.event_theory.specs.Accounts.{moves, is_pending, pending_in, made_pending, delivered, is_signal, IsAccounted}
+use Rattle.event_theory.specs.Elements.{Thread, Elements, new_thread}
+use Rattle.event_theory.specs.Schedules.{Reaches}
+use Rattle.event_theory.specs.States.{State, step, first_state}
+use Rattle.event_theory.specs.declared.event.Event.{Event}
+use Rattle.event_theory.specs.declared.event.Event.TheVariants as events
 use Rattle.thread_table.specs.declared.rule.Made.{Made}
 use Rattle.thread_table.specs.Schedules.{begun, state_after, elements_after, IsAllowed, thread_at}
 use Rattle.thread_table.specs.Makers.{is_join, made_in, numbered, AreMade}

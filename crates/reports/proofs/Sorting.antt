@@ -4,8 +4,8 @@ use Rattle.std.specs.Prelude.{if◌then◌else◌, ◌&&◌, nat_lt}
 use Rattle.std.specs.List.{AllZip}
 use mathlib.Core.Logic.{dite}
 use native.Mathlib.Decide.{dec_lt}
-use Rattle.boot_script.specs.declared.boot_plan.BootPlan.{BootPlan}
-use Rattle.boot_script.specs.declared.plan.Step.{Step}
+use Rattle.boot_data.specs.declared.boot_plan.BootPlan.{BootPlan}
+use Rattle.boot_data.specs.declared.plan.Step.{Step}
 use Rattle.thread_table.specs.Handles.{view_of}
 use Rattle.thread_table.specs.Rules.{done_at}
 use Rattle.processor.specs.declared.deed.Deed.{Deed}

@@ -4,12 +4,12 @@ use Rattle.std.specs.Prelude.{if◌then◌else◌, ◌==◌, ◌&&◌, nat_lt}
 use Rattle.std.specs.List.{filter, range_with_len}
 use Rattle.std.specs.Result.{result_unwrap_or}
 use Rattle.std.proofs.lemmas.Bool.Decides.{eqb_tells, leb_tells}
-use Rattle.quaject_core.proofs.Keeping.Accounts.{account_law}
-use Rattle.quaject_core.specs.Accounts.{moves, done_in, done_of, is_done, done_numbers, IsAccounted}
-use Rattle.quaject_core.specs.Elements.{Thread, Elements, new_thread}
-use Rattle.quaject_core.specs.States.{State, step, first_state}
-use Rattle.quaject_core.specs.declared.event.Event.{Event}
-use Rattle.quaject_core.specs.declared.event.Event.TheVariants as events
+use Rattle.event_theory.proofs.Keeping.Accounts.{account_law}
+use Rattle.event_theory.specs.Accounts.{moves, done_in, done_of, is_done, done_numbers, IsAccounted}
+use Rattle.event_theory.specs.Elements.{Thread, Elements, new_thread}
+use Rattle.event_theory.specs.States.{State, step, first_state}
+use Rattle.event_theory.specs.declared.event.Event.{Event}
+use Rattle.event_theory.specs.declared.event.Event.TheVariants as events
 use Rattle.table_theory.specs.Filing.{entry_of}
 use Rattle.hand_steps.specs.Tallies.{step_by, done_by}
 use Rattle.thread_table.specs.declared.rule.Made.{Made}

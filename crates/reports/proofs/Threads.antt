@@ -8,8 +8,8 @@ use Rattle.std.proofs.lemmas.Grind.{flat_map-append}
 use Rattle.thread_table.proofs.Copies.{get_or-copies}
 use mathlib.Core.Logic.{dite}
 use native.Mathlib.Decide.{dec_lt}
-use Rattle.boot_script.specs.declared.boot_plan.BootPlan.{BootPlan}
-use Rattle.boot_script.specs.declared.plan.Step.{Step}
+use Rattle.boot_data.specs.declared.boot_plan.BootPlan.{BootPlan}
+use Rattle.boot_data.specs.declared.plan.Step.{Step}
 use Rattle.hand_steps.specs.Tallies.{is_delivered, delivered_by}
 use Rattle.thread_table.specs.Answers.{is_in}
 use Rattle.thread_table.specs.Handles.{view_of}

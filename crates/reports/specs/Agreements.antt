@@ -2,18 +2,18 @@
 use Rattle.std.specs.Prelude.{◌≡◌, ◌≤◌, ◌<◌, ◌+◌, ◌%◌, ◌==◌, ◌||◌, ℕ, nat_lt, if◌then◌else◌, List, [], ◌∷◌, ◌++◌}
 use Rattle.std.specs.Prelude.{length, map, take, flat_map, Option, Some, None, count_by}
 use Rattle.std.specs.List.{slice_get, list_any, concat, AllByRecursion}
-use Rattle.boot_script.specs.declared.boot_plan.BootPlan.{BootPlan}
-use Rattle.boot_script.specs.declared.plan.Mover.{Mover}
-use Rattle.boot_script.specs.declared.plan.Mover.TheVariants as movers
-use Rattle.boot_script.specs.declared.plan.PlannedTty.{PlannedTty}
-use Rattle.boot_script.specs.declared.plan.Way.{Way as PlannedWay}
-use Rattle.boot_script.specs.QueueLists.{raw_queue, line_queue, screen_queue}
+use Rattle.boot_data.specs.declared.boot_plan.BootPlan.{BootPlan}
+use Rattle.boot_data.specs.declared.plan.Mover.{Mover}
+use Rattle.boot_data.specs.declared.plan.Mover.TheVariants as movers
+use Rattle.boot_data.specs.declared.plan.PlannedTty.{PlannedTty}
+use Rattle.boot_data.specs.declared.plan.Way.{Way as PlannedWay}
+use Rattle.boot_data.specs.QueueLists.{raw_queue, line_queue, screen_queue}
 use Rattle.claim_queue.specs.Handles.{view_of}
 use Rattle.claim_queue.specs.Lines.{lines_put}
 use Rattle.hand_steps.specs.Tallies.{is_delivered}
 use Rattle.meters.specs.Views.{amount_on, times}
 use Rattle.objects.specs.DeviceEndings.{AreWithout}
-use Rattle.quaject_core.specs.declared.alarm.Alarm.{Alarm}
+use Rattle.event_theory.specs.declared.alarm.Alarm.{Alarm}
 use Rattle.quajects.specs.declared.any.AnyQuaject.{AnyQuaject}
 use Rattle.quajects.specs.declared.any.AnyQuaject.TheVariants as any
 use Rattle.quajects.specs.declared.ports.Port.{Port}

@@ -1,10 +1,10 @@
 -- All that a boot knows at its end.
 use Rattle.std.specs.Prelude.{◌≡◌, ◌<◌, ℕ, List, ◌++◌, map, length, flat_map, Some, IsPermutation}
 use Rattle.std.specs.List.{slice_get, AllZip}
-use Rattle.boot_script.specs.declared.boot_plan.BootPlan.{BootPlan}
-use Rattle.boot_script.specs.declared.plan.PlannedMover.{PlannedMover}
-use Rattle.boot_script.specs.declared.plan.PlannedTty.{PlannedTty}
-use Rattle.boot_script.specs.declared.report.Report.{Report}
+use Rattle.boot_data.specs.declared.boot_plan.BootPlan.{BootPlan}
+use Rattle.boot_data.specs.declared.plan.PlannedMover.{PlannedMover}
+use Rattle.boot_data.specs.declared.plan.PlannedTty.{PlannedTty}
+use Rattle.boot_data.specs.declared.report.Report.{Report}
 use Rattle.claim_queue.specs.declared.ends.QueueEnd.{QueueEnd}
 use Rattle.proc_chain.specs.declared.rule.View.{View as ChainView}
 use Rattle.quajects.specs.declared.home.Home.{Home}

@@ -1,6 +1,6 @@
 -- What the closing of a boot's tables showed, as plain data.
 use Rattle.std.specs.Prelude.{ℕ, List}
-use Rattle.quaject_core.specs.declared.alarm.Alarm.{Alarm}
+use Rattle.event_theory.specs.declared.alarm.Alarm.{Alarm}
 use Rattle.thread_table.specs.declared.places.Place.{Place}
 use Rattle.quajects.specs.declared.any.AnyQuaject.{AnyQuaject}
 pub use Rattle.objects.specs.DeviceEndings.{Device}

@@ -1,7 +1,7 @@
 -- What the entries of the processors' logs come to, in the words of a report.
 use Rattle.std.specs.Prelude.{◌==◌, ℕ, Bool, false, List, []}
-use Rattle.boot_script.specs.declared.plan.Step.TheVariants as steps
-use Rattle.quaject_core.specs.declared.alarm.Alarm.{Alarm}
+use Rattle.boot_data.specs.declared.plan.Step.TheVariants as steps
+use Rattle.event_theory.specs.declared.alarm.Alarm.{Alarm}
 use Rattle.processor.specs.declared.deed.Deed.TheVariants as deeds
 use Rattle.processor.specs.Logs.{Entry, Tried}
 use Rattle.processor.specs.Programs.{Key, same_key}

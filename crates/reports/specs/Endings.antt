@@ -3,10 +3,10 @@ use Rattle.std.specs.Prelude.{◌≡◌, ◌<◌, ◌≤◌, ◌+◌, ◌^◌, �
 use Rattle.std.specs.Prelude.{length, flat_map}
 use Rattle.std.specs.Prelude.{Option, Some, None, slice_index_or}
 use Rattle.std.specs.List.{slice_get, sum_by}
-use Rattle.boot_script.specs.declared.boot_plan.BootPlan.{BootPlan}
-use Rattle.boot_script.specs.declared.plan.PlannedMover.{PlannedMover}
-use Rattle.boot_script.specs.declared.plan.PlannedTty.{PlannedTty}
-use Rattle.boot_script.specs.QueueLists.{raw_queue, line_queue, screen_queue}
+use Rattle.boot_data.specs.declared.boot_plan.BootPlan.{BootPlan}
+use Rattle.boot_data.specs.declared.plan.PlannedMover.{PlannedMover}
+use Rattle.boot_data.specs.declared.plan.PlannedTty.{PlannedTty}
+use Rattle.boot_data.specs.QueueLists.{raw_queue, line_queue, screen_queue}
 use Rattle.claim_queue.specs.declared.ends.QueueEnd.{QueueEnd}
 use Rattle.claim_queue.specs.Handles as queues
 use Rattle.claim_queue.specs.Lines.{lines_put, lines_taken}

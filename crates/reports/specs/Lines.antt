@@ -1,30 +1,30 @@
 -- What the lines of a report say of the plan and of the closed tables.
 use Rattle.std.specs.Prelude.{◌≡◌, ◌+◌, ◌*◌, ℕ, List, [], length, take, drop, Option, Some, None}
 use Rattle.std.specs.List.{slice_get, sum_by}
-use Rattle.boot_script.specs.declared.boot_plan.BootPlan.{BootPlan}
-use Rattle.boot_script.specs.declared.plan.Mover.{Mover}
-use Rattle.boot_script.specs.declared.plan.Mover.TheVariants as movers
-use Rattle.boot_script.specs.declared.plan.PipeWaits.{PipeWaits}
-use Rattle.boot_script.specs.declared.plan.PlannedMover.{PlannedMover}
-use Rattle.boot_script.specs.declared.plan.PlannedQueue.{PlannedQueue}
-use Rattle.boot_script.specs.declared.plan.PlannedThread.{PlannedThread}
-use Rattle.boot_script.specs.declared.plan.PlannedTty.{PlannedTty}
-use Rattle.boot_script.specs.declared.report.AlarmCounts.{AlarmCounts}
-use Rattle.boot_script.specs.declared.report.GaugeLine.{GaugeLine}
-use Rattle.boot_script.specs.declared.report.HeardLine.{HeardLine}
-use Rattle.boot_script.specs.declared.report.ItemCounts.{ItemCounts}
-use Rattle.boot_script.specs.declared.report.MoverKind.{MoverKind}
-use Rattle.boot_script.specs.declared.report.MoverKind.TheVariants.{Pump, Switch}
-use Rattle.boot_script.specs.declared.report.MoverLine.{MoverLine}
-use Rattle.boot_script.specs.declared.report.QueueKind.{QueueKind}
-use Rattle.boot_script.specs.declared.report.QueueKind.TheVariants.{Queue, Pipe}
-use Rattle.boot_script.specs.declared.report.QueueLine.{QueueLine}
-use Rattle.boot_script.specs.declared.report.Report.{Report}
-use Rattle.boot_script.specs.declared.report.ThreadLine.{ThreadLine}
-use Rattle.boot_script.specs.declared.report.ThreadState.{ThreadState}
-use Rattle.boot_script.specs.declared.report.ThreadState.TheVariants as states
-use Rattle.boot_script.specs.declared.report.TtyLines.{TtyLines}
-use Rattle.boot_script.specs.QueueLists.{raw_queue, line_queue, screen_queue}
+use Rattle.boot_data.specs.declared.boot_plan.BootPlan.{BootPlan}
+use Rattle.boot_data.specs.declared.plan.Mover.{Mover}
+use Rattle.boot_data.specs.declared.plan.Mover.TheVariants as movers
+use Rattle.boot_data.specs.declared.plan.PipeWaits.{PipeWaits}
+use Rattle.boot_data.specs.declared.plan.PlannedMover.{PlannedMover}
+use Rattle.boot_data.specs.declared.plan.PlannedQueue.{PlannedQueue}
+use Rattle.boot_data.specs.declared.plan.PlannedThread.{PlannedThread}
+use Rattle.boot_data.specs.declared.plan.PlannedTty.{PlannedTty}
+use Rattle.boot_data.specs.declared.report.AlarmCounts.{AlarmCounts}
+use Rattle.boot_data.specs.declared.report.GaugeLine.{GaugeLine}
+use Rattle.boot_data.specs.declared.report.HeardLine.{HeardLine}
+use Rattle.boot_data.specs.declared.report.ItemCounts.{ItemCounts}
+use Rattle.boot_data.specs.declared.report.MoverKind.{MoverKind}
+use Rattle.boot_data.specs.declared.report.MoverKind.TheVariants.{Pump, Switch}
+use Rattle.boot_data.specs.declared.report.MoverLine.{MoverLine}
+use Rattle.boot_data.specs.declared.report.QueueKind.{QueueKind}
+use Rattle.boot_data.specs.declared.report.QueueKind.TheVariants.{Queue, Pipe}
+use Rattle.boot_data.specs.declared.report.QueueLine.{QueueLine}
+use Rattle.boot_data.specs.declared.report.Report.{Report}
+use Rattle.boot_data.specs.declared.report.ThreadLine.{ThreadLine}
+use Rattle.boot_data.specs.declared.report.ThreadState.{ThreadState}
+use Rattle.boot_data.specs.declared.report.ThreadState.TheVariants as states
+use Rattle.boot_data.specs.declared.report.TtyLines.{TtyLines}
+use Rattle.boot_data.specs.QueueLists.{raw_queue, line_queue, screen_queue}
 use Rattle.quajects.specs.Anys.{notes_of, all_taken, all_puts, held_of}
 use Rattle.quajects.specs.Lines.{counted}
 use Rattle.thread_table.specs.declared.places.Place.{Place}

@@ -2,11 +2,11 @@
 use Rattle.std.specs.Prelude.{◌≡◌, ◌⊎◌, ◌<◌, ◌≤◌, ℕ, List, [], flat_map, Some}
 use Rattle.std.specs.Prelude.{IsPermutation, length, ◌++◌}
 use Rattle.std.specs.List.{slice_get, AllByRecursion}
-use Rattle.boot_script.specs.declared.boot_plan.BootPlan.{BootPlan}
-use Rattle.boot_script.specs.declared.plan.PlannedMover.{PlannedMover}
-use Rattle.boot_script.specs.declared.plan.PlannedTty.{PlannedTty}
-use Rattle.boot_script.specs.declared.report.Report.{Report}
-use Rattle.boot_script.specs.QueueLists.{raw_queue}
+use Rattle.boot_data.specs.declared.boot_plan.BootPlan.{BootPlan}
+use Rattle.boot_data.specs.declared.plan.PlannedMover.{PlannedMover}
+use Rattle.boot_data.specs.declared.plan.PlannedTty.{PlannedTty}
+use Rattle.boot_data.specs.declared.report.Report.{Report}
+use Rattle.boot_data.specs.QueueLists.{raw_queue}
 use Rattle.processor.specs.Logs.{Entry, IsPlanned, heard_by}
 use Rattle.processor.specs.Running.{Line}
 use Rattle.reports.specs.Agreements.{ThreadAgrees, SmallAgrees, LargeAgrees, IsTakenByQuajects, TtyAgrees, MoverAgrees}

@@ -1,14 +1,14 @@
 -- The lines that a plan says, and those that the logs say of it.
 use Rattle.std.specs.Prelude.{◌≡◌, ℕ, Bool, true, false, not, List, [], ◌∷◌, flat_map, count_by, Some, IsPermutation}
 use Rattle.std.specs.List.{AllByRecursion}
-use Rattle.boot_script.specs.declared.boot_plan.BootPlan.{BootPlan}
-use Rattle.boot_script.specs.declared.plan.PlannedThread.{PlannedThread}
-use Rattle.boot_script.specs.declared.plan.Step.{Step}
-use Rattle.boot_script.specs.declared.plan.Step.TheVariants as steps
-use Rattle.boot_script.specs.declared.report.Report.{Report}
-use Rattle.boot_script.specs.declared.report.ThreadLine.{ThreadLine}
-use Rattle.boot_script.specs.declared.report.ThreadState.{ThreadState}
-use Rattle.boot_script.specs.declared.report.ThreadState.TheVariants as states
+use Rattle.boot_data.specs.declared.boot_plan.BootPlan.{BootPlan}
+use Rattle.boot_data.specs.declared.plan.PlannedThread.{PlannedThread}
+use Rattle.boot_data.specs.declared.plan.Step.{Step}
+use Rattle.boot_data.specs.declared.plan.Step.TheVariants as steps
+use Rattle.boot_data.specs.declared.report.Report.{Report}
+use Rattle.boot_data.specs.declared.report.ThreadLine.{ThreadLine}
+use Rattle.boot_data.specs.declared.report.ThreadState.{ThreadState}
+use Rattle.boot_data.specs.declared.report.ThreadState.TheVariants as states
 use Rattle.processor.specs.Logs.{Entry, small_put, large_put, small_was_shut, large_was_shut, times_shut}
 use Rattle.processor.specs.Programs.{step_of}
 use Rattle.processor.specs.Queues.{said_line, small_at, large_at}

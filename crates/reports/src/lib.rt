@@ -5,9 +5,9 @@
 
 ghost use Rattle.std.specs.Prelude.{◌≡◌, ◌<◌, ℕ, List, length, flat_map, Some, IsPermutation};
 ghost use Rattle.std.specs.List.{AllZip, slice_get};
-ghost use Rattle.boot_script.specs.declared.boot_plan.BootPlan.{BootPlan};
-ghost use Rattle.boot_script.specs.declared.plan.PlannedMover.{PlannedMover};
-ghost use Rattle.boot_script.specs.declared.report.Report.{Report};
+ghost use Rattle.boot_data.specs.declared.boot_plan.BootPlan.{BootPlan};
+ghost use Rattle.boot_data.specs.declared.plan.PlannedMover.{PlannedMover};
+ghost use Rattle.boot_data.specs.declared.report.Report.{Report};
 ghost use Rattle.claim_queue.specs.declared.ends.QueueEnd.{QueueEnd};
 ghost use Rattle.closing.specs.declared.all.Ended.{Ended};
 ghost use Rattle.closing.specs.Wholes.{HasWholes};

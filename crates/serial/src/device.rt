@@ -7,8 +7,8 @@ ghost use Rattle.serial.specs.Sent.{HasSent, IsIdle, Sends};
 ghost use Rattle.serial.specs.Texts.{text_of, collected};
 
 use crate::collector::{Collector, Page, SECOND_PORT};
+use event_theory::OutOfMemory;
 use proc_chain::{ChainClosed, ChainEnd, Chained, ProcChain};
-use quaject_core::OutOfMemory;
 use std::alloc::Global;
 use std::sync::Wait;
 use std::thread;

@@ -10,7 +10,7 @@ ghost use Rattle.spooler.specs.Spooled.{IsSpooled};
 use crate::line::Line;
 use arrayvec::ArrayVec;
 use claim_queue::{ClaimQueue, QueueEnd, TakeRefusal};
-use quaject_core::OutOfMemory;
+use event_theory::OutOfMemory;
 use std::alloc::Global;
 use std::sync::Wait;
 use std::thread;

@@ -10,10 +10,10 @@ ghost use Rattle.spsc_line.specs.Lines.{SameIn, SameOut};
 
 use arrayvec::ArrayVec;
 use claim_queue::{ClaimQueue, QueueEnd, TakeRefusal};
+use event_theory::{Alarm, Element, Signal};
 use kernel_threads::*;
 use meters::Meters;
 use proc_chain::{ChainEnd, ProcChain};
-use quaject_core::{Alarm, Element, Signal};
 use quajects::{AnyQuaject, CookedTty, Queues, RawTty, retire};
 use spsc_line::{LineIn, LineOut, finish, line};
 use std::alloc::Global;

@@ -2,8 +2,8 @@
 
 use crate::fixtures::scripts::plan_if_given;
 use arrayvec::ArrayVec;
+use event_theory::OutOfMemory;
 use processor::Heard;
-use quaject_core::OutOfMemory;
 use reporting::*;
 use std::alloc::Global;
 use std::panic::Expect;

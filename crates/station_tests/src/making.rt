@@ -1,9 +1,9 @@
 //! The objects of a script.
 
 use crate::fixtures::scripts::{plan_if_given, plan_of};
+use event_theory::OutOfMemory;
 use first_station::{Objects, make_objects};
 use processor::Shared;
-use quaject_core::OutOfMemory;
 use std::alloc::Global;
 use std::process::Abort;
 use std::test::*;

@@ -18,12 +18,12 @@ mod refusals;
 mod stands;
 
 use crate::fixtures::scripts::plan_of;
-use boot_script::BootPlan;
+use boot_data::BootPlan;
 use claim_queue::{ClaimQueue, QueueEnd};
 use end_steps::NoGate;
+use event_theory::{OutOfMemory, Processor};
 use meters::{MeterSeat, Metered, Meters};
 use processor::*;
-use quaject_core::{OutOfMemory, Processor};
 use quajects::Queues;
 use stands::{must_be_free, stand};
 use std::alloc::Global;

@@ -1,7 +1,7 @@
 -- Answers of a boot, from those of its parts.
 use Rattle.std.proofs.Common.{◌≡◌, ℕ, List, length, Option, Some, None, Result, Ok, Err, IfOk, IfSome}
-use Rattle.boot_script.specs.declared.boot_plan.BootPlan.{BootPlan}
-use Rattle.boot_script.specs.BootPlans.{plan_of}
+use Rattle.boot_data.specs.declared.boot_plan.BootPlan.{BootPlan}
+use Rattle.boot_data.specs.BootPlans.{plan_of}
 use Rattle.boot_script.specs.Plans.{text_plan}
 use Rattle.end_steps.specs.declared.gate.NoGate.{NoGate}
 use Rattle.end_steps.specs.declared.gate.Point.{Point}

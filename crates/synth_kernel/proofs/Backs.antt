@@ -2,7 +2,7 @@
 use Rattle.std.proofs.Common.{◌≡◌, ◌≤◌, ℕ, zero, suc, ◌+◌, true, List, [], ◌∷◌, ◌++◌, map, take, length, Option, Some, None, slice_get, append-nil, refl, sym, ap, subst, ◌∙◌, arith}
 use Rattle.std.proofs.lemmas.List.{length-map}
 use Rattle.std.specs.List.{AllZip}
-use Rattle.boot_script.specs.declared.plan.PlannedTty.{PlannedTty}
+use Rattle.boot_data.specs.declared.plan.PlannedTty.{PlannedTty}
 use Rattle.end_steps.specs.declared.gate.Point.{Point}
 use Rattle.end_steps.specs.Splits.{AllThree}
 use Rattle.objects.specs.declared.device.Device.{Device}

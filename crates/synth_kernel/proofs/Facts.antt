@@ -2,8 +2,8 @@
 use Rattle.std.proofs.Common.{◌≡◌, ℕ, zero, suc, ◌+◌, ◌<◌, ◌%◌, List, [], ◌∷◌, map, drop, length, Option, Some, slice_get, refl, sym, ap, subst, ◌∙◌, arith}
 use Rattle.std.proofs.lemmas.List.{length-map}
 use Rattle.std.specs.List.{AllZip}
-use Rattle.boot_script.specs.declared.plan.PlannedTty.{PlannedTty}
-use Rattle.boot_script.specs.QueueLists.{raw_queue}
+use Rattle.boot_data.specs.declared.plan.PlannedTty.{PlannedTty}
+use Rattle.boot_data.specs.QueueLists.{raw_queue}
 use Rattle.closing.specs.RawEnds.{AreRawsOf}
 use Rattle.end_steps.specs.declared.gate.Point.{Point}
 use Rattle.end_steps.specs.EndLists.{end_share, chain_end_share}

@@ -2,8 +2,8 @@
 use Rattle.std.proofs.Common.{◌≡◌, ◌≤◌, ℕ, zero, suc, ◌+◌, true, List, [], ◌∷◌, map, drop, length, Option, Some, flat_map, refl, sym, ap, subst, ◌∙◌, arith}
 use Rattle.std.proofs.lemmas.List.{length-map}
 use Rattle.std.specs.List.{All, AllZip}
-use Rattle.boot_script.specs.declared.boot_plan.BootPlan.{BootPlan}
-use Rattle.boot_script.specs.declared.report.Report.{Report}
+use Rattle.boot_data.specs.declared.boot_plan.BootPlan.{BootPlan}
+use Rattle.boot_data.specs.declared.report.Report.{Report}
 use Rattle.closing.specs.declared.all.Ended.{Ended}
 use Rattle.closing.specs.Endings.{AllClosed}
 use Rattle.closing.specs.RawEnds.{AreRawsOf, TookRaws}

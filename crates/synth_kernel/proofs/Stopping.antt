@@ -1,7 +1,7 @@
 -- What a boot knows of all that it has when its threads have stopped.
 use Rattle.std.proofs.Common.{◌≤◌, ℕ, List, length, flat_map, sym, subst}
-use Rattle.boot_script.specs.declared.boot_plan.BootPlan.{BootPlan}
-use Rattle.boot_script.specs.declared.report.Report.{Report}
+use Rattle.boot_data.specs.declared.boot_plan.BootPlan.{BootPlan}
+use Rattle.boot_data.specs.declared.report.Report.{Report}
 use Rattle.closing.specs.declared.all.Ended.{Ended}
 use Rattle.closing.specs.Endings.{AllClosed}
 use Rattle.closing.specs.RawEnds.{AreRawsOf, TookRaws}

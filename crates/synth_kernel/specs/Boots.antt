@@ -1,11 +1,11 @@
 -- What a boot answers and prints.
 use Rattle.std.specs.Prelude.{◌≡◌, ◌+◌, ℕ, zero, suc, List, [], ◌∷◌, length, Option, Result, Ok, Err, IsOk}
 use Rattle.std.specs.Io.KnownBytes.{Appends}
-use Rattle.boot_script.specs.declared.boot_plan.BootPlan.{BootPlan}
+use Rattle.boot_data.specs.declared.boot_plan.BootPlan.{BootPlan}
 use Rattle.boot_script.specs.declared.fault.ScriptFault.{ScriptFault}
-use Rattle.boot_script.specs.declared.report.Report.{Report}
-use Rattle.boot_script.specs.BootPlans.{plan_of}
-use Rattle.boot_script.specs.Plans.{Plan}
+use Rattle.boot_data.specs.declared.report.Report.{Report}
+use Rattle.boot_data.specs.BootPlans.{plan_of}
+use Rattle.boot_data.specs.Plans.{Plan}
 use Rattle.boot_script.specs.Reports.{report_text}
 use Rattle.end_steps.specs.declared.gate.NoGate.{NoGate}
 use Rattle.end_steps.specs.declared.gate.Point.{Point}

@@ -1,7 +1,7 @@
 -- What a boot has before its threads start.
 use Rattle.std.specs.Prelude.{◌≡◌, ◌+◌, ◌<◌, ◌≤◌, ℕ, List, [], map, length, vec_capacity}
 use Rattle.std.specs.List.{All}
-use Rattle.boot_script.specs.declared.boot_plan.BootPlan.{BootPlan}
+use Rattle.boot_data.specs.declared.boot_plan.BootPlan.{BootPlan}
 use Rattle.closing.specs.Rooms as closing
 use Rattle.hand_steps.specs.Holdings.{IsFree}
 use Rattle.objects.specs.declared.device.Device.{Device}

@@ -2,16 +2,17 @@
 ghost use Rattle.std.specs.Prelude.{◌≡◌, ◌≢◌, ◌≤◌, ℕ, vec_len, IfOk, IfErr, IfSome, OnOk};
 ghost use Rattle.std.specs.Io.KnownBytes.{Appends, Keeps};
 ghost use Rattle.boot_script.specs.Answers.{Says};
-ghost use Rattle.boot_script.specs.BootPlans.{plan_of};
+ghost use Rattle.boot_data.specs.BootPlans.{plan_of};
 ghost use Rattle.boot_script.specs.Plans.{text_plan};
 ghost use Rattle.kernel_threads.specs.Works.{AllToldTurns};
 ghost use Rattle.synth_kernel.specs.Boots.{IsBoot, IsBootFault, IsBootAnswer, IsPlainBoot, IsPlainAnswer, IsRun, IsRead, IsLate};
 
 use crate::booting::boot_plan;
 use crate::outcome::{BootFault, Ended};
-use boot_script::{BootPlan, ScriptRefusal, parse_boot, print_report, read_script};
+use boot_data::BootPlan;
+use boot_script::{ScriptRefusal, parse_boot, print_report, read_script};
 use end_steps::{Gate, NoGate};
-use quaject_core::OutOfMemory;
+use event_theory::OutOfMemory;
 use reporting::live_of;
 use std::alloc::Global;
 use std::io::{Read, Write};

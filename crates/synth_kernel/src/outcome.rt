@@ -4,7 +4,7 @@ ghost use Rattle.std.specs.Prelude.{◌≡◌, Some};
 ghost use Rattle.synth_kernel.specs.declared.outcome.BootFault.TheVariants as faults;
 
 use boot_script::{ReadFault, ScriptFault};
-use quaject_core::OutOfMemory;
+use event_theory::OutOfMemory;
 use std::error::Error as StdError;
 use std::fmt;
 

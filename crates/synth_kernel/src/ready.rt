@@ -4,13 +4,13 @@ ghost use Rattle.reporting.specs.Rooms.{HasAllRoom};
 ghost use Rattle.synth_kernel.specs.Readies.{HasPlaces, IsReady};
 
 use crate::gathering::Served;
-use boot_script::BootPlan;
+use boot_data::BootPlan;
 use closing::Answers;
 use end_steps::Gate;
+use event_theory::OutOfMemory;
 use first_station::{Objects, make_objects};
 use kernel_threads::{Work, Worked, add_devices, post_all, prepare_station};
 use processor::{Heard, Shared, Station};
-use quaject_core::OutOfMemory;
 use quajects::RawTty;
 use reporting::{Room as ReportRoom, Typed};
 use spsc_line::LineIn;

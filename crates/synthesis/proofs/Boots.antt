@@ -1,7 +1,8 @@
 -- The answer of a boot alone, and its status.
 use Rattle.std.proofs.Common.{◌≡◌, ℕ, List, Option, Some, None, Result, Ok, Err, IfSome}
 use Rattle.boot_script.specs.declared.fault.ScriptFault.{ScriptFault}
-use Rattle.boot_script.specs.Plans.{Plan, text_plan}
+use Rattle.boot_data.specs.Plans.{Plan}
+use Rattle.boot_script.specs.Plans.{text_plan}
 use Rattle.synth_kernel.specs.declared.outcome.Ended as endings
 use Rattle.synth_kernel.specs.declared.outcome.BootFault.{BootFault}
 use Rattle.synthesis.specs.Runs.{BootAnswers, IsBootAnswerOf, IsBootStatus, boot_status_of}

@@ -14,15 +14,15 @@ use Rattle.table_theory.specs.declared.queues.Cell.{Cell}
 use Rattle.table_theory.specs.declared.queues.Batch.{Batch}
 use Rattle.table_theory.specs.declared.queues.Positions.{Positions}
 use Rattle.table_theory.specs.declared.queues.QueueView.{QueueView}
-use Rattle.quaject_core.specs.Runs.{Run, pairs}
-use Rattle.quaject_core.specs.Queues.{Queue, left, left_pairs, is_raised, first_are_raised, after_claim, after_raise, after_take, claim, raise, raise_of, take_first, join_queue, join_run}
-use Rattle.quaject_core.specs.Marks.{shut}
+use Rattle.event_theory.specs.Runs.{Run, pairs}
+use Rattle.event_theory.specs.Queues.{Queue, left, left_pairs, is_raised, first_are_raised, after_claim, after_raise, after_take, claim, raise, raise_of, take_first, join_queue, join_run}
+use Rattle.event_theory.specs.Marks.{shut}
 use Rattle.table_theory.specs.Positioned.{blank, item_of, written_at, head_of, tail_of, Lawful, fresh, with_claim, with_write, with_take, with_shut}
 use Rattle.table_theory.specs.Filing.{Owned, moved}
 use Rattle.table_theory.specs.Listing.{all_places, ViewsShow, Later, written_to, runs_of}
 use Rattle.table_theory.specs.QueueOf.{run_in, is_up, up_in, queue_of, IsHistory, IsEvent, no_event}
 use Rattle.atomic_table.proofs.Lists.{set_again, at_map}
-use Rattle.quaject_core.proofs.Lists.Histories.{same_set}
+use Rattle.event_theory.proofs.Lists.Histories.{same_set}
 use Rattle.table_theory.proofs.Leaving.{fresh_items, same_items}
 use Rattle.table_theory.proofs.Positioned.{fresh_written}
 use Rattle.table_theory.proofs.Logs.{moved_entry}

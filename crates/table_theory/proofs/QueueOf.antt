@@ -9,9 +9,9 @@ use lib.ListN.{get_elem?}
 use Rattle.table_theory.specs.declared.queues.Cell.{Cell}
 use Rattle.table_theory.specs.declared.queues.Batch.{Batch}
 use Rattle.table_theory.specs.declared.queues.Positions.{Positions}
-use Rattle.quaject_core.specs.Runs.{flat, pairs_of, pairs_from, pairs, run_length}
-use Rattle.quaject_core.specs.Queues.{left, is_raised}
-use Rattle.quaject_core.specs.Lawful.{IsLawfulQueue}
+use Rattle.event_theory.specs.Runs.{flat, pairs_of, pairs_from, pairs, run_length}
+use Rattle.event_theory.specs.Queues.{left, is_raised}
+use Rattle.event_theory.specs.Lawful.{IsLawfulQueue}
 use Rattle.table_theory.specs.Positioned.{blank, item_of, left_of, Lawful}
 use Rattle.table_theory.specs.Filing.{Owned}
 use Rattle.table_theory.specs.Listing.{all_places}

@@ -4,13 +4,13 @@ use Rattle.std.specs.Prelude.{slice_set, Result, Ok}
 use Rattle.std.specs.List.{slice_get}
 use mathlib.Core.Option.{some}
 use lib.ListN.{get_elem?}
-use Rattle.quaject_core.specs.declared.refusal.Refusal.{Refusal}
+use Rattle.event_theory.specs.declared.refusal.Refusal.{Refusal}
 use Rattle.table_theory.specs.declared.queues.Cell.{Cell}
 use Rattle.table_theory.specs.declared.queues.Batch.{Batch}
 use Rattle.table_theory.specs.declared.queues.Positions.{Positions}
-use Rattle.quaject_core.specs.Runs.{Run}
-use Rattle.quaject_core.specs.Queues.{Queue}
-use Rattle.quaject_core.specs.Lawful.{IsLawfulQueue}
+use Rattle.event_theory.specs.Runs.{Run}
+use Rattle.event_theory.specs.Queues.{Queue}
+use Rattle.event_theory.specs.Lawful.{IsLawfulQueue}
 use Rattle.table_theory.specs.Positioned.{blank, item_of}
 use Rattle.table_theory.specs.Filing.{Owned}
 use Rattle.table_theory.specs.declared.queues.QueueView.{QueueView}

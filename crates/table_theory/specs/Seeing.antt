@@ -5,7 +5,7 @@ use lib.ListN.{get_elem?}
 use Rattle.table_theory.specs.declared.queues.Batch.{Batch}
 use Rattle.table_theory.specs.declared.queues.Positions.{Positions}
 use Rattle.table_theory.specs.declared.queues.QueueView.{QueueView}
-use Rattle.quaject_core.specs.Lawful.{IsLawfulQueue}
+use Rattle.event_theory.specs.Lawful.{IsLawfulQueue}
 use Rattle.table_theory.specs.Positioned.{blank, place_at, head_of, Lawful}
 use Rattle.table_theory.specs.Listing.{Later, ViewsShow}
 use Rattle.table_theory.specs.QueueOf.{queue_of}

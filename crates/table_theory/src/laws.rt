@@ -4,9 +4,9 @@ ghost use Rattle.std.specs.Prelude.{◌≡◌, ◌+◌, ◌<◌, ◌≤◌, ℕ,
 ghost use Rattle.std.specs.Prelude.{take, drop, slice_index_or, slice_set};
 ghost use mathlib.Core.Option.{some};
 ghost use lib.ListN.{get_elem?};
-ghost use Rattle.quaject_core.specs.Queues.{claim, raise, take_first, join_queue, left};
-ghost use Rattle.quaject_core.specs.Lawful.{IsLawfulQueue};
-ghost use Rattle.quaject_core.specs.Marks.{shut};
+ghost use Rattle.event_theory.specs.Queues.{claim, raise, take_first, join_queue, left};
+ghost use Rattle.event_theory.specs.Lawful.{IsLawfulQueue};
+ghost use Rattle.event_theory.specs.Marks.{shut};
 ghost use Rattle.table_theory.specs.declared.queues.Batch.{Batch};
 ghost use Rattle.table_theory.specs.declared.queues.Positions.{Positions};
 ghost use Rattle.table_theory.specs.declared.queues.QueueView.{QueueView};

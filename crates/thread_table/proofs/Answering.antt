@@ -3,11 +3,11 @@ use Rattle.std.proofs.Common.{◌≡◌, ◌≢◌, ℕ, ◌+◌, ◌-◌, ◌*�
 use Rattle.std.proofs.lemmas.Option.{slice_get-get_or}
 use mathlib.Core.Logic.{dite}
 use native.Mathlib.Decide.{ℕ_discrete}
-use Rattle.quaject_core.specs.Elements.{Elements}
-use Rattle.quaject_core.specs.Queues.{Queue, left, empty_queue}
-use Rattle.quaject_core.specs.Lawful.{IsLawfulQueue}
-use Rattle.quaject_core.specs.declared.event.Event.{Event}
-use Rattle.quaject_core.proofs.Keeping.Elements.{every_at}
+use Rattle.event_theory.specs.Elements.{Elements}
+use Rattle.event_theory.specs.Queues.{Queue, left, empty_queue}
+use Rattle.event_theory.specs.Lawful.{IsLawfulQueue}
+use Rattle.event_theory.specs.declared.event.Event.{Event}
+use Rattle.event_theory.proofs.Keeping.Elements.{every_at}
 use Rattle.thread_table.specs.declared.rule.View.{View}
 use Rattle.thread_table.specs.Schedules.{elements_after, line_at, element_at}
 use Rattle.thread_table.specs.Shown.{tail_shown, mark_of}

@@ -1,11 +1,11 @@
 -- Whatever the rule holds of is a lawful state of the core, shown by the words and the hands.
 use Rattle.std.proofs.Common.{◌≡◌, ◌<◌, false, List, length, subst, arith}
-use Rattle.quaject_core.specs.Elements.{Elements, holds}
-use Rattle.quaject_core.specs.Schedules.{Reaches}
-use Rattle.quaject_core.specs.States.{first_state}
-use Rattle.quaject_core.specs.declared.event.Event.{Event}
-use Rattle.quaject_core.proofs.Keeping.Steps.{schedule_law}
-use Rattle.quaject_core.proofs.Keeping.Accounts.{account_law}
+use Rattle.event_theory.specs.Elements.{Elements, holds}
+use Rattle.event_theory.specs.Schedules.{Reaches}
+use Rattle.event_theory.specs.States.{first_state}
+use Rattle.event_theory.specs.declared.event.Event.{Event}
+use Rattle.event_theory.proofs.Keeping.Steps.{schedule_law}
+use Rattle.event_theory.proofs.Keeping.Accounts.{account_law}
 use Rattle.atomic_table.specs.Table as tables
 use Rattle.thread_table.specs.declared.rule.Shape.{Shape}
 use Rattle.thread_table.specs.declared.rule.View.{View}

@@ -6,15 +6,15 @@ use Rattle.std.proofs.lemmas.Option.{same_Some, slice_get-get_or, slice_get_past
 use Rattle.std.proofs.lemmas.List.{length-set, length-append, get_or-set_same, get_or-set_other, get_or_append_left}
 use Rattle.std.proofs.Math.Seq.{get_or-append_seam}
 use Rattle.std.specs.List.{list_any}
-use Rattle.quaject_core.specs.Runs.{Run, length_of, run_length}
-use Rattle.quaject_core.specs.Queues.{Queue, empty_queue, left, claim, after_claim}
-use Rattle.quaject_core.specs.Elements.{Elements, hold, is_hold, let_go, claim_element, new_thread}
-use Rattle.quaject_core.specs.Marks.{wait_at}
-use Rattle.quaject_core.specs.Lawful.{IsLawfulQueue, IsLawfulElements}
-use Rattle.quaject_core.specs.declared.hold.Hold.{Hold}
-use Rattle.quaject_core.specs.declared.refusal.Refusal.{Refusal}
-use Rattle.quaject_core.proofs.Keeping.Places.{in_hands}
-use Rattle.quaject_core.proofs.Keeping.Elements.{every_at}
+use Rattle.event_theory.specs.Runs.{Run, length_of, run_length}
+use Rattle.event_theory.specs.Queues.{Queue, empty_queue, left, claim, after_claim}
+use Rattle.event_theory.specs.Elements.{Elements, hold, is_hold, let_go, claim_element, new_thread}
+use Rattle.event_theory.specs.Marks.{wait_at}
+use Rattle.event_theory.specs.Lawful.{IsLawfulQueue, IsLawfulElements}
+use Rattle.event_theory.specs.declared.hold.Hold.{Hold}
+use Rattle.event_theory.specs.declared.refusal.Refusal.{Refusal}
+use Rattle.event_theory.proofs.Keeping.Places.{in_hands}
+use Rattle.event_theory.proofs.Keeping.Elements.{every_at}
 use Rattle.table_theory.proofs.QueueEvents.{claim_goes}
 use Rattle.thread_table.specs.declared.rule.View.{View}
 use Rattle.thread_table.specs.declared.rule.Claimed.{Claimed}

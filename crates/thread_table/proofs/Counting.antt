@@ -7,7 +7,7 @@ use lib.ListN.{get_elem?}
 use Rattle.atomic_table.specs.Table.{Me, step, keeps, Allows}
 use Rattle.table_theory.specs.declared.views.Member.{Member}
 use Rattle.table_theory.specs.Members.{EndsKnown, with_split, with_join}
-use Rattle.quaject_core.specs.Elements.{Elements, hold, holds, is_hold, is_put}
+use Rattle.event_theory.specs.Elements.{Elements, hold, holds, is_hold, is_put}
 use Rattle.table_theory.proofs.Members.{known_look, known_tally, known_up, known_down, tallied, counted_more, counted_less}
 use Rattle.thread_table.specs.declared.rule.Shape.{Shape}
 use Rattle.thread_table.specs.declared.rule.View.{View}

@@ -7,8 +7,8 @@ use Rattle.table_theory.specs.Courses.{IsCourse}
 use Rattle.table_theory.specs.Filing.{entry_of}
 use Rattle.table_theory.proofs.Courses.{course_step, course_split, course_join, course_first}
 use Rattle.table_theory.proofs.Owned.{at_push}
-use Rattle.quaject_core.specs.declared.event.Event.{Event}
-use Rattle.quaject_core.specs.declared.event.Event.TheVariants as events
+use Rattle.event_theory.specs.declared.event.Event.{Event}
+use Rattle.event_theory.specs.declared.event.Event.TheVariants as events
 use Rattle.thread_table.specs.declared.rule.View.{View}
 use Rattle.thread_table.specs.Joins.{joining, AreJoins}
 use Rattle.thread_table.specs.Makers.{is_join}

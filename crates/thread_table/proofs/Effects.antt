@@ -2,10 +2,10 @@
 use Rattle.std.proofs.Common.{◌≡◌, ◌≢◌, ◌⊎◌, ℕ, ◌+◌, ◌*◌, ◌%◌, ◌^◌, ◌<◌, true, false, List, [], ◌∷◌, length, set, get_or, Some, None, slice_get, Result, Ok}
 use Rattle.std.specs.List.{list_any}
 use Rattle.std.specs.Int.Bits.{bit_or, bit_and}
-use Rattle.quaject_core.specs.Elements.{Elements, holds, is_put, claim_element, raise_element, take_element, put_on, take_off, stop, park, start, signal, deliver, done}
-use Rattle.quaject_core.specs.Marks.{notify_wait, wait_at}
-use Rattle.quaject_core.specs.Lawful.{IsLawfulElements}
-use Rattle.quaject_core.specs.declared.refusal.Refusal.{Refusal}
+use Rattle.event_theory.specs.Elements.{Elements, holds, is_put, claim_element, raise_element, take_element, put_on, take_off, stop, park, start, signal, deliver, done}
+use Rattle.event_theory.specs.Marks.{notify_wait, wait_at}
+use Rattle.event_theory.specs.Lawful.{IsLawfulElements}
+use Rattle.event_theory.specs.declared.refusal.Refusal.{Refusal}
 use Rattle.thread_table.specs.declared.rule.View.{View}
 use Rattle.thread_table.specs.declared.rule.Claimed.{Claimed}
 use Rattle.thread_table.specs.declared.rule.Counted.{Counted}

@@ -5,12 +5,12 @@ use mathlib.Core.Option.{some}
 use lib.ListN.{get_elem?}
 use Rattle.table_theory.specs.Filing.{Owned, entry_of, moved, sole}
 use Rattle.table_theory.proofs.Owned.{file_first, file_push, file_new, file_join, file_sole}
-use Rattle.quaject_core.specs.declared.event.Event.{Event}
-use Rattle.quaject_core.specs.declared.event.Event.TheVariants as events
+use Rattle.event_theory.specs.declared.event.Event.{Event}
+use Rattle.event_theory.specs.declared.event.Event.TheVariants as events
 use Rattle.thread_table.specs.declared.rule.Made.{Made}
 use Rattle.thread_table.specs.Makers.{is_join, made_in, numbered, AreMade}
 use Rattle.std.specs.Result.{result_unwrap_or}
-use Rattle.quaject_core.specs.States.{State, step}
+use Rattle.event_theory.specs.States.{State, step}
 use Rattle.thread_table.specs.Schedules.{after, begun, state_after}
 use Rattle.std.specs.Prelude.{if◌then◌else◌, ◌==◌}
 

@@ -1,6 +1,6 @@
 -- Steps of one hand, one after the other.
 use Rattle.std.proofs.Common.{◌≡◌, ⊎_elim, inl, inr, ℕ, true, None, List, ◌∙◌, sym, ap, subst, arith}
-use Rattle.quaject_core.specs.declared.event.Event.{Event}
+use Rattle.event_theory.specs.declared.event.Event.{Event}
 use Rattle.thread_table.specs.declared.rule.View.{View}
 use Rattle.thread_table.specs.Schedules.{elements_after}
 use Rattle.table_theory.specs.Ends.{Begins}

@@ -3,14 +3,14 @@ use Rattle.std.proofs.Common.{map, ◌≡◌, ◌≢◌, ◌⊎◌, ⊎_elim, in
 use mathlib.Core.Option.{some}
 use lib.ListN.{get_elem?}
 use Rattle.atomic_table.specs.Table.{Joins}
-use Rattle.quaject_core.specs.Elements.{Elements, hold, holds, join_elements}
-use Rattle.quaject_core.specs.Queues.{renamed, join_queue}
-use Rattle.quaject_core.specs.Chains.{join_chain}
-use Rattle.quaject_core.specs.Results.{◌>>=◌, refused_if}
-use Rattle.quaject_core.specs.States as core
-use Rattle.quaject_core.specs.declared.event.Event.{Event}
-use Rattle.quaject_core.specs.declared.event.Event.TheVariants as events
-use Rattle.quaject_core.specs.declared.refusal.Refusal.TheVariants.{UnknownName}
+use Rattle.event_theory.specs.Elements.{Elements, hold, holds, join_elements}
+use Rattle.event_theory.specs.Queues.{renamed, join_queue}
+use Rattle.event_theory.specs.Chains.{join_chain}
+use Rattle.event_theory.specs.Results.{◌>>=◌, refused_if}
+use Rattle.event_theory.specs.States as core
+use Rattle.event_theory.specs.declared.event.Event.{Event}
+use Rattle.event_theory.specs.declared.event.Event.TheVariants as events
+use Rattle.event_theory.specs.declared.refusal.Refusal.TheVariants.{UnknownName}
 use Rattle.atomic_table.proofs.Lists.{at_set, set_else}
 use Rattle.table_theory.proofs.Owned.{at_below}
 use Rattle.table_theory.proofs.Ends.{begins_on}
@@ -37,8 +37,8 @@ use Rattle.thread_table.specs.Rules.{IsActive, IsSteady, IsNewest, may_step, has
 use Rattle.thread_table.proofs.Joined.{joined_join}
 use Rattle.thread_table.specs.Steps.{any_both}
 use Rattle.std.specs.List.{list_any}
-use Rattle.quaject_core.specs.Elements.{is_put}
-use Rattle.quaject_core.specs.Lawful.{IsLawfulElements}
+use Rattle.event_theory.specs.Elements.{is_put}
+use Rattle.event_theory.specs.Lawful.{IsLawfulElements}
 use Rattle.thread_table.proofs.Making.{no_other}
 use Rattle.thread_table.proofs.Strangers.{others_count}
 use Rattle.thread_table.proofs.Schedules.{lawful_after}

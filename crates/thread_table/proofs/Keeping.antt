@@ -1,6 +1,6 @@
 -- What a call leaves to its hand as it was.
 use Rattle.std.proofs.Common.{◌≡◌, ⊎_elim, ℕ, zero, suc, Bool, true, false, List, Result, Ok, Err, refl, ap, ◌∙◌}
-use Rattle.quaject_core.specs.declared.event.Event.{Event}
+use Rattle.event_theory.specs.declared.event.Event.{Event}
 use Rattle.thread_table.specs.declared.rule.View.{View}
 use Rattle.thread_table.specs.declared.takings.NextRefusal.{NextRefusal}
 use Rattle.thread_table.specs.declared.takings.NextRefusal.TheVariants as nexts

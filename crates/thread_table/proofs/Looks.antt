@@ -12,8 +12,8 @@ use Rattle.table_theory.specs.Members.{EndsKnown}
 use Rattle.table_theory.proofs.Courses.{course_step}
 use Rattle.table_theory.proofs.Ends.{begins_refl}
 use Rattle.table_theory.proofs.Members.{known_look}
-use Rattle.quaject_core.specs.Elements.{Elements, hold}
-use Rattle.quaject_core.specs.declared.event.Event.{Event}
+use Rattle.event_theory.specs.Elements.{Elements, hold}
+use Rattle.event_theory.specs.declared.event.Event.{Event}
 use Rattle.thread_table.specs.declared.rule.Shape.{Shape}
 use Rattle.thread_table.specs.declared.rule.View.{View}
 use Rattle.thread_table.specs.declared.rule.Counted.{Counted}

@@ -4,12 +4,12 @@ use Rattle.std.specs.List.{list_any}
 use mathlib.Core.Option.{some}
 use lib.ListN.{get_elem?}
 use Rattle.table_theory.specs.Members.{EndsKnown}
-use Rattle.quaject_core.specs.Elements.{Elements, holds, is_put}
-use Rattle.quaject_core.specs.Lawful.{IsLawfulElements}
-use Rattle.quaject_core.specs.Results.{◌>>=◌}
-use Rattle.quaject_core.specs.States.{State, effect, in_elements, counted, step}
-use Rattle.quaject_core.specs.declared.event.Event.{Event}
-use Rattle.quaject_core.specs.declared.refusal.Refusal.{Refusal}
+use Rattle.event_theory.specs.Elements.{Elements, holds, is_put}
+use Rattle.event_theory.specs.Lawful.{IsLawfulElements}
+use Rattle.event_theory.specs.Results.{◌>>=◌}
+use Rattle.event_theory.specs.States.{State, effect, in_elements, counted, step}
+use Rattle.event_theory.specs.declared.event.Event.{Event}
+use Rattle.event_theory.specs.declared.refusal.Refusal.{Refusal}
 use Rattle.table_theory.specs.Sharing.{IsWhole}
 use Rattle.table_theory.proofs.Courses.{course_step}
 use Rattle.table_theory.proofs.Ends.{begins_on}

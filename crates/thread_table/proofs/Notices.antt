@@ -4,8 +4,8 @@ use Rattle.std.proofs.lemmas.Option.{slice_get-get_or}
 use Rattle.std.proofs.Math.Nat.{mod-eq_of_lt, add-mod_right}
 use mathlib.Core.Logic.{dite}
 use native.Mathlib.Decide.{dec_lt}
-use Rattle.quaject_core.specs.Elements.{Elements}
-use Rattle.quaject_core.specs.Marks.{notify_wait}
+use Rattle.event_theory.specs.Elements.{Elements}
+use Rattle.event_theory.specs.Marks.{notify_wait}
 use Rattle.thread_table.specs.declared.rule.View.{View}
 use Rattle.thread_table.specs.Schedules.{line_at}
 use Rattle.thread_table.specs.Shown.{WordsShow, LineShows, PlaceShows, head_word, tail_word, place_word, head_shown, mark_of}

@@ -9,17 +9,17 @@ use mathlib.Core.Logic.{dite}
 use native.Mathlib.Decide.{dec_lt}
 use lib.ListN.{get_elem?}
 use Rattle.atomic_table.proofs.Lists.{at_map}
-use Rattle.quaject_core.proofs.Keeping.Accounts.{account_law}
-use Rattle.quaject_core.specs.Accounts.{moves, done_in, done_of, is_done, done_numbers, IsAccounted}
-use Rattle.quaject_core.specs.Elements.{Thread, new_thread}
+use Rattle.event_theory.proofs.Keeping.Accounts.{account_law}
+use Rattle.event_theory.specs.Accounts.{moves, done_in, done_of, is_done, done_numbers, IsAccounted}
+use Rattle.event_theory.specs.Elements.{Thread, new_thread}
 use Rattle.table_theory.specs.Ends.{Begins}
 use Rattle.table_theory.specs.Filing.{Owned, entry_of}
-use Rattle.quaject_core.specs.States.{State, step, first_state}
-use Rattle.quaject_core.specs.declared.event.Event.{Event}
-use Rattle.quaject_core.specs.declared.event.Event.TheVariants as events
+use Rattle.event_theory.specs.States.{State, step, first_state}
+use Rattle.event_theory.specs.declared.event.Event.{Event}
+use Rattle.event_theory.specs.declared.event.Event.TheVariants as events
 use Rattle.std.proofs.lemmas.List.{append-nil}
 use Rattle.std.proofs.lemmas.List.FromFn.{length-range_with_len}
-use Rattle.quaject_core.specs.Elements.{Elements}
+use Rattle.event_theory.specs.Elements.{Elements}
 use Rattle.thread_table.specs.declared.rule.View.{View}
 use Rattle.thread_table.specs.Rules.{done_at}
 use Rattle.thread_table.specs.Steps.{Did}

@@ -8,11 +8,11 @@ use mathlib.Core.Option.{some, some-injective, some-ne-none}
 use lib.ListN.{get_elem?}
 use Rattle.atomic_table.specs.Table.{opening}
 use Rattle.table_theory.specs.Members.{EndsKnown}
-use Rattle.quaject_core.specs.Elements.{Elements, Thread, new_thread, first_elements, hold, holds}
-use Rattle.quaject_core.specs.Queues.{Queue, empty_queue, full_queue}
-use Rattle.quaject_core.specs.Runs.{Run}
-use Rattle.quaject_core.specs.States.{State}
-use Rattle.quaject_core.specs.declared.hold.Hold.{Hold}
+use Rattle.event_theory.specs.Elements.{Elements, Thread, new_thread, first_elements, hold, holds}
+use Rattle.event_theory.specs.Queues.{Queue, empty_queue, full_queue}
+use Rattle.event_theory.specs.Runs.{Run}
+use Rattle.event_theory.specs.States.{State}
+use Rattle.event_theory.specs.declared.hold.Hold.{Hold}
 use Rattle.table_theory.proofs.Ends.{begins_refl}
 use Rattle.table_theory.proofs.Members.{known_first}
 use Rattle.thread_table.specs.declared.rule.Shape.{Shape}

@@ -1,7 +1,7 @@
 -- A change outside of the element queues leaves what the words show of them.
 use Rattle.std.proofs.Common.{◌≡◌, ℕ, zero, suc, ◌+◌, ◌*◌, ◌<◌, List, ◌∙◌, length, set, refl, sym, ap, subst, arith, Option, get_or-set_other}
-use Rattle.quaject_core.specs.Elements.{Elements, Thread}
-use Rattle.quaject_core.specs.declared.hold.Hold.{Hold}
+use Rattle.event_theory.specs.Elements.{Elements, Thread}
+use Rattle.event_theory.specs.declared.hold.Hold.{Hold}
 use Rattle.thread_table.specs.Schedules.{Grows, line_at}
 use Rattle.thread_table.specs.Shown.{LineShows, PlaceShows, head_word, tail_word, place_word, mark_of}
 

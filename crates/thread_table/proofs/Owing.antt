@@ -4,9 +4,9 @@ use mathlib.Core.Logic.{dite}
 use mathlib.Core.Option.{some}
 use native.Mathlib.Decide.{ℕ_discrete}
 use lib.ListN.{get_elem?}
-use Rattle.quaject_core.specs.Elements.{Elements}
-use Rattle.quaject_core.specs.Queues.{Queue}
-use Rattle.quaject_core.specs.Runs.{Run}
+use Rattle.event_theory.specs.Elements.{Elements}
+use Rattle.event_theory.specs.Queues.{Queue}
+use Rattle.event_theory.specs.Runs.{Run}
 use Rattle.atomic_table.proofs.Lists.{set_here, set_else}
 use Rattle.table_theory.proofs.Owned.{at_below, one_at}
 use Rattle.thread_table.specs.declared.rule.View.{View}

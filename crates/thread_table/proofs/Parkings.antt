@@ -5,9 +5,9 @@ use Rattle.std.proofs.lemmas.Nat.{or_lt, and_le_r}
 use Rattle.std.proofs.lemmas.Option.{slice_get-get_or}
 use Rattle.std.specs.Int.Bits.{bit_or, bit_and}
 use Rattle.std.specs.List.{list_any, position_or_len}
-use Rattle.quaject_core.specs.Elements.{Elements, Thread, hold, is_hold, holds, new_thread}
-use Rattle.quaject_core.specs.declared.hold.Hold.{Hold}
-use Rattle.quaject_core.proofs.Stored.Elements.{parked_ok, started_ok}
+use Rattle.event_theory.specs.Elements.{Elements, Thread, hold, is_hold, holds, new_thread}
+use Rattle.event_theory.specs.declared.hold.Hold.{Hold}
+use Rattle.event_theory.proofs.Outcomes.{parked_ok, started_ok}
 use Rattle.thread_table.specs.declared.rule.View.{View}
 use Rattle.thread_table.specs.Schedules.{thread_at}
 use Rattle.thread_table.specs.Shown.{WordsShow, StateShows, seat_word, state_word, done_word}

@@ -9,17 +9,17 @@ use native.Mathlib.Decide.{dec_lt}
 use prog.Atomic.{either}
 use Rattle.atomic_table.specs.Table.{Me, Act, step, stepped, keeps, Valid, carried_after, Allows}
 use Rattle.atomic_table.proofs.Lists.{exchanged}
-use Rattle.quaject_core.specs.Elements.{Elements, claim_element, raise_element, take_element}
-use Rattle.quaject_core.specs.Lawful.{IsLawfulQueue, IsLawfulElements}
-use Rattle.quaject_core.specs.Queues.{Queue, empty_queue, left}
-use Rattle.quaject_core.specs.Appearances.{in_list}
-use Rattle.quaject_core.specs.Marks.{wait_at, notify_wait}
-use Rattle.quaject_core.specs.States.{State, effect, in_elements}
-use Rattle.quaject_core.specs.declared.event.Event.{Event}
-use Rattle.quaject_core.specs.declared.event.Event.TheVariants as events
-use Rattle.quaject_core.specs.declared.refusal.Refusal.{Refusal}
-use Rattle.quaject_core.proofs.Keeping.Elements.{every_at}
-use Rattle.quaject_core.proofs.Keeping.Places.{one, sum_changed, in_joined}
+use Rattle.event_theory.specs.Elements.{Elements, claim_element, raise_element, take_element}
+use Rattle.event_theory.specs.Lawful.{IsLawfulQueue, IsLawfulElements}
+use Rattle.event_theory.specs.Queues.{Queue, empty_queue, left}
+use Rattle.event_theory.specs.Appearances.{in_list}
+use Rattle.event_theory.specs.Marks.{wait_at, notify_wait}
+use Rattle.event_theory.specs.States.{State, effect, in_elements}
+use Rattle.event_theory.specs.declared.event.Event.{Event}
+use Rattle.event_theory.specs.declared.event.Event.TheVariants as events
+use Rattle.event_theory.specs.declared.refusal.Refusal.{Refusal}
+use Rattle.event_theory.proofs.Keeping.Elements.{every_at}
+use Rattle.event_theory.proofs.Keeping.Places.{one, sum_changed, in_joined}
 use Rattle.thread_table.specs.declared.rule.Shape.{Shape}
 use Rattle.thread_table.specs.declared.rule.View.{View}
 use Rattle.thread_table.specs.Schedules.{elements_after, line_at, element_at, line_name}

@@ -3,12 +3,12 @@ use Rattle.std.proofs.Common.{◌≡◌, ◌≢◌, ℕ, zero, suc, ◌+◌, ◌
 use Rattle.std.proofs.lemmas.Option.{slice_get-get_or}
 use mathlib.Core.Logic.{dite}
 use native.Mathlib.Decide.{ℕ_discrete}
-use Rattle.quaject_core.specs.Elements.{Elements, holds}
-use Rattle.quaject_core.specs.Queues.{Queue, empty_queue}
-use Rattle.quaject_core.specs.Results.{change_at}
-use Rattle.quaject_core.specs.Runs.{Run}
-use Rattle.quaject_core.specs.declared.refusal.Refusal.{Refusal}
-use Rattle.quaject_core.specs.declared.hold.Hold.{Hold}
+use Rattle.event_theory.specs.Elements.{Elements, holds}
+use Rattle.event_theory.specs.Queues.{Queue, empty_queue}
+use Rattle.event_theory.specs.Results.{change_at}
+use Rattle.event_theory.specs.Runs.{Run}
+use Rattle.event_theory.specs.declared.refusal.Refusal.{Refusal}
+use Rattle.event_theory.specs.declared.hold.Hold.{Hold}
 use Rattle.thread_table.specs.declared.rule.View.{View}
 use Rattle.thread_table.specs.declared.rule.Claimed.{Claimed}
 use Rattle.thread_table.specs.Schedules.{QueueGrows, Grows, line_at, thread_at, element_at}

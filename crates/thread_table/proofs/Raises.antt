@@ -3,12 +3,12 @@ use Rattle.std.proofs.Common.{◌≡◌, ◌≢◌, inl, ℕ, ◌+◌, ◌*◌, 
 use Rattle.std.proofs.lemmas.Option.{slice_get-get_or, slice_get_within, get_or_from_slice_get}
 use mathlib.Core.Logic.{dite}
 use native.Mathlib.Decide.{ℕ_discrete}
-use Rattle.quaject_core.specs.Elements.{Elements, raise_element}
-use Rattle.quaject_core.specs.Queues.{Queue, empty_queue, with_pair, after_raise, raise, raise_of}
-use Rattle.quaject_core.specs.Results.{◌>>=◌}
-use Rattle.quaject_core.specs.Runs.{Run}
-use Rattle.quaject_core.specs.Lawful.{IsLawfulQueue}
-use Rattle.quaject_core.proofs.Keeping.Elements.{every_at}
+use Rattle.event_theory.specs.Elements.{Elements, raise_element}
+use Rattle.event_theory.specs.Queues.{Queue, empty_queue, with_pair, after_raise, raise, raise_of}
+use Rattle.event_theory.specs.Results.{◌>>=◌}
+use Rattle.event_theory.specs.Runs.{Run}
+use Rattle.event_theory.specs.Lawful.{IsLawfulQueue}
+use Rattle.event_theory.proofs.Keeping.Elements.{every_at}
 use Rattle.thread_table.specs.declared.rule.View.{View}
 use Rattle.thread_table.specs.declared.rule.Claimed.{Claimed}
 use Rattle.thread_table.specs.Schedules.{QueueGrows, Grows, line_at, element_at, element_of, no_run}

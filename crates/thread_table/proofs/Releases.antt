@@ -6,10 +6,10 @@ use Rattle.std.proofs.lemmas.List.Folds.{list_any-append}
 use Rattle.std.proofs.lemmas.List.Quantifiers.{position-Some}
 use Rattle.std.proofs.lemmas.List.Sums.{sum_by-cons}
 use Rattle.std.specs.List.{list_any, position_or_len}
-use Rattle.quaject_core.specs.Elements.{hold, is_hold, let_go}
-use Rattle.quaject_core.specs.declared.hold.Hold.{Hold}
-use Rattle.quaject_core.proofs.Lists.Histories.{both}
-use Rattle.quaject_core.proofs.Keeping.Places.{one, in_hands, let_go_count}
+use Rattle.event_theory.specs.Elements.{hold, is_hold, let_go}
+use Rattle.event_theory.specs.declared.hold.Hold.{Hold}
+use Rattle.event_theory.proofs.Lists.Histories.{both}
+use Rattle.event_theory.proofs.Keeping.Places.{one, in_hands, let_go_count}
 
 -- what passes a test is found
 found_below : {X : Type 0} (p : X → Bool) (xs : List X) → list_any p xs ≡ true → position_or_len p xs < length xs

@@ -4,11 +4,11 @@ use Rattle.std.proofs.lemmas.Bool.Decides.{eqb_tells}
 use Rattle.std.proofs.lemmas.List.{length-map}
 use Rattle.std.proofs.lemmas.Option.{slice_get-map}
 use Rattle.std.specs.List.{list_any}
-use Rattle.quaject_core.specs.Elements.{Elements, hold, holds, is_hold, is_put, join_hold, join_elements}
-use Rattle.quaject_core.specs.Queues.{Queue, empty_queue, renamed, join_run, join_queue}
-use Rattle.quaject_core.specs.Runs.{Run}
-use Rattle.quaject_core.specs.declared.hold.Hold.{Hold}
-use Rattle.quaject_core.proofs.Keeping.Joins.{slice_get_joined}
+use Rattle.event_theory.specs.Elements.{Elements, hold, holds, is_hold, is_put, join_hold, join_elements}
+use Rattle.event_theory.specs.Queues.{Queue, empty_queue, renamed, join_run, join_queue}
+use Rattle.event_theory.specs.Runs.{Run}
+use Rattle.event_theory.specs.declared.hold.Hold.{Hold}
+use Rattle.event_theory.proofs.Keeping.Joins.{slice_get_joined}
 use Rattle.thread_table.specs.declared.rule.Claimed.{Claimed}
 use Rattle.thread_table.specs.declared.rule.Counted.{Counted}
 use Rattle.thread_table.specs.Schedules.{line_at, element_of, no_run, QueueGrows, Grows}

@@ -6,24 +6,24 @@ use Rattle.std.proofs.lemmas.List.{map-append}
 use Rattle.std.proofs.lemmas.Option.{get_or_from_slice_get, slice_get_within}
 use mathlib.Core.Logic.{dite}
 use native.Mathlib.Decide.{ℕ_discrete}
-use Rattle.quaject_core.specs.Runs.{Run}
-use Rattle.quaject_core.specs.Queues.{Queue, empty_queue, claim, raise, take_first, after_claim, join_run, join_queue}
-use Rattle.quaject_core.specs.Chains.{Chain}
-use Rattle.quaject_core.specs.Elements.{Elements, Thread, let_go, let_all_go, is_busy, put_by, claim_element, raise_element, take_element, put_on, take_off, change_thread, park, start, deliver, done}
-use Rattle.quaject_core.specs.Meters.{Meters, tick, advance, set_alarm, fire, cancel}
-use Rattle.quaject_core.specs.Marks.{notify_wait, wait_line, wait_at}
-use Rattle.quaject_core.specs.Results.{◌>>=◌, at, change_at}
-use Rattle.quaject_core.specs.Schedules.{Reaches}
-use Rattle.quaject_core.specs.States.{State, first_state, make_queue, make_chain, in_queue, in_chain, in_elements, in_meters, set_for, join, effect, counted, step}
-use Rattle.quaject_core.specs.declared.alarm.Alarm.{Alarm}
-use Rattle.quaject_core.specs.declared.event.Event.{Event}
-use Rattle.quaject_core.specs.declared.event.Event.TheVariants as events
-use Rattle.quaject_core.specs.declared.names.QueueName.TheVariants as names
-use Rattle.quaject_core.specs.declared.refusal.Refusal.{Refusal}
-use Rattle.quaject_core.specs.declared.refusal.Refusal.TheVariants.{UnknownName, TooLong, Full, Moved, NotStopped, ProcessorBusy}
-use Rattle.quaject_core.proofs.Keeping.Chains.{claim_ok, raise_ok}
-use Rattle.quaject_core.proofs.Keeping.Queues.{take_ok}
-use Rattle.quaject_core.proofs.Lists.Inversions.{then_ok, test_ok, given_ok, some_ok, change_ok}
+use Rattle.event_theory.specs.Runs.{Run}
+use Rattle.event_theory.specs.Queues.{Queue, empty_queue, claim, raise, take_first, after_claim, join_run, join_queue}
+use Rattle.event_theory.specs.Chains.{Chain}
+use Rattle.event_theory.specs.Elements.{Elements, Thread, let_go, let_all_go, is_busy, put_by, claim_element, raise_element, take_element, put_on, take_off, change_thread, park, start, deliver, done}
+use Rattle.event_theory.specs.Meters.{Meters, tick, advance, set_alarm, fire, cancel}
+use Rattle.event_theory.specs.Marks.{notify_wait, wait_line, wait_at}
+use Rattle.event_theory.specs.Results.{◌>>=◌, at, change_at}
+use Rattle.event_theory.specs.Schedules.{Reaches}
+use Rattle.event_theory.specs.States.{State, first_state, make_queue, make_chain, in_queue, in_chain, in_elements, in_meters, set_for, join, effect, counted, step}
+use Rattle.event_theory.specs.declared.alarm.Alarm.{Alarm}
+use Rattle.event_theory.specs.declared.event.Event.{Event}
+use Rattle.event_theory.specs.declared.event.Event.TheVariants as events
+use Rattle.event_theory.specs.declared.names.QueueName.TheVariants as names
+use Rattle.event_theory.specs.declared.refusal.Refusal.{Refusal}
+use Rattle.event_theory.specs.declared.refusal.Refusal.TheVariants.{UnknownName, TooLong, Full, Moved, NotStopped, ProcessorBusy}
+use Rattle.event_theory.proofs.Keeping.Chains.{claim_ok, raise_ok}
+use Rattle.event_theory.proofs.Keeping.Queues.{take_ok}
+use Rattle.event_theory.proofs.Lists.Inversions.{then_ok, test_ok, given_ok, some_ok, change_ok}
 use Rattle.thread_table.specs.Schedules.{begun, state_after, IsAllowed}
 use Rattle.thread_table.specs.Retiring.{items_of, retired_by, retired_in, AreRetired}
 use Rattle.thread_table.proofs.Schedules.{elements_of}

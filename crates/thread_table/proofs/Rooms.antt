@@ -5,14 +5,14 @@ use Rattle.std.proofs.lemmas.Option.{get_or_from_slice_get, slice_get_within}
 use Rattle.std.proofs.lemmas.List.Quantifiers.{position-Some}
 use Rattle.std.proofs.lemmas.List.Sums.{sum_by-cons, get_or-le-sum_by}
 use Rattle.std.specs.List.{list_any, sum_by, position_or_len}
-use Rattle.quaject_core.specs.Queues.{Queue, left}
-use Rattle.quaject_core.specs.Elements.{Elements, hold, is_hold, let_go}
-use Rattle.quaject_core.specs.Lawful.{IsLawfulElements}
-use Rattle.quaject_core.specs.Appearances.{appearances, in_list}
-use Rattle.quaject_core.specs.declared.hold.Hold.{Hold}
-use Rattle.quaject_core.proofs.Lists.Histories.{both}
-use Rattle.quaject_core.proofs.Keeping.Places.{one, in_hands, let_go_count}
-use Rattle.quaject_core.proofs.Keeping.Rooms.{in_more, itself, few}
+use Rattle.event_theory.specs.Queues.{Queue, left}
+use Rattle.event_theory.specs.Elements.{Elements, hold, is_hold, let_go}
+use Rattle.event_theory.specs.Lawful.{IsLawfulElements}
+use Rattle.event_theory.specs.Appearances.{appearances, in_list}
+use Rattle.event_theory.specs.declared.hold.Hold.{Hold}
+use Rattle.event_theory.proofs.Lists.Histories.{both}
+use Rattle.event_theory.proofs.Keeping.Places.{one, in_hands, let_go_count}
+use Rattle.event_theory.proofs.Keeping.Rooms.{in_more, itself, few}
 
 -- an element is in one line no more often than in all
 in_one : (element line : ℕ) (e : Elements) (q : Queue) → slice_get e.lines line ≡ Some q → in_list element (left q) ≤ sum_by (λ l. in_list element (left l)) e.lines

@@ -1,14 +1,14 @@
 -- What a schedule leads to.
 use Rattle.std.proofs.Common.{◌≡◌, List, [], ◌∷◌, ◌++◌, ◌∙◌, refl, sym, ap, subst, arith, Ok, Result}
 use Rattle.std.specs.Result.{result_unwrap_or}
-use Rattle.quaject_core.specs.Elements.{Elements}
-use Rattle.quaject_core.proofs.Keeping.Steps.{reaches_more, schedule_law}
-use Rattle.quaject_core.specs.Lawful.{IsLawfulElements}
-use Rattle.quaject_core.specs.Queues.{Queue}
-use Rattle.quaject_core.specs.Schedules.{Reaches}
-use Rattle.quaject_core.specs.States.{State, first_state, step}
-use Rattle.quaject_core.specs.declared.event.Event.{Event}
-use Rattle.quaject_core.specs.declared.refusal.Refusal.{Refusal}
+use Rattle.event_theory.specs.Elements.{Elements}
+use Rattle.event_theory.proofs.Keeping.Steps.{reaches_more, schedule_law}
+use Rattle.event_theory.specs.Lawful.{IsLawfulElements}
+use Rattle.event_theory.specs.Queues.{Queue}
+use Rattle.event_theory.specs.Schedules.{Reaches}
+use Rattle.event_theory.specs.States.{State, first_state, step}
+use Rattle.event_theory.specs.declared.event.Event.{Event}
+use Rattle.event_theory.specs.declared.refusal.Refusal.{Refusal}
 use Rattle.thread_table.specs.Schedules.{after, begun, state_after, elements_after, IsAllowed, QueueGrows, Grows}
 use Rattle.table_theory.specs.Ends.{Begins}
 

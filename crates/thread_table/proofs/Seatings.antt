@@ -6,11 +6,11 @@ use Rattle.std.proofs.lemmas.List.{length-set}
 use Rattle.std.proofs.lemmas.List.Sums.{sum_by-cons}
 use Rattle.std.proofs.lemmas.Option.{slice_get-get_or}
 use Rattle.std.specs.List.{list_any, position_or_len, count_by}
-use Rattle.quaject_core.specs.Appearances.{appearances, is_on}
-use Rattle.quaject_core.specs.Elements.{Elements, Thread, hold, is_hold, is_put, holds, put_on, take_off, new_thread}
-use Rattle.quaject_core.specs.Lawful.{IsLawfulElements}
-use Rattle.quaject_core.specs.declared.hold.Hold.{Hold}
-use Rattle.quaject_core.proofs.Keeping.Places.{slice_get_set_same, slice_get_set_other}
+use Rattle.event_theory.specs.Appearances.{appearances, is_on}
+use Rattle.event_theory.specs.Elements.{Elements, Thread, hold, is_hold, is_put, holds, put_on, take_off, new_thread}
+use Rattle.event_theory.specs.Lawful.{IsLawfulElements}
+use Rattle.event_theory.specs.declared.hold.Hold.{Hold}
+use Rattle.event_theory.proofs.Keeping.Places.{slice_get_set_same, slice_get_set_other}
 use Rattle.thread_table.specs.declared.rule.View.{View}
 use Rattle.thread_table.specs.Schedules.{thread_at}
 use Rattle.thread_table.specs.Shown.{WordsShow, StateShows, seat_shown, seat_word, state_word, done_word}

@@ -8,7 +8,7 @@ use lib.ListN.{get_elem?}
 use Rattle.atomic_table.specs.Table.{State, Final, Seen}
 use Rattle.table_theory.proofs.Members.{rest_idle}
 use Rattle.table_theory.proofs.Owned.{one_at}
-use Rattle.quaject_core.specs.Elements.{Elements}
+use Rattle.event_theory.specs.Elements.{Elements}
 use Rattle.table_theory.specs.declared.views.Member.{Member}
 use Rattle.table_theory.specs.Sharing.{IsWhole}
 use Rattle.thread_table.specs.declared.places.Place.{Place}
@@ -20,8 +20,8 @@ use Rattle.thread_table.specs.Closings.{ClosedNow, WereOpen, PlaceOf, word_at}
 use Rattle.thread_table.specs.Rules.{Rule, HandIs, IsIdle, member_of}
 use Rattle.thread_table.specs.Views.{quiet}
 use Rattle.thread_table.specs.Schedules.{state_after, elements_after, IsAllowed, line_at, thread_at}
-use Rattle.quaject_core.specs.declared.event.Event.{Event}
-use Rattle.quaject_core.proofs.Keeping.Accounts.{account_law}
+use Rattle.event_theory.specs.declared.event.Event.{Event}
+use Rattle.event_theory.proofs.Keeping.Accounts.{account_law}
 use Rattle.thread_table.proofs.Betweens.{reached}
 use Rattle.thread_table.proofs.Looks.{hand_quiet}
 use Rattle.thread_table.proofs.Stating.{pending_are}

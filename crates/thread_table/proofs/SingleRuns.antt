@@ -7,10 +7,10 @@ use Rattle.std.specs.Cmp.Derive.{both_true}
 use Rattle.std.specs.List.{list_all, range_with_len}
 use mathlib.Core.Logic.{dite}
 use native.Mathlib.Decide.{dec_lt, dec_le}
-use Rattle.quaject_core.specs.Runs.{Run, flat, pairs_of, pairs_from, run_length}
-use Rattle.quaject_core.specs.Queues.{Queue, left, left_pairs, is_raised, first_are_raised}
-use Rattle.quaject_core.specs.Lawful.{IsLawfulQueue}
-use Rattle.quaject_core.proofs.Lists.Histories.{both}
+use Rattle.event_theory.specs.Runs.{Run, flat, pairs_of, pairs_from, run_length}
+use Rattle.event_theory.specs.Queues.{Queue, left, left_pairs, is_raised, first_are_raised}
+use Rattle.event_theory.specs.Lawful.{IsLawfulQueue}
+use Rattle.event_theory.proofs.Lists.Histories.{both}
 use Rattle.atomic_table.proofs.Lists.{one_turn}
 use Rattle.thread_table.specs.Schedules.{element_of, element_at, no_run}
 

@@ -4,7 +4,7 @@ use Rattle.std.proofs.lemmas.List.{length-append}
 use mathlib.Core.Option.{some}
 use lib.ListN.{get_elem?}
 use Rattle.atomic_table.specs.Table.{Splits}
-use Rattle.quaject_core.specs.Elements.{Elements, hold, holds}
+use Rattle.event_theory.specs.Elements.{Elements, hold, holds}
 use Rattle.atomic_table.proofs.Lists.{at_set, at_longer, at_map}
 use Rattle.std.proofs.lemmas.List.{map-append, map-set}
 use Rattle.thread_table.specs.declared.rule.Made.{Made}

@@ -8,13 +8,13 @@ use Rattle.std.specs.Int.{bit_at}
 use Rattle.std.specs.List.{list_any, sum_by, count_by}
 use mathlib.Core.Logic.{dite}
 use native.Mathlib.Decide.{dec_lt, ℕ_discrete}
-use Rattle.quaject_core.specs.Appearances.{appearances, is_on, in_list, in_cell}
-use Rattle.quaject_core.specs.Elements.{Elements, is_hold, holds, new_thread}
-use Rattle.quaject_core.specs.Lawful.{IsLawfulElements, IsLawfulQueue}
-use Rattle.quaject_core.specs.Queues.{Queue, empty_queue, left}
-use Rattle.quaject_core.specs.Runs.{flat}
-use Rattle.quaject_core.specs.declared.hold.Hold.{Hold}
-use Rattle.quaject_core.proofs.Keeping.Elements.{every_at}
+use Rattle.event_theory.specs.Appearances.{appearances, is_on, in_list, in_cell}
+use Rattle.event_theory.specs.Elements.{Elements, is_hold, holds, new_thread}
+use Rattle.event_theory.specs.Lawful.{IsLawfulElements, IsLawfulQueue}
+use Rattle.event_theory.specs.Queues.{Queue, empty_queue, left}
+use Rattle.event_theory.specs.Runs.{flat}
+use Rattle.event_theory.specs.declared.hold.Hold.{Hold}
+use Rattle.event_theory.proofs.Keeping.Elements.{every_at}
 use Rattle.thread_table.specs.Closings.{SeatOf, IsIn, LineOf, PlaceOf, StandsAt, is_left, line_place, place_by, word_at}
 use Rattle.thread_table.specs.Schedules.{line_at, thread_at, element_at, element_of, no_run}
 use Rattle.thread_table.specs.Shown.{WordsShow, seat_shown, state_word, place_word, bit_of}

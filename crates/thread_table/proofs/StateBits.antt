@@ -6,8 +6,8 @@ use Rattle.std.proofs.lemmas.Nat.Bits.{bit_at_or, bit_at_and, bit_at-lt, bit_at-
 use Rattle.std.proofs.Math.Pow.{pow-lt}
 use Rattle.std.specs.Int.{bit_at}
 use Rattle.std.specs.Int.Bits.{bit_or, bit_and}
-use Rattle.quaject_core.specs.Chains.{with_number}
-use Rattle.quaject_core.specs.Elements.{Thread}
+use Rattle.event_theory.specs.Chains.{with_number}
+use Rattle.event_theory.specs.Elements.{Thread}
 use Rattle.thread_table.specs.Shown.{StateShows, bit_of}
 
 most_one : (a : ℕ) → a < 2 → max a 1 ≡ 1

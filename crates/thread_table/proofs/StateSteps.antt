@@ -10,11 +10,11 @@ use lib.ListN.{get_elem?}
 use prog.Atomic.{either}
 use Rattle.atomic_table.specs.Table.{Me, step, keeps, Allows}
 use Rattle.atomic_table.proofs.Lists.{exchanged}
-use Rattle.quaject_core.specs.Elements.{Elements, hold, put_on, take_off, stop, park, start, signal, deliver, done}
-use Rattle.quaject_core.specs.States.{State, effect, in_elements}
-use Rattle.quaject_core.specs.declared.event.Event.{Event}
-use Rattle.quaject_core.specs.declared.event.Event.TheVariants as events
-use Rattle.quaject_core.specs.declared.refusal.Refusal.{Refusal}
+use Rattle.event_theory.specs.Elements.{Elements, hold, put_on, take_off, stop, park, start, signal, deliver, done}
+use Rattle.event_theory.specs.States.{State, effect, in_elements}
+use Rattle.event_theory.specs.declared.event.Event.{Event}
+use Rattle.event_theory.specs.declared.event.Event.TheVariants as events
+use Rattle.event_theory.specs.declared.refusal.Refusal.{Refusal}
 use Rattle.thread_table.specs.declared.rule.Shape.{Shape}
 use Rattle.thread_table.specs.declared.rule.View.{View}
 use Rattle.thread_table.specs.Schedules.{elements_after, thread_at}

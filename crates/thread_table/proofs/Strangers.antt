@@ -3,10 +3,10 @@ use Rattle.std.proofs.Common.{◌≡◌, ◌≢◌, ℕ, ◌+◌, ◌<◌, ◌�
 use Rattle.std.proofs.lemmas.Bool.{eqb-true}
 use Rattle.std.proofs.lemmas.List.Sums.{sum_by-cons}
 use Rattle.std.specs.List.{list_any, count_by}
-use Rattle.quaject_core.specs.Appearances.{appearances, is_on}
-use Rattle.quaject_core.specs.Elements.{Elements, is_hold, holds, is_put}
-use Rattle.quaject_core.specs.Lawful.{IsLawfulElements}
-use Rattle.quaject_core.specs.declared.hold.Hold.{Hold}
+use Rattle.event_theory.specs.Appearances.{appearances, is_on}
+use Rattle.event_theory.specs.Elements.{Elements, is_hold, holds, is_put}
+use Rattle.event_theory.specs.Lawful.{IsLawfulElements}
+use Rattle.event_theory.specs.declared.hold.Hold.{Hold}
 use Rattle.thread_table.specs.Rules.{may_step}
 
 abbrev bit : Bool → ℕ

@@ -8,15 +8,15 @@ use Rattle.std.proofs.Math.Nat.{add-mod_right}
 use Rattle.std.specs.List.{list_any}
 use mathlib.Core.Logic.{dite}
 use native.Mathlib.Decide.{ℕ_discrete, dec_lt}
-use Rattle.quaject_core.specs.Elements.{Elements, hold, is_hold, holds, take_element}
-use Rattle.quaject_core.specs.Queues.{Queue, left, empty_queue, after_take, take_first}
-use Rattle.quaject_core.specs.Results.{◌>>=◌, at}
-use Rattle.quaject_core.specs.Lawful.{IsLawfulQueue, IsLawfulElements}
-use Rattle.quaject_core.specs.Appearances.{in_list}
-use Rattle.quaject_core.specs.declared.hold.Hold.{Hold}
-use Rattle.quaject_core.specs.declared.refusal.Refusal.TheVariants.{UnknownName}
-use Rattle.quaject_core.proofs.Keeping.Elements.{every_at}
-use Rattle.quaject_core.proofs.Keeping.Places.{one, sum_changed, in_joined}
+use Rattle.event_theory.specs.Elements.{Elements, hold, is_hold, holds, take_element}
+use Rattle.event_theory.specs.Queues.{Queue, left, empty_queue, after_take, take_first}
+use Rattle.event_theory.specs.Results.{◌>>=◌, at}
+use Rattle.event_theory.specs.Lawful.{IsLawfulQueue, IsLawfulElements}
+use Rattle.event_theory.specs.Appearances.{in_list}
+use Rattle.event_theory.specs.declared.hold.Hold.{Hold}
+use Rattle.event_theory.specs.declared.refusal.Refusal.TheVariants.{UnknownName}
+use Rattle.event_theory.proofs.Keeping.Elements.{every_at}
+use Rattle.event_theory.proofs.Keeping.Places.{one, sum_changed, in_joined}
 use Rattle.table_theory.proofs.QueueEvents.{take_goes}
 use Rattle.thread_table.specs.declared.rule.View.{View}
 use Rattle.thread_table.specs.declared.rule.Claimed.{Claimed}

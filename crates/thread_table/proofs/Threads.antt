@@ -3,10 +3,10 @@ use Rattle.std.proofs.Common.{◌≡◌, ◌≢◌, ℕ, ◌+◌, ◌*◌, ◌<�
 use Rattle.std.proofs.lemmas.List.{length-set, get_or-set_same, get_or-set_other}
 use Rattle.std.proofs.lemmas.Option.{slice_get-get_or}
 use Rattle.std.proofs.lemmas.Bool.Decides.{eqb_tells}
-use Rattle.quaject_core.specs.Chains.{with_number}
-use Rattle.quaject_core.specs.Elements.{Elements, Thread, new_thread, stop, signal, deliver}
-use Rattle.quaject_core.specs.declared.refusal.Refusal.{Refusal}
-use Rattle.quaject_core.proofs.Stored.Elements.{changed, delivered_ok, done_ok}
+use Rattle.event_theory.specs.Chains.{with_number}
+use Rattle.event_theory.specs.Elements.{Elements, Thread, new_thread, stop, signal, deliver}
+use Rattle.event_theory.specs.declared.refusal.Refusal.{Refusal}
+use Rattle.event_theory.proofs.Outcomes.{changed, delivered_ok, done_ok}
 use Rattle.thread_table.specs.declared.rule.View.{View}
 use Rattle.thread_table.specs.declared.rule.Counted.{Counted}
 use Rattle.thread_table.specs.Schedules.{Grows, thread_at}

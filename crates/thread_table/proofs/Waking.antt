@@ -8,13 +8,13 @@ use Rattle.std.proofs.lemmas.List.Sums.{sum_by-cons, get_or-le-sum_by}
 use Rattle.std.specs.Int.{bit_at}
 use Rattle.std.specs.Int.Bits.{bit_or}
 use Rattle.std.specs.List.{sum_by}
-use Rattle.quaject_core.specs.Queues.{Queue, left, empty_queue}
-use Rattle.quaject_core.specs.Elements.{Elements, holds}
-use Rattle.quaject_core.specs.Appearances.{appearances, in_list}
-use Rattle.quaject_core.specs.Lawful.{IsLawfulElements}
-use Rattle.quaject_core.specs.declared.event.Event.{Event}
-use Rattle.quaject_core.specs.declared.event.Event.TheVariants as events
-use Rattle.quaject_core.proofs.Keeping.Places.{one, in_hands}
+use Rattle.event_theory.specs.Queues.{Queue, left, empty_queue}
+use Rattle.event_theory.specs.Elements.{Elements, holds}
+use Rattle.event_theory.specs.Appearances.{appearances, in_list}
+use Rattle.event_theory.specs.Lawful.{IsLawfulElements}
+use Rattle.event_theory.specs.declared.event.Event.{Event}
+use Rattle.event_theory.specs.declared.event.Event.TheVariants as events
+use Rattle.event_theory.proofs.Keeping.Places.{one, in_hands}
 use Rattle.thread_table.specs.declared.rule.View.{View}
 use Rattle.thread_table.specs.declared.takings.NextRefusal.{NextRefusal}
 use Rattle.thread_table.specs.declared.takings.NextRefusal.TheVariants as nexts

@@ -3,13 +3,13 @@ use Rattle.std.specs.Prelude.{◌≡◌, ℕ, ◌<◌, ◌≤◌, true, false, L
 use mathlib.Core.Option.{some}
 use lib.ListN.{get_elem?}
 use Rattle.atomic_table.specs.Table as tables
-use Rattle.quaject_core.specs.Accounts.{IsAccounted}
-use Rattle.quaject_core.specs.Appearances.{appearances}
-use Rattle.quaject_core.specs.Elements.{holds}
-use Rattle.quaject_core.specs.Lawful.{IsLawful}
-use Rattle.quaject_core.specs.Schedules.{Reaches}
-use Rattle.quaject_core.specs.States.{State, first_state}
-use Rattle.quaject_core.specs.declared.event.Event.{Event}
+use Rattle.event_theory.specs.Accounts.{IsAccounted}
+use Rattle.event_theory.specs.Appearances.{appearances}
+use Rattle.event_theory.specs.Elements.{holds}
+use Rattle.event_theory.specs.Lawful.{IsLawful}
+use Rattle.event_theory.specs.Schedules.{Reaches}
+use Rattle.event_theory.specs.States.{State, first_state}
+use Rattle.event_theory.specs.declared.event.Event.{Event}
 use Rattle.table_theory.specs.Courses.{IsCourse}
 use Rattle.table_theory.specs.Ends.{Begins}
 use Rattle.table_theory.specs.Members.{EndsKnown}

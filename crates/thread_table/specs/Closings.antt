@@ -3,11 +3,11 @@ use Rattle.std.specs.Prelude.{◌≡◌, ◌≢◌, ◌+◌, ◌%◌, ◌<◌, �
 use Rattle.std.specs.Prelude.{Option, Some, None, slice_index_or}
 use Rattle.std.specs.List.{list_any}
 use Rattle.std.specs.Int.{bit_at}
-use Rattle.quaject_core.specs.Accounts.{IsAccounted}
-use Rattle.quaject_core.specs.Appearances.{is_on}
-use Rattle.quaject_core.specs.Elements.{Elements, holds}
-use Rattle.quaject_core.specs.Queues.{Queue, left}
-use Rattle.quaject_core.specs.States.{first_state}
+use Rattle.event_theory.specs.Accounts.{IsAccounted}
+use Rattle.event_theory.specs.Appearances.{is_on}
+use Rattle.event_theory.specs.Elements.{Elements, holds}
+use Rattle.event_theory.specs.Queues.{Queue, left}
+use Rattle.event_theory.specs.States.{first_state}
 use Rattle.table_theory.specs.Sharing.{IsWhole}
 use Rattle.thread_table.specs.declared.places.Place.{Place}
 use Rattle.thread_table.specs.declared.places.Place.TheVariants as places

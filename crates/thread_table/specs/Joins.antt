@@ -2,8 +2,8 @@
 use Rattle.std.specs.Prelude.{◌≡◌, ◌==◌, ℕ, ◌+◌, ◌≤◌, Bool, false, if◌then◌else◌, List, [], ◌∷◌, ◌++◌, length, count_by}
 use mathlib.Core.Option.{some}
 use lib.ListN.{get_elem?}
-use Rattle.quaject_core.specs.declared.event.Event.{Event}
-use Rattle.quaject_core.specs.declared.event.Event.TheVariants as events
+use Rattle.event_theory.specs.declared.event.Event.{Event}
+use Rattle.event_theory.specs.declared.event.Event.TheVariants as events
 use Rattle.table_theory.specs.Sharing.{total}
 use Rattle.table_theory.specs.declared.views.Entry.{Entry}
 use Rattle.thread_table.specs.declared.rule.View.{View}

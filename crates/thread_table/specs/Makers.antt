@@ -3,14 +3,14 @@ use Rattle.std.specs.Prelude.{◌≡◌, ◌<◌, ℕ, Bool, true, false, if◌t
 use Rattle.std.specs.List.{filter, range_with_len}
 use mathlib.Core.Option.{some}
 use lib.ListN.{get_elem?}
-use Rattle.quaject_core.specs.Accounts.{is_done}
-use Rattle.quaject_core.specs.Elements.{Elements}
+use Rattle.event_theory.specs.Accounts.{is_done}
+use Rattle.event_theory.specs.Elements.{Elements}
 use Rattle.table_theory.specs.Filing.{Owned, entry_of, ListedOnce}
-use Rattle.quaject_core.specs.declared.event.Event.{Event}
-use Rattle.quaject_core.specs.declared.event.Event.TheVariants as events
+use Rattle.event_theory.specs.declared.event.Event.{Event}
+use Rattle.event_theory.specs.declared.event.Event.TheVariants as events
 use Rattle.thread_table.specs.declared.rule.Made.{Made}
 use Rattle.std.specs.Result.{result_unwrap_or}
-use Rattle.quaject_core.specs.States.{State, step}
+use Rattle.event_theory.specs.States.{State, step}
 use Rattle.thread_table.specs.declared.rule.View.{View}
 use Rattle.thread_table.specs.Schedules.{begun, thread_at}
 

@@ -1,9 +1,9 @@
 -- Who put which element behind the free elements.
 use Rattle.std.specs.Prelude.{◌≡◌, ℕ, List, [], ◌∷◌, ◌++◌, map, drop}
-use Rattle.quaject_core.specs.Runs.{Run}
-use Rattle.quaject_core.specs.declared.event.Event.{Event}
-use Rattle.quaject_core.specs.declared.event.Event.TheVariants as events
-use Rattle.quaject_core.specs.declared.names.QueueName.TheVariants as names
+use Rattle.event_theory.specs.Runs.{Run}
+use Rattle.event_theory.specs.declared.event.Event.{Event}
+use Rattle.event_theory.specs.declared.event.Event.TheVariants as events
+use Rattle.event_theory.specs.declared.names.QueueName.TheVariants as names
 use Rattle.thread_table.specs.Schedules.{elements_after, line_at}
 
 abbrev pub items_of : Run → List ℕ

@@ -9,8 +9,8 @@ use Rattle.table_theory.specs.Courses.{IsCourse}
 use Rattle.table_theory.specs.Ends.{Begins}
 use Rattle.table_theory.specs.Members.{first_member, EndsKnown}
 use Rattle.table_theory.specs.Sharing.{IsWhole}
-use Rattle.quaject_core.specs.Elements.{Elements, hold, holds, is_put}
-use Rattle.quaject_core.specs.declared.event.Event.{Event}
+use Rattle.event_theory.specs.Elements.{Elements, hold, holds, is_put}
+use Rattle.event_theory.specs.declared.event.Event.{Event}
 use Rattle.atomic_table.specs.Table.{State}
 use Rattle.thread_table.specs.declared.rule.Shape.{Shape}
 use Rattle.thread_table.specs.declared.rule.View.{View}

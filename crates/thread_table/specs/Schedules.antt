@@ -2,14 +2,14 @@
 use Rattle.std.specs.Prelude.{◌≡◌, ℕ, zero, suc, ◌<◌, ◌≤◌, true, List, [], ◌∷◌, length}
 use Rattle.std.specs.Prelude.{slice_index_or}
 use Rattle.std.specs.Result.{result_unwrap_or}
-use Rattle.quaject_core.specs.Elements.{Elements, Thread, new_thread}
-use Rattle.quaject_core.specs.Queues.{Queue, empty_queue}
-use Rattle.quaject_core.specs.Runs.{Run}
-use Rattle.quaject_core.specs.Schedules.{Reaches}
-use Rattle.quaject_core.specs.States.{State, first_state, step}
-use Rattle.quaject_core.specs.declared.event.Event.{Event}
-use Rattle.quaject_core.specs.declared.names.QueueName.{QueueName}
-use Rattle.quaject_core.specs.declared.names.QueueName.TheVariants as names
+use Rattle.event_theory.specs.Elements.{Elements, Thread, new_thread}
+use Rattle.event_theory.specs.Queues.{Queue, empty_queue}
+use Rattle.event_theory.specs.Runs.{Run}
+use Rattle.event_theory.specs.Schedules.{Reaches}
+use Rattle.event_theory.specs.States.{State, first_state, step}
+use Rattle.event_theory.specs.declared.event.Event.{Event}
+use Rattle.event_theory.specs.declared.names.QueueName.{QueueName}
+use Rattle.event_theory.specs.declared.names.QueueName.TheVariants as names
 use Rattle.table_theory.specs.declared.views.Entry.{Entry}
 
 -- steps of all hands and their joins, in their order: each found a schedule, and left one

@@ -4,10 +4,10 @@ use Rattle.std.specs.Prelude.{length}
 use Rattle.std.specs.Prelude.{slice_index_or, Option, Some, None}
 use Rattle.std.specs.List.{slice_get}
 use Rattle.std.specs.Int.{bit_at}
-use Rattle.quaject_core.specs.Elements.{Elements, Thread}
-use Rattle.quaject_core.specs.Queues.{Queue}
-use Rattle.quaject_core.specs.Runs.{Run}
-use Rattle.quaject_core.specs.declared.hold.Hold.{Hold}
+use Rattle.event_theory.specs.Elements.{Elements, Thread}
+use Rattle.event_theory.specs.Queues.{Queue}
+use Rattle.event_theory.specs.Runs.{Run}
+use Rattle.event_theory.specs.declared.hold.Hold.{Hold}
 use Rattle.thread_table.specs.Schedules.{line_at, thread_at, element_at}
 
 -- where the words of each kind stand

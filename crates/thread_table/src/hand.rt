@@ -11,7 +11,7 @@ use crate::rule::{Shape, ThreadRule, View};
 use crate::steps::{count_down, count_up, split_off, take_in};
 use crate::words::WORDS;
 use atomic_table::{Seat, Table};
-use quaject_core::{Element, OutOfMemory, Processor};
+use event_theory::{Element, OutOfMemory, Processor};
 use std::alloc::Global;
 use std::marker::Brand;
 

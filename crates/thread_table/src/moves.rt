@@ -13,7 +13,7 @@ use crate::rule::View;
 use crate::steps::{Words, exchange_head, exchange_head_at, load_head, store_place};
 use crate::words::{FREE, HeadWord, PlaceWord, READY, of_wait};
 use atomic_table::Seat;
-use quaject_core::{Element, WaitNumber};
+use event_theory::{Element, WaitNumber};
 use std::marker::Brand;
 use thiserror::Error;
 

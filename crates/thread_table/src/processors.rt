@@ -6,7 +6,7 @@ ghost use Rattle.thread_table.specs.Steps.{PutsOn, TakesOff};
 
 use crate::hand::{Hand, ThreadTable, set_held, set_running};
 use crate::steps::{swap_off, swap_on};
-use quaject_core::{Element, Processor};
+use event_theory::{Element, Processor};
 use std::marker::Brand;
 use thiserror::Error;
 

@@ -7,7 +7,7 @@ ghost use Rattle.thread_table.specs.Answers.{DoneAnswer};
 
 use crate::hand::{Hand, ThreadTable};
 use crate::steps::{load_done, store_done};
-use quaject_core::Element;
+use event_theory::Element;
 use std::marker::Brand;
 use thiserror::Error;
 

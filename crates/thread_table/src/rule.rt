@@ -1,6 +1,6 @@
 //! The rule of the table. Its types are for the proofs alone: no program makes a value of them but the table itself.
 use atomic_table::TableRule;
-use quaject_core::Event;
+use event_theory::Event;
 use std::collections::LinkedList;
 use table_theory::views::{Entry, Member};
 

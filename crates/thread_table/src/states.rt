@@ -9,7 +9,7 @@ use crate::steps::{
     exchange_deliver, exchange_park, exchange_start, load_state, or_signal, or_stop,
 };
 use crate::words::StateWord;
-use quaject_core::{Element, Signal};
+use event_theory::{Element, Signal};
 use std::marker::Brand;
 use thiserror::Error;
 

@@ -12,7 +12,7 @@ ghost use Rattle.thread_table.specs.Views.{claim_of, count_of};
 ghost use Rattle.thread_table.specs.Steps.{Found, Claims, claim_event, Raises, Takes, Notifies, PutsOn, TakesOff};
 ghost use Rattle.thread_table.specs.Steps.{Marks, Counts, Steps, CountedUp, CountedDown, Tallied};
 ghost use Rattle.thread_table.specs.Steps.{Parks, Starts, Delivers, rest_of, newborn, both, emptied};
-ghost use Rattle.quaject_core.specs.declared.event.Event.TheVariants as events;
+ghost use Rattle.event_theory.specs.declared.event.Event.TheVariants as events;
 ghost use Rattle.thread_table.specs.Reads.{Peeked, StateIs};
 
 use crate::plays::{

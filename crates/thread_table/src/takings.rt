@@ -6,7 +6,7 @@ ghost use Rattle.thread_table.specs.Answers.{TakeAnswer};
 use crate::hand::{Hand, ThreadTable};
 use crate::steps::{exchange_tail, load_place, load_tail};
 use crate::words::{FREE, PlaceWord, READY, of_wait};
-use quaject_core::{Element, WaitNumber};
+use event_theory::{Element, WaitNumber};
 use std::marker::Brand;
 use thiserror::Error;
 

@@ -7,7 +7,7 @@ use crate::hand::{Hand, ThreadTable};
 use crate::steps::{add_notify, load_tail};
 use crate::words::{HeadWord, of_wait};
 use crossbeam_utils::Backoff;
-use quaject_core::WaitNumber;
+use event_theory::WaitNumber;
 use std::marker::Brand;
 use std::sync::Wait;
 

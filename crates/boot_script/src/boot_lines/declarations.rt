@@ -7,17 +7,17 @@ ghost use Rattle.boot_script.specs.Versions.{last_wait};
 ghost use Rattle.boot_script.specs.Grammar.{one_word, three_words};
 ghost use Rattle.boot_script.specs.BootNames.{number_named, new_name};
 ghost use Rattle.boot_script.specs.BootLines.{type_words};
-ghost use Rattle.boot_script.specs.declared.declared_names.Kind.TheVariants as kind;
+ghost use Rattle.boot_data.specs.declared.kind.Kind.TheVariants as kind;
 
 use crate::boot_lines::{Line, at_end};
 use crate::declared_names::Names;
 use crate::fault::ScriptRefusal;
 use crate::names::{signal, wait_number};
-use crate::plan::{PipeWaits, PlannedQueue};
 use crate::text::{Words, number_u32};
 use crate::unescaping::text_said;
 use crate::version::Version;
-use quaject_core::Alarm;
+use boot_data::plan::{PipeWaits, PlannedQueue};
+use event_theory::Alarm;
 
 /// `queue NAME`
 #[tactic(auto, unfolding(crate::specs::Grammar::one_word, crate::specs::Grammar::no_words))]

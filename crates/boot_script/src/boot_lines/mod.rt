@@ -24,11 +24,11 @@ use crate::boot_words::{BootWord, line_word};
 use crate::declared_names::{Names, TtyNumber};
 use crate::event_lines::{is_ascii, no_more};
 use crate::fault::ScriptRefusal;
-use crate::fixed::{Name, Text};
-use crate::plan::{PlannedMover, PlannedQueue, Step};
 use crate::text::Words;
 use crate::version::Version;
-use quaject_core::{Alarm, Element};
+use boot_data::plan::{PlannedMover, PlannedQueue, Step};
+use boot_data::{Name, Text};
+use event_theory::{Alarm, Element};
 
 /// What a line declares, or a step.
 #[derive(Drop)]

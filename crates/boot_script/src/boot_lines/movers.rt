@@ -7,10 +7,11 @@ ghost use Rattle.boot_script.specs.BootNames.{number_named, new_name};
 ghost use Rattle.boot_script.specs.BootLines.{AreSeen, key_of, way_of, ways_of, switch_words};
 
 use crate::boot_lines::{Line, at_end};
-use crate::declared_names::{Kind, Names};
+use crate::declared_names::Names;
 use crate::fault::ScriptRefusal;
-use crate::plan::{Mover, PlannedMover, Way, Ways};
 use crate::text::Words;
+use boot_data::Kind;
+use boot_data::plan::{Mover, PlannedMover, Way, Ways};
 
 /// `pump NAME FROM TO`
 #[tactic(auto, unfolding(crate::specs::Grammar::three_words, crate::specs::Grammar::no_words))]

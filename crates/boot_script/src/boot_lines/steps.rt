@@ -9,13 +9,14 @@ ghost use Rattle.boot_script.specs.BootNames.{number_named, queue_named};
 ghost use Rattle.boot_script.specs.BootLines.{say_words};
 
 use crate::boot_lines::{Line, at_end};
-use crate::declared_names::{Kind, Names};
+use crate::declared_names::Names;
 use crate::fault::ScriptRefusal;
 use crate::names::{signal, wait_number};
-use crate::plan::Step;
 use crate::text::{Words, number};
 use crate::unescaping::text_said;
 use crate::version::Version;
+use boot_data::Kind;
+use boot_data::plan::Step;
 
 /// `say Q TEXT`
 #[tactic(auto, unfolding(crate::specs::BootLines::say_words))]

@@ -9,7 +9,7 @@ use crate::fault::ScriptRefusal;
 use crate::names::{Listener, call, chain, notify_listener};
 use crate::text::Words;
 use crate::version::Version;
-use quaject_core::Event;
+use event_theory::Event;
 
 /// `chain`
 pub(super) fn chain_said(words: &mut Words) -> Result<Event, ScriptRefusal>

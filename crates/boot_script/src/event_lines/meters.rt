@@ -10,7 +10,7 @@ use crate::fault::ScriptRefusal;
 use crate::names::{call, element, gauge, signal, slot};
 use crate::text::{Words, number, number_u32};
 use crate::version::Version;
-use quaject_core::Event;
+use event_theory::Event;
 
 /// `tick c g n`
 #[tactic(auto, unfolding(crate::specs::Grammar::three_words, crate::specs::Grammar::no_words))]

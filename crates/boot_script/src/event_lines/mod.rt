@@ -24,7 +24,7 @@ use crate::event_lines::threads::{
 use crate::fault::ScriptRefusal;
 use crate::text::Words;
 use crate::version::Version;
-use quaject_core::Event;
+use event_theory::Event;
 use std::alloc::Global;
 
 /// No word is left; else UnknownWord.

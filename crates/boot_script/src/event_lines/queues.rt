@@ -11,7 +11,7 @@ use crate::fault::ScriptRefusal;
 use crate::names::{byte_queue, call, queue};
 use crate::text::{Words, number, number_u32};
 use crate::version::Version;
-use quaject_core::{Event, Items};
+use event_theory::{Event, Items};
 use std::alloc::Global;
 
 /// How many items a line may have.

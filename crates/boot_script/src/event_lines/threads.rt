@@ -10,7 +10,7 @@ use crate::fault::ScriptRefusal;
 use crate::names::{call, element, processor, signal, wait};
 use crate::text::{Words, number_u32};
 use crate::version::Version;
-use quaject_core::Event;
+use event_theory::Event;
 
 /// `on c p e`
 #[tactic(auto, unfolding(crate::specs::Grammar::three_words, crate::specs::Grammar::no_words))]

@@ -2,7 +2,7 @@
 
 use super::{Counted, lines_of};
 use boot_script::*;
-use quaject_core::{
+use event_theory::{
     AlarmStatus, Call, ChainStatus, ElementStatus, Gate, Items, Place, Processor, QueueStatus,
     Status, WaitNumber,
 };

@@ -2,7 +2,7 @@
 
 use super::{Counted, lines_of};
 use boot_script::*;
-use quaject_core::Refusal;
+use event_theory::Refusal;
 use std::alloc::Global;
 use std::io;
 use std::io::{ErrorKind, Read, Write};

@@ -1,8 +1,9 @@
 //! Printed reports, and writers that fail.
 
 use arrayvec::ArrayVec;
-use boot_script::{Name, print_report, *};
-use quaject_core::{Items, WaitNumber};
+use boot_data::Name;
+use boot_script::{print_report, *};
+use event_theory::{Items, WaitNumber};
 use std::alloc::Global;
 use std::io;
 use std::io::{ErrorKind, Write};

@@ -4,8 +4,8 @@ ghost use Rattle.thread_table.specs.Handles.{view_of, IsHandOf, IsSameHand};
 ghost use Rattle.thread_table.specs.Rules.{has};
 
 use crate::fixtures::{begins, closes, element, wait_queue};
+use event_theory::{Element, WaitNumber};
 use hand_steps::*;
-use quaject_core::{Element, WaitNumber};
 use std::alloc::Global;
 use std::process::Abort;
 use std::sync::Wait;

@@ -7,9 +7,9 @@ ghost use Rattle.hand_steps.specs.Tallies.{Adds, behind, no_events, one_delivery
 
 use crate::fixtures::{alarm_at, begins, processor, signal, wait_queue};
 use crate::hands::scripts::{Act, does, plays};
+use event_theory::{Element, Processor, Signal, WaitNumber};
 use hand_steps::*;
 use meters::{AdvanceRefusal, Meters};
-use quaject_core::{Element, Processor, Signal, WaitNumber};
 use std::panic::Expect;
 use std::sync::Wait;
 use std::test::*;

@@ -3,8 +3,8 @@ ghost use Rattle.thread_table.specs.Handles.{view_of, IsHandOf, IsSameHand};
 ghost use Rattle.hand_steps.specs.Holdings.{IsFree};
 
 use crate::fixtures::{closes, part, processor, steps_of, wait_queue};
+use event_theory::{Processor, WaitNumber};
 use hand_steps::*;
-use quaject_core::{Processor, WaitNumber};
 use std::panic::Expect;
 use std::sync::Wait;
 use std::test::*;

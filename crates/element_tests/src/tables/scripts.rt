@@ -4,7 +4,7 @@ ghost use Rattle.thread_table.specs.Handles.{view_of, IsHandOf, IsSameHand};
 ghost use Rattle.thread_table.specs.Rules.{has};
 
 use crate::fixtures::{begins, closes, element, processor, signal, wait_queue};
-use quaject_core::Element;
+use event_theory::Element;
 use std::alloc::Global;
 use std::process::Abort;
 use std::sync::Wait;

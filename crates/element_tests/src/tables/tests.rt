@@ -4,7 +4,7 @@ ghost use Rattle.thread_table.specs.Rules.{has, serves, running};
 
 use crate::fixtures::{begins, element, is_told, processor, wait_queue};
 use crate::tables::scripts::{Act, does, free, plays};
-use quaject_core::{Element, OutOfMemory, Processor, WaitNumber};
+use event_theory::{Element, OutOfMemory, Processor, WaitNumber};
 use std::alloc::Global;
 use std::panic::Expect;
 use std::process::Abort;

@@ -2,7 +2,7 @@ ghost use Rattle.std.specs.Thread.{IsSync};
 ghost use Rattle.thread_table.specs.Handles.{IsHandOf, IsSameHand};
 
 use crate::fixtures::{closes, part, processor, steps_of, wait_queue};
-use quaject_core::{Element, Processor, WaitNumber};
+use event_theory::{Element, Processor, WaitNumber};
 use std::panic::Expect;
 use std::process::Abort;
 use std::sync::Wait;

@@ -1,10 +1,10 @@
 ghost use Rattle.std.specs.Prelude.{◌≡◌, IfOk, slice_index_or};
-ghost use Rattle.quaject_core.specs.declared.alarm.Alarm.{Alarm};
+ghost use Rattle.event_theory.specs.declared.alarm.Alarm.{Alarm};
 ghost use Rattle.meters.specs.Views.{times};
 
 use crate::fixtures::alarm_at;
+use event_theory::OutOfMemory;
 use meters::*;
-use quaject_core::OutOfMemory;
 use std::alloc::Global;
 use std::test::*;
 

@@ -3,7 +3,7 @@ use Rattle.std.proofs.Common.{◌≡◌, ℕ, zero, suc, ◌+◌, ◌*◌, ◌-�
 use mir.Val.{bool_byte}
 use Rattle.std.proofs.Math.Pow.{pow_mono}
 use Rattle.quaject_core.specs.Layout.{set_of}
-use Rattle.quaject_core.specs.Statuses.{bits_from}
+use Rattle.event_theory.specs.Statuses.{bits_from}
 
 one_bit : (b : Bool) → cond b 1 0 ≤ 1
 one_bit true = omega arith

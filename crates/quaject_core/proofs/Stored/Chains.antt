@@ -2,9 +2,9 @@
 use Rattle.std.proofs.Common.{◌≡◌, ℕ, zero, suc, Bool, false, slice_index_or, replicate, refl, ap₂, Option}
 use mathlib.Core.Path.{fun_ext}
 use Rattle.quaject_core.specs.Layout.{set_of}
-use Rattle.quaject_core.specs.Queues.{Queue}
-use Rattle.quaject_core.specs.Chains.{Chain}
-use Rattle.quaject_core.specs.declared.status.Gate.{Gate}
+use Rattle.event_theory.specs.Queues.{Queue}
+use Rattle.event_theory.specs.Chains.{Chain}
+use Rattle.event_theory.specs.declared.status.Gate.{Gate}
 
 no_mark : (count number : ℕ) → slice_index_or (replicate count false) number false ≡ false
 no_mark zero number = refl

@@ -5,14 +5,14 @@ use Rattle.std.proofs.lemmas.Bool.Decides.{nat_tests}
 use Rattle.std.proofs.lemmas.List.{drop-drop, get_or-map}
 use Rattle.std.proofs.lemmas.List.FromFn.{get_or-map-range_with_len, length-map-range_with_len, map-range_with_len_more}
 use Rattle.std.specs.List.{range_with_len}
-use Rattle.quaject_core.specs.Runs.{Run}
-use Rattle.quaject_core.specs.Queues.{full_queue}
+use Rattle.event_theory.specs.Runs.{Run}
+use Rattle.event_theory.specs.Queues.{full_queue}
 use Rattle.quaject_core.specs.Layout.{item_of, flag_of, run_at, flag_at, queue_at, Laid}
-use Rattle.quaject_core.specs.Lawful.{IsLawfulQueue}
+use Rattle.event_theory.specs.Lawful.{IsLawfulQueue}
 use Rattle.quaject_core.specs.declared.queueing.StoredItem.{StoredItem}
 use Rattle.quaject_core.specs.declared.queueing.Span.{Span}
-use Rattle.quaject_core.proofs.Lists.Histories.{same_set}
-use Rattle.quaject_core.proofs.Keeping.First.{full_law}
+use Rattle.event_theory.proofs.Lists.Histories.{same_set}
+use Rattle.event_theory.proofs.Keeping.First.{full_law}
 use Rattle.quaject_core.proofs.Stored.Layout.{same_queue}
 
 -- where a run of one item of the first call lies

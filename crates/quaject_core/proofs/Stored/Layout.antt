@@ -10,14 +10,14 @@ use Rattle.std.proofs.Math.ListN.{get_or-append}
 use Rattle.std.proofs.lemmas.Grind.{get_or-set_at}
 use Rattle.std.proofs.Math.Seq.{drop-cons, map-set_same}
 use Rattle.std.proofs.lemmas.Option.{slice_get-map}
-use Rattle.quaject_core.specs.Runs.{Run, flat, pairs_of, pairs_from, pairs}
-use Rattle.quaject_core.specs.Queues.{Queue, left, left_pairs, is_raised, after_claim, after_raise}
+use Rattle.event_theory.specs.Runs.{Run, flat, pairs_of, pairs_from, pairs}
+use Rattle.event_theory.specs.Queues.{Queue, left, left_pairs, is_raised, after_claim, after_raise}
 use Rattle.quaject_core.specs.Layout.{fresh, item_of, flag_of, run_at, flag_at, queue_at, Laid}
 use Rattle.quaject_core.specs.declared.queueing.StoredItem.{StoredItem}
 use Rattle.quaject_core.specs.declared.queueing.Span.{Span}
 use Rattle.quaject_core.specs.Shown.{queue}
 use Rattle.quaject_core.specs.declared.queueing.StoredQueue.{StoredQueue}
-use Rattle.quaject_core.proofs.Lists.Histories.{same_set, both}
+use Rattle.event_theory.proofs.Lists.Histories.{same_set, both, slice_get-drop}
 
 pub laid_rises : (start : ℕ) (spans : List Span) (end : ℕ) → Laid start spans end → start ≤ end
 laid_rises start [] end laid = omega (arith, laid)
@@ -326,11 +326,6 @@ raised_stored stored =
 
 pub length_queue : (stored : StoredQueue) → length (flat (queue stored).history) ≡ length stored.places.items
 length_queue stored = length_stored stored.capacity stored.runs.items stored.places.items stored.taken stored.shut stored.laid_out
-
-pub slice_get-drop : {X : Type 0} (xs : List X) (k i : ℕ) → slice_get (drop k xs) i ≡ slice_get xs (k + i)
-slice_get-drop xs zero i = ap (slice_get xs) (sym (zero-add i))
-slice_get-drop [] (suc k) i = refl
-slice_get-drop (x ∷ xs) (suc k) i = let e : suc k + i ≡ suc (k + i) = omega arith in slice_get-drop xs k i ∙ ap (slice_get (x ∷ xs)) (sym e)
 
 -- the items of a stored queue
 pub items_stored : (stored : StoredQueue) → flat (queue stored).history ≡ map item_of stored.places.items

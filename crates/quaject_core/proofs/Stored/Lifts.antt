@@ -4,9 +4,9 @@ use Rattle.std.specs.Prelude.{IsOk, IsErrAnd}
 use Rattle.std.specs.List.{repeat}
 use Rattle.std.proofs.lemmas.List.{map-append}
 use Rattle.std.proofs.Math.Seq.{map-set_same}
-use Rattle.quaject_core.specs.Results.{◌>>=◌, at, change_at, IsWhy, Changes}
-use Rattle.quaject_core.specs.declared.refusal.Refusal.{Refusal}
-use Rattle.quaject_core.specs.declared.refusal.Refusal.TheVariants.{OutOfMemory}
+use Rattle.event_theory.specs.Results.{◌>>=◌, at, change_at, IsWhy, Changes}
+use Rattle.event_theory.specs.declared.refusal.Refusal.{Refusal}
+use Rattle.event_theory.specs.declared.refusal.Refusal.TheVariants.{OutOfMemory}
 use Rattle.quaject_core.proofs.Stored.Elements.{found_at, shown_at, shown_set}
 
 -- the reason of a part is that of the whole

@@ -4,24 +4,24 @@ use Rattle.std.specs.Prelude.{IsOk, IsErrAnd, MatchResult}
 use Rattle.std.specs.List.{list_any}
 use Rattle.std.proofs.lemmas.Bool.{eqb-false, ne_eqb, lt-ltb, le-ltb, leb-true}
 use Rattle.std.proofs.lemmas.Bool.Decides.{nat_tests}
-use Rattle.quaject_core.specs.Queues.{Queue, left, claim, after_claim, take_first}
-use Rattle.quaject_core.specs.Elements.{Elements, Thread, is_hold, let_all_go, claim_element}
-use Rattle.quaject_core.specs.Lines.{first_hold, taken}
-use Rattle.quaject_core.specs.Statuses.{queue_status}
-use Rattle.quaject_core.specs.Results.{◌>>=◌, at, change_at, IsWhy}
-use Rattle.quaject_core.specs.declared.hold.Hold.{Hold}
-use Rattle.quaject_core.specs.declared.refusal.Refusal.{Refusal}
-use Rattle.quaject_core.specs.declared.refusal.Refusal.TheVariants.{NoItems, TooLong, Full, NotRaised, NotHeld, Closed, Moved}
-use Rattle.quaject_core.proofs.Lists.Inversions.{change_ok, test_ok}
+use Rattle.event_theory.specs.Queues.{Queue, left, claim, after_claim, take_first}
+use Rattle.event_theory.specs.Elements.{Elements, Thread, is_hold, let_all_go, claim_element}
+use Rattle.event_theory.specs.Lines.{first_hold, taken}
+use Rattle.event_theory.specs.Statuses.{queue_status}
+use Rattle.event_theory.specs.Results.{◌>>=◌, at, change_at, IsWhy}
+use Rattle.event_theory.specs.declared.hold.Hold.{Hold}
+use Rattle.event_theory.specs.declared.refusal.Refusal.{Refusal}
+use Rattle.event_theory.specs.declared.refusal.Refusal.TheVariants.{NoItems, TooLong, Full, NotRaised, NotHeld, Closed, Moved}
+use Rattle.event_theory.proofs.Lists.Inversions.{change_ok, test_ok}
 use Rattle.quaject_core.specs.Shown.{queue}
 use Rattle.quaject_core.specs.ShownElements.{elements}
 use Rattle.quaject_core.specs.ShownThreads.{thread}
-use Rattle.quaject_core.specs.Marks.{wait_at}
+use Rattle.event_theory.specs.Marks.{wait_at}
 use Rattle.quaject_core.specs.declared.elements.StoredElements.{StoredElements}
 use Rattle.quaject_core.specs.declared.queueing.StoredQueue.{StoredQueue}
-use Rattle.quaject_core.specs.declared.status.QueueStatus.{QueueStatus}
-use Rattle.quaject_core.proofs.Keeping.Queues.{take_ok}
-use Rattle.quaject_core.proofs.Lists.Histories.{both}
+use Rattle.event_theory.specs.declared.status.QueueStatus.{QueueStatus}
+use Rattle.event_theory.proofs.Keeping.Queues.{take_ok}
+use Rattle.event_theory.proofs.Lists.Histories.{both}
 use Rattle.quaject_core.proofs.Stored.Elements.{is_there, shown_at}
 use Rattle.quaject_core.proofs.Stored.Lifts.{why_given, ok_of, at_there}
 

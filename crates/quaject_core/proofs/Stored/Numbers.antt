@@ -2,10 +2,10 @@
 use Rattle.std.proofs.Common.{◌≡◌, ℕ, ◌+◌, Bool, not, cond, List, [], ◌∷◌, map, refl, ap, Option, position}
 use Rattle.std.proofs.lemmas.List.{length-map}
 use Rattle.std.specs.List.{position_or_len}
-use Rattle.quaject_core.specs.Elements.{Elements}
+use Rattle.event_theory.specs.Elements.{Elements}
 use Rattle.quaject_core.specs.Shown.{queue}
 use Rattle.quaject_core.specs.ShownThreads.{thread}
-use Rattle.quaject_core.specs.declared.hold.Hold.{Hold}
+use Rattle.event_theory.specs.declared.hold.Hold.{Hold}
 use Rattle.quaject_core.specs.declared.queueing.StoredQueue.{StoredQueue}
 use Rattle.quaject_core.specs.declared.threading.StoredThread.{StoredThread}
 

@@ -4,7 +4,7 @@ mod elements;
 mod queues;
 mod values;
 
-use quaject_core::*;
+use event_theory::*;
 use std::alloc::Global;
 
 const FREE: ElementStatus = ElementStatus {

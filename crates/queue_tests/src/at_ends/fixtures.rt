@@ -9,8 +9,8 @@ ghost use Rattle.end_steps.specs.EndLists.{AreEndsOf, AreChainEndsOf, AreChainsO
 use arrayvec::ArrayVec;
 use claim_queue::{ClaimQueue, ClaimRefusal, QueueEnd, TakeRefusal};
 use end_steps::{Gate, NoGate, Point, Poked, hear, poke, say};
+use event_theory::OutOfMemory;
 use proc_chain::{ChainEnd, ChainRefusal, ProcChain};
-use quaject_core::OutOfMemory;
 use quajects::{AnyQuaject, Pump, Queues};
 use std::alloc::Global;
 use std::panic::Expect;

@@ -2,8 +2,8 @@ ghost use Rattle.std.specs.Prelude.{◌≡◌, ◌%◌, ◌^◌, true, length};
 ghost use Rattle.proc_chain.specs.Handles.{turn_of, world_of, IsEndOf};
 
 use crate::fixtures::{close_chain, is_told};
+use event_theory::OutOfMemory;
 use proc_chain::*;
-use quaject_core::OutOfMemory;
 use std::alloc::Global;
 use std::process::Abort;
 use std::sync::Wait;

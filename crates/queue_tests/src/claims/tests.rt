@@ -4,7 +4,7 @@ use crate::claims::scripts::{Act, Four, Script, closes, does, new_four, plays};
 use crate::fixtures::is_told;
 use arrayvec::ArrayVec;
 use claim_queue::*;
-use quaject_core::OutOfMemory;
+use event_theory::OutOfMemory;
 use std::alloc::Global;
 use std::process::Abort;
 use std::test::*;

@@ -9,8 +9,8 @@ ghost use Rattle.processor.specs.Stations.{ArePartsOf};
 use super::partings::stand_two;
 use super::*;
 use end_steps::{Gate, Point, say, shut_queue};
+use event_theory::WaitNumber;
 use hand_steps::wake;
-use quaject_core::WaitNumber;
 use std::test::*;
 
 /// A gate that says a line in the first queue, or shuts it, and wakes those who wait to hear, behind each try of a hear.

@@ -2,7 +2,7 @@ use Rattle.std.proofs.Common.{◌∙◌, inl, inr, refl, sym, ap, subst, arith, 
 use Rattle.std.proofs.lemmas.Bool.Decides.{nat_tests}
 use Rattle.boot_script.specs.Words.{lines_of}
 use Rattle.boot_script.specs.Plans.{first_draft, plan_from, plan_only}
-use Rattle.boot_script.specs.PlanLimits.{IsPlan}
+use Rattle.boot_data.specs.PlanLimits.{IsPlan}
 use Rattle.boot_script.specs.Drafts.{Draws}
 use Rattle.boot_script.proofs.EventsRead.{no_text}
 use Rattle.boot_script.proofs.LinesDrawn.{silent_line, line_told, line_fault, lines_done, is_said}

@@ -1,6 +1,6 @@
 use Rattle.std.proofs.Common.{◌∷◌, ◌++◌, ◌∙◌, inl, inr, [], refl, sym, ap, subst, rules, ℕ, arith, Ok}
 use Rattle.std.proofs.lemmas.Bool.Decides.{nat_tests}
-use Rattle.quaject_core.specs.declared.event.Event.{Event}
+use Rattle.event_theory.specs.declared.event.Event.{Event}
 use Rattle.boot_script.specs.Words.{lines_of}
 use Rattle.boot_script.specs.Grammar.{line_event}
 use Rattle.boot_script.specs.Scripts.{events_from}

@@ -1,5 +1,5 @@
 use Rattle.std.proofs.Common.{ℕ, ◌+◌, ◌≤◌, length}
-use Rattle.quaject_core.specs.declared.event.Event.{Event}
+use Rattle.event_theory.specs.declared.event.Event.{Event}
 use Rattle.boot_script.specs.declared.fault.ScriptFault.{ScriptFault}
 use Rattle.boot_script.specs.Words.{lines_of}
 use Rattle.boot_script.specs.Scripts.{events_from}

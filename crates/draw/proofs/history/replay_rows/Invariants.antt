@@ -1,7 +1,7 @@
 use Rattle.std.proofs.Common.{◌≡◌, length, take, min}
 use Rattle.quaject_core.specs.ShownCores.{state}
-use Rattle.quaject_core.specs.States.{first_state}
-use Rattle.quaject_core.specs.Schedules.{Reaches}
+use Rattle.event_theory.specs.States.{first_state}
+use Rattle.event_theory.specs.Schedules.{Reaches}
 use Rattle.boot_script.specs.Replays.{alone}
 use Rattle.draw.specs.Histories.{TellsLast}
 use Rattle.draw.proofs.history.replay_rows.Given as goal

@@ -1,5 +1,5 @@
 use Rattle.std.proofs.Common.{◌++◌, ◌∙◌, refl, sym, ap, subst}
-use Rattle.quaject_core.specs.States.{first_state}
+use Rattle.event_theory.specs.States.{first_state}
 use Rattle.boot_script.proofs.Faults.{memory_last}
 use Rattle.draw.specs.Drawings.{IsDrawn}
 use Rattle.draw.specs.Histories.{IsHistory}

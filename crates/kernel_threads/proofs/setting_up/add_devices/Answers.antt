@@ -1,6 +1,6 @@
 use Rattle.std.proofs.Common.{rules, ◌+◌, ◌<◌, ◌++◌, ◌∷◌, [], List, take, map, length, length-append, refl, sym, ap, subst, ◌∙◌, arith}
 use Rattle.std.proofs.lemmas.List.{map-append}
-use Rattle.boot_script.specs.declared.plan.PlannedTty.{PlannedTty}
+use Rattle.boot_data.specs.declared.plan.PlannedTty.{PlannedTty}
 use Rattle.spsc_line.specs.declared.line_in.LineIn.{LineIn}
 use Rattle.kernel_threads.specs.declared.work.Work.{Work}
 use Rattle.kernel_threads.specs.Readiness.{AreServing, input_of}

@@ -4,7 +4,7 @@ use Rattle.hand_steps.specs.Holdings.{IsFree}
 use Rattle.processor.specs.Stations.{ArePartsOf}
 use Rattle.processor.specs.Preparing.{IsPrepared}
 use Rattle.thread_table.specs.Handles.{view_of}
-use Rattle.boot_script.specs.declared.boot_plan.BootPlan.{BootPlan}
+use Rattle.boot_data.specs.declared.boot_plan.BootPlan.{BootPlan}
 use Rattle.kernel_threads.specs.Stationings.{CanSplit, NoneOn, ArePosted}
 use Rattle.kernel_threads.proofs.stationing.post_all.Given as goal
 

@@ -1,6 +1,6 @@
 use Rattle.std.proofs.Common.{◌≡◌, ◌≤◌, List, length, take, Option}
 use Rattle.std.specs.Mem.Slots.{slots_items}
-use Rattle.quaject_core.specs.declared.alarm.Alarm.{Alarm}
+use Rattle.event_theory.specs.declared.alarm.Alarm.{Alarm}
 use Rattle.meters.specs.Words.{SlotsShow, standing}
 use Rattle.meters.proofs.close.read_alarms.Given as goal
 

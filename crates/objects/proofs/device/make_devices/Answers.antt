@@ -1,6 +1,6 @@
 use Rattle.std.proofs.Common.{rules, ◌+◌, ℕ, List, length, subst, sym, arith}
-use Rattle.boot_script.specs.declared.plan.PlannedMover.{PlannedMover}
-use Rattle.boot_script.specs.declared.plan.PlannedQueue.{PlannedQueue}
+use Rattle.boot_data.specs.declared.plan.PlannedMover.{PlannedMover}
+use Rattle.boot_data.specs.declared.plan.PlannedQueue.{PlannedQueue}
 use Rattle.claim_queue.specs.declared.ends.ClaimQueue.{ClaimQueue}
 use Rattle.objects.specs.Devices.{IsDevice, IsDeviceOf}
 use Rattle.objects.specs.Shares.{device_share, device_chain_share}

@@ -2,8 +2,8 @@ use Rattle.std.proofs.Common.{◌≡◌, ◌+◌, ◌-◌, List, length, get_or,
 use Rattle.std.specs.Prelude.{Option, Some, None}
 use Rattle.std.specs.List.{slice_get}
 use Rattle.std.proofs.lemmas.Option.{slice_get-get_or, slice_get_past}
-use Rattle.boot_script.specs.declared.plan.PlannedMover.{PlannedMover}
-use Rattle.boot_script.specs.declared.plan.PlannedQueue.{PlannedQueue}
+use Rattle.boot_data.specs.declared.plan.PlannedMover.{PlannedMover}
+use Rattle.boot_data.specs.declared.plan.PlannedQueue.{PlannedQueue}
 use Rattle.objects.specs.Planned.{IsPlanned, IsTty}
 use Rattle.objects.specs.Stocks.{shares}
 use Rattle.objects.proofs.Dealing.{gave_more, gave_none}

@@ -1,5 +1,5 @@
 use Rattle.std.proofs.Common.{sym, subst}
-use Rattle.boot_script.specs.declared.plan.Step.{Step}
+use Rattle.boot_data.specs.declared.plan.Step.{Step}
 use Rattle.thread_table.specs.Handles.{view_of, call_of}
 use Rattle.processor.specs.Steps.{HandDid}
 use Rattle.processor.proofs.steps.do_step.Goals as goal

@@ -1,5 +1,5 @@
 use Rattle.std.proofs.Common.{arith}
-use Rattle.quaject_core.specs.Queues.{claim}
+use Rattle.event_theory.specs.Queues.{claim}
 use Rattle.quaject_core.specs.Shown.{queue}
 use Rattle.quaject_core.proofs.Stored.Lifts.{place_changes}
 use Rattle.quaject_core.proofs.lines.claim.Goals as goal

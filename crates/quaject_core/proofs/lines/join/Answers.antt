@@ -1,7 +1,7 @@
 use Rattle.std.proofs.Common.{◌≡◌, length, map, refl, sym, ap, ◌∙◌, arith}
 use Rattle.std.proofs.lemmas.List.{map-set, length-map}
 use Rattle.std.proofs.Math.ListN.{get_or-map}
-use Rattle.quaject_core.specs.Queues.{join_queue}
+use Rattle.event_theory.specs.Queues.{join_queue}
 use Rattle.quaject_core.specs.Shown.{queue}
 use Rattle.quaject_core.proofs.Lists.Mapped.{mapped_set, mapped_all, written_back}
 use Rattle.quaject_core.proofs.lines.join.Goals as goal

@@ -1,5 +1,5 @@
 use Rattle.std.proofs.Common.{◌≡◌, map}
-use Rattle.quaject_core.specs.Queues.{join_queue}
+use Rattle.event_theory.specs.Queues.{join_queue}
 use Rattle.quaject_core.specs.Shown.{queue}
 use Rattle.quaject_core.proofs.Lists.Mapped.{mapped}
 use Rattle.quaject_core.proofs.lines.join.Given as goal

@@ -1,5 +1,5 @@
 use Rattle.std.proofs.Common.{◌∷◌, sym, ap, ◌∙◌, arith}
-use Rattle.quaject_core.specs.Queues.{Queue, empty_queue, full_queue}
+use Rattle.event_theory.specs.Queues.{Queue, empty_queue, full_queue}
 use Rattle.quaject_core.specs.Shown.{queue}
 use Rattle.quaject_core.proofs.Stored.Lifts.{shown_push, repeat_more}
 use Rattle.quaject_core.proofs.lines.new.Goals as goal

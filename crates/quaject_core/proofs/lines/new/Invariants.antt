@@ -1,6 +1,6 @@
 use Rattle.std.proofs.Common.{◌≡◌, [], ◌∷◌, ◌+◌, map, vec_len}
 use Rattle.std.specs.List.{repeat}
-use Rattle.quaject_core.specs.Queues.{empty_queue, full_queue}
+use Rattle.event_theory.specs.Queues.{empty_queue, full_queue}
 use Rattle.quaject_core.specs.Shown.{queue}
 use Rattle.quaject_core.proofs.lines.new.Given as goal
 

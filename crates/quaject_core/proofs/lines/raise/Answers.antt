@@ -1,5 +1,5 @@
 use Rattle.std.proofs.Common.{arith}
-use Rattle.quaject_core.specs.Queues.{raise}
+use Rattle.event_theory.specs.Queues.{raise}
 use Rattle.quaject_core.specs.Shown.{queue}
 use Rattle.quaject_core.proofs.Stored.Lifts.{place_changes}
 use Rattle.quaject_core.proofs.lines.raise.Goals as goal

@@ -1,5 +1,5 @@
 use Rattle.std.proofs.Common.{◌≡◌, drop}
-use Rattle.quaject_core.specs.Places.{holder}
+use Rattle.event_theory.specs.Places.{holder}
 use Rattle.quaject_core.proofs.placing.holder.Given as goal
 
 -- No hold so far is the element's.

@@ -1,5 +1,5 @@
 use Rattle.std.proofs.Common.{◌≡◌, option_map}
-use Rattle.quaject_core.specs.Elements.{join_hold}
+use Rattle.event_theory.specs.Elements.{join_hold}
 use Rattle.quaject_core.proofs.Lists.Mapped.{mapped}
 use Rattle.quaject_core.proofs.seats.join.Given as goal
 

@@ -1,5 +1,5 @@
 use Rattle.std.proofs.Common.{◌≡◌, map, take, drop, ◌++◌}
-use Rattle.quaject_core.specs.Chains.{join_chain}
+use Rattle.event_theory.specs.Chains.{join_chain}
 use Rattle.quaject_core.specs.ShownChains.{chain}
 use Rattle.quaject_core.proofs.store.join_chains.Given as goal
 

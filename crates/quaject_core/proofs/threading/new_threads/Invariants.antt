@@ -1,6 +1,6 @@
 use Rattle.std.proofs.Common.{◌≡◌, [], ◌∷◌, map}
 use Rattle.std.specs.List.{repeat}
-use Rattle.quaject_core.specs.Elements.{new_thread}
+use Rattle.event_theory.specs.Elements.{new_thread}
 use Rattle.quaject_core.specs.ShownThreads.{thread}
 use Rattle.quaject_core.proofs.threading.new_threads.Given as goal
 

@@ -1,6 +1,6 @@
 use Rattle.std.proofs.Common.{◌≡◌, ◌∙◌, ◌%◌, ◌^◌, ℕ, List, length, map, ap, subst}
 use Rattle.std.specs.List.{sum_by}
-use Rattle.boot_script.specs.declared.boot_plan.BootPlan.{BootPlan}
+use Rattle.boot_data.specs.declared.boot_plan.BootPlan.{BootPlan}
 use Rattle.processor.specs.Running.{line_heard}
 use Rattle.reporting.specs.Made.{numbered, queue_line, gauge_line, mover_line, heard_line, alarm_counts, left_in}
 use Rattle.reporting.proofs.Saying.{says}

@@ -1,5 +1,5 @@
 use Rattle.std.proofs.Common.{arith, ◌<◌, List, length, subst}
-use Rattle.boot_script.specs.declared.plan.PlannedTty.{PlannedTty}
+use Rattle.boot_data.specs.declared.plan.PlannedTty.{PlannedTty}
 use Rattle.reporting.proofs.Limits.{few_ttys}
 use Rattle.reporting.proofs.ttys.lines_of_ttys.Goals as goal
 

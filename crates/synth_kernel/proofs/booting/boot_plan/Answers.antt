@@ -1,5 +1,5 @@
 use Rattle.std.proofs.Common.{◌≤◌, ℕ, List, length, flat_map, sym, subst, ◌∙◌, arith}
-use Rattle.boot_script.specs.declared.boot_plan.BootPlan.{BootPlan}
+use Rattle.boot_data.specs.declared.boot_plan.BootPlan.{BootPlan}
 use Rattle.reporting.specs.declared.ttys.Typed.{Typed}
 use Rattle.reporting.specs.Reported.{IsReported, lines_of}
 use Rattle.reporting.specs.Rooms.{HasAllRoom}

@@ -10,20 +10,20 @@ loop-named-preserved c =
     let other : bytes_eq c.args.name.now c.named-item.result.name ≡ false = ap (bytes_eq c.args.name.now) (sym c.as_slice.ensures.bytes) ∙ (sym c.eq.ensures ∙ c.if-eq.false) in
     sym (find_more c.args.kind c.args.name.now names c.loop-named.named-index c.named-item.result c.loop-named-test.true (ap (λ n. bytes_eq c.args.name.now n.name) (sym c.named-item.is) ∙ other)) ∙ c.loop-named.invariant
 
-pub returns-then-is-clause-exact : goal.returns-then-is-clause-exact
-returns-then-is-clause-exact c =
+pub returns-then-same_kind-clause-exact : goal.returns-then-same_kind-clause-exact
+returns-then-same_kind-clause-exact c =
     let names = c.as_slice-named-items.result.now in
     let same : bytes_eq c.args.name.now c.named-item.result.name ≡ true = ap (bytes_eq c.args.name.now) (sym c.as_slice.ensures.bytes) ∙ (sym c.eq.ensures ∙ c.if-eq.true) in
     let here = find_here c.args.kind c.args.name.now names c.loop-named.named-index c.named-item.result c.loop-named-test.true (ap (λ n. bytes_eq c.args.name.now n.name) (sym c.named-item.is) ∙ same) in
-    let kind : if_kind c.args.kind c.named-item.result ≡ Ok c.named-item.result.number = rw (sym c.is.ensures ∙ c.if-is.true) refl in
+    let kind : if_kind c.args.kind c.named-item.result ≡ Ok c.named-item.result.number = rw (sym c.same_kind.ensures ∙ c.if-same_kind.true) refl in
     sym (sym c.loop-named.invariant ∙ (here ∙ (ap (if_kind c.args.kind) (sym c.named-item.is) ∙ kind)))
 
-pub returns-else-is-clause-exact : goal.returns-else-is-clause-exact
-returns-else-is-clause-exact c =
+pub returns-else-same_kind-clause-exact : goal.returns-else-same_kind-clause-exact
+returns-else-same_kind-clause-exact c =
     let names = c.as_slice-named-items.result.now in
     let same : bytes_eq c.args.name.now c.named-item.result.name ≡ true = ap (bytes_eq c.args.name.now) (sym c.as_slice.ensures.bytes) ∙ (sym c.eq.ensures ∙ c.if-eq.true) in
     let here = find_here c.args.kind c.args.name.now names c.loop-named.named-index c.named-item.result c.loop-named-test.true (ap (λ n. bytes_eq c.args.name.now n.name) (sym c.named-item.is) ∙ same) in
-    let kind : if_kind c.args.kind c.named-item.result ≡ Err _ = rw (sym c.is.ensures ∙ c.if-is.false) refl in
+    let kind : if_kind c.args.kind c.named-item.result ≡ Err _ = rw (sym c.same_kind.ensures ∙ c.if-same_kind.false) refl in
     sym (sym c.loop-named.invariant ∙ (here ∙ (ap (if_kind c.args.kind) (sym c.named-item.is) ∙ kind)))
 
 pub returns-clause-exact : goal.returns-clause-exact

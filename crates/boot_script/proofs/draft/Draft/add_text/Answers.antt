@@ -1,7 +1,7 @@
 use Rattle.std.proofs.Common.{◌≡◌, ◌<◌, ◌≤◌, ◌+◌, sym, ap, ◌∙◌, arith, length, slice_index_or, slice_set}
 use Rattle.std.proofs.lemmas.List.{length-set}
 use Rattle.std.specs.Prelude.{nat_lt, if◌then◌else◌}
-use Rattle.boot_script.specs.declared.declared_names.Kind.TheVariants as kind
+use Rattle.boot_data.specs.declared.kind.Kind.TheVariants as kind
 use Rattle.boot_script.specs.BootNames.{count_of}
 use Rattle.boot_script.specs.Plans.{added, typed_at, change_at, with_text}
 use Rattle.boot_script.specs.Drafts.{kept_plan}

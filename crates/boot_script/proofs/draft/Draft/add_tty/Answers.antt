@@ -1,5 +1,5 @@
 use Rattle.std.proofs.Common.{◌∷◌, ◌++◌, ◌+◌, [], refl, sym, ap, ◌∙◌, length, length-append}
-use Rattle.boot_script.specs.declared.declared_names.Kind.TheVariants as kind
+use Rattle.boot_data.specs.declared.kind.Kind.TheVariants as kind
 use Rattle.boot_script.specs.BootNames.{room_of, with_name}
 use Rattle.boot_script.specs.Plans.{added}
 use Rattle.boot_script.specs.Drafts.{kept_plan}

@@ -1,5 +1,5 @@
 use Rattle.std.proofs.Common.{rules, ap, sym, refl, subst, ◌≡◌, ◌∙◌, arith, ◌<◌, ◌++◌, ◌∷◌, [], ℕ, length, List, append-nil, filter_map, Option}
-use Rattle.quaject_core.specs.declared.alarm.Alarm.{Alarm}
+use Rattle.event_theory.specs.declared.alarm.Alarm.{Alarm}
 use Rattle.meters.proofs.Following.{Swept, swept_none, swept_more, swept_few, due_did}
 use Rattle.meters.proofs.ends.Meters.due.Goals.{in-Some, in_default}
 use Rattle.meters.proofs.ends.Meters.due.Goals as goal

@@ -1,5 +1,5 @@
 use Rattle.std.proofs.Common.{arith, ◌<◌, sym, subst, Option}
-use Rattle.quaject_core.specs.declared.alarm.Alarm.{Alarm}
+use Rattle.event_theory.specs.declared.alarm.Alarm.{Alarm}
 use Rattle.meters.specs.Answers.{FoundIn, Gave}
 use Rattle.meters.proofs.Following.{gave_none, gave_lost, gave_fired, clock_in, clock_fired, not_due_none, not_due_some}
 use Rattle.meters.proofs.ends.Meters.fire.Goals as goal

@@ -1,6 +1,6 @@
 use Rattle.std.proofs.Common.{List, map, Ok, refl, sym, ap, ◌∙◌}
 use Rattle.quaject_core.specs.Shown.{queue}
-use Rattle.quaject_core.specs.declared.hold.Hold.{Hold}
+use Rattle.event_theory.specs.declared.hold.Hold.{Hold}
 use Rattle.quaject_core.specs.ShownElements.{elements}
 use Rattle.quaject_core.proofs.Stored.Lifts.{changes_err}
 use Rattle.quaject_core.proofs.Stored.Lines.{claimed_whole, claimed_not_held, claimed_why}

@@ -1,7 +1,7 @@
 use Rattle.std.proofs.Common.{arith}
-use Rattle.quaject_core.specs.Elements.{new_thread}
+use Rattle.event_theory.specs.Elements.{new_thread}
 use Rattle.quaject_core.specs.ShownThreads.{thread}
-use Rattle.quaject_core.proofs.Keeping.Rooms.{so_many}
+use Rattle.event_theory.proofs.Keeping.Rooms.{so_many}
 use Rattle.quaject_core.proofs.elements.StoredElements.new.Goals as goal
 
 pub invariant_of-result : goal.invariant_of-result

@@ -3,7 +3,7 @@ use Rattle.quaject_core.proofs.Stored.Elements.{stored_started, stored_not_start
 use Rattle.std.proofs.lemmas.List.{length-map}
 use Rattle.quaject_core.specs.ShownElements.{elements}
 use Rattle.quaject_core.specs.ShownThreads.{thread}
-use Rattle.quaject_core.proofs.Keeping.Rooms.{started_room}
+use Rattle.event_theory.proofs.Keeping.Rooms.{started_room}
 use Rattle.quaject_core.proofs.elements.StoredElements.start.Goals as goal
 
 pub returns-then-not-is_stopping-clause-change : goal.returns-then-not-is_stopping-clause-change

@@ -1,5 +1,5 @@
 use Rattle.std.proofs.Common.{true, Ok, ap, sym, arith}
-use Rattle.quaject_core.specs.Elements.{Thread}
+use Rattle.event_theory.specs.Elements.{Thread}
 use Rattle.quaject_core.proofs.Stored.Elements.{stored_changed, known}
 use Rattle.quaject_core.proofs.elements.StoredElements.stop.Goals as goal
 

@@ -1,8 +1,8 @@
 use Rattle.std.proofs.Common.{List, map, remove, Ok, refl, sym, ap, subst, ◌∙◌, arith}
-use Rattle.quaject_core.specs.Queues.{Queue}
-use Rattle.quaject_core.specs.Results.{◌>>=◌, IsWhy}
+use Rattle.event_theory.specs.Queues.{Queue}
+use Rattle.event_theory.specs.Results.{◌>>=◌, IsWhy}
 use Rattle.quaject_core.specs.Shown.{queue}
-use Rattle.quaject_core.specs.declared.hold.Hold.{Hold}
+use Rattle.event_theory.specs.declared.hold.Hold.{Hold}
 use Rattle.quaject_core.specs.ShownElements.{elements}
 use Rattle.quaject_core.proofs.Stored.Elements.{known}
 use Rattle.quaject_core.proofs.Stored.Lifts.{changes_err, why_then}

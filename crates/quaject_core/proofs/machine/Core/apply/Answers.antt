@@ -1,5 +1,5 @@
 use Rattle.quaject_core.specs.ShownStates.{stored_state}
-use Rattle.quaject_core.proofs.Keeping.Steps.{changed_law}
+use Rattle.event_theory.proofs.Keeping.Steps.{changed_law}
 use Rattle.quaject_core.proofs.machine.Core.apply.Goals as goal
 
 pub invariant_of-self : goal.invariant_of-self

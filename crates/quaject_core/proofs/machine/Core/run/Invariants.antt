@@ -1,5 +1,5 @@
 use Rattle.std.proofs.Common.{take}
-use Rattle.quaject_core.specs.Schedules.{Reaches}
+use Rattle.event_theory.specs.Schedules.{Reaches}
 use Rattle.quaject_core.specs.ShownCores.{state}
 use Rattle.quaject_core.proofs.machine.Core.run.Given as goal
 

@@ -1,6 +1,6 @@
 use Rattle.std.proofs.Common.{sym, subst}
-use Rattle.quaject_core.specs.Lawful.{IsLawful}
-use Rattle.quaject_core.proofs.Keeping.Steps.{first_law}
+use Rattle.event_theory.specs.Lawful.{IsLawful}
+use Rattle.event_theory.proofs.Keeping.Steps.{first_law}
 use Rattle.quaject_core.proofs.machine.Core.with_elements.Goals as goal
 
 pub invariant_of-result : goal.invariant_of-result

@@ -1,8 +1,8 @@
 use Rattle.std.proofs.Common.{◌≡◌, ℕ, Bool, ◌||◌, ◌==◌, List, [], ◌∷◌, ◌∙◌, map, length, drop, refl, sym, ap, subst}
 use Rattle.std.proofs.lemmas.List.{drop-map, length-map}
 use Rattle.std.specs.List.{list_any}
-use Rattle.quaject_core.specs.Runs.{flat}
-use Rattle.quaject_core.specs.Queues.{left}
+use Rattle.event_theory.specs.Runs.{flat}
+use Rattle.event_theory.specs.Queues.{left}
 use Rattle.quaject_core.specs.Layout.{Laid, item_of}
 use Rattle.quaject_core.specs.Shown.{queue}
 use Rattle.quaject_core.specs.declared.queueing.StoredQueue.{StoredQueue}

@@ -1,10 +1,10 @@
 use Rattle.std.proofs.Common.{◌≡◌, ◌<◌, ◌∙◌, ◌++◌, ◌∷◌, [], ◌+◌, ap, sym, map, take, get_or, length, arith}
 use Rattle.std.proofs.lemmas.List.{map_more, take_all}
 use Rattle.quaject_core.proofs.Stored.Parts.{map-map}
-use Rattle.quaject_core.specs.Statuses.{chain_status}
+use Rattle.event_theory.specs.Statuses.{chain_status}
 use Rattle.quaject_core.specs.ShownChains.{chain}
 use Rattle.quaject_core.specs.declared.chaining.StoredChain.{StoredChain}
-use Rattle.quaject_core.specs.declared.status.ChainStatus.{ChainStatus}
+use Rattle.event_theory.specs.declared.status.ChainStatus.{ChainStatus}
 use Rattle.quaject_core.proofs.store.Store.chain_list.Goals as goal
 
 abbrev numbers : StoredChain → ChainStatus

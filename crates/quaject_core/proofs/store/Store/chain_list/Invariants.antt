@@ -1,5 +1,5 @@
 use Rattle.std.proofs.Common.{◌≡◌, map, take}
-use Rattle.quaject_core.specs.Statuses.{chain_status}
+use Rattle.event_theory.specs.Statuses.{chain_status}
 use Rattle.quaject_core.specs.ShownChains.{chain}
 use Rattle.quaject_core.proofs.store.Store.chain_list.Given as goal
 

@@ -1,5 +1,5 @@
 use Rattle.std.proofs.Common.{◌∙◌, arith}
-use Rattle.quaject_core.specs.Chains.{leave}
+use Rattle.event_theory.specs.Chains.{leave}
 use Rattle.quaject_core.proofs.Stored.Parts.{chain_changes}
 use Rattle.quaject_core.proofs.store.Store.leave.Goals as goal
 

@@ -1,5 +1,5 @@
 use Rattle.std.proofs.Common.{◌≡◌, map, take}
-use Rattle.quaject_core.specs.Statuses.{queue_status}
+use Rattle.event_theory.specs.Statuses.{queue_status}
 use Rattle.quaject_core.specs.Shown.{queue}
 use Rattle.quaject_core.proofs.store.Store.queue_list.Given as goal
 

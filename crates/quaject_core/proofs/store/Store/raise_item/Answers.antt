@@ -1,5 +1,5 @@
 use Rattle.std.proofs.Common.{refl, ◌∙◌, arith}
-use Rattle.quaject_core.specs.Queues.{raise}
+use Rattle.event_theory.specs.Queues.{raise}
 use Rattle.quaject_core.proofs.Stored.Parts.{queue_changes}
 use Rattle.quaject_core.proofs.store.Store.raise_item.Goals as goal
 

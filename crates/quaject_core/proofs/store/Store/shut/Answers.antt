@@ -1,7 +1,7 @@
 use Rattle.std.proofs.Common.{sym, ap, ◌∙◌, arith, Ok, Result}
-use Rattle.quaject_core.specs.Queues.{Queue}
-use Rattle.quaject_core.specs.Marks.{shut}
-use Rattle.quaject_core.specs.declared.refusal.Refusal.{Refusal}
+use Rattle.event_theory.specs.Queues.{Queue}
+use Rattle.event_theory.specs.Marks.{shut}
+use Rattle.event_theory.specs.declared.refusal.Refusal.{Refusal}
 use Rattle.quaject_core.proofs.Stored.Parts.{queue_changed}
 use Rattle.quaject_core.proofs.store.Store.shut.Goals as goal
 

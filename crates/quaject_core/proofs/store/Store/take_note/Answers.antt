@@ -1,5 +1,5 @@
 use Rattle.std.proofs.Common.{◌∙◌, arith}
-use Rattle.quaject_core.specs.Chains.{take_note}
+use Rattle.event_theory.specs.Chains.{take_note}
 use Rattle.quaject_core.proofs.Stored.Parts.{chain_changes}
 use Rattle.quaject_core.proofs.store.Store.take_note.Goals as goal
 

@@ -1,6 +1,6 @@
 use Rattle.std.proofs.Common.{◌≡◌, ◌-◌}
 use Rattle.quaject_core.specs.Layout.{set_of}
-use Rattle.quaject_core.specs.Statuses.{bits_from}
+use Rattle.event_theory.specs.Statuses.{bits_from}
 use Rattle.quaject_core.proofs.threading.StoredThread.pending.Given as goal
 
 -- The bits from the last signal that was seen on.

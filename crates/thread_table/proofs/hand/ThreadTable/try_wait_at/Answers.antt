@@ -1,6 +1,6 @@
 use Rattle.std.proofs.Common.{inl, inr, rules, ◌≡◌, ◌<◌, ◌∙◌, ◌+◌, ◌-◌, ℕ, Some, set, false, sym, ap, arith}
 use Rattle.std.proofs.Math.Path.{transport}
-use Rattle.quaject_core.specs.declared.event.Event.TheVariants as events
+use Rattle.event_theory.specs.declared.event.Event.TheVariants as events
 use Rattle.thread_table.specs.Views.{claim_of}
 use Rattle.thread_table.specs.Steps.{Claims, Raises}
 use Rattle.thread_table.specs.Answers.{mark_in}

@@ -1,0 +1,4 @@
+pub mod BootPlans
+pub mod PlanLimits
+pub mod Plans
+pub mod QueueLists

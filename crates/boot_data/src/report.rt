@@ -1,0 +1,191 @@
+//! What a boot reports where its turns are over.
+//!
+//! A report has one list for each kind of line, each in the order of the script, and `print_report` writes it. Queues
+//! and pipes stand in one list, and so do pumps and switches.
+
+ghost use Rattle.std.specs.Prelude.{◌≡◌, ◌≤◌, length};
+
+use crate::fixed::Name;
+use arrayvec::ArrayVec;
+use event_theory::{Items, WaitNumber};
+use std::marker::Model;
+
+/// How many items went through a queue.
+#[derive(Clone, Copy, Debug, PartialEq, Eq)]
+pub struct ItemCounts {
+    /// Items that were claimed.
+    pub put: u64,
+    /// Items that were taken.
+    pub taken: u64,
+    /// Items that were claimed and not taken.
+    pub left: u64,
+}
+
+/// The word of the script that declares a queue.
+#[derive(Clone, Copy, Debug, PartialEq, Eq)]
+pub enum QueueKind {
+    /// `queue`.
+    Queue,
+    /// `pipe`: threads wait at it.
+    Pipe,
+}
+
+/// The line of a queue or a pipe.
+#[derive(Drop)]
+pub struct QueueLine {
+    pub kind: QueueKind,
+    pub name: Name,
+    pub items: ItemCounts,
+}
+
+/// The four lines of a tty.
+#[derive(Drop)]
+pub struct TtyLines {
+    pub name: Name,
+    /// Bytes that were popped from its device line.
+    pub typed: u64,
+    /// Bytes of those that the raw queue refused.
+    pub overrun: u64,
+    /// Notes that ran on its cooked tty.
+    pub notes: u64,
+    /// Bytes of the cooked line that is held.
+    pub held: u64,
+    /// The queue of what was typed.
+    pub raw: ItemCounts,
+    /// The queue of cooked lines, for those who hear.
+    pub line: ItemCounts,
+    /// The queue of what the screen shows.
+    pub screen: ItemCounts,
+}
+
+/// The word of the script that declares what moves lines between queues.
+#[derive(Clone, Copy, Debug, PartialEq, Eq)]
+pub enum MoverKind {
+    /// `pump`: all lines go to one queue.
+    Pump,
+    /// `switch`: a line's first item chooses its queue.
+    Switch,
+}
+
+/// The line of a pump or a switch.
+#[derive(Drop)]
+pub struct MoverLine {
+    pub kind: MoverKind,
+    pub name: Name,
+    /// Notes that ran on it.
+    pub notes: u64,
+    /// Items that it took from its source.
+    pub taken: u64,
+    /// Items that it put in its targets.
+    pub put: u64,
+    /// Items of the line that it holds.
+    pub held: u64,
+}
+
+/// The line of a gauge.
+#[derive(Drop)]
+pub struct GaugeLine {
+    pub name: Name,
+    /// The sum of its ticks, modulo 2^64.
+    pub value: u64,
+}
+
+/// How many alarms were set, fired and left. They have a line where one was set.
+#[derive(Clone, Copy, Debug, PartialEq, Eq)]
+pub struct AlarmCounts {
+    pub set: u64,
+    pub fired: u64,
+    /// Alarms that were set and did not fire.
+    pub left: u64,
+}
+
+/// Where a thread is. One that isn't ended is live.
+#[derive(Clone, Copy, Debug, PartialEq, Eq)]
+pub enum ThreadState {
+    /// Among the free elements, with all steps done.
+    Ended,
+    /// In the ready ring.
+    Ready,
+    /// In a wait queue.
+    Wait(WaitNumber),
+    /// In its own stop cell.
+    Stopped,
+    /// Held by a processor.
+    Held,
+}
+
+/// The line of a thread.
+#[derive(Drop)]
+pub struct ThreadLine {
+    pub name: Name,
+    pub state: ThreadState,
+    /// How many of its steps are done.
+    pub steps: u32,
+    /// Bit s is set where signal s was delivered.
+    pub signals: u16,
+}
+
+/// Up to 256 items, in their order: a line that a thread took. Contracts see their list.
+#[derive(Drop)]
+pub struct HeardItems {
+    items: ArrayVec<u64, 256>,
+}
+
+impl Model for HeardItems {
+    ghost use Rattle.std.specs.Prelude.{ℕ, List};
+
+    ghost Value = { List ℕ };
+
+    ghost view = { λ heard. heard.items.items };
+}
+
+impl HeardItems {
+    /// These items, in their order. Takes no memory.
+    pub fn new(items: ArrayVec<u64, 256>) -> Self
+        ensures { result ≡ items.items }
+    {
+        HeardItems { items }
+    }
+
+    /// The items in their order.
+    pub fn as_slice(&self) -> &[u64]
+        ensures items { result.now ≡ self.now }
+        ensures few { length result.now ≤ 256 }
+    {
+        self.items.as_slice()
+    }
+
+    /// Gives the items back. Takes no memory.
+    pub fn into_array_vec(self) -> ArrayVec<u64, 256>
+        ensures { result.items ≡ self }
+    {
+        let HeardItems { items } = self;
+        items
+    }
+}
+
+/// The line of what a thread heard in one step.
+#[derive(Drop)]
+pub struct HeardLine {
+    /// The thread's name.
+    pub thread: Name,
+    /// The step's number in the thread's program, from 0.
+    pub step: u32,
+    /// All items that the step took. Each counts as its low 8 bits.
+    pub items: HeardItems,
+}
+
+/// What a boot reports.
+#[derive(Drop)]
+pub struct Report {
+    pub queues: Items<QueueLine>,
+    pub ttys: Items<TtyLines>,
+    pub movers: Items<MoverLine>,
+    pub gauges: Items<GaugeLine>,
+    pub alarms: AlarmCounts,
+    pub threads: Items<ThreadLine>,
+    /// By thread in script order, then by step.
+    pub heard: Items<HeardLine>,
+    /// The sum of the notes left in all chains.
+    pub chained: u64,
+}

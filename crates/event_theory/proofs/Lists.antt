@@ -1,0 +1,3 @@
+-- Lists and histories.
+pub mod Histories
+pub mod Inversions

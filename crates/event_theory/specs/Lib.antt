@@ -1,0 +1,16 @@
+pub mod Accounts
+pub mod Appearances
+pub mod Chains
+pub mod Elements
+pub mod Lawful
+pub mod Lines
+pub mod Marks
+pub mod Meters
+pub mod Places
+pub mod Queues
+pub mod RefusalNames
+pub mod Results
+pub mod Runs
+pub mod Schedules
+pub mod States
+pub mod Statuses

@@ -57,8 +57,8 @@ impl<const N: usize> ClaimQueue<N> {
     /// A new end, which has claimed and taken nothing. Both ends are to be joined again before the queue can be closed;
     /// an end that is dropped can never be joined.
     ///
-    /// Condition: the end has two parts or more of its queue's 2^64 - 1. The first end can be split a million times
-    /// without a join, and each of those ends twenty times in a chain.
+    /// Condition: the end has two parts or more of its queue's 2^64 - 1. The first end can be split two million
+    /// times without a join, and each of those ends 43 times in a chain.
     pub fn split(&self, end: &mut QueueEnd<N>) -> QueueEnd<N>
         requires queue { IsEndOf self.now end.old }
         requires parts { IsDivisible end.old }

@@ -51,8 +51,8 @@ impl Meters {
 
     /// A new end, which has done nothing. Both ends are to be joined again before the meters can be closed.
     ///
-    /// Condition: the end has two parts or more of its meters' 2^64 - 1. The first end can be split a million times
-    /// without a join, and each of those ends twenty times in a chain.
+    /// Condition: the end has two parts or more of its meters' 2^64 - 1. The first end can be split two million
+    /// times without a join, and each of those ends 43 times in a chain.
     pub fn split(&self, seat: &mut MeterSeat) -> MeterSeat
         requires seat { IsSeatOf self.now seat.old }
         requires parts { IsDivisible seat.old }

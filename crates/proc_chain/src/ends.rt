@@ -105,8 +105,8 @@ impl<Q: Quaject> ProcChain<Q> {
     /// A new end, which has chained and taken nothing and has no Turn. Both ends are to be joined again before the
     /// chain can be closed; an end that is dropped can never be joined.
     ///
-    /// Condition: the end has two parts or more of its chain's 2^64 - 1. The first end can be split a million times
-    /// without a join, and each of those ends twenty times in a chain.
+    /// Condition: the end has two parts or more of its chain's 2^64 - 1. The first end can be split two million
+    /// times without a join, and each of those ends 43 times in a chain.
     pub fn split(&self, end: &mut ChainEnd<Q>) -> ChainEnd<Q>
         requires ends { IsEndOf self.now end.old }
         requires parts { IsDivisible end.old }

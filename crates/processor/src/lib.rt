@@ -21,6 +21,7 @@ mod thread_steps;
 mod turn;
 
 pub use deed::{Deed, Ticket};
+pub use end_steps::{Gate, Point};
 pub use laws::{hears_are_few, steps_fit};
 pub use outcome::{Had, Outcome, Turned};
 pub use programs::hears_of;

@@ -107,7 +107,7 @@ impl ThreadTable {
     /// be joined again before the table can be closed.
     ///
     /// Conditions: the processors of the mask are the first hand's, and empty; and that hand has two parts or more of
-    /// its table's 2^64 - 1. The first hand can be split a million times without a join, and each of those hands twenty
+    /// its table's 2^64 - 1. The first hand can be split two million times without a join, and each of those hands 43
     /// times in a chain.
     pub fn split(&self, hand: &mut Hand, processors: u8) -> Hand
         requires table { IsHandOf self.now hand.old }

@@ -20,7 +20,7 @@ use thiserror::Error;
 /// Why an element wasn't moved. The hand then holds it still. Spent is checked first, then Moved, and Lost last.
 #[derive(Clone, Copy, Debug, PartialEq, Eq, Error)]
 pub enum MoveRefusal {
-    /// The head of the queue is the last position, 4,294,967,295. No position comes back.
+    /// The head of the queue is 4,294,967,295, behind the last position. No position comes back.
     #[error("the queue's positions are spent")]
     Spent,
     /// Another hand put an element into the queue first, or made a notify: the exchange found this head word, not the

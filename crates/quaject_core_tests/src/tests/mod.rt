@@ -1,11 +1,13 @@
 //! Tests of what no list of events can reach. `examples` replays the lists of events.
 
 mod elements;
+mod memory;
 mod queues;
 mod values;
 
 use event_theory::*;
 use std::alloc::Global;
+use std::process::Abort;
 
 const FREE: ElementStatus = ElementStatus {
     place: Place::Free,

@@ -1,6 +1,7 @@
 //! Names, lists and refusals.
 
 use super::*;
+use std::fmt::Display;
 
 /// These numbers as names of each kind: of a call, a queue, a chain, a wait queue, a processor, an element, a signal, a
 /// gauge and a slot.
@@ -89,7 +90,7 @@ const REFUSALS: &[(Refusal, u8, &str)] = &[
     (Refusal::Moved, 16, "Moved"),
 ];
 
-fn is_called(alloc: Global, refusal: Refusal, name: &str) -> bool {
+fn is_called<T: Copy + Display>(alloc: Global, refusal: T, name: &str) -> bool {
     format!(in alloc; "{refusal}").is_ok_and(|text| text.as_str() == name)
 }
 
@@ -99,4 +100,5 @@ fn refusals_have_names_and_numbers(rt: HostRuntime) {
         assert!(rt; *refusal as u8 == *number);
         assert!(rt; is_called(rt.alloc(), *refusal, name));
     }
+    assert!(rt; is_called(rt.alloc(), OutOfMemory, "no memory"));
 }

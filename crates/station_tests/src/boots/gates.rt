@@ -213,3 +213,22 @@ fn all_processors_meet(rt: HostRuntime) {
         assert_meeting(&rt, rt.alloc(), processors);
     }
 }
+
+/// So it is where the streams are handed over.
+#[test]
+fn processors_meet_by_streams_that_are_handed_over(rt: HostRuntime) {
+    let given_up = AtomicCell::new(false);
+    let count = AtomicCell::new(0);
+    let Ok(gates) = meeting(rt.alloc(), 2, &count, &given_up) else {
+        panic!(rt; "memory")
+    };
+    if gates.len() != 2 {
+        panic!(rt; "gates");
+    }
+    let script = b"synthesis 1\nthread a\npass\n".as_slice();
+    let mut output = Vec::new(rt.alloc());
+    let answer = boot_with(&rt, rt.alloc(), script, &mut output, 2, 1_000, gates);
+    assert!(rt; (given_up.load(), count.load()) == (false, 2));
+    assert!(rt; answer == Ok(Ended::AllEnded));
+    assert!(rt; output.as_slice() == b"thread a ended 1\nchained 0\n".as_slice());
+}

@@ -1,8 +1,15 @@
-//! What a gate is told.
+//! What a gate is told, and what others find when it is told.
+ghost use Rattle.thread_table.specs.Handles.{IsHandOf};
+ghost use Rattle.meters.specs.Handles.{IsSeatOf};
 
+use super::partings::stand_two;
 use super::*;
 use end_steps::{Gate, Point};
+use event_theory::Element;
+use hand_steps::make_ready;
+use meters::Alarm;
 use std::test::*;
+use thread_table::NextRefusal;
 
 /// A gate that keeps the points that it is told, in their order, while there is memory.
 #[derive(Drop)]
@@ -42,4 +49,111 @@ fn turns_are_told(rt: HostRuntime) {
     assert!(rt; gate.points.as_slice() == points.as_slice());
     let ended = close_all(&rt, shared, station.into_parts());
     check_states(&rt, &ended, &[at(Place::Free, 2)]);
+}
+
+/// A gate that takes the first ready element at each point, with another hand, and makes it ready again. It keeps what it
+/// was answered, while there is memory.
+#[derive(Drop)]
+struct Taker<'r, 's, R: Wait> {
+    rt: &'r R,
+    threads: &'s ThreadTable,
+    hand: Hand,
+    taken: Vec<(Point, Result<Element, NextRefusal>)>,
+    ghost fits: { IsHandOf threads.now hand },
+}
+
+impl<'r, 's, R: Wait> Gate for Taker<'r, 's, R> {
+    ghost told = { λ old p point new. Unit {0} };
+
+    fn between(&mut self, _p: u8, point: Point) {
+        let taken = self.threads.try_next(&mut self.hand);
+        if let Ok(element) = taken {
+            if self.hand.holds(element) {
+                make_ready(self.rt, self.threads, &mut self.hand, element);
+            }
+        }
+        let _wanting = self.taken.push((point, taken));
+    }
+}
+
+/// When a turn is told its element is in the ready ring still, and the one of the turn before is there again; within a
+/// step it is not.
+#[test]
+fn turns_are_told_before_the_taking(rt: HostRuntime) {
+    let plan = plan_of(&rt, rt.alloc(), SAID);
+    let (p, q) = (processor(&rt, 5), processor(&rt, 1));
+    let (shared, one, other) = stand_two(&rt, rt.alloc(), plan, p, q);
+    let mut gate = Taker {
+        rt: &rt,
+        threads: &shared.threads,
+        hand: other.into_parts().hand,
+        taken: Vec::new(rt.alloc()),
+    };
+    let _station = run(&rt, &shared, one, p, 3, &mut gate);
+    let ready = Ok(Element::default());
+    let none = Err(NextRefusal::NoneReady);
+    let taken = [
+        (Point::Turn(0), ready),
+        (Point::Claimed, none),
+        (Point::Raised, none),
+        (Point::Turn(1), ready),
+        (Point::TakeAnswered, none),
+        (Point::Turn(2), none),
+    ];
+    assert!(rt; gate.taken.as_slice() == taken.as_slice());
+}
+
+/// A gate that cancels the alarm with the turn's number in each turn, at another seat, and keeps what it was answered.
+#[derive(Drop)]
+struct Canceller<'s> {
+    meters: &'s Meters,
+    seat: MeterSeat,
+    alarms: &'s [Alarm],
+    cancelled: Vec<bool>,
+    ghost fits: { IsSeatOf meters.now seat },
+}
+
+impl<'s> Gate for Canceller<'s> {
+    ghost told = { λ old p point new. Unit {0} };
+
+    fn between(&mut self, _p: u8, point: Point) {
+        let Point::Turn(number) = point else {
+            return;
+        };
+        let slot = number as usize;
+        let Some(alarm) = self.alarms.get(slot) else {
+            return;
+        };
+        if slot < 16 {
+            let cancelled = self.meters.cancel(&mut self.seat, slot, *alarm);
+            let _wanting = self.cancelled.push(cancelled);
+        }
+    }
+}
+
+const TWO_ALARMS: &[u8] = b"synthesis 2
+thread a
+alarm 1 a 3
+alarm 2 a 4
+pass
+pass
+pass
+";
+
+/// When a turn is told the alarms of its tick haven't fired: each can still be cancelled, and then doesn't.
+#[test]
+fn turns_are_told_before_the_alarms(rt: HostRuntime) {
+    let plan = plan_of(&rt, rt.alloc(), TWO_ALARMS);
+    let (p, q) = (processor(&rt, 0), processor(&rt, 1));
+    let (shared, one, other) = stand_two(&rt, rt.alloc(), plan, p, q);
+    let mut gate = Canceller {
+        meters: &shared.meters,
+        seat: other.into_parts().meters,
+        alarms: shared.plan.alarms.as_slice(),
+        cancelled: Vec::new(rt.alloc()),
+    };
+    let station = run(&rt, &shared, one, p, 3, &mut gate);
+    assert!(rt; gate.cancelled.as_slice() == [true, true].as_slice());
+    let (_station, _heard, mask) = told(station, 0);
+    assert!(rt; mask == 0);
 }

@@ -5,7 +5,7 @@ mod memory;
 mod queues;
 mod values;
 
-use event_theory::*;
+use quaject_core::*;
 use std::alloc::Global;
 use std::process::Abort;
 

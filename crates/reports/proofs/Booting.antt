@@ -227,7 +227,8 @@ module _ (plan : BootPlan) (logs : List (List Entry)) (boot : Boot) (c : Closed)
   tables_agree : TablesAgree plan c logs
   tables_agree = record {
     planned = planned_all plan logs boot.stations b.left;
-    threads = λ x t at. thread_agrees plan logs boot.stations boot.first boot.last b.left b.prepared b.some_processor b.joined c b.threads x t at fired;
+    threads = λ x t at. let w = within c.threads x t at in let e = b.says.whole.all_threads in
+        thread_agrees plan logs boot.stations boot.first boot.last b.left b.prepared b.spare b.some_processor b.joined c b.threads x (omega arith) t at fired;
     small = λ number q at. (small_agrees plan logs boot.stations boot.first boot.last b.left b.prepared b.joined number (small_others plan boot number) q (b.small number q at), taken_small number q at);
     large = λ number q at. (large_agrees plan logs boot.stations boot.first boot.last b.left b.prepared b.joined number (large_others boot number) q (b.large number q at), taken_large number q at);
     small_put = small_put;

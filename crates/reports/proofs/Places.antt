@@ -1,7 +1,9 @@
 -- Where the elements of the closed threads are.
-use Rattle.std.proofs.Common.{◌≡◌, ℕ, zero, suc, ◌<◌, ◌≤◌, true, List, [], ◌∷◌, ◌++◌, length, get_or, refl, sym, ap, ◌∙◌, subst, arith, Option, Some, None, slice_get, flat_map, option_map}
-use Rattle.std.specs.Prelude.{slice_index_or}
-use Rattle.std.specs.List.{AllZip, AllByRecursion}
+use Rattle.std.proofs.Common.{◌≡◌, ◌⊎◌, inl, inr, ⊎_elim, ℕ, zero, suc, ◌<◌, ◌≤◌, Bool, true, false, List, [], ◌∷◌, ◌++◌, length, get_or, refl, sym, ap, ◌∙◌, subst, arith, Option, Some, None, slice_get, flat_map, option_map}
+use Rattle.std.specs.Prelude.{slice_index_or, ◌||◌, ◌&&◌, ◌==◌, nat_le}
+use Rattle.std.specs.List.{AllZip, AllByRecursion, list_any}
+use Rattle.std.proofs.lemmas.Bool.Decides.{eqb_tells}
+use Rattle.std.proofs.lemmas.List.Folds.{list_any-append}
 use mathlib.Core.Logic.{dite}
 use native.Mathlib.Decide.{dec_lt}
 use Rattle.boot_data.specs.declared.boot_plan.BootPlan.{BootPlan}
@@ -20,6 +22,7 @@ use Rattle.thread_table.specs.declared.places.Place.TheVariants as places
 use Rattle.thread_table.specs.declared.rule.View.{View}
 use Rattle.thread_table.specs.Closings.{ClosedNow, StandsAt}
 use Rattle.thread_table.specs.Handles.{view_of}
+use Rattle.thread_table.specs.Rules.{done_at}
 use Rattle.thread_table.specs.Schedules.{elements_after, line_at}
 use Rattle.thread_table.specs.Shown.{WordsShow}
 use Rattle.processor.specs.declared.deed.Deed.{Deed}
@@ -33,9 +36,10 @@ use Rattle.processor.specs.Preparing.{IsPrepared, HasDoneAll}
 use Rattle.reports.specs.Agreements.{PlaceAgrees, ThreadAgrees}
 use Rattle.reports.specs.Closed.{Closed}
 use Rattle.reports.specs.Closed as closed
-use Rattle.reports.specs.Endings.{ThreadsEnded}
+use Rattle.reports.specs.Doings.{is_retired}
+use Rattle.reports.specs.Endings.{ThreadsEnded, FreedSpare}
 use Rattle.reports.specs.Lists.{all_of}
-use Rattle.reports.proofs.Freeing.{retired_once, has_done_all}
+use Rattle.reports.proofs.Freeing.{retired_once, has_done_all, with_few}
 use Rattle.reports.proofs.Joining.{stays}
 use Rattle.reports.proofs.Tallies.{made_at, all_retired}
 use Rattle.reports.proofs.Threads.{known, done_are, steps_agree, shown_agrees, signals_agree, planned_all}
@@ -105,17 +109,79 @@ logs_retired : (plan : BootPlan) (logs : List (List Entry)) → AllByRecursion (
 logs_retired plan [] p = tt
 logs_retired plan (log ∷ logs) p = plan_more plan (tally_of log).retired (flat_map (λ log. (tally_of log).retired) logs) (log_retired plan log p.0) (logs_retired plan logs p.1)
 
+-- WHO RETIRED THEM
+
+some_of : (a b : Bool) → (a || b) ≡ true → (a ≡ true) ⊎ (b ≡ true)
+some_of true b h = inl refl
+some_of false b h = inr h
+
+first_of : (a b : Bool) → (a && b) ≡ true → a ≡ true
+first_of true b h = refl
+first_of false b h = absurd (cc)
+
+or_true : (b : Bool) → (b || true) ≡ true
+or_true true = refl
+or_true false = refl
+
+same_of : (a b : ℕ) → (a == b) ≡ true → a ≡ b
+same_of a b e = ⊎_elim (λ t. t.1) (λ f. absurd (cc)) (eqb_tells a b)
+
+module _ (x d : ℕ) where
+  -- an entry that lists the element as retired retired it
+  entry_one : (entry : Entry) → list_any (with_few x d) (tally_by entry).retired ≡ true → is_retired x entry ≡ true
+  entry_one (Tended advanced alarms) h = absurd (cc)
+  entry_one (Delivered element mask) h = absurd (cc)
+  entry_one (Tried element number step deed count heard) h =
+      let none : (tally_by (Tried element number step deed count heard)).retired ≡ [] = λ k. raised_none step deed k ++ counted_none count element number k in
+      let e : false ≡ true = sym (ap (list_any (with_few x d)) none) ∙ h in absurd (cc)
+  entry_one (Retired element number) h = ⊎_elim (λ e. first_of (element == x) (nat_le number d) e) (λ f. absurd (cc)) (some_of (with_few x d (element, number)) false h)
+
+  log_one : (log : List Entry) → list_any (with_few x d) (tally_of log).retired ≡ true → list_any (is_retired x) log ≡ true
+  log_one [] h = absurd (cc)
+  log_one (entry ∷ log) h = ⊎_elim
+      (λ a. ap (λ z. z || list_any (is_retired x) log) (entry_one entry a))
+      (λ b. ap (λ z. is_retired x entry || z) (log_one log b) ∙ or_true (is_retired x entry))
+      (some_of (list_any (with_few x d) (tally_by entry).retired) (list_any (with_few x d) (tally_of log).retired)
+      (sym (list_any-append (with_few x d) (tally_by entry).retired (tally_of log).retired) ∙ h))
+
+  logs_one : (logs : List (List Entry)) → list_any (with_few x d) (flat_map (λ log. (tally_of log).retired) logs) ≡ true → list_any (is_retired x) (all_of logs) ≡ true
+  logs_one [] h = absurd (cc)
+  logs_one (log ∷ logs) h = list_any-append (is_retired x) log (all_of logs) ∙ ⊎_elim
+      (λ a. ap (λ z. z || list_any (is_retired x) (all_of logs)) (log_one log a))
+      (λ b. ap (λ z. list_any (is_retired x) log || z) (logs_one logs b) ∙ or_true (list_any (is_retired x) log))
+      (some_of (list_any (with_few x d) (tally_of log).retired) (list_any (with_few x d) (flat_map (λ log. (tally_of log).retired) logs))
+      (sym (list_any-append (with_few x d) (tally_of log).retired (flat_map (λ log. (tally_of log).retired) logs)) ∙ h))
+
+  -- a thread's element is none of the spare ones
+  none_spare : (n : ℕ) → x < n → (l : List Key) → AllByRecursion (λ (freed : Key). n ≤ freed.0) l → list_any (with_few x d) l ≡ true → ⊥
+  none_spare n low [] a h = absurd (cc)
+  none_spare n low (r ∷ l) a h = ⊎_elim
+      (λ e. let s = same_of r.0 x (first_of (r.0 == x) (nat_le r.1 d) e) in let b = a.0 in absurd (omega arith))
+      (λ f. none_spare n low l a.1 f)
+      (some_of (with_few x d r) (list_any (with_few x d) l) h)
+
 -- THREADS
 
-by_place : (call x steps all : ℕ) (e : Elements) (place : Place) → StandsAt call x e place → (StandsAt call x e places.Free → steps ≡ all)
-    → ((p : ℕ) → StandsAt call x e (places.Processor p) → ⊥) → PlaceAgrees place steps all
-by_place call x steps all e places.Free h free none = free h
-by_place call x steps all e (places.Processor p) h free none = none p h
-by_place call x steps all e place h free none = tt
+by_place : (call x steps all : ℕ) (retired : Bool) (e : Elements) (place : Place) → StandsAt call x e place → (StandsAt call x e places.Free → (steps ≡ all) × (retired ≡ true))
+    → ((p : ℕ) → StandsAt call x e (places.Processor p) → ⊥) → PlaceAgrees place steps all retired
+by_place call x steps all retired e places.Free h free none = free h
+by_place call x steps all retired e (places.Processor p) h free none = none p h
+by_place call x steps all retired e place h free none = tt
 
 module _ (plan : BootPlan) (logs : List (List Entry)) (stations : List Parts) (first last : Parts) (left : AllZip (Leaves plan) logs stations)
-    (begun : IsPrepared plan first) (some : 0 < length stations) (joins : AllJoined first stations last) (c : Closed) (e : ThreadsEnded last c) (x : ℕ) (t : closed.Thread)
-    (at : slice_get c.threads x ≡ Some t) where
+    (begun : IsPrepared plan first) (spare : FreedSpare plan first) (some : 0 < length stations) (joins : AllJoined first stations last) (c : Closed) (e : ThreadsEnded last c) (x : ℕ)
+    (its : x < length plan.threads) (t : closed.Thread) (at : slice_get c.threads x ≡ Some t) where
+  free_is_retired : StandsAt e.call x (elements_after (view_of last.hand).schedule) places.Free → list_any (is_retired x) (all_of logs) ≡ true
+  free_is_retired free =
+      let k = e.closes in
+      let d : ℕ = done_at (view_of last.hand).schedule x in
+      let shows = joined_shows first stations last some joins in
+      let any = retired_once (view_of last.hand).schedule (made_at last) x k.allowed k.made k.retired (shows.2.lines 1 (omega arith)).single (all_taken first stations last joins begun.taken) free in
+      let parted = sym (ap (list_any (with_few x d)) (all_retired plan logs stations first last left begun joins)) ∙ any in
+      ⊎_elim (λ a. absurd (none_spare x d (length plan.threads) its (flat_map retired_by (made_at first)) spare a)) (λ b. logs_one x d logs b)
+      (some_of (list_any (with_few x d) (flat_map retired_by (made_at first))) (list_any (with_few x d) (flat_map (λ log. (tally_of log).retired) logs))
+      (sym (list_any-append (with_few x d) (flat_map retired_by (made_at first)) (flat_map (λ log. (tally_of log).retired) logs)) ∙ parted))
+
   free_is_done : StandsAt e.call x (elements_after (view_of last.hand).schedule) places.Free → t.steps ≡ length (program plan x)
   free_is_done free =
       let k = e.closes in
@@ -128,12 +194,12 @@ module _ (plan : BootPlan) (logs : List (List Entry)) (stations : List Parts) (f
       let prefix = (steps_agree plan logs stations first last left begun joins c e x t at).prefix in
       omega arith
 
-  pub place_agrees : PlaceAgrees t.place t.steps (length (program plan x))
+  pub place_agrees : PlaceAgrees t.place t.steps (length (program plan x)) (list_any (is_retired x) (all_of logs))
   place_agrees =
       let low = known plan logs stations first last left begun joins c e x t at in
       let shows = joined_shows first stations last some joins in
-      subst (λ (z : Place). PlaceAgrees z t.steps (length (program plan x))) (sym (e.places x t at))
-      (by_place e.call x t.steps (length (program plan x)) (elements_after (view_of last.hand).schedule) (slice_index_or e.stands x places.Held) (e.closes.places x low) free_is_done
+      subst (λ (z : Place). PlaceAgrees z t.steps (length (program plan x)) (list_any (is_retired x) (all_of logs))) (sym (e.places x t at))
+      (by_place e.call x t.steps (length (program plan x)) (list_any (is_retired x) (all_of logs)) (elements_after (view_of last.hand).schedule) (slice_index_or e.stands x places.Held) (e.closes.places x low) (λ free. (free_is_done free, free_is_retired free))
       (λ p h. none_on e.call (view_of last.hand) e.stands e.pcs e.pending e.stops e.closes shows.2.processors e.none_on x p h))
 
   pub thread_agrees : c.fired ≡ flat_map fired_by (all_of logs) → ThreadAgrees plan x t c.fired logs

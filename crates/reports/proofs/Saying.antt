@@ -235,9 +235,9 @@ no_program [] k h = refl
 no_program (t ∷ ts) zero h = absurd (omega arith)
 no_program (t ∷ ts) (suc k) h = no_program ts k (omega arith)
 
-free_one : (place : Place) (steps all : ℕ) → state_for place ≡ states.Ended → PlaceAgrees place steps all → steps ≡ all
-free_one places.Free steps all e h = h
-free_one place steps all e h = absurd (cc)
+free_one : (place : Place) (steps all : ℕ) (retired : Bool) → state_for place ≡ states.Ended → PlaceAgrees place steps all retired → steps ≡ all
+free_one places.Free steps all retired e h = h.0
+free_one place steps all retired e h = absurd (cc)
 
 is_end : (state : ThreadState) → is_ended state ≡ true → state ≡ states.Ended
 is_end states.Ended e = refl
@@ -260,7 +260,7 @@ module _ (plan : BootPlan) (c : Closed) (logs : List (List Entry)) (heard : List
       let l = there_is r.threads x (let e = w.threads in omega arith) in
       let a = report.tables.threads x t.0 t.1 in
       let said = report.says.threads x p.0 t.0 l.0 p.1 t.1 l.1 in
-      let full = free_one t.0.place t.0.steps (length (program plan x)) (sym said.state ∙ none_live r.threads ended x l.0 l.1) a.place in
+      let full = free_one t.0.place t.0.steps (length (program plan x)) _ (sym said.state ∙ none_live r.threads ended x l.0 l.1) a.place in
       a.ran.once n ∙ ap (λ z. if nat_lt n z then 1 else 0) full)
       (λ high. let e : program plan x ≡ [] = no_program plan.threads x (omega (arith, high)) in
       none_in plan x n (ap (λ (z : List Step). slice_get z n) e) (all_of logs) (all_planned plan logs report.tables.planned)

@@ -339,6 +339,7 @@ module _ (shared : Shared) (logs : List (List Entry)) (first : Parts) (stations 
     left = s.left;
     some_processor = s.some_processor;
     prepared = s.prepared;
+    spare = s.spare;
     joined = s.joined;
     threads = threads_ended;
     small = small_ended;

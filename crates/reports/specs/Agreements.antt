@@ -1,6 +1,6 @@
 -- How the closed tables agree with the plan and with what the processors did.
-use Rattle.std.specs.Prelude.{◌≡◌, ◌≤◌, ◌<◌, ◌+◌, ◌%◌, ◌==◌, ◌||◌, ℕ, nat_lt, if◌then◌else◌, List, [], ◌∷◌, ◌++◌}
-use Rattle.std.specs.Prelude.{length, map, take, flat_map, Option, Some, None, count_by}
+use Rattle.std.specs.Prelude.{◌≡◌, ◌≤◌, ◌<◌, ◌+◌, ◌%◌, ◌==◌, ◌||◌, ℕ, Bool, true, nat_lt, if◌then◌else◌, List, []}
+use Rattle.std.specs.Prelude.{◌∷◌, ◌++◌, length, map, take, flat_map, Option, Some, None, count_by}
 use Rattle.std.specs.List.{slice_get, list_any, concat, AllByRecursion}
 use Rattle.boot_data.specs.declared.boot_plan.BootPlan.{BootPlan}
 use Rattle.boot_data.specs.declared.plan.Mover.{Mover}
@@ -31,7 +31,7 @@ use Rattle.processor.specs.Logs.{large_taken, ticked_by, fired_by}
 use Rattle.processor.specs.Programs.{program, same_key}
 use Rattle.reports.specs.Closed.{Closed}
 use Rattle.reports.specs.Closed as closed
-use Rattle.reports.specs.Doings.{signals_by, is_poke, is_for}
+use Rattle.reports.specs.Doings.{signals_by, is_poke, is_for, is_retired}
 use Rattle.reports.specs.Lists.{all_of}
 
 -- THREADS
@@ -44,11 +44,11 @@ pub record StepsAgree (plan : BootPlan) (thread steps : ℕ) (logs : List (List 
       ≡ (if nat_lt number steps then 1 else 0)
   pub order : AllByRecursion (λ log. Climbs (numbers_done log thread) 0 steps) logs
 
--- a free thread has done all its steps, and none stands on a processor
-abbrev pub PlaceAgrees : Place → ℕ → ℕ → Type 0
-PlaceAgrees places.Free steps all = steps ≡ all
-PlaceAgrees (places.Processor p) steps all = ⊥
-PlaceAgrees place steps all = Unit {0}
+-- a free thread has done all its steps and was retired by a processor, and none stands on a processor
+abbrev pub PlaceAgrees : Place → ℕ → ℕ → Bool → Type 0
+PlaceAgrees places.Free steps all retired = (steps ≡ all) × (retired ≡ true)
+PlaceAgrees (places.Processor p) steps all retired = ⊥
+PlaceAgrees place steps all retired = Unit {0}
 
 -- a signal was shown exactly where the logs delivered it to the thread
 abbrev pub ShownAgrees : ℕ → closed.Thread → List (List Entry) → Type 0
@@ -65,7 +65,7 @@ SignalsAgree thread t fired logs = (signal : ℕ) → signal < 16
 pub record ThreadAgrees (plan : BootPlan) (thread : ℕ) (t : closed.Thread) (fired : List Alarm)
     (logs : List (List Entry)) : Type 0 where
   pub ran : StepsAgree plan thread t.steps logs
-  pub place : PlaceAgrees t.place t.steps (length (program plan thread))
+  pub place : PlaceAgrees t.place t.steps (length (program plan thread)) (list_any (is_retired thread) (all_of logs))
   pub shown : ShownAgrees thread t logs
   pub signals : SignalsAgree thread t fired logs
 

@@ -17,7 +17,7 @@ use Rattle.processor.specs.Preparing.{IsPrepared}
 use Rattle.reports.specs.Closed.{Closed}
 use Rattle.reports.specs.Closed as closed
 use Rattle.reports.specs.Endings.{ThreadsEnded, QueueEnded, MoverEnded, TtyEnded, MetersEnded, small_of, large_of}
-use Rattle.reports.specs.Endings.{small_home, large_home, device_at}
+use Rattle.reports.specs.Endings.{small_home, large_home, device_at, FreedSpare}
 use Rattle.reports.specs.Lines.{Says}
 use Rattle.reports.specs.Reports.{Ascend}
 
@@ -55,12 +55,13 @@ abbrev pub large_others : Boot → ℕ → List (QueueEnd 256)
 large_others boot number = flat_map (large_home number) (homes boot)
 
 -- Each processor left what its log says, on a station that was new; all stations were joined to the first, which had
--- prepared the threads; then all was closed; and the report says what that showed
+-- prepared the threads, and had freed the other elements; then all was closed; and the report says what that showed
 pub record BootEnded (plan : BootPlan) (logs : List (List Entry)) (boot : Boot) (c : Closed) (heard : List Line)
     (r : Report) : Type 0 where
   pub left : AllZip (Leaves plan) logs boot.stations
   pub some_processor : 0 < length boot.stations
   pub prepared : IsPrepared plan boot.first
+  pub spare : FreedSpare plan boot.first
   pub joined : AllJoined boot.first boot.stations boot.last
   pub threads : ThreadsEnded boot.last c
   pub small : (number : ℕ) (q : closed.Queue) → slice_get c.small number ≡ Some q

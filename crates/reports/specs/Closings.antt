@@ -40,7 +40,7 @@ use Rattle.reports.specs.Agreements.{IsMover, IsTty}
 use Rattle.reports.specs.Boots.{Boot, TtyEnds, small_others, large_others}
 use Rattle.reports.specs.Closed.{Closed}
 use Rattle.reports.specs.Closed as closed
-use Rattle.reports.specs.Endings.{small_of, large_of}
+use Rattle.reports.specs.Endings.{small_of, large_of, FreedSpare}
 use Rattle.table_theory.specs.declared.queues.Batch.{Batch}
 use Rattle.table_theory.specs.Positioned.{blank}
 use Rattle.thread_table.specs.declared.close.Places.{Places}
@@ -162,13 +162,15 @@ IsOfPlan plan number quaject =
     IsPlanned (length plan.queues) (number - length plan.movers) (slice_get plan.movers number) quaject
 
 -- Each processor left what its log says, on a station that was new, and all stations were joined to the first, which
--- had prepared the threads; nothing stands on a processor then. The raw ttys of the devices were joined to that, and
--- all was closed. The chains were given the quajects of the plan, over ends that had done nothing
+-- had prepared the threads and freed the other elements; nothing stands on a processor then. The raw ttys of the devices
+-- were joined to that, and all was closed. The chains were given the quajects of the plan, over ends that had done
+-- nothing
 pub record BootShut (shared : Shared) (logs : List (List Entry)) (first : Parts) (stations : List Parts) (last : Parts)
     (ttys : List RawTty) (devices : List closed.Device) (parts : Parts) (ended : Ended) : Type 0 where
   pub left : AllZip (Leaves shared.plan) logs stations
   pub some_processor : 0 < length stations
   pub prepared : IsPrepared shared.plan first
+  pub spare : FreedSpare shared.plan first
   pub joined : AllJoined first stations last
   pub free : (p : ℕ) → p < 8 → IsFree p (threads.view_of last.hand)
   pub its : ArePartsOf shared last

@@ -3,7 +3,7 @@ use Rattle.std.specs.Prelude.{◌==◌, ℕ, Bool, false, List, []}
 use Rattle.boot_data.specs.declared.plan.Step.TheVariants as steps
 use Rattle.event_theory.specs.declared.alarm.Alarm.{Alarm}
 use Rattle.processor.specs.declared.deed.Deed.TheVariants as deeds
-use Rattle.processor.specs.Logs.{Entry, Tried}
+use Rattle.processor.specs.Logs.{Entry, Tried, Retired}
 use Rattle.processor.specs.Programs.{Key, same_key}
 use Rattle.processor.specs.Steps.{raised_by}
 
@@ -16,6 +16,11 @@ signals_by entry = []
 abbrev pub is_poke : ℕ → Entry → Bool
 is_poke mover (Tried element number (steps.Poke at) (deeds.Poked answer) count heard) = mover == at
 is_poke mover entry = false
+
+-- the element of this thread was put behind the free ones
+abbrev pub is_retired : ℕ → Entry → Bool
+is_retired thread (Retired element number) = element == thread
+is_retired thread entry = false
 
 -- the alarm raises this signal of this thread
 abbrev pub is_for : ℕ → ℕ → Alarm → Bool

@@ -2,7 +2,7 @@
 use Rattle.std.specs.Prelude.{◌≡◌, ◌<◌, ◌≤◌, ◌+◌, ◌^◌, ◌==◌, ℕ, true, if◌then◌else◌, List, [], ◌∷◌, map, take}
 use Rattle.std.specs.Prelude.{length, flat_map}
 use Rattle.std.specs.Prelude.{Option, Some, None, slice_index_or}
-use Rattle.std.specs.List.{slice_get, sum_by}
+use Rattle.std.specs.List.{slice_get, sum_by, AllByRecursion}
 use Rattle.boot_data.specs.declared.boot_plan.BootPlan.{BootPlan}
 use Rattle.boot_data.specs.declared.plan.PlannedMover.{PlannedMover}
 use Rattle.boot_data.specs.declared.plan.PlannedTty.{PlannedTty}
@@ -12,6 +12,7 @@ use Rattle.claim_queue.specs.Handles as queues
 use Rattle.claim_queue.specs.Lines.{lines_put, lines_taken}
 use Rattle.end_steps.specs.EndLists.{lines_put_at, lines_taken_at}
 use Rattle.hand_steps.specs.Holdings.{IsFree}
+use Rattle.hand_steps.specs.Tallies.{tally}
 use Rattle.meters.specs.Closings as seats
 use Rattle.meters.specs.Handles as meters
 use Rattle.objects.specs.DeviceEndings.{DeviceEnded}
@@ -31,11 +32,17 @@ use Rattle.thread_table.specs.declared.places.Place.TheVariants as places
 use Rattle.thread_table.specs.Closings.{ClosedNow}
 use Rattle.thread_table.specs.Handles.{view_of}
 use Rattle.processor.specs.declared.station.Parts.{Parts}
+use Rattle.processor.specs.Programs.{Key}
 use Rattle.reports.specs.Agreements.{IsTty, IsMover, MadeOfNew}
 use Rattle.reports.specs.Closed.{Closed}
 use Rattle.reports.specs.Closed as closed
 
 -- THREADS
+
+-- the elements that the station put behind the free ones are no thread's
+abbrev pub FreedSpare : BootPlan → Parts → Type 0
+FreedSpare plan station =
+    AllByRecursion (λ (freed : Key). length plan.threads ≤ freed.0) (tally (view_of station.hand).made).retired
 
 -- The last hand, which has all, closed the table, and nothing stands on a processor. The closed threads are as the
 -- table told, and shown what any processor was shown

@@ -28,6 +28,7 @@ ghost use Rattle.reports.specs.Closed.{Closed};
 ghost use Rattle.reports.specs.Closed as closed;
 ghost use Rattle.reports.specs.Closings.{BootShut, boot_shut, closed_shut};
 ghost use Rattle.reports.specs.Endings.{QueueEnded, ThreadsEnded, MetersEnded, MoverEnded, small_of, large_of};
+ghost use Rattle.reports.specs.Endings.{FreedSpare};
 ghost use Rattle.reports.specs.Lists.{all_of};
 ghost use Rattle.reports.specs.Lines.{Says};
 ghost use Rattle.reports.specs.Reports.{Ascend, IsReport};
@@ -49,14 +50,14 @@ pub fn queues_agree()
 {}
 
 /// Each step of a closed thread stands once in the logs where it is below the number of its steps done, and else never,
-/// and in each log its steps stand in their order; a thread that is among the free elements has done all its steps, and
-/// none stands on a processor; a signal was shown exactly where the logs delivered it, and was shown or is pending
+/// and in each log its steps stand in their order; a thread that is among the free elements has done all its steps and
+/// was retired in a log, where the first station freed no thread's element, and none stands on a processor; a signal was shown exactly where the logs delivered it, and was shown or is pending
 /// exactly where a step or an alarm of them raised it.
 pub fn threads_agree()
     ensures { (plan : BootPlan) (logs : List (List Entry)) (stations : List Parts) (first last : Parts) (c : Closed)
         (thread : ℕ) (t : closed.Thread) → AllZip (Leaves plan) logs stations → IsPrepared plan first
-        → 0 < length stations → AllJoined first stations last → ThreadsEnded last c
-        → slice_get c.threads thread ≡ Some t → c.fired ≡ flat_map fired_by (all_of logs)
+        → FreedSpare plan first → 0 < length stations → AllJoined first stations last → ThreadsEnded last c
+        → thread < length plan.threads → slice_get c.threads thread ≡ Some t → c.fired ≡ flat_map fired_by (all_of logs)
         → ThreadAgrees plan thread t c.fired logs }
 {}
 

@@ -4,4 +4,5 @@ pub mod Facts
 pub mod Placing
 pub mod Shut
 pub mod Sorting
+pub mod Sparing
 pub mod Stopping

@@ -47,6 +47,7 @@ use Rattle.synth_kernel.specs.Boots.{IsBootOf, AreLogsOf}
 use Rattle.synth_kernel.specs.Gatherings.{stations_in, served_in, all_there, tty_of, IsTold}
 use Rattle.synth_kernel.specs.Readies.{IsReady}
 use Rattle.synth_kernel.proofs.Backs.{Sorted, few_back, sort_back, stations_are, served_are, first_back}
+use Rattle.synth_kernel.proofs.Sparing.{freed_spare}
 use Rattle.synth_kernel.proofs.Facts.{did_of, lines_pair, raws_are, kept_shares, devices_ended, devices_shown}
 
 -- each station that came back is of the shared objects
@@ -156,6 +157,7 @@ module _ {G : Type 0} (T : G → ℕ → Point → G → Type 0) (plan : BootPla
           left = logged.1;
           some_processor = let m = many in omega arith;
           prepared = r.prepared;
+          spare = freed_spare plan turns gates ready r;
           joined = joined;
           free = came.free;
           its = its_parts;

@@ -16,7 +16,8 @@ use std::sync::Wait;
 use std::thread::Threads;
 
 /// Boots a plan, a processor for each gate, so many turns on each, and reports. `OutOfMemory` comes only where an
-/// allocation was refused or a thread could not be started. All memory is taken before the first thread starts.
+/// allocation was refused or a thread could not be started. All memory is taken before the first thread starts, but what
+/// each thread's own start takes.
 ///
 /// Conditions: there are 1 to 8 gates.
 pub(crate) fn boot_plan<R, G>(

@@ -90,15 +90,13 @@ fn turns_are_told_before_the_taking(rt: HostRuntime) {
         taken: Vec::new(rt.alloc()),
     };
     let _station = run(&rt, &shared, one, p, 3, &mut gate);
-    let ready = Ok(Element::default());
-    let none = Err(NextRefusal::NoneReady);
     let taken = [
-        (Point::Turn(0), ready),
-        (Point::Claimed, none),
-        (Point::Raised, none),
-        (Point::Turn(1), ready),
-        (Point::TakeAnswered, none),
-        (Point::Turn(2), none),
+        (Point::Turn(0), Ok(Element::default())),
+        (Point::Claimed, Err(NextRefusal::NoneReady)),
+        (Point::Raised, Err(NextRefusal::NoneReady)),
+        (Point::Turn(1), Ok(Element::default())),
+        (Point::TakeAnswered, Err(NextRefusal::NoneReady)),
+        (Point::Turn(2), Err(NextRefusal::NoneReady)),
     ];
     assert!(rt; gate.taken.as_slice() == taken.as_slice());
 }

@@ -31,8 +31,8 @@ use Rattle.thread_table.proofs.SingleRuns.{Singles, flat_single}
 use Rattle.thread_table.proofs.Schedules.{elements_of}
 use Rattle.processor.specs.Programs.{Key, program}
 use Rattle.processor.specs.Preparing.{HasDoneAll}
-use Rattle.reports.proofs.Counts.{many_more, by_bool}
-use Rattle.reports.proofs.Shuffles.{filed_shuffle}
+use Rattle.thread_table.proofs.Counts.{many_more, by_bool}
+use Rattle.thread_table.proofs.Shuffles.{filed_shuffle}
 
 -- LISTS
 

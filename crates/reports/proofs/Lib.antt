@@ -3,8 +3,6 @@ pub mod Items
 pub mod Joining
 pub mod Weaving
 pub mod Queues
-pub mod Counts
-pub mod Shuffles
 pub mod Stepping
 pub mod Tallies
 pub mod Signals

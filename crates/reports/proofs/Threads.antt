@@ -27,7 +27,7 @@ use Rattle.reports.specs.Closed as closed
 use Rattle.reports.specs.Doings as doings
 use Rattle.reports.specs.Endings.{ThreadsEnded}
 use Rattle.reports.specs.Lists.{all_of}
-use Rattle.reports.proofs.Counts.{plus, many_cons, many_more, by_bool, is_less}
+use Rattle.thread_table.proofs.Counts.{plus, many_cons, many_more, by_bool, is_less}
 use Rattle.reports.proofs.Stepping.{steps_counted}
 use Rattle.reports.proofs.Deliveries.{told}
 use Rattle.reports.proofs.Tallies.{made_at, all_steps, all_signals, all_deliveries, logs_signals}

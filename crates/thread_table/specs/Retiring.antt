@@ -1,9 +1,11 @@
--- Who put which element behind the free elements.
-use Rattle.std.specs.Prelude.{◌≡◌, ℕ, List, [], ◌∷◌, ◌++◌, map, drop}
+-- Who put which element behind the free elements, and who took free elements.
+use Rattle.std.specs.Prelude.{◌≡◌, ◌==◌, ℕ, Bool, false, List, [], ◌∷◌, ◌++◌, map, drop, flat_map, slice_index_or}
+use Rattle.std.specs.List.{list_any}
 use Rattle.event_theory.specs.Runs.{Run}
 use Rattle.event_theory.specs.declared.event.Event.{Event}
 use Rattle.event_theory.specs.declared.event.Event.TheVariants as events
 use Rattle.event_theory.specs.declared.names.QueueName.TheVariants as names
+use Rattle.thread_table.specs.declared.rule.Made.{Made}
 use Rattle.thread_table.specs.Schedules.{elements_after, line_at}
 
 abbrev pub items_of : Run → List ℕ
@@ -21,3 +23,21 @@ retired_in (event ∷ events) = retired_by event ++ retired_in events
 -- the runs of the free elements' queue, behind the 64 with which it began, are the claims of it, in their order
 abbrev pub AreRetired : List Event → Type 0
 AreRetired events = drop 64 (map items_of (line_at (elements_after events) 1).history) ≡ retired_in events
+
+-- a taking of free elements, by how many it takes
+abbrev pub taking_by : Event → List ℕ
+taking_by (events.Take call names.Free count) = count ∷ []
+taking_by event = []
+
+-- the takings of free elements in a hand's list
+abbrev pub free_takings : List Made → List ℕ
+free_takings made = flat_map (λ (m : Made). taking_by m.event) made
+
+-- the event put this element behind the free ones, which go there one by one
+abbrev pub frees : ℕ → Event → Bool
+frees element (events.Claim call names.Free items) = slice_index_or items 0 0 == element
+frees element event = false
+
+-- an event of the list did
+abbrev pub was_freed : ℕ → List Made → Bool
+was_freed element made = list_any (λ (m : Made). frees element m.event) made

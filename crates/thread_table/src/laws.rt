@@ -1,5 +1,5 @@
-//! What a call leaves to its hand as it was.
-ghost use Rattle.std.specs.Prelude.{◌≡◌, ℕ, Bool, false, Result, Ok, Err};
+//! What a call leaves to its hand as it was, and where a closed table tells what was put behind the free elements.
+ghost use Rattle.std.specs.Prelude.{◌≡◌, ◌<◌, ◌≤◌, ℕ, Bool, true, false, List, length, slice_index_or, Result, Ok, Err};
 ghost use Rattle.thread_table.specs.declared.rule.View.{View};
 ghost use Rattle.thread_table.specs.declared.takings.NextRefusal.{NextRefusal};
 ghost use Rattle.thread_table.specs.declared.moves.MoveRefusal.{MoveRefusal};
@@ -8,6 +8,10 @@ ghost use Rattle.thread_table.specs.declared.states.Started.TheVariants as start
 ghost use Rattle.thread_table.specs.declared.states.Lost.{Lost};
 ghost use Rattle.thread_table.specs.declared.states.Signalled.{Signalled};
 ghost use Rattle.thread_table.specs.declared.programs.Spent.{Spent};
+ghost use Rattle.thread_table.specs.declared.places.Place.{Place};
+ghost use Rattle.thread_table.specs.declared.places.Place.TheVariants as places;
+ghost use Rattle.thread_table.specs.Closings.{ClosedNow};
+ghost use Rattle.thread_table.specs.Retiring.{free_takings, was_freed};
 ghost use Rattle.thread_table.specs.Steps.{Found, Counts};
 ghost use Rattle.thread_table.specs.Answers.{TakeAnswer, MoveAnswer, WaitAnswer, IsTicket, StoppedNow, StartAnswer};
 ghost use Rattle.thread_table.specs.Answers.{ParkAnswer, SignalAnswer, DeliverAnswer, DoneAnswer};
@@ -59,4 +63,12 @@ pub fn answers_keep()
     ensures steps { (call element : ℕ) (v w : View) (r : Result ℕ Spent) → DoneAnswer call v element r w
         → Keeps v w }
     ensures wakes { (call wait mask : ℕ) (v w : View) → WokeAll call v wait mask w → Keeps v w }
+{}
+
+/// A closed table began with 64 free elements. Where the list of the hand that closed it has no more takings of free
+/// elements than these, each element that an event of the list put behind the free ones is told as free.
+pub fn freed_stay_free()
+    ensures { (call : ℕ) (v : View) (stands : List Place) (pcs pending : List ℕ) (stops element : ℕ)
+        → ClosedNow call v stands pcs pending stops → length (free_takings v.made) ≤ 64 → element < 64
+        → was_freed element v.made ≡ true → slice_index_or stands element places.Held ≡ places.Free }
 {}

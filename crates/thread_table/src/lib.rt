@@ -28,7 +28,7 @@ mod words;
 pub use between::between_steps;
 pub use close::Places;
 pub use hand::{Hand, ThreadTable};
-pub use laws::{answers_keep, refusals_stay};
+pub use laws::{answers_keep, freed_stay_free, refusals_stay};
 pub use moves::MoveRefusal;
 pub use places::Place;
 pub use processors::{ProcessorBusy, ProcessorEmpty};

@@ -10,7 +10,7 @@ use lib.ListN.{get_elem?}
 use Rattle.atomic_table.proofs.Lists.{at_map}
 use Rattle.table_theory.specs.Filing.{Owned, ListedOnce, entry_of}
 use Rattle.table_theory.proofs.Owned.{at_below, at_map_back}
-use Rattle.reports.proofs.Counts.{plus, many_cons, many_more, many_none, many_one, find_it, range_in, range_far}
+use Rattle.thread_table.proofs.Counts.{plus, many_cons, many_more, many_none, many_one, find_it, range_in, range_far}
 
 module _ {A : Type 0} where
   -- Lists in which each entry stands equally often

@@ -1,5 +1,5 @@
 -- How a turn begins.
-use Rattle.std.proofs.Common.{◌≡◌, ◌≢◌, ◌⊎◌, ⊎_elim, inl, inr, ℕ, ◌<◌, Bool, true, false, ◌||◌, get_or, refl, sym, ap, ◌∙◌, eqb}
+use Rattle.std.proofs.Common.{◌≡◌, ◌≢◌, ◌⊎◌, ⊎_elim, inl, inr, ℕ, ◌<◌, Bool, true, false, ◌||◌, get_or, refl, sym, ap, ◌∙◌, arith, eqb}
 use Rattle.std.specs.Prelude.{◌==◌, if◌then◌else◌}
 use Rattle.std.proofs.lemmas.Bool.Decides.{eqb_tells}
 use Rattle.thread_table.specs.declared.rule.View.{View}
@@ -55,7 +55,7 @@ awake_is call element v w a =
     let low = took_known call 0 element v a.taken a.took in
     let l = runs_looked call element a.taken w a.runs in
     let h = took_holds call 0 element v a.taken low a.took in (
-      goes_before no_events v a.taken w (took_goes call 0 element v a.taken a.took) (looked_goes a.taken w l) (more_grows element v a.taken w h),
+      goes_before no_events v a.taken w (took_goes call 0 element v a.taken (λ z. omega arith) a.took) (looked_goes a.taken w l) (more_grows element v a.taken w h),
       more_same element v a.taken w h (looked_held a.taken w l),
     )
 
@@ -80,7 +80,7 @@ idle_is call (idle.Parked element) v w a =
     let u : View = a.0 in
     let low = took_known call 0 element v u a.1 in
     let h = took_holds call 0 element v u low a.1 in (
-      goes_before no_events v u w (took_goes call 0 element v u a.1) (parked_goes call element u w a.2) (more_grows element v u w h),
+      goes_before no_events v u w (took_goes call 0 element v u (λ z. omega arith) a.1) (parked_goes call element u w a.2) (more_grows element v u w h),
       back element v u w h (parked_holds call element u w low a.2),
     )
 idle_is call (idle.ParkLost element lost ready) v w a =
@@ -90,7 +90,7 @@ idle_is call (idle.ParkLost element lost ready) v w a =
     let h = took_holds call 0 element v u low a.1 in
     let l = park_looked call element u x lost a.3 in
     let k = more_same element v u x h (looked_held u x l) in
-    let first = goes_before no_events v u x (took_goes call 0 element v u a.1) (looked_goes u x l) (more_grows element v u x h) in (
+    let first = goes_before no_events v u x (took_goes call 0 element v u (λ z. omega arith) a.1) (looked_goes u x l) (more_grows element v u x h) in (
       goes_before no_events v x w first (sent_goes call targets.Ready element ready x w low first.calm.fresh (more_has element v x low k) a.4) (more_grows element v x w k),
       lost_is element lost ready v x w k (sent_holds call 0 element ready x w first.calm.fresh a.4),
     )

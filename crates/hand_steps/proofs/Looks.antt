@@ -1,8 +1,10 @@
 -- What each answer of the table leaves to the hand, and adds.
-use Rattle.std.proofs.Common.{◌≡◌, ⊎_elim, ℕ, zero, suc, ◌+◌, ◌<◌, Bool, true, false, ◌||◌, cond, List, [], ◌∷◌, get_or, set, Result, Ok, Err, refl, sym, ap, ◌∙◌, arith}
+use Rattle.std.proofs.Common.{◌≡◌, ◌≢◌, ⊎_elim, ℕ, zero, suc, ◌+◌, ◌<◌, Bool, true, false, ◌||◌, cond, List, [], ◌∷◌, get_or, set, Result, Ok, Err, refl, sym, ap, ◌∙◌, arith}
 use Rattle.std.specs.Prelude.{◌==◌, if◌then◌else◌, filter}
 use Rattle.std.specs.List.{range_with_len}
 use Rattle.event_theory.specs.Elements.{Elements}
+use Rattle.event_theory.specs.States.{State}
+use Rattle.event_theory.specs.declared.event.Event.TheVariants as events
 use Rattle.thread_table.specs.declared.rule.View.{View}
 use Rattle.thread_table.specs.declared.takings.NextRefusal.{NextRefusal}
 use Rattle.thread_table.specs.declared.takings.NextRefusal.TheVariants as nexts
@@ -14,13 +16,14 @@ use Rattle.thread_table.specs.declared.states.Signalled.TheVariants as signalled
 use Rattle.thread_table.specs.Answers.{TookFirst, TakeAnswer, MoveAnswer, WaitAnswer, StartAnswer, ParkAnswer, DeliverAnswer, SignalAnswer, SignalledNow, StoppedNow, IsTicket, FoundThen, is_in}
 use Rattle.thread_table.specs.declared.states.Started.TheVariants as started
 use Rattle.thread_table.specs.Rules.{has}
-use Rattle.thread_table.specs.Schedules.{state_after, elements_after, thread_at}
+use Rattle.thread_table.specs.Makers.{made_in}
+use Rattle.thread_table.specs.Schedules.{state_after, elements_after, thread_at, line_name}
 use Rattle.thread_table.specs.Steps.{Found, Counts, Starts}
 use Rattle.thread_table.proofs.Following.{Looked, found_looked, looked_on}
 use Rattle.thread_table.proofs.Schedules.{elements_of}
 use Rattle.hand_steps.specs.Dispatches.{mask_of}
 use Rattle.hand_steps.specs.Holdings.{HoldsMore, HoldsLess, OnlyAdds}
-use Rattle.hand_steps.specs.Tallies.{Tally, no_events, one_signal, one_delivery, signals_in}
+use Rattle.hand_steps.specs.Tallies.{Tally, tally, no_events, one_signal, one_delivery, signals_in}
 use Rattle.hand_steps.proofs.Calm.{Goes, goes_after, left, looked_held, looked_goes, did_goes, only}
 use Rattle.hand_steps.proofs.Lawful.{took_looked, took_unheld, started_unheld, put_in, taken_out}
 use Rattle.hand_steps.proofs.Tallies.{adds_none}
@@ -59,11 +62,16 @@ start_looked call element v w r a = found_two v a.before w _ _ _ _ a.loaded a.mi
 pub goes_looked : (call element : ℕ) (v w : View) → StartAnswer call v element (Ok started.NotStopped) w → Looked v w
 goes_looked call element v w a = found_looked v w _ _ a.loaded
 
--- a taking
-pub took_goes : (call line element : ℕ) (v w : View) → TookFirst call v line element w → Goes no_events v w
-took_goes call line element v w t = let l = took_looked call line element v w t in
+-- a taking of elements that are not free
+none_free : (call line : ℕ) (s : State) → line ≢ 1 → tally (made_in (events.Take call (line_name line) 1) s ∷ []) ≡ no_events
+none_free call zero s other = refl
+none_free call (suc zero) s other = absurd (other refl)
+none_free call (suc (suc wait)) s other = refl
+
+pub took_goes : (call line element : ℕ) (v w : View) → line ≢ 1 → TookFirst call v line element w → Goes no_events v w
+took_goes call line element v w other t = let l = took_looked call line element v w t in
     goes_after no_events v t.before w (looked_goes v t.before l)
-    (did_goes call t.before w _ _ _ _ no_events record { first = λ _. refl; serves = λ _. refl; on = λ _. refl; share = λ _. refl; made = λ _. refl } (λ e. refl) t.took.did refl)
+    (did_goes call t.before w _ _ _ _ no_events record { first = λ _. refl; serves = λ _. refl; on = λ _. refl; share = λ _. refl; made = λ _. refl } (λ e. refl) t.took.did (none_free call line (state_after t.took.did.before) other))
     (left v t.before w (looked_held v t.before l))
 
 pub took_holds : (call line element : ℕ) (v w : View) → element < 64 → TookFirst call v line element w → HoldsMore element v w

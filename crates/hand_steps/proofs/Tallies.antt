@@ -8,7 +8,7 @@ use Rattle.thread_table.specs.declared.rule.View.{View}
 use Rattle.thread_table.specs.Makers.{made_in}
 use Rattle.thread_table.specs.Schedules.{state_after}
 use Rattle.thread_table.specs.Steps.{Did}
-use Rattle.hand_steps.specs.Tallies.{Tally, tally, behind, no_events, Adds, done_by, signalled_by, delivered_by, retired_by}
+use Rattle.hand_steps.specs.Tallies.{Tally, tally, behind, no_events, Adds, done_by, signalled_by, delivered_by, retired_by, taken_by}
 
 tally_more : (a b : List Made) → tally (a ++ b) ≡ behind (tally a) (tally b)
 tally_more a b = λ i. record {
@@ -16,6 +16,7 @@ tally_more a b = λ i. record {
   signalled = flat_map-append signalled_by a b i;
   delivered = flat_map-append delivered_by a b i;
   retired = flat_map-append retired_by a b i;
+  taken = flat_map-append taken_by a b i;
 }
 
 behind_more : (a b c : Tally) → behind (behind a b) c ≡ behind a (behind b c)
@@ -24,6 +25,7 @@ behind_more a b c = λ i. record {
   signalled = append_assoc a.signalled b.signalled c.signalled i;
   delivered = append_assoc a.delivered b.delivered c.delivered i;
   retired = append_assoc a.retired b.retired c.retired i;
+  taken = append_assoc a.taken b.taken c.taken i;
 }
 
 behind_none : (a : Tally) → behind a no_events ≡ a
@@ -32,6 +34,7 @@ behind_none a = λ i. record {
   signalled = append-nil a.signalled i;
   delivered = append-nil a.delivered i;
   retired = append-nil a.retired i;
+  taken = append-nil a.taken i;
 }
 
 -- a hand that made no event adds nothing

@@ -1,5 +1,5 @@
 -- What the events in a hand's list come to: the steps that it counted, the signals that it made pending and that it
--- delivered, and the elements that it put behind the free ones.
+-- delivered, the elements that it put behind the free ones, and its takings of free elements.
 use Rattle.std.specs.Prelude.{◌≡◌, ◌==◌, ◌&&◌, ℕ, zero, suc, Bool, List, [], ◌∷◌, ◌++◌, map, slice_index_or}
 use Rattle.std.specs.Prelude.{filter, flat_map}
 use Rattle.std.specs.List.{list_any, range_with_len}
@@ -10,6 +10,7 @@ use Rattle.event_theory.specs.declared.names.QueueName.TheVariants as names
 use Rattle.thread_table.specs.declared.rule.Made.{Made}
 use Rattle.thread_table.specs.declared.rule.View.{View}
 use Rattle.thread_table.specs.Answers.{is_in}
+use Rattle.thread_table.specs.Retiring.{taking_by}
 
 -- the step that an event counts: its element, and how many that had done before
 abbrev pub step_by : Event → ℕ → List (ℕ × ℕ)
@@ -43,12 +44,18 @@ delivered_by m = delivery_by m.event m.signals
 abbrev pub retired_by : Made → List (ℕ × ℕ)
 retired_by m = retiring_by m.event m.number
 
--- the steps counted, the signals raised, the signals delivered and the elements retired, each in the order of events
+-- the taking of a free element
+abbrev pub taken_by : Made → List ℕ
+taken_by m = taking_by m.event
+
+-- The steps counted, the signals raised, the signals delivered, the elements retired, and the takings of free elements,
+-- each in the order of events
 pub record Tally : Type 0 where
   pub done : List (ℕ × ℕ)
   pub signalled : List (ℕ × ℕ)
   pub delivered : List (ℕ × List ℕ)
   pub retired : List (ℕ × ℕ)
+  pub taken : List ℕ
 
 abbrev pub tally : List Made → Tally
 tally made = record {
@@ -56,10 +63,11 @@ tally made = record {
   signalled = flat_map signalled_by made;
   delivered = flat_map delivered_by made;
   retired = flat_map retired_by made;
+  taken = flat_map taken_by made;
 }
 
 abbrev pub no_events : Tally
-no_events = record { done = []; signalled = []; delivered = []; retired = [] }
+no_events = record { done = []; signalled = []; delivered = []; retired = []; taken = [] }
 
 -- one tally behind another
 abbrev pub behind : Tally → Tally → Tally
@@ -68,6 +76,7 @@ behind t more = record {
   signalled = t.signalled ++ more.signalled;
   delivered = t.delivered ++ more.delivered;
   retired = t.retired ++ more.retired;
+  taken = t.taken ++ more.taken;
 }
 
 abbrev pub one_step : ℕ → ℕ → Tally

@@ -9,25 +9,26 @@ use Rattle.hand_steps.specs.Tallies.{Tally, tally, behind, no_events, Adds}
 use Rattle.processor.specs.Acts.{Acts, NeverFalls, SteadyOn}
 use Rattle.processor.proofs.Rising.{rises_on}
 
-abbrev tally_of : List (ℕ × ℕ) → List (ℕ × ℕ) → List (ℕ × List ℕ) → List (ℕ × ℕ) → Tally
-tally_of d s v r = record { done = d; signalled = s; delivered = v; retired = r }
-
 pub behind_assoc : (a b c : Tally) → behind (behind a b) c ≡ behind a (behind b c)
-behind_assoc a b c =
-    ap (λ z. tally_of z ((a.signalled ++ b.signalled) ++ c.signalled) ((a.delivered ++ b.delivered) ++ c.delivered) ((a.retired ++ b.retired) ++ c.retired)) (append_assoc a.done b.done c.done)
-    ∙ ap (λ z. tally_of (a.done ++ (b.done ++ c.done)) z ((a.delivered ++ b.delivered) ++ c.delivered) ((a.retired ++ b.retired) ++ c.retired)) (append_assoc a.signalled b.signalled c.signalled)
-    ∙ ap (λ z. tally_of (a.done ++ (b.done ++ c.done)) (a.signalled ++ (b.signalled ++ c.signalled)) z ((a.retired ++ b.retired) ++ c.retired)) (append_assoc a.delivered b.delivered c.delivered)
-    ∙ ap (λ z. tally_of (a.done ++ (b.done ++ c.done)) (a.signalled ++ (b.signalled ++ c.signalled)) (a.delivered ++ (b.delivered ++ c.delivered)) z) (append_assoc a.retired b.retired c.retired)
+behind_assoc a b c = λ i. record {
+  done = append_assoc a.done b.done c.done i;
+  signalled = append_assoc a.signalled b.signalled c.signalled i;
+  delivered = append_assoc a.delivered b.delivered c.delivered i;
+  retired = append_assoc a.retired b.retired c.retired i;
+  taken = append_assoc a.taken b.taken c.taken i;
+}
 
 pub adds_on : (s t : Tally) (u v w : View) → Adds s u v → Adds t v w → Adds (behind s t) u w
 adds_on s t u v w a b = b ∙ ap (λ z. behind z t) a ∙ behind_assoc (tally u.made) s t
 
 pub nothing_behind : (t : Tally) → behind t no_events ≡ t
-nothing_behind t =
-    ap (λ z. tally_of z (t.signalled ++ []) (t.delivered ++ []) (t.retired ++ [])) (append-nil t.done)
-    ∙ ap (λ z. tally_of t.done z (t.delivered ++ []) (t.retired ++ [])) (append-nil t.signalled)
-    ∙ ap (λ z. tally_of t.done t.signalled z (t.retired ++ [])) (append-nil t.delivered)
-    ∙ ap (λ z. tally_of t.done t.signalled t.delivered z) (append-nil t.retired)
+nothing_behind t = λ i. record {
+  done = append-nil t.done i;
+  signalled = append-nil t.signalled i;
+  delivered = append-nil t.delivered i;
+  retired = append-nil t.retired i;
+  taken = append-nil t.taken i;
+}
 
 pub keeps_on : (u v w : View) → Keeps u v → Keeps v w → Keeps u w
 keeps_on u v w a b = record { first = b.first ∙ a.first; serves = b.serves ∙ a.serves; on = b.on ∙ a.on; share = b.share ∙ a.share }

@@ -4,7 +4,7 @@ use Rattle.std.specs.Prelude.{◌==◌, if◌then◌else◌, filter, flat_map, l
 use Rattle.std.specs.List.{range_with_len}
 use Rattle.std.proofs.lemmas.Bool.{eq-eqb}
 use Rattle.std.proofs.lemmas.Bool.Decides.{eqb_tells}
-use Rattle.std.proofs.lemmas.List.{append_assoc, append-nil, map-append}
+use Rattle.std.proofs.lemmas.List.{append_assoc, append-nil, map-append, length-append, length-set}
 use Rattle.std.proofs.lemmas.List.Concat.{flat_map-append}
 use Rattle.event_theory.specs.declared.event.Event.{Event}
 use Rattle.thread_table.specs.declared.rule.Made.{Made}
@@ -16,13 +16,16 @@ use Rattle.thread_table.specs.declared.moves.MoveRefusal.TheVariants as moves
 use Rattle.thread_table.specs.Answers.{TakeAnswer, MoveAnswer}
 use Rattle.thread_table.specs.Keeping.{Keeps, Stays}
 use Rattle.thread_table.specs.Makers.{made_in}
-use Rattle.thread_table.specs.Retiring.{retired_by}
+use Rattle.thread_table.specs.Retiring.{retired_by, taking_by, free_takings}
 use Rattle.thread_table.specs.Rules.{has}
 use Rattle.thread_table.specs.Schedules.{state_after, elements_after, line_at, element_at}
 use Rattle.thread_table.specs.Steps.{Found, Did}
+use Rattle.thread_table.specs.Views.{with_claim, with_raise}
 use Rattle.thread_table.proofs.Following.{Looked, found_looked, looked_on}
-use Rattle.kernel_threads.proofs.FreeTakings.{StepTakes, did_take, looked_take, takes_one, ready_takes, ready_raises, free_takes, free_raises, mark_more, all_marked}
-use Rattle.kernel_threads.specs.Elements.{readied_by, other_by, readied, freed, others, free_taken, many_held, one_by_one, Moved, TookFree, HoldsLess, HoldsFrom, MadeReady, Freed, Prepared}
+use Rattle.std.proofs.lemmas.List.FromFn.{length-range_with_len}
+use Rattle.hand_steps.proofs.Lawful.{took_known, took_unheld}
+use Rattle.kernel_threads.proofs.FreeTakings.{did_take, looked_take, mark_more, mark_new, mark_less, all_marked}
+use Rattle.kernel_threads.specs.Elements.{readied_by, other_by, readied, freed, others, free_taken, own_takings, many_held, one_by_one, Moved, TookFree, HoldsLess, HoldsFrom, MadeReady, Freed, Prepared}
 
 keeps_on : (u v w : View) → Keeps u v → Keeps v w → Keeps u w
 keeps_on u v w a b = record { first = b.first ∙ a.first; serves = b.serves ∙ a.serves; on = b.on ∙ a.on; share = b.share ∙ a.share }
@@ -67,6 +70,10 @@ none_moved v w s = record {
   others_are = ap (flat_map (λ (m : Made). other_by m.event)) s.stays.made;
   keeps = s.stays.keeps;
   later = s.later;
+  long = ap length s.stays.held;
+  own =
+      let same : own_takings w ≡ own_takings v = ap (λ (z : List Made). length (free_takings z)) s.stays.made in
+      let still : many_held w ≡ many_held v = ap (λ (z : List Bool). length (filter (λ (held : Bool). held) z)) s.stays.held in omega arith;
 }
 
 pub moved_none : (v : View) → Moved [] [] v v
@@ -82,15 +89,19 @@ moved_on a b c d u v w m n = record {
   others_are = n.others_are ∙ m.others_are;
   keeps = keeps_on u v w m.keeps n.keeps;
   later = let x = m.later in let y = n.later in omega arith;
+  long = n.long ∙ m.long;
+  own =
+      let x = m.own in let y = n.own in
+      let r = length-append a c in let f = length-append b d in omega arith;
 }
 
 one_more : {A : Type 0} (f : Made → List A) (xs ys : List Made) (m : Made) → ys ≡ xs ++ m ∷ [] → flat_map f ys ≡ flat_map f xs ++ f m
 one_more {A} f xs ys m e = ap (flat_map f) e ∙ flat_map-append f xs (m ∷ []) ∙ ap (λ (z : List A). flat_map f xs ++ z) (append-nil (f m))
 
 -- one event more
-did_moved : (n call : ℕ) (v w : View) (word found : ℕ) (event : Event) (knows : List Event → View) (ready free : List ℕ) → ((es : List Event) → (knows es).made ≡ v.made) → ((es : List Event) → Keeps v (knows es)) → Did call v word found event knows w
-    → StepTakes n event → readied_by event ≡ one_by_one ready → retired_by event ≡ one_by_one free → other_by event ≡ [] → Moved ready free v w
-did_moved n call v w word found event knows ready free made keeps d takes r f o =
+did_moved : (call : ℕ) (v w : View) (word found : ℕ) (event : Event) (knows : List Event → View) (ready free : List ℕ) → ((es : List Event) → (knows es).made ≡ v.made) → ((es : List Event) → Keeps v (knows es)) → Did call v word found event knows w
+    → readied_by event ≡ one_by_one ready → retired_by event ≡ one_by_one free → other_by event ≡ [] → length w.held ≡ length v.held → length (taking_by event) + many_held v ≡ many_held w + (length ready + length free) → Moved ready free v w
+did_moved call v w word found event knows ready free made keeps d r f o long own =
     let m = made_in event (state_after d.before) in
     let k = keeps d.before in
     let grew : w.made ≡ v.made ++ m ∷ [] = ap (λ (z : View). z.made) d.same ∙ ap (λ (z : List Made). z ++ m ∷ []) (made d.before) in record {
@@ -103,7 +114,11 @@ did_moved n call v w word found event knows ready free made keeps d takes r f o 
         on = ap (λ (z : View). z.on) d.same ∙ k.on;
         share = ap (λ (z : View). z.member.share) d.same ∙ k.share;
       };
-      later = let t = did_take n call v w word found event knows takes d in omega arith;
+      later = let t = did_take call v w word found event knows d in omega arith;
+      long = long;
+      own =
+          let more : own_takings w ≡ length (free_takings v.made ++ taking_by event) = ap length (one_more (λ (m : Made). taking_by m.event) v.made w.made m grew) in
+          let parts : length (free_takings v.made ++ taking_by event) ≡ own_takings v + length (taking_by event) = length-append (free_takings v.made) (taking_by event) in omega arith;
     }
 
 found_two : (u v w : View) (i r j s : ℕ) → Found u i r v → Found v j s w → Looked u w
@@ -138,13 +153,21 @@ pub take_took : (call : ℕ) (v w : View) (r : Result ℕ NextRefusal) → TakeA
 take_took call v w (Err r) a = waits_took v w (take_waits call 1 v w r a)
 take_took call v w (Ok element) t =
     let s = looked_waits v t.before (found_two v t.found.loaded t.before _ _ _ _ t.found.tail_loaded t.found.place_loaded) in
-    let one = did_take 1 call t.before w _ _ _ _ (takes_one call) t.took.did in
+    let one : free_taken t.before + 1 ≤ free_taken w = did_take call t.before w _ _ _ _ t.took.did in
+    let low = took_known call 1 element v w t in
+    let d = t.took.did in
+    let wide = d.hand.held_long in
+    let long : length w.held ≡ length t.before.held = ap (λ (z : View). length z.held) d.same ∙ length-set t.before.held _ true in
+    let none : has t.before element ≡ false = ap (λ (z : List Bool). get_or z element false) s.stays.held ∙ took_unheld call 1 element v w low t in
+    let added : many_held w ≡ many_held t.before + 1 = mark_new t.before.held w.held element long (omega arith) none
+    (λ e. t.holds e ∙ ap (λ (z : List Bool). get_or z e false || e == element) (sym s.stays.held)) in
+    let own : 1 + many_held t.before ≡ many_held w + (0 + 0) = omega arith in
     let more = mark_more t.before.held (element_at (line_at (elements_after t.took.did.before) 1) (line_at (elements_after t.took.did.before) 1).taken) in
     let marks = ap (λ (z : View). many_held z) t.took.did.same in
     let same = same_many v t.before s.stays.held in
     let later = s.later in record {
       moved = moved_on [] [] [] [] v t.before w (none_moved v t.before s)
-          (did_moved 1 call t.before w _ _ _ _ [] [] (λ es. refl) (λ es. record { first = refl; serves = refl; on = refl; share = refl }) t.took.did (takes_one call) refl refl refl);
+          (did_moved call t.before w _ _ _ _ [] [] (λ es. refl) (λ es. record { first = refl; serves = refl; on = refl; share = refl }) t.took.did refl refl refl long own);
       held = λ e h. t.holds e ∙ ap (λ (z : Bool). z || e == element) h;
       taken = omega arith;
     }
@@ -155,25 +178,44 @@ took_none v = waits_took v v (waits_none v)
 pub took_on : (u v w : View) → TookFree u v → TookFree v w → TookFree u w
 took_on u v w a b = record { moved = moved_on [] [] [] [] u v w a.moved b.moved; held = λ e h. b.held e (a.held e h); taken = let x = a.taken in let y = b.taken in omega arith }
 
--- a move to the ready ring, after others that were lost
-pub ready_moved : (call element : ℕ) (u v w : View) → Waits u v → MoveAnswer call v 0 element (Ok tt) w → MadeReady element u w
-ready_moved call element u v w s m = let l = waits_on u v m.before s (looked_waits v m.before (found_looked v m.before _ _ m.found.loaded)) in (
-  moved_on [] [] (element ∷ []) [] u m.before w (none_moved u m.before l)
-      (moved_on (element ∷ []) [] [] [] m.before m.between w
-      (did_moved 0 call m.before m.between _ _ _ _ (element ∷ []) [] (λ es. refl) (λ es. record { first = refl; serves = refl; on = refl; share = refl }) m.claims.did (ready_takes call (element ∷ [])) refl refl refl)
-      (did_moved 0 call m.between w _ _ _ _ [] [] (λ es. refl) (λ es. record { first = refl; serves = refl; on = refl; share = refl }) m.raises (ready_raises call _ 0) refl refl refl)),
-  λ e. m.gone e ∙ ap (λ (z : List Bool). if e == element then false else get_or z e false) s.stays.held,
+-- the hand lets the element go that it claims a place for
+claim_counts : (call element line : ℕ) (v w : View) (word found : ℕ) (event : Event) → Did call v word found event (λ before. with_claim v line (length (line_at (elements_after before) line).history) element) w
+    → has v element ≡ true → (length w.held ≡ length v.held) × (0 + many_held v ≡ many_held w + (1 + 0))
+claim_counts call element line v w word found event d here = (
+  ap (λ (z : View). length z.held) d.same ∙ length-set v.held element false,
+  let less = mark_less v.held element here in let same = ap (λ (z : View). many_held z) d.same in omega arith,
 )
 
+raise_counts : (call : ℕ) (v w : View) (word found : ℕ) (event : Event) → Did call v word found event (λ before. with_raise v) w → (length w.held ≡ length v.held) × (0 + many_held v ≡ many_held w + (0 + 0))
+raise_counts call v w word found event d = (ap (λ (z : View). length z.held) d.same, let same = ap (λ (z : View). many_held z) d.same in omega arith)
+
+-- a move to the ready ring, after others that were lost
+pub ready_moved : (call element : ℕ) (u v w : View) → has v element ≡ true → Waits u v → MoveAnswer call v 0 element (Ok tt) w → MadeReady element u w
+ready_moved call element u v w here s m =
+    let looks = looked_waits v m.before (found_looked v m.before _ _ m.found.loaded) in
+    let l = waits_on u v m.before s looks in
+    let c = claim_counts call element 0 m.before m.between _ _ _ m.claims.did (ap (λ (z : List Bool). get_or z element false) looks.stays.held ∙ here) in
+    let r = raise_counts call m.between w _ _ _ m.raises in (
+      moved_on [] [] (element ∷ []) [] u m.before w (none_moved u m.before l)
+          (moved_on (element ∷ []) [] [] [] m.before m.between w
+          (did_moved call m.before m.between _ _ _ _ (element ∷ []) [] (λ es. refl) (λ es. record { first = refl; serves = refl; on = refl; share = refl }) m.claims.did refl refl refl c.0 c.1)
+          (did_moved call m.between w _ _ _ _ [] [] (λ es. refl) (λ es. record { first = refl; serves = refl; on = refl; share = refl }) m.raises refl refl refl r.0 r.1)),
+      λ e. m.gone e ∙ ap (λ (z : List Bool). if e == element then false else get_or z e false) s.stays.held,
+    )
+
 -- a move behind the free elements, after others that were lost
-pub free_moved : (call element : ℕ) (u v w : View) → Waits u v → MoveAnswer call v 1 element (Ok tt) w → Freed element u w
-free_moved call element u v w s m = let l = waits_on u v m.before s (looked_waits v m.before (found_looked v m.before _ _ m.found.loaded)) in (
-  moved_on [] [] [] (element ∷ []) u m.before w (none_moved u m.before l)
-      (moved_on [] (element ∷ []) [] [] m.before m.between w
-      (did_moved 0 call m.before m.between _ _ _ _ [] (element ∷ []) (λ es. refl) (λ es. record { first = refl; serves = refl; on = refl; share = refl }) m.claims.did (free_takes call (element ∷ [])) refl refl refl)
-      (did_moved 0 call m.between w _ _ _ _ [] [] (λ es. refl) (λ es. record { first = refl; serves = refl; on = refl; share = refl }) m.raises (free_raises call _ 0) refl refl refl)),
-  λ e. m.gone e ∙ ap (λ (z : List Bool). if e == element then false else get_or z e false) s.stays.held,
-)
+pub free_moved : (call element : ℕ) (u v w : View) → has v element ≡ true → Waits u v → MoveAnswer call v 1 element (Ok tt) w → Freed element u w
+free_moved call element u v w here s m =
+    let looks = looked_waits v m.before (found_looked v m.before _ _ m.found.loaded) in
+    let l = waits_on u v m.before s looks in
+    let c = claim_counts call element 1 m.before m.between _ _ _ m.claims.did (ap (λ (z : List Bool). get_or z element false) looks.stays.held ∙ here) in
+    let r = raise_counts call m.between w _ _ _ m.raises in (
+      moved_on [] [] [] (element ∷ []) u m.before w (none_moved u m.before l)
+          (moved_on [] (element ∷ []) [] [] m.before m.between w
+          (did_moved call m.before m.between _ _ _ _ [] (element ∷ []) (λ es. refl) (λ es. record { first = refl; serves = refl; on = refl; share = refl }) m.claims.did refl refl refl c.0 c.1)
+          (did_moved call m.between w _ _ _ _ [] [] (λ es. refl) (λ es. record { first = refl; serves = refl; on = refl; share = refl }) m.raises refl refl refl r.0 r.1)),
+      λ e. m.gone e ∙ ap (λ (z : List Bool). if e == element then false else get_or z e false) s.stays.held,
+    )
 
 range_more : (a n : ℕ) → range_with_len a n ++ (a + n) ∷ [] ≡ range_with_len a (suc n)
 range_more a zero = let e : a + 0 ≡ a = omega arith in ap (λ (z : ℕ). z ∷ []) e
@@ -217,12 +259,16 @@ free_more count number u v w low m n =
     ap (λ (z : ℕ). range_with_len count (number - count) ++ z ∷ []) (sym at) ∙ range_more count (number - count) ∙ ap (range_with_len count) more in
     subst (λ (z : List ℕ). Moved [] z u w) grown (moved_on [] (range_with_len count (number - count)) [] (number ∷ []) u v w m n)
 
-pub prepared : (count : ℕ) (a b c d : View) → TookFree a b → HoldsFrom 0 b → Moved (range_with_len 0 count) [] b c → Moved [] (range_with_len count (64 - count)) c d → HoldsFrom 64 d → Prepared count a d
-prepared count a b c d t all m n h = record {
-  moved = subst (λ (z : List ℕ). Moved z (range_with_len count (64 - count)) a d) (append-nil (range_with_len 0 count))
-      (moved_on (range_with_len 0 count) [] [] (range_with_len count (64 - count)) a c d (moved_on [] [] (range_with_len 0 count) [] a b c t.moved m) n);
-  none = h.gone;
-  taken =
-      let many : 64 ≤ many_held b = all_marked b.held 64 (λ e low. all.held e (omega arith) low) in
-      let x = t.taken in let y = m.later in let z = n.later in omega arith;
-}
+pub prepared : (count : ℕ) (a b c d : View) → count ≤ 64 → TookFree a b → HoldsFrom 0 b → Moved (range_with_len 0 count) [] b c → Moved [] (range_with_len count (64 - count)) c d → HoldsFrom 64 d → Prepared count a d
+prepared count a b c d most t all m n h =
+    let moved : Moved (range_with_len 0 count) (range_with_len count (64 - count)) a d =
+    subst (λ (z : List ℕ). Moved z (range_with_len count (64 - count)) a d) (append-nil (range_with_len 0 count))
+    (moved_on (range_with_len 0 count) [] [] (range_with_len count (64 - count)) a c d (moved_on [] [] (range_with_len 0 count) [] a b c t.moved m) n) in record {
+      moved = moved;
+      own =
+          let x = moved.own in let r = length-range_with_len 0 count in let f = length-range_with_len count (64 - count) in omega arith;
+      none = h.gone;
+      taken =
+          let many : 64 ≤ many_held b = all_marked b.held 64 (λ e low. all.held e (omega arith) low) in
+          let x = t.taken in let y = m.later in let z = n.later in omega arith;
+    }

@@ -6,7 +6,7 @@ use Rattle.boot_data.specs.declared.plan.PlannedThread.{PlannedThread}
 use Rattle.boot_data.specs.declared.plan.Step.{Step}
 use Rattle.boot_data.specs.Plans.{steps_in}
 use Rattle.end_steps.specs.EndLists.{lines_put_at, lines_taken_at, shuts_at, notes_put_at, notes_taken_at}
-use Rattle.hand_steps.specs.Tallies.{done_by, signalled_by, delivered_by, retired_by, step_by, signal_by, delivery_by, retiring_by}
+use Rattle.hand_steps.specs.Tallies.{done_by, signalled_by, delivered_by, retired_by, taken_by, step_by, signal_by, delivery_by, retiring_by}
 use Rattle.meters.specs.declared.ends.Meters.{Meters}
 use Rattle.meters.specs.declared.rule.View.{View as SeatView}
 use Rattle.meters.specs.Own.{Own}
@@ -24,7 +24,8 @@ use Rattle.thread_table.specs.declared.rule.Made.{Made}
 use Rattle.thread_table.specs.declared.rule.View.{View}
 use Rattle.thread_table.specs.Handles as threads
 use Rattle.thread_table.specs.Retiring as retiring
-use Rattle.kernel_threads.specs.Elements.{other_by, freed, free_taken, many_held, one_by_one}
+use Rattle.kernel_threads.specs.Elements.{other_by, freed, free_taken, own_takings, many_held, one_by_one}
+use Rattle.kernel_threads.proofs.FreeTakings.{none_marked}
 use Rattle.kernel_threads.specs.Readiness.{HasPrepared}
 
 -- EVENTS
@@ -163,6 +164,10 @@ first_prepared plan table meters old new unused hand seat small large chains p =
     let none_made : v.made ≡ [] = ap (λ (z : View). z.made) hand.knows in
     let none_held : many_held v ≡ 0 = ap (λ (z : View). many_held z) hand.knows in
     let all_taken = p.hand.taken in
+    let none_took : own_takings v ≡ 0 = ap (λ (z : List Made). length (retiring.free_takings z)) none_made in
+    let wide : length w.held ≡ 64 = p.hand.moved.long ∙ ap (λ (z : View). length z.held) hand.knows in
+    let none_left : many_held w ≡ 0 = none_marked w.held 64 (omega arith) p.hand.none in
+    let all_own = p.hand.own in
     let calm : AreQuiet w.made = all_quiet w.made (p.hand.moved.others_are ∙ ap (λ (z : List Made). flat_map (λ (m : Made). other_by m.event) z) none_made) in
     let runs : freed w ≡ one_by_one (range_with_len (length plan.threads) (64 - length plan.threads)) =
     p.hand.moved.freed_is ∙ ap (λ (z : List Made). flat_map (λ (m : Made). retiring.retired_by m.event) z ++ one_by_one (range_with_len (length plan.threads) (64 - length plan.threads))) none_made in
@@ -172,6 +177,7 @@ first_prepared plan table meters old new unused hand seat small large chains p =
       signalled = calm.raises;
       delivered = calm.delivers;
       retired = all_done plan w.made (subst (λ z. AllByRecursion (HasNone plan) z) (sym runs) (no_program plan (length plan.threads) (64 - length plan.threads) (omega arith)));
+      took = omega arith;
       small = λ q. (ap (λ z. lines_put_at z.items q) p.small ∙ small.none_put q, ap (λ z. lines_taken_at z.items q) p.small ∙ small.none_taken q);
       small_shuts = λ q. ap (λ z. shuts_at z.items q) p.small ∙ small.none_shut q;
       large = λ q. (ap (λ z. lines_put_at z.items q) p.large ∙ large.none_put q, ap (λ z. lines_taken_at z.items q) p.large ∙ large.none_taken q);
@@ -201,6 +207,7 @@ still_prepared mask old new born s plan p =
       signalled = ap (flat_map signalled_by) same ∙ p.signalled;
       delivered = ap (flat_map delivered_by) same ∙ p.delivered;
       retired = subst (λ (z : List Made). AllByRecursion (HasDoneAll plan) (flat_map retired_by z)) (sym same) p.retired;
+      took = ap (λ (z : List Made). length (flat_map taken_by z)) same ∙ p.took;
       small = λ q. (ap (λ (z : List (List (List ℕ))). get_or z q []) s.small.puts ∙ (p.small q).0, ap (λ (z : List (List (List ℕ))). get_or z q []) s.small.takes ∙ (p.small q).1);
       small_shuts = λ q. ap (λ (z : List ℕ). get_or z q 0) s.small.shuts ∙ p.small_shuts q;
       large = λ q. (ap (λ (z : List (List (List ℕ))). get_or z q []) s.large.puts ∙ (p.large q).0, ap (λ (z : List (List (List ℕ))). get_or z q []) s.large.takes ∙ (p.large q).1);

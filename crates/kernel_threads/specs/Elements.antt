@@ -8,7 +8,7 @@ use Rattle.event_theory.specs.declared.names.QueueName.TheVariants as names
 use Rattle.thread_table.specs.declared.rule.Made.{Made}
 use Rattle.thread_table.specs.declared.rule.View.{View}
 use Rattle.thread_table.specs.Keeping.{Keeps}
-use Rattle.thread_table.specs.Retiring.{retired_by}
+use Rattle.thread_table.specs.Retiring.{retired_by, free_takings}
 use Rattle.thread_table.specs.Rules.{has}
 use Rattle.thread_table.specs.Schedules.{elements_after, line_at}
 
@@ -42,6 +42,10 @@ others v = flat_map (λ (m : Made). other_by m.event) v.made
 abbrev pub free_taken : View → ℕ
 free_taken v = (line_at (elements_after v.schedule) 1).taken
 
+-- how many takings of free elements are in the hand's own list
+abbrev pub own_takings : View → ℕ
+own_takings v = length (free_takings v.made)
+
 -- how many elements the hand holds
 abbrev pub many_held : View → ℕ
 many_held v = length (filter (λ (held : Bool). held) v.held)
@@ -50,14 +54,17 @@ many_held v = length (filter (λ (held : Bool). held) v.held)
 abbrev pub one_by_one : List ℕ → List (List ℕ)
 one_by_one elements = map (λ element. element ∷ []) elements
 
--- the hand put these elements into the ready ring, and those behind the free ones, each list in its order, and did
--- nothing else but to take free elements; its processors and its share are as they were
+-- The hand put these elements into the ready ring, and those behind the free ones, each list in its order, and did
+-- nothing else but to take free elements; its processors and its share are as they were. It took as many as it put
+-- there, and as it then holds more
 pub record Moved (ready free : List ℕ) (v w : View) : Type 0 where
   pub readied_is : readied w ≡ readied v ++ one_by_one ready
   pub freed_is : freed w ≡ freed v ++ one_by_one free
   pub others_are : others w ≡ others v
   pub keeps : Keeps v w
   pub later : free_taken v ≤ free_taken w
+  pub long : length w.held ≡ length v.held
+  pub own : own_takings v + many_held w + (length ready + length free) ≡ own_takings w + many_held v
 
 -- the hand took free elements, and holds what it held beside them: for each that it has more there was a taking
 pub record TookFree (v w : View) : Type 0 where
@@ -83,8 +90,10 @@ abbrev pub Freed : ℕ → View → View → Type 0
 Freed element v w = Moved [] (element ∷ []) v w × HoldsLess element v w
 
 -- So many elements, the first ones, were put into the ready ring, and the others behind the free ones, in their order,
--- and the hand holds none. There were 64 takings of free elements, but for those elements that the hand held before
+-- and the hand holds none. There were 64 takings of free elements, but for those elements that the hand held before; and
+-- of its own there were so many, and no other
 pub record Prepared (threads : ℕ) (v w : View) : Type 0 where
   pub moved : Moved (range_with_len 0 threads) (range_with_len threads (64 - threads)) v w
   pub none : (e : ℕ) → e < 64 → has w e ≡ false
   pub taken : free_taken v + 64 ≤ free_taken w + many_held v
+  pub own : own_takings v + many_held w + 64 ≡ own_takings w + many_held v

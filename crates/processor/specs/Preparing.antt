@@ -15,7 +15,7 @@ use Rattle.processor.specs.Stations.{no_signals}
 abbrev pub HasDoneAll : BootPlan → Key → Type 0
 HasDoneAll plan retired = length (program plan retired.0) ≤ retired.1
 
--- The first station saw that the free elements with which the table began were all taken. It did no step, raised and
+-- The first station saw that the free elements with which the table began were all taken, and took 64. It did no step, raised and
 -- delivered no signal, put and took no line and no note, and shut nothing; the elements that it put behind the free
 -- ones had nothing to do; of the meters it set the plan's alarms, and did nothing else
 pub record IsPrepared (plan : BootPlan) (first : Parts) : Type 0 where
@@ -24,6 +24,7 @@ pub record IsPrepared (plan : BootPlan) (first : Parts) : Type 0 where
   pub signalled : (tally (view_of first.hand).made).signalled ≡ []
   pub delivered : (tally (view_of first.hand).made).delivered ≡ []
   pub retired : AllByRecursion (HasDoneAll plan) (tally (view_of first.hand).made).retired
+  pub took : length (tally (view_of first.hand).made).taken ≡ 64
   pub small : (q : ℕ) → (lines_put_at first.small.items q ≡ []) × (lines_taken_at first.small.items q ≡ [])
   pub small_shuts : (q : ℕ) → shuts_at first.small.items q ≡ 0
   pub large : (q : ℕ) → (lines_put_at first.large.items q ≡ []) × (lines_taken_at first.large.items q ≡ [])

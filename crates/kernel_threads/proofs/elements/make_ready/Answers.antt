@@ -16,4 +16,4 @@ loop-preserved g c = let s = move_waits (call_of c.loop.hand) 0 c.args.element (
 }
 
 pub returns-in-Ok-clause-ready : goal.returns-in-Ok-clause-ready
-returns-in-Ok-clause-ready g c = ready_moved (call_of c.loop.hand) c.args.element (view_of c.args.hand.now) (view_of c.loop.hand) (view_of c.try_ready.new.hand) c.loop.invariant.waits c.in-Ok.ensures.moved
+returns-in-Ok-clause-ready g c = ready_moved (call_of c.loop.hand) c.args.element (view_of c.args.hand.now) (view_of c.loop.hand) (view_of c.try_ready.new.hand) c.loop.invariant.holds c.loop.invariant.waits c.in-Ok.ensures.moved

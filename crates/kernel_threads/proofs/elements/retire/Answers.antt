@@ -16,4 +16,4 @@ loop-preserved g c = let s = move_waits (call_of c.loop.hand) 1 c.args.element (
 }
 
 pub returns-in-Ok-clause-freed : goal.returns-in-Ok-clause-freed
-returns-in-Ok-clause-freed g c = free_moved (call_of c.loop.hand) c.args.element (view_of c.args.hand.now) (view_of c.loop.hand) (view_of c.try_retire.new.hand) c.loop.invariant.waits c.in-Ok.ensures.moved
+returns-in-Ok-clause-freed g c = free_moved (call_of c.loop.hand) c.args.element (view_of c.args.hand.now) (view_of c.loop.hand) (view_of c.try_retire.new.hand) c.loop.invariant.holds c.loop.invariant.waits c.in-Ok.ensures.moved

@@ -1,8 +1,9 @@
 -- A quaject that came home from a closed chain.
-use Rattle.std.specs.Prelude.{◌≡◌, ℕ, ◌%◌, ◌^◌, length, [], map}
+use Rattle.std.specs.Prelude.{◌≡◌, ℕ, ◌%◌, ◌^◌, List, length, [], map}
 use Rattle.quajects.specs.declared.world.Queues.{Queues}
 use Rattle.quajects.specs.declared.any.AnyQuaject.{AnyQuaject}
 use Rattle.quajects.specs.declared.home.Home.{Home}
+use Rattle.quajects.specs.declared.came.Came.{Came}
 use Rattle.quajects.specs.Anys.{PortsOf, PostsOf, IsKept, MadeOf, Fits, notes_of, all_taken, all_puts}
 use Rattle.quajects.specs.Anys.{held_of, KeepsSides}
 use Rattle.proc_chain.specs.declared.rule.View.{View}
@@ -37,3 +38,19 @@ pub record CameHome (pact : Pact Queues AnyQuaject) (first : ℕ) (v : View) (ho
   pub raised : AllUp home.small × AllUp home.large
   pub each : home.notes ≡ home.chained % 2 ^ 64
   pub none_left : home.left ≡ 0
+
+-- what came home, with these numbers
+abbrev pub home_in : Came → Home
+home_in came = came.home.value
+
+abbrev pub homes_in : List Came → List Home
+homes_in all = map home_in all
+
+-- these are the numbers of what came home
+pub record TellsHome (came : Came) : Type 0 where
+  pub chained : came.chained ≡ (home_in came).chained
+  pub left : came.left ≡ (home_in came).left
+  pub notes : came.notes ≡ (home_in came).notes
+  pub taken : came.taken ≡ (home_in came).taken
+  pub put : came.put ≡ (home_in came).put
+  pub held : came.held ≡ (home_in came).held

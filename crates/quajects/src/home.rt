@@ -2,24 +2,57 @@
 ghost use Rattle.std.specs.Prelude.{◌≡◌, false, IfOk, IfErr, MatchResult};
 ghost use Rattle.proc_chain.specs.Closings.{WereOpen};
 ghost use Rattle.proc_chain.specs.Handles.{view_of, turn_of, pact_of, first_of, IsEndOf, IsOnlyEnd, IsSameEnd};
-ghost use Rattle.quajects.specs.Homes.{IsHome, CameHome};
+ghost use Rattle.quajects.specs.Homes.{IsHome, CameHome, home_in};
 
-use crate::any::AnyQuaject;
+use crate::any::{AnyQuaject, Ports};
+use crate::came::Came;
 use crate::ports::Port;
 use proc_chain::{ChainEnd, OpenEnds, ProcChain};
+use std::snapshot::Snapshot;
 
 /// What comes home from a chain: the quaject's ends with the indexes of their queues, in the order of its `new`, and
-/// its numbers. `chained` notes were put in the chain, `left` of them were not run.
+/// its numbers. `chained` notes were put in the chain, `left` of them were not run. Only `retire` makes one, nobody changes
+/// it, and it comes apart by one call alone.
 #[derive(Drop)]
 pub struct Home {
-    pub small: [Option<Port<64>>; 6],
-    pub large: [Option<Port<256>>; 2],
-    pub chained: u32,
-    pub left: usize,
-    pub notes: u64,
-    pub taken: u64,
-    pub put: u64,
-    pub held: usize,
+    small: [Option<Port<64>>; 6],
+    large: [Option<Port<256>>; 2],
+    chained: u32,
+    left: usize,
+    notes: u64,
+    taken: u64,
+    put: u64,
+    held: usize,
+}
+
+impl Home {
+    /// The ends with the indexes of their queues, and the numbers, which keep in mind what came home.
+    pub fn take_apart(self) -> (Ports, Came)
+        ensures ports { (result.0.0 ≡ self.small) × (result.0.1 ≡ self.large) }
+        ensures came { home_in result.1 ≡ self }
+    {
+        let home = Snapshot::of(&self);
+        let Home {
+            small,
+            large,
+            chained,
+            left,
+            notes,
+            taken,
+            put,
+            held,
+        } = self;
+        let came = Came {
+            chained,
+            left,
+            notes,
+            taken,
+            put,
+            held,
+            home,
+        };
+        ((small, large), came)
+    }
 }
 
 type Chain = ProcChain<AnyQuaject>;

@@ -3,6 +3,7 @@
 #![tactic(auto)]
 
 mod any;
+mod came;
 mod cooking;
 mod home;
 mod piping;
@@ -15,6 +16,7 @@ mod ways;
 mod world;
 
 pub use any::{AnyQuaject, Ends, Ports};
+pub use came::Came;
 pub use cooking::cook;
 pub use home::{Home, retire};
 pub use piping::Pump;

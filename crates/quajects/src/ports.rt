@@ -1,7 +1,9 @@
 //! Where a quaject takes and puts lines: an end of a queue, which queue it is, and how many items went through.
 ghost use Rattle.std.specs.Prelude.{◌≡◌, [], ◌++◌, ◌∷◌, if◌then◌else◌};
 ghost use Rattle.table_theory.specs.Listing.{AllRaised};
-ghost use Rattle.claim_queue.specs.Handles.{view_of, call_of};
+ghost use Rattle.claim_queue.specs.Claims.{KeepsClaims};
+ghost use Rattle.claim_queue.specs.Endings.{TookIn};
+ghost use Rattle.claim_queue.specs.Handles.{view_of, call_of, IsEndOf, IsSameEnd};
 ghost use Rattle.claim_queue.specs.Lines.{lines_put, lines_taken};
 ghost use Rattle.quajects.specs.Lines.{held_line, counted};
 ghost use Rattle.quajects.specs.Ports.{IsEndAt, IsUnused, port, post_of};
@@ -10,11 +12,12 @@ ghost use Rattle.quajects.specs.Tries.{TriedTake, TriedPut};
 use arrayvec::ArrayVec;
 use claim_queue::{ClaimQueue, QueueEnd};
 
-/// An end of a queue, and the index of that queue.
+/// An end of a queue that came out of a quaject, and the index of that queue. Outside of this crate nobody makes one, and
+/// nobody gets its end: all that is done with it is to join it to another end.
 #[derive(Drop)]
 pub struct Port<const N: usize> {
-    pub index: usize,
-    pub end: QueueEnd<N>,
+    index: usize,
+    end: QueueEnd<N>,
 }
 
 /// An end that a quaject takes lines at.
@@ -36,6 +39,31 @@ pub struct Outlet<const N: usize> {
     ghost number: { put ≡ counted (lines_put (view_of end)) },
     ghost only: { lines_taken (view_of end) ≡ [] },
     ghost raised: { AllRaised (view_of end).part.runs },
+}
+
+impl<const N: usize> Port<N> {
+    /// The index of the queue that its end is one of.
+    pub fn index(&self) -> usize
+        ensures { result ≡ self.now.index }
+    {
+        self.index
+    }
+
+    /// Joins its end to this one, which then has all that both had: their claims, what they took, and their parts of the
+    /// queue.
+    ///
+    /// Conditions: both are ends of this queue.
+    pub fn join_into(self, queue: &ClaimQueue<N>, end: &mut QueueEnd<N>)
+        requires { IsEndOf queue.now end.old × IsEndOf queue.now self.end }
+        ensures queue { IsSameEnd end.old end.new }
+        ensures joined { TookIn (view_of end.old) (view_of self.entry.end) (view_of end.new) }
+        ensures claims { KeepsClaims (view_of end.old) (view_of end.new)
+            × KeepsClaims (view_of self.entry.end) (view_of end.new) }
+        ensures lines { (lines_put (view_of end.new) ≡ lines_put (view_of end.old) ++ lines_put (view_of self.entry.end))
+            × (lines_taken (view_of end.new) ≡ lines_taken (view_of end.old) ++ lines_taken (view_of self.entry.end)) }
+    {
+        queue.join(end, self.end);
+    }
 }
 
 impl<const N: usize> Intake<N> {

@@ -5,3 +5,4 @@ pub mod PortGains
 pub mod RawGains
 pub mod Unshut
 pub mod Whole
+pub mod Lent

@@ -1,5 +1,5 @@
 -- Ends that have the whole, and what comes home of chains over one world.
-use Rattle.std.proofs.Common.{◌≡◌, ℕ, zero, suc, ◌+◌, ◌<◌, List, [], ◌∷◌, map, length, Option, Some, None, refl, sym, ap, subst, ◌∙◌, arith}
+use Rattle.std.proofs.Common.{◌≡◌, ℕ, zero, suc, ◌+◌, ◌<◌, List, [], ◌∷◌, map, length, get_or, Option, Some, None, refl, sym, ap, subst, ◌∙◌, arith}
 use Rattle.std.specs.List.{All, sum_by}
 use Rattle.std.proofs.lemmas.List.Sums.{sum_by-cons}
 use Rattle.table_theory.specs.Sharing.{IsWhole}
@@ -10,9 +10,11 @@ use Rattle.proc_chain.specs.declared.ends.ProcChain.{ProcChain}
 use Rattle.proc_chain.specs.declared.quaject.Quaject.{Ghosts}
 use Rattle.proc_chain.specs.Handles as chains
 use Rattle.quajects.specs.declared.any.AnyQuaject.{AnyQuaject}
+use Rattle.quajects.specs.declared.came.Came.{Came}
 use Rattle.quajects.specs.declared.home.Home.{Home}
 use Rattle.quajects.specs.declared.ports.Port.{Port}
 use Rattle.quajects.specs.declared.world.Queues.{Queues}
+use Rattle.quajects.specs.Homes.{TellsHome}
 use Rattle.quajects.specs.Ports.{AllUp, post_at}
 use Rattle.end_steps.specs.EndLists.{AreChainsOver, chain_end_share, share_at}
 use Rattle.closing.specs.Comings.{FitsHome, GainedAllSmall, GainedAllLarge}
@@ -109,3 +111,8 @@ module _ {g : Ghosts AnyQuaject Queues} where
       large_up (x ∷ xs) [] (z ∷ zs) h k d l = absurd h
       large_up (x ∷ xs) (y ∷ ys) (z ∷ zs) h zero d l = h.0.raised.1
       large_up (x ∷ xs) (y ∷ ys) (z ∷ zs) h (suc k) d l = large_up xs ys zs h.1 k d (omega arith)
+
+-- numbers are those of what came home
+pub all_tell : (all : List Came) → All TellsHome all
+all_tell all k d l = let came = get_or all k d in
+    record { chained = came.chained_is; left = came.left_is; notes = came.notes_is; taken = came.taken_is; put = came.put_is; held = came.held_is }

@@ -5,20 +5,8 @@ use Rattle.claim_queue.specs.declared.ends.QueueEnd.{QueueEnd}
 use Rattle.quajects.specs.declared.home.Home.{Home}
 use Rattle.quajects.specs.declared.world.Queues.{Queues}
 use Rattle.quajects.specs.Ports.{AllFit, AllUp}
-use Rattle.closing.specs.declared.homing.Counts.{Counts}
 use Rattle.closing.specs.Gains.{Gained}
 use Rattle.closing.specs.PortSums.{ports_runs, ports_takings, ports_shut, ports_share}
-
--- the numbers of what came home
-abbrev pub counts_of : Home → Counts
-counts_of home = record {
-  chained = home.chained;
-  left = home.left;
-  notes = home.notes;
-  taken = home.taken;
-  put = home.put;
-  held = home.held;
-}
 
 -- each end that came home is one of the queue that it names
 abbrev pub FitsHome : Queues → Home → Type 0

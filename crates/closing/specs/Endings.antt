@@ -1,9 +1,9 @@
 -- What closing all tells.
-use Rattle.std.specs.Prelude.{◌≡◌, ◌<◌, ℕ, false, map}
+use Rattle.std.specs.Prelude.{◌≡◌, ◌<◌, ℕ, false}
 use Rattle.std.specs.List.{All}
 use Rattle.closing.specs.declared.all.Ended.{Ended}
 use Rattle.closing.specs.ClosedQueues.{AreClosed}
-use Rattle.closing.specs.Comings.{GainedAllSmall, GainedAllLarge, counts_of}
+use Rattle.closing.specs.Comings.{GainedAllSmall, GainedAllLarge}
 use Rattle.closing.specs.Placings.{NoneOn, NoneHeld}
 use Rattle.closing.specs.Retirals.{HaveRetired, IsFew}
 use Rattle.end_steps.specs.EndLists.{HasRaised}
@@ -12,19 +12,20 @@ use Rattle.meters.specs.Closings as metering
 use Rattle.meters.specs.Handles as seats
 use Rattle.processor.specs.declared.shared.Shared.{Shared}
 use Rattle.processor.specs.declared.station.Parts.{Parts}
+use Rattle.quajects.specs.Homes.{TellsHome, homes_in}
 use Rattle.thread_table.specs.Closings.{ClosedNow}
 use Rattle.thread_table.specs.Handles.{view_of, call_of}
 use Rattle.thread_table.specs.Rules.{has}
 
--- The chains were closed, and their quajects came home; the queues' ends gained what those had, and then the queues,
+-- The chains were closed, and their quajects came home, with the numbers that they had; the queues' ends gained what those had, and then the queues,
 -- the thread table and the meters were closed, each by its last end. No element is on a processor where all are free,
 -- and none is held where the hand holds none. The rest is as it was
 pub record AllClosed (shared : Shared) (parts : Parts) (ended : Ended) : Type 0 where
-  pub homes : HaveRetired shared.chains.items parts.chains.items ended.homes.value.items
-  pub few : All IsFew ended.homes.value.items
-  pub counts : ended.counts.items ≡ map counts_of ended.homes.value.items
-  pub small_gained : GainedAllSmall ended.homes.value.items parts.small.items ended.small_ends.value.items
-  pub large_gained : GainedAllLarge ended.homes.value.items parts.large.items ended.large_ends.value.items
+  pub homes : HaveRetired shared.chains.items parts.chains.items (homes_in ended.counts.items)
+  pub few : All IsFew (homes_in ended.counts.items)
+  pub counts : All TellsHome ended.counts.items
+  pub small_gained : GainedAllSmall (homes_in ended.counts.items) parts.small.items ended.small_ends.value.items
+  pub large_gained : GainedAllLarge (homes_in ended.counts.items) parts.large.items ended.large_ends.value.items
   pub small_raised : All HasRaised parts.small.items → All HasRaised ended.small_ends.value.items
   pub large_raised : All HasRaised parts.large.items → All HasRaised ended.large_ends.value.items
   pub small : AreClosed shared.queues.small.items ended.small_ends.value.items ended.small.items

@@ -6,7 +6,7 @@ ghost use Rattle.closing.specs.Rooms.{HaveRoom};
 ghost use Rattle.closing.specs.Wholes.{HasWholes};
 ghost use Rattle.processor.specs.Stations.{ArePartsOf};
 
-use crate::homing::{Counts, close_chains};
+use crate::homing::close_chains;
 use crate::queues::close_queues;
 use crate::tables::{close_meters, close_threads};
 use boot_data::BootPlan;
@@ -14,7 +14,7 @@ use claim_queue::{Closed, QueueEnd};
 use event_theory::OutOfMemory;
 use meters::Metered;
 use processor::{Heard, Parts, Shared};
-use quajects::{Home, Queues};
+use quajects::{Came, Home, Queues};
 use std::alloc::Global;
 use std::snapshot::Snapshot;
 use thread_table::{Place, Places};
@@ -23,7 +23,7 @@ use thread_table::{Place, Places};
 #[derive(Drop)]
 pub struct Answers {
     pub homes: Vec<Home>,
-    pub counts: Vec<Counts>,
+    pub counts: Vec<Came>,
     pub small: Vec<Closed<64>>,
     pub large: Vec<Closed<256>>,
 }
@@ -47,12 +47,12 @@ impl Answers {
 }
 
 /// What all had at the end: the numbers of each quaject, in the order of the chains, what each queue was put and taken and
-/// what is left, the thread elements, the meters, and what was heard and signalled. The last three are for the contract
-/// alone: what came home, and the last end of each queue. Only `close_all` makes one, and nobody changes it: a report is
-/// made of what was closed.
+/// what is left, the thread elements, the meters, and what was heard and signalled. The last two are for the contract
+/// alone: the last end of each queue. Only `close_all` makes one, and nobody changes it: a report is made of what was
+/// closed.
 #[derive(Drop)]
 pub struct Ended {
-    counts: Vec<Counts>,
+    counts: Vec<Came>,
     small: Vec<Closed<64>>,
     large: Vec<Closed<256>>,
     threads: Places,
@@ -60,7 +60,6 @@ pub struct Ended {
     heard: Vec<Heard>,
     signals: [u16; 64],
     plan: BootPlan,
-    homes: Snapshot<Vec<Home>>,
     small_ends: Snapshot<Vec<QueueEnd<64>>>,
     large_ends: Snapshot<Vec<QueueEnd<256>>>,
 }
@@ -74,7 +73,7 @@ impl Ended {
     }
 
     /// The numbers of each quaject, in the order of the chains.
-    pub fn counts(&self) -> &[Counts]
+    pub fn counts(&self) -> &[Came]
         ensures { result.now ≡ self.now.counts.items }
     {
         self.counts.as_slice()
@@ -157,12 +156,12 @@ pub fn close_all(shared: Shared, parts: Parts, answers: Answers) -> Ended
         heard,
         signals,
     } = parts;
-    let (counts, homes) = close_chains(
+    let counts = close_chains(
         &queues,
         chains,
         chain_list,
-        &mut small_list,
-        &mut large_list,
+        small_list.as_mut_slice(),
+        large_list.as_mut_slice(),
         answers.homes,
         answers.counts,
     );
@@ -178,7 +177,6 @@ pub fn close_all(shared: Shared, parts: Parts, answers: Answers) -> Ended
         heard,
         signals,
         plan,
-        homes,
         small_ends,
         large_ends,
     }

@@ -1,48 +1,36 @@
 //! The ends of a quaject that came home go to those of their queues.
-ghost use Rattle.std.specs.Prelude.{◌≡◌, ◌≤◌, [], ◌∷◌, map, length, vec_capacity};
+ghost use Rattle.std.specs.Prelude.{◌≡◌, ◌≤◌, [], ◌∷◌, length, vec_capacity};
 ghost use Rattle.std.specs.List.{All};
-ghost use Rattle.closing.specs.Comings.{GainedSmall, GainedLarge, GainedAllSmall, GainedAllLarge, FitsHome, counts_of};
+ghost use Rattle.closing.specs.Comings.{GainedSmall, GainedLarge, GainedAllSmall, GainedAllLarge, FitsHome};
 ghost use Rattle.closing.specs.Gains.{Gained};
 ghost use Rattle.closing.specs.PortSums.{port_runs, port_takings, port_shuts, port_share};
 ghost use Rattle.closing.specs.PortSums.{ports_runs, ports_takings, ports_shut, ports_share};
 ghost use Rattle.closing.specs.Retirals.{HaveRetired, IsFew};
 ghost use Rattle.end_steps.specs.EndLists.{AreChainEndsOf, AreChainsOver, AreEndsOf, AreSameEnds};
 ghost use Rattle.proc_chain.specs.Handles.{IsOnlyEnd};
+ghost use Rattle.quajects.specs.Homes.{home_in, homes_in};
 ghost use Rattle.quajects.specs.Ports.{AllFit, AllUp};
 
 use crate::chains::retire_all;
-use crate::joining::join_at;
+use crate::joining::join_port_at;
 use claim_queue::{ClaimQueue, QueueEnd};
 use proc_chain::{ChainEnd, ProcChain};
-use quajects::{AnyQuaject, Home, Port, Queues};
-use std::snapshot::Snapshot;
-
-/// The numbers of a quaject that came home: so many notes were put in its chain, `left` of them were not run; it ran so
-/// many notes, took and put so many items, and holds so many.
-#[derive(Clone, Copy, Debug, PartialEq, Eq, Drop)]
-pub struct Counts {
-    pub chained: u32,
-    pub left: usize,
-    pub notes: u64,
-    pub taken: u64,
-    pub put: u64,
-    pub held: usize,
-}
+use quajects::{AnyQuaject, Came, Home, Port, Queues};
 
 // Joins the end of a port, where there is one, to the one of its queue.
 fn join_port<const N: usize>(
     queues: &[ClaimQueue<N>],
-    ends: &mut Vec<QueueEnd<N>>,
+    ends: &mut [QueueEnd<N>],
     port: Option<Port<N>>,
 )
-    requires ends { AreEndsOf queues.now ends.old.items }
+    requires ends { AreEndsOf queues.now ends.old }
     requires fits { AllFit queues.now (port ∷ []) }
-    ensures same { AreSameEnds ends.old.items ends.new.items }
+    ensures same { AreSameEnds ends.old ends.new }
     ensures gained { Gained (λ q. port_runs q port.entry) (λ q. port_takings q port.entry) (λ q. port_shuts q port.entry)
-        (λ q. port_share q port.entry) (AllUp (port.entry ∷ [])) ends.old.items ends.new.items }
+        (λ q. port_share q port.entry) (AllUp (port.entry ∷ [])) ends.old ends.new }
 {
     match port {
-        Some(Port { index, end }) => join_at(queues, ends, index, end),
+        Some(port) => join_port_at(queues, ends, port),
         None => {}
     }
 }
@@ -50,15 +38,15 @@ fn join_port<const N: usize>(
 // Joins the ends of all ports.
 fn join_ports<const N: usize, const K: usize>(
     queues: &[ClaimQueue<N>],
-    ends: &mut Vec<QueueEnd<N>>,
+    ends: &mut [QueueEnd<N>],
     ports: [Option<Port<N>>; K],
 )
     requires few { K ≤ 6 }
-    requires ends { AreEndsOf queues.now ends.old.items }
+    requires ends { AreEndsOf queues.now ends.old }
     requires fits { AllFit queues.now ports }
-    ensures same { AreSameEnds ends.old.items ends.new.items }
+    ensures same { AreSameEnds ends.old ends.new }
     ensures gained { Gained (ports_runs ports.entry) (ports_takings ports.entry) (ports_shut ports.entry)
-        (ports_share ports.entry) (AllUp ports.entry) ends.old.items ends.new.items }
+        (ports_share ports.entry) (AllUp ports.entry) ends.old ends.new }
 {
     for port in ports {
         join_port(queues, ends, port);
@@ -72,40 +60,24 @@ fn join_ports<const N: usize, const K: usize>(
 /// queue that it names.
 pub fn bring_home(
     queues: &Queues,
-    small: &mut Vec<QueueEnd<64>>,
-    large: &mut Vec<QueueEnd<256>>,
+    small: &mut [QueueEnd<64>],
+    large: &mut [QueueEnd<256>],
     home: Home,
-) -> Counts
-    requires small { AreEndsOf queues.now.small.items small.old.items }
-    requires large { AreEndsOf queues.now.large.items large.old.items }
+) -> Came
+    requires small { AreEndsOf queues.now.small.items small.old }
+    requires large { AreEndsOf queues.now.large.items large.old }
     requires fits { FitsHome queues.now home }
-    ensures same { AreSameEnds small.old.items small.new.items × AreSameEnds large.old.items large.new.items }
-    ensures small { AreEndsOf queues.now.small.items small.new.items }
-    ensures large { AreEndsOf queues.now.large.items large.new.items }
-    ensures small_gained { GainedSmall home small.old.items small.new.items }
-    ensures large_gained { GainedLarge home large.old.items large.new.items }
-    ensures counts { result ≡ counts_of home }
+    ensures same { AreSameEnds small.old small.new × AreSameEnds large.old large.new }
+    ensures small { AreEndsOf queues.now.small.items small.new }
+    ensures large { AreEndsOf queues.now.large.items large.new }
+    ensures small_gained { GainedSmall home small.old small.new }
+    ensures large_gained { GainedLarge home large.old large.new }
+    ensures came { home_in result ≡ home }
 {
-    let Home {
-        small: mine,
-        large: others,
-        chained,
-        left,
-        notes,
-        taken,
-        put,
-        held,
-    } = home;
+    let ((mine, others), came) = home.take_apart();
     join_ports(queues.small.as_slice(), small, mine);
     join_ports(queues.large.as_slice(), large, others);
-    Counts {
-        chained,
-        left,
-        notes,
-        taken,
-        put,
-        held,
-    }
+    came
 }
 
 /// The same of all that came home, one behind the other. The numbers go into `counts`, in the order of the homes, which is
@@ -114,21 +86,21 @@ pub fn bring_home(
 /// Conditions: those of `bring_home`, for each.
 pub fn bring_all_home(
     queues: &Queues,
-    small: &mut Vec<QueueEnd<64>>,
-    large: &mut Vec<QueueEnd<256>>,
+    small: &mut [QueueEnd<64>],
+    large: &mut [QueueEnd<256>],
     homes: Vec<Home>,
-    counts: Vec<Counts>,
-) -> Vec<Counts>
-    requires small { AreEndsOf queues.now.small.items small.old.items }
-    requires large { AreEndsOf queues.now.large.items large.old.items }
+    counts: Vec<Came>,
+) -> Vec<Came>
+    requires small { AreEndsOf queues.now.small.items small.old }
+    requires large { AreEndsOf queues.now.large.items large.old }
     requires fits { All (FitsHome queues.now) homes.items }
     requires room { (counts.items ≡ []) × (length homes.items ≤ vec_capacity counts) }
-    ensures same { AreSameEnds small.old.items small.new.items × AreSameEnds large.old.items large.new.items }
-    ensures small { AreEndsOf queues.now.small.items small.new.items }
-    ensures large { AreEndsOf queues.now.large.items large.new.items }
-    ensures small_gained { GainedAllSmall homes.items small.old.items small.new.items }
-    ensures large_gained { GainedAllLarge homes.items large.old.items large.new.items }
-    ensures counts { result.items ≡ map counts_of homes.items }
+    ensures same { AreSameEnds small.old small.new × AreSameEnds large.old large.new }
+    ensures small { AreEndsOf queues.now.small.items small.new }
+    ensures large { AreEndsOf queues.now.large.items large.new }
+    ensures small_gained { GainedAllSmall homes.items small.old small.new }
+    ensures large_gained { GainedAllLarge homes.items large.old large.new }
+    ensures came { homes_in result.items ≡ homes.items }
 {
     let mut counts = counts;
     for home in homes {
@@ -137,9 +109,8 @@ pub fn bring_all_home(
     counts
 }
 
-/// Closes each chain by its only end, and brings all home. The homes, as they came, go into the second answer, and their
-/// numbers into the first, in the order of the chains. `homes` and `counts` are empty and have room for them, so it takes
-/// no memory.
+/// Closes each chain by its only end, and brings all home. The numbers of what came home go into `counts`, in the order of
+/// the chains. `homes` and `counts` are empty and have room for all, so it takes no memory.
 ///
 /// Conditions: the queues are the world of the chains, and the ends in the lists are those of the queues, in their order;
 /// those of the chains are theirs, in their order and without a Turn, and each has the whole of its chain.
@@ -147,29 +118,26 @@ pub fn close_chains(
     queues: &Queues,
     chains: Vec<ProcChain<AnyQuaject>>,
     ends: Vec<ChainEnd<AnyQuaject>>,
-    small: &mut Vec<QueueEnd<64>>,
-    large: &mut Vec<QueueEnd<256>>,
+    small: &mut [QueueEnd<64>],
+    large: &mut [QueueEnd<256>],
     homes: Vec<Home>,
-    counts: Vec<Counts>,
-) -> (Vec<Counts>, Snapshot<Vec<Home>>)
+    counts: Vec<Came>,
+) -> Vec<Came>
     requires world { AreChainsOver queues.now chains.items }
     requires ends { AreChainEndsOf chains.items ends.items }
     requires whole { All IsOnlyEnd ends.items }
-    requires small { AreEndsOf queues.now.small.items small.old.items }
-    requires large { AreEndsOf queues.now.large.items large.old.items }
+    requires small { AreEndsOf queues.now.small.items small.old }
+    requires large { AreEndsOf queues.now.large.items large.old }
     requires homes_room { (homes.items ≡ []) × (length chains.items ≤ vec_capacity homes) }
     requires counts_room { (counts.items ≡ []) × (length chains.items ≤ vec_capacity counts) }
-    ensures homes { HaveRetired chains.items ends.items result.1.value.items }
-    ensures few { All IsFew result.1.value.items }
-    ensures counts { result.0.items ≡ map counts_of result.1.value.items }
-    ensures same { AreSameEnds small.old.items small.new.items × AreSameEnds large.old.items large.new.items }
-    ensures small { AreEndsOf queues.now.small.items small.new.items }
-    ensures large { AreEndsOf queues.now.large.items large.new.items }
-    ensures small_gained { GainedAllSmall result.1.value.items small.old.items small.new.items }
-    ensures large_gained { GainedAllLarge result.1.value.items large.old.items large.new.items }
+    ensures homes { HaveRetired chains.items ends.items (homes_in result.items) }
+    ensures few { All IsFew (homes_in result.items) }
+    ensures same { AreSameEnds small.old small.new × AreSameEnds large.old large.new }
+    ensures small { AreEndsOf queues.now.small.items small.new }
+    ensures large { AreEndsOf queues.now.large.items large.new }
+    ensures small_gained { GainedAllSmall (homes_in result.items) small.old small.new }
+    ensures large_gained { GainedAllLarge (homes_in result.items) large.old large.new }
 {
     let homes = retire_all(chains, ends, homes);
-    let came = Snapshot::of(&homes);
-    let counts = bring_all_home(queues, small, large, homes, counts);
-    (counts, came)
+    bring_all_home(queues, small, large, homes, counts)
 }

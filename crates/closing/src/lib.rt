@@ -8,6 +8,7 @@
 mod all;
 mod chains;
 mod homing;
+mod items;
 mod joining;
 mod laws;
 mod queues;
@@ -16,8 +17,8 @@ mod tables;
 
 pub use all::{Answers, Ended, close_all};
 pub use chains::retire_all;
-pub use homing::{Counts, bring_all_home, bring_home, close_chains};
-pub use joining::{join_at, join_chain_at};
+pub use homing::{bring_all_home, bring_home, close_chains};
+pub use joining::{join_at, join_chain_at, join_port_at};
 pub use laws::homes_shut_nothing;
 pub use queues::close_queues;
 pub use raws::join_raws;

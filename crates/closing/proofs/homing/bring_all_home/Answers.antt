@@ -3,19 +3,19 @@ use Rattle.std.proofs.lemmas.List.{length_push, map-append}
 use Rattle.std.specs.Vec.Iter.{into_iter_items}
 use Rattle.end_steps.specs.EndLists.{end_table, end_call}
 use Rattle.end_steps.proofs.Walking.{same_on}
-use Rattle.closing.specs.Comings.{counts_of}
+use Rattle.quajects.specs.Homes.{home_in, homes_in}
 use Rattle.closing.proofs.PortGains.{small_more, large_more}
 use Rattle.closing.proofs.homing.bring_all_home.Goals as goal
 
 pub loop-home-preserved : goal.loop-home-preserved
 loop-home-preserved c = let v = c.loop-home.invariant in let b = c.bring_home.ensures in record {
-  small = small_more c.loop-home.yielded c.in-Some.home c.args.small.now.items c.loop-home.small.items c.bring_home.new.small.items v.small b.small_gained;
-  large = large_more c.loop-home.yielded c.in-Some.home c.args.large.now.items c.loop-home.large.items c.bring_home.new.large.items v.large b.large_gained;
-  same = same_on end_table end_call c.args.small.now.items c.loop-home.small.items c.bring_home.new.small.items v.same b.same.0;
-  same_large = same_on end_table end_call c.args.large.now.items c.loop-home.large.items c.bring_home.new.large.items v.same_large b.same.1;
+  small = small_more c.loop-home.yielded c.in-Some.home c.args.small.now c.loop-home.small c.bring_home.new.small v.small b.small_gained;
+  large = large_more c.loop-home.yielded c.in-Some.home c.args.large.now c.loop-home.large c.bring_home.new.large v.large b.large_gained;
+  same = same_on end_table end_call c.args.small.now c.loop-home.small c.bring_home.new.small v.same b.same.0;
+  same_large = same_on end_table end_call c.args.large.now c.loop-home.large c.bring_home.new.large v.same_large b.same.1;
   parts = append_assoc c.loop-home.yielded (c.in-Some.home ∷ []) (into_iter_items c.next.new.self) ∙ (ap (λ z. c.loop-home.yielded ++ z) (sym c.in-Some.ensures.steps.0) ∙ v.parts);
   left = let was = v.left in let gone = c.in-Some.ensures.steps.1 in let short = ap length c.in-Some.ensures.steps.0 in omega arith;
-  counts = c.push_reserved.ensures.items ∙ ((λ i. v.counts i ++ b.counts i ∷ []) ∙ sym (map-append counts_of c.loop-home.yielded (c.in-Some.home ∷ [])));
+  counts = ap homes_in c.push_reserved.ensures.items ∙ (map-append home_in c.loop-home.counts.items (c.bring_home.result ∷ []) ∙ (λ i. v.counts i ++ b.came i ∷ []));
   number = let was = v.number in let more = length_push c.loop-home.yielded c.in-Some.home in let put = c.push_reserved.ensures.len in omega arith;
   room = let was = v.room in let same = c.push_reserved.ensures.capacity in omega arith;
 }

@@ -69,8 +69,8 @@ all_here P (y ∷ xs) (suc k) x all at = all_here P xs k x all.1 at
 
 -- DEVICES
 
-module _ {G : Type 0} (R : Work G → Option Worked → Type 0) where
-  served_at : (ttys : List PlannedTty) (devices : List Device) (posts ws : List (Work G)) (backs : List (Option Worked)) (t : ℕ) (p : PlannedTty) (device : Device) (back : Option Worked)
+module _ {G : Type 0} (R : Work G → Option (Worked G) → Type 0) where
+  served_at : (ttys : List PlannedTty) (devices : List Device) (posts ws : List (Work G)) (backs : List (Option (Worked G))) (t : ℕ) (p : PlannedTty) (device : Device) (back : Option (Worked G))
       → AreServing ttys devices posts ws → AllZip R ws backs → slice_get ttys t ≡ Some p → slice_get devices t ≡ Some device → slice_get backs (length posts + t) ≡ Some back
       → R (works.Serve device.chain device.output device.tty (length p.typed)) back
   served_at ttys devices [] ws backs t p device back s r a b c =
@@ -84,7 +84,7 @@ module _ {G : Type 0} (R : Work G → Option Worked → Type 0) where
       served_at ttys devices posts ws backs t p device back s.1 r.1 a b (ap (slice_get (x ∷ backs)) e ∙ c)
 
   -- the backs of the posts stand first
-  pub posts_first : (ttys : List PlannedTty) (devices : List Device) (posts ws : List (Work G)) (backs : List (Option Worked))
+  pub posts_first : (ttys : List PlannedTty) (devices : List Device) (posts ws : List (Work G)) (backs : List (Option (Worked G)))
       → AreServing ttys devices posts ws → AllZip R ws backs → AllZip R posts (take (length posts) backs)
   posts_first ttys devices [] ws backs s r = tt
   posts_first ttys devices (w ∷ posts) [] backs s r = absurd s
@@ -112,7 +112,7 @@ pub still_line : (i i' : LineIn) (o o' : LineOut) → IsLine i o → SameIn i i'
 still_line i i' o o' line a b =
     let x = a.0 in let y = b.0 in (y.0 ∙ line.0 ∙ sym x.0, y.1 ∙ line.1 ∙ sym x.1, y.2 ∙ line.2 ∙ sym x.2, y.3 ∙ line.3 ∙ sym x.3)
 
-gave_served : (G : Type 0) (T : G → ℕ → Point → G → Type 0) (shared : Shared) (chain count : ℕ) (line : LineOut) (tty : RawTty) (back : Worked) → HasWorked T shared (works.Serve chain line tty count) back
+gave_served : (G : Type 0) (T : G → ℕ → Point → G → Type 0) (shared : Shared) (chain count : ℕ) (line : LineOut) (tty : RawTty) (back : Worked G) → HasWorked T shared (works.Serve chain line tty count) back
     → (line' : LineOut) × (tty' : RawTty) × (back ≡ worked.Served line' tty') × HasServed shared chain count line tty line' tty'
 gave_served G T shared chain count line tty (worked.Processed station) h = absurd h
 gave_served G T shared chain count line tty (worked.Served line' tty') h = (line', tty', refl, h)
@@ -134,10 +134,10 @@ raws_at shared t count device line tty d s = (
   },
 )
 
-pub device_back : {G : Type 0} (T : G → ℕ → Point → G → Type 0) (shared : Shared) (devices : List Device) (posts ws : List (Work G)) (backs : List (Option Worked)) (inputs : List LineIn)
+pub device_back : {G : Type 0} (T : G → ℕ → Point → G → Type 0) (shared : Shared) (devices : List Device) (posts ws : List (Work G)) (backs : List (Option (Worked G))) (inputs : List LineIn)
     → AreDevicesOf shared.plan shared.queues shared.chains.items devices → AreServing shared.plan.ttys devices posts ws → AllZip (GaveBack (HasWorked T) shared) ws backs
     → AreTyped shared.plan.ttys (drop (length posts) backs) (map input_of devices) inputs
-    → (t : ℕ) (p : PlannedTty) (device : Device) (input : LineIn) (back : Worked) → slice_get shared.plan.ttys t ≡ Some p → slice_get devices t ≡ Some device → slice_get inputs t ≡ Some input
+    → (t : ℕ) (p : PlannedTty) (device : Device) (input : LineIn) (back : Worked G) → slice_get shared.plan.ttys t ≡ Some p → slice_get devices t ≡ Some device → slice_get inputs t ≡ Some input
     → slice_get backs (length posts + t) ≡ Some (Some back) → (line : LineOut) × (tty : RawTty) × (back ≡ worked.Served line tty) × IsDeviceBack shared t p device input line tty
 device_back {G} T shared devices posts ws backs inputs all serving gave typed t p device input back at at' at'' its =
     let one = served_at (GaveBack (HasWorked T) shared) shared.plan.ttys devices posts ws backs t p device (Some back) serving gave at at' its in

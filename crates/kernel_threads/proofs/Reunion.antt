@@ -19,19 +19,20 @@ use Rattle.thread_table.specs.Handles as threads
 use Rattle.thread_table.specs.Rules.{serves, nothing_on}
 use Rattle.thread_table.specs.Steps.{either_on}
 use Rattle.kernel_threads.specs.declared.work.Work.{Work}
-use Rattle.kernel_threads.specs.Backs.{CameTogether, back_of, parts_of}
+use Rattle.kernel_threads.specs.declared.work.Processed.{Processed}
+use Rattle.kernel_threads.specs.Backs.{CameTogether, back_of, parts_of, gate_of}
 use Rattle.kernel_threads.specs.Crews.{GaveBack}
 use Rattle.kernel_threads.specs.Stationings.{NoneOn, AreParted, IsPosted, ArePosted, hand_share, seat_share}
 use Rattle.kernel_threads.specs.Works.{HasWorked, HasRun, AllToldTurns}
 
 -- what a processor gave back, by the work that it was told
-ran : (G : Type 0) (T : G → ℕ → Point → G → Type 0) (shared : Shared) (p turns : ℕ) (gate : G) (old new : Parts) (work : Work G) (posted : IsPosted shared p turns gate old new work) (back : Station)
-    → GaveBack (HasWorked T) shared work (back_of back) → HasRun T shared p turns gate posted.station back
+ran : (G : Type 0) (T : G → ℕ → Point → G → Type 0) (shared : Shared) (p turns : ℕ) (gate : G) (old new : Parts) (work : Work G) (posted : IsPosted shared p turns gate old new work) (back : Processed G)
+    → GaveBack (HasWorked T) shared work (back_of back) → HasRun T shared p turns gate back.gate posted.station back.station
 ran G T shared p turns gate old new work posted back gave = subst (λ (w : Work G). GaveBack (HasWorked T) shared w (back_of back)) posted.is gave
 
 -- THEIR LOGS
 
-logs_of : (G : Type 0) (T : G → ℕ → Point → G → Type 0) (shared : Shared) (p turns : ℕ) (gates : List G) (old new : Parts) (posts : List (Work G)) (stations : List Station)
+logs_of : (G : Type 0) (T : G → ℕ → Point → G → Type 0) (shared : Shared) (p turns : ℕ) (gates : List G) (old new : Parts) (posts : List (Work G)) (stations : List (Processed G))
     → ArePosted shared p turns gates old new posts → AllZip (GaveBack (HasWorked T) shared) posts (map back_of stations) → (logs : List (List Entry)) × AllZip (Leaves shared.plan) logs (map parts_of stations)
 logs_of G T shared p turns [] old new [] [] a z = ([], tt)
 logs_of G T shared p turns [] old new [] (s ∷ stations) a z = absurd z
@@ -46,14 +47,16 @@ logs_of G T shared p turns (g ∷ gates) old new (w ∷ posts) (s ∷ stations) 
 
 -- THEIR GATES
 
-pub gates_told : (G : Type 0) (T : G → ℕ → Point → G → Type 0) (shared : Shared) (p turns : ℕ) (gates : List G) (old new : Parts) (posts : List (Work G)) (stations : List Station)
-    → ArePosted shared p turns gates old new posts → AllZip (GaveBack (HasWorked T) shared) posts (map back_of stations) → AllToldTurns T p turns gates
-gates_told G T shared p turns [] old new posts stations a z = tt
+pub gates_told : (G : Type 0) (T : G → ℕ → Point → G → Type 0) (shared : Shared) (p turns : ℕ) (gates : List G) (old new : Parts) (posts : List (Work G)) (stations : List (Processed G))
+    → ArePosted shared p turns gates old new posts → AllZip (GaveBack (HasWorked T) shared) posts (map back_of stations) → AllToldTurns T p turns gates (map gate_of stations)
+gates_told G T shared p turns [] old new [] [] a z = tt
+gates_told G T shared p turns [] old new [] (s ∷ stations) a z = absurd z
+gates_told G T shared p turns [] old new (w ∷ posts) stations a z = absurd a
 gates_told G T shared p turns (g ∷ gates) old new [] stations a z = absurd a
 gates_told G T shared p turns (g ∷ gates) old new (w ∷ posts) [] a z = absurd z
 gates_told G T shared p turns (g ∷ gates) old new (w ∷ posts) (s ∷ stations) a z =
     let run = ran G T shared p turns g old a.0 w a.1 s z.0 in (
-      record { shared = shared; old = a.1.station.parts; new = s.parts; after = run.gate_after; told = run.told },
+      record { shared = shared; old = a.1.station.parts; new = s.station.parts; told = run.told },
       gates_told G T shared (p + 1) turns gates a.0 new posts stations a.2 z.1,
     )
 
@@ -62,15 +65,15 @@ gates_told G T shared p turns (g ∷ gates) old new (w ∷ posts) (s ∷ station
 -- a share that is parted, kept over a run, and added by a join
 record IsShare (G : Type 0) (T : G → ℕ → Point → G → Type 0) (f : Parts → ℕ) : Type 0 where
   parted : (old new born : Parts) → AreParted old new born → f old ≡ f new + f born
-  kept : (shared : Shared) (p turns : ℕ) (gate : G) (station back : Station) → HasRun T shared p turns gate station back → f back.parts ≡ f station.parts
+  kept : (shared : Shared) (p turns : ℕ) (gate gate' : G) (station back : Station) → HasRun T shared p turns gate gate' station back → f back.parts ≡ f station.parts
   joined : (a b c : Parts) → AreJoined a b c → f c ≡ f a + f b
 
 module _ (G : Type 0) (T : G → ℕ → Point → G → Type 0) (f : Parts → ℕ) (is : IsShare G T f) where
-  abbrev total : List Station → ℕ
+  abbrev total : List (Processed G) → ℕ
   total [] = 0
-  total (s ∷ stations) = f s.parts + total stations
+  total (s ∷ stations) = f s.station.parts + total stations
 
-  given_away : (shared : Shared) (p turns : ℕ) (gates : List G) (old new : Parts) (posts : List (Work G)) (stations : List Station)
+  given_away : (shared : Shared) (p turns : ℕ) (gates : List G) (old new : Parts) (posts : List (Work G)) (stations : List (Processed G))
       → ArePosted shared p turns gates old new posts → AllZip (GaveBack (HasWorked T) shared) posts (map back_of stations) → f old ≡ f new + total stations
   given_away shared p turns [] old new [] [] a z = let e : f new ≡ f old = ap f a in omega arith
   given_away shared p turns [] old new [] (s ∷ stations) a z = absurd z
@@ -80,18 +83,18 @@ module _ (G : Type 0) (T : G → ℕ → Point → G → Type 0) (f : Parts → 
   given_away shared p turns (g ∷ gates) old new (w ∷ posts) (s ∷ stations) a z =
       let run = ran G T shared p turns g old a.0 w a.1 s z.0 in
       let x = is.parted old a.0 a.1.station.parts a.1.parted in
-      let y = is.kept shared p turns g a.1.station s run in
+      let y = is.kept shared p turns g s.gate a.1.station s.station run in
       let rest = given_away shared (p + 1) turns gates a.0 new posts stations a.2 z.1 in
       omega arith
 
-  taken_in : (first : Parts) (stations : List Station) (last : Parts) → AllJoined first (map parts_of stations) last → f last ≡ f first + total stations
+  taken_in : (first : Parts) (stations : List (Processed G)) (last : Parts) → AllJoined first (map parts_of stations) last → f last ≡ f first + total stations
   taken_in first [] last j = let e : f last ≡ f first = ap f j in omega arith
   taken_in first (s ∷ stations) last j =
-      let x = is.joined first s.parts j.0 j.1 in
+      let x = is.joined first s.station.parts j.0 j.1 in
       let rest = taken_in j.0 stations last j.2 in
       omega arith
 
-  same_share : (shared : Shared) (turns : ℕ) (gates : List G) (old new last : Parts) (posts : List (Work G)) (stations : List Station)
+  same_share : (shared : Shared) (turns : ℕ) (gates : List G) (old new last : Parts) (posts : List (Work G)) (stations : List (Processed G))
       → ArePosted shared 0 turns gates old new posts → AllZip (GaveBack (HasWorked T) shared) posts (map back_of stations) → AllJoined new (map parts_of stations) last → f last ≡ f old
   same_share shared turns gates old new last posts stations a z j =
       let x = given_away shared 0 turns gates old new posts stations a z in
@@ -104,35 +107,35 @@ at_place xs ys q same = ap (λ (z : List ℕ). get_or z q 0) same
 hand_is : (G : Type 0) (T : G → ℕ → Point → G → Type 0) → IsShare G T hand_share
 hand_is G T = record {
   parted = λ old new born p. p.hand;
-  kept = λ shared p turns g s b h. h.share;
+  kept = λ shared p turns g g' s b h. h.share;
   joined = λ a b c j. ap (λ (m : Member). m.share) j.hand.member.same;
 }
 
 small_is : (G : Type 0) (T : G → ℕ → Point → G → Type 0) (q : ℕ) → IsShare G T (λ (parts : Parts). share_at parts.small.items q)
 small_is G T q = record {
   parted = λ old new born p. p.small q;
-  kept = λ shared p turns g s b h. at_place _ _ q h.logged.its.small.shares;
+  kept = λ shared p turns g g' s b h. at_place _ _ q h.logged.its.small.shares;
   joined = λ a b c j. j.small.shares q;
 }
 
 large_is : (G : Type 0) (T : G → ℕ → Point → G → Type 0) (q : ℕ) → IsShare G T (λ (parts : Parts). share_at parts.large.items q)
 large_is G T q = record {
   parted = λ old new born p. p.large q;
-  kept = λ shared p turns g s b h. at_place _ _ q h.logged.its.large.shares;
+  kept = λ shared p turns g g' s b h. at_place _ _ q h.logged.its.large.shares;
   joined = λ a b c j. j.large.shares q;
 }
 
 chains_are : (G : Type 0) (T : G → ℕ → Point → G → Type 0) (q : ℕ) → IsShare G T (λ (parts : Parts). chain_share_at parts.chains.items q)
 chains_are G T q = record {
   parted = λ old new born p. p.chains q;
-  kept = λ shared p turns g s b h. at_place _ _ q h.logged.its.chains.shares;
+  kept = λ shared p turns g g' s b h. at_place _ _ q h.logged.its.chains.shares;
   joined = λ a b c j. j.chains.shares q;
 }
 
 seat_is : (G : Type 0) (T : G → ℕ → Point → G → Type 0) → IsShare G T seat_share
 seat_is G T = record {
   parted = λ old new born p. p.meters;
-  kept = λ shared p turns g s b h. ap (λ (o : Own). o.share) h.logged.its.meters;
+  kept = λ shared p turns g g' s b h. ap (λ (o : Own). o.share) h.logged.its.meters;
   joined = λ a b c j. ap (λ (o : Own). o.share) j.own;
 }
 
@@ -149,11 +152,11 @@ or_right : (a b : Bool) → b ≡ true → (a || b) ≡ true
 or_right true b e = refl
 or_right false b e = e
 
-serves_on : (first : Parts) (stations : List Station) (last : Parts) (k : ℕ) → AllJoined first (map parts_of stations) last → Serves first k → Serves last k
+serves_on : {G : Type 0} (first : Parts) (stations : List (Processed G)) (last : Parts) (k : ℕ) → AllJoined first (map parts_of stations) last → Serves first k → Serves last k
 serves_on first [] last k j h = subst (λ (z : Parts). Serves z k) (sym j) h
 serves_on first (s ∷ stations) last k j h = serves_on j.0 stations last k j.2 (j.1.hand.serves k ∙ or_left _ _ h)
 
-each_served : (G : Type 0) (T : G → ℕ → Point → G → Type 0) (shared : Shared) (p turns : ℕ) (gates : List G) (old new first last : Parts) (posts : List (Work G)) (stations : List Station) (k : ℕ)
+each_served : (G : Type 0) (T : G → ℕ → Point → G → Type 0) (shared : Shared) (p turns : ℕ) (gates : List G) (old new first last : Parts) (posts : List (Work G)) (stations : List (Processed G)) (k : ℕ)
     → ArePosted shared p turns gates old new posts → AllZip (GaveBack (HasWorked T) shared) posts (map back_of stations) → AllJoined first (map parts_of stations) last
     → p ≤ k → k < p + length gates → Serves last k
 each_served G T shared p turns [] old new first last [] [] k a z j low high = absurd (omega arith)
@@ -165,14 +168,14 @@ each_served G T shared p turns (g ∷ gates) old new first last (w ∷ posts) (s
     (λ past. each_served G T shared (p + 1) turns gates a.0 new j.0 last posts stations k a.2 z.1 j.2 (omega arith) (omega arith))
     (λ no. let here : p ≡ k = omega arith in
     let run = ran G T shared p turns g old a.0 w a.1 s z.0 in
-    serves_on j.0 stations last k j.2 (j.1.hand.serves k ∙ or_right _ _ (subst (λ (z : ℕ). Serves s.parts z) here run.usable.free.0)))
+    serves_on j.0 stations last k j.2 (j.1.hand.serves k ∙ or_right _ _ (subst (λ (z : ℕ). Serves s.station.parts z) here run.usable.free.0)))
 
 -- WHAT STANDS ON THEM
 
 none_either : (xs ys : List (Option ℕ)) → xs ≡ nothing_on → ys ≡ nothing_on → either_on xs ys ≡ nothing_on
 none_either xs ys a b = ap (λ (z : List (Option ℕ)). either_on z ys) a ∙ ap (either_on nothing_on) b
 
-none_after : (G : Type 0) (T : G → ℕ → Point → G → Type 0) (shared : Shared) (p turns : ℕ) (gates : List G) (old new first last : Parts) (posts : List (Work G)) (stations : List Station)
+none_after : (G : Type 0) (T : G → ℕ → Point → G → Type 0) (shared : Shared) (p turns : ℕ) (gates : List G) (old new first last : Parts) (posts : List (Work G)) (stations : List (Processed G))
     → ArePosted shared p turns gates old new posts → AllZip (GaveBack (HasWorked T) shared) posts (map back_of stations) → AllJoined first (map parts_of stations) last
     → NoneOn first → NoneOn last
 none_after G T shared p turns [] old new first last [] [] a z j none = subst NoneOn (sym j) none
@@ -185,7 +188,7 @@ none_after G T shared p turns (g ∷ gates) old new first last (w ∷ posts) (s 
     none_after G T shared (p + 1) turns gates a.0 new j.0 last posts stations a.2 z.1 j.2
     (ap (λ (v : View). v.on) j.1.hand.same ∙ none_either _ _ none (run.on ∙ a.1.none_on))
 
-pub came_together : {G : Type 0} (T : G → ℕ → Point → G → Type 0) (shared : Shared) (turns : ℕ) (gates : List G) (old new last : Parts) (posts : List (Work G)) (stations : List Station)
+pub came_together : {G : Type 0} (T : G → ℕ → Point → G → Type 0) (shared : Shared) (turns : ℕ) (gates : List G) (old new last : Parts) (posts : List (Work G)) (stations : List (Processed G))
     → ArePosted shared 0 turns gates old new posts → AllZip (GaveBack (HasWorked T) shared) posts (map back_of stations) → AllJoined new (map parts_of stations) last
     → NoneOn new → ((k : ℕ) → length gates ≤ k → k < 8 → IsFree k (threads.view_of new.hand)) → CameTogether shared old last (map parts_of stations)
 came_together {G} T shared turns gates old new last posts stations a z j none free =

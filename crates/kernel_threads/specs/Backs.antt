@@ -10,7 +10,6 @@ use Rattle.objects.specs.DeviceEndings as ended
 use Rattle.objects.specs.DeviceEndings.{DeviceEnded}
 use Rattle.processor.specs.declared.shared.Shared.{Shared}
 use Rattle.processor.specs.declared.station.Parts.{Parts}
-use Rattle.processor.specs.declared.station.Station.{Station}
 use Rattle.processor.specs.Logs.{Entry, Leaves}
 use Rattle.processor.specs.RawEnds.{IsRawAt}
 use Rattle.quajects.specs.declared.raw.RawTty.{RawTty}
@@ -19,6 +18,7 @@ use Rattle.spsc_line.specs.declared.line_in.LineIn.{LineIn}
 use Rattle.spsc_line.specs.declared.line_out.LineOut.{LineOut}
 use Rattle.spsc_line.specs.Lines.{bytes_sent, bytes_received, bytes_left, IsLine}
 use Rattle.thread_table.specs.Handles as threads
+use Rattle.kernel_threads.specs.declared.work.Processed.{Processed}
 use Rattle.kernel_threads.specs.declared.work.Worked.{Worked}
 use Rattle.kernel_threads.specs.declared.work.Worked.TheVariants as worked
 use Rattle.kernel_threads.specs.Stationings.{hand_share, seat_share}
@@ -41,12 +41,18 @@ pub record IsDeviceBack (shared : Shared) (t : ℕ) (p : PlannedTty) (device : D
   pub all : bytes_received line ++ bytes_left input line ≡ bytes_sent input
       → DeviceEnded p (end_of tty) (device_of line tty)
 
--- what a processor gave back
-abbrev pub back_of : Station → Option Worked
-back_of station = Some (worked.Processed station)
+module _ {G : Type 0} where
+  -- what a processor gave back
+  abbrev pub back_of : Processed G → Option (Worked G)
+  back_of one = Some (worked.Processed one)
 
-abbrev pub parts_of : Station → Parts
-parts_of station = station.parts
+  -- the parts of its station
+  abbrev pub parts_of : Processed G → Parts
+  parts_of one = one.station.parts
+
+  -- its gate
+  abbrev pub gate_of : Processed G → G
+  gate_of one = one.gate
 
 -- they have the same shares of all objects
 pub record SameShares (old new : Parts) : Type 0 where

@@ -33,14 +33,14 @@ pub record IsUsable (shared : Shared) (p : ℕ) (station : Station) : Type 0 whe
   pub free : IsFree p (view_of station.parts.hand)
   pub room : HasRoom shared.plan station.parts
 
--- a processor had so many turns, of which its gate was told, and what its station's ends did is what its log says
-pub record HasRun {G : Type 0} (T : G → ℕ → Point → G → Type 0) (shared : Shared) (p turns : ℕ) (gate : G)
+-- A processor had so many turns. Its gate was told of these, and so became the other one. What its station's ends did
+-- is what its log says
+pub record HasRun {G : Type 0} (T : G → ℕ → Point → G → Type 0) (shared : Shared) (p turns : ℕ) (gate gate' : G)
     (station back : Station) : Type 0 where
   pub usable : IsUsable shared p back
   pub same : AreSameParts station.parts back.parts
   pub turns_are : Turns shared p station.parts back.parts turns
-  pub gate_after : G
-  pub told : ToldTurns T shared p station.parts back.parts turns gate gate_after
+  pub told : ToldTurns T shared p station.parts back.parts turns gate gate'
   pub logged : Logged shared.plan station.parts back.parts
   pub leaves : IsFresh station.parts → HasLeft shared.plan back.parts
   pub on : (view_of back.parts.hand).on ≡ (view_of station.parts.hand).on
@@ -70,22 +70,24 @@ abbrev pub MayWork : {G : Type 0} → Shared → Work G → Type 0
 MayWork shared (works.Process station p turns gate) = IsUsable shared p station
 MayWork shared (works.Serve chain line tty count) = IsServable shared chain tty
 
-abbrev pub HasWorked : {G : Type 0} → (G → ℕ → Point → G → Type 0) → Shared → Work G → Worked → Type 0
+abbrev pub HasWorked : {G : Type 0} → (G → ℕ → Point → G → Type 0) → Shared → Work G → Worked G → Type 0
 HasWorked T shared (works.Process station p turns gate) (worked.Processed back) =
-    HasRun T shared p turns gate station back
+    HasRun T shared p turns gate back.gate station back.station
 HasWorked T shared (works.Serve chain line tty count) (worked.Served line' tty') =
     HasServed shared chain count line tty line' tty'
 HasWorked T shared work back = ⊥
 
--- the gate of the processor p was told of so many turns: the number of each, from 0, and then the points of its step
-pub record WasToldTurns {G : Type 0} (T : G → ℕ → Point → G → Type 0) (p turns : ℕ) (gate : G) : Type 0 where
+-- The gate of the processor p was told of so many turns, and of nothing else: the number of each, from 0, and then the
+-- points of its step. So it became the other one
+pub record WasToldTurns {G : Type 0} (T : G → ℕ → Point → G → Type 0) (p turns : ℕ) (gate gate' : G) : Type 0 where
   pub shared : Shared
   pub old : Parts
   pub new : Parts
-  pub after : G
-  pub told : ToldTurns T shared p old new turns gate after
+  pub told : ToldTurns T shared p old new turns gate gate'
 
--- so was each of these gates, for the processors from this one on
-abbrev pub AllToldTurns : {G : Type 0} → (G → ℕ → Point → G → Type 0) → ℕ → ℕ → List G → Type 0
-AllToldTurns T p turns [] = Unit {0}
-AllToldTurns T p turns (gate ∷ gates) = WasToldTurns T p turns gate × AllToldTurns T (p + 1) turns gates
+-- so was each of these gates, for the processors from this one on, and so became the other one at its place
+abbrev pub AllToldTurns : {G : Type 0} → (G → ℕ → Point → G → Type 0) → ℕ → ℕ → List G → List G → Type 0
+AllToldTurns T p turns [] [] = Unit {0}
+AllToldTurns T p turns (gate ∷ gates) (gate' ∷ gates') =
+    WasToldTurns T p turns gate gate' × AllToldTurns T (p + 1) turns gates gates'
+AllToldTurns T p turns gates gates' = ⊥

@@ -15,7 +15,6 @@ ghost use Rattle.objects.specs.DeviceEndings.{DeviceEnded};
 ghost use Rattle.proc_chain.specs.declared.ends.ProcChain.{ProcChain};
 ghost use Rattle.processor.specs.declared.shared.Shared.{Shared};
 ghost use Rattle.processor.specs.declared.station.Parts.{Parts};
-ghost use Rattle.processor.specs.declared.station.Station.{Station};
 ghost use Rattle.processor.specs.Stations.{IsUnused};
 ghost use Rattle.processor.specs.Partings.{AllJoined};
 ghost use Rattle.processor.specs.Preparing.{IsPrepared};
@@ -29,6 +28,7 @@ ghost use Rattle.spsc_line.specs.Lines.{bytes_sent, bytes_received, bytes_left};
 ghost use Rattle.thread_table.specs.declared.hand.ThreadTable.{ThreadTable};
 ghost use Rattle.thread_table.specs.Handles.{view_of, IsOnlyHand};
 ghost use Rattle.kernel_threads.specs.declared.work.Work.{Work};
+ghost use Rattle.kernel_threads.specs.declared.work.Processed.{Processed};
 ghost use Rattle.kernel_threads.specs.declared.work.Worked.{Worked};
 ghost use Rattle.kernel_threads.specs.declared.work.Worked.TheVariants as worked;
 ghost use Rattle.kernel_threads.specs.Backs.{device_of, IsDeviceBack, SameShares, CameTogether, back_of, parts_of};
@@ -96,11 +96,11 @@ pub fn all_is_served()
 /// finished, all that the plan types was served.
 pub fn devices_come_back<G: Gate>()
     ensures { (shared : Shared) (devices : List Device) (posts works : List (Work G))
-        (backs : List (Option Worked)) (inputs : List LineIn)
+        (backs : List (Option (Worked G))) (inputs : List LineIn)
         → AreDevicesOf shared.plan shared.queues shared.chains.items devices
         → AreServing shared.plan.ttys devices posts works → AllZip (GaveBack (HasWorked G.told) shared) works backs
         → AreTyped shared.plan.ttys (drop (length posts) backs) (map input_of devices) inputs
-        → (t : ℕ) (p : PlannedTty) (device : Device) (input : LineIn) (back : Worked)
+        → (t : ℕ) (p : PlannedTty) (device : Device) (input : LineIn) (back : Worked G)
         → slice_get shared.plan.ttys t ≡ Some p → slice_get devices t ≡ Some device
         → slice_get inputs t ≡ Some input → slice_get backs (length posts + t) ≡ Some (Some back)
         → (line : LineOut) × (tty : RawTty) × (back ≡ worked.Served line tty)
@@ -111,10 +111,10 @@ pub fn devices_come_back<G: Gate>()
 /// what the first had kept, that has the shares again that it had, and serves all processors, on which nothing stands.
 pub fn stations_come_together<G: Gate>()
     ensures { (shared : Shared) (turns : ℕ) (gates : List G) (old new last : Parts) (posts works : List (Work G))
-        (devices : List Device) (backs : List (Option Worked)) (stations : List Station)
+        (devices : List Device) (backs : List (Option (Worked G))) (came : List (Processed G))
         → ArePosted shared 0 turns gates old new posts → AreServing shared.plan.ttys devices posts works
-        → AllZip (GaveBack (HasWorked G.told) shared) works backs → take (length posts) backs ≡ map back_of stations
-        → AllJoined new (map parts_of stations) last → NoneOn new
+        → AllZip (GaveBack (HasWorked G.told) shared) works backs → take (length posts) backs ≡ map back_of came
+        → AllJoined new (map parts_of came) last → NoneOn new
         → ((k : ℕ) → length gates ≤ k → k < 8 → IsFree k (view_of new.hand))
-        → CameTogether shared old last (map parts_of stations) }
+        → CameTogether shared old last (map parts_of came) }
 {}

@@ -25,4 +25,4 @@ pub use setting_up::{add_devices, prepare_station};
 pub use stationing::post_all;
 pub use threads::run_kernel;
 pub use typing::{type_all, type_bytes};
-pub use work::{Work, Worked};
+pub use work::{Processed, Work, Worked};

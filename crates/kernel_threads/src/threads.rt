@@ -15,7 +15,7 @@ use std::sync::Wait;
 use std::thread;
 use std::thread::{Scope, Threads};
 
-type Handles<G> = Vec<Started<Shared, Worked, Work<G>>>;
+type Handles<G> = Vec<Started<Shared, Worked<G>, Work<G>>>;
 
 // Starts all, and then types into the lines.
 fn start_and_type<'s, E, R, G>(
@@ -57,10 +57,10 @@ pub fn run_kernel<R, G>(
     works: Vec<Work<G>>,
     processors: usize,
     handles: Handles<G>,
-    backs: Vec<Option<Worked>>,
+    backs: Vec<Option<Worked<G>>>,
     lines: Vec<LineIn>,
     typed: Vec<LineIn>,
-) -> (Vec<Option<Worked>>, Vec<LineIn>)
+) -> (Vec<Option<Worked<G>>>, Vec<LineIn>)
 where
     R: Threads + Wait + Sync,
     G: Gate + Send + Drop,

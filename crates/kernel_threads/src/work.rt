@@ -30,19 +30,26 @@ pub enum Work<G> {
     },
 }
 
+/// What a processor gives back: its station, and its gate with all that it was told.
+#[derive(Drop)]
+pub struct Processed<G> {
+    pub station: Station,
+    pub gate: G,
+}
+
 /// What a thread of the kernel gives back.
 #[derive(Drop)]
-pub enum Worked {
-    Processed(Station),
+pub enum Worked<G> {
+    Processed(Processed<G>),
     Served { line: LineOut, tty: RawTty },
 }
 
-impl<G: Gate + Drop> Job<Shared, Worked> for Work<G> {
+impl<G: Gate + Drop> Job<Shared, Worked<G>> for Work<G> {
     ghost may_run = { MayWork };
 
     ghost gives = { HasWorked G.told };
 
-    fn run<R: Wait>(self, rt: &R, shared: &Shared) -> Worked {
+    fn run<R: Wait>(self, rt: &R, shared: &Shared) -> Worked<G> {
         match self {
             Work::Process {
                 station,
@@ -51,7 +58,8 @@ impl<G: Gate + Drop> Job<Shared, Worked> for Work<G> {
                 gate,
             } => {
                 let mut gate = gate;
-                Worked::Processed(run(rt, shared, station, p, turns, &mut gate))
+                let station = run(rt, shared, station, p, turns, &mut gate);
+                Worked::Processed(Processed { station, gate })
             }
             Work::Serve {
                 chain,

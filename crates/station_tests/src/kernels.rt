@@ -63,7 +63,7 @@ fn make_kernel<R: Abort + Wait>(rt: &R, alloc: Global, gates: Vec<NoGate>, turns
 }
 
 /// How many processors came back, how many devices, and how many bytes these refused.
-fn counted(backs: &[Option<Worked>]) -> (u64, u64, u64) {
+fn counted(backs: &[Option<Worked<NoGate>>]) -> (u64, u64, u64) {
     let mut counts = (0u64, 0u64, 0u64);
     for back in backs {
         match back {

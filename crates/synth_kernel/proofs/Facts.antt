@@ -93,21 +93,21 @@ low_mod n low = omega arith
 
 -- DEVICES
 
-same_served : (a b : LineOut) (x y : RawTty) → ◌≡◌ {A = Worked} (worked.Served a x) (worked.Served b y) → (a ≡ b) × (x ≡ y)
+same_served : {G : Type 0} (a b : LineOut) (x y : RawTty) → ◌≡◌ {A = Worked G} (worked.Served a x) (worked.Served b y) → (a ≡ b) × (x ≡ y)
 same_served a b x y e = (cc, cc)
 
 -- what the device did that gave this back
 abbrev pub did_of : Served → closed.Device
 did_of one = device_of one.line one.tty
 
-module _ {G : Type 0} (T : G → ℕ → Point → G → Type 0) (shared : Shared) (devices : List Device) (posts ws : List (Work G)) (backs : List (Option Worked)) (inputs : List LineIn) (are : AreDevicesOf shared.plan shared.queues shared.chains.items devices)
+module _ {G : Type 0} (T : G → ℕ → Point → G → Type 0) (shared : Shared) (devices : List Device) (posts ws : List (Work G)) (backs : List (Option (Worked G))) (inputs : List LineIn) (are : AreDevicesOf shared.plan shared.queues shared.chains.items devices)
     (serving : AreServing shared.plan.ttys devices posts ws) (gave : AllZip (GaveBack (HasWorked T) shared) ws backs) (typed : AreTyped shared.plan.ttys (drop (length posts) backs) (map input_of devices) inputs)
     (f : Sorted (length posts) (length shared.plan.ttys) backs) where
   device_came : (t : ℕ) (p : PlannedTty) (device : Device) (input : LineIn) (one : Served) → slice_get shared.plan.ttys t ≡ Some p → slice_get devices t ≡ Some device → slice_get inputs t ≡ Some input
       → slice_get f.served t ≡ Some one → IsDeviceBack shared t p device input one.line one.tty
   device_came t p device input one at at' at'' its =
       let b = device_back T shared devices posts ws backs inputs are serving gave typed t p device input (worked.Served one.line one.tty) at at' at'' (served_behind (length posts) (length shared.plan.ttys) backs f t one its) in
-      let s = same_served one.line b.0 one.tty b.1 b.2 in
+      let s = same_served {G = G} one.line b.0 one.tty b.1 b.2 in
       subst (λ (l : LineOut). IsDeviceBack shared t p device input l one.tty) (sym s.0) (subst (λ (y : RawTty). IsDeviceBack shared t p device input b.0 y) (sym s.1) b.3)
 
   inputs_long : length inputs ≡ length shared.plan.ttys

@@ -12,7 +12,6 @@ use Rattle.end_steps.specs.declared.gate.Point.{Point}
 use Rattle.end_steps.specs.Splits.{AllThree}
 use Rattle.processor.specs.declared.shared.Shared.{Shared}
 use Rattle.processor.specs.declared.station.Parts.{Parts}
-use Rattle.processor.specs.declared.station.Station.{Station}
 use Rattle.processor.specs.Logs.{Entry, Leaves}
 use Rattle.processor.specs.Programs.{hear_count}
 use Rattle.processor.specs.Stations.{ArePartsOf}
@@ -29,9 +28,10 @@ use Rattle.reports.proofs.Wholes.{has_wholes}
 use Rattle.spsc_line.specs.declared.line_in.LineIn.{LineIn}
 use Rattle.spsc_line.specs.Lines.{IsLine}
 use Rattle.kernel_threads.specs.declared.work.Work.{Work}
+use Rattle.kernel_threads.specs.declared.work.Processed.{Processed}
 use Rattle.kernel_threads.specs.declared.work.Worked.{Worked}
 use Rattle.kernel_threads.specs.declared.work.Worked.TheVariants as worked
-use Rattle.kernel_threads.specs.Backs.{CameTogether, parts_of, back_of}
+use Rattle.kernel_threads.specs.Backs.{CameTogether, parts_of, gate_of, back_of}
 use Rattle.kernel_threads.specs.Crews.{GaveBack}
 use Rattle.kernel_threads.specs.Readiness.{input_of}
 use Rattle.kernel_threads.specs.Stationings.{ArePosted}
@@ -44,14 +44,14 @@ use Rattle.kernel_threads.proofs.Reunion.{came_together, gates_told}
 use Rattle.synth_kernel.specs.declared.gathering.Served.{Served}
 use Rattle.synth_kernel.specs.declared.ready.Ready.{Ready}
 use Rattle.synth_kernel.specs.Boots.{IsBootOf, AreLogsOf}
-use Rattle.synth_kernel.specs.Gatherings.{stations_in, served_in, all_there, tty_of, IsTold}
+use Rattle.synth_kernel.specs.Gatherings.{processed_in, served_in, all_there, tty_of, IsTold}
 use Rattle.synth_kernel.specs.Readies.{IsReady}
-use Rattle.synth_kernel.proofs.Backs.{Sorted, few_back, sort_back, stations_are, served_are, first_back}
+use Rattle.synth_kernel.proofs.Backs.{Sorted, few_back, sort_back, processed_are, served_are, first_back}
 use Rattle.synth_kernel.proofs.Sparing.{freed_spare}
 use Rattle.synth_kernel.proofs.Facts.{did_of, lines_pair, raws_are, kept_shares, devices_ended, devices_shown}
 
 -- each station that came back is of the shared objects
-parts_all : {G : Type 0} (T : G → ℕ → Point → G → Type 0) (shared : Shared) (p turns : ℕ) (gates : List G) (old new : Parts) (posts : List (Work G)) (stations : List Station) → ArePosted shared p turns gates old new posts
+parts_all : {G : Type 0} (T : G → ℕ → Point → G → Type 0) (shared : Shared) (p turns : ℕ) (gates : List G) (old new : Parts) (posts : List (Work G)) (stations : List (Processed G)) → ArePosted shared p turns gates old new posts
     → AllZip (GaveBack (HasWorked T) shared) posts (map back_of stations) → All (ArePartsOf shared) (map parts_of stations)
 parts_all T shared p turns gates old new posts [] a z k d l = absurd (omega arith)
 parts_all T shared p turns [] old new [] (s ∷ stations) a z k d l = absurd z
@@ -61,20 +61,20 @@ parts_all {G} T shared p turns (g ∷ gates) old new (w ∷ posts) (s ∷ statio
 parts_all T shared p turns (g ∷ gates) old new (w ∷ posts) (s ∷ stations) a z (suc k) d l = parts_all T shared (p + 1) turns gates a.0 new posts stations a.2 z.1 k d (omega arith)
 
 -- each processor's log, by what its gate was told
-gates_logged : {G : Type 0} (T : G → ℕ → Point → G → Type 0) (shared : Shared) (p turns : ℕ) (gates : List G) (old new : Parts) (posts : List (Work G)) (stations : List Station) → ArePosted shared p turns gates old new posts
-    → AllZip (GaveBack (HasWorked T) shared) posts (map back_of stations) → (logs : List (List Entry)) × AllZip (Leaves shared.plan) logs (map parts_of stations) × AreLogsOf T shared p turns gates logs
+gates_logged : {G : Type 0} (T : G → ℕ → Point → G → Type 0) (shared : Shared) (p turns : ℕ) (gates : List G) (old new : Parts) (posts : List (Work G)) (stations : List (Processed G)) → ArePosted shared p turns gates old new posts
+    → AllZip (GaveBack (HasWorked T) shared) posts (map back_of stations) → (logs : List (List Entry)) × AllZip (Leaves shared.plan) logs (map parts_of stations) × AreLogsOf T shared p turns gates (map gate_of stations) logs
 gates_logged T shared p turns [] old new [] [] a z = ([], tt, tt)
 gates_logged T shared p turns [] old new [] (s ∷ stations) a z = absurd z
 gates_logged T shared p turns [] old new (w ∷ posts) stations a z = absurd a
 gates_logged T shared p turns (g ∷ gates) old new [] stations a z = absurd a
 gates_logged T shared p turns (g ∷ gates) old new (w ∷ posts) [] a z = absurd z
 gates_logged {G} T shared p turns (g ∷ gates) old new (w ∷ posts) (s ∷ stations) a z =
-    let run : HasRun T shared p turns g a.1.station s = subst (λ (x : Work G). GaveBack (HasWorked T) shared x (Some (worked.Processed s))) a.1.is z.0 in
+    let run : HasRun T shared p turns g s.gate a.1.station s.station = subst (λ (x : Work G). GaveBack (HasWorked T) shared x (Some (worked.Processed s))) a.1.is z.0 in
     let mine = run.leaves a.1.fresh in
     let rest = gates_logged T shared (p + 1) turns gates a.0 new posts stations a.2 z.1 in (
       mine.log ∷ rest.0,
       (mine.its, rest.1),
-      (record { old = a.1.station.parts; fresh = a.1.fresh; new = s.parts; gate_after = run.gate_after; told = run.told; left = mine.its }, rest.2),
+      (record { old = a.1.station.parts; fresh = a.1.fresh; new = s.station.parts; told = run.told; left = mine.its }, rest.2),
     )
 
 module _ {A B : Type 0} (R : A → B → Type 0) where
@@ -84,14 +84,14 @@ module _ {A B : Type 0} (R : A → B → Type 0) where
   logs_long (x ∷ xs) [] h = absurd h
   logs_long (x ∷ xs) (y ∷ ys) h = ap suc (logs_long xs ys h.1)
 
-module _ {G : Type 0} (T : G → ℕ → Point → G → Type 0) (plan : BootPlan) (turns : ℕ) (gates : List G) (ready : Ready G) (r : IsReady plan turns gates ready) (backs : List (Option Worked)) (inputs : List LineIn)
+module _ {G : Type 0} (T : G → ℕ → Point → G → Type 0) (plan : BootPlan) (turns : ℕ) (gates : List G) (ready : Ready G) (r : IsReady plan turns gates ready) (backs : List (Option (Worked G))) (inputs : List LineIn)
     (gave : AllZip (GaveBack (HasWorked T) ready.shared) ready.works.items backs) (typed : AreTyped ready.shared.plan.ttys (drop (length gates) backs) ready.inputs.items inputs) where
   posts_long : length r.posts ≡ length gates
   posts_long = as_many_posts ready.shared 0 turns gates r.first ready.station.parts r.posts r.posted
 
-  pub few_came : (length (stations_in backs) ≤ length gates) × (length (served_in backs) ≤ length ready.shared.plan.ttys)
+  pub few_came : (length (processed_in backs) ≤ length gates) × (length (served_in backs) ≤ length ready.shared.plan.ttys)
   few_came = let f = few_back T ready.shared 0 turns gates r.first ready.station.parts ready.shared.plan.ttys r.devices r.posts ready.works.items backs r.posted r.works gave in
-      (subst (λ (z : ℕ). length (stations_in backs) ≤ z) posts_long f.0, f.1)
+      (subst (λ (z : ℕ). length (processed_in backs) ≤ z) posts_long f.0, f.1)
 
   typed_in : AreTyped ready.shared.plan.ttys (drop (length r.posts) backs) (map input_of r.devices) inputs
   typed_in = subst (λ (z : ℕ). AreTyped ready.shared.plan.ttys (drop z backs) (map input_of r.devices) inputs) (sym posts_long)
@@ -101,34 +101,35 @@ module _ {G : Type 0} (T : G → ℕ → Point → G → Type 0) (plan : BootPla
     pub its : Sorted (length r.posts) (length ready.shared.plan.ttys) backs
     its = sort_back T ready.shared 0 turns gates r.first ready.station.parts ready.shared.plan.ttys r.devices r.posts ready.works.items backs r.posted r.works gave all
 
-    pub stations_came : stations_in backs ≡ its.stations
-    stations_came = stations_are (length r.posts) (length ready.shared.plan.ttys) backs its
+    pub processed_came : processed_in backs ≡ its.processed
+    processed_came = processed_are (length r.posts) (length ready.shared.plan.ttys) backs its
 
     pub served_came : served_in backs ≡ its.served
     served_came = served_are (length r.posts) (length ready.shared.plan.ttys) backs its
 
-    ran : AllZip (GaveBack (HasWorked T) ready.shared) r.posts (map back_of its.stations)
+    ran : AllZip (GaveBack (HasWorked T) ready.shared) r.posts (map back_of its.processed)
     ran = subst (AllZip (GaveBack (HasWorked T) ready.shared) r.posts) (first_back (length r.posts) (length ready.shared.plan.ttys) backs its)
         (posts_first (GaveBack (HasWorked T) ready.shared) ready.shared.plan.ttys r.devices r.posts ready.works.items backs r.works gave)
 
-    pub gates_were_told : AllToldTurns T 0 turns gates
-    gates_were_told = gates_told G T ready.shared 0 turns gates r.first ready.station.parts r.posts its.stations r.posted ran
+    pub gates_were_told : (after : List G) → after ≡ map gate_of (processed_in backs) → AllToldTurns T 0 turns gates after
+    gates_were_told after ga = subst (λ (z : List G). AllToldTurns T 0 turns gates z) (sym (ga ∙ ap (λ (z : List (Processed G)). map gate_of z) processed_came))
+        (gates_told G T ready.shared 0 turns gates r.first ready.station.parts r.posts its.processed r.posted ran)
 
-    logged : (logs : List (List Entry)) × AllZip (Leaves ready.shared.plan) logs (map parts_of its.stations) × AreLogsOf T ready.shared 0 turns gates logs
-    logged = gates_logged T ready.shared 0 turns gates r.first ready.station.parts r.posts its.stations r.posted ran
+    logged : (logs : List (List Entry)) × AllZip (Leaves ready.shared.plan) logs (map parts_of its.processed) × AreLogsOf T ready.shared 0 turns gates (map gate_of its.processed) logs
+    logged = gates_logged T ready.shared 0 turns gates r.first ready.station.parts r.posts its.processed r.posted ran
 
     pub lines_came : AllZip (λ (one : Served) (input : LineIn). IsLine input one.line) its.served inputs
     lines_came = lines_pair T ready.shared r.devices r.posts ready.works.items backs inputs r.devices_are r.works gave typed_in its
 
-    pub parts_came : All (ArePartsOf ready.shared) (map parts_of its.stations)
-    parts_came = parts_all T ready.shared 0 turns gates r.first ready.station.parts r.posts its.stations r.posted ran
+    pub parts_came : All (ArePartsOf ready.shared) (map parts_of its.processed)
+    parts_came = parts_all T ready.shared 0 turns gates r.first ready.station.parts r.posts its.processed r.posted ran
 
     pub raws_came : AreRawsOf ready.shared (map tty_of its.served)
     raws_came = raws_are T ready.shared r.devices r.posts ready.works.items backs inputs r.devices_are r.works gave typed_in its
 
-    module _ (last : Parts) (joined : AllJoined ready.station.parts (map parts_of its.stations) last) where
-      came : CameTogether ready.shared r.first last (map parts_of its.stations)
-      came = came_together T ready.shared turns gates r.first ready.station.parts last r.posts its.stations r.posted ran joined r.none_on r.free
+    module _ (last : Parts) (joined : AllJoined ready.station.parts (map parts_of its.processed) last) where
+      came : CameTogether ready.shared r.first last (map parts_of its.processed)
+      came = came_together T ready.shared turns gates r.first ready.station.parts last r.posts its.processed r.posted ran joined r.none_on r.free
 
       pub wholes : (parts : Parts) → ArePartsOf ready.shared parts → TookRaws (length ready.shared.plan.queues) (length ready.shared.plan.movers) (map tty_of its.served) last parts → HasWholes ready.shared parts
       wholes parts are took =
@@ -149,10 +150,10 @@ module _ {G : Type 0} (T : G → ℕ → Point → G → Type 0) (plan : BootPla
 
       module _ (some : 1 ≤ length gates) (its_parts : ArePartsOf ready.shared last) (told : List Typed) (tolds : AllThree IsTold its.served inputs told) (parts : Parts)
           (took : TookRaws (length ready.shared.plan.queues) (length ready.shared.plan.movers) (map tty_of its.served) last parts) (ended : Ended) (closes : AllClosed ready.shared parts ended) where
-        many : length (map parts_of its.stations) ≡ length gates
-        many = length-map its.stations parts_of ∙ (its.posts_are ∙ posts_long)
+        many : length (map parts_of its.processed) ≡ length gates
+        many = length-map its.processed parts_of ∙ (its.posts_are ∙ posts_long)
 
-        shut : BootShut ready.shared logged.0 ready.station.parts (map parts_of its.stations) last (map tty_of its.served) (map did_of its.served) parts ended
+        shut : BootShut ready.shared logged.0 ready.station.parts (map parts_of its.processed) last (map tty_of its.served) (map did_of its.served) parts ended
         shut = record {
           left = logged.1;
           some_processor = let m = many in omega arith;
@@ -168,17 +169,17 @@ module _ {G : Type 0} (T : G → ℕ → Point → G → Type 0) (plan : BootPla
           quajects = r.quajects;
         }
 
-        pub few_lines : length (flat_map heard_lines (map parts_of its.stations)) ≤ hear_count ready.shared.plan
-        few_lines = heard_is_few ready.shared logged.0 ready.station.parts (map parts_of its.stations) last (map tty_of its.served) (map did_of its.served) parts ended shut []
+        pub few_lines : length (flat_map heard_lines (map parts_of its.processed)) ≤ hear_count ready.shared.plan
+        few_lines = heard_is_few ready.shared logged.0 ready.station.parts (map parts_of its.processed) last (map tty_of its.served) (map did_of its.served) parts ended shut []
 
-        pub booted : (report : Report) → IsReported ended (flat_map heard_lines (map parts_of its.stations)) told report → IsBootOf T plan turns gates report
+        pub booted : (report : Report) → IsReported ended (flat_map heard_lines (map parts_of its.processed)) told report → IsBootOf T plan turns gates (map gate_of its.processed) report
         booted report reported =
-            let e = ends ready.shared logged.0 ready.station.parts (map parts_of its.stations) last (map tty_of its.served) (map did_of its.served) parts ended shut told report
+            let e = ends ready.shared logged.0 ready.station.parts (map parts_of its.processed) last (map tty_of its.served) (map did_of its.served) parts ended shut told report
             (devices_shown T ready.shared r.devices r.posts ready.works.items backs inputs r.devices_are r.works gave typed_in its told tolds) reported in
-            subst (λ (z : BootPlan). IsBootOf T z turns gates report) r.plan_is (record {
+            subst (λ (z : BootPlan). IsBootOf T z turns gates (map gate_of its.processed) report) r.plan_is (record {
               shared = ready.shared;
               plan_is = refl;
-              closed = closed_shut ready.shared logged.0 ready.station.parts (map parts_of its.stations) last (map tty_of its.served) (map did_of its.served) parts ended shut;
+              closed = closed_shut ready.shared logged.0 ready.station.parts (map parts_of its.processed) last (map tty_of its.served) (map did_of its.served) parts ended shut;
               logs = logged.0;
               heard = reported.heard;
               turned = logged.2;
@@ -189,8 +190,8 @@ module _ {G : Type 0} (T : G → ℕ → Point → G → Type 0) (plan : BootPla
     pub lines_sorted : AllZip (λ (one : Served) (input : LineIn). IsLine input one.line) (served_in backs) inputs
     lines_sorted = subst (λ (z : List Served). AllZip (λ (one : Served) (input : LineIn). IsLine input one.line) z inputs) (sym served_came) lines_came
 
-    pub parts_sorted : All (ArePartsOf ready.shared) (map parts_of (stations_in backs))
-    parts_sorted = subst (λ (z : List Station). All (ArePartsOf ready.shared) (map parts_of z)) (sym stations_came) parts_came
+    pub parts_sorted : All (ArePartsOf ready.shared) (map parts_of (processed_in backs))
+    parts_sorted = subst (λ (z : List (Processed G)). All (ArePartsOf ready.shared) (map parts_of z)) (sym processed_came) parts_came
 
     module _ (ttys : List RawTty) (te : ttys ≡ map tty_of (served_in backs)) where
       same_t : ttys ≡ map tty_of its.served
@@ -199,9 +200,9 @@ module _ {G : Type 0} (T : G → ℕ → Point → G → Type 0) (plan : BootPla
       pub raws_sorted : AreRawsOf ready.shared ttys
       raws_sorted = subst (AreRawsOf ready.shared) (sym same_t) raws_came
 
-      module _ (last : Parts) (joined : AllJoined ready.station.parts (map parts_of (stations_in backs)) last) where
-        joined_same : AllJoined ready.station.parts (map parts_of its.stations) last
-        joined_same = subst (λ (z : List Station). AllJoined ready.station.parts (map parts_of z) last) stations_came joined
+      module _ (last : Parts) (joined : AllJoined ready.station.parts (map parts_of (processed_in backs)) last) where
+        joined_same : AllJoined ready.station.parts (map parts_of its.processed) last
+        joined_same = subst (λ (z : List (Processed G)). AllJoined ready.station.parts (map parts_of z) last) processed_came joined
 
         took_same : (parts : Parts) → TookRaws (length ready.shared.plan.queues) (length ready.shared.plan.movers) ttys last parts
             → TookRaws (length ready.shared.plan.queues) (length ready.shared.plan.movers) (map tty_of its.served) last parts
@@ -215,12 +216,12 @@ module _ {G : Type 0} (T : G → ℕ → Point → G → Type 0) (plan : BootPla
           tolds_same : AllThree IsTold its.served inputs told
           tolds_same = subst (λ (z : List Served). AllThree IsTold z inputs told) served_came tolds
 
-          pub few_sorted : (lines : List Line) → lines ≡ flat_map heard_lines (map parts_of (stations_in backs)) → length lines ≤ hear_count ended.plan
+          pub few_sorted : (lines : List Line) → lines ≡ flat_map heard_lines (map parts_of (processed_in backs)) → length lines ≤ hear_count ended.plan
           few_sorted lines e =
               let f = few_lines last joined_same some its_parts told tolds_same parts (took_same parts took) ended closes in
               subst (λ (z : BootPlan). length lines ≤ hear_count z) (sym closes.rest.2)
-              (subst (λ (z : List Line). length z ≤ hear_count ready.shared.plan) (ap (λ (z : List Station). flat_map heard_lines (map parts_of z)) (sym stations_came) ∙ sym e) f)
+              (subst (λ (z : List Line). length z ≤ hear_count ready.shared.plan) (ap (λ (z : List (Processed G)). flat_map heard_lines (map parts_of z)) (sym processed_came) ∙ sym e) f)
 
-          pub booted_sorted : (lines : List Line) → lines ≡ flat_map heard_lines (map parts_of (stations_in backs)) → (report : Report) → IsReported ended lines told report → IsBootOf T plan turns gates report
-          booted_sorted lines e report reported = booted last joined_same some its_parts told tolds_same parts (took_same parts took) ended closes report
-              (subst (λ (z : List Line). IsReported ended z told report) (e ∙ ap (λ (z : List Station). flat_map heard_lines (map parts_of z)) stations_came) reported)
+          pub booted_sorted : (after : List G) → after ≡ map gate_of (processed_in backs) → (lines : List Line) → lines ≡ flat_map heard_lines (map parts_of (processed_in backs)) → (report : Report) → IsReported ended lines told report → IsBootOf T plan turns gates after report
+          booted_sorted after ga lines e report reported = subst (λ (z : List G). IsBootOf T plan turns gates z report) (sym (ga ∙ ap (λ (z : List (Processed G)). map gate_of z) processed_came)) (booted last joined_same some its_parts told tolds_same parts (took_same parts took) ended closes report
+              (subst (λ (z : List Line). IsReported ended z told report) (e ∙ ap (λ (z : List (Processed G)). flat_map heard_lines (map parts_of z)) processed_came) reported))

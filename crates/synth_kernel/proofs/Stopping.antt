@@ -22,9 +22,9 @@ use Rattle.synth_kernel.specs.Readies.{IsReady}
 use Rattle.synth_kernel.specs.Stops.{HasStopped}
 use Rattle.synth_kernel.proofs.Shut.{gates_were_told, raws_sorted, wholes_sorted, few_sorted, booted_sorted}
 
-module _ {G : Type 0} (T : G → ℕ → Point → G → Type 0) (plan : BootPlan) (turns : ℕ) (gates : List G) (ready : Ready G) (r : IsReady plan turns gates ready) (stopped : Stopped) (s : HasStopped T (length gates) ready stopped) where
-  pub told : AllToldTurns T 0 turns gates
-  told = gates_were_told T plan turns gates ready r s.backs s.inputs s.worked s.typed s.gathered.all
+module _ {G : Type 0} (T : G → ℕ → Point → G → Type 0) (plan : BootPlan) (turns : ℕ) (gates : List G) (ready : Ready G) (r : IsReady plan turns gates ready) (stopped : Stopped G) (s : HasStopped T (length gates) ready stopped) where
+  pub told : AllToldTurns T 0 turns gates stopped.gathered.gates.items
+  told = gates_were_told T plan turns gates ready r s.backs s.inputs s.worked s.typed s.gathered.all stopped.gathered.gates.items s.gathered.gates
 
   module _ (some : 1 ≤ length gates) where
     -- what is known of these objects
@@ -37,7 +37,7 @@ module _ {G : Type 0} (T : G → ℕ → Point → G → Type 0) (plan : BootPla
       pub few : (parts : Parts) (ended : Ended) → TookRaws (length shared.plan.queues) (length shared.plan.movers) stopped.gathered.ttys.items stopped.gathered.station.parts parts → AllClosed shared parts ended
           → length (flat_map lines_of stopped.gathered.heards.items) ≤ hear_count ended.plan
       pub booted : (parts : Parts) (ended : Ended) → TookRaws (length shared.plan.queues) (length shared.plan.movers) stopped.gathered.ttys.items stopped.gathered.station.parts parts → AllClosed shared parts ended
-          → (report : Report) → IsReported ended (flat_map lines_of stopped.gathered.heards.items) stopped.gathered.told.items report → IsBootOf T plan turns gates report
+          → (report : Report) → IsReported ended (flat_map lines_of stopped.gathered.heards.items) stopped.gathered.told.items report → IsBootOf T plan turns gates stopped.gathered.gates.items report
 
     pub knows : Knows stopped.shared
     knows = subst Knows (sym s.shared_is) (record {
@@ -49,5 +49,5 @@ module _ {G : Type 0} (T : G → ℕ → Point → G → Type 0) (plan : BootPla
       few = λ parts ended took closes. few_sorted T plan turns gates ready r s.backs s.inputs s.worked s.typed s.gathered.all stopped.gathered.ttys.items s.gathered.ttys stopped.gathered.station.parts s.gathered.joined some
           s.gathered.parts stopped.gathered.told.items s.gathered.told parts took ended closes (flat_map lines_of stopped.gathered.heards.items) s.gathered.heard;
       booted = λ parts ended took closes. booted_sorted T plan turns gates ready r s.backs s.inputs s.worked s.typed s.gathered.all stopped.gathered.ttys.items s.gathered.ttys stopped.gathered.station.parts s.gathered.joined some
-          s.gathered.parts stopped.gathered.told.items s.gathered.told parts took ended closes (flat_map lines_of stopped.gathered.heards.items) s.gathered.heard;
+          s.gathered.parts stopped.gathered.told.items s.gathered.told parts took ended closes stopped.gathered.gates.items s.gathered.gates (flat_map lines_of stopped.gathered.heards.items) s.gathered.heard;
     })

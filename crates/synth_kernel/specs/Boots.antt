@@ -22,34 +22,37 @@ use Rattle.synth_kernel.specs.declared.outcome.Ended.TheVariants.{AllEnded, Unfi
 use Rattle.synth_kernel.specs.declared.outcome.BootFault.{BootFault}
 use Rattle.synth_kernel.specs.declared.outcome.BootFault.TheVariants.{Script, Memory, Read, Write}
 
--- So many turns of the processor p, on a station of these objects that had done nothing, left on it what the log says;
--- and the gate was told the number of each turn, from 0, and then the points of its step
-pub record IsLogOf {G : Type 0} (T : G → ℕ → Point → G → Type 0) (shared : Shared) (p turns : ℕ) (gate : G)
+-- So many turns of the processor p, on a station of these objects that had done nothing, left on it what the log says.
+-- The gate was told the number of each turn, from 0, and then the points of its step, and nothing else; so it became the
+-- other one
+pub record IsLogOf {G : Type 0} (T : G → ℕ → Point → G → Type 0) (shared : Shared) (p turns : ℕ) (gate gate' : G)
     (log : List Entry) : Type 0 where
   pub old : Parts
   pub fresh : IsFresh old
   pub new : Parts
-  pub gate_after : G
-  pub told : ToldTurns T shared p old new turns gate gate_after
+  pub told : ToldTurns T shared p old new turns gate gate'
   pub left : Leaves shared.plan log new
 
--- there is such a log for each of these gates, of the processors from this one on, in their order
-abbrev pub AreLogsOf : {G : Type 0} → (G → ℕ → Point → G → Type 0) → Shared → ℕ → ℕ → List G → List (List Entry) → Type 0
-AreLogsOf T shared p turns [] [] = Unit {0}
-AreLogsOf T shared p turns (gate ∷ gates) (log ∷ logs) =
-    IsLogOf T shared p turns gate log × AreLogsOf T shared (p + 1) turns gates logs
-AreLogsOf T shared p turns gates logs = ⊥
+-- There is such a log for each of these gates and the other one at its place, of the processors from this one on, in
+-- their order
+abbrev pub AreLogsOf : {G : Type 0} → (G → ℕ → Point → G → Type 0) → Shared → ℕ → ℕ → List G → List G
+    → List (List Entry) → Type 0
+AreLogsOf T shared p turns [] [] [] = Unit {0}
+AreLogsOf T shared p turns (gate ∷ gates) (gate' ∷ gates') (log ∷ logs) =
+    IsLogOf T shared p turns gate gate' log × AreLogsOf T shared (p + 1) turns gates gates' logs
+AreLogsOf T shared p turns gates gates' logs = ⊥
 
 -- The report agrees with the plan, with the closed tables of a boot, and with the logs of its processors, one for each
--- gate, each of so many turns on the objects of the plan
-pub record IsBootOf {G : Type 0} (T : G → ℕ → Point → G → Type 0) (plan : BootPlan) (turns : ℕ) (gates : List G)
-    (report : Report) : Type 0 where
+-- gate, each of so many turns on the objects of the plan. Each gate was told of these, and so became the other one at its
+-- place
+pub record IsBootOf {G : Type 0} (T : G → ℕ → Point → G → Type 0) (plan : BootPlan) (turns : ℕ)
+    (gates gates' : List G) (report : Report) : Type 0 where
   pub shared : Shared
   pub plan_is : shared.plan ≡ plan
   pub closed : Closed
   pub logs : List (List Entry)
   pub heard : List Line
-  pub turned : AreLogsOf T shared 0 turns gates logs
+  pub turned : AreLogsOf T shared 0 turns gates gates' logs
   pub agrees : IsReport plan closed logs heard report
 
 -- the answer where so many threads are live
@@ -58,27 +61,28 @@ ended_of zero = AllEnded
 ended_of (suc others) = Unfinished (suc others)
 
 -- the answer is that of the live threads of a report of such a boot, which was printed, and nothing else
-pub record IsRun {G : Type 0} (T : G → ℕ → Point → G → Type 0) (plan : BootPlan) (turns : ℕ) (gates : List G)
+pub record IsRun {G : Type 0} (T : G → ℕ → Point → G → Type 0) (plan : BootPlan) (turns : ℕ) (gates gates' : List G)
     (ended : Ended) (old new : Option (List ℕ)) : Type 0 where
   pub report : Report
-  pub booted : IsBootOf T plan turns gates report
+  pub booted : IsBootOf T plan turns gates gates' report
   pub ends : ended ≡ ended_of (live_threads report)
   pub printed : Appends old new (report_text report)
 
 -- the text says a plan, and so it is with a boot of that
 pub record IsBoot {G : Type 0} (T : G → ℕ → Point → G → Type 0) (said : Result Plan ScriptFault) (turns : ℕ)
-    (gates : List G) (ended : Ended) (old new : Option (List ℕ)) : Type 0 where
+    (gates gates' : List G) (ended : Ended) (old new : Option (List ℕ)) : Type 0 where
   pub plan : BootPlan
   pub says : said ≡ Ok (plan_of plan)
-  pub run : IsRun T plan turns gates ended old new
+  pub run : IsRun T plan turns gates gates' ended old new
 
--- the answer alone
+-- the answer alone, where the gates don't come back
 pub record IsBootAnswer {G : Type 0} (T : G → ℕ → Point → G → Type 0) (said : Result Plan ScriptFault) (turns : ℕ)
     (gates : List G) (ended : Ended) : Type 0 where
   pub plan : BootPlan
   pub says : said ≡ Ok (plan_of plan)
   pub report : Report
-  pub booted : IsBootOf T plan turns gates report
+  pub back : List G
+  pub booted : IsBootOf T plan turns gates back report
   pub ends : ended ≡ ended_of (live_threads report)
 
 -- nothing is said of a gate that does nothing
@@ -88,7 +92,7 @@ unheard old p point new = Unit {0}
 -- so it is with a gate that does nothing for each of so many processors
 abbrev pub IsPlainBoot : Result Plan ScriptFault → ℕ → ℕ → Ended → Option (List ℕ) → Option (List ℕ) → Type 0
 IsPlainBoot said processors turns ended old new =
-    (gates : List NoGate) × (length gates ≡ processors) × IsBoot unheard said turns gates ended old new
+    (gates back : List NoGate) × (length gates ≡ processors) × IsBoot unheard said turns gates back ended old new
 
 abbrev pub IsPlainAnswer : Result Plan ScriptFault → ℕ → ℕ → Ended → Type 0
 IsPlainAnswer said processors turns ended =

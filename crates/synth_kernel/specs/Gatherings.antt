@@ -8,9 +8,10 @@ use Rattle.processor.specs.Partings.{AllJoined}
 use Rattle.processor.specs.Stations.{ArePartsOf}
 use Rattle.processor.specs.Turns.{heard_lines}
 use Rattle.quajects.specs.declared.raw.RawTty.{RawTty}
+use Rattle.kernel_threads.specs.declared.work.Processed.{Processed}
 use Rattle.kernel_threads.specs.declared.work.Worked.{Worked}
 use Rattle.kernel_threads.specs.declared.work.Worked.TheVariants as worked
-use Rattle.kernel_threads.specs.Backs.{parts_of}
+use Rattle.kernel_threads.specs.Backs.{parts_of, gate_of}
 use Rattle.quajects.specs.Raws.{overruns_of}
 use Rattle.reporting.specs.Reported.{lines_of}
 use Rattle.reporting.specs.declared.ttys.Typed.{Typed}
@@ -20,22 +21,22 @@ use Rattle.synth_kernel.specs.declared.gathering.Gathered.{Gathered}
 use Rattle.synth_kernel.specs.declared.gathering.Lists.{Lists}
 use Rattle.synth_kernel.specs.declared.gathering.Served.{Served}
 
--- the stations that came back, in their order
-abbrev pub stations_in : List (Option Worked) → List Station
-stations_in [] = []
-stations_in (Some (worked.Processed station) ∷ backs) = station ∷ stations_in backs
-stations_in (Some (worked.Served line tty) ∷ backs) = stations_in backs
-stations_in (None ∷ backs) = stations_in backs
+-- what the processors gave back, in their order
+abbrev pub processed_in : {G : Type 0} → List (Option (Worked G)) → List (Processed G)
+processed_in [] = []
+processed_in (Some (worked.Processed one) ∷ backs) = one ∷ processed_in backs
+processed_in (Some (worked.Served line tty) ∷ backs) = processed_in backs
+processed_in (None ∷ backs) = processed_in backs
 
 -- what the devices gave back, in their order
-abbrev pub served_in : List (Option Worked) → List Served
+abbrev pub served_in : {G : Type 0} → List (Option (Worked G)) → List Served
 served_in [] = []
-served_in (Some (worked.Processed station) ∷ backs) = served_in backs
+served_in (Some (worked.Processed one) ∷ backs) = served_in backs
 served_in (Some (worked.Served line tty) ∷ backs) = record { line = line; tty = tty } ∷ served_in backs
 served_in (None ∷ backs) = served_in backs
 
 -- each thread gave something back
-abbrev pub all_there : List (Option Worked) → Bool
+abbrev pub all_there : {G : Type 0} → List (Option (Worked G)) → Bool
 all_there [] = true
 all_there (Some back ∷ backs) = all_there backs
 all_there (None ∷ backs) = false
@@ -51,20 +52,22 @@ pub record IsTold (served : Served) (input : LineIn) (told : Typed) : Type 0 whe
   pub refused : told.refused ≡ overruns_of served.tty
 
 -- the lists are empty, and have room for what is sorted out of all that came back, and for what is made of it
-pub record HaveRoomFor (backs : List (Option Worked)) (lists : Lists) : Type 0 where
-  pub stations : (lists.stations.items ≡ []) × (length (stations_in backs) ≤ vec_capacity lists.stations)
+pub record HaveRoomFor {G : Type 0} (backs : List (Option (Worked G))) (lists : Lists G) : Type 0 where
+  pub processed : (lists.processed.items ≡ []) × (length (processed_in backs) ≤ vec_capacity lists.processed)
   pub served : (lists.served.items ≡ []) × (length (served_in backs) ≤ vec_capacity lists.served)
   pub ttys : (lists.ttys.items ≡ []) × (length (served_in backs) ≤ vec_capacity lists.ttys)
-  pub heards : (lists.heards.items ≡ []) × (length (stations_in backs) ≤ vec_capacity lists.heards)
+  pub heards : (lists.heards.items ≡ []) × (length (processed_in backs) ≤ vec_capacity lists.heards)
+  pub gates : (lists.gates.items ≡ []) × (length (processed_in backs) ≤ vec_capacity lists.gates)
   pub told : (lists.told.items ≡ []) × (length (served_in backs) ≤ vec_capacity lists.told)
 
 -- Each thread gave something back. The stations were joined to the first, which is then the last, and what they heard is
--- there. The raw ttys are there, and what each device did, by its input
-pub record IsGathered (shared : Shared) (first : Station) (backs : List (Option Worked)) (inputs : List LineIn)
-    (gathered : Gathered) : Type 0 where
+-- there, and so are their gates, in their order. The raw ttys are there, and what each device did, by its input
+pub record IsGathered {G : Type 0} (shared : Shared) (first : Station) (backs : List (Option (Worked G)))
+    (inputs : List LineIn) (gathered : Gathered G) : Type 0 where
   pub all : all_there backs ≡ true
   pub parts : ArePartsOf shared gathered.station.parts
-  pub joined : AllJoined first.parts (map parts_of (stations_in backs)) gathered.station.parts
-  pub heard : flat_map lines_of gathered.heards.items ≡ flat_map heard_lines (map parts_of (stations_in backs))
+  pub joined : AllJoined first.parts (map parts_of (processed_in backs)) gathered.station.parts
+  pub heard : flat_map lines_of gathered.heards.items ≡ flat_map heard_lines (map parts_of (processed_in backs))
+  pub gates : gathered.gates.items ≡ map gate_of (processed_in backs)
   pub ttys : gathered.ttys.items ≡ map tty_of (served_in backs)
   pub told : AllThree IsTold (served_in backs) inputs gathered.told.items

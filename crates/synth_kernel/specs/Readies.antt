@@ -22,13 +22,14 @@ use Rattle.synth_kernel.specs.declared.ready.Room.{Room}
 
 -- The lists are empty, and have room for what so many processors and the devices of the plan give back, for the answers
 -- of closing all, and for the report
-pub record HasPlaces (shared : Shared) (processors : ℕ) (room : Room) : Type 0 where
+pub record HasPlaces {G : Type 0} (shared : Shared) (processors : ℕ) (room : Room G) : Type 0 where
   pub backs : (room.backs.items ≡ []) × (processors + length shared.plan.ttys ≤ vec_capacity room.backs)
   pub typed : (room.typed.items ≡ []) × (length shared.plan.ttys ≤ vec_capacity room.typed)
-  pub stations : (room.stations.items ≡ []) × (processors ≤ vec_capacity room.stations)
+  pub processed : (room.processed.items ≡ []) × (processors ≤ vec_capacity room.processed)
   pub served : (room.served.items ≡ []) × (length shared.plan.ttys ≤ vec_capacity room.served)
   pub ttys : (room.ttys.items ≡ []) × (length shared.plan.ttys ≤ vec_capacity room.ttys)
   pub heards : (room.heards.items ≡ []) × (processors ≤ vec_capacity room.heards)
+  pub gates : (room.gates.items ≡ []) × (processors ≤ vec_capacity room.gates)
   pub told : (room.told.items ≡ []) × (length shared.plan.ttys ≤ vec_capacity room.told)
   pub answers : closing.HaveRoom shared room.answers
   pub report : reporting.HasAllRoom shared.plan room.report

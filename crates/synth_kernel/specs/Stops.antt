@@ -14,9 +14,9 @@ use Rattle.synth_kernel.specs.Gatherings.{IsGathered}
 -- Each work was done, while the ttys' bytes were typed into the inputs of the devices, which come behind so many
 -- processors; and what came back was gathered. All objects are those that were ready, and so is the room
 pub record HasStopped {G : Type 0} (T : G → ℕ → Point → G → Type 0) (processors : ℕ) (ready : Ready G)
-    (stopped : Stopped) : Type 0 where
+    (stopped : Stopped G) : Type 0 where
   pub shared_is : stopped.shared ≡ ready.shared
-  pub backs : List (Option Worked)
+  pub backs : List (Option (Worked G))
   pub worked : AllZip (GaveBack (HasWorked T) ready.shared) ready.works.items backs
   pub inputs : List LineIn
   pub typed : AreTyped ready.shared.plan.ttys (drop processors backs) ready.inputs.items inputs

@@ -15,9 +15,9 @@ use std::alloc::Global;
 use std::sync::Wait;
 use std::thread::Threads;
 
-/// Boots a plan, a processor for each gate, so many turns on each, and reports. `OutOfMemory` comes only where an
-/// allocation was refused or a thread could not be started. All memory is taken before the first thread starts, but what
-/// each thread's own start takes.
+/// Boots a plan, a processor for each gate, so many turns on each, and reports. The gates come back, each at its place.
+/// `OutOfMemory` comes only where an allocation was refused or a thread could not be started. All memory is taken before
+/// the first thread starts, but what each thread's own start takes.
 ///
 /// Conditions: there are 1 to 8 gates.
 pub(crate) fn boot_plan<R, G>(
@@ -26,13 +26,13 @@ pub(crate) fn boot_plan<R, G>(
     plan: BootPlan,
     turns: u32,
     gates: Vec<G>,
-) -> Result<Report, OutOfMemory>
+) -> Result<(Report, Vec<G>), OutOfMemory>
 where
     R: Threads + Wait + Sync,
     G: Gate + Send + Drop,
     requires gates { (1 ≤ vec_len gates) × (vec_len gates ≤ 8) }
-    ensures booted { IfOk result (λ report. IsBootOf G.told plan turns gates.items report) }
-    ensures told { IfOk result (λ report. AllToldTurns G.told 0 turns gates.items) }
+    ensures booted { IfOk result (λ r. IsBootOf G.told plan turns gates.items r.1.items r.0) }
+    ensures told { IfOk result (λ r. AllToldTurns G.told 0 turns gates.items r.1.items) }
 {
     let processors = gates.len();
     let ready = get_ready(rt, alloc, plan, turns, gates)?;
@@ -46,9 +46,10 @@ where
     let Gathered {
         station,
         heards,
+        gates,
         ttys,
         told,
     } = gathered;
     let ended = shut_down(shared, station, ttys, answers);
-    Ok(report_boot(ended, heards, told.as_slice(), report))
+    Ok((report_boot(ended, heards, told.as_slice(), report), gates))
 }

@@ -2,15 +2,15 @@
 ghost use Rattle.std.specs.Prelude.{◌≡◌, ◌≤◌, ◌+◌, ◌++◌, [], ◌∷◌, false, true, length, map, vec_capacity, Option, Some, None, IfSome};
 ghost use Rattle.std.specs.List.{All, AllZip, flat_map};
 ghost use Rattle.processor.specs.Stations.{ArePartsOf};
-ghost use Rattle.kernel_threads.specs.Backs.{parts_of};
+ghost use Rattle.kernel_threads.specs.Backs.{parts_of, gate_of};
 ghost use Rattle.processor.specs.Turns.{heard_lines};
 ghost use Rattle.processor.specs.Partings.{AllJoined};
 ghost use Rattle.reporting.specs.Reported.{lines_of};
-ghost use Rattle.synth_kernel.specs.Gatherings.{stations_in, served_in, all_there, tty_of, IsTold, HaveRoomFor, IsGathered};
+ghost use Rattle.synth_kernel.specs.Gatherings.{processed_in, served_in, all_there, tty_of, IsTold, HaveRoomFor, IsGathered};
 ghost use Rattle.end_steps.specs.Splits.{AllThree};
 ghost use Rattle.spsc_line.specs.Lines.{IsLine};
 
-use kernel_threads::Worked;
+use kernel_threads::{Processed, Worked};
 use processor::{Heard, Shared, Station};
 use quajects::RawTty;
 use reporting::Typed;
@@ -25,86 +25,95 @@ pub(crate) struct Served {
 
 /// Lists for what is sorted out of all that the threads give back, and for what is made of it.
 #[derive(Drop)]
-pub(crate) struct Lists {
-    pub(crate) stations: Vec<Station>,
+pub(crate) struct Lists<G> {
+    pub(crate) processed: Vec<Processed<G>>,
     pub(crate) served: Vec<Served>,
     pub(crate) ttys: Vec<RawTty>,
     pub(crate) heards: Vec<Vec<Heard>>,
+    pub(crate) gates: Vec<G>,
     pub(crate) told: Vec<Typed>,
 }
 
 /// What was made of all that the threads gave back: the last station, to which all are joined, what each processor
-/// heard, the raw ttys, and what each device did.
+/// heard, its gate, the raw ttys, and what each device did.
 #[derive(Drop)]
-pub(crate) struct Gathered {
+pub(crate) struct Gathered<G> {
     pub(crate) station: Station,
     pub(crate) heards: Vec<Vec<Heard>>,
+    pub(crate) gates: Vec<G>,
     pub(crate) ttys: Vec<RawTty>,
     pub(crate) told: Vec<Typed>,
 }
 
 // What a thread gave back goes to its list.
-fn sort_back(back: Worked, stations: &mut Vec<Station>, served: &mut Vec<Served>)
-    requires stations { length (stations.old.items ++ stations_in (Some back ∷ [])) ≤ vec_capacity stations.old }
+fn sort_back<G: Drop>(back: Worked<G>, processed: &mut Vec<Processed<G>>, served: &mut Vec<Served>)
+    requires processed { length (processed.old.items ++ processed_in (Some back ∷ [])) ≤ vec_capacity processed.old }
     requires served { length (served.old.items ++ served_in (Some back ∷ [])) ≤ vec_capacity served.old }
-    ensures stations { stations.new.items ≡ stations.old.items ++ stations_in (Some back ∷ []) }
+    ensures processed { processed.new.items ≡ processed.old.items ++ processed_in (Some back ∷ []) }
     ensures served { served.new.items ≡ served.old.items ++ served_in (Some back ∷ []) }
-    ensures room { (vec_capacity stations.new ≡ vec_capacity stations.old) × (vec_capacity served.new ≡ vec_capacity served.old) }
+    ensures room { (vec_capacity processed.new ≡ vec_capacity processed.old)
+        × (vec_capacity served.new ≡ vec_capacity served.old) }
 {
     match back {
-        Worked::Processed(station) => stations.push_reserved(station),
+        Worked::Processed(one) => processed.push_reserved(one),
         Worked::Served { line, tty } => served.push_reserved(Served { line, tty }),
     }
 }
 
-// The stations of the processors, and what the devices gave back, each in their order. None where a thread gave
-// nothing back, since it couldn't be started. It takes no memory: both lists have room.
-fn sort_backs(
-    backs: Vec<Option<Worked>>,
-    stations: Vec<Station>,
+// What the processors gave back, and what the devices did, each in their order. None where a thread gave nothing back,
+// since it couldn't be started. It takes no memory: both lists have room.
+fn sort_backs<G: Drop>(
+    backs: Vec<Option<Worked<G>>>,
+    processed: Vec<Processed<G>>,
     served: Vec<Served>,
-) -> Option<(Vec<Station>, Vec<Served>)>
-    requires stations { (stations.items ≡ []) × (length (stations_in backs.items) ≤ vec_capacity stations) }
+) -> Option<(Vec<Processed<G>>, Vec<Served>)>
+    requires processed { (processed.items ≡ []) × (length (processed_in backs.items) ≤ vec_capacity processed) }
     requires served { (served.items ≡ []) × (length (served_in backs.items) ≤ vec_capacity served) }
-    ensures sorted { IfSome result (λ r. (r.0.items ≡ stations_in backs.items) × (r.1.items ≡ served_in backs.items)
+    ensures sorted { IfSome result (λ r. (r.0.items ≡ processed_in backs.items) × (r.1.items ≡ served_in backs.items)
         × (all_there backs.items ≡ true)) }
     ensures missing { result ≡ None → all_there backs.items ≡ false }
 {
-    let mut stations = stations;
+    let mut processed = processed;
     let mut served = served;
     let mut all = true;
     for back in backs {
         match back {
-            Some(back) => sort_back(back, &mut stations, &mut served),
+            Some(back) => sort_back(back, &mut processed, &mut served),
             None => all = false,
         }
     }
-    if all { Some((stations, served)) } else { None }
+    if all { Some((processed, served)) } else { None }
 }
 
-// Joins all these stations to the first, one after the other. What each heard goes into `heards`, in their order, which
-// is empty and has room for them, so it takes no memory.
+// Joins the stations of all these to the first, one after the other. What each heard goes into `heards`, and its gate
+// into `gates`, in their order. Both are empty and have room, so it takes no memory.
 //
 // Conditions: all stations are of `shared`.
-fn join_stations(
+fn join_stations<G: Drop>(
     shared: &Shared,
     first: Station,
-    stations: Vec<Station>,
+    processed: Vec<Processed<G>>,
     heards: Vec<Vec<Heard>>,
-) -> (Station, Vec<Vec<Heard>>)
+    gates: Vec<G>,
+) -> (Station, Vec<Vec<Heard>>, Vec<G>)
     requires first { ArePartsOf shared.now first.parts }
-    requires stations { All (ArePartsOf shared.now) (map parts_of stations.items) }
-    requires room { (heards.items ≡ []) × (length stations.items ≤ vec_capacity heards) }
+    requires stations { All (ArePartsOf shared.now) (map parts_of processed.items) }
+    requires room { (heards.items ≡ []) × (length processed.items ≤ vec_capacity heards) }
+    requires gates { (gates.items ≡ []) × (length processed.items ≤ vec_capacity gates) }
     ensures parts { ArePartsOf shared.now result.0.parts }
-    ensures joined { AllJoined first.parts (map parts_of stations.items) result.0.parts }
-    ensures heard { flat_map lines_of result.1.items ≡ flat_map heard_lines (map parts_of stations.items) }
+    ensures joined { AllJoined first.parts (map parts_of processed.items) result.0.parts }
+    ensures heard { flat_map lines_of result.1.items ≡ flat_map heard_lines (map parts_of processed.items) }
+    ensures gates { result.2.items ≡ map gate_of processed.items }
 {
     let mut first = first;
     let mut heards = heards;
-    for station in stations {
+    let mut gates = gates;
+    for one in processed {
+        let Processed { station, gate } = one;
         heards.push_reserved(first.join(shared, station));
+        gates.push_reserved(gate);
     }
-    (first, heards)
+    (first, heards, gates)
 }
 
 // Ends the line of a device, and tells what it did.
@@ -152,21 +161,22 @@ fn finish_all(
     (ttys, told)
 }
 
-/// Joins the stations of the processors to the first, and ends the devices' lines, each in their order. None where a
-/// thread gave nothing back, since it couldn't be started. It takes no memory: all lists have room.
+/// Joins the stations of the processors to the first, and ends the devices' lines, each in their order; the gates are in
+/// the processors' order. None where a thread gave nothing back, since it couldn't be started. It takes no memory: all
+/// lists have room.
 ///
 /// Conditions: where each thread gave something back, the stations are of `shared`, and there is an input for each
 /// device, in their order, which is that of its line.
-pub(crate) fn gather(
+pub(crate) fn gather<G: Drop>(
     shared: &Shared,
     first: Station,
-    backs: Vec<Option<Worked>>,
+    backs: Vec<Option<Worked<G>>>,
     inputs: Vec<LineIn>,
-    lists: Lists,
-) -> Option<Gathered>
+    lists: Lists<G>,
+) -> Option<Gathered<G>>
     requires first { ArePartsOf shared.now first.parts }
     requires stations { all_there backs.items ≡ true → All (ArePartsOf shared.now) (map parts_of
-        (stations_in backs.items)) }
+        (processed_in backs.items)) }
     requires lines { all_there backs.items ≡ true → AllZip (λ one input. IsLine input one.line)
         (served_in backs.items) inputs.items }
     requires room { HaveRoomFor backs.items lists }
@@ -174,18 +184,20 @@ pub(crate) fn gather(
     ensures missing { result ≡ None → all_there backs.items ≡ false }
 {
     let Lists {
-        stations,
+        processed,
         served,
         ttys,
         heards,
+        gates,
         told,
     } = lists;
-    let (stations, served) = sort_backs(backs, stations, served)?;
+    let (processed, served) = sort_backs(backs, processed, served)?;
     let (ttys, told) = finish_all(inputs, served, ttys, told);
-    let (station, heards) = join_stations(shared, first, stations, heards);
+    let (station, heards, gates) = join_stations(shared, first, processed, heards, gates);
     Some(Gathered {
         station,
         heards,
+        gates,
         ttys,
         told,
     })

@@ -1,15 +1,16 @@
 //! A boot, from the bytes of its script to the printed report.
-ghost use Rattle.std.specs.Prelude.{◌≡◌, ◌≢◌, ◌≤◌, ℕ, vec_len, IfOk, IfErr, IfSome, OnOk};
+ghost use Rattle.std.specs.Prelude.{◌≡◌, ◌≢◌, ◌≤◌, ℕ, List, vec_len, IfOk, IfErr, IfSome, OnOk};
 ghost use Rattle.std.specs.Io.KnownBytes.{Appends, Keeps};
 ghost use Rattle.boot_script.specs.Answers.{Says};
 ghost use Rattle.boot_data.specs.BootPlans.{plan_of};
 ghost use Rattle.boot_script.specs.Plans.{text_plan};
 ghost use Rattle.kernel_threads.specs.Works.{AllToldTurns};
-ghost use Rattle.synth_kernel.specs.Boots.{IsBoot, IsBootFault, IsBootAnswer, IsPlainBoot, IsPlainAnswer, IsRun, IsRead, IsLate};
+ghost use Rattle.reports.specs.Saying.{live_threads};
+ghost use Rattle.synth_kernel.specs.Boots.{ended_of, IsBoot, IsBootFault, IsBootAnswer, IsPlainBoot, IsPlainAnswer, IsRun, IsRead, IsLate};
 
 use crate::booting::boot_plan;
-use crate::outcome::{BootFault, Ended};
-use boot_data::BootPlan;
+use crate::outcome::{BootFault, Booted, Ended};
+use boot_data::{BootPlan, Report};
 use boot_script::{ScriptRefusal, parse_boot, print_report, read_script};
 use end_steps::{Gate, NoGate};
 use event_theory::OutOfMemory;
@@ -46,6 +47,16 @@ fn read_plan<I: Read>(alloc: Global, reader: &mut I) -> Result<BootPlan, BootFau
     plan_said(alloc, &buffer[..filled])
 }
 
+// The answer of a boot with this report.
+fn ended_by(report: &Report) -> Ended
+    ensures { result ≡ ended_of (live_threads report.now) }
+{
+    match live_of(report) {
+        0 => Ended::AllEnded,
+        live => Ended::Unfinished { live },
+    }
+}
+
 // Boots a plan, and prints the report.
 fn boot_and_print<R, O, G>(
     rt: &R,
@@ -54,25 +65,25 @@ fn boot_and_print<R, O, G>(
     writer: &mut O,
     turns: u32,
     gates: Vec<G>,
-) -> Result<Ended, BootFault>
+) -> Result<Booted<G>, BootFault>
 where
     R: Threads + Wait + Sync,
     O: Write,
     G: Gate + Send + Drop,
     requires gates { (1 ≤ vec_len gates) × (vec_len gates ≤ 8) }
-    ensures ok { IfOk result (λ ended. IsRun G.told plan turns gates.items ended (O.contents writer.old)
-        (O.contents writer.new)) }
-    ensures told { IfOk result (λ ended. AllToldTurns G.told 0 turns gates.items) }
+    ensures ok { IfOk result (λ booted. IsRun G.told plan turns gates.items booted.gates.items booted.ended
+        (O.contents writer.old) (O.contents writer.new)) }
+    ensures told { IfOk result (λ booted. AllToldTurns G.told 0 turns gates.items booted.gates.items) }
     ensures fault { IfErr result (λ fault. IsLate fault) }
     ensures unwritten { IfErr result (λ fault. fault ≢ BootFault.Write
         → Keeps (O.contents writer.old) (O.contents writer.new)) }
 {
-    let report = boot_plan(rt, alloc, plan, turns, gates)?;
+    let (report, gates) = boot_plan(rt, alloc, plan, turns, gates)?;
     match print_report(&report, writer) {
-        Ok(()) => match live_of(&report) {
-            0 => Ok(Ended::AllEnded),
-            live => Ok(Ended::Unfinished { live }),
-        },
+        Ok(()) => Ok(Booted {
+            ended: ended_by(&report),
+            gates,
+        }),
         Err(_) => Err(BootFault::Write),
     }
 }
@@ -116,11 +127,13 @@ where
 {
     let plan = read_plan(alloc, reader)?;
     let gates = no_gates(alloc, processors)?;
-    boot_and_print(rt, alloc, plan, writer, turns, gates)
+    let booted = boot_and_print(rt, alloc, plan, writer, turns, gates)?;
+    Ok(booted.ended)
 }
 
-/// The same with a gate for each processor, from 0 on, which the processor calls between the parts of its turns: where
-/// the boot answers `Ok`, with the number of each turn, and then with the points of its step.
+/// The same with a gate for each processor, from 0 on, which the processor calls between the parts of its turns. Where the
+/// boot answers `Ok`, the gates come back, each at its place: it was called with the number of each turn, and then with the
+/// points of its step, and with nothing else.
 ///
 /// Conditions: there are 1 to 8 processors, and a gate for each.
 pub fn boot_on_with<R, I, O, G>(
@@ -131,7 +144,7 @@ pub fn boot_on_with<R, I, O, G>(
     processors: u8,
     turns: u32,
     gates: Vec<G>,
-) -> Result<Ended, BootFault>
+) -> Result<Booted<G>, BootFault>
 where
     R: Threads + Wait + Sync,
     I: Read,
@@ -139,9 +152,9 @@ where
     G: Gate + Send + Drop,
     requires number { (1 ≤ processors) × (processors ≤ 8) }
     requires gates { vec_len gates ≡ processors }
-    ensures ok { IfOk result (λ ended. IfSome (I.remaining reader.old) (λ bytes. IsBoot G.told (text_plan bytes)
-        turns gates.items ended (O.contents writer.old) (O.contents writer.new))) }
-    ensures told { IfOk result (λ ended. AllToldTurns G.told 0 turns gates.items) }
+    ensures ok { IfOk result (λ booted. IfSome (I.remaining reader.old) (λ bytes. IsBoot G.told (text_plan bytes)
+        turns gates.items booted.gates.items booted.ended (O.contents writer.old) (O.contents writer.new))) }
+    ensures told { IfOk result (λ booted. AllToldTurns G.told 0 turns gates.items booted.gates.items) }
     ensures fault { IfErr result (λ fault. IfSome (I.remaining reader.old) (λ bytes. IsBootFault
         (text_plan bytes) fault)) }
     ensures unwritten { IfErr result (λ fault. fault ≢ BootFault.Write
@@ -175,7 +188,7 @@ where
     boot_on(rt, alloc, &mut reader, &mut writer, processors, turns)
 }
 
-/// The same as `boot_on_with`, of a reader and a writer that are handed over.
+/// The same as `boot_on_with`, of a reader and a writer that are handed over. The gates don't come back.
 ///
 /// Conditions: there are 1 to 8 processors, and a gate for each.
 pub fn boot_with<R, I, O, G>(
@@ -196,11 +209,11 @@ where
     requires gates { vec_len gates ≡ processors }
     ensures ok { IfOk result (λ ended. IfSome (I.remaining reader) (λ bytes. IsBootAnswer G.told (text_plan bytes)
         turns gates.items ended)) }
-    ensures told { IfOk result (λ ended. AllToldTurns G.told 0 turns gates.items) }
+    ensures told { IfOk result (λ ended. (back : List G) × AllToldTurns G.told 0 turns gates.items back) }
     ensures fault { IfErr result (λ fault. IfSome (I.remaining reader) (λ bytes. IsBootFault (text_plan bytes)
         fault)) }
 {
-    boot_on_with(
+    let booted = boot_on_with(
         rt,
         alloc,
         &mut reader,
@@ -208,5 +221,6 @@ where
         processors,
         turns,
         gates,
-    )
+    )?;
+    Ok(booted.ended)
 }

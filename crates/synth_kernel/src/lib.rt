@@ -15,4 +15,4 @@ mod shutting;
 
 pub use end_steps::{Gate, Point};
 pub use kernel::{boot, boot_on, boot_on_with, boot_with};
-pub use outcome::{BootFault, Ended};
+pub use outcome::{BootFault, Booted, Ended};

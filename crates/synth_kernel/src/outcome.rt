@@ -17,6 +17,13 @@ pub enum Ended {
     Unfinished { live: usize },
 }
 
+/// How a boot with gates ended whose report was printed, and the gates, each at its place, with all that they were told.
+#[derive(Drop)]
+pub struct Booted<G> {
+    pub ended: Ended,
+    pub gates: Vec<G>,
+}
+
 /// Why a boot printed no report. Nothing was written, but where the fault is `Write`.
 #[derive(Clone, Copy, Debug, PartialEq, Eq)]
 pub enum BootFault {

@@ -9,7 +9,7 @@ use closing::Answers;
 use end_steps::Gate;
 use event_theory::OutOfMemory;
 use first_station::{Objects, make_objects};
-use kernel_threads::{Work, Worked, add_devices, post_all, prepare_station};
+use kernel_threads::{Processed, Work, Worked, add_devices, post_all, prepare_station};
 use processor::{Heard, Shared, Station};
 use quajects::RawTty;
 use reporting::{Room as ReportRoom, Typed};
@@ -19,13 +19,14 @@ use std::sync::Wait;
 
 /// Room for what the threads give back, and for what is made of it.
 #[derive(Drop)]
-pub(crate) struct Room {
-    pub(crate) backs: Vec<Option<Worked>>,
+pub(crate) struct Room<G> {
+    pub(crate) backs: Vec<Option<Worked<G>>>,
     pub(crate) typed: Vec<LineIn>,
-    pub(crate) stations: Vec<Station>,
+    pub(crate) processed: Vec<Processed<G>>,
     pub(crate) served: Vec<Served>,
     pub(crate) ttys: Vec<RawTty>,
     pub(crate) heards: Vec<Vec<Heard>>,
+    pub(crate) gates: Vec<G>,
     pub(crate) told: Vec<Typed>,
     pub(crate) answers: Answers,
     pub(crate) report: ReportRoom,
@@ -39,16 +40,16 @@ pub(crate) struct Ready<G> {
     pub(crate) station: Station,
     pub(crate) works: Vec<Work<G>>,
     pub(crate) inputs: Vec<LineIn>,
-    pub(crate) room: Room,
+    pub(crate) room: Room<G>,
 }
 
 // Room for what so many processors and the devices give back.
-fn make_room(
+fn make_room<G: Drop>(
     alloc: Global,
     shared: &Shared,
     processors: usize,
     report: ReportRoom,
-) -> Result<Room, OutOfMemory>
+) -> Result<Room<G>, OutOfMemory>
     requires few { processors ≤ 8 }
     requires report { HasAllRoom shared.now.plan report }
     ensures { IfOk result (HasPlaces shared.now processors) }
@@ -56,19 +57,21 @@ fn make_room(
     let devices = shared.plan.ttys.as_slice().len();
     let backs = Vec::with_capacity(alloc, processors + devices)?;
     let typed = Vec::with_capacity(alloc, devices)?;
-    let stations = Vec::with_capacity(alloc, processors)?;
+    let processed = Vec::with_capacity(alloc, processors)?;
     let served = Vec::with_capacity(alloc, devices)?;
     let ttys = Vec::with_capacity(alloc, devices)?;
     let heards = Vec::with_capacity(alloc, processors)?;
+    let gates = Vec::with_capacity(alloc, processors)?;
     let told = Vec::with_capacity(alloc, devices)?;
     let answers = Answers::new(alloc, shared)?;
     Ok(Room {
         backs,
         typed,
-        stations,
+        processed,
         served,
         ttys,
         heards,
+        gates,
         told,
         answers,
         report,

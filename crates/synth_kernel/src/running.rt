@@ -18,9 +18,9 @@ use std::thread::Threads;
 /// What a boot has when its threads have stopped: all objects, what the threads gave back, and room for what is made of
 /// it.
 #[derive(Drop)]
-pub(crate) struct Stopped {
+pub(crate) struct Stopped<G> {
     pub(crate) shared: Shared,
-    pub(crate) gathered: Gathered,
+    pub(crate) gathered: Gathered<G>,
     pub(crate) answers: Answers,
     pub(crate) report: ReportRoom,
 }
@@ -34,7 +34,7 @@ pub(crate) fn run_threads<R, G>(
     alloc: Global,
     ready: Ready<G>,
     processors: usize,
-) -> Result<Stopped, OutOfMemory>
+) -> Result<Stopped<G>, OutOfMemory>
 where
     R: Threads + Wait + Sync,
     G: Gate + Send + Drop,
@@ -52,10 +52,11 @@ where
     let Room {
         backs,
         typed,
-        stations,
+        processed,
         served,
         ttys,
         heards,
+        gates,
         told,
         answers,
         report,
@@ -64,10 +65,11 @@ where
         rt, &shared, works, processors, handles, backs, inputs, typed,
     );
     let lists = Lists {
-        stations,
+        processed,
         served,
         ttys,
         heards,
+        gates,
         told,
     };
     match gather(&shared, station, backs, inputs, lists) {

@@ -10,9 +10,12 @@ use std::alloc::AllocError;
 const LOOKS: u32 = 10_000_000;
 
 /// Counts in one cell how often its processor is at one point, and holds it at another until so many are counted in
-/// another cell. It gives up after many looks, and tells that.
+/// another cell. It gives up after many looks, and tells that. It counts its turns, where each has the next number and is
+/// its processor's.
 #[derive(Drop)]
 struct Hold<'a> {
+    p: u8,
+    turns: u32,
     counted: Point,
     count: &'a AtomicCell<u32>,
     held: Point,
@@ -36,7 +39,10 @@ fn may_go_on(awaited: &AtomicCell<u32>, number: u32) -> bool {
 impl Gate for Hold<'_> {
     ghost told = { λ old p point new. Unit {0} };
 
-    fn between(&mut self, _p: u8, point: Point) {
+    fn between(&mut self, p: u8, point: Point) {
+        if p == self.p && point == Point::Turn(self.turns) {
+            self.turns = self.turns.wrapping_add(1);
+        }
         if point == self.counted {
             self.count.fetch_add(1);
         }
@@ -46,7 +52,20 @@ impl Gate for Hold<'_> {
     }
 }
 
-/// Boots a script with a gate for each processor, and gives the answer and what is printed.
+/// Whether these are the gates of so many processors, from 0 on, and each was told of so many turns.
+fn were_told(gates: &[Hold<'_>], processors: u8, turns: u32) -> bool {
+    let mut p = 0u8;
+    for gate in gates {
+        if gate.p != p || gate.turns != turns {
+            return false;
+        }
+        p = p.wrapping_add(1);
+    }
+    p == processors
+}
+
+/// Boots a script with a gate for each processor, and gives the answer and what is printed. Where the boot answers Ok the
+/// gates come back, each told of its turns.
 fn boot_held<R: Threads + Wait + Sync + Abort>(
     rt: &R,
     alloc: Global,
@@ -61,8 +80,13 @@ fn boot_held<R: Threads + Wait + Sync + Abort>(
     let mut reader = script.as_bytes();
     let mut output = Vec::new(alloc);
     let (input, printed) = (&mut reader, &mut output);
-    let answer = boot_on_with(rt, alloc, input, printed, processors, turns, gates);
-    (answer, output)
+    match boot_on_with(rt, alloc, input, printed, processors, turns, gates) {
+        Ok(Booted { ended, gates }) => {
+            assert!(rt; were_told(gates.as_slice(), processors, turns));
+            (Ok(ended), output)
+        }
+        Err(fault) => (Err(fault), output),
+    }
 }
 
 /// The gates of two processors, of which the second is held until the first is at one point, and the first is held there
@@ -76,6 +100,8 @@ fn pair<'a>(
 ) -> Result<Vec<Hold<'a>>, AllocError> {
     let mut gates = Vec::with_capacity(alloc, 2)?;
     gates.push(Hold {
+        p: 0,
+        turns: 0,
         counted: points.0,
         count: one,
         held: points.0,
@@ -84,6 +110,8 @@ fn pair<'a>(
         given_up,
     })?;
     gates.push(Hold {
+        p: 1,
+        turns: 0,
         counted: points.1,
         count: other,
         held: Point::Turn(0),
@@ -179,8 +207,10 @@ fn meeting<'a>(
     given_up: &'a AtomicCell<bool>,
 ) -> Result<Vec<Hold<'a>>, AllocError> {
     let mut gates = Vec::new(alloc);
-    for _ in 0..processors {
+    for p in 0..processors {
         gates.push(Hold {
+            p,
+            turns: 0,
             counted: Point::Turn(0),
             count,
             held: Point::Turn(0),

@@ -8,7 +8,7 @@ use Rattle.kernel_threads.proofs.Reunion.{came_together}
 use Rattle.kernel_threads.proofs.laws.stations_come_together.Goals as goal
 
 pub returns : goal.returns
-returns g c = λ shared turns gates old new last posts works devices backs stations posted serving gave are joined none free.
-    came_together g.G.Gate.told shared turns gates old new last posts stations posted
-    (subst (λ (z : List (Option Worked)). AllZip (GaveBack (HasWorked g.G.Gate.told) shared) posts z) are (posts_first (GaveBack (HasWorked g.G.Gate.told) shared) shared.plan.ttys devices posts works backs serving gave))
+returns g c = λ shared turns gates old new last posts works devices backs came posted serving gave are joined none free.
+    came_together g.G.Gate.told shared turns gates old new last posts came posted
+    (subst (λ (z : List (Option (Worked g.row.G.Denot))). AllZip (GaveBack (HasWorked g.G.Gate.told) shared) posts z) are (posts_first (GaveBack (HasWorked g.G.Gate.told) shared) shared.plan.ttys devices posts works backs serving gave))
     joined none free

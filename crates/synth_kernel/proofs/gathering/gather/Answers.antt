@@ -1,8 +1,8 @@
 use Rattle.std.proofs.Common.{List, map, flat_map, length, sym, ap, subst, ◌∙◌, arith}
 use Rattle.std.specs.List.{All, AllZip}
 use Rattle.end_steps.specs.Splits.{AllThree}
-use Rattle.kernel_threads.specs.Backs.{parts_of}
-use Rattle.processor.specs.declared.station.Station.{Station}
+use Rattle.kernel_threads.specs.declared.work.Processed.{Processed}
+use Rattle.kernel_threads.specs.Backs.{parts_of, gate_of}
 use Rattle.processor.specs.Partings.{AllJoined}
 use Rattle.processor.specs.Stations.{ArePartsOf}
 use Rattle.processor.specs.Turns.{heard_lines}
@@ -13,8 +13,8 @@ use Rattle.synth_kernel.specs.Gatherings.{tty_of, IsTold}
 use Rattle.synth_kernel.proofs.gathering.gather.Goals as goal
 
 pub finish_all-ttys-requires : goal.finish_all-ttys-requires
-finish_all-ttys-requires c =
-    let s = c.in_ok-stations.ensures.sorted in let long = ap length s.1 in let room = c.requires.room in
+finish_all-ttys-requires g c =
+    let s = c.in_ok-processed.ensures.sorted in let long = ap length s.1 in let room = c.requires.room in
     record {
       lines = subst (λ (z : List Served). AllZip (λ (one : Served) (input : LineIn). IsLine input one.line) z c.args.inputs.items) (sym s.1) (c.requires.lines s.2);
       ttys = (room.ttys.0, let n = room.ttys.1 in omega arith);
@@ -22,22 +22,24 @@ finish_all-ttys-requires c =
     }
 
 pub join_stations-station-requires : goal.join_stations-station-requires
-join_stations-station-requires c =
-    let s = c.in_ok-stations.ensures.sorted in let long = ap length s.0 in let room = c.requires.room.heards in
+join_stations-station-requires g c =
+    let s = c.in_ok-processed.ensures.sorted in let long = ap length s.0 in let room = c.requires.room.heards in let gates = c.requires.room.gates in
     record {
       first = c.requires.first;
-      stations = subst (λ (z : List Station). All (ArePartsOf c.args.shared.now) (map parts_of z)) (sym s.0) (c.requires.stations s.2);
+      stations = subst (λ (z : List (Processed g.row.G.Denot)). All (ArePartsOf c.args.shared.now) (map parts_of z)) (sym s.0) (c.requires.stations s.2);
       room = (room.0, let n = room.1 in omega arith);
+      gates = (gates.0, let n = gates.1 in omega arith);
     }
 
 pub returns-clause-gathered : goal.returns-clause-gathered
-returns-clause-gathered c =
-    let s = c.in_ok-stations.ensures.sorted in let j = c.join_stations-station.ensures in
+returns-clause-gathered g c =
+    let s = c.in_ok-processed.ensures.sorted in let j = c.join_stations-station.ensures in
     record {
       all = s.2;
       parts = j.parts;
-      joined = subst (λ (z : List Station). AllJoined c.args.first.parts (map parts_of z) c.join_stations-station.result.0.parts) s.0 j.joined;
-      heard = j.heard ∙ ap (λ (z : List Station). flat_map heard_lines (map parts_of z)) s.0;
+      joined = subst (λ (z : List (Processed g.row.G.Denot)). AllJoined c.args.first.parts (map parts_of z) c.join_stations-station.result.0.parts) s.0 j.joined;
+      heard = j.heard ∙ ap (λ (z : List (Processed g.row.G.Denot)). flat_map heard_lines (map parts_of z)) s.0;
+      gates = j.gates ∙ ap (λ (z : List (Processed g.row.G.Denot)). map gate_of z) s.0;
       ttys = c.finish_all-ttys.ensures.ttys ∙ ap (map tty_of) s.1;
       told = subst (λ (z : List Served). AllThree IsTold z c.args.inputs.items c.finish_all-ttys.result.1.items) s.1 c.finish_all-ttys.ensures.told;
     }

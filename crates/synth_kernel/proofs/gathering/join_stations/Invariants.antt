@@ -1,18 +1,20 @@
 use Rattle.std.proofs.Common.{◌≡◌, ◌≤◌, ◌+◌, ◌++◌, map, flat_map, vec_len, vec_capacity, length}
 use Rattle.std.specs.Vec.Iter.{into_iter_items, into_iter_len}
 use Rattle.processor.specs.Stations.{ArePartsOf}
-use Rattle.kernel_threads.specs.Backs.{parts_of}
+use Rattle.kernel_threads.specs.Backs.{parts_of, gate_of}
 use Rattle.processor.specs.Turns.{heard_lines}
 use Rattle.processor.specs.Partings.{AllJoined}
 use Rattle.reporting.specs.Reported.{lines_of}
 use Rattle.synth_kernel.proofs.gathering.join_stations.Given as goal
 
-abbrev pub invariant-loop-station : goal.invariant-loop-station
-invariant-loop-station l = record {
+abbrev pub invariant-loop-one : goal.invariant-loop-one
+invariant-loop-one g l = record {
   first : ArePartsOf l.shared l.first.parts;
   joined : AllJoined l.fn.first.parts (map parts_of l.yielded) l.first.parts;
   heard : flat_map lines_of l.heards.items ≡ flat_map heard_lines (map parts_of l.yielded);
-  room : vec_len l.heards + into_iter_len l.station-iterator ≤ vec_capacity l.heards;
-  parts : l.yielded ++ into_iter_items l.station-iterator ≡ l.fn.stations.items;
-  left : into_iter_len l.station-iterator ≡ length (into_iter_items l.station-iterator);
+  gates : l.gates.items ≡ map gate_of l.yielded;
+  room : vec_len l.heards + into_iter_len l.one-iterator ≤ vec_capacity l.heards;
+  gate_room : vec_len l.gates + into_iter_len l.one-iterator ≤ vec_capacity l.gates;
+  parts : l.yielded ++ into_iter_items l.one-iterator ≡ l.fn.processed.items;
+  left : into_iter_len l.one-iterator ≡ length (into_iter_items l.one-iterator);
 }

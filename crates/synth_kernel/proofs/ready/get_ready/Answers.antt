@@ -11,6 +11,10 @@ post_all-requires-clause-split g c = let m = c.in_ok-shared.ensures in let o = c
     can_split_eight o.shared.plan o.shared.threads o.shared.meters o.station.parts c.prepare_station-station.result.parts
     m.hand m.seat m.splits.0 m.splits.1 m.splits.2 c.prepare_station-station.ensures.prepared
 
+pub post_all-requires-clause-free : goal.post_all-requires-clause-free
+post_all-requires-clause-free g c = let m = c.in_ok-shared.ensures in let o = c.in_ok-shared.field-0 in
+    (all_free o.shared.plan o.shared.threads o.station.parts c.prepare_station-station.result.parts m.hand c.prepare_station-station.ensures.prepared).1
+
 pub add_devices-works-requires-clause-room : goal.add_devices-works-requires-clause-room
 add_devices-works-requires-clause-room g c =
     let o = c.in_ok-shared.field-0 in

@@ -24,10 +24,11 @@ gather-requires g c =
       stations = λ all. parts_sorted g.G.Gate.told o.shared.plan c.requires.ready.0 c.requires.ready.1 o r backs inputs worked typed all;
       lines = λ all. lines_sorted g.G.Gate.told o.shared.plan c.requires.ready.0 c.requires.ready.1 o r backs inputs worked typed all;
       room = record {
-        stations = (r.room.stations.0, let n = r.room.stations.1 in let f = few.0 in omega arith);
+        processed = (r.room.processed.0, let n = r.room.processed.1 in let f = few.0 in omega arith);
         served = (r.room.served.0, let n = r.room.served.1 in let f = few.1 in omega arith);
         ttys = (r.room.ttys.0, let n = r.room.ttys.1 in let f = few.1 in omega arith);
         heards = (r.room.heards.0, let n = r.room.heards.1 in let f = few.0 in omega arith);
+        gates = (r.room.gates.0, let n = r.room.gates.1 in let f = few.0 in omega arith);
         told = (r.room.told.0, let n = r.room.told.1 in let f = few.1 in omega arith);
       };
     }

@@ -1,0 +1,19 @@
+use Rattle.std.proofs.Common.{◌∷◌, [], length, length-append, Some, ap, arith}
+use Rattle.synth_kernel.specs.Gatherings.{processed_in, served_in}
+use Rattle.synth_kernel.proofs.gathering.sort_back.Goals as goal
+
+pub push_reserved-requires : goal.push_reserved-requires
+push_reserved-requires g c =
+    let room = c.requires.processed in
+    let long = length-append c.args.processed.now.items (processed_in (Some c.args.back ∷ [])) in
+    let one = ap (λ z. length (processed_in (Some z ∷ []))) c.in-Processed.is in
+    let len = c.args.processed.now.ok.0 in
+    omega arith
+
+pub push_reserved-requires-in-Served : goal.push_reserved-requires-in-Served
+push_reserved-requires-in-Served g c =
+    let room = c.requires.served in
+    let long = length-append c.args.served.now.items (served_in (Some c.args.back ∷ [])) in
+    let one = ap (λ z. length (served_in (Some z ∷ []))) c.in-Served.is in
+    let len = c.args.served.now.ok.0 in
+    omega arith

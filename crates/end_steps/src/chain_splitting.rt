@@ -5,6 +5,7 @@ ghost use Rattle.proc_chain.specs.Handles.{turn_of, IsEndOf};
 ghost use Rattle.end_steps.specs.EndLists.{AreChainEndsOf, AreSameChainEnds, IsChainDivisible};
 ghost use Rattle.end_steps.specs.Splits.{AreChainsSplit, AreChainsJoined};
 
+use crate::items::item_at;
 use event_theory::OutOfMemory;
 use proc_chain::{ChainEnd, ProcChain};
 use quajects::AnyQuaject;
@@ -17,20 +18,20 @@ use std::alloc::Global;
 /// chain's 2^64 - 1.
 pub fn split_chain_ends_into(
     chains: &[ProcChain<AnyQuaject>],
-    ends: &mut Vec<ChainEnd<AnyQuaject>>,
+    ends: &mut [ChainEnd<AnyQuaject>],
     born: Vec<ChainEnd<AnyQuaject>>,
 ) -> Vec<ChainEnd<AnyQuaject>>
-    requires ends { AreChainEndsOf chains.now ends.old.items }
-    requires parts { All IsChainDivisible ends.old.items }
+    requires ends { AreChainEndsOf chains.now ends.old }
+    requires parts { All IsChainDivisible ends.old }
     requires room { (born.items ≡ []) × (length chains.now ≤ vec_capacity born) }
-    ensures same { AreSameChainEnds ends.old.items ends.new.items }
-    ensures ends { AreChainEndsOf chains.now ends.new.items }
+    ensures same { AreSameChainEnds ends.old ends.new }
+    ensures ends { AreChainEndsOf chains.now ends.new }
     ensures born { AreChainEndsOf chains.now result.items }
-    ensures split { AreChainsSplit ends.old.items ends.new.items result.items }
+    ensures split { AreChainsSplit ends.old ends.new result.items }
 {
     let mut born = born;
     for i in 0..chains.len() {
-        let end = chains[i].split(&mut ends[i]);
+        let end = chains[i].split(item_at(ends, i));
         born.push_reserved(end);
     }
     born
@@ -41,15 +42,15 @@ pub fn split_chain_ends_into(
 pub fn split_chain_ends(
     alloc: Global,
     chains: &[ProcChain<AnyQuaject>],
-    ends: &mut Vec<ChainEnd<AnyQuaject>>,
+    ends: &mut [ChainEnd<AnyQuaject>],
 ) -> Result<Vec<ChainEnd<AnyQuaject>>, OutOfMemory>
-    requires ends { AreChainEndsOf chains.now ends.old.items }
-    requires parts { All IsChainDivisible ends.old.items }
-    ensures same { AreSameChainEnds ends.old.items ends.new.items }
-    ensures ends { AreChainEndsOf chains.now ends.new.items }
+    requires ends { AreChainEndsOf chains.now ends.old }
+    requires parts { All IsChainDivisible ends.old }
+    ensures same { AreSameChainEnds ends.old ends.new }
+    ensures ends { AreChainEndsOf chains.now ends.new }
     ensures born { IfOk result (λ born. AreChainEndsOf chains.now born.items) }
-    ensures split { IfOk result (λ born. AreChainsSplit ends.old.items ends.new.items born.items) }
-    ensures refused { IfErr result (λ e. ends.new.items ≡ ends.old.items) }
+    ensures split { IfOk result (λ born. AreChainsSplit ends.old ends.new born.items) }
+    ensures refused { IfErr result (λ e. ends.new ≡ ends.old) }
 {
     let born = Vec::with_capacity(alloc, chains.len())?;
     Ok(split_chain_ends_into(chains, ends, born))
@@ -61,18 +62,18 @@ pub fn split_chain_ends(
 /// Condition: both lists are ends of the chains, in their order, without a Turn.
 pub fn join_chain_ends(
     chains: &[ProcChain<AnyQuaject>],
-    ends: &mut Vec<ChainEnd<AnyQuaject>>,
+    ends: &mut [ChainEnd<AnyQuaject>],
     others: Vec<ChainEnd<AnyQuaject>>,
 )
-    requires ends { AreChainEndsOf chains.now ends.old.items }
+    requires ends { AreChainEndsOf chains.now ends.old }
     requires others { AreChainEndsOf chains.now others.items }
-    ensures same { AreSameChainEnds ends.old.items ends.new.items }
-    ensures ends { AreChainEndsOf chains.now ends.new.items }
-    ensures joined { AreChainsJoined ends.old.items others.items ends.new.items }
+    ensures same { AreSameChainEnds ends.old ends.new }
+    ensures ends { AreChainEndsOf chains.now ends.new }
+    ensures joined { AreChainsJoined ends.old others.items ends.new }
 {
     let mut i = 0usize;
     for other in others {
-        chains[i].join(&mut ends[i], other);
+        chains[i].join(item_at(ends, i), other);
         i += 1;
     }
 }

@@ -7,6 +7,7 @@ ghost use Rattle.end_steps.specs.EndLists.{AreEndsOf, AreSameEnds, OnEnd, only_a
 ghost use Rattle.end_steps.specs.Sums.{EndWorked, Worked, line_if, once_if, no_lines, never};
 
 use crate::gate::{Gate, Point};
+use crate::items::item_at;
 use arrayvec::ArrayVec;
 use claim_queue::{ClaimQueue, QueueEnd, TakeRefusal};
 
@@ -40,24 +41,23 @@ fn hear_line<const N: usize, G: Gate>(
 /// Conditions: the ends are those of the queues, in their order, the index is one of theirs, and the list is empty.
 pub fn hear<const N: usize, G: Gate>(
     queues: &[ClaimQueue<N>],
-    ends: &mut Vec<QueueEnd<N>>,
+    ends: &mut [QueueEnd<N>],
     index: usize,
     line: &mut ArrayVec<u64, N>,
     p: u8,
     gate: &mut G,
 ) -> Result<(), TakeRefusal>
-    requires ends { AreEndsOf queues.now ends.old.items }
+    requires ends { AreEndsOf queues.now ends.old }
     requires known { index < length queues.now }
     requires empty { line.old.items ≡ [] }
-    ensures same { AreSameEnds ends.old.items ends.new.items }
-    ensures ends { AreEndsOf queues.now ends.new.items }
-    ensures heard { OnEnd index (Heard line.new.items result) ends.old.items ends.new.items }
-    ensures worked { Worked no_lines (only_at index (line_if result line.new.items)) never ends.old.items
-        ends.new.items }
+    ensures same { AreSameEnds ends.old ends.new }
+    ensures ends { AreEndsOf queues.now ends.new }
+    ensures heard { OnEnd index (Heard line.new.items result) ends.old ends.new }
+    ensures worked { Worked no_lines (only_at index (line_if result line.new.items)) never ends.old ends.new }
     ensures gate { G.told gate.old p TakeAnswered gate.new }
     ensures long { IfOk result (λ done. (0 < length line.new.items) × (length line.new.items ≤ N)) }
 {
-    hear_line(&queues[index], &mut ends[index], line, p, gate)
+    hear_line(&queues[index], item_at(ends, index), line, p, gate)
 }
 
 // Shuts the queue at this end.
@@ -76,15 +76,15 @@ fn shut_end<const N: usize>(queue: &ClaimQueue<N>, end: &mut QueueEnd<N>) -> boo
 /// Conditions: the ends are those of the queues, in their order, and the index is one of theirs.
 pub fn shut_queue<const N: usize>(
     queues: &[ClaimQueue<N>],
-    ends: &mut Vec<QueueEnd<N>>,
+    ends: &mut [QueueEnd<N>],
     index: usize,
 ) -> bool
-    requires ends { AreEndsOf queues.now ends.old.items }
+    requires ends { AreEndsOf queues.now ends.old }
     requires known { index < length queues.now }
-    ensures same { AreSameEnds ends.old.items ends.new.items }
-    ensures ends { AreEndsOf queues.now ends.new.items }
-    ensures shut { OnEnd index (HasShut result) ends.old.items ends.new.items }
-    ensures worked { Worked no_lines no_lines (number_at index (once_if result)) ends.old.items ends.new.items }
+    ensures same { AreSameEnds ends.old ends.new }
+    ensures ends { AreEndsOf queues.now ends.new }
+    ensures shut { OnEnd index (HasShut result) ends.old ends.new }
+    ensures worked { Worked no_lines no_lines (number_at index (once_if result)) ends.old ends.new }
 {
-    shut_end(&queues[index], &mut ends[index])
+    shut_end(&queues[index], item_at(ends, index))
 }

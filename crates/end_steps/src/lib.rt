@@ -5,6 +5,7 @@
 mod chain_splitting;
 mod gate;
 mod hearing;
+mod items;
 mod poking;
 mod saying;
 mod splitting;

@@ -8,6 +8,7 @@ ghost use Rattle.end_steps.specs.EndLists.{number_at};
 ghost use Rattle.end_steps.specs.Sums.{ChainEndWorked, ChainsWorked, note_if, notes_run};
 
 use crate::gate::{Gate, Point};
+use crate::items::item_at;
 use proc_chain::{ChainEnd, ChainRefusal, Chained, ProcChain};
 use quajects::{AnyQuaject, Queues};
 use std::sync::Wait;
@@ -66,20 +67,20 @@ pub fn poke<R: Wait, G: Gate>(
     rt: &R,
     world: &Queues,
     chains: &[ProcChain<AnyQuaject>],
-    ends: &mut Vec<ChainEnd<AnyQuaject>>,
+    ends: &mut [ChainEnd<AnyQuaject>],
     index: usize,
     p: u8,
     gate: &mut G,
 ) -> Result<Poked, ChainRefusal>
-    requires ends { AreChainEndsOf chains.now ends.old.items }
+    requires ends { AreChainEndsOf chains.now ends.old }
     requires known { index < length chains.now }
     requires world { AreChainsOver world.now chains.now }
-    ensures same { AreSameChainEnds ends.old.items ends.new.items }
-    ensures ends { AreChainEndsOf chains.now ends.new.items }
-    ensures poked { PokedAt chains.now index 0 result ends.old.items ends.new.items }
+    ensures same { AreSameChainEnds ends.old ends.new }
+    ensures ends { AreChainEndsOf chains.now ends.new }
+    ensures poked { PokedAt chains.now index 0 result ends.old ends.new }
     ensures worked { ChainsWorked (only_at index (note_if result 0)) (number_at index (notes_run result))
-        ends.old.items ends.new.items }
+        ends.old ends.new }
     ensures gate { G.told gate.old p points.Chained gate.new }
 {
-    poke_end(rt, world, &chains[index], &mut ends[index], p, gate)
+    poke_end(rt, world, &chains[index], item_at(ends, index), p, gate)
 }

@@ -9,6 +9,7 @@ ghost use Rattle.end_steps.specs.Gates.{ToldOfSay};
 ghost use Rattle.end_steps.specs.Sums.{EndWorked, Worked, line_if, no_lines, never};
 
 use crate::gate::{Gate, Point};
+use crate::items::item_at;
 use claim_queue::{Claim, ClaimQueue, ClaimRefusal, QueueEnd};
 
 // Raises all items of a run that was just claimed.
@@ -16,8 +17,7 @@ fn raise_all<const N: usize>(queue: &ClaimQueue<N>, end: &mut QueueEnd<N>, claim
     requires queue { IsEndOf queue.now end.old }
     requires own { Owns (view_of end.old) claim.start claim.items.items 0 × (claim.raised ≡ 0) }
     ensures queue { IsSameEnd end.old end.new }
-    ensures own { Owns (view_of end.new) claim.entry.start claim.entry.items.items
-        (length claim.entry.items.items) }
+    ensures own { Owns (view_of end.new) claim.entry.start claim.entry.items.items (length claim.entry.items.items) }
     ensures raised { RaisedFrom N (call_of end.old) claim.entry.start claim.entry.items.items (view_of end.old)
         (view_of end.new) (length claim.entry.items.items) }
 {
@@ -59,19 +59,19 @@ fn say_line<const N: usize, G: Gate>(
 /// Conditions: the ends are those of the queues, in their order, and the index is one of theirs.
 pub fn say<const N: usize, G: Gate>(
     queues: &[ClaimQueue<N>],
-    ends: &mut Vec<QueueEnd<N>>,
+    ends: &mut [QueueEnd<N>],
     index: usize,
     line: &[u64],
     p: u8,
     gate: &mut G,
 ) -> Result<(), ClaimRefusal>
-    requires ends { AreEndsOf queues.now ends.old.items }
+    requires ends { AreEndsOf queues.now ends.old }
     requires known { index < length queues.now }
-    ensures same { AreSameEnds ends.old.items ends.new.items }
-    ensures ends { AreEndsOf queues.now ends.new.items }
-    ensures said { OnEnd index (Said line.now result) ends.old.items ends.new.items }
-    ensures worked { Worked (only_at index (line_if result line.now)) no_lines never ends.old.items ends.new.items }
+    ensures same { AreSameEnds ends.old ends.new }
+    ensures ends { AreEndsOf queues.now ends.new }
+    ensures said { OnEnd index (Said line.now result) ends.old ends.new }
+    ensures worked { Worked (only_at index (line_if result line.now)) no_lines never ends.old ends.new }
     ensures gate { ToldOfSay G.told p result gate.old gate.new }
 {
-    say_line(&queues[index], &mut ends[index], line, p, gate)
+    say_line(&queues[index], item_at(ends, index), line, p, gate)
 }

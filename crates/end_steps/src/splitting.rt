@@ -4,6 +4,7 @@ ghost use Rattle.std.specs.List.{All};
 ghost use Rattle.end_steps.specs.EndLists.{AreEndsOf, AreSameEnds, IsDivisible};
 ghost use Rattle.end_steps.specs.Splits.{AreSplit, AreJoined};
 
+use crate::items::item_at;
 use claim_queue::{ClaimQueue, QueueEnd};
 use event_theory::OutOfMemory;
 use std::alloc::Global;
@@ -15,20 +16,20 @@ use std::alloc::Global;
 /// 2^64 - 1.
 pub fn split_ends_into<const N: usize>(
     queues: &[ClaimQueue<N>],
-    ends: &mut Vec<QueueEnd<N>>,
+    ends: &mut [QueueEnd<N>],
     born: Vec<QueueEnd<N>>,
 ) -> Vec<QueueEnd<N>>
-    requires ends { AreEndsOf queues.now ends.old.items }
-    requires parts { All IsDivisible ends.old.items }
+    requires ends { AreEndsOf queues.now ends.old }
+    requires parts { All IsDivisible ends.old }
     requires room { (born.items ≡ []) × (length queues.now ≤ vec_capacity born) }
-    ensures same { AreSameEnds ends.old.items ends.new.items }
-    ensures ends { AreEndsOf queues.now ends.new.items }
+    ensures same { AreSameEnds ends.old ends.new }
+    ensures ends { AreEndsOf queues.now ends.new }
     ensures born { AreEndsOf queues.now result.items }
-    ensures split { AreSplit ends.old.items ends.new.items result.items }
+    ensures split { AreSplit ends.old ends.new result.items }
 {
     let mut born = born;
     for i in 0..queues.len() {
-        let end = queues[i].split(&mut ends[i]);
+        let end = queues[i].split(item_at(ends, i));
         born.push_reserved(end);
     }
     born
@@ -39,15 +40,15 @@ pub fn split_ends_into<const N: usize>(
 pub fn split_ends<const N: usize>(
     alloc: Global,
     queues: &[ClaimQueue<N>],
-    ends: &mut Vec<QueueEnd<N>>,
+    ends: &mut [QueueEnd<N>],
 ) -> Result<Vec<QueueEnd<N>>, OutOfMemory>
-    requires ends { AreEndsOf queues.now ends.old.items }
-    requires parts { All IsDivisible ends.old.items }
-    ensures same { AreSameEnds ends.old.items ends.new.items }
-    ensures ends { AreEndsOf queues.now ends.new.items }
+    requires ends { AreEndsOf queues.now ends.old }
+    requires parts { All IsDivisible ends.old }
+    ensures same { AreSameEnds ends.old ends.new }
+    ensures ends { AreEndsOf queues.now ends.new }
     ensures born { IfOk result (λ born. AreEndsOf queues.now born.items) }
-    ensures split { IfOk result (λ born. AreSplit ends.old.items ends.new.items born.items) }
-    ensures refused { IfErr result (λ e. ends.new.items ≡ ends.old.items) }
+    ensures split { IfOk result (λ born. AreSplit ends.old ends.new born.items) }
+    ensures refused { IfErr result (λ e. ends.new ≡ ends.old) }
 {
     let born = Vec::with_capacity(alloc, queues.len())?;
     Ok(split_ends_into(queues, ends, born))
@@ -59,18 +60,18 @@ pub fn split_ends<const N: usize>(
 /// Condition: both lists are ends of the queues, in their order.
 pub fn join_ends<const N: usize>(
     queues: &[ClaimQueue<N>],
-    ends: &mut Vec<QueueEnd<N>>,
+    ends: &mut [QueueEnd<N>],
     others: Vec<QueueEnd<N>>,
 )
-    requires ends { AreEndsOf queues.now ends.old.items }
+    requires ends { AreEndsOf queues.now ends.old }
     requires others { AreEndsOf queues.now others.items }
-    ensures same { AreSameEnds ends.old.items ends.new.items }
-    ensures ends { AreEndsOf queues.now ends.new.items }
-    ensures joined { AreJoined ends.old.items others.entry.items ends.new.items }
+    ensures same { AreSameEnds ends.old ends.new }
+    ensures ends { AreEndsOf queues.now ends.new }
+    ensures joined { AreJoined ends.old others.entry.items ends.new }
 {
     let mut i = 0usize;
     for other in others {
-        queues[i].join(&mut ends[i], other);
+        queues[i].join(item_at(ends, i), other);
         i += 1;
     }
 }

@@ -4,16 +4,16 @@ use Rattle.end_steps.proofs.Using.{its_end, ends_same, ends_fit, used_at, taken_
 use Rattle.end_steps.proofs.hearing.hear.Goals as goal
 
 pub hear_line-requires : goal.hear_line-requires
-hear_line-requires g c = (search rules, (search rules, (search rules, (its_end c.args.queues.now c.args.ends.now.items c.args.index _ _ c.requires.ends c.requires.known c.index_mut.ensures.value c.index-queues-index.is, c.requires.empty))))
+hear_line-requires g c = (search rules, (search rules, (search rules, (its_end c.args.queues.now c.args.ends.now c.args.index _ _ c.requires.ends c.requires.known c.item_at.ensures.value c.index-queues-index.is, c.requires.empty))))
 
 pub returns-clause-same : goal.returns-clause-same
-returns-clause-same g c = ends_same c.args.queues.now c.args.ends.now.items c.args.index _ _ c.requires.ends c.index_mut.ensures.value c.hear_line.ensures.same
+returns-clause-same g c = ends_same c.args.queues.now c.args.ends.now c.args.index _ _ c.requires.ends c.item_at.ensures.value c.hear_line.ensures.same
 
 pub returns-clause-ends : goal.returns-clause-ends
-returns-clause-ends g c = ends_fit c.args.queues.now c.args.ends.now.items c.args.index _ _ c.requires.ends c.index_mut.ensures.value c.hear_line.ensures.same
+returns-clause-ends g c = ends_fit c.args.queues.now c.args.ends.now c.args.index _ _ c.requires.ends c.item_at.ensures.value c.hear_line.ensures.same
 
 pub returns-clause-heard : goal.returns-clause-heard
-returns-clause-heard g c = used_at c.args.queues.now c.args.ends.now.items c.args.index _ _ c.requires.ends c.index_mut.ensures.value (Heard c.hear_line.new.line.items c.hear_line.result) c.requires.known c.hear_line.ensures.heard
+returns-clause-heard g c = used_at c.args.queues.now c.args.ends.now c.args.index _ _ c.requires.ends c.item_at.ensures.value (Heard c.hear_line.new.line.items c.hear_line.result) c.requires.known c.hear_line.ensures.heard
 
 pub returns-clause-worked : goal.returns-clause-worked
-returns-clause-worked g c = taken_at c.args.queues.now c.args.ends.now.items c.args.index _ _ c.requires.ends c.index_mut.ensures.value _ c.requires.known c.hear_line.ensures.worked
+returns-clause-worked g c = taken_at c.args.queues.now c.args.ends.now c.args.index _ _ c.requires.ends c.item_at.ensures.value _ c.requires.known c.hear_line.ensures.worked

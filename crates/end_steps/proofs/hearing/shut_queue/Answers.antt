@@ -4,16 +4,16 @@ use Rattle.end_steps.proofs.Using.{its_end, ends_same, ends_fit, used_at, shut_a
 use Rattle.end_steps.proofs.hearing.shut_queue.Goals as goal
 
 pub shut_end-requires : goal.shut_end-requires
-shut_end-requires g c = (omega arith, (omega arith, its_end c.args.queues.now c.args.ends.now.items c.args.index _ _ c.requires.ends c.requires.known c.index_mut.ensures.value c.index-queues-index.is))
+shut_end-requires g c = (omega arith, (omega arith, its_end c.args.queues.now c.args.ends.now c.args.index _ _ c.requires.ends c.requires.known c.item_at.ensures.value c.index-queues-index.is))
 
 pub returns-clause-same : goal.returns-clause-same
-returns-clause-same g c = ends_same c.args.queues.now c.args.ends.now.items c.args.index _ _ c.requires.ends c.index_mut.ensures.value c.shut_end.ensures.same
+returns-clause-same g c = ends_same c.args.queues.now c.args.ends.now c.args.index _ _ c.requires.ends c.item_at.ensures.value c.shut_end.ensures.same
 
 pub returns-clause-ends : goal.returns-clause-ends
-returns-clause-ends g c = ends_fit c.args.queues.now c.args.ends.now.items c.args.index _ _ c.requires.ends c.index_mut.ensures.value c.shut_end.ensures.same
+returns-clause-ends g c = ends_fit c.args.queues.now c.args.ends.now c.args.index _ _ c.requires.ends c.item_at.ensures.value c.shut_end.ensures.same
 
 pub returns-clause-shut : goal.returns-clause-shut
-returns-clause-shut g c = used_at c.args.queues.now c.args.ends.now.items c.args.index _ _ c.requires.ends c.index_mut.ensures.value (HasShut c.shut_end.result) c.requires.known c.shut_end.ensures.shut
+returns-clause-shut g c = used_at c.args.queues.now c.args.ends.now c.args.index _ _ c.requires.ends c.item_at.ensures.value (HasShut c.shut_end.result) c.requires.known c.shut_end.ensures.shut
 
 pub returns-clause-worked : goal.returns-clause-worked
-returns-clause-worked g c = shut_at c.args.queues.now c.args.ends.now.items c.args.index _ _ c.requires.ends c.index_mut.ensures.value _ c.requires.known c.shut_end.ensures.worked
+returns-clause-worked g c = shut_at c.args.queues.now c.args.ends.now c.args.index _ _ c.requires.ends c.item_at.ensures.value _ c.requires.known c.shut_end.ensures.worked

@@ -2,22 +2,22 @@ use Rattle.end_steps.proofs.Chains.{its_world, is_idle, its_end, ends_same, ends
 use Rattle.end_steps.proofs.poking.poke.Goals as goal
 
 pub poke_end-requires-clause-end : goal.poke_end-requires-clause-end
-poke_end-requires-clause-end g c = its_end c.args.chains.now c.args.ends.now.items c.args.index _ _ c.requires.ends c.requires.known c.index_mut.ensures.value c.index-chains-index.is
+poke_end-requires-clause-end g c = its_end c.args.chains.now c.args.ends.now c.args.index _ _ c.requires.ends c.requires.known c.item_at.ensures.value c.index-chains-index.is
 
 pub poke_end-requires-clause-idle : goal.poke_end-requires-clause-idle
-poke_end-requires-clause-idle g c = is_idle c.args.chains.now c.args.ends.now.items c.args.index _ c.requires.ends c.requires.known c.index_mut.ensures.value
+poke_end-requires-clause-idle g c = is_idle c.args.chains.now c.args.ends.now c.args.index _ c.requires.ends c.requires.known c.item_at.ensures.value
 
 pub poke_end-requires-clause-world : goal.poke_end-requires-clause-world
 poke_end-requires-clause-world g c = its_world c.args.world.now c.args.chains.now c.args.index _ c.requires.world c.requires.known c.index-chains-index.is
 
 pub returns-clause-same : goal.returns-clause-same
-returns-clause-same g c = ends_same c.args.chains.now c.args.ends.now.items c.args.index _ _ c.requires.ends c.requires.known c.index_mut.ensures.value c.poke_end.ensures.same
+returns-clause-same g c = ends_same c.args.chains.now c.args.ends.now c.args.index _ _ c.requires.ends c.requires.known c.item_at.ensures.value c.poke_end.ensures.same
 
 pub returns-clause-ends : goal.returns-clause-ends
-returns-clause-ends g c = ends_fit c.args.chains.now c.args.ends.now.items c.args.index _ _ c.requires.ends c.requires.known c.index_mut.ensures.value c.poke_end.ensures.same c.poke_end.ensures.idle
+returns-clause-ends g c = ends_fit c.args.chains.now c.args.ends.now c.args.index _ _ c.requires.ends c.requires.known c.item_at.ensures.value c.poke_end.ensures.same c.poke_end.ensures.idle
 
 pub returns-clause-poked : goal.returns-clause-poked
-returns-clause-poked g c = poked_at c.args.chains.now c.args.ends.now.items c.args.index _ _ c.requires.ends c.requires.known c.index_mut.ensures.value _ _ _ c.index-chains-index.is c.poke_end.ensures.poked
+returns-clause-poked g c = poked_at c.args.chains.now c.args.ends.now c.args.index _ _ c.requires.ends c.requires.known c.item_at.ensures.value _ _ _ c.index-chains-index.is c.poke_end.ensures.poked
 
 pub returns-clause-worked : goal.returns-clause-worked
-returns-clause-worked g c = worked_at c.args.chains.now c.args.ends.now.items c.args.index _ _ c.requires.ends c.requires.known c.index_mut.ensures.value _ _ c.poke_end.ensures.worked
+returns-clause-worked g c = worked_at c.args.chains.now c.args.ends.now c.args.index _ _ c.requires.ends c.requires.known c.item_at.ensures.value _ _ c.poke_end.ensures.worked

@@ -11,12 +11,18 @@ use Rattle.event_theory.specs.Appearances.{is_on}
 use Rattle.event_theory.specs.Elements.{Elements, hold}
 use Rattle.event_theory.specs.declared.hold.Hold.{Hold}
 use Rattle.hand_steps.specs.Holdings.{IsFree}
-use Rattle.hand_steps.specs.Tallies.{retired_by}
+use Rattle.hand_steps.specs.Tallies.{retired_by, retiring_by, taken_by}
 use Rattle.hand_steps.specs.declared.counting.Counted.{Counted}
 use Rattle.hand_steps.specs.declared.counting.Counted.TheVariants as counted
 use Rattle.hand_steps.specs.Countings.{counted_step}
 use Rattle.boot_data.specs.declared.plan.Step.{Step}
 use Rattle.boot_data.specs.declared.plan.Step.TheVariants as steps
+use Rattle.event_theory.specs.declared.event.Event.{Event}
+use Rattle.event_theory.specs.declared.event.Event.TheVariants as events
+use Rattle.event_theory.specs.declared.names.QueueName.TheVariants as names
+use Rattle.thread_table.specs.declared.rule.Made.{Made}
+use Rattle.thread_table.specs.Retiring.{frees, was_freed}
+use Rattle.thread_table.proofs.Freed.{freed_is_told}
 use Rattle.thread_table.specs.declared.places.Place.{Place}
 use Rattle.thread_table.specs.declared.places.Place.TheVariants as places
 use Rattle.thread_table.specs.declared.rule.View.{View}
@@ -41,7 +47,7 @@ use Rattle.reports.specs.Endings.{ThreadsEnded, FreedSpare}
 use Rattle.reports.specs.Lists.{all_of}
 use Rattle.reports.proofs.Freeing.{retired_once, has_done_all, with_few}
 use Rattle.reports.proofs.Joining.{stays}
-use Rattle.reports.proofs.Tallies.{made_at, all_retired}
+use Rattle.reports.proofs.Tallies.{made_at, all_retired, all_takings}
 use Rattle.reports.proofs.Threads.{known, done_are, steps_agree, shown_agrees, signals_agree, planned_all}
 
 -- THE WORDS OF THE TABLE
@@ -160,13 +166,57 @@ module _ (x d : ℕ) where
       (λ f. none_spare n low l a.1 f)
       (some_of (with_few x d r) (list_any (with_few x d) l) h)
 
+or_none : (b : Bool) → b ≡ (b || false)
+or_none true = refl
+or_none false = refl
+
+module _ (x : ℕ) where
+  abbrev is_of : Key → Bool
+  is_of r = r.0 == x
+
+  -- what a log retired is among what its hand put behind the free elements
+  entry_put : (entry : Entry) → is_retired x entry ≡ true → list_any is_of (tally_by entry).retired ≡ true
+  entry_put (Tended advanced alarms) h = absurd (cc)
+  entry_put (Delivered element mask) h = absurd (cc)
+  entry_put (Tried element number step deed count heard) h = absurd (cc)
+  entry_put (Retired element number) h = sym (or_none (element == x)) ∙ h
+
+  log_put : (log : List Entry) → list_any (is_retired x) log ≡ true → list_any is_of (tally_of log).retired ≡ true
+  log_put [] h = absurd (cc)
+  log_put (entry ∷ log) h = list_any-append is_of (tally_by entry).retired (tally_of log).retired ∙ ⊎_elim
+      (λ a. ap (λ z. z || list_any is_of (tally_of log).retired) (entry_put entry a))
+      (λ b. ap (λ z. list_any is_of (tally_by entry).retired || z) (log_put log b) ∙ or_true (list_any is_of (tally_by entry).retired))
+      (some_of (is_retired x entry) (list_any (is_retired x) log) h)
+
+  logs_put : (logs : List (List Entry)) → list_any (is_retired x) (all_of logs) ≡ true → list_any is_of (flat_map (λ log. (tally_of log).retired) logs) ≡ true
+  logs_put [] h = absurd (cc)
+  logs_put (log ∷ logs) h = list_any-append is_of (tally_of log).retired (flat_map (λ log. (tally_of log).retired) logs) ∙ ⊎_elim
+      (λ a. ap (λ z. z || list_any is_of (flat_map (λ log. (tally_of log).retired) logs)) (log_put log a))
+      (λ b. ap (λ z. list_any is_of (tally_of log).retired || z) (logs_put logs b) ∙ or_true (list_any is_of (tally_of log).retired))
+      (some_of (list_any (is_retired x) log) (list_any (is_retired x) (all_of logs)) (sym (list_any-append (is_retired x) log (all_of logs)) ∙ h))
+
+  event_freed : (event : Event) (number : ℕ) → list_any is_of (retiring_by event number) ≡ frees x event
+  event_freed (events.Claim call names.Free items) number = sym (or_none (get_or items 0 0 == x))
+  event_freed event number = refl
+
+  list_freed : (made : List Made) → list_any is_of (flat_map retired_by made) ≡ was_freed x made
+  list_freed [] = refl
+  list_freed (m ∷ made) = list_any-append is_of (retired_by m) (flat_map retired_by made) ∙ (λ k. event_freed m.event m.number k || list_freed made k)
+
 -- THREADS
 
+not_true : (b : Bool) → (b ≡ true → ⊥) → b ≡ false
+not_true true wrong = absurd (wrong refl)
+not_true false wrong = refl
+
 by_place : (call x steps all : ℕ) (retired : Bool) (e : Elements) (place : Place) → StandsAt call x e place → (StandsAt call x e places.Free → (steps ≡ all) × (retired ≡ true))
-    → ((p : ℕ) → StandsAt call x e (places.Processor p) → ⊥) → PlaceAgrees place steps all retired
-by_place call x steps all retired e places.Free h free none = free h
-by_place call x steps all retired e (places.Processor p) h free none = none p h
-by_place call x steps all retired e place h free none = tt
+    → ((p : ℕ) → StandsAt call x e (places.Processor p) → ⊥) → (retired ≡ true → place ≡ places.Free) → PlaceAgrees place steps all retired
+by_place call x steps all retired e places.Free h free none only = free h
+by_place call x steps all retired e (places.Processor p) h free none only = none p h
+by_place call x steps all retired e places.Ready h free none only = not_true retired (λ up. let is = only up in absurd (cc))
+by_place call x steps all retired e (places.Wait wait) h free none only = not_true retired (λ up. let is = only up in absurd (cc))
+by_place call x steps all retired e places.Stopped h free none only = not_true retired (λ up. let is = only up in absurd (cc))
+by_place call x steps all retired e places.Held h free none only = not_true retired (λ up. let is = only up in absurd (cc))
 
 module _ (plan : BootPlan) (logs : List (List Entry)) (stations : List Parts) (first last : Parts) (left : AllZip (Leaves plan) logs stations)
     (begun : IsPrepared plan first) (spare : FreedSpare plan first) (some : 0 < length stations) (joins : AllJoined first stations last) (c : Closed) (e : ThreadsEnded last c) (x : ℕ)
@@ -194,13 +244,24 @@ module _ (plan : BootPlan) (logs : List (List Entry)) (stations : List Parts) (f
       let prefix = (steps_agree plan logs stations first last left begun joins c e x t at).prefix in
       omega arith
 
+  -- no more free elements were taken than there were at first, so what a log retired is there still
+  retired_is_free : list_any (is_retired x) (all_of logs) ≡ true → slice_index_or e.stands x places.Held ≡ places.Free
+  retired_is_free up =
+      let low = known plan logs stations first last left begun joins c e x t at in
+      let took : length (flat_map taken_by (made_at last)) ≡ 64 = ap length (all_takings plan logs stations first last left begun joins) ∙ begun.took in
+      freed_is_told e.call (view_of last.hand) e.stands e.pcs e.pending e.stops x e.closes (omega arith) low
+      (sym (list_freed x (made_at last))
+      ∙ (ap (list_any (is_of x)) (all_retired plan logs stations first last left begun joins)
+      ∙ (list_any-append (is_of x) (flat_map retired_by (made_at first)) (flat_map (λ log. (tally_of log).retired) logs)
+      ∙ (ap (λ z. list_any (is_of x) (flat_map retired_by (made_at first)) || z) (logs_put x logs up) ∙ or_true (list_any (is_of x) (flat_map retired_by (made_at first)))))))
+
   pub place_agrees : PlaceAgrees t.place t.steps (length (program plan x)) (list_any (is_retired x) (all_of logs))
   place_agrees =
       let low = known plan logs stations first last left begun joins c e x t at in
       let shows = joined_shows first stations last some joins in
       subst (λ (z : Place). PlaceAgrees z t.steps (length (program plan x)) (list_any (is_retired x) (all_of logs))) (sym (e.places x t at))
       (by_place e.call x t.steps (length (program plan x)) (list_any (is_retired x) (all_of logs)) (elements_after (view_of last.hand).schedule) (slice_index_or e.stands x places.Held) (e.closes.places x low) (λ free. (free_is_done free, free_is_retired free))
-      (λ p h. none_on e.call (view_of last.hand) e.stands e.pcs e.pending e.stops e.closes shows.2.processors e.none_on x p h))
+      (λ p h. none_on e.call (view_of last.hand) e.stands e.pcs e.pending e.stops e.closes shows.2.processors e.none_on x p h) retired_is_free)
 
   pub thread_agrees : c.fired ≡ flat_map fired_by (all_of logs) → ThreadAgrees plan x t c.fired logs
   thread_agrees fired = record {

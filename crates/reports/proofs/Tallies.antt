@@ -10,7 +10,7 @@ use Rattle.boot_data.specs.declared.plan.Step.TheVariants as steps
 use Rattle.hand_steps.specs.declared.counting.Counted.{Counted}
 use Rattle.hand_steps.specs.declared.counting.Counted.TheVariants as counted
 use Rattle.hand_steps.specs.Countings.{counted_step}
-use Rattle.hand_steps.specs.Tallies.{done_by, signalled_by, delivered_by, retired_by}
+use Rattle.hand_steps.specs.Tallies.{done_by, signalled_by, delivered_by, retired_by, taken_by}
 use Rattle.event_theory.specs.declared.alarm.Alarm.{Alarm}
 use Rattle.thread_table.specs.declared.rule.View.{View}
 use Rattle.thread_table.specs.declared.rule.Made.{Made}
@@ -52,6 +52,34 @@ deliveries_more a b c j = ap (flat_map delivered_by) (made_more a b c j) ∙ fla
 
 pub retired_more : (a b c : Parts) → AreJoined a b c → flat_map retired_by (made_at c) ≡ flat_map retired_by (made_at a) ++ flat_map retired_by (made_at b)
 retired_more a b c j = ap (flat_map retired_by) (made_more a b c j) ∙ flat_map-append retired_by (made_at a) (made_at b)
+
+pub taken_more : (a b c : Parts) → AreJoined a b c → flat_map taken_by (made_at c) ≡ flat_map taken_by (made_at a) ++ flat_map taken_by (made_at b)
+taken_more a b c j = ap (flat_map taken_by) (made_more a b c j) ∙ flat_map-append taken_by (made_at a) (made_at b)
+
+-- TAKINGS
+
+raised_takes : (step : Step) (deed : Deed) → (raised_by step deed).taken ≡ []
+raised_takes (steps.Signal thread signal) (deeds.Signalled answer) = refl
+raised_takes step deed = refl
+
+counted_takes : (count : Counted) (element number : ℕ) → (counted_step count element number).taken ≡ []
+counted_takes (counted.Done n) element number = refl
+counted_takes count element number = refl
+
+entry_takes : (entry : Entry) → (tally_by entry).taken ≡ []
+entry_takes (Tended advanced alarms) = refl
+entry_takes (Delivered element mask) = refl
+entry_takes (Tried element number step deed count heard) = λ k. raised_takes step deed k ++ counted_takes count element number k
+entry_takes (Retired element number) = refl
+
+log_takes : (log : List Entry) → (tally_of log).taken ≡ []
+log_takes [] = refl
+log_takes (entry ∷ log) = λ k. entry_takes entry k ++ log_takes log k
+
+-- no processor takes a free element
+logs_take : (logs : List (List Entry)) → flat_map (λ log. (tally_of log).taken) logs ≡ []
+logs_take [] = refl
+logs_take (log ∷ logs) = λ k. log_takes log k ++ logs_take logs k
 
 -- STEPS
 
@@ -149,3 +177,9 @@ module _ (plan : BootPlan) (logs : List (List Entry)) (stations : List Parts) (f
   all_retired = joined_lists (λ p. flat_map retired_by (made_at p)) retired_more first stations last joins
       ∙ ap (λ z. flat_map retired_by (made_at first) ++ z)
       (zip_lists (Leaves plan) (λ p. flat_map retired_by (made_at p)) (λ log. (tally_of log).retired) (λ log p l. ap (λ t. t.retired) l.hand) logs stations left)
+
+  pub all_takings : flat_map taken_by (made_at last) ≡ flat_map taken_by (made_at first)
+  all_takings = joined_lists (λ p. flat_map taken_by (made_at p)) taken_more first stations last joins
+      ∙ (ap (λ z. flat_map taken_by (made_at first) ++ z)
+      (zip_lists (Leaves plan) (λ p. flat_map taken_by (made_at p)) (λ log. (tally_of log).taken) (λ log p l. ap (λ t. t.taken) l.hand) logs stations left ∙ logs_take logs)
+      ∙ append-nil (flat_map taken_by (made_at first)))

@@ -50,9 +50,10 @@ pub fn queues_agree()
 {}
 
 /// Each step of a closed thread stands once in the logs where it is below the number of its steps done, and else never,
-/// and in each log its steps stand in their order; a thread that is among the free elements has done all its steps and
-/// was retired in a log, where the first station freed no thread's element, and none stands on a processor; a signal was shown exactly where the logs delivered it, and was shown or is pending
-/// exactly where a step or an alarm of them raised it.
+/// and in each log its steps stand in their order. Where the first station freed no thread's element, a thread is among
+/// the free elements exactly where it was retired in a log, and it has then done all its steps; none stands on a
+/// processor. A signal was shown exactly where the logs delivered it, and was shown or is pending exactly where a step
+/// or an alarm of them raised it.
 pub fn threads_agree()
     ensures { (plan : BootPlan) (logs : List (List Entry)) (stations : List Parts) (first last : Parts) (c : Closed)
         (thread : ℕ) (t : closed.Thread) → AllZip (Leaves plan) logs stations → IsPrepared plan first

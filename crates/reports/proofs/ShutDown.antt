@@ -42,6 +42,7 @@ use Rattle.processor.specs.Turns.{heard_lines}
 use Rattle.event_theory.proofs.Lists.Histories.{slice_get-drop}
 use Rattle.quajects.specs.declared.any.AnyQuaject.{AnyQuaject}
 use Rattle.quajects.specs.declared.home.Home.{Home}
+use Rattle.quajects.specs.Homes.{homes_in}
 use Rattle.quajects.specs.declared.raw.RawTty.{RawTty}
 use Rattle.quajects.specs.declared.world.Queues.{Queues}
 use Rattle.quajects.specs.Raws.{end_of}
@@ -187,10 +188,10 @@ module _ (shared : Shared) (logs : List (List Entry)) (first : Parts) (stations 
   plan = shared.plan
 
   abbrev all_homes : List Home
-  all_homes = ended.homes.value.items
+  all_homes = homes_in ended.counts.items
 
   abbrev quajects : List AnyQuaject
-  quajects = came_home shared.chains.items parts.chains.items ended.homes.value.items s.closed.homes
+  quajects = came_home shared.chains.items parts.chains.items (homes_in ended.counts.items) s.closed.homes
 
   abbrev boot : Boot
   boot = boot_of plan first stations last ttys parts all_homes

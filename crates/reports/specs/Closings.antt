@@ -32,6 +32,7 @@ use Rattle.processor.specs.Partings.{AllJoined}
 use Rattle.processor.specs.Preparing.{IsPrepared}
 use Rattle.quajects.specs.declared.any.AnyQuaject.{AnyQuaject}
 use Rattle.quajects.specs.declared.home.Home.{Home}
+use Rattle.quajects.specs.Homes.{homes_in}
 use Rattle.quajects.specs.declared.raw.RawTty.{RawTty}
 use Rattle.quajects.specs.declared.world.Queues.{Queues}
 use Rattle.quajects.specs.Raws.{end_of}
@@ -143,8 +144,8 @@ closed_of plan boot ended quajects devices = record {
       ended.small.items;
   large = queues_from large_of boot.stations (large_others boot) 0 ended.large_ends.value.items ended.large.items;
   threads = map (thread_of ended.threads ended.signals) (range_with_len 0 (length plan.threads));
-  movers = take (length plan.movers) (chains_of quajects ended.homes.value.items);
-  ttys = drop (length plan.movers) (chains_of quajects ended.homes.value.items);
+  movers = take (length plan.movers) (chains_of quajects (homes_in ended.counts.items));
+  ttys = drop (length plan.movers) (chains_of quajects (homes_in ended.counts.items));
   devices = devices;
   gauges = take (length plan.gauges) ended.meters.gauges;
   fired = (meters.view_of boot.last.meters).fired;
@@ -187,11 +188,11 @@ abbrev pub boot_shut : (shared : Shared) (logs : List (List Entry)) (first : Par
     (last : Parts) (ttys : List RawTty) (devices : List closed.Device) (parts : Parts) (ended : Ended)
     → BootShut shared logs first stations last ttys devices parts ended → Boot
 boot_shut shared logs first stations last ttys devices parts ended shut =
-    boot_of shared.plan first stations last ttys parts ended.homes.value.items
+    boot_of shared.plan first stations last ttys parts (homes_in ended.counts.items)
 
 abbrev pub closed_shut : (shared : Shared) (logs : List (List Entry)) (first : Parts) (stations : List Parts)
     (last : Parts) (ttys : List RawTty) (devices : List closed.Device) (parts : Parts) (ended : Ended)
     → BootShut shared logs first stations last ttys devices parts ended → Closed
 closed_shut shared logs first stations last ttys devices parts ended shut =
-    closed_of shared.plan (boot_of shared.plan first stations last ttys parts ended.homes.value.items) ended
-    (came_home shared.chains.items parts.chains.items ended.homes.value.items shut.closed.homes) devices
+    closed_of shared.plan (boot_of shared.plan first stations last ttys parts (homes_in ended.counts.items)) ended
+    (came_home shared.chains.items parts.chains.items (homes_in ended.counts.items) shut.closed.homes) devices

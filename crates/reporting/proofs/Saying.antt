@@ -1,6 +1,5 @@
 -- Lines that are made of what was closed say the numbers of the closed tables that it shows.
-use Rattle.std.proofs.Common.{◌≡◌, ℕ, ◌+◌, ◌%◌, ◌^◌, List, ◌++◌, length, get_or, map, refl, sym, ap, ◌∙◌, subst, arith, Some, slice_get}
-use Rattle.std.specs.List.{sum_by}
+use Rattle.std.proofs.Common.{◌≡◌, ℕ, ◌+◌, List, ◌++◌, length, get_or, refl, sym, ap, ◌∙◌, subst, arith, Some, slice_get}
 use Rattle.std.proofs.lemmas.List.{length-take-le, length-map}
 use Rattle.boot_data.specs.declared.plan.PlannedMover.{PlannedMover}
 use Rattle.boot_data.specs.declared.plan.PlannedQueue.{PlannedQueue}
@@ -22,7 +21,7 @@ use Rattle.reports.specs.Closed as closed
 use Rattle.reports.specs.Lines.{Says, AreWhole, QueueSaid, TtySaid, TtyQueuesSaid, MoverSaid, GaugeSaid, AlarmsSaid, ThreadSaid, HeardSaid}
 use Rattle.reports.proofs.Meters.{got_take}
 use Rattle.reporting.specs.declared.ttys.Typed.{Typed}
-use Rattle.reporting.specs.Made.{IsMade, numbered, queue_line, gauge_line, mover_line, tty_lines, thread_line, heard_line, alarm_counts, left_in}
+use Rattle.reporting.specs.Made.{IsMade, queue_line, gauge_line, mover_line, tty_lines, thread_line, heard_line}
 use Rattle.reporting.specs.Shown.{Shows}
 use Rattle.reporting.proofs.Limits.{few_ttys, few_movers, few_gauges}
 use Rattle.reporting.proofs.Numbering.{as_many, made_at, mapped_at}

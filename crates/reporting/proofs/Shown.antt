@@ -5,7 +5,7 @@ use Rattle.std.proofs.lemmas.List.{length-take, length-drop, length-append}
 use Rattle.std.proofs.lemmas.List.Sums.{sum_by-cons, sum_by-append}
 use Rattle.std.proofs.lemmas.Option.{slice_get_within}
 use Rattle.claim_queue.specs.declared.close.Closed.{Closed as ClosedQueue}
-use Rattle.closing.specs.declared.homing.Counts.{Counts}
+use Rattle.quajects.specs.declared.came.Came.{Came}
 use Rattle.thread_table.specs.declared.places.Place.{Place}
 use Rattle.thread_table.specs.declared.places.Place.TheVariants as places
 use Rattle.reports.specs.Closed.{Closed}
@@ -15,7 +15,7 @@ use Rattle.reports.specs.Lines.{state_for, left_of}
 use Rattle.reporting.specs.declared.ttys.Typed.{Typed}
 use Rattle.reporting.specs.Amounts.{item_counts, counts_at, numbers_of, numbers_at}
 use Rattle.reporting.specs.Made.{told, state_at, few, left_in, typed_of, typed_at}
-use Rattle.reporting.specs.Shown.{IsNamed, ShowsQueue, ShowsQueues, ShowsChain, ShowsChains, ShowsDevice, ShowsDevices}
+use Rattle.reporting.specs.Shown.{IsNamed, ShowsQueue, ShowsQueues, ShowsChains, ShowsNumbers, ShowsDevice, ShowsDevices}
 
 module _ {A : Type 0} where
   -- what is at a place within
@@ -48,12 +48,13 @@ counts_are queues numbers s k q is =
     subst (λ o. lines.Counts q (item_counts o)) (sym its.1) (counts_said q its.0 (s.each k q its.0 is its.1))
 
 -- the numbers of a chain
-pub chain_is : (chains : List closed.Chain) (numbers : List Counts) → ShowsChains chains numbers → (k : ℕ) (chain : closed.Chain)
-    → slice_get chains k ≡ Some chain → ShowsChain chain (numbers_at numbers k)
+pub chain_is : (chains : List closed.Chain) (numbers : List Came) → ShowsChains chains numbers → (k : ℕ) (chain : closed.Chain)
+    → slice_get chains k ≡ Some chain → ShowsNumbers chain (numbers_at numbers k)
 chain_is chains numbers s k chain is =
     let many = s.as_many in let low = slice_get_within chains k chain is in
     let its = got numbers k (omega arith) in
-    subst (λ o. ShowsChain chain (numbers_of o)) (sym its.1) (s.each k chain its.0 is its.1)
+    let shows = s.each k chain its.0 is its.1 in
+    subst (λ o. ShowsNumbers chain (numbers_of o)) (sym its.1) (record { notes = shows.notes; taken = shows.taken; put = shows.put; held = shows.held })
 
 pub device_is : (devices : List closed.Device) (typed : List Typed) → ShowsDevices devices typed → (k : ℕ) (d : closed.Device)
     → slice_get devices k ≡ Some d → ShowsDevice d (typed_at typed k)
@@ -63,7 +64,7 @@ device_is devices typed s k d is =
     subst (λ o. ShowsDevice d (typed_of o)) (sym its.1) (s.each k d its.0 is its.1)
 
 -- the notes left in the chains
-left_sums : (chains : List closed.Chain) (numbers : List Counts) → ShowsChains chains numbers
+left_sums : (chains : List closed.Chain) (numbers : List Came) → ShowsChains chains numbers
     → (sum_by left_in numbers ≡ sum_by left_of chains) × (sum_by left_of chains ≤ length chains * 32)
 left_sums [] [] s = (refl, omega arith)
 left_sums [] (n ∷ ns) s = let many = s.as_many in absurd (omega arith)
@@ -75,7 +76,7 @@ left_sums (c ∷ cs) (n ∷ ns) s =
     let a = sum_by-cons left_in n ns in let b = sum_by-cons left_of c cs in
     let same = first.left in let small = first.few in let r = rest.0 in let l = rest.1 in (omega arith, omega arith)
 
-pub all_left : (movers ttys : List closed.Chain) (numbers : List Counts) → ShowsChains (movers ++ ttys) numbers
+pub all_left : (movers ttys : List closed.Chain) (numbers : List Came) → ShowsChains (movers ++ ttys) numbers
     → length movers + length ttys ≤ 6 → sum_by left_in numbers % 2 ^ 64 ≡ sum_by left_of movers + sum_by left_of ttys
 all_left movers ttys numbers s low =
     let h = left_sums (movers ++ ttys) numbers s in let same = h.0 in let few = h.1 in

@@ -1,5 +1,5 @@
 -- What was closed when a boot was shut down shows the numbers of its closed tables.
-use Rattle.std.proofs.Common.{◌≡◌, ℕ, zero, suc, ◌+◌, ◌*◌, ◌≤◌, List, [], ◌∷◌, ◌++◌, length, map, take, refl, sym, ap, ◌∙◌, subst, arith, Some, slice_get, flat_map}
+use Rattle.std.proofs.Common.{◌≡◌, ℕ, zero, suc, ◌+◌, ◌*◌, ◌≤◌, List, [], ◌∷◌, ◌++◌, length, take, refl, sym, ap, ◌∙◌, subst, arith, Some, slice_get, flat_map}
 use Rattle.boot_data.specs.declared.report.Report.{Report}
 use Rattle.std.proofs.lemmas.List.{length-map, length-drop, length-take-le, take-append-drop}
 use Rattle.boot_data.specs.declared.boot_plan.BootPlan.{BootPlan}
@@ -8,9 +8,7 @@ use Rattle.claim_queue.specs.declared.ends.ClaimQueue.{ClaimQueue}
 use Rattle.claim_queue.specs.declared.ends.QueueEnd.{QueueEnd}
 use Rattle.claim_queue.specs.Handles.{view_of}
 use Rattle.closing.specs.declared.all.Ended.{Ended}
-use Rattle.closing.specs.declared.homing.Counts.{Counts}
 use Rattle.closing.specs.ClosedQueues.{IsClosed, AreClosed}
-use Rattle.closing.specs.Comings.{counts_of}
 use Rattle.closing.specs.Retirals.{HasRetired, HaveRetired}
 use Rattle.closing.proofs.Drawing.{three_long}
 use Rattle.proc_chain.specs.declared.ends.ChainEnd.{ChainEnd}
@@ -22,9 +20,10 @@ use Rattle.processor.specs.Logs.{Entry}
 use Rattle.processor.specs.Programs.{program, hear_count}
 use Rattle.processor.specs.Turns.{heard_lines}
 use Rattle.quajects.specs.declared.any.AnyQuaject.{AnyQuaject}
-use Rattle.quajects.specs.declared.home.Home.{Home}
+use Rattle.quajects.specs.declared.came.Came.{Came}
 use Rattle.quajects.specs.declared.raw.RawTty.{RawTty}
 use Rattle.quajects.specs.declared.world.Queues.{Queues}
+use Rattle.quajects.specs.Homes.{home_in, homes_in}
 use Rattle.quajects.specs.Settled.{runs_of}
 use Rattle.table_theory.specs.declared.queues.Batch.{Batch}
 use Rattle.reports.specs.Boots.{Boot, BootEnded, small_others, large_others}
@@ -81,49 +80,49 @@ module _ {n : ℕ} (ends : Parts → List (QueueEnd n)) (stations : List Parts) 
 -- CHAINS
 
 module _ {g : Ghosts AnyQuaject Queues} where
-  came_shows : (chain : ProcChain AnyQuaject Queues) (end : ChainEnd AnyQuaject Queues g) (home : Home) (r : HasRetired chain end home)
-      → ShowsChain (record { quaject = r.quaject; left = home.left }) (counts_of home)
-  came_shows chain end home r = let none = r.none_left in
-      record { notes = r.its.notes; taken = r.its.taken; put = r.its.put; held = r.its.held; left = refl; few = omega arith }
+  came_shows : (chain : ProcChain AnyQuaject Queues) (end : ChainEnd AnyQuaject Queues g) (came : Came) (r : HasRetired chain end (home_in came))
+      → ShowsChain (record { quaject = r.quaject; left = (home_in came).left }) came
+  came_shows chain end came r = let none = r.none_left in
+      record { notes = came.notes_is ∙ r.its.notes; taken = came.taken_is ∙ r.its.taken; put = came.put_is ∙ r.its.put; held = came.held_is ∙ r.its.held; left = came.left_is; few = omega arith }
 
-  each_chain : (chains : List (ProcChain AnyQuaject Queues)) (ends : List (ChainEnd AnyQuaject Queues g)) (homes : List Home) (r : HaveRetired chains ends homes)
-      → (k : ℕ) (x : closed.Chain) (its : Counts) → slice_get (chains_of (came_home chains ends homes r) homes) k ≡ Some x → slice_get (map counts_of homes) k ≡ Some its → ShowsChain x its
-  each_chain [] ends homes r k x its here there = absurd (cc)
-  each_chain (c ∷ chains) [] homes r k x its here there = absurd (cc)
+  each_chain : (chains : List (ProcChain AnyQuaject Queues)) (ends : List (ChainEnd AnyQuaject Queues g)) (all : List Came) (r : HaveRetired chains ends (homes_in all))
+      → (k : ℕ) (x : closed.Chain) (its : Came) → slice_get (chains_of (came_home chains ends (homes_in all) r) (homes_in all)) k ≡ Some x → slice_get all k ≡ Some its → ShowsChain x its
+  each_chain [] ends all r k x its here there = absurd (cc)
+  each_chain (c ∷ chains) [] all r k x its here there = absurd (cc)
   each_chain (c ∷ chains) (e ∷ ends) [] r k x its here there = absurd (cc)
-  each_chain (c ∷ chains) (e ∷ ends) (h ∷ homes) r zero x its here there =
-      let same : record { quaject = r.0.quaject; left = h.left } ≡ x = cc in let same' : counts_of h ≡ its = cc in
-      subst (λ (z : closed.Chain). ShowsChain z its) same (subst (λ (z : Counts). ShowsChain (record { quaject = r.0.quaject; left = h.left }) z) same' (came_shows c e h r.0))
-  each_chain (c ∷ chains) (e ∷ ends) (h ∷ homes) r (suc k) x its here there = each_chain chains ends homes r.1 k x its here there
+  each_chain (c ∷ chains) (e ∷ ends) (a ∷ all) r zero x its here there =
+      let same : record { quaject = r.0.quaject; left = (home_in a).left } ≡ x = cc in let same' : a ≡ its = cc in
+      subst (λ (z : closed.Chain). ShowsChain z its) same (subst (λ (z : Came). ShowsChain (record { quaject = r.0.quaject; left = (home_in a).left }) z) same' (came_shows c e a r.0))
+  each_chain (c ∷ chains) (e ∷ ends) (a ∷ all) r (suc k) x its here there = each_chain chains ends all r.1 k x its here there
 
-  many_chains : (chains : List (ProcChain AnyQuaject Queues)) (ends : List (ChainEnd AnyQuaject Queues g)) (homes : List Home) (r : HaveRetired chains ends homes)
-      → length (map counts_of homes) ≡ length (chains_of (came_home chains ends homes r) homes)
+  many_chains : (chains : List (ProcChain AnyQuaject Queues)) (ends : List (ChainEnd AnyQuaject Queues g)) (all : List Came) (r : HaveRetired chains ends (homes_in all))
+      → length all ≡ length (chains_of (came_home chains ends (homes_in all) r) (homes_in all))
   many_chains [] [] [] r = refl
-  many_chains [] [] (h ∷ homes) r = absurd r
+  many_chains [] [] (a ∷ all) r = absurd r
   many_chains [] (e ∷ ends) [] r = absurd r
-  many_chains [] (e ∷ ends) (h ∷ homes) r = absurd r
+  many_chains [] (e ∷ ends) (a ∷ all) r = absurd r
   many_chains (c ∷ chains) [] [] r = absurd r
-  many_chains (c ∷ chains) [] (h ∷ homes) r = absurd r
+  many_chains (c ∷ chains) [] (a ∷ all) r = absurd r
   many_chains (c ∷ chains) (e ∷ ends) [] r = absurd r
-  many_chains (c ∷ chains) (e ∷ ends) (h ∷ homes) r = ap suc (many_chains chains ends homes r.1)
+  many_chains (c ∷ chains) (e ∷ ends) (a ∷ all) r = ap suc (many_chains chains ends all r.1)
 
-  chains_show : (chains : List (ProcChain AnyQuaject Queues)) (ends : List (ChainEnd AnyQuaject Queues g)) (homes : List Home) (r : HaveRetired chains ends homes)
-      → ShowsChains (chains_of (came_home chains ends homes r) homes) (map counts_of homes)
-  chains_show chains ends homes r = record { as_many = many_chains chains ends homes r; each = each_chain chains ends homes r }
+  chains_show : (chains : List (ProcChain AnyQuaject Queues)) (ends : List (ChainEnd AnyQuaject Queues g)) (all : List Came) (r : HaveRetired chains ends (homes_in all))
+      → ShowsChains (chains_of (came_home chains ends (homes_in all) r) (homes_in all)) all
+  chains_show chains ends all r = record { as_many = many_chains chains ends all r; each = each_chain chains ends all r }
 
 -- ALL
 
 module _ (shared : Shared) (logs : List (List Entry)) (first : Parts) (stations : List Parts) (last : Parts) (ttys : List RawTty) (devices : List closed.Device) (parts : Parts) (ended : Ended)
     (s : BootShut shared logs first stations last ttys devices parts ended) (typed : List Typed) where
   abbrev boot : Boot
-  boot = boot_of shared.plan first stations last ttys parts ended.homes.value.items
+  boot = boot_of shared.plan first stations last ttys parts (homes_in ended.counts.items)
 
   abbrev tables : Closed
   tables = closed_of shared.plan boot ended
-      (came_home shared.chains.items parts.chains.items ended.homes.value.items s.closed.homes) devices
+      (came_home shared.chains.items parts.chains.items (homes_in ended.counts.items) s.closed.homes) devices
 
   abbrev all_chains : List closed.Chain
-  all_chains = chains_of (came_home shared.chains.items parts.chains.items ended.homes.value.items s.closed.homes) ended.homes.value.items
+  all_chains = chains_of (came_home shared.chains.items parts.chains.items (homes_in ended.counts.items) s.closed.homes) (homes_in ended.counts.items)
 
   plan_is : ended.plan ≡ shared.plan
   plan_is = s.closed.rest.2
@@ -133,8 +132,8 @@ module _ (shared : Shared) (logs : List (List Entry)) (first : Parts) (stations 
   by_plan P h = subst P (sym plan_is) h
 
   chain_count : length all_chains ≡ length shared.plan.movers + length shared.plan.ttys
-  chain_count = let many = many_chains shared.chains.items parts.chains.items ended.homes.value.items s.closed.homes in let l = length-map ended.homes.value.items counts_of in
-      let t = (three_long HasRetired shared.chains.items parts.chains.items ended.homes.value.items s.closed.homes).1 in let o = shared.objects.2 in omega arith
+  chain_count = let many = many_chains shared.chains.items parts.chains.items ended.counts.items s.closed.homes in let l = length-map ended.counts.items home_in in
+      let t = (three_long HasRetired shared.chains.items parts.chains.items (homes_in ended.counts.items) s.closed.homes).1 in let o = shared.objects.2 in omega arith
 
   small_count : length tables.small ≡ length shared.plan.queues + length shared.plan.ttys
   small_count = many_queues small_of stations (small_others shared.plan boot) 0 shared.queues.small.items ended.small_ends.value.items ended.small.items s.closed.small
@@ -155,9 +154,8 @@ module _ (shared : Shared) (logs : List (List Entry)) (first : Parts) (stations 
   }
 
   chains_shown : ShowsChains (tables.movers ++ tables.ttys) ended.counts.items
-  chains_shown = subst (λ (z : List Counts). ShowsChains (tables.movers ++ tables.ttys) z) (sym s.closed.counts)
-      (subst (λ (z : List closed.Chain). ShowsChains z (map counts_of ended.homes.value.items)) (sym (take-append-drop (length shared.plan.movers) all_chains))
-      (chains_show shared.chains.items parts.chains.items ended.homes.value.items s.closed.homes))
+  chains_shown = subst (λ (z : List closed.Chain). ShowsChains z ended.counts.items) (sym (take-append-drop (length shared.plan.movers) all_chains))
+      (chains_show shared.chains.items parts.chains.items ended.counts.items s.closed.homes)
 
   ended_threads : ThreadsEnded last tables
   ended_threads = threads_ended shared logs first stations last ttys devices parts ended s

@@ -19,7 +19,7 @@ use Rattle.boot_data.specs.declared.report.TtyLines.{TtyLines}
 use Rattle.boot_data.specs.QueueLists.{raw_queue, line_queue, screen_queue}
 use Rattle.claim_queue.specs.declared.close.Closed.{Closed}
 use Rattle.closing.specs.declared.all.Ended.{Ended}
-use Rattle.closing.specs.declared.homing.Counts.{Counts}
+use Rattle.quajects.specs.declared.came.Came.{Came}
 use Rattle.thread_table.specs.declared.places.Place.{Place}
 use Rattle.thread_table.specs.declared.places.Place.TheVariants as places
 use Rattle.processor.specs.Running.{Line}
@@ -45,7 +45,7 @@ abbrev pub gauge_line : List ℕ → ℕ → List ℕ → GaugeLine
 gauge_line values number name = record { name = name; value = slice_index_or values number 0 }
 
 -- the line of the pump or switch with this number, whose chain has the same
-abbrev pub mover_line : List Counts → ℕ → PlannedMover → MoverLine
+abbrev pub mover_line : List Came → ℕ → PlannedMover → MoverLine
 mover_line counts number mover = record {
   kind = kind_of_mover mover.mover;
   name = mover.name;
@@ -56,8 +56,8 @@ mover_line counts number mover = record {
 }
 
 -- the notes left in a chain
-abbrev pub left_in : Counts → ℕ
-left_in counts = counts.left
+abbrev pub left_in : Came → ℕ
+left_in came = came.left
 
 -- what the device of a tty did
 abbrev pub typed_of : Option Typed → Typed

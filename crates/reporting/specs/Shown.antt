@@ -3,7 +3,7 @@ use Rattle.std.specs.Prelude.{◌≡◌, ◌+◌, ◌-◌, ◌*◌, ◌<◌, ◌
 use Rattle.std.specs.List.{slice_get}
 use Rattle.claim_queue.specs.declared.close.Closed.{Closed as ClosedQueue}
 use Rattle.closing.specs.declared.all.Ended.{Ended}
-use Rattle.closing.specs.declared.homing.Counts.{Counts}
+use Rattle.quajects.specs.declared.came.Came.{Came}
 use Rattle.quajects.specs.Anys.{notes_of, all_taken, all_puts, held_of}
 use Rattle.quajects.specs.Lines.{counted}
 use Rattle.thread_table.specs.declared.places.Place.{Place}
@@ -11,6 +11,7 @@ use Rattle.thread_table.specs.declared.places.Place.TheVariants as places
 use Rattle.processor.specs.Programs.{program}
 use Rattle.reports.specs.Closed.{Closed}
 use Rattle.reports.specs.Closed as closed
+use Rattle.reporting.specs.declared.amounts.Numbers.{Numbers}
 use Rattle.reporting.specs.declared.ttys.Typed.{Typed}
 
 -- a queue: as many items were put as it has, and so many taken; the others are left
@@ -27,7 +28,7 @@ pub record ShowsQueues {n : ℕ} (queues : List closed.Queue) (numbers : List (C
       → slice_get numbers k ≡ Some its → ShowsQueue q its
 
 -- a chain: the numbers of its quaject, and how many notes were left, which are 32 at most
-pub record ShowsChain (chain : closed.Chain) (numbers : Counts) : Type 0 where
+pub record ShowsChain (chain : closed.Chain) (numbers : Came) : Type 0 where
   pub notes : numbers.notes ≡ notes_of chain.quaject
   pub taken : numbers.taken ≡ counted (all_taken chain.quaject)
   pub put : numbers.put ≡ counted (all_puts chain.quaject)
@@ -35,10 +36,17 @@ pub record ShowsChain (chain : closed.Chain) (numbers : Counts) : Type 0 where
   pub left : numbers.left ≡ chain.left
   pub few : chain.left ≤ 32
 
+-- those that a line tells of a quaject
+pub record ShowsNumbers (chain : closed.Chain) (numbers : Numbers) : Type 0 where
+  pub notes : numbers.notes ≡ notes_of chain.quaject
+  pub taken : numbers.taken ≡ counted (all_taken chain.quaject)
+  pub put : numbers.put ≡ counted (all_puts chain.quaject)
+  pub held : numbers.held ≡ length (held_of chain.quaject)
+
 -- these are the numbers of each chain
-pub record ShowsChains (chains : List closed.Chain) (numbers : List Counts) : Type 0 where
+pub record ShowsChains (chains : List closed.Chain) (numbers : List Came) : Type 0 where
   pub as_many : length numbers ≡ length chains
-  pub each : (k : ℕ) (chain : closed.Chain) (its : Counts) → slice_get chains k ≡ Some chain
+  pub each : (k : ℕ) (chain : closed.Chain) (its : Came) → slice_get chains k ≡ Some chain
       → slice_get numbers k ≡ Some its → ShowsChain chain its
 
 -- a wait queue is one of the 16

@@ -4,7 +4,7 @@ ghost use Rattle.reporting.specs.Amounts.{counts_at, numbers_at};
 
 use boot_data::{ItemCounts, Name, Text};
 use claim_queue::Closed;
-use closing::Counts;
+use quajects::Came;
 
 /// A copy of a name.
 pub(crate) fn copy_of(name: &Name) -> Name
@@ -33,15 +33,27 @@ pub(crate) fn counts_in<const N: usize>(closed: &[Closed<N>], number: usize) -> 
     }
 }
 
+/// The numbers that a line tells of a quaject: so many notes were run, so many items taken, put and held.
+#[derive(Clone, Copy, Debug, PartialEq, Eq)]
+pub struct Numbers {
+    pub(crate) notes: u64,
+    pub(crate) taken: u64,
+    pub(crate) put: u64,
+    pub(crate) held: usize,
+}
+
 /// The numbers of the quaject of this chain.
-pub(crate) fn numbers_in(counts: &[Counts], chain: usize) -> Counts
+pub(crate) fn numbers_in(counts: &[Came], chain: usize) -> Numbers
     ensures { result ≡ numbers_at counts.now chain }
 {
     match counts.get(chain) {
-        Some(counts) => *counts,
-        None => Counts {
-            chained: 0,
-            left: 0,
+        Some(came) => Numbers {
+            notes: came.notes(),
+            taken: came.taken(),
+            put: came.put(),
+            held: came.held(),
+        },
+        None => Numbers {
             notes: 0,
             taken: 0,
             put: 0,

@@ -75,6 +75,6 @@ pub fn report_boot(ended: Ended, heard: Vec<Vec<Heard>>, typed: &[Typed], room: 
 {
     let Room { lines, heard: all } = room;
     let mut heard = gather(heard, all);
-    sort_heard(&mut heard);
+    sort_heard(heard.as_mut_slice());
     make_report(ended, heard, typed, lines)
 }

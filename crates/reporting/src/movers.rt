@@ -7,7 +7,7 @@ ghost use Rattle.reporting.specs.Made.{numbered, mover_line, left_in};
 use crate::amounts::{copy_of, numbers_in};
 use boot_data::plan::{Mover, PlannedMover};
 use boot_data::{MoverKind, MoverLine};
-use closing::Counts;
+use quajects::Came;
 
 // The word of the script that declares it.
 fn kind_of(mover: &Mover) -> MoverKind
@@ -20,7 +20,7 @@ fn kind_of(mover: &Mover) -> MoverKind
 }
 
 // The line of the pump or switch with this number.
-fn line_of(number: usize, mover: &PlannedMover, counts: &[Counts]) -> MoverLine
+fn line_of(number: usize, mover: &PlannedMover, counts: &[Came]) -> MoverLine
     ensures { result ≡ mover_line counts.now number mover.now }
 {
     let quaject = numbers_in(counts, number);
@@ -37,7 +37,7 @@ fn line_of(number: usize, mover: &PlannedMover, counts: &[Counts]) -> MoverLine
 /// The line of each pump and switch, in the order of the script.
 pub(crate) fn mover_lines(
     movers: &[PlannedMover],
-    counts: &[Counts],
+    counts: &[Came],
     lines: Vec<MoverLine>,
 ) -> Vec<MoverLine>
     requires room { (lines.items ≡ []) × (length movers.now ≤ vec_capacity lines) }
@@ -51,12 +51,12 @@ pub(crate) fn mover_lines(
 }
 
 /// The sum of the notes left in the chains, modulo 2^64.
-pub(crate) fn all_left(counts: &[Counts]) -> u64
+pub(crate) fn all_left(counts: &[Came]) -> u64
     ensures { result ≡ sum_by left_in counts.now % 2 ^ 64 }
 {
     let mut left = 0u64;
-    for counts in counts {
-        left = left.wrapping_add(counts.left as u64);
+    for came in counts {
+        left = left.wrapping_add(came.left() as u64);
     }
     left
 }

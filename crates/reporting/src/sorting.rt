@@ -33,9 +33,9 @@ pub(crate) fn gather(heard: Vec<Vec<Heard>>, room: Vec<Heard>) -> Vec<Heard>
 }
 
 /// Sorts what was heard by thread, and then by step. It takes no memory.
-pub fn sort_heard(heard: &mut Vec<Heard>)
-    ensures all { IsPermutation (map line_heard heard.old.items) (map line_heard heard.new.items) }
-    ensures ascend { Ascend (map line_heard heard.new.items) }
+pub fn sort_heard(heard: &mut [Heard])
+    ensures all { IsPermutation (map line_heard heard.old) (map line_heard heard.new) }
+    ensures ascend { Ascend (map line_heard heard.new) }
 {
     heard.sort_unstable_by_key(|line| (line.thread, line.step));
 }

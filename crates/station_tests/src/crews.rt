@@ -220,7 +220,8 @@ fn close_chain<R: Abort>(
     let Ok(home) = retire(chain, end) else {
         panic!(rt; "close")
     };
-    (home.chained, home.notes, home.taken, home.put)
+    let (_ports, came) = home.take_apart();
+    (came.chained(), came.notes(), came.taken(), came.put())
 }
 
 /// Two hundred bytes go over a line of 64 places, and come out cooked.

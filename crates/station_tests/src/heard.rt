@@ -52,7 +52,7 @@ fn assert_sorted<R: Abort>(rt: &R, lines: &[Heard]) {
 #[test]
 fn sorts_what_was_heard(rt: HostRuntime) {
     let mut all = heard_by_one(&rt, rt.alloc());
-    sort_heard(&mut all);
+    sort_heard(all.as_mut_slice());
     assert_sorted(&rt, all.as_slice());
 }
 

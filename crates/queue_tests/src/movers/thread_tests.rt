@@ -276,6 +276,7 @@ fn four_threads(rt: HostRuntime) {
     let Ok(home) = retire(chain, end) else {
         panic!(rt; "close")
     };
-    assert!(rt; (home.left, home.held) == (0, 0));
-    assert!(rt; home.notes == home.chained as u64);
+    let (_ports, came) = home.take_apart();
+    assert!(rt; (came.left(), came.held()) == (0, 0));
+    assert!(rt; came.notes() == came.chained() as u64);
 }

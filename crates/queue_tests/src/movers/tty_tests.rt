@@ -158,6 +158,14 @@ fn a_byte_is_put_before_its_note_is_served(rt: HostRuntime) {
     let Ok(home) = retire(chain, end) else {
         panic!(rt; "close")
     };
-    assert!(rt; (home.chained, home.left, home.notes) == (5, 0, 5));
-    assert!(rt; (home.taken, home.put, home.held) == (5, 6, 0));
+    let ((small, large), came) = home.take_apart();
+    assert!(rt; (came.chained(), came.left(), came.notes()) == (5, 0, 5));
+    assert!(rt; (came.taken(), came.put(), came.held()) == (5, 6, 0));
+    for (at, port) in small.iter().enumerate() {
+        assert!(rt; port.is_some() == (at < 1));
+    }
+    let [Some(line), Some(screen)] = large else {
+        panic!(rt; "a line and a screen")
+    };
+    assert!(rt; (line.index(), screen.index()) == (0, 1));
 }

@@ -5,8 +5,8 @@ use Rattle.reporting.proofs.Ordering.{ascending, key_of}
 use Rattle.reporting.proofs.sorting.sort_heard.Goals as goal
 
 pub returns-clause-all : goal.returns-clause-all
-returns-clause-all c = IsPermutation-map line_heard c.args.heard.now.items c.sort_unstable_by_key.new.self.items c.sort_unstable_by_key.ensures.permutation
+returns-clause-all c = IsPermutation-map line_heard c.args.heard.now c.sort_unstable_by_key.new.self c.sort_unstable_by_key.ensures.permutation
 
 pub returns-clause-ascend : goal.returns-clause-ascend
-returns-clause-ascend c = ascending c.sort_unstable_by_key.new.self.items
+returns-clause-ascend c = ascending c.sort_unstable_by_key.new.self
     (c.sort_unstable_by_key.ensures.sorted key_of (answers_always _ _ _ (λ f a r g h. search rules)))

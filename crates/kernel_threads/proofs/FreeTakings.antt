@@ -13,7 +13,7 @@ use Rattle.thread_table.proofs.Following.{Looked}
 use Rattle.thread_table.proofs.Retiring.{step_takes}
 use Rattle.thread_table.proofs.Schedules.{elements_of}
 use Rattle.hand_steps.proofs.Lawful.{put_in}
-use Rattle.kernel_threads.specs.Elements.{free_taken, many_held}
+use Rattle.kernel_threads.specs.Elements.{free_taken}
 
 -- MARKS
 

@@ -69,8 +69,8 @@ use Rattle.processor.specs.Logs.{count_of, seat_of, done_by, numbers_done, Climb
 use Rattle.processor.specs.Programs.{Key, program, step_of}
 use Rattle.processor.specs.Queues.{said_line}
 use Rattle.processor.specs.Running.{Stepped, EndsDid, Goes, gone, line_heard, heard_in, step_tally}
-use Rattle.processor.specs.declared.running.Moved.{Moved}
-use Rattle.processor.specs.declared.running.Moved.TheVariants as moveds
+use Rattle.processor.specs.declared.sending.Moved.{Moved}
+use Rattle.processor.specs.declared.sending.Moved.TheVariants as moveds
 use Rattle.processor.specs.Steps.{SeatDid, QueuesDid, is_shut, is_over, told_shut_small, told_shut_large, comes_of, ticks_by, raised_by}
 use Rattle.processor.specs.Stations.{no_signals}
 use Rattle.processor.specs.Turns.{heard_lines, AreAtRest, is_last}

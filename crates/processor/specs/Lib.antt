@@ -4,6 +4,7 @@ pub mod Queues
 pub mod Acts
 pub mod Pipes
 pub mod Steps
+pub mod Tries
 pub mod Running
 pub mod Rooms
 pub mod Turns

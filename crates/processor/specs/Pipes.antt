@@ -5,7 +5,7 @@ use Rattle.hand_steps.specs.declared.waking.Woken.{Woken}
 use Rattle.hand_steps.specs.Wakings.{Woke}
 use Rattle.thread_table.specs.declared.rule.View.{View}
 use Rattle.thread_table.specs.Answers.{IsTicket}
-use Rattle.processor.specs.declared.deed.Ticket.{Ticket}
+use Rattle.processor.specs.declared.ticket.Ticket.{Ticket}
 
 -- the wait queue of those who wait to hear, and of those who wait for room
 abbrev pub readers_of : Option PipeWaits → Option ℕ
@@ -21,6 +21,12 @@ abbrev pub TicketFor : Option ℕ → View → Option Ticket → View → Type 0
 TicketFor None v None w = w ≡ v
 TicketFor (Some wait) v (Some ticket) w = (ticket.wait ≡ wait) × IsTicket v wait ticket.number w
 TicketFor wait v ticket w = ⊥
+
+-- the ticket is one of the wait queue, where there is one
+abbrev pub IsTicketOf : Option ℕ → Option Ticket → Type 0
+IsTicketOf None None = Unit {0}
+IsTicketOf (Some wait) (Some ticket) = ticket.wait ≡ wait
+IsTicketOf wait ticket = ⊥
 
 -- all who waited in the wait queue were woken, where there is one
 abbrev pub WokeFor : ℕ → Option ℕ → View → Option Woken → View → Type 0

@@ -24,14 +24,14 @@ abbrev pub points_of : Deed → List Point
 points_of (deeds.Said woken) = Claimed ∷ Raised ∷ []
 points_of (deeds.Heard woken) = TakeAnswered ∷ []
 points_of (deeds.HeardNothing woken) = TakeAnswered ∷ []
-points_of (deeds.NotHeard refusal ticket) = TakeAnswered ∷ []
+points_of (deeds.NotHeard unheard) = TakeAnswered ∷ []
 points_of (deeds.Poked answer) = Chained ∷ []
 points_of (deeds.NotPoked refusal) = Chained ∷ []
 points_of deed = []
 
 -- the points of an element's turn: those of its step, if it had one
 abbrev pub points_had : Had → List Point
-points_had (hads.Ran tried moved) = points_of tried.deed
+points_had (hads.Ran sent) = points_of sent.tried.deed
 points_had (hads.Ended moved) = []
 
 abbrev pub points_out : Outcome → List Point

@@ -13,9 +13,9 @@ use Rattle.thread_table.specs.declared.rule.View.{View}
 use Rattle.thread_table.specs.Steps.{PutsOn, TakesOff}
 use Rattle.processor.specs.declared.deed.Deed.{Deed}
 use Rattle.processor.specs.declared.deed.Deed.TheVariants as deeds
-use Rattle.processor.specs.declared.deed.Ticket.{Ticket}
-use Rattle.processor.specs.declared.running.Moved.{Moved}
-use Rattle.processor.specs.declared.running.Moved.TheVariants as moveds
+use Rattle.processor.specs.declared.ticket.Ticket.{Ticket}
+use Rattle.processor.specs.declared.sending.Moved.{Moved}
+use Rattle.processor.specs.declared.sending.Moved.TheVariants as moveds
 use Rattle.processor.specs.declared.shared.Shared.{Shared}
 use Rattle.processor.specs.declared.station.Heard.{Heard}
 use Rattle.processor.specs.declared.station.Parts.{Parts}

@@ -27,7 +27,7 @@ use Rattle.thread_table.specs.declared.rule.View.{View}
 use Rattle.thread_table.specs.Answers.{SignalAnswer, StoppedNow}
 use Rattle.processor.specs.declared.deed.Deed.{Deed}
 use Rattle.processor.specs.declared.deed.Deed.TheVariants as deeds
-use Rattle.processor.specs.declared.deed.Ticket.{Ticket}
+use Rattle.processor.specs.declared.ticket.Ticket.{Ticket}
 use Rattle.processor.specs.Pipes.{TicketFor, WokeFor, readers_of, writers_of}
 use Rattle.processor.specs.Queues.{IsThere, SaidAt, HeardAt, said_line, small_at, large_at, waits_at}
 
@@ -52,10 +52,10 @@ is_over refusal = false
 abbrev pub comes_of : Step → Deed → Bool
 comes_of (steps.Say queue text) (deeds.Said woken) = true
 comes_of (steps.Say queue text) deeds.SaidNothing = true
-comes_of (steps.Say queue text) (deeds.NotSaid refusal ticket) = true
+comes_of (steps.Say queue text) (deeds.NotSaid unsaid) = true
 comes_of (steps.Hear queue) (deeds.Heard woken) = true
 comes_of (steps.Hear queue) (deeds.HeardNothing woken) = true
-comes_of (steps.Hear queue) (deeds.NotHeard refusal ticket) = true
+comes_of (steps.Hear queue) (deeds.NotHeard unheard) = true
 comes_of (steps.Wait wait) deeds.Waits = true
 comes_of (steps.Wake wait) (deeds.Woke woken) = true
 comes_of (steps.Signal thread signal) (deeds.Signalled answer) = true
@@ -71,18 +71,21 @@ comes_of step deed = false
 
 -- By the hand: at a pipe a ticket was read, and those who wait there were woken where the step is done
 abbrev pub HandDid : ℕ → BootPlan → Step → Deed → View → View → Type 0
-HandDid call plan (steps.Say queue text) (deeds.Said woken) v w = (ticket : Option Ticket) × (u : View)
-    × TicketFor (writers_of (waits_at plan queue)) v ticket u × WokeFor call (readers_of (waits_at plan queue)) u woken w
+HandDid call plan (steps.Say queue text) (deeds.Said paid) v w = (ticket : Option Ticket) × (u : View)
+    × TicketFor (writers_of (waits_at plan queue)) v ticket u
+    × WokeFor call (readers_of (waits_at plan queue)) u paid.woken w
 HandDid call plan (steps.Say queue text) deeds.SaidNothing v w =
     (ticket : Option Ticket) × TicketFor (writers_of (waits_at plan queue)) v ticket w
-HandDid call plan (steps.Say queue text) (deeds.NotSaid refusal ticket) v w =
-    TicketFor (writers_of (waits_at plan queue)) v ticket w
-HandDid call plan (steps.Hear queue) (deeds.Heard woken) v w = (ticket : Option Ticket) × (u : View)
-    × TicketFor (readers_of (waits_at plan queue)) v ticket u × WokeFor call (writers_of (waits_at plan queue)) u woken w
-HandDid call plan (steps.Hear queue) (deeds.HeardNothing woken) v w = (ticket : Option Ticket) × (u : View)
-    × TicketFor (readers_of (waits_at plan queue)) v ticket u × WokeFor call (writers_of (waits_at plan queue)) u woken w
-HandDid call plan (steps.Hear queue) (deeds.NotHeard refusal ticket) v w =
-    TicketFor (readers_of (waits_at plan queue)) v ticket w
+HandDid call plan (steps.Say queue text) (deeds.NotSaid unsaid) v w =
+    TicketFor (writers_of (waits_at plan queue)) v unsaid.ticket w
+HandDid call plan (steps.Hear queue) (deeds.Heard paid) v w = (ticket : Option Ticket) × (u : View)
+    × TicketFor (readers_of (waits_at plan queue)) v ticket u
+    × WokeFor call (writers_of (waits_at plan queue)) u paid.woken w
+HandDid call plan (steps.Hear queue) (deeds.HeardNothing paid) v w = (ticket : Option Ticket) × (u : View)
+    × TicketFor (readers_of (waits_at plan queue)) v ticket u
+    × WokeFor call (writers_of (waits_at plan queue)) u paid.woken w
+HandDid call plan (steps.Hear queue) (deeds.NotHeard unheard) v w =
+    TicketFor (readers_of (waits_at plan queue)) v unheard.ticket w
 HandDid call plan (steps.Wait wait) deeds.Waits v w = w ≡ v
 HandDid call plan (steps.Wake wait) (deeds.Woke woken) v w = Woke call wait woken v w
 HandDid call plan (steps.Signal thread signal) (deeds.Signalled answer) v w = SignalAnswer call v thread signal answer w
@@ -94,8 +97,8 @@ HandDid call plan (steps.Poke mover) (deeds.Poked answer) v w = w ≡ v
 HandDid call plan (steps.Poke mover) (deeds.NotPoked refusal) v w = w ≡ v
 HandDid call plan steps.Pass deeds.Passed v w = w ≡ v
 HandDid call plan (steps.Close queue) (deeds.Shut was_open readers writers) v w = (u : View)
-    × WokeFor call (readers_of (waits_at plan (Small queue))) v readers u
-    × WokeFor call (writers_of (waits_at plan (Small queue))) u writers w
+    × WokeFor call (readers_of (waits_at plan (Small queue))) v readers.woken u
+    × WokeFor call (writers_of (waits_at plan (Small queue))) u writers.woken w
 HandDid call plan step deed v w = ⊥
 
 -- at the ends of the queues
@@ -105,13 +108,13 @@ QueuesDid (steps.Say queue text) (deeds.Said woken) heard old new old' new' =
     SaidAt queue (said_line text) (Ok tt) old new old' new'
 QueuesDid (steps.Say queue text) deeds.SaidNothing heard old new old' new' = (refusal : ClaimRefusal)
     × (is_shut refusal ≡ true) × SaidAt queue (said_line text) (Err refusal) old new old' new'
-QueuesDid (steps.Say queue text) (deeds.NotSaid refusal ticket) heard old new old' new' =
-    (is_shut refusal ≡ false) × SaidAt queue (said_line text) (Err refusal) old new old' new'
+QueuesDid (steps.Say queue text) (deeds.NotSaid unsaid) heard old new old' new' =
+    (is_shut unsaid.refusal ≡ false) × SaidAt queue (said_line text) (Err unsaid.refusal) old new old' new'
 QueuesDid (steps.Hear queue) (deeds.Heard woken) heard old new old' new' = HeardAt queue heard (Ok tt) old new old' new'
 QueuesDid (steps.Hear queue) (deeds.HeardNothing woken) heard old new old' new' = (refusal : TakeRefusal)
     × (is_over refusal ≡ true) × HeardAt queue heard (Err refusal) old new old' new'
-QueuesDid (steps.Hear queue) (deeds.NotHeard refusal ticket) heard old new old' new' =
-    (is_over refusal ≡ false) × HeardAt queue heard (Err refusal) old new old' new'
+QueuesDid (steps.Hear queue) (deeds.NotHeard unheard) heard old new old' new' =
+    (is_over unheard.refusal ≡ false) × HeardAt queue heard (Err unheard.refusal) old new old' new'
 QueuesDid (steps.Close queue) (deeds.Shut was_open readers writers) heard old new old' new' =
     OnEnd queue (HasShut was_open) old new × (new' ≡ old')
 QueuesDid step deed heard old new old' new' = (new ≡ old) × (new' ≡ old')

@@ -17,8 +17,8 @@ use Rattle.processor.specs.declared.outcome.Had.TheVariants as hads
 use Rattle.processor.specs.declared.outcome.Outcome.{Outcome}
 use Rattle.processor.specs.declared.outcome.Outcome.TheVariants as outcomes
 use Rattle.processor.specs.declared.outcome.Turned.{Turned}
-use Rattle.processor.specs.declared.running.Moved.{Moved}
-use Rattle.processor.specs.declared.running.Tried.{Tried}
+use Rattle.processor.specs.declared.sending.Moved.{Moved}
+use Rattle.processor.specs.declared.counting.Tried.{Tried}
 use Rattle.processor.specs.declared.shared.Shared.{Shared}
 use Rattle.processor.specs.declared.station.Parts.{Parts}
 use Rattle.processor.specs.Deeds.{is_done}
@@ -73,8 +73,8 @@ abbrev pub HadTurn : Shared → ℕ → ℕ → ℕ → Had → Parts → Parts 
 HadTurn shared p element number (hads.Ended moved) old new = (length (program shared.plan element) ≤ number)
     × Sent (call_of old.hand) 1 element moved (view_of old.hand) (view_of new.hand)
     × AreAtRest old new × (new.meters ≡ old.meters) × (new.signals ≡ old.signals)
-HadTurn shared p element number (hads.Ran tried moved) old new =
-    RanStep shared p element number tried moved old new
+HadTurn shared p element number (hads.Ran sent) old new =
+    RanStep shared p element number sent.tried sent.moved old new
 
 -- what came of an element's turn, if one was at hand
 abbrev pub CameOf : Shared → ℕ → Outcome → Parts → Parts → Type 0

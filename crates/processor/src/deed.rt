@@ -1,35 +1,29 @@
 //! What comes of the one try of a step.
-ghost use Rattle.std.specs.Prelude.{◌≡◌};
+ghost use Rattle.std.specs.Prelude.{◌≡◌, option_copied};
 
-use claim_queue::{ClaimRefusal, TakeRefusal};
+use crate::ticket::Ticket;
+use crate::tries::{Unheard, Unsaid};
+use crate::waking::Paid;
 use end_steps::Poked;
-use event_theory::WaitNumber;
 use hand_steps::{Resumed, Woken};
 use proc_chain::ChainRefusal;
 use thread_table::{Lost, Signalled};
 
-/// The number of notifies of a wait queue, as it was before the try of a step that may have to wait there.
-#[derive(Clone, Copy)]
-pub struct Ticket {
-    pub wait: WaitNumber,
-    pub number: u32,
-}
-
 /// What came of the one try of a step. A step is done unless it was refused.
-#[derive(Clone, Copy)]
+#[derive(Drop)]
 pub enum Deed {
     /// The line was put. Those who waited to hear it are woken, where the queue is a pipe.
-    Said(Option<Woken>),
+    Said(Paid),
     /// The queue is shut, and the line was not put.
     SaidNothing,
     /// The line was not put. On a pipe this was the ticket of those who wait for room, before the try.
-    NotSaid(ClaimRefusal, Option<Ticket>),
+    NotSaid(Unsaid),
     /// A line was taken. Those who waited for room are woken, where the queue is a pipe.
-    Heard(Option<Woken>),
+    Heard(Paid),
     /// The queue is shut and has no line left. Those who waited for room are woken, where the queue is a pipe.
-    HeardNothing(Option<Woken>),
+    HeardNothing(Paid),
     /// No line was taken. On a pipe this was the ticket of those who wait for a line, before the try.
-    NotHeard(TakeRefusal, Option<Ticket>),
+    NotHeard(Unheard),
     /// The element is to wait.
     Waits,
     /// Those who waited were woken.
@@ -48,8 +42,8 @@ pub enum Deed {
     /// where it is a pipe.
     Shut {
         was_open: bool,
-        readers: Option<Woken>,
-        writers: Option<Woken>,
+        readers: Paid,
+        writers: Paid,
     },
 }
 
@@ -61,8 +55,8 @@ impl Deed {
         ensures { result ≡ is_done self.now }
     {
         match self {
-            Deed::NotSaid(_, _) => false,
-            Deed::NotHeard(_, _) => false,
+            Deed::NotSaid(_) => false,
+            Deed::NotHeard(_) => false,
             Deed::NotStarted(_) => false,
             Deed::NotPoked(_) => false,
             _ => true,
@@ -70,12 +64,12 @@ impl Deed {
     }
 
     /// The ticket with which the element is to wait: where a pipe had no room for its line, or no line for it.
-    pub fn sleeps_on(&self) -> Option<Ticket>
-        ensures { result ≡ sleeps_on self.now }
+    pub fn sleeps_on(&self) -> Option<&Ticket>
+        ensures { option_copied result ≡ sleeps_on self.now }
     {
         match self {
-            Deed::NotSaid(ClaimRefusal::Full { head: _, tail: _ }, ticket) => *ticket,
-            Deed::NotHeard(TakeRefusal::Empty { at: _ }, ticket) => *ticket,
+            Deed::NotSaid(unsaid) => unsaid.ticket_if_full(),
+            Deed::NotHeard(unheard) => unheard.ticket_if_empty(),
             _ => None,
         }
     }

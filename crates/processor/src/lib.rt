@@ -5,6 +5,8 @@
 //! of its ends, and in what it heard and was signalled.
 #![tactic(auto)]
 
+mod attempt;
+mod counting;
 mod deed;
 mod laws;
 mod lines;
@@ -13,19 +15,27 @@ mod pipes;
 mod programs;
 mod queue_steps;
 mod running;
+mod sending;
 mod shared;
 mod splitting;
 mod station;
 mod steps;
 mod thread_steps;
+mod ticket;
+mod tries;
 mod turn;
+mod waking;
 
-pub use deed::{Deed, Ticket};
+pub use counting::Tried;
+pub use deed::Deed;
 pub use end_steps::{Gate, Point};
 pub use laws::{hears_are_few, steps_fit};
 pub use outcome::{Had, Outcome, Turned};
 pub use programs::hears_of;
-pub use running::{Moved, Tried};
+pub use sending::{Moved, SentOn};
 pub use shared::Shared;
 pub use station::{Heard, Parts, Station};
+pub use ticket::Ticket;
+pub use tries::{Unheard, Unsaid};
 pub use turn::run;
+pub use waking::Paid;

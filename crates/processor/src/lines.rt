@@ -29,24 +29,22 @@ pub(crate) fn line_of(text: &Text<63>) -> ArrayVec<u64, 64>
 // One try to say a line.
 pub(crate) fn say_at<G: Gate>(
     queues: &Queues,
-    small: &mut Vec<QueueEnd<64>>,
-    large: &mut Vec<QueueEnd<256>>,
+    small: &mut [QueueEnd<64>],
+    large: &mut [QueueEnd<256>],
     queue: QueueIndex,
     line: &[u64],
     p: u8,
     gate: &mut G,
 ) -> Result<(), ClaimRefusal>
-    requires small { AreEndsOf queues.now.small.items small.old.items }
-    requires large { AreEndsOf queues.now.large.items large.old.items }
+    requires small { AreEndsOf queues.now.small.items small.old }
+    requires large { AreEndsOf queues.now.large.items large.old }
     requires there { IsThere queues.now queue }
-    ensures same { AreSameEnds small.old.items small.new.items × AreSameEnds large.old.items large.new.items }
-    ensures small { AreEndsOf queues.now.small.items small.new.items }
-    ensures large { AreEndsOf queues.now.large.items large.new.items }
-    ensures said { SaidAt queue line.now result small.old.items small.new.items large.old.items large.new.items }
-    ensures small_lines { Worked (small_at queue (line_if result line.now)) no_lines never small.old.items
-        small.new.items }
-    ensures large_lines { Worked (large_at queue (line_if result line.now)) no_lines never large.old.items
-        large.new.items }
+    ensures same { AreSameEnds small.old small.new × AreSameEnds large.old large.new }
+    ensures small { AreEndsOf queues.now.small.items small.new }
+    ensures large { AreEndsOf queues.now.large.items large.new }
+    ensures said { SaidAt queue line.now result small.old small.new large.old large.new }
+    ensures small_lines { Worked (small_at queue (line_if result line.now)) no_lines never small.old small.new }
+    ensures large_lines { Worked (large_at queue (line_if result line.now)) no_lines never large.old large.new }
     ensures gate { ToldOfSay G.told p result gate.old gate.new }
 {
     match queue {
@@ -67,19 +65,19 @@ fn copy(line: &[u64], text: &mut ArrayVec<u64, 256>)
 // One try to hear a line of a small queue.
 fn hear_small<G: Gate>(
     queues: &Queues,
-    small: &mut Vec<QueueEnd<64>>,
+    small: &mut [QueueEnd<64>],
     at: usize,
     text: &mut ArrayVec<u64, 256>,
     p: u8,
     gate: &mut G,
 ) -> Result<(), TakeRefusal>
-    requires small { AreEndsOf queues.now.small.items small.old.items }
+    requires small { AreEndsOf queues.now.small.items small.old }
     requires there { at < length queues.now.small.items }
     requires empty { text.old.items ≡ [] }
-    ensures same { AreSameEnds small.old.items small.new.items }
-    ensures small { AreEndsOf queues.now.small.items small.new.items }
-    ensures heard { OnEnd at (Heard text.new.items result) small.old.items small.new.items }
-    ensures lines { Worked no_lines (only_at at (line_if result text.new.items)) never small.old.items small.new.items }
+    ensures same { AreSameEnds small.old small.new }
+    ensures small { AreEndsOf queues.now.small.items small.new }
+    ensures heard { OnEnd at (Heard text.new.items result) small.old small.new }
+    ensures lines { Worked no_lines (only_at at (line_if result text.new.items)) never small.old small.new }
     ensures long { IfOk result (λ done. 0 < length text.new.items) }
     ensures gate { G.told gate.old p TakeAnswered gate.new }
 {
@@ -92,26 +90,23 @@ fn hear_small<G: Gate>(
 // One try to hear a line.
 pub(crate) fn hear_at<G: Gate>(
     queues: &Queues,
-    small: &mut Vec<QueueEnd<64>>,
-    large: &mut Vec<QueueEnd<256>>,
+    small: &mut [QueueEnd<64>],
+    large: &mut [QueueEnd<256>],
     queue: QueueIndex,
     text: &mut ArrayVec<u64, 256>,
     p: u8,
     gate: &mut G,
 ) -> Result<(), TakeRefusal>
-    requires small { AreEndsOf queues.now.small.items small.old.items }
-    requires large { AreEndsOf queues.now.large.items large.old.items }
+    requires small { AreEndsOf queues.now.small.items small.old }
+    requires large { AreEndsOf queues.now.large.items large.old }
     requires there { IsThere queues.now queue }
     requires empty { text.old.items ≡ [] }
-    ensures same { AreSameEnds small.old.items small.new.items × AreSameEnds large.old.items large.new.items }
-    ensures small { AreEndsOf queues.now.small.items small.new.items }
-    ensures large { AreEndsOf queues.now.large.items large.new.items }
-    ensures heard { HeardAt queue text.new.items result small.old.items small.new.items large.old.items
-        large.new.items }
-    ensures small_lines { Worked no_lines (small_at queue (line_if result text.new.items)) never small.old.items
-        small.new.items }
-    ensures large_lines { Worked no_lines (large_at queue (line_if result text.new.items)) never large.old.items
-        large.new.items }
+    ensures same { AreSameEnds small.old small.new × AreSameEnds large.old large.new }
+    ensures small { AreEndsOf queues.now.small.items small.new }
+    ensures large { AreEndsOf queues.now.large.items large.new }
+    ensures heard { HeardAt queue text.new.items result small.old small.new large.old large.new }
+    ensures small_lines { Worked no_lines (small_at queue (line_if result text.new.items)) never small.old small.new }
+    ensures large_lines { Worked no_lines (large_at queue (line_if result text.new.items)) never large.old large.new }
     ensures long { IfOk result (λ done. 0 < length text.new.items) }
     ensures gate { G.told gate.old p TakeAnswered gate.new }
 {

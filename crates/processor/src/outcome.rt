@@ -1,20 +1,20 @@
 //! What comes of a turn.
 
-use crate::running::{Moved, Tried};
+use crate::sending::SentOn;
 use hand_steps::{Begun, Idle, Tended};
 
 /// What came of the turn of an element at hand.
-#[derive(Clone, Copy)]
+#[derive(Drop)]
 pub enum Had {
     /// All its steps were done, and it was retired. Where it wasn't, the free elements have no position left, and the
     /// hand holds it.
     Ended(bool),
-    /// Its next step was tried.
-    Ran(Tried, Moved),
+    /// Its next step was tried, and it went on.
+    Ran(SentOn),
 }
 
 /// What came of an element's turn, if one was at hand.
-#[derive(Clone, Copy)]
+#[derive(Drop)]
 pub enum Outcome {
     Idle(Idle),
     Had(Begun, Had),

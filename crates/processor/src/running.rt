@@ -1,51 +1,28 @@
-//! An element's turn on a processor: its step is tried and counted, and the element moves on.
+//! A step on a processor: it is tried and counted there, and a line that it heard is kept.
 ghost use Rattle.std.specs.Prelude.{◌≡◌, ◌<◌, ℕ, [], true, ◌++◌, length, map, vec_len, vec_capacity};
 ghost use Rattle.hand_steps.specs.Countings.{IsNumber};
 ghost use Rattle.hand_steps.specs.Holdings.{IsFree};
 ghost use Rattle.hand_steps.specs.Tallies.{Adds};
-ghost use Rattle.thread_table.specs.Handles.{view_of, call_of, IsHandOf, IsSameHand};
-ghost use Rattle.thread_table.specs.Keeping.{Keeps};
+ghost use Rattle.thread_table.specs.Handles.{view_of, call_of};
 ghost use Rattle.thread_table.specs.Rules.{has, done_at};
 ghost use Rattle.processor.specs.Acts.{NeverFalls};
 ghost use Rattle.processor.specs.Points.{Told, points_of};
-ghost use Rattle.processor.specs.Running.{Stepped, EndsDid, step_tally, wait_of, Goes, gone, line_heard, is_heard};
-ghost use Rattle.processor.specs.Running.{heard_in};
+ghost use Rattle.processor.specs.Running.{Stepped, EndsDid, step_tally, line_heard, is_heard, heard_in};
 ghost use Rattle.processor.specs.Stations.{ArePartsOf, AreSameParts};
 ghost use Rattle.processor.specs.Steps.{Fits, comes_of};
 
+use crate::attempt::{do_step, seat};
+use crate::counting::{Tried, count_step};
 use crate::deed::Deed;
 use crate::shared::Shared;
 use crate::station::{Heard, Parts};
-use crate::steps::do_step;
 use arrayvec::ArrayVec;
 use boot_data::plan::Step;
 use end_steps::Gate;
-use event_theory::{Element, Processor, WaitNumber};
-use hand_steps::{Counted, Waited, count, make_ready, put_on, retire, take_off, wait_at, wait_in};
+use event_theory::{Element, Processor};
+use hand_steps::take_off;
 use std::mem;
 use std::sync::Wait;
-use thread_table::{Hand, ThreadTable};
-
-/// What came of a step that was tried on a processor, and of counting it.
-#[derive(Clone, Copy)]
-pub struct Tried {
-    pub deed: Deed,
-    pub counted: Counted,
-}
-
-/// Where an element went behind its turn. Where it isn't so, the queue has no position left, and the hand holds the
-/// element.
-#[derive(Clone, Copy)]
-pub enum Moved {
-    /// To the ready ring.
-    Ready(bool),
-    /// To the free elements: all steps are done.
-    Freed(bool),
-    /// To the wait queue of its step.
-    Waits(bool),
-    /// With its ticket to a wait queue of a pipe.
-    Ticketed(Waited),
-}
 
 // Tries a step of an element that the hand holds, on a processor that is free.
 pub(crate) fn run_step<R: Wait, G: Gate>(
@@ -83,53 +60,11 @@ pub(crate) fn run_step<R: Wait, G: Gate>(
     ensures gate { Told G.told p (points_of result.deed) gate.old gate.new }
 {
     let threads = &shared.threads;
-    put_on(threads, &mut parts.hand, p, element);
-    let deed = do_step(rt, shared, parts, step, heard, p.number(), gate);
-    let counted = count(threads, &mut parts.hand, element, deed.is_done());
+    let seated = seat(threads, &mut parts.hand, p, element);
+    let attempt = do_step(rt, shared, parts, seated, step, heard, p.number(), gate);
+    let tried = count_step(threads, &mut parts.hand, element, attempt);
     take_off(threads, &mut parts.hand, p);
-    Tried { deed, counted }
-}
-
-// The wait queue of a step that waits.
-fn wait_in_step(step: &Step) -> Option<WaitNumber>
-    ensures { result ≡ wait_of step.now }
-{
-    match step {
-        Step::Wait { wait } => Some(*wait),
-        _ => None,
-    }
-}
-
-// Moves an element on behind its step.
-pub(crate) fn send_on<R: Wait>(
-    rt: &R,
-    threads: &ThreadTable,
-    hand: &mut Hand,
-    element: Element,
-    step: &Step,
-    deed: &Deed,
-    last: bool,
-) -> Moved
-    requires table { IsHandOf threads.now hand.old }
-    requires held { has (view_of hand.old) element ≡ true }
-    ensures table { IsSameHand hand.old hand.new }
-    ensures goes { Goes (call_of hand.old) step.now deed.now last element result (view_of hand.old) (view_of hand.new) }
-    ensures keeps { Keeps (view_of hand.old) (view_of hand.new) }
-    ensures adds { Adds (gone result element (done_at (view_of hand.old).schedule element)) (view_of hand.old)
-        (view_of hand.new) }
-    ensures rises { NeverFalls (view_of hand.old) (view_of hand.new) }
-{
-    if let Some(ticket) = deed.sleeps_on() {
-        return Moved::Ticketed(wait_at(rt, threads, hand, element, ticket.wait, ticket.number));
-    }
-    if let Some(wait) = wait_in_step(step) {
-        return Moved::Waits(wait_in(rt, threads, hand, element, wait));
-    }
-    if last {
-        Moved::Freed(retire(rt, threads, hand, element))
-    } else {
-        Moved::Ready(make_ready(rt, threads, hand, element))
-    }
+    tried
 }
 
 // Keeps a line that was heard, and leaves none in `text`.

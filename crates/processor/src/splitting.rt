@@ -1,5 +1,9 @@
 //! A second station, for another processor: split off, and joined again.
-ghost use Rattle.std.specs.Prelude.{◌≡◌, ◌<◌, ℕ, true, IfOk, IfErr};
+ghost use Rattle.std.specs.List.{All};
+ghost use Rattle.std.specs.Prelude.{◌≡◌, ◌<◌, ◌≤◌, ℕ, [], length, vec_capacity, true, IfOk, IfErr};
+ghost use Rattle.end_steps.specs.EndLists.{AreEndsOf, AreSameEnds, IsDivisible};
+ghost use Rattle.end_steps.specs.EndLists.{AreChainEndsOf, AreSameChainEnds, IsChainDivisible};
+ghost use Rattle.end_steps.specs.Splits as splits;
 ghost use Rattle.hand_steps.specs.Holdings.{IsFree};
 ghost use Rattle.thread_table.specs.Answers.{is_in};
 ghost use Rattle.thread_table.specs.Handles.{view_of};
@@ -11,10 +15,10 @@ ghost use Rattle.processor.specs.Stations.{ArePartsOf, AreSameParts};
 use crate::programs::hears_of;
 use crate::shared::Shared;
 use crate::station::{Heard, Parts, Station};
-use claim_queue::QueueEnd;
+use claim_queue::{ClaimQueue, QueueEnd};
 use end_steps::{join_chain_ends, join_ends, split_chain_ends_into, split_ends_into};
 use event_theory::OutOfMemory;
-use proc_chain::ChainEnd;
+use proc_chain::{ChainEnd, ProcChain};
 use quajects::AnyQuaject;
 use std::alloc::Global;
 
@@ -42,6 +46,40 @@ fn lists_for(alloc: Global, shared: &Shared) -> Result<Lists, OutOfMemory>
     })
 }
 
+// A part of each end of a list of queue ends, into one with room for them.
+fn split_list<const N: usize>(
+    queues: &[ClaimQueue<N>],
+    ends: &mut Vec<QueueEnd<N>>,
+    born: Vec<QueueEnd<N>>,
+) -> Vec<QueueEnd<N>>
+    requires ends { AreEndsOf queues.now ends.old.items }
+    requires parts { All IsDivisible ends.old.items }
+    requires room { (born.items ≡ []) × (length queues.now ≤ vec_capacity born) }
+    ensures same { AreSameEnds ends.old.items ends.new.items }
+    ensures ends { AreEndsOf queues.now ends.new.items }
+    ensures born { AreEndsOf queues.now result.items }
+    ensures split { splits.AreSplit ends.old.items ends.new.items result.items }
+{
+    split_ends_into(queues, ends.as_mut_slice(), born)
+}
+
+// A part of each end of a list of chain ends, into one with room for them.
+fn split_chain_list(
+    chains: &[ProcChain<AnyQuaject>],
+    ends: &mut Vec<ChainEnd<AnyQuaject>>,
+    born: Vec<ChainEnd<AnyQuaject>>,
+) -> Vec<ChainEnd<AnyQuaject>>
+    requires ends { AreChainEndsOf chains.now ends.old.items }
+    requires parts { All IsChainDivisible ends.old.items }
+    requires room { (born.items ≡ []) × (length chains.now ≤ vec_capacity born) }
+    ensures same { AreSameChainEnds ends.old.items ends.new.items }
+    ensures ends { AreChainEndsOf chains.now ends.new.items }
+    ensures born { AreChainEndsOf chains.now result.items }
+    ensures split { splits.AreChainsSplit ends.old.items ends.new.items result.items }
+{
+    split_chain_ends_into(chains, ends.as_mut_slice(), born)
+}
+
 // A part of each end, into lists with room for them.
 fn split_parts(shared: &Shared, parts: &mut Parts, processors: u8, lists: Lists) -> Parts
     requires parts { ArePartsOf shared.now parts.old }
@@ -63,9 +101,9 @@ fn split_parts(shared: &Shared, parts: &mut Parts, processors: u8, lists: Lists)
     } = lists;
     Parts {
         hand: shared.threads.split(&mut parts.hand, processors),
-        small: split_ends_into(shared.queues.small.as_slice(), &mut parts.small, small),
-        large: split_ends_into(shared.queues.large.as_slice(), &mut parts.large, large),
-        chains: split_chain_ends_into(shared.chains.as_slice(), &mut parts.chains, chains),
+        small: split_list(shared.queues.small.as_slice(), &mut parts.small, small),
+        large: split_list(shared.queues.large.as_slice(), &mut parts.large, large),
+        chains: split_chain_list(shared.chains.as_slice(), &mut parts.chains, chains),
         meters: shared.meters.split(&mut parts.meters),
         heard,
         signals: [0; 64],
@@ -136,9 +174,21 @@ impl Station {
         } = other.into_parts();
         let parts = &mut self.parts;
         shared.threads.join(&mut parts.hand, hand);
-        join_ends(shared.queues.small.as_slice(), &mut parts.small, small);
-        join_ends(shared.queues.large.as_slice(), &mut parts.large, large);
-        join_chain_ends(shared.chains.as_slice(), &mut parts.chains, chains);
+        join_ends(
+            shared.queues.small.as_slice(),
+            parts.small.as_mut_slice(),
+            small,
+        );
+        join_ends(
+            shared.queues.large.as_slice(),
+            parts.large.as_mut_slice(),
+            large,
+        );
+        join_chain_ends(
+            shared.chains.as_slice(),
+            parts.chains.as_mut_slice(),
+            chains,
+        );
         shared.meters.join(&mut parts.meters, meters);
         parts.signals = joined(&parts.signals, &signals);
         heard

@@ -1,4 +1,4 @@
-//! The one try of a step.
+//! What the one try of a step does.
 ghost use Rattle.std.specs.Prelude.{◌≡◌, ◌<◌, ℕ, [], length, true};
 ghost use Rattle.boot_data.specs.declared.plan.Step.TheVariants as steps;
 ghost use Rattle.end_steps.specs.EndLists.{AreChainEndsOf, AreSameChainEnds};
@@ -29,20 +29,20 @@ use std::sync::Wait;
 fn poke_step<R: Wait, G: Gate>(
     rt: &R,
     shared: &Shared,
-    ends: &mut Vec<ChainEnd<AnyQuaject>>,
+    ends: &mut [ChainEnd<AnyQuaject>],
     mover: usize,
     p: u8,
     gate: &mut G,
 ) -> Deed
-    requires ends { AreChainEndsOf shared.now.chains.items ends.old.items }
+    requires ends { AreChainEndsOf shared.now.chains.items ends.old }
     requires there { mover < length shared.now.chains.items }
     ensures comes { comes_of (steps.Poke mover) result ≡ true }
-    ensures same { AreSameChainEnds ends.old.items ends.new.items }
-    ensures ends { AreChainEndsOf shared.now.chains.items ends.new.items }
-    ensures chains { ChainsDid shared.now.chains.items (steps.Poke mover) result ends.old.items ends.new.items }
+    ensures same { AreSameChainEnds ends.old ends.new }
+    ensures ends { AreChainEndsOf shared.now.chains.items ends.new }
+    ensures chains { ChainsDid shared.now.chains.items (steps.Poke mover) result ends.old ends.new }
     ensures hand { (call : ℕ) (v : View) → HandDid call shared.now.plan (steps.Poke mover) result v v }
     ensures notes { ChainsWorked (notes_by (steps.Poke mover) result) (runs_by (steps.Poke mover) result)
-        ends.old.items ends.new.items }
+        ends.old ends.new }
     ensures gate { Told G.told p (points_of result) gate.old gate.new }
 {
     match poke(
@@ -60,7 +60,7 @@ fn poke_step<R: Wait, G: Gate>(
 }
 
 // Tries a step of a thread once. A line that is heard goes into `heard`.
-pub(crate) fn do_step<R: Wait, G: Gate>(
+pub(crate) fn try_step<R: Wait, G: Gate>(
     rt: &R,
     shared: &Shared,
     parts: &mut Parts,
@@ -98,8 +98,8 @@ pub(crate) fn do_step<R: Wait, G: Gate>(
             rt,
             shared,
             &mut parts.hand,
-            &mut parts.small,
-            &mut parts.large,
+            parts.small.as_mut_slice(),
+            parts.large.as_mut_slice(),
             *queue,
             text,
             p,
@@ -109,8 +109,8 @@ pub(crate) fn do_step<R: Wait, G: Gate>(
             rt,
             shared,
             &mut parts.hand,
-            &mut parts.small,
-            &mut parts.large,
+            parts.small.as_mut_slice(),
+            parts.large.as_mut_slice(),
             *queue,
             heard,
             p,
@@ -125,8 +125,13 @@ pub(crate) fn do_step<R: Wait, G: Gate>(
             let gauge = usize::from(gauge.number());
             Deed::Ticked(shared.meters.tick(&mut parts.meters, gauge, *amount))
         }
-        Step::Poke { mover } => poke_step(rt, shared, &mut parts.chains, *mover, p, gate),
+        Step::Poke { mover } => {
+            poke_step(rt, shared, parts.chains.as_mut_slice(), *mover, p, gate)
+        }
         Step::Pass => Deed::Passed,
-        Step::Close { queue } => close_step(rt, shared, &mut parts.hand, &mut parts.small, *queue),
+        Step::Close { queue } => {
+            let small = parts.small.as_mut_slice();
+            close_step(rt, shared, &mut parts.hand, small, *queue)
+        }
     }
 }

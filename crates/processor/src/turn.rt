@@ -15,7 +15,8 @@ ghost use Rattle.processor.specs.Turns.{is_last};
 use crate::laws::steps_fit;
 use crate::outcome::{Had, Outcome, Turned};
 use crate::programs::program_of;
-use crate::running::{Moved, Tried, keep, run_step, send_on};
+use crate::running::{keep, run_step};
+use crate::sending::{SentOn, send_on};
 use crate::shared::Shared;
 use crate::station::{Parts, Station};
 use arrayvec::ArrayVec;
@@ -44,7 +45,7 @@ fn run_element<R: Wait, G: Gate>(
     step: &Step,
     line: &mut ArrayVec<u64, 256>,
     gate: &mut G,
-) -> (Tried, Moved)
+) -> SentOn
     requires parts { ArePartsOf shared.now parts.old }
     requires held { has (view_of parts.old.hand) element ≡ true }
     requires free { IsFree p (view_of parts.old.hand) }
@@ -56,30 +57,21 @@ fn run_element<R: Wait, G: Gate>(
     ensures same { AreSameParts parts.old parts.new }
     ensures free { IsFree p (view_of parts.new.hand) }
     ensures room { HasRoom shared.now.plan parts.new }
-    ensures ran { RanStep shared.now p element number result.0 result.1 parts.old parts.new }
+    ensures ran { RanStep shared.now p element number result.tried result.moved parts.old parts.new }
     ensures logged { Logged shared.now.plan parts.old parts.new }
     ensures on { (view_of parts.new.hand).on ≡ (view_of parts.old.hand).on }
     ensures serves { (view_of parts.new.hand).serves ≡ (view_of parts.old.hand).serves }
     ensures share { (view_of parts.new.hand).member.share ≡ (view_of parts.old.hand).member.share }
-    ensures gate { Told G.told p (points_of result.0.deed) gate.old gate.new }
+    ensures gate { Told G.told p (points_of result.tried.deed) gate.old gate.new }
 {
     steps_fit();
     line.clear();
     let tried = run_step(rt, shared, parts, p, element, step, line, gate);
-    keep(&mut parts.heard, &tried.deed, element, number, line);
+    keep(&mut parts.heard, tried.deed(), element, number, line);
     let steps = program_of(&shared.plan, element).len();
-    let last = is_last(tried.deed.is_done(), number, steps);
+    let last = is_last(tried.deed().is_done(), number, steps);
     let threads = &shared.threads;
-    let moved = send_on(
-        rt,
-        threads,
-        &mut parts.hand,
-        element,
-        step,
-        &tried.deed,
-        last,
-    );
-    (tried, moved)
+    send_on(rt, threads, &mut parts.hand, element, step, tried, last)
 }
 
 // Takes an element from the ready ring, and delivers its signals.
@@ -171,8 +163,7 @@ fn take_turn<R: Wait, G: Gate>(
         return Had::Ended(moved);
     }
     let step = &steps[number as usize];
-    let (tried, moved) = run_element(rt, shared, parts, p, element, number, step, line, gate);
-    Had::Ran(tried, moved)
+    Had::Ran(run_element(rt, shared, parts, p, element, number, step, line, gate))
 }
 
 // An element from the ready ring has its turn, if there is one.

@@ -177,7 +177,7 @@ module _ (q : ℕ) where
   small_step (steps.Say queue text) (deeds.Said woken) c t = refl
   small_step (steps.Say (Small queue) text) deeds.SaidNothing c t = ap (λ (b : Bool). if b then (text ++ 10 ∷ []) ∷ [] else []) (sym t)
   small_step (steps.Say (Large queue) text) deeds.SaidNothing c t = refl
-  small_step (steps.Say queue text) (deeds.NotSaid refusal ticket) c t = refl
+  small_step (steps.Say queue text) (deeds.NotSaid unsaid) c t = refl
   small_step (steps.Say queue text) deed c t = absurd (cc)
   small_step step deed c t = nothing_if (is_done deed)
 
@@ -185,7 +185,7 @@ module _ (q : ℕ) where
   large_step (steps.Say queue text) (deeds.Said woken) c t = refl
   large_step (steps.Say (Large queue) text) deeds.SaidNothing c t = ap (λ (b : Bool). if b then (text ++ 10 ∷ []) ∷ [] else []) (sym t)
   large_step (steps.Say (Small queue) text) deeds.SaidNothing c t = refl
-  large_step (steps.Say queue text) (deeds.NotSaid refusal ticket) c t = refl
+  large_step (steps.Say queue text) (deeds.NotSaid unsaid) c t = refl
   large_step (steps.Say queue text) deed c t = absurd (cc)
   large_step step deed c t = nothing_if (is_done deed)
 

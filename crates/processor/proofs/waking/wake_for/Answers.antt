@@ -1,6 +1,6 @@
 use Rattle.processor.proofs.Acting.{acts_by}
 use Rattle.processor.proofs.Rising.{waking}
-use Rattle.processor.proofs.pipes.wake_for.Goals as goal
+use Rattle.processor.proofs.waking.wake_for.Goals as goal
 
 pub returns-in-Some-clause-acts : goal.returns-in-Some-clause-acts
 returns-in-Some-clause-acts g c = let e = c.wake.ensures in

@@ -1,8 +1,8 @@
 use Rattle.processor.proofs.Rising.{sending, waited_at}
-use Rattle.processor.proofs.running.send_on.Goals as goal
+use Rattle.processor.proofs.sending.move_on.Goals as goal
 
 pub returns-in-Some-clause-rises : goal.returns-in-Some-clause-rises
-returns-in-Some-clause-rises g c = waited_at _ _ _ _ _ _ _ c.wait_at.ensures.waited
+returns-in-Some-clause-rises g c = waited_at _ _ _ _ _ _ _ c.wait_with.ensures.waited
 
 pub returns-in-Some-wait_in_step-clause-rises : goal.returns-in-Some-wait_in_step-clause-rises
 returns-in-Some-wait_in_step-clause-rises g c = sending _ _ _ _ _ _ c.wait_in.ensures.sent

@@ -2,7 +2,7 @@ use Rattle.std.proofs.Common.{sym, subst}
 use Rattle.boot_data.specs.declared.plan.Step.{Step}
 use Rattle.thread_table.specs.Handles.{view_of, call_of}
 use Rattle.processor.specs.Steps.{HandDid}
-use Rattle.processor.proofs.steps.do_step.Goals as goal
+use Rattle.processor.proofs.steps.try_step.Goals as goal
 
 pub returns-in-Wake-clause-hand : goal.returns-in-Wake-clause-hand
 returns-in-Wake-clause-hand g c =

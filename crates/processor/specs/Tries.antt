@@ -1,0 +1,32 @@
+-- What came of a try at a queue.
+use Rattle.std.specs.Prelude.{◌≡◌, false, Option, Result, Ok, Err}
+use Rattle.claim_queue.specs.declared.claim.ClaimRefusal.{ClaimRefusal}
+use Rattle.claim_queue.specs.declared.claim.ClaimRefusal.TheVariants as claims
+use Rattle.claim_queue.specs.declared.take.TakeRefusal.{TakeRefusal}
+use Rattle.claim_queue.specs.declared.take.TakeRefusal.TheVariants as takes
+use Rattle.processor.specs.declared.ticket.Ticket.{Ticket}
+use Rattle.processor.specs.declared.tries.HearAnswer.{HearAnswer}
+use Rattle.processor.specs.declared.tries.HearAnswer.TheVariants as hears
+use Rattle.processor.specs.declared.tries.SayAnswer.{SayAnswer}
+use Rattle.processor.specs.declared.tries.SayAnswer.TheVariants as says
+use Rattle.processor.specs.Steps.{is_shut, is_over}
+
+-- how the queue answered the one try to say a line, or to hear one
+abbrev pub said : SayAnswer → Result (Unit {0}) ClaimRefusal
+said (says.Put owed) = Ok tt
+said says.Over = Err claims.Closed
+said (says.Refused unsaid) = Err unsaid.refusal
+
+abbrev pub heard : HearAnswer → Result (Unit {0}) TakeRefusal
+heard (hears.Taken owed) = Ok tt
+heard (hears.Over owed) = Err takes.Closed
+heard (hears.Refused unheard) = Err unheard.refusal
+
+-- what was refused, though the queue isn't shut, has the ticket that the try was made with
+abbrev pub IsUnsaid : Option Ticket → SayAnswer → Type 0
+IsUnsaid ticket (says.Refused unsaid) = (is_shut unsaid.refusal ≡ false) × (unsaid.ticket ≡ ticket)
+IsUnsaid ticket answer = Unit {0}
+
+abbrev pub IsUnheard : Option Ticket → HearAnswer → Type 0
+IsUnheard ticket (hears.Refused unheard) = (is_over unheard.refusal ≡ false) × (unheard.ticket ≡ ticket)
+IsUnheard ticket answer = Unit {0}

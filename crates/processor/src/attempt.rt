@@ -1,0 +1,107 @@
+//! The one try of a step, as what its counting asks for.
+//!
+//! The types keep an order: an element is put on its processor, its step is tried, and then the step is counted and the
+//! element goes on. `seat` alone makes a `Seated`, which `do_step` takes by value; `do_step` alone makes an `Attempt`,
+//! which the count takes by value. So a tick, a shut, a poke and all else that a step does is done in between.
+ghost use Rattle.std.specs.Prelude.{◌≡◌, [], length, true, Some, slice_set};
+ghost use Rattle.hand_steps.specs.Holdings.{IsFree, IsOn, HoldsLess, KeepsBut, Steady};
+ghost use Rattle.hand_steps.specs.Tallies.{Adds, no_events};
+ghost use Rattle.thread_table.specs.Handles.{view_of, call_of, IsHandOf, IsSameHand};
+ghost use Rattle.thread_table.specs.Rules.{has};
+ghost use Rattle.thread_table.specs.Steps.{PutsOn};
+ghost use Rattle.processor.specs.Acts.{Acts};
+ghost use Rattle.processor.specs.Points.{Told, points_of};
+ghost use Rattle.processor.specs.Running.{EndsDid};
+ghost use Rattle.processor.specs.Stations.{ArePartsOf, AreSameParts};
+ghost use Rattle.processor.specs.Steps.{Fits, HandDid, comes_of, raised_by};
+
+use crate::deed::Deed;
+use crate::shared::Shared;
+use crate::station::Parts;
+use crate::steps::try_step;
+use arrayvec::ArrayVec;
+use boot_data::plan::Step;
+use end_steps::Gate;
+use event_theory::{Element, Processor};
+use hand_steps::put_on;
+use std::sync::Wait;
+use thread_table::{Hand, ThreadTable};
+
+// That an element is on its processor, and its step was not tried there.
+#[derive(Drop)]
+pub(crate) struct Seated(());
+
+// That a step was tried.
+#[derive(Drop)]
+pub(crate) struct WasTried(());
+
+// What came of the one try of a step.
+#[derive(Drop)]
+pub(crate) struct Attempt {
+    deed: Deed,
+    was_tried: WasTried,
+}
+
+impl Attempt {
+    // What the step came to, and that it was tried.
+    pub(crate) fn into_deed(self) -> (Deed, WasTried)
+        ensures { result.0 ≡ self.deed }
+    {
+        let Attempt { deed, was_tried } = self;
+        (deed, was_tried)
+    }
+}
+
+// Puts an element that the hand holds on a processor, on which nothing stands.
+pub(crate) fn seat(
+    threads: &ThreadTable,
+    hand: &mut Hand,
+    processor: Processor,
+    element: Element,
+) -> Seated
+    requires table { IsHandOf threads.now hand.old }
+    requires held { has (view_of hand.old) element ≡ true }
+    requires free { IsFree processor (view_of hand.old) }
+    ensures table { IsSameHand hand.old hand.new }
+    ensures put { PutsOn (call_of hand.old) processor element (view_of hand.old) (view_of hand.new) }
+    ensures there { IsOn processor element (view_of hand.new) }
+    ensures keeps { KeepsBut (slice_set (view_of hand.old).on processor (Some element)) (view_of hand.old)
+        (view_of hand.new) }
+    ensures holds { HoldsLess element (view_of hand.old) (view_of hand.new) }
+    ensures adds { Adds no_events (view_of hand.old) (view_of hand.new) }
+    ensures steady { Steady (view_of hand.old) (view_of hand.new) }
+{
+    put_on(threads, hand, processor, element);
+    Seated(())
+}
+
+// Tries a step of a thread once, whose element is on its processor. A line that is heard goes into `heard`.
+pub(crate) fn do_step<R: Wait, G: Gate>(
+    rt: &R,
+    shared: &Shared,
+    parts: &mut Parts,
+    _seated: Seated,
+    step: &Step,
+    heard: &mut ArrayVec<u64, 256>,
+    p: u8,
+    gate: &mut G,
+) -> Attempt
+    requires parts { ArePartsOf shared.now parts.old }
+    requires fits { Fits shared.now.queues (length shared.now.chains.items) step.now }
+    requires empty { heard.old.items ≡ [] }
+    ensures comes { comes_of step.now result.deed ≡ true }
+    ensures parts { ArePartsOf shared.now parts.new }
+    ensures same { AreSameParts parts.old parts.new }
+    ensures hand { HandDid (call_of parts.old.hand) shared.now.plan step.now result.deed (view_of parts.old.hand)
+        (view_of parts.new.hand) }
+    ensures ends { EndsDid shared.now step.now result.deed heard.new.items parts.old parts.new }
+    ensures acts { Acts (raised_by step.now result.deed) (view_of parts.old.hand) (view_of parts.new.hand) }
+    ensures heard { parts.new.heard ≡ parts.old.heard }
+    ensures signals { parts.new.signals ≡ parts.old.signals }
+    ensures gate { Told G.told p (points_of result.deed) gate.old gate.new }
+{
+    Attempt {
+        deed: try_step(rt, shared, parts, step, heard, p, gate),
+        was_tried: WasTried(()),
+    }
+}

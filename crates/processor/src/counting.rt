@@ -1,0 +1,64 @@
+//! Counting a step that was tried.
+//!
+//! The type keeps an order: a step is counted behind its try, and its element goes on behind both. A `Tried`, with
+//! which the element goes on, has in it what only a try makes; so nothing here can make one before.
+ghost use Rattle.std.specs.Prelude.{◌≡◌};
+ghost use Rattle.hand_steps.specs.Countings.{CountAnswer, IsNumber, SteadyBut, counted_step};
+ghost use Rattle.hand_steps.specs.Holdings.{HoldsSame};
+ghost use Rattle.hand_steps.specs.Tallies.{Adds};
+ghost use Rattle.thread_table.specs.Handles.{view_of, call_of, IsHandOf, IsSameHand};
+ghost use Rattle.thread_table.specs.Keeping.{Keeps};
+ghost use Rattle.thread_table.specs.Rules.{MayStep, done_at};
+ghost use Rattle.processor.specs.Deeds.{is_done};
+
+use crate::attempt::{Attempt, WasTried};
+use crate::deed::Deed;
+use event_theory::Element;
+use hand_steps::{Counted, count};
+use thread_table::{Hand, ThreadTable};
+
+/// What came of a step that was tried on a processor, and of counting it.
+#[derive(Drop)]
+pub struct Tried {
+    deed: Deed,
+    counted: Counted,
+    was_tried: WasTried,
+}
+
+impl Tried {
+    // What the step came to.
+    pub(crate) fn deed(&self) -> &Deed
+        ensures { result.now ≡ self.now.deed }
+    {
+        &self.deed
+    }
+}
+
+// Counts one more step of an element that the hand has on a processor, where its try says that it is done.
+pub(crate) fn count_step(
+    threads: &ThreadTable,
+    hand: &mut Hand,
+    element: Element,
+    attempt: Attempt,
+) -> Tried
+    requires table { IsHandOf threads.now hand.old }
+    requires mine { MayStep (view_of hand.old) element }
+    ensures table { IsSameHand hand.old hand.new }
+    ensures deed { result.deed ≡ attempt.deed }
+    ensures counted { CountAnswer (call_of hand.old) element (is_done attempt.deed) (view_of hand.old) result.counted
+        (view_of hand.new) }
+    ensures keeps { Keeps (view_of hand.old) (view_of hand.new) }
+    ensures holds { HoldsSame (view_of hand.old) (view_of hand.new) }
+    ensures adds { Adds (counted_step result.counted element (done_at (view_of hand.old).schedule element))
+        (view_of hand.old) (view_of hand.new) }
+    ensures number { IsNumber result.counted element (view_of hand.old) (view_of hand.new) }
+    ensures steady { SteadyBut element (view_of hand.old) (view_of hand.new) }
+{
+    let (deed, was_tried) = attempt.into_deed();
+    let counted = count(threads, hand, element, deed.is_done());
+    Tried {
+        deed,
+        counted,
+        was_tried,
+    }
+}

@@ -1,0 +1,108 @@
+//! Where an element goes behind its step.
+//!
+//! The type keeps an order: an element goes on behind the try and the count of its step. A `SentOn`, which tells of the
+//! element's turn, has in it the `Tried` that only the count makes; so nothing here can make one before.
+ghost use Rattle.std.specs.Prelude.{◌≡◌, true};
+ghost use Rattle.hand_steps.specs.Tallies.{Adds};
+ghost use Rattle.thread_table.specs.Handles.{view_of, call_of, IsHandOf, IsSameHand};
+ghost use Rattle.thread_table.specs.Keeping.{Keeps};
+ghost use Rattle.thread_table.specs.Rules.{has, done_at};
+ghost use Rattle.processor.specs.Acts.{NeverFalls};
+ghost use Rattle.processor.specs.Running.{Goes, gone, wait_of};
+
+use crate::counting::Tried;
+use crate::ticket::wait_with;
+use boot_data::plan::Step;
+use event_theory::{Element, WaitNumber};
+use hand_steps::{Waited, make_ready, retire, wait_in};
+use std::sync::Wait;
+use thread_table::{Hand, ThreadTable};
+
+/// Where an element went behind its turn. Where it isn't so, the queue has no position left, and the hand holds the
+/// element.
+#[derive(Clone, Copy)]
+pub enum Moved {
+    /// To the ready ring.
+    Ready(bool),
+    /// To the free elements: all steps are done.
+    Freed(bool),
+    /// To the wait queue of its step.
+    Waits(bool),
+    /// With its ticket to a wait queue of a pipe.
+    Ticketed(Waited),
+}
+
+/// What came of a step, and where its element went behind it.
+#[derive(Drop)]
+pub struct SentOn {
+    tried: Tried,
+    moved: Moved,
+}
+
+// The wait queue of a step that waits.
+fn wait_in_step(step: &Step) -> Option<WaitNumber>
+    ensures { result ≡ wait_of step.now }
+{
+    match step {
+        Step::Wait { wait } => Some(*wait),
+        _ => None,
+    }
+}
+
+// Moves an element on behind its step.
+fn move_on<R: Wait>(
+    rt: &R,
+    threads: &ThreadTable,
+    hand: &mut Hand,
+    element: Element,
+    step: &Step,
+    tried: &Tried,
+    last: bool,
+) -> Moved
+    requires table { IsHandOf threads.now hand.old }
+    requires held { has (view_of hand.old) element ≡ true }
+    ensures table { IsSameHand hand.old hand.new }
+    ensures goes { Goes (call_of hand.old) step.now tried.now.deed last element result (view_of hand.old)
+        (view_of hand.new) }
+    ensures keeps { Keeps (view_of hand.old) (view_of hand.new) }
+    ensures adds { Adds (gone result element (done_at (view_of hand.old).schedule element)) (view_of hand.old)
+        (view_of hand.new) }
+    ensures rises { NeverFalls (view_of hand.old) (view_of hand.new) }
+{
+    if let Some(ticket) = tried.deed().sleeps_on() {
+        return Moved::Ticketed(wait_with(rt, threads, hand, element, ticket));
+    }
+    if let Some(wait) = wait_in_step(step) {
+        return Moved::Waits(wait_in(rt, threads, hand, element, wait));
+    }
+    if last {
+        Moved::Freed(retire(rt, threads, hand, element))
+    } else {
+        Moved::Ready(make_ready(rt, threads, hand, element))
+    }
+}
+
+// The same, with what came of the step.
+pub(crate) fn send_on<R: Wait>(
+    rt: &R,
+    threads: &ThreadTable,
+    hand: &mut Hand,
+    element: Element,
+    step: &Step,
+    tried: Tried,
+    last: bool,
+) -> SentOn
+    requires table { IsHandOf threads.now hand.old }
+    requires held { has (view_of hand.old) element ≡ true }
+    ensures table { IsSameHand hand.old hand.new }
+    ensures tried { result.tried ≡ tried }
+    ensures goes { Goes (call_of hand.old) step.now tried.deed last element result.moved (view_of hand.old)
+        (view_of hand.new) }
+    ensures keeps { Keeps (view_of hand.old) (view_of hand.new) }
+    ensures adds { Adds (gone result.moved element (done_at (view_of hand.old).schedule element)) (view_of hand.old)
+        (view_of hand.new) }
+    ensures rises { NeverFalls (view_of hand.old) (view_of hand.new) }
+{
+    let moved = move_on(rt, threads, hand, element, step, &tried, last);
+    SentOn { tried, moved }
+}

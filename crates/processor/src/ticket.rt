@@ -1,0 +1,66 @@
+//! A ticket: the number of notifies of a wait queue at a pipe, as it was before the try of a step there.
+//!
+//! The type keeps an order: the ticket is read, then the pipe is tried, and then the element waits with that ticket. An
+//! element that waits with a ticket read behind the try isn't woken by a notify that came in between. `ticket_for`
+//! alone makes tickets; a try takes one by value, has no hand to read another with, and gives it back where it was
+//! refused.
+ghost use Rattle.std.specs.Prelude.{◌≡◌, true};
+ghost use Rattle.hand_steps.specs.Sendings.{WaitedAt};
+ghost use Rattle.hand_steps.specs.Tallies.{Adds, no_events};
+ghost use Rattle.thread_table.specs.Handles.{view_of, call_of, IsHandOf, IsSameHand};
+ghost use Rattle.thread_table.specs.Keeping.{Keeps};
+ghost use Rattle.thread_table.specs.Rules.{has};
+ghost use Rattle.processor.specs.Acts.{Acts};
+ghost use Rattle.processor.specs.Pipes.{TicketFor, IsTicketOf};
+
+use event_theory::{Element, WaitNumber};
+use hand_steps::{Waited, wait_at};
+use std::sync::Wait;
+use thread_table::{Hand, ThreadTable};
+
+/// The number of notifies of a wait queue, as it was before the try of a step that may have to wait there.
+#[derive(Drop)]
+pub struct Ticket {
+    wait: WaitNumber,
+    number: u32,
+}
+
+// The ticket of a wait queue, where there is one.
+pub(crate) fn ticket_for(
+    threads: &ThreadTable,
+    hand: &mut Hand,
+    wait: Option<WaitNumber>,
+) -> Option<Ticket>
+    requires { IsHandOf threads.now hand.old }
+    ensures same { IsSameHand hand.old hand.new }
+    ensures ticket { TicketFor wait (view_of hand.old) result (view_of hand.new) }
+    ensures its { IsTicketOf wait result }
+    ensures acts { Acts no_events (view_of hand.old) (view_of hand.new) }
+{
+    match wait {
+        Some(wait) => {
+            let number = threads.ticket(hand, wait);
+            Some(Ticket { wait, number })
+        }
+        None => None,
+    }
+}
+
+// Puts an element that the hand holds into the ticket's wait queue, if the ticket is still good.
+pub(crate) fn wait_with<R: Wait>(
+    rt: &R,
+    threads: &ThreadTable,
+    hand: &mut Hand,
+    element: Element,
+    ticket: &Ticket,
+) -> Waited
+    requires table { IsHandOf threads.now hand.old }
+    requires held { has (view_of hand.old) element ≡ true }
+    ensures table { IsSameHand hand.old hand.new }
+    ensures waited { WaitedAt (call_of hand.old) ticket.now.wait element ticket.now.number result (view_of hand.old)
+        (view_of hand.new) }
+    ensures keeps { Keeps (view_of hand.old) (view_of hand.new) }
+    ensures adds { Adds no_events (view_of hand.old) (view_of hand.new) }
+{
+    wait_at(rt, threads, hand, element, ticket.wait, ticket.number)
+}

@@ -1,0 +1,204 @@
+//! The tries at a queue: to say a line, to hear one, and to shut it.
+//!
+//! The types keep an order. A try takes the ticket that was read before it, and gives it back in what it refuses, which
+//! only a try makes: so the ticket of a refusal was read before its try. A try that put or took a line, found the queue
+//! over or shut it owes a wake, and only a try makes that debt: so those who wait at a pipe are woken behind the try. A
+//! wake in front of it would leave those asleep who come to wait in between.
+ghost use Rattle.std.specs.Prelude.{◌≡◌, ◌<◌, ℕ, [], length, option_copied};
+ghost use Rattle.end_steps.specs.Deeds.{HasShut};
+ghost use Rattle.end_steps.specs.EndLists.{AreEndsOf, AreSameEnds, OnEnd, number_at};
+ghost use Rattle.end_steps.specs.Gates.{ToldOfSay};
+ghost use Rattle.end_steps.specs.Sums.{Worked, line_if, no_lines, never, once_if};
+ghost use Rattle.end_steps.specs.declared.gate.Point.TheVariants.{TakeAnswered};
+ghost use Rattle.processor.specs.Deeds.{if_full, if_empty};
+ghost use Rattle.processor.specs.Pipes.{IsTicketOf, readers_of, writers_of};
+ghost use Rattle.processor.specs.Queues.{IsThere, SaidAt, HeardAt, small_at, large_at, waits_at};
+ghost use Rattle.processor.specs.Steps.{is_shut, is_over};
+ghost use Rattle.processor.specs.Tries.{said, heard, IsUnsaid, IsUnheard};
+
+use crate::lines::{hear_at, say_at};
+use crate::shared::Shared;
+use crate::ticket::Ticket;
+use arrayvec::ArrayVec;
+use boot_data::plan::QueueIndex;
+use claim_queue::{ClaimRefusal, QueueEnd, TakeRefusal};
+use end_steps::{Gate, shut_queue};
+use quajects::Queues;
+
+// A wake that is owed to those who wait at a pipe.
+#[derive(Drop)]
+pub(crate) struct Owed(());
+
+/// A line that was not put though the queue is open, and on a pipe the ticket of those who wait for room.
+#[derive(Drop)]
+pub struct Unsaid {
+    refusal: ClaimRefusal,
+    ticket: Option<Ticket>,
+}
+
+/// That no line was taken though one may still come, and on a pipe the ticket of those who wait for a line.
+#[derive(Drop)]
+pub struct Unheard {
+    refusal: TakeRefusal,
+    ticket: Option<Ticket>,
+}
+
+// What came of a try to say a line.
+#[derive(Drop)]
+pub(crate) enum SayAnswer {
+    /// The line was put.
+    Put(Owed),
+    /// The queue is shut.
+    Over,
+    /// The line was not put.
+    Refused(Unsaid),
+}
+
+// What came of a try to hear a line.
+#[derive(Drop)]
+pub(crate) enum HearAnswer {
+    /// A line was taken.
+    Taken(Owed),
+    /// The queue is shut, and has nothing left.
+    Over(Owed),
+    /// No line was taken.
+    Refused(Unheard),
+}
+
+// A queue that was shut, which was open or not, and what is owed to those who wait to hear, and for room.
+#[derive(Drop)]
+pub(crate) struct WasShut {
+    pub(crate) was_open: bool,
+    pub(crate) readers: Owed,
+    pub(crate) writers: Owed,
+}
+
+impl Unsaid {
+    // The ticket with which the element is to wait, where the pipe had no room for its line.
+    pub(crate) fn ticket_if_full(&self) -> Option<&Ticket>
+        ensures { option_copied result ≡ if_full self.now.refusal self.now.ticket }
+    {
+        match self.refusal {
+            ClaimRefusal::Full { head: _, tail: _ } => self.ticket.as_ref(),
+            _ => None,
+        }
+    }
+}
+
+impl Unheard {
+    // The ticket with which the element is to wait, where the pipe had no line.
+    pub(crate) fn ticket_if_empty(&self) -> Option<&Ticket>
+        ensures { option_copied result ≡ if_empty self.now.refusal self.now.ticket }
+    {
+        match self.refusal {
+            TakeRefusal::Empty { at: _ } => self.ticket.as_ref(),
+            _ => None,
+        }
+    }
+}
+
+// Whether a claim was refused since the queue is shut.
+fn is_shut(refusal: &ClaimRefusal) -> bool
+    ensures { result ≡ is_shut refusal.now }
+{
+    matches!(*refusal, ClaimRefusal::Closed)
+}
+
+// Whether a taking was refused since the queue is shut, and has nothing left.
+fn is_over(refusal: &TakeRefusal) -> bool
+    ensures { result ≡ is_over refusal.now }
+{
+    matches!(*refusal, TakeRefusal::Closed)
+}
+
+// One try to say a line, with the ticket of those who wait for room.
+pub(crate) fn try_say<G: Gate>(
+    shared: &Shared,
+    small: &mut [QueueEnd<64>],
+    large: &mut [QueueEnd<256>],
+    queue: QueueIndex,
+    line: &[u64],
+    ticket: Option<Ticket>,
+    p: u8,
+    gate: &mut G,
+) -> SayAnswer
+    requires small { AreEndsOf shared.now.queues.small.items small.old }
+    requires large { AreEndsOf shared.now.queues.large.items large.old }
+    requires there { IsThere shared.now.queues queue }
+    requires ticket { IsTicketOf (writers_of (waits_at shared.now.plan queue)) ticket }
+    ensures same { AreSameEnds small.old small.new × AreSameEnds large.old large.new }
+    ensures small { AreEndsOf shared.now.queues.small.items small.new }
+    ensures large { AreEndsOf shared.now.queues.large.items large.new }
+    ensures said { SaidAt queue line.now (said result) small.old small.new large.old large.new }
+    ensures refused { IsUnsaid ticket result }
+    ensures small_lines { Worked (small_at queue (line_if (said result) line.now)) no_lines never small.old small.new }
+    ensures large_lines { Worked (large_at queue (line_if (said result) line.now)) no_lines never large.old large.new }
+    ensures gate { ToldOfSay G.told p (said result) gate.old gate.new }
+{
+    match say_at(&shared.queues, small, large, queue, line, p, gate) {
+        Ok(()) => SayAnswer::Put(Owed(())),
+        Err(refusal) => {
+            if is_shut(&refusal) {
+                SayAnswer::Over
+            } else {
+                SayAnswer::Refused(Unsaid { refusal, ticket })
+            }
+        }
+    }
+}
+
+// One try to hear a line, with the ticket of those who wait for one.
+pub(crate) fn try_hear<G: Gate>(
+    shared: &Shared,
+    small: &mut [QueueEnd<64>],
+    large: &mut [QueueEnd<256>],
+    queue: QueueIndex,
+    text: &mut ArrayVec<u64, 256>,
+    ticket: Option<Ticket>,
+    p: u8,
+    gate: &mut G,
+) -> HearAnswer
+    requires small { AreEndsOf shared.now.queues.small.items small.old }
+    requires large { AreEndsOf shared.now.queues.large.items large.old }
+    requires there { IsThere shared.now.queues queue }
+    requires empty { text.old.items ≡ [] }
+    requires ticket { IsTicketOf (readers_of (waits_at shared.now.plan queue)) ticket }
+    ensures same { AreSameEnds small.old small.new × AreSameEnds large.old large.new }
+    ensures small { AreEndsOf shared.now.queues.small.items small.new }
+    ensures large { AreEndsOf shared.now.queues.large.items large.new }
+    ensures heard { HeardAt queue text.new.items (heard result) small.old small.new large.old large.new }
+    ensures refused { IsUnheard ticket result }
+    ensures small_lines { Worked no_lines (small_at queue (line_if (heard result) text.new.items)) never small.old
+        small.new }
+    ensures large_lines { Worked no_lines (large_at queue (line_if (heard result) text.new.items)) never large.old
+        large.new }
+    ensures gate { G.told gate.old p TakeAnswered gate.new }
+{
+    match hear_at(&shared.queues, small, large, queue, text, p, gate) {
+        Ok(()) => HearAnswer::Taken(Owed(())),
+        Err(refusal) => {
+            if is_over(&refusal) {
+                HearAnswer::Over(Owed(()))
+            } else {
+                HearAnswer::Refused(Unheard { refusal, ticket })
+            }
+        }
+    }
+}
+
+// Shuts a small queue.
+pub(crate) fn shut_at(queues: &Queues, small: &mut [QueueEnd<64>], queue: usize) -> WasShut
+    requires small { AreEndsOf queues.now.small.items small.old }
+    requires there { queue < length queues.now.small.items }
+    ensures same { AreSameEnds small.old small.new }
+    ensures small { AreEndsOf queues.now.small.items small.new }
+    ensures shut { OnEnd queue (HasShut result.was_open) small.old small.new }
+    ensures lines { Worked no_lines no_lines (number_at queue (once_if result.was_open)) small.old small.new }
+{
+    let was_open = shut_queue(queues.small.as_slice(), small, queue);
+    WasShut {
+        was_open,
+        readers: Owed(()),
+        writers: Owed(()),
+    }
+}

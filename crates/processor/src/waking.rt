@@ -1,0 +1,43 @@
+//! Waking those who wait at a pipe.
+//!
+//! The type keeps an order: those who wait are woken behind the try that has news for them. A `Paid`, which a deed
+//! tells, has in it the debt that only a try makes; so nothing here can make one before.
+ghost use Rattle.hand_steps.specs.Tallies.{no_events};
+ghost use Rattle.thread_table.specs.Handles.{view_of, call_of, IsHandOf, IsSameHand};
+ghost use Rattle.processor.specs.Acts.{Acts};
+ghost use Rattle.processor.specs.Pipes.{WokeFor};
+
+use crate::tries::Owed;
+use event_theory::WaitNumber;
+use hand_steps::{Woken, wake};
+use std::sync::Wait;
+use thread_table::{Hand, ThreadTable};
+
+/// A wake that was owed, and was made where the queue is a pipe.
+#[derive(Drop)]
+pub struct Paid {
+    woken: Option<Woken>,
+    owed: Owed,
+}
+
+// Wakes all who wait in a wait queue, where there is one, as a try owes it to them.
+pub(crate) fn wake_for<R: Wait>(
+    rt: &R,
+    threads: &ThreadTable,
+    hand: &mut Hand,
+    wait: Option<WaitNumber>,
+    owed: Owed,
+) -> Paid
+    requires { IsHandOf threads.now hand.old }
+    ensures same { IsSameHand hand.old hand.new }
+    ensures woken { WokeFor (call_of hand.old) wait (view_of hand.old) result.woken (view_of hand.new) }
+    ensures acts { Acts no_events (view_of hand.old) (view_of hand.new) }
+{
+    match wait {
+        Some(wait) => {
+            let woken = Some(wake(rt, threads, hand, wait));
+            Paid { woken, owed }
+        }
+        None => Paid { woken: None, owed },
+    }
+}

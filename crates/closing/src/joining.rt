@@ -10,8 +10,8 @@ ghost use Rattle.proc_chain.specs.Handles.{turn_of};
 ghost use Rattle.processor.specs.RawEnds.{IsChainEndAt};
 ghost use Rattle.quajects.specs.Ports.{IsEndAt};
 
-use crate::items::item_at;
 use claim_queue::{ClaimQueue, QueueEnd};
+use end_steps::item_at;
 use proc_chain::{ChainEnd, ProcChain};
 use quajects::{AnyQuaject, Port};
 

@@ -8,7 +8,6 @@
 mod all;
 mod chains;
 mod homing;
-mod items;
 mod joining;
 mod laws;
 mod queues;

@@ -13,6 +13,7 @@ mod splitting;
 pub use chain_splitting::{join_chain_ends, split_chain_ends, split_chain_ends_into};
 pub use gate::{Gate, NoGate, Point};
 pub use hearing::{hear, shut_queue};
+pub use items::item_at;
 pub use poking::{Poked, poke};
 pub use saying::say;
 pub use splitting::{join_ends, split_ends, split_ends_into};

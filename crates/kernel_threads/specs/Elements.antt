@@ -90,8 +90,8 @@ abbrev pub Freed : ℕ → View → View → Type 0
 Freed element v w = Moved [] (element ∷ []) v w × HoldsLess element v w
 
 -- So many elements, the first ones, were put into the ready ring, and the others behind the free ones, in their order,
--- and the hand holds none. There were 64 takings of free elements, but for those elements that the hand held before; and
--- of its own there were so many, and no other
+-- and the hand holds none. There were 64 takings of free elements, but for those elements that the hand held before;
+-- and of its own there were so many, and no other
 pub record Prepared (threads : ℕ) (v w : View) : Type 0 where
   pub moved : Moved (range_with_len 0 threads) (range_with_len threads (64 - threads)) v w
   pub none : (e : ℕ) → e < 64 → has w e ≡ false

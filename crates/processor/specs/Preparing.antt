@@ -15,9 +15,9 @@ use Rattle.processor.specs.Stations.{no_signals}
 abbrev pub HasDoneAll : BootPlan → Key → Type 0
 HasDoneAll plan retired = length (program plan retired.0) ≤ retired.1
 
--- The first station saw that the free elements with which the table began were all taken, and took 64. It did no step, raised and
--- delivered no signal, put and took no line and no note, and shut nothing; the elements that it put behind the free
--- ones had nothing to do; of the meters it set the plan's alarms, and did nothing else
+-- The first station saw that the free elements with which the table began were all taken, and took 64. It did no step,
+-- raised and delivered no signal, put and took no line and no note, and shut nothing; the elements that it put behind
+-- the free ones had nothing to do; of the meters it set the plan's alarms, and did nothing else
 pub record IsPrepared (plan : BootPlan) (first : Parts) : Type 0 where
   pub taken : 64 ≤ (line_at (elements_after (view_of first.hand).schedule) 1).taken
   pub done : (tally (view_of first.hand).made).done ≡ []

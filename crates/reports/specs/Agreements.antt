@@ -1,5 +1,6 @@
 -- How the closed tables agree with the plan and with what the processors did.
-use Rattle.std.specs.Prelude.{◌≡◌, ◌≤◌, ◌<◌, ◌+◌, ◌%◌, ◌==◌, ◌||◌, ℕ, Bool, true, false, nat_lt, if◌then◌else◌, List, []}
+use Rattle.std.specs.Prelude.{◌≡◌, ◌≤◌, ◌<◌, ◌+◌, ◌%◌, ◌==◌, ◌||◌, ℕ, Bool, true, false, nat_lt}
+use Rattle.std.specs.Prelude.{if◌then◌else◌, List, []}
 use Rattle.std.specs.Prelude.{◌∷◌, ◌++◌, length, map, take, flat_map, Option, Some, None, count_by}
 use Rattle.std.specs.List.{slice_get, list_any, concat, AllByRecursion}
 use Rattle.boot_data.specs.declared.boot_plan.BootPlan.{BootPlan}
@@ -44,8 +45,8 @@ pub record StepsAgree (plan : BootPlan) (thread steps : ℕ) (logs : List (List 
       ≡ (if nat_lt number steps then 1 else 0)
   pub order : AllByRecursion (λ log. Climbs (numbers_done log thread) 0 steps) logs
 
--- A thread's element is among the free ones exactly where a processor retired it, and it has then done all its steps; none
--- stands on a processor
+-- A thread's element is among the free ones exactly where a processor retired it, and it has then done all its steps;
+-- none stands on a processor
 abbrev pub PlaceAgrees : Place → ℕ → ℕ → Bool → Type 0
 PlaceAgrees places.Free steps all retired = (steps ≡ all) × (retired ≡ true)
 PlaceAgrees (places.Processor p) steps all retired = ⊥

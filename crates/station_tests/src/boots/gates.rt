@@ -175,6 +175,17 @@ fn two_processors_meet_in_a_queue(rt: HostRuntime) {
     );
 }
 
+/// The points of a step are told within it: what one processor has claimed, and not raised, the other doesn't hear.
+#[test]
+fn a_line_that_is_claimed_is_not_heard(rt: HostRuntime) {
+    let script = "synthesis 1\nqueue q\nthread a\nsay q x\nthread b\nhear q\n";
+    let points = (Point::Claimed, Point::TakeAnswered);
+    let (ended, printed) = boot_pair(&rt, rt.alloc(), script, 1, points);
+    let wanted = b"queue q put 2 taken 0 left 2\nthread a ended 1\nthread b ready 0\nchained 0\n";
+    assert!(rt; !ended);
+    assert!(rt; printed.as_slice() == wanted.as_slice());
+}
+
 /// A processor that stands still at any point for a thousand turns of the other changes nothing of what is done.
 #[test]
 fn a_processor_stands_still(rt: HostRuntime) {

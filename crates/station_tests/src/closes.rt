@@ -92,12 +92,13 @@ fn closes_queues(rt: HostRuntime) -> Result<(), Fail> {
     } = shared_queue(rt.alloc())?;
     let mut ends = ends;
     let list = queues.as_slice();
-    assert!(rt; say(list, &mut ends, 0, &[104, 105, 10], 0, &mut NoGate) == Ok(()));
-    assert!(rt; say(list, &mut ends, 0, &[33, 10], 0, &mut NoGate) == Ok(()));
+    let mine = ends.as_mut_slice();
+    assert!(rt; say(list, mine, 0, &[104, 105, 10], 0, &mut NoGate) == Ok(()));
+    assert!(rt; say(list, mine, 0, &[33, 10], 0, &mut NoGate) == Ok(()));
     let mut line = ArrayVec::new();
-    assert!(rt; hear(list, &mut ends, 0, &mut line, 0, &mut NoGate) == Ok(()));
-    assert!(rt; shut_queue(list, &mut ends, 0));
-    join_at(list, ends.as_mut_slice(), 0, other);
+    assert!(rt; hear(list, mine, 0, &mut line, 0, &mut NoGate) == Ok(()));
+    assert!(rt; shut_queue(list, mine, 0));
+    join_at(list, mine, 0, other);
     let room = Vec::with_capacity(rt.alloc(), 1)?;
     let closed = close_queues(queues, ends, room);
     assert!(rt; closed.len() == 1);

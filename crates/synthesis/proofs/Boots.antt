@@ -13,8 +13,15 @@ answer_alone :
     → BootAnswers said processors turns answer old new → IsBootAnswerOf said processors turns answer
 answer_alone said processors turns (Ok ended) old new h = (
   h.0,
-  h.1,
-  record { plan = h.2.plan; says = h.2.says; report = h.2.run.report; booted = h.2.run.booted; ends = h.2.run.ends },
+  h.2,
+  record {
+    plan = h.3.plan;
+    says = h.3.says;
+    report = h.3.run.report;
+    back = h.1;
+    booted = h.3.run.booted;
+    ends = h.3.run.ends;
+  },
 )
 answer_alone said processors turns (Err fault) old new h = h
 

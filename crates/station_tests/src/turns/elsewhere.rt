@@ -27,6 +27,19 @@ struct Sayer<'r, 's, R: Wait> {
     ghost hand_fits: { IsHandOf shared.now.threads hand },
 }
 
+/// Says a line in the first queue, or shuts it.
+fn say_or_shut(queues: &[ClaimQueue<64>], ends: &mut Vec<QueueEnd<64>>, shuts: bool)
+    requires ends { AreEndsOf queues.now ends.old.items }
+    requires known { 0 < length queues.now }
+    ensures { AreEndsOf queues.now ends.new.items }
+{
+    if shuts {
+        let _open = shut_queue(queues, ends.as_mut_slice(), 0);
+    } else {
+        let _said = say(queues, ends.as_mut_slice(), 0, &[122, 10], 0, &mut NoGate);
+    }
+}
+
 impl<'r, 's, R: Wait> Gate for Sayer<'r, 's, R> {
     ghost told = { λ old p point new. new.shared.now ≡ old.shared.now };
 
@@ -35,11 +48,7 @@ impl<'r, 's, R: Wait> Gate for Sayer<'r, 's, R> {
             return;
         }
         let queues = self.shared.queues.small.as_slice();
-        if self.shuts {
-            let _open = shut_queue(queues, &mut self.ends, 0);
-        } else {
-            let _said = say(queues, &mut self.ends, 0, &[122, 10], 0, &mut NoGate);
-        }
+        say_or_shut(queues, &mut self.ends, self.shuts);
         let _woken = wake(self.rt, &self.shared.threads, &mut self.hand, self.wait);
     }
 }

@@ -1,0 +1,4 @@
+mod Buffers
+mod QueueClosed
+mod QueueEnds
+mod Telling

@@ -1,0 +1,24 @@
+-- What C is told follows from what the library answered.
+use Rattle.std.proofs.Common.{◌≡◌, ◌∙◌, refl, sym, ap, subst, Bool, true, false}
+use Rattle.std.specs.declared.option.Option.{Option}
+use Rattle.std.specs.declared.option.Option.TheVariants.{None, Some}
+use Rattle.bindings.specs.Hiding.{is_some}
+
+abbrev IsTrueSome : Bool → Type 0
+IsTrueSome true = Unit {0}
+IsTrueSome false = ⊥
+
+abbrev the : {X : Type 0} → X → Option X → X
+the x None = x
+the x (Some y) = y
+
+-- what holds of the value that was found holds of the value that was there
+pub at_value : {X : Type 0} {old : Option X} {b : X} (Q : X → Type 0) → old ≡ Some b → Q b → (x : X) → old ≡ Some x → Q x
+at_value {b = b} Q h did x e = subst Q (ap (the b) (sym h ∙ e)) did
+
+pub is_none : {X : Type 0} (m : Option X) → is_some m ≡ false → m ≡ None
+is_none None h = refl
+is_none (Some x) h = absurd (subst IsTrueSome h tt)
+
+pub some_is : {X : Type 0} {m : Option X} {x : X} → m ≡ Some x → is_some m ≡ true
+some_is e = ap is_some e

@@ -1,0 +1,82 @@
+-- The numbers by which an answer is told to C.
+use Rattle.std.specs.Prelude.{ℕ, zero, suc, ℤ, pos, negsuc, Result, Ok, Err}
+use Rattle.std.specs.declared.option.Option.{Option}
+use Rattle.std.specs.declared.option.Option.TheVariants.{None, Some}
+use Rattle.claim_queue.specs.declared.claim.ClaimRefusal.{ClaimRefusal}
+use Rattle.claim_queue.specs.declared.claim.ClaimRefusal.TheVariants as claim
+use Rattle.claim_queue.specs.declared.take.TakeRefusal.{TakeRefusal}
+use Rattle.claim_queue.specs.declared.take.TakeRefusal.TheVariants as take
+
+-- the call did what it is for
+abbrev pub Done : ℤ
+Done = pos 0
+
+-- what only a caller that isn't checked can do
+abbrev pub NoMemory : ℤ
+NoMemory = negsuc 0
+
+abbrev pub EmptyHandle : ℤ
+EmptyHandle = negsuc 1
+
+abbrev pub FullHandle : ℤ
+FullHandle = negsuc 2
+
+abbrev pub OtherObject : ℤ
+OtherObject = negsuc 3
+
+abbrev pub NoShare : ℤ
+NoShare = negsuc 4
+
+abbrev pub ShortBuffer : ℤ
+ShortBuffer = negsuc 5
+
+abbrev pub BadNumber : ℤ
+BadNumber = negsuc 6
+
+-- no other handle stands, but ends were freed
+abbrev pub Freed : ℤ
+Freed = negsuc 7
+
+-- other handles stand
+abbrev pub Open : ℤ
+Open = pos 12
+
+abbrev pub code_of_claim : Result ℕ ClaimRefusal → ℤ
+code_of_claim (Ok start) = pos 0
+code_of_claim (Err claim.NoItems) = pos 1
+code_of_claim (Err claim.TooLong) = pos 2
+code_of_claim (Err claim.Closed) = pos 3
+code_of_claim (Err claim.Spent) = pos 4
+code_of_claim (Err (claim.Full head tail)) = pos 5
+code_of_claim (Err (claim.Lost head)) = pos 6
+
+abbrev pub head_of_claim : Result ℕ ClaimRefusal → ℕ
+head_of_claim (Ok start) = start
+head_of_claim (Err (claim.Full head tail)) = head
+head_of_claim (Err (claim.Lost head)) = head
+head_of_claim (Err _) = 0
+
+abbrev pub tail_of_claim : Result ℕ ClaimRefusal → ℕ
+tail_of_claim (Err (claim.Full head tail)) = tail
+tail_of_claim _ = 0
+
+abbrev pub code_of_take : TakeRefusal → ℤ
+code_of_take take.Closed = pos 3
+code_of_take (take.Lost tail) = pos 6
+code_of_take (take.Empty at) = pos 7
+
+abbrev pub tail_of_take : TakeRefusal → ℕ
+tail_of_take take.Closed = 0
+tail_of_take (take.Lost tail) = tail
+tail_of_take (take.Empty at) = at
+
+-- done where anything was taken, and else why the first taking was refused
+abbrev pub code_of_some : ℕ → Option TakeRefusal → ℤ
+code_of_some (suc n) _ = pos 0
+code_of_some zero None = pos 0
+code_of_some zero (Some r) = code_of_take r
+
+-- the position that the last refusal tells
+abbrev pub tail_of_some : Option TakeRefusal → ℕ
+tail_of_some None = 0
+tail_of_some (Some r) = tail_of_take r

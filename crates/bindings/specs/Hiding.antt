@@ -1,0 +1,29 @@
+-- A box on the heap that is held by its pointer alone.
+use base.Fml.{Fml, ftrue}
+use denote.RattleType.{RattleType}
+use denote.RawPtr.{Ptr}
+use Rattle.std.specs.declared.alloc.Global.{Global}
+use Rattle.std.specs.contracts.impls.GlobalAllocator.TheImpl.{ghosts}
+use mir.Syntax.{Ty}
+use Rattle.std.specs.Prelude.{Bool, true, false}
+use Rattle.std.specs.Box.Ownership.{box_owns}
+use Rattle.std.specs.declared.option.Option.{Option}
+use Rattle.std.specs.declared.option.Option.TheVariants.{None, Some}
+
+-- the C library's heap, of which there is one
+abbrev pub the_heap : Global
+the_heap = record { memory = record { seal = tt } }
+
+-- the right to free the block at the pointer
+abbrev pub may_free : Ty → Ptr → Fml
+may_free = ghosts.dealloc_token the_heap
+
+-- where there is a value, its box stands at the pointer, and the C library's heap can have it back
+abbrev pub hides : (R : RattleType) → Ptr → Option R.Denot → Fml
+hides R p None = ftrue
+hides R p (Some x) = box_owns may_free R p x
+
+-- something is held
+abbrev pub is_some : {X : Type 0} → Option X → Bool
+is_some None = false
+is_some (Some x) = true

@@ -1,0 +1,138 @@
+//! What the calls answer to C.
+ghost use Rattle.std.specs.Prelude.{◌≡◌};
+ghost use Rattle.bindings.specs.Codes.{code_of_claim, head_of_claim, tail_of_claim, code_of_take, tail_of_take};
+ghost use Rattle.bindings.specs.Codes.{code_of_some, tail_of_some};
+
+use claim_queue::{ClaimRefusal, TakeRefusal};
+
+/// The call did what it is for.
+pub const DONE: i32 = 0;
+
+pub const NO_ITEMS: i32 = 1;
+
+pub const TOO_LONG: i32 = 2;
+
+pub const CLOSED: i32 = 3;
+
+pub const SPENT: i32 = 4;
+
+pub const FULL: i32 = 5;
+
+pub const LOST: i32 = 6;
+
+pub const EMPTY: i32 = 7;
+
+pub const OPEN: i32 = 12;
+
+pub const NO_MEMORY: i32 = -1;
+
+pub const EMPTY_HANDLE: i32 = -2;
+
+pub const FULL_HANDLE: i32 = -3;
+
+pub const OTHER_OBJECT: i32 = -4;
+
+pub const NO_SHARE: i32 = -5;
+
+pub const SHORT_BUFFER: i32 = -6;
+
+pub const BAD_NUMBER: i32 = -7;
+
+pub const FREED: i32 = -8;
+
+/// What a call answered, with the numbers that its refusal tells.
+#[repr(C)]
+#[derive(Drop)]
+pub struct SynthAnswer {
+    pub code: i32,
+    pub head: u32,
+    pub tail: u32,
+}
+
+/// What a queue had at its end: its first position, how many items were put and taken, and how many were left. `freed` is the
+/// number of ends that were freed and not joined.
+#[repr(C)]
+#[derive(Drop)]
+pub struct SynthClosed {
+    pub first: u32,
+    pub put: u32,
+    pub taken: u32,
+    pub left: usize,
+    pub freed: u64,
+}
+
+/// The code alone.
+pub fn told(code: i32) -> SynthAnswer
+    ensures { (result.code ≡ code) × (result.head ≡ 0) × (result.tail ≡ 0) }
+{
+    SynthAnswer {
+        code,
+        head: 0,
+        tail: 0,
+    }
+}
+
+/// The code of the answer, and the positions that it tells: of a put its first, of a refusal its own.
+pub fn told_of_claim(answer: Result<u32, ClaimRefusal>) -> SynthAnswer
+    ensures { (result.code ≡ code_of_claim answer) × (result.head ≡ head_of_claim answer)
+        × (result.tail ≡ tail_of_claim answer) }
+{
+    match answer {
+        Ok(head) => SynthAnswer {
+            code: DONE,
+            head,
+            tail: 0,
+        },
+        Err(ClaimRefusal::NoItems) => told(NO_ITEMS),
+        Err(ClaimRefusal::TooLong) => told(TOO_LONG),
+        Err(ClaimRefusal::Closed) => told(CLOSED),
+        Err(ClaimRefusal::Spent) => told(SPENT),
+        Err(ClaimRefusal::Full { head, tail }) => SynthAnswer {
+            code: FULL,
+            head,
+            tail,
+        },
+        Err(ClaimRefusal::Lost { head }) => SynthAnswer {
+            code: LOST,
+            head,
+            tail: 0,
+        },
+    }
+}
+
+/// The code of the refusal, and the position that it tells.
+pub fn told_of_take(refusal: TakeRefusal) -> SynthAnswer
+    ensures { (result.code ≡ code_of_take refusal) × (result.head ≡ 0) × (result.tail ≡ tail_of_take refusal) }
+{
+    match refusal {
+        TakeRefusal::Empty { at } => SynthAnswer {
+            code: EMPTY,
+            head: 0,
+            tail: at,
+        },
+        TakeRefusal::Lost { tail } => SynthAnswer {
+            code: LOST,
+            head: 0,
+            tail,
+        },
+        TakeRefusal::Closed => told(CLOSED),
+    }
+}
+
+/// Done where anything was taken, and else why the first taking was refused. The position is the last refusal's.
+pub fn told_of_some(count: usize, refusal: Option<TakeRefusal>) -> SynthAnswer
+    ensures { (result.code ≡ code_of_some count refusal) × (result.head ≡ 0) × (result.tail ≡ tail_of_some refusal) }
+{
+    let Some(refusal) = refusal else {
+        return told(DONE);
+    };
+    let refused = told_of_take(refusal);
+    if count == 0 {
+        return refused;
+    }
+    SynthAnswer {
+        code: DONE,
+        head: 0,
+        tail: refused.tail,
+    }
+}

@@ -1,0 +1,5 @@
+//! The tables for C.
+#![tactic(auto)]
+
+mod answer;
+mod queue;

@@ -1,0 +1,150 @@
+//! What a handle of a queue stands for.
+ghost use Rattle.std.specs.Prelude.{◌≡◌, ◌≤◌, ◌<◌, length, MatchBool};
+ghost use Rattle.std.specs.Option.{MatchOption};
+ghost use Rattle.bindings.specs.QueueHeld.{AtSize, AtSizes, IsSize, HaveOneMark, AreOfOneQueue};
+ghost use Rattle.bindings.specs.QueueHeld.{IsNewHeld, places_of, parts_of};
+ghost use Rattle.bindings.specs.QueueParts.{PutPart, TookPart, TookLinePart, TookSomePart, ShutPart, DividedPart, JoinedPart};
+
+use super::part::Part;
+use claim_queue::{ClaimRefusal, TakeRefusal};
+use std::alloc::Global;
+
+/// An end of a queue of either size.
+#[derive(Drop)]
+pub enum Held {
+    Small(Part<64>),
+    Large(Part<256>),
+}
+
+/// Whether a queue can have so many places.
+pub fn is_size(places: u32) -> bool
+    ensures { MatchBool result (IsSize places) (IsSize places → ⊥) }
+{
+    places == 64 || places == 256
+}
+
+impl Held {
+    /// The only end of an empty queue of so many places.
+    pub fn new(alloc: Global, places: u32, first: u32, mark: u64) -> Option<Held>
+        requires { IsSize places }
+        ensures { MatchOption result (Unit {0}) (IsNewHeld places first mark) }
+    {
+        if places == 64 {
+            return Some(Held::Small(Part::new(alloc, first, mark)?));
+        }
+        Some(Held::Large(Part::new(alloc, first, mark)?))
+    }
+
+    /// How many places the queue has.
+    pub fn places(&self) -> usize
+        ensures { result ≡ places_of self.now }
+    {
+        match self {
+            Held::Small(_) => 64,
+            Held::Large(_) => 256,
+        }
+    }
+
+    /// Whether the queues of both have one size and one mark.
+    pub fn has_mark_of(&self, other: &Held) -> bool
+        ensures { MatchBool result (HaveOneMark self.now other.now) (HaveOneMark self.now other.now → ⊥) }
+    {
+        match (self, other) {
+            (Held::Small(part), Held::Small(other)) => part.has_mark_of(other),
+            (Held::Large(part), Held::Large(other)) => part.has_mark_of(other),
+            _ => false,
+        }
+    }
+
+    /// Whether there is a part to give away.
+    pub fn is_divisible(&self) -> bool
+        ensures { MatchBool result (2 ≤ parts_of self.now) (parts_of self.now < 2) }
+    {
+        match self {
+            Held::Small(part) => part.is_divisible(),
+            Held::Large(part) => part.is_divisible(),
+        }
+    }
+
+    /// A new end of the queue. None where no more handles can be counted.
+    pub fn split(&mut self) -> Option<Held>
+        requires { 2 ≤ parts_of self.old }
+        ensures { MatchOption result (self.new ≡ self.old) (λ born. AtSizes DividedPart self.old self.new born) }
+    {
+        match self {
+            Held::Small(part) => Some(Held::Small(part.split()?)),
+            Held::Large(part) => Some(Held::Large(part.split()?)),
+        }
+    }
+
+    /// Takes another end of the queue in.
+    pub fn join(&mut self, other: Held)
+        requires { AreOfOneQueue self.old other }
+        ensures { AtSizes JoinedPart self.old self.new other }
+    {
+        match (self, other) {
+            (Held::Small(part), Held::Small(other)) => part.join(other),
+            (Held::Large(part), Held::Large(other)) => part.join(other),
+            _ => unreachable!(),
+        }
+    }
+
+    /// `ClaimQueue::try_put`.
+    pub fn try_put(&mut self, items: &[u64]) -> Result<u32, ClaimRefusal>
+        ensures { AtSize (PutPart items.now result) self.old self.new }
+    {
+        match self {
+            Held::Small(part) => part.try_put(items),
+            Held::Large(part) => part.try_put(items),
+        }
+    }
+
+    /// `ClaimQueue::try_take`.
+    pub fn try_take(&mut self) -> Result<u64, TakeRefusal>
+        ensures { AtSize (TookPart result) self.old self.new }
+    {
+        match self {
+            Held::Small(part) => part.try_take(),
+            Held::Large(part) => part.try_take(),
+        }
+    }
+
+    /// Takes items one by one, until a taking is refused or the buffer is full.
+    pub fn take_up_to(&mut self, out: &mut [u64]) -> (usize, Option<TakeRefusal>)
+        ensures { AtSize (TookSomePart out.old out.new result) self.old self.new }
+    {
+        match self {
+            Held::Small(part) => part.take_up_to(out),
+            Held::Large(part) => part.take_up_to(out),
+        }
+    }
+
+    /// `ClaimQueue::try_take_line`. The line lies at the beginning of the buffer, and its length is the answer.
+    pub fn try_take_line(&mut self, out: &mut [u64]) -> Result<usize, TakeRefusal>
+        requires { places_of self.old ≤ length out.old }
+        ensures { AtSize (TookLinePart out.old out.new result) self.old self.new }
+    {
+        match self {
+            Held::Small(part) => part.try_take_line(out),
+            Held::Large(part) => part.try_take_line(out),
+        }
+    }
+
+    /// `ClaimQueue::shut`.
+    pub fn shut(&mut self) -> bool
+        ensures { AtSize (ShutPart result) self.old self.new }
+    {
+        match self {
+            Held::Small(part) => part.shut(),
+            Held::Large(part) => part.shut(),
+        }
+    }
+
+    /// Whether other handles of the queue are left.
+    pub fn is_shared(&self) -> bool {
+        match self {
+            Held::Small(part) => part.is_shared(),
+            Held::Large(part) => part.is_shared(),
+        }
+    }
+}

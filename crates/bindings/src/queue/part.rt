@@ -1,0 +1,144 @@
+//! One end of a queue, whose queue other handles share.
+ghost use Rattle.std.specs.Prelude.{◌≡◌, ◌≤◌, ◌<◌, [], length, MatchBool};
+ghost use Rattle.std.specs.Option.{MatchOption};
+ghost use Rattle.std.specs.Arc.{arc_value};
+ghost use Rattle.table_theory.specs.Listing.{AllRaised};
+ghost use Rattle.claim_queue.specs.Handles.{IsEndOf, view_of};
+
+use super::taking::{copy_line, take_up_to};
+use arrayvec::ArrayVec;
+use claim_queue::{ClaimQueue, ClaimRefusal, QueueEnd, TakeRefusal};
+use std::alloc::Global;
+use std::sync::Arc;
+
+/// One end of a queue that other handles share. It has at least so many parts of its queue, and has raised all that it
+/// claimed. `mark` is the number that the queue was given.
+#[derive(Drop)]
+pub struct Part<const N: usize> {
+    pub(super) queue: Arc<ClaimQueue<N>, Global>,
+    pub(super) end: QueueEnd<N>,
+    pub(super) parts: u64,
+    pub(super) mark: u64,
+    pub(super) line: ArrayVec<u64, N>,
+    ghost own: { IsEndOf (arc_value queue) end },
+    ghost known: { parts ≤ (view_of end).member.share },
+    ghost raised: { AllRaised (view_of end).part.runs },
+    ghost blank: { line.items ≡ [] },
+}
+
+impl<const N: usize> Part<N> {
+    ghost use Rattle.bindings.specs.QueueParts.{IsNewPart, PutPart, TookPart, TookLinePart, TookSomePart, ShutPart};
+    ghost use Rattle.bindings.specs.QueueParts.{DividedPart, JoinedPart, IsOneQueue};
+
+    /// An empty queue's first and only end.
+    pub fn new(alloc: Global, first: u32, mark: u64) -> Option<Part<N>>
+        requires { (1 ≤ N) × (N ≤ 256) }
+        ensures { MatchOption result (Unit {0}) (λ p. IsNewPart first mark N p) }
+    {
+        let (queue, end) = ClaimQueue::<N>::new(alloc, first).ok()?;
+        let queue = Arc::new(alloc, queue).ok()?;
+        Some(Part {
+            queue,
+            end,
+            parts: u64::MAX,
+            mark,
+            line: ArrayVec::new(),
+        })
+    }
+
+    /// Whether the queues have one mark.
+    pub fn has_mark_of(&self, other: &Part<N>) -> bool
+        ensures { MatchBool result (other.now.mark ≡ self.now.mark) (other.now.mark ≡ self.now.mark → ⊥) }
+    {
+        self.mark == other.mark
+    }
+
+    /// Whether there is a part to give away.
+    pub fn is_divisible(&self) -> bool
+        ensures { MatchBool result (2 ≤ self.now.parts) (self.now.parts < 2) }
+    {
+        self.parts >= 2
+    }
+
+    /// A new end of the queue. None where no more handles can be counted.
+    pub fn split(&mut self) -> Option<Part<N>>
+        requires { 2 ≤ self.old.parts }
+        ensures { MatchOption result (self.new ≡ self.old) (λ born. DividedPart N self.old self.new born) }
+    {
+        let queue = Arc::try_clone(&self.queue).ok()?;
+        let given = (self.parts / 2).min(8796093022208);
+        let end = self.queue.split(&mut self.end);
+        self.parts -= given;
+        Some(Part {
+            queue,
+            end,
+            parts: given,
+            mark: self.mark,
+            line: ArrayVec::new(),
+        })
+    }
+
+    /// Takes another end of the queue in.
+    pub fn join(&mut self, other: Part<N>)
+        requires { IsOneQueue N self.old other }
+        ensures { JoinedPart N self.old self.new other.entry }
+    {
+        let Part {
+            queue: _queue,
+            end,
+            parts,
+            mark: _mark,
+            line: _line,
+        } = other;
+        self.queue.join(&mut self.end, end);
+        self.parts = self.parts.saturating_add(parts);
+    }
+
+    /// `ClaimQueue::try_put`.
+    pub fn try_put(&mut self, items: &[u64]) -> Result<u32, ClaimRefusal>
+        ensures { PutPart items.now result N self.old self.new }
+    {
+        self.queue.try_put(&mut self.end, items)
+    }
+
+    /// `ClaimQueue::try_take`.
+    pub fn try_take(&mut self) -> Result<u64, TakeRefusal>
+        ensures { TookPart result N self.old self.new }
+    {
+        self.queue.try_take(&mut self.end)
+    }
+
+    /// `ClaimQueue::try_take`, again and again, until it is refused or the buffer is full.
+    pub fn take_up_to(&mut self, out: &mut [u64]) -> (usize, Option<TakeRefusal>)
+        ensures { TookSomePart out.old out.new result N self.old self.new }
+    {
+        take_up_to(&self.queue, &mut self.end, out)
+    }
+
+    /// `ClaimQueue::try_take_line`. The line lies at the beginning of the buffer, and its length is the answer.
+    pub fn try_take_line(&mut self, out: &mut [u64]) -> Result<usize, TakeRefusal>
+        requires { N ≤ length out.old }
+        ensures { TookLinePart out.old out.new result N self.old self.new }
+    {
+        match self.queue.try_take_line(&mut self.end, &mut self.line) {
+            Ok(taken) => {
+                copy_line(self.line.as_slice(), out);
+                self.line.clear();
+                Ok(taken)
+            }
+            Err(refusal) => Err(refusal),
+        }
+    }
+
+    /// `ClaimQueue::shut`.
+    pub fn shut(&mut self) -> bool
+        ensures { ShutPart result N self.old self.new }
+    {
+        self.queue.shut(&mut self.end)
+    }
+
+    /// Whether other handles of the queue are left.
+    pub fn is_shared(&self) -> bool {
+        Arc::strong_count(&self.queue) != 1
+    }
+}

@@ -1,4 +1,5 @@
 mod Buffers
 mod QueueClosed
 mod QueueEnds
+mod SeatSetting
 mod Telling

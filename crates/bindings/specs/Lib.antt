@@ -6,3 +6,7 @@ pub mod QueueHeld
 pub mod QueueOutcomes
 pub mod QueueParts
 pub mod QueueTaking
+pub mod SeatAlarms
+pub mod SeatCalls
+pub mod SeatClosing
+pub mod SeatHeld

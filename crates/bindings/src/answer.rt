@@ -22,6 +22,8 @@ pub const LOST: i32 = 6;
 
 pub const EMPTY: i32 = 7;
 
+pub const NO_ROOM: i32 = 11;
+
 pub const OPEN: i32 = 12;
 
 pub const NO_MEMORY: i32 = -1;
@@ -68,6 +70,17 @@ pub fn told(code: i32) -> SynthAnswer
     SynthAnswer {
         code,
         head: 0,
+        tail: 0,
+    }
+}
+
+/// The code, and the number that it tells.
+pub fn told_with(code: i32, head: u32) -> SynthAnswer
+    ensures { (result.code ≡ code) × (result.head ≡ head) × (result.tail ≡ 0) }
+{
+    SynthAnswer {
+        code,
+        head,
         tail: 0,
     }
 }

@@ -3,3 +3,4 @@
 
 mod answer;
 mod queue;
+mod seat;

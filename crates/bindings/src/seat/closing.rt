@@ -1,0 +1,47 @@
+//! Closing meters.
+ghost use Rattle.std.specs.Prelude.{◌≡◌};
+ghost use Rattle.bindings.specs.SeatClosing.{Ended};
+
+use super::held::Held;
+use meters::Metered;
+use std::sync::Arc;
+
+/// What becomes of meters that are to be closed.
+#[derive(Drop)]
+pub enum Outcome {
+    /// They are closed.
+    Closed(Metered),
+    /// Other handles are left.
+    Open(Held),
+    /// No other handle is left, but so many ends were freed and not joined.
+    Freed(u64),
+}
+
+impl Held {
+    /// `Meters::close`.
+    pub fn close(self) -> Outcome
+        ensures { Ended result self }
+    {
+        let Held {
+            meters,
+            seat,
+            parts,
+            mark,
+        } = self;
+        let meters = match Arc::try_unwrap(meters) {
+            Ok(meters) => meters,
+            Err(meters) => {
+                return Outcome::Open(Held {
+                    meters,
+                    seat,
+                    parts,
+                    mark,
+                });
+            }
+        };
+        match meters.close(seat) {
+            Ok(metered) => Outcome::Closed(metered),
+            Err((_meters, _seat, open)) => Outcome::Freed(open.others),
+        }
+    }
+}

@@ -1,0 +1,130 @@
+//! What a handle of meters stands for.
+ghost use Rattle.std.specs.Prelude.{◌≡◌, ◌≤◌, ◌<◌, MatchBool};
+ghost use Rattle.std.specs.Option.{MatchOption};
+ghost use Rattle.std.specs.Arc.{arc_value};
+ghost use Rattle.meters.specs.Handles.{IsSeatOf, view_of};
+
+use arrayvec::ArrayVec;
+use event_theory::Alarm;
+use meters::{AdvanceRefusal, MeterSeat, Meters, SetRefusal};
+use std::alloc::Global;
+use std::sync::Arc;
+
+/// One end of meters that other handles share. It has at least so many parts of its meters. `mark` is the number that
+/// the meters were given.
+#[derive(Drop)]
+pub struct Held {
+    pub(super) meters: Arc<Meters, Global>,
+    pub(super) seat: MeterSeat,
+    pub(super) parts: u64,
+    pub(super) mark: u64,
+    ghost own: { IsSeatOf (arc_value meters) seat },
+    ghost known: { parts ≤ (view_of seat).member.share },
+}
+
+impl Held {
+    ghost use Rattle.bindings.specs.SeatHeld.{IsNewSeat, Divided, Joined, AreOfOneTable, HaveOneMark, WasTicked};
+    ghost use Rattle.bindings.specs.SeatHeld.{WasAdvanced, WasSet, WasCancelled, WereFired};
+
+    /// The only end of new meters.
+    pub fn new(alloc: Global, clock: u32, mark: u64) -> Option<Held>
+        ensures { MatchOption result (Unit {0}) (IsNewSeat clock mark) }
+    {
+        let (meters, seat) = Meters::new(alloc, clock).ok()?;
+        let meters = Arc::new(alloc, meters).ok()?;
+        Some(Held {
+            meters,
+            seat,
+            parts: u64::MAX,
+            mark,
+        })
+    }
+
+    /// Whether the meters have one mark.
+    pub fn has_mark_of(&self, other: &Held) -> bool
+        ensures { MatchBool result (HaveOneMark self.now other.now) (HaveOneMark self.now other.now → ⊥) }
+    {
+        self.mark == other.mark
+    }
+
+    /// Whether there is a part to give away.
+    pub fn is_divisible(&self) -> bool
+        ensures { MatchBool result (2 ≤ self.now.parts) (self.now.parts < 2) }
+    {
+        self.parts >= 2
+    }
+
+    /// A new end of the meters. None where no more handles can be counted.
+    pub fn split(&mut self) -> Option<Held>
+        requires { 2 ≤ self.old.parts }
+        ensures { MatchOption result (self.new ≡ self.old) (Divided self.old self.new) }
+    {
+        let meters = Arc::try_clone(&self.meters).ok()?;
+        let given = (self.parts / 2).min(8796093022208);
+        let seat = self.meters.split(&mut self.seat);
+        self.parts -= given;
+        Some(Held {
+            meters,
+            seat,
+            parts: given,
+            mark: self.mark,
+        })
+    }
+
+    /// Takes another end of the meters in.
+    pub fn join(&mut self, other: Held)
+        requires { AreOfOneTable self.old other }
+        ensures { Joined self.old self.new other }
+    {
+        let Held {
+            meters: _meters,
+            seat,
+            parts,
+            mark: _mark,
+        } = other;
+        self.meters.join(&mut self.seat, seat);
+        self.parts = self.parts.saturating_add(parts);
+    }
+
+    /// `Meters::tick`.
+    pub fn tick(&mut self, gauge: usize, amount: u64) -> u64
+        requires { gauge < 8 }
+        ensures { WasTicked gauge amount result self.old self.new }
+    {
+        self.meters.tick(&mut self.seat, gauge, amount)
+    }
+
+    /// `Meters::advance`.
+    pub fn advance(&mut self) -> Result<u32, AdvanceRefusal>
+        ensures { WasAdvanced result self.old self.new }
+    {
+        self.meters.advance(&mut self.seat)
+    }
+
+    /// `Meters::try_set`.
+    pub fn try_set(&mut self, alarm: Alarm) -> Result<usize, SetRefusal>
+        ensures { WasSet alarm result self.old self.new }
+    {
+        self.meters.try_set(&mut self.seat, alarm)
+    }
+
+    /// `Meters::cancel`.
+    pub fn cancel(&mut self, slot: usize, alarm: Alarm) -> bool
+        requires { slot < 16 }
+        ensures { WasCancelled slot alarm result self.old self.new }
+    {
+        self.meters.cancel(&mut self.seat, slot, alarm)
+    }
+
+    /// `Meters::due`.
+    pub fn due(&mut self) -> ArrayVec<Alarm, 16>
+        ensures { WereFired result.items self.old self.new }
+    {
+        self.meters.due(&mut self.seat)
+    }
+
+    /// Whether other handles of the meters are left.
+    pub fn is_shared(&self) -> bool {
+        Arc::strong_count(&self.meters) != 1
+    }
+}

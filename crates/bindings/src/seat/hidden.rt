@@ -1,0 +1,65 @@
+//! A box as a pointer that says nothing of what lies there, so that it can cross to C.
+ghost use Rattle.std.specs.Prelude.{◌≡◌, true};
+ghost use Rattle.std.specs.declared.option.Option.{Option as Maybe};
+ghost use Rattle.std.specs.declared.option.Option.TheVariants.{None, Some};
+ghost use Rattle.bindings.specs.Hiding.{is_some};
+ghost use Rattle.bindings.specs.declared.seat.held.Held.{Held as HeldValue};
+
+use super::held::Held;
+use loose_box::Loose;
+use std::alloc::Global;
+use std::marker::Model;
+use std::ptr::null_mut;
+
+/// It owns the box that it leads to, or it leads nowhere. It can't be let go but where it leads nowhere, so no box is
+/// forgotten.
+#[repr(C)]
+pub struct Hidden {
+    at: *mut u8,
+    pub ghost value: { Maybe HeldValue },
+}
+
+impl Model for Hidden {
+    ghost use Rattle.bindings.specs.contracts.seat.held.Held.{the_row};
+    ghost use Rattle.bindings.specs.Hiding.{hides};
+
+    ghost also_owns = { λ h. hides the_row h.at h.value };
+}
+
+unsafe impl Send for Hidden {}
+
+impl Hidden {
+    /// It leads nowhere.
+    pub fn none() -> Hidden
+        ensures { result.value ≡ None }
+    {
+        Hidden { at: null_mut() }
+    }
+
+    /// Hides a box.
+    pub fn of(loose: Loose<Held, Global>) -> Hidden
+        ensures { result.value ≡ Some loose.value }
+    {
+        let Loose { at, alloc: _alloc } = loose;
+        Hidden { at: at as *mut u8 }
+    }
+
+    /// Gives the box back.
+    pub fn into_loose(self, alloc: Global) -> Loose<Held, Global>
+        requires { is_some self.value ≡ true }
+        ensures { self.value ≡ Some result.value }
+    {
+        let Hidden { at } = self;
+        Loose {
+            at: at as *mut Held,
+            alloc,
+        }
+    }
+
+    /// Lets go of what leads nowhere.
+    pub fn let_go(self)
+        requires { self.value ≡ None }
+    {
+        let Hidden { at: _ } = self;
+    }
+}

@@ -22,3 +22,6 @@ is_none (Some x) h = absurd (subst IsTrueSome h tt)
 
 pub some_is : {X : Type 0} {m : Option X} {x : X} → m ≡ Some x → is_some m ≡ true
 some_is e = ap is_some e
+
+pub no_answer : false ≡ true → ⊥
+no_answer e = subst IsTrueSome (sym e) tt

@@ -1,5 +1,6 @@
 pub mod Codes
 pub mod Hiding
+pub mod LineCalls
 pub mod QueueCalls
 pub mod QueueClosing
 pub mod QueueHeld

@@ -6,7 +6,7 @@ use Rattle.claim_queue.specs.declared.claim.ClaimRefusal.{ClaimRefusal}
 use Rattle.claim_queue.specs.declared.take.TakeRefusal.{TakeRefusal}
 use Rattle.bindings.specs.declared.answer.SynthAnswer.{SynthAnswer}
 use Rattle.bindings.specs.declared.answer.SynthClosed.{SynthClosed}
-use Rattle.bindings.specs.declared.queue.held.Held.{Held}
+use Rattle.bindings.specs.declared.queue.held.HeldQueue.{HeldQueue}
 use Rattle.bindings.specs.declared.queue.closing.Outcome.{Outcome}
 use Rattle.bindings.specs.declared.queue.closing.Outcome.TheVariants as ended
 use Rattle.bindings.specs.Hiding.{is_some}
@@ -17,53 +17,53 @@ use Rattle.bindings.specs.QueueHeld.{AtSize, AtSizes, IsSize, HaveOneMark, AreOf
 use Rattle.bindings.specs.QueueOutcomes.{EndedHeld}
 
 -- nothing changed, or an end was split off and joined again
-abbrev pub Rejoined : Held → Held → Type 0
-Rejoined x y = (y ≡ x) ⊎ ((between z : Held) × AtSizes DividedPart x between z × AtSizes JoinedPart between y z)
+abbrev pub Rejoined : HeldQueue → HeldQueue → Type 0
+Rejoined x y = (y ≡ x) ⊎ ((between z : HeldQueue) × AtSizes DividedPart x between z × AtSizes JoinedPart between y z)
 
 -- Two handles whose queues have one mark are of one queue: each queue has a mark of its own
-abbrev pub MarksTell : Option Held → Option Held → Type 0
+abbrev pub MarksTell : Option HeldQueue → Option HeldQueue → Type 0
 MarksTell (Some x) (Some z) = HaveOneMark x z → AreOfOneQueue x z
 MarksTell _ _ = Unit {0}
 
 -- this holds of what the handle held
-abbrev pub HoldsThen : Option Held → (Held → Type 0) → Type 0
-HoldsThen old P = (x : Held) → old ≡ Some x → P x
+abbrev pub HoldsThen : Option HeldQueue → (HeldQueue → Type 0) → Type 0
+HoldsThen old P = (x : HeldQueue) → old ≡ Some x → P x
 
 -- what `new` did, by its code
-abbrev pub MadeQueue : ℕ → ℕ → ℕ → Option Held → Option Held → ℤ → Type 0
+abbrev pub MadeQueue : ℕ → ℕ → ℕ → Option HeldQueue → Option HeldQueue → ℤ → Type 0
 MadeQueue places first mark old new code =
     ((code ≡ FullHandle) × (is_some old ≡ true) × (new ≡ old))
     ⊎ ((code ≡ BadNumber) × (old ≡ None) × (new ≡ None) × (IsSize places → ⊥))
     ⊎ ((code ≡ NoMemory) × (old ≡ None) × (new ≡ None) × IsSize places)
-    ⊎ ((code ≡ Done) × (old ≡ None) × (y : Held) × (new ≡ Some y) × IsNewHeld places first mark y)
+    ⊎ ((code ≡ Done) × (old ≡ None) × (y : HeldQueue) × (new ≡ Some y) × IsNewHeld places first mark y)
 
 -- what `free` did, by its code
-abbrev pub FreedHandle : Option Held → Option Held → ℤ → Type 0
+abbrev pub FreedHandle : Option HeldQueue → Option HeldQueue → ℤ → Type 0
 FreedHandle old new code =
     ((code ≡ EmptyHandle) × (old ≡ None) × (new ≡ None)) ⊎ ((code ≡ Done) × (is_some old ≡ true) × (new ≡ None))
 
 -- What `split` did, by its code. Where no box can be had, the new end is joined again
-abbrev pub SplitQueue : Option Held → Option Held → Option Held → Option Held → ℤ → Type 0
+abbrev pub SplitQueue : Option HeldQueue → Option HeldQueue → Option HeldQueue → Option HeldQueue → ℤ → Type 0
 SplitQueue old new other made code =
     ((code ≡ EmptyHandle) × (old ≡ None) × (new ≡ None) × (made ≡ other))
     ⊎ ((code ≡ FullHandle) × (is_some old ≡ true) × (new ≡ old) × (is_some other ≡ true) × (made ≡ other))
-    ⊎ ((code ≡ NoShare) × (other ≡ None) × (made ≡ None) × (x : Held) × (old ≡ Some x) × (new ≡ Some x) × (parts_of x < 2))
-    ⊎ ((code ≡ NoMemory) × (other ≡ None) × (made ≡ None) × (x y : Held) × (old ≡ Some x) × (new ≡ Some y) × Rejoined x y)
-    ⊎ ((code ≡ Done) × (other ≡ None) × (x y z : Held) × (old ≡ Some x) × (new ≡ Some y) × (made ≡ Some z)
+    ⊎ ((code ≡ NoShare) × (other ≡ None) × (made ≡ None) × (x : HeldQueue) × (old ≡ Some x) × (new ≡ Some x) × (parts_of x < 2))
+    ⊎ ((code ≡ NoMemory) × (other ≡ None) × (made ≡ None) × (x y : HeldQueue) × (old ≡ Some x) × (new ≡ Some y) × Rejoined x y)
+    ⊎ ((code ≡ Done) × (other ≡ None) × (x y z : HeldQueue) × (old ≡ Some x) × (new ≡ Some y) × (made ≡ Some z)
     × AtSizes DividedPart x y z)
 
 -- what `join` did, by its code
-abbrev pub JoinedQueue : Option Held → Option Held → Option Held → Option Held → ℤ → Type 0
+abbrev pub JoinedQueue : Option HeldQueue → Option HeldQueue → Option HeldQueue → Option HeldQueue → ℤ → Type 0
 JoinedQueue old new other left code =
     ((code ≡ EmptyHandle) × ((old ≡ None) ⊎ (other ≡ None)) × (new ≡ old) × (left ≡ other))
-    ⊎ ((code ≡ OtherObject) × (x z : Held) × (old ≡ Some x) × (other ≡ Some z) × (new ≡ old) × (left ≡ other)
+    ⊎ ((code ≡ OtherObject) × (x z : HeldQueue) × (old ≡ Some x) × (other ≡ Some z) × (new ≡ old) × (left ≡ other)
     × (HaveOneMark x z → ⊥))
-    ⊎ ((code ≡ Done) × (x y z : Held) × (old ≡ Some x) × (other ≡ Some z) × (new ≡ Some y) × (left ≡ None)
+    ⊎ ((code ≡ Done) × (x y z : HeldQueue) × (old ≡ Some x) × (other ≡ Some z) × (new ≡ Some y) × (left ≡ None)
     × AtSizes JoinedPart x y z)
 
 -- The handle is still for the same end, and C is told what the library's `try_put` answered
-pub record WasPut (x : Held) (items : List ℕ) (new : Option Held) (told : SynthAnswer) : Type 0 where
-  pub y : Held
+pub record WasPut (x : HeldQueue) (items : List ℕ) (new : Option HeldQueue) (told : SynthAnswer) : Type 0 where
+  pub y : HeldQueue
   pub full : new ≡ Some y
   pub answer : Result ℕ ClaimRefusal
   pub answered : AtSize (PutPart items answer) x y
@@ -78,16 +78,16 @@ IsToldTake answer old new told = MatchResult answer
     (λ r. (new ≡ old) × (told.code ≡ code_of_take r) × (told.head ≡ 0) × (told.tail ≡ tail_of_take r))
 
 -- The handle is still for the same end, and C is told what the library's `try_take` answered
-pub record WasTaken (x : Held) (old_item item : ℕ) (new : Option Held) (told : SynthAnswer) : Type 0 where
-  pub y : Held
+pub record WasTaken (x : HeldQueue) (old_item item : ℕ) (new : Option HeldQueue) (told : SynthAnswer) : Type 0 where
+  pub y : HeldQueue
   pub full : new ≡ Some y
   pub answer : Result ℕ TakeRefusal
   pub answered : AtSize (TookPart answer) x y
   pub tells : IsToldTake answer old_item item told
 
 -- The handle is still for the same end, and this is what the library's `shut` answered
-pub record WasShut (x : Held) (was_open : Bool) (new : Option Held) : Type 0 where
-  pub y : Held
+pub record WasShut (x : HeldQueue) (was_open : Bool) (new : Option HeldQueue) : Type 0 where
+  pub y : HeldQueue
   pub full : new ≡ Some y
   pub answered : AtSize (ShutPart was_open) x y
 
@@ -98,18 +98,18 @@ IsToldLine answer old new told = MatchResult answer
     (λ r. (new ≡ old) × (told.code ≡ code_of_take r) × (told.head ≡ 0) × (told.tail ≡ tail_of_take r))
 
 -- The handle is still for the same end, and C is told what the library's `try_take_line` answered
-pub record WasLineTaken (x : Held) (old_line line : List ℕ) (old_count count : ℕ) (new : Option Held) (told : SynthAnswer)
+pub record WasLineTaken (x : HeldQueue) (old_line line : List ℕ) (old_count count : ℕ) (new : Option HeldQueue) (told : SynthAnswer)
     : Type 0 where
-  pub y : Held
+  pub y : HeldQueue
   pub full : new ≡ Some y
   pub answer : Result ℕ TakeRefusal
   pub answered : AtSize (TookLinePart old_line line answer) x y
   pub tells : IsToldLine answer old_count count told
 
 -- The handle is still for the same end, and items were taken one by one into the buffer
-pub record WasTakenUpTo (x : Held) (old_items items : List ℕ) (count : ℕ) (new : Option Held) (told : SynthAnswer)
+pub record WasTakenUpTo (x : HeldQueue) (old_items items : List ℕ) (count : ℕ) (new : Option HeldQueue) (told : SynthAnswer)
     : Type 0 where
-  pub y : Held
+  pub y : HeldQueue
   pub full : new ≡ Some y
   pub refusal : Option TakeRefusal
   pub answered : AtSize (TookSomePart old_items items (count, refusal)) x y
@@ -118,33 +118,33 @@ pub record WasTakenUpTo (x : Held) (old_items items : List ℕ) (count : ℕ) (n
   pub tail : told.tail ≡ tail_of_some refusal
 
 -- The queue is closed, and the numbers are told; or other handles share it; or ends were freed, and it is gone
-abbrev pub IsToldEnding : Outcome → Option Held → SynthClosed → SynthClosed → ℤ → Type 0
+abbrev pub IsToldEnding : Outcome → Option HeldQueue → SynthClosed → SynthClosed → ℤ → Type 0
 IsToldEnding (ended.Closed c) new old told code = (code ≡ Done) × (new ≡ None) × (told ≡ c)
 IsToldEnding (ended.Open y) new old told code = (told ≡ old)
     × (((code ≡ Open) × (new ≡ Some y)) ⊎ ((code ≡ NoMemory) × (new ≡ None)))
 IsToldEnding (ended.Freed c) new old told code = (code ≡ Freed) × (new ≡ None) × (told ≡ c)
 
 -- C is told what became of the queue
-pub record WasEnded (x : Held) (old_items items : List ℕ) (new : Option Held) (old told : SynthClosed) (code : ℤ)
+pub record WasEnded (x : HeldQueue) (old_items items : List ℕ) (new : Option HeldQueue) (old told : SynthClosed) (code : ℤ)
     : Type 0 where
   pub outcome : Outcome
   pub ended : EndedHeld old_items items outcome x
   pub tells : IsToldEnding outcome new old told code
 
 -- the buffer was too short, and nothing happened; or the line was taken
-abbrev pub WasLineTold : Held → List ℕ → List ℕ → ℕ → ℕ → Option Held → SynthAnswer → Type 0
+abbrev pub WasLineTold : HeldQueue → List ℕ → List ℕ → ℕ → ℕ → Option HeldQueue → SynthAnswer → Type 0
 WasLineTold x old_line line old_count count new told =
     ((told.code ≡ ShortBuffer) × (length old_line < places_of x) × (new ≡ Some x) × (line ≡ old_line) × (count ≡ old_count))
     ⊎ ((places_of x ≤ length old_line) × WasLineTaken x old_line line old_count count new told)
 
 -- the buffer has no room, and nothing happened; or items were taken
-abbrev pub WasSomeTold : Held → List ℕ → List ℕ → ℕ → ℕ → Option Held → SynthAnswer → Type 0
+abbrev pub WasSomeTold : HeldQueue → List ℕ → List ℕ → ℕ → ℕ → Option HeldQueue → SynthAnswer → Type 0
 WasSomeTold x old_items items old_count count new told =
     ((told.code ≡ ShortBuffer) × (length old_items ≡ 0) × (new ≡ Some x) × (items ≡ old_items) × (count ≡ old_count))
     ⊎ ((0 < length old_items) × WasTakenUpTo x old_items items count new told)
 
 -- the buffer was too short, and nothing happened; or the queue was closed, or was not
-abbrev pub WasClosed : Held → List ℕ → List ℕ → Option Held → SynthClosed → SynthClosed → ℤ → Type 0
+abbrev pub WasClosed : HeldQueue → List ℕ → List ℕ → Option HeldQueue → SynthClosed → SynthClosed → ℤ → Type 0
 WasClosed x old_items items new old told code =
     ((code ≡ ShortBuffer) × (length old_items < places_of x) × (new ≡ Some x) × (items ≡ old_items) × (told ≡ old))
     ⊎ ((places_of x ≤ length old_items) × WasEnded x old_items items new old told code)

@@ -10,7 +10,7 @@ use Rattle.meters.specs.declared.alarms.SetRefusal.TheVariants as set
 use Rattle.meters.specs.declared.close.Metered.{Metered}
 use Rattle.bindings.specs.declared.answer.SynthAnswer.{SynthAnswer}
 use Rattle.bindings.specs.declared.seat.alarm.SynthAlarm.{SynthAlarm}
-use Rattle.bindings.specs.declared.seat.held.Held.{Held}
+use Rattle.bindings.specs.declared.seat.held.HeldSeat.{HeldSeat}
 use Rattle.bindings.specs.declared.seat.closing.Outcome.{Outcome}
 use Rattle.bindings.specs.declared.seat.closing.Outcome.TheVariants as ended
 use Rattle.bindings.specs.declared.seat.SynthMetered.{SynthMetered}
@@ -22,54 +22,54 @@ use Rattle.bindings.specs.SeatHeld.{WasCancelled, WereFired}
 use Rattle.bindings.specs.SeatClosing.{Ended}
 
 -- nothing changed, or an end was split off and joined again
-abbrev pub Rejoined : Held → Held → Type 0
-Rejoined x y = (y ≡ x) ⊎ ((between z : Held) × Divided x between z × Joined between y z)
+abbrev pub Rejoined : HeldSeat → HeldSeat → Type 0
+Rejoined x y = (y ≡ x) ⊎ ((between z : HeldSeat) × Divided x between z × Joined between y z)
 
 -- Two handles whose meters have one mark are of the same meters: all meters have a mark of their own
-abbrev pub MarksTell : Option Held → Option Held → Type 0
+abbrev pub MarksTell : Option HeldSeat → Option HeldSeat → Type 0
 MarksTell (Some x) (Some z) = HaveOneMark x z → AreOfOneTable x z
 MarksTell _ _ = Unit {0}
 
 -- this holds of what the handle held
-abbrev pub HoldsThen : Option Held → (Held → Type 0) → Type 0
-HoldsThen old P = (x : Held) → old ≡ Some x → P x
+abbrev pub HoldsThen : Option HeldSeat → (HeldSeat → Type 0) → Type 0
+HoldsThen old P = (x : HeldSeat) → old ≡ Some x → P x
 
 -- what `new` did, by its code
-abbrev pub MadeMeters : ℕ → ℕ → Option Held → Option Held → ℤ → Type 0
+abbrev pub MadeMeters : ℕ → ℕ → Option HeldSeat → Option HeldSeat → ℤ → Type 0
 MadeMeters clock mark old new code =
     ((code ≡ FullHandle) × (is_some old ≡ true) × (new ≡ old))
     ⊎ ((code ≡ NoMemory) × (old ≡ None) × (new ≡ None))
-    ⊎ ((code ≡ Done) × (old ≡ None) × (y : Held) × (new ≡ Some y) × IsNewSeat clock mark y)
+    ⊎ ((code ≡ Done) × (old ≡ None) × (y : HeldSeat) × (new ≡ Some y) × IsNewSeat clock mark y)
 
 -- what `free` did, by its code
-abbrev pub FreedHandle : Option Held → Option Held → ℤ → Type 0
+abbrev pub FreedHandle : Option HeldSeat → Option HeldSeat → ℤ → Type 0
 FreedHandle old new code =
     ((code ≡ EmptyHandle) × (old ≡ None) × (new ≡ None)) ⊎ ((code ≡ Done) × (is_some old ≡ true) × (new ≡ None))
 
 -- What `split` did, by its code. Where no box can be had, the new end is joined again
-abbrev pub SplitMeters : Option Held → Option Held → Option Held → Option Held → ℤ → Type 0
+abbrev pub SplitMeters : Option HeldSeat → Option HeldSeat → Option HeldSeat → Option HeldSeat → ℤ → Type 0
 SplitMeters old new other made code =
     ((code ≡ EmptyHandle) × (old ≡ None) × (new ≡ None) × (made ≡ other))
     ⊎ ((code ≡ FullHandle) × (is_some old ≡ true) × (new ≡ old) × (is_some other ≡ true) × (made ≡ other))
-    ⊎ ((code ≡ NoShare) × (other ≡ None) × (made ≡ None) × (x : Held) × (old ≡ Some x) × (new ≡ Some x) × (x.parts < 2))
-    ⊎ ((code ≡ NoMemory) × (other ≡ None) × (made ≡ None) × (x y : Held) × (old ≡ Some x) × (new ≡ Some y) × Rejoined x y)
-    ⊎ ((code ≡ Done) × (other ≡ None) × (x y z : Held) × (old ≡ Some x) × (new ≡ Some y) × (made ≡ Some z)
+    ⊎ ((code ≡ NoShare) × (other ≡ None) × (made ≡ None) × (x : HeldSeat) × (old ≡ Some x) × (new ≡ Some x) × (x.parts < 2))
+    ⊎ ((code ≡ NoMemory) × (other ≡ None) × (made ≡ None) × (x y : HeldSeat) × (old ≡ Some x) × (new ≡ Some y) × Rejoined x y)
+    ⊎ ((code ≡ Done) × (other ≡ None) × (x y z : HeldSeat) × (old ≡ Some x) × (new ≡ Some y) × (made ≡ Some z)
     × Divided x y z)
 
 -- what `join` did, by its code
-abbrev pub JoinedMeters : Option Held → Option Held → Option Held → Option Held → ℤ → Type 0
+abbrev pub JoinedMeters : Option HeldSeat → Option HeldSeat → Option HeldSeat → Option HeldSeat → ℤ → Type 0
 JoinedMeters old new other left code =
     ((code ≡ EmptyHandle) × ((old ≡ None) ⊎ (other ≡ None)) × (new ≡ old) × (left ≡ other))
-    ⊎ ((code ≡ OtherObject) × (x z : Held) × (old ≡ Some x) × (other ≡ Some z) × (new ≡ old) × (left ≡ other)
+    ⊎ ((code ≡ OtherObject) × (x z : HeldSeat) × (old ≡ Some x) × (other ≡ Some z) × (new ≡ old) × (left ≡ other)
     × (HaveOneMark x z → ⊥))
-    ⊎ ((code ≡ Done) × (x y z : Held) × (old ≡ Some x) × (other ≡ Some z) × (new ≡ Some y) × (left ≡ None)
+    ⊎ ((code ≡ Done) × (x y z : HeldSeat) × (old ≡ Some x) × (other ≡ Some z) × (new ≡ Some y) × (left ≡ None)
     × Joined x y z)
 
 -- what `tick` did, by its code
-abbrev pub TickTold : Held → ℕ → ℕ → ℕ → ℕ → Option Held → ℤ → Type 0
+abbrev pub TickTold : HeldSeat → ℕ → ℕ → ℕ → ℕ → Option HeldSeat → ℤ → Type 0
 TickTold x gauge amount old_before before new code =
     ((code ≡ BadNumber) × (8 ≤ gauge) × (new ≡ Some x) × (before ≡ old_before))
-    ⊎ ((code ≡ Done) × (gauge < 8) × (y : Held) × (new ≡ Some y) × WasTicked gauge amount before x y)
+    ⊎ ((code ≡ Done) × (gauge < 8) × (y : HeldSeat) × (new ≡ Some y) × WasTicked gauge amount before x y)
 
 abbrev pub code_of_advance : AdvanceRefusal → ℤ
 code_of_advance advance.Spent = pos 4
@@ -86,8 +86,8 @@ IsToldAdvance answer old new told = MatchResult answer
     (λ r. (new ≡ old) × (told.code ≡ code_of_advance r) × (told.head ≡ head_of_advance r) × (told.tail ≡ 0))
 
 -- C is told what the library's `advance` answered
-pub record AdvanceTold (x : Held) (old_clock clock : ℕ) (new : Option Held) (told : SynthAnswer) : Type 0 where
-  pub y : Held
+pub record AdvanceTold (x : HeldSeat) (old_clock clock : ℕ) (new : Option HeldSeat) (told : SynthAnswer) : Type 0 where
+  pub y : HeldSeat
   pub full : new ≡ Some y
   pub answer : Result ℕ AdvanceRefusal
   pub answered : WasAdvanced answer x y
@@ -108,9 +108,9 @@ IsToldSet answer old new told = MatchResult answer
     (λ r. (new ≡ old) × (told.code ≡ code_of_set r) × (told.head ≡ head_of_set r) × (told.tail ≡ 0))
 
 -- C is told what the library's `try_set` answered of this alarm
-pub record WasSetTold (x : Held) (alarm : SynthAlarm) (old_slot slot : ℕ) (new : Option Held) (told : SynthAnswer)
+pub record WasSetTold (x : HeldSeat) (alarm : SynthAlarm) (old_slot slot : ℕ) (new : Option HeldSeat) (told : SynthAnswer)
     : Type 0 where
-  pub y : Held
+  pub y : HeldSeat
   pub full : new ≡ Some y
   pub is : Alarm
   pub is_told : alarm_told is ≡ alarm
@@ -119,24 +119,24 @@ pub record WasSetTold (x : Held) (alarm : SynthAlarm) (old_slot slot : ℕ) (new
   pub tells : IsToldSet answer old_slot slot told
 
 -- what `try_set` did: no such alarm is told as a number out of its range
-abbrev pub SetTold : Held → SynthAlarm → ℕ → ℕ → Option Held → SynthAnswer → Type 0
+abbrev pub SetTold : HeldSeat → SynthAlarm → ℕ → ℕ → Option HeldSeat → SynthAnswer → Type 0
 SetTold x alarm old_slot slot new told =
     ((told.code ≡ BadNumber) × IsNoAlarm alarm × (new ≡ Some x) × (slot ≡ old_slot))
     ⊎ WasSetTold x alarm old_slot slot new told
 
 -- what `cancel` did, by its code
-abbrev pub CancelTold : Held → ℕ → SynthAlarm → Bool → Bool → Option Held → ℤ → Type 0
+abbrev pub CancelTold : HeldSeat → ℕ → SynthAlarm → Bool → Bool → Option HeldSeat → ℤ → Type 0
 CancelTold x slot alarm old_answer answer new code =
     ((code ≡ BadNumber) × ((16 ≤ slot) ⊎ IsNoAlarm alarm) × (new ≡ Some x) × (answer ≡ old_answer))
-    ⊎ ((code ≡ Done) × (slot < 16) × (is : Alarm) × (alarm_told is ≡ alarm) × (y : Held) × (new ≡ Some y)
+    ⊎ ((code ≡ Done) × (slot < 16) × (is : Alarm) × (alarm_told is ≡ alarm) × (y : HeldSeat) × (new ≡ Some y)
     × WasCancelled slot is answer x y)
 
 -- what `due` did, by its code: the alarms lie at the beginning of the buffer
-abbrev pub DueTold : Held → List SynthAlarm → List SynthAlarm → ℕ → ℕ → Option Held → ℤ → Type 0
+abbrev pub DueTold : HeldSeat → List SynthAlarm → List SynthAlarm → ℕ → ℕ → Option HeldSeat → ℤ → Type 0
 DueTold x old_alarms alarms old_count count new code =
     ((code ≡ ShortBuffer) × (length old_alarms < 16) × (new ≡ Some x) × (alarms ≡ old_alarms) × (count ≡ old_count))
     ⊎ ((code ≡ Done) × (fired : List Alarm) × (count ≡ length fired) × (take count alarms ≡ map alarm_told fired)
-    × IsRestKept count old_alarms alarms × (y : Held) × (new ≡ Some y) × WereFired fired x y)
+    × IsRestKept count old_alarms alarms × (y : HeldSeat) × (new ≡ Some y) × WereFired fired x y)
 
 -- what C is told of meters that were closed
 abbrev pub IsToldMetered : Metered → SynthMetered → Type 0
@@ -144,7 +144,7 @@ IsToldMetered c told = (told.gauges ≡ c.gauges) × (told.clock ≡ c.clock) ×
     × (take told.alarms told.alarm ≡ map alarm_told c.alarms.items) × (told.freed ≡ 0)
 
 -- what C is told of the end of meters
-abbrev pub IsToldEnding : Outcome → Option Held → SynthMetered → SynthMetered → ℤ → Type 0
+abbrev pub IsToldEnding : Outcome → Option HeldSeat → SynthMetered → SynthMetered → ℤ → Type 0
 IsToldEnding (ended.Closed c) new old told code = (code ≡ Done) × (new ≡ None) × IsToldMetered c told
 IsToldEnding (ended.Open y) new old told code = (told ≡ old)
     × (((code ≡ Open) × (new ≡ Some y)) ⊎ ((code ≡ NoMemory) × (new ≡ None)))
@@ -152,7 +152,7 @@ IsToldEnding (ended.Freed others) new old told code = (code ≡ Freed) × (new �
     × (told ≡ record old { freed = others })
 
 -- C is told what became of the meters
-pub record WasClosed (x : Held) (new : Option Held) (old told : SynthMetered) (code : ℤ) : Type 0 where
+pub record WasClosed (x : HeldSeat) (new : Option HeldSeat) (old told : SynthMetered) (code : ℤ) : Type 0 where
   pub outcome : Outcome
   pub ended : Ended outcome x
   pub tells : IsToldEnding outcome new old told code

@@ -11,58 +11,58 @@ use Rattle.meters.specs.Rules.{newcomer}
 use Rattle.meters.specs.Endings as endings
 use Rattle.meters.specs.Steps.{Ticked}
 use Rattle.meters.specs.Answers.{AdvancedNow, NotAdvanced, SetNow, NotSet, CancelledNow, FiredNow}
-use Rattle.bindings.specs.declared.seat.held.Held.{Held}
+use Rattle.bindings.specs.declared.seat.held.HeldSeat.{HeldSeat}
 
 -- the same end of the same meters
-abbrev pub IsSameHeld : Held → Held → Type 0
+abbrev pub IsSameHeld : HeldSeat → HeldSeat → Type 0
 IsSameHeld x y = (arc_value y.meters ≡ arc_value x.meters) × IsSameSeat x.seat y.seat × (y.mark ≡ x.mark)
 
 -- the same, and it has as many parts as before
-abbrev pub IsKept : Held → Held → Type 0
+abbrev pub IsKept : HeldSeat → HeldSeat → Type 0
 IsKept x y = IsSameHeld x y × (y.parts ≡ x.parts)
 
 -- both are ends of the same meters
-abbrev pub AreOfOneTable : Held → Held → Type 0
+abbrev pub AreOfOneTable : HeldSeat → HeldSeat → Type 0
 AreOfOneTable x y = meters.AreOfOneTable x.seat y.seat
 
 -- the meters have one mark
-abbrev pub HaveOneMark : Held → Held → Type 0
+abbrev pub HaveOneMark : HeldSeat → HeldSeat → Type 0
 HaveOneMark x y = y.mark ≡ x.mark
 
 -- the only end of new meters with this clock
-abbrev pub IsNewSeat : ℕ → ℕ → Held → Type 0
+abbrev pub IsNewSeat : ℕ → ℕ → HeldSeat → Type 0
 IsNewSeat clock mark x = (first_of (arc_value x.meters) ≡ clock) × (view_of x.seat ≡ newcomer (record { clock = clock }))
     × (x.mark ≡ mark) × (x.parts ≡ the_whole)
 
 -- `split` gave this end, of the same meters and with its parts of the share
-abbrev pub Divided : Held → Held → Held → Type 0
+abbrev pub Divided : HeldSeat → HeldSeat → HeldSeat → Type 0
 Divided x y born = IsSameHeld x y × (arc_value born.meters ≡ arc_value x.meters) × (born.mark ≡ x.mark)
     × (born.parts ≡ given x.parts) × (y.parts ≡ kept x.parts)
     × endings.Divided (view_of x.seat) (view_of y.seat)
     × endings.IsNewborn (view_of x.seat) (view_of y.seat) (view_of born.seat)
 
 -- `join` took the other end in
-abbrev pub Joined : Held → Held → Held → Type 0
+abbrev pub Joined : HeldSeat → HeldSeat → HeldSeat → Type 0
 Joined x y other = IsSameHeld x y × endings.TookIn (view_of x.seat) (view_of other.seat) (view_of y.seat)
 
 -- `tick` gave this value of the gauge, the one before
-abbrev pub WasTicked : ℕ → ℕ → ℕ → Held → Held → Type 0
+abbrev pub WasTicked : ℕ → ℕ → ℕ → HeldSeat → HeldSeat → Type 0
 WasTicked gauge amount before x y = IsKept x y × Ticked (view_of x.seat) gauge amount before (view_of y.seat)
 
 -- `advance` gave this answer
-abbrev pub WasAdvanced : Result ℕ AdvanceRefusal → Held → Held → Type 0
+abbrev pub WasAdvanced : Result ℕ AdvanceRefusal → HeldSeat → HeldSeat → Type 0
 WasAdvanced answer x y = IsKept x y × MatchResult answer
     (λ clock. AdvancedNow (view_of x.seat) clock (view_of y.seat)) (λ r. NotAdvanced (view_of x.seat) r (view_of y.seat))
 
 -- `try_set` gave this answer
-abbrev pub WasSet : Alarm → Result ℕ SetRefusal → Held → Held → Type 0
+abbrev pub WasSet : Alarm → Result ℕ SetRefusal → HeldSeat → HeldSeat → Type 0
 WasSet alarm answer x y = IsKept x y × MatchResult answer
     (λ slot. SetNow (view_of x.seat) slot alarm (view_of y.seat)) (λ r. NotSet (view_of x.seat) r (view_of y.seat))
 
 -- `cancel` gave this answer
-abbrev pub WasCancelled : ℕ → Alarm → Bool → Held → Held → Type 0
+abbrev pub WasCancelled : ℕ → Alarm → Bool → HeldSeat → HeldSeat → Type 0
 WasCancelled slot alarm answer x y = IsKept x y × CancelledNow (view_of x.seat) slot alarm answer (view_of y.seat)
 
 -- `due` gave these alarms
-abbrev pub WereFired : List Alarm → Held → Held → Type 0
+abbrev pub WereFired : List Alarm → HeldSeat → HeldSeat → Type 0
 WereFired alarms x y = IsKept x y × FiredNow (view_of x.seat) alarms (view_of y.seat)

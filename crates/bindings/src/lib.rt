@@ -2,5 +2,6 @@
 #![tactic(auto)]
 
 mod answer;
+mod line;
 mod queue;
 mod seat;

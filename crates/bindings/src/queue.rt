@@ -20,8 +20,8 @@ use crate::answer::{
     SHORT_BUFFER, SynthAnswer, SynthClosed, told, told_of_claim, told_of_some, told_of_take,
 };
 use closing::Outcome;
-use handle::Handle;
-use held::{Held, is_size};
+use handle::HandleQueue;
+use held::{HeldQueue, is_size};
 use std::alloc::Global;
 
 /// An empty queue of 64 or 256 places, whose first position is `first`. Each queue has a mark of its own.
@@ -31,7 +31,7 @@ pub extern "C" fn synth_queue_new_marked(
     places: u32,
     first: u32,
     mark: u64,
-    queue: &mut Handle,
+    queue: &mut HandleQueue,
 ) -> i32
     ensures { MadeQueue places first mark queue.old.hidden.value queue.new.hidden.value result }
 {
@@ -41,7 +41,7 @@ pub extern "C" fn synth_queue_new_marked(
     if !is_size(places) {
         return BAD_NUMBER;
     }
-    let Some(held) = Held::new(alloc, places, first, mark) else {
+    let Some(held) = HeldQueue::new(alloc, places, first, mark) else {
         return NO_MEMORY;
     };
     let Ok(held) = Box::new(alloc, held) else {
@@ -53,7 +53,7 @@ pub extern "C" fn synth_queue_new_marked(
 
 /// Frees the handle, whose end is then never joined.
 #[unsafe(no_mangle)]
-pub extern "C" fn synth_queue_free(alloc: Global, queue: &mut Handle) -> i32
+pub extern "C" fn synth_queue_free(alloc: Global, queue: &mut HandleQueue) -> i32
     ensures { FreedHandle queue.old.hidden.value queue.new.hidden.value result }
 {
     match queue.take(alloc) {
@@ -63,7 +63,7 @@ pub extern "C" fn synth_queue_free(alloc: Global, queue: &mut Handle) -> i32
 }
 
 // A new end in a box of its own. It is joined again where no box can be had.
-fn split_boxed(alloc: Global, held: &mut Held) -> Option<Box<Held, Global>>
+fn split_boxed(alloc: Global, held: &mut HeldQueue) -> Option<Box<HeldQueue, Global>>
     requires { 2 ≤ parts_of held.old }
     ensures { MatchOption result (Rejoined held.old held.new) (λ b. AtSizes DividedPart held.old held.new b.value) }
 {
@@ -79,7 +79,11 @@ fn split_boxed(alloc: Global, held: &mut Held) -> Option<Box<Held, Global>>
 
 /// A second end of the queue, for another thread.
 #[unsafe(no_mangle)]
-pub extern "C" fn synth_queue_split(alloc: Global, queue: &mut Handle, other: &mut Handle) -> i32
+pub extern "C" fn synth_queue_split(
+    alloc: Global,
+    queue: &mut HandleQueue,
+    other: &mut HandleQueue,
+) -> i32
     ensures { SplitQueue queue.old.hidden.value queue.new.hidden.value other.old.hidden.value other.new.hidden.value
         result }
 {
@@ -110,7 +114,11 @@ pub extern "C" fn synth_queue_split(alloc: Global, queue: &mut Handle, other: &m
 
 /// The first end then has all that both had, and the second handle is empty.
 #[unsafe(no_mangle)]
-pub extern "C" fn synth_queue_join(alloc: Global, queue: &mut Handle, other: &mut Handle) -> i32
+pub extern "C" fn synth_queue_join(
+    alloc: Global,
+    queue: &mut HandleQueue,
+    other: &mut HandleQueue,
+) -> i32
     requires { MarksTell queue.old.hidden.value other.old.hidden.value }
     ensures { JoinedQueue queue.old.hidden.value queue.new.hidden.value other.old.hidden.value other.new.hidden.value
         result }
@@ -136,7 +144,7 @@ pub extern "C" fn synth_queue_join(alloc: Global, queue: &mut Handle, other: &mu
 #[unsafe(no_mangle)]
 pub extern "C" fn synth_queue_try_put(
     alloc: Global,
-    queue: &mut Handle,
+    queue: &mut HandleQueue,
     items: &[u64],
 ) -> SynthAnswer
     ensures empty { queue.old.hidden.value ≡ None → (result.code ≡ EmptyHandle) × (queue.new.hidden.value ≡ None) }
@@ -154,7 +162,7 @@ pub extern "C" fn synth_queue_try_put(
 #[unsafe(no_mangle)]
 pub extern "C" fn synth_queue_try_take(
     alloc: Global,
-    queue: &mut Handle,
+    queue: &mut HandleQueue,
     item: &mut u64,
 ) -> SynthAnswer
     ensures empty { queue.old.hidden.value ≡ None → (result.code ≡ EmptyHandle) × (queue.new.hidden.value ≡ None)
@@ -180,7 +188,7 @@ pub extern "C" fn synth_queue_try_take(
 #[unsafe(no_mangle)]
 pub extern "C" fn synth_queue_take_up_to(
     alloc: Global,
-    queue: &mut Handle,
+    queue: &mut HandleQueue,
     items: &mut [u64],
     count: &mut usize,
 ) -> SynthAnswer
@@ -206,7 +214,7 @@ pub extern "C" fn synth_queue_take_up_to(
 #[unsafe(no_mangle)]
 pub extern "C" fn synth_queue_try_take_line(
     alloc: Global,
-    queue: &mut Handle,
+    queue: &mut HandleQueue,
     line: &mut [u64],
     count: &mut usize,
 ) -> SynthAnswer
@@ -235,7 +243,11 @@ pub extern "C" fn synth_queue_try_take_line(
 
 /// `ClaimQueue::shut`.
 #[unsafe(no_mangle)]
-pub extern "C" fn synth_queue_shut(alloc: Global, queue: &mut Handle, was_open: &mut bool) -> i32
+pub extern "C" fn synth_queue_shut(
+    alloc: Global,
+    queue: &mut HandleQueue,
+    was_open: &mut bool,
+) -> i32
     ensures empty { queue.old.hidden.value ≡ None → (result ≡ EmptyHandle) × (queue.new.hidden.value ≡ None)
         × (was_open.new ≡ was_open.old) }
     ensures shut { HoldsThen queue.old.hidden.value
@@ -253,7 +265,7 @@ pub extern "C" fn synth_queue_shut(alloc: Global, queue: &mut Handle, was_open: 
 #[unsafe(no_mangle)]
 pub extern "C" fn synth_queue_close(
     alloc: Global,
-    queue: &mut Handle,
+    queue: &mut HandleQueue,
     left: &mut [u64],
     closed: &mut SynthClosed,
 ) -> i32

@@ -20,8 +20,8 @@ use crate::answer::{
 };
 use alarm::{SynthAlarm, alarm_of, tell_alarms};
 use closing::Outcome;
-use handle::Handle;
-use held::Held;
+use handle::HandleSeat;
+use held::HeldSeat;
 use meters::{AdvanceRefusal, Metered, SetRefusal};
 use std::alloc::Global;
 
@@ -84,14 +84,14 @@ pub extern "C" fn synth_seat_new_marked(
     alloc: Global,
     clock: u32,
     mark: u64,
-    seat: &mut Handle,
+    seat: &mut HandleSeat,
 ) -> i32
     ensures { MadeMeters clock mark seat.old.hidden.value seat.new.hidden.value result }
 {
     if seat.is_full() {
         return FULL_HANDLE;
     }
-    let Some(held) = Held::new(alloc, clock, mark) else {
+    let Some(held) = HeldSeat::new(alloc, clock, mark) else {
         return NO_MEMORY;
     };
     let Ok(held) = Box::new(alloc, held) else {
@@ -103,7 +103,7 @@ pub extern "C" fn synth_seat_new_marked(
 
 /// Frees the handle, whose end is then never joined.
 #[unsafe(no_mangle)]
-pub extern "C" fn synth_seat_free(alloc: Global, seat: &mut Handle) -> i32
+pub extern "C" fn synth_seat_free(alloc: Global, seat: &mut HandleSeat) -> i32
     ensures { FreedHandle seat.old.hidden.value seat.new.hidden.value result }
 {
     match seat.take(alloc) {
@@ -113,7 +113,7 @@ pub extern "C" fn synth_seat_free(alloc: Global, seat: &mut Handle) -> i32
 }
 
 // A new end in a box of its own. It is joined again where no box can be had.
-fn split_boxed(alloc: Global, held: &mut Held) -> Option<Box<Held, Global>>
+fn split_boxed(alloc: Global, held: &mut HeldSeat) -> Option<Box<HeldSeat, Global>>
     requires { 2 ≤ held.old.parts }
     ensures { MatchOption result (Rejoined held.old held.new) (λ b. Divided held.old held.new b.value) }
 {
@@ -129,7 +129,11 @@ fn split_boxed(alloc: Global, held: &mut Held) -> Option<Box<Held, Global>>
 
 /// A second end of the meters, for another thread.
 #[unsafe(no_mangle)]
-pub extern "C" fn synth_seat_split(alloc: Global, seat: &mut Handle, other: &mut Handle) -> i32
+pub extern "C" fn synth_seat_split(
+    alloc: Global,
+    seat: &mut HandleSeat,
+    other: &mut HandleSeat,
+) -> i32
     ensures { SplitMeters seat.old.hidden.value seat.new.hidden.value other.old.hidden.value other.new.hidden.value
         result }
 {
@@ -160,7 +164,11 @@ pub extern "C" fn synth_seat_split(alloc: Global, seat: &mut Handle, other: &mut
 
 /// The first end then has all that both had, and the second handle is empty.
 #[unsafe(no_mangle)]
-pub extern "C" fn synth_seat_join(alloc: Global, seat: &mut Handle, other: &mut Handle) -> i32
+pub extern "C" fn synth_seat_join(
+    alloc: Global,
+    seat: &mut HandleSeat,
+    other: &mut HandleSeat,
+) -> i32
     requires { MarksTell seat.old.hidden.value other.old.hidden.value }
     ensures { JoinedMeters seat.old.hidden.value seat.new.hidden.value other.old.hidden.value other.new.hidden.value
         result }
@@ -186,7 +194,7 @@ pub extern "C" fn synth_seat_join(alloc: Global, seat: &mut Handle, other: &mut 
 #[unsafe(no_mangle)]
 pub extern "C" fn synth_seat_tick(
     alloc: Global,
-    seat: &mut Handle,
+    seat: &mut HandleSeat,
     gauge: u32,
     amount: u64,
     before: &mut u64,
@@ -212,7 +220,7 @@ pub extern "C" fn synth_seat_tick(
 #[unsafe(no_mangle)]
 pub extern "C" fn synth_seat_advance(
     alloc: Global,
-    seat: &mut Handle,
+    seat: &mut HandleSeat,
     clock: &mut u32,
 ) -> SynthAnswer
     ensures empty { seat.old.hidden.value ≡ None → (result.code ≡ EmptyHandle) × (seat.new.hidden.value ≡ None)
@@ -238,7 +246,7 @@ pub extern "C" fn synth_seat_advance(
 #[unsafe(no_mangle)]
 pub extern "C" fn synth_seat_try_set(
     alloc: Global,
-    seat: &mut Handle,
+    seat: &mut HandleSeat,
     alarm: &SynthAlarm,
     slot: &mut u32,
 ) -> SynthAnswer
@@ -269,7 +277,7 @@ pub extern "C" fn synth_seat_try_set(
 #[unsafe(no_mangle)]
 pub extern "C" fn synth_seat_cancel(
     alloc: Global,
-    seat: &mut Handle,
+    seat: &mut HandleSeat,
     slot: u32,
     alarm: &SynthAlarm,
     cancelled: &mut bool,
@@ -299,7 +307,7 @@ pub extern "C" fn synth_seat_cancel(
 #[unsafe(no_mangle)]
 pub extern "C" fn synth_seat_due(
     alloc: Global,
-    seat: &mut Handle,
+    seat: &mut HandleSeat,
     alarms: &mut [SynthAlarm],
     count: &mut usize,
 ) -> i32
@@ -325,7 +333,7 @@ pub extern "C" fn synth_seat_due(
 #[unsafe(no_mangle)]
 pub extern "C" fn synth_seat_close(
     alloc: Global,
-    seat: &mut Handle,
+    seat: &mut HandleSeat,
     metered: &mut SynthMetered,
 ) -> i32
     ensures empty { seat.old.hidden.value ≡ None → (result ≡ EmptyHandle) × (seat.new.hidden.value ≡ None)

@@ -4,7 +4,7 @@ ghost use Rattle.table_theory.specs.Listing.{AllRaised};
 ghost use Rattle.claim_queue.specs.Handles.{IsEndOf, view_of};
 ghost use Rattle.bindings.specs.QueueClosing.{EndedQueue, EndedPart};
 
-use super::held::Held;
+use super::held::HeldQueue;
 use super::part::Part;
 use super::taking::{copy_left, take_up_to};
 use crate::answer::SynthClosed;
@@ -89,12 +89,12 @@ pub enum Outcome {
     /// It is closed, and the items left lie in the buffer.
     Closed(SynthClosed),
     /// Other handles are left.
-    Open(Held),
+    Open(HeldQueue),
     /// No other handle is left, but ends were freed and not joined. The items left were taken into the buffer.
     Freed(SynthClosed),
 }
 
-impl Held {
+impl HeldQueue {
     ghost use Rattle.bindings.specs.QueueHeld.{places_of};
     ghost use Rattle.bindings.specs.QueueOutcomes.{EndedHeld};
 
@@ -104,14 +104,14 @@ impl Held {
         ensures { EndedHeld out.old out.new result self }
     {
         match self {
-            Held::Small(part) => match part.close(out) {
+            HeldQueue::Small(part) => match part.close(out) {
                 Ending::Closed(closed) => Outcome::Closed(closed),
-                Ending::Open(part) => Outcome::Open(Held::Small(part)),
+                Ending::Open(part) => Outcome::Open(HeldQueue::Small(part)),
                 Ending::Freed(freed) => Outcome::Freed(freed),
             },
-            Held::Large(part) => match part.close(out) {
+            HeldQueue::Large(part) => match part.close(out) {
                 Ending::Closed(closed) => Outcome::Closed(closed),
-                Ending::Open(part) => Outcome::Open(Held::Large(part)),
+                Ending::Open(part) => Outcome::Open(HeldQueue::Large(part)),
                 Ending::Freed(freed) => Outcome::Freed(freed),
             },
         }

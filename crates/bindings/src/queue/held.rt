@@ -11,7 +11,7 @@ use std::alloc::Global;
 
 /// An end of a queue of either size.
 #[derive(Drop)]
-pub enum Held {
+pub enum HeldQueue {
     Small(Part<64>),
     Large(Part<256>),
 }
@@ -23,16 +23,16 @@ pub fn is_size(places: u32) -> bool
     places == 64 || places == 256
 }
 
-impl Held {
+impl HeldQueue {
     /// The only end of an empty queue of so many places.
-    pub fn new(alloc: Global, places: u32, first: u32, mark: u64) -> Option<Held>
+    pub fn new(alloc: Global, places: u32, first: u32, mark: u64) -> Option<HeldQueue>
         requires { IsSize places }
         ensures { MatchOption result (Unit {0}) (IsNewHeld places first mark) }
     {
         if places == 64 {
-            return Some(Held::Small(Part::new(alloc, first, mark)?));
+            return Some(HeldQueue::Small(Part::new(alloc, first, mark)?));
         }
-        Some(Held::Large(Part::new(alloc, first, mark)?))
+        Some(HeldQueue::Large(Part::new(alloc, first, mark)?))
     }
 
     /// How many places the queue has.
@@ -40,18 +40,18 @@ impl Held {
         ensures { result ≡ places_of self.now }
     {
         match self {
-            Held::Small(_) => 64,
-            Held::Large(_) => 256,
+            HeldQueue::Small(_) => 64,
+            HeldQueue::Large(_) => 256,
         }
     }
 
     /// Whether the queues of both have one size and one mark.
-    pub fn has_mark_of(&self, other: &Held) -> bool
+    pub fn has_mark_of(&self, other: &HeldQueue) -> bool
         ensures { MatchBool result (HaveOneMark self.now other.now) (HaveOneMark self.now other.now → ⊥) }
     {
         match (self, other) {
-            (Held::Small(part), Held::Small(other)) => part.has_mark_of(other),
-            (Held::Large(part), Held::Large(other)) => part.has_mark_of(other),
+            (HeldQueue::Small(part), HeldQueue::Small(other)) => part.has_mark_of(other),
+            (HeldQueue::Large(part), HeldQueue::Large(other)) => part.has_mark_of(other),
             _ => false,
         }
     }
@@ -61,30 +61,30 @@ impl Held {
         ensures { MatchBool result (2 ≤ parts_of self.now) (parts_of self.now < 2) }
     {
         match self {
-            Held::Small(part) => part.is_divisible(),
-            Held::Large(part) => part.is_divisible(),
+            HeldQueue::Small(part) => part.is_divisible(),
+            HeldQueue::Large(part) => part.is_divisible(),
         }
     }
 
     /// A new end of the queue. None where no more handles can be counted.
-    pub fn split(&mut self) -> Option<Held>
+    pub fn split(&mut self) -> Option<HeldQueue>
         requires { 2 ≤ parts_of self.old }
         ensures { MatchOption result (self.new ≡ self.old) (λ born. AtSizes DividedPart self.old self.new born) }
     {
         match self {
-            Held::Small(part) => Some(Held::Small(part.split()?)),
-            Held::Large(part) => Some(Held::Large(part.split()?)),
+            HeldQueue::Small(part) => Some(HeldQueue::Small(part.split()?)),
+            HeldQueue::Large(part) => Some(HeldQueue::Large(part.split()?)),
         }
     }
 
     /// Takes another end of the queue in.
-    pub fn join(&mut self, other: Held)
+    pub fn join(&mut self, other: HeldQueue)
         requires { AreOfOneQueue self.old other }
         ensures { AtSizes JoinedPart self.old self.new other }
     {
         match (self, other) {
-            (Held::Small(part), Held::Small(other)) => part.join(other),
-            (Held::Large(part), Held::Large(other)) => part.join(other),
+            (HeldQueue::Small(part), HeldQueue::Small(other)) => part.join(other),
+            (HeldQueue::Large(part), HeldQueue::Large(other)) => part.join(other),
             _ => unreachable!(),
         }
     }
@@ -94,8 +94,8 @@ impl Held {
         ensures { AtSize (PutPart items.now result) self.old self.new }
     {
         match self {
-            Held::Small(part) => part.try_put(items),
-            Held::Large(part) => part.try_put(items),
+            HeldQueue::Small(part) => part.try_put(items),
+            HeldQueue::Large(part) => part.try_put(items),
         }
     }
 
@@ -104,8 +104,8 @@ impl Held {
         ensures { AtSize (TookPart result) self.old self.new }
     {
         match self {
-            Held::Small(part) => part.try_take(),
-            Held::Large(part) => part.try_take(),
+            HeldQueue::Small(part) => part.try_take(),
+            HeldQueue::Large(part) => part.try_take(),
         }
     }
 
@@ -114,8 +114,8 @@ impl Held {
         ensures { AtSize (TookSomePart out.old out.new result) self.old self.new }
     {
         match self {
-            Held::Small(part) => part.take_up_to(out),
-            Held::Large(part) => part.take_up_to(out),
+            HeldQueue::Small(part) => part.take_up_to(out),
+            HeldQueue::Large(part) => part.take_up_to(out),
         }
     }
 
@@ -125,8 +125,8 @@ impl Held {
         ensures { AtSize (TookLinePart out.old out.new result) self.old self.new }
     {
         match self {
-            Held::Small(part) => part.try_take_line(out),
-            Held::Large(part) => part.try_take_line(out),
+            HeldQueue::Small(part) => part.try_take_line(out),
+            HeldQueue::Large(part) => part.try_take_line(out),
         }
     }
 
@@ -135,16 +135,16 @@ impl Held {
         ensures { AtSize (ShutPart result) self.old self.new }
     {
         match self {
-            Held::Small(part) => part.shut(),
-            Held::Large(part) => part.shut(),
+            HeldQueue::Small(part) => part.shut(),
+            HeldQueue::Large(part) => part.shut(),
         }
     }
 
     /// Whether other handles of the queue are left.
     pub fn is_shared(&self) -> bool {
         match self {
-            Held::Small(part) => part.is_shared(),
-            Held::Large(part) => part.is_shared(),
+            HeldQueue::Small(part) => part.is_shared(),
+            HeldQueue::Large(part) => part.is_shared(),
         }
     }
 }

@@ -3,9 +3,9 @@ ghost use Rattle.std.specs.Prelude.{◌≡◌, true};
 ghost use Rattle.std.specs.declared.option.Option.{Option as Maybe};
 ghost use Rattle.std.specs.declared.option.Option.TheVariants.{None, Some};
 ghost use Rattle.bindings.specs.Hiding.{is_some};
-ghost use Rattle.bindings.specs.declared.queue.held.Held.{Held as HeldValue};
+ghost use Rattle.bindings.specs.declared.queue.held.HeldQueue.{HeldQueue as HeldValue};
 
-use super::held::Held;
+use super::held::HeldQueue;
 use loose_box::Loose;
 use std::alloc::Global;
 use std::marker::Model;
@@ -14,44 +14,44 @@ use std::ptr::null_mut;
 /// It owns the box that it leads to, or it leads nowhere. It can't be let go but where it leads nowhere, so no box is
 /// forgotten.
 #[repr(C)]
-pub struct Hidden {
+pub struct HiddenQueue {
     at: *mut u8,
     pub ghost value: { Maybe HeldValue },
 }
 
-impl Model for Hidden {
-    ghost use Rattle.bindings.specs.contracts.queue.held.Held.{the_row};
+impl Model for HiddenQueue {
+    ghost use Rattle.bindings.specs.contracts.queue.held.HeldQueue.{the_row};
     ghost use Rattle.bindings.specs.Hiding.{hides};
 
     ghost also_owns = { λ h. hides the_row h.at h.value };
 }
 
-unsafe impl Send for Hidden {}
+unsafe impl Send for HiddenQueue {}
 
-impl Hidden {
+impl HiddenQueue {
     /// It leads nowhere.
-    pub fn none() -> Hidden
+    pub fn none() -> HiddenQueue
         ensures { result.value ≡ None }
     {
-        Hidden { at: null_mut() }
+        HiddenQueue { at: null_mut() }
     }
 
     /// Hides a box.
-    pub fn of(loose: Loose<Held, Global>) -> Hidden
+    pub fn of(loose: Loose<HeldQueue, Global>) -> HiddenQueue
         ensures { result.value ≡ Some loose.value }
     {
         let Loose { at, alloc: _alloc } = loose;
-        Hidden { at: at as *mut u8 }
+        HiddenQueue { at: at as *mut u8 }
     }
 
     /// Gives the box back.
-    pub fn into_loose(self, alloc: Global) -> Loose<Held, Global>
+    pub fn into_loose(self, alloc: Global) -> Loose<HeldQueue, Global>
         requires { is_some self.value ≡ true }
         ensures { self.value ≡ Some result.value }
     {
-        let Hidden { at } = self;
+        let HiddenQueue { at } = self;
         Loose {
-            at: at as *mut Held,
+            at: at as *mut HeldQueue,
             alloc,
         }
     }
@@ -60,6 +60,6 @@ impl Hidden {
     pub fn let_go(self)
         requires { self.value ≡ None }
     {
-        let Hidden { at: _ } = self;
+        let HiddenQueue { at: _ } = self;
     }
 }

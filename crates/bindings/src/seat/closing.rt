@@ -2,7 +2,7 @@
 ghost use Rattle.std.specs.Prelude.{◌≡◌};
 ghost use Rattle.bindings.specs.SeatClosing.{Ended};
 
-use super::held::Held;
+use super::held::HeldSeat;
 use meters::Metered;
 use std::sync::Arc;
 
@@ -12,17 +12,17 @@ pub enum Outcome {
     /// They are closed.
     Closed(Metered),
     /// Other handles are left.
-    Open(Held),
+    Open(HeldSeat),
     /// No other handle is left, but so many ends were freed and not joined.
     Freed(u64),
 }
 
-impl Held {
+impl HeldSeat {
     /// `Meters::close`.
     pub fn close(self) -> Outcome
         ensures { Ended result self }
     {
-        let Held {
+        let HeldSeat {
             meters,
             seat,
             parts,
@@ -31,7 +31,7 @@ impl Held {
         let meters = match Arc::try_unwrap(meters) {
             Ok(meters) => meters,
             Err(meters) => {
-                return Outcome::Open(Held {
+                return Outcome::Open(HeldSeat {
                     meters,
                     seat,
                     parts,

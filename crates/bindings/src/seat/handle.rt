@@ -4,21 +4,21 @@ ghost use Rattle.std.specs.Option.{MatchOption};
 ghost use Rattle.std.specs.declared.option.Option.TheVariants.{None, Some};
 ghost use Rattle.bindings.specs.Hiding.{is_some};
 
-use super::held::Held;
-use super::hidden::Hidden;
+use super::held::HeldSeat;
+use super::hidden::HiddenSeat;
 use loose_box::Loose;
 use std::alloc::Global;
 use std::mem;
 
 /// C makes it of zeros, and it is then empty.
 #[repr(C)]
-pub struct Handle {
-    hidden: Hidden,
+pub struct HandleSeat {
+    hidden: HiddenSeat,
     full: bool,
     ghost told: { full ≡ is_some hidden.value },
 }
 
-impl Handle {
+impl HandleSeat {
     /// Whether it holds an end.
     pub fn is_full(&self) -> bool
         ensures { result ≡ is_some self.now.hidden.value }
@@ -27,24 +27,24 @@ impl Handle {
     }
 
     /// What it holds, which it then holds no more.
-    pub fn take(&mut self, alloc: Global) -> Option<Box<Held, Global>>
+    pub fn take(&mut self, alloc: Global) -> Option<Box<HeldSeat, Global>>
         ensures taken { MatchOption result (self.old.hidden.value ≡ None) (λ b. self.old.hidden.value ≡ Some b.value) }
         ensures emptied { self.new.hidden.value ≡ None }
     {
         if !self.full {
             return None;
         }
-        let hidden = mem::replace(&mut self.hidden, Hidden::none());
+        let hidden = mem::replace(&mut self.hidden, HiddenSeat::none());
         self.full = false;
         Some(hidden.into_loose(alloc).into_box())
     }
 
     /// Condition: it is empty.
-    pub fn put(&mut self, held: Box<Held, Global>)
+    pub fn put(&mut self, held: Box<HeldSeat, Global>)
         requires { self.old.hidden.value ≡ None }
         ensures { self.new.hidden.value ≡ Some held.value }
     {
-        let empty = mem::replace(&mut self.hidden, Hidden::of(Loose::of(held)));
+        let empty = mem::replace(&mut self.hidden, HiddenSeat::of(Loose::of(held)));
         empty.let_go();
         self.full = true;
     }
@@ -54,5 +54,5 @@ fn crosses<T: Send>() {}
 
 /// A handle may go to another thread: this is proved of its type.
 pub fn handles_cross() {
-    crosses::<Handle>();
+    crosses::<HandleSeat>();
 }

@@ -13,7 +13,7 @@ use std::sync::Arc;
 /// One end of meters that other handles share. It has at least so many parts of its meters. `mark` is the number that
 /// the meters were given.
 #[derive(Drop)]
-pub struct Held {
+pub struct HeldSeat {
     pub(super) meters: Arc<Meters, Global>,
     pub(super) seat: MeterSeat,
     pub(super) parts: u64,
@@ -22,17 +22,17 @@ pub struct Held {
     ghost known: { parts ≤ (view_of seat).member.share },
 }
 
-impl Held {
+impl HeldSeat {
     ghost use Rattle.bindings.specs.SeatHeld.{IsNewSeat, Divided, Joined, AreOfOneTable, HaveOneMark, WasTicked};
     ghost use Rattle.bindings.specs.SeatHeld.{WasAdvanced, WasSet, WasCancelled, WereFired};
 
     /// The only end of new meters.
-    pub fn new(alloc: Global, clock: u32, mark: u64) -> Option<Held>
+    pub fn new(alloc: Global, clock: u32, mark: u64) -> Option<HeldSeat>
         ensures { MatchOption result (Unit {0}) (IsNewSeat clock mark) }
     {
         let (meters, seat) = Meters::new(alloc, clock).ok()?;
         let meters = Arc::new(alloc, meters).ok()?;
-        Some(Held {
+        Some(HeldSeat {
             meters,
             seat,
             parts: u64::MAX,
@@ -41,7 +41,7 @@ impl Held {
     }
 
     /// Whether the meters have one mark.
-    pub fn has_mark_of(&self, other: &Held) -> bool
+    pub fn has_mark_of(&self, other: &HeldSeat) -> bool
         ensures { MatchBool result (HaveOneMark self.now other.now) (HaveOneMark self.now other.now → ⊥) }
     {
         self.mark == other.mark
@@ -55,7 +55,7 @@ impl Held {
     }
 
     /// A new end of the meters. None where no more handles can be counted.
-    pub fn split(&mut self) -> Option<Held>
+    pub fn split(&mut self) -> Option<HeldSeat>
         requires { 2 ≤ self.old.parts }
         ensures { MatchOption result (self.new ≡ self.old) (Divided self.old self.new) }
     {
@@ -63,7 +63,7 @@ impl Held {
         let given = (self.parts / 2).min(8796093022208);
         let seat = self.meters.split(&mut self.seat);
         self.parts -= given;
-        Some(Held {
+        Some(HeldSeat {
             meters,
             seat,
             parts: given,
@@ -72,11 +72,11 @@ impl Held {
     }
 
     /// Takes another end of the meters in.
-    pub fn join(&mut self, other: Held)
+    pub fn join(&mut self, other: HeldSeat)
         requires { AreOfOneTable self.old other }
         ensures { Joined self.old self.new other }
     {
-        let Held {
+        let HeldSeat {
             meters: _meters,
             seat,
             parts,

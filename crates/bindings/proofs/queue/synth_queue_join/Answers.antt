@@ -1,5 +1,5 @@
 use Rattle.std.proofs.Common.{rules, inl, inr, refl, sym, subst, ◌∙◌}
-use Rattle.bindings.specs.declared.queue.held.Held.{Held}
+use Rattle.bindings.specs.declared.queue.held.HeldQueue.{HeldQueue}
 use Rattle.bindings.specs.QueueHeld.{AtSizes}
 use Rattle.bindings.specs.QueueParts.{JoinedPart}
 use Rattle.bindings.proofs.queue.synth_queue_join.Goals as goal
@@ -19,6 +19,6 @@ returns c = let y = c.join.new.self in let z = c.in-Some-take.joined.value in
       c.in-Some-take.ensures.taken,
       c.put-2.ensures,
       c.take-2.ensures.emptied,
-      subst (λ (h : Held). AtSizes JoinedPart h y z) c.deref_mut.ensures.value
-          (subst (λ (h : Held). AtSizes JoinedPart c.deref_mut.result.now y h) c.into_inner.ensures c.join.ensures),
+      subst (λ (h : HeldQueue). AtSizes JoinedPart h y z) c.deref_mut.ensures.value
+          (subst (λ (h : HeldQueue). AtSizes JoinedPart c.deref_mut.result.now y h) c.into_inner.ensures c.join.ensures),
     ))

@@ -1,5 +1,5 @@
 use Rattle.std.proofs.Common.{rules, inl, inr, refl, sym, subst, ◌∙◌}
-use Rattle.bindings.specs.declared.queue.held.Held.{Held}
+use Rattle.bindings.specs.declared.queue.held.HeldQueue.{HeldQueue}
 use Rattle.bindings.specs.QueueHeld.{AtSizes}
 use Rattle.bindings.specs.QueueParts.{DividedPart}
 use Rattle.bindings.specs.QueueCalls.{Rejoined}
@@ -21,7 +21,7 @@ returns-in-Some-made c = let n = is_none c.args.other.now.hidden.value (sym c.is
       c.in-Some.ensures.taken,
       c.put-2.ensures,
       c.put-in-Some-made.ensures,
-      subst (λ (h : Held). AtSizes DividedPart h y z) c.deref_mut.ensures.value c.in-Some-made.ensures,
+      subst (λ (h : HeldQueue). AtSizes DividedPart h y z) c.deref_mut.ensures.value c.in-Some-made.ensures,
     ))))
 
 pub returns-in-None : goal.returns-in-None
@@ -34,5 +34,5 @@ returns-in-None c = let n = is_none c.args.other.now.hidden.value (sym c.is_full
       y,
       c.in-Some.ensures.taken,
       c.put-2.ensures,
-      subst (λ (h : Held). Rejoined h y) c.deref_mut.ensures.value c.in-None.ensures,
+      subst (λ (h : HeldQueue). Rejoined h y) c.deref_mut.ensures.value c.in-None.ensures,
     ))))

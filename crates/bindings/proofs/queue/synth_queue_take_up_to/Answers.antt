@@ -1,5 +1,5 @@
 use Rattle.std.proofs.Common.{rules, inr, subst}
-use Rattle.bindings.specs.declared.queue.held.Held.{Held}
+use Rattle.bindings.specs.declared.queue.held.HeldQueue.{HeldQueue}
 use Rattle.bindings.specs.QueueHeld.{AtSize}
 use Rattle.bindings.specs.QueueParts.{TookSomePart}
 use Rattle.bindings.specs.QueueCalls.{WasSomeTold}
@@ -15,7 +15,7 @@ returns-clause-taken c = let t = c.take_up_to-taken in let told = c.told_of_some
         y = t.new.self;
         full = c.put-2.ensures;
         refusal = t.result.1;
-        answered = subst (λ (h : Held). AtSize (TookSomePart c.args.items.now t.new.out t.result) h t.new.self) c.deref_mut.ensures.value t.ensures;
+        answered = subst (λ (h : HeldQueue). AtSize (TookSomePart c.args.items.now t.new.out t.result) h t.new.self) c.deref_mut.ensures.value t.ensures;
         code = told.0;
         head = told.1;
         tail = told.2;

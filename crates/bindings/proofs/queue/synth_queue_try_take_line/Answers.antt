@@ -1,6 +1,6 @@
 use Rattle.std.proofs.Common.{rules, inr, refl, subst}
 use Rattle.std.specs.Prelude.{Ok, Err}
-use Rattle.bindings.specs.declared.queue.held.Held.{Held}
+use Rattle.bindings.specs.declared.queue.held.HeldQueue.{HeldQueue}
 use Rattle.bindings.specs.QueueHeld.{AtSize}
 use Rattle.bindings.specs.QueueParts.{TookLinePart}
 use Rattle.bindings.specs.QueueCalls.{WasLineTold}
@@ -16,7 +16,7 @@ returns-in-Ok-clause-taken c = let t = c.try_take_line-answer in let told = c.to
         y = t.new.self;
         full = c.put-2.ensures;
         answer = Ok c.in-Ok.taken;
-        answered = subst (λ (h : Held). AtSize (TookLinePart c.args.line.now t.new.out (Ok c.in-Ok.taken)) h t.new.self) c.deref_mut.ensures.value c.in-Ok.ensures;
+        answered = subst (λ (h : HeldQueue). AtSize (TookLinePart c.args.line.now t.new.out (Ok c.in-Ok.taken)) h t.new.self) c.deref_mut.ensures.value c.in-Ok.ensures;
         tells = (refl, told.0, told.1, told.2);
       },
     ))
@@ -30,7 +30,7 @@ returns-in-Err-clause-taken c = let t = c.try_take_line-answer in let told = c.t
         y = t.new.self;
         full = c.put-2.ensures;
         answer = Err c.in-Err.refusal;
-        answered = subst (λ (h : Held). AtSize (TookLinePart c.args.line.now t.new.out (Err c.in-Err.refusal)) h t.new.self) c.deref_mut.ensures.value c.in-Err.ensures;
+        answered = subst (λ (h : HeldQueue). AtSize (TookLinePart c.args.line.now t.new.out (Err c.in-Err.refusal)) h t.new.self) c.deref_mut.ensures.value c.in-Err.ensures;
         tells = (refl, told.0, told.1, told.2);
       },
     ))

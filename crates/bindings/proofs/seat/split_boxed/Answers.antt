@@ -1,5 +1,5 @@
 use Rattle.std.proofs.Common.{inr, subst}
-use Rattle.bindings.specs.declared.seat.held.Held.{Held}
+use Rattle.bindings.specs.declared.seat.held.HeldSeat.{HeldSeat}
 use Rattle.bindings.specs.SeatHeld.{Joined}
 use Rattle.bindings.proofs.seat.split_boxed.Goals as goal
 
@@ -8,5 +8,5 @@ returns-in-Err c = inr (
   c.split.new.self,
   c.in_ok-born.born,
   c.in_ok-born.ensures,
-  subst (λ (z : Held). Joined c.split.new.self c.join.new.self z) c.in-Err.ensures.value_returned c.join.ensures,
+  subst (λ (z : HeldSeat). Joined c.split.new.self c.join.new.self z) c.in-Err.ensures.value_returned c.join.ensures,
 )

@@ -1,5 +1,5 @@
 use Rattle.std.proofs.Common.{inr, refl, subst, ap, ◌∙◌, pos, map, length}
-use Rattle.bindings.specs.declared.seat.held.Held.{Held}
+use Rattle.bindings.specs.declared.seat.held.HeldSeat.{HeldSeat}
 use Rattle.bindings.specs.SeatAlarms.{alarm_told}
 use Rattle.bindings.specs.SeatHeld.{WereFired}
 use Rattle.bindings.specs.SeatCalls.{DueTold}
@@ -17,5 +17,5 @@ returns-clause-due c = let f = c.due-fired in let t = c.tell_alarms in let s = c
       t.ensures.rest,
       f.new.self,
       c.put-2.ensures,
-      subst (λ (h : Held). WereFired f.result.items h f.new.self) c.deref_mut.ensures.value f.ensures,
+      subst (λ (h : HeldSeat). WereFired f.result.items h f.new.self) c.deref_mut.ensures.value f.ensures,
     ))

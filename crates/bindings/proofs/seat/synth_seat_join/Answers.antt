@@ -1,5 +1,5 @@
 use Rattle.std.proofs.Common.{rules, inl, inr, refl, sym, subst, ◌∙◌}
-use Rattle.bindings.specs.declared.seat.held.Held.{Held}
+use Rattle.bindings.specs.declared.seat.held.HeldSeat.{HeldSeat}
 use Rattle.bindings.specs.SeatHeld.{Joined}
 use Rattle.bindings.proofs.seat.synth_seat_join.Goals as goal
 
@@ -18,6 +18,6 @@ returns c = let y = c.join.new.self in let z = c.in-Some-take.joined.value in
       c.in-Some-take.ensures.taken,
       c.put-2.ensures,
       c.take-2.ensures.emptied,
-      subst (λ (h : Held). Joined h y z) c.deref_mut.ensures.value
-          (subst (λ (h : Held). Joined c.deref_mut.result.now y h) c.into_inner.ensures c.join.ensures),
+      subst (λ (h : HeldSeat). Joined h y z) c.deref_mut.ensures.value
+          (subst (λ (h : HeldSeat). Joined c.deref_mut.result.now y h) c.into_inner.ensures c.join.ensures),
     ))

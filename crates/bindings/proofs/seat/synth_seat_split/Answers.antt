@@ -1,5 +1,5 @@
 use Rattle.std.proofs.Common.{rules, inl, inr, refl, sym, subst, ◌∙◌}
-use Rattle.bindings.specs.declared.seat.held.Held.{Held}
+use Rattle.bindings.specs.declared.seat.held.HeldSeat.{HeldSeat}
 use Rattle.bindings.specs.SeatHeld.{Divided}
 use Rattle.bindings.specs.SeatCalls.{Rejoined}
 use Rattle.bindings.proofs.Telling.{is_none}
@@ -20,7 +20,7 @@ returns-in-Some-made c = let n = is_none c.args.other.now.hidden.value (sym c.is
       c.in-Some.ensures.taken,
       c.put-2.ensures,
       c.put-in-Some-made.ensures,
-      subst (λ (h : Held). Divided h y z) c.deref_mut.ensures.value c.in-Some-made.ensures,
+      subst (λ (h : HeldSeat). Divided h y z) c.deref_mut.ensures.value c.in-Some-made.ensures,
     ))))
 
 pub returns-in-None : goal.returns-in-None
@@ -33,5 +33,5 @@ returns-in-None c = let n = is_none c.args.other.now.hidden.value (sym c.is_full
       y,
       c.in-Some.ensures.taken,
       c.put-2.ensures,
-      subst (λ (h : Held). Rejoined h y) c.deref_mut.ensures.value c.in-None.ensures,
+      subst (λ (h : HeldSeat). Rejoined h y) c.deref_mut.ensures.value c.in-None.ensures,
     ))))

@@ -1,6 +1,6 @@
 use Rattle.std.proofs.Common.{inr, refl, subst}
 use Rattle.std.specs.Prelude.{Ok, Err}
-use Rattle.bindings.specs.declared.seat.held.Held.{Held}
+use Rattle.bindings.specs.declared.seat.held.HeldSeat.{HeldSeat}
 use Rattle.bindings.specs.SeatHeld.{WasSet}
 use Rattle.bindings.specs.SeatCalls.{SetTold}
 use Rattle.bindings.proofs.Telling.{at_value}
@@ -17,7 +17,7 @@ returns-in-Ok-clause-set c = let a = c.try_set-answer in let t = c.told-in-Ok.en
       is_told = m.ensures;
       answer = Ok c.in-Ok.found;
       tells = (refl, t.0, t.1, t.2);
-      answered = subst (λ (h : Held). WasSet m.alarm (Ok c.in-Ok.found) h a.new.self) c.deref_mut.ensures.value c.in-Ok.ensures;
+      answered = subst (λ (h : HeldSeat). WasSet m.alarm (Ok c.in-Ok.found) h a.new.self) c.deref_mut.ensures.value c.in-Ok.ensures;
     }))
 
 pub told_of_set-requires : goal.told_of_set-requires
@@ -33,5 +33,5 @@ returns-in-Err-clause-set c = let a = c.try_set-answer in let t = c.told_of_set.
       is_told = m.ensures;
       answer = Err r;
       tells = (refl, t.0, t.1, t.2);
-      answered = subst (λ (h : Held). WasSet m.alarm (Err r) h a.new.self) c.deref_mut.ensures.value c.in-Err.ensures;
+      answered = subst (λ (h : HeldSeat). WasSet m.alarm (Err r) h a.new.self) c.deref_mut.ensures.value c.in-Err.ensures;
     }))

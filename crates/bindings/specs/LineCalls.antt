@@ -1,0 +1,76 @@
+-- What the calls for C do to the handles of device lines. A handle has None where it is empty.
+use Rattle.std.specs.Prelude.{◌≡◌, ◌⊎◌, ◌≤◌, ◌<◌, ◌%◌, ◌^◌, ◌++◌, ℕ, ℤ, true, pos, length}
+use Rattle.std.specs.declared.option.Option.{Option}
+use Rattle.std.specs.declared.option.Option.TheVariants.{None, Some}
+use Rattle.spsc_line.specs.Lines.{bytes_sent, bytes_received, bytes_left, capacity_in, known_room, known_bytes}
+use Rattle.spsc_line.specs.Lines.{IsLine, IsNewIn, IsNewOut, SameIn, SameOut, Sends, SendsNothing, Receives, ReceivesNothing}
+use Rattle.bindings.specs.declared.line.input.held.HeldIn.{HeldIn}
+use Rattle.bindings.specs.declared.line.output.held.HeldOut.{HeldOut}
+use Rattle.bindings.specs.declared.line.SynthLineTotals.{SynthLineTotals}
+use Rattle.bindings.specs.Hiding.{is_some}
+use Rattle.bindings.specs.Codes.{Done, NoMemory, EmptyHandle, FullHandle, OtherObject, BadNumber}
+
+-- The ends of lines that have one mark are of one line: each line has a mark of its own
+abbrev pub MarksTell : Option HeldIn → Option HeldOut → Type 0
+MarksTell (Some x) (Some z) = z.mark ≡ x.mark → IsLine x.line z.line
+MarksTell _ _ = Unit {0}
+
+-- this holds of what the handle held
+abbrev pub HoldsThen : {X : Type 0} → Option X → (X → Type 0) → Type 0
+HoldsThen {X} old P = (x : X) → old ≡ Some x → P x
+
+-- as many bytes as a line can have room for
+abbrev pub IsRoom : ℕ → Type 0
+IsRoom room = (0 < room) × (room ≤ 65536)
+
+-- what `new` did, by its code
+abbrev pub MadeLine : ℕ → ℕ → Option HeldIn → Option HeldIn → Option HeldOut → Option HeldOut → ℤ → Type 0
+MadeLine room mark old new other made code =
+    ((code ≡ FullHandle) × ((is_some old ≡ true) ⊎ (is_some other ≡ true)) × (new ≡ old) × (made ≡ other))
+    ⊎ ((code ≡ BadNumber) × (IsRoom room → ⊥) × (new ≡ old) × (made ≡ other))
+    ⊎ ((code ≡ NoMemory) × IsRoom room × (new ≡ old) × (made ≡ other))
+    ⊎ ((code ≡ Done) × (old ≡ None) × (other ≡ None) × (x : HeldIn) × (z : HeldOut) × (new ≡ Some x) × (made ≡ Some z)
+    × IsLine x.line z.line × IsNewIn room x.line × IsNewOut room z.line × (x.mark ≡ mark) × (z.mark ≡ mark))
+
+-- what `free_in` and `free_out` did, by their code
+abbrev pub FreedHandle : {X : Type 0} → Option X → Option X → ℤ → Type 0
+FreedHandle old new code =
+    ((code ≡ EmptyHandle) × (old ≡ None) × (new ≡ None)) ⊎ ((code ≡ Done) × (is_some old ≡ true) × (new ≡ None))
+
+-- the same end of the same line
+abbrev pub SameHeldIn : HeldIn → HeldIn → Type 0
+SameHeldIn x y = SameIn x.line y.line × (y.mark ≡ x.mark)
+
+abbrev pub SameHeldOut : HeldOut → HeldOut → Type 0
+SameHeldOut x y = SameOut x.line y.line × (y.mark ≡ x.mark)
+
+-- What `push` did, by its code. None is refused before as many bytes were pushed as the line has room for
+abbrev pub PushTold : HeldIn → ℕ → Option HeldIn → ℤ → Type 0
+PushTold x byte new code = (y : HeldIn) × (new ≡ Some y) × SameHeldIn x y
+    × (((code ≡ pos 5) × SendsNothing x.line y.line × (known_room x.line ≡ 0)
+    × (length (bytes_sent x.line) < capacity_in x.line → ⊥))
+    ⊎ ((code ≡ Done) × Sends byte x.line y.line))
+
+-- what `pop` did, by its code
+abbrev pub PopTold : HeldOut → ℕ → ℕ → Option HeldOut → ℤ → Type 0
+PopTold x old_byte byte new code = (y : HeldOut) × (new ≡ Some y) × SameHeldOut x y
+    × (((code ≡ pos 7) × ReceivesNothing x.line y.line × (length (known_bytes x.line) ≡ 0) × (byte ≡ old_byte))
+    ⊎ ((code ≡ Done) × Receives byte x.line y.line))
+
+-- What was received, followed by what is left, is what was sent; the totals are the numbers of each
+pub record IsTold (x : HeldIn) (z : HeldOut) (told : SynthLineTotals) : Type 0 where
+  pub whole : bytes_received z.line ++ bytes_left x.line z.line ≡ bytes_sent x.line
+  pub sent : told.sent ≡ length (bytes_sent x.line) % 2 ^ 64
+  pub received : told.received ≡ length (bytes_received z.line) % 2 ^ 64
+  pub left : told.left ≡ length (bytes_left x.line z.line)
+  pub within : told.left ≤ capacity_in x.line
+
+-- what `finish` did, by its code
+abbrev pub FinishedLine : Option HeldIn → Option HeldIn → Option HeldOut → Option HeldOut → SynthLineTotals → SynthLineTotals
+    → ℤ → Type 0
+FinishedLine old new other made old_told told code =
+    ((code ≡ EmptyHandle) × ((old ≡ None) ⊎ (other ≡ None)) × (new ≡ old) × (made ≡ other) × (told ≡ old_told))
+    ⊎ ((code ≡ OtherObject) × (x : HeldIn) × (z : HeldOut) × (old ≡ Some x) × (other ≡ Some z) × (new ≡ old) × (made ≡ other)
+    × (told ≡ old_told) × (z.mark ≡ x.mark → ⊥))
+    ⊎ ((code ≡ Done) × (x : HeldIn) × (z : HeldOut) × (old ≡ Some x) × (other ≡ Some z) × (new ≡ None) × (made ≡ None)
+    × IsTold x z told)

@@ -1,0 +1,65 @@
+//! A box as a pointer that says nothing of what lies there, so that it can cross to C.
+ghost use Rattle.std.specs.Prelude.{◌≡◌, true};
+ghost use Rattle.std.specs.declared.option.Option.{Option as Maybe};
+ghost use Rattle.std.specs.declared.option.Option.TheVariants.{None, Some};
+ghost use Rattle.bindings.specs.Hiding.{is_some};
+ghost use Rattle.bindings.specs.declared.line.input.held.HeldIn.{HeldIn as HeldValue};
+
+use super::held::HeldIn;
+use loose_box::Loose;
+use std::alloc::Global;
+use std::marker::Model;
+use std::ptr::null_mut;
+
+/// It owns the box that it leads to, or it leads nowhere. It can't be let go but where it leads nowhere, so no box is
+/// forgotten.
+#[repr(C)]
+pub struct HiddenIn {
+    at: *mut u8,
+    pub ghost value: { Maybe HeldValue },
+}
+
+impl Model for HiddenIn {
+    ghost use Rattle.bindings.specs.contracts.line.input.held.HeldIn.{the_row};
+    ghost use Rattle.bindings.specs.Hiding.{hides};
+
+    ghost also_owns = { λ h. hides the_row h.at h.value };
+}
+
+unsafe impl Send for HiddenIn {}
+
+impl HiddenIn {
+    /// It leads nowhere.
+    pub fn none() -> HiddenIn
+        ensures { result.value ≡ None }
+    {
+        HiddenIn { at: null_mut() }
+    }
+
+    /// Hides a box.
+    pub fn of(loose: Loose<HeldIn, Global>) -> HiddenIn
+        ensures { result.value ≡ Some loose.value }
+    {
+        let Loose { at, alloc: _alloc } = loose;
+        HiddenIn { at: at as *mut u8 }
+    }
+
+    /// Gives the box back.
+    pub fn into_loose(self, alloc: Global) -> Loose<HeldIn, Global>
+        requires { is_some self.value ≡ true }
+        ensures { self.value ≡ Some result.value }
+    {
+        let HiddenIn { at } = self;
+        Loose {
+            at: at as *mut HeldIn,
+            alloc,
+        }
+    }
+
+    /// Lets go of what leads nowhere.
+    pub fn let_go(self)
+        requires { self.value ≡ None }
+    {
+        let HiddenIn { at: _ } = self;
+    }
+}

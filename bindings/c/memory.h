@@ -1,0 +1,25 @@
+/*
+ * Memory that a test refuses. The linker's `--wrap` puts these in the place of `malloc`, `calloc`, `realloc` and
+ * `free`, for the library as for the test; the program has one thread.
+ */
+#ifndef MEMORY_H
+#define MEMORY_H
+#include <stddef.h>
+
+#ifdef __cplusplus
+extern "C" {
+#endif
+
+/* Refuses the allocation of this number from now on, the first is 1; 0 refuses none. */
+void memory_refuse(unsigned long number);
+
+/* How often memory was asked for since the last `memory_refuse`. */
+unsigned long memory_asked(void);
+
+/* How many blocks are taken and not given back. */
+long memory_taken(void);
+
+#ifdef __cplusplus
+}
+#endif
+#endif

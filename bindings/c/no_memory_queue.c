@@ -1,0 +1,77 @@
+/*
+ * Refuses each allocation of each call of a claim queue in turn. The call then answers SYNTH_NO_MEMORY and leaves all
+ * as it was: the handles, the items, and the memory that is taken. All other calls ask for no memory, and in the end
+ * all of it is given back.
+ */
+#include "refusals.h"
+
+enum { PLACES = 64 };
+
+static struct synth_queue last, other;
+static uint64_t left[PLACES];
+
+static int32_t new_queue(void)
+{
+    return synth_queue_new(PLACES, 0, &last);
+}
+
+static void is_empty(void)
+{
+    ROW(last.full, false);
+}
+
+static int32_t split_off(void)
+{
+    return synth_queue_split(&last, &other);
+}
+
+/* No handle was filled, and one item goes through the queue. */
+static void passes_one(void)
+{
+    uint64_t item = 0, wanted = 4;
+    ROW(other.full, false);
+    ROW(synth_queue_try_put(&last, &wanted, 1).code, SYNTH_DONE);
+    ROW(synth_queue_try_take(&last, &item).code, SYNTH_DONE);
+    ROW(item, wanted);
+}
+
+/* Nothing but `new` and `split` asks for memory, and no end was lost by what was refused, since the close succeeds. */
+static void ask_for_none(void)
+{
+    uint64_t item = 5, line[PLACES];
+    size_t count = 0;
+    bool was_open = false;
+    struct synth_closed closed;
+    memory_refuse(1);
+    ROW(synth_queue_try_put(&other, &item, 1).code, SYNTH_DONE);
+    ROW(synth_queue_try_take_line(&other, line, PLACES, &count).code, SYNTH_EMPTY);
+    ROW(synth_queue_take_up_to(&other, line, PLACES, &count).code, SYNTH_DONE);
+    ROW(synth_queue_try_take(&other, &item).code, SYNTH_EMPTY);
+    ROW(synth_queue_shut(&other, &was_open), SYNTH_DONE);
+    ROW(synth_queue_close(&last, left, PLACES, &closed), SYNTH_OPEN);
+    ROW(synth_queue_join(&last, &other), SYNTH_DONE);
+    ROW(synth_queue_close(&last, left, PLACES, &closed), SYNTH_DONE);
+    ROW(memory_asked(), 0);
+    ROW(memory_taken(), 0);
+    memory_refuse(0);
+}
+
+/* Handles that are freed give their memory back, the last one that of the queue. */
+static void free_all(void)
+{
+    ROW(synth_queue_new(PLACES, 0, &last), SYNTH_DONE);
+    ROW(synth_queue_split(&last, &other), SYNTH_DONE);
+    ROW(synth_queue_free(&last), SYNTH_DONE);
+    ROW(memory_taken() > 0, true);
+    ROW(synth_queue_free(&other), SYNTH_DONE);
+    ROW(memory_taken(), 0);
+}
+
+int main(void)
+{
+    refuse_each(new_queue, is_empty);
+    refuse_each(split_off, passes_one);
+    ask_for_none();
+    free_all();
+    return rows_end("no_memory_queue");
+}

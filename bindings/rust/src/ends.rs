@@ -1,0 +1,109 @@
+//! What making, splitting, joining and closing of all objects have in common.
+
+use crate::raw::{self, Handle};
+use crate::words::says;
+use std::error::Error;
+use std::fmt;
+
+/// An allocation was refused. All is as it was.
+#[derive(Clone, Copy, Debug, PartialEq, Eq)]
+pub struct OutOfMemory;
+
+/// Why an end was not split. The refusals stand in the order in which they are checked.
+#[derive(Clone, Copy, Debug, PartialEq, Eq)]
+pub enum SplitRefusal {
+    /// The end was split too often: two million times is its share without a join, and that of each end that it gave
+    /// 43 times in a chain. Join others to it first.
+    NoShare,
+    /// An allocation was refused.
+    OutOfMemory,
+}
+
+/// The two ends are of two objects. The one that was to be joined comes back; of a line both ends do.
+#[derive(Debug)]
+pub struct OtherObject<E> {
+    /// What comes back.
+    pub end: E,
+}
+
+/// Why an object was not closed by its end.
+#[derive(Debug)]
+pub enum CloseRefusal<E, L = ()> {
+    /// Other ends stand: join them first. The end comes back.
+    Open(E),
+    /// No other end stood, but some had been dropped and not joined. The object has ended with the last one, and
+    /// can't tell what became of everything.
+    Dropped {
+        /// How many ends were dropped.
+        ends: u64,
+        /// What was left: the items of a queue, and nothing of other objects.
+        left: L,
+    },
+}
+
+impl<E> fmt::Display for OtherObject<E> {
+    fn fmt(&self, f: &mut fmt::Formatter<'_>) -> fmt::Result {
+        f.write_str("the ends are of two objects")
+    }
+}
+
+impl<E, L> fmt::Display for CloseRefusal<E, L> {
+    fn fmt(&self, f: &mut fmt::Formatter<'_>) -> fmt::Result {
+        match self {
+            CloseRefusal::Open(_) => f.write_str("other ends stand"),
+            CloseRefusal::Dropped { ends, left: _ } => write!(f, "{ends} ends were dropped and not joined"),
+        }
+    }
+}
+
+impl<E: fmt::Debug> Error for OtherObject<E> {}
+impl<E: fmt::Debug, L: fmt::Debug> Error for CloseRefusal<E, L> {}
+
+says!(OutOfMemory {
+    OutOfMemory => "no memory",
+});
+
+says!(SplitRefusal {
+    SplitRefusal::NoShare => "the end was split too often",
+    SplitRefusal::OutOfMemory => "no memory",
+});
+
+/// The handle that a `.._new` fills.
+pub(crate) fn made(new: impl FnOnce(&mut Handle) -> i32) -> Result<Handle, OutOfMemory> {
+    let mut handle = Handle::empty();
+    match new(&mut handle) {
+        raw::DONE => Ok(handle),
+        raw::NO_MEMORY => Err(OutOfMemory),
+        code => raw::no_such_answer(code),
+    }
+}
+
+/// The handle that a `.._split` fills.
+pub(crate) fn split_off(split: impl FnOnce(&mut Handle) -> i32) -> Result<Handle, SplitRefusal> {
+    let mut other = Handle::empty();
+    match split(&mut other) {
+        raw::DONE => Ok(other),
+        raw::NO_SHARE => Err(SplitRefusal::NoShare),
+        raw::NO_MEMORY => Err(SplitRefusal::OutOfMemory),
+        code => raw::no_such_answer(code),
+    }
+}
+
+/// What a `.._join` of this end answers.
+pub(crate) fn joined<E>(code: i32, end: E) -> Result<(), OtherObject<E>> {
+    match code {
+        raw::DONE => Ok(()),
+        raw::OTHER_OBJECT => Err(OtherObject { end }),
+        code => raw::no_such_answer(code),
+    }
+}
+
+/// What a `.._close` by this end answers, where so many ends were freed and this is left.
+pub(crate) fn closed<E, L>(code: i32, end: E, ends: u64, left: L) -> Result<L, CloseRefusal<E, L>> {
+    match code {
+        raw::DONE => Ok(left),
+        raw::OPEN => Err(CloseRefusal::Open(end)),
+        raw::FREED => Err(CloseRefusal::Dropped { ends, left }),
+        code => raw::no_such_answer(code),
+    }
+}

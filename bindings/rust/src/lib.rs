@@ -1,0 +1,47 @@
+//! Lock-free tables whose calls are proved, for Rust.
+//!
+//! Each object is shared by its ends: the ends of a queue. An end owns its handle. It may go to another thread, and
+//! is used by one at a time, so each call takes `&mut`. `split` makes one more end, `join` takes one in again, and
+//! `close` by the last one tells what became of everything. What each call does to its object is proved on the
+//! library's side of the call; this crate is not, and is a few lines for each of them.
+//!
+//! ```
+//! use std::thread;
+//! use synthesis_kernel::{QueueEnd, TakeRefusal};
+//!
+//! let mut end = QueueEnd::<256>::new(0)?;
+//! let mut putter = end.split()?;
+//! let thread = thread::spawn(move || {
+//!     for item in 0..100 {
+//!         while putter.try_put(&[item]).is_err() {}
+//!     }
+//!     putter.shut();
+//!     putter
+//! });
+//! let mut sum = 0;
+//! loop {
+//!     match end.try_take() {
+//!         Ok(item) => sum += item,
+//!         Err(TakeRefusal::Closed) => break,
+//!         Err(_) => thread::yield_now(),
+//!     }
+//! }
+//! assert_eq!(sum, 4950);
+//! end.join(thread.join().unwrap())?;
+//! let closed = end.close()?;
+//! assert_eq!((closed.put, closed.taken), (100, 100));
+//! # Ok::<(), Box<dyn std::error::Error>>(())
+//! ```
+//!
+//! No call takes a lock, sleeps or waits. None but `new` and `split` takes memory, but for the lists that `close`
+//! gives. Refusals are values, in the order in which they are checked; a refusal changes nothing. The chain is not
+//! here: what it runs, its quajects, is Rattle code.
+#![warn(missing_docs)]
+
+mod ends;
+mod queue;
+mod raw;
+mod words;
+
+pub use ends::{CloseRefusal, OtherObject, OutOfMemory, SplitRefusal};
+pub use queue::{ClaimRefusal, Closed, QueueEnd, TakeRefusal};

@@ -175,6 +175,96 @@ int32_t synth_queue_close(struct synth_queue *queue, uint64_t *left, size_t room
 /* Empties the handle, which is then never joined. SYNTH_EMPTY_HANDLE. */
 int32_t synth_queue_free(struct synth_queue *queue);
 
+/*
+ * METERS: eight gauges, a clock and sixteen slots for alarms, which any number of threads share. An end is a seat. A
+ * clock counts ticks, from the one that `new` is told on, to 4,294,967,295 at the most. An alarm is due once the
+ * clock is at its tick or past it; what becomes of one that is due is its caller's: nothing here sends a signal.
+ */
+
+/* An end of meters. */
+struct synth_seat {
+    void *at;
+    bool full;
+};
+
+struct synth_alarm {
+    uint32_t due;     /* the tick of the clock at which it is due */
+    uint32_t element; /* 0 to 63 */
+    uint32_t signal;  /* 0 to 15 */
+};
+
+/* The meters at their end. */
+struct synth_metered {
+    uint64_t gauges[8];
+    uint32_t clock;
+    uint32_t alarms;              /* how many alarms stand */
+    struct synth_alarm alarm[16]; /* these, in the order of their slots; behind them zeros */
+    uint64_t freed;               /* how many seats were freed and not joined; 0 but with SYNTH_FREED */
+};
+
+/*
+ * Makes meters with all gauges at 0, the clock as told and no alarm, and fills `seat`, their only seat.
+ * SYNTH_FULL_HANDLE; SYNTH_NO_MEMORY.
+ */
+int32_t synth_seat_new(uint32_t clock, struct synth_seat *seat);
+
+/*
+ * Fills `other`, one more seat of the meters, for another thread. What is said of splitting a queue's handle holds
+ * here.
+ * SYNTH_EMPTY_HANDLE: `seat`; SYNTH_FULL_HANDLE: `other`; SYNTH_NO_SHARE; SYNTH_NO_MEMORY.
+ */
+int32_t synth_seat_split(struct synth_seat *seat, struct synth_seat *other);
+
+/*
+ * Joins `other`, a seat of the same meters, to `seat`, and empties it. Both are the calling thread's.
+ * SYNTH_EMPTY_HANDLE: either one; SYNTH_OTHER_OBJECT.
+ */
+int32_t synth_seat_join(struct synth_seat *seat, struct synth_seat *other);
+
+/*
+ * Adds `amount` to the gauge 0 to 7, modulo 2^64, by one step, and sets `before` to the gauge's value before.
+ * SYNTH_EMPTY_HANDLE; SYNTH_BAD_NUMBER.
+ */
+int32_t synth_seat_tick(struct synth_seat *seat, uint32_t gauge, uint64_t amount, uint64_t *before);
+
+/*
+ * One try to move the clock on by one tick; `clock` is then the clock after.
+ * SYNTH_EMPTY_HANDLE; SYNTH_SPENT: the clock is 4,294,967,295, and stays there; SYNTH_LOST: another seat moved it on
+ * first, and the clock found is `head`.
+ */
+struct synth_answer synth_seat_advance(struct synth_seat *seat, uint32_t *clock);
+
+/*
+ * One try to set an alarm in the first empty slot; `slot` is then the one, 0 to 15, by which it can be cancelled.
+ * SYNTH_EMPTY_HANDLE; SYNTH_BAD_NUMBER: of the alarm; SYNTH_NO_ROOM: each slot was found taken, one behind the other;
+ * SYNTH_LOST: another seat took the slot first, which is `head`.
+ */
+struct synth_answer synth_seat_try_set(struct synth_seat *seat, const struct synth_alarm *alarm, uint32_t *slot);
+
+/*
+ * Takes this alarm out of this slot, by one step. `cancelled` is then true where it stood there; else it was fired or
+ * cancelled before, or never stood there. Two alarms that are equal can't be told apart.
+ * SYNTH_EMPTY_HANDLE; SYNTH_BAD_NUMBER: the slot, or of the alarm.
+ */
+int32_t synth_seat_cancel(struct synth_seat *seat, uint32_t slot, const struct synth_alarm *alarm, bool *cancelled);
+
+/*
+ * Looks at the clock once, and then takes out each alarm that is due at it, in the order of the slots, and sets
+ * `count`, 0 to 16. An alarm that another seat takes first is passed over. `room` is at least 16.
+ * SYNTH_EMPTY_HANDLE; SYNTH_SHORT_BUFFER.
+ */
+int32_t synth_seat_due(struct synth_seat *seat, struct synth_alarm *alarms, size_t room, size_t *count);
+
+/*
+ * Closes the meters by their last seat, which is then empty.
+ * SYNTH_EMPTY_HANDLE; SYNTH_OPEN; SYNTH_FREED: the meters have ended too, and the seat is empty. Only
+ * `metered->freed` tells something then.
+ */
+int32_t synth_seat_close(struct synth_seat *seat, struct synth_metered *metered);
+
+/* Empties the seat, which is then never joined. SYNTH_EMPTY_HANDLE. */
+int32_t synth_seat_free(struct synth_seat *seat);
+
 #ifdef __cplusplus
 }
 #endif

@@ -1,9 +1,9 @@
 //! Lock-free tables whose calls are proved, for Rust.
 //!
-//! Each object is shared by its ends: the ends of a queue. An end owns its handle. It may go to another thread, and
-//! is used by one at a time, so each call takes `&mut`. `split` makes one more end, `join` takes one in again, and
-//! `close` by the last one tells what became of everything. What each call does to its object is proved on the
-//! library's side of the call; this crate is not, and is a few lines for each of them.
+//! Each object is shared by its ends: the ends of a queue, the seats of meters. An end owns its handle. It may go to
+//! another thread, and is used by one at a time, so each call takes `&mut`. `split` makes one more end, `join` takes
+//! one in again, and `close` by the last one tells what became of everything. What each call does to its object is
+//! proved on the library's side of the call; this crate is not, and is a few lines for each of them.
 //!
 //! ```
 //! use std::thread;
@@ -39,9 +39,13 @@
 #![warn(missing_docs)]
 
 mod ends;
+mod meters;
+mod names;
 mod queue;
 mod raw;
 mod words;
 
 pub use ends::{CloseRefusal, OtherObject, OutOfMemory, SplitRefusal};
+pub use meters::{AdvanceRefusal, Alarm, MeterSeat, Metered, SetRefusal, Slot};
+pub use names::{Element, Gauge, Signal};
 pub use queue::{ClaimRefusal, Closed, QueueEnd, TakeRefusal};

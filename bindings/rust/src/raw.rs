@@ -38,6 +38,24 @@ pub(crate) struct Closed {
     pub freed: u64,
 }
 
+#[repr(C)]
+#[derive(Clone, Copy, Default)]
+pub(crate) struct Alarm {
+    pub due: u32,
+    pub element: u32,
+    pub signal: u32,
+}
+
+#[repr(C)]
+#[derive(Default)]
+pub(crate) struct Metered {
+    pub gauges: [u64; 8],
+    pub clock: u32,
+    pub alarms: u32,
+    pub alarm: [Alarm; 16],
+    pub freed: u64,
+}
+
 pub(crate) const DONE: i32 = 0;
 pub(crate) const NO_ITEMS: i32 = 1;
 pub(crate) const TOO_LONG: i32 = 2;
@@ -46,6 +64,7 @@ pub(crate) const SPENT: i32 = 4;
 pub(crate) const FULL: i32 = 5;
 pub(crate) const LOST: i32 = 6;
 pub(crate) const EMPTY: i32 = 7;
+pub(crate) const NO_ROOM: i32 = 11;
 pub(crate) const OPEN: i32 = 12;
 pub(crate) const NO_MEMORY: i32 = -1;
 pub(crate) const OTHER_OBJECT: i32 = -4;
@@ -82,4 +101,15 @@ unsafe extern "C" {
     pub(crate) unsafe fn synth_queue_close(queue: &mut Handle, left: *mut u64, room: usize, closed: &mut Closed)
         -> i32;
     pub(crate) safe fn synth_queue_free(queue: &mut Handle) -> i32;
+
+    pub(crate) safe fn synth_seat_new(clock: u32, seat: &mut Handle) -> i32;
+    pub(crate) safe fn synth_seat_split(seat: &mut Handle, other: &mut Handle) -> i32;
+    pub(crate) safe fn synth_seat_join(seat: &mut Handle, other: &mut Handle) -> i32;
+    pub(crate) safe fn synth_seat_tick(seat: &mut Handle, gauge: u32, amount: u64, before: &mut u64) -> i32;
+    pub(crate) safe fn synth_seat_advance(seat: &mut Handle, clock: &mut u32) -> Answer;
+    pub(crate) safe fn synth_seat_try_set(seat: &mut Handle, alarm: &Alarm, slot: &mut u32) -> Answer;
+    pub(crate) safe fn synth_seat_cancel(seat: &mut Handle, slot: u32, alarm: &Alarm, cancelled: &mut bool) -> i32;
+    pub(crate) unsafe fn synth_seat_due(seat: &mut Handle, alarms: *mut Alarm, room: usize, count: &mut usize) -> i32;
+    pub(crate) safe fn synth_seat_close(seat: &mut Handle, metered: &mut Metered) -> i32;
+    pub(crate) safe fn synth_seat_free(seat: &mut Handle) -> i32;
 }

@@ -265,6 +265,59 @@ int32_t synth_seat_close(struct synth_seat *seat, struct synth_metered *metered)
 /* Empties the seat, which is then never joined. SYNTH_EMPTY_HANDLE. */
 int32_t synth_seat_free(struct synth_seat *seat);
 
+/*
+ * LINES of bytes from one thread to another, such as a device's. A line has two halves, each a handle of a type of
+ * its own: what is pushed into `synth_line_in` is popped from `synth_line_out`, in its order. Neither can be split.
+ */
+
+/* The half that pushes. */
+struct synth_line_in {
+    void *at;
+    bool full;
+};
+
+/* The half that pops. */
+struct synth_line_out {
+    void *at;
+    bool full;
+};
+
+/* How many bytes went through a line, modulo 2^64, and how many were pushed and not popped. */
+struct synth_line_totals {
+    size_t sent;
+    size_t received;
+    size_t left;
+};
+
+/*
+ * Makes an empty line with room for so many bytes, 1 to 65,536, and fills its two halves.
+ * SYNTH_FULL_HANDLE: either one; SYNTH_BAD_NUMBER; SYNTH_NO_MEMORY.
+ */
+int32_t synth_line_new(size_t room, struct synth_line_in *input, struct synth_line_out *output);
+
+/*
+ * Pushes one byte behind all others.
+ * SYNTH_EMPTY_HANDLE; SYNTH_FULL: no place of the line is free. None is refused so before as many bytes were pushed
+ * as the line has room for.
+ */
+int32_t synth_line_push(struct synth_line_in *input, uint8_t byte);
+
+/*
+ * Pops the oldest byte.
+ * SYNTH_EMPTY_HANDLE; SYNTH_EMPTY.
+ */
+int32_t synth_line_pop(struct synth_line_out *output, uint8_t *byte);
+
+/*
+ * Ends a line whose halves are both the calling thread's, and empties them. The bytes left go with the line.
+ * SYNTH_EMPTY_HANDLE: either one; SYNTH_OTHER_OBJECT: they are of two lines.
+ */
+int32_t synth_line_finish(struct synth_line_in *input, struct synth_line_out *output, struct synth_line_totals *totals);
+
+/* Empties a half, whose line is then never finished; the other half goes on alone. SYNTH_EMPTY_HANDLE. */
+int32_t synth_line_free_in(struct synth_line_in *input);
+int32_t synth_line_free_out(struct synth_line_out *output);
+
 #ifdef __cplusplus
 }
 #endif

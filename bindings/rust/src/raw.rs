@@ -56,6 +56,14 @@ pub(crate) struct Metered {
     pub freed: u64,
 }
 
+#[repr(C)]
+#[derive(Default)]
+pub(crate) struct LineTotals {
+    pub sent: usize,
+    pub received: usize,
+    pub left: usize,
+}
+
 pub(crate) const DONE: i32 = 0;
 pub(crate) const NO_ITEMS: i32 = 1;
 pub(crate) const TOO_LONG: i32 = 2;
@@ -69,6 +77,7 @@ pub(crate) const OPEN: i32 = 12;
 pub(crate) const NO_MEMORY: i32 = -1;
 pub(crate) const OTHER_OBJECT: i32 = -4;
 pub(crate) const NO_SHARE: i32 = -5;
+pub(crate) const BAD_NUMBER: i32 = -7;
 pub(crate) const FREED: i32 = -8;
 
 /// A code that the call doesn't have, or that its types rule out.
@@ -112,4 +121,11 @@ unsafe extern "C" {
     pub(crate) unsafe fn synth_seat_due(seat: &mut Handle, alarms: *mut Alarm, room: usize, count: &mut usize) -> i32;
     pub(crate) safe fn synth_seat_close(seat: &mut Handle, metered: &mut Metered) -> i32;
     pub(crate) safe fn synth_seat_free(seat: &mut Handle) -> i32;
+
+    pub(crate) safe fn synth_line_new(room: usize, input: &mut Handle, output: &mut Handle) -> i32;
+    pub(crate) safe fn synth_line_push(input: &mut Handle, byte: u8) -> i32;
+    pub(crate) safe fn synth_line_pop(output: &mut Handle, byte: &mut u8) -> i32;
+    pub(crate) safe fn synth_line_finish(input: &mut Handle, output: &mut Handle, totals: &mut LineTotals) -> i32;
+    pub(crate) safe fn synth_line_free_in(input: &mut Handle) -> i32;
+    pub(crate) safe fn synth_line_free_out(output: &mut Handle) -> i32;
 }

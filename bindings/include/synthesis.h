@@ -1,7 +1,11 @@
 /*
- * The lock-free tables of synthesis for C11 and C++17. What each call does to its table is proved, on the library's
- * side of the call; docs/GUIDE.md, "From C and Rust", shows a program line by line. The chain is not here: what it
- * runs, its quajects, is Rattle code.
+ * The lock-free tables of synthesis for C11 and C++17: claim queues, meters and device lines. What each call does to
+ * its table is proved, on the library's side of the call; docs/PROMISES.md says what of its answer isn't. docs/GUIDE.md,
+ * "From C and Rust", shows a program line by line. Thread elements are not here, and the chain isn't: what that runs,
+ * its quajects, is Rattle code.
+ *
+ * ONE PROCESS, ONE COPY OF THE LIBRARY. Two copies give their objects the same marks, by which a join knows whether
+ * two handles are of one object: NEVER GIVE A HANDLE OF ONE COPY TO ANOTHER.
  *
  * HANDLES. An object is shared by its ends. An end is a handle of 16 bytes in the caller's memory. A handle of zeros
  * is empty: `struct synth_queue end = {0, false};`, or a static one. `.._new` makes an object and fills one handle,
@@ -13,9 +17,10 @@
  * THREADS. A handle belongs to one thread at a time. NEVER USE ONE HANDLE IN TWO CALLS AT ONCE, AND NEVER COPY A FULL
  * ONE AND USE BOTH. Between two calls a handle may go to another thread, by a lock, by the start or the join of a
  * thread, or by a SeqCst atomic. Different handles of one object may be used by different threads at once: for that
- * they are made. No call takes a lock, sleeps or waits for another thread. None may be made in a signal handler,
- * since a handle may be in use there, and memory taken; nor in the forked child of a process with threads. A thread
- * that is cancelled asynchronously within a call leaves its handle broken.
+ * they are made. No call takes a lock of its own, sleeps or waits for another thread; new, split, join, close, free
+ * and finish call `malloc` or `free`, which may. None may be made in a signal handler, since a handle may be in use
+ * there, and memory taken; nor in the forked child of a process with threads. NEVER CANCEL A THREAD ASYNCHRONOUSLY
+ * WITHIN A CALL, and never leave one by longjmp: its handle is broken then, and takers may wait for its items for good.
  *
  * MEMORY. None but `.._new` and `.._split` takes any, and all of it is `malloc`'s. Where `malloc` gives null they
  * answer SYNTH_NO_MEMORY. `malloc`, `realloc` and `free` are of one allocator, which aligns blocks as C wants it.
@@ -48,7 +53,7 @@ enum synth_code {
     SYNTH_NO_ITEMS = 1,    /* a put of no items */
     SYNTH_TOO_LONG = 2,    /* a put of more items than the queue has places */
     SYNTH_CLOSED = 3,      /* the queue is shut; of a taking: and all that was put is taken */
-    SYNTH_SPENT = 4,       /* no position, tick or step is left, for good */
+    SYNTH_SPENT = 4,       /* fewer positions are left than the put wants, or no tick */
     SYNTH_FULL = 5,        /* there was no room: let a taker run, then try again */
     SYNTH_LOST = 6,        /* another end was first: try again */
     SYNTH_EMPTY = 7,       /* there was nothing to take: come back */
@@ -111,7 +116,7 @@ struct synth_closed {
 int32_t synth_queue_new(uint32_t places, uint32_t first, struct synth_queue *queue);
 
 /*
- * Fills `other`, one more handle of the queue, for another thread. A handle can be split two million times without a
+ * Fills `other`, one more handle of the queue, for another thread. The handle that new filled can be split two million times without a
  * join, and each handle that it fills 43 times in a chain.
  * SYNTH_EMPTY_HANDLE: `queue`; SYNTH_FULL_HANDLE: `other`; SYNTH_NO_SHARE; SYNTH_NO_MEMORY.
  */
@@ -134,7 +139,8 @@ struct synth_answer synth_queue_try_put(struct synth_queue *queue, const uint64_
 
 /*
  * One try to take the first item left.
- * SYNTH_EMPTY_HANDLE; SYNTH_EMPTY: the place of position `tail` wasn't raised; SYNTH_LOST: another end took first,
+ * SYNTH_EMPTY_HANDLE; then CLOSED, LOST or EMPTY, of which CLOSED is looked at first.
+ * SYNTH_EMPTY: the place of position `tail` wasn't raised, and more may come; SYNTH_LOST: another end took first,
  * and the tail found is `tail`; SYNTH_CLOSED: nothing will ever come.
  */
 struct synth_answer synth_queue_try_take(struct synth_queue *queue, uint64_t *item);
@@ -143,7 +149,7 @@ struct synth_answer synth_queue_try_take(struct synth_queue *queue, uint64_t *it
  * Takes the first items left, one by one, until one is refused or `room` items are taken, and sets `count`, 1 to
  * `room`. Each is a taking of its own, so other ends' takings may come between them. `tail` is that of the last one's
  * refusal.
- * SYNTH_EMPTY_HANDLE; SYNTH_SHORT_BUFFER: `room` is 0; SYNTH_EMPTY, SYNTH_LOST, SYNTH_CLOSED: as of a try to take,
+ * SYNTH_EMPTY_HANDLE; SYNTH_SHORT_BUFFER: `room` is 0; SYNTH_CLOSED, SYNTH_LOST, SYNTH_EMPTY: as of a try to take,
  * where the first one was refused. `count` is 0 then.
  */
 struct synth_answer synth_queue_take_up_to(struct synth_queue *queue, uint64_t *items, size_t room, size_t *count);
@@ -297,7 +303,7 @@ int32_t synth_line_new(size_t room, struct synth_line_in *input, struct synth_li
 
 /*
  * Pushes one byte behind all others.
- * SYNTH_EMPTY_HANDLE; SYNTH_FULL: no place of the line is free. None is refused so before as many bytes were pushed
+ * SYNTH_EMPTY_HANDLE; SYNTH_FULL: no place of the line was seen free. None is refused so before as many bytes were pushed
  * as the line has room for.
  */
 int32_t synth_line_push(struct synth_line_in *input, uint8_t byte);

@@ -34,8 +34,8 @@
 //! # Ok::<(), Box<dyn std::error::Error>>(())
 //! ```
 //!
-//! No call takes a lock, sleeps or waits. None but `new` and `split` takes memory, but for the lists that `close`
-//! gives. Refusals are values, in the order in which they are checked; a refusal changes nothing. The chain is not
+//! No call takes a lock of its own, sleeps or waits. None but `new` and `split` takes memory, but for the lists that `close`
+//! gives. Refusals are values; a refusal changes nothing, but `Dropped`, where the object has ended. The chain is not
 //! here: what it runs, its quajects, is Rattle code.
 #![warn(missing_docs)]
 

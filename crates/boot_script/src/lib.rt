@@ -1,5 +1,18 @@
 //! Scripts as text: what their lines say, what is wrong with them, and what is printed of them.
 //!
+//! ```rust
+//! let list = b"events 1\nqueue 4\nclaim c1 q0 104 10\ntake c2 q0 1\n".as_slice();
+//! let mut printed = Vec::new(rt.alloc());
+//! let (line, refusal) = (4, Refusal::NotRaised);
+//! let answer = replay(rt.alloc(), list, &mut printed);
+//! assert!(rt; answer == Ok(Replayed::Refused { line, refusal }));
+//! let last_line = b"refused 4 7 NotRaised\n".as_slice();
+//! assert!(rt; printed.as_slice().ends_with(last_line));
+//! let (line, refusal) = (3, ScriptRefusal::NameUnknown);
+//! let answer = parse_boot(rt.alloc(), b"synthesis 1\nthread a\nhear q\n");
+//! assert!(rt; answer.err() == Some(ScriptFault { line, refusal }));
+//! ```
+//!
 //! A list of events has one event a line. `parse_events` reads it, and `replay` runs it on a fresh core and prints the
 //! core's status. A boot script has one declaration or step a line. `parse_boot` reads it as a plan, and `print_report`
 //! prints what a boot reports. Each text has one reading or one first fault. `parse_number` reads a number as both do.

@@ -4,19 +4,24 @@
 //! ```rust
 //! let (queue, mut taker) = ClaimQueue::<4>::new(rt.alloc(), 0)?;
 //! let mut putter = queue.split(&mut taker);
-//! assert_eq!(rt; queue.try_put(&mut putter, &[104, 105, 10]), Ok(0));
+//! assert!(rt; queue.try_put(&mut putter, &[104, 105, 10]) == Ok(0));
 //! let full = ClaimRefusal::Full { head: 3, tail: 0 };
-//! assert_eq!(rt; queue.try_put(&mut putter, &[33, 10]), Err(full));
+//! assert!(rt; queue.try_put(&mut putter, &[33, 10]) == Err(full));
 //! let mut line = ArrayVec::new();
-//! assert_eq!(rt; queue.try_take_line(&mut taker, &mut line), Ok(3));
-//! assert_eq!(rt; line.as_slice(), [104, 105, 10].as_slice());
+//! assert!(rt; queue.try_take_line(&mut taker, &mut line) == Ok(3));
+//! assert!(rt; line.as_slice() == [104, 105, 10].as_slice());
 //! assert!(rt; queue.shut(&mut putter));
-//! assert_eq!(rt; queue.try_put(&mut putter, &[33]), Err(ClaimRefusal::Closed));
-//! assert_eq!(rt; queue.try_take(&mut taker), Err(TakeRefusal::Closed));
+//! assert!(rt; queue.try_put(&mut putter, &[33]) == Err(ClaimRefusal::Closed));
+//! assert!(rt; queue.try_take(&mut taker) == Err(TakeRefusal::Closed));
 //! queue.join(&mut taker, putter);
-//! let Ok(closed) = queue.close(taker) else { panic!(rt; "open ends") };
-//! assert_eq!(rt; (closed.put, closed.taken), (3, 3));
+//! let Ok(closed) = queue.close(taker) else {
+//!     panic!(rt; "open ends")
+//! };
+//! assert!(rt; (closed.put, closed.taken) == (3, 3));
 //! ```
+//!
+//! Producers claim at the *head* and takers take at the *tail*, as in Massalin's papers. It is the other way round in
+//! `crossbeam` and in `VecDeque`, where items leave at the head.
 //!
 //! `N` is 1 to 256. An item is a `u64`. A position is a place of the queue from its beginning on, and is used once: a
 //! queue takes 4,294,967,295 items less its first position, and is then Spent. The numbers in an answer are positions.

@@ -12,7 +12,7 @@ use Rattle.boot_script.specs.Printed.{end_of_line, replay_fault_text}
 use Rattle.boot_script.specs.Replays.{IsReplayFault}
 use Rattle.boot_script.specs.Scripts.{text_events}
 use Rattle.draw.specs.declared.history.History.{History}
-use Rattle.draw.specs.declared.program.Ended.{Ended}
+use Rattle.draw.specs.declared.program.Exit.{Exit}
 use Rattle.draw.specs.declared.shapes.Picture.{Picture}
 use Rattle.draw.specs.Histories.{IsHistory}
 use Rattle.draw.specs.Pictures.{picture_text}
@@ -30,13 +30,13 @@ abbrev pub IsDrawing :
 IsDrawing said replayed old new = (page : List ℕ) × IsDrawn said replayed page × Appends old new page
 
 -- the exit status of a drawing
-abbrev pub status_of : Result Replayed ReplayFault → ℕ
-status_of (Ok AllAllowed) = 0
-status_of (Ok (Refused line refusal)) = 1
-status_of (Err (Script fault)) = 1
-status_of (Err Memory) = 3
-status_of (Err Read) = 5
-status_of (Err Write) = 5
+abbrev pub exit_code_of : Result Replayed ReplayFault → ℕ
+exit_code_of (Ok AllAllowed) = 0
+exit_code_of (Ok (Refused line refusal)) = 1
+exit_code_of (Err (Script fault)) = 1
+exit_code_of (Err Memory) = 3
+exit_code_of (Err Read) = 5
+exit_code_of (Err Write) = 5
 
 -- what is told of a drawing: nothing of one that was printed, else the line that names its fault
 abbrev pub words_of : Result Replayed ReplayFault → List ℕ
@@ -64,8 +64,8 @@ IsDrawingOf known answer old new =
     IfSome known (λ bytes. Answers (text_events bytes) answer old new) × IsUnwritten answer old new
 
 -- a run has the status, and where the error stream took all that was told, just the words are appended to it
-abbrev pub IsTold : Ended → ℕ → List ℕ → Option (List ℕ) → Option (List ℕ) → Type 0
-IsTold ended status words old new = (ended.status ≡ status) × OnOk ended.told (Appends old new words)
+abbrev pub IsExit : Exit → ℕ → List ℕ → Option (List ℕ) → Option (List ℕ) → Type 0
+IsExit exit status words old new = (exit.status ≡ status) × OnOk exit.told (Appends old new words)
 
 -- the answer alone
 abbrev pub IsAnswerOf : Result (ℕ × List (ℕ × Event)) ScriptFault → Result Replayed ReplayFault → Type 0
@@ -74,4 +74,4 @@ IsAnswerOf said (Err fault) = IsReplayFault said fault
 
 -- an exit status is that of a drawing of a text that says this
 abbrev pub IsStatus : Result (ℕ × List (ℕ × Event)) ScriptFault → ℕ → Type 0
-IsStatus said status = (answer : Result Replayed ReplayFault) × IsAnswerOf said answer × (status ≡ status_of answer)
+IsStatus said status = (answer : Result Replayed ReplayFault) × IsAnswerOf said answer × (status ≡ exit_code_of answer)

@@ -6,7 +6,7 @@ ghost use Rattle.boot_script.specs.declared.outcome.Replayed.{Replayed};
 ghost use Rattle.boot_script.specs.declared.outcome.ReplayFault.{ReplayFault};
 ghost use Rattle.boot_script.specs.Scripts.{text_events};
 ghost use Rattle.boot_script.specs.Replays.{IsReplayFault};
-ghost use Rattle.draw.specs.Drawings.{IsDrawing, IsDrawn, IsDrawingOf, IsTold, IsStatus, status_of, words_of};
+ghost use Rattle.draw.specs.Drawings.{IsDrawing, IsDrawn, IsDrawingOf, IsExit, IsStatus, exit_code_of, words_of};
 ghost use Rattle.draw.specs.Drawings.{usage_words};
 
 use crate::drawing::picture;
@@ -25,7 +25,7 @@ const BUFFER: usize = 65_537;
 
 /// How a run has ended.
 #[derive(Drop)]
-pub struct Ended {
+pub struct Exit {
     /// The exit status.
     pub status: u8,
     /// Whether the error stream took all the words for it.
@@ -88,21 +88,21 @@ pub fn run_on<R: Read, W: Write, E: Write>(
     reader: &mut R,
     writer: &mut W,
     errors: &mut E,
-) -> Ended
-    ensures usage { words ≢ 0 → IsTold result 2 usage_words (E.contents errors.old) (E.contents errors.new) }
+) -> Exit
+    ensures usage { words ≢ 0 → IsExit result 2 usage_words (E.contents errors.old) (E.contents errors.new) }
     ensures untouched { words ≢ 0 → (reader.new ≡ reader.old) × (writer.new ≡ writer.old) }
     ensures drawing { words ≡ 0 → (answer : Result Replayed ReplayFault)
         × IsDrawingOf (R.remaining reader.old) answer (W.contents writer.old) (W.contents writer.new)
-        × IsTold result (status_of answer) (words_of answer) (E.contents errors.old) (E.contents errors.new) }
+        × IsExit result (exit_code_of answer) (words_of answer) (E.contents errors.old) (E.contents errors.new) }
 {
     if words != 0 {
-        return Ended {
+        return Exit {
             status: USAGE_FAULT,
             told: tell_usage(errors),
         };
     }
     let answer = draw_on(alloc, reader, writer);
-    Ended {
+    Exit {
         status: status(answer),
         told: tell(answer, errors),
     }
@@ -141,7 +141,7 @@ pub fn usage<E: Write>(errors: &mut E) -> u8
 
 /// The exit status of a drawing.
 fn status(answer: Result<Replayed, ReplayFault>) -> u8
-    ensures { result ≡ status_of answer }
+    ensures { result ≡ exit_code_of answer }
 {
     match answer {
         Ok(Replayed::AllAllowed) => 0,

@@ -1,7 +1,7 @@
 //! Counting a step that was tried.
 //!
 //! The type keeps an order: a step is counted behind its try, and its element goes on behind both. A `Tried`, with
-//! which the element goes on, has in it what only a try makes; so nothing here can make one before.
+//! which the element goes on, has in it what only a try makes; so no `Tried` comes before it.
 ghost use Rattle.std.specs.Prelude.{◌≡◌};
 ghost use Rattle.hand_steps.specs.Countings.{CountAnswer, IsNumber, SteadyBut, counted_step};
 ghost use Rattle.hand_steps.specs.Holdings.{HoldsSame};

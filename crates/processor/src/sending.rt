@@ -1,7 +1,7 @@
 //! Where an element goes behind its step.
 //!
 //! The type keeps an order: an element goes on behind the try and the count of its step. A `SentOn`, which tells of the
-//! element's turn, has in it the `Tried` that only the count makes; so nothing here can make one before.
+//! element's turn, has in it the `Tried` that only the count makes; so no `SentOn` comes before it.
 ghost use Rattle.std.specs.Prelude.{◌≡◌, true};
 ghost use Rattle.hand_steps.specs.Tallies.{Adds};
 ghost use Rattle.thread_table.specs.Handles.{view_of, call_of, IsHandOf, IsSameHand};

@@ -1,7 +1,7 @@
 //! Waking those who wait at a pipe.
 //!
 //! The type keeps an order: those who wait are woken behind the try that has news for them. A `Paid`, which a deed
-//! tells, has in it the debt that only a try makes; so nothing here can make one before.
+//! tells, has in it the debt that only a try makes; so no `Paid` comes before its try.
 ghost use Rattle.hand_steps.specs.Tallies.{no_events};
 ghost use Rattle.thread_table.specs.Handles.{view_of, call_of, IsHandOf, IsSameHand};
 ghost use Rattle.processor.specs.Acts.{Acts};

@@ -9,6 +9,8 @@ mod chains;
 #[cfg(test)]
 mod claims;
 #[cfg(test)]
+mod examples;
+#[cfg(test)]
 mod fixtures;
 #[cfg(test)]
 mod movers;

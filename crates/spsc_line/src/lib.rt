@@ -1,7 +1,24 @@
-//! A line of bytes from one thread to another, such as a device's.
+//! A line of bytes from one thread to another, such as a device's: a queue of one producer and one consumer (Lamport;
+//! Massalin and Pu 1991).
 //!
-//! It is a queue of one producer and one consumer (Lamport; Massalin and Pu 1991): each end moves an index of its own,
-//! takes no lock and never waits for the other. The ring under it is `rtrb`'s, and the ends count what went through.
+//! ```rust
+//! let (mut input, mut output) = line(rt.alloc(), 2)?;
+//! assert!(rt; output.pop() == None);
+//! assert!(rt; input.push(1) == Ok(()));
+//! assert!(rt; input.push(2) == Ok(()));
+//! assert!(rt; input.push(3) == Err(3));
+//! assert!(rt; output.pop() == Some(1));
+//! let totals = LineTotals {
+//!     sent: 2,
+//!     received: 1,
+//!     left: 1,
+//! };
+//! assert!(rt; finish(input, output) == totals);
+//! ```
+//!
+//! Each end moves an index of its own, takes no lock and never waits for the other. A push into a full line gives the
+//! byte back, and a pop of an empty one gives None. The ring under it is `rtrb`'s, and the ends count what went
+//! through.
 #![tactic(auto)]
 
 ghost use Rattle.std.specs.Prelude.{◌≡◌, ◌+◌, ◌<◌, ◌≤◌, ◌%◌, ◌^◌, ◌++◌, length, IfOk};

@@ -31,7 +31,7 @@ use Rattle.kernel_threads.specs.Typings.{AreTyped}
 use Rattle.kernel_threads.specs.Works.{HasWorked}
 use Rattle.kernel_threads.proofs.Returning.{device_back, short}
 use Rattle.synth_kernel.specs.declared.gathering.Served.{Served}
-use Rattle.synth_kernel.specs.Gatherings.{tty_of, IsTold}
+use Rattle.synth_kernel.specs.Gatherings.{tty_of, TotalsAre}
 use Rattle.synth_kernel.proofs.Backs.{Sorted, served_behind}
 
 -- LISTS
@@ -140,12 +140,12 @@ module _ {G : Type 0} (T : G → ℕ → Point → G → Type 0) (shared : Share
       subst (λ (z : RawTty). (end_share (end_of z) ≡ end_share (end_of device.tty)) × (chain_end_share z.chain ≡ chain_end_share device.tty.chain)) m.2
       (subst (λ (d : Device). (end_share (end_of m.0.tty) ≡ end_share (end_of d.tty)) × (chain_end_share m.0.tty.chain ≡ chain_end_share d.tty.chain)) (one_same c.1 device (slice_get devices k) c.4 at) c.6.shares)
 
-  module _ (told : List Typed) (tolds : AllThree IsTold f.served inputs told) where
-    told_at : (t : ℕ) (one : Served) (its : slice_get f.served t ≡ Some one) → (what : Typed) × (slice_get told t ≡ Some what) × IsTold one (came_at t one its).2 what
+  module _ (told : List Typed) (tolds : AllThree TotalsAre f.served inputs told) where
+    told_at : (t : ℕ) (one : Served) (its : slice_get f.served t ≡ Some one) → (what : Typed) × (slice_get told t ≡ Some what) × TotalsAre one (came_at t one its).2 what
     told_at t one its =
-        let low = at_below f.served t one its in let l = (three_lengths IsTold f.served inputs told tolds).1 in
+        let low = at_below f.served t one its in let l = (three_lengths TotalsAre f.served inputs told tolds).1 in
         let w = some_at told t (omega arith) in
-        (w.0, w.1, three_of IsTold f.served inputs told t one (came_at t one its).2 w.0 tolds its (came_at t one its).5 w.1)
+        (w.0, w.1, three_of TotalsAre f.served inputs told t one (came_at t one its).2 w.0 tolds its (came_at t one its).5 w.1)
 
     ended_at : (t : ℕ) (one : Served) (its : slice_get f.served t ≡ Some one) → DeviceEnded (came_at t one its).0 (end_of one.tty) (did_of one)
     ended_at t one its = (came_at t one its).6.all (told_at t one its).2.whole
@@ -162,7 +162,7 @@ module _ {G : Type 0} (T : G → ℕ → Point → G → Type 0) (shared : Share
 
     pub devices_shown : ShowsDevices (map did_of f.served) told
     devices_shown = record {
-      as_many = (three_lengths IsTold f.served inputs told tolds).1 ∙ sym (length-map f.served did_of);
+      as_many = (three_lengths TotalsAre f.served inputs told tolds).1 ∙ sym (length-map f.served did_of);
       each = λ k d its at at'.
           let n = mapped_at did_of f.served k d at in
           let w = told_at k n.0 n.1 in

@@ -44,7 +44,7 @@ use Rattle.kernel_threads.proofs.Reunion.{came_together, gates_told}
 use Rattle.synth_kernel.specs.declared.gathering.Served.{Served}
 use Rattle.synth_kernel.specs.declared.ready.Ready.{Ready}
 use Rattle.synth_kernel.specs.Boots.{IsBootOf, AreLogsOf}
-use Rattle.synth_kernel.specs.Gatherings.{processed_in, served_in, all_there, tty_of, IsTold}
+use Rattle.synth_kernel.specs.Gatherings.{processed_in, served_in, all_there, tty_of, TotalsAre}
 use Rattle.synth_kernel.specs.Readies.{IsReady}
 use Rattle.synth_kernel.proofs.Backs.{Sorted, few_back, sort_back, processed_are, served_are, first_back}
 use Rattle.synth_kernel.proofs.Sparing.{freed_spare}
@@ -148,7 +148,7 @@ module _ {G : Type 0} (T : G → ℕ → Point → G → Type 0) (plan : BootPla
             meters = back.1;
           })
 
-      module _ (some : 1 ≤ length gates) (its_parts : ArePartsOf ready.shared last) (told : List Typed) (tolds : AllThree IsTold its.served inputs told) (parts : Parts)
+      module _ (some : 1 ≤ length gates) (its_parts : ArePartsOf ready.shared last) (told : List Typed) (tolds : AllThree TotalsAre its.served inputs told) (parts : Parts)
           (took : TookRaws (length ready.shared.plan.queues) (length ready.shared.plan.movers) (map tty_of its.served) last parts) (ended : Ended) (closes : AllClosed ready.shared parts ended) where
         many : length (map parts_of its.processed) ≡ length gates
         many = length-map its.processed parts_of ∙ (its.posts_are ∙ posts_long)
@@ -211,10 +211,10 @@ module _ {G : Type 0} (T : G → ℕ → Point → G → Type 0) (plan : BootPla
         pub wholes_sorted : (parts : Parts) → ArePartsOf ready.shared parts → TookRaws (length ready.shared.plan.queues) (length ready.shared.plan.movers) ttys last parts → HasWholes ready.shared parts
         wholes_sorted parts are took = wholes last joined_same parts are (took_same parts took)
 
-        module _ (some : 1 ≤ length gates) (its_parts : ArePartsOf ready.shared last) (told : List Typed) (tolds : AllThree IsTold (served_in backs) inputs told) (parts : Parts)
+        module _ (some : 1 ≤ length gates) (its_parts : ArePartsOf ready.shared last) (told : List Typed) (tolds : AllThree TotalsAre (served_in backs) inputs told) (parts : Parts)
             (took : TookRaws (length ready.shared.plan.queues) (length ready.shared.plan.movers) ttys last parts) (ended : Ended) (closes : AllClosed ready.shared parts ended) where
-          tolds_same : AllThree IsTold its.served inputs told
-          tolds_same = subst (λ (z : List Served). AllThree IsTold z inputs told) served_came tolds
+          tolds_same : AllThree TotalsAre its.served inputs told
+          tolds_same = subst (λ (z : List Served). AllThree TotalsAre z inputs told) served_came tolds
 
           pub few_sorted : (lines : List Line) → lines ≡ flat_map heard_lines (map parts_of (processed_in backs)) → length lines ≤ hear_count ended.plan
           few_sorted lines e =

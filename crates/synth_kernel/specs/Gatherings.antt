@@ -46,7 +46,7 @@ tty_of served = served.tty
 
 -- What a device did: how many bytes it popped, which with those left in the line are all that was sent, and how many of
 -- them its raw queue refused
-pub record IsTold (served : Served) (input : LineIn) (told : Typed) : Type 0 where
+pub record TotalsAre (served : Served) (input : LineIn) (told : Typed) : Type 0 where
   pub whole : bytes_received served.line ++ bytes_left input served.line ≡ bytes_sent input
   pub popped : told.popped ≡ length (bytes_received served.line) % 2 ^ 64
   pub refused : told.refused ≡ overruns_of served.tty
@@ -70,4 +70,4 @@ pub record IsGathered {G : Type 0} (shared : Shared) (first : Station) (backs : 
   pub heard : flat_map lines_of gathered.heards.items ≡ flat_map heard_lines (map parts_of (processed_in backs))
   pub gates : gathered.gates.items ≡ map gate_of (processed_in backs)
   pub ttys : gathered.ttys.items ≡ map tty_of (served_in backs)
-  pub told : AllThree IsTold (served_in backs) inputs gathered.told.items
+  pub told : AllThree TotalsAre (served_in backs) inputs gathered.told.items

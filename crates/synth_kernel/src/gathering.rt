@@ -6,7 +6,7 @@ ghost use Rattle.kernel_threads.specs.Backs.{parts_of, gate_of};
 ghost use Rattle.processor.specs.Turns.{heard_lines};
 ghost use Rattle.processor.specs.Partings.{AllJoined};
 ghost use Rattle.reporting.specs.Reported.{lines_of};
-ghost use Rattle.synth_kernel.specs.Gatherings.{processed_in, served_in, all_there, tty_of, IsTold, HaveRoomFor, IsGathered};
+ghost use Rattle.synth_kernel.specs.Gatherings.{processed_in, served_in, all_there, tty_of, TotalsAre, HaveRoomFor, IsGathered};
 ghost use Rattle.end_steps.specs.Splits.{AllThree};
 ghost use Rattle.spsc_line.specs.Lines.{IsLine};
 
@@ -120,7 +120,7 @@ fn join_stations<G: Drop>(
 fn finish_one(input: LineIn, served: Served) -> (RawTty, Typed)
     requires { IsLine input served.line }
     ensures tty { result.0 ≡ served.tty }
-    ensures told { IsTold served input result.1 }
+    ensures told { TotalsAre served input result.1 }
 {
     let Served { line, tty } = served;
     let totals = finish(input, line);
@@ -145,7 +145,7 @@ fn finish_all(
     requires ttys { (ttys.items ≡ []) × (length served.items ≤ vec_capacity ttys) }
     requires told { (told.items ≡ []) × (length served.items ≤ vec_capacity told) }
     ensures ttys { result.0.items ≡ map tty_of served.items }
-    ensures told { AllThree IsTold served.items inputs.items result.1.items }
+    ensures told { AllThree TotalsAre served.items inputs.items result.1.items }
 {
     let mut ttys = ttys;
     let mut told = told;

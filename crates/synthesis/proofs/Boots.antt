@@ -5,7 +5,7 @@ use Rattle.boot_data.specs.Plans.{Plan}
 use Rattle.boot_script.specs.Plans.{text_plan}
 use Rattle.synth_kernel.specs.declared.outcome.Ended as endings
 use Rattle.synth_kernel.specs.declared.outcome.BootFault.{BootFault}
-use Rattle.synthesis.specs.Runs.{BootAnswers, IsBootAnswerOf, IsBootStatus, boot_status_of}
+use Rattle.synthesis.specs.Runs.{BootAnswers, IsBootAnswerOf, IsBootStatus, boot_exit_code_of}
 
 answer_alone :
     (said : Result Plan ScriptFault) (processors turns : ℕ) (answer : Result endings.Ended BootFault)
@@ -29,7 +29,7 @@ answer_alone said processors turns (Err fault) old new h = h
 pub status_said :
     (known : Option (List ℕ)) (processors turns : ℕ) (answer : Result endings.Ended BootFault) (old new : Option (List ℕ))
     (status : ℕ) → IfSome known (λ bytes. BootAnswers (text_plan bytes) processors turns answer old new)
-    → status ≡ boot_status_of answer → IfSome known (λ bytes. IsBootStatus (text_plan bytes) processors turns status)
+    → status ≡ boot_exit_code_of answer → IfSome known (λ bytes. IsBootStatus (text_plan bytes) processors turns status)
 status_said None processors turns answer old new status h e = h
 status_said (Some bytes) processors turns answer old new status h e =
     (answer, answer_alone (text_plan bytes) processors turns answer old new h, e)

@@ -18,7 +18,7 @@ use Rattle.synth_kernel.specs.declared.outcome.BootFault.{BootFault}
 use Rattle.synth_kernel.specs.declared.outcome.BootFault.TheVariants as boot_faults
 use Rattle.synth_kernel.specs.Faults.{boot_fault_text}
 use Rattle.synth_kernel.specs.Boots.{IsPlainBoot, IsPlainAnswer, IsBootFault}
-use Rattle.synthesis.specs.declared.program.Ended.{Ended}
+use Rattle.synthesis.specs.declared.program.Exit.{Exit}
 
 -- what is told of other words
 abbrev pub usage_words : List ℕ
@@ -29,13 +29,13 @@ abbrev pub no_memory_words : List ℕ
 no_memory_words = codes "no memory" ++ end_of_line
 
 -- the exit status of a replay
-abbrev pub status_of : Result Replayed ReplayFault → ℕ
-status_of (Ok AllAllowed) = 0
-status_of (Ok (Refused line refusal)) = 1
-status_of (Err (Script fault)) = 1
-status_of (Err Memory) = 3
-status_of (Err Read) = 5
-status_of (Err Write) = 5
+abbrev pub exit_code_of : Result Replayed ReplayFault → ℕ
+exit_code_of (Ok AllAllowed) = 0
+exit_code_of (Ok (Refused line refusal)) = 1
+exit_code_of (Err (Script fault)) = 1
+exit_code_of (Err Memory) = 3
+exit_code_of (Err Read) = 5
+exit_code_of (Err Write) = 5
 
 -- what is told of a replay: nothing of one that was printed, else the line that names its fault
 abbrev pub words_of : Result Replayed ReplayFault → List ℕ
@@ -59,8 +59,8 @@ IsReplayOf known answer old new =
     IfSome known (λ bytes. Answers (text_events bytes) answer old new) × IsUnwritten answer old new
 
 -- a run has the status, and where the error stream took all that was told, just the words are appended to it
-abbrev pub IsTold : Ended → ℕ → List ℕ → Option (List ℕ) → Option (List ℕ) → Type 0
-IsTold ended status words old new = (ended.status ≡ status) × OnOk ended.told (Appends old new words)
+abbrev pub IsExit : Exit → ℕ → List ℕ → Option (List ℕ) → Option (List ℕ) → Type 0
+IsExit exit status words old new = (exit.status ≡ status) × OnOk exit.told (Appends old new words)
 
 -- the answer alone
 abbrev pub IsAnswerOf : Result (ℕ × List (ℕ × Event)) ScriptFault → Result Replayed ReplayFault → Type 0
@@ -69,16 +69,16 @@ IsAnswerOf said (Err fault) = IsReplayFault said fault
 
 -- an exit status is that of a replay of a text that says this
 abbrev pub IsStatus : Result (ℕ × List (ℕ × Event)) ScriptFault → ℕ → Type 0
-IsStatus said status = (answer : Result Replayed ReplayFault) × IsAnswerOf said answer × (status ≡ status_of answer)
+IsStatus said status = (answer : Result Replayed ReplayFault) × IsAnswerOf said answer × (status ≡ exit_code_of answer)
 
 -- the exit status of a boot
-abbrev pub boot_status_of : Result endings.Ended BootFault → ℕ
-boot_status_of (Ok AllEnded) = 0
-boot_status_of (Ok (Unfinished live)) = 4
-boot_status_of (Err (boot_faults.Script fault)) = 1
-boot_status_of (Err boot_faults.Memory) = 3
-boot_status_of (Err boot_faults.Read) = 5
-boot_status_of (Err boot_faults.Write) = 5
+abbrev pub boot_exit_code_of : Result endings.Ended BootFault → ℕ
+boot_exit_code_of (Ok AllEnded) = 0
+boot_exit_code_of (Ok (Unfinished live)) = 4
+boot_exit_code_of (Err (boot_faults.Script fault)) = 1
+boot_exit_code_of (Err boot_faults.Memory) = 3
+boot_exit_code_of (Err boot_faults.Read) = 5
+boot_exit_code_of (Err boot_faults.Write) = 5
 
 -- what is told of a boot: nothing of one whose report was printed, else the line that names its fault
 abbrev pub boot_words_of : Result endings.Ended BootFault → List ℕ
@@ -112,4 +112,4 @@ IsBootAnswerOf said processors turns (Err fault) = IsBootFault said fault
 -- an exit status is that of a boot of a text that says this, on so many processors, after so many turns of each
 abbrev pub IsBootStatus : Result Plan ScriptFault → ℕ → ℕ → ℕ → Type 0
 IsBootStatus said processors turns status = (answer : Result endings.Ended BootFault)
-    × IsBootAnswerOf said processors turns answer × (status ≡ boot_status_of answer)
+    × IsBootAnswerOf said processors turns answer × (status ≡ boot_exit_code_of answer)

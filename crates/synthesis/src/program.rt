@@ -9,9 +9,9 @@ ghost use Rattle.boot_script.specs.Scripts.{text_events};
 ghost use Rattle.synth_kernel.specs.declared.outcome.Ended as endings;
 ghost use Rattle.synth_kernel.specs.declared.outcome.BootFault.{BootFault};
 ghost use Rattle.synthesis.specs.Commands.{replay_command, IsBootCommand, IsNoCommand};
-ghost use Rattle.synthesis.specs.Runs.{usage_words, no_memory_words, status_of, words_of};
-ghost use Rattle.synthesis.specs.Runs.{IsReplayOf, IsTold, IsStatus};
-ghost use Rattle.synthesis.specs.Runs.{boot_status_of, boot_words_of, IsBootedBy, IsBootStatus};
+ghost use Rattle.synthesis.specs.Runs.{usage_words, no_memory_words, exit_code_of, words_of};
+ghost use Rattle.synthesis.specs.Runs.{IsReplayOf, IsExit, IsStatus};
+ghost use Rattle.synthesis.specs.Runs.{boot_exit_code_of, boot_words_of, IsBootedBy, IsBootStatus};
 
 use crate::command::{Command, command_of};
 use boot_script::{ReplayFault, Replayed, replay_on};
@@ -27,7 +27,7 @@ const USAGE_FAULT: u8 = 2;
 
 /// How a run has ended.
 #[derive(Debug, Drop)]
-pub struct Ended {
+pub struct Exit {
     /// The exit status.
     pub status: u8,
     /// Whether the error stream took all the words for it.
@@ -47,18 +47,18 @@ pub fn run_on<RT: Threads + Wait + Sync, R: Read, W: Write, E: Write>(
     reader: &mut R,
     writer: &mut W,
     errors: &mut E,
-) -> Ended
+) -> Exit
     ensures usage { IsNoCommand (map (λ word. word.now) words.now)
-        → IsTold result 2 usage_words (E.contents errors.old) (E.contents errors.new) }
+        → IsExit result 2 usage_words (E.contents errors.old) (E.contents errors.new) }
     ensures untouched { IsNoCommand (map (λ word. word.now) words.now) → (reader.new ≡ reader.old)
         × (writer.new ≡ writer.old) }
     ensures replay { map (λ word. word.now) words.now ≡ replay_command → (answer : Result Replayed ReplayFault)
         × IsReplayOf (R.remaining reader.old) answer (W.contents writer.old) (W.contents writer.new)
-        × IsTold result (status_of answer) (words_of answer) (E.contents errors.old) (E.contents errors.new) }
+        × IsExit result (exit_code_of answer) (words_of answer) (E.contents errors.old) (E.contents errors.new) }
     ensures boot { (processors turns : ℕ) → IsBootCommand (map (λ word. word.now) words.now) processors turns
         → (answer : Result endings.Ended BootFault)
         × IsBootedBy (R.remaining reader.old) processors turns answer (W.contents writer.old) (W.contents writer.new)
-        × IsTold result (boot_status_of answer) (boot_words_of answer) (E.contents errors.old) (E.contents errors.new) }
+        × IsExit result (boot_exit_code_of answer) (boot_words_of answer) (E.contents errors.old) (E.contents errors.new) }
 {
     match command_of(words) {
         Some(Command::Replay) => run_replay(alloc, reader, writer, errors),
@@ -94,48 +94,48 @@ fn run_replay<R: Read, W: Write, E: Write>(
     reader: &mut R,
     writer: &mut W,
     errors: &mut E,
-) -> Ended
+) -> Exit
     ensures { (answer : Result Replayed ReplayFault)
         × IsReplayOf (R.remaining reader.old) answer (W.contents writer.old) (W.contents writer.new)
-        × IsTold result (status_of answer) (words_of answer) (E.contents errors.old) (E.contents errors.new) }
+        × IsExit result (exit_code_of answer) (words_of answer) (E.contents errors.old) (E.contents errors.new) }
 {
     let answer = replay_on(alloc, reader, writer);
     told_of_replay(answer, errors)
 }
 
 /// Tells how a replay has ended.
-fn told_of_replay<E: Write>(answer: Result<Replayed, ReplayFault>, errors: &mut E) -> Ended
-    ensures { IsTold result (status_of answer) (words_of answer) (E.contents errors.old) (E.contents errors.new) }
+fn told_of_replay<E: Write>(answer: Result<Replayed, ReplayFault>, errors: &mut E) -> Exit
+    ensures { IsExit result (exit_code_of answer) (words_of answer) (E.contents errors.old) (E.contents errors.new) }
 {
-    Ended {
+    Exit {
         status: status(answer),
         told: tell(answer, errors),
     }
 }
 
 /// Tells how a boot has ended.
-fn told_of_boot<E: Write>(answer: Result<synth_kernel::Ended, BootFault>, errors: &mut E) -> Ended
-    ensures { IsTold result (boot_status_of answer) (boot_words_of answer) (E.contents errors.old)
+fn told_of_boot<E: Write>(answer: Result<synth_kernel::Ended, BootFault>, errors: &mut E) -> Exit
+    ensures { IsExit result (boot_exit_code_of answer) (boot_words_of answer) (E.contents errors.old)
         (E.contents errors.new) }
 {
-    Ended {
+    Exit {
         status: boot_status(answer),
         told: tell_boot(answer, errors),
     }
 }
 
 /// Tells that there is no memory, as of a replay that wants it.
-pub fn no_memory<E: Write>(errors: &mut E) -> Ended
-    ensures { IsTold result 3 no_memory_words (E.contents errors.old) (E.contents errors.new) }
+pub fn no_memory<E: Write>(errors: &mut E) -> Exit
+    ensures { IsExit result 3 no_memory_words (E.contents errors.old) (E.contents errors.new) }
 {
     told_of_replay(Err(ReplayFault::Memory), errors)
 }
 
 /// Tells the commands, as to words that are none.
-pub fn usage<E: Write>(errors: &mut E) -> Ended
-    ensures { IsTold result 2 usage_words (E.contents errors.old) (E.contents errors.new) }
+pub fn usage<E: Write>(errors: &mut E) -> Exit
+    ensures { IsExit result 2 usage_words (E.contents errors.old) (E.contents errors.new) }
 {
-    Ended {
+    Exit {
         status: USAGE_FAULT,
         told: tell_usage(errors),
     }
@@ -143,7 +143,7 @@ pub fn usage<E: Write>(errors: &mut E) -> Ended
 
 /// The exit status of a replay.
 fn status(answer: Result<Replayed, ReplayFault>) -> u8
-    ensures { result ≡ status_of answer }
+    ensures { result ≡ exit_code_of answer }
 {
     match answer {
         Ok(Replayed::AllAllowed) => 0,
@@ -172,7 +172,7 @@ fn tell_usage<E: Write>(errors: &mut E) -> io::Result<()>
 
 /// The exit status of a boot.
 fn boot_status(answer: Result<synth_kernel::Ended, BootFault>) -> u8
-    ensures { result ≡ boot_status_of answer }
+    ensures { result ≡ boot_exit_code_of answer }
 {
     match answer {
         Ok(synth_kernel::Ended::AllEnded) => 0,

@@ -1,8 +1,41 @@
-//! Thread elements: the ready ring, the free elements and sixteen wait queues, processors, stop cells and signals.
+//! Thread elements: the ready ring, the free elements and sixteen wait queues, processors, stop cells and signals
+//! (Massalin and Pu 1991; Massalin 1992).
 //!
-//! A thread element describes a thread (Massalin and Pu, 1991). Each of 64 elements is in exactly one place between any
-//! two atomic steps: on a processor, in an element queue, in its stop cell, or held by a hand. Each thread of the
-//! program has a hand. All calls but `wake_all` make a bounded number of steps.
+//! ```rust
+//! let (table, mut waiter) = ThreadTable::new(rt.alloc())?;
+//! let mut waker = table.split(&mut waiter, 0);
+//! let (Ok(element), Some(pipe)) = (table.try_free(&mut waiter), WaitNumber::new(3)) else {
+//!     panic!(rt; "an element of a new table is free")
+//! };
+//! let ticket = table.ticket(&mut waiter, pipe);
+//! assert!(rt; table.wake_all(&rt, &mut waker, pipe) == 0);
+//! assert!(rt; waiter.holds(element));
+//! let moved = Err(MoveRefusal::Moved { mark: 1 });
+//! assert!(rt; table.try_wait_at(&mut waiter, element, pipe, ticket) == moved);
+//! let ticket = table.ticket(&mut waiter, pipe);
+//! assert!(rt; waiter.holds(element));
+//! assert!(rt; table.try_wait_at(&mut waiter, element, pipe, ticket) == Ok(()));
+//! assert!(rt; table.wake_all(&rt, &mut waker, pipe) == 1 << element.number());
+//! assert!(rt; waker.holds(element));
+//! assert!(rt; table.try_ready(&mut waker, element) == Ok(()));
+//! assert!(rt; table.try_next(&mut waiter) == Ok(element));
+//! table.join(&mut waiter, waker);
+//! let Ok(closed) = table.close(waiter) else {
+//!     panic!(rt; "open hands")
+//! };
+//! assert!(rt; (closed.places[0], closed.places[1]) == (Place::Held, Place::Free));
+//! ```
+//!
+//! A thread element describes a thread. Each of 64 elements is in exactly one place between any two atomic steps: on a
+//! processor, in an element queue, in its stop cell, or held by a hand. Each thread of the program has a hand, and
+//! moves the elements that it holds. All calls but `wake_all` make a bounded number of steps.
+//!
+//! **Tickets.** Whoever looks at a condition and then waits may miss the wake that comes in between. So a wait queue's
+//! head word has a number of notifies beside the head. A waiter reads it first, as its ticket, then looks at the
+//! condition, and then waits with the ticket: the exchange that claims its place finds the ticket in the word, or the
+//! wait is refused with Moved. `wake_all` makes a notify, which adds one to that number, and then takes each element
+//! whose place was claimed before it. So a waiter is either ahead of the notify, and is woken, or is told to look
+//! again. This is the event count of Reed and Kanodia (1979).
 //!
 //! `Claimed`, `Counted`, `Made`, `Shape`, `ThreadRule` and `View` are for proofs alone: no program makes a value of
 //! them but the table itself.

@@ -7,6 +7,7 @@ use std::io;
 use std::io::Write;
 
 mod boots;
+mod examples;
 mod printing;
 mod reading;
 mod replays;

@@ -1,6 +1,7 @@
 //! Tests of what no list of events can reach. `examples` replays the lists of events.
 
 mod elements;
+mod examples;
 mod memory;
 mod queues;
 mod values;

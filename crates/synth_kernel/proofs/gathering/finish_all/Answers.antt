@@ -4,7 +4,7 @@ use Rattle.std.specs.Vec.Iter.{into_iter_items}
 use Rattle.spsc_line.specs.Lines.{IsLine}
 use Rattle.closing.proofs.Drawing.{drawn_more}
 use Rattle.end_steps.specs.Splits.{AllThree}
-use Rattle.synth_kernel.specs.Gatherings.{tty_of, IsTold}
+use Rattle.synth_kernel.specs.Gatherings.{tty_of, TotalsAre}
 use Rattle.synth_kernel.proofs.Placing.{zip_head, zip_tail, zip_long}
 use Rattle.synth_kernel.proofs.gathering.finish_all.Goals as goal
 
@@ -14,7 +14,7 @@ loop-one-init c = record {
     used = [];
     first = c.into_iter-one-iterator.ensures.into_iter_gives.0;
     second = c.into_iter-inputs.ensures.rest;
-    each = subst (AllThree IsTold [] []) (sym c.requires.told.0) tt;
+    each = subst (AllThree TotalsAre [] []) (sym c.requires.told.0) tt;
   };
   lines = search rules;
   ttys = search rules;
@@ -35,7 +35,7 @@ finish_one-tty-requires c = let v = c.loop-one.invariant in
 
 pub loop-one-preserved : goal.loop-one-preserved
 loop-one-preserved c = let v = c.loop-one.invariant in record {
-  drawn = drawn_more IsTold _ _ _ _ _ _ c.in-Some.one _ c.in-Some-next.input _ c.finish_one-tty.result.1 _ v.drawn c.in-Some.ensures.steps.0 c.in-Some-next.ensures.items c.push_reserved-in-loop-one.ensures.items
+  drawn = drawn_more TotalsAre _ _ _ _ _ _ c.in-Some.one _ c.in-Some-next.input _ c.finish_one-tty.result.1 _ v.drawn c.in-Some.ensures.steps.0 c.in-Some-next.ensures.items c.push_reserved-in-loop-one.ensures.items
       c.finish_one-tty.ensures.told;
   lines = zip_tail (λ one input. IsLine input one.line) (into_iter_items c.loop-one.one-iterator) (into_iter_items c.loop-one.inputs) c.in-Some.one c.in-Some-next.input _ _ v.lines c.in-Some.ensures.steps.0 c.in-Some-next.ensures.items;
   ttys = c.push_reserved.ensures.items ∙ ((λ i. v.ttys i ++ c.finish_one-tty.ensures.tty i ∷ []) ∙ sym (map-append tty_of c.loop-one.yielded (c.in-Some.one ∷ [])));

@@ -3,12 +3,12 @@ use Rattle.std.specs.List.{AllZip}
 use Rattle.std.specs.Vec.Iter.{into_iter_items, into_iter_len}
 use Rattle.closing.proofs.Drawing.{Drawn}
 use Rattle.spsc_line.specs.Lines.{IsLine}
-use Rattle.synth_kernel.specs.Gatherings.{tty_of, IsTold}
+use Rattle.synth_kernel.specs.Gatherings.{tty_of, TotalsAre}
 use Rattle.synth_kernel.proofs.gathering.finish_all.Given as goal
 
 abbrev pub invariant-loop-one : goal.invariant-loop-one
 invariant-loop-one l = record {
-  drawn : Drawn IsTold l.fn.served.items l.fn.inputs.items l.yielded (into_iter_items l.one-iterator) (into_iter_items l.inputs) l.told.items;
+  drawn : Drawn TotalsAre l.fn.served.items l.fn.inputs.items l.yielded (into_iter_items l.one-iterator) (into_iter_items l.inputs) l.told.items;
   lines : AllZip (λ one input. IsLine input one.line) (into_iter_items l.one-iterator) (into_iter_items l.inputs);
   ttys : l.ttys.items ≡ map tty_of l.yielded;
   tty_room : vec_len l.ttys + into_iter_len l.one-iterator ≤ vec_capacity l.ttys;

@@ -9,7 +9,7 @@ use Rattle.processor.specs.Turns.{heard_lines}
 use Rattle.spsc_line.specs.declared.line_in.LineIn.{LineIn}
 use Rattle.spsc_line.specs.Lines.{IsLine}
 use Rattle.synth_kernel.specs.declared.gathering.Served.{Served}
-use Rattle.synth_kernel.specs.Gatherings.{tty_of, IsTold}
+use Rattle.synth_kernel.specs.Gatherings.{tty_of, TotalsAre}
 use Rattle.synth_kernel.proofs.gathering.gather.Goals as goal
 
 pub finish_all-ttys-requires : goal.finish_all-ttys-requires
@@ -41,5 +41,5 @@ returns-clause-gathered g c =
       heard = j.heard ∙ ap (λ (z : List (Processed g.row.G.Denot)). flat_map heard_lines (map parts_of z)) s.0;
       gates = j.gates ∙ ap (λ (z : List (Processed g.row.G.Denot)). map gate_of z) s.0;
       ttys = c.finish_all-ttys.ensures.ttys ∙ ap (map tty_of) s.1;
-      told = subst (λ (z : List Served). AllThree IsTold z c.args.inputs.items c.finish_all-ttys.result.1.items) s.1 c.finish_all-ttys.ensures.told;
+      told = subst (λ (z : List Served). AllThree TotalsAre z c.args.inputs.items c.finish_all-ttys.result.1.items) s.1 c.finish_all-ttys.ensures.told;
     }

@@ -1,5 +1,5 @@
 -- What a call leaves to its hand as it was.
-use Rattle.std.proofs.Common.{◌≡◌, ⊎_elim, ℕ, zero, suc, Bool, true, false, List, Result, Ok, Err, refl, ap, ◌∙◌}
+use Rattle.std.proofs.Common.{◌≡◌, ⊎_elim, ℕ, zero, suc, Bool, true, false, List, Option, Some, None, Result, Ok, Err, refl, ap, ◌∙◌}
 use Rattle.event_theory.specs.declared.event.Event.{Event}
 use Rattle.thread_table.specs.declared.rule.View.{View}
 use Rattle.thread_table.specs.declared.takings.NextRefusal.{NextRefusal}
@@ -14,7 +14,7 @@ use Rattle.thread_table.specs.declared.states.Lost.{Lost}
 use Rattle.thread_table.specs.declared.programs.Spent.{Spent}
 use Rattle.thread_table.specs.Steps.{Found, Did, Counts}
 use Rattle.thread_table.specs.Answers.{FoundFirst, TakeAnswer, MovedTo, MoveAnswer, WaitAnswer, StoppedNow, StartAnswer, ParkAnswer, SignalAnswer, DeliverAnswer, DoneAnswer}
-use Rattle.thread_table.specs.Wakes.{WokeAll}
+use Rattle.thread_table.specs.Wakes.{WokeAll, NotifiedNow, BeforeAnswer}
 use Rattle.thread_table.specs.Keeping.{Keeps, Stays}
 
 keeps_on : (u v w : View) → Keeps u v → Keeps v w → Keeps u w
@@ -130,3 +130,14 @@ done_keeps call element v w (Err r) a = (counts_stay element 4294967295 v w a).k
 
 pub wake_keeps : (call wait mask : ℕ) (v w : View) → WokeAll call v wait mask w → Keeps v w
 wake_keeps call wait mask v w a = record { first = ap (λ (z : View). z.first) a.same; serves = ap (λ (z : View). z.serves) a.same; on = ap (λ (z : View). z.on) a.same; share = ap (λ (z : View). z.member.share) a.same }
+
+pub notify_keeps : (call wait head : ℕ) (v w : View) → NotifiedNow call v wait head w → Keeps v w
+notify_keeps call wait head v w a = did_keeps call v w _ _ _ _ record { first = λ _. refl; serves = λ _. refl; on = λ _. refl; share = λ _. refl } a.notifies.did
+
+pub before_stays : (call line head : ℕ) (v w : View) (r : NextRefusal) → BeforeAnswer call v line head (Err r) w → Stays v w
+before_stays call line head v w r a = stays_on v a.before w (stays_found v a.before _ _ a.tail_loaded) (take_stays call line a.before w r a.taken)
+
+pub before_keeps : (call line head : ℕ) (v w : View) (r : Result (Option ℕ) NextRefusal) → BeforeAnswer call v line head r w → Keeps v w
+before_keeps call line head v w (Ok None) a = (stays_found v w _ _ a.tail_loaded).keeps
+before_keeps call line head v w (Ok (Some element)) a = keeps_on v a.tried.before w (stays_found v a.tried.before _ _ a.tried.tail_loaded).keeps (take_keeps call line a.tried.before w (Ok element) a.tried.taken)
+before_keeps call line head v w (Err r) a = (before_stays call line head v w r a).keeps

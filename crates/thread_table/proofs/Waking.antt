@@ -23,7 +23,7 @@ use Rattle.thread_table.specs.Shown.{tail_shown, tail_word}
 use Rattle.thread_table.specs.Rules.{has}
 use Rattle.thread_table.specs.Steps.{Found, Notifies, made_by}
 use Rattle.thread_table.specs.Answers.{TookFirst, TakeAnswer, is_in, head_in}
-use Rattle.thread_table.specs.Wakes.{Tried, Tries, taken_in, is_among, holding_as, AreTakesOf, WokeAll}
+use Rattle.thread_table.specs.Wakes.{Tried, Tries, taken_in, is_among, holding_as, AreTakesOf, WokeAll, NotifiedNow, TookBefore}
 use Rattle.thread_table.specs.declared.rule.Made.{Made}
 use Rattle.thread_table.specs.Makers.{made_in}
 use Rattle.table_theory.proofs.Owned.{at_push}
@@ -262,3 +262,19 @@ woke_all call wait line word head mark tail mask v u l w few at n is small befor
   where
     has_same : (e : ℕ) → has u e ≡ has v e
     has_same e = ap (λ (z : View). has z e) n.did.same
+
+-- one notify, and the head that it found
+pub notified_now : (call wait word head mark : ℕ) (v u : View) → wait < 16 → Notifies call wait v word u → word ≡ head + mark * 4294967296 → head < 4294967296 → NotifiedNow call v wait head u
+notified_now call wait word head mark v u few n is small = record {
+  word = word;
+  notifies = n;
+  is = sym (word_parts word head mark is small).0;
+  behind = omega (arith, few, is, small, (n.did.sees.shows.lines (wait + 2) (omega arith)).small, n.is);
+}
+
+-- the tail was found before a position, and then an element was taken
+pub took_before : (call line head tail element : ℕ) (v u w : View) → Found v (tail_word line) tail u → tail < head → TookFirst call u line element w → TookBefore call line head v element w
+took_before call line head tail element v u w found below t = record {
+  tried = record { tail = tail; before = u; tail_loaded = found; below = below; taken = t };
+  unheld = ap (λ (z : View). has z element) (sym (found_looked v u _ _ found).same) ∙ took_unheld call line element u w t;
+}

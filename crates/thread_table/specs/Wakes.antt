@@ -1,6 +1,6 @@
 -- What waking all answers: one notify, and then tries to take.
 use Rattle.std.specs.Prelude.{◌≡◌, ◌+◌, ◌<◌, ◌≤◌, ◌==◌, ◌||◌, ℕ, Bool, true, false, List, [], ◌∷◌, ◌++◌, length}
-use Rattle.std.specs.Prelude.{Result, Ok, Err}
+use Rattle.std.specs.Prelude.{Result, Ok, Err, Option, Some, None}
 use mathlib.Core.Option.{some}
 use lib.ListN.{get_elem?}
 use Rattle.event_theory.specs.declared.event.Event.TheVariants as events
@@ -76,3 +76,29 @@ pub record WokeAll (call : ℕ) (v : View) (wait mask : ℕ) (w : View) : Type 0
   pub woken : (e : ℕ) → e < 64 → is_in mask e ≡ true → has v e ≡ false
   pub same : w ≡ holding_as v w
   pub made : (l : List Made) × (w.made ≡ notified.made ++ l) × AreTakesOf call (wait + 2) l
+
+-- One notify was made, and this is the head that it found: the position behind the last place claimed before it
+pub record NotifiedNow (call : ℕ) (v : View) (wait head : ℕ) (w : View) : Type 0 where
+  pub word : ℕ
+  pub notifies : Notifies call wait v word w
+  pub is : head ≡ head_in word
+  pub behind : head ≡ v.first + length (line_at (elements_after notifies.did.before) (wait + 2)).history
+
+-- the tail was found, and had reached this position: each place before it is taken
+pub record HasReached (v : View) (line head : ℕ) (w : View) : Type 0 where
+  pub tail : ℕ
+  pub tail_loaded : Found v (tail_word line) tail w
+  pub reached : head ≤ tail
+  pub taken : head ≤ v.first + (line_at (elements_after w.schedule) line).taken
+
+-- the tail was found before this position, and then this element, which the hand didn't hold, was taken
+pub record TookBefore (call line head : ℕ) (v : View) (element : ℕ) (w : View) : Type 0 where
+  pub tried : Tried call line head v (Ok element) w
+  pub unheld : has v element ≡ false
+
+-- the answer to a try to take what is before a position: the tail has reached it; or the oldest element of the queue;
+-- or a taking was refused
+abbrev pub BeforeAnswer : ℕ → View → ℕ → ℕ → Result (Option ℕ) NextRefusal → View → Type 0
+BeforeAnswer call v line head (Ok None) w = HasReached v line head w
+BeforeAnswer call v line head (Ok (Some element)) w = TookBefore call line head v element w
+BeforeAnswer call v line head (Err refusal) w = Tried call line head v (Err refusal) w

@@ -1,5 +1,6 @@
 //! What a call leaves to its hand as it was, and where a closed table tells what was put behind the free elements.
 ghost use Rattle.std.specs.Prelude.{◌≡◌, ◌<◌, ◌≤◌, ℕ, Bool, true, false, List, length, slice_index_or, Result, Ok, Err};
+ghost use Rattle.std.specs.Prelude.{Option, None};
 ghost use Rattle.thread_table.specs.declared.rule.View.{View};
 ghost use Rattle.thread_table.specs.declared.takings.NextRefusal.{NextRefusal};
 ghost use Rattle.thread_table.specs.declared.moves.MoveRefusal.{MoveRefusal};
@@ -15,16 +16,20 @@ ghost use Rattle.thread_table.specs.Retiring.{free_takings, was_freed};
 ghost use Rattle.thread_table.specs.Steps.{Found, Counts};
 ghost use Rattle.thread_table.specs.Answers.{TakeAnswer, MoveAnswer, WaitAnswer, IsTicket, StoppedNow, StartAnswer};
 ghost use Rattle.thread_table.specs.Answers.{ParkAnswer, SignalAnswer, DeliverAnswer, DoneAnswer};
-ghost use Rattle.thread_table.specs.Wakes.{WokeAll};
+ghost use Rattle.thread_table.specs.Wakes.{WokeAll, NotifiedNow, BeforeAnswer};
 ghost use Rattle.thread_table.specs.Keeping.{Keeps, Stays};
 
 /// A call that only looked, or that was refused, leaves to its hand all that it has, and made no event.
 ///
 /// These are the refusals of all takings, moves, starts, parks, deliveries and counts, and the answers that come
-/// without an event: a ticket, the steps done, and a start, a park or a delivery where there is nothing to do.
+/// without an event: a ticket, the steps done, a start, a park or a delivery where there is nothing to do, and a try to
+/// take what is before a position that the tail has reached.
 pub fn refusals_stay()
     ensures looks { (v w : View) (word found : ℕ) → Found v word found w → Stays v w }
     ensures takes { (call line : ℕ) (v w : View) (r : NextRefusal) → TakeAnswer call v line (Err r) w → Stays v w }
+    ensures befores { (call line head : ℕ) (v w : View) (r : NextRefusal) → BeforeAnswer call v line head (Err r) w
+        → Stays v w }
+    ensures reached { (call line head : ℕ) (v w : View) → BeforeAnswer call v line head (Ok None) w → Stays v w }
     ensures moves { (call line element : ℕ) (v w : View) (r : MoveRefusal)
         → MoveAnswer call v line element (Err r) w → Stays v w }
     ensures waits { (call wait element ticket : ℕ) (v w : View) (r : MoveRefusal)
@@ -42,8 +47,8 @@ pub fn refusals_stay()
     ensures spent { (call element : ℕ) (v w : View) (r : Spent) → DoneAnswer call v element (Err r) w → Stays v w }
 {}
 
-/// No taking, move, mark, start, park, delivery, step or wake changes the processors that its hand serves, what it has
-/// on them, or its share.
+/// No taking, move, mark, start, park, delivery, step, notify or wake changes the processors that its hand serves, what
+/// it has on them, or its share.
 pub fn answers_keep()
     ensures takes { (call line : ℕ) (v w : View) (r : Result ℕ NextRefusal) → TakeAnswer call v line r w
         → Keeps v w }
@@ -63,6 +68,9 @@ pub fn answers_keep()
     ensures steps { (call element : ℕ) (v w : View) (r : Result ℕ Spent) → DoneAnswer call v element r w
         → Keeps v w }
     ensures wakes { (call wait mask : ℕ) (v w : View) → WokeAll call v wait mask w → Keeps v w }
+    ensures notifies { (call wait head : ℕ) (v w : View) → NotifiedNow call v wait head w → Keeps v w }
+    ensures befores { (call line head : ℕ) (v w : View) (r : Result (Option ℕ) NextRefusal)
+        → BeforeAnswer call v line head r w → Keeps v w }
 {}
 
 /// A closed table began with 64 free elements. Where the list of the hand that closed it has no more takings of free

@@ -1,13 +1,14 @@
-//! Waking all that wait.
+//! Waking all that wait: in one call that waits, or by a notify and tries, none of which waits.
 ghost use Rattle.std.specs.Prelude.{◌≡◌, ◌+◌};
 ghost use Rattle.thread_table.specs.Handles.{view_of, call_of, IsHandOf, IsSameHand};
-ghost use Rattle.thread_table.specs.Wakes.{WokeAll};
+ghost use Rattle.thread_table.specs.Wakes.{WokeAll, NotifiedNow, BeforeAnswer};
 
 use crate::hand::{Hand, ThreadTable};
 use crate::steps::{add_notify, load_tail};
+use crate::takings::NextRefusal;
 use crate::words::{HeadWord, of_wait};
 use crossbeam_utils::Backoff;
-use event_theory::WaitNumber;
+use event_theory::{Element, WaitNumber};
 use std::marker::Brand;
 use std::sync::Wait;
 
@@ -38,5 +39,42 @@ impl ThreadTable {
             }
         }
         unreachable!()
+    }
+
+    /// Makes one notify of a wait queue, by one step, which counts its number of notifies one up. Gives the head that
+    /// the step found: the position behind the last place that was claimed before it.
+    ///
+    /// With `try_wake_before` it is a wake of all that never waits: a notify, and then tries until one gives None.
+    pub fn notify(&self, hand: &mut Hand, wait: WaitNumber) -> u32
+        requires { IsHandOf self.now hand.old }
+        ensures table { IsSameHand hand.old hand.new }
+        ensures notified { NotifiedNow (call_of hand.old) (view_of hand.old) wait result (view_of hand.new) }
+    {
+        let found = add_notify::<Brand>(&self.table.shared, &mut hand.seat, wait.number());
+        HeadWord::of(found).head as u32
+    }
+
+    /// Loads the tail of a wait queue. None where it has reached the position `head`: each place before it is taken.
+    /// Else it takes the oldest element, as `try_wake` does, which the hand then holds; the refusals are those of
+    /// `try_wake`.
+    ///
+    /// Where another hand takes between the load and the taking, the element may be of a place behind `head`.
+    pub fn try_wake_before(
+        &self,
+        hand: &mut Hand,
+        wait: WaitNumber,
+        head: u32,
+    ) -> Result<Option<Element>, NextRefusal>
+        requires { IsHandOf self.now hand.old }
+        ensures table { IsSameHand hand.old hand.new }
+        ensures taken { BeforeAnswer (call_of hand.old) (view_of hand.old) (wait + 2) head result (view_of hand.new) }
+    {
+        let line = of_wait(wait.number());
+        let reached = load_tail(&self.table.shared, &mut hand.seat, line);
+        if u64::from(head) <= reached {
+            return Ok(None);
+        }
+        let element = self.take_first(hand, line)?;
+        Ok(Some(element))
     }
 }

@@ -26,6 +26,9 @@ pub(crate) enum Act {
     Ticket(u8, u32),
     Wake(u8, u8),
     WakeAll(u8, u64),
+    /// The head that a notify of a wait queue finds; what a try to take there before a position answers.
+    Notify(u8, u32),
+    WakeBefore(u8, u32, Result<Option<u8>, NextRefusal>),
     /// On this processor the element is put, and from it one is taken.
     On(u8, u8, Result<(), ProcessorBusy>),
     Off(u8, Option<u8>),
@@ -155,6 +158,22 @@ fn delivers<R: Abort>(rt: &R, table: &ThreadTable, hand: &mut Hand, e: u8, mask:
     table.try_deliver(hand, element) == Ok(mask)
 }
 
+/// Tries to take what is before a position of a wait queue, and is answered so.
+fn wakes_before<R: Abort>(
+    rt: &R,
+    table: &ThreadTable,
+    hand: &mut Hand,
+    w: u8,
+    head: u32,
+    wanted: Result<Option<u8>, NextRefusal>,
+) -> bool
+    requires { IsHandOf table.now hand.old }
+    ensures { IsSameHand hand.old hand.new }
+{
+    let answer = table.try_wake_before(hand, wait_queue(rt, w), head);
+    answer.map(|woken| woken.map(Element::number)) == wanted
+}
+
 /// Whether what the hand does with an element is answered as it says.
 fn tends<R: Abort>(rt: &R, table: &ThreadTable, hand: &mut Hand, act: &Act) -> bool
     requires { IsHandOf table.now hand.old }
@@ -191,6 +210,8 @@ fn as_said<R: Abort + Wait>(rt: &R, table: &ThreadTable, hand: &mut Hand, act: &
             .map(Element::number)
             == Ok(*e),
         Act::WakeAll(w, mask) => table.wake_all(rt, hand, wait_queue(rt, *w)) == *mask,
+        Act::Notify(w, head) => table.notify(hand, wait_queue(rt, *w)) == *head,
+        Act::WakeBefore(w, head, wanted) => wakes_before(rt, table, hand, *w, *head, *wanted),
         Act::On(p, e, wanted) => puts_on(rt, table, hand, *p, *e, *wanted),
         Act::Off(p, wanted) => takes_off(rt, table, hand, *p, *wanted),
         _ => tends(rt, table, hand, act),

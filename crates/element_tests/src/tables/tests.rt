@@ -1,8 +1,8 @@
-ghost use Rattle.std.specs.Prelude.{◌≡◌, ◌+◌, true, Some, IfOk};
+ghost use Rattle.std.specs.Prelude.{◌≡◌, ◌+◌, true, false, Some, IfOk, IfSome};
 ghost use Rattle.thread_table.specs.Handles.{view_of, IsHandOf, IsSameHand};
 ghost use Rattle.thread_table.specs.Rules.{has, serves, running};
 
-use crate::fixtures::{begins, element, is_told, processor, wait_queue};
+use crate::fixtures::{begins, closes, element, is_told, processor, wait_queue};
 use crate::tables::scripts::{Act, does, free, plays};
 use event_theory::{Element, OutOfMemory, Processor, WaitNumber};
 use std::alloc::Global;
@@ -28,6 +28,21 @@ fn wake_and_take_off<R: Wait>(
 {
     let woken = table.wake_all(rt, hand, wait);
     (woken, table.off(hand, processor))
+}
+
+/// Notifies, and tries once to take: that what was taken wasn't held before, and is held now, is proved, not tried.
+fn notify_and_try(
+    table: &ThreadTable,
+    hand: &mut Hand,
+    wait: WaitNumber,
+) -> Result<Option<Element>, NextRefusal>
+    requires table { IsHandOf table.now hand.old }
+    ensures table { IsSameHand hand.old hand.new }
+    ensures taken { IfOk result (λ woken. IfSome woken (λ element. (has (view_of hand.old) element ≡ false)
+        × (has (view_of hand.new) element ≡ true))) }
+{
+    let head = table.notify(hand, wait);
+    table.try_wake_before(hand, wait, head)
 }
 
 /// The number of steps, and then one step more: that no other counts between the two is proved, not tried.
@@ -212,6 +227,58 @@ const THREE_WAIT: &[Act] = &[
 fn three_wake_once(rt: HostRuntime) {
     let places = [(0, Place::Held), (1, Place::Held), (2, Place::Held)];
     plays(&rt, rt.alloc(), 0, THREE_WAIT, &places);
+}
+
+const NOTIFIED: &[Act] = &[
+    Act::Free(0),
+    Act::Free(1),
+    Act::Free(2),
+    Act::Wait(1, 4),
+    Act::Wait(0, 4),
+    Act::Notify(4, 2),
+    Act::Wait(2, 4),
+    Act::Ticket(4, 1),
+    Act::WakeBefore(4, 2, Ok(Some(1))),
+    Act::WakeBefore(4, 2, Ok(Some(0))),
+    Act::WakeBefore(4, 2, Ok(None)),
+];
+
+/// Of those that wait two are taken, which waited at the notify, and one stays, which came behind it.
+#[test]
+fn notified_are_taken(rt: HostRuntime) {
+    let places = [(0, Place::Held), (1, Place::Held), (2, Place::Wait(4))];
+    plays(&rt, rt.alloc(), 0, NOTIFIED, &places);
+}
+
+/// Of two that wait a notify and one try take the first.
+#[test]
+fn one_is_taken(rt: HostRuntime) {
+    let (table, mut first) = begins(&rt, rt.alloc(), 0);
+    let (a, w2) = (&mut first, wait_queue(&rt, 2));
+    does(&rt, &table, a, &TWO_WAIT[..4]);
+    assert!(rt; notify_and_try(&table, a, w2) == Ok(Some(element(&rt, 0))));
+    assert!(rt; notify_and_try(&table, a, w2) == Ok(Some(element(&rt, 1))));
+    assert!(rt; notify_and_try(&table, a, w2) == Ok(None));
+    closes(&rt, table, first, &[(0, Place::Held), (1, Place::Held)]);
+}
+
+const NOTIFIED_LATE: &[Act] = &[
+    Act::Notify(15, 4_294_967_231),
+    Act::WakeBefore(15, 4_294_967_231, Ok(None)),
+    Act::Free(0),
+    Act::Wait(0, 15),
+    Act::Notify(15, 4_294_967_232),
+    Act::WakeBefore(15, 4_294_967_232, Ok(Some(0))),
+    Act::WakeBefore(15, 4_294_967_232, Ok(None)),
+    Act::WakeBefore(15, 4_294_967_295, Err(NextRefusal::NoneReady)),
+    Act::Ticket(15, 2),
+];
+
+/// A notify tells the position, behind the first one of the table; behind the head there is nothing to take.
+#[test]
+fn late_positions_are_notified(rt: HostRuntime) {
+    let places = [(0, Place::Held), (1, Place::Free)];
+    plays(&rt, rt.alloc(), 4_294_967_231, NOTIFIED_LATE, &places);
 }
 
 #[test]

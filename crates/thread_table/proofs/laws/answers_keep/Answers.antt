@@ -1,4 +1,4 @@
-use Rattle.thread_table.proofs.Keeping.{take_keeps, move_keeps, wait_keeps, stop_keeps, start_keeps, park_keeps, signal_keeps, deliver_keeps, done_keeps, wake_keeps}
+use Rattle.thread_table.proofs.Keeping.{take_keeps, move_keeps, wait_keeps, stop_keeps, start_keeps, park_keeps, signal_keeps, deliver_keeps, done_keeps, wake_keeps, notify_keeps, before_keeps}
 use Rattle.thread_table.proofs.laws.answers_keep.Goals as goal
 
 pub returns-clause-takes : goal.returns-clause-takes
@@ -30,3 +30,9 @@ returns-clause-steps c = done_keeps
 
 pub returns-clause-wakes : goal.returns-clause-wakes
 returns-clause-wakes c = wake_keeps
+
+pub returns-clause-notifies : goal.returns-clause-notifies
+returns-clause-notifies c = notify_keeps
+
+pub returns-clause-befores : goal.returns-clause-befores
+returns-clause-befores c = before_keeps

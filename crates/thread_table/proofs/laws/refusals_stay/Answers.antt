@@ -1,4 +1,4 @@
-use Rattle.thread_table.proofs.Keeping.{stays_found, take_stays, move_stays, wait_stays, start_stays, park_stays, deliver_stays, counts_stay}
+use Rattle.thread_table.proofs.Keeping.{stays_found, take_stays, move_stays, wait_stays, start_stays, park_stays, deliver_stays, counts_stay, before_stays}
 use Rattle.thread_table.proofs.laws.refusals_stay.Goals as goal
 
 pub returns-clause-looks : goal.returns-clause-looks
@@ -39,3 +39,9 @@ returns-clause-counts c = counts_stay
 
 pub returns-clause-spent : goal.returns-clause-spent
 returns-clause-spent c = λ call element v w r a. counts_stay element 4294967295 v w a
+
+pub returns-clause-befores : goal.returns-clause-befores
+returns-clause-befores c = before_stays
+
+pub returns-clause-reached : goal.returns-clause-reached
+returns-clause-reached c = λ call line head v w a. stays_found v w _ _ a.tail_loaded

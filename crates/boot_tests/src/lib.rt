@@ -1,0 +1,16 @@
+//! The tests of `objects` with `first_station`, `reporting`, `kernel_threads` and `synth_kernel`, in a crate of their own:
+//! beside each they would prove it once more, and a crate for each would have all below built for each.
+#![tactic(auto)]
+
+#[cfg(test)]
+mod boots;
+#[cfg(test)]
+mod crews;
+#[cfg(test)]
+mod fixtures;
+#[cfg(test)]
+mod heard;
+#[cfg(test)]
+mod kernels;
+#[cfg(test)]
+mod making;

@@ -1,0 +1,10 @@
+//! The tests of `processor` and `closing`, in a crate of their own: turns of stations, and what the tables close with.
+//! Beside each of the two they would prove it once more.
+#![tactic(auto)]
+
+#[cfg(test)]
+mod closes;
+#[cfg(test)]
+mod fixtures;
+#[cfg(test)]
+mod turns;

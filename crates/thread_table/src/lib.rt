@@ -28,7 +28,8 @@
 //!
 //! A thread element describes a thread. Each of 64 elements is in exactly one place between any two atomic steps: on a
 //! processor, in an element queue, in its stop cell, or held by a hand. Each thread of the program has a hand, and
-//! moves the elements that it holds. All calls but `wake_all` make a bounded number of steps.
+//! moves the elements that it holds. All calls but `wake_all` make a bounded number of steps; `notify` and
+//! `try_wake_before` do its work without a wait.
 //!
 //! **Tickets.** Whoever looks at a condition and then waits may miss the wake that comes in between. So a wait queue's
 //! head word has a number of notifies beside the head. A waiter reads it first, as its ticket, then looks at the

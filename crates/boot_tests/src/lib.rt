@@ -7,6 +7,8 @@ mod boots;
 #[cfg(test)]
 mod crews;
 #[cfg(test)]
+mod examples;
+#[cfg(test)]
 mod fixtures;
 #[cfg(test)]
 mod heard;

@@ -4,6 +4,7 @@ ghost use Rattle.std.specs.Box.Ownership.{box_owns};
 
 use std::alloc::Allocator;
 use std::marker::Model;
+use std_alloc::room::Vacant;
 
 /// A box as its pointer and its allocator. It owns what the box owned: the value, and the right to free the block.
 pub struct Loose<T, A: Allocator> {
@@ -31,5 +32,25 @@ impl<T: Drop, A: Allocator> Loose<T, A> {
     {
         let Loose { at, alloc } = self;
         unsafe { Box::from_raw(alloc, at) }
+    }
+
+    /// Moves the value out. The block stays, and has room for another.
+    pub fn take_out(self) -> (T, Vacant<T, A>)
+        ensures { result.0 ≡ self.value }
+    {
+        let Loose { at, alloc } = self;
+        let value = unsafe { at.read() };
+        (value, Vacant { ptr: at, alloc })
+    }
+
+    /// Moves a value into a block that has room for it.
+    pub fn fill(room: Vacant<T, A>, value: T) -> Loose<T, A>
+        ensures { result.value ≡ value }
+    {
+        let Vacant { ptr, alloc } = room;
+        unsafe {
+            ptr.write(value);
+        }
+        Loose { at: ptr, alloc }
     }
 }

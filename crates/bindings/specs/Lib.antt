@@ -11,3 +11,4 @@ pub mod SeatAlarms
 pub mod SeatCalls
 pub mod SeatClosing
 pub mod SeatHeld
+pub mod Told

@@ -27,9 +27,9 @@ IsRoom room = (0 < room) × (room ≤ 65536)
 abbrev pub MadeLine : ℕ → ℕ → Option HeldIn → Option HeldIn → Option HeldOut → Option HeldOut → ℤ → Type 0
 MadeLine room mark old new other made code =
     ((code ≡ FullHandle) × ((is_some old ≡ true) ⊎ (is_some other ≡ true)) × (new ≡ old) × (made ≡ other))
-    ⊎ ((code ≡ BadNumber) × (IsRoom room → ⊥) × (new ≡ old) × (made ≡ other))
-    ⊎ ((code ≡ NoMemory) × IsRoom room × (new ≡ old) × (made ≡ other))
-    ⊎ ((code ≡ Done) × (old ≡ None) × (other ≡ None) × (x : HeldIn) × (z : HeldOut) × (new ≡ Some x) × (made ≡ Some z)
+    ⊎ ((code ≡ BadNumber) × (old ≡ None) × (other ≡ None) × (IsRoom room → ⊥) × (new ≡ old) × (made ≡ other))
+    ⊎ ((code ≡ NoMemory) × (old ≡ None) × (other ≡ None) × IsRoom room × (new ≡ old) × (made ≡ other))
+    ⊎ ((code ≡ Done) × (old ≡ None) × (other ≡ None) × IsRoom room × (x : HeldIn) × (z : HeldOut) × (new ≡ Some x) × (made ≡ Some z)
     × IsLine x.line z.line × IsNewIn room x.line × IsNewOut room z.line × (x.mark ≡ mark) × (z.mark ≡ mark))
 
 -- what `free_in` and `free_out` did, by their code
@@ -73,4 +73,4 @@ FinishedLine old new other made old_told told code =
     ⊎ ((code ≡ OtherObject) × (x : HeldIn) × (z : HeldOut) × (old ≡ Some x) × (other ≡ Some z) × (new ≡ old) × (made ≡ other)
     × (told ≡ old_told) × (z.mark ≡ x.mark → ⊥))
     ⊎ ((code ≡ Done) × (x : HeldIn) × (z : HeldOut) × (old ≡ Some x) × (other ≡ Some z) × (new ≡ None) × (made ≡ None)
-    × IsTold x z told)
+    × (z.mark ≡ x.mark) × IsTold x z told)

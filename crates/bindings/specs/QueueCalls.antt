@@ -15,10 +15,7 @@ use Rattle.bindings.specs.Codes.{code_of_claim, head_of_claim, tail_of_claim, co
 use Rattle.bindings.specs.QueueParts.{PutPart, TookPart, TookLinePart, TookSomePart, ShutPart, DividedPart, JoinedPart}
 use Rattle.bindings.specs.QueueHeld.{AtSize, AtSizes, IsSize, HaveOneMark, AreOfOneQueue, IsNewHeld, places_of, parts_of}
 use Rattle.bindings.specs.QueueOutcomes.{EndedHeld}
-
--- nothing changed, or an end was split off and joined again
-abbrev pub Rejoined : HeldQueue → HeldQueue → Type 0
-Rejoined x y = (y ≡ x) ⊎ ((between z : HeldQueue) × AtSizes DividedPart x between z × AtSizes JoinedPart between y z)
+use Rattle.bindings.specs.Told.{IsCodeAlone}
 
 -- Two handles whose queues have one mark are of one queue: each queue has a mark of its own
 abbrev pub MarksTell : Option HeldQueue → Option HeldQueue → Type 0
@@ -42,15 +39,15 @@ abbrev pub FreedHandle : Option HeldQueue → Option HeldQueue → ℤ → Type 
 FreedHandle old new code =
     ((code ≡ EmptyHandle) × (old ≡ None) × (new ≡ None)) ⊎ ((code ≡ Done) × (is_some old ≡ true) × (new ≡ None))
 
--- What `split` did, by its code. Where no box can be had, the new end is joined again
+-- what `split` did, by its code
 abbrev pub SplitQueue : Option HeldQueue → Option HeldQueue → Option HeldQueue → Option HeldQueue → ℤ → Type 0
 SplitQueue old new other made code =
     ((code ≡ EmptyHandle) × (old ≡ None) × (new ≡ None) × (made ≡ other))
     ⊎ ((code ≡ FullHandle) × (is_some old ≡ true) × (new ≡ old) × (is_some other ≡ true) × (made ≡ other))
     ⊎ ((code ≡ NoShare) × (other ≡ None) × (made ≡ None) × (x : HeldQueue) × (old ≡ Some x) × (new ≡ Some x) × (parts_of x < 2))
-    ⊎ ((code ≡ NoMemory) × (other ≡ None) × (made ≡ None) × (x y : HeldQueue) × (old ≡ Some x) × (new ≡ Some y) × Rejoined x y)
+    ⊎ ((code ≡ NoMemory) × (other ≡ None) × (made ≡ None) × (x : HeldQueue) × (old ≡ Some x) × (new ≡ Some x) × (2 ≤ parts_of x))
     ⊎ ((code ≡ Done) × (other ≡ None) × (x y z : HeldQueue) × (old ≡ Some x) × (new ≡ Some y) × (made ≡ Some z)
-    × AtSizes DividedPart x y z)
+    × (2 ≤ parts_of x) × AtSizes DividedPart x y z)
 
 -- what `join` did, by its code
 abbrev pub JoinedQueue : Option HeldQueue → Option HeldQueue → Option HeldQueue → Option HeldQueue → ℤ → Type 0
@@ -59,7 +56,7 @@ JoinedQueue old new other left code =
     ⊎ ((code ≡ OtherObject) × (x z : HeldQueue) × (old ≡ Some x) × (other ≡ Some z) × (new ≡ old) × (left ≡ other)
     × (HaveOneMark x z → ⊥))
     ⊎ ((code ≡ Done) × (x y z : HeldQueue) × (old ≡ Some x) × (other ≡ Some z) × (new ≡ Some y) × (left ≡ None)
-    × AtSizes JoinedPart x y z)
+    × HaveOneMark x z × AtSizes JoinedPart x y z)
 
 -- The handle is still for the same end, and C is told what the library's `try_put` answered
 pub record WasPut (x : HeldQueue) (items : List ℕ) (new : Option HeldQueue) (told : SynthAnswer) : Type 0 where
@@ -117,11 +114,11 @@ pub record WasTakenUpTo (x : HeldQueue) (old_items items : List ℕ) (count : �
   pub head : told.head ≡ 0
   pub tail : told.tail ≡ tail_of_some refusal
 
--- The queue is closed, and the numbers are told; or other handles share it; or ends were freed, and it is gone
+-- The queue is closed, and the numbers are told; or other handles share it, and the handle holds what it held; or ends were
+-- freed, and the queue is gone
 abbrev pub IsToldEnding : Outcome → Option HeldQueue → SynthClosed → SynthClosed → ℤ → Type 0
 IsToldEnding (ended.Closed c) new old told code = (code ≡ Done) × (new ≡ None) × (told ≡ c)
-IsToldEnding (ended.Open y) new old told code = (told ≡ old)
-    × (((code ≡ Open) × (new ≡ Some y)) ⊎ ((code ≡ NoMemory) × (new ≡ None)))
+IsToldEnding (ended.Open y) new old told code = (code ≡ Open) × (new ≡ Some y) × (told ≡ old)
 IsToldEnding (ended.Freed c) new old told code = (code ≡ Freed) × (new ≡ None) × (told ≡ c)
 
 -- C is told what became of the queue
@@ -134,13 +131,13 @@ pub record WasEnded (x : HeldQueue) (old_items items : List ℕ) (new : Option H
 -- the buffer was too short, and nothing happened; or the line was taken
 abbrev pub WasLineTold : HeldQueue → List ℕ → List ℕ → ℕ → ℕ → Option HeldQueue → SynthAnswer → Type 0
 WasLineTold x old_line line old_count count new told =
-    ((told.code ≡ ShortBuffer) × (length old_line < places_of x) × (new ≡ Some x) × (line ≡ old_line) × (count ≡ old_count))
+    (IsCodeAlone ShortBuffer told × (length old_line < places_of x) × (new ≡ Some x) × (line ≡ old_line) × (count ≡ old_count))
     ⊎ ((places_of x ≤ length old_line) × WasLineTaken x old_line line old_count count new told)
 
 -- the buffer has no room, and nothing happened; or items were taken
 abbrev pub WasSomeTold : HeldQueue → List ℕ → List ℕ → ℕ → ℕ → Option HeldQueue → SynthAnswer → Type 0
 WasSomeTold x old_items items old_count count new told =
-    ((told.code ≡ ShortBuffer) × (length old_items ≡ 0) × (new ≡ Some x) × (items ≡ old_items) × (count ≡ old_count))
+    (IsCodeAlone ShortBuffer told × (length old_items ≡ 0) × (new ≡ Some x) × (items ≡ old_items) × (count ≡ old_count))
     ⊎ ((0 < length old_items) × WasTakenUpTo x old_items items count new told)
 
 -- the buffer was too short, and nothing happened; or the queue was closed, or was not

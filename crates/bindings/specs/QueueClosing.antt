@@ -13,14 +13,15 @@ use Rattle.bindings.specs.declared.queue.part.Part.{Part}
 use Rattle.bindings.specs.declared.queue.closing.Ending.{Ending}
 use Rattle.bindings.specs.declared.queue.closing.Ending.TheVariants.{Closed, Open, Freed}
 
--- The queue is closed, and what was left lies at the beginning of the buffer
+-- The queue is closed, no end was freed, and what was left lies at the beginning of the buffer
 abbrev pub ClosedInto : List ℕ → List ℕ → SynthClosed → (n : ℕ) → ClaimQueue n → QueueEnd n → Type 0
-ClosedInto old new c n queue end = (c.first ≡ first_of queue) × (c.left ≤ n) × IsKeptFrom c.left old new
+ClosedInto old new c n queue end = (c.first ≡ first_of queue) × (c.freed ≡ 0) × (c.left ≤ n) × IsKeptFrom c.left old new
     × ClosedNow (view_of end) c.first c.put c.taken (map Some (take c.left new))
 
--- Other ends stand, which were freed. What could be taken was taken into the buffer
+-- Other ends stand, which were freed, and their number is told. What could be taken was taken into the buffer
 abbrev pub FreedInto : List ℕ → List ℕ → SynthClosed → (n : ℕ) → QueueEnd n → Type 0
-FreedInto old new c n end = IsKeptFrom c.left old new × (v w : View) × (r : Option TakeRefusal)
+FreedInto old new c n end = (c.first ≡ 0) × (c.put ≡ 0) × (c.taken ≡ 0) × (c.left ≤ length old) × IsKeptFrom c.left old new
+    × (v w : View) × (r : Option TakeRefusal)
     × WereOpen (view_of end) c.freed v × TookSome n (call_of end) v (take c.left new) (length old) r w
 
 -- what became of a queue that no other handle shares

@@ -1,5 +1,5 @@
 -- What the calls of a queue do to an end of it. Each says what the library's call says.
-use Rattle.std.specs.Prelude.{◌≡◌, ◌≤◌, ℕ, Bool, take, List, [], ◌∷◌, length, Result, MatchResult}
+use Rattle.std.specs.Prelude.{◌≡◌, ◌≤◌, ◌+◌, ℕ, Bool, take, List, [], ◌∷◌, length, min, Result, MatchResult}
 use Rattle.std.specs.Arc.{arc_value}
 use Rattle.std.specs.declared.option.Option.{Option}
 use Rattle.table_theory.specs.Sharing.{given, kept, the_whole}
@@ -66,6 +66,7 @@ DividedPart n x y born = IsSamePart n x y × (arc_value born.queue ≡ arc_value
     × (born.parts ≡ given x.parts) × (y.parts ≡ kept x.parts)
     × Divided (view_of x.end) (view_of y.end) × IsNewborn (view_of x.end) (view_of y.end) (view_of born.end)
 
--- `join` took the other end in
+-- `join` took the other end in, with its parts
 abbrev pub JoinedPart : (n : ℕ) → Part n → Part n → Part n → Type 0
 JoinedPart n x y other = IsSamePart n x y × TookIn (view_of x.end) (view_of other.end) (view_of y.end)
+    × (y.parts ≡ min (x.parts + other.parts) the_whole)

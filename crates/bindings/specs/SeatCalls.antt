@@ -16,14 +16,11 @@ use Rattle.bindings.specs.declared.seat.closing.Outcome.TheVariants as ended
 use Rattle.bindings.specs.declared.seat.SynthMetered.{SynthMetered}
 use Rattle.bindings.specs.Hiding.{is_some}
 use Rattle.bindings.specs.Codes.{Done, Open, NoMemory, EmptyHandle, FullHandle, OtherObject, NoShare, ShortBuffer, BadNumber, Freed}
-use Rattle.bindings.specs.SeatAlarms.{alarm_told, IsNoAlarm, IsRestKept}
+use Rattle.bindings.specs.SeatAlarms.{alarm_told, IsAlarm, IsNoAlarm, IsRestKept, IsBlankFrom}
 use Rattle.bindings.specs.SeatHeld.{IsNewSeat, Divided, Joined, AreOfOneTable, HaveOneMark, WasTicked, WasAdvanced, WasSet}
 use Rattle.bindings.specs.SeatHeld.{WasCancelled, WereFired}
 use Rattle.bindings.specs.SeatClosing.{Ended}
-
--- nothing changed, or an end was split off and joined again
-abbrev pub Rejoined : HeldSeat → HeldSeat → Type 0
-Rejoined x y = (y ≡ x) ⊎ ((between z : HeldSeat) × Divided x between z × Joined between y z)
+use Rattle.bindings.specs.Told.{IsCodeAlone}
 
 -- Two handles whose meters have one mark are of the same meters: all meters have a mark of their own
 abbrev pub MarksTell : Option HeldSeat → Option HeldSeat → Type 0
@@ -46,15 +43,15 @@ abbrev pub FreedHandle : Option HeldSeat → Option HeldSeat → ℤ → Type 0
 FreedHandle old new code =
     ((code ≡ EmptyHandle) × (old ≡ None) × (new ≡ None)) ⊎ ((code ≡ Done) × (is_some old ≡ true) × (new ≡ None))
 
--- What `split` did, by its code. Where no box can be had, the new end is joined again
+-- what `split` did, by its code
 abbrev pub SplitMeters : Option HeldSeat → Option HeldSeat → Option HeldSeat → Option HeldSeat → ℤ → Type 0
 SplitMeters old new other made code =
     ((code ≡ EmptyHandle) × (old ≡ None) × (new ≡ None) × (made ≡ other))
     ⊎ ((code ≡ FullHandle) × (is_some old ≡ true) × (new ≡ old) × (is_some other ≡ true) × (made ≡ other))
     ⊎ ((code ≡ NoShare) × (other ≡ None) × (made ≡ None) × (x : HeldSeat) × (old ≡ Some x) × (new ≡ Some x) × (x.parts < 2))
-    ⊎ ((code ≡ NoMemory) × (other ≡ None) × (made ≡ None) × (x y : HeldSeat) × (old ≡ Some x) × (new ≡ Some y) × Rejoined x y)
+    ⊎ ((code ≡ NoMemory) × (other ≡ None) × (made ≡ None) × (x : HeldSeat) × (old ≡ Some x) × (new ≡ Some x) × (2 ≤ x.parts))
     ⊎ ((code ≡ Done) × (other ≡ None) × (x y z : HeldSeat) × (old ≡ Some x) × (new ≡ Some y) × (made ≡ Some z)
-    × Divided x y z)
+    × (2 ≤ x.parts) × Divided x y z)
 
 -- what `join` did, by its code
 abbrev pub JoinedMeters : Option HeldSeat → Option HeldSeat → Option HeldSeat → Option HeldSeat → ℤ → Type 0
@@ -63,7 +60,7 @@ JoinedMeters old new other left code =
     ⊎ ((code ≡ OtherObject) × (x z : HeldSeat) × (old ≡ Some x) × (other ≡ Some z) × (new ≡ old) × (left ≡ other)
     × (HaveOneMark x z → ⊥))
     ⊎ ((code ≡ Done) × (x y z : HeldSeat) × (old ≡ Some x) × (other ≡ Some z) × (new ≡ Some y) × (left ≡ None)
-    × Joined x y z)
+    × HaveOneMark x z × Joined x y z)
 
 -- what `tick` did, by its code
 abbrev pub TickTold : HeldSeat → ℕ → ℕ → ℕ → ℕ → Option HeldSeat → ℤ → Type 0
@@ -121,33 +118,33 @@ pub record WasSetTold (x : HeldSeat) (alarm : SynthAlarm) (old_slot slot : ℕ) 
 -- what `try_set` did: no such alarm is told as a number out of its range
 abbrev pub SetTold : HeldSeat → SynthAlarm → ℕ → ℕ → Option HeldSeat → SynthAnswer → Type 0
 SetTold x alarm old_slot slot new told =
-    ((told.code ≡ BadNumber) × IsNoAlarm alarm × (new ≡ Some x) × (slot ≡ old_slot))
-    ⊎ WasSetTold x alarm old_slot slot new told
+    (IsCodeAlone BadNumber told × IsNoAlarm alarm × (new ≡ Some x) × (slot ≡ old_slot))
+    ⊎ (IsAlarm alarm × WasSetTold x alarm old_slot slot new told)
 
 -- what `cancel` did, by its code
 abbrev pub CancelTold : HeldSeat → ℕ → SynthAlarm → Bool → Bool → Option HeldSeat → ℤ → Type 0
 CancelTold x slot alarm old_answer answer new code =
     ((code ≡ BadNumber) × ((16 ≤ slot) ⊎ IsNoAlarm alarm) × (new ≡ Some x) × (answer ≡ old_answer))
-    ⊎ ((code ≡ Done) × (slot < 16) × (is : Alarm) × (alarm_told is ≡ alarm) × (y : HeldSeat) × (new ≡ Some y)
+    ⊎ ((code ≡ Done) × (slot < 16) × IsAlarm alarm × (is : Alarm) × (alarm_told is ≡ alarm) × (y : HeldSeat) × (new ≡ Some y)
     × WasCancelled slot is answer x y)
 
 -- what `due` did, by its code: the alarms lie at the beginning of the buffer
 abbrev pub DueTold : HeldSeat → List SynthAlarm → List SynthAlarm → ℕ → ℕ → Option HeldSeat → ℤ → Type 0
 DueTold x old_alarms alarms old_count count new code =
     ((code ≡ ShortBuffer) × (length old_alarms < 16) × (new ≡ Some x) × (alarms ≡ old_alarms) × (count ≡ old_count))
-    ⊎ ((code ≡ Done) × (fired : List Alarm) × (count ≡ length fired) × (take count alarms ≡ map alarm_told fired)
+    ⊎ ((code ≡ Done) × (16 ≤ length old_alarms) × (fired : List Alarm) × (count ≡ length fired)
+    × (take count alarms ≡ map alarm_told fired)
     × IsRestKept count old_alarms alarms × (y : HeldSeat) × (new ≡ Some y) × WereFired fired x y)
 
 -- what C is told of meters that were closed
 abbrev pub IsToldMetered : Metered → SynthMetered → Type 0
 IsToldMetered c told = (told.gauges ≡ c.gauges) × (told.clock ≡ c.clock) × (told.alarms ≡ length c.alarms.items)
-    × (take told.alarms told.alarm ≡ map alarm_told c.alarms.items) × (told.freed ≡ 0)
+    × (take told.alarms told.alarm ≡ map alarm_told c.alarms.items) × IsBlankFrom told.alarms told.alarm × (told.freed ≡ 0)
 
--- what C is told of the end of meters
+-- what C is told of the end of meters. Where other handles share them, the handle holds what it held
 abbrev pub IsToldEnding : Outcome → Option HeldSeat → SynthMetered → SynthMetered → ℤ → Type 0
 IsToldEnding (ended.Closed c) new old told code = (code ≡ Done) × (new ≡ None) × IsToldMetered c told
-IsToldEnding (ended.Open y) new old told code = (told ≡ old)
-    × (((code ≡ Open) × (new ≡ Some y)) ⊎ ((code ≡ NoMemory) × (new ≡ None)))
+IsToldEnding (ended.Open y) new old told code = (code ≡ Open) × (new ≡ Some y) × (told ≡ old)
 IsToldEnding (ended.Freed others) new old told code = (code ≡ Freed) × (new ≡ None)
     × (told ≡ record old { freed = others })
 

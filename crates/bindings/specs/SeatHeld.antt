@@ -1,5 +1,5 @@
 -- What the calls of meters do to an end of them. Each says what the library's call says.
-use Rattle.std.specs.Prelude.{◌≡◌, ℕ, Bool, List, Result, MatchResult}
+use Rattle.std.specs.Prelude.{◌≡◌, ◌+◌, ℕ, Bool, List, min, Result, MatchResult}
 use Rattle.std.specs.Arc.{arc_value}
 use Rattle.table_theory.specs.Sharing.{given, kept, the_whole}
 use Rattle.event_theory.specs.declared.alarm.Alarm.{Alarm}
@@ -41,9 +41,10 @@ Divided x y born = IsSameHeld x y × (arc_value born.meters ≡ arc_value x.mete
     × endings.Divided (view_of x.seat) (view_of y.seat)
     × endings.IsNewborn (view_of x.seat) (view_of y.seat) (view_of born.seat)
 
--- `join` took the other end in
+-- `join` took the other end in, with its parts
 abbrev pub Joined : HeldSeat → HeldSeat → HeldSeat → Type 0
 Joined x y other = IsSameHeld x y × endings.TookIn (view_of x.seat) (view_of other.seat) (view_of y.seat)
+    × (y.parts ≡ min (x.parts + other.parts) the_whole)
 
 -- `tick` gave this value of the gauge, the one before
 abbrev pub WasTicked : ℕ → ℕ → ℕ → HeldSeat → HeldSeat → Type 0

@@ -2,6 +2,7 @@
 ghost use Rattle.std.specs.Prelude.{◌≡◌};
 ghost use Rattle.bindings.specs.Codes.{code_of_claim, head_of_claim, tail_of_claim, code_of_take, tail_of_take};
 ghost use Rattle.bindings.specs.Codes.{code_of_some, tail_of_some};
+ghost use Rattle.bindings.specs.Told.{IsCodeAlone};
 
 use claim_queue::{ClaimRefusal, TakeRefusal};
 
@@ -65,7 +66,7 @@ pub struct SynthClosed {
 
 /// The code alone.
 pub fn told(code: i32) -> SynthAnswer
-    ensures { (result.code ≡ code) × (result.head ≡ 0) × (result.tail ≡ 0) }
+    ensures { IsCodeAlone code result }
 {
     SynthAnswer {
         code,

@@ -137,7 +137,7 @@ pub extern "C" fn synth_line_free_in(alloc: Global, input: &mut HandleIn) -> i32
     ensures { FreedHandle input.old.hidden.value input.new.hidden.value result }
 {
     match input.take(alloc) {
-        Some(_held) => DONE,
+        Some(_first) => DONE,
         None => EMPTY_HANDLE,
     }
 }
@@ -148,7 +148,7 @@ pub extern "C" fn synth_line_free_out(alloc: Global, output: &mut HandleOut) -> 
     ensures { FreedHandle output.old.hidden.value output.new.hidden.value result }
 {
     match output.take(alloc) {
-        Some(_held) => DONE,
+        Some(_second) => DONE,
         None => EMPTY_HANDLE,
     }
 }

@@ -3,10 +3,11 @@ ghost use Rattle.std.specs.Prelude.{◌≡◌, ◌<◌, ◌≤◌, length};
 ghost use Rattle.std.specs.Option.{MatchOption};
 ghost use Rattle.std.specs.declared.option.Option.TheVariants.{None};
 ghost use Rattle.bindings.specs.Codes.{Done, EmptyHandle};
-ghost use Rattle.bindings.specs.QueueCalls.{MadeQueue, FreedHandle, SplitQueue, Rejoined, JoinedQueue, MarksTell};
+ghost use Rattle.bindings.specs.QueueCalls.{MadeQueue, FreedHandle, SplitQueue, JoinedQueue, MarksTell};
 ghost use Rattle.bindings.specs.QueueHeld.{AtSizes, parts_of};
 ghost use Rattle.bindings.specs.QueueParts.{DividedPart};
 ghost use Rattle.bindings.specs.QueueCalls.{HoldsThen, WasPut, WasTaken, WasSomeTold, WasLineTold, WasShut, WasClosed};
+ghost use Rattle.bindings.specs.Told.{IsCodeAlone};
 
 mod closing;
 mod handle;
@@ -22,6 +23,7 @@ use crate::answer::{
 use closing::Outcome;
 use handle::HandleQueue;
 use held::{HeldQueue, is_size};
+use loose_box::{Loose, Vacant};
 use std::alloc::Global;
 
 /// An empty queue of 64 or 256 places, whose first position is `first`. Each queue has a mark of its own.
@@ -62,16 +64,18 @@ pub extern "C" fn synth_queue_free(alloc: Global, queue: &mut HandleQueue) -> i3
     }
 }
 
-// A new end in a box of its own. It is joined again where no box can be had.
+// A new end in a box of its own. Nothing changes where no box can be had, or no more handles can be counted.
 fn split_boxed(alloc: Global, held: &mut HeldQueue) -> Option<Box<HeldQueue, Global>>
     requires { 2 ≤ parts_of held.old }
-    ensures { MatchOption result (Rejoined held.old held.new) (λ b. AtSizes DividedPart held.old held.new b.value) }
+    ensures { MatchOption result (held.new ≡ held.old) (λ b. AtSizes DividedPart held.old held.new b.value) }
 {
-    let born = held.split()?;
-    match Box::new(alloc, born) {
-        Ok(born) => Some(born),
-        Err(failed) => {
-            held.join(failed.value);
+    let Ok(room) = Vacant::take(alloc) else {
+        return None;
+    };
+    match held.split() {
+        Some(born) => Some(Loose::fill(room, born).into_box()),
+        None => {
+            let _alloc = room.free();
             None
         }
     }
@@ -147,7 +151,7 @@ pub extern "C" fn synth_queue_try_put(
     queue: &mut HandleQueue,
     items: &[u64],
 ) -> SynthAnswer
-    ensures empty { queue.old.hidden.value ≡ None → (result.code ≡ EmptyHandle) × (queue.new.hidden.value ≡ None) }
+    ensures empty { queue.old.hidden.value ≡ None → IsCodeAlone EmptyHandle result × (queue.new.hidden.value ≡ None) }
     ensures put { HoldsThen queue.old.hidden.value (λ x. WasPut x items.now queue.new.hidden.value result) }
 {
     let Some(mut held) = queue.take(alloc) else {
@@ -165,7 +169,7 @@ pub extern "C" fn synth_queue_try_take(
     queue: &mut HandleQueue,
     item: &mut u64,
 ) -> SynthAnswer
-    ensures empty { queue.old.hidden.value ≡ None → (result.code ≡ EmptyHandle) × (queue.new.hidden.value ≡ None)
+    ensures empty { queue.old.hidden.value ≡ None → IsCodeAlone EmptyHandle result × (queue.new.hidden.value ≡ None)
         × (item.new ≡ item.old) }
     ensures taken { HoldsThen queue.old.hidden.value
         (λ x. WasTaken x item.old item.new queue.new.hidden.value result) }
@@ -192,7 +196,7 @@ pub extern "C" fn synth_queue_take_up_to(
     items: &mut [u64],
     count: &mut usize,
 ) -> SynthAnswer
-    ensures empty { queue.old.hidden.value ≡ None → (result.code ≡ EmptyHandle) × (queue.new.hidden.value ≡ None)
+    ensures empty { queue.old.hidden.value ≡ None → IsCodeAlone EmptyHandle result × (queue.new.hidden.value ≡ None)
         × (items.new ≡ items.old) × (count.new ≡ count.old) }
     ensures taken { HoldsThen queue.old.hidden.value
         (λ x. WasSomeTold x items.old items.new count.old count.new queue.new.hidden.value result) }
@@ -218,7 +222,7 @@ pub extern "C" fn synth_queue_try_take_line(
     line: &mut [u64],
     count: &mut usize,
 ) -> SynthAnswer
-    ensures empty { queue.old.hidden.value ≡ None → (result.code ≡ EmptyHandle) × (queue.new.hidden.value ≡ None)
+    ensures empty { queue.old.hidden.value ≡ None → IsCodeAlone EmptyHandle result × (queue.new.hidden.value ≡ None)
         × (line.new ≡ line.old) × (count.new ≡ count.old) }
     ensures taken { HoldsThen queue.old.hidden.value
         (λ x. WasLineTold x line.old line.new count.old count.new queue.new.hidden.value result) }
@@ -262,6 +266,7 @@ pub extern "C" fn synth_queue_shut(
 }
 
 /// `ClaimQueue::close`. The items left lie in the buffer, which has room for as many as the queue has places, or more.
+/// Where other handles are left, the handle holds its end as before.
 #[unsafe(no_mangle)]
 pub extern "C" fn synth_queue_close(
     alloc: Global,
@@ -281,23 +286,19 @@ pub extern "C" fn synth_queue_close(
         queue.put(held);
         return SHORT_BUFFER;
     }
-    if held.is_shared() {
-        queue.put(held);
-        return OPEN;
-    }
-    match Box::into_inner(held).close(left) {
+    let (held, room) = Loose::of(held).take_out();
+    match held.close(left) {
         Outcome::Closed(told) => {
+            let _alloc = room.free();
             *closed = told;
             DONE
         }
-        Outcome::Open(held) => match Box::new(alloc, held) {
-            Ok(held) => {
-                queue.put(held);
-                OPEN
-            }
-            Err(_) => NO_MEMORY,
-        },
+        Outcome::Open(held) => {
+            queue.put(Loose::fill(room, held).into_box());
+            OPEN
+        }
         Outcome::Freed(told) => {
+            let _alloc = room.free();
             *closed = told;
             FREED
         }

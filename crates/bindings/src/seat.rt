@@ -4,9 +4,10 @@ ghost use Rattle.std.specs.Option.{MatchOption};
 ghost use Rattle.std.specs.declared.option.Option.TheVariants.{None};
 ghost use Rattle.bindings.specs.Codes.{EmptyHandle};
 ghost use Rattle.bindings.specs.SeatHeld.{Divided};
-ghost use Rattle.bindings.specs.SeatCalls.{MadeMeters, FreedHandle, SplitMeters, Rejoined, JoinedMeters, MarksTell};
+ghost use Rattle.bindings.specs.SeatCalls.{MadeMeters, FreedHandle, SplitMeters, JoinedMeters, MarksTell};
 ghost use Rattle.bindings.specs.SeatCalls.{HoldsThen, TickTold, AdvanceTold, SetTold, CancelTold, DueTold, WasClosed};
 ghost use Rattle.bindings.specs.SeatCalls.{IsToldMetered, code_of_advance, head_of_advance, code_of_set, head_of_set};
+ghost use Rattle.bindings.specs.Told.{IsCodeAlone};
 
 mod alarm;
 mod closing;
@@ -22,6 +23,7 @@ use alarm::{SynthAlarm, alarm_of, tell_alarms};
 use closing::Outcome;
 use handle::HandleSeat;
 use held::HeldSeat;
+use loose_box::{Loose, Vacant};
 use meters::{AdvanceRefusal, Metered, SetRefusal};
 use std::alloc::Global;
 
@@ -112,16 +114,18 @@ pub extern "C" fn synth_seat_free(alloc: Global, seat: &mut HandleSeat) -> i32
     }
 }
 
-// A new end in a box of its own. It is joined again where no box can be had.
+// A new end in a box of its own. Nothing changes where no box can be had, or no more handles can be counted.
 fn split_boxed(alloc: Global, held: &mut HeldSeat) -> Option<Box<HeldSeat, Global>>
     requires { 2 ≤ held.old.parts }
-    ensures { MatchOption result (Rejoined held.old held.new) (λ b. Divided held.old held.new b.value) }
+    ensures { MatchOption result (held.new ≡ held.old) (λ b. Divided held.old held.new b.value) }
 {
-    let born = held.split()?;
-    match Box::new(alloc, born) {
-        Ok(born) => Some(born),
-        Err(failed) => {
-            held.join(failed.value);
+    let Ok(room) = Vacant::take(alloc) else {
+        return None;
+    };
+    match held.split() {
+        Some(born) => Some(Loose::fill(room, born).into_box()),
+        None => {
+            let _alloc = room.free();
             None
         }
     }
@@ -223,7 +227,7 @@ pub extern "C" fn synth_seat_advance(
     seat: &mut HandleSeat,
     clock: &mut u32,
 ) -> SynthAnswer
-    ensures empty { seat.old.hidden.value ≡ None → (result.code ≡ EmptyHandle) × (seat.new.hidden.value ≡ None)
+    ensures empty { seat.old.hidden.value ≡ None → IsCodeAlone EmptyHandle result × (seat.new.hidden.value ≡ None)
         × (clock.new ≡ clock.old) }
     ensures advanced { HoldsThen seat.old.hidden.value
         (λ x. AdvanceTold x clock.old clock.new seat.new.hidden.value result) }
@@ -250,7 +254,7 @@ pub extern "C" fn synth_seat_try_set(
     alarm: &SynthAlarm,
     slot: &mut u32,
 ) -> SynthAnswer
-    ensures empty { seat.old.hidden.value ≡ None → (result.code ≡ EmptyHandle) × (seat.new.hidden.value ≡ None)
+    ensures empty { seat.old.hidden.value ≡ None → IsCodeAlone EmptyHandle result × (seat.new.hidden.value ≡ None)
         × (slot.new ≡ slot.old) }
     ensures set { HoldsThen seat.old.hidden.value
         (λ x. SetTold x alarm.now slot.old slot.new seat.new.hidden.value result) }
@@ -329,7 +333,7 @@ pub extern "C" fn synth_seat_due(
     DONE
 }
 
-/// `Meters::close`.
+/// `Meters::close`. Where other handles are left, the handle holds its end as before.
 #[unsafe(no_mangle)]
 pub extern "C" fn synth_seat_close(
     alloc: Global,
@@ -344,23 +348,19 @@ pub extern "C" fn synth_seat_close(
     let Some(held) = seat.take(alloc) else {
         return EMPTY_HANDLE;
     };
-    if held.is_shared() {
-        seat.put(held);
-        return OPEN;
-    }
-    match Box::into_inner(held).close() {
+    let (held, room) = Loose::of(held).take_out();
+    match held.close() {
         Outcome::Closed(ended) => {
+            let _alloc = room.free();
             *metered = told_of_metered(&ended);
             DONE
         }
-        Outcome::Open(held) => match Box::new(alloc, held) {
-            Ok(held) => {
-                seat.put(held);
-                OPEN
-            }
-            Err(_) => NO_MEMORY,
-        },
+        Outcome::Open(held) => {
+            seat.put(Loose::fill(room, held).into_box());
+            OPEN
+        }
         Outcome::Freed(others) => {
+            let _alloc = room.free();
             metered.freed = others;
             FREED
         }

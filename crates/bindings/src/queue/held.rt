@@ -139,12 +139,4 @@ impl HeldQueue {
             HeldQueue::Large(part) => part.shut(),
         }
     }
-
-    /// Whether other handles of the queue are left.
-    pub fn is_shared(&self) -> bool {
-        match self {
-            HeldQueue::Small(part) => part.is_shared(),
-            HeldQueue::Large(part) => part.is_shared(),
-        }
-    }
 }

@@ -136,9 +136,4 @@ impl<const N: usize> Part<N> {
     {
         self.queue.shut(&mut self.end)
     }
-
-    /// Whether other handles of the queue are left.
-    pub fn is_shared(&self) -> bool {
-        Arc::strong_count(&self.queue) != 1
-    }
 }

@@ -1,7 +1,7 @@
 //! Alarms as C has them.
 ghost use Rattle.std.specs.Prelude.{◌≡◌, ◌≤◌, length, take, map};
 ghost use Rattle.std.specs.Option.{MatchOption};
-ghost use Rattle.bindings.specs.SeatAlarms.{alarm_told, IsNoAlarm, IsRestKept};
+ghost use Rattle.bindings.specs.SeatAlarms.{alarm_told, IsAlarm, IsNoAlarm, IsRestKept};
 
 use event_theory::{Alarm, Element, Signal};
 
@@ -16,7 +16,7 @@ pub struct SynthAlarm {
 
 /// The alarm that is told. None where its element or its signal is out of range.
 pub fn alarm_of(told: &SynthAlarm) -> Option<Alarm>
-    ensures { MatchOption result (IsNoAlarm told.now) (λ alarm. alarm_told alarm ≡ told.now) }
+    ensures { MatchOption result (IsNoAlarm told.now) (λ alarm. IsAlarm told.now × (alarm_told alarm ≡ told.now)) }
 {
     if told.element >= 64 || told.signal >= 16 {
         return None;

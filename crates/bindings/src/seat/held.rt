@@ -122,9 +122,4 @@ impl HeldSeat {
     {
         self.meters.due(&mut self.seat)
     }
-
-    /// Whether other handles of the meters are left.
-    pub fn is_shared(&self) -> bool {
-        Arc::strong_count(&self.meters) != 1
-    }
 }

@@ -19,6 +19,7 @@ returns c = let e = c.finish-told.ensures in let told : SynthLineTotals = record
       c.in-Some-take.ensures.taken,
       c.take.ensures.emptied,
       c.take-2.ensures.emptied,
+      search rules,
       subst (λ (h : HeldIn). IsTold h c.in-Some-take.second.value told) c.into_inner.ensures
           (subst (λ (h : HeldOut). IsTold c.into_inner.result h told) c.into_inner-2.ensures
           (record { whole = e.whole; sent = e.sent; received = e.received; left = e.left; within = e.within })),

@@ -1,4 +1,4 @@
-use Rattle.std.proofs.Common.{inr, refl, sym, ap, ◌∙◌}
+use Rattle.std.proofs.Common.{rules, inr, refl, sym, ap, ◌∙◌}
 use Rattle.std.specs.declared.option.Option.TheVariants.{Some}
 use Rattle.bindings.proofs.Telling.{is_none}
 use Rattle.bindings.proofs.line.synth_line_new_marked.Goals as goal
@@ -9,6 +9,7 @@ returns c = let e = c.in-Ok.ensures in
       refl,
       is_none c.args.input.now.hidden.value (sym c.is_full.ensures ∙ c.if-is_full.false),
       is_none c.args.output.now.hidden.value (sym c.is_full-2.ensures ∙ c.if-is_full-2.false),
+      search rules,
       record { line = c.in-Ok.first; mark = c.args.mark },
       record { line = c.in-Ok.second; mark = c.args.mark },
       c.put.ensures ∙ ap Some c.in-Ok-new.ensures.ok,

@@ -19,6 +19,7 @@ returns c = let y = c.join.new.self in let z = c.in-Some-take.joined.value in
       c.in-Some-take.ensures.taken,
       c.put-2.ensures,
       c.take-2.ensures.emptied,
+      search rules,
       subst (λ (h : HeldQueue). AtSizes JoinedPart h y z) c.deref_mut.ensures.value
           (subst (λ (h : HeldQueue). AtSizes JoinedPart c.deref_mut.result.now y h) c.into_inner.ensures c.join.ensures),
     ))

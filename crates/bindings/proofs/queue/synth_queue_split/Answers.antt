@@ -1,8 +1,8 @@
-use Rattle.std.proofs.Common.{rules, inl, inr, refl, sym, subst, ◌∙◌}
+use Rattle.std.proofs.Common.{rules, inl, inr, refl, sym, ap, subst, ◌∙◌}
+use Rattle.std.specs.declared.option.Option.TheVariants.{Some}
 use Rattle.bindings.specs.declared.queue.held.HeldQueue.{HeldQueue}
 use Rattle.bindings.specs.QueueHeld.{AtSizes}
 use Rattle.bindings.specs.QueueParts.{DividedPart}
-use Rattle.bindings.specs.QueueCalls.{Rejoined}
 use Rattle.bindings.proofs.Telling.{is_none}
 use Rattle.bindings.proofs.queue.synth_queue_split.Goals as goal
 
@@ -21,18 +21,18 @@ returns-in-Some-made c = let n = is_none c.args.other.now.hidden.value (sym c.is
       c.in-Some.ensures.taken,
       c.put-2.ensures,
       c.put-in-Some-made.ensures,
+      search rules,
       subst (λ (h : HeldQueue). AtSizes DividedPart h y z) c.deref_mut.ensures.value c.in-Some-made.ensures,
     ))))
 
 pub returns-in-None : goal.returns-in-None
-returns-in-None c = let n = is_none c.args.other.now.hidden.value (sym c.is_full.ensures ∙ c.if-is_full.false) in let y = c.split_boxed-made.new.held in
+returns-in-None c = let n = is_none c.args.other.now.hidden.value (sym c.is_full.ensures ∙ c.if-is_full.false) in
     inr (inr (inr (inl (
       refl,
       n,
       n,
       c.in-Some.held.value,
-      y,
       c.in-Some.ensures.taken,
-      c.put-2.ensures,
-      subst (λ (h : HeldQueue). Rejoined h y) c.deref_mut.ensures.value c.in-None.ensures,
+      c.put-2.ensures ∙ ap Some (c.in-None.ensures ∙ c.deref_mut.ensures.value),
+      search rules,
     ))))

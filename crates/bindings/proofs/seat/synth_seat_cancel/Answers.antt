@@ -8,4 +8,4 @@ use Rattle.bindings.proofs.seat.synth_seat_cancel.Goals as goal
 pub returns-clause-cancelled : goal.returns-clause-cancelled
 returns-clause-cancelled c = let m = c.in-Some-alarm_of in let y = c.cancel.new.self in
     at_value (λ x. CancelTold x c.args.slot c.args.alarm.now c.args.cancelled.now c.cancel.result c.put-2.new.self.hidden.value (pos 0)) c.in-Some.ensures.taken
-    (inr (refl, search rules, m.alarm, m.ensures, y, c.put-2.ensures, subst (λ (h : HeldSeat). WasCancelled c.args.slot m.alarm c.cancel.result h y) c.deref_mut.ensures.value c.cancel.ensures))
+    (inr (refl, search rules, m.ensures.0, m.alarm, m.ensures.1, y, c.put-2.ensures, subst (λ (h : HeldSeat). WasCancelled c.args.slot m.alarm c.cancel.result h y) c.deref_mut.ensures.value c.cancel.ensures))

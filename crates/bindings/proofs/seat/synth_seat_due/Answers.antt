@@ -1,4 +1,4 @@
-use Rattle.std.proofs.Common.{inr, refl, subst, ap, ◌∙◌, pos, map, length}
+use Rattle.std.proofs.Common.{rules, inr, refl, subst, ap, ◌∙◌, pos, map, length}
 use Rattle.bindings.specs.declared.seat.held.HeldSeat.{HeldSeat}
 use Rattle.bindings.specs.SeatAlarms.{alarm_told}
 use Rattle.bindings.specs.SeatHeld.{WereFired}
@@ -11,6 +11,7 @@ returns-clause-due c = let f = c.due-fired in let t = c.tell_alarms in let s = c
     at_value (λ x. DueTold x c.args.alarms.now t.new.out c.args.count.now t.result c.put-2.new.self.hidden.value (pos 0)) c.in-Some.ensures.taken
     (inr (
       refl,
+      search rules,
       f.result.items,
       t.ensures.number ∙ ap length s,
       t.ensures.told ∙ ap (map alarm_told) s,

@@ -18,6 +18,7 @@ returns c = let y = c.join.new.self in let z = c.in-Some-take.joined.value in
       c.in-Some-take.ensures.taken,
       c.put-2.ensures,
       c.take-2.ensures.emptied,
+      search rules,
       subst (λ (h : HeldSeat). Joined h y z) c.deref_mut.ensures.value
           (subst (λ (h : HeldSeat). Joined c.deref_mut.result.now y h) c.into_inner.ensures c.join.ensures),
     ))

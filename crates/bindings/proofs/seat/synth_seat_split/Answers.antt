@@ -1,7 +1,7 @@
-use Rattle.std.proofs.Common.{rules, inl, inr, refl, sym, subst, ◌∙◌}
+use Rattle.std.proofs.Common.{rules, inl, inr, refl, sym, ap, subst, ◌∙◌}
+use Rattle.std.specs.declared.option.Option.TheVariants.{Some}
 use Rattle.bindings.specs.declared.seat.held.HeldSeat.{HeldSeat}
 use Rattle.bindings.specs.SeatHeld.{Divided}
-use Rattle.bindings.specs.SeatCalls.{Rejoined}
 use Rattle.bindings.proofs.Telling.{is_none}
 use Rattle.bindings.proofs.seat.synth_seat_split.Goals as goal
 
@@ -20,18 +20,18 @@ returns-in-Some-made c = let n = is_none c.args.other.now.hidden.value (sym c.is
       c.in-Some.ensures.taken,
       c.put-2.ensures,
       c.put-in-Some-made.ensures,
+      search rules,
       subst (λ (h : HeldSeat). Divided h y z) c.deref_mut.ensures.value c.in-Some-made.ensures,
     ))))
 
 pub returns-in-None : goal.returns-in-None
-returns-in-None c = let n = is_none c.args.other.now.hidden.value (sym c.is_full.ensures ∙ c.if-is_full.false) in let y = c.split_boxed-made.new.held in
+returns-in-None c = let n = is_none c.args.other.now.hidden.value (sym c.is_full.ensures ∙ c.if-is_full.false) in
     inr (inr (inr (inl (
       refl,
       n,
       n,
       c.in-Some.held.value,
-      y,
       c.in-Some.ensures.taken,
-      c.put-2.ensures,
-      subst (λ (h : HeldSeat). Rejoined h y) c.deref_mut.ensures.value c.in-None.ensures,
+      c.put-2.ensures ∙ ap Some (c.in-None.ensures ∙ c.deref_mut.ensures.value),
+      search rules,
     ))))

@@ -10,15 +10,18 @@ use Rattle.bindings.proofs.seat.synth_seat_try_set.Goals as goal
 pub returns-in-Ok-clause-set : goal.returns-in-Ok-clause-set
 returns-in-Ok-clause-set c = let a = c.try_set-answer in let t = c.told-in-Ok.ensures in let m = c.in-Some-alarm_of in
     at_value (λ x. SetTold x c.args.alarm.now c.args.slot.now c.in-Ok.found c.put-2.new.self.hidden.value c.told-in-Ok.result) c.in-Some.ensures.taken
-    (inr (record {
-      y = a.new.self;
-      full = c.put-2.ensures;
-      is = m.alarm;
-      is_told = m.ensures;
-      answer = Ok c.in-Ok.found;
-      tells = (refl, t.0, t.1, t.2);
-      answered = subst (λ (h : HeldSeat). WasSet m.alarm (Ok c.in-Ok.found) h a.new.self) c.deref_mut.ensures.value c.in-Ok.ensures;
-    }))
+    (inr (
+      m.ensures.0,
+      record {
+        y = a.new.self;
+        full = c.put-2.ensures;
+        is = m.alarm;
+        is_told = m.ensures.1;
+        answer = Ok c.in-Ok.found;
+        tells = (refl, t.0, t.1, t.2);
+        answered = subst (λ (h : HeldSeat). WasSet m.alarm (Ok c.in-Ok.found) h a.new.self) c.deref_mut.ensures.value c.in-Ok.ensures;
+      },
+    ))
 
 pub told_of_set-requires : goal.told_of_set-requires
 told_of_set-requires c = set_small _ _ c.in-Err.refusal c.in-Err.ensures.1
@@ -26,12 +29,15 @@ told_of_set-requires c = set_small _ _ c.in-Err.refusal c.in-Err.ensures.1
 pub returns-in-Err-clause-set : goal.returns-in-Err-clause-set
 returns-in-Err-clause-set c = let a = c.try_set-answer in let t = c.told_of_set.ensures in let m = c.in-Some-alarm_of in let r = c.in-Err.refusal in
     at_value (λ x. SetTold x c.args.alarm.now c.args.slot.now c.args.slot.now c.put-2.new.self.hidden.value c.told_of_set.result) c.in-Some.ensures.taken
-    (inr (record {
-      y = a.new.self;
-      full = c.put-2.ensures;
-      is = m.alarm;
-      is_told = m.ensures;
-      answer = Err r;
-      tells = (refl, t.0, t.1, t.2);
-      answered = subst (λ (h : HeldSeat). WasSet m.alarm (Err r) h a.new.self) c.deref_mut.ensures.value c.in-Err.ensures;
-    }))
+    (inr (
+      m.ensures.0,
+      record {
+        y = a.new.self;
+        full = c.put-2.ensures;
+        is = m.alarm;
+        is_told = m.ensures.1;
+        answer = Err r;
+        tells = (refl, t.0, t.1, t.2);
+        answered = subst (λ (h : HeldSeat). WasSet m.alarm (Err r) h a.new.self) c.deref_mut.ensures.value c.in-Err.ensures;
+      },
+    ))

@@ -1,8 +1,8 @@
 /*
- * The lock-free tables of synthesis for C11 and C++17: claim queues, meters and device lines. What each call does to
- * its table is proved, on the library's side of the call; docs/PROMISES.md says what of its answer isn't. docs/GUIDE.md,
- * "From C and Rust", shows a program line by line. Thread elements are not here, and the chain isn't: what that runs,
- * its quajects, is Rattle code.
+ * The lock-free tables of synthesis for C11 and C++17: claim queues, meters, device lines and thread elements. What
+ * each call does to its table is proved, on the library's side of the call; docs/PROMISES.md says what of its answer
+ * isn't. docs/GUIDE.md, "From C and Rust", shows two programs line by line. The chain is not here: what it runs, its
+ * quajects, is Rattle code.
  *
  * ONE PROCESS, ONE COPY OF THE LIBRARY. Two copies give their objects the same marks, by which a join knows whether
  * two handles are of one object: NEVER GIVE A HANDLE OF ONE COPY TO ANOTHER.
@@ -64,6 +64,7 @@ enum synth_code {
     SYNTH_OPEN = 12,       /* other handles of the object are full: join them first */
     SYNTH_NOT_HELD = 13,   /* the hand doesn't hold the element */
     SYNTH_NOT_SERVED = 14, /* the hand doesn't serve the processor */
+    SYNTH_ALL_WOKEN = 15,  /* each place that was claimed before the notify is taken */
     /* Mistakes of a caller, and want of memory. */
     SYNTH_NO_MEMORY = -1,    /* `malloc` gave null */
     SYNTH_EMPTY_HANDLE = -2, /* a handle is empty where a full one is wanted */
@@ -323,6 +324,276 @@ int32_t synth_line_finish(struct synth_line_in *input, struct synth_line_out *ou
 /* Empties a half, whose line is then never finished; the other half goes on alone. SYNTH_EMPTY_HANDLE. */
 int32_t synth_line_free_in(struct synth_line_in *input);
 int32_t synth_line_free_out(struct synth_line_out *output);
+
+/*
+ * THREAD ELEMENTS: what a scheduler keeps of its threads, shared by any number of workers. There are 64 elements, 0 to
+ * 63, eight processors, 0 to 7, and sixteen wait queues, 0 to 15. An element stands for whatever the program runs in
+ * turns: a thread of its own, a task, a connection. The table knows where it is, how many steps it has done, whether
+ * it is to stop, and which signals it was sent. It runs nothing and stops nothing: that is the program's.
+ *
+ * PLACES. Between any two atomic steps each element is in exactly one place: on a processor, in the ready ring, among
+ * the free elements, in a wait queue, in its stop cell, or held by a hand. It moves by these calls:
+ *
+ *     from           by                          to
+ *     free elements  try_free                    held
+ *     ready ring     try_next                    held
+ *     a wait queue   try_wake, try_wake_before   held
+ *     its stop cell  try_start                   held
+ *     a processor    off                         held
+ *     held           try_ready                   ready ring
+ *     held           on                          a processor
+ *     held           try_wait, try_wait_at       a wait queue
+ *     held           try_park                    its stop cell, where its stop bit is set
+ *     held           try_retire                  free elements
+ *
+ * HANDS. An end of the table is a hand, and each worker has its own. What a hand holds no other hand can move, nor
+ * what it has put on a processor. A hand serves some of the processors, which no other hand serves. Any hand may make
+ * any call; where a call asks that the hand hold the element, or serve the processor, it answers SYNTH_NOT_HELD or
+ * SYNTH_NOT_SERVED otherwise. Where a hand is freed, what it held, and what stands on its processors, is nobody's.
+ *
+ * ELEMENT QUEUES. The ready ring, the free elements and the wait queues are queues, first come first served, with
+ * places for all: no move is refused for room. A move first claims a place, by one step, and then raises it. Until it
+ * is raised no hand takes its element, or one behind it, so a thread that sleeps within a move holds up the takers. A
+ * position is used once, as in a claim queue: each element queue takes 4,294,967,295 elements less its first position,
+ * and is then SPENT. The free elements have used 64 positions when the table is made.
+ *
+ * WAITS, AND NO LOST WAKE. An element waits until the program has something for it. Between the worker's look for that
+ * and the wait another worker may bring it, find nobody waiting, and go: then the wake is lost. A ticket rules this
+ * out. It is the number of notifies of a wait queue so far, modulo 2^32.
+ *
+ *     who waits:  1. synth_hand_ticket  2. look, and go on where there is something  3. synth_hand_try_wait_at
+ *     who wakes:  1. bring it, for all to see  2. synth_hand_notify
+ *                 3. synth_hand_try_wake_before with that notify's `head`, until SYNTH_ALL_WOKEN
+ *
+ * The wait succeeds only where no notify came since the ticket; else it answers SYNTH_MOVED, and the hand holds the
+ * element still, so that it can look again. Whoever waited before the notify is taken by its tries, or by another
+ * hand's. READ THE TICKET BEFORE THE LOOK. What is looked at is seen by calls of this library, by SeqCst atomics or
+ * under a lock. No one call wakes all, since such a call would wait for hands that have claimed a place and not raised
+ * it: there the tries answer SYNTH_EMPTY, and the program may do something else in between.
+ *
+ * A TURN of a worker takes an element from the ready ring, looks whether it is to stop (try_park), and which signals
+ * it has (try_deliver), puts it on a processor, does its step, counts that (step_done), takes it off, and moves it to
+ * where it belongs.
+ */
+
+/* An end of thread elements. */
+struct synth_hand {
+    void *at;
+    bool full;
+};
+
+/* The answer of a move. */
+struct synth_moved {
+    int32_t code;      /* one of enum synth_code */
+    uint32_t head;     /* with SYNTH_LOST the head of the element queue that was found, else 0 */
+    uint32_t notifies; /* with SYNTH_LOST and SYNTH_MOVED the number of notifies that was found, else 0 */
+};
+
+/* The answer of a try at an element's state. */
+struct synth_state {
+    int32_t code;  /* one of enum synth_code */
+    uint32_t word; /* with SYNTH_LOST the state that was found, else 0: bits 0 to 15 are the pending signals, bit 16 is
+                      the stop bit, bit 17 is set where the element stands in its stop cell */
+};
+
+/* What a start did. */
+enum synth_started {
+    SYNTH_START_NOT_STOPPED = 0, /* nothing: the stop bit was clear */
+    SYNTH_START_CLEARED = 1,     /* the stop bit was cleared; the element didn't stand in its stop cell */
+    SYNTH_START_HELD = 2         /* the stop bit was cleared; the hand holds the element, which stood in the cell */
+};
+
+/* The kinds of places. */
+enum synth_place_kind {
+    SYNTH_PLACE_PROCESSOR = 0,
+    SYNTH_PLACE_READY = 1,
+    SYNTH_PLACE_FREE = 2,
+    SYNTH_PLACE_WAIT = 3,
+    SYNTH_PLACE_STOPPED = 4, /* in its stop cell */
+    SYNTH_PLACE_HELD = 5     /* in the hand that closed the table */
+};
+
+/* Where an element is. */
+struct synth_place {
+    uint32_t kind;   /* one of enum synth_place_kind */
+    uint32_t number; /* that of the processor or of the wait queue, else 0 */
+};
+
+/* The elements at the table's end, each list by their numbers. */
+struct synth_places {
+    struct synth_place place[64];
+    uint64_t pc[64];      /* how many steps each has done */
+    uint16_t pending[64]; /* the pending signals of each, bit s for signal s */
+    uint64_t stops;       /* whose stop bit is set, bit e for element e */
+    uint64_t freed;       /* how many hands were freed and not joined; 0 but with SYNTH_FREED */
+};
+
+/*
+ * Makes a table and fills `hand`, its only hand, which serves all processors. All elements are free, in the order of
+ * their numbers. The first position of each element queue is `first`, at most 4,294,967,231.
+ * SYNTH_FULL_HANDLE; SYNTH_BAD_NUMBER; SYNTH_NO_MEMORY.
+ */
+int32_t synth_hand_new(uint32_t first, struct synth_hand *hand);
+
+/*
+ * Fills `other`, one more hand of the table, for another thread. It holds nothing, and serves the processors of the
+ * mask, bit p for processor p, which the first hand serves no more. What is said of splitting a queue's handle holds
+ * here.
+ * SYNTH_EMPTY_HANDLE: `hand`; SYNTH_FULL_HANDLE: `other`; SYNTH_BAD_NUMBER: the mask is over 255; SYNTH_NOT_SERVED: a
+ * processor of the mask isn't the first hand's; SYNTH_BUSY: an element stands on one of them; SYNTH_NO_SHARE;
+ * SYNTH_NO_MEMORY.
+ */
+int32_t synth_hand_split(struct synth_hand *hand, uint32_t processors, struct synth_hand *other);
+
+/*
+ * Joins `other`, a hand of the same table, to `hand`, and empties it. The first hand then has all that both had: the
+ * elements that they held, their processors, and what stands there. Both are the calling thread's.
+ * SYNTH_EMPTY_HANDLE: either one; SYNTH_OTHER_OBJECT.
+ */
+int32_t synth_hand_join(struct synth_hand *hand, struct synth_hand *other);
+
+/* `held` becomes whether the hand holds the element. SYNTH_EMPTY_HANDLE; SYNTH_BAD_NUMBER. */
+int32_t synth_hand_holds(struct synth_hand *hand, uint32_t element, bool *held);
+
+/* `served` becomes whether the hand serves the processor. SYNTH_EMPTY_HANDLE; SYNTH_BAD_NUMBER. */
+int32_t synth_hand_serves(struct synth_hand *hand, uint32_t processor, bool *served);
+
+/*
+ * `element` becomes the one that the hand has on the processor.
+ * SYNTH_EMPTY_HANDLE; SYNTH_BAD_NUMBER; SYNTH_VACANT: it has none there, or doesn't serve the processor.
+ */
+int32_t synth_hand_on_processor(struct synth_hand *hand, uint32_t processor, uint32_t *element);
+
+/*
+ * Puts an element that the hand holds on a processor that it serves, by one step.
+ * SYNTH_EMPTY_HANDLE; SYNTH_BAD_NUMBER: either one; SYNTH_NOT_HELD; SYNTH_NOT_SERVED; SYNTH_BUSY.
+ */
+int32_t synth_hand_on(struct synth_hand *hand, uint32_t processor, uint32_t element);
+
+/*
+ * Takes the element off a processor that the hand serves, by one step. The hand then holds it.
+ * SYNTH_EMPTY_HANDLE; SYNTH_BAD_NUMBER; SYNTH_NOT_SERVED; SYNTH_VACANT.
+ */
+int32_t synth_hand_off(struct synth_hand *hand, uint32_t processor, uint32_t *element);
+
+/*
+ * `steps` becomes how many steps an element has done that the hand holds or has on a processor.
+ * SYNTH_EMPTY_HANDLE; SYNTH_BAD_NUMBER; SYNTH_NOT_HELD: neither holds nor has it on a processor.
+ */
+int32_t synth_hand_pc(struct synth_hand *hand, uint32_t element, uint64_t *steps);
+
+/*
+ * Counts one more step of an element that the hand holds or has on a processor; `steps` is then the new number.
+ * SYNTH_EMPTY_HANDLE; SYNTH_BAD_NUMBER; SYNTH_NOT_HELD: neither holds nor has it on a processor; SYNTH_SPENT: it has
+ * done 4,294,967,295 steps.
+ */
+int32_t synth_hand_step_done(struct synth_hand *hand, uint32_t element, uint64_t *steps);
+
+/*
+ * One try to take the oldest element of the ready ring, which the hand then holds.
+ * SYNTH_EMPTY_HANDLE; SYNTH_EMPTY: the first place wasn't raised, so the ring is empty, or a hand has claimed that
+ * place and not raised it yet; SYNTH_LOST: another hand took first, and the tail found is `tail`.
+ */
+struct synth_answer synth_hand_try_next(struct synth_hand *hand, uint32_t *element);
+
+/* As try_next, of the free elements. SYNTH_EMPTY_HANDLE; SYNTH_EMPTY; SYNTH_LOST. */
+struct synth_answer synth_hand_try_free(struct synth_hand *hand, uint32_t *element);
+
+/* As try_next, of a wait queue. SYNTH_EMPTY_HANDLE; SYNTH_BAD_NUMBER; SYNTH_EMPTY; SYNTH_LOST. */
+struct synth_answer synth_hand_try_wake(struct synth_hand *hand, uint32_t wait, uint32_t *element);
+
+/*
+ * Counts one more notify of a wait queue, by one step: no wait by an older ticket succeeds from then on. `head` is
+ * then the position behind the last place that was claimed before.
+ * SYNTH_EMPTY_HANDLE; SYNTH_BAD_NUMBER.
+ */
+int32_t synth_hand_notify(struct synth_hand *hand, uint32_t wait, uint32_t *head);
+
+/*
+ * One try to take the oldest element of a wait queue where its place was claimed before `head`, which a notify of this
+ * queue gave. The hand then holds it.
+ * SYNTH_EMPTY_HANDLE; SYNTH_BAD_NUMBER; SYNTH_ALL_WOKEN: each such place is taken, by this hand or others;
+ * SYNTH_EMPTY: a hand has claimed the first such place and not raised it yet, so try again; SYNTH_LOST: another hand
+ * took first, and the tail found is `tail`.
+ */
+struct synth_answer synth_hand_try_wake_before(struct synth_hand *hand, uint32_t wait, uint32_t head,
+                                               uint32_t *element);
+
+/*
+ * One try to put an element that the hand holds into the ready ring, as the last one.
+ * SYNTH_EMPTY_HANDLE; SYNTH_BAD_NUMBER; SYNTH_NOT_HELD; SYNTH_SPENT: no position is left; SYNTH_LOST: another hand put
+ * an element there first, and the head found is `head`.
+ */
+struct synth_moved synth_hand_try_ready(struct synth_hand *hand, uint32_t element);
+
+/*
+ * As try_ready, behind the free elements.
+ * SYNTH_EMPTY_HANDLE; SYNTH_BAD_NUMBER; SYNTH_NOT_HELD; SYNTH_SPENT; SYNTH_LOST.
+ */
+struct synth_moved synth_hand_try_retire(struct synth_hand *hand, uint32_t element);
+
+/*
+ * As try_ready, into a wait queue; no ticket guards it against a lost wake.
+ * SYNTH_EMPTY_HANDLE; SYNTH_BAD_NUMBER: either one; SYNTH_NOT_HELD; SYNTH_SPENT; SYNTH_LOST: another hand put an
+ * element there first, or made a notify.
+ */
+struct synth_moved synth_hand_try_wait(struct synth_hand *hand, uint32_t element, uint32_t wait);
+
+/* `ticket` becomes the number of notifies of a wait queue. SYNTH_EMPTY_HANDLE; SYNTH_BAD_NUMBER. */
+int32_t synth_hand_ticket(struct synth_hand *hand, uint32_t wait, uint32_t *ticket);
+
+/*
+ * One try to put an element that the hand holds into a wait queue, if its number of notifies is the ticket still.
+ * SYNTH_EMPTY_HANDLE; SYNTH_BAD_NUMBER: either one; SYNTH_NOT_HELD; SYNTH_SPENT: no position is left; SYNTH_MOVED: a
+ * notify came since the ticket was read, and the number found is `notifies`; SYNTH_LOST: another hand put an element
+ * there first, and the ticket is good still.
+ */
+struct synth_moved synth_hand_try_wait_at(struct synth_hand *hand, uint32_t element, uint32_t wait, uint32_t ticket);
+
+/*
+ * Sets the stop bit of an element, wherever it is, by one step. `was_clear` becomes whether it was clear. Whoever
+ * holds the element next may let it stand in its stop cell.
+ * SYNTH_EMPTY_HANDLE; SYNTH_BAD_NUMBER.
+ */
+int32_t synth_hand_stop(struct synth_hand *hand, uint32_t element, bool *was_clear);
+
+/*
+ * One try to clear the stop bit of an element, wherever it is. `started` becomes one of enum synth_started: where the
+ * element stood in its stop cell the hand then holds it.
+ * SYNTH_EMPTY_HANDLE; SYNTH_BAD_NUMBER; SYNTH_LOST: another hand changed the element's state first.
+ */
+struct synth_state synth_hand_try_start(struct synth_hand *hand, uint32_t element, uint32_t *started);
+
+/*
+ * One try to put an element that the hand holds into its stop cell, if its stop bit is set. `parked` becomes whether it
+ * stands there; where the bit was clear the hand holds it still.
+ * SYNTH_EMPTY_HANDLE; SYNTH_BAD_NUMBER; SYNTH_NOT_HELD; SYNTH_LOST: another hand changed the element's state first.
+ */
+struct synth_state synth_hand_try_park(struct synth_hand *hand, uint32_t element, bool *parked);
+
+/*
+ * Makes a signal, 0 to 15, of an element pending, wherever the element is, by one step. `raised` becomes false where it
+ * was pending already.
+ * SYNTH_EMPTY_HANDLE; SYNTH_BAD_NUMBER: either one.
+ */
+int32_t synth_hand_signal(struct synth_hand *hand, uint32_t element, uint32_t signal, bool *raised);
+
+/*
+ * One try to deliver the pending signals of an element that the hand holds: `signals` becomes their mask, bit s for
+ * signal s, and they are pending no more.
+ * SYNTH_EMPTY_HANDLE; SYNTH_BAD_NUMBER; SYNTH_NOT_HELD; SYNTH_LOST: another hand changed the element's state first.
+ */
+struct synth_state synth_hand_try_deliver(struct synth_hand *hand, uint32_t element, uint32_t *signals);
+
+/*
+ * Closes the table by its last hand, which is then empty, and tells of each element.
+ * SYNTH_EMPTY_HANDLE; SYNTH_OPEN; SYNTH_FREED: the table has ended too, and the hand is empty. Only `places->freed` is
+ * written then.
+ */
+int32_t synth_hand_close(struct synth_hand *hand, struct synth_places *places);
+
+/* Empties the hand, which is then never joined. SYNTH_EMPTY_HANDLE. */
+int32_t synth_hand_free(struct synth_hand *hand);
 
 #ifdef __cplusplus
 }

@@ -1,6 +1,6 @@
 //! What making, splitting, joining and closing of all objects have in common.
 
-use crate::raw::{self, Handle};
+use crate::raw;
 use crate::words::says;
 use std::error::Error;
 use std::fmt;
@@ -69,8 +69,8 @@ says!(SplitRefusal {
 });
 
 /// The handle that a `.._new` fills.
-pub(crate) fn made(new: impl FnOnce(&mut Handle) -> i32) -> Result<Handle, OutOfMemory> {
-    let mut handle = Handle::empty();
+pub(crate) fn made<H: Default>(new: impl FnOnce(&mut H) -> i32) -> Result<H, OutOfMemory> {
+    let mut handle = H::default();
     match new(&mut handle) {
         raw::DONE => Ok(handle),
         raw::NO_MEMORY => Err(OutOfMemory),
@@ -79,8 +79,8 @@ pub(crate) fn made(new: impl FnOnce(&mut Handle) -> i32) -> Result<Handle, OutOf
 }
 
 /// The handle that a `.._split` fills.
-pub(crate) fn split_off(split: impl FnOnce(&mut Handle) -> i32) -> Result<Handle, SplitRefusal> {
-    let mut other = Handle::empty();
+pub(crate) fn split_off<H: Default>(split: impl FnOnce(&mut H) -> i32) -> Result<H, SplitRefusal> {
+    let mut other = H::default();
     match split(&mut other) {
         raw::DONE => Ok(other),
         raw::NO_SHARE => Err(SplitRefusal::NoShare),

@@ -1,19 +1,19 @@
 //! Device lines: bytes from one thread to another.
 
 use crate::ends::OtherObject;
-use crate::raw::{self, Handle};
+use crate::raw;
 use crate::words::says;
 
 /// The end of a line that pushes bytes. It can move to another thread, and no other end of its kind is there.
 #[derive(Debug)]
 pub struct LineIn {
-    handle: Handle,
+    handle: raw::Input,
 }
 
 /// The end of a line that pops bytes. It can move to another thread, and no other end of its kind is there.
 #[derive(Debug)]
 pub struct LineOut {
-    handle: Handle,
+    handle: raw::Output,
 }
 
 /// How many bytes went through a line.
@@ -54,7 +54,7 @@ says!(LineRefusal {
 /// # Ok::<(), Box<dyn std::error::Error>>(())
 /// ```
 pub fn line(room: usize) -> Result<(LineIn, LineOut), LineRefusal> {
-    let (mut input, mut output) = (Handle::empty(), Handle::empty());
+    let (mut input, mut output) = (raw::Input::default(), raw::Output::default());
     match raw::synth_line_new(room, &mut input, &mut output) {
         raw::DONE => Ok((LineIn { handle: input }, LineOut { handle: output })),
         raw::BAD_NUMBER => Err(LineRefusal::BadRoom),

@@ -2,7 +2,7 @@
 
 use crate::ends::{closed, joined, made, split_off, CloseRefusal, OtherObject, OutOfMemory, SplitRefusal};
 use crate::names::{Element, Gauge, Signal};
-use crate::raw::{self, Handle};
+use crate::raw;
 use crate::words::says;
 
 /// An end of meters, and its meters: 8 gauges, a clock, and 16 slots for alarms.
@@ -34,7 +34,7 @@ use crate::words::says;
 /// ```
 #[derive(Debug)]
 pub struct MeterSeat {
-    handle: Handle,
+    handle: raw::Seat,
 }
 
 /// An alarm: at the tick `due` of the clock this signal is to be given to this element, which is its caller's to do.

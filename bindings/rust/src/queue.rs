@@ -1,7 +1,7 @@
 //! Claim queues: any number of producers and takers.
 
 use crate::ends::{closed, joined, made, split_off, CloseRefusal, OtherObject, OutOfMemory, SplitRefusal};
-use crate::raw::{self, Handle};
+use crate::raw;
 use crate::words::says;
 
 /// An end of a queue of `N` places, 64 or 256, and its queue. Each end may put and take.
@@ -30,7 +30,7 @@ use crate::words::says;
 /// ```
 #[derive(Debug)]
 pub struct QueueEnd<const N: usize> {
-    handle: Handle,
+    handle: raw::Queue,
 }
 
 /// Why nothing was put. The refusals stand in the order in which they are checked.

@@ -3,22 +3,41 @@
 use std::ffi::c_void;
 use std::ptr;
 
-/// An end of an object, or nothing. It is never copied, and no other module reads its fields.
-#[repr(C)]
-#[derive(Debug)]
-pub(crate) struct Handle {
-    at: *mut c_void,
-    full: bool,
+/// A type of handle for each kind of end, so that none is given to a call of another kind.
+macro_rules! handles {
+    ($($(#[doc = $what:literal])+ $name:ident),+ $(,)?) => {$(
+        $(#[doc = $what])+
+        ///
+        /// It is full or empty, is never copied, and no other module reads its fields.
+        #[repr(C)]
+        #[derive(Debug)]
+        pub(crate) struct $name {
+            at: *mut c_void,
+            full: bool,
+        }
+
+        // SAFETY: the library proves of what a handle stands for that another thread may go on with it. It is not
+        // `Sync`, since it must not be used in two calls at once.
+        unsafe impl Send for $name {}
+
+        /// An empty handle.
+        impl Default for $name {
+            fn default() -> Self {
+                $name { at: ptr::null_mut(), full: false }
+            }
+        }
+    )+};
 }
 
-// SAFETY: the library proves of what a handle stands for that another thread may go on with it. It is not `Sync`,
-// since it must not be used in two calls at once.
-unsafe impl Send for Handle {}
-
-impl Handle {
-    pub(crate) const fn empty() -> Handle {
-        Handle { at: ptr::null_mut(), full: false }
-    }
+handles! {
+    /// An end of a queue.
+    Queue,
+    /// An end of meters.
+    Seat,
+    /// The half of a line that pushes.
+    Input,
+    /// The half of a line that pops.
+    Output,
 }
 
 #[repr(C)]
@@ -85,47 +104,46 @@ pub(crate) fn no_such_answer(code: i32) -> ! {
     unreachable!("the library answered {code}")
 }
 
-// SAFETY: the names and types are those of synthesis.h. A reference is a pointer as the header wants it, a `Handle`
-// is empty or was filled by the library, and a `&mut` to it lets no other call have it. For all else the library
-// answers by a code, so only the calls that take a buffer's length beside its pointer are unsafe.
+// SAFETY: the names and types are those of synthesis.h. A reference is a pointer as the header wants it, a handle is
+// empty or was filled by a call of its own kind, and a `&mut` to it lets no other call have it. For all else the
+// library answers by a code, so only the calls that take a buffer's length beside its pointer are unsafe.
 unsafe extern "C" {
-    pub(crate) safe fn synth_queue_new(places: u32, first: u32, queue: &mut Handle) -> i32;
-    pub(crate) safe fn synth_queue_split(queue: &mut Handle, other: &mut Handle) -> i32;
-    pub(crate) safe fn synth_queue_join(queue: &mut Handle, other: &mut Handle) -> i32;
-    pub(crate) unsafe fn synth_queue_try_put(queue: &mut Handle, items: *const u64, count: usize) -> Answer;
-    pub(crate) safe fn synth_queue_try_take(queue: &mut Handle, item: &mut u64) -> Answer;
+    pub(crate) safe fn synth_queue_new(places: u32, first: u32, queue: &mut Queue) -> i32;
+    pub(crate) safe fn synth_queue_split(queue: &mut Queue, other: &mut Queue) -> i32;
+    pub(crate) safe fn synth_queue_join(queue: &mut Queue, other: &mut Queue) -> i32;
+    pub(crate) unsafe fn synth_queue_try_put(queue: &mut Queue, items: *const u64, count: usize) -> Answer;
+    pub(crate) safe fn synth_queue_try_take(queue: &mut Queue, item: &mut u64) -> Answer;
     pub(crate) unsafe fn synth_queue_take_up_to(
-        queue: &mut Handle,
+        queue: &mut Queue,
         items: *mut u64,
         room: usize,
         count: &mut usize,
     ) -> Answer;
     pub(crate) unsafe fn synth_queue_try_take_line(
-        queue: &mut Handle,
+        queue: &mut Queue,
         line: *mut u64,
         room: usize,
         count: &mut usize,
     ) -> Answer;
-    pub(crate) safe fn synth_queue_shut(queue: &mut Handle, was_open: &mut bool) -> i32;
-    pub(crate) unsafe fn synth_queue_close(queue: &mut Handle, left: *mut u64, room: usize, closed: &mut Closed)
-        -> i32;
-    pub(crate) safe fn synth_queue_free(queue: &mut Handle) -> i32;
+    pub(crate) safe fn synth_queue_shut(queue: &mut Queue, was_open: &mut bool) -> i32;
+    pub(crate) unsafe fn synth_queue_close(queue: &mut Queue, left: *mut u64, room: usize, closed: &mut Closed) -> i32;
+    pub(crate) safe fn synth_queue_free(queue: &mut Queue) -> i32;
 
-    pub(crate) safe fn synth_seat_new(clock: u32, seat: &mut Handle) -> i32;
-    pub(crate) safe fn synth_seat_split(seat: &mut Handle, other: &mut Handle) -> i32;
-    pub(crate) safe fn synth_seat_join(seat: &mut Handle, other: &mut Handle) -> i32;
-    pub(crate) safe fn synth_seat_tick(seat: &mut Handle, gauge: u32, amount: u64, before: &mut u64) -> i32;
-    pub(crate) safe fn synth_seat_advance(seat: &mut Handle, clock: &mut u32) -> Answer;
-    pub(crate) safe fn synth_seat_try_set(seat: &mut Handle, alarm: &Alarm, slot: &mut u32) -> Answer;
-    pub(crate) safe fn synth_seat_cancel(seat: &mut Handle, slot: u32, alarm: &Alarm, cancelled: &mut bool) -> i32;
-    pub(crate) unsafe fn synth_seat_due(seat: &mut Handle, alarms: *mut Alarm, room: usize, count: &mut usize) -> i32;
-    pub(crate) safe fn synth_seat_close(seat: &mut Handle, metered: &mut Metered) -> i32;
-    pub(crate) safe fn synth_seat_free(seat: &mut Handle) -> i32;
+    pub(crate) safe fn synth_seat_new(clock: u32, seat: &mut Seat) -> i32;
+    pub(crate) safe fn synth_seat_split(seat: &mut Seat, other: &mut Seat) -> i32;
+    pub(crate) safe fn synth_seat_join(seat: &mut Seat, other: &mut Seat) -> i32;
+    pub(crate) safe fn synth_seat_tick(seat: &mut Seat, gauge: u32, amount: u64, before: &mut u64) -> i32;
+    pub(crate) safe fn synth_seat_advance(seat: &mut Seat, clock: &mut u32) -> Answer;
+    pub(crate) safe fn synth_seat_try_set(seat: &mut Seat, alarm: &Alarm, slot: &mut u32) -> Answer;
+    pub(crate) safe fn synth_seat_cancel(seat: &mut Seat, slot: u32, alarm: &Alarm, cancelled: &mut bool) -> i32;
+    pub(crate) unsafe fn synth_seat_due(seat: &mut Seat, alarms: *mut Alarm, room: usize, count: &mut usize) -> i32;
+    pub(crate) safe fn synth_seat_close(seat: &mut Seat, metered: &mut Metered) -> i32;
+    pub(crate) safe fn synth_seat_free(seat: &mut Seat) -> i32;
 
-    pub(crate) safe fn synth_line_new(room: usize, input: &mut Handle, output: &mut Handle) -> i32;
-    pub(crate) safe fn synth_line_push(input: &mut Handle, byte: u8) -> i32;
-    pub(crate) safe fn synth_line_pop(output: &mut Handle, byte: &mut u8) -> i32;
-    pub(crate) safe fn synth_line_finish(input: &mut Handle, output: &mut Handle, totals: &mut LineTotals) -> i32;
-    pub(crate) safe fn synth_line_free_in(input: &mut Handle) -> i32;
-    pub(crate) safe fn synth_line_free_out(output: &mut Handle) -> i32;
+    pub(crate) safe fn synth_line_new(room: usize, input: &mut Input, output: &mut Output) -> i32;
+    pub(crate) safe fn synth_line_push(input: &mut Input, byte: u8) -> i32;
+    pub(crate) safe fn synth_line_pop(output: &mut Output, byte: &mut u8) -> i32;
+    pub(crate) safe fn synth_line_finish(input: &mut Input, output: &mut Output, totals: &mut LineTotals) -> i32;
+    pub(crate) safe fn synth_line_free_in(input: &mut Input) -> i32;
+    pub(crate) safe fn synth_line_free_out(output: &mut Output) -> i32;
 }

@@ -1,10 +1,10 @@
 //! Lock-free tables whose calls are proved, for Rust.
 //!
-//! Each object is shared by its ends: the ends of a queue, the seats of meters, the two ends of a line. An end owns
-//! its handle. It may go to another thread, and is used by one at a time, so each call takes `&mut`. `split` makes
-//! one more end, `join` takes one in again, and `close` by the last one tells what became of everything. What each
-//! call does to its object is proved on the library's side of the call; this crate is not, and is a few lines for
-//! each of them.
+//! Each object is shared by its ends: the ends of a queue, the seats of meters, the hands of thread elements, the two
+//! ends of a line. An end owns its handle. It may go to another thread, and is used by one at a time, so each call
+//! takes `&mut`. `split` makes one more end, `join` takes one in again, and `close` by the last one tells what became
+//! of everything. What each call does to its object is proved on the library's side of the call; this crate is not,
+//! and is a few lines for each of them.
 //!
 //! ```
 //! use std::thread;
@@ -40,6 +40,7 @@
 #![warn(missing_docs)]
 
 mod ends;
+mod hand;
 mod line;
 mod meters;
 mod names;
@@ -48,7 +49,11 @@ mod raw;
 mod words;
 
 pub use ends::{CloseRefusal, OtherObject, OutOfMemory, SplitRefusal};
+pub use hand::{
+    Hand, HandRefusal, HandSplitRefusal, Lost, MoveRefusal, NextRefusal, NotHeld, OffRefusal, OnRefusal, Place, Places,
+    Signalled, Started, StateRefusal, StateWord, StepRefusal,
+};
 pub use line::{finish, line, LineIn, LineOut, LineRefusal, LineTotals};
 pub use meters::{AdvanceRefusal, Alarm, MeterSeat, Metered, SetRefusal, Slot};
-pub use names::{Element, Gauge, Signal};
+pub use names::{Element, Gauge, Processor, Signal, WaitNumber};
 pub use queue::{ClaimRefusal, Closed, QueueEnd, TakeRefusal};

@@ -33,20 +33,21 @@ macro_rules! number {
 
 number!(Element, 64, "a thread element");
 number!(Gauge, 8, "a gauge");
+number!(Processor, 8, "a processor");
 number!(Signal, 16, "a signal");
+number!(WaitNumber, 16, "a wait queue");
 
-impl Element {
-    /// The element that a call of the library told.
-    pub(crate) fn told(number: u32) -> Element {
-        let element = u8::try_from(number).ok().and_then(Element::new);
-        element.unwrap_or_else(|| unreachable!("the library told element {number}"))
-    }
+/// Of numbers that the library tells.
+macro_rules! told {
+    ($($name:ident),+) => {$(
+        impl $name {
+            /// The one that a call of the library told.
+            pub(crate) fn told(number: u32) -> $name {
+                let told = u8::try_from(number).ok().and_then($name::new);
+                told.unwrap_or_else(|| unreachable!(concat!("the library told {} ", stringify!($name)), number))
+            }
+        }
+    )+};
 }
 
-impl Signal {
-    /// The signal that a call of the library told.
-    pub(crate) fn told(number: u32) -> Signal {
-        let signal = u8::try_from(number).ok().and_then(Signal::new);
-        signal.unwrap_or_else(|| unreachable!("the library told signal {number}"))
-    }
-}
+told!(Element, Processor, Signal, WaitNumber);

@@ -38,6 +38,8 @@ handles! {
     Input,
     /// The half of a line that pops.
     Output,
+    /// An end of thread elements.
+    Hand,
 }
 
 #[repr(C)]
@@ -83,6 +85,52 @@ pub(crate) struct LineTotals {
     pub left: usize,
 }
 
+#[repr(C)]
+pub(crate) struct Moved {
+    pub code: i32,
+    pub head: u32,
+    pub notifies: u32,
+}
+
+#[repr(C)]
+pub(crate) struct State {
+    pub code: i32,
+    pub word: u32,
+}
+
+#[repr(C)]
+#[derive(Clone, Copy, Default)]
+pub(crate) struct Place {
+    pub kind: u32,
+    pub number: u32,
+}
+
+#[repr(C)]
+pub(crate) struct Places {
+    pub place: [Place; 64],
+    pub pc: [u64; 64],
+    pub pending: [u16; 64],
+    pub stops: u64,
+    pub freed: u64,
+}
+
+impl Default for Places {
+    fn default() -> Places {
+        Places { place: [Place::default(); 64], pc: [0; 64], pending: [0; 64], stops: 0, freed: 0 }
+    }
+}
+
+pub(crate) const PROCESSOR: u32 = 0;
+pub(crate) const READY: u32 = 1;
+pub(crate) const FREE: u32 = 2;
+pub(crate) const WAIT: u32 = 3;
+pub(crate) const STOPPED: u32 = 4;
+pub(crate) const HELD: u32 = 5;
+
+pub(crate) const START_NOT_STOPPED: u32 = 0;
+pub(crate) const START_CLEARED: u32 = 1;
+pub(crate) const START_HELD: u32 = 2;
+
 pub(crate) const DONE: i32 = 0;
 pub(crate) const NO_ITEMS: i32 = 1;
 pub(crate) const TOO_LONG: i32 = 2;
@@ -91,8 +139,14 @@ pub(crate) const SPENT: i32 = 4;
 pub(crate) const FULL: i32 = 5;
 pub(crate) const LOST: i32 = 6;
 pub(crate) const EMPTY: i32 = 7;
+pub(crate) const MOVED: i32 = 8;
+pub(crate) const BUSY: i32 = 9;
+pub(crate) const VACANT: i32 = 10;
 pub(crate) const NO_ROOM: i32 = 11;
 pub(crate) const OPEN: i32 = 12;
+pub(crate) const NOT_HELD: i32 = 13;
+pub(crate) const NOT_SERVED: i32 = 14;
+pub(crate) const ALL_WOKEN: i32 = 15;
 pub(crate) const NO_MEMORY: i32 = -1;
 pub(crate) const OTHER_OBJECT: i32 = -4;
 pub(crate) const NO_SHARE: i32 = -5;
@@ -146,4 +200,32 @@ unsafe extern "C" {
     pub(crate) safe fn synth_line_finish(input: &mut Input, output: &mut Output, totals: &mut LineTotals) -> i32;
     pub(crate) safe fn synth_line_free_in(input: &mut Input) -> i32;
     pub(crate) safe fn synth_line_free_out(output: &mut Output) -> i32;
+
+    pub(crate) safe fn synth_hand_new(first: u32, hand: &mut Hand) -> i32;
+    pub(crate) safe fn synth_hand_split(hand: &mut Hand, processors: u32, other: &mut Hand) -> i32;
+    pub(crate) safe fn synth_hand_join(hand: &mut Hand, other: &mut Hand) -> i32;
+    pub(crate) safe fn synth_hand_holds(hand: &mut Hand, element: u32, held: &mut bool) -> i32;
+    pub(crate) safe fn synth_hand_serves(hand: &mut Hand, processor: u32, served: &mut bool) -> i32;
+    pub(crate) safe fn synth_hand_on_processor(hand: &mut Hand, processor: u32, element: &mut u32) -> i32;
+    pub(crate) safe fn synth_hand_on(hand: &mut Hand, processor: u32, element: u32) -> i32;
+    pub(crate) safe fn synth_hand_off(hand: &mut Hand, processor: u32, element: &mut u32) -> i32;
+    pub(crate) safe fn synth_hand_pc(hand: &mut Hand, element: u32, steps: &mut u64) -> i32;
+    pub(crate) safe fn synth_hand_step_done(hand: &mut Hand, element: u32, steps: &mut u64) -> i32;
+    pub(crate) safe fn synth_hand_try_next(hand: &mut Hand, element: &mut u32) -> Answer;
+    pub(crate) safe fn synth_hand_try_free(hand: &mut Hand, element: &mut u32) -> Answer;
+    pub(crate) safe fn synth_hand_try_wake(hand: &mut Hand, wait: u32, element: &mut u32) -> Answer;
+    pub(crate) safe fn synth_hand_notify(hand: &mut Hand, wait: u32, head: &mut u32) -> i32;
+    pub(crate) safe fn synth_hand_try_wake_before(hand: &mut Hand, wait: u32, head: u32, element: &mut u32) -> Answer;
+    pub(crate) safe fn synth_hand_try_ready(hand: &mut Hand, element: u32) -> Moved;
+    pub(crate) safe fn synth_hand_try_retire(hand: &mut Hand, element: u32) -> Moved;
+    pub(crate) safe fn synth_hand_try_wait(hand: &mut Hand, element: u32, wait: u32) -> Moved;
+    pub(crate) safe fn synth_hand_ticket(hand: &mut Hand, wait: u32, ticket: &mut u32) -> i32;
+    pub(crate) safe fn synth_hand_try_wait_at(hand: &mut Hand, element: u32, wait: u32, ticket: u32) -> Moved;
+    pub(crate) safe fn synth_hand_stop(hand: &mut Hand, element: u32, was_clear: &mut bool) -> i32;
+    pub(crate) safe fn synth_hand_try_start(hand: &mut Hand, element: u32, started: &mut u32) -> State;
+    pub(crate) safe fn synth_hand_try_park(hand: &mut Hand, element: u32, parked: &mut bool) -> State;
+    pub(crate) safe fn synth_hand_signal(hand: &mut Hand, element: u32, signal: u32, raised: &mut bool) -> i32;
+    pub(crate) safe fn synth_hand_try_deliver(hand: &mut Hand, element: u32, signals: &mut u32) -> State;
+    pub(crate) safe fn synth_hand_close(hand: &mut Hand, places: &mut Places) -> i32;
+    pub(crate) safe fn synth_hand_free(hand: &mut Hand) -> i32;
 }

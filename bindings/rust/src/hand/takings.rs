@@ -1,0 +1,91 @@
+//! Takings: the oldest element of an element queue is then held.
+
+use super::Hand;
+use crate::names::{Element, WaitNumber};
+use crate::raw;
+use crate::words::says;
+
+/// Why an element was not taken.
+#[derive(Clone, Copy, Debug, PartialEq, Eq)]
+pub enum NextRefusal {
+    /// The first place was not raised: the queue is empty, or a hand has claimed that place and not raised it yet.
+    NoneReady,
+    /// Another hand took first.
+    Lost {
+        /// The tail that was found, past the one that was loaded.
+        tail: u32,
+    },
+}
+
+says!(NextRefusal {
+    NextRefusal::NoneReady => "nothing is raised at the tail",
+    NextRefusal::Lost { tail } => "lost, tail {tail}",
+});
+
+/// What a try to take this element answers.
+fn taken(answer: raw::Answer, element: u32) -> Result<Element, NextRefusal> {
+    match answer.code {
+        raw::DONE => Ok(Element::told(element)),
+        raw::EMPTY => Err(NextRefusal::NoneReady),
+        raw::LOST => Err(NextRefusal::Lost { tail: answer.tail }),
+        code => raw::no_such_answer(code),
+    }
+}
+
+impl Hand {
+    /// One try to take the oldest element of the ready ring, which the hand then holds.
+    pub fn try_next(&mut self) -> Result<Element, NextRefusal> {
+        let mut element = 0;
+        let answer = raw::synth_hand_try_next(&mut self.handle, &mut element);
+        taken(answer, element)
+    }
+
+    /// One try to take the oldest of the free elements, which the hand then holds.
+    pub fn try_free(&mut self) -> Result<Element, NextRefusal> {
+        let mut element = 0;
+        let answer = raw::synth_hand_try_free(&mut self.handle, &mut element);
+        taken(answer, element)
+    }
+
+    /// One try to take the oldest element of a wait queue, which the hand then holds.
+    pub fn try_wake(&mut self, wait: WaitNumber) -> Result<Element, NextRefusal> {
+        let mut element = 0;
+        let answer = raw::synth_hand_try_wake(&mut self.handle, wait.raw(), &mut element);
+        taken(answer, element)
+    }
+
+    /// Counts one more notify of a wait queue, by one step: no wait by an older ticket succeeds from then on. Gives the
+    /// position behind the last place that was claimed before, for `try_wake_before`.
+    pub fn notify(&mut self, wait: WaitNumber) -> u32 {
+        let mut head = 0;
+        match raw::synth_hand_notify(&mut self.handle, wait.raw(), &mut head) {
+            raw::DONE => head,
+            code => raw::no_such_answer(code),
+        }
+    }
+
+    /// One try to take the oldest element of a wait queue where its place was claimed before `head`, which a notify of
+    /// this queue gave. None where each such place is taken, by this hand or others. NoneReady means that a hand has
+    /// claimed the first such place and not raised it yet.
+    ///
+    /// ```
+    /// # use synthesis_kernel::{Hand, WaitNumber};
+    /// let wait = WaitNumber::new(0).unwrap();
+    /// let mut hand = Hand::new()?;
+    /// let (one, two) = (hand.try_free()?, hand.try_free()?);
+    /// hand.try_wait(one, wait)?;
+    /// let head = hand.notify(wait);
+    /// hand.try_wait(two, wait)?;
+    /// assert_eq!(hand.try_wake_before(wait, head), Ok(Some(one)));
+    /// assert_eq!(hand.try_wake_before(wait, head), Ok(None));
+    /// # Ok::<(), Box<dyn std::error::Error>>(())
+    /// ```
+    pub fn try_wake_before(&mut self, wait: WaitNumber, head: u32) -> Result<Option<Element>, NextRefusal> {
+        let mut element = 0;
+        let answer = raw::synth_hand_try_wake_before(&mut self.handle, wait.raw(), head, &mut element);
+        if answer.code == raw::ALL_WOKEN {
+            return Ok(None);
+        }
+        taken(answer, element).map(Some)
+    }
+}

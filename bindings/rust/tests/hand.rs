@@ -1,0 +1,270 @@
+//! Thread elements from several threads, and their refusals.
+
+use std::error::Error;
+use std::sync::atomic::{AtomicU64, Ordering::SeqCst};
+use std::thread;
+use synthesis_kernel::{
+    CloseRefusal, Element, Hand, HandRefusal, HandSplitRefusal, MoveRefusal, NextRefusal, NotHeld, OffRefusal,
+    OnRefusal, OtherObject, Place, Processor, Signal, Signalled, Started, StateRefusal, StepRefusal, WaitNumber,
+};
+
+const WORKERS: u8 = 4;
+const STEPS: u64 = 200;
+const TURNS: u64 = 300;
+
+fn element(number: u8) -> Element {
+    Element::new(number).unwrap()
+}
+
+fn processor(number: u8) -> Processor {
+    Processor::new(number).unwrap()
+}
+
+fn wait(number: u8) -> WaitNumber {
+    WaitNumber::new(number).unwrap()
+}
+
+/// Tries again until the answer is another than that another hand was first.
+fn repeat(mut call: impl FnMut() -> Result<(), MoveRefusal>) -> Result<(), MoveRefusal> {
+    loop {
+        match call() {
+            Err(MoveRefusal::Lost { .. }) => thread::yield_now(),
+            answer => return answer,
+        }
+    }
+}
+
+/// Gives each element a step on a processor in its turn, and retires it after its last one. Ends when no element is
+/// ready, since each that isn't is retired or at a worker that goes on with it.
+fn work(mut hand: Hand, number: u8) -> (Hand, u64) {
+    let mut done = 0;
+    loop {
+        let element = match hand.try_next() {
+            Ok(element) => element,
+            Err(NextRefusal::NoneReady) => return (hand, done),
+            Err(NextRefusal::Lost { .. }) => continue,
+        };
+        hand.on(processor(number), element).unwrap();
+        let steps = hand.step_done(element).unwrap();
+        assert_eq!(hand.off(processor(number)), Ok(element));
+        done += 1;
+        repeat(|| if steps < STEPS { hand.try_ready(element) } else { hand.try_retire(element) }).unwrap();
+    }
+}
+
+#[test]
+fn each_element_does_its_steps_and_is_in_one_place() {
+    let mut last = Hand::new_at(7).unwrap();
+    for number in 0..64 {
+        assert_eq!(last.try_free(), Ok(element(number)));
+        last.try_ready(element(number)).unwrap();
+    }
+    assert_eq!(last.try_free(), Err(NextRefusal::NoneReady));
+    let hands: Vec<_> = (0..WORKERS).map(|i| last.split(1 << i).unwrap()).collect();
+    let threads: Vec<_> = (0..).zip(hands).map(|(i, hand)| thread::spawn(move || work(hand, i))).collect();
+    let mut done = 0;
+    for thread in threads {
+        let (hand, by_one) = thread.join().unwrap();
+        last.join(hand).unwrap();
+        done += by_one;
+    }
+    assert_eq!(done, 64 * STEPS);
+    let places = last.close().unwrap();
+    assert_eq!(places.places, [Place::Free; 64]);
+    assert_eq!(places.pcs, [STEPS; 64]);
+}
+
+/// One notify, and then all that waited before it are made ready.
+fn wake_all(hand: &mut Hand, wait: WaitNumber) {
+    let head = hand.notify(wait);
+    loop {
+        match hand.try_wake_before(wait, head) {
+            Ok(Some(element)) => repeat(|| hand.try_ready(element)).unwrap(),
+            Ok(None) => return,
+            Err(_) => thread::yield_now(),
+        }
+    }
+}
+
+/// Takes the element from the ready ring; others that come first are ready again.
+fn take_back(hand: &mut Hand, element: Element) {
+    loop {
+        match hand.try_next() {
+            Ok(found) if found == element => return,
+            Ok(other) => repeat(|| hand.try_ready(other)).unwrap(),
+            Err(_) => thread::yield_now(),
+        }
+    }
+}
+
+/// Plays each second turn, and wakes the other side then. Before its own turn its element waits, by a ticket. Where a
+/// wake is lost both sides wait for good.
+fn play(mut hand: Hand, me: Element, side: u8, turn: &AtomicU64) -> Hand {
+    let (mine, others) = (wait(side), wait(1 - side));
+    let mut played = 0;
+    while played < TURNS {
+        let ticket = hand.ticket(mine);
+        if turn.load(SeqCst) % 2 == u64::from(side) {
+            turn.fetch_add(1, SeqCst);
+            played += 1;
+            wake_all(&mut hand, others);
+            continue;
+        }
+        match repeat(|| hand.try_wait_at(me, mine, ticket)) {
+            Ok(()) => take_back(&mut hand, me),
+            Err(MoveRefusal::Moved { notifies }) => assert_ne!(notifies, ticket),
+            Err(why) => panic!("{why}"),
+        }
+    }
+    hand
+}
+
+#[test]
+fn no_wake_is_lost() {
+    let turn = &AtomicU64::new(0);
+    let mut last = Hand::new().unwrap();
+    let sides = [0, 1].map(|side| {
+        let mut hand = last.split(0).unwrap();
+        let me = hand.try_free().unwrap();
+        (hand, me, side)
+    });
+    thread::scope(|scope| {
+        let threads = sides.map(|(hand, me, side)| scope.spawn(move || play(hand, me, side, turn)));
+        for thread in threads {
+            last.join(thread.join().unwrap()).unwrap();
+        }
+    });
+    assert_eq!(turn.load(SeqCst), 2 * TURNS);
+    let places = last.close().unwrap();
+    assert!(places.places[..2].iter().all(|place| *place == Place::Held));
+    assert!(places.places[2..].iter().all(|place| *place == Place::Free));
+}
+
+#[test]
+fn processors_are_their_hands() {
+    let mut hand = Hand::new().unwrap();
+    let (one, two) = (hand.try_free().unwrap(), hand.try_free().unwrap());
+    let mut other = hand.split(1 << 7).unwrap();
+    assert!(other.serves(processor(7)) && !hand.serves(processor(7)) && hand.serves(processor(6)));
+    assert_eq!(hand.split(1 << 7).unwrap_err(), HandSplitRefusal::NotServed);
+    assert_eq!(other.on(processor(7), one), Err(OnRefusal::NotHeld));
+    assert_eq!(hand.on(processor(7), one), Err(OnRefusal::NotServed));
+    assert_eq!(hand.on(processor(0), one), Ok(()));
+    assert_eq!(hand.on(processor(0), two), Err(OnRefusal::Busy));
+    assert_eq!(hand.split(1).unwrap_err(), HandSplitRefusal::Busy);
+    assert_eq!(hand.on_processor(processor(0)), Some(one));
+    assert_eq!(hand.on_processor(processor(1)), None);
+    assert_eq!(hand.off(processor(7)), Err(OffRefusal::NotServed));
+    assert_eq!(hand.off(processor(1)), Err(OffRefusal::Vacant));
+    assert_eq!((hand.pc(one), other.pc(one)), (Ok(0), Err(NotHeld)));
+    assert_eq!((hand.step_done(one), other.step_done(one)), (Ok(1), Err(StepRefusal::NotHeld)));
+    other.join(hand).unwrap();
+    assert_eq!((other.pc(one), other.off(processor(0)), other.on(processor(7), two)), (Ok(1), Ok(one), Ok(())));
+    let places = other.close().unwrap();
+    assert_eq!(places.places[..3], [Place::Held, Place::Processor(processor(7)), Place::Free]);
+}
+
+#[test]
+fn moves_are_refused_in_order() {
+    let mut hand = Hand::new_at(u32::MAX - 64).unwrap();
+    let (one, two) = (hand.try_free().unwrap(), hand.try_free().unwrap());
+    assert_eq!(hand.try_ready(element(2)), Err(MoveRefusal::NotHeld));
+    assert_eq!(hand.try_wait_at(element(2), wait(15), 9), Err(MoveRefusal::NotHeld));
+    assert_eq!(hand.try_retire(one), Err(MoveRefusal::Spent));
+    assert_eq!(hand.try_wait_at(one, wait(15), 9), Err(MoveRefusal::Moved { notifies: 0 }));
+    for _ in 0..64 {
+        assert_eq!(hand.try_wait_at(one, wait(15), 0), Ok(()));
+        assert_eq!(hand.try_wake(wait(15)), Ok(one));
+    }
+    assert_eq!(hand.try_wait_at(one, wait(15), 9), Err(MoveRefusal::Spent));
+    assert_eq!(hand.try_wake(wait(15)), Err(NextRefusal::NoneReady));
+    assert_eq!(hand.notify(wait(15)), u32::MAX);
+    assert_eq!(hand.ticket(wait(15)), 1);
+    assert_eq!((hand.try_wait(one, wait(3)), hand.try_ready(two)), (Ok(()), Ok(())));
+    let places = hand.close().unwrap();
+    assert_eq!(places.places[..3], [Place::Wait(wait(3)), Place::Ready, Place::Free]);
+}
+
+#[test]
+fn stops_and_signals_come_where_the_element_is() {
+    let signal = |number| Signal::new(number).unwrap();
+    let mut hand = Hand::new().unwrap();
+    let one = hand.try_free().unwrap();
+    assert_eq!(hand.try_start(one), Ok(Started::NotStopped));
+    assert_eq!(hand.try_park(one), Ok(false));
+    assert_eq!((hand.stop(one), hand.stop(one)), (true, false));
+    assert_eq!(hand.try_start(one), Ok(Started::Cleared));
+    assert!(hand.stop(one));
+    assert_eq!((hand.try_park(one), hand.try_park(one)), (Ok(true), Err(StateRefusal::NotHeld)));
+    assert_eq!(hand.try_deliver(one), Err(StateRefusal::NotHeld));
+    let raised = [15, 0, 15].map(|number| hand.signal(one, signal(number)));
+    assert_eq!(raised, [Signalled::Raised, Signalled::Raised, Signalled::Merged]);
+    assert_eq!(hand.try_start(one), Ok(Started::Held));
+    assert_eq!((hand.try_deliver(one), hand.try_deliver(one)), (Ok(1 << 15 | 1), Ok(0)));
+    let two = hand.try_free().unwrap();
+    assert!(hand.stop(two));
+    assert_eq!(hand.try_park(two), Ok(true));
+    assert_eq!(hand.signal(two, signal(4)), Signalled::Raised);
+    let places = hand.close().unwrap();
+    assert_eq!(places.places[..3], [Place::Held, Place::Stopped, Place::Free]);
+    assert_eq!((places.stops, places.pending[0], places.pending[1]), (2, 0, 1 << 4));
+}
+
+#[test]
+fn ends_are_told() {
+    assert_eq!(Hand::new_at(u32::MAX - 63).unwrap_err(), HandRefusal::BadFirst);
+    let mut hand = Hand::new().unwrap();
+    let OtherObject { end: other } = hand.join(Hand::new().unwrap()).unwrap_err();
+    assert!(other.close().is_ok());
+    let mut other = hand.split(1).unwrap();
+    let lost = other.try_free().unwrap();
+    let Err(CloseRefusal::Open(mut hand)) = hand.close() else { panic!("closed by one of two hands") };
+    drop(other);
+    assert!(!hand.holds(lost) && !hand.serves(processor(0)));
+    assert!(matches!(hand.close(), Err(CloseRefusal::Dropped { ends: 1, left: () })));
+}
+
+#[test]
+fn a_hand_can_be_split_again_once_others_are_joined() {
+    let mut hands = vec![Hand::new().unwrap()];
+    let refusal = loop {
+        match hands.last_mut().unwrap().split(255) {
+            Ok(hand) => hands.push(hand),
+            Err(refusal) => break refusal,
+        }
+    };
+    assert_eq!(refusal, HandSplitRefusal::NoShare);
+    let mut last = hands.pop().unwrap();
+    last.join(hands.pop().unwrap()).unwrap();
+    hands.push(last.split(255).unwrap());
+    for hand in hands {
+        last.join(hand).unwrap();
+    }
+    assert!(last.close().is_ok());
+}
+
+#[test]
+fn refusals_are_told() {
+    let told: [(Box<dyn Error>, &str); 16] = [
+        (Box::new(HandRefusal::BadFirst), "the first position is over 4,294,967,231"),
+        (Box::new(HandRefusal::OutOfMemory), "no memory"),
+        (Box::new(HandSplitRefusal::NotServed), "the hand doesn't serve the processor"),
+        (Box::new(HandSplitRefusal::Busy), "an element stands on the processor"),
+        (Box::new(HandSplitRefusal::NoShare), "the end was split too often"),
+        (Box::new(OnRefusal::NotHeld), "the hand doesn't hold the element"),
+        (Box::new(OnRefusal::Busy), "an element stands on the processor"),
+        (Box::new(OffRefusal::Vacant), "no element stands on the processor"),
+        (Box::new(NotHeld), "the hand neither holds the element nor has it on a processor"),
+        (Box::new(StepRefusal::Spent), "the element's steps are spent"),
+        (Box::new(NextRefusal::NoneReady), "nothing is raised at the tail"),
+        (Box::new(NextRefusal::Lost { tail: 6 }), "lost, tail 6"),
+        (Box::new(MoveRefusal::Spent), "the queue's positions are spent"),
+        (Box::new(MoveRefusal::Moved { notifies: 2 }), "the number of notifies is 2"),
+        (Box::new(MoveRefusal::Lost { head: 3, notifies: 1 }), "lost, head 3, notifies 1"),
+        (Box::new(StateRefusal::NotHeld), "the hand doesn't hold the element"),
+    ];
+    for (error, words) in told {
+        assert_eq!(error.to_string(), words);
+    }
+    assert_eq!((Processor::new(8), WaitNumber::new(16)), (None, None));
+}

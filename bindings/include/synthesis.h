@@ -510,11 +510,12 @@ struct synth_answer synth_hand_try_wake(struct synth_hand *hand, uint32_t wait, 
 int32_t synth_hand_notify(struct synth_hand *hand, uint32_t wait, uint32_t *head);
 
 /*
- * One try to take the oldest element of a wait queue where its place was claimed before `head`, which a notify of this
- * queue gave. The hand then holds it.
- * SYNTH_EMPTY_HANDLE; SYNTH_BAD_NUMBER; SYNTH_ALL_WOKEN: each such place is taken, by this hand or others;
- * SYNTH_EMPTY: a hand has claimed the first such place and not raised it yet, so try again; SYNTH_LOST: another hand
- * took first, and the tail found is `tail`.
+ * One try to take the oldest element of a wait queue, as long as a place is left that was claimed before `head`,
+ * which a notify of this queue gave. The hand then holds it. Where another hand takes meanwhile it may be of a place
+ * behind `head`.
+ * SYNTH_EMPTY_HANDLE; SYNTH_BAD_NUMBER; SYNTH_ALL_WOKEN: each place before `head` is taken, by this hand or others;
+ * SYNTH_EMPTY: the first place wasn't raised, so try again: a hand has claimed it and not raised it yet, or others took
+ * all meanwhile; SYNTH_LOST: another hand took first, and the tail found is `tail`.
  */
 struct synth_answer synth_hand_try_wake_before(struct synth_hand *hand, uint32_t wait, uint32_t head,
                                                uint32_t *element);

@@ -64,9 +64,10 @@ impl Hand {
         }
     }
 
-    /// One try to take the oldest element of a wait queue where its place was claimed before `head`, which a notify of
-    /// this queue gave. None where each such place is taken, by this hand or others. NoneReady means that a hand has
-    /// claimed the first such place and not raised it yet.
+    /// One try to take the oldest element of a wait queue, as long as a place is left that was claimed before `head`,
+    /// which a notify of this queue gave. None where each such place is taken, by this hand or others. NoneReady means
+    /// here that the next try may find more. Where another hand takes meanwhile the element may be of a place behind
+    /// `head`.
     ///
     /// ```
     /// # use synthesis_kernel::{Hand, WaitNumber};

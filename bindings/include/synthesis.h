@@ -20,7 +20,8 @@
  * they are made. No call takes a lock of its own, sleeps or waits for another thread; new, split, join, close, free
  * and finish call `malloc` or `free`, which may. None may be made in a signal handler, since a handle may be in use
  * there, and memory taken; nor in the forked child of a process with threads. NEVER CANCEL A THREAD ASYNCHRONOUSLY
- * WITHIN A CALL, and never leave one by longjmp: its handle is broken then, and takers may wait for its items for good.
+ * WITHIN A CALL, and never leave one by longjmp: its handle is broken then, and takers may wait for good for what it
+ * put.
  *
  * MEMORY. None but `.._new` and `.._split` takes any, and all of it is `malloc`'s. Where `malloc` gives null they
  * answer SYNTH_NO_MEMORY. `malloc`, `realloc` and `free` are of one allocator, which aligns blocks as C wants it.
@@ -30,10 +31,10 @@
  * an object. `at` of a handle is the library's own: never follow it, and never write to either field.
  *
  * CODES. Every other mistake is answered by a code: an empty handle, a full one where an empty one is wanted, a
- * handle of another object, a number out of range, a short buffer. Each call lists its codes in the order in which
- * they are looked at: where more than one fits, the first one is told. After any code but SYNTH_DONE all is as it
- * was, the caller's variables and buffers too, but where a call says otherwise. A try (`.._try_..`) makes one, and
- * always returns.
+ * handle of another object, a number out of range, a short buffer, an element that isn't held. Each call lists its
+ * codes in the order in which they are looked at: where more than one fits, the first one is told. After any code but
+ * SYNTH_DONE all is as it was, the caller's variables and buffers too, but where a call says otherwise. A try
+ * (`.._try_..`) makes one, and always returns.
  */
 #ifndef SYNTHESIS_H
 #define SYNTHESIS_H
@@ -53,7 +54,7 @@ enum synth_code {
     SYNTH_NO_ITEMS = 1,    /* a put of no items */
     SYNTH_TOO_LONG = 2,    /* a put of more items than the queue has places */
     SYNTH_CLOSED = 3,      /* the queue is shut; of a taking: and all that was put is taken */
-    SYNTH_SPENT = 4,       /* fewer positions are left than the put wants, or no tick */
+    SYNTH_SPENT = 4,       /* no position, tick or step is left, or fewer positions than the put wants */
     SYNTH_FULL = 5,        /* there was no room: let a taker run, then try again */
     SYNTH_LOST = 6,        /* another end was first: try again */
     SYNTH_EMPTY = 7,       /* there was nothing to take: come back */
@@ -359,7 +360,7 @@ int32_t synth_line_free_out(struct synth_line_out *output);
  *
  * WAITS, AND NO LOST WAKE. An element waits until the program has something for it. Between the worker's look for that
  * and the wait another worker may bring it, find nobody waiting, and go: then the wake is lost. A ticket rules this
- * out. It is the number of notifies of a wait queue so far, modulo 2^32.
+ * out. It is the number of notifies of a wait queue so far, modulo 2^32: that many behind a ticket look like none.
  *
  *     who waits:  1. synth_hand_ticket  2. look, and go on where there is something  3. synth_hand_try_wait_at
  *     who wakes:  1. bring it, for all to see  2. synth_hand_notify

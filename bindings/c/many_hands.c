@@ -1,0 +1,207 @@
+/*
+ * Four workers, each in a thread of its own, take elements from all element queues, run them, park and start them,
+ * send them signals, and move them on, as pseudorandom numbers say. No element is ever held by two; each step and each
+ * signal is counted once. Prints one line. Status 1: an element was held twice, or the table's counts are others.
+ */
+#include "synthesis.h"
+#include <pthread.h>
+#include <sched.h>
+#include <stdio.h>
+#include <stdlib.h>
+
+enum { WORKERS = 4, ELEMENTS = 64, WAITS = 16, SIGNALS = 16, TURNS = 20000 };
+
+/* What a worker works with, and what it did. */
+struct worker {
+    struct synth_hand hand;
+    uint32_t processor;
+    uint32_t random;
+    unsigned long steps, raised, delivered, faults;
+};
+
+static void must(int32_t code, const char *what)
+{
+    if (code != SYNTH_DONE) {
+        fprintf(stderr, "many_hands: %s: code %d\n", what, (int)code);
+        exit(1);
+    }
+}
+
+/* The next pseudorandom number, below `end`. */
+static uint32_t below(struct worker *worker, uint32_t end)
+{
+    worker->random = worker->random * 1664525u + 1013904223u;
+    return (worker->random >> 16) % end;
+}
+
+static unsigned long bits_of(uint32_t mask)
+{
+    unsigned long count = 0;
+    for (; mask != 0; mask &= mask - 1) {
+        count++;
+    }
+    return count;
+}
+
+/* How many workers hold each element, as they say themselves. */
+static int holders[ELEMENTS];
+
+static void hold(struct worker *worker, uint32_t element)
+{
+    worker->faults += __atomic_fetch_add(&holders[element], 1, __ATOMIC_SEQ_CST) != 0;
+}
+
+static void let_go(struct worker *worker, uint32_t element)
+{
+    worker->faults += __atomic_fetch_sub(&holders[element], 1, __ATOMIC_SEQ_CST) != 1;
+}
+
+/* One try to take an element from a queue, or from its stop cell. True where the worker holds it then. */
+static bool take(struct worker *worker, uint32_t *element)
+{
+    struct synth_answer answer = {SYNTH_EMPTY, 0, 0};
+    uint32_t started = 0, head = 0;
+    switch (below(worker, 5)) {
+    case 0:
+        answer = synth_hand_try_next(&worker->hand, element);
+        break;
+    case 1:
+        answer = synth_hand_try_free(&worker->hand, element);
+        break;
+    case 2:
+        answer = synth_hand_try_wake(&worker->hand, below(worker, WAITS), element);
+        break;
+    case 3: {
+        uint32_t wait = below(worker, WAITS);
+        must(synth_hand_notify(&worker->hand, wait, &head), "notify");
+        answer = synth_hand_try_wake_before(&worker->hand, wait, head, element);
+        break;
+    }
+    default: {
+        *element = below(worker, ELEMENTS);
+        struct synth_state state = synth_hand_try_start(&worker->hand, *element, &started);
+        answer.code = state.code == SYNTH_DONE && started != SYNTH_START_HELD ? SYNTH_EMPTY : state.code;
+    }
+    }
+    if (answer.code == SYNTH_DONE) {
+        hold(worker, *element);
+        return true;
+    }
+    if (answer.code != SYNTH_EMPTY && answer.code != SYNTH_LOST && answer.code != SYNTH_ALL_WOKEN) {
+        must(answer.code, "take");
+    }
+    return false;
+}
+
+/* Runs an element that the worker holds for a step, and delivers its signals. */
+static void run(struct worker *worker, uint32_t element)
+{
+    uint64_t before = 0, after = 0;
+    uint32_t off = 0, signals = 0;
+    must(synth_hand_pc(&worker->hand, element, &before), "pc");
+    must(synth_hand_on(&worker->hand, worker->processor, element), "on");
+    must(synth_hand_step_done(&worker->hand, element, &after), "step_done");
+    must(synth_hand_off(&worker->hand, worker->processor, &off), "off");
+    worker->faults += after != before + 1 || off != element;
+    worker->steps++;
+    struct synth_state state = synth_hand_try_deliver(&worker->hand, element, &signals);
+    if (state.code == SYNTH_DONE) {
+        worker->delivered += bits_of(signals);
+    } else if (state.code != SYNTH_LOST) {
+        must(state.code, "deliver");
+    }
+}
+
+/* One try to park the element, which is done where it is to stop, or else to move it to a queue. */
+static bool move(struct worker *worker, uint32_t element)
+{
+    uint32_t wait = below(worker, WAITS), ticket = 0;
+    bool parked = false;
+    int32_t code = synth_hand_try_park(&worker->hand, element, &parked).code;
+    if (code != SYNTH_DONE || parked) {
+        return code == SYNTH_DONE;
+    }
+    switch (below(worker, 4)) {
+    case 0:
+        return synth_hand_try_ready(&worker->hand, element).code == SYNTH_DONE;
+    case 1:
+        return synth_hand_try_retire(&worker->hand, element).code == SYNTH_DONE;
+    case 2:
+        return synth_hand_try_wait(&worker->hand, element, wait).code == SYNTH_DONE;
+    default:
+        must(synth_hand_ticket(&worker->hand, wait, &ticket), "ticket");
+        return synth_hand_try_wait_at(&worker->hand, element, wait, ticket).code == SYNTH_DONE;
+    }
+}
+
+static void *work(void *given)
+{
+    struct worker *worker = (struct worker *)given;
+    for (int i = 0; i < TURNS; i++) {
+        uint32_t element = 0;
+        bool raised = false, was_clear = false;
+        must(synth_hand_signal(&worker->hand, below(worker, ELEMENTS), below(worker, SIGNALS), &raised), "signal");
+        worker->raised += raised;
+        if (below(worker, 8) == 0) {
+            must(synth_hand_stop(&worker->hand, below(worker, ELEMENTS), &was_clear), "stop");
+        }
+        if (!take(worker, &element)) {
+            continue;
+        }
+        run(worker, element);
+        let_go(worker, element);
+        while (!move(worker, element)) {
+            sched_yield();
+        }
+    }
+    return NULL;
+}
+
+/* All zeros, so each handle is empty. The last one is the main thread's. */
+static struct worker workers[WORKERS + 1];
+
+/* Joins a worker's hand to the main thread's, and counts what it did there. */
+static void add_up(struct worker *last, struct worker *worker)
+{
+    must(synth_hand_join(&last->hand, &worker->hand), "join");
+    last->steps += worker->steps;
+    last->raised += worker->raised;
+    last->delivered += worker->delivered;
+    last->faults += worker->faults;
+}
+
+/* What the close tells has to be what the workers counted, and nobody holds an element or has one on a processor. */
+static unsigned long faults_at_end(const struct worker *last, const struct synth_places *places)
+{
+    unsigned long steps = 0, pending = 0, faults = 0;
+    for (int i = 0; i < ELEMENTS; i++) {
+        uint32_t kind = places->place[i].kind;
+        steps += (unsigned long)places->pc[i];
+        pending += bits_of(places->pending[i]);
+        faults += kind == SYNTH_PLACE_HELD || kind == SYNTH_PLACE_PROCESSOR || holders[i] != 0;
+        faults += kind == SYNTH_PLACE_STOPPED && (places->stops >> i & 1) == 0;
+    }
+    return faults + (steps != last->steps) + (last->raised != last->delivered + pending);
+}
+
+int main(void)
+{
+    struct worker *last = &workers[WORKERS];
+    struct synth_places places;
+    pthread_t threads[WORKERS];
+    must(synth_hand_new(3, &last->hand), "new");
+    for (uint32_t i = 0; i < WORKERS; i++) {
+        workers[i].processor = 7 - i;
+        workers[i].random = i;
+        must(synth_hand_split(&last->hand, 1u << (7 - i), &workers[i].hand), "split");
+        must(pthread_create(&threads[i], NULL, work, &workers[i]), "a thread");
+    }
+    for (int i = 0; i < WORKERS; i++) {
+        must(pthread_join(threads[i], NULL), "the end of a worker");
+        add_up(last, &workers[i]);
+    }
+    must(synth_hand_close(&last->hand, &places), "close");
+    unsigned long faults = last->faults + faults_at_end(last, &places);
+    printf("many_hands: %d elements, %lu faults\n", ELEMENTS, faults);
+    return faults != 0 || last->steps == 0 || last->delivered == 0;
+}

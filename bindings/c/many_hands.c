@@ -9,7 +9,7 @@
 #include <stdio.h>
 #include <stdlib.h>
 
-enum { WORKERS = 4, ELEMENTS = 64, WAITS = 16, SIGNALS = 16, TURNS = 20000 };
+enum { WORKERS = 4, ELEMENTS = 64, WAITS = 16, SIGNALS = 16, TURNS = 50000 };
 
 /* What a worker works with, and what it did. */
 struct worker {

@@ -10,7 +10,7 @@ use synthesis_kernel::{
 
 const WORKERS: u8 = 4;
 const STEPS: u64 = 200;
-const TURNS: u64 = 300;
+const TURNS: u64 = 100;
 
 fn element(number: u8) -> Element {
     Element::new(number).unwrap()

@@ -2,6 +2,7 @@
 #![tactic(auto)]
 
 mod answer;
+mod hand;
 mod line;
 mod queue;
 mod seat;

@@ -41,6 +41,30 @@ Freed = negsuc 7
 abbrev pub Open : ℤ
 Open = pos 12
 
+-- the library's `Spent`
+abbrev pub Spent : ℤ
+Spent = pos 4
+
+-- an element of the hand stands on the processor
+abbrev pub Busy : ℤ
+Busy = pos 9
+
+-- none of the hand's elements stands on the processor
+abbrev pub Vacant : ℤ
+Vacant = pos 10
+
+-- the hand doesn't hold the element
+abbrev pub NotHeld : ℤ
+NotHeld = pos 13
+
+-- the hand doesn't serve the processor
+abbrev pub NotServed : ℤ
+NotServed = pos 14
+
+-- each place that was claimed before the position is taken
+abbrev pub AllWoken : ℤ
+AllWoken = pos 15
+
 abbrev pub code_of_claim : Result ℕ ClaimRefusal → ℤ
 code_of_claim (Ok start) = pos 0
 code_of_claim (Err claim.NoItems) = pos 1

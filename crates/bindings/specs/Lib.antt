@@ -1,4 +1,6 @@
 pub mod Codes
+pub mod HandCalls
+pub mod HandHeld
 pub mod Hiding
 pub mod LineCalls
 pub mod QueueCalls

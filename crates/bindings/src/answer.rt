@@ -23,9 +23,21 @@ pub const LOST: i32 = 6;
 
 pub const EMPTY: i32 = 7;
 
+pub const MOVED: i32 = 8;
+
+pub const BUSY: i32 = 9;
+
+pub const VACANT: i32 = 10;
+
 pub const NO_ROOM: i32 = 11;
 
 pub const OPEN: i32 = 12;
+
+pub const NOT_HELD: i32 = 13;
+
+pub const NOT_SERVED: i32 = 14;
+
+pub const ALL_WOKEN: i32 = 15;
 
 pub const NO_MEMORY: i32 = -1;
 

@@ -1,4 +1,5 @@
 mod Buffers
+mod HandFits
 mod QueueClosed
 mod QueueEnds
 mod SeatSetting

@@ -1,6 +1,9 @@
 pub mod Codes
 pub mod HandCalls
 pub mod HandHeld
+pub mod HandMoves
+pub mod HandStates
+pub mod HandTakings
 pub mod Hiding
 pub mod LineCalls
 pub mod QueueCalls

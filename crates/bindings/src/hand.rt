@@ -3,3 +3,7 @@
 mod handle;
 mod held;
 mod hidden;
+mod moves;
+mod numbers;
+mod states;
+mod takings;

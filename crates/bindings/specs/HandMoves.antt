@@ -1,0 +1,90 @@
+-- The moves of a hand, and what C is told of them.
+use Rattle.std.specs.Prelude.{◌≡◌, ◌⊎◌, ◌≤◌, ◌<◌, ◌+◌, ℕ, ℤ, pos, true, false, Result, Ok, Err}
+use Rattle.std.specs.declared.option.Option.{Option}
+use Rattle.std.specs.declared.option.Option.TheVariants.{Some}
+use Rattle.thread_table.specs.declared.moves.MoveRefusal.{MoveRefusal}
+use Rattle.thread_table.specs.declared.moves.MoveRefusal.TheVariants as moves
+use Rattle.thread_table.specs.Handles.{view_of, call_of}
+use Rattle.thread_table.specs.Rules.{has}
+use Rattle.thread_table.specs.Answers.{MoveAnswer, WaitAnswer, IsTicket, head_in, mark_in}
+use Rattle.bindings.specs.declared.hand.held.HeldHand.{HeldHand}
+use Rattle.bindings.specs.declared.hand.moves.SynthMoved.{SynthMoved}
+use Rattle.bindings.specs.Codes.{Done, BadNumber, NotHeld}
+use Rattle.bindings.specs.HandHeld.{IsKept}
+
+-- a move into this element queue gave this answer
+abbrev pub WasMoved : ℕ → ℕ → Result (Unit {0}) MoveRefusal → HeldHand → HeldHand → Type 0
+WasMoved line element answer x y =
+    IsKept x y × MoveAnswer (call_of x.hand) (view_of x.hand) line element answer (view_of y.hand)
+
+-- `try_wait_at` gave this answer
+abbrev pub WasWaited : ℕ → ℕ → ℕ → Result (Unit {0}) MoveRefusal → HeldHand → HeldHand → Type 0
+WasWaited wait element ticket answer x y =
+    IsKept x y × WaitAnswer (call_of x.hand) (view_of x.hand) wait element ticket answer (view_of y.hand)
+
+-- `ticket` gave this number of notifies
+abbrev pub WasTicket : ℕ → ℕ → HeldHand → HeldHand → Type 0
+WasTicket wait ticket x y = IsKept x y × IsTicket (view_of x.hand) wait ticket (view_of y.hand)
+
+abbrev pub code_of_move : Result (Unit {0}) MoveRefusal → ℤ
+code_of_move (Ok done) = pos 0
+code_of_move (Err moves.Spent) = pos 4
+code_of_move (Err (moves.Lost seen)) = pos 6
+code_of_move (Err (moves.Moved mark)) = pos 8
+
+-- the position of the head word that was found
+abbrev pub head_of_move : Result (Unit {0}) MoveRefusal → ℕ
+head_of_move (Err (moves.Lost seen)) = head_in seen
+head_of_move _ = 0
+
+-- the number of notifies that was found
+abbrev pub notifies_of_move : Result (Unit {0}) MoveRefusal → ℕ
+notifies_of_move (Err (moves.Lost seen)) = mark_in seen
+notifies_of_move (Err (moves.Moved mark)) = mark
+notifies_of_move _ = 0
+
+-- this code, and no number
+abbrev pub IsMoveCode : ℤ → SynthMoved → Type 0
+IsMoveCode code told = (told.code ≡ code) × (told.head ≡ 0) × (told.notifies ≡ 0)
+
+-- C is told what the library answered to a move of this kind
+pub record MoveTold (Answers : Result (Unit {0}) MoveRefusal → HeldHand → HeldHand → Type 0) (x : HeldHand)
+    (new : Option HeldHand) (told : SynthMoved) : Type 0 where
+  pub y : HeldHand
+  pub full : new ≡ Some y
+  pub answer : Result (Unit {0}) MoveRefusal
+  pub answered : Answers answer x y
+  pub code : told.code ≡ code_of_move answer
+  pub head : told.head ≡ head_of_move answer
+  pub notifies : told.notifies ≡ notifies_of_move answer
+
+-- An element that is told is in range; it is not held, or else C is told of the move
+abbrev pub HeldOrNot : (Result (Unit {0}) MoveRefusal → HeldHand → HeldHand → Type 0) → ℕ → HeldHand → Option HeldHand
+    → SynthMoved → Type 0
+HeldOrNot Answers element x new told =
+    (IsMoveCode NotHeld told × (has (view_of x.hand) element ≡ false) × (new ≡ Some x))
+    ⊎ ((has (view_of x.hand) element ≡ true) × MoveTold Answers x new told)
+
+-- what `try_ready` and `try_retire` did, by the number of the element queue
+abbrev pub MovingTold : ℕ → ℕ → HeldHand → Option HeldHand → SynthMoved → Type 0
+MovingTold line element x new told =
+    (IsMoveCode BadNumber told × (64 ≤ element) × (new ≡ Some x))
+    ⊎ ((element < 64) × HeldOrNot (WasMoved line element) element x new told)
+
+-- what `try_wait` did
+abbrev pub WaitingTold : ℕ → ℕ → HeldHand → Option HeldHand → SynthMoved → Type 0
+WaitingTold element wait x new told =
+    (IsMoveCode BadNumber told × ((64 ≤ element) ⊎ (16 ≤ wait)) × (new ≡ Some x))
+    ⊎ ((element < 64) × (wait < 16) × HeldOrNot (WasMoved (wait + 2) element) element x new told)
+
+-- what `ticket` did, by its code
+abbrev pub TicketTold : ℕ → HeldHand → ℕ → ℕ → Option HeldHand → ℤ → Type 0
+TicketTold wait x old_ticket ticket new code =
+    ((code ≡ BadNumber) × (16 ≤ wait) × (new ≡ Some x) × (ticket ≡ old_ticket))
+    ⊎ ((code ≡ Done) × (wait < 16) × (y : HeldHand) × (new ≡ Some y) × WasTicket wait ticket x y)
+
+-- what `try_wait_at` did
+abbrev pub WaitingAtTold : ℕ → ℕ → ℕ → HeldHand → Option HeldHand → SynthMoved → Type 0
+WaitingAtTold element wait ticket x new told =
+    (IsMoveCode BadNumber told × ((64 ≤ element) ⊎ (16 ≤ wait)) × (new ≡ Some x))
+    ⊎ ((element < 64) × (wait < 16) × HeldOrNot (WasWaited wait element ticket) element x new told)

@@ -1,0 +1,143 @@
+-- Stops, starts, parks, signals and deliveries of a hand, and what C is told of them.
+use Rattle.std.specs.Prelude.{◌≡◌, ◌⊎◌, ◌≤◌, ◌<◌, ℕ, ℤ, pos, Bool, true, false, Result, Ok, Err, MatchResult}
+use Rattle.std.specs.declared.option.Option.{Option}
+use Rattle.std.specs.declared.option.Option.TheVariants.{Some}
+use Rattle.thread_table.specs.declared.states.Started.{Started}
+use Rattle.thread_table.specs.declared.states.Started.TheVariants as started
+use Rattle.thread_table.specs.declared.states.Signalled.{Signalled}
+use Rattle.thread_table.specs.declared.states.Signalled.TheVariants as signalled
+use Rattle.thread_table.specs.declared.states.Lost.{Lost}
+use Rattle.thread_table.specs.Handles.{view_of, call_of}
+use Rattle.thread_table.specs.Rules.{has}
+use Rattle.thread_table.specs.Answers.{StoppedNow, StartAnswer, ParkAnswer, SignalAnswer, DeliverAnswer}
+use Rattle.bindings.specs.declared.hand.held.HeldHand.{HeldHand}
+use Rattle.bindings.specs.declared.hand.states.SynthState.{SynthState}
+use Rattle.bindings.specs.Codes.{Done, BadNumber, NotHeld}
+use Rattle.bindings.specs.HandHeld.{IsKept}
+
+-- `stop` gave this answer, whether the stop bit was clear
+abbrev pub WasStopped : ℕ → Bool → HeldHand → HeldHand → Type 0
+WasStopped element was_clear x y =
+    IsKept x y × StoppedNow (call_of x.hand) (view_of x.hand) element was_clear (view_of y.hand)
+
+-- `try_start` gave this answer
+abbrev pub WasStarted : ℕ → Result Started Lost → HeldHand → HeldHand → Type 0
+WasStarted element answer x y =
+    IsKept x y × StartAnswer (call_of x.hand) (view_of x.hand) element answer (view_of y.hand)
+
+-- `try_park` gave this answer
+abbrev pub WasParked : ℕ → Result Bool Lost → HeldHand → HeldHand → Type 0
+WasParked element answer x y =
+    IsKept x y × ParkAnswer (call_of x.hand) (view_of x.hand) element answer (view_of y.hand)
+
+-- `signal` gave this answer
+abbrev pub WasSignalled : ℕ → ℕ → Signalled → HeldHand → HeldHand → Type 0
+WasSignalled element signal answer x y =
+    IsKept x y × SignalAnswer (call_of x.hand) (view_of x.hand) element signal answer (view_of y.hand)
+
+-- `try_deliver` gave this answer
+abbrev pub WereDelivered : ℕ → Result ℕ Lost → HeldHand → HeldHand → Type 0
+WereDelivered element answer x y =
+    IsKept x y × DeliverAnswer (call_of x.hand) (view_of x.hand) element answer (view_of y.hand)
+
+-- how C is told what a start did
+abbrev pub number_of_start : Started → ℕ
+number_of_start started.NotStopped = 0
+number_of_start started.Cleared = 1
+number_of_start started.Held = 2
+
+-- the signal was not pending before
+abbrev pub is_raised : Signalled → Bool
+is_raised signalled.Raised = true
+is_raised signalled.Merged = false
+
+-- this code, and no word
+abbrev pub IsStateCode : ℤ → SynthState → Type 0
+IsStateCode code told = (told.code ≡ code) × (told.word ≡ 0)
+
+-- the state word that was found
+abbrev pub IsToldLost : Lost → SynthState → Type 0
+IsToldLost lost told = (told.code ≡ pos 6) × (told.word ≡ lost.seen)
+
+-- the state word that a refusal tells has 32 bits
+abbrev pub IsFitState : {X : Type 0} → Result X Lost → Type 0
+IsFitState (Ok x) = Unit {0}
+IsFitState (Err lost) = lost.seen < 4294967296
+
+-- what C is told of a start
+abbrev pub IsToldStart : Result Started Lost → ℕ → ℕ → SynthState → Type 0
+IsToldStart answer old new told = MatchResult answer (λ s. (new ≡ number_of_start s) × IsStateCode Done told)
+    (λ lost. (new ≡ old) × IsToldLost lost told)
+
+-- what C is told of a park
+abbrev pub IsToldPark : Result Bool Lost → Bool → Bool → SynthState → Type 0
+IsToldPark answer old new told = MatchResult answer (λ b. (new ≡ b) × IsStateCode Done told)
+    (λ lost. (new ≡ old) × IsToldLost lost told)
+
+-- what C is told of a delivery: bit s for signal s
+abbrev pub IsToldDelivery : Result ℕ Lost → ℕ → ℕ → SynthState → Type 0
+IsToldDelivery answer old new told = MatchResult answer (λ mask. (new ≡ mask) × IsStateCode Done told)
+    (λ lost. (new ≡ old) × IsToldLost lost told)
+
+-- what `stop` did, by its code
+abbrev pub StopTold : ℕ → HeldHand → Bool → Bool → Option HeldHand → ℤ → Type 0
+StopTold element x old_answer answer new code =
+    ((code ≡ BadNumber) × (64 ≤ element) × (new ≡ Some x) × (answer ≡ old_answer))
+    ⊎ ((code ≡ Done) × (element < 64) × (y : HeldHand) × (new ≡ Some y) × WasStopped element answer x y)
+
+-- C is told what the library's `try_start` answered
+pub record WasStartTold (element : ℕ) (x : HeldHand) (old_number number : ℕ) (new : Option HeldHand) (told : SynthState)
+    : Type 0 where
+  pub y : HeldHand
+  pub full : new ≡ Some y
+  pub answer : Result Started Lost
+  pub answered : WasStarted element answer x y
+  pub tells : IsToldStart answer old_number number told
+
+-- what `try_start` did
+abbrev pub StartTold : ℕ → HeldHand → ℕ → ℕ → Option HeldHand → SynthState → Type 0
+StartTold element x old_number number new told =
+    (IsStateCode BadNumber told × (64 ≤ element) × (new ≡ Some x) × (number ≡ old_number))
+    ⊎ ((element < 64) × WasStartTold element x old_number number new told)
+
+-- C is told what the library's `try_park` answered
+pub record WasParkTold (element : ℕ) (x : HeldHand) (old_answer is : Bool) (new : Option HeldHand) (told : SynthState)
+    : Type 0 where
+  pub y : HeldHand
+  pub full : new ≡ Some y
+  pub answer : Result Bool Lost
+  pub answered : WasParked element answer x y
+  pub tells : IsToldPark answer old_answer is told
+
+-- what `try_park` did
+abbrev pub ParkTold : ℕ → HeldHand → Bool → Bool → Option HeldHand → SynthState → Type 0
+ParkTold element x old_answer is new told =
+    (IsStateCode BadNumber told × (64 ≤ element) × (new ≡ Some x) × (is ≡ old_answer))
+    ⊎ (IsStateCode NotHeld told × (element < 64) × (has (view_of x.hand) element ≡ false) × (new ≡ Some x)
+    × (is ≡ old_answer))
+    ⊎ ((element < 64) × (has (view_of x.hand) element ≡ true) × WasParkTold element x old_answer is new told)
+
+-- what `signal` did, by its code
+abbrev pub SignalTold : ℕ → ℕ → HeldHand → Bool → Bool → Option HeldHand → ℤ → Type 0
+SignalTold element signal x old_answer is new code =
+    ((code ≡ BadNumber) × ((64 ≤ element) ⊎ (16 ≤ signal)) × (new ≡ Some x) × (is ≡ old_answer))
+    ⊎ ((code ≡ Done) × (element < 64) × (signal < 16) × (y : HeldHand) × (new ≡ Some y) × (answer : Signalled)
+    × (is ≡ is_raised answer) × WasSignalled element signal answer x y)
+
+-- C is told what the library's `try_deliver` answered
+pub record WasDeliverTold (element : ℕ) (x : HeldHand) (old_signals signals : ℕ) (new : Option HeldHand)
+    (told : SynthState) : Type 0 where
+  pub y : HeldHand
+  pub full : new ≡ Some y
+  pub answer : Result ℕ Lost
+  pub answered : WereDelivered element answer x y
+  pub tells : IsToldDelivery answer old_signals signals told
+
+-- what `try_deliver` did
+abbrev pub DeliverTold : ℕ → HeldHand → ℕ → ℕ → Option HeldHand → SynthState → Type 0
+DeliverTold element x old_signals signals new told =
+    (IsStateCode BadNumber told × (64 ≤ element) × (new ≡ Some x) × (signals ≡ old_signals))
+    ⊎ (IsStateCode NotHeld told × (element < 64) × (has (view_of x.hand) element ≡ false) × (new ≡ Some x)
+    × (signals ≡ old_signals))
+    ⊎ ((element < 64) × (has (view_of x.hand) element ≡ true)
+    × WasDeliverTold element x old_signals signals new told)

@@ -1,0 +1,54 @@
+-- The takings of a hand, and what C is told of them.
+use Rattle.std.specs.Prelude.{◌≡◌, ◌⊎◌, ◌≤◌, ◌<◌, ◌+◌, ℕ, ℤ, pos, Result, Ok, Err, MatchResult}
+use Rattle.std.specs.declared.option.Option.{Option}
+use Rattle.std.specs.declared.option.Option.TheVariants.{Some}
+use Rattle.thread_table.specs.declared.takings.NextRefusal.{NextRefusal}
+use Rattle.thread_table.specs.declared.takings.NextRefusal.TheVariants as nexts
+use Rattle.thread_table.specs.Handles.{view_of, call_of}
+use Rattle.thread_table.specs.Answers.{TakeAnswer}
+use Rattle.bindings.specs.declared.answer.SynthAnswer.{SynthAnswer}
+use Rattle.bindings.specs.declared.hand.held.HeldHand.{HeldHand}
+use Rattle.bindings.specs.Codes.{Done, BadNumber}
+use Rattle.bindings.specs.HandHeld.{IsKept}
+
+-- a taking from this element queue gave this answer
+abbrev pub WasTaken : ℕ → Result ℕ NextRefusal → HeldHand → HeldHand → Type 0
+WasTaken line answer x y = IsKept x y × TakeAnswer (call_of x.hand) (view_of x.hand) line answer (view_of y.hand)
+
+abbrev pub code_of_next : NextRefusal → ℤ
+code_of_next nexts.NoneReady = pos 7
+code_of_next (nexts.Lost seen) = pos 6
+
+abbrev pub tail_of_next : NextRefusal → ℕ
+tail_of_next nexts.NoneReady = 0
+tail_of_next (nexts.Lost seen) = seen
+
+-- the tail that a refusal tells has 32 bits
+abbrev pub IsFit : Result ℕ NextRefusal → Type 0
+IsFit (Ok element) = Unit {0}
+IsFit (Err r) = tail_of_next r < 4294967296
+
+-- this code, and no number
+abbrev pub IsCode : ℤ → SynthAnswer → Type 0
+IsCode code told = (told.code ≡ code) × (told.head ≡ 0) × (told.tail ≡ 0)
+
+-- what C is told of a taking
+abbrev pub IsToldTaking : Result ℕ NextRefusal → ℕ → ℕ → SynthAnswer → Type 0
+IsToldTaking answer old new told = MatchResult answer
+    (λ element. (new ≡ element) × IsCode Done told)
+    (λ r. (new ≡ old) × (told.code ≡ code_of_next r) × (told.head ≡ 0) × (told.tail ≡ tail_of_next r))
+
+-- C is told what the library answered to a taking from this element queue
+pub record TakingTold (line : ℕ) (x : HeldHand) (old_element element : ℕ) (new : Option HeldHand) (told : SynthAnswer)
+    : Type 0 where
+  pub y : HeldHand
+  pub full : new ≡ Some y
+  pub answer : Result ℕ NextRefusal
+  pub answered : WasTaken line answer x y
+  pub tells : IsToldTaking answer old_element element told
+
+-- what `try_wake` did: no such wait queue is told as a number out of its range
+abbrev pub WakingTold : ℕ → HeldHand → ℕ → ℕ → Option HeldHand → SynthAnswer → Type 0
+WakingTold wait x old_element element new told =
+    (IsCode BadNumber told × (16 ≤ wait) × (new ≡ Some x) × (element ≡ old_element))
+    ⊎ ((wait < 16) × TakingTold (wait + 2) x old_element element new told)

@@ -1,0 +1,247 @@
+//! Moves of elements for C.
+ghost use Rattle.std.specs.Prelude.{◌≡◌, ◌+◌, true};
+ghost use Rattle.std.specs.declared.option.Option.TheVariants.{None};
+ghost use Rattle.thread_table.specs.Handles.{view_of};
+ghost use Rattle.thread_table.specs.Rules.{has};
+ghost use Rattle.bindings.specs.Codes.{EmptyHandle};
+ghost use Rattle.bindings.specs.HandCalls.{HoldsThen};
+ghost use Rattle.bindings.specs.HandMoves.{WasMoved, WasWaited, WasTicket, code_of_move, head_of_move, notifies_of_move};
+ghost use Rattle.bindings.specs.HandMoves.{IsMoveCode, MovingTold, WaitingTold, TicketTold, WaitingAtTold};
+
+use super::handle::HandleHand;
+use super::held::HeldHand;
+use super::numbers::{element_of, wait_of};
+use crate::answer::{BAD_NUMBER, DONE, EMPTY_HANDLE, LOST, MOVED, NOT_HELD, SPENT};
+use event_theory::{Element, WaitNumber};
+use std::alloc::Global;
+use thread_table::MoveRefusal;
+
+/// What a move answered. With `LOST`, `head` and `notifies` are those of the head word that was found. With `MOVED`,
+/// `notifies` is the number that was found.
+#[repr(C)]
+#[derive(Drop)]
+pub struct SynthMoved {
+    pub code: i32,
+    pub head: u32,
+    pub notifies: u32,
+}
+
+impl HeldHand {
+    /// `ThreadTable::try_ready`.
+    pub fn try_ready(&mut self, element: Element) -> Result<(), MoveRefusal>
+        requires { has (view_of self.old.hand) element ≡ true }
+        ensures { WasMoved 0 element result self.old self.new }
+    {
+        self.table.try_ready(&mut self.hand, element)
+    }
+
+    /// `ThreadTable::try_retire`.
+    pub fn try_retire(&mut self, element: Element) -> Result<(), MoveRefusal>
+        requires { has (view_of self.old.hand) element ≡ true }
+        ensures { WasMoved 1 element result self.old self.new }
+    {
+        self.table.try_retire(&mut self.hand, element)
+    }
+
+    /// `ThreadTable::try_wait`.
+    pub fn try_wait(&mut self, element: Element, wait: WaitNumber) -> Result<(), MoveRefusal>
+        requires { has (view_of self.old.hand) element ≡ true }
+        ensures { WasMoved (wait + 2) element result self.old self.new }
+    {
+        self.table.try_wait(&mut self.hand, element, wait)
+    }
+
+    /// `ThreadTable::ticket`.
+    pub fn ticket(&mut self, wait: WaitNumber) -> u32
+        ensures { WasTicket wait result self.old self.new }
+    {
+        self.table.ticket(&mut self.hand, wait)
+    }
+
+    /// `ThreadTable::try_wait_at`.
+    pub fn try_wait_at(
+        &mut self,
+        element: Element,
+        wait: WaitNumber,
+        ticket: u32,
+    ) -> Result<(), MoveRefusal>
+        requires { has (view_of self.old.hand) element ≡ true }
+        ensures { WasWaited wait element ticket result self.old self.new }
+    {
+        self.table
+            .try_wait_at(&mut self.hand, element, wait, ticket)
+    }
+}
+
+// The code alone.
+fn code_alone(code: i32) -> SynthMoved
+    ensures { IsMoveCode code result }
+{
+    SynthMoved {
+        code,
+        head: 0,
+        notifies: 0,
+    }
+}
+
+// The code of the answer, and the numbers that it tells.
+fn told_of_move(answer: Result<(), MoveRefusal>) -> SynthMoved
+    ensures { (result.code ≡ code_of_move answer) × (result.head ≡ head_of_move answer)
+        × (result.notifies ≡ notifies_of_move answer) }
+{
+    match answer {
+        Ok(()) => code_alone(DONE),
+        Err(MoveRefusal::Spent) => code_alone(SPENT),
+        Err(MoveRefusal::Lost { seen }) => SynthMoved {
+            code: LOST,
+            head: (seen % 4294967296) as u32,
+            notifies: (seen / 4294967296) as u32,
+        },
+        Err(MoveRefusal::Moved { mark }) => SynthMoved {
+            code: MOVED,
+            head: 0,
+            notifies: mark,
+        },
+    }
+}
+
+/// `ThreadTable::try_ready`. The elements are 0 to 63.
+#[unsafe(no_mangle)]
+pub extern "C" fn synth_hand_try_ready(
+    alloc: Global,
+    hand: &mut HandleHand,
+    element: u32,
+) -> SynthMoved
+    ensures empty { hand.old.hidden.value ≡ None → IsMoveCode EmptyHandle result × (hand.new.hidden.value ≡ None) }
+    ensures moved { HoldsThen hand.old.hidden.value (λ x. MovingTold 0 element x hand.new.hidden.value result) }
+{
+    let Some(mut held) = hand.take(alloc) else {
+        return code_alone(EMPTY_HANDLE);
+    };
+    let Some(element) = element_of(element) else {
+        hand.put(held);
+        return code_alone(BAD_NUMBER);
+    };
+    if !held.hand.holds(element) {
+        hand.put(held);
+        return code_alone(NOT_HELD);
+    }
+    let answer = held.try_ready(element);
+    hand.put(held);
+    told_of_move(answer)
+}
+
+/// `ThreadTable::try_retire`. The elements are 0 to 63.
+#[unsafe(no_mangle)]
+pub extern "C" fn synth_hand_try_retire(
+    alloc: Global,
+    hand: &mut HandleHand,
+    element: u32,
+) -> SynthMoved
+    ensures empty { hand.old.hidden.value ≡ None → IsMoveCode EmptyHandle result × (hand.new.hidden.value ≡ None) }
+    ensures moved { HoldsThen hand.old.hidden.value (λ x. MovingTold 1 element x hand.new.hidden.value result) }
+{
+    let Some(mut held) = hand.take(alloc) else {
+        return code_alone(EMPTY_HANDLE);
+    };
+    let Some(element) = element_of(element) else {
+        hand.put(held);
+        return code_alone(BAD_NUMBER);
+    };
+    if !held.hand.holds(element) {
+        hand.put(held);
+        return code_alone(NOT_HELD);
+    }
+    let answer = held.try_retire(element);
+    hand.put(held);
+    told_of_move(answer)
+}
+
+/// `ThreadTable::try_wait`. The elements are 0 to 63, and the wait queues 0 to 15.
+#[unsafe(no_mangle)]
+pub extern "C" fn synth_hand_try_wait(
+    alloc: Global,
+    hand: &mut HandleHand,
+    element: u32,
+    wait: u32,
+) -> SynthMoved
+    ensures empty { hand.old.hidden.value ≡ None → IsMoveCode EmptyHandle result × (hand.new.hidden.value ≡ None) }
+    ensures moved { HoldsThen hand.old.hidden.value (λ x. WaitingTold element wait x hand.new.hidden.value result) }
+{
+    let Some(mut held) = hand.take(alloc) else {
+        return code_alone(EMPTY_HANDLE);
+    };
+    let Some(element) = element_of(element) else {
+        hand.put(held);
+        return code_alone(BAD_NUMBER);
+    };
+    let Some(wait) = wait_of(wait) else {
+        hand.put(held);
+        return code_alone(BAD_NUMBER);
+    };
+    if !held.hand.holds(element) {
+        hand.put(held);
+        return code_alone(NOT_HELD);
+    }
+    let answer = held.try_wait(element, wait);
+    hand.put(held);
+    told_of_move(answer)
+}
+
+/// `ThreadTable::ticket`. The wait queues are 0 to 15.
+#[unsafe(no_mangle)]
+pub extern "C" fn synth_hand_ticket(
+    alloc: Global,
+    hand: &mut HandleHand,
+    wait: u32,
+    ticket: &mut u32,
+) -> i32
+    ensures empty { hand.old.hidden.value ≡ None → (result ≡ EmptyHandle) × (hand.new.hidden.value ≡ None)
+        × (ticket.new ≡ ticket.old) }
+    ensures loaded { HoldsThen hand.old.hidden.value
+        (λ x. TicketTold wait x ticket.old ticket.new hand.new.hidden.value result) }
+{
+    let Some(mut held) = hand.take(alloc) else {
+        return EMPTY_HANDLE;
+    };
+    let Some(wait) = wait_of(wait) else {
+        hand.put(held);
+        return BAD_NUMBER;
+    };
+    *ticket = held.ticket(wait);
+    hand.put(held);
+    DONE
+}
+
+/// `ThreadTable::try_wait_at`. The elements are 0 to 63, and the wait queues 0 to 15.
+#[unsafe(no_mangle)]
+pub extern "C" fn synth_hand_try_wait_at(
+    alloc: Global,
+    hand: &mut HandleHand,
+    element: u32,
+    wait: u32,
+    ticket: u32,
+) -> SynthMoved
+    ensures empty { hand.old.hidden.value ≡ None → IsMoveCode EmptyHandle result × (hand.new.hidden.value ≡ None) }
+    ensures moved { HoldsThen hand.old.hidden.value
+        (λ x. WaitingAtTold element wait ticket x hand.new.hidden.value result) }
+{
+    let Some(mut held) = hand.take(alloc) else {
+        return code_alone(EMPTY_HANDLE);
+    };
+    let Some(element) = element_of(element) else {
+        hand.put(held);
+        return code_alone(BAD_NUMBER);
+    };
+    let Some(wait) = wait_of(wait) else {
+        hand.put(held);
+        return code_alone(BAD_NUMBER);
+    };
+    if !held.hand.holds(element) {
+        hand.put(held);
+        return code_alone(NOT_HELD);
+    }
+    let answer = held.try_wait_at(element, wait, ticket);
+    hand.put(held);
+    told_of_move(answer)
+}

@@ -1,0 +1,287 @@
+//! Stop bits, stop cells and signals for C.
+ghost use Rattle.std.specs.Prelude.{◌≡◌, ◌<◌, true};
+ghost use Rattle.std.specs.declared.option.Option.TheVariants.{None};
+ghost use Rattle.thread_table.specs.Handles.{view_of};
+ghost use Rattle.thread_table.specs.Rules.{has};
+ghost use Rattle.bindings.specs.Codes.{EmptyHandle};
+ghost use Rattle.bindings.specs.HandCalls.{HoldsThen};
+ghost use Rattle.bindings.specs.HandStates.{WasStopped, WasStarted, WasParked, WasSignalled, WereDelivered};
+ghost use Rattle.bindings.specs.HandStates.{number_of_start, is_raised, IsStateCode, IsToldLost, IsFitState};
+ghost use Rattle.bindings.specs.HandStates.{IsToldStart, IsToldPark, IsToldDelivery};
+ghost use Rattle.bindings.specs.HandStates.{StopTold, StartTold, ParkTold, SignalTold, DeliverTold};
+
+use super::handle::HandleHand;
+use super::held::HeldHand;
+use super::numbers::{element_of, signal_of};
+use crate::answer::{BAD_NUMBER, DONE, EMPTY_HANDLE, LOST, NOT_HELD};
+use event_theory::{Element, Signal};
+use std::alloc::Global;
+use thread_table::{Lost, Signalled, Started};
+
+/// What a start, a park or a delivery answered. With `LOST`, `word` is the state word that was found: bits 0 to 15 are
+/// the pending signals, bit 16 the stop bit, bit 17 the stop cell's.
+#[repr(C)]
+#[derive(Drop)]
+pub struct SynthState {
+    pub code: i32,
+    pub word: u32,
+}
+
+impl HeldHand {
+    /// `ThreadTable::stop`.
+    pub fn stop(&mut self, element: Element) -> bool
+        ensures { WasStopped element result self.old self.new }
+    {
+        self.table.stop(&mut self.hand, element)
+    }
+
+    /// `ThreadTable::try_start`.
+    pub fn try_start(&mut self, element: Element) -> Result<Started, Lost>
+        ensures { WasStarted element result self.old self.new }
+    {
+        self.table.try_start(&mut self.hand, element)
+    }
+
+    /// `ThreadTable::try_park`.
+    pub fn try_park(&mut self, element: Element) -> Result<bool, Lost>
+        requires { has (view_of self.old.hand) element ≡ true }
+        ensures { WasParked element result self.old self.new }
+    {
+        self.table.try_park(&mut self.hand, element)
+    }
+
+    /// `ThreadTable::signal`.
+    pub fn signal(&mut self, element: Element, signal: Signal) -> Signalled
+        ensures { WasSignalled element signal result self.old self.new }
+    {
+        self.table.signal(&mut self.hand, element, signal)
+    }
+
+    /// `ThreadTable::try_deliver`.
+    pub fn try_deliver(&mut self, element: Element) -> Result<u16, Lost>
+        requires { has (view_of self.old.hand) element ≡ true }
+        ensures { WereDelivered element result self.old self.new }
+    {
+        self.table.try_deliver(&mut self.hand, element)
+    }
+}
+
+// The code alone.
+fn code_alone(code: i32) -> SynthState
+    ensures { IsStateCode code result }
+{
+    SynthState { code, word: 0 }
+}
+
+// The word that the refusal tells.
+fn told_of_lost(lost: Lost) -> SynthState
+    requires { lost.seen < 4294967296 }
+    ensures { IsToldLost lost result }
+{
+    SynthState {
+        code: LOST,
+        word: lost.seen as u32,
+    }
+}
+
+// How C is told what a start did.
+fn number_of(started: Started) -> u32
+    ensures { result ≡ number_of_start started }
+{
+    match started {
+        Started::NotStopped => 0,
+        Started::Cleared => 1,
+        Started::Held => 2,
+    }
+}
+
+// Whether the signal was not pending before.
+fn was_raised(signalled: Signalled) -> bool
+    ensures { result ≡ is_raised signalled }
+{
+    match signalled {
+        Signalled::Raised => true,
+        Signalled::Merged => false,
+    }
+}
+
+// Tells what a start did, or the state word that was found.
+fn tell_start(answer: Result<Started, Lost>, started: &mut u32) -> SynthState
+    requires { IsFitState answer }
+    ensures { IsToldStart answer started.old started.new result }
+{
+    match answer {
+        Ok(done) => {
+            *started = number_of(done);
+            code_alone(DONE)
+        }
+        Err(lost) => told_of_lost(lost),
+    }
+}
+
+// Tells whether the element is parked, or the state word that was found.
+fn tell_park(answer: Result<bool, Lost>, parked: &mut bool) -> SynthState
+    requires { IsFitState answer }
+    ensures { IsToldPark answer parked.old parked.new result }
+{
+    match answer {
+        Ok(stands) => {
+            *parked = stands;
+            code_alone(DONE)
+        }
+        Err(lost) => told_of_lost(lost),
+    }
+}
+
+// Tells the signals that were delivered, or the state word that was found.
+fn tell_delivery(answer: Result<u16, Lost>, signals: &mut u32) -> SynthState
+    requires { IsFitState answer }
+    ensures { IsToldDelivery answer signals.old signals.new result }
+{
+    match answer {
+        Ok(pending) => {
+            *signals = u32::from(pending);
+            code_alone(DONE)
+        }
+        Err(lost) => told_of_lost(lost),
+    }
+}
+
+/// `ThreadTable::stop`. The elements are 0 to 63.
+#[unsafe(no_mangle)]
+pub extern "C" fn synth_hand_stop(
+    alloc: Global,
+    hand: &mut HandleHand,
+    element: u32,
+    was_clear: &mut bool,
+) -> i32
+    ensures empty { hand.old.hidden.value ≡ None → (result ≡ EmptyHandle) × (hand.new.hidden.value ≡ None)
+        × (was_clear.new ≡ was_clear.old) }
+    ensures stopped { HoldsThen hand.old.hidden.value
+        (λ x. StopTold element x was_clear.old was_clear.new hand.new.hidden.value result) }
+{
+    let Some(mut held) = hand.take(alloc) else {
+        return EMPTY_HANDLE;
+    };
+    let Some(element) = element_of(element) else {
+        hand.put(held);
+        return BAD_NUMBER;
+    };
+    *was_clear = held.stop(element);
+    hand.put(held);
+    DONE
+}
+
+/// `ThreadTable::try_start`. The elements are 0 to 63. `started` is then 0 where the stop bit was clear, 1 where it was
+/// cleared, and 2 where it was cleared and the hand holds the element.
+#[unsafe(no_mangle)]
+pub extern "C" fn synth_hand_try_start(
+    alloc: Global,
+    hand: &mut HandleHand,
+    element: u32,
+    started: &mut u32,
+) -> SynthState
+    ensures empty { hand.old.hidden.value ≡ None → IsStateCode EmptyHandle result × (hand.new.hidden.value ≡ None)
+        × (started.new ≡ started.old) }
+    ensures started { HoldsThen hand.old.hidden.value
+        (λ x. StartTold element x started.old started.new hand.new.hidden.value result) }
+{
+    let Some(mut held) = hand.take(alloc) else {
+        return code_alone(EMPTY_HANDLE);
+    };
+    let Some(element) = element_of(element) else {
+        hand.put(held);
+        return code_alone(BAD_NUMBER);
+    };
+    let answer = held.try_start(element);
+    hand.put(held);
+    tell_start(answer, started)
+}
+
+/// `ThreadTable::try_park`. The elements are 0 to 63.
+#[unsafe(no_mangle)]
+pub extern "C" fn synth_hand_try_park(
+    alloc: Global,
+    hand: &mut HandleHand,
+    element: u32,
+    parked: &mut bool,
+) -> SynthState
+    ensures empty { hand.old.hidden.value ≡ None → IsStateCode EmptyHandle result × (hand.new.hidden.value ≡ None)
+        × (parked.new ≡ parked.old) }
+    ensures parked { HoldsThen hand.old.hidden.value
+        (λ x. ParkTold element x parked.old parked.new hand.new.hidden.value result) }
+{
+    let Some(mut held) = hand.take(alloc) else {
+        return code_alone(EMPTY_HANDLE);
+    };
+    let Some(element) = element_of(element) else {
+        hand.put(held);
+        return code_alone(BAD_NUMBER);
+    };
+    if !held.hand.holds(element) {
+        hand.put(held);
+        return code_alone(NOT_HELD);
+    }
+    let answer = held.try_park(element);
+    hand.put(held);
+    tell_park(answer, parked)
+}
+
+/// `ThreadTable::signal`. The elements are 0 to 63, and the signals 0 to 15.
+#[unsafe(no_mangle)]
+pub extern "C" fn synth_hand_signal(
+    alloc: Global,
+    hand: &mut HandleHand,
+    element: u32,
+    signal: u32,
+    raised: &mut bool,
+) -> i32
+    ensures empty { hand.old.hidden.value ≡ None → (result ≡ EmptyHandle) × (hand.new.hidden.value ≡ None)
+        × (raised.new ≡ raised.old) }
+    ensures signalled { HoldsThen hand.old.hidden.value
+        (λ x. SignalTold element signal x raised.old raised.new hand.new.hidden.value result) }
+{
+    let Some(mut held) = hand.take(alloc) else {
+        return EMPTY_HANDLE;
+    };
+    let Some(element) = element_of(element) else {
+        hand.put(held);
+        return BAD_NUMBER;
+    };
+    let Some(signal) = signal_of(signal) else {
+        hand.put(held);
+        return BAD_NUMBER;
+    };
+    *raised = was_raised(held.signal(element, signal));
+    hand.put(held);
+    DONE
+}
+
+/// `ThreadTable::try_deliver`. The elements are 0 to 63.
+#[unsafe(no_mangle)]
+pub extern "C" fn synth_hand_try_deliver(
+    alloc: Global,
+    hand: &mut HandleHand,
+    element: u32,
+    signals: &mut u32,
+) -> SynthState
+    ensures empty { hand.old.hidden.value ≡ None → IsStateCode EmptyHandle result × (hand.new.hidden.value ≡ None)
+        × (signals.new ≡ signals.old) }
+    ensures delivered { HoldsThen hand.old.hidden.value
+        (λ x. DeliverTold element x signals.old signals.new hand.new.hidden.value result) }
+{
+    let Some(mut held) = hand.take(alloc) else {
+        return code_alone(EMPTY_HANDLE);
+    };
+    let Some(element) = element_of(element) else {
+        hand.put(held);
+        return code_alone(BAD_NUMBER);
+    };
+    if !held.hand.holds(element) {
+        hand.put(held);
+        return code_alone(NOT_HELD);
+    }
+    let answer = held.try_deliver(element);
+    hand.put(held);
+    tell_delivery(answer, signals)
+}

@@ -1,0 +1,132 @@
+//! Takings of elements for C.
+ghost use Rattle.std.specs.Prelude.{◌≡◌, ◌+◌, ◌<◌};
+ghost use Rattle.std.specs.declared.option.Option.TheVariants.{None};
+ghost use Rattle.bindings.specs.Codes.{EmptyHandle};
+ghost use Rattle.bindings.specs.HandCalls.{HoldsThen};
+ghost use Rattle.bindings.specs.HandTakings.{IsCode, WasTaken, IsFit, code_of_next, tail_of_next, IsToldTaking};
+ghost use Rattle.bindings.specs.HandTakings.{TakingTold, WakingTold};
+
+use super::handle::HandleHand;
+use super::held::HeldHand;
+use super::numbers::wait_of;
+use crate::answer::{BAD_NUMBER, DONE, EMPTY, EMPTY_HANDLE, LOST, SynthAnswer, told};
+use event_theory::{Element, WaitNumber};
+use std::alloc::Global;
+use thread_table::NextRefusal;
+
+impl HeldHand {
+    /// `ThreadTable::try_next`.
+    pub fn try_next(&mut self) -> Result<Element, NextRefusal>
+        ensures { WasTaken 0 result self.old self.new }
+    {
+        self.table.try_next(&mut self.hand)
+    }
+
+    /// `ThreadTable::try_free`.
+    pub fn try_free(&mut self) -> Result<Element, NextRefusal>
+        ensures { WasTaken 1 result self.old self.new }
+    {
+        self.table.try_free(&mut self.hand)
+    }
+
+    /// `ThreadTable::try_wake`.
+    pub fn try_wake(&mut self, wait: WaitNumber) -> Result<Element, NextRefusal>
+        ensures { WasTaken (wait + 2) result self.old self.new }
+    {
+        self.table.try_wake(&mut self.hand, wait)
+    }
+}
+
+/// The code of the refusal, and the tail that it tells.
+pub(super) fn told_of_next(refusal: NextRefusal) -> SynthAnswer
+    requires { tail_of_next refusal < 4294967296 }
+    ensures { (result.code ≡ code_of_next refusal) × (result.head ≡ 0) × (result.tail ≡ tail_of_next refusal) }
+{
+    match refusal {
+        NextRefusal::NoneReady => told(EMPTY),
+        NextRefusal::Lost { seen } => SynthAnswer {
+            code: LOST,
+            head: 0,
+            tail: seen as u32,
+        },
+    }
+}
+
+// Tells the element that was taken, or why none was.
+fn tell_taking(answer: Result<Element, NextRefusal>, element: &mut u32) -> SynthAnswer
+    requires { IsFit answer }
+    ensures { IsToldTaking answer element.old element.new result }
+{
+    match answer {
+        Ok(taken) => {
+            *element = u32::from(taken.number());
+            told(DONE)
+        }
+        Err(refusal) => told_of_next(refusal),
+    }
+}
+
+/// `ThreadTable::try_next`.
+#[unsafe(no_mangle)]
+pub extern "C" fn synth_hand_try_next(
+    alloc: Global,
+    hand: &mut HandleHand,
+    element: &mut u32,
+) -> SynthAnswer
+    ensures empty { hand.old.hidden.value ≡ None → IsCode EmptyHandle result × (hand.new.hidden.value ≡ None)
+        × (element.new ≡ element.old) }
+    ensures taken { HoldsThen hand.old.hidden.value
+        (λ x. TakingTold 0 x element.old element.new hand.new.hidden.value result) }
+{
+    let Some(mut held) = hand.take(alloc) else {
+        return told(EMPTY_HANDLE);
+    };
+    let answer = held.try_next();
+    hand.put(held);
+    tell_taking(answer, element)
+}
+
+/// `ThreadTable::try_free`.
+#[unsafe(no_mangle)]
+pub extern "C" fn synth_hand_try_free(
+    alloc: Global,
+    hand: &mut HandleHand,
+    element: &mut u32,
+) -> SynthAnswer
+    ensures empty { hand.old.hidden.value ≡ None → IsCode EmptyHandle result × (hand.new.hidden.value ≡ None)
+        × (element.new ≡ element.old) }
+    ensures taken { HoldsThen hand.old.hidden.value
+        (λ x. TakingTold 1 x element.old element.new hand.new.hidden.value result) }
+{
+    let Some(mut held) = hand.take(alloc) else {
+        return told(EMPTY_HANDLE);
+    };
+    let answer = held.try_free();
+    hand.put(held);
+    tell_taking(answer, element)
+}
+
+/// `ThreadTable::try_wake`. The wait queues are 0 to 15.
+#[unsafe(no_mangle)]
+pub extern "C" fn synth_hand_try_wake(
+    alloc: Global,
+    hand: &mut HandleHand,
+    wait: u32,
+    element: &mut u32,
+) -> SynthAnswer
+    ensures empty { hand.old.hidden.value ≡ None → IsCode EmptyHandle result × (hand.new.hidden.value ≡ None)
+        × (element.new ≡ element.old) }
+    ensures taken { HoldsThen hand.old.hidden.value
+        (λ x. WakingTold wait x element.old element.new hand.new.hidden.value result) }
+{
+    let Some(mut held) = hand.take(alloc) else {
+        return told(EMPTY_HANDLE);
+    };
+    let Some(wait) = wait_of(wait) else {
+        hand.put(held);
+        return told(BAD_NUMBER);
+    };
+    let answer = held.try_wake(wait);
+    hand.put(held);
+    tell_taking(answer, element)
+}

@@ -1,5 +1,5 @@
 -- A hand keeps its share, and the numbers that a refusal tells have 32 bits.
-use Rattle.std.proofs.Common.{◌<◌, ◌≤◌, ℕ, Bool, Result, Ok, Err, sym, subst, ⊎_elim, arith}
+use Rattle.std.proofs.Common.{◌<◌, ◌≤◌, ℕ, Bool, Option, Result, Ok, Err, sym, subst, ⊎_elim, arith}
 use Rattle.thread_table.specs.declared.rule.View.{View}
 use Rattle.thread_table.specs.declared.takings.NextRefusal.{NextRefusal}
 use Rattle.thread_table.specs.declared.takings.NextRefusal.TheVariants as nexts
@@ -8,10 +8,12 @@ use Rattle.thread_table.specs.declared.states.Lost.{Lost}
 use Rattle.thread_table.specs.Shown.{tail_word, state_word}
 use Rattle.thread_table.specs.Steps.{Found}
 use Rattle.thread_table.specs.Answers.{TakeAnswer, StartAnswer, ParkAnswer, DeliverAnswer, WasChanged, HasStop, HasSignals}
+use Rattle.thread_table.specs.Wakes.{BeforeAnswer}
 use Rattle.thread_table.specs.Keeping.{Keeps}
 use Rattle.thread_table.proofs.QueueSteps.{found_tail, small_tail}
 use Rattle.bindings.specs.HandTakings.{IsFit}
 use Rattle.bindings.specs.HandStates.{IsFitState}
+use Rattle.bindings.specs.HandWakes.{IsFitBefore}
 
 -- parts that a share has
 pub still_known : (n : ℕ) (v w : View) → Keeps v w → n ≤ v.member.share → n ≤ w.member.share
@@ -43,3 +45,7 @@ fit_park call element v w (Err lost) below a = fit_changed HasStop v w element l
 pub fit_delivery : (call element : ℕ) (v w : View) (answer : Result ℕ Lost) → element < 64 → DeliverAnswer call v element answer w → IsFitState answer
 fit_delivery call element v w (Ok mask) below a = tt
 fit_delivery call element v w (Err lost) below a = fit_changed HasSignals v w element lost.seen below a
+
+pub fit_before : (call line head : ℕ) (v w : View) (answer : Result (Option ℕ) NextRefusal) → line < 18 → BeforeAnswer call v line head answer w → IsFitBefore answer
+fit_before call line head v w (Ok taken) below a = tt
+fit_before call line head v w (Err r) below a = fit_taking call line a.before w (Err r) below a.taken

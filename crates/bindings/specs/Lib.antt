@@ -4,6 +4,7 @@ pub mod HandHeld
 pub mod HandMoves
 pub mod HandStates
 pub mod HandTakings
+pub mod HandWakes
 pub mod Hiding
 pub mod LineCalls
 pub mod QueueCalls

@@ -7,3 +7,4 @@ mod moves;
 mod numbers;
 mod states;
 mod takings;
+mod wakes;

@@ -1,0 +1,54 @@
+-- A notify, and takings of what is before a position, and what C is told of them.
+use Rattle.std.specs.Prelude.{◌≡◌, ◌⊎◌, ◌≤◌, ◌<◌, ◌+◌, ℕ, ℤ, Result, Ok, Err}
+use Rattle.std.specs.declared.option.Option.{Option}
+use Rattle.std.specs.declared.option.Option.TheVariants.{None, Some}
+use Rattle.thread_table.specs.declared.takings.NextRefusal.{NextRefusal}
+use Rattle.thread_table.specs.Handles.{view_of, call_of}
+use Rattle.thread_table.specs.Wakes.{NotifiedNow, BeforeAnswer}
+use Rattle.bindings.specs.declared.answer.SynthAnswer.{SynthAnswer}
+use Rattle.bindings.specs.declared.hand.held.HeldHand.{HeldHand}
+use Rattle.bindings.specs.Codes.{Done, BadNumber, AllWoken}
+use Rattle.bindings.specs.HandHeld.{IsKept}
+use Rattle.bindings.specs.HandTakings.{IsCode, code_of_next, tail_of_next}
+
+-- `notify` gave this position
+abbrev pub WasNotified : ℕ → ℕ → HeldHand → HeldHand → Type 0
+WasNotified wait head x y = IsKept x y × NotifiedNow (call_of x.hand) (view_of x.hand) wait head (view_of y.hand)
+
+-- `try_wake_before` gave this answer
+abbrev pub WasTriedBefore : ℕ → ℕ → Result (Option ℕ) NextRefusal → HeldHand → HeldHand → Type 0
+WasTriedBefore wait head answer x y =
+    IsKept x y × BeforeAnswer (call_of x.hand) (view_of x.hand) (wait + 2) head answer (view_of y.hand)
+
+-- the tail that a refusal tells has 32 bits
+abbrev pub IsFitBefore : Result (Option ℕ) NextRefusal → Type 0
+IsFitBefore (Ok taken) = Unit {0}
+IsFitBefore (Err r) = tail_of_next r < 4294967296
+
+-- what C is told of a taking of what is before a position
+abbrev pub IsToldBefore : Result (Option ℕ) NextRefusal → ℕ → ℕ → SynthAnswer → Type 0
+IsToldBefore (Ok None) old new told = (new ≡ old) × IsCode AllWoken told
+IsToldBefore (Ok (Some element)) old new told = (new ≡ element) × IsCode Done told
+IsToldBefore (Err r) old new told =
+    (new ≡ old) × (told.code ≡ code_of_next r) × (told.head ≡ 0) × (told.tail ≡ tail_of_next r)
+
+-- what `notify` did, by its code
+abbrev pub NotifyTold : ℕ → HeldHand → ℕ → ℕ → Option HeldHand → ℤ → Type 0
+NotifyTold wait x old_head head new code =
+    ((code ≡ BadNumber) × (16 ≤ wait) × (new ≡ Some x) × (head ≡ old_head))
+    ⊎ ((code ≡ Done) × (wait < 16) × (y : HeldHand) × (new ≡ Some y) × WasNotified wait head x y)
+
+-- C is told what the library's `try_wake_before` answered
+pub record WasBeforeTold (wait head : ℕ) (x : HeldHand) (old_element element : ℕ) (new : Option HeldHand)
+    (told : SynthAnswer) : Type 0 where
+  pub y : HeldHand
+  pub full : new ≡ Some y
+  pub answer : Result (Option ℕ) NextRefusal
+  pub answered : WasTriedBefore wait head answer x y
+  pub tells : IsToldBefore answer old_element element told
+
+-- what `try_wake_before` did
+abbrev pub BeforeTold : ℕ → ℕ → HeldHand → ℕ → ℕ → Option HeldHand → SynthAnswer → Type 0
+BeforeTold wait head x old_element element new told =
+    (IsCode BadNumber told × (16 ≤ wait) × (new ≡ Some x) × (element ≡ old_element))
+    ⊎ ((wait < 16) × WasBeforeTold wait head x old_element element new told)

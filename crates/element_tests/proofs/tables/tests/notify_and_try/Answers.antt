@@ -1,4 +1,4 @@
-use Rattle.std.proofs.Common.{◌≡◌, ◌∙◌, ◌||◌, ◌+◌, ℕ, Bool, true, false, eqb, eq-eqb, Option, Some, None, Result, Ok, Err, IfOk, IfSome, refl, sym, ap, tt}
+use Rattle.std.proofs.Common.{◌≡◌, ◌∙◌, ◌||◌, ◌+◌, ℕ, Bool, true, false, eq-eqb, Option, Some, None, Result, Ok, Err, IfOk, IfSome, refl, sym, ap}
 use Rattle.thread_table.specs.declared.rule.View.{View}
 use Rattle.thread_table.specs.declared.takings.NextRefusal.{NextRefusal}
 use Rattle.thread_table.specs.Handles.{call_of, view_of}

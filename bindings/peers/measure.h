@@ -26,8 +26,8 @@
 #include <stdlib.h>
 #include <time.h>
 
-/* SPINS tries without success are made before a thread offers its core to others. */
-enum { PLACES = 256, MOST = 64, SPINS = 1024, NO_CORE = -1 };
+/* The longest wait is of 2 to the power of LONGEST_WAIT pauses. */
+enum { PLACES = 256, MOST = 64, LONGEST_WAIT = 6, NO_CORE = -1 };
 
 static const uint64_t END_OF_LINE = 10;
 
@@ -53,18 +53,26 @@ static void must(bool good, const char *what)
     }
 }
 
-static void wait_a_little(unsigned *tries)
+static void pause_once(void)
 {
-    *tries += 1;
-    if (*tries % SPINS == 0) {
-        sched_yield();
-        return;
-    }
 #if defined __x86_64__ || defined __i386__
     __builtin_ia32_pause();
 #elif defined __aarch64__
     __asm__ volatile("yield");
 #endif
+}
+
+/* Waits after a try in vain: for 1, 2, 4 and so on to 64 pauses, and then for as long as others want the core. */
+static void wait_a_little(unsigned *tries)
+{
+    if (*tries > LONGEST_WAIT) {
+        sched_yield();
+        return;
+    }
+    for (unsigned i = 0; i < 1u << *tries; i++) {
+        pause_once();
+    }
+    *tries += 1;
 }
 
 static void pin(int core)
@@ -137,7 +145,9 @@ static uint64_t take_items(uint64_t next, uint64_t end, size_t length)
         size_t count = take_some(taken, length);
         if (count == 0) {
             wait_a_little(&tries);
+            continue;
         }
+        tries = 0;
         bits |= difference(taken, count, next, mask_of(length));
         next += count;
     }

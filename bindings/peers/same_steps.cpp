@@ -2,7 +2,8 @@
  * The steps of the claim queue in C++, one by one and on words that lie as its words do, with no handle and no proof:
  * what these steps cost where nothing is added to them. Each is sequentially consistent, as the queue's are. With WEAKER
  * the words of the data are stored and loaded relaxed, flags are stored by release, and all else is loaded by acquire,
- * which is as much as the algorithm needs.
+ * which is as much as the algorithm needs. With SPREAD head and tail lie in cache lines of their own, and each flag
+ * beside its datum.
  */
 #include "measure.h"
 #include <array>
@@ -19,11 +20,17 @@ constexpr auto STORE_FLAG = std::memory_order_seq_cst;
 constexpr auto DATA = std::memory_order_seq_cst;
 #endif
 
-namespace {
+#ifdef SPREAD
+constexpr size_t HEAD = 16, TAIL = 48, DATA_AT = 80, FLAGS_AT = 81, NEXT = 2;
+#else
+/* Head, tail and the number of ends, then a word of data for each place, then a flag for each. */
+constexpr size_t HEAD = 0, TAIL = 1, DATA_AT = 3, FLAGS_AT = 3 + PLACES, NEXT = 1;
+#endif
 
 constexpr uint64_t SHUT = uint64_t{1} << 32;
 
-/* Head, tail and the number of ends, then a word of data for each place, then a flag for each. */
+namespace {
+
 class Queue {
 public:
     bool try_put(const uint64_t *items, size_t count)
@@ -59,19 +66,17 @@ public:
     }
 
 private:
-    enum : size_t { HEAD, TAIL, ENDS, FIRST };
-
     std::atomic<uint64_t> &data(uint64_t position)
     {
-        return words[FIRST + position % PLACES];
+        return words[DATA_AT + position % PLACES * NEXT];
     }
 
     std::atomic<uint64_t> &flag(uint64_t position)
     {
-        return words[FIRST + PLACES + position % PLACES];
+        return words[FLAGS_AT + position % PLACES * NEXT];
     }
 
-    std::array<std::atomic<uint64_t>, FIRST + 2 * PLACES> words{};
+    std::array<std::atomic<uint64_t>, DATA_AT + 2 * PLACES> words{};
 };
 
 }

@@ -4,6 +4,7 @@
 use std::env;
 use std::error::Error;
 use std::hint;
+use std::ops::Range;
 use std::process;
 use std::sync::Barrier;
 use std::thread;
@@ -21,8 +22,8 @@ const MOST: usize = 64;
 /// The item that ends a line of several.
 const END_OF_LINE: u64 = 10;
 
-/// So many tries without success are made before a thread offers its core to others.
-const SPINS: u32 = 1024;
+/// The longest wait is of 2 to this power pauses.
+const LONGEST_WAIT: u32 = 6;
 
 /// What puts into a queue.
 pub trait Puts: Send {
@@ -36,6 +37,10 @@ pub trait Takes: Send {
     fn take_some(&mut self, items: &mut [u64; PLACES], most: usize) -> usize;
 }
 
+/// An end that stands in a cache line of its own, and in the neighbour that is fetched with it.
+#[repr(align(128))]
+struct Apart<T>(T);
+
 /// Ends the program where a queue is at fault.
 pub fn must(good: bool, what: &str) {
     if !good {
@@ -44,13 +49,16 @@ pub fn must(good: bool, what: &str) {
     }
 }
 
+/// Waits after a try in vain: for 1, 2, 4 and so on to 64 pauses, and then for as long as others want the core.
 fn wait_a_little(tries: &mut u32) {
-    *tries = tries.wrapping_add(1);
-    if *tries % SPINS == 0 {
+    if *tries > LONGEST_WAIT {
         thread::yield_now();
-    } else {
+        return;
+    }
+    for _ in 0..1 << *tries {
         hint::spin_loop();
     }
+    *tries += 1;
 }
 
 /// The numbers of the items that end a line have all bits of the mask. One that is alone in its line ends none.
@@ -92,19 +100,20 @@ fn put_line<P: Puts>(putter: &mut P, line: &[u64]) {
     }
 }
 
-/// Takes the items of the numbers from `next` to before `end`, of lines of this length. 0 where they were those.
-fn take_items<T: Takes>(taker: &mut T, next: u64, end: u64, length: usize) -> u64 {
-    let (mut next, mut bits, mut tries) = (next, 0, 0);
-    let mut taken = [0; PLACES];
-    while next < end {
-        let count = taker.take_some(&mut taken, length);
+/// Takes the items of these numbers, of lines of this length, into the room given. 0 where they were those.
+fn take_items<T: Takes>(taker: &mut T, taken: &mut [u64; PLACES], numbers: Range<u64>, length: usize) -> u64 {
+    let (mut next, mut bits, mut tries) = (numbers.start, 0, 0);
+    while next < numbers.end {
+        let count = taker.take_some(taken, length);
         if count == 0 {
             wait_a_little(&mut tries);
+            continue;
         }
+        tries = 0;
         bits |= difference(&taken[..count], next, mask_of(length));
         next += count as u64;
     }
-    bits | (next ^ end)
+    bits | (next ^ numbers.end)
 }
 
 fn put_items<P: Puts>(putter: &mut P, items: u64, length: usize) {
@@ -120,12 +129,12 @@ fn put_items<P: Puts>(putter: &mut P, items: u64, length: usize) {
 fn time_alone<P: Puts, T: Takes>(putter: &mut P, taker: &mut T, items: u64, length: usize) -> (u64, u64) {
     let mut line = [0; MOST];
     let line = &mut line[..length];
-    let mut bits = 0;
+    let (mut taken, mut bits) = ([0; PLACES], 0);
     let begun = processor_time();
     for next in (0..items).step_by(length) {
         write_line(line, next);
         put_line(putter, line);
-        bits |= take_items(taker, next, next + length as u64, length);
+        bits |= take_items(taker, &mut taken, next..next + length as u64, length);
     }
     (processor_time() - begun, bits)
 }
@@ -151,7 +160,7 @@ fn time_pair<P: Puts, T: Takes>(
             pin(cores.last());
             start.wait();
             let begun = elapsed();
-            let bits = take_items(taker, 0, items, length);
+            let bits = take_items(taker, &mut [0; PLACES], 0..items, length);
             (begun, elapsed(), bits)
         });
         let begun = puts.join().expect("the thread that puts ends");
@@ -162,15 +171,16 @@ fn time_pair<P: Puts, T: Takes>(
 
 /// One figure, in nanoseconds an item. A tenth of the items goes through the queue first, and isn't counted.
 fn time_each<P: Puts, T: Takes>(ends: (P, T), is_alone: bool, items: u64, length: usize, cores: &[usize]) -> f64 {
-    let (mut putter, mut taker) = ends;
+    let (mut putter, mut taker) = (Apart(ends.0), Apart(ends.1));
+    let (putter, taker) = (&mut putter.0, &mut taker.0);
     let lines = items / length as u64;
     let mut time = 0;
     for part in [lines / 10, lines] {
         let part = part * length as u64;
         let (taken, bits) = if is_alone {
-            time_alone(&mut putter, &mut taker, part, length)
+            time_alone(putter, taker, part, length)
         } else {
-            time_pair(&mut putter, &mut taker, part, length, cores)
+            time_pair(putter, taker, part, length, cores)
         };
         time = taken;
         must(bits == 0, "an item was lost, came twice or came out of order");

@@ -34,9 +34,12 @@
 //! # Ok::<(), Box<dyn std::error::Error>>(())
 //! ```
 //!
-//! No call takes a lock of its own, sleeps or waits. None but `new` and `split` takes memory, but for the lists that `close`
-//! gives. Refusals are values; a refusal changes nothing, but `Dropped`, where the object has ended. The chain is not
-//! here: what it runs, its quajects, is Rattle code.
+//! No call takes a lock of its own, sleeps or waits. None but `new` and `split` takes memory, but for the lists that
+//! `close` gives. Refusals are values; a refusal changes nothing, but `Dropped`, where the object has ended. The chain
+//! is not here: what it runs, its quajects, is Rattle code.
+//!
+//! A program has one version of this crate, and Cargo refuses two: a join knows the ends of an object by marks that
+//! one copy of the library gives.
 #![warn(missing_docs)]
 
 mod ends;

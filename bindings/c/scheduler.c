@@ -99,7 +99,10 @@ static void wake_all(struct worker *worker)
     }
 }
 
-/* A step of an element, where its round has begun: all steps of the rounds before are done. Else it is to wait. */
+/*
+ * A step of an element, where its round has begun: all steps of the rounds before are done. Else it is to wait. The
+ * ticket is read before the look at the gauge, or a wake between the look and the wait would be lost.
+ */
 static enum fate step(struct worker *worker, uint32_t element, uint32_t *ticket)
 {
     uint64_t round = 0;

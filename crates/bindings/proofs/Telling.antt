@@ -1,5 +1,8 @@
 -- What C is told follows from what the library answered.
-use Rattle.std.proofs.Common.{◌≡◌, ◌∙◌, refl, sym, ap, subst, Bool, true, false}
+use Rattle.std.proofs.Common.{◌≡◌, ◌∙◌, refl, sym, ap, subst, Bool, true, false, ℤ}
+use Rattle.std.proofs.lemmas.Int.{to_z-of_z}
+use mir.Syntax.{w32}
+use mir.Val.{SFits, of_z, to_z}
 use Rattle.std.specs.declared.option.Option.{Option}
 use Rattle.std.specs.declared.option.Option.TheVariants.{None, Some}
 use Rattle.bindings.specs.Hiding.{is_some}
@@ -25,3 +28,7 @@ some_is e = ap is_some e
 
 pub no_answer : false ≡ true → ⊥
 no_answer e = subst IsTrueSome (sym e) tt
+
+-- a code is told as it is
+pub as_told : (F : ℤ → Type 0) (z : ℤ) → SFits w32 z → F z → F (to_z w32 (of_z w32 z))
+as_told F z fits h = subst F (sym (to_z-of_z w32 z fits)) h

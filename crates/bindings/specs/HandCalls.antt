@@ -1,9 +1,135 @@
 -- What the calls for C do to the handles of hands. A handle has None where it is empty.
-use Rattle.std.specs.Prelude.{◌≡◌}
+use Rattle.std.specs.Prelude.{◌≡◌, ◌≢◌, ◌⊎◌, ◌≤◌, ◌<◌, ℕ, ℤ, Bool, true, false, Ok, Err}
 use Rattle.std.specs.declared.option.Option.{Option}
-use Rattle.std.specs.declared.option.Option.TheVariants.{Some}
+use Rattle.std.specs.declared.option.Option.TheVariants.{None, Some}
+use Rattle.thread_table.specs.declared.programs.Spent as programs
+use Rattle.thread_table.specs.Handles.{view_of}
+use Rattle.thread_table.specs.Rules.{has, serves, running, MayStep}
 use Rattle.bindings.specs.declared.hand.held.HeldHand.{HeldHand}
+use Rattle.bindings.specs.Hiding.{is_some}
+use Rattle.bindings.specs.Codes.{Done, NoMemory, EmptyHandle, FullHandle, OtherObject, NoShare, BadNumber}
+use Rattle.bindings.specs.Codes.{Spent, Busy, Vacant, NotHeld, NotServed}
+use Rattle.bindings.specs.HandHeld.{IsNewHand, Divided, Joined, AreOfOneTable, HaveOneMark, ServesAll, LacksOne}
+use Rattle.bindings.specs.HandHeld.{HasNoneOn, HasOneOn, HasNot, WasPutOn, WasTakenOff, WasCounted, WasDone}
 
 -- this holds of what the handle held
 abbrev pub HoldsThen : Option HeldHand → (HeldHand → Type 0) → Type 0
 HoldsThen old P = (x : HeldHand) → old ≡ Some x → P x
+
+-- this holds of what the handle held and of what it holds then
+abbrev pub TurnsThen : Option HeldHand → Option HeldHand → (HeldHand → HeldHand → Type 0) → Type 0
+TurnsThen old new P = HoldsThen old (λ x. (y : HeldHand) × (new ≡ Some y) × P x y)
+
+-- Two handles whose tables have one mark are of one table: each table has a mark of its own
+abbrev pub MarksTell : Option HeldHand → Option HeldHand → Type 0
+MarksTell (Some x) (Some z) = HaveOneMark x z → AreOfOneTable x z
+MarksTell _ _ = Unit {0}
+
+-- What `new` did, by its code. The positions of an element queue begin at 4294967231 at most
+abbrev pub MadeTable : ℕ → ℕ → Option HeldHand → Option HeldHand → ℤ → Type 0
+MadeTable first mark old new code =
+    ((code ≡ FullHandle) × (is_some old ≡ true) × (new ≡ old))
+    ⊎ ((code ≡ BadNumber) × (old ≡ None) × (4294967231 < first) × (new ≡ None))
+    ⊎ ((code ≡ NoMemory) × (old ≡ None) × (first ≤ 4294967231) × (new ≡ None))
+    ⊎ ((code ≡ Done) × (old ≡ None) × (first ≤ 4294967231) × (y : HeldHand) × (new ≡ Some y) × IsNewHand first mark y)
+
+-- what `free` did, by its code
+abbrev pub FreedHand : Option HeldHand → Option HeldHand → ℤ → Type 0
+FreedHand old new code =
+    ((code ≡ EmptyHandle) × (old ≡ None) × (new ≡ None)) ⊎ ((code ≡ Done) × (is_some old ≡ true) × (new ≡ None))
+
+-- the hand can give the processors of the mask away, and a part of its share
+abbrev pub MaySplit : ℕ → HeldHand → Type 0
+MaySplit mask x = (mask < 256) × ServesAll mask x × HasNoneOn mask x × (2 ≤ x.parts)
+
+-- why the hand can't be split so, by the code: the first of these that holds is told
+abbrev pub MayNotSplit : ℕ → HeldHand → ℤ → Type 0
+MayNotSplit mask x code =
+    ((code ≡ BadNumber) × (256 ≤ mask))
+    ⊎ ((code ≡ NotServed) × (mask < 256) × LacksOne mask x)
+    ⊎ ((code ≡ Busy) × (mask < 256) × ServesAll mask x × HasOneOn mask x)
+    ⊎ ((code ≡ NoShare) × (mask < 256) × ServesAll mask x × HasNoneOn mask x × (x.parts < 2))
+
+-- What `split` did to the hand x, by its code. Only a hand that can be split finds no memory
+abbrev pub SplitTold : ℕ → HeldHand → Option HeldHand → Option HeldHand → ℤ → Type 0
+SplitTold mask x new made code =
+    (MayNotSplit mask x code × (new ≡ Some x) × (made ≡ None))
+    ⊎ ((code ≡ NoMemory) × MaySplit mask x × (new ≡ Some x) × (made ≡ None))
+    ⊎ ((code ≡ Done) × MaySplit mask x × (y z : HeldHand) × (new ≡ Some y) × (made ≡ Some z) × Divided mask x y z)
+
+-- what `split` did, by its code
+abbrev pub SplitHands : ℕ → Option HeldHand → Option HeldHand → Option HeldHand → Option HeldHand → ℤ → Type 0
+SplitHands mask old new other made code =
+    ((code ≡ EmptyHandle) × (old ≡ None) × (new ≡ None) × (made ≡ other))
+    ⊎ ((code ≡ FullHandle) × (is_some old ≡ true) × (new ≡ old) × (is_some other ≡ true) × (made ≡ other))
+    ⊎ ((other ≡ None) × (x : HeldHand) × (old ≡ Some x) × SplitTold mask x new made code)
+
+-- what `join` did, by its code
+abbrev pub JoinedHands : Option HeldHand → Option HeldHand → Option HeldHand → Option HeldHand → ℤ → Type 0
+JoinedHands old new other left code =
+    ((code ≡ EmptyHandle) × ((old ≡ None) ⊎ (other ≡ None)) × (new ≡ old) × (left ≡ other))
+    ⊎ ((code ≡ OtherObject) × (x z : HeldHand) × (old ≡ Some x) × (other ≡ Some z) × (new ≡ old) × (left ≡ other)
+    × (HaveOneMark x z → ⊥))
+    ⊎ ((code ≡ Done) × (x y z : HeldHand) × (old ≡ Some x) × (other ≡ Some z) × (new ≡ Some y) × (left ≡ None)
+    × HaveOneMark x z × Joined x y z)
+
+-- what `holds` told of the hand x, by its code
+abbrev pub HoldsTold : ℕ → HeldHand → Bool → Bool → ℤ → Type 0
+HoldsTold element x old held code =
+    ((code ≡ BadNumber) × (64 ≤ element) × (held ≡ old))
+    ⊎ ((code ≡ Done) × (element < 64) × (held ≡ has (view_of x.hand) element))
+
+-- what `serves` told of the hand x, by its code
+abbrev pub ServesTold : ℕ → HeldHand → Bool → Bool → ℤ → Type 0
+ServesTold p x old served code =
+    ((code ≡ BadNumber) × (8 ≤ p) × (served ≡ old))
+    ⊎ ((code ≡ Done) × (p < 8) × (served ≡ serves (view_of x.hand) p))
+
+-- what `on_processor` told of the hand x, by its code
+abbrev pub OnProcessorTold : ℕ → HeldHand → ℕ → ℕ → ℤ → Type 0
+OnProcessorTold p x old element code =
+    ((code ≡ BadNumber) × (8 ≤ p) × (element ≡ old))
+    ⊎ ((code ≡ Vacant) × (p < 8) × (running (view_of x.hand) p ≡ None) × (element ≡ old))
+    ⊎ ((code ≡ Done) × (p < 8) × (running (view_of x.hand) p ≡ Some element))
+
+-- what `on` did, by its code
+abbrev pub OnTold : ℕ → ℕ → HeldHand → HeldHand → ℤ → Type 0
+OnTold p element x y code =
+    ((code ≡ BadNumber) × ((8 ≤ p) ⊎ (64 ≤ element)) × (y ≡ x))
+    ⊎ ((code ≡ NotHeld) × (p < 8) × (element < 64) × (has (view_of x.hand) element ≡ false) × (y ≡ x))
+    ⊎ ((code ≡ NotServed) × (p < 8) × (element < 64) × (has (view_of x.hand) element ≡ true)
+    × (serves (view_of x.hand) p ≡ false) × (y ≡ x))
+    ⊎ ((code ≡ Busy) × (p < 8) × (element < 64) × (has (view_of x.hand) element ≡ true)
+    × (serves (view_of x.hand) p ≡ true) × (running (view_of x.hand) p ≢ None) × (y ≡ x))
+    ⊎ ((code ≡ Done) × (p < 8) × (element < 64) × (has (view_of x.hand) element ≡ true)
+    × (serves (view_of x.hand) p ≡ true) × (running (view_of x.hand) p ≡ None) × WasPutOn p element x y)
+
+-- what `off` did, by its code
+abbrev pub OffTold : ℕ → HeldHand → HeldHand → ℕ → ℕ → ℤ → Type 0
+OffTold p x y old element code =
+    ((code ≡ BadNumber) × (8 ≤ p) × (y ≡ x) × (element ≡ old))
+    ⊎ ((code ≡ NotServed) × (p < 8) × (serves (view_of x.hand) p ≡ false) × (y ≡ x) × (element ≡ old))
+    ⊎ ((code ≡ Vacant) × (p < 8) × (serves (view_of x.hand) p ≡ true) × (running (view_of x.hand) p ≡ None) × (y ≡ x)
+    × (element ≡ old))
+    ⊎ ((code ≡ Done) × (p < 8) × (serves (view_of x.hand) p ≡ true) × (running (view_of x.hand) p ≡ Some element)
+    × WasTakenOff p element x y)
+
+-- why no step of the element can be told or counted, by the code
+abbrev pub MayNotStep : ℕ → HeldHand → ℤ → Type 0
+MayNotStep element x code =
+    ((code ≡ BadNumber) × (64 ≤ element))
+    ⊎ ((code ≡ NotHeld) × (element < 64) × HasNot element x)
+
+-- what `pc` did, by its code
+abbrev pub PcTold : ℕ → HeldHand → HeldHand → ℕ → ℕ → ℤ → Type 0
+PcTold element x y old steps code =
+    (MayNotStep element x code × (y ≡ x) × (steps ≡ old))
+    ⊎ ((code ≡ Done) × (element < 64) × MayStep (view_of x.hand) element × WasCounted element steps x y)
+
+-- what `step_done` did, by its code
+abbrev pub StepTold : ℕ → HeldHand → HeldHand → ℕ → ℕ → ℤ → Type 0
+StepTold element x y old steps code =
+    (MayNotStep element x code × (y ≡ x) × (steps ≡ old))
+    ⊎ ((code ≡ Spent) × (element < 64) × MayStep (view_of x.hand) element × (steps ≡ old)
+    × (r : programs.Spent) × WasDone element (Err r) x y)
+    ⊎ ((code ≡ Done) × (element < 64) × MayStep (view_of x.hand) element × WasDone element (Ok steps) x y)

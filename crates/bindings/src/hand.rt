@@ -1,10 +1,12 @@
 //! Thread elements for C: each call is one of the library's, by the hand that a handle holds.
 
+mod ends;
 mod handle;
 mod held;
 mod hidden;
 mod moves;
 mod numbers;
+mod processors;
 mod states;
 mod takings;
 mod wakes;

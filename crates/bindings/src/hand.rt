@@ -7,6 +7,7 @@ mod hidden;
 mod moves;
 mod numbers;
 mod processors;
+mod seating;
 mod states;
 mod takings;
 mod wakes;

@@ -1,0 +1,263 @@
+//! What a hand has, its processors, and the steps of its elements.
+ghost use Rattle.std.specs.Prelude.{◌≡◌};
+ghost use Rattle.std.specs.declared.option.Option.TheVariants.{None};
+ghost use Rattle.bindings.specs.Codes.{EmptyHandle};
+ghost use Rattle.bindings.specs.HandCalls.{HoldsThen, TurnsThen, HoldsTold, ServesTold, OnProcessorTold, OnTold, OffTold};
+ghost use Rattle.bindings.specs.HandCalls.{PcTold, StepTold};
+
+use super::handle::HandleHand;
+use super::held::HeldHand;
+use super::numbers::element_of;
+use super::processors::processor_of;
+use crate::answer::{BAD_NUMBER, BUSY, DONE, EMPTY_HANDLE, NOT_HELD, NOT_SERVED, SPENT, VACANT};
+use std::alloc::Global;
+
+fn tell_holds(held: &HeldHand, element: u32, holds: &mut bool) -> i32
+    ensures { HoldsTold element held.now holds.old holds.new result }
+{
+    let Some(element) = element_of(element) else {
+        return BAD_NUMBER;
+    };
+    *holds = held.holds(element);
+    DONE
+}
+
+/// `Hand::holds`. The elements are 0 to 63.
+#[unsafe(no_mangle)]
+pub extern "C" fn synth_hand_holds(
+    alloc: Global,
+    hand: &mut HandleHand,
+    element: u32,
+    holds: &mut bool,
+) -> i32
+    ensures empty { hand.old.hidden.value ≡ None → (result ≡ EmptyHandle) × (hand.new.hidden.value ≡ None)
+        × (holds.new ≡ holds.old) }
+    ensures told { HoldsThen hand.old.hidden.value
+        (λ x. (hand.new.hidden.value ≡ hand.old.hidden.value) × HoldsTold element x holds.old holds.new result) }
+{
+    let Some(held) = hand.take(alloc) else {
+        return EMPTY_HANDLE;
+    };
+    let code = tell_holds(&held, element, holds);
+    hand.put(held);
+    code
+}
+
+fn tell_serves(held: &HeldHand, processor: u32, serves: &mut bool) -> i32
+    ensures { ServesTold processor held.now serves.old serves.new result }
+{
+    let Some(processor) = processor_of(processor) else {
+        return BAD_NUMBER;
+    };
+    *serves = held.serves(processor);
+    DONE
+}
+
+/// `Hand::serves`. The processors are 0 to 7.
+#[unsafe(no_mangle)]
+pub extern "C" fn synth_hand_serves(
+    alloc: Global,
+    hand: &mut HandleHand,
+    processor: u32,
+    serves: &mut bool,
+) -> i32
+    ensures empty { hand.old.hidden.value ≡ None → (result ≡ EmptyHandle) × (hand.new.hidden.value ≡ None)
+        × (serves.new ≡ serves.old) }
+    ensures told { HoldsThen hand.old.hidden.value
+        (λ x. (hand.new.hidden.value ≡ hand.old.hidden.value)
+        × ServesTold processor x serves.old serves.new result) }
+{
+    let Some(held) = hand.take(alloc) else {
+        return EMPTY_HANDLE;
+    };
+    let code = tell_serves(&held, processor, serves);
+    hand.put(held);
+    code
+}
+
+fn tell_on_processor(held: &HeldHand, processor: u32, element: &mut u32) -> i32
+    ensures { OnProcessorTold processor held.now element.old element.new result }
+{
+    let Some(processor) = processor_of(processor) else {
+        return BAD_NUMBER;
+    };
+    let Some(found) = held.on_processor(processor) else {
+        return VACANT;
+    };
+    *element = u32::from(found.number());
+    DONE
+}
+
+/// `Hand::on_processor`.
+#[unsafe(no_mangle)]
+pub extern "C" fn synth_hand_on_processor(
+    alloc: Global,
+    hand: &mut HandleHand,
+    processor: u32,
+    element: &mut u32,
+) -> i32
+    ensures empty { hand.old.hidden.value ≡ None → (result ≡ EmptyHandle) × (hand.new.hidden.value ≡ None)
+        × (element.new ≡ element.old) }
+    ensures told { HoldsThen hand.old.hidden.value
+        (λ x. (hand.new.hidden.value ≡ hand.old.hidden.value)
+        × OnProcessorTold processor x element.old element.new result) }
+{
+    let Some(held) = hand.take(alloc) else {
+        return EMPTY_HANDLE;
+    };
+    let code = tell_on_processor(&held, processor, element);
+    hand.put(held);
+    code
+}
+
+fn put_on(held: &mut HeldHand, processor: u32, element: u32) -> i32
+    ensures { OnTold processor element held.old held.new result }
+{
+    let Some(processor) = processor_of(processor) else {
+        return BAD_NUMBER;
+    };
+    let Some(element) = element_of(element) else {
+        return BAD_NUMBER;
+    };
+    if !held.holds(element) {
+        return NOT_HELD;
+    }
+    if !held.serves(processor) {
+        return NOT_SERVED;
+    }
+    if held.on_processor(processor).is_some() {
+        return BUSY;
+    }
+    held.on(processor, element);
+    DONE
+}
+
+/// `ThreadTable::on`.
+#[unsafe(no_mangle)]
+pub extern "C" fn synth_hand_on(
+    alloc: Global,
+    hand: &mut HandleHand,
+    processor: u32,
+    element: u32,
+) -> i32
+    ensures empty { hand.old.hidden.value ≡ None → (result ≡ EmptyHandle) × (hand.new.hidden.value ≡ None) }
+    ensures on { TurnsThen hand.old.hidden.value hand.new.hidden.value
+        (λ x y. OnTold processor element x y result) }
+{
+    let Some(mut held) = hand.take(alloc) else {
+        return EMPTY_HANDLE;
+    };
+    let code = put_on(&mut held, processor, element);
+    hand.put(held);
+    code
+}
+
+fn take_off(held: &mut HeldHand, processor: u32, element: &mut u32) -> i32
+    ensures { OffTold processor held.old held.new element.old element.new result }
+{
+    let Some(processor) = processor_of(processor) else {
+        return BAD_NUMBER;
+    };
+    if !held.serves(processor) {
+        return NOT_SERVED;
+    }
+    if held.on_processor(processor).is_none() {
+        return VACANT;
+    }
+    *element = u32::from(held.off(processor).number());
+    DONE
+}
+
+/// `ThreadTable::off`.
+#[unsafe(no_mangle)]
+pub extern "C" fn synth_hand_off(
+    alloc: Global,
+    hand: &mut HandleHand,
+    processor: u32,
+    element: &mut u32,
+) -> i32
+    ensures empty { hand.old.hidden.value ≡ None → (result ≡ EmptyHandle) × (hand.new.hidden.value ≡ None)
+        × (element.new ≡ element.old) }
+    ensures off { TurnsThen hand.old.hidden.value hand.new.hidden.value
+        (λ x y. OffTold processor x y element.old element.new result) }
+{
+    let Some(mut held) = hand.take(alloc) else {
+        return EMPTY_HANDLE;
+    };
+    let code = take_off(&mut held, processor, element);
+    hand.put(held);
+    code
+}
+
+fn tell_pc(held: &mut HeldHand, element: u32, steps: &mut u64) -> i32
+    ensures { PcTold element held.old held.new steps.old steps.new result }
+{
+    let Some(element) = element_of(element) else {
+        return BAD_NUMBER;
+    };
+    if !held.may_step(element) {
+        return NOT_HELD;
+    }
+    *steps = held.pc(element);
+    DONE
+}
+
+/// `ThreadTable::pc`.
+#[unsafe(no_mangle)]
+pub extern "C" fn synth_hand_pc(
+    alloc: Global,
+    hand: &mut HandleHand,
+    element: u32,
+    steps: &mut u64,
+) -> i32
+    ensures empty { hand.old.hidden.value ≡ None → (result ≡ EmptyHandle) × (hand.new.hidden.value ≡ None)
+        × (steps.new ≡ steps.old) }
+    ensures told { TurnsThen hand.old.hidden.value hand.new.hidden.value
+        (λ x y. PcTold element x y steps.old steps.new result) }
+{
+    let Some(mut held) = hand.take(alloc) else {
+        return EMPTY_HANDLE;
+    };
+    let code = tell_pc(&mut held, element, steps);
+    hand.put(held);
+    code
+}
+
+fn count_step(held: &mut HeldHand, element: u32, steps: &mut u64) -> i32
+    ensures { StepTold element held.old held.new steps.old steps.new result }
+{
+    let Some(element) = element_of(element) else {
+        return BAD_NUMBER;
+    };
+    if !held.may_step(element) {
+        return NOT_HELD;
+    }
+    match held.step_done(element) {
+        Ok(done) => {
+            *steps = done;
+            DONE
+        }
+        Err(_) => SPENT,
+    }
+}
+
+/// `ThreadTable::step_done`.
+#[unsafe(no_mangle)]
+pub extern "C" fn synth_hand_step_done(
+    alloc: Global,
+    hand: &mut HandleHand,
+    element: u32,
+    steps: &mut u64,
+) -> i32
+    ensures empty { hand.old.hidden.value ≡ None → (result ≡ EmptyHandle) × (hand.new.hidden.value ≡ None)
+        × (steps.new ≡ steps.old) }
+    ensures done { TurnsThen hand.old.hidden.value hand.new.hidden.value
+        (λ x y. StepTold element x y steps.old steps.new result) }
+{
+    let Some(mut held) = hand.take(alloc) else {
+        return EMPTY_HANDLE;
+    };
+    let code = count_step(&mut held, element, steps);
+    hand.put(held);
+    code
+}

@@ -1,5 +1,6 @@
 pub mod Codes
 pub mod HandCalls
+pub mod HandClosing
 pub mod HandHeld
 pub mod HandMoves
 pub mod HandStates

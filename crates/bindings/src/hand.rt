@@ -1,11 +1,13 @@
 //! Thread elements for C: each call is one of the library's, by the hand that a handle holds.
 
+mod closing;
 mod ends;
 mod handle;
 mod held;
 mod hidden;
 mod moves;
 mod numbers;
+mod places;
 mod processors;
 mod seating;
 mod states;

@@ -1,0 +1,67 @@
+//! What a table had at its end, as C has it.
+ghost use Rattle.std.specs.Prelude.{◌≡◌, map};
+ghost use Rattle.bindings.specs.HandClosing.{place_told, IsToldPlaces};
+
+use thread_table::{Place, Places};
+
+/// Where an element is: on the processor `number` (0), in the ready ring (1), free (2), in the wait queue `number` (3),
+/// in its stop cell (4), or in the hand that closed the table (5). Where `kind` needs no number, it is 0.
+#[repr(C)]
+#[derive(Clone, Copy)]
+pub struct SynthPlace {
+    pub kind: u32,
+    pub number: u32,
+}
+
+/// What a table had at its end, each list by the number of the element: where it is, how many steps it has done, and
+/// its pending signals, bit s for signal s. `stops` has bit e where the stop bit of element e is set. `freed` is the
+/// number of hands that were freed and not joined.
+#[repr(C)]
+#[derive(Drop)]
+pub struct SynthPlaces {
+    pub place: [SynthPlace; 64],
+    pub pc: [u64; 64],
+    pub pending: [u16; 64],
+    pub stops: u64,
+    pub freed: u64,
+}
+
+fn told_of_place(place: Place) -> SynthPlace
+    ensures { result ≡ place_told place }
+{
+    let (kind, number) = match place {
+        Place::Processor(p) => (0, p),
+        Place::Ready => (1, 0),
+        Place::Free => (2, 0),
+        Place::Wait(wait) => (3, wait),
+        Place::Stopped => (4, 0),
+        Place::Held => (5, 0),
+    };
+    SynthPlace {
+        kind,
+        number: u32::from(number),
+    }
+}
+
+fn told_of_all(places: &[Place; 64]) -> [SynthPlace; 64]
+    ensures { result ≡ map place_told places.now }
+{
+    let mut told = [SynthPlace { kind: 0, number: 0 }; 64];
+    for i in 0..64 {
+        told[i] = told_of_place(places[i]);
+    }
+    told
+}
+
+/// What the library's `close` told.
+pub fn told_of_places(places: &Places) -> SynthPlaces
+    ensures { IsToldPlaces places.now result }
+{
+    SynthPlaces {
+        place: told_of_all(&places.places),
+        pc: places.pcs,
+        pending: places.pending,
+        stops: places.stops,
+        freed: 0,
+    }
+}

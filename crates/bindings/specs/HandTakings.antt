@@ -10,6 +10,7 @@ use Rattle.bindings.specs.declared.answer.SynthAnswer.{SynthAnswer}
 use Rattle.bindings.specs.declared.hand.held.HeldHand.{HeldHand}
 use Rattle.bindings.specs.Codes.{Done, BadNumber}
 use Rattle.bindings.specs.HandHeld.{IsKept}
+use Rattle.bindings.specs.Told.{IsCodeAlone}
 
 -- a taking from this element queue gave this answer
 abbrev pub WasTaken : ℕ → Result ℕ NextRefusal → HeldHand → HeldHand → Type 0
@@ -28,14 +29,10 @@ abbrev pub IsFit : Result ℕ NextRefusal → Type 0
 IsFit (Ok element) = Unit {0}
 IsFit (Err r) = tail_of_next r < 4294967296
 
--- this code, and no number
-abbrev pub IsCode : ℤ → SynthAnswer → Type 0
-IsCode code told = (told.code ≡ code) × (told.head ≡ 0) × (told.tail ≡ 0)
-
 -- what C is told of a taking
 abbrev pub IsToldTaking : Result ℕ NextRefusal → ℕ → ℕ → SynthAnswer → Type 0
 IsToldTaking answer old new told = MatchResult answer
-    (λ element. (new ≡ element) × IsCode Done told)
+    (λ element. (new ≡ element) × IsCodeAlone Done told)
     (λ r. (new ≡ old) × (told.code ≡ code_of_next r) × (told.head ≡ 0) × (told.tail ≡ tail_of_next r))
 
 -- C is told what the library answered to a taking from this element queue
@@ -50,5 +47,5 @@ pub record TakingTold (line : ℕ) (x : HeldHand) (old_element element : ℕ) (n
 -- what `try_wake` did: no such wait queue is told as a number out of its range
 abbrev pub WakingTold : ℕ → HeldHand → ℕ → ℕ → Option HeldHand → SynthAnswer → Type 0
 WakingTold wait x old_element element new told =
-    (IsCode BadNumber told × (16 ≤ wait) × (new ≡ Some x) × (element ≡ old_element))
+    (IsCodeAlone BadNumber told × (16 ≤ wait) × (new ≡ Some x) × (element ≡ old_element))
     ⊎ ((wait < 16) × TakingTold (wait + 2) x old_element element new told)

@@ -9,7 +9,8 @@ use Rattle.bindings.specs.declared.answer.SynthAnswer.{SynthAnswer}
 use Rattle.bindings.specs.declared.hand.held.HeldHand.{HeldHand}
 use Rattle.bindings.specs.Codes.{Done, BadNumber, AllWoken}
 use Rattle.bindings.specs.HandHeld.{IsKept}
-use Rattle.bindings.specs.HandTakings.{IsCode, code_of_next, tail_of_next}
+use Rattle.bindings.specs.Told.{IsCodeAlone}
+use Rattle.bindings.specs.HandTakings.{code_of_next, tail_of_next}
 
 -- `notify` gave this position
 abbrev pub WasNotified : ℕ → ℕ → HeldHand → HeldHand → Type 0
@@ -27,8 +28,8 @@ IsFitBefore (Err r) = tail_of_next r < 4294967296
 
 -- what C is told of a taking of what is before a position
 abbrev pub IsToldBefore : Result (Option ℕ) NextRefusal → ℕ → ℕ → SynthAnswer → Type 0
-IsToldBefore (Ok None) old new told = (new ≡ old) × IsCode AllWoken told
-IsToldBefore (Ok (Some element)) old new told = (new ≡ element) × IsCode Done told
+IsToldBefore (Ok None) old new told = (new ≡ old) × IsCodeAlone AllWoken told
+IsToldBefore (Ok (Some element)) old new told = (new ≡ element) × IsCodeAlone Done told
 IsToldBefore (Err r) old new told =
     (new ≡ old) × (told.code ≡ code_of_next r) × (told.head ≡ 0) × (told.tail ≡ tail_of_next r)
 
@@ -50,5 +51,5 @@ pub record WasBeforeTold (wait head : ℕ) (x : HeldHand) (old_element element :
 -- what `try_wake_before` did
 abbrev pub BeforeTold : ℕ → ℕ → HeldHand → ℕ → ℕ → Option HeldHand → SynthAnswer → Type 0
 BeforeTold wait head x old_element element new told =
-    (IsCode BadNumber told × (16 ≤ wait) × (new ≡ Some x) × (element ≡ old_element))
+    (IsCodeAlone BadNumber told × (16 ≤ wait) × (new ≡ Some x) × (element ≡ old_element))
     ⊎ ((wait < 16) × WasBeforeTold wait head x old_element element new told)

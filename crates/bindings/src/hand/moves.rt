@@ -6,7 +6,8 @@ ghost use Rattle.thread_table.specs.Rules.{has};
 ghost use Rattle.bindings.specs.Codes.{EmptyHandle};
 ghost use Rattle.bindings.specs.HandCalls.{HoldsThen};
 ghost use Rattle.bindings.specs.HandMoves.{WasMoved, WasWaited, WasTicket, code_of_move, head_of_move};
-ghost use Rattle.bindings.specs.HandMoves.{notifies_of_move, IsMoveCode, MovingTold, WaitingTold, TicketTold, WaitingAtTold};
+ghost use Rattle.bindings.specs.HandMoves.{notifies_of_move, IsMoveCode, MovingTold, WaitingTold, TicketTold};
+ghost use Rattle.bindings.specs.HandMoves.{WaitingAtTold};
 
 use super::handle::HandleHand;
 use super::held::HeldHand;

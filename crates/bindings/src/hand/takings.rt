@@ -3,8 +3,9 @@ ghost use Rattle.std.specs.Prelude.{◌≡◌, ◌+◌, ◌<◌};
 ghost use Rattle.std.specs.declared.option.Option.TheVariants.{None};
 ghost use Rattle.bindings.specs.Codes.{EmptyHandle};
 ghost use Rattle.bindings.specs.HandCalls.{HoldsThen};
-ghost use Rattle.bindings.specs.HandTakings.{IsCode, WasTaken, IsFit, code_of_next, tail_of_next, IsToldTaking};
+ghost use Rattle.bindings.specs.HandTakings.{WasTaken, IsFit, code_of_next, tail_of_next, IsToldTaking};
 ghost use Rattle.bindings.specs.HandTakings.{TakingTold, WakingTold};
+ghost use Rattle.bindings.specs.Told.{IsCodeAlone};
 
 use super::handle::HandleHand;
 use super::held::HeldHand;
@@ -73,7 +74,7 @@ pub extern "C" fn synth_hand_try_next(
     hand: &mut HandleHand,
     element: &mut u32,
 ) -> SynthAnswer
-    ensures empty { hand.old.hidden.value ≡ None → IsCode EmptyHandle result × (hand.new.hidden.value ≡ None)
+    ensures empty { hand.old.hidden.value ≡ None → IsCodeAlone EmptyHandle result × (hand.new.hidden.value ≡ None)
         × (element.new ≡ element.old) }
     ensures taken { HoldsThen hand.old.hidden.value
         (λ x. TakingTold 0 x element.old element.new hand.new.hidden.value result) }
@@ -93,7 +94,7 @@ pub extern "C" fn synth_hand_try_free(
     hand: &mut HandleHand,
     element: &mut u32,
 ) -> SynthAnswer
-    ensures empty { hand.old.hidden.value ≡ None → IsCode EmptyHandle result × (hand.new.hidden.value ≡ None)
+    ensures empty { hand.old.hidden.value ≡ None → IsCodeAlone EmptyHandle result × (hand.new.hidden.value ≡ None)
         × (element.new ≡ element.old) }
     ensures taken { HoldsThen hand.old.hidden.value
         (λ x. TakingTold 1 x element.old element.new hand.new.hidden.value result) }
@@ -114,7 +115,7 @@ pub extern "C" fn synth_hand_try_wake(
     wait: u32,
     element: &mut u32,
 ) -> SynthAnswer
-    ensures empty { hand.old.hidden.value ≡ None → IsCode EmptyHandle result × (hand.new.hidden.value ≡ None)
+    ensures empty { hand.old.hidden.value ≡ None → IsCodeAlone EmptyHandle result × (hand.new.hidden.value ≡ None)
         × (element.new ≡ element.old) }
     ensures taken { HoldsThen hand.old.hidden.value
         (λ x. WakingTold wait x element.old element.new hand.new.hidden.value result) }

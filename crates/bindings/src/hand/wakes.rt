@@ -3,9 +3,9 @@ ghost use Rattle.std.specs.Prelude.{◌≡◌};
 ghost use Rattle.std.specs.declared.option.Option.TheVariants.{None};
 ghost use Rattle.bindings.specs.Codes.{EmptyHandle};
 ghost use Rattle.bindings.specs.HandCalls.{HoldsThen};
-ghost use Rattle.bindings.specs.HandTakings.{IsCode};
 ghost use Rattle.bindings.specs.HandWakes.{WasNotified, WasTriedBefore, IsFitBefore, IsToldBefore};
 ghost use Rattle.bindings.specs.HandWakes.{NotifyTold, BeforeTold};
+ghost use Rattle.bindings.specs.Told.{IsCodeAlone};
 
 use super::handle::HandleHand;
 use super::held::HeldHand;
@@ -85,7 +85,7 @@ pub extern "C" fn synth_hand_try_wake_before(
     head: u32,
     element: &mut u32,
 ) -> SynthAnswer
-    ensures empty { hand.old.hidden.value ≡ None → IsCode EmptyHandle result × (hand.new.hidden.value ≡ None)
+    ensures empty { hand.old.hidden.value ≡ None → IsCodeAlone EmptyHandle result × (hand.new.hidden.value ≡ None)
         × (element.new ≡ element.old) }
     ensures taken { HoldsThen hand.old.hidden.value
         (λ x. BeforeTold wait head x element.old element.new hand.new.hidden.value result) }

@@ -21,7 +21,7 @@ impl Quaject for Adder {
     ghost fits = { λ world adder. Unit {0} };
 
     fn run(&mut self, world: &u64, note: u16) -> Ran {
-        self.sum = self.sum.wrapping_add(*world + u64::from(note));
+        self.sum = self.sum.wrapping_add(*world).wrapping_add(u64::from(note));
         Ran::Worked
     }
 }

@@ -5,12 +5,18 @@
 //! value; it can't be let go, but is filled or freed.
 //!
 //! ```rust
-//! let (seven, room) = Loose::of(Box::new(alloc, 7)?).take_out();
+//! let Ok(boxed) = Box::new(rt.alloc(), 7u64) else {
+//!     panic!(rt; "no memory")
+//! };
+//! let (seven, room) = Loose::of(boxed).take_out();
 //! let eight = Loose::fill(room, seven + 1).into_box();
+//! assert!(rt; *eight == 8);
 //! ```
 #![tactic(auto)]
 
 mod loose;
+#[cfg(test)]
+mod tests;
 
 pub use loose::Loose;
 pub use std_alloc::room::Vacant;

@@ -26,18 +26,19 @@ WasWaited wait element ticket answer x y =
 abbrev pub WasTicket : ℕ → ℕ → HeldHand → HeldHand → Type 0
 WasTicket wait ticket x y = IsKept x y × IsTicket (view_of x.hand) wait ticket (view_of y.hand)
 
+-- the code of what a move answered
 abbrev pub code_of_move : Result (Unit {0}) MoveRefusal → ℤ
 code_of_move (Ok done) = pos 0
 code_of_move (Err moves.Spent) = pos 4
 code_of_move (Err (moves.Lost seen)) = pos 6
 code_of_move (Err (moves.Moved mark)) = pos 8
 
--- the position of the head word that was found
+-- the position in the head word that was found, where another hand moved first
 abbrev pub head_of_move : Result (Unit {0}) MoveRefusal → ℕ
 head_of_move (Err (moves.Lost seen)) = head_in seen
 head_of_move _ = 0
 
--- the number of notifies that was found
+-- the number of notifies that was found, in such a head word or in place of the ticket
 abbrev pub notifies_of_move : Result (Unit {0}) MoveRefusal → ℕ
 notifies_of_move (Err (moves.Lost seen)) = mark_in seen
 notifies_of_move (Err (moves.Moved mark)) = mark
@@ -58,7 +59,7 @@ pub record MoveTold (Answers : Result (Unit {0}) MoveRefusal → HeldHand → He
   pub head : told.head ≡ head_of_move answer
   pub notifies : told.notifies ≡ notifies_of_move answer
 
--- An element that is told is in range; it is not held, or else C is told of the move
+-- the hand doesn't hold the element, which is told; or it does, and C is told of the move
 abbrev pub HeldOrNot : (Result (Unit {0}) MoveRefusal → HeldHand → HeldHand → Type 0) → ℕ → HeldHand → Option HeldHand
     → SynthMoved → Type 0
 HeldOrNot Answers element x new told =

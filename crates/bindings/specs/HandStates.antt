@@ -55,7 +55,7 @@ is_raised signalled.Merged = false
 abbrev pub IsStateCode : ℤ → SynthState → Type 0
 IsStateCode code told = (told.code ≡ code) × (told.word ≡ 0)
 
--- the state word that was found
+-- C is told the state word that was found
 abbrev pub IsToldLost : Lost → SynthState → Type 0
 IsToldLost lost told = (told.code ≡ pos 6) × (told.word ≡ lost.seen)
 
@@ -64,17 +64,17 @@ abbrev pub IsFitState : {X : Type 0} → Result X Lost → Type 0
 IsFitState (Ok x) = Unit {0}
 IsFitState (Err lost) = lost.seen < 4294967296
 
--- what C is told of a start
+-- what C is told of a start: what it did, which is written, or else the state word
 abbrev pub IsToldStart : Result Started Lost → ℕ → ℕ → SynthState → Type 0
 IsToldStart answer old new told = MatchResult answer (λ s. (new ≡ number_of_start s) × IsStateCode Done told)
     (λ lost. (new ≡ old) × IsToldLost lost told)
 
--- what C is told of a park
+-- what C is told of a park: whether the element is parked, which is written, or else the state word
 abbrev pub IsToldPark : Result Bool Lost → Bool → Bool → SynthState → Type 0
 IsToldPark answer old new told = MatchResult answer (λ b. (new ≡ b) × IsStateCode Done told)
     (λ lost. (new ≡ old) × IsToldLost lost told)
 
--- what C is told of a delivery: bit s for signal s
+-- what C is told of a delivery: the signals, bit s for signal s, which are written, or else the state word
 abbrev pub IsToldDelivery : Result ℕ Lost → ℕ → ℕ → SynthState → Type 0
 IsToldDelivery answer old new told = MatchResult answer (λ mask. (new ≡ mask) × IsStateCode Done told)
     (λ lost. (new ≡ old) × IsToldLost lost told)

@@ -16,20 +16,22 @@ use Rattle.bindings.specs.Told.{IsCodeAlone}
 abbrev pub WasTaken : ℕ → Result ℕ NextRefusal → HeldHand → HeldHand → Type 0
 WasTaken line answer x y = IsKept x y × TakeAnswer (call_of x.hand) (view_of x.hand) line answer (view_of y.hand)
 
+-- the code that says why no element was taken
 abbrev pub code_of_next : NextRefusal → ℤ
 code_of_next nexts.NoneReady = pos 7
 code_of_next (nexts.Lost seen) = pos 6
 
+-- the tail that was found, where another hand took first
 abbrev pub tail_of_next : NextRefusal → ℕ
 tail_of_next nexts.NoneReady = 0
 tail_of_next (nexts.Lost seen) = seen
 
--- the tail that a refusal tells has 32 bits
+-- the tail that a refused taking tells has 32 bits
 abbrev pub IsFit : Result ℕ NextRefusal → Type 0
 IsFit (Ok element) = Unit {0}
 IsFit (Err r) = tail_of_next r < 4294967296
 
--- what C is told of a taking
+-- what C is told of a taking: the element, which is written, or else the code and the tail
 abbrev pub IsToldTaking : Result ℕ NextRefusal → ℕ → ℕ → SynthAnswer → Type 0
 IsToldTaking answer old new told = MatchResult answer
     (λ element. (new ≡ element) × IsCodeAlone Done told)
@@ -44,7 +46,7 @@ pub record TakingTold (line : ℕ) (x : HeldHand) (old_element element : ℕ) (n
   pub answered : WasTaken line answer x y
   pub tells : IsToldTaking answer old_element element told
 
--- what `try_wake` did: no such wait queue is told as a number out of its range
+-- What `try_wake` did. No such wait queue is told as a number out of its range
 abbrev pub WakingTold : ℕ → HeldHand → ℕ → ℕ → Option HeldHand → SynthAnswer → Type 0
 WakingTold wait x old_element element new told =
     (IsCodeAlone BadNumber told × (16 ≤ wait) × (new ≡ Some x) × (element ≡ old_element))

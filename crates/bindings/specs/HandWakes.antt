@@ -21,12 +21,12 @@ abbrev pub WasTriedBefore : ℕ → ℕ → Result (Option ℕ) NextRefusal → 
 WasTriedBefore wait head answer x y =
     IsKept x y × BeforeAnswer (call_of x.hand) (view_of x.hand) (wait + 2) head answer (view_of y.hand)
 
--- the tail that a refusal tells has 32 bits
+-- the tail that a refused try to take before a position tells has 32 bits
 abbrev pub IsFitBefore : Result (Option ℕ) NextRefusal → Type 0
 IsFitBefore (Ok taken) = Unit {0}
 IsFitBefore (Err r) = tail_of_next r < 4294967296
 
--- what C is told of a taking of what is before a position
+-- what C is told of a try to take before a position: the element, which is written, or else the code and the tail
 abbrev pub IsToldBefore : Result (Option ℕ) NextRefusal → ℕ → ℕ → SynthAnswer → Type 0
 IsToldBefore (Ok None) old new told = (new ≡ old) × IsCodeAlone AllWoken told
 IsToldBefore (Ok (Some element)) old new told = (new ≡ element) × IsCodeAlone Done told

@@ -74,7 +74,7 @@ abbrev pub IsToldPark : Result Bool Lost → Bool → Bool → SynthState → Ty
 IsToldPark answer old new told = MatchResult answer (λ b. (new ≡ b) × IsStateCode Done told)
     (λ lost. (new ≡ old) × IsToldLost lost told)
 
--- what C is told of a delivery: the signals, bit s for signal s and no other bit, which are written, or else the state word
+-- what C is told of a delivery: the signals, bit s for signal s and no other bit, are written, or else the state word
 abbrev pub IsToldDelivery : Result ℕ Lost → ℕ → ℕ → SynthState → Type 0
 IsToldDelivery answer old new told = MatchResult answer (λ mask. (mask < 65536) × (new ≡ mask) × IsStateCode Done told)
     (λ lost. (new ≡ old) × IsToldLost lost told)

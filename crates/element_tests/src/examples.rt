@@ -1,4 +1,4 @@
-//! The examples of the first pages of `thread_table` and `meters`, word for word.
+//! The examples of the first pages of `thread_table` and `meters`, word for word, but that the alarm is lent.
 
 use event_theory::{Element, Signal, WaitNumber};
 use meters::{Alarm, Meters};
@@ -41,15 +41,15 @@ fn gauge_clock_and_alarm(rt: HostRuntime) -> Result<(), Fail> {
     let (Some(element), Some(signal)) = (Element::new(9), Signal::new(4)) else {
         panic!(rt; "numbers")
     };
-    let alarm = Alarm {
+    let alarm = &Alarm {
         due: 1,
         element,
         signal,
     };
-    assert!(rt; meters.try_set(&mut worker, alarm) == Ok(0));
+    assert!(rt; meters.try_set(&mut worker, *alarm) == Ok(0));
     assert!(rt; meters.due(&mut timer).len() == 0);
     assert!(rt; meters.advance(&mut timer) == Ok(1));
-    assert!(rt; meters.due(&mut timer).as_slice() == [alarm].as_slice());
+    assert!(rt; meters.due(&mut timer).as_slice() == [*alarm].as_slice());
     meters.join(&mut timer, worker);
     let Ok(metered) = meters.close(timer) else {
         panic!(rt; "open ends")

@@ -1,5 +1,5 @@
 -- A hand keeps its share, and the numbers that a refusal tells have 32 bits.
-use Rattle.std.proofs.Common.{◌<◌, ◌≤◌, ℕ, Bool, Option, Result, Ok, Err, sym, subst, ⊎_elim, arith}
+use Rattle.std.proofs.Common.{◌≡◌, ◌<◌, ◌∙◌, ℕ, Bool, Option, Result, Ok, Err, sym, subst, ⊎_elim, arith}
 use Rattle.thread_table.specs.declared.rule.View.{View}
 use Rattle.thread_table.specs.declared.takings.NextRefusal.{NextRefusal}
 use Rattle.thread_table.specs.declared.takings.NextRefusal.TheVariants as nexts
@@ -15,9 +15,9 @@ use Rattle.bindings.specs.HandTakings.{IsFit}
 use Rattle.bindings.specs.HandStates.{IsFitState}
 use Rattle.bindings.specs.HandWakes.{IsFitBefore}
 
--- parts that a share has
-pub still_known : (n : ℕ) (v w : View) → Keeps v w → n ≤ v.member.share → n ≤ w.member.share
-still_known n v w k h = subst (λ (s : ℕ). n ≤ s) (sym k.share) h
+-- the parts of a share
+pub still_known : (n : ℕ) (v w : View) → Keeps v w → n ≡ v.member.share → n ≡ w.member.share
+still_known n v w k h = h ∙ sym k.share
 
 fit_tail : (v w : View) (seen line : ℕ) → line < 18 → Found v (tail_word line) seen w → seen < 4294967296
 fit_tail v w seen line below f = subst (λ (n : ℕ). n < 4294967296) (sym (found_tail v w seen line below f)) (small_tail v w line below f.sees)

@@ -33,11 +33,7 @@ ShortBuffer = negsuc 5
 abbrev pub BadNumber : ℤ
 BadNumber = negsuc 6
 
--- no other handle stands, but ends were freed
-abbrev pub Freed : ℤ
-Freed = negsuc 7
-
--- other handles stand
+-- the handle has not the whole object
 abbrev pub Open : ℤ
 Open = pos 12
 

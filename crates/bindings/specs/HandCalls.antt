@@ -9,7 +9,8 @@ use Rattle.bindings.specs.declared.hand.held.HeldHand.{HeldHand}
 use Rattle.bindings.specs.Hiding.{is_some}
 use Rattle.bindings.specs.Codes.{Done, NoMemory, EmptyHandle, FullHandle, OtherObject, NoShare, BadNumber}
 use Rattle.bindings.specs.Codes.{Spent, Busy, Vacant, NotHeld, NotServed}
-use Rattle.bindings.specs.HandHeld.{IsNewHand, Divided, Joined, AreOfOneTable, HaveOneMark, ServesAll, LacksOne}
+use Rattle.bindings.specs.HandHeld.{IsNewHand, Divided, Joined, AreOfOneTable, HaveOneMark, MayJoin, MayNotJoin}
+use Rattle.bindings.specs.HandHeld.{ServesAll, LacksOne}
 use Rattle.bindings.specs.HandHeld.{HasNoneOn, HasOneOn, HasNot, WasPutOn, WasTakenOff, WasCounted, WasDone}
 
 -- this holds of what the handle held
@@ -69,9 +70,9 @@ abbrev pub JoinedHands : Option HeldHand → Option HeldHand → Option HeldHand
 JoinedHands old new other left code =
     ((code ≡ EmptyHandle) × ((old ≡ None) ⊎ (other ≡ None)) × (new ≡ old) × (left ≡ other))
     ⊎ ((code ≡ OtherObject) × (x z : HeldHand) × (old ≡ Some x) × (other ≡ Some z) × (new ≡ old) × (left ≡ other)
-    × (HaveOneMark x z → ⊥))
+    × MayNotJoin x z)
     ⊎ ((code ≡ Done) × (x y z : HeldHand) × (old ≡ Some x) × (other ≡ Some z) × (new ≡ Some y) × (left ≡ None)
-    × HaveOneMark x z × Joined x y z)
+    × MayJoin x z × Joined x y z)
 
 -- what `holds` told of the hand x, by its code
 abbrev pub HoldsTold : ℕ → HeldHand → Bool → Bool → ℤ → Type 0

@@ -2,24 +2,23 @@
 use Rattle.std.specs.Prelude.{◌≡◌, ℤ, map}
 use Rattle.std.specs.declared.option.Option.{Option}
 use Rattle.std.specs.declared.option.Option.TheVariants.{None, Some}
-use Rattle.thread_table.specs.declared.rule.View.{View}
 use Rattle.thread_table.specs.declared.places.Place.{Place}
 use Rattle.thread_table.specs.declared.places.Place.TheVariants as places
 use Rattle.thread_table.specs.declared.close.Places.{Places}
+use Rattle.table_theory.specs.Sharing.{the_whole}
 use Rattle.thread_table.specs.Handles.{view_of, call_of}
-use Rattle.thread_table.specs.Closings.{ClosedNow, WereOpen}
+use Rattle.thread_table.specs.Closings.{ClosedNow}
 use Rattle.bindings.specs.declared.hand.held.HeldHand.{HeldHand}
 use Rattle.bindings.specs.declared.hand.closing.Outcome.{Outcome}
-use Rattle.bindings.specs.declared.hand.closing.Outcome.TheVariants.{Closed, Open, Freed}
+use Rattle.bindings.specs.declared.hand.closing.Outcome.TheVariants.{Closed, Open}
 use Rattle.bindings.specs.declared.hand.places.SynthPlace.{SynthPlace}
 use Rattle.bindings.specs.declared.hand.places.SynthPlaces.{SynthPlaces}
 use Rattle.bindings.specs.Codes as codes
 
--- it is closed, as the library's `close` tells; or other handles share it; or so many hands were freed
+-- it is closed, as the library's `close` tells, by the hand that has all parts; or nothing happens
 abbrev pub Ended : Outcome → HeldHand → Type 0
-Ended (Closed c) x = ClosedNow (call_of x.hand) (view_of x.hand) c.places c.pcs c.pending c.stops
+Ended (Closed c) x = (x.parts ≡ the_whole) × ClosedNow (call_of x.hand) (view_of x.hand) c.places c.pcs c.pending c.stops
 Ended (Open y) x = y ≡ x
-Ended (Freed others) x = (w : View) × WereOpen (view_of x.hand) others w
 
 -- how a place is told
 abbrev pub place_told : Place → SynthPlace
@@ -33,14 +32,12 @@ place_told places.Held = record { kind = 5; number = 0 }
 -- what C is told of a table that was closed
 abbrev pub IsToldPlaces : Places → SynthPlaces → Type 0
 IsToldPlaces c told = (told.place ≡ map place_told c.places) × (told.pc ≡ c.pcs) × (told.pending ≡ c.pending)
-    × (told.stops ≡ c.stops) × (told.freed ≡ 0)
+    × (told.stops ≡ c.stops)
 
 -- what C is told of the end of a table
 abbrev pub IsToldEnding : Outcome → Option HeldHand → SynthPlaces → SynthPlaces → ℤ → Type 0
 IsToldEnding (Closed c) new old told code = (code ≡ codes.Done) × (new ≡ None) × IsToldPlaces c told
 IsToldEnding (Open y) new old told code = (code ≡ codes.Open) × (new ≡ Some y) × (told ≡ old)
-IsToldEnding (Freed others) new old told code = (code ≡ codes.Freed) × (new ≡ None)
-    × (told ≡ record old { freed = others })
 
 -- C is told what became of the table
 pub record WasClosed (x : HeldHand) (new : Option HeldHand) (old told : SynthPlaces) (code : ℤ) : Type 0 where

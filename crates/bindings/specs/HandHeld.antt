@@ -1,5 +1,5 @@
 -- What the calls of a table of thread elements do to a hand. Each says what the library's call says.
-use Rattle.std.specs.Prelude.{◌≡◌, ◌≢◌, ◌<◌, ◌+◌, ℕ, true, false, min, Some, None, Result}
+use Rattle.std.specs.Prelude.{◌≡◌, ◌≢◌, ◌⊎◌, ◌≤◌, ◌<◌, ◌+◌, ℕ, true, false, Some, None, Result}
 use Rattle.std.specs.Arc.{arc_value}
 use Rattle.table_theory.specs.Sharing.{given, kept, the_whole}
 use Rattle.thread_table.specs.declared.programs.Spent.{Spent}
@@ -26,6 +26,18 @@ AreOfOneTable x y = hands.AreOfOneTable x.hand y.hand
 -- the tables have one mark
 abbrev pub HaveOneMark : HeldHand → HeldHand → Type 0
 HaveOneMark x y = y.mark ≡ x.mark
+
+-- together the hands have no more parts than one table has
+abbrev pub Fit : HeldHand → HeldHand → Type 0
+Fit x y = x.parts + y.parts ≤ the_whole
+
+-- as far as the marks and the parts tell, they are hands of one table
+abbrev pub MayJoin : HeldHand → HeldHand → Type 0
+MayJoin x y = HaveOneMark x y × Fit x y
+
+-- the marks or the parts tell that they aren't
+abbrev pub MayNotJoin : HeldHand → HeldHand → Type 0
+MayNotJoin x y = (HaveOneMark x y → ⊥) ⊎ (the_whole < x.parts + y.parts)
 
 -- the only hand of a new table, whose element queues have this first position
 abbrev pub IsNewHand : ℕ → ℕ → HeldHand → Type 0
@@ -62,7 +74,7 @@ Divided mask x y born = IsSameHeld x y × (arc_value born.table ≡ arc_value x.
 
 -- `join` took the other hand in, with its parts
 abbrev pub Joined : HeldHand → HeldHand → HeldHand → Type 0
-Joined x y other = IsSameHeld x y × (y.parts ≡ min (x.parts + other.parts) the_whole)
+Joined x y other = IsSameHeld x y × (y.parts ≡ x.parts + other.parts)
     × endings.TookIn (view_of x.hand) (view_of other.hand) (view_of y.hand)
 
 -- `on` put the element on the processor

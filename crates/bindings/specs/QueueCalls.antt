@@ -10,10 +10,11 @@ use Rattle.bindings.specs.declared.queue.held.HeldQueue.{HeldQueue}
 use Rattle.bindings.specs.declared.queue.closing.Outcome.{Outcome}
 use Rattle.bindings.specs.declared.queue.closing.Outcome.TheVariants as ended
 use Rattle.bindings.specs.Hiding.{is_some}
-use Rattle.bindings.specs.Codes.{Done, Open, NoMemory, EmptyHandle, FullHandle, OtherObject, NoShare, ShortBuffer, BadNumber, Freed}
+use Rattle.bindings.specs.Codes.{Done, Open, NoMemory, EmptyHandle, FullHandle, OtherObject, NoShare, ShortBuffer, BadNumber}
 use Rattle.bindings.specs.Codes.{code_of_claim, head_of_claim, tail_of_claim, code_of_take, tail_of_take, code_of_some, tail_of_some}
 use Rattle.bindings.specs.QueueParts.{PutPart, TookPart, TookLinePart, TookSomePart, ShutPart, DividedPart, JoinedPart}
-use Rattle.bindings.specs.QueueHeld.{AtSize, AtSizes, IsSize, HaveOneMark, AreOfOneQueue, IsNewHeld, places_of, parts_of}
+use Rattle.bindings.specs.QueueHeld.{AtSize, AtSizes, IsSize, HaveOneMark, AreOfOneQueue, MayJoin, MayNotJoin}
+use Rattle.bindings.specs.QueueHeld.{IsNewHeld, places_of, parts_of}
 use Rattle.bindings.specs.QueueOutcomes.{EndedHeld}
 use Rattle.bindings.specs.Told.{IsCodeAlone}
 
@@ -54,9 +55,9 @@ abbrev pub JoinedQueue : Option HeldQueue → Option HeldQueue → Option HeldQu
 JoinedQueue old new other left code =
     ((code ≡ EmptyHandle) × ((old ≡ None) ⊎ (other ≡ None)) × (new ≡ old) × (left ≡ other))
     ⊎ ((code ≡ OtherObject) × (x z : HeldQueue) × (old ≡ Some x) × (other ≡ Some z) × (new ≡ old) × (left ≡ other)
-    × (HaveOneMark x z → ⊥))
+    × MayNotJoin x z)
     ⊎ ((code ≡ Done) × (x y z : HeldQueue) × (old ≡ Some x) × (other ≡ Some z) × (new ≡ Some y) × (left ≡ None)
-    × HaveOneMark x z × AtSizes JoinedPart x y z)
+    × MayJoin x z × AtSizes JoinedPart x y z)
 
 -- The handle is still for the same end, and C is told what the library's `try_put` answered
 pub record WasPut (x : HeldQueue) (items : List ℕ) (new : Option HeldQueue) (told : SynthAnswer) : Type 0 where
@@ -114,12 +115,10 @@ pub record WasTakenUpTo (x : HeldQueue) (old_items items : List ℕ) (count : �
   pub head : told.head ≡ 0
   pub tail : told.tail ≡ tail_of_some refusal
 
--- The queue is closed, and the numbers are told; or other handles share it, and the handle holds what it held; or ends were
--- freed, and the queue is gone
+-- the queue is closed, and the numbers are told; or the handle holds what it held
 abbrev pub IsToldEnding : Outcome → Option HeldQueue → SynthClosed → SynthClosed → ℤ → Type 0
 IsToldEnding (ended.Closed c) new old told code = (code ≡ Done) × (new ≡ None) × (told ≡ c)
 IsToldEnding (ended.Open y) new old told code = (code ≡ Open) × (new ≡ Some y) × (told ≡ old)
-IsToldEnding (ended.Freed c) new old told code = (code ≡ Freed) × (new ≡ None) × (told ≡ c)
 
 -- C is told what became of the queue
 pub record WasEnded (x : HeldQueue) (old_items items : List ℕ) (new : Option HeldQueue) (old told : SynthClosed) (code : ℤ)

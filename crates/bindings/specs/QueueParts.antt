@@ -1,5 +1,5 @@
 -- What the calls of a queue do to an end of it. Each says what the library's call says.
-use Rattle.std.specs.Prelude.{◌≡◌, ◌≤◌, ◌+◌, ℕ, Bool, take, List, [], ◌∷◌, length, min, Result, MatchResult}
+use Rattle.std.specs.Prelude.{◌≡◌, ◌⊎◌, ◌≤◌, ◌<◌, ◌+◌, ℕ, Bool, take, List, [], ◌∷◌, length, Result, MatchResult}
 use Rattle.std.specs.Arc.{arc_value}
 use Rattle.std.specs.declared.option.Option.{Option}
 use Rattle.table_theory.specs.Sharing.{given, kept, the_whole}
@@ -26,6 +26,18 @@ IsKept n x y = IsSamePart n x y × (y.parts ≡ x.parts)
 -- both are ends of one queue
 abbrev pub IsOneQueue : (n : ℕ) → Part n → Part n → Type 0
 IsOneQueue n x y = AreOfOneQueue x.end y.end
+
+-- together the ends have no more parts than one queue has
+abbrev pub FitPart : (n : ℕ) → Part n → Part n → Type 0
+FitPart n x y = x.parts + y.parts ≤ the_whole
+
+-- as far as the marks and the parts tell, both are ends of one queue
+abbrev pub MayJoinPart : (n : ℕ) → Part n → Part n → Type 0
+MayJoinPart n x y = (y.mark ≡ x.mark) × FitPart n x y
+
+-- the marks or the parts tell that they aren't
+abbrev pub MayNotJoinPart : (n : ℕ) → Part n → Part n → Type 0
+MayNotJoinPart n x y = (y.mark ≡ x.mark → ⊥) ⊎ (the_whole < x.parts + y.parts)
 
 -- the only end of a queue in which nothing was claimed
 abbrev pub IsNewPart : ℕ → ℕ → (n : ℕ) → Part n → Type 0
@@ -69,4 +81,4 @@ DividedPart n x y born = IsSamePart n x y × (arc_value born.queue ≡ arc_value
 -- `join` took the other end in, with its parts
 abbrev pub JoinedPart : (n : ℕ) → Part n → Part n → Part n → Type 0
 JoinedPart n x y other = IsSamePart n x y × TookIn (view_of x.end) (view_of other.end) (view_of y.end)
-    × (y.parts ≡ min (x.parts + other.parts) the_whole)
+    × (y.parts ≡ x.parts + other.parts)

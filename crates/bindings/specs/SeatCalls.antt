@@ -15,10 +15,10 @@ use Rattle.bindings.specs.declared.seat.closing.Outcome.{Outcome}
 use Rattle.bindings.specs.declared.seat.closing.Outcome.TheVariants as ended
 use Rattle.bindings.specs.declared.seat.SynthMetered.{SynthMetered}
 use Rattle.bindings.specs.Hiding.{is_some}
-use Rattle.bindings.specs.Codes.{Done, Open, NoMemory, EmptyHandle, FullHandle, OtherObject, NoShare, ShortBuffer, BadNumber, Freed}
+use Rattle.bindings.specs.Codes.{Done, Open, NoMemory, EmptyHandle, FullHandle, OtherObject, NoShare, ShortBuffer, BadNumber}
 use Rattle.bindings.specs.SeatAlarms.{alarm_told, IsAlarm, IsNoAlarm, IsRestKept, IsBlankFrom}
-use Rattle.bindings.specs.SeatHeld.{IsNewSeat, Divided, Joined, AreOfOneTable, HaveOneMark, WasTicked, WasAdvanced, WasSet}
-use Rattle.bindings.specs.SeatHeld.{WasCancelled, WereFired}
+use Rattle.bindings.specs.SeatHeld.{IsNewSeat, Divided, Joined, AreOfOneTable, HaveOneMark, MayJoin, MayNotJoin}
+use Rattle.bindings.specs.SeatHeld.{WasTicked, WasAdvanced, WasSet, WasCancelled, WereFired}
 use Rattle.bindings.specs.SeatClosing.{Ended}
 use Rattle.bindings.specs.Told.{IsCodeAlone}
 
@@ -58,9 +58,9 @@ abbrev pub JoinedMeters : Option HeldSeat → Option HeldSeat → Option HeldSea
 JoinedMeters old new other left code =
     ((code ≡ EmptyHandle) × ((old ≡ None) ⊎ (other ≡ None)) × (new ≡ old) × (left ≡ other))
     ⊎ ((code ≡ OtherObject) × (x z : HeldSeat) × (old ≡ Some x) × (other ≡ Some z) × (new ≡ old) × (left ≡ other)
-    × (HaveOneMark x z → ⊥))
+    × MayNotJoin x z)
     ⊎ ((code ≡ Done) × (x y z : HeldSeat) × (old ≡ Some x) × (other ≡ Some z) × (new ≡ Some y) × (left ≡ None)
-    × HaveOneMark x z × Joined x y z)
+    × MayJoin x z × Joined x y z)
 
 -- what `tick` did, by its code
 abbrev pub TickTold : HeldSeat → ℕ → ℕ → ℕ → ℕ → Option HeldSeat → ℤ → Type 0
@@ -139,14 +139,12 @@ DueTold x old_alarms alarms old_count count new code =
 -- what C is told of meters that were closed
 abbrev pub IsToldMetered : Metered → SynthMetered → Type 0
 IsToldMetered c told = (told.gauges ≡ c.gauges) × (told.clock ≡ c.clock) × (told.alarms ≡ length c.alarms.items)
-    × (take told.alarms told.alarm ≡ map alarm_told c.alarms.items) × IsBlankFrom told.alarms told.alarm × (told.freed ≡ 0)
+    × (take told.alarms told.alarm ≡ map alarm_told c.alarms.items) × IsBlankFrom told.alarms told.alarm
 
--- what C is told of the end of meters. Where other handles share them, the handle holds what it held
+-- what C is told of the end of meters. Where they aren't closed, the handle holds what it held
 abbrev pub IsToldEnding : Outcome → Option HeldSeat → SynthMetered → SynthMetered → ℤ → Type 0
 IsToldEnding (ended.Closed c) new old told code = (code ≡ Done) × (new ≡ None) × IsToldMetered c told
 IsToldEnding (ended.Open y) new old told code = (code ≡ Open) × (new ≡ Some y) × (told ≡ old)
-IsToldEnding (ended.Freed others) new old told code = (code ≡ Freed) × (new ≡ None)
-    × (told ≡ record old { freed = others })
 
 -- C is told what became of the meters
 pub record WasClosed (x : HeldSeat) (new : Option HeldSeat) (old told : SynthMetered) (code : ℤ) : Type 0 where

@@ -1,5 +1,5 @@
 -- What the calls of meters do to an end of them. Each says what the library's call says.
-use Rattle.std.specs.Prelude.{◌≡◌, ◌+◌, ℕ, Bool, List, min, Result, MatchResult}
+use Rattle.std.specs.Prelude.{◌≡◌, ◌⊎◌, ◌≤◌, ◌<◌, ◌+◌, ℕ, Bool, List, Result, MatchResult}
 use Rattle.std.specs.Arc.{arc_value}
 use Rattle.table_theory.specs.Sharing.{given, kept, the_whole}
 use Rattle.event_theory.specs.declared.alarm.Alarm.{Alarm}
@@ -29,6 +29,18 @@ AreOfOneTable x y = meters.AreOfOneTable x.seat y.seat
 abbrev pub HaveOneMark : HeldSeat → HeldSeat → Type 0
 HaveOneMark x y = y.mark ≡ x.mark
 
+-- together the ends have no more parts than all ends of the same meters
+abbrev pub Fit : HeldSeat → HeldSeat → Type 0
+Fit x y = x.parts + y.parts ≤ the_whole
+
+-- as far as the marks and the parts tell, they are ends of the same meters
+abbrev pub MayJoin : HeldSeat → HeldSeat → Type 0
+MayJoin x y = HaveOneMark x y × Fit x y
+
+-- the marks or the parts tell that they aren't
+abbrev pub MayNotJoin : HeldSeat → HeldSeat → Type 0
+MayNotJoin x y = (HaveOneMark x y → ⊥) ⊎ (the_whole < x.parts + y.parts)
+
 -- the only end of new meters with this clock
 abbrev pub IsNewSeat : ℕ → ℕ → HeldSeat → Type 0
 IsNewSeat clock mark x = (first_of (arc_value x.meters) ≡ clock) × (view_of x.seat ≡ newcomer (record { clock = clock }))
@@ -44,7 +56,7 @@ Divided x y born = IsSameHeld x y × (arc_value born.meters ≡ arc_value x.mete
 -- `join` took the other end in, with its parts
 abbrev pub Joined : HeldSeat → HeldSeat → HeldSeat → Type 0
 Joined x y other = IsSameHeld x y × endings.TookIn (view_of x.seat) (view_of other.seat) (view_of y.seat)
-    × (y.parts ≡ min (x.parts + other.parts) the_whole)
+    × (y.parts ≡ x.parts + other.parts)
 
 -- `tick` gave this value of the gauge, the one before
 abbrev pub WasTicked : ℕ → ℕ → ℕ → HeldSeat → HeldSeat → Type 0

@@ -53,8 +53,6 @@ pub const SHORT_BUFFER: i32 = -6;
 
 pub const BAD_NUMBER: i32 = -7;
 
-pub const FREED: i32 = -8;
-
 /// What a call answered, with the numbers that its refusal tells.
 #[repr(C)]
 #[derive(Drop)]
@@ -64,8 +62,7 @@ pub struct SynthAnswer {
     pub tail: u32,
 }
 
-/// What a queue had at its end: its first position, how many items were put and taken, and how many were left. `freed` is the
-/// number of ends that were freed and not joined.
+/// What a queue had at its end: its first position, how many items were put and taken, and how many were left.
 #[repr(C)]
 #[derive(Drop)]
 pub struct SynthClosed {
@@ -73,7 +70,6 @@ pub struct SynthClosed {
     pub put: u32,
     pub taken: u32,
     pub left: usize,
-    pub freed: u64,
 }
 
 /// The code alone.

@@ -17,7 +17,7 @@ mod part;
 mod taking;
 
 use crate::answer::{
-    BAD_NUMBER, DONE, EMPTY_HANDLE, FREED, FULL_HANDLE, NO_MEMORY, NO_SHARE, OPEN, OTHER_OBJECT,
+    BAD_NUMBER, DONE, EMPTY_HANDLE, FULL_HANDLE, NO_MEMORY, NO_SHARE, OPEN, OTHER_OBJECT,
     SHORT_BUFFER, SynthAnswer, SynthClosed, told, told_of_claim, told_of_some, told_of_take,
 };
 use closing::Outcome;
@@ -134,7 +134,7 @@ pub extern "C" fn synth_queue_join(
         queue.put(held);
         return EMPTY_HANDLE;
     };
-    if !held.has_mark_of(&joined) {
+    if !held.may_join(&joined) {
         queue.put(held);
         other.put(joined);
         return OTHER_OBJECT;
@@ -265,8 +265,8 @@ pub extern "C" fn synth_queue_shut(
     DONE
 }
 
-/// `ClaimQueue::close`. The items left lie in the buffer, which has room for as many as the queue has places, or more.
-/// Where other handles are left, the handle holds its end as before.
+/// `ClaimQueue::close`, where the end has all parts of the queue. Else the handle keeps its end. The items left lie in
+/// the buffer, which has room for as many as the queue has places, or more.
 #[unsafe(no_mangle)]
 pub extern "C" fn synth_queue_close(
     alloc: Global,
@@ -296,11 +296,6 @@ pub extern "C" fn synth_queue_close(
         Outcome::Open(held) => {
             queue.put(Loose::fill(room, held).into_box());
             OPEN
-        }
-        Outcome::Freed(told) => {
-            let _alloc = room.free();
-            *closed = told;
-            FREED
         }
     }
 }

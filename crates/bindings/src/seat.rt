@@ -16,7 +16,7 @@ mod held;
 mod hidden;
 
 use crate::answer::{
-    BAD_NUMBER, DONE, EMPTY_HANDLE, FREED, FULL_HANDLE, LOST, NO_MEMORY, NO_ROOM, NO_SHARE, OPEN,
+    BAD_NUMBER, DONE, EMPTY_HANDLE, FULL_HANDLE, LOST, NO_MEMORY, NO_ROOM, NO_SHARE, OPEN,
     OTHER_OBJECT, SHORT_BUFFER, SPENT, SynthAnswer, told, told_with,
 };
 use alarm::{SynthAlarm, alarm_of, tell_alarms};
@@ -27,8 +27,7 @@ use loose_box::{Loose, Vacant};
 use meters::{AdvanceRefusal, Metered, SetRefusal};
 use std::alloc::Global;
 
-/// What meters had at their end. Alarms stand in the order of their slots, as many as `alarms` says. `freed` is the
-/// number of ends that were freed and not joined.
+/// What meters had at their end. Alarms stand in the order of their slots, as many as `alarms` says.
 #[repr(C)]
 #[derive(Drop)]
 pub struct SynthMetered {
@@ -36,7 +35,6 @@ pub struct SynthMetered {
     pub clock: u32,
     pub alarms: u32,
     pub alarm: [SynthAlarm; 16],
-    pub freed: u64,
 }
 
 // The code of the refusal, and the clock that it tells.
@@ -76,7 +74,6 @@ fn told_of_metered(metered: &Metered) -> SynthMetered
         clock: metered.clock,
         alarms: alarms as u32,
         alarm,
-        freed: 0,
     }
 }
 
@@ -184,7 +181,7 @@ pub extern "C" fn synth_seat_join(
         seat.put(held);
         return EMPTY_HANDLE;
     };
-    if !held.has_mark_of(&joined) {
+    if !held.may_join(&joined) {
         seat.put(held);
         other.put(joined);
         return OTHER_OBJECT;
@@ -333,7 +330,7 @@ pub extern "C" fn synth_seat_due(
     DONE
 }
 
-/// `Meters::close`. Where other handles are left, the handle holds its end as before.
+/// `Meters::close`, where the end has all parts of the meters. Else the handle keeps its end.
 #[unsafe(no_mangle)]
 pub extern "C" fn synth_seat_close(
     alloc: Global,
@@ -358,11 +355,6 @@ pub extern "C" fn synth_seat_close(
         Outcome::Open(held) => {
             seat.put(Loose::fill(room, held).into_box());
             OPEN
-        }
-        Outcome::Freed(others) => {
-            let _alloc = room.free();
-            metered.freed = others;
-            FREED
         }
     }
 }

@@ -8,7 +8,7 @@ ghost use Rattle.bindings.specs.HandClosing.{Ended, WasClosed};
 use super::handle::HandleHand;
 use super::held::HeldHand;
 use super::places::{SynthPlaces, told_of_places};
-use crate::answer::{DONE, EMPTY_HANDLE, FREED, OPEN};
+use crate::answer::{DONE, EMPTY_HANDLE, OPEN};
 use loose_box::Loose;
 use std::alloc::Global;
 use std::sync::Arc;
@@ -19,17 +19,18 @@ use thread_table::Places;
 pub enum Outcome {
     /// It is closed.
     Closed(Places),
-    /// Other handles are left.
+    /// The hand hasn't all parts of the table.
     Open(HeldHand),
-    /// No other handle is left, but so many hands were freed and not joined.
-    Freed(u64),
 }
 
 impl HeldHand {
-    /// `ThreadTable::close`.
+    /// `ThreadTable::close`, where the hand has all parts.
     pub fn close(self) -> Outcome
         ensures { Ended result self }
     {
+        if self.parts != u64::MAX {
+            return Outcome::Open(self);
+        }
         let HeldHand {
             table,
             hand,
@@ -47,14 +48,14 @@ impl HeldHand {
                 });
             }
         };
-        match table.close(hand) {
-            Ok(places) => Outcome::Closed(places),
-            Err((_table, _hand, open)) => Outcome::Freed(open.others),
-        }
+        let Ok(places) = table.close(hand) else {
+            unreachable!()
+        };
+        Outcome::Closed(places)
     }
 }
 
-/// `ThreadTable::close`, where no other handle of the table stands.
+/// `ThreadTable::close`, where the hand has all parts of the table. Else the handle keeps its hand.
 #[unsafe(no_mangle)]
 pub extern "C" fn synth_hand_close(
     alloc: Global,
@@ -79,11 +80,6 @@ pub extern "C" fn synth_hand_close(
         Outcome::Open(held) => {
             hand.put(Loose::fill(room, held).into_box());
             OPEN
-        }
-        Outcome::Freed(others) => {
-            let _alloc = room.free();
-            places.freed = others;
-            FREED
         }
     }
 }

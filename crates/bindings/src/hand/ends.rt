@@ -143,7 +143,7 @@ pub extern "C" fn synth_hand_join(
         hand.put(held);
         return EMPTY_HANDLE;
     };
-    if !held.has_mark_of(&joined) {
+    if !held.may_join(&joined) {
         hand.put(held);
         other.put(joined);
         return OTHER_OBJECT;

@@ -10,8 +10,8 @@ use std::alloc::Global;
 use std::sync::Arc;
 use thread_table::{Hand, Spent, ThreadTable};
 
-/// One hand of a table of thread elements that other handles share. It has at least so many parts of its table. `mark`
-/// is the number that the table was given.
+/// One hand of a table of thread elements that other handles share. It has so many parts of its table, of u64::MAX.
+/// `mark` is the number that the table was given.
 #[derive(Drop)]
 pub struct HeldHand {
     pub(super) table: Arc<ThreadTable, Global>,
@@ -19,12 +19,12 @@ pub struct HeldHand {
     pub(super) parts: u64,
     pub(super) mark: u64,
     ghost own: { IsHandOf (arc_value table) hand },
-    ghost known: { parts ≤ (view_of hand).member.share },
+    ghost known: { parts ≡ (view_of hand).member.share },
 }
 
 impl HeldHand {
-    ghost use Rattle.bindings.specs.HandHeld.{IsNewHand, Divided, Joined, AreOfOneTable, HaveOneMark, ServesAll};
-    ghost use Rattle.bindings.specs.HandHeld.{HasNoneOn, WasPutOn, WasTakenOff, WasCounted, WasDone};
+    ghost use Rattle.bindings.specs.HandHeld.{IsNewHand, Divided, Joined, AreOfOneTable, MayJoin, MayNotJoin, Fit};
+    ghost use Rattle.bindings.specs.HandHeld.{ServesAll, HasNoneOn, WasPutOn, WasTakenOff, WasCounted, WasDone};
 
     /// The only hand of a new table.
     pub fn new(alloc: Global, first: u32, mark: u64) -> Option<HeldHand>
@@ -41,11 +41,11 @@ impl HeldHand {
         })
     }
 
-    /// Whether the tables have one mark.
-    pub fn has_mark_of(&self, other: &HeldHand) -> bool
-        ensures { MatchBool result (HaveOneMark self.now other.now) (HaveOneMark self.now other.now → ⊥) }
+    /// Whether the tables have one mark, and the hands have no more parts together than one table has.
+    pub fn may_join(&self, other: &HeldHand) -> bool
+        ensures { MatchBool result (MayJoin self.now other.now) (MayNotJoin self.now other.now) }
     {
-        self.mark == other.mark
+        self.mark == other.mark && other.parts <= u64::MAX - self.parts
     }
 
     /// Whether there is a part to give away.
@@ -75,7 +75,8 @@ impl HeldHand {
 
     /// Takes another hand of the table in.
     pub fn join(&mut self, other: HeldHand)
-        requires { AreOfOneTable self.old other }
+        requires one_table { AreOfOneTable self.old other }
+        requires parts { Fit self.old other }
         ensures { Joined self.old self.new other }
     {
         let HeldHand {
@@ -85,7 +86,7 @@ impl HeldHand {
             mark: _mark,
         } = other;
         self.table.join(&mut self.hand, hand);
-        self.parts = self.parts.saturating_add(parts);
+        self.parts += parts;
     }
 
     /// `Hand::holds`.

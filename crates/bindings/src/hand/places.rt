@@ -14,8 +14,7 @@ pub struct SynthPlace {
 }
 
 /// What a table had at its end, each list by the number of the element: where it is, how many steps it has done, and
-/// its pending signals, bit s for signal s. `stops` has bit e where the stop bit of element e is set. `freed` is the
-/// number of hands that were freed and not joined.
+/// its pending signals, bit s for signal s. `stops` has bit e where the stop bit of element e is set.
 #[repr(C)]
 #[derive(Drop)]
 pub struct SynthPlaces {
@@ -23,7 +22,6 @@ pub struct SynthPlaces {
     pub pc: [u64; 64],
     pub pending: [u16; 64],
     pub stops: u64,
-    pub freed: u64,
 }
 
 fn told_of_place(place: Place) -> SynthPlace
@@ -62,6 +60,5 @@ pub fn told_of_places(places: &Places) -> SynthPlaces
         pc: places.pcs,
         pending: places.pending,
         stops: places.stops,
-        freed: 0,
     }
 }

@@ -1,7 +1,7 @@
 //! What a handle of a queue stands for.
 ghost use Rattle.std.specs.Prelude.{◌≡◌, ◌≤◌, ◌<◌, length, MatchBool};
 ghost use Rattle.std.specs.Option.{MatchOption};
-ghost use Rattle.bindings.specs.QueueHeld.{AtSize, AtSizes, IsSize, HaveOneMark, AreOfOneQueue};
+ghost use Rattle.bindings.specs.QueueHeld.{AtSize, AtSizes, IsSize, AreOfOneQueue, MayJoin, MayNotJoin, Fit};
 ghost use Rattle.bindings.specs.QueueHeld.{IsNewHeld, places_of, parts_of};
 ghost use Rattle.bindings.specs.QueueParts.{PutPart, TookPart, TookLinePart, TookSomePart, ShutPart, DividedPart, JoinedPart};
 
@@ -45,13 +45,13 @@ impl HeldQueue {
         }
     }
 
-    /// Whether the queues of both have one size and one mark.
-    pub fn has_mark_of(&self, other: &HeldQueue) -> bool
-        ensures { MatchBool result (HaveOneMark self.now other.now) (HaveOneMark self.now other.now → ⊥) }
+    /// Whether the queues of both have one size and one mark, and the ends no more parts together than one queue has.
+    pub fn may_join(&self, other: &HeldQueue) -> bool
+        ensures { MatchBool result (MayJoin self.now other.now) (MayNotJoin self.now other.now) }
     {
         match (self, other) {
-            (HeldQueue::Small(part), HeldQueue::Small(other)) => part.has_mark_of(other),
-            (HeldQueue::Large(part), HeldQueue::Large(other)) => part.has_mark_of(other),
+            (HeldQueue::Small(part), HeldQueue::Small(other)) => part.may_join(other),
+            (HeldQueue::Large(part), HeldQueue::Large(other)) => part.may_join(other),
             _ => false,
         }
     }
@@ -79,7 +79,8 @@ impl HeldQueue {
 
     /// Takes another end of the queue in.
     pub fn join(&mut self, other: HeldQueue)
-        requires { AreOfOneQueue self.old other }
+        requires one_queue { AreOfOneQueue self.old other }
+        requires parts { Fit self.old other }
         ensures { AtSizes JoinedPart self.old self.new other }
     {
         match (self, other) {

@@ -11,8 +11,8 @@ use claim_queue::{ClaimQueue, ClaimRefusal, QueueEnd, TakeRefusal};
 use std::alloc::Global;
 use std::sync::Arc;
 
-/// One end of a queue that other handles share. It has at least so many parts of its queue, and has raised all that it
-/// claimed. `mark` is the number that the queue was given.
+/// One end of a queue that other handles share. It has so many parts of its queue, of u64::MAX, and has raised all that
+/// it claimed. `mark` is the number that the queue was given.
 #[derive(Drop)]
 pub struct Part<const N: usize> {
     pub(super) queue: Arc<ClaimQueue<N>, Global>,
@@ -21,14 +21,15 @@ pub struct Part<const N: usize> {
     pub(super) mark: u64,
     pub(super) line: ArrayVec<u64, N>,
     ghost own: { IsEndOf (arc_value queue) end },
-    ghost known: { parts ≤ (view_of end).member.share },
+    ghost known: { parts ≡ (view_of end).member.share },
     ghost raised: { AllRaised (view_of end).part.runs },
     ghost blank: { line.items ≡ [] },
 }
 
 impl<const N: usize> Part<N> {
     ghost use Rattle.bindings.specs.QueueParts.{IsNewPart, PutPart, TookPart, TookLinePart, TookSomePart, ShutPart};
-    ghost use Rattle.bindings.specs.QueueParts.{DividedPart, JoinedPart, IsOneQueue};
+    ghost use Rattle.bindings.specs.QueueParts.{DividedPart, JoinedPart, IsOneQueue, MayJoinPart};
+    ghost use Rattle.bindings.specs.QueueParts.{MayNotJoinPart, FitPart};
 
     /// An empty queue's first and only end.
     pub fn new(alloc: Global, first: u32, mark: u64) -> Option<Part<N>>
@@ -46,11 +47,11 @@ impl<const N: usize> Part<N> {
         })
     }
 
-    /// Whether the queues have one mark.
-    pub fn has_mark_of(&self, other: &Part<N>) -> bool
-        ensures { MatchBool result (other.now.mark ≡ self.now.mark) (other.now.mark ≡ self.now.mark → ⊥) }
+    /// Whether the queues have one mark, and the ends have no more parts together than one queue has.
+    pub fn may_join(&self, other: &Part<N>) -> bool
+        ensures { MatchBool result (MayJoinPart N self.now other.now) (MayNotJoinPart N self.now other.now) }
     {
-        self.mark == other.mark
+        self.mark == other.mark && other.parts <= u64::MAX - self.parts
     }
 
     /// Whether there is a part to give away.
@@ -80,7 +81,8 @@ impl<const N: usize> Part<N> {
 
     /// Takes another end of the queue in.
     pub fn join(&mut self, other: Part<N>)
-        requires { IsOneQueue N self.old other }
+        requires one_queue { IsOneQueue N self.old other }
+        requires parts { FitPart N self.old other }
         ensures { JoinedPart N self.old self.new other.entry }
     {
         let Part {
@@ -91,7 +93,7 @@ impl<const N: usize> Part<N> {
             line: _line,
         } = other;
         self.queue.join(&mut self.end, end);
-        self.parts = self.parts.saturating_add(parts);
+        self.parts += parts;
     }
 
     /// `ClaimQueue::try_put`.

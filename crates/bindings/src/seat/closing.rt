@@ -11,17 +11,18 @@ use std::sync::Arc;
 pub enum Outcome {
     /// They are closed.
     Closed(Metered),
-    /// Other handles are left.
+    /// The end hasn't all parts of the meters.
     Open(HeldSeat),
-    /// No other handle is left, but so many ends were freed and not joined.
-    Freed(u64),
 }
 
 impl HeldSeat {
-    /// `Meters::close`.
+    /// `Meters::close`, where the end has all parts.
     pub fn close(self) -> Outcome
         ensures { Ended result self }
     {
+        if self.parts != u64::MAX {
+            return Outcome::Open(self);
+        }
         let HeldSeat {
             meters,
             seat,
@@ -39,9 +40,9 @@ impl HeldSeat {
                 });
             }
         };
-        match meters.close(seat) {
-            Ok(metered) => Outcome::Closed(metered),
-            Err((_meters, _seat, open)) => Outcome::Freed(open.others),
-        }
+        let Ok(metered) = meters.close(seat) else {
+            unreachable!()
+        };
+        Outcome::Closed(metered)
     }
 }

@@ -10,8 +10,8 @@ use meters::{AdvanceRefusal, MeterSeat, Meters, SetRefusal};
 use std::alloc::Global;
 use std::sync::Arc;
 
-/// One end of meters that other handles share. It has at least so many parts of its meters. `mark` is the number that
-/// the meters were given.
+/// One end of meters that other handles share. It has so many parts of its meters, of u64::MAX. `mark` is the number
+/// that the meters were given.
 #[derive(Drop)]
 pub struct HeldSeat {
     pub(super) meters: Arc<Meters, Global>,
@@ -19,12 +19,12 @@ pub struct HeldSeat {
     pub(super) parts: u64,
     pub(super) mark: u64,
     ghost own: { IsSeatOf (arc_value meters) seat },
-    ghost known: { parts ≤ (view_of seat).member.share },
+    ghost known: { parts ≡ (view_of seat).member.share },
 }
 
 impl HeldSeat {
-    ghost use Rattle.bindings.specs.SeatHeld.{IsNewSeat, Divided, Joined, AreOfOneTable, HaveOneMark, WasTicked};
-    ghost use Rattle.bindings.specs.SeatHeld.{WasAdvanced, WasSet, WasCancelled, WereFired};
+    ghost use Rattle.bindings.specs.SeatHeld.{IsNewSeat, Divided, Joined, AreOfOneTable, MayJoin, MayNotJoin, Fit};
+    ghost use Rattle.bindings.specs.SeatHeld.{WasTicked, WasAdvanced, WasSet, WasCancelled, WereFired};
 
     /// The only end of new meters.
     pub fn new(alloc: Global, clock: u32, mark: u64) -> Option<HeldSeat>
@@ -40,11 +40,11 @@ impl HeldSeat {
         })
     }
 
-    /// Whether the meters have one mark.
-    pub fn has_mark_of(&self, other: &HeldSeat) -> bool
-        ensures { MatchBool result (HaveOneMark self.now other.now) (HaveOneMark self.now other.now → ⊥) }
+    /// Whether the meters have one mark, and the ends have no more parts together than the meters of one.
+    pub fn may_join(&self, other: &HeldSeat) -> bool
+        ensures { MatchBool result (MayJoin self.now other.now) (MayNotJoin self.now other.now) }
     {
-        self.mark == other.mark
+        self.mark == other.mark && other.parts <= u64::MAX - self.parts
     }
 
     /// Whether there is a part to give away.
@@ -73,7 +73,8 @@ impl HeldSeat {
 
     /// Takes another end of the meters in.
     pub fn join(&mut self, other: HeldSeat)
-        requires { AreOfOneTable self.old other }
+        requires one_table { AreOfOneTable self.old other }
+        requires parts { Fit self.old other }
         ensures { Joined self.old self.new other }
     {
         let HeldSeat {
@@ -83,7 +84,7 @@ impl HeldSeat {
             mark: _mark,
         } = other;
         self.meters.join(&mut self.seat, seat);
-        self.parts = self.parts.saturating_add(parts);
+        self.parts += parts;
     }
 
     /// `Meters::tick`.

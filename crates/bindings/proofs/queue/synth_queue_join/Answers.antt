@@ -4,9 +4,9 @@ use Rattle.bindings.specs.QueueHeld.{AtSizes}
 use Rattle.bindings.specs.QueueParts.{JoinedPart}
 use Rattle.bindings.proofs.queue.synth_queue_join.Goals as goal
 
-pub returns-then-not-has_mark_of : goal.returns-then-not-has_mark_of
-returns-then-not-has_mark_of c = let one = c.in-Some.ensures.taken in let two = c.in-Some-take.ensures.taken in
-    inr (inl (refl, c.in-Some.held.value, c.in-Some-take.joined.value, one, two, c.put-then-not-has_mark_of.ensures ∙ sym one, c.put-then-not-has_mark_of-2.ensures ∙ sym two, search rules))
+pub returns-then-not-may_join : goal.returns-then-not-may_join
+returns-then-not-may_join c = let one = c.in-Some.ensures.taken in let two = c.in-Some-take.ensures.taken in
+    inr (inl (refl, c.in-Some.held.value, c.in-Some-take.joined.value, one, two, c.put-then-not-may_join.ensures ∙ sym one, c.put-then-not-may_join-2.ensures ∙ sym two, search rules))
 
 pub returns : goal.returns
 returns c = let y = c.join.new.self in let z = c.in-Some-take.joined.value in

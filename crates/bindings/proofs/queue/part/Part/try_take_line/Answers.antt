@@ -1,4 +1,4 @@
-use Rattle.std.proofs.Common.{rules, ℕ, ◌≤◌, ◌∙◌, sym, subst}
+use Rattle.std.proofs.Common.{rules, ◌∙◌, sym}
 use Rattle.claim_queue.specs.Handles.{view_of, call_of}
 use Rattle.bindings.proofs.QueueEnds.{line_keeps, still_raised}
 use Rattle.bindings.proofs.Buffers.{line_filled}
@@ -12,7 +12,7 @@ pub invariant_of-self-in-Err-1 : goal.invariant_of-self-in-Err-1
 invariant_of-self-in-Err-1 g c = let x = c.args.self.now in let t = c.try_take_line in
     let k = line_keeps g.row.N (call_of x.end) (view_of x.end) (view_of t.new.end) t.new.line.items t.result t.ensures.taken in record {
       own = t.ensures.queue.0 ∙ x.own;
-      known = subst (λ (z : ℕ). x.parts ≤ z) (sym k.share) x.known;
+      known = x.known ∙ sym k.share;
       raised = still_raised k x.raised;
       blank = c.in-Err.ensures.taken.0;
     }

@@ -30,7 +30,7 @@ static void marks_stand(void)
     ROW(steps, MARK);
     ROW(held && served && was_clear && parked && raised, true);
     ROW(places.place[0].kind == 0x05050505 && places.pc[63] == 0x0505050505050505, true);
-    ROW(places.stops == places.freed && places.freed == 0x0505050505050505, true);
+    ROW(places.stops, 0x0505050505050505);
 }
 
 /* The answers of tries, with the numbers that they tell: those of one thread are never LOST. */
@@ -147,7 +147,7 @@ static void full_handles(void)
     ROW(synth_hand_join(&a, &b), SYNTH_EMPTY_HANDLE);
     ROW(synth_hand_close(&a, &places), SYNTH_DONE);
     ROW(synth_hand_close(&a, &places), SYNTH_EMPTY_HANDLE);
-    ROW(places.stops == 0 && places.freed == 0 && places.pc[0] == 0 && places.pending[63] == 0, true);
+    ROW(places.stops == 0 && places.pc[0] == 0 && places.pending[63] == 0, true);
     is_at(0, SYNTH_PLACE_FREE, 0);
     is_at(63, SYNTH_PLACE_FREE, 0);
 }
@@ -428,7 +428,7 @@ static void sent_signals(void)
     ROW(places.stops, 1);
 }
 
-/* Hands that were freed and not joined: what they held is nobody's. */
+/* Hands that were freed and not joined: what they held is nobody's, no close succeeds, and the last free ends it. */
 static void freed_handles(void)
 {
     struct synth_hand hand = {NULL, false}, one = {NULL, false}, two = {NULL, false};
@@ -445,11 +445,16 @@ static void freed_handles(void)
     ROW(synth_hand_on(&hand, 0, 0), SYNTH_NOT_HELD);
     ROW(synth_hand_off(&hand, 0, &element), SYNTH_NOT_SERVED);
     ROW(synth_hand_free(&two), SYNTH_DONE);
-    set_marks();
-    ROW(synth_hand_close(&hand, &places), SYNTH_FREED);
-    ROW(places.freed, 2);
-    places.freed = places.stops;
+    ROW(synth_hand_close(&hand, &places), SYNTH_OPEN);
+    ROW(synth_hand_split(&hand, 0, &one), SYNTH_DONE);
+    ROW(synth_hand_join(&hand, &one), SYNTH_DONE);
+    ROW(synth_hand_close(&hand, &places), SYNTH_OPEN);
     marks_stand();
+    ROW(hand.full, true);
+    taken(synth_hand_try_free(&hand, &element), SYNTH_DONE);
+    ROW(element, 1);
+    ROW(synth_hand_on(&hand, 1, 1), SYNTH_DONE);
+    ROW(synth_hand_free(&hand), SYNTH_DONE);
     ROW(hand.full, false);
     ROW(synth_hand_close(&hand, &places), SYNTH_EMPTY_HANDLE);
 }

@@ -212,10 +212,10 @@ static void refused_close(void)
     ROW(synth_queue_close(&other, line, LARGE, &closed), SYNTH_DONE);
     ROW(other.full, false);
     ROW(line[0] == 12 && line[1] == 13, true);
-    ROW(closed.first == 1 && closed.put == 3 && closed.taken == 1 && closed.left == 2 && closed.freed == 0, true);
+    ROW(closed.first == 1 && closed.put == 3 && closed.taken == 1 && closed.left == 2, true);
 }
 
-/* Handles that were freed and not joined: what is left comes back all the same. */
+/* Handles that were freed and not joined: no close succeeds, the items left can be taken, and the last free ends it. */
 static void freed_handles(void)
 {
     const uint64_t put[] = {21, 22, 23};
@@ -226,15 +226,24 @@ static void freed_handles(void)
     told(synth_queue_try_put(&two, put, 3), SYNTH_DONE, 0, 0);
     told(synth_queue_try_take(&one, &item), SYNTH_DONE, 0, 0);
     ROW(synth_queue_free(&two), SYNTH_DONE);
+    set_marks();
     ROW(synth_queue_close(&queue, line, LARGE, &closed), SYNTH_OPEN);
     ROW(synth_queue_free(&one), SYNTH_DONE);
     ROW(synth_queue_close(&queue, line, PLACES - 1, &closed), SYNTH_SHORT_BUFFER);
-    ROW(synth_queue_close(&queue, line, LARGE, &closed), SYNTH_FREED);
-    ROW(closed.freed == 2 && closed.left == 2 && line[0] == 22 && line[1] == 23, true);
+    ROW(synth_queue_close(&queue, line, LARGE, &closed), SYNTH_OPEN);
+    ROW(synth_queue_split(&queue, &one), SYNTH_DONE);
+    ROW(synth_queue_join(&queue, &one), SYNTH_DONE);
+    ROW(synth_queue_close(&queue, line, LARGE, &closed), SYNTH_OPEN);
+    marks_stand();
+    ROW(queue.full, true);
+    told(synth_queue_take_up_to(&queue, line, LARGE, &count), SYNTH_DONE, 0, 3);
+    ROW(count == 2 && line[0] == 22 && line[1] == 23, true);
+    ROW(synth_queue_close(&queue, line, LARGE, &closed), SYNTH_OPEN);
+    ROW(synth_queue_free(&queue), SYNTH_DONE);
     ROW(queue.full, false);
     ROW(synth_queue_close(&queue, line, LARGE, &closed), SYNTH_EMPTY_HANDLE);
 
-    /* The last handle is freed too. */
+    /* The last handle is freed with items left. */
     ROW(synth_queue_new(PLACES, 0, &queue), SYNTH_DONE);
     told(synth_queue_try_put(&queue, put, 3), SYNTH_DONE, 0, 0);
     ROW(synth_queue_free(&queue), SYNTH_DONE);

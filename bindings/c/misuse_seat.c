@@ -82,7 +82,7 @@ static void full_handles(void)
     ROW(synth_seat_join(&a, &b), SYNTH_EMPTY_HANDLE);
     ROW(synth_seat_close(&a, &metered), SYNTH_DONE);
     ROW(synth_seat_close(&a, &metered), SYNTH_EMPTY_HANDLE);
-    ROW(metered.clock == 5 && metered.alarms == 0 && metered.freed == 0, true);
+    ROW(metered.clock == 5 && metered.alarms == 0, true);
 }
 
 /* Numbers out of range change nothing. */
@@ -145,14 +145,24 @@ static void uses(void)
     ROW(metered.alarm[0].element == 2 && metered.alarm[6].element == 14 && metered.alarm[7].due == 0, true);
 }
 
+/* A seat that was freed and not joined: no close succeeds, the meters go on, and the last free ends them. */
 static void freed_handles(void)
 {
     struct synth_seat seat = {NULL, false}, other = {NULL, false};
     ROW(synth_seat_new(0, &seat), SYNTH_DONE);
     ROW(synth_seat_split(&seat, &other), SYNTH_DONE);
+    ROW(synth_seat_tick(&other, 3, 4, &before), SYNTH_DONE);
     ROW(synth_seat_free(&other), SYNTH_DONE);
-    ROW(synth_seat_close(&seat, &metered), SYNTH_FREED);
-    ROW(metered.freed, 1);
+    set_marks();
+    ROW(synth_seat_close(&seat, &metered), SYNTH_OPEN);
+    ROW(synth_seat_split(&seat, &other), SYNTH_DONE);
+    ROW(synth_seat_join(&seat, &other), SYNTH_DONE);
+    ROW(synth_seat_close(&seat, &metered), SYNTH_OPEN);
+    marks_stand();
+    ROW(seat.full, true);
+    ROW(synth_seat_tick(&seat, 3, 0, &before), SYNTH_DONE);
+    ROW(before, 4);
+    ROW(synth_seat_free(&seat), SYNTH_DONE);
     ROW(seat.full, false);
     ROW(synth_seat_close(&seat, &metered), SYNTH_EMPTY_HANDLE);
 }

@@ -84,13 +84,18 @@ static void ask_for_none(void)
     memory_refuse(0);
 }
 
-/* Hands that are freed give their memory back, the last one that of the table. */
+/* Hands that are freed give their memory back, the last one that of the table. A close that is refused gives none. */
 static void free_all(void)
 {
+    struct synth_places places;
+    long taken;
     ROW(synth_hand_new(0, &last), SYNTH_DONE);
     ROW(synth_hand_split(&last, ALL, &other), SYNTH_DONE);
     ROW(synth_hand_free(&last), SYNTH_DONE);
-    ROW(memory_taken() > 0, true);
+    taken = memory_taken();
+    ROW(taken > 0, true);
+    ROW(synth_hand_close(&other, &places), SYNTH_OPEN);
+    ROW(memory_taken(), taken);
     ROW(synth_hand_free(&other), SYNTH_DONE);
     ROW(memory_taken(), 0);
 }

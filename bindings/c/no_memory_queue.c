@@ -56,13 +56,18 @@ static void ask_for_none(void)
     memory_refuse(0);
 }
 
-/* Handles that are freed give their memory back, the last one that of the queue. */
+/* Handles that are freed give their memory back, the last one that of the queue. A close that is refused gives none. */
 static void free_all(void)
 {
+    struct synth_closed closed;
+    long taken;
     ROW(synth_queue_new(PLACES, 0, &last), SYNTH_DONE);
     ROW(synth_queue_split(&last, &other), SYNTH_DONE);
     ROW(synth_queue_free(&last), SYNTH_DONE);
-    ROW(memory_taken() > 0, true);
+    taken = memory_taken();
+    ROW(taken > 0, true);
+    ROW(synth_queue_close(&other, left, PLACES, &closed), SYNTH_OPEN);
+    ROW(memory_taken(), taken);
     ROW(synth_queue_free(&other), SYNTH_DONE);
     ROW(memory_taken(), 0);
 }

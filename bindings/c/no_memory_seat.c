@@ -57,13 +57,18 @@ static void ask_for_none(void)
     memory_refuse(0);
 }
 
-/* Seats that are freed give their memory back, the last one that of the meters. */
+/* Seats that are freed give their memory back, the last one that of the meters. A close that is refused gives none. */
 static void free_all(void)
 {
+    struct synth_metered metered;
+    long taken;
     ROW(synth_seat_new(0, &last), SYNTH_DONE);
     ROW(synth_seat_split(&last, &other), SYNTH_DONE);
     ROW(synth_seat_free(&last), SYNTH_DONE);
-    ROW(memory_taken() > 0, true);
+    taken = memory_taken();
+    ROW(taken > 0, true);
+    ROW(synth_seat_close(&other, &metered), SYNTH_OPEN);
+    ROW(memory_taken(), taken);
     ROW(synth_seat_free(&other), SYNTH_DONE);
     ROW(memory_taken(), 0);
 }

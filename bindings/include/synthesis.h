@@ -9,10 +9,10 @@
  *
  * HANDLES. An object is shared by its ends. An end is a handle of 16 bytes in the caller's memory. A handle of zeros
  * is empty: `struct synth_queue end = {0, false};`, or a static one. `.._new` makes an object and fills one handle,
- * `.._split` fills one more of the same object, `.._join` empties one again, and `.._close` ends the object by its
- * last handle and tells what became of everything. `.._free` empties a handle that is never joined: the close can't
- * tell all then, and where all are freed the object goes with the last one. A full handle that is neither joined,
- * closed nor freed is leaked.
+ * which has the whole of it. `.._split` fills one more and gives it a share, `.._join` empties one again and takes its
+ * share in, and `.._close`, by a handle that has the whole again, ends the object and tells what became of everything.
+ * `.._free` empties a handle that is never joined. Its share is gone then, so the object is never closed: it goes with
+ * its last handle, once that is freed too. A full handle that is neither joined, closed nor freed is leaked.
  *
  * THREADS. A handle belongs to one thread at a time. NEVER USE ONE HANDLE IN TWO CALLS AT ONCE, AND NEVER COPY A FULL
  * ONE AND USE BOTH. Between two calls a handle may go to another thread, by a lock, by the start or the join of a
@@ -62,7 +62,7 @@ enum synth_code {
     SYNTH_BUSY = 9,        /* an element stands on the processor */
     SYNTH_VACANT = 10,     /* no element stands on the processor */
     SYNTH_NO_ROOM = 11,    /* each alarm slot was found taken */
-    SYNTH_OPEN = 12,       /* other handles of the object are full: join them first */
+    SYNTH_OPEN = 12,       /* the handle hasn't the whole object: others are full, or were freed and not joined */
     SYNTH_NOT_HELD = 13,   /* the hand doesn't hold the element */
     SYNTH_NOT_SERVED = 14, /* the hand doesn't serve the processor */
     SYNTH_ALL_WOKEN = 15,  /* each place that was claimed before the notify is taken */
@@ -73,8 +73,7 @@ enum synth_code {
     SYNTH_OTHER_OBJECT = -4, /* the two handles are of two objects */
     SYNTH_NO_SHARE = -5,     /* the handle was split too often: join others to it first */
     SYNTH_SHORT_BUFFER = -6, /* the buffer has less room than the call wants */
-    SYNTH_BAD_NUMBER = -7,   /* a number is out of its range */
-    SYNTH_FREED = -8         /* the object has ended, but handles of it were freed and not joined: it can't tell all */
+    SYNTH_BAD_NUMBER = -7    /* a number is out of its range */
 };
 
 /* A code, and the positions that a call tells with it; where it tells none, they are 0. */
@@ -107,7 +106,6 @@ struct synth_closed {
     uint32_t put;   /* how many items were put */
     uint32_t taken; /* how many were taken; they are the first of those put */
     size_t left;    /* how many were left, all others */
-    uint64_t freed; /* how many handles were freed and not joined; 0 but with SYNTH_FREED */
 };
 
 /*
@@ -126,7 +124,8 @@ int32_t synth_queue_split(struct synth_queue *queue, struct synth_queue *other);
 
 /*
  * Joins `other`, a handle of the same queue, to `queue`, and empties it. Both are the calling thread's.
- * SYNTH_EMPTY_HANDLE: either one; SYNTH_OTHER_OBJECT.
+ * SYNTH_EMPTY_HANDLE: either one; SYNTH_OTHER_OBJECT: they have two marks, or both shares are more than the whole,
+ * which those of one queue never are.
  */
 int32_t synth_queue_join(struct synth_queue *queue, struct synth_queue *other);
 
@@ -173,14 +172,18 @@ struct synth_answer synth_queue_try_take_line(struct synth_queue *queue, uint64_
 int32_t synth_queue_shut(struct synth_queue *queue, bool *was_open);
 
 /*
- * Closes the queue by its last handle, which is then empty. The items left go to `left`, in their order; `room` is at
- * least the number of places.
- * SYNTH_EMPTY_HANDLE; SYNTH_SHORT_BUFFER; SYNTH_OPEN; SYNTH_FREED: the queue has ended too, and the handle is empty.
- * `closed->freed` and `closed->left` are told then, all else in `closed` is 0, and the items left are in `left`.
+ * Closes the queue by a handle to which all others were joined, and empties it. The items left go to `left`, in their
+ * order; `room` is at least the number of places.
+ * SYNTH_EMPTY_HANDLE; SYNTH_SHORT_BUFFER; SYNTH_OPEN. Where others were freed it is always OPEN: take what is left by
+ * the calls above, and free the last handle.
  */
 int32_t synth_queue_close(struct synth_queue *queue, uint64_t *left, size_t room, struct synth_closed *closed);
 
-/* Empties the handle, which is then never joined. SYNTH_EMPTY_HANDLE. */
+/*
+ * Empties the handle, which is then never joined, so the queue is never closed. The last handle that is freed takes
+ * the queue with it, and the items left.
+ * SYNTH_EMPTY_HANDLE.
+ */
 int32_t synth_queue_free(struct synth_queue *queue);
 
 /*
@@ -207,7 +210,6 @@ struct synth_metered {
     uint32_t clock;
     uint32_t alarms;              /* how many alarms stand */
     struct synth_alarm alarm[16]; /* these, in the order of their slots; behind them zeros */
-    uint64_t freed;               /* how many seats were freed and not joined; 0 but with SYNTH_FREED */
 };
 
 /*
@@ -225,7 +227,7 @@ int32_t synth_seat_split(struct synth_seat *seat, struct synth_seat *other);
 
 /*
  * Joins `other`, a seat of the same meters, to `seat`, and empties it. Both are the calling thread's.
- * SYNTH_EMPTY_HANDLE: either one; SYNTH_OTHER_OBJECT.
+ * SYNTH_EMPTY_HANDLE: either one; SYNTH_OTHER_OBJECT: as of a queue.
  */
 int32_t synth_seat_join(struct synth_seat *seat, struct synth_seat *other);
 
@@ -264,13 +266,16 @@ int32_t synth_seat_cancel(struct synth_seat *seat, uint32_t slot, const struct s
 int32_t synth_seat_due(struct synth_seat *seat, struct synth_alarm *alarms, size_t room, size_t *count);
 
 /*
- * Closes the meters by their last seat, which is then empty.
- * SYNTH_EMPTY_HANDLE; SYNTH_OPEN; SYNTH_FREED: the meters have ended too, and the seat is empty. Only
- * `metered->freed` tells something then.
+ * Closes the meters by a seat to which all others were joined, and empties it.
+ * SYNTH_EMPTY_HANDLE; SYNTH_OPEN: always where others were freed.
  */
 int32_t synth_seat_close(struct synth_seat *seat, struct synth_metered *metered);
 
-/* Empties the seat, which is then never joined. SYNTH_EMPTY_HANDLE. */
+/*
+ * Empties the seat, which is then never joined, so the meters are never closed. The last seat that is freed takes them
+ * with it.
+ * SYNTH_EMPTY_HANDLE.
+ */
 int32_t synth_seat_free(struct synth_seat *seat);
 
 /*
@@ -426,7 +431,6 @@ struct synth_places {
     uint64_t pc[64];      /* how many steps each has done */
     uint16_t pending[64]; /* the pending signals of each, bit s for signal s */
     uint64_t stops;       /* whose stop bit is set, bit e for element e */
-    uint64_t freed;       /* how many hands were freed and not joined; 0 but with SYNTH_FREED */
 };
 
 /*
@@ -449,7 +453,7 @@ int32_t synth_hand_split(struct synth_hand *hand, uint32_t processors, struct sy
 /*
  * Joins `other`, a hand of the same table, to `hand`, and empties it. The first hand then has all that both had: the
  * elements that they held, their processors, and what stands there. Both are the calling thread's.
- * SYNTH_EMPTY_HANDLE: either one; SYNTH_OTHER_OBJECT.
+ * SYNTH_EMPTY_HANDLE: either one; SYNTH_OTHER_OBJECT: as of a queue.
  */
 int32_t synth_hand_join(struct synth_hand *hand, struct synth_hand *other);
 
@@ -588,13 +592,16 @@ int32_t synth_hand_signal(struct synth_hand *hand, uint32_t element, uint32_t si
 struct synth_state synth_hand_try_deliver(struct synth_hand *hand, uint32_t element, uint32_t *signals);
 
 /*
- * Closes the table by its last hand, which is then empty, and tells of each element.
- * SYNTH_EMPTY_HANDLE; SYNTH_OPEN; SYNTH_FREED: the table has ended too, and the hand is empty. Only `places->freed` is
- * written then.
+ * Closes the table by a hand to which all others were joined, empties it, and tells of each element.
+ * SYNTH_EMPTY_HANDLE; SYNTH_OPEN: always where others were freed.
  */
 int32_t synth_hand_close(struct synth_hand *hand, struct synth_places *places);
 
-/* Empties the hand, which is then never joined. SYNTH_EMPTY_HANDLE. */
+/*
+ * Empties the hand, which is then never joined, so the table is never closed. The last hand that is freed takes the
+ * table with it.
+ * SYNTH_EMPTY_HANDLE.
+ */
 int32_t synth_hand_free(struct synth_hand *hand);
 
 #ifdef __cplusplus

@@ -26,19 +26,12 @@ pub struct OtherObject<E> {
     pub end: E,
 }
 
-/// Why an object was not closed by its end.
+/// An object was not closed by its end, which comes back: other ends stand, or were dropped and not joined. Those that
+/// stand can be joined. Where one was dropped the object is never closed, and ends when its last end is dropped.
 #[derive(Debug)]
-pub enum CloseRefusal<E, L = ()> {
-    /// Other ends stand: join them first. The end comes back.
-    Open(E),
-    /// No other end stood, but some had been dropped and not joined. The object has ended with the last one, and
-    /// can't tell what became of everything.
-    Dropped {
-        /// How many ends were dropped.
-        ends: u64,
-        /// What was left: the items of a queue, and nothing of other objects.
-        left: L,
-    },
+pub struct StillOpen<E> {
+    /// What comes back.
+    pub end: E,
 }
 
 impl<E> fmt::Display for OtherObject<E> {
@@ -47,17 +40,14 @@ impl<E> fmt::Display for OtherObject<E> {
     }
 }
 
-impl<E, L> fmt::Display for CloseRefusal<E, L> {
+impl<E> fmt::Display for StillOpen<E> {
     fn fmt(&self, f: &mut fmt::Formatter<'_>) -> fmt::Result {
-        match self {
-            CloseRefusal::Open(_) => f.write_str("other ends stand"),
-            CloseRefusal::Dropped { ends, left: _ } => write!(f, "{ends} ends were dropped and not joined"),
-        }
+        f.write_str("other ends stand, or were dropped and not joined")
     }
 }
 
 impl<E: fmt::Debug> Error for OtherObject<E> {}
-impl<E: fmt::Debug, L: fmt::Debug> Error for CloseRefusal<E, L> {}
+impl<E: fmt::Debug> Error for StillOpen<E> {}
 
 says!(OutOfMemory {
     OutOfMemory => "no memory",
@@ -98,12 +88,11 @@ pub(crate) fn joined<E>(code: i32, end: E) -> Result<(), OtherObject<E>> {
     }
 }
 
-/// What a `.._close` by this end answers, where so many ends were freed and this is left.
-pub(crate) fn closed<E, L>(code: i32, end: E, ends: u64, left: L) -> Result<L, CloseRefusal<E, L>> {
+/// What a `.._close` by this end answers.
+pub(crate) fn closed<E>(code: i32, end: E) -> Result<(), StillOpen<E>> {
     match code {
-        raw::DONE => Ok(left),
-        raw::OPEN => Err(CloseRefusal::Open(end)),
-        raw::FREED => Err(CloseRefusal::Dropped { ends, left }),
+        raw::DONE => Ok(()),
+        raw::OPEN => Err(StillOpen { end }),
         code => raw::no_such_answer(code),
     }
 }

@@ -24,7 +24,7 @@ use crate::words::says;
 /// in its stop cell, or held by a hand. What a hand holds, and what it has put on its processors, no other hand can
 /// move. The table runs nothing: what an element stands for, and its steps, are its caller's.
 ///
-/// A hand that is dropped is never joined. What it had is nobody's then, and the close can tell of no element.
+/// A hand that is dropped is never joined. What it had is nobody's then, and the table can't be closed any more.
 ///
 /// ```
 /// use synthesis_kernel::{Hand, Place, Processor};

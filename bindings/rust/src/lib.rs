@@ -35,8 +35,8 @@
 //! ```
 //!
 //! No call takes a lock of its own, sleeps or waits. None but `new` and `split` takes memory, but for the lists that
-//! `close` gives. Refusals are values; a refusal changes nothing, but `Dropped`, where the object has ended. The chain
-//! is not here: what it runs, its quajects, is Rattle code.
+//! `close` gives. Refusals are values, and a refusal changes nothing. An object of which an end was dropped is never
+//! closed, and ends with its last end. The chain is not here: what it runs, its quajects, is Rattle code.
 //!
 //! A program has one version of this crate, and Cargo refuses two: a join knows the ends of an object by marks that
 //! one copy of the library gives.
@@ -51,7 +51,7 @@ mod queue;
 mod raw;
 mod words;
 
-pub use ends::{CloseRefusal, OtherObject, OutOfMemory, SplitRefusal};
+pub use ends::{OtherObject, OutOfMemory, SplitRefusal, StillOpen};
 pub use hand::{
     Hand, HandRefusal, HandSplitRefusal, Lost, MoveRefusal, NextRefusal, NotHeld, OffRefusal, OnRefusal, Place, Places,
     Signalled, Started, StateRefusal, StateWord, StepRefusal,

@@ -1,13 +1,14 @@
 //! Meters: gauges, a clock and alarms.
 
-use crate::ends::{closed, joined, made, split_off, CloseRefusal, OtherObject, OutOfMemory, SplitRefusal};
+use crate::ends::{closed, joined, made, split_off, OtherObject, OutOfMemory, SplitRefusal, StillOpen};
 use crate::names::{Element, Gauge, Signal};
 use crate::raw;
 use crate::words::says;
 
 /// An end of meters, and its meters: 8 gauges, a clock, and 16 slots for alarms.
 ///
-/// An end that is dropped is never joined, which the close tells, and nothing else then; what it did stays done.
+/// An end that is dropped is never joined, so the meters can't be closed any more. What it did stays done, and the others
+/// go on.
 ///
 /// ```
 /// use synthesis_kernel::{Alarm, Element, Gauge, MeterSeat, Signal};
@@ -191,11 +192,11 @@ impl MeterSeat {
         }
     }
 
-    /// Closes the meters where every other end has been joined. Where others stand this one comes back.
-    pub fn close(mut self) -> Result<Metered, CloseRefusal<MeterSeat>> {
+    /// Closes the meters where every other end has been joined. Where others stand, or were dropped, this one comes back.
+    pub fn close(mut self) -> Result<Metered, StillOpen<MeterSeat>> {
         let mut numbers = raw::Metered::default();
         let code = raw::synth_seat_close(&mut self.handle, &mut numbers);
-        closed(code, self, numbers.freed, ())?;
+        closed(code, self)?;
         let alarms = &numbers.alarm[..numbers.alarms as usize];
         Ok(Metered {
             gauges: numbers.gauges,

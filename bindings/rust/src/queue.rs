@@ -1,13 +1,13 @@
 //! Claim queues: any number of producers and takers.
 
-use crate::ends::{closed, joined, made, split_off, CloseRefusal, OtherObject, OutOfMemory, SplitRefusal};
+use crate::ends::{closed, joined, made, split_off, OtherObject, OutOfMemory, SplitRefusal, StillOpen};
 use crate::raw;
 use crate::words::says;
 
 /// An end of a queue of `N` places, 64 or 256, and its queue. Each end may put and take.
 ///
-/// An end that is dropped is never joined, which the close tells, and nothing but the items left with it; all else
-/// goes on. The queue's memory goes with its last end.
+/// An end that is dropped is never joined. All else goes on, but the queue can't be closed any more: what is left can
+/// be taken still, and goes with the last end that is dropped.
 ///
 /// It may go to another thread:
 ///
@@ -241,26 +241,26 @@ impl<const N: usize> QueueEnd<N> {
         }
     }
 
-    /// Closes the queue where every other end has been joined. Where others stand this one comes back. Where others
-    /// were dropped the items left are all that is told.
+    /// Closes the queue where every other end has been joined. Where others stand, or were dropped, this one comes back.
     ///
     /// ```
-    /// # use synthesis_kernel::{CloseRefusal, QueueEnd};
+    /// # use synthesis_kernel::QueueEnd;
     /// let mut end = QueueEnd::<64>::new(0)?;
     /// let mut other = end.split()?;
     /// other.try_put(&[1, 2])?;
-    /// let Err(CloseRefusal::Open(mut end)) = end.close() else { panic!("closed by one of two ends") };
+    /// let mut end = end.close().unwrap_err().end;
     /// end.join(other)?;
     /// let closed = end.close()?;
     /// assert_eq!((closed.put, closed.taken, closed.left), (2, 0, vec![1, 2]));
     /// # Ok::<(), Box<dyn std::error::Error>>(())
     /// ```
-    pub fn close(mut self) -> Result<Closed, CloseRefusal<QueueEnd<N>, Vec<u64>>> {
+    pub fn close(mut self) -> Result<Closed, StillOpen<QueueEnd<N>>> {
         let mut room = [0; N];
         let mut numbers = raw::Closed::default();
         // SAFETY: the pointer leads to room for N items, and nobody else has it.
         let code = unsafe { raw::synth_queue_close(&mut self.handle, room.as_mut_ptr(), N, &mut numbers) };
-        let left = closed(code, self, numbers.freed, room[..numbers.left].to_vec())?;
+        closed(code, self)?;
+        let left = room[..numbers.left].to_vec();
         Ok(Closed { first: numbers.first, put: numbers.put, taken: numbers.taken, left })
     }
 }

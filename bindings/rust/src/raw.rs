@@ -56,7 +56,6 @@ pub(crate) struct Closed {
     pub put: u32,
     pub taken: u32,
     pub left: usize,
-    pub freed: u64,
 }
 
 #[repr(C)]
@@ -74,7 +73,6 @@ pub(crate) struct Metered {
     pub clock: u32,
     pub alarms: u32,
     pub alarm: [Alarm; 16],
-    pub freed: u64,
 }
 
 #[repr(C)]
@@ -111,12 +109,11 @@ pub(crate) struct Places {
     pub pc: [u64; 64],
     pub pending: [u16; 64],
     pub stops: u64,
-    pub freed: u64,
 }
 
 impl Default for Places {
     fn default() -> Places {
-        Places { place: [Place::default(); 64], pc: [0; 64], pending: [0; 64], stops: 0, freed: 0 }
+        Places { place: [Place::default(); 64], pc: [0; 64], pending: [0; 64], stops: 0 }
     }
 }
 
@@ -151,7 +148,6 @@ pub(crate) const NO_MEMORY: i32 = -1;
 pub(crate) const OTHER_OBJECT: i32 = -4;
 pub(crate) const NO_SHARE: i32 = -5;
 pub(crate) const BAD_NUMBER: i32 = -7;
-pub(crate) const FREED: i32 = -8;
 
 /// A code that the call doesn't have, or that its types rule out.
 pub(crate) fn no_such_answer(code: i32) -> ! {

@@ -4,8 +4,8 @@ use std::error::Error;
 use std::sync::atomic::{AtomicU64, Ordering::SeqCst};
 use std::thread;
 use synthesis_kernel::{
-    CloseRefusal, Element, Hand, HandRefusal, HandSplitRefusal, MoveRefusal, NextRefusal, NotHeld, OffRefusal,
-    OnRefusal, OtherObject, Place, Processor, Signal, Signalled, Started, StateRefusal, StepRefusal, WaitNumber,
+    Element, Hand, HandRefusal, HandSplitRefusal, MoveRefusal, NextRefusal, NotHeld, OffRefusal, OnRefusal,
+    OtherObject, Place, Processor, Signal, Signalled, Started, StateRefusal, StepRefusal, StillOpen, WaitNumber,
 };
 
 const WORKERS: u8 = 4;
@@ -218,10 +218,11 @@ fn ends_are_told() {
     assert!(other.close().is_ok());
     let mut other = hand.split(1).unwrap();
     let lost = other.try_free().unwrap();
-    let Err(CloseRefusal::Open(mut hand)) = hand.close() else { panic!("closed by one of two hands") };
+    let StillOpen { end: mut hand } = hand.close().unwrap_err();
     drop(other);
     assert!(!hand.holds(lost) && !hand.serves(processor(0)));
-    assert!(matches!(hand.close(), Err(CloseRefusal::Dropped { ends: 1, left: () })));
+    let StillOpen { end: mut hand } = hand.close().unwrap_err();
+    assert_eq!(hand.try_free(), Ok(element(1)));
 }
 
 #[test]

@@ -1,9 +1,7 @@
 //! Meters from several threads, and their refusals.
 
 use std::thread;
-use synthesis_kernel::{
-    AdvanceRefusal, Alarm, CloseRefusal, Element, Gauge, MeterSeat, OtherObject, SetRefusal, Signal,
-};
+use synthesis_kernel::{AdvanceRefusal, Alarm, Element, Gauge, MeterSeat, OtherObject, SetRefusal, Signal, StillOpen};
 
 const THREADS: u32 = 4;
 const TICKS: u32 = 5_000;
@@ -65,10 +63,13 @@ fn ends_are_told() {
     let mut seat = MeterSeat::new(0).unwrap();
     let OtherObject { end: other } = seat.join(MeterSeat::new(0).unwrap()).unwrap_err();
     assert!(other.close().is_ok());
-    let other = seat.split().unwrap();
-    let Err(CloseRefusal::Open(seat)) = seat.close() else { panic!("closed by one of two seats") };
+    let mut other = seat.split().unwrap();
+    let gauge = Gauge::new(2).unwrap();
+    assert_eq!(other.tick(gauge, 4), 0);
+    let StillOpen { end: seat } = seat.close().unwrap_err();
     drop(other);
-    assert!(matches!(seat.close(), Err(CloseRefusal::Dropped { ends: 1, left: () })));
+    let StillOpen { end: mut seat } = seat.close().unwrap_err();
+    assert_eq!(seat.tick(gauge, 1), 4);
 }
 
 #[test]

@@ -2,7 +2,7 @@
 
 use std::error::Error;
 use std::thread;
-use synthesis_kernel::{ClaimRefusal, CloseRefusal, OtherObject, QueueEnd, SplitRefusal, TakeRefusal};
+use synthesis_kernel::{ClaimRefusal, OtherObject, QueueEnd, SplitRefusal, StillOpen, TakeRefusal};
 
 const PRODUCERS: u64 = 3;
 const ITEMS: u64 = 30_000;
@@ -87,16 +87,10 @@ fn refusals_are_told() {
     assert_eq!(TakeRefusal::Empty { at: 5 }.to_string(), "nothing raised at 5");
     assert_eq!(TakeRefusal::Lost { tail: 6 }.to_string(), "lost, tail 6");
     assert_eq!(TakeRefusal::Closed.to_string(), "the queue is shut and empty");
-    let dropped: CloseRefusal<(), ()> = CloseRefusal::Dropped { ends: 2, left: () };
-    let told: [Box<dyn Error>; 4] = [
-        Box::new(dropped),
-        Box::new(CloseRefusal::<(), ()>::Open(())),
-        Box::new(OtherObject { end: () }),
-        Box::new(SplitRefusal::NoShare),
-    ];
+    let told: [Box<dyn Error>; 3] =
+        [Box::new(StillOpen { end: () }), Box::new(OtherObject { end: () }), Box::new(SplitRefusal::NoShare)];
     let words = [
-        "2 ends were dropped and not joined",
-        "other ends stand",
+        "other ends stand, or were dropped and not joined",
         "the ends are of two objects",
         "the end was split too often",
     ];
@@ -104,15 +98,16 @@ fn refusals_are_told() {
 }
 
 #[test]
-fn an_end_that_is_dropped_is_told_at_the_close() {
+fn a_queue_of_which_an_end_was_dropped_is_never_closed() {
     let mut end = QueueEnd::<64>::new(0).unwrap();
     let mut other = end.split().unwrap();
     other.try_put(&[7, 8]).unwrap();
     assert_eq!(end.try_take(), Ok(7));
-    let Err(CloseRefusal::Open(end)) = end.close() else { panic!("closed by one of two ends") };
+    let StillOpen { end } = end.close().unwrap_err();
     drop(other);
-    let Err(CloseRefusal::Dropped { ends, left }) = end.close() else { panic!("closed without the other end") };
-    assert_eq!((ends, left), (1, vec![8]));
+    let StillOpen { mut end } = end.close().unwrap_err();
+    assert_eq!((end.try_take(), end.try_take()), (Ok(8), Err(TakeRefusal::Empty { at: 2 })));
+    assert!(end.close().is_err());
 }
 
 #[test]

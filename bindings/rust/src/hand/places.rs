@@ -1,7 +1,7 @@
 //! The close of a table, and where the elements are then.
 
 use super::Hand;
-use crate::ends::{closed, CloseRefusal};
+use crate::ends::{closed, StillOpen};
 use crate::names::{Processor, WaitNumber};
 use crate::raw;
 
@@ -51,13 +51,13 @@ impl Place {
 }
 
 impl Hand {
-    /// Closes the table where every other hand has been joined, and tells of each element. Where others stand this one
-    /// comes back.
-    pub fn close(mut self) -> Result<Places, CloseRefusal<Hand>> {
+    /// Closes the table where every other hand has been joined, and tells of each element. Where others stand, or were
+    /// dropped, this one comes back.
+    pub fn close(mut self) -> Result<Places, StillOpen<Hand>> {
         let mut told = raw::Places::default();
         let code = raw::synth_hand_close(&mut self.handle, &mut told);
-        closed(code, self, told.freed, ())?;
-        let raw::Places { place, pc, pending, stops, freed: _ } = told;
+        closed(code, self)?;
+        let raw::Places { place, pc, pending, stops } = told;
         Ok(Places { places: place.map(Place::told), pcs: pc, pending, stops })
     }
 }

@@ -9,7 +9,7 @@ mod moves;
 mod numbers;
 mod places;
 mod processors;
-mod seating;
+mod placing;
 mod states;
 mod takings;
 mod wakes;

@@ -13,7 +13,7 @@ use Rattle.event_theory.specs.Runs.{flat, pairs}
 use Rattle.event_theory.specs.Queues.{is_raised}
 use Rattle.table_theory.specs.Positioned.{blank, item_of, place_at, item_at}
 use Rattle.table_theory.specs.Filing.{Owned, ListedOnce}
-use Rattle.table_theory.specs.Listing.{all_places, runs_of, takes_of, Chained}
+use Rattle.table_theory.specs.Listing.{all_places, runs_of, takes_of, Adjacent}
 use Rattle.table_theory.specs.QueueOf.{run_in, is_up, queue_of}
 use Rattle.event_theory.proofs.Lists.Histories.{length-pairs_from}
 use Rattle.table_theory.proofs.QueueOf.{flat_of, up_of, long_is, is_lawful_queue}
@@ -68,15 +68,15 @@ shows_queue key s k = let q : Positions = k.queue in let l = k.listed in let n =
     runs = l.runs;
     history = refl;
     once = subst (ListedOnce l.runs) (map-map runs_of part_of s.views) l.runs_filed;
-    side_by_side = subst (λ (z : ℕ). Chained z l.runs) k.first l.runs_chained;
+    side_by_side = subst (λ (z : ℕ). Adjacent z l.runs) k.first l.runs_adjacent;
     raised = λ run index. refl;
     takings = l.takes;
     taken_once = subst (ListedOnce l.takes) (map-map takes_of part_of s.views) l.takes_filed;
-    taken_in_order = subst (λ (z : ℕ). Chained z l.takes) k.first l.takes_chained;
+    taken_in_order = subst (λ (z : ℕ). Adjacent z l.takes) k.first l.takes_adjacent;
     taken_items = ap (map item_of) l.takes_flat ∙ (sym (take-map item_of q.taken q.places) ∙ ap (take q.taken) (sym (flat_of l.runs ∙ ap (map item_of) l.runs_flat)));
     capacity = k.room;
     long = let w = h.wide in omega arith;
-    small = let w = h.small in omega arith;
+    bounded = let w = h.bounded in omega arith;
     head = h.head ∙ (let z : q.first + length q.places + mark q.shut ≡ key.first + length (flat (map run_in l.runs)) + mark q.shut = omega arith in z);
     tail = h.tail ∙ ap (λ (z : ℕ). z + q.taken) first;
     places = λ i from below. place_is key s k i from (omega arith);

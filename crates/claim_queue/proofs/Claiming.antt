@@ -37,7 +37,7 @@ open_at n false h = refl
 pub shows_claim : (q : Positions) (words : List ℕ) (xs : List ℕ) (new : ℕ) → WordsShow q words → q.shut ≡ false → new ≡ head_of q + length xs → new < 4294967296 → WordsShow (with_claim q xs) (set words 0 new)
 shows_claim q words xs new h is_open is fits = let wide = h.wide in let long = length-append q.places (map fresh xs) in let n = length-map xs fresh in let ls = length-set words 0 new in record {
   wide = omega arith;
-  small = omega arith;
+  bounded = omega arith;
   head = get_or-set_same words 0 new 0 (omega arith) ∙ (let m : mark q.shut ≡ 0 = ap mark is_open in omega arith);
   tail = get_or-set_other words 0 1 new 0 (λ e. omega arith) ∙ h.tail;
   window = window_same (with_claim q xs) (flag_in q.room words) (data_in q.room words) (flag_in q.room (set words 0 new)) (data_in q.room (set words 0 new)) (window_claim q xs (flag_in q.room words) (data_in q.room words) h.window)

@@ -30,7 +30,7 @@ too_few Few room u v s w tail head xs a stop few h = record { loaded = v; tail_l
 
 pub done : (Few : List ℕ → Type 0) (room : ℕ) (u w : View) (tail head : ℕ) (xs : List ℕ) → (f : FoundTooFew Few room u tail xs head w) → head ≡ 4294967296 + tail → WasDone Few room u w
 done Few room u w tail head xs f e = let t = f.tail_loaded in let on = tail_on f.loaded f.stopped (stays_stopped room f.loaded f.stopped tail xs f.stop) in let at : tail ≡ tail_of f.loaded.part.queue = t.is ∙ t.shows.tail in let h = f.head_loaded in
-    let s = shut_at (head_of w.part.queue) tail w.part.queue.shut h.sees.small (sym (h.is ∙ h.shows.head) ∙ e) in let g = h.sees.later.0.first in let m = h.sees.later.0.further in let l = h.sees.lawful.behind in let z = s.1 in
+    let s = shut_at (head_of w.part.queue) tail w.part.queue.shut h.sees.bounded (sym (h.is ∙ h.shows.head) ∙ e) in let g = h.sees.later.0.first in let m = h.sees.later.0.further in let l = h.sees.lawful.behind in let z = s.1 in
     record { tail = tail; items = xs; found = subst (λ (z : ℕ). FoundTooFew Few room u tail xs z w) e f; shut = s.0; all = omega arith }
 
 open_or_left : (q : Positions) (tail head : ℕ) (b : Bool) → q.shut ≡ b → Lawful q → head ≡ head_of q + mark q.shut → head ≢ 4294967296 + tail → tail_of q ≡ tail → (q.shut ≡ false) ⊎ (q.taken < length q.places)

@@ -44,7 +44,7 @@ kept_look key s k i id found v at live = let w : View = looked v i found (steps_
 }
 
 pub sees_of : (key : Shape) (s : St) (k : Rule key s) (id : ℕ) (v : View) → get_elem? s.views id ≡ some v → Sees v.part k.queue
-sees_of key s k id v at = sees_now k.queue (map part_of s.views) id v.part k.listed (at_map part_of s.views id v at) k.lawful k.shows.small
+sees_of key s k id v at = sees_now k.queue (map part_of s.views) id v.part k.listed (at_map part_of s.views id v at) k.lawful k.shows.bounded
 
 pub found_now : (key : Shape) (s : St) (k : Rule key s) (i id : ℕ) (v : View) → get_elem? s.views id ≡ some v → Found v i (get_or s.words i 0) (looked v i (get_or s.words i 0) (steps_to k) k.queue)
 found_now key s k i id v at = record { before = steps_to k; follows = k.course.seen id v at; same = refl; sees = sees_of key s k id v at; words = s.words; shows = k.shows; is = refl }

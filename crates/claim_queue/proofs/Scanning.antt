@@ -89,5 +89,5 @@ found_one u t v w tail i r j x k a at b up d item = let e : tail ≡ tail + 0 = 
 
 -- nothing is found raised past the last position
 pub found_small : (v w : View) (tail i r : ℕ) (xs : List ℕ) → Found v i r w → HasFound w tail xs → tail < 4294967296 → tail + length xs < 4294967296
-found_small v w tail i r [] a h small = omega arith
-found_small v w tail i r (x ∷ xs) a h small = let u = h.up (length xs) (omega arith) in let b = raised_below w.part.queue (tail - w.part.queue.first + length xs) (omega arith) in let s = a.sees.small in let f = h.first in omega arith
+found_small v w tail i r [] a h bounded = omega arith
+found_small v w tail i r (x ∷ xs) a h bounded = let u = h.up (length xs) (omega arith) in let b = raised_below w.part.queue (tail - w.part.queue.first + length xs) (omega arith) in let s = a.sees.bounded in let f = h.first in omega arith

@@ -72,8 +72,8 @@ left_on room ws t p xs x le is e = let a : p ≡ t + (p - t) = omega arith in le
     (λ k. is k ++ (e ∙ ap (left_at room ws) a) k ∷ []) ∙ (sym (left_more room ws t (p - t)) ∙ ap (left_from room ws t) b)
 
 low_of : (n h : ℕ) (b : Bool) → n < 4294967296 → h ≡ n + mark b → h % 4294967296 ≡ n
-low_of n h true small is = omega arith
-low_of n h false small is = omega arith
+low_of n h true bounded is = omega arith
+low_of n h false bounded is = omega arith
 
 -- an end with the whole lists the queue alone
 sole : (key : Shape) (s : St) (k : Rule key s) (id : ℕ) (w : View) → get_elem? s.views id ≡ maybe.some w → IsWhole w.member.share → ViewsShow k.queue (w.part ∷ [])
@@ -101,8 +101,8 @@ pub closes : (key : Shape) (v w : View) (found id h t put taken : ℕ) (ws : Lis
     → put ≡ h % 4294967296 - key.first → taken ≡ t - key.first → left ≡ left_from key.room ws t (h % 4294967296 - t) → ClosedNow v at put taken left
 closes key v w found id h t put taken ws xs left at at_is tallied one fin at_h at_t put_is taken_is left_is =
     let s : St = fin.0 in let k = fin.1.0 in let q : Positions = k.queue in let sh : WordsShow q ws = subst (WordsShow q) fin.2 k.shows in
-    let first = k.first in let small = sh.small in let behind = k.lawful.behind in
-    let hd : h % 4294967296 ≡ head_of q = low_of (head_of q) h q.shut small (sym (read_word ws 0 h at_h) ∙ sh.head) in let tl : t ≡ q.first + q.taken = sym (read_word ws 1 t at_t) ∙ sh.tail in
+    let first = k.first in let bounded = sh.bounded in let behind = k.lawful.behind in
+    let hd : h % 4294967296 ≡ head_of q = low_of (head_of q) h q.shut bounded (sym (read_word ws 0 h at_h) ∙ sh.head) in let tl : t ≡ q.first + q.taken = sym (read_word ws 1 t at_t) ∙ sh.tail in
     let n : h % 4294967296 - t ≡ length q.places - q.taken = omega arith in let tk : taken ≡ q.taken = omega arith in
     let whole : IsWhole v.member.share = tallied.member.count.alone one in let whole' : IsWhole w.member.share = ap (λ (z : Member). z.share) tallied.member.same ∙ whole in
     let listed : ViewsShow q (v.part ∷ []) = given_in v w found q tallied (sole key s k id w fin.1.1 whole') in

@@ -45,7 +45,7 @@ shut_more q = once q.shut
 
 pub shuts_head : (key : Shape) (n id call : ℕ) (me : Me Unit View) → call ≡ id → 1 ≤ me.0.member.ends → Allows (Rule key) n id me 0 (λ x. bit_or x 4294967296) (shuts call (step n 0 4294967296 0 none) me)
 shuts_head key n id call me mine live s k _ at _ = let v : View = me.0 in let q : Positions = k.queue in let h = k.shows in let y : ℕ = get_or s.words 0 0 in let new : ℕ = bit_or y 4294967296 in let w : View = shut_by v y (steps_to k) q in
-    let is : new ≡ head_of q + 4294967296 = ap (λ (z : ℕ). bit_or z 4294967296) h.head ∙ marked (head_of q) q.shut h.small in let wide = h.wide in (
+    let is : new ≡ head_of q + 4294967296 = ap (λ (z : ℕ). bit_or z 4294967296) h.head ∙ marked (head_of q) q.shut h.bounded in let wide = h.wide in (
       w,
       keeps,
       tt,
@@ -56,7 +56,7 @@ shuts_head key n id call me mine live s k _ at _ = let v : View = me.0 in let q 
         lawful = shut_lawful q k.lawful;
         shows = record {
           wide = length-set s.words 0 new ∙ h.wide;
-          small = h.small;
+          bounded = h.bounded;
           head = get_or-set_same s.words 0 new 0 (omega arith) ∙ is;
           tail = get_or-set_other s.words 0 1 new 0 (λ e. omega arith) ∙ h.tail;
           window = window_same (with_shut q) (flag_in q.room s.words) (data_in q.room s.words) (flag_in q.room (set s.words 0 new)) (data_in q.room (set s.words 0 new)) (window_shut q (flag_in q.room s.words) (data_in q.room s.words) h.window)

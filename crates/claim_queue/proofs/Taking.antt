@@ -29,7 +29,7 @@ use Rattle.claim_queue.proofs.Claiming.{Goes}
 pub shows_take : (q : Positions) (words : List ℕ) (n new : ℕ) → WordsShow q words → Lawful q → q.taken + n ≤ length q.places → new ≡ tail_of q + n → WordsShow (with_take q n) (set words 1 new)
 shows_take q words n new h l below is = let wide = h.wide in let ls = length-set words 1 new in record {
   wide = omega arith;
-  small = h.small;
+  bounded = h.bounded;
   head = get_or-set_other words 1 0 new 0 (λ e. omega arith) ∙ h.head;
   tail = get_or-set_same words 1 new 0 (omega arith) ∙ (omega arith);
   window = window_same (with_take q n) (flag_in q.room words) (data_in q.room words) (flag_in q.room (set words 1 new)) (data_in q.room (set words 1 new)) (window_take q n (flag_in q.room words) (data_in q.room words) h.window l below)

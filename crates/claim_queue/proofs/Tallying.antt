@@ -28,7 +28,7 @@ use Rattle.claim_queue.proofs.Looks.{St, steps_to, sees_of}
 shows_count : (q : Positions) (words : List ℕ) (y : ℕ) → WordsShow q words → WordsShow q (set words 2 y)
 shows_count q words y h = record {
   wide = length-set words 2 y ∙ h.wide;
-  small = h.small;
+  bounded = h.bounded;
   head = get_or-set_other words 2 0 y 0 (λ e. omega arith) ∙ h.head;
   tail = get_or-set_other words 2 1 y 0 (λ e. omega arith) ∙ h.tail;
   window = window_same q (flag_in q.room words) (data_in q.room words) (flag_in q.room (set words 2 y)) (data_in q.room (set words 2 y)) h.window
@@ -127,7 +127,7 @@ opens key words room fits long head tail ends rest = let q : Positions = empty k
   lawful = record { behind = omega arith; within = omega arith; ready = λ i h. absurd (omega arith) };
   shows = record {
     wide = long;
-    small = omega arith;
+    bounded = omega arith;
     head = omega arith;
     tail = omega arith;
     window = record {

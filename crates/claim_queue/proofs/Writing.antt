@@ -46,7 +46,7 @@ kept_write key s k id m i n u x v e o at has below more past else_where mine =
       lawful = write_lawful q p n k.lawful o.below more;
       shows = let h = k.shows in record {
         wide = length-set s.words u x ∙ h.wide;
-        small = let a = h.small in omega (arith, length-set q.places p (record { item = item_at q p; written = n }));
+        bounded = let a = h.bounded in omega (arith, length-set q.places p (record { item = item_at q p; written = n }));
         head = other 0 (λ z. omega arith) ∙ (h.head ∙ (let l = length-set q.places p (record { item = item_at q p; written = n }) in omega arith));
         tail = other 1 (λ z. omega arith) ∙ h.tail;
         window = window_write q p n (flag_in r s.words) (data_in r s.words) (flag_in r words') (data_in r words') h.window o.from o.to

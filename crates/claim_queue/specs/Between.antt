@@ -12,7 +12,7 @@ use Rattle.event_theory.specs.Queues.{Queue, is_raised}
 use Rattle.event_theory.specs.Lawful.{IsLawfulQueue}
 use Rattle.table_theory.specs.Positioned.{item_of}
 use Rattle.table_theory.specs.Filing.{Owned, ListedOnce}
-use Rattle.table_theory.specs.Listing.{all_places, Chained, Later}
+use Rattle.table_theory.specs.Listing.{all_places, Adjacent, Later}
 use Rattle.table_theory.specs.QueueOf.{run_in, up_in, queue_of, IsHistory}
 use Rattle.claim_queue.specs.declared.rule.Shape.{Shape}
 use Rattle.claim_queue.specs.declared.rule.View.{View}
@@ -40,16 +40,16 @@ pub record IsShown (key : Shape) (s : State Unit View) (c : Queue) : Type 0 wher
   -- each run of a view is one of the history, and each of the history is of one view, at one place of its list
   pub once : ListedOnce runs (map (λ view. view.part.runs) s.views)
   -- each run begins where the one before it ends, the first at the first position
-  pub side_by_side : Chained key.first runs
+  pub side_by_side : Adjacent key.first runs
   pub raised : (run index : ℕ) → c.raised run index ≡ up_in (slice_get runs run) index
   pub takings : List (Owned Batch)
   -- each taking is in one view, and they take each position below the tail once, with the item that its run gave it
   pub taken_once : ListedOnce takings (map (λ view. view.part.takes) s.views)
-  pub taken_in_order : Chained key.first takings
+  pub taken_in_order : Adjacent key.first takings
   pub taken_items : map item_of (all_places takings) ≡ take c.taken (flat c.history)
   pub capacity : c.capacity ≡ key.room
   pub long : length s.words ≡ key.room + key.room + 3
-  pub small : key.first + length (flat c.history) < 4294967296
+  pub bounded : key.first + length (flat c.history) < 4294967296
   pub head : slice_index_or s.words 0 0 ≡ key.first + length (flat c.history) + mark c.shut
   pub tail : slice_index_or s.words 1 0 ≡ key.first + c.taken
   pub places : (i : ℕ) → c.taken ≤ i → i < length (flat c.history) → PlaceIs c key.room s.words i (key.first + i)

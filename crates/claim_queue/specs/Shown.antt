@@ -33,7 +33,7 @@ flag_in room words k = slice_index_or words (room + k + 3) 0
 
 pub record WordsShow (q : Positions) (words : List ℕ) : Type 0 where
   pub wide : length words ≡ q.room + q.room + 3
-  pub small : head_of q < 4294967296
+  pub bounded : head_of q < 4294967296
   pub head : slice_index_or words 0 0 ≡ head_of q + mark q.shut
   pub tail : slice_index_or words 1 0 ≡ tail_of q
   pub window : PlacesShow q (flag_in q.room words) (data_in q.room words)

@@ -8,7 +8,7 @@ ghost use Rattle.claim_queue.specs.Lines.{SameLines};
 use crate::ends::{ClaimQueue, QueueEnd};
 use crate::steps::{SHUT, count, or_head};
 use arrayvec::ArrayVec;
-use atomic_table::Closed as Opened;
+use atomic_table::Closed as ClosedWords;
 use std::alloc::Global;
 use std::marker::Brand;
 use table_theory::OpenEnds;
@@ -23,7 +23,7 @@ pub struct Closed<const N: usize> {
     pub left: ArrayVec<Option<u64>, N>,
 }
 
-fn read_at(closed: &Opened<(), Global>, room: usize, position: u64) -> Option<u64>
+fn read_at(closed: &ClosedWords<(), Global>, room: usize, position: u64) -> Option<u64>
     requires words { (slots_len closed.now.words ≡ room + room + 3) × IsFull closed.now.words × (1 ≤ room)
         × (room ≤ 256) }
     requires range { position < 4294967296 }
@@ -38,7 +38,7 @@ fn read_at(closed: &Opened<(), Global>, room: usize, position: u64) -> Option<u6
 }
 
 fn read_left<const N: usize>(
-    closed: &Opened<(), Global>,
+    closed: &ClosedWords<(), Global>,
     tail: u64,
     head: u64,
 ) -> ArrayVec<Option<u64>, N>

@@ -54,7 +54,7 @@ pub(crate) fn load_tail(words: &Words, seat: &mut Seat<(), View>) -> u64
     ensures queue { IsSame seat.old seat.new × (seat.new.me.1 ≡ seat.old.me.1) }
     ensures found { Found seat.old.me.0 tail_word result seat.new.me.0 }
     ensures tail { result ≡ tail_of seat.new.me.0.part.queue }
-    ensures small { result < 4294967296 }
+    ensures bounded { result < 4294967296 }
 {
     load(words, seat, TAIL)
 }

@@ -81,7 +81,7 @@ impl<const N: usize> ClaimQueue<N> {
     // Why nothing can be taken at this tail, where the place at `at` was found not raised.
     fn refusal_at(&self, end: &mut QueueEnd<N>, tail: u64, at: u64) -> TakeRefusal
         requires queue { IsEndOf self.now end.old }
-        requires small { (tail < 4294967296) × (at < 4294967296) }
+        requires bounded { (tail < 4294967296) × (at < 4294967296) }
         ensures queue { IsSameEnd end.old end.new }
         ensures why { IsRefusedAt (view_of end.old) tail at result (view_of end.new) }
     {

@@ -1,7 +1,7 @@
 -- What closing all tells.
 use Rattle.std.specs.Prelude.{◌≡◌, ◌<◌, ℕ, false}
 use Rattle.std.specs.List.{All}
-use Rattle.closing.specs.declared.all.Ended.{Ended}
+use Rattle.closing.specs.declared.all.Unmade.{Unmade}
 use Rattle.closing.specs.ClosedQueues.{AreClosed}
 use Rattle.closing.specs.Comings.{GainedAllSmall, GainedAllLarge}
 use Rattle.closing.specs.Placings.{NoneOn, NoneHeld}
@@ -20,7 +20,7 @@ use Rattle.thread_table.specs.Rules.{has}
 -- The chains were closed, and their quajects came home, with the numbers that they had; the queues' ends gained what those had, and then the queues,
 -- the thread table and the meters were closed, each by its last end. No element is on a processor where all are free,
 -- and none is held where the hand holds none. The rest is as it was
-pub record AllClosed (shared : Shared) (parts : Parts) (ended : Ended) : Type 0 where
+pub record AllClosed (shared : Shared) (parts : Parts) (ended : Unmade) : Type 0 where
   pub homes : HaveRetired shared.chains.items parts.chains.items (homes_in ended.counts.items)
   pub few : All IsFew (homes_in ended.counts.items)
   pub counts : All TellsHome ended.counts.items

@@ -51,7 +51,7 @@ impl Answers {
 /// alone: the last end of each queue. Only `close_all` makes one, and nobody changes it: a report is made of what was
 /// closed.
 #[derive(Drop)]
-pub struct Ended {
+pub struct Unmade {
     counts: Vec<Came>,
     small: Vec<Closed<64>>,
     large: Vec<Closed<256>>,
@@ -64,7 +64,7 @@ pub struct Ended {
     large_ends: Snapshot<Vec<QueueEnd<256>>>,
 }
 
-impl Ended {
+impl Unmade {
     /// The plan of all that was closed.
     pub fn plan(&self) -> &BootPlan
         ensures { result.now ≡ self.now.plan }
@@ -134,7 +134,7 @@ impl Ended {
 ///
 /// Conditions: the parts are those of what is shared, no end of a chain has a Turn, and no end of another owner stands,
 /// but for those of the quajects.
-pub fn close_all(shared: Shared, parts: Parts, answers: Answers) -> Ended
+pub fn close_all(shared: Shared, parts: Parts, answers: Answers) -> Unmade
     requires parts { ArePartsOf shared parts }
     requires wholes { HasWholes shared parts }
     requires room { HaveRoom shared answers }
@@ -168,7 +168,7 @@ pub fn close_all(shared: Shared, parts: Parts, answers: Answers) -> Ended
     let small_ends = Snapshot::of(&small_list);
     let large_ends = Snapshot::of(&large_list);
     let Queues { small, large } = queues;
-    Ended {
+    Unmade {
         counts,
         small: close_queues(small, small_list, answers.small),
         large: close_queues(large, large_list, answers.large),

@@ -22,6 +22,6 @@ in_cell (Some thread) = if thread.parked then 1 else 0
 abbrev pub appearances : ℕ → Elements → ℕ
 appearances element s =
     count_by (is_on element) s.processors
-    + sum_by (λ q. in_list element (left q)) s.lines
+    + sum_by (λ q. in_list element (left q)) s.rings
     + in_cell (slice_get s.threads element)
     + count_by (λ h. h.element == element) s.held

@@ -24,7 +24,7 @@ pub record Thread : Type 0 where
 -- wait queue had, modulo 2^32; who put which element on each processor; and which call holds which element
 pub record Elements : Type 0 where
   pub threads : List Thread
-  pub lines : List Queue
+  pub rings : List Queue
   pub notified : List ℕ
   pub processors : List (Option Hold)
   pub held : List Hold
@@ -36,7 +36,7 @@ new_thread = record { pending = λ signal. false; done = 0; stop = false; parked
 abbrev pub first_elements : ℕ → Elements
 first_elements count = record {
   threads = repeat count (new_thread ∷ []);
-  lines = empty_queue count ∷ full_queue count ∷ repeat 16 (empty_queue count ∷ []);
+  rings = empty_queue count ∷ full_queue count ∷ repeat 16 (empty_queue count ∷ []);
   notified = repeat 16 (0 ∷ []);
   processors = repeat 8 (None ∷ []);
   held = [];
@@ -58,23 +58,23 @@ let_all_go call (element ∷ elements) held = let_go call element held >>= let_a
 
 -- a run of one element, which the call held
 abbrev pub claim_element : ℕ → ℕ → List ℕ → Elements → Result Elements Refusal
-claim_element line call items s =
+claim_element ring call items s =
     refused_if (list_any (nat_le (length s.threads)) items) UnknownName
-    (change_at line (claim 1 call items) s.lines
-    >>= λ lines. let_all_go call items s.held
-    >>= λ held. Ok (record s { lines = lines; held = held }))
+    (change_at ring (claim 1 call items) s.rings
+    >>= λ rings. let_all_go call items s.held
+    >>= λ held. Ok (record s { rings = rings; held = held }))
 
 abbrev pub raise_element : ℕ → ℕ → ℕ → ℕ → Elements → Result Elements Refusal
-raise_element line call run index s =
-    change_at line (raise call run index) s.lines >>= λ lines. Ok (record s { lines = lines })
+raise_element ring call run index s =
+    change_at ring (raise call run index) s.rings >>= λ rings. Ok (record s { rings = rings })
 
 -- the call holds what it takes
 abbrev pub take_element : ℕ → ℕ → ℕ → Elements → Result Elements Refusal
-take_element line call count s =
-    at line s.lines
+take_element ring call count s =
+    at ring s.rings
     >>= λ old. take_first 1 count old
     >>= λ new. Ok (record s {
-      lines = slice_set s.lines line new;
+      rings = slice_set s.rings ring new;
       held = s.held ++ map (hold call) (take count (left old));
     })
 
@@ -152,7 +152,7 @@ join_hold call other h = record h { call = renamed call other h.call }
 
 abbrev pub join_elements : ℕ → ℕ → Elements → Elements
 join_elements call other s = record s {
-  lines = map (join_queue call other) s.lines;
+  rings = map (join_queue call other) s.rings;
   processors = map (option_map (join_hold call other)) s.processors;
   held = map (join_hold call other) s.held;
 }

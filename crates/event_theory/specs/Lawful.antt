@@ -37,7 +37,7 @@ pub record IsLawfulChain (c : Chain) : Type 0 where
 -- the element queues are lawful; each element appears exactly once, and nothing else does; an element in its stop cell
 -- has its stop bit set
 pub record IsLawfulElements (s : Elements) : Type 0 where
-  pub lines : All IsLawfulQueue s.lines
+  pub rings : All IsLawfulQueue s.rings
   pub once : (element : ℕ) → element < length s.threads → appearances element s ≡ 1
   pub known : (element : ℕ) → length s.threads ≤ element → appearances element s ≡ 0
   pub stopped : list_all (λ thread. not thread.parked || thread.stop) s.threads ≡ true

@@ -3,7 +3,7 @@ pub mod Appearances
 pub mod Chains
 pub mod Elements
 pub mod Lawful
-pub mod Lines
+pub mod Rings
 pub mod Marks
 pub mod Meters
 pub mod Places

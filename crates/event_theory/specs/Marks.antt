@@ -14,9 +14,9 @@ notify_wait wait s =
     change_at wait (λ count. Ok ((count + 1) % 4294967296)) s.notified
     >>= λ notified. Ok (record s { notified = notified })
 
--- the line of a wait queue
-abbrev pub wait_line : ℕ → ℕ
-wait_line wait = wait + 2
+-- the ring of a wait queue
+abbrev pub wait_ring : ℕ → ℕ
+wait_ring wait = wait + 2
 
 -- a claim in a wait queue whose number of notifies is the ticket
 abbrev pub wait_at : ℕ → ℕ → ℕ → ℕ → Elements → Result Elements Refusal
@@ -25,5 +25,5 @@ wait_at call wait element ticket s =
     >>= λ thread. at wait s.notified
     >>= λ count. let_go call element s.held
     >>= λ held. refused_if (not (count == ticket)) Moved
-    (change_at (wait_line wait) (claim 1 call (element ∷ [])) s.lines
-    >>= λ lines. Ok (record s { lines = lines; held = held }))
+    (change_at (wait_ring wait) (claim 1 call (element ∷ [])) s.rings
+    >>= λ rings. Ok (record s { rings = rings; held = held }))

@@ -9,10 +9,10 @@ use Rattle.event_theory.specs.declared.status.Place.{Place}
 use Rattle.event_theory.specs.declared.status.Place.TheVariants as places
 
 -- the place that an element queue stands for
-abbrev pub line_place : ℕ → Place
-line_place zero = places.Ready
-line_place (suc zero) = places.Free
-line_place (suc (suc wait)) = places.Wait wait
+abbrev pub ring_place : ℕ → Place
+ring_place zero = places.Ready
+ring_place (suc zero) = places.Free
+ring_place (suc (suc wait)) = places.Wait wait
 
 -- the call that holds an element
 abbrev pub holder : ℕ → List Hold → Option ℕ
@@ -23,17 +23,17 @@ abbrev pub held_place : Option ℕ → Place
 held_place None = places.Stopped
 held_place (Some call) = places.Held call
 
-abbrev pub line_or_held : Option ℕ → Option ℕ → Place
-line_or_held (Some line) held = line_place line
-line_or_held None held = held_place held
+abbrev pub ring_or_held : Option ℕ → Option ℕ → Place
+ring_or_held (Some ring) held = ring_place ring
+ring_or_held None held = held_place held
 
 abbrev pub place_by : Option ℕ → Option ℕ → Option ℕ → Place
-place_by (Some processor) line held = places.Processor processor
-place_by None line held = line_or_held line held
+place_by (Some processor) ring held = places.Processor processor
+place_by None ring held = ring_or_held ring held
 
 -- where an element is: in a lawful state it is in one of these, so the order of the looks doesn't matter
 abbrev pub place_of : ℕ → Elements → Place
 place_of element s = place_by
     (position (is_on element) s.processors)
-    (position (λ q. list_any (λ item. item == element) (left q)) s.lines)
+    (position (λ q. list_any (λ item. item == element) (left q)) s.rings)
     (holder element s.held)

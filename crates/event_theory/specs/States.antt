@@ -9,7 +9,7 @@ use Rattle.event_theory.specs.Elements.{Elements, first_elements, claim_element,
 use Rattle.event_theory.specs.Elements.{take_off, stop, park, start, signal, deliver, done}
 use Rattle.event_theory.specs.Elements.{join_elements}
 use Rattle.event_theory.specs.Meters.{Meters, first_meters, tick, advance, set_alarm, fire, cancel}
-use Rattle.event_theory.specs.Marks.{shut, notify_wait, wait_line, wait_at}
+use Rattle.event_theory.specs.Marks.{shut, notify_wait, wait_ring, wait_at}
 use Rattle.event_theory.specs.declared.alarm.Alarm.{Alarm}
 use Rattle.event_theory.specs.declared.event.Event.{Event}
 use Rattle.event_theory.specs.declared.event.Event.TheVariants as events
@@ -79,17 +79,17 @@ effect (events.Claim call (names.Bytes queue) items) = in_queue queue (λ q. cla
 effect (events.Claim call (names.Notes chain) items) = in_chain chain (claim_note call items)
 effect (events.Claim call names.Ready items) = in_elements (claim_element 0 call items)
 effect (events.Claim call names.Free items) = in_elements (claim_element 1 call items)
-effect (events.Claim call (names.Wait wait) items) = in_elements (claim_element (wait_line wait) call items)
+effect (events.Claim call (names.Wait wait) items) = in_elements (claim_element (wait_ring wait) call items)
 effect (events.Raise call (names.Bytes queue) run index) = in_queue queue (raise call run index)
 effect (events.Raise call (names.Notes chain) run index) = in_chain chain (raise_note call run index)
 effect (events.Raise call names.Ready run index) = in_elements (raise_element 0 call run index)
 effect (events.Raise call names.Free run index) = in_elements (raise_element 1 call run index)
-effect (events.Raise call (names.Wait wait) run index) = in_elements (raise_element (wait_line wait) call run index)
+effect (events.Raise call (names.Wait wait) run index) = in_elements (raise_element (wait_ring wait) call run index)
 effect (events.Take call (names.Bytes queue) count) = in_queue queue (λ q. take_first q.capacity count q)
 effect (events.Take call (names.Notes chain) count) = in_chain chain (take_note call count)
 effect (events.Take call names.Ready count) = in_elements (take_element 0 call count)
 effect (events.Take call names.Free count) = in_elements (take_element 1 call count)
-effect (events.Take call (names.Wait wait) count) = in_elements (take_element (wait_line wait) call count)
+effect (events.Take call (names.Wait wait) count) = in_elements (take_element (wait_ring wait) call count)
 effect (events.On call processor element) = in_elements (put_on call processor element)
 effect (events.Off call processor) = in_elements (take_off call processor)
 effect (events.Stop call element) = in_elements (stop element)

@@ -64,12 +64,12 @@ pub fn meters_keep_lawful()
 
 /// Each event of the element queues keeps the elements lawful.
 pub fn element_queues_keep_lawful()
-    ensures claimed { (line call : ℕ) (items : List ℕ) (s t : Elements)
-        → IsLawfulElements s → claim_element line call items s ≡ Ok t → IsLawfulElements t }
-    ensures raised { (line call run index : ℕ) (s t : Elements)
-        → IsLawfulElements s → raise_element line call run index s ≡ Ok t → IsLawfulElements t }
-    ensures taken { (line call count : ℕ) (s t : Elements)
-        → IsLawfulElements s → take_element line call count s ≡ Ok t → IsLawfulElements t }
+    ensures claimed { (ring call : ℕ) (items : List ℕ) (s t : Elements)
+        → IsLawfulElements s → claim_element ring call items s ≡ Ok t → IsLawfulElements t }
+    ensures raised { (ring call run index : ℕ) (s t : Elements)
+        → IsLawfulElements s → raise_element ring call run index s ≡ Ok t → IsLawfulElements t }
+    ensures taken { (ring call count : ℕ) (s t : Elements)
+        → IsLawfulElements s → take_element ring call count s ≡ Ok t → IsLawfulElements t }
     ensures notified { (wait : ℕ) (s t : Elements)
         → IsLawfulElements s → notify_wait wait s ≡ Ok t → IsLawfulElements t }
     ensures waited { (call wait element ticket : ℕ) (s t : Elements)

@@ -27,8 +27,8 @@ here false e = ⊎_elim (λ same. same.0) (λ other. absurd (other.1 refl)) (eqb
 pub more_has : (element : ℕ) (v w : View) → element < 64 → HoldsMore element v w → has w element ≡ true
 more_has element v w low h = h.1 element low ∙ here (has v element) element
 
-pub took_has : (call line element : ℕ) (v w : View) → TookFirst call v line element w → has w element ≡ true
-took_has call line element v w t = more_has element v w (took_known call line element v w t) (took_holds call line element v w (took_known call line element v w t) t)
+pub took_has : (call ring element : ℕ) (v w : View) → TookFirst call v ring element w → has w element ≡ true
+took_has call ring element v w t = more_has element v w (took_known call ring element v w t) (took_holds call ring element v w (took_known call ring element v w t) t)
 
 more_same : (element : ℕ) (u v w : View) → HoldsMore element u v → w.held ≡ v.held → HoldsMore element u w
 more_same element u v w h same = (h.0, λ e low. ap (λ xs. get_or xs e false) same ∙ h.1 e low)

@@ -17,7 +17,7 @@ use Rattle.event_theory.proofs.Keeping.Places.{one, in_hands}
 use Rattle.thread_table.specs.declared.rule.View.{View}
 use Rattle.thread_table.specs.Answers.{TookFirst, FoundThen}
 use Rattle.thread_table.specs.Rules.{has, serves, running}
-use Rattle.thread_table.specs.Schedules.{elements_after, line_at, thread_at}
+use Rattle.thread_table.specs.Schedules.{elements_after, ring_at, thread_at}
 use Rattle.thread_table.specs.Steps.{Starts, TakesOff}
 use Rattle.thread_table.proofs.Following.{Looked, found_looked, looked_on}
 use Rattle.thread_table.proofs.Handing.{held_once}
@@ -60,30 +60,30 @@ nothing : (element : ℕ) (q : Queue) → q ≡ empty_queue 64 → take 1 (left 
 nothing element q empty some = let n : ◌≡◌ {A = List ℕ} [] (element ∷ []) = ap (λ (z : Queue). take 1 (left z)) (sym empty) ∙ some in cc
 
 -- the first element of a queue stands in a queue
-in_line : (element line : ℕ) (e : Elements) → take 1 (left (line_at e line)) ≡ element ∷ [] → 1 ≤ sum_by (λ q. in_list element (left q)) e.lines
-in_line element line e is = by (cases_lt line (length e.lines))
+in_ring : (element ring : ℕ) (e : Elements) → take 1 (left (ring_at e ring)) ≡ element ∷ [] → 1 ≤ sum_by (λ q. in_list element (left q)) e.rings
+in_ring element ring e is = by (cases_lt ring (length e.rings))
   where
-    by : (line < length e.lines) ⊎ (length e.lines ≤ line) → 1 ≤ sum_by (λ q. in_list element (left q)) e.lines
-    by (inl below) = omega (arith, first_counts element (left (line_at e line)) is, get_or-le-sum_by (λ q. in_list element (left q)) e.lines line (empty_queue 64) below)
-    by (inr past) = absurd (nothing element (line_at e line) (get_or-eq_default e.lines (empty_queue 64) past) is)
+    by : (ring < length e.rings) ⊎ (length e.rings ≤ ring) → 1 ≤ sum_by (λ q. in_list element (left q)) e.rings
+    by (inl below) = omega (arith, first_counts element (left (ring_at e ring)) is, get_or-le-sum_by (λ q. in_list element (left q)) e.rings ring (empty_queue 64) below)
+    by (inr past) = absurd (nothing element (ring_at e ring) (get_or-eq_default e.rings (empty_queue 64) past) is)
 
-first_unheld : (call element line : ℕ) (e : Elements) → IsLawfulElements e → element < length e.threads → take 1 (left (line_at e line)) ≡ element ∷ [] → holds call element e ≡ false
-first_unheld call element line e lawful below is = not_true (holds call element e) (λ held.
+first_unheld : (call element ring : ℕ) (e : Elements) → IsLawfulElements e → element < length e.threads → take 1 (left (ring_at e ring)) ≡ element ∷ [] → holds call element e ≡ false
+first_unheld call element ring e lawful below is = not_true (holds call element e) (λ held.
     let hands : in_hands element e.held ≡ 1 = held_once call element e lawful below held in
     let once : appearances element e ≡ 1 = lawful.once element below in
-    absurd (omega (arith, once, hands, in_line element line e is)))
+    absurd (omega (arith, once, hands, in_ring element ring e is)))
 
 -- the first element of a queue is one of the elements
-first_known : (element line : ℕ) (e : Elements) → IsLawfulElements e → take 1 (left (line_at e line)) ≡ element ∷ [] → element < length e.threads
-first_known element line e lawful is = by (cases_lt element (length e.threads))
+first_known : (element ring : ℕ) (e : Elements) → IsLawfulElements e → take 1 (left (ring_at e ring)) ≡ element ∷ [] → element < length e.threads
+first_known element ring e lawful is = by (cases_lt element (length e.threads))
   where
     by : (element < length e.threads) ⊎ (length e.threads ≤ element) → element < length e.threads
     by (inl below) = below
-    by (inr past) = let none : appearances element e ≡ 0 = lawful.known element past in absurd (omega (arith, none, in_line element line e is))
+    by (inr past) = let none : appearances element e ≡ 0 = lawful.known element past in absurd (omega (arith, none, in_ring element ring e is))
 
 -- the element that was taken is one of the elements
-pub took_known : (call line element : ℕ) (v w : View) → TookFirst call v line element w → element < 64
-took_known call line element v w t = let d = t.took.did in omega (arith, first_known element line (elements_after d.before) d.sees.lawful t.oldest, d.sees.shows.threads)
+pub took_known : (call ring element : ℕ) (v w : View) → TookFirst call v ring element w → element < 64
+took_known call ring element v w t = let d = t.took.did in omega (arith, first_known element ring (elements_after d.before) d.sees.lawful t.oldest, d.sees.shows.threads)
 
 celled : (element : ℕ) (threads : List Thread) → element < length threads → (get_or threads element new_thread).parked ≡ true → in_cell (slice_get threads element) ≡ 1
 celled element threads below parked = ap in_cell (slice_get-get_or threads element new_thread below) ∙ ap (λ (b : Bool). if b then 1 else 0) parked
@@ -95,14 +95,14 @@ parked_unheld call element e lawful below is = not_true (holds call element e) (
     absurd (omega (arith, once, hands, celled element e.threads below is)))
 
 -- what a hand that took had looked at
-pub took_looked : (call line element : ℕ) (v w : View) (t : TookFirst call v line element w) → Looked v t.before
-took_looked call line element v w t = looked_on v t.found.loaded t.before (found_looked _ _ _ _ t.found.tail_loaded) (found_looked _ _ _ _ t.found.place_loaded)
+pub took_looked : (call ring element : ℕ) (v w : View) (t : TookFirst call v ring element w) → Looked v t.before
+took_looked call ring element v w t = looked_on v t.found.loaded t.before (found_looked _ _ _ _ t.found.tail_loaded) (found_looked _ _ _ _ t.found.place_loaded)
 
 -- the element that was taken wasn't held
-pub took_unheld : (call line element : ℕ) (v w : View) → element < 64 → TookFirst call v line element w → has v element ≡ false
-took_unheld call line element v w low t = let d = t.took.did in
-    ap (λ (z : View). has z element) (sym (took_looked call line element v w t).same)
-    ∙ (sym (d.hand.held element) ∙ first_unheld call element line (elements_after d.before) d.sees.lawful (omega (arith, low, d.sees.shows.threads)) t.oldest)
+pub took_unheld : (call ring element : ℕ) (v w : View) → element < 64 → TookFirst call v ring element w → has v element ≡ false
+took_unheld call ring element v w low t = let d = t.took.did in
+    ap (λ (z : View). has z element) (sym (took_looked call ring element v w t).same)
+    ∙ (sym (d.hand.held element) ∙ first_unheld call element ring (elements_after d.before) d.sees.lawful (omega (arith, low, d.sees.shows.threads)) t.oldest)
 
 -- the element that stood in its stop cell wasn't held
 pub started_unheld : (call element : ℕ) (v w : View) → element < 64 → (b : FoundThen v element (Starts call element) w) → (thread_at (elements_after b.does.did.before) element).parked ≡ true → has v element ≡ false
@@ -111,8 +111,8 @@ started_unheld call element v w low b parked = let d = b.does.did in
     ∙ (sym (d.hand.held element) ∙ parked_unheld call element (elements_after d.before) d.sees.lawful (omega (arith, low, d.sees.shows.threads)) parked)
 
 -- an element that stands on a processor is in nobody's hands
-seated_unheld : (call element p : ℕ) (e : Elements) → IsLawfulElements e → element < length e.threads → p < length e.processors → slice_get e.processors p ≡ Some (Some (hold call element)) → holds call element e ≡ false
-seated_unheld call element p e lawful below there is = not_true (holds call element e) (λ held.
+placed_unheld : (call element p : ℕ) (e : Elements) → IsLawfulElements e → element < length e.threads → p < length e.processors → slice_get e.processors p ≡ Some (Some (hold call element)) → holds call element e ≡ false
+placed_unheld call element p e lawful below there is = not_true (holds call element e) (λ held.
     let hands : in_hands element e.held ≡ 1 = held_once call element e lawful below held in
     let once : appearances element e ≡ 1 = lawful.once element below in
     let f : Option Hold → ℕ = λ x. cond (is_on element x) 1 0 in
@@ -123,7 +123,7 @@ seated_unheld call element p e lawful below there is = not_true (holds call elem
 -- what is taken off a processor wasn't held
 pub off_holds : (call p element : ℕ) (v w : View) → p < 8 → element < 64 → serves v p ≡ true → running v p ≡ Some element → TakesOff call p element v w → HoldsMore element v w
 off_holds call p element v w few low mine stood d = (
-  sym (d.hand.held element) ∙ seated_unheld call element p (elements_after d.before) d.sees.lawful (omega (arith, low, d.sees.shows.threads)) (omega (arith, few, d.sees.shows.processors))
+  sym (d.hand.held element) ∙ placed_unheld call element p (elements_after d.before) d.sees.lawful (omega (arith, low, d.sees.shows.threads)) (omega (arith, few, d.sees.shows.processors))
       (d.hand.on p mine ∙ ap (λ (x : Option ℕ). Some (option_map (hold call) x)) stood),
   λ e below. ap (λ (z : View). has z e) d.same ∙ put_in v.held element e (omega (arith, low, d.hand.held_long)),
 )

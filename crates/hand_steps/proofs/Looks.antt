@@ -17,7 +17,7 @@ use Rattle.thread_table.specs.Answers.{TookFirst, TakeAnswer, MoveAnswer, WaitAn
 use Rattle.thread_table.specs.declared.states.Started.TheVariants as started
 use Rattle.thread_table.specs.Rules.{has}
 use Rattle.thread_table.specs.Makers.{made_in}
-use Rattle.thread_table.specs.Schedules.{state_after, elements_after, thread_at, line_name}
+use Rattle.thread_table.specs.Schedules.{state_after, elements_after, thread_at, ring_name}
 use Rattle.thread_table.specs.Steps.{Found, Counts, Starts}
 use Rattle.thread_table.proofs.Following.{Looked, found_looked, looked_on}
 use Rattle.thread_table.proofs.Schedules.{elements_of}
@@ -32,18 +32,18 @@ found_two : (u v w : View) (i r j s : ℕ) → Found u i r v → Found v j s w �
 found_two u v w i r j s a b = looked_on u v w (found_looked u v i r a) (found_looked v w j s b)
 
 -- a refused taking
-pub take_looked : (call line : ℕ) (v w : View) (r : NextRefusal) → TakeAnswer call v line (Err r) w → Looked v w
-take_looked call line v w nexts.NoneReady a = looked_on v a.before w (found_two v a.found.loaded a.before _ _ _ _ a.found.tail_loaded a.found.place_loaded) (found_looked a.before w _ _ a.tail_again)
-take_looked call line v w (nexts.Lost seen) answer = ⊎_elim
+pub take_looked : (call ring : ℕ) (v w : View) (r : NextRefusal) → TakeAnswer call v ring (Err r) w → Looked v w
+take_looked call ring v w nexts.NoneReady a = looked_on v a.before w (found_two v a.found.loaded a.before _ _ _ _ a.found.tail_loaded a.found.place_loaded) (found_looked a.before w _ _ a.tail_again)
+take_looked call ring v w (nexts.Lost seen) answer = ⊎_elim
     (λ a. looked_on v a.before w (found_two v a.found.loaded a.before _ _ _ _ a.found.tail_loaded a.found.place_loaded) (found_looked a.before w _ _ a.tail_again))
     (λ a. looked_on v a.before w (found_two v a.found.loaded a.before _ _ _ _ a.found.tail_loaded a.found.place_loaded) (found_looked a.before w _ _ a.missed))
     answer
 
 -- a refused move
-pub move_looked : (call line element : ℕ) (v w : View) (r : MoveRefusal) → MoveAnswer call v line element (Err r) w → Looked v w
-move_looked call line element v w moves.Spent a = found_looked v w _ _ a.loaded
-move_looked call line element v w (moves.Lost seen) a = found_two v a.before w _ _ _ _ a.found.loaded a.missed
-move_looked call line element v w (moves.Moved mark) a = absurd a
+pub move_looked : (call ring element : ℕ) (v w : View) (r : MoveRefusal) → MoveAnswer call v ring element (Err r) w → Looked v w
+move_looked call ring element v w moves.Spent a = found_looked v w _ _ a.loaded
+move_looked call ring element v w (moves.Lost seen) a = found_two v a.before w _ _ _ _ a.found.loaded a.missed
+move_looked call ring element v w (moves.Moved mark) a = absurd a
 
 pub wait_looked : (call wait element ticket : ℕ) (v w : View) (r : MoveRefusal) → WaitAnswer call v wait element ticket (Err r) w → Looked v w
 wait_looked call wait element ticket v w moves.Spent a = found_looked v w _ _ a.loaded
@@ -63,19 +63,19 @@ pub goes_looked : (call element : ℕ) (v w : View) → StartAnswer call v eleme
 goes_looked call element v w a = found_looked v w _ _ a.loaded
 
 -- a taking of elements that are not free
-none_free : (call line : ℕ) (s : State) → line ≢ 1 → tally (made_in (events.Take call (line_name line) 1) s ∷ []) ≡ no_events
+none_free : (call ring : ℕ) (s : State) → ring ≢ 1 → tally (made_in (events.Take call (ring_name ring) 1) s ∷ []) ≡ no_events
 none_free call zero s other = refl
 none_free call (suc zero) s other = absurd (other refl)
 none_free call (suc (suc wait)) s other = refl
 
-pub took_goes : (call line element : ℕ) (v w : View) → line ≢ 1 → TookFirst call v line element w → Goes no_events v w
-took_goes call line element v w other t = let l = took_looked call line element v w t in
+pub took_goes : (call ring element : ℕ) (v w : View) → ring ≢ 1 → TookFirst call v ring element w → Goes no_events v w
+took_goes call ring element v w other t = let l = took_looked call ring element v w t in
     goes_after no_events v t.before w (looked_goes v t.before l)
-    (did_goes call t.before w _ _ _ _ no_events record { first = λ _. refl; serves = λ _. refl; on = λ _. refl; share = λ _. refl; made = λ _. refl } (λ e. refl) t.took.did (none_free call line (state_after t.took.did.before) other))
+    (did_goes call t.before w _ _ _ _ no_events record { first = λ _. refl; serves = λ _. refl; on = λ _. refl; share = λ _. refl; made = λ _. refl } (λ e. refl) t.took.did (none_free call ring (state_after t.took.did.before) other))
     (left v t.before w (looked_held v t.before l))
 
-pub took_holds : (call line element : ℕ) (v w : View) → element < 64 → TookFirst call v line element w → HoldsMore element v w
-took_holds call line element v w low t = (took_unheld call line element v w low t, λ e below. t.holds e)
+pub took_holds : (call ring element : ℕ) (v w : View) → element < 64 → TookFirst call v ring element w → HoldsMore element v w
+took_holds call ring element v w low t = (took_unheld call ring element v w low t, λ e below. t.holds e)
 
 -- a park
 pub parked_goes : (call element : ℕ) (v w : View) → ParkAnswer call v element (Ok true) w → Goes no_events v w

@@ -18,15 +18,15 @@ use Rattle.hand_steps.specs.declared.moving.Target.{Target}
 use Rattle.hand_steps.specs.declared.moving.Target.TheVariants as targets
 use Rattle.hand_steps.specs.declared.moving.Waited.{Waited}
 use Rattle.hand_steps.specs.declared.moving.Waited.TheVariants as waited
-use Rattle.hand_steps.specs.Sendings.{LostTries, LastTry, Sent, HoldsUnless, LostWaits, LastWait, WaitedAt, line_of, retired, has_gone}
+use Rattle.hand_steps.specs.Sendings.{LostTries, LastTry, Sent, HoldsUnless, LostWaits, LastWait, WaitedAt, ring_of, retired, has_gone}
 use Rattle.hand_steps.specs.Tallies.{Tally, tally, no_events, one_retired}
 use Rattle.hand_steps.proofs.Calm.{Goes, goes_after, goes_before, left, right, looked_held, looked_goes, none_goes, did_goes}
 use Rattle.hand_steps.proofs.Looks.{move_looked, wait_looked}
 
 -- a move
-moved_goes : (call line element : ℕ) (event : Event) (more : Tally) (v w : View) → ((e : ℕ) → is_done e event ≡ false) → (m : MovedTo call v line element event w)
+moved_goes : (call ring element : ℕ) (event : Event) (more : Tally) (v w : View) → ((e : ℕ) → is_done e event ≡ false) → (m : MovedTo call v ring element event w)
     → tally (made_in event (state_after m.claims.did.before) ∷ []) ≡ more → Goes more v w
-moved_goes call line element event more v w quiet m is = let l = found_looked v m.before _ _ m.found.loaded in
+moved_goes call ring element event more v w quiet m is = let l = found_looked v m.before _ _ m.found.loaded in
     goes_after more v m.before w (looked_goes v m.before l)
     (goes_before more m.before m.between w
     (did_goes call m.before m.between _ _ _ _ more record { first = λ _. refl; serves = λ _. refl; on = λ _. refl; share = λ _. refl; made = λ _. refl } quiet m.claims.did is)
@@ -51,10 +51,10 @@ retired_goes call element v w low up held m =
     moved_goes call 1 element _ (one_retired element (done_at v.schedule element)) v w (λ e. refl) m (ap (one_retired element) is)
 
 -- a claim of a wait queue retires nobody
-waits_none : (call line wait element : ℕ) (s : State) → line ≡ suc (suc wait) → tally (made_in (claim_event call line element) s ∷ []) ≡ no_events
-waits_none call line wait element s is = subst (λ (k : ℕ). tally (made_in (claim_event call k element) s ∷ []) ≡ no_events) (sym is) refl
+waits_none : (call ring wait element : ℕ) (s : State) → ring ≡ suc (suc wait) → tally (made_in (claim_event call ring element) s ∷ []) ≡ no_events
+waits_none call ring wait element s is = subst (λ (k : ℕ). tally (made_in (claim_event call k element) s ∷ []) ≡ no_events) (sym is) refl
 
-last_goes : (call : ℕ) (target : Target) (element : ℕ) (moved : Bool) (v w : View) → element < 64 → v.fresh ≡ true → has v element ≡ true → LastTry call v (line_of target) element moved w
+last_goes : (call : ℕ) (target : Target) (element : ℕ) (moved : Bool) (v w : View) → element < 64 → v.fresh ≡ true → has v element ≡ true → LastTry call v (ring_of target) element moved w
     → Goes (retirement target moved element (done_at v.schedule element)) v w
 last_goes call targets.Ready element true v w low up held m = moved_goes call 0 element _ no_events v w (λ e. refl) m refl
 last_goes call targets.Ready element false v w low up held m = looked_goes v w (move_looked call 0 element v w moves.Spent m)
@@ -63,41 +63,41 @@ last_goes call targets.Free element false v w low up held m = looked_goes v w (m
 last_goes call (targets.Wait wait) element true v w low up held m = moved_goes call (wait + 2) element _ no_events v w (λ e. refl) m (waits_none call (wait + 2) wait element (state_after m.claims.did.before) (omega arith))
 last_goes call (targets.Wait wait) element false v w low up held m = looked_goes v w (move_looked call (wait + 2) element v w moves.Spent m)
 
-tries_go : (call line element n : ℕ) (v w : View) → v.fresh ≡ true → LostTries call line element v w n → Goes no_events v w × (w.held ≡ v.held)
-tries_go call line element zero v w up same = subst (λ (z : View). Goes no_events v z × (z.held ≡ v.held)) (sym same) (none_goes v up, refl)
-tries_go call line element (suc n) v w up tries =
+tries_go : (call ring element n : ℕ) (v w : View) → v.fresh ≡ true → LostTries call ring element v w n → Goes no_events v w × (w.held ≡ v.held)
+tries_go call ring element zero v w up same = subst (λ (z : View). Goes no_events v z × (z.held ≡ v.held)) (sym same) (none_goes v up, refl)
+tries_go call ring element (suc n) v w up tries =
     let u : View = tries.0 in
-    let before = tries_go call line element n v u up tries.1 in
-    let l = move_looked call line element u w (moves.Lost tries.2) tries.3 in
+    let before = tries_go call ring element n v u up tries.1 in
+    let l = move_looked call ring element u w (moves.Lost tries.2) tries.3 in
     (goes_before no_events v u w before.0 (looked_goes u w l) (left v u w before.1), looked_held u w l ∙ before.1)
 
-pub sent_goes : (call : ℕ) (target : Target) (element : ℕ) (moved : Bool) (v w : View) → element < 64 → v.fresh ≡ true → has v element ≡ true → Sent call (line_of target) element moved v w
+pub sent_goes : (call : ℕ) (target : Target) (element : ℕ) (moved : Bool) (v w : View) → element < 64 → v.fresh ≡ true → has v element ≡ true → Sent call (ring_of target) element moved v w
     → Goes (retirement target moved element (done_at v.schedule element)) v w
 sent_goes call target element moved v w low up held s =
-    let t = tries_go call (line_of target) element s.lost v s.before up s.tries in
+    let t = tries_go call (ring_of target) element s.lost v s.before up s.tries in
     let mine : has s.before element ≡ true = ap (λ xs. get_or xs element false) t.1 ∙ held in
     let same = t.0.calm.steady up element low (inl held) (inl mine) in
     goes_after (retirement target moved element (done_at v.schedule element)) v s.before w t.0
     (subst (λ (z : Tally). Goes z s.before w) (ap (retirement target moved element) same) (last_goes call target element moved s.before w low t.0.calm.fresh mine s.last))
     (left v s.before w t.1)
 
-last_holds : (call line element : ℕ) (moved : Bool) (v w : View) → LastTry call v line element moved w → HoldsUnless moved element v w
-last_holds call line element true v w m = λ e low. m.gone e
-last_holds call line element false v w m = λ e low. ap (λ xs. get_or xs e false) (looked_held v w (move_looked call line element v w moves.Spent m))
+last_holds : (call ring element : ℕ) (moved : Bool) (v w : View) → LastTry call v ring element moved w → HoldsUnless moved element v w
+last_holds call ring element true v w m = λ e low. m.gone e
+last_holds call ring element false v w m = λ e low. ap (λ xs. get_or xs e false) (looked_held v w (move_looked call ring element v w moves.Spent m))
 
 holds_from : (element : ℕ) (moved : Bool) (u v w : View) → v.held ≡ u.held → HoldsUnless moved element v w → HoldsUnless moved element u w
 holds_from element true u v w same h = λ e low. h e low ∙ ap (λ (xs : List Bool). if e == element then false else get_or xs e false) same
 holds_from element false u v w same h = λ e low. h e low ∙ ap (λ (xs : List Bool). get_or xs e false) same
 
-pub sent_holds : (call line element : ℕ) (moved : Bool) (v w : View) → v.fresh ≡ true → Sent call line element moved v w → HoldsUnless moved element v w
-sent_holds call line element moved v w up s = holds_from element moved v s.before w (tries_go call line element s.lost v s.before up s.tries).1 (last_holds call line element moved s.before w s.last)
+pub sent_holds : (call ring element : ℕ) (moved : Bool) (v w : View) → v.fresh ≡ true → Sent call ring element moved v w → HoldsUnless moved element v w
+sent_holds call ring element moved v w up s = holds_from element moved v s.before w (tries_go call ring element s.lost v s.before up s.tries).1 (last_holds call ring element moved s.before w s.last)
 
 -- one more try was lost
-pub lost_again : (call call' line element : ℕ) (v u w : View) (seen : ℕ) → call' ≡ call → has u element ≡ true → (n : ℕ) × LostTries call line element v u n
-    → MoveAnswer call' u line element (Err (moves.Lost seen)) w → (has w element ≡ true) × ((n : ℕ) × LostTries call line element v w n)
-lost_again call call' line element v u w seen same h tries m = (
-  ap (λ xs. get_or xs element false) (looked_held u w (move_looked call' line element u w (moves.Lost seen) m)) ∙ h,
-  (suc tries.0, (u, tries.1, seen, subst (λ (c : ℕ). MoveAnswer c u line element (Err (moves.Lost seen)) w) same m)),
+pub lost_again : (call call' ring element : ℕ) (v u w : View) (seen : ℕ) → call' ≡ call → has u element ≡ true → (n : ℕ) × LostTries call ring element v u n
+    → MoveAnswer call' u ring element (Err (moves.Lost seen)) w → (has w element ≡ true) × ((n : ℕ) × LostTries call ring element v w n)
+lost_again call call' ring element v u w seen same h tries m = (
+  ap (λ xs. get_or xs element false) (looked_held u w (move_looked call' ring element u w (moves.Lost seen) m)) ∙ h,
+  (suc tries.0, (u, tries.1, seen, subst (λ (c : ℕ). MoveAnswer c u ring element (Err (moves.Lost seen)) w) same m)),
 )
 
 -- waits with a ticket

@@ -32,21 +32,21 @@ Grows v w = (e : ℕ) → e < 64 → has v e ≡ true → has w e ≡ true
 same_grows : (v w : View) → w.held ≡ v.held → Grows v w
 same_grows v w same e low held = ap (λ xs. get_or xs e false) same ∙ held
 
-taken_goes : (call line : ℕ) (v w : View) (r : Result ℕ NextRefusal) → line ≢ 1 → TakeAnswer call v line r w → Goes no_events v w × Grows v w
-taken_goes call line v w (Ok element) other t = (took_goes call line element v w other t, λ e low held. t.holds e ∙ ap (λ (b : Bool). b || e == element) held)
-taken_goes call line v w (Err r) other t = let l = take_looked call line v w r t in (looked_goes v w l, same_grows v w (looked_held v w l))
+taken_goes : (call ring : ℕ) (v w : View) (r : Result ℕ NextRefusal) → ring ≢ 1 → TakeAnswer call v ring r w → Goes no_events v w × Grows v w
+taken_goes call ring v w (Ok element) other t = (took_goes call ring element v w other t, λ e low held. t.holds e ∙ ap (λ (b : Bool). b || e == element) held)
+taken_goes call ring v w (Err r) other t = let l = take_looked call ring v w r t in (looked_goes v w l, same_grows v w (looked_held v w l))
 
-tries_go : (call line head : ℕ) (v w : View) (answers : List (Result ℕ NextRefusal)) → line ≢ 1 → v.fresh ≡ true → Tries call line head v answers w → Goes no_events v w × Grows v w
-tries_go call line head v w [] other up same = subst (λ (z : View). Goes no_events v z × Grows v z) (sym same) (none_goes v up, λ e low held. held)
-tries_go call line head v w (r ∷ rs) other up t =
+tries_go : (call ring head : ℕ) (v w : View) (answers : List (Result ℕ NextRefusal)) → ring ≢ 1 → v.fresh ≡ true → Tries call ring head v answers w → Goes no_events v w × Grows v w
+tries_go call ring head v w [] other up same = subst (λ (z : View). Goes no_events v z × Grows v z) (sym same) (none_goes v up, λ e low held. held)
+tries_go call ring head v w (r ∷ rs) other up t =
     let u : View = t.0 in
     let b : View = t.1.before in
     let l = found_looked v b _ _ t.1.tail_loaded in
     let first = looked_goes v b l in
-    let take = taken_goes call line b u r other t.1.taken in
+    let take = taken_goes call ring b u r other t.1.taken in
     let one = goes_after no_events v b u first take.0 (left v b u (looked_held v b l)) in
     let grows : Grows v u = λ e low held. take.1 e low (same_grows v b (looked_held v b l) e low held) in
-    let rest = tries_go call line head u w rs other one.calm.fresh t.2 in
+    let rest = tries_go call ring head u w rs other one.calm.fresh t.2 in
     (goes_after no_events v u w one rest.0 (λ e low held still. grows e low held), λ e low held. rest.1 e low (grows e low held))
 
 woke_goes : (call wait mask : ℕ) (v w : View) → WokeAll call v wait mask w → Goes no_events v w

@@ -11,28 +11,28 @@ use Rattle.hand_steps.specs.Holdings.{HoldsSame, HoldsLess}
 use Rattle.hand_steps.specs.Tallies.{Tally, no_events, one_retired}
 
 -- the element queue that an element is moved to
-abbrev pub line_of : Target → ℕ
-line_of targets.Ready = 0
-line_of targets.Free = 1
-line_of (targets.Wait wait) = wait + 2
+abbrev pub ring_of : Target → ℕ
+ring_of targets.Ready = 0
+ring_of targets.Free = 1
+ring_of (targets.Wait wait) = wait + 2
 
 -- so many tries of a move were lost, one behind the other
 abbrev pub LostTries : ℕ → ℕ → ℕ → View → View → ℕ → Type 0
-LostTries call line element v w zero = w ≡ v
-LostTries call line element v w (suc n) = (u : View) × LostTries call line element v u n × (seen : ℕ)
-    × MoveAnswer call u line element (Err (moves.Lost seen)) w
+LostTries call ring element v w zero = w ≡ v
+LostTries call ring element v w (suc n) = (u : View) × LostTries call ring element v u n × (seen : ℕ)
+    × MoveAnswer call u ring element (Err (moves.Lost seen)) w
 
 -- the last try: the move was made, or the queue has no position left
 abbrev pub LastTry : ℕ → View → ℕ → ℕ → Bool → View → Type 0
-LastTry call v line element true w = MoveAnswer call v line element (Ok tt) w
-LastTry call v line element false w = MoveAnswer call v line element (Err moves.Spent) w
+LastTry call v ring element true w = MoveAnswer call v ring element (Ok tt) w
+LastTry call v ring element false w = MoveAnswer call v ring element (Err moves.Spent) w
 
 -- a move was tried till it wasn't lost
-pub record Sent (call line element : ℕ) (moved : Bool) (v w : View) : Type 0 where
+pub record Sent (call ring element : ℕ) (moved : Bool) (v w : View) : Type 0 where
   pub lost : ℕ
   pub before : View
-  pub tries : LostTries call line element v before lost
-  pub last : LastTry call before line element moved w
+  pub tries : LostTries call ring element v before lost
+  pub last : LastTry call before ring element moved w
 
 -- the hand holds what it held, without the element where that was moved
 abbrev pub HoldsUnless : Bool → ℕ → View → View → Type 0

@@ -12,7 +12,7 @@ mod counting;
 mod dispatch;
 mod laws;
 mod moving;
-mod seating;
+mod placing;
 mod waking;
 
 pub use alarms::{Tended, tend_alarms};
@@ -20,5 +20,5 @@ pub use counting::{Counted, count};
 pub use dispatch::{Begun, Idle, begin};
 pub use laws::calls_only_add;
 pub use moving::{Waited, make_ready, retire, wait_at, wait_in};
-pub use seating::{put_on, take_off};
+pub use placing::{put_on, take_off};
 pub use waking::{Resumed, Woken, start, wake};

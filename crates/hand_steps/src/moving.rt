@@ -5,7 +5,7 @@ ghost use Rattle.thread_table.specs.Handles.{view_of, call_of, IsHandOf, IsSameH
 ghost use Rattle.thread_table.specs.Keeping.{Keeps};
 ghost use Rattle.thread_table.specs.Rules.{done_at, has};
 ghost use Rattle.hand_steps.specs.Holdings.{Steady};
-ghost use Rattle.hand_steps.specs.Sendings.{Sent, WaitedAt, HoldsUnless, line_of, retired, has_gone};
+ghost use Rattle.hand_steps.specs.Sendings.{Sent, WaitedAt, HoldsUnless, ring_of, retired, has_gone};
 ghost use Rattle.hand_steps.specs.Tallies.{Adds, no_events};
 
 use event_theory::{Element, WaitNumber};
@@ -42,7 +42,7 @@ fn try_send(
     requires table { IsHandOf threads.now hand.old }
     requires held { has (view_of hand.old) element ≡ true }
     ensures table { IsSameHand hand.old hand.new }
-    ensures moved { MoveAnswer (call_of hand.old) (view_of hand.old) (line_of target.now) element result
+    ensures moved { MoveAnswer (call_of hand.old) (view_of hand.old) (ring_of target.now) element result
         (view_of hand.new) }
 {
     match target {
@@ -63,7 +63,7 @@ fn send<R: Wait>(
     requires table { IsHandOf threads.now hand.old }
     requires held { has (view_of hand.old) element ≡ true }
     ensures table { IsSameHand hand.old hand.new }
-    ensures sent { Sent (call_of hand.old) (line_of target.now) element result (view_of hand.old) (view_of hand.new) }
+    ensures sent { Sent (call_of hand.old) (ring_of target.now) element result (view_of hand.old) (view_of hand.new) }
 {
     for _ in rt.forever() {
         match try_send(threads, hand, target, element) {

@@ -5,7 +5,7 @@ use Rattle.std.specs.Prelude.{Err}
 use Rattle.std.proofs.lemmas.List.{map-append, length-map, length-append, append-nil}
 use mathlib.Core.Option.{some, some-injective, some-ne-none}
 use lib.ListN.{get_elem?}
-use Rattle.objects.specs.DeviceEndings.{AreWithout, IsAscending}
+use Rattle.objects.specs.DeviceEndings.{AreWithout}
 use Rattle.table_theory.specs.declared.queues.Batch.{Batch}
 use Rattle.table_theory.specs.Listing.{written_to}
 use Rattle.table_theory.specs.Positioned.{blank, fresh}
@@ -107,7 +107,7 @@ starts_past x [] j f all at = absurd (some-ne-none f (sym at))
 starts_past x (e ∷ runs) zero f all at = subst (λ (z : Batch). x.0 < z.start) (some-injective e f at) all.0
 starts_past x (e ∷ runs) (suc j) f all at = starts_past x runs j f all.1 at
 
-ascending : (runs : List Batch) → InOrder (map extent runs) → IsAscending runs
+ascending : (runs : List Batch) → InOrder (map extent runs) → Ascending runs
 ascending [] up i j e f at at' low = absurd (some-ne-none e (sym at))
 ascending (x ∷ runs) up zero zero e f at at' low = absurd (omega arith)
 ascending (x ∷ runs) up zero (suc j) e f at at' low = subst (λ (z : Batch). z.start < f.start) (some-injective x e at) (starts_past (extent x) runs j f up.1 at')
@@ -157,7 +157,7 @@ each_keeps call (b ∷ bytes) [] v w e = absurd e
 each_keeps call (b ∷ bytes) (p ∷ puts) v w e = keeps_on v e.0 w (put_keeps call v e.0 b p e.1) (each_keeps call bytes puts e.0 w e.2)
 
 -- an end that had no run, and then tried to put each of these bytes, has its runs in order
-pub puts_ascend : (call : ℕ) (bytes : List ℕ) (puts : List Bool) (v w : View) → PutEach call v bytes puts w → v.part.runs ≡ [] → IsAscending (runs_of w)
+pub puts_ascend : (call : ℕ) (bytes : List ℕ) (puts : List Bool) (v w : View) → PutEach call v bytes puts w → v.part.runs ≡ [] → Ascending (runs_of w)
 puts_ascend call bytes puts v w e none = ascending w.part.runs ((each_keeps call bytes puts v w e).order (subst (λ (z : List Batch). InOrder (map extent z)) (sym none) tt))
 
 pub puts_shut_none : (call : ℕ) (bytes : List ℕ) (puts : List Bool) (v w : View) → PutEach call v bytes puts w → w.shuts ≡ v.shuts

@@ -7,7 +7,7 @@ use Rattle.event_theory.specs.Queues.{Queue, empty_queue}
 use Rattle.event_theory.specs.declared.event.Event.{Event}
 use Rattle.thread_table.specs.declared.rule.View.{View}
 use Rattle.thread_table.specs.Retiring.{taking_by}
-use Rattle.thread_table.specs.Schedules.{state_after, elements_after, line_at}
+use Rattle.thread_table.specs.Schedules.{state_after, elements_after, ring_at}
 use Rattle.thread_table.specs.Steps.{Did}
 use Rattle.thread_table.proofs.Following.{Looked}
 use Rattle.thread_table.proofs.Retiring.{step_takes}
@@ -89,9 +89,9 @@ did_take call v w word found event knows d =
     let past = d.before ++ event ∷ [] in
     let grown = d.sees.seen.grows 1 in
     let seen = grown.further in
-    let before : (line_at (elements_after d.before) 1).taken ≡ (free_line (state_after d.before).elements.lines).taken = ap (λ (z : Elements). (line_at z 1).taken) (elements_of d.before) in
-    let more : (free_line (state_after past).elements.lines).taken ≡ (free_line (state_after d.before).elements.lines).taken + length (taking_by event) = step_takes event (state_after d.before) (state_after past) d.step in
-    let after : free_taken w ≡ (free_line (state_after past).elements.lines).taken = ap (λ (z : View). free_taken z) d.same ∙ ap (λ (z : Elements). (line_at z 1).taken) (elements_of past) in
+    let before : (ring_at (elements_after d.before) 1).taken ≡ (free_line (state_after d.before).elements.rings).taken = ap (λ (z : Elements). (ring_at z 1).taken) (elements_of d.before) in
+    let more : (free_line (state_after past).elements.rings).taken ≡ (free_line (state_after d.before).elements.rings).taken + length (taking_by event) = step_takes event (state_after d.before) (state_after past) d.step in
+    let after : free_taken w ≡ (free_line (state_after past).elements.rings).taken = ap (λ (z : View). free_taken z) d.same ∙ ap (λ (z : Elements). (ring_at z 1).taken) (elements_of past) in
     omega arith
 
 -- where it only looked

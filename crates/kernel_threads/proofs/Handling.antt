@@ -18,7 +18,7 @@ use Rattle.thread_table.specs.Keeping.{Keeps, Stays}
 use Rattle.thread_table.specs.Makers.{made_in}
 use Rattle.thread_table.specs.Retiring.{retired_by, taking_by, free_takings}
 use Rattle.thread_table.specs.Rules.{has}
-use Rattle.thread_table.specs.Schedules.{state_after, elements_after, line_at, element_at}
+use Rattle.thread_table.specs.Schedules.{state_after, elements_after, ring_at, element_at}
 use Rattle.thread_table.specs.Steps.{Found, Did}
 use Rattle.thread_table.specs.Views.{with_claim, with_raise}
 use Rattle.thread_table.proofs.Following.{Looked, found_looked, looked_on}
@@ -162,7 +162,7 @@ take_took call v w (Ok element) t =
     let added : many_held w ≡ many_held t.before + 1 = mark_new t.before.held w.held element long (omega arith) none
     (λ e. t.holds e ∙ ap (λ (z : List Bool). get_or z e false || e == element) (sym s.stays.held)) in
     let own : 1 + many_held t.before ≡ many_held w + (0 + 0) = omega arith in
-    let more = mark_more t.before.held (element_at (line_at (elements_after t.took.did.before) 1) (line_at (elements_after t.took.did.before) 1).taken) in
+    let more = mark_more t.before.held (element_at (ring_at (elements_after t.took.did.before) 1) (ring_at (elements_after t.took.did.before) 1).taken) in
     let marks = ap (λ (z : View). many_held z) t.took.did.same in
     let same = same_many v t.before s.stays.held in
     let later = s.later in record {
@@ -179,7 +179,7 @@ pub took_on : (u v w : View) → TookFree u v → TookFree v w → TookFree u w
 took_on u v w a b = record { moved = moved_on [] [] [] [] u v w a.moved b.moved; held = λ e h. b.held e (a.held e h); taken = let x = a.taken in let y = b.taken in omega arith }
 
 -- the hand lets the element go that it claims a place for
-claim_counts : (call element line : ℕ) (v w : View) (word found : ℕ) (event : Event) → Did call v word found event (λ before. with_claim v line (length (line_at (elements_after before) line).history) element) w
+claim_counts : (call element line : ℕ) (v w : View) (word found : ℕ) (event : Event) → Did call v word found event (λ before. with_claim v line (length (ring_at (elements_after before) line).history) element) w
     → has v element ≡ true → (length w.held ≡ length v.held) × (0 + many_held v ≡ many_held w + (1 + 0))
 claim_counts call element line v w word found event d here = (
   ap (λ (z : View). length z.held) d.same ∙ length-set v.held element false,

@@ -10,7 +10,7 @@ use Rattle.meters.specs.Own.{Own}
 use Rattle.processor.specs.declared.shared.Shared.{Shared}
 use Rattle.processor.specs.declared.station.Parts.{Parts}
 use Rattle.processor.specs.declared.station.Station.{Station}
-use Rattle.processor.specs.Logs.{Entry, Leaves}
+use Rattle.processor.specs.Logs.{LogEntry, Leaves}
 use Rattle.processor.specs.Partings.{AreJoined, AllJoined}
 use Rattle.table_theory.specs.declared.views.Member.{Member}
 use Rattle.thread_table.proofs.Copies.{get_or-copies}
@@ -33,7 +33,7 @@ ran G T shared p turns gate old new work posted back gave = subst (λ (w : Work 
 -- THEIR LOGS
 
 logs_of : (G : Type 0) (T : G → ℕ → Point → G → Type 0) (shared : Shared) (p turns : ℕ) (gates : List G) (old new : Parts) (posts : List (Work G)) (stations : List (Processed G))
-    → ArePosted shared p turns gates old new posts → AllZip (GaveBack (HasWorked T) shared) posts (map back_of stations) → (logs : List (List Entry)) × AllZip (Leaves shared.plan) logs (map parts_of stations)
+    → ArePosted shared p turns gates old new posts → AllZip (GaveBack (HasWorked T) shared) posts (map back_of stations) → (logs : List (List LogEntry)) × AllZip (Leaves shared.plan) logs (map parts_of stations)
 logs_of G T shared p turns [] old new [] [] a z = ([], tt)
 logs_of G T shared p turns [] old new [] (s ∷ stations) a z = absurd z
 logs_of G T shared p turns [] old new (w ∷ posts) stations a z = absurd a

@@ -4,7 +4,7 @@ use Rattle.boot_data.specs.declared.plan.PlannedTty.{PlannedTty}
 use Rattle.std.specs.declared.thread.PromisedHandle.{PromisedHandle}
 use Rattle.std.specs.List.{AllZip}
 use Rattle.spsc_line.specs.declared.line_in.LineIn.{LineIn}
-use Rattle.kernel_threads.specs.declared.crew.Told.{Told}
+use Rattle.kernel_threads.specs.declared.crew.JobPromise.{JobPromise}
 use Rattle.kernel_threads.specs.Crews.{WasJoined}
 use Rattle.kernel_threads.specs.Typings.{IsTyped, AreTyped}
 
@@ -33,7 +33,7 @@ module _ {H : Type 0} where
 
 module _ {S J B : Type 0} (gives : S → J → B → Type 0) where
   -- a device that was started gave something back, and one that was not gave nothing
-  typed_as : (ttys : List PlannedTty) (handles : List (Option (PromisedHandle B (Told S J)))) (backs : List (Option B)) (lines typed : List LineIn)
+  typed_as : (ttys : List PlannedTty) (handles : List (Option (PromisedHandle B (JobPromise S J)))) (backs : List (Option B)) (lines typed : List LineIn)
       → AllZip (WasJoined gives) handles backs → AreTyped ttys handles lines typed → AreTyped ttys backs lines typed
   typed_as [] [] [] [] [] z t = tt
   typed_as [] [] (b ∷ bs) ls ms z t = absurd z
@@ -49,7 +49,7 @@ module _ {S J B : Type 0} (gives : S → J → B → Type 0) where
   typed_as (y ∷ ttys) (None ∷ hs) (Some b ∷ bs) (l ∷ ls) (m ∷ ms) z t = absurd z.0
   typed_as (y ∷ ttys) (Some h ∷ hs) (None ∷ bs) (l ∷ ls) (m ∷ ms) z t = absurd z.0
 
-  pub typed_past : (n : ℕ) (ttys : List PlannedTty) (handles : List (Option (PromisedHandle B (Told S J)))) (backs : List (Option B)) (lines typed : List LineIn)
+  pub typed_past : (n : ℕ) (ttys : List PlannedTty) (handles : List (Option (PromisedHandle B (JobPromise S J)))) (backs : List (Option B)) (lines typed : List LineIn)
       → AllZip (WasJoined gives) handles backs → AreTyped ttys (drop n handles) lines typed → AreTyped ttys (drop n backs) lines typed
   typed_past zero ttys hs bs ls ms z t = typed_as ttys hs bs ls ms z t
   typed_past (suc n) ttys [] [] ls ms z t = typed_as ttys [] [] ls ms z t

@@ -10,7 +10,7 @@ use Rattle.objects.specs.DeviceEndings as ended
 use Rattle.objects.specs.DeviceEndings.{DeviceEnded}
 use Rattle.processor.specs.declared.shared.Shared.{Shared}
 use Rattle.processor.specs.declared.station.Parts.{Parts}
-use Rattle.processor.specs.Logs.{Entry, Leaves}
+use Rattle.processor.specs.Logs.{LogEntry, Leaves}
 use Rattle.processor.specs.RawEnds.{IsRawAt}
 use Rattle.quajects.specs.declared.raw.RawTty.{RawTty}
 use Rattle.quajects.specs.Raws.{end_of, overruns_of}
@@ -65,7 +65,7 @@ pub record SameShares (old new : Parts) : Type 0 where
 -- Each processor left on its station what its log says. Once all are joined to what the first station had kept, that
 -- has the shares again that it had before it gave parts away, and serves each processor, on which nothing stands
 pub record CameTogether (shared : Shared) (old last : Parts) (stations : List Parts) : Type 0 where
-  pub logs : List (List Entry)
+  pub logs : List (List LogEntry)
   pub left : AllZip (Leaves shared.plan) logs stations
   pub shares : SameShares old last
   pub free : (p : ℕ) → p < 8 → IsFree p (threads.view_of last.hand)

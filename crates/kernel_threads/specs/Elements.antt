@@ -10,7 +10,7 @@ use Rattle.thread_table.specs.declared.rule.View.{View}
 use Rattle.thread_table.specs.Keeping.{Keeps}
 use Rattle.thread_table.specs.Retiring.{retired_by, free_takings}
 use Rattle.thread_table.specs.Rules.{has}
-use Rattle.thread_table.specs.Schedules.{elements_after, line_at}
+use Rattle.thread_table.specs.Schedules.{elements_after, ring_at}
 
 -- what an event puts into the ready ring, as one run
 abbrev pub readied_by : Event → List (List ℕ)
@@ -40,7 +40,7 @@ others v = flat_map (λ (m : Made). other_by m.event) v.made
 
 -- how many takings of free elements there were, by all hands, when the hand last looked
 abbrev pub free_taken : View → ℕ
-free_taken v = (line_at (elements_after v.schedule) 1).taken
+free_taken v = (ring_at (elements_after v.schedule) 1).taken
 
 -- how many takings of free elements are in the hand's own list
 abbrev pub own_takings : View → ℕ

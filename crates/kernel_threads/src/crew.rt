@@ -22,17 +22,17 @@ pub trait Job<S, B>: Sized {
 
 /// What the thread of a job was told: what all share, and the job.
 #[derive(Drop)]
-pub struct Told<S, J> {
+pub struct JobPromise<S, J> {
     shared: Snapshot<S>,
     job: Snapshot<J>,
 }
 
-impl<S, B, J: Job<S, B>> Promise<B> for Told<S, J> {
+impl<S, B, J: Job<S, B>> Promise<B> for JobPromise<S, J> {
     ghost kept_by = { λ told back. J.gives told.shared.value told.job.value back };
 }
 
 /// The thread of a job, until it is joined. None where it could not be started.
-pub type Started<S, B, J> = Option<PromisedHandle<B, Told<S, J>>>;
+pub type Started<S, B, J> = Option<PromisedHandle<B, JobPromise<S, J>>>;
 
 // Starts a thread for a job. None where it can't be started.
 fn start_one<'s, E, R, S, B, J>(
@@ -49,7 +49,7 @@ where
     requires { J.may_run shared.now job }
     ensures { WasTold shared.now job result }
 {
-    let told = Told {
+    let told = JobPromise {
         shared: Snapshot::of(shared),
         job: Snapshot::of(&job),
     };

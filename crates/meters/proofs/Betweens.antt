@@ -29,7 +29,7 @@ shows_meters key s k = let m : Reading = k.meters in record {
     long = k.shows.wide;
     gauges = shown_gauges m s.words k.shows;
     clock = sym k.shows.clock;
-    tick = k.shows.small;
+    tick = k.shows.bounded;
     fit = k.shows.slots.fit;
     alarms = shown_alarms m s.words k.shows;
     sums = k.listed.gauges;

@@ -26,7 +26,7 @@ found_nothing v w word found s = ap own_of s.same
 
 -- the clock
 pub lost_clock : (v u w : View) (clock found : ℕ) → Found v clock_word clock u → clock ≡ u.seen.clock → clock < 4294967296 → clock ≢ 4294967295 → Found u clock_word found w → found ≡ w.seen.clock → found ≢ clock → WasLost v found w
-lost_clock v u w clock found a is small left b now ne = let up = clock_leads u.seen w.seen b.later.0 in record {
+lost_clock v u w clock found a is bounded left b now ne = let up = clock_leads u.seen w.seen b.later.0 in record {
   first = clock;
   loaded = u;
   clock_loaded = a;

@@ -24,12 +24,12 @@ all_zero (suc n) zero = refl
 all_zero (suc n) (suc j) = all_zero n j
 
 shows_first : (key : Shape) (words : List ℕ) → key.clock < 4294967296 → length words ≡ 26 → get_or words 9 0 ≡ key.clock → ((j : ℕ) → 0 < j → j ≢ 9 → get_or words j 0 ≡ 0) → WordsShow (first_reading key.clock) words
-shows_first key words small long clock rest = record {
+shows_first key words bounded long clock rest = record {
   wide = long;
   eight = refl;
   gauges = λ g b. rest (1 + g) (omega arith) (λ e. omega arith) ∙ sym (all_zero 8 g);
   clock = clock;
-  small = small;
+  bounded = bounded;
   slots = record {
     sixteen = refl;
     fit = λ slot b. subst Fits (sym (none_set 16 slot)) tt;
@@ -38,10 +38,10 @@ shows_first key words small long clock rest = record {
 }
 
 pub opens : (key : Shape) (words : List ℕ) → key.clock < 4294967296 → length words ≡ 26 → get_or words 0 0 ≡ 1 → get_or words 9 0 ≡ key.clock → ((j : ℕ) → 0 < j → j ≢ 9 → get_or words j 0 ≡ 0) → Rule key (opening words [] (newcomer key))
-opens key words small long ends clock rest = let v : View = newcomer key in record {
+opens key words bounded long ends clock rest = let v : View = newcomer key in record {
   meters = first_reading key.clock;
   lawful = λ alarm. refl;
-  shows = shows_first key words small long clock rest;
+  shows = shows_first key words bounded long clock rest;
   listed = record {
     gauges = λ g b. all_zero 8 g;
     advances = record { number = omega arith; once = λ t past upto. absurd (omega arith); never = λ t out. refl };
@@ -61,5 +61,5 @@ zeros (suc n) (suc j) = zeros n j
 
 -- the words of a new table
 pub new_words : (key : Shape) → key.clock < 4294967296 → Rule key (opening (set (set (replicate 26 0) 0 1) 9 key.clock) [] (newcomer key))
-new_words key small = let z : List ℕ = replicate 26 0 in opens key (set (set z 0 1) 9 key.clock) small refl refl refl
+new_words key bounded = let z : List ℕ = replicate 26 0 in opens key (set (set z 0 1) 9 key.clock) bounded refl refl refl
     (λ j past ne. get_or-set_other (set z 0 1) 9 j key.clock 0 ne ∙ (get_or-set_other z 0 j 1 0 (λ e. omega arith) ∙ zeros 26 j))

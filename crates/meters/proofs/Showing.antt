@@ -17,7 +17,7 @@ shows_count m words y h = record {
   eight = h.eight;
   gauges = λ g b. get_or-set_other words 0 (1 + g) y 0 (λ e. omega arith) ∙ h.gauges g b;
   clock = get_or-set_other words 0 9 y 0 (λ e. omega arith) ∙ h.clock;
-  small = h.small;
+  bounded = h.bounded;
   slots = slots_still m.slots words 0 y h.slots (omega arith);
 }
 
@@ -30,17 +30,17 @@ shows_tick m words g n h below = let y : ℕ = (get_or words (1 + g) 0 + n) % 18
           (λ is. subst (λ (k : ℕ). get_or (set words (1 + g) y) (1 + k) 0 ≡ get_or (set m.gauges g z) k 0) (sym is) (get_or-set_same words (1 + g) y 0 (omega arith) ∙ (same ∙ sym (get_or-set_same m.gauges g z 0 (omega arith)))))
           (λ ne. get_or-set_other words (1 + g) (1 + j) y 0 (λ e. ne (omega arith)) ∙ (h.gauges j b ∙ sym (get_or-set_other m.gauges g j z 0 ne)));
       clock = get_or-set_other words (1 + g) 9 y 0 (λ e. omega arith) ∙ h.clock;
-      small = h.small;
+      bounded = h.bounded;
       slots = slots_still m.slots words (1 + g) y h.slots (omega arith);
     }
 
 pub shows_clock : (m : Reading) (words : List ℕ) (y : ℕ) → WordsShow m words → y ≡ m.clock + 1 → m.clock < 4294967295 → WordsShow (with_advance m) (set words 9 y)
-shows_clock m words y h is small = let wide = h.wide in record {
+shows_clock m words y h is bounded = let wide = h.wide in record {
   wide = length-set words 9 y ∙ h.wide;
   eight = h.eight;
   gauges = λ g b. get_or-set_other words 9 (1 + g) y 0 (λ e. omega arith) ∙ h.gauges g b;
   clock = get_or-set_same words 9 y 0 (omega arith) ∙ is;
-  small = omega arith;
+  bounded = omega arith;
   slots = slots_still m.slots words 9 y h.slots (omega arith);
 }
 
@@ -63,6 +63,6 @@ shows_slot m n words slot new h below fits gauges clock slots = let y : ℕ = wo
   eight = ap length gauges ∙ h.eight;
   gauges = λ g b. get_or-set_other words (10 + slot) (1 + g) y 0 (λ e. omega arith) ∙ (h.gauges g b ∙ (λ i. get_or (sym gauges i) g 0));
   clock = get_or-set_other words (10 + slot) 9 y 0 (λ e. omega arith) ∙ (h.clock ∙ sym clock);
-  small = subst (λ (z : ℕ). z < 4294967296) (sym clock) h.small;
+  bounded = subst (λ (z : ℕ). z < 4294967296) (sym clock) h.bounded;
   slots = subst (λ z. SlotsShow z (set words (10 + slot) y)) (sym slots) (slots_changed m.slots words slot new h.slots h.wide below fits);
 }

@@ -78,7 +78,7 @@ ticks_gauge key n id me g amount below live s k _ at _ = let v : View = me.0 in 
     )
 
 pub advances_clock : (key : Shape) (n id : ℕ) (me : Me Unit View) (clock : ℕ) → clock < 4294967295 → 1 ≤ me.0.member.ends → Allows (Rule key) n id me 9 (λ x. either (eqb x clock) (clock + 1) x) (advances (step n 9 clock (clock + 1) none) me)
-advances_clock key n id me clock small live s k _ at _ = let y : ℕ = get_or s.words 9 0 in let v : View = me.0 in let m : Reading = k.meters in
+advances_clock key n id me clock bounded live s k _ at _ = let y : ℕ = get_or s.words 9 0 in let v : View = me.0 in let m : Reading = k.meters in
     exchanged y clock (clock + 1) (Goes key s 9 id me (advances (step n 9 clock (clock + 1) none) me y))
     (λ hit. let o : Reading = with_advance m in let w : View = record (after v 9 clock (steps_to k) m o) { advances = v.advances ++ (clock + 1) ∷ [] } in let is = k.shows.clock in let now : m.clock ≡ clock = omega arith in let ne : m.clock ≢ 4294967295 = (λ e. omega arith) in (
       w,

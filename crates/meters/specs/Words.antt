@@ -56,5 +56,5 @@ pub record WordsShow (m : Reading) (words : List ℕ) : Type 0 where
   pub gauges : (gauge : ℕ) → gauge < 8
       → slice_index_or words (gauge_word gauge) 0 ≡ slice_index_or m.gauges gauge 0
   pub clock : slice_index_or words clock_word 0 ≡ m.clock
-  pub small : m.clock < 4294967296
+  pub bounded : m.clock < 4294967296
   pub slots : SlotsShow m.slots words

@@ -43,7 +43,7 @@ pub(crate) fn load_clock(words: &Words, seat: &mut Seat<(), View>) -> u64
     ensures seat { IsSame seat.old seat.new × (seat.new.me.1 ≡ seat.old.me.1) }
     ensures found { Found seat.old.me.0 clock_word result seat.new.me.0 }
     ensures clock { result ≡ seat.new.me.0.seen.clock }
-    ensures small { result < 4294967296 }
+    ensures bounded { result < 4294967296 }
 {
     load(words, seat, CLOCK)
 }
@@ -79,7 +79,7 @@ pub(crate) fn exchange_clock(words: &Words, seat: &mut Seat<(), View>, clock: u6
     ensures hit { result ≡ clock → Advanced seat.old.me.0 clock seat.new.me.0 }
     ensures miss { result ≢ clock → Found seat.old.me.0 clock_word result seat.new.me.0
         × (result ≡ seat.new.me.0.seen.clock) }
-    ensures small { result < 4294967296 }
+    ensures bounded { result < 4294967296 }
 {
     words.compare_exchange::<Advances>(seat, CLOCK, clock, clock + 1)
 }

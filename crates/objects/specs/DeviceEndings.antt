@@ -6,7 +6,7 @@ use Rattle.claim_queue.specs.declared.ends.QueueEnd.{QueueEnd}
 use Rattle.claim_queue.specs.Handles as queues
 use Rattle.claim_queue.specs.Lines.{lines_put, lines_taken}
 use Rattle.quajects.specs.Settled.{runs_of, shuts_of}
-use Rattle.table_theory.specs.declared.queues.Batch.{Batch}
+use Rattle.table_theory.specs.Interleaving.{Ascending}
 use mathlib.Core.Option.{some}
 use lib.ListN.{get_elem?}
 
@@ -22,16 +22,11 @@ AreWithout (b ∷ bytes) refused items =
     ((rest : List ℕ) × (items ≡ b ∷ rest) × AreWithout bytes refused rest)
     ⊎ ((fewer : ℕ) × (refused ≡ fewer + 1) × AreWithout bytes fewer items)
 
--- each run starts behind the one before it
-abbrev pub IsAscending : List Batch → Type 0
-IsAscending runs = (i j : ℕ) (e f : Batch) → get_elem? runs i ≡ some e → get_elem? runs j ≡ some f → i < j
-    → e.start < f.start
-
 -- A device popped the bytes typed, and put all but those refused at its end of the raw queue, one behind the other; it
 -- took nothing there, and shut nothing
 pub record DeviceEnded (p : PlannedTty) (raw : QueueEnd 64) (d : Device) : Type 0 where
   pub popped : d.popped ≡ p.typed
   pub put : AreWithout d.popped d.refused (concat (lines_put (queues.view_of raw)))
-  pub ascends : IsAscending (runs_of (queues.view_of raw))
+  pub ascends : Ascending (runs_of (queues.view_of raw))
   pub took_none : lines_taken (queues.view_of raw) ≡ []
   pub shut_none : shuts_of (queues.view_of raw) ≡ 0

@@ -16,7 +16,7 @@ use Rattle.event_theory.specs.Chains.{Chain, is_call}
 use Rattle.event_theory.specs.Lawful.{is_idle}
 use Rattle.table_theory.specs.Positioned.{blank, item_of, place_at, item_at}
 use Rattle.table_theory.specs.Filing.{ListedOnce}
-use Rattle.table_theory.specs.Listing.{runs_of, takes_of, Chained}
+use Rattle.table_theory.specs.Listing.{runs_of, takes_of, Adjacent}
 use Rattle.table_theory.proofs.QueueOf.{flat_of, long_is}
 use Rattle.table_theory.proofs.QueueEvents.{history_of, got}
 use Rattle.atomic_table.proofs.Lists.{at_map}
@@ -74,21 +74,21 @@ module _ {Q W : Type 0} (made : W → Q → List ℕ → Type 0) (fits : W → Q
       runs = l.runs;
       history = refl;
       once = subst (ListedOnce l.runs) (map-map runs_of part_of s.views) l.runs_filed;
-      side_by_side = subst (λ (z : ℕ). Chained z l.runs) k.first l.runs_chained;
+      side_by_side = subst (λ (z : ℕ). Adjacent z l.runs) k.first l.runs_adjacent;
       raised = λ run index. refl;
       takings = l.takes;
       taken_once = subst (ListedOnce l.takes) (map-map takes_of part_of s.views) l.takes_filed;
-      taken_in_order = subst (λ (z : ℕ). Chained z l.takes) k.first l.takes_chained;
+      taken_in_order = subst (λ (z : ℕ). Adjacent z l.takes) k.first l.takes_adjacent;
       taken_notes = ap (map item_of) l.takes_flat ∙ notes_are;
       capacity = h.room;
       is_open = h.is_open;
       long = h.wide;
-      small = let w = h.small in omega arith;
+      bounded = let w = h.bounded in omega arith;
       head = h.head ∙ (omega arith);
       tail = h.tail ∙ ap (λ (z : ℕ). z + q.taken) first;
       places = λ i from below. place_is i from (omega arith);
       gate = refl;
-      gate_word = k.gate.small;
+      gate_word = k.gate.bounded;
       runner = runner_is q (gate_in s.words) s.views k.gate;
       owing = λ call v at. sym (ap owes_in (got s.views call v at));
     };

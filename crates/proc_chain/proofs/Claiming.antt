@@ -37,7 +37,7 @@ shows_claim q words x new h is fits = let wide = h.wide in let long = length-app
   wide = length-set words 0 new ∙ h.wide;
   room = h.room;
   is_open = h.is_open;
-  small = omega arith;
+  bounded = omega arith;
   head = get_or-set_same words 0 new 0 (omega arith) ∙ (omega arith);
   tail = get_or-set_other words 0 1 new 0 (λ e. omega arith) ∙ h.tail;
   window = window_same (with_claim q (x ∷ [])) (mark_in words) (note_in words) (mark_in (set words 0 new)) (note_in (set words 0 new)) (window_claim q (x ∷ []) (mark_in words) (note_in words) h.window)
@@ -51,7 +51,7 @@ module _ {Q W : Type 0} (made : W → Q → List ℕ → Type 0) (fits : W → Q
 
   pub claims_head : (n id call : ℕ) (me : Me Q View) (old new x : ℕ) → call ≡ id → x < 65536 → new ≡ old + 1 → new < 4294967296 → old + 1 ≤ tail_of me.0.part.queue + me.0.part.queue.room → 1 ≤ me.0.member.ends
       → Allows (Rule made fits key) n id me 0 (λ y. either (eqb y old) new y) (claims call x (step n 0 old new none) me)
-  claims_head n id call me old new x own tiny is small room live s k _ at _ = let y : ℕ = get_or s.words 0 0 in let v : View = me.0 in let q : Positions = k.queue in let g = k.listed.seen id v.part (at_map part_of s.views id v at) in
+  claims_head n id call me old new x own tiny is bounded room live s k _ at _ = let y : ℕ = get_or s.words 0 0 in let v : View = me.0 in let q : Positions = k.queue in let g = k.listed.seen id v.part (at_map part_of s.views id v at) in
       exchanged y old new (Goes s 0 id me (claims call x (step n 0 old new none) me y))
       (λ hit. let hd = k.shows.head in let here : head_of q ≡ old = omega arith in
       let first = g.0.first in let same_room = g.0.room in let further = g.0.further in let behind = k.lawful.behind in
@@ -69,7 +69,7 @@ module _ {Q W : Type 0} (made : W → Q → List ℕ → Type 0) (fits : W → Q
           queue = q';
           first = k.first;
           lawful = lawful';
-          shows = shows_claim q s.words x new k.shows (omega arith) small;
+          shows = shows_claim q s.words x new k.shows (omega arith) bounded;
           listed = subst (ViewsShow q') (sym (map-set part_of s.views id w)) listed';
           gate = subst (λ (c : ℕ). GateShows q' c (set s.views id w)) (sym (keep 3 (λ e. omega arith))) (gated_same q q' (gate_in s.words) s.views id v w k.gate at refl refl (λ _. refl) (λ h. inl h) settled);
           slot = subst (λ (c : ℕ). SlotShows made fits key.pact q' c s.homes) (sym (keep 3 (λ e. omega arith))) (housed_on made fits key.pact q q' (gate_in s.words) s.homes k.slot (notes_same q q' (claim_grows q (x ∷ []) k.shows.is_open) refl behind));
@@ -151,7 +151,7 @@ module _ {Q W : Type 0} (made : W → Q → List ℕ → Type 0) (fits : W → Q
             wide = length-set s.words u x ∙ h.wide;
             room = h.room;
             is_open = h.is_open;
-            small = let a = h.small in omega arith;
+            bounded = let a = h.bounded in omega arith;
             head = other 0 (λ z. omega arith) ∙ (h.head ∙ (omega arith));
             tail = other 1 (λ z. omega arith) ∙ h.tail;
             window = window_write q p 2 (mark_in s.words) (note_in s.words) (mark_in words') (note_in words') h.window o.from o.to
@@ -173,7 +173,7 @@ module _ {Q W : Type 0} (made : W → Q → List ℕ → Type 0) (fits : W → Q
     wide = length-set words 3 y ∙ h.wide;
     room = h.room;
     is_open = h.is_open;
-    small = h.small;
+    bounded = h.bounded;
     head = get_or-set_other words 3 0 y 0 (λ e. omega arith) ∙ h.head;
     tail = get_or-set_other words 3 1 y 0 (λ e. omega arith) ∙ h.tail;
     window = window_same q (mark_in words) (note_in words) (mark_in (set words 3 y)) (note_in (set words 3 y)) h.window
@@ -246,5 +246,5 @@ module _ {Q W : Type 0} (made : W → Q → List ℕ → Type 0) (fits : W → Q
 
 -- the stored word tells where the run starts that was raised
 pub raised_at : (call : ℕ) (v w : View) (start note mark low word stored : ℕ) → note < 65536 → word ≡ place_word start → mark ≡ start + 1 → low ≡ note → stored ≡ mark * 65536 + low → Raised call v (stored / 65536 - 1) word stored w → Raised call v start (place_word start) (raised_word start note) w
-raised_at call v w start note mark low word stored small at mark_is low_is is r = let e : stored / 65536 - 1 ≡ start = omega arith in let e' : stored ≡ raised_word start note = omega arith in
+raised_at call v w start note mark low word stored bounded at mark_is low_is is r = let e : stored / 65536 - 1 ≡ start = omega arith in let e' : stored ≡ raised_word start note = omega arith in
     subst (λ (z : ℕ). Raised call v start (place_word start) z w) e' (subst (λ (z : ℕ). Raised call v start z stored w) at (subst (λ (z : ℕ). Raised call v z word stored w) e r))

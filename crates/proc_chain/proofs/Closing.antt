@@ -68,7 +68,7 @@ were_open v w found others t more is = let some = t.member.count.some_end in let
 pub record Spans (tail head : ℕ) : Type 0 where
   pub behind : tail ≤ head
   pub within : head ≤ tail + 32
-  pub small : head < 4294967296
+  pub bounded : head < 4294967296
 
 -- where one slot stands and it was emptied, none is filled
 pub emptied_slot : (before after : List Bool) (count k : ℕ) → after ≡ set before 0 false → count ≡ 1 → k < count → get_or after k false ≡ false
@@ -114,8 +114,8 @@ module _ {Q W : Type 0} (made : W → Q → List ℕ → Type 0) (fits : W → Q
   -- the tail and the head that are read of a closed chain
   pub spans : (id h t : ℕ) (w : View) (ws : List ℕ) (xs : List Q) → Final (Seen (Rule made fits key) id w) ws xs → get_elem? ws 0 ≡ maybe.some h → get_elem? ws 1 ≡ maybe.some t → Spans t h
   spans id h t w ws xs fin at_h at_t = let k = fin.1.0 in let q : Positions = k.queue in let sh : WordsShow q ws = subst (WordsShow q) fin.2 k.shows in
-      let hd : h ≡ head_of q = sym (read_word ws 0 h at_h) ∙ sh.head in let tl : t ≡ q.first + q.taken = sym (read_word ws 1 t at_t) ∙ sh.tail in let behind = k.lawful.behind in let within = k.lawful.within in let room = sh.room in let low = sh.small in
-      record { behind = omega arith; within = omega arith; small = omega arith }
+      let hd : h ≡ head_of q = sym (read_word ws 0 h at_h) ∙ sh.head in let tl : t ≡ q.first + q.taken = sym (read_word ws 1 t at_t) ∙ sh.tail in let behind = k.lawful.behind in let within = k.lawful.within in let room = sh.room in let low = sh.bounded in
+      record { behind = omega arith; within = omega arith; bounded = omega arith }
 
   pub closes : (v w : View) (found id h t put taken at : ℕ) (ws : List ℕ) (xs : List Q) (x : Q) (left : List (Option ℕ)) → key.first ≡ at → Tallied v found w → found ≡ 1 → v.runner ≡ false → v.owes ≡ false → AllRaised v.part.runs
       → Final (Seen (Rule made fits key) id w) ws xs → get_elem? ws 0 ≡ maybe.some h → get_elem? ws 1 ≡ maybe.some t → get_elem? xs 0 ≡ maybe.some x → put ≡ h - key.first → taken ≡ t - key.first → left ≡ left_from ws t (h - t) → ClosedNow (made key.pact) (fits key.pact) v at put taken left x

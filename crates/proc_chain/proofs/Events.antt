@@ -20,7 +20,7 @@ use Rattle.event_theory.specs.Chains.{Chain, with_number, is_call, owes, forgott
 use Rattle.event_theory.specs.Lawful.{IsLawfulChain, is_idle}
 use Rattle.table_theory.specs.Positioned.{blank, item_of, place_at, written_at, head_of, tail_of, Lawful, fresh, with_claim, with_write, with_take}
 use Rattle.table_theory.specs.Filing.{Owned}
-use Rattle.table_theory.specs.Listing.{all_places, runs_of, Chained, Later, ViewsShow, written_to}
+use Rattle.table_theory.specs.Listing.{all_places, runs_of, Adjacent, Later, ViewsShow, written_to}
 use Rattle.table_theory.specs.QueueOf.{run_in, is_up, queue_of}
 use Rattle.event_theory.proofs.Lists.Histories.{length-pairs_from, length-pairs_of}
 use Rattle.table_theory.proofs.Logs.{lies}
@@ -83,7 +83,7 @@ pair_in number first [] k within = absurd (omega arith)
 pair_in number first (x ∷ xs) zero within = ap (λ (n : ℕ). Some (number, n)) (sym (add-zero first))
 pair_in number first (x ∷ xs) (suc k) within = let e : first + 1 + k ≡ first + suc k = omega arith in pair_in number (first + 1) xs k (omega arith) ∙ ap (λ (n : ℕ). Some (number, n)) e
 
-pub pair_there : (number first p k i : ℕ) (runs : Log) (o : Owned Batch) → Chained first runs → get_elem? runs k ≡ some o → i < length o.2.places → o.2.start + i ≡ first + p → slice_get (pairs_from number (map run_in runs)) p ≡ Some (number + k, i)
+pub pair_there : (number first p k i : ℕ) (runs : Log) (o : Owned Batch) → Adjacent first runs → get_elem? runs k ≡ some o → i < length o.2.places → o.2.start + i ≡ first + p → slice_get (pairs_from number (map run_in runs)) p ≡ Some (number + k, i)
 pair_there number first p k i [] o c at below is = absurd (some-ne-none o (sym at))
 pair_there number first p zero i (x ∷ xs) o c at below is =
     let same : x ≡ o = some-injective x o at in let st : o.2.start ≡ first = ap (λ (z : Owned Batch). z.2.start) (sym same) ∙ c.0 in let here : p ≡ i = omega arith in
@@ -119,7 +119,7 @@ not_forgotten q gate views l settled = let c : Chain = chain_of q l.runs gate vi
     ap (forgotten c) (slice_get-get_or ps t (0, 0) (omega arith)) ∙ (rw (e) refl))
     (λ up. let o = settled (omega arith) in let f = l.runs_filed.listed o.owner o.view.part.runs o.number o.run (at_map runs_of (map part_of views) o.owner o.view.part (at_map part_of views o.owner o.view o.is_view)) o.has in
     let entry : Owned Batch = (o.owner, o.number, o.run) in let solid = l.solid f.0 entry f.1 in let st = o.start in
-    let there = pair_there 0 q.first t f.0 0 l.runs entry l.runs_chained f.1 solid (omega arith) in
+    let there = pair_there 0 q.first t f.0 0 l.runs entry l.runs_adjacent f.1 solid (omega arith) in
     let run : slice_get c.notes.history (0 + f.0) ≡ Some (run_in entry) = ap (slice_get (map run_in l.runs)) (zero-add f.0) ∙ (slice_get-map run_in l.runs f.0 ∙ ap (option_map run_in) (got l.runs f.0 entry f.1)) in
     let owed : owes c (slice_get c.notes.history (0 + f.0)) ≡ true = ap (owes c) run ∙ (ap owes_in (got views o.owner o.view o.is_view) ∙ o.owes) in
     ap (forgotten c) there ∙ (ap (λ (z : Bool). is_raised c.notes (0 + f.0, 0) && not z) owed ∙ and_false (is_raised c.notes (0 + f.0, 0)))))
@@ -146,7 +146,7 @@ chain_is_lawful q gate views l lawful g = record {
 -- the events on any chain
 
 claim_note_goes : (call x : ℕ) (c : Chain) (r : Queue) → x < 65536 → claim 1 call (x ∷ []) c.notes ≡ Ok r → claim_note call (x ∷ []) c ≡ Ok (record c { notes = r })
-claim_note_goes call x c r small h = let a : ltb 65535 x ≡ false = grind (arith, nat_tests) in rw (a, h) refl
+claim_note_goes call x c r bounded h = let a : ltb 65535 x ≡ false = grind (arith, nat_tests) in rw (a, h) refl
 
 raise_note_goes : (call number i : ℕ) (c : Chain) (r : Queue) → raise call number i c.notes ≡ Ok r → raise_note call number i c ≡ Ok (record c { notes = r; owing = with_number true call c.owing })
 raise_note_goes call number i c r h = rw (h) refl
@@ -189,14 +189,14 @@ module _ (q : Positions) (gate : ℕ) (views : List View) (id : ℕ) (v w : View
   pub claim_event : (x : ℕ) → x < 65536 → length q.places + 1 ≤ q.taken + q.room → q.shut ≡ false → w.part.runs ≡ v.part.runs ++ record { start = head_of q; places = map fresh (x ∷ []) } ∷ [] → w.part.takes ≡ v.part.takes → Later w.part (with_claim q (x ∷ []))
       → w.runner ≡ v.runner → w.owes ≡ v.owes → IsChainEvent q (with_claim q (x ∷ [])) gate gate id v w (claim_note id (x ∷ []))
   unfolding listed_claim
-  claim_event x small room is_open runs takes grown runner owing = let xs : List ℕ = x ∷ [] in let behind = lawful.behind in let n = left_long q l.runs l.runs_flat in
+  claim_event x bounded room is_open runs takes grown runner owing = let xs : List ℕ = x ∷ [] in let behind = lawful.behind in let n = left_long q l.runs l.runs_flat in
       let c : Chain = chain_of q l.runs gate views in record {
         views = views;
         here = at;
         shown = l;
         new_shown = listed_claim q (map part_of views) id v.part w.part xs l at_part behind is_open (omega arith) runs takes grown;
         lawful = chain_is_lawful q gate views l lawful g;
-        made = claim_note_goes id x c (after_claim id xs c.notes) small (claim_goes 1 id xs c.notes (omega arith) (omega arith) is_open (omega arith))
+        made = claim_note_goes id x c (after_claim id xs c.notes) bounded (claim_goes 1 id xs c.notes (omega arith) (omega arith) is_open (omega arith))
             ∙ ap Ok (same_chain (after_claim id xs c.notes) (queue_of (with_claim q xs) (l.runs ++ (id, length v.part.runs, record { start = head_of q; places = map fresh xs }) ∷ [])) c.gate c.gate c.runner (runner_from 0 (set views id w)) c.owing (λ call. owes_in (slice_get (set views id w) call))
             (claimed_is q l.runs id (length v.part.runs) xs) refl (sym (runner_set 0 id views v w at runner)) (owing_same views id v w at owing));
       }

@@ -48,7 +48,7 @@ runs_set views id v w at r o = dite (ℕ_discrete o.number id)
 pub gated_same : (q q' : Positions) (gate : ℕ) (views : List View) (id : ℕ) (v w : View) → GateShows q gate views → get_elem? views id ≡ some v → w.runner ≡ v.runner → q'.taken ≡ q.taken → (w.runner ≡ true → w.part.queue.taken ≡ q'.taken)
     → (w.saw ≡ true → (v.saw ≡ true) ⊎ IsSettled q' (set views id w)) → (IsSettled q views → IsSettled q' (set views id w)) → GateShows q' gate (set views id w)
 gated_same q q' gate views id v w g at r taken sees saw settled = record {
-  small = g.small;
+  bounded = g.bounded;
   runs = λ up. runs_set views id v w at r (g.runs up);
   still = λ down j u has. ⊎_elim (λ t. ap (λ (z : View). z.runner) (sym t.1) ∙ (r ∙ g.still down id v at)) (λ t. g.still down j u t.1) (at_set views id j w u has);
   sole = λ i j x y has has' up up'. let a = was views id i v w x at r has up in let b = was views id j v w y at r has' up' in g.sole i j a.0 b.0 a.1 b.1 a.2 b.2;
@@ -62,8 +62,8 @@ gated_same q q' gate views id v w g at r taken sees saw settled = record {
 -- a step of an end that then alone has the turn, at a gate that is not idle
 pub gated_runs : (q' : Positions) (gate' : ℕ) (views : List View) (id : ℕ) (v w : View) → get_elem? views id ≡ some v → ((j : ℕ) (u : View) → get_elem? views j ≡ some u → j ≢ id → u.runner ≡ false) → gate' ≢ 0 → gate' ≤ 2
     → w.runner ≡ true → w.saw ≡ false → w.part.queue.taken ≡ q'.taken → GateShows q' gate' (set views id w)
-gated_runs q' gate' views id v w at others up small r no_saw sees = let mine : (j : ℕ) (u : View) → get_elem? (set views id w) j ≡ some u → u.runner ≡ true → (j ≡ id) × (w ≡ u) = λ j u has is. ⊎_elim (λ t. t) (λ t. absurd (true≢false (sym is ∙ others j u t.1 t.0))) (at_set views id j w u has) in record {
-  small = small;
+gated_runs q' gate' views id v w at others up bounded r no_saw sees = let mine : (j : ℕ) (u : View) → get_elem? (set views id w) j ≡ some u → u.runner ≡ true → (j ≡ id) × (w ≡ u) = λ j u has is. ⊎_elim (λ t. t) (λ t. absurd (true≢false (sym is ∙ others j u t.1 t.0))) (at_set views id j w u has) in record {
+  bounded = bounded;
   runs = λ _. record { number = id; view = w; is_view = set_here views id w (at_below views id v at); runner = r };
   still = λ down. absurd (up down);
   sole = λ i j x y has has' is is'. (mine i x has is).0 ∙ sym (mine j y has' is').0;
@@ -81,7 +81,7 @@ gate_up q gate views id v g at r down = absurd (true≢false (sym r ∙ g.still 
 -- the gate becomes More where it was not idle
 pub gated_more : (q : Positions) (gate : ℕ) (views : List View) (id : ℕ) (v w : View) → GateShows q gate views → get_elem? views id ≡ some v → gate ≢ 0 → w.runner ≡ v.runner → w.part.queue.taken ≡ q.taken → GateShows q 2 (set views id w)
 gated_more q gate views id v w g at up r sees = record {
-  small = omega arith;
+  bounded = omega arith;
   runs = λ _. runs_set views id v w at r (g.runs up);
   still = λ down. absurd (omega arith);
   sole = λ i j x y has has' is is'. let a = was views id i v w x at r has is in let b = was views id j v w y at r has' is' in g.sole i j a.0 b.0 a.1 b.1 a.2 b.2;
@@ -93,7 +93,7 @@ gated_more q gate views id v w g at up r sees = record {
 -- the runner leaves, having seen that the first note left was not raised
 pub gated_leaves : (q : Positions) (views : List View) (id : ℕ) (v w : View) → GateShows q 1 views → get_elem? views id ≡ some v → v.runner ≡ true → v.saw ≡ true → w.runner ≡ false → w.owes ≡ v.owes → w.part.runs ≡ v.part.runs → GateShows q 0 (set views id w)
 gated_leaves q views id v w g at r sw down owes same = let none : (j : ℕ) (u : View) → get_elem? (set views id w) j ≡ some u → u.runner ≡ false = λ j u has. ⊎_elim (λ t. ap (λ (z : View). z.runner) (sym t.1) ∙ down) (λ t. others_still q 1 views id v g at r j u t.1 t.0) (at_set views id j w u has) in record {
-  small = omega arith;
+  bounded = omega arith;
   runs = λ up. absurd (up refl);
   still = λ _. none;
   sole = λ i j x y has has' is is'. absurd (true≢false (sym is ∙ none i x has));
@@ -105,7 +105,7 @@ gated_leaves q views id v w g at r sw down owes same = let none : (j : ℕ) (u :
 pub gated_new : (q : Positions) (gate : ℕ) (views : List View) (w : View) → GateShows q gate views → w.runner ≡ false → GateShows q gate (views ++ w ∷ [])
 gated_new q gate views w g r = let old : (j : ℕ) (u : View) → get_elem? (views ++ w ∷ []) j ≡ some u → u.runner ≡ true → get_elem? views j ≡ some u = λ j u has is. ⊎_elim (λ t. t) (λ t. absurd (true≢false (sym is ∙ (ap (λ (z : View). z.runner) (sym t.1) ∙ r)))) (at_push views w u j has) in
     let settled : IsSettled q views → IsSettled q (views ++ w ∷ []) = λ s up. let o = s up in record { owner = o.owner; view = o.view; is_view = at_longer views (w ∷ []) o.owner o.view o.is_view; owes = o.owes; number = o.number; run = o.run; has = o.has; start = o.start } in record {
-      small = g.small;
+      bounded = g.bounded;
       runs = λ up. let o = g.runs up in record { number = o.number; view = o.view; is_view = at_longer views (w ∷ []) o.number o.view o.is_view; runner = o.runner };
       still = λ down j u has. ⊎_elim (λ t. g.still down j u t) (λ t. ap (λ (z : View). z.runner) (sym t.1) ∙ r) (at_push views w u j has);
       sole = λ i j x y has has' is is'. g.sole i j x y (old i x has is) (old j y has' is') is is';

@@ -76,7 +76,7 @@ module _ (views : List View) (id : ℕ) (v e : View) (at : get_elem? views id �
   gated_moved : (q : Positions) (gate : ℕ) → GateShows q gate views → e.runner ≡ false → GateShows q gate new
   gated_moved q gate g down = let was : (j : ℕ) (u : View) → get_elem? new j ≡ some u → u.runner ≡ true → Was j u = λ j u has up. ⊎_elim (λ t. absurd (true≢false (sym up ∙ (ap (λ (z : View). z.runner) (sym t) ∙ down)))) (λ t. t) (moved_from j u has) in
       let settled : IsSettled q views → IsSettled q new = λ s up. let o = s up in let m = moved_to o.owner o.view o.is_view in record { owner = m.0; view = o.view; is_view = m.1; owes = o.owes; number = o.number; run = o.run; has = o.has; start = o.start } in record {
-        small = g.small;
+        bounded = g.bounded;
         runs = λ up. let r = g.runs up in let m = moved_to r.number r.view r.is_view in record { number = m.0; view = r.view; is_view = m.1; runner = r.runner };
         still = λ zero_gate j u has. ⊎_elim (λ t. ap (λ (z : View). z.runner) (sym t) ∙ down) (λ t. g.still zero_gate t.0 u t.1) (moved_from j u has);
         sole = λ i j x y has has' up up'. let a = was i x has up in let b = was j y has' up' in one_place i j x y a b (g.sole a.0 b.0 x y a.1 b.1 up up');

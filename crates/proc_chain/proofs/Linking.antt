@@ -39,11 +39,11 @@ loaded_head : (v w : View) (head : ℕ) → Found v head_word head w → head �
 loaded_head v w head f = f.is ∙ f.shows.head
 
 pub was_full : (v l w : View) (head tail : ℕ) → Found v head_word head l → Found l tail_word tail w → head < 4294967295 → tail + 32 < head + 1 → WasFull v head tail w
-was_full v l w head tail f g small past = let h = loaded_head v l head f in let t : tail ≡ tail_of w.part.queue = g.is ∙ g.shows.tail in let grows = g.sees.later.0 in let first = grows.first in let further = grows.further in
-    record { loaded = l; head_loaded = f; tail_loaded = g; position = small; full = omega arith; was_full = omega arith }
+was_full v l w head tail f g bounded past = let h = loaded_head v l head f in let t : tail ≡ tail_of w.part.queue = g.is ∙ g.shows.tail in let grows = g.sees.later.0 in let first = grows.first in let further = grows.further in
+    record { loaded = l; head_loaded = f; tail_loaded = g; position = bounded; full = omega arith; was_full = omega arith }
 
 pub found_room : (v l w : View) (head tail : ℕ) → Found v head_word head l → Found l tail_word tail w → head < 4294967295 → head + 1 ≤ tail + 32 → FoundRoom v head w
-found_room v l w head tail f g small room = record { tail = tail; loaded = l; head_loaded = f; tail_loaded = g; position = small; fits = omega arith }
+found_room v l w head tail f g bounded room = record { tail = tail; loaded = l; head_loaded = f; tail_loaded = g; position = bounded; fits = omega arith }
 
 -- the room that was found is left in the queue
 pub room_left : (w : View) (head tail : ℕ) → tail ≡ tail_of w.part.queue → w.part.queue.room ≡ 32 → head + 1 ≤ tail + 32 → head + 1 ≤ tail_of w.part.queue + w.part.queue.room
@@ -51,7 +51,7 @@ room_left w head tail is room fits = omega arith
 
 -- behind a head below the last position there is a position
 pub next_position : (head : ℕ) → head < 4294967295 → head + 1 < 4294967296
-next_position head small = omega arith
+next_position head bounded = omega arith
 
 pub was_lost : (v b w : View) (first found : ℕ) → FoundRoom v first b → Found b head_word found w → found ≢ first → WasLost v found w
 was_lost v b w first found r f ne = let h = loaded_head v r.loaded first r.head_loaded in let h' = loaded_head b w found f in let g = r.tail_loaded.sees.later.0 in let g' = f.sees.later.0 in
@@ -93,13 +93,13 @@ pub record Looks (v w : View) : Type 0 where
   pub stays : Stays v w
   pub owes : w.owes ≡ v.owes
   pub runs : w.part.runs ≡ v.part.runs
-  pub small : head_of w.part.queue < 4294967296
+  pub bounded : head_of w.part.queue < 4294967296
 
 pub looks_found : (v w : View) (word found : ℕ) → v.part.queue.taken ≤ length v.part.queue.places → Found v word found w → Looks v w
-looks_found v w word found behind s = record { stays = stays_found v w word found behind s; owes = ap (λ (z : View). z.owes) s.same; runs = ap (λ (z : View). z.part.runs) s.same; small = s.sees.small }
+looks_found v w word found behind s = record { stays = stays_found v w word found behind s; owes = ap (λ (z : View). z.owes) s.same; runs = ap (λ (z : View). z.part.runs) s.same; bounded = s.sees.bounded }
 
 pub looks_on : (u v w : View) → Looks u v → Looks v w → Looks u w
-looks_on u v w a b = record { stays = stays_on u v w a.stays b.stays; owes = b.owes ∙ a.owes; runs = b.runs ∙ a.runs; small = b.small }
+looks_on u v w a b = record { stays = stays_on u v w a.stays b.stays; owes = b.owes ∙ a.owes; runs = b.runs ∙ a.runs; bounded = b.bounded }
 
 stays_claimed : (call : ℕ) (v w : View) (head x : ℕ) → v.part.queue.taken ≤ length v.part.queue.places → Claimed call v head x w → Stays v w
 stays_claimed call v w head x behind s = let q : Positions = s.queue in stays_by v w q (with_claim q (x ∷ [])) behind (ap (λ (z : View). z.part.queue) s.same) (ap (λ (z : View). z.runner) s.same) (ap (λ (z : View). z.member.ends) s.same) s.sees s.turn (claim_grows q (x ∷ []) s.is_open) refl s.after_it
@@ -156,10 +156,10 @@ is_past v w head f m e has = let h = loaded_head v w head f in let st = sees_own
 
 -- all that one end does up to its notify
 pub link : (call c d : ℕ) (v l b w x : View) (head tail note : ℕ) → c ≡ call → d ≡ call → Found v head_word head l → Found l tail_word tail b → head < 4294967295 → head + 1 ≤ tail + 32 → Claimed c b head note w → Raised d w head (place_word head) (raised_word head note) x → Linked call v note x
-link call c d v l b w x head tail note same same' f g small room claimed raised = record {
+link call c d v l b w x head tail note same same' f g bounded room claimed raised = record {
   head = head;
   before = b;
-  found = found_room v l b head tail f g small room;
+  found = found_room v l b head tail f g bounded room;
   between = w;
   claimed = subst (λ (z : ℕ). Claimed z b head note w) same claimed;
   raised = subst (λ (z : ℕ). Raised z w head (place_word head) (raised_word head note) x) same' raised;
@@ -299,5 +299,5 @@ all_join l m n is a b = subst AllRaised (sym is) (all_append l m a b)
 
 -- an end that knows of nothing done has taken no more than was claimed, and lists no run
 pub of_newcomer : (first : ℕ) (v : View) → v ≡ view_from first first_member → first < 4294967296 → (v.part.queue.taken ≤ length v.part.queue.places) × (head_of v.part.queue < 4294967296) × Distinct v.part.runs × AllRaised v.part.runs
-of_newcomer first v is small = let n : View = view_from first first_member in subst (λ (z : View). (z.part.queue.taken ≤ length z.part.queue.places) × (head_of z.part.queue < 4294967296) × Distinct z.part.runs × AllRaised z.part.runs) (sym is)
+of_newcomer first v is bounded = let n : View = view_from first first_member in subst (λ (z : View). (z.part.queue.taken ≤ length z.part.queue.places) × (head_of z.part.queue < 4294967296) × Distinct z.part.runs × AllRaised z.part.runs) (sym is)
     (omega arith, omega arith, (λ m k e f has. absurd (some-ne-none e (sym has))), λ m e has. absurd (some-ne-none e (sym has)))

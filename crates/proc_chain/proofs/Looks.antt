@@ -72,7 +72,7 @@ module _ {Q W : Type 0} (made : W → Q → List ℕ → Type 0) (fits : W → Q
       kept_word s k i id found v w at refl refl refl live refl refl (gated_same k.queue k.queue (gate_in s.words) s.views id v w k.gate at refl refl (λ _. refl) (λ h. inl h) (settled_look k.queue s.views id v w at refl refl))
 
   pub sees_of : (s : State Q View) (k : Rule made fits key s) (id : ℕ) (v : View) → get_elem? s.views id ≡ some v → Sees v.part k.queue
-  sees_of s k id v at = sees_now k.queue (map part_of s.views) id v.part k.listed (at_map part_of s.views id v at) k.lawful k.shows.small
+  sees_of s k id v at = sees_now k.queue (map part_of s.views) id v.part k.listed (at_map part_of s.views id v at) k.lawful k.shows.bounded
 
   pub turn_of : (s : State Q View) (k : Rule made fits key s) (id : ℕ) (v : View) → get_elem? s.views id ≡ some v → KeepsTaken v k.queue
   turn_of s k id v at r = sym (k.gate.takes id v at r)

@@ -49,11 +49,11 @@ module _ {Q : Type 0} (made : Q → List ℕ → Type 0) (fits : Q → Type 0) (
   more_as other v w c d e same held l = subst (λ (z : List (ℕ × Q)). FoundMore made fits call (v, z) (w, e)) held (subst (λ (z : ℕ). FoundMore made fits z (v, d) (w, e)) same l)
 
   pub serves_none : (m : Me Q View) (limit : ℕ) → limit ≡ 0 → m.0.part.queue.taken ≤ length m.0.part.queue.places → head_of m.0.part.queue < 4294967296 → IsServing made fits call m limit 0 false m
-  serves_none m limit is behind small = subst (λ (z : ℕ). IsServing made fits call m z 0 false m) (sym is) record {
+  serves_none m limit is behind bounded = subst (λ (z : ℕ). IsServing made fits call m z 0 false m) (sym is) record {
     uses = [];
     how = (refl, refl);
     number = refl;
-    served = served_still m.0 behind small (grows_refl m.0.part.queue);
+    served = served_still m.0 behind bounded (grows_refl m.0.part.queue);
   }
 
   -- one serving more, at the end
@@ -159,7 +159,7 @@ pub found_none : (v u w : View) (tail found : ℕ) → Found v tail_word tail u 
 found_none v u w tail found f low miss = record { tail = tail; loaded = u; tail_loaded = f; found = found; place_loaded = low; no_mark = miss }
 
 -- the runner found a note raised at the first place left
-module _ (v t u : View) (tail note : ℕ) (runner : v.runner ≡ true) (room : v.part.queue.room ≡ 32) (behind : v.part.queue.taken ≤ length v.part.queue.places) (a : Found v tail_word tail t) (at : tail ≡ tail_of t.part.queue) (small : note < 65536)
+module _ (v t u : View) (tail note : ℕ) (runner : v.runner ≡ true) (room : v.part.queue.room ≡ 32) (behind : v.part.queue.taken ≤ length v.part.queue.places) (a : Found v tail_word tail t) (at : tail ≡ tail_of t.part.queue) (bounded : note < 65536)
     (b : Found t (place_word tail) (raised_word tail note) u) where
   runner_on : t.runner ≡ true
   runner_on = ap (λ (z : View). z.runner) a.same ∙ runner
@@ -171,16 +171,16 @@ module _ (v t u : View) (tail note : ℕ) (runner : v.runner ≡ true) (room : v
   looked_twice = let first = served_found v t tail_word tail runner behind a in served_on v t u [] [] first (served_found t u (place_word tail) (raised_word tail note) runner_on first.behind b)
 
   pub up_now : 2 ≤ written_at u.part.queue u.part.queue.taken
-  up_now = found_up t u tail note runner_on room_on at small b
+  up_now = found_up t u tail note runner_on room_on at bounded b
 
   pub tail_now : tail ≡ tail_of u.part.queue
-  tail_now = tail_same t u tail note runner_on room_on at small b
+  tail_now = tail_same t u tail note runner_on room_on at bounded b
 
   pub ran_note : {Q : Type 0} (made : Q → List ℕ → Type 0) (fits : Q → Type 0) (call : ℕ) (c d e : List (ℕ × Q)) (w x : View) → d ≡ c → Took made fits call (u, d) (tail + 1) w → x ≡ w → ((notes : List ℕ) → Carries made fits notes [] d → Carries made fits (notes ++ note ∷ []) [] e)
       → Carries made fits (notes_of v.part.queue) [] c → RanNote made fits call (v, c) note (x, e) × HasServed v (note ∷ []) x × Carries made fits (notes_of x.part.queue) [] e
   ran_note {Q} made fits call c d e w x same took is run carries = let looks = looked_twice in let up = up_now in
       let held : Carries made fits (notes_of u.part.queue) [] d = carries_to made fits v u c d looks same carries in
-      let item = found_note t u tail note runner_on room_on at small b in let served = subst (λ (z : ℕ). HasServed u (z ∷ []) w) (sym item) (served_took made fits call (u, d) (tail + 1) w looks.behind up took) in
+      let item = found_note t u tail note runner_on room_on at bounded b in let served = subst (λ (z : ℕ). HasServed u (z ∷ []) w) (sym item) (served_took made fits call (u, d) (tail + 1) w looks.behind up took) in
       let now : Carries made fits (notes_of w.part.queue) [] e = carries_notes made fits (notes_of u.part.queue ++ note ∷ []) (notes_of w.part.queue) e (sym served.notes) (run (notes_of u.part.queue) held) in
       let taken : Took made fits call (u, c) (tail + 1) w = subst (λ (z : List (ℕ × Q)). Took made fits call (u, z) (tail + 1) w) same took in
       subst (λ (z : View). RanNote made fits call (v, c) note (z, e) × HasServed v (note ∷ []) z × Carries made fits (notes_of z.part.queue) [] e) (sym is) (
@@ -191,4 +191,4 @@ module _ (v t u : View) (tail note : ℕ) (runner : v.runner ≡ true) (room : v
 
 -- fewer notes than positions were run
 pub few_run : (v w : View) (ns : List ℕ) → HasServed v ns w → length ns < 4294967296
-few_run v w ns s = let taken = s.taken in let behind = s.behind in let small = s.small in omega arith
+few_run v w ns s = let taken = s.taken in let behind = s.behind in let bounded = s.bounded in omega arith

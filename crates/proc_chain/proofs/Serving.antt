@@ -34,7 +34,7 @@ shows_take q words new h l below is = let wide = h.wide in record {
   wide = length-set words 1 new ∙ h.wide;
   room = h.room;
   is_open = h.is_open;
-  small = h.small;
+  bounded = h.bounded;
   head = get_or-set_other words 1 0 new 0 (λ e. omega arith) ∙ h.head;
   tail = get_or-set_same words 1 new 0 (omega arith) ∙ (omega arith);
   window = window_same (with_take q 1) (mark_in words) (note_in words) (mark_in (set words 1 new)) (note_in (set words 1 new)) (window_take q 1 (mark_in words) (note_in words) h.window l below)
@@ -78,7 +78,7 @@ module _ {Q W : Type 0} (made : W → Q → List ℕ → Type 0) (fits : W → Q
           lawful = lawful';
           shows = shows_take q s.words new k.shows k.lawful lawful'.behind (omega arith);
           listed = subst (ViewsShow q') (sym (map-set part_of s.views id w)) (listed_take q (map part_of s.views) id 1 v.part w.part k.listed (at_map part_of s.views id v at) (omega arith) lawful'.behind refl refl (grows_refl q', grows_refl q'));
-          gate = subst (λ (c : ℕ). GateShows q' c (set s.views id w)) (sym (keep 3 (λ e. omega arith))) (gated_runs q' (gate_in s.words) s.views id v w at (others_still q (gate_in s.words) s.views id v k.gate at r) not_idle k.gate.small r refl refl);
+          gate = subst (λ (c : ℕ). GateShows q' c (set s.views id w)) (sym (keep 3 (λ e. omega arith))) (gated_runs q' (gate_in s.words) s.views id v w at (others_still q (gate_in s.words) s.views id v k.gate at r) not_idle k.gate.bounded r refl refl);
           slot = subst (λ (c : ℕ). SlotShows made fits key.pact q' c s.homes) (sym (keep 3 (λ e. omega arith))) record { home = λ down. absurd (not_idle down); held = k.slot.held };
           undoubled = undoubled_set s.views id w k.undoubled (k.undoubled id v at);
           ends = subst (λ (c : ℕ). EndsKnown member_of IsIdle c (set s.views id w)) (sym (keep 2 (λ e. omega arith))) (known_look member_of IsIdle (get_or s.words 2 0) s.views id v w k.ends at refl (λ none. absurd (omega arith)));
@@ -155,7 +155,7 @@ module _ {Q W : Type 0} (made : W → Q → List ℕ → Type 0) (fits : W → Q
           λ miss. absurd (miss hit),
         ),
       ))
-      (λ miss. let small = k.gate.small in (looked v 3 y (steps_to k) (moment q y), keeps, tt, kept_look made fits key s k 3 id y v at live, ((λ hit. absurd (miss hit)), λ _. (refl, found_now made fits key s k 3 id v at, (let f : y ≢ 0 = not_idle in let m : y ≢ 1 = miss in omega arith)))))
+      (λ miss. let bounded = k.gate.bounded in (looked v 3 y (steps_to k) (moment q y), keeps, tt, kept_look made fits key s k 3 id y v at live, ((λ hit. absurd (miss hit)), λ _. (refl, found_now made fits key s k 3 id v at, (let f : y ≢ 0 = not_idle in let m : y ≢ 1 = miss in omega arith)))))
 
 -- the runner read the word of the raised place
 pub read_raised : (v w : View) (tail mark note word found : ℕ) → tail ≡ tail_of v.part.queue → mark ≡ found / 65536 → note ≡ found % 65536 → LookedAtFirst v word found w → mark ≡ tail + 1 → Found v word (raised_word tail note) w

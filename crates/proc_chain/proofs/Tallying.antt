@@ -33,7 +33,7 @@ shows_count q words y h = record {
   wide = length-set words 2 y ∙ h.wide;
   room = h.room;
   is_open = h.is_open;
-  small = h.small;
+  bounded = h.bounded;
   head = get_or-set_other words 2 0 y 0 (λ e. omega arith) ∙ h.head;
   tail = get_or-set_other words 2 1 y 0 (λ e. omega arith) ∙ h.tail;
   window = window_same q (mark_in words) (note_in words) (mark_in (set words 2 y)) (note_in (set words 2 y)) h.window
@@ -178,7 +178,7 @@ module _ {Q W : Type 0} (made : W → Q → List ℕ → Type 0) (fits : W → Q
   -- the table as it is made
   pub opens : (x : Q) (words : List ℕ) → key.first < 4294967296 → length words ≡ 36 → get_or words 0 0 ≡ key.first → get_or words 1 0 ≡ key.first → get_or words 2 0 ≡ 1
       → ((j : ℕ) → 3 ≤ j → get_or words j 0 ≡ 0) → made key.pact x [] → fits key.pact x → Rule made fits key (opening words (x ∷ []) (newcomer key))
-  opens x words small long head tail ends rest is_made is_fit = let q : Positions = empty_from key.first in let w : View = newcomer key in let down : gate_in words ≡ 0 = rest 3 (omega arith) in let nobody = first_gated q w refl refl in record {
+  opens x words bounded long head tail ends rest is_made is_fit = let q : Positions = empty_from key.first in let w : View = newcomer key in let down : gate_in words ≡ 0 = rest 3 (omega arith) in let nobody = first_gated q w refl refl in record {
     queue = q;
     first = refl;
     lawful = record { behind = omega arith; within = omega arith; ready = λ i h. absurd (omega arith) };
@@ -186,7 +186,7 @@ module _ {Q W : Type 0} (made : W → Q → List ℕ → Type 0) (fits : W → Q
       wide = long;
       room = refl;
       is_open = refl;
-      small = omega arith;
+      bounded = omega arith;
       head = omega arith;
       tail = omega arith;
       window = record {
@@ -200,7 +200,7 @@ module _ {Q W : Type 0} (made : W → Q → List ℕ → Type 0) (fits : W → Q
     };
     listed = listed_first q w.part refl refl refl refl (grows_refl q, grows_refl q);
     gate = record {
-      small = omega arith;
+      bounded = omega arith;
       runs = λ up. absurd (up down);
       still = λ _. nobody;
       sole = λ i j u v has has' is is'. absurd (true≢false (sym is ∙ nobody i u has));
@@ -215,4 +215,4 @@ module _ {Q W : Type 0} (made : W → Q → List ℕ → Type 0) (fits : W → Q
   }
 
   pub opens_new : (x : Q) (xs : List Q) → key.first < 4294967296 → xs ≡ x ∷ [] → made key.pact x [] → fits key.pact x → Rule made fits key (opening (key.first ∷ key.first ∷ 1 ∷ replicate 33 0) xs (newcomer key))
-  opens_new x xs small is is_made is_fit = let f : ℕ = key.first in subst (λ (z : List Q). Rule made fits key (opening (f ∷ f ∷ 1 ∷ replicate 33 0) z (newcomer key))) (sym is) (opens x (f ∷ f ∷ 1 ∷ replicate 33 0) small refl refl refl refl (zeros f) is_made is_fit)
+  opens_new x xs bounded is is_made is_fit = let f : ℕ = key.first in subst (λ (z : List Q). Rule made fits key (opening (f ∷ f ∷ 1 ∷ replicate 33 0) z (newcomer key))) (sym is) (opens x (f ∷ f ∷ 1 ∷ replicate 33 0) bounded refl refl refl refl (zeros f) is_made is_fit)

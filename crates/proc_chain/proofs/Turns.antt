@@ -23,7 +23,7 @@ served_on u v w ms ns a b = let at = a.taken in let bt = b.taken in let n = leng
   taken = omega arith;
   grows = grows_trans u.part.queue v.part.queue w.part.queue a.grows b.grows;
   behind = b.behind;
-  small = b.small;
+  bounded = b.bounded;
   runs = b.runs ∙ a.runs;
   takes = b.takes ∙ (ap (λ (z : List (List ℕ)). z ++ map alone ns) a.takes ∙ (append_assoc (notes_taken u) (map alone ms) (map alone ns) ∙ ap (λ (z : List (List ℕ)). notes_taken u ++ z) (sym (map-append alone ms ns))));
   ends = b.ends ∙ a.ends;
@@ -41,7 +41,7 @@ served_none v w q is ends share owes s same behind = let f : w.part.queue ≡ q 
   taken = omega arith;
   grows = subst (Grows v.part.queue) (sym f) s.later.0;
   behind = subst (λ (z : Positions). z.taken ≤ length z.places) (sym f) s.lawful.behind;
-  small = subst (λ (z : Positions). head_of z < 4294967296) (sym f) s.small;
+  bounded = subst (λ (z : Positions). head_of z < 4294967296) (sym f) s.bounded;
   runs = ap (λ (z : QueueView). z.runs) is;
   takes = ap (λ (z : QueueView). map line_of z.takes) is ∙ sym (append-nil (notes_taken v));
   ends = ends;
@@ -51,12 +51,12 @@ served_none v w q is ends share owes s same behind = let f : w.part.queue ≡ q 
 
 -- no step at all
 pub served_still : (v : View) → v.part.queue.taken ≤ length v.part.queue.places → head_of v.part.queue < 4294967296 → Grows v.part.queue v.part.queue → HasServed v [] v
-served_still v behind small grows = record {
+served_still v behind bounded grows = record {
   notes = sym (append-nil (notes_of v.part.queue));
   taken = omega arith;
   grows = grows;
   behind = behind;
-  small = small;
+  bounded = bounded;
   runs = refl;
   takes = sym (append-nil (notes_taken v));
   ends = refl;
@@ -95,7 +95,7 @@ module _ {Q : Type 0} (made : Q → List ℕ → Type 0) (fits : Q → Type 0) w
         taken = omega arith;
         grows = subst (Grows p) (sym f) (grows_trans p q (with_take q 1) g (take_grows q 1));
         behind = subst (λ (z : Positions). z.taken ≤ length z.places) (sym f) s.after_it.behind;
-        small = subst (λ (z : Positions). head_of z < 4294967296) (sym f) s.sees.small;
+        bounded = subst (λ (z : Positions). head_of z < 4294967296) (sym f) s.sees.bounded;
         runs = ap (λ (z : View). z.part.runs) s.same;
         takes = ap notes_taken s.same ∙ (map-append line_of v.part.takes (taking q ∷ []) ∙ ap (λ (z : List ℕ). notes_taken v ++ z ∷ []) (first_behind q.taken q.places below' ∙ ap alone item));
         ends = ap (λ (z : View). z.member.ends) s.same;
@@ -110,7 +110,7 @@ module _ {Q : Type 0} (made : Q → List ℕ → Type 0) (fits : Q → Type 0) w
   carries_notes ns ms c same h = (h.0, h.1, subst (made h.0) same h.2, h.3)
 
 -- what the runner found raised at the first place left
-module _ (v w : View) (tail note : ℕ) (turn : v.runner ≡ true) (room : v.part.queue.room ≡ 32) (is : tail ≡ tail_of v.part.queue) (small : note < 65536) (s : Found v (place_word tail) (raised_word tail note) w) where
+module _ (v w : View) (tail note : ℕ) (turn : v.runner ≡ true) (room : v.part.queue.room ≡ 32) (is : tail ≡ tail_of v.part.queue) (bounded : note < 65536) (s : Found v (place_word tail) (raised_word tail note) w) where
   pub tail_same : tail ≡ tail_of w.part.queue
   tail_same = let same = s.turn turn in let first = s.sees.later.0.first in omega arith
 

@@ -13,7 +13,7 @@ use Rattle.event_theory.specs.Chains.{Chain, is_call}
 use Rattle.event_theory.specs.Lawful.{IsLawfulChain}
 use Rattle.table_theory.specs.Positioned.{item_of}
 use Rattle.table_theory.specs.Filing.{Owned, ListedOnce}
-use Rattle.table_theory.specs.Listing.{all_places, Chained, Later}
+use Rattle.table_theory.specs.Listing.{all_places, Adjacent, Later}
 use Rattle.table_theory.specs.QueueOf.{run_in, up_in, IsHistory}
 use Rattle.table_theory.specs.Courses.{IsCourse}
 use Rattle.table_theory.specs.Members.{EndsKnown}
@@ -43,17 +43,17 @@ pub record IsShown {W : Type 0} (key : Shape W) (words : List ℕ) (views : List
   -- each run of a view is one of the history, and each of the history is of one view, at one place of its list
   pub once : ListedOnce runs (map (λ view. view.part.runs) views)
   -- each run begins where the one before it ends, the first at the first position
-  pub side_by_side : Chained key.first runs
+  pub side_by_side : Adjacent key.first runs
   pub raised : (run index : ℕ) → c.notes.raised run index ≡ up_in (slice_get runs run) index
   pub takings : List (Owned Batch)
   -- each taking is in one view, and they take each position below the tail once, with the note that its run gave it
   pub taken_once : ListedOnce takings (map (λ view. view.part.takes) views)
-  pub taken_in_order : Chained key.first takings
+  pub taken_in_order : Adjacent key.first takings
   pub taken_notes : map item_of (all_places takings) ≡ take c.notes.taken (flat c.notes.history)
   pub capacity : c.notes.capacity ≡ 32
   pub is_open : c.notes.shut ≡ false
   pub long : length words ≡ 36
-  pub small : key.first + length (flat c.notes.history) < 4294967296
+  pub bounded : key.first + length (flat c.notes.history) < 4294967296
   pub head : slice_index_or words 0 0 ≡ key.first + length (flat c.notes.history)
   pub tail : slice_index_or words 1 0 ≡ key.first + c.notes.taken
   pub places : (i : ℕ) → c.notes.taken ≤ i → i < length (flat c.notes.history) → PlaceIs c words i (key.first + i)

@@ -33,7 +33,7 @@ pub record HasRunner (views : List View) : Type 0 where
 -- One end has the turn where the gate is not Idle, and none where it is. That end knows how many notes were taken. In
 -- an Idle chain no raised note is forgotten, nor in a Running one whose runner has seen that none was raised
 pub record GateShows (q : Positions) (gate : ℕ) (views : List View) : Type 0 where
-  pub small : gate ≤ 2
+  pub bounded : gate ≤ 2
   pub runs : gate ≢ 0 → HasRunner views
   pub still : gate ≡ 0 → (j : ℕ) (v : View) → get_elem? views j ≡ some v → v.runner ≡ false
   pub sole : (i j : ℕ) (u v : View) → get_elem? views i ≡ some u → get_elem? views j ≡ some v → u.runner ≡ true

@@ -40,7 +40,7 @@ pub record WordsShow (q : Positions) (words : List ℕ) : Type 0 where
   pub wide : length words ≡ 36
   pub room : q.room ≡ 32
   pub is_open : q.shut ≡ false
-  pub small : head_of q < 4294967296
+  pub bounded : head_of q < 4294967296
   pub head : slice_index_or words 0 0 ≡ head_of q
   pub tail : slice_index_or words 1 0 ≡ tail_of q
   pub window : PlacesShow q (mark_in words) (note_in words)

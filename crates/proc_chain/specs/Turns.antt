@@ -18,7 +18,7 @@ pub record HasServed (v : View) (ns : List ℕ) (w : View) : Type 0 where
   pub taken : w.part.queue.taken ≡ v.part.queue.taken + length ns
   pub grows : Grows v.part.queue w.part.queue
   pub behind : w.part.queue.taken ≤ length w.part.queue.places
-  pub small : head_of w.part.queue < 4294967296
+  pub bounded : head_of w.part.queue < 4294967296
   pub runs : w.part.runs ≡ v.part.runs
   pub takes : notes_taken w ≡ notes_taken v ++ map alone ns
   pub ends : w.member.ends ≡ v.member.ends

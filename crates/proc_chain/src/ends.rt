@@ -39,7 +39,7 @@ pub struct ChainEnd<Q: Quaject> {
     ghost turned: { seat.me.0.runner ≡ turn },
     ghost settled: { seat.me.0.owes ≡ false },
     ghost behind: { seat.me.0.part.queue.taken ≤ length seat.me.0.part.queue.places },
-    ghost small: { head_of seat.me.0.part.queue < 4294967296 },
+    ghost bounded: { head_of seat.me.0.part.queue < 4294967296 },
     ghost distinct: { Distinct seat.me.0.part.runs },
     ghost raised: { AllRaised seat.me.0.part.runs },
 }

@@ -59,7 +59,7 @@ pub(crate) fn load_head<Q: Quaject>(
     ensures queue { IsSame seat.old seat.new × (seat.new.me.1 ≡ seat.old.me.1) }
     ensures found { Found seat.old.me.0 head_word result seat.new.me.0 }
     ensures head { result ≡ head_of seat.new.me.0.part.queue }
-    ensures small { result < 4294967296 }
+    ensures bounded { result < 4294967296 }
 {
     load(words, seat, HEAD)
 }
@@ -73,7 +73,7 @@ pub(crate) fn load_tail<Q: Quaject>(
     ensures queue { IsSame seat.old seat.new × (seat.new.me.1 ≡ seat.old.me.1) }
     ensures found { Found seat.old.me.0 tail_word result seat.new.me.0 }
     ensures tail { result ≡ tail_of seat.new.me.0.part.queue }
-    ensures small { result < 4294967296 }
+    ensures bounded { result < 4294967296 }
 {
     load(words, seat, TAIL)
 }
@@ -90,7 +90,7 @@ pub(crate) fn exchange_head<Q: Quaject, J: ClaimedNote>(
     requires call { J.call ≡ seat.old.id }
     requires note { J.note ≡ note }
     requires room { head + 1 ≤ tail_of seat.old.me.0.part.queue + seat.old.me.0.part.queue.room }
-    requires small { head + 1 < 4294967296 }
+    requires bounded { head + 1 < 4294967296 }
     ensures queue { IsSame seat.old seat.new × (seat.new.me.1 ≡ seat.old.me.1) }
     ensures hit { result ≡ head → Claimed J.call seat.old.me.0 head J.note seat.new.me.0 }
     ensures miss { result ≢ head → Found seat.old.me.0 head_word result seat.new.me.0
@@ -109,7 +109,7 @@ pub(crate) fn store_place<Q: Quaject, J: Caller>(
 )
     requires queue { (seat.old.table_id ≡ words.now.table_id) × (words.now.table_id.words ≡ 36) }
     requires call { J.call ≡ seat.old.id }
-    requires small { start < 4294967296 }
+    requires bounded { start < 4294967296 }
     requires mine { (e : Batch)
         × (get_elem? seat.old.me.0.part.runs (number_of start seat.old.me.0.part.runs) ≡ some e)
         × (e.start ≡ start) × (0 < length e.places) × ((slice_index_or e.places 0 blank).written < 2)

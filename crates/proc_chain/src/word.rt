@@ -7,7 +7,7 @@ ghost use Rattle.std.specs.Prelude.{◌≡◌, ◌+◌, ◌*◌, ◌/◌, ◌%�
 pub(crate) struct PlaceWord {
     pub(crate) mark: u64,
     pub(crate) note: u16,
-    ghost small: { mark < 281474976710656 },
+    ghost bounded: { mark < 281474976710656 },
 }
 
 impl PlaceWord {

@@ -60,11 +60,11 @@ use Rattle.processor.specs.declared.deed.Deed.TheVariants as deeds
 use Rattle.processor.specs.declared.shared.Shared.{Shared}
 use Rattle.processor.specs.declared.station.Parts.{Parts}
 use Rattle.processor.specs.Deeds.{is_done}
-use Rattle.processor.specs.Logs.{Entry, IsPlanned, tally_by, tally_of, Logs, Logged, seat_after, times_shut, notes_ran}
+use Rattle.processor.specs.Logs.{LogEntry, FollowsPlan, tally_by, tally_of, Logs, Logged, seat_after, times_shut, notes_ran}
 use Rattle.processor.specs.Logs.{small_shut_told, large_shut_told}
 use Rattle.processor.specs.Logs.{small_put_by, small_taken_by, large_put_by, large_taken_by, shut_by, chained_by, ran_by}
 use Rattle.processor.specs.Logs.{ticked_by, clock_by, fired_by, heard_by, small_put, small_taken, large_put, large_taken, chained}
-use Rattle.processor.specs.Logs.Entry.{Tended, Delivered, Tried, Retired}
+use Rattle.processor.specs.Logs.LogEntry.{Tended, Delivered, Tried, Retired}
 use Rattle.processor.specs.Logs.{count_of, seat_of, done_by, numbers_done, Climbs, IsFresh, IsOneLine, Leaves}
 use Rattle.processor.specs.Programs.{Key, program, step_of}
 use Rattle.processor.specs.Queues.{said_line}
@@ -128,7 +128,7 @@ chains_as p p' r r' xs ys e f w = record {
   shares = w.shares;
 }
 
-tally_on : (xs ys : List Entry) → tally_of (xs ++ ys) ≡ behind (tally_of xs) (tally_of ys)
+tally_on : (xs ys : List LogEntry) → tally_of (xs ++ ys) ≡ behind (tally_of xs) (tally_of ys)
 tally_on [] ys = refl
 tally_on (x ∷ xs) ys = ap (λ z. behind (tally_by x) z) (tally_on xs ys) ∙ sym (behind_assoc (tally_by x) (tally_of xs) (tally_of ys))
 
@@ -138,7 +138,7 @@ own_with o t a f = record o { ticks = t; advances = a; fired = f }
 own_eq : (o : Own) (t t' : List Tick) (a a' : List ℕ) (f f' : List Alarm) → t ≡ t' → a ≡ a' → f ≡ f' → own_with o t a f ≡ own_with o t' a' f'
 own_eq o t t' a a' f f' x y z = ap (λ k. own_with o k a f) x ∙ ap (λ k. own_with o t' k f) y ∙ ap (λ k. own_with o t' a' k) z
 
-seat_on : (xs ys : List Entry) (u v w : SeatView) → own_of v ≡ seat_after xs u → own_of w ≡ seat_after ys v → own_of w ≡ seat_after (xs ++ ys) u
+seat_on : (xs ys : List LogEntry) (u v w : SeatView) → own_of v ≡ seat_after xs u → own_of w ≡ seat_after ys v → own_of w ≡ seat_after (xs ++ ys) u
 seat_on xs ys u v w a b =
     b ∙ ap (λ (o : Own). own_with o (o.ticks ++ flat_map ticked_by ys) (o.advances ++ flat_map clock_by ys) (o.fired ++ flat_map fired_by ys)) a
     ∙ own_eq (own_of u) _ _ _ _ _ _
@@ -168,7 +168,7 @@ either_of : (a b : Bool) → (a || b) ≡ true → (a ≡ true) ⊎ (b ≡ true)
 either_of true b up = inl refl
 either_of false b up = inr up
 
-told_on : {n : ℕ} (t : Entry → Bool) (xs ys : List Entry) (P : List (QueueEnd n) → Type 0) (b c : List (QueueEnd n)) → (P b → P c) → (list_any t xs ≡ true → P b) → (list_any t ys ≡ true → P c)
+told_on : {n : ℕ} (t : LogEntry → Bool) (xs ys : List LogEntry) (P : List (QueueEnd n) → Type 0) (b c : List (QueueEnd n)) → (P b → P c) → (list_any t xs ≡ true → P b) → (list_any t ys ≡ true → P c)
     → list_any t (xs ++ ys) ≡ true → P c
 told_on t xs ys P b c still f g h = ⊎_elim (λ l. still (f l)) (λ r. g r) (either_of (list_any t xs) (list_any t ys) (sym (list_any-append t xs ys) ∙ h))
 
@@ -176,7 +176,7 @@ told_on t xs ys P b c still f g h = ⊎_elim (λ l. still (f l)) (λ r. g r) (ei
 abbrev its_numbers : ℕ → List Key → List ℕ
 its_numbers t keys = map (λ key. key.1) (filter (λ key. t == key.0) keys)
 
-numbers_on : (xs ys : List Entry) (t : ℕ) → numbers_done (xs ++ ys) t ≡ numbers_done xs t ++ numbers_done ys t
+numbers_on : (xs ys : List LogEntry) (t : ℕ) → numbers_done (xs ++ ys) t ≡ numbers_done xs t ++ numbers_done ys t
 numbers_on xs ys t = ap (its_numbers t) (flat_map-append done_by xs ys)
     ∙ ap (map (λ (key : Key). key.1)) (filter-append (λ (key : Key). t == key.0) (flat_map done_by xs) (flat_map done_by ys))
     ∙ map-append (λ (key : Key). key.1) _ _
@@ -194,9 +194,9 @@ climbs_on (x ∷ xs) ys a b c f g = (f.0, climbs_on xs ys (x + 1) b c f.1 g)
 abbrev known_done : Parts → ℕ → ℕ
 known_done parts t = done_at (view_of parts.hand).schedule t
 
-pub logs_on : (plan : BootPlan) (xs ys : List Entry) (a b c : Parts) → Logs plan xs a b → Logs plan ys b c → Logs plan (xs ++ ys) a c
+pub logs_on : (plan : BootPlan) (xs ys : List LogEntry) (a b c : Parts) → Logs plan xs a b → Logs plan ys b c → Logs plan (xs ++ ys) a c
 logs_on plan xs ys a b c f g = record {
-  planned = all_on (IsPlanned plan) xs ys f.planned g.planned;
+  planned = all_on (FollowsPlan plan) xs ys f.planned g.planned;
   hand = adds_on (tally_of xs) (tally_of ys) (view_of a.hand) (view_of b.hand) (view_of c.hand) f.hand g.hand ∙ ap (λ z. behind (tally (view_of a.hand).made) z) (sym (tally_on xs ys));
   order = λ t. subst (λ z. Climbs z (known_done a t) (known_done c t)) (sym (numbers_on xs ys t))
       (climbs_on (numbers_done xs t) (numbers_done ys t) (known_done a t) (known_done b t) (known_done c t) (f.order t) (g.order t));
@@ -249,7 +249,7 @@ only true h = refl
 only false h = cc
 
 -- what one entry comes to
-pub one_entry : (plan : BootPlan) (x : Entry) (old new : Parts) → IsPlanned plan x → Adds (tally_by x) (view_of old.hand) (view_of new.hand)
+pub one_entry : (plan : BootPlan) (x : LogEntry) (old new : Parts) → FollowsPlan plan x → Adds (tally_by x) (view_of old.hand) (view_of new.hand)
     → Worked (λ q. small_put_by q x) (λ q. small_taken_by q x) (λ q. shut_by q x) old.small.items new.small.items
     → Worked (λ q. large_put_by q x) (λ q. large_taken_by q x) never old.large.items new.large.items
     → ((q : ℕ) → small_shut_told q x ≡ true → knows_shut_at new.small.items q ≡ true)
@@ -444,7 +444,7 @@ none_taken (x ∷ xs) h zero d low = no_takings (queues.view_of x) (h 0)
 none_taken (x ∷ xs) h (suc k) d low = none_taken xs (λ q. h (suc q)) k d (omega arith)
 
 -- what a station that was fresh has done is what its log says
-pub leaves : (plan : BootPlan) (log : List Entry) (old new : Parts) → IsFresh old → Logs plan log old new → Leaves plan log new
+pub leaves : (plan : BootPlan) (log : List LogEntry) (old new : Parts) → IsFresh old → Logs plan log old new → Leaves plan log new
 leaves plan log old new f l = record {
   planned = l.planned;
   hand = l.hand ∙ ap (λ z. behind z (tally_of log)) f.hand;

@@ -4,10 +4,10 @@ use Rattle.end_steps.specs.declared.gate.Point.{Point}
 use Rattle.end_steps.specs.declared.gate.Point.TheVariants.{Turn}
 use Rattle.processor.specs.declared.shared.Shared.{Shared}
 use Rattle.processor.specs.declared.station.Parts.{Parts}
-use Rattle.processor.specs.Points.{Told, ToldTurns, points_out}
+use Rattle.processor.specs.Points.{GateSaw, ToldTurns, points_out}
 
 module _ {G A : Type 0} (T : G → ℕ → Point → G → Type 0) (f : G → A) (keeps : (old : G) (p : ℕ) (point : Point) (new : G) → T old p point new → f new ≡ f old) where
-  told_keeps : (p : ℕ) (points : List Point) (old new : G) → Told T p points old new → f new ≡ f old
+  told_keeps : (p : ℕ) (points : List Point) (old new : G) → GateSaw T p points old new → f new ≡ f old
   told_keeps p [] old new t = ap f t
   told_keeps p (point ∷ points) old new t = told_keeps p points t.0 new t.2 ∙ keeps old p point t.0 t.1
 

@@ -39,11 +39,11 @@ use Rattle.processor.specs.Turns.{heard_lines}
 -- One thing that a processor did: it tended the alarms, and these fired; it delivered these signals to an element; it
 -- tried the step of a thread with this number, with what came of it and the line that it heard; it put an element that
 -- had done so many steps behind the free ones
-pub data Entry : Type 0 where
-  Tended : Result ℕ AdvanceRefusal → List Alarm → Entry
-  Delivered : ℕ → ℕ → Entry
-  Tried : ℕ → ℕ → Step → Deed → Counted → List ℕ → Entry
-  Retired : ℕ → ℕ → Entry
+pub data LogEntry : Type 0 where
+  Tended : Result ℕ AdvanceRefusal → List Alarm → LogEntry
+  Delivered : ℕ → ℕ → LogEntry
+  Tried : ℕ → ℕ → Step → Deed → Counted → List ℕ → LogEntry
+  Retired : ℕ → ℕ → LogEntry
 
 -- a step is counted by its number where it is done, and else it isn't
 abbrev pub count_of : Bool → ℕ → Counted
@@ -58,119 +58,119 @@ IsOneLine step deed heard = Unit {0}
 
 -- A step that was tried is the plan's step of this thread and number, came to what such a step can, and was counted where
 -- it is done; what it heard is one line; an element that was put behind the free ones had done all its steps
-abbrev pub IsPlanned : BootPlan → Entry → Type 0
-IsPlanned plan (Tried element number step deed count heard) =
+abbrev pub FollowsPlan : BootPlan → LogEntry → Type 0
+FollowsPlan plan (Tried element number step deed count heard) =
     (step_of plan element number ≡ Some step) × (comes_of step deed ≡ true) × (count ≡ count_of (is_done deed) number)
     × IsOneLine step deed heard
-IsPlanned plan (Retired element number) = length (program plan element) ≤ number
-IsPlanned plan entry = Unit {0}
+FollowsPlan plan (Retired element number) = length (program plan element) ≤ number
+FollowsPlan plan entry = Unit {0}
 
 -- what an entry lists in the hand
-abbrev pub tally_by : Entry → Tally
+abbrev pub tally_by : LogEntry → Tally
 tally_by (Tended advanced alarms) = signals_for alarms
 tally_by (Delivered element mask) = one_delivery element mask
 tally_by (Tried element number step deed count heard) = step_tally step deed count element number
 tally_by (Retired element number) = one_retired element number
 
 -- the step that was done: the thread's number, and its own
-abbrev pub done_by : Entry → List Key
+abbrev pub done_by : LogEntry → List Key
 done_by (Tried element number step deed count heard) = if is_done deed then (element, number) ∷ [] else []
 done_by entry = []
 
 -- the lines that it put in the queue q and took from it, among the small queues
-abbrev pub small_put_by : ℕ → Entry → List (List ℕ)
+abbrev pub small_put_by : ℕ → LogEntry → List (List ℕ)
 small_put_by q (Tried element number step deed count heard) = puts_small step deed q
 small_put_by q entry = []
 
-abbrev pub small_taken_by : ℕ → Entry → List (List ℕ)
+abbrev pub small_taken_by : ℕ → LogEntry → List (List ℕ)
 small_taken_by q (Tried element number step deed count heard) = takes_small step deed heard q
 small_taken_by q entry = []
 
 -- and among the large
-abbrev pub large_put_by : ℕ → Entry → List (List ℕ)
+abbrev pub large_put_by : ℕ → LogEntry → List (List ℕ)
 large_put_by q (Tried element number step deed count heard) = puts_large step deed q
 large_put_by q entry = []
 
-abbrev pub large_taken_by : ℕ → Entry → List (List ℕ)
+abbrev pub large_taken_by : ℕ → LogEntry → List (List ℕ)
 large_taken_by q (Tried element number step deed count heard) = takes_large step deed heard q
 large_taken_by q entry = []
 
 -- how often it shut the small queue q
-abbrev pub shut_by : ℕ → Entry → ℕ
+abbrev pub shut_by : ℕ → LogEntry → ℕ
 shut_by q (Tried element number step deed count heard) = shuts_by step deed q
 shut_by q entry = 0
 
 -- whether it was told, by a say or a hear, that the queue q is shut, among the small queues and among the large
-abbrev pub small_shut_told : ℕ → Entry → Bool
+abbrev pub small_shut_told : ℕ → LogEntry → Bool
 small_shut_told q (Tried element number step deed count heard) = told_shut_small step deed q
 small_shut_told q entry = false
 
-abbrev pub large_shut_told : ℕ → Entry → Bool
+abbrev pub large_shut_told : ℕ → LogEntry → Bool
 large_shut_told q (Tried element number step deed count heard) = told_shut_large step deed q
 large_shut_told q entry = false
 
 -- the notes that it chained at the chain q, and how many it ran there
-abbrev pub chained_by : ℕ → Entry → List (List ℕ)
+abbrev pub chained_by : ℕ → LogEntry → List (List ℕ)
 chained_by q (Tried element number step deed count heard) = notes_by step deed q
 chained_by q entry = []
 
-abbrev pub ran_by : ℕ → Entry → ℕ
+abbrev pub ran_by : ℕ → LogEntry → ℕ
 ran_by q (Tried element number step deed count heard) = runs_by step deed q
 ran_by q entry = 0
 
 -- the tick that it made, the tick that it moved the clock on to, and the alarms that fired
-abbrev pub ticked_by : Entry → List Tick
+abbrev pub ticked_by : LogEntry → List Tick
 ticked_by (Tried element number step deed count heard) = ticks_by step deed
 ticked_by entry = []
 
-abbrev pub clock_by : Entry → List ℕ
+abbrev pub clock_by : LogEntry → List ℕ
 clock_by (Tended advanced alarms) = tick_to advanced
 clock_by entry = []
 
-abbrev pub fired_by : Entry → List Alarm
+abbrev pub fired_by : LogEntry → List Alarm
 fired_by (Tended advanced alarms) = alarms
 fired_by entry = []
 
 -- the line that it heard
-abbrev pub heard_by : Entry → List Line
+abbrev pub heard_by : LogEntry → List Line
 heard_by (Tried element number step deed count heard) = heard_in deed element number heard
 heard_by entry = []
 
 -- what a log comes to: the sum of its entries, in their order
-abbrev pub tally_of : List Entry → Tally
+abbrev pub tally_of : List LogEntry → Tally
 tally_of [] = no_events
 tally_of (entry ∷ log) = behind (tally_by entry) (tally_of log)
 
-abbrev pub small_put : List Entry → ℕ → List (List ℕ)
+abbrev pub small_put : List LogEntry → ℕ → List (List ℕ)
 small_put log q = flat_map (small_put_by q) log
 
-abbrev pub small_taken : List Entry → ℕ → List (List ℕ)
+abbrev pub small_taken : List LogEntry → ℕ → List (List ℕ)
 small_taken log q = flat_map (small_taken_by q) log
 
-abbrev pub large_put : List Entry → ℕ → List (List ℕ)
+abbrev pub large_put : List LogEntry → ℕ → List (List ℕ)
 large_put log q = flat_map (large_put_by q) log
 
-abbrev pub large_taken : List Entry → ℕ → List (List ℕ)
+abbrev pub large_taken : List LogEntry → ℕ → List (List ℕ)
 large_taken log q = flat_map (large_taken_by q) log
 
-abbrev pub times_shut : List Entry → ℕ → ℕ
+abbrev pub times_shut : List LogEntry → ℕ → ℕ
 times_shut log q = sum_by (shut_by q) log
 
 -- whether a say or hear of the log was told that the queue q is shut
-abbrev pub small_was_shut : List Entry → ℕ → Bool
+abbrev pub small_was_shut : List LogEntry → ℕ → Bool
 small_was_shut log q = list_any (small_shut_told q) log
 
-abbrev pub large_was_shut : List Entry → ℕ → Bool
+abbrev pub large_was_shut : List LogEntry → ℕ → Bool
 large_was_shut log q = list_any (large_shut_told q) log
 
-abbrev pub chained : List Entry → ℕ → List (List ℕ)
+abbrev pub chained : List LogEntry → ℕ → List (List ℕ)
 chained log q = flat_map (chained_by q) log
 
-abbrev pub notes_ran : List Entry → ℕ → ℕ
+abbrev pub notes_ran : List LogEntry → ℕ → ℕ
 notes_ran log q = sum_by (ran_by q) log
 
 -- the numbers of the thread's steps that were done, in the log's order
-abbrev pub numbers_done : List Entry → ℕ → List ℕ
+abbrev pub numbers_done : List LogEntry → ℕ → List ℕ
 numbers_done log thread = map (λ key. key.1) (filter (λ key. thread == key.0) (flat_map done_by log))
 
 -- These numbers climb from low to high: the first is at least low, each is above the one before it, and all are below
@@ -179,7 +179,7 @@ abbrev pub Climbs : List ℕ → ℕ → ℕ → Type 0
 Climbs [] low high = low ≤ high
 Climbs (number ∷ numbers) low high = (low ≤ number) × Climbs numbers (number + 1) high
 
-abbrev pub seat_after : List Entry → SeatView → Own
+abbrev pub seat_after : List LogEntry → SeatView → Own
 seat_after log v = record (own_of v) {
   ticks = v.ticks ++ flat_map ticked_by log;
   advances = v.advances ++ flat_map clock_by log;
@@ -187,7 +187,7 @@ seat_after log v = record (own_of v) {
 }
 
 -- what a seat with this share has of its own that did this and nothing else
-abbrev pub seat_of : List Entry → ℕ → Own
+abbrev pub seat_of : List LogEntry → ℕ → Own
 seat_of log share = record nothing_own {
   ticks = flat_map ticked_by log;
   advances = flat_map clock_by log;
@@ -197,8 +197,8 @@ seat_of log share = record nothing_own {
 
 -- What came of a processor's work: its ends did what the log says, each by itself, in its order, and nothing else; and
 -- the numbers of a thread's steps that were done climb from as many as the hand had seen done to as many as it has now
-pub record Logs (plan : BootPlan) (log : List Entry) (old new : Parts) : Type 0 where
-  pub planned : AllByRecursion (IsPlanned plan) log
+pub record Logs (plan : BootPlan) (log : List LogEntry) (old new : Parts) : Type 0 where
+  pub planned : AllByRecursion (FollowsPlan plan) log
   pub hand : Adds (tally_of log) (view_of old.hand) (view_of new.hand)
   pub order : (thread : ℕ) → Climbs (numbers_done log thread) (done_at (view_of old.hand).schedule thread)
       (done_at (view_of new.hand).schedule thread)
@@ -212,7 +212,7 @@ pub record Logs (plan : BootPlan) (log : List Entry) (old new : Parts) : Type 0 
   pub signals : Shows (tally_of log).delivered old.signals new.signals
 
 pub record Logged (plan : BootPlan) (old new : Parts) : Type 0 where
-  pub log : List Entry
+  pub log : List LogEntry
   pub its : Logs plan log old new
 
 -- the ends of the station have done nothing
@@ -230,8 +230,8 @@ pub record IsFresh (parts : Parts) : Type 0 where
 -- What is left of a processor's work on a station that was fresh: all that its ends did is what the log says, and each
 -- claimed and took in order; and the numbers of a thread's steps that were done climb up to as many as the hand has
 -- seen done
-pub record Leaves (plan : BootPlan) (log : List Entry) (parts : Parts) : Type 0 where
-  pub planned : AllByRecursion (IsPlanned plan) log
+pub record Leaves (plan : BootPlan) (log : List LogEntry) (parts : Parts) : Type 0 where
+  pub planned : AllByRecursion (FollowsPlan plan) log
   pub hand : tally (view_of parts.hand).made ≡ tally_of log
   pub order : (thread : ℕ) → Climbs (numbers_done log thread) 0 (done_at (view_of parts.hand).schedule thread)
   pub small_puts : (q : ℕ) → lines_put_at parts.small.items q ≡ small_put log q
@@ -254,5 +254,5 @@ pub record Leaves (plan : BootPlan) (log : List Entry) (parts : Parts) : Type 0 
       → is_in (slice_index_or parts.signals element 0) signal ≡ is_delivered (tally_of log).delivered element signal
 
 pub record HasLeft (plan : BootPlan) (parts : Parts) : Type 0 where
-  pub log : List Entry
+  pub log : List LogEntry
   pub its : Leaves plan log parts

@@ -14,9 +14,9 @@ use Rattle.processor.specs.declared.station.Parts.{Parts}
 use Rattle.processor.specs.Turns.{TurnOf}
 
 -- the gate was told these points, in their order, and nothing else
-abbrev pub Told : {G : Type 0} → (G → ℕ → Point → G → Type 0) → ℕ → List Point → G → G → Type 0
-Told T p [] old new = new ≡ old
-Told {G} T p (point ∷ points) old new = (between : G) × T old p point between × Told T p points between new
+abbrev pub GateSaw : {G : Type 0} → (G → ℕ → Point → G → Type 0) → ℕ → List Point → G → G → Type 0
+GateSaw T p [] old new = new ≡ old
+GateSaw {G} T p (point ∷ points) old new = (between : G) × T old p point between × GateSaw T p points between new
 
 -- the points of a step, by what came of it: of a say whose line was put that it was claimed and then raised, of a hear
 -- that its try was answered, and of a poke that its try was
@@ -43,4 +43,4 @@ abbrev pub ToldTurns : {G : Type 0} → (G → ℕ → Point → G → Type 0) �
 ToldTurns T shared p old new zero gate gate' = (new ≡ old) × (gate' ≡ gate)
 ToldTurns {G} T shared p old new (suc n) gate gate' = (between : Parts) × (turned : Turned) × (told : G)
     × ToldTurns T shared p old between n gate told × TurnOf shared p turned between new
-    × Told T p (Turn n ∷ points_out turned.outcome) told gate'
+    × GateSaw T p (Turn n ∷ points_out turned.outcome) told gate'

@@ -6,7 +6,7 @@ use Rattle.end_steps.specs.EndLists.{lines_put_at, lines_taken_at, notes_put_at,
 use Rattle.hand_steps.specs.Tallies.{tally}
 use Rattle.meters.specs.Handles as meters
 use Rattle.thread_table.specs.Handles.{view_of}
-use Rattle.thread_table.specs.Schedules.{elements_after, line_at}
+use Rattle.thread_table.specs.Schedules.{elements_after, ring_at}
 use Rattle.processor.specs.declared.station.Parts.{Parts}
 use Rattle.processor.specs.Programs.{Key, program}
 use Rattle.processor.specs.Stations.{no_signals}
@@ -19,7 +19,7 @@ HasDoneAll plan retired = length (program plan retired.0) ≤ retired.1
 -- raised and delivered no signal, put and took no line and no note, and shut nothing; the elements that it put behind
 -- the free ones had nothing to do; of the meters it set the plan's alarms, and did nothing else
 pub record IsPrepared (plan : BootPlan) (first : Parts) : Type 0 where
-  pub taken : 64 ≤ (line_at (elements_after (view_of first.hand).schedule) 1).taken
+  pub taken : 64 ≤ (ring_at (elements_after (view_of first.hand).schedule) 1).taken
   pub done : (tally (view_of first.hand).made).done ≡ []
   pub signalled : (tally (view_of first.hand).made).signalled ≡ []
   pub delivered : (tally (view_of first.hand).made).delivered ≡ []

@@ -10,7 +10,7 @@ ghost use Rattle.thread_table.specs.Handles.{view_of, call_of, IsHandOf, IsSameH
 ghost use Rattle.thread_table.specs.Rules.{has};
 ghost use Rattle.thread_table.specs.Steps.{PutsOn};
 ghost use Rattle.processor.specs.Acts.{Acts};
-ghost use Rattle.processor.specs.Points.{Told, points_of};
+ghost use Rattle.processor.specs.Points.{GateSaw, points_of};
 ghost use Rattle.processor.specs.Running.{EndsDid};
 ghost use Rattle.processor.specs.Stations.{ArePartsOf, AreSameParts};
 ghost use Rattle.processor.specs.Steps.{Fits, HandDid, comes_of, raised_by};
@@ -98,7 +98,7 @@ pub(crate) fn do_step<R: Wait, G: Gate>(
     ensures acts { Acts (raised_by step.now result.deed) (view_of parts.old.hand) (view_of parts.new.hand) }
     ensures heard { parts.new.heard ≡ parts.old.heard }
     ensures signals { parts.new.signals ≡ parts.old.signals }
-    ensures gate { Told G.told p (points_of result.deed) gate.old gate.new }
+    ensures gate { GateSaw G.told p (points_of result.deed) gate.old gate.new }
 {
     Attempt {
         deed: try_step(rt, shared, parts, step, heard, p, gate),

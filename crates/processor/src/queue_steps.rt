@@ -7,7 +7,7 @@ ghost use Rattle.end_steps.specs.Sums.{Worked, no_lines, never};
 ghost use Rattle.hand_steps.specs.Tallies.{no_events};
 ghost use Rattle.thread_table.specs.Handles.{view_of, call_of, IsHandOf, IsSameHand};
 ghost use Rattle.processor.specs.Acts.{Acts};
-ghost use Rattle.processor.specs.Points.{Told, points_of};
+ghost use Rattle.processor.specs.Points.{GateSaw, points_of};
 ghost use Rattle.processor.specs.Queues.{IsThere};
 ghost use Rattle.processor.specs.Steps.{HandDid, QueuesDid, puts_small, puts_large, takes_small, takes_large};
 ghost use Rattle.processor.specs.Steps.{shuts_by, comes_of};
@@ -52,7 +52,7 @@ pub(crate) fn say_step<R: Wait, G: Gate>(
         (view_of hand.new) }
     ensures acts { Acts no_events (view_of hand.old) (view_of hand.new) }
     ensures queues { QueuesDid (steps.Say queue text.now) result [] small.old small.new large.old large.new }
-    ensures gate { Told G.told p (points_of result) gate.old gate.new }
+    ensures gate { GateSaw G.told p (points_of result) gate.old gate.new }
     ensures small_lines { Worked (puts_small (steps.Say queue text.now) result) no_lines never small.old small.new }
     ensures large_lines { Worked (puts_large (steps.Say queue text.now) result) no_lines never large.old large.new }
 {
@@ -102,7 +102,7 @@ pub(crate) fn hear_step<R: Wait, G: Gate>(
         (view_of hand.new) }
     ensures acts { Acts no_events (view_of hand.old) (view_of hand.new) }
     ensures queues { QueuesDid (steps.Hear queue) result heard.new.items small.old small.new large.old large.new }
-    ensures gate { Told G.told p (points_of result) gate.old gate.new }
+    ensures gate { GateSaw G.told p (points_of result) gate.old gate.new }
     ensures small_lines { Worked no_lines (takes_small (steps.Hear queue) result heard.new.items) never
         small.old small.new }
     ensures large_lines { Worked no_lines (takes_large (steps.Hear queue) result heard.new.items) never

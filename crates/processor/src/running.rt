@@ -6,7 +6,7 @@ ghost use Rattle.hand_steps.specs.Tallies.{Adds};
 ghost use Rattle.thread_table.specs.Handles.{view_of, call_of};
 ghost use Rattle.thread_table.specs.Rules.{has, done_at};
 ghost use Rattle.processor.specs.Acts.{NeverFalls};
-ghost use Rattle.processor.specs.Points.{Told, points_of};
+ghost use Rattle.processor.specs.Points.{GateSaw, points_of};
 ghost use Rattle.processor.specs.Running.{Stepped, EndsDid, step_tally, line_heard, is_heard, heard_in};
 ghost use Rattle.processor.specs.Stations.{ArePartsOf, AreSameParts};
 ghost use Rattle.processor.specs.Steps.{Fits, comes_of};
@@ -57,7 +57,7 @@ pub(crate) fn run_step<R: Wait, G: Gate>(
     ensures on { (view_of parts.new.hand).on ≡ (view_of parts.old.hand).on }
     ensures heard { parts.new.heard ≡ parts.old.heard }
     ensures signals { parts.new.signals ≡ parts.old.signals }
-    ensures gate { Told G.told p (points_of result.deed) gate.old gate.new }
+    ensures gate { GateSaw G.told p (points_of result.deed) gate.old gate.new }
 {
     let threads = &shared.threads;
     let seated = seat(threads, &mut parts.hand, p, element);

@@ -7,7 +7,7 @@ ghost use Rattle.meters.specs.Handles as seats;
 ghost use Rattle.thread_table.specs.Handles.{view_of, call_of};
 ghost use Rattle.thread_table.specs.declared.rule.View.{View};
 ghost use Rattle.processor.specs.Acts.{Acts};
-ghost use Rattle.processor.specs.Points.{Told, points_of};
+ghost use Rattle.processor.specs.Points.{GateSaw, points_of};
 ghost use Rattle.processor.specs.Stations.{ArePartsOf, AreSameParts};
 ghost use Rattle.processor.specs.Steps.{Fits, HandDid, QueuesDid, ChainsDid, SeatDid};
 ghost use Rattle.processor.specs.Steps.{puts_small, puts_large, takes_small, takes_large, shuts_by, notes_by, runs_by};
@@ -43,7 +43,7 @@ fn poke_step<R: Wait, G: Gate>(
     ensures hand { (call : ℕ) (v : View) → HandDid call shared.now.plan (steps.Poke mover) result v v }
     ensures notes { ChainsWorked (notes_by (steps.Poke mover) result) (runs_by (steps.Poke mover) result)
         ends.old ends.new }
-    ensures gate { Told G.told p (points_of result) gate.old gate.new }
+    ensures gate { GateSaw G.told p (points_of result) gate.old gate.new }
 {
     match poke(
         rt,
@@ -90,7 +90,7 @@ pub(crate) fn try_step<R: Wait, G: Gate>(
         parts.new.chains.items }
     ensures heard { parts.new.heard ≡ parts.old.heard }
     ensures signals { parts.new.signals ≡ parts.old.signals }
-    ensures gate { Told G.told p (points_of result) gate.old gate.new }
+    ensures gate { GateSaw G.told p (points_of result) gate.old gate.new }
 {
     let threads = &shared.threads;
     match step {

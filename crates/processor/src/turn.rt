@@ -5,7 +5,7 @@ ghost use Rattle.hand_steps.specs.Sendings.{Sent};
 ghost use Rattle.thread_table.specs.Handles.{view_of, call_of};
 ghost use Rattle.thread_table.specs.Rules.{has, done_at};
 ghost use Rattle.processor.specs.Logs.{Logged, IsFresh, HasLeft};
-ghost use Rattle.processor.specs.Points.{Told, ToldTurns, points_of, points_had, points_out};
+ghost use Rattle.processor.specs.Points.{GateSaw, ToldTurns, points_of, points_had, points_out};
 ghost use Rattle.processor.specs.Programs.{program, step_of};
 ghost use Rattle.processor.specs.Rooms.{HasRoom};
 ghost use Rattle.processor.specs.Stations.{ArePartsOf, AreSameParts};
@@ -62,7 +62,7 @@ fn run_element<R: Wait, G: Gate>(
     ensures on { (view_of parts.new.hand).on ≡ (view_of parts.old.hand).on }
     ensures serves { (view_of parts.new.hand).serves ≡ (view_of parts.old.hand).serves }
     ensures share { (view_of parts.new.hand).member.share ≡ (view_of parts.old.hand).member.share }
-    ensures gate { Told G.told p (points_of result.tried.deed) gate.old gate.new }
+    ensures gate { GateSaw G.told p (points_of result.tried.deed) gate.old gate.new }
 {
     steps_fit();
     line.clear();
@@ -154,7 +154,7 @@ fn take_turn<R: Wait, G: Gate>(
     ensures on { (view_of parts.new.hand).on ≡ (view_of parts.old.hand).on }
     ensures serves { (view_of parts.new.hand).serves ≡ (view_of parts.old.hand).serves }
     ensures share { (view_of parts.new.hand).member.share ≡ (view_of parts.old.hand).member.share }
-    ensures gate { Told G.told p (points_had result) gate.old gate.new }
+    ensures gate { GateSaw G.told p (points_had result) gate.old gate.new }
 {
     steps_fit();
     let steps = program_of(&shared.plan, element);
@@ -187,7 +187,7 @@ fn dispatch<R: Wait, G: Gate>(
     ensures on { (view_of parts.new.hand).on ≡ (view_of parts.old.hand).on }
     ensures serves { (view_of parts.new.hand).serves ≡ (view_of parts.old.hand).serves }
     ensures share { (view_of parts.new.hand).member.share ≡ (view_of parts.old.hand).member.share }
-    ensures gate { Told G.told p (points_out result) gate.old gate.new }
+    ensures gate { GateSaw G.told p (points_out result) gate.old gate.new }
 {
     match begin_turn(rt, shared, parts, p) {
         Ok(begun) => {
@@ -250,7 +250,7 @@ fn turn<R: Wait, G: Gate>(
     ensures on { (view_of parts.new.hand).on ≡ (view_of parts.old.hand).on }
     ensures serves { (view_of parts.new.hand).serves ≡ (view_of parts.old.hand).serves }
     ensures share { (view_of parts.new.hand).member.share ≡ (view_of parts.old.hand).member.share }
-    ensures gate { Told G.told p (points_out result.outcome) gate.old gate.new }
+    ensures gate { GateSaw G.told p (points_out result.outcome) gate.old gate.new }
 {
     let tended = tend(shared, parts, p);
     let outcome = dispatch(rt, shared, parts, p, line, gate);

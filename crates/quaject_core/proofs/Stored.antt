@@ -5,7 +5,7 @@ pub mod Full
 pub mod Joins
 pub mod Layout
 pub mod Lifts
-pub mod Lines
+pub mod Rings
 pub mod Numbers
 pub mod Owners
 pub mod Parts

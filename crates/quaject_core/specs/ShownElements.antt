@@ -11,7 +11,7 @@ use Rattle.quaject_core.specs.declared.elements.StoredElements.{StoredElements}
 abbrev pub elements : StoredElements → Elements
 elements stored = record {
   threads = map thread stored.threads.items;
-  lines = map queue stored.lines.items;
+  rings = map queue stored.rings.items;
   notified = stored.notified;
   processors = stored.processors;
   held = stored.held.holds.items;

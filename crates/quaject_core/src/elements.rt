@@ -6,7 +6,7 @@ ghost use Rattle.std.specs.List.{list_any};
 use crate::holding::HeldList;
 use crate::queueing::StoredQueue;
 use crate::threading::{StoredThread, new_threads};
-use crate::{lines, placing, seats};
+use crate::{rings, placing, seats};
 use event_theory::{
     Call, Element, ElementStatus, Hold, OutOfMemory, Processor, Refusal, Signal, WaitNumber,
 };
@@ -16,11 +16,11 @@ use std::alloc::Global;
 #[derive(Drop)]
 pub(crate) struct StoredElements {
     threads: Vec<StoredThread>,
-    lines: Vec<StoredQueue>,
+    rings: Vec<StoredQueue>,
     notified: [u32; 16],
     processors: [Option<Hold>; 8],
     held: HeldList,
-    ghost few: { vec_len lines ≤ 18 },
+    ghost few: { vec_len rings ≤ 18 },
     ghost all: { vec_len threads ≤ 64 },
 }
 
@@ -32,7 +32,7 @@ impl StoredElements {
     ghost use Rattle.event_theory.specs.Elements.{is_put, put_on, take_off, stop, park, start, signal, deliver, done};
     ghost use Rattle.event_theory.specs.Elements.{holds};
     ghost use Rattle.event_theory.specs.Statuses.{element_statuses};
-    ghost use Rattle.event_theory.specs.Lines.{first_hold};
+    ghost use Rattle.event_theory.specs.Rings.{first_hold};
     ghost use Rattle.quaject_core.specs.ShownThreads.{thread};
     ghost use Rattle.quaject_core.specs.ShownElements.{elements, Does};
     ghost use Rattle.event_theory.specs.Lawful.{IsLawfulElements};
@@ -46,7 +46,7 @@ impl StoredElements {
     {
         Ok(StoredElements {
             threads: new_threads(alloc, count)?,
-            lines: lines::new(alloc, count)?,
+            rings: rings::new(alloc, count)?,
             notified: [0; 16],
             processors: [None; 8],
             held: HeldList::new(alloc)?,
@@ -83,17 +83,17 @@ impl StoredElements {
     }
 
     /// Appends a run of one element, which the call held, to an element queue.
-    pub(crate) fn claim(&mut self, line: usize, call: Call, items: &[u64]) -> Result<(), Refusal>
-        ensures { Does result (claim_element line call items.now) self.old self.new }
+    pub(crate) fn claim(&mut self, ring: usize, call: Call, items: &[u64]) -> Result<(), Refusal>
+        ensures { Does result (claim_element ring call items.now) self.old self.new }
     {
         if self.is_strange(items) {
             return Err(Refusal::UnknownName);
         }
         let Some(index) = self.find_first(call, items) else {
-            lines::check_claim(&self.lines, line, call, items)?;
+            rings::check_claim(&self.rings, ring, call, items)?;
             return Err(Refusal::NotHeld);
         };
-        lines::claim(&mut self.lines, line, call, items)?;
+        rings::claim(&mut self.rings, ring, call, items)?;
         self.held.remove(index);
         Ok(())
     }
@@ -101,23 +101,23 @@ impl StoredElements {
     /// Raises the element of a run.
     pub(crate) fn raise(
         &mut self,
-        line: usize,
+        ring: usize,
         call: Call,
         run: u32,
         index: u32,
     ) -> Result<(), Refusal>
-        ensures { Does result (raise_element line call run index) self.old self.new }
+        ensures { Does result (raise_element ring call run index) self.old self.new }
     {
-        lines::raise(&mut self.lines, line, call, run, index)
+        rings::raise(&mut self.rings, ring, call, run, index)
     }
 
     /// Takes the first element of an element queue, which the call then holds.
-    pub(crate) fn take(&mut self, line: usize, call: Call, count: u32) -> Result<(), Refusal>
+    pub(crate) fn take(&mut self, ring: usize, call: Call, count: u32) -> Result<(), Refusal>
         requires { IsLawfulElements (elements self.old) }
-        ensures { Does result (take_element line call count) self.old self.new }
+        ensures { Does result (take_element ring call count) self.old self.new }
     {
-        let element = lines::first_taken(&self.lines, line, count)?;
-        lines::take(&mut self.lines, line, count)?;
+        let element = rings::first_taken(&self.rings, ring, count)?;
+        rings::take(&mut self.rings, ring, count)?;
         self.held.push(Hold { call, element });
         Ok(())
     }
@@ -311,7 +311,7 @@ impl StoredElements {
         if self.notifies(wait) != ticket {
             return Err(Refusal::Moved);
         }
-        lines::claim(&mut self.lines, lines::of_wait(wait), call, &[item])?;
+        rings::claim(&mut self.rings, rings::of_wait(wait), call, &[item])?;
         self.held.remove(index);
         Ok(())
     }
@@ -320,7 +320,7 @@ impl StoredElements {
     pub(crate) fn join(&mut self, call: Call, other: Call)
         ensures { elements self.new ≡ join_elements call other (elements self.old) }
     {
-        lines::join(&mut self.lines, call, other);
+        rings::join(&mut self.rings, call, other);
         seats::join(&mut self.processors, call, other);
         self.held.join(call, other);
     }
@@ -340,7 +340,7 @@ impl StoredElements {
             alloc,
             self.threads.as_slice(),
             &self.processors,
-            self.lines.as_slice(),
+            self.rings.as_slice(),
             self.held.as_slice(),
         )
     }

@@ -45,7 +45,7 @@
 mod chaining;
 mod elements;
 mod holding;
-mod lines;
+mod rings;
 mod machine;
 mod metering;
 mod placing;

@@ -7,7 +7,7 @@ ghost use Rattle.event_theory.specs.Statuses.{element_statuses};
 ghost use Rattle.quaject_core.specs.Shown.{queue};
 ghost use Rattle.quaject_core.specs.ShownThreads.{thread};
 ghost use Rattle.event_theory.specs.Appearances.{is_on};
-ghost use Rattle.event_theory.specs.Places.{place_by, line_place, held_place, holder};
+ghost use Rattle.event_theory.specs.Places.{place_by, ring_place, held_place, holder};
 
 use crate::queueing::StoredQueue;
 use crate::threading::StoredThread;
@@ -40,10 +40,10 @@ fn processor_of(processors: &[Option<Hold>; 8], element: u64) -> Option<Processo
 }
 
 /// The element queue in which the element is left.
-fn line_of(lines: &[StoredQueue], element: u64) -> Option<usize>
-    ensures { result ≡ position (λ stored. list_any (λ item. item == element) (left (queue stored))) lines.now }
+fn ring_of(rings: &[StoredQueue], element: u64) -> Option<usize>
+    ensures { result ≡ position (λ stored. list_any (λ item. item == element) (left (queue stored))) rings.now }
 {
-    lines.iter().position(|line| line.has_left(element))
+    rings.iter().position(|ring| ring.has_left(element))
 }
 
 /// The call that holds the element.
@@ -59,14 +59,14 @@ fn holder(held: &[Hold], element: u64) -> Option<Call>
 }
 
 /// What the element queue stands for.
-fn line_place(line: usize) -> Place
-    requires { line < 18 }
-    ensures { result ≡ line_place line }
+fn ring_place(ring: usize) -> Place
+    requires { ring < 18 }
+    ensures { result ≡ ring_place ring }
 {
-    match line {
+    match ring {
         0 => Place::Ready,
         1 => Place::Free,
-        _ => Place::Wait(WaitNumber::new((line - 2) as u8).unwrap()),
+        _ => Place::Wait(WaitNumber::new((ring - 2) as u8).unwrap()),
     }
 }
 
@@ -84,21 +84,21 @@ fn held_place(held: Option<Call>) -> Place
 #[tactic(auto, using(crate::proofs::Stored::Numbers::position_map))]
 pub(crate) fn place(
     processors: &[Option<Hold>; 8],
-    lines: &[StoredQueue],
+    rings: &[StoredQueue],
     held: &[Hold],
     element: u64,
 ) -> Place
-    requires { length lines.now ≤ 18 }
+    requires { length rings.now ≤ 18 }
     ensures { result ≡ place_by
         (position (is_on element) processors.now)
-        (position (λ q. list_any (λ item. item == element) (left q)) (map queue lines.now))
+        (position (λ q. list_any (λ item. item == element) (left q)) (map queue rings.now))
         (holder element held.now) }
 {
     if let Some(processor) = processor_of(processors, element) {
         return Place::Processor(processor);
     }
-    if let Some(line) = line_of(lines, element) {
-        return line_place(line);
+    if let Some(ring) = ring_of(rings, element) {
+        return ring_place(ring);
     }
     held_place(holder(held, element))
 }
@@ -108,13 +108,13 @@ pub(crate) fn statuses(
     alloc: Global,
     threads: &[StoredThread],
     processors: &[Option<Hold>; 8],
-    lines: &[StoredQueue],
+    rings: &[StoredQueue],
     held: &[Hold],
 ) -> Result<Vec<ElementStatus>, OutOfMemory>
-    requires { length lines.now ≤ 18 }
+    requires { length rings.now ≤ 18 }
     ensures { IfOk result (λ list. (notified : List ℕ) → list.items ≡ element_statuses (record {
       threads = map thread threads.now;
-      lines = map queue lines.now;
+      rings = map queue rings.now;
       notified = notified;
       processors = processors.now;
       held = held.now;
@@ -123,7 +123,7 @@ pub(crate) fn statuses(
     let mut statuses = Vec::new(alloc);
     for (element, thread) in threads.iter().enumerate() {
         statuses.push(ElementStatus {
-            place: place(processors, lines, held, element as u64),
+            place: place(processors, rings, held, element as u64),
             done: thread.done(),
             pending: thread.pending(),
             stop: thread.is_stopping(),

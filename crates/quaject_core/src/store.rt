@@ -2,8 +2,8 @@
 
 use crate::chaining::StoredChain;
 use crate::elements::StoredElements;
-use crate::lines;
-use crate::lines::{FREE, READY};
+use crate::rings;
+use crate::rings::{FREE, READY};
 use crate::metering::StoredMeters;
 use crate::queueing::StoredQueue;
 use event_theory::{
@@ -160,7 +160,7 @@ impl Store {
             QueueName::Notes(number) => self.claim_note(call, number, items),
             QueueName::Ready => self.elements.claim(READY, call, items),
             QueueName::Free => self.elements.claim(FREE, call, items),
-            QueueName::Wait(wait) => self.elements.claim(lines::of_wait(wait), call, items),
+            QueueName::Wait(wait) => self.elements.claim(rings::of_wait(wait), call, items),
         }
     }
 
@@ -172,7 +172,7 @@ impl Store {
             QueueName::Notes(number) => self.raise_note(call, number, run, index),
             QueueName::Ready => self.elements.raise(READY, call, run, index),
             QueueName::Free => self.elements.raise(FREE, call, run, index),
-            QueueName::Wait(wait) => self.elements.raise(lines::of_wait(wait), call, run, index),
+            QueueName::Wait(wait) => self.elements.raise(rings::of_wait(wait), call, run, index),
         }
     }
 
@@ -185,7 +185,7 @@ impl Store {
             QueueName::Notes(number) => self.take_note(call, number, count),
             QueueName::Ready => self.elements.take(READY, call, count),
             QueueName::Free => self.elements.take(FREE, call, count),
-            QueueName::Wait(wait) => self.elements.take(lines::of_wait(wait), call, count),
+            QueueName::Wait(wait) => self.elements.take(rings::of_wait(wait), call, count),
         }
     }
 

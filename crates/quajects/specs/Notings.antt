@@ -16,13 +16,13 @@ LostTries me [] w = w ≡ me
 LostTries {Q} me (head ∷ heads) w = (u : Me Q View) × Refused me (Lost head) u × LostTries u heads w
 
 -- One try to chain the note was answered, and where that gave the Turn it was served to the end. Lost is no answer
-abbrev pub Told : {Q : Type 0} → (Q → List ℕ → Type 0) → (Q → Type 0) → ℕ → Me Q View → ℕ
+abbrev pub Notified : {Q : Type 0} → (Q → List ℕ → Type 0) → (Q → Type 0) → ℕ → Me Q View → ℕ
     → Result Chained ChainRefusal → Me Q View → Type 0
-Told {Q} made fits call me note (Ok (Run turn)) w = (u : Me Q View) × (ran : ℕ)
+Notified {Q} made fits call me note (Ok (Run turn)) w = (u : Me Q View) × (ran : ℕ)
     × IsChained made fits call me note (Run turn) u × AllServed made fits call u ran w
-Told made fits call me note (Ok Left) w = IsChained made fits call me note Left w
-Told made fits call me note (Err (Lost head)) w = ⊥
-Told made fits call me note (Err refusal) w = Refused me refusal w
+Notified made fits call me note (Ok Left) w = IsChained made fits call me note Left w
+Notified made fits call me note (Err (Lost head)) w = ⊥
+Notified made fits call me note (Err refusal) w = Refused me refusal w
 
 -- After tries that were lost the note was chained, or was refused by a chain that was Full or Spent. A note that was
 -- chained is one run more of the end, and a note that was refused is none
@@ -32,6 +32,6 @@ pub record Noted {Q : Type 0} (made : Q → List ℕ → Type 0) (fits : Q → T
   pub before : Me Q View
   pub tries : LostTries me lost before
   pub answer : Result Chained ChainRefusal
-  pub told : Told made fits call before note answer me'
+  pub told : Notified made fits call before note answer me'
   pub puts : notes_put me'.0 ≡ (if is_ok answer then notes_put me.0 ++ alone note ∷ [] else notes_put me.0)
   pub share : me'.0.member.share ≡ me.0.member.share

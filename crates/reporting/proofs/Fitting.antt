@@ -17,13 +17,13 @@ use Rattle.thread_table.specs.declared.places.Place.{Place}
 use Rattle.thread_table.specs.declared.places.Place.TheVariants as places
 use Rattle.thread_table.specs.Closings.{StandsAt, is_left}
 use Rattle.thread_table.specs.Handles.{view_of}
-use Rattle.thread_table.specs.Schedules.{elements_after, line_at}
+use Rattle.thread_table.specs.Schedules.{elements_after, ring_at}
 use Rattle.processor.specs.declared.station.Parts.{Parts}
-use Rattle.processor.specs.Logs.{Entry}
+use Rattle.processor.specs.Logs.{LogEntry}
 use Rattle.processor.specs.Partings.{AllJoined}
 use Rattle.reports.specs.Agreements.{AlarmsAgree}
-use Rattle.reports.specs.Closed.{Closed}
-use Rattle.reports.specs.Closed as closed
+use Rattle.reports.specs.ClosedTables.{ClosedTables}
+use Rattle.reports.specs.ClosedTables as closed
 use Rattle.reports.specs.Endings.{ThreadsEnded}
 use Rattle.thread_table.proofs.Counts.{many_more}
 use Rattle.reports.proofs.Places.{joined_shows}
@@ -31,17 +31,17 @@ use Rattle.thread_table.proofs.Shuffles.{same_counts}
 use Rattle.reporting.specs.Shown.{IsNamed}
 
 -- an element that stands in a wait queue stands in one that there is
-named : (call element : ℕ) (e : Elements) (place : Place) → length e.lines ≡ 18 → StandsAt call element e place → IsNamed place
+named : (call element : ℕ) (e : Elements) (place : Place) → length e.rings ≡ 18 → StandsAt call element e place → IsNamed place
 named call element e places.Free many stands = tt
 named call element e places.Ready many stands = tt
 named call element e (places.Wait wait) many stands = dite (dec_lt wait 16) (λ low. low) (λ not_low.
-    let past : line_at e (wait + 2) ≡ empty_queue 64 = get_or_past e.lines (wait + 2) (empty_queue 64) (omega (arith, not_low)) in
+    let past : ring_at e (wait + 2) ≡ empty_queue 64 = get_or_past e.rings (wait + 2) (empty_queue 64) (omega (arith, not_low)) in
     absurd (true≢false (sym stands ∙ ap (is_left element) past)))
 named call element e places.Stopped many stands = tt
 named call element e places.Held many stands = tt
 named call element e (places.Processor p) many stands = tt
 
-pub waits : (stations : List Parts) (first last : Parts) (c : Closed) (thread : ℕ) (t : closed.Thread) → 0 < length stations
+pub waits : (stations : List Parts) (first last : Parts) (c : ClosedTables) (thread : ℕ) (t : closed.Thread) → 0 < length stations
     → AllJoined first stations last → ThreadsEnded last c → slice_get c.threads thread ≡ Some t → IsNamed t.place
 waits stations first last c thread t some joined ended is =
     let shown = joined_shows first stations last some joined in
@@ -60,7 +60,7 @@ tells a b same =
 itself : (a : Alarm) → is_alarm a a ≡ true
 itself a = and_from (eqb a.due a.due && eqb a.element a.element) (eqb a.signal a.signal) (and_from (eqb a.due a.due) (eqb a.element a.element) (eq-eqb _ _ refl) (eq-eqb _ _ refl)) (eq-eqb _ _ refl)
 
-pub all_alarms : (plan : BootPlan) (c : Closed) (logs : List (List Entry)) → AlarmsAgree plan c logs → length plan.alarms ≡ length c.fired + length c.left
+pub all_alarms : (plan : BootPlan) (c : ClosedTables) (logs : List (List LogEntry)) → AlarmsAgree plan c logs → length plan.alarms ≡ length c.fired + length c.left
 all_alarms plan c logs agrees =
     let shuffle = same_counts is_alarm tells itself plan.alarms (c.fired ++ c.left) (λ a. agrees.each a ∙ sym (many_more (is_alarm a) c.fired c.left)) in
     length_permutation _ _ shuffle ∙ length-append c.fired c.left

@@ -9,7 +9,7 @@ use Rattle.boot_data.specs.declared.plan.Step.TheVariants as steps
 use Rattle.processor.specs.declared.deed.Deed.{Deed}
 use Rattle.processor.specs.declared.deed.Deed.TheVariants as deeds
 use Rattle.processor.specs.declared.station.Parts.{Parts}
-use Rattle.processor.specs.Logs.{Entry, Tended, Delivered, Tried, Retired, Leaves, IsPlanned, heard_by}
+use Rattle.processor.specs.Logs.{LogEntry, Tended, Delivered, Tried, Retired, Leaves, FollowsPlan, heard_by}
 use Rattle.processor.specs.Programs.{Key, IsHear, same_key, is_hear, hear_count, step_of}
 use Rattle.processor.specs.Running.{Line}
 use Rattle.processor.specs.Steps.{comes_of}
@@ -17,7 +17,7 @@ use Rattle.processor.specs.Turns.{heard_lines}
 use Rattle.processor.specs.Partings.{AllJoined}
 use Rattle.processor.specs.Preparing.{IsPrepared}
 use Rattle.processor.proofs.Rooms.{few}
-use Rattle.reports.specs.Closed.{Closed}
+use Rattle.reports.specs.ClosedTables.{ClosedTables}
 use Rattle.reports.specs.Endings.{ThreadsEnded}
 use Rattle.reports.specs.Lists.{all_of}
 use Rattle.thread_table.proofs.Counts.{plus, by_bool, many_cons}
@@ -60,7 +60,7 @@ by_deed : (plan : BootPlan) (element number : ℕ) (step : Step) (deed : Deed) (
 by_deed plan element number step (deeds.Heard woken) heard is comes count = (record { step = step; is = is; hears = hears step woken comes }, tt)
 by_deed plan element number step deed heard is comes count = tt
 
-by_entry : (plan : BootPlan) (entry : Entry) → IsPlanned plan entry → AllByRecursion (IsHear plan) (map key_of (heard_by entry))
+by_entry : (plan : BootPlan) (entry : LogEntry) → FollowsPlan plan entry → AllByRecursion (IsHear plan) (map key_of (heard_by entry))
 by_entry plan (Tended advanced alarms) h = tt
 by_entry plan (Delivered element mask) h = tt
 by_entry plan (Tried element number step deed count heard) h = by_deed plan element number step deed heard h.0 h.1 count
@@ -70,20 +70,20 @@ both : {A : Type 0} (P : A → Type 0) (xs ys : List A) → AllByRecursion P xs 
 both P [] ys h k = k
 both P (x ∷ xs) ys h k = (h.0, both P xs ys h.1 k)
 
-by_log : (plan : BootPlan) (log : List Entry) → AllByRecursion (IsPlanned plan) log → AllByRecursion (IsHear plan) (map key_of (flat_map heard_by log))
+by_log : (plan : BootPlan) (log : List LogEntry) → AllByRecursion (FollowsPlan plan) log → AllByRecursion (IsHear plan) (map key_of (flat_map heard_by log))
 by_log plan [] h = tt
 by_log plan (entry ∷ log) h = subst (λ (z : List Key). AllByRecursion (IsHear plan) z) (sym (map-append key_of (heard_by entry) (flat_map heard_by log)))
     (both (IsHear plan) (map key_of (heard_by entry)) (map key_of (flat_map heard_by log)) (by_entry plan entry h.0) (by_log plan log h.1))
 
-by_logs : (plan : BootPlan) (logs : List (List Entry)) → AllByRecursion (AllByRecursion (IsPlanned plan)) logs → AllByRecursion (IsHear plan) (map key_of (flat_map (flat_map heard_by) logs))
+by_logs : (plan : BootPlan) (logs : List (List LogEntry)) → AllByRecursion (AllByRecursion (FollowsPlan plan)) logs → AllByRecursion (IsHear plan) (map key_of (flat_map (flat_map heard_by) logs))
 by_logs plan [] h = tt
 by_logs plan (log ∷ logs) h = subst (λ (z : List Key). AllByRecursion (IsHear plan) z) (sym (map-append key_of (flat_map heard_by log) (flat_map (flat_map heard_by) logs)))
     (both (IsHear plan) (map key_of (flat_map heard_by log)) (map key_of (flat_map (flat_map heard_by) logs)) (by_log plan log h.0) (by_logs plan logs h.1))
 
 -- ALL
 
-module _ (plan : BootPlan) (logs : List (List Entry)) (stations : List Parts) (first last : Parts) (left : AllZip (Leaves plan) logs stations)
-    (begun : IsPrepared plan first) (joins : AllJoined first stations last) (c : Closed) (e : ThreadsEnded last c) where
+module _ (plan : BootPlan) (logs : List (List LogEntry)) (stations : List Parts) (first last : Parts) (left : AllZip (Leaves plan) logs stations)
+    (begun : IsPrepared plan first) (joins : AllJoined first stations last) (c : ClosedTables) (e : ThreadsEnded last c) where
   heard_are : flat_map heard_lines stations ≡ flat_map heard_by (all_of logs)
   heard_are = zip_lists (Leaves plan) heard_lines (flat_map heard_by) (λ log p l. l.heard) logs stations left ∙ sym (flat_all heard_by logs)
 

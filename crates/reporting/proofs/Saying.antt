@@ -13,11 +13,11 @@ use Rattle.boot_data.specs.declared.report.Report.{Report}
 use Rattle.boot_data.specs.declared.report.ThreadLine.{ThreadLine}
 use Rattle.boot_data.specs.declared.report.TtyLines.{TtyLines}
 use Rattle.boot_data.specs.QueueLists.{raw_queue, line_queue, screen_queue}
-use Rattle.closing.specs.declared.all.Ended.{Ended}
+use Rattle.closing.specs.declared.all.Unmade.{Unmade}
 use Rattle.processor.specs.Running.{Line}
 use Rattle.processor.proofs.Fitted.{few_steps}
-use Rattle.reports.specs.Closed.{Closed}
-use Rattle.reports.specs.Closed as closed
+use Rattle.reports.specs.ClosedTables.{ClosedTables}
+use Rattle.reports.specs.ClosedTables as closed
 use Rattle.reports.specs.Lines.{Says, AreWhole, QueueSaid, TtySaid, TtyQueuesSaid, MoverSaid, GaugeSaid, AlarmsSaid, ThreadSaid, HeardSaid}
 use Rattle.reports.proofs.Meters.{got_take}
 use Rattle.reporting.specs.declared.ttys.Typed.{Typed}
@@ -27,7 +27,7 @@ use Rattle.reporting.proofs.Limits.{few_ttys, few_movers, few_gauges}
 use Rattle.reporting.proofs.Numbering.{as_many, made_at, mapped_at}
 use Rattle.reporting.proofs.Shown.{got_left, got_right, counts_are, chain_is, device_is, all_left, said_at, few_is}
 
-module _ (c : Closed) (ended : Ended) (heard : List Line) (typed : List Typed) (r : Report) (s : Shows c ended typed) (m : IsMade ended heard typed r) (eight : length ended.meters.gauges ≡ 8) where
+module _ (c : ClosedTables) (ended : Unmade) (heard : List Line) (typed : List Typed) (r : Report) (s : Shows c ended typed) (m : IsMade ended heard typed r) (eight : length ended.meters.gauges ≡ 8) where
   whole : AreWhole ended.plan c r
   whole = record {
     queues = ap length m.queues ∙ as_many (queue_line ended.small.items) 0 ended.plan.queues;

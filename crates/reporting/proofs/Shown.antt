@@ -8,8 +8,8 @@ use Rattle.claim_queue.specs.declared.close.Closed.{Closed as ClosedQueue}
 use Rattle.quajects.specs.declared.came.Came.{Came}
 use Rattle.thread_table.specs.declared.places.Place.{Place}
 use Rattle.thread_table.specs.declared.places.Place.TheVariants as places
-use Rattle.reports.specs.Closed.{Closed}
-use Rattle.reports.specs.Closed as closed
+use Rattle.reports.specs.ClosedTables.{ClosedTables}
+use Rattle.reports.specs.ClosedTables as closed
 use Rattle.reports.specs.Lines as lines
 use Rattle.reports.specs.Lines.{state_for, left_of}
 use Rattle.reporting.specs.declared.ttys.Typed.{Typed}

@@ -7,7 +7,7 @@ use Rattle.claim_queue.specs.declared.close.Closed.{Closed as Shut}
 use Rattle.claim_queue.specs.declared.ends.ClaimQueue.{ClaimQueue}
 use Rattle.claim_queue.specs.declared.ends.QueueEnd.{QueueEnd}
 use Rattle.claim_queue.specs.Handles.{view_of}
-use Rattle.closing.specs.declared.all.Ended.{Ended}
+use Rattle.closing.specs.declared.all.Unmade.{Unmade}
 use Rattle.closing.specs.ClosedQueues.{IsClosed, AreClosed}
 use Rattle.closing.specs.Retirals.{HasRetired, HaveRetired}
 use Rattle.closing.proofs.Drawing.{three_long}
@@ -16,7 +16,7 @@ use Rattle.proc_chain.specs.declared.ends.ProcChain.{ProcChain}
 use Rattle.proc_chain.specs.declared.quaject.Quaject.{Ghosts}
 use Rattle.processor.specs.declared.shared.Shared.{Shared}
 use Rattle.processor.specs.declared.station.Parts.{Parts}
-use Rattle.processor.specs.Logs.{Entry}
+use Rattle.processor.specs.Logs.{LogEntry}
 use Rattle.processor.specs.Programs.{program, hear_count}
 use Rattle.processor.specs.Turns.{heard_lines}
 use Rattle.quajects.specs.declared.any.AnyQuaject.{AnyQuaject}
@@ -27,8 +27,8 @@ use Rattle.quajects.specs.Homes.{home_in, homes_in}
 use Rattle.quajects.specs.Settled.{runs_of}
 use Rattle.table_theory.specs.declared.queues.Batch.{Batch}
 use Rattle.reports.specs.Boots.{Boot, BootEnded, small_others, large_others}
-use Rattle.reports.specs.Closed.{Closed}
-use Rattle.reports.specs.Closed as closed
+use Rattle.reports.specs.ClosedTables.{ClosedTables}
+use Rattle.reports.specs.ClosedTables as closed
 use Rattle.reports.specs.Closings.{items_from, queue_of, queues_from, thread_of, came_home, chains_of, boot_of, closed_of, BootShut}
 use Rattle.reports.specs.Endings.{ThreadsEnded, small_of, large_of}
 use Rattle.reports.specs.Lines.{Says}
@@ -112,12 +112,12 @@ module _ {g : Ghosts AnyQuaject Queues} where
 
 -- ALL
 
-module _ (shared : Shared) (logs : List (List Entry)) (first : Parts) (stations : List Parts) (last : Parts) (ttys : List RawTty) (devices : List closed.Device) (parts : Parts) (ended : Ended)
+module _ (shared : Shared) (logs : List (List LogEntry)) (first : Parts) (stations : List Parts) (last : Parts) (ttys : List RawTty) (devices : List closed.Device) (parts : Parts) (ended : Unmade)
     (s : BootShut shared logs first stations last ttys devices parts ended) (typed : List Typed) where
   abbrev boot : Boot
   boot = boot_of shared.plan first stations last ttys parts (homes_in ended.counts.items)
 
-  abbrev tables : Closed
+  abbrev tables : ClosedTables
   tables = closed_of shared.plan boot ended
       (came_home shared.chains.items parts.chains.items (homes_in ended.counts.items) s.closed.homes) devices
 

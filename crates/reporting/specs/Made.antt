@@ -18,7 +18,7 @@ use Rattle.boot_data.specs.declared.report.ThreadState.TheVariants as states
 use Rattle.boot_data.specs.declared.report.TtyLines.{TtyLines}
 use Rattle.boot_data.specs.QueueLists.{raw_queue, line_queue, screen_queue}
 use Rattle.claim_queue.specs.declared.close.Closed.{Closed}
-use Rattle.closing.specs.declared.all.Ended.{Ended}
+use Rattle.closing.specs.declared.all.Unmade.{Unmade}
 use Rattle.quajects.specs.declared.came.Came.{Came}
 use Rattle.thread_table.specs.declared.places.Place.{Place}
 use Rattle.thread_table.specs.declared.places.Place.TheVariants as places
@@ -69,7 +69,7 @@ abbrev pub typed_at : List Typed → ℕ → Typed
 typed_at typed tty = typed_of (slice_get typed tty)
 
 -- The lines of the tty with this number. The chains of the ttys stand behind those of the pumps and switches
-abbrev pub tty_lines : Ended → List Typed → ℕ → PlannedTty → TtyLines
+abbrev pub tty_lines : Unmade → List Typed → ℕ → PlannedTty → TtyLines
 tty_lines ended typed number tty = record {
   name = tty.name;
   typed = (typed_at typed number).popped;
@@ -108,7 +108,7 @@ abbrev pub shown_at : List ℕ → ℕ → ℕ
 shown_at signals thread = slice_index_or signals thread 0
 
 -- the line of the thread with this number
-abbrev pub thread_line : Ended → ℕ → PlannedThread → ThreadLine
+abbrev pub thread_line : Unmade → ℕ → PlannedThread → ThreadLine
 thread_line ended number thread = record {
   name = thread.name;
   state = state_at ended.threads.places number;
@@ -129,7 +129,7 @@ abbrev pub alarm_counts : ℕ → ℕ → AlarmCounts
 alarm_counts set left = record { set = set; fired = set - left; left = left }
 
 -- the report is made, line by line, of what was closed, of these lines that were heard, and of what the devices did
-pub record IsMade (ended : Ended) (heard : List Line) (typed : List Typed) (r : Report) : Type 0 where
+pub record IsMade (ended : Unmade) (heard : List Line) (typed : List Typed) (r : Report) : Type 0 where
   pub queues : r.queues ≡ numbered (queue_line ended.small.items) 0 ended.plan.queues
   pub ttys : r.ttys ≡ numbered (tty_lines ended typed) 0 ended.plan.ttys
   pub movers : r.movers ≡ numbered (mover_line ended.counts.items) 0 ended.plan.movers

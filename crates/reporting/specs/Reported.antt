@@ -2,10 +2,10 @@
 use Rattle.std.specs.Prelude.{List, map, IsPermutation}
 use Rattle.std.specs.Global.{Vec}
 use Rattle.boot_data.specs.declared.report.Report.{Report}
-use Rattle.closing.specs.declared.all.Ended.{Ended}
+use Rattle.closing.specs.declared.all.Unmade.{Unmade}
 use Rattle.processor.specs.declared.station.Heard.{Heard}
 use Rattle.processor.specs.Running.{Line, line_heard}
-use Rattle.reports.specs.Closed.{Closed}
+use Rattle.reports.specs.ClosedTables.{ClosedTables}
 use Rattle.reports.specs.Lines.{Says}
 use Rattle.reports.specs.Reports.{Ascend}
 use Rattle.reporting.specs.declared.ttys.Typed.{Typed}
@@ -18,9 +18,9 @@ lines_of heard = map line_heard heard.items
 
 -- it is made of what was closed, its heard lines are these, in order, and it says the numbers of any closed tables that
 -- are shown
-pub record IsReported (ended : Ended) (lines : List Line) (typed : List Typed) (r : Report) : Type 0 where
+pub record IsReported (ended : Unmade) (lines : List Line) (typed : List Typed) (r : Report) : Type 0 where
   pub heard : List Line
   pub all_heard : IsPermutation lines heard
   pub ascend : Ascend heard
   pub made : IsMade ended heard typed r
-  pub says : (c : Closed) → Shows c ended typed → Says ended.plan c heard r
+  pub says : (c : ClosedTables) → Shows c ended typed → Says ended.plan c heard r

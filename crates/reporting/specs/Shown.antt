@@ -2,15 +2,15 @@
 use Rattle.std.specs.Prelude.{◌≡◌, ◌+◌, ◌-◌, ◌*◌, ◌<◌, ◌≤◌, ℕ, List, ◌++◌, length, take, Some, slice_index_or}
 use Rattle.std.specs.List.{slice_get}
 use Rattle.claim_queue.specs.declared.close.Closed.{Closed as ClosedQueue}
-use Rattle.closing.specs.declared.all.Ended.{Ended}
+use Rattle.closing.specs.declared.all.Unmade.{Unmade}
 use Rattle.quajects.specs.declared.came.Came.{Came}
 use Rattle.quajects.specs.Anys.{notes_of, all_taken, all_puts, held_of}
 use Rattle.quajects.specs.Lines.{counted}
 use Rattle.thread_table.specs.declared.places.Place.{Place}
 use Rattle.thread_table.specs.declared.places.Place.TheVariants as places
 use Rattle.processor.specs.Programs.{program}
-use Rattle.reports.specs.Closed.{Closed}
-use Rattle.reports.specs.Closed as closed
+use Rattle.reports.specs.ClosedTables.{ClosedTables}
+use Rattle.reports.specs.ClosedTables as closed
 use Rattle.reporting.specs.declared.amounts.Numbers.{Numbers}
 use Rattle.reporting.specs.declared.ttys.Typed.{Typed}
 
@@ -55,7 +55,7 @@ IsNamed (places.Wait wait) = wait < 16
 IsNamed place = Unit {0}
 
 -- a thread: where it stands, its steps, of which it has done no more than its program has, and its signals
-pub record ShowsThread (ended : Ended) (thread : ℕ) (t : closed.Thread) : Type 0 where
+pub record ShowsThread (ended : Unmade) (thread : ℕ) (t : closed.Thread) : Type 0 where
   pub place : t.place ≡ slice_index_or ended.threads.places thread places.Held
   pub named : IsNamed t.place
   pub steps : t.steps ≡ slice_index_or ended.threads.pcs thread 0
@@ -74,7 +74,7 @@ pub record ShowsDevices (devices : List closed.Device) (typed : List Typed) : Ty
       → ShowsDevice d its
 
 -- as many tables of each kind as the plan has things
-pub record AreAll (ended : Ended) (c : Closed) : Type 0 where
+pub record AreAll (ended : Unmade) (c : ClosedTables) : Type 0 where
   pub small : length c.small ≡ length ended.plan.queues + length ended.plan.ttys
   pub large : length c.large ≡ length ended.plan.ttys * 2
   pub movers : length c.movers ≡ length ended.plan.movers
@@ -83,7 +83,7 @@ pub record AreAll (ended : Ended) (c : Closed) : Type 0 where
   pub threads : length c.threads ≡ length ended.plan.threads
 
 -- the numbers of what was closed, and of the devices, are those of the closed tables
-pub record Shows (c : Closed) (ended : Ended) (typed : List Typed) : Type 0 where
+pub record Shows (c : ClosedTables) (ended : Unmade) (typed : List Typed) : Type 0 where
   pub all : AreAll ended c
   pub small : ShowsQueues c.small ended.small.items
   pub large : ShowsQueues c.large ended.large.items

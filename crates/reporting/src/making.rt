@@ -2,7 +2,7 @@
 ghost use Rattle.std.specs.Prelude.{◌≡◌, ◌≤◌, length, map, flat_map};
 ghost use Rattle.processor.specs.Programs.{hear_count};
 ghost use Rattle.processor.specs.Running.{line_heard};
-ghost use Rattle.reports.specs.Closed.{Closed};
+ghost use Rattle.reports.specs.ClosedTables.{ClosedTables};
 ghost use Rattle.reports.specs.Lines.{Says};
 ghost use Rattle.reporting.specs.Made.{IsMade, alarm_counts};
 ghost use Rattle.reporting.specs.Reported.{IsReported, lines_of};
@@ -36,11 +36,11 @@ fn counts_of_alarms(set: usize, left: usize) -> AlarmCounts
 /// of each tty did, and what was heard, in the order in which it stands. It takes no memory.
 ///
 /// Conditions: the lines have room for those of the plan, and no more was heard than the plan has steps that hear.
-pub fn make_report(ended: Ended, heard: Vec<Heard>, typed: &[Typed], lines: Lines) -> Report
+pub fn make_report(ended: Unmade, heard: Vec<Heard>, typed: &[Typed], lines: Lines) -> Report
     requires room { HasRoom ended.plan lines }
     requires few { length heard.items ≤ hear_count ended.plan }
     ensures made { IsMade ended (map line_heard heard.items) typed.now result }
-    ensures says { (c : Closed) → Shows c ended typed.now → Says ended.plan c (map line_heard heard.items) result }
+    ensures says { (c : ClosedTables) → Shows c ended typed.now → Says ended.plan c (map line_heard heard.items) result }
 {
     let plan = ended.plan();
     let counts = ended.counts();
@@ -68,7 +68,7 @@ pub fn make_report(ended: Ended, heard: Vec<Heard>, typed: &[Typed], lines: Line
 /// memory.
 ///
 /// Conditions: those of `make_report`.
-pub fn report_boot(ended: Ended, heard: Vec<Vec<Heard>>, typed: &[Typed], room: Room) -> Report
+pub fn report_boot(ended: Unmade, heard: Vec<Vec<Heard>>, typed: &[Typed], room: Room) -> Report
     requires room { HasAllRoom ended.plan room }
     requires few { length (flat_map lines_of heard.items) ≤ hear_count ended.plan }
     ensures { IsReported ended (flat_map lines_of heard.items) typed.now result }

@@ -51,7 +51,7 @@ fn shown_in(signals: &[u16], thread: usize) -> u16
 }
 
 // The line of the thread with this number.
-fn line_of(number: usize, thread: &PlannedThread, ended: &Ended) -> ThreadLine
+fn line_of(number: usize, thread: &PlannedThread, ended: &Unmade) -> ThreadLine
     ensures { result ≡ thread_line ended.now number thread.now }
 {
     ThreadLine {
@@ -63,7 +63,7 @@ fn line_of(number: usize, thread: &PlannedThread, ended: &Ended) -> ThreadLine
 }
 
 /// The line of each thread, in the order of the script.
-pub(crate) fn thread_lines(ended: &Ended, lines: Vec<ThreadLine>) -> Vec<ThreadLine>
+pub(crate) fn thread_lines(ended: &Unmade, lines: Vec<ThreadLine>) -> Vec<ThreadLine>
     requires room { (lines.items ≡ []) × (length ended.now.plan.threads ≤ vec_capacity lines) }
     ensures { result.items ≡ numbered (thread_line ended.now) 0 ended.now.plan.threads }
 {

@@ -28,7 +28,7 @@ fn typed_in(typed: &[Typed], tty: usize) -> Typed
 }
 
 // The lines of the tty with this number.
-fn lines_of(number: usize, tty: &PlannedTty, ended: &Ended, typed: &[Typed]) -> TtyLines
+fn lines_of(number: usize, tty: &PlannedTty, ended: &Unmade, typed: &[Typed]) -> TtyLines
     requires low { number < 2 }
     ensures { result ≡ tty_lines ended.now typed.now number tty.now }
 {
@@ -49,7 +49,7 @@ fn lines_of(number: usize, tty: &PlannedTty, ended: &Ended, typed: &[Typed]) -> 
 }
 
 /// The lines of each tty, in the order of the script. There are two at most.
-pub(crate) fn lines_of_ttys(ended: &Ended, typed: &[Typed], lines: Vec<TtyLines>) -> Vec<TtyLines>
+pub(crate) fn lines_of_ttys(ended: &Unmade, typed: &[Typed], lines: Vec<TtyLines>) -> Vec<TtyLines>
     requires room { (lines.items ≡ []) × (length ended.now.plan.ttys ≤ vec_capacity lines) }
     ensures { result.items ≡ numbered (tty_lines ended.now typed.now) 0 ended.now.plan.ttys }
 {

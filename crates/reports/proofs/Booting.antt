@@ -21,13 +21,13 @@ use Rattle.quajects.specs.declared.any.AnyQuaject.{AnyQuaject}
 use Rattle.quajects.specs.declared.any.AnyQuaject.TheVariants as any
 use Rattle.quajects.specs.declared.home.Home.{Home}
 use Rattle.quajects.specs.Settled.{runs_of}
-use Rattle.processor.specs.Logs.{Entry, Leaves, heard_by, fired_by}
+use Rattle.processor.specs.Logs.{LogEntry, Leaves, heard_by, fired_by}
 use Rattle.processor.specs.Running.{Line}
 use Rattle.processor.specs.Turns.{heard_lines}
 use Rattle.reports.specs.Agreements.{IsTakenByQuajects, IsSmallPutByQuajects, IsLargePutByQuajects, IsMover, IsTty, TtyAgrees}
 use Rattle.reports.specs.Boots.{TtyEnds, Boot, BootEnded, home_of, raw_of, homes, small_others, large_others}
-use Rattle.reports.specs.Closed.{Closed}
-use Rattle.reports.specs.Closed as closed
+use Rattle.reports.specs.ClosedTables.{ClosedTables}
+use Rattle.reports.specs.ClosedTables as closed
 use Rattle.reports.specs.Endings.{MoverEnded, TtyEnded, small_of, small_home, device_at}
 use Rattle.reports.specs.Lines.{left_of}
 use Rattle.reports.specs.Lists.{all_of}
@@ -118,7 +118,7 @@ tty_below many raw line screen (any.Cooked tty) h = tt
 tty_below many raw line screen (any.Pump pump) h = absurd h
 tty_below many raw line screen (any.Switch switch) h = absurd h
 
-module _ (plan : BootPlan) (logs : List (List Entry)) (boot : Boot) (c : Closed) (heard : List Line) (r : Report) (b : BootEnded plan logs boot c heard r) where
+module _ (plan : BootPlan) (logs : List (List LogEntry)) (boot : Boot) (c : ClosedTables) (heard : List Line) (r : Report) (b : BootEnded plan logs boot c heard r) where
   tty_there : (tty : ℕ) (ends : TtyEnds) (t : closed.Chain) → slice_get boot.ttys tty ≡ Some ends → slice_get c.ttys tty ≡ Some t
       → (p : PlannedTty) × (d : closed.Device) × TtyEnded (length plan.queues) tty p ends.chain ends.home t ends.raw d
   tty_there tty ends t at at' =

@@ -23,11 +23,11 @@ use Rattle.quajects.specs.Anys.{IsKept, notes_of}
 use Rattle.processor.specs.declared.deed.Deed.{Deed}
 use Rattle.processor.specs.declared.deed.Deed.TheVariants as deeds
 use Rattle.processor.specs.declared.station.Parts.{Parts}
-use Rattle.processor.specs.Logs.{Entry, Tended, Delivered, Tried, Retired, Leaves, chained_by, chained}
+use Rattle.processor.specs.Logs.{LogEntry, Tended, Delivered, Tried, Retired, Leaves, chained_by, chained}
 use Rattle.processor.specs.Partings.{AllJoined}
 use Rattle.processor.specs.Preparing.{IsPrepared}
 use Rattle.reports.specs.Agreements.{MoverAgrees}
-use Rattle.reports.specs.Closed as closed
+use Rattle.reports.specs.ClosedTables as closed
 use Rattle.reports.specs.Doings.{is_poke}
 use Rattle.reports.specs.Endings.{ChainEnded, MoverEnded}
 use Rattle.reports.specs.Lists.{all_of}
@@ -71,19 +71,19 @@ module _ (number : ℕ) where
   by_step (steps.Poke at) element n (deeds.Poked answer) count heard = one_note (number == at)
   by_step step element n deed count heard = refl
 
-  by_entry : (entry : Entry) → length (concat (chained_by number entry)) ≡ plus (is_poke number entry)
+  by_entry : (entry : LogEntry) → length (concat (chained_by number entry)) ≡ plus (is_poke number entry)
   by_entry (Tended advanced alarms) = refl
   by_entry (Delivered element mask) = refl
   by_entry (Tried element n step deed count heard) = by_step step element n deed count heard
   by_entry (Retired element n) = refl
 
-  pokes_are : (log : List Entry) → length (concat (flat_map (chained_by number) log)) ≡ count_by (is_poke number) log
+  pokes_are : (log : List LogEntry) → length (concat (flat_map (chained_by number) log)) ≡ count_by (is_poke number) log
   pokes_are [] = refl
   pokes_are (entry ∷ log) = ap length (concat-append (chained_by number entry) (flat_map (chained_by number) log))
       ∙ (length-append (concat (chained_by number entry)) (concat (flat_map (chained_by number) log))
       ∙ ((λ k. by_entry entry k + pokes_are log k) ∙ sym (many_cons (is_poke number) entry log)))
 
-module _ (plan : BootPlan) (logs : List (List Entry)) (stations : List Parts) (first last : Parts) (left : AllZip (Leaves plan) logs stations)
+module _ (plan : BootPlan) (logs : List (List LogEntry)) (stations : List Parts) (first last : Parts) (left : AllZip (Leaves plan) logs stations)
     (begun : IsPrepared plan first) (joins : AllJoined first stations last) (number : ℕ) where
   put_are : notes_put_at last.chains.items number ≡ flat_map (chained_by number) (all_of logs)
   put_are = joined_from_none (λ p. notes_put_at p.chains.items number) (λ a b c j. j.chains.puts number) first stations last (begun.chains number) joins

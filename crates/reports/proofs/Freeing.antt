@@ -26,7 +26,7 @@ use Rattle.thread_table.specs.declared.rule.Made.{Made}
 use Rattle.thread_table.specs.Makers.{is_join, made_in, numbered, AreMade}
 use Rattle.thread_table.specs.Retiring as retiring
 use Rattle.thread_table.specs.Rules.{done_at}
-use Rattle.thread_table.specs.Schedules.{begun, state_after, elements_after, IsAllowed, line_at, thread_at, element_of}
+use Rattle.thread_table.specs.Schedules.{begun, state_after, elements_after, IsAllowed, ring_at, thread_at, element_of}
 use Rattle.thread_table.proofs.SingleRuns.{Singles, flat_single}
 use Rattle.thread_table.proofs.Schedules.{elements_of}
 use Rattle.processor.specs.Programs.{Key, program}
@@ -194,13 +194,13 @@ module _ (x : ℕ) where
 
 -- A free element was put there by an event in the list of the only hand, with no more steps than it has done
 pub retired_once : (past : List Event) (l : List Made) (x : ℕ) → IsAllowed past → AreMade past (l ∷ []) → retiring.AreRetired past
-    → Singles (line_at (elements_after past) 1).history → 64 ≤ (line_at (elements_after past) 1).taken
-    → list_any (λ item. item == x) (left (line_at (elements_after past) 1)) ≡ true → list_any (with_few x (done_at past x)) (flat_map retired_by l) ≡ true
+    → Singles (ring_at (elements_after past) 1).history → 64 ≤ (ring_at (elements_after past) 1).taken
+    → list_any (λ item. item == x) (left (ring_at (elements_after past) 1)) ≡ true → list_any (with_few x (done_at past x)) (flat_map retired_by l) ≡ true
 unfolding IsAllowed begun
 retired_once past l x allowed made retired single many free =
     let d : ℕ = done_of x (state_after past) in
     let same : done_at past x ≡ d = ap (λ z. (thread_at z x).done) (elements_of past) ∙ same_done x (state_after past).elements.threads x in
-    let any = left_retired x (line_at (elements_after past) 1) (retiring.retired_in past) single retired many free in
+    let any = left_retired x (ring_at (elements_after past) 1) (retiring.retired_in past) single retired many free in
     let here : list_any (with_few x d) (flat_map retired_by (numbered (first_state 64) past)) ≡ true = retired_here x [] past (first_state 64) (state_after past) refl allowed any in
     ap (λ z. list_any (with_few x z) (flat_map retired_by l)) same
     ∙ (sym (any_flat (with_few x d) retired_by l)

@@ -12,7 +12,7 @@ use Rattle.claim_queue.specs.Closings.{ClosedNow}
 use Rattle.table_theory.specs.declared.queues.Batch.{Batch}
 use Rattle.table_theory.specs.declared.queues.Cell.{Cell}
 use Rattle.table_theory.specs.Filing.{Owned, ListedOnce}
-use Rattle.table_theory.specs.Listing.{all_places, Chained}
+use Rattle.table_theory.specs.Listing.{all_places, Adjacent}
 use Rattle.table_theory.specs.Positioned.{blank, item_of}
 use Rattle.reports.specs.Closings.{lies_in, item_at, items_from}
 use Rattle.thread_table.proofs.Counts.{by_bool, is_less}
@@ -51,7 +51,7 @@ told p x (run ∷ runs) all (suc m) e at it = by_bool (lies_in p run)
     (λ isnt. ap (λ (b : Bool). if b then in_run p run else item_at runs p) isnt ∙ told p x runs (λ m e at. all (suc m) e at) m e at it)
 
 -- in a chained log each run has its places
-in_log : (q p : ℕ) (log : List (Owned Batch)) → Chained q log → (k : ℕ) (o : Owned Batch) → get_elem? log k ≡ some o → lies_in p o.2 ≡ true
+in_log : (q p : ℕ) (log : List (Owned Batch)) → Adjacent q log → (k : ℕ) (o : Owned Batch) → get_elem? log k ≡ some o → lies_in p o.2 ≡ true
     → (q ≤ p) × (in_run p o.2 ≡ (get_or (all_places log) (p - q) blank).item)
 in_log q p [] c k o at it = absurd (some-ne-none o (sym at))
 in_log q p (x ∷ log) c zero o at it =
@@ -69,7 +69,7 @@ in_log q p (x ∷ log) c (suc k) o at it =
     )
 
 -- and each position lies in one
-some_run : (q i : ℕ) (log : List (Owned Batch)) → Chained q log → i < length (all_places log) → (k : ℕ) × (o : Owned Batch) × (get_elem? log k ≡ some o) × (lies_in (q + i) o.2 ≡ true)
+some_run : (q i : ℕ) (log : List (Owned Batch)) → Adjacent q log → i < length (all_places log) → (k : ℕ) × (o : Owned Batch) × (get_elem? log k ≡ some o) × (lies_in (q + i) o.2 ≡ true)
 some_run q i [] c low = absurd (omega arith)
 some_run q i (x ∷ log) c low = dite (dec_lt i (length x.2.places))
     (λ inside. (0, x, refl, lies_there (q + i) x.2 (let s = c.0 in omega arith) (let s = c.0 in omega arith)))
@@ -81,7 +81,7 @@ pub of_first : (l k : List Batch) (c m : ℕ) (x : Batch) → get_elem? {A = Lis
 of_first l k zero m x has is = subst (λ (z : List Batch). get_elem? z m ≡ some x) (sym (some-injective l k has)) is
 of_first l k (suc c) m x has is = absurd (some-ne-none k (sym has))
 
-one_item : (q i : ℕ) (log : List (Owned Batch)) (l : List Batch) → ListedOnce log (l ∷ []) → Chained q log → i < length (all_places log)
+one_item : (q i : ℕ) (log : List (Owned Batch)) (l : List Batch) → ListedOnce log (l ∷ []) → Adjacent q log → i < length (all_places log)
     → item_at l (q + i) ≡ (get_or (all_places log) i blank).item
 one_item q i log l f c low =
     let r = some_run q i log c low in let s = f.stands r.0 r.1 r.2 in
@@ -99,5 +99,5 @@ listed l p (x ∷ xs) h = λ k. (ap (item_at l) (let z : p ≡ p + 0 = omega ari
 pub items_are : (v : View) (first put taken : ℕ) (left : List _) (c : ClosedNow v first put taken left) → items_from v.part.runs first put ≡ map item_of c.queue.places
 items_are v first put taken left c = let s = c.listed in
     ap (λ (z : ℕ). items_from v.part.runs z put) (sym c.starts) ∙ (ap (items_from v.part.runs c.queue.first) c.puts
-    ∙ listed v.part.runs c.queue.first c.queue.places (λ i low. one_item c.queue.first i s.runs v.part.runs s.runs_filed s.runs_chained (let e = ap length s.runs_flat in omega arith)
+    ∙ listed v.part.runs c.queue.first c.queue.places (λ i low. one_item c.queue.first i s.runs v.part.runs s.runs_filed s.runs_adjacent (let e = ap length s.runs_flat in omega arith)
     ∙ ap (λ (z : List Cell). (get_or z i blank).item) s.runs_flat))

@@ -6,11 +6,11 @@ use Rattle.meters.specs.declared.rule.View.{View}
 use Rattle.meters.specs.Handles.{view_of}
 use Rattle.meters.specs.Views.{amount_on, times}
 use Rattle.processor.specs.declared.station.Parts.{Parts}
-use Rattle.processor.specs.Logs.{Entry, Leaves, ticked_by, fired_by}
+use Rattle.processor.specs.Logs.{LogEntry, Leaves, ticked_by, fired_by}
 use Rattle.processor.specs.Partings.{AllJoined}
 use Rattle.processor.specs.Preparing.{IsPrepared}
 use Rattle.reports.specs.Agreements.{GaugesAgree, AlarmsAgree}
-use Rattle.reports.specs.Closed.{Closed}
+use Rattle.reports.specs.ClosedTables.{ClosedTables}
 use Rattle.reports.specs.Endings.{MetersEnded}
 use Rattle.reports.specs.Lists.{all_of}
 use Rattle.reports.proofs.Joining.{joined_lists, joined_from_none}
@@ -22,14 +22,14 @@ got_take (suc n) [] k x d e = absurd (cc)
 got_take (suc n) (y ∷ l) zero x d e = let h : y ≡ x = cc in (omega arith, h)
 got_take (suc n) (y ∷ l) (suc k) x d e = let h = got_take n l k x d e in let low = h.0 in (omega arith, h.1)
 
-nothing : {A : Type 0} (logs : List (List Entry)) → flat_map {A = A} (λ log. []) logs ≡ []
+nothing : {A : Type 0} (logs : List (List LogEntry)) → flat_map {A = A} (λ log. []) logs ≡ []
 nothing [] = refl
 nothing (l ∷ ls) = nothing ls
 
 abbrev seat : Parts → View
 seat parts = view_of parts.meters
 
-module _ (plan : BootPlan) (logs : List (List Entry)) (stations : List Parts) (first last : Parts) (left : AllZip (Leaves plan) logs stations)
+module _ (plan : BootPlan) (logs : List (List LogEntry)) (stations : List Parts) (first last : Parts) (left : AllZip (Leaves plan) logs stations)
     (begun : IsPrepared plan first) (joins : AllJoined first stations last) where
   ticks_are : (seat last).ticks ≡ flat_map ticked_by (all_of logs)
   ticks_are = joined_from_none (λ p. (seat p).ticks) (λ a b c j. ap (λ o. o.ticks) j.own) first stations last begun.ticks joins
@@ -48,12 +48,12 @@ module _ (plan : BootPlan) (logs : List (List Entry)) (stations : List Parts) (f
       ∙ ((λ k. begun.alarms k ++ (zip_lists (Leaves plan) (λ p. (seat p).set) (λ log. []) (λ log p l. ap (λ o. o.set) l.meters) logs stations left ∙ nothing logs) k)
       ∙ append-nil plan.alarms)
 
-  pub gauges_agree : (c : Closed) → MetersEnded plan last c → GaugesAgree c.gauges logs
+  pub gauges_agree : (c : ClosedTables) → MetersEnded plan last c → GaugesAgree c.gauges logs
   gauges_agree c e g value at =
       let h = got_take (length plan.gauges) e.gauges g value 0 (subst (λ l. slice_get l g ≡ Some value) e.gauges_are at) in
       sym h.1 ∙ (e.closes.all.sums g (let low = h.0 in let few = e.few in omega arith) ∙ ap (λ z. amount_on g z % 18446744073709551616) ticks_are)
 
-  pub alarms_agree : (c : Closed) → MetersEnded plan last c → AlarmsAgree plan c logs
+  pub alarms_agree : (c : ClosedTables) → MetersEnded plan last c → AlarmsAgree plan c logs
   alarms_agree c e = record {
     each = λ a. let s : times a (seat last).set ≡ times a plan.alarms = ap (times a) set_are in
         let f : times a (seat last).fired ≡ times a c.fired = ap (times a) (sym e.fired) in

@@ -29,19 +29,19 @@ use Rattle.thread_table.specs.declared.rule.View.{View}
 use Rattle.thread_table.specs.Closings.{ClosedNow, StandsAt}
 use Rattle.thread_table.specs.Handles.{view_of}
 use Rattle.thread_table.specs.Rules.{done_at}
-use Rattle.thread_table.specs.Schedules.{elements_after, line_at}
+use Rattle.thread_table.specs.Schedules.{elements_after, ring_at}
 use Rattle.thread_table.specs.Shown.{WordsShow}
 use Rattle.processor.specs.declared.deed.Deed.{Deed}
 use Rattle.processor.specs.declared.deed.Deed.TheVariants as deeds
 use Rattle.processor.specs.declared.station.Parts.{Parts}
-use Rattle.processor.specs.Logs.{Entry, Tended, Delivered, Tried, Retired, Leaves, IsPlanned, tally_by, tally_of, fired_by}
+use Rattle.processor.specs.Logs.{LogEntry, Tended, Delivered, Tried, Retired, Leaves, FollowsPlan, tally_by, tally_of, fired_by}
 use Rattle.processor.specs.Programs.{Key, program}
 use Rattle.processor.specs.Steps.{raised_by}
 use Rattle.processor.specs.Partings.{AllJoined}
 use Rattle.processor.specs.Preparing.{IsPrepared, HasDoneAll}
 use Rattle.reports.specs.Agreements.{PlaceAgrees, ThreadAgrees}
-use Rattle.reports.specs.Closed.{Closed}
-use Rattle.reports.specs.Closed as closed
+use Rattle.reports.specs.ClosedTables.{ClosedTables}
+use Rattle.reports.specs.ClosedTables as closed
 use Rattle.reports.specs.Doings.{is_retired}
 use Rattle.reports.specs.Endings.{ThreadsEnded, FreedSpare}
 use Rattle.reports.specs.Lists.{all_of}
@@ -62,7 +62,7 @@ joined_shows first (s ∷ r ∷ ss) last low j = joined_shows j.0 (r ∷ ss) las
 
 -- once the free elements of the beginning were all taken, they stay so
 abbrev AllTaken : Parts → Type 0
-AllTaken p = 64 ≤ (line_at (elements_after (view_of p.hand).schedule) 1).taken
+AllTaken p = 64 ≤ (ring_at (elements_after (view_of p.hand).schedule) 1).taken
 
 all_taken : (first : Parts) (stations : List Parts) (last : Parts) → AllJoined first stations last → AllTaken first → AllTaken last
 all_taken first stations last j h = stays AllTaken (λ a b c k many. let f = (k.hand.sees.seen.grows 1).further in omega arith) first stations last j h
@@ -100,18 +100,18 @@ plan_more : (plan : BootPlan) (l m : List Key) → AllByRecursion (HasDoneAll pl
 plan_more plan [] m p q = q
 plan_more plan (r ∷ l) m p q = (p.0, plan_more plan l m p.1 q)
 
-entry_retired : (plan : BootPlan) (entry : Entry) → IsPlanned plan entry → AllByRecursion (HasDoneAll plan) (tally_by entry).retired
+entry_retired : (plan : BootPlan) (entry : LogEntry) → FollowsPlan plan entry → AllByRecursion (HasDoneAll plan) (tally_by entry).retired
 entry_retired plan (Tended advanced alarms) p = tt
 entry_retired plan (Delivered element mask) p = tt
 entry_retired plan (Tried element number step deed count heard) p =
     subst (AllByRecursion (HasDoneAll plan)) (λ k. sym (raised_none step deed) k ++ sym (counted_none count element number) k) tt
 entry_retired plan (Retired element number) p = (p, tt)
 
-log_retired : (plan : BootPlan) (log : List Entry) → AllByRecursion (IsPlanned plan) log → AllByRecursion (HasDoneAll plan) (tally_of log).retired
+log_retired : (plan : BootPlan) (log : List LogEntry) → AllByRecursion (FollowsPlan plan) log → AllByRecursion (HasDoneAll plan) (tally_of log).retired
 log_retired plan [] p = tt
 log_retired plan (entry ∷ log) p = plan_more plan (tally_by entry).retired (tally_of log).retired (entry_retired plan entry p.0) (log_retired plan log p.1)
 
-logs_retired : (plan : BootPlan) (logs : List (List Entry)) → AllByRecursion (AllByRecursion (IsPlanned plan)) logs → AllByRecursion (HasDoneAll plan) (flat_map (λ log. (tally_of log).retired) logs)
+logs_retired : (plan : BootPlan) (logs : List (List LogEntry)) → AllByRecursion (AllByRecursion (FollowsPlan plan)) logs → AllByRecursion (HasDoneAll plan) (flat_map (λ log. (tally_of log).retired) logs)
 logs_retired plan [] p = tt
 logs_retired plan (log ∷ logs) p = plan_more plan (tally_of log).retired (flat_map (λ log. (tally_of log).retired) logs) (log_retired plan log p.0) (logs_retired plan logs p.1)
 
@@ -134,7 +134,7 @@ same_of a b e = ⊎_elim (λ t. t.1) (λ f. absurd (cc)) (eqb_tells a b)
 
 module _ (x d : ℕ) where
   -- an entry that lists the element as retired retired it
-  entry_one : (entry : Entry) → list_any (with_few x d) (tally_by entry).retired ≡ true → is_retired x entry ≡ true
+  entry_one : (entry : LogEntry) → list_any (with_few x d) (tally_by entry).retired ≡ true → is_retired x entry ≡ true
   entry_one (Tended advanced alarms) h = absurd (cc)
   entry_one (Delivered element mask) h = absurd (cc)
   entry_one (Tried element number step deed count heard) h =
@@ -142,7 +142,7 @@ module _ (x d : ℕ) where
       let e : false ≡ true = sym (ap (list_any (with_few x d)) none) ∙ h in absurd (cc)
   entry_one (Retired element number) h = ⊎_elim (λ e. first_of (element == x) (nat_le number d) e) (λ f. absurd (cc)) (some_of (with_few x d (element, number)) false h)
 
-  log_one : (log : List Entry) → list_any (with_few x d) (tally_of log).retired ≡ true → list_any (is_retired x) log ≡ true
+  log_one : (log : List LogEntry) → list_any (with_few x d) (tally_of log).retired ≡ true → list_any (is_retired x) log ≡ true
   log_one [] h = absurd (cc)
   log_one (entry ∷ log) h = ⊎_elim
       (λ a. ap (λ z. z || list_any (is_retired x) log) (entry_one entry a))
@@ -150,7 +150,7 @@ module _ (x d : ℕ) where
       (some_of (list_any (with_few x d) (tally_by entry).retired) (list_any (with_few x d) (tally_of log).retired)
       (sym (list_any-append (with_few x d) (tally_by entry).retired (tally_of log).retired) ∙ h))
 
-  logs_one : (logs : List (List Entry)) → list_any (with_few x d) (flat_map (λ log. (tally_of log).retired) logs) ≡ true → list_any (is_retired x) (all_of logs) ≡ true
+  logs_one : (logs : List (List LogEntry)) → list_any (with_few x d) (flat_map (λ log. (tally_of log).retired) logs) ≡ true → list_any (is_retired x) (all_of logs) ≡ true
   logs_one [] h = absurd (cc)
   logs_one (log ∷ logs) h = list_any-append (is_retired x) log (all_of logs) ∙ ⊎_elim
       (λ a. ap (λ z. z || list_any (is_retired x) (all_of logs)) (log_one log a))
@@ -175,20 +175,20 @@ module _ (x : ℕ) where
   is_of r = r.0 == x
 
   -- what a log retired is among what its hand put behind the free elements
-  entry_put : (entry : Entry) → is_retired x entry ≡ true → list_any is_of (tally_by entry).retired ≡ true
+  entry_put : (entry : LogEntry) → is_retired x entry ≡ true → list_any is_of (tally_by entry).retired ≡ true
   entry_put (Tended advanced alarms) h = absurd (cc)
   entry_put (Delivered element mask) h = absurd (cc)
   entry_put (Tried element number step deed count heard) h = absurd (cc)
   entry_put (Retired element number) h = sym (or_none (element == x)) ∙ h
 
-  log_put : (log : List Entry) → list_any (is_retired x) log ≡ true → list_any is_of (tally_of log).retired ≡ true
+  log_put : (log : List LogEntry) → list_any (is_retired x) log ≡ true → list_any is_of (tally_of log).retired ≡ true
   log_put [] h = absurd (cc)
   log_put (entry ∷ log) h = list_any-append is_of (tally_by entry).retired (tally_of log).retired ∙ ⊎_elim
       (λ a. ap (λ z. z || list_any is_of (tally_of log).retired) (entry_put entry a))
       (λ b. ap (λ z. list_any is_of (tally_by entry).retired || z) (log_put log b) ∙ or_true (list_any is_of (tally_by entry).retired))
       (some_of (is_retired x entry) (list_any (is_retired x) log) h)
 
-  logs_put : (logs : List (List Entry)) → list_any (is_retired x) (all_of logs) ≡ true → list_any is_of (flat_map (λ log. (tally_of log).retired) logs) ≡ true
+  logs_put : (logs : List (List LogEntry)) → list_any (is_retired x) (all_of logs) ≡ true → list_any is_of (flat_map (λ log. (tally_of log).retired) logs) ≡ true
   logs_put [] h = absurd (cc)
   logs_put (log ∷ logs) h = list_any-append is_of (tally_of log).retired (flat_map (λ log. (tally_of log).retired) logs) ∙ ⊎_elim
       (λ a. ap (λ z. z || list_any is_of (flat_map (λ log. (tally_of log).retired) logs)) (log_put log a))
@@ -218,15 +218,15 @@ by_place call x steps all retired e (places.Wait wait) h free none only = not_tr
 by_place call x steps all retired e places.Stopped h free none only = not_true retired (λ up. let is = only up in absurd (cc))
 by_place call x steps all retired e places.Held h free none only = not_true retired (λ up. let is = only up in absurd (cc))
 
-module _ (plan : BootPlan) (logs : List (List Entry)) (stations : List Parts) (first last : Parts) (left : AllZip (Leaves plan) logs stations)
-    (begun : IsPrepared plan first) (spare : FreedSpare plan first) (some : 0 < length stations) (joins : AllJoined first stations last) (c : Closed) (e : ThreadsEnded last c) (x : ℕ)
+module _ (plan : BootPlan) (logs : List (List LogEntry)) (stations : List Parts) (first last : Parts) (left : AllZip (Leaves plan) logs stations)
+    (begun : IsPrepared plan first) (spare : FreedSpare plan first) (some : 0 < length stations) (joins : AllJoined first stations last) (c : ClosedTables) (e : ThreadsEnded last c) (x : ℕ)
     (its : x < length plan.threads) (t : closed.Thread) (at : slice_get c.threads x ≡ Some t) where
   free_is_retired : StandsAt e.call x (elements_after (view_of last.hand).schedule) places.Free → list_any (is_retired x) (all_of logs) ≡ true
   free_is_retired free =
       let k = e.closes in
       let d : ℕ = done_at (view_of last.hand).schedule x in
       let shows = joined_shows first stations last some joins in
-      let any = retired_once (view_of last.hand).schedule (made_at last) x k.allowed k.made k.retired (shows.2.lines 1 (omega arith)).single (all_taken first stations last joins begun.taken) free in
+      let any = retired_once (view_of last.hand).schedule (made_at last) x k.allowed k.made k.retired (shows.2.rings 1 (omega arith)).single (all_taken first stations last joins begun.taken) free in
       let parted = sym (ap (list_any (with_few x d)) (all_retired plan logs stations first last left begun joins)) ∙ any in
       ⊎_elim (λ a. absurd (none_spare x d (length plan.threads) its (flat_map retired_by (made_at first)) spare a)) (λ b. logs_one x d logs b)
       (some_of (list_any (with_few x d) (flat_map retired_by (made_at first))) (list_any (with_few x d) (flat_map (λ log. (tally_of log).retired) logs))
@@ -239,7 +239,7 @@ module _ (plan : BootPlan) (logs : List (List Entry)) (stations : List Parts) (f
       let retired = subst (AllByRecursion (HasDoneAll plan)) (sym (all_retired plan logs stations first last left begun joins))
       (plan_more plan (flat_map retired_by (made_at first)) (flat_map (λ log. (tally_of log).retired) logs) begun.retired (logs_retired plan logs (planned_all plan logs stations left))) in
       let few = has_done_all plan x _ (flat_map retired_by (made_at last)) retired
-      (retired_once (view_of last.hand).schedule (made_at last) x k.allowed k.made k.retired (shows.2.lines 1 (omega arith)).single (all_taken first stations last joins begun.taken) free) in
+      (retired_once (view_of last.hand).schedule (made_at last) x k.allowed k.made k.retired (shows.2.rings 1 (omega arith)).single (all_taken first stations last joins begun.taken) free) in
       let same = done_are plan logs stations first last left begun joins c e x t at in
       let prefix = (steps_agree plan logs stations first last left begun joins c e x t at).prefix in
       omega arith

@@ -30,7 +30,7 @@ use Rattle.table_theory.specs.declared.queues.Batch.{Batch}
 use Rattle.table_theory.specs.Positioned.{item_of}
 use Rattle.table_theory.specs.Listing.{AllRaised}
 use Rattle.table_theory.specs.Sharing.{IsWhole}
-use Rattle.reports.specs.Closed as closed
+use Rattle.reports.specs.ClosedTables as closed
 use Rattle.reports.specs.Closings.{items_from, queue_of, queues_from}
 use Rattle.reports.specs.Endings.{QueueEnded, ends_at, small_home, large_home, device_at}
 use Rattle.reports.proofs.Items.{items_are}

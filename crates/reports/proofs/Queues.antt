@@ -8,11 +8,11 @@ use Rattle.claim_queue.specs.declared.rule.View.{View}
 use Rattle.end_steps.specs.EndLists.{end_puts, end_takes, lines_put_at, lines_taken_at}
 use Rattle.end_steps.specs.Splits.{IsJoined}
 use Rattle.processor.specs.declared.station.Parts.{Parts}
-use Rattle.processor.specs.Logs.{Entry, Leaves, small_put, small_taken, large_put, large_taken}
+use Rattle.processor.specs.Logs.{LogEntry, Leaves, small_put, small_taken, large_put, large_taken}
 use Rattle.processor.specs.Partings.{AllJoined}
 use Rattle.processor.specs.Preparing.{IsPrepared}
 use Rattle.reports.specs.Agreements.{QueueAgrees, SmallAgrees, LargeAgrees}
-use Rattle.reports.specs.Closed as closed
+use Rattle.reports.specs.ClosedTables as closed
 use Rattle.reports.specs.Endings.{QueueEnded, small_of, large_of}
 use Rattle.reports.proofs.Lists.{zip_maps}
 use Rattle.reports.proofs.Joining.{joined_from_none}
@@ -20,7 +20,7 @@ use Rattle.reports.proofs.Weaving.{AllInOrder, all_in_order, claims_woven, takin
 
 module _ {n : ℕ} (ends : Parts → List (QueueEnd n)) (number : ℕ) (stations : List Parts) (last : Parts) (others : List (QueueEnd n)) (q : closed.Queue)
     (e : QueueEnded ends number stations last others q) where
-  pub queue_agrees : (put taken : List Entry → List (List ℕ)) (logs : List (List Entry))
+  pub queue_agrees : (put taken : List LogEntry → List (List ℕ)) (logs : List (List LogEntry))
       → map (λ s. lines_put_at (ends s) number) stations ≡ map put logs → map (λ s. lines_taken_at (ends s) number) stations ≡ map taken logs
       → runs_at (ends last) number ≡ flat_map (λ s. runs_at (ends s) number) stations → AllInOrder end_runs ends number stations
       → takings_at (ends last) number ≡ flat_map (λ s. takings_at (ends s) number) stations → AllInOrder end_takings ends number stations → QueueAgrees n put taken q logs
@@ -41,7 +41,7 @@ module _ {n : ℕ} (x y z : QueueEnd n) (j : IsJoined x y z) where
   takings_joined : end_takings y ≡ end_takings x ++ end_takings z
   takings_joined = ap (λ (v : View). v.part.takes) j.same
 
-module _ (plan : BootPlan) (logs : List (List Entry)) (stations : List Parts) (first last : Parts) (left : AllZip (Leaves plan) logs stations)
+module _ (plan : BootPlan) (logs : List (List LogEntry)) (stations : List Parts) (first last : Parts) (left : AllZip (Leaves plan) logs stations)
     (begun : IsPrepared plan first) (joins : AllJoined first stations last) (number : ℕ) where
   pub small_agrees : (others : List (QueueEnd 64)) (q : closed.Queue) → QueueEnded small_of number stations last others q → SmallAgrees number q logs
   small_agrees others q e = queue_agrees small_of number stations last others q e (λ log. small_put log number) (λ log. small_taken log number) logs

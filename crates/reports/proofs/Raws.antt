@@ -24,11 +24,10 @@ use Rattle.claim_queue.specs.declared.rule.View.{View}
 use Rattle.claim_queue.specs.Handles.{view_of}
 use Rattle.claim_queue.specs.Lines.{line_of, lines_put}
 use Rattle.end_steps.specs.EndLists.{lines_put_at}
-use Rattle.objects.specs.DeviceEndings.{IsAscending}
 use Rattle.processor.specs.declared.deed.Deed.{Deed}
 use Rattle.processor.specs.declared.deed.Deed.TheVariants as deeds
 use Rattle.processor.specs.declared.station.Parts.{Parts}
-use Rattle.processor.specs.Logs.{Entry, Tended, Delivered, Tried, Retired, Leaves, IsPlanned, small_put, small_put_by}
+use Rattle.processor.specs.Logs.{LogEntry, Tended, Delivered, Tried, Retired, Leaves, FollowsPlan, small_put, small_put_by}
 use Rattle.processor.specs.Programs.{program, step_of}
 use Rattle.processor.specs.Steps.{puts_small}
 use Rattle.quajects.specs.declared.any.AnyQuaject.{AnyQuaject}
@@ -36,11 +35,11 @@ use Rattle.quajects.specs.declared.any.AnyQuaject.TheVariants as any
 use Rattle.quajects.specs.Settled.{runs_of, views_of}
 use Rattle.table_theory.specs.declared.queues.Batch.{Batch}
 use Rattle.table_theory.specs.Filing.{Owned, entry_of, ListedOnce}
-use Rattle.table_theory.specs.Listing.{all_places, Chained}
+use Rattle.table_theory.specs.Listing.{all_places, Adjacent}
 use Rattle.table_theory.specs.Positioned.{item_of}
 use Rattle.table_theory.proofs.Owned.{at_map_back}
 use Rattle.reports.specs.Agreements.{IsMover, route_of}
-use Rattle.reports.specs.Closed as closed
+use Rattle.reports.specs.ClosedTables as closed
 use Rattle.reports.specs.Endings.{QueueEnded, small_of, device_at}
 use Rattle.reports.proofs.Items.{of_first}
 use Rattle.reports.proofs.Takings.{of_ends, IsBelow}
@@ -82,12 +81,12 @@ abbrev start_of : Batch → ℕ
 start_of b = b.start
 
 -- a chained log is in order
-later : (p : ℕ) (log : List (Owned Batch)) → Chained p log → (j : ℕ) (e : Batch) → get_elem? (map entry_of log) j ≡ some e → p ≤ e.start
+later : (p : ℕ) (log : List (Owned Batch)) → Adjacent p log → (j : ℕ) (e : Batch) → get_elem? (map entry_of log) j ≡ some e → p ≤ e.start
 later p [] c j e at = absurd (some-ne-none e (sym at))
 later p (o ∷ os) c zero e at = let h : o.2.start ≡ e.start = ap start_of (some-injective o.2 e at) in let s = c.0 in omega arith
 later p (o ∷ os) c (suc j) e at = let h = later (p + length o.2.places) os c.1 j e at in omega arith
 
-log_ascends : (p : ℕ) (log : List (Owned Batch)) → Chained p log → ((k : ℕ) (o : Owned Batch) → get_elem? log k ≡ some o → 0 < length o.2.places) → Ascends start_of (map entry_of log)
+log_ascends : (p : ℕ) (log : List (Owned Batch)) → Adjacent p log → ((k : ℕ) (o : Owned Batch) → get_elem? log k ≡ some o → 0 < length o.2.places) → Ascends start_of (map entry_of log)
 log_ascends p [] c solid i j e f at at' low = absurd (some-ne-none e (sym at))
 log_ascends p (o ∷ os) c solid zero zero e f at at' low = absurd (omega arith)
 log_ascends p (o ∷ os) c solid zero (suc j) e f at at' low =
@@ -96,8 +95,8 @@ log_ascends p (o ∷ os) c solid zero (suc j) e f at at' low =
 log_ascends p (o ∷ os) c solid (suc i) zero e f at at' low = absurd (omega arith)
 log_ascends p (o ∷ os) c solid (suc i) (suc j) e f at at' low = log_ascends (p + length o.2.places) os c.1 (λ k q h. solid (suc k) q h) i j e f at at' (omega arith)
 
-in_order : (p : ℕ) (log : List (Owned Batch)) (l : List Batch) → ListedOnce log (l ∷ []) → Chained p log → ((k : ℕ) (o : Owned Batch) → get_elem? log k ≡ some o → 0 < length o.2.places)
-    → IsAscending l → map entry_of log ≡ l
+in_order : (p : ℕ) (log : List (Owned Batch)) (l : List Batch) → ListedOnce log (l ∷ []) → Adjacent p log → ((k : ℕ) (o : Owned Batch) → get_elem? log k ≡ some o → 0 < length o.2.places)
+    → Ascending l → map entry_of log ≡ l
 in_order p log l f c solid up = one_order start_of (map entry_of log) l (log_ascends p log c solid) up
     (λ i x at. let a = at_map_back entry_of log i x at in let s = f.stands i a.0 a.1 in (a.0.1, of_first l s.0 a.0.0 a.0.1 x s.1 (s.2 ∙ ap some a.2)))
     (λ i x at. let r = f.listed 0 l i x refl at in (r.0, at_map entry_of log r.0 (0, i, x) r.1))
@@ -108,12 +107,12 @@ flat_lines (o ∷ os) = ap (λ (z : List ℕ). line_of o.2 ++ z) (flat_lines os)
 
 -- where one end claimed all, in order, the items put are its lines, one behind the other
 pub put_in_order : {n : ℕ} (ends : Parts → List (QueueEnd n)) (number : ℕ) (stations : List Parts) (last : Parts) (others : List (QueueEnd n)) (q : closed.Queue)
-    (e : QueueEnded ends number stations last others q) (v : View) → flat_map runs_of (views_of e.end others) ≡ runs_of v → IsAscending (runs_of v)
+    (e : QueueEnded ends number stations last others q) (v : View) → flat_map runs_of (views_of e.end others) ≡ runs_of v → Ascending (runs_of v)
     → q.items ≡ concat (lines_put v)
 put_in_order ends number stations last others q e v alone up =
     let c = e.closes.closed in let s = c.listed in
     let runs : e.closes.before.part.runs ≡ runs_of v = e.closes.has.runs ∙ alone in
-    let same = in_order c.queue.first s.runs e.closes.before.part.runs s.runs_filed s.runs_chained s.solid (subst IsAscending (sym runs) up) ∙ runs in
+    let same = in_order c.queue.first s.runs e.closes.before.part.runs s.runs_filed s.runs_adjacent s.solid (subst Ascending (sym runs) up) ∙ runs in
     e.items ∙ (ap (map item_of) (sym s.runs_flat) ∙ (sym (flat_lines s.runs) ∙ ap (λ z. concat (map line_of z)) same))
 
 -- THE PLAN SAYS NOTHING TO A RAW QUEUE
@@ -139,17 +138,17 @@ module _ (plan : BootPlan) (number : ℕ) (far : length plan.queues ≤ number) 
   none_by_step e n (steps.Say (Large queue) text) (deeds.Said woken) is = refl
   none_by_step e n step deed is = refl
 
-  none_by_entry : (entry : Entry) → IsPlanned plan entry → small_put_by number entry ≡ []
+  none_by_entry : (entry : LogEntry) → FollowsPlan plan entry → small_put_by number entry ≡ []
   none_by_entry (Tended advanced alarms) p = refl
   none_by_entry (Delivered element mask) p = refl
   none_by_entry (Tried element n step deed count heard) p = none_by_step element n step deed p.0
   none_by_entry (Retired element n) p = refl
 
-  pub none_put : (log : List Entry) → AllByRecursion (IsPlanned plan) log → small_put log number ≡ []
+  pub none_put : (log : List LogEntry) → AllByRecursion (FollowsPlan plan) log → small_put log number ≡ []
   none_put [] p = refl
   none_put (entry ∷ log) p = λ k. none_by_entry entry p.0 k ++ none_put log p.1 k
 
-  pub none_put_all : (logs : List (List Entry)) (stations : List Parts) → AllZip (Leaves plan) logs stations → flat_map (λ s. lines_put_at (small_of s) number) stations ≡ []
+  pub none_put_all : (logs : List (List LogEntry)) (stations : List Parts) → AllZip (Leaves plan) logs stations → flat_map (λ s. lines_put_at (small_of s) number) stations ≡ []
   none_put_all [] [] z = refl
   none_put_all [] (s ∷ ss) z = absurd z
   none_put_all (l ∷ ls) [] z = absurd z

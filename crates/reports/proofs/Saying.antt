@@ -22,12 +22,12 @@ use Rattle.thread_table.specs.declared.places.Place.TheVariants as places
 use Rattle.processor.specs.declared.deed.Deed.{Deed}
 use Rattle.processor.specs.declared.deed.Deed.TheVariants as deeds
 use Rattle.processor.specs.Deeds.{is_done}
-use Rattle.processor.specs.Logs.{Entry, Tended, Delivered, Tried, Retired, IsPlanned, done_by, small_put_by, large_put_by, small_shut_told, large_shut_told}
+use Rattle.processor.specs.Logs.{LogEntry, Tended, Delivered, Tried, Retired, FollowsPlan, done_by, small_put_by, large_put_by, small_shut_told, large_shut_told}
 use Rattle.processor.specs.Programs.{Key, same_key, program, step_of}
 use Rattle.processor.specs.Running.{Line}
 use Rattle.processor.specs.Steps.{comes_of, puts_small, puts_large, told_shut_small, told_shut_large}
 use Rattle.reports.specs.Agreements.{PlaceAgrees}
-use Rattle.reports.specs.Closed.{Closed}
+use Rattle.reports.specs.ClosedTables.{ClosedTables}
 use Rattle.reports.specs.Lines.{state_for}
 use Rattle.reports.specs.Lists.{all_of}
 use Rattle.reports.specs.Reports.{IsReport}
@@ -194,28 +194,28 @@ module _ (q : ℕ) where
   by_key says plan true element number step is = sym (append-nil (says step)) ∙ ap (λ z. lines_at says plan z ++ []) (sym is)
   by_key says plan false element number step is = refl
 
-  small_entry : (plan : BootPlan) (entry : Entry) → IsPlanned plan entry → small_shut_told q entry ≡ false → small_put_by q entry ≡ flat_map (line_at (says_small q) plan) (done_by entry)
+  small_entry : (plan : BootPlan) (entry : LogEntry) → FollowsPlan plan entry → small_shut_told q entry ≡ false → small_put_by q entry ≡ flat_map (line_at (says_small q) plan) (done_by entry)
   small_entry plan (Tended advanced alarms) p t = refl
   small_entry plan (Delivered element mask) p t = refl
   small_entry plan (Tried element number step deed count heard) p t = small_step step deed p.1 t ∙ by_key (says_small q) plan (is_done deed) element number step p.0
   small_entry plan (Retired element number) p t = refl
 
-  large_entry : (plan : BootPlan) (entry : Entry) → IsPlanned plan entry → large_shut_told q entry ≡ false → large_put_by q entry ≡ flat_map (line_at (says_large q) plan) (done_by entry)
+  large_entry : (plan : BootPlan) (entry : LogEntry) → FollowsPlan plan entry → large_shut_told q entry ≡ false → large_put_by q entry ≡ flat_map (line_at (says_large q) plan) (done_by entry)
   large_entry plan (Tended advanced alarms) p t = refl
   large_entry plan (Delivered element mask) p t = refl
   large_entry plan (Tried element number step deed count heard) p t = large_step step deed p.1 t ∙ by_key (says_large q) plan (is_done deed) element number step p.0
   large_entry plan (Retired element number) p t = refl
 
-  said_log : (plan : BootPlan) (says : Step → List (List ℕ)) (told : Entry → Bool) (put : Entry → List (List ℕ))
-      → ((entry : Entry) → IsPlanned plan entry → told entry ≡ false → put entry ≡ flat_map (line_at says plan) (done_by entry))
-      → (log : List Entry) → AllByRecursion (IsPlanned plan) log → list_any told log ≡ false → flat_map put log ≡ flat_map (line_at says plan) (flat_map done_by log)
+  said_log : (plan : BootPlan) (says : Step → List (List ℕ)) (told : LogEntry → Bool) (put : LogEntry → List (List ℕ))
+      → ((entry : LogEntry) → FollowsPlan plan entry → told entry ≡ false → put entry ≡ flat_map (line_at says plan) (done_by entry))
+      → (log : List LogEntry) → AllByRecursion (FollowsPlan plan) log → list_any told log ≡ false → flat_map put log ≡ flat_map (line_at says plan) (flat_map done_by log)
   said_log plan says told put one [] p t = refl
   said_log plan says told put one (entry ∷ log) p t = let s = or_false (told entry) (list_any told log) t in
       (λ k. one entry p.0 s.0 k ++ said_log plan says told put one log p.1 s.1 k) ∙ sym (flat_map-append (line_at says plan) (done_by entry) (flat_map done_by log))
 
-  said_logs : (plan : BootPlan) (says : Step → List (List ℕ)) (told : Entry → Bool) (put : Entry → List (List ℕ))
-      → ((entry : Entry) → IsPlanned plan entry → told entry ≡ false → put entry ≡ flat_map (line_at says plan) (done_by entry))
-      → (logs : List (List Entry)) → AllByRecursion (AllByRecursion (IsPlanned plan)) logs → AllByRecursion (λ log. list_any told log ≡ false) logs
+  said_logs : (plan : BootPlan) (says : Step → List (List ℕ)) (told : LogEntry → Bool) (put : LogEntry → List (List ℕ))
+      → ((entry : LogEntry) → FollowsPlan plan entry → told entry ≡ false → put entry ≡ flat_map (line_at says plan) (done_by entry))
+      → (logs : List (List LogEntry)) → AllByRecursion (AllByRecursion (FollowsPlan plan)) logs → AllByRecursion (λ log. list_any told log ≡ false) logs
       → flat_map (flat_map put) logs ≡ flat_map (line_at says plan) (flat_map done_by (all_of logs))
   said_logs plan says told put one [] p t = refl
   said_logs plan says told put one (log ∷ logs) p t =
@@ -250,7 +250,7 @@ none_live (l ∷ ls) h zero line at = let e : l ≡ line = cc in by_bool (is_end
     (λ isnt. let c = many_cons is_live l ls in let z : plus (is_live l) ≡ 1 = ap (λ b. plus (not b)) isnt in absurd (omega arith))
 none_live (l ∷ ls) h (suc k) line at = let c = many_cons is_live l ls in none_live ls (omega arith) k line at
 
-module _ (plan : BootPlan) (c : Closed) (logs : List (List Entry)) (heard : List Line) (r : Report) (report : IsReport plan c logs heard r) (ended : AllEnded r) where
+module _ (plan : BootPlan) (c : ClosedTables) (logs : List (List LogEntry)) (heard : List Line) (r : Report) (report : IsReport plan c logs heard r) (ended : AllEnded r) where
   all_once : (x n : ℕ) → count_by (same_key (x, n)) (flat_map done_by (all_of logs)) ≡ (if nat_lt n (length (program plan x)) then 1 else 0)
   all_once x n = dite (dec_lt x (length plan.threads))
       (λ low.

@@ -16,7 +16,7 @@ use Rattle.boot_data.specs.PlanLimits.{IsPlan}
 use Rattle.boot_data.specs.QueueLists.{raw_queue, line_queue, screen_queue}
 use Rattle.claim_queue.specs.declared.ends.QueueEnd.{QueueEnd}
 use Rattle.claim_queue.specs.Handles.{view_of}
-use Rattle.closing.specs.declared.all.Ended.{Ended}
+use Rattle.closing.specs.declared.all.Unmade.{Unmade}
 use Rattle.closing.specs.ClosedQueues.{IsClosed}
 use Rattle.closing.specs.PortSums.{ports_shut}
 use Rattle.closing.specs.RawEnds.{raw_ports}
@@ -36,7 +36,7 @@ use Rattle.proc_chain.specs.Handles as chains
 use Rattle.proc_chain.specs.Shown.{notes_of}
 use Rattle.processor.specs.declared.shared.Shared.{Shared}
 use Rattle.processor.specs.declared.station.Parts.{Parts}
-use Rattle.processor.specs.Logs.{Entry}
+use Rattle.processor.specs.Logs.{LogEntry}
 use Rattle.processor.specs.Running.{Line}
 use Rattle.processor.specs.Turns.{heard_lines}
 use Rattle.event_theory.proofs.Lists.Histories.{slice_get-drop}
@@ -53,8 +53,8 @@ use Rattle.thread_table.specs.Closings as tables
 use Rattle.thread_table.specs.Handles as threads
 use Rattle.reports.specs.Agreements.{IsTty, MadeOfNew}
 use Rattle.reports.specs.Boots.{Boot, TtyEnds, BootEnded, home_of, raw_of, homes, small_others, large_others}
-use Rattle.reports.specs.Closed.{Closed}
-use Rattle.reports.specs.Closed as closed
+use Rattle.reports.specs.ClosedTables.{ClosedTables}
+use Rattle.reports.specs.ClosedTables as closed
 use Rattle.reports.specs.Closings.{thread_of, chains_of, came_home, tty_ends, boot_of, closed_of, IsPlanned, BootShut}
 use Rattle.reports.specs.Endings.{QueueEnded, ThreadsEnded, MetersEnded, MoverEnded, TtyEnded, ChainEnded, small_of, large_of, small_home, large_home, ends_at, device_at}
 use Rattle.reports.specs.Lines.{Says}
@@ -182,7 +182,7 @@ devices_shut_none number raw (tty ∷ ttys) h =
 
 -- ALL
 
-module _ (shared : Shared) (logs : List (List Entry)) (first : Parts) (stations : List Parts) (last : Parts) (ttys : List RawTty) (devices : List closed.Device) (parts : Parts) (ended : Ended)
+module _ (shared : Shared) (logs : List (List LogEntry)) (first : Parts) (stations : List Parts) (last : Parts) (ttys : List RawTty) (devices : List closed.Device) (parts : Parts) (ended : Unmade)
     (s : BootShut shared logs first stations last ttys devices parts ended) where
   abbrev plan : BootPlan
   plan = shared.plan
@@ -196,7 +196,7 @@ module _ (shared : Shared) (logs : List (List Entry)) (first : Parts) (stations 
   abbrev boot : Boot
   boot = boot_of plan first stations last ttys parts all_homes
 
-  abbrev c : Closed
+  abbrev c : ClosedTables
   c = closed_of plan boot ended quajects devices
 
   many_chains : (length parts.chains.items ≡ length plan.movers + length plan.ttys) × (length all_homes ≡ length plan.movers + length plan.ttys)

@@ -14,13 +14,13 @@ use Rattle.end_steps.specs.Sums.{once_if}
 use Rattle.processor.specs.declared.deed.Deed.{Deed}
 use Rattle.processor.specs.declared.deed.Deed.TheVariants as deeds
 use Rattle.processor.specs.declared.station.Parts.{Parts}
-use Rattle.processor.specs.Logs.{Entry, Tended, Delivered, Tried, Retired, Leaves, IsPlanned, shut_by, times_shut, small_was_shut, large_was_shut}
+use Rattle.processor.specs.Logs.{LogEntry, Tended, Delivered, Tried, Retired, Leaves, FollowsPlan, shut_by, times_shut, small_was_shut, large_was_shut}
 use Rattle.processor.specs.Partings.{AreJoined, AllJoined}
 use Rattle.processor.specs.Programs.{step_of}
 use Rattle.processor.specs.Steps.{shuts_by}
 use Rattle.processor.specs.Preparing.{IsPrepared}
 use Rattle.quajects.specs.Settled.{shuts_of}
-use Rattle.reports.specs.Closed as closed
+use Rattle.reports.specs.ClosedTables as closed
 use Rattle.reports.specs.Endings.{QueueEnded, small_of, large_of}
 use Rattle.reports.specs.Saying.{IsLeftOpen, IsNeverClosed, IsNeverShutSmall, IsNeverShutLarge}
 use Rattle.thread_table.proofs.Counts.{by_bool}
@@ -28,8 +28,8 @@ use Rattle.reports.proofs.Joining.{stays}
 use Rattle.reports.proofs.Lists.{at_its}
 
 -- what each station has none of, all have none of
-none_in_all : (f : Parts → ℕ) → ((a b c : Parts) → AreJoined a b c → f c ≡ f a + f b) → (R : List Entry → Parts → Type 0) → ((log : List Entry) (p : Parts) → R log p → f p ≡ 0)
-    → (logs : List (List Entry)) (first : Parts) (stations : List Parts) (last : Parts) → AllZip R logs stations → AllJoined first stations last → f first ≡ 0 → f last ≡ 0
+none_in_all : (f : Parts → ℕ) → ((a b c : Parts) → AreJoined a b c → f c ≡ f a + f b) → (R : List LogEntry → Parts → Type 0) → ((log : List LogEntry) (p : Parts) → R log p → f p ≡ 0)
+    → (logs : List (List LogEntry)) (first : Parts) (stations : List Parts) (last : Parts) → AllZip R logs stations → AllJoined first stations last → f first ≡ 0 → f last ≡ 0
 none_in_all f add R none [] first [] last z j h = ap f j ∙ h
 none_in_all f add R none [] first (s ∷ ss) last z j h = absurd z
 none_in_all f add R none (l ∷ ls) first [] last z j h = absurd z
@@ -37,9 +37,9 @@ none_in_all f add R none (l ∷ ls) first (s ∷ ss) last z j h = none_in_all f 
     (let a = add first s j.0 j.1 in let b = none l s z.0 in omega arith)
 
 -- where what a log tells of its station would come to all, and all have it not, no log tells it
-never_told : (told : List Entry → Bool) (P : Parts → Type 0) → ((a b c : Parts) → AreJoined a b c → P a → P c) → ((a b c : Parts) → AreJoined a b c → P b → P c)
-    → (R : List Entry → Parts → Type 0) → ((log : List Entry) (p : Parts) → R log p → told log ≡ true → P p)
-    → (logs : List (List Entry)) (first : Parts) (stations : List Parts) (last : Parts) → AllZip R logs stations → AllJoined first stations last → (P last → ⊥)
+never_told : (told : List LogEntry → Bool) (P : Parts → Type 0) → ((a b c : Parts) → AreJoined a b c → P a → P c) → ((a b c : Parts) → AreJoined a b c → P b → P c)
+    → (R : List LogEntry → Parts → Type 0) → ((log : List LogEntry) (p : Parts) → R log p → told log ≡ true → P p)
+    → (logs : List (List LogEntry)) (first : Parts) (stations : List Parts) (last : Parts) → AllZip R logs stations → AllJoined first stations last → (P last → ⊥)
     → AllByRecursion (λ log. told log ≡ false) logs
 never_told told P keep take R known [] first [] last z j never = tt
 never_told told P keep take R known [] first (s ∷ ss) last z j never = absurd z
@@ -81,21 +81,21 @@ module _ (plan : BootPlan) (q : ℕ) (never : IsNeverClosed plan q) where
       (eqb_tells q queue)
   by_step element number step deed is = refl
 
-  by_entry : (entry : Entry) → IsPlanned plan entry → shut_by q entry ≡ 0
+  by_entry : (entry : LogEntry) → FollowsPlan plan entry → shut_by q entry ≡ 0
   by_entry (Tended advanced alarms) p = refl
   by_entry (Delivered element mask) p = refl
   by_entry (Tried element number step deed count heard) p = by_step element number step deed p.0
   by_entry (Retired element number) p = refl
 
-  by_log : (log : List Entry) → AllByRecursion (IsPlanned plan) log → times_shut log q ≡ 0
+  by_log : (log : List LogEntry) → AllByRecursion (FollowsPlan plan) log → times_shut log q ≡ 0
   by_log [] p = refl
   by_log (entry ∷ log) p = sum_by-cons (shut_by q) entry log ∙ (let a = by_entry entry p.0 in let b = by_log log p.1 in omega arith)
 
-  pub left_open : (logs : List (List Entry)) → AllByRecursion (AllByRecursion (IsPlanned plan)) logs → IsLeftOpen q logs
+  pub left_open : (logs : List (List LogEntry)) → AllByRecursion (AllByRecursion (FollowsPlan plan)) logs → IsLeftOpen q logs
   left_open [] p = tt
   left_open (log ∷ logs) p = (by_log log p.0, left_open logs p.1)
 
-module _ (plan : BootPlan) (logs : List (List Entry)) (stations : List Parts) (first last : Parts) (left : AllZip (Leaves plan) logs stations)
+module _ (plan : BootPlan) (logs : List (List LogEntry)) (stations : List Parts) (first last : Parts) (left : AllZip (Leaves plan) logs stations)
     (begun : IsPrepared plan first) (joins : AllJoined first stations last) (number : ℕ) where
   pub small_open : (others : List (QueueEnd 64)) (q : closed.Queue) → QueueEnded small_of number stations last others q → IsLeftOpen number logs → IsNeverShutSmall number logs
   small_open others q e none = never_told (λ log. small_was_shut log number) (λ p. knows_shut_at (small_of p) number ≡ true)

@@ -11,12 +11,12 @@ use Rattle.thread_table.specs.Rules.{done_at}
 use Rattle.processor.specs.declared.deed.Deed.{Deed}
 use Rattle.processor.specs.declared.deed.Deed.TheVariants as deeds
 use Rattle.processor.specs.declared.station.Parts.{Parts}
-use Rattle.processor.specs.Logs.{Entry, Tended, Delivered, Tried, Retired, Leaves, done_by, heard_by}
+use Rattle.processor.specs.Logs.{LogEntry, Tended, Delivered, Tried, Retired, Leaves, done_by, heard_by}
 use Rattle.processor.specs.Programs.{Key, same_key}
 use Rattle.processor.specs.Running.{Line}
 use Rattle.processor.specs.Partings.{AllJoined}
 use Rattle.processor.specs.Preparing.{IsPrepared}
-use Rattle.reports.specs.Closed.{Closed}
+use Rattle.reports.specs.ClosedTables.{ClosedTables}
 use Rattle.reports.specs.Endings.{ThreadsEnded}
 use Rattle.reports.specs.Lists.{all_of}
 use Rattle.reports.specs.Reports.{AreSorted, Ascend}
@@ -48,13 +48,13 @@ module _ (k : Key) where
       let a = many_cons is_of ((element, number), heard) [] in let b = many_cons (same_key k) (element, number) [] in omega arith
   by_deed element number step deed count heard = omega arith
 
-  by_entry : (entry : Entry) → count_by is_of (heard_by entry) ≤ count_by (same_key k) (done_by entry)
+  by_entry : (entry : LogEntry) → count_by is_of (heard_by entry) ≤ count_by (same_key k) (done_by entry)
   by_entry (Tended advanced alarms) = omega arith
   by_entry (Delivered element mask) = omega arith
   by_entry (Tried element number step deed count heard) = by_deed element number step deed count heard
   by_entry (Retired element number) = omega arith
 
-  pub heard_few : (log : List Entry) → count_by is_of (flat_map heard_by log) ≤ count_by (same_key k) (flat_map done_by log)
+  pub heard_few : (log : List LogEntry) → count_by is_of (flat_map heard_by log) ≤ count_by (same_key k) (flat_map done_by log)
   heard_few [] = omega arith
   heard_few (entry ∷ log) = let a = by_entry entry in let b = heard_few log in
       let c = many_more is_of (heard_by entry) (flat_map heard_by log) in let d = many_more (same_key k) (done_by entry) (flat_map done_by log) in omega arith
@@ -63,8 +63,8 @@ one_most : (b : Bool) → ◌≤◌ (if b then 1 else 0) 1
 one_most true = omega arith
 one_most false = omega arith
 
-module _ (plan : BootPlan) (logs : List (List Entry)) (stations : List Parts) (first last : Parts) (left : AllZip (Leaves plan) logs stations)
-    (begun : IsPrepared plan first) (joins : AllJoined first stations last) (c : Closed) (e : ThreadsEnded last c) where
+module _ (plan : BootPlan) (logs : List (List LogEntry)) (stations : List Parts) (first last : Parts) (left : AllZip (Leaves plan) logs stations)
+    (begun : IsPrepared plan first) (joins : AllJoined first stations last) (c : ClosedTables) (e : ThreadsEnded last c) where
   pub once_most : (x n : ℕ) → count_by (same_key (x, n)) (flat_map done_by (all_of logs)) ≤ 1
   once_most x n =
       let h : count_by (same_key (x, n)) (flat_map done_by (all_of logs)) ≡ (if nat_lt n (done_at (view_of last.hand).schedule x) then 1 else 0) =

@@ -23,7 +23,7 @@ use Rattle.quajects.specs.Switches as switches
 use Rattle.quajects.specs.Terminals as terminals
 use Rattle.table_theory.specs.declared.queues.Batch.{Batch}
 use Rattle.reports.specs.Agreements.{source_of, taken_from, routes_of, small_targets, large_targets, put_at}
-use Rattle.reports.specs.Closed as closed
+use Rattle.reports.specs.ClosedTables as closed
 use Rattle.reports.specs.Endings.{ends_at, small_home, large_home, device_at, ChainEnded}
 
 -- WHAT ENDS LIST

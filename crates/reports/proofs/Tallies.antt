@@ -19,7 +19,7 @@ use Rattle.processor.specs.declared.deed.Deed.{Deed}
 use Rattle.processor.specs.declared.deed.Deed.TheVariants as deeds
 use Rattle.processor.specs.declared.station.Parts.{Parts}
 use Rattle.processor.specs.Deeds.{is_done}
-use Rattle.processor.specs.Logs.{Entry, Tended, Delivered, Tried, Retired, Leaves, IsPlanned, count_of, tally_by, tally_of, fired_by}
+use Rattle.processor.specs.Logs.{LogEntry, Tended, Delivered, Tried, Retired, Leaves, FollowsPlan, count_of, tally_by, tally_of, fired_by}
 use Rattle.processor.specs.Logs as entries
 use Rattle.processor.specs.Partings.{AreJoined, AllJoined}
 use Rattle.processor.specs.Programs.{same_key}
@@ -66,18 +66,18 @@ counted_takes : (count : Counted) (element number : ℕ) → (counted_step count
 counted_takes (counted.Done n) element number = refl
 counted_takes count element number = refl
 
-entry_takes : (entry : Entry) → (tally_by entry).taken ≡ []
+entry_takes : (entry : LogEntry) → (tally_by entry).taken ≡ []
 entry_takes (Tended advanced alarms) = refl
 entry_takes (Delivered element mask) = refl
 entry_takes (Tried element number step deed count heard) = λ k. raised_takes step deed k ++ counted_takes count element number k
 entry_takes (Retired element number) = refl
 
-log_takes : (log : List Entry) → (tally_of log).taken ≡ []
+log_takes : (log : List LogEntry) → (tally_of log).taken ≡ []
 log_takes [] = refl
 log_takes (entry ∷ log) = λ k. entry_takes entry k ++ log_takes log k
 
 -- no processor takes a free element
-logs_take : (logs : List (List Entry)) → flat_map (λ log. (tally_of log).taken) logs ≡ []
+logs_take : (logs : List (List LogEntry)) → flat_map (λ log. (tally_of log).taken) logs ≡ []
 logs_take [] = refl
 logs_take (log ∷ logs) = λ k. log_takes log k ++ logs_take logs k
 
@@ -91,14 +91,14 @@ counted_one : (b : Bool) (element number : ℕ) → (counted_step (count_of b nu
 counted_one true element number = refl
 counted_one false element number = refl
 
-pub entry_steps : (plan : BootPlan) (entry : Entry) → IsPlanned plan entry → (tally_by entry).done ≡ entries.done_by entry
+pub entry_steps : (plan : BootPlan) (entry : LogEntry) → FollowsPlan plan entry → (tally_by entry).done ≡ entries.done_by entry
 entry_steps plan (Tended advanced alarms) p = refl
 entry_steps plan (Delivered element mask) p = refl
 entry_steps plan (Tried element number step deed count heard) p =
     (λ k. raised_none step deed k ++ (counted_step (p.2 k) element number).done) ∙ counted_one (is_done deed) element number
 entry_steps plan (Retired element number) p = refl
 
-pub log_steps : (plan : BootPlan) (log : List Entry) → AllByRecursion (IsPlanned plan) log → (tally_of log).done ≡ flat_map entries.done_by log
+pub log_steps : (plan : BootPlan) (log : List LogEntry) → AllByRecursion (FollowsPlan plan) log → (tally_of log).done ≡ flat_map entries.done_by log
 log_steps plan [] p = refl
 log_steps plan (entry ∷ log) p = λ k. entry_steps plan entry p.0 k ++ log_steps plan log p.1 k
 
@@ -125,7 +125,7 @@ module _ (x n : ℕ) where
   swap_or false false true d = refl
   swap_or false false false d = refl
 
-  pub entry_signals : (entry : Entry) → list_any (same_key (x, n)) (tally_by entry).signalled
+  pub entry_signals : (entry : LogEntry) → list_any (same_key (x, n)) (tally_by entry).signalled
       ≡ (list_any (same_key (x, n)) (doings.signals_by entry) || list_any (doings.is_for x n) (fired_by entry))
   entry_signals (Tended advanced alarms) = for_alarms alarms
   entry_signals (Delivered element mask) = refl
@@ -134,7 +134,7 @@ module _ (x n : ℕ) where
       ∙ (ap (list_any (same_key (x, n))) (append-nil (raised_by step deed).signalled) ∙ or_none (list_any (same_key (x, n)) (raised_by step deed).signalled))
   entry_signals (Retired element number) = refl
 
-  pub log_signals : (log : List Entry) → list_any (same_key (x, n)) (tally_of log).signalled
+  pub log_signals : (log : List LogEntry) → list_any (same_key (x, n)) (tally_of log).signalled
       ≡ (list_any (same_key (x, n)) (flat_map doings.signals_by log) || list_any (doings.is_for x n) (flat_map fired_by log))
   log_signals [] = refl
   log_signals (entry ∷ log) =
@@ -145,7 +145,7 @@ module _ (x n : ℕ) where
       ∙ (λ k. sym (list_any-append (same_key (x, n)) (doings.signals_by entry) (flat_map doings.signals_by log)) k
       || sym (list_any-append (doings.is_for x n) (fired_by entry) (flat_map fired_by log)) k)))
 
-  pub logs_signals : (logs : List (List Entry)) → list_any (same_key (x, n)) (flat_map (λ log. (tally_of log).signalled) logs)
+  pub logs_signals : (logs : List (List LogEntry)) → list_any (same_key (x, n)) (flat_map (λ log. (tally_of log).signalled) logs)
       ≡ (list_any (same_key (x, n)) (flat_map doings.signals_by (all_of logs)) || list_any (doings.is_for x n) (flat_map fired_by (all_of logs)))
   logs_signals [] = refl
   logs_signals (log ∷ logs) =
@@ -158,7 +158,7 @@ module _ (x n : ℕ) where
 
 -- ALL HANDS
 
-module _ (plan : BootPlan) (logs : List (List Entry)) (stations : List Parts) (first last : Parts) (left : AllZip (Leaves plan) logs stations)
+module _ (plan : BootPlan) (logs : List (List LogEntry)) (stations : List Parts) (first last : Parts) (left : AllZip (Leaves plan) logs stations)
     (begun : IsPrepared plan first) (joins : AllJoined first stations last) where
   pub all_steps : flat_map done_by (made_at last) ≡ flat_map entries.done_by (all_of logs)
   all_steps = joined_from_none (λ p. flat_map done_by (made_at p)) steps_more first stations last begun.done joins

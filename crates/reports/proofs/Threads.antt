@@ -16,14 +16,14 @@ use Rattle.thread_table.specs.Handles.{view_of}
 use Rattle.thread_table.specs.Rules.{done_at}
 use Rattle.processor.specs.declared.station.Parts.{Parts}
 use Rattle.processor.specs.Deeds.{is_done}
-use Rattle.processor.specs.Logs.{Entry, Tended, Delivered, Tried, Retired, Leaves, IsPlanned, tally_of, fired_by, done_by, numbers_done, Climbs}
+use Rattle.processor.specs.Logs.{LogEntry, Tended, Delivered, Tried, Retired, Leaves, FollowsPlan, tally_of, fired_by, done_by, numbers_done, Climbs}
 use Rattle.processor.specs.Programs.{Key, program, same_key}
 use Rattle.processor.specs.Stations.{no_signals}
 use Rattle.processor.specs.Partings.{AllJoined}
 use Rattle.processor.specs.Preparing.{IsPrepared}
 use Rattle.reports.specs.Agreements.{StepsAgree, ShownAgrees, SignalsAgree}
-use Rattle.reports.specs.Closed.{Closed}
-use Rattle.reports.specs.Closed as closed
+use Rattle.reports.specs.ClosedTables.{ClosedTables}
+use Rattle.reports.specs.ClosedTables as closed
 use Rattle.reports.specs.Doings as doings
 use Rattle.reports.specs.Endings.{ThreadsEnded}
 use Rattle.reports.specs.Lists.{all_of}
@@ -61,28 +61,28 @@ module _ (plan : BootPlan) (x n : ℕ) (none : slice_get (program plan x) n ≡ 
       let z : None ≡ Some step = sym none ∙ a in absurd (cc))
       (λ isnt. let z : plus (same_key (x, n) (element, number)) ≡ 0 = ap plus isnt in omega arith)
 
-  none_by : (entry : Entry) → IsPlanned plan entry → count_by (same_key (x, n)) (done_by entry) ≡ 0
+  none_by : (entry : LogEntry) → FollowsPlan plan entry → count_by (same_key (x, n)) (done_by entry) ≡ 0
   none_by (Tended advanced alarms) p = refl
   none_by (Delivered element mask) p = refl
   none_by (Tried element number step deed count heard) p = not_it element number step (is_done deed) p.0
   none_by (Retired element number) p = refl
 
-  pub none_in : (log : List Entry) → AllByRecursion (IsPlanned plan) log → count_by (same_key (x, n)) (flat_map done_by log) ≡ 0
+  pub none_in : (log : List LogEntry) → AllByRecursion (FollowsPlan plan) log → count_by (same_key (x, n)) (flat_map done_by log) ≡ 0
   none_in [] p = refl
   none_in (entry ∷ log) p = many_more (same_key (x, n)) (done_by entry) (flat_map done_by log)
       ∙ (let a = none_by entry p.0 in let b = none_in log p.1 in omega arith)
 
-pub planned_all : (plan : BootPlan) (logs : List (List Entry)) (stations : List Parts) → AllZip (Leaves plan) logs stations → AllByRecursion (AllByRecursion (IsPlanned plan)) logs
+pub planned_all : (plan : BootPlan) (logs : List (List LogEntry)) (stations : List Parts) → AllZip (Leaves plan) logs stations → AllByRecursion (AllByRecursion (FollowsPlan plan)) logs
 planned_all plan [] [] z = tt
 planned_all plan [] (s ∷ ss) z = absurd z
 planned_all plan (l ∷ ls) [] z = absurd z
 planned_all plan (l ∷ ls) (s ∷ ss) z = (z.0.planned, planned_all plan ls ss z.1)
 
-plan_more : (plan : BootPlan) (l m : List Entry) → AllByRecursion (IsPlanned plan) l → AllByRecursion (IsPlanned plan) m → AllByRecursion (IsPlanned plan) (l ++ m)
+plan_more : (plan : BootPlan) (l m : List LogEntry) → AllByRecursion (FollowsPlan plan) l → AllByRecursion (FollowsPlan plan) m → AllByRecursion (FollowsPlan plan) (l ++ m)
 plan_more plan [] m p q = q
 plan_more plan (e ∷ l) m p q = (p.0, plan_more plan l m p.1 q)
 
-pub all_planned : (plan : BootPlan) (logs : List (List Entry)) → AllByRecursion (AllByRecursion (IsPlanned plan)) logs → AllByRecursion (IsPlanned plan) (all_of logs)
+pub all_planned : (plan : BootPlan) (logs : List (List LogEntry)) → AllByRecursion (AllByRecursion (FollowsPlan plan)) logs → AllByRecursion (FollowsPlan plan) (all_of logs)
 all_planned plan [] p = tt
 all_planned plan (log ∷ logs) p = plan_more plan log (all_of logs) p.0 (all_planned plan logs p.1)
 
@@ -110,7 +110,7 @@ climbs_below (y ∷ ys) low high top up below h =
     (h.0, climbs_below ys (y + 1) high top (let k = below y (omega arith) in omega arith) (λ n some. below n (let d = many_cons (eqb n) y ys in omega arith)) h.1)
 
 module _ (plan : BootPlan) (x top : ℕ) where
-  all_climb : (logs : List (List Entry)) (stations : List Parts) → AllZip (Leaves plan) logs stations
+  all_climb : (logs : List (List LogEntry)) (stations : List Parts) → AllZip (Leaves plan) logs stations
       → ((n : ℕ) → 1 ≤ count_by (same_key (x, n)) (flat_map done_by (all_of logs)) → n < top) → AllByRecursion (λ log. Climbs (numbers_done log x) 0 top) logs
   all_climb [] [] z below = tt
   all_climb [] (s ∷ ss) z below = absurd z
@@ -153,7 +153,7 @@ module _ (x n : ℕ) (few : x < 64) (low : n < 16) where
   shown_joined first (s ∷ ss) last j = shown_joined j.0 ss last j.2
       ∙ (ap (λ z. z || list_any (shown_by x n) ss) (j.1.signals x n few low) ∙ assoc (shown_by x n first) (shown_by x n s) (list_any (shown_by x n) ss))
 
-  shown_left : (plan : BootPlan) (logs : List (List Entry)) (stations : List Parts) → AllZip (Leaves plan) logs stations
+  shown_left : (plan : BootPlan) (logs : List (List LogEntry)) (stations : List Parts) → AllZip (Leaves plan) logs stations
       → list_any (shown_by x n) stations ≡ list_any (is_it x n) (flat_map (λ log. (tally_of log).delivered) logs)
   shown_left plan [] [] z = refl
   shown_left plan [] (s ∷ ss) z = absurd z
@@ -163,8 +163,8 @@ module _ (x n : ℕ) (few : x < 64) (low : n < 16) where
 
 -- THREADS
 
-module _ (plan : BootPlan) (logs : List (List Entry)) (stations : List Parts) (first last : Parts) (left : AllZip (Leaves plan) logs stations)
-    (begun : IsPrepared plan first) (joins : AllJoined first stations last) (c : Closed) (e : ThreadsEnded last c) (x : ℕ) (t : closed.Thread)
+module _ (plan : BootPlan) (logs : List (List LogEntry)) (stations : List Parts) (first last : Parts) (left : AllZip (Leaves plan) logs stations)
+    (begun : IsPrepared plan first) (joins : AllJoined first stations last) (c : ClosedTables) (e : ThreadsEnded last c) (x : ℕ) (t : closed.Thread)
     (at : slice_get c.threads x ≡ Some t) where
   pub known : x < 64
   known = let a = within c.threads x t at in let b = e.few in omega arith

@@ -21,7 +21,7 @@ use Rattle.end_steps.proofs.Shares.{none_of}
 use Rattle.processor.specs.declared.station.Parts.{Parts}
 use Rattle.quajects.specs.Settled.{runs_of, takings_of}
 use Rattle.reports.specs.Agreements.{IsWoven, each_alone}
-use Rattle.reports.specs.Closed as closed
+use Rattle.reports.specs.ClosedTables as closed
 use Rattle.reports.specs.Endings.{QueueEnded}
 use Rattle.reports.proofs.Lists.{at_its}
 use Rattle.reports.proofs.QueueEnds.{map_flat}

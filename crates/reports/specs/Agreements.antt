@@ -27,11 +27,11 @@ use Rattle.table_theory.specs.Interleaving.{Interleaves}
 use Rattle.thread_table.specs.declared.places.Place.{Place}
 use Rattle.thread_table.specs.declared.places.Place.TheVariants as places
 use Rattle.thread_table.specs.Answers.{is_in}
-use Rattle.processor.specs.Logs.{Entry, tally_of, done_by, numbers_done, Climbs, small_put, small_taken, large_put}
+use Rattle.processor.specs.Logs.{LogEntry, tally_of, done_by, numbers_done, Climbs, small_put, small_taken, large_put}
 use Rattle.processor.specs.Logs.{large_taken, ticked_by, fired_by}
 use Rattle.processor.specs.Programs.{program, same_key}
-use Rattle.reports.specs.Closed.{Closed}
-use Rattle.reports.specs.Closed as closed
+use Rattle.reports.specs.ClosedTables.{ClosedTables}
+use Rattle.reports.specs.ClosedTables as closed
 use Rattle.reports.specs.Doings.{signals_by, is_poke, is_for, is_retired}
 use Rattle.reports.specs.Lists.{all_of}
 
@@ -39,7 +39,7 @@ use Rattle.reports.specs.Lists.{all_of}
 
 -- The steps done are the first so many of the thread's program, each done once, whichever processor did it; and those
 -- that one processor did, it did in their order
-pub record StepsAgree (plan : BootPlan) (thread steps : ℕ) (logs : List (List Entry)) : Type 0 where
+pub record StepsAgree (plan : BootPlan) (thread steps : ℕ) (logs : List (List LogEntry)) : Type 0 where
   pub prefix : steps ≤ length (program plan thread)
   pub once : (number : ℕ) → count_by (same_key (thread, number)) (flat_map done_by (all_of logs))
       ≡ (if nat_lt number steps then 1 else 0)
@@ -53,19 +53,19 @@ PlaceAgrees (places.Processor p) steps all retired = ⊥
 PlaceAgrees place steps all retired = retired ≡ false
 
 -- a signal was shown exactly where the logs delivered it to the thread
-abbrev pub ShownAgrees : ℕ → closed.Thread → List (List Entry) → Type 0
+abbrev pub ShownAgrees : ℕ → closed.Thread → List (List LogEntry) → Type 0
 ShownAgrees thread t logs = (signal : ℕ) → signal < 16
     → is_in t.shown signal ≡ is_delivered (flat_map (λ log. (tally_of log).delivered) logs) thread signal
 
 -- a signal was shown, or is pending, exactly where a done step or a fired alarm raised it on the thread
-abbrev pub SignalsAgree : ℕ → closed.Thread → List Alarm → List (List Entry) → Type 0
+abbrev pub SignalsAgree : ℕ → closed.Thread → List Alarm → List (List LogEntry) → Type 0
 SignalsAgree thread t fired logs = (signal : ℕ) → signal < 16
     → (is_in t.shown signal || is_in t.pending signal)
     ≡ (list_any (same_key (thread, signal)) (flat_map signals_by (all_of logs))
     || list_any (is_for thread signal) fired)
 
 pub record ThreadAgrees (plan : BootPlan) (thread : ℕ) (t : closed.Thread) (fired : List Alarm)
-    (logs : List (List Entry)) : Type 0 where
+    (logs : List (List LogEntry)) : Type 0 where
   pub ran : StepsAgree plan thread t.steps logs
   pub place : PlaceAgrees t.place t.steps (length (program plan thread)) (list_any (is_retired thread) (all_of logs))
   pub shown : ShownAgrees thread t logs
@@ -87,8 +87,8 @@ pub record IsWoven (items : List ℕ) (lists : List (List (List ℕ))) (others :
 -- The lines that each processor put are those of its log, and so are the lines that it took; cut by claim, the items put
 -- are the lines put, each once, and cut by taking, the items taken are the lines taken, each once: those of each
 -- processor stand in both in the order of its log. No more is left than the queue has places
-pub record QueueAgrees (places : ℕ) (put taken : List Entry → List (List ℕ)) (q : closed.Queue)
-    (logs : List (List Entry)) : Type 0 where
+pub record QueueAgrees (places : ℕ) (put taken : List LogEntry → List (List ℕ)) (q : closed.Queue)
+    (logs : List (List LogEntry)) : Type 0 where
   pub behind : q.taken ≤ length q.items
   pub within : length q.items ≤ q.taken + places
   pub said : q.put_by ≡ map put logs
@@ -96,10 +96,10 @@ pub record QueueAgrees (places : ℕ) (put taken : List Entry → List (List ℕ
   pub claims : IsWoven q.items q.put_by q.put_by_others
   pub takings : IsWoven (take q.taken q.items) q.taken_by q.taken_by_others
 
-abbrev pub SmallAgrees : ℕ → closed.Queue → List (List Entry) → Type 0
+abbrev pub SmallAgrees : ℕ → closed.Queue → List (List LogEntry) → Type 0
 SmallAgrees number q logs = QueueAgrees 64 (λ log. small_put log number) (λ log. small_taken log number) q logs
 
-abbrev pub LargeAgrees : ℕ → closed.Queue → List (List Entry) → Type 0
+abbrev pub LargeAgrees : ℕ → closed.Queue → List (List LogEntry) → Type 0
 LargeAgrees number q logs = QueueAgrees 256 (λ log. large_put log number) (λ log. large_taken log number) q logs
 
 -- the small queue that a quaject takes lines from
@@ -113,7 +113,7 @@ abbrev pub taken_from : ℕ → closed.Chain → List (List ℕ)
 taken_from number chain = if source_of chain.quaject == number then all_taken chain.quaject else []
 
 -- the lines that others than processors took from a small queue are those that the quajects took there
-abbrev pub IsTakenByQuajects : Closed → ℕ → closed.Queue → Type 0
+abbrev pub IsTakenByQuajects : ClosedTables → ℕ → closed.Queue → Type 0
 IsTakenByQuajects c number q = q.taken_by_others ≡ flat_map (taken_from number) (c.movers ++ c.ttys)
 
 -- where a quaject puts lines: its ends of small queues, and of large ones
@@ -134,11 +134,11 @@ put_at number (Some port ∷ ports) =
     (if port.index == number then lines_put (view_of port.end) else []) ++ put_at number ports
 
 -- the lines that others than processors put in the queue are those that the quajects put there
-abbrev pub IsSmallPutByQuajects : Closed → ℕ → closed.Queue → Type 0
+abbrev pub IsSmallPutByQuajects : ClosedTables → ℕ → closed.Queue → Type 0
 IsSmallPutByQuajects c number q =
     q.put_by_others ≡ flat_map (λ chain. put_at number (small_targets chain.quaject)) (c.movers ++ c.ttys)
 
-abbrev pub IsLargePutByQuajects : Closed → ℕ → closed.Queue → Type 0
+abbrev pub IsLargePutByQuajects : ClosedTables → ℕ → closed.Queue → Type 0
 IsLargePutByQuajects c number q =
     q.put_by_others ≡ flat_map (λ chain. put_at number (large_targets chain.quaject)) (c.movers ++ c.ttys)
 
@@ -190,7 +190,7 @@ IsMover mover quaject = ⊥
 
 -- its notes alone ran it; the lines that it took are those that it put, each where it belongs, and the one held; and the
 -- notes that it ran and those left in its chain are, by number, the done pokes
-pub record MoverAgrees (mover : ℕ) (planned : Mover) (m : closed.Chain) (logs : List (List Entry)) : Type 0 where
+pub record MoverAgrees (mover : ℕ) (planned : Mover) (m : closed.Chain) (logs : List (List LogEntry)) : Type 0 where
   pub its : IsMover planned m.quaject
   pub made : MadeOfNew m.quaject
   pub kept : IsKept m.quaject
@@ -199,11 +199,11 @@ pub record MoverAgrees (mover : ℕ) (planned : Mover) (m : closed.Chain) (logs 
 -- METERS
 
 -- a gauge is the sum of its ticks, modulo 2^64
-abbrev pub GaugesAgree : List ℕ → List (List Entry) → Type 0
+abbrev pub GaugesAgree : List ℕ → List (List LogEntry) → Type 0
 GaugesAgree gauges logs = (gauge value : ℕ) → slice_get gauges gauge ≡ Some value
     → value ≡ amount_on gauge (flat_map ticked_by (all_of logs)) % 18446744073709551616
 
 -- the alarms of the plan are fired or left, each once, and the processors fired those fired
-pub record AlarmsAgree (plan : BootPlan) (c : Closed) (logs : List (List Entry)) : Type 0 where
+pub record AlarmsAgree (plan : BootPlan) (c : ClosedTables) (logs : List (List LogEntry)) : Type 0 where
   pub each : (alarm : Alarm) → times alarm plan.alarms ≡ times alarm c.fired + times alarm c.left
   pub by : c.fired ≡ flat_map fired_by (all_of logs)

@@ -9,13 +9,13 @@ use Rattle.claim_queue.specs.declared.ends.QueueEnd.{QueueEnd}
 use Rattle.proc_chain.specs.declared.rule.View.{View as ChainView}
 use Rattle.quajects.specs.declared.home.Home.{Home}
 use Rattle.processor.specs.declared.station.Parts.{Parts}
-use Rattle.processor.specs.Logs.{Entry, Leaves}
+use Rattle.processor.specs.Logs.{LogEntry, Leaves}
 use Rattle.processor.specs.Running.{Line}
 use Rattle.processor.specs.Turns.{heard_lines}
 use Rattle.processor.specs.Partings.{AllJoined}
 use Rattle.processor.specs.Preparing.{IsPrepared}
-use Rattle.reports.specs.Closed.{Closed}
-use Rattle.reports.specs.Closed as closed
+use Rattle.reports.specs.ClosedTables.{ClosedTables}
+use Rattle.reports.specs.ClosedTables as closed
 use Rattle.reports.specs.Endings.{ThreadsEnded, QueueEnded, MoverEnded, TtyEnded, MetersEnded, small_of, large_of}
 use Rattle.reports.specs.Endings.{small_home, large_home, device_at, FreedSpare}
 use Rattle.reports.specs.Lines.{Says}
@@ -56,7 +56,7 @@ large_others boot number = flat_map (large_home number) (homes boot)
 
 -- Each processor left what its log says, on a station that was new; all stations were joined to the first, which had
 -- prepared the threads, and had freed the other elements; then all was closed; and the report says what that showed
-pub record BootEnded (plan : BootPlan) (logs : List (List Entry)) (boot : Boot) (c : Closed) (heard : List Line)
+pub record BootEnded (plan : BootPlan) (logs : List (List LogEntry)) (boot : Boot) (c : ClosedTables) (heard : List Line)
     (r : Report) : Type 0 where
   pub left : AllZip (Leaves plan) logs boot.stations
   pub some_processor : 0 < length boot.stations

@@ -11,7 +11,7 @@ use Rattle.claim_queue.specs.declared.close.Closed.{Closed as Shut}
 use Rattle.claim_queue.specs.declared.ends.QueueEnd.{QueueEnd}
 use Rattle.claim_queue.specs.Handles.{view_of}
 use Rattle.claim_queue.specs.Lines.{lines_put, lines_taken}
-use Rattle.closing.specs.declared.all.Ended.{Ended}
+use Rattle.closing.specs.declared.all.Unmade.{Unmade}
 use Rattle.closing.specs.Endings.{AllClosed}
 use Rattle.closing.specs.RawEnds.{TookRaws}
 use Rattle.closing.specs.Retirals.{HaveRetired}
@@ -26,7 +26,7 @@ use Rattle.proc_chain.specs.declared.quaject.Quaject.{Ghosts}
 use Rattle.proc_chain.specs.Handles as chains
 use Rattle.processor.specs.declared.shared.Shared.{Shared}
 use Rattle.processor.specs.declared.station.Parts.{Parts}
-use Rattle.processor.specs.Logs.{Entry, Leaves}
+use Rattle.processor.specs.Logs.{LogEntry, Leaves}
 use Rattle.processor.specs.Stations.{ArePartsOf}
 use Rattle.processor.specs.Partings.{AllJoined}
 use Rattle.processor.specs.Preparing.{IsPrepared}
@@ -39,8 +39,8 @@ use Rattle.quajects.specs.Raws.{end_of}
 use Rattle.quajects.specs.Settled.{runs_of}
 use Rattle.reports.specs.Agreements.{IsMover, IsTty}
 use Rattle.reports.specs.Boots.{Boot, TtyEnds, small_others, large_others}
-use Rattle.reports.specs.Closed.{Closed}
-use Rattle.reports.specs.Closed as closed
+use Rattle.reports.specs.ClosedTables.{ClosedTables}
+use Rattle.reports.specs.ClosedTables as closed
 use Rattle.reports.specs.Endings.{small_of, large_of, FreedSpare}
 use Rattle.table_theory.specs.declared.queues.Batch.{Batch}
 use Rattle.table_theory.specs.Positioned.{blank}
@@ -138,7 +138,7 @@ boot_of plan first stations last devices parts homes = record {
 }
 
 -- The closed tables of this boot, by what closing gave: the quajects that came home, and what the devices did
-abbrev pub closed_of : BootPlan → Boot → Ended → List AnyQuaject → List closed.Device → Closed
+abbrev pub closed_of : BootPlan → Boot → Unmade → List AnyQuaject → List closed.Device → ClosedTables
 closed_of plan boot ended quajects devices = record {
   small = queues_from small_of boot.stations (small_others plan boot) 0 ended.small_ends.value.items
       ended.small.items;
@@ -166,8 +166,8 @@ IsOfPlan plan number quaject =
 -- had prepared the threads and freed the other elements; nothing stands on a processor then. The raw ttys of the devices
 -- were joined to that, and all was closed. The chains were given the quajects of the plan, over ends that had done
 -- nothing
-pub record BootShut (shared : Shared) (logs : List (List Entry)) (first : Parts) (stations : List Parts) (last : Parts)
-    (ttys : List RawTty) (devices : List closed.Device) (parts : Parts) (ended : Ended) : Type 0 where
+pub record BootShut (shared : Shared) (logs : List (List LogEntry)) (first : Parts) (stations : List Parts) (last : Parts)
+    (ttys : List RawTty) (devices : List closed.Device) (parts : Parts) (ended : Unmade) : Type 0 where
   pub left : AllZip (Leaves shared.plan) logs stations
   pub some_processor : 0 < length stations
   pub prepared : IsPrepared shared.plan first
@@ -184,15 +184,15 @@ pub record BootShut (shared : Shared) (logs : List (List Entry)) (first : Parts)
   pub quajects : AreQuajectsOf shared.plan shared.queues (quajects_of shared.chains.items)
 
 -- what such a boot had, and its closed tables
-abbrev pub boot_shut : (shared : Shared) (logs : List (List Entry)) (first : Parts) (stations : List Parts)
-    (last : Parts) (ttys : List RawTty) (devices : List closed.Device) (parts : Parts) (ended : Ended)
+abbrev pub boot_shut : (shared : Shared) (logs : List (List LogEntry)) (first : Parts) (stations : List Parts)
+    (last : Parts) (ttys : List RawTty) (devices : List closed.Device) (parts : Parts) (ended : Unmade)
     → BootShut shared logs first stations last ttys devices parts ended → Boot
 boot_shut shared logs first stations last ttys devices parts ended shut =
     boot_of shared.plan first stations last ttys parts (homes_in ended.counts.items)
 
-abbrev pub closed_shut : (shared : Shared) (logs : List (List Entry)) (first : Parts) (stations : List Parts)
-    (last : Parts) (ttys : List RawTty) (devices : List closed.Device) (parts : Parts) (ended : Ended)
-    → BootShut shared logs first stations last ttys devices parts ended → Closed
+abbrev pub closed_shut : (shared : Shared) (logs : List (List LogEntry)) (first : Parts) (stations : List Parts)
+    (last : Parts) (ttys : List RawTty) (devices : List closed.Device) (parts : Parts) (ended : Unmade)
+    → BootShut shared logs first stations last ttys devices parts ended → ClosedTables
 closed_shut shared logs first stations last ttys devices parts ended shut =
     closed_of shared.plan (boot_of shared.plan first stations last ttys parts (homes_in ended.counts.items)) ended
     (came_home shared.chains.items parts.chains.items (homes_in ended.counts.items) shut.closed.homes) devices

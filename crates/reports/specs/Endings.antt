@@ -34,8 +34,8 @@ use Rattle.thread_table.specs.Handles.{view_of}
 use Rattle.processor.specs.declared.station.Parts.{Parts}
 use Rattle.processor.specs.Programs.{Key}
 use Rattle.reports.specs.Agreements.{IsTty, IsMover, MadeOfNew}
-use Rattle.reports.specs.Closed.{Closed}
-use Rattle.reports.specs.Closed as closed
+use Rattle.reports.specs.ClosedTables.{ClosedTables}
+use Rattle.reports.specs.ClosedTables as closed
 
 -- THREADS
 
@@ -46,7 +46,7 @@ FreedSpare plan station =
 
 -- The last hand, which has all, closed the table, and nothing stands on a processor. The closed threads are as the
 -- table told, and shown what any processor was shown
-pub record ThreadsEnded (last : Parts) (c : Closed) : Type 0 where
+pub record ThreadsEnded (last : Parts) (c : ClosedTables) : Type 0 where
   pub call : ℕ
   pub stands : List Place
   pub pcs : List ℕ
@@ -142,7 +142,7 @@ pub record TtyEnded (many tty : ℕ) (p : PlannedTty) (v : ChainView) (home : Ho
 
 -- the meters were closed by the last station's end, which fired the alarms fired; the plan's gauges are the first of
 -- the gauges
-pub record MetersEnded (plan : BootPlan) (last : Parts) (c : Closed) : Type 0 where
+pub record MetersEnded (plan : BootPlan) (last : Parts) (c : ClosedTables) : Type 0 where
   pub first : ℕ
   pub clock : ℕ
   pub gauges : List ℕ

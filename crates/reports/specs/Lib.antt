@@ -1,6 +1,6 @@
 pub mod Lists
 pub mod Doings
-pub mod Closed
+pub mod ClosedTables
 pub mod Lines
 pub mod Agreements
 pub mod Reports

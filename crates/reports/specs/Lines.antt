@@ -30,8 +30,8 @@ use Rattle.quajects.specs.Lines.{counted}
 use Rattle.thread_table.specs.declared.places.Place.{Place}
 use Rattle.thread_table.specs.declared.places.Place.TheVariants as places
 use Rattle.processor.specs.Running.{Line}
-use Rattle.reports.specs.Closed.{Closed}
-use Rattle.reports.specs.Closed as closed
+use Rattle.reports.specs.ClosedTables.{ClosedTables}
+use Rattle.reports.specs.ClosedTables as closed
 
 -- the numbers are those of the items put, taken and left
 pub record Counts (q : closed.Queue) (counts : ItemCounts) : Type 0 where
@@ -57,7 +57,7 @@ pub record TtySaid (p : PlannedTty) (c : closed.Chain) (d : closed.Device) (line
   pub held : lines.held ≡ length (held_of c.quaject)
 
 -- the counts of the three queues of the tty with this number, where the plan has so many queues and pipes
-pub record TtyQueuesSaid (queues tty : ℕ) (c : Closed) (lines : TtyLines) : Type 0 where
+pub record TtyQueuesSaid (queues tty : ℕ) (c : ClosedTables) (lines : TtyLines) : Type 0 where
   pub raw : (q : closed.Queue) → slice_get c.small (raw_queue queues tty) ≡ Some q → Counts q lines.raw
   pub line : (q : closed.Queue) → slice_get c.large (line_queue tty) ≡ Some q → Counts q lines.line
   pub screen : (q : closed.Queue) → slice_get c.large (screen_queue tty) ≡ Some q → Counts q lines.screen
@@ -80,7 +80,7 @@ pub record GaugeSaid (name : List ℕ) (value : ℕ) (line : GaugeLine) : Type 0
   pub value_is : line.value ≡ value
 
 -- the alarms set, those fired and those left
-pub record AlarmsSaid (plan : BootPlan) (c : Closed) (counts : AlarmCounts) : Type 0 where
+pub record AlarmsSaid (plan : BootPlan) (c : ClosedTables) (counts : AlarmCounts) : Type 0 where
   pub set : counts.set ≡ length plan.alarms
   pub fired : counts.fired ≡ length c.fired
   pub left : counts.left ≡ length c.left
@@ -114,7 +114,7 @@ abbrev pub left_of : closed.Chain → ℕ
 left_of chain = chain.left
 
 -- as many lines of each kind as the plan has things, and as many closed tables
-pub record AreWhole (plan : BootPlan) (c : Closed) (r : Report) : Type 0 where
+pub record AreWhole (plan : BootPlan) (c : ClosedTables) (r : Report) : Type 0 where
   pub queues : length r.queues ≡ length plan.queues
   pub ttys : length r.ttys ≡ length plan.ttys
   pub movers : length r.movers ≡ length plan.movers
@@ -128,7 +128,7 @@ pub record AreWhole (plan : BootPlan) (c : Closed) (r : Report) : Type 0 where
   pub all_threads : length c.threads ≡ length plan.threads
 
 -- The report says the numbers of the closed tables: each list in the order of the plan, with its names
-pub record Says (plan : BootPlan) (c : Closed) (heard : List Line) (r : Report) : Type 0 where
+pub record Says (plan : BootPlan) (c : ClosedTables) (heard : List Line) (r : Report) : Type 0 where
   pub whole : AreWhole plan c r
   pub queues : (number : ℕ) (p : PlannedQueue) (q : closed.Queue) (line : QueueLine)
       → slice_get plan.queues number ≡ Some p → slice_get c.small number ≡ Some q

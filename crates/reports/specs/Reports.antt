@@ -7,12 +7,12 @@ use Rattle.boot_data.specs.declared.plan.PlannedMover.{PlannedMover}
 use Rattle.boot_data.specs.declared.plan.PlannedTty.{PlannedTty}
 use Rattle.boot_data.specs.declared.report.Report.{Report}
 use Rattle.boot_data.specs.QueueLists.{raw_queue}
-use Rattle.processor.specs.Logs.{Entry, IsPlanned, heard_by}
+use Rattle.processor.specs.Logs.{LogEntry, FollowsPlan, heard_by}
 use Rattle.processor.specs.Running.{Line}
 use Rattle.reports.specs.Agreements.{ThreadAgrees, SmallAgrees, LargeAgrees, IsTakenByQuajects, TtyAgrees, MoverAgrees}
 use Rattle.reports.specs.Agreements.{GaugesAgree, AlarmsAgree, IsSmallPutByQuajects, IsLargePutByQuajects}
-use Rattle.reports.specs.Closed.{Closed}
-use Rattle.reports.specs.Closed as closed
+use Rattle.reports.specs.ClosedTables.{ClosedTables}
+use Rattle.reports.specs.ClosedTables as closed
 use Rattle.reports.specs.Lines.{Says}
 use Rattle.reports.specs.Lists.{all_of}
 use Rattle.reports.specs.Saying.{IsLeftOpen, IsNeverShutSmall, IsNeverShutLarge}
@@ -20,8 +20,8 @@ use Rattle.reports.specs.Saying.{IsLeftOpen, IsNeverShutSmall, IsNeverShutLarge}
 -- The closed tables agree with the plan and with the processors' logs. In a queue or pipe of the plan, and in a line or
 -- screen queue, put only the processors and the quajects; what is in a raw queue is what its device put. No say and no
 -- hear is told that its queue is shut but where a step shut that
-pub record TablesAgree (plan : BootPlan) (c : Closed) (logs : List (List Entry)) : Type 0 where
-  pub planned : AllByRecursion (AllByRecursion (IsPlanned plan)) logs
+pub record TablesAgree (plan : BootPlan) (c : ClosedTables) (logs : List (List LogEntry)) : Type 0 where
+  pub planned : AllByRecursion (AllByRecursion (FollowsPlan plan)) logs
   pub threads : (thread : ℕ) (t : closed.Thread) → slice_get c.threads thread ≡ Some t
       → ThreadAgrees plan thread t c.fired logs
   pub small : (number : ℕ) (q : closed.Queue) → slice_get c.small number ≡ Some q
@@ -61,7 +61,7 @@ Ascend lines = (i j : ℕ) (a b : Line) → slice_get lines i ≡ Some a → sli
 
 -- The report: the closed tables agree with the plan and the logs, and it says their numbers; its heard lines are those
 -- of the logs, each once, by thread and then by step
-pub record IsReport (plan : BootPlan) (c : Closed) (logs : List (List Entry)) (heard : List Line) (r : Report)
+pub record IsReport (plan : BootPlan) (c : ClosedTables) (logs : List (List LogEntry)) (heard : List Line) (r : Report)
     : Type 0 where
   pub tables : TablesAgree plan c logs
   pub all_heard : IsPermutation (flat_map heard_by (all_of logs)) heard

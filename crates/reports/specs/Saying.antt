@@ -9,7 +9,7 @@ use Rattle.boot_data.specs.declared.report.Report.{Report}
 use Rattle.boot_data.specs.declared.report.ThreadLine.{ThreadLine}
 use Rattle.boot_data.specs.declared.report.ThreadState.{ThreadState}
 use Rattle.boot_data.specs.declared.report.ThreadState.TheVariants as states
-use Rattle.processor.specs.Logs.{Entry, small_put, large_put, small_was_shut, large_was_shut, times_shut}
+use Rattle.processor.specs.Logs.{LogEntry, small_put, large_put, small_was_shut, large_was_shut, times_shut}
 use Rattle.processor.specs.Programs.{step_of}
 use Rattle.processor.specs.Queues.{said_line, small_at, large_at}
 
@@ -30,21 +30,21 @@ abbrev pub all_large : BootPlan → ℕ → List (List ℕ)
 all_large plan q = flat_map (λ (thread : PlannedThread). flat_map (says_large q) thread.steps) plan.threads
 
 -- no say and no hear of the logs was told that the queue q is shut
-abbrev pub IsNeverShutSmall : ℕ → List (List Entry) → Type 0
+abbrev pub IsNeverShutSmall : ℕ → List (List LogEntry) → Type 0
 IsNeverShutSmall q logs = AllByRecursion (λ log. small_was_shut log q ≡ false) logs
 
-abbrev pub IsNeverShutLarge : ℕ → List (List Entry) → Type 0
+abbrev pub IsNeverShutLarge : ℕ → List (List LogEntry) → Type 0
 IsNeverShutLarge q logs = AllByRecursion (λ log. large_was_shut log q ≡ false) logs
 
 -- no step of the logs shut the small queue q
-abbrev pub IsLeftOpen : ℕ → List (List Entry) → Type 0
+abbrev pub IsLeftOpen : ℕ → List (List LogEntry) → Type 0
 IsLeftOpen q logs = AllByRecursion (λ log. times_shut log q ≡ 0) logs
 
 -- the lines of the logs are those of the plan's steps that say to the queue q, each once
-abbrev pub SmallIsSaid : BootPlan → ℕ → List (List Entry) → Type 0
+abbrev pub SmallIsSaid : BootPlan → ℕ → List (List LogEntry) → Type 0
 SmallIsSaid plan q logs = IsPermutation (flat_map (λ log. small_put log q) logs) (all_small plan q)
 
-abbrev pub LargeIsSaid : BootPlan → ℕ → List (List Entry) → Type 0
+abbrev pub LargeIsSaid : BootPlan → ℕ → List (List LogEntry) → Type 0
 LargeIsSaid plan q logs = IsPermutation (flat_map (λ log. large_put log q) logs) (all_large plan q)
 
 -- no step of the plan shuts the small queue q

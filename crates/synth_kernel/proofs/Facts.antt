@@ -17,7 +17,7 @@ use Rattle.quajects.specs.declared.raw.RawTty.{RawTty}
 use Rattle.quajects.specs.Raws.{end_of}
 use Rattle.reporting.specs.declared.ttys.Typed.{Typed}
 use Rattle.reporting.specs.Shown.{ShowsDevice, ShowsDevices}
-use Rattle.reports.specs.Closed as closed
+use Rattle.reports.specs.ClosedTables as closed
 use Rattle.spsc_line.specs.declared.line_in.LineIn.{LineIn}
 use Rattle.spsc_line.specs.declared.line_out.LineOut.{LineOut}
 use Rattle.spsc_line.specs.Lines.{IsLine, bytes_received}

@@ -4,7 +4,7 @@ use Rattle.std.proofs.lemmas.List.{length-map}
 use Rattle.std.specs.List.{All, AllZip}
 use Rattle.boot_data.specs.declared.boot_plan.BootPlan.{BootPlan}
 use Rattle.boot_data.specs.declared.report.Report.{Report}
-use Rattle.closing.specs.declared.all.Ended.{Ended}
+use Rattle.closing.specs.declared.all.Unmade.{Unmade}
 use Rattle.closing.specs.Endings.{AllClosed}
 use Rattle.closing.specs.RawEnds.{AreRawsOf, TookRaws}
 use Rattle.closing.specs.Wholes.{HasWholes}
@@ -12,7 +12,7 @@ use Rattle.end_steps.specs.declared.gate.Point.{Point}
 use Rattle.end_steps.specs.Splits.{AllThree}
 use Rattle.processor.specs.declared.shared.Shared.{Shared}
 use Rattle.processor.specs.declared.station.Parts.{Parts}
-use Rattle.processor.specs.Logs.{Entry, Leaves}
+use Rattle.processor.specs.Logs.{LogEntry, Leaves}
 use Rattle.processor.specs.Programs.{hear_count}
 use Rattle.processor.specs.Stations.{ArePartsOf}
 use Rattle.processor.specs.Turns.{heard_lines}
@@ -62,7 +62,7 @@ parts_all T shared p turns (g ∷ gates) old new (w ∷ posts) (s ∷ stations) 
 
 -- each processor's log, by what its gate was told
 gates_logged : {G : Type 0} (T : G → ℕ → Point → G → Type 0) (shared : Shared) (p turns : ℕ) (gates : List G) (old new : Parts) (posts : List (Work G)) (stations : List (Processed G)) → ArePosted shared p turns gates old new posts
-    → AllZip (GaveBack (HasWorked T) shared) posts (map back_of stations) → (logs : List (List Entry)) × AllZip (Leaves shared.plan) logs (map parts_of stations) × AreLogsOf T shared p turns gates (map gate_of stations) logs
+    → AllZip (GaveBack (HasWorked T) shared) posts (map back_of stations) → (logs : List (List LogEntry)) × AllZip (Leaves shared.plan) logs (map parts_of stations) × AreLogsOf T shared p turns gates (map gate_of stations) logs
 gates_logged T shared p turns [] old new [] [] a z = ([], tt, tt)
 gates_logged T shared p turns [] old new [] (s ∷ stations) a z = absurd z
 gates_logged T shared p turns [] old new (w ∷ posts) stations a z = absurd a
@@ -115,7 +115,7 @@ module _ {G : Type 0} (T : G → ℕ → Point → G → Type 0) (plan : BootPla
     gates_were_told after ga = subst (λ (z : List G). AllToldTurns T 0 turns gates z) (sym (ga ∙ ap (λ (z : List (Processed G)). map gate_of z) processed_came))
         (gates_told G T ready.shared 0 turns gates r.first ready.station.parts r.posts its.processed r.posted ran)
 
-    logged : (logs : List (List Entry)) × AllZip (Leaves ready.shared.plan) logs (map parts_of its.processed) × AreLogsOf T ready.shared 0 turns gates (map gate_of its.processed) logs
+    logged : (logs : List (List LogEntry)) × AllZip (Leaves ready.shared.plan) logs (map parts_of its.processed) × AreLogsOf T ready.shared 0 turns gates (map gate_of its.processed) logs
     logged = gates_logged T ready.shared 0 turns gates r.first ready.station.parts r.posts its.processed r.posted ran
 
     pub lines_came : AllZip (λ (one : Served) (input : LineIn). IsLine input one.line) its.served inputs
@@ -149,7 +149,7 @@ module _ {G : Type 0} (T : G → ℕ → Point → G → Type 0) (plan : BootPla
           })
 
       module _ (some : 1 ≤ length gates) (its_parts : ArePartsOf ready.shared last) (told : List Typed) (tolds : AllThree TotalsAre its.served inputs told) (parts : Parts)
-          (took : TookRaws (length ready.shared.plan.queues) (length ready.shared.plan.movers) (map tty_of its.served) last parts) (ended : Ended) (closes : AllClosed ready.shared parts ended) where
+          (took : TookRaws (length ready.shared.plan.queues) (length ready.shared.plan.movers) (map tty_of its.served) last parts) (ended : Unmade) (closes : AllClosed ready.shared parts ended) where
         many : length (map parts_of its.processed) ≡ length gates
         many = length-map its.processed parts_of ∙ (its.posts_are ∙ posts_long)
 
@@ -212,7 +212,7 @@ module _ {G : Type 0} (T : G → ℕ → Point → G → Type 0) (plan : BootPla
         wholes_sorted parts are took = wholes last joined_same parts are (took_same parts took)
 
         module _ (some : 1 ≤ length gates) (its_parts : ArePartsOf ready.shared last) (told : List Typed) (tolds : AllThree TotalsAre (served_in backs) inputs told) (parts : Parts)
-            (took : TookRaws (length ready.shared.plan.queues) (length ready.shared.plan.movers) ttys last parts) (ended : Ended) (closes : AllClosed ready.shared parts ended) where
+            (took : TookRaws (length ready.shared.plan.queues) (length ready.shared.plan.movers) ttys last parts) (ended : Unmade) (closes : AllClosed ready.shared parts ended) where
           tolds_same : AllThree TotalsAre its.served inputs told
           tolds_same = subst (λ (z : List Served). AllThree TotalsAre z inputs told) served_came tolds
 

@@ -2,7 +2,7 @@
 use Rattle.std.proofs.Common.{◌≤◌, ℕ, List, length, flat_map, sym, subst}
 use Rattle.boot_data.specs.declared.boot_plan.BootPlan.{BootPlan}
 use Rattle.boot_data.specs.declared.report.Report.{Report}
-use Rattle.closing.specs.declared.all.Ended.{Ended}
+use Rattle.closing.specs.declared.all.Unmade.{Unmade}
 use Rattle.closing.specs.Endings.{AllClosed}
 use Rattle.closing.specs.RawEnds.{AreRawsOf, TookRaws}
 use Rattle.closing.specs.Rooms as closing
@@ -34,9 +34,9 @@ module _ {G : Type 0} (T : G → ℕ → Point → G → Type 0) (plan : BootPla
       pub wholes : (parts : Parts) → ArePartsOf shared parts → TookRaws (length shared.plan.queues) (length shared.plan.movers) stopped.gathered.ttys.items stopped.gathered.station.parts parts → HasWholes shared parts
       pub answers : closing.HaveRoom shared stopped.answers
       pub report : reporting.HasAllRoom shared.plan stopped.report
-      pub few : (parts : Parts) (ended : Ended) → TookRaws (length shared.plan.queues) (length shared.plan.movers) stopped.gathered.ttys.items stopped.gathered.station.parts parts → AllClosed shared parts ended
+      pub few : (parts : Parts) (ended : Unmade) → TookRaws (length shared.plan.queues) (length shared.plan.movers) stopped.gathered.ttys.items stopped.gathered.station.parts parts → AllClosed shared parts ended
           → length (flat_map lines_of stopped.gathered.heards.items) ≤ hear_count ended.plan
-      pub booted : (parts : Parts) (ended : Ended) → TookRaws (length shared.plan.queues) (length shared.plan.movers) stopped.gathered.ttys.items stopped.gathered.station.parts parts → AllClosed shared parts ended
+      pub booted : (parts : Parts) (ended : Unmade) → TookRaws (length shared.plan.queues) (length shared.plan.movers) stopped.gathered.ttys.items stopped.gathered.station.parts parts → AllClosed shared parts ended
           → (report : Report) → IsReported ended (flat_map lines_of stopped.gathered.heards.items) stopped.gathered.told.items report → IsBootOf T plan turns gates stopped.gathered.gates.items report
 
     pub knows : Knows stopped.shared

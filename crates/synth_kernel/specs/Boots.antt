@@ -11,10 +11,10 @@ use Rattle.end_steps.specs.declared.gate.NoGate.{NoGate}
 use Rattle.end_steps.specs.declared.gate.Point.{Point}
 use Rattle.processor.specs.declared.shared.Shared.{Shared}
 use Rattle.processor.specs.declared.station.Parts.{Parts}
-use Rattle.processor.specs.Logs.{Entry, IsFresh, Leaves}
+use Rattle.processor.specs.Logs.{LogEntry, IsFresh, Leaves}
 use Rattle.processor.specs.Points.{ToldTurns}
 use Rattle.processor.specs.Running.{Line}
-use Rattle.reports.specs.Closed.{Closed}
+use Rattle.reports.specs.ClosedTables.{ClosedTables}
 use Rattle.reports.specs.Reports.{IsReport}
 use Rattle.reports.specs.Saying.{live_threads}
 use Rattle.synth_kernel.specs.declared.outcome.Ended.{Ended}
@@ -26,7 +26,7 @@ use Rattle.synth_kernel.specs.declared.outcome.BootFault.TheVariants.{Script, Me
 -- The gate was told the number of each turn, from 0, and then the points of its step, and nothing else; so it became the
 -- other one
 pub record IsLogOf {G : Type 0} (T : G → ℕ → Point → G → Type 0) (shared : Shared) (p turns : ℕ) (gate gate' : G)
-    (log : List Entry) : Type 0 where
+    (log : List LogEntry) : Type 0 where
   pub old : Parts
   pub fresh : IsFresh old
   pub new : Parts
@@ -36,7 +36,7 @@ pub record IsLogOf {G : Type 0} (T : G → ℕ → Point → G → Type 0) (shar
 -- There is such a log for each of these gates and the other one at its place, of the processors from this one on, in
 -- their order
 abbrev pub AreLogsOf : {G : Type 0} → (G → ℕ → Point → G → Type 0) → Shared → ℕ → ℕ → List G → List G
-    → List (List Entry) → Type 0
+    → List (List LogEntry) → Type 0
 AreLogsOf T shared p turns [] [] [] = Unit {0}
 AreLogsOf T shared p turns (gate ∷ gates) (gate' ∷ gates') (log ∷ logs) =
     IsLogOf T shared p turns gate gate' log × AreLogsOf T shared (p + 1) turns gates gates' logs
@@ -49,8 +49,8 @@ pub record IsBootOf {G : Type 0} (T : G → ℕ → Point → G → Type 0) (pla
     (gates gates' : List G) (report : Report) : Type 0 where
   pub shared : Shared
   pub plan_is : shared.plan ≡ plan
-  pub closed : Closed
-  pub logs : List (List Entry)
+  pub closed : ClosedTables
+  pub logs : List (List LogEntry)
   pub heard : List Line
   pub turned : AreLogsOf T shared 0 turns gates gates' logs
   pub agrees : IsReport plan closed logs heard report

@@ -54,10 +54,10 @@ module _ {V : Type 0} (f share : V → ℕ) (P : V → Type 0) where
 
   pub counted_up : (n : ℕ) (vs : List V) (j : ℕ) (v w : V) → EndsCounted f share P n vs → get_elem? vs j ≡ some v → f v + 1 ≤ share v → f w ≡ f v + 1 → share w ≡ share v → EndsCounted f share P ((n + 1) % 18446744073709551616) (set vs j w)
   counted_up n vs j v w c at enough more shares = let t = total_set f vs j v w at in let s = c.counted in let d : EndsCounted f share P (n + 1) (set vs j w) = changed n (n + 1) vs j v w c at (omega arith) (omega arith) shares (omega arith) in
-      let small = counted_small (n + 1) (set vs j w) d in let e : n + 1 ≡ (n + 1) % 18446744073709551616 = omega arith in subst (λ (z : ℕ). EndsCounted f share P z (set vs j w)) e d
+      let bounded = counted_small (n + 1) (set vs j w) d in let e : n + 1 ≡ (n + 1) % 18446744073709551616 = omega arith in subst (λ (z : ℕ). EndsCounted f share P z (set vs j w)) e d
 
   pub counted_down : (n : ℕ) (vs : List V) (j : ℕ) (v w : V) → EndsCounted f share P n vs → get_elem? vs j ≡ some v → 1 ≤ f w → f v ≡ f w + 1 → share w ≡ share v → EndsCounted f share P ((n + (18446744073709551616 - 1)) % 18446744073709551616) (set vs j w)
-  counted_down n vs j v w c at some_end less shares = let t = total_set f vs j v w at in let s = c.counted in let o = one_of f vs j v at in let i = c.within j v at in let small = counted_small n vs c in
+  counted_down n vs j v w c at some_end less shares = let t = total_set f vs j v w at in let s = c.counted in let o = one_of f vs j v at in let i = c.within j v at in let bounded = counted_small n vs c in
       let m : ℕ = n - 1 in let d : EndsCounted f share P m (set vs j w) = changed n m vs j v w c at some_end (omega arith) shares (omega arith) in
       let e : m ≡ (n + (18446744073709551616 - 1)) % 18446744073709551616 = omega arith in subst (λ (z : ℕ). EndsCounted f share P z (set vs j w)) e d
 

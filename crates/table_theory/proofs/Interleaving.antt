@@ -10,7 +10,7 @@ use Rattle.atomic_table.proofs.Lists.{at_set, set_here, set_else, at_longer, at_
 use Rattle.table_theory.specs.declared.queues.Batch.{Batch}
 use Rattle.table_theory.specs.Filing.{Owned, entry_of, ListedOnce}
 use Rattle.table_theory.specs.Interleaving.{Ascending, joined, Interleaves}
-use Rattle.table_theory.specs.Listing.{all_places, Chained, IsSolid, ViewsShow}
+use Rattle.table_theory.specs.Listing.{all_places, Adjacent, IsSolid, ViewsShow}
 use Rattle.table_theory.specs.Positioned.{item_of}
 use Rattle.table_theory.specs.declared.queues.Positions.{Positions}
 use Rattle.table_theory.specs.declared.queues.QueueView.{QueueView}
@@ -134,12 +134,12 @@ merge (x ∷ xs) lists r =
 
 -- A CHAINED LOG
 
-later : (p : ℕ) (log : List (Owned Batch)) → Chained p log → (j : ℕ) (e : Batch) → get_elem? (map entry_of log) j ≡ some e → p ≤ e.start
+later : (p : ℕ) (log : List (Owned Batch)) → Adjacent p log → (j : ℕ) (e : Batch) → get_elem? (map entry_of log) j ≡ some e → p ≤ e.start
 later p [] c j e at = absurd (some-ne-none e (sym at))
 later p (o ∷ os) c zero e at = let h : o.2.start ≡ e.start = ap (λ (z : Batch). z.start) (some-injective o.2 e at) in let s = c.0 in omega arith
 later p (o ∷ os) c (suc j) e at = let h = later (p + length o.2.places) os c.1 j e at in omega arith
 
-pub log_ascends : (p : ℕ) (log : List (Owned Batch)) → Chained p log → IsSolid log → Ascending (map entry_of log)
+pub log_ascends : (p : ℕ) (log : List (Owned Batch)) → Adjacent p log → IsSolid log → Ascending (map entry_of log)
 log_ascends p [] c solid i j e f at is low = absurd (some-ne-none e (sym at))
 log_ascends p (o ∷ os) c solid zero zero e f at is low = absurd (omega arith)
 log_ascends p (o ∷ os) c solid zero (suc j) e f at is low =
@@ -153,7 +153,7 @@ only : (l r : List Batch) (c : ℕ) → get_elem? (l ∷ []) c ≡ some r → r 
 only l r zero at = sym (some-injective l r at)
 only l r (suc c) at = absurd (some-ne-none r (sym at))
 
-module _ (p : ℕ) (log : List (Owned Batch)) (lists : List (List Batch)) (c : Chained p log) (solid : IsSolid log) (f : ListedOnce log (joined lists ∷ [])) where
+module _ (p : ℕ) (log : List (Owned Batch)) (lists : List (List Batch)) (c : Adjacent p log) (solid : IsSolid log) (f : ListedOnce log (joined lists ∷ [])) where
   filed : (j : ℕ) (e : Batch) (h : Has lists j e) → (i : ℕ) × (get_elem? log i ≡ some (0, spot lists j h.1, e))
   filed j e h = f.listed 0 (joined lists) (spot lists j h.1) e refl (at_spot lists j h.1 h.0 e h.2 h.3)
 
@@ -207,13 +207,13 @@ module _ (q : Positions) (v : QueueView) (lists : List (List Batch)) (s : ViewsS
   pub runs_merge : v.runs ≡ joined lists → Merges lists (map item_of q.places)
   runs_merge is = (
     map items_in (map entry_of s.runs),
-    interleaves_map items_in (map entry_of s.runs) lists (interleaved q.first s.runs lists s.runs_chained s.solid (subst (λ (z : List Batch). ListedOnce s.runs (z ∷ [])) is s.runs_filed) ups),
+    interleaves_map items_in (map entry_of s.runs) lists (interleaved q.first s.runs lists s.runs_adjacent s.solid (subst (λ (z : List Batch). ListedOnce s.runs (z ∷ [])) is s.runs_filed) ups),
     items_flat s.runs ∙ ap (map item_of) s.runs_flat,
   )
 
   pub takes_merge : v.takes ≡ joined lists → Merges lists (map item_of (take q.taken q.places))
   takes_merge is = (
     map items_in (map entry_of s.takes),
-    interleaves_map items_in (map entry_of s.takes) lists (interleaved q.first s.takes lists s.takes_chained s.takes_solid (subst (λ (z : List Batch). ListedOnce s.takes (z ∷ [])) is s.takes_filed) ups),
+    interleaves_map items_in (map entry_of s.takes) lists (interleaved q.first s.takes lists s.takes_adjacent s.takes_solid (subst (λ (z : List Batch). ListedOnce s.takes (z ∷ [])) is s.takes_filed) ups),
     items_flat s.takes ∙ ap (map item_of) s.takes_flat,
   )

@@ -17,7 +17,7 @@ use Rattle.table_theory.specs.Seeing.{Stands}
 use Rattle.atomic_table.proofs.Lists.{at_set, set_again, at_map}
 use Rattle.table_theory.proofs.Owned.{at_push, one_at, at_map_back, file_first, file_push, file_set, file_new, file_join, file_sole}
 use Rattle.table_theory.proofs.Positioned.{grows_refl, grows_trans, claim_grows, write_grows, take_grows, shut_grows}
-use Rattle.table_theory.proofs.Logs.{flat_push, chained_push, lies, moved_entry, flat_moved, chained_moved, one_start, flat_sole, chained_sole}
+use Rattle.table_theory.proofs.Logs.{flat_push, adjacent_push, lies, moved_entry, flat_moved, adjacent_moved, one_start, flat_sole, adjacent_sole}
 
 -- the views' snapshots after a step of the seat j, by which q grew to r
 pub seen_on : (q r : Positions) (parts : List QueueView) (j : ℕ) (w : QueueView) → ((i : ℕ) (v : QueueView) → get_elem? parts i ≡ some v → Later v q) → Grows q r → Later w r
@@ -36,8 +36,8 @@ listed_look q parts j v w l at runs takes grown = record {
   takes_solid = l.takes_solid;
   runs_flat = l.runs_flat;
   takes_flat = l.takes_flat;
-  runs_chained = l.runs_chained;
-  takes_chained = l.takes_chained;
+  runs_adjacent = l.runs_adjacent;
+  takes_adjacent = l.takes_adjacent;
   runs_filed = subst (ListedOnce l.runs) (sym (same_lists_of runs_of parts j v w at runs)) l.runs_filed;
   takes_filed = subst (ListedOnce l.takes) (sym (same_lists_of takes_of parts j v w at takes)) l.takes_filed;
   seen = seen_on q q parts j w l.seen (grows_refl q) grown;
@@ -54,8 +54,8 @@ listed_claim q parts j v w xs l at behind is_open some_items runs takes grown =
       takes_solid = l.takes_solid;
       runs_flat = flat_push l.runs o ∙ ap (λ (z : List Cell). z ++ map fresh xs) l.runs_flat;
       takes_flat = l.takes_flat ∙ sym (take-append-le q.taken q.places (map fresh xs) behind);
-      runs_chained = chained_push q.first l.runs o l.runs_chained (ap (λ (z : List Cell). q.first + length z) (sym l.runs_flat));
-      takes_chained = l.takes_chained;
+      runs_adjacent = adjacent_push q.first l.runs o l.runs_adjacent (ap (λ (z : List Cell). q.first + length z) (sym l.runs_flat));
+      takes_adjacent = l.takes_adjacent;
       runs_filed = subst (ListedOnce (l.runs ++ o ∷ [])) (sym (map-set runs_of parts j w ∙ ap (set (map runs_of parts) j) runs)) (file_push l.runs (map runs_of parts) j v.runs e l.runs_filed (at_map runs_of parts j v at));
       takes_filed = subst (ListedOnce l.takes) (sym (same_lists_of takes_of parts j v w at takes)) l.takes_filed;
       seen = seen_on q (with_claim q xs) parts j w l.seen (claim_grows q xs is_open) grown;
@@ -63,7 +63,7 @@ listed_claim q parts j v w xs l at behind is_open some_items runs takes grown =
 
 -- a run of a view stands in the queue
 pub run_stands : (q : Positions) (parts : List QueueView) (j m : ℕ) (v : QueueView) (e : Batch) → ViewsShow q parts → get_elem? parts j ≡ some v → get_elem? v.runs m ≡ some e → Stands q e
-run_stands q parts j m v e l at has = let r = l.runs_filed.listed j v.runs m e (at_map runs_of parts j v at) has in let s = lies q.first l.runs r.0 (j, m, e) l.runs_chained r.1 in record {
+run_stands q parts j m v e l at has = let r = l.runs_filed.listed j v.runs m e (at_map runs_of parts j v at) has in let s = lies q.first l.runs r.0 (j, m, e) l.runs_adjacent r.1 in record {
   at = s.at;
   start = s.start;
   within = subst (λ (z : List Cell). s.at + length e.places ≤ length z) l.runs_flat s.within;
@@ -87,7 +87,7 @@ own q e i l s below low = let st = s.start in let w = s.within in let same = s.s
 unfoldable pub listed_write : (q : Positions) (parts : List QueueView) (j m i n p : ℕ) (v w : QueueView) (e : Batch) → ViewsShow q parts → get_elem? parts j ≡ some v → get_elem? v.runs m ≡ some e → i < length e.places → e.start + i ≡ q.first + p
     → q.taken ≤ p → written_at q p ≤ n → w.runs ≡ set v.runs m (written_to e i n) → w.takes ≡ v.takes → Later w (with_write q p n) → ViewsShow (with_write q p n) (set parts j w)
 listed_write q parts j m i n p v w e l at has below is ahead more runs takes grown =
-    let r = l.runs_filed.listed j v.runs m e (at_map runs_of parts j v at) has in let k : ℕ = r.0 in let s = lies q.first l.runs k (j, m, e) l.runs_chained r.1 in let st = s.start in
+    let r = l.runs_filed.listed j v.runs m e (at_map runs_of parts j v at) has in let k : ℕ = r.0 in let s = lies q.first l.runs k (j, m, e) l.runs_adjacent r.1 in let st = s.start in
     let here : p ≡ s.at + i = omega arith in let x : Cell = record { item = item_at q p; written = n } in let o : Owned Batch = (j, m, written_to e i n) in
     let item : item_at q p ≡ (get_or e.places i blank).item = ap (λ (z : Cell). z.item) (ap (λ (z : ℕ). get_or q.places z blank) here ∙ (ap (λ (z : List Cell). get_or z (s.at + i) blank) (sym l.runs_flat) ∙ s.same i below)) in
     let within : s.at + length e.places ≤ length q.places = subst (λ (z : List Cell). s.at + length e.places ≤ length z) l.runs_flat s.within in
@@ -98,8 +98,8 @@ listed_write q parts j m i n p v w e l at has below is ahead more runs takes gro
       takes_solid = l.takes_solid;
       runs_flat = s.change j m i (record { item = (get_or e.places i blank).item; written = n }) below ∙ (λ z. set (l.runs_flat z) (sym here z) (record { item = sym item z; written = n }));
       takes_flat = l.takes_flat ∙ sym (take-set-le q.taken q.places p x ahead);
-      runs_chained = s.chained j m i (record { item = (get_or e.places i blank).item; written = n });
-      takes_chained = l.takes_chained;
+      runs_adjacent = s.adjacent j m i (record { item = (get_or e.places i blank).item; written = n });
+      takes_adjacent = l.takes_adjacent;
       runs_filed = subst (ListedOnce (set l.runs k o)) (sym (map-set runs_of parts j w ∙ ap (set (map runs_of parts) j) runs)) (file_set l.runs (map runs_of parts) j m k v.runs e (written_to e i n) l.runs_filed (at_map runs_of parts j v at) r.1);
       takes_filed = subst (ListedOnce l.takes) (sym (same_lists_of takes_of parts j v w at takes)) l.takes_filed;
       seen = seen_on q (with_write q p n) parts j w l.seen (write_grows q p n (omega arith) more) grown;
@@ -124,8 +124,8 @@ listed_take q parts j n v w l at some_place long takes runs grown =
       takes_solid = λ k x has. ⊎_elim (λ old. l.takes_solid k x old) (λ new. subst (λ (z : Owned Batch). 0 < length z.2.places) new.1 (omega arith)) (at_push l.takes o x k has);
       runs_flat = l.runs_flat;
       takes_flat = flat_push l.takes o ∙ (ap (λ (z : List Cell). z ++ take n (drop q.taken q.places)) l.takes_flat ∙ sym (take_on q.taken n q.places));
-      runs_chained = l.runs_chained;
-      takes_chained = chained_push q.first l.takes o l.takes_chained (let g : length (all_places l.takes) ≡ q.taken = ap length l.takes_flat ∙ length-take-le q.taken q.places behind in omega arith);
+      runs_adjacent = l.runs_adjacent;
+      takes_adjacent = adjacent_push q.first l.takes o l.takes_adjacent (let g : length (all_places l.takes) ≡ q.taken = ap length l.takes_flat ∙ length-take-le q.taken q.places behind in omega arith);
       runs_filed = subst (ListedOnce l.runs) (sym (same_lists_of runs_of parts j v w at runs)) l.runs_filed;
       takes_filed = subst (ListedOnce (l.takes ++ o ∷ [])) (sym (map-set takes_of parts j w ∙ ap (set (map takes_of parts) j) takes)) (file_push l.takes (map takes_of parts) j v.takes e l.takes_filed (at_map takes_of parts j v at));
       seen = seen_on q (with_take q n) parts j w l.seen (take_grows q n) grown;
@@ -139,8 +139,8 @@ listed_shut q parts j v w l at runs takes grown = record {
   takes_solid = l.takes_solid;
   runs_flat = l.runs_flat;
   takes_flat = l.takes_flat;
-  runs_chained = l.runs_chained;
-  takes_chained = l.takes_chained;
+  runs_adjacent = l.runs_adjacent;
+  takes_adjacent = l.takes_adjacent;
   runs_filed = subst (ListedOnce l.runs) (sym (same_lists_of runs_of parts j v w at runs)) l.runs_filed;
   takes_filed = subst (ListedOnce l.takes) (sym (same_lists_of takes_of parts j v w at takes)) l.takes_filed;
   seen = seen_on q (with_shut q) parts j w l.seen (shut_grows q) grown;
@@ -154,8 +154,8 @@ listed_new q parts w l runs takes grown = record {
   takes_solid = l.takes_solid;
   runs_flat = l.runs_flat;
   takes_flat = l.takes_flat;
-  runs_chained = l.runs_chained;
-  takes_chained = l.takes_chained;
+  runs_adjacent = l.runs_adjacent;
+  takes_adjacent = l.takes_adjacent;
   runs_filed = subst (ListedOnce l.runs) (sym (map-append runs_of parts (w ∷ []) ∙ ap (λ (z : List Batch). map runs_of parts ++ z ∷ []) runs)) (file_new l.runs (map runs_of parts) l.runs_filed);
   takes_filed = subst (ListedOnce l.takes) (sym (map-append takes_of parts (w ∷ []) ∙ ap (λ (z : List Batch). map takes_of parts ++ z ∷ []) takes)) (file_new l.takes (map takes_of parts) l.takes_filed);
   seen = λ i v at. ⊎_elim (λ old. l.seen i v old) (λ new. subst (λ (z : QueueView). Later z q) new.1 grown) (at_push parts w v i at);
@@ -174,8 +174,8 @@ listed_join q parts c d a b both spent l at_c at_d apart runs takes no_runs no_t
       takes_solid = λ k o has. let back = at_map_back (moved c d (length a.takes)) l.takes k o has in let n = l.takes_solid k back.0 back.1 in subst (λ (z : Owned Batch). 0 < length z.2.places) back.2 (subst (λ (z : Batch). 0 < length z.places) (sym (moved_entry c d (length a.takes) back.0)) n);
       runs_flat = flat_moved c d (length a.runs) l.runs ∙ l.runs_flat;
       takes_flat = flat_moved c d (length a.takes) l.takes ∙ l.takes_flat;
-      runs_chained = chained_moved c d (length a.runs) q.first l.runs l.runs_chained;
-      takes_chained = chained_moved c d (length a.takes) q.first l.takes l.takes_chained;
+      runs_adjacent = adjacent_moved c d (length a.runs) q.first l.runs l.runs_adjacent;
+      takes_adjacent = adjacent_moved c d (length a.takes) q.first l.takes l.takes_adjacent;
       runs_filed = subst (ListedOnce (map (moved c d (length a.runs)) l.runs)) (two runs_of (a.runs ++ b.runs) [] runs no_runs) (file_join l.runs (map runs_of parts) c d a.runs b.runs l.runs_filed (at_map runs_of parts c a at_c) (at_map runs_of parts d b at_d) apart);
       takes_filed = subst (ListedOnce (map (moved c d (length a.takes)) l.takes)) (two takes_of (a.takes ++ b.takes) [] takes no_takes) (file_join l.takes (map takes_of parts) c d a.takes b.takes l.takes_filed (at_map takes_of parts c a at_c) (at_map takes_of parts d b at_d) apart);
       seen = seen_on q q (set parts c both) d spent (seen_on q q parts c both l.seen (grows_refl q) grown) (grows_refl q) grown';
@@ -194,8 +194,8 @@ listed_first q w none start runs takes grown = record {
   takes_solid = λ k o has. absurd (some-ne-none o (sym has));
   runs_flat = sym none;
   takes_flat = λ k. take (sym start k) q.places;
-  runs_chained = tt;
-  takes_chained = tt;
+  runs_adjacent = tt;
+  takes_adjacent = tt;
   runs_filed = subst (λ (z : List Batch). ListedOnce [] (z ∷ [])) (sym runs) file_first;
   takes_filed = subst (λ (z : List Batch). ListedOnce [] (z ∷ [])) (sym takes) file_first;
   seen = first_seen q w grown;
@@ -204,7 +204,7 @@ listed_first q w none start runs takes grown = record {
 -- the runs of a view have different starts
 pub distinct : (q : Positions) (parts : List QueueView) (j : ℕ) (v : QueueView) → ViewsShow q parts → get_elem? parts j ≡ some v → Distinct v.runs
 distinct q parts j v l at m n e f has has' is = let a = l.runs_filed.listed j v.runs m e (at_map runs_of parts j v at) has in let b = l.runs_filed.listed j v.runs n f (at_map runs_of parts j v at) has' in
-    let same : a.0 ≡ b.0 = one_start q.first l.runs a.0 b.0 (j, m, e) (j, n, f) l.runs_chained l.solid a.1 b.1 is in
+    let same : a.0 ≡ b.0 = one_start q.first l.runs a.0 b.0 (j, m, e) (j, n, f) l.runs_adjacent l.solid a.1 b.1 is in
     ap (λ (z : Owned Batch). z.1) (one_at l.runs b.0 (j, m, e) (j, n, f) (subst (λ (z : ℕ). get_elem? l.runs z ≡ some (j, m, e)) same a.1) b.1)
 
 -- the run with a start is found by it
@@ -223,8 +223,8 @@ listed_sole q parts j v l at others = record {
   takes_solid = λ k o has. let back = at_map_back sole l.takes k o has in subst (λ (z : Owned Batch). 0 < length z.2.places) back.2 (l.takes_solid k back.0 back.1);
   runs_flat = flat_sole l.runs ∙ l.runs_flat;
   takes_flat = flat_sole l.takes ∙ l.takes_flat;
-  runs_chained = chained_sole q.first l.runs l.runs_chained;
-  takes_chained = chained_sole q.first l.takes l.takes_chained;
+  runs_adjacent = adjacent_sole q.first l.runs l.runs_adjacent;
+  takes_adjacent = adjacent_sole q.first l.takes l.takes_adjacent;
   runs_filed = file_sole l.runs (map runs_of parts) j v.runs l.runs_filed (at_map runs_of parts j v at) (λ d k has ne. let b = at_map_back runs_of parts d k has in sym b.2 ∙ (others d b.0 b.1 ne).0);
   takes_filed = file_sole l.takes (map takes_of parts) j v.takes l.takes_filed (at_map takes_of parts j v at) (λ d k has ne. let b = at_map_back takes_of parts d k has in sym b.2 ∙ (others d b.0 b.1 ne).1);
   seen = first_seen q v (l.seen j v at);

@@ -8,7 +8,7 @@ use Rattle.table_theory.specs.declared.queues.Cell.{Cell}
 use Rattle.table_theory.specs.declared.queues.Batch.{Batch}
 use Rattle.table_theory.specs.Positioned.{blank}
 use Rattle.table_theory.specs.Filing.{Owned, moved, sole}
-use Rattle.table_theory.specs.Listing.{all_places, Chained}
+use Rattle.table_theory.specs.Listing.{all_places, Adjacent}
 
 abbrev Log : Type 0
 Log = List (Owned Batch)
@@ -17,9 +17,9 @@ pub flat_push : (log : Log) (o : Owned Batch) → all_places (log ++ o ∷ []) �
 flat_push [] o = append-nil o.2.places
 flat_push (x ∷ xs) o = ap (λ (z : List Cell). x.2.places ++ z) (flat_push xs o) ∙ sym (append_assoc x.2.places (all_places xs) o.2.places)
 
-pub chained_push : (p : ℕ) (log : Log) (o : Owned Batch) → Chained p log → o.2.start ≡ p + length (all_places log) → Chained p (log ++ o ∷ [])
-chained_push p [] o c e = ((omega arith), tt)
-chained_push p (x ∷ xs) o c e = (c.0, chained_push (p + length x.2.places) xs o c.1 (omega (arith, length-append x.2.places (all_places xs))))
+pub adjacent_push : (p : ℕ) (log : Log) (o : Owned Batch) → Adjacent p log → o.2.start ≡ p + length (all_places log) → Adjacent p (log ++ o ∷ [])
+adjacent_push p [] o c e = ((omega arith), tt)
+adjacent_push p (x ∷ xs) o c e = (c.0, adjacent_push (p + length x.2.places) xs o c.1 (omega (arith, length-append x.2.places (all_places xs))))
 
 -- where a stretch of the log lies among the places, and what its change does to them
 pub record Lies (p : ℕ) (log : Log) (k : ℕ) (o : Owned Batch) : Type 0 where
@@ -28,13 +28,13 @@ pub record Lies (p : ℕ) (log : Log) (k : ℕ) (o : Owned Batch) : Type 0 where
   pub within : at + length o.2.places ≤ length (all_places log)
   pub same : (i : ℕ) → i < length o.2.places → get_or (all_places log) (at + i) blank ≡ get_or o.2.places i blank
   pub change : (c m i : ℕ) (x : Cell) → i < length o.2.places → all_places (set log k (c, m, record { start = o.2.start; places = set o.2.places i x })) ≡ set (all_places log) (at + i) x
-  pub chained : (c m i : ℕ) (x : Cell) → Chained p (set log k (c, m, record { start = o.2.start; places = set o.2.places i x }))
+  pub adjacent : (c m i : ℕ) (x : Cell) → Adjacent p (set log k (c, m, record { start = o.2.start; places = set o.2.places i x }))
 
 set_behind : {A : Type 0} (l r : List A) (i : ℕ) (x : A) → set (l ++ r) (length l + i) x ≡ l ++ set r i x
 set_behind {A} [] r i x = let e : 0 + i ≡ i = omega arith in ap (λ (z : ℕ). set r z x) e
 set_behind {A} (y ∷ ys) r i x = let e : suc (length ys) + i ≡ suc (length ys + i) = omega arith in ap (λ (z : ℕ). set (y ∷ (ys ++ r)) z x) e ∙ ap (λ (z : List A). y ∷ z) (set_behind ys r i x)
 
-pub lies : (p : ℕ) (log : Log) (k : ℕ) (o : Owned Batch) → Chained p log → get_elem? log k ≡ some o → Lies p log k o
+pub lies : (p : ℕ) (log : Log) (k : ℕ) (o : Owned Batch) → Adjacent p log → get_elem? log k ≡ some o → Lies p log k o
 lies p [] k o c e = absurd (some-ne-none o (sym e))
 lies p (y ∷ ys) zero o c e = subst (Lies p (y ∷ ys) zero) (some-injective y o e) record {
   at = 0;
@@ -42,7 +42,7 @@ lies p (y ∷ ys) zero o c e = subst (Lies p (y ∷ ys) zero) (some-injective y 
   within = omega (arith, length-append y.2.places (all_places ys));
   same = λ i h. let z : 0 + i ≡ i = omega arith in ap (λ (n : ℕ). get_or (y.2.places ++ all_places ys) n blank) z ∙ get_or_append_left y.2.places (all_places ys) blank i h;
   change = λ d m i x h. let z : i ≡ 0 + i = omega arith in sym (set-append_left y.2.places (all_places ys) i x h) ∙ ap (λ (n : ℕ). set (y.2.places ++ all_places ys) n x) z;
-  chained = λ d m i x. (c.0, subst (λ (n : ℕ). Chained (p + n) ys) (sym (length-set y.2.places i x)) c.1);
+  adjacent = λ d m i x. (c.0, subst (λ (n : ℕ). Adjacent (p + n) ys) (sym (length-set y.2.places i x)) c.1);
 }
 lies p (y ∷ ys) (suc k) o c e = let r = lies (p + length y.2.places) ys k o c.1 e in let n : ℕ = length y.2.places in let w = r.within in let s = r.start in record {
   at = n + r.at;
@@ -50,7 +50,7 @@ lies p (y ∷ ys) (suc k) o c e = let r = lies (p + length y.2.places) ys k o c.
   within = omega (arith, length-append y.2.places (all_places ys));
   same = λ i h. let z : n + r.at + i ≡ n + (r.at + i) = omega arith in ap (λ (v : ℕ). get_or (y.2.places ++ all_places ys) v blank) z ∙ get_or-append-add y.2.places (all_places ys) (r.at + i) blank ∙ r.same i h;
   change = λ d m i x h. let z : n + (r.at + i) ≡ n + r.at + i = omega arith in ap (λ (v : List Cell). y.2.places ++ v) (r.change d m i x h) ∙ sym (set_behind y.2.places (all_places ys) (r.at + i) x) ∙ ap (λ (v : ℕ). set (y.2.places ++ all_places ys) v x) z;
-  chained = λ d m i x. (c.0, r.chained d m i x);
+  adjacent = λ d m i x. (c.0, r.adjacent d m i x);
 }
 
 if_same : (a b : Owned Batch) → a.2 ≡ b.2 → (t : Bool) → (if t then a else b).2 ≡ b.2
@@ -65,15 +65,15 @@ pub flat_moved : (c d n : ℕ) (log : Log) → all_places (map (moved c d n) log
 flat_moved c d n [] = refl
 flat_moved c d n (o ∷ os) = λ k. (moved_entry c d n o k).places ++ flat_moved c d n os k
 
-pub chained_moved : (c d n p : ℕ) (log : Log) → Chained p log → Chained p (map (moved c d n) log)
-chained_moved c d n p [] h = tt
-chained_moved c d n p (o ∷ os) h = subst (λ (z : Batch). (z.start ≡ p) × Chained (p + length z.places) (map (moved c d n) os)) (sym (moved_entry c d n o)) (h.0, chained_moved c d n (p + length o.2.places) os h.1)
+pub adjacent_moved : (c d n p : ℕ) (log : Log) → Adjacent p log → Adjacent p (map (moved c d n) log)
+adjacent_moved c d n p [] h = tt
+adjacent_moved c d n p (o ∷ os) h = subst (λ (z : Batch). (z.start ≡ p) × Adjacent (p + length z.places) (map (moved c d n) os)) (sym (moved_entry c d n o)) (h.0, adjacent_moved c d n (p + length o.2.places) os h.1)
 
 -- a stretch behind others starts no earlier than they end
-starts_past : (p : ℕ) (log : Log) (k : ℕ) (o : Owned Batch) → Chained p log → get_elem? log k ≡ some o → p ≤ o.2.start
+starts_past : (p : ℕ) (log : Log) (k : ℕ) (o : Owned Batch) → Adjacent p log → get_elem? log k ≡ some o → p ≤ o.2.start
 starts_past p log k o c e = let s = lies p log k o c e in let st = s.start in omega arith
 
-pub one_start : (p : ℕ) (log : Log) (k j : ℕ) (o r : Owned Batch) → Chained p log → ((i : ℕ) (x : Owned Batch) → get_elem? log i ≡ some x → 0 < length x.2.places) → get_elem? log k ≡ some o → get_elem? log j ≡ some r → o.2.start ≡ r.2.start → k ≡ j
+pub one_start : (p : ℕ) (log : Log) (k j : ℕ) (o r : Owned Batch) → Adjacent p log → ((i : ℕ) (x : Owned Batch) → get_elem? log i ≡ some x → 0 < length x.2.places) → get_elem? log k ≡ some o → get_elem? log j ≡ some r → o.2.start ≡ r.2.start → k ≡ j
 one_start p [] k j o r c solid e d is = absurd (some-ne-none o (sym e))
 one_start p (y ∷ ys) zero zero o r c solid e d is = refl
 one_start p (y ∷ ys) zero (suc j) o r c solid e d is = let past = starts_past (p + length y.2.places) ys j r c.1 d in let long = solid 0 y refl in let same : y.2.start ≡ o.2.start = ap (λ (z : Owned Batch). z.2.start) (some-injective y o e) in let first = c.0 in absurd (omega arith)
@@ -84,6 +84,6 @@ pub flat_sole : (log : Log) → all_places (map sole log) ≡ all_places log
 flat_sole [] = refl
 flat_sole (o ∷ os) = ap (λ (z : List Cell). o.2.places ++ z) (flat_sole os)
 
-pub chained_sole : (p : ℕ) (log : Log) → Chained p log → Chained p (map sole log)
-chained_sole p [] h = tt
-chained_sole p (o ∷ os) h = (h.0, chained_sole (p + length o.2.places) os h.1)
+pub adjacent_sole : (p : ℕ) (log : Log) → Adjacent p log → Adjacent p (map sole log)
+adjacent_sole p [] h = tt
+adjacent_sole p (o ∷ os) h = (h.0, adjacent_sole (p + length o.2.places) os h.1)

@@ -30,7 +30,7 @@ use Rattle.table_theory.proofs.Listing.{listed_claim, listed_write, listed_take,
 use Rattle.table_theory.proofs.QueueOf.{Log, up_of, all_up, list_all_mapped, left_long, is_lawful_queue}
 
 pub history_of : (q : Positions) (parts : List QueueView) (l : ViewsShow q parts) → IsHistory q l.runs
-history_of q parts l = record { solid = l.solid; places = l.runs_flat; chained = l.runs_chained }
+history_of q parts l = record { solid = l.solid; places = l.runs_flat; adjacent = l.runs_adjacent }
 
 not_up : (e : Cell) → e.written < 2 → is_up e ≡ false
 not_up e h = let n : ℕ = e.written in let t : leb 2 n ≡ false = grind (arith, nat_tests) in t

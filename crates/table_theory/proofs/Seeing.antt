@@ -19,10 +19,10 @@ later_on p q r l g = (grows_trans p.queue q r l.0 g, grows_trans p.joined q r l.
 
 -- what the rule tells the end at one of its steps
 pub sees_now : (q : Positions) (views : List QueueView) (seat : ℕ) (v : QueueView) → (l : ViewsShow q views) → get_elem? views seat ≡ some v → Lawful q → head_of q < 4294967296 → Sees v q
-sees_now q views seat v l at lawful small = record {
+sees_now q views seat v l at lawful bounded = record {
   later = l.seen seat v at;
   lawful = lawful;
-  small = small;
+  bounded = bounded;
   views = views;
   shown = l;
   lawful_queue = is_lawful_queue q l.runs lawful (history_of q views l);
@@ -38,7 +38,7 @@ pub sees_as : (u v : QueueView) (q : Positions) → Later u q → v.runs ≡ u.r
 sees_as u v q later runs takes s = record {
   later = later;
   lawful = s.lawful;
-  small = s.small;
+  bounded = s.bounded;
   views = s.views;
   shown = s.shown;
   lawful_queue = s.lawful_queue;

@@ -16,9 +16,9 @@ all_places [] = []
 all_places (o ∷ os) = o.2.places ++ all_places os
 
 -- each stretch starts where the one before it ends
-abbrev pub Chained : ℕ → List (Owned Batch) → Type 0
-Chained p [] = Unit {0}
-Chained p (o ∷ os) = (o.2.start ≡ p) × Chained (p + length o.2.places) os
+abbrev pub Adjacent : ℕ → List (Owned Batch) → Type 0
+Adjacent p [] = Unit {0}
+Adjacent p (o ∷ os) = (o.2.start ≡ p) × Adjacent (p + length o.2.places) os
 
 abbrev pub runs_of : QueueView → List Batch
 runs_of v = v.runs
@@ -41,8 +41,8 @@ pub record ViewsShow (q : Positions) (parts : List QueueView) : Type 0 where
   pub takes_solid : IsSolid takes
   pub runs_flat : all_places runs ≡ q.places
   pub takes_flat : all_places takes ≡ take q.taken q.places
-  pub runs_chained : Chained q.first runs
-  pub takes_chained : Chained q.first takes
+  pub runs_adjacent : Adjacent q.first runs
+  pub takes_adjacent : Adjacent q.first takes
   pub runs_filed : ListedOnce runs (map runs_of parts)
   pub takes_filed : ListedOnce takes (map takes_of parts)
   pub seen : (j : ℕ) (v : QueueView) → get_elem? parts j ≡ some v → Later v q

@@ -14,7 +14,7 @@ use Rattle.event_theory.specs.Lawful.{IsLawfulQueue}
 use Rattle.table_theory.specs.Positioned.{blank, item_of}
 use Rattle.table_theory.specs.Filing.{Owned}
 use Rattle.table_theory.specs.declared.queues.QueueView.{QueueView}
-use Rattle.table_theory.specs.Listing.{all_places, Chained, ViewsShow}
+use Rattle.table_theory.specs.Listing.{all_places, Adjacent, ViewsShow}
 
 -- the run that a seat's batch is: the seat is its call
 abbrev pub run_in : Owned Batch → Run
@@ -41,7 +41,7 @@ queue_of q runs = record {
 pub record IsHistory (q : Positions) (runs : List (Owned Batch)) : Type 0 where
   pub solid : (k : ℕ) (o : Owned Batch) → get_elem? runs k ≡ some o → 0 < length o.2.places
   pub places : all_places runs ≡ q.places
-  pub chained : Chained q.first runs
+  pub adjacent : Adjacent q.first runs
 
 -- A step of the end `seat`, which knew v and then knows w, makes r of the positions q: it is this event of the queue
 -- that the views of all ends show

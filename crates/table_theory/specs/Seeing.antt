@@ -2,6 +2,7 @@
 use Rattle.std.specs.Prelude.{◌≡◌, ℕ, ◌+◌, ◌<◌, ◌≤◌, List, length, slice_index_or}
 use mathlib.Core.Option.{some}
 use lib.ListN.{get_elem?}
+use Rattle.table_theory.specs.declared.positions.TheConstants.{POSITIONS}
 use Rattle.table_theory.specs.declared.queues.Batch.{Batch}
 use Rattle.table_theory.specs.declared.queues.Positions.{Positions}
 use Rattle.table_theory.specs.declared.queues.QueueView.{QueueView}
@@ -22,7 +23,7 @@ pub record Stands (q : Positions) (e : Batch) : Type 0 where
 pub record Sees (v : QueueView) (q : Positions) : Type 0 where
   pub later : Later v q
   pub lawful : Lawful q
-  pub small : head_of q < 4294967296
+  pub bounded : head_of q < POSITIONS
   pub views : List QueueView
   pub shown : ViewsShow q views
   pub lawful_queue : IsLawfulQueue (queue_of q shown.runs)

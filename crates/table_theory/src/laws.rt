@@ -14,7 +14,7 @@ ghost use Rattle.table_theory.specs.Positioned.{Lawful, head_of, left_of, fresh,
 ghost use Rattle.table_theory.specs.Positioned.{blank, tail_of, with_shut, with_write};
 ghost use Rattle.table_theory.specs.Filing.{Owned, entry_of, moved, ListedOnce};
 ghost use Rattle.table_theory.specs.Interleaving.{Ascending, joined, Interleaves};
-ghost use Rattle.table_theory.specs.Listing.{Chained, ViewsShow, Later, written_to};
+ghost use Rattle.table_theory.specs.Listing.{Adjacent, ViewsShow, Later, written_to};
 ghost use Rattle.table_theory.specs.QueueOf.{IsHistory, IsEvent, no_event, queue_of};
 
 /// The queue that a table's positions are is lawful, and each step of a table on its positions is one event of that
@@ -63,7 +63,7 @@ pub fn positions_are_queues()
 /// runs of a queue, and with its takings.
 pub fn logs_interleave()
     ensures { (first : ℕ) (log : List (Owned Batch)) (lists : List (List Batch))
-        → Chained first log → ((k : ℕ) (o : Owned Batch) → get_elem? log k ≡ some o → 0 < length o.2.places)
+        → Adjacent first log → ((k : ℕ) (o : Owned Batch) → get_elem? log k ≡ some o → 0 < length o.2.places)
         → ListedOnce log (joined lists ∷ []) → ((k : ℕ) (l : List Batch) → get_elem? lists k ≡ some l → Ascending l)
         → Interleaves (map entry_of log) lists }
 {}

@@ -8,6 +8,7 @@
 #![tactic(auto)]
 
 pub mod laws;
+pub mod positions;
 pub mod queues;
 pub mod views;
 

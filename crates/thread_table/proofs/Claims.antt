@@ -18,12 +18,12 @@ use Rattle.event_theory.proofs.Keeping.Elements.{every_at}
 use Rattle.table_theory.proofs.QueueEvents.{claim_goes}
 use Rattle.thread_table.specs.declared.rule.View.{View}
 use Rattle.thread_table.specs.declared.rule.Claimed.{Claimed}
-use Rattle.thread_table.specs.Schedules.{QueueGrows, line_at, thread_at, element_at, element_of, no_run}
-use Rattle.thread_table.specs.Shown.{WordsShow, LineShows, PlaceShows, StateShows, seat_word, state_word, done_word, head_word, tail_word, place_word, head_shown, mark_of}
+use Rattle.thread_table.specs.Schedules.{QueueGrows, ring_at, thread_at, element_at, element_of, no_run}
+use Rattle.thread_table.specs.Shown.{WordsShow, RingShows, PlaceShows, StateShows, processor_word, state_word, done_word, head_word, tail_word, place_word, head_shown, mark_of}
 use Rattle.thread_table.specs.Rules.{HandIs, IsClaimed, has}
 use Rattle.thread_table.specs.Views.{claim_of, with_claim}
 use Rattle.thread_table.proofs.Effects.{Leaves, Effect, Ready, ClaimEffect, WaitAtEffect}
-use Rattle.thread_table.proofs.Owing.{Owes, QueueOwes, queue_owes, line_owes}
+use Rattle.thread_table.proofs.Owing.{Owes, QueueOwes, queue_owes, ring_owes}
 use Rattle.thread_table.proofs.QueueWords.{none_some}
 use Rattle.thread_table.proofs.Rooms.{room, out_of_hands, unheld, let_go_goes}
 
@@ -80,32 +80,32 @@ claim_places first id element q run word lawful shows = record {
   low = shows.low;
 }
 
--- what is said of each line after one of them changed
-by_line : (P : ℕ → Queue → Type 0) (lines : List Queue) (line : ℕ) (new : Queue) → line < length lines → P line new
-    → ((other : ℕ) → other ≢ line → P other (get_or lines other (empty_queue 64))) → (other : ℕ) → P other (get_or (set lines line new) other (empty_queue 64))
-by_line P lines line new below here there other = by (eqb_tells other line)
+-- what is said of each ring after one of them changed
+by_ring : (P : ℕ → Queue → Type 0) (rings : List Queue) (ring : ℕ) (new : Queue) → ring < length rings → P ring new
+    → ((other : ℕ) → other ≢ ring → P other (get_or rings other (empty_queue 64))) → (other : ℕ) → P other (get_or (set rings ring new) other (empty_queue 64))
+by_ring P rings ring new below here there other = by (eqb_tells other ring)
   where
-    by : ((eqb other line ≡ true) × (other ≡ line)) ⊎ ((eqb other line ≡ false) × (other ≢ line)) → P other (get_or (set lines line new) other (empty_queue 64))
-    by (inl same) = subst (λ l. P l (get_or (set lines line new) l (empty_queue 64))) (sym same.1) (subst (P line) (sym (get_or-set_same lines line new (empty_queue 64) below)) here)
-    by (inr differ) = subst (P other) (sym (get_or-set_other lines line other new (empty_queue 64) differ.1)) (there other differ.1)
+    by : ((eqb other ring ≡ true) × (other ≡ ring)) ⊎ ((eqb other ring ≡ false) × (other ≢ ring)) → P other (get_or (set rings ring new) other (empty_queue 64))
+    by (inl same) = subst (λ l. P l (get_or (set rings ring new) l (empty_queue 64))) (sym same.1) (subst (P ring) (sym (get_or-set_same rings ring new (empty_queue 64) below)) here)
+    by (inr differ) = subst (P other) (sym (get_or-set_other rings ring other new (empty_queue 64) differ.1)) (there other differ.1)
 
--- what the words show of a line, by its queue
-record QueueShows (first mark line : ℕ) (words : List ℕ) (q : Queue) : Type 0 where
+-- what the words show of a ring, by its queue
+record QueueShows (first mark ring : ℕ) (words : List ℕ) (q : Queue) : Type 0 where
   capacity : q.capacity ≡ 64
   is_open : q.shut ≡ false
   single : IsSingle q.history
-  small : first + length q.history < 4294967296
+  bounded : first + length q.history < 4294967296
   marked : mark < 4294967296
-  head : get_or words (head_word line) 0 ≡ first + length q.history + mark * 4294967296
-  tail : get_or words (tail_word line) 0 ≡ first + q.taken
-  places : (run : ℕ) → q.taken ≤ run → run < q.taken + 64 → PlaceShows first q run (get_or words (place_word line (first + run)) 0)
+  head : get_or words (head_word ring) 0 ≡ first + length q.history + mark * 4294967296
+  tail : get_or words (tail_word ring) 0 ≡ first + q.taken
+  places : (run : ℕ) → q.taken ≤ run → run < q.taken + 64 → PlaceShows first q run (get_or words (place_word ring (first + run)) 0)
 
-as_line : (first line : ℕ) (words : List ℕ) (e : Elements) → QueueShows first (mark_of e line) line words (line_at e line) → LineShows first e line words
-as_line first line words e shows = record {
+as_ring : (first ring : ℕ) (words : List ℕ) (e : Elements) → QueueShows first (mark_of e ring) ring words (ring_at e ring) → RingShows first e ring words
+as_ring first ring words e shows = record {
   capacity = shows.capacity;
   is_open = shows.is_open;
   single = shows.single;
-  small = shows.small;
+  bounded = shows.bounded;
   marked = shows.marked;
   head = shows.head;
   tail = shows.tail;
@@ -113,82 +113,82 @@ as_line first line words e shows = record {
 }
 
 -- the head words are apart from each other and from all other words
-head_else : (words : List ℕ) (line place value : ℕ) → place ≢ head_word line → get_or (set words (head_word line) value) place 0 ≡ get_or words place 0
-head_else words line place value differ = get_or-set_other words (head_word line) place value 0 differ
+head_else : (words : List ℕ) (ring place value : ℕ) → place ≢ head_word ring → get_or (set words (head_word ring) value) place 0 ≡ get_or words place 0
+head_else words ring place value differ = get_or-set_other words (head_word ring) place value 0 differ
 
-tail_apart : (line other : ℕ) → tail_word other ≢ head_word line
-tail_apart line other same = omega arith
+tail_apart : (ring other : ℕ) → tail_word other ≢ head_word ring
+tail_apart ring other same = omega arith
 
-item_apart : (line other position : ℕ) → place_word other position ≢ head_word line
-item_apart line other position same = omega arith
+item_apart : (ring other position : ℕ) → place_word other position ≢ head_word ring
+item_apart ring other position same = omega arith
 
-head_apart : (line other : ℕ) → other ≢ line → head_word other ≢ head_word line
-head_apart line other differ same = differ (omega arith)
+head_apart : (ring other : ℕ) → other ≢ ring → head_word other ≢ head_word ring
+head_apart ring other differ same = differ (omega arith)
 
--- a place of a line is shown as before
-places_kept : (first line other : ℕ) (q : Queue) (words : List ℕ) (value run : ℕ) → PlaceShows first q run (get_or words (place_word other (first + run)) 0)
-    → PlaceShows first q run (get_or (set words (head_word line) value) (place_word other (first + run)) 0)
-places_kept first line other q words value run shows =
-    subst (PlaceShows first q run) (sym (head_else words line (place_word other (first + run)) value (item_apart line other (first + run)))) shows
+-- a place of a ring is shown as before
+places_kept : (first ring other : ℕ) (q : Queue) (words : List ℕ) (value run : ℕ) → PlaceShows first q run (get_or words (place_word other (first + run)) 0)
+    → PlaceShows first q run (get_or (set words (head_word ring) value) (place_word other (first + run)) 0)
+places_kept first ring other q words value run shows =
+    subst (PlaceShows first q run) (sym (head_else words ring (place_word other (first + run)) value (item_apart ring other (first + run)))) shows
 
-other_shows : (first line other value : ℕ) (words : List ℕ) (e : Elements) → other ≢ line → LineShows first e other words
-    → QueueShows first (mark_of e other) other (set words (head_word line) value) (line_at e other)
-other_shows first line other value words e differ shows = record {
+other_shows : (first ring other value : ℕ) (words : List ℕ) (e : Elements) → other ≢ ring → RingShows first e other words
+    → QueueShows first (mark_of e other) other (set words (head_word ring) value) (ring_at e other)
+other_shows first ring other value words e differ shows = record {
   capacity = shows.capacity;
   is_open = shows.is_open;
   single = shows.single;
-  small = shows.small;
+  bounded = shows.bounded;
   marked = shows.marked;
-  head = head_else words line (head_word other) value (head_apart line other differ) ∙ shows.head;
-  tail = head_else words line (tail_word other) value (tail_apart line other) ∙ shows.tail;
-  places = λ run from below. places_kept first line other (line_at e other) words value run (shows.places run from below);
+  head = head_else words ring (head_word other) value (head_apart ring other differ) ∙ shows.head;
+  tail = head_else words ring (tail_word other) value (tail_apart ring other) ∙ shows.tail;
+  places = λ run from below. places_kept first ring other (ring_at e other) words value run (shows.places run from below);
 }
 
-claimed_shows : (first id element line : ℕ) (words : List ℕ) (e : Elements) → line < 18 → length words ≡ 1325 → IsLawfulQueue (line_at e line) → first + length (line_at e line).history + 1 < 4294967296
-    → LineShows first e line words
-    → QueueShows first (mark_of e line) line (set words (head_word line) (head_shown first e line + 1)) (after_claim id (element ∷ []) (line_at e line))
-claimed_shows first id element line words e below wide lawful small shows =
-    let q : Queue = line_at e line in
+claimed_shows : (first id element ring : ℕ) (words : List ℕ) (e : Elements) → ring < 18 → length words ≡ 1325 → IsLawfulQueue (ring_at e ring) → first + length (ring_at e ring).history + 1 < 4294967296
+    → RingShows first e ring words
+    → QueueShows first (mark_of e ring) ring (set words (head_word ring) (head_shown first e ring + 1)) (after_claim id (element ∷ []) (ring_at e ring))
+claimed_shows first id element ring words e below wide lawful bounded shows =
+    let q : Queue = ring_at e ring in
     let new : Run = record { call = id; items = element ∷ [] } in
-    let value : ℕ = head_shown first e line + 1 in
+    let value : ℕ = head_shown first e ring + 1 in
     let more = longer id element q in
-    let inside : head_word line < length words = omega arith in
+    let inside : head_word ring < length words = omega arith in
     record {
       capacity = shows.capacity;
       is_open = shows.is_open;
       single = one_more_single q.history new shows.single refl;
-      small = omega arith;
+      bounded = omega arith;
       marked = shows.marked;
-      head = get_or-set_same words (head_word line) value 0 inside ∙ omega arith;
-      tail = head_else words line (tail_word line) value (tail_apart line line) ∙ shows.tail;
-      places = λ run from within. claim_places first id element q run _ lawful (places_kept first line line q words value run (shows.places run from within));
+      head = get_or-set_same words (head_word ring) value 0 inside ∙ omega arith;
+      tail = head_else words ring (tail_word ring) value (tail_apart ring ring) ∙ shows.tail;
+      places = λ run from within. claim_places first id element q run _ lawful (places_kept first ring ring q words value run (shows.places run from within));
     }
 
 -- the elements after the claim
 abbrev claimed : ℕ → ℕ → ℕ → List Hold → Elements → Elements
-claimed id line element rest e = record e { lines = set e.lines line (after_claim id (element ∷ []) (line_at e line)); held = rest }
+claimed id ring element rest e = record e { rings = set e.rings ring (after_claim id (element ∷ []) (ring_at e ring)); held = rest }
 
-words_after : (first id element line : ℕ) (words : List ℕ) (rest : List Hold) (e : Elements) → line < 18 → IsLawfulQueue (line_at e line) → first + length (line_at e line).history + 1 < 4294967296
-    → WordsShow first e words → WordsShow first (claimed id line element rest e) (set words (head_word line) (head_shown first e line + 1))
-words_after first id element line words rest e below lawful small shows =
-    let value : ℕ = head_shown first e line + 1 in
-    let kept : (place : ℕ) → place < 137 → get_or words place 0 ≡ get_or (set words (head_word line) value) place 0 =
-    λ place low. sym (head_else words line place value (λ same. omega arith)) in
-    let inside : line < length e.lines = omega (arith, shows.queues) in
+words_after : (first id element ring : ℕ) (words : List ℕ) (rest : List Hold) (e : Elements) → ring < 18 → IsLawfulQueue (ring_at e ring) → first + length (ring_at e ring).history + 1 < 4294967296
+    → WordsShow first e words → WordsShow first (claimed id ring element rest e) (set words (head_word ring) (head_shown first e ring + 1))
+words_after first id element ring words rest e below lawful bounded shows =
+    let value : ℕ = head_shown first e ring + 1 in
+    let kept : (place : ℕ) → place < 137 → get_or words place 0 ≡ get_or (set words (head_word ring) value) place 0 =
+    λ place low. sym (head_else words ring place value (λ same. omega arith)) in
+    let inside : ring < length e.rings = omega (arith, shows.queues) in
     record {
-      wide = length-set words (head_word line) value ∙ shows.wide;
+      wide = length-set words (head_word ring) value ∙ shows.wide;
       threads = shows.threads;
-      queues = length-set e.lines line (after_claim id (element ∷ []) (line_at e line)) ∙ shows.queues;
+      queues = length-set e.rings ring (after_claim id (element ∷ []) (ring_at e ring)) ∙ shows.queues;
       waits = shows.waits;
       processors = shows.processors;
-      seats = λ p within. sym (kept (seat_word p) (omega arith)) ∙ shows.seats p within;
+      processors = λ p within. sym (kept (processor_word p) (omega arith)) ∙ shows.processors p within;
       states = λ x within. subst (StateShows (thread_at e x)) (kept (state_word x) (omega arith)) (shows.states x within);
       steps = λ x within. sym (kept (done_word x) (omega arith)) ∙ shows.steps x within;
       few = shows.few;
-      lines = λ other within. as_line first other (set words (head_word line) value) (claimed id line element rest e)
-          (by_line (λ l q. l < 18 → QueueShows first (mark_of e l) l (set words (head_word line) value) q) e.lines line (after_claim id (element ∷ []) (line_at e line)) inside
-          (λ w. claimed_shows first id element line words e below shows.wide lawful small (shows.lines line below))
-          (λ l differ w. other_shows first line l value words e differ (shows.lines l w))
+      rings = λ other within. as_ring first other (set words (head_word ring) value) (claimed id ring element rest e)
+          (by_ring (λ l q. l < 18 → QueueShows first (mark_of e l) l (set words (head_word ring) value) q) e.rings ring (after_claim id (element ∷ []) (ring_at e ring)) inside
+          (λ w. claimed_shows first id element ring words e below shows.wide lawful bounded (shows.rings ring below))
+          (λ l differ w. other_shows first ring l value words e differ (shows.rings l w))
           other within);
     }
 
@@ -203,15 +203,15 @@ abbrev OthersStay : ℕ → ℕ → List Hold → List Hold → Type 0
 OthersStay id element held rest = (c x : ℕ) → is_hold c x (hold id element) ≡ false → list_any (is_hold c x) rest ≡ list_any (is_hold c x) held
 
 -- a claim that isn't raised stays one
-run_kept : (id element line : ℕ) (rest : List Hold) (e : Elements) (call : ℕ) (c : Claimed) → line < length e.lines → IsClaimed call c e → IsClaimed call c (claimed id line element rest e)
-run_kept id element line rest e call c inside is =
+run_kept : (id element ring : ℕ) (rest : List Hold) (e : Elements) (call : ℕ) (c : Claimed) → ring < length e.rings → IsClaimed call c e → IsClaimed call c (claimed id ring element rest e)
+run_kept id element ring rest e call c inside is =
     let new : Run = record { call = id; items = element ∷ [] } in
     let it : Run = record { call = call; items = c.element ∷ [] } in
-    let both = by_line (λ l q. (slice_get (line_at e l).history c.run ≡ Some it → slice_get q.history c.run ≡ Some it) × (q.raised ≡ (line_at e l).raised))
-    e.lines line (after_claim id (element ∷ []) (line_at e line)) inside
-    (λ at. later_at (line_at e line).history new c.run it at, refl)
+    let both = by_ring (λ l q. (slice_get (ring_at e l).history c.run ≡ Some it → slice_get q.history c.run ≡ Some it) × (q.raised ≡ (ring_at e l).raised))
+    e.rings ring (after_claim id (element ∷ []) (ring_at e ring)) inside
+    (λ at. later_at (ring_at e ring).history new c.run it at, refl)
     (λ l differ. (λ at. at, refl))
-    c.line in
+    c.ring in
     record {
       below = is.below;
       known = is.known;
@@ -219,12 +219,12 @@ run_kept id element line rest e call c inside is =
       low = ap (λ raised. raised c.run 0) both.1 ∙ is.low;
     }
 
-new_run : (id element line : ℕ) (rest : List Hold) (e : Elements) → line < 18 → element < 64 → line < length e.lines → IsLawfulQueue (line_at e line)
-    → IsClaimed id (record { line = line; run = length (line_at e line).history; element = element }) (claimed id line element rest e)
-new_run id element line rest e below known inside lawful =
-    let q : Queue = line_at e line in
+new_run : (id element ring : ℕ) (rest : List Hold) (e : Elements) → ring < 18 → element < 64 → ring < length e.rings → IsLawfulQueue (ring_at e ring)
+    → IsClaimed id (record { ring = ring; run = length (ring_at e ring).history; element = element }) (claimed id ring element rest e)
+new_run id element ring rest e below known inside lawful =
+    let q : Queue = ring_at e ring in
     let new : Run = record { call = id; items = element ∷ [] } in
-    let at : line_at (claimed id line element rest e) line ≡ after_claim id (element ∷ []) q = get_or-set_same e.lines line (after_claim id (element ∷ []) q) (empty_queue 64) inside in
+    let at : ring_at (claimed id ring element rest e) ring ≡ after_claim id (element ∷ []) q = get_or-set_same e.rings ring (after_claim id (element ∷ []) q) (empty_queue 64) inside in
     record {
       below = below;
       known = known;
@@ -233,38 +233,38 @@ new_run id element line rest e below known inside lawful =
           ∙ false_from_ne_true (q.raised (length q.history) 0) (λ up. let within = raised_within q (length q.history) lawful up in omega arith);
     }
 
-claim_leaves : (id element line : ℕ) (rest : List Hold) (v : View) (e : Elements) → line < length e.lines → OthersStay id element e.held rest → Leaves id v e (claimed id line element rest e)
-claim_leaves id element line rest v e inside stay = record {
-  grows = by_line (λ l q. QueueGrows (line_at e l) q) e.lines line (after_claim id (element ∷ []) (line_at e line)) inside (claim_grows id element (line_at e line)) (λ l differ. none_grows (line_at e l));
+claim_leaves : (id element ring : ℕ) (rest : List Hold) (v : View) (e : Elements) → ring < length e.rings → OthersStay id element e.held rest → Leaves id v e (claimed id ring element rest e)
+claim_leaves id element ring rest v e inside stay = record {
+  grows = by_ring (λ l q. QueueGrows (ring_at e l) q) e.rings ring (after_claim id (element ∷ []) (ring_at e ring)) inside (claim_grows id element (ring_at e ring)) (λ l differ. none_grows (ring_at e l));
   held = λ call x differ. stay call x (other_call id element call x differ);
-  seats = λ p served. refl;
+  processors = λ p served. refl;
   puts = λ call x differ. refl;
-  runs = λ call c differ is. run_kept id element line rest e call c inside is;
+  runs = λ call c differ is. run_kept id element ring rest e call c inside is;
   steps = λ x may. refl;
 }
 
 -- what the hand has then, of one element
-has_after : (id element line : ℕ) (rest : List Hold) (v : View) (e : Elements) (x : ℕ) → element < 64 → HandIs id v e → OthersStay id element e.held rest → in_hands element rest ≡ 0
+has_after : (id element ring : ℕ) (rest : List Hold) (v : View) (e : Elements) (x : ℕ) → element < 64 → HandIs id v e → OthersStay id element e.held rest → in_hands element rest ≡ 0
     → ((eqb x element ≡ true) × (x ≡ element)) ⊎ ((eqb x element ≡ false) × (x ≢ element))
     → list_any (is_hold id x) rest ≡ get_or (set v.held element false) x false
-has_after id element line rest v e x known hand stay none (inl same) =
+has_after id element ring rest v e x known hand stay none (inl same) =
     let here : list_any (is_hold id element) rest ≡ get_or (set v.held element false) element false =
     unheld id element rest none ∙ sym (get_or-set_same v.held element false false (omega (arith, hand.held_long))) in
     subst (λ y. list_any (is_hold id y) rest ≡ get_or (set v.held element false) y false) (sym same.1) here
-has_after id element line rest v e x known hand stay none (inr differ) =
+has_after id element ring rest v e x known hand stay none (inr differ) =
     stay id x (other_element id element x differ.1) ∙ (hand.held x ∙ sym (get_or-set_other v.held element x false false differ.1))
 
-claim_hand : (id element line : ℕ) (rest : List Hold) (v : View) (e : Elements) → line < 18 → element < 64 → line < length e.lines → IsLawfulQueue (line_at e line) → HandIs id v e
+claim_hand : (id element ring : ℕ) (rest : List Hold) (v : View) (e : Elements) → ring < 18 → element < 64 → ring < length e.rings → IsLawfulQueue (ring_at e ring) → HandIs id v e
     → OthersStay id element e.held rest → in_hands element rest ≡ 0
-    → HandIs id (with_claim v line (length (line_at e line).history) element) (claimed id line element rest e)
-claim_hand id element line rest v e below known inside lawful hand stay none = record {
+    → HandIs id (with_claim v ring (length (ring_at e ring).history) element) (claimed id ring element rest e)
+claim_hand id element ring rest v e below known inside lawful hand stay none = record {
   held_long = length-set v.held element false ∙ hand.held_long;
   serves_long = hand.serves_long;
   on_long = hand.on_long;
-  held = λ x. has_after id element line rest v e x known hand stay none (eqb_tells x element);
+  held = λ x. has_after id element ring rest v e x known hand stay none (eqb_tells x element);
   on = hand.on;
   off = hand.off;
-  claimed = λ c is. subst (λ (d : Claimed). IsClaimed id d (claimed id line element rest e)) (same_Some _ c is) (new_run id element line rest e below known inside lawful);
+  claimed = λ c is. subst (λ (d : Claimed). IsClaimed id d (claimed id ring element rest e)) (same_Some _ c is) (new_run id element ring rest e below known inside lawful);
   counted = λ c is. absurd (cc);
 }
 
@@ -273,25 +273,25 @@ abbrev Lets : ℕ → ℕ → Elements → List Hold → Type 0
 Lets id element e rest = let_go id element e.held ≡ Ok rest
 
 -- the queue takes the run
-line_claims : (id element line : ℕ) (rest : List Hold) (e : Elements) (first : ℕ) (words : List ℕ) → line < 18 → IsLawfulElements e → WordsShow first e words → Lets id element e rest
-    → (slice_get e.lines line ≡ Some (line_at e line)) × (claim 1 id (element ∷ []) (line_at e line) ≡ Ok (after_claim id (element ∷ []) (line_at e line)))
-line_claims id element line rest e first words below lawful shows lets =
-    let q : Queue = line_at e line in
-    let at : slice_get e.lines line ≡ Some q = slice_get-get_or e.lines line (empty_queue 64) (omega (arith, shows.queues)) in
-    let l = shows.lines line below in
-    let space : length (left q) + 1 ≤ 64 = omega (arith, room id element line e q rest lawful at lets, shows.threads) in
+ring_claims : (id element ring : ℕ) (rest : List Hold) (e : Elements) (first : ℕ) (words : List ℕ) → ring < 18 → IsLawfulElements e → WordsShow first e words → Lets id element e rest
+    → (slice_get e.rings ring ≡ Some (ring_at e ring)) × (claim 1 id (element ∷ []) (ring_at e ring) ≡ Ok (after_claim id (element ∷ []) (ring_at e ring)))
+ring_claims id element ring rest e first words below lawful shows lets =
+    let q : Queue = ring_at e ring in
+    let at : slice_get e.rings ring ≡ Some q = slice_get-get_or e.rings ring (empty_queue 64) (omega (arith, shows.queues)) in
+    let l = shows.rings ring below in
+    let space : length (left q) + 1 ≤ 64 = omega (arith, room id element ring e q rest lawful at lets, shows.threads) in
     (at, claim_goes 1 id (element ∷ []) q (omega arith) (omega arith) l.is_open (omega (arith, l.capacity, space)))
 
-claim_ok : (id element line : ℕ) (rest : List Hold) (e : Elements) → element < length e.threads → slice_get e.lines line ≡ Some (line_at e line)
-    → claim 1 id (element ∷ []) (line_at e line) ≡ Ok (after_claim id (element ∷ []) (line_at e line)) → Lets id element e rest
-    → claim_element line id (element ∷ []) e ≡ Ok (claimed id line element rest e)
-claim_ok id element line rest e known at claims lets =
+claim_ok : (id element ring : ℕ) (rest : List Hold) (e : Elements) → element < length e.threads → slice_get e.rings ring ≡ Some (ring_at e ring)
+    → claim 1 id (element ∷ []) (ring_at e ring) ≡ Ok (after_claim id (element ∷ []) (ring_at e ring)) → Lets id element e rest
+    → claim_element ring id (element ∷ []) e ≡ Ok (claimed id ring element rest e)
+claim_ok id element ring rest e known at claims lets =
     let low : leb (length e.threads) element ≡ false = grind (arith, nat_tests) in
     rw (low, at, claims, lets) refl
 
 wait_ok : (id element wait ticket : ℕ) (rest : List Hold) (e : Elements) → element < length e.threads → wait < length e.notified → get_or e.notified wait 0 ≡ ticket
-    → slice_get e.lines (wait + 2) ≡ Some (line_at e (wait + 2))
-    → claim 1 id (element ∷ []) (line_at e (wait + 2)) ≡ Ok (after_claim id (element ∷ []) (line_at e (wait + 2))) → Lets id element e rest
+    → slice_get e.rings (wait + 2) ≡ Some (ring_at e (wait + 2))
+    → claim 1 id (element ∷ []) (ring_at e (wait + 2)) ≡ Ok (after_claim id (element ∷ []) (ring_at e (wait + 2))) → Lets id element e rest
     → wait_at id wait element ticket e ≡ Ok (claimed id (wait + 2) element rest e)
 wait_ok id element wait ticket rest e known inside same at claims lets =
     let a : slice_get e.threads element ≡ Some (thread_at e element) = slice_get-get_or e.threads element new_thread known in
@@ -300,60 +300,60 @@ wait_ok id element wait ticket rest e known inside same at claims lets =
     rw (a, b, lets, c, at, claims) refl
 
 -- the new run is the hand's claim
-run_owes : (v w : View) (id element line : ℕ) (q : Queue) → v.claimed ≡ None → w.claimed ≡ Some (claim_of line (length q.history) element) → QueueOwes v w line q (after_claim id (element ∷ []) q)
-run_owes v w id element line q none claims run below low = by (cases_lt run (length q.history))
+run_owes : (v w : View) (id element ring : ℕ) (q : Queue) → v.claimed ≡ None → w.claimed ≡ Some (claim_of ring (length q.history) element) → QueueOwes v w ring q (after_claim id (element ∷ []) q)
+run_owes v w id element ring q none claims run below low = by (cases_lt run (length q.history))
   where
     new : Run
     new = record { call = id; items = element ∷ [] }
 
     by : (run < length q.history) ⊎ (length q.history ≤ run)
-        → (((run < length q.history) × (q.raised run 0 ≡ false)) × (element_at (after_claim id (element ∷ []) q) run ≡ element_at q run) × (v.claimed ≡ Some (claim_of line run (element_at q run)) → ⊥))
-        ⊎ (w.claimed ≡ Some (claim_of line run (element_at (after_claim id (element ∷ []) q) run)))
+        → (((run < length q.history) × (q.raised run 0 ≡ false)) × (element_at (after_claim id (element ∷ []) q) run ≡ element_at q run) × (v.claimed ≡ Some (claim_of ring run (element_at q run)) → ⊥))
+        ⊎ (w.claimed ≡ Some (claim_of ring run (element_at (after_claim id (element ∷ []) q) run)))
     by (inl older) = inl ((older, low), same_element id element q run older, λ is. none_some _ v.claimed none is)
     by (inr past) =
         let last : run ≡ length q.history = omega (arith, past, below, longer id element q) in
         let its : element_at (after_claim id (element ∷ []) q) (length q.history) ≡ element = ap element_of (get_or-append_seam q.history new [] no_run) in
-        inr (subst (λ (n : ℕ). w.claimed ≡ Some (claim_of line n (element_at (after_claim id (element ∷ []) q) n))) (sym last) (claims ∙ ap (λ (x : ℕ). Some (claim_of line (length q.history) x)) (sym its)))
+        inr (subst (λ (n : ℕ). w.claimed ≡ Some (claim_of ring n (element_at (after_claim id (element ∷ []) q) n))) (sym last) (claims ∙ ap (λ (x : ℕ). Some (claim_of ring (length q.history) x)) (sym its)))
 
-claim_owes : (v w : View) (id element line : ℕ) (rest : List Hold) (e : Elements) → line < length e.lines → v.claimed ≡ None → w.claimed ≡ Some (claim_of line (length (line_at e line).history) element)
-    → Owes v w e (claimed id line element rest e)
-claim_owes v w id element line rest e inside none claims =
-    let q : Queue = line_at e line in
-    line_owes v w e (claimed id line element rest e) line (after_claim id (element ∷ []) q)
-    (get_or-set_same e.lines line (after_claim id (element ∷ []) q) (empty_queue 64) inside)
-    (λ l ne. get_or-set_other e.lines line l (after_claim id (element ∷ []) q) (empty_queue 64) ne)
-    (run_owes v w id element line q none claims) (λ l ne. queue_owes v w l (line_at e l) (line_at e l) none refl refl)
+claim_owes : (v w : View) (id element ring : ℕ) (rest : List Hold) (e : Elements) → ring < length e.rings → v.claimed ≡ None → w.claimed ≡ Some (claim_of ring (length (ring_at e ring).history) element)
+    → Owes v w e (claimed id ring element rest e)
+claim_owes v w id element ring rest e inside none claims =
+    let q : Queue = ring_at e ring in
+    ring_owes v w e (claimed id ring element rest e) ring (after_claim id (element ∷ []) q)
+    (get_or-set_same e.rings ring (after_claim id (element ∷ []) q) (empty_queue 64) inside)
+    (λ l ne. get_or-set_other e.rings ring l (after_claim id (element ∷ []) q) (empty_queue 64) ne)
+    (run_owes v w id element ring q none claims) (λ l ne. queue_owes v w l (ring_at e l) (ring_at e l) none refl refl)
 
 -- an event that goes as the claim does has its effect
-effect_of : (id : ℕ) (v : View) (first : ℕ) (e : Elements) (words : List ℕ) (line element : ℕ) (event : Elements → Result Elements Refusal) → Ready id v first e words → v.claimed ≡ None → line < 18 → element < 64 → has v element ≡ true
-    → first + length (line_at e line).history + 1 < 4294967296
-    → ((rest : List Hold) → slice_get e.lines line ≡ Some (line_at e line) → claim 1 id (element ∷ []) (line_at e line) ≡ Ok (after_claim id (element ∷ []) (line_at e line)) → Lets id element e rest
-    → event e ≡ Ok (claimed id line element rest e))
-    → Effect id v (with_claim v line (length (line_at e line).history) element) first event e (set words (head_word line) (head_shown first e line + 1))
-effect_of id v first e words line element event ready idle below known held small goes =
+effect_of : (id : ℕ) (v : View) (first : ℕ) (e : Elements) (words : List ℕ) (ring element : ℕ) (event : Elements → Result Elements Refusal) → Ready id v first e words → v.claimed ≡ None → ring < 18 → element < 64 → has v element ≡ true
+    → first + length (ring_at e ring).history + 1 < 4294967296
+    → ((rest : List Hold) → slice_get e.rings ring ≡ Some (ring_at e ring) → claim 1 id (element ∷ []) (ring_at e ring) ≡ Ok (after_claim id (element ∷ []) (ring_at e ring)) → Lets id element e rest
+    → event e ≡ Ok (claimed id ring element rest e))
+    → Effect id v (with_claim v ring (length (ring_at e ring).history) element) first event e (set words (head_word ring) (head_shown first e ring + 1))
+effect_of id v first e words ring element event ready idle below known held bounded goes =
     let gone = let_go_goes id element e.held (ready.hand.held element ∙ held) in
-    let claims = line_claims id element line gone.0 e first words below ready.lawful ready.shows gone.1 in
-    let inside : line < length e.lines = omega (arith, ready.shows.queues) in
-    let lawful : IsLawfulQueue (line_at e line) = every_at IsLawfulQueue e.lines line (line_at e line) claims.0 ready.lawful.lines in
+    let claims = ring_claims id element ring gone.0 e first words below ready.lawful ready.shows gone.1 in
+    let inside : ring < length e.rings = omega (arith, ready.shows.queues) in
+    let lawful : IsLawfulQueue (ring_at e ring) = every_at IsLawfulQueue e.rings ring (ring_at e ring) claims.0 ready.lawful.rings in
     let none : in_hands element gone.0 ≡ 0 = out_of_hands id element e gone.0 ready.lawful (omega (arith, ready.shows.threads)) gone.1 in
     record {
-      f = claimed id line element gone.0 e;
+      f = claimed id ring element gone.0 e;
       goes = goes gone.0 claims.0 claims.1 gone.1;
-      leaves = claim_leaves id element line gone.0 v e inside gone.2;
-      hand = claim_hand id element line gone.0 v e below known inside lawful ready.hand gone.2 none;
-      shows = words_after first id element line words gone.0 e below lawful small ready.shows;
-      owes = claim_owes v (with_claim v line (length (line_at e line).history) element) id element line gone.0 e inside idle refl;
+      leaves = claim_leaves id element ring gone.0 v e inside gone.2;
+      hand = claim_hand id element ring gone.0 v e below known inside lawful ready.hand gone.2 none;
+      shows = words_after first id element ring words gone.0 e below lawful bounded ready.shows;
+      owes = claim_owes v (with_claim v ring (length (ring_at e ring).history) element) id element ring gone.0 e inside idle refl;
     }
 
 pub claim_effect : ClaimEffect
-claim_effect id v first e words line element ready idle below known held small =
-    effect_of id v first e words line element (claim_element line id (element ∷ [])) ready idle below known held small
-    (λ rest at claims lets. claim_ok id element line rest e (omega (arith, ready.shows.threads)) at claims lets)
+claim_effect id v first e words ring element ready idle below known held bounded =
+    effect_of id v first e words ring element (claim_element ring id (element ∷ [])) ready idle below known held bounded
+    (λ rest at claims lets. claim_ok id element ring rest e (omega (arith, ready.shows.threads)) at claims lets)
 
-mark_is : (e : Elements) (wait line : ℕ) → line ≡ suc (suc wait) → mark_of e line ≡ get_or e.notified wait 0
-mark_is e wait line same = ap (mark_of e) same
+mark_is : (e : Elements) (wait ring : ℕ) → ring ≡ suc (suc wait) → mark_of e ring ≡ get_or e.notified wait 0
+mark_is e wait ring same = ap (mark_of e) same
 
 pub wait_at_effect : WaitAtEffect
-wait_at_effect id v first e words wait element ticket ready idle below known held small same =
-    effect_of id v first e words (wait + 2) element (wait_at id wait element ticket) ready idle (omega arith) known held small
+wait_at_effect id v first e words wait element ticket ready idle below known held bounded same =
+    effect_of id v first e words (wait + 2) element (wait_at id wait element ticket) ready idle (omega arith) known held bounded
     (λ rest at claims lets. wait_ok id element wait ticket rest e (omega (arith, ready.shows.threads)) (omega (arith, ready.shows.waits)) (sym (mark_is e wait (wait + 2) (omega arith)) ∙ same) at claims lets)

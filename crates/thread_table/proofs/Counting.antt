@@ -12,26 +12,26 @@ use Rattle.table_theory.proofs.Members.{known_look, known_tally, known_up, known
 use Rattle.thread_table.specs.declared.rule.Shape.{Shape}
 use Rattle.thread_table.specs.declared.rule.View.{View}
 use Rattle.thread_table.specs.declared.rule.Counted.{Counted}
-use Rattle.thread_table.specs.Schedules.{elements_after, line_at, thread_at}
-use Rattle.thread_table.specs.Shown.{WordsShow, LineShows, StateShows, PlaceShows, seat_word, state_word, done_word, head_word, tail_word, place_word}
+use Rattle.thread_table.specs.Schedules.{elements_after, ring_at, thread_at}
+use Rattle.thread_table.specs.Shown.{WordsShow, RingShows, StateShows, PlaceShows, processor_word, state_word, done_word, head_word, tail_word, place_word}
 use Rattle.thread_table.specs.Joins.{uncounted}
 use Rattle.thread_table.proofs.Joined.{joined_set, none_uncounted, one_uncounted}
 use Rattle.thread_table.specs.Rules.{IsActive, HandIs, IsCounted, Rule, MayStep, IsIdle, member_of, may_step}
 use Rattle.thread_table.specs.Views.{count_of}
-use Rattle.thread_table.specs.Steps.{looked, counted, counts_up, counts_down, tallies, counts}
+use Rattle.thread_table.specs.Steps.{looked, counted, counts_up, counts_down, tallies, reads_pc}
 use Rattle.thread_table.proofs.Looks.{St, steps_to, hand_counts, hand_quiet, kept, sees_of}
 
 -- the number of hands shows nothing of the elements
-line_count : (first line y : ℕ) (e : Elements) (words : List ℕ) → LineShows first e line words → LineShows first e line (set words 0 y)
-line_count first line y e words h = record {
+ring_count : (first ring y : ℕ) (e : Elements) (words : List ℕ) → RingShows first e ring words → RingShows first e ring (set words 0 y)
+ring_count first ring y e words h = record {
   capacity = h.capacity;
   is_open = h.is_open;
   single = h.single;
-  small = h.small;
+  bounded = h.bounded;
   marked = h.marked;
-  head = get_or-set_other words 0 (head_word line) y 0 (λ z. omega arith) ∙ h.head;
-  tail = get_or-set_other words 0 (tail_word line) y 0 (λ z. omega arith) ∙ h.tail;
-  places = λ run a b. subst (PlaceShows first (line_at e line) run) (sym (get_or-set_other words 0 (place_word line (first + run)) y 0 (λ z. omega arith))) (h.places run a b);
+  head = get_or-set_other words 0 (head_word ring) y 0 (λ z. omega arith) ∙ h.head;
+  tail = get_or-set_other words 0 (tail_word ring) y 0 (λ z. omega arith) ∙ h.tail;
+  places = λ run a b. subst (PlaceShows first (ring_at e ring) run) (sym (get_or-set_other words 0 (place_word ring (first + run)) y 0 (λ z. omega arith))) (h.places run a b);
 }
 
 pub shows_count : (first y : ℕ) (e : Elements) (words : List ℕ) → WordsShow first e words → WordsShow first e (set words 0 y)
@@ -41,11 +41,11 @@ shows_count first y e words h = record {
   queues = h.queues;
   waits = h.waits;
   processors = h.processors;
-  seats = λ p b. get_or-set_other words 0 (seat_word p) y 0 (λ z. omega arith) ∙ h.seats p b;
+  processors = λ p b. get_or-set_other words 0 (processor_word p) y 0 (λ z. omega arith) ∙ h.processors p b;
   states = λ x b. subst (StateShows (thread_at e x)) (sym (get_or-set_other words 0 (state_word x) y 0 (λ z. omega arith))) (h.states x b);
   steps = λ x b. get_or-set_other words 0 (done_word x) y 0 (λ z. omega arith) ∙ h.steps x b;
   few = h.few;
-  lines = λ line b. line_count first line y e words (h.lines line b);
+  rings = λ ring b. ring_count first ring y e words (h.rings ring b);
 }
 
 -- the rule, where the number of hands becomes y, and another of them of the hand

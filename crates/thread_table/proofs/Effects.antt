@@ -9,8 +9,8 @@ use Rattle.event_theory.specs.declared.refusal.Refusal.{Refusal}
 use Rattle.thread_table.specs.declared.rule.View.{View}
 use Rattle.thread_table.specs.declared.rule.Claimed.{Claimed}
 use Rattle.thread_table.specs.declared.rule.Counted.{Counted}
-use Rattle.thread_table.specs.Schedules.{Grows, line_at, thread_at, element_at}
-use Rattle.thread_table.specs.Shown.{WordsShow, seat_word, state_word, done_word, head_word, tail_word, place_word, head_shown, tail_shown, mark_of}
+use Rattle.thread_table.specs.Schedules.{Grows, ring_at, thread_at, element_at}
+use Rattle.thread_table.specs.Shown.{WordsShow, processor_word, state_word, done_word, head_word, tail_word, place_word, head_shown, tail_shown, mark_of}
 use Rattle.thread_table.specs.Views.{claim_of, quiet, with_held, with_claim, with_raise, with_on, with_off, with_start}
 use Rattle.thread_table.specs.Rules.{HandIs, IsOpen, IsClaimed, may_step, has, serves, running}
 
@@ -18,7 +18,7 @@ use Rattle.thread_table.specs.Rules.{HandIs, IsOpen, IsClaimed, may_step, has, s
 pub record Leaves (id : ℕ) (v : View) (e f : Elements) : Type 0 where
   pub grows : Grows e f
   pub held : (call element : ℕ) → call ≢ id → holds call element f ≡ holds call element e
-  pub seats : (p : ℕ) → serves v p ≡ false → slice_get f.processors p ≡ slice_get e.processors p
+  pub processors : (p : ℕ) → serves v p ≡ false → slice_get f.processors p ≡ slice_get e.processors p
   pub puts : (call element : ℕ) → call ≢ id → list_any (is_put call element) f.processors ≡ list_any (is_put call element) e.processors
   pub runs : (call : ℕ) (c : Claimed) → call ≢ id → IsClaimed call c e → IsClaimed call c f
   pub steps : (element : ℕ) → may_step id element e ≡ false → (thread_at f element).done ≡ (thread_at e element).done
@@ -31,10 +31,10 @@ pub record Effect (id : ℕ) (v w : View) (first : ℕ) (event : Elements → Re
   pub hand : HandIs id w f
   pub shows : WordsShow first f words
   -- a run that isn't raised then is the hand's claim, or wasn't before
-  pub owes : (line run : ℕ) → line < 18 → IsOpen line run f
-      → (IsOpen line run e × (element_at (line_at f line) run ≡ element_at (line_at e line) run)
-      × (v.claimed ≡ Some (claim_of line run (element_at (line_at e line) run)) → ⊥))
-      ⊎ (w.claimed ≡ Some (claim_of line run (element_at (line_at f line) run)))
+  pub owes : (ring run : ℕ) → ring < 18 → IsOpen ring run f
+      → (IsOpen ring run e × (element_at (ring_at f ring) run ≡ element_at (ring_at e ring) run)
+      × (v.claimed ≡ Some (claim_of ring run (element_at (ring_at e ring) run)) → ⊥))
+      ⊎ (w.claimed ≡ Some (claim_of ring run (element_at (ring_at f ring) run)))
 
 -- what is known of the elements and of the hand before an event of it
 pub record Ready (id : ℕ) (v : View) (first : ℕ) (e : Elements) (words : List ℕ) : Type 0 where
@@ -44,22 +44,22 @@ pub record Ready (id : ℕ) (v : View) (first : ℕ) (e : Elements) (words : Lis
 
 -- The statements of what each event does. `word` is the word as it was found
 abbrev pub ClaimEffect : Type 0
-ClaimEffect = (id : ℕ) (v : View) (first : ℕ) (e : Elements) (words : List ℕ) (line element : ℕ) → Ready id v first e words → v.claimed ≡ None → line < 18 → element < 64 → has v element ≡ true
-    → first + length (line_at e line).history + 1 < 4294967296
-    → Effect id v (with_claim v line (length (line_at e line).history) element) first (claim_element line id (element ∷ [])) e (set words (head_word line) (head_shown first e line + 1))
+ClaimEffect = (id : ℕ) (v : View) (first : ℕ) (e : Elements) (words : List ℕ) (ring element : ℕ) → Ready id v first e words → v.claimed ≡ None → ring < 18 → element < 64 → has v element ≡ true
+    → first + length (ring_at e ring).history + 1 < 4294967296
+    → Effect id v (with_claim v ring (length (ring_at e ring).history) element) first (claim_element ring id (element ∷ [])) e (set words (head_word ring) (head_shown first e ring + 1))
 
 abbrev pub WaitAtEffect : Type 0
 WaitAtEffect = (id : ℕ) (v : View) (first : ℕ) (e : Elements) (words : List ℕ) (wait element ticket : ℕ) → Ready id v first e words → v.claimed ≡ None → wait < 16 → element < 64 → has v element ≡ true
-    → first + length (line_at e (wait + 2)).history + 1 < 4294967296 → mark_of e (wait + 2) ≡ ticket
-    → Effect id v (with_claim v (wait + 2) (length (line_at e (wait + 2)).history) element) first (wait_at id wait element ticket) e (set words (head_word (wait + 2)) (head_shown first e (wait + 2) + 1))
+    → first + length (ring_at e (wait + 2)).history + 1 < 4294967296 → mark_of e (wait + 2) ≡ ticket
+    → Effect id v (with_claim v (wait + 2) (length (ring_at e (wait + 2)).history) element) first (wait_at id wait element ticket) e (set words (head_word (wait + 2)) (head_shown first e (wait + 2) + 1))
 
 abbrev pub RaiseEffect : Type 0
-RaiseEffect = (id : ℕ) (v : View) (first : ℕ) (e : Elements) (words : List ℕ) (line run element : ℕ) → Ready id v first e words → v.claimed ≡ Some (let c : Claimed = record { line = line; run = run; element = element } in c)
-    → Effect id v (with_raise v) first (raise_element line id run 0) e (set words (place_word line (first + run)) (element + 256 * (first + run + 1)))
+RaiseEffect = (id : ℕ) (v : View) (first : ℕ) (e : Elements) (words : List ℕ) (ring run element : ℕ) → Ready id v first e words → v.claimed ≡ Some (let c : Claimed = record { ring = ring; run = run; element = element } in c)
+    → Effect id v (with_raise v) first (raise_element ring id run 0) e (set words (place_word ring (first + run)) (element + 256 * (first + run + 1)))
 
 abbrev pub TakeEffect : Type 0
-TakeEffect = (id : ℕ) (v : View) (first : ℕ) (e : Elements) (words : List ℕ) (line : ℕ) → Ready id v first e words → v.claimed ≡ None → line < 18 → (line_at e line).raised (line_at e line).taken 0 ≡ true
-    → Effect id v (with_held v (element_at (line_at e line) (line_at e line).taken) true) first (take_element line id 1) e (set words (tail_word line) (tail_shown first e line + 1))
+TakeEffect = (id : ℕ) (v : View) (first : ℕ) (e : Elements) (words : List ℕ) (ring : ℕ) → Ready id v first e words → v.claimed ≡ None → ring < 18 → (ring_at e ring).raised (ring_at e ring).taken 0 ≡ true
+    → Effect id v (with_held v (element_at (ring_at e ring) (ring_at e ring).taken) true) first (take_element ring id 1) e (set words (tail_word ring) (tail_shown first e ring + 1))
 
 abbrev pub NotifyEffect : Type 0
 NotifyEffect = (id : ℕ) (v : View) (first : ℕ) (e : Elements) (words : List ℕ) (wait : ℕ) → Ready id v first e words → v.claimed ≡ None → wait < 16
@@ -67,11 +67,11 @@ NotifyEffect = (id : ℕ) (v : View) (first : ℕ) (e : Elements) (words : List 
 
 abbrev pub OnEffect : Type 0
 OnEffect = (id : ℕ) (v : View) (first : ℕ) (e : Elements) (words : List ℕ) (p element : ℕ) → Ready id v first e words → v.claimed ≡ None → p < 8 → element < 64 → has v element ≡ true → serves v p ≡ true → running v p ≡ None
-    → Effect id v (with_on v p element) first (put_on id p element) e (set words (seat_word p) (element + 1))
+    → Effect id v (with_on v p element) first (put_on id p element) e (set words (processor_word p) (element + 1))
 
 abbrev pub OffEffect : Type 0
 OffEffect = (id : ℕ) (v : View) (first : ℕ) (e : Elements) (words : List ℕ) (p element : ℕ) → Ready id v first e words → v.claimed ≡ None → p < 8 → serves v p ≡ true → running v p ≡ Some element
-    → Effect id v (with_off v p element) first (take_off id p) e (set words (seat_word p) 0)
+    → Effect id v (with_off v p element) first (take_off id p) e (set words (processor_word p) 0)
 
 abbrev pub StopEffect : Type 0
 StopEffect = (id : ℕ) (v : View) (first : ℕ) (e : Elements) (words : List ℕ) (element : ℕ) → Ready id v first e words → v.claimed ≡ None → element < 64

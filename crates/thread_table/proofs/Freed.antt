@@ -32,7 +32,7 @@ use Rattle.thread_table.specs.declared.rule.View.{View}
 use Rattle.thread_table.specs.Closings.{ClosedNow, StandsAt, is_left}
 use Rattle.thread_table.specs.Makers.{is_join, made_in, numbered, AreMade}
 use Rattle.thread_table.specs.Retiring.{items_of, retired_by, retired_in, taking_by, free_takings, frees, was_freed}
-use Rattle.thread_table.specs.Schedules.{begun, elements_after, IsAllowed, line_at}
+use Rattle.thread_table.specs.Schedules.{begun, elements_after, IsAllowed, ring_at}
 use Rattle.thread_table.proofs.Counts.{plus, by_bool, many_cons}
 use Rattle.thread_table.proofs.Retiring.{takings_in, first_runs, are_told}
 use Rattle.thread_table.proofs.Schedules.{lawful_after}
@@ -173,42 +173,42 @@ module _ (x : ℕ) where
       by (t ∷ ts) zero is = ap (λ b. if b then 1 else 0) is
       by (t ∷ ts) (suc i) is = by ts i is
 
-  module _ (call : ℕ) (e : Elements) (lawful : IsLawfulElements e) (free : is_left x (line_at e 1) ≡ true) where
+  module _ (call : ℕ) (e : Elements) (lawful : IsLawfulElements e) (free : is_left x (ring_at e 1) ≡ true) where
     few : appearances x e ≤ 1
     few = dite (dec_lt x (length e.threads))
         (λ low. let o = lawful.once x low in omega arith)
         (λ no. let o = lawful.known x (omega arith) in omega arith)
 
-    abbrev in_line : Queue → ℕ
-    in_line q = in_list x (left q)
+    abbrev in_ring : Queue → ℕ
+    in_ring q = in_list x (left q)
 
-    here : 1 ≤ in_line (line_at e 1)
-    here = some_count is_it (left (line_at e 1)) free
+    here : 1 ≤ in_ring (ring_at e 1)
+    here = some_count is_it (left (ring_at e 1)) free
 
-    one_line : 1 ≤ sum_by in_line e.lines
-    one_line = let m = one_sum in_line e.lines 1 (empty_queue 64) refl in let h = here in omega arith
+    one_ring : 1 ≤ sum_by in_ring e.rings
+    one_ring = let m = one_sum in_ring e.rings 1 (empty_queue 64) refl in let h = here in omega arith
 
-    other_line : (line : ℕ) → line ≢ 1 → is_left x (line_at e line) ≡ true → ⊥
-    other_line line apart there =
-        let m = two_sum in_line e.lines line 1 (empty_queue 64) refl apart in let h = here in
-        let t : 1 ≤ in_line (line_at e line) = some_count is_it (left (line_at e line)) there in let f = few in omega arith
+    other_ring : (ring : ℕ) → ring ≢ 1 → is_left x (ring_at e ring) ≡ true → ⊥
+    other_ring ring apart there =
+        let m = two_sum in_ring e.rings ring 1 (empty_queue 64) refl apart in let h = here in
+        let t : 1 ≤ in_ring (ring_at e ring) = some_count is_it (left (ring_at e ring)) there in let f = few in omega arith
 
     pub only_free : (place : Place) → StandsAt call x e place → place ≡ places.Free
     only_free places.Free h = refl
     only_free (places.Processor p) h =
-        let t : 1 ≤ count_by (is_on x) e.processors = on_some e.processors p h in let o = one_line in let f = few in absurd (omega arith)
+        let t : 1 ≤ count_by (is_on x) e.processors = on_some e.processors p h in let o = one_ring in let f = few in absurd (omega arith)
       where
         on_some : (ps : List (Option Hold)) (p : ℕ) → is_on x (get_or ps p None) ≡ true → 1 ≤ count_by (is_on x) ps
         on_some [] p is = absurd (cc)
         on_some (y ∷ ps) zero is = let c = many_cons (is_on x) y ps in let one : plus (is_on x y) ≡ 1 = ap plus is in omega arith
         on_some (y ∷ ps) (suc p) is = let c = many_cons (is_on x) y ps in let m = on_some ps p is in omega arith
-    only_free places.Ready h = absurd (other_line 0 (λ z. omega arith) h)
-    only_free (places.Wait wait) h = absurd (other_line (wait + 2) (λ z. omega arith) h)
-    only_free places.Stopped h = let c = cell_at e.threads h in let o = one_line in let f = few in absurd (omega arith)
+    only_free places.Ready h = absurd (other_ring 0 (λ z. omega arith) h)
+    only_free (places.Wait wait) h = absurd (other_ring (wait + 2) (λ z. omega arith) h)
+    only_free places.Stopped h = let c = cell_at e.threads h in let o = one_ring in let f = few in absurd (omega arith)
     only_free places.Held h =
         let t : 1 ≤ count_by (λ (g : Hold). g.element == x) e.held = some_count (λ (g : Hold). g.element == x) e.held
         (weaker (is_hold call x) (λ (g : Hold). g.element == x) (λ g is. second (g.call == call) (g.element == x) is) e.held h) in
-        let o = one_line in let f = few in absurd (omega arith)
+        let o = one_ring in let f = few in absurd (omega arith)
       where
         second : (a b : Bool) → (a && b) ≡ true → b ≡ true
         second true b is = is
@@ -219,15 +219,15 @@ module _ (x : ℕ) where
 abbrev Solid : Queue → Type 0
 Solid q = (run : ℕ) → run < length q.history → 0 < run_length q.history run
 
-free_solid : (e : Elements) → IsLawfulElements e → Solid (line_at e 1)
-free_solid e lawful = by (cases_lt 1 (length e.lines))
+free_solid : (e : Elements) → IsLawfulElements e → Solid (ring_at e 1)
+free_solid e lawful = by (cases_lt 1 (length e.rings))
   where
-    by : (1 < length e.lines) ⊎ (length e.lines ≤ 1) → Solid (line_at e 1)
-    by (inl low) = let q = every_at IsLawfulQueue e.lines 1 (line_at e 1) (slice_get-get_or e.lines 1 (empty_queue 64) low) lawful.lines in q.solid
-    by (inr past) = subst Solid (sym (get_or-eq_default e.lines (empty_queue 64) past)) (λ run low. absurd (omega arith))
+    by : (1 < length e.rings) ⊎ (length e.rings ≤ 1) → Solid (ring_at e 1)
+    by (inl low) = let q = every_at IsLawfulQueue e.rings 1 (ring_at e 1) (slice_get-get_or e.rings 1 (empty_queue 64) low) lawful.rings in q.solid
+    by (inr past) = subst Solid (sym (get_or-eq_default e.rings (empty_queue 64) past)) (λ run low. absurd (omega arith))
 
 -- as many free elements were taken as the list of the only hand has takings
-pub taken_are : (past : List Event) (l : List Made) → IsAllowed past → AreMade past (l ∷ []) → (line_at (elements_after past) 1).taken ≡ length (free_takings l)
+pub taken_are : (past : List Event) (l : List Made) → IsAllowed past → AreMade past (l ∷ []) → (ring_at (elements_after past) 1).taken ≡ length (free_takings l)
 taken_are past l allowed made =
     let perm = filed_shuffle made.log l made.listed in
     let f : Made → ℕ = λ m. length (taking_by m.event) in
@@ -238,12 +238,12 @@ taken_are past l allowed made =
     let n = numbered_takings begun past in
     let t = (are_told past allowed).1 in omega arith
 
-pub freed_is_left : (past : List Event) (l : List Made) (x : ℕ) → IsAllowed past → AreMade past (l ∷ []) → length (free_takings l) ≤ 64 → was_freed x l ≡ true → is_left x (line_at (elements_after past) 1) ≡ true
+pub freed_is_left : (past : List Event) (l : List Made) (x : ℕ) → IsAllowed past → AreMade past (l ∷ []) → length (free_takings l) ≤ 64 → was_freed x l ≡ true → is_left x (ring_at (elements_after past) 1) ≡ true
 freed_is_left past l x allowed made few freed =
     let perm = filed_shuffle made.log l made.listed in
     let many = taken_are past l allowed made in
     let any = list_any-IsPermutation (λ (m : Made). frees x m.event) l (map entry_of made.log) perm in
-    left_of_freed x (line_at (elements_after past) 1) (retired_in past) (all_solid (line_at (elements_after past) 1).history (free_solid (elements_after past) (lawful_after past allowed))) (are_told past allowed).0 (omega arith)
+    left_of_freed x (ring_at (elements_after past) 1) (retired_in past) (all_solid (ring_at (elements_after past) 1).history (free_solid (elements_after past) (lawful_after past allowed))) (are_told past allowed).0 (omega arith)
     (sym (numbered_frees x begun past) ∙ (ap (was_freed x) (sym made.logged) ∙ (sym any ∙ freed)))
 
 pub freed_is_told : (call : ℕ) (v : View) (stands : List Place) (pcs pending : List ℕ) (stops x : ℕ) → ClosedNow call v stands pcs pending stops → length (free_takings v.made) ≤ 64 → x < 64 → was_freed x v.made ≡ true → slice_index_or stands x places.Held ≡ places.Free

@@ -17,7 +17,7 @@ use Rattle.table_theory.proofs.Ends.{begins_on}
 use Rattle.table_theory.proofs.Members.{known_join}
 use Rattle.thread_table.specs.declared.rule.Shape.{Shape}
 use Rattle.thread_table.specs.declared.rule.View.{View}
-use Rattle.thread_table.specs.Schedules.{state_after, elements_after, line_at, element_at, IsAllowed, Grows}
+use Rattle.thread_table.specs.Schedules.{state_after, elements_after, ring_at, element_at, IsAllowed, Grows}
 use Rattle.thread_table.specs.Shown.{WordsShow}
 use Rattle.thread_table.specs.Rules.{Rule, HandIs, Seen, member_of, IsIdle, serves, running}
 use Rattle.thread_table.specs.Views.{claim_of}
@@ -25,7 +25,7 @@ use Rattle.thread_table.specs.Steps.{either, either_on, both, emptied}
 use Rattle.thread_table.proofs.Owing.{AllOwned, IsOwned, owned_set}
 use Rattle.thread_table.proofs.QueueWords.{none_some}
 use Rattle.thread_table.proofs.Copies.{length-copies, get_or-copies}
-use Rattle.thread_table.proofs.Renaming.{renamed_call, renamed_other, renamed_third, held_third, held_call, held_other, seat_renamed, claim_third, count_third, grows_joined, open_joined, words_joined}
+use Rattle.thread_table.proofs.Renaming.{renamed_call, renamed_other, renamed_third, held_third, held_call, held_other, processor_renamed, claim_third, count_third, grows_joined, open_joined, words_joined}
 use Rattle.thread_table.proofs.Schedules.{after_more, elements_after_more, elements_of, grows_trans}
 use Rattle.std.proofs.lemmas.List.{map-set}
 use Rattle.atomic_table.proofs.Lists.{at_map}
@@ -137,9 +137,9 @@ record Two (id other : ℕ) (v w : View) (e : Elements) : Type 0 where
 
 both_on : (id other p : ℕ) (v w : View) (e : Elements) → Two id other v w e → (serves v p ≡ true) ⊎ (serves w p ≡ true) → slice_get (join_elements id other e).processors p ≡ Some (option_map (hold id) (running (both v w) p))
 both_on id other p v w e h (inl s) = let none : running w p ≡ None = h.its.off p (not_true (serves w p) (λ z. h.apart p s z)) in
-    seat_renamed id other id id p e (running v p) (renamed_call id other) (h.mine.on p s) ∙ sym (ap (λ (x : Option ℕ). Some (option_map (hold id) x)) (either_on_first v.on w.on p none))
+    processor_renamed id other id id p e (running v p) (renamed_call id other) (h.mine.on p s) ∙ sym (ap (λ (x : Option ℕ). Some (option_map (hold id) x)) (either_on_first v.on w.on p none))
 both_on id other p v w e h (inr s) = let none : running v p ≡ None = h.mine.off p (not_true (serves v p) (λ z. h.apart p z s)) in
-    seat_renamed id other other id p e (running w p) (renamed_other id other) (h.its.on p s)
+    processor_renamed id other other id p e (running w p) (renamed_other id other) (h.its.on p s)
     ∙ sym (ap (λ (x : Option ℕ). Some (option_map (hold id) x)) (either_on_other v.on w.on p (h.mine.on_long ∙ sym h.its.on_long) none))
 
 both_off : (id other p : ℕ) (v w : View) (e : Elements) → Two id other v w e → (serves v p ≡ false) × (serves w p ≡ false) → running (both v w) p ≡ None
@@ -182,7 +182,7 @@ hand_third id other call u e ne ne' h = record {
   serves_long = h.serves_long;
   on_long = h.on_long;
   held = λ element. held_third id other call element e ne ne' ∙ h.held element;
-  on = λ p s. seat_renamed id other call call p e (running u p) (renamed_third id other call ne') (h.on p s);
+  on = λ p s. processor_renamed id other call call p e (running u p) (renamed_third id other call ne') (h.on p s);
   off = h.off;
   claimed = λ c is. claim_third id other call c e ne' (h.claimed c is);
   counted = λ c is. count_third id other call c e ne ne' (h.counted c is);
@@ -236,10 +236,10 @@ seen_more u past event more seen = record {
 -- neither hand had a claim, and the others keep theirs
 owned_joined : (views : List View) (id other : ℕ) (v w a b : View) (e : Elements) → get_elem? views id ≡ some v → get_elem? (set views id a) other ≡ some w → v.claimed ≡ None → w.claimed ≡ None
     → AllOwned views e → AllOwned (set (set views id a) other b) (join_elements id other e)
-owned_joined views id other v w a b e at there idle idle' owned line run below is =
-    let old = open_joined id other e line run is in let c = claim_of line run (element_at (line_at e line) run) in
-    subst (λ (x : ℕ). IsOwned (set (set views id a) other b) (claim_of line run x)) (sym ((grows_joined id other e line).items run old.0))
-    (owned_set (set views id a) other w b c there (λ claims. none_some c w.claimed idle' claims) (owned_set views id v a c at (λ claims. none_some c v.claimed idle claims) (owned line run below old)))
+owned_joined views id other v w a b e at there idle idle' owned ring run below is =
+    let old = open_joined id other e ring run is in let c = claim_of ring run (element_at (ring_at e ring) run) in
+    subst (λ (x : ℕ). IsOwned (set (set views id a) other b) (claim_of ring run x)) (sym ((grows_joined id other e ring).items run old.0))
+    (owned_set (set views id a) other w b c there (λ claims. none_some c w.claimed idle' claims) (owned_set views id v a c at (λ claims. none_some c v.claimed idle claims) (owned ring run below old)))
 
 pub joins : (key : Shape) (id other : ℕ) (v w : View) → IsActive v → IsActive w → v.claimed ≡ None → w.claimed ≡ None → Joins (Rule key) id v other w (both v w) (emptied v)
 joins key id other v w live live' idle idle' s k at ne there = let at' : get_elem? s.views other ≡ some w = sym (set_else s.views id other (both v w) ne) ∙ there in

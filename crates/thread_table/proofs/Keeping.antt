@@ -12,7 +12,7 @@ use Rattle.thread_table.specs.declared.states.Signalled.{Signalled}
 use Rattle.thread_table.specs.declared.states.Signalled.TheVariants as signalled
 use Rattle.thread_table.specs.declared.states.Lost.{Lost}
 use Rattle.thread_table.specs.declared.programs.Spent.{Spent}
-use Rattle.thread_table.specs.Steps.{Found, Did, Counts}
+use Rattle.thread_table.specs.Steps.{Found, Did, ReadPc}
 use Rattle.thread_table.specs.Answers.{FoundFirst, TakeAnswer, MovedTo, MoveAnswer, WaitAnswer, StoppedNow, StartAnswer, ParkAnswer, SignalAnswer, DeliverAnswer, DoneAnswer}
 use Rattle.thread_table.specs.Wakes.{WokeAll, NotifiedNow, BeforeAnswer}
 use Rattle.thread_table.specs.Keeping.{Keeps, Stays}
@@ -33,20 +33,20 @@ stays_found v w word found f = record {
 found_two : (u v w : View) (i r j s : ℕ) → Found u i r v → Found v j s w → Stays u w
 found_two u v w i r j s a b = stays_on u v w (stays_found u v i r a) (stays_found v w j s b)
 
-first_stays : (u w : View) (line tail place : ℕ) → FoundFirst u line tail place w → Stays u w
-first_stays u w line tail place f = found_two u f.loaded w _ _ _ _ f.tail_loaded f.place_loaded
+first_stays : (u w : View) (ring tail place : ℕ) → FoundFirst u ring tail place w → Stays u w
+first_stays u w ring tail place f = found_two u f.loaded w _ _ _ _ f.tail_loaded f.place_loaded
 
-pub take_stays : (call line : ℕ) (v w : View) (r : NextRefusal) → TakeAnswer call v line (Err r) w → Stays v w
-take_stays call line v w nexts.NoneReady a = stays_on v a.before w (first_stays v a.before line a.tail a.place a.found) (stays_found a.before w _ _ a.tail_again)
-take_stays call line v w (nexts.Lost seen) answer = ⊎_elim
-    (λ a. stays_on v a.before w (first_stays v a.before line a.tail a.place a.found) (stays_found a.before w _ _ a.tail_again))
-    (λ a. stays_on v a.before w (first_stays v a.before line a.tail a.place a.found) (stays_found a.before w _ _ a.missed))
+pub take_stays : (call ring : ℕ) (v w : View) (r : NextRefusal) → TakeAnswer call v ring (Err r) w → Stays v w
+take_stays call ring v w nexts.NoneReady a = stays_on v a.before w (first_stays v a.before ring a.tail a.place a.found) (stays_found a.before w _ _ a.tail_again)
+take_stays call ring v w (nexts.Lost seen) answer = ⊎_elim
+    (λ a. stays_on v a.before w (first_stays v a.before ring a.tail a.place a.found) (stays_found a.before w _ _ a.tail_again))
+    (λ a. stays_on v a.before w (first_stays v a.before ring a.tail a.place a.found) (stays_found a.before w _ _ a.missed))
     answer
 
-pub move_stays : (call line element : ℕ) (v w : View) (r : MoveRefusal) → MoveAnswer call v line element (Err r) w → Stays v w
-move_stays call line element v w moves.Spent a = stays_found v w _ _ a.loaded
-move_stays call line element v w (moves.Lost seen) a = found_two v a.before w _ _ _ _ a.found.loaded a.missed
-move_stays call line element v w (moves.Moved mark) a = absurd a
+pub move_stays : (call ring element : ℕ) (v w : View) (r : MoveRefusal) → MoveAnswer call v ring element (Err r) w → Stays v w
+move_stays call ring element v w moves.Spent a = stays_found v w _ _ a.loaded
+move_stays call ring element v w (moves.Lost seen) a = found_two v a.before w _ _ _ _ a.found.loaded a.missed
+move_stays call ring element v w (moves.Moved mark) a = absurd a
 
 pub wait_stays : (call wait element ticket : ℕ) (v w : View) (r : MoveRefusal) → WaitAnswer call v wait element ticket (Err r) w → Stays v w
 wait_stays call wait element ticket v w moves.Spent a = stays_found v w _ _ a.loaded
@@ -62,7 +62,7 @@ park_stays call element v w r a = found_two v a.before w _ _ _ _ a.loaded a.miss
 pub deliver_stays : (call element : ℕ) (v w : View) (r : Lost) → DeliverAnswer call v element (Err r) w → Stays v w
 deliver_stays call element v w r a = found_two v a.before w _ _ _ _ a.loaded a.missed
 
-pub counts_stay : (element found : ℕ) (v w : View) → Counts element v found w → Stays v w
+pub counts_stay : (element found : ℕ) (v w : View) → ReadPc element v found w → Stays v w
 counts_stay element found v w c = record {
   keeps = record { first = ap (λ (z : View). z.first) c.same; serves = ap (λ (z : View). z.serves) c.same; on = ap (λ (z : View). z.on) c.same; share = ap (λ (z : View). z.member.share) c.same };
   held = ap (λ (z : View). z.held) c.same;
@@ -84,18 +84,18 @@ did_keeps call v w word found event knows l d = record {
   share = ap (λ (z : View). z.member.share) d.same ∙ l.share d.before;
 }
 
-moved_keeps : (call line element : ℕ) (event : Event) (v w : View) → MovedTo call v line element event w → Keeps v w
-moved_keeps call line element event v w a = keeps_on v a.before w (stays_found v a.before _ _ a.found.loaded).keeps
+moved_keeps : (call ring element : ℕ) (event : Event) (v w : View) → MovedTo call v ring element event w → Keeps v w
+moved_keeps call ring element event v w a = keeps_on v a.before w (stays_found v a.before _ _ a.found.loaded).keeps
     (keeps_on a.before a.between w (did_keeps call a.before a.between _ _ _ _ record { first = λ _. refl; serves = λ _. refl; on = λ _. refl; share = λ _. refl } a.claims.did)
     (did_keeps call a.between w _ _ _ _ record { first = λ _. refl; serves = λ _. refl; on = λ _. refl; share = λ _. refl } a.raises))
 
-pub take_keeps : (call line : ℕ) (v w : View) (r : Result ℕ NextRefusal) → TakeAnswer call v line r w → Keeps v w
-take_keeps call line v w (Ok element) a = keeps_on v a.before w (first_stays v a.before line a.tail a.place a.found).keeps (did_keeps call a.before w _ _ _ _ record { first = λ _. refl; serves = λ _. refl; on = λ _. refl; share = λ _. refl } a.took.did)
-take_keeps call line v w (Err r) a = (take_stays call line v w r a).keeps
+pub take_keeps : (call ring : ℕ) (v w : View) (r : Result ℕ NextRefusal) → TakeAnswer call v ring r w → Keeps v w
+take_keeps call ring v w (Ok element) a = keeps_on v a.before w (first_stays v a.before ring a.tail a.place a.found).keeps (did_keeps call a.before w _ _ _ _ record { first = λ _. refl; serves = λ _. refl; on = λ _. refl; share = λ _. refl } a.took.did)
+take_keeps call ring v w (Err r) a = (take_stays call ring v w r a).keeps
 
-pub move_keeps : (call line element : ℕ) (v w : View) (r : Result (Unit {0}) MoveRefusal) → MoveAnswer call v line element r w → Keeps v w
-move_keeps call line element v w (Ok done) a = moved_keeps call line element _ v w a
-move_keeps call line element v w (Err r) a = (move_stays call line element v w r a).keeps
+pub move_keeps : (call ring element : ℕ) (v w : View) (r : Result (Unit {0}) MoveRefusal) → MoveAnswer call v ring element r w → Keeps v w
+move_keeps call ring element v w (Ok done) a = moved_keeps call ring element _ v w a
+move_keeps call ring element v w (Err r) a = (move_stays call ring element v w r a).keeps
 
 pub wait_keeps : (call wait element ticket : ℕ) (v w : View) (r : Result (Unit {0}) MoveRefusal) → WaitAnswer call v wait element ticket r w → Keeps v w
 wait_keeps call wait element ticket v w (Ok done) a = moved_keeps call _ element _ v w a.moved
@@ -134,10 +134,10 @@ wake_keeps call wait mask v w a = record { first = ap (λ (z : View). z.first) a
 pub notify_keeps : (call wait head : ℕ) (v w : View) → NotifiedNow call v wait head w → Keeps v w
 notify_keeps call wait head v w a = did_keeps call v w _ _ _ _ record { first = λ _. refl; serves = λ _. refl; on = λ _. refl; share = λ _. refl } a.notifies.did
 
-pub before_stays : (call line head : ℕ) (v w : View) (r : NextRefusal) → BeforeAnswer call v line head (Err r) w → Stays v w
-before_stays call line head v w r a = stays_on v a.before w (stays_found v a.before _ _ a.tail_loaded) (take_stays call line a.before w r a.taken)
+pub before_stays : (call ring head : ℕ) (v w : View) (r : NextRefusal) → BeforeAnswer call v ring head (Err r) w → Stays v w
+before_stays call ring head v w r a = stays_on v a.before w (stays_found v a.before _ _ a.tail_loaded) (take_stays call ring a.before w r a.taken)
 
-pub before_keeps : (call line head : ℕ) (v w : View) (r : Result (Option ℕ) NextRefusal) → BeforeAnswer call v line head r w → Keeps v w
-before_keeps call line head v w (Ok None) a = (stays_found v w _ _ a.tail_loaded).keeps
-before_keeps call line head v w (Ok (Some element)) a = keeps_on v a.tried.before w (stays_found v a.tried.before _ _ a.tried.tail_loaded).keeps (take_keeps call line a.tried.before w (Ok element) a.tried.taken)
-before_keeps call line head v w (Err r) a = (before_stays call line head v w r a).keeps
+pub before_keeps : (call ring head : ℕ) (v w : View) (r : Result (Option ℕ) NextRefusal) → BeforeAnswer call v ring head r w → Keeps v w
+before_keeps call ring head v w (Ok None) a = (stays_found v w _ _ a.tail_loaded).keeps
+before_keeps call ring head v w (Ok (Some element)) a = keeps_on v a.tried.before w (stays_found v a.tried.before _ _ a.tried.tail_loaded).keeps (take_keeps call ring a.tried.before w (Ok element) a.tried.taken)
+before_keeps call ring head v w (Err r) a = (before_stays call ring head v w r a).keeps

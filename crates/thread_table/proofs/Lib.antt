@@ -13,7 +13,7 @@ pub mod Notices
 pub mod Releases
 pub mod Outside
 pub mod Handing
-pub mod Seatings
+pub mod OnProcessors
 pub mod Bits
 pub mod Parkings
 pub mod Courses
@@ -45,6 +45,6 @@ pub mod Filings
 pub mod Once
 pub mod Keeping
 pub mod Retiring
-pub mod Counts
+pub mod ReadPc
 pub mod Shuffles
 pub mod Freed

@@ -8,7 +8,7 @@ use mathlib.Core.Option as maybe
 use mathlib.Core.Logic.{dite}
 use native.Mathlib.Decide.{dec_lt, dec_le, ℕ_discrete}
 use lib.ListN.{get_elem?}
-use Rattle.thread_table.specs.Closings.{SeatOf, IsIn, LineOf, PlaceOf, place_by, word_at}
+use Rattle.thread_table.specs.Closings.{ProcessorOf, IsIn, RingOf, PlaceOf, place_by, word_at}
 use Rattle.thread_table.specs.Shown.{head_word, tail_word, place_word}
 use Rattle.thread_table.specs.declared.places.Place.TheVariants as places
 
@@ -27,26 +27,26 @@ below_next P n below here m less = dite (dec_lt m n) (λ yes. below m yes) (λ n
 
 -- no place of the queue before this position has the element
 abbrev pub NotBefore : ℕ → List ℕ → ℕ → ℕ → ℕ → Type 0
-NotBefore element words line tail position = (p : ℕ) → p < position → tail ≤ p → word_at words (place_word line p) % 256 ≢ element
+NotBefore element words ring tail position = (p : ℕ) → p < position → tail ≤ p → word_at words (place_word ring p) % 256 ≢ element
 
 -- the head and the tail as they were read
-pub found_in : (element : ℕ) (words : List ℕ) (line h head tail position word i k j : ℕ) → i ≡ head_word line → k ≡ head_word line → j ≡ place_word line position
+pub found_in : (element : ℕ) (words : List ℕ) (ring h head tail position word i k j : ℕ) → i ≡ head_word ring → k ≡ head_word ring → j ≡ place_word ring position
     → get_elem? words i ≡ maybe.some h → get_elem? words (k + 1) ≡ maybe.some tail → get_elem? words j ≡ maybe.some word
     → (mark : ℕ) → h ≡ head + mark * 4294967296 → head < 4294967296
-    → tail ≤ position → position < head → word % 256 ≡ element → IsIn element words line
-found_in element words line h head tail position word i k j ii kk jj at_h at_t at_w mark parts small from to is =
-    let a : word_at words (head_word line) ≡ h = read_there words i (head_word line) h ii at_h in
-    let t : word_at words (tail_word line) ≡ tail = read_there words (k + 1) (tail_word line) tail (omega arith) at_t in
-    let w : word_at words (place_word line position) ≡ word = read_there words j (place_word line position) word jj at_w in
+    → tail ≤ position → position < head → word % 256 ≡ element → IsIn element words ring
+found_in element words ring h head tail position word i k j ii kk jj at_h at_t at_w mark parts bounded from to is =
+    let a : word_at words (head_word ring) ≡ h = read_there words i (head_word ring) h ii at_h in
+    let t : word_at words (tail_word ring) ≡ tail = read_there words (k + 1) (tail_word ring) tail (omega arith) at_t in
+    let w : word_at words (place_word ring position) ≡ word = read_there words j (place_word ring position) word jj at_w in
     (position, omega arith, omega arith, ap (λ (n : ℕ). n % 256) w ∙ is)
 
-pub not_in : (element : ℕ) (words : List ℕ) (line h head tail position i k : ℕ) → i ≡ head_word line → k ≡ head_word line
+pub not_in : (element : ℕ) (words : List ℕ) (ring h head tail position i k : ℕ) → i ≡ head_word ring → k ≡ head_word ring
     → get_elem? words i ≡ maybe.some h → get_elem? words (k + 1) ≡ maybe.some tail
     → (mark : ℕ) → h ≡ head + mark * 4294967296 → head < 4294967296
-    → head ≤ position → NotBefore element words line tail position → IsIn element words line → ⊥
-not_in element words line h head tail position i k ii kk at_h at_t mark parts small past none is =
-    let a : word_at words (head_word line) ≡ h = read_there words i (head_word line) h ii at_h in
-    let t : word_at words (tail_word line) ≡ tail = read_there words (k + 1) (tail_word line) tail (omega arith) at_t in
+    → head ≤ position → NotBefore element words ring tail position → IsIn element words ring → ⊥
+not_in element words ring h head tail position i k ii kk at_h at_t mark parts bounded past none is =
+    let a : word_at words (head_word ring) ≡ h = read_there words i (head_word ring) h ii at_h in
+    let t : word_at words (tail_word ring) ≡ tail = read_there words (k + 1) (tail_word ring) tail (omega arith) at_t in
     let from = is.1 in let to = is.2 in
     none is.0 (omega arith) (omega arith) is.3
 
@@ -67,27 +67,27 @@ any_below P each (suc n) = ⊎_elim
     (each n))
     (any_below P each n)
 
-stands_there : (element : ℕ) (words : List ℕ) (line position : ℕ) → ((word_at words (tail_word line) ≤ position) × (word_at words (place_word line position) % 256 ≡ element))
-    ⊎ ((word_at words (tail_word line) ≤ position) × (word_at words (place_word line position) % 256 ≡ element) → ⊥)
-stands_there element words line position = dite (dec_le (word_at words (tail_word line)) position)
-    (λ from. dite (ℕ_discrete (word_at words (place_word line position) % 256) element) (λ is. inl (from, is)) (λ ne. inr (λ h. ne h.1)))
+stands_there : (element : ℕ) (words : List ℕ) (ring position : ℕ) → ((word_at words (tail_word ring) ≤ position) × (word_at words (place_word ring position) % 256 ≡ element))
+    ⊎ ((word_at words (tail_word ring) ≤ position) × (word_at words (place_word ring position) % 256 ≡ element) → ⊥)
+stands_there element words ring position = dite (dec_le (word_at words (tail_word ring)) position)
+    (λ from. dite (ℕ_discrete (word_at words (place_word ring position) % 256) element) (λ is. inl (from, is)) (λ ne. inr (λ h. ne h.1)))
     (λ no. inr (λ h. no h.0))
 
-is_in_or_not : (element : ℕ) (words : List ℕ) (line : ℕ) → IsIn element words line ⊎ (IsIn element words line → ⊥)
-is_in_or_not element words line = ⊎_elim
+is_in_or_not : (element : ℕ) (words : List ℕ) (ring : ℕ) → IsIn element words ring ⊎ (IsIn element words ring → ⊥)
+is_in_or_not element words ring = ⊎_elim
     (λ found. inl (found.0, found.2.0, found.1, found.2.1))
     (λ none. inr (λ is. none is.0 is.2 (is.1, is.3)))
-    (any_below (λ (p : ℕ). (word_at words (tail_word line) ≤ p) × (word_at words (place_word line p) % 256 ≡ element)) (stands_there element words line) (word_at words (head_word line) % 4294967296))
+    (any_below (λ (p : ℕ). (word_at words (tail_word ring) ≤ p) × (word_at words (place_word ring p) % 256 ≡ element)) (stands_there element words ring) (word_at words (head_word ring) % 4294967296))
 
 -- the element stands in a queue or in none
-pub some_line : (element : ℕ) (words : List ℕ) → (line : Option ℕ) × LineOf element words line
-some_line element words = ⊎_elim
+pub some_ring : (element : ℕ) (words : List ℕ) → (ring : Option ℕ) × RingOf element words ring
+some_ring element words = ⊎_elim
     (λ found. (Some found.0, (found.1, found.2)))
     (λ none. (None, none))
     (any_below (IsIn element words) (is_in_or_not element words) 18)
 
-pub on_seat : (element : ℕ) (words : List ℕ) (p : ℕ) → SeatOf element words (Some p) → PlaceOf element words (places.Processor p)
-on_seat element words p seat = let line = some_line element words in (Some p, line.0, seat, line.1, refl)
+pub on_its_processor : (element : ℕ) (words : List ℕ) (p : ℕ) → ProcessorOf element words (Some p) → PlaceOf element words (places.Processor p)
+on_its_processor element words p seat = let ring = some_ring element words in (Some p, ring.0, seat, ring.1, refl)
 
 -- a list that was filled so far is filled by one entry more
 pub filled_next : {X : Type 0} (P : ℕ → X → Type 0) (xs : List X) (many n i : ℕ) (x d : X) → i ≡ n → n < many → P n x → (length xs ≡ many) × ((m : ℕ) → m < n → P m (get_or xs m d))
@@ -105,7 +105,7 @@ abbrev pub BitsBelow : (ℕ → ℕ) → ℕ → ℕ → Type 0
 BitsBelow f n bits = ((x : ℕ) → x < n → bit_at bits x ≡ f x) × ((x : ℕ) → n ≤ x → bit_at bits x ≡ 0)
 
 pub bit_next_one : (f : ℕ → ℕ) (n old new : ℕ) → n < 64 → new ≡ bit_or old (1 * 2 ^ n % 18446744073709551616) → f n ≡ 1 → BitsBelow f n old → BitsBelow f (n + 1) new
-bit_next_one f n old new below is one bits = let small : 2 ^ n < 2 ^ 64 = pow-lt {i = n} {j = 64} below in let same : 1 * 2 ^ n % 18446744073709551616 ≡ 2 ^ n = omega arith in
+bit_next_one f n old new below is one bits = let bounded : 2 ^ n < 2 ^ 64 = pow-lt {i = n} {j = 64} below in let same : 1 * 2 ^ n % 18446744073709551616 ≡ 2 ^ n = omega arith in
     let now : new ≡ bit_or old (2 ^ n) = is ∙ ap (bit_or old) same in (
       λ x less. dite (ℕ_discrete x n)
           (λ here. ap (λ b. bit_at b x) now ∙ (ap (bit_at (bit_or old (2 ^ n))) here ∙ (set_bit_same old n ∙ (sym one ∙ ap f (sym here)))))

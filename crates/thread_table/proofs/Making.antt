@@ -63,7 +63,7 @@ hand_left others id j v u e f leaves lawful long other apart h = record {
   serves_long = h.serves_long;
   on_long = h.on_long;
   held = λ x. leaves.held j x other ∙ h.held x;
-  on = λ p up. leaves.seats p (apart p up) ∙ h.on p up;
+  on = λ p up. leaves.processors p (apart p up) ∙ h.on p up;
   off = h.off;
   claimed = λ c is. leaves.runs j c other (h.claimed c is);
   counted = λ c is. let n = h.counted c is in record {

@@ -16,7 +16,7 @@ none_is None is = refl
 none_is (Some n) is = absurd (true≢false is)
 
 one_bit : (q : ℕ) → q < 8 → 1 * 2 ^ q % 256 ≡ 2 ^ q
-one_bit q below = let small : 2 ^ q < 256 = pow-lt {i = q} {j = 8} below in omega arith
+one_bit q below = let bounded : 2 ^ q < 256 = pow-lt {i = q} {j = 8} below in omega arith
 
 one_by : (v : View) (q p : ℕ) → IsEmpty v q → is_in (2 ^ q) p ≡ true
     → ((eqb p q ≡ true) × (p ≡ q)) ⊎ ((eqb p q ≡ false) × (p ≢ q)) → IsEmpty v p

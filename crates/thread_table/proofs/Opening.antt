@@ -17,8 +17,8 @@ use Rattle.table_theory.proofs.Ends.{begins_refl}
 use Rattle.table_theory.proofs.Members.{known_first}
 use Rattle.thread_table.specs.declared.rule.Shape.{Shape}
 use Rattle.thread_table.specs.declared.rule.View.{View}
-use Rattle.thread_table.specs.Schedules.{elements_after, line_at, thread_at, element_at, element_of, no_run}
-use Rattle.thread_table.specs.Shown.{WordsShow, LineShows, StateShows, head_word, tail_word, place_word, seat_shown, mark_of}
+use Rattle.thread_table.specs.Schedules.{elements_after, ring_at, thread_at, element_at, element_of, no_run}
+use Rattle.thread_table.specs.Shown.{WordsShow, RingShows, StateShows, head_word, tail_word, place_word, processor_shown, mark_of}
 use Rattle.thread_table.specs.Rules.{IsSteady, IsNewest, Rule, HandIs, Seen, IsOpen, newcomer, member_of, IsIdle}
 use Rattle.thread_table.proofs.Owing.{AllOwned}
 use Rattle.thread_table.proofs.Courses.{no_joins, course_opened}
@@ -28,19 +28,19 @@ use Rattle.thread_table.proofs.Copies.{length-copies, get_or-copies, slice_get-c
 use Rattle.thread_table.proofs.Schedules.{after_none, elements_of, grows_refl}
 
 -- an element queue that is empty, and whose words are as they were made
-empty_shows : (first line : ℕ) (e : Elements) (words : List ℕ) → line_at e line ≡ empty_queue 64 → mark_of e line ≡ 0 → first + 64 < 4294967296 → get_or words (head_word line) 0 ≡ first → get_or words (tail_word line) 0 ≡ first
-    → ((i : ℕ) → i < 64 → get_or words (66 * line + 139 + i) 0 ≡ 0) → LineShows first e line words
-empty_shows first line e words is none fits head tail zeros =
-    let long : length (line_at e line).history ≡ 0 = ap (λ (q : Queue). length q.history) is in let at : (line_at e line).taken ≡ 0 = ap (λ (q : Queue). q.taken) is in record {
+empty_shows : (first ring : ℕ) (e : Elements) (words : List ℕ) → ring_at e ring ≡ empty_queue 64 → mark_of e ring ≡ 0 → first + 64 < 4294967296 → get_or words (head_word ring) 0 ≡ first → get_or words (tail_word ring) 0 ≡ first
+    → ((i : ℕ) → i < 64 → get_or words (66 * ring + 139 + i) 0 ≡ 0) → RingShows first e ring words
+empty_shows first ring e words is none fits head tail zeros =
+    let long : length (ring_at e ring).history ≡ 0 = ap (λ (q : Queue). length q.history) is in let at : (ring_at e ring).taken ≡ 0 = ap (λ (q : Queue). q.taken) is in record {
       capacity = ap (λ (q : Queue). q.capacity) is;
       is_open = ap (λ (q : Queue). q.shut) is;
       single = λ number run there. let no : None ≡ Some run = sym (ap (λ (q : Queue). slice_get q.history number) is) ∙ there in absurd (cc);
-      small = omega arith;
+      bounded = omega arith;
       marked = omega arith;
       head = omega arith;
       tail = omega arith;
-      places = λ run from to. let z : get_or words (place_word line (first + run)) 0 ≡ 0 = zeros ((first + run) % 64) (omega arith) in record {
-        up = λ up. let low : (line_at e line).raised run 0 ≡ false = ap (λ (q : Queue). q.raised run 0) is in absurd (cc);
+      places = λ run from to. let z : get_or words (place_word ring (first + run)) 0 ≡ 0 = zeros ((first + run) % 64) (omega arith) in record {
+        up = λ up. let low : (ring_at e ring).raised run 0 ≡ false = ap (λ (q : Queue). q.raised run 0) is in absurd (cc);
         low = λ _. omega arith;
       };
     }
@@ -61,26 +61,26 @@ full_raised : (count run : ℕ) → run < count → (full_queue count).raised ru
 full_raised count run below = let t : ltb run count ≡ true = grind (arith, nat_tests) in rw t refl
 
 -- the free elements
-full_shows : (first : ℕ) (e : Elements) (words : List ℕ) → line_at e 1 ≡ full_queue 64 → first + 64 < 4294967296 → get_or words (head_word 1) 0 ≡ first + 64 → get_or words (tail_word 1) 0 ≡ first
-    → ((x : ℕ) → x < 64 → get_or words (place_word 1 (first + x)) 0 ≡ x + 256 * (first + x + 1)) → LineShows first e 1 words
+full_shows : (first : ℕ) (e : Elements) (words : List ℕ) → ring_at e 1 ≡ full_queue 64 → first + 64 < 4294967296 → get_or words (head_word 1) 0 ≡ first + 64 → get_or words (tail_word 1) 0 ≡ first
+    → ((x : ℕ) → x < 64 → get_or words (place_word 1 (first + x)) 0 ≡ x + 256 * (first + x + 1)) → RingShows first e 1 words
 full_shows first e words is fits head tail items =
-    let long : length (line_at e 1).history ≡ 64 = ap (λ (q : Queue). length q.history) is ∙ length-map-range_with_len single 0 64 in let at : (line_at e 1).taken ≡ 0 = ap (λ (q : Queue). q.taken) is in record {
+    let long : length (ring_at e 1).history ≡ 64 = ap (λ (q : Queue). length q.history) is ∙ length-map-range_with_len single 0 64 in let at : (ring_at e 1).taken ≡ 0 = ap (λ (q : Queue). q.taken) is in record {
       capacity = ap (λ (q : Queue). q.capacity) is;
       is_open = ap (λ (q : Queue). q.shut) is;
       single = λ number run there. single_long 0 64 number run (sym (ap (λ (q : Queue). slice_get q.history number) is) ∙ there);
-      small = omega arith;
+      bounded = omega arith;
       marked = omega arith;
       head = omega arith;
       tail = omega arith;
       places = λ run from to. let below : run < 64 = omega arith in record {
         up = λ _. items run below ∙ sym (ap (λ (x : ℕ). x + 256 * (first + run + 1)) (ap (λ (q : Queue). element_at q run) is ∙ full_item 64 run below));
-        low = λ low. let up : (line_at e 1).raised run 0 ≡ true = ap (λ (q : Queue). q.raised run 0) is ∙ full_raised 64 run below in absurd (cc);
+        low = λ low. let up : (ring_at e 1).raised run 0 ≡ true = ap (λ (q : Queue). q.raised run 0) is ∙ full_raised 64 run below in absurd (cc);
       };
     }
 
 state_shows : (thread : Thread) (word : ℕ) → thread ≡ new_thread → word ≡ 0 → StateShows thread word
 state_shows thread word is zero_is = subst (λ (t : Thread). StateShows t word) (sym is) (subst (StateShows new_thread) (sym zero_is) (record {
-  small = omega arith;
+  bounded = omega arith;
   pending = λ signal below. bit_at-zero signal;
   stop = bit_at-zero 16;
   parked = bit_at-zero 17;
@@ -93,19 +93,19 @@ no_hold = None
 abbrev e64 : Elements
 e64 = first_elements 64
 
-lines_show : (first : ℕ) (words : List ℕ) → first + 64 < 4294967296 → ((line : ℕ) → line < 18 → get_or words (head_word line) 0 ≡ first + cond (eqb line 1) 64 0) → ((line : ℕ) → line < 18 → get_or words (tail_word line) 0 ≡ first)
-    → ((x : ℕ) → x < 64 → get_or words (place_word 1 (first + x)) 0 ≡ x + 256 * (first + x + 1)) → ((line i : ℕ) → line < 18 → line ≢ 1 → i < 64 → get_or words (66 * line + 139 + i) 0 ≡ 0)
-    → (line : ℕ) → line < 18 → LineShows first e64 line words
-lines_show first words fits head tail items zeros zero below = empty_shows first 0 e64 words refl refl fits (let h = head 0 below in omega arith) (tail 0 below) (λ i within. zeros 0 i below (λ e. omega arith) within)
-lines_show first words fits head tail items zeros (suc zero) below = full_shows first e64 words refl fits (head 1 below) (tail 1 below) items
-lines_show first words fits head tail items zeros (suc (suc wait)) below = let line : ℕ = suc (suc wait) in
-    empty_shows first line e64 words (get_or-copies 16 (empty_queue 64) wait) (get_or-copies {X = ℕ} 16 0 wait) fits
-    (let h = head line below in h ∙ (ap (λ (b : Bool). first + cond b 64 0) (ne_eqb line 1 (λ e. omega arith)) ∙ add-zero first))
-    (tail line below) (λ i within. zeros line i below (λ e. omega arith) within)
+rings_show : (first : ℕ) (words : List ℕ) → first + 64 < 4294967296 → ((ring : ℕ) → ring < 18 → get_or words (head_word ring) 0 ≡ first + cond (eqb ring 1) 64 0) → ((ring : ℕ) → ring < 18 → get_or words (tail_word ring) 0 ≡ first)
+    → ((x : ℕ) → x < 64 → get_or words (place_word 1 (first + x)) 0 ≡ x + 256 * (first + x + 1)) → ((ring i : ℕ) → ring < 18 → ring ≢ 1 → i < 64 → get_or words (66 * ring + 139 + i) 0 ≡ 0)
+    → (ring : ℕ) → ring < 18 → RingShows first e64 ring words
+rings_show first words fits head tail items zeros zero below = empty_shows first 0 e64 words refl refl fits (let h = head 0 below in omega arith) (tail 0 below) (λ i within. zeros 0 i below (λ e. omega arith) within)
+rings_show first words fits head tail items zeros (suc zero) below = full_shows first e64 words refl fits (head 1 below) (tail 1 below) items
+rings_show first words fits head tail items zeros (suc (suc wait)) below = let ring : ℕ = suc (suc wait) in
+    empty_shows first ring e64 words (get_or-copies 16 (empty_queue 64) wait) (get_or-copies {X = ℕ} 16 0 wait) fits
+    (let h = head ring below in h ∙ (ap (λ (b : Bool). first + cond b 64 0) (ne_eqb ring 1 (λ e. omega arith)) ∙ add-zero first))
+    (tail ring below) (λ i within. zeros ring i below (λ e. omega arith) within)
 
 pub first_shows : (first : ℕ) (words : List ℕ) → first + 64 < 4294967296 → length words ≡ 1325 → ((i : ℕ) → 1 ≤ i → i < 73 → get_or words i 0 ≡ 0) → ((i : ℕ) → 73 ≤ i → i < 137 → get_or words i 0 ≡ 0)
-    → ((line : ℕ) → line < 18 → get_or words (head_word line) 0 ≡ first + cond (eqb line 1) 64 0) → ((line : ℕ) → line < 18 → get_or words (tail_word line) 0 ≡ first)
-    → ((x : ℕ) → x < 64 → get_or words (place_word 1 (first + x)) 0 ≡ x + 256 * (first + x + 1)) → ((line i : ℕ) → line < 18 → line ≢ 1 → i < 64 → get_or words (66 * line + 139 + i) 0 ≡ 0)
+    → ((ring : ℕ) → ring < 18 → get_or words (head_word ring) 0 ≡ first + cond (eqb ring 1) 64 0) → ((ring : ℕ) → ring < 18 → get_or words (tail_word ring) 0 ≡ first)
+    → ((x : ℕ) → x < 64 → get_or words (place_word 1 (first + x)) 0 ≡ x + 256 * (first + x + 1)) → ((ring i : ℕ) → ring < 18 → ring ≢ 1 → i < 64 → get_or words (66 * ring + 139 + i) 0 ≡ 0)
     → WordsShow first e64 words
 first_shows first words fits long none unstepped head tail items zeros = record {
   wide = long;
@@ -113,11 +113,11 @@ first_shows first words fits long none unstepped head tail items zeros = record 
   queues = refl;
   waits = length-copies {X = ℕ} 16 0;
   processors = length-copies 8 no_hold;
-  seats = λ p below. none (p + 1) (omega arith) (omega arith) ∙ sym (ap seat_shown (get_or-copies 8 no_hold p));
+  processors = λ p below. none (p + 1) (omega arith) (omega arith) ∙ sym (ap processor_shown (get_or-copies 8 no_hold p));
   states = λ x below. state_shows (thread_at e64 x) (get_or words (x + 9) 0) (get_or-copies 64 new_thread x) (none (x + 9) (omega arith) (omega arith));
   steps = λ x below. unstepped (x + 73) (omega arith) (omega arith) ∙ sym (ap (λ (t : Thread). t.done) (get_or-copies 64 new_thread x));
   few = λ x below. let z : (thread_at e64 x).done ≡ 0 = ap (λ (t : Thread). t.done) (get_or-copies 64 new_thread x) in omega arith;
-  lines = lines_show first words fits head tail items zeros;
+  rings = rings_show first words fits head tail items zeros;
 }
 
 abbrev none_on : Option ℕ
@@ -141,11 +141,11 @@ only Q w mine zero u has = subst (Q 0) (some-injective w u has) mine
 only Q w mine (suc i) u has = absurd (some-ne-none u (sym has))
 
 -- an empty queue has no run
-none_open : (line run : ℕ) (e : Elements) → line_at e line ≡ empty_queue 64 → IsOpen line run e → ⊥
-none_open line run e is unraised = let long : length (line_at e line).history ≡ 0 = ap (λ (q : Queue). length q.history) is in let below = unraised.0 in absurd (omega arith)
+none_open : (ring run : ℕ) (e : Elements) → ring_at e ring ≡ empty_queue 64 → IsOpen ring run e → ⊥
+none_open ring run e is unraised = let long : length (ring_at e ring).history ≡ 0 = ap (λ (q : Queue). length q.history) is in let below = unraised.0 in absurd (omega arith)
 
 -- each run is raised
-all_raised : (line run : ℕ) → IsOpen line run e64 → ⊥
+all_raised : (ring run : ℕ) → IsOpen ring run e64 → ⊥
 all_raised zero run unraised = none_open 0 run e64 refl unraised
 all_raised (suc zero) run unraised =
     let long : length (full_queue 64).history ≡ 64 = length-map-range_with_len single 0 64 in let below : run < length (full_queue 64).history = unraised.0 in
@@ -153,14 +153,14 @@ all_raised (suc zero) run unraised =
 all_raised (suc (suc wait)) run unraised = none_open (suc (suc wait)) run e64 (get_or-copies 16 (empty_queue 64) wait) unraised
 
 first_owned : (views : List View) → AllOwned views e64
-first_owned views line run below unraised = absurd (all_raised line run unraised)
+first_owned views ring run below unraised = absurd (all_raised ring run unraised)
 
 pub first_are : elements_after [] ≡ e64
 first_are = elements_of [] ∙ ap (λ (s : State). s.elements) after_none.0
 
 pub opens : (key : Shape) (words : List ℕ) → key.first + 64 < 4294967296 → length words ≡ 1325 → get_or words 0 0 ≡ 1 → ((i : ℕ) → 1 ≤ i → i < 73 → get_or words i 0 ≡ 0) → ((i : ℕ) → 73 ≤ i → i < 137 → get_or words i 0 ≡ 0)
-    → ((line : ℕ) → line < 18 → get_or words (head_word line) 0 ≡ key.first + cond (eqb line 1) 64 0) → ((line : ℕ) → line < 18 → get_or words (tail_word line) 0 ≡ key.first)
-    → ((x : ℕ) → x < 64 → get_or words (place_word 1 (key.first + x)) 0 ≡ x + 256 * (key.first + x + 1)) → ((line i : ℕ) → line < 18 → line ≢ 1 → i < 64 → get_or words (66 * line + 139 + i) 0 ≡ 0)
+    → ((ring : ℕ) → ring < 18 → get_or words (head_word ring) 0 ≡ key.first + cond (eqb ring 1) 64 0) → ((ring : ℕ) → ring < 18 → get_or words (tail_word ring) 0 ≡ key.first)
+    → ((x : ℕ) → x < 64 → get_or words (place_word 1 (key.first + x)) 0 ≡ x + 256 * (key.first + x + 1)) → ((ring i : ℕ) → ring < 18 → ring ≢ 1 → i < 64 → get_or words (66 * ring + 139 + i) 0 ≡ 0)
     → Rule key (opening words [] (newcomer key))
 opens key words fits long ends none unstepped head tail items zeros = let w : View = newcomer key in record {
   events = [];

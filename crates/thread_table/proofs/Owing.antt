@@ -11,46 +11,46 @@ use Rattle.atomic_table.proofs.Lists.{set_here, set_else}
 use Rattle.table_theory.proofs.Owned.{at_below, one_at}
 use Rattle.thread_table.specs.declared.rule.View.{View}
 use Rattle.thread_table.specs.declared.rule.Claimed.{Claimed}
-use Rattle.thread_table.specs.Schedules.{line_at, element_at, element_of, no_run}
+use Rattle.thread_table.specs.Schedules.{ring_at, element_at, element_of, no_run}
 use Rattle.thread_table.specs.Views.{claim_of}
 use Rattle.thread_table.specs.Rules.{IsOpen}
 use Rattle.thread_table.proofs.QueueWords.{none_some}
 
 -- a run that isn't raised after an event is then the hand's claim, or it wasn't raised before and wasn't the hand's
 abbrev pub Owes : View → View → Elements → Elements → Type 0
-Owes v w e f = (line run : ℕ) → line < 18 → IsOpen line run f
-    → (IsOpen line run e × (element_at (line_at f line) run ≡ element_at (line_at e line) run)
-    × (v.claimed ≡ Some (claim_of line run (element_at (line_at e line) run)) → ⊥))
-    ⊎ (w.claimed ≡ Some (claim_of line run (element_at (line_at f line) run)))
+Owes v w e f = (ring run : ℕ) → ring < 18 → IsOpen ring run f
+    → (IsOpen ring run e × (element_at (ring_at f ring) run ≡ element_at (ring_at e ring) run)
+    × (v.claimed ≡ Some (claim_of ring run (element_at (ring_at e ring) run)) → ⊥))
+    ⊎ (w.claimed ≡ Some (claim_of ring run (element_at (ring_at f ring) run)))
 
 -- the same of one queue, q before and r after the event
 abbrev pub QueueOwes : View → View → ℕ → Queue → Queue → Type 0
-QueueOwes v w line q r = (run : ℕ) → run < length r.history → r.raised run 0 ≡ false
+QueueOwes v w ring q r = (run : ℕ) → run < length r.history → r.raised run 0 ≡ false
     → (((run < length q.history) × (q.raised run 0 ≡ false)) × (element_at r run ≡ element_at q run)
-    × (v.claimed ≡ Some (claim_of line run (element_at q run)) → ⊥))
-    ⊎ (w.claimed ≡ Some (claim_of line run (element_at r run)))
+    × (v.claimed ≡ Some (claim_of ring run (element_at q run)) → ⊥))
+    ⊎ (w.claimed ≡ Some (claim_of ring run (element_at r run)))
 
 -- nothing was claimed or raised, and the hand had no claim
-pub queue_owes : (v w : View) (line : ℕ) (q r : Queue) → v.claimed ≡ None → r.history ≡ q.history → r.raised ≡ q.raised → QueueOwes v w line q r
-queue_owes v w line q r none history raised run below low = inl (
+pub queue_owes : (v w : View) (ring : ℕ) (q r : Queue) → v.claimed ≡ None → r.history ≡ q.history → r.raised ≡ q.raised → QueueOwes v w ring q r
+queue_owes v w ring q r none history raised run below low = inl (
   (subst (λ (h : List Run). run < length h) history below, ap (λ (p : ℕ → ℕ → Bool). p run 0) (sym raised) ∙ low),
   ap (λ (h : List Run). element_of (get_or h run no_run)) history,
   λ is. none_some _ v.claimed none is,
 )
 
-pub each_owes : (v w : View) (e f : Elements) → ((line : ℕ) → QueueOwes v w line (line_at e line) (line_at f line)) → Owes v w e f
-each_owes v w e f each line run below is = each line run is.0 is.1
+pub each_owes : (v w : View) (e f : Elements) → ((ring : ℕ) → QueueOwes v w ring (ring_at e ring) (ring_at f ring)) → Owes v w e f
+each_owes v w e f each ring run below is = each ring run is.0 is.1
 
 -- all queues stayed
-pub same_owes : (v w : View) (e f : Elements) → v.claimed ≡ None → ((line : ℕ) → line_at f line ≡ line_at e line) → Owes v w e f
-same_owes v w e f none same = each_owes v w e f (λ line. queue_owes v w line (line_at e line) (line_at f line) none (ap (λ (q : Queue). q.history) (same line)) (ap (λ (q : Queue). q.raised) (same line)))
+pub same_owes : (v w : View) (e f : Elements) → v.claimed ≡ None → ((ring : ℕ) → ring_at f ring ≡ ring_at e ring) → Owes v w e f
+same_owes v w e f none same = each_owes v w e f (λ ring. queue_owes v w ring (ring_at e ring) (ring_at f ring) none (ap (λ (q : Queue). q.history) (same ring)) (ap (λ (q : Queue). q.raised) (same ring)))
 
 -- one queue changed
-pub line_owes : (v w : View) (e f : Elements) (line : ℕ) (new : Queue) → line_at f line ≡ new → ((l : ℕ) → l ≢ line → line_at f l ≡ line_at e l)
-    → QueueOwes v w line (line_at e line) new → ((l : ℕ) → l ≢ line → QueueOwes v w l (line_at e l) (line_at e l)) → Owes v w e f
-line_owes v w e f line new here stay mine others = each_owes v w e f (λ l. dite (ℕ_discrete l line)
-    (λ same. subst (λ (n : ℕ). QueueOwes v w n (line_at e n) (line_at f n)) (sym same) (subst (QueueOwes v w line (line_at e line)) (sym here) mine))
-    (λ ne. subst (QueueOwes v w l (line_at e l)) (sym (stay l ne)) (others l ne)))
+pub ring_owes : (v w : View) (e f : Elements) (ring : ℕ) (new : Queue) → ring_at f ring ≡ new → ((l : ℕ) → l ≢ ring → ring_at f l ≡ ring_at e l)
+    → QueueOwes v w ring (ring_at e ring) new → ((l : ℕ) → l ≢ ring → QueueOwes v w l (ring_at e l) (ring_at e l)) → Owes v w e f
+ring_owes v w e f ring new here stay mine others = each_owes v w e f (λ l. dite (ℕ_discrete l ring)
+    (λ same. subst (λ (n : ℕ). QueueOwes v w n (ring_at e n) (ring_at f n)) (sym same) (subst (QueueOwes v w ring (ring_at e ring)) (sym here) mine))
+    (λ ne. subst (QueueOwes v w l (ring_at e l)) (sym (stay l ne)) (others l ne)))
 
 -- the claim is a hand's
 abbrev pub IsOwned : List View → Claimed → Type 0
@@ -58,7 +58,7 @@ IsOwned views c = (j : ℕ) × (v : View) × (get_elem? views j ≡ some v) × (
 
 -- each run that isn't raised is a hand's claim
 abbrev pub AllOwned : List View → Elements → Type 0
-AllOwned views e = (line run : ℕ) → line < 18 → IsOpen line run e → IsOwned views (claim_of line run (element_at (line_at e line) run))
+AllOwned views e = (ring run : ℕ) → ring < 18 → IsOpen ring run e → IsOwned views (claim_of ring run (element_at (ring_at e ring) run))
 
 -- a claim stays a hand's, where one view changed that kept it or didn't have it
 pub owned_set : (views : List View) (id : ℕ) (v w : View) (c : Claimed) → get_elem? views id ≡ some v → (v.claimed ≡ Some c → w.claimed ≡ Some c) → IsOwned views c → IsOwned (set views id w) c
@@ -69,13 +69,13 @@ owned_set views id v w c at keeps o = dite (ℕ_discrete o.0 id)
 
 -- an event of a hand, whose view becomes w
 pub claims_set : (views : List View) (id : ℕ) (v w : View) (e f : Elements) → get_elem? views id ≡ some v → Owes v w e f → AllOwned views e → AllOwned (set views id w) f
-claims_set views id v w e f at owes owned line run below is = ⊎_elim
-    (λ old. subst (λ (x : ℕ). IsOwned (set views id w) (claim_of line run x)) (sym old.1)
-    (owned_set views id v w (claim_of line run (element_at (line_at e line) run)) at (λ claims. absurd (old.2 claims)) (owned line run below old.0)))
+claims_set views id v w e f at owes owned ring run below is = ⊎_elim
+    (λ old. subst (λ (x : ℕ). IsOwned (set views id w) (claim_of ring run x)) (sym old.1)
+    (owned_set views id v w (claim_of ring run (element_at (ring_at e ring) run)) at (λ claims. absurd (old.2 claims)) (owned ring run below old.0)))
     (λ new. (id, w, set_here views id w (at_below views id v at), new))
-    (owes line run below is)
+    (owes ring run below is)
 
 -- no event, and the view keeps its claim
 pub claims_kept : (views : List View) (id : ℕ) (v w : View) (e : Elements) → get_elem? views id ≡ some v → w.claimed ≡ v.claimed → AllOwned views e → AllOwned (set views id w) e
-claims_kept views id v w e at claimed owned line run below is =
-    owned_set views id v w (claim_of line run (element_at (line_at e line) run)) at (λ claims. claimed ∙ claims) (owned line run below is)
+claims_kept views id v w e at claimed owned ring run below is =
+    owned_set views id v w (claim_of ring run (element_at (ring_at e ring) run)) at (λ claims. claimed ∙ claims) (owned ring run below is)

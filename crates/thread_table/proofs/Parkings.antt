@@ -10,13 +10,13 @@ use Rattle.event_theory.specs.declared.hold.Hold.{Hold}
 use Rattle.event_theory.proofs.Outcomes.{parked_ok, started_ok}
 use Rattle.thread_table.specs.declared.rule.View.{View}
 use Rattle.thread_table.specs.Schedules.{thread_at}
-use Rattle.thread_table.specs.Shown.{WordsShow, StateShows, seat_word, state_word, done_word}
+use Rattle.thread_table.specs.Shown.{WordsShow, StateShows, processor_word, state_word, done_word}
 use Rattle.thread_table.specs.Rules.{HandIs}
 use Rattle.thread_table.proofs.Effects.{Leaves, ParkEffect, StartEffect}
 use Rattle.thread_table.specs.Views.{with_held, with_start}
 use Rattle.thread_table.proofs.Bits.{set_bit_same, set_bit_other, low_bit, high_bit}
 use Rattle.thread_table.proofs.Handing.{read_set, held_set, no_claim, held_once}
-use Rattle.thread_table.proofs.Outside.{with_parts, no_growth, line_outside}
+use Rattle.thread_table.proofs.Outside.{with_parts, no_growth, ring_outside}
 use Rattle.thread_table.proofs.Owing.{same_owes}
 use Rattle.thread_table.proofs.Releases.{releases, handed, handed_else}
 
@@ -32,7 +32,7 @@ started thread = record thread { stop = false; parked = false }
 
 parked_shows : (thread : Thread) (word : ℕ) → StateShows thread word → StateShows (parked thread) (bit_or word 131072)
 parked_shows thread word shows = record {
-  small = or_lt 18 word 131072 shows.small (omega arith);
+  bounded = or_lt 18 word 131072 shows.bounded (omega arith);
   pending = λ signal below. set_bit_other word 17 signal (λ h. omega arith) ∙ shows.pending signal below;
   stop = set_bit_other word 17 16 (λ h. omega arith) ∙ shows.stop;
   parked = set_bit_same word 17;
@@ -40,7 +40,7 @@ parked_shows thread word shows = record {
 
 started_shows : (thread : Thread) (word : ℕ) → StateShows thread word → StateShows (started thread) (bit_and word 65535)
 started_shows thread word shows = record {
-  small = omega (arith, and_le_r word 65535);
+  bounded = omega (arith, and_le_r word 65535);
   pending = λ signal below. low_bit word 16 signal below ∙ shows.pending signal below;
   stop = high_bit word 16 16 (omega arith);
   parked = high_bit word 16 17 (omega arith);
@@ -63,13 +63,13 @@ threaded_words first e words element new held word below shows same is =
       queues = shows.queues;
       waits = shows.waits;
       processors = shows.processors;
-      seats = λ p low. other (seat_word p) (λ h. omega arith) ∙ shows.seats p low;
+      processors = λ p low. other (processor_word p) (λ h. omega arith) ∙ shows.processors p low;
       states = λ x low. read_set (λ k (t : Thread). StateShows t (get_or (set words (state_word element) word) (state_word k) 0)) e.threads element new new_thread within
           (subst (StateShows new) (sym (get_or-set_same words (state_word element) word 0 (omega (arith, shows.wide)))) is) x
           (λ apart. subst (StateShows (thread_at e x)) (sym (other (state_word x) (λ h. apart (omega arith)))) (shows.states x low));
       steps = λ x low. other (done_word x) (λ h. omega arith) ∙ (shows.steps x low ∙ sym (same_steps e element new within same x));
       few = λ x low. subst (λ n. n < 4294967296) (sym (same_steps e element new within same x)) (shows.few x low);
-      lines = λ line low. line_outside e (set e.threads element new) e.processors held first line words (state_word element) word (omega arith) (shows.lines line low);
+      rings = λ ring low. ring_outside e (set e.threads element new) e.processors held first ring words (state_word element) word (omega arith) (shows.rings ring low);
     }
 
 threaded_leaves : (id : ℕ) (v : View) (e : Elements) (element : ℕ) (new : Thread) (held : List Hold) → element < length e.threads → new.done ≡ (thread_at e element).done
@@ -77,7 +77,7 @@ threaded_leaves : (id : ℕ) (v : View) (e : Elements) (element : ℕ) (new : Th
 threaded_leaves id v e element new held below same others = record {
   grows = no_growth e (set e.threads element new) e.processors held;
   held = λ c x other. others c x other;
-  seats = λ q strange. refl;
+  processors = λ q strange. refl;
   puts = λ c x other. refl;
   runs = λ c claimed other is. record { below = is.below; known = is.known; run = is.run; low = is.low };
   steps = λ x may. same_steps e element new below same x;
@@ -114,7 +114,7 @@ park_effect id v first e words element r none low has_it stopped =
       hand = threaded_hand id v e element (parked old) held (set v.held element false) r.hand none (length-set v.held element false ∙ r.hand.held_long)
           (held_set id v e f element false r.hand low g.own (λ x apart. g.others id x (inr apart)));
       shows = threaded_words first e words element (parked old) held (bit_or word 131072) low r.shows refl (parked_shows old word (r.shows.states element low));
-      owes = same_owes v (with_held v element false) e f none (λ line. refl);
+      owes = same_owes v (with_held v element false) e f none (λ ring. refl);
     }
 
 -- who holds what after a start, and what the hand's view says of it
@@ -153,5 +153,5 @@ start_effect id v first e words element r none low stopped =
       hand = threaded_hand id v e element (started old) held (has_after element old.parked v.held) r.hand none (has_after_long element old.parked v.held ∙ r.hand.held_long)
           (started_held id v e element (started old) old.parked r.hand low);
       shows = threaded_words first e words element (started old) held (bit_and word 65535) low r.shows refl (started_shows old word (r.shows.states element low));
-      owes = same_owes v (with_start v element old.parked) e (threaded e element (started old) held) none (λ line. refl);
+      owes = same_owes v (with_start v element old.parked) e (threaded e element (started old) held) none (λ ring. refl);
     }

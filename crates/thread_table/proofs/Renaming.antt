@@ -11,8 +11,8 @@ use Rattle.event_theory.specs.declared.hold.Hold.{Hold}
 use Rattle.event_theory.proofs.Keeping.Joins.{slice_get_joined}
 use Rattle.thread_table.specs.declared.rule.Claimed.{Claimed}
 use Rattle.thread_table.specs.declared.rule.Counted.{Counted}
-use Rattle.thread_table.specs.Schedules.{line_at, element_of, no_run, QueueGrows, Grows}
-use Rattle.thread_table.specs.Shown.{WordsShow, LineShows, PlaceShows, place_word, seat_shown, mark_of}
+use Rattle.thread_table.specs.Schedules.{ring_at, element_of, no_run, QueueGrows, Grows}
+use Rattle.thread_table.specs.Shown.{WordsShow, RingShows, PlaceShows, place_word, processor_shown, mark_of}
 use Rattle.thread_table.specs.Rules.{IsClaimed, IsCounted, IsOpen, may_step}
 
 cond_same : (b : Bool) (n : ℕ) → cond b n n ≡ n
@@ -116,20 +116,20 @@ put_renamed : (id other call : ℕ) (r : Option ℕ) → option_map (join_hold i
 put_renamed id other call None = refl
 put_renamed id other call (Some x) = refl
 
-pub seat_renamed : (id other call name p : ℕ) (e : Elements) (r : Option ℕ) → renamed id other call ≡ name → slice_get e.processors p ≡ Some (option_map (hold call) r) → slice_get (join_elements id other e).processors p ≡ Some (option_map (hold name) r)
-seat_renamed id other call name p e r is at = slice_get-map (option_map (join_hold id other)) e.processors p
+pub processor_renamed : (id other call name p : ℕ) (e : Elements) (r : Option ℕ) → renamed id other call ≡ name → slice_get e.processors p ≡ Some (option_map (hold call) r) → slice_get (join_elements id other e).processors p ≡ Some (option_map (hold name) r)
+processor_renamed id other call name p e r is at = slice_get-map (option_map (join_hold id other)) e.processors p
     ∙ (ap (option_map (option_map (join_hold id other))) at ∙ (ap Some (put_renamed id other call r) ∙ ap (λ (n : ℕ). Some (option_map (hold n) r)) is))
 
-queue_of_joined : (id other : ℕ) (lines : List Queue) (line : ℕ) → get_or (map (join_queue id other) lines) line (empty_queue 64) ≡ join_queue id other (get_or lines line (empty_queue 64))
-queue_of_joined id other [] line = refl
-queue_of_joined id other (q ∷ lines) zero = refl
-queue_of_joined id other (q ∷ lines) (suc line) = queue_of_joined id other lines line
+queue_of_joined : (id other : ℕ) (rings : List Queue) (ring : ℕ) → get_or (map (join_queue id other) rings) ring (empty_queue 64) ≡ join_queue id other (get_or rings ring (empty_queue 64))
+queue_of_joined id other [] ring = refl
+queue_of_joined id other (q ∷ rings) zero = refl
+queue_of_joined id other (q ∷ rings) (suc ring) = queue_of_joined id other rings ring
 
-pub line_joined : (id other line : ℕ) (e : Elements) → line_at (join_elements id other e) line ≡ join_queue id other (line_at e line)
-line_joined id other line e = queue_of_joined id other e.lines line
+pub ring_joined : (id other ring : ℕ) (e : Elements) → ring_at (join_elements id other e) ring ≡ join_queue id other (ring_at e ring)
+ring_joined id other ring e = queue_of_joined id other e.rings ring
 
 pub claim_third : (id other call : ℕ) (c : Claimed) (e : Elements) → call ≢ other → IsClaimed call c e → IsClaimed call c (join_elements id other e)
-claim_third id other call c e ne h = let f : Elements = join_elements id other e in let q : Queue = line_at e c.line in let is : line_at f c.line ≡ join_queue id other q = line_joined id other c.line e in record {
+claim_third id other call c e ne h = let f : Elements = join_elements id other e in let q : Queue = ring_at e c.ring in let is : ring_at f c.ring ≡ join_queue id other q = ring_joined id other c.ring e in record {
   below = h.below;
   known = h.known;
   run = ap (λ (z : Queue). slice_get z.history c.run) is ∙ (slice_get_joined id other q.history c.run ∙ (ap (option_map (join_run id other)) h.run
@@ -155,17 +155,17 @@ queue_grows id other q = let long : length (map (join_run id other) q.history) �
 }
 
 pub grows_joined : (id other : ℕ) (e : Elements) → Grows e (join_elements id other e)
-grows_joined id other e line = subst (QueueGrows (line_at e line)) (sym (line_joined id other line e)) (queue_grows id other (line_at e line))
+grows_joined id other e ring = subst (QueueGrows (ring_at e ring)) (sym (ring_joined id other ring e)) (queue_grows id other (ring_at e ring))
 
 -- a run that isn't raised then wasn't before
-pub open_joined : (id other : ℕ) (e : Elements) (line run : ℕ) → IsOpen line run (join_elements id other e) → IsOpen line run e
-open_joined id other e line run is = let q : Queue = line_at e line in let same : line_at (join_elements id other e) line ≡ join_queue id other q = line_joined id other line e in (
+pub open_joined : (id other : ℕ) (e : Elements) (ring run : ℕ) → IsOpen ring run (join_elements id other e) → IsOpen ring run e
+open_joined id other e ring run is = let q : Queue = ring_at e ring in let same : ring_at (join_elements id other e) ring ≡ join_queue id other q = ring_joined id other ring e in (
   subst (λ (n : ℕ). run < n) (ap (λ (z : Queue). length z.history) same ∙ length-map q.history (join_run id other)) is.0,
   sym (ap (λ (z : Queue). z.raised run 0) same) ∙ is.1,
 )
 
 -- the words show what they showed
-mark_joined : (id other line : ℕ) (e : Elements) → mark_of (join_elements id other e) line ≡ mark_of e line
+mark_joined : (id other ring : ℕ) (e : Elements) → mark_of (join_elements id other e) ring ≡ mark_of e ring
 mark_joined id other zero e = refl
 mark_joined id other (suc zero) e = refl
 mark_joined id other (suc (suc wait)) e = refl
@@ -180,37 +180,37 @@ single_by : (id other : ℕ) (found : Option Run) (run : Run) → ((r : Run) →
 single_by id other None run one at = absurd (cc)
 single_by id other (Some r) run one at = let e : join_run id other r ≡ run = cc in sym (ap (λ (z : Run). length z.items) e) ∙ one r refl
 
-line_shows : (id other first line : ℕ) (e : Elements) (words : List ℕ) → LineShows first e line words → LineShows first (join_elements id other e) line words
-line_shows id other first line e words h = let f : Elements = join_elements id other e in let q : Queue = line_at e line in let is : line_at f line ≡ join_queue id other q = line_joined id other line e in
-    let m : mark_of f line ≡ mark_of e line = mark_joined id other line e in let taken : (line_at f line).taken ≡ q.taken = ap (λ (z : Queue). z.taken) is in
-    let long : length (line_at f line).history ≡ length q.history = ap (λ (z : Queue). length z.history) is ∙ length-map q.history (join_run id other) in record {
+ring_shows : (id other first ring : ℕ) (e : Elements) (words : List ℕ) → RingShows first e ring words → RingShows first (join_elements id other e) ring words
+ring_shows id other first ring e words h = let f : Elements = join_elements id other e in let q : Queue = ring_at e ring in let is : ring_at f ring ≡ join_queue id other q = ring_joined id other ring e in
+    let m : mark_of f ring ≡ mark_of e ring = mark_joined id other ring e in let taken : (ring_at f ring).taken ≡ q.taken = ap (λ (z : Queue). z.taken) is in
+    let long : length (ring_at f ring).history ≡ length q.history = ap (λ (z : Queue). length z.history) is ∙ length-map q.history (join_run id other) in record {
       capacity = ap (λ (z : Queue). z.capacity) is ∙ h.capacity;
       is_open = ap (λ (z : Queue). z.shut) is ∙ h.is_open;
       single = λ number run at. single_by id other (slice_get q.history number) run (h.single number) (sym (ap (λ (z : Queue). slice_get z.history number) is ∙ slice_get_joined id other q.history number) ∙ at);
-      small = omega (arith, h.small);
+      bounded = omega (arith, h.bounded);
       marked = omega (arith, h.marked);
       head = h.head ∙ sym (ap₂ (λ (n k : ℕ). first + n + k * 4294967296) long m);
       tail = h.tail ∙ sym (ap (λ (n : ℕ). first + n) taken);
-      places = λ run from to. subst (λ (z : Queue). PlaceShows first z run (get_or words (place_word line (first + run)) 0)) (sym is)
-          (place_joined id other first run (get_or words (place_word line (first + run)) 0) q (h.places run (omega arith) (omega arith)));
+      places = λ run from to. subst (λ (z : Queue). PlaceShows first z run (get_or words (place_word ring (first + run)) 0)) (sym is)
+          (place_joined id other first run (get_or words (place_word ring (first + run)) 0) q (h.places run (omega arith) (omega arith)));
     }
 
-seat_word_joined : (id other : ℕ) (seats : List (Option Hold)) (p : ℕ) → seat_shown (get_or (map (option_map (join_hold id other)) seats) p None) ≡ seat_shown (get_or seats p None)
-seat_word_joined id other [] p = refl
-seat_word_joined id other (None ∷ seats) zero = refl
-seat_word_joined id other (Some h ∷ seats) zero = refl
-seat_word_joined id other (seat ∷ seats) (suc p) = seat_word_joined id other seats p
+processor_word_joined : (id other : ℕ) (processors : List (Option Hold)) (p : ℕ) → processor_shown (get_or (map (option_map (join_hold id other)) processors) p None) ≡ processor_shown (get_or processors p None)
+processor_word_joined id other [] p = refl
+processor_word_joined id other (None ∷ processors) zero = refl
+processor_word_joined id other (Some h ∷ processors) zero = refl
+processor_word_joined id other (seat ∷ processors) (suc p) = processor_word_joined id other processors p
 
 pub words_joined : (id other first : ℕ) (e : Elements) (words : List ℕ) → WordsShow first e words → WordsShow first (join_elements id other e) words
 words_joined id other first e words h = record {
   wide = h.wide;
   threads = h.threads;
-  queues = length-map e.lines (join_queue id other) ∙ h.queues;
+  queues = length-map e.rings (join_queue id other) ∙ h.queues;
   waits = h.waits;
   processors = length-map e.processors (option_map (join_hold id other)) ∙ h.processors;
-  seats = λ p below. h.seats p below ∙ sym (seat_word_joined id other e.processors p);
+  processors = λ p below. h.processors p below ∙ sym (processor_word_joined id other e.processors p);
   states = h.states;
   steps = h.steps;
   few = h.few;
-  lines = λ line below. line_shows id other first line e words (h.lines line below);
+  rings = λ ring below. ring_shows id other first ring e words (h.rings ring below);
 }

@@ -14,28 +14,28 @@ use Rattle.event_theory.proofs.Lists.Histories.{both}
 use Rattle.event_theory.proofs.Keeping.Places.{one, in_hands, let_go_count}
 use Rattle.event_theory.proofs.Keeping.Rooms.{in_more, itself, few}
 
--- an element is in one line no more often than in all
-in_one : (element line : ℕ) (e : Elements) (q : Queue) → slice_get e.lines line ≡ Some q → in_list element (left q) ≤ sum_by (λ l. in_list element (left l)) e.lines
-in_one element line e q at =
-    let same : get_or e.lines line q ≡ q = get_or_from_slice_get e.lines line q q at in
-    let below = get_or-le-sum_by (λ l. in_list element (left l)) e.lines line q (slice_get_within e.lines line q at) in
-    subst (λ l. in_list element (left l) ≤ sum_by (λ l. in_list element (left l)) e.lines) same below
+-- an element is in one ring no more often than in all
+in_one : (element ring : ℕ) (e : Elements) (q : Queue) → slice_get e.rings ring ≡ Some q → in_list element (left q) ≤ sum_by (λ l. in_list element (left l)) e.rings
+in_one element ring e q at =
+    let same : get_or e.rings ring q ≡ q = get_or_from_slice_get e.rings ring q q at in
+    let below = get_or-le-sum_by (λ l. in_list element (left l)) e.rings ring q (slice_get_within e.rings ring q at) in
+    subst (λ l. in_list element (left l) ≤ sum_by (λ l. in_list element (left l)) e.rings) same below
 
--- a held element and what is left in a line: each of them at most once, and only elements that there are
-once_by : (call element line k : ℕ) (e : Elements) (q : Queue) (rest : List Hold) → IsLawfulElements e → slice_get e.lines line ≡ Some q → let_go call element e.held ≡ Ok rest
+-- a held element and what is left in a ring: each of them at most once, and only elements that there are
+once_by : (call element ring k : ℕ) (e : Elements) (q : Queue) (rest : List Hold) → IsLawfulElements e → slice_get e.rings ring ≡ Some q → let_go call element e.held ≡ Ok rest
     → in_list k (element ∷ left q) ≤ appearances k e
-once_by call element line k e q rest lawful at lets =
-    omega (arith, in_more k element (left q), let_go_count call element e.held rest lets k, in_one k line e q at)
+once_by call element ring k e q rest lawful at lets =
+    omega (arith, in_more k element (left q), let_go_count call element e.held rest lets k, in_one k ring e q at)
 
 once_at : (k n m : ℕ) → (k < n → m ≡ 1) → (n ≤ k → m ≡ 0) → (k < n) ⊎ (n ≤ k) → m ≤ 1
 once_at k n m known strange (inl below) = omega (arith, known below)
 once_at k n m known strange (inr past) = omega (arith, strange past)
 
--- where a call holds an element, a line has fewer than all of them
-pub room : (call element line : ℕ) (e : Elements) (q : Queue) (rest : List Hold) → IsLawfulElements e → slice_get e.lines line ≡ Some q → let_go call element e.held ≡ Ok rest
+-- where a call holds an element, a ring has fewer than all of them
+pub room : (call element ring : ℕ) (e : Elements) (q : Queue) (rest : List Hold) → IsLawfulElements e → slice_get e.rings ring ≡ Some q → let_go call element e.held ≡ Ok rest
     → length (left q) + 1 ≤ length e.threads
-room call element line e q rest lawful at lets =
-    let within : (k : ℕ) → in_list k (element ∷ left q) ≤ appearances k e = λ k. once_by call element line k e q rest lawful at lets in
+room call element ring e q rest lawful at lets =
+    let within : (k : ℕ) → in_list k (element ∷ left q) ≤ appearances k e = λ k. once_by call element ring k e q rest lawful at lets in
     let all = few (length e.threads) (element ∷ left q)
     (λ k. omega (arith, within k, once_at k (length e.threads) (appearances k e) (lawful.once k) (lawful.known k) (cases_lt k (length e.threads))))
     (λ k past. omega (arith, within k, lawful.known k past)) in

@@ -67,7 +67,7 @@ queue_trans p q r a b = let la = a.longer in let lb = b.longer in let fa = a.fur
 }
 
 pub grows_refl : (e : Elements) → Grows e e
-grows_refl e line = queue_refl _
+grows_refl e ring = queue_refl _
 
 pub grows_trans : (e f g : Elements) → Grows e f → Grows f g → Grows e g
-grows_trans e f g a b line = queue_trans _ _ _ (a line) (b line)
+grows_trans e f g a b ring = queue_trans _ _ _ (a ring) (b ring)

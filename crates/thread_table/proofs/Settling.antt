@@ -19,7 +19,7 @@ use Rattle.thread_table.specs.declared.rule.View.{View}
 use Rattle.thread_table.specs.Closings.{ClosedNow, WereOpen, PlaceOf, word_at}
 use Rattle.thread_table.specs.Rules.{Rule, HandIs, IsIdle, member_of}
 use Rattle.thread_table.specs.Views.{quiet}
-use Rattle.thread_table.specs.Schedules.{state_after, elements_after, IsAllowed, line_at, thread_at}
+use Rattle.thread_table.specs.Schedules.{state_after, elements_after, IsAllowed, ring_at, thread_at}
 use Rattle.event_theory.specs.declared.event.Event.{Event}
 use Rattle.event_theory.proofs.Keeping.Accounts.{account_law}
 use Rattle.thread_table.proofs.Betweens.{reached}
@@ -64,7 +64,7 @@ settled key s k id w at whole none =
     record {
       lawful = lawful_after k.events k.allowed;
       shows = k.shows;
-      raised = λ line run below within. up ((line_at e line).raised run 0) (λ low. let o = k.owned line run below (within, low) in unclaimed o.0 o.1 _ o.2 o.3);
+      raised = λ ring run below within. up ((ring_at e ring).raised run 0) (λ low. let o = k.owned ring run below (within, low) in unclaimed o.0 o.1 _ o.2 o.3);
       alone = λ other element ne. dite (dec_lt other (length s.views))
           (λ yes. let u = there s.views other yes in (k.hands other u.0 u.1).held element ∙ (ap (λ (z : List Bool). get_or z element false) (idle other u.0 u.1 ne).0 ∙ get_or-copies 64 false element))
           (λ no. k.strange other element (omega (arith, no)));

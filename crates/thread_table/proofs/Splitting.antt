@@ -133,7 +133,7 @@ splits key id v mask live long can s k at = let e : Elements = elements_after k.
   sole = λ i j p u w has has' served served'. let a : Before s.views id mask p i = before s.views id v mask p at can i u has served in let b : Before s.views id mask p j = before s.views id v mask p at can j w has' served' in
       let same : a.seat ≡ b.seat = k.sole a.seat b.seat p a.view b.view a.at b.at a.served b.served in
       a.is ∙ (ap (λ (z : ℕ). cond (eqb z id) (cond (get_or mask p false) (length s.views) id) z) same ∙ sym b.is);
-  owned = λ line run below is. let o = claims_kept s.views id v left e at refl k.owned line run below is in (o.0, o.1, at_longer (set s.views id left) (right ∷ []) o.0 o.1 o.2, o.3);
+  owned = λ ring run below is. let o = claims_kept s.views id v left e at refl k.owned ring run below is in (o.0, o.1, at_longer (set s.views id left) (right ∷ []) o.0 o.1 o.2, o.3);
   strange = λ call element past. k.strange call element (omega (arith, past, length-append (set s.views id left) (right ∷ []), length-set s.views id left));
   steady = each_split (λ (j : ℕ) (u : View). IsSteady u k.events) s.views id left right (λ j u ne there. k.steady j u there)
       (λ up x low may. k.steady id v at up x low (⊎_elim (λ held. inl held) (λ on. inr (on.0, (parted_true v.serves mask on.0 on.1).0, on.2)) may))

@@ -15,9 +15,9 @@ use Rattle.event_theory.specs.Queues.{Queue, empty_queue, left}
 use Rattle.event_theory.specs.Runs.{flat}
 use Rattle.event_theory.specs.declared.hold.Hold.{Hold}
 use Rattle.event_theory.proofs.Keeping.Elements.{every_at}
-use Rattle.thread_table.specs.Closings.{SeatOf, IsIn, LineOf, PlaceOf, StandsAt, is_left, line_place, place_by, word_at}
-use Rattle.thread_table.specs.Schedules.{line_at, thread_at, element_at, element_of, no_run}
-use Rattle.thread_table.specs.Shown.{WordsShow, seat_shown, state_word, place_word, bit_of}
+use Rattle.thread_table.specs.Closings.{ProcessorOf, IsIn, RingOf, PlaceOf, StandsAt, is_left, ring_place, place_by, word_at}
+use Rattle.thread_table.specs.Schedules.{ring_at, thread_at, element_at, element_of, no_run}
+use Rattle.thread_table.specs.Shown.{WordsShow, processor_shown, state_word, place_word, bit_of}
 use Rattle.thread_table.specs.declared.places.Place.{Place}
 use Rattle.thread_table.proofs.SingleRuns.{Singles, flat_single, flat_long, within_room}
 
@@ -25,13 +25,13 @@ sum_none : {X : Type 0} (f : X → ℕ) (xs : List X) (d : X) → ((i : ℕ) →
 sum_none f [] d each = refl
 sum_none f (x ∷ xs) d each = omega (arith, sum_by-cons f x xs, each 0 (omega arith), sum_none f xs d (λ i below. each (suc i) (omega arith)))
 
-seat_none : (seat : Option Hold) (x : ℕ) → seat_shown seat ≢ x + 1 → is_on x seat ≡ false
-seat_none None x ne = refl
-seat_none (Some h) x ne = ne_eqb h.element x (λ e. ne (omega arith))
+processor_none : (seat : Option Hold) (x : ℕ) → processor_shown seat ≢ x + 1 → is_on x seat ≡ false
+processor_none None x ne = refl
+processor_none (Some h) x ne = ne_eqb h.element x (λ e. ne (omega arith))
 
-seat_some : (seat : Option Hold) (x : ℕ) → seat_shown seat ≡ x + 1 → is_on x seat ≡ true
-seat_some None x is = absurd (omega arith)
-seat_some (Some h) x is = eq-eqb h.element x (omega arith)
+processor_some : (seat : Option Hold) (x : ℕ) → processor_shown seat ≡ x + 1 → is_on x seat ≡ true
+processor_some None x is = absurd (omega arith)
+processor_some (Some h) x is = eq-eqb h.element x (omega arith)
 
 -- what is left of a queue of single runs, by its number
 left_at : (q : Queue) (i : ℕ) → Singles q.history → q.taken + i < length q.history → get_or (left q) i 0 ≡ element_at q (q.taken + i)
@@ -76,87 +76,87 @@ bit_read bit false is = sym (ne_eqb bit 1 (λ one. omega (arith, is, one)))
 pub record Settled (call first : ℕ) (e : Elements) (words : List ℕ) : Type 0 where
   pub lawful : IsLawfulElements e
   pub shows : WordsShow first e words
-  pub raised : (line run : ℕ) → line < 18 → run < length (line_at e line).history → (line_at e line).raised run 0 ≡ true
+  pub raised : (ring run : ℕ) → ring < 18 → run < length (ring_at e ring).history → (ring_at e ring).raised run 0 ≡ true
   pub alone : (other element : ℕ) → other ≢ call → holds other element e ≡ false
 
 -- an element of a queue is one of the elements
-left_known : (e : Elements) (line i : ℕ) → IsLawfulElements e → line < length e.lines → i < length (left (line_at e line)) → get_or (left (line_at e line)) i 0 < length e.threads
-left_known e line i lawful below within =
-    let q : Queue = line_at e line in let y : ℕ = get_or (left q) i 0 in
+left_known : (e : Elements) (ring i : ℕ) → IsLawfulElements e → ring < length e.rings → i < length (left (ring_at e ring)) → get_or (left (ring_at e ring)) i 0 < length e.threads
+left_known e ring i lawful below within =
+    let q : Queue = ring_at e ring in let y : ℕ = get_or (left q) i 0 in
     let here : bit_of (eqb y y) ≤ in_list y (left q) = get_or-le-sum_by (λ (item : ℕ). cond (eqb item y) 1 0) (left q) i 0 within in
     let itself : bit_of (eqb y y) ≡ 1 = rw (eq-eqb y y refl) refl in
-    let sum : in_list y (left q) ≤ sum_by (λ (r : Queue). in_list y (left r)) e.lines = get_or-le-sum_by (λ (r : Queue). in_list y (left r)) e.lines line (empty_queue 64) below in
+    let sum : in_list y (left q) ≤ sum_by (λ (r : Queue). in_list y (left r)) e.rings = get_or-le-sum_by (λ (r : Queue). in_list y (left r)) e.rings ring (empty_queue 64) below in
     dite (dec_lt y (length e.threads)) (λ yes. yes) (λ no. absurd (omega (arith, lawful.known y (omega arith), here, itself, sum)))
 
 module _ (call first : ℕ) (e : Elements) (words : List ℕ) (s : Settled call first e words) where
-  lawful_line : (line : ℕ) → line < 18 → IsLawfulQueue (line_at e line)
-  lawful_line line below = let many = s.shows.queues in every_at IsLawfulQueue e.lines line (line_at e line) (slice_get-get_or e.lines line (empty_queue 64) (omega arith)) s.lawful.lines
+  lawful_ring : (ring : ℕ) → ring < 18 → IsLawfulQueue (ring_at e ring)
+  lawful_ring ring below = let many = s.shows.queues in every_at IsLawfulQueue e.rings ring (ring_at e ring) (slice_get-get_or e.rings ring (empty_queue 64) (omega arith)) s.lawful.rings
 
   -- the place of what is left has its element
-  left_word : (line run : ℕ) → line < 18 → (line_at e line).taken ≤ run → run < length (line_at e line).history → word_at words (place_word line (first + run)) % 256 ≡ element_at (line_at e line) run
-  left_word line run below from to =
-      let q : Queue = line_at e line in let l = s.shows.lines line below in let many = s.shows.queues in let wide = s.shows.threads in
-      let room = within_room q 64 (lawful_line line below) l.single l.capacity in let near = room.1 in
+  left_word : (ring run : ℕ) → ring < 18 → (ring_at e ring).taken ≤ run → run < length (ring_at e ring).history → word_at words (place_word ring (first + run)) % 256 ≡ element_at (ring_at e ring) run
+  left_word ring run below from to =
+      let q : Queue = ring_at e ring in let l = s.shows.rings ring below in let many = s.shows.queues in let wide = s.shows.threads in
+      let room = within_room q 64 (lawful_ring ring below) l.single l.capacity in let near = room.1 in
       let long = left_long q l.single in
       let i : ℕ = run - q.taken in let same : q.taken + i ≡ run = omega arith in
-      let small : get_or (left q) i 0 < length e.threads = left_known e line i s.lawful (omega arith) (omega arith) in
+      let bounded : get_or (left q) i 0 < length e.threads = left_known e ring i s.lawful (omega arith) (omega arith) in
       let is : get_or (left q) i 0 ≡ element_at q run = left_at q i l.single (omega arith) ∙ ap (element_at q) same in
-      let word = (l.places run from (omega arith)).up (s.raised line run below to) in
-      omega (arith, small, is, word, wide)
+      let word = (l.places run from (omega arith)).up (s.raised ring run below to) in
+      omega (arith, bounded, is, word, wide)
 
-  in_left : (x line : ℕ) → line < 18 → IsIn x words line → is_left x (line_at e line) ≡ true
-  in_left x line below is =
-      let q : Queue = line_at e line in let l = s.shows.lines line below in let p : ℕ = is.0 in let run : ℕ = p - first in
-      let tail = l.tail in let head = l.head in let small = l.small in let from = is.1 in let to = is.2 in
+  in_left : (x ring : ℕ) → ring < 18 → IsIn x words ring → is_left x (ring_at e ring) ≡ true
+  in_left x ring below is =
+      let q : Queue = ring_at e ring in let l = s.shows.rings ring below in let p : ℕ = is.0 in let run : ℕ = p - first in
+      let tail = l.tail in let head = l.head in let bounded = l.bounded in let from = is.1 in let to = is.2 in
       let there : p ≡ first + run = omega arith in
       let a : q.taken ≤ run = omega arith in let b : run < length q.history = omega arith in
       let i : ℕ = run - q.taken in let same : q.taken + i ≡ run = omega arith in let long = left_long q l.single in
-      let word : word_at words (place_word line (first + run)) % 256 ≡ element_at q run = left_word line run below a b in
-      let found : get_or (left q) i 0 ≡ x = left_at q i l.single (omega arith) ∙ (ap (element_at q) same ∙ (sym word ∙ (ap (λ (n : ℕ). word_at words (place_word line n) % 256) (sym there) ∙ is.3))) in
+      let word : word_at words (place_word ring (first + run)) % 256 ≡ element_at q run = left_word ring run below a b in
+      let found : get_or (left q) i 0 ≡ x = left_at q i l.single (omega arith) ∙ (ap (element_at q) same ∙ (sym word ∙ (ap (λ (n : ℕ). word_at words (place_word ring n) % 256) (sym there) ∙ is.3))) in
       list_any_at (λ (item : ℕ). eqb item x) (left q) i 0 (omega arith) (eq-eqb (get_or (left q) i 0) x found)
 
-  not_left : (x line : ℕ) → line < 18 → (IsIn x words line → ⊥) → in_list x (left (line_at e line)) ≡ 0
-  not_left x line below none =
-      let q : Queue = line_at e line in let l = s.shows.lines line below in let long = left_long q l.single in
-      let tail = l.tail in let head = l.head in let small = l.small in
+  not_left : (x ring : ℕ) → ring < 18 → (IsIn x words ring → ⊥) → in_list x (left (ring_at e ring)) ≡ 0
+  not_left x ring below none =
+      let q : Queue = ring_at e ring in let l = s.shows.rings ring below in let long = left_long q l.single in
+      let tail = l.tail in let head = l.head in let bounded = l.bounded in
       sum_none (λ (item : ℕ). cond (eqb item x) 1 0) (left q) 0 (λ i within.
       ap (λ (b : Bool). cond b 1 0) (ne_eqb (get_or (left q) i 0) x (λ same. none (
         first + (q.taken + i),
         omega arith,
         omega arith,
-        left_word line (q.taken + i) below (omega arith) (omega arith) ∙ (sym (left_at q i l.single (omega arith)) ∙ same),
+        left_word ring (q.taken + i) below (omega arith) (omega arith) ∙ (sym (left_at q i l.single (omega arith)) ∙ same),
       ))))
 
-  not_on : (x : ℕ) → SeatOf x words None → count_by (is_on x) e.processors ≡ 0
+  not_on : (x : ℕ) → ProcessorOf x words None → count_by (is_on x) e.processors ≡ 0
   not_on x none = let eight = s.shows.processors in sum_none (λ (seat : Option Hold). cond (is_on x seat) 1 0) e.processors None (λ p below.
-      ap (λ (b : Bool). cond b 1 0) (seat_none (get_or e.processors p None) x (λ same. none p (omega arith) (s.shows.seats p (omega arith) ∙ same))))
+      ap (λ (b : Bool). cond b 1 0) (processor_none (get_or e.processors p None) x (λ same. none p (omega arith) (s.shows.processors p (omega arith) ∙ same))))
 
   -- an element in no place is in the hand
-  in_hand : (x : ℕ) → x < 64 → SeatOf x words None → LineOf x words None → (thread_at e x).parked ≡ false → holds call x e ≡ true
-  in_hand x below seat line cell =
+  in_hand : (x : ℕ) → x < 64 → ProcessorOf x words None → RingOf x words None → (thread_at e x).parked ≡ false → holds call x e ≡ true
+  in_hand x below seat ring cell =
       let many = s.shows.threads in let rows = s.shows.queues in
       let once : appearances x e ≡ 1 = s.lawful.once x (omega arith) in
-      let seats = not_on x seat in
-      let lines : sum_by (λ (q : Queue). in_list x (left q)) e.lines ≡ 0 = sum_none (λ (q : Queue). in_list x (left q)) e.lines (empty_queue 64) (λ l within. not_left x l (omega arith) (line l (omega arith))) in
+      let processors = not_on x seat in
+      let rings : sum_by (λ (q : Queue). in_list x (left q)) e.rings ≡ 0 = sum_none (λ (q : Queue). in_list x (left q)) e.rings (empty_queue 64) (λ l within. not_left x l (omega arith) (ring l (omega arith))) in
       let cells : in_cell (slice_get e.threads x) ≡ 0 = ap in_cell (slice_get-get_or e.threads x new_thread (omega arith)) ∙ ap (λ (b : Bool). cond b 1 0) cell in
-      held_by call x e.held (omega (arith, once, seats, lines, cells)) (λ other ne. s.alone other x ne)
+      held_by call x e.held (omega (arith, once, processors, rings, cells)) (λ other ne. s.alone other x ne)
 
-  on_processor : (x p : ℕ) → SeatOf x words (Some p) → is_on x (get_or e.processors p None) ≡ true
-  on_processor x p seat = seat_some (get_or e.processors p None) x (sym (s.shows.seats p seat.0) ∙ seat.1)
+  on_processor : (x p : ℕ) → ProcessorOf x words (Some p) → is_on x (get_or e.processors p None) ≡ true
+  on_processor x p seat = processor_some (get_or e.processors p None) x (sym (s.shows.processors p seat.0) ∙ seat.1)
 
-  in_line : (x line : ℕ) → LineOf x words (Some line) → StandsAt call x e (line_place line)
-  in_line x zero is = in_left x 0 is.0 is.1
-  in_line x (suc zero) is = in_left x 1 is.0 is.1
-  in_line x (suc (suc wait)) is = let same : suc (suc wait) ≡ wait + 2 = omega arith in ap (λ (n : ℕ). is_left x (line_at e n)) (sym same) ∙ in_left x (suc (suc wait)) is.0 is.1
+  in_ring : (x ring : ℕ) → RingOf x words (Some ring) → StandsAt call x e (ring_place ring)
+  in_ring x zero is = in_left x 0 is.0 is.1
+  in_ring x (suc zero) is = in_left x 1 is.0 is.1
+  in_ring x (suc (suc wait)) is = let same : suc (suc wait) ≡ wait + 2 = omega arith in ap (λ (n : ℕ). is_left x (ring_at e n)) (sym same) ∙ in_left x (suc (suc wait)) is.0 is.1
 
-  in_cell_or_hand : (x : ℕ) → x < 64 → SeatOf x words None → LineOf x words None → (b : Bool) → (thread_at e x).parked ≡ b → StandsAt call x e (place_by None None b)
-  in_cell_or_hand x below seat line true is = is
-  in_cell_or_hand x below seat line false is = in_hand x below seat line is
+  in_cell_or_hand : (x : ℕ) → x < 64 → ProcessorOf x words None → RingOf x words None → (b : Bool) → (thread_at e x).parked ≡ b → StandsAt call x e (place_by None None b)
+  in_cell_or_hand x below seat ring true is = is
+  in_cell_or_hand x below seat ring false is = in_hand x below seat ring is
 
-  stands_by : (x : ℕ) → x < 64 → (seat line : Option ℕ) → SeatOf x words seat → LineOf x words line
-      → StandsAt call x e (place_by seat line (eqb (bit_at (word_at words (state_word x)) 17) 1))
-  stands_by x below (Some p) line is in_row = on_processor x p is
-  stands_by x below None (Some l) is in_row = in_line x l in_row
+  stands_by : (x : ℕ) → x < 64 → (seat ring : Option ℕ) → ProcessorOf x words seat → RingOf x words ring
+      → StandsAt call x e (place_by seat ring (eqb (bit_at (word_at words (state_word x)) 17) 1))
+  stands_by x below (Some p) ring is in_row = on_processor x p is
+  stands_by x below None (Some l) is in_row = in_ring x l in_row
   stands_by x below None None is in_row = in_cell_or_hand x below is in_row _ (bit_read (bit_at (word_at words (state_word x)) 17) (thread_at e x).parked (s.shows.states x below).parked)
 
   -- what the words say of an element's place is so

@@ -39,15 +39,15 @@ bit_kept w mask i inside = bit_at_and w mask i ∙ (ap (min (bit_at w i)) inside
 
 -- a state word stays small
 pub bit_set_small : (w k : ℕ) → k < 18 → w < 262144 → bit_or w (2 ^ k) < 262144
-bit_set_small w k below small = or_lt 18 w (2 ^ k) small (pow-lt {i = k} {j = 18} below)
+bit_set_small w k below bounded = or_lt 18 w (2 ^ k) bounded (pow-lt {i = k} {j = 18} below)
 
 pub bits_small : (w mask : ℕ) → w < 262144 → bit_and w mask < 262144
-bits_small w mask small = omega (arith, and_le_l w mask)
+bits_small w mask bounded = omega (arith, and_le_l w mask)
 
 -- the word after the stop bit is set
 pub stop_shows : (thread : Thread) (word : ℕ) → StateShows thread word → StateShows (record thread { stop = true }) (bit_or word 65536)
 stop_shows thread word shows = record {
-  small = bit_set_small word 16 (omega arith) shows.small;
+  bounded = bit_set_small word 16 (omega arith) shows.bounded;
   pending = λ signal below. bit_set_other word 16 signal (λ e. omega arith) ∙ shows.pending signal below;
   stop = bit_set_here word 16;
   parked = bit_set_other word 16 17 (λ e. omega arith) ∙ shows.parked;
@@ -67,7 +67,7 @@ signal_by word number signal set before (inr differ) =
 pub signal_shows : (thread : Thread) (word number : ℕ) → number < 16 → StateShows thread word
     → StateShows (record thread { pending = with_number true number thread.pending }) (bit_or word (2 ^ number))
 signal_shows thread word number known shows = record {
-  small = bit_set_small word number (omega arith) shows.small;
+  bounded = bit_set_small word number (omega arith) shows.bounded;
   pending = λ signal below. signal_by word number signal thread.pending (shows.pending signal below) (eqb_tells signal number);
   stop = bit_set_other word number 16 (λ e. omega arith) ∙ shows.stop;
   parked = bit_set_other word number 17 (λ e. omega arith) ∙ shows.parked;
@@ -76,7 +76,7 @@ signal_shows thread word number known shows = record {
 -- the word after all signals were delivered
 pub deliver_shows : (thread : Thread) (word : ℕ) → StateShows thread word → StateShows (record thread { pending = λ signal. false }) (bit_and word 196608)
 deliver_shows thread word shows = record {
-  small = bits_small word 196608 shows.small;
+  bounded = bits_small word 196608 shows.bounded;
   pending = λ signal below. bit_masked word 196608 signal (bit_at_mask_below 16 18 signal below);
   stop = bit_kept word 196608 16 (bit_at_mask_inside 16 18 16 (omega arith) (omega arith)) ∙ shows.stop;
   parked = bit_kept word 196608 17 (bit_at_mask_inside 16 18 17 (omega arith) (omega arith)) ∙ shows.parked;

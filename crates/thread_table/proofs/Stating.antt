@@ -13,7 +13,7 @@ use Rattle.thread_table.specs.Shown.{StateShows, bit_of}
 use Rattle.thread_table.specs.Rules.{has}
 use Rattle.thread_table.specs.Views.{with_start}
 use Rattle.thread_table.specs.Shown.{state_word}
-use Rattle.thread_table.specs.Steps.{Found, Marks, Turns, Parks, Starts, Delivers}
+use Rattle.thread_table.specs.Steps.{Found, Marks, ChangedState, Parks, Starts, Delivers}
 use Rattle.thread_table.specs.Reads.{StateIs}
 use Rattle.thread_table.specs.Answers.{WasChanged, FoundRunning, FoundNoSignal, HasSignals, StoppedNow, SignalAnswer, StartAnswer, ParkAnswer, DeliverAnswer, is_in}
 
@@ -31,7 +31,7 @@ pub bit_off : (c : Bool) (n : ℕ) → n ≡ bit_of c → n ≡ 0 → c ≡ fals
 bit_off c n is none = sym (told false c n none is)
 
 -- the state word that was found at an event
-pub turns_show : (call element : ℕ) (event : Event) (knows : List Event → View) (word : ℕ) (v w : View) (t : Turns call element event knows word v w)
+pub turns_show : (call element : ℕ) (event : Event) (knows : List Event → View) (word : ℕ) (v w : View) (t : ChangedState call element event knows word v w)
     → element < 64 → StateShows (thread_at (elements_after t.did.before) element) word
 turns_show call element event knows word v w t known = subst (StateShows (thread_at (elements_after t.did.before) element)) (sym t.is) (t.did.sees.shows.states element known)
 

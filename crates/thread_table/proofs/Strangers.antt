@@ -59,6 +59,6 @@ pub others_count : (id call element : ℕ) (e : Elements) → IsLawfulElements e
 others_count id call element e lawful many known differ may =
     let once : appearances element e ≡ 1 = lawful.once element (subst (λ n. element < n) (sym many) known) in
     let hands = two_count (is_hold call element) (is_hold id element) (λ (h : Hold). eqb h.element element) (holds_apart call id element differ) e.held in
-    let seats = two_count (is_put call element) (is_put id element) (is_on element) (puts_apart call id element differ) e.processors in
+    let processors = two_count (is_put call element) (is_put id element) (is_on element) (puts_apart call id element differ) e.processors in
     one_of (holds call element e) (holds id element e) (list_any (is_put call element) e.processors) (list_any (is_put id element) e.processors)
-    (omega (arith, once, hands, seats)) may
+    (omega (arith, once, hands, processors)) may

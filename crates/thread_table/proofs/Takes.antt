@@ -20,13 +20,13 @@ use Rattle.event_theory.proofs.Keeping.Places.{one, sum_changed, in_joined}
 use Rattle.table_theory.proofs.QueueEvents.{take_goes}
 use Rattle.thread_table.specs.declared.rule.View.{View}
 use Rattle.thread_table.specs.declared.rule.Claimed.{Claimed}
-use Rattle.thread_table.specs.Schedules.{QueueGrows, Grows, line_at, element_at}
-use Rattle.thread_table.specs.Shown.{WordsShow, LineShows, PlaceShows, head_word, tail_word, place_word, tail_shown, mark_of}
+use Rattle.thread_table.specs.Schedules.{QueueGrows, Grows, ring_at, element_at}
+use Rattle.thread_table.specs.Shown.{WordsShow, RingShows, PlaceShows, head_word, tail_word, place_word, tail_shown, mark_of}
 use Rattle.thread_table.specs.Rules.{HandIs, IsClaimed, has}
 use Rattle.thread_table.proofs.Effects.{TakeEffect}
 use Rattle.thread_table.specs.Views.{with_held}
-use Rattle.thread_table.proofs.QueueWords.{shows_kept, with_lines, mark_same, line_shown, all_grow, claim_kept, lines_leave, none_some}
-use Rattle.thread_table.proofs.Owing.{line_owes, queue_owes}
+use Rattle.thread_table.proofs.QueueWords.{shows_kept, with_rings, mark_same, ring_shown, all_grow, claim_kept, rings_leave, none_some}
+use Rattle.thread_table.proofs.Owing.{ring_owes, queue_owes}
 use Rattle.thread_table.proofs.SingleRuns.{Singles, within_room, raised_known, first_is_raised, first_of_left}
 
 or_true : (b : Bool) → (b || true) ≡ true
@@ -55,26 +55,26 @@ module _ (id x : ℕ) (held : List Hold) where
       ∙ (ap (λ b. list_any (is_hold call element) held || (b || false)) no ∙ or-false (list_any (is_hold call element) held))
 
 abbrev after : Elements → ℕ → ℕ → ℕ → Elements
-after e line id x = with_lines e (set e.lines line (after_take 1 (line_at e line))) e.notified (e.held ++ hold id x ∷ [])
+after e ring id x = with_rings e (set e.rings ring (after_take 1 (ring_at e ring))) e.notified (e.held ++ hold id x ∷ [])
 
-goes : (id : ℕ) (e : Elements) (line x : ℕ) → line < length e.lines → IsLawfulQueue (line_at e line) → Singles (line_at e line).history
-    → (line_at e line).raised (line_at e line).taken 0 ≡ true → element_at (line_at e line) (line_at e line).taken ≡ x → take_element line id 1 e ≡ Ok (after e line id x)
-goes id e line x below lawful single up is =
-    let q : Queue = line_at e line in
-    let found : at line e.lines ≡ Ok q = ap (λ o. ok_or o UnknownName) (slice_get-get_or e.lines line (empty_queue 64) below) in
+goes : (id : ℕ) (e : Elements) (ring x : ℕ) → ring < length e.rings → IsLawfulQueue (ring_at e ring) → Singles (ring_at e ring).history
+    → (ring_at e ring).raised (ring_at e ring).taken 0 ≡ true → element_at (ring_at e ring) (ring_at e ring).taken ≡ x → take_element ring id 1 e ≡ Ok (after e ring id x)
+goes id e ring x below lawful single up is =
+    let q : Queue = ring_at e ring in
+    let found : at ring e.rings ≡ Ok q = ap (λ o. ok_or o UnknownName) (slice_get-get_or e.rings ring (empty_queue 64) below) in
     let took : take_first 1 1 q ≡ Ok (after_take 1 q) = take_goes 1 1 q (omega arith) (omega arith) (first_is_raised q lawful single up) in
-    ap (λ said. said >>= λ old. take_first 1 1 old >>= λ new. Ok (record e { lines = set e.lines line new; held = e.held ++ map (hold id) (take 1 (left old)) })) found
-    ∙ (ap (λ said. said >>= λ new. Ok (record e { lines = set e.lines line new; held = e.held ++ map (hold id) (take 1 (left q)) })) took
-    ∙ ap (λ items. Ok (record e { lines = set e.lines line (after_take 1 q); held = e.held ++ map (hold id) items })) (first_of_left q lawful single up ∙ ap (λ n. n ∷ []) is))
+    ap (λ said. said >>= λ old. take_first 1 1 old >>= λ new. Ok (record e { rings = set e.rings ring new; held = e.held ++ map (hold id) (take 1 (left old)) })) found
+    ∙ (ap (λ said. said >>= λ new. Ok (record e { rings = set e.rings ring new; held = e.held ++ map (hold id) (take 1 (left q)) })) took
+    ∙ ap (λ items. Ok (record e { rings = set e.rings ring (after_take 1 q); held = e.held ++ map (hold id) items })) (first_of_left q lawful single up ∙ ap (λ n. n ∷ []) is))
 
 -- the element that is first in a queue is one of the elements
-pub first_known : (e : Elements) (line x : ℕ) → IsLawfulElements e → line < length e.lines → take 1 (left (line_at e line)) ≡ x ∷ [] → x < length e.threads
-first_known e line x lawful below first =
-    let q : Queue = line_at e line in
+pub first_known : (e : Elements) (ring x : ℕ) → IsLawfulElements e → ring < length e.rings → take 1 (left (ring_at e ring)) ≡ x ∷ [] → x < length e.threads
+first_known e ring x lawful below first =
+    let q : Queue = ring_at e ring in
     let there : left q ≡ (x ∷ []) ++ drop 1 (left q) = sym (take-append-drop 1 (left q)) ∙ ap (λ items. items ++ drop 1 (left q)) first in
     let some : in_list x (left q) ≡ in_list x (x ∷ []) + in_list x (drop 1 (left q)) = ap (in_list x) there ∙ in_joined x (x ∷ []) (drop 1 (left q)) in
     let itself : one x x ≡ 1 = rw (eq-eqb x x refl) refl in
-    let sum = sum_changed (λ (r : Queue). in_list x (left r)) e.lines line q (empty_queue 64) (slice_get-get_or e.lines line (empty_queue 64) below) in
+    let sum = sum_changed (λ (r : Queue). in_list x (left r)) e.rings ring q (empty_queue 64) (slice_get-get_or e.rings ring (empty_queue 64) below) in
     dite (dec_lt x (length e.threads)) (λ y. y) (λ no. absurd (omega (arith, lawful.known x (omega arith), some, itself, sum)))
 
 held_after : (id : ℕ) (v : View) (e : Elements) (x : ℕ) → x < length v.held → ((element : ℕ) → holds id element e ≡ has v element)
@@ -84,8 +84,8 @@ held_after id v e x below before element = dite (ℕ_discrete element x)
     (holds_now id x e.held ∙ sym (get_or-set_same v.held x true false below)))
     (λ ne. holds_other id x e.held id element ne ∙ (before element ∙ sym (get_or-set_other v.held x element true false ne)))
 
-hand_after : (id : ℕ) (v : View) (e : Elements) (line x : ℕ) → HandIs id v e → v.claimed ≡ None → x < 64 → HandIs id (with_held v x true) (after e line id x)
-hand_after id v e line x h none known =
+hand_after : (id : ℕ) (v : View) (e : Elements) (ring x : ℕ) → HandIs id v e → v.claimed ≡ None → x < 64 → HandIs id (with_held v x true) (after e ring id x)
+hand_after id v e ring x h none known =
     let long = h.held_long in
     record {
       held_long = length-set v.held x true ∙ h.held_long;
@@ -99,33 +99,33 @@ hand_after id v e line x h none known =
     }
 
 -- the place of the run that was taken is that of the run 64 later, which nobody claimed
-place_after : (first : ℕ) (q : Queue) (line : ℕ) (words : List ℕ) → IsLawfulQueue q → length q.history ≤ q.taken + 64 → q.raised q.taken 0 ≡ true → element_at q q.taken < 64
-    → ((r : ℕ) → q.taken ≤ r → r < q.taken + 64 → PlaceShows first q r (get_or words (place_word line (first + r)) 0))
-    → (r : ℕ) → q.taken + 1 ≤ r → r < q.taken + 1 + 64 → PlaceShows first (after_take 1 q) r (get_or words (place_word line (first + r)) 0)
-place_after first q line words lawful room up known s r a b = dite (dec_lt r (q.taken + 64))
+place_after : (first : ℕ) (q : Queue) (ring : ℕ) (words : List ℕ) → IsLawfulQueue q → length q.history ≤ q.taken + 64 → q.raised q.taken 0 ≡ true → element_at q q.taken < 64
+    → ((r : ℕ) → q.taken ≤ r → r < q.taken + 64 → PlaceShows first q r (get_or words (place_word ring (first + r)) 0))
+    → (r : ℕ) → q.taken + 1 ≤ r → r < q.taken + 1 + 64 → PlaceShows first (after_take 1 q) r (get_or words (place_word ring (first + r)) 0)
+place_after first q ring words lawful room up known s r a b = dite (dec_lt r (q.taken + 64))
     (λ y. let p = s r (omega arith) y in record { up = p.up; low = p.low })
     (λ no. let last : r ≡ q.taken + 64 = omega arith in
     let p = s q.taken (omega arith) (omega arith) in
     let was = p.up up in
     let turn : first + r ≡ first + q.taken + 64 = omega arith in
     let round : (first + r) % 64 ≡ (first + q.taken) % 64 = ap (λ n. n % 64) turn ∙ add-mod_right (first + q.taken) 64 in
-    let same : get_or words (place_word line (first + r)) 0 ≡ get_or words (place_word line (first + q.taken)) 0 = ap (λ n. get_or words (66 * line + 139 + n) 0) round in
+    let same : get_or words (place_word ring (first + r)) 0 ≡ get_or words (place_word ring (first + q.taken)) 0 = ap (λ n. get_or words (66 * ring + 139 + n) 0) round in
     record {
       up = λ h. let n = raised_known q r lawful h in absurd (omega arith);
       low = λ h. omega (arith, was, same, known);
     })
 
-module _ (id : ℕ) (e : Elements) (line x : ℕ) (below : line < length e.lines) where
+module _ (id : ℕ) (e : Elements) (ring x : ℕ) (below : ring < length e.rings) where
   abbrev q : Queue
-  q = line_at e line
+  q = ring_at e ring
 
-  here : line_at (after e line id x) line ≡ after_take 1 q
-  here = get_or-set_same e.lines line (after_take 1 q) (empty_queue 64) below
+  here : ring_at (after e ring id x) ring ≡ after_take 1 q
+  here = get_or-set_same e.rings ring (after_take 1 q) (empty_queue 64) below
 
-  else_where : (l : ℕ) → l ≢ line → line_at (after e line id x) l ≡ line_at e l
-  else_where l ne = get_or-set_other e.lines line l (after_take 1 q) (empty_queue 64) ne
+  else_where : (l : ℕ) → l ≢ ring → ring_at (after e ring id x) l ≡ ring_at e l
+  else_where l ne = get_or-set_other e.rings ring l (after_take 1 q) (empty_queue 64) ne
 
-  grown : Grows e (after e line id x)
+  grown : Grows e (after e ring id x)
   grown =
       let mine : QueueGrows q (after_take 1 q) = record {
         longer = omega arith;
@@ -133,57 +133,57 @@ module _ (id : ℕ) (e : Elements) (line x : ℕ) (below : line < length e.lines
         items = λ r known. refl;
         raised = λ r up. up;
       } in
-      all_grow e (after e line id x) line (subst (QueueGrows q) (sym here) mine) else_where
+      all_grow e (after e ring id x) ring (subst (QueueGrows q) (sym here) mine) else_where
 
-  runs_stay : (call : ℕ) (c : Claimed) → call ≢ id → IsClaimed call c e → IsClaimed call c (after e line id x)
-  runs_stay call c ne claimed = dite (ℕ_discrete c.line line)
-      (λ same. let now : line_at (after e line id x) c.line ≡ after_take 1 q = ap (line_at (after e line id x)) same ∙ here in
-      let was : line_at e c.line ≡ q = ap (line_at e) same in
-      claim_kept call c e (after e line id x)
+  runs_stay : (call : ℕ) (c : Claimed) → call ≢ id → IsClaimed call c e → IsClaimed call c (after e ring id x)
+  runs_stay call c ne claimed = dite (ℕ_discrete c.ring ring)
+      (λ same. let now : ring_at (after e ring id x) c.ring ≡ after_take 1 q = ap (ring_at (after e ring id x)) same ∙ here in
+      let was : ring_at e c.ring ≡ q = ap (ring_at e) same in
+      claim_kept call c e (after e ring id x)
       (ap (λ (r : Queue). slice_get r.history c.run) now ∙ ap (λ (r : Queue). slice_get r.history c.run) (sym was))
       (ap (λ (r : Queue). r.raised c.run 0) now ∙ ap (λ (r : Queue). r.raised c.run 0) (sym was)) claimed)
-      (λ other. claim_kept call c e (after e line id x)
-      (ap (λ (r : Queue). slice_get r.history c.run) (else_where c.line other))
-      (ap (λ (r : Queue). r.raised c.run 0) (else_where c.line other)) claimed)
+      (λ other. claim_kept call c e (after e ring id x)
+      (ap (λ (r : Queue). slice_get r.history c.run) (else_where c.ring other))
+      (ap (λ (r : Queue). r.raised c.run 0) (else_where c.ring other)) claimed)
 
-  shown : (first : ℕ) (words : List ℕ) → line < 18 → IsLawfulQueue q → q.raised q.taken 0 ≡ true → element_at q q.taken < 64 → WordsShow first e words
-      → WordsShow first (after e line id x) (set words (tail_word line) (tail_shown first e line + 1))
+  shown : (first : ℕ) (words : List ℕ) → ring < 18 → IsLawfulQueue q → q.raised q.taken 0 ≡ true → element_at q q.taken < 64 → WordsShow first e words
+      → WordsShow first (after e ring id x) (set words (tail_word ring) (tail_shown first e ring + 1))
   shown first words known lawful up element s =
-      let place : ℕ = tail_word line in
-      let word : ℕ = tail_shown first e line + 1 in
+      let place : ℕ = tail_word ring in
+      let word : ℕ = tail_shown first e ring + 1 in
       let wide = s.wide in
-      let lines : List Queue = set e.lines line (after_take 1 q) in
+      let rings : List Queue = set e.rings ring (after_take 1 q) in
       let held : List Hold = e.held ++ hold id x ∷ [] in
-      let mine : LineShows first e line words = s.lines line known in
+      let mine : RingShows first e ring words = s.rings ring known in
       let room = within_room q 64 lawful mine.single mine.capacity in
-      shows_kept first e lines e.notified held line place word words s
-      (length-set e.lines line (after_take 1 q)) refl known (omega arith) (omega arith) else_where (λ l ne. mark_same e lines held l)
-      (line_shown first (after e line id x) line (set words place word) (after_take 1 q) (mark_of e line) here (mark_same e lines held line)
-      mine.capacity mine.is_open mine.single mine.small mine.marked
-      (get_or-set_other words place (head_word line) word 0 (λ is. omega arith) ∙ mine.head)
+      shows_kept first e rings e.notified held ring place word words s
+      (length-set e.rings ring (after_take 1 q)) refl known (omega arith) (omega arith) else_where (λ l ne. mark_same e rings held l)
+      (ring_shown first (after e ring id x) ring (set words place word) (after_take 1 q) (mark_of e ring) here (mark_same e rings held ring)
+      mine.capacity mine.is_open mine.single mine.bounded mine.marked
+      (get_or-set_other words place (head_word ring) word 0 (λ is. omega arith) ∙ mine.head)
       (get_or-set_same words place word 0 (omega arith) ∙ omega arith)
-      (λ r a b. subst (PlaceShows first (after_take 1 q) r) (sym (get_or-set_other words place (place_word line (first + r)) word 0 (λ is. omega arith)))
-      (place_after first q line words lawful room.1 up element mine.places r a b)))
+      (λ r a b. subst (PlaceShows first (after_take 1 q) r) (sym (get_or-set_other words place (place_word ring (first + r)) word 0 (λ is. omega arith)))
+      (place_after first q ring words lawful room.1 up element mine.places r a b)))
 
 pub take_effect : TakeEffect
-take_effect id v first e words line ready none known up =
+take_effect id v first e words ring ready none known up =
     let shows : WordsShow first e words = ready.shows in
     let many = shows.queues in
     let threads = shows.threads in
-    let q : Queue = line_at e line in
+    let q : Queue = ring_at e ring in
     let x : ℕ = element_at q q.taken in
-    let below : line < length e.lines = omega arith in
-    let mine : LineShows first e line words = shows.lines line known in
-    let lawful : IsLawfulQueue q = every_at IsLawfulQueue e.lines line q (slice_get-get_or e.lines line (empty_queue 64) below) ready.lawful.lines in
-    let is_known : x < length e.threads = first_known e line x ready.lawful below (first_of_left q lawful mine.single up) in
-    let small : x < 64 = omega arith in
+    let below : ring < length e.rings = omega arith in
+    let mine : RingShows first e ring words = shows.rings ring known in
+    let lawful : IsLawfulQueue q = every_at IsLawfulQueue e.rings ring q (slice_get-get_or e.rings ring (empty_queue 64) below) ready.lawful.rings in
+    let is_known : x < length e.threads = first_known e ring x ready.lawful below (first_of_left q lawful mine.single up) in
+    let bounded : x < 64 = omega arith in
     record {
-      f = after e line id x;
-      goes = goes id e line x below lawful mine.single up refl;
-      leaves = lines_leave id v e (set e.lines line (after_take 1 q)) e.notified (e.held ++ hold id x ∷ []) (grown id e line x below)
-          (λ call element ne. holds_call id x e.held call element ne) (runs_stay id e line x below);
-      hand = hand_after id v e line x ready.hand none small;
-      shows = shown id e line x below first words known lawful up small shows;
-      owes = line_owes v (with_held v x true) e (after e line id x) line (after_take 1 q) (here id e line x below) (else_where id e line x below)
-          (queue_owes v (with_held v x true) line q (after_take 1 q) none refl refl) (λ l ne. queue_owes v (with_held v x true) l (line_at e l) (line_at e l) none refl refl);
+      f = after e ring id x;
+      goes = goes id e ring x below lawful mine.single up refl;
+      leaves = rings_leave id v e (set e.rings ring (after_take 1 q)) e.notified (e.held ++ hold id x ∷ []) (grown id e ring x below)
+          (λ call element ne. holds_call id x e.held call element ne) (runs_stay id e ring x below);
+      hand = hand_after id v e ring x ready.hand none bounded;
+      shows = shown id e ring x below first words known lawful up bounded shows;
+      owes = ring_owes v (with_held v x true) e (after e ring id x) ring (after_take 1 q) (here id e ring x below) (else_where id e ring x below)
+          (queue_owes v (with_held v x true) ring q (after_take 1 q) none refl refl) (λ l ne. queue_owes v (with_held v x true) l (ring_at e l) (ring_at e l) none refl refl);
     }

@@ -10,7 +10,7 @@ use Rattle.event_theory.proofs.Outcomes.{changed, delivered_ok, done_ok}
 use Rattle.thread_table.specs.declared.rule.View.{View}
 use Rattle.thread_table.specs.declared.rule.Counted.{Counted}
 use Rattle.thread_table.specs.Schedules.{Grows, thread_at}
-use Rattle.thread_table.specs.Shown.{WordsShow, LineShows, StateShows, state_word, done_word, seat_word, head_word, tail_word, place_word}
+use Rattle.thread_table.specs.Shown.{WordsShow, RingShows, StateShows, state_word, done_word, processor_word, head_word, tail_word, place_word}
 use Rattle.thread_table.specs.Rules.{HandIs, IsClaimed, IsCounted, may_step}
 use Rattle.thread_table.proofs.Effects.{Leaves, Effect, Ready, StopEffect, SignalEffect, DeliverEffect, DoneEffect}
 use Rattle.thread_table.specs.Views.{quiet}
@@ -23,7 +23,7 @@ with_thread e element new = record e { threads = set e.threads element new }
 
 -- a queue that nothing happened to
 same_queue : (e : Elements) → Grows e e
-same_queue e line = record {
+same_queue e ring = record {
   longer = omega arith;
   further = omega arith;
   items = λ run below. refl;
@@ -58,7 +58,7 @@ thread_leaves : (id : ℕ) (v : View) (e : Elements) (element : ℕ) (new : Thre
 thread_leaves id v e element new known steps = record {
   grows = same_queue e;
   held = λ call x other. refl;
-  seats = λ p mine. refl;
+  processors = λ p mine. refl;
   puts = λ call x other. refl;
   runs = λ call c other is. record { below = is.below; known = is.known; run = is.run; low = is.low };
   steps = λ x may_not. each_thread (λ n thread. may_step id n e ≡ false → thread.done ≡ (thread_at e n).done) e element x new known steps (λ differ may. refl) may_not;
@@ -80,18 +80,18 @@ thread_hand id v e element new hand = record {
 word_else : (words : List ℕ) (place other word : ℕ) → other ≢ place → get_or (set words place word) other 0 ≡ get_or words other 0
 word_else words place other word differ = get_or-set_other words place other word 0 differ
 
-line_else : (first : ℕ) (e : Elements) (line element : ℕ) (new : Thread) (words : List ℕ) (place word : ℕ) → place < 137 → LineShows first e line words
-    → LineShows first (with_thread e element new) line (set words place word)
-line_else first e line element new words place word before shows = record {
+ring_else : (first : ℕ) (e : Elements) (ring element : ℕ) (new : Thread) (words : List ℕ) (place word : ℕ) → place < 137 → RingShows first e ring words
+    → RingShows first (with_thread e element new) ring (set words place word)
+ring_else first e ring element new words place word before shows = record {
   capacity = shows.capacity;
   is_open = shows.is_open;
   single = shows.single;
-  small = shows.small;
+  bounded = shows.bounded;
   marked = shows.marked;
-  head = word_else words place (head_word line) word (λ is. omega arith) ∙ shows.head;
-  tail = word_else words place (tail_word line) word (λ is. omega arith) ∙ shows.tail;
+  head = word_else words place (head_word ring) word (λ is. omega arith) ∙ shows.head;
+  tail = word_else words place (tail_word ring) word (λ is. omega arith) ∙ shows.tail;
   places = λ run from to.
-      let same = word_else words place (place_word line (first + run)) word (λ is. omega arith) in
+      let same = word_else words place (place_word ring (first + run)) word (λ is. omega arith) in
       let h = shows.places run from to in
       record { up = λ up. same ∙ h.up up; low = λ low. subst (λ n. n < 256 * (first + run + 1)) (sym same) (h.low low) };
 }
@@ -109,7 +109,7 @@ state_shown first e words element word new known shows steps state =
       queues = shows.queues;
       waits = shows.waits;
       processors = shows.processors;
-      seats = λ p is. word_else words (state_word element) (seat_word p) word (λ same. omega arith) ∙ shows.seats p is;
+      processors = λ p is. word_else words (state_word element) (processor_word p) word (λ same. omega arith) ∙ shows.processors p is;
       states = λ x is. each_thread (λ n thread. StateShows thread (get_or (set words (state_word element) word) (state_word n) 0)) e element x new below
           (subst (StateShows new) (sym here) state)
           (λ differ. subst (StateShows (thread_at e x)) (sym (word_else words (state_word element) (state_word x) word (λ same. differ (omega arith)))) (shows.states x is));
@@ -117,7 +117,7 @@ state_shown first e words element word new known shows steps state =
           ∙ (shows.steps x is ∙ each_thread (λ n thread. (thread_at e n).done ≡ thread.done) e element x new below (sym steps) (λ differ. refl));
       few = λ x is. each_thread (λ n thread. thread.done < 4294967296) e element x new below
           (subst (λ n. n < 4294967296) (sym steps) (shows.few element known)) (λ differ. shows.few x is);
-      lines = λ line is. line_else first e line element new words (state_word element) word (omega arith) (shows.lines line is);
+      rings = λ ring is. ring_else first e ring element new words (state_word element) word (omega arith) (shows.rings ring is);
     }
 
 -- the words after one thread did a step
@@ -138,15 +138,15 @@ done_shown first e words element count known shows is_count room =
       queues = shows.queues;
       waits = shows.waits;
       processors = shows.processors;
-      seats = λ p is. word_else words (done_word element) (seat_word p) (count + 1) (λ eq. omega arith) ∙ shows.seats p is;
+      processors = λ p is. word_else words (done_word element) (processor_word p) (count + 1) (λ eq. omega arith) ∙ shows.processors p is;
       states = λ x is. each_thread (λ n thread. n < 64 → StateShows thread (get_or (set words (done_word element) (count + 1)) (state_word n) 0)) e element x new below
-          (λ low. subst (StateShows new) (sym (same element low)) (record { small = state.small; pending = state.pending; stop = state.stop; parked = state.parked }))
+          (λ low. subst (StateShows new) (sym (same element low)) (record { bounded = state.bounded; pending = state.pending; stop = state.stop; parked = state.parked }))
           (λ differ low. subst (StateShows (thread_at e x)) (sym (same x low)) (shows.states x low)) is;
       steps = λ x is. each_thread (λ n thread. get_or (set words (done_word element) (count + 1)) (done_word n) 0 ≡ thread.done) e element x new below
           (here ∙ ap (λ n. n + 1) (sym is_count))
           (λ differ. word_else words (done_word element) (done_word x) (count + 1) (λ eq. differ (omega arith)) ∙ shows.steps x is);
       few = λ x is. each_thread (λ n thread. thread.done < 4294967296) e element x new below (omega (arith, is_count, room)) (λ differ. shows.few x is);
-      lines = λ line is. line_else first e line element new words (done_word element) (count + 1) (omega arith) (shows.lines line is);
+      rings = λ ring is. ring_else first e ring element new words (done_word element) (count + 1) (omega arith) (shows.rings ring is);
     }
 
 -- the effect of an event that changes one thread's state
@@ -159,7 +159,7 @@ state_effect id v first event e words element word new ready free known goes ste
   leaves = thread_leaves id v e element new (subst (λ n. element < n) (sym ready.shows.threads) known) (λ may_not. steps);
   hand = thread_hand id v e element new ready.hand;
   shows = state_shown first e words element word new known ready.shows steps state;
-  owes = same_owes v (quiet v) e (with_thread e element new) free (λ line. refl);
+  owes = same_owes v (quiet v) e (with_thread e element new) free (λ ring. refl);
 }
 
 pub stop_effect : StopEffect
@@ -170,11 +170,11 @@ stop_effect id v first e words element ready free known =
     (stop_shows old (get_or words (state_word element) 0) (ready.shows.states element known))
 
 pub signal_effect : SignalEffect
-signal_effect id v first e words element number ready free known small =
+signal_effect id v first e words element number ready free known bounded =
     let old : Thread = thread_at e element in
     state_effect id v first (signal element number) e words element _ (record old { pending = with_number true number old.pending }) ready free known
     (changed element _ e old _ (found e element ready.shows.threads known) refl) refl
-    (signal_shows old (get_or words (state_word element) 0) number small (ready.shows.states element known))
+    (signal_shows old (get_or words (state_word element) 0) number bounded (ready.shows.states element known))
 
 pub deliver_effect : DeliverEffect
 deliver_effect id v first e words element ready free known mine =
@@ -196,5 +196,5 @@ done_effect id v first e words element count ready free counts room =
       leaves = thread_leaves id v e element new below (λ may_not. let wrong : true ≡ false = sym is.may ∙ may_not in absurd (cc));
       hand = thread_hand id v e element new ready.hand;
       shows = done_shown first e words element count is.known ready.shows is.done room;
-      owes = same_owes v (quiet v) e (with_thread e element new) free (λ line. refl);
+      owes = same_owes v (quiet v) e (with_thread e element new) free (λ ring. refl);
     }

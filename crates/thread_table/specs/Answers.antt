@@ -16,69 +16,69 @@ use Rattle.thread_table.specs.declared.states.Signalled.{Signalled}
 use Rattle.thread_table.specs.declared.states.Signalled.TheVariants as signalled
 use Rattle.thread_table.specs.declared.states.Lost.{Lost}
 use Rattle.thread_table.specs.declared.programs.Spent.{Spent}
-use Rattle.thread_table.specs.Schedules.{elements_after, line_at, thread_at}
+use Rattle.thread_table.specs.Schedules.{elements_after, ring_at, thread_at}
 use Rattle.thread_table.specs.Shown.{head_word, tail_word, place_word, state_word, tail_shown, mark_of}
 use Rattle.thread_table.specs.Rules.{has}
 use Rattle.thread_table.specs.Steps.{Found, Claims, claim_event, Raises, Takes, Marks, Parks, Starts, Delivers}
-use Rattle.thread_table.specs.Steps.{Counts, Steps}
+use Rattle.thread_table.specs.Steps.{ReadPc, CountedStep}
 
 -- The tail was loaded, and then the place at it
-pub record FoundFirst (v : View) (line tail place : ℕ) (w : View) : Type 0 where
+pub record FoundFirst (v : View) (ring tail place : ℕ) (w : View) : Type 0 where
   pub loaded : View
-  pub tail_loaded : Found v (tail_word line) tail loaded
-  pub place_loaded : Found loaded (place_word line tail) place w
+  pub tail_loaded : Found v (tail_word ring) tail loaded
+  pub place_loaded : Found loaded (place_word ring tail) place w
 
 -- The place at the tail was raised, and then the tail was exchanged, and was still that one. The element of the place
 -- was the oldest of the queue, and the hand holds it
-pub record TookFirst (call : ℕ) (v : View) (line element : ℕ) (w : View) : Type 0 where
+pub record TookFirst (call : ℕ) (v : View) (ring element : ℕ) (w : View) : Type 0 where
   pub tail : ℕ
   pub place : ℕ
   pub before : View
-  pub found : FoundFirst v line tail place before
+  pub found : FoundFirst v ring tail place before
   pub raised : place / 256 ≡ tail + 1
   pub element_is : element ≡ place % 256
-  pub took : Takes call line tail before w
-  pub oldest : take 1 (left (line_at (elements_after took.did.before) line)) ≡ element ∷ []
+  pub took : Takes call ring tail before w
+  pub oldest : take 1 (left (ring_at (elements_after took.did.before) ring)) ≡ element ∷ []
   pub holds : (e : ℕ) → has w e ≡ (has v e || e == element)
 
 -- The place at the tail was not raised, and the tail was found again after that. So the run at the tail was not raised
 -- when the place was loaded
-pub record WasNotRaised (v : View) (line : ℕ) (w : View) : Type 0 where
+pub record WasNotRaised (v : View) (ring : ℕ) (w : View) : Type 0 where
   pub tail : ℕ
   pub place : ℕ
   pub before : View
-  pub found : FoundFirst v line tail place before
+  pub found : FoundFirst v ring tail place before
   pub low : place / 256 ≢ tail + 1
-  pub tail_again : Found before (tail_word line) tail w
-  pub from : tail ≡ tail_shown v.first (elements_after before.schedule) line
-  pub unraised : (line_at (elements_after before.schedule) line).raised
-      (line_at (elements_after before.schedule) line).taken 0 ≡ false
+  pub tail_again : Found before (tail_word ring) tail w
+  pub from : tail ≡ tail_shown v.first (elements_after before.schedule) ring
+  pub unraised : (ring_at (elements_after before.schedule) ring).raised
+      (ring_at (elements_after before.schedule) ring).taken 0 ≡ false
 
 -- the place at the tail was not raised, and then another tail was found, past that one
-pub record PassedBefore (v : View) (line seen : ℕ) (w : View) : Type 0 where
+pub record PassedBefore (v : View) (ring seen : ℕ) (w : View) : Type 0 where
   pub tail : ℕ
   pub place : ℕ
   pub before : View
-  pub found : FoundFirst v line tail place before
+  pub found : FoundFirst v ring tail place before
   pub low : place / 256 ≢ tail + 1
-  pub tail_again : Found before (tail_word line) seen w
+  pub tail_again : Found before (tail_word ring) seen w
   pub past : tail < seen
 
 -- the place at the tail was raised, but the exchange found another tail, past that one
-pub record PassedMeanwhile (v : View) (line seen : ℕ) (w : View) : Type 0 where
+pub record PassedMeanwhile (v : View) (ring seen : ℕ) (w : View) : Type 0 where
   pub tail : ℕ
   pub place : ℕ
   pub before : View
-  pub found : FoundFirst v line tail place before
+  pub found : FoundFirst v ring tail place before
   pub raised : place / 256 ≡ tail + 1
-  pub missed : Found before (tail_word line) seen w
+  pub missed : Found before (tail_word ring) seen w
   pub past : tail < seen
 
 -- the answer to a taking: the first element; or there was none that was ready; or another hand took first
 abbrev pub TakeAnswer : ℕ → View → ℕ → Result ℕ NextRefusal → View → Type 0
-TakeAnswer call v line (Ok element) w = TookFirst call v line element w
-TakeAnswer call v line (Err nexts.NoneReady) w = WasNotRaised v line w
-TakeAnswer call v line (Err (nexts.Lost seen)) w = PassedBefore v line seen w ⊎ PassedMeanwhile v line seen w
+TakeAnswer call v ring (Ok element) w = TookFirst call v ring element w
+TakeAnswer call v ring (Err nexts.NoneReady) w = WasNotRaised v ring w
+TakeAnswer call v ring (Err (nexts.Lost seen)) w = PassedBefore v ring seen w ⊎ PassedMeanwhile v ring seen w
 
 -- the position, and the number of notifies, of a head word
 abbrev pub head_in : ℕ → ℕ
@@ -88,43 +88,43 @@ abbrev pub mark_in : ℕ → ℕ
 mark_in word = word / 4294967296
 
 -- the head word was loaded, with a position left
-pub record FoundHead (v : View) (line word : ℕ) (w : View) : Type 0 where
-  pub loaded : Found v (head_word line) word w
+pub record FoundHead (v : View) (ring word : ℕ) (w : View) : Type 0 where
+  pub loaded : Found v (head_word ring) word w
   pub positions : head_in word < 4294967295
 
 -- The hand found a position left, claimed it for an element that it held, by one exchange of the head word that it had
 -- loaded, and raised it. It holds the element no more
-pub record MovedTo (call : ℕ) (v : View) (line element : ℕ) (event : Event) (w : View) : Type 0 where
+pub record MovedTo (call : ℕ) (v : View) (ring element : ℕ) (event : Event) (w : View) : Type 0 where
   pub word : ℕ
   pub before : View
-  pub found : FoundHead v line word before
+  pub found : FoundHead v ring word before
   pub between : View
-  pub claims : Claims call line element event word before between
-  pub raises : Raises call line (length (line_at (elements_after claims.did.before) line).history) element between w
+  pub claims : Claims call ring element event word before between
+  pub raises : Raises call ring (length (ring_at (elements_after claims.did.before) ring).history) element between w
   pub gone : (e : ℕ) → has w e ≡ (if e == element then false else has v e)
 
 -- the head that was loaded is the last position
-pub record WasSpent (v : View) (line : ℕ) (w : View) : Type 0 where
+pub record WasSpent (v : View) (ring : ℕ) (w : View) : Type 0 where
   pub word : ℕ
-  pub loaded : Found v (head_word line) word w
+  pub loaded : Found v (head_word ring) word w
   pub spent : head_in word ≡ 4294967295
-  pub at_end : v.first + length (line_at (elements_after w.schedule) line).history ≡ 4294967295
+  pub at_end : v.first + length (ring_at (elements_after w.schedule) ring).history ≡ 4294967295
 
 -- a position was left, but the exchange found another head word
-pub record WasOvertaken (v : View) (line seen : ℕ) (w : View) : Type 0 where
+pub record WasOvertaken (v : View) (ring seen : ℕ) (w : View) : Type 0 where
   pub word : ℕ
   pub before : View
-  pub found : FoundHead v line word before
-  pub missed : Found before (head_word line) seen w
+  pub found : FoundHead v ring word before
+  pub missed : Found before (head_word ring) seen w
   pub differs : seen ≢ word
 
 -- the answer to a move without a ticket: the element is in the queue; or no position was left; or another hand moved
 -- first
 abbrev pub MoveAnswer : ℕ → View → ℕ → ℕ → Result (Unit {0}) MoveRefusal → View → Type 0
-MoveAnswer call v line element (Ok done) w = MovedTo call v line element (claim_event call line element) w
-MoveAnswer call v line element (Err moves.Spent) w = WasSpent v line w
-MoveAnswer call v line element (Err (moves.Lost seen)) w = WasOvertaken v line seen w
-MoveAnswer call v line element (Err (moves.Moved mark)) w = ⊥
+MoveAnswer call v ring element (Ok done) w = MovedTo call v ring element (claim_event call ring element) w
+MoveAnswer call v ring element (Err moves.Spent) w = WasSpent v ring w
+MoveAnswer call v ring element (Err (moves.Lost seen)) w = WasOvertaken v ring seen w
+MoveAnswer call v ring element (Err (moves.Moved mark)) w = ⊥
 
 -- the number of notifies was loaded
 pub record IsTicket (v : View) (wait ticket : ℕ) (w : View) : Type 0 where
@@ -259,11 +259,11 @@ DeliverAnswer call v element (Err lost) w = WasChanged HasSignals v element lost
 pub record CountedStep (call : ℕ) (v : View) (element number : ℕ) (w : View) : Type 0 where
   pub count : ℕ
   pub between : View
-  pub found : Counts element v count between
-  pub steps : Steps call element count between w
+  pub found : ReadPc element v count between
+  pub steps : CountedStep call element count between w
   pub is : number ≡ count + 1
 
 -- the answer to a step done: the new number of steps; or Spent, where 4,294,967,295 were found to be done
 abbrev pub DoneAnswer : ℕ → View → ℕ → Result ℕ Spent → View → Type 0
 DoneAnswer call v element (Ok number) w = CountedStep call v element number w
-DoneAnswer call v element (Err spent) w = Counts element v 4294967295 w
+DoneAnswer call v element (Err spent) w = ReadPc element v 4294967295 w

@@ -15,7 +15,7 @@ use Rattle.table_theory.specs.Ends.{Begins}
 use Rattle.table_theory.specs.Members.{EndsKnown}
 use Rattle.thread_table.specs.declared.rule.Shape.{Shape}
 use Rattle.thread_table.specs.declared.rule.View.{View}
-use Rattle.thread_table.specs.Schedules.{line_at, element_at}
+use Rattle.thread_table.specs.Schedules.{ring_at, element_at}
 use Rattle.thread_table.specs.Shown.{WordsShow}
 use Rattle.thread_table.specs.Rules.{HandIs, IsIdle, IsOpen, serves, member_of, steps_of, course_of}
 use Rattle.thread_table.specs.Joins.{AreJoins, AreJoined}
@@ -44,9 +44,9 @@ pub record ShowsElements (key : Shape) (s : tables.State Unit View) : Type 0 whe
   pub sole : (i j p : ℕ) (u v : View) → get_elem? s.views i ≡ some u → get_elem? s.views j ≡ some v
       → serves u p ≡ true → serves v p ≡ true → i ≡ j
   -- each run that isn't raised is that of a hand which is about to raise it
-  pub owned : (line run : ℕ) → line < 18 → IsOpen line run core.elements → (j : ℕ) × (v : View)
+  pub owned : (ring run : ℕ) → ring < 18 → IsOpen ring run core.elements → (j : ℕ) × (v : View)
       × (get_elem? s.views j ≡ some v)
-      × (v.claimed ≡ Some (claim_of line run (element_at (line_at core.elements line) run)))
+      × (v.claimed ≡ Some (claim_of ring run (element_at (ring_at core.elements ring) run)))
   -- the word has the number of the hands that stand
   pub ends : EndsKnown member_of IsIdle (slice_index_or s.words 0 0) s.views
   -- the joins of the schedule are the hands': each hand that doesn't stand any more was joined once, and no other

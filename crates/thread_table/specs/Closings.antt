@@ -12,8 +12,8 @@ use Rattle.table_theory.specs.Sharing.{IsWhole}
 use Rattle.thread_table.specs.declared.places.Place.{Place}
 use Rattle.thread_table.specs.declared.places.Place.TheVariants as places
 use Rattle.thread_table.specs.declared.rule.View.{View}
-use Rattle.thread_table.specs.Schedules.{state_after, elements_after, IsAllowed, line_at, thread_at}
-use Rattle.thread_table.specs.Shown.{seat_word, state_word, head_word, tail_word, place_word}
+use Rattle.thread_table.specs.Schedules.{state_after, elements_after, IsAllowed, ring_at, thread_at}
+use Rattle.thread_table.specs.Shown.{processor_word, state_word, head_word, tail_word, place_word}
 use Rattle.thread_table.specs.Rules.{HandIs, done_at}
 use Rattle.thread_table.specs.Views.{quiet}
 use Rattle.thread_table.specs.Makers.{AreMade, StepsOnce}
@@ -25,35 +25,35 @@ abbrev pub word_at : List ℕ → ℕ → ℕ
 word_at words i = slice_index_or words i 0
 
 -- the element of a processor's word
-abbrev pub SeatOf : ℕ → List ℕ → Option ℕ → Type 0
-SeatOf element words None = (p : ℕ) → p < 8 → word_at words (seat_word p) ≢ element + 1
-SeatOf element words (Some p) = (p < 8) × (word_at words (seat_word p) ≡ element + 1)
+abbrev pub ProcessorOf : ℕ → List ℕ → Option ℕ → Type 0
+ProcessorOf element words None = (p : ℕ) → p < 8 → word_at words (processor_word p) ≢ element + 1
+ProcessorOf element words (Some p) = (p < 8) × (word_at words (processor_word p) ≡ element + 1)
 
 -- the element stands in a place of the queue that is claimed and not taken
 abbrev pub IsIn : ℕ → List ℕ → ℕ → Type 0
-IsIn element words line = (position : ℕ) × (word_at words (tail_word line) ≤ position)
-    × (position < word_at words (head_word line) % 4294967296)
-    × (word_at words (place_word line position) % 256 ≡ element)
+IsIn element words ring = (position : ℕ) × (word_at words (tail_word ring) ≤ position)
+    × (position < word_at words (head_word ring) % 4294967296)
+    × (word_at words (place_word ring position) % 256 ≡ element)
 
-abbrev pub LineOf : ℕ → List ℕ → Option ℕ → Type 0
-LineOf element words None = (line : ℕ) → line < 18 → IsIn element words line → ⊥
-LineOf element words (Some line) = (line < 18) × IsIn element words line
+abbrev pub RingOf : ℕ → List ℕ → Option ℕ → Type 0
+RingOf element words None = (ring : ℕ) → ring < 18 → IsIn element words ring → ⊥
+RingOf element words (Some ring) = (ring < 18) × IsIn element words ring
 
-abbrev pub line_place : ℕ → Place
-line_place zero = places.Ready
-line_place (suc zero) = places.Free
-line_place (suc (suc wait)) = places.Wait wait
+abbrev pub ring_place : ℕ → Place
+ring_place zero = places.Ready
+ring_place (suc zero) = places.Free
+ring_place (suc (suc wait)) = places.Wait wait
 
 abbrev pub place_by : Option ℕ → Option ℕ → Bool → Place
-place_by (Some p) line parked = places.Processor p
-place_by None (Some line) parked = line_place line
+place_by (Some p) ring parked = places.Processor p
+place_by None (Some ring) parked = ring_place ring
 place_by None None true = places.Stopped
 place_by None None false = places.Held
 
 -- what the words say of an element's place: where they say nothing, it is held
 abbrev pub PlaceOf : ℕ → List ℕ → Place → Type 0
-PlaceOf element words place = (seat : Option ℕ) × (line : Option ℕ) × SeatOf element words seat
-    × LineOf element words line × (place ≡ place_by seat line (bit_at (word_at words (state_word element)) 17 == 1))
+PlaceOf element words place = (seat : Option ℕ) × (ring : Option ℕ) × ProcessorOf element words seat
+    × RingOf element words ring × (place ≡ place_by seat ring (bit_at (word_at words (state_word element)) 17 == 1))
 
 abbrev pub is_left : ℕ → Queue → Bool
 is_left element q = list_any (λ item. item == element) (left q)
@@ -61,9 +61,9 @@ is_left element q = list_any (λ item. item == element) (left q)
 -- the element is in this place; Held is: by the call
 abbrev pub StandsAt : ℕ → ℕ → Elements → Place → Type 0
 StandsAt call element e (places.Processor p) = is_on element (slice_index_or e.processors p None) ≡ true
-StandsAt call element e places.Ready = is_left element (line_at e 0) ≡ true
-StandsAt call element e places.Free = is_left element (line_at e 1) ≡ true
-StandsAt call element e (places.Wait wait) = is_left element (line_at e (wait + 2)) ≡ true
+StandsAt call element e places.Ready = is_left element (ring_at e 0) ≡ true
+StandsAt call element e places.Free = is_left element (ring_at e 1) ≡ true
+StandsAt call element e (places.Wait wait) = is_left element (ring_at e (wait + 2)) ≡ true
 StandsAt call element e places.Stopped = (thread_at e element).parked ≡ true
 StandsAt call element e places.Held = holds call element e ≡ true
 

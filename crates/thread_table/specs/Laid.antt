@@ -3,14 +3,14 @@ use Rattle.std.specs.Prelude.{◌≡◌, ℕ, ◌+◌, ◌*◌, ◌<◌, ◌≤�
 use Rattle.thread_table.specs.Shown.{head_word, tail_word, place_word}
 
 -- the heads and tails of so many element queues are at first, the head of the free elements so much behind it
-pub record LinesLaid (first free lines : ℕ) (old words : List ℕ) : Type 0 where
+pub record RingsLaid (first free rings : ℕ) (old words : List ℕ) : Type 0 where
   pub wide : length words ≡ 1325
-  pub heads : (line : ℕ) → line < lines
-      → slice_index_or words (head_word line) 0 ≡ first + (if line == 1 then free else 0)
-  pub tails : (line : ℕ) → line < lines → slice_index_or words (tail_word line) 0 ≡ first
+  pub heads : (ring : ℕ) → ring < rings
+      → slice_index_or words (head_word ring) 0 ≡ first + (if ring == 1 then free else 0)
+  pub tails : (ring : ℕ) → ring < rings → slice_index_or words (tail_word ring) 0 ≡ first
   pub low : (i : ℕ) → i < 137 → slice_index_or words i 0 ≡ slice_index_or old i 0
-  pub items : (line i : ℕ) → line < 18 → i < 64
-      → slice_index_or words (66 * line + 139 + i) 0 ≡ slice_index_or old (66 * line + 139 + i) 0
+  pub items : (ring i : ℕ) → ring < 18 → i < 64
+      → slice_index_or words (66 * ring + 139 + i) 0 ≡ slice_index_or old (66 * ring + 139 + i) 0
 
 -- the places of so many free elements are raised
 pub record ItemsLaid (first items : ℕ) (old words : List ℕ) : Type 0 where

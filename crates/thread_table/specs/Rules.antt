@@ -16,7 +16,7 @@ use Rattle.thread_table.specs.declared.rule.Shape.{Shape}
 use Rattle.thread_table.specs.declared.rule.View.{View}
 use Rattle.thread_table.specs.declared.rule.Claimed.{Claimed}
 use Rattle.thread_table.specs.declared.rule.Counted.{Counted}
-use Rattle.thread_table.specs.Schedules.{Course, elements_after, IsAllowed, Grows, line_at, thread_at, element_at}
+use Rattle.thread_table.specs.Schedules.{Course, elements_after, IsAllowed, Grows, ring_at, thread_at, element_at}
 use Rattle.thread_table.specs.Views.{claim_of}
 use Rattle.thread_table.specs.Joins.{AreJoins, AreJoined}
 use Rattle.thread_table.specs.Makers.{AreMade, made_of}
@@ -59,10 +59,10 @@ may_step call element e = holds call element e || list_any (is_put call element)
 
 -- a run of the call that isn't raised
 pub record IsClaimed (call : ℕ) (c : Claimed) (e : Elements) : Type 0 where
-  pub below : c.line < 18
+  pub below : c.ring < 18
   pub known : c.element < 64
-  pub run : slice_get (line_at e c.line).history c.run ≡ Some (record { call = call; items = c.element ∷ [] })
-  pub low : (line_at e c.line).raised c.run 0 ≡ false
+  pub run : slice_get (ring_at e c.ring).history c.run ≡ Some (record { call = call; items = c.element ∷ [] })
+  pub low : (ring_at e c.ring).raised c.run 0 ≡ false
 
 -- the call may count a step of the element, which had so many
 pub record IsCounted (call : ℕ) (c : Counted) (e : Elements) : Type 0 where
@@ -89,8 +89,8 @@ pub record Seen (v : View) (events : List Event) : Type 0 where
 
 -- the run is claimed and not raised
 abbrev pub IsOpen : ℕ → ℕ → Elements → Type 0
-IsOpen line run e =
-    (run < length (line_at e line).history) × ((line_at e line).raised run 0 ≡ false)
+IsOpen ring run e =
+    (run < length (ring_at e ring).history) × ((ring_at e ring).raised run 0 ≡ false)
 
 -- a hand that was joined has nothing, and lists no step
 abbrev pub IsIdle : View → Type 0
@@ -131,9 +131,9 @@ pub record Rule (key : Shape) (s : State Unit View) : Type 0 where
   pub hands : (j : ℕ) (v : View) → get_elem? s.views j ≡ some v → HandIs j v (elements_after events)
   pub sole : (i j p : ℕ) (u v : View) → get_elem? s.views i ≡ some u → get_elem? s.views j ≡ some v
       → serves u p ≡ true → serves v p ≡ true → i ≡ j
-  pub owned : (line run : ℕ) → line < 18 → IsOpen line run (elements_after events) → (j : ℕ) × (v : View)
+  pub owned : (ring run : ℕ) → ring < 18 → IsOpen ring run (elements_after events) → (j : ℕ) × (v : View)
       × (get_elem? s.views j ≡ some v)
-      × (v.claimed ≡ Some (claim_of line run (element_at (line_at (elements_after events) line) run)))
+      × (v.claimed ≡ Some (claim_of ring run (element_at (ring_at (elements_after events) ring) run)))
   pub strange : (call element : ℕ) → length s.views ≤ call → holds call element (elements_after events) ≡ false
   pub made : AreMade events (map made_of s.views)
   pub steady : (j : ℕ) (v : View) → get_elem? s.views j ≡ some v → IsSteady v events

@@ -37,16 +37,16 @@ unfoldable pub IsAllowed : List Event → Type 0
 IsAllowed events = Reaches begun events (state_after events)
 
 -- an element queue by its number: the ready ring, the free elements, and behind them the wait queues
-abbrev pub line_at : Elements → ℕ → Queue
-line_at e line = slice_index_or e.lines line (empty_queue 64)
+abbrev pub ring_at : Elements → ℕ → Queue
+ring_at e ring = slice_index_or e.rings ring (empty_queue 64)
 
 abbrev pub thread_at : Elements → ℕ → Thread
 thread_at e element = slice_index_or e.threads element new_thread
 
-abbrev pub line_name : ℕ → QueueName
-line_name zero = names.Ready
-line_name (suc zero) = names.Free
-line_name (suc (suc wait)) = names.Wait wait
+abbrev pub ring_name : ℕ → QueueName
+ring_name zero = names.Ready
+ring_name (suc zero) = names.Free
+ring_name (suc (suc wait)) = names.Wait wait
 
 -- the element of a run, which has one
 abbrev pub element_of : Run → ℕ
@@ -68,4 +68,4 @@ pub record QueueGrows (q r : Queue) : Type 0 where
 
 -- so is each element queue
 abbrev pub Grows : Elements → Elements → Type 0
-Grows e f = (line : ℕ) → QueueGrows (line_at e line) (line_at f line)
+Grows e f = (ring : ℕ) → QueueGrows (ring_at e ring) (ring_at f ring)

@@ -8,14 +8,14 @@ use Rattle.event_theory.specs.Elements.{Elements, Thread}
 use Rattle.event_theory.specs.Queues.{Queue}
 use Rattle.event_theory.specs.Runs.{Run}
 use Rattle.event_theory.specs.declared.hold.Hold.{Hold}
-use Rattle.thread_table.specs.Schedules.{line_at, thread_at, element_at}
+use Rattle.thread_table.specs.Schedules.{ring_at, thread_at, element_at}
 
 -- where the words of each kind stand
 abbrev pub ends_word : ℕ
 ends_word = 0
 
-abbrev pub seat_word : ℕ → ℕ
-seat_word processor = processor + 1
+abbrev pub processor_word : ℕ → ℕ
+processor_word processor = processor + 1
 
 abbrev pub state_word : ℕ → ℕ
 state_word element = element + 9
@@ -24,24 +24,24 @@ abbrev pub done_word : ℕ → ℕ
 done_word element = element + 73
 
 abbrev pub head_word : ℕ → ℕ
-head_word line = 66 * line + 137
+head_word ring = 66 * ring + 137
 
 abbrev pub tail_word : ℕ → ℕ
-tail_word line = 66 * line + 138
+tail_word ring = 66 * ring + 138
 
 abbrev pub place_word : ℕ → ℕ → ℕ
-place_word line position = 66 * line + 139 + position % 64
+place_word ring position = 66 * ring + 139 + position % 64
 
 abbrev pub bit_of : Bool → ℕ
 bit_of b = if b then 1 else 0
 
-abbrev pub seat_shown : Option Hold → ℕ
-seat_shown None = 0
-seat_shown (Some h) = h.element + 1
+abbrev pub processor_shown : Option Hold → ℕ
+processor_shown None = 0
+processor_shown (Some h) = h.element + 1
 
 -- bits 0 to 15 are the pending signals, bit 16 the stop bit, bit 17 the stop cell
 pub record StateShows (thread : Thread) (word : ℕ) : Type 0 where
-  pub small : word < 262144
+  pub bounded : word < 262144
   pub pending : (signal : ℕ) → signal < 16 → bit_at word signal ≡ bit_of (thread.pending signal)
   pub stop : bit_at word 16 ≡ bit_of thread.stop
   pub parked : bit_at word 17 ≡ bit_of thread.parked
@@ -58,31 +58,31 @@ mark_of e (suc zero) = 0
 mark_of e (suc (suc wait)) = slice_index_or e.notified wait 0
 
 abbrev pub head_shown : ℕ → Elements → ℕ → ℕ
-head_shown first e line = first + length (line_at e line).history + mark_of e line * 4294967296
+head_shown first e ring = first + length (ring_at e ring).history + mark_of e ring * 4294967296
 
 abbrev pub tail_shown : ℕ → Elements → ℕ → ℕ
-tail_shown first e line = first + (line_at e line).taken
+tail_shown first e ring = first + (ring_at e ring).taken
 
 -- each run is one element
-pub record LineShows (first : ℕ) (e : Elements) (line : ℕ) (words : List ℕ) : Type 0 where
-  pub capacity : (line_at e line).capacity ≡ 64
-  pub is_open : (line_at e line).shut ≡ false
-  pub single : (number : ℕ) (run : Run) → slice_get (line_at e line).history number ≡ Some run → length run.items ≡ 1
-  pub small : first + length (line_at e line).history < 4294967296
-  pub marked : mark_of e line < 4294967296
-  pub head : slice_index_or words (head_word line) 0 ≡ head_shown first e line
-  pub tail : slice_index_or words (tail_word line) 0 ≡ tail_shown first e line
-  pub places : (run : ℕ) → (line_at e line).taken ≤ run → run < (line_at e line).taken + 64
-      → PlaceShows first (line_at e line) run (slice_index_or words (place_word line (first + run)) 0)
+pub record RingShows (first : ℕ) (e : Elements) (ring : ℕ) (words : List ℕ) : Type 0 where
+  pub capacity : (ring_at e ring).capacity ≡ 64
+  pub is_open : (ring_at e ring).shut ≡ false
+  pub single : (number : ℕ) (run : Run) → slice_get (ring_at e ring).history number ≡ Some run → length run.items ≡ 1
+  pub bounded : first + length (ring_at e ring).history < 4294967296
+  pub marked : mark_of e ring < 4294967296
+  pub head : slice_index_or words (head_word ring) 0 ≡ head_shown first e ring
+  pub tail : slice_index_or words (tail_word ring) 0 ≡ tail_shown first e ring
+  pub places : (run : ℕ) → (ring_at e ring).taken ≤ run → run < (ring_at e ring).taken + 64
+      → PlaceShows first (ring_at e ring) run (slice_index_or words (place_word ring (first + run)) 0)
 
 pub record WordsShow (first : ℕ) (e : Elements) (words : List ℕ) : Type 0 where
   pub wide : length words ≡ 1325
   pub threads : length e.threads ≡ 64
-  pub queues : length e.lines ≡ 18
+  pub queues : length e.rings ≡ 18
   pub waits : length e.notified ≡ 16
   pub processors : length e.processors ≡ 8
-  pub seats : (p : ℕ) → p < 8 → slice_index_or words (seat_word p) 0 ≡ seat_shown (slice_index_or e.processors p None)
+  pub processors : (p : ℕ) → p < 8 → slice_index_or words (processor_word p) 0 ≡ processor_shown (slice_index_or e.processors p None)
   pub states : (x : ℕ) → x < 64 → StateShows (thread_at e x) (slice_index_or words (state_word x) 0)
   pub steps : (x : ℕ) → x < 64 → slice_index_or words (done_word x) 0 ≡ (thread_at e x).done
   pub few : (x : ℕ) → x < 64 → (thread_at e x).done < 4294967296
-  pub lines : (line : ℕ) → line < 18 → LineShows first e line words
+  pub rings : (ring : ℕ) → ring < 18 → RingShows first e ring words

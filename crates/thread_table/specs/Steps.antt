@@ -13,10 +13,10 @@ use Rattle.event_theory.specs.States.{step}
 use Rattle.event_theory.specs.declared.event.Event.{Event}
 use Rattle.event_theory.specs.declared.event.Event.TheVariants as events
 use Rattle.thread_table.specs.declared.rule.View.{View}
-use Rattle.thread_table.specs.Schedules.{Course, state_after, elements_after, IsAllowed, line_at, thread_at}
-use Rattle.thread_table.specs.Schedules.{element_at, line_name}
+use Rattle.thread_table.specs.Schedules.{Course, state_after, elements_after, IsAllowed, ring_at, thread_at}
+use Rattle.thread_table.specs.Schedules.{element_at, ring_name}
 use Rattle.thread_table.specs.Shown.{WordsShow, head_shown, tail_shown}
-use Rattle.thread_table.specs.Shown.{ends_word, seat_word, state_word, done_word, head_word, tail_word, place_word}
+use Rattle.thread_table.specs.Shown.{ends_word, processor_word, state_word, done_word, head_word, tail_word, place_word}
 use Rattle.thread_table.specs.Rules.{HandIs, Seen, IsSteady, IsNewest, done_at, nothing_held, no_processors, nothing_on}
 use Rattle.thread_table.specs.Makers.{made_in}
 use Rattle.thread_table.specs.Views.{quiet, with_held, with_claim, with_raise, with_on, with_off, with_start, count_of}
@@ -91,17 +91,17 @@ abbrev pub Makes : (View → ℕ → View → Type 0) → Step Unit → Me Unit 
 Makes Does st m r m' = (m'.1 ≡ m.1) × Does m.0 r m'.0
 
 -- a place in the queue was claimed for an element that the hand held, where the head word was this one
-pub record Claims (call line element : ℕ) (event : Event) (head : ℕ) (v w : View) : Type 0 where
-  pub did : Did call v (head_word line) head event
-      (λ before. with_claim v line (length (line_at (elements_after before) line).history) element) w
-  pub head_is : head ≡ head_shown v.first (elements_after did.before) line
+pub record Claims (call ring element : ℕ) (event : Event) (head : ℕ) (v w : View) : Type 0 where
+  pub did : Did call v (head_word ring) head event
+      (λ before. with_claim v ring (length (ring_at (elements_after before) ring).history) element) w
+  pub head_is : head ≡ head_shown v.first (elements_after did.before) ring
 
 abbrev pub claim_event : ℕ → ℕ → ℕ → Event
-claim_event call line element = events.Claim call (line_name line) (element ∷ [])
+claim_event call ring element = events.Claim call (ring_name ring) (element ∷ [])
 
 abbrev pub claims : ℕ → ℕ → ℕ → Step Unit → Me Unit View → ℕ → Me Unit View → Type 0
-claims call line element st m r m' =
-    Tries (Claims call line element (claim_event call line element) st.first) st m r m'
+claims call ring element st m r m' =
+    Tries (Claims call ring element (claim_event call ring element) st.first) st m r m'
 
 abbrev pub claims_at : ℕ → ℕ → ℕ → ℕ → Step Unit → Me Unit View → ℕ → Me Unit View → Type 0
 claims_at call wait element ticket st m r m' =
@@ -109,20 +109,20 @@ claims_at call wait element ticket st m r m' =
 
 -- the place that the hand had claimed is raised, with the element and one more than the position
 abbrev pub Raises : ℕ → ℕ → ℕ → ℕ → View → View → Type 0
-Raises call line run element v w = Did call v (place_word line (v.first + run)) (element + 256 * (v.first + run + 1))
-    (events.Raise call (line_name line) run 0) (λ before. with_raise v) w
+Raises call ring run element v w = Did call v (place_word ring (v.first + run)) (element + 256 * (v.first + run + 1))
+    (events.Raise call (ring_name ring) run 0) (λ before. with_raise v) w
 
 abbrev pub raises : ℕ → ℕ → ℕ → ℕ → Step Unit → Me Unit View → ℕ → Me Unit View → Type 0
-raises call line run element st m r m' = Makes (λ v found w. Raises call line run element v w) st m r m'
+raises call ring run element st m r m' = Makes (λ v found w. Raises call ring run element v w) st m r m'
 
 -- the oldest element of the queue was taken, where the tail was this one
-pub record Takes (call line tail : ℕ) (v w : View) : Type 0 where
-  pub did : Did call v (tail_word line) tail (events.Take call (line_name line) 1) (λ before. with_held v
-      (element_at (line_at (elements_after before) line) (line_at (elements_after before) line).taken) true) w
-  pub tail_is : tail ≡ tail_shown v.first (elements_after did.before) line
+pub record Takes (call ring tail : ℕ) (v w : View) : Type 0 where
+  pub did : Did call v (tail_word ring) tail (events.Take call (ring_name ring) 1) (λ before. with_held v
+      (element_at (ring_at (elements_after before) ring) (ring_at (elements_after before) ring).taken) true) w
+  pub tail_is : tail ≡ tail_shown v.first (elements_after did.before) ring
 
 abbrev pub takes : ℕ → ℕ → Step Unit → Me Unit View → ℕ → Me Unit View → Type 0
-takes call line st m r m' = Tries (Takes call line st.first) st m r m'
+takes call ring st m r m' = Tries (Takes call ring st.first) st m r m'
 
 -- one more notify of a wait queue, and the head word that it found
 pub record Notifies (call wait : ℕ) (v : View) (found : ℕ) (w : View) : Type 0 where
@@ -135,7 +135,7 @@ notifies call wait st m r m' = Makes (Notifies call wait) st m r m'
 -- an element that the hand held is on a processor, whose word was 0
 abbrev pub PutsOn : ℕ → ℕ → ℕ → View → View → Type 0
 PutsOn call p element v w =
-    Did call v (seat_word p) 0 (events.On call p element) (λ before. with_on v p element) w
+    Did call v (processor_word p) 0 (events.On call p element) (λ before. with_on v p element) w
 
 abbrev pub puts_on : ℕ → ℕ → ℕ → Step Unit → Me Unit View → ℕ → Me Unit View → Type 0
 puts_on call p element st m r m' = Makes (λ v found w. PutsOn call p element v w) st m r m'
@@ -143,20 +143,20 @@ puts_on call p element st m r m' = Makes (λ v found w. PutsOn call p element v 
 -- the element is off the processor, whose word was one more than its number
 abbrev pub TakesOff : ℕ → ℕ → ℕ → View → View → Type 0
 TakesOff call p element v w =
-    Did call v (seat_word p) (element + 1) (events.Off call p) (λ before. with_off v p element) w
+    Did call v (processor_word p) (element + 1) (events.Off call p) (λ before. with_off v p element) w
 
 abbrev pub takes_off : ℕ → ℕ → ℕ → Step Unit → Me Unit View → ℕ → Me Unit View → Type 0
 takes_off call p element st m r m' = Makes (λ v found w. TakesOff call p element v w) st m r m'
 
 -- An event of an element, and the state word that it found
-pub record Turns (call element : ℕ) (event : Event) (knows : List Event → View) (found : ℕ) (v w : View)
+pub record ChangedState (call element : ℕ) (event : Event) (knows : List Event → View) (found : ℕ) (v w : View)
     : Type 0 where
   pub did : Did call v (state_word element) found event knows w
   pub is : found ≡ slice_index_or did.sees.words (state_word element) 0
 
 -- the stop bit of an element is set, or a signal pending
 abbrev pub Marks : ℕ → ℕ → Event → View → ℕ → View → Type 0
-Marks call element event v found w = Turns call element event (λ before. quiet v) found v w
+Marks call element event v found w = ChangedState call element event (λ before. quiet v) found v w
 
 abbrev pub stops : ℕ → ℕ → Step Unit → Me Unit View → ℕ → Me Unit View → Type 0
 stops call element st m r m' = Makes (Marks call element (events.Stop call element)) st m r m'
@@ -167,16 +167,16 @@ signals call element number st m r m' = Makes (Marks call element (events.Signal
 -- the element stands in its stop cell, and the hand holds it no more
 abbrev pub Parks : ℕ → ℕ → ℕ → View → View → Type 0
 Parks call element found v w =
-    Turns call element (events.Park call element) (λ before. with_held v element false) found v w
+    ChangedState call element (events.Park call element) (λ before. with_held v element false) found v w
 
 -- the stop bit is clear, and the hand holds the element, where it stood in its stop cell
 abbrev pub Starts : ℕ → ℕ → ℕ → View → View → Type 0
-Starts call element found v w = Turns call element (events.Start call element)
+Starts call element found v w = ChangedState call element (events.Start call element)
     (λ before. with_start v element (thread_at (elements_after before) element).parked) found v w
 
 -- no signal of the element is pending
 abbrev pub Delivers : ℕ → ℕ → ℕ → View → View → Type 0
-Delivers call element found v w = Turns call element (events.Deliver call element) (λ before. quiet v) found v w
+Delivers call element found v w = ChangedState call element (events.Deliver call element) (λ before. quiet v) found v w
 
 abbrev pub parks : ℕ → ℕ → Step Unit → Me Unit View → ℕ → Me Unit View → Type 0
 parks call element st m r m' = Tries (Parks call element st.first) st m r m'
@@ -188,23 +188,23 @@ abbrev pub delivers : ℕ → ℕ → Step Unit → Me Unit View → ℕ → Me 
 delivers call element st m r m' = Tries (Delivers call element st.first) st m r m'
 
 -- the number of steps that the element had done was found
-pub record Counts (element : ℕ) (v : View) (found : ℕ) (w : View) : Type 0 where
+pub record ReadPc (element : ℕ) (v : View) (found : ℕ) (w : View) : Type 0 where
   pub past : Course
   pub follows : Begins v.course past
   pub same : w ≡ record (looked v (done_word element) found past w.schedule) { counted = Some (count_of element found) }
   pub sees : Sees v w.schedule
   pub is : found ≡ done_at w.schedule element
 
-abbrev pub counts : ℕ → Step Unit → Me Unit View → ℕ → Me Unit View → Type 0
-counts element st m r m' = Makes (Counts element) st m r m'
+abbrev pub reads_pc : ℕ → Step Unit → Me Unit View → ℕ → Me Unit View → Type 0
+reads_pc element st m r m' = Makes (ReadPc element) st m r m'
 
 -- one more step of the element is done, behind this number of them
-abbrev pub Steps : ℕ → ℕ → ℕ → View → View → Type 0
-Steps call element count v w =
+abbrev pub CountedStep : ℕ → ℕ → ℕ → View → View → Type 0
+CountedStep call element count v w =
     Did call v (done_word element) (count + 1) (events.Done call element) (λ before. quiet v) w
 
 abbrev pub steps_on : ℕ → ℕ → ℕ → Step Unit → Me Unit View → ℕ → Me Unit View → Type 0
-steps_on call element count st m r m' = Makes (λ v found w. Steps call element count v w) st m r m'
+steps_on call element count st m r m' = Makes (λ v found w. CountedStep call element count v w) st m r m'
 
 -- the view after so many hands were found, which makes another of them of the hand
 abbrev pub counted : View → ℕ → Course → List Event → Member → View

@@ -13,13 +13,13 @@ abbrev pub with_held : View → ℕ → Bool → View
 with_held v element is = record v { held = slice_set v.held element is; counted = None }
 
 abbrev pub claim_of : ℕ → ℕ → ℕ → Claimed
-claim_of line run element = record { line = line; run = run; element = element }
+claim_of ring run element = record { ring = ring; run = run; element = element }
 
 -- the hand has claimed a place for an element that it held
 abbrev pub with_claim : View → ℕ → ℕ → ℕ → View
-with_claim v line run element = record v {
+with_claim v ring run element = record v {
   held = slice_set v.held element false;
-  claimed = Some (claim_of line run element);
+  claimed = Some (claim_of ring run element);
   counted = None;
 }
 

@@ -1,16 +1,16 @@
 //! The words of a new table.
 ghost use Rattle.std.specs.Prelude.{◌≡◌, ◌≤◌, length};
-ghost use Rattle.thread_table.specs.Laid.{LinesLaid, ItemsLaid};
+ghost use Rattle.thread_table.specs.Laid.{RingsLaid, ItemsLaid};
 
 use crate::words::{FREE, PlaceWord, head_word, place_word};
 
 // The head and the tail of each element queue. The free elements' head is behind them.
-pub(crate) fn lay_lines(words: &mut [u64], first: u32)
+pub(crate) fn lay_rings(words: &mut [u64], first: u32)
     requires { (length words.old ≡ 1325) × (first ≤ 4294967231) }
-    ensures { LinesLaid first 64 18 words.old words.new }
+    ensures { RingsLaid first 64 18 words.old words.new }
 {
-    for line in 0..18 {
-        let head = head_word(line);
+    for ring in 0..18 {
+        let head = head_word(ring);
         words[head] = first as u64;
         words[head + 1] = first as u64;
     }

@@ -6,7 +6,7 @@ ghost use Rattle.thread_table.specs.Endings.{Divided, IsNewborn, TookIn};
 ghost use Rattle.thread_table.specs.Answers.{is_in};
 ghost use Rattle.thread_table.specs.Steps.{parted, either, either_on};
 
-use crate::first_words::{lay_free, lay_lines};
+use crate::first_words::{lay_free, lay_rings};
 use crate::rule::{Shape, ThreadRule, View};
 use crate::steps::{count_down, count_up, split_off, take_in};
 use crate::words::WORDS;
@@ -88,7 +88,7 @@ impl ThreadTable {
         let mut words = Vec::from_elem(alloc, 0u64, WORDS)?;
         let row = words.as_mut_slice();
         row[0] = 1;
-        lay_lines(row, first);
+        lay_rings(row, first);
         lay_free(row, first);
         let shape = Shape {
             first: first as u64,

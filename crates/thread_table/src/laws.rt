@@ -13,7 +13,7 @@ ghost use Rattle.thread_table.specs.declared.places.Place.{Place};
 ghost use Rattle.thread_table.specs.declared.places.Place.TheVariants as places;
 ghost use Rattle.thread_table.specs.Closings.{ClosedNow};
 ghost use Rattle.thread_table.specs.Retiring.{free_takings, was_freed};
-ghost use Rattle.thread_table.specs.Steps.{Found, Counts};
+ghost use Rattle.thread_table.specs.Steps.{Found, ReadPc};
 ghost use Rattle.thread_table.specs.Answers.{TakeAnswer, MoveAnswer, WaitAnswer, IsTicket, StoppedNow, StartAnswer};
 ghost use Rattle.thread_table.specs.Answers.{ParkAnswer, SignalAnswer, DeliverAnswer, DoneAnswer};
 ghost use Rattle.thread_table.specs.Wakes.{WokeAll, NotifiedNow, BeforeAnswer};
@@ -26,12 +26,12 @@ ghost use Rattle.thread_table.specs.Keeping.{Keeps, Stays};
 /// take what is before a position that the tail has reached.
 pub fn refusals_stay()
     ensures looks { (v w : View) (word found : ℕ) → Found v word found w → Stays v w }
-    ensures takes { (call line : ℕ) (v w : View) (r : NextRefusal) → TakeAnswer call v line (Err r) w → Stays v w }
-    ensures befores { (call line head : ℕ) (v w : View) (r : NextRefusal) → BeforeAnswer call v line head (Err r) w
+    ensures takes { (call ring : ℕ) (v w : View) (r : NextRefusal) → TakeAnswer call v ring (Err r) w → Stays v w }
+    ensures befores { (call ring head : ℕ) (v w : View) (r : NextRefusal) → BeforeAnswer call v ring head (Err r) w
         → Stays v w }
-    ensures reached { (call line head : ℕ) (v w : View) → BeforeAnswer call v line head (Ok None) w → Stays v w }
-    ensures moves { (call line element : ℕ) (v w : View) (r : MoveRefusal)
-        → MoveAnswer call v line element (Err r) w → Stays v w }
+    ensures reached { (call ring head : ℕ) (v w : View) → BeforeAnswer call v ring head (Ok None) w → Stays v w }
+    ensures moves { (call ring element : ℕ) (v w : View) (r : MoveRefusal)
+        → MoveAnswer call v ring element (Err r) w → Stays v w }
     ensures waits { (call wait element ticket : ℕ) (v w : View) (r : MoveRefusal)
         → WaitAnswer call v wait element ticket (Err r) w → Stays v w }
     ensures tickets { (wait ticket : ℕ) (v w : View) → IsTicket v wait ticket w → Stays v w }
@@ -43,17 +43,17 @@ pub fn refusals_stay()
     ensures delivers { (call element : ℕ) (v w : View) (r : Lost) → DeliverAnswer call v element (Err r) w
         → Stays v w }
     ensures delivers_none { (call element : ℕ) (v w : View) → DeliverAnswer call v element (Ok 0) w → Stays v w }
-    ensures counts { (element found : ℕ) (v w : View) → Counts element v found w → Stays v w }
+    ensures counts { (element found : ℕ) (v w : View) → ReadPc element v found w → Stays v w }
     ensures spent { (call element : ℕ) (v w : View) (r : Spent) → DoneAnswer call v element (Err r) w → Stays v w }
 {}
 
 /// No taking, move, mark, start, park, delivery, step, notify or wake changes the processors that its hand serves, what
 /// it has on them, or its share.
 pub fn answers_keep()
-    ensures takes { (call line : ℕ) (v w : View) (r : Result ℕ NextRefusal) → TakeAnswer call v line r w
+    ensures takes { (call ring : ℕ) (v w : View) (r : Result ℕ NextRefusal) → TakeAnswer call v ring r w
         → Keeps v w }
-    ensures moves { (call line element : ℕ) (v w : View) (r : Result (Unit {0}) MoveRefusal)
-        → MoveAnswer call v line element r w → Keeps v w }
+    ensures moves { (call ring element : ℕ) (v w : View) (r : Result (Unit {0}) MoveRefusal)
+        → MoveAnswer call v ring element r w → Keeps v w }
     ensures waits { (call wait element ticket : ℕ) (v w : View) (r : Result (Unit {0}) MoveRefusal)
         → WaitAnswer call v wait element ticket r w → Keeps v w }
     ensures stops { (call element : ℕ) (was : Bool) (v w : View) → StoppedNow call v element was w → Keeps v w }
@@ -69,8 +69,8 @@ pub fn answers_keep()
         → Keeps v w }
     ensures wakes { (call wait mask : ℕ) (v w : View) → WokeAll call v wait mask w → Keeps v w }
     ensures notifies { (call wait head : ℕ) (v w : View) → NotifiedNow call v wait head w → Keeps v w }
-    ensures befores { (call line head : ℕ) (v w : View) (r : Result (Option ℕ) NextRefusal)
-        → BeforeAnswer call v line head r w → Keeps v w }
+    ensures befores { (call ring head : ℕ) (v w : View) (r : Result (Option ℕ) NextRefusal)
+        → BeforeAnswer call v ring head r w → Keeps v w }
 {}
 
 /// A closed table began with 64 free elements. Where the list of the hand that closed it has no more takings of free

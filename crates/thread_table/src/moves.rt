@@ -38,13 +38,13 @@ fn raise<J: Deed>(
     words: &Words,
     seat: &mut Seat<(), View>,
     held: &mut [bool; 64],
-    line: usize,
+    ring: usize,
     head: u64,
     element: u8,
 )
-    requires queue { (seat.old.table_id ≡ words.now.table_id) × (words.now.table_id.words ≡ 1325) × (line < 18) }
+    requires queue { (seat.old.table_id ≡ words.now.table_id) × (words.now.table_id.words ≡ 1325) × (ring < 18) }
     requires mine { IsActive seat.old.me.0 }
-    requires deed { (J.call ≡ seat.old.id) × (J.at ≡ line) × (J.element ≡ element) × (element < 64) }
+    requires deed { (J.call ≡ seat.old.id) × (J.at ≡ ring) × (J.element ≡ element) × (element < 64) }
     requires claimed { seat.old.me.0.claimed ≡ Some (claim_of J.at J.number J.element) }
     requires position { (head ≡ seat.old.me.0.first + J.number) × (head < 4294967295) }
     ensures queue { IsSame seat.old seat.new × (seat.new.me.1 ≡ seat.old.me.1) }
@@ -55,7 +55,7 @@ fn raise<J: Deed>(
         element,
         mark: head + 1,
     };
-    store_place::<J>(words, seat, line, head, element, place.word());
+    store_place::<J>(words, seat, ring, head, element, place.word());
     set_held(held, element, false);
 }
 
@@ -100,19 +100,19 @@ impl ThreadTable {
     }
 
     // Claims the next place of an element queue, and raises it.
-    fn move_to(&self, hand: &mut Hand, line: usize, element: Element) -> Result<(), MoveRefusal>
-        requires table { IsHandOf self.now hand.old × (line < 18) }
+    fn move_to(&self, hand: &mut Hand, ring: usize, element: Element) -> Result<(), MoveRefusal>
+        requires table { IsHandOf self.now hand.old × (ring < 18) }
         requires holds { has (view_of hand.old) element ≡ true }
         ensures table { IsSameHand hand.old hand.new }
-        ensures moved { MoveAnswer (call_of hand.old) (view_of hand.old) line element result (view_of hand.new) }
+        ensures moved { MoveAnswer (call_of hand.old) (view_of hand.old) ring element result (view_of hand.new) }
     {
         let number = element.number();
-        let word = load_head(&self.table.shared, &mut hand.seat, line);
+        let word = load_head(&self.table.shared, &mut hand.seat, ring);
         let head = HeadWord::of(word).head;
         if head == u32::MAX as u64 {
             return Err(MoveRefusal::Spent);
         }
-        let found = exchange_head::<Brand>(&self.table.shared, &mut hand.seat, line, number, word);
+        let found = exchange_head::<Brand>(&self.table.shared, &mut hand.seat, ring, number, word);
         if found != word {
             return Err(MoveRefusal::Lost { seen: found });
         }
@@ -120,7 +120,7 @@ impl ThreadTable {
             &self.table.shared,
             &mut hand.seat,
             &mut hand.held,
-            line,
+            ring,
             head,
             number,
         );
@@ -154,8 +154,8 @@ impl ThreadTable {
             (view_of hand.new) }
     {
         let (number, queue) = (element.number(), wait.number());
-        let line = of_wait(queue);
-        let word = load_head(&self.table.shared, &mut hand.seat, line);
+        let ring = of_wait(queue);
+        let word = load_head(&self.table.shared, &mut hand.seat, ring);
         let HeadWord { head, mark } = HeadWord::of(word);
         if head == u32::MAX as u64 {
             return Err(MoveRefusal::Spent);
@@ -182,7 +182,7 @@ impl ThreadTable {
             &self.table.shared,
             &mut hand.seat,
             &mut hand.held,
-            line,
+            ring,
             head,
             number,
         );

@@ -2,9 +2,9 @@
 ghost use Rattle.std.specs.Prelude.{◌≡◌, ◌+◌, ◌<◌, ◌≤◌, ◌==◌, None, MatchBool};
 ghost use Rattle.std.specs.Int.{bit_at};
 ghost use Rattle.std.specs.Mem.Slots.{slots_items, slots_len, IsFull};
-ghost use Rattle.thread_table.specs.Closings.{SeatOf, IsIn, LineOf, PlaceOf, place_by, word_at};
+ghost use Rattle.thread_table.specs.Closings.{ProcessorOf, IsIn, RingOf, PlaceOf, place_by, word_at};
 
-use crate::words::{HeadWord, StateWord, head_word, place_word, seat_word, state_word};
+use crate::words::{HeadWord, StateWord, head_word, place_word, processor_word, state_word};
 use atomic_table::Closed;
 use std::alloc::Global;
 
@@ -26,12 +26,12 @@ pub enum Place {
 }
 
 // The processor on which the element stands.
-fn seat_of(closed: &Closed<(), Global>, element: u8) -> Option<u8>
+fn processor_of(closed: &Closed<(), Global>, element: u8) -> Option<u8>
     requires { (slots_len closed.now.words ≡ 1325) × IsFull closed.now.words × (element < 64) }
-    ensures { SeatOf element (slots_items closed.now.words) result }
+    ensures { ProcessorOf element (slots_items closed.now.words) result }
 {
     for p in 0..8u8 {
-        if closed.word(seat_word(p)) == element as u64 + 1 {
+        if closed.word(processor_word(p)) == element as u64 + 1 {
             return Some(p);
         }
     }
@@ -39,15 +39,15 @@ fn seat_of(closed: &Closed<(), Global>, element: u8) -> Option<u8>
 }
 
 // Whether the element stands in a place of this element queue.
-fn is_in_line(closed: &Closed<(), Global>, element: u8, line: usize) -> bool
-    requires { (slots_len closed.now.words ≡ 1325) × IsFull closed.now.words × (element < 64) × (line < 18) }
-    ensures { MatchBool result (IsIn element (slots_items closed.now.words) line)
-        (IsIn element (slots_items closed.now.words) line → ⊥) }
+fn is_in_ring(closed: &Closed<(), Global>, element: u8, ring: usize) -> bool
+    requires { (slots_len closed.now.words ≡ 1325) × IsFull closed.now.words × (element < 64) × (ring < 18) }
+    ensures { MatchBool result (IsIn element (slots_items closed.now.words) ring)
+        (IsIn element (slots_items closed.now.words) ring → ⊥) }
 {
-    let head = HeadWord::of(closed.word(head_word(line))).head;
-    let tail = closed.word(head_word(line) + 1);
+    let head = HeadWord::of(closed.word(head_word(ring))).head;
+    let tail = closed.word(head_word(ring) + 1);
     for position in tail..head {
-        if closed.word(place_word(line, position)) % 256 == element as u64 {
+        if closed.word(place_word(ring, position)) % 256 == element as u64 {
             return true;
         }
     }
@@ -55,13 +55,13 @@ fn is_in_line(closed: &Closed<(), Global>, element: u8, line: usize) -> bool
 }
 
 // The element queue in which the element stands.
-fn line_of(closed: &Closed<(), Global>, element: u8) -> Option<u8>
+fn ring_of(closed: &Closed<(), Global>, element: u8) -> Option<u8>
     requires { (slots_len closed.now.words ≡ 1325) × IsFull closed.now.words × (element < 64) }
-    ensures { LineOf element (slots_items closed.now.words) result }
+    ensures { RingOf element (slots_items closed.now.words) result }
 {
-    for line in 0..18u8 {
-        if is_in_line(closed, element, line as usize) {
-            return Some(line);
+    for ring in 0..18u8 {
+        if is_in_ring(closed, element, ring as usize) {
+            return Some(ring);
         }
     }
     None
@@ -72,13 +72,13 @@ pub(crate) fn place_of(closed: &Closed<(), Global>, element: u8) -> Place
     requires { (slots_len closed.now.words ≡ 1325) × IsFull closed.now.words × (element < 64) }
     ensures { PlaceOf element (slots_items closed.now.words) result }
 {
-    if let Some(p) = seat_of(closed, element) {
+    if let Some(p) = processor_of(closed, element) {
         return Place::Processor(p);
     }
-    match line_of(closed, element) {
+    match ring_of(closed, element) {
         Some(0) => Place::Ready,
         Some(1) => Place::Free,
-        Some(line) => Place::Wait(line - 2),
+        Some(ring) => Place::Wait(ring - 2),
         None => cell_or_hand(closed, element),
     }
 }

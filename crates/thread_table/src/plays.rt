@@ -1,7 +1,7 @@
 //! What each step tells. These types are for the proofs alone.
 ghost use Rattle.std.specs.Prelude.{ℕ, List, Bool, [], ◌+◌};
 ghost use Rattle.thread_table.specs.Steps.{finds, claims, claims_at, raises, takes, notifies, puts_on, takes_off};
-ghost use Rattle.thread_table.specs.Steps.{stops, signals, parks, starts, delivers, counts, steps_on};
+ghost use Rattle.thread_table.specs.Steps.{stops, signals, parks, starts, delivers, reads_pc, steps_on};
 ghost use Rattle.thread_table.specs.Steps.{counts_up, counts_down, tallies, rest_of, newborn, both};
 ghost use Rattle.thread_table.specs.Rules.{newcomer};
 ghost use Rattle.thread_table.specs.declared.rule.View.{View};
@@ -139,7 +139,7 @@ pub struct LoadDone<J> {
 }
 
 impl<J: Deed> Play<(), View> for LoadDone<J> {
-    ghost then = { counts J.element };
+    ghost then = { reads_pc J.element };
 }
 
 pub struct StoreDone<J> {

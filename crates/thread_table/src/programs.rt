@@ -2,7 +2,7 @@
 ghost use Rattle.std.specs.Prelude.{◌≡◌};
 ghost use Rattle.thread_table.specs.Handles.{view_of, call_of, IsHandOf, IsSameHand};
 ghost use Rattle.thread_table.specs.Rules.{MayStep};
-ghost use Rattle.thread_table.specs.Steps.{Counts};
+ghost use Rattle.thread_table.specs.Steps.{ReadPc};
 ghost use Rattle.thread_table.specs.Answers.{DoneAnswer};
 
 use crate::hand::{Hand, ThreadTable};
@@ -22,12 +22,12 @@ impl ThreadTable {
     pub fn pc(&self, hand: &mut Hand, element: Element) -> u64
         requires { IsHandOf self.now hand.old × MayStep (view_of hand.old) element }
         ensures table { IsSameHand hand.old hand.new }
-        ensures counted { Counts element (view_of hand.old) result (view_of hand.new) }
+        ensures counted { ReadPc element (view_of hand.old) result (view_of hand.new) }
     {
         load_done::<Brand>(&self.table.shared, &mut hand.seat, element.number())
     }
 
-    /// Counts one more step of an element that the hand holds or has on a processor, and gives the new number. Spent
+    /// ReadPc one more step of an element that the hand holds or has on a processor, and gives the new number. Spent
     /// where the element has done 4,294,967,295 steps.
     pub fn step_done(&self, hand: &mut Hand, element: Element) -> Result<u64, Spent>
         requires { IsHandOf self.now hand.old × MayStep (view_of hand.old) element }

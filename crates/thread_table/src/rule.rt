@@ -12,7 +12,7 @@ pub struct Shape {
 
 /// A run of an element queue that is claimed and not yet raised.
 pub struct Claimed {
-    pub line: u64,
+    pub ring: u64,
     pub run: u64,
     pub element: u64,
 }

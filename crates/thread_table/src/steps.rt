@@ -5,12 +5,12 @@ ghost use Rattle.std.specs.Prelude.{None};
 ghost use Rattle.std.specs.Int.{bit_at};
 ghost use Rattle.std.specs.Int.Bits.{bit_or, bit_and};
 ghost use Rattle.table_theory.specs.Seating.{IsSame};
-ghost use Rattle.thread_table.specs.Schedules.{elements_after, line_at, element_at};
+ghost use Rattle.thread_table.specs.Schedules.{elements_after, ring_at, element_at};
 ghost use Rattle.thread_table.specs.Shown.{head_shown, tail_shown, head_word, tail_word, place_word, state_word};
 ghost use Rattle.thread_table.specs.Rules.{IsActive, MayStep, has, serves, running};
 ghost use Rattle.thread_table.specs.Views.{claim_of, count_of};
 ghost use Rattle.thread_table.specs.Steps.{Found, Claims, claim_event, Raises, Takes, Notifies, PutsOn, TakesOff};
-ghost use Rattle.thread_table.specs.Steps.{Marks, Counts, Steps, CountedUp, CountedDown, Tallied};
+ghost use Rattle.thread_table.specs.Steps.{Marks, ReadPc, CountedStep, CountedUp, CountedDown, Tallied};
 ghost use Rattle.thread_table.specs.Steps.{Parks, Starts, Delivers, rest_of, newborn, both, emptied};
 ghost use Rattle.event_theory.specs.declared.event.Event.TheVariants as events;
 ghost use Rattle.thread_table.specs.Reads.{Peeked, StateIs};
@@ -21,7 +21,7 @@ use crate::plays::{
     StartState, StoreDone, TakeOff, TakeTail,
 };
 use crate::rule::{Shape, ThreadRule, View};
-use crate::words::{ENDS, NOTIFY, STOP, done_word, head_word, place_word, seat_word, state_word};
+use crate::words::{ENDS, NOTIFY, STOP, done_word, head_word, place_word, processor_word, state_word};
 use atomic_table::{Seat, Shared};
 
 pub(crate) type Words = Shared<(), View, Shape, ThreadRule>;
@@ -35,64 +35,64 @@ pub(crate) fn load(words: &Words, seat: &mut Seat<(), View>, word: usize) -> u64
     words.load::<Look>(seat, word)
 }
 
-pub(crate) fn load_head(words: &Words, seat: &mut Seat<(), View>, line: usize) -> u64
-    requires queue { (seat.old.table_id ≡ words.now.table_id) × (words.now.table_id.words ≡ 1325) × (line < 18) }
+pub(crate) fn load_head(words: &Words, seat: &mut Seat<(), View>, ring: usize) -> u64
+    requires queue { (seat.old.table_id ≡ words.now.table_id) × (words.now.table_id.words ≡ 1325) × (ring < 18) }
     requires live { IsActive seat.old.me.0 }
     ensures queue { IsSame seat.old seat.new × (seat.new.me.1 ≡ seat.old.me.1) }
-    ensures found { Found seat.old.me.0 (head_word line) result seat.new.me.0 }
-    ensures head { result ≡ head_shown seat.old.me.0.first (elements_after seat.new.me.0.schedule) line }
+    ensures found { Found seat.old.me.0 (head_word ring) result seat.new.me.0 }
+    ensures head { result ≡ head_shown seat.old.me.0.first (elements_after seat.new.me.0.schedule) ring }
 {
-    load(words, seat, head_word(line))
+    load(words, seat, head_word(ring))
 }
 
-pub(crate) fn load_tail(words: &Words, seat: &mut Seat<(), View>, line: usize) -> u64
-    requires queue { (seat.old.table_id ≡ words.now.table_id) × (words.now.table_id.words ≡ 1325) × (line < 18) }
+pub(crate) fn load_tail(words: &Words, seat: &mut Seat<(), View>, ring: usize) -> u64
+    requires queue { (seat.old.table_id ≡ words.now.table_id) × (words.now.table_id.words ≡ 1325) × (ring < 18) }
     requires live { IsActive seat.old.me.0 }
     ensures queue { IsSame seat.old seat.new × (seat.new.me.1 ≡ seat.old.me.1) }
-    ensures found { Found seat.old.me.0 (tail_word line) result seat.new.me.0 }
-    ensures tail { result ≡ tail_shown seat.old.me.0.first (elements_after seat.new.me.0.schedule) line }
-    ensures small { result < 4294967296 }
+    ensures found { Found seat.old.me.0 (tail_word ring) result seat.new.me.0 }
+    ensures tail { result ≡ tail_shown seat.old.me.0.first (elements_after seat.new.me.0.schedule) ring }
+    ensures bounded { result < 4294967296 }
 {
-    load(words, seat, head_word(line) + 1)
+    load(words, seat, head_word(ring) + 1)
 }
 
 // The place of a position at which the tail was, or is behind.
 pub(crate) fn load_place(
     words: &Words,
     seat: &mut Seat<(), View>,
-    line: usize,
+    ring: usize,
     position: u64,
 ) -> u64
-    requires queue { (seat.old.table_id ≡ words.now.table_id) × (words.now.table_id.words ≡ 1325) × (line < 18) }
+    requires queue { (seat.old.table_id ≡ words.now.table_id) × (words.now.table_id.words ≡ 1325) × (ring < 18) }
     requires live { IsActive seat.old.me.0 }
-    requires tail { position ≡ tail_shown seat.old.me.0.first (elements_after seat.old.me.0.schedule) line }
+    requires tail { position ≡ tail_shown seat.old.me.0.first (elements_after seat.old.me.0.schedule) ring }
     ensures queue { IsSame seat.old seat.new × (seat.new.me.1 ≡ seat.old.me.1) }
-    ensures found { Found seat.old.me.0 (place_word line position) result seat.new.me.0 }
-    ensures place { Peeked seat.old.me.0 line result seat.new.me.0 }
+    ensures found { Found seat.old.me.0 (place_word ring position) result seat.new.me.0 }
+    ensures place { Peeked seat.old.me.0 ring result seat.new.me.0 }
 {
-    load(words, seat, place_word(line, position))
+    load(words, seat, place_word(ring, position))
 }
 
 pub(crate) fn exchange_head<J: Deed>(
     words: &Words,
     seat: &mut Seat<(), View>,
-    line: usize,
+    ring: usize,
     element: u8,
     head: u64,
 ) -> u64
-    requires queue { (seat.old.table_id ≡ words.now.table_id) × (words.now.table_id.words ≡ 1325) × (line < 18) }
+    requires queue { (seat.old.table_id ≡ words.now.table_id) × (words.now.table_id.words ≡ 1325) × (ring < 18) }
     requires mine { IsActive seat.old.me.0 × (seat.old.me.0.claimed ≡ None) }
-    requires deed { (J.call ≡ seat.old.id) × (J.at ≡ line) × (J.element ≡ element) }
+    requires deed { (J.call ≡ seat.old.id) × (J.at ≡ ring) × (J.element ≡ element) }
     requires held { (element < 64) × (has seat.old.me.0 element ≡ true) }
     requires room { head % 4294967296 + 1 < 4294967296 }
     ensures queue { IsSame seat.old seat.new × (seat.new.me.1 ≡ seat.old.me.1) }
     ensures hit { result ≡ head
         → Claims J.call J.at J.element (claim_event J.call J.at J.element) head seat.old.me.0 seat.new.me.0 }
-    ensures miss { result ≢ head → Found seat.old.me.0 (head_word line) result seat.new.me.0
-        × (result ≡ head_shown seat.old.me.0.first (elements_after seat.new.me.0.schedule) line) }
+    ensures miss { result ≢ head → Found seat.old.me.0 (head_word ring) result seat.new.me.0
+        × (result ≡ head_shown seat.old.me.0.first (elements_after seat.new.me.0.schedule) ring) }
 {
     let _ = element;
-    words.compare_exchange::<ClaimHead<J>>(seat, head_word(line), head, head + 1)
+    words.compare_exchange::<ClaimHead<J>>(seat, head_word(ring), head, head + 1)
 }
 
 pub(crate) fn exchange_head_at<J: Deed>(
@@ -123,42 +123,42 @@ pub(crate) fn exchange_head_at<J: Deed>(
 pub(crate) fn store_place<J: Deed>(
     words: &Words,
     seat: &mut Seat<(), View>,
-    line: usize,
+    ring: usize,
     position: u64,
     element: u8,
     new: u64,
 )
-    requires queue { (seat.old.table_id ≡ words.now.table_id) × (words.now.table_id.words ≡ 1325) × (line < 18) }
+    requires queue { (seat.old.table_id ≡ words.now.table_id) × (words.now.table_id.words ≡ 1325) × (ring < 18) }
     requires mine { IsActive seat.old.me.0 }
-    requires deed { (J.call ≡ seat.old.id) × (J.at ≡ line) × (J.element ≡ element) }
+    requires deed { (J.call ≡ seat.old.id) × (J.at ≡ ring) × (J.element ≡ element) }
     requires claimed { seat.old.me.0.claimed ≡ Some (claim_of J.at J.number J.element) }
     requires position { (position ≡ seat.old.me.0.first + J.number) × (new ≡ J.element + 256 * (position + 1)) }
     ensures queue { IsSame seat.old seat.new × (seat.new.me.1 ≡ seat.old.me.1) }
     ensures raised { Raises J.call J.at J.number J.element seat.old.me.0 seat.new.me.0 }
 {
     let _ = element;
-    words.store::<RaisePlace<J>>(seat, place_word(line, position), new);
+    words.store::<RaisePlace<J>>(seat, place_word(ring, position), new);
 }
 
 // The place at the tail was raised when the hand last looked.
 pub(crate) fn exchange_tail<J: Deed>(
     words: &Words,
     seat: &mut Seat<(), View>,
-    line: usize,
+    ring: usize,
     tail: u64,
 ) -> u64
-    requires queue { (seat.old.table_id ≡ words.now.table_id) × (words.now.table_id.words ≡ 1325) × (line < 18) }
+    requires queue { (seat.old.table_id ≡ words.now.table_id) × (words.now.table_id.words ≡ 1325) × (ring < 18) }
     requires mine { IsActive seat.old.me.0 × (seat.old.me.0.claimed ≡ None) }
-    requires deed { (J.call ≡ seat.old.id) × (J.at ≡ line) }
+    requires deed { (J.call ≡ seat.old.id) × (J.at ≡ ring) }
     requires raised { (run : ℕ) × (tail ≡ seat.old.me.0.first + run)
-        × ((line_at (elements_after seat.old.me.0.schedule) line).raised run 0 ≡ true) }
-    requires small { tail < 4294967296 }
+        × ((ring_at (elements_after seat.old.me.0.schedule) ring).raised run 0 ≡ true) }
+    requires bounded { tail < 4294967296 }
     ensures queue { IsSame seat.old seat.new × (seat.new.me.1 ≡ seat.old.me.1) }
     ensures hit { result ≡ tail → Takes J.call J.at tail seat.old.me.0 seat.new.me.0 }
-    ensures miss { result ≢ tail → Found seat.old.me.0 (tail_word line) result seat.new.me.0
-        × (result ≡ tail_shown seat.old.me.0.first (elements_after seat.new.me.0.schedule) line) }
+    ensures miss { result ≢ tail → Found seat.old.me.0 (tail_word ring) result seat.new.me.0
+        × (result ≡ tail_shown seat.old.me.0.first (elements_after seat.new.me.0.schedule) ring) }
 {
-    words.compare_exchange::<TakeTail<J>>(seat, head_word(line) + 1, tail, tail + 1)
+    words.compare_exchange::<TakeTail<J>>(seat, head_word(ring) + 1, tail, tail + 1)
 }
 
 pub(crate) fn add_notify<J: Deed>(words: &Words, seat: &mut Seat<(), View>, wait: u8) -> u64
@@ -181,7 +181,7 @@ pub(crate) fn swap_on<J: Deed>(words: &Words, seat: &mut Seat<(), View>, process
     ensures queue { IsSame seat.old seat.new × (seat.new.me.1 ≡ seat.old.me.1) }
     ensures on { PutsOn J.call J.at J.element seat.old.me.0 seat.new.me.0 }
 {
-    words.swap::<PutOn<J>>(seat, seat_word(processor), element as u64 + 1);
+    words.swap::<PutOn<J>>(seat, processor_word(processor), element as u64 + 1);
 }
 
 pub(crate) fn swap_off<J: Deed>(
@@ -199,7 +199,7 @@ pub(crate) fn swap_off<J: Deed>(
     ensures off { TakesOff J.call J.at J.element seat.old.me.0 seat.new.me.0 }
 {
     let _ = element;
-    words.swap::<TakeOff<J>>(seat, seat_word(processor), 0);
+    words.swap::<TakeOff<J>>(seat, processor_word(processor), 0);
 }
 
 pub(crate) fn load_state(words: &Words, seat: &mut Seat<(), View>, element: u8) -> u64
@@ -302,8 +302,8 @@ pub(crate) fn load_done<J: Deed>(words: &Words, seat: &mut Seat<(), View>, eleme
     requires queue { (seat.old.table_id ≡ words.now.table_id) × (words.now.table_id.words ≡ 1325) × (element < 64) }
     requires mine { IsActive seat.old.me.0 × MayStep seat.old.me.0 element × (J.element ≡ element) }
     ensures queue { IsSame seat.old seat.new × (seat.new.me.1 ≡ seat.old.me.1) }
-    ensures counted { Counts J.element seat.old.me.0 result seat.new.me.0 }
-    ensures small { result < 4294967296 }
+    ensures counted { ReadPc J.element seat.old.me.0 result seat.new.me.0 }
+    ensures bounded { result < 4294967296 }
 {
     words.load::<LoadDone<J>>(seat, done_word(element))
 }
@@ -314,7 +314,7 @@ pub(crate) fn store_done<J: Deed>(words: &Words, seat: &mut Seat<(), View>, elem
     requires deed { (J.call ≡ seat.old.id) × (J.element ≡ element) × (J.number ≡ done) }
     requires counted { (seat.old.me.0.counted ≡ Some (count_of J.element J.number)) × (done < 4294967295) }
     ensures queue { IsSame seat.old seat.new × (seat.new.me.1 ≡ seat.old.me.1) }
-    ensures stepped { Steps J.call J.element J.number seat.old.me.0 seat.new.me.0 }
+    ensures stepped { CountedStep J.call J.element J.number seat.old.me.0 seat.new.me.0 }
 {
     words.store::<StoreDone<J>>(seat, done_word(element), done + 1);
 }

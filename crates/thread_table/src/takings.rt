@@ -52,21 +52,21 @@ impl ThreadTable {
     }
 
     // Takes the first element of an element queue.
-    pub(crate) fn take_first(&self, hand: &mut Hand, line: usize) -> Result<Element, NextRefusal>
-        requires { IsHandOf self.now hand.old × (line < 18) }
+    pub(crate) fn take_first(&self, hand: &mut Hand, ring: usize) -> Result<Element, NextRefusal>
+        requires { IsHandOf self.now hand.old × (ring < 18) }
         ensures table { IsSameHand hand.old hand.new }
-        ensures taken { TakeAnswer (call_of hand.old) (view_of hand.old) line result (view_of hand.new) }
+        ensures taken { TakeAnswer (call_of hand.old) (view_of hand.old) ring result (view_of hand.new) }
     {
-        let tail = load_tail(&self.table.shared, &mut hand.seat, line);
-        let place = PlaceWord::of(load_place(&self.table.shared, &mut hand.seat, line, tail));
+        let tail = load_tail(&self.table.shared, &mut hand.seat, ring);
+        let place = PlaceWord::of(load_place(&self.table.shared, &mut hand.seat, ring, tail));
         if place.mark != tail + 1 {
-            let now = load_tail(&self.table.shared, &mut hand.seat, line);
+            let now = load_tail(&self.table.shared, &mut hand.seat, ring);
             if now == tail {
                 return Err(NextRefusal::NoneReady);
             }
             return Err(NextRefusal::Lost { seen: now });
         }
-        let found = exchange_tail::<Brand>(&self.table.shared, &mut hand.seat, line, tail);
+        let found = exchange_tail::<Brand>(&self.table.shared, &mut hand.seat, ring, tail);
         if found != tail {
             return Err(NextRefusal::Lost { seen: found });
         }

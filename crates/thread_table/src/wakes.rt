@@ -23,17 +23,17 @@ impl ThreadTable {
         ensures table { IsSameHand hand.old hand.new }
         ensures woken { WokeAll (call_of hand.old) (view_of hand.old) wait result (view_of hand.new) }
     {
-        let line = of_wait(wait.number());
+        let ring = of_wait(wait.number());
         let word = add_notify::<Brand>(&self.table.shared, &mut hand.seat, wait.number());
         let head = HeadWord::of(word).head;
         let mut woken = 0;
         let backoff = Backoff::new();
         for _ in rt.forever() {
-            let tail = load_tail(&self.table.shared, &mut hand.seat, line);
+            let tail = load_tail(&self.table.shared, &mut hand.seat, ring);
             if tail >= head {
                 return woken;
             }
-            match self.take_first(hand, line) {
+            match self.take_first(hand, ring) {
                 Ok(element) => woken |= 1u64 << element.number(),
                 Err(_) => backoff.spin(),
             }
@@ -69,12 +69,12 @@ impl ThreadTable {
         ensures table { IsSameHand hand.old hand.new }
         ensures taken { BeforeAnswer (call_of hand.old) (view_of hand.old) (wait + 2) head result (view_of hand.new) }
     {
-        let line = of_wait(wait.number());
-        let reached = load_tail(&self.table.shared, &mut hand.seat, line);
+        let ring = of_wait(wait.number());
+        let reached = load_tail(&self.table.shared, &mut hand.seat, ring);
         if u64::from(head) <= reached {
             return Ok(None);
         }
-        let element = self.take_first(hand, line)?;
+        let element = self.take_first(hand, ring)?;
         Ok(Some(element))
     }
 }

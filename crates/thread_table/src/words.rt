@@ -31,7 +31,7 @@ pub(crate) fn of_wait(wait: u8) -> usize
 }
 
 /// Where the word of a processor stands.
-pub(crate) fn seat_word(processor: u8) -> usize
+pub(crate) fn processor_word(processor: u8) -> usize
     requires { processor < 8 }
     ensures { (result ≡ processor + 1) × (result < 1325) }
 {
@@ -55,19 +55,19 @@ pub(crate) fn done_word(element: u8) -> usize
 }
 
 /// Where the head word of an element queue stands. The tail word stands behind it, and behind that the places.
-pub(crate) fn head_word(line: usize) -> usize
-    requires { line < 18 }
-    ensures { (result ≡ 66 * line + 137) × (result < 1260) }
+pub(crate) fn head_word(ring: usize) -> usize
+    requires { ring < 18 }
+    ensures { (result ≡ 66 * ring + 137) × (result < 1260) }
 {
-    66 * line + 137
+    66 * ring + 137
 }
 
 /// Where the place word of a position of an element queue stands.
-pub(crate) fn place_word(line: usize, position: u64) -> usize
-    requires { line < 18 }
-    ensures { (result ≡ 66 * line + 139 + position % 64) × (result < 1325) }
+pub(crate) fn place_word(ring: usize, position: u64) -> usize
+    requires { ring < 18 }
+    ensures { (result ≡ 66 * ring + 139 + position % 64) × (result < 1325) }
 {
-    66 * line + 139 + (position % 64) as usize
+    66 * ring + 139 + (position % 64) as usize
 }
 
 /// The word of a place with an element in it: bits 0 to 7 are the element, bits 8 to 39 one more than the position.

@@ -11,7 +11,7 @@ use Rattle.event_theory.specs.Elements.{Elements, new_thread, start, signal, del
 use Rattle.event_theory.specs.Meters.{Meters, set_alarm, fire, cancel}
 use Rattle.event_theory.specs.States.{State, first_state, make_queue, make_chain, in_queue, in_chain, in_elements, in_meters, set_for, join, effect, counted, step}
 use Rattle.event_theory.specs.Schedules.{Reaches}
-use Rattle.event_theory.specs.Marks.{wait_line}
+use Rattle.event_theory.specs.Marks.{wait_ring}
 use Rattle.event_theory.specs.declared.alarm.Alarm.{Alarm}
 use Rattle.event_theory.specs.declared.event.Event.{Event}
 use Rattle.event_theory.specs.declared.event.Event.TheVariants as events
@@ -105,17 +105,17 @@ effect_accounts (events.Claim call (names.Bytes queue) items) = queue_silent que
 effect_accounts (events.Claim call (names.Notes chain) items) = chain_silent chain _
 effect_accounts (events.Claim call names.Ready items) = elements_leave _ (claim_element_leaves 0 call items)
 effect_accounts (events.Claim call names.Free items) = elements_leave _ (claim_element_leaves 1 call items)
-effect_accounts (events.Claim call (names.Wait wait) items) = elements_leave _ (claim_element_leaves (wait_line wait) call items)
+effect_accounts (events.Claim call (names.Wait wait) items) = elements_leave _ (claim_element_leaves (wait_ring wait) call items)
 effect_accounts (events.Raise call (names.Bytes queue) run index) = queue_silent queue _
 effect_accounts (events.Raise call (names.Notes chain) run index) = chain_silent chain _
 effect_accounts (events.Raise call names.Ready run index) = elements_leave _ (raise_element_leaves 0 call run index)
 effect_accounts (events.Raise call names.Free run index) = elements_leave _ (raise_element_leaves 1 call run index)
-effect_accounts (events.Raise call (names.Wait wait) run index) = elements_leave _ (raise_element_leaves (wait_line wait) call run index)
+effect_accounts (events.Raise call (names.Wait wait) run index) = elements_leave _ (raise_element_leaves (wait_ring wait) call run index)
 effect_accounts (events.Take call (names.Bytes queue) count) = queue_silent queue _
 effect_accounts (events.Take call (names.Notes chain) count) = chain_silent chain _
 effect_accounts (events.Take call names.Ready count) = elements_leave _ (take_element_leaves 0 call count)
 effect_accounts (events.Take call names.Free count) = elements_leave _ (take_element_leaves 1 call count)
-effect_accounts (events.Take call (names.Wait wait) count) = elements_leave _ (take_element_leaves (wait_line wait) call count)
+effect_accounts (events.Take call (names.Wait wait) count) = elements_leave _ (take_element_leaves (wait_ring wait) call count)
 effect_accounts (events.On call processor element) = elements_leave _ (put_on_leaves call processor element)
 effect_accounts (events.Off call processor) = elements_leave _ (take_off_leaves call processor)
 effect_accounts (events.Stop call element) = elements_silent _ (stop_adds element)

@@ -11,7 +11,7 @@ use Rattle.event_theory.specs.Elements.{Elements, Thread, hold, let_go, let_all_
 use Rattle.event_theory.specs.Lawful.{IsLawfulQueue, IsLawfulElements}
 use Rattle.event_theory.specs.Results.{◌>>=◌, at, change_at}
 use Rattle.event_theory.specs.Appearances.{appearances, in_list, in_cell, is_on}
-use Rattle.event_theory.specs.Marks.{wait_line, wait_at}
+use Rattle.event_theory.specs.Marks.{wait_ring, wait_at}
 use Rattle.event_theory.specs.declared.hold.Hold.{Hold}
 use Rattle.event_theory.specs.declared.refusal.Refusal.TheVariants.{UnknownName, NotOwner, ProcessorBusy, Moved}
 use Rattle.event_theory.proofs.Lists.Inversions.{then_ok, test_ok, given_ok, some_ok, change_ok}
@@ -21,11 +21,11 @@ use Rattle.event_theory.proofs.Keeping.First.{empty_law, full_law, left_full}
 use Rattle.event_theory.proofs.Keeping.Places.{one, in_hands, sum_changed, sum_mapped, let_go_count, let_all_go_count, claim_left, raise_left, take_left, in_joined, in_hands_joined, in_hands_taken}
 
 -- an event that leaves each element in as many places keeps the elements lawful
-pub moved_lawful : (s t : Elements) → IsLawfulElements s → All IsLawfulQueue t.lines → length t.threads ≡ length s.threads
+pub moved_lawful : (s t : Elements) → IsLawfulElements s → All IsLawfulQueue t.rings → length t.threads ≡ length s.threads
     → list_all (λ thread. not thread.parked || thread.stop) t.threads ≡ true → ((element : ℕ) → appearances element t ≡ appearances element s)
     → IsLawfulElements t
-moved_lawful s t lawful lines many stopped same = record {
-  lines = lines;
+moved_lawful s t lawful rings many stopped same = record {
+  rings = rings;
   once = λ element below. same element ∙ lawful.once element (subst (λ n. element < n) many below);
   known = λ element past. same element ∙ lawful.known element (subst (λ n. n ≤ element) many past);
   stopped = stopped;
@@ -36,26 +36,26 @@ pub every_at : {X : Type 0} (P : X → Type 0) (xs : List X) (index : ℕ) (x : 
 every_at P xs index x at all =
     subst P (get_or_from_slice_get xs index x x at) (All-get_or P xs index x (slice_get_within xs index x at) all)
 
--- one line changed, and what is held with it
-pub line_lawful : (line : ℕ) (s : Elements) (old new : Queue) (held : List Hold) → IsLawfulElements s → slice_get s.lines line ≡ Some old
+-- one ring changed, and what is held with it
+pub ring_lawful : (ring : ℕ) (s : Elements) (old new : Queue) (held : List Hold) → IsLawfulElements s → slice_get s.rings ring ≡ Some old
     → IsLawfulQueue new
     → ((element : ℕ) → in_list element (left new) + in_hands element held ≡ in_list element (left old) + in_hands element s.held)
-    → IsLawfulElements (record s { lines = set s.lines line new; held = held })
-line_lawful line s old new held lawful at good same =
-    moved_lawful s (record s { lines = set s.lines line new; held = held }) lawful
-    (All-set IsLawfulQueue s.lines line new good lawful.lines) refl lawful.stopped
-    (λ element. omega (arith, same element, sum_changed (λ q. in_list element (left q)) s.lines line old new at))
+    → IsLawfulElements (record s { rings = set s.rings ring new; held = held })
+ring_lawful ring s old new held lawful at good same =
+    moved_lawful s (record s { rings = set s.rings ring new; held = held }) lawful
+    (All-set IsLawfulQueue s.rings ring new good lawful.rings) refl lawful.stopped
+    (λ element. omega (arith, same element, sum_changed (λ q. in_list element (left q)) s.rings ring old new at))
 
-pub claim_element_law : (line call : ℕ) (items : List ℕ) (s t : Elements) → IsLawfulElements s → claim_element line call items s ≡ Ok t → IsLawfulElements t
-claim_element_law line call items s t lawful ok =
+pub claim_element_law : (ring call : ℕ) (items : List ℕ) (s t : Elements) → IsLawfulElements s → claim_element ring call items s ≡ Ok t → IsLawfulElements t
+claim_element_law ring call items s t lawful ok =
     let a = test_ok (list_any (nat_le (length s.threads)) items) UnknownName _ t ok in
-    let b = then_ok (change_at line (claim 1 call items) s.lines) _ t a.1 in
+    let b = then_ok (change_at ring (claim 1 call items) s.rings) _ t a.1 in
     let c = then_ok (let_all_go call items s.held) _ t b.2 in
-    let d = change_ok line (claim 1 call items) s.lines b.0 b.1 in
-    let was : IsLawfulQueue d.0 = every_at IsLawfulQueue s.lines line d.0 d.2 lawful.lines in
-    let is : record s { lines = set s.lines line d.1; held = c.0 } ≡ t =
-    ap (λ lines. record s { lines = lines; held = c.0 }) (sym d.4) ∙ given_ok _ t c.2 in
-    subst IsLawfulElements is (line_lawful line s d.0 d.1 c.0 lawful d.2 (claim_law 1 call items d.0 d.1 was d.3)
+    let d = change_ok ring (claim 1 call items) s.rings b.0 b.1 in
+    let was : IsLawfulQueue d.0 = every_at IsLawfulQueue s.rings ring d.0 d.2 lawful.rings in
+    let is : record s { rings = set s.rings ring d.1; held = c.0 } ≡ t =
+    ap (λ rings. record s { rings = rings; held = c.0 }) (sym d.4) ∙ given_ok _ t c.2 in
+    subst IsLawfulElements is (ring_lawful ring s d.0 d.1 c.0 lawful d.2 (claim_law 1 call items d.0 d.1 was d.3)
     (λ element. omega (
       arith,
       let_all_go_count call items s.held c.0 c.1 element,
@@ -63,24 +63,24 @@ claim_element_law line call items s t lawful ok =
       in_joined element (left d.0) items,
     )))
 
-pub raise_element_law : (line call run index : ℕ) (s t : Elements) → IsLawfulElements s → raise_element line call run index s ≡ Ok t → IsLawfulElements t
-raise_element_law line call run index s t lawful ok =
-    let a = then_ok (change_at line (raise call run index) s.lines) _ t ok in
-    let d = change_ok line (raise call run index) s.lines a.0 a.1 in
-    let was : IsLawfulQueue d.0 = every_at IsLawfulQueue s.lines line d.0 d.2 lawful.lines in
-    let is : record s { lines = set s.lines line d.1 } ≡ t = ap (λ lines. record s { lines = lines }) (sym d.4) ∙ given_ok _ t a.2 in
-    subst IsLawfulElements is (line_lawful line s d.0 d.1 s.held lawful d.2 (raise_law call run index d.0 d.1 was d.3)
+pub raise_element_law : (ring call run index : ℕ) (s t : Elements) → IsLawfulElements s → raise_element ring call run index s ≡ Ok t → IsLawfulElements t
+raise_element_law ring call run index s t lawful ok =
+    let a = then_ok (change_at ring (raise call run index) s.rings) _ t ok in
+    let d = change_ok ring (raise call run index) s.rings a.0 a.1 in
+    let was : IsLawfulQueue d.0 = every_at IsLawfulQueue s.rings ring d.0 d.2 lawful.rings in
+    let is : record s { rings = set s.rings ring d.1 } ≡ t = ap (λ rings. record s { rings = rings }) (sym d.4) ∙ given_ok _ t a.2 in
+    subst IsLawfulElements is (ring_lawful ring s d.0 d.1 s.held lawful d.2 (raise_law call run index d.0 d.1 was d.3)
     (λ element. ap (λ xs. in_list element xs + in_hands element s.held) (raise_left call run index d.0 d.1 d.3)))
 
-pub take_element_law : (line call count : ℕ) (s t : Elements) → IsLawfulElements s → take_element line call count s ≡ Ok t → IsLawfulElements t
-take_element_law line call count s t lawful ok =
-    let a = then_ok (at line s.lines) _ t ok in
+pub take_element_law : (ring call count : ℕ) (s t : Elements) → IsLawfulElements s → take_element ring call count s ≡ Ok t → IsLawfulElements t
+take_element_law ring call count s t lawful ok =
+    let a = then_ok (at ring s.rings) _ t ok in
     let b = then_ok (take_first 1 count a.0) _ t a.2 in
-    let there : slice_get s.lines line ≡ Some a.0 = some_ok (slice_get s.lines line) UnknownName a.0 a.1 in
-    let was : IsLawfulQueue a.0 = every_at IsLawfulQueue s.lines line a.0 there lawful.lines in
+    let there : slice_get s.rings ring ≡ Some a.0 = some_ok (slice_get s.rings ring) UnknownName a.0 a.1 in
+    let was : IsLawfulQueue a.0 = every_at IsLawfulQueue s.rings ring a.0 there lawful.rings in
     let more : List Hold = map (hold call) (take count (left a.0)) in
     subst IsLawfulElements (given_ok _ t b.2)
-    (line_lawful line s a.0 b.0 (s.held ++ more) lawful there (take_law 1 count a.0 b.0 was b.1)
+    (ring_lawful ring s a.0 b.0 (s.held ++ more) lawful there (take_law 1 count a.0 b.0 was b.1)
     (λ element. omega (
       arith,
       ap (in_list element) (take_left 1 count a.0 b.0 b.1),
@@ -96,12 +96,12 @@ wait_at_law call wait element ticket s t lawful ok =
     let b = then_ok (at wait s.notified) _ t a.2 in
     let c = then_ok (let_go call element s.held) _ t b.2 in
     let e = test_ok (not (eqb b.0 ticket)) Moved _ t c.2 in
-    let f = then_ok (change_at (wait_line wait) (claim 1 call (element ∷ [])) s.lines) _ t e.1 in
-    let d = change_ok (wait_line wait) (claim 1 call (element ∷ [])) s.lines f.0 f.1 in
-    let was : IsLawfulQueue d.0 = every_at IsLawfulQueue s.lines (wait_line wait) d.0 d.2 lawful.lines in
-    let is : record s { lines = set s.lines (wait_line wait) d.1; held = c.0 } ≡ t =
-    ap (λ lines. record s { lines = lines; held = c.0 }) (sym d.4) ∙ given_ok _ t f.2 in
-    subst IsLawfulElements is (line_lawful (wait_line wait) s d.0 d.1 c.0 lawful d.2 (claim_law 1 call (element ∷ []) d.0 d.1 was d.3)
+    let f = then_ok (change_at (wait_ring wait) (claim 1 call (element ∷ [])) s.rings) _ t e.1 in
+    let d = change_ok (wait_ring wait) (claim 1 call (element ∷ [])) s.rings f.0 f.1 in
+    let was : IsLawfulQueue d.0 = every_at IsLawfulQueue s.rings (wait_ring wait) d.0 d.2 lawful.rings in
+    let is : record s { rings = set s.rings (wait_ring wait) d.1; held = c.0 } ≡ t =
+    ap (λ rings. record s { rings = rings; held = c.0 }) (sym d.4) ∙ given_ok _ t f.2 in
+    subst IsLawfulElements is (ring_lawful (wait_ring wait) s d.0 d.1 c.0 lawful d.2 (claim_law 1 call (element ∷ []) d.0 d.1 was d.3)
     (λ x. omega (
       arith,
       let_go_count call element s.held c.0 c.1 x,
@@ -118,7 +118,7 @@ pub seat_lawful : (processor : ℕ) (s : Elements) (old new : Option Hold) (held
     → ((element : ℕ) → seated element new + in_hands element held ≡ seated element old + in_hands element s.held)
     → IsLawfulElements (record s { processors = set s.processors processor new; held = held })
 seat_lawful processor s old new held lawful at same =
-    moved_lawful s (record s { processors = set s.processors processor new; held = held }) lawful lawful.lines refl lawful.stopped
+    moved_lawful s (record s { processors = set s.processors processor new; held = held }) lawful lawful.rings refl lawful.stopped
     (λ element. omega (arith, same element, sum_changed (seated element) s.processors processor old new at))
 
 free_seat : (seat : Option Hold) → is_busy seat ≡ false → seat ≡ None
@@ -161,13 +161,13 @@ same_seat call other element (Some h) = refl
 pub join_elements_law : (call other : ℕ) (s : Elements) → IsLawfulElements s → IsLawfulElements (join_elements call other s)
 join_elements_law call other s lawful =
     moved_lawful s (join_elements call other s) lawful
-    (All-map IsLawfulQueue (join_queue call other) s.lines
-    (All-weaker IsLawfulQueue (λ q. IsLawfulQueue (join_queue call other q)) (join_queue_law call other) s.lines lawful.lines))
+    (All-map IsLawfulQueue (join_queue call other) s.rings
+    (All-weaker IsLawfulQueue (λ q. IsLawfulQueue (join_queue call other q)) (join_queue_law call other) s.rings lawful.rings))
     refl lawful.stopped
     (λ element. omega (
       arith,
       sum_mapped (seated element) (option_map (join_hold call other)) (seated element) (same_seat call other element) s.processors,
-      sum_mapped (λ q. in_list element (left q)) (join_queue call other) (λ q. in_list element (left q)) (λ q. ap (in_list element) (left_joined call other q)) s.lines,
+      sum_mapped (λ q. in_list element (left q)) (join_queue call other) (λ q. in_list element (left q)) (λ q. ap (in_list element) (left_joined call other q)) s.rings,
       sum_mapped (λ (h : Hold). one h.element element) (join_hold call other) (λ (h : Hold). one h.element element) (λ h. refl) s.held,
     ))
 
@@ -244,7 +244,7 @@ first_elements_law count =
     let s : Elements = first_elements count in
     let many : length s.threads ≡ count = length-copies count new_thread in
     record {
-      lines = All-cons IsLawfulQueue (empty_queue count) (full_queue count ∷ copies 16 (empty_queue count)) (empty_law count)
+      rings = All-cons IsLawfulQueue (empty_queue count) (full_queue count ∷ copies 16 (empty_queue count)) (empty_law count)
           (All-cons IsLawfulQueue (full_queue count) (copies 16 (empty_queue count)) (full_law count)
           (every_copy IsLawfulQueue 16 (empty_queue count) (empty_law count)));
       once = λ element below. first_places count element ∙ within_range 0 count element (omega arith) (omega (arith, many, below));

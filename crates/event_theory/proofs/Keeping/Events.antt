@@ -8,7 +8,7 @@ use Rattle.event_theory.specs.Queues.{claim, raise, take_first}
 use Rattle.event_theory.specs.Chains.{with_number}
 use Rattle.event_theory.specs.Elements.{Elements, Thread, let_go, let_all_go, put_by, is_busy, holds, is_put, change_thread, claim_element, raise_element, take_element, put_on, take_off, stop, park, start, signal, deliver, done}
 use Rattle.event_theory.specs.Meters.{Meters, is_empty, standing, tick, advance, set_alarm, fire, cancel}
-use Rattle.event_theory.specs.Marks.{notify_wait, wait_line, wait_at}
+use Rattle.event_theory.specs.Marks.{notify_wait, wait_ring, wait_at}
 use Rattle.event_theory.specs.declared.alarm.Alarm.{Alarm}
 use Rattle.event_theory.specs.declared.refusal.Refusal.{Refusal}
 use Rattle.event_theory.specs.declared.refusal.Refusal.TheVariants.{UnknownName, Full, NotHeld, NotRaised, ProcessorBusy, NotStopped, Moved}
@@ -43,21 +43,21 @@ meters_stay m = record { set = sym (append-nil m.set); fired = sym (append-nil m
 abbrev pub LeavesThreads : (Elements → Result Elements Refusal) → Type 0
 LeavesThreads event = (s t : Elements) → event s ≡ Ok t → s.threads ≡ t.threads
 
-pub claim_element_leaves : (line call : ℕ) (items : List ℕ) → LeavesThreads (claim_element line call items)
-claim_element_leaves line call items s t ok =
+pub claim_element_leaves : (ring call : ℕ) (items : List ℕ) → LeavesThreads (claim_element ring call items)
+claim_element_leaves ring call items s t ok =
     let a = test_ok _ UnknownName _ t ok in
-    let b = then_ok (change_at line (claim 1 call items) s.lines) _ t a.1 in
+    let b = then_ok (change_at ring (claim 1 call items) s.rings) _ t a.1 in
     let c = then_ok (let_all_go call items s.held) _ t b.2 in
     ap (λ (x : Elements). x.threads) (given_ok _ t c.2)
 
-pub raise_element_leaves : (line call run index : ℕ) → LeavesThreads (raise_element line call run index)
-raise_element_leaves line call run index s t ok =
-    let a = then_ok (change_at line (raise call run index) s.lines) _ t ok in
+pub raise_element_leaves : (ring call run index : ℕ) → LeavesThreads (raise_element ring call run index)
+raise_element_leaves ring call run index s t ok =
+    let a = then_ok (change_at ring (raise call run index) s.rings) _ t ok in
     ap (λ (x : Elements). x.threads) (given_ok _ t a.2)
 
-pub take_element_leaves : (line call count : ℕ) → LeavesThreads (take_element line call count)
-take_element_leaves line call count s t ok =
-    let a = then_ok (at line s.lines) _ t ok in
+pub take_element_leaves : (ring call count : ℕ) → LeavesThreads (take_element ring call count)
+take_element_leaves ring call count s t ok =
+    let a = then_ok (at ring s.rings) _ t ok in
     let b = then_ok (take_first 1 count a.0) _ t a.2 in
     ap (λ (x : Elements). x.threads) (given_ok _ t b.2)
 
@@ -85,7 +85,7 @@ wait_at_leaves call wait element ticket s t ok =
     let b = then_ok (at wait s.notified) _ t a.2 in
     let c = then_ok (let_go call element s.held) _ t b.2 in
     let d = test_ok (not (eqb b.0 ticket)) Moved _ t c.2 in
-    let e = then_ok (change_at (wait_line wait) (claim 1 call (element ∷ [])) s.lines) _ t d.1 in
+    let e = then_ok (change_at (wait_ring wait) (claim 1 call (element ∷ [])) s.rings) _ t d.1 in
     ap (λ (x : Elements). x.threads) (given_ok _ t e.2)
 
 thread_by : (Q : Bool → Option Thread → Option Thread → Type 0) (threads : List Thread) (index : ℕ) (old new : Thread) (element : ℕ) → slice_get threads index ≡ Some old

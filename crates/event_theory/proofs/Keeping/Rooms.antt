@@ -7,7 +7,7 @@ use Rattle.std.proofs.lemmas.List.Sums.{sum_by-cons}
 use Rattle.std.specs.List.{repeat}
 use Rattle.event_theory.specs.Queues.{Queue, left, take_first}
 use Rattle.event_theory.specs.Elements.{Elements, Thread, hold, take_element, take_off}
-use Rattle.event_theory.specs.Lines.{taken}
+use Rattle.event_theory.specs.Rings.{taken}
 use Rattle.event_theory.specs.Results.{at, change_at}
 use Rattle.event_theory.specs.declared.refusal.Refusal.TheVariants.{NotOwner, ProcessorEmpty}
 use Rattle.event_theory.specs.Lawful.{IsLawfulElements}
@@ -123,12 +123,12 @@ started_room call element s old lawful found stopped parked =
     let t : Elements = record s { threads = set s.threads element (record old { stop = false; parked = false }); held = s.held ++ cond old.parked (hold call element ∷ []) [] } in
     one_more s t (hold call element) (start_law call element s t lawful (started_ok call element s old found stopped)) (ap (λ (b : Bool). s.held ++ cond b (hold call element ∷ []) []) parked) (length-set s.threads element (record old { stop = false; parked = false }))
 
-taken_ok : (line call count : ℕ) (s : Elements) (q r : Queue) → at line s.lines ≡ Ok q → take_first 1 count q ≡ Ok r
-    → take_element line call count s ≡ Ok (record s { lines = set s.lines line r; held = s.held ++ map (hold call) (take count (left q)) })
-taken_ok line call count s q r there takes = rw (there, takes) refl
+taken_ok : (ring call count : ℕ) (s : Elements) (q r : Queue) → at ring s.rings ≡ Ok q → take_first 1 count q ≡ Ok r
+    → take_element ring call count s ≡ Ok (record s { rings = set s.rings ring r; held = s.held ++ map (hold call) (take count (left q)) })
+taken_ok ring call count s q r there takes = rw (there, takes) refl
 
-pub taken_room : (line call count element : ℕ) (s : Elements) (new : List Queue) → IsLawfulElements s → taken line count s.lines ≡ Ok (element ∷ []) → change_at line (take_first 1 count) s.lines ≡ Ok new → length s.held < length s.threads
-taken_room line call count element s new lawful gives changes =
-    let a = then_ok (at line s.lines) _ (element ∷ []) gives in let b = then_ok (take_first 1 count a.0) _ (element ∷ []) a.2 in
-    let t : Elements = record s { lines = set s.lines line b.0; held = s.held ++ map (hold call) (take count (left a.0)) } in
-    one_more s t (hold call element) (take_element_law line call count s t lawful (taken_ok line call count s a.0 b.0 a.1 b.1)) (ap (λ (xs : List ℕ). s.held ++ map (hold call) xs) (given_ok _ _ b.2)) refl
+pub taken_room : (ring call count element : ℕ) (s : Elements) (new : List Queue) → IsLawfulElements s → taken ring count s.rings ≡ Ok (element ∷ []) → change_at ring (take_first 1 count) s.rings ≡ Ok new → length s.held < length s.threads
+taken_room ring call count element s new lawful gives changes =
+    let a = then_ok (at ring s.rings) _ (element ∷ []) gives in let b = then_ok (take_first 1 count a.0) _ (element ∷ []) a.2 in
+    let t : Elements = record s { rings = set s.rings ring b.0; held = s.held ++ map (hold call) (take count (left a.0)) } in
+    one_more s t (hold call element) (take_element_law ring call count s t lawful (taken_ok ring call count s a.0 b.0 a.1 b.1)) (ap (λ (xs : List ℕ). s.held ++ map (hold call) xs) (given_ok _ _ b.2)) refl

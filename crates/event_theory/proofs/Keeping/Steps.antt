@@ -10,7 +10,7 @@ use Rattle.event_theory.specs.Meters.{Meters, set_alarm}
 use Rattle.event_theory.specs.States.{State, first_state, make_queue, make_chain, in_queue, in_chain, in_elements, in_meters, set_for, join, effect, step}
 use Rattle.event_theory.specs.Schedules.{Reaches}
 use Rattle.event_theory.specs.Lawful.{IsLawful, IsLawfulQueue, IsLawfulChain, IsLawfulElements, IsLawfulMeters}
-use Rattle.event_theory.specs.Marks.{shut, wait_line}
+use Rattle.event_theory.specs.Marks.{shut, wait_ring}
 use Rattle.event_theory.specs.declared.alarm.Alarm.{Alarm}
 use Rattle.event_theory.specs.declared.event.Event.{Event}
 use Rattle.event_theory.specs.declared.event.Event.TheVariants as events
@@ -138,17 +138,17 @@ effect_law (events.Claim call (names.Bytes queue) items) = queue_step queue _ (c
 effect_law (events.Claim call (names.Notes chain) items) = chain_step chain _ (claim_note_law call items)
 effect_law (events.Claim call names.Ready items) = elements_step _ (claim_element_law 0 call items)
 effect_law (events.Claim call names.Free items) = elements_step _ (claim_element_law 1 call items)
-effect_law (events.Claim call (names.Wait wait) items) = elements_step _ (claim_element_law (wait_line wait) call items)
+effect_law (events.Claim call (names.Wait wait) items) = elements_step _ (claim_element_law (wait_ring wait) call items)
 effect_law (events.Raise call (names.Bytes queue) run index) = queue_step queue _ (raise_law call run index)
 effect_law (events.Raise call (names.Notes chain) run index) = chain_step chain _ (raise_note_law call run index)
 effect_law (events.Raise call names.Ready run index) = elements_step _ (raise_element_law 0 call run index)
 effect_law (events.Raise call names.Free run index) = elements_step _ (raise_element_law 1 call run index)
-effect_law (events.Raise call (names.Wait wait) run index) = elements_step _ (raise_element_law (wait_line wait) call run index)
+effect_law (events.Raise call (names.Wait wait) run index) = elements_step _ (raise_element_law (wait_ring wait) call run index)
 effect_law (events.Take call (names.Bytes queue) count) = queue_step queue _ (take_own count)
 effect_law (events.Take call (names.Notes chain) count) = chain_step chain _ (take_note_law call count)
 effect_law (events.Take call names.Ready count) = elements_step _ (take_element_law 0 call count)
 effect_law (events.Take call names.Free count) = elements_step _ (take_element_law 1 call count)
-effect_law (events.Take call (names.Wait wait) count) = elements_step _ (take_element_law (wait_line wait) call count)
+effect_law (events.Take call (names.Wait wait) count) = elements_step _ (take_element_law (wait_ring wait) call count)
 effect_law (events.On call processor element) = elements_step _ (put_on_law call processor element)
 effect_law (events.Off call processor) = elements_step _ (take_off_law call processor)
 effect_law (events.Stop call element) = elements_step _ (stop_law element)

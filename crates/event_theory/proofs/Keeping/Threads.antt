@@ -28,7 +28,7 @@ pub thread_lawful : (element : ℕ) (s : Elements) (old new : Thread) (held : Li
     → ((e : ℕ) → cond (eqb element e) (in_cell (Some new)) 0 + in_hands e held ≡ cond (eqb element e) (in_cell (Some old)) 0 + in_hands e s.held)
     → IsLawfulElements (record s { threads = set s.threads element new; held = held })
 thread_lawful element s old new held lawful at stopped same =
-    moved_lawful s (record s { threads = set s.threads element new; held = held }) lawful lawful.lines (length-set s.threads element new)
+    moved_lawful s (record s { threads = set s.threads element new; held = held }) lawful lawful.rings (length-set s.threads element new)
     (passes_set stops s.threads element new stopped lawful.stopped)
     (λ e. omega (arith, same e, cell_changed s.threads element old new e at))
 
@@ -121,4 +121,4 @@ pub notify_wait_law : (wait : ℕ) (s t : Elements) → IsLawfulElements s → n
 notify_wait_law wait s t lawful ok =
     let a = then_ok (change_at wait (λ count. Ok ((count + 1) % 4294967296)) s.notified) _ t ok in
     subst IsLawfulElements (given_ok (record s { notified = a.0 }) t a.2)
-    (moved_lawful s (record s { notified = a.0 }) lawful lawful.lines refl lawful.stopped (λ element. refl))
+    (moved_lawful s (record s { notified = a.0 }) lawful lawful.rings refl lawful.stopped (λ element. refl))

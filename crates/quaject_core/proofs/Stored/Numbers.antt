@@ -19,9 +19,9 @@ position_map p f ys = rw (position_or_len-map p f ys, length-map ys f) refl
 
 -- the elements with these parts
 abbrev pub parts : List StoredThread → List ℕ → List StoredQueue → List (Option Hold) → List Hold → Elements
-parts threads notified lines processors held = record {
+parts threads notified rings processors held = record {
   threads = map thread threads;
-  lines = map queue lines;
+  rings = map queue rings;
   notified = notified;
   processors = processors;
   held = held;

@@ -21,7 +21,7 @@ store_tail-requires-clause-raised g c = let t = c.load_tail-tail.ensures in let 
 
 pub store_tail-requires-clause-tail : goal.store_tail-requires-clause-tail
 store_tail-requires-clause-tail g c = let t = c.load_tail-tail.ensures in let p = c.load_place-word.ensures in
-    (tail_now _ _ _ _ _ c.requires.live.1 c.requires.positions.0 c.requires.positions.1 t.found t.tail p.note (p.up c.if-word-tail.false), t.small)
+    (tail_now _ _ _ _ _ c.requires.live.1 c.requires.positions.0 c.requires.positions.1 t.found t.tail p.note (p.up c.if-word-tail.false), t.bounded)
 
 pub store_tail-requires-clause-behind : goal.store_tail-requires-clause-behind
 store_tail-requires-clause-behind g c = let p = c.load_place-word.ensures in (p.up c.if-word-tail.false).sees.lawful.behind

@@ -11,7 +11,7 @@ use Rattle.processor.specs.declared.station.Parts.{Parts}
 use Rattle.processor.specs.Deeds.{is_done}
 use Rattle.processor.specs.Programs.{program}
 use Rattle.processor.specs.Turns.{is_last, RanStep}
-use Rattle.processor.specs.Logs.Entry.{Tried}
+use Rattle.processor.specs.Logs.LogEntry.{Tried}
 use Rattle.processor.specs.declared.counting.Tried.{Tried as Counted}
 use Rattle.processor.specs.declared.deed.Deed.{Deed}
 use Rattle.processor.specs.Running.{line_heard, heard_in, is_heard, step_tally}

@@ -1,5 +1,5 @@
 use Rattle.std.proofs.Common.{refl, [], ◌∷◌}
-use Rattle.processor.specs.Logs.Entry.{Tended}
+use Rattle.processor.specs.Logs.LogEntry.{Tended}
 use Rattle.processor.proofs.Logging.{idle_logged, tended_logged}
 use Rattle.processor.proofs.Rising.{raising}
 use Rattle.processor.proofs.Rooming.{room_kept}

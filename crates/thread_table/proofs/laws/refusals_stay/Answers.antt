@@ -44,4 +44,4 @@ pub returns-clause-befores : goal.returns-clause-befores
 returns-clause-befores c = before_stays
 
 pub returns-clause-reached : goal.returns-clause-reached
-returns-clause-reached c = λ call line head v w a. stays_found v w _ _ a.tail_loaded
+returns-clause-reached c = λ call ring head v w a. stays_found v w _ _ a.tail_loaded

@@ -1,6 +1,6 @@
 use Rattle.std.specs.Mem.Slots.{slots_items}
-use Rattle.thread_table.proofs.Locating.{on_seat}
+use Rattle.thread_table.proofs.Locating.{on_its_processor}
 use Rattle.thread_table.proofs.places.place_of.Goals as goal
 
 pub returns-in-Some : goal.returns-in-Some
-returns-in-Some c = on_seat c.args.element (slots_items c.args.closed.now.words) c.in-Some.p c.in-Some.ensures
+returns-in-Some c = on_its_processor c.args.element (slots_items c.args.closed.now.words) c.in-Some.p c.in-Some.ensures

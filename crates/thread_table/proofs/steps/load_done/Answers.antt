@@ -10,5 +10,5 @@ load-requires g c = let v = c.args.seat.now.me.0 in let q = c.requires.queue in 
   counts_at _ _ _ _ _ _ (omega (arith, place.0, mine.2)) mine.0 (omega (arith, q.2, mine.2)) (subst (MayStep v) (sym mine.2) mine.1),
 )
 
-pub returns-clause-small : goal.returns-clause-small
-returns-clause-small g c = let mine = c.requires.mine in let found = c.load.ensures.2.1 in subst (λ (z : ℕ). z < 4294967296) (sym found.is) (found.sees.shows.few _ (omega (arith, c.requires.queue.2, mine.2)))
+pub returns-clause-bounded : goal.returns-clause-bounded
+returns-clause-bounded g c = let mine = c.requires.mine in let found = c.load.ensures.2.1 in subst (λ (z : ℕ). z < 4294967296) (sym found.is) (found.sees.shows.few _ (omega (arith, c.requires.queue.2, mine.2)))

@@ -7,5 +7,5 @@ pub returns-clause-found : goal.returns-clause-found
 returns-clause-found c = found_at _ _ _ _ _ c.place_word.ensures.0 c.load.ensures.2
 
 pub returns-clause-place : goal.returns-clause-place
-returns-clause-place c = let line = c.args.line in
-    found_place _ _ _ _ c.requires.queue.2 (found_at _ _ _ _ _ (c.place_word.ensures.0 ∙ ap (λ (z : ℕ). place_word line z) c.requires.tail) c.load.ensures.2)
+returns-clause-place c = let ring = c.args.ring in
+    found_place _ _ _ _ c.requires.queue.2 (found_at _ _ _ _ _ (c.place_word.ensures.0 ∙ ap (λ (z : ℕ). place_word ring z) c.requires.tail) c.load.ensures.2)

@@ -4,7 +4,7 @@ use Rattle.thread_table.proofs.StateSteps.{takes_back}
 use Rattle.thread_table.proofs.steps.swap_off.Goals as goal
 
 pub swap-requires : goal.swap-requires
-swap-requires g c = let v = c.args.seat.now.me.0 in let q = c.requires.queue in let place = c.seat_word.ensures in let deed = c.requires.deed in let there = c.requires.there in (
+swap-requires g c = let v = c.args.seat.now.me.0 in let q = c.requires.queue in let place = c.processor_word.ensures in let deed = c.requires.deed in let there = c.requires.there in (
   q.0,
   omega (arith, q.1, place.1),
   takes_back _ _ _ _ _ _ _ _ deed.0 (omega (arith, place.0, deed.1)) c.requires.mine.0 c.requires.mine.1 (omega (arith, deed.1, there.0))

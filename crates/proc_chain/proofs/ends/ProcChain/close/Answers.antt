@@ -19,7 +19,7 @@ invariant_of-end g c = let end = c.args.end in let t = c.count-ends.ensures.tall
   turned = s.runner ∙ end.turned;
   settled = ap (λ (z : View). z.owes) t.same ∙ end.settled;
   behind = s.behind;
-  small = t.sees.small;
+  bounded = t.sees.bounded;
   distinct = subst Distinct (sym runs) end.distinct;
   raised = all_same _ _ runs end.raised;
 }
@@ -28,16 +28,16 @@ pub close_with-closed-requires : goal.close_with-closed-requires
 close_with-closed-requires g c = c.count-ends.ensures.queue.0.0 ∙ c.requires.ends.0
 
 pub read_left-left-requires-clause-range : goal.read_left-left-requires-clause-range
-read_left-left-requires-clause-range g c = let s = spans (makes g.Q.Quaject.made_by) (suits g.Q.Quaject.fits) c.args.self.table.shared.key _ _ _ _ _ _ c.close_with-closed.ensures.values.2 c.word-head.ensures c.word-tail.ensures in (s.behind, s.within, s.small)
+read_left-left-requires-clause-range g c = let s = spans (makes g.Q.Quaject.made_by) (suits g.Q.Quaject.fits) c.args.self.table.shared.key _ _ _ _ _ _ c.close_with-closed.ensures.values.2 c.word-head.ensures c.word-tail.ensures in (s.behind, s.within, s.bounded)
 
 pub free-requires : goal.free-requires
 free-requires g c = let slots = c.take-quaject.ensures.others in λ k below. emptied_slot _ _ _ k slots.1 (slots.2 ∙ (c.close_with-closed.ensures.counts.1 ∙ c.args.self.sized.1)) below
 
 pub overflow_cast-result-2 : goal.overflow_cast-result-2
-overflow_cast-result-2 g c = let s = spans (makes g.Q.Quaject.made_by) (suits g.Q.Quaject.fits) c.args.self.table.shared.key _ _ _ _ _ _ c.close_with-closed.ensures.values.2 c.word-head.ensures c.word-tail.ensures in let h = s.small in record { fits = omega arith }
+overflow_cast-result-2 g c = let s = spans (makes g.Q.Quaject.made_by) (suits g.Q.Quaject.fits) c.args.self.table.shared.key _ _ _ _ _ _ c.close_with-closed.ensures.values.2 c.word-head.ensures c.word-tail.ensures in let h = s.bounded in record { fits = omega arith }
 
 pub overflow_cast-result-4 : goal.overflow_cast-result-4
-overflow_cast-result-4 g c = let s = spans (makes g.Q.Quaject.made_by) (suits g.Q.Quaject.fits) c.args.self.table.shared.key _ _ _ _ _ _ c.close_with-closed.ensures.values.2 c.word-head.ensures c.word-tail.ensures in let h = s.small in let b = s.behind in record { fits = omega arith }
+overflow_cast-result-4 g c = let s = spans (makes g.Q.Quaject.made_by) (suits g.Q.Quaject.fits) c.args.self.table.shared.key _ _ _ _ _ _ c.close_with-closed.ensures.values.2 c.word-head.ensures c.word-tail.ensures in let h = s.bounded in let b = s.behind in record { fits = omega arith }
 
 pub returns-clause-closed : goal.returns-clause-closed
 returns-clause-closed g c = let k = c.args.self.table.shared.key in let first = c.args.self.shaped in let end = c.args.end in

@@ -18,7 +18,7 @@ invariant_of-result-in-Ok g c = let is = ap (λ (z : Me _ View). z.0) c.in-Ok.en
   turned = ap (λ (z : View). z.runner) is;
   settled = ap (λ (z : View). z.owes) is;
   behind = n.0;
-  small = n.1;
+  bounded = n.1;
   distinct = n.2;
   raised = n.3;
 }

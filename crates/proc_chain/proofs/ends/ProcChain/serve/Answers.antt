@@ -6,7 +6,7 @@ use Rattle.proc_chain.proofs.Rounds.{serves_none}
 use Rattle.proc_chain.proofs.ends.ProcChain.serve.Goals as goal
 
 pub returns-then-limit-eq0-clause-served : goal.returns-then-limit-eq0-clause-served
-returns-then-limit-eq0-clause-served g c = serves_none (makes g.Q.Quaject.made_by c.args.self.now.table.shared.key.pact) (suits g.Q.Quaject.fits c.args.self.now.table.shared.key.pact) c.args.end.now.seat.id c.args.end.now.seat.me c.args.limit c.if-limit-eq0.true c.args.end.now.behind c.args.end.now.small
+returns-then-limit-eq0-clause-served g c = serves_none (makes g.Q.Quaject.made_by c.args.self.now.table.shared.key.pact) (suits g.Q.Quaject.fits c.args.self.now.table.shared.key.pact) c.args.end.now.seat.id c.args.end.now.seat.me c.args.limit c.if-limit-eq0.true c.args.end.now.behind c.args.end.now.bounded
 
 pub invariant_of-end : goal.invariant_of-end
 invariant_of-end g c = let end = c.args.end.now in let s = c.serve_seat-done.ensures.served.served in let left = rw c.if-done.true at c.serve_seat-done.ensures.carries in record {
@@ -15,7 +15,7 @@ invariant_of-end g c = let end = c.args.end.now in let s = c.serve_seat-done.ens
   turned = left.0;
   settled = s.owes ∙ end.settled;
   behind = s.behind;
-  small = s.small;
+  bounded = s.bounded;
   distinct = subst Distinct (sym s.runs) end.distinct;
   raised = all_same _ _ s.runs end.raised;
 }
@@ -34,7 +34,7 @@ invariant_of-end-else-done g c = let end = c.args.end.now in let s = c.serve_sea
   turned = on.0 ∙ sym c.requires.turn;
   settled = s.owes ∙ end.settled;
   behind = s.behind;
-  small = s.small;
+  bounded = s.bounded;
   distinct = subst Distinct (sym s.runs) end.distinct;
   raised = all_same _ _ s.runs end.raised;
 }

@@ -16,7 +16,7 @@ loop-init g c = let end = c.args.end.now in record {
   used_up = [];
   servings = refl;
   number = refl;
-  served = served_still end.seat.me.0 end.behind end.small (grows_refl end.seat.me.0.part.queue);
+  served = served_still end.seat.me.0 end.behind end.bounded (grows_refl end.seat.me.0.part.queue);
 }
 
 pub returns-in-Done-clause-served : goal.returns-in-Done-clause-served

@@ -34,7 +34,7 @@ invariant_of-end g c = let end = c.args.end.now in let u = c.count_up.ensures.co
   turned = ap (λ (z : View). z.runner) is ∙ (s.runner ∙ end.turned);
   settled = ap (λ (z : View). z.owes) is ∙ (ap (λ (z : View). z.owes) u.same ∙ end.settled);
   behind = subst (λ (z : View). z.part.queue.taken ≤ length z.part.queue.places) (sym is) s.behind;
-  small = subst (λ (z : View). head_of z.part.queue < 4294967296) (sym is) u.sees.small;
+  bounded = subst (λ (z : View). head_of z.part.queue < 4294967296) (sym is) u.sees.bounded;
   distinct = subst Distinct (sym runs) end.distinct;
   raised = all_same _ _ runs end.raised;
 }

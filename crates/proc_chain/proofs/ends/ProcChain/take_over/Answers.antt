@@ -16,7 +16,7 @@ invariant_of-end g c = let v : View = c.args.end.now.seat.me.0 in let u : View =
       turned = ap (λ (z : View). z.runner) d.same ∙ c.args.end.now.turned;
       settled = ap (λ (z : View). z.owes) d.same ∙ c.args.end.now.settled;
       behind = subst (λ (z : Positions). z.taken ≤ length z.places) (sym f) d.sees.lawful.behind;
-      small = subst (λ (z : Positions). head_of z < 4294967296) (sym f) d.sees.small;
+      bounded = subst (λ (z : Positions). head_of z < 4294967296) (sym f) d.sees.bounded;
       distinct = d.distinct;
       raised = all_join v.part.runs u.part.runs w.part.runs (ap (λ (z : View). z.part.runs) d.same) c.args.end.now.raised c.args.other.raised;
     }

@@ -15,7 +15,7 @@ invariant_of-end g c = let end = c.args.end.now in let s = looks_found _ _ _ _ e
   turned = s.stays.runner ∙ end.turned;
   settled = s.owes ∙ end.settled;
   behind = s.stays.behind;
-  small = s.small;
+  bounded = s.bounded;
   distinct = subst Distinct (sym s.runs) end.distinct;
   raised = all_same _ _ s.runs end.raised;
 }
@@ -27,7 +27,7 @@ invariant_of-end-then-head-tail g c = let end = c.args.end.now in let a = looks_
   turned = s.stays.runner ∙ end.turned;
   settled = s.owes ∙ end.settled;
   behind = s.stays.behind;
-  small = s.small;
+  bounded = s.bounded;
   distinct = subst Distinct (sym s.runs) end.distinct;
   raised = all_same _ _ s.runs end.raised;
 }
@@ -39,19 +39,19 @@ invariant_of-end-then-found-head g c = let end = c.args.end.now in let a = looks
   turned = s.stays.runner ∙ end.turned;
   settled = s.owes ∙ end.settled;
   behind = s.stays.behind;
-  small = s.small;
+  bounded = s.bounded;
   distinct = subst Distinct (sym s.runs) end.distinct;
   raised = all_same _ _ s.runs end.raised;
 }
 
 pub overflow_cast-result : goal.overflow_cast-result
-overflow_cast-result g c = record { fits = c.load_head-head.ensures.small }
+overflow_cast-result g c = record { fits = c.load_head-head.ensures.bounded }
 
 pub overflow_cast-result-then-head-tail : goal.overflow_cast-result-then-head-tail
-overflow_cast-result-then-head-tail g c = record { fits = c.load_tail-tail.ensures.small }
+overflow_cast-result-then-head-tail g c = record { fits = c.load_tail-tail.ensures.bounded }
 
 pub overflow_cast-result-then-found-head : goal.overflow_cast-result-then-found-head
-overflow_cast-result-then-found-head g c = let m = c.exchange_head-found.ensures.miss c.if-found-head.true in record { fits = subst (λ (z : ℕ). z < 4294967296) (sym m.1) m.0.sees.small }
+overflow_cast-result-then-found-head g c = let m = c.exchange_head-found.ensures.miss c.if-found-head.true in record { fits = subst (λ (z : ℕ). z < 4294967296) (sym m.1) m.0.sees.bounded }
 
 pub returns-then-head-ge-POSITIONS-clause-ends : goal.returns-then-head-ge-POSITIONS-clause-ends
 returns-then-head-ge-POSITIONS-clause-ends g c = let a = c.load_head-head.ensures in (a.queue.0.0 ∙ c.requires.0, slot_on (makes g.Q.Quaject.made_by c.args.self.now.table.shared.key.pact) (suits g.Q.Quaject.fits c.args.self.now.table.shared.key.pact) _ _ _ _ (stays_found _ _ _ _ c.args.end.now.behind a.found) a.queue.1 c.requires.1)
@@ -99,7 +99,7 @@ invariant_of-end-then-swap_more-eq-IDLE g c = let a = c.load_head-head.ensures i
       turned = ap (λ (z : View). z.runner) w.same;
       settled = ap (λ (z : View). z.owes) w.same;
       behind = subst (λ (z : Positions). z.taken ≤ length z.places) (sym f) w.sees.lawful.behind;
-      small = subst (λ (z : Positions). head_of z < 4294967296) (sym f) w.sees.small;
+      bounded = subst (λ (z : Positions). head_of z < 4294967296) (sym f) w.sees.bounded;
       distinct = subst Distinct (sym (ap (λ (z : View). z.part.runs) w.same)) (linked_distinct _ _ _ _ l);
       raised = all_same _ _ (ap (λ (z : View). z.part.runs) w.same) (linked_raised _ _ _ _ l c.args.end.now.raised);
     }
@@ -136,7 +136,7 @@ invariant_of-end-else-swap_more-eq-IDLE g c = let a = c.load_head-head.ensures i
       turned = t.runner ∙ c.args.end.now.turned;
       settled = ap (λ (z : View). z.owes) w.same;
       behind = t.behind;
-      small = subst (λ (z : Positions). head_of z < 4294967296) (sym f) w.sees.small;
+      bounded = subst (λ (z : Positions). head_of z < 4294967296) (sym f) w.sees.bounded;
       distinct = subst Distinct (sym (ap (λ (z : View). z.part.runs) w.same)) (linked_distinct _ _ _ _ l);
       raised = all_same _ _ (ap (λ (z : View). z.part.runs) w.same) (linked_raised _ _ _ _ l c.args.end.now.raised);
     }
@@ -169,8 +169,8 @@ returns-clause-notes g c = let a = c.load_head-head.ensures in let b = c.load_ta
 pub exchange_head-found-requires-clause-room : goal.exchange_head-found-requires-clause-room
 exchange_head-found-requires-clause-room g c = let b = c.load_tail-tail.ensures in room_left c.load_tail-tail.new.seat.me.0 c.load_head-head.result c.load_tail-tail.result b.tail b.found.shows.room c.if-head-tail.false
 
-pub exchange_head-found-requires-clause-small : goal.exchange_head-found-requires-clause-small
-exchange_head-found-requires-clause-small g c = next_position _ c.if-head-ge-POSITIONS.false
+pub exchange_head-found-requires-clause-bounded : goal.exchange_head-found-requires-clause-bounded
+exchange_head-found-requires-clause-bounded g c = next_position _ c.if-head-ge-POSITIONS.false
 
 pub swap_more-requires-clause-queue : goal.swap_more-requires-clause-queue
 swap_more-requires-clause-queue g c = (c.store_place.ensures.queue.0.0 ∙ (c.exchange_head-found.ensures.queue.0.0 ∙ (c.load_tail-tail.ensures.queue.0.0 ∙ (c.load_head-head.ensures.queue.0.0 ∙ c.requires.0))), c.args.self.now.sized.0)

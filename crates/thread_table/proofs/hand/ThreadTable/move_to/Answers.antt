@@ -21,9 +21,9 @@ raise-requires-clause-position c =
 
 pub invariant_of-hand-2 : goal.invariant_of-hand-2
 invariant_of-hand-2 c = let a = c.load_head-word.ensures in let x = c.exchange_head-found in let s = c.raise.ensures in let id = a.queue.0.1 in let id' = x.ensures.queue.0.1 ∙ id in let n = c.number-number.ensures in
-    let line = c.args.line in let h = c.args.hand.now in let v = c.load_head-word.new.seat.me.0 in let m = x.new.seat.me.0 in let w = c.raise.new.seat.me.0 in
-    let claims = transport (λ i. Claims (id i) line (n.value i) (claim_event (id i) line (n.value i)) c.load_head-word.result v m) (x.ensures.hit c.if-found-word.false) in
-    let raises = transport (λ i. Raises (id' i) line (c.of-head.result.head - m.first) (n.value i) m w) s.raised in
+    let ring = c.args.ring in let h = c.args.hand.now in let v = c.load_head-word.new.seat.me.0 in let m = x.new.seat.me.0 in let w = c.raise.new.seat.me.0 in
+    let claims = transport (λ i. Claims (id i) ring (n.value i) (claim_event (id i) ring (n.value i)) c.load_head-word.result v m) (x.ensures.hit c.if-found-word.false) in
+    let raises = transport (λ i. Raises (id' i) ring (c.of-head.result.head - m.first) (n.value i) m w) s.raised in
     let known : c.args.element < 64 = search rules in
     let k = moved_to _ _ _ _ _ c.of-head.result.head c.of-head.result.mark _ _ _ _ c.requires.table.1 known a.found c.if-head.false claims c.of-head.ensures.0 c.of-head.ensures.1 raises in record {
       bare = s.queue.1 ∙ (x.ensures.queue.1 ∙ (a.queue.1 ∙ h.bare));
@@ -37,8 +37,8 @@ invariant_of-hand-2 c = let a = c.load_head-word.ensures in let x = c.exchange_h
 
 pub returns-clause-moved : goal.returns-clause-moved
 returns-clause-moved c = let a = c.load_head-word.ensures in let x = c.exchange_head-found in let s = c.raise.ensures in let id = a.queue.0.1 in let id' = x.ensures.queue.0.1 ∙ id in let n = c.number-number.ensures in
-    let line = c.args.line in let v = c.load_head-word.new.seat.me.0 in let m = x.new.seat.me.0 in let w = c.raise.new.seat.me.0 in
-    let claims = transport (λ i. Claims (id i) line (n.value i) (claim_event (id i) line (n.value i)) c.load_head-word.result v m) (x.ensures.hit c.if-found-word.false) in
-    let raises = transport (λ i. Raises (id' i) line (c.of-head.result.head - m.first) (n.value i) m w) s.raised in
+    let ring = c.args.ring in let v = c.load_head-word.new.seat.me.0 in let m = x.new.seat.me.0 in let w = c.raise.new.seat.me.0 in
+    let claims = transport (λ i. Claims (id i) ring (n.value i) (claim_event (id i) ring (n.value i)) c.load_head-word.result v m) (x.ensures.hit c.if-found-word.false) in
+    let raises = transport (λ i. Raises (id' i) ring (c.of-head.result.head - m.first) (n.value i) m w) s.raised in
     let known : c.args.element < 64 = search rules in
     (moved_to _ _ _ _ _ c.of-head.result.head c.of-head.result.mark _ _ _ _ c.requires.table.1 known a.found c.if-head.false claims c.of-head.ensures.0 c.of-head.ensures.1 raises).to

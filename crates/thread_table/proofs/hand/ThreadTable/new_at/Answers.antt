@@ -4,4 +4,4 @@ use Rattle.thread_table.proofs.hand.ThreadTable.new_at.Goals as goal
 
 pub of_words-requires : goal.of_words-requires
 of_words-requires c = let zs : c.as_mut_slice-row.result.now ≡ replicate 1325 0 = search rules in
-    zeros_open (record { first = c.args.first }) 1325 c.as_mut_slice-row.result.now c.lay_lines.new.words c.lay_free.new.words (let small = c.requires in omega arith) (omega arith) zs c.lay_lines.ensures c.lay_free.ensures
+    zeros_open (record { first = c.args.first }) 1325 c.as_mut_slice-row.result.now c.lay_rings.new.words c.lay_free.new.words (let bounded = c.requires in omega arith) (omega arith) zs c.lay_rings.ensures c.lay_free.ensures

@@ -9,6 +9,6 @@ abbrev pub invariant-loop : goal.invariant-loop
 invariant-loop g l = record {
   steps : (goal.iterator-loop g).can_next l.iterator' × (goal.iterator-loop g).is_finite l.iterator';
   same : IsSame l.initial.hand.seat l.hand.seat;
-  woken : Woken l.initial.hand.seat.id l.line l.initial.hand.seat.me.0 l.woken l.hand.seat.me.0;
-  rounds : Rounds l.initial.hand.seat.id l.line l.head l.initial.hand.seat.me.0 l.woken l.hand.seat.me.0;
+  woken : Woken l.initial.hand.seat.id l.ring l.initial.hand.seat.me.0 l.woken l.hand.seat.me.0;
+  rounds : Rounds l.initial.hand.seat.id l.ring l.head l.initial.hand.seat.me.0 l.woken l.hand.seat.me.0;
 }

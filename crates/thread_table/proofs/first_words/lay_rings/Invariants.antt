@@ -1,0 +1,6 @@
+use Rattle.thread_table.specs.Laid.{RingsLaid}
+use Rattle.thread_table.proofs.first_words.lay_rings.Given as goal
+
+-- the rings so far are laid
+abbrev pub invariant-loop-ring : goal.invariant-loop-ring
+invariant-loop-ring l = RingsLaid l.fn.first 0 l.ring l.fn.words l.words

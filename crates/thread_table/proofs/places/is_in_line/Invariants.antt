@@ -1,6 +1,0 @@
-use Rattle.std.specs.Mem.Slots.{slots_items}
-use Rattle.thread_table.proofs.Locating.{NotBefore}
-use Rattle.thread_table.proofs.places.is_in_line.Given as goal
-
-abbrev pub invariant-loop-position : goal.invariant-loop-position
-invariant-loop-position l = NotBefore l.element (slots_items l.closed.words) l.line l.tail l.position

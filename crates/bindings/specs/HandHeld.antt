@@ -7,7 +7,7 @@ use Rattle.thread_table.specs.Handles.{view_of, call_of, first_of, IsSameHand}
 use Rattle.thread_table.specs.Handles as hands
 use Rattle.thread_table.specs.Rules.{newcomer, has, serves, running}
 use Rattle.thread_table.specs.Endings as endings
-use Rattle.thread_table.specs.Steps.{PutsOn, TakesOff, Counts}
+use Rattle.thread_table.specs.Steps.{PutsOn, TakesOff, ReadPc}
 use Rattle.thread_table.specs.Answers.{is_in, DoneAnswer}
 use Rattle.bindings.specs.declared.hand.held.HeldHand.{HeldHand}
 
@@ -87,7 +87,7 @@ WasTakenOff p element x y = IsKept x y × TakesOff (call_of x.hand) p element (v
 
 -- `pc` gave this number of steps
 abbrev pub WasCounted : ℕ → ℕ → HeldHand → HeldHand → Type 0
-WasCounted element steps x y = IsKept x y × Counts element (view_of x.hand) steps (view_of y.hand)
+WasCounted element steps x y = IsKept x y × ReadPc element (view_of x.hand) steps (view_of y.hand)
 
 -- `step_done` gave this answer
 abbrev pub WasDone : ℕ → Result ℕ Spent → HeldHand → HeldHand → Type 0

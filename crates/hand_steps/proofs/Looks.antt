@@ -18,7 +18,7 @@ use Rattle.thread_table.specs.declared.states.Started.TheVariants as started
 use Rattle.thread_table.specs.Rules.{has}
 use Rattle.thread_table.specs.Makers.{made_in}
 use Rattle.thread_table.specs.Schedules.{state_after, elements_after, thread_at, ring_name}
-use Rattle.thread_table.specs.Steps.{Found, Counts, Starts}
+use Rattle.thread_table.specs.Steps.{Found, ReadPc, Starts}
 use Rattle.thread_table.proofs.Following.{Looked, found_looked, looked_on}
 use Rattle.thread_table.proofs.Schedules.{elements_of}
 use Rattle.hand_steps.specs.Dispatches.{mask_of}
@@ -132,7 +132,7 @@ deliver_goes call element v w (Ok (suc mask)) a = let b = a.0 in let l = found_l
 deliver_goes call element v w (Err r) a = let l = found_two v a.before w _ _ _ _ a.loaded a.missed in (looked_goes v w l, looked_held v w l)
 
 -- the number of steps done was found
-pub counts_goes : (element found : ℕ) (v w : View) → Counts element v found w → Goes no_events v w × (w.held ≡ v.held)
+pub counts_goes : (element found : ℕ) (v w : View) → ReadPc element v found w → Goes no_events v w × (w.held ≡ v.held)
 counts_goes element found v w c = (
   record {
     keeps = record {

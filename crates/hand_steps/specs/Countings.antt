@@ -3,7 +3,7 @@ use Rattle.std.specs.Prelude.{◌≡◌, ◌+◌, ◌<◌, ◌≢◌, ℕ, Bool,
 use Rattle.thread_table.specs.declared.rule.View.{View}
 use Rattle.thread_table.specs.Answers.{DoneAnswer}
 use Rattle.thread_table.specs.Rules.{MayStep, done_at}
-use Rattle.thread_table.specs.Steps.{Counts}
+use Rattle.thread_table.specs.Steps.{ReadPc}
 use Rattle.hand_steps.specs.declared.counting.Counted.{Counted}
 use Rattle.hand_steps.specs.declared.counting.Counted.TheVariants as counted
 use Rattle.hand_steps.specs.Tallies.{Tally, no_events, one_step}
@@ -12,7 +12,7 @@ use Rattle.hand_steps.specs.Tallies.{Tally, no_events, one_step}
 abbrev pub CountAnswer : ℕ → ℕ → Bool → View → Counted → View → Type 0
 CountAnswer call element false v counted.Undone w = w ≡ v
 CountAnswer call element true v (counted.Done number) w = DoneAnswer call v element (Ok number) w
-CountAnswer call element true v counted.Spent w = Counts element v 4294967295 w
+CountAnswer call element true v counted.Spent w = ReadPc element v 4294967295 w
 CountAnswer call element done v answer w = ⊥
 
 -- the step that was counted, if any, by how many the element had done before

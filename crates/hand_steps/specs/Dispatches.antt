@@ -3,7 +3,7 @@ use Rattle.std.specs.Prelude.{ℕ, true, false, Result, Ok, Err}
 use Rattle.thread_table.specs.declared.rule.View.{View}
 use Rattle.thread_table.specs.declared.states.Lost.{Lost}
 use Rattle.thread_table.specs.Answers.{TakeAnswer, ParkAnswer, DeliverAnswer}
-use Rattle.thread_table.specs.Steps.{Counts}
+use Rattle.thread_table.specs.Steps.{ReadPc}
 use Rattle.hand_steps.specs.declared.dispatch.Begun.{Begun}
 use Rattle.hand_steps.specs.declared.dispatch.Idle.{Idle}
 use Rattle.hand_steps.specs.declared.dispatch.Idle.TheVariants as idle
@@ -22,7 +22,7 @@ pub record Began (call : ℕ) (begun : Begun) (v w : View) : Type 0 where
   pub ready : View
   pub woke : Awake call begun.element v awake
   pub delivered : DeliverAnswer call awake begun.element begun.delivered ready
-  pub counted : Counts begun.element ready begun.number w
+  pub counted : ReadPc begun.element ready begun.number w
 
 -- Why no element is at hand: none was taken, or its stop bit was set and it was parked, or the try to park it was lost
 -- and then it was made ready

@@ -45,6 +45,6 @@ pub mod Filings
 pub mod Once
 pub mod Keeping
 pub mod Retiring
-pub mod ReadPc
+pub mod Counts
 pub mod Shuffles
 pub mod Freed

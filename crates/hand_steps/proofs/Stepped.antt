@@ -17,7 +17,7 @@ use Rattle.thread_table.specs.declared.rule.View.{View}
 use Rattle.thread_table.specs.Answers.{CountedStep}
 use Rattle.thread_table.specs.Rules.{MayStep, done_at}
 use Rattle.thread_table.specs.Schedules.{state_after, thread_at}
-use Rattle.thread_table.specs.Steps.{CountedStep}
+use Rattle.thread_table.specs.Steps.{StoresPc}
 use Rattle.thread_table.proofs.Once.{did_keeps}
 use Rattle.thread_table.proofs.Schedules.{elements_of}
 use Rattle.hand_steps.specs.Countings.{SteadyBut}
@@ -90,7 +90,7 @@ step_is call element number v w low up may c = record {
     u : View
     u = c.between
 
-    d : CountedStep call element c.count u w
+    d : StoresPc call element c.count u w
     d = c.steps
 
     looked : Goes no_events v u × (u.held ≡ v.held)

@@ -113,7 +113,7 @@ first_shows first words fits long none unstepped head tail items zeros = record 
   queues = refl;
   waits = length-copies {X = ℕ} 16 0;
   processors = length-copies 8 no_hold;
-  processors = λ p below. none (p + 1) (omega arith) (omega arith) ∙ sym (ap processor_shown (get_or-copies 8 no_hold p));
+  on = λ p below. none (p + 1) (omega arith) (omega arith) ∙ sym (ap processor_shown (get_or-copies 8 no_hold p));
   states = λ x below. state_shows (thread_at e64 x) (get_or words (x + 9) 0) (get_or-copies 64 new_thread x) (none (x + 9) (omega arith) (omega arith));
   steps = λ x below. unstepped (x + 73) (omega arith) (omega arith) ∙ sym (ap (λ (t : Thread). t.done) (get_or-copies 64 new_thread x));
   few = λ x below. let z : (thread_at e64 x).done ≡ 0 = ap (λ (t : Thread). t.done) (get_or-copies 64 new_thread x) in omega arith;

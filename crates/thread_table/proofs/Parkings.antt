@@ -63,7 +63,7 @@ threaded_words first e words element new held word below shows same is =
       queues = shows.queues;
       waits = shows.waits;
       processors = shows.processors;
-      processors = λ p low. other (processor_word p) (λ h. omega arith) ∙ shows.processors p low;
+      on = λ p low. other (processor_word p) (λ h. omega arith) ∙ shows.on p low;
       states = λ x low. read_set (λ k (t : Thread). StateShows t (get_or (set words (state_word element) word) (state_word k) 0)) e.threads element new new_thread within
           (subst (StateShows new) (sym (get_or-set_same words (state_word element) word 0 (omega (arith, shows.wide)))) is) x
           (λ apart. subst (StateShows (thread_at e x)) (sym (other (state_word x) (λ h. apart (omega arith)))) (shows.states x low));

@@ -78,7 +78,7 @@ shows_kept first e rings notified held ring place word words s many notes known 
       queues = many ∙ s.queues;
       waits = notes ∙ s.waits;
       processors = s.processors;
-      processors = λ p below. same (processor_word p) (λ is. omega arith) ∙ s.processors p below;
+      on = λ p below. same (processor_word p) (λ is. omega arith) ∙ s.on p below;
       states = λ x below. subst (StateShows (thread_at e x)) (sym (same (state_word x) (λ is. omega arith))) (s.states x below);
       steps = λ x below. same (done_word x) (λ is. omega arith) ∙ s.steps x below;
       few = s.few;

@@ -129,7 +129,7 @@ module _ (call first : ℕ) (e : Elements) (words : List ℕ) (s : Settled call 
 
   not_on : (x : ℕ) → ProcessorOf x words None → count_by (is_on x) e.processors ≡ 0
   not_on x none = let eight = s.shows.processors in sum_none (λ (seat : Option Hold). cond (is_on x seat) 1 0) e.processors None (λ p below.
-      ap (λ (b : Bool). cond b 1 0) (processor_none (get_or e.processors p None) x (λ same. none p (omega arith) (s.shows.processors p (omega arith) ∙ same))))
+      ap (λ (b : Bool). cond b 1 0) (processor_none (get_or e.processors p None) x (λ same. none p (omega arith) (s.shows.on p (omega arith) ∙ same))))
 
   -- an element in no place is in the hand
   in_hand : (x : ℕ) → x < 64 → ProcessorOf x words None → RingOf x words None → (thread_at e x).parked ≡ false → holds call x e ≡ true
@@ -142,7 +142,7 @@ module _ (call first : ℕ) (e : Elements) (words : List ℕ) (s : Settled call 
       held_by call x e.held (omega (arith, once, processors, rings, cells)) (λ other ne. s.alone other x ne)
 
   on_processor : (x p : ℕ) → ProcessorOf x words (Some p) → is_on x (get_or e.processors p None) ≡ true
-  on_processor x p seat = processor_some (get_or e.processors p None) x (sym (s.shows.processors p seat.0) ∙ seat.1)
+  on_processor x p seat = processor_some (get_or e.processors p None) x (sym (s.shows.on p seat.0) ∙ seat.1)
 
   in_ring : (x ring : ℕ) → RingOf x words (Some ring) → StandsAt call x e (ring_place ring)
   in_ring x zero is = in_left x 0 is.0 is.1

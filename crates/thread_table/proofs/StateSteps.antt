@@ -37,7 +37,7 @@ processor_found : (key : Shape) (s : St) (k : Rule key s) (id p i : ℕ) (v : Vi
 processor_found key s k id p i v on at place low serving has_on =
     let e : Elements = elements_after k.events in let hand : HandIs id v e = k.hands id v at in
     ap (λ (z : ℕ). get_or s.words z 0) place
-    ∙ (k.shows.processors p low ∙ ap processor_shown (get_or_from_slice_get e.processors p (option_map (hold id) on) None (hand.on p serving ∙ ap (λ (o : Option ℕ). Some (option_map (hold id) o)) has_on)))
+    ∙ (k.shows.on p low ∙ ap processor_shown (get_or_from_slice_get e.processors p (option_map (hold id) on) None (hand.on p serving ∙ ap (λ (o : Option ℕ). Some (option_map (hold id) o)) has_on)))
 
 -- the same step, by other words for its entry
 pub did_at : (id : ℕ) (v w : View) (i place found number : ℕ) (event : Event) (knows : List Event → View) → i ≡ place → found ≡ number → Did id v i found event knows w → Did id v place number event knows w

@@ -109,7 +109,7 @@ state_shown first e words element word new known shows steps state =
       queues = shows.queues;
       waits = shows.waits;
       processors = shows.processors;
-      processors = λ p is. word_else words (state_word element) (processor_word p) word (λ same. omega arith) ∙ shows.processors p is;
+      on = λ p is. word_else words (state_word element) (processor_word p) word (λ same. omega arith) ∙ shows.on p is;
       states = λ x is. each_thread (λ n thread. StateShows thread (get_or (set words (state_word element) word) (state_word n) 0)) e element x new below
           (subst (StateShows new) (sym here) state)
           (λ differ. subst (StateShows (thread_at e x)) (sym (word_else words (state_word element) (state_word x) word (λ same. differ (omega arith)))) (shows.states x is));
@@ -138,7 +138,7 @@ done_shown first e words element count known shows is_count room =
       queues = shows.queues;
       waits = shows.waits;
       processors = shows.processors;
-      processors = λ p is. word_else words (done_word element) (processor_word p) (count + 1) (λ eq. omega arith) ∙ shows.processors p is;
+      on = λ p is. word_else words (done_word element) (processor_word p) (count + 1) (λ eq. omega arith) ∙ shows.on p is;
       states = λ x is. each_thread (λ n thread. n < 64 → StateShows thread (get_or (set words (done_word element) (count + 1)) (state_word n) 0)) e element x new below
           (λ low. subst (StateShows new) (sym (same element low)) (record { bounded = state.bounded; pending = state.pending; stop = state.stop; parked = state.parked }))
           (λ differ low. subst (StateShows (thread_at e x)) (sym (same x low)) (shows.states x low)) is;

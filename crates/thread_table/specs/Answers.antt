@@ -20,7 +20,7 @@ use Rattle.thread_table.specs.Schedules.{elements_after, ring_at, thread_at}
 use Rattle.thread_table.specs.Shown.{head_word, tail_word, place_word, state_word, tail_shown, mark_of}
 use Rattle.thread_table.specs.Rules.{has}
 use Rattle.thread_table.specs.Steps.{Found, Claims, claim_event, Raises, Takes, Marks, Parks, Starts, Delivers}
-use Rattle.thread_table.specs.Steps.{ReadPc, CountedStep}
+use Rattle.thread_table.specs.Steps.{ReadPc, StoresPc}
 
 -- The tail was loaded, and then the place at it
 pub record FoundFirst (v : View) (ring tail place : ℕ) (w : View) : Type 0 where
@@ -260,7 +260,7 @@ pub record CountedStep (call : ℕ) (v : View) (element number : ℕ) (w : View)
   pub count : ℕ
   pub between : View
   pub found : ReadPc element v count between
-  pub steps : CountedStep call element count between w
+  pub steps : StoresPc call element count between w
   pub is : number ≡ count + 1
 
 -- the answer to a step done: the new number of steps; or Spent, where 4,294,967,295 were found to be done

@@ -81,7 +81,7 @@ pub record WordsShow (first : ℕ) (e : Elements) (words : List ℕ) : Type 0 wh
   pub queues : length e.rings ≡ 18
   pub waits : length e.notified ≡ 16
   pub processors : length e.processors ≡ 8
-  pub processors : (p : ℕ) → p < 8 → slice_index_or words (processor_word p) 0 ≡ processor_shown (slice_index_or e.processors p None)
+  pub on : (p : ℕ) → p < 8 → slice_index_or words (processor_word p) 0 ≡ processor_shown (slice_index_or e.processors p None)
   pub states : (x : ℕ) → x < 64 → StateShows (thread_at e x) (slice_index_or words (state_word x) 0)
   pub steps : (x : ℕ) → x < 64 → slice_index_or words (done_word x) 0 ≡ (thread_at e x).done
   pub few : (x : ℕ) → x < 64 → (thread_at e x).done < 4294967296

@@ -199,12 +199,12 @@ abbrev pub reads_pc : ℕ → Step Unit → Me Unit View → ℕ → Me Unit Vie
 reads_pc element st m r m' = Makes (ReadPc element) st m r m'
 
 -- one more step of the element is done, behind this number of them
-abbrev pub CountedStep : ℕ → ℕ → ℕ → View → View → Type 0
-CountedStep call element count v w =
+abbrev pub StoresPc : ℕ → ℕ → ℕ → View → View → Type 0
+StoresPc call element count v w =
     Did call v (done_word element) (count + 1) (events.Done call element) (λ before. quiet v) w
 
 abbrev pub steps_on : ℕ → ℕ → ℕ → Step Unit → Me Unit View → ℕ → Me Unit View → Type 0
-steps_on call element count st m r m' = Makes (λ v found w. CountedStep call element count v w) st m r m'
+steps_on call element count st m r m' = Makes (λ v found w. StoresPc call element count v w) st m r m'
 
 -- the view after so many hands were found, which makes another of them of the hand
 abbrev pub counted : View → ℕ → Course → List Event → Member → View

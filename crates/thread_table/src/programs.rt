@@ -27,7 +27,7 @@ impl ThreadTable {
         load_done::<Brand>(&self.table.shared, &mut hand.seat, element.number())
     }
 
-    /// ReadPc one more step of an element that the hand holds or has on a processor, and gives the new number. Spent
+    /// Counts one more step of an element that the hand holds or has on a processor, and gives the new number. Spent
     /// where the element has done 4,294,967,295 steps.
     pub fn step_done(&self, hand: &mut Hand, element: Element) -> Result<u64, Spent>
         requires { IsHandOf self.now hand.old × MayStep (view_of hand.old) element }

@@ -10,7 +10,7 @@ ghost use Rattle.thread_table.specs.Shown.{head_shown, tail_shown, head_word, ta
 ghost use Rattle.thread_table.specs.Rules.{IsActive, MayStep, has, serves, running};
 ghost use Rattle.thread_table.specs.Views.{claim_of, count_of};
 ghost use Rattle.thread_table.specs.Steps.{Found, Claims, claim_event, Raises, Takes, Notifies, PutsOn, TakesOff};
-ghost use Rattle.thread_table.specs.Steps.{Marks, ReadPc, CountedStep, CountedUp, CountedDown, Tallied};
+ghost use Rattle.thread_table.specs.Steps.{Marks, ReadPc, StoresPc, CountedUp, CountedDown, Tallied};
 ghost use Rattle.thread_table.specs.Steps.{Parks, Starts, Delivers, rest_of, newborn, both, emptied};
 ghost use Rattle.event_theory.specs.declared.event.Event.TheVariants as events;
 ghost use Rattle.thread_table.specs.Reads.{Peeked, StateIs};
@@ -314,7 +314,7 @@ pub(crate) fn store_done<J: Deed>(words: &Words, seat: &mut Seat<(), View>, elem
     requires deed { (J.call ≡ seat.old.id) × (J.element ≡ element) × (J.number ≡ done) }
     requires counted { (seat.old.me.0.counted ≡ Some (count_of J.element J.number)) × (done < 4294967295) }
     ensures queue { IsSame seat.old seat.new × (seat.new.me.1 ≡ seat.old.me.1) }
-    ensures stepped { CountedStep J.call J.element J.number seat.old.me.0 seat.new.me.0 }
+    ensures stepped { StoresPc J.call J.element J.number seat.old.me.0 seat.new.me.0 }
 {
     words.store::<StoreDone<J>>(seat, done_word(element), done + 1);
 }

@@ -10,7 +10,7 @@ use Rattle.thread_table.specs.Steps.{Found}
 use Rattle.thread_table.specs.Answers.{TakeAnswer, StartAnswer, ParkAnswer, DeliverAnswer, WasChanged, HasStop, HasSignals}
 use Rattle.thread_table.specs.Wakes.{BeforeAnswer}
 use Rattle.thread_table.specs.Keeping.{Keeps}
-use Rattle.thread_table.proofs.QueueSteps.{found_tail, small_tail}
+use Rattle.thread_table.proofs.Events.QueueSteps.{found_tail, small_tail}
 use Rattle.bindings.specs.HandTakings.{IsFit}
 use Rattle.bindings.specs.HandStates.{IsFitState}
 use Rattle.bindings.specs.HandWakes.{IsFitBefore}

@@ -8,8 +8,8 @@ use Rattle.thread_table.specs.Makers.{made_in}
 use Rattle.thread_table.specs.Rules.{MayStep, has, serves, running}
 use Rattle.thread_table.specs.Schedules.{state_after}
 use Rattle.thread_table.specs.Steps.{Did}
-use Rattle.thread_table.proofs.Following.{Looked}
-use Rattle.thread_table.proofs.Once.{did_keeps}
+use Rattle.thread_table.proofs.Schedule.Following.{Looked}
+use Rattle.thread_table.proofs.Schedule.Once.{did_keeps}
 use Rattle.hand_steps.specs.Holdings.{IsFree, IsOn, OnlyAdds, Steady}
 use Rattle.hand_steps.specs.Tallies.{Tally, tally, behind, no_events, Adds}
 use Rattle.hand_steps.proofs.Tallies.{adds_none, adds_on, adds_did, adds_before}

@@ -19,8 +19,8 @@ use Rattle.thread_table.specs.Answers.{TookFirst, FoundThen}
 use Rattle.thread_table.specs.Rules.{has, serves, running}
 use Rattle.thread_table.specs.Schedules.{elements_after, ring_at, thread_at}
 use Rattle.thread_table.specs.Steps.{Starts, TakesOff}
-use Rattle.thread_table.proofs.Following.{Looked, found_looked, looked_on}
-use Rattle.thread_table.proofs.Handing.{held_once}
+use Rattle.thread_table.proofs.Schedule.Following.{Looked, found_looked, looked_on}
+use Rattle.thread_table.proofs.Hands.HeldLists.{held_once}
 use Rattle.hand_steps.specs.Holdings.{HoldsMore}
 
 -- what a list says with one place changed

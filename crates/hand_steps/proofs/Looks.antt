@@ -19,8 +19,8 @@ use Rattle.thread_table.specs.Rules.{has}
 use Rattle.thread_table.specs.Makers.{made_in}
 use Rattle.thread_table.specs.Schedules.{state_after, elements_after, thread_at, ring_name}
 use Rattle.thread_table.specs.Steps.{Found, ReadPc, Starts}
-use Rattle.thread_table.proofs.Following.{Looked, found_looked, looked_on}
-use Rattle.thread_table.proofs.Schedules.{elements_of}
+use Rattle.thread_table.proofs.Schedule.Following.{Looked, found_looked, looked_on}
+use Rattle.thread_table.proofs.Schedule.Schedules.{elements_of}
 use Rattle.hand_steps.specs.Dispatches.{mask_of}
 use Rattle.hand_steps.specs.Holdings.{HoldsMore, HoldsLess, OnlyAdds}
 use Rattle.hand_steps.specs.Tallies.{Tally, tally, no_events, one_signal, one_delivery, signals_in}

@@ -12,8 +12,8 @@ use Rattle.thread_table.specs.Rules.{done_at, has}
 use Rattle.event_theory.specs.States.{State}
 use Rattle.thread_table.specs.Schedules.{state_after, thread_at}
 use Rattle.thread_table.specs.Steps.{claim_event}
-use Rattle.thread_table.proofs.Following.{found_looked}
-use Rattle.thread_table.proofs.Schedules.{elements_of}
+use Rattle.thread_table.proofs.Schedule.Following.{found_looked}
+use Rattle.thread_table.proofs.Schedule.Schedules.{elements_of}
 use Rattle.hand_steps.specs.declared.moving.Target.{Target}
 use Rattle.hand_steps.specs.declared.moving.Target.TheVariants as targets
 use Rattle.hand_steps.specs.declared.moving.Waited.{Waited}

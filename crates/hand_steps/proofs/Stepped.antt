@@ -18,8 +18,8 @@ use Rattle.thread_table.specs.Answers.{CountedStep}
 use Rattle.thread_table.specs.Rules.{MayStep, done_at}
 use Rattle.thread_table.specs.Schedules.{state_after, thread_at}
 use Rattle.thread_table.specs.Steps.{StoresPc}
-use Rattle.thread_table.proofs.Once.{did_keeps}
-use Rattle.thread_table.proofs.Schedules.{elements_of}
+use Rattle.thread_table.proofs.Schedule.Once.{did_keeps}
+use Rattle.thread_table.proofs.Schedule.Schedules.{elements_of}
 use Rattle.hand_steps.specs.Countings.{SteadyBut}
 use Rattle.hand_steps.specs.Tallies.{Adds, one_step, no_events}
 use Rattle.hand_steps.proofs.Calm.{Goes}

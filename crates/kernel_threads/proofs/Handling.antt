@@ -21,7 +21,7 @@ use Rattle.thread_table.specs.Rules.{has}
 use Rattle.thread_table.specs.Schedules.{state_after, elements_after, ring_at, element_at}
 use Rattle.thread_table.specs.Steps.{Found, Did}
 use Rattle.thread_table.specs.Views.{with_claim, with_raise}
-use Rattle.thread_table.proofs.Following.{Looked, found_looked, looked_on}
+use Rattle.thread_table.proofs.Schedule.Following.{Looked, found_looked, looked_on}
 use Rattle.std.proofs.lemmas.List.FromFn.{length-range_with_len}
 use Rattle.hand_steps.proofs.Lawful.{took_known, took_unheld}
 use Rattle.kernel_threads.proofs.FreeTakings.{did_take, looked_take, mark_more, mark_new, mark_less, all_marked}

@@ -17,7 +17,7 @@ use Rattle.processor.specs.Rooms.{HasRoom}
 use Rattle.processor.specs.Stations.{ArePartsOf, AreSameParts}
 use Rattle.table_theory.specs.declared.views.Member.{Member}
 use Rattle.table_theory.specs.Sharing.{given, kept}
-use Rattle.thread_table.proofs.Copies.{get_or-copies}
+use Rattle.thread_table.proofs.Lists.Copies.{get_or-copies}
 use Rattle.thread_table.specs.declared.rule.View.{View}
 use Rattle.thread_table.specs.Answers.{is_in}
 use Rattle.thread_table.specs.Handles as threads

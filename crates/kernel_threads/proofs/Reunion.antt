@@ -13,7 +13,7 @@ use Rattle.processor.specs.declared.station.Station.{Station}
 use Rattle.processor.specs.Logs.{LogEntry, Leaves}
 use Rattle.processor.specs.Partings.{AreJoined, AllJoined}
 use Rattle.table_theory.specs.declared.views.Member.{Member}
-use Rattle.thread_table.proofs.Copies.{get_or-copies}
+use Rattle.thread_table.proofs.Lists.Copies.{get_or-copies}
 use Rattle.thread_table.specs.declared.rule.View.{View}
 use Rattle.thread_table.specs.Handles as threads
 use Rattle.thread_table.specs.Rules.{serves, nothing_on}

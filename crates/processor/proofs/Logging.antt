@@ -9,7 +9,7 @@ use Rattle.std.proofs.lemmas.List.Folds.{list_any-append}
 use Rattle.std.proofs.lemmas.List.Sums.{sum_by-append}
 use Rattle.std.proofs.lemmas.Bool.{eqb-true, leb-true}
 use Rattle.std.proofs.lemmas.Bool.Decides.{eqb_tells, nat_tests}
-use Rattle.thread_table.proofs.Copies.{get_or-copies}
+use Rattle.thread_table.proofs.Lists.Copies.{get_or-copies}
 use Rattle.std.proofs.lemmas.Grind.{flat_map-append}
 use Rattle.boot_data.specs.declared.boot_plan.BootPlan.{BootPlan}
 use Rattle.claim_queue.specs.declared.claim.ClaimRefusal.{ClaimRefusal}

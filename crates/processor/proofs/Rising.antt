@@ -20,7 +20,7 @@ use Rattle.thread_table.specs.Answers.{TakeAnswer, FoundFirst, MovedTo, MoveAnsw
 use Rattle.thread_table.specs.Rules.{done_at}
 use Rattle.thread_table.specs.Steps.{Found, Did, PutsOn, TakesOff}
 use Rattle.thread_table.specs.Wakes.{WokeAll, Tries}
-use Rattle.thread_table.proofs.Once.{did_keeps}
+use Rattle.thread_table.proofs.Schedule.Once.{did_keeps}
 use Rattle.hand_steps.specs.declared.waking.Woken.{Woken}
 use Rattle.hand_steps.specs.declared.waking.Resumed.{Resumed}
 use Rattle.hand_steps.specs.declared.waking.Resumed.TheVariants as resumed

@@ -25,9 +25,9 @@ use Rattle.reports.specs.Agreements.{AlarmsAgree}
 use Rattle.reports.specs.ClosedTables.{ClosedTables}
 use Rattle.reports.specs.ClosedTables as closed
 use Rattle.reports.specs.Endings.{ThreadsEnded}
-use Rattle.thread_table.proofs.Counts.{many_more}
+use Rattle.thread_table.proofs.Lists.Counts.{many_more}
 use Rattle.reports.proofs.Places.{joined_shows}
-use Rattle.thread_table.proofs.Shuffles.{same_counts}
+use Rattle.thread_table.proofs.Lists.Shuffles.{same_counts}
 use Rattle.reporting.specs.Shown.{IsNamed}
 
 -- an element that stands in a wait queue stands in one that there is

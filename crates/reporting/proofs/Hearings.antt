@@ -20,7 +20,7 @@ use Rattle.processor.proofs.Rooms.{few}
 use Rattle.reports.specs.ClosedTables.{ClosedTables}
 use Rattle.reports.specs.Endings.{ThreadsEnded}
 use Rattle.reports.specs.Lists.{all_of}
-use Rattle.thread_table.proofs.Counts.{plus, by_bool, many_cons}
+use Rattle.thread_table.proofs.Lists.Counts.{plus, by_bool, many_cons}
 use Rattle.reports.proofs.Lists.{zip_lists, flat_all}
 use Rattle.reports.proofs.Sorting.{heard_few, once_most}
 use Rattle.reports.proofs.Threads.{planned_all}

@@ -31,10 +31,10 @@ use Rattle.reports.specs.ClosedTables as closed
 use Rattle.reports.specs.Doings.{is_poke}
 use Rattle.reports.specs.Endings.{ChainEnded, MoverEnded}
 use Rattle.reports.specs.Lists.{all_of}
-use Rattle.thread_table.proofs.Counts.{plus, many_cons}
+use Rattle.thread_table.proofs.Lists.Counts.{plus, many_cons}
 use Rattle.reports.proofs.Joining.{joined_from_none}
 use Rattle.reports.proofs.Lists.{at_its, zip_lists, flat_all}
-use Rattle.thread_table.proofs.Shuffles.{filed_shuffle}
+use Rattle.thread_table.proofs.Lists.Shuffles.{filed_shuffle}
 
 abbrev long : Batch → ℕ
 long b = length b.places

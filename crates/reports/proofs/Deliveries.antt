@@ -18,8 +18,8 @@ use Rattle.table_theory.specs.Filing.{entry_of}
 use Rattle.hand_steps.specs.Tallies.{signalled_by, delivered_by, delivery_by, signal_by, is_delivered}
 use Rattle.std.proofs.lemmas.List.Folds.{list_any-append}
 use Rattle.processor.specs.Programs.{same_key}
-use Rattle.thread_table.proofs.Counts.{plus, many_cons, many_shuffled, any_is}
-use Rattle.thread_table.proofs.Shuffles.{filed_shuffle}
+use Rattle.thread_table.proofs.Lists.Counts.{plus, many_cons, many_shuffled, any_is}
+use Rattle.thread_table.proofs.Lists.Shuffles.{filed_shuffle}
 use Rattle.reports.proofs.Signals.{raises, signals_agree}
 
 -- the event delivers the signal of the thread

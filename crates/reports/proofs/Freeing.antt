@@ -27,12 +27,12 @@ use Rattle.thread_table.specs.Makers.{is_join, made_in, numbered, AreMade}
 use Rattle.thread_table.specs.Retiring as retiring
 use Rattle.thread_table.specs.Rules.{done_at}
 use Rattle.thread_table.specs.Schedules.{begun, state_after, elements_after, IsAllowed, ring_at, thread_at, element_of}
-use Rattle.thread_table.proofs.SingleRuns.{Singles, flat_single}
-use Rattle.thread_table.proofs.Schedules.{elements_of}
+use Rattle.thread_table.proofs.Events.SingleRuns.{Singles, flat_single}
+use Rattle.thread_table.proofs.Schedule.Schedules.{elements_of}
 use Rattle.processor.specs.Programs.{Key, program}
 use Rattle.processor.specs.Preparing.{HasDoneAll}
-use Rattle.thread_table.proofs.Counts.{many_more, by_bool}
-use Rattle.thread_table.proofs.Shuffles.{filed_shuffle}
+use Rattle.thread_table.proofs.Lists.Counts.{many_more, by_bool}
+use Rattle.thread_table.proofs.Lists.Shuffles.{filed_shuffle}
 
 -- LISTS
 

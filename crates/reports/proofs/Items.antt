@@ -15,7 +15,7 @@ use Rattle.table_theory.specs.Filing.{Owned, ListedOnce}
 use Rattle.table_theory.specs.Listing.{all_places, Adjacent}
 use Rattle.table_theory.specs.Positioned.{blank, item_of}
 use Rattle.reports.specs.Closings.{lies_in, item_at, items_from}
-use Rattle.thread_table.proofs.Counts.{by_bool, is_less}
+use Rattle.thread_table.proofs.Lists.Counts.{by_bool, is_less}
 
 -- the item of a run at a position
 abbrev in_run : ℕ → Batch → ℕ

@@ -32,7 +32,7 @@ use Rattle.reports.specs.Lines.{state_for}
 use Rattle.reports.specs.Lists.{all_of}
 use Rattle.reports.specs.Reports.{IsReport}
 use Rattle.reports.specs.Saying.{says_small, says_large, all_small, all_large, IsNeverShutSmall, IsNeverShutLarge, SmallIsSaid, LargeIsSaid, AllEnded, is_ended, is_live}
-use Rattle.thread_table.proofs.Counts.{by_bool, plus, many_cons, many_more, find_it, range_in, range_far}
+use Rattle.thread_table.proofs.Lists.Counts.{by_bool, plus, many_cons, many_more, find_it, range_in, range_far}
 use Rattle.reports.proofs.Threads.{none_in, all_planned}
 
 module _ {A B : Type 0} (f : A → List B) where

@@ -23,7 +23,7 @@ use Rattle.quajects.specs.Settled.{shuts_of}
 use Rattle.reports.specs.ClosedTables as closed
 use Rattle.reports.specs.Endings.{QueueEnded, small_of, large_of}
 use Rattle.reports.specs.Saying.{IsLeftOpen, IsNeverClosed, IsNeverShutSmall, IsNeverShutLarge}
-use Rattle.thread_table.proofs.Counts.{by_bool}
+use Rattle.thread_table.proofs.Lists.Counts.{by_bool}
 use Rattle.reports.proofs.Joining.{stays}
 use Rattle.reports.proofs.Lists.{at_its}
 

@@ -14,9 +14,9 @@ use Rattle.thread_table.specs.declared.rule.Made.{Made}
 use Rattle.thread_table.specs.Schedules.{begun, state_after, elements_after, IsAllowed, thread_at}
 use Rattle.thread_table.specs.Makers.{is_join, made_in, numbered, AreMade}
 use Rattle.table_theory.specs.Filing.{entry_of}
-use Rattle.thread_table.proofs.Schedules.{elements_of}
-use Rattle.thread_table.proofs.Counts.{plus, many_cons, many_more, many_shuffled, by_bool, find_it}
-use Rattle.thread_table.proofs.Shuffles.{filed_shuffle}
+use Rattle.thread_table.proofs.Schedule.Schedules.{elements_of}
+use Rattle.thread_table.proofs.Lists.Counts.{plus, many_cons, many_more, many_shuffled, by_bool, find_it}
+use Rattle.thread_table.proofs.Lists.Shuffles.{filed_shuffle}
 
 -- the event makes the signal of the thread pending
 abbrev pub raises : ℕ → ℕ → Made → Bool

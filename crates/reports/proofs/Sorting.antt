@@ -20,7 +20,7 @@ use Rattle.reports.specs.ClosedTables.{ClosedTables}
 use Rattle.reports.specs.Endings.{ThreadsEnded}
 use Rattle.reports.specs.Lists.{all_of}
 use Rattle.reports.specs.Reports.{AreSorted, Ascend}
-use Rattle.thread_table.proofs.Counts.{plus, many_cons, many_more, many_shuffled}
+use Rattle.thread_table.proofs.Lists.Counts.{plus, many_cons, many_more, many_shuffled}
 use Rattle.reports.proofs.Stepping.{steps_counted}
 use Rattle.reports.proofs.Tallies.{made_at, all_steps}
 

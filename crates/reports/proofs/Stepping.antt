@@ -16,10 +16,10 @@ use Rattle.thread_table.specs.declared.rule.Made.{Made}
 use Rattle.thread_table.specs.Rules.{done_at}
 use Rattle.thread_table.specs.Schedules.{begun, state_after, IsAllowed, thread_at}
 use Rattle.thread_table.specs.Makers.{is_join, number_of, made_in, numbered, AreMade}
-use Rattle.thread_table.proofs.Schedules.{elements_of}
+use Rattle.thread_table.proofs.Schedule.Schedules.{elements_of}
 use Rattle.processor.specs.Programs.{same_key}
-use Rattle.thread_table.proofs.Counts.{plus, many_cons, many_more, many_shuffled, by_bool, range_in, range_far}
-use Rattle.thread_table.proofs.Shuffles.{filed_shuffle}
+use Rattle.thread_table.proofs.Lists.Counts.{plus, many_cons, many_more, many_shuffled, by_bool, range_in, range_far}
+use Rattle.thread_table.proofs.Lists.Shuffles.{filed_shuffle}
 
 drop_it : (p : Made → Bool) (m : Made) (ms : List Made) (j : Bool) → p m ≡ false → filter p (if j then ms else (m ∷ ms)) ≡ filter p ms
 drop_it p m ms true e = refl

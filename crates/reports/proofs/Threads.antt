@@ -5,7 +5,7 @@ use Rattle.std.specs.List.{AllZip, AllByRecursion, list_any, filter}
 use Rattle.std.proofs.lemmas.Bool.Decides.{eqb_tells, leb_tells, nat_tests}
 use Rattle.std.proofs.lemmas.List.Folds.{list_any-append}
 use Rattle.std.proofs.lemmas.Grind.{flat_map-append}
-use Rattle.thread_table.proofs.Copies.{get_or-copies}
+use Rattle.thread_table.proofs.Lists.Copies.{get_or-copies}
 use mathlib.Core.Logic.{dite}
 use native.Mathlib.Decide.{dec_lt}
 use Rattle.boot_data.specs.declared.boot_plan.BootPlan.{BootPlan}
@@ -27,7 +27,7 @@ use Rattle.reports.specs.ClosedTables as closed
 use Rattle.reports.specs.Doings as doings
 use Rattle.reports.specs.Endings.{ThreadsEnded}
 use Rattle.reports.specs.Lists.{all_of}
-use Rattle.thread_table.proofs.Counts.{plus, many_cons, many_more, by_bool, is_less}
+use Rattle.thread_table.proofs.Lists.Counts.{plus, many_cons, many_more, by_bool, is_less}
 use Rattle.reports.proofs.Stepping.{steps_counted}
 use Rattle.reports.proofs.Deliveries.{told}
 use Rattle.reports.proofs.Tallies.{made_at, all_steps, all_signals, all_deliveries, logs_signals}

@@ -1,5 +1,5 @@
 use Rattle.std.proofs.Common.{false}
-use Rattle.thread_table.proofs.Entries.{ArePut, either_at}
+use Rattle.thread_table.proofs.Lists.Entries.{ArePut, either_at}
 use Rattle.thread_table.proofs.hand.either.Given as goal
 
 -- the entries so far have the marks of both

@@ -1,6 +1,6 @@
 use Rattle.std.proofs.Common.{None}
 use Rattle.thread_table.specs.Rules.{nothing_on}
-use Rattle.thread_table.proofs.Entries.{ArePut, on_at}
+use Rattle.thread_table.proofs.Lists.Entries.{ArePut, on_at}
 use Rattle.thread_table.proofs.hand.either_running.Given as goal
 
 -- the processors so far have what was on them in either list

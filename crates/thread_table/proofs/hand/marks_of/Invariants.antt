@@ -1,7 +1,7 @@
 use Rattle.std.proofs.Common.{false, [], ◌∷◌}
 use Rattle.std.specs.List.{repeat}
 use Rattle.thread_table.specs.Answers.{is_in}
-use Rattle.thread_table.proofs.Entries.{ArePut}
+use Rattle.thread_table.proofs.Lists.Entries.{ArePut}
 use Rattle.thread_table.proofs.hand.marks_of.Given as goal
 
 -- the marks so far are the bits of the mask

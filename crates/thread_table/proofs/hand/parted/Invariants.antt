@@ -1,5 +1,5 @@
 use Rattle.std.proofs.Common.{false}
-use Rattle.thread_table.proofs.Entries.{ArePut, parted_at}
+use Rattle.thread_table.proofs.Lists.Entries.{ArePut, parted_at}
 use Rattle.thread_table.proofs.hand.parted.Given as goal
 
 -- the processors so far are parted

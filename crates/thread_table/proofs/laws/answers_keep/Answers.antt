@@ -1,4 +1,4 @@
-use Rattle.thread_table.proofs.Keeping.{take_keeps, move_keeps, wait_keeps, stop_keeps, start_keeps, park_keeps, signal_keeps, deliver_keeps, done_keeps, wake_keeps, notify_keeps, before_keeps}
+use Rattle.thread_table.proofs.Hands.Unchanged.{take_keeps, move_keeps, wait_keeps, stop_keeps, start_keeps, park_keeps, signal_keeps, deliver_keeps, done_keeps, wake_keeps, notify_keeps, before_keeps}
 use Rattle.thread_table.proofs.laws.answers_keep.Goals as goal
 
 pub returns-clause-takes : goal.returns-clause-takes

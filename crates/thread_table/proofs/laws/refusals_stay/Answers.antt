@@ -1,4 +1,4 @@
-use Rattle.thread_table.proofs.Keeping.{stays_found, take_stays, move_stays, wait_stays, start_stays, park_stays, deliver_stays, counts_stay, before_stays}
+use Rattle.thread_table.proofs.Hands.Unchanged.{stays_found, take_stays, move_stays, wait_stays, start_stays, park_stays, deliver_stays, counts_stay, before_stays}
 use Rattle.thread_table.proofs.laws.refusals_stay.Goals as goal
 
 pub returns-clause-looks : goal.returns-clause-looks

@@ -1,5 +1,5 @@
 use Rattle.std.proofs.Common.{rules}
-use Rattle.thread_table.proofs.QueueSteps.{notifies_head}
+use Rattle.thread_table.proofs.Events.QueueSteps.{notifies_head}
 use Rattle.thread_table.proofs.steps.add_notify.Goals as goal
 
 pub fetch_add-requires : goal.fetch_add-requires

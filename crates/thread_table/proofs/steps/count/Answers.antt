@@ -1,5 +1,5 @@
 use Rattle.std.proofs.Common.{rules}
-use Rattle.thread_table.proofs.Counting.{tallies_ends}
+use Rattle.thread_table.proofs.Hands.CountSteps.{tallies_ends}
 use Rattle.thread_table.proofs.steps.count.Goals as goal
 
 pub load-requires : goal.load-requires

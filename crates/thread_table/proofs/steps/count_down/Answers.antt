@@ -1,5 +1,5 @@
 use Rattle.std.proofs.Common.{rules}
-use Rattle.thread_table.proofs.Counting.{downs}
+use Rattle.thread_table.proofs.Hands.CountSteps.{downs}
 use Rattle.thread_table.proofs.steps.count_down.Goals as goal
 
 pub fetch_sub-requires : goal.fetch_sub-requires

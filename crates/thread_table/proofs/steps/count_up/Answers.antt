@@ -1,5 +1,5 @@
 use Rattle.std.proofs.Common.{rules}
-use Rattle.thread_table.proofs.Counting.{ups}
+use Rattle.thread_table.proofs.Hands.CountSteps.{ups}
 use Rattle.thread_table.proofs.steps.count_up.Goals as goal
 
 pub fetch_add-requires : goal.fetch_add-requires

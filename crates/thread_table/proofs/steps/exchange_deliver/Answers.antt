@@ -1,7 +1,7 @@
 use Rattle.std.proofs.Common.{◌∙◌, ap, arith}
 use Rattle.thread_table.specs.Rules.{has}
-use Rattle.thread_table.proofs.QueueSteps.{found_at}
-use Rattle.thread_table.proofs.StateSteps.{delivers_state, state_found}
+use Rattle.thread_table.proofs.Events.QueueSteps.{found_at}
+use Rattle.thread_table.proofs.Events.StateSteps.{delivers_state, state_found}
 use Rattle.thread_table.proofs.steps.exchange_deliver.Goals as goal
 
 pub compare_exchange-requires : goal.compare_exchange-requires

@@ -1,5 +1,5 @@
 use Rattle.std.proofs.Common.{rules, refl}
-use Rattle.thread_table.proofs.QueueSteps.{claims_head, found_at, found_head}
+use Rattle.thread_table.proofs.Events.QueueSteps.{claims_head, found_at, found_head}
 use Rattle.thread_table.proofs.steps.exchange_head.Goals as goal
 
 pub compare_exchange-requires : goal.compare_exchange-requires

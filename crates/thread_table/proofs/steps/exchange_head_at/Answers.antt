@@ -1,5 +1,5 @@
 use Rattle.std.proofs.Common.{rules, refl, arith}
-use Rattle.thread_table.proofs.QueueSteps.{claims_head_at, found_at, found_head}
+use Rattle.thread_table.proofs.Events.QueueSteps.{claims_head_at, found_at, found_head}
 use Rattle.thread_table.proofs.steps.exchange_head_at.Goals as goal
 
 pub compare_exchange-requires : goal.compare_exchange-requires

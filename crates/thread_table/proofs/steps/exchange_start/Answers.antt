@@ -1,6 +1,6 @@
 use Rattle.std.proofs.Common.{arith}
-use Rattle.thread_table.proofs.QueueSteps.{found_at}
-use Rattle.thread_table.proofs.StateSteps.{starts_state, state_found}
+use Rattle.thread_table.proofs.Events.QueueSteps.{found_at}
+use Rattle.thread_table.proofs.Events.StateSteps.{starts_state, state_found}
 use Rattle.thread_table.proofs.steps.exchange_start.Goals as goal
 
 pub compare_exchange-requires : goal.compare_exchange-requires

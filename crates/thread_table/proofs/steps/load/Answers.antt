@@ -1,5 +1,5 @@
 use Rattle.std.proofs.Common.{rules}
-use Rattle.thread_table.proofs.Looks.{looks}
+use Rattle.thread_table.proofs.Hands.Looks.{looks}
 use Rattle.thread_table.proofs.steps.load.Goals as goal
 
 pub load-requires : goal.load-requires

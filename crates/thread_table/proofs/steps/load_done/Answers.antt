@@ -1,6 +1,6 @@
 use Rattle.std.proofs.Common.{◌<◌, ℕ, arith, subst, sym}
 use Rattle.thread_table.specs.Rules.{MayStep}
-use Rattle.thread_table.proofs.StateSteps.{counts_at}
+use Rattle.thread_table.proofs.Events.StateSteps.{counts_at}
 use Rattle.thread_table.proofs.steps.load_done.Goals as goal
 
 pub load-requires : goal.load-requires

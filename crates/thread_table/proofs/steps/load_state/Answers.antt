@@ -1,5 +1,5 @@
-use Rattle.thread_table.proofs.QueueSteps.{found_at}
-use Rattle.thread_table.proofs.StateSteps.{state_found}
+use Rattle.thread_table.proofs.Events.QueueSteps.{found_at}
+use Rattle.thread_table.proofs.Events.StateSteps.{state_found}
 use Rattle.thread_table.proofs.steps.load_state.Goals as goal
 
 pub returns-clause-found : goal.returns-clause-found

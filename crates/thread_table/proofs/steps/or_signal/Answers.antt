@@ -1,5 +1,5 @@
 use Rattle.std.proofs.Common.{arith}
-use Rattle.thread_table.proofs.StateSteps.{signals_state, shifted}
+use Rattle.thread_table.proofs.Events.StateSteps.{signals_state, shifted}
 use Rattle.thread_table.proofs.steps.or_signal.Goals as goal
 
 pub fetch_or-requires : goal.fetch_or-requires

@@ -1,5 +1,5 @@
 use Rattle.std.proofs.Common.{arith}
-use Rattle.thread_table.proofs.StateSteps.{stops_state}
+use Rattle.thread_table.proofs.Events.StateSteps.{stops_state}
 use Rattle.thread_table.proofs.steps.or_stop.Goals as goal
 
 pub fetch_or-requires : goal.fetch_or-requires

@@ -2,7 +2,7 @@ use Rattle.std.proofs.Common.{rules, List, Bool, sym, subst}
 use Rattle.atomic_table.specs.Table.{Splits}
 use Rattle.thread_table.specs.Rules.{Rule}
 use Rattle.thread_table.specs.Steps.{rest_of, newborn}
-use Rattle.thread_table.proofs.Splitting.{splits}
+use Rattle.thread_table.proofs.Hands.SplitSteps.{splits}
 use Rattle.thread_table.proofs.steps.split_off.Goals as goal
 
 pub split_seat-requires : goal.split_seat-requires

@@ -1,5 +1,5 @@
 use Rattle.std.proofs.Common.{arith}
-use Rattle.thread_table.proofs.StateSteps.{steps_done}
+use Rattle.thread_table.proofs.Events.StateSteps.{steps_done}
 use Rattle.thread_table.proofs.steps.store_done.Goals as goal
 
 pub store-requires : goal.store-requires

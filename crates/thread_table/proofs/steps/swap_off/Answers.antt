@@ -1,6 +1,6 @@
 use Rattle.std.proofs.Common.{◌∙◌, ap, arith, sym, Some}
 use Rattle.thread_table.specs.Rules.{serves, running}
-use Rattle.thread_table.proofs.StateSteps.{takes_back}
+use Rattle.thread_table.proofs.Events.StateSteps.{takes_back}
 use Rattle.thread_table.proofs.steps.swap_off.Goals as goal
 
 pub swap-requires : goal.swap-requires

@@ -1,6 +1,6 @@
 use Rattle.std.proofs.Common.{◌∙◌, ap, arith}
 use Rattle.thread_table.specs.Rules.{has, serves, running}
-use Rattle.thread_table.proofs.StateSteps.{puts}
+use Rattle.thread_table.proofs.Events.StateSteps.{puts}
 use Rattle.thread_table.proofs.steps.swap_on.Goals as goal
 
 pub swap-requires : goal.swap-requires

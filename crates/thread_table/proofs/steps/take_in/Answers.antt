@@ -2,7 +2,7 @@ use Rattle.std.proofs.Common.{rules, sym, subst, set}
 use Rattle.thread_table.specs.declared.rule.View.{View}
 use Rattle.thread_table.specs.Rules.{Rule}
 use Rattle.thread_table.specs.Steps.{both}
-use Rattle.thread_table.proofs.Joining.{joins}
+use Rattle.thread_table.proofs.Hands.JoinSteps.{joins}
 use Rattle.thread_table.proofs.steps.take_in.Goals as goal
 
 pub join_seat-requires : goal.join_seat-requires

@@ -1,7 +1,7 @@
 use Rattle.std.proofs.Common.{rules, ◌≡◌, ap, subst, length}
 use Rattle.thread_table.specs.declared.rule.View.{View}
 use Rattle.thread_table.specs.Steps.{CountedDown}
-use Rattle.thread_table.proofs.Handovers.{took_in}
+use Rattle.thread_table.proofs.Hands.AfterSplits.{took_in}
 use Rattle.thread_table.proofs.hand.ThreadTable.join.Goals as goal
 
 pub returns-clause-joined : goal.returns-clause-joined

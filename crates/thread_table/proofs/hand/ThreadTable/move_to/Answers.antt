@@ -1,7 +1,7 @@
 use Rattle.std.proofs.Common.{rules, ◌<◌, ◌∙◌, ◌-◌, set, false, arith}
 use Rattle.std.proofs.Math.Path.{transport}
 use Rattle.thread_table.specs.Steps.{Claims, Raises, claim_event}
-use Rattle.thread_table.proofs.Answering.{was_spent, overtaken, claim_known, moved_to}
+use Rattle.thread_table.proofs.Events.Answering.{was_spent, overtaken, claim_known, moved_to}
 use Rattle.thread_table.proofs.hand.ThreadTable.move_to.Goals as goal
 
 pub returns-then-head-clause-moved : goal.returns-then-head-clause-moved

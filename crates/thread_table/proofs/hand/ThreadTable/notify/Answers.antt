@@ -1,7 +1,7 @@
 use Rattle.std.proofs.Common.{subst}
 use Rattle.thread_table.specs.Handles.{call_of, view_of}
 use Rattle.thread_table.specs.Wakes.{NotifiedNow}
-use Rattle.thread_table.proofs.Waking.{notified_now}
+use Rattle.thread_table.proofs.Events.Waking.{notified_now}
 use Rattle.thread_table.proofs.hand.ThreadTable.notify.Goals as goal
 
 pub returns-clause-notified : goal.returns-clause-notified

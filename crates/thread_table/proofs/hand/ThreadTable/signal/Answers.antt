@@ -1,4 +1,4 @@
-use Rattle.thread_table.proofs.Stating.{merged, raised}
+use Rattle.thread_table.proofs.Events.StatesSeen.{merged, raised}
 use Rattle.thread_table.proofs.hand.ThreadTable.signal.Goals as goal
 
 pub returns-then-is_pending-clause-signalled : goal.returns-then-is_pending-clause-signalled

@@ -2,7 +2,7 @@ use Rattle.std.proofs.Common.{ℕ, List, Bool, sym, ap, subst}
 use Rattle.thread_table.specs.declared.rule.View.{View}
 use Rattle.thread_table.specs.Endings.{Divided, IsNewborn}
 use Rattle.thread_table.specs.Steps.{rest_of}
-use Rattle.thread_table.proofs.Handovers.{divided, born}
+use Rattle.thread_table.proofs.Hands.AfterSplits.{divided, born}
 use Rattle.thread_table.proofs.hand.ThreadTable.split.Goals as goal
 
 pub returns-clause-split : goal.returns-clause-split

@@ -1,4 +1,4 @@
-use Rattle.thread_table.proofs.Stating.{stop_answer}
+use Rattle.thread_table.proofs.Events.StatesSeen.{stop_answer}
 use Rattle.thread_table.proofs.hand.ThreadTable.stop.Goals as goal
 
 pub returns-clause-stopped : goal.returns-clause-stopped

@@ -1,6 +1,6 @@
 use Rattle.std.proofs.Common.{inl, inr, rules, ◌≡◌, ◌<◌, ◌∙◌, ℕ, set, true, subst, sym}
 use Rattle.thread_table.specs.Answers.{TookFirst}
-use Rattle.thread_table.proofs.Answering.{not_raised, passed_before, passed_meanwhile, taken_first}
+use Rattle.thread_table.proofs.Events.Answering.{not_raised, passed_before, passed_meanwhile, taken_first}
 use Rattle.thread_table.proofs.hand.ThreadTable.take_first.Goals as goal
 
 pub returns-then-now-tail-clause-taken : goal.returns-then-now-tail-clause-taken

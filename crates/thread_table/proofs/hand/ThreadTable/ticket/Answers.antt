@@ -1,5 +1,5 @@
 use Rattle.std.proofs.Common.{rules, ◌<◌, ◌+◌, ◌≡◌, ◌∙◌, ap, ℕ}
-use Rattle.thread_table.proofs.Answering.{found_in, is_ticket}
+use Rattle.thread_table.proofs.Events.Answering.{found_in, is_ticket}
 use Rattle.thread_table.proofs.hand.ThreadTable.ticket.Goals as goal
 
 pub returns-clause-ticket : goal.returns-clause-ticket

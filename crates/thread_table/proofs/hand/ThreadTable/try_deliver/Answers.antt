@@ -1,5 +1,5 @@
 use Rattle.thread_table.specs.Answers.{HasSignals}
-use Rattle.thread_table.proofs.Stating.{changed, has_signals, nothing_pending, delivered}
+use Rattle.thread_table.proofs.Events.StatesSeen.{changed, has_signals, nothing_pending, delivered}
 use Rattle.thread_table.proofs.hand.ThreadTable.try_deliver.Goals as goal
 
 pub returns-then-pending-eq0-clause-delivered : goal.returns-then-pending-eq0-clause-delivered

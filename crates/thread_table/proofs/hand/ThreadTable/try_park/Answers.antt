@@ -1,5 +1,5 @@
 use Rattle.thread_table.specs.Answers.{HasStop}
-use Rattle.thread_table.proofs.Stating.{changed, not_stopped, parked}
+use Rattle.thread_table.proofs.Events.StatesSeen.{changed, not_stopped, parked}
 use Rattle.thread_table.proofs.hand.ThreadTable.try_park.Goals as goal
 
 pub returns-then-not-is_stopping-clause-parked : goal.returns-then-not-is_stopping-clause-parked

@@ -1,5 +1,5 @@
 use Rattle.thread_table.specs.Answers.{HasStop}
-use Rattle.thread_table.proofs.Stating.{changed, not_stopped, cleared, held_again}
+use Rattle.thread_table.proofs.Events.StatesSeen.{changed, not_stopped, cleared, held_again}
 use Rattle.thread_table.proofs.hand.ThreadTable.try_start.Goals as goal
 
 pub returns-then-seen-word-clause-started : goal.returns-then-seen-word-clause-started

@@ -4,7 +4,7 @@ use Rattle.event_theory.specs.declared.event.Event.TheVariants as events
 use Rattle.thread_table.specs.Views.{claim_of}
 use Rattle.thread_table.specs.Steps.{Claims, Raises}
 use Rattle.thread_table.specs.Answers.{mark_in}
-use Rattle.thread_table.proofs.Answering.{found_in, was_spent, moved_before, moved_meanwhile, overtaken_at, claim_known, moved_to, word_parts}
+use Rattle.thread_table.proofs.Events.Answering.{found_in, was_spent, moved_before, moved_meanwhile, overtaken_at, claim_known, moved_to, word_parts}
 use Rattle.thread_table.proofs.hand.ThreadTable.try_wait_at.Goals as goal
 
 pub returns-then-head-clause-moved : goal.returns-then-head-clause-moved

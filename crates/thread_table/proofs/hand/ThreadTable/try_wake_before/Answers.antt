@@ -2,7 +2,7 @@ use Rattle.std.proofs.Common.{rules, ◌+◌, ◌<◌, ap, subst, ◌∙◌}
 use Rattle.thread_table.specs.Handles.{call_of, view_of}
 use Rattle.thread_table.specs.Answers.{TookFirst}
 use Rattle.thread_table.specs.Wakes.{TookBefore}
-use Rattle.thread_table.proofs.Waking.{took_before}
+use Rattle.thread_table.proofs.Events.Waking.{took_before}
 use Rattle.thread_table.proofs.hand.ThreadTable.try_wake_before.Goals as goal
 
 pub returns-clause-taken : goal.returns-clause-taken

@@ -2,8 +2,8 @@ use Rattle.std.proofs.Common.{rules, ◌+◌, ◌<◌, sym, ap, subst, ◌∙◌
 use Rattle.thread_table.specs.Handles.{call_of, view_of}
 use Rattle.thread_table.specs.Answers.{TookFirst, TakeAnswer}
 use Rattle.thread_table.specs.Wakes.{WokeAll}
-use Rattle.thread_table.proofs.Following.{found_looked}
-use Rattle.thread_table.proofs.Waking.{Woken, Rounds, woken_none, rounds_none, woken_looked, woken_took, rounds_took, woken_missed, rounds_missed, woke_all}
+use Rattle.thread_table.proofs.Schedule.Following.{found_looked}
+use Rattle.thread_table.proofs.Events.Waking.{Woken, Rounds, woken_none, rounds_none, woken_looked, woken_took, rounds_took, woken_missed, rounds_missed, woke_all}
 use Rattle.thread_table.proofs.hand.ThreadTable.wake_all.Goals as goal
 
 pub loop-init : goal.loop-init

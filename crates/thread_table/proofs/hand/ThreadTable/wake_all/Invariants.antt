@@ -1,5 +1,5 @@
 use Rattle.table_theory.specs.Seating.{IsSame}
-use Rattle.thread_table.proofs.Waking.{Woken, Rounds}
+use Rattle.thread_table.proofs.Events.Waking.{Woken, Rounds}
 use Rattle.thread_table.proofs.hand.ThreadTable.wake_all.Given as goal
 
 abbrev pub ghosts-add_notify : goal.ghosts-add_notify

@@ -1,5 +1,5 @@
 use Rattle.thread_table.specs.Handles.{view_of}
-use Rattle.thread_table.proofs.Keeping.{stays_found}
+use Rattle.thread_table.proofs.Hands.Unchanged.{stays_found}
 use Rattle.bindings.proofs.HandFits.{still_known}
 use Rattle.bindings.proofs.hand.held.HeldHand.ticket.Goals as goal
 

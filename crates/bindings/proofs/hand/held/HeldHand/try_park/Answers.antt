@@ -1,5 +1,5 @@
 use Rattle.thread_table.specs.Handles.{view_of, call_of}
-use Rattle.thread_table.proofs.Keeping.{park_keeps}
+use Rattle.thread_table.proofs.Hands.Unchanged.{park_keeps}
 use Rattle.bindings.proofs.HandFits.{still_known}
 use Rattle.bindings.proofs.hand.held.HeldHand.try_park.Goals as goal
 

@@ -1,0 +1,8 @@
+-- The schedule: what it leads to, what the hands list of it, and its joins.
+pub mod Betweens
+pub mod Courses
+pub mod Following
+pub mod JoinEvents
+pub mod ListedEvents
+pub mod Once
+pub mod Schedules

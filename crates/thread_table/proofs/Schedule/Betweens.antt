@@ -1,0 +1,48 @@
+-- Whatever the rule holds of is a lawful state of the core, shown by the words and the hands.
+use Rattle.std.proofs.Common.{◌≡◌, ◌<◌, false, List, length, subst, arith}
+use Rattle.event_theory.specs.Elements.{Elements, holds}
+use Rattle.event_theory.specs.Schedules.{Reaches}
+use Rattle.event_theory.specs.States.{first_state}
+use Rattle.event_theory.specs.declared.event.Event.{Event}
+use Rattle.event_theory.proofs.Keeping.Steps.{schedule_law}
+use Rattle.event_theory.proofs.Keeping.Accounts.{account_law}
+use Rattle.atomic_table.specs.Table as tables
+use Rattle.thread_table.specs.declared.rule.Shape.{Shape}
+use Rattle.thread_table.specs.declared.rule.View.{View}
+use Rattle.thread_table.specs.Schedules.{begun, state_after, elements_after, IsAllowed}
+use Rattle.thread_table.specs.Shown.{WordsShow}
+use Rattle.thread_table.specs.Rules.{Rule, HandIs}
+use Rattle.thread_table.specs.Between.{ShowsElements}
+use Rattle.thread_table.proofs.Events.Owing.{AllOwned}
+use Rattle.thread_table.proofs.Close.Retiring.{are_retired}
+use Rattle.thread_table.proofs.Schedule.Schedules.{elements_of}
+
+-- events that were allowed lead from the first state to the one that they are said to lead to
+pub reached : (events : List Event) → IsAllowed events → Reaches (first_state 64) events (state_after events)
+unfolding IsAllowed begun
+reached events allowed = allowed
+
+pub shows_elements : (key : Shape) (s : tables.State Unit View) → Rule key s → ShowsElements key s
+shows_elements key s k =
+    let there : Reaches (first_state 64) k.events (state_after k.events) = reached k.events k.allowed in
+    let lawful = schedule_law 64 k.events (state_after k.events) there in
+    let same : elements_after k.events ≡ (state_after k.events).elements = elements_of k.events in record {
+      events = k.events;
+      core = state_after k.events;
+      reached = there;
+      lawful = lawful;
+      once = λ element below. lawful.elements.once element (subst (λ (z : Elements). element < length z.threads) same (let n = k.shows.threads in omega arith));
+      accounted = account_law 64 k.events (state_after k.events) there;
+      shown = subst (λ (z : Elements). WordsShow key.first z s.words) same k.shows;
+      hands = λ j v at. (subst (HandIs j v) same (k.hands j v at), (k.seen j v at).schedule);
+      made = k.made;
+      retired = are_retired k.events k.allowed;
+      sole = k.sole;
+      owned = subst (AllOwned s.views) same k.owned;
+      ends = k.ends;
+      joined = k.joined;
+      joiner = k.joiner;
+      are_joins = k.are_joins;
+      course = k.course;
+      no_others = λ call element far. subst (λ (z : Elements). holds call element z ≡ false) same (k.strange call element far);
+    }

@@ -11,7 +11,7 @@ use Rattle.thread_table.specs.Answers.{TakeAnswer, is_in, head_in}
 use Rattle.thread_table.specs.Rules.{has}
 use Rattle.thread_table.specs.Wakes.{WokeAll, Tries}
 use Rattle.thread_table.proofs.Schedule.Following.{found_looked}
-use Rattle.thread_table.proofs.Words.StateBits.{bit_set_here, bit_set_other}
+use Rattle.thread_table.proofs.Shown.StateBits.{bit_set_here, bit_set_other}
 use Rattle.hand_steps.specs.declared.moving.Target.TheVariants as targets
 use Rattle.hand_steps.specs.declared.waking.Woken.{Woken}
 use Rattle.hand_steps.specs.declared.waking.Resumed.{Resumed}

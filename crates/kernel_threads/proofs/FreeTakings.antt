@@ -10,7 +10,7 @@ use Rattle.thread_table.specs.Retiring.{taking_by}
 use Rattle.thread_table.specs.Schedules.{state_after, elements_after, ring_at}
 use Rattle.thread_table.specs.Steps.{Did}
 use Rattle.thread_table.proofs.Schedule.Following.{Looked}
-use Rattle.thread_table.proofs.Close.Retiring.{step_takes}
+use Rattle.thread_table.proofs.Closing.Retiring.{step_takes}
 use Rattle.thread_table.proofs.Schedule.Schedules.{elements_of}
 use Rattle.hand_steps.proofs.Lawful.{put_in}
 use Rattle.kernel_threads.specs.Elements.{free_taken}

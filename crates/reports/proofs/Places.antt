@@ -22,7 +22,7 @@ use Rattle.event_theory.specs.declared.event.Event.TheVariants as events
 use Rattle.event_theory.specs.declared.names.QueueName.TheVariants as names
 use Rattle.thread_table.specs.declared.rule.Made.{Made}
 use Rattle.thread_table.specs.Retiring.{frees, was_freed}
-use Rattle.thread_table.proofs.Close.Freed.{freed_is_told}
+use Rattle.thread_table.proofs.Closing.Freed.{freed_is_told}
 use Rattle.thread_table.specs.declared.places.Place.{Place}
 use Rattle.thread_table.specs.declared.places.Place.TheVariants as places
 use Rattle.thread_table.specs.declared.rule.View.{View}

@@ -1,6 +1,6 @@
-pub mod Close
+pub mod Closing
 pub mod Events
 pub mod Hands
 pub mod Lists
 pub mod Schedule
-pub mod Words
+pub mod Shown

@@ -24,7 +24,7 @@ use Rattle.thread_table.specs.Rules.{HandIs, IsClaimed, has}
 use Rattle.thread_table.specs.Views.{claim_of, with_claim}
 use Rattle.thread_table.proofs.Events.Effects.{Leaves, Effect, Ready, ClaimEffect, WaitAtEffect}
 use Rattle.thread_table.proofs.Events.Owing.{Owes, QueueOwes, queue_owes, ring_owes}
-use Rattle.thread_table.proofs.Words.QueueWords.{none_some}
+use Rattle.thread_table.proofs.Shown.QueueWords.{none_some}
 use Rattle.thread_table.proofs.Events.Rooms.{room, out_of_hands, unheld, let_go_goes}
 
 -- what stands at an index still does after one more

@@ -12,7 +12,7 @@ use Rattle.thread_table.specs.Shown.{WordsShow, RingShows, PlaceShows, head_word
 use Rattle.thread_table.specs.Rules.{HandIs}
 use Rattle.thread_table.proofs.Events.Effects.{NotifyEffect}
 use Rattle.thread_table.specs.Views.{quiet}
-use Rattle.thread_table.proofs.Words.QueueWords.{shows_kept, with_rings, queue_stays, claim_kept, rings_leave, none_some}
+use Rattle.thread_table.proofs.Shown.QueueWords.{shows_kept, with_rings, queue_stays, claim_kept, rings_leave, none_some}
 use Rattle.thread_table.proofs.Events.Owing.{same_owes}
 
 -- a number of 32 bits above another, one more, modulo 2^64

@@ -18,7 +18,7 @@ use Rattle.thread_table.specs.Rules.{HandIs, serves, running}
 use Rattle.thread_table.proofs.Events.Effects.{Leaves, OnEffect, OffEffect}
 use Rattle.thread_table.specs.Views.{with_on, with_off}
 use Rattle.thread_table.proofs.Hands.Releases.{releases, hold_own, hold_else, handed, handed_else}
-use Rattle.thread_table.proofs.Words.Outside.{with_parts, no_growth, ring_outside}
+use Rattle.thread_table.proofs.Shown.Outside.{with_parts, no_growth, ring_outside}
 use Rattle.thread_table.proofs.Events.Owing.{same_owes}
 use Rattle.thread_table.proofs.Hands.HeldLists.{any_set, read_set, held_set, no_claim, held_once}
 

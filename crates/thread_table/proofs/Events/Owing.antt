@@ -14,7 +14,7 @@ use Rattle.thread_table.specs.declared.rule.Claimed.{Claimed}
 use Rattle.thread_table.specs.Schedules.{ring_at, element_at, element_of, no_run}
 use Rattle.thread_table.specs.Views.{claim_of}
 use Rattle.thread_table.specs.Rules.{IsOpen}
-use Rattle.thread_table.proofs.Words.QueueWords.{none_some}
+use Rattle.thread_table.proofs.Shown.QueueWords.{none_some}
 
 -- a run that isn't raised after an event is then the hand's claim, or it wasn't raised before and wasn't the hand's
 abbrev pub Owes : View → View → Elements → Elements → Type 0

@@ -14,9 +14,9 @@ use Rattle.thread_table.specs.Shown.{WordsShow, StateShows, processor_word, stat
 use Rattle.thread_table.specs.Rules.{HandIs}
 use Rattle.thread_table.proofs.Events.Effects.{Leaves, ParkEffect, StartEffect}
 use Rattle.thread_table.specs.Views.{with_held, with_start}
-use Rattle.thread_table.proofs.Words.Bits.{set_bit_same, set_bit_other, low_bit, high_bit}
+use Rattle.thread_table.proofs.Shown.Bits.{set_bit_same, set_bit_other, low_bit, high_bit}
 use Rattle.thread_table.proofs.Hands.HeldLists.{read_set, held_set, no_claim, held_once}
-use Rattle.thread_table.proofs.Words.Outside.{with_parts, no_growth, ring_outside}
+use Rattle.thread_table.proofs.Shown.Outside.{with_parts, no_growth, ring_outside}
 use Rattle.thread_table.proofs.Events.Owing.{same_owes}
 use Rattle.thread_table.proofs.Hands.Releases.{releases, handed, handed_else}
 

@@ -16,7 +16,7 @@ use Rattle.thread_table.specs.Shown.{WordsShow, RingShows, PlaceShows, head_word
 use Rattle.thread_table.specs.Rules.{HandIs, IsClaimed}
 use Rattle.thread_table.specs.Views.{claim_of, with_raise}
 use Rattle.thread_table.proofs.Events.Effects.{RaiseEffect}
-use Rattle.thread_table.proofs.Words.QueueWords.{shows_kept, with_rings, mark_same, ring_shown, ring_changes, all_grow, claim_kept, rings_leave}
+use Rattle.thread_table.proofs.Shown.QueueWords.{shows_kept, with_rings, mark_same, ring_shown, ring_changes, all_grow, claim_kept, rings_leave}
 use Rattle.thread_table.proofs.Events.Owing.{QueueOwes, ring_owes}
 use Rattle.thread_table.proofs.Events.SingleRuns.{within_room, low_ahead, places_apart}
 

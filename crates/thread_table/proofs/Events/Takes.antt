@@ -25,7 +25,7 @@ use Rattle.thread_table.specs.Shown.{WordsShow, RingShows, PlaceShows, head_word
 use Rattle.thread_table.specs.Rules.{HandIs, IsClaimed, has}
 use Rattle.thread_table.proofs.Events.Effects.{TakeEffect}
 use Rattle.thread_table.specs.Views.{with_held}
-use Rattle.thread_table.proofs.Words.QueueWords.{shows_kept, with_rings, mark_same, ring_shown, all_grow, claim_kept, rings_leave, none_some}
+use Rattle.thread_table.proofs.Shown.QueueWords.{shows_kept, with_rings, mark_same, ring_shown, all_grow, claim_kept, rings_leave, none_some}
 use Rattle.thread_table.proofs.Events.Owing.{ring_owes, queue_owes}
 use Rattle.thread_table.proofs.Events.SingleRuns.{Singles, within_room, raised_known, first_is_raised, first_of_left}
 

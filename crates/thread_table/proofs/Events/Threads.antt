@@ -15,7 +15,7 @@ use Rattle.thread_table.specs.Rules.{HandIs, IsClaimed, IsCounted, may_step}
 use Rattle.thread_table.proofs.Events.Effects.{Leaves, Effect, Ready, StopEffect, SignalEffect, DeliverEffect, DoneEffect}
 use Rattle.thread_table.specs.Views.{quiet}
 use Rattle.thread_table.proofs.Events.Owing.{same_owes}
-use Rattle.thread_table.proofs.Words.StateBits.{stop_shows, signal_shows, deliver_shows}
+use Rattle.thread_table.proofs.Shown.StateBits.{stop_shows, signal_shows, deliver_shows}
 
 -- the elements with one thread changed
 abbrev with_thread : Elements → ℕ → Thread → Elements

@@ -35,7 +35,7 @@ use Rattle.thread_table.proofs.Events.QueueSteps.{found_tail}
 use Rattle.thread_table.proofs.Events.Rooms.{unheld}
 use Rattle.table_theory.specs.Ends.{Begins}
 use Rattle.table_theory.proofs.Ends.{begins_refl, begins_trans}
-use Rattle.thread_table.proofs.Words.StateBits.{bit_set_here, bit_set_other}
+use Rattle.thread_table.proofs.Shown.StateBits.{bit_set_here, bit_set_other}
 
 -- what changes for the hand while it wakes
 abbrev held_as : View → View → View

@@ -23,7 +23,7 @@ use Rattle.thread_table.specs.Rules.{Rule, HandIs, Seen, member_of, IsIdle, serv
 use Rattle.thread_table.specs.Views.{claim_of}
 use Rattle.thread_table.specs.Steps.{either, either_on, both, emptied}
 use Rattle.thread_table.proofs.Events.Owing.{AllOwned, IsOwned, owned_set}
-use Rattle.thread_table.proofs.Words.QueueWords.{none_some}
+use Rattle.thread_table.proofs.Shown.QueueWords.{none_some}
 use Rattle.thread_table.proofs.Lists.Copies.{length-copies, get_or-copies}
 use Rattle.thread_table.proofs.Hands.Renaming.{renamed_call, renamed_other, renamed_third, held_third, held_call, held_other, processor_renamed, claim_third, count_third, grows_joined, open_joined, words_joined}
 use Rattle.thread_table.proofs.Schedule.Schedules.{after_more, elements_after_more, elements_of, grows_trans}

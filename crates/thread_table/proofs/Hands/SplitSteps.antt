@@ -24,7 +24,7 @@ use Rattle.thread_table.specs.Rules.{IsSteady, IsNewest, Rule, HandIs, Seen, mem
 use Rattle.std.specs.List.{repeat}
 use Rattle.thread_table.specs.Steps.{parted, rest_of, newborn}
 use Rattle.thread_table.proofs.Events.Owing.{claims_kept}
-use Rattle.thread_table.proofs.Words.QueueWords.{none_some}
+use Rattle.thread_table.proofs.Shown.QueueWords.{none_some}
 use Rattle.thread_table.proofs.Lists.Copies.{length-copies, get_or-copies}
 
 -- an entry of the list in which one was cut in two

@@ -14,7 +14,7 @@ use Rattle.thread_table.specs.Shown.{WordsShow}
 use Rattle.thread_table.specs.Rules.{Rule, HandIs}
 use Rattle.thread_table.specs.Between.{ShowsElements}
 use Rattle.thread_table.proofs.Events.Owing.{AllOwned}
-use Rattle.thread_table.proofs.Close.Retiring.{are_retired}
+use Rattle.thread_table.proofs.Closing.Retiring.{are_retired}
 use Rattle.thread_table.proofs.Schedule.Schedules.{elements_of}
 
 -- events that were allowed lead from the first state to the one that they are said to lead to

@@ -1,7 +1,7 @@
 use Rattle.std.proofs.Common.{sym, ap, ◌∙◌}
 use Rattle.std.specs.Option.{is_some}
 use Rattle.thread_table.specs.Handles.{view_of}
-use Rattle.thread_table.proofs.Words.Masks.{one_empty}
+use Rattle.thread_table.proofs.Shown.Masks.{one_empty}
 use Rattle.bench.proofs.ring.part.Goals as goal
 
 pub split-own-requires-clause-empty : goal.split-own-requires-clause-empty

@@ -3,7 +3,7 @@ use Rattle.std.specs.Mem.Slots.{slots_items}
 use Rattle.thread_table.specs.Closings.{PlaceOf}
 use Rattle.thread_table.specs.declared.places.Place.{Place}
 use Rattle.thread_table.specs.declared.places.Place.TheVariants as places
-use Rattle.thread_table.proofs.Close.Locating.{filled_next}
+use Rattle.thread_table.proofs.Closing.Locating.{filled_next}
 use Rattle.thread_table.proofs.close.read_places.Goals as goal
 
 pub loop-element-preserved : goal.loop-element-preserved

@@ -2,7 +2,7 @@ use Rattle.std.proofs.Common.{◌+◌, ℕ}
 use Rattle.std.specs.Int.{bit_at}
 use Rattle.std.specs.Mem.Slots.{slots_items}
 use Rattle.thread_table.specs.Closings.{word_at}
-use Rattle.thread_table.proofs.Close.Locating.{BitsBelow}
+use Rattle.thread_table.proofs.Closing.Locating.{BitsBelow}
 use Rattle.thread_table.proofs.close.read_stops.Given as goal
 
 abbrev pub invariant-loop-element : goal.invariant-loop-element

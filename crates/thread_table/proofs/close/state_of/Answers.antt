@@ -1,6 +1,6 @@
 use Rattle.std.proofs.Common.{sym, ◌+◌}
 use Rattle.std.specs.Mem.Slots.{slots_items}
-use Rattle.thread_table.proofs.Close.Locating.{read_there}
+use Rattle.thread_table.proofs.Closing.Locating.{read_there}
 use Rattle.thread_table.proofs.close.state_of.Goals as goal
 
 pub returns : goal.returns

@@ -1,4 +1,4 @@
-use Rattle.thread_table.proofs.Close.Freed.{freed_is_told}
+use Rattle.thread_table.proofs.Closing.Freed.{freed_is_told}
 use Rattle.thread_table.proofs.laws.freed_stay_free.Goals as goal
 
 pub returns : goal.returns

@@ -3,7 +3,7 @@ use Rattle.std.specs.Int.{bit_at}
 use Rattle.std.specs.Mem.Slots.{slots_items}
 use Rattle.thread_table.specs.Closings.{place_by}
 use Rattle.thread_table.specs.declared.places.Place.TheVariants as places
-use Rattle.thread_table.proofs.Close.Locating.{read_there, cell, hand}
+use Rattle.thread_table.proofs.Closing.Locating.{read_there, cell, hand}
 use Rattle.thread_table.proofs.places.cell_or_hand.Goals as goal
 
 pub returns-then-is_parked : goal.returns-then-is_parked

@@ -1,5 +1,5 @@
 use Rattle.std.specs.Mem.Slots.{slots_items}
-use Rattle.thread_table.proofs.Close.Locating.{NotBefore}
+use Rattle.thread_table.proofs.Closing.Locating.{NotBefore}
 use Rattle.thread_table.proofs.places.is_in_ring.Given as goal
 
 abbrev pub invariant-loop-position : goal.invariant-loop-position

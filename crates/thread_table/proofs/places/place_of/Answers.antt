@@ -1,5 +1,5 @@
 use Rattle.std.specs.Mem.Slots.{slots_items}
-use Rattle.thread_table.proofs.Close.Locating.{on_its_processor}
+use Rattle.thread_table.proofs.Closing.Locating.{on_its_processor}
 use Rattle.thread_table.proofs.places.place_of.Goals as goal
 
 pub returns-in-Some : goal.returns-in-Some

@@ -1,7 +1,7 @@
 use Rattle.std.proofs.Common.{sym, ◌≢◌, ◌+◌, ◌∙◌, ℕ}
 use Rattle.std.specs.Mem.Slots.{slots_items}
 use Rattle.thread_table.specs.Closings.{word_at}
-use Rattle.thread_table.proofs.Close.Locating.{read_there, below_next}
+use Rattle.thread_table.proofs.Closing.Locating.{read_there, below_next}
 use Rattle.thread_table.proofs.places.processor_of.Goals as goal
 
 pub loop-p-preserved : goal.loop-p-preserved

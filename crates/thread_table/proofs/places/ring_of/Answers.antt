@@ -1,7 +1,7 @@
 use Rattle.std.proofs.Common.{arith, ℕ}
 use Rattle.std.specs.Mem.Slots.{slots_items}
 use Rattle.thread_table.specs.Closings.{IsIn}
-use Rattle.thread_table.proofs.Close.Locating.{below_next}
+use Rattle.thread_table.proofs.Closing.Locating.{below_next}
 use Rattle.thread_table.proofs.places.ring_of.Goals as goal
 
 pub loop-ring-preserved : goal.loop-ring-preserved

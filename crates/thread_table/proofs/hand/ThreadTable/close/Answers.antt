@@ -2,7 +2,7 @@ use Rattle.std.proofs.Common.{rules, refl, subst, ℕ}
 use Rattle.atomic_table.specs.Table.{Final, Seen}
 use Rattle.std.specs.Mem.Slots.{slots_items}
 use Rattle.thread_table.specs.Rules.{Rule}
-use Rattle.thread_table.proofs.Close.Settling.{were_open, closes}
+use Rattle.thread_table.proofs.Closing.Settling.{were_open, closes}
 use Rattle.thread_table.proofs.hand.ThreadTable.close.Goals as goal
 
 pub returns-then-ends-ne1-clause-open : goal.returns-then-ends-ne1-clause-open

@@ -1,7 +1,7 @@
 use Rattle.std.proofs.Common.{ap}
 use Rattle.std.specs.Option.{is_some}
 use Rattle.thread_table.specs.Handles.{view_of}
-use Rattle.thread_table.proofs.Words.Masks.{one_empty}
+use Rattle.thread_table.proofs.Shown.Masks.{one_empty}
 use Rattle.turn_tests.proofs.turns.partings.split_for.Goals as goal
 
 pub split-requires-clause-free : goal.split-requires-clause-free

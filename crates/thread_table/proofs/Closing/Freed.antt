@@ -34,7 +34,7 @@ use Rattle.thread_table.specs.Makers.{is_join, made_in, numbered, AreMade}
 use Rattle.thread_table.specs.Retiring.{items_of, retired_by, retired_in, taking_by, free_takings, frees, was_freed}
 use Rattle.thread_table.specs.Schedules.{begun, elements_after, IsAllowed, ring_at}
 use Rattle.thread_table.proofs.Lists.Counts.{plus, by_bool, many_cons}
-use Rattle.thread_table.proofs.Close.Retiring.{takings_in, first_runs, are_told}
+use Rattle.thread_table.proofs.Closing.Retiring.{takings_in, first_runs, are_told}
 use Rattle.thread_table.proofs.Schedule.Schedules.{lawful_after}
 use Rattle.thread_table.proofs.Lists.Shuffles.{filed_shuffle}
 

@@ -28,9 +28,9 @@ use Rattle.thread_table.proofs.Events.StatesSeen.{pending_are}
 use Rattle.thread_table.specs.Shown.{WordsShow}
 use Rattle.thread_table.specs.Steps.{Tallied}
 use Rattle.thread_table.proofs.Lists.Copies.{get_or-copies}
-use Rattle.thread_table.proofs.Words.QueueWords.{none_some}
+use Rattle.thread_table.proofs.Shown.QueueWords.{none_some}
 use Rattle.thread_table.proofs.Schedule.Schedules.{lawful_after}
-use Rattle.thread_table.proofs.Close.WhereElementsStand.{Settled, stands, bit_read}
+use Rattle.thread_table.proofs.Closing.WhereElementsStand.{Settled, stands, bit_read}
 use Rattle.std.proofs.Common.{map}
 use Rattle.atomic_table.proofs.Lists.{at_map}
 use Rattle.table_theory.proofs.Owned.{at_map_back}
@@ -38,7 +38,7 @@ use Rattle.thread_table.specs.declared.rule.Made.{Made}
 use Rattle.thread_table.specs.Makers.{AreMade, made_of}
 use Rattle.thread_table.proofs.Schedule.ListedEvents.{made_sole}
 use Rattle.thread_table.proofs.Schedule.Once.{steps_once}
-use Rattle.thread_table.proofs.Close.Retiring.{are_retired}
+use Rattle.thread_table.proofs.Closing.Retiring.{are_retired}
 
 pub were_open : (v w : View) (found others : ℕ) → Tallied v found w → found ≢ 1 → others ≡ found - 1 → WereOpen v others w
 were_open v w found others t more is = let some = t.member.count.some_end in let n : found ≡ others + 1 = omega arith in record {

@@ -7,7 +7,7 @@ use Rattle.thread_table.specs.declared.rule.Shape.{Shape}
 use Rattle.thread_table.specs.Shown.{head_word, tail_word}
 use Rattle.thread_table.specs.Laid.{RingsLaid, ItemsLaid}
 use Rattle.thread_table.specs.Rules.{Rule, newcomer}
-use Rattle.thread_table.proofs.Words.Opening.{opens}
+use Rattle.thread_table.proofs.Shown.Opening.{opens}
 
 kept : (first : ℕ) (ws words : List ℕ) → ItemsLaid first 64 ws words → (place ring : ℕ) → head_word ring ≤ place → place ≤ tail_word ring → get_or words place 0 ≡ get_or ws place 0
 kept first ws words h place ring from to = elim (cases_lt ring 2) [

@@ -20,6 +20,7 @@ use Rattle.thread_table.specs.Rules.{has, serves, running}
 use Rattle.thread_table.specs.Schedules.{elements_after, ring_at, thread_at}
 use Rattle.thread_table.specs.Steps.{Starts, TakesOff}
 use Rattle.thread_table.proofs.Schedule.Following.{Looked, found_looked, looked_on}
+use Rattle.thread_table.proofs.Events.Waking.{one_itself, first_in_rings}
 use Rattle.thread_table.proofs.Hands.HeldLists.{held_once}
 use Rattle.hand_steps.specs.Holdings.{HoldsMore}
 
@@ -47,31 +48,11 @@ not_true : (b : Bool) → (b ≡ true → ⊥) → b ≡ false
 not_true true wrong = absurd (wrong refl)
 not_true false wrong = refl
 
-itself : (x : ℕ) → one x x ≡ 1
-itself x = grind (arith, nat_tests)
-
-first_counts : (element : ℕ) (items : List ℕ) → take 1 items ≡ element ∷ [] → 1 ≤ in_list element items
-first_counts element [] is = absurd (cc)
-first_counts element (x ∷ xs) is =
-    let e : x ≡ element = ap (λ (z : List ℕ). get_or z 0 0) is in
-    omega (arith, sum_by-cons (λ y. one y element) x xs, ap (λ y. one y element) e, itself element)
-
-nothing : (element : ℕ) (q : Queue) → q ≡ empty_queue 64 → take 1 (left q) ≡ element ∷ [] → ⊥
-nothing element q empty some = let n : ◌≡◌ {A = List ℕ} [] (element ∷ []) = ap (λ (z : Queue). take 1 (left z)) (sym empty) ∙ some in cc
-
--- the first element of a queue stands in a queue
-in_ring : (element ring : ℕ) (e : Elements) → take 1 (left (ring_at e ring)) ≡ element ∷ [] → 1 ≤ sum_by (λ q. in_list element (left q)) e.rings
-in_ring element ring e is = by (cases_lt ring (length e.rings))
-  where
-    by : (ring < length e.rings) ⊎ (length e.rings ≤ ring) → 1 ≤ sum_by (λ q. in_list element (left q)) e.rings
-    by (inl below) = omega (arith, first_counts element (left (ring_at e ring)) is, get_or-le-sum_by (λ q. in_list element (left q)) e.rings ring (empty_queue 64) below)
-    by (inr past) = absurd (nothing element (ring_at e ring) (get_or-eq_default e.rings (empty_queue 64) past) is)
-
 first_unheld : (call element ring : ℕ) (e : Elements) → IsLawfulElements e → element < length e.threads → take 1 (left (ring_at e ring)) ≡ element ∷ [] → holds call element e ≡ false
 first_unheld call element ring e lawful below is = not_true (holds call element e) (λ held.
     let hands : in_hands element e.held ≡ 1 = held_once call element e lawful below held in
     let once : appearances element e ≡ 1 = lawful.once element below in
-    absurd (omega (arith, once, hands, in_ring element ring e is)))
+    absurd (omega (arith, once, hands, first_in_rings element ring e is)))
 
 -- the first element of a queue is one of the elements
 first_known : (element ring : ℕ) (e : Elements) → IsLawfulElements e → take 1 (left (ring_at e ring)) ≡ element ∷ [] → element < length e.threads
@@ -79,7 +60,7 @@ first_known element ring e lawful is = by (cases_lt element (length e.threads))
   where
     by : (element < length e.threads) ⊎ (length e.threads ≤ element) → element < length e.threads
     by (inl below) = below
-    by (inr past) = let none : appearances element e ≡ 0 = lawful.known element past in absurd (omega (arith, none, in_ring element ring e is))
+    by (inr past) = let none : appearances element e ≡ 0 = lawful.known element past in absurd (omega (arith, none, first_in_rings element ring e is))
 
 -- the element that was taken is one of the elements
 pub took_known : (call ring element : ℕ) (v w : View) → TookFirst call v ring element w → element < 64
@@ -118,7 +99,7 @@ placed_unheld call element p e lawful below there is = not_true (holds call elem
     let f : Option Hold → ℕ = λ x. cond (is_on element x) 1 0 in
     let stands : f (get_or e.processors p None) ≡ f (Some (hold call element)) =
     ap f (get_or_from_slice_get e.processors p (Some (hold call element)) None is) in
-    absurd (omega (arith, once, hands, stands, itself element, get_or-le-sum_by f e.processors p None there)))
+    absurd (omega (arith, once, hands, stands, one_itself element, get_or-le-sum_by f e.processors p None there)))
 
 -- what is taken off a processor wasn't held
 pub off_holds : (call p element : ℕ) (v w : View) → p < 8 → element < 64 → serves v p ≡ true → running v p ≡ Some element → TakesOff call p element v w → HoldsMore element v w

@@ -1,5 +1,6 @@
 -- What counting a step answers.
 use Rattle.std.specs.Prelude.{◌≡◌, ◌+◌, ◌<◌, ◌≢◌, ℕ, Bool, true, false, Ok}
+use Rattle.thread_table.specs.Layout.{ELEMENTS, most_done}
 use Rattle.thread_table.specs.declared.rule.View.{View}
 use Rattle.thread_table.specs.Answers.{DoneAnswer}
 use Rattle.thread_table.specs.Rules.{MayStep, done_at}
@@ -12,7 +13,7 @@ use Rattle.hand_steps.specs.Tallies.{Tally, no_events, one_step}
 abbrev pub CountAnswer : ℕ → ℕ → Bool → View → Counted → View → Type 0
 CountAnswer call element false v counted.Undone w = w ≡ v
 CountAnswer call element true v (counted.Done number) w = DoneAnswer call v element (Ok number) w
-CountAnswer call element true v counted.Spent w = ReadPc element v 4294967295 w
+CountAnswer call element true v counted.Spent w = ReadPc element v most_done w
 CountAnswer call element done v answer w = ⊥
 
 -- the step that was counted, if any, by how many the element had done before
@@ -26,9 +27,9 @@ IsNumber (counted.Done number) element v w =
     (number ≡ done_at v.schedule element + 1) × (done_at w.schedule element ≡ number)
 IsNumber counted.Undone element v w = done_at w.schedule element ≡ done_at v.schedule element
 IsNumber counted.Spent element v w =
-    (done_at v.schedule element ≡ 4294967295) × (done_at w.schedule element ≡ 4294967295)
+    (done_at v.schedule element ≡ most_done) × (done_at w.schedule element ≡ most_done)
 
 -- no step was counted in between of any other element that the hand has before and after
 abbrev pub SteadyBut : ℕ → View → View → Type 0
-SteadyBut element v w = (e : ℕ) → e < 64 → e ≢ element → MayStep v e → MayStep w e
+SteadyBut element v w = (e : ℕ) → e < ELEMENTS → e ≢ element → MayStep v e → MayStep w e
     → done_at w.schedule e ≡ done_at v.schedule e

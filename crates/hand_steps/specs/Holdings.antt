@@ -1,6 +1,7 @@
 -- What a hand has, and what it has still.
 use Rattle.std.specs.Prelude.{◌≡◌, ◌<◌, ◌==◌, ◌||◌, ℕ, true, false, if◌then◌else◌, List, slice_index_or, Option, Some}
 use Rattle.std.specs.Prelude.{None}
+use Rattle.thread_table.specs.Layout.{ELEMENTS}
 use Rattle.thread_table.specs.declared.rule.View.{View}
 use Rattle.thread_table.specs.Answers.{is_in}
 use Rattle.thread_table.specs.Keeping.{Keeps}
@@ -17,20 +18,20 @@ IsOn p element v = (serves v p ≡ true) × (running v p ≡ Some element)
 
 -- the hand holds what it held
 abbrev pub HoldsSame : View → View → Type 0
-HoldsSame v w = (e : ℕ) → e < 64 → has w e ≡ has v e
+HoldsSame v w = (e : ℕ) → e < ELEMENTS → has w e ≡ has v e
 
 -- the hand holds this element, which it didn't, beside what it held
 abbrev pub HoldsMore : ℕ → View → View → Type 0
 HoldsMore element v w =
-    (has v element ≡ false) × ((e : ℕ) → e < 64 → has w e ≡ (has v e || e == element))
+    (has v element ≡ false) × ((e : ℕ) → e < ELEMENTS → has w e ≡ (has v e || e == element))
 
 -- the hand holds what it held but for this element
 abbrev pub HoldsLess : ℕ → View → View → Type 0
-HoldsLess element v w = (e : ℕ) → e < 64 → has w e ≡ (if e == element then false else has v e)
+HoldsLess element v w = (e : ℕ) → e < ELEMENTS → has w e ≡ (if e == element then false else has v e)
 
 -- no step was counted in between of an element that the hand has before and after
 abbrev pub Steady : View → View → Type 0
-Steady v w = (e : ℕ) → e < 64 → MayStep v e → MayStep w e → done_at w.schedule e ≡ done_at v.schedule e
+Steady v w = (e : ℕ) → e < ELEMENTS → MayStep v e → MayStep w e → done_at w.schedule e ≡ done_at v.schedule e
 
 -- Its processors and its share are as they were, and what stands on the processors is this
 pub record KeepsBut (on : List (Option ℕ)) (v w : View) : Type 0 where
@@ -48,6 +49,6 @@ pub record OnlyAdds (more : Tally) (v w : View) : Type 0 where
 
 -- the masks of the elements have these signals beside those that they had
 abbrev pub Shows : List (ℕ × List ℕ) → List ℕ → List ℕ → Type 0
-Shows deliveries old new = (element signal : ℕ) → element < 64 → signal < 16
+Shows deliveries old new = (element signal : ℕ) → element < ELEMENTS → signal < 16
     → is_in (slice_index_or new element 0) signal
     ≡ (is_in (slice_index_or old element 0) signal || is_delivered deliveries element signal)

@@ -1,5 +1,6 @@
 -- Moves that are tried again where they were lost.
 use Rattle.std.specs.Prelude.{◌≡◌, ◌+◌, ℕ, zero, suc, Bool, true, false, Ok, Err}
+use Rattle.thread_table.specs.Layout.{ready_ring, free_ring, wait_ring}
 use Rattle.thread_table.specs.declared.rule.View.{View}
 use Rattle.thread_table.specs.declared.moves.MoveRefusal.TheVariants as moves
 use Rattle.thread_table.specs.Answers.{MoveAnswer, WaitAnswer}
@@ -12,9 +13,9 @@ use Rattle.hand_steps.specs.Tallies.{Tally, no_events, one_retired}
 
 -- the element queue that an element is moved to
 abbrev pub ring_of : Target → ℕ
-ring_of targets.Ready = 0
-ring_of targets.Free = 1
-ring_of (targets.Wait wait) = wait + 2
+ring_of targets.Ready = ready_ring
+ring_of targets.Free = free_ring
+ring_of (targets.Wait wait) = wait_ring wait
 
 -- so many tries of a move were lost, one behind the other
 abbrev pub LostTries : ℕ → ℕ → ℕ → View → View → ℕ → Type 0
@@ -55,7 +56,7 @@ abbrev pub LastWait : ℕ → View → ℕ → ℕ → ℕ → Waited → View �
 LastWait call v wait element ticket waited.Waiting w = WaitAnswer call v wait element ticket (Ok tt) w
 LastWait call v wait element ticket waited.Spent w = WaitAnswer call v wait element ticket (Err moves.Spent) w
 LastWait call v wait element ticket (waited.Moved mark ready) w = (u : View)
-    × WaitAnswer call v wait element ticket (Err (moves.Moved mark)) u × Sent call 0 element ready u w
+    × WaitAnswer call v wait element ticket (Err (moves.Moved mark)) u × Sent call ready_ring element ready u w
 
 -- a wait with a ticket was tried till it wasn't lost
 pub record WaitedAt (call wait element ticket : ℕ) (answer : Waited) (v w : View) : Type 0 where

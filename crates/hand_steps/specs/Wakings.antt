@@ -1,6 +1,7 @@
 -- What waking all that wait, and starting, answer.
 use Rattle.std.specs.Prelude.{◌≡◌, ◌<◌, ◌||◌, ◌&&◌, ℕ, zero, suc, not, Bool, true, false, Result, Ok, Err}
 use Rattle.std.specs.Prelude.{Option, Some, None}
+use Rattle.thread_table.specs.Layout.{ELEMENTS, ready_ring}
 use Rattle.thread_table.specs.declared.rule.View.{View}
 use Rattle.thread_table.specs.declared.states.Lost.{Lost}
 use Rattle.thread_table.specs.declared.states.Started.TheVariants as started
@@ -15,7 +16,7 @@ use Rattle.hand_steps.specs.Sendings.{Sent}
 
 -- an element of the mask was made ready, or the ring was spent; one that isn't in the mask was left alone
 abbrev pub OneReady : ℕ → ℕ → Bool → Bool → View → View → Type 0
-OneReady call element true moved v w = Sent call 0 element moved v w
+OneReady call element true moved v w = Sent call ready_ring element moved v w
 OneReady call element false moved v w = (w ≡ v) × (moved ≡ false)
 
 -- the element of this number, where it is in the mask
@@ -25,7 +26,7 @@ IsMember mask number None = is_in mask number ≡ false
 
 -- the hand holds each element of the mask
 abbrev pub CanWake : ℕ → View → Type 0
-CanWake mask v = (e : ℕ) → e < 64 → is_in mask e ≡ true → has v e ≡ true
+CanWake mask v = (e : ℕ) → e < ELEMENTS → is_in mask e ≡ true → has v e ≡ true
 
 -- the elements of the mask below this number were made ready, the lowest first
 abbrev pub AllReady : ℕ → Woken → View → ℕ → View → Type 0
@@ -37,12 +38,12 @@ AllReady call woken v (suc n) w = (u : View) × AllReady call woken v n u
 pub record Woke (call wait : ℕ) (woken : Woken) (v w : View) : Type 0 where
   pub between : View
   pub took : WokeAll call v wait woken.taken between
-  pub sent : AllReady call woken between 64 w
+  pub sent : AllReady call woken between ELEMENTS w
 
 -- the hand holds beside what it held the elements that it took and that were not made ready; it held none of those
 -- taken
 abbrev pub HoldsWoken : Woken → View → View → Type 0
-HoldsWoken woken v w = (e : ℕ) → e < 64
+HoldsWoken woken v w = (e : ℕ) → e < ELEMENTS
     → (has w e ≡ (has v e || (is_in woken.taken e && not (is_in woken.ready e))))
     × (is_in woken.taken e ≡ true → has v e ≡ false)
 
@@ -51,9 +52,9 @@ abbrev pub ResumeAnswer : ℕ → ℕ → Result Resumed Lost → View → View 
 ResumeAnswer call element (Ok resumed.NotStopped) v w = StartAnswer call v element (Ok started.NotStopped) w
 ResumeAnswer call element (Ok resumed.Cleared) v w = StartAnswer call v element (Ok started.Cleared) w
 ResumeAnswer call element (Ok resumed.Ready) v w = (held : View)
-    × StartAnswer call v element (Ok started.Held) held × Sent call 0 element true held w
+    × StartAnswer call v element (Ok started.Held) held × Sent call ready_ring element true held w
 ResumeAnswer call element (Ok resumed.Held) v w = (held : View)
-    × StartAnswer call v element (Ok started.Held) held × Sent call 0 element false held w
+    × StartAnswer call v element (Ok started.Held) held × Sent call ready_ring element false held w
 ResumeAnswer call element (Err lost) v w = StartAnswer call v element (Err lost) w
 
 -- the hand holds what it held, and the element where that couldn't be made ready

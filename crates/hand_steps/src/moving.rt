@@ -1,5 +1,6 @@
 //! Moves of an element that the hand holds, tried again where another hand was first.
 ghost use Rattle.std.specs.Prelude.{◌≡◌, ◌+◌, true};
+ghost use Rattle.thread_table.specs.Layout.{ready_ring, free_ring, wait_ring};
 ghost use Rattle.thread_table.specs.Answers.{MoveAnswer};
 ghost use Rattle.thread_table.specs.Handles.{view_of, call_of, IsHandOf, IsSameHand};
 ghost use Rattle.thread_table.specs.Keeping.{Keeps};
@@ -84,7 +85,7 @@ pub fn make_ready<R: Wait>(rt: &R, threads: &ThreadTable, hand: &mut Hand, eleme
     requires table { IsHandOf threads.now hand.old }
     requires held { has (view_of hand.old) element ≡ true }
     ensures table { IsSameHand hand.old hand.new }
-    ensures sent { Sent (call_of hand.old) 0 element result (view_of hand.old) (view_of hand.new) }
+    ensures sent { Sent (call_of hand.old) ready_ring element result (view_of hand.old) (view_of hand.new) }
     ensures keeps { Keeps (view_of hand.old) (view_of hand.new) }
     ensures holds { HoldsUnless result element (view_of hand.old) (view_of hand.new) }
     ensures adds { Adds no_events (view_of hand.old) (view_of hand.new) }
@@ -98,7 +99,7 @@ pub fn retire<R: Wait>(rt: &R, threads: &ThreadTable, hand: &mut Hand, element: 
     requires table { IsHandOf threads.now hand.old }
     requires held { has (view_of hand.old) element ≡ true }
     ensures table { IsSameHand hand.old hand.new }
-    ensures sent { Sent (call_of hand.old) 1 element result (view_of hand.old) (view_of hand.new) }
+    ensures sent { Sent (call_of hand.old) free_ring element result (view_of hand.old) (view_of hand.new) }
     ensures keeps { Keeps (view_of hand.old) (view_of hand.new) }
     ensures holds { HoldsUnless result element (view_of hand.old) (view_of hand.new) }
     ensures adds { Adds (retired result element (done_at (view_of hand.old).schedule element)) (view_of hand.old)
@@ -119,7 +120,7 @@ pub fn wait_in<R: Wait>(
     requires table { IsHandOf threads.now hand.old }
     requires held { has (view_of hand.old) element ≡ true }
     ensures table { IsSameHand hand.old hand.new }
-    ensures sent { Sent (call_of hand.old) (wait + 2) element result (view_of hand.old) (view_of hand.new) }
+    ensures sent { Sent (call_of hand.old) (wait_ring wait) element result (view_of hand.old) (view_of hand.new) }
     ensures keeps { Keeps (view_of hand.old) (view_of hand.new) }
     ensures holds { HoldsUnless result element (view_of hand.old) (view_of hand.new) }
     ensures adds { Adds no_events (view_of hand.old) (view_of hand.new) }

@@ -1,5 +1,6 @@
 //! Elements that are woken or started, and made ready.
 ghost use Rattle.std.specs.Prelude.{◌≡◌, ◌<◌};
+ghost use Rattle.thread_table.specs.Layout.{ELEMENTS};
 ghost use Rattle.thread_table.specs.Handles.{view_of, call_of, IsHandOf, IsSameHand};
 ghost use Rattle.thread_table.specs.Keeping.{Keeps};
 ghost use Rattle.hand_steps.specs.Holdings.{Steady};
@@ -39,7 +40,7 @@ fn ready_all<R: Wait>(rt: &R, threads: &ThreadTable, hand: &mut Hand, taken: u64
     requires table { IsHandOf threads.now hand.old }
     requires held { CanWake taken (view_of hand.old) }
     ensures table { IsSameHand hand.old hand.new }
-    ensures sent { AllReady (call_of hand.old) (record { taken = taken; ready = result }) (view_of hand.old) 64
+    ensures sent { AllReady (call_of hand.old) (record { taken = taken; ready = result }) (view_of hand.old) ELEMENTS
         (view_of hand.new) }
 {
     let mut ready = 0;
@@ -118,7 +119,7 @@ pub fn start<R: Wait>(
 
 // The element of this number, where it is in the mask.
 fn member(mask: u64, number: u8) -> Option<Element>
-    requires { number < 64 }
+    requires { number < ELEMENTS }
     ensures { IsMember mask number result }
 {
     if mask >> number & 1 == 1 {

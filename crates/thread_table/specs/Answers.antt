@@ -17,7 +17,9 @@ use Rattle.thread_table.specs.declared.states.Signalled.TheVariants as signalled
 use Rattle.thread_table.specs.declared.states.Lost.{Lost}
 use Rattle.thread_table.specs.declared.programs.Spent.{Spent}
 use Rattle.thread_table.specs.Schedules.{elements_after, ring_at, thread_at}
-use Rattle.thread_table.specs.Shown.{head_word, tail_word, place_word, state_word, tail_shown, mark_of}
+use Rattle.thread_table.specs.Layout.{NOTIFY, STOP, state_word, head_word, tail_word, place_word, wait_ring, stop_bit}
+use Rattle.thread_table.specs.Layout.{last_head, most_done}
+use Rattle.thread_table.specs.Shown.{tail_shown, mark_of}
 use Rattle.thread_table.specs.Rules.{has}
 use Rattle.thread_table.specs.Steps.{Found, Claims, claim_event, Raises, Takes, Marks, Parks, Starts, Delivers}
 use Rattle.thread_table.specs.Steps.{ReadPc, StoresPc}
@@ -82,15 +84,15 @@ TakeAnswer call v ring (Err (nexts.Lost seen)) w = PassedBefore v ring seen w �
 
 -- the position, and the number of notifies, of a head word
 abbrev pub head_in : ℕ → ℕ
-head_in word = word % 4294967296
+head_in word = word % NOTIFY
 
 abbrev pub mark_in : ℕ → ℕ
-mark_in word = word / 4294967296
+mark_in word = word / NOTIFY
 
 -- the head word was loaded, with a position left
 pub record FoundHead (v : View) (ring word : ℕ) (w : View) : Type 0 where
   pub loaded : Found v (head_word ring) word w
-  pub positions : head_in word < 4294967295
+  pub positions : head_in word < last_head
 
 -- The hand found a position left, claimed it for an element that it held, by one exchange of the head word that it had
 -- loaded, and raised it. It holds the element no more
@@ -107,8 +109,8 @@ pub record MovedTo (call : ℕ) (v : View) (ring element : ℕ) (event : Event) 
 pub record WasSpent (v : View) (ring : ℕ) (w : View) : Type 0 where
   pub word : ℕ
   pub loaded : Found v (head_word ring) word w
-  pub spent : head_in word ≡ 4294967295
-  pub at_end : v.first + length (ring_at (elements_after w.schedule) ring).history ≡ 4294967295
+  pub spent : head_in word ≡ last_head
+  pub at_end : v.first + length (ring_at (elements_after w.schedule) ring).history ≡ last_head
 
 -- a position was left, but the exchange found another head word
 pub record WasOvertaken (v : View) (ring seen : ℕ) (w : View) : Type 0 where
@@ -129,19 +131,19 @@ MoveAnswer call v ring element (Err (moves.Moved mark)) w = ⊥
 -- the number of notifies was loaded
 pub record IsTicket (v : View) (wait ticket : ℕ) (w : View) : Type 0 where
   pub word : ℕ
-  pub loaded : Found v (head_word (wait + 2)) word w
+  pub loaded : Found v (head_word (wait_ring wait)) word w
   pub is : ticket ≡ mark_in word
-  pub marked : ticket ≡ mark_of (elements_after w.schedule) (wait + 2)
+  pub marked : ticket ≡ mark_of (elements_after w.schedule) (wait_ring wait)
 
 -- the hand moved, and the head word had the ticket
 pub record WaitedAt (call : ℕ) (v : View) (wait element ticket : ℕ) (w : View) : Type 0 where
-  pub moved : MovedTo call v (wait + 2) element (events.WaitAt call wait element ticket) w
+  pub moved : MovedTo call v (wait_ring wait) element (events.WaitAt call wait element ticket) w
   pub is : mark_in moved.word ≡ ticket
 
 -- a position was left, and the number of notifies was this one, not the ticket
 pub record MovedBefore (v : View) (wait ticket mark : ℕ) (w : View) : Type 0 where
   pub word : ℕ
-  pub found : FoundHead v (wait + 2) word w
+  pub found : FoundHead v (wait_ring wait) word w
   pub mark_is : mark ≡ mark_in word
   pub differs : mark ≢ ticket
 
@@ -149,16 +151,16 @@ pub record MovedBefore (v : View) (wait ticket mark : ℕ) (w : View) : Type 0 w
 pub record MovedMeanwhile (v : View) (wait ticket mark : ℕ) (w : View) : Type 0 where
   pub word : ℕ
   pub before : View
-  pub found : FoundHead v (wait + 2) word before
+  pub found : FoundHead v (wait_ring wait) word before
   pub was : mark_in word ≡ ticket
   pub seen : ℕ
-  pub missed : Found before (head_word (wait + 2)) seen w
+  pub missed : Found before (head_word (wait_ring wait)) seen w
   pub mark_is : mark ≡ mark_in seen
   pub differs : mark ≢ ticket
 
 -- a position was left, and the exchange found another head word, but the ticket in both
 pub record OvertakenAt (v : View) (wait ticket seen : ℕ) (w : View) : Type 0 where
-  pub lost : WasOvertaken v (wait + 2) seen w
+  pub lost : WasOvertaken v (wait_ring wait) seen w
   pub was : mark_in lost.word ≡ ticket
   pub still : mark_in seen ≡ ticket
 
@@ -166,7 +168,7 @@ pub record OvertakenAt (v : View) (wait ticket seen : ℕ) (w : View) : Type 0 w
 -- first; or the number of notifies was no more the ticket
 abbrev pub WaitAnswer : ℕ → View → ℕ → ℕ → ℕ → Result (Unit {0}) MoveRefusal → View → Type 0
 WaitAnswer call v wait element ticket (Ok done) w = WaitedAt call v wait element ticket w
-WaitAnswer call v wait element ticket (Err moves.Spent) w = WasSpent v (wait + 2) w
+WaitAnswer call v wait element ticket (Err moves.Spent) w = WasSpent v (wait_ring wait) w
 WaitAnswer call v wait element ticket (Err (moves.Lost seen)) w = OvertakenAt v wait ticket seen w
 WaitAnswer call v wait element ticket (Err (moves.Moved mark)) w =
     MovedBefore v wait ticket mark w ⊎ MovedMeanwhile v wait ticket mark w
@@ -215,11 +217,11 @@ pub record FoundRunning (v : View) (element : ℕ) (w : View) : Type 0 where
 
 -- the stop bit of a state word is set
 abbrev pub HasStop : ℕ → Type 0
-HasStop word = bit_at word 16 ≡ 1
+HasStop word = bit_at word stop_bit ≡ 1
 
 -- a signal of a state word is pending
 abbrev pub HasSignals : ℕ → Type 0
-HasSignals word = 0 < word % 65536
+HasSignals word = 0 < word % STOP
 
 -- the answer to a start: the stop bit was clear; or it is now, and the hand holds the element where that was parked; or
 -- the state word was changed meanwhile
@@ -266,4 +268,4 @@ pub record CountedStep (call : ℕ) (v : View) (element number : ℕ) (w : View)
 -- the answer to a step done: the new number of steps; or Spent, where 4,294,967,295 were found to be done
 abbrev pub DoneAnswer : ℕ → View → ℕ → Result ℕ Spent → View → Type 0
 DoneAnswer call v element (Ok number) w = CountedStep call v element number w
-DoneAnswer call v element (Err spent) w = ReadPc element v 4294967295 w
+DoneAnswer call v element (Err spent) w = ReadPc element v most_done w

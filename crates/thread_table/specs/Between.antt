@@ -16,6 +16,7 @@ use Rattle.table_theory.specs.Members.{EndsKnown}
 use Rattle.thread_table.specs.declared.rule.Shape.{Shape}
 use Rattle.thread_table.specs.declared.rule.View.{View}
 use Rattle.thread_table.specs.Schedules.{ring_at, element_at}
+use Rattle.thread_table.specs.Layout.{ELEMENTS, RINGS, ends_word}
 use Rattle.thread_table.specs.Shown.{WordsShow}
 use Rattle.thread_table.specs.Rules.{HandIs, IsIdle, IsOpen, serves, member_of, steps_of, course_of}
 use Rattle.thread_table.specs.Joins.{AreJoins, AreJoined}
@@ -30,10 +31,10 @@ use Rattle.thread_table.specs.Views.{claim_of}
 pub record ShowsElements (key : Shape) (s : tables.State Unit View) : Type 0 where
   pub events : List Event
   pub core : State
-  pub reached : Reaches (first_state 64) events core
+  pub reached : Reaches (first_state ELEMENTS) events core
   pub lawful : IsLawful core
-  pub once : (element : ℕ) → element < 64 → appearances element core.elements ≡ 1
-  pub accounted : IsAccounted (first_state 64) events core
+  pub once : (element : ℕ) → element < ELEMENTS → appearances element core.elements ≡ 1
+  pub accounted : IsAccounted (first_state ELEMENTS) events core
   pub shown : WordsShow key.first core.elements s.words
   pub hands : (j : ℕ) (v : View) → get_elem? s.views j ≡ some v → HandIs j v core.elements × Begins v.schedule events
   -- the hands list the events, each once, but for the joins
@@ -44,11 +45,11 @@ pub record ShowsElements (key : Shape) (s : tables.State Unit View) : Type 0 whe
   pub sole : (i j p : ℕ) (u v : View) → get_elem? s.views i ≡ some u → get_elem? s.views j ≡ some v
       → serves u p ≡ true → serves v p ≡ true → i ≡ j
   -- each run that isn't raised is that of a hand which is about to raise it
-  pub owned : (ring run : ℕ) → ring < 18 → IsOpen ring run core.elements → (j : ℕ) × (v : View)
+  pub owned : (ring run : ℕ) → ring < RINGS → IsOpen ring run core.elements → (j : ℕ) × (v : View)
       × (get_elem? s.views j ≡ some v)
       × (v.claimed ≡ Some (claim_of ring run (element_at (ring_at core.elements ring) run)))
   -- the word has the number of the hands that stand
-  pub ends : EndsKnown member_of IsIdle (slice_index_or s.words 0 0) s.views
+  pub ends : EndsKnown member_of IsIdle (slice_index_or s.words ends_word 0) s.views
   -- the joins of the schedule are the hands': each hand that doesn't stand any more was joined once, and no other
   pub joined : AreJoined events s.views
   -- the hands' steps lead to the events from none, with the joins among them, which this view, of no hand, has; and

@@ -13,7 +13,8 @@ use Rattle.thread_table.specs.declared.places.Place.{Place}
 use Rattle.thread_table.specs.declared.places.Place.TheVariants as places
 use Rattle.thread_table.specs.declared.rule.View.{View}
 use Rattle.thread_table.specs.Schedules.{state_after, elements_after, IsAllowed, ring_at, thread_at}
-use Rattle.thread_table.specs.Shown.{processor_word, state_word, head_word, tail_word, place_word}
+use Rattle.thread_table.specs.Layout.{PROCESSORS, ELEMENTS, RINGS, NOTIFY, processor_word, state_word, head_word}
+use Rattle.thread_table.specs.Layout.{tail_word, place_word, ready_ring, free_ring, wait_ring, cell_bit}
 use Rattle.thread_table.specs.Rules.{HandIs, done_at}
 use Rattle.thread_table.specs.Views.{quiet}
 use Rattle.thread_table.specs.Makers.{AreMade, StepsOnce}
@@ -26,18 +27,18 @@ word_at words i = slice_index_or words i 0
 
 -- the element of a processor's word
 abbrev pub ProcessorOf : ℕ → List ℕ → Option ℕ → Type 0
-ProcessorOf element words None = (p : ℕ) → p < 8 → word_at words (processor_word p) ≢ element + 1
-ProcessorOf element words (Some p) = (p < 8) × (word_at words (processor_word p) ≡ element + 1)
+ProcessorOf element words None = (p : ℕ) → p < PROCESSORS → word_at words (processor_word p) ≢ element + 1
+ProcessorOf element words (Some p) = (p < PROCESSORS) × (word_at words (processor_word p) ≡ element + 1)
 
 -- the element stands in a place of the queue that is claimed and not taken
 abbrev pub IsIn : ℕ → List ℕ → ℕ → Type 0
 IsIn element words ring = (position : ℕ) × (word_at words (tail_word ring) ≤ position)
-    × (position < word_at words (head_word ring) % 4294967296)
+    × (position < word_at words (head_word ring) % NOTIFY)
     × (word_at words (place_word ring position) % 256 ≡ element)
 
 abbrev pub RingOf : ℕ → List ℕ → Option ℕ → Type 0
-RingOf element words None = (ring : ℕ) → ring < 18 → IsIn element words ring → ⊥
-RingOf element words (Some ring) = (ring < 18) × IsIn element words ring
+RingOf element words None = (ring : ℕ) → ring < RINGS → IsIn element words ring → ⊥
+RingOf element words (Some ring) = (ring < RINGS) × IsIn element words ring
 
 abbrev pub ring_place : ℕ → Place
 ring_place zero = places.Ready
@@ -53,7 +54,8 @@ place_by None None false = places.Held
 -- what the words say of an element's place: where they say nothing, it is held
 abbrev pub PlaceOf : ℕ → List ℕ → Place → Type 0
 PlaceOf element words place = (seat : Option ℕ) × (ring : Option ℕ) × ProcessorOf element words seat
-    × RingOf element words ring × (place ≡ place_by seat ring (bit_at (word_at words (state_word element)) 17 == 1))
+    × RingOf element words ring
+    × (place ≡ place_by seat ring (bit_at (word_at words (state_word element)) cell_bit == 1))
 
 abbrev pub is_left : ℕ → Queue → Bool
 is_left element q = list_any (λ item. item == element) (left q)
@@ -61,9 +63,9 @@ is_left element q = list_any (λ item. item == element) (left q)
 -- the element is in this place; Held is: by the call
 abbrev pub StandsAt : ℕ → ℕ → Elements → Place → Type 0
 StandsAt call element e (places.Processor p) = is_on element (slice_index_or e.processors p None) ≡ true
-StandsAt call element e places.Ready = is_left element (ring_at e 0) ≡ true
-StandsAt call element e places.Free = is_left element (ring_at e 1) ≡ true
-StandsAt call element e (places.Wait wait) = is_left element (ring_at e (wait + 2)) ≡ true
+StandsAt call element e places.Ready = is_left element (ring_at e ready_ring) ≡ true
+StandsAt call element e places.Free = is_left element (ring_at e free_ring) ≡ true
+StandsAt call element e (places.Wait wait) = is_left element (ring_at e (wait_ring wait)) ≡ true
 StandsAt call element e places.Stopped = (thread_at e element).parked ≡ true
 StandsAt call element e places.Held = holds call element e ≡ true
 
@@ -73,15 +75,16 @@ StandsAt call element e places.Held = holds call element e ≡ true
 pub record ClosedNow (call : ℕ) (v : View) (stands : List Place) (pcs pending : List ℕ) (stops : ℕ) : Type 0 where
   pub whole : IsWhole v.member.share
   pub allowed : IsAllowed v.schedule
-  pub accounted : IsAccounted (first_state 64) v.schedule (state_after v.schedule)
+  pub accounted : IsAccounted (first_state ELEMENTS) v.schedule (state_after v.schedule)
   pub hand : HandIs call (quiet v) (elements_after v.schedule)
   pub made : AreMade v.schedule (v.made ∷ [])
   pub steps_once : StepsOnce v.made (elements_after v.schedule)
   pub retired : AreRetired v.schedule
-  pub places : (x : ℕ) → x < 64 → StandsAt call x (elements_after v.schedule) (slice_index_or stands x places.Held)
-  pub steps : (x : ℕ) → x < 64 → slice_index_or pcs x 0 ≡ done_at v.schedule x
-  pub signals : (x : ℕ) → x < 64 → ArePending x v.schedule (slice_index_or pending x 0)
-  pub stopped : (x : ℕ) → x < 64 → (thread_at (elements_after v.schedule) x).stop ≡ is_in stops x
+  pub places : (x : ℕ) → x < ELEMENTS
+      → StandsAt call x (elements_after v.schedule) (slice_index_or stands x places.Held)
+  pub steps : (x : ℕ) → x < ELEMENTS → slice_index_or pcs x 0 ≡ done_at v.schedule x
+  pub signals : (x : ℕ) → x < ELEMENTS → ArePending x v.schedule (slice_index_or pending x 0)
+  pub stopped : (x : ℕ) → x < ELEMENTS → (thread_at (elements_after v.schedule) x).stop ≡ is_in stops x
 
 -- other hands stand: their number was found, with this hand's, and this hand has not the whole
 pub record WereOpen (v : View) (others : ℕ) (w : View) : Type 0 where

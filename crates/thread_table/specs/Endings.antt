@@ -3,6 +3,7 @@ use Rattle.std.specs.Prelude.{◌≡◌, ◌<◌, ◌&&◌, ◌||◌, ℕ, not, 
 use Rattle.table_theory.specs.Ends.{Begins}
 use Rattle.table_theory.specs.Members as members
 use Rattle.table_theory.specs.Sharing.{given}
+use Rattle.thread_table.specs.Layout.{PROCESSORS}
 use Rattle.thread_table.specs.declared.rule.View.{View}
 use Rattle.thread_table.specs.Schedules.{Course}
 use Rattle.thread_table.specs.Rules.{has, serves}
@@ -16,7 +17,7 @@ pub record Divided (mask : ℕ) (v w : View) : Type 0 where
   pub past : Course
   pub follows : Begins v.course past
   pub same : w ≡ record (counted v found past w.schedule w.member) { serves = w.serves }
-  pub serves : (p : ℕ) → p < 8 → serves w p ≡ (serves v p && not (is_in mask p))
+  pub serves : (p : ℕ) → p < PROCESSORS → serves w p ≡ (serves v p && not (is_in mask p))
   pub sees : Sees v w.schedule
   pub member : members.Divided v.member found w.member
 
@@ -26,7 +27,7 @@ pub record IsNewborn (mask : ℕ) (old new born : View) : Type 0 where
   pub same : born ≡ record (newborn born.serves new) {
     member = record (members.newborn new.member) { share = given old.member.share };
   }
-  pub serves : (p : ℕ) → p < 8 → serves born p ≡ is_in mask p
+  pub serves : (p : ℕ) → p < PROCESSORS → serves born p ≡ is_in mask p
 
 -- The hand has what both had, who had nothing of the same, and has seen what both had seen; then the number of hands
 -- was found and made one less

@@ -6,13 +6,14 @@ use Rattle.event_theory.specs.declared.event.Event.{Event}
 use Rattle.event_theory.specs.declared.event.Event.TheVariants as events
 use Rattle.table_theory.specs.Sharing.{total}
 use Rattle.table_theory.specs.declared.views.Entry.{Entry}
+use Rattle.thread_table.specs.Layout.{WORDS}
 use Rattle.thread_table.specs.declared.rule.View.{View}
 use Rattle.thread_table.specs.Makers.{is_join}
 use Rattle.thread_table.specs.Schedules.{Course}
 
 -- behind the last word
 abbrev pub no_word : ℕ
-no_word = 1325
+no_word = WORDS
 
 -- the entry of a join, behind these events
 abbrev pub joining : List Event → ℕ → ℕ → Entry (List Event)

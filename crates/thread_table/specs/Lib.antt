@@ -1,4 +1,5 @@
 pub mod Schedules
+pub mod Layout
 pub mod Shown
 pub mod Views
 pub mod Joins

@@ -5,6 +5,7 @@ use Rattle.event_theory.specs.Runs.{Run}
 use Rattle.event_theory.specs.declared.event.Event.{Event}
 use Rattle.event_theory.specs.declared.event.Event.TheVariants as events
 use Rattle.event_theory.specs.declared.names.QueueName.TheVariants as names
+use Rattle.thread_table.specs.Layout.{ELEMENTS, free_ring}
 use Rattle.thread_table.specs.declared.rule.Made.{Made}
 use Rattle.thread_table.specs.Schedules.{elements_after, ring_at}
 
@@ -22,7 +23,7 @@ retired_in (event ∷ events) = retired_by event ++ retired_in events
 
 -- the runs of the free elements' queue, behind the 64 with which it began, are the claims of it, in their order
 abbrev pub AreRetired : List Event → Type 0
-AreRetired events = drop 64 (map items_of (ring_at (elements_after events) 1).history) ≡ retired_in events
+AreRetired events = drop ELEMENTS (map items_of (ring_at (elements_after events) free_ring).history) ≡ retired_in events
 
 -- a taking of free elements, by how many it takes
 abbrev pub taking_by : Event → List ℕ

@@ -20,6 +20,7 @@ use Rattle.thread_table.specs.Schedules.{Course, elements_after, IsAllowed, Grow
 use Rattle.thread_table.specs.Views.{claim_of}
 use Rattle.thread_table.specs.Joins.{AreJoins, AreJoined}
 use Rattle.thread_table.specs.Makers.{AreMade, made_of}
+use Rattle.thread_table.specs.Layout.{PROCESSORS, ELEMENTS, RINGS, ends_word}
 use Rattle.thread_table.specs.Shown.{WordsShow}
 
 abbrev pub member_of : View → Member
@@ -33,13 +34,13 @@ course_of v = v.course
 
 -- no element is held
 abbrev pub nothing_held : List Bool
-nothing_held = repeat 64 (false ∷ [])
+nothing_held = repeat ELEMENTS (false ∷ [])
 
 abbrev pub no_processors : List Bool
-no_processors = repeat 8 (false ∷ [])
+no_processors = repeat PROCESSORS (false ∷ [])
 
 abbrev pub nothing_on : List (Option ℕ)
-nothing_on = repeat 8 (None ∷ [])
+nothing_on = repeat PROCESSORS (None ∷ [])
 
 -- the hand holds the element
 abbrev pub has : View → ℕ → Bool
@@ -59,22 +60,22 @@ may_step call element e = holds call element e || list_any (is_put call element)
 
 -- a run of the call that isn't raised
 pub record IsClaimed (call : ℕ) (c : Claimed) (e : Elements) : Type 0 where
-  pub below : c.ring < 18
-  pub known : c.element < 64
+  pub below : c.ring < RINGS
+  pub known : c.element < ELEMENTS
   pub run : slice_get (ring_at e c.ring).history c.run ≡ Some (record { call = call; items = c.element ∷ [] })
   pub low : (ring_at e c.ring).raised c.run 0 ≡ false
 
 -- the call may count a step of the element, which had so many
 pub record IsCounted (call : ℕ) (c : Counted) (e : Elements) : Type 0 where
-  pub known : c.element < 64
+  pub known : c.element < ELEMENTS
   pub may : may_step call c.element e ≡ true
   pub done : (thread_at e c.element).done ≡ c.done
 
 -- what a hand has is what its call has
 pub record HandIs (call : ℕ) (v : View) (e : Elements) : Type 0 where
-  pub held_long : length v.held ≡ 64
-  pub serves_long : length v.serves ≡ 8
-  pub on_long : length v.on ≡ 8
+  pub held_long : length v.held ≡ ELEMENTS
+  pub serves_long : length v.serves ≡ PROCESSORS
+  pub on_long : length v.on ≡ PROCESSORS
   pub held : (element : ℕ) → holds call element e ≡ has v element
   pub on : (p : ℕ) → serves v p ≡ true → slice_get e.processors p ≡ Some (option_map (hold call) (running v p))
   pub off : (p : ℕ) → serves v p ≡ false → running v p ≡ None
@@ -111,7 +112,7 @@ done_at events element = (thread_at (elements_after events) element).done
 
 -- where the hand has made a step since it took in another, no step was counted of what it has
 abbrev pub IsSteady : View → List Event → Type 0
-IsSteady v events = v.fresh ≡ true → (element : ℕ) → element < 64 → MayStep v element
+IsSteady v events = v.fresh ≡ true → (element : ℕ) → element < ELEMENTS → MayStep v element
     → done_at events element ≡ done_at v.schedule element
 
 -- a hand that has the whole, and has made a step since it took in another, has seen all events
@@ -131,7 +132,7 @@ pub record Rule (key : Shape) (s : State Unit View) : Type 0 where
   pub hands : (j : ℕ) (v : View) → get_elem? s.views j ≡ some v → HandIs j v (elements_after events)
   pub sole : (i j p : ℕ) (u v : View) → get_elem? s.views i ≡ some u → get_elem? s.views j ≡ some v
       → serves u p ≡ true → serves v p ≡ true → i ≡ j
-  pub owned : (ring run : ℕ) → ring < 18 → IsOpen ring run (elements_after events) → (j : ℕ) × (v : View)
+  pub owned : (ring run : ℕ) → ring < RINGS → IsOpen ring run (elements_after events) → (j : ℕ) × (v : View)
       × (get_elem? s.views j ≡ some v)
       × (v.claimed ≡ Some (claim_of ring run (element_at (ring_at (elements_after events) ring) run)))
   pub strange : (call element : ℕ) → length s.views ≤ call → holds call element (elements_after events) ≡ false
@@ -139,7 +140,7 @@ pub record Rule (key : Shape) (s : State Unit View) : Type 0 where
   pub steady : (j : ℕ) (v : View) → get_elem? s.views j ≡ some v → IsSteady v events
   pub newest : (j : ℕ) (v : View) → get_elem? s.views j ≡ some v → IsNewest v events
   pub undoubled : (j : ℕ) (v : View) → get_elem? s.views j ≡ some v → v.doubled ≡ false
-  pub ends : EndsKnown member_of IsIdle (slice_index_or s.words 0 0) s.views
+  pub ends : EndsKnown member_of IsIdle (slice_index_or s.words ends_word 0) s.views
   pub joined : AreJoined events s.views
   -- the hands' steps lead to the events from none, with the joins among them, which this view, of no hand, has
   pub joiner : View
@@ -153,7 +154,7 @@ newcomer key = record {
   schedule = [];
   joined = [];
   held = nothing_held;
-  serves = repeat 8 (true ∷ []);
+  serves = repeat PROCESSORS (true ∷ []);
   on = nothing_on;
   claimed = None;
   counted = None;

@@ -1,4 +1,5 @@
 -- The schedule of a table: the events of all its hands, in the order of their steps.
+use Rattle.thread_table.specs.Layout.{ELEMENTS, PLACES}
 use Rattle.std.specs.Prelude.{◌≡◌, ℕ, zero, suc, ◌<◌, ◌≤◌, true, List, [], ◌∷◌, length}
 use Rattle.std.specs.Prelude.{slice_index_or}
 use Rattle.std.specs.Result.{result_unwrap_or}
@@ -23,7 +24,7 @@ after s (event ∷ events) = after (result_unwrap_or (step event s) s) events
 
 -- the core with 64 elements, all of them free
 unfoldable pub begun : State
-begun = first_state 64
+begun = first_state ELEMENTS
 
 unfoldable pub state_after : List Event → State
 state_after events = after begun events
@@ -38,7 +39,7 @@ IsAllowed events = Reaches begun events (state_after events)
 
 -- an element queue by its number: the ready ring, the free elements, and behind them the wait queues
 abbrev pub ring_at : Elements → ℕ → Queue
-ring_at e ring = slice_index_or e.rings ring (empty_queue 64)
+ring_at e ring = slice_index_or e.rings ring (empty_queue PLACES)
 
 abbrev pub thread_at : Elements → ℕ → Thread
 thread_at e element = slice_index_or e.threads element new_thread

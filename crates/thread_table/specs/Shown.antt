@@ -8,29 +8,10 @@ use Rattle.event_theory.specs.Elements.{Elements, Thread}
 use Rattle.event_theory.specs.Queues.{Queue}
 use Rattle.event_theory.specs.Runs.{Run}
 use Rattle.event_theory.specs.declared.hold.Hold.{Hold}
+use Rattle.thread_table.specs.Layout.{WORDS, PROCESSORS, ELEMENTS, RINGS, PLACES, WAITS, POSITIONS, NOTIFY, CELL}
+use Rattle.thread_table.specs.Layout.{processor_word, state_word, done_word, head_word, tail_word, place_word, stop_bit}
+use Rattle.thread_table.specs.Layout.{cell_bit, half_word}
 use Rattle.thread_table.specs.Schedules.{ring_at, thread_at, element_at}
-
--- where the words of each kind stand
-abbrev pub ends_word : ℕ
-ends_word = 0
-
-abbrev pub processor_word : ℕ → ℕ
-processor_word processor = processor + 1
-
-abbrev pub state_word : ℕ → ℕ
-state_word element = element + 9
-
-abbrev pub done_word : ℕ → ℕ
-done_word element = element + 73
-
-abbrev pub head_word : ℕ → ℕ
-head_word ring = 66 * ring + 137
-
-abbrev pub tail_word : ℕ → ℕ
-tail_word ring = 66 * ring + 138
-
-abbrev pub place_word : ℕ → ℕ → ℕ
-place_word ring position = 66 * ring + 139 + position % 64
 
 abbrev pub bit_of : Bool → ℕ
 bit_of b = if b then 1 else 0
@@ -41,10 +22,10 @@ processor_shown (Some h) = h.element + 1
 
 -- bits 0 to 15 are the pending signals, bit 16 the stop bit, bit 17 the stop cell
 pub record StateShows (thread : Thread) (word : ℕ) : Type 0 where
-  pub bounded : word < 262144
+  pub bounded : word < 2 * CELL
   pub pending : (signal : ℕ) → signal < 16 → bit_at word signal ≡ bit_of (thread.pending signal)
-  pub stop : bit_at word 16 ≡ bit_of thread.stop
-  pub parked : bit_at word 17 ≡ bit_of thread.parked
+  pub stop : bit_at word stop_bit ≡ bit_of thread.stop
+  pub parked : bit_at word cell_bit ≡ bit_of thread.parked
 
 -- the place of a raised run has its element and one more than its position; before that, no more than its position
 pub record PlaceShows (first : ℕ) (q : Queue) (run word : ℕ) : Type 0 where
@@ -58,31 +39,32 @@ mark_of e (suc zero) = 0
 mark_of e (suc (suc wait)) = slice_index_or e.notified wait 0
 
 abbrev pub head_shown : ℕ → Elements → ℕ → ℕ
-head_shown first e ring = first + length (ring_at e ring).history + mark_of e ring * 4294967296
+head_shown first e ring = first + length (ring_at e ring).history + mark_of e ring * NOTIFY
 
 abbrev pub tail_shown : ℕ → Elements → ℕ → ℕ
 tail_shown first e ring = first + (ring_at e ring).taken
 
 -- each run is one element
 pub record RingShows (first : ℕ) (e : Elements) (ring : ℕ) (words : List ℕ) : Type 0 where
-  pub capacity : (ring_at e ring).capacity ≡ 64
+  pub capacity : (ring_at e ring).capacity ≡ PLACES
   pub is_open : (ring_at e ring).shut ≡ false
   pub single : (number : ℕ) (run : Run) → slice_get (ring_at e ring).history number ≡ Some run → length run.items ≡ 1
-  pub bounded : first + length (ring_at e ring).history < 4294967296
-  pub marked : mark_of e ring < 4294967296
+  pub bounded : first + length (ring_at e ring).history < POSITIONS
+  pub marked : mark_of e ring < half_word
   pub head : slice_index_or words (head_word ring) 0 ≡ head_shown first e ring
   pub tail : slice_index_or words (tail_word ring) 0 ≡ tail_shown first e ring
-  pub places : (run : ℕ) → (ring_at e ring).taken ≤ run → run < (ring_at e ring).taken + 64
+  pub places : (run : ℕ) → (ring_at e ring).taken ≤ run → run < (ring_at e ring).taken + PLACES
       → PlaceShows first (ring_at e ring) run (slice_index_or words (place_word ring (first + run)) 0)
 
 pub record WordsShow (first : ℕ) (e : Elements) (words : List ℕ) : Type 0 where
-  pub wide : length words ≡ 1325
-  pub threads : length e.threads ≡ 64
-  pub queues : length e.rings ≡ 18
-  pub waits : length e.notified ≡ 16
-  pub processors : length e.processors ≡ 8
-  pub on : (p : ℕ) → p < 8 → slice_index_or words (processor_word p) 0 ≡ processor_shown (slice_index_or e.processors p None)
-  pub states : (x : ℕ) → x < 64 → StateShows (thread_at e x) (slice_index_or words (state_word x) 0)
-  pub steps : (x : ℕ) → x < 64 → slice_index_or words (done_word x) 0 ≡ (thread_at e x).done
-  pub few : (x : ℕ) → x < 64 → (thread_at e x).done < 4294967296
-  pub rings : (ring : ℕ) → ring < 18 → RingShows first e ring words
+  pub wide : length words ≡ WORDS
+  pub threads : length e.threads ≡ ELEMENTS
+  pub queues : length e.rings ≡ RINGS
+  pub waits : length e.notified ≡ WAITS
+  pub processors : length e.processors ≡ PROCESSORS
+  pub on : (p : ℕ) → p < PROCESSORS
+      → slice_index_or words (processor_word p) 0 ≡ processor_shown (slice_index_or e.processors p None)
+  pub states : (x : ℕ) → x < ELEMENTS → StateShows (thread_at e x) (slice_index_or words (state_word x) 0)
+  pub steps : (x : ℕ) → x < ELEMENTS → slice_index_or words (done_word x) 0 ≡ (thread_at e x).done
+  pub few : (x : ℕ) → x < ELEMENTS → (thread_at e x).done < half_word
+  pub rings : (ring : ℕ) → ring < RINGS → RingShows first e ring words

@@ -15,8 +15,9 @@ use Rattle.event_theory.specs.declared.event.Event.TheVariants as events
 use Rattle.thread_table.specs.declared.rule.View.{View}
 use Rattle.thread_table.specs.Schedules.{Course, state_after, elements_after, IsAllowed, ring_at, thread_at}
 use Rattle.thread_table.specs.Schedules.{element_at, ring_name}
+use Rattle.thread_table.specs.Layout.{ends_word, processor_word, state_word, done_word, head_word, tail_word}
+use Rattle.thread_table.specs.Layout.{place_word, wait_ring}
 use Rattle.thread_table.specs.Shown.{WordsShow, head_shown, tail_shown}
-use Rattle.thread_table.specs.Shown.{ends_word, processor_word, state_word, done_word, head_word, tail_word, place_word}
 use Rattle.thread_table.specs.Rules.{HandIs, Seen, IsSteady, IsNewest, done_at, nothing_held, no_processors, nothing_on}
 use Rattle.thread_table.specs.Makers.{made_in}
 use Rattle.thread_table.specs.Views.{quiet, with_held, with_claim, with_raise, with_on, with_off, with_start, count_of}
@@ -105,7 +106,7 @@ claims call ring element st m r m' =
 
 abbrev pub claims_at : ℕ → ℕ → ℕ → ℕ → Step Unit → Me Unit View → ℕ → Me Unit View → Type 0
 claims_at call wait element ticket st m r m' =
-    Tries (Claims call (wait + 2) element (events.WaitAt call wait element ticket) st.first) st m r m'
+    Tries (Claims call (wait_ring wait) element (events.WaitAt call wait element ticket) st.first) st m r m'
 
 -- the place that the hand had claimed is raised, with the element and one more than the position
 abbrev pub Raises : ℕ → ℕ → ℕ → ℕ → View → View → Type 0
@@ -126,8 +127,8 @@ takes call ring st m r m' = Tries (Takes call ring st.first) st m r m'
 
 -- one more notify of a wait queue, and the head word that it found
 pub record Notifies (call wait : ℕ) (v : View) (found : ℕ) (w : View) : Type 0 where
-  pub did : Did call v (head_word (wait + 2)) found (events.NotifyWait call wait) (λ before. quiet v) w
-  pub is : found ≡ head_shown v.first (elements_after did.before) (wait + 2)
+  pub did : Did call v (head_word (wait_ring wait)) found (events.NotifyWait call wait) (λ before. quiet v) w
+  pub is : found ≡ head_shown v.first (elements_after did.before) (wait_ring wait)
 
 abbrev pub notifies : ℕ → ℕ → Step Unit → Me Unit View → ℕ → Me Unit View → Type 0
 notifies call wait st m r m' = Makes (Notifies call wait) st m r m'

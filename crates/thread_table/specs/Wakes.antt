@@ -8,7 +8,7 @@ use Rattle.thread_table.specs.declared.rule.Made.{Made}
 use Rattle.thread_table.specs.declared.rule.View.{View}
 use Rattle.thread_table.specs.declared.takings.NextRefusal.{NextRefusal}
 use Rattle.thread_table.specs.Schedules.{elements_after, ring_at, ring_name}
-use Rattle.thread_table.specs.Shown.{tail_word}
+use Rattle.thread_table.specs.Layout.{ELEMENTS, tail_word, wait_ring}
 use Rattle.thread_table.specs.Rules.{has}
 use Rattle.thread_table.specs.Steps.{Found, Notifies}
 use Rattle.thread_table.specs.Answers.{TakeAnswer, is_in, head_in}
@@ -65,24 +65,24 @@ pub record WokeAll (call : ℕ) (v : View) (wait mask : ℕ) (w : View) : Type 0
   pub notifies : Notifies call wait v word notified
   pub answers : List (Result ℕ NextRefusal)
   pub tried : View
-  pub tries : Tries call (wait + 2) (head_in word) notified answers tried
+  pub tries : Tries call (wait_ring wait) (head_in word) notified answers tried
   pub tail : ℕ
-  pub tail_loaded : Found tried (tail_word (wait + 2)) tail w
+  pub tail_loaded : Found tried (tail_word (wait_ring wait)) tail w
   pub reached : head_in word ≤ tail
-  pub mask_is : (e : ℕ) → e < 64 → is_in mask e ≡ is_among (taken_in answers) e
-  pub all : length (ring_at (elements_after notifies.did.before) (wait + 2)).history
-      ≤ (ring_at (elements_after w.schedule) (wait + 2)).taken
-  pub holds : (e : ℕ) → e < 64 → has w e ≡ (has v e || is_in mask e)
-  pub woken : (e : ℕ) → e < 64 → is_in mask e ≡ true → has v e ≡ false
+  pub mask_is : (e : ℕ) → e < ELEMENTS → is_in mask e ≡ is_among (taken_in answers) e
+  pub all : length (ring_at (elements_after notifies.did.before) (wait_ring wait)).history
+      ≤ (ring_at (elements_after w.schedule) (wait_ring wait)).taken
+  pub holds : (e : ℕ) → e < ELEMENTS → has w e ≡ (has v e || is_in mask e)
+  pub woken : (e : ℕ) → e < ELEMENTS → is_in mask e ≡ true → has v e ≡ false
   pub same : w ≡ holding_as v w
-  pub made : (l : List Made) × (w.made ≡ notified.made ++ l) × AreTakesOf call (wait + 2) l
+  pub made : (l : List Made) × (w.made ≡ notified.made ++ l) × AreTakesOf call (wait_ring wait) l
 
 -- One notify was made, and this is the head that it found: the position behind the last place claimed before it
 pub record NotifiedNow (call : ℕ) (v : View) (wait head : ℕ) (w : View) : Type 0 where
   pub word : ℕ
   pub notifies : Notifies call wait v word w
   pub is : head ≡ head_in word
-  pub behind : head ≡ v.first + length (ring_at (elements_after notifies.did.before) (wait + 2)).history
+  pub behind : head ≡ v.first + length (ring_at (elements_after notifies.did.before) (wait_ring wait)).history
 
 -- the tail was found, and had reached this position: each place before it is taken
 pub record HasReached (v : View) (ring head : ℕ) (w : View) : Type 0 where

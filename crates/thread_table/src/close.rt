@@ -2,6 +2,7 @@
 ghost use Rattle.std.specs.Prelude.{◌≡◌, ℕ, ◌+◌, ◌%◌, ◌<◌, slice_index_or, IfOk, IfErr, MatchResult};
 ghost use Rattle.std.specs.Int.{bit_at};
 ghost use Rattle.std.specs.Mem.Slots.{slots_items, slots_len, IsFull};
+ghost use Rattle.thread_table.specs.Layout.{WORDS, ELEMENTS, STOP, state_word, done_word, stop_bit};
 ghost use Rattle.thread_table.specs.declared.places.Place.TheVariants as places;
 ghost use Rattle.thread_table.specs.Closings.{ClosedNow, WereOpen, PlaceOf, word_at};
 ghost use Rattle.thread_table.specs.Handles.{view_of, call_of, IsHandOf, IsOnlyHand, IsSameHand};
@@ -9,7 +10,8 @@ ghost use Rattle.thread_table.specs.Handles.{view_of, call_of, IsHandOf, IsOnlyH
 use crate::hand::{Hand, ThreadTable};
 use crate::places::{Place, place_of};
 use crate::steps::count;
-use crate::words::{StateWord, done_word, state_word};
+use crate::layout::{done_word, state_word};
+use crate::words::StateWord;
 use atomic_table::Closed;
 use std::alloc::Global;
 use table_theory::OpenEnds;
@@ -29,8 +31,8 @@ pub struct Places {
 
 // The state word of an element.
 fn state_of(closed: &Closed<(), Global>, element: u8) -> StateWord
-    requires { (slots_len closed.now.words ≡ 1325) × IsFull closed.now.words × (element < 64) }
-    ensures { result.word ≡ word_at (slots_items closed.now.words) (element + 9) }
+    requires { (slots_len closed.now.words ≡ WORDS) × IsFull closed.now.words × (element < ELEMENTS) }
+    ensures { result.word ≡ word_at (slots_items closed.now.words) (state_word element) }
 {
     StateWord {
         word: closed.word(state_word(element)),
@@ -38,8 +40,8 @@ fn state_of(closed: &Closed<(), Global>, element: u8) -> StateWord
 }
 
 fn read_places(closed: &Closed<(), Global>) -> [Place; 64]
-    requires { (slots_len closed.now.words ≡ 1325) × IsFull closed.now.words }
-    ensures { (x : ℕ) → x < 64 → PlaceOf x (slots_items closed.now.words) (slice_index_or result x places.Held) }
+    requires { (slots_len closed.now.words ≡ WORDS) × IsFull closed.now.words }
+    ensures { (x : ℕ) → x < ELEMENTS → PlaceOf x (slots_items closed.now.words) (slice_index_or result x places.Held) }
 {
     let mut places = [Place::Held; 64];
     for element in 0..64u8 {
@@ -49,8 +51,9 @@ fn read_places(closed: &Closed<(), Global>) -> [Place; 64]
 }
 
 fn read_pcs(closed: &Closed<(), Global>) -> [u64; 64]
-    requires { (slots_len closed.now.words ≡ 1325) × IsFull closed.now.words }
-    ensures { (x : ℕ) → x < 64 → slice_index_or result x 0 ≡ word_at (slots_items closed.now.words) (x + 73) }
+    requires { (slots_len closed.now.words ≡ WORDS) × IsFull closed.now.words }
+    ensures { (x : ℕ) → x < ELEMENTS
+        → slice_index_or result x 0 ≡ word_at (slots_items closed.now.words) (done_word x) }
 {
     let mut pcs = [0; 64];
     for element in 0..64u8 {
@@ -60,8 +63,9 @@ fn read_pcs(closed: &Closed<(), Global>) -> [u64; 64]
 }
 
 fn read_pending(closed: &Closed<(), Global>) -> [u16; 64]
-    requires { (slots_len closed.now.words ≡ 1325) × IsFull closed.now.words }
-    ensures { (x : ℕ) → x < 64 → slice_index_or result x 0 ≡ word_at (slots_items closed.now.words) (x + 9) % 65536 }
+    requires { (slots_len closed.now.words ≡ WORDS) × IsFull closed.now.words }
+    ensures { (x : ℕ) → x < ELEMENTS
+        → slice_index_or result x 0 ≡ word_at (slots_items closed.now.words) (state_word x) % STOP }
 {
     let mut pending = [0; 64];
     for element in 0..64u8 {
@@ -71,8 +75,9 @@ fn read_pending(closed: &Closed<(), Global>) -> [u16; 64]
 }
 
 fn read_stops(closed: &Closed<(), Global>) -> u64
-    requires { (slots_len closed.now.words ≡ 1325) × IsFull closed.now.words }
-    ensures { (x : ℕ) → x < 64 → bit_at result x ≡ bit_at (word_at (slots_items closed.now.words) (x + 9)) 16 }
+    requires { (slots_len closed.now.words ≡ WORDS) × IsFull closed.now.words }
+    ensures { (x : ℕ) → x < ELEMENTS
+        → bit_at result x ≡ bit_at (word_at (slots_items closed.now.words) (state_word x)) stop_bit }
 {
     let mut stops = 0u64;
     for element in 0..64u8 {

@@ -1,15 +1,17 @@
 //! The words of a new table.
 ghost use Rattle.std.specs.Prelude.{◌≡◌, ◌≤◌, length};
+ghost use Rattle.thread_table.specs.Layout.{WORDS, ELEMENTS, RINGS, last_first};
 ghost use Rattle.thread_table.specs.Laid.{RingsLaid, ItemsLaid};
 
-use crate::words::{FREE, PlaceWord, head_word, place_word};
+use crate::layout::{FREE, RINGS, head_word, place_word};
+use crate::words::PlaceWord;
 
 // The head and the tail of each element queue. The free elements' head is behind them.
 pub(crate) fn lay_rings(words: &mut [u64], first: u32)
-    requires { (length words.old ≡ 1325) × (first ≤ 4294967231) }
-    ensures { RingsLaid first 64 18 words.old words.new }
+    requires { (length words.old ≡ WORDS) × (first ≤ last_first) }
+    ensures { RingsLaid first ELEMENTS RINGS words.old words.new }
 {
-    for ring in 0..18 {
+    for ring in 0..RINGS {
         let head = head_word(ring);
         words[head] = first as u64;
         words[head + 1] = first as u64;
@@ -19,8 +21,8 @@ pub(crate) fn lay_rings(words: &mut [u64], first: u32)
 
 // The places of the free elements, all of them raised.
 pub(crate) fn lay_free(words: &mut [u64], first: u32)
-    requires { (length words.old ≡ 1325) × (first ≤ 4294967231) }
-    ensures { ItemsLaid first 64 words.old words.new }
+    requires { (length words.old ≡ WORDS) × (first ≤ last_first) }
+    ensures { ItemsLaid first ELEMENTS words.old words.new }
 {
     for element in 0..64u8 {
         let position = first as u64 + element as u64;

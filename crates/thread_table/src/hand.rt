@@ -1,6 +1,7 @@
 //! The table of thread elements and its hands.
 ghost use Rattle.std.specs.Prelude.{◌≡◌, ◌+◌, ◌≤◌, ◌<◌, [], ◌∷◌, ℕ, true, false, None, IfOk, slice_index_or, length};
 ghost use Rattle.std.specs.Prelude.{◌==◌, slice_set};
+ghost use Rattle.thread_table.specs.Layout.{WORDS, PROCESSORS, ELEMENTS, last_first};
 ghost use Rattle.thread_table.specs.Rules.{newcomer, has, serves, running};
 ghost use Rattle.thread_table.specs.Endings.{Divided, IsNewborn, TookIn};
 ghost use Rattle.thread_table.specs.Answers.{is_in};
@@ -9,7 +10,7 @@ ghost use Rattle.thread_table.specs.Steps.{parted, either, either_on};
 use crate::first_words::{lay_free, lay_rings};
 use crate::rule::{Shape, ThreadRule, View};
 use crate::steps::{count_down, count_up, split_off, take_in};
-use crate::words::WORDS;
+use crate::layout::WORDS;
 use atomic_table::{Seat, Table};
 use event_theory::{Element, OutOfMemory, Processor};
 use std::alloc::Global;
@@ -21,7 +22,7 @@ use std::marker::Brand;
 pub struct ThreadTable {
     pub(crate) table: Table<(), View, Shape, ThreadRule, Global>,
     pub(crate) first: u32,
-    ghost sized: { (table.shared.table_id.words ≡ 1325) × (table.shared.table_id.slots ≡ 0) },
+    ghost sized: { (table.shared.table_id.words ≡ WORDS) × (table.shared.table_id.slots ≡ 0) },
     ghost shaped: { table.shared.key.first ≡ first },
 }
 
@@ -81,7 +82,7 @@ impl ThreadTable {
 
     /// `new`, where each element queue has the first position `first`, at most 4,294,967,231.
     pub fn new_at(alloc: Global, first: u32) -> Result<(ThreadTable, Hand), OutOfMemory>
-        requires { first ≤ 4294967231 }
+        requires { first ≤ last_first }
         ensures { IfOk result (λ r. IsHandOf r.0 r.1 × (first_of r.0 ≡ first)
             × (view_of r.1 ≡ newcomer (record { first = first }))) }
     {
@@ -112,7 +113,7 @@ impl ThreadTable {
     pub fn split(&self, hand: &mut Hand, processors: u8) -> Hand
         requires table { IsHandOf self.now hand.old }
         requires parts { IsDivisible hand.old }
-        requires empty { (p : ℕ) → p < 8 → is_in processors p ≡ true
+        requires empty { (p : ℕ) → p < PROCESSORS → is_in processors p ≡ true
             → (serves (view_of hand.old) p ≡ true) × (running (view_of hand.old) p ≡ None) }
         ensures table { IsSameHand hand.old hand.new × AreOfOneTable hand.old result }
         ensures split { Divided processors (view_of hand.old) (view_of hand.new) }
@@ -201,7 +202,7 @@ fn either_running(
 
 // Marks an element as held by the hand, or no longer.
 pub(crate) fn set_held(held: &mut [bool; 64], element: u8, is: bool)
-    requires { element < 64 }
+    requires { element < ELEMENTS }
     ensures { held.new ≡ slice_set held.old element is }
 {
     held[usize::from(element)] = is;
@@ -213,7 +214,7 @@ pub(crate) fn set_running(
     processor: u8,
     element: Option<Element>,
 )
-    requires { processor < 8 }
+    requires { processor < PROCESSORS }
     ensures { running.new ≡ slice_set running.old processor element }
 {
     running[usize::from(processor)] = element;

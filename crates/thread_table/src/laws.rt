@@ -1,6 +1,7 @@
 //! What a call leaves to its hand as it was, and where a closed table tells what was put behind the free elements.
 ghost use Rattle.std.specs.Prelude.{◌≡◌, ◌<◌, ◌≤◌, ℕ, Bool, true, false, List, length, slice_index_or, Result, Ok, Err};
 ghost use Rattle.std.specs.Prelude.{Option, None};
+ghost use Rattle.thread_table.specs.Layout.{ELEMENTS};
 ghost use Rattle.thread_table.specs.declared.rule.View.{View};
 ghost use Rattle.thread_table.specs.declared.takings.NextRefusal.{NextRefusal};
 ghost use Rattle.thread_table.specs.declared.moves.MoveRefusal.{MoveRefusal};
@@ -77,6 +78,6 @@ pub fn answers_keep()
 /// elements than these, each element that an event of the list put behind the free ones is told as free.
 pub fn freed_stay_free()
     ensures { (call : ℕ) (v : View) (stands : List Place) (pcs pending : List ℕ) (stops element : ℕ)
-        → ClosedNow call v stands pcs pending stops → length (free_takings v.made) ≤ 64 → element < 64
+        → ClosedNow call v stands pcs pending stops → length (free_takings v.made) ≤ ELEMENTS → element < ELEMENTS
         → was_freed element v.made ≡ true → slice_index_or stands element places.Held ≡ places.Free }
 {}

@@ -47,6 +47,7 @@ mod close;
 mod first_words;
 mod hand;
 mod laws;
+mod layout;
 mod moves;
 mod places;
 mod plays;

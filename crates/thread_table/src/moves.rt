@@ -1,6 +1,7 @@
 //! Moves: an element that the hand holds gets the next place of an element queue.
 ghost use Rattle.std.specs.Prelude.{◌≡◌, ◌<◌, ◌+◌, true, false, slice_set, Some};
 ghost use Rattle.table_theory.specs.Seating.{IsSame};
+ghost use Rattle.thread_table.specs.Layout.{WORDS, ELEMENTS, RINGS, ready_ring, free_ring, wait_ring, last_head};
 ghost use Rattle.thread_table.specs.Handles.{view_of, call_of, IsHandOf, IsSameHand};
 ghost use Rattle.thread_table.specs.Answers.{MoveAnswer, WaitAnswer, IsTicket};
 ghost use Rattle.thread_table.specs.Rules.{IsActive, has};
@@ -11,7 +12,8 @@ use crate::hand::{Hand, ThreadTable, set_held};
 use crate::plays::Deed;
 use crate::rule::View;
 use crate::steps::{Words, exchange_head, exchange_head_at, load_head, store_place};
-use crate::words::{FREE, HeadWord, PlaceWord, READY, of_wait};
+use crate::layout::{FREE, READY, wait_ring};
+use crate::words::{HeadWord, PlaceWord};
 use atomic_table::Seat;
 use event_theory::{Element, WaitNumber};
 use std::marker::Brand;
@@ -42,11 +44,11 @@ fn raise<J: Deed>(
     head: u64,
     element: u8,
 )
-    requires queue { (seat.old.table_id ≡ words.now.table_id) × (words.now.table_id.words ≡ 1325) × (ring < 18) }
+    requires queue { (seat.old.table_id ≡ words.now.table_id) × (words.now.table_id.words ≡ WORDS) × (ring < RINGS) }
     requires mine { IsActive seat.old.me.0 }
-    requires deed { (J.call ≡ seat.old.id) × (J.at ≡ ring) × (J.element ≡ element) × (element < 64) }
+    requires deed { (J.call ≡ seat.old.id) × (J.at ≡ ring) × (J.element ≡ element) × (element < ELEMENTS) }
     requires claimed { seat.old.me.0.claimed ≡ Some (claim_of J.at J.number J.element) }
-    requires position { (head ≡ seat.old.me.0.first + J.number) × (head < 4294967295) }
+    requires position { (head ≡ seat.old.me.0.first + J.number) × (head < last_head) }
     ensures queue { IsSame seat.old seat.new × (seat.new.me.1 ≡ seat.old.me.1) }
     ensures raised { Raises J.call J.at J.number J.element seat.old.me.0 seat.new.me.0 }
     ensures held { held.new ≡ slice_set held.old element false }
@@ -69,7 +71,7 @@ impl ThreadTable {
         requires table { IsHandOf self.now hand.old }
         requires holds { has (view_of hand.old) element ≡ true }
         ensures table { IsSameHand hand.old hand.new }
-        ensures moved { MoveAnswer (call_of hand.old) (view_of hand.old) 0 element result (view_of hand.new) }
+        ensures moved { MoveAnswer (call_of hand.old) (view_of hand.old) ready_ring element result (view_of hand.new) }
     {
         self.move_to(hand, READY, element)
     }
@@ -84,9 +86,10 @@ impl ThreadTable {
         requires table { IsHandOf self.now hand.old }
         requires holds { has (view_of hand.old) element ≡ true }
         ensures table { IsSameHand hand.old hand.new }
-        ensures moved { MoveAnswer (call_of hand.old) (view_of hand.old) (wait + 2) element result (view_of hand.new) }
+        ensures moved { MoveAnswer (call_of hand.old) (view_of hand.old) (wait_ring wait) element result
+            (view_of hand.new) }
     {
-        self.move_to(hand, of_wait(wait.number()), element)
+        self.move_to(hand, wait_ring(wait.number()), element)
     }
 
     /// Puts an element that the hand holds behind the free elements, as `try_ready` does into the ready ring.
@@ -94,14 +97,14 @@ impl ThreadTable {
         requires table { IsHandOf self.now hand.old }
         requires holds { has (view_of hand.old) element ≡ true }
         ensures table { IsSameHand hand.old hand.new }
-        ensures moved { MoveAnswer (call_of hand.old) (view_of hand.old) 1 element result (view_of hand.new) }
+        ensures moved { MoveAnswer (call_of hand.old) (view_of hand.old) free_ring element result (view_of hand.new) }
     {
         self.move_to(hand, FREE, element)
     }
 
     // Claims the next place of an element queue, and raises it.
     fn move_to(&self, hand: &mut Hand, ring: usize, element: Element) -> Result<(), MoveRefusal>
-        requires table { IsHandOf self.now hand.old × (ring < 18) }
+        requires table { IsHandOf self.now hand.old × (ring < RINGS) }
         requires holds { has (view_of hand.old) element ≡ true }
         ensures table { IsSameHand hand.old hand.new }
         ensures moved { MoveAnswer (call_of hand.old) (view_of hand.old) ring element result (view_of hand.new) }
@@ -133,7 +136,7 @@ impl ThreadTable {
         ensures table { IsSameHand hand.old hand.new }
         ensures ticket { IsTicket (view_of hand.old) wait result (view_of hand.new) }
     {
-        HeadWord::of(load_head(&self.table.shared, &mut hand.seat, of_wait(wait.number()))).mark
+        HeadWord::of(load_head(&self.table.shared, &mut hand.seat, wait_ring(wait.number()))).mark
     }
 
     /// Puts an element that the hand holds into a wait queue, if its number of notifies is the ticket still. So a wait
@@ -154,7 +157,7 @@ impl ThreadTable {
             (view_of hand.new) }
     {
         let (number, queue) = (element.number(), wait.number());
-        let ring = of_wait(queue);
+        let ring = wait_ring(queue);
         let word = load_head(&self.table.shared, &mut hand.seat, ring);
         let HeadWord { head, mark } = HeadWord::of(word);
         if head == u32::MAX as u64 {

@@ -2,9 +2,11 @@
 ghost use Rattle.std.specs.Prelude.{◌≡◌, ◌+◌, ◌<◌, ◌≤◌, ◌==◌, None, MatchBool};
 ghost use Rattle.std.specs.Int.{bit_at};
 ghost use Rattle.std.specs.Mem.Slots.{slots_items, slots_len, IsFull};
+ghost use Rattle.thread_table.specs.Layout.{WORDS, ELEMENTS, RINGS, state_word, cell_bit};
 ghost use Rattle.thread_table.specs.Closings.{ProcessorOf, IsIn, RingOf, PlaceOf, place_by, word_at};
 
-use crate::words::{HeadWord, StateWord, head_word, place_word, processor_word, state_word};
+use crate::layout::{head_word, place_word, processor_word, state_word};
+use crate::words::{HeadWord, StateWord};
 use atomic_table::Closed;
 use std::alloc::Global;
 
@@ -27,7 +29,7 @@ pub enum Place {
 
 // The processor on which the element stands.
 fn processor_of(closed: &Closed<(), Global>, element: u8) -> Option<u8>
-    requires { (slots_len closed.now.words ≡ 1325) × IsFull closed.now.words × (element < 64) }
+    requires { (slots_len closed.now.words ≡ WORDS) × IsFull closed.now.words × (element < ELEMENTS) }
     ensures { ProcessorOf element (slots_items closed.now.words) result }
 {
     for p in 0..8u8 {
@@ -40,7 +42,7 @@ fn processor_of(closed: &Closed<(), Global>, element: u8) -> Option<u8>
 
 // Whether the element stands in a place of this element queue.
 fn is_in_ring(closed: &Closed<(), Global>, element: u8, ring: usize) -> bool
-    requires { (slots_len closed.now.words ≡ 1325) × IsFull closed.now.words × (element < 64) × (ring < 18) }
+    requires { (slots_len closed.now.words ≡ WORDS) × IsFull closed.now.words × (element < ELEMENTS) × (ring < RINGS) }
     ensures { MatchBool result (IsIn element (slots_items closed.now.words) ring)
         (IsIn element (slots_items closed.now.words) ring → ⊥) }
 {
@@ -56,7 +58,7 @@ fn is_in_ring(closed: &Closed<(), Global>, element: u8, ring: usize) -> bool
 
 // The element queue in which the element stands.
 fn ring_of(closed: &Closed<(), Global>, element: u8) -> Option<u8>
-    requires { (slots_len closed.now.words ≡ 1325) × IsFull closed.now.words × (element < 64) }
+    requires { (slots_len closed.now.words ≡ WORDS) × IsFull closed.now.words × (element < ELEMENTS) }
     ensures { RingOf element (slots_items closed.now.words) result }
 {
     for ring in 0..18u8 {
@@ -69,7 +71,7 @@ fn ring_of(closed: &Closed<(), Global>, element: u8) -> Option<u8>
 
 /// Where the words say that the element is.
 pub(crate) fn place_of(closed: &Closed<(), Global>, element: u8) -> Place
-    requires { (slots_len closed.now.words ≡ 1325) × IsFull closed.now.words × (element < 64) }
+    requires { (slots_len closed.now.words ≡ WORDS) × IsFull closed.now.words × (element < ELEMENTS) }
     ensures { PlaceOf element (slots_items closed.now.words) result }
 {
     if let Some(p) = processor_of(closed, element) {
@@ -85,8 +87,9 @@ pub(crate) fn place_of(closed: &Closed<(), Global>, element: u8) -> Place
 
 // The place of an element that stands on no processor and in no element queue.
 fn cell_or_hand(closed: &Closed<(), Global>, element: u8) -> Place
-    requires { (slots_len closed.now.words ≡ 1325) × IsFull closed.now.words × (element < 64) }
-    ensures { result ≡ place_by None None (bit_at (word_at (slots_items closed.now.words) (element + 9)) 17 == 1) }
+    requires { (slots_len closed.now.words ≡ WORDS) × IsFull closed.now.words × (element < ELEMENTS) }
+    ensures { result
+        ≡ place_by None None (bit_at (word_at (slots_items closed.now.words) (state_word element)) cell_bit == 1) }
 {
     let state = StateWord {
         word: closed.word(state_word(element)),

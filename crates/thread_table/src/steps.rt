@@ -6,7 +6,10 @@ ghost use Rattle.std.specs.Int.{bit_at};
 ghost use Rattle.std.specs.Int.Bits.{bit_or, bit_and};
 ghost use Rattle.table_theory.specs.Seating.{IsSame};
 ghost use Rattle.thread_table.specs.Schedules.{elements_after, ring_at, element_at};
-ghost use Rattle.thread_table.specs.Shown.{head_shown, tail_shown, head_word, tail_word, place_word, state_word};
+ghost use Rattle.thread_table.specs.Layout.{WORDS, PROCESSORS, ELEMENTS, RINGS, WAITS, POSITIONS, NOTIFY, CELL};
+ghost use Rattle.thread_table.specs.Layout.{SIGNAL_BITS, STOP_BITS, state_word, head_word, tail_word, place_word};
+ghost use Rattle.thread_table.specs.Layout.{wait_ring, stop_bit, half_word, most_done};
+ghost use Rattle.thread_table.specs.Shown.{head_shown, tail_shown};
 ghost use Rattle.thread_table.specs.Rules.{IsActive, MayStep, has, serves, running};
 ghost use Rattle.thread_table.specs.Views.{claim_of, count_of};
 ghost use Rattle.thread_table.specs.Steps.{Found, Claims, claim_event, Raises, Takes, Notifies, PutsOn, TakesOff};
@@ -21,7 +24,7 @@ use crate::plays::{
     StartState, StoreDone, TakeOff, TakeTail,
 };
 use crate::rule::{Shape, ThreadRule, View};
-use crate::words::{ENDS, NOTIFY, STOP, done_word, head_word, place_word, processor_word, state_word};
+use crate::layout::{ENDS, NOTIFY, STOP, done_word, head_word, place_word, processor_word, state_word};
 use atomic_table::{Seat, Shared};
 
 pub(crate) type Words = Shared<(), View, Shape, ThreadRule>;
@@ -36,7 +39,7 @@ pub(crate) fn load(words: &Words, seat: &mut Seat<(), View>, word: usize) -> u64
 }
 
 pub(crate) fn load_head(words: &Words, seat: &mut Seat<(), View>, ring: usize) -> u64
-    requires queue { (seat.old.table_id ≡ words.now.table_id) × (words.now.table_id.words ≡ 1325) × (ring < 18) }
+    requires queue { (seat.old.table_id ≡ words.now.table_id) × (words.now.table_id.words ≡ WORDS) × (ring < RINGS) }
     requires live { IsActive seat.old.me.0 }
     ensures queue { IsSame seat.old seat.new × (seat.new.me.1 ≡ seat.old.me.1) }
     ensures found { Found seat.old.me.0 (head_word ring) result seat.new.me.0 }
@@ -46,12 +49,12 @@ pub(crate) fn load_head(words: &Words, seat: &mut Seat<(), View>, ring: usize) -
 }
 
 pub(crate) fn load_tail(words: &Words, seat: &mut Seat<(), View>, ring: usize) -> u64
-    requires queue { (seat.old.table_id ≡ words.now.table_id) × (words.now.table_id.words ≡ 1325) × (ring < 18) }
+    requires queue { (seat.old.table_id ≡ words.now.table_id) × (words.now.table_id.words ≡ WORDS) × (ring < RINGS) }
     requires live { IsActive seat.old.me.0 }
     ensures queue { IsSame seat.old seat.new × (seat.new.me.1 ≡ seat.old.me.1) }
     ensures found { Found seat.old.me.0 (tail_word ring) result seat.new.me.0 }
     ensures tail { result ≡ tail_shown seat.old.me.0.first (elements_after seat.new.me.0.schedule) ring }
-    ensures bounded { result < 4294967296 }
+    ensures bounded { result < POSITIONS }
 {
     load(words, seat, head_word(ring) + 1)
 }
@@ -63,7 +66,7 @@ pub(crate) fn load_place(
     ring: usize,
     position: u64,
 ) -> u64
-    requires queue { (seat.old.table_id ≡ words.now.table_id) × (words.now.table_id.words ≡ 1325) × (ring < 18) }
+    requires queue { (seat.old.table_id ≡ words.now.table_id) × (words.now.table_id.words ≡ WORDS) × (ring < RINGS) }
     requires live { IsActive seat.old.me.0 }
     requires tail { position ≡ tail_shown seat.old.me.0.first (elements_after seat.old.me.0.schedule) ring }
     ensures queue { IsSame seat.old seat.new × (seat.new.me.1 ≡ seat.old.me.1) }
@@ -80,11 +83,11 @@ pub(crate) fn exchange_head<J: Deed>(
     element: u8,
     head: u64,
 ) -> u64
-    requires queue { (seat.old.table_id ≡ words.now.table_id) × (words.now.table_id.words ≡ 1325) × (ring < 18) }
+    requires queue { (seat.old.table_id ≡ words.now.table_id) × (words.now.table_id.words ≡ WORDS) × (ring < RINGS) }
     requires mine { IsActive seat.old.me.0 × (seat.old.me.0.claimed ≡ None) }
     requires deed { (J.call ≡ seat.old.id) × (J.at ≡ ring) × (J.element ≡ element) }
-    requires held { (element < 64) × (has seat.old.me.0 element ≡ true) }
-    requires room { head % 4294967296 + 1 < 4294967296 }
+    requires held { (element < ELEMENTS) × (has seat.old.me.0 element ≡ true) }
+    requires room { head % NOTIFY + 1 < POSITIONS }
     ensures queue { IsSame seat.old seat.new × (seat.new.me.1 ≡ seat.old.me.1) }
     ensures hit { result ≡ head
         → Claims J.call J.at J.element (claim_event J.call J.at J.element) head seat.old.me.0 seat.new.me.0 }
@@ -103,17 +106,18 @@ pub(crate) fn exchange_head_at<J: Deed>(
     ticket: u32,
     head: u64,
 ) -> u64
-    requires queue { (seat.old.table_id ≡ words.now.table_id) × (words.now.table_id.words ≡ 1325) × (wait < 16) }
+    requires queue { (seat.old.table_id ≡ words.now.table_id) × (words.now.table_id.words ≡ WORDS) × (wait < WAITS) }
     requires mine { IsActive seat.old.me.0 × (seat.old.me.0.claimed ≡ None) }
     requires deed { (J.call ≡ seat.old.id) × (J.at ≡ wait) × (J.element ≡ element) × (J.number ≡ ticket) }
-    requires held { (element < 64) × (has seat.old.me.0 element ≡ true) }
-    requires room { head % 4294967296 + 1 < 4294967296 }
-    requires ticket { head / 4294967296 ≡ ticket }
+    requires held { (element < ELEMENTS) × (has seat.old.me.0 element ≡ true) }
+    requires room { head % NOTIFY + 1 < POSITIONS }
+    requires ticket { head / NOTIFY ≡ ticket }
     ensures queue { IsSame seat.old seat.new × (seat.new.me.1 ≡ seat.old.me.1) }
-    ensures hit { result ≡ head → Claims J.call (J.at + 2) J.element (events.WaitAt J.call J.at J.element J.number) head
+    ensures hit { result ≡ head
+        → Claims J.call (wait_ring J.at) J.element (events.WaitAt J.call J.at J.element J.number) head
         seat.old.me.0 seat.new.me.0 }
-    ensures miss { result ≢ head → Found seat.old.me.0 (head_word (wait + 2)) result seat.new.me.0
-        × (result ≡ head_shown seat.old.me.0.first (elements_after seat.new.me.0.schedule) (wait + 2)) }
+    ensures miss { result ≢ head → Found seat.old.me.0 (head_word (wait_ring wait)) result seat.new.me.0
+        × (result ≡ head_shown seat.old.me.0.first (elements_after seat.new.me.0.schedule) (wait_ring wait)) }
 {
     let _ = (element, ticket);
     words.compare_exchange::<ClaimHeadAt<J>>(seat, head_word(wait as usize + 2), head, head + 1)
@@ -128,7 +132,7 @@ pub(crate) fn store_place<J: Deed>(
     element: u8,
     new: u64,
 )
-    requires queue { (seat.old.table_id ≡ words.now.table_id) × (words.now.table_id.words ≡ 1325) × (ring < 18) }
+    requires queue { (seat.old.table_id ≡ words.now.table_id) × (words.now.table_id.words ≡ WORDS) × (ring < RINGS) }
     requires mine { IsActive seat.old.me.0 }
     requires deed { (J.call ≡ seat.old.id) × (J.at ≡ ring) × (J.element ≡ element) }
     requires claimed { seat.old.me.0.claimed ≡ Some (claim_of J.at J.number J.element) }
@@ -147,12 +151,12 @@ pub(crate) fn exchange_tail<J: Deed>(
     ring: usize,
     tail: u64,
 ) -> u64
-    requires queue { (seat.old.table_id ≡ words.now.table_id) × (words.now.table_id.words ≡ 1325) × (ring < 18) }
+    requires queue { (seat.old.table_id ≡ words.now.table_id) × (words.now.table_id.words ≡ WORDS) × (ring < RINGS) }
     requires mine { IsActive seat.old.me.0 × (seat.old.me.0.claimed ≡ None) }
     requires deed { (J.call ≡ seat.old.id) × (J.at ≡ ring) }
     requires raised { (run : ℕ) × (tail ≡ seat.old.me.0.first + run)
         × ((ring_at (elements_after seat.old.me.0.schedule) ring).raised run 0 ≡ true) }
-    requires bounded { tail < 4294967296 }
+    requires bounded { tail < POSITIONS }
     ensures queue { IsSame seat.old seat.new × (seat.new.me.1 ≡ seat.old.me.1) }
     ensures hit { result ≡ tail → Takes J.call J.at tail seat.old.me.0 seat.new.me.0 }
     ensures miss { result ≢ tail → Found seat.old.me.0 (tail_word ring) result seat.new.me.0
@@ -162,7 +166,7 @@ pub(crate) fn exchange_tail<J: Deed>(
 }
 
 pub(crate) fn add_notify<J: Deed>(words: &Words, seat: &mut Seat<(), View>, wait: u8) -> u64
-    requires queue { (seat.old.table_id ≡ words.now.table_id) × (words.now.table_id.words ≡ 1325) × (wait < 16) }
+    requires queue { (seat.old.table_id ≡ words.now.table_id) × (words.now.table_id.words ≡ WORDS) × (wait < WAITS) }
     requires mine { IsActive seat.old.me.0 × (seat.old.me.0.claimed ≡ None) }
     requires deed { (J.call ≡ seat.old.id) × (J.at ≡ wait) }
     ensures queue { IsSame seat.old seat.new × (seat.new.me.1 ≡ seat.old.me.1) }
@@ -172,11 +176,11 @@ pub(crate) fn add_notify<J: Deed>(words: &Words, seat: &mut Seat<(), View>, wait
 }
 
 pub(crate) fn swap_on<J: Deed>(words: &Words, seat: &mut Seat<(), View>, processor: u8, element: u8)
-    requires queue { (seat.old.table_id ≡ words.now.table_id) × (words.now.table_id.words ≡ 1325) }
+    requires queue { (seat.old.table_id ≡ words.now.table_id) × (words.now.table_id.words ≡ WORDS) }
     requires mine { IsActive seat.old.me.0 × (seat.old.me.0.claimed ≡ None) }
     requires deed { (J.call ≡ seat.old.id) × (J.at ≡ processor) × (J.element ≡ element) }
-    requires held { (element < 64) × (has seat.old.me.0 element ≡ true) }
-    requires empty { (processor < 8) × (serves seat.old.me.0 processor ≡ true)
+    requires held { (element < ELEMENTS) × (has seat.old.me.0 element ≡ true) }
+    requires empty { (processor < PROCESSORS) × (serves seat.old.me.0 processor ≡ true)
         × (running seat.old.me.0 processor ≡ None) }
     ensures queue { IsSame seat.old seat.new × (seat.new.me.1 ≡ seat.old.me.1) }
     ensures on { PutsOn J.call J.at J.element seat.old.me.0 seat.new.me.0 }
@@ -190,10 +194,10 @@ pub(crate) fn swap_off<J: Deed>(
     processor: u8,
     element: u8,
 )
-    requires queue { (seat.old.table_id ≡ words.now.table_id) × (words.now.table_id.words ≡ 1325) }
+    requires queue { (seat.old.table_id ≡ words.now.table_id) × (words.now.table_id.words ≡ WORDS) }
     requires mine { IsActive seat.old.me.0 × (seat.old.me.0.claimed ≡ None) }
     requires deed { (J.call ≡ seat.old.id) × (J.at ≡ processor) × (J.element ≡ element) }
-    requires there { (processor < 8) × (serves seat.old.me.0 processor ≡ true)
+    requires there { (processor < PROCESSORS) × (serves seat.old.me.0 processor ≡ true)
         × (running seat.old.me.0 processor ≡ Some element) }
     ensures queue { IsSame seat.old seat.new × (seat.new.me.1 ≡ seat.old.me.1) }
     ensures off { TakesOff J.call J.at J.element seat.old.me.0 seat.new.me.0 }
@@ -203,7 +207,8 @@ pub(crate) fn swap_off<J: Deed>(
 }
 
 pub(crate) fn load_state(words: &Words, seat: &mut Seat<(), View>, element: u8) -> u64
-    requires queue { (seat.old.table_id ≡ words.now.table_id) × (words.now.table_id.words ≡ 1325) × (element < 64) }
+    requires queue { (seat.old.table_id ≡ words.now.table_id) × (words.now.table_id.words ≡ WORDS)
+        × (element < ELEMENTS) }
     requires live { IsActive seat.old.me.0 }
     ensures queue { IsSame seat.old seat.new × (seat.new.me.1 ≡ seat.old.me.1) }
     ensures found { Found seat.old.me.0 (state_word element) result seat.new.me.0 }
@@ -213,7 +218,8 @@ pub(crate) fn load_state(words: &Words, seat: &mut Seat<(), View>, element: u8) 
 }
 
 pub(crate) fn or_stop<J: Deed>(words: &Words, seat: &mut Seat<(), View>, element: u8) -> u64
-    requires queue { (seat.old.table_id ≡ words.now.table_id) × (words.now.table_id.words ≡ 1325) × (element < 64) }
+    requires queue { (seat.old.table_id ≡ words.now.table_id) × (words.now.table_id.words ≡ WORDS)
+        × (element < ELEMENTS) }
     requires mine { IsActive seat.old.me.0 × (seat.old.me.0.claimed ≡ None) }
     requires deed { (J.call ≡ seat.old.id) × (J.element ≡ element) }
     ensures queue { IsSame seat.old seat.new × (seat.new.me.1 ≡ seat.old.me.1) }
@@ -228,7 +234,8 @@ pub(crate) fn or_signal<J: Deed>(
     element: u8,
     signal: u8,
 ) -> u64
-    requires queue { (seat.old.table_id ≡ words.now.table_id) × (words.now.table_id.words ≡ 1325) × (element < 64) }
+    requires queue { (seat.old.table_id ≡ words.now.table_id) × (words.now.table_id.words ≡ WORDS)
+        × (element < ELEMENTS) }
     requires mine { IsActive seat.old.me.0 × (seat.old.me.0.claimed ≡ None) }
     requires deed { (J.call ≡ seat.old.id) × (J.element ≡ element) × (J.number ≡ signal) × (signal < 16) }
     ensures queue { IsSame seat.old seat.new × (seat.new.me.1 ≡ seat.old.me.1) }
@@ -245,11 +252,11 @@ pub(crate) fn exchange_park<J: Deed>(
     old: u64,
     new: u64,
 ) -> u64
-    requires queue { (seat.old.table_id ≡ words.now.table_id) × (words.now.table_id.words ≡ 1325) }
+    requires queue { (seat.old.table_id ≡ words.now.table_id) × (words.now.table_id.words ≡ WORDS) }
     requires mine { IsActive seat.old.me.0 × (seat.old.me.0.claimed ≡ None) }
     requires deed { (J.call ≡ seat.old.id) × (J.element ≡ element) }
-    requires held { (element < 64) × (has seat.old.me.0 element ≡ true) }
-    requires stopping { (bit_at old 16 ≡ 1) × (new ≡ bit_or old 131072) }
+    requires held { (element < ELEMENTS) × (has seat.old.me.0 element ≡ true) }
+    requires stopping { (bit_at old stop_bit ≡ 1) × (new ≡ bit_or old CELL) }
     ensures queue { IsSame seat.old seat.new × (seat.new.me.1 ≡ seat.old.me.1) }
     ensures hit { result ≡ old → Parks J.call J.element old seat.old.me.0 seat.new.me.0 }
     ensures miss { result ≢ old → Found seat.old.me.0 (state_word element) result seat.new.me.0
@@ -265,10 +272,11 @@ pub(crate) fn exchange_start<J: Deed>(
     old: u64,
     new: u64,
 ) -> u64
-    requires queue { (seat.old.table_id ≡ words.now.table_id) × (words.now.table_id.words ≡ 1325) × (element < 64) }
+    requires queue { (seat.old.table_id ≡ words.now.table_id) × (words.now.table_id.words ≡ WORDS)
+        × (element < ELEMENTS) }
     requires mine { IsActive seat.old.me.0 × (seat.old.me.0.claimed ≡ None) }
     requires deed { (J.call ≡ seat.old.id) × (J.element ≡ element) }
-    requires stopping { (bit_at old 16 ≡ 1) × (new ≡ bit_and old 65535) }
+    requires stopping { (bit_at old stop_bit ≡ 1) × (new ≡ bit_and old SIGNAL_BITS) }
     ensures queue { IsSame seat.old seat.new × (seat.new.me.1 ≡ seat.old.me.1) }
     ensures hit { result ≡ old → Starts J.call J.element old seat.old.me.0 seat.new.me.0 }
     ensures miss { result ≢ old → Found seat.old.me.0 (state_word element) result seat.new.me.0
@@ -284,11 +292,11 @@ pub(crate) fn exchange_deliver<J: Deed>(
     old: u64,
     new: u64,
 ) -> u64
-    requires queue { (seat.old.table_id ≡ words.now.table_id) × (words.now.table_id.words ≡ 1325) }
+    requires queue { (seat.old.table_id ≡ words.now.table_id) × (words.now.table_id.words ≡ WORDS) }
     requires mine { IsActive seat.old.me.0 × (seat.old.me.0.claimed ≡ None) }
     requires deed { (J.call ≡ seat.old.id) × (J.element ≡ element) }
-    requires held { (element < 64) × (has seat.old.me.0 element ≡ true) }
-    requires new { new ≡ bit_and old 196608 }
+    requires held { (element < ELEMENTS) × (has seat.old.me.0 element ≡ true) }
+    requires new { new ≡ bit_and old STOP_BITS }
     ensures queue { IsSame seat.old seat.new × (seat.new.me.1 ≡ seat.old.me.1) }
     ensures hit { result ≡ old → Delivers J.call J.element old seat.old.me.0 seat.new.me.0 }
     ensures miss { result ≢ old → Found seat.old.me.0 (state_word element) result seat.new.me.0
@@ -299,20 +307,22 @@ pub(crate) fn exchange_deliver<J: Deed>(
 
 // The number of steps done of an element that the hand holds or has on a processor.
 pub(crate) fn load_done<J: Deed>(words: &Words, seat: &mut Seat<(), View>, element: u8) -> u64
-    requires queue { (seat.old.table_id ≡ words.now.table_id) × (words.now.table_id.words ≡ 1325) × (element < 64) }
+    requires queue { (seat.old.table_id ≡ words.now.table_id) × (words.now.table_id.words ≡ WORDS)
+        × (element < ELEMENTS) }
     requires mine { IsActive seat.old.me.0 × MayStep seat.old.me.0 element × (J.element ≡ element) }
     ensures queue { IsSame seat.old seat.new × (seat.new.me.1 ≡ seat.old.me.1) }
     ensures counted { ReadPc J.element seat.old.me.0 result seat.new.me.0 }
-    ensures bounded { result < 4294967296 }
+    ensures bounded { result < half_word }
 {
     words.load::<LoadDone<J>>(seat, done_word(element))
 }
 
 pub(crate) fn store_done<J: Deed>(words: &Words, seat: &mut Seat<(), View>, element: u8, done: u64)
-    requires queue { (seat.old.table_id ≡ words.now.table_id) × (words.now.table_id.words ≡ 1325) × (element < 64) }
+    requires queue { (seat.old.table_id ≡ words.now.table_id) × (words.now.table_id.words ≡ WORDS)
+        × (element < ELEMENTS) }
     requires mine { IsActive seat.old.me.0 × (seat.old.me.0.claimed ≡ None) }
     requires deed { (J.call ≡ seat.old.id) × (J.element ≡ element) × (J.number ≡ done) }
-    requires counted { (seat.old.me.0.counted ≡ Some (count_of J.element J.number)) × (done < 4294967295) }
+    requires counted { (seat.old.me.0.counted ≡ Some (count_of J.element J.number)) × (done < most_done) }
     ensures queue { IsSame seat.old seat.new × (seat.new.me.1 ≡ seat.old.me.1) }
     ensures stepped { StoresPc J.call J.element J.number seat.old.me.0 seat.new.me.0 }
 {
@@ -320,7 +330,7 @@ pub(crate) fn store_done<J: Deed>(words: &Words, seat: &mut Seat<(), View>, elem
 }
 
 pub(crate) fn count_up(words: &Words, seat: &mut Seat<(), View>) -> u64
-    requires queue { (seat.old.table_id ≡ words.now.table_id) × (words.now.table_id.words ≡ 1325) }
+    requires queue { (seat.old.table_id ≡ words.now.table_id) × (words.now.table_id.words ≡ WORDS) }
     requires live { IsActive seat.old.me.0 }
     requires parts { seat.old.me.0.member.ends + 1 ≤ seat.old.me.0.member.share }
     ensures queue { IsSame seat.old seat.new × (seat.new.me.1 ≡ seat.old.me.1) }
@@ -330,7 +340,7 @@ pub(crate) fn count_up(words: &Words, seat: &mut Seat<(), View>) -> u64
 }
 
 pub(crate) fn count_down(words: &Words, seat: &mut Seat<(), View>) -> u64
-    requires queue { (seat.old.table_id ≡ words.now.table_id) × (words.now.table_id.words ≡ 1325) }
+    requires queue { (seat.old.table_id ≡ words.now.table_id) × (words.now.table_id.words ≡ WORDS) }
     requires live { (2 ≤ seat.old.me.0.member.ends) × (seat.old.me.0.fresh ≡ false) }
     ensures queue { IsSame seat.old seat.new × (seat.new.me.1 ≡ seat.old.me.1) }
     ensures counted { CountedDown seat.old.me.0 result seat.new.me.0 }
@@ -339,7 +349,7 @@ pub(crate) fn count_down(words: &Words, seat: &mut Seat<(), View>) -> u64
 }
 
 pub(crate) fn count(words: &Words, seat: &mut Seat<(), View>) -> u64
-    requires queue { (seat.old.table_id ≡ words.now.table_id) × (words.now.table_id.words ≡ 1325) }
+    requires queue { (seat.old.table_id ≡ words.now.table_id) × (words.now.table_id.words ≡ WORDS) }
     requires live { (seat.old.me.0.member.ends ≡ 1) × (seat.old.me.0.fresh ≡ true) }
     ensures queue { IsSame seat.old seat.new × (seat.new.me.1 ≡ seat.old.me.1) }
     ensures tallied { Tallied seat.old.me.0 result seat.new.me.0 }
@@ -353,7 +363,7 @@ pub(crate) fn split_off<J: Mask>(
     seat: &mut Seat<(), View>,
     mask: &[bool; 8],
 ) -> Seat<(), View>
-    requires queue { (seat.old.table_id ≡ words.now.table_id) × (words.now.table_id.words ≡ 1325) }
+    requires queue { (seat.old.table_id ≡ words.now.table_id) × (words.now.table_id.words ≡ WORDS) }
     requires live { seat.old.me.0.member.ends ≡ 2 }
     requires mask { (J.mask ≡ mask.now) × ((p : ℕ) → slice_index_or mask.now p false ≡ true
         → (serves seat.old.me.0 p ≡ true) × (running seat.old.me.0 p ≡ None)) }
@@ -367,7 +377,7 @@ pub(crate) fn split_off<J: Mask>(
 
 pub(crate) fn take_in<J: Spent>(words: &Words, seat: &mut Seat<(), View>, other: Seat<(), View>)
     requires queue { (seat.old.table_id ≡ words.now.table_id) × (other.table_id ≡ words.now.table_id)
-        × (other.me.1 ≡ []) × (words.now.table_id.words ≡ 1325) }
+        × (other.me.1 ≡ []) × (words.now.table_id.words ≡ WORDS) }
     requires live { IsActive seat.old.me.0 × IsActive other.me.0 }
     requires none { (seat.old.me.0.claimed ≡ None) × (other.me.0.claimed ≡ None) }
     requires spent { J.view ≡ emptied seat.old.me.0 }

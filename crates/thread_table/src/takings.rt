@@ -1,11 +1,13 @@
 //! Takings: the oldest element of the ready ring, of the free elements or of a wait queue is then held.
 ghost use Rattle.std.specs.Prelude.{◌≡◌, ◌<◌, ◌+◌};
+ghost use Rattle.thread_table.specs.Layout.{RINGS, ready_ring, free_ring, wait_ring};
 ghost use Rattle.thread_table.specs.Handles.{view_of, call_of, IsHandOf, IsSameHand};
 ghost use Rattle.thread_table.specs.Answers.{TakeAnswer};
 
 use crate::hand::{Hand, ThreadTable};
 use crate::steps::{exchange_tail, load_place, load_tail};
-use crate::words::{FREE, PlaceWord, READY, of_wait};
+use crate::layout::{FREE, READY, wait_ring};
+use crate::words::PlaceWord;
 use event_theory::{Element, WaitNumber};
 use std::marker::Brand;
 use thiserror::Error;
@@ -28,7 +30,7 @@ impl ThreadTable {
     pub fn try_next(&self, hand: &mut Hand) -> Result<Element, NextRefusal>
         requires { IsHandOf self.now hand.old }
         ensures table { IsSameHand hand.old hand.new }
-        ensures taken { TakeAnswer (call_of hand.old) (view_of hand.old) 0 result (view_of hand.new) }
+        ensures taken { TakeAnswer (call_of hand.old) (view_of hand.old) ready_ring result (view_of hand.new) }
     {
         self.take_first(hand, READY)
     }
@@ -37,7 +39,7 @@ impl ThreadTable {
     pub fn try_free(&self, hand: &mut Hand) -> Result<Element, NextRefusal>
         requires { IsHandOf self.now hand.old }
         ensures table { IsSameHand hand.old hand.new }
-        ensures taken { TakeAnswer (call_of hand.old) (view_of hand.old) 1 result (view_of hand.new) }
+        ensures taken { TakeAnswer (call_of hand.old) (view_of hand.old) free_ring result (view_of hand.new) }
     {
         self.take_first(hand, FREE)
     }
@@ -46,14 +48,14 @@ impl ThreadTable {
     pub fn try_wake(&self, hand: &mut Hand, wait: WaitNumber) -> Result<Element, NextRefusal>
         requires { IsHandOf self.now hand.old }
         ensures table { IsSameHand hand.old hand.new }
-        ensures taken { TakeAnswer (call_of hand.old) (view_of hand.old) (wait + 2) result (view_of hand.new) }
+        ensures taken { TakeAnswer (call_of hand.old) (view_of hand.old) (wait_ring wait) result (view_of hand.new) }
     {
-        self.take_first(hand, of_wait(wait.number()))
+        self.take_first(hand, wait_ring(wait.number()))
     }
 
     // Takes the first element of an element queue.
     pub(crate) fn take_first(&self, hand: &mut Hand, ring: usize) -> Result<Element, NextRefusal>
-        requires { IsHandOf self.now hand.old × (ring < 18) }
+        requires { IsHandOf self.now hand.old × (ring < RINGS) }
         ensures table { IsSameHand hand.old hand.new }
         ensures taken { TakeAnswer (call_of hand.old) (view_of hand.old) ring result (view_of hand.new) }
     {

@@ -1,12 +1,14 @@
 //! Waking all that wait: in one call that waits, or by a notify and tries, none of which waits.
 ghost use Rattle.std.specs.Prelude.{◌≡◌, ◌+◌};
+ghost use Rattle.thread_table.specs.Layout.{wait_ring};
 ghost use Rattle.thread_table.specs.Handles.{view_of, call_of, IsHandOf, IsSameHand};
 ghost use Rattle.thread_table.specs.Wakes.{WokeAll, NotifiedNow, BeforeAnswer};
 
 use crate::hand::{Hand, ThreadTable};
 use crate::steps::{add_notify, load_tail};
 use crate::takings::NextRefusal;
-use crate::words::{HeadWord, of_wait};
+use crate::layout::wait_ring;
+use crate::words::HeadWord;
 use crossbeam_utils::Backoff;
 use event_theory::{Element, WaitNumber};
 use std::marker::Brand;
@@ -23,7 +25,7 @@ impl ThreadTable {
         ensures table { IsSameHand hand.old hand.new }
         ensures woken { WokeAll (call_of hand.old) (view_of hand.old) wait result (view_of hand.new) }
     {
-        let ring = of_wait(wait.number());
+        let ring = wait_ring(wait.number());
         let word = add_notify::<Brand>(&self.table.shared, &mut hand.seat, wait.number());
         let head = HeadWord::of(word).head;
         let mut woken = 0;
@@ -67,9 +69,10 @@ impl ThreadTable {
     ) -> Result<Option<Element>, NextRefusal>
         requires { IsHandOf self.now hand.old }
         ensures table { IsSameHand hand.old hand.new }
-        ensures taken { BeforeAnswer (call_of hand.old) (view_of hand.old) (wait + 2) head result (view_of hand.new) }
+        ensures taken { BeforeAnswer (call_of hand.old) (view_of hand.old) (wait_ring wait) head result
+            (view_of hand.new) }
     {
-        let ring = of_wait(wait.number());
+        let ring = wait_ring(wait.number());
         let reached = load_tail(&self.table.shared, &mut hand.seat, ring);
         if u64::from(head) <= reached {
             return Ok(None);

@@ -9,7 +9,7 @@ use mathlib.Core.Logic.{dite}
 use native.Mathlib.Decide.{dec_lt, dec_le, ℕ_discrete}
 use lib.ListN.{get_elem?}
 use Rattle.thread_table.specs.Closings.{ProcessorOf, IsIn, RingOf, PlaceOf, place_by, word_at}
-use Rattle.thread_table.specs.Shown.{head_word, tail_word, place_word}
+use Rattle.thread_table.specs.Layout.{head_word, tail_word, place_word}
 use Rattle.thread_table.specs.declared.places.Place.TheVariants as places
 
 -- a word that was read

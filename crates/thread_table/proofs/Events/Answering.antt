@@ -10,9 +10,9 @@ use Rattle.event_theory.specs.declared.event.Event.{Event}
 use Rattle.event_theory.proofs.Keeping.Elements.{every_at}
 use Rattle.thread_table.specs.declared.rule.View.{View}
 use Rattle.thread_table.specs.Schedules.{elements_after, ring_at, element_at}
+use Rattle.thread_table.specs.Layout.{head_word, tail_word, place_word}
 use Rattle.thread_table.specs.Shown.{tail_shown, mark_of}
 use Rattle.thread_table.specs.Views.{claim_of}
-use Rattle.thread_table.specs.Shown.{head_word, tail_word, place_word}
 use Rattle.thread_table.specs.Steps.{Sees, Found, Claims, Raises, Takes}
 use Rattle.thread_table.specs.Reads.{Peeked}
 use Rattle.thread_table.specs.Answers.{FoundFirst, WasNotRaised, PassedBefore, PassedMeanwhile, TookFirst, FoundHead, MovedTo, WasSpent, WasOvertaken, IsTicket, head_in, mark_in}

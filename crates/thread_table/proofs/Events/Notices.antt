@@ -8,7 +8,8 @@ use Rattle.event_theory.specs.Elements.{Elements}
 use Rattle.event_theory.specs.Marks.{notify_wait}
 use Rattle.thread_table.specs.declared.rule.View.{View}
 use Rattle.thread_table.specs.Schedules.{ring_at}
-use Rattle.thread_table.specs.Shown.{WordsShow, RingShows, PlaceShows, head_word, tail_word, place_word, head_shown, mark_of}
+use Rattle.thread_table.specs.Layout.{head_word, tail_word, place_word}
+use Rattle.thread_table.specs.Shown.{WordsShow, RingShows, PlaceShows, head_shown, mark_of}
 use Rattle.thread_table.specs.Rules.{HandIs}
 use Rattle.thread_table.proofs.Events.Effects.{NotifyEffect}
 use Rattle.thread_table.specs.Views.{quiet}

@@ -10,7 +10,8 @@ use Rattle.event_theory.specs.declared.hold.Hold.{Hold}
 use Rattle.event_theory.proofs.Outcomes.{parked_ok, started_ok}
 use Rattle.thread_table.specs.declared.rule.View.{View}
 use Rattle.thread_table.specs.Schedules.{thread_at}
-use Rattle.thread_table.specs.Shown.{WordsShow, StateShows, processor_word, state_word, done_word}
+use Rattle.thread_table.specs.Layout.{processor_word, state_word, done_word}
+use Rattle.thread_table.specs.Shown.{WordsShow, StateShows}
 use Rattle.thread_table.specs.Rules.{HandIs}
 use Rattle.thread_table.proofs.Events.Effects.{Leaves, ParkEffect, StartEffect}
 use Rattle.thread_table.specs.Views.{with_held, with_start}

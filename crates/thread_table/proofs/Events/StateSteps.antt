@@ -18,7 +18,8 @@ use Rattle.event_theory.specs.declared.refusal.Refusal.{Refusal}
 use Rattle.thread_table.specs.declared.rule.Shape.{Shape}
 use Rattle.thread_table.specs.declared.rule.View.{View}
 use Rattle.thread_table.specs.Schedules.{elements_after, thread_at}
-use Rattle.thread_table.specs.Shown.{StateShows, processor_word, state_word, done_word, processor_shown, bit_of}
+use Rattle.thread_table.specs.Layout.{processor_word, state_word, done_word}
+use Rattle.thread_table.specs.Shown.{StateShows, processor_shown, bit_of}
 use Rattle.thread_table.specs.Rules.{IsActive, HandIs, Rule, MayStep, has, serves, running}
 use Rattle.thread_table.specs.Views.{quiet, with_held, with_on, with_off, with_start, count_of}
 use Rattle.thread_table.specs.Steps.{looked, made_by, Found, Did, ChangedState, puts_on, takes_off, stops, signals, parks, starts, delivers, reads_pc, steps_on}

@@ -9,10 +9,10 @@ use Rattle.thread_table.specs.declared.rule.View.{View}
 use Rattle.thread_table.specs.declared.states.Started.TheVariants as started
 use Rattle.thread_table.specs.declared.states.Signalled.TheVariants as signalled
 use Rattle.thread_table.specs.Schedules.{elements_after, thread_at}
+use Rattle.thread_table.specs.Layout.{state_word}
 use Rattle.thread_table.specs.Shown.{StateShows, bit_of}
 use Rattle.thread_table.specs.Rules.{has}
 use Rattle.thread_table.specs.Views.{with_start}
-use Rattle.thread_table.specs.Shown.{state_word}
 use Rattle.thread_table.specs.Steps.{Found, Marks, ChangedState, Parks, Starts, Delivers}
 use Rattle.thread_table.specs.Reads.{StateIs}
 use Rattle.thread_table.specs.Answers.{WasChanged, FoundRunning, FoundNoSignal, HasSignals, StoppedNow, SignalAnswer, StartAnswer, ParkAnswer, DeliverAnswer, is_in}

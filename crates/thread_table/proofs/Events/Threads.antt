@@ -10,7 +10,8 @@ use Rattle.event_theory.proofs.Outcomes.{changed, delivered_ok, done_ok}
 use Rattle.thread_table.specs.declared.rule.View.{View}
 use Rattle.thread_table.specs.declared.rule.Counted.{Counted}
 use Rattle.thread_table.specs.Schedules.{Grows, thread_at}
-use Rattle.thread_table.specs.Shown.{WordsShow, RingShows, StateShows, state_word, done_word, processor_word, head_word, tail_word, place_word}
+use Rattle.thread_table.specs.Layout.{processor_word, state_word, done_word, head_word, tail_word, place_word}
+use Rattle.thread_table.specs.Shown.{WordsShow, RingShows, StateShows}
 use Rattle.thread_table.specs.Rules.{HandIs, IsClaimed, IsCounted, may_step}
 use Rattle.thread_table.proofs.Events.Effects.{Leaves, Effect, Ready, StopEffect, SignalEffect, DeliverEffect, DoneEffect}
 use Rattle.thread_table.specs.Views.{quiet}

@@ -19,7 +19,8 @@ use Rattle.thread_table.specs.declared.rule.View.{View}
 use Rattle.thread_table.specs.declared.takings.NextRefusal.{NextRefusal}
 use Rattle.thread_table.specs.declared.takings.NextRefusal.TheVariants as nexts
 use Rattle.thread_table.specs.Schedules.{Course, elements_after, ring_at, ring_name, element_at, state_after}
-use Rattle.thread_table.specs.Shown.{tail_shown, tail_word}
+use Rattle.thread_table.specs.Layout.{tail_word}
+use Rattle.thread_table.specs.Shown.{tail_shown}
 use Rattle.thread_table.specs.Rules.{has}
 use Rattle.thread_table.specs.Steps.{Found, Notifies, made_by}
 use Rattle.thread_table.specs.Answers.{TookFirst, TakeAnswer, is_in, head_in}
@@ -140,31 +141,35 @@ woken_looked call ring u v w mask past now = record {
   woken = past.woken;
 }
 
--- an element that is left in a queue is in nobody's hands
-itself : (x : ℕ) → one x x ≡ 1
-itself x = grind (arith, nat_tests)
+-- a number is counted once where it is itself
+pub one_itself : (x : ℕ) → one x x ≡ 1
+one_itself x = grind (arith, nat_tests)
 
-first_counts : (element : ℕ) (items : List ℕ) → take 1 items ≡ element ∷ [] → 1 ≤ in_list element items
-first_counts element [] is = absurd (cc)
-first_counts element (x ∷ xs) is =
+-- the first of a list is in it
+pub first_in_list : (element : ℕ) (items : List ℕ) → take 1 items ≡ element ∷ [] → 1 ≤ in_list element items
+first_in_list element [] is = absurd (cc)
+first_in_list element (x ∷ xs) is =
     let e : x ≡ element = ap (λ (z : List ℕ). get_or z 0 0) is in
-    omega (arith, sum_by-cons (λ y. one y element) x xs, ap (λ y. one y element) e, itself element)
+    omega (arith, sum_by-cons (λ y. one y element) x xs, ap (λ y. one y element) e, one_itself element)
 
-nothing : (element : ℕ) (q : Queue) → q ≡ empty_queue 64 → take 1 (left q) ≡ element ∷ [] → ⊥
-nothing element q empty some = let n : ◌≡◌ {A = List ℕ} [] (element ∷ []) = ap (λ (z : Queue). take 1 (left z)) (sym empty) ∙ some in cc
+-- an empty queue has no first
+pub first_of_empty : (element : ℕ) (q : Queue) → q ≡ empty_queue 64 → take 1 (left q) ≡ element ∷ [] → ⊥
+first_of_empty element q empty some = let n : ◌≡◌ {A = List ℕ} [] (element ∷ []) = ap (λ (z : Queue). take 1 (left z)) (sym empty) ∙ some in cc
 
-in_ring : (element ring : ℕ) (e : Elements) → take 1 (left (ring_at e ring)) ≡ element ∷ [] → 1 ≤ sum_by (λ q. in_list element (left q)) e.rings
-in_ring element ring e is = by (cases_lt ring (length e.rings))
+-- the first element of a queue stands in a queue
+pub first_in_rings : (element ring : ℕ) (e : Elements) → take 1 (left (ring_at e ring)) ≡ element ∷ [] → 1 ≤ sum_by (λ q. in_list element (left q)) e.rings
+first_in_rings element ring e is = by (cases_lt ring (length e.rings))
   where
     by : (ring < length e.rings) ⊎ (length e.rings ≤ ring) → 1 ≤ sum_by (λ q. in_list element (left q)) e.rings
-    by (inl below) = omega (arith, first_counts element (left (ring_at e ring)) is, get_or-le-sum_by (λ q. in_list element (left q)) e.rings ring (empty_queue 64) below)
-    by (inr past) = absurd (nothing element (ring_at e ring) (get_or-eq_default e.rings (empty_queue 64) past) is)
+    by (inl below) = omega (arith, first_in_list element (left (ring_at e ring)) is, get_or-le-sum_by (λ q. in_list element (left q)) e.rings ring (empty_queue 64) below)
+    by (inr past) = absurd (first_of_empty element (ring_at e ring) (get_or-eq_default e.rings (empty_queue 64) past) is)
 
+-- an element that is first in a queue is in nobody's hands
 first_unheld : (call element ring : ℕ) (e : Elements) → IsLawfulElements e → take 1 (left (ring_at e ring)) ≡ element ∷ [] → holds call element e ≡ false
 first_unheld call element ring e lawful is = unheld call element e.held (by (cases_lt element (length e.threads)))
   where
     by : (element < length e.threads) ⊎ (length e.threads ≤ element) → in_hands element e.held ≡ 0
-    by (inl below) = let o : appearances element e ≡ 1 = lawful.once element below in omega (arith, o, in_ring element ring e is)
+    by (inl below) = let o : appearances element e ≡ 1 = lawful.once element below in omega (arith, o, first_in_rings element ring e is)
     by (inr past) = let o : appearances element e ≡ 0 = lawful.known element past in omega (arith, o)
 
 -- what a hand that took had looked at

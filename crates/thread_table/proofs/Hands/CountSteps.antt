@@ -13,7 +13,8 @@ use Rattle.thread_table.specs.declared.rule.Shape.{Shape}
 use Rattle.thread_table.specs.declared.rule.View.{View}
 use Rattle.thread_table.specs.declared.rule.Counted.{Counted}
 use Rattle.thread_table.specs.Schedules.{elements_after, ring_at, thread_at}
-use Rattle.thread_table.specs.Shown.{WordsShow, RingShows, StateShows, PlaceShows, processor_word, state_word, done_word, head_word, tail_word, place_word}
+use Rattle.thread_table.specs.Layout.{processor_word, state_word, done_word, head_word, tail_word, place_word}
+use Rattle.thread_table.specs.Shown.{WordsShow, RingShows, StateShows, PlaceShows}
 use Rattle.thread_table.specs.Joins.{uncounted}
 use Rattle.thread_table.proofs.Schedule.JoinEvents.{joined_set, none_uncounted, one_uncounted}
 use Rattle.thread_table.specs.Rules.{IsActive, HandIs, IsCounted, Rule, MayStep, IsIdle, member_of, may_step}

@@ -12,7 +12,8 @@ use Rattle.event_theory.proofs.Keeping.Joins.{slice_get_joined}
 use Rattle.thread_table.specs.declared.rule.Claimed.{Claimed}
 use Rattle.thread_table.specs.declared.rule.Counted.{Counted}
 use Rattle.thread_table.specs.Schedules.{ring_at, element_of, no_run, QueueGrows, Grows}
-use Rattle.thread_table.specs.Shown.{WordsShow, RingShows, PlaceShows, place_word, processor_shown, mark_of}
+use Rattle.thread_table.specs.Layout.{place_word}
+use Rattle.thread_table.specs.Shown.{WordsShow, RingShows, PlaceShows, processor_shown, mark_of}
 use Rattle.thread_table.specs.Rules.{IsClaimed, IsCounted, IsOpen, may_step}
 
 cond_same : (b : Bool) (n : ℕ) → cond b n n ≡ n

@@ -98,50 +98,50 @@ range_at a zero r v at = absurd (some-ne-none v (sym at))
 range_at a (suc n) zero v at = let e = some-injective a v at in omega arith
 range_at a (suc n) (suc r) v at = let h = range_at (a + 1) n r v at in omega arith
 
-same_done : (ts : List Thread) (x : ℕ) → (get_or ts x new_thread).done ≡ done_in (slice_get ts x)
-same_done [] x = refl
-same_done (t ∷ ts) zero = refl
-same_done (t ∷ ts) (suc x) = same_done ts x
+-- how many steps a thread has done, by its number, in two readings
+pub thread_done : (ts : List Thread) (x : ℕ) → (get_or ts x new_thread).done ≡ done_in (slice_get ts x)
+thread_done [] x = refl
+thread_done (t ∷ ts) zero = refl
+thread_done (t ∷ ts) (suc x) = thread_done ts x
 
 -- an event counts no step of the element, or it is no join and has the number that it found
-abbrev Kind : ℕ → Event → Type 0
-Kind x event = (is_done x event ≡ false) ⊎ ((is_done x event ≡ true) × (is_join event ≡ false) × ((s : State) → number_of event s ≡ done_of x s))
+abbrev pub DoneKind : ℕ → Event → Type 0
+DoneKind x event = (is_done x event ≡ false) ⊎ ((is_done x event ≡ true) × (is_join event ≡ false) × ((s : State) → number_of event s ≡ done_of x s))
 
-kind : (x : ℕ) (event : Event) → Kind x event
-kind x (events.Done call e) = ⊎_elim
-    (λ same. inr (same.0, refl, λ s. ap (λ (k : ℕ). (thread_at s.elements k).done) same.1 ∙ same_done s.elements.threads x))
+pub done_kind : (x : ℕ) (event : Event) → DoneKind x event
+done_kind x (events.Done call e) = ⊎_elim
+    (λ same. inr (same.0, refl, λ s. ap (λ (k : ℕ). (thread_at s.elements k).done) same.1 ∙ thread_done s.elements.threads x))
     (λ differ. inl differ.0)
     (eqb_tells e x)
-kind x event = inl refl
+done_kind x event = inl refl
 
-abbrev counts : ℕ → Made → Bool
-counts x m = is_done x m.event
+-- an event of a list counts a step of the element
+abbrev pub counts_step : ℕ → Made → Bool
+counts_step x m = is_done x m.event
 
 -- the numbers of an element's steps, as its events gave them
-done_list : (x : ℕ) (s : State) (es : List Event) → map (λ (m : Made). m.number + 1) (filter (counts x) (numbered s es)) ≡ done_numbers x (moves s es)
-done_list x s [] = refl
-done_list x s (event ∷ es) =
+pub numbers_counted : (x : ℕ) (s : State) (es : List Event) → map (λ (m : Made). m.number + 1) (filter (counts_step x) (numbered s es)) ≡ done_numbers x (moves s es)
+numbers_counted x s [] = refl
+numbers_counted x s (event ∷ es) =
     let t : State = result_unwrap_or (step event s) s in
     let m : Made = made_in event s in
     let n : List Made = numbered t es in
-    let ih = done_list x t es in
+    let ih = numbers_counted x t es in
     ⊎_elim
-    (λ isnt. ap (map (λ (m : Made). m.number + 1)) (drop_it (counts x) m n (is_join event) isnt) ∙ (ih
+    (λ isnt. ap (map (λ (m : Made). m.number + 1)) (drop_it (counts_step x) m n (is_join event) isnt) ∙ (ih
     ∙ sym (ap (map _) (drop_it (λ move. is_done x move.0) (event, s) (moves t es) false isnt))))
-    (λ is. ap (λ (b : Bool). map (λ (m : Made). m.number + 1) (filter (counts x) (if b then n else (m ∷ n)))) is.1
-    ∙ (ap (map (λ (m : Made). m.number + 1)) (keep_it (counts x) m n is.0)
+    (λ is. ap (λ (b : Bool). map (λ (m : Made). m.number + 1) (filter (counts_step x) (if b then n else (m ∷ n)))) is.1
+    ∙ (ap (map (λ (m : Made). m.number + 1)) (keep_it (counts_step x) m n is.0)
     ∙ ((λ k. (is.2 s k + 1) ∷ ih k) ∙ sym (ap (map _) (keep_it (λ move. is_done x move.0) (event, s) (moves t es) is.0)))))
-    (kind x event)
+    (done_kind x event)
 
-all_numbers : (past : List Event) → IsAllowed past → (x : ℕ) → (d : ℕ) × (map (λ (m : Made). m.number + 1) (filter (counts x) (numbered begun past)) ≡ range_with_len 1 d)
+-- the numbers of an element's steps are 1, 2, and so on up to its steps done
+pub numbers_are : (past : List Event) → IsAllowed past → (x : ℕ) → map (λ (m : Made). m.number + 1) (filter (counts_step x) (numbered begun past)) ≡ range_with_len 1 (done_of x (state_after past))
 unfolding IsAllowed begun
-all_numbers past allowed x =
-    let a : IsAccounted (first_state 64) past (state_after past) = account_law 64 past (state_after past) allowed in
-    (done_of x (state_after past), done_list x (first_state 64) past ∙ a.done x)
+numbers_are past allowed x = let a : IsAccounted (first_state 64) past (state_after past) = account_law 64 past (state_after past) allowed in numbers_counted x (first_state 64) past ∙ a.done x
 
-numbers_are : (past : List Event) → IsAllowed past → (x : ℕ) → map (λ (m : Made). m.number + 1) (filter (counts x) (numbered begun past)) ≡ range_with_len 1 (done_of x (state_after past))
-unfolding IsAllowed begun
-numbers_are past allowed x = let a : IsAccounted (first_state 64) past (state_after past) = account_law 64 past (state_after past) allowed in done_list x (first_state 64) past ∙ a.done x
+all_numbers : (past : List Event) → IsAllowed past → (x : ℕ) → (d : ℕ) × (map (λ (m : Made). m.number + 1) (filter (counts_step x) (numbered begun past)) ≡ range_with_len 1 d)
+all_numbers past allowed x = (done_of x (state_after past), numbers_are past allowed x)
 
 filter_more : {A : Type 0} (p : A → Bool) (xs ys : List A) → filter p (xs ++ ys) ≡ filter p xs ++ filter p ys
 filter_more p [] ys = refl
@@ -152,7 +152,7 @@ filter_more p (x ∷ xs) ys = by (p x) x (filter p (xs ++ ys)) (filter p xs) (fi
     by false x a c d e = e
 
 done_is : (past : List Event) (x : ℕ) → done_at past x ≡ done_of x (state_after past)
-done_is past x = ap (λ (z : Elements). (thread_at z x).done) (elements_of past) ∙ same_done (state_after past).elements.threads x
+done_is past x = ap (λ (z : Elements). (thread_at z x).done) (elements_of past) ∙ thread_done (state_after past).elements.threads x
 
 -- what more events give stands behind what the first gave
 numbered_on : (s : State) (past rest : List Event) → numbered s (past ++ rest) ≡ numbered s past ++ numbered (after s past) rest
@@ -171,13 +171,13 @@ unfolding state_after
 done_grows past events b new x =
     let old : IsAllowed past = allowed_before past events b new in
     let f : Made → ℕ = λ m. m.number + 1 in
-    let first : length (map f (filter (counts x) (numbered begun past))) ≡ done_at past x =
+    let first : length (map f (filter (counts_step x) (numbered begun past))) ≡ done_at past x =
     ap length (numbers_are past old x) ∙ (length-range_with_len 1 (done_of x (state_after past)) ∙ sym (done_is past x)) in
-    let all : length (map f (filter (counts x) (numbered begun events))) ≡ done_at events x =
+    let all : length (map f (filter (counts_step x) (numbered begun events))) ≡ done_at events x =
     ap length (numbers_are events new x) ∙ (length-range_with_len 1 (done_of x (state_after events)) ∙ sym (done_is events x)) in
-    let more : filter (counts x) (numbered begun events) ≡ filter (counts x) (numbered begun past) ++ filter (counts x) (numbered (after begun past) b.0) =
-    ap (λ (z : List Event). filter (counts x) (numbered begun z)) (sym b.1) ∙ (ap (filter (counts x)) (numbered_on begun past b.0) ∙ filter_more (counts x) (numbered begun past) (numbered (after begun past) b.0)) in
-    let l = more_length (filter (counts x) (numbered begun past)) (filter (counts x) (numbered (after begun past) b.0)) f in
+    let more : filter (counts_step x) (numbered begun events) ≡ filter (counts_step x) (numbered begun past) ++ filter (counts_step x) (numbered (after begun past) b.0) =
+    ap (λ (z : List Event). filter (counts_step x) (numbered begun z)) (sym b.1) ∙ (ap (filter (counts_step x)) (numbered_on begun past b.0) ∙ filter_more (counts_step x) (numbered begun past) (numbered (after begun past) b.0)) in
+    let l = more_length (filter (counts_step x) (numbered begun past)) (filter (counts_step x) (numbered (after begun past) b.0)) f in
     let m = ap (λ (z : List Made). length (map f z)) more in
     omega arith
 
@@ -186,9 +186,9 @@ pub kept_done : (past : List Event) (event : Event) (x : ℕ) → IsAllowed past
 kept_done past event x old new isnt =
     let f : Made → ℕ = λ m. m.number + 1 in
     let m : Made = made_in event (state_after past) in
-    let more : filter (counts x) (numbered begun (past ++ event ∷ [])) ≡ filter (counts x) (numbered begun past) =
-    ap (filter (counts x)) (behind past event) ∙ (filter_more (counts x) (numbered begun past) (if is_join event then [] else (m ∷ []))
-    ∙ (ap (λ zs. filter (counts x) (numbered begun past) ++ zs) (drop_it (counts x) m [] (is_join event) isnt) ∙ append-nil (filter (counts x) (numbered begun past)))) in
+    let more : filter (counts_step x) (numbered begun (past ++ event ∷ [])) ≡ filter (counts_step x) (numbered begun past) =
+    ap (filter (counts_step x)) (behind past event) ∙ (filter_more (counts_step x) (numbered begun past) (if is_join event then [] else (m ∷ []))
+    ∙ (ap (λ zs. filter (counts_step x) (numbered begun past) ++ zs) (drop_it (counts_step x) m [] (is_join event) isnt) ∙ append-nil (filter (counts_step x) (numbered begun past)))) in
     let same : range_with_len 1 (done_of x (state_after (past ++ event ∷ []))) ≡ range_with_len 1 (done_of x (state_after past)) =
     sym (numbers_are (past ++ event ∷ []) new x) ∙ (ap (map f) more ∙ numbers_are past old x) in
     let long : done_of x (state_after (past ++ event ∷ [])) ≡ done_of x (state_after past) =
@@ -201,9 +201,9 @@ did_keeps call v word found event knows w x isnt d = ap (λ (z : View). done_at 
 
 -- two events that count steps of one element, one behind the other, count different ones
 apart : (past : List Event) → IsAllowed past → (k j x : ℕ) (a b : Made) → get_elem? (numbered begun past) k ≡ some a → get_elem? (numbered begun past) j ≡ some b
-    → counts x a ≡ true → counts x b ≡ true → k < j → a.number ≡ b.number → ⊥
+    → counts_step x a ≡ true → counts_step x b ≡ true → k < j → a.number ≡ b.number → ⊥
 apart past allowed k j x a b at at' up up' low same =
-    let r = ranks (counts x) (numbered begun past) k j a b at at' up up' low in
+    let r = ranks (counts_step x) (numbered begun past) k j a b at at' up up' low in
     let n = all_numbers past allowed x in
     let f : Made → ℕ = λ m. m.number + 1 in
     let one : a.number + 1 ≡ 1 + r.first = range_at 1 n.0 r.first (a.number + 1) (subst (λ (z : List ℕ). get_elem? z r.first ≡ some (a.number + 1)) n.1 (at_map f _ r.first a r.at)) in
@@ -232,8 +232,8 @@ steps_once past l allowed m = record {
       let f : Made → ℕ = λ m. m.number + 1 in
       let few : n < done_of x (state_after past) = subst (λ (k : ℕ). n < k) (done_is past x) below in
       let there = subst (λ (z : List ℕ). get_elem? z n ≡ some (1 + n)) (sym (numbers_are past allowed x)) (range_has 1 (done_of x (state_after past)) n few) in
-      let a = at_map_back f (filter (counts x) (numbered begun past)) n (1 + n) there in
-      let k = unrank (counts x) (numbered begun past) n a.0 a.1 in
+      let a = at_map_back f (filter (counts_step x) (numbered begun past)) n (1 + n) there in
+      let k = unrank (counts_step x) (numbered begun past) n a.0 a.1 in
       let o = at_map_back entry_of m.log k.0 a.0 (subst (λ (z : List Made). get_elem? z k.0 ≡ some a.0) (sym m.logged) k.1) in
       let s = m.listed.stands k.0 o.0 o.1 in
       let same : a.0.number + 1 ≡ 1 + n = a.2 in

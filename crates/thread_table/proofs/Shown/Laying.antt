@@ -4,7 +4,7 @@ use Rattle.std.proofs.lemmas.Bool.{cases_lt}
 use Rattle.std.proofs.lemmas.List.{length-replicate}
 use Rattle.atomic_table.specs.Table.{opening}
 use Rattle.thread_table.specs.declared.rule.Shape.{Shape}
-use Rattle.thread_table.specs.Shown.{head_word, tail_word}
+use Rattle.thread_table.specs.Layout.{head_word, tail_word}
 use Rattle.thread_table.specs.Laid.{RingsLaid, ItemsLaid}
 use Rattle.thread_table.specs.Rules.{Rule, newcomer}
 use Rattle.thread_table.proofs.Shown.Opening.{opens}

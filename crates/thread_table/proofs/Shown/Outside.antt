@@ -3,7 +3,8 @@ use Rattle.std.proofs.Common.{◌≡◌, ℕ, zero, suc, ◌+◌, ◌*◌, ◌<�
 use Rattle.event_theory.specs.Elements.{Elements, Thread}
 use Rattle.event_theory.specs.declared.hold.Hold.{Hold}
 use Rattle.thread_table.specs.Schedules.{Grows, ring_at}
-use Rattle.thread_table.specs.Shown.{RingShows, PlaceShows, head_word, tail_word, place_word, mark_of}
+use Rattle.thread_table.specs.Layout.{head_word, tail_word, place_word}
+use Rattle.thread_table.specs.Shown.{RingShows, PlaceShows, mark_of}
 
 -- other threads, processors and holds
 abbrev pub with_parts : Elements → List Thread → List (Option Hold) → List Hold → Elements

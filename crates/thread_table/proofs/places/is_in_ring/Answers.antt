@@ -1,7 +1,7 @@
 use Rattle.std.proofs.Common.{arith, ap, sym, ◌≢◌, ◌≤◌, ◌%◌, ◌∙◌, ℕ}
 use Rattle.std.specs.Mem.Slots.{slots_items}
 use Rattle.thread_table.specs.Closings.{word_at}
-use Rattle.thread_table.specs.Shown.{place_word}
+use Rattle.thread_table.specs.Layout.{place_word}
 use Rattle.thread_table.proofs.Closing.Locating.{read_there, below_next, found_in, not_in}
 use Rattle.thread_table.proofs.places.is_in_ring.Goals as goal
 

@@ -1,5 +1,5 @@
 use Rattle.std.proofs.Common.{rules, refl, arith, ◌+◌, ◌≡◌}
-use Rattle.thread_table.specs.Shown.{tail_word}
+use Rattle.thread_table.specs.Layout.{tail_word}
 use Rattle.thread_table.proofs.Events.QueueSteps.{takes_tail, found_at, found_tail}
 use Rattle.thread_table.proofs.steps.exchange_tail.Goals as goal
 

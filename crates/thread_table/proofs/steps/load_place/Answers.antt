@@ -1,5 +1,5 @@
 use Rattle.std.proofs.Common.{ℕ, ap, ◌∙◌}
-use Rattle.thread_table.specs.Shown.{place_word}
+use Rattle.thread_table.specs.Layout.{place_word}
 use Rattle.thread_table.proofs.Events.QueueSteps.{found_at, found_place}
 use Rattle.thread_table.proofs.steps.load_place.Goals as goal
 

@@ -1,5 +1,5 @@
 use Rattle.std.proofs.Common.{◌≡◌, ◌+◌, arith}
-use Rattle.thread_table.specs.Shown.{tail_word}
+use Rattle.thread_table.specs.Layout.{tail_word}
 use Rattle.thread_table.proofs.Events.QueueSteps.{found_at, found_tail, small_tail}
 use Rattle.thread_table.proofs.steps.load_tail.Goals as goal
 

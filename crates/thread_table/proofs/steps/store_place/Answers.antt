@@ -1,5 +1,5 @@
 use Rattle.std.proofs.Common.{rules, ◌∙◌, ap, sym, ℕ}
-use Rattle.thread_table.specs.Shown.{place_word}
+use Rattle.thread_table.specs.Layout.{place_word}
 use Rattle.thread_table.proofs.Events.QueueSteps.{raises_place}
 use Rattle.thread_table.proofs.steps.store_place.Goals as goal
 

@@ -8,27 +8,27 @@ use Rattle.thread_table.proofs.Events.Answering.{found_in, was_spent, moved_befo
 use Rattle.thread_table.proofs.hand.ThreadTable.try_wait_at.Goals as goal
 
 pub returns-then-head-clause-moved : goal.returns-then-head-clause-moved
-returns-then-head-clause-moved c = let q = c.number-queue.ensures in let known : c.args.wait < 16 = search rules in let ring : c.of_wait-ring.result ≡ c.args.wait + 2 = c.of_wait-ring.ensures.0 ∙ ap (λ (n : ℕ). n + 2) q.value in
+returns-then-head-clause-moved c = let q = c.number-queue.ensures in let known : c.args.wait < 16 = search rules in let ring : c.wait_ring-ring.result ≡ c.args.wait + 2 = c.wait_ring-ring.ensures.0 ∙ ap (λ (n : ℕ). n + 2) q.value in
     was_spent _ _ (c.args.wait + 2) _ c.of-head.result.head c.of-head.result.mark (omega arith) (found_in ring c.load_head-word.ensures.found) c.of-head.ensures.0 c.of-head.ensures.1 c.if-head.true
 
 pub returns-then-mark-ticket-clause-moved : goal.returns-then-mark-ticket-clause-moved
-returns-then-mark-ticket-clause-moved c = let q = c.number-queue.ensures in let ring : c.of_wait-ring.result ≡ c.args.wait + 2 = c.of_wait-ring.ensures.0 ∙ ap (λ (n : ℕ). n + 2) q.value in
+returns-then-mark-ticket-clause-moved c = let q = c.number-queue.ensures in let ring : c.wait_ring-ring.result ≡ c.args.wait + 2 = c.wait_ring-ring.ensures.0 ∙ ap (λ (n : ℕ). n + 2) q.value in
     inl (moved_before _ _ c.args.wait _ _ c.of-head.result.head c.of-head.result.mark (found_in ring c.load_head-word.ensures.found) c.of-head.ensures.0 c.of-head.ensures.1 c.if-head.false c.if-mark-ticket.true)
 
 pub returns-then-now-ticket-clause-moved : goal.returns-then-now-ticket-clause-moved
-returns-then-now-ticket-clause-moved c = let q = c.number-queue.ensures in let ring : c.of_wait-ring.result ≡ c.args.wait + 2 = c.of_wait-ring.ensures.0 ∙ ap (λ (n : ℕ). n + 2) q.value in let e = c.exchange_head_at-found.ensures.miss c.if-found-word.true in
+returns-then-now-ticket-clause-moved c = let q = c.number-queue.ensures in let ring : c.wait_ring-ring.result ≡ c.args.wait + 2 = c.wait_ring-ring.ensures.0 ∙ ap (λ (n : ℕ). n + 2) q.value in let e = c.exchange_head_at-found.ensures.miss c.if-found-word.true in
     inr (moved_meanwhile _ _ _ c.args.wait _ _ c.of-head.result.head c.of-head.result.mark _ c.of-now.result.head c.of-now.result.mark (found_in ring c.load_head-word.ensures.found) c.of-head.ensures.0 c.of-head.ensures.1 c.if-head.false c.if-mark-ticket.false
     (found_in (ap (λ (n : ℕ). n + 2) q.value) e.0) c.of-now.ensures.0 c.of-now.ensures.1 c.if-now-ticket.true)
 
 pub returns-then-found-word-clause-moved : goal.returns-then-found-word-clause-moved
-returns-then-found-word-clause-moved c = let q = c.number-queue.ensures in let ring : c.of_wait-ring.result ≡ c.args.wait + 2 = c.of_wait-ring.ensures.0 ∙ ap (λ (n : ℕ). n + 2) q.value in let e = c.exchange_head_at-found.ensures.miss c.if-found-word.true in
+returns-then-found-word-clause-moved c = let q = c.number-queue.ensures in let ring : c.wait_ring-ring.result ≡ c.args.wait + 2 = c.wait_ring-ring.ensures.0 ∙ ap (λ (n : ℕ). n + 2) q.value in let e = c.exchange_head_at-found.ensures.miss c.if-found-word.true in
     overtaken_at _ _ _ c.args.wait _ _ c.of-head.result.head c.of-head.result.mark _ c.of-now.result.head c.of-now.result.mark (found_in ring c.load_head-word.ensures.found) c.of-head.ensures.0 c.of-head.ensures.1 c.if-head.false c.if-mark-ticket.false
     (found_in (ap (λ (n : ℕ). n + 2) q.value) e.0) c.if-found-word.true c.of-now.ensures.0 c.of-now.ensures.1 c.if-now-ticket.false
 
 pub raise-requires-clause-claimed : goal.raise-requires-clause-claimed
 raise-requires-clause-claimed c = let x = c.exchange_head_at-found in let m = x.new.seat.me.0 in let within = c.number-queue.ensures.within in
     (claim_known _ (c.number-queue.result + 2) _ _ _ c.of-head.result.head c.of-head.result.mark _ _ (omega arith) (x.ensures.hit c.if-found-word.false) c.of-head.ensures.0 c.of-head.ensures.1).0
-    ∙ ap (λ (n : ℕ). Some (claim_of n (c.of-head.result.head - m.first) c.number-number.result)) (sym c.of_wait-ring.ensures.0)
+    ∙ ap (λ (n : ℕ). Some (claim_of n (c.of-head.result.head - m.first) c.number-number.result)) (sym c.wait_ring-ring.ensures.0)
 
 pub raise-requires-clause-position : goal.raise-requires-clause-position
 raise-requires-clause-position c = let within = c.number-queue.ensures.within in (
@@ -38,7 +38,7 @@ raise-requires-clause-position c = let within = c.number-queue.ensures.within in
 
 pub invariant_of-hand-2 : goal.invariant_of-hand-2
 invariant_of-hand-2 c = let a = c.load_head-word.ensures in let x = c.exchange_head_at-found in let s = c.raise.ensures in let id = a.queue.0.1 in let id' = x.ensures.queue.0.1 ∙ id in let n = c.number-number.ensures in
-    let q = c.number-queue.ensures in let ring : c.of_wait-ring.result ≡ c.args.wait + 2 = c.of_wait-ring.ensures.0 ∙ ap (λ (n : ℕ). n + 2) q.value in
+    let q = c.number-queue.ensures in let ring : c.wait_ring-ring.result ≡ c.args.wait + 2 = c.wait_ring-ring.ensures.0 ∙ ap (λ (n : ℕ). n + 2) q.value in
     let h = c.args.hand.now in let v = c.load_head-word.new.seat.me.0 in let m = x.new.seat.me.0 in let w = c.raise.new.seat.me.0 in
     let claims = transport (λ i. Claims (id i) (q.value i + 2) (n.value i) (events.WaitAt (id i) (q.value i) (n.value i) c.args.ticket) c.load_head-word.result v m) (x.ensures.hit c.if-found-word.false) in
     let raises = transport (λ i. Raises (id' i) (ring i) (c.of-head.result.head - m.first) (n.value i) m w) s.raised in
@@ -55,7 +55,7 @@ invariant_of-hand-2 c = let a = c.load_head-word.ensures in let x = c.exchange_h
 
 pub returns-clause-moved : goal.returns-clause-moved
 returns-clause-moved c = let a = c.load_head-word.ensures in let x = c.exchange_head_at-found in let s = c.raise.ensures in let id = a.queue.0.1 in let id' = x.ensures.queue.0.1 ∙ id in let n = c.number-number.ensures in
-    let q = c.number-queue.ensures in let ring : c.of_wait-ring.result ≡ c.args.wait + 2 = c.of_wait-ring.ensures.0 ∙ ap (λ (n : ℕ). n + 2) q.value in
+    let q = c.number-queue.ensures in let ring : c.wait_ring-ring.result ≡ c.args.wait + 2 = c.wait_ring-ring.ensures.0 ∙ ap (λ (n : ℕ). n + 2) q.value in
     let v = c.load_head-word.new.seat.me.0 in let m = x.new.seat.me.0 in let w = c.raise.new.seat.me.0 in
     let claims = transport (λ i. Claims (id i) (q.value i + 2) (n.value i) (events.WaitAt (id i) (q.value i) (n.value i) c.args.ticket) c.load_head-word.result v m) (x.ensures.hit c.if-found-word.false) in
     let raises = transport (λ i. Raises (id' i) (ring i) (c.of-head.result.head - m.first) (n.value i) m w) s.raised in

@@ -1,0 +1,72 @@
+-- Where the words of the table stand, how many there are of each kind, and the marks in them. The numbers are the code's.
+-- An element queue is called a ring: the ready ring, that of the free elements, or that of a wait queue.
+use Rattle.std.specs.Prelude.{ℕ, ◌+◌, ◌*◌, ◌%◌}
+use Rattle.thread_table.specs.declared.layout.TheConstants.{PLACES, ENDS, READY, FREE}
+pub use Rattle.event_theory.specs.Marks.{wait_ring}
+pub use Rattle.table_theory.specs.declared.positions.TheConstants.{POSITIONS}
+pub use Rattle.thread_table.specs.declared.layout.TheConstants.{WORDS, PROCESSORS, ELEMENTS, RINGS, PLACES, WAITS}
+pub use Rattle.thread_table.specs.declared.layout.TheConstants.{NOTIFY, STOP, CELL, SIGNAL_BITS, STOP_BITS}
+
+-- the word with the number of hands
+abbrev pub ends_word : ℕ
+ends_word = ENDS
+
+-- the word of a processor
+abbrev pub processor_word : ℕ → ℕ
+processor_word processor = processor + 1
+
+-- the state word of an element
+abbrev pub state_word : ℕ → ℕ
+state_word element = element + 9
+
+-- the word with an element's steps done
+abbrev pub done_word : ℕ → ℕ
+done_word element = element + 73
+
+-- the head word of a ring
+abbrev pub head_word : ℕ → ℕ
+head_word ring = 66 * ring + 137
+
+-- the tail word of a ring
+abbrev pub tail_word : ℕ → ℕ
+tail_word ring = 66 * ring + 138
+
+-- the first place word of a ring
+abbrev pub places_word : ℕ → ℕ
+places_word ring = 66 * ring + 139
+
+-- the place word of a position of a ring
+abbrev pub place_word : ℕ → ℕ → ℕ
+place_word ring position = places_word ring + position % PLACES
+
+-- the ready ring's number
+abbrev pub ready_ring : ℕ
+ready_ring = READY
+
+-- the number of the free elements' ring
+abbrev pub free_ring : ℕ
+free_ring = FREE
+
+-- the stop bit's number in a state word
+abbrev pub stop_bit : ℕ
+stop_bit = 16
+
+-- the number of the stop cell's bit in a state word
+abbrev pub cell_bit : ℕ
+cell_bit = 17
+
+-- what half a word holds is below this
+abbrev pub half_word : ℕ
+half_word = 4294967296
+
+-- the head of a ring that has no position left
+abbrev pub last_head : ℕ
+last_head = 4294967295
+
+-- the last of the first positions of a table: the free elements stand behind it
+abbrev pub last_first : ℕ
+last_first = 4294967231
+
+-- the most steps that an element can have done
+abbrev pub most_done : ℕ
+most_done = 4294967295

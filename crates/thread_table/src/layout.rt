@@ -1,0 +1,95 @@
+//! Where the words of the table stand, how many there are of each kind, and the marks in them.
+//!
+//! The first word has the number of hands. Behind it stand a word of each processor, a state word of each element and
+//! each element's steps done, and then the element queues, called rings here: of each its head word, its tail word and
+//! its places. A ring is the ready ring, that of the free elements, or that of a wait queue.
+ghost use Rattle.std.specs.Prelude.{◌≡◌, ◌+◌, ◌<◌};
+ghost use Rattle.thread_table.specs.Layout.{WORDS, RINGS, PROCESSORS, ELEMENTS, PLACES, WAITS, wait_ring};
+ghost use Rattle.thread_table.specs.Layout.{processor_word, state_word, done_word, head_word, place_word};
+
+/// The words of a table.
+pub(crate) const WORDS: usize = 1325;
+
+pub(crate) const PROCESSORS: usize = 8;
+
+pub(crate) const ELEMENTS: usize = 64;
+
+pub(crate) const RINGS: usize = 18;
+
+/// The places of a ring.
+pub(crate) const PLACES: u64 = 64;
+
+/// The wait queues.
+pub(crate) const WAITS: usize = 16;
+
+/// Where the number of hands stands.
+pub(crate) const ENDS: usize = 0;
+
+/// The ready ring's number.
+pub(crate) const READY: usize = 0;
+
+/// The number of the free elements' ring.
+pub(crate) const FREE: usize = 1;
+
+/// One notify in a wait queue's head word.
+pub(crate) const NOTIFY: u64 = 4_294_967_296;
+
+/// The stop bit of a state word.
+pub(crate) const STOP: u64 = 65_536;
+
+/// The stop cell's bit of a state word.
+pub(crate) const CELL: u64 = 131_072;
+
+/// The pending signals of a state word.
+pub(crate) const SIGNAL_BITS: u64 = 65_535;
+
+/// The stop bit and the stop cell's of a state word.
+pub(crate) const STOP_BITS: u64 = 196_608;
+
+/// The number of a wait queue's ring.
+pub(crate) fn wait_ring(wait: u8) -> usize
+    requires { wait < WAITS }
+    ensures { (result ≡ wait_ring wait) × (result < RINGS) }
+{
+    wait as usize + 2
+}
+
+/// Where the word of a processor stands.
+pub(crate) fn processor_word(processor: u8) -> usize
+    requires { processor < PROCESSORS }
+    ensures { (result ≡ processor_word processor) × (result < WORDS) }
+{
+    processor as usize + 1
+}
+
+/// Where the state word of an element stands.
+pub(crate) fn state_word(element: u8) -> usize
+    requires { element < ELEMENTS }
+    ensures { (result ≡ state_word element) × (result < WORDS) }
+{
+    element as usize + 9
+}
+
+/// Where the word with an element's steps done stands.
+pub(crate) fn done_word(element: u8) -> usize
+    requires { element < ELEMENTS }
+    ensures { (result ≡ done_word element) × (result < WORDS) }
+{
+    element as usize + 73
+}
+
+/// Where the head word of a ring stands. The tail word stands behind it, and behind that the places.
+pub(crate) fn head_word(ring: usize) -> usize
+    requires { ring < RINGS }
+    ensures { (result ≡ head_word ring) × (result + PLACES + 1 < WORDS) }
+{
+    66 * ring + 137
+}
+
+/// Where the place word of a position of a ring stands.
+pub(crate) fn place_word(ring: usize, position: u64) -> usize
+    requires { ring < RINGS }
+    ensures { (result ≡ place_word ring position) × (result < WORDS) }
+{
+    66 * ring + 139 + (position % PLACES) as usize
+}

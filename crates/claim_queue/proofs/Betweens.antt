@@ -19,7 +19,7 @@ use Rattle.event_theory.proofs.Lists.Histories.{length-pairs_from}
 use Rattle.table_theory.proofs.QueueOf.{flat_of, up_of, long_is, is_lawful_queue}
 use Rattle.table_theory.proofs.QueueEvents.{history_of}
 use Rattle.claim_queue.specs.declared.rule.Shape.{Shape}
-use Rattle.claim_queue.specs.Shown.{mark, data_in, flag_in}
+use Rattle.claim_queue.specs.Layout.{mark, data_in, flag_in}
 use Rattle.claim_queue.specs.Rules.{part_of, Rule}
 use Rattle.claim_queue.specs.Between.{pair_at, PlaceIs, ShowsQueue}
 use Rattle.claim_queue.proofs.Looks.{St}

@@ -18,7 +18,8 @@ use Rattle.table_theory.proofs.Courses.{course_step}
 use Rattle.table_theory.proofs.Windows.{window_same, window_claim}
 use Rattle.claim_queue.specs.declared.rule.Shape.{Shape}
 use Rattle.claim_queue.specs.declared.rule.View.{View}
-use Rattle.claim_queue.specs.Shown.{mark, data_in, flag_in, WordsShow}
+use Rattle.claim_queue.specs.Layout.{mark, data_in, flag_in}
+use Rattle.claim_queue.specs.Shown.{WordsShow}
 use Rattle.table_theory.proofs.Totals.{total_kept}
 use Rattle.claim_queue.specs.Rules.{part_of, member_of, steps_of, course_of, shuts_of, IsIdle, Rule, empty}
 use Rattle.claim_queue.specs.Steps.{entry, looked, run, claimed, claims}

@@ -14,7 +14,7 @@ use Rattle.table_theory.proofs.Seeing.{sees_raised}
 use Rattle.claim_queue.specs.declared.rule.View.{View}
 use Rattle.claim_queue.specs.declared.take.TakeRefusal.{TakeRefusal}
 use Rattle.claim_queue.specs.declared.take.TakeRefusal.TheVariants.{Empty, Lost, Closed}
-use Rattle.claim_queue.specs.Shown.{mark}
+use Rattle.claim_queue.specs.Layout.{mark}
 use Rattle.claim_queue.specs.Steps.{took, Found, Took}
 use Rattle.claim_queue.specs.Reads.{HasFound}
 use Rattle.claim_queue.proofs.Staying.{stays_scanned, stays_stopped, tail_on, sees_through}

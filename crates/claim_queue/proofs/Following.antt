@@ -6,7 +6,7 @@ use Rattle.table_theory.specs.declared.queues.Batch.{Batch}
 use Rattle.table_theory.specs.Positioned.{head_of, tail_of}
 use Rattle.table_theory.proofs.Seeing.{sees_own}
 use Rattle.claim_queue.specs.declared.rule.View.{View}
-use Rattle.claim_queue.specs.Shown.{mark}
+use Rattle.claim_queue.specs.Layout.{mark}
 use Rattle.claim_queue.specs.Steps.{Found, Claimed}
 use Rattle.claim_queue.specs.Claims.{IsPast}
 use Rattle.claim_queue.specs.Answers.{FoundRoom, ClaimedItems, ShutMeanwhile, WasFull, WasLost}

@@ -12,7 +12,7 @@ use Rattle.atomic_table.proofs.Lists.{at_set, set_here, set_else, at_longer, at_
 use Rattle.table_theory.proofs.Owned.{at_below, one_at, at_behind}
 use Rattle.table_theory.proofs.Listing.{found_by_start}
 use Rattle.claim_queue.specs.declared.rule.View.{View}
-use Rattle.claim_queue.specs.Shown.{data_word, flag_word}
+use Rattle.claim_queue.specs.Layout.{data_word, flag_word}
 use Rattle.claim_queue.specs.Steps.{run, Wrote, Claimed}
 use Rattle.claim_queue.specs.Puts.{Raised}
 use Rattle.claim_queue.specs.Answers.{FoundRoom, ClaimedItems, Refused}

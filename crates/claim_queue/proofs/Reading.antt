@@ -5,7 +5,7 @@ use Rattle.table_theory.specs.Positioned.{item_at, written_at, tail_of}
 use Rattle.table_theory.specs.Windows.{spot}
 use Rattle.table_theory.proofs.Windows.{found_raised, found_not_raised}
 use Rattle.claim_queue.specs.declared.rule.View.{View}
-use Rattle.claim_queue.specs.Shown.{data_in, flag_in}
+use Rattle.claim_queue.specs.Layout.{data_in, flag_in}
 use Rattle.claim_queue.specs.Steps.{Found}
 
 module _ (v w : View) (word r position : ℕ) (s : Found v word r w) (from : v.part.queue.first ≤ position) (to : position < tail_of v.part.queue + v.part.queue.room) where

@@ -7,7 +7,7 @@ use Rattle.table_theory.specs.Positioned.{written_at, item_at, tail_of}
 use Rattle.table_theory.proofs.Positioned.{raised_below}
 use Rattle.claim_queue.specs.declared.rule.View.{View}
 use Rattle.claim_queue.specs.Reads.{HasFound}
-use Rattle.claim_queue.specs.Shown.{flag_word, data_word}
+use Rattle.claim_queue.specs.Layout.{flag_word, data_word}
 use Rattle.claim_queue.specs.Takings.{Scanned, StoppedAt, NoEnd, IsLine}
 use Rattle.claim_queue.specs.Steps.{Found}
 use Rattle.claim_queue.proofs.Emptying.{raised_still}

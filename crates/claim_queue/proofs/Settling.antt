@@ -9,7 +9,8 @@ use native.Mathlib.Decide.{dec_lt}
 use lib.ListN.{get_elem?}
 use Rattle.table_theory.specs.declared.queues.Positions.{Positions}
 use Rattle.table_theory.specs.Positioned.{blank, place_at, item_at, written_at, head_of}
-use Rattle.claim_queue.specs.Shown.{mark, WordsShow}
+use Rattle.claim_queue.specs.Layout.{data_word, flag_word, mark, data_in, flag_in}
+use Rattle.claim_queue.specs.Shown.{WordsShow}
 use Rattle.table_theory.specs.declared.queues.QueueView.{QueueView}
 use Rattle.table_theory.specs.declared.views.Member.{Member}
 use Rattle.table_theory.specs.Listing.{ViewsShow}
@@ -58,13 +59,13 @@ left_all q ws zero i h from long within = sym (ap (map shown) (drop_all i q.plac
 left_all q ws (suc n) i h from long within = let e : suc (q.first + i) ≡ q.first + (i + 1) = omega arith in
     (λ k. left_shown q ws i h from (omega arith) k ∷ (ap (λ (z : ℕ). left_from q.room ws z n) e ∙ left_all q ws n (i + 1) h (omega arith) (omega arith) within) k) ∙ sym (ap (map shown) (drop_more q.places i blank (omega arith)))
 
-pub read_some : (room : ℕ) (ws : List ℕ) (p flag x : ℕ) → get_elem? ws (room + p % room + 3) ≡ maybe.some flag → flag ≡ p + 1 → get_elem? ws (p % room + 3) ≡ maybe.some x → Some x ≡ left_at room ws p
-read_some room ws p flag x f is d = let g : ℕ = get_or ws (room + p % room + 3) 0 in let y : ℕ = get_or ws (p % room + 3) 0 in
-    ap Some (sym (read_word ws (p % room + 3) x d)) ∙ sym (ap (λ (b : Bool). if b then Some y else None) (eq-eqb g (p + 1) (read_word ws (room + p % room + 3) flag f ∙ is)))
+pub read_some : (room : ℕ) (ws : List ℕ) (p u t flag x : ℕ) → u ≡ flag_word room p → t ≡ data_word room p → get_elem? ws u ≡ maybe.some flag → flag ≡ p + 1 → get_elem? ws t ≡ maybe.some x → Some x ≡ left_at room ws p
+read_some room ws p u t flag x flag_at data_at f is d = let e : room + p % room + 3 ≡ u = omega arith in let g : ℕ = flag_in room ws (p % room) in let y : ℕ = data_in room ws (p % room) in
+    ap Some (sym (ap (λ (z : ℕ). get_or ws z 0) (sym data_at) ∙ read_word ws t x d)) ∙ sym (ap (λ (b : Bool). if b then Some y else None) (eq-eqb g (p + 1) (ap (λ (z : ℕ). get_or ws z 0) e ∙ read_word ws u flag f ∙ is)))
 
-pub read_none : (room : ℕ) (ws : List ℕ) (p flag : ℕ) → get_elem? ws (room + p % room + 3) ≡ maybe.some flag → flag ≢ p + 1 → None ≡ left_at room ws p
-read_none room ws p flag f is = let g : ℕ = get_or ws (room + p % room + 3) 0 in let y : ℕ = get_or ws (p % room + 3) 0 in
-    sym (ap (λ (b : Bool). if b then Some y else None) (ne_eqb g (p + 1) (λ e. is (sym (read_word ws (room + p % room + 3) flag f) ∙ e))))
+pub read_none : (room : ℕ) (ws : List ℕ) (p u flag : ℕ) → u ≡ flag_word room p → get_elem? ws u ≡ maybe.some flag → flag ≢ p + 1 → None ≡ left_at room ws p
+read_none room ws p u flag flag_at f is = let e : room + p % room + 3 ≡ u = omega arith in let g : ℕ = flag_in room ws (p % room) in let y : ℕ = data_in room ws (p % room) in
+    sym (ap (λ (b : Bool). if b then Some y else None) (ne_eqb g (p + 1) (λ o. is (sym (ap (λ (z : ℕ). get_or ws z 0) e ∙ read_word ws u flag f) ∙ o))))
 
 -- one more is read
 pub left_on : (room : ℕ) (ws : List ℕ) (t p : ℕ) (xs : List (Option ℕ)) (x : Option ℕ) → t ≤ p → xs ≡ left_from room ws t (p - t) → x ≡ left_at room ws p → xs ++ x ∷ [] ≡ left_from room ws t (p + 1 - t)

@@ -20,7 +20,7 @@ use Rattle.table_theory.proofs.Windows.{window_same, window_shut}
 use Rattle.claim_queue.specs.declared.rule.Shape.{Shape}
 use Rattle.claim_queue.specs.declared.rule.View.{View}
 use Rattle.claim_queue.proofs.Looks.{steps_to, sees_of}
-use Rattle.claim_queue.specs.Shown.{mark, data_in, flag_in}
+use Rattle.claim_queue.specs.Layout.{mark, data_in, flag_in}
 use Rattle.table_theory.proofs.Totals.{total_set}
 use Rattle.table_theory.specs.Sharing.{total}
 use Rattle.table_theory.specs.QueueOf.{IsEvent}

@@ -17,7 +17,8 @@ use Rattle.table_theory.proofs.Courses.{course_step}
 use Rattle.table_theory.proofs.Windows.{window_same, window_take}
 use Rattle.claim_queue.specs.declared.rule.Shape.{Shape}
 use Rattle.claim_queue.specs.declared.rule.View.{View}
-use Rattle.claim_queue.specs.Shown.{data_in, flag_in, WordsShow}
+use Rattle.claim_queue.specs.Layout.{data_in, flag_in}
+use Rattle.claim_queue.specs.Shown.{WordsShow}
 use Rattle.table_theory.proofs.Totals.{total_kept}
 use Rattle.table_theory.specs.QueueOf.{IsEvent}
 use Rattle.event_theory.specs.Queues.{take_first}

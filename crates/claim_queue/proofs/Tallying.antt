@@ -20,7 +20,8 @@ use Rattle.table_theory.proofs.Windows.{window_same}
 use Rattle.table_theory.specs.Windows.{spot}
 use Rattle.claim_queue.specs.declared.rule.Shape.{Shape}
 use Rattle.claim_queue.specs.declared.rule.View.{View}
-use Rattle.claim_queue.specs.Shown.{data_in, flag_in, WordsShow}
+use Rattle.claim_queue.specs.Layout.{data_in, flag_in}
+use Rattle.claim_queue.specs.Shown.{WordsShow}
 use Rattle.claim_queue.specs.Rules.{part_of, member_of, steps_of, course_of, shuts_of, IsIdle, Rule, empty, newcomer}
 use Rattle.claim_queue.specs.Steps.{entry, counted, counts_up, counts_down, counts, rest_of, newborn, both, emptied}
 use Rattle.claim_queue.proofs.Looks.{St, steps_to, sees_of}

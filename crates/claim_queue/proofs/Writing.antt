@@ -21,7 +21,7 @@ use Rattle.table_theory.proofs.Courses.{course_step}
 use Rattle.table_theory.proofs.Windows.{window_write}
 use Rattle.claim_queue.specs.declared.rule.Shape.{Shape}
 use Rattle.claim_queue.specs.declared.rule.View.{View}
-use Rattle.claim_queue.specs.Shown.{data_in, flag_in}
+use Rattle.claim_queue.specs.Layout.{data_in, flag_in}
 use Rattle.table_theory.proofs.Totals.{total_kept}
 use Rattle.claim_queue.specs.Rules.{part_of, member_of, steps_of, course_of, shuts_of, IsIdle, Rule, empty}
 use Rattle.claim_queue.specs.Steps.{entry, wrote, Wrote, writes, write_event}

@@ -1,10 +1,12 @@
 -- What the claims answer, by the steps that they made.
 use Rattle.std.specs.Prelude.{◌≡◌, ◌⊎◌, ◌+◌, ◌<◌, ◌≤◌, ℕ, true, List, length}
+use Rattle.table_theory.specs.declared.positions.TheConstants.{POSITIONS}
+use Rattle.claim_queue.specs.declared.layout.TheConstants.{SHUT}
 use Rattle.claim_queue.specs.declared.rule.View.{View}
 use Rattle.claim_queue.specs.declared.claim.ClaimRefusal.{ClaimRefusal}
 use Rattle.claim_queue.specs.declared.claim.ClaimRefusal.TheVariants.{NoItems, TooLong, Closed, Spent, Full, Lost}
 use Rattle.claim_queue.specs.Claims.{IsPast}
-use Rattle.claim_queue.specs.Shown.{head_word, tail_word}
+use Rattle.claim_queue.specs.Layout.{head_word, tail_word}
 use Rattle.claim_queue.specs.Steps.{Found, Claimed}
 
 -- a number of items that a run may have
@@ -17,7 +19,7 @@ pub record FoundRoom (room : ℕ) (v : View) (n head : ℕ) (w : View) : Type 0 
   pub loaded : View
   pub head_loaded : Found v head_word head loaded
   pub tail_loaded : Found loaded tail_word tail w
-  pub positions : head + n ≤ 4294967295
+  pub positions : head + n < POSITIONS
   pub fits : head + n ≤ tail + room
 
 -- The end found room, and then claimed these items by one exchange of the head that it had loaded
@@ -32,7 +34,7 @@ pub record ClaimedItems (room call : ℕ) (v : View) (head : ℕ) (items : List 
 pub record FoundShut (v w : View) : Type 0 where
   pub head : ℕ
   pub loaded : Found v head_word head w
-  pub marked : 4294967296 ≤ head
+  pub marked : SHUT ≤ head
   pub shut : w.part.queue.shut ≡ true
 
 -- the end found room, but the exchange found the shut mark
@@ -42,15 +44,15 @@ pub record ShutMeanwhile (room : ℕ) (v : View) (n : ℕ) (w : View) : Type 0 w
   pub found : FoundRoom room v n first before
   pub head : ℕ
   pub missed : Found before head_word head w
-  pub marked : 4294967296 ≤ head
+  pub marked : SHUT ≤ head
   pub shut : w.part.queue.shut ≡ true
 
 -- the head that was loaded is open, and n more would go past the last position
 pub record WasSpent (v : View) (n : ℕ) (w : View) : Type 0 where
   pub head : ℕ
   pub loaded : Found v head_word head w
-  pub is_open : head < 4294967296
-  pub spent : 4294967295 < head + n
+  pub is_open : head < SHUT
+  pub spent : POSITIONS ≤ head + n
 
 -- The head was loaded, open and with n positions left, and then the tail, with no room for n behind it. So there was
 -- none when the head was loaded
@@ -58,7 +60,7 @@ pub record WasFull (room : ℕ) (v : View) (n head tail : ℕ) (w : View) : Type
   pub loaded : View
   pub head_loaded : Found v head_word head loaded
   pub tail_loaded : Found loaded tail_word tail w
-  pub positions : head + n ≤ 4294967295
+  pub positions : head + n < POSITIONS
   pub full : tail + room < head + n
   pub was_full : loaded.part.queue.taken + room < length loaded.part.queue.places + n
 
@@ -68,7 +70,7 @@ pub record WasLost (room : ℕ) (v : View) (n head : ℕ) (w : View) : Type 0 wh
   pub before : View
   pub found : FoundRoom room v n first before
   pub missed : Found before head_word head w
-  pub is_open : head < 4294967296
+  pub is_open : head < SHUT
   pub past : first < head
 
 -- what a refused claim of n items says

@@ -5,6 +5,7 @@ use Rattle.std.specs.List.{slice_get}
 use mathlib.Core.Option.{some}
 use lib.ListN.{get_elem?}
 use Rattle.atomic_table.specs.Table.{State}
+use Rattle.table_theory.specs.declared.positions.TheConstants.{POSITIONS}
 use Rattle.table_theory.specs.declared.queues.Batch.{Batch}
 use Rattle.table_theory.specs.declared.queues.Positions.{Positions}
 use Rattle.event_theory.specs.Runs.{flat, pairs}
@@ -20,7 +21,7 @@ use Rattle.table_theory.specs.Courses.{IsCourse}
 use Rattle.table_theory.specs.Members.{EndsKnown}
 use Rattle.table_theory.specs.Sharing.{total}
 use Rattle.claim_queue.specs.Rules.{member_of, steps_of, course_of, shuts_of, IsIdle, empty}
-use Rattle.claim_queue.specs.Shown.{mark, data_in, flag_in}
+use Rattle.claim_queue.specs.Layout.{head_word, tail_word, ends_word, width, mark, data_in, flag_in}
 
 -- the pair (run, index) of the item with this number
 abbrev pub pair_at : Queue → ℕ → ℕ × ℕ
@@ -48,10 +49,10 @@ pub record IsShown (key : Shape) (s : State Unit View) (c : Queue) : Type 0 wher
   pub taken_in_order : Adjacent key.first takings
   pub taken_items : map item_of (all_places takings) ≡ take c.taken (flat c.history)
   pub capacity : c.capacity ≡ key.room
-  pub long : length s.words ≡ key.room + key.room + 3
-  pub bounded : key.first + length (flat c.history) < 4294967296
-  pub head : slice_index_or s.words 0 0 ≡ key.first + length (flat c.history) + mark c.shut
-  pub tail : slice_index_or s.words 1 0 ≡ key.first + c.taken
+  pub long : length s.words ≡ width key.room
+  pub bounded : key.first + length (flat c.history) < POSITIONS
+  pub head : slice_index_or s.words head_word 0 ≡ key.first + length (flat c.history) + mark c.shut
+  pub tail : slice_index_or s.words tail_word 0 ≡ key.first + c.taken
   pub places : (i : ℕ) → c.taken ≤ i → i < length (flat c.history) → PlaceIs c key.room s.words i (key.first + i)
 
 -- there is a lawful queue that is shown
@@ -68,6 +69,6 @@ pub record ShowsQueue (key : Shape) (s : State Unit View) : Type 0 where
   -- the ends' steps lead to it from the empty queue, and each end has seen all of them up to its own last one
   pub course : IsCourse steps_of course_of (empty key) now s.views
   -- the word has the number of the ends that stand
-  pub ends : EndsKnown member_of IsIdle (slice_index_or s.words 2 0) s.views
+  pub ends : EndsKnown member_of IsIdle (slice_index_or s.words ends_word 0) s.views
   -- one end has shut the queue where it is shut, and none where it is open
   pub shut_once : total shuts_of s.views ≡ (if queue.shut then 1 else 0)

@@ -1,12 +1,14 @@
 -- What closing a queue and shutting it answer.
 use Rattle.std.specs.Prelude.{◌≡◌, ◌+◌, ◌%◌, ◌==◌, ◌<◌, ◌≤◌, ℕ, zero, suc, Bool, List, [], ◌∷◌, Option, Some, None}
-use Rattle.std.specs.Prelude.{if◌then◌else◌, length, map, drop, slice_index_or, nat_lt}
+use Rattle.std.specs.Prelude.{if◌then◌else◌, length, map, drop, nat_lt}
 use Rattle.table_theory.specs.declared.queues.Cell.{Cell}
 use Rattle.table_theory.specs.declared.queues.Positions.{Positions}
 use Rattle.table_theory.specs.Positioned.{item_of, left_of}
 use Rattle.table_theory.specs.Listing.{ViewsShow, AllRaised}
 use Rattle.table_theory.specs.Sharing.{IsWhole}
+use Rattle.claim_queue.specs.declared.layout.TheConstants.{SHUT}
 use Rattle.claim_queue.specs.declared.rule.View.{View}
+use Rattle.claim_queue.specs.Layout.{data_in, flag_in}
 use Rattle.claim_queue.specs.Lines.{lines_put, lines_taken, IsSettled}
 use Rattle.claim_queue.specs.Rules.{times_shut}
 use Rattle.claim_queue.specs.Steps.{Shut, Tallied}
@@ -15,12 +17,11 @@ use Rattle.claim_queue.specs.Steps.{Shut, Tallied}
 pub record ShutNow (call : ℕ) (v : View) (was_open : Bool) (w : View) : Type 0 where
   pub found : ℕ
   pub shut : Shut call v found w
-  pub answer : was_open ≡ nat_lt found 4294967296
+  pub answer : was_open ≡ nat_lt found SHUT
 
 -- what is read at the position p, where the flags stand behind the room's data words
 abbrev pub left_at : ℕ → List ℕ → ℕ → Option ℕ
-left_at room words p = if slice_index_or words (room + p % room + 3) 0 == p + 1 then Some (slice_index_or words
-    (p % room + 3) 0) else None
+left_at room words p = if flag_in room words (p % room) == p + 1 then Some (data_in room words (p % room)) else None
 
 -- the n positions from p on
 abbrev pub left_from : ℕ → List ℕ → ℕ → ℕ → List (Option ℕ)

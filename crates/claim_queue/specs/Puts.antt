@@ -5,7 +5,7 @@ use Rattle.table_theory.specs.Listing.{number_of}
 use Rattle.claim_queue.specs.declared.rule.View.{View}
 use Rattle.claim_queue.specs.declared.claim.ClaimRefusal.{ClaimRefusal}
 use Rattle.claim_queue.specs.declared.claim.ClaimRefusal.TheVariants.{Lost}
-use Rattle.claim_queue.specs.Shown.{data_word, flag_word}
+use Rattle.claim_queue.specs.Layout.{data_word, flag_word}
 use Rattle.claim_queue.specs.Steps.{Wrote}
 use Rattle.claim_queue.specs.Answers.{ClaimedItems, Refused, WasLost}
 

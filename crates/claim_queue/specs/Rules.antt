@@ -12,6 +12,7 @@ use Rattle.table_theory.specs.Sharing.{total}
 use Rattle.atomic_table.specs.Table.{State}
 use Rattle.claim_queue.specs.declared.rule.Shape.{Shape}
 use Rattle.claim_queue.specs.declared.rule.View.{View}
+use Rattle.claim_queue.specs.Layout.{ends_word}
 use Rattle.claim_queue.specs.Shown.{WordsShow}
 
 abbrev pub part_of : View → QueueView
@@ -49,7 +50,7 @@ pub record Rule (key : Shape) (s : State Unit View) : Type 0 where
   pub shows : WordsShow queue s.words
   pub listed : ViewsShow queue (map part_of s.views)
   pub shut_once : total shuts_of s.views ≡ times_shut queue
-  pub ends : EndsKnown member_of IsIdle (slice_index_or s.words 2 0) s.views
+  pub ends : EndsKnown member_of IsIdle (slice_index_or s.words ends_word 0) s.views
   pub course : IsCourse steps_of course_of (empty key) queue s.views
 
 -- what the first end of a queue knows

@@ -20,7 +20,8 @@ use Rattle.table_theory.specs.Members as members
 use Rattle.table_theory.specs.declared.views.Entry.{Entry}
 use Rattle.table_theory.specs.declared.views.Member.{Member}
 use Rattle.claim_queue.specs.declared.rule.View.{View}
-use Rattle.claim_queue.specs.Shown.{head_word, tail_word, ends_word, mark, WordsShow}
+use Rattle.claim_queue.specs.Layout.{head_word, tail_word, ends_word, mark}
+use Rattle.claim_queue.specs.Shown.{WordsShow}
 
 -- steps of all ends, in their order
 abbrev pub Course : Type 0

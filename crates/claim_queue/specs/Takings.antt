@@ -3,10 +3,11 @@ use Rattle.std.specs.Prelude.{◌≡◌, ◌≢◌, ◌⊎◌, ◌+◌, ◌-◌,
 use Rattle.std.specs.Prelude.{slice_index_or}
 use Rattle.table_theory.specs.Positioned.{item_of, written_at, tail_of}
 use Rattle.table_theory.specs.Seeing.{HasRaised}
+use Rattle.claim_queue.specs.declared.layout.TheConstants.{SHUT}
 use Rattle.claim_queue.specs.declared.rule.View.{View}
 use Rattle.claim_queue.specs.declared.take.TakeRefusal.{TakeRefusal}
 use Rattle.claim_queue.specs.declared.take.TakeRefusal.TheVariants.{Empty, Lost, Closed}
-use Rattle.claim_queue.specs.Shown.{head_word, tail_word, data_word, flag_word}
+use Rattle.claim_queue.specs.Layout.{head_word, tail_word, data_word, flag_word}
 use Rattle.claim_queue.specs.Steps.{Found, Took}
 
 -- Items were found raised, one behind the other from this position on: of each first its flag, and then its item
@@ -74,7 +75,7 @@ pub record WasEmpty (Few : List ℕ → Type 0) (room : ℕ) (v : View) (at : �
   pub head : ℕ
   pub before : View
   pub found : FoundTooFew Few room v tail items head before
-  pub going_on : head ≢ 4294967296 + tail
+  pub going_on : head ≢ SHUT + tail
   pub tail_again : Found before tail_word tail w
   pub at_is : at ≡ tail + length items
   pub from : tail_of found.stopped.part.queue ≡ tail
@@ -89,7 +90,7 @@ pub record PassedBefore (Few : List ℕ → Type 0) (room : ℕ) (v : View) (fou
   pub head : ℕ
   pub before : View
   pub found : FoundTooFew Few room v tail items head before
-  pub going_on : head ≢ 4294967296 + tail
+  pub going_on : head ≢ SHUT + tail
   pub tail_again : Found before tail_word found_tail w
   pub past : tail < found_tail
 
@@ -109,7 +110,7 @@ pub record PassedMeanwhile (Enough : List ℕ → Type 0) (room : ℕ) (v : View
 pub record WasDone (Few : List ℕ → Type 0) (room : ℕ) (v w : View) : Type 0 where
   pub tail : ℕ
   pub items : List ℕ
-  pub found : FoundTooFew Few room v tail items (4294967296 + tail) w
+  pub found : FoundTooFew Few room v tail items (SHUT + tail) w
   pub shut : w.part.queue.shut ≡ true
   pub all : w.part.queue.taken ≡ length w.part.queue.places
 
@@ -122,10 +123,10 @@ RefusedTake Few Enough room v Closed w = WasDone Few room v w
 -- why nothing can be taken at this tail, by the head that was loaded and the tail that was found again
 abbrev pub IsRefusedAt : View → ℕ → ℕ → TakeRefusal → View → Type 0
 IsRefusedAt v tail at (Empty position) w = (position ≡ at) × (head : ℕ) × (u : View) × Found v head_word head u
-    × (head ≢ 4294967296 + tail) × Found u tail_word tail w
+    × (head ≢ SHUT + tail) × Found u tail_word tail w
 IsRefusedAt v tail at (Lost now) w = (head : ℕ) × (u : View) × Found v head_word head u
-    × (head ≢ 4294967296 + tail) × Found u tail_word now w × (now ≢ tail)
-IsRefusedAt v tail at Closed w = Found v head_word (4294967296 + tail) w
+    × (head ≢ SHUT + tail) × Found u tail_word now w × (now ≢ tail)
+IsRefusedAt v tail at Closed w = Found v head_word (SHUT + tail) w
 
 -- What a refused taking of one item did to its pause: called it once where it came to its exchange, and else left it as
 -- it was. Lost comes with the exchange and without it, as the entries tell: tail, flag, data and tail, or tail, flag,

@@ -9,8 +9,9 @@ ghost use Rattle.claim_queue.specs.Lines.{SameLines, PutLine};
 ghost use Rattle.claim_queue.specs.Puts.{Raised, RaisedFrom, IsPut, PutAnswer, is_lost};
 
 use crate::ends::{ClaimQueue, QueueEnd};
+use crate::layout::SHUT;
 use crate::pause::{NoPause, Pause};
-use crate::steps::{SHUT, exchange_head, load_head, load_tail, store_data, store_flag};
+use crate::steps::{exchange_head, load_head, load_tail, store_data, store_flag};
 use arrayvec::ArrayVec;
 use crossbeam_utils::Backoff;
 use std::marker::Brand;

@@ -3,10 +3,14 @@ ghost use Rattle.std.specs.Prelude.{◌≡◌, ◌+◌, ◌-◌, ◌<◌, ◌≤
 ghost use Rattle.std.specs.Mem.Slots.{slots_items, slots_len, IsFull};
 ghost use Rattle.claim_queue.specs.Claims.{KeepsClaims};
 ghost use Rattle.claim_queue.specs.Closings.{ShutNow, ClosedNow, WereOpen, left_at, left_from};
+ghost use Rattle.claim_queue.specs.declared.layout.TheConstants.{MOST_PLACES};
+ghost use Rattle.table_theory.specs.declared.positions.TheConstants.{POSITIONS};
+ghost use Rattle.claim_queue.specs.Layout.{width};
 ghost use Rattle.claim_queue.specs.Lines.{SameLines};
 
 use crate::ends::{ClaimQueue, QueueEnd};
-use crate::steps::{SHUT, count, or_head};
+use crate::layout::{HEAD, SHUT, TAIL, data_word, flag_word};
+use crate::steps::{count, or_head};
 use arrayvec::ArrayVec;
 use atomic_table::Closed as ClosedWords;
 use std::alloc::Global;
@@ -24,14 +28,14 @@ pub struct Closed<const N: usize> {
 }
 
 fn read_at(closed: &ClosedWords<(), Global>, room: usize, position: u64) -> Option<u64>
-    requires words { (slots_len closed.now.words ≡ room + room + 3) × IsFull closed.now.words × (1 ≤ room)
-        × (room ≤ 256) }
-    requires range { position < 4294967296 }
+    requires words { (slots_len closed.now.words ≡ width room) × IsFull closed.now.words × (1 ≤ room)
+        × (room ≤ MOST_PLACES) }
+    requires range { position < POSITIONS }
     ensures { result ≡ left_at room (slots_items closed.now.words) position }
 {
-    let place = position as usize % room;
-    if closed.word(room + place + 3) == position + 1 {
-        Some(closed.word(place + 3))
+    let place = position as usize;
+    if closed.word(flag_word(room, place)) == position + 1 {
+        Some(closed.word(data_word(room, place)))
     } else {
         None
     }
@@ -42,8 +46,8 @@ fn read_left<const N: usize>(
     tail: u64,
     head: u64,
 ) -> ArrayVec<Option<u64>, N>
-    requires words { (slots_len closed.now.words ≡ N + N + 3) × IsFull closed.now.words × (1 ≤ N) × (N ≤ 256) }
-    requires range { (tail ≤ head) × (head ≤ tail + N) × (head < 4294967296) }
+    requires words { (slots_len closed.now.words ≡ width N) × IsFull closed.now.words × (1 ≤ N) × (N ≤ MOST_PLACES) }
+    requires range { (tail ≤ head) × (head ≤ tail + N) × (head < POSITIONS) }
     ensures { result.items ≡ left_from N (slots_items closed.now.words) tail (head - tail) }
 {
     let mut left = ArrayVec::new();
@@ -89,8 +93,8 @@ impl<const N: usize> ClaimQueue<N> {
         let QueueEnd { seat } = end;
         let ClaimQueue { table, first } = self;
         let closed = table.close_with(seat);
-        let head = closed.word(0) % SHUT;
-        let tail = closed.word(1);
+        let head = closed.word(HEAD) % SHUT;
+        let tail = closed.word(TAIL);
         let left = read_left(&closed, tail, head);
         closed.free();
         Ok(Closed {

@@ -3,9 +3,12 @@ ghost use Rattle.std.specs.Prelude.{◌≡◌, ◌+◌, ◌≤◌, ◌<◌, [], 
 ghost use Rattle.claim_queue.specs.Rules.{newcomer};
 ghost use Rattle.claim_queue.specs.Claims.{KeepsClaims};
 ghost use Rattle.claim_queue.specs.Endings.{Divided, IsNewborn, TookIn};
+ghost use Rattle.claim_queue.specs.declared.layout.TheConstants.{MOST_PLACES};
+ghost use Rattle.claim_queue.specs.Layout.{width};
 ghost use Rattle.claim_queue.specs.Lines.{lines_put, lines_taken};
 ghost use Rattle.table_theory.specs.Listing.{Distinct};
 
+use crate::layout::{ENDS, HEAD, TAIL, width};
 use crate::rule::{ClaimRule, Shape, View};
 use crate::steps::{count_down, count_up, split_off, take_in};
 use atomic_table::{Seat, Table};
@@ -17,9 +20,9 @@ use std::marker::Brand;
 pub struct ClaimQueue<const N: usize> {
     pub(crate) table: Table<(), View, Shape, ClaimRule, Global>,
     pub(crate) first: u32,
-    ghost sized: { (table.shared.table_id.words ≡ N + N + 3) × (table.shared.table_id.slots ≡ 0) },
+    ghost sized: { (table.shared.table_id.words ≡ width N) × (table.shared.table_id.slots ≡ 0) },
     ghost shaped: { (table.shared.key.first ≡ first) × (table.shared.key.room ≡ N) },
-    ghost bounded: { (1 ≤ N) × (N ≤ 256) },
+    ghost bounded: { (1 ≤ N) × (N ≤ MOST_PLACES) },
 }
 
 /// An end of a queue. It has no bytes.
@@ -37,15 +40,15 @@ impl<const N: usize> ClaimQueue<N> {
 
     /// An empty queue whose first position is `first`, and its only end.
     pub fn new(alloc: Global, first: u32) -> Result<(ClaimQueue<N>, QueueEnd<N>), OutOfMemory>
-        requires { (1 ≤ N) × (N ≤ 256) }
+        requires { (1 ≤ N) × (N ≤ MOST_PLACES) }
         ensures { IfOk result (λ r. IsEndOf r.0 r.1 × (first_of r.0 ≡ first)
             × (view_of r.1 ≡ newcomer (record { first = first; room = N }))) }
     {
-        let mut words = Vec::from_elem(alloc, 0u64, N + N + 3)?;
+        let mut words = Vec::from_elem(alloc, 0u64, width(N))?;
         let row = words.as_mut_slice();
-        row[0] = first as u64;
-        row[1] = first as u64;
-        row[2] = 1;
+        row[HEAD] = first as u64;
+        row[TAIL] = first as u64;
+        row[ENDS] = 1;
         let shape = Shape {
             first: first as u64,
             room: N as u64,

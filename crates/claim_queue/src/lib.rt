@@ -38,6 +38,7 @@ mod between;
 mod claim;
 mod close;
 mod ends;
+mod layout;
 mod pause;
 mod plays;
 mod rule;

@@ -1,15 +1,18 @@
 //! The atomic steps. No signature has a const parameter, since a call of such a function could not pick ghost members.
-ghost use Rattle.std.specs.Prelude.{◌≡◌, ◌≢◌, ◌+◌, ◌-◌, ◌%◌, ◌<◌, ◌≤◌, ℕ, false, [], length, slice_index_or};
+ghost use Rattle.std.specs.Prelude.{◌≡◌, ◌≢◌, ◌+◌, ◌-◌, ◌*◌, ◌%◌, ◌<◌, ◌≤◌, ℕ, false, [], length, slice_index_or};
 ghost use mathlib.Core.Option.{some};
 ghost use lib.ListN.{get_elem?};
+ghost use Rattle.table_theory.specs.declared.positions.TheConstants.{POSITIONS};
 ghost use Rattle.table_theory.specs.declared.queues.Batch.{Batch};
 ghost use Rattle.table_theory.specs.Listing.{number_of};
 ghost use Rattle.table_theory.specs.Positioned.{blank, head_of, tail_of, item_at, written_at};
 ghost use Rattle.table_theory.specs.Seating.{IsSame};
-ghost use Rattle.claim_queue.specs.Shown.{mark, head_word, tail_word, data_word, flag_word};
+ghost use Rattle.claim_queue.specs.Layout.{mark, head_word, tail_word, data_word, flag_word, width};
+ghost use Rattle.claim_queue.specs.declared.layout.TheConstants.{FIRST_DATA, MOST_PLACES, SHUT};
 ghost use Rattle.claim_queue.specs.Steps.{Found, Claimed, Wrote, Took, Shut, CountedUp, CountedDown, Tallied};
 ghost use Rattle.claim_queue.specs.Steps.{rest_of, newborn, both, emptied};
 
+use crate::layout::{ENDS, HEAD, SHUT, TAIL, data_word, flag_word};
 use crate::plays::{
     Caller, ClaimItems, Claims, Counts, CountsDown, CountsUp, Finds, Gives, Joins, Shuts, Spent,
     Spot, StoresData, StoresFlag, Takes,
@@ -18,15 +21,6 @@ use crate::rule::{ClaimRule, Shape, View};
 use atomic_table::{Seat, Shared};
 
 pub(crate) type Words = Shared<(), View, Shape, ClaimRule>;
-
-pub(crate) const HEAD: usize = 0;
-
-pub(crate) const TAIL: usize = 1;
-
-pub(crate) const ENDS: usize = 2;
-
-/// Bit 32 of the head word: the queue is shut.
-pub(crate) const SHUT: u64 = 4_294_967_296;
 
 pub(crate) fn load(words: &Words, seat: &mut Seat<(), View>, word: usize) -> u64
     requires queue { (seat.old.table_id ≡ words.now.table_id) × (word < words.now.table_id.words) }
@@ -38,23 +32,23 @@ pub(crate) fn load(words: &Words, seat: &mut Seat<(), View>, word: usize) -> u64
 }
 
 pub(crate) fn load_head(words: &Words, seat: &mut Seat<(), View>) -> u64
-    requires queue { (seat.old.table_id ≡ words.now.table_id) × (3 ≤ words.now.table_id.words) }
+    requires queue { (seat.old.table_id ≡ words.now.table_id) × (FIRST_DATA ≤ words.now.table_id.words) }
     requires live { 1 ≤ seat.old.me.0.member.ends }
     ensures queue { IsSame seat.old seat.new × (seat.new.me.1 ≡ seat.old.me.1) }
     ensures found { Found seat.old.me.0 head_word result seat.new.me.0 }
     ensures head { result ≡ head_of seat.new.me.0.part.queue + mark seat.new.me.0.part.queue.shut }
-    ensures is_open { result < 4294967296 → seat.new.me.0.part.queue.shut ≡ false }
+    ensures is_open { result < SHUT → seat.new.me.0.part.queue.shut ≡ false }
 {
     load(words, seat, HEAD)
 }
 
 pub(crate) fn load_tail(words: &Words, seat: &mut Seat<(), View>) -> u64
-    requires queue { (seat.old.table_id ≡ words.now.table_id) × (3 ≤ words.now.table_id.words) }
+    requires queue { (seat.old.table_id ≡ words.now.table_id) × (FIRST_DATA ≤ words.now.table_id.words) }
     requires live { 1 ≤ seat.old.me.0.member.ends }
     ensures queue { IsSame seat.old seat.new × (seat.new.me.1 ≡ seat.old.me.1) }
     ensures found { Found seat.old.me.0 tail_word result seat.new.me.0 }
     ensures tail { result ≡ tail_of seat.new.me.0.part.queue }
-    ensures bounded { result < 4294967296 }
+    ensures bounded { result < POSITIONS }
 {
     load(words, seat, TAIL)
 }
@@ -66,12 +60,12 @@ pub(crate) fn exchange_head<J: ClaimItems>(
     new: u64,
     items: &[u64],
 ) -> u64
-    requires queue { (seat.old.table_id ≡ words.now.table_id) × (3 ≤ words.now.table_id.words) }
+    requires queue { (seat.old.table_id ≡ words.now.table_id) × (FIRST_DATA ≤ words.now.table_id.words) }
     requires live { 1 ≤ seat.old.me.0.member.ends }
     requires call { J.call ≡ seat.old.id }
     requires items { (items.now ≡ J.items) × (0 < length items.now) }
     requires room { head + length items.now ≤ tail_of seat.old.me.0.part.queue + seat.old.me.0.part.queue.room }
-    requires new { (new ≡ head + length items.now) × (new < 4294967296) }
+    requires new { (new ≡ head + length items.now) × (new < POSITIONS) }
     ensures queue { IsSame seat.old seat.new × (seat.new.me.1 ≡ seat.old.me.1) }
     ensures hit { result ≡ head → Claimed J.call seat.old.me.0 head J.items seat.new.me.0 }
     ensures miss { result ≢ head → Found seat.old.me.0 head_word result seat.new.me.0
@@ -90,10 +84,10 @@ pub(crate) fn store_data<J: Spot>(
     index: usize,
     item: u64,
 )
-    requires queue { (seat.old.table_id ≡ words.now.table_id) × (words.now.table_id.words ≡ room + room + 3)
-        × (0 < room) × (room ≤ 256) × (seat.old.me.0.part.queue.room ≡ room) }
+    requires queue { (seat.old.table_id ≡ words.now.table_id) × (words.now.table_id.words ≡ width room)
+        × (0 < room) × (room ≤ MOST_PLACES) × (seat.old.me.0.part.queue.room ≡ room) }
     requires call { J.call ≡ seat.old.id }
-    requires spot { (J.start ≡ start) × (J.index ≡ index) × (start < 4294967296) × (index < 256) }
+    requires spot { (J.start ≡ start) × (J.index ≡ index) × (start < POSITIONS) × (index < MOST_PLACES) }
     requires mine { (e : Batch)
         × (get_elem? seat.old.me.0.part.runs (number_of J.start seat.old.me.0.part.runs) ≡ some e)
         × (e.start ≡ J.start) × (J.index < length e.places) × ((slice_index_or e.places J.index blank).written < 2)
@@ -102,8 +96,7 @@ pub(crate) fn store_data<J: Spot>(
     ensures wrote { Wrote J.call seat.old.me.0 (number_of J.start seat.old.me.0.part.runs) J.index 1
         (data_word room (start + index)) item seat.new.me.0 }
 {
-    let place = (start as usize + index) % room;
-    words.store::<StoresData<J>>(seat, place + 3, item);
+    words.store::<StoresData<J>>(seat, data_word(room, start as usize + index), item);
 }
 
 pub(crate) fn store_flag<J: Spot>(
@@ -113,10 +106,10 @@ pub(crate) fn store_flag<J: Spot>(
     start: u64,
     index: usize,
 )
-    requires queue { (seat.old.table_id ≡ words.now.table_id) × (words.now.table_id.words ≡ room + room + 3)
-        × (0 < room) × (room ≤ 256) × (seat.old.me.0.part.queue.room ≡ room) }
+    requires queue { (seat.old.table_id ≡ words.now.table_id) × (words.now.table_id.words ≡ width room)
+        × (0 < room) × (room ≤ MOST_PLACES) × (seat.old.me.0.part.queue.room ≡ room) }
     requires call { J.call ≡ seat.old.id }
-    requires spot { (J.start ≡ start) × (J.index ≡ index) × (start < 4294967296) × (index < 256) }
+    requires spot { (J.start ≡ start) × (J.index ≡ index) × (start < POSITIONS) × (index < MOST_PLACES) }
     requires mine { (e : Batch)
         × (get_elem? seat.old.me.0.part.runs (number_of J.start seat.old.me.0.part.runs) ≡ some e)
         × (e.start ≡ J.start) × (J.index < length e.places) × ((slice_index_or e.places J.index blank).written ≡ 1) }
@@ -124,16 +117,16 @@ pub(crate) fn store_flag<J: Spot>(
     ensures wrote { Wrote J.call seat.old.me.0 (number_of J.start seat.old.me.0.part.runs) J.index 2
         (flag_word room (start + index)) (start + index + 1) seat.new.me.0 }
 {
-    let place = (start as usize + index) % room;
-    words.store::<StoresFlag<J>>(seat, place + room + 3, start + index as u64 + 1);
+    let word = flag_word(room, start as usize + index);
+    words.store::<StoresFlag<J>>(seat, word, start + index as u64 + 1);
 }
 
 pub(crate) fn load_flag(words: &Words, seat: &mut Seat<(), View>, room: usize, position: u64) -> u64
-    requires queue { (seat.old.table_id ≡ words.now.table_id) × (words.now.table_id.words ≡ room + room + 3)
-        × (0 < room) × (room ≤ 256) × (seat.old.me.0.part.queue.room ≡ room) }
+    requires queue { (seat.old.table_id ≡ words.now.table_id) × (words.now.table_id.words ≡ width room)
+        × (0 < room) × (room ≤ MOST_PLACES) × (seat.old.me.0.part.queue.room ≡ room) }
     requires live { 1 ≤ seat.old.me.0.member.ends }
     requires near { (seat.old.me.0.part.queue.first ≤ position)
-        × (position < tail_of seat.old.me.0.part.queue + room) × (position < 8589934592) }
+        × (position < tail_of seat.old.me.0.part.queue + room) × (position < 2 * POSITIONS) }
     ensures queue { IsSame seat.old seat.new × (seat.new.me.1 ≡ seat.old.me.1) }
     ensures found { Found seat.old.me.0 (flag_word room position) result seat.new.me.0 }
     ensures raised { result ≡ position + 1
@@ -141,24 +134,22 @@ pub(crate) fn load_flag(words: &Words, seat: &mut Seat<(), View>, room: usize, p
     ensures low { result ≢ position + 1 → tail_of seat.new.me.0.part.queue ≤ position
         → written_at seat.new.me.0.part.queue (position - seat.new.me.0.part.queue.first) < 2 }
 {
-    let place = position as usize % room;
-    load(words, seat, place + room + 3)
+    load(words, seat, flag_word(room, position as usize))
 }
 
 pub(crate) fn load_data(words: &Words, seat: &mut Seat<(), View>, room: usize, position: u64) -> u64
-    requires queue { (seat.old.table_id ≡ words.now.table_id) × (words.now.table_id.words ≡ room + room + 3)
-        × (0 < room) × (room ≤ 256) × (seat.old.me.0.part.queue.room ≡ room) }
+    requires queue { (seat.old.table_id ≡ words.now.table_id) × (words.now.table_id.words ≡ width room)
+        × (0 < room) × (room ≤ MOST_PLACES) × (seat.old.me.0.part.queue.room ≡ room) }
     requires live { 1 ≤ seat.old.me.0.member.ends }
     requires near { (seat.old.me.0.part.queue.first ≤ position)
-        × (position < tail_of seat.old.me.0.part.queue + room) × (position < 8589934592) }
+        × (position < tail_of seat.old.me.0.part.queue + room) × (position < 2 * POSITIONS) }
     requires raised { 2 ≤ written_at seat.old.me.0.part.queue (position - seat.old.me.0.part.queue.first) }
     ensures queue { IsSame seat.old seat.new × (seat.new.me.1 ≡ seat.old.me.1) }
     ensures found { Found seat.old.me.0 (data_word room position) result seat.new.me.0 }
     ensures item { tail_of seat.new.me.0.part.queue ≤ position
         → result ≡ item_at seat.new.me.0.part.queue (position - seat.new.me.0.part.queue.first) }
 {
-    let place = position as usize % room;
-    load(words, seat, place + 3)
+    load(words, seat, data_word(room, position as usize))
 }
 
 pub(crate) fn exchange_tail<J: Caller>(
@@ -167,7 +158,7 @@ pub(crate) fn exchange_tail<J: Caller>(
     tail: u64,
     new: u64,
 ) -> u64
-    requires queue { (seat.old.table_id ≡ words.now.table_id) × (3 ≤ words.now.table_id.words) }
+    requires queue { (seat.old.table_id ≡ words.now.table_id) × (FIRST_DATA ≤ words.now.table_id.words) }
     requires live { 1 ≤ seat.old.me.0.member.ends }
     requires call { J.call ≡ seat.old.id }
     requires new { (tail < new) × (seat.old.me.0.part.queue.first ≤ tail) }
@@ -182,7 +173,7 @@ pub(crate) fn exchange_tail<J: Caller>(
 }
 
 pub(crate) fn or_head<J: Caller>(words: &Words, seat: &mut Seat<(), View>) -> u64
-    requires queue { (seat.old.table_id ≡ words.now.table_id) × (3 ≤ words.now.table_id.words) }
+    requires queue { (seat.old.table_id ≡ words.now.table_id) × (FIRST_DATA ≤ words.now.table_id.words) }
     requires live { 1 ≤ seat.old.me.0.member.ends }
     requires call { J.call ≡ seat.old.id }
     ensures queue { IsSame seat.old seat.new × (seat.new.me.1 ≡ seat.old.me.1) }
@@ -192,7 +183,7 @@ pub(crate) fn or_head<J: Caller>(words: &Words, seat: &mut Seat<(), View>) -> u6
 }
 
 pub(crate) fn count_up(words: &Words, seat: &mut Seat<(), View>) -> u64
-    requires queue { (seat.old.table_id ≡ words.now.table_id) × (3 ≤ words.now.table_id.words) }
+    requires queue { (seat.old.table_id ≡ words.now.table_id) × (FIRST_DATA ≤ words.now.table_id.words) }
     requires parts { seat.old.me.0.member.ends + 1 ≤ seat.old.me.0.member.share }
     ensures queue { IsSame seat.old seat.new × (seat.new.me.1 ≡ seat.old.me.1) }
     ensures counted { CountedUp seat.old.me.0 result seat.new.me.0 }
@@ -201,7 +192,7 @@ pub(crate) fn count_up(words: &Words, seat: &mut Seat<(), View>) -> u64
 }
 
 pub(crate) fn count_down(words: &Words, seat: &mut Seat<(), View>) -> u64
-    requires queue { (seat.old.table_id ≡ words.now.table_id) × (3 ≤ words.now.table_id.words) }
+    requires queue { (seat.old.table_id ≡ words.now.table_id) × (FIRST_DATA ≤ words.now.table_id.words) }
     requires live { 2 ≤ seat.old.me.0.member.ends }
     ensures queue { IsSame seat.old seat.new × (seat.new.me.1 ≡ seat.old.me.1) }
     ensures counted { CountedDown seat.old.me.0 result seat.new.me.0 }
@@ -210,7 +201,7 @@ pub(crate) fn count_down(words: &Words, seat: &mut Seat<(), View>) -> u64
 }
 
 pub(crate) fn count(words: &Words, seat: &mut Seat<(), View>) -> u64
-    requires queue { (seat.old.table_id ≡ words.now.table_id) × (3 ≤ words.now.table_id.words) }
+    requires queue { (seat.old.table_id ≡ words.now.table_id) × (FIRST_DATA ≤ words.now.table_id.words) }
     requires live { seat.old.me.0.member.ends ≡ 1 }
     ensures queue { IsSame seat.old seat.new × (seat.new.me.1 ≡ seat.old.me.1) }
     ensures tallied { Tallied seat.old.me.0 result seat.new.me.0 }
@@ -219,7 +210,7 @@ pub(crate) fn count(words: &Words, seat: &mut Seat<(), View>) -> u64
 }
 
 pub(crate) fn split_off(words: &Words, seat: &mut Seat<(), View>) -> Seat<(), View>
-    requires queue { (seat.old.table_id ≡ words.now.table_id) × (3 ≤ words.now.table_id.words) }
+    requires queue { (seat.old.table_id ≡ words.now.table_id) × (FIRST_DATA ≤ words.now.table_id.words) }
     requires live { seat.old.me.0.member.ends ≡ 2 }
     ensures queue { IsSame seat.old seat.new × (result.table_id ≡ seat.old.table_id) }
     ensures split { (seat.new.me ≡ (rest_of seat.old.me.0, seat.old.me.1)) × (result.me ≡ (newborn seat.old.me.0, [])) }
@@ -229,7 +220,7 @@ pub(crate) fn split_off(words: &Words, seat: &mut Seat<(), View>) -> Seat<(), Vi
 
 pub(crate) fn take_in<J: Spent>(words: &Words, seat: &mut Seat<(), View>, other: Seat<(), View>)
     requires queue { (seat.old.table_id ≡ words.now.table_id) × (other.table_id ≡ words.now.table_id)
-        × (other.me.1 ≡ []) × (3 ≤ words.now.table_id.words) }
+        × (other.me.1 ≡ []) × (FIRST_DATA ≤ words.now.table_id.words) }
     requires live { (1 ≤ seat.old.me.0.member.ends) × (1 ≤ other.me.0.member.ends) }
     requires spent { J.view ≡ emptied seat.old.me.0 }
     ensures queue { IsSame seat.old seat.new }

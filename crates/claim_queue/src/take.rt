@@ -1,5 +1,6 @@
 //! Takings: an end reads what is raised behind the tail, and takes it by one exchange of the tail.
 ghost use Rattle.std.specs.Prelude.{◌≡◌, ◌+◌, ◌-◌, ◌<◌, ◌≤◌, ◌∷◌, [], length, MatchResult, MatchBool, IsFalse};
+ghost use Rattle.table_theory.specs.declared.positions.TheConstants.{POSITIONS};
 ghost use Rattle.table_theory.specs.Positioned.{tail_of, written_at};
 ghost use Rattle.claim_queue.specs.Claims.{KeepsClaims};
 ghost use Rattle.claim_queue.specs.Lines.{SameLines, TookLine};
@@ -8,8 +9,9 @@ ghost use Rattle.claim_queue.specs.Takings.{IsLine, IsBegun, IsOne, IsNone, IsRe
 ghost use Rattle.claim_queue.specs.Reads.{HasFound};
 
 use crate::ends::{ClaimQueue, QueueEnd};
+use crate::layout::SHUT;
 use crate::pause::{NoPause, Pause};
-use crate::steps::{SHUT, exchange_tail, load_data, load_flag, load_head, load_tail};
+use crate::steps::{exchange_tail, load_data, load_flag, load_head, load_tail};
 use arrayvec::ArrayVec;
 use std::marker::Brand;
 use thiserror::Error;
@@ -81,7 +83,7 @@ impl<const N: usize> ClaimQueue<N> {
     // Why nothing can be taken at this tail, where the place at `at` was found not raised.
     fn refusal_at(&self, end: &mut QueueEnd<N>, tail: u64, at: u64) -> TakeRefusal
         requires queue { IsEndOf self.now end.old }
-        requires bounded { (tail < 4294967296) × (at < 4294967296) }
+        requires bounded { (tail < POSITIONS) × (at < POSITIONS) }
         ensures queue { IsSameEnd end.old end.new }
         ensures why { IsRefusedAt (view_of end.old) tail at result (view_of end.new) }
     {
@@ -99,14 +101,14 @@ impl<const N: usize> ClaimQueue<N> {
     // Finds items from `tail` on, up to the end of a line. False where the next place was not raised.
     fn scan(&self, end: &mut QueueEnd<N>, tail: u64, line: &mut ArrayVec<u64, N>) -> bool
         requires queue { IsEndOf self.now end.old }
-        requires started { HasFound (view_of end.old) tail [] × (tail < 4294967296) }
+        requires started { HasFound (view_of end.old) tail [] × (tail < POSITIONS) }
         requires empty { line.old.items ≡ [] }
         ensures queue { IsSameEnd end.old end.new }
         ensures found { HasFound (view_of end.new) tail line.new.items }
         ensures steps { MatchBool result
             (Scanned N (view_of end.old) tail line.new.items (view_of end.new) × IsLine N line.new.items)
             (StoppedAt N (view_of end.old) tail line.new.items (view_of end.new) × IsBegun N line.new.items) }
-        ensures short { IsFalse result → tail + length line.new.items < 4294967296 }
+        ensures short { IsFalse result → tail + length line.new.items < POSITIONS }
         ensures low { IsFalse result → tail_of (view_of end.new).part.queue ≤ tail
             → written_at (view_of end.new).part.queue (tail + length line.new.items -
             (view_of end.new).part.queue.first) < 2 }

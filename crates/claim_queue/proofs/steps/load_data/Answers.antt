@@ -7,4 +7,4 @@ load-requires-clause-queue c = let q = c.requires.queue in let wide = q.1 in let
 
 pub returns-clause-item : goal.returns-clause-item
 returns-clause-item c = let near = c.requires.near in let s = c.load.ensures.2 in let room = s.sees.later.0.room ∙ c.requires.queue.4 in let old = c.requires.queue.4 in
-    data_item _ _ _ _ _ s near.0 (omega arith) (λ k. c.args.position % sym room k + 3) c.requires.raised
+    data_item _ _ _ _ _ s near.0 (omega arith) (c.data_word.ensures ∙ (λ k. c.args.position % sym room k + 3)) c.requires.raised

@@ -7,8 +7,8 @@ load-requires-clause-queue c = let q = c.requires.queue in let wide = q.1 in let
 
 pub returns-clause-raised : goal.returns-clause-raised
 returns-clause-raised c = let near = c.requires.near in let s = c.load.ensures.2 in let room = s.sees.later.0.room ∙ c.requires.queue.4 in let old = c.requires.queue.4 in
-    flag_raised _ _ _ _ _ s near.0 (omega arith) (λ k. c.args.position % sym room k + sym room k + 3)
+    flag_raised _ _ _ _ _ s near.0 (omega arith) (c.flag_word.ensures ∙ (λ k. c.args.position % sym room k + sym room k + 3))
 
 pub returns-clause-low : goal.returns-clause-low
 returns-clause-low c = let near = c.requires.near in let s = c.load.ensures.2 in let room = s.sees.later.0.room ∙ c.requires.queue.4 in let old = c.requires.queue.4 in
-    flag_low _ _ _ _ _ s near.0 (omega arith) (λ k. c.args.position % sym room k + sym room k + 3)
+    flag_low _ _ _ _ _ s near.0 (omega arith) (c.flag_word.ensures ∙ (λ k. c.args.position % sym room k + sym room k + 3))

@@ -1,5 +1,5 @@
 use Rattle.std.proofs.Common.{refl, subst, ℕ}
-use Rattle.claim_queue.specs.Shown.{head_word, tail_word}
+use Rattle.claim_queue.specs.Layout.{head_word, tail_word}
 use Rattle.claim_queue.specs.Steps.{Found}
 use Rattle.claim_queue.proofs.ends.ClaimQueue.refusal_at.Goals as goal
 

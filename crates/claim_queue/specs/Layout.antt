@@ -1,0 +1,40 @@
+-- Where the words of a queue's table stand: head, tail and number of ends, then the data words, then the flag words.
+use Rattle.std.specs.Prelude.{ℕ, ◌+◌, ◌%◌, Bool, true, false, List, slice_index_or}
+use Rattle.claim_queue.specs.declared.layout.TheConstants.{HEAD, TAIL, ENDS, FIRST_DATA, SHUT}
+
+-- the number of the word that has the head, and the mark where the queue is shut
+abbrev pub head_word : ℕ
+head_word = HEAD
+
+-- the number of the word that has the tail
+abbrev pub tail_word : ℕ
+tail_word = TAIL
+
+-- the number of the word that has the number of ends
+abbrev pub ends_word : ℕ
+ends_word = ENDS
+
+-- the number of the word of the item at this position
+abbrev pub data_word : ℕ → ℕ → ℕ
+data_word room position = position % room + FIRST_DATA
+
+-- the number of the word of the flag at this position
+abbrev pub flag_word : ℕ → ℕ → ℕ
+flag_word room position = position % room + room + FIRST_DATA
+
+-- how many words a queue of so many places has
+abbrev pub width : ℕ → ℕ
+width room = room + room + FIRST_DATA
+
+-- what the head word has beside the head
+abbrev pub mark : Bool → ℕ
+mark true = SHUT
+mark false = 0
+
+-- the item of this place
+abbrev pub data_in : ℕ → List ℕ → ℕ → ℕ
+data_in room words place = slice_index_or words (place + FIRST_DATA) 0
+
+-- the flag of this place
+abbrev pub flag_in : ℕ → List ℕ → ℕ → ℕ
+flag_in room words place = slice_index_or words (room + place + FIRST_DATA) 0

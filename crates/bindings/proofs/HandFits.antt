@@ -5,7 +5,7 @@ use Rattle.thread_table.specs.declared.takings.NextRefusal.{NextRefusal}
 use Rattle.thread_table.specs.declared.takings.NextRefusal.TheVariants as nexts
 use Rattle.thread_table.specs.declared.states.Started.{Started}
 use Rattle.thread_table.specs.declared.states.Lost.{Lost}
-use Rattle.thread_table.specs.Shown.{tail_word, state_word}
+use Rattle.thread_table.specs.Layout.{tail_word, state_word}
 use Rattle.thread_table.specs.Steps.{Found}
 use Rattle.thread_table.specs.Answers.{TakeAnswer, StartAnswer, ParkAnswer, DeliverAnswer, WasChanged, HasStop, HasSignals}
 use Rattle.thread_table.specs.Wakes.{BeforeAnswer}

@@ -1,5 +1,5 @@
--- Where the words of the table stand, how many there are of each kind, and the marks in them. The numbers are the code's.
--- An element queue is called a ring: the ready ring, that of the free elements, or that of a wait queue.
+-- Where the words of the table stand, how many there are of each kind, and the marks in them. The numbers are the
+-- code's. An element queue is called a ring: the ready ring, that of the free elements, or that of a wait queue.
 use Rattle.std.specs.Prelude.{ℕ, ◌+◌, ◌*◌, ◌%◌}
 use Rattle.thread_table.specs.declared.layout.TheConstants.{PLACES, ENDS, READY, FREE}
 pub use Rattle.event_theory.specs.Marks.{wait_ring}

@@ -24,7 +24,9 @@ use crate::plays::{
     StartState, StoreDone, TakeOff, TakeTail,
 };
 use crate::rule::{Shape, ThreadRule, View};
-use crate::layout::{ENDS, NOTIFY, STOP, done_word, head_word, place_word, processor_word, state_word};
+use crate::layout::{
+    ENDS, NOTIFY, STOP, done_word, head_word, place_word, processor_word, state_word, wait_ring,
+};
 use atomic_table::{Seat, Shared};
 
 pub(crate) type Words = Shared<(), View, Shape, ThreadRule>;
@@ -120,7 +122,7 @@ pub(crate) fn exchange_head_at<J: Deed>(
         × (result ≡ head_shown seat.old.me.0.first (elements_after seat.new.me.0.schedule) (wait_ring wait)) }
 {
     let _ = (element, ticket);
-    words.compare_exchange::<ClaimHeadAt<J>>(seat, head_word(wait as usize + 2), head, head + 1)
+    words.compare_exchange::<ClaimHeadAt<J>>(seat, head_word(wait_ring(wait)), head, head + 1)
 }
 
 // Raises the place that the hand has claimed.
@@ -172,7 +174,7 @@ pub(crate) fn add_notify<J: Deed>(words: &Words, seat: &mut Seat<(), View>, wait
     ensures queue { IsSame seat.old seat.new × (seat.new.me.1 ≡ seat.old.me.1) }
     ensures notified { Notifies J.call J.at seat.old.me.0 result seat.new.me.0 }
 {
-    words.fetch_add::<AddNotify<J>>(seat, head_word(wait as usize + 2), NOTIFY)
+    words.fetch_add::<AddNotify<J>>(seat, head_word(wait_ring(wait)), NOTIFY)
 }
 
 pub(crate) fn swap_on<J: Deed>(words: &Words, seat: &mut Seat<(), View>, processor: u8, element: u8)

@@ -8,43 +8,46 @@ ghost use Rattle.thread_table.specs.Layout.{WORDS, RINGS, PROCESSORS, ELEMENTS, 
 ghost use Rattle.thread_table.specs.Layout.{processor_word, state_word, done_word, head_word, place_word};
 
 /// The words of a table.
-pub(crate) const WORDS: usize = 1325;
+pub const WORDS: usize = 1325;
 
-pub(crate) const PROCESSORS: usize = 8;
+/// The processors.
+pub const PROCESSORS: usize = 8;
 
-pub(crate) const ELEMENTS: usize = 64;
+/// The thread elements.
+pub const ELEMENTS: usize = 64;
 
-pub(crate) const RINGS: usize = 18;
+/// The rings.
+pub const RINGS: usize = 18;
 
 /// The places of a ring.
-pub(crate) const PLACES: u64 = 64;
+pub const PLACES: u64 = 64;
 
 /// The wait queues.
-pub(crate) const WAITS: usize = 16;
+pub const WAITS: usize = 16;
 
 /// Where the number of hands stands.
-pub(crate) const ENDS: usize = 0;
+pub const ENDS: usize = 0;
 
 /// The ready ring's number.
-pub(crate) const READY: usize = 0;
+pub const READY: usize = 0;
 
 /// The number of the free elements' ring.
-pub(crate) const FREE: usize = 1;
+pub const FREE: usize = 1;
 
 /// One notify in a wait queue's head word.
-pub(crate) const NOTIFY: u64 = 4_294_967_296;
+pub const NOTIFY: u64 = 4_294_967_296;
 
 /// The stop bit of a state word.
-pub(crate) const STOP: u64 = 65_536;
+pub const STOP: u64 = 65_536;
 
 /// The stop cell's bit of a state word.
-pub(crate) const CELL: u64 = 131_072;
+pub const CELL: u64 = 131_072;
 
 /// The pending signals of a state word.
-pub(crate) const SIGNAL_BITS: u64 = 65_535;
+pub const SIGNAL_BITS: u64 = 65_535;
 
 /// The stop bit and the stop cell's of a state word.
-pub(crate) const STOP_BITS: u64 = 196_608;
+pub const STOP_BITS: u64 = 196_608;
 
 /// The number of a wait queue's ring.
 pub(crate) fn wait_ring(wait: u8) -> usize

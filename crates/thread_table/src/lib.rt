@@ -47,7 +47,7 @@ mod close;
 mod first_words;
 mod hand;
 mod laws;
-mod layout;
+pub mod layout;
 mod moves;
 mod places;
 mod plays;

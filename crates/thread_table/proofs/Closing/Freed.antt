@@ -25,6 +25,7 @@ use Rattle.event_theory.specs.declared.hold.Hold.{Hold}
 use Rattle.event_theory.specs.declared.names.QueueName.TheVariants as names
 use Rattle.event_theory.proofs.Keeping.Elements.{every_at}
 use Rattle.table_theory.specs.Filing.{entry_of}
+use Rattle.thread_table.specs.Layout.{wait_ring}
 use Rattle.thread_table.specs.declared.places.Place.{Place}
 use Rattle.thread_table.specs.declared.places.Place.TheVariants as places
 use Rattle.thread_table.specs.declared.rule.Made.{Made}
@@ -203,7 +204,7 @@ module _ (x : ℕ) where
         on_some (y ∷ ps) zero is = let c = many_cons (is_on x) y ps in let one : plus (is_on x y) ≡ 1 = ap plus is in omega arith
         on_some (y ∷ ps) (suc p) is = let c = many_cons (is_on x) y ps in let m = on_some ps p is in omega arith
     only_free places.Ready h = absurd (other_ring 0 (λ z. omega arith) h)
-    only_free (places.Wait wait) h = absurd (other_ring (wait + 2) (λ z. omega arith) h)
+    only_free (places.Wait wait) h = absurd (other_ring (wait_ring wait) (λ z. omega arith) h)
     only_free places.Stopped h = let c = cell_at e.threads h in let o = one_ring in let f = few in absurd (omega arith)
     only_free places.Held h =
         let t : 1 ≤ count_by (λ (g : Hold). g.element == x) e.held = some_count (λ (g : Hold). g.element == x) e.held

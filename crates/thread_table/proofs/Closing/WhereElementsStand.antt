@@ -17,7 +17,7 @@ use Rattle.event_theory.specs.declared.hold.Hold.{Hold}
 use Rattle.event_theory.proofs.Keeping.Elements.{every_at}
 use Rattle.thread_table.specs.Closings.{ProcessorOf, IsIn, RingOf, PlaceOf, StandsAt, is_left, ring_place, place_by, word_at}
 use Rattle.thread_table.specs.Schedules.{ring_at, thread_at, element_at, element_of, no_run}
-use Rattle.thread_table.specs.Layout.{state_word, place_word}
+use Rattle.thread_table.specs.Layout.{RINGS, state_word, place_word}
 use Rattle.thread_table.specs.Shown.{WordsShow, processor_shown, bit_of}
 use Rattle.thread_table.specs.declared.places.Place.{Place}
 use Rattle.thread_table.proofs.Events.SingleRuns.{Singles, flat_single, flat_long, within_room}
@@ -77,7 +77,7 @@ bit_read bit false is = sym (ne_eqb bit 1 (λ one. omega (arith, is, one)))
 pub record Settled (call first : ℕ) (e : Elements) (words : List ℕ) : Type 0 where
   pub lawful : IsLawfulElements e
   pub shows : WordsShow first e words
-  pub raised : (ring run : ℕ) → ring < 18 → run < length (ring_at e ring).history → (ring_at e ring).raised run 0 ≡ true
+  pub raised : (ring run : ℕ) → ring < RINGS → run < length (ring_at e ring).history → (ring_at e ring).raised run 0 ≡ true
   pub alone : (other element : ℕ) → other ≢ call → holds other element e ≡ false
 
 -- an element of a queue is one of the elements
@@ -90,11 +90,11 @@ left_known e ring i lawful below within =
     dite (dec_lt y (length e.threads)) (λ yes. yes) (λ no. absurd (omega (arith, lawful.known y (omega arith), here, itself, sum)))
 
 module _ (call first : ℕ) (e : Elements) (words : List ℕ) (s : Settled call first e words) where
-  lawful_ring : (ring : ℕ) → ring < 18 → IsLawfulQueue (ring_at e ring)
+  lawful_ring : (ring : ℕ) → ring < RINGS → IsLawfulQueue (ring_at e ring)
   lawful_ring ring below = let many = s.shows.queues in every_at IsLawfulQueue e.rings ring (ring_at e ring) (slice_get-get_or e.rings ring (empty_queue 64) (omega arith)) s.lawful.rings
 
   -- the place of what is left has its element
-  left_word : (ring run : ℕ) → ring < 18 → (ring_at e ring).taken ≤ run → run < length (ring_at e ring).history → word_at words (place_word ring (first + run)) % 256 ≡ element_at (ring_at e ring) run
+  left_word : (ring run : ℕ) → ring < RINGS → (ring_at e ring).taken ≤ run → run < length (ring_at e ring).history → word_at words (place_word ring (first + run)) % 256 ≡ element_at (ring_at e ring) run
   left_word ring run below from to =
       let q : Queue = ring_at e ring in let l = s.shows.rings ring below in let many = s.shows.queues in let wide = s.shows.threads in
       let room = within_room q 64 (lawful_ring ring below) l.single l.capacity in let near = room.1 in
@@ -105,7 +105,7 @@ module _ (call first : ℕ) (e : Elements) (words : List ℕ) (s : Settled call 
       let word = (l.places run from (omega arith)).up (s.raised ring run below to) in
       omega (arith, bounded, is, word, wide)
 
-  in_left : (x ring : ℕ) → ring < 18 → IsIn x words ring → is_left x (ring_at e ring) ≡ true
+  in_left : (x ring : ℕ) → ring < RINGS → IsIn x words ring → is_left x (ring_at e ring) ≡ true
   in_left x ring below is =
       let q : Queue = ring_at e ring in let l = s.shows.rings ring below in let p : ℕ = is.0 in let run : ℕ = p - first in
       let tail = l.tail in let head = l.head in let bounded = l.bounded in let from = is.1 in let to = is.2 in
@@ -116,7 +116,7 @@ module _ (call first : ℕ) (e : Elements) (words : List ℕ) (s : Settled call 
       let found : get_or (left q) i 0 ≡ x = left_at q i l.single (omega arith) ∙ (ap (element_at q) same ∙ (sym word ∙ (ap (λ (n : ℕ). word_at words (place_word ring n) % 256) (sym there) ∙ is.3))) in
       list_any_at (λ (item : ℕ). eqb item x) (left q) i 0 (omega arith) (eq-eqb (get_or (left q) i 0) x found)
 
-  not_left : (x ring : ℕ) → ring < 18 → (IsIn x words ring → ⊥) → in_list x (left (ring_at e ring)) ≡ 0
+  not_left : (x ring : ℕ) → ring < RINGS → (IsIn x words ring → ⊥) → in_list x (left (ring_at e ring)) ≡ 0
   not_left x ring below none =
       let q : Queue = ring_at e ring in let l = s.shows.rings ring below in let long = left_long q l.single in
       let tail = l.tail in let head = l.head in let bounded = l.bounded in

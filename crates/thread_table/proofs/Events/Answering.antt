@@ -10,7 +10,7 @@ use Rattle.event_theory.specs.declared.event.Event.{Event}
 use Rattle.event_theory.proofs.Keeping.Elements.{every_at}
 use Rattle.thread_table.specs.declared.rule.View.{View}
 use Rattle.thread_table.specs.Schedules.{elements_after, ring_at, element_at}
-use Rattle.thread_table.specs.Layout.{head_word, tail_word, place_word}
+use Rattle.thread_table.specs.Layout.{RINGS, WAITS, head_word, tail_word, place_word, wait_ring}
 use Rattle.thread_table.specs.Shown.{tail_shown, mark_of}
 use Rattle.thread_table.specs.Views.{claim_of}
 use Rattle.thread_table.specs.Steps.{Sees, Found, Claims, Raises, Takes}
@@ -119,7 +119,7 @@ held_less held x e below = dite (ℕ_discrete e x)
     (λ ne. get_or-set_other held x e false false ne ∙ ap (λ b. cond b false (get_or held e false)) (sym (ne_eqb e x ne)))
 
 -- the tail at the exchange is the one loaded, so the element in the place word is the oldest
-took_oldest : (call : ℕ) (u v f w : View) (ring tail found element mark : ℕ) → ring < 18 → Looked u v → Looked v f → tail ≡ tail_shown u.first (elements_after v.schedule) ring
+took_oldest : (call : ℕ) (u v f w : View) (ring tail found element mark : ℕ) → ring < RINGS → Looked u v → Looked v f → tail ≡ tail_shown u.first (elements_after v.schedule) ring
     → Peeked v ring found f → found ≡ element + 256 * mark → element < 256 → mark ≡ tail + 1 → (t : Takes call ring tail f w)
     → (element_at (ring_at (elements_after t.did.before) ring) (ring_at (elements_after t.did.before) ring).taken ≡ element) × (take 1 (left (ring_at (elements_after t.did.before) ring)) ≡ element ∷ []) × (element < 64)
 took_oldest call u v f w ring tail found element mark below a b tail_is peek parts bounded up t =
@@ -161,7 +161,7 @@ pub record Taken (call : ℕ) (u : View) (ring element : ℕ) (w : View) : Type 
   pub held : set u.held element true ≡ w.held
   pub stays : Stays u w
 
-pub taken_first : (call caller : ℕ) (u v f w : View) (ring tail found element mark : ℕ) → call ≡ caller → u.claimed ≡ None → ring < 18 → Found u (tail_word ring) tail v → Found v (place_word ring tail) found f → tail ≡ tail_shown u.first (elements_after v.schedule) ring
+pub taken_first : (call caller : ℕ) (u v f w : View) (ring tail found element mark : ℕ) → call ≡ caller → u.claimed ≡ None → ring < RINGS → Found u (tail_word ring) tail v → Found v (place_word ring tail) found f → tail ≡ tail_shown u.first (elements_after v.schedule) ring
     → Peeked v ring found f → found ≡ element + 256 * mark → element < 256 → mark ≡ tail + 1 → Takes call ring tail f w → Taken caller u ring element w
 taken_first call caller u v f w ring tail found element mark same none below fa fb tail_is peek parts bounded up took =
     let a = found_looked u v _ _ fa in let b = found_looked v f _ _ fb in
@@ -207,7 +207,7 @@ pub found_in : {u v : View} {word ring other : ℕ} → ring ≡ other → Found
 found_in {u} {v} {word} is f = subst (λ (l : ℕ). Found u (head_word l) word v) is f
 
 -- the head is the last position
-pub was_spent : (u v : View) (ring word head mark : ℕ) → ring < 18 → Found u (head_word ring) word v → word ≡ head + mark * 4294967296 → head < 4294967296 → head ≡ 4294967295 → WasSpent u ring v
+pub was_spent : (u v : View) (ring word head mark : ℕ) → ring < RINGS → Found u (head_word ring) word v → word ≡ head + mark * 4294967296 → head < 4294967296 → head ≡ 4294967295 → WasSpent u ring v
 was_spent u v ring word head mark below a parts bounded last = let w = found_head u v word ring below a in let fits : u.first + length (ring_at (elements_after v.schedule) ring).history < 4294967296 = (a.sees.shows.rings ring below).bounded in record {
   word = word;
   loaded = a;
@@ -220,7 +220,7 @@ pub overtaken : (u v w : View) (ring word head mark found : ℕ) → Found u (he
 overtaken u v w ring word head mark found a parts bounded more b ne = record { word = word; before = v; found = head_found u v ring word head mark a parts bounded more; missed = b; differs = ne }
 
 -- the number of notifies of a queue
-pub is_ticket : (u v : View) (wait word head mark : ℕ) → wait < 16 → Found u (head_word (wait + 2)) word v → word ≡ head + mark * 4294967296 → head < 4294967296 → IsTicket u wait mark v
+pub is_ticket : (u v : View) (wait word head mark : ℕ) → wait < WAITS → Found u (head_word (wait_ring wait)) word v → word ≡ head + mark * 4294967296 → head < 4294967296 → IsTicket u wait mark v
 is_ticket u v wait word head mark below a parts bounded = let ring : ℕ = wait + 2 in let w = found_head u v word ring (omega arith) a in let fits : u.first + length (ring_at (elements_after v.schedule) ring).history < 4294967296 = (a.sees.shows.rings ring (omega arith)).bounded in record {
   word = word;
   loaded = a;
@@ -228,15 +228,15 @@ is_ticket u v wait word head mark below a parts bounded = let ring : ℕ = wait 
   marked = omega arith;
 }
 
-pub moved_before : (u v : View) (wait ticket word head mark : ℕ) → Found u (head_word (wait + 2)) word v → word ≡ head + mark * 4294967296 → head < 4294967296 → head ≢ 4294967295 → mark ≢ ticket → MovedBefore u wait ticket mark v
-moved_before u v wait ticket word head mark a parts bounded more ne = record { word = word; found = head_found u v (wait + 2) word head mark a parts bounded more; mark_is = sym (word_parts word head mark parts bounded).1; differs = ne }
+pub moved_before : (u v : View) (wait ticket word head mark : ℕ) → Found u (head_word (wait_ring wait)) word v → word ≡ head + mark * 4294967296 → head < 4294967296 → head ≢ 4294967295 → mark ≢ ticket → MovedBefore u wait ticket mark v
+moved_before u v wait ticket word head mark a parts bounded more ne = record { word = word; found = head_found u v (wait_ring wait) word head mark a parts bounded more; mark_is = sym (word_parts word head mark parts bounded).1; differs = ne }
 
-pub moved_meanwhile : (u v w : View) (wait ticket word head mark seen later now : ℕ) → Found u (head_word (wait + 2)) word v → word ≡ head + mark * 4294967296 → head < 4294967296 → head ≢ 4294967295 → mark ≡ ticket
-    → Found v (head_word (wait + 2)) seen w → seen ≡ later + now * 4294967296 → later < 4294967296 → now ≢ ticket → MovedMeanwhile u wait ticket now w
+pub moved_meanwhile : (u v w : View) (wait ticket word head mark seen later now : ℕ) → Found u (head_word (wait_ring wait)) word v → word ≡ head + mark * 4294967296 → head < 4294967296 → head ≢ 4294967295 → mark ≡ ticket
+    → Found v (head_word (wait_ring wait)) seen w → seen ≡ later + now * 4294967296 → later < 4294967296 → now ≢ ticket → MovedMeanwhile u wait ticket now w
 moved_meanwhile u v w wait ticket word head mark seen later now a parts bounded more was b parts' small' ne = record {
   word = word;
   before = v;
-  found = head_found u v (wait + 2) word head mark a parts bounded more;
+  found = head_found u v (wait_ring wait) word head mark a parts bounded more;
   was = (word_parts word head mark parts bounded).1 ∙ was;
   seen = seen;
   missed = b;
@@ -244,17 +244,17 @@ moved_meanwhile u v w wait ticket word head mark seen later now a parts bounded 
   differs = ne;
 }
 
-pub overtaken_at : (u v w : View) (wait ticket word head mark seen later now : ℕ) → Found u (head_word (wait + 2)) word v → word ≡ head + mark * 4294967296 → head < 4294967296 → head ≢ 4294967295 → mark ≡ ticket
-    → Found v (head_word (wait + 2)) seen w → seen ≢ word → seen ≡ later + now * 4294967296 → later < 4294967296 → now ≡ ticket → OvertakenAt u wait ticket seen w
+pub overtaken_at : (u v w : View) (wait ticket word head mark seen later now : ℕ) → Found u (head_word (wait_ring wait)) word v → word ≡ head + mark * 4294967296 → head < 4294967296 → head ≢ 4294967295 → mark ≡ ticket
+    → Found v (head_word (wait_ring wait)) seen w → seen ≢ word → seen ≡ later + now * 4294967296 → later < 4294967296 → now ≡ ticket → OvertakenAt u wait ticket seen w
 unfolding overtaken
 overtaken_at u v w wait ticket word head mark seen later now a parts bounded more was b ne parts' small' still = record {
-  lost = overtaken u v w (wait + 2) word head mark seen a parts bounded more b ne;
+  lost = overtaken u v w (wait_ring wait) word head mark seen a parts bounded more b ne;
   was = (word_parts word head mark parts bounded).1 ∙ was;
   still = (word_parts seen later now parts' small').1 ∙ still;
 }
 
 -- the number of the run that was claimed, of which the head word has the position
-run_claimed : (call ring element : ℕ) (event : Event) (word head mark : ℕ) (v m : View) → ring < 18 → (c : Claims call ring element event word v m) → word ≡ head + mark * 4294967296 → head < 4294967296
+run_claimed : (call ring element : ℕ) (event : Event) (word head mark : ℕ) (v m : View) → ring < RINGS → (c : Claims call ring element event word v m) → word ≡ head + mark * 4294967296 → head < 4294967296
     → (head ≡ m.first + length (ring_at (elements_after c.did.before) ring).history) × (head - m.first ≡ length (ring_at (elements_after c.did.before) ring).history)
 run_claimed call ring element event word head mark v m below c parts bounded =
     let e : Elements = elements_after c.did.before in
@@ -264,7 +264,7 @@ run_claimed call ring element event word head mark v m below c parts bounded =
     (omega arith, omega arith)
 
 -- so the raise is of that run
-pub claim_known : (call ring element : ℕ) (event : Event) (word head mark : ℕ) (v m : View) → ring < 18 → Claims call ring element event word v m → word ≡ head + mark * 4294967296 → head < 4294967296
+pub claim_known : (call ring element : ℕ) (event : Event) (word head mark : ℕ) (v m : View) → ring < RINGS → Claims call ring element event word v m → word ≡ head + mark * 4294967296 → head < 4294967296
     → (m.claimed ≡ Some (claim_of ring (head - m.first) element)) × (head ≡ m.first + (head - m.first))
 claim_known call ring element event word head mark v m below c parts bounded =
     let r = run_claimed call ring element event word head mark v m below c parts bounded in
@@ -277,7 +277,7 @@ pub record Moved (call : ℕ) (u : View) (ring element : ℕ) (event : Event) (w
   pub held : set u.held element false ≡ w.held
   pub stays : Stays u w
 
-pub moved_to : (call ring element : ℕ) (event : Event) (word head mark : ℕ) (u v m w : View) → ring < 18 → element < 64 → Found u (head_word ring) word v → head ≢ 4294967295 → (c : Claims call ring element event word v m) → word ≡ head + mark * 4294967296
+pub moved_to : (call ring element : ℕ) (event : Event) (word head mark : ℕ) (u v m w : View) → ring < RINGS → element < 64 → Found u (head_word ring) word v → head ≢ 4294967295 → (c : Claims call ring element event word v m) → word ≡ head + mark * 4294967296
     → head < 4294967296 → Raises call ring (head - m.first) element m w → Moved call u ring element event word w
 moved_to call ring element event word head mark u v m w below known fa more c parts bounded raises =
     let a = found_looked u v _ _ fa in

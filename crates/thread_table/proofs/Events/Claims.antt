@@ -19,7 +19,7 @@ use Rattle.table_theory.proofs.QueueEvents.{claim_goes}
 use Rattle.thread_table.specs.declared.rule.View.{View}
 use Rattle.thread_table.specs.declared.rule.Claimed.{Claimed}
 use Rattle.thread_table.specs.Schedules.{QueueGrows, ring_at, thread_at, element_at, element_of, no_run}
-use Rattle.thread_table.specs.Layout.{processor_word, state_word, done_word, head_word, tail_word, place_word}
+use Rattle.thread_table.specs.Layout.{WORDS, RINGS, processor_word, state_word, done_word, head_word, tail_word, place_word, wait_ring}
 use Rattle.thread_table.specs.Shown.{WordsShow, RingShows, PlaceShows, StateShows, head_shown, mark_of}
 use Rattle.thread_table.specs.Rules.{HandIs, IsClaimed, has}
 use Rattle.thread_table.specs.Views.{claim_of, with_claim}
@@ -145,7 +145,7 @@ other_shows first ring other value words e differ shows = record {
   places = λ run from below. places_kept first ring other (ring_at e other) words value run (shows.places run from below);
 }
 
-claimed_shows : (first id element ring : ℕ) (words : List ℕ) (e : Elements) → ring < 18 → length words ≡ 1325 → IsLawfulQueue (ring_at e ring) → first + length (ring_at e ring).history + 1 < 4294967296
+claimed_shows : (first id element ring : ℕ) (words : List ℕ) (e : Elements) → ring < RINGS → length words ≡ WORDS → IsLawfulQueue (ring_at e ring) → first + length (ring_at e ring).history + 1 < 4294967296
     → RingShows first e ring words
     → QueueShows first (mark_of e ring) ring (set words (head_word ring) (head_shown first e ring + 1)) (after_claim id (element ∷ []) (ring_at e ring))
 claimed_shows first id element ring words e below wide lawful bounded shows =
@@ -169,7 +169,7 @@ claimed_shows first id element ring words e below wide lawful bounded shows =
 abbrev claimed : ℕ → ℕ → ℕ → List Hold → Elements → Elements
 claimed id ring element rest e = record e { rings = set e.rings ring (after_claim id (element ∷ []) (ring_at e ring)); held = rest }
 
-words_after : (first id element ring : ℕ) (words : List ℕ) (rest : List Hold) (e : Elements) → ring < 18 → IsLawfulQueue (ring_at e ring) → first + length (ring_at e ring).history + 1 < 4294967296
+words_after : (first id element ring : ℕ) (words : List ℕ) (rest : List Hold) (e : Elements) → ring < RINGS → IsLawfulQueue (ring_at e ring) → first + length (ring_at e ring).history + 1 < 4294967296
     → WordsShow first e words → WordsShow first (claimed id ring element rest e) (set words (head_word ring) (head_shown first e ring + 1))
 words_after first id element ring words rest e below lawful bounded shows =
     let value : ℕ = head_shown first e ring + 1 in
@@ -187,7 +187,7 @@ words_after first id element ring words rest e below lawful bounded shows =
       steps = λ x within. sym (kept (done_word x) (omega arith)) ∙ shows.steps x within;
       few = shows.few;
       rings = λ other within. as_ring first other (set words (head_word ring) value) (claimed id ring element rest e)
-          (by_ring (λ l q. l < 18 → QueueShows first (mark_of e l) l (set words (head_word ring) value) q) e.rings ring (after_claim id (element ∷ []) (ring_at e ring)) inside
+          (by_ring (λ l q. l < RINGS → QueueShows first (mark_of e l) l (set words (head_word ring) value) q) e.rings ring (after_claim id (element ∷ []) (ring_at e ring)) inside
           (λ w. claimed_shows first id element ring words e below shows.wide lawful bounded (shows.rings ring below))
           (λ l differ w. other_shows first ring l value words e differ (shows.rings l w))
           other within);
@@ -220,7 +220,7 @@ run_kept id element ring rest e call c inside is =
       low = ap (λ raised. raised c.run 0) both.1 ∙ is.low;
     }
 
-new_run : (id element ring : ℕ) (rest : List Hold) (e : Elements) → ring < 18 → element < 64 → ring < length e.rings → IsLawfulQueue (ring_at e ring)
+new_run : (id element ring : ℕ) (rest : List Hold) (e : Elements) → ring < RINGS → element < 64 → ring < length e.rings → IsLawfulQueue (ring_at e ring)
     → IsClaimed id (record { ring = ring; run = length (ring_at e ring).history; element = element }) (claimed id ring element rest e)
 new_run id element ring rest e below known inside lawful =
     let q : Queue = ring_at e ring in
@@ -255,7 +255,7 @@ has_after id element ring rest v e x known hand stay none (inl same) =
 has_after id element ring rest v e x known hand stay none (inr differ) =
     stay id x (other_element id element x differ.1) ∙ (hand.held x ∙ sym (get_or-set_other v.held element x false false differ.1))
 
-claim_hand : (id element ring : ℕ) (rest : List Hold) (v : View) (e : Elements) → ring < 18 → element < 64 → ring < length e.rings → IsLawfulQueue (ring_at e ring) → HandIs id v e
+claim_hand : (id element ring : ℕ) (rest : List Hold) (v : View) (e : Elements) → ring < RINGS → element < 64 → ring < length e.rings → IsLawfulQueue (ring_at e ring) → HandIs id v e
     → OthersStay id element e.held rest → in_hands element rest ≡ 0
     → HandIs id (with_claim v ring (length (ring_at e ring).history) element) (claimed id ring element rest e)
 claim_hand id element ring rest v e below known inside lawful hand stay none = record {
@@ -274,7 +274,7 @@ abbrev Lets : ℕ → ℕ → Elements → List Hold → Type 0
 Lets id element e rest = let_go id element e.held ≡ Ok rest
 
 -- the queue takes the run
-ring_claims : (id element ring : ℕ) (rest : List Hold) (e : Elements) (first : ℕ) (words : List ℕ) → ring < 18 → IsLawfulElements e → WordsShow first e words → Lets id element e rest
+ring_claims : (id element ring : ℕ) (rest : List Hold) (e : Elements) (first : ℕ) (words : List ℕ) → ring < RINGS → IsLawfulElements e → WordsShow first e words → Lets id element e rest
     → (slice_get e.rings ring ≡ Some (ring_at e ring)) × (claim 1 id (element ∷ []) (ring_at e ring) ≡ Ok (after_claim id (element ∷ []) (ring_at e ring)))
 ring_claims id element ring rest e first words below lawful shows lets =
     let q : Queue = ring_at e ring in
@@ -291,9 +291,9 @@ claim_ok id element ring rest e known at claims lets =
     rw (low, at, claims, lets) refl
 
 wait_ok : (id element wait ticket : ℕ) (rest : List Hold) (e : Elements) → element < length e.threads → wait < length e.notified → get_or e.notified wait 0 ≡ ticket
-    → slice_get e.rings (wait + 2) ≡ Some (ring_at e (wait + 2))
-    → claim 1 id (element ∷ []) (ring_at e (wait + 2)) ≡ Ok (after_claim id (element ∷ []) (ring_at e (wait + 2))) → Lets id element e rest
-    → wait_at id wait element ticket e ≡ Ok (claimed id (wait + 2) element rest e)
+    → slice_get e.rings (wait_ring wait) ≡ Some (ring_at e (wait_ring wait))
+    → claim 1 id (element ∷ []) (ring_at e (wait_ring wait)) ≡ Ok (after_claim id (element ∷ []) (ring_at e (wait_ring wait))) → Lets id element e rest
+    → wait_at id wait element ticket e ≡ Ok (claimed id (wait_ring wait) element rest e)
 wait_ok id element wait ticket rest e known inside same at claims lets =
     let a : slice_get e.threads element ≡ Some (thread_at e element) = slice_get-get_or e.threads element new_thread known in
     let b : slice_get e.notified wait ≡ Some (get_or e.notified wait 0) = slice_get-get_or e.notified wait 0 inside in
@@ -326,7 +326,7 @@ claim_owes v w id element ring rest e inside none claims =
     (run_owes v w id element ring q none claims) (λ l ne. queue_owes v w l (ring_at e l) (ring_at e l) none refl refl)
 
 -- an event that goes as the claim does has its effect
-effect_of : (id : ℕ) (v : View) (first : ℕ) (e : Elements) (words : List ℕ) (ring element : ℕ) (event : Elements → Result Elements Refusal) → Ready id v first e words → v.claimed ≡ None → ring < 18 → element < 64 → has v element ≡ true
+effect_of : (id : ℕ) (v : View) (first : ℕ) (e : Elements) (words : List ℕ) (ring element : ℕ) (event : Elements → Result Elements Refusal) → Ready id v first e words → v.claimed ≡ None → ring < RINGS → element < 64 → has v element ≡ true
     → first + length (ring_at e ring).history + 1 < 4294967296
     → ((rest : List Hold) → slice_get e.rings ring ≡ Some (ring_at e ring) → claim 1 id (element ∷ []) (ring_at e ring) ≡ Ok (after_claim id (element ∷ []) (ring_at e ring)) → Lets id element e rest
     → event e ≡ Ok (claimed id ring element rest e))
@@ -356,5 +356,5 @@ mark_is e wait ring same = ap (mark_of e) same
 
 pub wait_at_effect : WaitAtEffect
 wait_at_effect id v first e words wait element ticket ready idle below known held bounded same =
-    effect_of id v first e words (wait + 2) element (wait_at id wait element ticket) ready idle (omega arith) known held bounded
-    (λ rest at claims lets. wait_ok id element wait ticket rest e (omega (arith, ready.shows.threads)) (omega (arith, ready.shows.waits)) (sym (mark_is e wait (wait + 2) (omega arith)) ∙ same) at claims lets)
+    effect_of id v first e words (wait_ring wait) element (wait_at id wait element ticket) ready idle (omega arith) known held bounded
+    (λ rest at claims lets. wait_ok id element wait ticket rest e (omega (arith, ready.shows.threads)) (omega (arith, ready.shows.waits)) (sym (mark_is e wait (wait_ring wait) (omega arith)) ∙ same) at claims lets)

@@ -10,7 +10,7 @@ use Rattle.thread_table.specs.declared.rule.View.{View}
 use Rattle.thread_table.specs.declared.rule.Claimed.{Claimed}
 use Rattle.thread_table.specs.declared.rule.Counted.{Counted}
 use Rattle.thread_table.specs.Schedules.{Grows, ring_at, thread_at, element_at}
-use Rattle.thread_table.specs.Layout.{processor_word, state_word, done_word, head_word, tail_word, place_word}
+use Rattle.thread_table.specs.Layout.{RINGS, WAITS, processor_word, state_word, done_word, head_word, tail_word, place_word, wait_ring}
 use Rattle.thread_table.specs.Shown.{WordsShow, head_shown, tail_shown, mark_of}
 use Rattle.thread_table.specs.Views.{claim_of, quiet, with_held, with_claim, with_raise, with_on, with_off, with_start}
 use Rattle.thread_table.specs.Rules.{HandIs, IsOpen, IsClaimed, may_step, has, serves, running}
@@ -32,7 +32,7 @@ pub record Effect (id : ℕ) (v w : View) (first : ℕ) (event : Elements → Re
   pub hand : HandIs id w f
   pub shows : WordsShow first f words
   -- a run that isn't raised then is the hand's claim, or wasn't before
-  pub owes : (ring run : ℕ) → ring < 18 → IsOpen ring run f
+  pub owes : (ring run : ℕ) → ring < RINGS → IsOpen ring run f
       → (IsOpen ring run e × (element_at (ring_at f ring) run ≡ element_at (ring_at e ring) run)
       × (v.claimed ≡ Some (claim_of ring run (element_at (ring_at e ring) run)) → ⊥))
       ⊎ (w.claimed ≡ Some (claim_of ring run (element_at (ring_at f ring) run)))
@@ -45,26 +45,26 @@ pub record Ready (id : ℕ) (v : View) (first : ℕ) (e : Elements) (words : Lis
 
 -- The statements of what each event does. `word` is the word as it was found
 abbrev pub ClaimEffect : Type 0
-ClaimEffect = (id : ℕ) (v : View) (first : ℕ) (e : Elements) (words : List ℕ) (ring element : ℕ) → Ready id v first e words → v.claimed ≡ None → ring < 18 → element < 64 → has v element ≡ true
+ClaimEffect = (id : ℕ) (v : View) (first : ℕ) (e : Elements) (words : List ℕ) (ring element : ℕ) → Ready id v first e words → v.claimed ≡ None → ring < RINGS → element < 64 → has v element ≡ true
     → first + length (ring_at e ring).history + 1 < 4294967296
     → Effect id v (with_claim v ring (length (ring_at e ring).history) element) first (claim_element ring id (element ∷ [])) e (set words (head_word ring) (head_shown first e ring + 1))
 
 abbrev pub WaitAtEffect : Type 0
-WaitAtEffect = (id : ℕ) (v : View) (first : ℕ) (e : Elements) (words : List ℕ) (wait element ticket : ℕ) → Ready id v first e words → v.claimed ≡ None → wait < 16 → element < 64 → has v element ≡ true
-    → first + length (ring_at e (wait + 2)).history + 1 < 4294967296 → mark_of e (wait + 2) ≡ ticket
-    → Effect id v (with_claim v (wait + 2) (length (ring_at e (wait + 2)).history) element) first (wait_at id wait element ticket) e (set words (head_word (wait + 2)) (head_shown first e (wait + 2) + 1))
+WaitAtEffect = (id : ℕ) (v : View) (first : ℕ) (e : Elements) (words : List ℕ) (wait element ticket : ℕ) → Ready id v first e words → v.claimed ≡ None → wait < WAITS → element < 64 → has v element ≡ true
+    → first + length (ring_at e (wait_ring wait)).history + 1 < 4294967296 → mark_of e (wait_ring wait) ≡ ticket
+    → Effect id v (with_claim v (wait_ring wait) (length (ring_at e (wait_ring wait)).history) element) first (wait_at id wait element ticket) e (set words (head_word (wait_ring wait)) (head_shown first e (wait_ring wait) + 1))
 
 abbrev pub RaiseEffect : Type 0
 RaiseEffect = (id : ℕ) (v : View) (first : ℕ) (e : Elements) (words : List ℕ) (ring run element : ℕ) → Ready id v first e words → v.claimed ≡ Some (let c : Claimed = record { ring = ring; run = run; element = element } in c)
     → Effect id v (with_raise v) first (raise_element ring id run 0) e (set words (place_word ring (first + run)) (element + 256 * (first + run + 1)))
 
 abbrev pub TakeEffect : Type 0
-TakeEffect = (id : ℕ) (v : View) (first : ℕ) (e : Elements) (words : List ℕ) (ring : ℕ) → Ready id v first e words → v.claimed ≡ None → ring < 18 → (ring_at e ring).raised (ring_at e ring).taken 0 ≡ true
+TakeEffect = (id : ℕ) (v : View) (first : ℕ) (e : Elements) (words : List ℕ) (ring : ℕ) → Ready id v first e words → v.claimed ≡ None → ring < RINGS → (ring_at e ring).raised (ring_at e ring).taken 0 ≡ true
     → Effect id v (with_held v (element_at (ring_at e ring) (ring_at e ring).taken) true) first (take_element ring id 1) e (set words (tail_word ring) (tail_shown first e ring + 1))
 
 abbrev pub NotifyEffect : Type 0
-NotifyEffect = (id : ℕ) (v : View) (first : ℕ) (e : Elements) (words : List ℕ) (wait : ℕ) → Ready id v first e words → v.claimed ≡ None → wait < 16
-    → Effect id v (quiet v) first (notify_wait wait) e (set words (head_word (wait + 2)) ((head_shown first e (wait + 2) + 4294967296) % 18446744073709551616))
+NotifyEffect = (id : ℕ) (v : View) (first : ℕ) (e : Elements) (words : List ℕ) (wait : ℕ) → Ready id v first e words → v.claimed ≡ None → wait < WAITS
+    → Effect id v (quiet v) first (notify_wait wait) e (set words (head_word (wait_ring wait)) ((head_shown first e (wait_ring wait) + 4294967296) % 18446744073709551616))
 
 abbrev pub OnEffect : Type 0
 OnEffect = (id : ℕ) (v : View) (first : ℕ) (e : Elements) (words : List ℕ) (p element : ℕ) → Ready id v first e words → v.claimed ≡ None → p < 8 → element < 64 → has v element ≡ true → serves v p ≡ true → running v p ≡ None

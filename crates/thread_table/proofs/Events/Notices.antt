@@ -8,7 +8,7 @@ use Rattle.event_theory.specs.Elements.{Elements}
 use Rattle.event_theory.specs.Marks.{notify_wait}
 use Rattle.thread_table.specs.declared.rule.View.{View}
 use Rattle.thread_table.specs.Schedules.{ring_at}
-use Rattle.thread_table.specs.Layout.{head_word, tail_word, place_word}
+use Rattle.thread_table.specs.Layout.{head_word, tail_word, place_word, wait_ring}
 use Rattle.thread_table.specs.Shown.{WordsShow, RingShows, PlaceShows, head_shown, mark_of}
 use Rattle.thread_table.specs.Rules.{HandIs}
 use Rattle.thread_table.proofs.Events.Effects.{NotifyEffect}
@@ -37,10 +37,10 @@ after e wait = with_rings e e.rings (told e wait) e.held
 goes : (e : Elements) (wait : ℕ) → wait < length e.notified → notify_wait wait e ≡ Ok (after e wait)
 goes e wait below = rw (slice_get-get_or e.notified wait 0 below) refl
 
-mark_is : (e : Elements) (wait : ℕ) → mark_of e (wait + 2) ≡ get_or e.notified wait 0
+mark_is : (e : Elements) (wait : ℕ) → mark_of e (wait_ring wait) ≡ get_or e.notified wait 0
 mark_is e wait = let n : wait + 2 ≡ suc (suc wait) = omega arith in ap (mark_of e) n
 
-mark_after : (e : Elements) (wait : ℕ) → wait < length e.notified → mark_of (after e wait) (wait + 2) ≡ (get_or e.notified wait 0 + 1) % 4294967296
+mark_after : (e : Elements) (wait : ℕ) → wait < length e.notified → mark_of (after e wait) (wait_ring wait) ≡ (get_or e.notified wait 0 + 1) % 4294967296
 mark_after e wait below = mark_is (after e wait) wait ∙ get_or-set_same e.notified wait ((get_or e.notified wait 0 + 1) % 4294967296) 0 below
 
 mark_other : (e : Elements) (wait l : ℕ) → l ≢ wait + 2 → mark_of (after e wait) l ≡ mark_of e l
@@ -48,27 +48,27 @@ mark_other e wait zero ne = refl
 mark_other e wait (suc zero) ne = refl
 mark_other e wait (suc (suc w)) ne = get_or-set_other e.notified wait w ((get_or e.notified wait 0 + 1) % 4294967296) 0 (λ is. ne (omega arith))
 
-ring_after : (first : ℕ) (e : Elements) (words : List ℕ) (wait word : ℕ) → wait < length e.notified → 66 * (wait + 2) + 137 < length words → RingShows first e (wait + 2) words
-    → word ≡ (head_shown first e (wait + 2) + 4294967296) % 18446744073709551616
-    → RingShows first (after e wait) (wait + 2) (set words (head_word (wait + 2)) word)
+ring_after : (first : ℕ) (e : Elements) (words : List ℕ) (wait word : ℕ) → wait < length e.notified → 66 * (wait_ring wait) + 137 < length words → RingShows first e (wait_ring wait) words
+    → word ≡ (head_shown first e (wait_ring wait) + 4294967296) % 18446744073709551616
+    → RingShows first (after e wait) (wait_ring wait) (set words (head_word (wait_ring wait)) word)
 ring_after first e words wait word below wide s is =
-    let n : ℕ = length (ring_at e (wait + 2)).history in
-    let old : mark_of e (wait + 2) ≡ get_or e.notified wait 0 = mark_is e wait in
-    let new : mark_of (after e wait) (wait + 2) ≡ (get_or e.notified wait 0 + 1) % 4294967296 = mark_after e wait below in
+    let n : ℕ = length (ring_at e (wait_ring wait)).history in
+    let old : mark_of e (wait_ring wait) ≡ get_or e.notified wait 0 = mark_is e wait in
+    let new : mark_of (after e wait) (wait_ring wait) ≡ (get_or e.notified wait 0 + 1) % 4294967296 = mark_after e wait below in
     let near : (get_or e.notified wait 0 + 1) % 4294967296 < 4294967296 = mod-lt (get_or e.notified wait 0 + 1) (omega arith) in
-    let same : (k : ℕ) → k ≢ head_word (wait + 2) → get_or (set words (head_word (wait + 2)) word) k 0 ≡ get_or words k 0 = λ k ne. get_or-set_other words (head_word (wait + 2)) k word 0 ne in
+    let same : (k : ℕ) → k ≢ head_word (wait_ring wait) → get_or (set words (head_word (wait_ring wait)) word) k 0 ≡ get_or words k 0 = λ k ne. get_or-set_other words (head_word (wait_ring wait)) k word 0 ne in
     record {
       capacity = s.capacity;
       is_open = s.is_open;
       single = s.single;
       bounded = s.bounded;
       marked = subst (λ m. m < 4294967296) (sym new) near;
-      head = get_or-set_same words (head_word (wait + 2)) word 0 wide ∙ (is
+      head = get_or-set_same words (head_word (wait_ring wait)) word 0 wide ∙ (is
           ∙ (ap (λ m. (first + n + m * 4294967296 + 4294967296) % 18446744073709551616) old
           ∙ (one_more (first + n) (get_or e.notified wait 0) s.bounded (subst (λ m. m < 4294967296) old s.marked)
           ∙ ap (λ m. first + n + m * 4294967296) (sym new))));
-      tail = same (tail_word (wait + 2)) (λ e. omega arith) ∙ s.tail;
-      places = λ run a b. subst (PlaceShows first (ring_at e (wait + 2)) run) (sym (same (place_word (wait + 2) (first + run)) (λ e. omega arith))) (s.places run a b);
+      tail = same (tail_word (wait_ring wait)) (λ e. omega arith) ∙ s.tail;
+      places = λ run a b. subst (PlaceShows first (ring_at e (wait_ring wait)) run) (sym (same (place_word (wait_ring wait) (first + run)) (λ e. omega arith))) (s.places run a b);
     }
 
 hand_after : (id : ℕ) (v : View) (e : Elements) (wait : ℕ) → HandIs id v e → v.claimed ≡ None → HandIs id (quiet v) (after e wait)
@@ -88,15 +88,15 @@ notify_effect id v first e words wait ready none below =
     let shows : WordsShow first e words = ready.shows in
     let many = shows.waits in
     let wide = shows.wide in
-    let word : ℕ = (head_shown first e (wait + 2) + 4294967296) % 18446744073709551616 in
+    let word : ℕ = (head_shown first e (wait_ring wait) + 4294967296) % 18446744073709551616 in
     record {
       f = after e wait;
       goes = goes e wait (omega arith);
       leaves = rings_leave id v e e.rings (told e wait) e.held (λ l. queue_stays (ring_at e l) (ring_at e l) refl) (λ call element ne. refl)
           (λ call c ne claimed. claim_kept call c e (after e wait) refl refl claimed);
       hand = hand_after id v e wait ready.hand none;
-      shows = shows_kept first e e.rings (told e wait) e.held (wait + 2) (head_word (wait + 2)) word words shows refl (length-set e.notified wait _) (omega arith) (omega arith) (omega arith)
+      shows = shows_kept first e e.rings (told e wait) e.held (wait_ring wait) (head_word (wait_ring wait)) word words shows refl (length-set e.notified wait _) (omega arith) (omega arith) (omega arith)
           (λ l ne. refl) (mark_other e wait)
-          (ring_after first e words wait word (omega arith) (omega arith) (shows.rings (wait + 2) (omega arith)) refl);
+          (ring_after first e words wait word (omega arith) (omega arith) (shows.rings (wait_ring wait) (omega arith)) refl);
       owes = same_owes v (quiet v) e (after e wait) none (λ ring. refl);
     }

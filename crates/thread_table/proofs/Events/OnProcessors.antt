@@ -13,7 +13,7 @@ use Rattle.event_theory.specs.declared.hold.Hold.{Hold}
 use Rattle.event_theory.proofs.Keeping.Places.{slice_get_set_same, slice_get_set_other}
 use Rattle.thread_table.specs.declared.rule.View.{View}
 use Rattle.thread_table.specs.Schedules.{thread_at}
-use Rattle.thread_table.specs.Layout.{processor_word, state_word, done_word}
+use Rattle.thread_table.specs.Layout.{WORDS, processor_word, state_word, done_word}
 use Rattle.thread_table.specs.Shown.{WordsShow, StateShows, processor_shown}
 use Rattle.thread_table.specs.Rules.{HandIs, serves, running}
 use Rattle.thread_table.proofs.Events.Effects.{Leaves, OnEffect, OffEffect}
@@ -58,7 +58,7 @@ not_put id call x (Some element) other = hold_else id element call x (hold id el
 not_served : (v : View) (p q : ℕ) → serves v p ≡ true → serves v q ≡ false → p ≢ q
 not_served v p q served strange same = let e : serves v q ≡ true = ap (serves v) (sym same) ∙ served in absurd (cc)
 
-processors_shown : (id : ℕ) (words : List ℕ) (processors : List (Option Hold)) (p : ℕ) (on : Option ℕ) → p < 8 → length words ≡ 1325 → length processors ≡ 8
+processors_shown : (id : ℕ) (words : List ℕ) (processors : List (Option Hold)) (p : ℕ) (on : Option ℕ) → p < 8 → length words ≡ WORDS → length processors ≡ 8
     → ((q : ℕ) → q < 8 → get_or words (processor_word q) 0 ≡ processor_shown (get_or processors q None))
     → (q : ℕ) → q < 8 → get_or (set words (processor_word p) (processor_shown (processor_of id on))) (processor_word q) 0 ≡ processor_shown (get_or (set processors p (processor_of id on)) q None)
 processors_shown id words processors p on below wide long shows q within =

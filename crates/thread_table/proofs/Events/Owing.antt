@@ -9,6 +9,7 @@ use Rattle.event_theory.specs.Queues.{Queue}
 use Rattle.event_theory.specs.Runs.{Run}
 use Rattle.atomic_table.proofs.Lists.{set_here, set_else}
 use Rattle.table_theory.proofs.Owned.{at_below, one_at}
+use Rattle.thread_table.specs.Layout.{RINGS}
 use Rattle.thread_table.specs.declared.rule.View.{View}
 use Rattle.thread_table.specs.declared.rule.Claimed.{Claimed}
 use Rattle.thread_table.specs.Schedules.{ring_at, element_at, element_of, no_run}
@@ -18,7 +19,7 @@ use Rattle.thread_table.proofs.Shown.QueueWords.{none_some}
 
 -- a run that isn't raised after an event is then the hand's claim, or it wasn't raised before and wasn't the hand's
 abbrev pub Owes : View → View → Elements → Elements → Type 0
-Owes v w e f = (ring run : ℕ) → ring < 18 → IsOpen ring run f
+Owes v w e f = (ring run : ℕ) → ring < RINGS → IsOpen ring run f
     → (IsOpen ring run e × (element_at (ring_at f ring) run ≡ element_at (ring_at e ring) run)
     × (v.claimed ≡ Some (claim_of ring run (element_at (ring_at e ring) run)) → ⊥))
     ⊎ (w.claimed ≡ Some (claim_of ring run (element_at (ring_at f ring) run)))
@@ -58,7 +59,7 @@ IsOwned views c = (j : ℕ) × (v : View) × (get_elem? views j ≡ some v) × (
 
 -- each run that isn't raised is a hand's claim
 abbrev pub AllOwned : List View → Elements → Type 0
-AllOwned views e = (ring run : ℕ) → ring < 18 → IsOpen ring run e → IsOwned views (claim_of ring run (element_at (ring_at e ring) run))
+AllOwned views e = (ring run : ℕ) → ring < RINGS → IsOpen ring run e → IsOwned views (claim_of ring run (element_at (ring_at e ring) run))
 
 -- a claim stays a hand's, where one view changed that kept it or didn't have it
 pub owned_set : (views : List View) (id : ℕ) (v w : View) (c : Claimed) → get_elem? views id ≡ some v → (v.claimed ≡ Some c → w.claimed ≡ Some c) → IsOwned views c → IsOwned (set views id w) c

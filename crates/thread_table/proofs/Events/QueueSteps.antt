@@ -23,7 +23,7 @@ use Rattle.event_theory.proofs.Keeping.Places.{one, sum_changed, in_joined}
 use Rattle.thread_table.specs.declared.rule.Shape.{Shape}
 use Rattle.thread_table.specs.declared.rule.View.{View}
 use Rattle.thread_table.specs.Schedules.{elements_after, ring_at, element_at, ring_name}
-use Rattle.thread_table.specs.Layout.{head_word, tail_word, place_word}
+use Rattle.thread_table.specs.Layout.{RINGS, WAITS, head_word, tail_word, place_word, wait_ring}
 use Rattle.thread_table.specs.Shown.{RingShows, PlaceShows, head_shown, tail_shown, mark_of}
 use Rattle.thread_table.specs.Rules.{IsActive, Rule, has}
 use Rattle.thread_table.specs.Views.{quiet, with_held, with_claim, with_raise, claim_of}
@@ -85,7 +85,7 @@ as_deed P call id at ring item element place word mine there this here p =
     subst (λ (z : ℕ). P z at item place) (sym mine) (subst (λ (z : ℕ). P id z item place) (sym there) (subst (λ (z : ℕ). P id ring z place) (sym this) (subst (P id ring element) (sym here) p)))
 
 -- the exchange of a head
-claim_ring_goes : (key : Shape) (n id ring element : ℕ) (me : Me Unit View) (old new : ℕ) → ring < 18 → element < 64 → has me.0 element ≡ true → IsActive me.0 → me.0.claimed ≡ None → new ≡ old + 1 → old % 4294967296 + 1 < 4294967296
+claim_ring_goes : (key : Shape) (n id ring element : ℕ) (me : Me Unit View) (old new : ℕ) → ring < RINGS → element < 64 → has me.0 element ≡ true → IsActive me.0 → me.0.claimed ≡ None → new ≡ old + 1 → old % 4294967296 + 1 < 4294967296
     → Allows (Rule key) n id me (head_word ring) (λ x. either (eqb x old) new x) (claims id ring element (step n (head_word ring) old new none) me)
 claim_ring_goes key n id ring element me old new below known held live none_yet next fits s k _ at _ =
     let v : View = me.0 in let e : Elements = elements_after k.events in let i : ℕ = head_word ring in let y : ℕ = get_or s.words i 0 in
@@ -101,15 +101,15 @@ claim_ring_goes key n id ring element me old new below known held live none_yet 
     (λ miss. (looked v i y (steps_to k) k.events, keeps, tt, kept_look key s k i id y v at live, (refl, (λ hit. absurd (miss hit)), λ _. found_now key s k i id v at)))
 
 pub claims_head : (key : Shape) (n id ring element : ℕ) (me : Me Unit View) (old new call at item place : ℕ) → call ≡ id → at ≡ ring → item ≡ element → place ≡ head_word ring
-    → ring < 18 → element < 64 → has me.0 element ≡ true → IsActive me.0 → me.0.claimed ≡ None → new ≡ old + 1 → old % 4294967296 + 1 < 4294967296
+    → ring < RINGS → element < 64 → has me.0 element ≡ true → IsActive me.0 → me.0.claimed ≡ None → new ≡ old + 1 → old % 4294967296 + 1 < 4294967296
     → Allows (Rule key) n id me place (λ x. either (eqb x old) new x) (claims call at item (step n place old new none) me)
 claims_head key n id ring element me old new call at item place mine there this here below known held live none_yet next fits =
     as_deed (λ c l x w. Allows (Rule key) n id me w (λ y. either (eqb y old) new y) (claims c l x (step n w old new none) me)) call id at ring item element place (head_word ring) mine there this here
     (claim_ring_goes key n id ring element me old new below known held live none_yet next fits)
 
 -- the exchange of a wait queue's head for a wait with a ticket
-wait_ring_goes : (key : Shape) (n id wait element ticket : ℕ) (me : Me Unit View) (old new : ℕ) → wait < 16 → element < 64 → has me.0 element ≡ true → IsActive me.0 → me.0.claimed ≡ None → new ≡ old + 1 → old % 4294967296 + 1 < 4294967296 → old / 4294967296 ≡ ticket
-    → Allows (Rule key) n id me (head_word (wait + 2)) (λ x. either (eqb x old) new x) (claims_at id wait element ticket (step n (head_word (wait + 2)) old new none) me)
+wait_ring_goes : (key : Shape) (n id wait element ticket : ℕ) (me : Me Unit View) (old new : ℕ) → wait < WAITS → element < 64 → has me.0 element ≡ true → IsActive me.0 → me.0.claimed ≡ None → new ≡ old + 1 → old % 4294967296 + 1 < 4294967296 → old / 4294967296 ≡ ticket
+    → Allows (Rule key) n id me (head_word (wait_ring wait)) (λ x. either (eqb x old) new x) (claims_at id wait element ticket (step n (head_word (wait_ring wait)) old new none) me)
 wait_ring_goes key n id wait element ticket me old new below known held live none_yet next fits is_ticket s k _ at _ =
     let v : View = me.0 in let e : Elements = elements_after k.events in let ring : ℕ = wait + 2 in let i : ℕ = head_word ring in let y : ℕ = get_or s.words i 0 in
     exchanged y old new (Goes key s i id me (claims_at id wait element ticket (step n i old new none) me y))
@@ -124,11 +124,11 @@ wait_ring_goes key n id wait element ticket me old new below known held live non
     (λ did before words. (refl, (λ _. record { did = did; head_is = head_before old key.first ring k.events v did.before (k.first id v at) before head }), λ miss. absurd (miss hit))))
     (λ miss. (looked v i y (steps_to k) k.events, keeps, tt, kept_look key s k i id y v at live, (refl, (λ hit. absurd (miss hit)), λ _. found_now key s k i id v at)))
 
-pub claims_head_at : (key : Shape) (n id wait element ticket : ℕ) (me : Me Unit View) (old new call at item number place : ℕ) → call ≡ id → at ≡ wait → item ≡ element → number ≡ ticket → place ≡ head_word (wait + 2)
-    → wait < 16 → element < 64 → has me.0 element ≡ true → IsActive me.0 → me.0.claimed ≡ None → new ≡ old + 1 → old % 4294967296 + 1 < 4294967296 → old / 4294967296 ≡ ticket
+pub claims_head_at : (key : Shape) (n id wait element ticket : ℕ) (me : Me Unit View) (old new call at item number place : ℕ) → call ≡ id → at ≡ wait → item ≡ element → number ≡ ticket → place ≡ head_word (wait_ring wait)
+    → wait < WAITS → element < 64 → has me.0 element ≡ true → IsActive me.0 → me.0.claimed ≡ None → new ≡ old + 1 → old % 4294967296 + 1 < 4294967296 → old / 4294967296 ≡ ticket
     → Allows (Rule key) n id me place (λ x. either (eqb x old) new x) (claims_at call at item number (step n place old new none) me)
 claims_head_at key n id wait element ticket me old new call at item number place mine there this same here below known held live none_yet next fits is_ticket =
-    as_deed (λ c l x w. Allows (Rule key) n id me w (λ y. either (eqb y old) new y) (claims_at c l x number (step n w old new none) me)) call id at wait item element place (head_word (wait + 2)) mine there this here
+    as_deed (λ c l x w. Allows (Rule key) n id me w (λ y. either (eqb y old) new y) (claims_at c l x number (step n w old new none) me)) call id at wait item element place (head_word (wait_ring wait)) mine there this here
     (wait_ring_goes key n id wait element number me old new below known held live none_yet next fits (is_ticket ∙ sym same))
 
 -- the place and the number that were stored, by the run
@@ -158,7 +158,7 @@ raises_place key n id ring run element me position new call place mine here live
     (raise_ring_goes key n id ring run element me position new live claimed spot is)
 
 -- the exchange of a tail at which the place was raised
-take_ring_goes : (key : Shape) (n id ring : ℕ) (me : Me Unit View) (old new run : ℕ) → ring < 18 → IsActive me.0 → me.0.claimed ≡ None → new ≡ old + 1 → old ≡ me.0.first + run → (ring_at (elements_after me.0.schedule) ring).raised run 0 ≡ true
+take_ring_goes : (key : Shape) (n id ring : ℕ) (me : Me Unit View) (old new run : ℕ) → ring < RINGS → IsActive me.0 → me.0.claimed ≡ None → new ≡ old + 1 → old ≡ me.0.first + run → (ring_at (elements_after me.0.schedule) ring).raised run 0 ≡ true
     → Allows (Rule key) n id me (tail_word ring) (λ x. either (eqb x old) new x) (takes id ring (step n (tail_word ring) old new none) me)
 take_ring_goes key n id ring me old new run below live none_yet next start up s k _ at _ =
     let v : View = me.0 in let e : Elements = elements_after k.events in let i : ℕ = tail_word ring in let y : ℕ = get_or s.words i 0 in
@@ -177,15 +177,15 @@ take_ring_goes key n id ring me old new run below live none_yet next start up s 
     (λ miss. (looked v i y (steps_to k) k.events, keeps, tt, kept_look key s k i id y v at live, (refl, (λ hit. absurd (miss hit)), λ _. found_now key s k i id v at)))
 
 pub takes_tail : (key : Shape) (n id ring : ℕ) (me : Me Unit View) (old new run call at place : ℕ) → call ≡ id → at ≡ ring → place ≡ tail_word ring
-    → ring < 18 → IsActive me.0 → me.0.claimed ≡ None → new ≡ old + 1 → old ≡ me.0.first + run → (ring_at (elements_after me.0.schedule) ring).raised run 0 ≡ true
+    → ring < RINGS → IsActive me.0 → me.0.claimed ≡ None → new ≡ old + 1 → old ≡ me.0.first + run → (ring_at (elements_after me.0.schedule) ring).raised run 0 ≡ true
     → Allows (Rule key) n id me place (λ x. either (eqb x old) new x) (takes call at (step n place old new none) me)
 takes_tail key n id ring me old new run call at place mine there here below live none_yet next start up =
     as_deed (λ c l x w. Allows (Rule key) n id me w (λ y. either (eqb y old) new y) (takes c l (step n w old new none) me)) call id at ring 0 0 place (tail_word ring) mine there refl here
     (take_ring_goes key n id ring me old new run below live none_yet next start up)
 
 -- the sum that notifies a wait queue
-notify_ring_goes : (key : Shape) (n id wait : ℕ) (me : Me Unit View) → wait < 16 → IsActive me.0 → me.0.claimed ≡ None
-    → Allows (Rule key) n id me (head_word (wait + 2)) (λ x. (x + 4294967296) % 18446744073709551616) (notifies id wait (step n (head_word (wait + 2)) 4294967296 0 none) me)
+notify_ring_goes : (key : Shape) (n id wait : ℕ) (me : Me Unit View) → wait < WAITS → IsActive me.0 → me.0.claimed ≡ None
+    → Allows (Rule key) n id me (head_word (wait_ring wait)) (λ x. (x + 4294967296) % 18446744073709551616) (notifies id wait (step n (head_word (wait_ring wait)) 4294967296 0 none) me)
 notify_ring_goes key n id wait me below live none_yet s k _ at _ =
     let v : View = me.0 in let e : Elements = elements_after k.events in let ring : ℕ = wait + 2 in let i : ℕ = head_word ring in let y : ℕ = get_or s.words i 0 in
     let shown : RingShows key.first e ring s.words = k.shows.rings ring (omega arith) in let new : ℕ = (y + 4294967296) % 18446744073709551616 in
@@ -194,31 +194,31 @@ notify_ring_goes key n id wait me below live none_yet s k _ at _ =
     goes_by key s k id me (events.NotifyWait id wait) (notify_wait wait) (λ before. quiet v) i new y (notifies id wait (step n i 4294967296 0 none) me y) at live (omega arith) (λ t. refl) refl refl refl (refl, refl, refl, refl) f
     (λ did before words. (refl, record { did = did; is = head_before y key.first ring k.events v did.before (k.first id v at) before shown.head }))
 
-pub notifies_head : (key : Shape) (n id wait : ℕ) (me : Me Unit View) (call at place : ℕ) → call ≡ id → at ≡ wait → place ≡ head_word (wait + 2) → wait < 16 → IsActive me.0 → me.0.claimed ≡ None
+pub notifies_head : (key : Shape) (n id wait : ℕ) (me : Me Unit View) (call at place : ℕ) → call ≡ id → at ≡ wait → place ≡ head_word (wait_ring wait) → wait < WAITS → IsActive me.0 → me.0.claimed ≡ None
     → Allows (Rule key) n id me place (λ x. (x + 4294967296) % 18446744073709551616) (notifies call at (step n place 4294967296 0 none) me)
 notifies_head key n id wait me call at place mine there here below live none_yet =
-    as_deed (λ c l x w. Allows (Rule key) n id me w (λ y. (y + 4294967296) % 18446744073709551616) (notifies c l (step n w 4294967296 0 none) me)) call id at wait 0 0 place (head_word (wait + 2)) mine there refl here
+    as_deed (λ c l x w. Allows (Rule key) n id me w (λ y. (y + 4294967296) % 18446744073709551616) (notifies c l (step n w 4294967296 0 none) me)) call id at wait 0 0 place (head_word (wait_ring wait)) mine there refl here
     (notify_ring_goes key n id wait me below live none_yet)
 
 -- what a look tells
 pub found_at : (v w : View) (i place found : ℕ) → i ≡ place → Found v i found w → Found v place found w
 found_at v w i place found here f = subst (λ (z : ℕ). Found v z found w) here f
 
-ring_of : (v w : View) (ring : ℕ) (sees : Sees v w.schedule) → ring < 18 → RingShows v.first (elements_after w.schedule) ring sees.words
+ring_of : (v w : View) (ring : ℕ) (sees : Sees v w.schedule) → ring < RINGS → RingShows v.first (elements_after w.schedule) ring sees.words
 ring_of v w ring sees below = let shows = sees.shows in shows.rings ring below
 
-lawful_ring : (v w : View) (ring : ℕ) → Sees v w.schedule → ring < 18 → IsLawfulQueue (ring_at (elements_after w.schedule) ring)
+lawful_ring : (v w : View) (ring : ℕ) → Sees v w.schedule → ring < RINGS → IsLawfulQueue (ring_at (elements_after w.schedule) ring)
 lawful_ring v w ring sees below = let e : Elements = elements_after w.schedule in let shows = sees.shows in let many = shows.queues in let lawful = sees.lawful in
     every_at IsLawfulQueue e.rings ring (ring_at e ring) (slice_get-get_or e.rings ring (empty_queue 64) (omega arith)) lawful.rings
 
-pub found_head : (v w : View) (found ring : ℕ) → ring < 18 → Found v (head_word ring) found w → found ≡ head_shown v.first (elements_after w.schedule) ring
+pub found_head : (v w : View) (found ring : ℕ) → ring < RINGS → Found v (head_word ring) found w → found ≡ head_shown v.first (elements_after w.schedule) ring
 found_head v w found ring below f = let l = ring_of v w ring f.sees below in f.is ∙ l.head
 
-pub found_tail : (v w : View) (found ring : ℕ) → ring < 18 → Found v (tail_word ring) found w → found ≡ tail_shown v.first (elements_after w.schedule) ring
+pub found_tail : (v w : View) (found ring : ℕ) → ring < RINGS → Found v (tail_word ring) found w → found ≡ tail_shown v.first (elements_after w.schedule) ring
 found_tail v w found ring below f = let l = ring_of v w ring f.sees below in f.is ∙ l.tail
 
 -- a tail is a position
-pub small_tail : (v w : View) (ring : ℕ) → ring < 18 → Sees v w.schedule → tail_shown v.first (elements_after w.schedule) ring < 4294967296
+pub small_tail : (v w : View) (ring : ℕ) → ring < RINGS → Sees v w.schedule → tail_shown v.first (elements_after w.schedule) ring < 4294967296
 small_tail v w ring below seen = let l = ring_of v w ring seen below in let bounded = l.bounded in
     let room = within_room (ring_at (elements_after w.schedule) ring) 64 (lawful_ring v w ring seen below) l.single l.capacity in let behind = room.0 in omega arith
 
@@ -241,7 +241,7 @@ false_unless true never = absurd (never refl)
 false_unless false never = refl
 
 -- the place at the tail
-pub found_place : (v w : View) (found ring : ℕ) → ring < 18 → Found v (place_word ring (v.first + (ring_at (elements_after v.schedule) ring).taken)) found w → Peeked v ring found w
+pub found_place : (v w : View) (found ring : ℕ) → ring < RINGS → Found v (place_word ring (v.first + (ring_at (elements_after v.schedule) ring).taken)) found w → Peeked v ring found w
 found_place v w found ring below saw =
     let e : Elements = elements_after w.schedule in let q : Queue = ring_at e ring in let t : ℕ = (ring_at (elements_after v.schedule) ring).taken in
     let shows = saw.sees.shows in let many = shows.queues in let threads = shows.threads in let l = ring_of v w ring saw.sees below in

@@ -12,7 +12,7 @@ use Rattle.event_theory.proofs.Keeping.Elements.{every_at}
 use Rattle.thread_table.specs.declared.rule.View.{View}
 use Rattle.thread_table.specs.declared.rule.Claimed.{Claimed}
 use Rattle.thread_table.specs.Schedules.{QueueGrows, Grows, ring_at, element_at, element_of, no_run}
-use Rattle.thread_table.specs.Layout.{head_word, tail_word, place_word}
+use Rattle.thread_table.specs.Layout.{RINGS, head_word, tail_word, place_word}
 use Rattle.thread_table.specs.Shown.{WordsShow, RingShows, PlaceShows, mark_of}
 use Rattle.thread_table.specs.Rules.{HandIs, IsClaimed}
 use Rattle.thread_table.specs.Views.{claim_of, with_raise}
@@ -129,7 +129,7 @@ module _ (id : ℕ) (e : Elements) (ring run element : ℕ) (below : ring < leng
       (ap (λ (r : Queue). slice_get r.history c.run) (else_where c.ring other))
       (ap (λ (r : Queue). r.raised c.run 0) (else_where c.ring other)) claimed)
 
-  shown : (first : ℕ) (words : List ℕ) → ring < 18 → IsLawfulQueue q → WordsShow first e words → WordsShow first (after e ring run) (set words (place_word ring (first + run)) (element + 256 * (first + run + 1)))
+  shown : (first : ℕ) (words : List ℕ) → ring < RINGS → IsLawfulQueue q → WordsShow first e words → WordsShow first (after e ring run) (set words (place_word ring (first + run)) (element + 256 * (first + run + 1)))
   shown first words known lawful s =
       let place : ℕ = place_word ring (first + run) in
       let word : ℕ = element + 256 * (first + run + 1) in
@@ -172,7 +172,7 @@ raise_effect id v first e words ring run element ready claimed =
     let many = shows.queues in
     let c : Claimed = record { ring = ring; run = run; element = element } in
     let mine : IsClaimed id c e = ready.hand.claimed c claimed in
-    let known : ring < 18 = mine.below in
+    let known : ring < RINGS = mine.below in
     let below : ring < length e.rings = omega arith in
     let lawful : IsLawfulQueue (ring_at e ring) = every_at IsLawfulQueue e.rings ring (ring_at e ring) (slice_get-get_or e.rings ring (empty_queue 64) below) ready.lawful.rings in
     record {

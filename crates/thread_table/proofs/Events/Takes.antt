@@ -21,7 +21,7 @@ use Rattle.table_theory.proofs.QueueEvents.{take_goes}
 use Rattle.thread_table.specs.declared.rule.View.{View}
 use Rattle.thread_table.specs.declared.rule.Claimed.{Claimed}
 use Rattle.thread_table.specs.Schedules.{QueueGrows, Grows, ring_at, element_at}
-use Rattle.thread_table.specs.Layout.{head_word, tail_word, place_word}
+use Rattle.thread_table.specs.Layout.{RINGS, head_word, tail_word, place_word}
 use Rattle.thread_table.specs.Shown.{WordsShow, RingShows, PlaceShows, tail_shown, mark_of}
 use Rattle.thread_table.specs.Rules.{HandIs, IsClaimed, has}
 use Rattle.thread_table.proofs.Events.Effects.{TakeEffect}
@@ -147,7 +147,7 @@ module _ (id : ℕ) (e : Elements) (ring x : ℕ) (below : ring < length e.rings
       (ap (λ (r : Queue). slice_get r.history c.run) (else_where c.ring other))
       (ap (λ (r : Queue). r.raised c.run 0) (else_where c.ring other)) claimed)
 
-  shown : (first : ℕ) (words : List ℕ) → ring < 18 → IsLawfulQueue q → q.raised q.taken 0 ≡ true → element_at q q.taken < 64 → WordsShow first e words
+  shown : (first : ℕ) (words : List ℕ) → ring < RINGS → IsLawfulQueue q → q.raised q.taken 0 ≡ true → element_at q q.taken < 64 → WordsShow first e words
       → WordsShow first (after e ring id x) (set words (tail_word ring) (tail_shown first e ring + 1))
   shown first words known lawful up element s =
       let place : ℕ = tail_word ring in

@@ -19,7 +19,7 @@ use Rattle.thread_table.specs.declared.rule.View.{View}
 use Rattle.thread_table.specs.declared.takings.NextRefusal.{NextRefusal}
 use Rattle.thread_table.specs.declared.takings.NextRefusal.TheVariants as nexts
 use Rattle.thread_table.specs.Schedules.{Course, elements_after, ring_at, ring_name, element_at, state_after}
-use Rattle.thread_table.specs.Layout.{tail_word}
+use Rattle.thread_table.specs.Layout.{WAITS, tail_word, wait_ring}
 use Rattle.thread_table.specs.Shown.{tail_shown}
 use Rattle.thread_table.specs.Rules.{has}
 use Rattle.thread_table.specs.Steps.{Found, Notifies, made_by}
@@ -241,12 +241,12 @@ woken_missed call ring u v w mask (nexts.Lost seen) past answer = woken_looked c
     answer)
 
 -- the notify, and then all that was claimed before it was taken
-pub woke_all : (call wait ring word head mark tail mask : ℕ) (v u l w : View) → wait < 16 → ring ≡ wait + 2 → Notifies call wait v word u → word ≡ head + mark * 4294967296 → head < 4294967296
+pub woke_all : (call wait ring word head mark tail mask : ℕ) (v u l w : View) → wait < WAITS → ring ≡ wait + 2 → Notifies call wait v word u → word ≡ head + mark * 4294967296 → head < 4294967296
     → Woken call ring u mask l → Rounds call ring head u mask l → Found l (tail_word ring) tail w → head ≤ tail → WokeAll call v wait mask w
 woke_all call wait ring word head mark tail mask v u l w few at n is bounded before rounds found reached =
     let seen = found_looked l w _ _ found in let past = woken_looked call ring u l w mask before seen in
-    let now : Found l (tail_word (wait + 2)) tail w = subst (λ k. Found l (tail_word k) tail w) at found in
-    let tail_is : tail ≡ tail_shown l.first (elements_after w.schedule) (wait + 2) = found_tail l w tail (wait + 2) (omega arith) now in
+    let now : Found l (tail_word (wait_ring wait)) tail w = subst (λ k. Found l (tail_word k) tail w) at found in
+    let tail_is : tail ≡ tail_shown l.first (elements_after w.schedule) (wait_ring wait) = found_tail l w tail (wait_ring wait) (omega arith) now in
     let head_is : head_in word ≡ head = (word_parts word head mark is bounded).0 in record {
       made = subst (λ k. (m : List Made) × (w.made ≡ u.made ++ m) × AreTakesOf call k m) at past.made;
       same = past.same ∙ (ap (λ (b : Bool). let x : View = record (holding_as u w) { fresh = b } in x) (ap (λ (z : View). z.fresh) seen.same) ∙ ap (λ (z : View). holding_as z w) n.did.same);
@@ -260,7 +260,7 @@ woke_all call wait ring word head mark tail mask v u l w few at n is bounded bef
       tail_loaded = now;
       reached = omega arith;
       mask_is = rounds.mask_is;
-      all = omega (arith, few, is, bounded, reached, tail_is, (n.did.sees.shows.rings (wait + 2) (omega arith)).bounded, n.is, before.first, ap (λ (z : View). z.first) n.did.same);
+      all = omega (arith, few, is, bounded, reached, tail_is, (n.did.sees.shows.rings (wait_ring wait) (omega arith)).bounded, n.is, before.first, ap (λ (z : View). z.first) n.did.same);
       holds = λ e below. past.holds e below ∙ ap (λ b. b || is_in mask e) (has_same e);
       woken = λ e below up. sym (has_same e) ∙ past.woken e below up;
     }
@@ -269,12 +269,12 @@ woke_all call wait ring word head mark tail mask v u l w few at n is bounded bef
     has_same e = ap (λ (z : View). has z e) n.did.same
 
 -- one notify, and the head that it found
-pub notified_now : (call wait word head mark : ℕ) (v u : View) → wait < 16 → Notifies call wait v word u → word ≡ head + mark * 4294967296 → head < 4294967296 → NotifiedNow call v wait head u
+pub notified_now : (call wait word head mark : ℕ) (v u : View) → wait < WAITS → Notifies call wait v word u → word ≡ head + mark * 4294967296 → head < 4294967296 → NotifiedNow call v wait head u
 notified_now call wait word head mark v u few n is bounded = record {
   word = word;
   notifies = n;
   is = sym (word_parts word head mark is bounded).0;
-  behind = omega (arith, few, is, bounded, (n.did.sees.shows.rings (wait + 2) (omega arith)).bounded, n.is);
+  behind = omega (arith, few, is, bounded, (n.did.sees.shows.rings (wait_ring wait) (omega arith)).bounded, n.is);
 }
 
 -- the tail was found before a position, and then an element was taken

@@ -18,7 +18,7 @@ use Rattle.table_theory.proofs.Members.{known_first}
 use Rattle.thread_table.specs.declared.rule.Shape.{Shape}
 use Rattle.thread_table.specs.declared.rule.View.{View}
 use Rattle.thread_table.specs.Schedules.{elements_after, ring_at, thread_at, element_at, element_of, no_run}
-use Rattle.thread_table.specs.Layout.{head_word, tail_word, place_word}
+use Rattle.thread_table.specs.Layout.{WORDS, RINGS, head_word, tail_word, place_word}
 use Rattle.thread_table.specs.Shown.{WordsShow, RingShows, StateShows, processor_shown, mark_of}
 use Rattle.thread_table.specs.Rules.{IsSteady, IsNewest, Rule, HandIs, Seen, IsOpen, newcomer, member_of, IsIdle}
 use Rattle.thread_table.proofs.Events.Owing.{AllOwned}
@@ -94,9 +94,9 @@ no_hold = None
 abbrev e64 : Elements
 e64 = first_elements 64
 
-rings_show : (first : ℕ) (words : List ℕ) → first + 64 < 4294967296 → ((ring : ℕ) → ring < 18 → get_or words (head_word ring) 0 ≡ first + cond (eqb ring 1) 64 0) → ((ring : ℕ) → ring < 18 → get_or words (tail_word ring) 0 ≡ first)
-    → ((x : ℕ) → x < 64 → get_or words (place_word 1 (first + x)) 0 ≡ x + 256 * (first + x + 1)) → ((ring i : ℕ) → ring < 18 → ring ≢ 1 → i < 64 → get_or words (66 * ring + 139 + i) 0 ≡ 0)
-    → (ring : ℕ) → ring < 18 → RingShows first e64 ring words
+rings_show : (first : ℕ) (words : List ℕ) → first + 64 < 4294967296 → ((ring : ℕ) → ring < RINGS → get_or words (head_word ring) 0 ≡ first + cond (eqb ring 1) 64 0) → ((ring : ℕ) → ring < RINGS → get_or words (tail_word ring) 0 ≡ first)
+    → ((x : ℕ) → x < 64 → get_or words (place_word 1 (first + x)) 0 ≡ x + 256 * (first + x + 1)) → ((ring i : ℕ) → ring < RINGS → ring ≢ 1 → i < 64 → get_or words (66 * ring + 139 + i) 0 ≡ 0)
+    → (ring : ℕ) → ring < RINGS → RingShows first e64 ring words
 rings_show first words fits head tail items zeros zero below = empty_shows first 0 e64 words refl refl fits (let h = head 0 below in omega arith) (tail 0 below) (λ i within. zeros 0 i below (λ e. omega arith) within)
 rings_show first words fits head tail items zeros (suc zero) below = full_shows first e64 words refl fits (head 1 below) (tail 1 below) items
 rings_show first words fits head tail items zeros (suc (suc wait)) below = let ring : ℕ = suc (suc wait) in
@@ -104,9 +104,9 @@ rings_show first words fits head tail items zeros (suc (suc wait)) below = let r
     (let h = head ring below in h ∙ (ap (λ (b : Bool). first + cond b 64 0) (ne_eqb ring 1 (λ e. omega arith)) ∙ add-zero first))
     (tail ring below) (λ i within. zeros ring i below (λ e. omega arith) within)
 
-pub first_shows : (first : ℕ) (words : List ℕ) → first + 64 < 4294967296 → length words ≡ 1325 → ((i : ℕ) → 1 ≤ i → i < 73 → get_or words i 0 ≡ 0) → ((i : ℕ) → 73 ≤ i → i < 137 → get_or words i 0 ≡ 0)
-    → ((ring : ℕ) → ring < 18 → get_or words (head_word ring) 0 ≡ first + cond (eqb ring 1) 64 0) → ((ring : ℕ) → ring < 18 → get_or words (tail_word ring) 0 ≡ first)
-    → ((x : ℕ) → x < 64 → get_or words (place_word 1 (first + x)) 0 ≡ x + 256 * (first + x + 1)) → ((ring i : ℕ) → ring < 18 → ring ≢ 1 → i < 64 → get_or words (66 * ring + 139 + i) 0 ≡ 0)
+pub first_shows : (first : ℕ) (words : List ℕ) → first + 64 < 4294967296 → length words ≡ WORDS → ((i : ℕ) → 1 ≤ i → i < 73 → get_or words i 0 ≡ 0) → ((i : ℕ) → 73 ≤ i → i < 137 → get_or words i 0 ≡ 0)
+    → ((ring : ℕ) → ring < RINGS → get_or words (head_word ring) 0 ≡ first + cond (eqb ring 1) 64 0) → ((ring : ℕ) → ring < RINGS → get_or words (tail_word ring) 0 ≡ first)
+    → ((x : ℕ) → x < 64 → get_or words (place_word 1 (first + x)) 0 ≡ x + 256 * (first + x + 1)) → ((ring i : ℕ) → ring < RINGS → ring ≢ 1 → i < 64 → get_or words (66 * ring + 139 + i) 0 ≡ 0)
     → WordsShow first e64 words
 first_shows first words fits long none unstepped head tail items zeros = record {
   wide = long;
@@ -159,9 +159,9 @@ first_owned views ring run below unraised = absurd (all_raised ring run unraised
 pub first_are : elements_after [] ≡ e64
 first_are = elements_of [] ∙ ap (λ (s : State). s.elements) after_none.0
 
-pub opens : (key : Shape) (words : List ℕ) → key.first + 64 < 4294967296 → length words ≡ 1325 → get_or words 0 0 ≡ 1 → ((i : ℕ) → 1 ≤ i → i < 73 → get_or words i 0 ≡ 0) → ((i : ℕ) → 73 ≤ i → i < 137 → get_or words i 0 ≡ 0)
-    → ((ring : ℕ) → ring < 18 → get_or words (head_word ring) 0 ≡ key.first + cond (eqb ring 1) 64 0) → ((ring : ℕ) → ring < 18 → get_or words (tail_word ring) 0 ≡ key.first)
-    → ((x : ℕ) → x < 64 → get_or words (place_word 1 (key.first + x)) 0 ≡ x + 256 * (key.first + x + 1)) → ((ring i : ℕ) → ring < 18 → ring ≢ 1 → i < 64 → get_or words (66 * ring + 139 + i) 0 ≡ 0)
+pub opens : (key : Shape) (words : List ℕ) → key.first + 64 < 4294967296 → length words ≡ WORDS → get_or words 0 0 ≡ 1 → ((i : ℕ) → 1 ≤ i → i < 73 → get_or words i 0 ≡ 0) → ((i : ℕ) → 73 ≤ i → i < 137 → get_or words i 0 ≡ 0)
+    → ((ring : ℕ) → ring < RINGS → get_or words (head_word ring) 0 ≡ key.first + cond (eqb ring 1) 64 0) → ((ring : ℕ) → ring < RINGS → get_or words (tail_word ring) 0 ≡ key.first)
+    → ((x : ℕ) → x < 64 → get_or words (place_word 1 (key.first + x)) 0 ≡ x + 256 * (key.first + x + 1)) → ((ring i : ℕ) → ring < RINGS → ring ≢ 1 → i < 64 → get_or words (66 * ring + 139 + i) 0 ≡ 0)
     → Rule key (opening words [] (newcomer key))
 opens key words fits long ends none unstepped head tail items zeros = let w : View = newcomer key in record {
   events = [];

@@ -12,7 +12,7 @@ use Rattle.event_theory.specs.declared.hold.Hold.{Hold}
 use Rattle.thread_table.specs.declared.rule.View.{View}
 use Rattle.thread_table.specs.declared.rule.Claimed.{Claimed}
 use Rattle.thread_table.specs.Schedules.{QueueGrows, Grows, ring_at, thread_at, element_at}
-use Rattle.thread_table.specs.Layout.{processor_word, state_word, done_word, head_word, tail_word, place_word}
+use Rattle.thread_table.specs.Layout.{RINGS, processor_word, state_word, done_word, head_word, tail_word, place_word}
 use Rattle.thread_table.specs.Shown.{WordsShow, RingShows, PlaceShows, StateShows, mark_of}
 use Rattle.thread_table.specs.Rules.{IsClaimed}
 use Rattle.thread_table.proofs.Events.Effects.{Leaves}
@@ -69,7 +69,7 @@ mark_same e rings held (suc (suc wait)) = refl
 
 -- a word of an element queue is written, and the other queues stay
 pub shows_kept : (first : ℕ) (e : Elements) (rings : List Queue) (notified : List ℕ) (held : List Hold) (ring place word : ℕ) (words : List ℕ) → WordsShow first e words
-    → length rings ≡ length e.rings → length notified ≡ length e.notified → ring < 18 → 66 * ring + 137 ≤ place → place < 66 * ring + 203
+    → length rings ≡ length e.rings → length notified ≡ length e.notified → ring < RINGS → 66 * ring + 137 ≤ place → place < 66 * ring + 203
     → ((l : ℕ) → l ≢ ring → ring_at (with_rings e rings notified held) l ≡ ring_at e l) → ((l : ℕ) → l ≢ ring → mark_of (with_rings e rings notified held) l ≡ mark_of e l)
     → RingShows first (with_rings e rings notified held) ring (set words place word) → WordsShow first (with_rings e rings notified held) (set words place word)
 shows_kept first e rings notified held ring place word words s many notes known from to other marks mine =

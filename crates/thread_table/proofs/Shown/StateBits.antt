@@ -8,6 +8,7 @@ use Rattle.std.specs.Int.{bit_at}
 use Rattle.std.specs.Int.Bits.{bit_or, bit_and}
 use Rattle.event_theory.specs.Chains.{with_number}
 use Rattle.event_theory.specs.Elements.{Thread}
+use Rattle.thread_table.specs.Layout.{RINGS}
 use Rattle.thread_table.specs.Shown.{StateShows, bit_of}
 
 most_one : (a : ℕ) → a < 2 → max a 1 ≡ 1
@@ -38,7 +39,7 @@ pub bit_kept : (w mask i : ℕ) → bit_at mask i ≡ 1 → bit_at (bit_and w ma
 bit_kept w mask i inside = bit_at_and w mask i ∙ (ap (min (bit_at w i)) inside ∙ least_one (bit_at w i) (bit_at-lt w i))
 
 -- a state word stays small
-pub bit_set_small : (w k : ℕ) → k < 18 → w < 262144 → bit_or w (2 ^ k) < 262144
+pub bit_set_small : (w k : ℕ) → k < RINGS → w < 262144 → bit_or w (2 ^ k) < 262144
 bit_set_small w k below bounded = or_lt 18 w (2 ^ k) bounded (pow-lt {i = k} {j = 18} below)
 
 pub bits_small : (w mask : ℕ) → w < 262144 → bit_and w mask < 262144

@@ -22,7 +22,8 @@ use Rattle.table_theory.proofs.QueueEvents.{history_of, got}
 use Rattle.atomic_table.proofs.Lists.{at_map}
 use Rattle.proc_chain.specs.declared.rule.Shape.{Shape}
 use Rattle.proc_chain.specs.declared.rule.View.{View}
-use Rattle.proc_chain.specs.Shown.{note_in, mark_in, gate_in, notes_of}
+use Rattle.proc_chain.specs.Layout.{note_in, mark_in, gate_in}
+use Rattle.proc_chain.specs.Shown.{notes_of}
 use Rattle.proc_chain.specs.Rules.{part_of, moment, Rule}
 use Rattle.proc_chain.specs.Gates.{GateShows}
 use Rattle.proc_chain.specs.Chainings.{gate_of, runner_from, owes_in, chain_of}

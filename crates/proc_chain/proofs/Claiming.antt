@@ -25,7 +25,8 @@ use Rattle.table_theory.proofs.Members.{known_look}
 use Rattle.table_theory.proofs.Windows.{window_same, window_claim, window_write}
 use Rattle.proc_chain.specs.declared.rule.Shape.{Shape}
 use Rattle.proc_chain.specs.declared.rule.View.{View}
-use Rattle.proc_chain.specs.Shown.{note_in, mark_in, gate_in, notes_of, place_word, raised_word, WordsShow}
+use Rattle.proc_chain.specs.Layout.{note_in, mark_in, gate_in, place_word, raised_word}
+use Rattle.proc_chain.specs.Shown.{notes_of, WordsShow}
 use Rattle.proc_chain.specs.Gates.{IsSettled, GateShows, SlotShows}
 use Rattle.proc_chain.specs.Rules.{part_of, member_of, IsIdle, moment, Rule}
 use Rattle.proc_chain.specs.Steps.{entry, after, looked, run, claimed, claims, raised, Raised, raises, notifies}

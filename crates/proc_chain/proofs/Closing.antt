@@ -23,7 +23,8 @@ use Rattle.table_theory.proofs.Owned.{one_at, at_map_back}
 use Rattle.atomic_table.specs.Table.{State, Final, Seen}
 use Rattle.proc_chain.specs.declared.rule.Shape.{Shape}
 use Rattle.proc_chain.specs.declared.rule.View.{View}
-use Rattle.proc_chain.specs.Shown.{note_in, mark_in, gate_in, WordsShow, notes_of}
+use Rattle.proc_chain.specs.Layout.{place_word, note_of, mark_of, note_in, mark_in, gate_in}
+use Rattle.proc_chain.specs.Shown.{WordsShow, notes_of}
 use Rattle.proc_chain.specs.Rules.{part_of, member_of, IsIdle, Rule}
 use Rattle.proc_chain.specs.Steps.{Tallied}
 use Rattle.proc_chain.specs.Closings.{left_at, left_from, ClosedNow, WereOpen}
@@ -44,13 +45,13 @@ read_word [] i x e = absurd (maybe.some-ne-none x (sym e))
 read_word (y ∷ ys) zero x e = maybe.some-injective y x e
 read_word (y ∷ ys) (suc i) x e = read_word ys i x e
 
-pub read_some : (ws : List ℕ) (p word mark note : ℕ) → get_elem? ws (p % 32 + 4) ≡ maybe.some word → mark ≡ word / 65536 → note ≡ word % 65536 → mark ≡ p + 1 → Some note ≡ left_at ws p
-read_some ws p word mark note w m n is = let r = read_word ws (p % 32 + 4) word w in
-    ap Some (n ∙ ap (λ (z : ℕ). z % 65536) (sym r)) ∙ sym (ap (λ (b : Bool). if b then Some (note_in ws (p % 32)) else None) (eq-eqb (mark_in ws (p % 32)) (p + 1) (ap (λ (z : ℕ). z / 65536) r ∙ (sym m ∙ is))))
+pub read_some : (ws : List ℕ) (p u word mark note : ℕ) → u ≡ place_word p → get_elem? ws u ≡ maybe.some word → mark ≡ mark_of word → note ≡ note_of word → mark ≡ p + 1 → Some note ≡ left_at ws p
+read_some ws p u word mark note at w m n is = let r = ap (λ (z : ℕ). get_or ws z 0) (sym at) ∙ read_word ws u word w in
+    ap Some (n ∙ ap note_of (sym r)) ∙ sym (ap (λ (b : Bool). if b then Some (note_in ws (p % 32)) else None) (eq-eqb (mark_in ws (p % 32)) (p + 1) (ap mark_of r ∙ (sym m ∙ is))))
 
-pub read_none : (ws : List ℕ) (p word mark : ℕ) → get_elem? ws (p % 32 + 4) ≡ maybe.some word → mark ≡ word / 65536 → mark ≢ p + 1 → None ≡ left_at ws p
-read_none ws p word mark w m is = let r = read_word ws (p % 32 + 4) word w in
-    sym (ap (λ (b : Bool). if b then Some (note_in ws (p % 32)) else None) (ne_eqb (mark_in ws (p % 32)) (p + 1) (λ e. is (m ∙ (ap (λ (z : ℕ). z / 65536) (sym r) ∙ e)))))
+pub read_none : (ws : List ℕ) (p u word mark : ℕ) → u ≡ place_word p → get_elem? ws u ≡ maybe.some word → mark ≡ mark_of word → mark ≢ p + 1 → None ≡ left_at ws p
+read_none ws p u word mark at w m is = let r = ap (λ (z : ℕ). get_or ws z 0) (sym at) ∙ read_word ws u word w in
+    sym (ap (λ (b : Bool). if b then Some (note_in ws (p % 32)) else None) (ne_eqb (mark_in ws (p % 32)) (p + 1) (λ e. is (m ∙ (ap mark_of (sym r) ∙ e)))))
 
 -- one more is read
 pub left_on : (ws : List ℕ) (t p : ℕ) (xs : List (Option ℕ)) (x : Option ℕ) → t ≤ p → xs ≡ left_from ws t (p - t) → x ≡ left_at ws p → xs ++ x ∷ [] ≡ left_from ws t (p + 1 - t)

@@ -22,7 +22,7 @@ use Rattle.table_theory.proofs.Courses.{course_split, course_join}
 use Rattle.proc_chain.specs.declared.rule.Shape.{Shape}
 use Rattle.proc_chain.specs.declared.rule.View.{View}
 use Rattle.proc_chain.specs.declared.rule.Moment.{Moment}
-use Rattle.proc_chain.specs.Shown.{gate_in}
+use Rattle.proc_chain.specs.Layout.{gate_in}
 use Rattle.proc_chain.specs.Gates.{IsSettled, GateShows}
 use Rattle.proc_chain.specs.Rules.{part_of, member_of, steps_of, course_of, IsIdle, Rule, moment, first_moment}
 use Rattle.proc_chain.specs.Steps.{emptied}

@@ -20,7 +20,8 @@ use Rattle.table_theory.proofs.Seeing.{sees_own}
 use Rattle.table_theory.proofs.Listing.{found_by_start}
 use Rattle.atomic_table.specs.Table.{Me}
 use Rattle.proc_chain.specs.declared.rule.View.{View}
-use Rattle.proc_chain.specs.Shown.{head_word, tail_word, place_word, raised_word, notes_of}
+use Rattle.proc_chain.specs.Layout.{head_word, tail_word, place_word, raised_word}
+use Rattle.proc_chain.specs.Shown.{notes_of}
 use Rattle.proc_chain.specs.Notes.{line_of, notes_put, notes_taken, alone, SameNotes, PutNote}
 use Rattle.proc_chain.specs.Rules.{moment, view_from}
 use Rattle.proc_chain.specs.Steps.{counted, KeepsTaken, Found, run, Claimed, Raised, Notified, GotTurn, CountedUp, CountedDown, Tallied, Carries, rest_of, newborn, both}
@@ -31,18 +32,18 @@ use Rattle.proc_chain.proofs.Gates.{notes_same}
 
 -- the refusals
 
-pub was_spent : (v w : View) (head : ℕ) → Found v head_word head w → 4294967295 ≤ head → WasSpent v w
+pub was_spent : (v w : View) (head : ℕ) → Found v head_word head w → 4294967296 ≤ head + 1 → WasSpent v w
 was_spent v w head f past = record { head = head; loaded = f; spent = past }
 
 -- the head that was loaded is the head of the queue then
 loaded_head : (v w : View) (head : ℕ) → Found v head_word head w → head ≡ head_of w.part.queue
 loaded_head v w head f = f.is ∙ f.shows.head
 
-pub was_full : (v l w : View) (head tail : ℕ) → Found v head_word head l → Found l tail_word tail w → head < 4294967295 → tail + 32 < head + 1 → WasFull v head tail w
+pub was_full : (v l w : View) (head tail : ℕ) → Found v head_word head l → Found l tail_word tail w → head + 1 < 4294967296 → tail + 32 < head + 1 → WasFull v head tail w
 was_full v l w head tail f g bounded past = let h = loaded_head v l head f in let t : tail ≡ tail_of w.part.queue = g.is ∙ g.shows.tail in let grows = g.sees.later.0 in let first = grows.first in let further = grows.further in
     record { loaded = l; head_loaded = f; tail_loaded = g; position = bounded; full = omega arith; was_full = omega arith }
 
-pub found_room : (v l w : View) (head tail : ℕ) → Found v head_word head l → Found l tail_word tail w → head < 4294967295 → head + 1 ≤ tail + 32 → FoundRoom v head w
+pub found_room : (v l w : View) (head tail : ℕ) → Found v head_word head l → Found l tail_word tail w → head + 1 < 4294967296 → head + 1 ≤ tail + 32 → FoundRoom v head w
 found_room v l w head tail f g bounded room = record { tail = tail; loaded = l; head_loaded = f; tail_loaded = g; position = bounded; fits = omega arith }
 
 -- the room that was found is left in the queue
@@ -50,9 +51,6 @@ pub room_left : (w : View) (head tail : ℕ) → tail ≡ tail_of w.part.queue �
 room_left w head tail is room fits = omega arith
 
 -- behind a head below the last position there is a position
-pub next_position : (head : ℕ) → head < 4294967295 → head + 1 < 4294967296
-next_position head bounded = omega arith
-
 pub was_lost : (v b w : View) (first found : ℕ) → FoundRoom v first b → Found b head_word found w → found ≢ first → WasLost v found w
 was_lost v b w first found r f ne = let h = loaded_head v r.loaded first r.head_loaded in let h' = loaded_head b w found f in let g = r.tail_loaded.sees.later.0 in let g' = f.sees.later.0 in
     let longer = g.longer in let longer' = g'.longer in let same = g.first in let same' = g'.first in
@@ -155,7 +153,7 @@ is_past : (v w : View) (head : ℕ) → Found v head_word head w → IsPast v he
 is_past v w head f m e has = let h = loaded_head v w head f in let st = sees_own v.part w.part.queue m e f.sees has in let start = st.start in let within = st.within in omega arith
 
 -- all that one end does up to its notify
-pub link : (call c d : ℕ) (v l b w x : View) (head tail note : ℕ) → c ≡ call → d ≡ call → Found v head_word head l → Found l tail_word tail b → head < 4294967295 → head + 1 ≤ tail + 32 → Claimed c b head note w → Raised d w head (place_word head) (raised_word head note) x → Linked call v note x
+pub link : (call c d : ℕ) (v l b w x : View) (head tail note : ℕ) → c ≡ call → d ≡ call → Found v head_word head l → Found l tail_word tail b → head + 1 < 4294967296 → head + 1 ≤ tail + 32 → Claimed c b head note w → Raised d w head (place_word head) (raised_word head note) x → Linked call v note x
 link call c d v l b w x head tail note same same' f g bounded room claimed raised = record {
   head = head;
   before = b;

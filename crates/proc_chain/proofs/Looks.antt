@@ -19,7 +19,8 @@ use Rattle.table_theory.proofs.Members.{known_look}
 use Rattle.table_theory.proofs.Courses.{course_step}
 use Rattle.proc_chain.specs.declared.rule.Shape.{Shape}
 use Rattle.proc_chain.specs.declared.rule.View.{View}
-use Rattle.proc_chain.specs.Shown.{gate_in, WordsShow}
+use Rattle.proc_chain.specs.Layout.{gate_in}
+use Rattle.proc_chain.specs.Shown.{WordsShow}
 use Rattle.proc_chain.specs.Gates.{IsSettled, GateShows, SlotShows}
 use Rattle.proc_chain.specs.Rules.{part_of, member_of, steps_of, course_of, IsIdle, moment, first_moment, Rule}
 use Rattle.proc_chain.specs.Steps.{Course, entry, looked, KeepsTaken, Found, finds}

@@ -9,7 +9,8 @@ use Rattle.proc_chain.specs.declared.rule.View.{View}
 use Rattle.table_theory.specs.Positioned.{written_at, head_of, tail_of}
 use Rattle.table_theory.specs.Seating.{IsSame}
 use Rattle.table_theory.proofs.Positioned.{grows_refl}
-use Rattle.proc_chain.specs.Shown.{tail_word, gate_word, place_word, raised_word, notes_of}
+use Rattle.proc_chain.specs.Layout.{tail_word, gate_word, place_word, raised_word}
+use Rattle.proc_chain.specs.Shown.{notes_of}
 use Rattle.proc_chain.specs.Steps.{Carries, Found, FoundNotRaised, Took, BegunRound, HasLeft}
 use Rattle.proc_chain.specs.Turns.{HasServed}
 use Rattle.proc_chain.specs.Servings.{RanNote, FoundNone, FoundMore, LeftNone, Used, notes_run, UsedInRounds, HowServed, IsServing, Servings, AllServed}

@@ -18,7 +18,8 @@ use Rattle.table_theory.proofs.Members.{known_look}
 use Rattle.table_theory.proofs.Windows.{window_same, window_take, found_not_raised}
 use Rattle.proc_chain.specs.declared.rule.Shape.{Shape}
 use Rattle.proc_chain.specs.declared.rule.View.{View}
-use Rattle.proc_chain.specs.Shown.{note_in, mark_in, gate_in, raised_word, WordsShow, notes_of}
+use Rattle.proc_chain.specs.Layout.{note_in, mark_in, gate_in, raised_word}
+use Rattle.proc_chain.specs.Shown.{WordsShow, notes_of}
 use Rattle.proc_chain.specs.Gates.{GateShows, SlotShows}
 use Rattle.proc_chain.specs.Rules.{part_of, member_of, IsIdle, moment, Rule}
 use Rattle.proc_chain.specs.Steps.{Found, FoundNotRaised, LookedAtFirst, after, looked, spies, took, takes, rounds, leaves, Carries}

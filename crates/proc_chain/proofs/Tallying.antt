@@ -19,7 +19,8 @@ use Rattle.table_theory.proofs.Members.{known_up, known_down, known_tally, known
 use Rattle.table_theory.proofs.Windows.{window_same}
 use Rattle.proc_chain.specs.declared.rule.Shape.{Shape}
 use Rattle.proc_chain.specs.declared.rule.View.{View}
-use Rattle.proc_chain.specs.Shown.{note_in, mark_in, gate_in, WordsShow}
+use Rattle.proc_chain.specs.Layout.{note_in, mark_in, gate_in}
+use Rattle.proc_chain.specs.Shown.{WordsShow}
 use Rattle.proc_chain.specs.Gates.{GateShows, SlotShows}
 use Rattle.proc_chain.specs.Rules.{part_of, member_of, steps_of, course_of, IsIdle, Rule, empty_from, moment, first_moment, newcomer}
 use Rattle.proc_chain.specs.Steps.{counted, counts_up, counts_down, counts, rest_of, newborn, both, emptied}

@@ -11,7 +11,8 @@ use Rattle.table_theory.proofs.Positioned.{grows_trans, take_grows, raised_below
 use Rattle.table_theory.proofs.Windows.{found_raised}
 use Rattle.atomic_table.specs.Table.{Me}
 use Rattle.proc_chain.specs.declared.rule.View.{View}
-use Rattle.proc_chain.specs.Shown.{place_word, raised_word, note_in, mark_in, notes_of}
+use Rattle.proc_chain.specs.Layout.{place_word, raised_word, note_in, mark_in}
+use Rattle.proc_chain.specs.Shown.{notes_of}
 use Rattle.proc_chain.specs.Notes.{line_of, notes_taken, alone}
 use Rattle.proc_chain.specs.Steps.{Found, FoundNotRaised, taking, Took, BegunRound, HasLeft, Carries}
 use Rattle.proc_chain.specs.Turns.{HasServed}

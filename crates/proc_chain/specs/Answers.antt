@@ -4,12 +4,14 @@ use mathlib.Core.Option.{some}
 use lib.ListN.{get_elem?}
 use Rattle.table_theory.specs.declared.queues.Batch.{Batch}
 use Rattle.atomic_table.specs.Table.{Me}
+use Rattle.table_theory.specs.declared.positions.TheConstants.{POSITIONS}
 use Rattle.proc_chain.specs.declared.rule.View.{View}
+use Rattle.proc_chain.specs.declared.layout.TheConstants.{PLACES}
 use Rattle.proc_chain.specs.declared.chaining.ChainRefusal.{ChainRefusal}
 use Rattle.proc_chain.specs.declared.chaining.ChainRefusal.TheVariants.{Spent, Full, Lost}
 use Rattle.proc_chain.specs.declared.chaining.Chained.{Chained}
 use Rattle.proc_chain.specs.declared.chaining.Chained.TheVariants.{Run, Left}
-use Rattle.proc_chain.specs.Shown.{head_word, tail_word, place_word, raised_word}
+use Rattle.proc_chain.specs.Layout.{head_word, tail_word, place_word, raised_word}
 use Rattle.proc_chain.specs.Steps.{Found, Claimed, Raised, GotTurn, Notified}
 
 -- the head was loaded, with a position left, and then the tail, with room for one more behind it
@@ -18,14 +20,14 @@ pub record FoundRoom (v : View) (head : ℕ) (w : View) : Type 0 where
   pub loaded : View
   pub head_loaded : Found v head_word head loaded
   pub tail_loaded : Found loaded tail_word tail w
-  pub position : head < 4294967295
-  pub fits : head < tail + 32
+  pub position : head + 1 < POSITIONS
+  pub fits : head < tail + PLACES
 
 -- the head that was loaded is past the last position
 pub record WasSpent (v w : View) : Type 0 where
   pub head : ℕ
   pub loaded : Found v head_word head w
-  pub spent : 4294967295 ≤ head
+  pub spent : POSITIONS ≤ head + 1
 
 -- The head was loaded, with a position left, and then the tail, with no room behind it. So there was none when the head
 -- was loaded
@@ -33,9 +35,9 @@ pub record WasFull (v : View) (head tail : ℕ) (w : View) : Type 0 where
   pub loaded : View
   pub head_loaded : Found v head_word head loaded
   pub tail_loaded : Found loaded tail_word tail w
-  pub position : head < 4294967295
-  pub full : tail + 32 ≤ head
-  pub was_full : loaded.part.queue.taken + 32 ≤ length loaded.part.queue.places
+  pub position : head + 1 < POSITIONS
+  pub full : tail + PLACES ≤ head
+  pub was_full : loaded.part.queue.taken + PLACES ≤ length loaded.part.queue.places
 
 -- the end found room, but the exchange found another head, past the one loaded
 pub record WasLost (v : View) (head : ℕ) (w : View) : Type 0 where

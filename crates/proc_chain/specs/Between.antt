@@ -6,6 +6,7 @@ use mathlib.Core.Option.{some, none}
 use lib.ListN.{get_elem?}
 use Rattle.atomic_table.specs.Table.{State}
 use Rattle.event_theory.specs.declared.status.Gate.TheVariants.{Idle}
+use Rattle.table_theory.specs.declared.positions.TheConstants.{POSITIONS}
 use Rattle.table_theory.specs.declared.queues.Batch.{Batch}
 use Rattle.event_theory.specs.Runs.{flat, pairs}
 use Rattle.event_theory.specs.Queues.{is_raised}
@@ -20,7 +21,8 @@ use Rattle.table_theory.specs.Members.{EndsKnown}
 use Rattle.proc_chain.specs.declared.rule.Moment.{Moment}
 use Rattle.proc_chain.specs.declared.rule.Shape.{Shape}
 use Rattle.proc_chain.specs.declared.rule.View.{View}
-use Rattle.proc_chain.specs.Shown.{note_in, mark_in, gate_in}
+use Rattle.proc_chain.specs.declared.layout.TheConstants.{PLACES, MORE}
+use Rattle.proc_chain.specs.Layout.{head_word, tail_word, ends_word, width, note_in, mark_in, gate_in}
 use Rattle.proc_chain.specs.Rules.{member_of, steps_of, course_of, IsIdle, first_moment}
 use Rattle.proc_chain.specs.Chainings.{gate_of, chain_of}
 
@@ -31,10 +33,10 @@ pair_at c i = slice_index_or (pairs c.notes.history) i (0, 0)
 -- The place of the note with the number i is at the position p. Where the note is raised, the mark is one more than
 -- the position, and the word has the note; else the mark is at most the position
 pub record PlaceIs (c : Chain) (words : List ℕ) (i p : ℕ) : Type 0 where
-  pub raised : is_raised c.notes (pair_at c i) ≡ true → mark_in words (p % 32) ≡ p + 1
+  pub raised : is_raised c.notes (pair_at c i) ≡ true → mark_in words (p % PLACES) ≡ p + 1
   pub note : is_raised c.notes (pair_at c i) ≡ true
-      → note_in words (p % 32) ≡ slice_index_or (flat c.notes.history) i 0
-  pub claimed : is_raised c.notes (pair_at c i) ≡ false → mark_in words (p % 32) ≤ p
+      → note_in words (p % PLACES) ≡ slice_index_or (flat c.notes.history) i 0
+  pub claimed : is_raised c.notes (pair_at c i) ≡ false → mark_in words (p % PLACES) ≤ p
 
 -- the words and the views show the chain
 pub record IsShown {W : Type 0} (key : Shape W) (words : List ℕ) (views : List View) (c : Chain) : Type 0 where
@@ -50,15 +52,15 @@ pub record IsShown {W : Type 0} (key : Shape W) (words : List ℕ) (views : List
   pub taken_once : ListedOnce takings (map (λ view. view.part.takes) views)
   pub taken_in_order : Adjacent key.first takings
   pub taken_notes : map item_of (all_places takings) ≡ take c.notes.taken (flat c.notes.history)
-  pub capacity : c.notes.capacity ≡ 32
+  pub capacity : c.notes.capacity ≡ PLACES
   pub is_open : c.notes.shut ≡ false
-  pub long : length words ≡ 36
-  pub bounded : key.first + length (flat c.notes.history) < 4294967296
-  pub head : slice_index_or words 0 0 ≡ key.first + length (flat c.notes.history)
-  pub tail : slice_index_or words 1 0 ≡ key.first + c.notes.taken
+  pub long : length words ≡ width
+  pub bounded : key.first + length (flat c.notes.history) < POSITIONS
+  pub head : slice_index_or words head_word 0 ≡ key.first + length (flat c.notes.history)
+  pub tail : slice_index_or words tail_word 0 ≡ key.first + c.notes.taken
   pub places : (i : ℕ) → c.notes.taken ≤ i → i < length (flat c.notes.history) → PlaceIs c words i (key.first + i)
   pub gate : c.gate ≡ gate_of (gate_in words)
-  pub gate_word : gate_in words ≤ 2
+  pub gate_word : gate_in words ≤ MORE
   -- an end is the runner exactly where it knows so, and owes a notify exactly where it knows so
   pub runner : (call : ℕ) (v : View) → get_elem? views call ≡ some v → v.runner ≡ is_call call c.runner
   pub owing : (call : ℕ) (v : View) → get_elem? views call ≡ some v → v.owes ≡ c.owing call
@@ -82,7 +84,7 @@ pub record ShowsChain {Q W : Type 0} (made : W → Q → List ℕ → Type 0) (f
   -- own last one
   pub course : IsCourse steps_of course_of (first_moment key.first) now s.views
   -- the word has the number of the ends that stand
-  pub ends : EndsKnown member_of IsIdle (slice_index_or s.words 2 0) s.views
+  pub ends : EndsKnown member_of IsIdle (slice_index_or s.words ends_word 0) s.views
   pub home : chain.gate ≡ Idle → (x : Q) × (s.homes ≡ some x ∷ [])
       × made key.pact x (take chain.notes.taken (flat chain.notes.history)) × fits key.pact x
   pub held : chain.gate ≢ Idle → s.homes ≡ none ∷ []

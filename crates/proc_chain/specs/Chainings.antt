@@ -17,6 +17,7 @@ use Rattle.event_theory.specs.Lawful.{IsLawfulChain}
 use Rattle.proc_chain.specs.declared.rule.View.{View}
 use Rattle.proc_chain.specs.Rules.{part_of}
 
+-- the gate that a gate word says: IDLE, RUNNING, or else MORE
 abbrev pub gate_of : ℕ → Gate
 gate_of zero = Idle
 gate_of (suc zero) = Running

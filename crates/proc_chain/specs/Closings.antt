@@ -5,12 +5,14 @@ use Rattle.table_theory.specs.declared.queues.Positions.{Positions}
 use Rattle.table_theory.specs.Listing.{ViewsShow}
 use Rattle.table_theory.specs.Sharing.{IsWhole}
 use Rattle.proc_chain.specs.declared.rule.View.{View}
-use Rattle.proc_chain.specs.Shown.{note_in, mark_in, notes_of}
+use Rattle.proc_chain.specs.declared.layout.TheConstants.{PLACES}
+use Rattle.proc_chain.specs.Layout.{note_in, mark_in}
+use Rattle.proc_chain.specs.Shown.{notes_of}
 use Rattle.proc_chain.specs.Steps.{Tallied}
 
 -- what is read at the position p
 abbrev pub left_at : List ℕ → ℕ → Option ℕ
-left_at words p = if mark_in words (p % 32) == p + 1 then Some (note_in words (p % 32)) else None
+left_at words p = if mark_in words (p % PLACES) == p + 1 then Some (note_in words (p % PLACES)) else None
 
 -- the n positions from p on
 abbrev pub left_from : List ℕ → ℕ → ℕ → List (Option ℕ)

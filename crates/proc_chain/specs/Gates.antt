@@ -6,6 +6,7 @@ use Rattle.table_theory.specs.declared.queues.Batch.{Batch}
 use Rattle.table_theory.specs.declared.queues.Positions.{Positions}
 use Rattle.table_theory.specs.Positioned.{written_at, tail_of}
 use Rattle.proc_chain.specs.declared.rule.View.{View}
+use Rattle.proc_chain.specs.declared.layout.TheConstants.{IDLE, RUNNING, MORE}
 use Rattle.proc_chain.specs.Shown.{notes_of}
 
 -- the end that owns the run at the tail owes a notify
@@ -33,18 +34,19 @@ pub record HasRunner (views : List View) : Type 0 where
 -- One end has the turn where the gate is not Idle, and none where it is. That end knows how many notes were taken. In
 -- an Idle chain no raised note is forgotten, nor in a Running one whose runner has seen that none was raised
 pub record GateShows (q : Positions) (gate : ℕ) (views : List View) : Type 0 where
-  pub bounded : gate ≤ 2
-  pub runs : gate ≢ 0 → HasRunner views
-  pub still : gate ≡ 0 → (j : ℕ) (v : View) → get_elem? views j ≡ some v → v.runner ≡ false
+  pub bounded : gate ≤ MORE
+  pub runs : gate ≢ IDLE → HasRunner views
+  pub still : gate ≡ IDLE → (j : ℕ) (v : View) → get_elem? views j ≡ some v → v.runner ≡ false
   pub sole : (i j : ℕ) (u v : View) → get_elem? views i ≡ some u → get_elem? views j ≡ some v → u.runner ≡ true
       → v.runner ≡ true → i ≡ j
   pub takes : (j : ℕ) (v : View) → get_elem? views j ≡ some v → v.runner ≡ true → v.part.queue.taken ≡ q.taken
-  pub idle : gate ≡ 0 → IsSettled q views
-  pub seen : (j : ℕ) (v : View) → get_elem? views j ≡ some v → v.runner ≡ true → v.saw ≡ true → gate ≡ 1
-      → IsSettled q views
+  pub idle : gate ≡ IDLE → IsSettled q views
+  pub seen : (j : ℕ) (v : View) → get_elem? views j ≡ some v → v.runner ≡ true → v.saw ≡ true
+      → gate ≡ RUNNING → IsSettled q views
 
--- Where the gate is Idle the quaject is in the slot, made by the notes taken, and suits the chain; else the slot is held
+-- Where the gate is Idle the quaject is in the slot, made by the notes taken, and suits the chain; else the slot is
+-- held
 pub record SlotShows {Q W : Type 0} (made : W → Q → List ℕ → Type 0) (fits : W → Q → Type 0) (pact : W) (q : Positions)
     (gate : ℕ) (homes : List (Option Q)) : Type 0 where
-  pub home : gate ≡ 0 → (x : Q) × (homes ≡ some x ∷ []) × made pact x (notes_of q) × fits pact x
-  pub held : gate ≢ 0 → homes ≡ none ∷ []
+  pub home : gate ≡ IDLE → (x : Q) × (homes ≡ some x ∷ []) × made pact x (notes_of q) × fits pact x
+  pub held : gate ≢ IDLE → homes ≡ none ∷ []

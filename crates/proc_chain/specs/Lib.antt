@@ -1,3 +1,4 @@
+pub mod Layout
 pub mod Shown
 pub mod Notes
 pub mod Rules

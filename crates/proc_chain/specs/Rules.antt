@@ -15,7 +15,9 @@ use Rattle.proc_chain.specs.declared.rule.Moment.{Moment}
 use Rattle.proc_chain.specs.declared.rule.Pact.{Pact}
 use Rattle.proc_chain.specs.declared.rule.Shape.{Shape}
 use Rattle.proc_chain.specs.declared.rule.View.{View}
-use Rattle.proc_chain.specs.Shown.{gate_in, WordsShow}
+use Rattle.proc_chain.specs.declared.layout.TheConstants.{PLACES, IDLE}
+use Rattle.proc_chain.specs.Layout.{ends_word, gate_in}
+use Rattle.proc_chain.specs.Shown.{WordsShow}
 use Rattle.proc_chain.specs.Gates.{GateShows, SlotShows}
 
 -- the quaject fits the world of the chain
@@ -44,14 +46,14 @@ IsIdle v = (v.part.runs ≡ []) × (v.part.takes ≡ []) × (v.runner ≡ false)
 
 -- a queue in which nothing was claimed
 abbrev pub empty_from : ℕ → Positions
-empty_from first = record { first = first; room = 32; places = []; taken = 0; shut = false }
+empty_from first = record { first = first; room = PLACES; places = []; taken = 0; shut = false }
 
 abbrev pub moment : Positions → ℕ → Moment
 moment q gate = record { queue = q; gate = gate }
 
 -- nothing was claimed, and the gate is Idle
 abbrev pub first_moment : ℕ → Moment
-first_moment first = moment (empty_from first) 0
+first_moment first = moment (empty_from first) IDLE
 
 pub record Rule {Q W : Type 0} (made : W → Q → List ℕ → Type 0) (fits : W → Q → Type 0) (key : Shape W)
     (s : State Q View) : Type 0 where
@@ -64,7 +66,7 @@ pub record Rule {Q W : Type 0} (made : W → Q → List ℕ → Type 0) (fits : 
   pub slot : SlotShows made fits key.pact queue (gate_in s.words) s.homes
   -- no end that had the turn took in another that had it
   pub undoubled : (j : ℕ) (v : View) → get_elem? s.views j ≡ some v → v.doubled ≡ false
-  pub ends : EndsKnown member_of IsIdle (slice_index_or s.words 2 0) s.views
+  pub ends : EndsKnown member_of IsIdle (slice_index_or s.words ends_word 0) s.views
   pub course : IsCourse steps_of course_of (first_moment key.first) (moment queue (gate_in s.words)) s.views
 
 -- what an end knows of a chain that begins there, and in which nothing was done

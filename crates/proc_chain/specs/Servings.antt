@@ -1,13 +1,16 @@
 -- What serving does, step by step, and what it answers.
-use Rattle.std.specs.Prelude.{◌≡◌, ◌≢◌, ℕ, zero, suc, ◌+◌, ◌/◌, ◌<◌, Bool, true, false, List, [], ◌∷◌, ◌++◌, map}
+use Rattle.std.specs.Prelude.{◌≡◌, ◌≢◌, ℕ, zero, suc, ◌+◌, ◌<◌, Bool, true, false, List, [], ◌∷◌, ◌++◌, map}
 use Rattle.std.specs.Prelude.{length, Option, Some, None}
 use Rattle.std.specs.List.{concat}
 use Rattle.table_theory.specs.Positioned.{item_at}
 use Rattle.atomic_table.specs.Table.{Me}
 use Rattle.proc_chain.specs.declared.rule.View.{View}
+use Rattle.proc_chain.specs.declared.layout.TheConstants.{MORE}
+use Rattle.proc_chain.specs.declared.serve.TheConstants.{MOST_RUN}
 use Rattle.proc_chain.specs.declared.serve.Served.{Served}
 use Rattle.proc_chain.specs.declared.serve.Served.TheVariants.{Done, More}
-use Rattle.proc_chain.specs.Shown.{tail_word, gate_word, place_word, raised_word, notes_of}
+use Rattle.proc_chain.specs.Layout.{tail_word, gate_word, place_word, raised_word, mark_of}
+use Rattle.proc_chain.specs.Shown.{notes_of}
 use Rattle.proc_chain.specs.Steps.{Carries, Found, FoundNotRaised, Took, BegunRound, HasLeft}
 use Rattle.proc_chain.specs.Turns.{HasServed}
 
@@ -31,7 +34,7 @@ pub record FoundNone (v w : View) : Type 0 where
   pub tail_loaded : Found v tail_word tail loaded
   pub found : ℕ
   pub place_loaded : FoundNotRaised loaded (place_word tail) found w
-  pub no_mark : found / 65536 ≢ tail + 1
+  pub no_mark : mark_of found ≢ tail + 1
 
 -- the runner found none raised, and could not leave, since its exchange found the gate More; it began a round
 pub record FoundMore {Q : Type 0} (made : Q → List ℕ → Type 0) (fits : Q → Type 0) (call : ℕ) (me me' : Me Q View)
@@ -39,7 +42,7 @@ pub record FoundMore {Q : Type 0} (made : Q → List ℕ → Type 0) (fits : Q �
   pub low : View
   pub none_raised : FoundNone me.0 low
   pub more : View
-  pub missed : Found low gate_word 2 more
+  pub missed : Found low gate_word MORE more
   pub gate : ℕ
   pub round : BegunRound made fits call (more, me.1) gate me'.0
   pub held : me'.1 ≡ me.1
@@ -109,13 +112,13 @@ Servings made fits call me limit [] me' = me' ≡ me
 Servings {Q} made fits call me limit (uses ∷ more) me' = (u : Me Q View)
     × HowServed made fits call me limit false uses u × Servings made fits call u limit more me'
 
--- Servings of 2^32 - 1 each were used up, and at last the end left. So many notes were run
+-- Servings of the greatest limit were used up, one behind the other, and at last the end left. So many notes were run
 pub record AllServed {Q : Type 0} (made : Q → List ℕ → Type 0) (fits : Q → Type 0) (call : ℕ) (me : Me Q View) (ran : ℕ)
     (me' : Me Q View) : Type 0 where
   pub used_up : List (List (Option ℕ))
   pub before : Me Q View
-  pub servings : Servings made fits call me 4294967295 used_up before
+  pub servings : Servings made fits call me MOST_RUN used_up before
   pub last : List (Option ℕ)
-  pub how : HowServed made fits call before 4294967295 true last me'
+  pub how : HowServed made fits call before MOST_RUN true last me'
   pub number : length (concat (map notes_run used_up) ++ notes_run last) ≡ ran
   pub served : HasServed me.0 (concat (map notes_run used_up) ++ notes_run last) me'.0

@@ -1,48 +1,20 @@
--- What the words of the table show: head, tail, number of ends, gate and the place words.
-use Rattle.std.specs.Prelude.{◌≡◌, ℕ, ◌+◌, ◌*◌, ◌/◌, ◌%◌, ◌<◌, false, List, length, map, take, slice_index_or}
+-- What the words of the table show of the queue of notes.
+use Rattle.std.specs.Prelude.{◌≡◌, ℕ, ◌<◌, false, List, length, map, take, slice_index_or}
+use Rattle.table_theory.specs.declared.positions.TheConstants.{POSITIONS}
 use Rattle.table_theory.specs.declared.queues.Positions.{Positions}
 use Rattle.table_theory.specs.Positioned.{head_of, tail_of, item_of}
 use Rattle.table_theory.specs.Windows.{PlacesShow}
+use Rattle.proc_chain.specs.declared.layout.TheConstants.{PLACES}
+use Rattle.proc_chain.specs.Layout.{head_word, tail_word, width, note_in, mark_in}
 
--- the numbers of the words
-abbrev pub head_word : ℕ
-head_word = 0
-
-abbrev pub tail_word : ℕ
-tail_word = 1
-
-abbrev pub ends_word : ℕ
-ends_word = 2
-
-abbrev pub gate_word : ℕ
-gate_word = 3
-
-abbrev pub place_word : ℕ → ℕ
-place_word position = position % 32 + 4
-
--- what the word of a place has once the note is raised there
-abbrev pub raised_word : ℕ → ℕ → ℕ
-raised_word position note = (position + 1) * 65536 + note
-
--- bits 0 to 15 of the word of the place k
-abbrev pub note_in : List ℕ → ℕ → ℕ
-note_in words k = slice_index_or words (k + 4) 0 % 65536
-
--- the bits above them: where the place is raised, its position and 1 more
-abbrev pub mark_in : List ℕ → ℕ → ℕ
-mark_in words k = slice_index_or words (k + 4) 0 / 65536
-
--- 0 Idle, 1 Running, 2 More
-abbrev pub gate_in : List ℕ → ℕ
-gate_in words = slice_index_or words 3 0
-
+-- the words show the queue's head and tail, and the places from the tail on
 pub record WordsShow (q : Positions) (words : List ℕ) : Type 0 where
-  pub wide : length words ≡ 36
-  pub room : q.room ≡ 32
+  pub wide : length words ≡ width
+  pub room : q.room ≡ PLACES
   pub is_open : q.shut ≡ false
-  pub bounded : head_of q < 4294967296
-  pub head : slice_index_or words 0 0 ≡ head_of q
-  pub tail : slice_index_or words 1 0 ≡ tail_of q
+  pub bounded : head_of q < POSITIONS
+  pub head : slice_index_or words head_word 0 ≡ head_of q
+  pub tail : slice_index_or words tail_word 0 ≡ tail_of q
   pub window : PlacesShow q (mark_in words) (note_in words)
 
 -- the notes that were taken, in order

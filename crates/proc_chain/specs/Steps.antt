@@ -1,7 +1,7 @@
 -- What each step tells its end. Each adds one entry to the end's list, and to the course of all ends' steps that it has
 -- seen: the word's number, what was found there (at a store, what was stored), and the queue and the gate as the step
 -- found them and left them.
-use Rattle.std.specs.Prelude.{◌≡◌, ◌≢◌, ◌+◌, ◌-◌, ◌/◌, ◌<◌, ℕ, true, false, ◌||◌, ◌&&◌, length, List, []}
+use Rattle.std.specs.Prelude.{◌≡◌, ◌≢◌, ◌+◌, ◌-◌, ◌<◌, ℕ, true, false, ◌||◌, ◌&&◌, length, List, []}
 use Rattle.std.specs.Prelude.{◌∷◌, ◌++◌, take, drop, slice_index_or, slice_set}
 use mathlib.Core.Option.{some}
 use lib.ListN.{get_elem?}
@@ -19,7 +19,9 @@ use Rattle.table_theory.specs.declared.views.Member.{Member}
 use Rattle.atomic_table.specs.Table.{Me, Step, rest}
 use Rattle.proc_chain.specs.declared.rule.Moment.{Moment}
 use Rattle.proc_chain.specs.declared.rule.View.{View}
-use Rattle.proc_chain.specs.Shown.{head_word, tail_word, ends_word, gate_word, gate_in, WordsShow, notes_of}
+use Rattle.proc_chain.specs.declared.layout.TheConstants.{IDLE, RUNNING, MORE}
+use Rattle.proc_chain.specs.Layout.{head_word, tail_word, ends_word, gate_word, gate_in, mark_of}
+use Rattle.proc_chain.specs.Shown.{WordsShow, notes_of}
 use Rattle.proc_chain.specs.Rules.{moment}
 use Rattle.proc_chain.specs.Chainings.{IsChainEvent}
 
@@ -76,8 +78,8 @@ pub record FoundNotRaised (v : View) (word found : ℕ) (w : View) : Type 0 wher
 
 -- the runner looked at the word of the first place left
 pub record LookedAtFirst (v : View) (word found : ℕ) (w : View) : Type 0 where
-  pub up : found / 65536 ≡ tail_of v.part.queue + 1 → Found v word found w
-  pub low : found / 65536 ≢ tail_of v.part.queue + 1 → FoundNotRaised v word found w
+  pub up : mark_of found ≡ tail_of v.part.queue + 1 → Found v word found w
+  pub low : mark_of found ≢ tail_of v.part.queue + 1 → FoundNotRaised v word found w
 
 abbrev pub run : ℕ → ℕ → Batch
 run head note = record { start = head; places = fresh note ∷ [] }
@@ -180,11 +182,11 @@ pub record Notified (call : ℕ) (v : View) (found : ℕ) (w : View) : Type 0 wh
   pub queue : Positions
   pub before : Course
   pub follows : Begins v.course before
-  pub same : w ≡ record (after v gate_word found before (moment queue found) (moment queue 2)) { owes = false }
+  pub same : w ≡ record (after v gate_word found before (moment queue found) (moment queue MORE)) { owes = false }
   pub sees : Sees v.part queue
   pub turn : KeepsTaken v queue
-  pub not_idle : found ≢ 0
-  pub event : IsChainEvent queue queue found 2 call v w (chains.notify call)
+  pub not_idle : found ≢ IDLE
+  pub event : IsChainEvent queue queue found MORE call v w (chains.notify call)
 
 -- The end has notified, and found the gate Idle: it has the turn now, and the slot
 pub record GotTurn {Q : Type 0} (made : Q → List ℕ → Type 0) (fits : Q → Type 0) (call : ℕ) (me me' : Me Q View)
@@ -192,14 +194,14 @@ pub record GotTurn {Q : Type 0} (made : Q → List ℕ → Type 0) (fits : Q →
   pub queue : Positions
   pub before : Course
   pub follows : Begins me.0.course before
-  pub same : me'.0 ≡ record (after me.0 gate_word 0 before (moment queue 0) (moment queue 2)) {
+  pub same : me'.0 ≡ record (after me.0 gate_word IDLE before (moment queue IDLE) (moment queue MORE)) {
     owes = false;
     runner = true;
     saw = false;
   }
   pub sees : Sees me.0.part queue
   pub had_none : me.0.runner ≡ false
-  pub event : IsChainEvent queue queue 0 2 call me.0 me'.0 (chains.notify call)
+  pub event : IsChainEvent queue queue IDLE MORE call me.0 me'.0 (chains.notify call)
   pub carries : Carries made fits (notes_of queue) me.1 me'.1
 
 -- The runner has begun a round, from this gate. The quaject in its hand was made by the notes taken
@@ -208,10 +210,10 @@ pub record BegunRound {Q : Type 0} (made : Q → List ℕ → Type 0) (fits : Q 
   pub queue : Positions
   pub before : Course
   pub follows : Begins me.0.course before
-  pub same : w ≡ record (after me.0 gate_word found before (moment queue found) (moment queue 1)) { saw = false }
+  pub same : w ≡ record (after me.0 gate_word found before (moment queue found) (moment queue RUNNING)) { saw = false }
   pub sees : Sees me.0.part queue
   pub turn : queue.taken ≡ me.0.part.queue.taken
-  pub event : IsChainEvent queue queue found 1 call me.0 w (chains.round call)
+  pub event : IsChainEvent queue queue found RUNNING call me.0 w (chains.round call)
   pub carries : Carries made fits (notes_of queue) [] me.1
 
 -- The runner has left, from a gate that was Running. The quaject that it gave back was made by the notes taken
@@ -220,13 +222,13 @@ pub record HasLeft {Q : Type 0} (made : Q → List ℕ → Type 0) (fits : Q →
   pub queue : Positions
   pub before : Course
   pub follows : Begins me.0.course before
-  pub same : w ≡ record (after me.0 gate_word 1 before (moment queue 1) (moment queue 0)) {
+  pub same : w ≡ record (after me.0 gate_word RUNNING before (moment queue RUNNING) (moment queue IDLE)) {
     runner = false;
     saw = false;
   }
   pub sees : Sees me.0.part queue
   pub turn : queue.taken ≡ me.0.part.queue.taken
-  pub event : IsChainEvent queue queue 1 0 call me.0 w (chains.leave call)
+  pub event : IsChainEvent queue queue RUNNING IDLE call me.0 w (chains.leave call)
   pub carries : Carries made fits (notes_of queue) [] me.1
 
 module _ {Q : Type 0} where
@@ -239,7 +241,7 @@ module _ {Q : Type 0} where
 
   -- the stored word tells where the run starts
   abbrev pub raises : ℕ → Step Q → Me Q View → ℕ → Me Q View → Type 0
-  raises call st m r m' = (m'.1 ≡ m.1) × Raised call m.0 (r / 65536 - 1) st.word r m'.0
+  raises call st m r m' = (m'.1 ≡ m.1) × Raised call m.0 (mark_of r - 1) st.word r m'.0
 
   abbrev pub spies : Step Q → Me Q View → ℕ → Me Q View → Type 0
   spies st m r m' = (m'.1 ≡ m.1) × LookedAtFirst m.0 st.word r m'.0
@@ -248,15 +250,15 @@ module _ {Q : Type 0} where
   takes made fits call st m r m' = (m'.1 ≡ m.1) × Took made fits call m r m'.0
 
   abbrev pub notifies : (Q → List ℕ → Type 0) → (Q → Type 0) → ℕ → Step Q → Me Q View → ℕ → Me Q View → Type 0
-  notifies made fits call st m r m' = (r ≡ 0 → GotTurn made fits call m m')
-      × (r ≢ 0 → (m'.1 ≡ m.1) × Notified call m.0 r m'.0)
+  notifies made fits call st m r m' = (r ≡ IDLE → GotTurn made fits call m m')
+      × (r ≢ IDLE → (m'.1 ≡ m.1) × Notified call m.0 r m'.0)
 
   abbrev pub rounds : (Q → List ℕ → Type 0) → (Q → Type 0) → ℕ → Step Q → Me Q View → ℕ → Me Q View → Type 0
   rounds made fits call st m r m' = (m'.1 ≡ m.1) × BegunRound made fits call m r m'.0
 
   abbrev pub leaves : (Q → List ℕ → Type 0) → (Q → Type 0) → ℕ → Step Q → Me Q View → ℕ → Me Q View → Type 0
-  leaves made fits call st m r m' = (r ≡ 1 → (m'.1 ≡ rest m.1) × HasLeft made fits call m m'.0)
-      × (r ≢ 1 → (m'.1 ≡ m.1) × Found m.0 st.word r m'.0 × (r ≡ 2))
+  leaves made fits call st m r m' = (r ≡ RUNNING → (m'.1 ≡ rest m.1) × HasLeft made fits call m m'.0)
+      × (r ≢ RUNNING → (m'.1 ≡ m.1) × Found m.0 st.word r m'.0 × (r ≡ MORE))
 
 -- the view after so many ends were found, which makes another of them of the end
 abbrev pub counted : View → ℕ → Course → Moment → Member → View

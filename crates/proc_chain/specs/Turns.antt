@@ -2,6 +2,7 @@
 use Rattle.std.specs.Prelude.{◌≡◌, ℕ, ◌+◌, ◌<◌, ◌≤◌, true, false, List, [], ◌++◌, map, length}
 use Rattle.table_theory.specs.Positioned.{head_of, Grows}
 use Rattle.atomic_table.specs.Table.{Me}
+use Rattle.table_theory.specs.declared.positions.TheConstants.{POSITIONS}
 use Rattle.proc_chain.specs.declared.rule.View.{View}
 use Rattle.proc_chain.specs.Shown.{notes_of}
 use Rattle.proc_chain.specs.Notes.{notes_taken, alone}
@@ -18,7 +19,7 @@ pub record HasServed (v : View) (ns : List ℕ) (w : View) : Type 0 where
   pub taken : w.part.queue.taken ≡ v.part.queue.taken + length ns
   pub grows : Grows v.part.queue w.part.queue
   pub behind : w.part.queue.taken ≤ length w.part.queue.places
-  pub bounded : head_of w.part.queue < 4294967296
+  pub bounded : head_of w.part.queue < POSITIONS
   pub runs : w.part.runs ≡ v.part.runs
   pub takes : notes_taken w ≡ notes_taken v ++ map alone ns
   pub ends : w.member.ends ≡ v.member.ends

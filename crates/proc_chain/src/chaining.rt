@@ -5,13 +5,12 @@ ghost use Rattle.proc_chain.specs.Rules.{suits, makes};
 ghost use Rattle.proc_chain.specs.Notes.{SameNotes, PutNote};
 
 use crate::ends::{ChainEnd, ProcChain};
+use crate::layout::{IDLE, PLACES};
 use crate::quaject::Quaject;
-use crate::steps::{IDLE, exchange_head, load_head, load_tail, store_place, swap_more};
+use crate::steps::{exchange_head, load_head, load_tail, store_place, swap_more};
 use std::marker::Brand;
+use table_theory::positions::POSITIONS;
 use thiserror::Error;
-
-/// A note has a position below this.
-const POSITIONS: u64 = 4_294_967_295;
 
 /// The right and the duty to run the notes of a chain. It can't be let go, only served.
 pub struct Turn(pub(crate) ());
@@ -63,11 +62,11 @@ impl<Q: Quaject> ProcChain<Q> {
     {
         let words = &self.table.shared;
         let head = load_head(words, &mut end.seat);
-        if head >= POSITIONS {
+        if head + 1 >= POSITIONS {
             return Err(ChainRefusal::Spent);
         }
         let tail = load_tail(words, &mut end.seat);
-        if head + 1 > tail + 32 {
+        if head + 1 > tail + PLACES as u64 {
             return Err(ChainRefusal::Full {
                 head: head as u32,
                 tail: tail as u32,

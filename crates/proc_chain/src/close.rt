@@ -1,10 +1,14 @@
 //! Closing a chain.
 ghost use Rattle.std.specs.Prelude.{◌≡◌, ◌+◌, ◌-◌, ◌<◌, ◌≤◌, false, IfOk, IfErr, MatchResult};
 ghost use Rattle.std.specs.Mem.Slots.{slots_items, slots_len, IsFull};
+ghost use Rattle.table_theory.specs.declared.positions.TheConstants.{POSITIONS};
+ghost use Rattle.proc_chain.specs.declared.layout.TheConstants.{PLACES};
+ghost use Rattle.proc_chain.specs.Layout.{width};
 ghost use Rattle.proc_chain.specs.Rules.{suits, makes};
 ghost use Rattle.proc_chain.specs.Closings.{ClosedNow, WereOpen, left_at, left_from};
 
 use crate::ends::{ChainEnd, ProcChain};
+use crate::layout::{HEAD, PLACES, TAIL, place_word};
 use crate::quaject::Quaject;
 use crate::steps::count;
 use crate::word::PlaceWord;
@@ -20,18 +24,18 @@ pub struct ChainClosed<Q> {
     pub quaject: Q,
     pub put: u32,
     pub taken: u32,
-    pub left: ArrayVec<Option<u16>, 32>,
+    pub left: ArrayVec<Option<u16>, PLACES>,
 }
 
 /// The number of ends where there is no other.
 const ALONE: u64 = 1;
 
 fn read_at<Q>(closed: &Closed<Q, Global>, position: u64) -> Option<u16>
-    requires words { (slots_len closed.now.words ≡ 36) × IsFull closed.now.words }
-    requires range { position < 4294967296 }
+    requires words { (slots_len closed.now.words ≡ width) × IsFull closed.now.words }
+    requires range { position < POSITIONS }
     ensures { result ≡ left_at (slots_items closed.now.words) position }
 {
-    let word = PlaceWord::of(closed.word(position as usize % 32 + 4));
+    let word = PlaceWord::of(closed.word(place_word(position as usize)));
     if word.mark == position + 1 {
         Some(word.note)
     } else {
@@ -39,9 +43,9 @@ fn read_at<Q>(closed: &Closed<Q, Global>, position: u64) -> Option<u16>
     }
 }
 
-fn read_left<Q>(closed: &Closed<Q, Global>, tail: u64, head: u64) -> ArrayVec<Option<u16>, 32>
-    requires words { (slots_len closed.now.words ≡ 36) × IsFull closed.now.words }
-    requires range { (tail ≤ head) × (head ≤ tail + 32) × (head < 4294967296) }
+fn read_left<Q>(closed: &Closed<Q, Global>, tail: u64, head: u64) -> ArrayVec<Option<u16>, PLACES>
+    requires words { (slots_len closed.now.words ≡ width) × IsFull closed.now.words }
+    requires range { (tail ≤ head) × (head ≤ tail + PLACES) × (head < POSITIONS) }
     ensures { result.items ≡ left_from (slots_items closed.now.words) tail (head - tail) }
 {
     let mut left = ArrayVec::new();
@@ -79,8 +83,8 @@ impl<Q: Quaject> ProcChain<Q> {
         let ChainEnd { seat, turn: _ } = end;
         let ProcChain { table, first } = self;
         let mut closed = table.close_with(seat);
-        let head = closed.word(0);
-        let tail = closed.word(1);
+        let head = closed.word(HEAD);
+        let tail = closed.word(TAIL);
         let left = read_left(&closed, tail, head);
         let quaject = closed.take(0);
         closed.free();

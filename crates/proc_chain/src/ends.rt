@@ -3,10 +3,14 @@ ghost use Rattle.std.specs.Prelude.{◌≡◌, ◌≤◌, ◌<◌, ◌||◌, [],
 ghost use Rattle.table_theory.specs.Listing.{Distinct, AllRaised};
 ghost use Rattle.table_theory.specs.Members.{first_member};
 ghost use Rattle.table_theory.specs.Positioned.{head_of};
+ghost use Rattle.table_theory.specs.declared.positions.TheConstants.{POSITIONS};
+ghost use Rattle.proc_chain.specs.declared.layout.TheConstants.{PLACES};
+ghost use Rattle.proc_chain.specs.Layout.{width};
 ghost use Rattle.proc_chain.specs.Rules.{view_from};
 ghost use Rattle.proc_chain.specs.Endings.{Divided, IsNewborn, TookIn, Joined};
 ghost use Rattle.proc_chain.specs.Notes.{SameNotes};
 
+use crate::layout::{ENDS, HEAD, TAIL, WORDS};
 use crate::quaject::Quaject;
 use crate::rule::{ChainRule, Pact, Shape, View};
 use crate::steps::{count_down, count_up, hand_over, split_off, take_in};
@@ -24,7 +28,7 @@ use std::snapshot::Snapshot;
 pub struct ProcChain<Q: Quaject> {
     pub(crate) table: Table<Q, View, Shape<Pact<Q::World, Q>>, ChainRule, Global>,
     pub(crate) first: u32,
-    ghost sized: { (table.shared.table_id.words ≡ 36) × (table.shared.table_id.slots ≡ 1) },
+    ghost sized: { (table.shared.table_id.words ≡ width) × (table.shared.table_id.slots ≡ 1) },
     ghost shaped: { table.shared.key.first ≡ first },
 }
 
@@ -34,12 +38,12 @@ pub struct ProcChain<Q: Quaject> {
 pub struct ChainEnd<Q: Quaject> {
     pub(crate) seat: Seat<Q, View>,
     pub(crate) turn: bool,
-    ghost room: { seat.me.0.part.queue.room ≡ 32 },
+    ghost room: { seat.me.0.part.queue.room ≡ PLACES },
     ghost one: { seat.me.0.member.ends ≡ 1 },
     ghost turned: { seat.me.0.runner ≡ turn },
     ghost settled: { seat.me.0.owes ≡ false },
     ghost behind: { seat.me.0.part.queue.taken ≤ length seat.me.0.part.queue.places },
-    ghost bounded: { head_of seat.me.0.part.queue < 4294967296 },
+    ghost bounded: { head_of seat.me.0.part.queue < POSITIONS },
     ghost distinct: { Distinct seat.me.0.part.runs },
     ghost raised: { AllRaised seat.me.0.part.runs },
 }
@@ -80,10 +84,10 @@ impl<Q: Quaject> ProcChain<Q> {
                 opening: Snapshot::of(&quaject),
             },
         };
-        let mut words = [0u64; 36];
-        words[0] = first as u64;
-        words[1] = first as u64;
-        words[2] = 1;
+        let mut words = [0u64; WORDS];
+        words[HEAD] = first as u64;
+        words[TAIL] = first as u64;
+        words[ENDS] = 1;
         let mut slots = Vec::new(alloc);
         if let Err(failed) = slots.push(quaject) {
             slots.destroy_empty();

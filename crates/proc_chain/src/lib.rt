@@ -51,6 +51,7 @@ mod between;
 mod chaining;
 mod close;
 mod ends;
+mod layout;
 mod plays;
 mod quaject;
 mod rule;

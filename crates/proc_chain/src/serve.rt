@@ -1,6 +1,8 @@
 //! Serving a Turn.
 ghost use Rattle.std.specs.Prelude.{◌≡◌, ◌+◌, ◌<◌, ◌≤◌, ℕ, List, true, false, [], ◌∷◌, ◌++◌, length, MatchBool};
 ghost use Rattle.table_theory.specs.Seating.{IsSame};
+ghost use Rattle.proc_chain.specs.declared.layout.TheConstants.{PLACES};
+ghost use Rattle.proc_chain.specs.Layout.{width};
 ghost use Rattle.proc_chain.specs.Rules.{suits, makes};
 ghost use Rattle.proc_chain.specs.Shown.{notes_of};
 ghost use Rattle.proc_chain.specs.Steps.{Carries};
@@ -10,12 +12,16 @@ ghost use Rattle.proc_chain.specs.Servings.{is_more};
 
 use crate::chaining::Turn;
 use crate::ends::{ChainEnd, ProcChain};
+use crate::layout::RUNNING;
 use crate::quaject::Quaject;
 use crate::rule::{ChainRule, Pact, Shape, View};
-use crate::steps::{RUNNING, exchange_gate, load_place, load_tail, store_tail, swap_running};
+use crate::steps::{exchange_gate, load_place, load_tail, store_tail, swap_running};
 use atomic_table::{Seat, Shared};
 use std::marker::Brand;
 use std::sync::Wait;
+
+/// The greatest limit of one `serve`.
+const MOST_RUN: u32 = u32::MAX;
 
 /// How a Turn was served, and how many notes were run.
 pub enum Served {
@@ -52,9 +58,9 @@ fn run_next<Q: Quaject>(
     seat: &mut Seat<Q, View>,
     world: &Q::World,
 ) -> bool
-    requires queue { (seat.old.table_id ≡ words.now.table_id) × (words.now.table_id.words ≡ 36) }
+    requires queue { (seat.old.table_id ≡ words.now.table_id) × (words.now.table_id.words ≡ width) }
     requires live { (1 ≤ seat.old.me.0.member.ends) × (seat.old.me.0.runner ≡ true) }
-    requires positions { (seat.old.me.0.part.queue.room ≡ 32)
+    requires positions { (seat.old.me.0.part.queue.room ≡ PLACES)
         × (seat.old.me.0.part.queue.taken ≤ length seat.old.me.0.part.queue.places) }
     requires world { words.now.key.pact.world.value ≡ world.now }
     requires carries { Carries (makes Q.made_by words.now.key.pact) (suits Q.fits words.now.key.pact)
@@ -85,7 +91,7 @@ fn leave_or_round<Q: Quaject>(
     words: &Shared<Q, View, Shape<Pact<Q::World, Q>>, ChainRule>,
     seat: &mut Seat<Q, View>,
 ) -> bool
-    requires queue { (seat.old.table_id ≡ words.now.table_id) × (words.now.table_id.words ≡ 36) }
+    requires queue { (seat.old.table_id ≡ words.now.table_id) × (words.now.table_id.words ≡ width) }
     requires live { (1 ≤ seat.old.me.0.member.ends) × (seat.old.me.0.runner ≡ true) × (seat.old.me.0.saw ≡ true) }
     requires behind { seat.old.me.0.part.queue.taken ≤ length seat.old.me.0.part.queue.places }
     requires carries { Carries (makes Q.made_by words.now.key.pact) (suits Q.fits words.now.key.pact)
@@ -117,9 +123,9 @@ fn serve_seat<Q: Quaject>(
     world: &Q::World,
     limit: u32,
 ) -> (bool, u32)
-    requires queue { (seat.old.table_id ≡ words.now.table_id) × (words.now.table_id.words ≡ 36) }
+    requires queue { (seat.old.table_id ≡ words.now.table_id) × (words.now.table_id.words ≡ width) }
     requires live { (1 ≤ seat.old.me.0.member.ends) × (seat.old.me.0.runner ≡ true) }
-    requires positions { (seat.old.me.0.part.queue.room ≡ 32)
+    requires positions { (seat.old.me.0.part.queue.room ≡ PLACES)
         × (seat.old.me.0.part.queue.taken ≤ length seat.old.me.0.part.queue.places) }
     requires world { words.now.key.pact.world.value ≡ world.now }
     requires carries { Carries (makes Q.made_by words.now.key.pact) (suits Q.fits words.now.key.pact)
@@ -200,7 +206,7 @@ impl<Q: Quaject> ProcChain<Q> {
         let mut turn = turn;
         let mut total = 0u64;
         for _ in rt.forever() {
-            match self.serve(end, world, turn, u32::MAX) {
+            match self.serve(end, world, turn, MOST_RUN) {
                 Served::Done { ran } => return total + ran as u64,
                 Served::More { turn: next, ran } => {
                     total += ran as u64;

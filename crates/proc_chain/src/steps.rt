@@ -1,18 +1,22 @@
 //! The atomic steps. No signature has a const parameter, since a call of such a function could not pick ghost members.
-ghost use Rattle.std.specs.Prelude.{◌≡◌, ◌≢◌, ◌+◌, ◌-◌, ◌/◌, ◌%◌, ◌<◌, ◌≤◌, ℕ, List, true, false, [], length};
+ghost use Rattle.std.specs.Prelude.{◌≡◌, ◌≢◌, ◌+◌, ◌-◌, ◌<◌, ◌≤◌, ℕ, List, true, false, [], length};
 ghost use Rattle.std.specs.Prelude.{slice_index_or};
 ghost use mathlib.Core.Option.{some};
 ghost use lib.ListN.{get_elem?};
+ghost use Rattle.table_theory.specs.declared.positions.TheConstants.{POSITIONS};
 ghost use Rattle.table_theory.specs.declared.queues.Batch.{Batch};
 ghost use Rattle.table_theory.specs.Listing.{number_of};
 ghost use Rattle.table_theory.specs.Positioned.{blank, head_of, tail_of, written_at};
 ghost use Rattle.table_theory.specs.Seating.{IsSame};
 ghost use Rattle.proc_chain.specs.Rules.{suits, makes};
-ghost use Rattle.proc_chain.specs.Shown.{head_word, tail_word, gate_word, place_word, raised_word, notes_of};
+ghost use Rattle.proc_chain.specs.Layout.{head_word, tail_word, gate_word, place_word, raised_word, mark_of, width};
+ghost use Rattle.proc_chain.specs.declared.layout.TheConstants.{IDLE, RUNNING, MORE, NOTES};
+ghost use Rattle.proc_chain.specs.Shown.{notes_of};
 ghost use Rattle.proc_chain.specs.Steps.{Found, FoundNotRaised, Claimed, Raised, Took, Notified, GotTurn, BegunRound};
 ghost use Rattle.proc_chain.specs.Steps.{HasLeft, Carries, CountedUp, CountedDown, Tallied, rest_of, newborn, both};
 ghost use Rattle.proc_chain.specs.Steps.{emptied};
 
+use crate::layout::{ENDS, GATE, HEAD, IDLE, MORE, RUNNING, TAIL, place_word};
 use crate::plays::{
     Caller, ClaimedNote, Claims, Counts, CountsDown, CountsUp, Finds, Gives, HandsOver, Joins,
     Leaves, Notifies, Raises, Rounds, Runner, Spent, Spies, Takes,
@@ -21,21 +25,6 @@ use crate::quaject::Quaject;
 use crate::rule::{ChainRule, Pact, Shape, View};
 use crate::word::PlaceWord;
 use atomic_table::{Seat, Shared};
-
-pub(crate) const HEAD: usize = 0;
-
-pub(crate) const TAIL: usize = 1;
-
-pub(crate) const ENDS: usize = 2;
-
-pub(crate) const GATE: usize = 3;
-
-/// The gate's words.
-pub(crate) const IDLE: u64 = 0;
-
-pub(crate) const RUNNING: u64 = 1;
-
-pub(crate) const MORE: u64 = 2;
 
 pub(crate) fn load<Q: Quaject>(
     words: &Shared<Q, View, Shape<Pact<Q::World, Q>>, ChainRule>,
@@ -54,12 +43,12 @@ pub(crate) fn load_head<Q: Quaject>(
     words: &Shared<Q, View, Shape<Pact<Q::World, Q>>, ChainRule>,
     seat: &mut Seat<Q, View>,
 ) -> u64
-    requires queue { (seat.old.table_id ≡ words.now.table_id) × (words.now.table_id.words ≡ 36) }
+    requires queue { (seat.old.table_id ≡ words.now.table_id) × (words.now.table_id.words ≡ width) }
     requires live { 1 ≤ seat.old.me.0.member.ends }
     ensures queue { IsSame seat.old seat.new × (seat.new.me.1 ≡ seat.old.me.1) }
     ensures found { Found seat.old.me.0 head_word result seat.new.me.0 }
     ensures head { result ≡ head_of seat.new.me.0.part.queue }
-    ensures bounded { result < 4294967296 }
+    ensures bounded { result < POSITIONS }
 {
     load(words, seat, HEAD)
 }
@@ -68,12 +57,12 @@ pub(crate) fn load_tail<Q: Quaject>(
     words: &Shared<Q, View, Shape<Pact<Q::World, Q>>, ChainRule>,
     seat: &mut Seat<Q, View>,
 ) -> u64
-    requires queue { (seat.old.table_id ≡ words.now.table_id) × (words.now.table_id.words ≡ 36) }
+    requires queue { (seat.old.table_id ≡ words.now.table_id) × (words.now.table_id.words ≡ width) }
     requires live { 1 ≤ seat.old.me.0.member.ends }
     ensures queue { IsSame seat.old seat.new × (seat.new.me.1 ≡ seat.old.me.1) }
     ensures found { Found seat.old.me.0 tail_word result seat.new.me.0 }
     ensures tail { result ≡ tail_of seat.new.me.0.part.queue }
-    ensures bounded { result < 4294967296 }
+    ensures bounded { result < POSITIONS }
 {
     load(words, seat, TAIL)
 }
@@ -85,12 +74,12 @@ pub(crate) fn exchange_head<Q: Quaject, J: ClaimedNote>(
     head: u64,
     note: u16,
 ) -> u64
-    requires queue { (seat.old.table_id ≡ words.now.table_id) × (words.now.table_id.words ≡ 36) }
+    requires queue { (seat.old.table_id ≡ words.now.table_id) × (words.now.table_id.words ≡ width) }
     requires live { 1 ≤ seat.old.me.0.member.ends }
     requires call { J.call ≡ seat.old.id }
     requires note { J.note ≡ note }
     requires room { head + 1 ≤ tail_of seat.old.me.0.part.queue + seat.old.me.0.part.queue.room }
-    requires bounded { head + 1 < 4294967296 }
+    requires bounded { head + 1 < POSITIONS }
     ensures queue { IsSame seat.old seat.new × (seat.new.me.1 ≡ seat.old.me.1) }
     ensures hit { result ≡ head → Claimed J.call seat.old.me.0 head J.note seat.new.me.0 }
     ensures miss { result ≢ head → Found seat.old.me.0 head_word result seat.new.me.0
@@ -107,9 +96,9 @@ pub(crate) fn store_place<Q: Quaject, J: Caller>(
     start: u64,
     note: u16,
 )
-    requires queue { (seat.old.table_id ≡ words.now.table_id) × (words.now.table_id.words ≡ 36) }
+    requires queue { (seat.old.table_id ≡ words.now.table_id) × (words.now.table_id.words ≡ width) }
     requires call { J.call ≡ seat.old.id }
-    requires bounded { start < 4294967296 }
+    requires bounded { start < POSITIONS }
     requires mine { (e : Batch)
         × (get_elem? seat.old.me.0.part.runs (number_of start seat.old.me.0.part.runs) ≡ some e)
         × (e.start ≡ start) × (0 < length e.places) × ((slice_index_or e.places 0 blank).written < 2)
@@ -117,8 +106,8 @@ pub(crate) fn store_place<Q: Quaject, J: Caller>(
     ensures queue { IsSame seat.old seat.new × (seat.new.me.1 ≡ seat.old.me.1) }
     ensures raised { Raised J.call seat.old.me.0 start (place_word start) (raised_word start note) seat.new.me.0 }
 {
-    let place = start as usize % 32;
-    words.store::<Raises<J>>(seat, place + 4, PlaceWord::raised(start, note).bits());
+    let word = PlaceWord::raised(start, note).bits();
+    words.store::<Raises<J>>(seat, place_word(start as usize), word);
 }
 
 /// The notify.
@@ -126,14 +115,14 @@ pub(crate) fn swap_more<Q: Quaject, J: Runner<Q>>(
     words: &Shared<Q, View, Shape<Pact<Q::World, Q>>, ChainRule>,
     seat: &mut Seat<Q, View>,
 ) -> u64
-    requires queue { (seat.old.table_id ≡ words.now.table_id) × (words.now.table_id.words ≡ 36) }
+    requires queue { (seat.old.table_id ≡ words.now.table_id) × (words.now.table_id.words ≡ width) }
     requires live { (1 ≤ seat.old.me.0.member.ends) × (seat.old.me.0.owes ≡ true) }
     requires call { J.call ≡ seat.old.id }
     requires suits { (x : Q) → suits Q.fits words.now.key.pact x → J.suits x }
     requires makes { (x : Q) (notes : List ℕ) → makes Q.made_by words.now.key.pact x notes → J.made x notes }
     ensures queue { IsSame seat.old seat.new }
-    ensures won { result ≡ 0 → GotTurn J.made J.suits J.call seat.old.me seat.new.me }
-    ensures told { result ≢ 0 → (seat.new.me.1 ≡ seat.old.me.1)
+    ensures won { result ≡ IDLE → GotTurn J.made J.suits J.call seat.old.me seat.new.me }
+    ensures told { result ≢ IDLE → (seat.new.me.1 ≡ seat.old.me.1)
         × Notified J.call seat.old.me.0 result seat.new.me.0 }
 {
     words.swap::<Notifies<J>>(seat, GATE, MORE)
@@ -145,18 +134,17 @@ pub(crate) fn load_place<Q: Quaject>(
     seat: &mut Seat<Q, View>,
     tail: u64,
 ) -> PlaceWord
-    requires queue { (seat.old.table_id ≡ words.now.table_id) × (words.now.table_id.words ≡ 36) }
+    requires queue { (seat.old.table_id ≡ words.now.table_id) × (words.now.table_id.words ≡ width) }
     requires live { (1 ≤ seat.old.me.0.member.ends) × (seat.old.me.0.runner ≡ true) }
-    requires tail { (tail ≡ tail_of seat.old.me.0.part.queue) × (tail < 4294967296) }
+    requires tail { (tail ≡ tail_of seat.old.me.0.part.queue) × (tail < POSITIONS) }
     ensures queue { IsSame seat.old seat.new × (seat.new.me.1 ≡ seat.old.me.1) }
-    ensures note { result.note < 65536 }
+    ensures note { result.note < NOTES }
     ensures up { result.mark ≡ tail + 1
         → Found seat.old.me.0 (place_word tail) (raised_word tail result.note) seat.new.me.0 }
-    ensures low { result.mark ≢ tail + 1 → (word : ℕ) × (word / 65536 ≡ result.mark)
+    ensures low { result.mark ≢ tail + 1 → (word : ℕ) × (mark_of word ≡ result.mark)
         × FoundNotRaised seat.old.me.0 (place_word tail) word seat.new.me.0 }
 {
-    let place = tail as usize % 32;
-    PlaceWord::of(words.load::<Spies>(seat, place + 4))
+    PlaceWord::of(words.load::<Spies>(seat, place_word(tail as usize)))
 }
 
 /// The taking of one note: a single runner takes, so it stores. The quaject in its hand is not yet made by this note.
@@ -165,12 +153,12 @@ pub(crate) fn store_tail<Q: Quaject, J: Runner<Q>>(
     seat: &mut Seat<Q, View>,
     tail: u64,
 )
-    requires queue { (seat.old.table_id ≡ words.now.table_id) × (words.now.table_id.words ≡ 36) }
+    requires queue { (seat.old.table_id ≡ words.now.table_id) × (words.now.table_id.words ≡ width) }
     requires live { (1 ≤ seat.old.me.0.member.ends) × (seat.old.me.0.runner ≡ true) }
     requires call { J.call ≡ seat.old.id }
     requires suits { (x : Q) → suits Q.fits words.now.key.pact x → J.suits x }
     requires makes { (x : Q) (notes : List ℕ) → makes Q.made_by words.now.key.pact x notes → J.made x notes }
-    requires tail { (tail ≡ tail_of seat.old.me.0.part.queue) × (tail < 4294967296) }
+    requires tail { (tail ≡ tail_of seat.old.me.0.part.queue) × (tail < POSITIONS) }
     requires raised { 2 ≤ written_at seat.old.me.0.part.queue seat.old.me.0.part.queue.taken }
     requires behind { seat.old.me.0.part.queue.taken ≤ length seat.old.me.0.part.queue.places }
     requires carries { Carries (makes Q.made_by words.now.key.pact) (suits Q.fits words.now.key.pact)
@@ -186,7 +174,7 @@ pub(crate) fn swap_running<Q: Quaject, J: Runner<Q>>(
     words: &Shared<Q, View, Shape<Pact<Q::World, Q>>, ChainRule>,
     seat: &mut Seat<Q, View>,
 ) -> u64
-    requires queue { (seat.old.table_id ≡ words.now.table_id) × (words.now.table_id.words ≡ 36) }
+    requires queue { (seat.old.table_id ≡ words.now.table_id) × (words.now.table_id.words ≡ width) }
     requires live { (1 ≤ seat.old.me.0.member.ends) × (seat.old.me.0.runner ≡ true) }
     requires call { J.call ≡ seat.old.id }
     requires suits { (x : Q) → suits Q.fits words.now.key.pact x → J.suits x }
@@ -205,7 +193,7 @@ pub(crate) fn exchange_gate<Q: Quaject, J: Runner<Q>>(
     words: &Shared<Q, View, Shape<Pact<Q::World, Q>>, ChainRule>,
     seat: &mut Seat<Q, View>,
 ) -> u64
-    requires queue { (seat.old.table_id ≡ words.now.table_id) × (words.now.table_id.words ≡ 36) }
+    requires queue { (seat.old.table_id ≡ words.now.table_id) × (words.now.table_id.words ≡ width) }
     requires live { (1 ≤ seat.old.me.0.member.ends) × (seat.old.me.0.runner ≡ true) × (seat.old.me.0.saw ≡ true) }
     requires call { J.call ≡ seat.old.id }
     requires suits { (x : Q) → suits Q.fits words.now.key.pact x → J.suits x }
@@ -214,8 +202,8 @@ pub(crate) fn exchange_gate<Q: Quaject, J: Runner<Q>>(
     requires carries { Carries (makes Q.made_by words.now.key.pact) (suits Q.fits words.now.key.pact)
         (notes_of seat.old.me.0.part.queue) [] seat.old.me.1 }
     ensures queue { IsSame seat.old seat.new }
-    ensures hit { result ≡ 1 → (seat.new.me.1 ≡ []) × HasLeft J.made J.suits J.call seat.old.me seat.new.me.0 }
-    ensures miss { result ≢ 1 → (result ≡ 2) × (seat.new.me.1 ≡ seat.old.me.1)
+    ensures hit { result ≡ RUNNING → (seat.new.me.1 ≡ []) × HasLeft J.made J.suits J.call seat.old.me seat.new.me.0 }
+    ensures miss { result ≢ RUNNING → (result ≡ MORE) × (seat.new.me.1 ≡ seat.old.me.1)
         × Found seat.old.me.0 gate_word result seat.new.me.0 }
 {
     words.compare_exchange::<Leaves<J>>(seat, GATE, RUNNING, IDLE)
@@ -225,7 +213,7 @@ pub(crate) fn count_up<Q: Quaject>(
     words: &Shared<Q, View, Shape<Pact<Q::World, Q>>, ChainRule>,
     seat: &mut Seat<Q, View>,
 ) -> u64
-    requires queue { (seat.old.table_id ≡ words.now.table_id) × (words.now.table_id.words ≡ 36) }
+    requires queue { (seat.old.table_id ≡ words.now.table_id) × (words.now.table_id.words ≡ width) }
     requires parts { seat.old.me.0.member.ends + 1 ≤ seat.old.me.0.member.share }
     ensures queue { IsSame seat.old seat.new × (seat.new.me.1 ≡ seat.old.me.1) }
     ensures counted { CountedUp seat.old.me.0 result seat.new.me.0 }
@@ -237,7 +225,7 @@ pub(crate) fn count_down<Q: Quaject>(
     words: &Shared<Q, View, Shape<Pact<Q::World, Q>>, ChainRule>,
     seat: &mut Seat<Q, View>,
 ) -> u64
-    requires queue { (seat.old.table_id ≡ words.now.table_id) × (words.now.table_id.words ≡ 36) }
+    requires queue { (seat.old.table_id ≡ words.now.table_id) × (words.now.table_id.words ≡ width) }
     requires live { 2 ≤ seat.old.me.0.member.ends }
     ensures queue { IsSame seat.old seat.new × (seat.new.me.1 ≡ seat.old.me.1) }
     ensures counted { CountedDown seat.old.me.0 result seat.new.me.0 }
@@ -249,7 +237,7 @@ pub(crate) fn count<Q: Quaject>(
     words: &Shared<Q, View, Shape<Pact<Q::World, Q>>, ChainRule>,
     seat: &mut Seat<Q, View>,
 ) -> u64
-    requires queue { (seat.old.table_id ≡ words.now.table_id) × (words.now.table_id.words ≡ 36) }
+    requires queue { (seat.old.table_id ≡ words.now.table_id) × (words.now.table_id.words ≡ width) }
     requires live { seat.old.me.0.member.ends ≡ 1 }
     ensures queue { IsSame seat.old seat.new × (seat.new.me.1 ≡ seat.old.me.1) }
     ensures tallied { Tallied seat.old.me.0 result seat.new.me.0 }
@@ -261,7 +249,7 @@ pub(crate) fn split_off<Q: Quaject>(
     words: &Shared<Q, View, Shape<Pact<Q::World, Q>>, ChainRule>,
     seat: &mut Seat<Q, View>,
 ) -> Seat<Q, View>
-    requires queue { (seat.old.table_id ≡ words.now.table_id) × (words.now.table_id.words ≡ 36) }
+    requires queue { (seat.old.table_id ≡ words.now.table_id) × (words.now.table_id.words ≡ width) }
     requires live { seat.old.me.0.member.ends ≡ 2 }
     ensures queue { IsSame seat.old seat.new × (result.table_id ≡ seat.old.table_id) }
     ensures split { (seat.new.me ≡ (rest_of seat.old.me.0, seat.old.me.1))
@@ -275,7 +263,7 @@ pub(crate) fn hand_over<Q: Quaject>(
     words: &Shared<Q, View, Shape<Pact<Q::World, Q>>, ChainRule>,
     seat: &mut Seat<Q, View>,
 ) -> Seat<Q, View>
-    requires queue { (seat.old.table_id ≡ words.now.table_id) × (words.now.table_id.words ≡ 36) }
+    requires queue { (seat.old.table_id ≡ words.now.table_id) × (words.now.table_id.words ≡ width) }
     ensures queue { result.table_id ≡ seat.old.table_id }
     ensures moved { result.me ≡ (seat.old.me.0, []) }
 {
@@ -288,7 +276,7 @@ pub(crate) fn take_in<Q: Quaject, J: Spent>(
     other: Seat<Q, View>,
 )
     requires queue { (seat.old.table_id ≡ words.now.table_id) × (other.table_id ≡ words.now.table_id)
-        × (other.me.1 ≡ []) × (words.now.table_id.words ≡ 36) }
+        × (other.me.1 ≡ []) × (words.now.table_id.words ≡ width) }
     requires live { 1 ≤ seat.old.me.0.member.ends }
     requires turns { other.me.0.runner ≡ true → seat.old.me.0.runner ≡ true }
     requires settled { other.me.0.owes ≡ false }

@@ -1,5 +1,10 @@
 //! The word of a place.
-ghost use Rattle.std.specs.Prelude.{◌≡◌, ◌+◌, ◌*◌, ◌/◌, ◌%◌, ◌<◌, ◌≤◌};
+ghost use Rattle.std.specs.Prelude.{◌≡◌, ◌+◌, ◌*◌, ◌<◌};
+ghost use Rattle.table_theory.specs.declared.positions.TheConstants.{POSITIONS};
+ghost use Rattle.proc_chain.specs.declared.layout.TheConstants.{MARKS, NOTES};
+ghost use Rattle.proc_chain.specs.Layout.{mark_of, note_of};
+
+use crate::layout::NOTES;
 
 /// The note in bits 0 to 15, and in bits 16 to 47 its position and 1 more. A place that was never raised has the
 /// word 0.
@@ -7,13 +12,13 @@ ghost use Rattle.std.specs.Prelude.{◌≡◌, ◌+◌, ◌*◌, ◌/◌, ◌%�
 pub(crate) struct PlaceWord {
     pub(crate) mark: u64,
     pub(crate) note: u16,
-    ghost bounded: { mark < 281474976710656 },
+    ghost bounded: { mark < MARKS },
 }
 
 impl PlaceWord {
     /// What the place of this position has once the note is raised there.
     pub(crate) fn raised(position: u64, note: u16) -> PlaceWord
-        requires { position < 4294967296 }
+        requires { position < POSITIONS }
         ensures { (result.mark ≡ position + 1) × (result.note ≡ note) }
     {
         PlaceWord {
@@ -23,17 +28,17 @@ impl PlaceWord {
     }
 
     pub(crate) fn of(word: u64) -> PlaceWord
-        ensures { (result.mark ≡ word / 65536) × (result.note ≡ word % 65536) }
+        ensures { (result.mark ≡ mark_of word) × (result.note ≡ note_of word) }
     {
         PlaceWord {
-            mark: word / 65_536,
-            note: (word % 65_536) as u16,
+            mark: word / NOTES,
+            note: (word % NOTES) as u16,
         }
     }
 
     pub(crate) fn bits(self) -> u64
-        ensures { result ≡ self.mark * 65536 + self.note }
+        ensures { result ≡ self.mark * NOTES + self.note }
     {
-        self.mark * 65_536 + self.note as u64
+        self.mark * NOTES + self.note as u64
     }
 }

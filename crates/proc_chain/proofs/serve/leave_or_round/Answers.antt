@@ -1,7 +1,7 @@
 use Rattle.std.proofs.Common.{ap, subst, ◌∙◌, List, [], ℕ}
 use Rattle.proc_chain.specs.Rules.{suits, makes}
 use Rattle.proc_chain.specs.declared.rule.View.{View}
-use Rattle.proc_chain.specs.Shown.{gate_word}
+use Rattle.proc_chain.specs.Layout.{gate_word}
 use Rattle.proc_chain.specs.Steps.{Found, BegunRound}
 use Rattle.proc_chain.proofs.Turns.{served_on, served_found, served_round, served_left, carries_to}
 use Rattle.proc_chain.proofs.Rounds.{found_more, left_none}

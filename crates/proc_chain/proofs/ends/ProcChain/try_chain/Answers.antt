@@ -5,7 +5,7 @@ use Rattle.table_theory.specs.declared.queues.Positions.{Positions}
 use Rattle.proc_chain.specs.Rules.{suits, makes}
 use Rattle.proc_chain.specs.declared.rule.View.{View}
 use Rattle.proc_chain.specs.Steps.{Notified}
-use Rattle.proc_chain.proofs.Linking.{was_spent, was_full, found_room, room_left, next_position, one_end, was_lost, stays_on, stays_found, stays_room, looks_found, looks_on, stays_told, just_claimed, link, linked_stays, linked_distinct, linked_raised, linked_put, put_on, spent_notes, full_notes, lost_notes, all_same, slot_on, slot_won, won_as}
+use Rattle.proc_chain.proofs.Linking.{was_spent, was_full, found_room, room_left, one_end, was_lost, stays_on, stays_found, stays_room, looks_found, looks_on, stays_told, just_claimed, link, linked_stays, linked_distinct, linked_raised, linked_put, put_on, spent_notes, full_notes, lost_notes, all_same, slot_on, slot_won, won_as}
 use Rattle.proc_chain.proofs.ends.ProcChain.try_chain.Goals as goal
 
 pub invariant_of-end : goal.invariant_of-end
@@ -170,7 +170,7 @@ pub exchange_head-found-requires-clause-room : goal.exchange_head-found-requires
 exchange_head-found-requires-clause-room g c = let b = c.load_tail-tail.ensures in room_left c.load_tail-tail.new.seat.me.0 c.load_head-head.result c.load_tail-tail.result b.tail b.found.shows.room c.if-head-tail.false
 
 pub exchange_head-found-requires-clause-bounded : goal.exchange_head-found-requires-clause-bounded
-exchange_head-found-requires-clause-bounded g c = next_position _ c.if-head-ge-POSITIONS.false
+exchange_head-found-requires-clause-bounded g c = c.if-head-ge-POSITIONS.false
 
 pub swap_more-requires-clause-queue : goal.swap_more-requires-clause-queue
 swap_more-requires-clause-queue g c = (c.store_place.ensures.queue.0.0 ∙ (c.exchange_head-found.ensures.queue.0.0 ∙ (c.load_tail-tail.ensures.queue.0.0 ∙ (c.load_head-head.ensures.queue.0.0 ∙ c.requires.0))), c.args.self.now.sized.0)

@@ -1,0 +1,52 @@
+-- Where the words of a chain's table stand: head, tail, number of ends and gate, then the words of the places; and what
+-- the word of a place says.
+use Rattle.std.specs.Prelude.{ℕ, ◌+◌, ◌*◌, ◌/◌, ◌%◌, List, slice_index_or}
+use Rattle.proc_chain.specs.declared.layout.TheConstants.{HEAD, TAIL, ENDS, GATE, FIRST_PLACE, PLACES, WORDS, NOTES}
+
+-- the number of the word that has the head
+abbrev pub head_word : ℕ
+head_word = HEAD
+
+-- the number of the word that has the tail
+abbrev pub tail_word : ℕ
+tail_word = TAIL
+
+-- the number of the word that has the number of ends
+abbrev pub ends_word : ℕ
+ends_word = ENDS
+
+-- the number of the word that has the gate
+abbrev pub gate_word : ℕ
+gate_word = GATE
+
+-- the number of the word of the place of this position
+abbrev pub place_word : ℕ → ℕ
+place_word position = position % PLACES + FIRST_PLACE
+
+-- how many words a chain has
+abbrev pub width : ℕ
+width = WORDS
+
+-- what the word of a place has once the note is raised there
+abbrev pub raised_word : ℕ → ℕ → ℕ
+raised_word position note = (position + 1) * NOTES + note
+
+-- the note in the word of a place
+abbrev pub note_of : ℕ → ℕ
+note_of word = word % NOTES
+
+-- the mark in the word of a place: where the place is raised, its position and 1 more
+abbrev pub mark_of : ℕ → ℕ
+mark_of word = word / NOTES
+
+-- the note in this place
+abbrev pub note_in : List ℕ → ℕ → ℕ
+note_in words place = note_of (slice_index_or words (place + FIRST_PLACE) 0)
+
+-- the mark in this place
+abbrev pub mark_in : List ℕ → ℕ → ℕ
+mark_in words place = mark_of (slice_index_or words (place + FIRST_PLACE) 0)
+
+-- the gate: IDLE, RUNNING or MORE
+abbrev pub gate_in : List ℕ → ℕ
+gate_in words = slice_index_or words gate_word 0

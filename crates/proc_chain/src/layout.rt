@@ -1,0 +1,47 @@
+//! Where the words of a chain's table stand: the head, the tail, the number of ends and the gate, then a word for each
+//! place of the queue of notes. The place of a position is the position modulo the number of places.
+ghost use Rattle.std.specs.Prelude.{◌≡◌};
+ghost use Rattle.proc_chain.specs.Layout.{place_word};
+
+/// The position of the next claim.
+pub(crate) const HEAD: usize = 0;
+
+/// The position of the next note that is taken.
+pub(crate) const TAIL: usize = 1;
+
+/// The number of ends that stand.
+pub(crate) const ENDS: usize = 2;
+
+/// The gate: `IDLE`, `RUNNING` or `MORE`.
+pub(crate) const GATE: usize = 3;
+
+/// The first of the places' words.
+pub(crate) const FIRST_PLACE: usize = 4;
+
+/// The number of places.
+pub(crate) const PLACES: usize = 32;
+
+/// The number of words.
+pub(crate) const WORDS: usize = FIRST_PLACE + PLACES;
+
+/// Nobody runs notes, and the quaject lies in the chain.
+pub(crate) const IDLE: u64 = 0;
+
+/// One end has the turn, and no notify came since its last round.
+pub(crate) const RUNNING: u64 = 1;
+
+/// One end has the turn, and a notify came since its last round.
+pub(crate) const MORE: u64 = 2;
+
+/// A note is below this: it has the lower 16 bits of its place's word.
+pub(crate) const NOTES: u64 = 65_536;
+
+/// A mark is below this: it has the other 48 bits.
+pub(crate) const MARKS: u64 = 281_474_976_710_656;
+
+/// The word of the place of this position.
+pub(crate) fn place_word(position: usize) -> usize
+    ensures { result ≡ place_word position }
+{
+    position % PLACES + FIRST_PLACE
+}

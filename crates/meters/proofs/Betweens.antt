@@ -9,7 +9,8 @@ use Rattle.atomic_table.specs.Table.{State}
 use Rattle.meters.specs.Between.{ShowsMeters}
 use Rattle.meters.specs.Changes.{meters_of}
 use Rattle.meters.specs.Rules.{Rule}
-use Rattle.meters.specs.Words.{word_of, WordsShow}
+use Rattle.meters.specs.Layout.{word_of}
+use Rattle.meters.specs.Words.{WordsShow}
 
 pub shown_gauges : (m : Reading) (words : List ℕ) → WordsShow m words → m.gauges ≡ take 8 (drop 1 words)
 shown_gauges m words h = let eight = h.eight in let wide = h.wide in let d = length-drop 1 words in let t = length-take 8 (drop 1 words) in same_number_lists m.gauges (take 8 (drop 1 words)) (omega arith)

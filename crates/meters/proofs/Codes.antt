@@ -1,7 +1,8 @@
 -- A word gives back the alarm that it was made of.
 use Rattle.std.proofs.Common.{◌≡◌, ◌≢◌, ℕ, ◌+◌, ◌*◌, ◌/◌, ◌%◌, ◌<◌, refl, sym, ap, ◌∙◌, arith, Option, Some, None}
 use Rattle.event_theory.specs.declared.alarm.Alarm.{Alarm}
-use Rattle.meters.specs.Words.{word_of, alarm_in, IsInRange, Fits}
+use Rattle.meters.specs.Layout.{word_of, alarm_in}
+use Rattle.meters.specs.Words.{IsInRange, Fits}
 
 parts : (s e d : ℕ) → s < 16 → e < 64 → d < 4294967296 → ((9223372036854775808 + s * 1099511627776 + e * 4294967296 + d) % 4294967296 ≡ d)
     × ((9223372036854775808 + s * 1099511627776 + e * 4294967296 + d) / 4294967296 % 256 ≡ e) × ((9223372036854775808 + s * 1099511627776 + e * 4294967296 + d) / 1099511627776 % 256 ≡ s)

@@ -4,7 +4,7 @@ use Rattle.std.proofs.lemmas.Bool.{eqb-false}
 use Rattle.event_theory.specs.declared.alarm.Alarm.{Alarm}
 use Rattle.meters.specs.declared.rule.View.{View}
 use Rattle.meters.specs.Changes.{in_slot}
-use Rattle.meters.specs.Words.{word_of, clock_word, slot_word}
+use Rattle.meters.specs.Layout.{word_of, clock_word, slot_word}
 use Rattle.meters.specs.Steps.{Found}
 use Rattle.meters.specs.Answers.{FoundIn, FoundTaken, FoundOther}
 use Rattle.meters.proofs.Codes.{none_word}

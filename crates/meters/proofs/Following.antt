@@ -11,7 +11,7 @@ use Rattle.meters.specs.declared.rule.View.{View}
 use Rattle.meters.specs.Changes.{Leads, further, fired}
 use Rattle.meters.specs.Own.{Own, own_of, DidNothing, DidAdvance, DidSet, DidFire}
 use Rattle.meters.specs.Views.{Later}
-use Rattle.meters.specs.Words.{clock_word}
+use Rattle.meters.specs.Layout.{clock_word}
 use Rattle.meters.specs.Steps.{counted, Found, Advanced, Fired, CountedUp, CountedDown, rest_of, newborn, both}
 use Rattle.meters.specs.Endings.{Divided, IsNewborn, TookIn}
 use Rattle.meters.specs.Answers.{WasLost, FoundIn, FoundOther, FoundAlarms, FoundEmpty, SetNow, FoundNoRoom, WasTaken, Visit, stays, goes, went, IsNotDue, Visited, AllVisited, gave, Gave}

@@ -9,7 +9,8 @@ use Rattle.table_theory.proofs.Members.{known_first}
 use Rattle.meters.specs.declared.rule.Shape.{Shape}
 use Rattle.meters.specs.declared.rule.View.{View}
 use Rattle.meters.specs.Changes.{first_reading, here}
-use Rattle.meters.specs.Words.{word_of, Fits, WordsShow}
+use Rattle.meters.specs.Layout.{word_of}
+use Rattle.meters.specs.Words.{Fits, WordsShow}
 use Rattle.meters.specs.Rules.{Rule, member_of, steps_of, course_of, IsIdle, newcomer}
 use Rattle.meters.proofs.Listed.{first_later}
 

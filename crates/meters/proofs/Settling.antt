@@ -27,7 +27,8 @@ use Rattle.meters.specs.Steps.{Tallied}
 use Rattle.meters.specs.Changes.{IsLawful}
 use Rattle.meters.specs.Own.{own_of, nothing_own}
 use Rattle.meters.specs.Views.{ViewsShow, amount_on, times, times_to}
-use Rattle.meters.specs.Words.{word_of, Fits, SlotsShow, WordsShow, standing}
+use Rattle.meters.specs.Layout.{word_of}
+use Rattle.meters.specs.Words.{Fits, SlotsShow, WordsShow, standing}
 use Rattle.meters.proofs.Betweens.{shown_gauges}
 use Rattle.meters.proofs.Following.{later_than}
 use Rattle.meters.proofs.Listed.{sole_own, sole_listed}

@@ -4,7 +4,8 @@ use mathlib.Core.Logic.{dite}
 use native.Mathlib.Decide.{ℕ_discrete}
 use Rattle.event_theory.specs.declared.alarm.Alarm.{Alarm}
 use Rattle.meters.specs.declared.rule.Reading.{Reading}
-use Rattle.meters.specs.Words.{word_of, Fits, SlotsShow, WordsShow}
+use Rattle.meters.specs.Layout.{word_of}
+use Rattle.meters.specs.Words.{Fits, SlotsShow, WordsShow}
 use Rattle.meters.proofs.Events.{with_tick, with_advance}
 
 -- a change beside the slots leaves what they show

@@ -17,7 +17,8 @@ use Rattle.meters.specs.declared.rule.Tick.{Tick}
 use Rattle.meters.specs.declared.rule.View.{View}
 use Rattle.meters.specs.Changes.{IsLawful, first_reading, in_slot, ticked, advanced, was_set, fired, cancelled, here}
 use Rattle.meters.specs.Views.{ViewsShow}
-use Rattle.meters.specs.Words.{word_of, IsInRange, WordsShow}
+use Rattle.meters.specs.Layout.{word_of}
+use Rattle.meters.specs.Words.{IsInRange, WordsShow}
 use Rattle.meters.specs.Rules.{Rule, member_of, steps_of, course_of, IsIdle}
 use Rattle.meters.specs.Steps.{Course, entry, after, looked, Found, finds, Ticked, ticks, advances, SetIn, IsWordOf, sets, Fired, fires, Cancelled, cancels}
 use Rattle.meters.proofs.Codes.{same_alarm, no_word, one_word}

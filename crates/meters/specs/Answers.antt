@@ -6,10 +6,11 @@ use Rattle.meters.specs.declared.alarms.SetRefusal.{SetRefusal}
 use Rattle.meters.specs.declared.alarms.SetRefusal.TheVariants as not_set
 use Rattle.meters.specs.declared.gauges.AdvanceRefusal.{AdvanceRefusal}
 use Rattle.meters.specs.declared.gauges.AdvanceRefusal.TheVariants as not_advanced
+use Rattle.meters.specs.declared.layout.TheConstants.{SLOTS, LAST_TICK}
 use Rattle.meters.specs.declared.rule.View.{View}
 use Rattle.meters.specs.Changes.{in_slot}
 use Rattle.meters.specs.Steps.{Found, Advanced, SetIn, Fired, Cancelled}
-use Rattle.meters.specs.Words.{clock_word, slot_word, word_of}
+use Rattle.meters.specs.Layout.{clock_word, slot_word, word_of}
 
 -- the clock was loaded, and then moved on from the tick that was found, to the next
 pub record AdvancedNow (v : View) (clock : ℕ) (w : View) : Type 0 where
@@ -24,13 +25,13 @@ pub record WasLost (v : View) (clock : ℕ) (w : View) : Type 0 where
   pub first : ℕ
   pub loaded : View
   pub clock_loaded : Found v clock_word first loaded
-  pub ticks_left : first < 4294967295
+  pub ticks_left : first < LAST_TICK
   pub missed : Found loaded clock_word clock w
   pub past : first < clock
 
 -- why the clock was not moved on. Spent: it was loaded, and is the last tick
 abbrev pub NotAdvanced : View → AdvanceRefusal → View → Type 0
-NotAdvanced v not_advanced.Spent w = Found v clock_word 4294967295 w
+NotAdvanced v not_advanced.Spent w = Found v clock_word LAST_TICK w
 NotAdvanced v (not_advanced.Lost clock) w = WasLost v clock w
 
 -- a slot's word was found, and this stood in the slot
@@ -57,7 +58,7 @@ FoundAlarms v slot (alarm ∷ alarms) w =
 
 -- the slots before this one were loaded, in order, each taken, and then this one, which was empty
 pub record FoundEmpty (v : View) (slot : ℕ) (w : View) : Type 0 where
-  pub within : slot < 16
+  pub within : slot < SLOTS
   pub alarms : List Alarm
   pub as_many : length alarms ≡ slot
   pub passed : View
@@ -70,10 +71,10 @@ pub record SetNow (v : View) (slot : ℕ) (alarm : Alarm) (w : View) : Type 0 wh
   pub found : FoundEmpty v slot before
   pub set : SetIn before slot alarm w
 
--- all 16 slots were loaded, each taken
+-- all slots were loaded, each taken
 pub record FoundNoRoom (v w : View) : Type 0 where
   pub alarms : List Alarm
-  pub sixteen : length alarms ≡ 16
+  pub sixteen : length alarms ≡ SLOTS
   pub taken : FoundAlarms v 0 alarms w
 
 -- the exchange found the slot taken which the search had found empty
@@ -128,12 +129,12 @@ pub record Gave (v : View) (clock slot : ℕ) (alarm : Option Alarm) (w : View) 
   pub alarm_is : alarm ≡ gave visit
   pub visited : Visited v clock slot visit w
 
--- The clock was loaded, and then all 16 slots were visited, in order. The alarms are those that were fired
+-- The clock was loaded, and then all slots were visited, in order. The alarms are those that were fired
 pub record FiredNow (v : View) (alarms : List Alarm) (w : View) : Type 0 where
   pub clock : ℕ
   pub loaded : View
   pub clock_loaded : Found v clock_word clock loaded
   pub visits : List Visit
-  pub sixteen : length visits ≡ 16
+  pub sixteen : length visits ≡ SLOTS
   pub visited : AllVisited loaded clock 0 visits w
   pub alarms_are : alarms ≡ filter_map gave visits

@@ -1,5 +1,5 @@
 -- What holds between any two steps: lawful meters of the core that the words and the views show.
-use Rattle.std.specs.Prelude.{◌≡◌, ℕ, ◌+◌, ◌%◌, ◌<◌, length, map, take, drop, slice_index_or, count_by, None}
+use Rattle.std.specs.Prelude.{◌≡◌, ℕ, ◌+◌, ◌%◌, ◌^◌, ◌<◌, length, map, slice_index_or, count_by, None}
 use mathlib.Core.Option.{some}
 use lib.ListN.{get_elem?}
 use Rattle.atomic_table.specs.Table.{State}
@@ -9,25 +9,27 @@ use Rattle.event_theory.specs.Meters.{Meters}
 use Rattle.table_theory.specs.Courses.{IsCourse}
 use Rattle.table_theory.specs.Members.{EndsKnown}
 use Rattle.table_theory.specs.Sharing.{total}
+use Rattle.meters.specs.declared.layout.TheConstants.{GAUGES, SLOTS, TICKS}
 use Rattle.meters.specs.declared.rule.Reading.{Reading}
 use Rattle.meters.specs.declared.rule.Shape.{Shape}
 use Rattle.meters.specs.declared.rule.View.{View}
 use Rattle.meters.specs.Changes.{meters_of, first_reading}
 use Rattle.meters.specs.Rules.{member_of, steps_of, course_of, IsIdle}
 use Rattle.meters.specs.Views.{AdvancesShow, amount_on, times, Later}
-use Rattle.meters.specs.Words.{word_of, Fits}
+use Rattle.meters.specs.Layout.{ends_word, clock_word, width, gauges_in, slots_in, word_of}
+use Rattle.meters.specs.Words.{Fits}
 
 -- the words and the views show the meters
 pub record IsShown (key : Shape) (s : State Unit View) (m : Meters) : Type 0 where
-  pub long : length s.words ≡ 26
-  pub gauges : m.gauges ≡ take 8 (drop 1 s.words)
-  pub clock : m.clock ≡ slice_index_or s.words 9 0
-  pub tick : m.clock < 4294967296
-  pub alarms : map word_of m.slots ≡ drop 10 s.words
-  pub fit : (slot : ℕ) → slot < 16 → Fits (slice_index_or m.slots slot None)
+  pub long : length s.words ≡ width
+  pub gauges : m.gauges ≡ gauges_in s.words
+  pub clock : m.clock ≡ slice_index_or s.words clock_word 0
+  pub tick : m.clock < TICKS
+  pub alarms : map word_of m.slots ≡ slots_in s.words
+  pub fit : (slot : ℕ) → slot < SLOTS → Fits (slice_index_or m.slots slot None)
   -- the gauges are the sums of the ticks that the ends list
-  pub sums : (gauge : ℕ) → gauge < 8
-      → slice_index_or m.gauges gauge 0 ≡ total (λ v. amount_on gauge v.ticks) s.views % 18446744073709551616
+  pub sums : (gauge : ℕ) → gauge < GAUGES
+      → slice_index_or m.gauges gauge 0 ≡ total (λ v. amount_on gauge v.ticks) s.views % 2 ^ 64
   -- the clock was moved on as often as the ends list, once to each tick
   pub advances : AdvancesShow key.clock m.clock s.views
   pub set : (alarm : Alarm) → times alarm m.set ≡ total (λ v. times alarm v.set) s.views
@@ -50,4 +52,4 @@ pub record ShowsMeters (key : Shape) (s : State Unit View) : Type 0 where
   -- the ends' steps lead to it from the first meters, and each end has seen all of them up to its own last one
   pub course : IsCourse steps_of course_of (first_reading key.clock) now s.views
   -- the word has the number of the ends that stand
-  pub ends : EndsKnown member_of IsIdle (slice_index_or s.words 0 0) s.views
+  pub ends : EndsKnown member_of IsIdle (slice_index_or s.words ends_word 0) s.views

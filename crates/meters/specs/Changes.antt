@@ -5,6 +5,7 @@ use Rattle.std.specs.List.{repeat}
 use Rattle.event_theory.specs.declared.alarm.Alarm.{Alarm}
 use Rattle.event_theory.specs.Meters.{Meters, tick, advance, set_alarm, fire, cancel}
 use Rattle.event_theory.specs.Lawful.{IsLawfulMeters, stands}
+use Rattle.meters.specs.declared.layout.TheConstants.{GAUGES, SLOTS}
 use Rattle.meters.specs.declared.rule.Reading.{Reading}
 
 -- the core's meters that a reading has
@@ -28,9 +29,9 @@ in_slot m slot = slice_index_or m.slots slot None
 -- the meters with this clock, before any event
 abbrev pub first_reading : ℕ → Reading
 first_reading clock = record {
-  gauges = repeat 8 (0 ∷ []);
+  gauges = repeat GAUGES (0 ∷ []);
   clock = clock;
-  slots = repeat 16 (None ∷ []);
+  slots = repeat SLOTS (None ∷ []);
   set = [];
   fired = [];
   cancelled = [];

@@ -1,8 +1,9 @@
 -- What closing the meters answers.
-use Rattle.std.specs.Prelude.{◌≡◌, ◌+◌, ◌%◌, ◌<◌, ◌≤◌, ℕ, List, [], ◌∷◌, length, slice_index_or}
+use Rattle.std.specs.Prelude.{◌≡◌, ◌+◌, ◌%◌, ◌^◌, ◌<◌, ◌≤◌, ℕ, List, [], ◌∷◌, length, slice_index_or}
 use Rattle.event_theory.specs.declared.alarm.Alarm.{Alarm}
 use Rattle.table_theory.specs.Members.{EndsKnown}
 use Rattle.table_theory.specs.Sharing.{IsWhole}
+use Rattle.meters.specs.declared.layout.TheConstants.{GAUGES}
 use Rattle.meters.specs.declared.rule.Reading.{Reading}
 use Rattle.meters.specs.declared.rule.View.{View}
 use Rattle.meters.specs.Changes.{IsLawful}
@@ -14,8 +15,8 @@ use Rattle.meters.specs.Words.{standing}
 -- By the lists of the one end: the ticks make the gauges, the advances the clock, to each tick from the first clock on
 -- once, and each alarm set was fired, cancelled or is left
 pub record IsAllOf (v : View) (first : ℕ) (gauges : List ℕ) (clock : ℕ) (alarms : List Alarm) : Type 0 where
-  pub sums : (gauge : ℕ) → gauge < 8
-      → slice_index_or gauges gauge 0 ≡ amount_on gauge v.ticks % 18446744073709551616
+  pub sums : (gauge : ℕ) → gauge < GAUGES
+      → slice_index_or gauges gauge 0 ≡ amount_on gauge v.ticks % 2 ^ 64
   pub number : clock ≡ first + length v.advances
   pub each : (tick : ℕ) → first < tick → tick ≤ clock → times_to tick v.advances ≡ 1
   pub once : (alarm : Alarm)

@@ -11,7 +11,8 @@ use Rattle.meters.specs.declared.rule.View.{View}
 use Rattle.meters.specs.Changes.{IsLawful, first_reading}
 use Rattle.meters.specs.Own.{own_of, nothing_own}
 use Rattle.meters.specs.Views.{ViewsShow}
-use Rattle.meters.specs.Words.{ends_word, WordsShow}
+use Rattle.meters.specs.Layout.{ends_word}
+use Rattle.meters.specs.Words.{WordsShow}
 
 abbrev pub member_of : View → Member
 member_of v = v.member

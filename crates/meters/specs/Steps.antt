@@ -13,7 +13,8 @@ use Rattle.meters.specs.declared.rule.Reading.{Reading}
 use Rattle.meters.specs.declared.rule.View.{View}
 use Rattle.meters.specs.Changes.{meters_of, IsLawful, IsSet, in_slot}
 use Rattle.meters.specs.Views.{Later}
-use Rattle.meters.specs.Words.{ends_word, gauge_word, clock_word, slot_word, WordsShow, IsInRange, word_of}
+use Rattle.meters.specs.Layout.{ends_word, gauge_word, clock_word, slot_word, word_of}
+use Rattle.meters.specs.Words.{WordsShow, IsInRange}
 
 -- steps of all ends, in their order
 abbrev pub Course : Type 0

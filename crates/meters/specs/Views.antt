@@ -1,11 +1,12 @@
 -- What the ends list together.
-use Rattle.std.specs.Prelude.{◌≡◌, ◌⊎◌, ℕ, ◌+◌, ◌%◌, ◌==◌, ◌<◌, ◌≤◌, List, if◌then◌else◌, length, slice_index_or}
+use Rattle.std.specs.Prelude.{◌≡◌, ◌⊎◌, ℕ, ◌+◌, ◌%◌, ◌^◌, ◌==◌, ◌<◌, ◌≤◌, List, if◌then◌else◌, length, slice_index_or}
 use Rattle.std.specs.Prelude.{sum_by, count_by}
 use mathlib.Core.Option.{some}
 use lib.ListN.{get_elem?}
 use Rattle.event_theory.specs.declared.alarm.Alarm.{Alarm}
 use Rattle.event_theory.specs.Lawful.{is_alarm}
 use Rattle.table_theory.specs.Sharing.{total}
+use Rattle.meters.specs.declared.layout.TheConstants.{GAUGES}
 use Rattle.meters.specs.declared.rule.Reading.{Reading}
 use Rattle.meters.specs.declared.rule.Tick.{Tick}
 use Rattle.meters.specs.declared.rule.View.{View}
@@ -35,8 +36,8 @@ pub record AdvancesShow (first clock : ℕ) (views : List View) : Type 0 where
 
 -- the ends together list each tick, each advance from the first clock on, and each alarm set, fired and cancelled
 pub record ViewsShow (first : ℕ) (m : Reading) (views : List View) : Type 0 where
-  pub gauges : (gauge : ℕ) → gauge < 8
-      → slice_index_or m.gauges gauge 0 ≡ total (λ v. amount_on gauge v.ticks) views % 18446744073709551616
+  pub gauges : (gauge : ℕ) → gauge < GAUGES
+      → slice_index_or m.gauges gauge 0 ≡ total (λ v. amount_on gauge v.ticks) views % 2 ^ 64
   pub advances : AdvancesShow first m.clock views
   pub set : (alarm : Alarm) → times alarm m.set ≡ total (λ v. times alarm v.set) views
   pub fired : (alarm : Alarm) → times alarm m.fired ≡ total (λ v. times alarm v.fired) views

@@ -1,41 +1,17 @@
--- What the words of the table show: 8 gauges, the clock and 16 alarms, behind the number of ends.
-use Rattle.std.specs.Prelude.{◌≡◌, ℕ, ◌+◌, ◌*◌, ◌/◌, ◌%◌, ◌<◌, List, length}
-use Rattle.std.specs.Prelude.{filter_map, slice_index_or, Option, Some, None}
+-- What the words of the table show: the gauges, the clock and the alarms.
+use Rattle.std.specs.Prelude.{◌≡◌, ℕ, ◌<◌, List, length, filter_map, slice_index_or, Option, Some, None}
 use Rattle.event_theory.specs.declared.alarm.Alarm.{Alarm}
+use Rattle.meters.specs.declared.layout.TheConstants.{GAUGES, SLOTS, TICKS, ELEMENTS, SIGNALS}
 use Rattle.meters.specs.declared.rule.Reading.{Reading}
-
--- the numbers of the words
-abbrev pub ends_word : ℕ
-ends_word = 0
-
-abbrev pub gauge_word : ℕ → ℕ
-gauge_word gauge = 1 + gauge
-
-abbrev pub clock_word : ℕ
-clock_word = 9
-
-abbrev pub slot_word : ℕ → ℕ
-slot_word slot = 10 + slot
-
--- bit 63 is set, the signal is in bits 40 to 47, the element in bits 32 to 39, and the tick in bits 0 to 31
-abbrev pub word_of : Option Alarm → ℕ
-word_of None = 0
-word_of (Some alarm) = 9223372036854775808 + alarm.signal * 1099511627776 + alarm.element * 4294967296 + alarm.due
-
--- the alarm that a word other than 0 says
-abbrev pub alarm_in : ℕ → Alarm
-alarm_in word = record {
-  due = word % 4294967296;
-  element = word / 4294967296 % 256;
-  signal = word / 1099511627776 % 256;
-}
+use Rattle.meters.specs.Layout.{gauge_word, clock_word, slot_word, width, word_of}
 
 -- it can be said by a word
 pub record IsInRange (alarm : Alarm) : Type 0 where
-  pub due : alarm.due < 4294967296
-  pub element : alarm.element < 64
-  pub signal : alarm.signal < 16
+  pub due : alarm.due < TICKS
+  pub element : alarm.element < ELEMENTS
+  pub signal : alarm.signal < SIGNALS
 
+-- what stands in a slot can be said by a word
 abbrev pub Fits : Option Alarm → Type 0
 Fits None = Unit {0}
 Fits (Some alarm) = IsInRange alarm
@@ -44,17 +20,19 @@ Fits (Some alarm) = IsInRange alarm
 abbrev pub standing : List (Option Alarm) → List Alarm
 standing slots = filter_map (λ slot. slot) slots
 
+-- the words of the slots show what stands in them
 pub record SlotsShow (slots : List (Option Alarm)) (words : List ℕ) : Type 0 where
-  pub sixteen : length slots ≡ 16
-  pub fit : (slot : ℕ) → slot < 16 → Fits (slice_index_or slots slot None)
-  pub each : (slot : ℕ) → slot < 16
+  pub sixteen : length slots ≡ SLOTS
+  pub fit : (slot : ℕ) → slot < SLOTS → Fits (slice_index_or slots slot None)
+  pub each : (slot : ℕ) → slot < SLOTS
       → slice_index_or words (slot_word slot) 0 ≡ word_of (slice_index_or slots slot None)
 
+-- the words show the gauges, the clock and the slots
 pub record WordsShow (m : Reading) (words : List ℕ) : Type 0 where
-  pub wide : length words ≡ 26
-  pub eight : length m.gauges ≡ 8
-  pub gauges : (gauge : ℕ) → gauge < 8
+  pub wide : length words ≡ width
+  pub eight : length m.gauges ≡ GAUGES
+  pub gauges : (gauge : ℕ) → gauge < GAUGES
       → slice_index_or words (gauge_word gauge) 0 ≡ slice_index_or m.gauges gauge 0
   pub clock : slice_index_or words clock_word 0 ≡ m.clock
-  pub bounded : m.clock < 4294967296
+  pub bounded : m.clock < TICKS
   pub slots : SlotsShow m.slots words

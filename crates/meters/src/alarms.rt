@@ -2,12 +2,12 @@
 ghost use Rattle.std.specs.Prelude.{◌≡◌, ◌<◌, ◌≤◌, MatchResult, MatchBool, MatchOption, [], ◌∷◌};
 ghost use Rattle.meters.specs.Handles.{view_of, IsSeatOf, IsSameSeat};
 ghost use Rattle.meters.specs.Answers.{SetNow, NotSet, CancelledNow, Gave, FiredNow};
+ghost use Rattle.meters.specs.declared.layout.TheConstants.{SLOTS};
 ghost use Rattle.meters.specs.Own.{DidNothing, DidSet, DidCancel, DidFire};
 
 use crate::ends::{MeterSeat, Meters};
-use crate::steps::{
-    SLOTS, exchange_cancelled, exchange_fired, exchange_in, load_alarm, load_clock,
-};
+use crate::layout::SLOTS;
+use crate::steps::{exchange_cancelled, exchange_fired, exchange_in, load_alarm, load_clock};
 use arrayvec::ArrayVec;
 use event_theory::Alarm;
 use thiserror::Error;
@@ -49,7 +49,7 @@ impl Meters {
     /// Takes this alarm out of this slot, 0 to 15, by one exchange. True where it stood there; else it was fired or
     /// cancelled before, or never stood there. Two alarms that are equal cannot be told apart.
     pub fn cancel(&self, seat: &mut MeterSeat, slot: usize, alarm: Alarm) -> bool
-        requires { IsSeatOf self.now seat.old × (slot < 16) }
+        requires { IsSeatOf self.now seat.old × (slot < SLOTS) }
         ensures seat { IsSameSeat seat.old seat.new }
         ensures cancelled { CancelledNow (view_of seat.old) slot alarm result (view_of seat.new) }
         ensures own { MatchBool result (DidCancel alarm (view_of seat.old) (view_of seat.new))
@@ -60,7 +60,7 @@ impl Meters {
 
     // Takes out the alarm of this slot where it is due at this tick of the clock.
     fn fire(&self, seat: &mut MeterSeat, slot: usize, clock: u64) -> Option<Alarm>
-        requires { IsSeatOf self.now seat.old × (slot < 16) × (clock ≤ (view_of seat.old).seen.clock) }
+        requires { IsSeatOf self.now seat.old × (slot < SLOTS) × (clock ≤ (view_of seat.old).seen.clock) }
         ensures seat { IsSameSeat seat.old seat.new }
         ensures gave { Gave (view_of seat.old) clock slot result (view_of seat.new) }
         ensures clock { clock ≤ (view_of seat.new).seen.clock }
@@ -80,7 +80,7 @@ impl Meters {
     /// Loads the clock once, and then takes out each alarm that is due at it, slots in order: each slot is loaded, and
     /// where an alarm stands there that is due, it is taken out by one exchange. One that another end takes first is
     /// passed over.
-    pub fn due(&self, seat: &mut MeterSeat) -> ArrayVec<Alarm, 16>
+    pub fn due(&self, seat: &mut MeterSeat) -> ArrayVec<Alarm, SLOTS>
         requires { IsSeatOf self.now seat.old }
         ensures seat { IsSameSeat seat.old seat.new }
         ensures fired { FiredNow (view_of seat.old) result.items (view_of seat.new) }

@@ -1,12 +1,14 @@
 //! Closing.
-ghost use Rattle.std.specs.Prelude.{◌≡◌, List, Option, take, drop, IfOk, IfErr, MatchResult};
+ghost use Rattle.std.specs.Prelude.{◌≡◌, List, Option, IfOk, IfErr, MatchResult};
 ghost use Rattle.std.specs.Mem.Slots.{slots_items, slots_len, IsFull};
 ghost use Rattle.event_theory.specs.declared.alarm.Alarm.{Alarm};
+ghost use Rattle.meters.specs.Layout.{gauges_in, width};
 ghost use Rattle.meters.specs.Words.{SlotsShow, standing};
 ghost use Rattle.meters.specs.Closings.{ClosedNow, WereOpen};
 
 use crate::ends::{MeterSeat, Meters};
-use crate::steps::{ALARMS, CLOCK, GAUGES, SLOTS, count};
+use crate::layout::{CLOCK, FIRST_GAUGE, FIRST_SLOT, GAUGES, SLOTS};
+use crate::steps::count;
 use crate::word::AlarmWord;
 use arrayvec::ArrayVec;
 use atomic_table::Closed;
@@ -17,30 +19,30 @@ use table_theory::OpenEnds;
 /// The meters at their end: the gauges, the clock, and the alarms that stand, in the order of their slots.
 #[derive(Drop)]
 pub struct Metered {
-    pub gauges: [u64; 8],
+    pub gauges: [u64; GAUGES],
     pub clock: u32,
-    pub alarms: ArrayVec<Alarm, 16>,
+    pub alarms: ArrayVec<Alarm, SLOTS>,
 }
 
-fn read_gauges(closed: &Closed<(), Global>) -> [u64; 8]
-    requires { (slots_len closed.now.words ≡ 26) × IsFull closed.now.words }
-    ensures { result ≡ take 8 (drop 1 (slots_items closed.now.words)) }
+fn read_gauges(closed: &Closed<(), Global>) -> [u64; GAUGES]
+    requires { (slots_len closed.now.words ≡ width) × IsFull closed.now.words }
+    ensures { result ≡ gauges_in (slots_items closed.now.words) }
 {
     let mut gauges = [0; 8];
-    for gauge in 0..8usize {
-        gauges[gauge] = closed.word(GAUGES + gauge);
+    for gauge in 0..GAUGES {
+        gauges[gauge] = closed.word(FIRST_GAUGE + gauge);
     }
     gauges
 }
 
-fn read_alarms(closed: &Closed<(), Global>) -> ArrayVec<Alarm, 16>
-    requires { (slots_len closed.now.words ≡ 26) × IsFull closed.now.words }
+fn read_alarms(closed: &Closed<(), Global>) -> ArrayVec<Alarm, SLOTS>
+    requires { (slots_len closed.now.words ≡ width) × IsFull closed.now.words }
     ensures { (slots : List (Option Alarm)) → SlotsShow slots (slots_items closed.now.words)
         → result.items ≡ standing slots }
 {
     let mut alarms = ArrayVec::new();
     for slot in 0..SLOTS {
-        if let Some(alarm) = AlarmWord::from_bits(closed.word(ALARMS + slot)).alarm() {
+        if let Some(alarm) = AlarmWord::from_bits(closed.word(FIRST_SLOT + slot)).alarm() {
             alarms.push(alarm);
         }
     }

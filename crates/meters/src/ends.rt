@@ -1,11 +1,13 @@
 //! The meters and their ends.
 ghost use Rattle.std.specs.Prelude.{◌≡◌, [], IfOk};
+ghost use Rattle.meters.specs.Layout.{width};
 ghost use Rattle.meters.specs.Rules.{newcomer};
 ghost use Rattle.meters.specs.Endings.{Divided, IsNewborn, TookIn};
 ghost use Rattle.meters.specs.Own.{DidSplit, DidBoth};
 
+use crate::layout::{CLOCK, ENDS, WORDS};
 use crate::rule::{MeterRule, Shape, View};
-use crate::steps::{CLOCK, ENDS, count_down, count_up, split_off, take_in};
+use crate::steps::{count_down, count_up, split_off, take_in};
 use atomic_table::{Seat, Table};
 use event_theory::OutOfMemory;
 use std::alloc::Global;
@@ -18,7 +20,7 @@ use std::marker::Brand;
 #[derive(Drop)]
 pub struct Meters {
     pub(crate) table: Table<(), View, Shape, MeterRule, Global>,
-    ghost sized: { (table.shared.table_id.words ≡ 26) × (table.shared.table_id.slots ≡ 0) },
+    ghost sized: { (table.shared.table_id.words ≡ width) × (table.shared.table_id.slots ≡ 0) },
 }
 
 /// An end of the meters. It has no bytes.
@@ -39,7 +41,7 @@ impl Meters {
         ensures { IfOk result (λ r. IsSeatOf r.0 r.1 × (first_of r.0 ≡ clock)
             × (view_of r.1 ≡ newcomer (record { clock = clock }))) }
     {
-        let mut row = [0u64; 26];
+        let mut row = [0u64; WORDS];
         row[ENDS] = 1;
         row[CLOCK] = u64::from(clock);
         let shape = Shape {

@@ -1,11 +1,13 @@
 //! Gauges and the clock.
 ghost use Rattle.std.specs.Prelude.{◌≡◌, ◌<◌, MatchResult};
 ghost use Rattle.meters.specs.Handles.{view_of, IsSeatOf, IsSameSeat};
+ghost use Rattle.meters.specs.declared.layout.TheConstants.{GAUGES};
 ghost use Rattle.meters.specs.Steps.{Ticked};
 ghost use Rattle.meters.specs.Answers.{AdvancedNow, NotAdvanced};
 ghost use Rattle.meters.specs.Own.{DidNothing, DidTick, DidAdvance};
 
 use crate::ends::{MeterSeat, Meters};
+use crate::layout::LAST_TICK;
 use crate::steps::{add_to_gauge, exchange_clock, load_clock};
 use thiserror::Error;
 
@@ -23,7 +25,7 @@ pub enum AdvanceRefusal {
 impl Meters {
     /// Adds `amount` to the gauge 0 to 7, modulo 2^64, by one step, and gives the gauge's value before.
     pub fn tick(&self, seat: &mut MeterSeat, gauge: usize, amount: u64) -> u64
-        requires { IsSeatOf self.now seat.old × (gauge < 8) }
+        requires { IsSeatOf self.now seat.old × (gauge < GAUGES) }
         ensures seat { IsSameSeat seat.old seat.new }
         ensures ticked { Ticked (view_of seat.old) gauge amount result (view_of seat.new) }
         ensures own { DidTick gauge amount (view_of seat.old) (view_of seat.new) }
@@ -42,7 +44,7 @@ impl Meters {
             (λ r. DidNothing (view_of seat.old) (view_of seat.new)) }
     {
         let clock = load_clock(&self.table.shared, &mut seat.seat);
-        if clock == u64::from(u32::MAX) {
+        if clock == LAST_TICK {
             return Err(AdvanceRefusal::Spent);
         }
         let found = exchange_clock(&self.table.shared, &mut seat.seat, clock);

@@ -4,8 +4,10 @@ ghost use Rattle.table_theory.specs.Seating.{IsSame};
 ghost use Rattle.meters.specs.Steps.{Found, Ticked, Advanced, SetIn, Fired, Cancelled, CountedUp, CountedDown, Tallied};
 ghost use Rattle.meters.specs.Steps.{rest_of, newborn, both, emptied};
 ghost use Rattle.meters.specs.Answers.{FoundIn, FoundTaken, FoundOther};
-ghost use Rattle.meters.specs.Words.{clock_word};
+ghost use Rattle.meters.specs.Layout.{clock_word, width};
+ghost use Rattle.meters.specs.declared.layout.TheConstants.{GAUGES, SLOTS, TICKS, LAST_TICK};
 
+use crate::layout::{CLOCK, ENDS, FIRST_GAUGE, FIRST_SLOT};
 use crate::plays::{
     Advances, Cancels, Counts, CountsDown, CountsUp, Finds, Fires, Gives, Joins, Sets, Spent, Ticks,
 };
@@ -15,18 +17,6 @@ use atomic_table::{Seat, Shared};
 use event_theory::Alarm;
 
 pub(crate) type Words = Shared<(), View, Shape, MeterRule>;
-
-pub(crate) const ENDS: usize = 0;
-
-/// The word of gauge 0.
-pub(crate) const GAUGES: usize = 1;
-
-pub(crate) const CLOCK: usize = 9;
-
-/// The word of slot 0.
-pub(crate) const ALARMS: usize = 10;
-
-pub(crate) const SLOTS: usize = 16;
 
 pub(crate) fn load(words: &Words, seat: &mut Seat<(), View>, word: usize) -> u64
     requires seat { (seat.old.table_id ≡ words.now.table_id) × (word < words.now.table_id.words) }
@@ -38,23 +28,23 @@ pub(crate) fn load(words: &Words, seat: &mut Seat<(), View>, word: usize) -> u64
 }
 
 pub(crate) fn load_clock(words: &Words, seat: &mut Seat<(), View>) -> u64
-    requires seat { (seat.old.table_id ≡ words.now.table_id) × (26 ≤ words.now.table_id.words) }
+    requires seat { (seat.old.table_id ≡ words.now.table_id) × (width ≤ words.now.table_id.words) }
     requires live { 1 ≤ seat.old.me.0.member.ends }
     ensures seat { IsSame seat.old seat.new × (seat.new.me.1 ≡ seat.old.me.1) }
     ensures found { Found seat.old.me.0 clock_word result seat.new.me.0 }
     ensures clock { result ≡ seat.new.me.0.seen.clock }
-    ensures bounded { result < 4294967296 }
+    ensures bounded { result < TICKS }
 {
     load(words, seat, CLOCK)
 }
 
 pub(crate) fn load_alarm(words: &Words, seat: &mut Seat<(), View>, slot: usize) -> Option<Alarm>
-    requires seat { (seat.old.table_id ≡ words.now.table_id) × (26 ≤ words.now.table_id.words) × (slot < 16) }
+    requires seat { (seat.old.table_id ≡ words.now.table_id) × (width ≤ words.now.table_id.words) × (slot < SLOTS) }
     requires live { 1 ≤ seat.old.me.0.member.ends }
     ensures seat { IsSame seat.old seat.new × (seat.new.me.1 ≡ seat.old.me.1) }
     ensures found { FoundIn seat.old.me.0 slot result seat.new.me.0 }
 {
-    AlarmWord::from_bits(load(words, seat, ALARMS + slot)).alarm()
+    AlarmWord::from_bits(load(words, seat, FIRST_SLOT + slot)).alarm()
 }
 
 pub(crate) fn add_to_gauge(
@@ -63,23 +53,23 @@ pub(crate) fn add_to_gauge(
     gauge: usize,
     amount: u64,
 ) -> u64
-    requires seat { (seat.old.table_id ≡ words.now.table_id) × (26 ≤ words.now.table_id.words) × (gauge < 8) }
+    requires seat { (seat.old.table_id ≡ words.now.table_id) × (width ≤ words.now.table_id.words) × (gauge < GAUGES) }
     requires live { 1 ≤ seat.old.me.0.member.ends }
     ensures seat { IsSame seat.old seat.new × (seat.new.me.1 ≡ seat.old.me.1) }
     ensures ticked { Ticked seat.old.me.0 gauge amount result seat.new.me.0 }
 {
-    words.fetch_add::<Ticks>(seat, GAUGES + gauge, amount)
+    words.fetch_add::<Ticks>(seat, FIRST_GAUGE + gauge, amount)
 }
 
 pub(crate) fn exchange_clock(words: &Words, seat: &mut Seat<(), View>, clock: u64) -> u64
-    requires seat { (seat.old.table_id ≡ words.now.table_id) × (26 ≤ words.now.table_id.words) }
+    requires seat { (seat.old.table_id ≡ words.now.table_id) × (width ≤ words.now.table_id.words) }
     requires live { 1 ≤ seat.old.me.0.member.ends }
-    requires below { clock < 4294967295 }
+    requires below { clock < LAST_TICK }
     ensures seat { IsSame seat.old seat.new × (seat.new.me.1 ≡ seat.old.me.1) }
     ensures hit { result ≡ clock → Advanced seat.old.me.0 clock seat.new.me.0 }
     ensures miss { result ≢ clock → Found seat.old.me.0 clock_word result seat.new.me.0
         × (result ≡ seat.new.me.0.seen.clock) }
-    ensures bounded { result < 4294967296 }
+    ensures bounded { result < TICKS }
 {
     words.compare_exchange::<Advances>(seat, CLOCK, clock, clock + 1)
 }
@@ -91,14 +81,14 @@ pub(crate) fn exchange_in(
     slot: usize,
     alarm: Alarm,
 ) -> bool
-    requires seat { (seat.old.table_id ≡ words.now.table_id) × (26 ≤ words.now.table_id.words) × (slot < 16) }
+    requires seat { (seat.old.table_id ≡ words.now.table_id) × (width ≤ words.now.table_id.words) × (slot < SLOTS) }
     requires live { 1 ≤ seat.old.me.0.member.ends }
     ensures seat { IsSame seat.old seat.new × (seat.new.me.1 ≡ seat.old.me.1) }
     ensures hit { IsTrue result → SetIn seat.old.me.0 slot alarm seat.new.me.0 }
     ensures miss { IsFalse result → FoundTaken seat.old.me.0 slot seat.new.me.0 }
 {
     let word = AlarmWord::of(alarm).bits();
-    words.compare_exchange::<Sets>(seat, ALARMS + slot, 0, word) == 0
+    words.compare_exchange::<Sets>(seat, FIRST_SLOT + slot, 0, word) == 0
 }
 
 /// Whether the alarm, which is due, stood there and is now fired.
@@ -108,7 +98,7 @@ pub(crate) fn exchange_fired(
     slot: usize,
     alarm: Alarm,
 ) -> bool
-    requires seat { (seat.old.table_id ≡ words.now.table_id) × (26 ≤ words.now.table_id.words) × (slot < 16) }
+    requires seat { (seat.old.table_id ≡ words.now.table_id) × (width ≤ words.now.table_id.words) × (slot < SLOTS) }
     requires live { 1 ≤ seat.old.me.0.member.ends }
     requires due { alarm.due ≤ seat.old.me.0.seen.clock }
     ensures seat { IsSame seat.old seat.new × (seat.new.me.1 ≡ seat.old.me.1) }
@@ -116,7 +106,7 @@ pub(crate) fn exchange_fired(
     ensures miss { IsFalse result → FoundOther seat.old.me.0 slot alarm seat.new.me.0 }
 {
     let word = AlarmWord::of(alarm).bits();
-    words.compare_exchange::<Fires>(seat, ALARMS + slot, word, 0) == word
+    words.compare_exchange::<Fires>(seat, FIRST_SLOT + slot, word, 0) == word
 }
 
 /// Whether the alarm stood there and is now cancelled.
@@ -126,18 +116,18 @@ pub(crate) fn exchange_cancelled(
     slot: usize,
     alarm: Alarm,
 ) -> bool
-    requires seat { (seat.old.table_id ≡ words.now.table_id) × (26 ≤ words.now.table_id.words) × (slot < 16) }
+    requires seat { (seat.old.table_id ≡ words.now.table_id) × (width ≤ words.now.table_id.words) × (slot < SLOTS) }
     requires live { 1 ≤ seat.old.me.0.member.ends }
     ensures seat { IsSame seat.old seat.new × (seat.new.me.1 ≡ seat.old.me.1) }
     ensures hit { IsTrue result → Cancelled seat.old.me.0 slot alarm seat.new.me.0 }
     ensures miss { IsFalse result → FoundOther seat.old.me.0 slot alarm seat.new.me.0 }
 {
     let word = AlarmWord::of(alarm).bits();
-    words.compare_exchange::<Cancels>(seat, ALARMS + slot, word, 0) == word
+    words.compare_exchange::<Cancels>(seat, FIRST_SLOT + slot, word, 0) == word
 }
 
 pub(crate) fn count_up(words: &Words, seat: &mut Seat<(), View>) -> u64
-    requires seat { (seat.old.table_id ≡ words.now.table_id) × (26 ≤ words.now.table_id.words) }
+    requires seat { (seat.old.table_id ≡ words.now.table_id) × (width ≤ words.now.table_id.words) }
     requires parts { seat.old.me.0.member.ends + 1 ≤ seat.old.me.0.member.share }
     ensures seat { IsSame seat.old seat.new × (seat.new.me.1 ≡ seat.old.me.1) }
     ensures counted { CountedUp seat.old.me.0 result seat.new.me.0 }
@@ -146,7 +136,7 @@ pub(crate) fn count_up(words: &Words, seat: &mut Seat<(), View>) -> u64
 }
 
 pub(crate) fn count_down(words: &Words, seat: &mut Seat<(), View>) -> u64
-    requires seat { (seat.old.table_id ≡ words.now.table_id) × (26 ≤ words.now.table_id.words) }
+    requires seat { (seat.old.table_id ≡ words.now.table_id) × (width ≤ words.now.table_id.words) }
     requires live { 2 ≤ seat.old.me.0.member.ends }
     ensures seat { IsSame seat.old seat.new × (seat.new.me.1 ≡ seat.old.me.1) }
     ensures counted { CountedDown seat.old.me.0 result seat.new.me.0 }
@@ -155,7 +145,7 @@ pub(crate) fn count_down(words: &Words, seat: &mut Seat<(), View>) -> u64
 }
 
 pub(crate) fn count(words: &Words, seat: &mut Seat<(), View>) -> u64
-    requires seat { (seat.old.table_id ≡ words.now.table_id) × (26 ≤ words.now.table_id.words) }
+    requires seat { (seat.old.table_id ≡ words.now.table_id) × (width ≤ words.now.table_id.words) }
     requires one { seat.old.me.0.member.ends ≡ 1 }
     ensures seat { IsSame seat.old seat.new × (seat.new.me.1 ≡ seat.old.me.1) }
     ensures tallied { Tallied seat.old.me.0 result seat.new.me.0 }
@@ -164,7 +154,7 @@ pub(crate) fn count(words: &Words, seat: &mut Seat<(), View>) -> u64
 }
 
 pub(crate) fn split_off(words: &Words, seat: &mut Seat<(), View>) -> Seat<(), View>
-    requires seat { (seat.old.table_id ≡ words.now.table_id) × (26 ≤ words.now.table_id.words) }
+    requires seat { (seat.old.table_id ≡ words.now.table_id) × (width ≤ words.now.table_id.words) }
     requires two { seat.old.me.0.member.ends ≡ 2 }
     ensures seat { IsSame seat.old seat.new × (result.table_id ≡ seat.old.table_id) }
     ensures split { (seat.new.me ≡ (rest_of seat.old.me.0, seat.old.me.1)) × (result.me ≡ (newborn seat.old.me.0, [])) }
@@ -174,7 +164,7 @@ pub(crate) fn split_off(words: &Words, seat: &mut Seat<(), View>) -> Seat<(), Vi
 
 pub(crate) fn take_in<J: Spent>(words: &Words, seat: &mut Seat<(), View>, other: Seat<(), View>)
     requires seat { (seat.old.table_id ≡ words.now.table_id) × (other.table_id ≡ words.now.table_id)
-        × (other.me.1 ≡ []) × (26 ≤ words.now.table_id.words) }
+        × (other.me.1 ≡ []) × (width ≤ words.now.table_id.words) }
     requires live { (1 ≤ seat.old.me.0.member.ends) × (1 ≤ other.me.0.member.ends) }
     requires spent { J.view ≡ emptied seat.old.me.0 }
     ensures seat { IsSame seat.old seat.new }

@@ -1,18 +1,12 @@
 //! The word of a slot.
 ghost use Rattle.std.specs.Prelude.{◌≡◌, ◌%◌, ◌==◌, Some, Option, IfSome};
-ghost use Rattle.meters.specs.Words.{word_of, Fits, IsInRange};
+ghost use Rattle.meters.specs.Layout.{word_of};
+ghost use Rattle.meters.specs.Words.{Fits, IsInRange};
 ghost use Rattle.event_theory.specs.declared.alarm.Alarm.{Alarm};
+ghost use Rattle.meters.specs.declared.layout.TheConstants.{TICKS};
 
+use crate::layout::{ELEMENT, FIELD, SIGNAL, STANDS, TICKS};
 use event_theory::{Alarm, Element, Signal};
-
-/// Bit 63: an alarm stands here.
-const STANDS: u64 = 9_223_372_036_854_775_808;
-
-/// The signal's lowest bit, bit 40.
-const SIGNAL: u64 = 1_099_511_627_776;
-
-/// The element's lowest bit, bit 32, which is one above the bits of the tick.
-const ELEMENT: u64 = 4_294_967_296;
 
 /// What a slot's word says: 0, or an alarm with its tick in bits 0 to 31, its element in bits 32 to 39, its signal in
 /// bits 40 to 47, and bit 63 set.
@@ -57,21 +51,21 @@ impl AlarmWord {
 
     /// The tick at which the alarm is due.
     pub fn due(self) -> u32
-        ensures { result ≡ self.bits % 4294967296 }
+        ensures { result ≡ self.bits % TICKS }
     {
-        (self.bits % ELEMENT) as u32
+        (self.bits % TICKS) as u32
     }
 
-    /// The alarm that stands here, which is the one that the word was made of. None where the word is 0, and where it is
-    /// the word of no alarm.
+    /// The alarm that stands here, which is the one that the word was made of. None where the word is 0, and where it
+    /// is the word of no alarm.
     pub fn alarm(self) -> Option<Alarm>
         ensures stands { (slot : Option Alarm) → Fits slot → self.bits ≡ word_of slot → result ≡ slot }
         ensures made { IfSome result (λ alarm. self.bits ≡ word_of (Some alarm)) }
     {
         let alarm = Alarm {
             due: self.due(),
-            element: Element::new((self.bits / ELEMENT % 256) as u8)?,
-            signal: Signal::new((self.bits / SIGNAL % 256) as u8)?,
+            element: Element::new((self.bits / ELEMENT % FIELD) as u8)?,
+            signal: Signal::new((self.bits / SIGNAL % FIELD) as u8)?,
         };
         if AlarmWord::of(alarm).bits() == self.bits {
             Some(alarm)

@@ -4,7 +4,7 @@ use Rattle.meters.proofs.ends.Meters.advance.Goals as goal
 
 pub returns-then-found-clock-clause-advanced : goal.returns-then-found-clock-clause-advanced
 returns-then-found-clock-clause-advanced c = let ne = c.if-found-clock.true in let load = c.load_clock-clock.ensures in let miss = c.exchange_clock-found.ensures.miss ne in
-    lost_clock _ _ _ _ _ load.found load.clock load.bounded (λ e. c.if-clock-from.false (e ∙ sym c.from.ensures)) miss.0 miss.1 ne
+    lost_clock _ _ _ _ _ load.found load.clock load.bounded c.if-clock-eq-LAST_TICK.false miss.0 miss.1 ne
 
 pub returns-then-found-clock-clause-own : goal.returns-then-found-clock-clause-own
 returns-then-found-clock-clause-own c = let miss = c.exchange_clock-found.ensures.miss c.if-found-clock.true in advance_nothing _ _ _ _ _ c.load_clock-clock.ensures.found miss.0

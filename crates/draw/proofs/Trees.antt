@@ -2,7 +2,7 @@
 use Rattle.std.proofs.Common.{◌≡◌, append_assoc, append-nil, ℕ, suc, ◌<◌, ◌+◌, List, [], ◌∷◌, ◌++◌, ◌∙◌, sym, ap, length, drop, get_or, add-one, refl, Option}
 use Rattle.std.proofs.Math.Seq.{drop-cons}
 use Rattle.std.specs.Io.KnownBytes.{Appends}
-use Rattle.boot_script.proofs.KnownBytes.{appends_join}
+use Rattle.boot_script.proofs.LineWords.KnownBytes.{appends_join}
 use Rattle.draw.specs.declared.shapes.Colour.{Colour}
 use Rattle.draw.specs.declared.shapes.Colour.TheVariants.{Ink, Dim, Faint, White, Grey, Orange, Sky, Green, Yellow, Pink, Red}
 use Rattle.draw.specs.declared.shapes.Anchor.{Anchor}

@@ -26,7 +26,7 @@ use Rattle.reports.specs.ClosedTables.{ClosedTables}
 use Rattle.reports.specs.ClosedTables as closed
 use Rattle.reports.specs.Endings.{ThreadsEnded}
 use Rattle.thread_table.proofs.Lists.Counts.{many_more}
-use Rattle.reports.proofs.Places.{joined_shows}
+use Rattle.reports.proofs.Threads.Places.{joined_shows}
 use Rattle.thread_table.proofs.Lists.Shuffles.{same_counts}
 use Rattle.reporting.specs.Shown.{IsNamed}
 

@@ -21,9 +21,9 @@ use Rattle.reports.specs.ClosedTables.{ClosedTables}
 use Rattle.reports.specs.Endings.{ThreadsEnded}
 use Rattle.reports.specs.Lists.{all_of}
 use Rattle.thread_table.proofs.Lists.Counts.{plus, by_bool, many_cons}
-use Rattle.reports.proofs.Lists.{zip_lists, flat_all}
-use Rattle.reports.proofs.Sorting.{heard_few, once_most}
-use Rattle.reports.proofs.Threads.{planned_all}
+use Rattle.reports.proofs.Joined.Lists.{zip_lists, flat_all}
+use Rattle.reports.proofs.Boots.Sorting.{heard_few, once_most}
+use Rattle.reports.proofs.Threads.ByLogs.{planned_all}
 
 abbrev key_of : Line → Key
 key_of line = line.0

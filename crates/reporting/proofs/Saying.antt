@@ -19,7 +19,7 @@ use Rattle.processor.proofs.Fitted.{few_steps}
 use Rattle.reports.specs.ClosedTables.{ClosedTables}
 use Rattle.reports.specs.ClosedTables as closed
 use Rattle.reports.specs.Lines.{Says, AreWhole, QueueSaid, TtySaid, TtyQueuesSaid, MoverSaid, GaugeSaid, AlarmsSaid, ThreadSaid, HeardSaid}
-use Rattle.reports.proofs.Meters.{got_take}
+use Rattle.reports.proofs.Threads.Meters.{got_take}
 use Rattle.reporting.specs.declared.ttys.Typed.{Typed}
 use Rattle.reporting.specs.Made.{IsMade, queue_line, gauge_line, mover_line, tty_lines, thread_line, heard_line}
 use Rattle.reporting.specs.Shown.{Shows}

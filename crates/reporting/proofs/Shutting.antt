@@ -32,9 +32,9 @@ use Rattle.reports.specs.ClosedTables as closed
 use Rattle.reports.specs.Closings.{items_from, queue_of, queues_from, thread_of, came_home, chains_of, boot_of, closed_of, BootShut}
 use Rattle.reports.specs.Endings.{ThreadsEnded, small_of, large_of}
 use Rattle.reports.specs.Lines.{Says}
-use Rattle.reports.proofs.Meters.{alarms_agree}
-use Rattle.reports.proofs.ShutDown.{of_range, range_long, threads_ended, meters_ended, boot_ended}
-use Rattle.reports.proofs.Threads.{steps_agree}
+use Rattle.reports.proofs.Threads.Meters.{alarms_agree}
+use Rattle.reports.proofs.Boots.ShutDown.{of_range, range_long, threads_ended, meters_ended, boot_ended}
+use Rattle.reports.proofs.Threads.ByLogs.{steps_agree}
 use Rattle.reporting.specs.declared.ttys.Typed.{Typed}
 use Rattle.reporting.specs.Reported.{IsReported}
 use Rattle.reporting.specs.Shown.{AreAll, Shows, ShowsQueue, ShowsQueues, ShowsChain, ShowsChains, ShowsThread, ShowsDevices}

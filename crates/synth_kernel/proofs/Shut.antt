@@ -23,8 +23,8 @@ use Rattle.reporting.specs.declared.ttys.Typed.{Typed}
 use Rattle.reporting.specs.Reported.{IsReported}
 use Rattle.reporting.proofs.Shutting.{ends, heard_is_few}
 use Rattle.reports.specs.Closings.{BootShut, closed_shut}
-use Rattle.reports.proofs.Booting.{report_agrees}
-use Rattle.reports.proofs.Wholes.{has_wholes}
+use Rattle.reports.proofs.Boots.Booting.{report_agrees}
+use Rattle.reports.proofs.Joined.Wholes.{has_wholes}
 use Rattle.spsc_line.specs.declared.line_in.LineIn.{LineIn}
 use Rattle.spsc_line.specs.Lines.{IsLine}
 use Rattle.kernel_threads.specs.declared.work.Work.{Work}

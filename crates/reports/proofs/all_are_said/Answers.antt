@@ -1,4 +1,4 @@
-use Rattle.reports.proofs.Saying.{small_said, large_said}
+use Rattle.reports.proofs.Boots.Saying.{small_said, large_said}
 use Rattle.reports.proofs.all_are_said.Goals as goal
 
 pub returns : goal.returns

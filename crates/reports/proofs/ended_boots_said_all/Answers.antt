@@ -1,5 +1,5 @@
-use Rattle.reports.proofs.Saying.{small_said, large_said}
-use Rattle.reports.proofs.Shutting.{left_open}
+use Rattle.reports.proofs.Boots.Saying.{small_said, large_said}
+use Rattle.reports.proofs.Queues.Shutting.{left_open}
 use Rattle.reports.proofs.ended_boots_said_all.Goals as goal
 
 pub returns : goal.returns

@@ -1,4 +1,4 @@
-use Rattle.reports.proofs.Meters.{gauges_agree, alarms_agree}
+use Rattle.reports.proofs.Threads.Meters.{gauges_agree, alarms_agree}
 use Rattle.reports.proofs.meters_agree.Goals as goal
 
 pub returns : goal.returns

@@ -1,4 +1,4 @@
-use Rattle.reports.proofs.Chains.{mover_agrees}
+use Rattle.reports.proofs.Queues.Chains.{mover_agrees}
 use Rattle.reports.proofs.movers_agree.Goals as goal
 
 pub returns : goal.returns

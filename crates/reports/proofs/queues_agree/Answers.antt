@@ -1,4 +1,4 @@
-use Rattle.reports.proofs.Queues.{small_agrees, large_agrees}
+use Rattle.reports.proofs.Queues.ByLogs.{small_agrees, large_agrees}
 use Rattle.reports.proofs.queues_agree.Goals as goal
 
 pub returns : goal.returns

@@ -1,4 +1,4 @@
-use Rattle.reports.proofs.ShutDown.{boot_ended}
+use Rattle.reports.proofs.Boots.ShutDown.{boot_ended}
 use Rattle.reports.proofs.shut_boots_end.Goals as goal
 
 pub returns : goal.returns

@@ -1,4 +1,4 @@
-use Rattle.reports.proofs.Places.{thread_agrees}
+use Rattle.reports.proofs.Threads.Places.{thread_agrees}
 use Rattle.reports.proofs.threads_agree.Goals as goal
 
 pub returns : goal.returns

@@ -1,4 +1,4 @@
-use Rattle.reports.proofs.Wholes.{has_wholes}
+use Rattle.reports.proofs.Joined.Wholes.{has_wholes}
 use Rattle.reports.proofs.wholes_come_home.Goals as goal
 
 pub returns : goal.returns

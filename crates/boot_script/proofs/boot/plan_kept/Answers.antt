@@ -1,6 +1,6 @@
 use Rattle.std.proofs.Common.{sym, subst}
 use Rattle.boot_data.specs.PlanLimits.{IsPlan}
-use Rattle.boot_script.proofs.Drawn.{same_plan}
+use Rattle.boot_script.proofs.Drafts.Drawn.{same_plan}
 use Rattle.boot_script.proofs.boot.plan_kept.Goals as goal
 
 pub invariant_of-result : goal.invariant_of-result

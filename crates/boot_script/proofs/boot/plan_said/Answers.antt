@@ -4,9 +4,9 @@ use Rattle.boot_script.specs.Words.{lines_of}
 use Rattle.boot_script.specs.Plans.{first_draft, plan_from, plan_only}
 use Rattle.boot_data.specs.PlanLimits.{IsPlan}
 use Rattle.boot_script.specs.Drafts.{Draws}
-use Rattle.boot_script.proofs.EventsRead.{no_text}
-use Rattle.boot_script.proofs.LinesDrawn.{silent_line, line_told, line_fault, lines_done, is_said}
-use Rattle.boot_script.proofs.PlanLimits.{draft_within}
+use Rattle.boot_script.proofs.EventScripts.EventsRead.{no_text}
+use Rattle.boot_script.proofs.BootScripts.LinesDrawn.{silent_line, line_told, line_fault, lines_done, is_said}
+use Rattle.boot_script.proofs.Drafts.PlanLimits.{draft_within}
 use Rattle.boot_script.proofs.boot.plan_said.Goals as goal
 use Rattle.boot_script.proofs.boot.plan_said.Goals.{then-not-is_silent+in-Ok, else-not-is_silent}
 

@@ -1,4 +1,4 @@
-use Rattle.boot_script.proofs.PlanLimits.{draft_in_order}
+use Rattle.boot_script.proofs.Drafts.PlanLimits.{draft_in_order}
 use Rattle.boot_script.proofs.boot_laws.names_in_order.Goals as goal
 
 pub returns : goal.returns

@@ -1,4 +1,4 @@
-use Rattle.boot_script.proofs.BootSpelled.{boot_line_ok}
+use Rattle.boot_script.proofs.BootScripts.Spelled.{boot_line_ok}
 use Rattle.boot_script.proofs.boot_laws.one_spelling.Goals as goal
 
 pub returns : goal.returns

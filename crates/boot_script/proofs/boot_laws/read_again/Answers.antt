@@ -1,4 +1,4 @@
-use Rattle.boot_script.proofs.BootAgain.{boot_line_again}
+use Rattle.boot_script.proofs.BootScripts.Again.{boot_line_again}
 use Rattle.boot_script.proofs.boot_laws.read_again.Goals as goal
 
 pub returns : goal.returns

@@ -1,4 +1,4 @@
-use Rattle.boot_script.proofs.Escapes.{some_text}
+use Rattle.boot_script.proofs.Escaping.Escapes.{some_text}
 use Rattle.boot_script.proofs.boot_laws.text_has_spelling.Goals as goal
 
 pub returns : goal.returns

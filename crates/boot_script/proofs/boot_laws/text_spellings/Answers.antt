@@ -1,4 +1,4 @@
-use Rattle.boot_script.proofs.Escapes.{text_ok, text_again, text_printable}
+use Rattle.boot_script.proofs.Escaping.Escapes.{text_ok, text_again, text_printable}
 use Rattle.boot_script.proofs.boot_laws.text_spellings.Goals as goal
 
 pub returns-clause-spelled : goal.returns-clause-spelled

@@ -1,4 +1,4 @@
-use Rattle.boot_script.proofs.PlanTexts.{plan_ok, plan_again}
+use Rattle.boot_script.proofs.BootScripts.Texts.{plan_ok, plan_again}
 use Rattle.boot_script.proofs.boot_laws.whole_text.Goals as goal
 
 pub returns-clause-spelled : goal.returns-clause-spelled

@@ -1,4 +1,4 @@
-use Rattle.boot_script.proofs.PlanLimits.{plan_within}
+use Rattle.boot_script.proofs.Drafts.PlanLimits.{plan_within}
 use Rattle.boot_script.proofs.boot_laws.within_limits.Goals as goal
 
 pub returns : goal.returns

@@ -1,7 +1,7 @@
 use Rattle.std.proofs.Common.{◌≡◌, ◌<◌, ◌≤◌, ◌+◌, sym, ap, ◌∙◌, arith, length}
 use Rattle.boot_data.specs.declared.plan.PlannedTty.{PlannedTty}
 use Rattle.boot_script.specs.Plans.{typed_at, with_text}
-use Rattle.boot_script.proofs.Drawn.{change_set, change_past, typed_is}
+use Rattle.boot_script.proofs.Drafts.Drawn.{change_set, change_past, typed_is}
 use Rattle.boot_script.proofs.draft.type_at.Goals as goal
 
 pub returns-then-tty-as_slice : goal.returns-then-tty-as_slice

@@ -5,8 +5,8 @@ use Rattle.boot_script.specs.Words.{lines_of}
 use Rattle.boot_script.specs.Grammar.{line_event}
 use Rattle.boot_script.specs.Scripts.{events_from}
 use Rattle.boot_script.specs.Answers.{Fails}
-use Rattle.boot_script.proofs.Gathered.{with_front, none_yet, pushed, what_is_ok, is_ok_by}
-use Rattle.boot_script.proofs.EventsRead.{silent_more, told_more, told_fault, no_text, events_done}
+use Rattle.boot_script.proofs.Basics.Gathered.{with_front, none_yet, pushed, what_is_ok, is_ok_by}
+use Rattle.boot_script.proofs.EventScripts.EventsRead.{silent_more, told_more, told_fault, no_text, events_done}
 use Rattle.boot_script.proofs.events.events_said.Goals as goal
 use Rattle.boot_script.proofs.events.events_said.Goals.{then-not-is_silent+in-Ok+then-kept, then-not-is_silent+in-Ok+else-kept, then-not-is_silent+in-Err-OutOfMemory, else-not-is_silent}
 

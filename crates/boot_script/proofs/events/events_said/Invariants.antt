@@ -3,7 +3,7 @@ use Rattle.event_theory.specs.declared.event.Event.{Event}
 use Rattle.boot_script.specs.declared.fault.ScriptFault.{ScriptFault}
 use Rattle.boot_script.specs.Words.{lines_of}
 use Rattle.boot_script.specs.Scripts.{events_from}
-use Rattle.boot_script.proofs.Gathered.{IsGathered}
+use Rattle.boot_script.proofs.Basics.Gathered.{IsGathered}
 use Rattle.boot_script.proofs.events.events_said.Given as goal
 
 -- The events so far, and those that are left, are those of the text.

@@ -1,4 +1,4 @@
-use Rattle.boot_script.proofs.Texts.{text_ok, text_again}
+use Rattle.boot_script.proofs.EventScripts.Texts.{text_ok, text_again}
 use Rattle.boot_script.proofs.laws.whole_text.Goals as goal
 
 pub returns-clause-spelled : goal.returns-clause-spelled

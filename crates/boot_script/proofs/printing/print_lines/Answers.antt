@@ -1,5 +1,5 @@
 use Rattle.boot_script.specs.Printed.{status_text}
-use Rattle.boot_script.proofs.KnownBytes.{appends_join, then_appends}
+use Rattle.boot_script.proofs.LineWords.KnownBytes.{appends_join, then_appends}
 use Rattle.boot_script.proofs.printing.print_lines.Goals as goal
 
 pub returns : goal.returns

@@ -1,6 +1,6 @@
 use Rattle.std.proofs.Common.{◌≡◌, ◌∙◌, ◌-◌, ◌≤◌, length, length-append, length-take, take, arith}
 use borrow.Rule.Slice.PartMut.{same_len_mid, take_put}
-use Rattle.boot_script.proofs.Filled.{consumes_join, consumes_nothing, filled_more, events_of_read, plan_of_read}
+use Rattle.boot_script.proofs.Input.Filled.{consumes_join, consumes_nothing, filled_more, events_of_read, plan_of_read}
 use Rattle.boot_script.proofs.reading.read_script.Goals as goal
 use Rattle.boot_script.proofs.reading.read_script.Goals.{in-Ok+else-filled-gt-MOST_BYTES, in-Err+else-ne}
 

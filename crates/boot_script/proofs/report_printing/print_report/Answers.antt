@@ -1,6 +1,6 @@
 use Rattle.boot_script.specs.Reports.{report_text}
-use Rattle.boot_script.proofs.KnownBytes.{appends_join}
-use Rattle.boot_script.proofs.Buffers.{then_written_out}
+use Rattle.boot_script.proofs.LineWords.KnownBytes.{appends_join}
+use Rattle.boot_script.proofs.Input.Buffers.{then_written_out}
 use Rattle.boot_script.proofs.report_printing.print_report.Goals as goal
 
 pub returns : goal.returns

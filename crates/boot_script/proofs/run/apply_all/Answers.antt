@@ -1,5 +1,5 @@
 use Rattle.quaject_core.specs.ShownCores.{state}
-use Rattle.boot_script.proofs.Schedules.{reaches_next}
+use Rattle.boot_script.proofs.EventScripts.Schedules.{reaches_next}
 use Rattle.boot_script.proofs.run.apply_all.Goals as goal
 
 pub loop-line-preserved : goal.loop-line-preserved

@@ -1,4 +1,4 @@
-use Rattle.boot_script.proofs.Filled.{replay_of_read, fault_of_read}
+use Rattle.boot_script.proofs.Input.Filled.{replay_of_read, fault_of_read}
 use Rattle.boot_script.proofs.run.replay_on.Goals as goal
 
 pub returns-clause-ok : goal.returns-clause-ok

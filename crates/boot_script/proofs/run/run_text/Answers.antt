@@ -1,4 +1,4 @@
-use Rattle.boot_script.proofs.Faults.{memory_last}
+use Rattle.boot_script.proofs.EventScripts.Faults.{memory_last}
 use Rattle.boot_script.proofs.run.run_text.Goals as goal
 
 pub returns-in-OutOfMemory-clause-fault : goal.returns-in-OutOfMemory-clause-fault

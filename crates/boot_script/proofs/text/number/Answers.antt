@@ -3,7 +3,7 @@ use Rattle.std.proofs.lemmas.Grind.{common_steps}
 use Rattle.std.proofs.lemmas.Bool.Decides.{nat_tests}
 use Rattle.std.proofs.lemmas.Str.{digit_value_digit}
 use Rattle.std.specs.Int.{IsInRange}
-use Rattle.boot_script.proofs.Numbers.{refused_empty, refused_byte, refused_zero, refused_above, above_after, past_end, all_at_end, read}
+use Rattle.boot_script.proofs.LineWords.Numbers.{refused_empty, refused_byte, refused_zero, refused_above, above_after, past_end, all_at_end, read}
 use Rattle.boot_script.proofs.text.number.Goals as goal
 
 pub returns-then-is_empty-clause-exact : goal.returns-then-is_empty-clause-exact

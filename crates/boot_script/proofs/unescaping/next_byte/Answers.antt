@@ -3,7 +3,7 @@ use Rattle.std.proofs.Math.Dec.{eqb}
 use Rattle.std.proofs.lemmas.Bool.Decides.{nat_tests}
 use Rattle.boot_script.specs.Words.{◌>>=◌}
 use Rattle.boot_script.specs.Texts.{escape_of, before, bytes_of}
-use Rattle.boot_script.proofs.Unescaped.{behind, first_plain, first_wanting, first_escaped}
+use Rattle.boot_script.proofs.Escaping.Unescaped.{behind, first_plain, first_wanting, first_escaped}
 use Rattle.boot_script.proofs.unescaping.next_byte.Goals as goal
 
 pub returns-then-byte-ne92-clause-next : goal.returns-then-byte-ne92-clause-next

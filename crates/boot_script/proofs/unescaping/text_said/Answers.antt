@@ -3,7 +3,7 @@ use Rattle.std.proofs.lemmas.Bool.Decides.{nat_tests}
 use Rattle.std.specs.List.{join_with_byte}
 use Rattle.boot_script.specs.Words.{◌>>=◌}
 use Rattle.boot_script.specs.Texts.{bytes_of, within_of}
-use Rattle.boot_script.proofs.Unescaped.{none_read, pushed_read, full_read, not_read, all_read, fits_within, too_long, no_room}
+use Rattle.boot_script.proofs.Escaping.Unescaped.{none_read, pushed_read, full_read, not_read, all_read, fits_within, too_long, no_room}
 use Rattle.boot_script.proofs.unescaping.text_said.Goals as goal
 
 pub loop-rest-init : goal.loop-rest-init

@@ -1,7 +1,7 @@
 use Rattle.std.proofs.Common.{length}
 use Rattle.boot_script.specs.Texts.{bytes_of}
 use Rattle.std.specs.List.{join_with_byte}
-use Rattle.boot_script.proofs.Unescaped.{IsReadSoFar}
+use Rattle.boot_script.proofs.Escaping.Unescaped.{IsReadSoFar}
 use Rattle.boot_script.proofs.unescaping.text_said.Given as goal
 
 -- The bytes so far, and those of the text that is left, are those of the text.

@@ -1,7 +1,7 @@
 use Rattle.std.proofs.Common.{◌+◌, ◌∙◌, sym, ap, subst, length, take, min, arith}
 use Rattle.quaject_core.specs.ShownCores.{state}
 use Rattle.event_theory.specs.States.{first_state}
-use Rattle.boot_script.proofs.Schedules.{reaches_next}
+use Rattle.boot_script.proofs.EventScripts.Schedules.{reaches_next}
 use Rattle.draw.specs.Histories.{TellsLast, IsNext, kept}
 use Rattle.draw.proofs.Histories.{longer, last_kept, as_many_kept, refused_here}
 use Rattle.draw.proofs.history.replay_rows.Goals as goal

@@ -1,4 +1,4 @@
-use Rattle.boot_script.proofs.KnownBytes.{appends_join, then_appends}
+use Rattle.boot_script.proofs.LineWords.KnownBytes.{appends_join, then_appends}
 use Rattle.draw.proofs.Trees.{picture_joined}
 use Rattle.draw.proofs.printing.print_picture.Goals as goal
 

@@ -1,6 +1,6 @@
 use Rattle.std.proofs.Common.{◌++◌, ◌∙◌, refl, sym, ap, subst}
 use Rattle.event_theory.specs.States.{first_state}
-use Rattle.boot_script.proofs.Faults.{memory_last}
+use Rattle.boot_script.proofs.EventScripts.Faults.{memory_last}
 use Rattle.draw.specs.Drawings.{IsDrawn}
 use Rattle.draw.specs.Histories.{IsHistory}
 use Rattle.draw.specs.Pictures.{picture_text}

@@ -1,4 +1,4 @@
-use Rattle.reports.proofs.Threads.{steps_agree}
+use Rattle.reports.proofs.Threads.ByLogs.{steps_agree}
 use Rattle.reporting.proofs.Fitting.{waits}
 use Rattle.reporting.proofs.laws.threads_fit.Goals as goal
 

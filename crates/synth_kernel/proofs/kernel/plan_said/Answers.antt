@@ -3,7 +3,7 @@ use Rattle.boot_script.specs.declared.fault.ScriptFault.{ScriptFault}
 use Rattle.boot_script.specs.declared.fault.ScriptRefusal.TheVariants.{OutOfMemory}
 use Rattle.boot_script.specs.Answers.{IsFault}
 use Rattle.boot_script.specs.Plans.{text_plan}
-use Rattle.boot_script.proofs.BootFaults.{text_plan_known}
+use Rattle.boot_script.proofs.BootScripts.Faults.{text_plan_known}
 use Rattle.synth_kernel.proofs.kernel.plan_said.Goals as goal
 
 last : (text : List ℕ) (fault : ScriptFault) → fault.refusal ≡ OutOfMemory → IsFault fault (text_plan text) → IsOk (text_plan text)

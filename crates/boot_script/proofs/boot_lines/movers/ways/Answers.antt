@@ -3,8 +3,8 @@ use Rattle.std.proofs.lemmas.List.{get_or-replicate, length-set, length-replicat
 use Rattle.boot_script.specs.Words.{◌>>=◌}
 use Rattle.boot_script.specs.Grammar.{at_most_of}
 use Rattle.boot_script.specs.BootLines.{ways_from}
-use Rattle.boot_script.proofs.Unescaped.{no_room}
-use Rattle.boot_script.proofs.WaysSoFar.{AreReadSoFar, no_way_yet, pushed_way, full_way, way_refused, ways_read, ways_said, few_ways, many_ways, told}
+use Rattle.boot_script.proofs.Escaping.Unescaped.{no_room}
+use Rattle.boot_script.proofs.BootScripts.WaysSoFar.{AreReadSoFar, no_way_yet, pushed_way, full_way, way_refused, ways_read, ways_said, few_ways, many_ways, told}
 use Rattle.boot_script.proofs.boot_lines.movers.ways.Goals as goal
 
 pub loop-seen-init : goal.loop-seen-init

@@ -1,6 +1,6 @@
 use Rattle.std.proofs.Common.{◌≡◌, length, []}
 use Rattle.boot_script.specs.BootLines.{ways_from}
-use Rattle.boot_script.proofs.WaysSoFar.{AreReadSoFar}
+use Rattle.boot_script.proofs.BootScripts.WaysSoFar.{AreReadSoFar}
 use Rattle.boot_script.proofs.boot_lines.movers.ways.Given as goal
 
 -- The ways so far, and those of the words that are left, are those of the line.

@@ -2,7 +2,7 @@ use Rattle.std.proofs.Common.{◌∷◌, sym, ap, ◌∙◌}
 use Rattle.std.specs.Option.{option_copied}
 use Rattle.boot_script.specs.Words.{pieces_left}
 use Rattle.boot_script.specs.BootNames.{tty_part}
-use Rattle.boot_script.proofs.NamesSoFar.{queue_by_part}
+use Rattle.boot_script.proofs.Drafts.NamesSoFar.{queue_by_part}
 use Rattle.boot_script.proofs.declared_names.Names.queue.Goals as goal
 
 pub returns-in-Some : goal.returns-in-Some

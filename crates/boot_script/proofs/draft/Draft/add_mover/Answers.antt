@@ -3,7 +3,7 @@ use Rattle.boot_data.specs.declared.kind.Kind.TheVariants as kind
 use Rattle.boot_script.specs.BootNames.{room_of, with_name}
 use Rattle.boot_script.specs.Plans.{added}
 use Rattle.boot_script.specs.Drafts.{kept_plan}
-use Rattle.boot_script.proofs.Drawn.{goes_ok, goes_wrong, count_other, with_movers}
+use Rattle.boot_script.proofs.Drafts.Drawn.{goes_ok, goes_wrong, count_other, with_movers}
 use Rattle.boot_script.proofs.draft.Draft.add_mover.Goals as goal
 
 pub returns-in-Ok : goal.returns-in-Ok

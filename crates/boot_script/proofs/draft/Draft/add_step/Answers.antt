@@ -6,7 +6,7 @@ use Rattle.boot_script.specs.BootNames.{count_of}
 use Rattle.boot_data.specs.Plans.{steps_at}
 use Rattle.boot_script.specs.Plans.{change_at, with_step}
 use Rattle.boot_script.specs.Drafts.{kept_plan}
-use Rattle.boot_script.proofs.Drawn.{goes_ok, step_fits, counts_of_steps, change_length, with_threads}
+use Rattle.boot_script.proofs.Drafts.Drawn.{goes_ok, step_fits, counts_of_steps, change_length, with_threads}
 use Rattle.boot_script.proofs.draft.Draft.add_step.Goals as goal
 
 pub returns : goal.returns

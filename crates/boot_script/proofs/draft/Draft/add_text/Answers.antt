@@ -5,7 +5,7 @@ use Rattle.boot_data.specs.declared.kind.Kind.TheVariants as kind
 use Rattle.boot_script.specs.BootNames.{count_of}
 use Rattle.boot_script.specs.Plans.{added, typed_at, change_at, with_text}
 use Rattle.boot_script.specs.Drafts.{kept_plan}
-use Rattle.boot_script.proofs.Drawn.{goes_ok, goes_wrong, text_fits, text_long, typed_counts, change_length, with_ttys}
+use Rattle.boot_script.proofs.Drafts.Drawn.{goes_ok, goes_wrong, text_fits, text_long, typed_counts, change_length, with_ttys}
 use Rattle.boot_script.proofs.draft.Draft.add_text.Goals as goal
 
 pub returns-then-count-gt-MOST_TYPED : goal.returns-then-count-gt-MOST_TYPED

@@ -1,8 +1,8 @@
 use Rattle.std.proofs.Common.{◌≡◌, ◌++◌, ◌∷◌, ◌∙◌, [], length-append, ap, refl, arith, rules}
 use Rattle.std.proofs.lemmas.Bool.Decides.{nat_tests}
 use Rattle.boot_script.specs.Words.{number_of}
-use Rattle.boot_script.proofs.Gathered.{none_yet, pushed}
-use Rattle.boot_script.proofs.Items.{number_more, items_refused}
+use Rattle.boot_script.proofs.Basics.Gathered.{none_yet, pushed}
+use Rattle.boot_script.proofs.EventScripts.Items.{number_more, items_refused}
 use Rattle.boot_script.proofs.event_lines.queues.items.Goals as goal
 
 pub loop-words-init : goal.loop-words-init

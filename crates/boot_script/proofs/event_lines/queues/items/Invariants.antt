@@ -1,7 +1,7 @@
 use Rattle.std.proofs.Common.{◌≡◌, ℕ, length, min}
 use Rattle.boot_script.specs.declared.fault.ScriptRefusal.{ScriptRefusal}
 use Rattle.boot_script.specs.Grammar.{numbers_of}
-use Rattle.boot_script.proofs.Gathered.{IsGathered}
+use Rattle.boot_script.proofs.Basics.Gathered.{IsGathered}
 use Rattle.boot_script.proofs.event_lines.queues.items.Given as goal
 
 -- The items so far, and the words that are left, are those of the line.

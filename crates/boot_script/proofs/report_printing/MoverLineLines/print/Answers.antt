@@ -1,6 +1,6 @@
 use Rattle.std.proofs.Common.{append_assoc}
 use Rattle.boot_script.specs.Reports.{mover_line}
-use Rattle.boot_script.proofs.KnownBytes.{then_appends}
+use Rattle.boot_script.proofs.LineWords.KnownBytes.{then_appends}
 use Rattle.boot_script.proofs.report_printing.MoverLineLines.print.Goals as goal
 
 pub returns : goal.returns

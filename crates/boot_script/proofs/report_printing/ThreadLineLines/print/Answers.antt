@@ -1,6 +1,6 @@
 use Rattle.std.proofs.Common.{append_assoc}
 use Rattle.boot_script.specs.Reports.{thread_line}
-use Rattle.boot_script.proofs.KnownBytes.{appends_join, then_appends}
+use Rattle.boot_script.proofs.LineWords.KnownBytes.{appends_join, then_appends}
 use Rattle.boot_script.proofs.report_printing.ThreadLineLines.print.Goals as goal
 
 pub returns : goal.returns

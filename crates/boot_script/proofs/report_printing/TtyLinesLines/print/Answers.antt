@@ -1,6 +1,6 @@
 use Rattle.std.proofs.Common.{refl}
 use Rattle.boot_script.specs.Reports.{tty_lines}
-use Rattle.boot_script.proofs.KnownBytes.{appends_join, then_appends}
+use Rattle.boot_script.proofs.LineWords.KnownBytes.{appends_join, then_appends}
 use Rattle.boot_script.proofs.report_printing.TtyLinesLines.print.Goals as goal
 
 pub returns : goal.returns

@@ -1,0 +1,10 @@
+-- The lines of a boot script: read, spelled, read again, at fault.
+pub mod Faults
+pub mod Readers
+pub mod WaysRead
+pub mod Spelled
+pub mod Again
+pub mod Texts
+pub mod Named
+pub mod WaysSoFar
+pub mod LinesDrawn

@@ -1,0 +1,4 @@
+-- Texts in quotes: their bytes, and how each is escaped.
+pub mod Unescaped
+pub mod Escapes
+pub mod TextsRead

@@ -1,0 +1,9 @@
+-- The lines of events: read, spelled, read again, at fault.
+pub mod Items
+pub mod EventsRead
+pub mod Claims
+pub mod Spelled
+pub mod Again
+pub mod Faults
+pub mod Texts
+pub mod Schedules

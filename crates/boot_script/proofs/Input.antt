@@ -1,0 +1,4 @@
+-- Text that is read from a reader, buffer by buffer.
+pub mod Filled
+pub mod Known
+pub mod Buffers

@@ -1,0 +1,187 @@
+-- What was put in a tty's raw queue: what its device put, in order.
+use Rattle.std.proofs.Common.{◌≡◌, ℕ, zero, suc, ◌+◌, ◌<◌, ◌≤◌, Bool, List, [], ◌∷◌, ◌++◌, map, length, refl, sym, ap, ◌∙◌, subst, arith, append-nil, Some, slice_get, flat_map, eq-eqb, ne_eqb}
+use Rattle.std.proofs.Math.Bridge.{le_prop}
+use Rattle.std.proofs.Math.Logic.{∥∥₁_elim}
+use Rattle.std.specs.Prelude.{if◌then◌else◌}
+use Rattle.std.specs.List.{AllZip, AllByRecursion, concat}
+use Rattle.std.proofs.lemmas.List.{map-append}
+use mathlib.Core.Option.{some, some-injective, some-ne-none}
+use lib.ListN.{get_elem?}
+use Rattle.atomic_table.proofs.Lists.{at_map}
+use Rattle.boot_data.specs.declared.boot_plan.BootPlan.{BootPlan}
+use Rattle.boot_data.specs.declared.plan.Mover.{Mover}
+use Rattle.boot_data.specs.declared.plan.Mover.TheVariants as movers
+use Rattle.boot_data.specs.declared.plan.PlannedThread.{PlannedThread}
+use Rattle.boot_data.specs.declared.plan.QueueIndex.TheVariants.{Small, Large}
+use Rattle.boot_data.specs.declared.plan.Step.{Step}
+use Rattle.boot_data.specs.declared.plan.Step.TheVariants as steps
+use Rattle.boot_data.specs.declared.plan.Way.{Way as PlannedWay}
+use Rattle.boot_data.specs.BootPlans.{plan_of}
+use Rattle.boot_data.specs.Plans.{Plan, steps_at}
+use Rattle.boot_data.specs.PlanLimits.{IsPlan, IsProgramOf, IsStepOf, IsMoverOf, IsWayOf, many_of}
+use Rattle.claim_queue.specs.declared.ends.QueueEnd.{QueueEnd}
+use Rattle.claim_queue.specs.declared.rule.View.{View}
+use Rattle.claim_queue.specs.Handles.{view_of}
+use Rattle.claim_queue.specs.Lines.{line_of, lines_put}
+use Rattle.end_steps.specs.EndLists.{lines_put_at}
+use Rattle.processor.specs.declared.deed.Deed.{Deed}
+use Rattle.processor.specs.declared.deed.Deed.TheVariants as deeds
+use Rattle.processor.specs.declared.station.Parts.{Parts}
+use Rattle.processor.specs.Logs.{LogEntry, Tended, Delivered, Tried, Retired, Leaves, FollowsPlan, small_put, small_put_by}
+use Rattle.processor.specs.Programs.{program, step_of}
+use Rattle.processor.specs.Steps.{puts_small}
+use Rattle.quajects.specs.declared.any.AnyQuaject.{AnyQuaject}
+use Rattle.quajects.specs.declared.any.AnyQuaject.TheVariants as any
+use Rattle.quajects.specs.Settled.{runs_of, views_of}
+use Rattle.table_theory.specs.declared.queues.Batch.{Batch}
+use Rattle.table_theory.specs.Filing.{Owned, entry_of, ListedOnce}
+use Rattle.table_theory.specs.Listing.{all_places, Adjacent}
+use Rattle.table_theory.specs.Positioned.{item_of}
+use Rattle.table_theory.proofs.Owned.{at_map_back}
+use Rattle.reports.specs.Agreements.{IsMover, route_of}
+use Rattle.reports.specs.ClosedTables as closed
+use Rattle.reports.specs.Endings.{QueueEnded, small_of, device_at}
+use Rattle.reports.proofs.Queues.Items.{of_first}
+use Rattle.reports.proofs.Queues.Takings.{of_ends, IsBelow}
+
+-- A LIST IN ORDER IS THE LOG
+
+module _ {A : Type 0} (key : A → ℕ) where
+  abbrev Ascends : List A → Type 0
+  Ascends xs = (i j : ℕ) (x y : A) → get_elem? xs i ≡ some x → get_elem? xs j ≡ some y → i < j → key x < key y
+
+  abbrev AreIn : List A → List A → Type 0
+  AreIn xs ys = (i : ℕ) (x : A) → get_elem? xs i ≡ some x → (j : ℕ) × (get_elem? ys j ≡ some x)
+
+  first_of : (x y : A) (xs ys : List A) → Ascends (x ∷ xs) → Ascends (y ∷ ys) → (i j : ℕ) → get_elem? (y ∷ ys) i ≡ some x → get_elem? (x ∷ xs) j ≡ some y → x ≡ y
+  first_of x y xs ys a b zero j e f = sym (some-injective y x e)
+  first_of x y xs ys a b (suc i) zero e f = some-injective x y f
+  first_of x y xs ys a b (suc i) (suc j) e f = let p = b 0 (suc i) y x refl e (omega arith) in let q = a 0 (suc j) x y refl f (omega arith) in absurd (omega arith)
+
+  behind : (x y : A) (xs ys : List A) → x ≡ y → Ascends (x ∷ xs) → AreIn (x ∷ xs) (y ∷ ys) → AreIn xs ys
+  behind x y xs ys same a h i z at = let r = h (suc i) z at in by r.0 r.1
+    where
+      by : (j : ℕ) → get_elem? (y ∷ ys) j ≡ some z → (j : ℕ) × (get_elem? ys j ≡ some z)
+      by zero e = let p = a 0 (suc i) x z refl at (omega arith) in let q : key x ≡ key z = ap key (same ∙ some-injective y z e) in absurd (omega arith)
+      by (suc j) e = (j, e)
+
+  -- two lists in order with the same entries are one
+  one_order : (xs ys : List A) → Ascends xs → Ascends ys → AreIn xs ys → AreIn ys xs → xs ≡ ys
+  one_order [] [] a b h g = refl
+  one_order [] (y ∷ ys) a b h g = let r = g 0 y refl in absurd (some-ne-none y (sym r.1))
+  one_order (x ∷ xs) [] a b h g = let r = h 0 x refl in absurd (some-ne-none x (sym r.1))
+  one_order (x ∷ xs) (y ∷ ys) a b h g =
+      let p = h 0 x refl in let q = g 0 y refl in
+      let same : x ≡ y = first_of x y xs ys a b p.0 q.0 p.1 q.1 in
+      let rest = one_order xs ys (λ i j v w e f low. a (suc i) (suc j) v w e f (omega arith)) (λ i j v w e f low. b (suc i) (suc j) v w e f (omega arith))
+      (behind x y xs ys same a h) (behind y x ys xs (sym same) b g) in
+      λ k. same k ∷ rest k
+
+abbrev start_of : Batch → ℕ
+start_of b = b.start
+
+-- a chained log is in order
+later : (p : ℕ) (log : List (Owned Batch)) → Adjacent p log → (j : ℕ) (e : Batch) → get_elem? (map entry_of log) j ≡ some e → p ≤ e.start
+later p [] c j e at = absurd (some-ne-none e (sym at))
+later p (o ∷ os) c zero e at = let h : o.2.start ≡ e.start = ap start_of (some-injective o.2 e at) in let s = c.0 in omega arith
+later p (o ∷ os) c (suc j) e at = let h = later (p + length o.2.places) os c.1 j e at in omega arith
+
+log_ascends : (p : ℕ) (log : List (Owned Batch)) → Adjacent p log → ((k : ℕ) (o : Owned Batch) → get_elem? log k ≡ some o → 0 < length o.2.places) → Ascends start_of (map entry_of log)
+log_ascends p [] c solid i j e f at at' low = absurd (some-ne-none e (sym at))
+log_ascends p (o ∷ os) c solid zero zero e f at at' low = absurd (omega arith)
+log_ascends p (o ∷ os) c solid zero (suc j) e f at at' low =
+    let h = later (p + length o.2.places) os c.1 j f at' in let s = solid 0 o refl in
+    let g : o.2.start ≡ e.start = ap start_of (some-injective o.2 e at) in let k = c.0 in omega arith
+log_ascends p (o ∷ os) c solid (suc i) zero e f at at' low = absurd (omega arith)
+log_ascends p (o ∷ os) c solid (suc i) (suc j) e f at at' low = log_ascends (p + length o.2.places) os c.1 (λ k q h. solid (suc k) q h) i j e f at at' (omega arith)
+
+in_order : (p : ℕ) (log : List (Owned Batch)) (l : List Batch) → ListedOnce log (l ∷ []) → Adjacent p log → ((k : ℕ) (o : Owned Batch) → get_elem? log k ≡ some o → 0 < length o.2.places)
+    → Ascending l → map entry_of log ≡ l
+in_order p log l f c solid up = one_order start_of (map entry_of log) l (log_ascends p log c solid) up
+    (λ i x at. let a = at_map_back entry_of log i x at in let s = f.stands i a.0 a.1 in (a.0.1, of_first l s.0 a.0.0 a.0.1 x s.1 (s.2 ∙ ap some a.2)))
+    (λ i x at. let r = f.listed 0 l i x refl at in (r.0, at_map entry_of log r.0 (0, i, x) r.1))
+
+flat_lines : (log : List (Owned Batch)) → concat (map line_of (map entry_of log)) ≡ map item_of (all_places log)
+flat_lines [] = refl
+flat_lines (o ∷ os) = ap (λ (z : List ℕ). line_of o.2 ++ z) (flat_lines os) ∙ sym (map-append item_of o.2.places (all_places os))
+
+-- where one end claimed all, in order, the items put are its lines, one behind the other
+pub put_in_order : {n : ℕ} (ends : Parts → List (QueueEnd n)) (number : ℕ) (stations : List Parts) (last : Parts) (others : List (QueueEnd n)) (q : closed.Queue)
+    (e : QueueEnded ends number stations last others q) (v : View) → flat_map runs_of (views_of e.end others) ≡ runs_of v → Ascending (runs_of v)
+    → q.items ≡ concat (lines_put v)
+put_in_order ends number stations last others q e v alone up =
+    let c = e.closes.closed in let s = c.listed in
+    let runs : e.closes.before.part.runs ≡ runs_of v = e.closes.has.runs ∙ alone in
+    let same = in_order c.queue.first s.runs e.closes.before.part.runs s.runs_filed s.runs_adjacent s.solid (subst Ascending (sym runs) up) ∙ runs in
+    e.items ∙ (ap (map item_of) (sym s.runs_flat) ∙ (sym (flat_lines s.runs) ∙ ap (λ z. concat (map line_of z)) same))
+
+-- THE PLAN SAYS NOTHING TO A RAW QUEUE
+
+all_at : {A : Type 0} (P : A → Type 0) (xs : List A) (i : ℕ) (x : A) → AllByRecursion P xs → slice_get xs i ≡ Some x → P x
+all_at P [] i x all is = cc
+all_at P (y ∷ ys) zero x all is = let same : y ≡ x = cc in subst P same all.0
+all_at P (y ∷ ys) (suc i) x all is = all_at P ys i x all.1 is
+
+its_steps : (plan : Plan) (threads : List PlannedThread) (e : ℕ) → AllByRecursion (IsProgramOf (many_of plan)) threads → AllByRecursion (IsStepOf (many_of plan)) (steps_at threads e)
+its_steps plan [] e all = tt
+its_steps plan (t ∷ ts) zero all = all.0.1
+its_steps plan (t ∷ ts) (suc e) all = its_steps plan ts e all.1
+
+said_below : (plan : BootPlan) (e n queue : ℕ) (text : List ℕ) → step_of plan e n ≡ Some (steps.Say (Small queue) text) → queue < length plan.queues
+said_below plan e n queue text is = ∥∥₁_elim plan.within le_prop (λ (h : IsPlan (plan_of plan)).
+    all_at (IsStepOf (many_of (plan_of plan))) (program plan e) n (steps.Say (Small queue) text) (its_steps (plan_of plan) plan.threads e h.programs) is)
+
+module _ (plan : BootPlan) (number : ℕ) (far : length plan.queues ≤ number) where
+  none_by_step : (e n : ℕ) (step : Step) (deed : Deed) → step_of plan e n ≡ Some step → puts_small step deed number ≡ []
+  none_by_step e n (steps.Say (Small queue) text) (deeds.Said woken) is =
+      let low = said_below plan e n queue text is in ap (λ (b : Bool). if b then (text ++ 10 ∷ []) ∷ [] else []) (ne_eqb number queue (λ z. omega arith))
+  none_by_step e n (steps.Say (Large queue) text) (deeds.Said woken) is = refl
+  none_by_step e n step deed is = refl
+
+  none_by_entry : (entry : LogEntry) → FollowsPlan plan entry → small_put_by number entry ≡ []
+  none_by_entry (Tended advanced alarms) p = refl
+  none_by_entry (Delivered element mask) p = refl
+  none_by_entry (Tried element n step deed count heard) p = none_by_step element n step deed p.0
+  none_by_entry (Retired element n) p = refl
+
+  pub none_put : (log : List LogEntry) → AllByRecursion (FollowsPlan plan) log → small_put log number ≡ []
+  none_put [] p = refl
+  none_put (entry ∷ log) p = λ k. none_by_entry entry p.0 k ++ none_put log p.1 k
+
+  pub none_put_all : (logs : List (List LogEntry)) (stations : List Parts) → AllZip (Leaves plan) logs stations → flat_map (λ s. lines_put_at (small_of s) number) stations ≡ []
+  none_put_all [] [] z = refl
+  none_put_all [] (s ∷ ss) z = absurd z
+  none_put_all (l ∷ ls) [] z = absurd z
+  none_put_all (l ∷ ls) (s ∷ ss) z = λ k. (z.0.small_puts number ∙ none_put l z.0.planned) k ++ none_put_all ls ss z.1 k
+
+-- PUMPS AND SWITCHES STAY AT THE PLAN'S QUEUES
+
+ways_below : (plan : Plan) (ways : List PlannedWay) → AllByRecursion (IsWayOf (many_of plan)) ways → AllByRecursion (λ (r : ℕ × ℕ). r.1 < length plan.queues) (map route_of ways)
+ways_below plan [] h = tt
+ways_below plan (w ∷ ways) h = (h.0, ways_below plan ways h.1)
+
+pub stays_below : (plan : Plan) (mover : Mover) (quaject : AnyQuaject) → IsMover mover quaject → IsMoverOf (many_of plan) mover → IsBelow (length plan.queues) quaject
+stays_below plan (movers.Pump from to) (any.Pump pump) its h = let a = h.0 in let b = h.1 in let c = its.0 in let d = its.1 in ((omega arith), (omega arith))
+stays_below plan (movers.Pump from to) (any.Cooked tty) its h = tt
+stays_below plan (movers.Pump from to) (any.Switch switch) its h = absurd its
+stays_below plan (movers.Switch from other ways) (any.Switch switch) its h = let a = h.0 in let b = h.1 in let c = its.0 in let d = its.1 in
+    ((omega arith), (omega arith), subst (AllByRecursion (λ (r : ℕ × ℕ). r.1 < length plan.queues)) (sym its.2) (ways_below plan ways h.2))
+stays_below plan (movers.Switch from other ways) (any.Cooked tty) its h = tt
+stays_below plan (movers.Switch from other ways) (any.Pump pump) its h = absurd its
+
+-- DEVICES
+
+no_device : (number raw : ℕ) (ends : List (QueueEnd 64)) → number < raw → of_ends runs_of (device_at number raw ends) ≡ []
+no_device number raw [] low = refl
+no_device number raw (end ∷ ends) low = ap (λ (b : Bool). of_ends runs_of (if b then end ∷ device_at number (raw + 1) ends else device_at number (raw + 1) ends)) (ne_eqb raw number (λ e. omega arith))
+    ∙ no_device number (raw + 1) ends (omega arith)
+
+pub its_device : (number raw tty : ℕ) (ends : List (QueueEnd 64)) (end : QueueEnd 64) → number ≡ raw + tty → slice_get ends tty ≡ Some end
+    → of_ends runs_of (device_at number raw ends) ≡ runs_of (view_of end)
+its_device number raw tty [] end is at = absurd (cc)
+its_device number raw zero (x ∷ ends) end is at = let same : x ≡ end = cc in
+    ap (λ (b : Bool). of_ends runs_of (if b then x ∷ device_at number (raw + 1) ends else device_at number (raw + 1) ends)) (eq-eqb raw number (omega arith))
+    ∙ ((λ k. runs_of (view_of (same k)) ++ no_device number (raw + 1) ends (omega arith) k) ∙ append-nil (runs_of (view_of end)))
+its_device number raw (suc tty) (x ∷ ends) end is at =
+    ap (λ (b : Bool). of_ends runs_of (if b then x ∷ device_at number (raw + 1) ends else device_at number (raw + 1) ends)) (ne_eqb raw number (λ e. omega arith))
+    ∙ its_device number (raw + 1) tty ends end (omega arith) at

@@ -1,3 +1,4 @@
 -- Lists and histories.
 pub mod Histories
 pub mod Inversions
+pub mod Placed

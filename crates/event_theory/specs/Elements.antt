@@ -12,6 +12,7 @@ use Rattle.event_theory.specs.declared.hold.Hold.{Hold}
 use Rattle.event_theory.specs.declared.refusal.Refusal.{Refusal}
 use Rattle.event_theory.specs.declared.refusal.Refusal.TheVariants.{UnknownName, Full, NotOwner, NotHeld}
 use Rattle.event_theory.specs.declared.refusal.Refusal.TheVariants.{ProcessorBusy, ProcessorEmpty, NotStopped}
+use Rattle.event_theory.specs.Numbers.{u32_max}
 
 -- an element's pending signals, its steps done, its stop bit, and whether it stands in its stop cell
 pub record Thread : Type 0 where
@@ -143,7 +144,7 @@ is_put call element (Some h) = is_hold call element h
 -- one step more
 abbrev pub done : ℕ → ℕ → Elements → Result Elements Refusal
 done call element s = change_thread element (λ thread.
-    refused_if (thread.done == 4294967295) Full
+    refused_if (thread.done == u32_max) Full
     (refused_if (not (holds call element s || list_any (is_put call element) s.processors)) NotHeld
     (Ok (record thread { done = thread.done + 1 })))) s
 

@@ -6,6 +6,7 @@ pub mod Lawful
 pub mod Rings
 pub mod Marks
 pub mod Meters
+pub mod Numbers
 pub mod Places
 pub mod Queues
 pub mod RefusalNames

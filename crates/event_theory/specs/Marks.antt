@@ -5,13 +5,14 @@ use Rattle.event_theory.specs.Queues.{Queue, claim}
 use Rattle.event_theory.specs.Elements.{Elements, let_go}
 use Rattle.event_theory.specs.declared.refusal.Refusal.{Refusal}
 use Rattle.event_theory.specs.declared.refusal.Refusal.TheVariants.{Moved}
+use Rattle.event_theory.specs.Numbers.{u32_values}
 
 abbrev pub shut : Queue → Queue
 shut q = record q { shut = true }
 
 abbrev pub notify_wait : ℕ → Elements → Result Elements Refusal
 notify_wait wait s =
-    change_at wait (λ count. Ok ((count + 1) % 4294967296)) s.notified
+    change_at wait (λ count. Ok ((count + 1) % u32_values)) s.notified
     >>= λ notified. Ok (record s { notified = notified })
 
 -- the ring of a wait queue

@@ -7,6 +7,7 @@ use Rattle.event_theory.specs.Results.{◌>>=◌, refused_if, at, change_at}
 use Rattle.event_theory.specs.declared.alarm.Alarm.{Alarm}
 use Rattle.event_theory.specs.declared.refusal.Refusal.{Refusal}
 use Rattle.event_theory.specs.declared.refusal.Refusal.TheVariants.{UnknownName, Full, NotRaised}
+use Rattle.event_theory.specs.Numbers.{u32_max, u64_values}
 
 -- the gauges, each modulo 2^64; the clock; the slots, each with its standing alarm; the alarms that were set, fired
 -- and cancelled, in their order
@@ -30,11 +31,11 @@ first_meters = record {
 
 abbrev pub tick : ℕ → ℕ → Meters → Result Meters Refusal
 tick gauge amount m =
-    change_at gauge (λ value. Ok ((value + amount) % 18446744073709551616)) m.gauges
+    change_at gauge (λ value. Ok ((value + amount) % u64_values)) m.gauges
     >>= λ gauges. Ok (record m { gauges = gauges })
 
 abbrev pub advance : Meters → Result Meters Refusal
-advance m = refused_if (m.clock == 4294967295) Full (Ok (record m { clock = m.clock + 1 }))
+advance m = refused_if (m.clock == u32_max) Full (Ok (record m { clock = m.clock + 1 }))
 
 abbrev pub is_empty : Option Alarm → Bool
 is_empty None = true

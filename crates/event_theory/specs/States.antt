@@ -16,6 +16,7 @@ use Rattle.event_theory.specs.declared.event.Event.TheVariants as events
 use Rattle.event_theory.specs.declared.names.QueueName.TheVariants as names
 use Rattle.event_theory.specs.declared.refusal.Refusal.{Refusal}
 use Rattle.event_theory.specs.declared.refusal.Refusal.TheVariants.{UnknownName, TooLong, Full}
+use Rattle.event_theory.specs.Numbers.{u64_values}
 
 -- the byte queues and the chains by their numbers, the thread elements, the meters, and how many events were allowed,
 -- modulo 2^64
@@ -126,7 +127,7 @@ may_grow (events.Join call other) = true
 may_grow event = false
 
 abbrev pub counted : State → State
-counted s = record s { events = (s.events + 1) % 18446744073709551616 }
+counted s = record s { events = (s.events + 1) % u64_values }
 
 -- the state after an event, or why it isn't allowed
 abbrev pub step : Event → State → Result State Refusal

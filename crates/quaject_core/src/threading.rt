@@ -3,6 +3,7 @@
 ghost use Rattle.std.specs.Prelude.{◌≡◌, [], ◌∷◌, map, IfOk};
 ghost use Rattle.std.specs.List.{repeat};
 ghost use Rattle.event_theory.specs.Elements.{new_thread};
+ghost use Rattle.event_theory.specs.Numbers.{u32_max};
 ghost use Rattle.quaject_core.specs.ShownThreads.{thread};
 
 use event_theory::{OutOfMemory, Signal};
@@ -98,7 +99,7 @@ impl StoredThread {
 
     /// One step more is done.
     pub(crate) fn step(&mut self)
-        requires { (thread self.old).done < 4294967295 }
+        requires { (thread self.old).done < u32_max }
         ensures { thread self.new ≡ record (thread self.old) { done = (thread self.old).done + 1 } }
     {
         self.done += 1;

@@ -3,6 +3,7 @@
 use Rattle.std.specs.Prelude.{◌≡◌, ℕ, ◌+◌, ◌-◌, ◌/◌, ◌<◌, ◌≤◌, List, [], ◌∷◌, min}
 use mathlib.Core.Option.{some}
 use lib.ListN.{get_elem?}
+use Rattle.table_theory.specs.declared.shares.TheConstants.{MOST_GIVEN}
 
 -- 2^64 - 1 parts
 abbrev pub the_whole : ℕ
@@ -13,7 +14,7 @@ IsWhole share = share ≡ 18446744073709551615
 
 -- what a split gives to the new end: half, and no more than 2^43 parts
 abbrev pub given : ℕ → ℕ
-given share = min (share / 2) 8796093022208
+given share = min (share / 2) MOST_GIVEN
 
 -- what a split leaves
 abbrev pub kept : ℕ → ℕ

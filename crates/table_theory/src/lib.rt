@@ -10,6 +10,7 @@
 pub mod laws;
 pub mod positions;
 pub mod queues;
+pub mod shares;
 pub mod views;
 
 pub use views::OpenEnds;

@@ -15,18 +15,13 @@ use Rattle.quaject_core.specs.ShownThreads.{thread}
 use Rattle.event_theory.specs.declared.hold.Hold.{Hold}
 use Rattle.event_theory.specs.declared.refusal.Refusal.{Refusal}
 use Rattle.event_theory.specs.declared.refusal.Refusal.TheVariants.{Full, NotHeld, ProcessorBusy, NotStopped}
+use Rattle.event_theory.proofs.Lists.Placed.{there as is_there}
 use Rattle.quaject_core.specs.declared.elements.StoredElements.{StoredElements}
 use Rattle.quaject_core.specs.declared.threading.StoredThread.{StoredThread}
 
 -- what was read at a place
 pub found_at : {A : Type 0} (xs : List A) (k e : ℕ) (x : A) → k ≡ e → k < length xs → x ≡ get_or xs k x → slice_get xs e ≡ Some x
 found_at xs k e x same below is = ap (slice_get xs) (sym same) ∙ slice_get_read xs (length xs) k x refl below is
-
--- what stands within a list
-pub is_there : {A : Type 0} (xs : List A) (k : ℕ) → k < length xs → (x : A) × (slice_get xs k ≡ Some x)
-is_there [] k below = absurd (omega arith)
-is_there (x ∷ xs) zero below = (x, refl)
-is_there (x ∷ xs) (suc k) below = is_there xs k (omega arith)
 
 -- what was read at a place, whatever would be read past the end
 pub read_at : {A : Type 0} (xs : List A) (k e : ℕ) (d x : A) → k ≡ e → k < length xs → get_or xs k d ≡ x → slice_get xs e ≡ Some x
@@ -36,9 +31,6 @@ read_at xs k e d x same below is = ap (slice_get xs) (sym same) ∙ (slice_get-g
 pub same_read : {A : Type 0} (xs : List A) (k e : ℕ) (x y : A) → k ≡ e → k < length xs → x ≡ get_or xs k x → slice_get xs e ≡ Some y → x ≡ y
 same_read xs k e x y same below is found =
     let h : Some x ≡ Some y = sym (found_at xs k e x same below is) ∙ found in cc
-
-pub found_within : {A : Type 0} (xs : List A) (e : ℕ) (x : A) → slice_get xs e ≡ Some x → e < length xs
-found_within xs e x found = slice_get_within xs e x found
 
 -- what is shown of a place
 pub shown_at : {A B : Type 0} (f : A → B) (xs : List A) (e : ℕ) (x : A) → slice_get xs e ≡ Some x → slice_get (map f xs) e ≡ Some (f x)

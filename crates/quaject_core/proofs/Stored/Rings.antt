@@ -22,7 +22,8 @@ use Rattle.quaject_core.specs.declared.queueing.StoredQueue.{StoredQueue}
 use Rattle.event_theory.specs.declared.status.QueueStatus.{QueueStatus}
 use Rattle.event_theory.proofs.Keeping.Queues.{take_ok}
 use Rattle.event_theory.proofs.Lists.Histories.{both}
-use Rattle.quaject_core.proofs.Stored.Elements.{is_there, shown_at}
+use Rattle.event_theory.proofs.Lists.Placed.{there as is_there}
+use Rattle.quaject_core.proofs.Stored.Elements.{shown_at}
 use Rattle.quaject_core.proofs.Stored.Lifts.{why_given, ok_of, at_there}
 
 -- a claim of one element is a run of one

@@ -1,5 +1,6 @@
 use Rattle.std.proofs.Common.{◌≡◌, ap, sym, ◌∙◌, arith, refl}
-use Rattle.quaject_core.proofs.Stored.Elements.{stored_done, stored_not_done, same_read, found_within}
+use Rattle.std.proofs.lemmas.Option.{slice_get_within as found_within}
+use Rattle.quaject_core.proofs.Stored.Elements.{stored_done, stored_not_done, same_read}
 use Rattle.quaject_core.proofs.elements.StoredElements.done.Goals as goal
 
 pub returns-then-not-may_step-clause-change : goal.returns-then-not-may_step-clause-change

@@ -1,5 +1,6 @@
 use Rattle.std.proofs.Common.{refl, sym, ◌∙◌, arith}
-use Rattle.quaject_core.proofs.Stored.Elements.{stored_parked, stored_not_held, stored_not_stopped, found_within}
+use Rattle.std.proofs.lemmas.Option.{slice_get_within as found_within}
+use Rattle.quaject_core.proofs.Stored.Elements.{stored_parked, stored_not_held, stored_not_stopped}
 use Rattle.quaject_core.proofs.elements.StoredElements.park.Goals as goal
 
 pub returns-in_default-find-clause-change : goal.returns-in_default-find-clause-change

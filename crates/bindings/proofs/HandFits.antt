@@ -28,7 +28,7 @@ fit_taking call line v w (Err nexts.NoneReady) below a = omega arith
 fit_taking call line v w (Err (nexts.Lost seen)) below answer = ⊎_elim (λ a. fit_tail a.before w seen line below a.tail_again) (λ a. fit_tail a.before w seen line below a.missed) answer
 
 fit_state : (v w : View) (seen element : ℕ) → element < 64 → Found v (state_word element) seen w → seen < 4294967296
-fit_state v w seen element below f = let shows = f.sees.shows in let small = (shows.states element below).small in let is = f.is in omega arith
+fit_state v w seen element below f = let shows = f.sees.shows in let small = (shows.states element below).bounded in let is = f.is in omega arith
 
 -- a state word
 fit_changed : (Allows : ℕ → Type 0) (v w : View) (element seen : ℕ) → element < 64 → WasChanged Allows v element seen w → seen < 4294967296

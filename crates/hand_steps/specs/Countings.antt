@@ -1,6 +1,7 @@
 -- What counting a step answers.
 use Rattle.std.specs.Prelude.{◌≡◌, ◌+◌, ◌<◌, ◌≢◌, ℕ, Bool, true, false, Ok}
-use Rattle.thread_table.specs.Layout.{ELEMENTS, most_done}
+use Rattle.thread_table.specs.declared.layout.TheConstants.{ELEMENTS}
+use Rattle.thread_table.specs.Layout.{most_done}
 use Rattle.thread_table.specs.declared.rule.View.{View}
 use Rattle.thread_table.specs.Answers.{DoneAnswer}
 use Rattle.thread_table.specs.Rules.{MayStep, done_at}

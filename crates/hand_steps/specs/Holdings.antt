@@ -1,7 +1,7 @@
 -- What a hand has, and what it has still.
 use Rattle.std.specs.Prelude.{◌≡◌, ◌<◌, ◌==◌, ◌||◌, ℕ, true, false, if◌then◌else◌, List, slice_index_or, Option, Some}
 use Rattle.std.specs.Prelude.{None}
-use Rattle.thread_table.specs.Layout.{ELEMENTS}
+use Rattle.thread_table.specs.declared.layout.TheConstants.{ELEMENTS}
 use Rattle.thread_table.specs.declared.rule.View.{View}
 use Rattle.thread_table.specs.Answers.{is_in}
 use Rattle.thread_table.specs.Keeping.{Keeps}

@@ -1,7 +1,8 @@
 -- What waking all that wait, and starting, answer.
 use Rattle.std.specs.Prelude.{◌≡◌, ◌<◌, ◌||◌, ◌&&◌, ℕ, zero, suc, not, Bool, true, false, Result, Ok, Err}
 use Rattle.std.specs.Prelude.{Option, Some, None}
-use Rattle.thread_table.specs.Layout.{ELEMENTS, ready_ring}
+use Rattle.thread_table.specs.declared.layout.TheConstants.{ELEMENTS}
+use Rattle.thread_table.specs.Layout.{ready_ring}
 use Rattle.thread_table.specs.declared.rule.View.{View}
 use Rattle.thread_table.specs.declared.states.Lost.{Lost}
 use Rattle.thread_table.specs.declared.states.Started.TheVariants as started

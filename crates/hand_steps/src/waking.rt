@@ -1,6 +1,6 @@
 //! Elements that are woken or started, and made ready.
 ghost use Rattle.std.specs.Prelude.{◌≡◌, ◌<◌};
-ghost use Rattle.thread_table.specs.Layout.{ELEMENTS};
+ghost use Rattle.thread_table.specs.declared.layout.TheConstants.{ELEMENTS};
 ghost use Rattle.thread_table.specs.Handles.{view_of, call_of, IsHandOf, IsSameHand};
 ghost use Rattle.thread_table.specs.Keeping.{Keeps};
 ghost use Rattle.hand_steps.specs.Holdings.{Steady};

@@ -17,8 +17,9 @@ use Rattle.thread_table.specs.declared.states.Signalled.TheVariants as signalled
 use Rattle.thread_table.specs.declared.states.Lost.{Lost}
 use Rattle.thread_table.specs.declared.programs.Spent.{Spent}
 use Rattle.thread_table.specs.Schedules.{elements_after, ring_at, thread_at}
-use Rattle.thread_table.specs.Layout.{NOTIFY, STOP, state_word, head_word, tail_word, place_word, wait_ring, stop_bit}
-use Rattle.thread_table.specs.Layout.{last_head, most_done}
+use Rattle.thread_table.specs.declared.layout.TheConstants.{NOTIFY, STOP}
+use Rattle.thread_table.specs.Layout.{state_word, head_word, tail_word, place_word, wait_ring, stop_bit, last_head}
+use Rattle.thread_table.specs.Layout.{most_done}
 use Rattle.thread_table.specs.Shown.{tail_shown, mark_of}
 use Rattle.thread_table.specs.Rules.{has}
 use Rattle.thread_table.specs.Steps.{Found, Claims, claim_event, Raises, Takes, Marks, Parks, Starts, Delivers}

@@ -16,7 +16,8 @@ use Rattle.table_theory.specs.Members.{EndsKnown}
 use Rattle.thread_table.specs.declared.rule.Shape.{Shape}
 use Rattle.thread_table.specs.declared.rule.View.{View}
 use Rattle.thread_table.specs.Schedules.{ring_at, element_at}
-use Rattle.thread_table.specs.Layout.{ELEMENTS, RINGS, ends_word}
+use Rattle.thread_table.specs.declared.layout.TheConstants.{ELEMENTS, RINGS}
+use Rattle.thread_table.specs.Layout.{ends_word}
 use Rattle.thread_table.specs.Shown.{WordsShow}
 use Rattle.thread_table.specs.Rules.{HandIs, IsIdle, IsOpen, serves, member_of, steps_of, course_of}
 use Rattle.thread_table.specs.Joins.{AreJoins, AreJoined}

@@ -13,8 +13,9 @@ use Rattle.thread_table.specs.declared.places.Place.{Place}
 use Rattle.thread_table.specs.declared.places.Place.TheVariants as places
 use Rattle.thread_table.specs.declared.rule.View.{View}
 use Rattle.thread_table.specs.Schedules.{state_after, elements_after, IsAllowed, ring_at, thread_at}
-use Rattle.thread_table.specs.Layout.{PROCESSORS, ELEMENTS, RINGS, NOTIFY, processor_word, state_word, head_word}
-use Rattle.thread_table.specs.Layout.{tail_word, place_word, ready_ring, free_ring, wait_ring, cell_bit}
+use Rattle.thread_table.specs.declared.layout.TheConstants.{PROCESSORS, ELEMENTS, RINGS, NOTIFY}
+use Rattle.thread_table.specs.Layout.{processor_word, state_word, head_word, tail_word, place_word, ready_ring}
+use Rattle.thread_table.specs.Layout.{free_ring, wait_ring, cell_bit}
 use Rattle.thread_table.specs.Rules.{HandIs, done_at}
 use Rattle.thread_table.specs.Views.{quiet}
 use Rattle.thread_table.specs.Makers.{AreMade, StepsOnce}

@@ -3,7 +3,7 @@ use Rattle.std.specs.Prelude.{◌≡◌, ◌<◌, ◌&&◌, ◌||◌, ℕ, not, 
 use Rattle.table_theory.specs.Ends.{Begins}
 use Rattle.table_theory.specs.Members as members
 use Rattle.table_theory.specs.Sharing.{given}
-use Rattle.thread_table.specs.Layout.{PROCESSORS}
+use Rattle.thread_table.specs.declared.layout.TheConstants.{PROCESSORS}
 use Rattle.thread_table.specs.declared.rule.View.{View}
 use Rattle.thread_table.specs.Schedules.{Course}
 use Rattle.thread_table.specs.Rules.{has, serves}

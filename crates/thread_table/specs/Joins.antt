@@ -6,7 +6,7 @@ use Rattle.event_theory.specs.declared.event.Event.{Event}
 use Rattle.event_theory.specs.declared.event.Event.TheVariants as events
 use Rattle.table_theory.specs.Sharing.{total}
 use Rattle.table_theory.specs.declared.views.Entry.{Entry}
-use Rattle.thread_table.specs.Layout.{WORDS}
+use Rattle.thread_table.specs.declared.layout.TheConstants.{WORDS}
 use Rattle.thread_table.specs.declared.rule.View.{View}
 use Rattle.thread_table.specs.Makers.{is_join}
 use Rattle.thread_table.specs.Schedules.{Course}

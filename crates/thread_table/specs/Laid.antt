@@ -1,7 +1,7 @@
 -- What is written into the words of a new table.
 use Rattle.std.specs.Prelude.{◌≡◌, ℕ, ◌+◌, ◌*◌, ◌<◌, ◌≤◌, ◌==◌, if◌then◌else◌, List, length, slice_index_or}
-use Rattle.thread_table.specs.Layout.{WORDS, RINGS, PLACES, head_word, tail_word, places_word, place_word, ready_ring}
-use Rattle.thread_table.specs.Layout.{free_ring}
+use Rattle.thread_table.specs.declared.layout.TheConstants.{WORDS, RINGS, PLACES}
+use Rattle.thread_table.specs.Layout.{head_word, tail_word, places_word, place_word, ready_ring, free_ring}
 
 -- the heads and tails of so many element queues are at first, the head of the free elements so much behind it
 pub record RingsLaid (first free rings : ℕ) (old words : List ℕ) : Type 0 where

@@ -1,11 +1,9 @@
--- Where the words of the table stand, how many there are of each kind, and the marks in them. The numbers are the
--- code's. An element queue is called a ring: the ready ring, that of the free elements, or that of a wait queue.
+-- Where the words of the table stand, and the marks in them. How many there are of each kind, and what the marks weigh,
+-- are constants of the code. An element queue is called a ring: the ready ring, that of the free elements, or that of
+-- a wait queue.
 use Rattle.std.specs.Prelude.{ℕ, ◌+◌, ◌*◌, ◌%◌}
 use Rattle.thread_table.specs.declared.layout.TheConstants.{PLACES, ENDS, READY, FREE}
 pub use Rattle.event_theory.specs.Marks.{wait_ring}
-pub use Rattle.table_theory.specs.declared.positions.TheConstants.{POSITIONS}
-pub use Rattle.thread_table.specs.declared.layout.TheConstants.{WORDS, PROCESSORS, ELEMENTS, RINGS, PLACES, WAITS}
-pub use Rattle.thread_table.specs.declared.layout.TheConstants.{NOTIFY, STOP, CELL, SIGNAL_BITS, STOP_BITS}
 
 -- the word with the number of hands
 abbrev pub ends_word : ℕ

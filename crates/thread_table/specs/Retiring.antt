@@ -5,7 +5,8 @@ use Rattle.event_theory.specs.Runs.{Run}
 use Rattle.event_theory.specs.declared.event.Event.{Event}
 use Rattle.event_theory.specs.declared.event.Event.TheVariants as events
 use Rattle.event_theory.specs.declared.names.QueueName.TheVariants as names
-use Rattle.thread_table.specs.Layout.{ELEMENTS, free_ring}
+use Rattle.thread_table.specs.declared.layout.TheConstants.{ELEMENTS}
+use Rattle.thread_table.specs.Layout.{free_ring}
 use Rattle.thread_table.specs.declared.rule.Made.{Made}
 use Rattle.thread_table.specs.Schedules.{elements_after, ring_at}
 

@@ -20,7 +20,8 @@ use Rattle.thread_table.specs.Schedules.{Course, elements_after, IsAllowed, Grow
 use Rattle.thread_table.specs.Views.{claim_of}
 use Rattle.thread_table.specs.Joins.{AreJoins, AreJoined}
 use Rattle.thread_table.specs.Makers.{AreMade, made_of}
-use Rattle.thread_table.specs.Layout.{PROCESSORS, ELEMENTS, RINGS, ends_word}
+use Rattle.thread_table.specs.declared.layout.TheConstants.{PROCESSORS, ELEMENTS, RINGS}
+use Rattle.thread_table.specs.Layout.{ends_word}
 use Rattle.thread_table.specs.Shown.{WordsShow}
 
 abbrev pub member_of : View → Member

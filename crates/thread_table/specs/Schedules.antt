@@ -1,5 +1,5 @@
 -- The schedule of a table: the events of all its hands, in the order of their steps.
-use Rattle.thread_table.specs.Layout.{ELEMENTS, PLACES}
+use Rattle.thread_table.specs.declared.layout.TheConstants.{ELEMENTS, PLACES}
 use Rattle.std.specs.Prelude.{◌≡◌, ℕ, zero, suc, ◌<◌, ◌≤◌, true, List, [], ◌∷◌, length}
 use Rattle.std.specs.Prelude.{slice_index_or}
 use Rattle.std.specs.Result.{result_unwrap_or}

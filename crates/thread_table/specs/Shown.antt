@@ -8,7 +8,9 @@ use Rattle.event_theory.specs.Elements.{Elements, Thread}
 use Rattle.event_theory.specs.Queues.{Queue}
 use Rattle.event_theory.specs.Runs.{Run}
 use Rattle.event_theory.specs.declared.hold.Hold.{Hold}
-use Rattle.thread_table.specs.Layout.{WORDS, PROCESSORS, ELEMENTS, RINGS, PLACES, WAITS, POSITIONS, NOTIFY, CELL}
+use Rattle.table_theory.specs.declared.positions.TheConstants.{POSITIONS}
+use Rattle.thread_table.specs.declared.layout.TheConstants.{WORDS, PROCESSORS, ELEMENTS, RINGS, PLACES, WAITS, NOTIFY}
+use Rattle.thread_table.specs.declared.layout.TheConstants.{CELL}
 use Rattle.thread_table.specs.Layout.{processor_word, state_word, done_word, head_word, tail_word, place_word, stop_bit}
 use Rattle.thread_table.specs.Layout.{cell_bit, half_word}
 use Rattle.thread_table.specs.Schedules.{ring_at, thread_at, element_at}

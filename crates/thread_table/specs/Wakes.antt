@@ -8,7 +8,8 @@ use Rattle.thread_table.specs.declared.rule.Made.{Made}
 use Rattle.thread_table.specs.declared.rule.View.{View}
 use Rattle.thread_table.specs.declared.takings.NextRefusal.{NextRefusal}
 use Rattle.thread_table.specs.Schedules.{elements_after, ring_at, ring_name}
-use Rattle.thread_table.specs.Layout.{ELEMENTS, tail_word, wait_ring}
+use Rattle.thread_table.specs.declared.layout.TheConstants.{ELEMENTS}
+use Rattle.thread_table.specs.Layout.{tail_word, wait_ring}
 use Rattle.thread_table.specs.Rules.{has}
 use Rattle.thread_table.specs.Steps.{Found, Notifies}
 use Rattle.thread_table.specs.Answers.{TakeAnswer, is_in, head_in}

@@ -2,7 +2,8 @@
 ghost use Rattle.std.specs.Prelude.{◌≡◌, ℕ, ◌+◌, ◌%◌, ◌<◌, slice_index_or, IfOk, IfErr, MatchResult};
 ghost use Rattle.std.specs.Int.{bit_at};
 ghost use Rattle.std.specs.Mem.Slots.{slots_items, slots_len, IsFull};
-ghost use Rattle.thread_table.specs.Layout.{WORDS, ELEMENTS, STOP, state_word, done_word, stop_bit};
+ghost use Rattle.thread_table.specs.declared.layout.TheConstants.{WORDS, ELEMENTS, STOP};
+ghost use Rattle.thread_table.specs.Layout.{state_word, done_word, stop_bit};
 ghost use Rattle.thread_table.specs.declared.places.Place.TheVariants as places;
 ghost use Rattle.thread_table.specs.Closings.{ClosedNow, WereOpen, PlaceOf, word_at};
 ghost use Rattle.thread_table.specs.Handles.{view_of, call_of, IsHandOf, IsOnlyHand, IsSameHand};

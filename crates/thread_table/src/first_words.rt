@@ -1,6 +1,7 @@
 //! The words of a new table.
 ghost use Rattle.std.specs.Prelude.{◌≡◌, ◌≤◌, length};
-ghost use Rattle.thread_table.specs.Layout.{WORDS, ELEMENTS, RINGS, last_first};
+ghost use Rattle.thread_table.specs.declared.layout.TheConstants.{WORDS, ELEMENTS, RINGS};
+ghost use Rattle.thread_table.specs.Layout.{last_first};
 ghost use Rattle.thread_table.specs.Laid.{RingsLaid, ItemsLaid};
 
 use crate::layout::{FREE, RINGS, head_word, place_word};

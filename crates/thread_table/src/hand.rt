@@ -1,7 +1,8 @@
 //! The table of thread elements and its hands.
 ghost use Rattle.std.specs.Prelude.{◌≡◌, ◌+◌, ◌≤◌, ◌<◌, [], ◌∷◌, ℕ, true, false, None, IfOk, slice_index_or, length};
 ghost use Rattle.std.specs.Prelude.{◌==◌, slice_set};
-ghost use Rattle.thread_table.specs.Layout.{WORDS, PROCESSORS, ELEMENTS, last_first};
+ghost use Rattle.thread_table.specs.declared.layout.TheConstants.{WORDS, PROCESSORS, ELEMENTS};
+ghost use Rattle.thread_table.specs.Layout.{last_first};
 ghost use Rattle.thread_table.specs.Rules.{newcomer, has, serves, running};
 ghost use Rattle.thread_table.specs.Endings.{Divided, IsNewborn, TookIn};
 ghost use Rattle.thread_table.specs.Answers.{is_in};

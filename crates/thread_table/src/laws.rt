@@ -1,7 +1,7 @@
 //! What a call leaves to its hand as it was, and where a closed table tells what was put behind the free elements.
 ghost use Rattle.std.specs.Prelude.{◌≡◌, ◌<◌, ◌≤◌, ℕ, Bool, true, false, List, length, slice_index_or, Result, Ok, Err};
 ghost use Rattle.std.specs.Prelude.{Option, None};
-ghost use Rattle.thread_table.specs.Layout.{ELEMENTS};
+ghost use Rattle.thread_table.specs.declared.layout.TheConstants.{ELEMENTS};
 ghost use Rattle.thread_table.specs.declared.rule.View.{View};
 ghost use Rattle.thread_table.specs.declared.takings.NextRefusal.{NextRefusal};
 ghost use Rattle.thread_table.specs.declared.moves.MoveRefusal.{MoveRefusal};

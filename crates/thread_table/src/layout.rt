@@ -4,8 +4,8 @@
 //! each element's steps done, and then the element queues, called rings here: of each its head word, its tail word and
 //! its places. A ring is the ready ring, that of the free elements, or that of a wait queue.
 ghost use Rattle.std.specs.Prelude.{◌≡◌, ◌+◌, ◌<◌};
-ghost use Rattle.thread_table.specs.Layout.{WORDS, RINGS, PROCESSORS, ELEMENTS, PLACES, WAITS, wait_ring};
-ghost use Rattle.thread_table.specs.Layout.{processor_word, state_word, done_word, head_word, place_word};
+ghost use Rattle.thread_table.specs.declared.layout.TheConstants.{WORDS, PROCESSORS, ELEMENTS, RINGS, PLACES, WAITS};
+ghost use Rattle.thread_table.specs.Layout.{wait_ring, processor_word, state_word, done_word, head_word, place_word};
 
 /// The words of a table.
 pub const WORDS: usize = 1325;

@@ -1,7 +1,8 @@
 //! Moves: an element that the hand holds gets the next place of an element queue.
 ghost use Rattle.std.specs.Prelude.{◌≡◌, ◌<◌, ◌+◌, true, false, slice_set, Some};
 ghost use Rattle.table_theory.specs.Seating.{IsSame};
-ghost use Rattle.thread_table.specs.Layout.{WORDS, ELEMENTS, RINGS, ready_ring, free_ring, wait_ring, last_head};
+ghost use Rattle.thread_table.specs.declared.layout.TheConstants.{WORDS, ELEMENTS, RINGS};
+ghost use Rattle.thread_table.specs.Layout.{ready_ring, free_ring, wait_ring, last_head};
 ghost use Rattle.thread_table.specs.Handles.{view_of, call_of, IsHandOf, IsSameHand};
 ghost use Rattle.thread_table.specs.Answers.{MoveAnswer, WaitAnswer, IsTicket};
 ghost use Rattle.thread_table.specs.Rules.{IsActive, has};

@@ -2,7 +2,8 @@
 ghost use Rattle.std.specs.Prelude.{◌≡◌, ◌+◌, ◌<◌, ◌≤◌, ◌==◌, None, MatchBool};
 ghost use Rattle.std.specs.Int.{bit_at};
 ghost use Rattle.std.specs.Mem.Slots.{slots_items, slots_len, IsFull};
-ghost use Rattle.thread_table.specs.Layout.{WORDS, ELEMENTS, RINGS, state_word, cell_bit};
+ghost use Rattle.thread_table.specs.declared.layout.TheConstants.{WORDS, ELEMENTS, RINGS};
+ghost use Rattle.thread_table.specs.Layout.{state_word, cell_bit};
 ghost use Rattle.thread_table.specs.Closings.{ProcessorOf, IsIn, RingOf, PlaceOf, place_by, word_at};
 
 use crate::layout::{head_word, place_word, processor_word, state_word};

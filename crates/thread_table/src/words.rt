@@ -2,7 +2,9 @@
 ghost use Rattle.std.specs.Prelude.{◌≡◌, ◌+◌, ◌*◌, ◌<◌, ◌%◌, MatchBool};
 ghost use Rattle.std.specs.Int.{bit_at};
 ghost use Rattle.std.specs.Int.Bits.{bit_or, bit_and};
-ghost use Rattle.thread_table.specs.Layout.{POSITIONS, NOTIFY, STOP, CELL, SIGNAL_BITS, STOP_BITS, stop_bit, cell_bit};
+ghost use Rattle.table_theory.specs.declared.positions.TheConstants.{POSITIONS};
+ghost use Rattle.thread_table.specs.declared.layout.TheConstants.{NOTIFY, STOP, CELL, SIGNAL_BITS, STOP_BITS};
+ghost use Rattle.thread_table.specs.Layout.{stop_bit, cell_bit};
 
 use crate::layout::{CELL, NOTIFY, SIGNAL_BITS, STOP, STOP_BITS};
 

@@ -17,7 +17,8 @@ use Rattle.event_theory.specs.declared.hold.Hold.{Hold}
 use Rattle.event_theory.proofs.Keeping.Elements.{every_at}
 use Rattle.thread_table.specs.Closings.{ProcessorOf, IsIn, RingOf, PlaceOf, StandsAt, is_left, ring_place, place_by, word_at}
 use Rattle.thread_table.specs.Schedules.{ring_at, thread_at, element_at, element_of, no_run}
-use Rattle.thread_table.specs.Layout.{RINGS, state_word, place_word}
+use Rattle.thread_table.specs.declared.layout.TheConstants.{RINGS}
+use Rattle.thread_table.specs.Layout.{state_word, place_word}
 use Rattle.thread_table.specs.Shown.{WordsShow, processor_shown, bit_of}
 use Rattle.thread_table.specs.declared.places.Place.{Place}
 use Rattle.thread_table.proofs.Events.SingleRuns.{Singles, flat_single, flat_long, within_room}

@@ -10,7 +10,8 @@ use Rattle.event_theory.specs.declared.event.Event.{Event}
 use Rattle.event_theory.proofs.Keeping.Elements.{every_at}
 use Rattle.thread_table.specs.declared.rule.View.{View}
 use Rattle.thread_table.specs.Schedules.{elements_after, ring_at, element_at}
-use Rattle.thread_table.specs.Layout.{RINGS, WAITS, head_word, tail_word, place_word, wait_ring}
+use Rattle.thread_table.specs.declared.layout.TheConstants.{RINGS, WAITS}
+use Rattle.thread_table.specs.Layout.{head_word, tail_word, place_word, wait_ring}
 use Rattle.thread_table.specs.Shown.{tail_shown, mark_of}
 use Rattle.thread_table.specs.Views.{claim_of}
 use Rattle.thread_table.specs.Steps.{Sees, Found, Claims, Raises, Takes}

@@ -19,7 +19,8 @@ use Rattle.table_theory.proofs.QueueEvents.{claim_goes}
 use Rattle.thread_table.specs.declared.rule.View.{View}
 use Rattle.thread_table.specs.declared.rule.Claimed.{Claimed}
 use Rattle.thread_table.specs.Schedules.{QueueGrows, ring_at, thread_at, element_at, element_of, no_run}
-use Rattle.thread_table.specs.Layout.{WORDS, RINGS, processor_word, state_word, done_word, head_word, tail_word, place_word, wait_ring}
+use Rattle.thread_table.specs.declared.layout.TheConstants.{WORDS, RINGS}
+use Rattle.thread_table.specs.Layout.{processor_word, state_word, done_word, head_word, tail_word, place_word, wait_ring}
 use Rattle.thread_table.specs.Shown.{WordsShow, RingShows, PlaceShows, StateShows, head_shown, mark_of}
 use Rattle.thread_table.specs.Rules.{HandIs, IsClaimed, has}
 use Rattle.thread_table.specs.Views.{claim_of, with_claim}

@@ -10,7 +10,8 @@ use Rattle.thread_table.specs.declared.rule.View.{View}
 use Rattle.thread_table.specs.declared.rule.Claimed.{Claimed}
 use Rattle.thread_table.specs.declared.rule.Counted.{Counted}
 use Rattle.thread_table.specs.Schedules.{Grows, ring_at, thread_at, element_at}
-use Rattle.thread_table.specs.Layout.{RINGS, WAITS, processor_word, state_word, done_word, head_word, tail_word, place_word, wait_ring}
+use Rattle.thread_table.specs.declared.layout.TheConstants.{RINGS, WAITS}
+use Rattle.thread_table.specs.Layout.{processor_word, state_word, done_word, head_word, tail_word, place_word, wait_ring}
 use Rattle.thread_table.specs.Shown.{WordsShow, head_shown, tail_shown, mark_of}
 use Rattle.thread_table.specs.Views.{claim_of, quiet, with_held, with_claim, with_raise, with_on, with_off, with_start}
 use Rattle.thread_table.specs.Rules.{HandIs, IsOpen, IsClaimed, may_step, has, serves, running}

@@ -13,7 +13,8 @@ use Rattle.event_theory.specs.declared.hold.Hold.{Hold}
 use Rattle.event_theory.proofs.Keeping.Places.{slice_get_set_same, slice_get_set_other}
 use Rattle.thread_table.specs.declared.rule.View.{View}
 use Rattle.thread_table.specs.Schedules.{thread_at}
-use Rattle.thread_table.specs.Layout.{WORDS, processor_word, state_word, done_word}
+use Rattle.thread_table.specs.declared.layout.TheConstants.{WORDS}
+use Rattle.thread_table.specs.Layout.{processor_word, state_word, done_word}
 use Rattle.thread_table.specs.Shown.{WordsShow, StateShows, processor_shown}
 use Rattle.thread_table.specs.Rules.{HandIs, serves, running}
 use Rattle.thread_table.proofs.Events.Effects.{Leaves, OnEffect, OffEffect}

@@ -9,7 +9,7 @@ use Rattle.event_theory.specs.Queues.{Queue}
 use Rattle.event_theory.specs.Runs.{Run}
 use Rattle.atomic_table.proofs.Lists.{set_here, set_else}
 use Rattle.table_theory.proofs.Owned.{at_below, one_at}
-use Rattle.thread_table.specs.Layout.{RINGS}
+use Rattle.thread_table.specs.declared.layout.TheConstants.{RINGS}
 use Rattle.thread_table.specs.declared.rule.View.{View}
 use Rattle.thread_table.specs.declared.rule.Claimed.{Claimed}
 use Rattle.thread_table.specs.Schedules.{ring_at, element_at, element_of, no_run}

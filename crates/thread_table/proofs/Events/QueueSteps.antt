@@ -23,7 +23,8 @@ use Rattle.event_theory.proofs.Keeping.Places.{one, sum_changed, in_joined}
 use Rattle.thread_table.specs.declared.rule.Shape.{Shape}
 use Rattle.thread_table.specs.declared.rule.View.{View}
 use Rattle.thread_table.specs.Schedules.{elements_after, ring_at, element_at, ring_name}
-use Rattle.thread_table.specs.Layout.{RINGS, WAITS, head_word, tail_word, place_word, wait_ring}
+use Rattle.thread_table.specs.declared.layout.TheConstants.{RINGS, WAITS}
+use Rattle.thread_table.specs.Layout.{head_word, tail_word, place_word, wait_ring}
 use Rattle.thread_table.specs.Shown.{RingShows, PlaceShows, head_shown, tail_shown, mark_of}
 use Rattle.thread_table.specs.Rules.{IsActive, Rule, has}
 use Rattle.thread_table.specs.Views.{quiet, with_held, with_claim, with_raise, claim_of}

@@ -12,7 +12,8 @@ use Rattle.event_theory.proofs.Keeping.Elements.{every_at}
 use Rattle.thread_table.specs.declared.rule.View.{View}
 use Rattle.thread_table.specs.declared.rule.Claimed.{Claimed}
 use Rattle.thread_table.specs.Schedules.{QueueGrows, Grows, ring_at, element_at, element_of, no_run}
-use Rattle.thread_table.specs.Layout.{RINGS, head_word, tail_word, place_word}
+use Rattle.thread_table.specs.declared.layout.TheConstants.{RINGS}
+use Rattle.thread_table.specs.Layout.{head_word, tail_word, place_word}
 use Rattle.thread_table.specs.Shown.{WordsShow, RingShows, PlaceShows, mark_of}
 use Rattle.thread_table.specs.Rules.{HandIs, IsClaimed}
 use Rattle.thread_table.specs.Views.{claim_of, with_raise}

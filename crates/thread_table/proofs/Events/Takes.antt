@@ -21,7 +21,8 @@ use Rattle.table_theory.proofs.QueueEvents.{take_goes}
 use Rattle.thread_table.specs.declared.rule.View.{View}
 use Rattle.thread_table.specs.declared.rule.Claimed.{Claimed}
 use Rattle.thread_table.specs.Schedules.{QueueGrows, Grows, ring_at, element_at}
-use Rattle.thread_table.specs.Layout.{RINGS, head_word, tail_word, place_word}
+use Rattle.thread_table.specs.declared.layout.TheConstants.{RINGS}
+use Rattle.thread_table.specs.Layout.{head_word, tail_word, place_word}
 use Rattle.thread_table.specs.Shown.{WordsShow, RingShows, PlaceShows, tail_shown, mark_of}
 use Rattle.thread_table.specs.Rules.{HandIs, IsClaimed, has}
 use Rattle.thread_table.proofs.Events.Effects.{TakeEffect}

@@ -19,7 +19,8 @@ use Rattle.thread_table.specs.declared.rule.View.{View}
 use Rattle.thread_table.specs.declared.takings.NextRefusal.{NextRefusal}
 use Rattle.thread_table.specs.declared.takings.NextRefusal.TheVariants as nexts
 use Rattle.thread_table.specs.Schedules.{Course, elements_after, ring_at, ring_name, element_at, state_after}
-use Rattle.thread_table.specs.Layout.{WAITS, tail_word, wait_ring}
+use Rattle.thread_table.specs.declared.layout.TheConstants.{WAITS}
+use Rattle.thread_table.specs.Layout.{tail_word, wait_ring}
 use Rattle.thread_table.specs.Shown.{tail_shown}
 use Rattle.thread_table.specs.Rules.{has}
 use Rattle.thread_table.specs.Steps.{Found, Notifies, made_by}

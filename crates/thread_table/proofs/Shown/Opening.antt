@@ -18,7 +18,8 @@ use Rattle.table_theory.proofs.Members.{known_first}
 use Rattle.thread_table.specs.declared.rule.Shape.{Shape}
 use Rattle.thread_table.specs.declared.rule.View.{View}
 use Rattle.thread_table.specs.Schedules.{elements_after, ring_at, thread_at, element_at, element_of, no_run}
-use Rattle.thread_table.specs.Layout.{WORDS, RINGS, head_word, tail_word, place_word}
+use Rattle.thread_table.specs.declared.layout.TheConstants.{WORDS, RINGS}
+use Rattle.thread_table.specs.Layout.{head_word, tail_word, place_word}
 use Rattle.thread_table.specs.Shown.{WordsShow, RingShows, StateShows, processor_shown, mark_of}
 use Rattle.thread_table.specs.Rules.{IsSteady, IsNewest, Rule, HandIs, Seen, IsOpen, newcomer, member_of, IsIdle}
 use Rattle.thread_table.proofs.Events.Owing.{AllOwned}

@@ -12,7 +12,8 @@ use Rattle.event_theory.specs.declared.hold.Hold.{Hold}
 use Rattle.thread_table.specs.declared.rule.View.{View}
 use Rattle.thread_table.specs.declared.rule.Claimed.{Claimed}
 use Rattle.thread_table.specs.Schedules.{QueueGrows, Grows, ring_at, thread_at, element_at}
-use Rattle.thread_table.specs.Layout.{RINGS, processor_word, state_word, done_word, head_word, tail_word, place_word}
+use Rattle.thread_table.specs.declared.layout.TheConstants.{RINGS}
+use Rattle.thread_table.specs.Layout.{processor_word, state_word, done_word, head_word, tail_word, place_word}
 use Rattle.thread_table.specs.Shown.{WordsShow, RingShows, PlaceShows, StateShows, mark_of}
 use Rattle.thread_table.specs.Rules.{IsClaimed}
 use Rattle.thread_table.proofs.Events.Effects.{Leaves}

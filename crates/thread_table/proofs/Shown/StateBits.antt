@@ -8,7 +8,7 @@ use Rattle.std.specs.Int.{bit_at}
 use Rattle.std.specs.Int.Bits.{bit_or, bit_and}
 use Rattle.event_theory.specs.Chains.{with_number}
 use Rattle.event_theory.specs.Elements.{Thread}
-use Rattle.thread_table.specs.Layout.{RINGS}
+use Rattle.thread_table.specs.declared.layout.TheConstants.{RINGS}
 use Rattle.thread_table.specs.Shown.{StateShows, bit_of}
 
 most_one : (a : ℕ) → a < 2 → max a 1 ≡ 1

@@ -1,5 +1,5 @@
 use Rattle.std.proofs.Common.{rules, ◌≡◌, replicate, arith}
-use Rattle.thread_table.specs.Layout.{WORDS}
+use Rattle.thread_table.specs.declared.layout.TheConstants.{WORDS}
 use Rattle.thread_table.proofs.Shown.Laying.{zeros_open}
 use Rattle.thread_table.proofs.hand.ThreadTable.new_at.Goals as goal
 

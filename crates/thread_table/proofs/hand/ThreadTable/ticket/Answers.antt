@@ -1,5 +1,6 @@
 use Rattle.std.proofs.Common.{rules, ◌<◌, ◌+◌, ◌≡◌, ◌∙◌, ap, ℕ}
-use Rattle.thread_table.specs.Layout.{WAITS, wait_ring}
+use Rattle.thread_table.specs.declared.layout.TheConstants.{WAITS}
+use Rattle.thread_table.specs.Layout.{wait_ring}
 use Rattle.thread_table.proofs.Events.Answering.{found_in, is_ticket}
 use Rattle.thread_table.proofs.hand.ThreadTable.ticket.Goals as goal
 

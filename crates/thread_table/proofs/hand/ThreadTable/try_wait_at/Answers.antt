@@ -1,7 +1,8 @@
 use Rattle.std.proofs.Common.{inl, inr, rules, ◌≡◌, ◌<◌, ◌∙◌, ◌+◌, ◌-◌, ℕ, Some, set, false, sym, ap, arith}
 use Rattle.std.proofs.Math.Path.{transport}
 use Rattle.event_theory.specs.declared.event.Event.TheVariants as events
-use Rattle.thread_table.specs.Layout.{WAITS, wait_ring}
+use Rattle.thread_table.specs.declared.layout.TheConstants.{WAITS}
+use Rattle.thread_table.specs.Layout.{wait_ring}
 use Rattle.thread_table.specs.Views.{claim_of}
 use Rattle.thread_table.specs.Steps.{Claims, Raises}
 use Rattle.thread_table.specs.Answers.{mark_in}

@@ -9,9 +9,9 @@ ghost use Rattle.thread_table.specs.Closings.{ClosedNow, WereOpen, PlaceOf, word
 ghost use Rattle.thread_table.specs.Handles.{view_of, call_of, IsHandOf, IsOnlyHand, IsSameHand};
 
 use crate::hand::{Hand, ThreadTable};
+use crate::layout::{done_word, state_word};
 use crate::places::{Place, place_of};
 use crate::steps::count;
-use crate::layout::{done_word, state_word};
 use crate::words::StateWord;
 use atomic_table::Closed;
 use std::alloc::Global;

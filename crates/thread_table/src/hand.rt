@@ -9,9 +9,9 @@ ghost use Rattle.thread_table.specs.Answers.{is_in};
 ghost use Rattle.thread_table.specs.Steps.{parted, either, either_on};
 
 use crate::first_words::{lay_free, lay_rings};
+use crate::layout::WORDS;
 use crate::rule::{Shape, ThreadRule, View};
 use crate::steps::{count_down, count_up, split_off, take_in};
-use crate::layout::WORDS;
 use atomic_table::{Seat, Table};
 use event_theory::{Element, OutOfMemory, Processor};
 use std::alloc::Global;

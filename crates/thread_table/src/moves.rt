@@ -10,10 +10,10 @@ ghost use Rattle.thread_table.specs.Steps.{Raises};
 ghost use Rattle.thread_table.specs.Views.{claim_of};
 
 use crate::hand::{Hand, ThreadTable, set_held};
+use crate::layout::{FREE, READY, wait_ring};
 use crate::plays::Deed;
 use crate::rule::View;
 use crate::steps::{Words, exchange_head, exchange_head_at, load_head, store_place};
-use crate::layout::{FREE, READY, wait_ring};
 use crate::words::{HeadWord, PlaceWord};
 use atomic_table::Seat;
 use event_theory::{Element, WaitNumber};

@@ -20,15 +20,15 @@ ghost use Rattle.thread_table.specs.Steps.{Parks, Starts, Delivers, rest_of, new
 ghost use Rattle.event_theory.specs.declared.event.Event.TheVariants as events;
 ghost use Rattle.thread_table.specs.Reads.{Peeked, StateIs};
 
+use crate::layout::{
+    ENDS, NOTIFY, STOP, done_word, head_word, place_word, processor_word, state_word, wait_ring,
+};
 use crate::plays::{
     AddNotify, ClaimHead, ClaimHeadAt, CountDown, CountUp, Deed, DeliverState, Halves, Joins,
     LoadCount, LoadDone, Look, Mask, ParkState, PutOn, RaisePlace, SetSignal, SetStop, Spent,
     StartState, StoreDone, TakeOff, TakeTail,
 };
 use crate::rule::{Shape, ThreadRule, View};
-use crate::layout::{
-    ENDS, NOTIFY, STOP, done_word, head_word, place_word, processor_word, state_word, wait_ring,
-};
 use atomic_table::{Seat, Shared};
 
 pub(crate) type Words = Shared<(), View, Shape, ThreadRule>;

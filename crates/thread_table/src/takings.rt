@@ -6,8 +6,8 @@ ghost use Rattle.thread_table.specs.Handles.{view_of, call_of, IsHandOf, IsSameH
 ghost use Rattle.thread_table.specs.Answers.{TakeAnswer};
 
 use crate::hand::{Hand, ThreadTable};
-use crate::steps::{exchange_tail, load_place, load_tail};
 use crate::layout::{FREE, READY, wait_ring};
+use crate::steps::{exchange_tail, load_place, load_tail};
 use crate::words::PlaceWord;
 use event_theory::{Element, WaitNumber};
 use std::marker::Brand;

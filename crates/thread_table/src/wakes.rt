@@ -5,9 +5,9 @@ ghost use Rattle.thread_table.specs.Handles.{view_of, call_of, IsHandOf, IsSameH
 ghost use Rattle.thread_table.specs.Wakes.{WokeAll, NotifiedNow, BeforeAnswer};
 
 use crate::hand::{Hand, ThreadTable};
+use crate::layout::wait_ring;
 use crate::steps::{add_notify, load_tail};
 use crate::takings::NextRefusal;
-use crate::layout::wait_ring;
 use crate::words::HeadWord;
 use crossbeam_utils::Backoff;
 use event_theory::{Element, WaitNumber};

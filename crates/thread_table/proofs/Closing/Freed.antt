@@ -25,7 +25,8 @@ use Rattle.event_theory.specs.declared.hold.Hold.{Hold}
 use Rattle.event_theory.specs.declared.names.QueueName.TheVariants as names
 use Rattle.event_theory.proofs.Keeping.Elements.{every_at}
 use Rattle.table_theory.specs.Filing.{entry_of}
-use Rattle.thread_table.specs.Layout.{wait_ring}
+use Rattle.thread_table.specs.declared.layout.TheConstants.{ELEMENTS, PLACES}
+use Rattle.thread_table.specs.Layout.{free_ring, wait_ring}
 use Rattle.thread_table.specs.declared.places.Place.{Place}
 use Rattle.thread_table.specs.declared.places.Place.TheVariants as places
 use Rattle.thread_table.specs.declared.rule.Made.{Made}
@@ -174,7 +175,7 @@ module _ (x : ℕ) where
       by (t ∷ ts) zero is = ap (λ b. if b then 1 else 0) is
       by (t ∷ ts) (suc i) is = by ts i is
 
-  module _ (call : ℕ) (e : Elements) (lawful : IsLawfulElements e) (free : is_left x (ring_at e 1) ≡ true) where
+  module _ (call : ℕ) (e : Elements) (lawful : IsLawfulElements e) (free : is_left x (ring_at e free_ring) ≡ true) where
     few : appearances x e ≤ 1
     few = dite (dec_lt x (length e.threads))
         (λ low. let o = lawful.once x low in omega arith)
@@ -183,15 +184,15 @@ module _ (x : ℕ) where
     abbrev in_ring : Queue → ℕ
     in_ring q = in_list x (left q)
 
-    here : 1 ≤ in_ring (ring_at e 1)
-    here = some_count is_it (left (ring_at e 1)) free
+    here : 1 ≤ in_ring (ring_at e free_ring)
+    here = some_count is_it (left (ring_at e free_ring)) free
 
     one_ring : 1 ≤ sum_by in_ring e.rings
-    one_ring = let m = one_sum in_ring e.rings 1 (empty_queue 64) refl in let h = here in omega arith
+    one_ring = let m = one_sum in_ring e.rings 1 (empty_queue PLACES) refl in let h = here in omega arith
 
     other_ring : (ring : ℕ) → ring ≢ 1 → is_left x (ring_at e ring) ≡ true → ⊥
     other_ring ring apart there =
-        let m = two_sum in_ring e.rings ring 1 (empty_queue 64) refl apart in let h = here in
+        let m = two_sum in_ring e.rings ring 1 (empty_queue PLACES) refl apart in let h = here in
         let t : 1 ≤ in_ring (ring_at e ring) = some_count is_it (left (ring_at e ring)) there in let f = few in omega arith
 
     pub only_free : (place : Place) → StandsAt call x e place → place ≡ places.Free
@@ -220,12 +221,12 @@ module _ (x : ℕ) where
 abbrev Solid : Queue → Type 0
 Solid q = (run : ℕ) → run < length q.history → 0 < run_length q.history run
 
-free_solid : (e : Elements) → IsLawfulElements e → Solid (ring_at e 1)
+free_solid : (e : Elements) → IsLawfulElements e → Solid (ring_at e free_ring)
 free_solid e lawful = by (cases_lt 1 (length e.rings))
   where
-    by : (1 < length e.rings) ⊎ (length e.rings ≤ 1) → Solid (ring_at e 1)
-    by (inl low) = let q = every_at IsLawfulQueue e.rings 1 (ring_at e 1) (slice_get-get_or e.rings 1 (empty_queue 64) low) lawful.rings in q.solid
-    by (inr past) = subst Solid (sym (get_or-eq_default e.rings (empty_queue 64) past)) (λ run low. absurd (omega arith))
+    by : (1 < length e.rings) ⊎ (length e.rings ≤ 1) → Solid (ring_at e free_ring)
+    by (inl low) = let q = every_at IsLawfulQueue e.rings 1 (ring_at e free_ring) (slice_get-get_or e.rings 1 (empty_queue PLACES) low) lawful.rings in q.solid
+    by (inr past) = subst Solid (sym (get_or-eq_default e.rings (empty_queue PLACES) past)) (λ run low. absurd (omega arith))
 
 -- as many free elements were taken as the list of the only hand has takings
 pub taken_are : (past : List Event) (l : List Made) → IsAllowed past → AreMade past (l ∷ []) → (ring_at (elements_after past) 1).taken ≡ length (free_takings l)
@@ -247,7 +248,7 @@ freed_is_left past l x allowed made few freed =
     left_of_freed x (ring_at (elements_after past) 1) (retired_in past) (all_solid (ring_at (elements_after past) 1).history (free_solid (elements_after past) (lawful_after past allowed))) (are_told past allowed).0 (omega arith)
     (sym (numbered_frees x begun past) ∙ (ap (was_freed x) (sym made.logged) ∙ (sym any ∙ freed)))
 
-pub freed_is_told : (call : ℕ) (v : View) (stands : List Place) (pcs pending : List ℕ) (stops x : ℕ) → ClosedNow call v stands pcs pending stops → length (free_takings v.made) ≤ 64 → x < 64 → was_freed x v.made ≡ true → slice_index_or stands x places.Held ≡ places.Free
+pub freed_is_told : (call : ℕ) (v : View) (stands : List Place) (pcs pending : List ℕ) (stops x : ℕ) → ClosedNow call v stands pcs pending stops → length (free_takings v.made) ≤ 64 → x < ELEMENTS → was_freed x v.made ≡ true → slice_index_or stands x places.Held ≡ places.Free
 freed_is_told call v stands pcs pending stops x closed few low freed =
     only_free x call (elements_after v.schedule) (lawful_after v.schedule closed.allowed)
     (freed_is_left v.schedule v.made x closed.allowed closed.made few freed) (slice_index_or stands x places.Held) (closed.places x low)

@@ -8,6 +8,7 @@ use mathlib.Core.Option as maybe
 use mathlib.Core.Logic.{dite}
 use native.Mathlib.Decide.{dec_lt, dec_le, ℕ_discrete}
 use lib.ListN.{get_elem?}
+use Rattle.thread_table.specs.declared.layout.TheConstants.{NOTIFY}
 use Rattle.thread_table.specs.Closings.{ProcessorOf, IsIn, RingOf, PlaceOf, place_by, word_at}
 use Rattle.thread_table.specs.Layout.{head_word, tail_word, place_word}
 use Rattle.thread_table.specs.declared.places.Place.TheVariants as places
@@ -32,7 +33,7 @@ NotBefore element words ring tail position = (p : ℕ) → p < position → tail
 -- the head and the tail as they were read
 pub found_in : (element : ℕ) (words : List ℕ) (ring h head tail position word i k j : ℕ) → i ≡ head_word ring → k ≡ head_word ring → j ≡ place_word ring position
     → get_elem? words i ≡ maybe.some h → get_elem? words (k + 1) ≡ maybe.some tail → get_elem? words j ≡ maybe.some word
-    → (mark : ℕ) → h ≡ head + mark * 4294967296 → head < 4294967296
+    → (mark : ℕ) → h ≡ head + mark * NOTIFY → head < 4294967296
     → tail ≤ position → position < head → word % 256 ≡ element → IsIn element words ring
 found_in element words ring h head tail position word i k j ii kk jj at_h at_t at_w mark parts bounded from to is =
     let a : word_at words (head_word ring) ≡ h = read_there words i (head_word ring) h ii at_h in
@@ -42,7 +43,7 @@ found_in element words ring h head tail position word i k j ii kk jj at_h at_t a
 
 pub not_in : (element : ℕ) (words : List ℕ) (ring h head tail position i k : ℕ) → i ≡ head_word ring → k ≡ head_word ring
     → get_elem? words i ≡ maybe.some h → get_elem? words (k + 1) ≡ maybe.some tail
-    → (mark : ℕ) → h ≡ head + mark * 4294967296 → head < 4294967296
+    → (mark : ℕ) → h ≡ head + mark * NOTIFY → head < 4294967296
     → head ≤ position → NotBefore element words ring tail position → IsIn element words ring → ⊥
 not_in element words ring h head tail position i k ii kk at_h at_t mark parts bounded past none is =
     let a : word_at words (head_word ring) ≡ h = read_there words i (head_word ring) h ii at_h in
@@ -77,7 +78,7 @@ is_in_or_not : (element : ℕ) (words : List ℕ) (ring : ℕ) → IsIn element 
 is_in_or_not element words ring = ⊎_elim
     (λ found. inl (found.0, found.2.0, found.1, found.2.1))
     (λ none. inr (λ is. none is.0 is.2 (is.1, is.3)))
-    (any_below (λ (p : ℕ). (word_at words (tail_word ring) ≤ p) × (word_at words (place_word ring p) % 256 ≡ element)) (stands_there element words ring) (word_at words (head_word ring) % 4294967296))
+    (any_below (λ (p : ℕ). (word_at words (tail_word ring) ≤ p) × (word_at words (place_word ring p) % 256 ≡ element)) (stands_there element words ring) (word_at words (head_word ring) % NOTIFY))
 
 -- the element stands in a queue or in none
 pub some_ring : (element : ℕ) (words : List ℕ) → (ring : Option ℕ) × RingOf element words ring

@@ -24,6 +24,7 @@ use Rattle.event_theory.specs.declared.refusal.Refusal.TheVariants.{UnknownName,
 use Rattle.event_theory.proofs.Keeping.Chains.{claim_ok, raise_ok}
 use Rattle.event_theory.proofs.Keeping.Queues.{take_ok}
 use Rattle.event_theory.proofs.Lists.Inversions.{then_ok, test_ok, given_ok, some_ok, change_ok}
+use Rattle.thread_table.specs.declared.layout.TheConstants.{ELEMENTS, PLACES}
 use Rattle.thread_table.specs.Schedules.{begun, state_after, elements_after, ring_at, IsAllowed}
 use Rattle.thread_table.specs.Retiring.{items_of, retired_by, retired_in, taking_by, AreRetired}
 use Rattle.thread_table.proofs.Schedule.Schedules.{elements_of}
@@ -34,7 +35,7 @@ queue_told q = (map items_of q.history, q.taken)
 
 -- those of the free elements' queue
 abbrev told : List Queue → List (List ℕ) × ℕ
-told rings = queue_told (get_or rings 1 (empty_queue 64))
+told rings = queue_told (get_or rings 1 (empty_queue PLACES))
 
 abbrev with_more : List (List ℕ) → ℕ → List (List ℕ) × ℕ → List (List ℕ) × ℕ
 with_more more n t = (t.0 ++ more, t.1 + n)
@@ -57,18 +58,18 @@ same_runs : (rings : List Queue) (ring : ℕ) (old new : Queue) → slice_get ri
 same_runs rings ring old new there same = dite (ℕ_discrete ring 1)
     (λ is. let there' : slice_get rings 1 ≡ Some old = subst (λ (n : ℕ). slice_get rings n ≡ Some old) is there in
     ap (λ (n : ℕ). told (set rings n new)) is
-    ∙ (ap queue_told (get_or-set_same rings 1 new (empty_queue 64) (slice_get_within rings 1 old there'))
-    ∙ (same ∙ ap queue_told (sym (get_or_from_slice_get rings 1 old (empty_queue 64) there')))))
-    (λ ne. ap queue_told (get_or-set_other rings ring 1 new (empty_queue 64) (λ z. ne (sym z))))
+    ∙ (ap queue_told (get_or-set_same rings 1 new (empty_queue PLACES) (slice_get_within rings 1 old there'))
+    ∙ (same ∙ ap queue_told (sym (get_or_from_slice_get rings 1 old (empty_queue PLACES) there')))))
+    (λ ne. ap queue_told (get_or-set_other rings ring 1 new (empty_queue PLACES) (λ z. ne (sym z))))
 
 -- another queue has whatever runs
 other_runs : (rings : List Queue) (ring : ℕ) (new : Queue) → ring ≢ 1 → told (set rings ring new) ≡ told rings
-other_runs rings ring new ne = ap queue_told (get_or-set_other rings ring 1 new (empty_queue 64) (λ z. ne (sym z)))
+other_runs rings ring new ne = ap queue_told (get_or-set_other rings ring 1 new (empty_queue PLACES) (λ z. ne (sym z)))
 
 -- more runs, or more taken
 more_runs : (rings : List Queue) (more : List (List ℕ)) (n : ℕ) (old new : Queue) → slice_get rings 1 ≡ Some old → queue_told new ≡ with_more more n (queue_told old) → told (set rings 1 new) ≡ with_more more n (told rings)
-more_runs rings more n old new there is = ap queue_told (get_or-set_same rings 1 new (empty_queue 64) (slice_get_within rings 1 old there))
-    ∙ (is ∙ ap (λ (q : Queue). with_more more n (queue_told q)) (sym (get_or_from_slice_get rings 1 old (empty_queue 64) there)))
+more_runs rings more n old new there is = ap queue_told (get_or-set_same rings 1 new (empty_queue PLACES) (slice_get_within rings 1 old there))
+    ∙ (is ∙ ap (λ (q : Queue). with_more more n (queue_told q)) (sym (get_or_from_slice_get rings 1 old (empty_queue PLACES) there)))
 
 claim_rings : (ring call : ℕ) (items : List ℕ) (s t : Elements) → claim_element ring call items s ≡ Ok t → (old : Queue) × (new : Queue) × (slice_get s.rings ring ≡ Some old) × (new ≡ after_claim call items old) × (set s.rings ring new ≡ t.rings)
 claim_rings ring call items s t ok =
@@ -243,7 +244,7 @@ step_adds event s t ok = let a = then_ok (effect event s) _ t ok in ap (λ (z : 
 
 -- an event takes as many of the free elements as it tells
 pub step_takes : (event : Event) (s t : State) → step event s ≡ Ok t
-    → (get_or t.elements.rings 1 (empty_queue 64)).taken ≡ (get_or s.elements.rings 1 (empty_queue 64)).taken + length (taking_by event)
+    → (get_or t.elements.rings 1 (empty_queue PLACES)).taken ≡ (get_or s.elements.rings 1 (empty_queue PLACES)).taken + length (taking_by event)
 step_takes event s t ok = ap (λ (p : List (List ℕ) × ℕ). p.1) (step_adds event s t ok)
 
 -- how many free elements the events took
@@ -267,8 +268,8 @@ first_runs = map items_of (full_queue 64).history
 pub are_told : (past : List Event) → IsAllowed past → (map items_of (ring_at (elements_after past) 1).history ≡ first_runs ++ retired_in past) × ((ring_at (elements_after past) 1).taken ≡ takings_in past)
 unfolding IsAllowed begun
 are_told past allowed =
-    let all : queue_told (ring_at (elements_after past) 1) ≡ with_more (retired_in past) (takings_in past) (told (first_state 64).elements.rings) =
-    ap (λ (e : Elements). told e.rings) (elements_of past) ∙ reached_adds (first_state 64) past (state_after past) allowed in
+    let all : queue_told (ring_at (elements_after past) 1) ≡ with_more (retired_in past) (takings_in past) (told (first_state ELEMENTS).elements.rings) =
+    ap (λ (e : Elements). told e.rings) (elements_of past) ∙ reached_adds (first_state ELEMENTS) past (state_after past) allowed in
     let many : (ring_at (elements_after past) 1).taken ≡ 0 + takings_in past = ap (λ (p : List (List ℕ) × ℕ). p.1) all in
     (ap (λ (p : List (List ℕ) × ℕ). p.0) all, omega arith)
 

@@ -11,6 +11,7 @@ use Rattle.table_theory.proofs.Owned.{one_at}
 use Rattle.event_theory.specs.Elements.{Elements}
 use Rattle.table_theory.specs.declared.views.Member.{Member}
 use Rattle.table_theory.specs.Sharing.{IsWhole}
+use Rattle.thread_table.specs.declared.layout.TheConstants.{ELEMENTS}
 use Rattle.thread_table.specs.declared.places.Place.{Place}
 use Rattle.thread_table.specs.declared.places.Place.TheVariants as places
 use Rattle.thread_table.specs.declared.rule.Claimed.{Claimed}
@@ -80,10 +81,10 @@ all_made key s k id w at whole = made_sole k.events (map made_of s.views) id w.m
     (λ d l has ne. let b = at_map_back made_of s.views d l has in sym b.2 ∙ (rest_idle member_of IsIdle (get_or s.words 0 0) s.views id w k.ends at whole d b.0 b.1 ne).4)
 
 pub closes : (key : Shape) (v w : View) (found id : ℕ) (ws : List ℕ) (xs : List Unit) (all : List Place) (pcs pending : List ℕ) (stops : ℕ) → v.fresh ≡ true → v.claimed ≡ None → Tallied v found w → found ≡ 1 → Final (Seen (Rule key) id w) ws xs
-    → ((x : ℕ) → x < 64 → PlaceOf x ws (get_or all x places.Held))
-    → ((x : ℕ) → x < 64 → get_or pcs x 0 ≡ word_at ws (x + 73))
-    → ((x : ℕ) → x < 64 → get_or pending x 0 ≡ word_at ws (x + 9) % 65536)
-    → ((x : ℕ) → x < 64 → bit_at stops x ≡ bit_at (word_at ws (x + 9)) 16)
+    → ((x : ℕ) → x < ELEMENTS → PlaceOf x ws (get_or all x places.Held))
+    → ((x : ℕ) → x < ELEMENTS → get_or pcs x 0 ≡ word_at ws (x + 73))
+    → ((x : ℕ) → x < ELEMENTS → get_or pending x 0 ≡ word_at ws (x + 9) % 65536)
+    → ((x : ℕ) → x < ELEMENTS → bit_at stops x ≡ bit_at (word_at ws (x + 9)) 16)
     → ClosedNow id v all pcs pending stops
 closes key v w found id ws xs all pcs pending stops up none tallied one fin place_of pc_of pending_of stop_of =
     let s : State Unit View = fin.0 in let k : Rule key s = fin.1.0 in let at = fin.1.1 in let whole : IsWhole v.member.share = tallied.member.count.alone one in

@@ -17,7 +17,7 @@ use Rattle.event_theory.specs.declared.hold.Hold.{Hold}
 use Rattle.event_theory.proofs.Keeping.Elements.{every_at}
 use Rattle.thread_table.specs.Closings.{ProcessorOf, IsIn, RingOf, PlaceOf, StandsAt, is_left, ring_place, place_by, word_at}
 use Rattle.thread_table.specs.Schedules.{ring_at, thread_at, element_at, element_of, no_run}
-use Rattle.thread_table.specs.declared.layout.TheConstants.{RINGS}
+use Rattle.thread_table.specs.declared.layout.TheConstants.{ELEMENTS, RINGS, PLACES}
 use Rattle.thread_table.specs.Layout.{state_word, place_word}
 use Rattle.thread_table.specs.Shown.{WordsShow, processor_shown, bit_of}
 use Rattle.thread_table.specs.declared.places.Place.{Place}
@@ -87,12 +87,12 @@ left_known e ring i lawful below within =
     let q : Queue = ring_at e ring in let y : ℕ = get_or (left q) i 0 in
     let here : bit_of (eqb y y) ≤ in_list y (left q) = get_or-le-sum_by (λ (item : ℕ). cond (eqb item y) 1 0) (left q) i 0 within in
     let itself : bit_of (eqb y y) ≡ 1 = rw (eq-eqb y y refl) refl in
-    let sum : in_list y (left q) ≤ sum_by (λ (r : Queue). in_list y (left r)) e.rings = get_or-le-sum_by (λ (r : Queue). in_list y (left r)) e.rings ring (empty_queue 64) below in
+    let sum : in_list y (left q) ≤ sum_by (λ (r : Queue). in_list y (left r)) e.rings = get_or-le-sum_by (λ (r : Queue). in_list y (left r)) e.rings ring (empty_queue PLACES) below in
     dite (dec_lt y (length e.threads)) (λ yes. yes) (λ no. absurd (omega (arith, lawful.known y (omega arith), here, itself, sum)))
 
 module _ (call first : ℕ) (e : Elements) (words : List ℕ) (s : Settled call first e words) where
   lawful_ring : (ring : ℕ) → ring < RINGS → IsLawfulQueue (ring_at e ring)
-  lawful_ring ring below = let many = s.shows.queues in every_at IsLawfulQueue e.rings ring (ring_at e ring) (slice_get-get_or e.rings ring (empty_queue 64) (omega arith)) s.lawful.rings
+  lawful_ring ring below = let many = s.shows.queues in every_at IsLawfulQueue e.rings ring (ring_at e ring) (slice_get-get_or e.rings ring (empty_queue PLACES) (omega arith)) s.lawful.rings
 
   -- the place of what is left has its element
   left_word : (ring run : ℕ) → ring < RINGS → (ring_at e ring).taken ≤ run → run < length (ring_at e ring).history → word_at words (place_word ring (first + run)) % 256 ≡ element_at (ring_at e ring) run
@@ -134,12 +134,12 @@ module _ (call first : ℕ) (e : Elements) (words : List ℕ) (s : Settled call 
       ap (λ (b : Bool). cond b 1 0) (processor_none (get_or e.processors p None) x (λ same. none p (omega arith) (s.shows.on p (omega arith) ∙ same))))
 
   -- an element in no place is in the hand
-  in_hand : (x : ℕ) → x < 64 → ProcessorOf x words None → RingOf x words None → (thread_at e x).parked ≡ false → holds call x e ≡ true
+  in_hand : (x : ℕ) → x < ELEMENTS → ProcessorOf x words None → RingOf x words None → (thread_at e x).parked ≡ false → holds call x e ≡ true
   in_hand x below seat ring cell =
       let many = s.shows.threads in let rows = s.shows.queues in
       let once : appearances x e ≡ 1 = s.lawful.once x (omega arith) in
       let processors = not_on x seat in
-      let rings : sum_by (λ (q : Queue). in_list x (left q)) e.rings ≡ 0 = sum_none (λ (q : Queue). in_list x (left q)) e.rings (empty_queue 64) (λ l within. not_left x l (omega arith) (ring l (omega arith))) in
+      let rings : sum_by (λ (q : Queue). in_list x (left q)) e.rings ≡ 0 = sum_none (λ (q : Queue). in_list x (left q)) e.rings (empty_queue PLACES) (λ l within. not_left x l (omega arith) (ring l (omega arith))) in
       let cells : in_cell (slice_get e.threads x) ≡ 0 = ap in_cell (slice_get-get_or e.threads x new_thread (omega arith)) ∙ ap (λ (b : Bool). cond b 1 0) cell in
       held_by call x e.held (omega (arith, once, processors, rings, cells)) (λ other ne. s.alone other x ne)
 
@@ -151,16 +151,16 @@ module _ (call first : ℕ) (e : Elements) (words : List ℕ) (s : Settled call 
   in_ring x (suc zero) is = in_left x 1 is.0 is.1
   in_ring x (suc (suc wait)) is = let same : suc (suc wait) ≡ wait + 2 = omega arith in ap (λ (n : ℕ). is_left x (ring_at e n)) (sym same) ∙ in_left x (suc (suc wait)) is.0 is.1
 
-  in_cell_or_hand : (x : ℕ) → x < 64 → ProcessorOf x words None → RingOf x words None → (b : Bool) → (thread_at e x).parked ≡ b → StandsAt call x e (place_by None None b)
+  in_cell_or_hand : (x : ℕ) → x < ELEMENTS → ProcessorOf x words None → RingOf x words None → (b : Bool) → (thread_at e x).parked ≡ b → StandsAt call x e (place_by None None b)
   in_cell_or_hand x below seat ring true is = is
   in_cell_or_hand x below seat ring false is = in_hand x below seat ring is
 
-  stands_by : (x : ℕ) → x < 64 → (seat ring : Option ℕ) → ProcessorOf x words seat → RingOf x words ring
+  stands_by : (x : ℕ) → x < ELEMENTS → (seat ring : Option ℕ) → ProcessorOf x words seat → RingOf x words ring
       → StandsAt call x e (place_by seat ring (eqb (bit_at (word_at words (state_word x)) 17) 1))
   stands_by x below (Some p) ring is in_row = on_processor x p is
   stands_by x below None (Some l) is in_row = in_ring x l in_row
   stands_by x below None None is in_row = in_cell_or_hand x below is in_row _ (bit_read (bit_at (word_at words (state_word x)) 17) (thread_at e x).parked (s.shows.states x below).parked)
 
   -- what the words say of an element's place is so
-  pub stands : (x : ℕ) (place : Place) → x < 64 → PlaceOf x words place → StandsAt call x e place
+  pub stands : (x : ℕ) (place : Place) → x < ELEMENTS → PlaceOf x words place → StandsAt call x e place
   stands x place below is = subst (StandsAt call x e) (sym is.4) (stands_by x below is.0 is.1 is.2 is.3)

@@ -10,7 +10,7 @@ use Rattle.event_theory.specs.declared.event.Event.{Event}
 use Rattle.event_theory.proofs.Keeping.Elements.{every_at}
 use Rattle.thread_table.specs.declared.rule.View.{View}
 use Rattle.thread_table.specs.Schedules.{elements_after, ring_at, element_at}
-use Rattle.thread_table.specs.declared.layout.TheConstants.{RINGS, WAITS}
+use Rattle.thread_table.specs.declared.layout.TheConstants.{ELEMENTS, RINGS, PLACES, WAITS, NOTIFY}
 use Rattle.thread_table.specs.Layout.{head_word, tail_word, place_word, wait_ring}
 use Rattle.thread_table.specs.Shown.{tail_shown, mark_of}
 use Rattle.thread_table.specs.Views.{claim_of}
@@ -122,7 +122,7 @@ held_less held x e below = dite (ℕ_discrete e x)
 -- the tail at the exchange is the one loaded, so the element in the place word is the oldest
 took_oldest : (call : ℕ) (u v f w : View) (ring tail found element mark : ℕ) → ring < RINGS → Looked u v → Looked v f → tail ≡ tail_shown u.first (elements_after v.schedule) ring
     → Peeked v ring found f → found ≡ element + 256 * mark → element < 256 → mark ≡ tail + 1 → (t : Takes call ring tail f w)
-    → (element_at (ring_at (elements_after t.did.before) ring) (ring_at (elements_after t.did.before) ring).taken ≡ element) × (take 1 (left (ring_at (elements_after t.did.before) ring)) ≡ element ∷ []) × (element < 64)
+    → (element_at (ring_at (elements_after t.did.before) ring) (ring_at (elements_after t.did.before) ring).taken ≡ element) × (take 1 (left (ring_at (elements_after t.did.before) ring)) ≡ element ∷ []) × (element < ELEMENTS)
 took_oldest call u v f w ring tail found element mark below a b tail_is peek parts bounded up t =
     let s : Sees f t.did.before = t.did.sees in
     let q : Queue = ring_at (elements_after t.did.before) ring in
@@ -136,8 +136,8 @@ took_oldest call u v f w ring tail found element mark below a b tail_is peek par
     let raised : (seen_ring f ring).raised (seen_ring v ring).taken 0 ≡ true = peek.up marked in
     let many : ring < length (elements_after f.schedule).rings = subst (λ n. ring < n) (sym b.sees.shows.queues) below in
     let many' : ring < length (elements_after t.did.before).rings = subst (λ n. ring < n) (sym s.shows.queues) below in
-    let lawful : IsLawfulQueue (seen_ring f ring) = every_at IsLawfulQueue (elements_after f.schedule).rings ring (seen_ring f ring) (slice_get-get_or (elements_after f.schedule).rings ring (empty_queue 64) many) b.sees.lawful.rings in
-    let lawful' : IsLawfulQueue q = every_at IsLawfulQueue (elements_after t.did.before).rings ring q (slice_get-get_or (elements_after t.did.before).rings ring (empty_queue 64) many') s.lawful.rings in
+    let lawful : IsLawfulQueue (seen_ring f ring) = every_at IsLawfulQueue (elements_after f.schedule).rings ring (seen_ring f ring) (slice_get-get_or (elements_after f.schedule).rings ring (empty_queue PLACES) many) b.sees.lawful.rings in
+    let lawful' : IsLawfulQueue q = every_at IsLawfulQueue (elements_after t.did.before).rings ring q (slice_get-get_or (elements_after t.did.before).rings ring (empty_queue PLACES) many') s.lawful.rings in
     let inside : (seen_ring v ring).taken < length (seen_ring f ring).history = raised_known (seen_ring f ring) (seen_ring v ring).taken lawful raised in
     let item : found % 256 ≡ element_at (seen_ring f ring) (seen_ring v ring).taken = peek.item marked (omega arith) in
     let part : found % 256 ≡ element = omega arith in
@@ -158,7 +158,7 @@ pub record Stays (u w : View) : Type 0 where
 -- after a taking: what it tells, that the element is one of the table's, and what the hand then holds
 pub record Taken (call : ℕ) (u : View) (ring element : ℕ) (w : View) : Type 0 where
   pub first : TookFirst call u ring element w
-  pub known : element < 64
+  pub known : element < ELEMENTS
   pub held : set u.held element true ≡ w.held
   pub stays : Stays u w
 
@@ -197,10 +197,10 @@ taken_first call caller u v f w ring tail found element mark same none below fa 
     }
 
 -- a head word by its parts
-pub word_parts : (word head mark : ℕ) → word ≡ head + mark * 4294967296 → head < 4294967296 → (head_in word ≡ head) × (mark_in word ≡ mark)
+pub word_parts : (word head mark : ℕ) → word ≡ head + mark * NOTIFY → head < 4294967296 → (head_in word ≡ head) × (mark_in word ≡ mark)
 word_parts word head mark parts bounded = (omega arith, omega arith)
 
-pub head_found : (u v : View) (ring word head mark : ℕ) → Found u (head_word ring) word v → word ≡ head + mark * 4294967296 → head < 4294967296 → head ≢ 4294967295 → FoundHead u ring word v
+pub head_found : (u v : View) (ring word head mark : ℕ) → Found u (head_word ring) word v → word ≡ head + mark * NOTIFY → head < 4294967296 → head ≢ 4294967295 → FoundHead u ring word v
 head_found u v ring word head mark a parts bounded more = let p = (word_parts word head mark parts bounded).0 in record { loaded = a; positions = omega (arith, more, p) }
 
 -- the same head word, by another name of its queue
@@ -208,7 +208,7 @@ pub found_in : {u v : View} {word ring other : ℕ} → ring ≡ other → Found
 found_in {u} {v} {word} is f = subst (λ (l : ℕ). Found u (head_word l) word v) is f
 
 -- the head is the last position
-pub was_spent : (u v : View) (ring word head mark : ℕ) → ring < RINGS → Found u (head_word ring) word v → word ≡ head + mark * 4294967296 → head < 4294967296 → head ≡ 4294967295 → WasSpent u ring v
+pub was_spent : (u v : View) (ring word head mark : ℕ) → ring < RINGS → Found u (head_word ring) word v → word ≡ head + mark * NOTIFY → head < 4294967296 → head ≡ 4294967295 → WasSpent u ring v
 was_spent u v ring word head mark below a parts bounded last = let w = found_head u v word ring below a in let fits : u.first + length (ring_at (elements_after v.schedule) ring).history < 4294967296 = (a.sees.shows.rings ring below).bounded in record {
   word = word;
   loaded = a;
@@ -217,11 +217,11 @@ was_spent u v ring word head mark below a parts bounded last = let w = found_hea
 }
 
 -- the exchange found another head word
-pub overtaken : (u v w : View) (ring word head mark found : ℕ) → Found u (head_word ring) word v → word ≡ head + mark * 4294967296 → head < 4294967296 → head ≢ 4294967295 → Found v (head_word ring) found w → found ≢ word → WasOvertaken u ring found w
+pub overtaken : (u v w : View) (ring word head mark found : ℕ) → Found u (head_word ring) word v → word ≡ head + mark * NOTIFY → head < 4294967296 → head ≢ 4294967295 → Found v (head_word ring) found w → found ≢ word → WasOvertaken u ring found w
 overtaken u v w ring word head mark found a parts bounded more b ne = record { word = word; before = v; found = head_found u v ring word head mark a parts bounded more; missed = b; differs = ne }
 
 -- the number of notifies of a queue
-pub is_ticket : (u v : View) (wait word head mark : ℕ) → wait < WAITS → Found u (head_word (wait_ring wait)) word v → word ≡ head + mark * 4294967296 → head < 4294967296 → IsTicket u wait mark v
+pub is_ticket : (u v : View) (wait word head mark : ℕ) → wait < WAITS → Found u (head_word (wait_ring wait)) word v → word ≡ head + mark * NOTIFY → head < 4294967296 → IsTicket u wait mark v
 is_ticket u v wait word head mark below a parts bounded = let ring : ℕ = wait + 2 in let w = found_head u v word ring (omega arith) a in let fits : u.first + length (ring_at (elements_after v.schedule) ring).history < 4294967296 = (a.sees.shows.rings ring (omega arith)).bounded in record {
   word = word;
   loaded = a;
@@ -229,11 +229,11 @@ is_ticket u v wait word head mark below a parts bounded = let ring : ℕ = wait 
   marked = omega arith;
 }
 
-pub moved_before : (u v : View) (wait ticket word head mark : ℕ) → Found u (head_word (wait_ring wait)) word v → word ≡ head + mark * 4294967296 → head < 4294967296 → head ≢ 4294967295 → mark ≢ ticket → MovedBefore u wait ticket mark v
+pub moved_before : (u v : View) (wait ticket word head mark : ℕ) → Found u (head_word (wait_ring wait)) word v → word ≡ head + mark * NOTIFY → head < 4294967296 → head ≢ 4294967295 → mark ≢ ticket → MovedBefore u wait ticket mark v
 moved_before u v wait ticket word head mark a parts bounded more ne = record { word = word; found = head_found u v (wait_ring wait) word head mark a parts bounded more; mark_is = sym (word_parts word head mark parts bounded).1; differs = ne }
 
-pub moved_meanwhile : (u v w : View) (wait ticket word head mark seen later now : ℕ) → Found u (head_word (wait_ring wait)) word v → word ≡ head + mark * 4294967296 → head < 4294967296 → head ≢ 4294967295 → mark ≡ ticket
-    → Found v (head_word (wait_ring wait)) seen w → seen ≡ later + now * 4294967296 → later < 4294967296 → now ≢ ticket → MovedMeanwhile u wait ticket now w
+pub moved_meanwhile : (u v w : View) (wait ticket word head mark seen later now : ℕ) → Found u (head_word (wait_ring wait)) word v → word ≡ head + mark * NOTIFY → head < 4294967296 → head ≢ 4294967295 → mark ≡ ticket
+    → Found v (head_word (wait_ring wait)) seen w → seen ≡ later + now * NOTIFY → later < 4294967296 → now ≢ ticket → MovedMeanwhile u wait ticket now w
 moved_meanwhile u v w wait ticket word head mark seen later now a parts bounded more was b parts' small' ne = record {
   word = word;
   before = v;
@@ -245,8 +245,8 @@ moved_meanwhile u v w wait ticket word head mark seen later now a parts bounded 
   differs = ne;
 }
 
-pub overtaken_at : (u v w : View) (wait ticket word head mark seen later now : ℕ) → Found u (head_word (wait_ring wait)) word v → word ≡ head + mark * 4294967296 → head < 4294967296 → head ≢ 4294967295 → mark ≡ ticket
-    → Found v (head_word (wait_ring wait)) seen w → seen ≢ word → seen ≡ later + now * 4294967296 → later < 4294967296 → now ≡ ticket → OvertakenAt u wait ticket seen w
+pub overtaken_at : (u v w : View) (wait ticket word head mark seen later now : ℕ) → Found u (head_word (wait_ring wait)) word v → word ≡ head + mark * NOTIFY → head < 4294967296 → head ≢ 4294967295 → mark ≡ ticket
+    → Found v (head_word (wait_ring wait)) seen w → seen ≢ word → seen ≡ later + now * NOTIFY → later < 4294967296 → now ≡ ticket → OvertakenAt u wait ticket seen w
 unfolding overtaken
 overtaken_at u v w wait ticket word head mark seen later now a parts bounded more was b ne parts' small' still = record {
   lost = overtaken u v w (wait_ring wait) word head mark seen a parts bounded more b ne;
@@ -255,17 +255,17 @@ overtaken_at u v w wait ticket word head mark seen later now a parts bounded mor
 }
 
 -- the number of the run that was claimed, of which the head word has the position
-run_claimed : (call ring element : ℕ) (event : Event) (word head mark : ℕ) (v m : View) → ring < RINGS → (c : Claims call ring element event word v m) → word ≡ head + mark * 4294967296 → head < 4294967296
+run_claimed : (call ring element : ℕ) (event : Event) (word head mark : ℕ) (v m : View) → ring < RINGS → (c : Claims call ring element event word v m) → word ≡ head + mark * NOTIFY → head < 4294967296
     → (head ≡ m.first + length (ring_at (elements_after c.did.before) ring).history) × (head - m.first ≡ length (ring_at (elements_after c.did.before) ring).history)
 run_claimed call ring element event word head mark v m below c parts bounded =
     let e : Elements = elements_after c.did.before in
     let first : m.first ≡ v.first = ap (λ (z : View). z.first) c.did.same in
-    let is : word ≡ v.first + length (ring_at e ring).history + mark_of e ring * 4294967296 = c.head_is in
+    let is : word ≡ v.first + length (ring_at e ring).history + mark_of e ring * NOTIFY = c.head_is in
     let low : v.first + length (ring_at e ring).history < 4294967296 = (c.did.sees.shows.rings ring below).bounded in
     (omega arith, omega arith)
 
 -- so the raise is of that run
-pub claim_known : (call ring element : ℕ) (event : Event) (word head mark : ℕ) (v m : View) → ring < RINGS → Claims call ring element event word v m → word ≡ head + mark * 4294967296 → head < 4294967296
+pub claim_known : (call ring element : ℕ) (event : Event) (word head mark : ℕ) (v m : View) → ring < RINGS → Claims call ring element event word v m → word ≡ head + mark * NOTIFY → head < 4294967296
     → (m.claimed ≡ Some (claim_of ring (head - m.first) element)) × (head ≡ m.first + (head - m.first))
 claim_known call ring element event word head mark v m below c parts bounded =
     let r = run_claimed call ring element event word head mark v m below c parts bounded in
@@ -278,7 +278,7 @@ pub record Moved (call : ℕ) (u : View) (ring element : ℕ) (event : Event) (w
   pub held : set u.held element false ≡ w.held
   pub stays : Stays u w
 
-pub moved_to : (call ring element : ℕ) (event : Event) (word head mark : ℕ) (u v m w : View) → ring < RINGS → element < 64 → Found u (head_word ring) word v → head ≢ 4294967295 → (c : Claims call ring element event word v m) → word ≡ head + mark * 4294967296
+pub moved_to : (call ring element : ℕ) (event : Event) (word head mark : ℕ) (u v m w : View) → ring < RINGS → element < ELEMENTS → Found u (head_word ring) word v → head ≢ 4294967295 → (c : Claims call ring element event word v m) → word ≡ head + mark * NOTIFY
     → head < 4294967296 → Raises call ring (head - m.first) element m w → Moved call u ring element event word w
 moved_to call ring element event word head mark u v m w below known fa more c parts bounded raises =
     let a = found_looked u v _ _ fa in

@@ -19,7 +19,7 @@ use Rattle.table_theory.proofs.QueueEvents.{claim_goes}
 use Rattle.thread_table.specs.declared.rule.View.{View}
 use Rattle.thread_table.specs.declared.rule.Claimed.{Claimed}
 use Rattle.thread_table.specs.Schedules.{QueueGrows, ring_at, thread_at, element_at, element_of, no_run}
-use Rattle.thread_table.specs.declared.layout.TheConstants.{WORDS, RINGS}
+use Rattle.thread_table.specs.declared.layout.TheConstants.{WORDS, ELEMENTS, RINGS, PLACES, NOTIFY}
 use Rattle.thread_table.specs.Layout.{processor_word, state_word, done_word, head_word, tail_word, place_word, wait_ring}
 use Rattle.thread_table.specs.Shown.{WordsShow, RingShows, PlaceShows, StateShows, head_shown, mark_of}
 use Rattle.thread_table.specs.Rules.{HandIs, IsClaimed, has}
@@ -84,12 +84,12 @@ claim_places first id element q run word lawful shows = record {
 
 -- what is said of each ring after one of them changed
 by_ring : (P : ℕ → Queue → Type 0) (rings : List Queue) (ring : ℕ) (new : Queue) → ring < length rings → P ring new
-    → ((other : ℕ) → other ≢ ring → P other (get_or rings other (empty_queue 64))) → (other : ℕ) → P other (get_or (set rings ring new) other (empty_queue 64))
+    → ((other : ℕ) → other ≢ ring → P other (get_or rings other (empty_queue PLACES))) → (other : ℕ) → P other (get_or (set rings ring new) other (empty_queue PLACES))
 by_ring P rings ring new below here there other = by (eqb_tells other ring)
   where
-    by : ((eqb other ring ≡ true) × (other ≡ ring)) ⊎ ((eqb other ring ≡ false) × (other ≢ ring)) → P other (get_or (set rings ring new) other (empty_queue 64))
-    by (inl same) = subst (λ l. P l (get_or (set rings ring new) l (empty_queue 64))) (sym same.1) (subst (P ring) (sym (get_or-set_same rings ring new (empty_queue 64) below)) here)
-    by (inr differ) = subst (P other) (sym (get_or-set_other rings ring other new (empty_queue 64) differ.1)) (there other differ.1)
+    by : ((eqb other ring ≡ true) × (other ≡ ring)) ⊎ ((eqb other ring ≡ false) × (other ≢ ring)) → P other (get_or (set rings ring new) other (empty_queue PLACES))
+    by (inl same) = subst (λ l. P l (get_or (set rings ring new) l (empty_queue PLACES))) (sym same.1) (subst (P ring) (sym (get_or-set_same rings ring new (empty_queue PLACES) below)) here)
+    by (inr differ) = subst (P other) (sym (get_or-set_other rings ring other new (empty_queue PLACES) differ.1)) (there other differ.1)
 
 -- what the words show of a ring, by its queue
 record QueueShows (first mark ring : ℕ) (words : List ℕ) (q : Queue) : Type 0 where
@@ -98,7 +98,7 @@ record QueueShows (first mark ring : ℕ) (words : List ℕ) (q : Queue) : Type 
   single : IsSingle q.history
   bounded : first + length q.history < 4294967296
   marked : mark < 4294967296
-  head : get_or words (head_word ring) 0 ≡ first + length q.history + mark * 4294967296
+  head : get_or words (head_word ring) 0 ≡ first + length q.history + mark * NOTIFY
   tail : get_or words (tail_word ring) 0 ≡ first + q.taken
   places : (run : ℕ) → q.taken ≤ run → run < q.taken + 64 → PlaceShows first q run (get_or words (place_word ring (first + run)) 0)
 
@@ -221,12 +221,12 @@ run_kept id element ring rest e call c inside is =
       low = ap (λ raised. raised c.run 0) both.1 ∙ is.low;
     }
 
-new_run : (id element ring : ℕ) (rest : List Hold) (e : Elements) → ring < RINGS → element < 64 → ring < length e.rings → IsLawfulQueue (ring_at e ring)
+new_run : (id element ring : ℕ) (rest : List Hold) (e : Elements) → ring < RINGS → element < ELEMENTS → ring < length e.rings → IsLawfulQueue (ring_at e ring)
     → IsClaimed id (record { ring = ring; run = length (ring_at e ring).history; element = element }) (claimed id ring element rest e)
 new_run id element ring rest e below known inside lawful =
     let q : Queue = ring_at e ring in
     let new : Run = record { call = id; items = element ∷ [] } in
-    let at : ring_at (claimed id ring element rest e) ring ≡ after_claim id (element ∷ []) q = get_or-set_same e.rings ring (after_claim id (element ∷ []) q) (empty_queue 64) inside in
+    let at : ring_at (claimed id ring element rest e) ring ≡ after_claim id (element ∷ []) q = get_or-set_same e.rings ring (after_claim id (element ∷ []) q) (empty_queue PLACES) inside in
     record {
       below = below;
       known = known;
@@ -246,7 +246,7 @@ claim_leaves id element ring rest v e inside stay = record {
 }
 
 -- what the hand has then, of one element
-has_after : (id element ring : ℕ) (rest : List Hold) (v : View) (e : Elements) (x : ℕ) → element < 64 → HandIs id v e → OthersStay id element e.held rest → in_hands element rest ≡ 0
+has_after : (id element ring : ℕ) (rest : List Hold) (v : View) (e : Elements) (x : ℕ) → element < ELEMENTS → HandIs id v e → OthersStay id element e.held rest → in_hands element rest ≡ 0
     → ((eqb x element ≡ true) × (x ≡ element)) ⊎ ((eqb x element ≡ false) × (x ≢ element))
     → list_any (is_hold id x) rest ≡ get_or (set v.held element false) x false
 has_after id element ring rest v e x known hand stay none (inl same) =
@@ -256,7 +256,7 @@ has_after id element ring rest v e x known hand stay none (inl same) =
 has_after id element ring rest v e x known hand stay none (inr differ) =
     stay id x (other_element id element x differ.1) ∙ (hand.held x ∙ sym (get_or-set_other v.held element x false false differ.1))
 
-claim_hand : (id element ring : ℕ) (rest : List Hold) (v : View) (e : Elements) → ring < RINGS → element < 64 → ring < length e.rings → IsLawfulQueue (ring_at e ring) → HandIs id v e
+claim_hand : (id element ring : ℕ) (rest : List Hold) (v : View) (e : Elements) → ring < RINGS → element < ELEMENTS → ring < length e.rings → IsLawfulQueue (ring_at e ring) → HandIs id v e
     → OthersStay id element e.held rest → in_hands element rest ≡ 0
     → HandIs id (with_claim v ring (length (ring_at e ring).history) element) (claimed id ring element rest e)
 claim_hand id element ring rest v e below known inside lawful hand stay none = record {
@@ -279,7 +279,7 @@ ring_claims : (id element ring : ℕ) (rest : List Hold) (e : Elements) (first :
     → (slice_get e.rings ring ≡ Some (ring_at e ring)) × (claim 1 id (element ∷ []) (ring_at e ring) ≡ Ok (after_claim id (element ∷ []) (ring_at e ring)))
 ring_claims id element ring rest e first words below lawful shows lets =
     let q : Queue = ring_at e ring in
-    let at : slice_get e.rings ring ≡ Some q = slice_get-get_or e.rings ring (empty_queue 64) (omega (arith, shows.queues)) in
+    let at : slice_get e.rings ring ≡ Some q = slice_get-get_or e.rings ring (empty_queue PLACES) (omega (arith, shows.queues)) in
     let l = shows.rings ring below in
     let space : length (left q) + 1 ≤ 64 = omega (arith, room id element ring e q rest lawful at lets, shows.threads) in
     (at, claim_goes 1 id (element ∷ []) q (omega arith) (omega arith) l.is_open (omega (arith, l.capacity, space)))
@@ -322,12 +322,12 @@ claim_owes : (v w : View) (id element ring : ℕ) (rest : List Hold) (e : Elemen
 claim_owes v w id element ring rest e inside none claims =
     let q : Queue = ring_at e ring in
     ring_owes v w e (claimed id ring element rest e) ring (after_claim id (element ∷ []) q)
-    (get_or-set_same e.rings ring (after_claim id (element ∷ []) q) (empty_queue 64) inside)
-    (λ l ne. get_or-set_other e.rings ring l (after_claim id (element ∷ []) q) (empty_queue 64) ne)
+    (get_or-set_same e.rings ring (after_claim id (element ∷ []) q) (empty_queue PLACES) inside)
+    (λ l ne. get_or-set_other e.rings ring l (after_claim id (element ∷ []) q) (empty_queue PLACES) ne)
     (run_owes v w id element ring q none claims) (λ l ne. queue_owes v w l (ring_at e l) (ring_at e l) none refl refl)
 
 -- an event that goes as the claim does has its effect
-effect_of : (id : ℕ) (v : View) (first : ℕ) (e : Elements) (words : List ℕ) (ring element : ℕ) (event : Elements → Result Elements Refusal) → Ready id v first e words → v.claimed ≡ None → ring < RINGS → element < 64 → has v element ≡ true
+effect_of : (id : ℕ) (v : View) (first : ℕ) (e : Elements) (words : List ℕ) (ring element : ℕ) (event : Elements → Result Elements Refusal) → Ready id v first e words → v.claimed ≡ None → ring < RINGS → element < ELEMENTS → has v element ≡ true
     → first + length (ring_at e ring).history + 1 < 4294967296
     → ((rest : List Hold) → slice_get e.rings ring ≡ Some (ring_at e ring) → claim 1 id (element ∷ []) (ring_at e ring) ≡ Ok (after_claim id (element ∷ []) (ring_at e ring)) → Lets id element e rest
     → event e ≡ Ok (claimed id ring element rest e))

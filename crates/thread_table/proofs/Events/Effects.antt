@@ -10,7 +10,7 @@ use Rattle.thread_table.specs.declared.rule.View.{View}
 use Rattle.thread_table.specs.declared.rule.Claimed.{Claimed}
 use Rattle.thread_table.specs.declared.rule.Counted.{Counted}
 use Rattle.thread_table.specs.Schedules.{Grows, ring_at, thread_at, element_at}
-use Rattle.thread_table.specs.declared.layout.TheConstants.{RINGS, WAITS}
+use Rattle.thread_table.specs.declared.layout.TheConstants.{PROCESSORS, ELEMENTS, RINGS, WAITS}
 use Rattle.thread_table.specs.Layout.{processor_word, state_word, done_word, head_word, tail_word, place_word, wait_ring}
 use Rattle.thread_table.specs.Shown.{WordsShow, head_shown, tail_shown, mark_of}
 use Rattle.thread_table.specs.Views.{claim_of, quiet, with_held, with_claim, with_raise, with_on, with_off, with_start}
@@ -46,12 +46,12 @@ pub record Ready (id : ℕ) (v : View) (first : ℕ) (e : Elements) (words : Lis
 
 -- The statements of what each event does. `word` is the word as it was found
 abbrev pub ClaimEffect : Type 0
-ClaimEffect = (id : ℕ) (v : View) (first : ℕ) (e : Elements) (words : List ℕ) (ring element : ℕ) → Ready id v first e words → v.claimed ≡ None → ring < RINGS → element < 64 → has v element ≡ true
+ClaimEffect = (id : ℕ) (v : View) (first : ℕ) (e : Elements) (words : List ℕ) (ring element : ℕ) → Ready id v first e words → v.claimed ≡ None → ring < RINGS → element < ELEMENTS → has v element ≡ true
     → first + length (ring_at e ring).history + 1 < 4294967296
     → Effect id v (with_claim v ring (length (ring_at e ring).history) element) first (claim_element ring id (element ∷ [])) e (set words (head_word ring) (head_shown first e ring + 1))
 
 abbrev pub WaitAtEffect : Type 0
-WaitAtEffect = (id : ℕ) (v : View) (first : ℕ) (e : Elements) (words : List ℕ) (wait element ticket : ℕ) → Ready id v first e words → v.claimed ≡ None → wait < WAITS → element < 64 → has v element ≡ true
+WaitAtEffect = (id : ℕ) (v : View) (first : ℕ) (e : Elements) (words : List ℕ) (wait element ticket : ℕ) → Ready id v first e words → v.claimed ≡ None → wait < WAITS → element < ELEMENTS → has v element ≡ true
     → first + length (ring_at e (wait_ring wait)).history + 1 < 4294967296 → mark_of e (wait_ring wait) ≡ ticket
     → Effect id v (with_claim v (wait_ring wait) (length (ring_at e (wait_ring wait)).history) element) first (wait_at id wait element ticket) e (set words (head_word (wait_ring wait)) (head_shown first e (wait_ring wait) + 1))
 
@@ -68,31 +68,31 @@ NotifyEffect = (id : ℕ) (v : View) (first : ℕ) (e : Elements) (words : List 
     → Effect id v (quiet v) first (notify_wait wait) e (set words (head_word (wait_ring wait)) ((head_shown first e (wait_ring wait) + 4294967296) % 18446744073709551616))
 
 abbrev pub OnEffect : Type 0
-OnEffect = (id : ℕ) (v : View) (first : ℕ) (e : Elements) (words : List ℕ) (p element : ℕ) → Ready id v first e words → v.claimed ≡ None → p < 8 → element < 64 → has v element ≡ true → serves v p ≡ true → running v p ≡ None
+OnEffect = (id : ℕ) (v : View) (first : ℕ) (e : Elements) (words : List ℕ) (p element : ℕ) → Ready id v first e words → v.claimed ≡ None → p < PROCESSORS → element < ELEMENTS → has v element ≡ true → serves v p ≡ true → running v p ≡ None
     → Effect id v (with_on v p element) first (put_on id p element) e (set words (processor_word p) (element + 1))
 
 abbrev pub OffEffect : Type 0
-OffEffect = (id : ℕ) (v : View) (first : ℕ) (e : Elements) (words : List ℕ) (p element : ℕ) → Ready id v first e words → v.claimed ≡ None → p < 8 → serves v p ≡ true → running v p ≡ Some element
+OffEffect = (id : ℕ) (v : View) (first : ℕ) (e : Elements) (words : List ℕ) (p element : ℕ) → Ready id v first e words → v.claimed ≡ None → p < PROCESSORS → serves v p ≡ true → running v p ≡ Some element
     → Effect id v (with_off v p element) first (take_off id p) e (set words (processor_word p) 0)
 
 abbrev pub StopEffect : Type 0
-StopEffect = (id : ℕ) (v : View) (first : ℕ) (e : Elements) (words : List ℕ) (element : ℕ) → Ready id v first e words → v.claimed ≡ None → element < 64
+StopEffect = (id : ℕ) (v : View) (first : ℕ) (e : Elements) (words : List ℕ) (element : ℕ) → Ready id v first e words → v.claimed ≡ None → element < ELEMENTS
     → Effect id v (quiet v) first (stop element) e (set words (state_word element) (bit_or (get_or words (state_word element) 0) 65536))
 
 abbrev pub ParkEffect : Type 0
-ParkEffect = (id : ℕ) (v : View) (first : ℕ) (e : Elements) (words : List ℕ) (element : ℕ) → Ready id v first e words → v.claimed ≡ None → element < 64 → has v element ≡ true → (thread_at e element).stop ≡ true
+ParkEffect = (id : ℕ) (v : View) (first : ℕ) (e : Elements) (words : List ℕ) (element : ℕ) → Ready id v first e words → v.claimed ≡ None → element < ELEMENTS → has v element ≡ true → (thread_at e element).stop ≡ true
     → Effect id v (with_held v element false) first (park id element) e (set words (state_word element) (bit_or (get_or words (state_word element) 0) 131072))
 
 abbrev pub StartEffect : Type 0
-StartEffect = (id : ℕ) (v : View) (first : ℕ) (e : Elements) (words : List ℕ) (element : ℕ) → Ready id v first e words → v.claimed ≡ None → element < 64 → (thread_at e element).stop ≡ true
+StartEffect = (id : ℕ) (v : View) (first : ℕ) (e : Elements) (words : List ℕ) (element : ℕ) → Ready id v first e words → v.claimed ≡ None → element < ELEMENTS → (thread_at e element).stop ≡ true
     → Effect id v (with_start v element (thread_at e element).parked) first (start id element) e (set words (state_word element) (bit_and (get_or words (state_word element) 0) 65535))
 
 abbrev pub SignalEffect : Type 0
-SignalEffect = (id : ℕ) (v : View) (first : ℕ) (e : Elements) (words : List ℕ) (element number : ℕ) → Ready id v first e words → v.claimed ≡ None → element < 64 → number < 16
+SignalEffect = (id : ℕ) (v : View) (first : ℕ) (e : Elements) (words : List ℕ) (element number : ℕ) → Ready id v first e words → v.claimed ≡ None → element < ELEMENTS → number < 16
     → Effect id v (quiet v) first (signal element number) e (set words (state_word element) (bit_or (get_or words (state_word element) 0) (2 ^ number)))
 
 abbrev pub DeliverEffect : Type 0
-DeliverEffect = (id : ℕ) (v : View) (first : ℕ) (e : Elements) (words : List ℕ) (element : ℕ) → Ready id v first e words → v.claimed ≡ None → element < 64 → has v element ≡ true
+DeliverEffect = (id : ℕ) (v : View) (first : ℕ) (e : Elements) (words : List ℕ) (element : ℕ) → Ready id v first e words → v.claimed ≡ None → element < ELEMENTS → has v element ≡ true
     → Effect id v (quiet v) first (deliver id element) e (set words (state_word element) (bit_and (get_or words (state_word element) 0) 196608))
 
 abbrev pub DoneEffect : Type 0

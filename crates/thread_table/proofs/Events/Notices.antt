@@ -6,6 +6,7 @@ use mathlib.Core.Logic.{dite}
 use native.Mathlib.Decide.{dec_lt}
 use Rattle.event_theory.specs.Elements.{Elements}
 use Rattle.event_theory.specs.Marks.{notify_wait}
+use Rattle.thread_table.specs.declared.layout.TheConstants.{NOTIFY}
 use Rattle.thread_table.specs.declared.rule.View.{View}
 use Rattle.thread_table.specs.Schedules.{ring_at}
 use Rattle.thread_table.specs.Layout.{head_word, tail_word, place_word, wait_ring}
@@ -17,19 +18,19 @@ use Rattle.thread_table.proofs.Shown.QueueWords.{shows_kept, with_rings, queue_s
 use Rattle.thread_table.proofs.Events.Owing.{same_owes}
 
 -- a number of 32 bits above another, one more, modulo 2^64
-one_more : (low mark : ℕ) → low < 4294967296 → mark < 4294967296 → (low + mark * 4294967296 + 4294967296) % 18446744073709551616 ≡ low + (mark + 1) % 4294967296 * 4294967296
+one_more : (low mark : ℕ) → low < 4294967296 → mark < 4294967296 → (low + mark * NOTIFY + 4294967296) % 18446744073709551616 ≡ low + (mark + 1) % NOTIFY * NOTIFY
 one_more low mark bounded marked = dite (dec_lt (mark + 1) 4294967296)
-    (λ y. let a : (mark + 1) % 4294967296 ≡ mark + 1 = mod-eq_of_lt y in
-    mod-eq_of_lt {n = low + mark * 4294967296 + 4294967296} {m = 18446744073709551616} (omega arith) ∙ omega (arith, a))
+    (λ y. let a : (mark + 1) % NOTIFY ≡ mark + 1 = mod-eq_of_lt y in
+    mod-eq_of_lt {n = low + mark * NOTIFY + 4294967296} {m = 18446744073709551616} (omega arith) ∙ omega (arith, a))
     (λ no. let e : mark ≡ 4294967295 = omega arith in
-    let a : (mark + 1) % 4294967296 ≡ 0 = ap (λ n. (n + 1) % 4294967296) e in
-    let b : low + mark * 4294967296 + 4294967296 ≡ low + 18446744073709551616 = omega (arith, e) in
+    let a : (mark + 1) % NOTIFY ≡ 0 = ap (λ n. (n + 1) % NOTIFY) e in
+    let b : low + mark * NOTIFY + 4294967296 ≡ low + 18446744073709551616 = omega (arith, e) in
     ap (λ n. n % 18446744073709551616) b ∙ (add-mod_right low 18446744073709551616
     ∙ (mod-eq_of_lt {n = low} {m = 18446744073709551616} (omega arith) ∙ omega (arith, a))))
 
 -- the number of notifies, one more
 abbrev told : Elements → ℕ → List ℕ
-told e wait = set e.notified wait ((get_or e.notified wait 0 + 1) % 4294967296)
+told e wait = set e.notified wait ((get_or e.notified wait 0 + 1) % NOTIFY)
 
 abbrev after : Elements → ℕ → Elements
 after e wait = with_rings e e.rings (told e wait) e.held
@@ -40,13 +41,13 @@ goes e wait below = rw (slice_get-get_or e.notified wait 0 below) refl
 mark_is : (e : Elements) (wait : ℕ) → mark_of e (wait_ring wait) ≡ get_or e.notified wait 0
 mark_is e wait = let n : wait + 2 ≡ suc (suc wait) = omega arith in ap (mark_of e) n
 
-mark_after : (e : Elements) (wait : ℕ) → wait < length e.notified → mark_of (after e wait) (wait_ring wait) ≡ (get_or e.notified wait 0 + 1) % 4294967296
-mark_after e wait below = mark_is (after e wait) wait ∙ get_or-set_same e.notified wait ((get_or e.notified wait 0 + 1) % 4294967296) 0 below
+mark_after : (e : Elements) (wait : ℕ) → wait < length e.notified → mark_of (after e wait) (wait_ring wait) ≡ (get_or e.notified wait 0 + 1) % NOTIFY
+mark_after e wait below = mark_is (after e wait) wait ∙ get_or-set_same e.notified wait ((get_or e.notified wait 0 + 1) % NOTIFY) 0 below
 
 mark_other : (e : Elements) (wait l : ℕ) → l ≢ wait + 2 → mark_of (after e wait) l ≡ mark_of e l
 mark_other e wait zero ne = refl
 mark_other e wait (suc zero) ne = refl
-mark_other e wait (suc (suc w)) ne = get_or-set_other e.notified wait w ((get_or e.notified wait 0 + 1) % 4294967296) 0 (λ is. ne (omega arith))
+mark_other e wait (suc (suc w)) ne = get_or-set_other e.notified wait w ((get_or e.notified wait 0 + 1) % NOTIFY) 0 (λ is. ne (omega arith))
 
 ring_after : (first : ℕ) (e : Elements) (words : List ℕ) (wait word : ℕ) → wait < length e.notified → 66 * (wait_ring wait) + 137 < length words → RingShows first e (wait_ring wait) words
     → word ≡ (head_shown first e (wait_ring wait) + 4294967296) % 18446744073709551616
@@ -54,8 +55,8 @@ ring_after : (first : ℕ) (e : Elements) (words : List ℕ) (wait word : ℕ) �
 ring_after first e words wait word below wide s is =
     let n : ℕ = length (ring_at e (wait_ring wait)).history in
     let old : mark_of e (wait_ring wait) ≡ get_or e.notified wait 0 = mark_is e wait in
-    let new : mark_of (after e wait) (wait_ring wait) ≡ (get_or e.notified wait 0 + 1) % 4294967296 = mark_after e wait below in
-    let near : (get_or e.notified wait 0 + 1) % 4294967296 < 4294967296 = mod-lt (get_or e.notified wait 0 + 1) (omega arith) in
+    let new : mark_of (after e wait) (wait_ring wait) ≡ (get_or e.notified wait 0 + 1) % NOTIFY = mark_after e wait below in
+    let near : (get_or e.notified wait 0 + 1) % NOTIFY < 4294967296 = mod-lt (get_or e.notified wait 0 + 1) (omega arith) in
     let same : (k : ℕ) → k ≢ head_word (wait_ring wait) → get_or (set words (head_word (wait_ring wait)) word) k 0 ≡ get_or words k 0 = λ k ne. get_or-set_other words (head_word (wait_ring wait)) k word 0 ne in
     record {
       capacity = s.capacity;
@@ -64,9 +65,9 @@ ring_after first e words wait word below wide s is =
       bounded = s.bounded;
       marked = subst (λ m. m < 4294967296) (sym new) near;
       head = get_or-set_same words (head_word (wait_ring wait)) word 0 wide ∙ (is
-          ∙ (ap (λ m. (first + n + m * 4294967296 + 4294967296) % 18446744073709551616) old
+          ∙ (ap (λ m. (first + n + m * NOTIFY + 4294967296) % 18446744073709551616) old
           ∙ (one_more (first + n) (get_or e.notified wait 0) s.bounded (subst (λ m. m < 4294967296) old s.marked)
-          ∙ ap (λ m. first + n + m * 4294967296) (sym new))));
+          ∙ ap (λ m. first + n + m * NOTIFY) (sym new))));
       tail = same (tail_word (wait_ring wait)) (λ e. omega arith) ∙ s.tail;
       places = λ run a b. subst (PlaceShows first (ring_at e (wait_ring wait)) run) (sym (same (place_word (wait_ring wait) (first + run)) (λ e. omega arith))) (s.places run a b);
     }

@@ -13,7 +13,7 @@ use Rattle.event_theory.specs.declared.hold.Hold.{Hold}
 use Rattle.event_theory.proofs.Keeping.Places.{slice_get_set_same, slice_get_set_other}
 use Rattle.thread_table.specs.declared.rule.View.{View}
 use Rattle.thread_table.specs.Schedules.{thread_at}
-use Rattle.thread_table.specs.declared.layout.TheConstants.{WORDS}
+use Rattle.thread_table.specs.declared.layout.TheConstants.{WORDS, PROCESSORS, ELEMENTS}
 use Rattle.thread_table.specs.Layout.{processor_word, state_word, done_word}
 use Rattle.thread_table.specs.Shown.{WordsShow, StateShows, processor_shown}
 use Rattle.thread_table.specs.Rules.{HandIs, serves, running}
@@ -59,16 +59,16 @@ not_put id call x (Some element) other = hold_else id element call x (hold id el
 not_served : (v : View) (p q : ℕ) → serves v p ≡ true → serves v q ≡ false → p ≢ q
 not_served v p q served strange same = let e : serves v q ≡ true = ap (serves v) (sym same) ∙ served in absurd (cc)
 
-processors_shown : (id : ℕ) (words : List ℕ) (processors : List (Option Hold)) (p : ℕ) (on : Option ℕ) → p < 8 → length words ≡ WORDS → length processors ≡ 8
-    → ((q : ℕ) → q < 8 → get_or words (processor_word q) 0 ≡ processor_shown (get_or processors q None))
-    → (q : ℕ) → q < 8 → get_or (set words (processor_word p) (processor_shown (processor_of id on))) (processor_word q) 0 ≡ processor_shown (get_or (set processors p (processor_of id on)) q None)
+processors_shown : (id : ℕ) (words : List ℕ) (processors : List (Option Hold)) (p : ℕ) (on : Option ℕ) → p < PROCESSORS → length words ≡ WORDS → length processors ≡ PROCESSORS
+    → ((q : ℕ) → q < PROCESSORS → get_or words (processor_word q) 0 ≡ processor_shown (get_or processors q None))
+    → (q : ℕ) → q < PROCESSORS → get_or (set words (processor_word p) (processor_shown (processor_of id on))) (processor_word q) 0 ≡ processor_shown (get_or (set processors p (processor_of id on)) q None)
 processors_shown id words processors p on below wide long shows q within =
     let word = processor_shown (processor_of id on) in
     read_set (λ k seat. get_or (set words (processor_word p) word) (processor_word k) 0 ≡ processor_shown seat) processors p (processor_of id on) None (omega (arith, long))
     (get_or-set_same words (processor_word p) word 0 (omega (arith, wide))) q
     (λ apart. get_or-set_other words (processor_word p) (processor_word q) word 0 (λ h. apart (omega arith)) ∙ shows q within)
 
-on_words : (id : ℕ) (first : ℕ) (e : Elements) (words : List ℕ) (p : ℕ) (on : Option ℕ) (held : List Hold) → p < 8 → WordsShow first e words
+on_words : (id : ℕ) (first : ℕ) (e : Elements) (words : List ℕ) (p : ℕ) (on : Option ℕ) (held : List Hold) → p < PROCESSORS → WordsShow first e words
     → WordsShow first (seated id e p on held) (set words (processor_word p) (processor_shown (processor_of id on)))
 on_words id first e words p on held below shows =
     let word = processor_shown (processor_of id on) in
@@ -96,7 +96,7 @@ on_leaves id v e p old on held served there others = record {
   steps = λ x may. refl;
 }
 
-on_hand : (id : ℕ) (v : View) (e : Elements) (p : ℕ) (old on : Option ℕ) (held : List Hold) (element : ℕ) (is : Bool) → HandIs id v e → v.claimed ≡ None → p < 8 → element < 64
+on_hand : (id : ℕ) (v : View) (e : Elements) (p : ℕ) (old on : Option ℕ) (held : List Hold) (element : ℕ) (is : Bool) → HandIs id v e → v.claimed ≡ None → p < PROCESSORS → element < ELEMENTS
     → serves v p ≡ true → slice_get e.processors p ≡ Some (processor_of id old)
     → list_any (is_hold id element) held ≡ is → ((x : ℕ) → x ≢ element → list_any (is_hold id x) held ≡ list_any (is_hold id x) e.held)
     → HandIs id (view_with v p on element is) (seated id e p on held)

@@ -8,6 +8,7 @@ use Rattle.std.specs.List.{list_any, position_or_len}
 use Rattle.event_theory.specs.Elements.{Elements, Thread, hold, is_hold, holds, new_thread}
 use Rattle.event_theory.specs.declared.hold.Hold.{Hold}
 use Rattle.event_theory.proofs.Outcomes.{parked_ok, started_ok}
+use Rattle.thread_table.specs.declared.layout.TheConstants.{ELEMENTS}
 use Rattle.thread_table.specs.declared.rule.View.{View}
 use Rattle.thread_table.specs.Schedules.{thread_at}
 use Rattle.thread_table.specs.Layout.{processor_word, state_word, done_word}
@@ -52,7 +53,7 @@ same_steps : (e : Elements) (element : ℕ) (new : Thread) → element < length 
     → (x : ℕ) → (get_or (set e.threads element new) x new_thread).done ≡ (thread_at e x).done
 same_steps e element new below same x = read_set (λ k (t : Thread). t.done ≡ (thread_at e k).done) e.threads element new new_thread below same x (λ apart. refl)
 
-threaded_words : (first : ℕ) (e : Elements) (words : List ℕ) (element : ℕ) (new : Thread) (held : List Hold) (word : ℕ) → element < 64 → WordsShow first e words
+threaded_words : (first : ℕ) (e : Elements) (words : List ℕ) (element : ℕ) (new : Thread) (held : List Hold) (word : ℕ) → element < ELEMENTS → WordsShow first e words
     → new.done ≡ (thread_at e element).done → StateShows new word → WordsShow first (threaded e element new held) (set words (state_word element) word)
 threaded_words first e words element new held word below shows same is =
     let within : element < length e.threads = omega (arith, shows.threads) in
@@ -130,7 +131,7 @@ started_others : (id element c x : ℕ) (was_parked : Bool) (held : List Hold) �
 started_others id element c x true held other = handed_else id element c x held other
 started_others id element c x false held other = ap (list_any (is_hold c x)) (append-nil held)
 
-started_held : (id : ℕ) (v : View) (e : Elements) (element : ℕ) (new : Thread) (was_parked : Bool) → HandIs id v e → element < 64
+started_held : (id : ℕ) (v : View) (e : Elements) (element : ℕ) (new : Thread) (was_parked : Bool) → HandIs id v e → element < ELEMENTS
     → (x : ℕ) → list_any (is_hold id x) (held_after id element was_parked e.held) ≡ get_or (has_after element was_parked v.held) x false
 started_held id v e element new true hand low x =
     held_set id v e (threaded e element new (e.held ++ hold id element ∷ [])) element true hand low (handed id element e.held)

@@ -23,7 +23,7 @@ use Rattle.event_theory.proofs.Keeping.Places.{one, sum_changed, in_joined}
 use Rattle.thread_table.specs.declared.rule.Shape.{Shape}
 use Rattle.thread_table.specs.declared.rule.View.{View}
 use Rattle.thread_table.specs.Schedules.{elements_after, ring_at, element_at, ring_name}
-use Rattle.thread_table.specs.declared.layout.TheConstants.{RINGS, WAITS}
+use Rattle.thread_table.specs.declared.layout.TheConstants.{ELEMENTS, RINGS, PLACES, WAITS, NOTIFY}
 use Rattle.thread_table.specs.Layout.{head_word, tail_word, place_word, wait_ring}
 use Rattle.thread_table.specs.Shown.{RingShows, PlaceShows, head_shown, tail_shown, mark_of}
 use Rattle.thread_table.specs.Rules.{IsActive, Rule, has}
@@ -86,7 +86,7 @@ as_deed P call id at ring item element place word mine there this here p =
     subst (λ (z : ℕ). P z at item place) (sym mine) (subst (λ (z : ℕ). P id z item place) (sym there) (subst (λ (z : ℕ). P id ring z place) (sym this) (subst (P id ring element) (sym here) p)))
 
 -- the exchange of a head
-claim_ring_goes : (key : Shape) (n id ring element : ℕ) (me : Me Unit View) (old new : ℕ) → ring < RINGS → element < 64 → has me.0 element ≡ true → IsActive me.0 → me.0.claimed ≡ None → new ≡ old + 1 → old % 4294967296 + 1 < 4294967296
+claim_ring_goes : (key : Shape) (n id ring element : ℕ) (me : Me Unit View) (old new : ℕ) → ring < RINGS → element < ELEMENTS → has me.0 element ≡ true → IsActive me.0 → me.0.claimed ≡ None → new ≡ old + 1 → old % NOTIFY + 1 < 4294967296
     → Allows (Rule key) n id me (head_word ring) (λ x. either (eqb x old) new x) (claims id ring element (step n (head_word ring) old new none) me)
 claim_ring_goes key n id ring element me old new below known held live none_yet next fits s k _ at _ =
     let v : View = me.0 in let e : Elements = elements_after k.events in let i : ℕ = head_word ring in let y : ℕ = get_or s.words i 0 in
@@ -102,14 +102,14 @@ claim_ring_goes key n id ring element me old new below known held live none_yet 
     (λ miss. (looked v i y (steps_to k) k.events, keeps, tt, kept_look key s k i id y v at live, (refl, (λ hit. absurd (miss hit)), λ _. found_now key s k i id v at)))
 
 pub claims_head : (key : Shape) (n id ring element : ℕ) (me : Me Unit View) (old new call at item place : ℕ) → call ≡ id → at ≡ ring → item ≡ element → place ≡ head_word ring
-    → ring < RINGS → element < 64 → has me.0 element ≡ true → IsActive me.0 → me.0.claimed ≡ None → new ≡ old + 1 → old % 4294967296 + 1 < 4294967296
+    → ring < RINGS → element < ELEMENTS → has me.0 element ≡ true → IsActive me.0 → me.0.claimed ≡ None → new ≡ old + 1 → old % NOTIFY + 1 < 4294967296
     → Allows (Rule key) n id me place (λ x. either (eqb x old) new x) (claims call at item (step n place old new none) me)
 claims_head key n id ring element me old new call at item place mine there this here below known held live none_yet next fits =
     as_deed (λ c l x w. Allows (Rule key) n id me w (λ y. either (eqb y old) new y) (claims c l x (step n w old new none) me)) call id at ring item element place (head_word ring) mine there this here
     (claim_ring_goes key n id ring element me old new below known held live none_yet next fits)
 
 -- the exchange of a wait queue's head for a wait with a ticket
-wait_ring_goes : (key : Shape) (n id wait element ticket : ℕ) (me : Me Unit View) (old new : ℕ) → wait < WAITS → element < 64 → has me.0 element ≡ true → IsActive me.0 → me.0.claimed ≡ None → new ≡ old + 1 → old % 4294967296 + 1 < 4294967296 → old / 4294967296 ≡ ticket
+wait_ring_goes : (key : Shape) (n id wait element ticket : ℕ) (me : Me Unit View) (old new : ℕ) → wait < WAITS → element < ELEMENTS → has me.0 element ≡ true → IsActive me.0 → me.0.claimed ≡ None → new ≡ old + 1 → old % NOTIFY + 1 < 4294967296 → old / NOTIFY ≡ ticket
     → Allows (Rule key) n id me (head_word (wait_ring wait)) (λ x. either (eqb x old) new x) (claims_at id wait element ticket (step n (head_word (wait_ring wait)) old new none) me)
 wait_ring_goes key n id wait element ticket me old new below known held live none_yet next fits is_ticket s k _ at _ =
     let v : View = me.0 in let e : Elements = elements_after k.events in let ring : ℕ = wait + 2 in let i : ℕ = head_word ring in let y : ℕ = get_or s.words i 0 in
@@ -126,7 +126,7 @@ wait_ring_goes key n id wait element ticket me old new below known held live non
     (λ miss. (looked v i y (steps_to k) k.events, keeps, tt, kept_look key s k i id y v at live, (refl, (λ hit. absurd (miss hit)), λ _. found_now key s k i id v at)))
 
 pub claims_head_at : (key : Shape) (n id wait element ticket : ℕ) (me : Me Unit View) (old new call at item number place : ℕ) → call ≡ id → at ≡ wait → item ≡ element → number ≡ ticket → place ≡ head_word (wait_ring wait)
-    → wait < WAITS → element < 64 → has me.0 element ≡ true → IsActive me.0 → me.0.claimed ≡ None → new ≡ old + 1 → old % 4294967296 + 1 < 4294967296 → old / 4294967296 ≡ ticket
+    → wait < WAITS → element < ELEMENTS → has me.0 element ≡ true → IsActive me.0 → me.0.claimed ≡ None → new ≡ old + 1 → old % NOTIFY + 1 < 4294967296 → old / NOTIFY ≡ ticket
     → Allows (Rule key) n id me place (λ x. either (eqb x old) new x) (claims_at call at item number (step n place old new none) me)
 claims_head_at key n id wait element ticket me old new call at item number place mine there this same here below known held live none_yet next fits is_ticket =
     as_deed (λ c l x w. Allows (Rule key) n id me w (λ y. either (eqb y old) new y) (claims_at c l x number (step n w old new none) me)) call id at wait item element place (head_word (wait_ring wait)) mine there this here
@@ -210,7 +210,7 @@ ring_of v w ring sees below = let shows = sees.shows in shows.rings ring below
 
 lawful_ring : (v w : View) (ring : ℕ) → Sees v w.schedule → ring < RINGS → IsLawfulQueue (ring_at (elements_after w.schedule) ring)
 lawful_ring v w ring sees below = let e : Elements = elements_after w.schedule in let shows = sees.shows in let many = shows.queues in let lawful = sees.lawful in
-    every_at IsLawfulQueue e.rings ring (ring_at e ring) (slice_get-get_or e.rings ring (empty_queue 64) (omega arith)) lawful.rings
+    every_at IsLawfulQueue e.rings ring (ring_at e ring) (slice_get-get_or e.rings ring (empty_queue PLACES) (omega arith)) lawful.rings
 
 pub found_head : (v w : View) (found ring : ℕ) → ring < RINGS → Found v (head_word ring) found w → found ≡ head_shown v.first (elements_after w.schedule) ring
 found_head v w found ring below f = let l = ring_of v w ring f.sees below in f.is ∙ l.head
@@ -230,7 +230,7 @@ first_known e ring x lawful below first =
     let there : left q ≡ (x ∷ []) ++ drop 1 (left q) = sym (take-append-drop 1 (left q)) ∙ ap (λ items. items ++ drop 1 (left q)) first in
     let some : in_list x (left q) ≡ in_list x (x ∷ []) + in_list x (drop 1 (left q)) = ap (in_list x) there ∙ in_joined x (x ∷ []) (drop 1 (left q)) in
     let itself : one x x ≡ 1 = rw (eq-eqb x x refl) refl in
-    let sum = sum_changed (λ (r : Queue). in_list x (left r)) e.rings ring q (empty_queue 64) (slice_get-get_or e.rings ring (empty_queue 64) below) in
+    let sum = sum_changed (λ (r : Queue). in_list x (left r)) e.rings ring q (empty_queue PLACES) (slice_get-get_or e.rings ring (empty_queue PLACES) below) in
     dite (dec_lt x (length e.threads)) (λ y. y) (λ no. absurd (omega (arith, lawful.known x (omega arith), some, itself, sum)))
 
 true_unless : (b : Bool) → (b ≡ false → ⊥) → b ≡ true

@@ -12,7 +12,7 @@ use Rattle.event_theory.proofs.Keeping.Elements.{every_at}
 use Rattle.thread_table.specs.declared.rule.View.{View}
 use Rattle.thread_table.specs.declared.rule.Claimed.{Claimed}
 use Rattle.thread_table.specs.Schedules.{QueueGrows, Grows, ring_at, element_at, element_of, no_run}
-use Rattle.thread_table.specs.declared.layout.TheConstants.{RINGS}
+use Rattle.thread_table.specs.declared.layout.TheConstants.{RINGS, PLACES}
 use Rattle.thread_table.specs.Layout.{head_word, tail_word, place_word}
 use Rattle.thread_table.specs.Shown.{WordsShow, RingShows, PlaceShows, mark_of}
 use Rattle.thread_table.specs.Rules.{HandIs, IsClaimed}
@@ -91,10 +91,10 @@ module _ (id : ℕ) (e : Elements) (ring run element : ℕ) (below : ring < leng
   q = ring_at e ring
 
   here : ring_at (after e ring run) ring ≡ after_raise run 0 q
-  here = get_or-set_same e.rings ring (after_raise run 0 q) (empty_queue 64) below
+  here = get_or-set_same e.rings ring (after_raise run 0 q) (empty_queue PLACES) below
 
   else_where : (l : ℕ) → l ≢ ring → ring_at (after e ring run) l ≡ ring_at e l
-  else_where l ne = get_or-set_other e.rings ring l (after_raise run 0 q) (empty_queue 64) ne
+  else_where l ne = get_or-set_other e.rings ring l (after_raise run 0 q) (empty_queue PLACES) ne
 
   element_is : element_at q run ≡ element
   element_is = ap element_of (get_or_from_slice_get q.history run _ no_run at)
@@ -175,7 +175,7 @@ raise_effect id v first e words ring run element ready claimed =
     let mine : IsClaimed id c e = ready.hand.claimed c claimed in
     let known : ring < RINGS = mine.below in
     let below : ring < length e.rings = omega arith in
-    let lawful : IsLawfulQueue (ring_at e ring) = every_at IsLawfulQueue e.rings ring (ring_at e ring) (slice_get-get_or e.rings ring (empty_queue 64) below) ready.lawful.rings in
+    let lawful : IsLawfulQueue (ring_at e ring) = every_at IsLawfulQueue e.rings ring (ring_at e ring) (slice_get-get_or e.rings ring (empty_queue PLACES) below) ready.lawful.rings in
     record {
       f = after e ring run;
       goes = goes id e ring run element below mine.run mine.low;

@@ -15,6 +15,7 @@ use Rattle.event_theory.specs.States.{State, effect, in_elements}
 use Rattle.event_theory.specs.declared.event.Event.{Event}
 use Rattle.event_theory.specs.declared.event.Event.TheVariants as events
 use Rattle.event_theory.specs.declared.refusal.Refusal.{Refusal}
+use Rattle.thread_table.specs.declared.layout.TheConstants.{PROCESSORS, ELEMENTS}
 use Rattle.thread_table.specs.declared.rule.Shape.{Shape}
 use Rattle.thread_table.specs.declared.rule.View.{View}
 use Rattle.thread_table.specs.Schedules.{elements_after, thread_at}
@@ -33,7 +34,7 @@ use Rattle.thread_table.proofs.Events.Parkings.{park_effect, start_effect}
 use Rattle.thread_table.specs.Makers.{is_join}
 
 -- the word of a processor shows what the hand that serves it has there
-processor_found : (key : Shape) (s : St) (k : Rule key s) (id p i : ℕ) (v : View) (on : Option ℕ) → get_elem? s.views id ≡ some v → i ≡ processor_word p → p < 8 → serves v p ≡ true → running v p ≡ on
+processor_found : (key : Shape) (s : St) (k : Rule key s) (id p i : ℕ) (v : View) (on : Option ℕ) → get_elem? s.views id ≡ some v → i ≡ processor_word p → p < PROCESSORS → serves v p ≡ true → running v p ≡ on
     → get_or s.words i 0 ≡ processor_shown (option_map (hold id) on)
 processor_found key s k id p i v on at place low serving has_on =
     let e : Elements = elements_after k.events in let hand : HandIs id v e = k.hands id v at in
@@ -46,7 +47,7 @@ did_at id v w i place found number event knows here is did = subst (λ (z : ℕ)
 
 -- an element is put on a processor, where there was none
 pub puts : (key : Shape) (n id call p element i y : ℕ) (me : Me Unit View) → call ≡ id → i ≡ processor_word p → y ≡ element + 1 → IsActive me.0 → me.0.claimed ≡ None
-    → p < 8 → element < 64 → has me.0 element ≡ true → serves me.0 p ≡ true → running me.0 p ≡ None
+    → p < PROCESSORS → element < ELEMENTS → has me.0 element ≡ true → serves me.0 p ≡ true → running me.0 p ≡ None
     → Allows (Rule key) n id me i (λ x. y) (puts_on call p element (step n i y 0 none) me)
 puts key n id call p element i y me mine place is live free low known held serving empty =
     subst (λ (c : ℕ). Allows (Rule key) n id me i (λ x. y) (puts_on c p element (step n i y 0 none) me)) (sym mine) (λ s k many at fits.
@@ -60,7 +61,7 @@ puts key n id call p element i y me mine place is live free low known held servi
 
 -- the element of a processor is taken off
 pub takes_back : (key : Shape) (n id call p element i : ℕ) (me : Me Unit View) → call ≡ id → i ≡ processor_word p → IsActive me.0 → me.0.claimed ≡ None
-    → p < 8 → serves me.0 p ≡ true → running me.0 p ≡ Some element
+    → p < PROCESSORS → serves me.0 p ≡ true → running me.0 p ≡ Some element
     → Allows (Rule key) n id me i (λ x. 0) (takes_off call p element (step n i 0 0 none) me)
 takes_back key n id call p element i me mine place live free low serving there =
     subst (λ (c : ℕ). Allows (Rule key) n id me i (λ x. 0) (takes_off c p element (step n i 0 0 none) me)) (sym mine) (λ s k many at fits.
@@ -81,7 +82,7 @@ turn_at id element v w i found event knows place did is = let d : Did id v (stat
     record { did = d; is = is }
 
 -- the stop bit of an element is set
-pub stops_state : (key : Shape) (n id call element i : ℕ) (me : Me Unit View) → call ≡ id → i ≡ state_word element → IsActive me.0 → me.0.claimed ≡ None → element < 64
+pub stops_state : (key : Shape) (n id call element i : ℕ) (me : Me Unit View) → call ≡ id → i ≡ state_word element → IsActive me.0 → me.0.claimed ≡ None → element < ELEMENTS
     → Allows (Rule key) n id me i (λ x. bit_or x 65536) (stops call element (step n i 65536 0 none) me)
 stops_state key n id call element i me mine place live free known =
     subst (λ (c : ℕ). Allows (Rule key) n id me i (λ x. bit_or x 65536) (stops c element (step n i 65536 0 none) me)) (sym mine) (λ s k many at fits.
@@ -93,7 +94,7 @@ stops_state key n id call element i me mine place live free known =
     (λ did before words. (refl, turn_at id element v _ i (get_or s.words i 0) _ _ place did (word_seen s.words did.sees.words element i place words))))
 
 -- a signal of an element becomes pending
-pub signals_state : (key : Shape) (n id call element number i bit : ℕ) (me : Me Unit View) → call ≡ id → i ≡ state_word element → bit ≡ 2 ^ number → IsActive me.0 → me.0.claimed ≡ None → element < 64 → number < 16
+pub signals_state : (key : Shape) (n id call element number i bit : ℕ) (me : Me Unit View) → call ≡ id → i ≡ state_word element → bit ≡ 2 ^ number → IsActive me.0 → me.0.claimed ≡ None → element < ELEMENTS → number < 16
     → Allows (Rule key) n id me i (λ x. bit_or x bit) (signals call element number (step n i bit 0 none) me)
 signals_state key n id call element number i bit me mine place is live free known bounded =
     subst (λ (c : ℕ). Allows (Rule key) n id me i (λ x. bit_or x bit) (signals c element number (step n i bit 0 none) me)) (sym mine) (λ s k many at fits.
@@ -142,12 +143,12 @@ bit_set true is = refl
 bit_set false is = absurd (omega arith)
 
 -- where the stop bit of the word is set the element is stopping
-stopping : (key : Shape) (s : St) (k : Rule key s) (element old : ℕ) → element < 64 → get_or s.words (state_word element) 0 ≡ old → bit_at old 16 ≡ 1 → (thread_at (elements_after k.events) element).stop ≡ true
+stopping : (key : Shape) (s : St) (k : Rule key s) (element old : ℕ) → element < ELEMENTS → get_or s.words (state_word element) 0 ≡ old → bit_at old 16 ≡ 1 → (thread_at (elements_after k.events) element).stop ≡ true
 stopping key s k element old known hit is = let shows : StateShows (thread_at (elements_after k.events) element) (get_or s.words (state_word element) 0) = k.shows.states element known in
     bit_set (thread_at (elements_after k.events) element).stop (sym shows.stop ∙ (ap (λ (z : ℕ). bit_at z 16) hit ∙ is))
 
 -- an element that the hand held stands in its stop cell
-pub parks_state : (key : Shape) (n id call element i old new : ℕ) (me : Me Unit View) → call ≡ id → i ≡ state_word element → IsActive me.0 → me.0.claimed ≡ None → element < 64 → has me.0 element ≡ true
+pub parks_state : (key : Shape) (n id call element i old new : ℕ) (me : Me Unit View) → call ≡ id → i ≡ state_word element → IsActive me.0 → me.0.claimed ≡ None → element < ELEMENTS → has me.0 element ≡ true
     → bit_at old 16 ≡ 1 → new ≡ bit_or old 131072
     → Allows (Rule key) n id me i (λ x. either (eqb x old) new x) (parks call element (step n i old new none) me)
 parks_state key n id call element i old new me mine place live free known held stops is = let v : View = me.0 in let w : View = with_held v element false in
@@ -159,7 +160,7 @@ parks_state key n id call element i old new me mine place live free known held s
     (park_effect id v key.first e s.words element (ready_of key s k id v at) free known held (stopping key s k element old known hit stops))))
 
 -- an element that was stopping starts
-pub starts_state : (key : Shape) (n id call element i old new : ℕ) (me : Me Unit View) → call ≡ id → i ≡ state_word element → IsActive me.0 → me.0.claimed ≡ None → element < 64
+pub starts_state : (key : Shape) (n id call element i old new : ℕ) (me : Me Unit View) → call ≡ id → i ≡ state_word element → IsActive me.0 → me.0.claimed ≡ None → element < ELEMENTS
     → bit_at old 16 ≡ 1 → new ≡ bit_and old 65535
     → Allows (Rule key) n id me i (λ x. either (eqb x old) new x) (starts call element (step n i old new none) me)
 starts_state key n id call element i old new me mine place live free known stops is = let v : View = me.0 in
@@ -172,7 +173,7 @@ starts_state key n id call element i old new me mine place live free known stops
     (start_effect id v key.first e s.words element (ready_of key s k id v at) free known (stopping key s k element old known hit stops))))
 
 -- the signals of an element that the hand holds are delivered
-pub delivers_state : (key : Shape) (n id call element i old new : ℕ) (me : Me Unit View) → call ≡ id → i ≡ state_word element → IsActive me.0 → me.0.claimed ≡ None → element < 64 → has me.0 element ≡ true
+pub delivers_state : (key : Shape) (n id call element i old new : ℕ) (me : Me Unit View) → call ≡ id → i ≡ state_word element → IsActive me.0 → me.0.claimed ≡ None → element < ELEMENTS → has me.0 element ≡ true
     → new ≡ bit_and old 196608
     → Allows (Rule key) n id me i (λ x. either (eqb x old) new x) (delivers call element (step n i old new none) me)
 delivers_state key n id call element i old new me mine place live free known held is = let v : View = me.0 in
@@ -184,11 +185,11 @@ delivers_state key n id call element i old new me mine place live free known hel
     (deliver_effect id v key.first e s.words element (ready_of key s k id v at) free known held)))
 
 -- a state word that was found shows the element as it was then
-pub state_found : (element found : ℕ) (v w : View) → element < 64 → Found v (state_word element) found w → StateShows (thread_at (elements_after w.schedule) element) found
+pub state_found : (element found : ℕ) (v w : View) → element < ELEMENTS → Found v (state_word element) found w → StateShows (thread_at (elements_after w.schedule) element) found
 state_found element found v w known f = subst (StateShows (thread_at (elements_after w.schedule) element)) (sym f.is) (f.sees.shows.states element known)
 
 -- the number of steps that an element had done is found
-pub counts_at : (key : Shape) (n id element i : ℕ) (me : Me Unit View) → i ≡ done_word element → IsActive me.0 → element < 64 → MayStep me.0 element
+pub counts_at : (key : Shape) (n id element i : ℕ) (me : Me Unit View) → i ≡ done_word element → IsActive me.0 → element < ELEMENTS → MayStep me.0 element
     → Allows (Rule key) n id me i (λ x. x) (reads_pc element (step n i 0 0 none) me)
 counts_at key n id element i me place live known may =
     subst (λ (z : ℕ). Allows (Rule key) n id me z (λ x. x) (reads_pc element (step n z 0 0 none) me)) (sym place) (counts_done key n id me element known may live)

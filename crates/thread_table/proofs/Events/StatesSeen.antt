@@ -5,6 +5,7 @@ use Rattle.std.specs.Int.{bit_at}
 use Rattle.event_theory.specs.Elements.{Thread}
 use Rattle.event_theory.specs.declared.event.Event.{Event}
 use Rattle.event_theory.specs.declared.event.Event.TheVariants as events
+use Rattle.thread_table.specs.declared.layout.TheConstants.{ELEMENTS}
 use Rattle.thread_table.specs.declared.rule.View.{View}
 use Rattle.thread_table.specs.declared.states.Started.TheVariants as started
 use Rattle.thread_table.specs.declared.states.Signalled.TheVariants as signalled
@@ -32,7 +33,7 @@ bit_off c n is none = sym (told false c n none is)
 
 -- the state word that was found at an event
 pub turns_show : (call element : ℕ) (event : Event) (knows : List Event → View) (word : ℕ) (v w : View) (t : ChangedState call element event knows word v w)
-    → element < 64 → StateShows (thread_at (elements_after t.did.before) element) word
+    → element < ELEMENTS → StateShows (thread_at (elements_after t.did.before) element) word
 turns_show call element event knows word v w t known = subst (StateShows (thread_at (elements_after t.did.before) element)) (sym t.is) (t.did.sees.shows.states element known)
 
 pub stop_answer : (call n element : ℕ) (v : View) (found : ℕ) (w : View) (b : Bool) → n ≡ element → n < 64

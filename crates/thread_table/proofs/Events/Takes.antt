@@ -21,7 +21,7 @@ use Rattle.table_theory.proofs.QueueEvents.{take_goes}
 use Rattle.thread_table.specs.declared.rule.View.{View}
 use Rattle.thread_table.specs.declared.rule.Claimed.{Claimed}
 use Rattle.thread_table.specs.Schedules.{QueueGrows, Grows, ring_at, element_at}
-use Rattle.thread_table.specs.declared.layout.TheConstants.{RINGS}
+use Rattle.thread_table.specs.declared.layout.TheConstants.{ELEMENTS, RINGS, PLACES}
 use Rattle.thread_table.specs.Layout.{head_word, tail_word, place_word}
 use Rattle.thread_table.specs.Shown.{WordsShow, RingShows, PlaceShows, tail_shown, mark_of}
 use Rattle.thread_table.specs.Rules.{HandIs, IsClaimed, has}
@@ -63,7 +63,7 @@ goes : (id : ℕ) (e : Elements) (ring x : ℕ) → ring < length e.rings → Is
     → (ring_at e ring).raised (ring_at e ring).taken 0 ≡ true → element_at (ring_at e ring) (ring_at e ring).taken ≡ x → take_element ring id 1 e ≡ Ok (after e ring id x)
 goes id e ring x below lawful single up is =
     let q : Queue = ring_at e ring in
-    let found : at ring e.rings ≡ Ok q = ap (λ o. ok_or o UnknownName) (slice_get-get_or e.rings ring (empty_queue 64) below) in
+    let found : at ring e.rings ≡ Ok q = ap (λ o. ok_or o UnknownName) (slice_get-get_or e.rings ring (empty_queue PLACES) below) in
     let took : take_first 1 1 q ≡ Ok (after_take 1 q) = take_goes 1 1 q (omega arith) (omega arith) (first_is_raised q lawful single up) in
     ap (λ said. said >>= λ old. take_first 1 1 old >>= λ new. Ok (record e { rings = set e.rings ring new; held = e.held ++ map (hold id) (take 1 (left old)) })) found
     ∙ (ap (λ said. said >>= λ new. Ok (record e { rings = set e.rings ring new; held = e.held ++ map (hold id) (take 1 (left q)) })) took
@@ -76,7 +76,7 @@ first_known e ring x lawful below first =
     let there : left q ≡ (x ∷ []) ++ drop 1 (left q) = sym (take-append-drop 1 (left q)) ∙ ap (λ items. items ++ drop 1 (left q)) first in
     let some : in_list x (left q) ≡ in_list x (x ∷ []) + in_list x (drop 1 (left q)) = ap (in_list x) there ∙ in_joined x (x ∷ []) (drop 1 (left q)) in
     let itself : one x x ≡ 1 = rw (eq-eqb x x refl) refl in
-    let sum = sum_changed (λ (r : Queue). in_list x (left r)) e.rings ring q (empty_queue 64) (slice_get-get_or e.rings ring (empty_queue 64) below) in
+    let sum = sum_changed (λ (r : Queue). in_list x (left r)) e.rings ring q (empty_queue PLACES) (slice_get-get_or e.rings ring (empty_queue PLACES) below) in
     dite (dec_lt x (length e.threads)) (λ y. y) (λ no. absurd (omega (arith, lawful.known x (omega arith), some, itself, sum)))
 
 held_after : (id : ℕ) (v : View) (e : Elements) (x : ℕ) → x < length v.held → ((element : ℕ) → holds id element e ≡ has v element)
@@ -86,7 +86,7 @@ held_after id v e x below before element = dite (ℕ_discrete element x)
     (holds_now id x e.held ∙ sym (get_or-set_same v.held x true false below)))
     (λ ne. holds_other id x e.held id element ne ∙ (before element ∙ sym (get_or-set_other v.held x element true false ne)))
 
-hand_after : (id : ℕ) (v : View) (e : Elements) (ring x : ℕ) → HandIs id v e → v.claimed ≡ None → x < 64 → HandIs id (with_held v x true) (after e ring id x)
+hand_after : (id : ℕ) (v : View) (e : Elements) (ring x : ℕ) → HandIs id v e → v.claimed ≡ None → x < ELEMENTS → HandIs id (with_held v x true) (after e ring id x)
 hand_after id v e ring x h none known =
     let long = h.held_long in
     record {
@@ -122,10 +122,10 @@ module _ (id : ℕ) (e : Elements) (ring x : ℕ) (below : ring < length e.rings
   q = ring_at e ring
 
   here : ring_at (after e ring id x) ring ≡ after_take 1 q
-  here = get_or-set_same e.rings ring (after_take 1 q) (empty_queue 64) below
+  here = get_or-set_same e.rings ring (after_take 1 q) (empty_queue PLACES) below
 
   else_where : (l : ℕ) → l ≢ ring → ring_at (after e ring id x) l ≡ ring_at e l
-  else_where l ne = get_or-set_other e.rings ring l (after_take 1 q) (empty_queue 64) ne
+  else_where l ne = get_or-set_other e.rings ring l (after_take 1 q) (empty_queue PLACES) ne
 
   grown : Grows e (after e ring id x)
   grown =
@@ -176,9 +176,9 @@ take_effect id v first e words ring ready none known up =
     let x : ℕ = element_at q q.taken in
     let below : ring < length e.rings = omega arith in
     let mine : RingShows first e ring words = shows.rings ring known in
-    let lawful : IsLawfulQueue q = every_at IsLawfulQueue e.rings ring q (slice_get-get_or e.rings ring (empty_queue 64) below) ready.lawful.rings in
+    let lawful : IsLawfulQueue q = every_at IsLawfulQueue e.rings ring q (slice_get-get_or e.rings ring (empty_queue PLACES) below) ready.lawful.rings in
     let is_known : x < length e.threads = first_known e ring x ready.lawful below (first_of_left q lawful mine.single up) in
-    let bounded : x < 64 = omega arith in
+    let bounded : x < ELEMENTS = omega arith in
     record {
       f = after e ring id x;
       goes = goes id e ring x below lawful mine.single up refl;

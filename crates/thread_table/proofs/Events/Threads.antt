@@ -7,6 +7,7 @@ use Rattle.event_theory.specs.Chains.{with_number}
 use Rattle.event_theory.specs.Elements.{Elements, Thread, new_thread, stop, signal, deliver}
 use Rattle.event_theory.specs.declared.refusal.Refusal.{Refusal}
 use Rattle.event_theory.proofs.Outcomes.{changed, delivered_ok, done_ok}
+use Rattle.thread_table.specs.declared.layout.TheConstants.{ELEMENTS}
 use Rattle.thread_table.specs.declared.rule.View.{View}
 use Rattle.thread_table.specs.declared.rule.Counted.{Counted}
 use Rattle.thread_table.specs.Schedules.{Grows, thread_at}
@@ -50,7 +51,7 @@ each_thread : (P : ℕ → Thread → Type 0) (e : Elements) (element x : ℕ) (
 each_thread P e element x new known here else = thread_by P e element x new known here else (eqb_tells x element)
 
 -- there is such an element
-found : (e : Elements) (element : ℕ) → length e.threads ≡ 64 → element < 64 → slice_get e.threads element ≡ Some (thread_at e element)
+found : (e : Elements) (element : ℕ) → length e.threads ≡ 64 → element < ELEMENTS → slice_get e.threads element ≡ Some (thread_at e element)
 found e element many known = slice_get-get_or e.threads element new_thread (subst (λ n. element < n) (sym many) known)
 
 -- what others have stays, where only the call that may step counts
@@ -98,7 +99,7 @@ ring_else first e ring element new words place word before shows = record {
 }
 
 -- the words after one thread's state changed
-state_shown : (first : ℕ) (e : Elements) (words : List ℕ) (element word : ℕ) (new : Thread) → element < 64 → WordsShow first e words
+state_shown : (first : ℕ) (e : Elements) (words : List ℕ) (element word : ℕ) (new : Thread) → element < ELEMENTS → WordsShow first e words
     → new.done ≡ (thread_at e element).done → StateShows new word → WordsShow first (with_thread e element new) (set words (state_word element) word)
 state_shown first e words element word new known shows steps state =
     let below : element < length e.threads = subst (λ n. element < n) (sym shows.threads) known in
@@ -122,7 +123,7 @@ state_shown first e words element word new known shows steps state =
     }
 
 -- the words after one thread did a step
-done_shown : (first : ℕ) (e : Elements) (words : List ℕ) (element count : ℕ) → element < 64 → WordsShow first e words
+done_shown : (first : ℕ) (e : Elements) (words : List ℕ) (element count : ℕ) → element < ELEMENTS → WordsShow first e words
     → (thread_at e element).done ≡ count → count < 4294967295
     → WordsShow first (with_thread e element (record (thread_at e element) { done = (thread_at e element).done + 1 })) (set words (done_word element) (count + 1))
 done_shown first e words element count known shows is_count room =
@@ -131,7 +132,7 @@ done_shown first e words element count known shows is_count room =
     let here : get_or (set words (done_word element) (count + 1)) (done_word element) 0 ≡ count + 1 =
     get_or-set_same words (done_word element) (count + 1) 0 (subst (λ n. done_word element < n) (sym shows.wide) (omega arith)) in
     let state : StateShows (thread_at e element) (get_or words (state_word element) 0) = shows.states element known in
-    let same : (x : ℕ) → x < 64 → get_or (set words (done_word element) (count + 1)) (state_word x) 0 ≡ get_or words (state_word x) 0 =
+    let same : (x : ℕ) → x < ELEMENTS → get_or (set words (done_word element) (count + 1)) (state_word x) 0 ≡ get_or words (state_word x) 0 =
     λ x is. word_else words (done_word element) (state_word x) (count + 1) (λ eq. omega arith) in
     record {
       wide = length-set words (done_word element) (count + 1) ∙ shows.wide;
@@ -152,7 +153,7 @@ done_shown first e words element count known shows is_count room =
 
 -- the effect of an event that changes one thread's state
 state_effect : (id : ℕ) (v : View) (first : ℕ) (event : Elements → Result Elements Refusal) (e : Elements) (words : List ℕ) (element word : ℕ) (new : Thread)
-    → Ready id v first e words → v.claimed ≡ None → element < 64 → event e ≡ Ok (with_thread e element new) → new.done ≡ (thread_at e element).done → StateShows new word
+    → Ready id v first e words → v.claimed ≡ None → element < ELEMENTS → event e ≡ Ok (with_thread e element new) → new.done ≡ (thread_at e element).done → StateShows new word
     → Effect id v (quiet v) first event e (set words (state_word element) word)
 state_effect id v first event e words element word new ready free known goes steps state = record {
   f = with_thread e element new;

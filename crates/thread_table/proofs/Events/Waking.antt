@@ -19,7 +19,7 @@ use Rattle.thread_table.specs.declared.rule.View.{View}
 use Rattle.thread_table.specs.declared.takings.NextRefusal.{NextRefusal}
 use Rattle.thread_table.specs.declared.takings.NextRefusal.TheVariants as nexts
 use Rattle.thread_table.specs.Schedules.{Course, elements_after, ring_at, ring_name, element_at, state_after}
-use Rattle.thread_table.specs.declared.layout.TheConstants.{WAITS}
+use Rattle.thread_table.specs.declared.layout.TheConstants.{ELEMENTS, PLACES, WAITS, NOTIFY}
 use Rattle.thread_table.specs.Layout.{tail_word, wait_ring}
 use Rattle.thread_table.specs.Shown.{tail_shown}
 use Rattle.thread_table.specs.Rules.{has}
@@ -49,14 +49,14 @@ pub record Woken (call ring : ℕ) (u : View) (mask : ℕ) (w : View) : Type 0 w
   pub first : w.first ≡ u.first
   pub same : w ≡ held_as u w
   pub made : (l : List Made) × (w.made ≡ u.made ++ l) × AreTakesOf call ring l
-  pub holds : (e : ℕ) → e < 64 → has w e ≡ (has u e || is_in mask e)
-  pub woken : (e : ℕ) → e < 64 → is_in mask e ≡ true → has u e ≡ false
+  pub holds : (e : ℕ) → e < ELEMENTS → has w e ≡ (has u e || is_in mask e)
+  pub woken : (e : ℕ) → e < ELEMENTS → is_in mask e ≡ true → has u e ≡ false
 
 -- by these tries
 pub record Rounds (call ring head : ℕ) (u : View) (mask : ℕ) (w : View) : Type 0 where
   pub answers : List (Result ℕ NextRefusal)
   pub tries : Tries call ring head u answers w
-  pub mask_is : (e : ℕ) → e < 64 → is_in mask e ≡ is_among (taken_in answers) e
+  pub mask_is : (e : ℕ) → e < ELEMENTS → is_in mask e ≡ is_among (taken_in answers) e
 
 or_none : (b : Bool) → b ≡ (b || false)
 or_none true = refl
@@ -154,7 +154,7 @@ first_in_list element (x ∷ xs) is =
     omega (arith, sum_by-cons (λ y. one y element) x xs, ap (λ y. one y element) e, one_itself element)
 
 -- an empty queue has no first
-pub first_of_empty : (element : ℕ) (q : Queue) → q ≡ empty_queue 64 → take 1 (left q) ≡ element ∷ [] → ⊥
+pub first_of_empty : (element : ℕ) (q : Queue) → q ≡ empty_queue PLACES → take 1 (left q) ≡ element ∷ [] → ⊥
 first_of_empty element q empty some = let n : ◌≡◌ {A = List ℕ} [] (element ∷ []) = ap (λ (z : Queue). take 1 (left z)) (sym empty) ∙ some in cc
 
 -- the first element of a queue stands in a queue
@@ -162,8 +162,8 @@ pub first_in_rings : (element ring : ℕ) (e : Elements) → take 1 (left (ring_
 first_in_rings element ring e is = by (cases_lt ring (length e.rings))
   where
     by : (ring < length e.rings) ⊎ (length e.rings ≤ ring) → 1 ≤ sum_by (λ q. in_list element (left q)) e.rings
-    by (inl below) = omega (arith, first_in_list element (left (ring_at e ring)) is, get_or-le-sum_by (λ q. in_list element (left q)) e.rings ring (empty_queue 64) below)
-    by (inr past) = absurd (first_of_empty element (ring_at e ring) (get_or-eq_default e.rings (empty_queue 64) past) is)
+    by (inl below) = omega (arith, first_in_list element (left (ring_at e ring)) is, get_or-le-sum_by (λ q. in_list element (left q)) e.rings ring (empty_queue PLACES) below)
+    by (inr past) = absurd (first_of_empty element (ring_at e ring) (get_or-eq_default e.rings (empty_queue PLACES) past) is)
 
 -- an element that is first in a queue is in nobody's hands
 first_unheld : (call element ring : ℕ) (e : Elements) → IsLawfulElements e → take 1 (left (ring_at e ring)) ≡ element ∷ [] → holds call element e ≡ false
@@ -191,7 +191,7 @@ abbrev took_from : ℕ → ℕ → ℕ → Course → List Event → View → Vi
 took_from call ring tail past before z =
     made_by (with_held z (element_at (ring_at (elements_after before) ring) (ring_at (elements_after before) ring).taken) true) (tail_word ring) tail past before (events.Take call (ring_name ring) 1)
 
-took_more : (call ring element : ℕ) (u v w : View) (mask : ℕ) → element < 64 → Woken call ring u mask v → TookFirst call v ring element w → Woken call ring u (bit_or mask (2 ^ element)) w
+took_more : (call ring element : ℕ) (u v w : View) (mask : ℕ) → element < ELEMENTS → Woken call ring u mask v → TookFirst call v ring element w → Woken call ring u (bit_or mask (2 ^ element)) w
 took_more call ring element u v w mask bounded past t = record {
   same = as_held u w (took_from call ring t.tail t.took.did.past t.took.did.before (seen_as (held_as u v) t.before)) (t.took.did.same ∙ ap (took_from call ring t.tail t.took.did.past t.took.did.before) (t_looked.same ∙ ap (λ (z : View). seen_as z t.before) past.same)) refl;
   made = (past.made.0 ++ one, ap (λ (z : View). z.made) t.took.did.same ∙ (ap (λ (z : View). z.made ++ one) t_looked.same ∙ (ap (λ (l : List Made). l ++ one) past.made.1 ∙ append_assoc u.made past.made.0 one)), λ m x has. ⊎_elim (λ h. past.made.2 m x h) (λ h. ap (λ (z : Made). z.event) (sym h.1)) (at_push past.made.0 (made_in (events.Take call (ring_name ring) 1) (state_after t.took.did.before)) x m has));
@@ -212,7 +212,7 @@ took_more call ring element u v w mask bounded past t = record {
     new : has u element ≡ false
     new = neither (has u element) (is_in mask element) (sym (past.holds element bounded) ∙ took_unheld call ring element v w t)
 
-    by : (e : ℕ) → e < 64 → (is_in mask e ≡ true) ⊎ (eqb e element ≡ true) → ((eqb e element ≡ true) × (e ≡ element)) ⊎ ((eqb e element ≡ false) × (e ≢ element)) → has u e ≡ false
+    by : (e : ℕ) → e < ELEMENTS → (is_in mask e ≡ true) ⊎ (eqb e element ≡ true) → ((eqb e element ≡ true) × (e ≡ element)) ⊎ ((eqb e element ≡ false) × (e ≢ element)) → has u e ≡ false
     by e below (inl old) known = past.woken e below old
     by e below (inr is) (inl same) = ap (λ k. has u k) same.1 ∙ new
     by e below (inr is) (inr other) = absurd (let o = other.0 in cc)
@@ -242,7 +242,7 @@ woken_missed call ring u v w mask (nexts.Lost seen) past answer = woken_looked c
     answer)
 
 -- the notify, and then all that was claimed before it was taken
-pub woke_all : (call wait ring word head mark tail mask : ℕ) (v u l w : View) → wait < WAITS → ring ≡ wait + 2 → Notifies call wait v word u → word ≡ head + mark * 4294967296 → head < 4294967296
+pub woke_all : (call wait ring word head mark tail mask : ℕ) (v u l w : View) → wait < WAITS → ring ≡ wait + 2 → Notifies call wait v word u → word ≡ head + mark * NOTIFY → head < 4294967296
     → Woken call ring u mask l → Rounds call ring head u mask l → Found l (tail_word ring) tail w → head ≤ tail → WokeAll call v wait mask w
 woke_all call wait ring word head mark tail mask v u l w few at n is bounded before rounds found reached =
     let seen = found_looked l w _ _ found in let past = woken_looked call ring u l w mask before seen in
@@ -270,7 +270,7 @@ woke_all call wait ring word head mark tail mask v u l w few at n is bounded bef
     has_same e = ap (λ (z : View). has z e) n.did.same
 
 -- one notify, and the head that it found
-pub notified_now : (call wait word head mark : ℕ) (v u : View) → wait < WAITS → Notifies call wait v word u → word ≡ head + mark * 4294967296 → head < 4294967296 → NotifiedNow call v wait head u
+pub notified_now : (call wait word head mark : ℕ) (v u : View) → wait < WAITS → Notifies call wait v word u → word ≡ head + mark * NOTIFY → head < 4294967296 → NotifiedNow call v wait head u
 notified_now call wait word head mark v u few n is bounded = record {
   word = word;
   notifies = n;

@@ -9,6 +9,7 @@ use Rattle.table_theory.specs.declared.views.Member.{Member}
 use Rattle.table_theory.specs.Members.{EndsKnown, with_split, with_join}
 use Rattle.event_theory.specs.Elements.{Elements, hold, holds, is_hold, is_put}
 use Rattle.table_theory.proofs.Members.{known_look, known_tally, known_up, known_down, tallied, counted_more, counted_less}
+use Rattle.thread_table.specs.declared.layout.TheConstants.{ELEMENTS}
 use Rattle.thread_table.specs.declared.rule.Shape.{Shape}
 use Rattle.thread_table.specs.declared.rule.View.{View}
 use Rattle.thread_table.specs.declared.rule.Counted.{Counted}
@@ -114,7 +115,7 @@ may_of call v e element h may = ⊎_elim
     may
 
 -- the number of steps that an element had done is found
-pub counts_done : (key : Shape) (n id : ℕ) (me : Me Unit View) (element : ℕ) → element < 64 → MayStep me.0 element → IsActive me.0 → Allows (Rule key) n id me (done_word element) (λ x. x) (reads_pc element (step n (done_word element) 0 0 none) me)
+pub counts_done : (key : Shape) (n id : ℕ) (me : Me Unit View) (element : ℕ) → element < ELEMENTS → MayStep me.0 element → IsActive me.0 → Allows (Rule key) n id me (done_word element) (λ x. x) (reads_pc element (step n (done_word element) 0 0 none) me)
 counts_done key n id me element known may live s k _ at _ = let v : View = me.0 in let e : Elements = elements_after k.events in let i : ℕ = done_word element in let found : ℕ = get_or s.words i 0 in
     let w : View = record (looked v i found (steps_to k) k.events) { counted = Some (count_of element found) } in let is : found ≡ (thread_at e element).done = k.shows.steps element known in
     let same : set s.words i found ≡ s.words = set-get_or s.words i 0 in (

@@ -6,6 +6,7 @@ use Rattle.event_theory.specs.Elements.{Elements, holds}
 use Rattle.event_theory.specs.Appearances.{appearances}
 use Rattle.event_theory.specs.Lawful.{IsLawfulElements}
 use Rattle.event_theory.proofs.Keeping.Places.{in_hands}
+use Rattle.thread_table.specs.declared.layout.TheConstants.{ELEMENTS}
 use Rattle.thread_table.specs.declared.rule.View.{View}
 use Rattle.thread_table.specs.declared.rule.Claimed.{Claimed}
 use Rattle.thread_table.specs.Rules.{HandIs, IsClaimed}
@@ -27,7 +28,7 @@ read_set P xs i new d below here j others = by (cases_eq j i)
     by (inr apart) = subst (P j) (sym (get_or-set_other xs i j new d apart)) (others apart)
 
 -- the view with this element as held or not, where nothing else of the call changed
-pub held_set : (id : ℕ) (v : View) (e f : Elements) (element : ℕ) (is : Bool) → HandIs id v e → element < 64 → holds id element f ≡ is
+pub held_set : (id : ℕ) (v : View) (e f : Elements) (element : ℕ) (is : Bool) → HandIs id v e → element < ELEMENTS → holds id element f ≡ is
     → ((x : ℕ) → x ≢ element → holds id x f ≡ holds id x e) → (x : ℕ) → holds id x f ≡ get_or (set v.held element is) x false
 held_set id v e f element is hand below own others x =
     read_set (λ k b. holds id k f ≡ b) v.held element is false (omega (arith, hand.held_long)) own x (λ apart. others x apart ∙ hand.held x)

@@ -16,6 +16,7 @@ use Rattle.table_theory.proofs.Ends.{begins_on}
 use Rattle.table_theory.proofs.Members.{known_look}
 use Rattle.table_theory.proofs.Totals.{two_of}
 use Rattle.table_theory.proofs.Owned.{at_below}
+use Rattle.thread_table.specs.declared.layout.TheConstants.{ELEMENTS}
 use Rattle.thread_table.specs.declared.rule.Shape.{Shape}
 use Rattle.thread_table.specs.declared.rule.View.{View}
 use Rattle.thread_table.specs.Schedules.{Course, state_after, elements_after, Grows, thread_at}
@@ -38,7 +39,7 @@ use Rattle.thread_table.proofs.Schedule.Schedules.{after_more, elements_after_mo
 
 -- an element whose step a call may count is no other call's
 abbrev pub OthersCount : Type 0
-OthersCount = (id call element : ℕ) (e : Elements) → IsLawfulElements e → length e.threads ≡ 64 → element < 64 → call ≢ id → may_step call element e ≡ true → may_step id element e ≡ false
+OthersCount = (id call element : ℕ) (e : Elements) → IsLawfulElements e → length e.threads ≡ 64 → element < ELEMENTS → call ≢ id → may_step call element e ≡ true → may_step id element e ≡ false
 
 -- what was seen is still earlier after one event more
 pub seen_more : (u : View) (events : List Event) (event : Event) → Seen u events → Grows (elements_after events) (elements_after (events ++ event ∷ [])) → Seen u (events ++ event ∷ [])

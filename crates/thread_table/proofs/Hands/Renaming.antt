@@ -9,6 +9,7 @@ use Rattle.event_theory.specs.Queues.{Queue, empty_queue, renamed, join_run, joi
 use Rattle.event_theory.specs.Runs.{Run}
 use Rattle.event_theory.specs.declared.hold.Hold.{Hold}
 use Rattle.event_theory.proofs.Keeping.Joins.{slice_get_joined}
+use Rattle.thread_table.specs.declared.layout.TheConstants.{PLACES, NOTIFY}
 use Rattle.thread_table.specs.declared.rule.Claimed.{Claimed}
 use Rattle.thread_table.specs.declared.rule.Counted.{Counted}
 use Rattle.thread_table.specs.Schedules.{ring_at, element_of, no_run, QueueGrows, Grows}
@@ -121,7 +122,7 @@ pub processor_renamed : (id other call name p : ℕ) (e : Elements) (r : Option 
 processor_renamed id other call name p e r is at = slice_get-map (option_map (join_hold id other)) e.processors p
     ∙ (ap (option_map (option_map (join_hold id other))) at ∙ (ap Some (put_renamed id other call r) ∙ ap (λ (n : ℕ). Some (option_map (hold n) r)) is))
 
-queue_of_joined : (id other : ℕ) (rings : List Queue) (ring : ℕ) → get_or (map (join_queue id other) rings) ring (empty_queue 64) ≡ join_queue id other (get_or rings ring (empty_queue 64))
+queue_of_joined : (id other : ℕ) (rings : List Queue) (ring : ℕ) → get_or (map (join_queue id other) rings) ring (empty_queue PLACES) ≡ join_queue id other (get_or rings ring (empty_queue PLACES))
 queue_of_joined id other [] ring = refl
 queue_of_joined id other (q ∷ rings) zero = refl
 queue_of_joined id other (q ∷ rings) (suc ring) = queue_of_joined id other rings ring
@@ -190,7 +191,7 @@ ring_shows id other first ring e words h = let f : Elements = join_elements id o
       single = λ number run at. single_by id other (slice_get q.history number) run (h.single number) (sym (ap (λ (z : Queue). slice_get z.history number) is ∙ slice_get_joined id other q.history number) ∙ at);
       bounded = omega (arith, h.bounded);
       marked = omega (arith, h.marked);
-      head = h.head ∙ sym (ap₂ (λ (n k : ℕ). first + n + k * 4294967296) long m);
+      head = h.head ∙ sym (ap₂ (λ (n k : ℕ). first + n + k * NOTIFY) long m);
       tail = h.tail ∙ sym (ap (λ (n : ℕ). first + n) taken);
       places = λ run from to. subst (λ (z : Queue). PlaceShows first z run (get_or words (place_word ring (first + run)) 0)) (sym is)
           (place_joined id other first run (get_or words (place_word ring (first + run)) 0) q (h.places run (omega arith) (omega arith)));

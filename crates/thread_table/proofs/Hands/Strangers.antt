@@ -7,6 +7,7 @@ use Rattle.event_theory.specs.Appearances.{appearances, is_on}
 use Rattle.event_theory.specs.Elements.{Elements, is_hold, holds, is_put}
 use Rattle.event_theory.specs.Lawful.{IsLawfulElements}
 use Rattle.event_theory.specs.declared.hold.Hold.{Hold}
+use Rattle.thread_table.specs.declared.layout.TheConstants.{ELEMENTS}
 use Rattle.thread_table.specs.Rules.{may_step}
 
 abbrev bit : Bool → ℕ
@@ -54,7 +55,7 @@ one_of false true true d most is = absurd (omega arith)
 one_of false false true true most is = absurd (omega arith)
 one_of false false true false most is = refl
 
-pub others_count : (id call element : ℕ) (e : Elements) → IsLawfulElements e → length e.threads ≡ 64 → element < 64 → call ≢ id
+pub others_count : (id call element : ℕ) (e : Elements) → IsLawfulElements e → length e.threads ≡ 64 → element < ELEMENTS → call ≢ id
     → may_step call element e ≡ true → may_step id element e ≡ false
 others_count id call element e lawful many known differ may =
     let once : appearances element e ≡ 1 = lawful.once element (subst (λ n. element < n) (sym many) known) in

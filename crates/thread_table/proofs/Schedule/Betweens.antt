@@ -7,6 +7,7 @@ use Rattle.event_theory.specs.declared.event.Event.{Event}
 use Rattle.event_theory.proofs.Keeping.Steps.{schedule_law}
 use Rattle.event_theory.proofs.Keeping.Accounts.{account_law}
 use Rattle.atomic_table.specs.Table as tables
+use Rattle.thread_table.specs.declared.layout.TheConstants.{ELEMENTS}
 use Rattle.thread_table.specs.declared.rule.Shape.{Shape}
 use Rattle.thread_table.specs.declared.rule.View.{View}
 use Rattle.thread_table.specs.Schedules.{begun, state_after, elements_after, IsAllowed}
@@ -18,13 +19,13 @@ use Rattle.thread_table.proofs.Closing.Retiring.{are_retired}
 use Rattle.thread_table.proofs.Schedule.Schedules.{elements_of}
 
 -- events that were allowed lead from the first state to the one that they are said to lead to
-pub reached : (events : List Event) → IsAllowed events → Reaches (first_state 64) events (state_after events)
+pub reached : (events : List Event) → IsAllowed events → Reaches (first_state ELEMENTS) events (state_after events)
 unfolding IsAllowed begun
 reached events allowed = allowed
 
 pub shows_elements : (key : Shape) (s : tables.State Unit View) → Rule key s → ShowsElements key s
 shows_elements key s k =
-    let there : Reaches (first_state 64) k.events (state_after k.events) = reached k.events k.allowed in
+    let there : Reaches (first_state ELEMENTS) k.events (state_after k.events) = reached k.events k.allowed in
     let lawful = schedule_law 64 k.events (state_after k.events) there in
     let same : elements_after k.events ≡ (state_after k.events).elements = elements_of k.events in record {
       events = k.events;

@@ -20,6 +20,7 @@ use Rattle.event_theory.specs.declared.event.Event.TheVariants as events
 use Rattle.std.proofs.lemmas.List.{append-nil}
 use Rattle.std.proofs.lemmas.List.FromFn.{length-range_with_len}
 use Rattle.event_theory.specs.Elements.{Elements}
+use Rattle.thread_table.specs.declared.layout.TheConstants.{ELEMENTS}
 use Rattle.thread_table.specs.declared.rule.View.{View}
 use Rattle.thread_table.specs.Rules.{done_at}
 use Rattle.thread_table.specs.Steps.{Did}
@@ -138,7 +139,7 @@ numbers_counted x s (event ∷ es) =
 -- the numbers of an element's steps are 1, 2, and so on up to its steps done
 pub numbers_are : (past : List Event) → IsAllowed past → (x : ℕ) → map (λ (m : Made). m.number + 1) (filter (counts_step x) (numbered begun past)) ≡ range_with_len 1 (done_of x (state_after past))
 unfolding IsAllowed begun
-numbers_are past allowed x = let a : IsAccounted (first_state 64) past (state_after past) = account_law 64 past (state_after past) allowed in numbers_counted x (first_state 64) past ∙ a.done x
+numbers_are past allowed x = let a : IsAccounted (first_state ELEMENTS) past (state_after past) = account_law 64 past (state_after past) allowed in numbers_counted x (first_state ELEMENTS) past ∙ a.done x
 
 all_numbers : (past : List Event) → IsAllowed past → (x : ℕ) → (d : ℕ) × (map (λ (m : Made). m.number + 1) (filter (counts_step x) (numbered begun past)) ≡ range_with_len 1 d)
 all_numbers past allowed x = (done_of x (state_after past), numbers_are past allowed x)

@@ -9,6 +9,7 @@ use Rattle.event_theory.specs.Schedules.{Reaches}
 use Rattle.event_theory.specs.States.{State, first_state, step}
 use Rattle.event_theory.specs.declared.event.Event.{Event}
 use Rattle.event_theory.specs.declared.refusal.Refusal.{Refusal}
+use Rattle.thread_table.specs.declared.layout.TheConstants.{ELEMENTS}
 use Rattle.thread_table.specs.Schedules.{after, begun, state_after, elements_after, IsAllowed, QueueGrows, Grows}
 use Rattle.table_theory.specs.Ends.{Begins}
 
@@ -38,7 +39,7 @@ unfolding state_after IsAllowed
 allowed_before past events b allowed = allowed_first begun past b.0 (after begun events) (subst (λ (z : List Event). Reaches begun z (after begun events)) (sym b.1) allowed)
 
 -- no event
-pub after_none : (state_after [] ≡ first_state 64) × IsAllowed []
+pub after_none : (state_after [] ≡ first_state ELEMENTS) × IsAllowed []
 unfolding state_after IsAllowed after begun
 after_none = (refl, refl)
 

@@ -18,8 +18,8 @@ use Rattle.table_theory.proofs.Members.{known_first}
 use Rattle.thread_table.specs.declared.rule.Shape.{Shape}
 use Rattle.thread_table.specs.declared.rule.View.{View}
 use Rattle.thread_table.specs.Schedules.{elements_after, ring_at, thread_at, element_at, element_of, no_run}
-use Rattle.thread_table.specs.declared.layout.TheConstants.{WORDS, RINGS}
-use Rattle.thread_table.specs.Layout.{head_word, tail_word, place_word}
+use Rattle.thread_table.specs.declared.layout.TheConstants.{WORDS, ELEMENTS, RINGS, PLACES}
+use Rattle.thread_table.specs.Layout.{head_word, tail_word, place_word, free_ring}
 use Rattle.thread_table.specs.Shown.{WordsShow, RingShows, StateShows, processor_shown, mark_of}
 use Rattle.thread_table.specs.Rules.{IsSteady, IsNewest, Rule, HandIs, Seen, IsOpen, newcomer, member_of, IsIdle}
 use Rattle.thread_table.proofs.Events.Owing.{AllOwned}
@@ -30,7 +30,7 @@ use Rattle.thread_table.proofs.Lists.Copies.{length-copies, get_or-copies, slice
 use Rattle.thread_table.proofs.Schedule.Schedules.{after_none, elements_of, grows_refl}
 
 -- an element queue that is empty, and whose words are as they were made
-empty_shows : (first ring : ℕ) (e : Elements) (words : List ℕ) → ring_at e ring ≡ empty_queue 64 → mark_of e ring ≡ 0 → first + 64 < 4294967296 → get_or words (head_word ring) 0 ≡ first → get_or words (tail_word ring) 0 ≡ first
+empty_shows : (first ring : ℕ) (e : Elements) (words : List ℕ) → ring_at e ring ≡ empty_queue PLACES → mark_of e ring ≡ 0 → first + 64 < 4294967296 → get_or words (head_word ring) 0 ≡ first → get_or words (tail_word ring) 0 ≡ first
     → ((i : ℕ) → i < 64 → get_or words (66 * ring + 139 + i) 0 ≡ 0) → RingShows first e ring words
 empty_shows first ring e words is none fits head tail zeros =
     let long : length (ring_at e ring).history ≡ 0 = ap (λ (q : Queue). length q.history) is in let at : (ring_at e ring).taken ≡ 0 = ap (λ (q : Queue). q.taken) is in record {
@@ -63,10 +63,10 @@ full_raised : (count run : ℕ) → run < count → (full_queue count).raised ru
 full_raised count run below = let t : ltb run count ≡ true = grind (arith, nat_tests) in rw t refl
 
 -- the free elements
-full_shows : (first : ℕ) (e : Elements) (words : List ℕ) → ring_at e 1 ≡ full_queue 64 → first + 64 < 4294967296 → get_or words (head_word 1) 0 ≡ first + 64 → get_or words (tail_word 1) 0 ≡ first
-    → ((x : ℕ) → x < 64 → get_or words (place_word 1 (first + x)) 0 ≡ x + 256 * (first + x + 1)) → RingShows first e 1 words
+full_shows : (first : ℕ) (e : Elements) (words : List ℕ) → ring_at e free_ring ≡ full_queue 64 → first + 64 < 4294967296 → get_or words (head_word 1) 0 ≡ first + 64 → get_or words (tail_word 1) 0 ≡ first
+    → ((x : ℕ) → x < ELEMENTS → get_or words (place_word free_ring (first + x)) 0 ≡ x + 256 * (first + x + 1)) → RingShows first e 1 words
 full_shows first e words is fits head tail items =
-    let long : length (ring_at e 1).history ≡ 64 = ap (λ (q : Queue). length q.history) is ∙ length-map-range_with_len single 0 64 in let at : (ring_at e 1).taken ≡ 0 = ap (λ (q : Queue). q.taken) is in record {
+    let long : length (ring_at e free_ring).history ≡ 64 = ap (λ (q : Queue). length q.history) is ∙ length-map-range_with_len single 0 64 in let at : (ring_at e free_ring).taken ≡ 0 = ap (λ (q : Queue). q.taken) is in record {
       capacity = ap (λ (q : Queue). q.capacity) is;
       is_open = ap (λ (q : Queue). q.shut) is;
       single = λ number run there. single_long 0 64 number run (sym (ap (λ (q : Queue). slice_get q.history number) is) ∙ there);
@@ -76,7 +76,7 @@ full_shows first e words is fits head tail items =
       tail = omega arith;
       places = λ run from to. let below : run < 64 = omega arith in record {
         up = λ _. items run below ∙ sym (ap (λ (x : ℕ). x + 256 * (first + run + 1)) (ap (λ (q : Queue). element_at q run) is ∙ full_item 64 run below));
-        low = λ low. let up : (ring_at e 1).raised run 0 ≡ true = ap (λ (q : Queue). q.raised run 0) is ∙ full_raised 64 run below in absurd (cc);
+        low = λ low. let up : (ring_at e free_ring).raised run 0 ≡ true = ap (λ (q : Queue). q.raised run 0) is ∙ full_raised 64 run below in absurd (cc);
       };
     }
 
@@ -96,18 +96,18 @@ abbrev e64 : Elements
 e64 = first_elements 64
 
 rings_show : (first : ℕ) (words : List ℕ) → first + 64 < 4294967296 → ((ring : ℕ) → ring < RINGS → get_or words (head_word ring) 0 ≡ first + cond (eqb ring 1) 64 0) → ((ring : ℕ) → ring < RINGS → get_or words (tail_word ring) 0 ≡ first)
-    → ((x : ℕ) → x < 64 → get_or words (place_word 1 (first + x)) 0 ≡ x + 256 * (first + x + 1)) → ((ring i : ℕ) → ring < RINGS → ring ≢ 1 → i < 64 → get_or words (66 * ring + 139 + i) 0 ≡ 0)
+    → ((x : ℕ) → x < ELEMENTS → get_or words (place_word free_ring (first + x)) 0 ≡ x + 256 * (first + x + 1)) → ((ring i : ℕ) → ring < RINGS → ring ≢ 1 → i < 64 → get_or words (66 * ring + 139 + i) 0 ≡ 0)
     → (ring : ℕ) → ring < RINGS → RingShows first e64 ring words
 rings_show first words fits head tail items zeros zero below = empty_shows first 0 e64 words refl refl fits (let h = head 0 below in omega arith) (tail 0 below) (λ i within. zeros 0 i below (λ e. omega arith) within)
 rings_show first words fits head tail items zeros (suc zero) below = full_shows first e64 words refl fits (head 1 below) (tail 1 below) items
 rings_show first words fits head tail items zeros (suc (suc wait)) below = let ring : ℕ = suc (suc wait) in
-    empty_shows first ring e64 words (get_or-copies 16 (empty_queue 64) wait) (get_or-copies {X = ℕ} 16 0 wait) fits
+    empty_shows first ring e64 words (get_or-copies 16 (empty_queue PLACES) wait) (get_or-copies {X = ℕ} 16 0 wait) fits
     (let h = head ring below in h ∙ (ap (λ (b : Bool). first + cond b 64 0) (ne_eqb ring 1 (λ e. omega arith)) ∙ add-zero first))
     (tail ring below) (λ i within. zeros ring i below (λ e. omega arith) within)
 
 pub first_shows : (first : ℕ) (words : List ℕ) → first + 64 < 4294967296 → length words ≡ WORDS → ((i : ℕ) → 1 ≤ i → i < 73 → get_or words i 0 ≡ 0) → ((i : ℕ) → 73 ≤ i → i < 137 → get_or words i 0 ≡ 0)
     → ((ring : ℕ) → ring < RINGS → get_or words (head_word ring) 0 ≡ first + cond (eqb ring 1) 64 0) → ((ring : ℕ) → ring < RINGS → get_or words (tail_word ring) 0 ≡ first)
-    → ((x : ℕ) → x < 64 → get_or words (place_word 1 (first + x)) 0 ≡ x + 256 * (first + x + 1)) → ((ring i : ℕ) → ring < RINGS → ring ≢ 1 → i < 64 → get_or words (66 * ring + 139 + i) 0 ≡ 0)
+    → ((x : ℕ) → x < ELEMENTS → get_or words (place_word free_ring (first + x)) 0 ≡ x + 256 * (first + x + 1)) → ((ring i : ℕ) → ring < RINGS → ring ≢ 1 → i < 64 → get_or words (66 * ring + 139 + i) 0 ≡ 0)
     → WordsShow first e64 words
 first_shows first words fits long none unstepped head tail items zeros = record {
   wide = long;
@@ -143,7 +143,7 @@ only Q w mine zero u has = subst (Q 0) (some-injective w u has) mine
 only Q w mine (suc i) u has = absurd (some-ne-none u (sym has))
 
 -- an empty queue has no run
-none_open : (ring run : ℕ) (e : Elements) → ring_at e ring ≡ empty_queue 64 → IsOpen ring run e → ⊥
+none_open : (ring run : ℕ) (e : Elements) → ring_at e ring ≡ empty_queue PLACES → IsOpen ring run e → ⊥
 none_open ring run e is unraised = let long : length (ring_at e ring).history ≡ 0 = ap (λ (q : Queue). length q.history) is in let below = unraised.0 in absurd (omega arith)
 
 -- each run is raised
@@ -152,7 +152,7 @@ all_raised zero run unraised = none_open 0 run e64 refl unraised
 all_raised (suc zero) run unraised =
     let long : length (full_queue 64).history ≡ 64 = length-map-range_with_len single 0 64 in let below : run < length (full_queue 64).history = unraised.0 in
     true≢false (sym (full_raised 64 run (omega arith)) ∙ unraised.1)
-all_raised (suc (suc wait)) run unraised = none_open (suc (suc wait)) run e64 (get_or-copies 16 (empty_queue 64) wait) unraised
+all_raised (suc (suc wait)) run unraised = none_open (suc (suc wait)) run e64 (get_or-copies 16 (empty_queue PLACES) wait) unraised
 
 first_owned : (views : List View) → AllOwned views e64
 first_owned views ring run below unraised = absurd (all_raised ring run unraised)
@@ -162,7 +162,7 @@ first_are = elements_of [] ∙ ap (λ (s : State). s.elements) after_none.0
 
 pub opens : (key : Shape) (words : List ℕ) → key.first + 64 < 4294967296 → length words ≡ WORDS → get_or words 0 0 ≡ 1 → ((i : ℕ) → 1 ≤ i → i < 73 → get_or words i 0 ≡ 0) → ((i : ℕ) → 73 ≤ i → i < 137 → get_or words i 0 ≡ 0)
     → ((ring : ℕ) → ring < RINGS → get_or words (head_word ring) 0 ≡ key.first + cond (eqb ring 1) 64 0) → ((ring : ℕ) → ring < RINGS → get_or words (tail_word ring) 0 ≡ key.first)
-    → ((x : ℕ) → x < 64 → get_or words (place_word 1 (key.first + x)) 0 ≡ x + 256 * (key.first + x + 1)) → ((ring i : ℕ) → ring < RINGS → ring ≢ 1 → i < 64 → get_or words (66 * ring + 139 + i) 0 ≡ 0)
+    → ((x : ℕ) → x < ELEMENTS → get_or words (place_word free_ring (key.first + x)) 0 ≡ x + 256 * (key.first + x + 1)) → ((ring i : ℕ) → ring < RINGS → ring ≢ 1 → i < 64 → get_or words (66 * ring + 139 + i) 0 ≡ 0)
     → Rule key (opening words [] (newcomer key))
 opens key words fits long ends none unstepped head tail items zeros = let w : View = newcomer key in record {
   events = [];

@@ -2,6 +2,7 @@
 use Rattle.std.proofs.Common.{◌≡◌, ℕ, zero, suc, ◌+◌, ◌*◌, ◌<◌, List, ◌∙◌, length, set, refl, sym, ap, subst, arith, Option, get_or-set_other}
 use Rattle.event_theory.specs.Elements.{Elements, Thread}
 use Rattle.event_theory.specs.declared.hold.Hold.{Hold}
+use Rattle.thread_table.specs.declared.layout.TheConstants.{NOTIFY}
 use Rattle.thread_table.specs.Schedules.{Grows, ring_at}
 use Rattle.thread_table.specs.Layout.{head_word, tail_word, place_word}
 use Rattle.thread_table.specs.Shown.{RingShows, PlaceShows, mark_of}
@@ -33,7 +34,7 @@ ring_outside e threads processors held first ring words place word below shows =
       single = shows.single;
       bounded = shows.bounded;
       marked = omega (arith, marks, shows.marked);
-      head = get_or-set_other words place (head_word ring) word 0 (λ h. omega arith) ∙ (shows.head ∙ ap (λ n. first + length (ring_at e ring).history + n * 4294967296) (sym marks));
+      head = get_or-set_other words place (head_word ring) word 0 (λ h. omega arith) ∙ (shows.head ∙ ap (λ n. first + length (ring_at e ring).history + n * NOTIFY) (sym marks));
       tail = get_or-set_other words place (tail_word ring) word 0 (λ h. omega arith) ∙ shows.tail;
       places = λ run from to. subst (PlaceShows first (ring_at e ring) run) (sym (get_or-set_other words place (place_word ring (first + run)) word 0 (λ h. omega arith))) (shows.places run from to);
     }

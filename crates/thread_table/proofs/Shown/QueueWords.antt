@@ -12,7 +12,7 @@ use Rattle.event_theory.specs.declared.hold.Hold.{Hold}
 use Rattle.thread_table.specs.declared.rule.View.{View}
 use Rattle.thread_table.specs.declared.rule.Claimed.{Claimed}
 use Rattle.thread_table.specs.Schedules.{QueueGrows, Grows, ring_at, thread_at, element_at}
-use Rattle.thread_table.specs.declared.layout.TheConstants.{RINGS}
+use Rattle.thread_table.specs.declared.layout.TheConstants.{RINGS, PLACES, NOTIFY}
 use Rattle.thread_table.specs.Layout.{processor_word, state_word, done_word, head_word, tail_word, place_word}
 use Rattle.thread_table.specs.Shown.{WordsShow, RingShows, PlaceShows, StateShows, mark_of}
 use Rattle.thread_table.specs.Rules.{IsClaimed}
@@ -43,7 +43,7 @@ ring_kept first e f l words changed queue mark same s =
 -- an element queue that is known is shown
 pub ring_shown : (first : ℕ) (f : Elements) (l : ℕ) (words : List ℕ) (q : Queue) (mark : ℕ) → ring_at f l ≡ q → mark_of f l ≡ mark → q.capacity ≡ 64 → q.shut ≡ false
     → ((number : ℕ) (run : Run) → slice_get q.history number ≡ Some run → length run.items ≡ 1) → first + length q.history < 4294967296 → mark < 4294967296
-    → get_or words (head_word l) 0 ≡ first + length q.history + mark * 4294967296 → get_or words (tail_word l) 0 ≡ first + q.taken
+    → get_or words (head_word l) 0 ≡ first + length q.history + mark * NOTIFY → get_or words (tail_word l) 0 ≡ first + q.taken
     → ((run : ℕ) → q.taken ≤ run → run < q.taken + 64 → PlaceShows first q run (get_or words (place_word l (first + run)) 0)) → RingShows first f l words
 ring_shown first f l words q mark queue is capacity is_open single bounded marked head tail places =
     let long : length (ring_at f l).history ≡ length q.history = ap (λ (r : Queue). length r.history) queue in
@@ -123,9 +123,9 @@ rings_leave id v e rings notified held grows others runs = record {
 }
 
 -- a queue that is there is changed
-pub ring_changes : (ring : ℕ) (change : Queue → Result Queue Refusal) (rings : List Queue) (new : Queue) → ring < length rings → change (get_or rings ring (empty_queue 64)) ≡ Ok new
+pub ring_changes : (ring : ℕ) (change : Queue → Result Queue Refusal) (rings : List Queue) (new : Queue) → ring < length rings → change (get_or rings ring (empty_queue PLACES)) ≡ Ok new
     → change_at ring change rings ≡ Ok (set rings ring new)
-ring_changes ring change rings new below is = rw (slice_get-get_or rings ring (empty_queue 64) below, is) refl
+ring_changes ring change rings new below is = rw (slice_get-get_or rings ring (empty_queue PLACES) below, is) refl
 
 pub none_some : {X : Type 0} {R : Type 0} (x : X) (found : Option X) → found ≡ None → found ≡ Some x → R
 none_some x None none some = absurd (cc)

@@ -1,5 +1,6 @@
 use Rattle.std.proofs.Common.{rules, ◌<◌, ◌∙◌, ◌-◌, set, false, arith}
 use Rattle.std.proofs.Math.Path.{transport}
+use Rattle.thread_table.specs.declared.layout.TheConstants.{ELEMENTS}
 use Rattle.thread_table.specs.Steps.{Claims, Raises, claim_event}
 use Rattle.thread_table.proofs.Events.Answering.{was_spent, overtaken, claim_known, moved_to}
 use Rattle.thread_table.proofs.hand.ThreadTable.move_to.Goals as goal
@@ -24,7 +25,7 @@ invariant_of-hand-2 c = let a = c.load_head-word.ensures in let x = c.exchange_h
     let ring = c.args.ring in let h = c.args.hand.now in let v = c.load_head-word.new.seat.me.0 in let m = x.new.seat.me.0 in let w = c.raise.new.seat.me.0 in
     let claims = transport (λ i. Claims (id i) ring (n.value i) (claim_event (id i) ring (n.value i)) c.load_head-word.result v m) (x.ensures.hit c.if-found-word.false) in
     let raises = transport (λ i. Raises (id' i) ring (c.of-head.result.head - m.first) (n.value i) m w) s.raised in
-    let known : c.args.element < 64 = search rules in
+    let known : c.args.element < ELEMENTS = search rules in
     let k = moved_to _ _ _ _ _ c.of-head.result.head c.of-head.result.mark _ _ _ _ c.requires.table.1 known a.found c.if-head.false claims c.of-head.ensures.0 c.of-head.ensures.1 raises in record {
       bare = s.queue.1 ∙ (x.ensures.queue.1 ∙ (a.queue.1 ∙ h.bare));
       one = k.stays.ends ∙ h.one;
@@ -40,5 +41,5 @@ returns-clause-moved c = let a = c.load_head-word.ensures in let x = c.exchange_
     let ring = c.args.ring in let v = c.load_head-word.new.seat.me.0 in let m = x.new.seat.me.0 in let w = c.raise.new.seat.me.0 in
     let claims = transport (λ i. Claims (id i) ring (n.value i) (claim_event (id i) ring (n.value i)) c.load_head-word.result v m) (x.ensures.hit c.if-found-word.false) in
     let raises = transport (λ i. Raises (id' i) ring (c.of-head.result.head - m.first) (n.value i) m w) s.raised in
-    let known : c.args.element < 64 = search rules in
+    let known : c.args.element < ELEMENTS = search rules in
     (moved_to _ _ _ _ _ c.of-head.result.head c.of-head.result.mark _ _ _ _ c.requires.table.1 known a.found c.if-head.false claims c.of-head.ensures.0 c.of-head.ensures.1 raises).to

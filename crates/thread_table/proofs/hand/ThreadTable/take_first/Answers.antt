@@ -1,4 +1,5 @@
 use Rattle.std.proofs.Common.{inl, inr, rules, ◌≡◌, ◌<◌, ◌∙◌, ℕ, set, true, subst, sym}
+use Rattle.thread_table.specs.declared.layout.TheConstants.{ELEMENTS}
 use Rattle.thread_table.specs.Answers.{TookFirst}
 use Rattle.thread_table.proofs.Events.Answering.{not_raised, passed_before, passed_meanwhile, taken_first}
 use Rattle.thread_table.proofs.hand.ThreadTable.take_first.Goals as goal
@@ -35,7 +36,7 @@ invariant_of-hand-2 c = let t = c.load_tail-tail.ensures in let p = c.load_place
 pub unreachable-requires : goal.unreachable-requires
 unreachable-requires c = let t = c.load_tail-tail.ensures in let p = c.load_place.ensures in let x = c.of-place.result in let bounded : x.element < 256 = search rules in
     let k = taken_first _ _ _ _ _ _ _ _ _ x.element x.mark (p.queue.0.1 ∙ t.queue.0.1) c.args.hand.now.none c.requires.1 t.found p.found t.tail p.place c.of-place.ensures bounded c.if-place-tail.false (c.exchange_tail-found.ensures.hit c.if-found-tail.false) in
-    let known : x.element < 64 = k.known in search rules
+    let known : x.element < ELEMENTS = k.known in search rules
 
 pub returns-clause-taken : goal.returns-clause-taken
 returns-clause-taken c = let t = c.load_tail-tail.ensures in let p = c.load_place.ensures in let x = c.of-place.result in let bounded : x.element < 256 = search rules in

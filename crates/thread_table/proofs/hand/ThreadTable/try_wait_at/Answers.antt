@@ -1,7 +1,7 @@
 use Rattle.std.proofs.Common.{inl, inr, rules, ◌≡◌, ◌<◌, ◌∙◌, ◌+◌, ◌-◌, ℕ, Some, set, false, sym, ap, arith}
 use Rattle.std.proofs.Math.Path.{transport}
 use Rattle.event_theory.specs.declared.event.Event.TheVariants as events
-use Rattle.thread_table.specs.declared.layout.TheConstants.{WAITS}
+use Rattle.thread_table.specs.declared.layout.TheConstants.{ELEMENTS, WAITS}
 use Rattle.thread_table.specs.Layout.{wait_ring}
 use Rattle.thread_table.specs.Views.{claim_of}
 use Rattle.thread_table.specs.Steps.{Claims, Raises}
@@ -44,7 +44,7 @@ invariant_of-hand-2 c = let a = c.load_head-word.ensures in let x = c.exchange_h
     let h = c.args.hand.now in let v = c.load_head-word.new.seat.me.0 in let m = x.new.seat.me.0 in let w = c.raise.new.seat.me.0 in
     let claims = transport (λ i. Claims (id i) (q.value i + 2) (n.value i) (events.WaitAt (id i) (q.value i) (n.value i) c.args.ticket) c.load_head-word.result v m) (x.ensures.hit c.if-found-word.false) in
     let raises = transport (λ i. Raises (id' i) (ring i) (c.of-head.result.head - m.first) (n.value i) m w) s.raised in
-    let known : c.args.element < 64 = search rules in let known' : c.args.wait < WAITS = search rules in
+    let known : c.args.element < ELEMENTS = search rules in let known' : c.args.wait < WAITS = search rules in
     let k = moved_to _ (wait_ring c.args.wait) _ _ _ c.of-head.result.head c.of-head.result.mark _ _ _ _ (omega arith) known (found_in ring a.found) c.if-head.false claims c.of-head.ensures.0 c.of-head.ensures.1 raises in record {
       bare = s.queue.1 ∙ (x.ensures.queue.1 ∙ (a.queue.1 ∙ h.bare));
       one = k.stays.ends ∙ h.one;
@@ -61,6 +61,6 @@ returns-clause-moved c = let a = c.load_head-word.ensures in let x = c.exchange_
     let v = c.load_head-word.new.seat.me.0 in let m = x.new.seat.me.0 in let w = c.raise.new.seat.me.0 in
     let claims = transport (λ i. Claims (id i) (q.value i + 2) (n.value i) (events.WaitAt (id i) (q.value i) (n.value i) c.args.ticket) c.load_head-word.result v m) (x.ensures.hit c.if-found-word.false) in
     let raises = transport (λ i. Raises (id' i) (ring i) (c.of-head.result.head - m.first) (n.value i) m w) s.raised in
-    let known : c.args.element < 64 = search rules in let known' : c.args.wait < WAITS = search rules in
+    let known : c.args.element < ELEMENTS = search rules in let known' : c.args.wait < WAITS = search rules in
     let k = moved_to _ (wait_ring c.args.wait) _ _ _ c.of-head.result.head c.of-head.result.mark _ _ _ _ (omega arith) known (found_in ring a.found) c.if-head.false claims c.of-head.ensures.0 c.of-head.ensures.1 raises in
     record { moved = k.to; is = ap mark_in k.was ∙ ((word_parts _ c.of-head.result.head c.of-head.result.mark c.of-head.ensures.0 c.of-head.ensures.1).1 ∙ c.if-mark-ticket.false) }

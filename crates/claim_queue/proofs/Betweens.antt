@@ -16,7 +16,8 @@ use Rattle.table_theory.specs.Filing.{Owned, ListedOnce}
 use Rattle.table_theory.specs.Listing.{all_places, runs_of, takes_of, Adjacent}
 use Rattle.table_theory.specs.QueueOf.{run_in, is_up, queue_of}
 use Rattle.event_theory.proofs.Lists.Histories.{length-pairs_from}
-use Rattle.table_theory.proofs.QueueOf.{flat_of, up_of, long_is, is_lawful_queue}
+use Rattle.table_theory.proofs.Batches.{item_is, taken_items}
+use Rattle.table_theory.proofs.QueueOf.{up_of, long_is, is_lawful_queue}
 use Rattle.table_theory.proofs.QueueEvents.{history_of}
 use Rattle.claim_queue.specs.declared.rule.Shape.{Shape}
 use Rattle.claim_queue.specs.Layout.{mark, data_in, flag_in}
@@ -24,15 +25,12 @@ use Rattle.claim_queue.specs.Rules.{part_of, Rule}
 use Rattle.claim_queue.specs.Between.{pair_at, PlaceIs, ShowsQueue}
 use Rattle.claim_queue.proofs.Looks.{St}
 
--- whether the item with the number i is raised, and what it is
+-- whether the item with the number i is raised
 module _ (q : Positions) (runs : List (Owned Batch)) (same : all_places runs ≡ q.places) (i : ℕ) (below : i < length q.places) where
   up_is : is_raised (queue_of q runs) (pair_at (queue_of q runs) i) ≡ is_up (place_at q i)
   up_is = let n = length-pairs_from 0 (map run_in runs) in let m = long_is q runs same in
       sym (get_or-map (is_raised (queue_of q runs)) (pairs (map run_in runs)) i (0, 0) false (omega arith))
       ∙ (ap (λ (z : List Bool). get_or z i false) (up_of q runs ∙ ap (map is_up) same) ∙ get_or-map is_up q.places i blank false below)
-
-  item_is : get_or (flat (map run_in runs)) i 0 ≡ item_at q i
-  item_is = ap (λ (z : List ℕ). get_or z i 0) (flat_of runs ∙ ap (map item_of) same) ∙ get_or-map item_of q.places i blank 0 below
 
 up_written : (e : Cell) → is_up e ≡ true → 2 ≤ e.written
 up_written e h = leb-true 2 e.written h
@@ -73,7 +71,7 @@ shows_queue key s k = let q : Positions = k.queue in let l = k.listed in let n =
     takings = l.takes;
     taken_once = subst (ListedOnce l.takes) (map-map takes_of part_of s.views) l.takes_filed;
     taken_in_order = subst (λ (z : ℕ). Adjacent z l.takes) k.first l.takes_adjacent;
-    taken_items = ap (map item_of) l.takes_flat ∙ (sym (take-map item_of q.taken q.places) ∙ ap (take q.taken) (sym (flat_of l.runs ∙ ap (map item_of) l.runs_flat)));
+    taken_items = taken_items q _ l;
     capacity = k.room;
     long = let w = h.wide in omega arith;
     bounded = let w = h.bounded in omega arith;

@@ -8,7 +8,7 @@ use Rattle.table_theory.proofs.Seeing.{sees_own}
 use Rattle.claim_queue.specs.declared.rule.View.{View}
 use Rattle.claim_queue.specs.Layout.{mark}
 use Rattle.claim_queue.specs.Steps.{Found, Claimed}
-use Rattle.claim_queue.specs.Claims.{IsPast}
+use Rattle.table_theory.specs.Batches.{IsPast}
 use Rattle.claim_queue.specs.Answers.{FoundRoom, ClaimedItems, ShutMeanwhile, WasFull, WasLost}
 use Rattle.claim_queue.proofs.Claiming.{open_at}
 
@@ -58,7 +58,7 @@ lost_head u v w n head found room a some_items b bounded ne = let p = a.position
     record { first = head; before = v; found = a; missed = b; is_open = bounded; past = omega arith }
 
 -- a claim starts at or past the end of each earlier run of its end
-pub past_claim : (call : ℕ) (v u w : View) (head : ℕ) (xs : List ℕ) → u.part.runs ≡ v.part.runs → Claimed call u head xs w → IsPast v head
+pub past_claim : (call : ℕ) (v u w : View) (head : ℕ) (xs : List ℕ) → u.part.runs ≡ v.part.runs → Claimed call u head xs w → IsPast v.part.runs head
 past_claim call v u w head xs runs c m e has = let s = sees_own u.part c.queue m e c.sees (subst (λ (z : List Batch). get_elem? z m ≡ some e) (sym runs) has) in
     let st = s.start in let within = s.within in let at = c.at in omega arith
 

@@ -6,7 +6,8 @@ use mathlib.Core.Option.{some, some-injective}
 use lib.ListN.{get_elem?}
 use Rattle.table_theory.specs.declared.queues.Batch.{Batch}
 use Rattle.table_theory.specs.Listing.{written_to}
-use Rattle.table_theory.proofs.Leaving.{fresh_items, same_items}
+use Rattle.table_theory.proofs.Batches.{same_lines_set}
+use Rattle.table_theory.proofs.Leaving.{fresh_items}
 use Rattle.claim_queue.specs.declared.rule.View.{View}
 use Rattle.claim_queue.specs.declared.claim.ClaimRefusal.{ClaimRefusal}
 use Rattle.claim_queue.specs.declared.claim.ClaimRefusal.TheVariants.{NoItems, TooLong, Closed, Spent, Full, Lost}
@@ -43,11 +44,6 @@ claimed_line room call v w start items h = let u = h.before in let c = h.claimed
   takes = ap lines_taken c.same ∙ ap (map line_of) (room_takes room v (length items) start u f);
   share = ap (λ (z : View). z.member.share) c.same ∙ room_share room v (length items) start u f;
 }
-
-same_lines_set : (l : List Batch) (m i n : ℕ) (e : Batch) → get_elem? l m ≡ some e → map line_of (set l m (written_to e i n)) ≡ map line_of l
-same_lines_set [] m i n e h = refl
-same_lines_set (x ∷ xs) zero i n e h = ap (λ (z : List ℕ). z ∷ map line_of xs) (same_items e.places i n ∙ ap line_of (sym (some-injective x e h)))
-same_lines_set (x ∷ xs) (suc m) i n e h = ap (λ (z : List (List ℕ)). line_of x ∷ z) (same_lines_set xs m i n e h)
 
 pub wrote_lines : (call : ℕ) (v w : View) (m i n u x : ℕ) → Wrote call v m i n u x w → SameLines v w
 wrote_lines call v w m i n u x h = record { puts = ap lines_put h.same ∙ same_lines_set v.part.runs m i n h.run h.has; takes = ap lines_taken h.same; share = ap (λ (z : View). z.member.share) h.same }

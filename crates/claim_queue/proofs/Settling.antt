@@ -22,6 +22,7 @@ use Rattle.table_theory.specs.Sharing.{IsWhole}
 use Rattle.table_theory.proofs.Totals.{sole_total}
 use Rattle.table_theory.proofs.Members.{rest_idle}
 use Rattle.table_theory.proofs.Listing.{listed_look}
+use Rattle.table_theory.proofs.Reading.{read_word}
 use Rattle.table_theory.proofs.Seeing.{later_on}
 use Rattle.claim_queue.proofs.Cutting.{settled, all_left}
 use Rattle.atomic_table.specs.Table.{Final, Seen}
@@ -31,20 +32,6 @@ use Rattle.claim_queue.specs.Rules.{part_of, member_of, shuts_of, times_shut, Is
 use Rattle.claim_queue.specs.Steps.{Tallied}
 use Rattle.claim_queue.specs.Closings.{WereOpen, left_at, left_from, shown, ClosedNow}
 use Rattle.claim_queue.proofs.Looks.{St}
-
-pub left_length : (room : ℕ) (ws : List ℕ) (p n : ℕ) → length (left_from room ws p n) ≡ n
-left_length room ws p zero = refl
-left_length room ws p (suc n) = ap suc (left_length room ws (suc p) n)
-
-pub left_more : (room : ℕ) (ws : List ℕ) (p n : ℕ) → left_from room ws p (suc n) ≡ left_from room ws p n ++ left_at room ws (p + n) ∷ []
-left_more room ws p zero = let e : p ≡ p + 0 = omega arith in ap (λ (z : ℕ). left_at room ws z ∷ []) e
-left_more room ws p (suc n) = let e : suc p + n ≡ p + suc n = omega arith in ap (λ (z : List (Option ℕ)). left_at room ws p ∷ z) (left_more room ws (suc p) n ∙ ap (λ (z : ℕ). left_from room ws (suc p) n ++ left_at room ws z ∷ []) e)
-
--- a word that was read
-pub read_word : (l : List ℕ) (i x : ℕ) → get_elem? l i ≡ maybe.some x → get_or l i 0 ≡ x
-read_word [] i x e = absurd (maybe.some-ne-none x (sym e))
-read_word (y ∷ ys) zero x e = maybe.some-injective y x e
-read_word (y ∷ ys) (suc i) x e = read_word ys i x e
 
 -- a place that is left reads as its item, if it was raised
 pub left_shown : (q : Positions) (ws : List ℕ) (i : ℕ) → WordsShow q ws → q.taken ≤ i → i < q.taken + q.room → left_at q.room ws (q.first + i) ≡ shown (place_at q i)
@@ -66,11 +53,6 @@ read_some room ws p u t flag x flag_at data_at f is d = let e : room + p % room 
 pub read_none : (room : ℕ) (ws : List ℕ) (p u flag : ℕ) → u ≡ flag_word room p → get_elem? ws u ≡ maybe.some flag → flag ≢ p + 1 → None ≡ left_at room ws p
 read_none room ws p u flag flag_at f is = let e : room + p % room + 3 ≡ u = omega arith in let g : ℕ = flag_in room ws (p % room) in let y : ℕ = data_in room ws (p % room) in
     sym (ap (λ (b : Bool). if b then Some y else None) (ne_eqb g (p + 1) (λ o. is (sym (ap (λ (z : ℕ). get_or ws z 0) e ∙ read_word ws u flag f) ∙ o))))
-
--- one more is read
-pub left_on : (room : ℕ) (ws : List ℕ) (t p : ℕ) (xs : List (Option ℕ)) (x : Option ℕ) → t ≤ p → xs ≡ left_from room ws t (p - t) → x ≡ left_at room ws p → xs ++ x ∷ [] ≡ left_from room ws t (p + 1 - t)
-left_on room ws t p xs x le is e = let a : p ≡ t + (p - t) = omega arith in let b : suc (p - t) ≡ p + 1 - t = omega arith in
-    (λ k. is k ++ (e ∙ ap (left_at room ws) a) k ∷ []) ∙ (sym (left_more room ws t (p - t)) ∙ ap (left_from room ws t) b)
 
 low_of : (n h : ℕ) (b : Bool) → n < 4294967296 → h ≡ n + mark b → h % 4294967296 ≡ n
 low_of n h true bounded is = omega arith

@@ -1,11 +1,11 @@
 -- What the claims answer, by the steps that they made.
 use Rattle.std.specs.Prelude.{◌≡◌, ◌⊎◌, ◌+◌, ◌<◌, ◌≤◌, ℕ, true, List, length}
+use Rattle.table_theory.specs.Batches.{IsPast}
 use Rattle.table_theory.specs.declared.positions.TheConstants.{POSITIONS}
 use Rattle.claim_queue.specs.declared.layout.TheConstants.{SHUT}
 use Rattle.claim_queue.specs.declared.rule.View.{View}
 use Rattle.claim_queue.specs.declared.claim.ClaimRefusal.{ClaimRefusal}
 use Rattle.claim_queue.specs.declared.claim.ClaimRefusal.TheVariants.{NoItems, TooLong, Closed, Spent, Full, Lost}
-use Rattle.claim_queue.specs.Claims.{IsPast}
 use Rattle.claim_queue.specs.Layout.{head_word, tail_word}
 use Rattle.claim_queue.specs.Steps.{Found, Claimed}
 
@@ -28,7 +28,7 @@ pub record ClaimedItems (room call : ℕ) (v : View) (head : ℕ) (items : List 
   pub before : View
   pub found : FoundRoom room v (length items) head before
   pub claimed : Claimed call before head items w
-  pub past : IsPast v head
+  pub past : IsPast v.part.runs head
 
 -- the head that was loaded has the shut mark
 pub record FoundShut (v w : View) : Type 0 where

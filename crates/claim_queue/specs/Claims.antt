@@ -1,5 +1,5 @@
 -- A claim, as the runs of its end list it.
-use Rattle.std.specs.Prelude.{◌≡◌, ◌≢◌, ◌+◌, ◌≤◌, ℕ, zero, suc, List, [], ◌∷◌, length}
+use Rattle.std.specs.Prelude.{◌≡◌, ◌≢◌, ℕ, zero, suc, List, [], ◌∷◌}
 use mathlib.Core.Option.{some}
 use lib.ListN.{get_elem?}
 use Rattle.table_theory.specs.declared.queues.Cell.{Cell}
@@ -31,7 +31,3 @@ KeepsClaims v w = (start : ℕ) (xs : List ℕ) (r : ℕ) → Owns v start xs r 
 -- each of the end's claims but the one with this start still is its own, as far as it was raised
 abbrev pub KeepsOthers : ℕ → View → View → Type 0
 KeepsOthers start v w = (other : ℕ) (xs : List ℕ) (r : ℕ) → other ≢ start → Owns v other xs r → Owns w other xs r
-
--- the position is at or past the end of each of the end's runs
-abbrev pub IsPast : View → ℕ → Type 0
-IsPast v position = (m : ℕ) (e : Batch) → get_elem? v.part.runs m ≡ some e → e.start + length e.places ≤ position

@@ -5,6 +5,7 @@ use Rattle.table_theory.specs.declared.queues.Cell.{Cell}
 use Rattle.table_theory.specs.declared.queues.Positions.{Positions}
 use Rattle.table_theory.specs.Positioned.{item_of, left_of}
 use Rattle.table_theory.specs.Listing.{ViewsShow, AllRaised}
+use Rattle.table_theory.specs.Reads.{read_from}
 use Rattle.table_theory.specs.Sharing.{IsWhole}
 use Rattle.claim_queue.specs.declared.layout.TheConstants.{SHUT}
 use Rattle.claim_queue.specs.declared.rule.View.{View}
@@ -23,10 +24,9 @@ pub record ShutNow (call : ℕ) (v : View) (was_open : Bool) (w : View) : Type 0
 abbrev pub left_at : ℕ → List ℕ → ℕ → Option ℕ
 left_at room words p = if flag_in room words (p % room) == p + 1 then Some (data_in room words (p % room)) else None
 
--- the n positions from p on
+-- what is read at the n positions from p on
 abbrev pub left_from : ℕ → List ℕ → ℕ → ℕ → List (Option ℕ)
-left_from room words p zero = []
-left_from room words p (suc n) = left_at room words p ∷ left_from room words (suc p) n
+left_from room words p n = read_from (left_at room words) p n
 
 -- a place that is left: its item, if it was raised
 abbrev pub shown : Cell → Option ℕ

@@ -1,13 +1,9 @@
 -- What an end put and took, as lines: a line is one claim, or one taking.
 use Rattle.std.specs.Prelude.{◌≡◌, ◌≤◌, ℕ, List, [], ◌∷◌, ◌++◌, map, length, take}
 use Rattle.std.specs.List.{concat}
-use Rattle.table_theory.specs.declared.queues.Batch.{Batch}
-use Rattle.table_theory.specs.Positioned.{item_of}
+pub use Rattle.table_theory.specs.Batches.{line_of}
 use Rattle.table_theory.specs.Filing.{Owned, entry_of, ListedOnce}
 use Rattle.claim_queue.specs.declared.rule.View.{View}
-
-abbrev pub line_of : Batch → List ℕ
-line_of e = map item_of e.places
 
 -- the lines that the end put, in the order of its claims
 abbrev pub lines_put : View → List (List ℕ)

@@ -17,7 +17,8 @@ use Rattle.event_theory.specs.Lawful.{is_idle}
 use Rattle.table_theory.specs.Positioned.{blank, item_of, place_at, item_at}
 use Rattle.table_theory.specs.Filing.{ListedOnce}
 use Rattle.table_theory.specs.Listing.{runs_of, takes_of, Adjacent}
-use Rattle.table_theory.proofs.QueueOf.{flat_of, long_is}
+use Rattle.table_theory.proofs.Batches.{item_is, taken_is, taken_items}
+use Rattle.table_theory.proofs.QueueOf.{long_is}
 use Rattle.table_theory.proofs.QueueEvents.{history_of, got}
 use Rattle.atomic_table.proofs.Lists.{at_map}
 use Rattle.proc_chain.specs.declared.rule.Shape.{Shape}
@@ -46,11 +47,8 @@ module _ {Q W : Type 0} (made : W → Q → List ℕ → Type 0) (fits : W → Q
   abbrev c : Chain
   c = chain_of k.queue k.listed.runs (gate_in s.words) s.views
 
-  item_is : (i : ℕ) → i < length k.queue.places → get_or (flat c.notes.history) i 0 ≡ item_at k.queue i
-  item_is i below = ap (λ (z : List ℕ). get_or z i 0) (flat_of k.listed.runs ∙ ap (map item_of) k.listed.runs_flat) ∙ get_or-map item_of k.queue.places i blank 0 below
-
   place_is : (i : ℕ) → k.queue.taken ≤ i → i < length k.queue.places → PlaceIs c s.words i (key.first + i)
-  place_is i from below = let q : Positions = k.queue in let u = up_is q k.listed.runs k.listed.runs_flat i below in let x = item_is i below in let within = k.lawful.within in let p = k.shows.window.each i from (omega arith) in
+  place_is i from below = let q : Positions = k.queue in let u = up_is q k.listed.runs k.listed.runs_flat i below in let x = item_is k.queue k.listed.runs k.listed.runs_flat i below in let within = k.lawful.within in let p = k.shows.window.each i from (omega arith) in
       let at : (q.first + i) % q.room ≡ (key.first + i) % 32 = (λ z. (k.first z + i) % k.shows.room z) in
       let mark : mark_in s.words ((q.first + i) % q.room) ≡ mark_in s.words ((key.first + i) % 32) = ap (mark_in s.words) at in
       let note : note_in s.words ((q.first + i) % q.room) ≡ note_in s.words ((key.first + i) % 32) = ap (note_in s.words) at in let first = k.first in
@@ -61,7 +59,7 @@ module _ {Q W : Type 0} (made : W → Q → List ℕ → Type 0) (fits : W → Q
       }
 
   notes_are : notes_of k.queue ≡ take c.notes.taken (flat c.notes.history)
-  notes_are = sym (take-map item_of k.queue.taken k.queue.places) ∙ ap (take k.queue.taken) (sym (flat_of k.listed.runs ∙ ap (map item_of) k.listed.runs_flat))
+  notes_are = taken_is k.queue k.listed.runs k.listed.runs_flat
 
   idle_word : gate_of (gate_in s.words) ≡ Idle → gate_in s.words ≡ 0
   idle_word h = dite (ℕ_discrete (gate_in s.words) 0) (λ y. y) (λ up. absurd (true≢false (sym (ap is_idle h) ∙ not_idle (gate_in s.words) up)))
@@ -80,7 +78,7 @@ module _ {Q W : Type 0} (made : W → Q → List ℕ → Type 0) (fits : W → Q
       takings = l.takes;
       taken_once = subst (ListedOnce l.takes) (map-map takes_of part_of s.views) l.takes_filed;
       taken_in_order = subst (λ (z : ℕ). Adjacent z l.takes) k.first l.takes_adjacent;
-      taken_notes = ap (map item_of) l.takes_flat ∙ notes_are;
+      taken_notes = taken_items q _ l;
       capacity = h.room;
       is_open = h.is_open;
       long = h.wide;

@@ -17,6 +17,7 @@ use Rattle.table_theory.specs.Sharing.{IsWhole}
 use Rattle.table_theory.specs.declared.views.Member.{Member}
 use Rattle.table_theory.proofs.Members.{rest_idle}
 use Rattle.table_theory.proofs.Listing.{listed_look, listed_sole}
+use Rattle.table_theory.proofs.Reading.{read_word}
 use Rattle.table_theory.proofs.Seeing.{later_on}
 use Rattle.atomic_table.proofs.Lists.{at_map}
 use Rattle.table_theory.proofs.Owned.{one_at, at_map_back}
@@ -32,19 +33,6 @@ use Rattle.proc_chain.proofs.Linking.{all_same}
 
 -- what is read
 
-pub left_length : (ws : List ℕ) (p n : ℕ) → length (left_from ws p n) ≡ n
-left_length ws p zero = refl
-left_length ws p (suc n) = ap suc (left_length ws (suc p) n)
-
-left_more : (ws : List ℕ) (p n : ℕ) → left_from ws p (suc n) ≡ left_from ws p n ++ left_at ws (p + n) ∷ []
-left_more ws p zero = let e : p ≡ p + 0 = omega arith in ap (λ (z : ℕ). left_at ws z ∷ []) e
-left_more ws p (suc n) = let e : suc p + n ≡ p + suc n = omega arith in ap (λ (z : List (Option ℕ)). left_at ws p ∷ z) (left_more ws (suc p) n ∙ ap (λ (z : ℕ). left_from ws (suc p) n ++ left_at ws z ∷ []) e)
-
-pub read_word : (l : List ℕ) (i x : ℕ) → get_elem? l i ≡ maybe.some x → get_or l i 0 ≡ x
-read_word [] i x e = absurd (maybe.some-ne-none x (sym e))
-read_word (y ∷ ys) zero x e = maybe.some-injective y x e
-read_word (y ∷ ys) (suc i) x e = read_word ys i x e
-
 pub read_some : (ws : List ℕ) (p u word mark note : ℕ) → u ≡ place_word p → get_elem? ws u ≡ maybe.some word → mark ≡ mark_of word → note ≡ note_of word → mark ≡ p + 1 → Some note ≡ left_at ws p
 read_some ws p u word mark note at w m n is = let r = ap (λ (z : ℕ). get_or ws z 0) (sym at) ∙ read_word ws u word w in
     ap Some (n ∙ ap note_of (sym r)) ∙ sym (ap (λ (b : Bool). if b then Some (note_in ws (p % 32)) else None) (eq-eqb (mark_in ws (p % 32)) (p + 1) (ap mark_of r ∙ (sym m ∙ is))))
@@ -52,11 +40,6 @@ read_some ws p u word mark note at w m n is = let r = ap (λ (z : ℕ). get_or w
 pub read_none : (ws : List ℕ) (p u word mark : ℕ) → u ≡ place_word p → get_elem? ws u ≡ maybe.some word → mark ≡ mark_of word → mark ≢ p + 1 → None ≡ left_at ws p
 read_none ws p u word mark at w m is = let r = ap (λ (z : ℕ). get_or ws z 0) (sym at) ∙ read_word ws u word w in
     sym (ap (λ (b : Bool). if b then Some (note_in ws (p % 32)) else None) (ne_eqb (mark_in ws (p % 32)) (p + 1) (λ e. is (m ∙ (ap mark_of (sym r) ∙ e)))))
-
--- one more is read
-pub left_on : (ws : List ℕ) (t p : ℕ) (xs : List (Option ℕ)) (x : Option ℕ) → t ≤ p → xs ≡ left_from ws t (p - t) → x ≡ left_at ws p → xs ++ x ∷ [] ≡ left_from ws t (p + 1 - t)
-left_on ws t p xs x le is e = let a : p ≡ t + (p - t) = omega arith in let b : suc (p - t) ≡ p + 1 - t = omega arith in
-    (λ k. is k ++ (e ∙ ap (left_at ws) a) k ∷ []) ∙ (sym (left_more ws t (p - t)) ∙ ap (left_from ws t) b)
 
 pub were_open : (v w : View) (found others : ℕ) → Tallied v found w → found ≢ 1 → others ≡ found - 1 → WereOpen v others w
 were_open v w found others t more is = let some = t.member.count.some_end in let e : found ≡ others + 1 = omega arith in record {

@@ -14,7 +14,8 @@ use Rattle.table_theory.specs.Seeing.{Sees}
 use Rattle.table_theory.specs.Sharing.{given}
 use Rattle.atomic_table.proofs.Lists.{at_set, at_last}
 use Rattle.table_theory.proofs.Owned.{at_push, one_at}
-use Rattle.table_theory.proofs.Leaving.{same_items}
+use Rattle.table_theory.specs.Batches.{IsPast}
+use Rattle.table_theory.proofs.Batches.{same_lines_set}
 use Rattle.table_theory.proofs.Positioned.{grows_refl, claim_grows, write_grows}
 use Rattle.table_theory.proofs.Seeing.{sees_own}
 use Rattle.table_theory.proofs.Listing.{found_by_start}
@@ -26,7 +27,7 @@ use Rattle.proc_chain.specs.Notes.{line_of, notes_put, notes_taken, alone, SameN
 use Rattle.proc_chain.specs.Rules.{moment, view_from}
 use Rattle.proc_chain.specs.Steps.{counted, KeepsTaken, Found, run, Claimed, Raised, Notified, GotTurn, CountedUp, CountedDown, Tallied, Carries, rest_of, newborn, both}
 use Rattle.proc_chain.specs.Turns.{HasSlot}
-use Rattle.proc_chain.specs.Answers.{FoundRoom, WasFull, WasSpent, WasLost, IsPast, Linked}
+use Rattle.proc_chain.specs.Answers.{FoundRoom, WasFull, WasSpent, WasLost, Linked}
 use Rattle.proc_chain.specs.Endings.{Divided, IsNewborn, TookIn}
 use Rattle.proc_chain.proofs.Gates.{notes_same}
 
@@ -149,7 +150,7 @@ room_takes : (v w : View) (head : ℕ) → FoundRoom v head w → w.part.takes �
 room_takes v w head r = ap (λ (z : View). z.part.takes) r.tail_loaded.same ∙ ap (λ (z : View). z.part.takes) r.head_loaded.same
 
 -- each run of the end ends at the head that was loaded or before it
-is_past : (v w : View) (head : ℕ) → Found v head_word head w → IsPast v head
+is_past : (v w : View) (head : ℕ) → Found v head_word head w → IsPast v.part.runs head
 is_past v w head f m e has = let h = loaded_head v w head f in let st = sees_own v.part w.part.queue m e f.sees has in let start = st.start in let within = st.within in omega arith
 
 -- all that one end does up to its notify
@@ -163,11 +164,6 @@ link call c d v l b w x head tail note same same' f g bounded room claimed raise
   raised = subst (λ (z : ℕ). Raised z w head (place_word head) (raised_word head note) x) same' raised;
   past = is_past v l head f;
 }
-
-same_lines_set : (l : List Batch) (m i n : ℕ) (e : Batch) → get_elem? l m ≡ some e → map line_of (set l m (written_to e i n)) ≡ map line_of l
-same_lines_set [] m i n e h = refl
-same_lines_set (x ∷ xs) zero i n e h = ap (λ (z : List ℕ). z ∷ map line_of xs) (same_items e.places i n ∙ ap line_of (sym (some-injective x e h)))
-same_lines_set (x ∷ xs) (suc m) i n e h = ap (λ (z : List (List ℕ)). line_of x ∷ z) (same_lines_set xs m i n e h)
 
 module _ (call : ℕ) (v w : View) (note : ℕ) (l : Linked call v note w) where
   pub linked_stays : v.part.queue.taken ≤ length v.part.queue.places → Stays v w

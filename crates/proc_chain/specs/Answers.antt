@@ -1,8 +1,6 @@
 -- What chaining a note answers, by the steps that it made.
 use Rattle.std.specs.Prelude.{◌≡◌, ℕ, ◌+◌, ◌<◌, ◌≤◌, Bool, true, false, length, List}
-use mathlib.Core.Option.{some}
-use lib.ListN.{get_elem?}
-use Rattle.table_theory.specs.declared.queues.Batch.{Batch}
+use Rattle.table_theory.specs.Batches.{IsPast}
 use Rattle.atomic_table.specs.Table.{Me}
 use Rattle.table_theory.specs.declared.positions.TheConstants.{POSITIONS}
 use Rattle.proc_chain.specs.declared.rule.View.{View}
@@ -57,10 +55,6 @@ WasRefused v (Lost head) w = WasLost v head w
 abbrev pub Refused : {Q : Type 0} → Me Q View → ChainRefusal → Me Q View → Type 0
 Refused me refusal me' = WasRefused me.0 refusal me'.0 × (me'.1 ≡ me.1)
 
--- the position is at or past the end of each of the end's runs
-abbrev pub IsPast : View → ℕ → Type 0
-IsPast v position = (m : ℕ) (e : Batch) → get_elem? v.part.runs m ≡ some e → e.start + length e.places ≤ position
-
 -- The end found room, claimed the note by one exchange of the head that it had loaded, and raised it there
 pub record Linked (call : ℕ) (v : View) (note : ℕ) (w : View) : Type 0 where
   pub head : ℕ
@@ -69,7 +63,7 @@ pub record Linked (call : ℕ) (v : View) (note : ℕ) (w : View) : Type 0 where
   pub between : View
   pub claimed : Claimed call before head note between
   pub raised : Raised call between head (place_word head) (raised_word head note) w
-  pub past : IsPast v head
+  pub past : IsPast v.part.runs head
 
 -- Claim, raise and notify, one behind the other: Run exactly where the notify found the gate Idle
 abbrev pub IsChained : {Q : Type 0} → (Q → List ℕ → Type 0) → (Q → Type 0) → ℕ → Me Q View → ℕ → Chained → Me Q View

@@ -3,6 +3,7 @@ use Rattle.std.specs.Prelude.{◌≡◌, ◌+◌, ◌<◌, ◌%◌, ◌==◌, �
 use Rattle.std.specs.Prelude.{if◌then◌else◌, length}
 use Rattle.table_theory.specs.declared.queues.Positions.{Positions}
 use Rattle.table_theory.specs.Listing.{ViewsShow}
+use Rattle.table_theory.specs.Reads.{read_from}
 use Rattle.table_theory.specs.Sharing.{IsWhole}
 use Rattle.proc_chain.specs.declared.rule.View.{View}
 use Rattle.proc_chain.specs.declared.layout.TheConstants.{PLACES}
@@ -14,10 +15,9 @@ use Rattle.proc_chain.specs.Steps.{Tallied}
 abbrev pub left_at : List ℕ → ℕ → Option ℕ
 left_at words p = if mark_in words (p % PLACES) == p + 1 then Some (note_in words (p % PLACES)) else None
 
--- the n positions from p on
+-- what is read at the n positions from p on
 abbrev pub left_from : List ℕ → ℕ → ℕ → List (Option ℕ)
-left_from words p zero = []
-left_from words p (suc n) = left_at words p ∷ left_from words (suc p) n
+left_from words p n = read_from (left_at words) p n
 
 -- The chain is closed, by an end that has the whole and so lists all of it. All that was put was taken, no note is
 -- left, and the quaject that comes back was made by the notes taken, in order, and suits the chain

@@ -1,11 +1,7 @@
 -- What an end put and took: a run for each note that it chained, and a taking for each note that it ran.
 use Rattle.std.specs.Prelude.{◌≡◌, ℕ, List, [], ◌∷◌, ◌++◌, map}
-use Rattle.table_theory.specs.declared.queues.Batch.{Batch}
-use Rattle.table_theory.specs.Positioned.{item_of}
+pub use Rattle.table_theory.specs.Batches.{line_of}
 use Rattle.proc_chain.specs.declared.rule.View.{View}
-
-abbrev pub line_of : Batch → List ℕ
-line_of e = map item_of e.places
 
 -- the notes that the end put, in the order of its claims, each in a run of its own
 abbrev pub notes_put : View → List (List ℕ)

@@ -1,3 +1,4 @@
+pub mod Batches
 pub mod Counting
 pub mod Courses
 pub mod Ends
@@ -11,6 +12,7 @@ pub mod Owned
 pub mod Positioned
 pub mod QueueEvents
 pub mod QueueOf
+pub mod Reading
 pub mod Seeing
 pub mod Totals
 pub mod Windows

@@ -1,3 +1,4 @@
+pub mod Batches
 pub mod Courses
 pub mod Ends
 pub mod Filing
@@ -6,6 +7,7 @@ pub mod Listing
 pub mod Members
 pub mod Positioned
 pub mod QueueOf
+pub mod Reads
 pub mod Seating
 pub mod Seeing
 pub mod Sharing

@@ -19,7 +19,7 @@ fn place_of(bytes: &[u8], separator: u8) -> Option<usize>
 }
 
 /// The bytes before the first separator, and those behind it where there is one.
-#[tactic(auto, using(crate::proofs::Cuts::cut_at, crate::proofs::Cuts::cut_nowhere))]
+#[tactic(auto, using(crate::proofs::Basics::Cuts::cut_at, crate::proofs::Basics::Cuts::cut_nowhere))]
 pub(crate) fn cut(bytes: &[u8], separator: u8) -> (&[u8], Option<&[u8]>)
     ensures pieces { pieces separator bytes.now ≡ result.0.now ∷ pieces_left separator (option_copied result.1) }
     ensures shorter { IfSome result.1 (λ rest. length rest.now < length bytes.now) }
@@ -81,7 +81,7 @@ impl<'a> Words<'a> {
     }
 
     /// No word is left.
-    #[tactic(auto, using(crate::proofs::Cuts::some_pieces))]
+    #[tactic(auto, using(crate::proofs::Basics::Cuts::some_pieces))]
     pub(crate) fn is_done(&self) -> bool
         ensures { IsTrue result ↔ (self.now ≡ []) }
     {
@@ -130,7 +130,7 @@ pub(crate) fn number_u32(word: &[u8]) -> Result<u32, ScriptRefusal>
 }
 
 /// The first line, and the text behind its end.
-#[tactic(auto, using(crate::proofs::Cuts::one_line, crate::proofs::Cuts::last_line))]
+#[tactic(auto, using(crate::proofs::Basics::Cuts::one_line, crate::proofs::Basics::Cuts::last_line))]
 pub(crate) fn first_line(text: &[u8]) -> (&[u8], &[u8])
     requires { 0 < length text.now }
     ensures lines { lines_of text.now ≡ result.0.now ∷ lines_of result.1.now }

@@ -2,6 +2,7 @@
 use Rattle.std.specs.Prelude.{◌≡◌, ◌⊎◌, ◌≤◌, ◌<◌, ℕ, ℤ, pos, Bool, true, false, Result, Ok, Err, MatchResult}
 use Rattle.std.specs.declared.option.Option.{Option}
 use Rattle.std.specs.declared.option.Option.TheVariants.{Some}
+use Rattle.event_theory.specs.Numbers.{u32_values}
 use Rattle.thread_table.specs.declared.states.Started.{Started}
 use Rattle.thread_table.specs.declared.states.Started.TheVariants as started
 use Rattle.thread_table.specs.declared.states.Signalled.{Signalled}
@@ -62,7 +63,7 @@ IsToldLost lost told = (told.code ≡ pos 6) × (told.word ≡ lost.seen)
 -- the state word that a refusal tells has 32 bits
 abbrev pub IsFitState : {X : Type 0} → Result X Lost → Type 0
 IsFitState (Ok x) = Unit {0}
-IsFitState (Err lost) = lost.seen < 4294967296
+IsFitState (Err lost) = lost.seen < u32_values
 
 -- what C is told of a start: what it did, which is written, or else the state word
 abbrev pub IsToldStart : Result Started Lost → ℕ → ℕ → SynthState → Type 0

@@ -2,6 +2,7 @@
 use Rattle.std.specs.Prelude.{◌≡◌, ◌⊎◌, ◌≤◌, ◌<◌, ◌+◌, ℕ, ℤ, pos, Result, Ok, Err, MatchResult}
 use Rattle.std.specs.declared.option.Option.{Option}
 use Rattle.std.specs.declared.option.Option.TheVariants.{Some}
+use Rattle.event_theory.specs.Numbers.{u32_values}
 use Rattle.thread_table.specs.declared.takings.NextRefusal.{NextRefusal}
 use Rattle.thread_table.specs.declared.takings.NextRefusal.TheVariants as nexts
 use Rattle.thread_table.specs.Handles.{view_of, call_of}
@@ -29,7 +30,7 @@ tail_of_next (nexts.Lost seen) = seen
 -- the tail that a refused taking tells has 32 bits
 abbrev pub IsFit : Result ℕ NextRefusal → Type 0
 IsFit (Ok element) = Unit {0}
-IsFit (Err r) = tail_of_next r < 4294967296
+IsFit (Err r) = tail_of_next r < u32_values
 
 -- what C is told of a taking: the element, which is written, or else the code and the tail
 abbrev pub IsToldTaking : Result ℕ NextRefusal → ℕ → ℕ → SynthAnswer → Type 0

@@ -2,6 +2,7 @@
 use Rattle.std.specs.Prelude.{◌≡◌, ◌⊎◌, ◌≤◌, ◌<◌, ◌+◌, ℕ, ℤ, Result, Ok, Err}
 use Rattle.std.specs.declared.option.Option.{Option}
 use Rattle.std.specs.declared.option.Option.TheVariants.{None, Some}
+use Rattle.event_theory.specs.Numbers.{u32_values}
 use Rattle.thread_table.specs.declared.takings.NextRefusal.{NextRefusal}
 use Rattle.thread_table.specs.Handles.{view_of, call_of}
 use Rattle.thread_table.specs.Wakes.{NotifiedNow, BeforeAnswer}
@@ -24,7 +25,7 @@ WasTriedBefore wait head answer x y =
 -- the tail that a refused try to take before a position tells has 32 bits
 abbrev pub IsFitBefore : Result (Option ℕ) NextRefusal → Type 0
 IsFitBefore (Ok taken) = Unit {0}
-IsFitBefore (Err r) = tail_of_next r < 4294967296
+IsFitBefore (Err r) = tail_of_next r < u32_values
 
 -- what C is told of a try to take before a position: the element, which is written, or else the code and the tail
 abbrev pub IsToldBefore : Result (Option ℕ) NextRefusal → ℕ → ℕ → SynthAnswer → Type 0

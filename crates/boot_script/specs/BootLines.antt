@@ -2,6 +2,7 @@
 use Rattle.std.specs.Prelude.{◌≡◌, ℕ, ◌<◌, slice_index_or, Bool, true, false, ◌||◌, ◌==◌, List, [], ◌∷◌, Some}
 use Rattle.std.specs.Prelude.{None, Result, Ok, Err, if◌then◌else◌}
 use Rattle.std.specs.List.{list_all}
+use Rattle.event_theory.specs.Numbers.{u32_max, u64_max}
 use Rattle.boot_script.specs.declared.fault.ScriptRefusal.{ScriptRefusal}
 use Rattle.boot_script.specs.declared.fault.ScriptRefusal.TheVariants.{BadName, NameTwice, NotAscii}
 use Rattle.boot_script.specs.declared.boot_words.BootWord.{BootWord}
@@ -100,7 +101,7 @@ line_of version names word.Pump words =
 line_of version names word.Switch words = switch_words names words
 line_of version names word.Gauge words = one_word (new_name names) Gauge words
 line_of version names word.Alarm words =
-    three_words (number_of 4294967295) (number_named kind.Thread names) signal_of
+    three_words (number_of u32_max) (number_named kind.Thread names) signal_of
     (λ due thread signal. Alarm (record { due = due; element = thread; signal = signal })) words
 line_of version names word.Thread words = one_word (new_name names) Thread words
 line_of version names word.More words = one_word (number_named kind.Thread names) More words
@@ -117,7 +118,7 @@ line_of version names word.Stop words =
 line_of version names word.Start words =
     one_word (number_named kind.Thread names) (λ thread. Step (step.Start thread)) words
 line_of version names word.Tick words =
-    two_words (number_named kind.Gauge names) (number_of 18446744073709551615)
+    two_words (number_named kind.Gauge names) (number_of u64_max)
     (λ gauge amount. Step (step.Tick gauge amount)) words
 line_of version names word.Poke words =
     one_word (number_named kind.Mover names) (λ mover. Step (step.Poke mover)) words

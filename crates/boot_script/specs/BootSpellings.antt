@@ -3,6 +3,7 @@ use Rattle.std.specs.Prelude.{◌≡◌, ◌≢◌, ◌⊎◌, ℕ, ◌+◌, ◌
 use Rattle.std.specs.Prelude.{◌++◌, length, Option, Some, None, Ok, nat_lt, ◌==◌, if◌then◌else◌, codes}
 use Rattle.std.specs.List.{AllByRecursion, join_with_byte}
 use Rattle.std.specs.Fmt.{decimal}
+use Rattle.event_theory.specs.Numbers.{u32_max, u64_max}
 use Rattle.boot_script.specs.declared.boot_lines.Line.{Line}
 use Rattle.boot_script.specs.declared.boot_lines.Line.TheVariants.{Queue, Tty, Types, Mover, Gauge, Alarm}
 use Rattle.boot_script.specs.declared.boot_lines.Line.TheVariants.{Thread, More, Step}
@@ -171,7 +172,7 @@ FitsStep version names (step.Signal thread signal) = (thread < count_of kind.Thr
 FitsStep version names (step.Stop thread) = thread < count_of kind.Thread names
 FitsStep version names (step.Start thread) = thread < count_of kind.Thread names
 FitsStep version names (step.Tick gauge amount) =
-    (gauge < count_of kind.Gauge names) × (amount ≤ 18446744073709551615)
+    (gauge < count_of kind.Gauge names) × (amount ≤ u64_max)
 FitsStep version names (step.Poke mover) = mover < count_of kind.Mover names
 FitsStep version names step.Pass = Unit {0}
 FitsStep version names (step.Close queue) = (is_later version ≡ true) × (queue < count_of kind.Queue names)
@@ -184,7 +185,7 @@ FitsLine version names going (Types tty text) = (tty < count_of kind.Tty names) 
 FitsLine version names going (Mover planned) = IsNew names planned.name × FitsMover names planned.mover
 FitsLine version names going (Gauge name) = IsNew names name
 FitsLine version names going (Alarm alarm) =
-    (alarm.due ≤ 4294967295) × (alarm.element < count_of kind.Thread names) × (alarm.signal ≤ 15)
+    (alarm.due ≤ u32_max) × (alarm.element < count_of kind.Thread names) × (alarm.signal ≤ 15)
 FitsLine version names going (Thread name) = IsNew names name
 FitsLine version names going (More thread) = thread < count_of kind.Thread names
 FitsLine version names going (Step one) = (going ≡ true) × FitsStep version names one

@@ -6,6 +6,7 @@ use Rattle.event_theory.specs.declared.event.Event.TheVariants.{Queue, Chain, Cl
 use Rattle.event_theory.specs.declared.event.Event.TheVariants.{Start, Signal, Deliver, Done, Notify, NotifyWait}
 use Rattle.event_theory.specs.declared.event.Event.TheVariants.{Round, Leave, Tick, Advance, Set, Fire, Cancel, Join}
 use Rattle.event_theory.specs.declared.event.Event.TheVariants.{Shut, WaitAt}
+use Rattle.event_theory.specs.Numbers.{u32_max, u64_max}
 use Rattle.boot_script.specs.declared.commands.Command.{Command}
 use Rattle.boot_script.specs.declared.commands.Command.TheVariants as command
 use Rattle.boot_script.specs.declared.fault.ScriptRefusal.{ScriptRefusal}
@@ -84,7 +85,7 @@ at_most_of most items = if nat_le (length items) most then Ok tt else Err TooMan
 -- the items of a claim are all read before they are counted
 abbrev pub items_of : List (List ℕ) → Result (List ℕ) ScriptRefusal
 items_of words = do
-  items ← numbers_of 18446744073709551615 words
+  items ← numbers_of u64_max words
   end ← at_most_of 256 items
   Ok items
 
@@ -107,8 +108,8 @@ event_of version command.Queue words = one_word (number_of 65535) Queue words
 event_of version command.Chain words = no_words Chain words
 event_of version command.Claim words = claim_words version words
 event_of version command.Raise words =
-    four_words call_of (queue_of version) (number_of 4294967295) (number_of 4294967295) Raise words
-event_of version command.Take words = three_words call_of (queue_of version) (number_of 4294967295) Take words
+    four_words call_of (queue_of version) (number_of u32_max) (number_of u32_max) Raise words
+event_of version command.Take words = three_words call_of (queue_of version) (number_of u32_max) Take words
 event_of version command.On words = three_words call_of (processor_of version) (element_of version) On words
 event_of version command.Off words = two_words call_of (processor_of version) Off words
 event_of version command.Stop words = two_words call_of (element_of version) Stop words
@@ -120,15 +121,15 @@ event_of version command.Done words = two_words call_of (element_of version) Don
 event_of version command.Notify words = two_words call_of (listener_of version) notify_event words
 event_of version command.Round words = two_words call_of chain_of Round words
 event_of version command.Leave words = two_words call_of chain_of Leave words
-event_of version command.Tick words = three_words call_of gauge_of (number_of 18446744073709551615) Tick words
+event_of version command.Tick words = three_words call_of gauge_of (number_of u64_max) Tick words
 event_of version command.Advance words = one_word call_of Advance words
-event_of version command.Set words = four_words call_of (number_of 4294967295) (element_of version) signal_of Set words
+event_of version command.Set words = four_words call_of (number_of u32_max) (element_of version) signal_of Set words
 event_of version command.Fire words = two_words call_of slot_of Fire words
 event_of version command.Cancel words = two_words call_of slot_of Cancel words
 event_of version command.Join words = two_words call_of call_of Join words
 event_of version command.Shut words = two_words call_of byte_queue_of Shut words
 event_of version command.WaitAt words =
-    four_words call_of (wait_of version) (element_of version) (number_of 4294967295) WaitAt words
+    four_words call_of (wait_of version) (element_of version) (number_of u32_max) WaitAt words
 
 -- 0x20 to 0x7E
 abbrev pub is_printable : ℕ → Bool

@@ -9,6 +9,7 @@ use Rattle.event_theory.specs.declared.event.Event.TheVariants.{Round, Leave, Ti
 use Rattle.event_theory.specs.declared.event.Event.TheVariants.{Shut, WaitAt}
 use Rattle.event_theory.specs.declared.names.QueueName.{QueueName}
 use Rattle.event_theory.specs.declared.names.QueueName.TheVariants as queues
+use Rattle.event_theory.specs.Numbers.{u32_max, u64_max}
 use Rattle.boot_script.specs.declared.version.Script.TheVariants.{Events}
 use Rattle.boot_script.specs.declared.version.Version.{Version}
 use Rattle.boot_script.specs.Words.{lines_of}
@@ -97,7 +98,7 @@ FitsQueue version queues.Free = Unit {0}
 
 -- a number of 64 bits
 abbrev pub FitsItem : ℕ → Type 0
-FitsItem item = item ≤ 18446744073709551615
+FitsItem item = item ≤ u64_max
 
 -- the ranges of an event in a version
 abbrev pub Fits : Version → Event → Type 0
@@ -106,8 +107,8 @@ Fits version Chain = Unit {0}
 Fits version (Claim call queue items) =
     (call ≤ 63) × FitsQueue version queue × AllByRecursion FitsItem items × (length items ≤ 256)
 Fits version (Raise call queue run index) =
-    (call ≤ 63) × FitsQueue version queue × (run ≤ 4294967295) × (index ≤ 4294967295)
-Fits version (Take call queue count) = (call ≤ 63) × FitsQueue version queue × (count ≤ 4294967295)
+    (call ≤ 63) × FitsQueue version queue × (run ≤ u32_max) × (index ≤ u32_max)
+Fits version (Take call queue count) = (call ≤ 63) × FitsQueue version queue × (count ≤ u32_max)
 Fits version (On call processor element) =
     (call ≤ 63) × (processor ≤ last_processor version) × (element ≤ last_element version)
 Fits version (Off call processor) = (call ≤ 63) × (processor ≤ last_processor version)
@@ -121,17 +122,17 @@ Fits version (Notify call chain) = (call ≤ 63) × (chain ≤ 7)
 Fits version (NotifyWait call wait) = (is_later version ≡ true) × (call ≤ 63) × (wait ≤ last_wait version)
 Fits version (Round call chain) = (call ≤ 63) × (chain ≤ 7)
 Fits version (Leave call chain) = (call ≤ 63) × (chain ≤ 7)
-Fits version (Tick call gauge amount) = (call ≤ 63) × (gauge ≤ 7) × (amount ≤ 18446744073709551615)
+Fits version (Tick call gauge amount) = (call ≤ 63) × (gauge ≤ 7) × (amount ≤ u64_max)
 Fits version (Advance call) = call ≤ 63
 Fits version (Set call due element signal) =
-    (call ≤ 63) × (due ≤ 4294967295) × (element ≤ last_element version) × (signal ≤ 15)
+    (call ≤ 63) × (due ≤ u32_max) × (element ≤ last_element version) × (signal ≤ 15)
 Fits version (Fire call slot) = (call ≤ 63) × (slot ≤ 15)
 Fits version (Cancel call slot) = (call ≤ 63) × (slot ≤ 15)
 Fits version (Join call other) = (call ≤ 63) × (other ≤ 63)
 Fits version (Shut call queue) = (is_later version ≡ true) × (call ≤ 63) × (queue ≤ 7)
 Fits version (WaitAt call wait element ticket) =
     (is_later version ≡ true) × (call ≤ 63) × (wait ≤ last_wait version) × (element ≤ last_element version)
-    × (ticket ≤ 4294967295)
+    × (ticket ≤ u32_max)
 
 -- the lines, the first of which has this number, are silent or spell the next event
 abbrev pub Spells : Version → ℕ → List (List ℕ) → List (ℕ × Event) → Type 0

@@ -6,6 +6,7 @@ ghost use Rattle.std.specs.Prelude.{◌≡◌, ◌∷◌, ◌<◌, ◌↔◌, �
 ghost use Rattle.std.specs.Prelude.{IfNone};
 ghost use Rattle.std.specs.List.{join_with_byte};
 ghost use Rattle.std.specs.Option.{option_copied};
+ghost use Rattle.event_theory.specs.Numbers.{u32_max};
 ghost use Rattle.boot_script.specs.Words.{pieces, pieces_left, first_word, later_words, words_of, number_of, lines_of};
 
 use crate::fault::ScriptRefusal;
@@ -123,7 +124,7 @@ pub fn number(word: &[u8], most: u64) -> Result<u64, ScriptRefusal>
 
 /// A number of 32 bits.
 pub(crate) fn number_u32(word: &[u8]) -> Result<u32, ScriptRefusal>
-    ensures exact { result ≡ number_of 4294967295 word.now }
+    ensures exact { result ≡ number_of u32_max word.now }
     ensures refused { IfErr result (λ refusal. refusal ≡ ScriptRefusal.BadNumber) }
 {
     Ok(number(word, u64::from(u32::MAX))? as u32)

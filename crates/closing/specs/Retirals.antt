@@ -1,5 +1,6 @@
 -- Chains that were closed, each by its only end.
 use Rattle.std.specs.Prelude.{◌<◌, List}
+use Rattle.table_theory.specs.declared.positions.TheConstants.{POSITIONS}
 use Rattle.end_steps.specs.Splits.{AllThree}
 use Rattle.proc_chain.specs.declared.ends.ChainEnd.{ChainEnd}
 use Rattle.proc_chain.specs.declared.ends.ProcChain.{ProcChain}
@@ -10,9 +11,9 @@ use Rattle.quajects.specs.declared.home.Home.{Home}
 use Rattle.quajects.specs.declared.world.Queues.{Queues}
 use Rattle.quajects.specs.Homes.{CameHome}
 
--- so many notes were chained; a chain has no more
+-- so many notes were chained; a chain has no more positions
 abbrev pub IsFew : Home → Type 0
-IsFew home = home.chained < 4294967296
+IsFew home = home.chained < POSITIONS
 
 module _ {g : Ghosts AnyQuaject Queues} where
   -- the chain is closed by this end, and this is what came home

@@ -1,5 +1,6 @@
 -- A station for each processor, split off from the first.
 use Rattle.std.specs.Prelude.{◌≡◌, ℕ, ◌+◌, ◌*◌, ◌<◌, ◌≤◌, ◌==◌, List, [], ◌∷◌, length}
+use Rattle.table_theory.specs.declared.shares.TheConstants.{MOST_GIVEN}
 use Rattle.end_steps.specs.EndLists.{share_at, chain_share_at}
 use Rattle.meters.specs.Handles as seats
 use Rattle.meters.specs.Own.{DidSplit}
@@ -22,12 +23,12 @@ seat_share parts = (seats.view_of parts.meters).member.share
 
 -- each end can be split so many times
 pub record CanSplit (splits : ℕ) (parts : Parts) : Type 0 where
-  pub hand : splits * 8796093022208 + 2 ≤ hand_share parts
-  pub small : (q : ℕ) → q < length parts.small.items → splits * 8796093022208 + 2 ≤ share_at parts.small.items q
-  pub large : (q : ℕ) → q < length parts.large.items → splits * 8796093022208 + 2 ≤ share_at parts.large.items q
+  pub hand : splits * MOST_GIVEN + 2 ≤ hand_share parts
+  pub small : (q : ℕ) → q < length parts.small.items → splits * MOST_GIVEN + 2 ≤ share_at parts.small.items q
+  pub large : (q : ℕ) → q < length parts.large.items → splits * MOST_GIVEN + 2 ≤ share_at parts.large.items q
   pub chains : (q : ℕ) → q < length parts.chains.items
-      → splits * 8796093022208 + 2 ≤ chain_share_at parts.chains.items q
-  pub meters : splits * 8796093022208 + 2 ≤ seat_share parts
+      → splits * MOST_GIVEN + 2 ≤ chain_share_at parts.chains.items q
+  pub meters : splits * MOST_GIVEN + 2 ≤ seat_share parts
 
 -- what one station had, the two have together
 pub record AreParted (old new born : Parts) : Type 0 where

@@ -9,17 +9,18 @@ use Rattle.proc_chain.specs.declared.ends.ProcChain.{ProcChain}
 use Rattle.proc_chain.specs.declared.ends.ChainEnd.{ChainEnd}
 use Rattle.proc_chain.specs.Handles as chains
 use Rattle.quajects.specs.Ports.{IsUnused}
+use Rattle.table_theory.specs.declared.shares.TheConstants.{MOST_GIVEN}
 use Rattle.end_steps.specs.EndLists.{end_share, end_shuts, chain_end_share, chain_end_puts, chain_end_takes, IsIdle}
 
 -- Of each of these shares a part was given away, no more than so many splits give, and the rest was kept
 pub record Gave (splits : ℕ) (part : ℕ → ℕ) (old new : List ℕ) : Type 0 where
   pub long : length new ≡ length old
   pub rest : (q : ℕ) → slice_index_or new q 0 + part q ≡ slice_index_or old q 0
-  pub few : (q : ℕ) → part q ≤ splits * 8796093022208
+  pub few : (q : ℕ) → part q ≤ splits * MOST_GIVEN
 
 -- each of these shares can be split so many times
 abbrev pub CanGive : ℕ → List ℕ → Type 0
-CanGive splits shares = (q : ℕ) → q < length shares → splits * 8796093022208 + 2 ≤ slice_index_or shares q 0
+CanGive splits shares = (q : ℕ) → q < length shares → splits * MOST_GIVEN + 2 ≤ slice_index_or shares q 0
 
 module _ {n : ℕ} where
   -- an end of this queue that has put and taken no line, and shut nothing

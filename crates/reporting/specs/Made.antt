@@ -2,6 +2,7 @@
 use Rattle.std.specs.Prelude.{◌≡◌, ◌+◌, ◌-◌, ◌%◌, ◌^◌, ℕ, nat_lt, if◌then◌else◌, List, [], ◌∷◌, length, Option, Some, None}
 use Rattle.std.specs.Prelude.{slice_index_or, map}
 use Rattle.std.specs.List.{slice_get, sum_by}
+use Rattle.event_theory.specs.Numbers.{u32_max, u32_values}
 use Rattle.boot_data.specs.declared.plan.PlannedMover.{PlannedMover}
 use Rattle.boot_data.specs.declared.plan.PlannedQueue.{PlannedQueue}
 use Rattle.boot_data.specs.declared.plan.PlannedThread.{PlannedThread}
@@ -101,7 +102,7 @@ state_at stands thread = state_of (slice_get stands thread)
 
 -- a number of steps, or 2^32 - 1 where there are more
 abbrev pub few : ℕ → ℕ
-few steps = if nat_lt steps 4294967296 then steps else 4294967295
+few steps = if nat_lt steps u32_values then steps else u32_max
 
 -- the signals that were shown to the thread with this number
 abbrev pub shown_at : List ℕ → ℕ → ℕ

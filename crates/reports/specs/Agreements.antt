@@ -15,6 +15,7 @@ use Rattle.hand_steps.specs.Tallies.{is_delivered}
 use Rattle.meters.specs.Views.{amount_on, times}
 use Rattle.objects.specs.DeviceEndings.{AreWithout}
 use Rattle.event_theory.specs.declared.alarm.Alarm.{Alarm}
+use Rattle.event_theory.specs.Numbers.{u64_values}
 use Rattle.quajects.specs.declared.any.AnyQuaject.{AnyQuaject}
 use Rattle.quajects.specs.declared.any.AnyQuaject.TheVariants as any
 use Rattle.quajects.specs.declared.ports.Port.{Port}
@@ -201,7 +202,7 @@ pub record MoverAgrees (mover : ℕ) (planned : Mover) (m : closed.Chain) (logs 
 -- a gauge is the sum of its ticks, modulo 2^64
 abbrev pub GaugesAgree : List ℕ → List (List LogEntry) → Type 0
 GaugesAgree gauges logs = (gauge value : ℕ) → slice_get gauges gauge ≡ Some value
-    → value ≡ amount_on gauge (flat_map ticked_by (all_of logs)) % 18446744073709551616
+    → value ≡ amount_on gauge (flat_map ticked_by (all_of logs)) % u64_values
 
 -- the alarms of the plan are fired or left, each once, and the processors fired those fired
 pub record AlarmsAgree (plan : BootPlan) (c : ClosedTables) (logs : List (List LogEntry)) : Type 0 where

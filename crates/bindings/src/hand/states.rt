@@ -1,6 +1,7 @@
 //! Stop bits, stop cells and signals for C.
 ghost use Rattle.std.specs.Prelude.{◌≡◌, ◌<◌, true};
 ghost use Rattle.std.specs.declared.option.Option.TheVariants.{None};
+ghost use Rattle.event_theory.specs.Numbers.{u32_values};
 ghost use Rattle.thread_table.specs.Handles.{view_of};
 ghost use Rattle.thread_table.specs.Rules.{has};
 ghost use Rattle.bindings.specs.Codes.{EmptyHandle};
@@ -75,7 +76,7 @@ fn code_alone(code: i32) -> SynthState
 
 // The word that the refusal tells.
 fn told_of_lost(lost: Lost) -> SynthState
-    requires { lost.seen < 4294967296 }
+    requires { lost.seen < u32_values }
     ensures { IsToldLost lost result }
 {
     SynthState {

@@ -1,6 +1,7 @@
 //! Takings of elements for C.
 ghost use Rattle.std.specs.Prelude.{◌≡◌, ◌+◌, ◌<◌};
 ghost use Rattle.std.specs.declared.option.Option.TheVariants.{None};
+ghost use Rattle.event_theory.specs.Numbers.{u32_values};
 ghost use Rattle.bindings.specs.Codes.{EmptyHandle};
 ghost use Rattle.bindings.specs.HandCalls.{HoldsThen};
 ghost use Rattle.bindings.specs.HandTakings.{WasTaken, IsFit, code_of_next, tail_of_next, IsToldTaking};
@@ -40,7 +41,7 @@ impl HeldHand {
 
 /// The code of the refusal, and the tail that it tells.
 pub(super) fn told_of_next(refusal: NextRefusal) -> SynthAnswer
-    requires { tail_of_next refusal < 4294967296 }
+    requires { tail_of_next refusal < u32_values }
     ensures { (result.code ≡ code_of_next refusal) × (result.head ≡ 0) × (result.tail ≡ tail_of_next refusal) }
 {
     match refusal {

@@ -1,6 +1,7 @@
 //! Lines that declare a queue, a tty, a gauge, an alarm or a thread.
 
 ghost use Rattle.std.specs.Prelude.{◌≡◌, None, Some};
+ghost use Rattle.event_theory.specs.Numbers.{u32_max};
 ghost use Rattle.boot_script.specs.Words.{number_of};
 ghost use Rattle.boot_script.specs.Names.{signal_of};
 ghost use Rattle.boot_script.specs.Versions.{last_wait};
@@ -79,7 +80,7 @@ pub(super) fn gauge_said(names: &Names, words: &mut Words) -> Result<Line, Scrip
 /// `alarm TICK THREAD S`
 #[tactic(auto, unfolding(crate::specs::Grammar::three_words, crate::specs::Grammar::no_words))]
 pub(super) fn alarm_said(names: &Names, words: &mut Words) -> Result<Line, ScriptRefusal>
-    ensures { result ≡ three_words (number_of 4294967295) (number_named kind.Thread names.now) signal_of
+    ensures { result ≡ three_words (number_of u32_max) (number_named kind.Thread names.now) signal_of
         (λ due thread signal. Line.Alarm (record { due = due; element = thread; signal = signal })) words.old }
 {
     let due = number_u32(words.next_word())?;

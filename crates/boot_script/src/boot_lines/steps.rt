@@ -1,6 +1,7 @@
 //! Lines that are steps of a thread's program.
 
 ghost use Rattle.std.specs.Prelude.{◌≡◌, true};
+ghost use Rattle.event_theory.specs.Numbers.{u64_max};
 ghost use Rattle.boot_script.specs.Words.{number_of};
 ghost use Rattle.boot_script.specs.Names.{signal_of};
 ghost use Rattle.boot_script.specs.Versions.{last_wait};
@@ -89,7 +90,7 @@ pub(super) fn start_said(names: &Names, words: &mut Words) -> Result<Line, Scrip
 /// `tick GAUGE N`
 #[tactic(auto, unfolding(crate::specs::Grammar::two_words, crate::specs::Grammar::no_words))]
 pub(super) fn tick_said(names: &Names, words: &mut Words) -> Result<Line, ScriptRefusal>
-    ensures { result ≡ two_words (number_named Kind.Gauge names.now) (number_of 18446744073709551615)
+    ensures { result ≡ two_words (number_named Kind.Gauge names.now) (number_of u64_max)
         (λ gauge amount. Line.Step (Step.Tick gauge amount)) words.old }
 {
     let gauge = names.gauge(words.next_word())?;

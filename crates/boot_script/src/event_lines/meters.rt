@@ -4,6 +4,7 @@ ghost use Rattle.boot_script.specs.Words.{number_of};
 ghost use Rattle.boot_script.specs.Names.{call_of, element_of, gauge_of, signal_of, slot_of};
 ghost use Rattle.boot_script.specs.Grammar.{four_words, one_word, three_words, two_words};
 ghost use Rattle.boot_script.specs.Answers.{Gives};
+ghost use Rattle.event_theory.specs.Numbers.{u32_max, u64_max};
 
 use crate::event_lines::at_end;
 use crate::fault::ScriptRefusal;
@@ -16,7 +17,7 @@ use event_theory::Event;
 #[tactic(auto, unfolding(crate::specs::Grammar::three_words, crate::specs::Grammar::no_words))]
 pub(super) fn tick_said(words: &mut Words) -> Result<Event, ScriptRefusal>
     ensures { Gives (λ event. event) result (three_words call_of gauge_of
-        (number_of 18446744073709551615) Event.Tick words.old) }
+        (number_of u64_max) Event.Tick words.old) }
 {
     let call = call(words.next_word())?;
     let gauge = gauge(words.next_word())?;
@@ -43,7 +44,7 @@ pub(super) fn advance_said(words: &mut Words) -> Result<Event, ScriptRefusal>
 /// `set c due e s`
 #[tactic(auto, unfolding(crate::specs::Grammar::four_words, crate::specs::Grammar::no_words))]
 pub(super) fn set_said(version: Version, words: &mut Words) -> Result<Event, ScriptRefusal>
-    ensures { Gives (λ event. event) result (four_words call_of (number_of 4294967295)
+    ensures { Gives (λ event. event) result (four_words call_of (number_of u32_max)
         (element_of version) signal_of Event.Set words.old) }
 {
     let call = call(words.next_word())?;

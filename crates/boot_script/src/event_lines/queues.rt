@@ -1,6 +1,7 @@
 //! Lines on queues: what makes and shuts a byte queue, and claims, raises and takings.
 
 ghost use Rattle.std.specs.Prelude.{◌≡◌};
+ghost use Rattle.event_theory.specs.Numbers.{u32_max};
 ghost use Rattle.boot_script.specs.Words.{number_of};
 ghost use Rattle.boot_script.specs.Names.{byte_queue_of, call_of, queue_of};
 ghost use Rattle.boot_script.specs.Grammar.{claim_words, four_words, items_of, one_word, three_words, two_words};
@@ -65,8 +66,8 @@ pub(super) fn claim_said(
 /// `raise c Q run i`
 #[tactic(auto, unfolding(crate::specs::Grammar::four_words, crate::specs::Grammar::no_words))]
 pub(super) fn raise_said(version: Version, words: &mut Words) -> Result<Event, ScriptRefusal>
-    ensures { Gives (λ event. event) result (four_words call_of (queue_of version) (number_of 4294967295)
-        (number_of 4294967295) Event.Raise words.old) }
+    ensures { Gives (λ event. event) result (four_words call_of (queue_of version) (number_of u32_max)
+        (number_of u32_max) Event.Raise words.old) }
 {
     let call = call(words.next_word())?;
     let queue = queue(version, words.next_word())?;
@@ -87,7 +88,7 @@ pub(super) fn raise_said(version: Version, words: &mut Words) -> Result<Event, S
 #[tactic(auto, unfolding(crate::specs::Grammar::three_words, crate::specs::Grammar::no_words))]
 pub(super) fn take_said(version: Version, words: &mut Words) -> Result<Event, ScriptRefusal>
     ensures { Gives (λ event. event) result (three_words call_of (queue_of version)
-        (number_of 4294967295) Event.Take words.old) }
+        (number_of u32_max) Event.Take words.old) }
 {
     let call = call(words.next_word())?;
     let queue = queue(version, words.next_word())?;

@@ -4,6 +4,7 @@ ghost use Rattle.boot_script.specs.Words.{number_of};
 ghost use Rattle.boot_script.specs.Names.{call_of, element_of, processor_of, signal_of, wait_of};
 ghost use Rattle.boot_script.specs.Grammar.{four_words, three_words, two_words};
 ghost use Rattle.boot_script.specs.Answers.{Gives};
+ghost use Rattle.event_theory.specs.Numbers.{u32_max};
 
 use crate::event_lines::at_end;
 use crate::fault::ScriptRefusal;
@@ -114,7 +115,7 @@ pub(super) fn done_said(version: Version, words: &mut Words) -> Result<Event, Sc
 #[tactic(auto, unfolding(crate::specs::Grammar::four_words, crate::specs::Grammar::no_words))]
 pub(super) fn wait_at_said(version: Version, words: &mut Words) -> Result<Event, ScriptRefusal>
     ensures { Gives (λ event. event) result (four_words call_of (wait_of version) (element_of version)
-        (number_of 4294967295) Event.WaitAt words.old) }
+        (number_of u32_max) Event.WaitAt words.old) }
 {
     let call = call(words.next_word())?;
     let wait = wait(version, words.next_word())?;

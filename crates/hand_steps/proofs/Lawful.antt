@@ -2,18 +2,16 @@
 use Rattle.std.proofs.Common.{◌≡◌, ◌⊎◌, inl, inr, ℕ, ◌<◌, ◌≤◌, Bool, true, false, cond, List, [], ◌∷◌, take, length, get_or, slice_get, Option, Some, None, refl, sym, ap, ◌∙◌, arith, eqb, set, ◌≢◌}
 use Rattle.std.specs.Prelude.{◌==◌, ◌||◌, if◌then◌else◌, option_map}
 use Rattle.std.proofs.lemmas.List.{get_or-set_same, get_or-set_other}
-use Rattle.std.proofs.Math.ListN.{get_or-eq_default}
 use Rattle.std.proofs.lemmas.Bool.{cases_lt}
-use Rattle.std.proofs.lemmas.Bool.Decides.{eqb_tells, nat_tests}
-use Rattle.std.proofs.lemmas.List.Sums.{sum_by-cons, get_or-le-sum_by}
+use Rattle.std.proofs.lemmas.Bool.Decides.{eqb_tells}
+use Rattle.std.proofs.lemmas.List.Sums.{get_or-le-sum_by}
 use Rattle.std.proofs.lemmas.Option.{slice_get-get_or, get_or_from_slice_get}
-use Rattle.std.specs.List.{sum_by}
-use Rattle.event_theory.specs.Appearances.{appearances, in_list, in_cell, is_on}
+use Rattle.event_theory.specs.Appearances.{appearances, in_cell, is_on}
 use Rattle.event_theory.specs.declared.hold.Hold.{Hold}
 use Rattle.event_theory.specs.Elements.{Elements, Thread, hold, holds, new_thread}
 use Rattle.event_theory.specs.Lawful.{IsLawfulElements}
-use Rattle.event_theory.specs.Queues.{Queue, left, empty_queue}
-use Rattle.event_theory.proofs.Keeping.Places.{one, in_hands}
+use Rattle.event_theory.specs.Queues.{left}
+use Rattle.event_theory.proofs.Keeping.Places.{in_hands}
 use Rattle.thread_table.specs.declared.rule.View.{View}
 use Rattle.thread_table.specs.Answers.{TookFirst, FoundThen}
 use Rattle.thread_table.specs.Rules.{has, serves, running}

@@ -1,5 +1,5 @@
 -- Moves that are tried again where they were lost.
-use Rattle.std.specs.Prelude.{◌≡◌, ◌+◌, ℕ, zero, suc, Bool, true, false, Ok, Err}
+use Rattle.std.specs.Prelude.{◌≡◌, ℕ, zero, suc, Bool, true, false, Ok, Err}
 use Rattle.thread_table.specs.Layout.{ready_ring, free_ring, wait_ring}
 use Rattle.thread_table.specs.declared.rule.View.{View}
 use Rattle.thread_table.specs.declared.moves.MoveRefusal.TheVariants as moves

@@ -1,5 +1,5 @@
 //! Moves of an element that the hand holds, tried again where another hand was first.
-ghost use Rattle.std.specs.Prelude.{◌≡◌, ◌+◌, true};
+ghost use Rattle.std.specs.Prelude.{◌≡◌, true};
 ghost use Rattle.thread_table.specs.Layout.{ready_ring, free_ring, wait_ring};
 ghost use Rattle.thread_table.specs.Answers.{MoveAnswer};
 ghost use Rattle.thread_table.specs.Handles.{view_of, call_of, IsHandOf, IsSameHand};

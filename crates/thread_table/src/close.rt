@@ -1,5 +1,5 @@
 //! Closing a table.
-ghost use Rattle.std.specs.Prelude.{◌≡◌, ℕ, ◌+◌, ◌%◌, ◌<◌, slice_index_or, IfOk, IfErr, MatchResult};
+ghost use Rattle.std.specs.Prelude.{◌≡◌, ℕ, ◌%◌, ◌<◌, slice_index_or, IfOk, IfErr, MatchResult};
 ghost use Rattle.std.specs.Int.{bit_at};
 ghost use Rattle.std.specs.Mem.Slots.{slots_items, slots_len, IsFull};
 ghost use Rattle.thread_table.specs.declared.layout.TheConstants.{WORDS, ELEMENTS, STOP};

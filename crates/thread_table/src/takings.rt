@@ -1,5 +1,5 @@
 //! Takings: the oldest element of the ready ring, of the free elements or of a wait queue is then held.
-ghost use Rattle.std.specs.Prelude.{◌≡◌, ◌<◌, ◌+◌};
+ghost use Rattle.std.specs.Prelude.{◌≡◌, ◌<◌};
 ghost use Rattle.thread_table.specs.declared.layout.TheConstants.{RINGS};
 ghost use Rattle.thread_table.specs.Layout.{ready_ring, free_ring, wait_ring};
 ghost use Rattle.thread_table.specs.Handles.{view_of, call_of, IsHandOf, IsSameHand};

@@ -1,6 +1,6 @@
 -- Whatever the rule holds of is a lawful queue of the core, shown by the words and the views.
-use Rattle.std.proofs.Common.{◌≡◌, ℕ, ◌+◌, ◌%◌, ◌<◌, ◌≤◌, Bool, true, false, List, ◌∙◌, map, length, take, get_or, refl, sym, ap, subst, arith, true≢false}
-use Rattle.std.proofs.lemmas.List.{get_or-map, take-map}
+use Rattle.std.proofs.Common.{◌≡◌, ℕ, ◌+◌, ◌%◌, ◌<◌, ◌≤◌, Bool, true, false, List, ◌∙◌, map, length, get_or, refl, sym, ap, subst, arith, true≢false}
+use Rattle.std.proofs.lemmas.List.{get_or-map}
 use Rattle.std.proofs.lemmas.Simd.{map-map}
 use Rattle.std.proofs.lemmas.Bool.{le-leb, leb-true}
 use mathlib.Core.Logic.{dite}
@@ -11,7 +11,7 @@ use Rattle.table_theory.specs.declared.queues.Positions.{Positions}
 use Rattle.atomic_table.proofs.Lists.{at_map}
 use Rattle.event_theory.specs.Runs.{flat, pairs}
 use Rattle.event_theory.specs.Queues.{is_raised}
-use Rattle.table_theory.specs.Positioned.{blank, item_of, place_at, item_at}
+use Rattle.table_theory.specs.Positioned.{blank, place_at}
 use Rattle.table_theory.specs.Filing.{Owned, ListedOnce}
 use Rattle.table_theory.specs.Listing.{all_places, runs_of, takes_of, Adjacent}
 use Rattle.table_theory.specs.QueueOf.{run_in, is_up, queue_of}

@@ -1,6 +1,5 @@
 -- Whatever the rule holds of is a lawful chain of the core, shown by the words and the views.
-use Rattle.std.proofs.Common.{◌≡◌, ℕ, ◌+◌, ◌%◌, ◌<◌, ◌≤◌, true, false, true≢false, List, ◌∙◌, map, length, take, get_or, refl, sym, ap, subst, arith, Some, eqb, eq-eqb, ne_eqb}
-use Rattle.std.proofs.lemmas.List.{get_or-map, take-map}
+use Rattle.std.proofs.Common.{◌≡◌, ℕ, ◌+◌, ◌%◌, ◌<◌, ◌≤◌, true, false, true≢false, List, ◌∙◌, map, length, take, refl, sym, ap, subst, arith, Some, eqb, eq-eqb, ne_eqb}
 use Rattle.std.proofs.lemmas.Simd.{map-map}
 use Rattle.std.proofs.lemmas.Bool.{le-leb, leb-true}
 use mathlib.Core.Option as maybe
@@ -14,7 +13,7 @@ use Rattle.event_theory.specs.Runs.{flat}
 use Rattle.event_theory.specs.Queues.{is_raised}
 use Rattle.event_theory.specs.Chains.{Chain, is_call}
 use Rattle.event_theory.specs.Lawful.{is_idle}
-use Rattle.table_theory.specs.Positioned.{blank, item_of, place_at, item_at}
+use Rattle.table_theory.specs.Positioned.{place_at}
 use Rattle.table_theory.specs.Filing.{ListedOnce}
 use Rattle.table_theory.specs.Listing.{runs_of, takes_of, Adjacent}
 use Rattle.table_theory.proofs.Batches.{item_is, taken_is, taken_items}

@@ -1,4 +1,4 @@
-use Rattle.std.proofs.Common.{rules, arith, refl}
+use Rattle.std.proofs.Common.{rules, arith}
 use Rattle.proc_chain.proofs.Claiming.{raises_place, raised_at}
 use Rattle.proc_chain.proofs.steps.store_place.Goals as goal
 

@@ -1,4 +1,4 @@
-use Rattle.std.proofs.Common.{refl, ◌∙◌, sym}
+use Rattle.std.proofs.Common.{refl}
 use Rattle.meters.proofs.Following.{lost_clock, advance_nothing, advance_did}
 use Rattle.meters.proofs.ends.Meters.advance.Goals as goal
 

@@ -26,7 +26,7 @@ flag_word room position = position % room + room + FIRST_DATA
 abbrev pub width : ℕ → ℕ
 width room = room + room + FIRST_DATA
 
--- what the head word has beside the head
+-- what the head word has beside the head: SHUT where the queue is shut, and else nothing
 abbrev pub mark : Bool → ℕ
 mark true = SHUT
 mark false = 0

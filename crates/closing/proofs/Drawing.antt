@@ -2,6 +2,7 @@
 use Rattle.std.proofs.Common.{◌≡◌, suc, ◌+◌, List, [], ◌∷◌, ◌++◌, map, length, refl, sym, ap, subst, ◌∙◌, arith, length-append, append_assoc, append-nil}
 use Rattle.std.specs.List.{All}
 use Rattle.end_steps.specs.Splits.{AllThree}
+use Rattle.end_steps.proofs.Walking.{three_push, none_left}
 
 -- so much of each list is drawn, and these are left
 pub record Drawn {A B C : Type 0} (R : A → B → C → Type 0) (all : List A) (others : List B) (drawn left : List A) (rest : List B) (made : List C) : Type 0 where
@@ -11,16 +12,6 @@ pub record Drawn {A B C : Type 0} (R : A → B → C → Type 0) (all : List A) 
   pub each : AllThree R drawn used made
 
 module _ {A B C : Type 0} (R : A → B → C → Type 0) where
-  three_push : (xs : List A) (ys : List B) (zs : List C) (x : A) (y : B) (z : C) → AllThree R xs ys zs → R x y z → AllThree R (xs ++ x ∷ []) (ys ++ y ∷ []) (zs ++ z ∷ [])
-  three_push [] [] [] x y z h r = (r, h)
-  three_push [] [] (c ∷ zs) x y z h r = absurd h
-  three_push [] (b ∷ ys) [] x y z h r = absurd h
-  three_push [] (b ∷ ys) (c ∷ zs) x y z h r = absurd h
-  three_push (a ∷ xs) [] [] x y z h r = absurd h
-  three_push (a ∷ xs) [] (c ∷ zs) x y z h r = absurd h
-  three_push (a ∷ xs) (b ∷ ys) [] x y z h r = absurd h
-  three_push (a ∷ xs) (b ∷ ys) (c ∷ zs) x y z h r = (h.0, three_push xs ys zs x y z h.1 r)
-
   pub three_long : (xs : List A) (ys : List B) (zs : List C) → AllThree R xs ys zs → (length ys ≡ length xs) × (length zs ≡ length xs)
   three_long [] [] [] h = (refl, refl)
   three_long [] [] (c ∷ zs) h = absurd h
@@ -40,7 +31,7 @@ module _ {A B C : Type 0} (R : A → B → C → Type 0) where
     used = d.used ++ b ∷ [];
     first = append_assoc drawn (a ∷ []) left' ∙ (ap (λ z. drawn ++ z) (sym e) ∙ d.first);
     second = append_assoc d.used (b ∷ []) rest' ∙ (ap (λ z. d.used ++ z) (sym e') ∙ d.second);
-    each = subst (AllThree R (drawn ++ a ∷ []) (d.used ++ b ∷ [])) (sym more) (three_push drawn d.used made a b c d.each r);
+    each = subst (AllThree R (drawn ++ a ∷ []) (d.used ++ b ∷ [])) (sym more) (three_push R drawn d.used made a b c d.each r);
   }
 
   -- as many are left in both
@@ -55,14 +46,10 @@ module _ {A B C : Type 0} (R : A → B → C → Type 0) where
 
   pub all_drawn : (all : List A) (others : List B) (drawn left : List A) (rest : List B) (made : List C) → length others ≡ length all → left ≡ [] → Drawn R all others drawn left rest made → AllThree R all others made
   all_drawn all others drawn left rest made long none d =
-      let no_rest : rest ≡ [] = empty rest (rest_long all others drawn left rest made long d ∙ ap length none) in
+      let no_rest : rest ≡ [] = none_left rest (rest_long all others drawn left rest made long d ∙ ap length none) in
       let f : drawn ≡ all = sym (append-nil drawn) ∙ (ap (λ z. drawn ++ z) (sym none) ∙ d.first) in
       let s : d.used ≡ others = sym (append-nil d.used) ∙ (ap (λ z. d.used ++ z) (sym no_rest) ∙ d.second) in
       subst (λ z. AllThree R z others made) f (subst (λ z. AllThree R drawn z made) s d.each)
-    where
-      empty : {E : Type 0} (l : List E) → length l ≡ 0 → l ≡ []
-      empty [] h = refl
-      empty (x ∷ xs) h = absurd (omega arith)
 
   -- the next two fit, where both lists have one image
   pub next_fit : {D : Type 0} (f : B → D) (g : A → D) (all : List A) (others : List B) (drawn left : List A) (rest : List B) (made : List C) (a : A) (left' : List A) (b : B) (rest' : List B)

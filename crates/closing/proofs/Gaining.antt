@@ -3,7 +3,7 @@ use Rattle.std.proofs.Common.{◌≡◌, ℕ, zero, suc, ◌+◌, ◌<◌, true,
 use Rattle.std.specs.List.{slice_get}
 use Rattle.std.proofs.lemmas.List.{append-nil, map-append}
 use Rattle.std.proofs.lemmas.Option.{slice_get-get_or}
-use Rattle.table_theory.specs.declared.queues.Batch.{Batch}
+use Rattle.std.proofs.Math.Nat.{add-zero as no_more}
 use Rattle.table_theory.specs.declared.views.Member.{Member}
 use Rattle.table_theory.specs.Listing.{AllRaised}
 use Rattle.claim_queue.specs.declared.ends.QueueEnd.{QueueEnd}
@@ -17,20 +17,13 @@ use Rattle.end_steps.specs.EndLists.{HasRaised, end_share, end_shuts, end_knows_
 use Rattle.end_steps.specs.EndLists.{chain_end_puts, chain_end_takes, chain_end_share}
 use Rattle.end_steps.specs.Splits.{IsJoined, IsChainJoined}
 use Rattle.end_steps.proofs.Places.{grown_at, all_still, known_still}
+use Rattle.end_steps.proofs.Parting.{raised_both}
 use Rattle.quajects.specs.Settled.{runs_of, takings_of}
 use Rattle.closing.specs.Gains.{Gained, ChainsGained, end_runs, end_takings}
-
-no_more : (n : ℕ) → n + 0 ≡ n
-no_more n = omega arith
 
 -- what is at a place by one form is there by the other
 pub its_own : {A : Type 0} (P : A → Type 0) (list : List A) (index : ℕ) (x : A) → index < length list → ((y : A) → slice_get list index ≡ Some y → P y) → x ≡ get_or list index x → P x
 its_own P list index x below its is = its x (slice_get-get_or list index x below ∙ ap Some (sym is))
-
-pub raised_both : (a b : List Batch) → AllRaised a → AllRaised b → AllRaised (a ++ b)
-raised_both [] b ha hb m e at i l = hb m e at i l
-raised_both (x ∷ a) b ha hb zero e at i l = ha zero e at i l
-raised_both (x ∷ a) b ha hb (suc m) e at i l = raised_both a b (λ m. ha (suc m)) hb m e at i l
 
 -- the end that was used is at its place
 set_at : {A B : Type 0} (f : A → B) (xs : List A) (i : ℕ) (x : A) (d : B) → i < length xs → get_or (map f (set xs i x)) i d ≡ f x

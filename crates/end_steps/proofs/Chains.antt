@@ -4,6 +4,7 @@ use Rattle.std.specs.List.{All}
 use Rattle.std.proofs.Math.Seq.{map-set_same}
 use Rattle.std.proofs.lemmas.List.{append-nil}
 use Rattle.std.proofs.lemmas.Option.{slice_get-get_or}
+use Rattle.std.proofs.Math.Nat.{add-zero as no_more}
 use Rattle.proc_chain.specs.declared.chaining.ChainRefusal.{ChainRefusal}
 use Rattle.proc_chain.specs.declared.ends.ChainEnd.{ChainEnd}
 use Rattle.proc_chain.specs.declared.ends.ProcChain.{ProcChain}
@@ -14,9 +15,6 @@ use Rattle.end_steps.specs.Deeds.{HasPoked, PokedAt}
 use Rattle.end_steps.specs.EndLists.{chain_table, chain_end_table, chain_end_call, chain_end_puts, chain_end_takes, chain_end_share, IsIdle, AreChainsOver, AreChainEndsOf, AreSameChainEnds, only_at, number_at}
 use Rattle.end_steps.specs.Sums.{ChainEndWorked, ChainsWorked}
 use Rattle.end_steps.proofs.Places.{same_at, as_long, same_ends, on_end, grown_at, all_still}
-
-no_more : (n : ℕ) → n + 0 ≡ n
-no_more n = omega arith
 
 -- what holds of each holds of the one that is used
 one_of : {A : Type 0} (P : A → Type 0) (xs : List A) (q : ℕ) (x : A) → All P xs → q < length xs → x ≡ get_or xs q x → P x

@@ -16,7 +16,7 @@ use Rattle.end_steps.proofs.Walking.{at_three, map_three, all_three, all_third}
 none_raised : (l : List Batch) → l ≡ [] → AllRaised l
 none_raised l e = subst AllRaised (sym e) (λ m b at. absurd (cc))
 
-raised_both : (a b : List Batch) → AllRaised a → AllRaised b → AllRaised (a ++ b)
+pub raised_both : (a b : List Batch) → AllRaised a → AllRaised b → AllRaised (a ++ b)
 raised_both [] b ha hb m e at i l = hb m e at i l
 raised_both (x ∷ a) b ha hb zero e at i l = ha zero e at i l
 raised_both (x ∷ a) b ha hb (suc m) e at i l = raised_both a b (λ m. ha (suc m)) hb m e at i l

@@ -2,15 +2,13 @@
 use Rattle.std.proofs.Common.{◌≡◌, ℕ, ◌+◌, ◌<◌, List, [], ◌++◌, length, get_or, set, ap, ◌∙◌, arith}
 use Rattle.std.proofs.Math.Seq.{map-set_same}
 use Rattle.std.proofs.lemmas.List.{append-nil}
+use Rattle.std.proofs.Math.Nat.{add-zero as no_more}
 use Rattle.claim_queue.specs.declared.ends.ClaimQueue.{ClaimQueue}
 use Rattle.claim_queue.specs.declared.ends.QueueEnd.{QueueEnd}
 use Rattle.claim_queue.specs.Handles.{IsEndOf, IsSameEnd}
 use Rattle.end_steps.specs.EndLists.{queue_table, end_table, end_call, end_puts, end_takes, end_share, end_shuts, end_knows_shut, HasRaised, ClaimedInOrder, TookInOrder, AreEndsOf, AreSameEnds, OnEnd, only_at, number_at, lines_put_at, lines_taken_at, shuts_at}
 use Rattle.end_steps.specs.Sums.{EndWorked, Worked, no_lines, never}
 use Rattle.end_steps.proofs.Places.{same_at, as_long, same_ends, on_end, none_at, zero_at, grown_at, all_still, known_still}
-
-no_more : (n : ℕ) → n + 0 ≡ n
-no_more n = omega arith
 
 module _ {n : ℕ} where
   pub its_end : (queues : List (ClaimQueue n)) (ends : List (QueueEnd n)) (q : ℕ) (queue : ClaimQueue n) (end : QueueEnd n) → AreEndsOf queues ends → q < length queues → end ≡ get_or ends q end → queue ≡ get_or queues q queue → IsEndOf queue end

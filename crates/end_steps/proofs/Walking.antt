@@ -8,7 +8,7 @@ use Rattle.end_steps.specs.EndLists.{AreSame}
 use Rattle.end_steps.specs.Splits.{AllThree}
 
 module _ {A B C : Type 0} (R : A → B → C → Type 0) where
-  three_push : (xs : List A) (ys : List B) (zs : List C) (x : A) (y : B) (z : C) → AllThree R xs ys zs → R x y z → AllThree R (xs ++ x ∷ []) (ys ++ y ∷ []) (zs ++ z ∷ [])
+  pub three_push : (xs : List A) (ys : List B) (zs : List C) (x : A) (y : B) (z : C) → AllThree R xs ys zs → R x y z → AllThree R (xs ++ x ∷ []) (ys ++ y ∷ []) (zs ++ z ∷ [])
   three_push [] [] [] x y z h r = (r, h)
   three_push [] [] (c ∷ zs) x y z h r = absurd h
   three_push [] (b ∷ ys) [] x y z h r = absurd h

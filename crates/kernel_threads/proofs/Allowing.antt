@@ -1,5 +1,5 @@
 -- The works of a boot may be done.
-use Rattle.std.proofs.Common.{◌≡◌, ℕ, zero, suc, ◌+◌, ◌<◌, List, [], ◌∷◌, ◌∙◌, length, refl, sym, ap, subst, arith, Some, slice_get}
+use Rattle.std.proofs.Common.{◌≡◌, ℕ, zero, suc, ◌+◌, List, [], ◌∷◌, ◌∙◌, length, refl, sym, ap, subst, arith, Some, slice_get}
 use Rattle.std.specs.List.{All}
 use Rattle.boot_data.specs.declared.plan.PlannedTty.{PlannedTty}
 use Rattle.end_steps.specs.Splits.{AllThree}
@@ -7,15 +7,11 @@ use Rattle.objects.specs.declared.device.Device.{Device}
 use Rattle.objects.specs.Devices.{AreDevicesOf, IsAtWork}
 use Rattle.processor.specs.declared.shared.Shared.{Shared}
 use Rattle.processor.specs.declared.station.Parts.{Parts}
+use Rattle.event_theory.proofs.Lists.Placed.{there}
 use Rattle.kernel_threads.specs.declared.work.Work.{Work}
 use Rattle.kernel_threads.specs.Readiness.{IsServing, AreServing}
 use Rattle.kernel_threads.specs.Stationings.{ArePosted}
 use Rattle.kernel_threads.specs.Works.{MayWork, IsServable}
-
-there : {A : Type 0} (l : List A) (k : ℕ) → k < length l → (x : A) × (slice_get l k ≡ Some x)
-there [] k low = absurd (omega arith)
-there (x ∷ l) zero low = (x, refl)
-there (x ∷ l) (suc k) low = there l k (omega arith)
 
 all_none : {A : Type 0} (P : A → Type 0) → All P []
 all_none P k d low = absurd (omega arith)

@@ -24,11 +24,9 @@ use Rattle.thread_table.specs.Views.{with_claim, with_raise}
 use Rattle.thread_table.proofs.Schedule.Following.{Looked, found_looked, looked_on}
 use Rattle.std.proofs.lemmas.List.FromFn.{length-range_with_len}
 use Rattle.hand_steps.proofs.Lawful.{took_known, took_unheld}
+use Rattle.processor.proofs.Acting.{keeps_on}
 use Rattle.kernel_threads.proofs.FreeTakings.{did_take, looked_take, mark_more, mark_new, mark_less, all_marked}
 use Rattle.kernel_threads.specs.Elements.{readied_by, other_by, readied, freed, others, free_taken, own_takings, many_held, one_by_one, Moved, TookFree, HoldsLess, HoldsFrom, MadeReady, Freed, Prepared}
-
-keeps_on : (u v w : View) → Keeps u v → Keeps v w → Keeps u w
-keeps_on u v w a b = record { first = b.first ∙ a.first; serves = b.serves ∙ a.serves; on = b.on ∙ a.on; share = b.share ∙ a.share }
 
 looked_stays : (v w : View) → Looked v w → Stays v w
 looked_stays v w l = record {

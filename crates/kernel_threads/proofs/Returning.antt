@@ -1,6 +1,6 @@
 -- What the processors and the devices gave back, by the works that they were told.
 use Rattle.std.proofs.Common.{◌≡◌, ℕ, zero, suc, ◌+◌, ◌<◌, ◌≤◌, ◌^◌, List, [], ◌∷◌, ◌∙◌, map, take, drop, length, refl, sym, ap, subst, arith, Option, Some, None, slice_get}
-use Rattle.std.specs.List.{AllByRecursion, AllZip}
+use Rattle.std.specs.List.{AllZip}
 use Rattle.std.proofs.Math.Bridge.{le_prop}
 use Rattle.std.proofs.Math.Logic.{∥∥₁_elim}
 use Rattle.boot_data.specs.declared.boot_plan.BootPlan.{BootPlan}
@@ -24,6 +24,8 @@ use Rattle.quajects.specs.declared.raw.RawTty.{RawTty}
 use Rattle.spsc_line.specs.declared.line_in.LineIn.{LineIn}
 use Rattle.spsc_line.specs.declared.line_out.LineOut.{LineOut}
 use Rattle.spsc_line.specs.Lines.{IsLine, SameIn, SameOut}
+use Rattle.event_theory.proofs.Lists.Placed.{all_at as all_here}
+use Rattle.event_theory.proofs.Lists.Histories.{slice_get-drop as get_dropped}
 use Rattle.kernel_threads.specs.declared.work.Work.{Work}
 use Rattle.kernel_threads.specs.declared.work.Work.TheVariants as works
 use Rattle.kernel_threads.specs.declared.work.Worked.{Worked}
@@ -56,16 +58,6 @@ three_at S R (x' ∷ xs) (y' ∷ ys) (z ∷ zs) [] k x y w s r a b c = absurd r
 three_at S R (x' ∷ xs) (y' ∷ ys) (z ∷ zs) (w' ∷ ws) zero x y w s r a b c =
     (z, subst (λ u. S u y z) (some_is x' x a) (subst (λ u. S x' u z) (some_is y' y b) s.0), subst (λ u. R z u) (some_is w' w c) r.0)
 three_at S R (x' ∷ xs) (y' ∷ ys) (z ∷ zs) (w' ∷ ws) (suc k) x y w s r a b c = three_at S R xs ys zs ws k x y w s.1 r.1 a b c
-
-get_dropped : {A : Type 0} (xs : List A) (n t : ℕ) → slice_get (drop n xs) t ≡ slice_get xs (n + t)
-get_dropped xs zero t = let e : t ≡ 0 + t = omega arith in ap (slice_get xs) e
-get_dropped [] (suc n) t = cc
-get_dropped (x ∷ xs) (suc n) t = let e : suc (n + t) ≡ suc n + t = omega arith in get_dropped xs n t ∙ ap (slice_get (x ∷ xs)) e
-
-all_here : {A : Type 0} (P : A → Type 0) (xs : List A) (k : ℕ) (x : A) → AllByRecursion P xs → slice_get xs k ≡ Some x → P x
-all_here P [] k x all at = absurd (cc)
-all_here P (y ∷ xs) zero x all at = let e : y ≡ x = cc in subst P e all.0
-all_here P (y ∷ xs) (suc k) x all at = all_here P xs k x all.1 at
 
 -- DEVICES
 

@@ -1,6 +1,7 @@
 -- The stations of the processors come together again.
-use Rattle.std.proofs.Common.{◌≡◌, ℕ, ◌+◌, ◌<◌, ◌≤◌, ◌||◌, Bool, true, false, List, [], ◌∷◌, ◌∙◌, map, length, get_or, refl, sym, ap, subst, arith, Option, None}
+use Rattle.std.proofs.Common.{◌≡◌, ℕ, ◌+◌, ◌<◌, ◌≤◌, true, List, [], ◌∷◌, ◌∙◌, map, length, get_or, sym, ap, subst, arith, Option, None}
 use Rattle.std.specs.List.{AllZip}
+use Rattle.std.proofs.lemmas.Bool.{or_left, or_right}
 use mathlib.Core.Logic.{dite}
 use native.Mathlib.Decide.{dec_lt}
 use Rattle.end_steps.specs.EndLists.{share_at, chain_share_at}
@@ -143,14 +144,6 @@ seat_is G T = record {
 
 abbrev Serves : Parts → ℕ → Type 0
 Serves parts k = serves (threads.view_of parts.hand) k ≡ true
-
-or_left : (a b : Bool) → a ≡ true → (a || b) ≡ true
-or_left true b e = refl
-or_left false b e = absurd (cc)
-
-or_right : (a b : Bool) → b ≡ true → (a || b) ≡ true
-or_right true b e = refl
-or_right false b e = e
 
 serves_on : {G : Type 0} (first : Parts) (stations : List (Processed G)) (last : Parts) (k : ℕ) → AllJoined first (map parts_of stations) last → Serves first k → Serves last k
 serves_on first [] last k j h = subst (λ (z : Parts). Serves z k) (sym j) h

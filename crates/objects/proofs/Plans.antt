@@ -12,12 +12,8 @@ use Rattle.boot_data.specs.declared.plan.PlannedMover.{PlannedMover}
 use Rattle.boot_data.specs.declared.plan.Way.{Way}
 use Rattle.boot_data.specs.BootPlans.{plan_of}
 use Rattle.boot_data.specs.PlanLimits.{IsPlan, IsMoverOf, IsWayOf, AreApart, many_of}
+use Rattle.event_theory.proofs.Lists.Placed.{all_at}
 use Rattle.objects.specs.Makings.{IsThere}
-
-all_at : {A : Type 0} (P : A → Type 0) (xs : List A) (i : ℕ) (x : A) → AllByRecursion P xs → slice_get xs i ≡ Some x → P x
-all_at P [] i x all is = cc
-all_at P (y ∷ ys) zero x all is = let same : y ≡ x = cc in subst P same all.0
-all_at P (y ∷ ys) (suc i) x all is = all_at P ys i x all.1 is
 
 -- a way has none of the keys that stand before
 behind : (keys : List ℕ) (ways : List Way) → AreApart keys ways → (i : ℕ) (a : Way) → slice_get ways i ≡ Some a → AllByRecursion (λ key. a.key ≢ key) keys

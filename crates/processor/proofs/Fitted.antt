@@ -1,8 +1,8 @@
 -- What the steps of a plan name is among the shared objects.
-use Rattle.std.proofs.Common.{◌≡◌, ℕ, zero, suc, ◌≤◌, List, [], ◌∷◌, length, Some, subst, arith}
+use Rattle.std.proofs.Common.{◌≡◌, ℕ, zero, suc, ◌≤◌, List, [], ◌∷◌, length, Some, arith}
 use Rattle.std.proofs.Math.Bridge.{le_prop}
 use Rattle.std.proofs.Math.Logic.{∥∥₁_elim}
-use Rattle.std.specs.List.{slice_get, AllByRecursion}
+use Rattle.std.specs.List.{AllByRecursion}
 use Rattle.boot_data.specs.declared.boot_plan.BootPlan.{BootPlan}
 use Rattle.boot_data.specs.declared.plan.PlannedThread.{PlannedThread}
 use Rattle.boot_data.specs.declared.plan.QueueIndex.{QueueIndex}
@@ -12,14 +12,10 @@ use Rattle.boot_data.specs.declared.plan.Step.TheVariants as steps
 use Rattle.boot_data.specs.BootPlans.{plan_of}
 use Rattle.boot_data.specs.Plans.{Plan, steps_at}
 use Rattle.boot_data.specs.PlanLimits.{IsPlan, IsProgramOf, IsStepOf, many_of}
+use Rattle.event_theory.proofs.Lists.Placed.{all_at}
 use Rattle.processor.specs.declared.shared.Shared.{Shared}
 use Rattle.processor.specs.Programs.{program, step_of}
 use Rattle.processor.specs.Steps.{Fits}
-
-all_at : {A : Type 0} (P : A → Type 0) (xs : List A) (i : ℕ) (x : A) → AllByRecursion P xs → slice_get xs i ≡ Some x → P x
-all_at P [] i x all is = cc
-all_at P (y ∷ ys) zero x all is = let same : y ≡ x = cc in subst P same all.0
-all_at P (y ∷ ys) (suc i) x all is = all_at P ys i x all.1 is
 
 its_steps : (plan : Plan) (threads : List PlannedThread) (e : ℕ) → AllByRecursion (IsProgramOf (many_of plan)) threads
     → (length (steps_at threads e) ≤ 64) × AllByRecursion (IsStepOf (many_of plan)) (steps_at threads e)

@@ -1,16 +1,18 @@
 -- What several pieces of a processor's work come to: their logs stand one behind the other.
-use Rattle.std.proofs.Common.{◌≡◌, ◌+◌, ◌||◌, ◌&&◌, ◌==◌, ◌<◌, ◌≤◌, ℕ, Bool, true, false, cond, Some, Result, Ok, Err, MatchResult, ◌⊎◌, inl, inr, ⊎_elim, zero, suc, get_or, set, slice_get, subst, map, length, List, [], ◌∷◌, ◌++◌, flat_map, refl, sym, ap, ◌∙◌, arith, slice_index_or}
+use Rattle.std.proofs.Common.{◌≡◌, ◌+◌, ◌||◌, ◌&&◌, ◌==◌, ◌<◌, ◌≤◌, ℕ, Bool, true, false, cond, Some, Result, Ok, Err, MatchResult, ⊎_elim, zero, suc, get_or, set, slice_get, subst, map, length, List, [], ◌∷◌, ◌++◌, flat_map, refl, sym, ap, ◌∙◌, arith, slice_index_or}
 use Rattle.event_theory.specs.declared.alarm.Alarm.{Alarm}
+use Rattle.event_theory.proofs.Lists.Placed.{all_append as all_on}
 use Rattle.std.specs.Prelude.{if◌then◌else◌}
-use Rattle.std.specs.List.{AllByRecursion, All, list_any, filter}
+use Rattle.std.specs.List.{All, list_any, filter}
 use Rattle.std.proofs.lemmas.List.{append_assoc, append-nil, map-append}
 use Rattle.std.proofs.lemmas.List.Elements.{filter-append}
 use Rattle.std.proofs.lemmas.List.Folds.{list_any-append}
 use Rattle.std.proofs.lemmas.List.Sums.{sum_by-append}
-use Rattle.std.proofs.lemmas.Bool.{eqb-true, leb-true}
+use Rattle.std.proofs.lemmas.Bool.{eqb-true, leb-true, or_cases as either_of}
 use Rattle.std.proofs.lemmas.Bool.Decides.{eqb_tells, nat_tests}
 use Rattle.thread_table.proofs.Lists.Copies.{get_or-copies}
 use Rattle.std.proofs.lemmas.Grind.{flat_map-append}
+use Rattle.std.proofs.Math.Bool.{or_assoc}
 use Rattle.boot_data.specs.declared.boot_plan.BootPlan.{BootPlan}
 use Rattle.claim_queue.specs.declared.claim.ClaimRefusal.{ClaimRefusal}
 use Rattle.claim_queue.specs.declared.claim.ClaimRefusal.TheVariants as claims
@@ -75,10 +77,6 @@ use Rattle.processor.specs.Steps.{SeatDid, QueuesDid, is_shut, is_over, told_shu
 use Rattle.processor.specs.Stations.{no_signals}
 use Rattle.processor.specs.Turns.{heard_lines, AreAtRest, is_last}
 use Rattle.processor.proofs.Acting.{behind_assoc, nothing_behind, adds_on}
-
-all_on : {A : Type 0} (P : A → Type 0) (xs ys : List A) → AllByRecursion P xs → AllByRecursion P ys → AllByRecursion P (xs ++ ys)
-all_on P [] ys a b = b
-all_on P (x ∷ xs) ys a b = (a.0, all_on P xs ys a.1 b)
 
 abbrev both_lines : (ℕ → List (List ℕ)) → (ℕ → List (List ℕ)) → ℕ → List (List ℕ)
 both_lines f g q = f q ++ g q
@@ -149,24 +147,16 @@ seat_on xs ys u v w a b =
 abbrev slice_is : ℕ → ℕ → List ℕ → Bool
 slice_is e s masks = is_in (slice_index_or masks e 0) s
 
-or_assoc : (a b c : Bool) → ((a || b) || c) ≡ (a || (b || c))
-or_assoc true b c = refl
-or_assoc false b c = refl
-
-or_false : (a : Bool) → a ≡ (a || false)
+pub or_false : (a : Bool) → a ≡ (a || false)
 or_false true = refl
 or_false false = refl
 
-abbrev delivers : ℕ → ℕ → ℕ × List ℕ → Bool
+abbrev pub delivers : ℕ → ℕ → ℕ × List ℕ → Bool
 delivers e s d = d.0 == e && list_any (λ z. z == s) d.1
 
 shows_on : (ds es : List (ℕ × List ℕ)) (a b c : List ℕ) → Shows ds a b → Shows es b c → Shows (ds ++ es) a c
 shows_on ds es a b c f g e s low small = g e s low small ∙ ap (λ z. z || is_delivered es e s) (f e s low small)
     ∙ or_assoc (slice_is e s a) (is_delivered ds e s) (is_delivered es e s) ∙ ap (λ z. slice_is e s a || z) (sym (list_any-append (delivers e s) ds es))
-
-either_of : (a b : Bool) → (a || b) ≡ true → (a ≡ true) ⊎ (b ≡ true)
-either_of true b up = inl refl
-either_of false b up = inr up
 
 told_on : {n : ℕ} (t : LogEntry → Bool) (xs ys : List LogEntry) (P : List (QueueEnd n) → Type 0) (b c : List (QueueEnd n)) → (P b → P c) → (list_any t xs ≡ true → P b) → (list_any t ys ≡ true → P c)
     → list_any t (xs ++ ys) ≡ true → P c
@@ -418,7 +408,7 @@ tried_logged plan shared call p element number step deed answer text old new is 
     (λ t. tried_climbs (is_done deed) element number t (view_of old.hand) (view_of new.hand) up now
     (one_more call element (is_done deed) number answer s.did s.after (view_of old.hand) (view_of new.hand) s.counts nth now low))
 
-none_in : (s : ℕ) → is_in 0 s ≡ false
+pub none_in : (s : ℕ) → is_in 0 s ≡ false
 none_in s = grind (arith, nat_tests)
 
 fresh_shown : (e s : ℕ) → is_in (slice_index_or no_signals e 0) s ≡ false

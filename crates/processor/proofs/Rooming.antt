@@ -1,6 +1,6 @@
 -- There is room for each line that is heard.
-use Rattle.std.proofs.Common.{◌≡◌, ℕ, ◌<◌, ◌≤◌, ◌==◌, ◌&&◌, Bool, true, false, List, [], ◌∷◌, ◌++◌, map, vec_capacity, length, length-append, Some, refl, sym, ap, ◌∙◌, subst, arith}
-use Rattle.std.proofs.lemmas.Bool.{eqb-true}
+use Rattle.std.proofs.Common.{◌≡◌, ℕ, ◌<◌, ◌≤◌, ◌==◌, Bool, true, false, List, [], ◌∷◌, ◌++◌, map, vec_capacity, length, length-append, Some, refl, sym, ap, ◌∙◌, subst, arith}
+use Rattle.std.proofs.lemmas.Bool.{eqb-true, and_parts as split}
 use Rattle.std.proofs.lemmas.List.{append-nil}
 use Rattle.std.specs.List.{AllByRecursion, IsDistinct}
 use Rattle.boot_data.specs.declared.boot_plan.BootPlan.{BootPlan}
@@ -23,7 +23,7 @@ use Rattle.processor.specs.Running.{Line, Stepped, line_heard, heard_in, is_hear
 use Rattle.processor.specs.Steps.{HandDid}
 use Rattle.processor.proofs.Rooms.{few}
 
-abbrev line_key : Line → Key
+abbrev pub line_key : Line → Key
 line_key l = l.0
 
 abbrev pub key_in : Deed → ℕ → ℕ → List Key
@@ -60,11 +60,6 @@ apart : (v : View) (e n : ℕ) (k : Key) → n ≡ done_at v.schedule e → IsPa
 apart v e n k is past false h = refl
 apart v e n k is past true h = absurd (clash (split (k.0 == e) (k.1 == n) h))
   where
-    split : (a b : Bool) → (a && b) ≡ true → (a ≡ true) × (b ≡ true)
-    split true true h = (refl, refl)
-    split true false h = cc
-    split false b h = cc
-
     clash : ((k.0 == e) ≡ true) × ((k.1 == n) ≡ true) → ⊥
     clash p = let a = eqb-true k.0 e p.0 in let b = eqb-true k.1 n p.1 in
         let low : k.1 < done_at v.schedule e = subst (λ (z : ℕ). k.1 < done_at v.schedule z) a past in omega arith

@@ -1,27 +1,23 @@
 -- Steps of a plan that hear, none of them twice, are no more than the plan has.
-use Rattle.std.proofs.Common.{◌≡◌, ◌⊎◌, inl, inr, ℕ, zero, suc, ◌+◌, ◌≤◌, ◌==◌, ◌&&◌, ◌||◌, Bool, true, false, cond, if◌then◌else◌, List, [], ◌∷◌, ◌++◌, length, length-append, Some, refl, sym, ◌∙◌, ap, subst, arith, zero-add}
-use Rattle.std.proofs.lemmas.Bool.{eq-eqb, eqb-true}
+use Rattle.std.proofs.Common.{◌≡◌, inl, inr, ℕ, zero, suc, ◌+◌, ◌≤◌, ◌==◌, ◌&&◌, ◌||◌, Bool, true, false, cond, if◌then◌else◌, List, [], ◌∷◌, ◌++◌, length, length-append, Some, refl, sym, ◌∙◌, ap, subst, arith, zero-add}
+use Rattle.std.proofs.lemmas.Bool.{eq-eqb, eqb-true, and_parts as split, or_cases as either}
 use Rattle.std.proofs.lemmas.Bool.Decides.{nat_tests}
 use Rattle.std.proofs.lemmas.List.Folds.{list_any-append}
 use Rattle.std.proofs.lemmas.List.Sums.{sum_by-cons}
 use Rattle.std.proofs.lemmas.Map.Made.{length-le_from_is_member}
 use Rattle.std.specs.Cmp.{IsEquivalence}
 use Rattle.std.specs.List.{slice_get, count_by, sum_by, list_any, AllByRecursion}
+use Rattle.std.proofs.Math.Bool.{or-true as or_true}
 use Rattle.boot_data.specs.declared.boot_plan.BootPlan.{BootPlan}
 use Rattle.boot_data.specs.declared.plan.PlannedThread.{PlannedThread}
 use Rattle.boot_data.specs.declared.plan.Step.{Step}
 use Rattle.boot_data.specs.Plans.{steps_at}
 use Rattle.processor.specs.Programs.{Key, same_key, is_hear, hears_in, hear_count, IsHear, AreHears}
 
-split : (a b : Bool) → (a && b) ≡ true → (a ≡ true) × (b ≡ true)
-split true true h = (refl, refl)
-split true false h = (refl, h)
-split false b h = cc
-
 same_is : (a b : Key) → same_key a b ≡ true → (a.0 ≡ b.0) × (a.1 ≡ b.1)
 same_is a b h = let p = split (a.0 == b.0) (a.1 == b.1) h in (eqb-true a.0 b.0 p.0, eqb-true a.1 b.1 p.1)
 
-same_refl : (a : Key) → same_key a a ≡ true
+pub same_refl : (a : Key) → same_key a a ≡ true
 same_refl a = grind (arith, nat_tests, eq-eqb a.0 a.0 refl, eq-eqb a.1 a.1 refl)
 
 same_symm : (a b : Key) → same_key a b ≡ same_key b a
@@ -39,16 +35,8 @@ abbrev keys_in : ℕ → ℕ → List Step → List Key
 keys_in thread number [] = []
 keys_in thread number (step ∷ steps) = (if is_hear step then (thread, number) ∷ [] else []) ++ keys_in thread (number + 1) steps
 
-either : (a b : Bool) → (a || b) ≡ true → (a ≡ true) ⊎ (b ≡ true)
-either true b h = inl refl
-either false b h = inr h
-
 in_first : (xs ys : List Key) (q : Key) → list_any (same_key q) xs ≡ true → list_any (same_key q) (xs ++ ys) ≡ true
 in_first xs ys q h = list_any-append (same_key q) xs ys ∙ ap (λ b. b || list_any (same_key q) ys) h
-
-or_true : (b : Bool) → (b || true) ≡ true
-or_true true = refl
-or_true false = refl
 
 in_second : (xs ys : List Key) (q : Key) → list_any (same_key q) ys ≡ true → list_any (same_key q) (xs ++ ys) ≡ true
 in_second xs ys q h = list_any-append (same_key q) xs ys ∙ ap (λ b. list_any (same_key q) xs || b) h ∙ or_true (list_any (same_key q) xs)

@@ -1,6 +1,5 @@
 -- The lines that were heard are no more than the steps of the plan that hear.
-use Rattle.std.proofs.Common.{◌≡◌, ℕ, ◌≤◌, Bool, true, false, eq-eqb, List, [], ◌∷◌, ◌++◌, length, map, refl, sym, ap, ◌∙◌, subst, arith, Some, flat_map, count_by}
-use Rattle.std.specs.Prelude.{◌&&◌}
+use Rattle.std.proofs.Common.{◌≡◌, ℕ, ◌≤◌, Bool, true, false, List, [], ◌∷◌, length, map, refl, sym, ap, ◌∙◌, subst, arith, Some, flat_map, count_by}
 use Rattle.std.specs.List.{AllByRecursion, AllZip, IsDistinct}
 use Rattle.std.proofs.lemmas.List.{length-map, map-append}
 use Rattle.boot_data.specs.declared.boot_plan.BootPlan.{BootPlan}
@@ -16,7 +15,8 @@ use Rattle.processor.specs.Steps.{comes_of}
 use Rattle.processor.specs.Turns.{heard_lines}
 use Rattle.processor.specs.Partings.{AllJoined}
 use Rattle.processor.specs.Preparing.{IsPrepared}
-use Rattle.processor.proofs.Rooms.{few}
+use Rattle.processor.proofs.Rooms.{few, same_refl as itself}
+use Rattle.processor.proofs.Rooming.{line_key as key_of}
 use Rattle.reports.specs.ClosedTables.{ClosedTables}
 use Rattle.reports.specs.Endings.{ThreadsEnded}
 use Rattle.reports.specs.Lists.{all_of}
@@ -24,17 +24,12 @@ use Rattle.thread_table.proofs.Lists.Counts.{plus, by_bool, many_cons}
 use Rattle.reports.proofs.Joined.Lists.{zip_lists, flat_all}
 use Rattle.reports.proofs.Boots.Sorting.{heard_few, once_most}
 use Rattle.reports.proofs.Threads.ByLogs.{planned_all}
-
-abbrev key_of : Line → Key
-key_of line = line.0
+use Rattle.event_theory.proofs.Lists.Placed.{all_append as both}
 
 abbrev is_of : Key → Line → Bool
 is_of k line = same_key k line.0
 
 -- NONE TWICE
-
-itself : (k : Key) → same_key k k ≡ true
-itself k = λ i. eq-eqb k.0 k.0 refl i && eq-eqb k.1 k.1 refl i
 
 none_of : (k : Key) (lines : List Line) → count_by (is_of k) lines ≡ 0 → AllByRecursion (λ y. same_key k y ≡ false) (map key_of lines)
 none_of k [] h = tt
@@ -65,10 +60,6 @@ by_entry plan (Tended advanced alarms) h = tt
 by_entry plan (Delivered element mask) h = tt
 by_entry plan (Tried element number step deed count heard) h = by_deed plan element number step deed heard h.0 h.1 count
 by_entry plan (Retired element number) h = tt
-
-both : {A : Type 0} (P : A → Type 0) (xs ys : List A) → AllByRecursion P xs → AllByRecursion P ys → AllByRecursion P (xs ++ ys)
-both P [] ys h k = k
-both P (x ∷ xs) ys h k = (h.0, both P xs ys h.1 k)
 
 by_log : (plan : BootPlan) (log : List LogEntry) → AllByRecursion (FollowsPlan plan) log → AllByRecursion (IsHear plan) (map key_of (flat_map heard_by log))
 by_log plan [] h = tt

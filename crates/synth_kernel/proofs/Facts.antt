@@ -2,6 +2,7 @@
 use Rattle.std.proofs.Common.{◌≡◌, ℕ, zero, suc, ◌+◌, ◌<◌, ◌%◌, List, [], ◌∷◌, map, drop, length, Option, Some, slice_get, refl, sym, ap, subst, ◌∙◌, arith}
 use Rattle.std.proofs.lemmas.List.{length-map}
 use Rattle.std.specs.List.{AllZip}
+use Rattle.std.proofs.lemmas.Option.{slice_get_within as at_below}
 use Rattle.boot_data.specs.declared.plan.PlannedTty.{PlannedTty}
 use Rattle.boot_data.specs.QueueLists.{raw_queue}
 use Rattle.closing.specs.RawEnds.{AreRawsOf}
@@ -30,27 +31,12 @@ use Rattle.kernel_threads.specs.Readiness.{AreServing, input_of}
 use Rattle.kernel_threads.specs.Typings.{AreTyped}
 use Rattle.kernel_threads.specs.Works.{HasWorked}
 use Rattle.kernel_threads.proofs.Returning.{device_back, short}
+use Rattle.event_theory.proofs.Lists.Placed.{there as some_at, zip_from}
 use Rattle.synth_kernel.specs.declared.gathering.Served.{Served}
 use Rattle.synth_kernel.specs.Gatherings.{tty_of, TotalsAre}
 use Rattle.synth_kernel.proofs.Backs.{Sorted, served_behind}
 
 -- LISTS
-
-pub some_at : {A : Type 0} (xs : List A) (i : ℕ) → i < length xs → (x : A) × (slice_get xs i ≡ Some x)
-some_at [] i low = absurd (omega arith)
-some_at (x ∷ xs) zero low = (x, refl)
-some_at (x ∷ xs) (suc i) low = some_at xs i (omega arith)
-
-pub at_below : {A : Type 0} (xs : List A) (i : ℕ) (x : A) → slice_get xs i ≡ Some x → i < length xs
-at_below [] i x e = absurd (cc)
-at_below (y ∷ xs) zero x e = omega arith
-at_below (y ∷ xs) (suc i) x e = let h = at_below xs i x e in omega arith
-
-pub zip_from : {A B : Type 0} (R : A → B → Type 0) (xs : List A) (ys : List B) → length xs ≡ length ys → ((i : ℕ) (x : A) (y : B) → slice_get xs i ≡ Some x → slice_get ys i ≡ Some y → R x y) → AllZip R xs ys
-zip_from R [] [] long each = tt
-zip_from R [] (y ∷ ys) long each = absurd (omega arith)
-zip_from R (x ∷ xs) [] long each = absurd (omega arith)
-zip_from R (x ∷ xs) (y ∷ ys) long each = (each zero x y refl refl, zip_from R xs ys (omega arith) (λ i. each (suc i)))
 
 pub mapped_at : {A B : Type 0} (f : A → B) (xs : List A) (i : ℕ) (y : B) → slice_get (map f xs) i ≡ Some y → (x : A) × (slice_get xs i ≡ Some x) × (f x ≡ y)
 mapped_at f [] i y e = absurd (cc)

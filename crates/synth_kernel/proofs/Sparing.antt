@@ -9,6 +9,7 @@ use Rattle.processor.specs.Programs.{Key}
 use Rattle.event_theory.specs.declared.event.Event.{Event}
 use Rattle.event_theory.specs.declared.event.Event.TheVariants as events
 use Rattle.event_theory.specs.declared.names.QueueName.TheVariants as names
+use Rattle.event_theory.proofs.Lists.Placed.{all_append as all_joined}
 use Rattle.reports.specs.Endings.{FreedSpare}
 use Rattle.thread_table.specs.declared.rule.Made.{Made}
 use Rattle.thread_table.specs.declared.rule.View.{View}
@@ -33,10 +34,6 @@ made_same shared p turns (g ∷ gates) old new (w ∷ posts) a = made_same share
 all_parted : {A : Type 0} (P : A → Type 0) (xs ys : List A) → AllByRecursion P (xs ++ ys) → AllByRecursion P xs × AllByRecursion P ys
 all_parted P [] ys h = (tt, h)
 all_parted P (x ∷ xs) ys h = let rest = all_parted P xs ys h.1 in ((h.0, rest.0), rest.1)
-
-all_joined : {A : Type 0} (P : A → Type 0) (xs ys : List A) → AllByRecursion P xs → AllByRecursion P ys → AllByRecursion P (xs ++ ys)
-all_joined P [] ys p q = q
-all_joined P (x ∷ xs) ys p q = (p.0, all_joined P xs ys p.1 q)
 
 module _ (n : ℕ) where
   abbrev IsSpareRun : List ℕ → Type 0

@@ -3,6 +3,7 @@ use Rattle.std.proofs.Common.{◌≡◌, ℕ, ◌<◌, ◌≤◌, ◌&&◌, List
 use Rattle.std.specs.Prelude.{◌||◌, codes}
 use Rattle.std.specs.List.{join_with_byte, list_all}
 use Rattle.std.specs.Fmt.{decimal}
+use Rattle.std.proofs.Math.Bool.{or-true as declares}
 use Rattle.boot_script.specs.declared.boot_words.BootWord.{BootWord}
 use Rattle.boot_script.specs.declared.boot_words.BootWord.TheVariants as word
 use Rattle.boot_script.specs.declared.boot_lines.Line.{Line}
@@ -71,11 +72,6 @@ plain_line : (version : Version) (names : List Named) (going : Bool) (one : Boot
 plain_line version names going one words said plain has h bytes e =
     ap (boot_line version names going) e
     ∙ line_by version names going (join_with_byte 32 (boot_word one ∷ words)) one words said (print_words (boot_word one) words plain) (words_again (boot_word one) words plain) has h
-
--- a declaration stands with and without a program
-declares : (going : Bool) → (going || true) ≡ true
-declares true = refl
-declares false = refl
 
 -- a step stands with one
 steps_on : (going : Bool) → going ≡ true → (going || false) ≡ true

@@ -1,7 +1,7 @@
 -- How each word of a boot script is read where names are in order, and the one word that spells what was read.
 use Rattle.std.proofs.Common.{◌≡◌, ◌⊎◌, inl, inr, ℕ, ◌<◌, ◌≤◌, ◌+◌, ◌*◌, ◌&&◌, List, [], ◌∷◌, ◌++◌, ◌∙◌, refl, sym, ap, subst, arith, length, length-append, true, false, Bool, cond, Ok, Err, codes}
 use Rattle.std.proofs.Math.Dec.{eqb}
-use Rattle.std.proofs.lemmas.Bool.{cases_lt}
+use Rattle.std.proofs.lemmas.Bool.{cases_lt, and_parts as both, or_cases as one_of}
 use Rattle.std.proofs.lemmas.Bool.Decides.{nat_tests}
 use Rattle.std.proofs.lemmas.Slice.Eq.{bytes_eq-Decides}
 use Rattle.std.proofs.lemmas.List.Splits.{join_with_byte-slice_split, slice_split-cons_no, slice_split-cons_yes}
@@ -21,7 +21,6 @@ use Rattle.boot_script.specs.Words.{◌>>=◌, pieces, first_word, later_words, 
 use Rattle.boot_script.specs.Versions.{last_wait}
 use Rattle.boot_script.specs.BootNames.{is_letter, is_name_byte, is_name, name_of, find, is_declared, if_new, new_name, count_of, number_named, part_of, queue_or_part, queue_named}
 use Rattle.boot_script.specs.BootSpellings.{AreInOrder, name_of_number, part_name, queue_word, IsNew, FitsQueue}
-use Rattle.boot_script.proofs.Basics.Bools.{both, one_of}
 use Rattle.boot_script.proofs.Basics.Binds.{bind_ok, guard_ok, chosen}
 use Rattle.boot_script.proofs.BootScripts.Faults.{new_name_known, number_named_known, queue_named_known}
 use Rattle.boot_script.proofs.Basics.Cuts.{some_pieces}

@@ -5,6 +5,7 @@ use Rattle.std.proofs.lemmas.Slice.Eq.{bytes_eq-Decides}
 use Rattle.std.specs.Prelude.{◌||◌}
 use Rattle.std.specs.List.{join_with_byte, list_all}
 use Rattle.std.specs.Str.{bytes_eq}
+use Rattle.std.proofs.lemmas.Bool.{and_parts as both}
 use Rattle.boot_script.specs.declared.fault.ScriptRefusal.TheVariants.{NotAscii, UnknownWord}
 use Rattle.boot_script.specs.declared.boot_words.BootWord.{BootWord}
 use Rattle.boot_script.specs.declared.boot_words.BootWord.TheVariants as word
@@ -22,7 +23,6 @@ use Rattle.boot_script.specs.Texts.{text_of}
 use Rattle.boot_script.specs.BootWords.{boot_word, boot_words, word_named, has_word, if_had, boot_word_of}
 use Rattle.boot_script.specs.BootLines.{type_words, say_words, line_of, words_line, boot_line}
 use Rattle.boot_script.specs.BootSpellings.{AreInOrder, name_of_number, queue_word, EndsInText, IsSpelling, FitsLine}
-use Rattle.boot_script.proofs.Basics.Bools.{both}
 use Rattle.boot_script.proofs.Basics.Binds.{bind_ok, guard_ok, chosen}
 use Rattle.boot_script.proofs.Basics.Cuts.{some_pieces}
 use Rattle.boot_script.proofs.LineWords.Plain.{ArePlain}

@@ -4,6 +4,7 @@ use Rattle.std.proofs.Math.Dec.{eqb}
 use Rattle.std.proofs.lemmas.Bool.Decides.{nat_tests}
 use Rattle.std.specs.Prelude.{nat_le}
 use Rattle.std.specs.List.{AllByRecursion, list_all}
+use Rattle.std.proofs.lemmas.Bool.{and_parts as both, or_parts as neither}
 use Rattle.boot_script.specs.declared.fault.ScriptRefusal.TheVariants.{NameTwice}
 use Rattle.boot_script.specs.declared.boot_lines.Line.{Line}
 use Rattle.boot_script.specs.declared.boot_lines.Line.TheVariants as line
@@ -16,7 +17,7 @@ use Rattle.boot_script.specs.Grammar.{at_most_of}
 use Rattle.boot_script.specs.BootNames.{count_of, number_named}
 use Rattle.boot_script.specs.BootLines.{is_key, key_of, way_of, ways_from, ways_of, switch_words}
 use Rattle.boot_script.specs.BootSpellings.{AreInOrder, name_of_number, way_words, IsNew, FitWays}
-use Rattle.boot_script.proofs.Basics.Bools.{both, neither, room_ok}
+use Rattle.boot_script.proofs.Basics.Bools.{room_ok}
 use Rattle.boot_script.proofs.Basics.Binds.{bind_ok, chosen}
 use Rattle.boot_script.proofs.LineWords.Plain.{is_plain, ArePlain}
 use Rattle.boot_script.proofs.LineWords.Rows.{next_ok}

@@ -2,7 +2,7 @@
 use Rattle.std.proofs.Common.{◌≡◌, ◌≢◌, inl, inr, ℕ, ◌<◌, ◌≤◌, ◌+◌, ◌-◌, ◌*◌, ◌&&◌, List, [], ◌∷◌, ◌++◌, ◌∙◌, refl, sym, ap, subst, arith, true, false, cond, Result, Ok, Err}
 use Rattle.std.specs.Prelude.{nat_le, nat_lt, ◌/◌, ◌%◌}
 use Rattle.std.proofs.Math.Dec.{eqb}
-use Rattle.std.proofs.lemmas.Bool.{cases_lt}
+use Rattle.std.proofs.lemmas.Bool.{cases_lt, and_parts as both}
 use Rattle.std.proofs.lemmas.Bool.Decides.{nat_tests}
 use Rattle.std.specs.List.{AllByRecursion, list_all}
 use Rattle.boot_script.specs.declared.fault.ScriptRefusal.{ScriptRefusal}
@@ -11,7 +11,7 @@ use Rattle.boot_script.specs.Words.{◌>>=◌}
 use Rattle.boot_script.specs.Grammar.{is_printable}
 use Rattle.boot_script.specs.Texts.{digit_of, escape_of, before, bytes_of}
 use Rattle.boot_script.specs.BootSpellings.{digit_for, escape, IsText}
-use Rattle.boot_script.proofs.Basics.Bools.{both, either}
+use Rattle.boot_script.proofs.Basics.Bools.{either}
 use Rattle.boot_script.proofs.Basics.Binds.{bind_ok, chosen}
 use Rattle.boot_script.proofs.Escaping.Unescaped.{plain_byte, escaped_byte, wanting}
 

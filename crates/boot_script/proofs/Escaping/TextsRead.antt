@@ -5,12 +5,13 @@ use Rattle.std.proofs.lemmas.Bool.Decides.{nat_tests}
 use Rattle.std.proofs.lemmas.List.Splits.{join_with_byte-slice_split, slice_split-cons_no, slice_split-cons_yes}
 use Rattle.std.specs.Prelude.{nat_le}
 use Rattle.std.specs.List.{list_all, join_with_byte, onto_first}
+use Rattle.std.proofs.lemmas.Bool.{and_parts as both}
 use Rattle.boot_script.specs.declared.fault.ScriptRefusal.TheVariants.{TextTooLong}
 use Rattle.boot_script.specs.Words.{◌>>=◌, pieces, words_of}
 use Rattle.boot_script.specs.Grammar.{is_printable}
 use Rattle.boot_script.specs.Texts.{bytes_of, within_of, text_of}
 use Rattle.boot_script.specs.BootSpellings.{IsText, EndsInText}
-use Rattle.boot_script.proofs.Basics.Bools.{both, either}
+use Rattle.boot_script.proofs.Basics.Bools.{either}
 use Rattle.boot_script.proofs.Basics.Binds.{bind_ok, guard_ok}
 use Rattle.boot_script.proofs.Escaping.Escapes.{text_ok, text_again, text_printable}
 use Rattle.boot_script.proofs.LineWords.Plain.{is_plain, ArePlain, cut_word, print_join, print_words, words_again}

@@ -1,14 +1,11 @@
 -- Events that are allowed one after the other.
-use Rattle.std.proofs.Common.{◌≡◌, ℕ, ◌<◌, ◌+◌, List, [], ◌∷◌, ◌++◌, ◌∙◌, refl, sym, ap, length, take, get_or, Ok}
+use Rattle.std.proofs.Common.{◌≡◌, ℕ, ◌<◌, ◌+◌, List, [], ◌∷◌, ◌++◌, ◌∙◌, sym, ap, length, take, get_or, Ok}
 use Rattle.std.proofs.lemmas.List.{map_push, take_more}
 use Rattle.event_theory.specs.declared.event.Event.{Event}
 use Rattle.event_theory.specs.States.{State, step}
 use Rattle.event_theory.specs.Schedules.{Reaches}
+use Rattle.event_theory.proofs.Keeping.Steps.{reaches_more}
 use Rattle.boot_script.specs.Replays.{alone}
-
-reaches_more : (s : State) (events : List Event) (t : State) (event : Event) (u : State) → Reaches s events t → step event t ≡ Ok u → Reaches s (events ++ event ∷ []) u
-reaches_more s [] t event u there next = (u, ap (step event) (sym there) ∙ next, refl)
-reaches_more s (e ∷ events) t event u there next = (there.0, there.1, reaches_more there.0 events t event u there.2 next)
 
 pub reaches_next : (s : State) (events : List (ℕ × Event)) (at : ℕ) (numbered : ℕ × Event) (t u : State) → at < length events → numbered ≡ get_or events at numbered
     → Reaches s (alone (take at events)) t → step numbered.1 t ≡ Ok u → Reaches s (alone (take (at + 1) events)) u

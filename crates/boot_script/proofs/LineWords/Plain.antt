@@ -10,6 +10,7 @@ use Rattle.std.specs.Int.{IsInRange}
 use Rattle.std.specs.List.{AllByRecursion, join_with_byte, list_all, slice_split, onto_first}
 use Rattle.std.specs.Str.Parse.{AllDigits}
 use Rattle.std.specs.Fmt.{decimal}
+use Rattle.std.proofs.lemmas.Bool.{and_parts as both}
 use Rattle.boot_script.specs.Words.{words_of}
 use Rattle.boot_script.specs.Grammar.{is_printable}
 
@@ -27,10 +28,6 @@ plain_digits (c ∷ cs) h = rw (is_digit_plain c (digit_from_value c h.0), plain
 
 pub plain_decimal : (n : ℕ) → n < 2 ^ 64 → list_all is_plain (decimal n) ≡ true
 plain_decimal n small = plain_digits (decimal n) (decimal_is_IsNumeral n small).0.1
-
-both : (a b : Bool) → (a && b) ≡ true → (a ≡ true) × (b ≡ true)
-both true b h = (refl, h)
-both false b h = absurd (cc)
 
 plain_parts : (c : ℕ) (cs : List ℕ) → list_all is_plain (c ∷ cs) ≡ true → (is_plain c ≡ true) × (list_all is_plain cs ≡ true)
 plain_parts c cs h = both (is_plain c) (list_all is_plain cs) h

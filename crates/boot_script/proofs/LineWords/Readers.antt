@@ -2,7 +2,7 @@
 use Rattle.std.proofs.Common.{◌≡◌, inl, inr, ℕ, ◌<◌, ◌≤◌, ◌^◌, ◌&&◌, List, [], ◌∷◌, ◌∙◌, refl, sym, ap, subst, arith, length, true, false, Bool, cond, Result, Ok, Err, codes}
 use Rattle.std.proofs.Math.Dec.{eqb}
 use Rattle.std.proofs.lemmas.Bool.Decides.{nat_tests}
-use Rattle.std.proofs.lemmas.Bool.{eqb-true}
+use Rattle.std.proofs.lemmas.Bool.{eqb-true, and_parts as both_true}
 use Rattle.std.proofs.lemmas.Slice.Eq.{bytes_eq-Decides}
 use Rattle.std.proofs.lemmas.Fmt.{decimal_is_IsNumeral, decimal_nonempty}
 use Rattle.std.specs.Prelude.{nat_le}
@@ -37,10 +37,6 @@ pub record IsReader (A : Type 0) (read : Reader A) (Fits : A → Type 0) (spell 
 pub number_known : (most : ℕ) (word : List ℕ) → Known (number_of most word)
 unfolding number_of
 number_known most word = test_known _ (Ok (digits_value 10 word)) (Err BadNumber) (ok_known _) (λ p. cc)
-
-both_true : (a b : Bool) → (a && b) ≡ true → (a ≡ true) × (b ≡ true)
-both_true true b h = (refl, h)
-both_true false b h = absurd (cc)
 
 -- a word that is read as a number is how that number is printed
 pub number_ok : (most n : ℕ) (word : List ℕ) → number_of most word ≡ Ok n → (n ≤ most) × (word ≡ decimal n)

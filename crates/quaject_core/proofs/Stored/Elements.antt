@@ -1,9 +1,9 @@
 -- When each event of the thread elements is allowed, and what it then makes of the stored elements.
-use Rattle.std.proofs.Common.{◌≡◌, ℕ, zero, suc, ◌+◌, ◌%◌, ◌<◌, Bool, true, false, ◌||◌, not, cond, List, [], ◌∷◌, ◌++◌, ◌∙◌, map, length, remove, position, set, get_or, refl, sym, ap, ap₂, subst, arith, Option, Some, None, slice_get, option_map, eqb, ltb, Result, Ok, Err}
+use Rattle.std.proofs.Common.{◌≡◌, ℕ, ◌+◌, ◌%◌, ◌<◌, Bool, true, false, ◌||◌, not, cond, List, [], ◌∷◌, ◌++◌, ◌∙◌, map, length, remove, position, set, get_or, refl, sym, ap, ap₂, subst, arith, Option, Some, None, slice_get, option_map, eqb, ltb, Result, Ok, Err}
 use Rattle.std.proofs.lemmas.Bool.Decides.{nat_tests}
 use Rattle.std.proofs.lemmas.Bool.{ltb-true}
 use Rattle.std.proofs.lemmas.List.{map-set, length-map}
-use Rattle.std.proofs.lemmas.Option.{slice_get-map, slice_get_read, slice_get_within, slice_get-get_or}
+use Rattle.std.proofs.lemmas.Option.{slice_get-map, slice_get_read, slice_get-get_or}
 use Rattle.std.specs.List.{list_any}
 use Rattle.std.specs.Option.{is_some}
 use Rattle.event_theory.specs.Elements.{Thread, Elements, hold, is_hold, is_put, is_busy, holds, put_on, park, start, deliver, done, change_thread}

@@ -4,6 +4,7 @@ use Rattle.std.proofs.Math.Bridge.{le_prop}
 use Rattle.std.proofs.Math.Logic.{∥∥₁_elim}
 use Rattle.std.specs.List.{AllZip, AllByRecursion, concat}
 use Rattle.std.proofs.lemmas.List.Sums.{sum_by-cons}
+use Rattle.std.proofs.lemmas.Option.{slice_get_within as within}
 use Rattle.boot_data.specs.declared.boot_plan.BootPlan.{BootPlan}
 use Rattle.boot_data.specs.declared.plan.PlannedMover.{PlannedMover}
 use Rattle.boot_data.specs.declared.plan.PlannedTty.{PlannedTty}
@@ -24,6 +25,7 @@ use Rattle.quajects.specs.Settled.{runs_of}
 use Rattle.processor.specs.Logs.{LogEntry, Leaves, heard_by, fired_by}
 use Rattle.processor.specs.Running.{Line}
 use Rattle.processor.specs.Turns.{heard_lines}
+use Rattle.event_theory.proofs.Lists.Placed.{there, zip_from, all_append as all_more, all_at}
 use Rattle.reports.specs.Agreements.{IsTakenByQuajects, IsSmallPutByQuajects, IsLargePutByQuajects, IsMover, IsTty, TtyAgrees}
 use Rattle.reports.specs.Boots.{TtyEnds, Boot, BootEnded, home_of, raw_of, homes, small_others, large_others}
 use Rattle.reports.specs.ClosedTables.{ClosedTables}
@@ -42,21 +44,9 @@ use Rattle.reports.proofs.Queues.Raws.{put_in_order, none_put_all, stays_below, 
 use Rattle.reports.proofs.Queues.Shutting.{small_open, large_open}
 use Rattle.reports.proofs.Boots.Sorting.{sorted}
 use Rattle.reports.proofs.Queues.Takings.{CameBack, IsBelow, of_ends, of_more, of_homes, homes_took, homes_took_none, homes_put, homes_put_large, no_device, devices_took_none, home_put_none, no_runs}
-use Rattle.reports.proofs.Threads.ByLogs.{planned_all, within}
+use Rattle.reports.proofs.Threads.ByLogs.{planned_all}
 
 -- LISTS BESIDE LISTS
-
-pub there : {A : Type 0} (l : List A) (k : ℕ) → k < length l → (x : A) × (slice_get l k ≡ Some x)
-there [] k low = absurd (omega arith)
-there (x ∷ l) zero low = (x, refl)
-there (x ∷ l) (suc k) low = there l k (omega arith)
-
-zip_from : {A B : Type 0} (R : A → B → Type 0) (xs : List A) (ys : List B) → length xs ≡ length ys
-    → ((k : ℕ) (x : A) (y : B) → slice_get xs k ≡ Some x → slice_get ys k ≡ Some y → R x y) → AllZip R xs ys
-zip_from R [] [] same h = tt
-zip_from R [] (y ∷ ys) same h = absurd (omega arith)
-zip_from R (x ∷ xs) [] same h = absurd (omega arith)
-zip_from R (x ∷ xs) (y ∷ ys) same h = (h 0 x y refl refl, zip_from R xs ys (omega arith) (λ k. h (suc k)))
 
 zip_more : {A B : Type 0} (R : A → B → Type 0) (xs us : List A) (ys vs : List B) → AllZip R xs ys → AllZip R us vs → AllZip R (xs ++ us) (ys ++ vs)
 zip_more R [] us [] vs z w = w
@@ -74,18 +64,9 @@ all_from : {A B : Type 0} (P : B → Type 0) (f : A → B) (xs : List A) → ((k
 all_from P f [] h = tt
 all_from P f (x ∷ xs) h = (h 0 x refl, all_from P f xs (λ k. h (suc k)))
 
-all_more : {A : Type 0} (P : A → Type 0) (xs ys : List A) → AllByRecursion P xs → AllByRecursion P ys → AllByRecursion P (xs ++ ys)
-all_more P [] ys p q = q
-all_more P (x ∷ xs) ys p q = (p.0, all_more P xs ys p.1 q)
-
 all_here : {A : Type 0} (P : A → Type 0) (xs : List A) → ((k : ℕ) (x : A) → slice_get xs k ≡ Some x → P x) → AllByRecursion P xs
 all_here P [] h = tt
 all_here P (x ∷ xs) h = (h 0 x refl, all_here P xs (λ k. h (suc k)))
-
-all_at : {A : Type 0} (P : A → Type 0) (xs : List A) (i : ℕ) (x : A) → AllByRecursion P xs → slice_get xs i ≡ Some x → P x
-all_at P [] i x all is = cc
-all_at P (y ∷ ys) zero x all is = let same : y ≡ x = cc in subst P same all.0
-all_at P (y ∷ ys) (suc i) x all is = all_at P ys i x all.1 is
 
 zip_right : {A B : Type 0} (R : A → B → Type 0) (P : B → Type 0) → ((x : A) (y : B) → R x y → P y) → (xs : List A) (ys : List B) → AllZip R xs ys → AllByRecursion P ys
 zip_right R P h [] [] z = tt

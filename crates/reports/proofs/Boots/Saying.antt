@@ -1,10 +1,11 @@
 -- Where all steps were done, the lines said are those of the plan.
 use Rattle.std.proofs.Common.{◌≡◌, ◌≢◌, ⊎_elim, ℕ, zero, suc, ◌+◌, ◌<◌, ◌≤◌, Bool, true, false, eqb, eq-eqb, ne_eqb, List, [], ◌∷◌, ◌++◌, map, length, refl, sym, ap, ◌∙◌, subst, arith, Option, Some, None, slice_get, append_assoc, append-nil, flat_map, count_by, IsPermutation}
-use Rattle.std.specs.Prelude.{if◌then◌else◌, ◌&&◌, ◌||◌, ◌==◌, nat_lt, not}
+use Rattle.std.specs.Prelude.{if◌then◌else◌, ◌&&◌, ◌==◌, nat_lt, not}
 use Rattle.std.specs.List.{range_with_len, list_any, AllByRecursion}
-use Rattle.std.proofs.lemmas.Bool.Decides.{eqb_tells, leb_tells}
+use Rattle.std.proofs.lemmas.Bool.Decides.{leb_tells}
 use Rattle.std.proofs.lemmas.Grind.{flat_map-append}
 use Rattle.std.proofs.lemmas.List.Sorted.{IsPermutation-refl, IsPermutation-trans, IsPermutation-append_comm, IsPermutation-append_left, IsPermutation-append_right}
+use Rattle.std.proofs.lemmas.Bool.{eqb-true as eqb_is, and_parts as both, or_parts as or_false}
 use mathlib.Core.Logic.{dite}
 use native.Mathlib.Decide.{dec_lt}
 use Rattle.boot_data.specs.declared.boot_plan.BootPlan.{BootPlan}
@@ -26,6 +27,8 @@ use Rattle.processor.specs.Logs.{LogEntry, Tended, Delivered, Tried, Retired, Fo
 use Rattle.processor.specs.Programs.{Key, same_key, program, step_of}
 use Rattle.processor.specs.Running.{Line}
 use Rattle.processor.specs.Steps.{comes_of, puts_small, puts_large, told_shut_small, told_shut_large}
+use Rattle.processor.proofs.Rooms.{same_refl as key_itself}
+use Rattle.event_theory.proofs.Lists.Placed.{there as there_is}
 use Rattle.reports.specs.Agreements.{PlaceAgrees}
 use Rattle.reports.specs.ClosedTables.{ClosedTables}
 use Rattle.reports.specs.Lines.{state_for}
@@ -64,19 +67,8 @@ module _ {A B : Type 0} (f : A → List B) where
       (IsPermutation-trans (flat_map f (g.front ++ x ∷ g.back)) (f x ++ flat_map f (g.front ++ g.back)) (f x ++ flat_map f xs)
       (to_front g.front x g.back) (IsPermutation-append_right (f x) (flat_map f (g.front ++ g.back)) (flat_map f xs) ih))
 
-eqb_is : (a b : ℕ) → eqb a b ≡ true → a ≡ b
-eqb_is a b e = ⊎_elim (λ t. t.1) (λ f. absurd (cc)) (eqb_tells a b)
-
-both : (a b : Bool) → (a && b) ≡ true → (a ≡ true) × (b ≡ true)
-both true true e = (refl, refl)
-both true false e = absurd (cc)
-both false b e = absurd (cc)
-
 key_tells : (k p : Key) → same_key k p ≡ true → k ≡ p
 key_tells k p e = let t = both (k.0 == p.0) (k.1 == p.1) e in λ i. (eqb_is k.0 p.0 t.0 i, eqb_is k.1 p.1 t.1 i)
-
-key_itself : (k : Key) → same_key k k ≡ true
-key_itself k = (λ i. eq-eqb k.0 k.0 refl i && eq-eqb k.1 k.1 refl i)
 
 -- THE STEPS OF A PLAN
 
@@ -164,10 +156,6 @@ module _ (says : Step → List (List ℕ)) (plan : BootPlan) where
 
 -- WHAT A DONE STEP SAYS
 
-or_false : (a b : Bool) → (a || b) ≡ false → (a ≡ false) × (b ≡ false)
-or_false true b e = absurd (cc)
-or_false false b e = (refl, e)
-
 nothing_if : (b : Bool) → ◌≡◌ {A = List (List ℕ)} [] (if b then [] else [])
 nothing_if true = refl
 nothing_if false = refl
@@ -224,11 +212,6 @@ module _ (q : ℕ) where
       ∙ ap (flat_map (line_at says plan)) (sym (flat_map-append done_by log (all_of logs))))
 
 -- ALL ENDED
-
-there_is : {A : Type 0} (l : List A) (k : ℕ) → k < length l → (x : A) × (slice_get l k ≡ Some x)
-there_is [] k low = absurd (omega arith)
-there_is (x ∷ l) zero low = (x, refl)
-there_is (x ∷ l) (suc k) low = there_is l k (omega arith)
 
 no_program : (ts : List PlannedThread) (k : ℕ) → length ts ≤ k → steps_at ts k ≡ []
 no_program [] k h = refl

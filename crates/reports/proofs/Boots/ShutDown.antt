@@ -6,7 +6,7 @@ use Rattle.std.proofs.Math.Bridge.{le_prop}
 use Rattle.std.proofs.Math.Logic.{∥∥₁_elim}
 use Rattle.std.proofs.lemmas.List.{length-drop, take-append-drop}
 use Rattle.std.proofs.lemmas.List.Sums.{sum_by-cons}
-use Rattle.std.proofs.lemmas.Option.{slice_get_past}
+use Rattle.std.proofs.lemmas.Option.{slice_get_past, slice_get_within as within}
 use Rattle.boot_data.specs.declared.boot_plan.BootPlan.{BootPlan}
 use Rattle.boot_data.specs.declared.plan.PlannedMover.{PlannedMover}
 use Rattle.boot_data.specs.declared.plan.PlannedTty.{PlannedTty}
@@ -40,6 +40,7 @@ use Rattle.processor.specs.Logs.{LogEntry}
 use Rattle.processor.specs.Running.{Line}
 use Rattle.processor.specs.Turns.{heard_lines}
 use Rattle.event_theory.proofs.Lists.Histories.{slice_get-drop}
+use Rattle.event_theory.proofs.Lists.Placed.{there}
 use Rattle.quajects.specs.declared.any.AnyQuaject.{AnyQuaject}
 use Rattle.quajects.specs.declared.home.Home.{Home}
 use Rattle.quajects.specs.Homes.{homes_in}
@@ -59,9 +60,7 @@ use Rattle.reports.specs.Closings.{thread_of, chains_of, came_home, tty_ends, bo
 use Rattle.reports.specs.Endings.{QueueEnded, ThreadsEnded, MetersEnded, MoverEnded, TtyEnded, ChainEnded, small_of, large_of, small_home, large_home, ends_at, device_at}
 use Rattle.reports.specs.Lines.{Says}
 use Rattle.reports.specs.Reports.{Ascend}
-use Rattle.reports.proofs.Boots.Booting.{there}
 use Rattle.reports.proofs.Boots.Planning.{planned_stay, made_new}
-use Rattle.reports.proofs.Threads.ByLogs.{within}
 use Rattle.reports.proofs.Queues.QueueEnds.{GainedEnds, sum_ends, sum_more, sum_one, gained_ports, gained_small, gained_large, gained_both, gained_same, raws_at, homes_sum, shuts_summed, queue_ended}
 
 -- LISTS

@@ -18,8 +18,8 @@ use Rattle.closing.specs.Comings.{GainedAllSmall, GainedAllLarge}
 use Rattle.closing.specs.Gains.{Gained, end_runs, end_takings, runs_at, takings_at}
 use Rattle.closing.specs.PortSums.{port_runs, port_takings, port_shuts, port_share, ports_runs, ports_takings, ports_shut, ports_share}
 use Rattle.closing.specs.RawEnds.{raw_ports}
-use Rattle.closing.proofs.Gaining.{raised_both}
 use Rattle.end_steps.specs.EndLists.{end_share, end_shuts, end_knows_shut, share_at, shuts_at, knows_shut_at, only_at, number_at}
+use Rattle.end_steps.proofs.Parting.{raised_both}
 use Rattle.processor.specs.declared.station.Parts.{Parts}
 use Rattle.quajects.specs.declared.home.Home.{Home}
 use Rattle.quajects.specs.declared.ports.Port.{Port}

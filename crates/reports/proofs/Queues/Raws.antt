@@ -38,6 +38,7 @@ use Rattle.table_theory.specs.Filing.{Owned, entry_of, ListedOnce}
 use Rattle.table_theory.specs.Listing.{all_places, Adjacent}
 use Rattle.table_theory.specs.Positioned.{item_of}
 use Rattle.table_theory.proofs.Owned.{at_map_back}
+use Rattle.event_theory.proofs.Lists.Placed.{all_at}
 use Rattle.reports.specs.Agreements.{IsMover, route_of}
 use Rattle.reports.specs.ClosedTables as closed
 use Rattle.reports.specs.Endings.{QueueEnded, small_of, device_at}
@@ -116,11 +117,6 @@ put_in_order ends number stations last others q e v alone up =
     e.items ∙ (ap (map item_of) (sym s.runs_flat) ∙ (sym (flat_lines s.runs) ∙ ap (λ z. concat (map line_of z)) same))
 
 -- THE PLAN SAYS NOTHING TO A RAW QUEUE
-
-all_at : {A : Type 0} (P : A → Type 0) (xs : List A) (i : ℕ) (x : A) → AllByRecursion P xs → slice_get xs i ≡ Some x → P x
-all_at P [] i x all is = cc
-all_at P (y ∷ ys) zero x all is = let same : y ≡ x = cc in subst P same all.0
-all_at P (y ∷ ys) (suc i) x all is = all_at P ys i x all.1 is
 
 its_steps : (plan : Plan) (threads : List PlannedThread) (e : ℕ) → AllByRecursion (IsProgramOf (many_of plan)) threads → AllByRecursion (IsStepOf (many_of plan)) (steps_at threads e)
 its_steps plan [] e all = tt

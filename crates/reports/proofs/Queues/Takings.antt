@@ -7,7 +7,7 @@ use Rattle.std.proofs.lemmas.Grind.{flat_map-append}
 use Rattle.claim_queue.specs.declared.ends.QueueEnd.{QueueEnd}
 use Rattle.claim_queue.specs.declared.rule.View.{View}
 use Rattle.claim_queue.specs.Handles.{view_of}
-use Rattle.claim_queue.specs.Lines.{line_of, lines_put, lines_taken}
+use Rattle.claim_queue.specs.Lines.{lines_put, lines_taken}
 use Rattle.proc_chain.specs.declared.rule.View.{View as ChainView}
 use Rattle.quajects.specs.declared.any.AnyQuaject.{AnyQuaject}
 use Rattle.quajects.specs.declared.any.AnyQuaject.TheVariants as any
@@ -22,6 +22,7 @@ use Rattle.quajects.specs.Settled.{runs_of}
 use Rattle.quajects.specs.Switches as switches
 use Rattle.quajects.specs.Terminals as terminals
 use Rattle.table_theory.specs.declared.queues.Batch.{Batch}
+use Rattle.end_steps.proofs.Shares.{none_of as no_lines}
 use Rattle.reports.specs.Agreements.{source_of, taken_from, routes_of, small_targets, large_targets, put_at}
 use Rattle.reports.specs.ClosedTables as closed
 use Rattle.reports.specs.Endings.{ends_at, small_home, large_home, device_at, ChainEnded}
@@ -172,10 +173,6 @@ devices_took_none number raw (end ∷ ends) h = of_one lines_taken (raw == numbe
     none false = refl
 
 -- WHAT WAS PUT IN A RAW QUEUE
-
-no_lines : (runs : List Batch) → map line_of runs ≡ [] → runs ≡ []
-no_lines [] e = refl
-no_lines (x ∷ l) e = absurd (cc)
 
 pub no_runs : (v : View) → lines_put v ≡ [] → runs_of v ≡ []
 no_runs v e = no_lines v.part.runs e

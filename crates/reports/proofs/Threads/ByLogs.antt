@@ -1,10 +1,13 @@
 -- The closed threads by the logs: their steps and their signals.
-use Rattle.std.proofs.Common.{◌≡◌, ⊎_elim, ℕ, zero, suc, ◌+◌, ◌<◌, ◌≤◌, Bool, true, false, List, [], ◌∷◌, ◌++◌, length, get_or, refl, sym, ap, ◌∙◌, arith, Some, None, slice_get, flat_map, count_by, cond, eqb, eq-eqb, map}
+use Rattle.std.proofs.Common.{◌≡◌, ⊎_elim, ℕ, suc, ◌+◌, ◌<◌, ◌≤◌, Bool, true, false, List, [], ◌∷◌, ◌++◌, length, get_or, refl, sym, ap, ◌∙◌, arith, Some, None, slice_get, flat_map, count_by, cond, eqb, eq-eqb, map}
 use Rattle.std.specs.Prelude.{if◌then◌else◌, ◌||◌, ◌==◌, ◌&&◌, nat_lt}
 use Rattle.std.specs.List.{AllZip, AllByRecursion, list_any, filter}
-use Rattle.std.proofs.lemmas.Bool.Decides.{eqb_tells, leb_tells, nat_tests}
+use Rattle.std.proofs.lemmas.Bool.Decides.{leb_tells}
 use Rattle.std.proofs.lemmas.List.Folds.{list_any-append}
 use Rattle.std.proofs.lemmas.Grind.{flat_map-append}
+use Rattle.std.proofs.lemmas.Bool.{and_parts as both, eqb-true as eqb_is}
+use Rattle.std.proofs.lemmas.Option.{slice_get_within as within}
+use Rattle.std.proofs.Math.Bool.{or_assoc as assoc}
 use Rattle.thread_table.proofs.Lists.Copies.{get_or-copies}
 use mathlib.Core.Logic.{dite}
 use native.Mathlib.Decide.{dec_lt}
@@ -21,6 +24,7 @@ use Rattle.processor.specs.Programs.{Key, program, same_key}
 use Rattle.processor.specs.Stations.{no_signals}
 use Rattle.processor.specs.Partings.{AllJoined}
 use Rattle.processor.specs.Preparing.{IsPrepared}
+use Rattle.processor.proofs.Logging.{none_in as none_bits, or_false as or_none, delivers as is_it}
 use Rattle.reports.specs.Agreements.{StepsAgree, ShownAgrees, SignalsAgree}
 use Rattle.reports.specs.ClosedTables.{ClosedTables}
 use Rattle.reports.specs.ClosedTables as closed
@@ -32,22 +36,9 @@ use Rattle.reports.proofs.Threads.Stepping.{steps_counted}
 use Rattle.reports.proofs.Threads.Deliveries.{told}
 use Rattle.reports.proofs.Threads.Tallies.{made_at, all_steps, all_signals, all_deliveries, logs_signals}
 
-both : (a b : Bool) → (a && b) ≡ true → (a ≡ true) × (b ≡ true)
-both true true e = (refl, refl)
-both true false e = absurd (cc)
-both false b e = absurd (cc)
-
-eqb_is : (a b : ℕ) → eqb a b ≡ true → a ≡ b
-eqb_is a b e = ⊎_elim (λ t. t.1) (λ f. absurd (cc)) (eqb_tells a b)
-
 past_end : (l : List Step) → slice_get l (length l) ≡ None
 past_end [] = refl
 past_end (x ∷ l) = past_end l
-
-pub within : {A : Type 0} (l : List A) (k : ℕ) (x : A) → slice_get l k ≡ Some x → k < length l
-within [] k x e = absurd (cc)
-within (y ∷ l) zero x e = omega arith
-within (y ∷ l) (suc k) x e = let h = within l k x e in omega arith
 
 -- STEPS
 
@@ -126,25 +117,11 @@ module _ (plan : BootPlan) (x top : ℕ) where
 
 -- SIGNALS
 
-none_bits : (n : ℕ) → is_in 0 n ≡ false
-none_bits n = grind (arith, nat_tests)
-
 fresh_shown : (x n : ℕ) → is_in (get_or no_signals x 0) n ≡ false
 fresh_shown x n = ap (λ m. is_in m n) (get_or-copies 64 0 x) ∙ none_bits n
 
 abbrev shown_by : ℕ → ℕ → Parts → Bool
 shown_by x n parts = is_in (get_or parts.signals x 0) n
-
-abbrev is_it : ℕ → ℕ → ℕ × List ℕ → Bool
-is_it x n d = (d.0 == x) && list_any (λ s. s == n) d.1
-
-assoc : (a b c : Bool) → ((a || b) || c) ≡ (a || (b || c))
-assoc true b c = refl
-assoc false b c = refl
-
-or_none : (b : Bool) → b ≡ (b || false)
-or_none true = refl
-or_none false = refl
 
 module _ (x n : ℕ) (few : x < 64) (low : n < 16) where
   shown_joined : (first : Parts) (stations : List Parts) (last : Parts) → AllJoined first stations last

@@ -1,13 +1,12 @@
 -- What the hands list as delivered is what was delivered.
-use Rattle.std.proofs.Common.{◌≡◌, ◌⊎◌, inl, inr, ⊎_elim, ℕ, zero, suc, ◌+◌, ◌<◌, ◌≤◌, Bool, true, false, cond, eq-eqb, ne_eqb, List, [], ◌∷◌, map, get_or, refl, sym, ap, ◌∙◌, arith, slice_get, count_by, flat_map}
+use Rattle.std.proofs.Common.{◌≡◌, ◌⊎◌, inl, inr, ⊎_elim, ℕ, zero, suc, ◌+◌, ◌<◌, ◌≤◌, Bool, true, false, cond, eq-eqb, ne_eqb, List, [], ◌∷◌, map, refl, sym, ap, ◌∙◌, arith, count_by, flat_map}
 use Rattle.std.specs.Prelude.{if◌then◌else◌, ◌&&◌, ◌||◌, ◌==◌, nat_lt}
 use Rattle.std.specs.List.{filter, range_with_len, list_any}
 use Rattle.std.specs.Result.{result_unwrap_or}
 use Rattle.std.proofs.lemmas.Bool.Decides.{eqb_tells}
 use mathlib.Core.Logic.{dite}
 use native.Mathlib.Decide.{ℕ_discrete}
-use Rattle.event_theory.specs.Accounts.{moves, is_pending, pending_in, delivered, is_deliver, is_signal}
-use Rattle.event_theory.specs.Elements.{Thread, new_thread}
+use Rattle.event_theory.specs.Accounts.{moves, is_pending, delivered, is_deliver, is_signal}
 use Rattle.event_theory.specs.States.{State, step}
 use Rattle.event_theory.specs.declared.event.Event.{Event}
 use Rattle.event_theory.specs.declared.event.Event.TheVariants as events
@@ -18,9 +17,10 @@ use Rattle.table_theory.specs.Filing.{entry_of}
 use Rattle.hand_steps.specs.Tallies.{signalled_by, delivered_by, delivery_by, signal_by, is_delivered}
 use Rattle.std.proofs.lemmas.List.Folds.{list_any-append}
 use Rattle.processor.specs.Programs.{same_key}
+use Rattle.processor.proofs.Logging.{or_false as or_none}
 use Rattle.thread_table.proofs.Lists.Counts.{plus, many_cons, many_shuffled, any_is}
 use Rattle.thread_table.proofs.Lists.Shuffles.{filed_shuffle}
-use Rattle.reports.proofs.Threads.Signals.{raises, signals_agree}
+use Rattle.reports.proofs.Threads.Signals.{raises, signals_agree, same_pending}
 
 -- the event delivers the signal of the thread
 abbrev pub delivers : ℕ → ℕ → Made → Bool
@@ -59,14 +59,9 @@ module _ (n : ℕ) where
       itself false = refl
 
 module _ (x n : ℕ) where
-  same_pending : (ts : List Thread) (y : ℕ) → (get_or ts y new_thread).pending n ≡ pending_in n (slice_get ts y)
-  same_pending [] y = refl
-  same_pending (t ∷ ts) zero = refl
-  same_pending (t ∷ ts) (suc y) = same_pending ts y
-
   here : (s : State) (event : Event) → n < 16 → (is_deliver x event && list_any (is_n n) (signals_of event s)) ≡ (is_deliver x event && is_pending x n s)
   here s (events.Deliver call e) low = ⊎_elim
-      (λ t. ap (λ z. (e == x) && z) (any_in n (thread_at s.elements e).pending 0 16 (omega arith) (omega arith) ∙ (ap (λ z. (thread_at s.elements z).pending n) t.1 ∙ same_pending s.elements.threads x)))
+      (λ t. ap (λ z. (e == x) && z) (any_in n (thread_at s.elements e).pending 0 16 (omega arith) (omega arith) ∙ (ap (λ z. (thread_at s.elements z).pending n) t.1 ∙ same_pending x n s.elements.threads x)))
       (λ f. ap (λ z. z && list_any (is_n n) (signals_of (events.Deliver call e) s)) f.0 ∙ ap (λ z. z && is_pending x n s) (sym f.0))
       (eqb_tells e x)
   here s event low = refl
@@ -103,10 +98,6 @@ module _ (x n : ℕ) where
       ∙ signals_agree x n past l allowed m
 
   -- in the words of what the hands' lists come to
-
-  or_none : (b : Bool) → b ≡ (b || false)
-  or_none true = refl
-  or_none false = refl
 
   turned : (a b : ℕ) → (a == b) ≡ (b == a)
   turned a b = ⊎_elim (λ t. t.0 ∙ sym (eq-eqb b a (sym t.1))) (λ f. f.0 ∙ sym (ne_eqb b a (λ e. f.1 (sym e)))) (eqb_tells a b)

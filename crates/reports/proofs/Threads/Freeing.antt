@@ -9,6 +9,8 @@ use Rattle.std.proofs.lemmas.List.FromFn.{length-range_with_len}
 use Rattle.std.proofs.lemmas.List.Folds.{list_any-append}
 use Rattle.std.proofs.lemmas.List.Sorted.{list_any-IsPermutation}
 use Rattle.std.proofs.lemmas.List.Sums.{length-filter}
+use Rattle.std.proofs.Math.Bool.{or-true as or_true}
+use Rattle.std.proofs.lemmas.Bool.{and_parts as both}
 use Rattle.boot_data.specs.declared.boot_plan.BootPlan.{BootPlan}
 use Rattle.event_theory.proofs.Keeping.Accounts.{account_law}
 use Rattle.event_theory.specs.Accounts.{moves, done_in, done_of, is_done, IsAccounted}
@@ -35,10 +37,6 @@ use Rattle.thread_table.proofs.Lists.Counts.{many_more, by_bool}
 use Rattle.thread_table.proofs.Lists.Shuffles.{filed_shuffle}
 
 -- LISTS
-
-or_true : (b : Bool) → (b || true) ≡ true
-or_true true = refl
-or_true false = refl
 
 any_dropped : {A : Type 0} (p : A → Bool) (k : ℕ) (l : List A) → list_any p (drop k l) ≡ true → list_any p l ≡ true
 any_dropped p zero l h = h
@@ -216,8 +214,3 @@ has_done_all plan x d (r ∷ l) a h = by_bool (with_few x d r)
     ⊎_elim (λ u. ⊎_elim (λ v. let e : length (program plan r.0) ≡ length (program plan x) = ap (λ z. length (program plan z)) u.1 in let f = v.1 in let g = a.0 in omega arith) (λ w. absurd (cc)) (leb_tells r.1 d))
     (λ f. absurd (cc)) (eqb_tells r.0 x))
     (λ isnt. has_done_all plan x d l a.1 (sym (ap (λ z. z || list_any (with_few x d) l) isnt) ∙ h))
-  where
-    both : (a b : Bool) → (a && b) ≡ true → (a ≡ true) × (b ≡ true)
-    both true true e = (refl, refl)
-    both true false e = absurd (cc)
-    both false b e = absurd (cc)

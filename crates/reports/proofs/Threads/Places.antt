@@ -1,9 +1,11 @@
 -- Where the elements of the closed threads are.
-use Rattle.std.proofs.Common.{◌≡◌, ◌⊎◌, inl, inr, ⊎_elim, ℕ, zero, suc, ◌<◌, ◌≤◌, Bool, true, false, List, [], ◌∷◌, ◌++◌, length, get_or, refl, sym, ap, ◌∙◌, subst, arith, Option, Some, None, slice_get, flat_map, option_map}
+use Rattle.std.proofs.Common.{◌≡◌, ⊎_elim, ℕ, zero, suc, ◌<◌, ◌≤◌, Bool, true, false, List, [], ◌∷◌, ◌++◌, length, get_or, refl, sym, ap, ◌∙◌, subst, arith, Option, Some, None, slice_get, flat_map, option_map}
 use Rattle.std.specs.Prelude.{slice_index_or, ◌||◌, ◌&&◌, ◌==◌, nat_le}
 use Rattle.std.specs.List.{AllZip, AllByRecursion, list_any}
 use Rattle.std.proofs.lemmas.Bool.Decides.{eqb_tells}
 use Rattle.std.proofs.lemmas.List.Folds.{list_any-append}
+use Rattle.std.proofs.Math.Bool.{or-true as or_true}
+use Rattle.std.proofs.lemmas.Bool.{or_cases as some_of, false_from_ne_true as not_true}
 use mathlib.Core.Logic.{dite}
 use native.Mathlib.Decide.{dec_lt}
 use Rattle.boot_data.specs.declared.boot_plan.BootPlan.{BootPlan}
@@ -39,6 +41,7 @@ use Rattle.processor.specs.Programs.{Key, program}
 use Rattle.processor.specs.Steps.{raised_by}
 use Rattle.processor.specs.Partings.{AllJoined}
 use Rattle.processor.specs.Preparing.{IsPrepared, HasDoneAll}
+use Rattle.processor.proofs.Logging.{or_false as or_none}
 use Rattle.reports.specs.Agreements.{PlaceAgrees, ThreadAgrees}
 use Rattle.reports.specs.ClosedTables.{ClosedTables}
 use Rattle.reports.specs.ClosedTables as closed
@@ -117,17 +120,9 @@ logs_retired plan (log ∷ logs) p = plan_more plan (tally_of log).retired (flat
 
 -- WHO RETIRED THEM
 
-some_of : (a b : Bool) → (a || b) ≡ true → (a ≡ true) ⊎ (b ≡ true)
-some_of true b h = inl refl
-some_of false b h = inr h
-
 first_of : (a b : Bool) → (a && b) ≡ true → a ≡ true
 first_of true b h = refl
 first_of false b h = absurd (cc)
-
-or_true : (b : Bool) → (b || true) ≡ true
-or_true true = refl
-or_true false = refl
 
 same_of : (a b : ℕ) → (a == b) ≡ true → a ≡ b
 same_of a b e = ⊎_elim (λ t. t.1) (λ f. absurd (cc)) (eqb_tells a b)
@@ -166,10 +161,6 @@ module _ (x d : ℕ) where
       (λ f. none_spare n low l a.1 f)
       (some_of (with_few x d r) (list_any (with_few x d) l) h)
 
-or_none : (b : Bool) → b ≡ (b || false)
-or_none true = refl
-or_none false = refl
-
 module _ (x : ℕ) where
   abbrev is_of : Key → Bool
   is_of r = r.0 == x
@@ -204,10 +195,6 @@ module _ (x : ℕ) where
   list_freed (m ∷ made) = list_any-append is_of (retired_by m) (flat_map retired_by made) ∙ (λ k. event_freed m.event m.number k || list_freed made k)
 
 -- THREADS
-
-not_true : (b : Bool) → (b ≡ true → ⊥) → b ≡ false
-not_true true wrong = absurd (wrong refl)
-not_true false wrong = refl
 
 by_place : (call x steps all : ℕ) (retired : Bool) (e : Elements) (place : Place) → StandsAt call x e place → (StandsAt call x e places.Free → (steps ≡ all) × (retired ≡ true))
     → ((p : ℕ) → StandsAt call x e (places.Processor p) → ⊥) → (retired ≡ true → place ≡ places.Free) → PlaceAgrees place steps all retired

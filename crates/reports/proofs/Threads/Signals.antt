@@ -133,7 +133,7 @@ module _ (x n : ℕ) where
       by_join true m ms e = refl
       by_join false m ms e = let a = many_cons (raises x n) m ms in let z : plus (is_signal x n m.event) ≡ 0 = ap plus e in omega arith
 
-  same_pending : (ts : List Thread) (y : ℕ) → (get_or ts y new_thread).pending n ≡ pending_in n (slice_get ts y)
+  pub same_pending : (ts : List Thread) (y : ℕ) → (get_or ts y new_thread).pending n ≡ pending_in n (slice_get ts y)
   same_pending [] y = refl
   same_pending (t ∷ ts) zero = refl
   same_pending (t ∷ ts) (suc y) = same_pending ts y

@@ -25,6 +25,7 @@ use Rattle.processor.specs.Partings.{AreJoined, AllJoined}
 use Rattle.processor.specs.Programs.{same_key}
 use Rattle.processor.specs.Steps.{raised_by}
 use Rattle.processor.specs.Preparing.{IsPrepared}
+use Rattle.processor.proofs.Logging.{or_false as or_none}
 use Rattle.reports.specs.Doings as doings
 use Rattle.reports.specs.Lists.{all_of}
 use Rattle.reports.proofs.Joined.Lists.{zip_lists, flat_all}
@@ -112,10 +113,6 @@ module _ (x n : ℕ) where
   for_alarms : (alarms : List Alarm) → list_any (same_key (x, n)) (map (λ (alarm : Alarm). (alarm.element, alarm.signal)) alarms) ≡ list_any (doings.is_for x n) alarms
   for_alarms [] = refl
   for_alarms (a ∷ alarms) = λ k. doings.is_for x n a || for_alarms alarms k
-
-  or_none : (b : Bool) → b ≡ (b || false)
-  or_none true = refl
-  or_none false = refl
 
   swap_or : (a b c d : Bool) → ((a || b) || (c || d)) ≡ ((a || c) || (b || d))
   swap_or true b true d = refl

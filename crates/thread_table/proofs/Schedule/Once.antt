@@ -66,11 +66,11 @@ module _ {A : Type 0} where
   ranks p (z ∷ zs) (suc k) zero x y at at' up up' low = absurd (omega arith)
   ranks p (z ∷ zs) (suc k) (suc j) x y at at' up up' low = shifted (p z) z (filter p zs) x y (ranks p zs k j x y at at' up up' (omega arith))
 
-  drop_it : (p : A → Bool) (m : A) (ms : List A) (j : Bool) → p m ≡ false → filter p (if j then ms else (m ∷ ms)) ≡ filter p ms
+  pub drop_it : (p : A → Bool) (m : A) (ms : List A) (j : Bool) → p m ≡ false → filter p (if j then ms else (m ∷ ms)) ≡ filter p ms
   drop_it p m ms true e = refl
   drop_it p m ms false e = ap (λ (b : Bool). cond b (m ∷ filter p ms) (filter p ms)) e
 
-  keep_it : (p : A → Bool) (m : A) (ms : List A) → p m ≡ true → filter p (m ∷ ms) ≡ m ∷ filter p ms
+  pub keep_it : (p : A → Bool) (m : A) (ms : List A) → p m ≡ true → filter p (m ∷ ms) ≡ m ∷ filter p ms
   keep_it p m ms e = ap (λ (b : Bool). cond b (m ∷ filter p ms) (filter p ms)) e
 
   -- what stands in the list of what passes stands in the list

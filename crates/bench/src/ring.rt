@@ -1,5 +1,6 @@
 //! The ready ring of the thread table: elements are passed round it by several processors.
 ghost use Rattle.std.specs.Prelude.{◌≡◌, ◌+◌, ◌*◌, ◌≤◌, IfSome, IfOk, All};
+ghost use Rattle.table_theory.specs.declared.shares.TheConstants.{MOST_GIVEN};
 ghost use Rattle.table_theory.specs.Sharing.{kept};
 ghost use Rattle.thread_table.specs.Handles.{view_of, IsDivisible, IsHandOf, IsSameHand};
 
@@ -134,7 +135,7 @@ fn parts(
     processors: u8,
 ) -> Result<Vec<Passer>, Fault>
     requires table { IsHandOf table.now hand.old }
-    requires parts { 8 * 8796093022208 + 2 ≤ (view_of hand.old).member.share }
+    requires parts { 8 * MOST_GIVEN + 2 ≤ (view_of hand.old).member.share }
     ensures table { IsSameHand hand.old hand.new }
     ensures passers { IfOk result (λ passers. All (λ passer. IsHandOf table.now passer.hand) passers.items) }
 {

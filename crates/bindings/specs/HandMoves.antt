@@ -2,6 +2,7 @@
 use Rattle.std.specs.Prelude.{◌≡◌, ◌⊎◌, ◌≤◌, ◌<◌, ◌+◌, ℕ, ℤ, pos, true, false, Result, Ok, Err}
 use Rattle.std.specs.declared.option.Option.{Option}
 use Rattle.std.specs.declared.option.Option.TheVariants.{Some}
+use Rattle.event_theory.specs.Marks.{wait_ring}
 use Rattle.thread_table.specs.declared.moves.MoveRefusal.{MoveRefusal}
 use Rattle.thread_table.specs.declared.moves.MoveRefusal.TheVariants as moves
 use Rattle.thread_table.specs.Handles.{view_of, call_of}
@@ -76,7 +77,7 @@ MovingTold line element x new told =
 abbrev pub WaitingTold : ℕ → ℕ → HeldHand → Option HeldHand → SynthMoved → Type 0
 WaitingTold element wait x new told =
     (IsMoveCode BadNumber told × ((64 ≤ element) ⊎ (16 ≤ wait)) × (new ≡ Some x))
-    ⊎ ((element < 64) × (wait < 16) × HeldOrNot (WasMoved (wait + 2) element) element x new told)
+    ⊎ ((element < 64) × (wait < 16) × HeldOrNot (WasMoved (wait_ring wait) element) element x new told)
 
 -- what `ticket` did, by its code
 abbrev pub TicketTold : ℕ → HeldHand → ℕ → ℕ → Option HeldHand → ℤ → Type 0

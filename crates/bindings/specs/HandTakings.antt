@@ -3,6 +3,7 @@ use Rattle.std.specs.Prelude.{◌≡◌, ◌⊎◌, ◌≤◌, ◌<◌, ◌+◌,
 use Rattle.std.specs.declared.option.Option.{Option}
 use Rattle.std.specs.declared.option.Option.TheVariants.{Some}
 use Rattle.event_theory.specs.Numbers.{u32_values}
+use Rattle.event_theory.specs.Marks.{wait_ring}
 use Rattle.thread_table.specs.declared.takings.NextRefusal.{NextRefusal}
 use Rattle.thread_table.specs.declared.takings.NextRefusal.TheVariants as nexts
 use Rattle.thread_table.specs.Handles.{view_of, call_of}
@@ -51,4 +52,4 @@ pub record TakingTold (line : ℕ) (x : HeldHand) (old_element element : ℕ) (n
 abbrev pub WakingTold : ℕ → HeldHand → ℕ → ℕ → Option HeldHand → SynthAnswer → Type 0
 WakingTold wait x old_element element new told =
     (IsCodeAlone BadNumber told × (16 ≤ wait) × (new ≡ Some x) × (element ≡ old_element))
-    ⊎ ((wait < 16) × TakingTold (wait + 2) x old_element element new told)
+    ⊎ ((wait < 16) × TakingTold (wait_ring wait) x old_element element new told)

@@ -3,6 +3,7 @@ use Rattle.std.specs.Prelude.{◌≡◌, ◌⊎◌, ◌≤◌, ◌<◌, ◌+◌,
 use Rattle.std.specs.declared.option.Option.{Option}
 use Rattle.std.specs.declared.option.Option.TheVariants.{None, Some}
 use Rattle.event_theory.specs.Numbers.{u32_values}
+use Rattle.event_theory.specs.Marks.{wait_ring}
 use Rattle.thread_table.specs.declared.takings.NextRefusal.{NextRefusal}
 use Rattle.thread_table.specs.Handles.{view_of, call_of}
 use Rattle.thread_table.specs.Wakes.{NotifiedNow, BeforeAnswer}
@@ -20,7 +21,7 @@ WasNotified wait head x y = IsKept x y × NotifiedNow (call_of x.hand) (view_of 
 -- `try_wake_before` gave this answer
 abbrev pub WasTriedBefore : ℕ → ℕ → Result (Option ℕ) NextRefusal → HeldHand → HeldHand → Type 0
 WasTriedBefore wait head answer x y =
-    IsKept x y × BeforeAnswer (call_of x.hand) (view_of x.hand) (wait + 2) head answer (view_of y.hand)
+    IsKept x y × BeforeAnswer (call_of x.hand) (view_of x.hand) (wait_ring wait) head answer (view_of y.hand)
 
 -- the tail that a refused try to take before a position tells has 32 bits
 abbrev pub IsFitBefore : Result (Option ℕ) NextRefusal → Type 0

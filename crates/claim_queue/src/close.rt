@@ -12,7 +12,6 @@ use crate::ends::{ClaimQueue, QueueEnd};
 use crate::layout::{HEAD, SHUT, TAIL, data_word, flag_word};
 use crate::steps::{count, or_head};
 use arrayvec::ArrayVec;
-use atomic_table::Closed as ClosedWords;
 use std::alloc::Global;
 use std::marker::Brand;
 use table_theory::OpenEnds;
@@ -27,7 +26,7 @@ pub struct Closed<const N: usize> {
     pub left: ArrayVec<Option<u64>, N>,
 }
 
-fn read_at(closed: &ClosedWords<(), Global>, room: usize, position: u64) -> Option<u64>
+fn read_at(closed: &atomic_table::Closed<(), Global>, room: usize, position: u64) -> Option<u64>
     requires words { (slots_len closed.now.words ≡ width room) × IsFull closed.now.words × (1 ≤ room)
         × (room ≤ MOST_PLACES) }
     requires range { position < POSITIONS }
@@ -42,7 +41,7 @@ fn read_at(closed: &ClosedWords<(), Global>, room: usize, position: u64) -> Opti
 }
 
 fn read_left<const N: usize>(
-    closed: &ClosedWords<(), Global>,
+    closed: &atomic_table::Closed<(), Global>,
     tail: u64,
     head: u64,
 ) -> ArrayVec<Option<u64>, N>

@@ -14,7 +14,7 @@ mod typing;
 mod work;
 
 pub use alarms::set_alarms;
-pub use crew::{Job, Started, JobPromise, join_all, run_all, start_all};
+pub use crew::{Job, JobPromise, Started, join_all, run_all, start_all};
 pub use device::serve_device;
 pub use elements::prepare;
 pub use laws::{

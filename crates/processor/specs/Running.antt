@@ -1,6 +1,7 @@
 -- What an element's turn on a processor does, and where the element goes behind it.
 use Rattle.std.specs.Prelude.{◌≡◌, ◌+◌, ℕ, Bool, true, false, List, [], ◌∷◌, Option, Some, None}
 use Rattle.boot_data.specs.declared.boot_plan.BootPlan.{BootPlan}
+use Rattle.event_theory.specs.Marks.{wait_ring}
 use Rattle.boot_data.specs.declared.plan.Step.{Step}
 use Rattle.boot_data.specs.declared.plan.Step.TheVariants as steps
 use Rattle.end_steps.specs.Sums.{Worked, ChainsWorked, never}
@@ -60,7 +61,7 @@ abbrev pub Goes : ℕ → Step → Deed → Bool → ℕ → Moved → View → 
 Goes call step deed last element (moveds.Ticketed waited) v w = (ticket : Ticket) × (sleeps_on deed ≡ Some ticket)
     × WaitedAt call ticket.wait element ticket.number waited v w
 Goes call step deed last element (moveds.Waits moved) v w = (wait : ℕ) × (sleeps_on deed ≡ None)
-    × (wait_of step ≡ Some wait) × Sent call (wait + 2) element moved v w
+    × (wait_of step ≡ Some wait) × Sent call (wait_ring wait) element moved v w
 Goes call step deed last element (moveds.Freed moved) v w =
     (sleeps_on deed ≡ None) × (wait_of step ≡ None) × (last ≡ true) × Sent call 1 element moved v w
 Goes call step deed last element (moveds.Ready moved) v w =

@@ -2,11 +2,12 @@
 
 ghost use Rattle.std.specs.Prelude.{◌≡◌, ◌≤◌, nat_le, vec_len};
 ghost use Rattle.std.specs.List.{list_any};
+ghost use Rattle.quaject_core.specs.declared.rings.TheConstants.{RINGS};
 
 use crate::holding::HeldList;
 use crate::queueing::StoredQueue;
 use crate::threading::{StoredThread, new_threads};
-use crate::{rings, placing, seats};
+use crate::{placing, rings, seats};
 use event_theory::{
     Call, Element, ElementStatus, Hold, OutOfMemory, Processor, Refusal, Signal, WaitNumber,
 };
@@ -20,7 +21,7 @@ pub(crate) struct StoredElements {
     notified: [u32; 16],
     processors: [Option<Hold>; 8],
     held: HeldList,
-    ghost few: { vec_len rings ≤ 18 },
+    ghost few: { vec_len rings ≤ RINGS },
     ghost all: { vec_len threads ≤ 64 },
 }
 

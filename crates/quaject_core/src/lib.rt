@@ -45,11 +45,11 @@
 mod chaining;
 mod elements;
 mod holding;
-mod rings;
 mod machine;
 mod metering;
 mod placing;
 mod queueing;
+mod rings;
 mod seats;
 mod store;
 mod threading;

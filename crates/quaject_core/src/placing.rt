@@ -6,6 +6,7 @@ ghost use Rattle.event_theory.specs.Queues.{left};
 ghost use Rattle.event_theory.specs.Statuses.{element_statuses};
 ghost use Rattle.quaject_core.specs.Shown.{queue};
 ghost use Rattle.quaject_core.specs.ShownThreads.{thread};
+ghost use Rattle.quaject_core.specs.declared.rings.TheConstants.{RINGS};
 ghost use Rattle.event_theory.specs.Appearances.{is_on};
 ghost use Rattle.event_theory.specs.Places.{place_by, ring_place, held_place, holder};
 
@@ -60,7 +61,7 @@ fn holder(held: &[Hold], element: u64) -> Option<Call>
 
 /// What the element queue stands for.
 fn ring_place(ring: usize) -> Place
-    requires { ring < 18 }
+    requires { ring < RINGS }
     ensures { result ≡ ring_place ring }
 {
     match ring {
@@ -88,7 +89,7 @@ pub(crate) fn place(
     held: &[Hold],
     element: u64,
 ) -> Place
-    requires { length rings.now ≤ 18 }
+    requires { length rings.now ≤ RINGS }
     ensures { result ≡ place_by
         (position (is_on element) processors.now)
         (position (λ q. list_any (λ item. item == element) (left q)) (map queue rings.now))
@@ -111,7 +112,7 @@ pub(crate) fn statuses(
     rings: &[StoredQueue],
     held: &[Hold],
 ) -> Result<Vec<ElementStatus>, OutOfMemory>
-    requires { length rings.now ≤ 18 }
+    requires { length rings.now ≤ RINGS }
     ensures { IfOk result (λ list. (notified : List ℕ) → list.items ≡ element_statuses (record {
       threads = map thread threads.now;
       rings = map queue rings.now;

@@ -7,6 +7,7 @@ ghost use Rattle.event_theory.specs.Results.{Changes, change_at};
 ghost use Rattle.quaject_core.specs.Shown.{queue};
 ghost use Rattle.event_theory.specs.Rings.{taken};
 ghost use Rattle.event_theory.specs.Marks.{wait_ring};
+ghost use Rattle.quaject_core.specs.declared.rings.TheConstants.{RINGS, WAITS};
 
 use crate::queueing::StoredQueue;
 use event_theory::{Call, OutOfMemory, Refusal, WaitNumber};
@@ -21,6 +22,12 @@ pub(crate) const FREE: usize = 1;
 /// The first of the wait queues.
 pub(crate) const FIRST_WAIT: usize = 2;
 
+/// How many wait queues there are.
+const WAITS: u8 = 16;
+
+/// How many rings there are.
+pub(crate) const RINGS: usize = 18;
+
 /// The ring of a wait queue.
 pub(crate) fn of_wait(wait: WaitNumber) -> usize
     ensures { result ≡ wait_ring wait }
@@ -30,14 +37,14 @@ pub(crate) fn of_wait(wait: WaitNumber) -> usize
 
 /// The queues as they begin: all elements are free.
 pub(crate) fn new(alloc: Global, count: u8) -> Result<Vec<StoredQueue>, OutOfMemory>
-    ensures count { IfOk result (λ rings. vec_len rings ≡ 18) }
+    ensures count { IfOk result (λ rings. vec_len rings ≡ RINGS) }
     ensures what { IfOk result
-        (λ rings. map queue rings.items ≡ empty_queue count ∷ full_queue count ∷ repeat 16 (empty_queue count ∷ [])) }
+        (λ rings. map queue rings.items ≡ empty_queue count ∷ full_queue count ∷ repeat WAITS (empty_queue count ∷ [])) }
 {
     let mut rings = Vec::new(alloc);
     rings.push(StoredQueue::new(alloc, u16::from(count)))?;
     rings.push(StoredQueue::full(alloc, count)?)?;
-    for _ in 0..16u8 {
+    for _ in 0..WAITS {
         rings.push(StoredQueue::new(alloc, u16::from(count)))?;
     }
     Ok(rings)

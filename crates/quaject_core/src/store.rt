@@ -2,10 +2,10 @@
 
 use crate::chaining::StoredChain;
 use crate::elements::StoredElements;
-use crate::rings;
-use crate::rings::{FREE, READY};
 use crate::metering::StoredMeters;
 use crate::queueing::StoredQueue;
+use crate::rings;
+use crate::rings::{FREE, READY};
 use event_theory::{
     Alarm, Call, ChainNumber, ChainStatus, Event, Items, OutOfMemory, QueueName, QueueNumber,
     QueueStatus, Refusal, Status,

@@ -15,7 +15,12 @@ use quajects::RawTty;
 ///
 /// Conditions: the station and the raw ttys are of these objects, and the station has the whole of each once these are
 /// joined to it; the lists of the answers are empty and have room.
-pub(crate) fn shut_down(shared: Shared, last: Station, ttys: Vec<RawTty>, answers: Answers) -> Unmade
+pub(crate) fn shut_down(
+    shared: Shared,
+    last: Station,
+    ttys: Vec<RawTty>,
+    answers: Answers,
+) -> Unmade
     requires last { ArePartsOf shared last.parts }
     requires ttys { AreRawsOf shared ttys.items }
     requires wholes { (parts : Parts) → ArePartsOf shared parts → TookRaws (length shared.plan.queues)

@@ -10,7 +10,7 @@ abbrev pub the_whole : ℕ
 the_whole = 18446744073709551615
 
 abbrev pub IsWhole : ℕ → Type 0
-IsWhole share = share ≡ 18446744073709551615
+IsWhole share = share ≡ the_whole
 
 -- what a split gives to the new end: half, and no more than 2^43 parts
 abbrev pub given : ℕ → ℕ

@@ -8,6 +8,7 @@ ghost use Rattle.thread_table.specs.Rules.{has, serves, running, MayStep};
 use event_theory::{Element, Processor};
 use std::alloc::Global;
 use std::sync::Arc;
+use table_theory::shares::MOST_GIVEN;
 use thread_table::{Hand, Spent, ThreadTable};
 
 /// One hand of a table of thread elements that other handles share. It has so many parts of its table, of u64::MAX.
@@ -62,7 +63,7 @@ impl HeldHand {
         ensures { MatchOption result (self.new ≡ self.old) (Divided processors self.old self.new) }
     {
         let table = Arc::try_clone(&self.table).ok()?;
-        let given = (self.parts / 2).min(8796093022208);
+        let given = (self.parts / 2).min(MOST_GIVEN);
         let hand = self.table.split(&mut self.hand, processors);
         self.parts -= given;
         Some(HeldHand {

@@ -1,6 +1,7 @@
 //! Moves of elements for C.
 ghost use Rattle.std.specs.Prelude.{◌≡◌, ◌+◌, true};
 ghost use Rattle.std.specs.declared.option.Option.TheVariants.{None};
+ghost use Rattle.event_theory.specs.Marks.{wait_ring};
 ghost use Rattle.thread_table.specs.Handles.{view_of};
 ghost use Rattle.thread_table.specs.Rules.{has};
 ghost use Rattle.bindings.specs.Codes.{EmptyHandle};
@@ -47,7 +48,7 @@ impl HeldHand {
     /// `ThreadTable::try_wait`.
     pub fn try_wait(&mut self, element: Element, wait: WaitNumber) -> Result<(), MoveRefusal>
         requires { has (view_of self.old.hand) element ≡ true }
-        ensures { WasMoved (wait + 2) element result self.old self.new }
+        ensures { WasMoved (wait_ring wait) element result self.old self.new }
     {
         self.table.try_wait(&mut self.hand, element, wait)
     }

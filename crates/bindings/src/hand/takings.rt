@@ -2,6 +2,7 @@
 ghost use Rattle.std.specs.Prelude.{◌≡◌, ◌+◌, ◌<◌};
 ghost use Rattle.std.specs.declared.option.Option.TheVariants.{None};
 ghost use Rattle.event_theory.specs.Numbers.{u32_values};
+ghost use Rattle.event_theory.specs.Marks.{wait_ring};
 ghost use Rattle.bindings.specs.Codes.{EmptyHandle};
 ghost use Rattle.bindings.specs.HandCalls.{HoldsThen};
 ghost use Rattle.bindings.specs.HandTakings.{WasTaken, IsFit, code_of_next, tail_of_next, IsToldTaking};
@@ -33,7 +34,7 @@ impl HeldHand {
 
     /// `ThreadTable::try_wake`.
     pub fn try_wake(&mut self, wait: WaitNumber) -> Result<Element, NextRefusal>
-        ensures { WasTaken (wait + 2) result self.old self.new }
+        ensures { WasTaken (wait_ring wait) result self.old self.new }
     {
         self.table.try_wake(&mut self.hand, wait)
     }

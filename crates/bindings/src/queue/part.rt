@@ -10,6 +10,7 @@ use arrayvec::ArrayVec;
 use claim_queue::{ClaimQueue, ClaimRefusal, QueueEnd, TakeRefusal};
 use std::alloc::Global;
 use std::sync::Arc;
+use table_theory::shares::MOST_GIVEN;
 
 /// One end of a queue that other handles share. It has so many parts of its queue, of u64::MAX, and has raised all that
 /// it claimed. `mark` is the number that the queue was given.
@@ -67,7 +68,7 @@ impl<const N: usize> Part<N> {
         ensures { MatchOption result (self.new ≡ self.old) (λ born. DividedPart N self.old self.new born) }
     {
         let queue = Arc::try_clone(&self.queue).ok()?;
-        let given = (self.parts / 2).min(8796093022208);
+        let given = (self.parts / 2).min(MOST_GIVEN);
         let end = self.queue.split(&mut self.end);
         self.parts -= given;
         Some(Part {

@@ -9,6 +9,7 @@ use event_theory::Alarm;
 use meters::{AdvanceRefusal, MeterSeat, Meters, SetRefusal};
 use std::alloc::Global;
 use std::sync::Arc;
+use table_theory::shares::MOST_GIVEN;
 
 /// One end of meters that other handles share. It has so many parts of its meters, of u64::MAX. `mark` is the number
 /// that the meters were given.
@@ -60,7 +61,7 @@ impl HeldSeat {
         ensures { MatchOption result (self.new ≡ self.old) (Divided self.old self.new) }
     {
         let meters = Arc::try_clone(&self.meters).ok()?;
-        let given = (self.parts / 2).min(8796093022208);
+        let given = (self.parts / 2).min(MOST_GIVEN);
         let seat = self.meters.split(&mut self.seat);
         self.parts -= given;
         Some(HeldSeat {

@@ -3,6 +3,7 @@ pub mod Courses
 pub mod Ends
 pub mod Interleaving
 pub mod Leaving
+pub mod Ledgers
 pub mod Listing
 pub mod Logs
 pub mod Members
@@ -11,6 +12,8 @@ pub mod Owned
 pub mod Positioned
 pub mod QueueEvents
 pub mod QueueOf
+pub mod Reaching
 pub mod Seeing
+pub mod Standing
 pub mod Totals
 pub mod Windows

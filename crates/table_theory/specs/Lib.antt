@@ -2,6 +2,7 @@ pub mod Courses
 pub mod Ends
 pub mod Filing
 pub mod Interleaving
+pub mod Ledgers
 pub mod Listing
 pub mod Members
 pub mod Positioned

@@ -9,6 +9,7 @@ pub mod Logs
 pub mod Members
 pub mod Ordering
 pub mod Owned
+pub mod Parting
 pub mod Positioned
 pub mod QueueEvents
 pub mod QueueOf

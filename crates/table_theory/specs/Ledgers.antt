@@ -140,6 +140,28 @@ pub record Keeps {K O : Type 0} (v w : Ledger K O) : Type 0 where
   pub own : w.own ≡ v.own
   pub member : w.member ≡ v.member
 
+-- A number was found in a word, and nothing else changed for the end
+pub record Looked {K O : Type 0} (subject : Subject K O) (v : Ledger K O) (word found : ℕ) (w : Ledger K O) : Type 0
+    where
+  pub at : Moment O
+  pub adds : Adds subject v (load word found at ∷ []) w
+  pub same : Keeps v w
+
+-- the number of ends was found, and made one more
+pub record CountedUp {K O : Type 0} (subject : Subject K O) (v w : Ledger K O) : Type 0 where
+  pub found : Moment O
+  pub adds : Adds subject v (count_up subject.ends_word found ∷ []) w
+  pub own : w.own ≡ v.own
+  pub member : w.member ≡ record v.member { ends = v.member.ends + 1; splits = v.member.splits + 1 }
+
+-- the same, one less
+pub record CountedDown {K O : Type 0} (subject : Subject K O) (v w : Ledger K O) : Type 0 where
+  pub found : Moment O
+  pub adds : Adds subject v (count_down subject.ends_word found ∷ []) w
+  pub own : w.own ≡ v.own
+  pub member : w.member ≡ record v.member { ends = v.member.ends - 1; joins = v.member.joins + 1 }
+  pub joined : Reaches subject v.joined w.seen
+
 -- The number of ends was found and made one more, and the end gave a part of its share away
 pub record Divided {K O : Type 0} (subject : Subject K O) (v w : Ledger K O) : Type 0 where
   pub found : Moment O

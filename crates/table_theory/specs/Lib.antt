@@ -5,6 +5,7 @@ pub mod Interleaving
 pub mod Ledgers
 pub mod Listing
 pub mod Members
+pub mod Plays
 pub mod Positioned
 pub mod QueueOf
 pub mod Seating

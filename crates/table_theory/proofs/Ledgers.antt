@@ -13,7 +13,7 @@ use Rattle.table_theory.specs.Courses.{Continues, IsCourse}
 use Rattle.table_theory.specs.Filing.{entry_of}
 use Rattle.table_theory.specs.Ends.{Begins}
 use Rattle.table_theory.specs.Sharing.{IsWhole, kept}
-use Rattle.table_theory.specs.Ledgers.{Subject, Step, load, count_up, count_down, IsReal, Reaches, Adds, opened, first_of, rest_of, newborn, by_later, both, emptied, IsIdle, EndsStand, AreTrue, Keeps, Divided, IsNewborn, TookIn, Tallied, WereOpen}
+use Rattle.table_theory.specs.Ledgers.{Subject, Step, IsReal, Reaches, Adds, opened, first_of, rest_of, newborn, by_later, both, emptied, IsIdle, EndsStand, AreTrue}
 use Rattle.table_theory.proofs.Courses.{course_step, course_split, course_join, course_first, step_entries, split_entries, join_entries, first_entries}
 use Rattle.table_theory.proofs.Reaching.{all_on, all_behind, continues_on, continues_behind, continues_one, weaves_one, reaches_here, reaches_on, reaches_one}
 use Rattle.table_theory.proofs.Standing.{stand_split, stand_join, stand_first}

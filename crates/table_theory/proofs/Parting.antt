@@ -1,22 +1,23 @@
 -- What the calls that split, join and close tell, by the steps that they are made of.
-use Rattle.std.proofs.Common.{◌≡◌, ◌≢◌, ℕ, ◌+◌, ◌-◌, ◌<◌, Bool, true, false, List, [], ◌∷◌, sym, refl, ap, ◌∙◌, subst, arith}
+use Rattle.std.proofs.Common.{◌≡◌, ◌≢◌, ℕ, ◌+◌, ◌-◌, ◌<◌, Bool, true, false, List, [], ◌∷◌, ◌++◌, sym, refl, ap, ◌∙◌, subst, arith}
 use Rattle.std.specs.Prelude.{if◌then◌else◌, nat_lt, length}
 use Rattle.table_theory.specs.declared.views.Moment.{Moment}
 use Rattle.table_theory.specs.declared.views.Part.{Part}
 use Rattle.table_theory.specs.declared.views.Ledger.{Ledger}
 use Rattle.table_theory.specs.Sharing.{kept, given}
-use Rattle.table_theory.specs.Ledgers.{Subject, Step, load, count_up, count_down, Adds, Reaches, Looked, Keeps, CountedUp, CountedDown, Divided, IsNewborn, TookIn, Tallied, WereOpen, rest_of, newborn, both}
+use Rattle.table_theory.specs.Ledgers.{Subject, Step, load, count_up, count_down, Adds, Reaches, Made, CountedUp, CountedDown, Divided, IsNewborn, TookIn, Tallied, WereOpen, rest_of, newborn, both}
 use Rattle.table_theory.proofs.Reaching.{adds_none, adds_on}
 
 module _ {K O : Type 0} (T : Subject K O) where
   abbrev V : Type 0
   V = Ledger K O
 
-  pub keeps_none : (v : V) → Keeps v v
-  keeps_none v = record { own = refl; member = refl }
+  -- no step yet, and steps behind others
+  pub made_none : (v : V) → Made T v [] v.own v
+  made_none v = record { adds = adds_none T v; did = refl; member = refl }
 
-  pub keeps_on : (v u w : V) → Keeps v u → Keeps u w → Keeps v w
-  keeps_on v u w a b = record { own = b.own ∙ a.own; member = b.member ∙ a.member }
+  pub made_on : (v u w : V) (xs ys : List (Step O)) (one own : K) → Made T v xs one u → Made T u ys own w → Made T v (xs ++ ys) own w
+  made_on v u w xs ys one own a b = record { adds = adds_on T v u w xs ys a.adds b.adds; did = b.did; member = b.member ∙ a.member }
 
   divided : (v u : V) → CountedUp T v u → Divided T v (rest_of u)
   divided v u c = record {

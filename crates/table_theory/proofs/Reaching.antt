@@ -42,6 +42,11 @@ module _ {O : Type 0} where
     weaves_on own more rest after w k,
   )
 
+  -- what holds of all steps holds of an end's own among them
+  pub all_own : (P : Step O → Type 0) (own all : List (Step O)) → Weaves own all → AllByRecursion P all → AllByRecursion P own
+  all_own P [] all w a = tt
+  all_own P (e ∷ own) all (others, rest, is, w) a = let b = all_behind P others (e ∷ rest) (subst (AllByRecursion P) is a) in (b.0, all_own P own rest w b.1)
+
 module _ {K O : Type 0} (T : Subject K O) where
   pub reaches_here : (m : Moment O) → Reaches T m m
   reaches_here m = record { steps = []; leads = refl; real = tt }
@@ -66,3 +71,7 @@ module _ {K O : Type 0} (T : Subject K O) where
     course_is = b.course_is ∙ (ap (λ (z : List (Step O)). z ++ b.since.steps) a.course_is ∙ append_assoc v.course a.since.steps b.since.steps);
     own = weaves_on xs ys a.since.steps b.since.steps a.own b.own;
   }
+
+  -- each entry of a call is real
+  pub entries_real : (v w : Ledger K O) (es : List (Step O)) → Adds T v es w → AllByRecursion (IsReal T) es
+  entries_real v w es a = all_own (IsReal T) es a.since.steps a.own a.since.real

@@ -135,17 +135,18 @@ emptied subject v = record v {
   steps = [];
 }
 
--- nothing of the end's own changed
-pub record Keeps {K O : Type 0} (v w : Ledger K O) : Type 0 where
-  pub own : w.own ≡ v.own
+-- these entries were added, and then this is what the end did; what it is among the ends stays
+pub record Made {K O : Type 0} (subject : Subject K O) (v : Ledger K O) (entries : List (Step O)) (own : K)
+    (w : Ledger K O) : Type 0 where
+  pub adds : Adds subject v entries w
+  pub did : w.own ≡ own
   pub member : w.member ≡ v.member
 
--- A number was found in a word, and nothing else changed for the end
+-- a number was found in a word, and nothing else changed for the end
 pub record Looked {K O : Type 0} (subject : Subject K O) (v : Ledger K O) (word found : ℕ) (w : Ledger K O) : Type 0
     where
   pub at : Moment O
-  pub adds : Adds subject v (load word found at ∷ []) w
-  pub same : Keeps v w
+  pub made : Made subject v (load word found at ∷ []) v.own w
 
 -- the number of ends was found, and made one more
 pub record CountedUp {K O : Type 0} (subject : Subject K O) (v w : Ledger K O) : Type 0 where
@@ -186,9 +187,8 @@ pub record TookIn {K O : Type 0} (subject : Subject K O) (v u w : Ledger K O) : 
 pub record Tallied {K O : Type 0} (subject : Subject K O) (v : Ledger K O) (number : ℕ) (w : Ledger K O)
     : Type 0 where
   pub found : Moment O
-  pub adds : Adds subject v (load subject.ends_word number found ∷ []) w
+  pub made : Made subject v (load subject.ends_word number found ∷ []) v.own w
   pub is : number ≡ found.ends
-  pub same : Keeps v w
   pub count : IsCount v.member.share number
 
 -- other ends stand: their number was found, with this end's, and this end has not the whole

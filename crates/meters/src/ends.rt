@@ -56,10 +56,10 @@ impl Meters {
     pub fn split(&self, seat: &mut MeterSeat) -> MeterSeat
         requires seat { IsSeatOf self.now seat.old }
         requires parts { IsDivisible seat.old }
-        ensures seat { IsSameSeat seat.old seat.new × AreOfOneTable seat.old result }
-        ensures split { Divided (view_of seat.old) (view_of seat.new) }
-        ensures born { IsNewborn (view_of seat.old) (view_of seat.new) (view_of result) }
         ensures own { DidSplit (view_of seat.old) (view_of seat.new) }
+        ensures born { IsNewborn (view_of seat.old) (view_of seat.new) (view_of result) }
+        ensures steps { Divided (view_of seat.old) (view_of seat.new) }
+        ensures same { IsSameSeat seat.old seat.new × AreOfOneTable seat.old result }
     {
         count_up(&self.table.shared, &mut seat.seat);
         let new = split_off(&self.table.shared, &mut seat.seat);
@@ -69,9 +69,9 @@ impl Meters {
     /// The first end then has all that both had: what they did, and their parts of the meters.
     pub fn join(&self, seat: &mut MeterSeat, other: MeterSeat)
         requires { IsSeatOf self.now seat.old × IsSeatOf self.now other }
-        ensures seat { IsSameSeat seat.old seat.new }
-        ensures joined { TookIn (view_of seat.old) (view_of other) (view_of seat.new) }
         ensures own { DidBoth (view_of seat.old) (view_of other) (view_of seat.new) }
+        ensures steps { TookIn (view_of seat.old) (view_of other) (view_of seat.new) }
+        ensures same { IsSameSeat seat.old seat.new }
     {
         let MeterSeat { seat: spent } = other;
         take_in::<Brand>(&self.table.shared, &mut seat.seat, spent);

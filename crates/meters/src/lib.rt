@@ -51,6 +51,6 @@ pub use close::Metered;
 pub use ends::{MeterSeat, Meters};
 pub use event_theory::Alarm;
 pub use gauges::AdvanceRefusal;
-pub use rule::{MeterRule, Reading, Shape, Tick, View};
+pub use rule::{Did, MeterRule, Reading, Shape, Tick, View};
 pub use table_theory::OpenEnds;
 pub use word::AlarmWord;

@@ -6,12 +6,16 @@ use Rattle.table_theory.specs.declared.views.Entry.{Entry}
 use Rattle.table_theory.specs.declared.views.Moment.{Moment}
 use Rattle.table_theory.specs.declared.views.Ledger.{Ledger}
 use Rattle.table_theory.specs.Courses.{Continues}
-use Rattle.table_theory.specs.Ledgers.{Subject, Step, IsReal, Reaches, Weaves, Adds}
+use Rattle.table_theory.specs.Ledgers.{Subject, Step, IsReal, IsTrue, Reaches, Weaves, Adds, opened}
 
 module _ {E : Type 0} (P : E → Type 0) where
   pub all_on : (xs ys : List E) → AllByRecursion P xs → AllByRecursion P ys → AllByRecursion P (xs ++ ys)
   all_on [] ys a b = b
   all_on (x ∷ xs) ys a b = (a.0, all_on xs ys a.1 b)
+
+  pub all_before : (xs ys : List E) → AllByRecursion P (xs ++ ys) → AllByRecursion P xs
+  all_before [] ys a = tt
+  all_before (x ∷ xs) ys a = (a.0, all_before xs ys a.1)
 
   pub all_behind : (xs ys : List E) → AllByRecursion P (xs ++ ys) → AllByRecursion P ys
   all_behind [] ys a = a
@@ -47,31 +51,39 @@ module _ {O : Type 0} where
   all_own P [] all w a = tt
   all_own P (e ∷ own) all (others, rest, is, w) a = let b = all_behind P others (e ∷ rest) (subst (AllByRecursion P) is a) in (b.0, all_own P own rest w b.1)
 
-module _ {K O : Type 0} (T : Subject K O) where
+module _ {O : Type 0} (T : Subject O) where
   pub reaches_here : (m : Moment O) → Reaches T m m
   reaches_here m = record { steps = []; leads = refl; real = tt }
 
   pub reaches_on : (m n o : Moment O) → Reaches T m n → Reaches T n o → Reaches T m o
   reaches_on m n o a b = record { steps = a.steps ++ b.steps; leads = continues_on m n o a.steps b.steps a.leads b.leads; real = all_on (IsReal T) a.steps b.steps a.real b.real }
 
-  pub reaches_one : (m : Moment O) (e : Step O) → e.then ≡ m → IsReal T e → Reaches T m e.next
-  reaches_one m e t r = record { steps = e ∷ []; leads = continues_one m e t; real = (r, tt) }
-
+module _ {K O : Type 0} where
   -- no step yet
-  pub adds_none : (v : Ledger K O) → Adds T v [] v
-  unfolding reaches_here
-  adds_none v = record { entries_are = sym (append-nil v.steps); since = reaches_here v.seen; course_is = sym (append-nil v.course); own = refl }
+  pub adds_none : (v : Ledger K O) → Adds v [] v
+  adds_none v = record { first = refl; entries_are = sym (append-nil v.steps); since = []; course_is = sym (append-nil v.course); own = refl }
 
   -- some steps, and then others
-  pub adds_on : (v u w : Ledger K O) (xs ys : List (Step O)) → Adds T v xs u → Adds T u ys w → Adds T v (xs ++ ys) w
-  unfolding reaches_on
+  pub adds_on : (v u w : Ledger K O) (xs ys : List (Step O)) → Adds v xs u → Adds u ys w → Adds v (xs ++ ys) w
   adds_on v u w xs ys a b = record {
+    first = b.first ∙ a.first;
     entries_are = b.entries_are ∙ (ap (λ (z : List (Step O)). z ++ ys) a.entries_are ∙ append_assoc v.steps xs ys);
-    since = reaches_on v.seen u.seen w.seen a.since b.since;
-    course_is = b.course_is ∙ (ap (λ (z : List (Step O)). z ++ b.since.steps) a.course_is ∙ append_assoc v.course a.since.steps b.since.steps);
-    own = weaves_on xs ys a.since.steps b.since.steps a.own b.own;
+    since = a.since ++ b.since;
+    course_is = b.course_is ∙ (ap (λ (z : List (Step O)). z ++ b.since) a.course_is ∙ append_assoc v.course a.since b.since);
+    own = weaves_on xs ys a.since b.since a.own b.own;
   }
 
+module _ {K O : Type 0} (T : Subject O) where
+  -- the steps since then are real, and lead from what was seen to what is seen
+  pub seen_since : (v w : Ledger K O) (es : List (Step O)) → IsTrue T v → IsTrue T w → (a : Adds v es w) → Continues v.seen a.since w.seen × AllByRecursion (IsReal T) a.since
+  seen_since v w es x y a = (
+    continues_behind (opened v.first) v.seen w.seen v.course a.since x.leads (subst (λ (z : List (Step O)). Continues (opened v.first) z w.seen) a.course_is (subst (λ (z : O). Continues (opened z) w.course w.seen) a.first y.leads)),
+    all_behind (IsReal T) v.course a.since (subst (AllByRecursion (IsReal T)) a.course_is y.real),
+  )
+
+  pub reaches_since : (v w : Ledger K O) (es : List (Step O)) → IsTrue T v → IsTrue T w → Adds v es w → Reaches T v.seen w.seen
+  reaches_since v w es x y a = let s = seen_since v w es x y a in record { steps = a.since; leads = s.0; real = s.1 }
+
   -- each entry of a call is real
-  pub entries_real : (v w : Ledger K O) (es : List (Step O)) → Adds T v es w → AllByRecursion (IsReal T) es
-  entries_real v w es a = all_own (IsReal T) es a.since.steps a.own a.since.real
+  pub entries_real : (v w : Ledger K O) (es : List (Step O)) → IsTrue T w → Adds v es w → AllByRecursion (IsReal T) es
+  entries_real v w es y a = all_own (IsReal T) es a.since a.own (all_behind (IsReal T) v.course a.since (subst (AllByRecursion (IsReal T)) a.course_is y.real))

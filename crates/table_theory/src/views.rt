@@ -44,14 +44,15 @@ pub struct Part {
     pub joins: u64,
 }
 
-/// What an end knows: what it did, the object as its last step left it, and as an end that it joined had seen it, what
-/// it is among the ends, every step that it made, and every step that any end had made up to its own last one. Proofs
-/// alone speak of it.
+/// What an end knows: the object as it was made, what the end did, the object as its last step left it, what the end is
+/// among the ends, every step that it made, and every step that any end had made up to its own last one. Between taking
+/// in another end and its next step it has those that the one of both had seen that saw less. Proofs alone speak of it.
 pub struct Ledger<K, O> {
+    pub first: O,
     pub own: K,
     pub seen: Moment<O>,
-    pub joined: Moment<O>,
     pub member: Part,
     pub steps: LinkedList<Entry<Moment<O>>>,
     pub course: LinkedList<Entry<Moment<O>>>,
+    pub joined: LinkedList<Entry<Moment<O>>>,
 }

@@ -11,25 +11,25 @@ use Rattle.meters.specs.declared.gauges.AdvanceRefusal.{AdvanceRefusal}
 use Rattle.meters.specs.declared.gauges.AdvanceRefusal.TheVariants as not_advanced
 use Rattle.meters.specs.declared.rule.Reading.{Reading}
 use Rattle.meters.specs.Changes.{with_tick, with_advance, with_alarm, with_fired, with_cancelled}
-use Rattle.meters.specs.Own.{SeatView, of_meters}
+use Rattle.meters.specs.Own.{SeatView}
 use Rattle.meters.specs.Words.{gauge_word, clock_word, slot_word, word_of}
 
 -- the gauge was found at this number, and ticked
 abbrev pub Ticked : SeatView → ℕ → ℕ → ℕ → SeatView → Type 0
 Ticked v gauge amount found w =
-    (m : Moment Reading) × Adds of_meters v (change (gauge_word gauge) found m (with_tick m.object gauge amount) ∷ []) w
+    (m : Moment Reading) × Adds v (change (gauge_word gauge) found m (with_tick m.object gauge amount) ∷ []) w
 
 -- the clock was loaded, and moved on from the tick that was found, to the next
 abbrev pub AdvancedNow : SeatView → ℕ → SeatView → Type 0
 AdvancedNow v clock w = (was : ℕ) × (m n : Moment Reading) × (clock ≡ was + 1)
-    × Adds of_meters v (load clock_word was m ∷ change clock_word was n (with_advance n.object) ∷ []) w
+    × Adds v (load clock_word was m ∷ change clock_word was n (with_advance n.object) ∷ []) w
 
 -- Why the clock was not moved on. Spent: it was loaded, and is the last tick. Lost: it was loaded, but the exchange found
 -- another, past the one loaded
 abbrev pub NotAdvanced : SeatView → AdvanceRefusal → SeatView → Type 0
-NotAdvanced v not_advanced.Spent w = (m : Moment Reading) × Adds of_meters v (load clock_word 4294967295 m ∷ []) w
+NotAdvanced v not_advanced.Spent w = (m : Moment Reading) × Adds v (load clock_word 4294967295 m ∷ []) w
 NotAdvanced v (not_advanced.Lost clock) w = (was : ℕ) × (m n : Moment Reading) × (was < clock)
-    × Adds of_meters v (load clock_word was m ∷ load clock_word clock n ∷ []) w
+    × Adds v (load clock_word was m ∷ load clock_word clock n ∷ []) w
 
 -- an alarm that was found in a slot, and when
 abbrev pub Found : Type 0
@@ -43,24 +43,24 @@ scan slot (found ∷ more) = load (slot_word slot) (word_of (Some found.0)) foun
 -- the slots before this one were found taken, this one empty, and then the alarm was set in it
 abbrev pub SetNow : SeatView → ℕ → Alarm → SeatView → Type 0
 SetNow v slot alarm w = (taken : List Found) × (m n : Moment Reading) × (length taken ≡ slot) × (slot < 16)
-    × Adds of_meters v (scan 0 taken
+    × Adds v (scan 0 taken
     ++ load (slot_word slot) 0 m ∷ change (slot_word slot) 0 n (with_alarm n.object slot alarm) ∷ []) w
 
 -- Why an alarm was not set. NoRoom: all 16 slots were found taken. Lost: those before this one were found taken, this
 -- one empty, but the exchange found an alarm in it
 abbrev pub NotSet : SeatView → SetRefusal → SeatView → Type 0
-NotSet v not_set.NoRoom w = (taken : List Found) × (length taken ≡ 16) × Adds of_meters v (scan 0 taken) w
+NotSet v not_set.NoRoom w = (taken : List Found) × (length taken ≡ 16) × Adds v (scan 0 taken) w
 NotSet v (not_set.Lost slot) w = (taken : List Found) × (m n : Moment Reading) × (other : Alarm)
     × (length taken ≡ slot) × (slot < 16)
-    × Adds of_meters v (scan 0 taken
+    × Adds v (scan 0 taken
     ++ load (slot_word slot) 0 m ∷ load (slot_word slot) (word_of (Some other)) n ∷ []) w
 
 -- the alarm was found in the slot and cancelled, or something else was found there, or nothing
 abbrev pub CancelledNow : SeatView → ℕ → Alarm → Bool → SeatView → Type 0
 CancelledNow v slot alarm true w = (m : Moment Reading)
-    × Adds of_meters v (change (slot_word slot) (word_of (Some alarm)) m (with_cancelled m.object slot alarm) ∷ []) w
+    × Adds v (change (slot_word slot) (word_of (Some alarm)) m (with_cancelled m.object slot alarm) ∷ []) w
 CancelledNow v slot alarm false w = (stood : Option Alarm) × (m : Moment Reading) × (stood ≢ Some alarm)
-    × Adds of_meters v (load (slot_word slot) (word_of stood) m ∷ []) w
+    × Adds v (load (slot_word slot) (word_of stood) m ∷ []) w
 
 -- What `due` finds in a slot: what stands there is not due, or an alarm is due and is fired, or it is due but then
 -- something else stands there
@@ -98,4 +98,4 @@ gave (went alarm m stood n) = None
 abbrev pub FiredNow : SeatView → List Alarm → SeatView → Type 0
 FiredNow v alarms w = (clock : ℕ) × (m : Moment Reading) × (visits : List Visit) × (length visits ≡ 16)
     × AllByRecursion (Goes clock) visits × (alarms ≡ filter_map gave visits)
-    × Adds of_meters v (load clock_word clock m ∷ tour 0 visits) w
+    × Adds v (load clock_word clock m ∷ tour 0 visits) w

@@ -10,7 +10,7 @@ use Rattle.table_theory.specs.Sharing.{total}
 use Rattle.meters.specs.declared.rule.Reading.{Reading}
 use Rattle.meters.specs.declared.rule.Shape.{Shape}
 use Rattle.meters.specs.Changes.{meters_of, first_reading}
-use Rattle.meters.specs.Own.{SeatView, of_meters}
+use Rattle.meters.specs.Own.{SeatView, of_meters, nothing_did}
 use Rattle.meters.specs.Views.{AdvancesShow, amount_on, times}
 use Rattle.meters.specs.Words.{word_of, Fits}
 
@@ -45,4 +45,4 @@ pub record ShowsMeters (key : Shape) (s : State Unit SeatView) : Type 0 where
   -- the word has the number of the ends that stand
   pub number : slice_index_or s.words 0 0 ≡ now.ends
   -- the ends' steps lead to it from the first meters, and each end has seen all of them up to its own last one
-  pub true_ends : AreTrue of_meters (first_reading key.clock) now s.views
+  pub true_ends : AreTrue of_meters nothing_did (first_reading key.clock) now s.views

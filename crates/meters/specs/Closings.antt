@@ -8,7 +8,7 @@ use Rattle.meters.specs.declared.rule.Reading.{Reading}
 use Rattle.meters.specs.Changes.{IsLawful}
 use Rattle.meters.specs.Own.{SeatView, of_meters}
 use Rattle.meters.specs.Views.{ViewsShow, amount_on, times, times_to}
-use Rattle.meters.specs.Words.{standing}
+use Rattle.meters.specs.Words.{ends_word, standing}
 
 -- By the lists of the one end: the ticks make the gauges, the advances the clock, to each tick from the first clock on
 -- once, and each alarm set was fired, cancelled or is left
@@ -37,4 +37,4 @@ pub record ClosedNow (first : ℕ) (v : SeatView) (gauges : List ℕ) (clock : �
 
 -- other ends stand: their number was found, with this end's, and this end has not the whole
 abbrev pub WereOpen : SeatView → ℕ → SeatView → Type 0
-WereOpen v others w = ends.WereOpen of_meters v others w
+WereOpen v others w = ends.WereOpen ends_word v others w

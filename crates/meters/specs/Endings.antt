@@ -1,17 +1,17 @@
 -- What making and joining ends does to what they know.
-use Rattle.std.specs.Prelude.{◌≡◌}
 use Rattle.table_theory.specs.Ledgers as ends
-use Rattle.meters.specs.Own.{SeatView, of_meters}
+use Rattle.meters.specs.Own.{SeatView, nothing_did, did_both}
 use Rattle.meters.specs.Views.{IsPart}
+use Rattle.meters.specs.Words.{ends_word}
 
 -- the end was counted once more, and gave a part of its share away
 abbrev pub Divided : SeatView → SeatView → Type 0
-Divided v w = ends.Divided of_meters v w
+Divided v w = ends.Divided ends_word v w
 
 -- the new end has nothing but the part of the share, and has seen what the other end had seen
 abbrev pub IsNewborn : SeatView → SeatView → SeatView → Type 0
-IsNewborn old new born = ends.IsNewborn of_meters old new born
+IsNewborn old new born = ends.IsNewborn nothing_did old new born
 
 -- the end has what both had, and was counted once less; no alarm that was taken out is had by both
 abbrev pub TookIn : SeatView → SeatView → SeatView → Type 0
-TookIn v u w = ends.TookIn of_meters v u w × IsPart w
+TookIn v u w = ends.TookIn did_both ends_word v u w × IsPart w

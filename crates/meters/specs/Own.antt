@@ -28,16 +28,9 @@ did_both d e = record {
   cancelled = d.cancelled ++ e.cancelled;
 }
 
--- what the table of the meters names as its own
-abbrev pub of_meters : Subject Did Reading
-of_meters = record {
-  nothing = nothing_did;
-  plus = did_both;
-  ends_word = ends_word;
-  Shows = WordsShow;
-  IsLawful = IsLawful;
-  Happens = Becomes;
-}
+-- what the table of the meters says of them
+abbrev pub of_meters : Subject Reading
+of_meters = record { ends_word = ends_word; Shows = WordsShow; IsLawful = IsLawful; Happens = Becomes }
 
 -- its ticks, the ticks that it moved the clock on to, the alarms that it set, fired and cancelled, how often it was
 -- split and took in another end, and its share

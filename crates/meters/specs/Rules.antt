@@ -6,7 +6,7 @@ use Rattle.atomic_table.specs.Table.{State}
 use Rattle.meters.specs.declared.rule.Reading.{Reading}
 use Rattle.meters.specs.declared.rule.Shape.{Shape}
 use Rattle.meters.specs.Changes.{IsLawful, first_reading}
-use Rattle.meters.specs.Own.{SeatView, of_meters}
+use Rattle.meters.specs.Own.{SeatView, of_meters, nothing_did}
 use Rattle.meters.specs.Views.{ViewsShow}
 use Rattle.meters.specs.Words.{ends_word, WordsShow}
 
@@ -16,8 +16,8 @@ pub record Rule (key : Shape) (s : State Unit SeatView) : Type 0 where
   pub shows : WordsShow now.object s.words
   pub number : slice_index_or s.words ends_word 0 ≡ now.ends
   pub listed : ViewsShow key.clock now.object s.views
-  pub true_ends : AreTrue of_meters (first_reading key.clock) now s.views
+  pub true_ends : AreTrue of_meters nothing_did (first_reading key.clock) now s.views
 
 -- what the first end of the meters knows
 abbrev pub newcomer : Shape → SeatView
-newcomer key = first_of of_meters (first_reading key.clock)
+newcomer key = first_of nothing_did (first_reading key.clock)

@@ -4,33 +4,34 @@ use Rattle.event_theory.specs.declared.alarm.Alarm.{Alarm}
 use Rattle.atomic_table.specs.Table.{Me, Step}
 use Rattle.table_theory.specs.declared.views.Moment.{Moment}
 use Rattle.table_theory.specs.Ledgers.{load, change, Looked, Made, CountedDown}
+use Rattle.table_theory.specs.Plays.{Stays}
 use Rattle.meters.specs.declared.rule.Reading.{Reading}
 use Rattle.meters.specs.Changes.{with_tick, with_advance, with_alarm, with_fired, with_cancelled}
 use Rattle.meters.specs.Own.{SeatView, of_meters}
 use Rattle.meters.specs.Views.{IsPart}
-use Rattle.meters.specs.Words.{gauge_word, clock_word, slot_word, IsInRange, word_of}
+use Rattle.meters.specs.Words.{ends_word, gauge_word, clock_word, slot_word, IsInRange, word_of}
 use Rattle.meters.specs.Answers.{Visit, entries_of, Goes, gave}
 
 -- the gauge was found at this number, and ticked
 abbrev pub WasTicked : SeatView → ℕ → ℕ → ℕ → SeatView → Type 0
 WasTicked v gauge amount found w = (m : Moment Reading)
-    × Made of_meters v (change (gauge_word gauge) found m (with_tick m.object gauge amount) ∷ [])
+    × Made v (change (gauge_word gauge) found m (with_tick m.object gauge amount) ∷ [])
     (record v.own { ticks = v.own.ticks ++ record { gauge = gauge; amount = amount } ∷ [] }) w
 
 abbrev pub ticks : Step Unit → Me Unit SeatView → ℕ → Me Unit SeatView → Type 0
-ticks st m r m' = (m'.1 ≡ m.1)
+ticks st m r m' = Stays of_meters m m'
     × ((gauge : ℕ) → st.word ≡ gauge_word gauge → WasTicked m.0 gauge st.first r m'.0)
 
 -- the clock was found at this tick, and moved on
 abbrev pub WasAdvanced : SeatView → ℕ → SeatView → Type 0
 WasAdvanced v clock w = (m : Moment Reading)
-    × Made of_meters v (change clock_word clock m (with_advance m.object) ∷ [])
+    × Made v (change clock_word clock m (with_advance m.object) ∷ [])
     (record v.own { advances = v.own.advances ++ (clock + 1) ∷ [] }) w
 
 abbrev pub advances : Step Unit → Me Unit SeatView → ℕ → Me Unit SeatView → Type 0
-advances st m r m' = (m'.1 ≡ m.1)
+advances st m r m' = Stays of_meters m m'
     × (r ≡ st.first → WasAdvanced m.0 st.first m'.0)
-    × (r ≢ st.first → Looked of_meters m.0 st.word r m'.0)
+    × (r ≢ st.first → Looked m.0 st.word r m'.0)
 
 -- it is the word of this slot, and these bits are this alarm's
 pub record IsWordOf (slot : ℕ) (alarm : Alarm) (word bits : ℕ) : Type 0 where
@@ -41,43 +42,43 @@ pub record IsWordOf (slot : ℕ) (alarm : Alarm) (word bits : ℕ) : Type 0 wher
 -- the slot was found empty, and the alarm set in it
 abbrev pub WasSet : SeatView → ℕ → Alarm → SeatView → Type 0
 WasSet v slot alarm w = (m : Moment Reading)
-    × Made of_meters v (change (slot_word slot) 0 m (with_alarm m.object slot alarm) ∷ [])
+    × Made v (change (slot_word slot) 0 m (with_alarm m.object slot alarm) ∷ [])
     (record v.own { set = v.own.set ++ alarm ∷ [] }) w
 
 abbrev pub sets : Step Unit → Me Unit SeatView → ℕ → Me Unit SeatView → Type 0
-sets st m r m' = (m'.1 ≡ m.1)
+sets st m r m' = Stays of_meters m m'
     × (r ≡ 0 → (slot : ℕ) (alarm : Alarm) → IsWordOf slot alarm st.word st.second → WasSet m.0 slot alarm m'.0)
-    × (r ≢ 0 → Looked of_meters m.0 st.word r m'.0)
+    × (r ≢ 0 → Looked m.0 st.word r m'.0)
 
 -- the alarm was found in this slot, and taken out as fired
 abbrev pub WasFired : SeatView → ℕ → Alarm → SeatView → Type 0
 WasFired v slot alarm w = (m : Moment Reading)
-    × Made of_meters v (change (slot_word slot) (word_of (Some alarm)) m (with_fired m.object slot alarm) ∷ [])
+    × Made v (change (slot_word slot) (word_of (Some alarm)) m (with_fired m.object slot alarm) ∷ [])
     (record v.own { fired = v.own.fired ++ alarm ∷ [] }) w
 
 abbrev pub fires : Step Unit → Me Unit SeatView → ℕ → Me Unit SeatView → Type 0
-fires st m r m' = (m'.1 ≡ m.1)
+fires st m r m' = Stays of_meters m m'
     × (r ≡ st.first → (slot : ℕ) (alarm : Alarm) → IsWordOf slot alarm st.word st.first → WasFired m.0 slot alarm m'.0)
-    × (r ≢ st.first → Looked of_meters m.0 st.word r m'.0)
+    × (r ≢ st.first → Looked m.0 st.word r m'.0)
 
 -- the same, as cancelled
 abbrev pub WasCancelled : SeatView → ℕ → Alarm → SeatView → Type 0
 WasCancelled v slot alarm w = (m : Moment Reading)
-    × Made of_meters v (change (slot_word slot) (word_of (Some alarm)) m (with_cancelled m.object slot alarm) ∷ [])
+    × Made v (change (slot_word slot) (word_of (Some alarm)) m (with_cancelled m.object slot alarm) ∷ [])
     (record v.own { cancelled = v.own.cancelled ++ alarm ∷ [] }) w
 
 abbrev pub cancels : Step Unit → Me Unit SeatView → ℕ → Me Unit SeatView → Type 0
-cancels st m r m' = (m'.1 ≡ m.1)
+cancels st m r m' = Stays of_meters m m'
     × (r ≡ st.first → (slot : ℕ) (alarm : Alarm) → IsWordOf slot alarm st.word st.first
     → WasCancelled m.0 slot alarm m'.0)
-    × (r ≢ st.first → Looked of_meters m.0 st.word r m'.0)
+    × (r ≢ st.first → Looked m.0 st.word r m'.0)
 
 abbrev pub counts_down : Step Unit → Me Unit SeatView → ℕ → Me Unit SeatView → Type 0
-counts_down st m r m' = (m'.1 ≡ m.1) × CountedDown of_meters m.0 m'.0 × IsPart m'.0
+counts_down st m r m' = Stays of_meters m m' × CountedDown ends_word m.0 m'.0 × IsPart m'.0
 
 -- a slot's word was found, and this stood in the slot
 abbrev pub FoundIn : SeatView → ℕ → Option Alarm → SeatView → Type 0
-FoundIn v slot stood w = Looked of_meters v (slot_word slot) (word_of stood) w
+FoundIn v slot stood w = Looked v (slot_word slot) (word_of stood) w
 
 -- the same, and something else than this
 abbrev pub FoundOther : SeatView → ℕ → Option Alarm → SeatView → Type 0
@@ -89,4 +90,4 @@ pub record Gave (v : SeatView) (clock slot : ℕ) (alarm : Option Alarm) (w : Se
   pub alarm_is : alarm ≡ gave visit
   pub goes : Goes clock visit
   pub fired : List Alarm
-  pub made : Made of_meters v (entries_of slot visit) (record v.own { fired = v.own.fired ++ fired }) w
+  pub made : Made v (entries_of slot visit) (record v.own { fired = v.own.fired ++ fired }) w

@@ -2,7 +2,8 @@
 ghost use Rattle.std.specs.Prelude.{◌≡◌, [], IfOk};
 ghost use Rattle.meters.specs.Rules.{newcomer};
 ghost use Rattle.meters.specs.Endings.{Divided, IsNewborn, TookIn};
-ghost use Rattle.meters.specs.Own.{DidSplit, DidBoth};
+ghost use Rattle.meters.specs.Own.{DidSplit, DidBoth, of_meters};
+ghost use Rattle.table_theory.specs.Ledgers.{IsTrue};
 
 use crate::rule::{MeterRule, Shape, View};
 use crate::steps::{CLOCK, ENDS, count_down, count_up, split_off, take_in};
@@ -23,12 +24,16 @@ pub struct Meters {
 
 /// An end of the meters. It has no bytes.
 ///
+/// What it lists is true: each entry of its steps, and of the steps of all ends that it has seen, found the number that
+/// stood in its word then, and found the meters as the step before it left them, lawful and shown by the words.
+///
 /// An end that is dropped can never be joined, so the meters can then never be closed; what it did stays done.
 #[derive(Drop)]
 pub struct MeterSeat {
     pub(crate) seat: Seat<(), View>,
     ghost bare: { seat.me.1 ≡ [] },
     ghost one: { seat.me.0.member.ends ≡ 1 },
+    ghost told: { IsTrue of_meters seat.me.0 },
 }
 
 impl Meters {

@@ -1,7 +1,7 @@
 //! What each step tells. These types are for the proofs alone.
 ghost use Rattle.table_theory.specs.Ledgers.{rest_of, newborn, both};
 ghost use Rattle.table_theory.specs.Plays.{finds, counts_up, counts};
-ghost use Rattle.meters.specs.Own.{SeatView, of_meters};
+ghost use Rattle.meters.specs.Own.{SeatView, of_meters, nothing_did, did_both};
 ghost use Rattle.meters.specs.Rules.{newcomer};
 ghost use Rattle.meters.specs.Steps.{ticks, advances, sets, fires, cancels, counts_down};
 
@@ -68,7 +68,7 @@ pub struct Gives;
 impl Split<View> for Gives {
     ghost left = { rest_of };
 
-    ghost right = { newborn of_meters };
+    ghost right = { newborn nothing_did };
 }
 
 /// The view of an end that was taken in.
@@ -85,7 +85,7 @@ pub struct Joins<J> {
 }
 
 impl<J: Spent> Join<View> for Joins<J> {
-    ghost both = { both of_meters };
+    ghost both = { both did_both };
 
     ghost spent = { J.view };
 }

@@ -1,11 +1,11 @@
 //! The atomic steps, one function for each kind.
 ghost use Rattle.std.specs.Prelude.{◌≡◌, ◌≢◌, ◌+◌, ◌<◌, ◌≤◌, [], IsTrue, IsFalse, Some, None};
 ghost use Rattle.table_theory.specs.Seating.{IsSame};
-ghost use Rattle.table_theory.specs.Ledgers.{Looked, CountedUp, CountedDown, Tallied, rest_of, newborn, both, emptied};
-ghost use Rattle.meters.specs.Own.{of_meters};
+ghost use Rattle.table_theory.specs.Ledgers.{IsTrue, Looked, CountedUp, CountedDown, Tallied, rest_of, newborn, both, emptied};
+ghost use Rattle.meters.specs.Own.{of_meters, nothing_did, did_both};
 ghost use Rattle.meters.specs.Steps.{WasTicked, WasAdvanced, WasSet, WasFired, WasCancelled, FoundIn, FoundOther};
 ghost use Rattle.meters.specs.Views.{IsPart};
-ghost use Rattle.meters.specs.Words.{clock_word};
+ghost use Rattle.meters.specs.Words.{ends_word, clock_word};
 
 use crate::plays::{
     Advances, Cancels, Counts, CountsDown, CountsUp, Finds, Fires, Gives, Joins, Sets, Spent, Ticks,
@@ -32,8 +32,9 @@ pub(crate) const SLOTS: usize = 16;
 pub(crate) fn load(words: &Words, seat: &mut Seat<(), View>, word: usize) -> u64
     requires seat { (seat.old.table_id ≡ words.now.table_id) × (word < words.now.table_id.words) }
     requires live { 1 ≤ seat.old.me.0.member.ends }
-    ensures { IsSame seat.old seat.new × (seat.new.me.1 ≡ seat.old.me.1)
-        × Looked of_meters seat.old.me.0 word result seat.new.me.0 }
+    ensures seat { IsSame seat.old seat.new × (seat.new.me.1 ≡ seat.old.me.1) }
+    ensures told { IsTrue of_meters seat.new.me.0 }
+    ensures found { Looked seat.old.me.0 word result seat.new.me.0 }
 {
     words.load::<Finds>(seat, word)
 }
@@ -42,7 +43,8 @@ pub(crate) fn load_clock(words: &Words, seat: &mut Seat<(), View>) -> u64
     requires seat { (seat.old.table_id ≡ words.now.table_id) × (26 ≤ words.now.table_id.words) }
     requires live { 1 ≤ seat.old.me.0.member.ends }
     ensures seat { IsSame seat.old seat.new × (seat.new.me.1 ≡ seat.old.me.1) }
-    ensures found { Looked of_meters seat.old.me.0 clock_word result seat.new.me.0 }
+    ensures told { IsTrue of_meters seat.new.me.0 }
+    ensures found { Looked seat.old.me.0 clock_word result seat.new.me.0 }
     ensures clock { result ≡ seat.new.me.0.seen.object.clock }
     ensures bounded { result < 4294967296 }
 {
@@ -53,6 +55,7 @@ pub(crate) fn load_alarm(words: &Words, seat: &mut Seat<(), View>, slot: usize) 
     requires seat { (seat.old.table_id ≡ words.now.table_id) × (26 ≤ words.now.table_id.words) × (slot < 16) }
     requires live { 1 ≤ seat.old.me.0.member.ends }
     ensures seat { IsSame seat.old seat.new × (seat.new.me.1 ≡ seat.old.me.1) }
+    ensures told { IsTrue of_meters seat.new.me.0 }
     ensures found { FoundIn seat.old.me.0 slot result seat.new.me.0 }
 {
     AlarmWord::from_bits(load(words, seat, ALARMS + slot)).alarm()
@@ -67,6 +70,7 @@ pub(crate) fn add_to_gauge(
     requires seat { (seat.old.table_id ≡ words.now.table_id) × (26 ≤ words.now.table_id.words) × (gauge < 8) }
     requires live { 1 ≤ seat.old.me.0.member.ends }
     ensures seat { IsSame seat.old seat.new × (seat.new.me.1 ≡ seat.old.me.1) }
+    ensures told { IsTrue of_meters seat.new.me.0 }
     ensures ticked { WasTicked seat.old.me.0 gauge amount result seat.new.me.0 }
 {
     words.fetch_add::<Ticks>(seat, GAUGES + gauge, amount)
@@ -77,8 +81,9 @@ pub(crate) fn exchange_clock(words: &Words, seat: &mut Seat<(), View>, clock: u6
     requires live { 1 ≤ seat.old.me.0.member.ends }
     requires below { clock < 4294967295 }
     ensures seat { IsSame seat.old seat.new × (seat.new.me.1 ≡ seat.old.me.1) }
+    ensures told { IsTrue of_meters seat.new.me.0 }
     ensures hit { result ≡ clock → WasAdvanced seat.old.me.0 clock seat.new.me.0 }
-    ensures miss { result ≢ clock → Looked of_meters seat.old.me.0 clock_word result seat.new.me.0
+    ensures miss { result ≢ clock → Looked seat.old.me.0 clock_word result seat.new.me.0
         × (result ≡ seat.new.me.0.seen.object.clock) }
     ensures bounded { result < 4294967296 }
 {
@@ -95,6 +100,7 @@ pub(crate) fn exchange_in(
     requires seat { (seat.old.table_id ≡ words.now.table_id) × (26 ≤ words.now.table_id.words) × (slot < 16) }
     requires live { 1 ≤ seat.old.me.0.member.ends }
     ensures seat { IsSame seat.old seat.new × (seat.new.me.1 ≡ seat.old.me.1) }
+    ensures told { IsTrue of_meters seat.new.me.0 }
     ensures hit { IsTrue result → WasSet seat.old.me.0 slot alarm seat.new.me.0 }
     ensures miss { IsFalse result → FoundOther seat.old.me.0 slot None seat.new.me.0 }
 {
@@ -113,6 +119,7 @@ pub(crate) fn exchange_fired(
     requires live { 1 ≤ seat.old.me.0.member.ends }
     requires due { alarm.due ≤ seat.old.me.0.seen.object.clock }
     ensures seat { IsSame seat.old seat.new × (seat.new.me.1 ≡ seat.old.me.1) }
+    ensures told { IsTrue of_meters seat.new.me.0 }
     ensures hit { IsTrue result → WasFired seat.old.me.0 slot alarm seat.new.me.0 }
     ensures miss { IsFalse result → FoundOther seat.old.me.0 slot (Some alarm) seat.new.me.0 }
 {
@@ -130,6 +137,7 @@ pub(crate) fn exchange_cancelled(
     requires seat { (seat.old.table_id ≡ words.now.table_id) × (26 ≤ words.now.table_id.words) × (slot < 16) }
     requires live { 1 ≤ seat.old.me.0.member.ends }
     ensures seat { IsSame seat.old seat.new × (seat.new.me.1 ≡ seat.old.me.1) }
+    ensures told { IsTrue of_meters seat.new.me.0 }
     ensures hit { IsTrue result → WasCancelled seat.old.me.0 slot alarm seat.new.me.0 }
     ensures miss { IsFalse result → FoundOther seat.old.me.0 slot (Some alarm) seat.new.me.0 }
 {
@@ -141,7 +149,8 @@ pub(crate) fn count_up(words: &Words, seat: &mut Seat<(), View>) -> u64
     requires seat { (seat.old.table_id ≡ words.now.table_id) × (26 ≤ words.now.table_id.words) }
     requires parts { seat.old.me.0.member.ends + 1 ≤ seat.old.me.0.member.share }
     ensures seat { IsSame seat.old seat.new × (seat.new.me.1 ≡ seat.old.me.1) }
-    ensures counted { CountedUp of_meters seat.old.me.0 seat.new.me.0 }
+    ensures told { IsTrue of_meters seat.new.me.0 }
+    ensures counted { CountedUp ends_word seat.old.me.0 seat.new.me.0 }
 {
     words.fetch_add::<CountsUp>(seat, ENDS, 1)
 }
@@ -150,7 +159,8 @@ pub(crate) fn count_down(words: &Words, seat: &mut Seat<(), View>) -> u64
     requires seat { (seat.old.table_id ≡ words.now.table_id) × (26 ≤ words.now.table_id.words) }
     requires live { 2 ≤ seat.old.me.0.member.ends }
     ensures seat { IsSame seat.old seat.new × (seat.new.me.1 ≡ seat.old.me.1) }
-    ensures counted { CountedDown of_meters seat.old.me.0 seat.new.me.0 × IsPart seat.new.me.0 }
+    ensures told { IsTrue of_meters seat.new.me.0 }
+    ensures counted { CountedDown ends_word seat.old.me.0 seat.new.me.0 × IsPart seat.new.me.0 }
 {
     words.fetch_sub::<CountsDown>(seat, ENDS, 1)
 }
@@ -159,7 +169,8 @@ pub(crate) fn count(words: &Words, seat: &mut Seat<(), View>) -> u64
     requires seat { (seat.old.table_id ≡ words.now.table_id) × (26 ≤ words.now.table_id.words) }
     requires one { seat.old.me.0.member.ends ≡ 1 }
     ensures seat { IsSame seat.old seat.new × (seat.new.me.1 ≡ seat.old.me.1) }
-    ensures tallied { Tallied of_meters seat.old.me.0 result seat.new.me.0 }
+    ensures told { IsTrue of_meters seat.new.me.0 }
+    ensures tallied { Tallied ends_word seat.old.me.0 result seat.new.me.0 }
 {
     words.load::<Counts>(seat, ENDS)
 }
@@ -168,7 +179,7 @@ pub(crate) fn split_off(words: &Words, seat: &mut Seat<(), View>) -> Seat<(), Vi
     requires seat { (seat.old.table_id ≡ words.now.table_id) × (26 ≤ words.now.table_id.words) }
     requires two { seat.old.me.0.member.ends ≡ 2 }
     ensures seat { IsSame seat.old seat.new × (result.table_id ≡ seat.old.table_id) }
-    ensures split { (seat.new.me ≡ (rest_of seat.old.me.0, seat.old.me.1)) × (result.me ≡ (newborn of_meters seat.old.me.0, [])) }
+    ensures split { (seat.new.me ≡ (rest_of seat.old.me.0, seat.old.me.1)) × (result.me ≡ (newborn nothing_did seat.old.me.0, [])) }
 {
     words.split_seat::<Gives>(seat)
 }
@@ -177,9 +188,9 @@ pub(crate) fn take_in<J: Spent>(words: &Words, seat: &mut Seat<(), View>, other:
     requires seat { (seat.old.table_id ≡ words.now.table_id) × (other.table_id ≡ words.now.table_id)
         × (other.me.1 ≡ []) × (26 ≤ words.now.table_id.words) }
     requires live { (1 ≤ seat.old.me.0.member.ends) × (1 ≤ other.me.0.member.ends) }
-    requires spent { J.view ≡ emptied of_meters seat.old.me.0 }
+    requires spent { J.view ≡ emptied nothing_did seat.old.me.0 }
     ensures seat { IsSame seat.old seat.new }
-    ensures joined { seat.new.me ≡ (both of_meters seat.old.me.0 other.me.0, seat.old.me.1) }
+    ensures joined { seat.new.me ≡ (both did_both seat.old.me.0 other.me.0, seat.old.me.1) }
 {
     words.join_seat::<Joins<J>>(seat, other);
 }

@@ -20,22 +20,9 @@ use Rattle.table_theory.proofs.Reaching.{all_on, all_before, all_behind, continu
 use Rattle.table_theory.proofs.Standing.{stand_split, stand_join, stand_first}
 use Rattle.atomic_table.proofs.Lists.{at_set, at_snoc}
 
-module _ {K O : Type 0} (T : Subject O) (nothing : K) (plus : K → K → K) where
-  abbrev V : Type 0
-  V = Ledger K O
-
-  abbrev steps_of : V → List (Step O)
-  steps_of v = v.steps
-
-  abbrev course_of : V → List (Step O)
-  course_of v = v.course
-
-  -- all steps of all ends up to now
-  abbrev pub steps_to : {first : O} {now : Moment O} {vs : List V} → AreTrue T nothing first now vs → List (Step O)
-  steps_to t = map entry_of t.course.course
-
+module _ {K O : Type 0} where
   -- the view after a step, with this own and as this one of the ends
-  abbrev pub after : V → K → Part → List (Step O) → Step O → V
+  abbrev pub after : Ledger K O → K → Part → List (Step O) → Step O → Ledger K O
   after v own member before e = record {
     first = v.first;
     own = own;
@@ -45,6 +32,20 @@ module _ {K O : Type 0} (T : Subject O) (nothing : K) (plus : K → K → K) whe
     course = before ++ e ∷ [];
     joined = before ++ e ∷ [];
   }
+
+-- all steps of all ends up to now
+abbrev pub steps_to : {K O : Type 0} {T : Subject O} {nothing : K} {first : O} {now : Moment O} {vs : List (Ledger K O)} → AreTrue T nothing first now vs → List (Step O)
+steps_to t = map entry_of t.course.course
+
+module _ {K O : Type 0} (T : Subject O) (nothing : K) (plus : K → K → K) where
+  abbrev V : Type 0
+  V = Ledger K O
+
+  abbrev steps_of : V → List (Step O)
+  steps_of v = v.steps
+
+  abbrev course_of : V → List (Step O)
+  course_of v = v.course
 
   abbrev Seen : O → V → Type 0
   Seen first v = Continues (opened first) v.course v.seen

@@ -151,6 +151,7 @@ pub record Made {K O : Type 0} (v : Ledger K O) (entries : List (Step O)) (own :
 pub record Looked {K O : Type 0} (v : Ledger K O) (word found : ℕ) (w : Ledger K O) : Type 0 where
   pub at : Moment O
   pub made : Made v (load word found at ∷ []) v.own w
+  pub seen : w.seen ≡ at
 
 -- the number of ends was found in this word, and made one more
 pub record CountedUp {K O : Type 0} (word : ℕ) (v w : Ledger K O) : Type 0 where

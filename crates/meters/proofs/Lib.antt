@@ -1,5 +1,6 @@
 pub mod Codes
 pub mod Events
+pub mod Clocks
 pub mod Showing
 pub mod Listed
 pub mod Stepping

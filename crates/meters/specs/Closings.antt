@@ -25,7 +25,7 @@ pub record IsAllOf (v : SeatView) (first : ℕ) (gauges : List ℕ) (clock : ℕ
 pub record ClosedNow (first : ℕ) (v : SeatView) (gauges : List ℕ) (clock : ℕ) (alarms : List Alarm) : Type 0 where
   pub whole : IsWhole v.member.share
   pub last : Moment Reading
-  pub since : ends.Reaches of_meters v.seen last
+  pub since : ∥ ends.Reaches of_meters v.seen last ∥₁
   pub lawful : IsLawful last.object
   pub listed : ViewsShow first last.object (v ∷ [])
   pub sole : last.ends ≡ 1

@@ -1,5 +1,5 @@
 -- What each step tells its end: its entry, and what the end has done then.
-use Rattle.std.specs.Prelude.{◌≡◌, ◌≢◌, ◌+◌, ◌<◌, ◌≤◌, ℕ, List, [], ◌∷◌, ◌++◌, Option, Some, None}
+use Rattle.std.specs.Prelude.{◌≡◌, ◌≢◌, ◌+◌, ◌<◌, ◌≤◌, ℕ, List, [], ◌∷◌, ◌++◌, Option, Some, None, filter_map}
 use Rattle.event_theory.specs.declared.alarm.Alarm.{Alarm}
 use Rattle.atomic_table.specs.Table.{Me, Step}
 use Rattle.table_theory.specs.declared.views.Moment.{Moment}
@@ -88,6 +88,5 @@ FoundOther v slot other w = (stood : Option Alarm) × FoundIn v slot stood w × 
 pub record Gave (v : SeatView) (clock slot : ℕ) (alarm : Option Alarm) (w : SeatView) : Type 0 where
   pub visit : Visit
   pub alarm_is : alarm ≡ gave visit
-  pub goes : Goes clock visit
-  pub fired : List Alarm
-  pub made : Made v (entries_of slot visit) (record v.own { fired = v.own.fired ++ fired }) w
+  pub fits : Goes clock visit
+  pub made : Made v (entries_of slot visit) (record v.own { fired = v.own.fired ++ filter_map gave (visit ∷ []) }) w

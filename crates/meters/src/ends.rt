@@ -3,7 +3,7 @@ ghost use Rattle.std.specs.Prelude.{◌≡◌, [], IfOk};
 ghost use Rattle.meters.specs.Rules.{newcomer};
 ghost use Rattle.meters.specs.Endings.{Divided, IsNewborn, TookIn};
 ghost use Rattle.meters.specs.Own.{DidSplit, DidBoth, of_meters};
-ghost use Rattle.table_theory.specs.Ledgers.{IsTrue};
+ghost use Rattle.table_theory.specs.Ledgers.{IsHonest};
 
 use crate::rule::{MeterRule, Shape, View};
 use crate::steps::{CLOCK, ENDS, count_down, count_up, split_off, take_in};
@@ -33,7 +33,7 @@ pub struct MeterSeat {
     pub(crate) seat: Seat<(), View>,
     ghost bare: { seat.me.1 ≡ [] },
     ghost one: { seat.me.0.member.ends ≡ 1 },
-    ghost told: { IsTrue of_meters seat.me.0 },
+    ghost told: { ∥ IsHonest of_meters seat.me.0 ∥₁ },
 }
 
 impl Meters {

@@ -1,7 +1,7 @@
 //! The atomic steps, one function for each kind.
 ghost use Rattle.std.specs.Prelude.{◌≡◌, ◌≢◌, ◌+◌, ◌<◌, ◌≤◌, [], IsTrue, IsFalse, Some, None};
 ghost use Rattle.table_theory.specs.Seating.{IsSame};
-ghost use Rattle.table_theory.specs.Ledgers.{IsTrue, Looked, CountedUp, CountedDown, Tallied, rest_of, newborn, both, emptied};
+ghost use Rattle.table_theory.specs.Ledgers.{IsHonest, Looked, CountedUp, CountedDown, Tallied, rest_of, newborn, both, emptied};
 ghost use Rattle.meters.specs.Own.{of_meters, nothing_did, did_both};
 ghost use Rattle.meters.specs.Steps.{WasTicked, WasAdvanced, WasSet, WasFired, WasCancelled, FoundIn, FoundOther};
 ghost use Rattle.meters.specs.Views.{IsPart};
@@ -33,7 +33,7 @@ pub(crate) fn load(words: &Words, seat: &mut Seat<(), View>, word: usize) -> u64
     requires seat { (seat.old.table_id ≡ words.now.table_id) × (word < words.now.table_id.words) }
     requires live { 1 ≤ seat.old.me.0.member.ends }
     ensures seat { IsSame seat.old seat.new × (seat.new.me.1 ≡ seat.old.me.1) }
-    ensures told { IsTrue of_meters seat.new.me.0 }
+    ensures told { IsHonest of_meters seat.new.me.0 }
     ensures found { Looked seat.old.me.0 word result seat.new.me.0 }
 {
     words.load::<Finds>(seat, word)
@@ -43,7 +43,7 @@ pub(crate) fn load_clock(words: &Words, seat: &mut Seat<(), View>) -> u64
     requires seat { (seat.old.table_id ≡ words.now.table_id) × (26 ≤ words.now.table_id.words) }
     requires live { 1 ≤ seat.old.me.0.member.ends }
     ensures seat { IsSame seat.old seat.new × (seat.new.me.1 ≡ seat.old.me.1) }
-    ensures told { IsTrue of_meters seat.new.me.0 }
+    ensures told { IsHonest of_meters seat.new.me.0 }
     ensures found { Looked seat.old.me.0 clock_word result seat.new.me.0 }
     ensures clock { result ≡ seat.new.me.0.seen.object.clock }
     ensures bounded { result < 4294967296 }
@@ -55,7 +55,7 @@ pub(crate) fn load_alarm(words: &Words, seat: &mut Seat<(), View>, slot: usize) 
     requires seat { (seat.old.table_id ≡ words.now.table_id) × (26 ≤ words.now.table_id.words) × (slot < 16) }
     requires live { 1 ≤ seat.old.me.0.member.ends }
     ensures seat { IsSame seat.old seat.new × (seat.new.me.1 ≡ seat.old.me.1) }
-    ensures told { IsTrue of_meters seat.new.me.0 }
+    ensures told { IsHonest of_meters seat.new.me.0 }
     ensures found { FoundIn seat.old.me.0 slot result seat.new.me.0 }
 {
     AlarmWord::from_bits(load(words, seat, ALARMS + slot)).alarm()
@@ -70,7 +70,7 @@ pub(crate) fn add_to_gauge(
     requires seat { (seat.old.table_id ≡ words.now.table_id) × (26 ≤ words.now.table_id.words) × (gauge < 8) }
     requires live { 1 ≤ seat.old.me.0.member.ends }
     ensures seat { IsSame seat.old seat.new × (seat.new.me.1 ≡ seat.old.me.1) }
-    ensures told { IsTrue of_meters seat.new.me.0 }
+    ensures told { IsHonest of_meters seat.new.me.0 }
     ensures ticked { WasTicked seat.old.me.0 gauge amount result seat.new.me.0 }
 {
     words.fetch_add::<Ticks>(seat, GAUGES + gauge, amount)
@@ -81,7 +81,7 @@ pub(crate) fn exchange_clock(words: &Words, seat: &mut Seat<(), View>, clock: u6
     requires live { 1 ≤ seat.old.me.0.member.ends }
     requires below { clock < 4294967295 }
     ensures seat { IsSame seat.old seat.new × (seat.new.me.1 ≡ seat.old.me.1) }
-    ensures told { IsTrue of_meters seat.new.me.0 }
+    ensures told { IsHonest of_meters seat.new.me.0 }
     ensures hit { result ≡ clock → WasAdvanced seat.old.me.0 clock seat.new.me.0 }
     ensures miss { result ≢ clock → Looked seat.old.me.0 clock_word result seat.new.me.0
         × (result ≡ seat.new.me.0.seen.object.clock) }
@@ -100,7 +100,7 @@ pub(crate) fn exchange_in(
     requires seat { (seat.old.table_id ≡ words.now.table_id) × (26 ≤ words.now.table_id.words) × (slot < 16) }
     requires live { 1 ≤ seat.old.me.0.member.ends }
     ensures seat { IsSame seat.old seat.new × (seat.new.me.1 ≡ seat.old.me.1) }
-    ensures told { IsTrue of_meters seat.new.me.0 }
+    ensures told { IsHonest of_meters seat.new.me.0 }
     ensures hit { IsTrue result → WasSet seat.old.me.0 slot alarm seat.new.me.0 }
     ensures miss { IsFalse result → FoundOther seat.old.me.0 slot None seat.new.me.0 }
 {
@@ -119,7 +119,7 @@ pub(crate) fn exchange_fired(
     requires live { 1 ≤ seat.old.me.0.member.ends }
     requires due { alarm.due ≤ seat.old.me.0.seen.object.clock }
     ensures seat { IsSame seat.old seat.new × (seat.new.me.1 ≡ seat.old.me.1) }
-    ensures told { IsTrue of_meters seat.new.me.0 }
+    ensures told { IsHonest of_meters seat.new.me.0 }
     ensures hit { IsTrue result → WasFired seat.old.me.0 slot alarm seat.new.me.0 }
     ensures miss { IsFalse result → FoundOther seat.old.me.0 slot (Some alarm) seat.new.me.0 }
 {
@@ -137,7 +137,7 @@ pub(crate) fn exchange_cancelled(
     requires seat { (seat.old.table_id ≡ words.now.table_id) × (26 ≤ words.now.table_id.words) × (slot < 16) }
     requires live { 1 ≤ seat.old.me.0.member.ends }
     ensures seat { IsSame seat.old seat.new × (seat.new.me.1 ≡ seat.old.me.1) }
-    ensures told { IsTrue of_meters seat.new.me.0 }
+    ensures told { IsHonest of_meters seat.new.me.0 }
     ensures hit { IsTrue result → WasCancelled seat.old.me.0 slot alarm seat.new.me.0 }
     ensures miss { IsFalse result → FoundOther seat.old.me.0 slot (Some alarm) seat.new.me.0 }
 {
@@ -149,7 +149,7 @@ pub(crate) fn count_up(words: &Words, seat: &mut Seat<(), View>) -> u64
     requires seat { (seat.old.table_id ≡ words.now.table_id) × (26 ≤ words.now.table_id.words) }
     requires parts { seat.old.me.0.member.ends + 1 ≤ seat.old.me.0.member.share }
     ensures seat { IsSame seat.old seat.new × (seat.new.me.1 ≡ seat.old.me.1) }
-    ensures told { IsTrue of_meters seat.new.me.0 }
+    ensures told { IsHonest of_meters seat.new.me.0 }
     ensures counted { CountedUp ends_word seat.old.me.0 seat.new.me.0 }
 {
     words.fetch_add::<CountsUp>(seat, ENDS, 1)
@@ -159,7 +159,7 @@ pub(crate) fn count_down(words: &Words, seat: &mut Seat<(), View>) -> u64
     requires seat { (seat.old.table_id ≡ words.now.table_id) × (26 ≤ words.now.table_id.words) }
     requires live { 2 ≤ seat.old.me.0.member.ends }
     ensures seat { IsSame seat.old seat.new × (seat.new.me.1 ≡ seat.old.me.1) }
-    ensures told { IsTrue of_meters seat.new.me.0 }
+    ensures told { IsHonest of_meters seat.new.me.0 }
     ensures counted { CountedDown ends_word seat.old.me.0 seat.new.me.0 × IsPart seat.new.me.0 }
 {
     words.fetch_sub::<CountsDown>(seat, ENDS, 1)
@@ -169,7 +169,7 @@ pub(crate) fn count(words: &Words, seat: &mut Seat<(), View>) -> u64
     requires seat { (seat.old.table_id ≡ words.now.table_id) × (26 ≤ words.now.table_id.words) }
     requires one { seat.old.me.0.member.ends ≡ 1 }
     ensures seat { IsSame seat.old seat.new × (seat.new.me.1 ≡ seat.old.me.1) }
-    ensures told { IsTrue of_meters seat.new.me.0 }
+    ensures told { IsHonest of_meters seat.new.me.0 }
     ensures tallied { Tallied ends_word seat.old.me.0 result seat.new.me.0 }
 {
     words.load::<Counts>(seat, ENDS)

@@ -13,7 +13,7 @@ use Rattle.table_theory.specs.Courses.{Continues, IsCourse}
 use Rattle.table_theory.specs.Filing.{entry_of}
 use Rattle.table_theory.specs.Ends.{Begins}
 use Rattle.table_theory.specs.Sharing.{IsWhole, kept}
-use Rattle.table_theory.specs.Ledgers.{Subject, Step, IsReal, IsTrue, Reaches, Adds, opened, first_of, rest_of, newborn, by_later, both, emptied, IsIdle, EndsStand, AreTrue}
+use Rattle.table_theory.specs.Ledgers.{Subject, Step, IsReal, IsHonest, Reaches, Adds, opened, first_of, rest_of, newborn, by_later, both, emptied, IsIdle, EndsStand, AreTrue}
 use Rattle.table_theory.proofs.Courses.{course_step, course_split, course_join, course_first, step_entries, split_entries, join_entries, first_entries}
 use Rattle.table_theory.proofs.Ends.{begins_refl, begins_on}
 use Rattle.table_theory.proofs.Reaching.{all_on, all_before, all_behind, continues_on, continues_behind, continues_one, weaves_one}
@@ -60,7 +60,7 @@ module _ {K O : Type 0} (T : Subject O) (nothing : K) (plus : K → K → K) whe
   none_yet Q i u has = absurd (some-ne-none u (sym has))
 
   -- an end's list is true
-  pub is_true : (first : O) (now : Moment O) (vs : List V) (j : ℕ) (v : V) → AreTrue T nothing first now vs → get_elem? vs j ≡ some v → IsTrue T v
+  pub is_true : (first : O) (now : Moment O) (vs : List V) (j : ℕ) (v : V) → AreTrue T nothing first now vs → get_elem? vs j ≡ some v → IsHonest T v
   is_true first now vs j v t at = let b : Begins v.course (steps_to t) = t.course.seen j v at in record {
     leads = subst (λ (z : O). Continues (opened z) v.course v.seen) (sym (t.first_is j v at)) (t.seen j v at);
     real = all_before (IsReal T) v.course b.0 (subst (AllByRecursion (IsReal T)) (sym b.1) t.real);
@@ -85,7 +85,7 @@ module _ {K O : Type 0} (T : Subject O) (nothing : K) (plus : K → K → K) whe
   }
 
   -- the end's list is true behind it
-  pub true_after : (first : O) (now : Moment O) (vs : List V) (j : ℕ) (v : V) (own : K) (member : Part) (e : Step O) (t : AreTrue T nothing first now vs) → get_elem? vs j ≡ some v → e.then ≡ now → IsReal T e → IsTrue T (after v own member (steps_to t) e)
+  pub true_after : (first : O) (now : Moment O) (vs : List V) (j : ℕ) (v : V) (own : K) (member : Part) (e : Step O) (t : AreTrue T nothing first now vs) → get_elem? vs j ≡ some v → e.then ≡ now → IsReal T e → IsHonest T (after v own member (steps_to t) e)
   true_after first now vs j v own member e t at found real = record {
     leads = subst (λ (z : O). Continues (opened z) (steps_to t ++ e ∷ []) e.next) (sym (t.first_is j v at)) (continues_on (opened first) now e.next (steps_to t) (e ∷ []) t.course.continues (continues_one now e found));
     real = all_on (IsReal T) (steps_to t) (e ∷ []) t.real (real, tt);

@@ -9,7 +9,7 @@ use Rattle.table_theory.specs.Sharing.{kept, given}
 use Rattle.table_theory.specs.Ledgers.{Step, load, count_up, count_down, Adds, Made, CountedUp, CountedDown, Divided, IsNewborn, TookIn, Tallied, WereOpen, rest_of, newborn, both}
 use Rattle.table_theory.proofs.Reaching.{adds_none, adds_on}
 
-module _ {K O : Type 0} (nothing : K) (plus : K → K → K) (word : ℕ) where
+module _ {K O : Type 0} where
   -- no step yet, and steps behind others
   pub made_none : (v : (Ledger K O)) → Made v [] v.own v
   made_none v = record { adds = adds_none v; did = refl; member = refl }
@@ -17,6 +17,7 @@ module _ {K O : Type 0} (nothing : K) (plus : K → K → K) (word : ℕ) where
   pub made_on : (v u w : (Ledger K O)) (xs ys : List (Step O)) (one own : K) → Made v xs one u → Made u ys own w → Made v (xs ++ ys) own w
   made_on v u w xs ys one own a b = record { adds = adds_on v u w xs ys a.adds b.adds; did = b.did; member = b.member ∙ a.member }
 
+module _ {K O : Type 0} (nothing : K) (plus : K → K → K) (word : ℕ) where
   divided : (v u : (Ledger K O)) → CountedUp word v u → Divided word v (rest_of u)
   divided v u c = record {
     found = c.found;

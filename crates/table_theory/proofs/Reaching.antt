@@ -6,7 +6,7 @@ use Rattle.table_theory.specs.declared.views.Entry.{Entry}
 use Rattle.table_theory.specs.declared.views.Moment.{Moment}
 use Rattle.table_theory.specs.declared.views.Ledger.{Ledger}
 use Rattle.table_theory.specs.Courses.{Continues}
-use Rattle.table_theory.specs.Ledgers.{Subject, Step, IsReal, IsTrue, Reaches, Weaves, Adds, opened}
+use Rattle.table_theory.specs.Ledgers.{Subject, Step, IsReal, IsHonest, Reaches, Weaves, Adds, opened}
 
 module _ {E : Type 0} (P : E → Type 0) where
   pub all_on : (xs ys : List E) → AllByRecursion P xs → AllByRecursion P ys → AllByRecursion P (xs ++ ys)
@@ -75,15 +75,15 @@ module _ {K O : Type 0} where
 
 module _ {K O : Type 0} (T : Subject O) where
   -- the steps since then are real, and lead from what was seen to what is seen
-  pub seen_since : (v w : Ledger K O) (es : List (Step O)) → IsTrue T v → IsTrue T w → (a : Adds v es w) → Continues v.seen a.since w.seen × AllByRecursion (IsReal T) a.since
+  pub seen_since : (v w : Ledger K O) (es : List (Step O)) → IsHonest T v → IsHonest T w → (a : Adds v es w) → Continues v.seen a.since w.seen × AllByRecursion (IsReal T) a.since
   seen_since v w es x y a = (
     continues_behind (opened v.first) v.seen w.seen v.course a.since x.leads (subst (λ (z : List (Step O)). Continues (opened v.first) z w.seen) a.course_is (subst (λ (z : O). Continues (opened z) w.course w.seen) a.first y.leads)),
     all_behind (IsReal T) v.course a.since (subst (AllByRecursion (IsReal T)) a.course_is y.real),
   )
 
-  pub reaches_since : (v w : Ledger K O) (es : List (Step O)) → IsTrue T v → IsTrue T w → Adds v es w → Reaches T v.seen w.seen
+  pub reaches_since : (v w : Ledger K O) (es : List (Step O)) → IsHonest T v → IsHonest T w → Adds v es w → Reaches T v.seen w.seen
   reaches_since v w es x y a = let s = seen_since v w es x y a in record { steps = a.since; leads = s.0; real = s.1 }
 
   -- each entry of a call is real
-  pub entries_real : (v w : Ledger K O) (es : List (Step O)) → IsTrue T w → Adds v es w → AllByRecursion (IsReal T) es
+  pub entries_real : (v w : Ledger K O) (es : List (Step O)) → IsHonest T w → Adds v es w → AllByRecursion (IsReal T) es
   entries_real v w es y a = all_own (IsReal T) es a.since a.own (all_behind (IsReal T) v.course a.since (subst (AllByRecursion (IsReal T)) a.course_is y.real))

@@ -84,7 +84,7 @@ abbrev pub opened : {O : Type 0} → O → Moment O
 opened object = record { ends = 1; object = object }
 
 -- the steps that the end has seen are real, and lead from the object as it was made to what the end has seen
-pub record IsTrue {K O : Type 0} (subject : Subject O) (v : Ledger K O) : Type 0 where
+pub record IsHonest {K O : Type 0} (subject : Subject O) (v : Ledger K O) : Type 0 where
   pub leads : Continues (opened v.first) v.course v.seen
   pub real : AllByRecursion (IsReal subject) v.course
 

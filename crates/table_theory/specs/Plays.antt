@@ -3,12 +3,12 @@
 use Rattle.std.specs.Prelude.{◌≡◌, ℕ}
 use Rattle.atomic_table.specs.Table.{Me, Step}
 use Rattle.table_theory.specs.declared.views.Ledger.{Ledger}
-use Rattle.table_theory.specs.Ledgers.{Subject, IsTrue, Looked, CountedUp, CountedDown, Tallied}
+use Rattle.table_theory.specs.Ledgers.{Subject, IsHonest, Looked, CountedUp, CountedDown, Tallied}
 
 module _ {S K O : Type 0} (subject : Subject O) where
   -- what the end holds stays, and its list is true
   abbrev pub Stays : Me S (Ledger K O) → Me S (Ledger K O) → Type 0
-  Stays m m' = (m'.1 ≡ m.1) × IsTrue subject m'.0
+  Stays m m' = (m'.1 ≡ m.1) × IsHonest subject m'.0
 
   abbrev pub finds : Step S → Me S (Ledger K O) → ℕ → Me S (Ledger K O) → Type 0
   finds st m r m' = Stays m m' × Looked m.0 st.word r m'.0

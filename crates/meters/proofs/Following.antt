@@ -1,5 +1,5 @@
 -- What several steps tell together.
-use Rattle.std.proofs.Common.{◌≡◌, ◌≢◌, ℕ, suc, ◌+◌, ◌<◌, ◌≤◌, true, false, List, [], ◌∷◌, ◌++◌, length, length-append, filter_map, refl, sym, ap, ◌∙◌, subst, arith, Option, Some, None, append_assoc, append-nil, true≢false}
+use Rattle.std.proofs.Common.{◌≡◌, ◌≢◌, ◌⊎◌, inl, inr, ℕ, suc, ◌+◌, ◌<◌, ◌≤◌, true, false, List, [], ◌∷◌, ◌++◌, length, length-append, filter_map, refl, sym, ap, ◌∙◌, subst, arith, Option, Some, None, append_assoc, append-nil, true≢false}
 use Rattle.std.proofs.lemmas.List.Elements.{filter_map-append}
 use Rattle.std.proofs.Math.Bridge.{le_prop}
 use Rattle.std.proofs.Math.Logic.{∥∥₁_elim}
@@ -15,11 +15,12 @@ use Rattle.meters.specs.declared.rule.Did.{Did}
 use Rattle.meters.specs.declared.rule.Reading.{Reading}
 use Rattle.meters.specs.Changes.{with_alarm, with_fired}
 use Rattle.meters.specs.Own.{SeatView, Own, own_of, of_meters, DidNothing, DidTick, DidAdvance, DidSet, DidCancel, DidFire}
-use Rattle.meters.specs.Words.{clock_word, slot_word, word_of}
+use Rattle.meters.specs.Words.{clock_word, slot_word, word_of, alarm_in, Fits}
 use Rattle.meters.specs.Steps.{WasTicked, WasAdvanced, WasSet, WasFired, WasCancelled, FoundIn, FoundOther, Gave}
-use Rattle.meters.specs.Answers.{Ticked, AdvancedNow, NotAdvanced, Found, scan, SetNow, NotSet, CancelledNow, Visit, stays, goes, went, entries_of, Goes, tour, gave, FiredNow}
+use Rattle.meters.specs.Answers.{Ticked, AdvancedNow, NotAdvanced, Scanned, scan, AreTaken, SetNow, NotSet, CancelledNow, Visit, stays, goes, went, entries_of, IsVisit, tour, gave, FiredNow}
 use Rattle.meters.specs.declared.alarms.SetRefusal.TheVariants as not_set
 use Rattle.meters.specs.declared.gauges.AdvanceRefusal.TheVariants as not_advanced
+use Rattle.meters.proofs.Codes.{given_back}
 use Rattle.meters.proofs.Clocks.{clock_found, clock_seen}
 
 -- what an end is that did this, and is among the ends as it was
@@ -63,78 +64,85 @@ advance_did v u w was a b = own_by u w (record u.own { advances = u.own.advances
 
 -- the slots below this one were found taken
 pub record Searched (v : SeatView) (slot : ℕ) (w : SeatView) : Type 0 where
-  pub taken : List Found
+  pub taken : Scanned
   pub as_many : length taken ≡ slot
+  pub full : AreTaken taken
   pub made : Made v (scan 0 taken) v.own w
 
 pub searched_none : (v : SeatView) → Searched v 0 v
-searched_none v = record { taken = []; as_many = refl; made = made_none v }
+searched_none v = record { taken = []; as_many = refl; full = tt; made = made_none v }
 
-scan_on : (slot : ℕ) (xs ys : List Found) → scan slot (xs ++ ys) ≡ scan slot xs ++ scan (slot + length xs) ys
+scan_on : (slot : ℕ) (xs ys : Scanned) → scan slot (xs ++ ys) ≡ scan slot xs ++ scan (slot + length xs) ys
 scan_on slot [] ys = let z : slot + 0 ≡ slot = omega arith in ap (λ (k : ℕ). scan k ys) (sym z)
-scan_on slot (x ∷ xs) ys = let n : ℕ = length xs in let z : slot + suc n ≡ slot + 1 + n = omega arith in (λ i. load (slot_word slot) (word_of (Some x.0)) x.1 ∷ (scan_on (slot + 1) xs ys ∙ ap (λ (k : ℕ). scan (slot + 1) xs ++ scan k ys) (sym z)) i)
+scan_on slot (x ∷ xs) ys = let n : ℕ = length xs in let z : slot + suc n ≡ slot + 1 + n = omega arith in (λ i. load (slot_word slot) x.0 x.1 ∷ (scan_on (slot + 1) xs ys ∙ ap (λ (k : ℕ). scan (slot + 1) xs ++ scan k ys) (sym z)) i)
 
 pub searched_more : (v u w : SeatView) (slot : ℕ) (stood : Option Alarm) → Searched v slot u → FoundIn u slot stood w → is_some stood ≡ true → Searched v (slot + 1) w
 searched_more v u w slot None s f e = absurd (true≢false (sym e))
-searched_more v u w slot (Some alarm) s f e = let x : Found = (alarm, f.at) in let long = length-append s.taken (x ∷ []) in let n = s.as_many in let z : slot ≡ 0 + length s.taken = omega arith in record {
+searched_more v u w slot (Some alarm) s f e = let bits : ℕ = word_of (Some alarm) in let l = f.looked in let x : ℕ × Moment Reading = (bits, l.at) in let long = length-append s.taken (x ∷ []) in let n = s.as_many in let z : slot ≡ 0 + length s.taken = omega arith in let some : 0 < bits = omega arith in record {
   taken = s.taken ++ x ∷ [];
   as_many = omega arith;
-  made = entries_as v w (scan 0 s.taken ++ load (slot_word slot) (word_of (Some alarm)) f.at ∷ []) (scan 0 (s.taken ++ x ∷ [])) v.own (ap (λ (k : ℕ). scan 0 s.taken ++ scan k (x ∷ [])) z ∙ sym (scan_on 0 s.taken (x ∷ [])))
-      (made_as v w _ u.own v.own s.made.did (made_on v u w (scan 0 s.taken) (load (slot_word slot) (word_of (Some alarm)) f.at ∷ []) v.own u.own s.made f.made));
+  full = all_on (λ (found : ℕ × Moment Reading). 0 < found.0) s.taken (x ∷ []) s.full (some, tt);
+  made = entries_as v w (scan 0 s.taken ++ load (slot_word slot) bits l.at ∷ []) (scan 0 (s.taken ++ x ∷ [])) v.own (ap (λ (k : ℕ). scan 0 s.taken ++ scan k (x ∷ [])) z ∙ sym (scan_on 0 s.taken (x ∷ [])))
+      (made_as v w _ u.own v.own s.made.did (made_on v u w (scan 0 s.taken) (load (slot_word slot) bits l.at ∷ []) v.own u.own s.made l.made));
 }
 
 pub no_room : (v w : SeatView) → Searched v 16 w → NotSet v not_set.NoRoom w
-no_room v w s = (s.taken, s.as_many, s.made.adds)
+no_room v w s = (s.taken, s.as_many, s.full, s.made.adds)
 
 pub searched_nothing : (v w : SeatView) (slot : ℕ) → Searched v slot w → DidNothing v w
 searched_nothing v w slot s = made_own v w (scan 0 s.taken) v.own s.made
 
 -- the slot was found empty behind a search
-empty_slot : (u x : SeatView) (slot : ℕ) (stood : Option Alarm) → FoundIn u slot stood x → is_some stood ≡ false → FoundIn u slot None x
-empty_slot u x slot None f e = f
+empty_slot : (u x : SeatView) (slot : ℕ) (stood : Option Alarm) → FoundIn u slot stood x → is_some stood ≡ false → Looked u (slot_word slot) 0 x
+empty_slot u x slot None f e = f.looked
 empty_slot u x slot (Some alarm) f e = absurd (true≢false e)
 
 pub set_now : (v u x w : SeatView) (slot : ℕ) (stood : Option Alarm) (alarm : Alarm) → slot < 16 → Searched v slot u → FoundIn u slot stood x → is_some stood ≡ false → WasSet x slot alarm w → SetNow v slot alarm w
-set_now v u x w slot stood alarm below s f e h = let g : FoundIn u slot None x = empty_slot u x slot stood f e in
-    (s.taken, g.at, h.0, s.as_many, below, adds_on v u w (scan 0 s.taken) _ s.made.adds (adds_on u x w (load (slot_word slot) 0 g.at ∷ []) (change (slot_word slot) 0 h.0 (with_alarm h.0.object slot alarm) ∷ []) g.made.adds h.1.adds))
+set_now v u x w slot stood alarm below s f e h = let g = empty_slot u x slot stood f e in
+    (s.taken, g.at, h.0, s.as_many, below, s.full, adds_on v u w (scan 0 s.taken) _ s.made.adds (adds_on u x w (load (slot_word slot) 0 g.at ∷ []) (change (slot_word slot) 0 h.0 (with_alarm h.0.object slot alarm) ∷ []) g.made.adds h.1.adds))
 
 pub set_did : (v u x w : SeatView) (slot : ℕ) (stood : Option Alarm) (alarm : Alarm) → Searched v slot u → FoundIn u slot stood x → WasSet x slot alarm w → DidSet alarm v w
-set_did v u x w slot stood alarm s f h = let own : x.own ≡ v.own = f.made.did ∙ s.made.did in let member : x.member ≡ v.member = f.made.member ∙ s.made.member in
+set_did v u x w slot stood alarm s f h = let own : x.own ≡ v.own = f.looked.made.did ∙ s.made.did in let member : x.member ≡ v.member = f.looked.made.member ∙ s.made.member in
     own_by x w (record x.own { set = x.own.set ++ alarm ∷ [] }) h.1.did h.1.member ∙ (λ i. own_of (record v { own = record (own i) { set = (own i).set ++ alarm ∷ [] }; member = member i }))
 
-some_other : (x w : SeatView) (slot : ℕ) (stood : Option Alarm) → FoundIn x slot stood w → stood ≢ None → (other : Alarm) × FoundIn x slot (Some other) w
-some_other x w slot None f ne = absurd (ne refl)
-some_other x w slot (Some other) f ne = (other, f)
-
 pub lost_slot : (v u x w : SeatView) (slot : ℕ) (stood : Option Alarm) → slot < 16 → Searched v slot u → FoundIn u slot stood x → is_some stood ≡ false → FoundOther x slot None w → NotSet v (not_set.Lost slot) w
-lost_slot v u x w slot stood below s f e (there, o, ne) = let g : FoundIn u slot None x = empty_slot u x slot stood f e in let h = some_other x w slot there o ne in
-    (s.taken, g.at, h.1.at, h.0, s.as_many, below, adds_on v u w (scan 0 s.taken) _ s.made.adds (adds_on u x w (load (slot_word slot) 0 g.at ∷ []) (load (slot_word slot) (word_of (Some h.0)) h.1.at ∷ []) g.made.adds h.1.made.adds))
+lost_slot v u x w slot stood below s f e (other, o, ne) = let g = empty_slot u x slot stood f e in let some : 0 < other = omega arith in
+    (s.taken, other, g.at, o.at, s.as_many, below, s.full, some, adds_on v u w (scan 0 s.taken) _ s.made.adds (adds_on u x w (load (slot_word slot) 0 g.at ∷ []) (load (slot_word slot) other o.at ∷ []) g.made.adds o.made.adds))
 
 pub lost_nothing : (v u x w : SeatView) (slot : ℕ) (stood : Option Alarm) → Searched v slot u → FoundIn u slot stood x → FoundOther x slot None w → DidNothing v w
-lost_nothing v u x w slot stood s f (there, o, ne) = looked_own x w _ _ o ∙ (looked_own u x _ _ f ∙ searched_nothing v u slot s)
+lost_nothing v u x w slot stood s f (other, o, ne) = looked_own x w _ _ o ∙ (looked_own u x _ _ f.looked ∙ searched_nothing v u slot s)
 
 -- what one slot gave
 nothing_more : (v w : SeatView) → w.own ≡ v.own → w.own ≡ record v.own { fired = v.own.fired ++ [] }
 nothing_more v w e = e ∙ (λ i. record v.own { fired = sym (append-nil v.own.fired) i })
 
-pub gave_none : (v w : SeatView) (clock slot : ℕ) (stood : Option Alarm) (f : FoundIn v slot stood w) → Goes clock (stays stood f.at) → Gave v clock slot None w
-gave_none v w clock slot stood f n = record { visit = stays stood f.at; alarm_is = refl; fits = n; made = record { adds = f.made.adds; did = nothing_more v w f.made.did; member = f.made.member } }
+-- what stood is not due
+abbrev pub IsNotDue : ℕ → Option Alarm → Type 0
+IsNotDue clock None = Unit {0}
+IsNotDue clock (Some alarm) = clock < alarm.due
+
+not_due : (clock : ℕ) (stood : Option Alarm) → Fits stood → IsNotDue clock stood → (word_of stood ≡ 0) ⊎ (clock < (alarm_in (word_of stood)).due)
+not_due clock None fits n = inl refl
+not_due clock (Some alarm) fits n = let back : (alarm_in (word_of (Some alarm))).due ≡ alarm.due = ap (λ (z : Alarm). z.due) (given_back alarm fits) in inr (subst (λ (z : ℕ). clock < z) (sym back) n)
+
+pub gave_none : (v w : SeatView) (clock slot : ℕ) (stood : Option Alarm) → FoundIn v slot stood w → IsNotDue clock stood → Gave v clock slot None w
+gave_none v w clock slot stood f n = let l = f.looked in record { visit = stays (word_of stood) l.at; alarm_is = refl; fits = not_due clock stood f.fits n; made = record { adds = l.made.adds; did = nothing_more v w l.made.did; member = l.made.member } }
 
 pub gave_lost : (v u w : SeatView) (clock slot : ℕ) (alarm : Alarm) → FoundIn v slot (Some alarm) u → alarm.due ≤ clock → FoundOther u slot (Some alarm) w → Gave v clock slot None w
-gave_lost v u w clock slot alarm f due (stood, o, ne) = record {
-  visit = went alarm f.at stood o.at;
+gave_lost v u w clock slot alarm f due (other, o, ne) = let l = f.looked in let back : (alarm_in (word_of (Some alarm))).due ≡ alarm.due = ap (λ (z : Alarm). z.due) (given_back alarm f.fits) in record {
+  visit = went (word_of (Some alarm)) l.at other o.at;
   alarm_is = refl;
-  fits = (due, ne);
-  made = let m = made_on v u w (load (slot_word slot) (word_of (Some alarm)) f.at ∷ []) (load (slot_word slot) (word_of stood) o.at ∷ []) v.own u.own f.made o.made in record { adds = m.adds; did = nothing_more v w (m.did ∙ f.made.did); member = m.member };
+  fits = (omega arith, subst (λ (z : ℕ). z ≤ clock) (sym back) due, ne);
+  made = let m = made_on v u w (load (slot_word slot) (word_of (Some alarm)) l.at ∷ []) (load (slot_word slot) other o.at ∷ []) v.own u.own l.made o.made in record { adds = m.adds; did = nothing_more v w (m.did ∙ l.made.did); member = m.member };
 }
 
 pub gave_fired : (v u w : SeatView) (clock slot : ℕ) (alarm : Alarm) → FoundIn v slot (Some alarm) u → alarm.due ≤ clock → WasFired u slot alarm w → Gave v clock slot (Some alarm) w
-gave_fired v u w clock slot alarm f due h = record {
-  visit = goes alarm f.at h.0;
+gave_fired v u w clock slot alarm f due h = let l = f.looked in record {
+  visit = goes alarm l.at h.0;
   alarm_is = refl;
   fits = due;
-  made = let m = made_on v u w (load (slot_word slot) (word_of (Some alarm)) f.at ∷ []) (change (slot_word slot) (word_of (Some alarm)) h.0 (with_fired h.0.object slot alarm) ∷ []) v.own (record u.own { fired = u.own.fired ++ alarm ∷ [] }) f.made h.1 in
-      record { adds = m.adds; did = m.did ∙ (λ i. record (f.made.did i) { fired = (f.made.did i).fired ++ alarm ∷ [] }); member = m.member };
+  made = let m = made_on v u w (load (slot_word slot) (word_of (Some alarm)) l.at ∷ []) (change (slot_word slot) (word_of (Some alarm)) h.0 (with_fired h.0.object slot alarm) ∷ []) v.own (record u.own { fired = u.own.fired ++ alarm ∷ [] }) l.made h.1 in
+      record { adds = m.adds; did = m.did ∙ (λ i. record (l.made.did i) { fired = (l.made.did i).fired ++ alarm ∷ [] }); member = m.member };
 }
 
 pub clock_in : (v w : SeatView) (clock : ℕ) (word found : ℕ) → IsHonest of_meters v → IsHonest of_meters w → Looked v word found w → clock ≤ v.seen.object.clock → clock ≤ w.seen.object.clock
@@ -151,7 +159,7 @@ clock_fired v w clock slot alarm x y h told = let up = clock_seen v w _ x y h.1.
 pub record Swept (v : SeatView) (clock slot : ℕ) (alarms : List Alarm) (w : SeatView) : Type 0 where
   pub visits : List Visit
   pub as_many : length visits ≡ slot
-  pub fit : AllByRecursion (Goes clock) visits
+  pub fit : AllByRecursion (IsVisit clock) visits
   pub alarms_are : alarms ≡ filter_map gave visits
   pub made : Made v (tour 0 visits) (record v.own { fired = v.own.fired ++ filter_map gave visits }) w
 
@@ -168,7 +176,7 @@ swept_more v u w clock slot alarms new alarm s g is = let x : Visit = g.visit in
     let all = sym (filter_map-append gave s.visits (x ∷ [])) in record {
       visits = s.visits ++ x ∷ [];
       as_many = omega arith;
-      fit = all_on (Goes clock) s.visits (x ∷ []) s.fit (g.fits, tt);
+      fit = all_on (IsVisit clock) s.visits (x ∷ []) s.fit (g.fits, tt);
       alarms_are = is ∙ ((λ i. s.alarms_are i ++ one g.visit alarm g.alarm_is i) ∙ all);
       made = entries_as v w (tour 0 s.visits ++ entries_of slot x) (tour 0 (s.visits ++ x ∷ [])) _ (ap (λ (e : List (Step Reading)). tour 0 s.visits ++ e) (sym (append-nil (entries_of slot x))) ∙ (ap (λ (k : ℕ). tour 0 s.visits ++ tour k (x ∷ [])) z ∙ sym (tour_on 0 s.visits (x ∷ []))))
           (made_as v w _ (record u.own { fired = u.own.fired ++ filter_map gave (x ∷ []) }) (record v.own { fired = v.own.fired ++ filter_map gave (s.visits ++ x ∷ []) })
@@ -178,15 +186,15 @@ swept_more v u w clock slot alarms new alarm s g is = let x : Visit = g.visit in
     }
   where
     one : (visit : Visit) (a : Option Alarm) → a ≡ gave visit → filter_map (λ (x : Option Alarm). x) (a ∷ []) ≡ filter_map gave (visit ∷ [])
-    one (stays stood m) a e = ap (λ (x : Option Alarm). filter_map (λ (y : Option Alarm). y) (x ∷ [])) e
+    one (stays found m) a e = ap (λ (x : Option Alarm). filter_map (λ (y : Option Alarm). y) (x ∷ [])) e
     one (goes alarm m k) a e = ap (λ (x : Option Alarm). filter_map (λ (y : Option Alarm). y) (x ∷ [])) e
-    one (went alarm m stood k) a e = ap (λ (x : Option Alarm). filter_map (λ (y : Option Alarm). y) (x ∷ [])) e
+    one (went found m other k) a e = ap (λ (x : Option Alarm). filter_map (λ (y : Option Alarm). y) (x ∷ [])) e
 
 few : (visits : List Visit) → length (filter_map gave visits) ≤ length visits
 few [] = omega arith
-few (stays stood m ∷ xs) = let f = few xs in omega arith
+few (stays found m ∷ xs) = let f = few xs in omega arith
 few (goes alarm m n ∷ xs) = let f = few xs in omega arith
-few (went alarm m stood n ∷ xs) = let f = few xs in omega arith
+few (went found m other n ∷ xs) = let f = few xs in omega arith
 
 pub swept_few : (v w : SeatView) (clock slot : ℕ) (alarms : List Alarm) → Swept v clock slot alarms w → length alarms ≤ slot
 swept_few v w clock slot alarms s = let f = few s.visits in let n = s.as_many in let e : length alarms ≡ length (filter_map gave s.visits) = ap length s.alarms_are in omega arith
@@ -213,14 +221,14 @@ pub cancel_did : (v w : SeatView) (slot : ℕ) (alarm : Alarm) → WasCancelled 
 cancel_did v w slot alarm t = own_by v w (record v.own { cancelled = v.own.cancelled ++ alarm ∷ [] }) t.1.did t.1.member
 
 pub cancel_not : (v w : SeatView) (slot : ℕ) (alarm : Alarm) → FoundOther v slot (Some alarm) w → CancelledNow v slot alarm false w
-cancel_not v w slot alarm (stood, o, ne) = (stood, o.at, ne, o.made.adds)
+cancel_not v w slot alarm (other, o, ne) = (other, o.at, ne, o.made.adds)
 
 pub cancel_nothing : (v w : SeatView) (slot : ℕ) (alarm : Alarm) → FoundOther v slot (Some alarm) w → DidNothing v w
-cancel_nothing v w slot alarm (stood, o, ne) = looked_own v w _ _ o
+cancel_nothing v w slot alarm (other, o, ne) = looked_own v w _ _ o
 
 -- the words of a load that found no alarm that is due
-pub not_due_none : (clock : ℕ) (stood : Option Alarm) (m : Moment Reading) → stood ≡ None → Goes clock (stays stood m)
-not_due_none clock stood m e = subst (λ (z : Option Alarm). Goes clock (stays z m)) (sym e) tt
+pub not_due_none : (clock : ℕ) (stood : Option Alarm) → stood ≡ None → IsNotDue clock stood
+not_due_none clock stood e = subst (IsNotDue clock) (sym e) tt
 
-pub not_due_some : (clock : ℕ) (stood : Option Alarm) (m : Moment Reading) (alarm : Alarm) → stood ≡ Some alarm → clock < alarm.due → Goes clock (stays stood m)
-not_due_some clock stood m alarm e late = subst (λ (z : Option Alarm). Goes clock (stays z m)) (sym e) late
+pub not_due_some : (clock : ℕ) (stood : Option Alarm) (alarm : Alarm) → stood ≡ Some alarm → clock < alarm.due → IsNotDue clock stood
+not_due_some clock stood alarm e late = subst (IsNotDue clock) (sym e) late

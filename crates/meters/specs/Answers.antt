@@ -1,5 +1,5 @@
 -- What the calls answer: the entries that they added, all of them, and how their numbers compare.
-use Rattle.std.specs.Prelude.{◌≡◌, ◌≢◌, ◌+◌, ◌<◌, ◌≤◌, ℕ, Bool, true, false, List, [], ◌∷◌, ◌++◌, length, filter_map}
+use Rattle.std.specs.Prelude.{◌≡◌, ◌≢◌, ◌⊎◌, ◌+◌, ◌<◌, ◌≤◌, ℕ, Bool, true, false, List, [], ◌∷◌, ◌++◌, length, filter_map}
 use Rattle.std.specs.Prelude.{Option, Some, None}
 use Rattle.std.specs.List.{AllByRecursion}
 use Rattle.event_theory.specs.declared.alarm.Alarm.{Alarm}
@@ -12,7 +12,7 @@ use Rattle.meters.specs.declared.gauges.AdvanceRefusal.TheVariants as not_advanc
 use Rattle.meters.specs.declared.rule.Reading.{Reading}
 use Rattle.meters.specs.Changes.{with_tick, with_advance, with_alarm, with_fired, with_cancelled}
 use Rattle.meters.specs.Own.{SeatView}
-use Rattle.meters.specs.Words.{gauge_word, clock_word, slot_word, word_of}
+use Rattle.meters.specs.Words.{gauge_word, clock_word, slot_word, word_of, alarm_in}
 
 -- the gauge was found at this number, and ticked
 abbrev pub Ticked : SeatView → ℕ → ℕ → ℕ → SeatView → Type 0
@@ -31,58 +31,60 @@ NotAdvanced v not_advanced.Spent w = (m : Moment Reading) × Adds v (load clock_
 NotAdvanced v (not_advanced.Lost clock) w = (was : ℕ) × (m n : Moment Reading) × (was < clock)
     × Adds v (load clock_word was m ∷ load clock_word clock n ∷ []) w
 
--- an alarm that was found in a slot, and when
-abbrev pub Found : Type 0
-Found = Alarm × Moment Reading
+-- numbers that were found in slots, each at its moment
+abbrev pub Scanned : Type 0
+Scanned = List (ℕ × Moment Reading)
 
--- the slots from this one on were loaded, in order, and each had an alarm
-abbrev pub scan : ℕ → List Found → List (Step Reading)
+-- the slots from this one on were loaded, in order
+abbrev pub scan : ℕ → Scanned → List (Step Reading)
 scan slot [] = []
-scan slot (found ∷ more) = load (slot_word slot) (word_of (Some found.0)) found.1 ∷ scan (slot + 1) more
+scan slot (found ∷ more) = load (slot_word slot) found.0 found.1 ∷ scan (slot + 1) more
+
+-- each of them had an alarm
+abbrev pub AreTaken : Scanned → Type 0
+AreTaken scanned = AllByRecursion (λ found. 0 < found.0) scanned
 
 -- the slots before this one were found taken, this one empty, and then the alarm was set in it
 abbrev pub SetNow : SeatView → ℕ → Alarm → SeatView → Type 0
-SetNow v slot alarm w = (taken : List Found) × (m n : Moment Reading) × (length taken ≡ slot) × (slot < 16)
+SetNow v slot alarm w = (taken : Scanned) × (m n : Moment Reading) × (length taken ≡ slot) × (slot < 16) × AreTaken taken
     × Adds v (scan 0 taken
     ++ load (slot_word slot) 0 m ∷ change (slot_word slot) 0 n (with_alarm n.object slot alarm) ∷ []) w
 
 -- Why an alarm was not set. NoRoom: all 16 slots were found taken. Lost: those before this one were found taken, this
 -- one empty, but the exchange found an alarm in it
 abbrev pub NotSet : SeatView → SetRefusal → SeatView → Type 0
-NotSet v not_set.NoRoom w = (taken : List Found) × (length taken ≡ 16) × Adds v (scan 0 taken) w
-NotSet v (not_set.Lost slot) w = (taken : List Found) × (m n : Moment Reading) × (other : Alarm)
-    × (length taken ≡ slot) × (slot < 16)
-    × Adds v (scan 0 taken
-    ++ load (slot_word slot) 0 m ∷ load (slot_word slot) (word_of (Some other)) n ∷ []) w
+NotSet v not_set.NoRoom w =
+    (taken : Scanned) × (length taken ≡ 16) × AreTaken taken × Adds v (scan 0 taken) w
+NotSet v (not_set.Lost slot) w = (taken : Scanned) × (other : ℕ) × (m n : Moment Reading)
+    × (length taken ≡ slot) × (slot < 16) × AreTaken taken × (0 < other)
+    × Adds v (scan 0 taken ++ load (slot_word slot) 0 m ∷ load (slot_word slot) other n ∷ []) w
 
--- the alarm was found in the slot and cancelled, or something else was found there, or nothing
+-- the alarm was found in the slot and cancelled, or another number was found there
 abbrev pub CancelledNow : SeatView → ℕ → Alarm → Bool → SeatView → Type 0
 CancelledNow v slot alarm true w = (m : Moment Reading)
     × Adds v (change (slot_word slot) (word_of (Some alarm)) m (with_cancelled m.object slot alarm) ∷ []) w
-CancelledNow v slot alarm false w = (stood : Option Alarm) × (m : Moment Reading) × (stood ≢ Some alarm)
-    × Adds v (load (slot_word slot) (word_of stood) m ∷ []) w
+CancelledNow v slot alarm false w = (other : ℕ) × (m : Moment Reading) × (other ≢ word_of (Some alarm))
+    × Adds v (load (slot_word slot) other m ∷ []) w
 
--- What `due` finds in a slot: what stands there is not due, or an alarm is due and is fired, or it is due but then
--- something else stands there
+-- What `due` finds in a slot: no alarm, or one that is not due; one that is due, and is fired; or one that is due, but
+-- then another number
 pub data Visit : Type 0 where
-  stays : Option Alarm → Moment Reading → Visit
+  stays : ℕ → Moment Reading → Visit
   goes : Alarm → Moment Reading → Moment Reading → Visit
-  went : Alarm → Moment Reading → Option Alarm → Moment Reading → Visit
+  went : ℕ → Moment Reading → ℕ → Moment Reading → Visit
 
 -- the entries of a visit of this slot
 abbrev pub entries_of : ℕ → Visit → List (Step Reading)
-entries_of slot (stays stood m) = load (slot_word slot) (word_of stood) m ∷ []
+entries_of slot (stays found m) = load (slot_word slot) found m ∷ []
 entries_of slot (goes alarm m n) = load (slot_word slot) (word_of (Some alarm)) m
     ∷ change (slot_word slot) (word_of (Some alarm)) n (with_fired n.object slot alarm) ∷ []
-entries_of slot (went alarm m stood n) = load (slot_word slot) (word_of (Some alarm)) m
-    ∷ load (slot_word slot) (word_of stood) n ∷ []
+entries_of slot (went found m other n) = load (slot_word slot) found m ∷ load (slot_word slot) other n ∷ []
 
--- whether the alarm was due at this clock
-abbrev pub Goes : ℕ → Visit → Type 0
-Goes clock (stays None m) = Unit {0}
-Goes clock (stays (Some alarm) m) = clock < alarm.due
-Goes clock (goes alarm m n) = alarm.due ≤ clock
-Goes clock (went alarm m stood n) = (alarm.due ≤ clock) × (stood ≢ Some alarm)
+-- how its numbers compare with the clock
+abbrev pub IsVisit : ℕ → Visit → Type 0
+IsVisit clock (stays found m) = (found ≡ 0) ⊎ (clock < (alarm_in found).due)
+IsVisit clock (goes alarm m n) = alarm.due ≤ clock
+IsVisit clock (went found m other n) = (0 < found) × ((alarm_in found).due ≤ clock) × (other ≢ found)
 
 -- the entries of visits of the slots from this one on, in order
 abbrev pub tour : ℕ → List Visit → List (Step Reading)
@@ -90,12 +92,12 @@ tour slot [] = []
 tour slot (visit ∷ visits) = entries_of slot visit ++ tour (slot + 1) visits
 
 abbrev pub gave : Visit → Option Alarm
-gave (stays stood m) = None
+gave (stays found m) = None
 gave (goes alarm m n) = Some alarm
-gave (went alarm m stood n) = None
+gave (went found m other n) = None
 
 -- The clock was loaded, and then all 16 slots were visited, in order. The alarms are those that were fired
 abbrev pub FiredNow : SeatView → List Alarm → SeatView → Type 0
 FiredNow v alarms w = (clock : ℕ) × (m : Moment Reading) × (visits : List Visit) × (length visits ≡ 16)
-    × AllByRecursion (Goes clock) visits × (alarms ≡ filter_map gave visits)
+    × AllByRecursion (IsVisit clock) visits × (alarms ≡ filter_map gave visits)
     × Adds v (load clock_word clock m ∷ tour 0 visits) w

@@ -9,8 +9,8 @@ use Rattle.meters.specs.declared.rule.Reading.{Reading}
 use Rattle.meters.specs.Changes.{with_tick, with_advance, with_alarm, with_fired, with_cancelled}
 use Rattle.meters.specs.Own.{SeatView, of_meters}
 use Rattle.meters.specs.Views.{IsPart}
-use Rattle.meters.specs.Words.{ends_word, gauge_word, clock_word, slot_word, IsInRange, word_of}
-use Rattle.meters.specs.Answers.{Visit, entries_of, Goes, gave}
+use Rattle.meters.specs.Words.{ends_word, gauge_word, clock_word, slot_word, IsInRange, word_of, Fits}
+use Rattle.meters.specs.Answers.{Visit, entries_of, IsVisit, gave}
 
 -- the gauge was found at this number, and ticked
 abbrev pub WasTicked : SeatView → ℕ → ℕ → ℕ → SeatView → Type 0
@@ -76,17 +76,18 @@ cancels st m r m' = Stays of_meters m m'
 abbrev pub counts_down : Step Unit → Me Unit SeatView → ℕ → Me Unit SeatView → Type 0
 counts_down st m r m' = Stays of_meters m m' × CountedDown ends_word m.0 m'.0 × IsPart m'.0
 
--- a slot's word was found, and this stood in the slot
-abbrev pub FoundIn : SeatView → ℕ → Option Alarm → SeatView → Type 0
-FoundIn v slot stood w = Looked v (slot_word slot) (word_of stood) w
+-- a slot's word was found, which says this
+pub record FoundIn (v : SeatView) (slot : ℕ) (stood : Option Alarm) (w : SeatView) : Type 0 where
+  pub looked : Looked v (slot_word slot) (word_of stood) w
+  pub fits : Fits stood
 
--- the same, and something else than this
+-- another number than the word of this was found in the slot
 abbrev pub FoundOther : SeatView → ℕ → Option Alarm → SeatView → Type 0
-FoundOther v slot other w = (stood : Option Alarm) × FoundIn v slot stood w × (stood ≢ other)
+FoundOther v slot other w = (found : ℕ) × Looked v (slot_word slot) found w × (found ≢ word_of other)
 
 -- one slot was visited, and gave this
 pub record Gave (v : SeatView) (clock slot : ℕ) (alarm : Option Alarm) (w : SeatView) : Type 0 where
   pub visit : Visit
   pub alarm_is : alarm ≡ gave visit
-  pub fits : Goes clock visit
+  pub fits : IsVisit clock visit
   pub made : Made v (entries_of slot visit) (record v.own { fired = v.own.fired ++ filter_map gave (visit ∷ []) }) w

@@ -40,6 +40,7 @@ mod between;
 mod close;
 mod ends;
 mod gauges;
+pub mod laws;
 mod plays;
 mod rule;
 mod steps;

@@ -1,14 +1,13 @@
 -- The events of the core that the steps are.
-use Rattle.std.proofs.Common.{◌≡◌, ◌≢◌, ℕ, zero, suc, ◌+◌, ◌%◌, ◌<◌, ◌≤◌, Bool, true, false, cond, List, [], ◌∷◌, ◌++◌, length, length-set, set, get_or, refl, sym, ap, ◌∙◌, arith, Option, Some, None, Ok, slice_get, ok_or, eqb, ltb, ne_eqb, lt-ltb, count_by, position}
+use Rattle.std.proofs.Common.{◌≡◌, ◌≢◌, ℕ, zero, suc, ◌+◌, ◌%◌, ◌<◌, Bool, true, false, cond, List, [], ◌∷◌, length, length-set, set, get_or, refl, sym, ap, ◌∙◌, arith, Option, Some, None, Ok, slice_get, ok_or, ltb, ne_eqb, lt-ltb, count_by, position}
 use Rattle.std.specs.List.{position_or_len}
 use Rattle.std.proofs.lemmas.List.Sums.{sum_by-set, passes_at_first}
 use Rattle.event_theory.specs.declared.alarm.Alarm.{Alarm}
 use Rattle.event_theory.specs.declared.refusal.Refusal.TheVariants.{UnknownName, Full, NotRaised}
-use Rattle.event_theory.specs.Meters.{Meters, tick, advance, set_alarm, fire, cancel, is_empty, standing}
+use Rattle.event_theory.specs.Meters.{Meters, tick, advance, fire, cancel, is_empty, standing}
 use Rattle.event_theory.specs.Lawful.{IsLawfulMeters, is_alarm, stands}
-use Rattle.event_theory.specs.Results.{◌>>=◌, refused_if, change_at}
+use Rattle.event_theory.specs.Results.{◌>>=◌, refused_if}
 use Rattle.event_theory.proofs.Keeping.Meters.{tick_law, advance_law, set_alarm_law, fire_law, cancel_law}
-use Rattle.event_theory.proofs.Lists.Inversions.{then_ok, test_ok, given_ok}
 use Rattle.meters.specs.declared.rule.Reading.{Reading}
 use Rattle.meters.specs.Changes.{meters_of, IsLawful, in_slot, with_tick, with_advance, with_alarm, with_fired, with_cancelled}
 use Rattle.meters.specs.Events.{AreAlike, IsSet}

@@ -1,5 +1,5 @@
 -- What a word that was found says.
-use Rattle.std.proofs.Common.{◌≡◌, ◌≢◌, ℕ, ◌<◌, eqb, refl, sym, ap, ◌∙◌, subst, IsFalse, Option, Some, None}
+use Rattle.std.proofs.Common.{◌≡◌, ◌≢◌, ℕ, ◌<◌, eqb, sym, ap, ◌∙◌, subst, IsFalse, Option}
 use Rattle.std.proofs.lemmas.Bool.{eqb-false}
 use Rattle.event_theory.specs.declared.alarm.Alarm.{Alarm}
 use Rattle.table_theory.specs.Ledgers.{IsHonest, Looked}

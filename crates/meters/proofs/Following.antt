@@ -8,20 +8,20 @@ use Rattle.std.specs.Option.{is_some}
 use Rattle.event_theory.specs.declared.alarm.Alarm.{Alarm}
 use Rattle.table_theory.specs.declared.views.Moment.{Moment}
 use Rattle.table_theory.specs.declared.views.Part.{Part}
-use Rattle.table_theory.specs.Ledgers.{Step, load, change, IsHonest, Adds, Made, Looked}
+use Rattle.table_theory.specs.Ledgers.{Step, load, change, IsHonest, Made, Looked}
 use Rattle.table_theory.proofs.Reaching.{adds_on, all_on}
 use Rattle.table_theory.proofs.Parting.{made_none, made_on}
 use Rattle.meters.specs.declared.rule.Did.{Did}
 use Rattle.meters.specs.declared.rule.Reading.{Reading}
 use Rattle.meters.specs.Changes.{with_alarm, with_fired}
-use Rattle.meters.specs.Own.{SeatView, Own, own_of, of_meters, DidNothing, DidTick, DidAdvance, DidSet, DidCancel, DidFire}
+use Rattle.meters.specs.Own.{SeatView, own_of, of_meters, DidNothing, DidTick, DidAdvance, DidSet, DidCancel, DidFire}
 use Rattle.meters.specs.Words.{clock_word, slot_word, word_of, alarm_in, Fits}
 use Rattle.meters.specs.Steps.{WasTicked, WasAdvanced, WasSet, WasFired, WasCancelled, FoundIn, FoundOther, Gave}
 use Rattle.meters.specs.Answers.{Ticked, AdvancedNow, NotAdvanced, Scanned, scan, AreTaken, SetNow, NotSet, CancelledNow, Visit, stays, goes, went, entries_of, IsVisit, tour, gave, FiredNow}
 use Rattle.meters.specs.declared.alarms.SetRefusal.TheVariants as not_set
 use Rattle.meters.specs.declared.gauges.AdvanceRefusal.TheVariants as not_advanced
 use Rattle.meters.proofs.Codes.{given_back}
-use Rattle.meters.proofs.Clocks.{clock_found, clock_seen}
+use Rattle.meters.proofs.Clocks.{clock_seen}
 
 -- what an end is that did this, and is among the ends as it was
 pub own_by : (v w : SeatView) (own : Did) → w.own ≡ own → w.member ≡ v.member → own_of w ≡ own_of (record v { own = own })

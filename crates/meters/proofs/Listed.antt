@@ -3,9 +3,9 @@ use Rattle.std.proofs.Common.{◌≡◌, ◌≢◌, ℕ, ◌+◌, ◌%◌, ◌<�
 use mathlib.Core.Logic.{dite}
 use native.Mathlib.Decide.{ℕ_discrete}
 use Rattle.std.proofs.lemmas.List.Sums.{sum_by_push, sum_by-append}
-use mathlib.Core.Option.{some, some-ne-none}
+use mathlib.Core.Option.{some}
 use lib.ListN.{get_elem?}
-use Rattle.atomic_table.proofs.Lists.{at_set, at_snoc, set_else}
+use Rattle.atomic_table.proofs.Lists.{set_else}
 use Rattle.event_theory.specs.declared.alarm.Alarm.{Alarm}
 use Rattle.event_theory.specs.Lawful.{is_alarm}
 use Rattle.table_theory.specs.Sharing.{total}

@@ -7,7 +7,7 @@ use Rattle.table_theory.specs.Ledgers.{opened}
 use Rattle.table_theory.proofs.Ledgers.{true_first}
 use Rattle.meters.specs.declared.rule.Shape.{Shape}
 use Rattle.meters.specs.Changes.{first_reading}
-use Rattle.meters.specs.Own.{SeatView, of_meters, nothing_did, did_both}
+use Rattle.meters.specs.Own.{of_meters, nothing_did, did_both}
 use Rattle.meters.specs.Words.{word_of, Fits, WordsShow}
 use Rattle.meters.specs.Rules.{Rule, newcomer}
 

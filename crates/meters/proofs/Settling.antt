@@ -1,5 +1,5 @@
 -- What closing reads and tells.
-use Rattle.std.proofs.Common.{◌≡◌, ◌≢◌, ℕ, suc, zero, ◌+◌, ◌-◌, ◌%◌, ◌<◌, ◌≤◌, cond, List, [], ◌∷◌, ◌++◌, take, drop, length, length-drop, length-take, get_or, get_or-drop, get_or-take, get_or-set_same, get_or-set_other, take-suc, set, ⊎_elim, sym, refl, ap, ◌∙◌, subst, arith, Option, Some, None, count_by}
+use Rattle.std.proofs.Common.{◌≡◌, ◌≢◌, ℕ, suc, zero, ◌+◌, ◌%◌, ◌<◌, ◌≤◌, cond, List, [], ◌∷◌, ◌++◌, take, drop, length, length-drop, length-take, get_or, get_or-drop, get_or-take, get_or-set_same, get_or-set_other, take-suc, set, sym, refl, ap, ◌∙◌, subst, arith, Option, Some, None, count_by}
 use Rattle.std.proofs.lemmas.Grind.{same_number_lists}
 use Rattle.std.proofs.lemmas.List.Elements.{filter_map-append}
 use Rattle.std.proofs.lemmas.List.Sums.{sum_by-cons}
@@ -9,13 +9,11 @@ use mathlib.Core.Logic.{dite}
 use native.Mathlib.Decide.{ℕ_discrete}
 use lib.ListN.{get_elem?}
 use Rattle.atomic_table.specs.Table.{Final, Seen}
-use Rattle.atomic_table.proofs.Lists.{at_snoc}
 use Rattle.event_theory.specs.declared.alarm.Alarm.{Alarm}
 use Rattle.event_theory.specs.Lawful.{is_alarm, stands}
 use Rattle.table_theory.specs.Sharing.{IsWhole}
-use Rattle.table_theory.specs.declared.views.Moment.{Moment}
 use Rattle.table_theory.specs.declared.views.Part.{Part}
-use Rattle.table_theory.specs.Ledgers.{Tallied, IsHonest, Reaches}
+use Rattle.table_theory.specs.Ledgers.{Tallied, IsHonest}
 use Rattle.table_theory.proofs.Ledgers.{seen_leads}
 use Rattle.table_theory.proofs.Reaching.{reaches_on, reaches_since}
 use Rattle.table_theory.proofs.Standing.{rest_spent, number_is}
@@ -100,7 +98,7 @@ closes key v w found id ws xs gauges clock alarms one_end true_v true_w t is fin
       listed = listed;
       sole = one;
       joined = (let b = k.true_ends.ends.balanced in let x = sole_total (λ (u : SeatView). u.member.splits) s.views id w at (λ i u has ne. (idle i u has ne).splits) in let y = sole_total (λ (u : SeatView). u.member.joins) s.views id w at (λ i u has ne. (idle i u has ne).joins) in
-      let a : w.member.splits ≡ v.member.splits = ap (λ (z : Part). z.splits) t.made.member in let c : w.member.joins ≡ v.member.joins = ap (λ (z : Part). z.joins) t.made.member in omega arith);
+          let a : w.member.splits ≡ v.member.splits = ap (λ (z : Part). z.splits) t.made.member in let c : w.member.joins ≡ v.member.joins = ap (λ (z : Part). z.joins) t.made.member in omega arith);
       gauges_are = gauges_is;
       clock_is = clock_is;
       alarms_are = alarms_is;

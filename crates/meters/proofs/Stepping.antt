@@ -7,10 +7,8 @@ use prog.Atomic.{either}
 use Rattle.atomic_table.specs.Table.{State, Me, Act, step, stepped, keeps, Valid, carried_after, Allows}
 use Rattle.atomic_table.proofs.Lists.{exchanged}
 use Rattle.event_theory.specs.declared.alarm.Alarm.{Alarm}
-use Rattle.table_theory.specs.declared.views.Moment.{Moment}
-use Rattle.table_theory.specs.declared.views.Part.{Part}
-use Rattle.table_theory.specs.Ledgers.{Step, load, change, IsReal, IsHonest, Adds, Made, Looked, EndsStand, stays, event}
-use Rattle.table_theory.specs.Plays.{Stays, finds}
+use Rattle.table_theory.specs.Ledgers.{Step, load, change, IsReal, IsHonest, Made, Looked, stays, event}
+use Rattle.table_theory.specs.Plays.{finds}
 use Rattle.table_theory.proofs.Ledgers.{steps_to, after, adds_step, true_after, true_step, seen_leads}
 use Rattle.table_theory.proofs.Standing.{stand_same}
 use Rattle.meters.specs.declared.rule.Did.{Did}

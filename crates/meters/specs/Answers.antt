@@ -1,6 +1,6 @@
 -- What the calls answer: the entries that they added, all of them, and how their numbers compare.
-use Rattle.std.specs.Prelude.{◌≡◌, ◌≢◌, ◌⊎◌, ◌+◌, ◌<◌, ◌≤◌, ℕ, Bool, true, false, List, [], ◌∷◌, ◌++◌, length, filter_map}
-use Rattle.std.specs.Prelude.{Option, Some, None}
+use Rattle.std.specs.Prelude.{◌≡◌, ◌≢◌, ◌⊎◌, ◌+◌, ◌<◌, ◌≤◌, ℕ, Bool, true, false, List, [], ◌∷◌, ◌++◌, length}
+use Rattle.std.specs.Prelude.{filter_map, Option, Some, None}
 use Rattle.std.specs.List.{AllByRecursion}
 use Rattle.event_theory.specs.declared.alarm.Alarm.{Alarm}
 use Rattle.table_theory.specs.declared.views.Moment.{Moment}
@@ -24,8 +24,8 @@ abbrev pub AdvancedNow : SeatView → ℕ → SeatView → Type 0
 AdvancedNow v clock w = (was : ℕ) × (m n : Moment Reading) × (clock ≡ was + 1)
     × Adds v (load clock_word was m ∷ change clock_word was n (with_advance n.object) ∷ []) w
 
--- Why the clock was not moved on. Spent: it was loaded, and is the last tick. Lost: it was loaded, but the exchange found
--- another, past the one loaded
+-- Why the clock was not moved on. Spent: it was loaded, and is the last tick. Lost: it was loaded, but the exchange
+-- found another, past the one loaded
 abbrev pub NotAdvanced : SeatView → AdvanceRefusal → SeatView → Type 0
 NotAdvanced v not_advanced.Spent w = (m : Moment Reading) × Adds v (load clock_word 4294967295 m ∷ []) w
 NotAdvanced v (not_advanced.Lost clock) w = (was : ℕ) × (m n : Moment Reading) × (was < clock)
@@ -46,7 +46,8 @@ AreTaken scanned = AllByRecursion (λ found. 0 < found.0) scanned
 
 -- the slots before this one were found taken, this one empty, and then the alarm was set in it
 abbrev pub SetNow : SeatView → ℕ → Alarm → SeatView → Type 0
-SetNow v slot alarm w = (taken : Scanned) × (m n : Moment Reading) × (length taken ≡ slot) × (slot < 16) × AreTaken taken
+SetNow v slot alarm w = (taken : Scanned) × (m n : Moment Reading)
+    × (length taken ≡ slot) × (slot < 16) × AreTaken taken
     × Adds v (scan 0 taken
     ++ load (slot_word slot) 0 m ∷ change (slot_word slot) 0 n (with_alarm n.object slot alarm) ∷ []) w
 

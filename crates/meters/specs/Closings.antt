@@ -20,8 +20,8 @@ pub record IsAllOf (v : SeatView) (first : ℕ) (gauges : List ℕ) (clock : ℕ
   pub once : (alarm : Alarm)
       → times alarm v.own.set ≡ times alarm v.own.fired + times alarm v.own.cancelled + times alarm alarms
 
--- The meters are closed, by an end that has the whole and so lists all of them, and each split was joined: these are the
--- gauges, the clock and the alarms that stand at the end
+-- The meters are closed, by an end that has the whole and so lists all of them, and each split was joined: these are
+-- the gauges, the clock and the alarms that stand at the end
 pub record ClosedNow (first : ℕ) (v : SeatView) (gauges : List ℕ) (clock : ℕ) (alarms : List Alarm) : Type 0 where
   pub whole : IsWhole v.member.share
   pub last : Moment Reading

@@ -1,9 +1,9 @@
 -- What each step tells its end: its entry, and what the end has done then.
-use Rattle.std.specs.Prelude.{◌≡◌, ◌≢◌, ◌+◌, ◌<◌, ◌≤◌, ℕ, List, [], ◌∷◌, ◌++◌, Option, Some, None, filter_map}
+use Rattle.std.specs.Prelude.{◌≡◌, ◌≢◌, ◌+◌, ℕ, [], ◌∷◌, ◌++◌, Option, Some, filter_map}
 use Rattle.event_theory.specs.declared.alarm.Alarm.{Alarm}
 use Rattle.atomic_table.specs.Table.{Me, Step}
 use Rattle.table_theory.specs.declared.views.Moment.{Moment}
-use Rattle.table_theory.specs.Ledgers.{load, change, Looked, Made, CountedDown}
+use Rattle.table_theory.specs.Ledgers.{change, Looked, Made, CountedDown}
 use Rattle.table_theory.specs.Plays.{Stays}
 use Rattle.meters.specs.declared.rule.Reading.{Reading}
 use Rattle.meters.specs.Changes.{with_tick, with_advance, with_alarm, with_fired, with_cancelled}

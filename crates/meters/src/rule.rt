@@ -28,7 +28,8 @@ pub struct Reading {
     pub cancelled: LinkedList<Alarm>,
 }
 
-/// What an end did: its ticks, the ticks that it moved the clock on to, and the alarms that it set, fired and cancelled.
+/// What an end did: its ticks, the ticks that it moved the clock on to, and the alarms that it set, fired and
+/// cancelled. Proofs alone speak of it.
 pub struct Did {
     pub ticks: LinkedList<Tick>,
     pub advances: LinkedList<u64>,

@@ -1,7 +1,8 @@
 //! The atomic steps, one function for each kind.
 ghost use Rattle.std.specs.Prelude.{◌≡◌, ◌≢◌, ◌+◌, ◌<◌, ◌≤◌, [], IsTrue, IsFalse, Some, None};
 ghost use Rattle.table_theory.specs.Seating.{IsSame};
-ghost use Rattle.table_theory.specs.Ledgers.{IsHonest, Looked, CountedUp, CountedDown, Tallied, rest_of, newborn, both, emptied};
+ghost use Rattle.table_theory.specs.Ledgers.{IsHonest, Looked, CountedUp, CountedDown, Tallied};
+ghost use Rattle.table_theory.specs.Ledgers.{rest_of, newborn, both, emptied};
 ghost use Rattle.meters.specs.Own.{of_meters, nothing_did, did_both};
 ghost use Rattle.meters.specs.Steps.{WasTicked, WasAdvanced, WasSet, WasFired, WasCancelled, FoundIn, FoundOther};
 ghost use Rattle.meters.specs.Views.{IsPart};
@@ -179,7 +180,8 @@ pub(crate) fn split_off(words: &Words, seat: &mut Seat<(), View>) -> Seat<(), Vi
     requires seat { (seat.old.table_id ≡ words.now.table_id) × (26 ≤ words.now.table_id.words) }
     requires two { seat.old.me.0.member.ends ≡ 2 }
     ensures seat { IsSame seat.old seat.new × (result.table_id ≡ seat.old.table_id) }
-    ensures split { (seat.new.me ≡ (rest_of seat.old.me.0, seat.old.me.1)) × (result.me ≡ (newborn nothing_did seat.old.me.0, [])) }
+    ensures split { (seat.new.me ≡ (rest_of seat.old.me.0, seat.old.me.1))
+        × (result.me ≡ (newborn nothing_did seat.old.me.0, [])) }
 {
     words.split_seat::<Gives>(seat)
 }

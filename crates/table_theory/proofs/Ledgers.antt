@@ -1,19 +1,17 @@
 -- The ends' ledgers stay true, through each step, a split and a join, and each step tells its end what it says.
-use Rattle.std.proofs.Common.{◌≡◌, ◌≢◌, ℕ, ◌+◌, ◌-◌, ◌%◌, ◌≤◌, ◌<◌, Bool, true, false, List, [], ◌∷◌, ◌++◌, map, length, set, sym, refl, ap, ◌∙◌, subst, arith, ⊎_elim}
+use Rattle.std.proofs.Common.{◌≡◌, ◌≢◌, ℕ, ◌≤◌, Bool, true, false, List, [], ◌∷◌, ◌++◌, map, length, set, sym, refl, ap, ◌∙◌, subst, ⊎_elim}
 use Rattle.std.specs.Prelude.{if◌then◌else◌, nat_lt}
-use Rattle.std.proofs.lemmas.List.{append_assoc, append-nil}
+use Rattle.std.proofs.lemmas.List.{append_assoc}
 use Rattle.std.specs.List.{AllByRecursion}
-use mathlib.Core.Option.{some, some-injective, some-ne-none}
+use mathlib.Core.Option.{some, some-ne-none}
 use lib.ListN.{get_elem?}
-use Rattle.table_theory.specs.declared.views.Entry.{Entry}
 use Rattle.table_theory.specs.declared.views.Moment.{Moment}
 use Rattle.table_theory.specs.declared.views.Part.{Part}
 use Rattle.table_theory.specs.declared.views.Ledger.{Ledger}
-use Rattle.table_theory.specs.Courses.{Continues, IsCourse}
+use Rattle.table_theory.specs.Courses.{Continues}
 use Rattle.table_theory.specs.Filing.{entry_of}
 use Rattle.table_theory.specs.Ends.{Begins}
-use Rattle.table_theory.specs.Sharing.{IsWhole, kept}
-use Rattle.table_theory.specs.Ledgers.{Subject, Step, IsReal, IsHonest, Reaches, Adds, opened, first_of, rest_of, newborn, by_later, both, emptied, IsIdle, EndsStand, AreTrue}
+use Rattle.table_theory.specs.Ledgers.{Subject, Step, IsReal, IsHonest, Reaches, Adds, opened, first_of, rest_of, newborn, both, emptied, EndsStand, AreTrue}
 use Rattle.table_theory.proofs.Courses.{course_step, course_split, course_join, course_first, step_entries, split_entries, join_entries, first_entries}
 use Rattle.table_theory.proofs.Ends.{begins_refl, begins_on}
 use Rattle.table_theory.proofs.Reaching.{all_on, all_before, all_behind, continues_on, continues_behind, continues_one, weaves_one}

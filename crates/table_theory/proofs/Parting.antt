@@ -1,12 +1,10 @@
 -- What the calls that split, join and close tell, by the steps that they are made of.
-use Rattle.std.proofs.Common.{◌≡◌, ◌≢◌, ℕ, ◌+◌, ◌-◌, ◌<◌, Bool, true, false, List, [], ◌∷◌, ◌++◌, sym, refl, ap, ◌∙◌, subst, arith}
+use Rattle.std.proofs.Common.{◌≡◌, ◌≢◌, ℕ, ◌+◌, ◌-◌, Bool, true, false, List, [], ◌++◌, sym, refl, ◌∙◌, subst, arith}
 use Rattle.std.specs.Prelude.{if◌then◌else◌, nat_lt, length}
-use Rattle.table_theory.specs.declared.views.Moment.{Moment}
-use Rattle.table_theory.specs.declared.views.Part.{Part}
 use Rattle.table_theory.specs.declared.views.Ledger.{Ledger}
 use Rattle.table_theory.specs.Ends.{Begins}
 use Rattle.table_theory.specs.Sharing.{kept, given}
-use Rattle.table_theory.specs.Ledgers.{Step, load, count_up, count_down, Adds, Made, CountedUp, CountedDown, Divided, IsNewborn, TookIn, Tallied, WereOpen, rest_of, newborn, both}
+use Rattle.table_theory.specs.Ledgers.{Step, Made, CountedUp, CountedDown, Divided, IsNewborn, TookIn, Tallied, WereOpen, rest_of, newborn, both}
 use Rattle.table_theory.proofs.Reaching.{adds_none, adds_on}
 
 module _ {K O : Type 0} where

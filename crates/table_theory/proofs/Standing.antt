@@ -1,10 +1,10 @@
 -- The ends that stand, through each step, a split and a join.
-use Rattle.std.proofs.Common.{◌≡◌, ◌≢◌, ℕ, ◌+◌, ◌-◌, ◌%◌, ◌≤◌, List, [], ◌∷◌, ◌++◌, set, sym, refl, ap, ◌∙◌, subst, arith}
+use Rattle.std.proofs.Common.{◌≡◌, ◌≢◌, ℕ, ◌+◌, ◌-◌, ◌%◌, ◌≤◌, List, [], ◌∷◌, ◌++◌, set, refl, ap, ◌∙◌, subst, arith}
 use mathlib.Core.Option.{some}
 use lib.ListN.{get_elem?}
 use Rattle.table_theory.specs.declared.views.Part.{Part}
 use Rattle.table_theory.specs.declared.views.Ledger.{Ledger}
-use Rattle.table_theory.specs.Sharing.{IsWhole, total, EndsCounted, IsCount}
+use Rattle.table_theory.specs.Sharing.{IsWhole, EndsCounted, IsCount}
 use Rattle.table_theory.specs.Ledgers.{IsIdle, EndsStand, rest_of, newborn, both, emptied, first_of}
 use Rattle.table_theory.proofs.Counting.{counted_look, counted_up, counted_down, counted_split, counted_join, counted_first, others_idle, count_found}
 use Rattle.table_theory.proofs.Totals.{total_set, total_push, total_kept}
@@ -35,20 +35,27 @@ module _ {K O : Type 0} (T : K) (plus : K → K → K) where
       → ((n + 1) % 18446744073709551616 ≡ n + 1) × EndsStand T (n + 1) (set vs j w)
   stand_up n vs j v w h at parts same = let y : ℕ = (n + 1) % 18446744073709551616 in let e : ends w ≡ ends v + 1 = ap (λ (z : Part). z.ends) same in
       let c : EndsCounted ends share (IsIdle T) y (set vs j w) = counted_up ends share (IsIdle T) n vs j v w h.counted at parts e (ap (λ (z : Part). z.share) same) in
-      let t = total_set ends vs j v w at in let old = h.counted.counted in let new = c.counted in let is : y ≡ n + 1 = omega arith in (is, record {
-        counted = subst (λ (z : ℕ). EndsCounted ends share (IsIdle T) z (set vs j w)) is c;
-        balanced = let x = h.balanced in let a = total_kept joins vs j v w at (ap (λ (z : Part). z.joins) same) in let b = total_set splits vs j v w at in let more : splits w ≡ splits v + 1 = ap (λ (z : Part). z.splits) same in omega arith;
-      })
+      let t = total_set ends vs j v w at in let old = h.counted.counted in let new = c.counted in let is : y ≡ n + 1 = omega arith in (
+        is,
+        record {
+          counted = subst (λ (z : ℕ). EndsCounted ends share (IsIdle T) z (set vs j w)) is c;
+          balanced = let x = h.balanced in let a = total_kept joins vs j v w at (ap (λ (z : Part). z.joins) same) in let b = total_set splits vs j v w at in let more : splits w ≡ splits v + 1 = ap (λ (z : Part). z.splits) same in omega arith;
+        },
+      )
 
   -- the number becomes one less
   pub stand_down : (n : ℕ) (vs : List (Ledger K O)) (j : ℕ) (v w : (Ledger K O)) → EndsStand T n vs → get_elem? vs j ≡ some v → 2 ≤ v.member.ends → w.member ≡ record v.member { ends = v.member.ends - 1; joins = v.member.joins + 1 }
       → ((n + (18446744073709551616 - 1)) % 18446744073709551616 ≡ n - 1) × (1 ≤ n) × EndsStand T (n - 1) (set vs j w)
   stand_down n vs j v w h at live same = let y : ℕ = (n + (18446744073709551616 - 1)) % 18446744073709551616 in let e : ends w ≡ ends v - 1 = ap (λ (z : Part). z.ends) same in
       let c : EndsCounted ends share (IsIdle T) y (set vs j w) = counted_down ends share (IsIdle T) n vs j v w h.counted at (omega arith) (omega arith) (ap (λ (z : Part). z.share) same) in
-      let t = total_set ends vs j v w at in let old = h.counted.counted in let new = c.counted in let more : y + 1 ≡ n = omega arith in let is : y ≡ n - 1 = omega arith in (is, (omega arith), record {
-        counted = subst (λ (z : ℕ). EndsCounted ends share (IsIdle T) z (set vs j w)) is c;
-        balanced = let x = h.balanced in let a = total_kept splits vs j v w at (ap (λ (z : Part). z.splits) same) in let b = total_set joins vs j v w at in let m : joins w ≡ joins v + 1 = ap (λ (z : Part). z.joins) same in omega arith;
-      })
+      let t = total_set ends vs j v w at in let old = h.counted.counted in let new = c.counted in let more : y + 1 ≡ n = omega arith in let is : y ≡ n - 1 = omega arith in (
+        is,
+        (omega arith),
+        record {
+          counted = subst (λ (z : ℕ). EndsCounted ends share (IsIdle T) z (set vs j w)) is c;
+          balanced = let x = h.balanced in let a = total_kept splits vs j v w at (ap (λ (z : Part). z.splits) same) in let b = total_set joins vs j v w at in let m : joins w ≡ joins v + 1 = ap (λ (z : Part). z.joins) same in omega arith;
+        },
+      )
 
   pub stand_split : (n : ℕ) (vs : List (Ledger K O)) (j : ℕ) (v : (Ledger K O)) → EndsStand T n vs → get_elem? vs j ≡ some v → v.member.ends ≡ 2 → EndsStand T n (set vs j (rest_of v) ++ newborn T v ∷ [])
   stand_split n vs j v h at two = let left : (Ledger K O) = rest_of v in let right : (Ledger K O) = newborn T v in let one : ends left ≡ 1 = omega arith in record {

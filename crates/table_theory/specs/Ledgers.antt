@@ -1,13 +1,12 @@
--- What the ends of an object know and do, whatever the object is: their steps, all in one order, and the steps that make,
--- split, join and count ends.
-use Rattle.std.specs.Prelude.{◌≡◌, ℕ, ◌+◌, ◌-◌, ◌<◌, ◌≤◌, nat_lt, if◌then◌else◌, List, [], ◌∷◌, ◌++◌, map, length}
+-- What the ends of an object know and do, whatever the object is: their steps, all in one order, and the steps that
+-- make, split, join and count ends.
+use Rattle.std.specs.Prelude.{◌≡◌, ℕ, ◌+◌, ◌-◌, ◌<◌, nat_lt, if◌then◌else◌, List, [], ◌∷◌, ◌++◌, map, length}
 use Rattle.std.specs.Prelude.{slice_index_or}
 use Rattle.std.specs.List.{AllByRecursion}
 use mathlib.Core.Option.{some}
 use lib.ListN.{get_elem?}
 use Rattle.table_theory.specs.declared.views.Entry.{Entry}
 use Rattle.table_theory.specs.declared.views.Moment.{Moment}
-use Rattle.table_theory.specs.declared.views.Part.{Part}
 use Rattle.table_theory.specs.declared.views.Ledger.{Ledger}
 use Rattle.table_theory.specs.Courses.{Continues, IsCourse}
 use Rattle.table_theory.specs.Ends.{Begins}
@@ -40,8 +39,8 @@ Weaves [] all = all ≡ []
 Weaves {O} (e ∷ own) all = (others : List (Step O)) × (rest : List (Step O)) × (all ≡ others ++ e ∷ rest)
     × Weaves own rest
 
--- These entries stand behind those of v in w. In the order of all ends' steps, w has seen what v had seen and then steps
--- among which are these, the last one last
+-- These entries stand behind those of v in w. In the order of all ends' steps, w has seen what v had seen, and then
+-- steps among which are these, the last one last
 pub record Adds {K O : Type 0} (v : Ledger K O) (entries : List (Step O)) (w : Ledger K O) : Type 0 where
   pub first : w.first ≡ v.first
   pub entries_are : w.steps ≡ v.steps ++ entries
@@ -49,8 +48,8 @@ pub record Adds {K O : Type 0} (v : Ledger K O) (entries : List (Step O)) (w : L
   pub course_is : w.course ≡ v.course ++ since
   pub own : Weaves entries since
 
--- What a table says of its objects: the word of the number of ends, what the other words show, which objects are lawful,
--- and what one event makes of one
+-- What a table says of its objects: the word of the number of ends, what the other words show, which objects are
+-- lawful, and what one event makes of one
 pub record Subject (O : Type 0) : Type 1 where
   pub ends_word : ℕ
   pub Shows : O → List ℕ → Type 0

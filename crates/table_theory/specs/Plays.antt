@@ -1,5 +1,5 @@
--- What the steps tell that every table has: a look at a word, and the steps on the number of ends. Each leaves the end's
--- list true, and what it holds as it was.
+-- What the steps tell that every table has: a look at a word, and the steps on the number of ends. Each leaves the
+-- end's list true, and what it holds as it was.
 use Rattle.std.specs.Prelude.{◌≡◌, ℕ}
 use Rattle.atomic_table.specs.Table.{Me, Step}
 use Rattle.table_theory.specs.declared.views.Ledger.{Ledger}

@@ -1,8 +1,6 @@
 use Rattle.std.proofs.Math.Logic.{∥∥₁_elim, ∥∥₁_map}
-use Rattle.std.proofs.Common.{ap}
-use Rattle.table_theory.specs.Ledgers.{IsHonest, Reaches}
+use Rattle.table_theory.specs.Ledgers.{IsHonest}
 use Rattle.table_theory.proofs.Reaching.{entries_real, reaches_since}
-use Rattle.meters.specs.declared.ends.MeterSeat.{MeterSeat}
 use Rattle.meters.specs.Own.{of_meters}
 use Rattle.meters.specs.Handles.{view_of}
 use Rattle.meters.proofs.Lawful.{reaches_lead, real_event, real_lawful}

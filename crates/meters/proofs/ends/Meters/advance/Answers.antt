@@ -1,5 +1,4 @@
-use Rattle.std.proofs.Common.{◌∙◌, sym}
-use Rattle.meters.proofs.Following.{lost_clock, spent_clock, look_nothing, two_looks, advanced_now, advance_did}
+use Rattle.meters.proofs.Following.{lost_clock, two_looks, advanced_now, advance_did}
 use Rattle.meters.proofs.ends.Meters.advance.Goals as goal
 
 pub returns-then-found-clock-clause-steps : goal.returns-then-found-clock-clause-steps

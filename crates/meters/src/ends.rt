@@ -54,7 +54,8 @@ impl Meters {
         Ok((Meters { table }, MeterSeat { seat }))
     }
 
-    /// A new end, which has done nothing. Both ends are to be joined again before the meters can be closed.
+    /// A new end, which has done nothing. Both ends are to be joined again before the meters can be closed. Besides the
+    /// step that counts it, the first word is loaded once, and what is found there is not used.
     ///
     /// Condition: the end has two parts or more of its meters' 2^64 - 1. The first end can be split two million
     /// times without a join, and each of those ends 43 times in a chain.
@@ -71,7 +72,8 @@ impl Meters {
         MeterSeat { seat: new }
     }
 
-    /// The first end then has all that both had: what they did, and their parts of the meters.
+    /// The first end then has all that both had: what they did, and their parts of the meters. Besides the step that
+    /// counts one end less, the first word is loaded once, and what is found there is not used.
     pub fn join(&self, seat: &mut MeterSeat, other: MeterSeat)
         requires { IsSeatOf self.now seat.old × IsSeatOf self.now other }
         ensures own { DidBoth (view_of seat.old) (view_of other) (view_of seat.new) }

@@ -167,7 +167,8 @@ pub record CountedDown {K O : Type 0} (word : ℕ) (v w : Ledger K O) : Type 0 w
   pub member : w.member ≡ record v.member { ends = v.member.ends - 1; joins = v.member.joins + 1 }
   pub joined : Begins v.joined w.course
 
--- The number of ends was found and made one more, and the end gave a part of its share away
+-- The number of ends was found and made one more, and the end gave a part of its share away. One load more, of the
+-- first word, stands in no list: by it the new end gets what the end knows
 pub record Divided {K O : Type 0} (word : ℕ) (v w : Ledger K O) : Type 0 where
   pub found : Moment O
   pub adds : Adds v (count_up word found ∷ []) w
@@ -178,7 +179,8 @@ pub record Divided {K O : Type 0} (word : ℕ) (v w : Ledger K O) : Type 0 where
 abbrev pub IsNewborn : {K O : Type 0} → K → Ledger K O → Ledger K O → Ledger K O → Type 0
 IsNewborn nothing old new born = born ≡ newborn nothing (record new { member = old.member })
 
--- The end has what both had; then the number of ends was found and made one less. It has seen what both had seen
+-- The end has what both had; then the number of ends was found and made one less. It has seen what both had seen. One
+-- load more, of the first word, stands in no list: by it the end gets what the other knows
 pub record TookIn {K O : Type 0} (plus : K → K → K) (word : ℕ) (v u w : Ledger K O) : Type 0 where
   pub found : Moment O
   pub adds : Adds (both plus v u) (count_down word found ∷ []) w

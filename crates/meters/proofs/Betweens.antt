@@ -4,10 +4,10 @@ use Rattle.std.proofs.lemmas.Grind.{same_number_lists}
 use Rattle.std.proofs.lemmas.List.{length-map, get_or-map}
 use Rattle.meters.specs.declared.rule.Reading.{Reading}
 use Rattle.meters.specs.declared.rule.Shape.{Shape}
-use Rattle.meters.specs.declared.rule.View.{View}
 use Rattle.atomic_table.specs.Table.{State}
 use Rattle.meters.specs.Between.{ShowsMeters}
 use Rattle.meters.specs.Changes.{meters_of}
+use Rattle.meters.specs.Own.{SeatView}
 use Rattle.meters.specs.Rules.{Rule}
 use Rattle.meters.specs.Layout.{word_of}
 use Rattle.meters.specs.Words.{WordsShow}
@@ -20,9 +20,9 @@ shown_alarms : (m : Reading) (words : List ℕ) → WordsShow m words → map wo
 shown_alarms m words h = let sixteen = h.slots.sixteen in let wide = h.wide in let d = length-drop 10 words in let l = length-map m.slots word_of in same_number_lists (map word_of m.slots) (drop 10 words) (omega arith)
     (λ k b. get_or-map word_of m.slots k None 0 (omega arith) ∙ (sym (h.slots.each k (omega arith)) ∙ sym (get_or-drop 10 words k 0)))
 
-pub shows_meters : (key : Shape) (s : State Unit View) → Rule key s → ShowsMeters key s
-shows_meters key s k = let m : Reading = k.meters in record {
-  now = m;
+pub shows_meters : (key : Shape) (s : State Unit SeatView) → Rule key s → ShowsMeters key s
+shows_meters key s k = let m : Reading = k.now.object in record {
+  now = k.now;
   meters = meters_of m;
   same = refl;
   lawful = k.lawful;
@@ -40,7 +40,6 @@ shows_meters key s k = let m : Reading = k.meters in record {
     cancelled = k.listed.cancelled;
     once = λ a. (let x = k.lawful a in let f = k.listed.set a in let g = k.listed.fired a in let h = k.listed.cancelled a in omega arith);
   };
-  seen = k.listed.later;
-  course = k.course;
-  ends = k.ends;
+  number = k.number;
+  true_ends = k.true_ends;
 }

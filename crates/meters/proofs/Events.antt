@@ -1,37 +1,21 @@
 -- The events of the core that the steps are.
-use Rattle.std.proofs.Common.{◌≡◌, ◌≢◌, ℕ, zero, suc, ◌+◌, ◌%◌, ◌<◌, ◌≤◌, Bool, true, false, cond, List, [], ◌∷◌, ◌++◌, length, length-set, set, get_or, refl, sym, ap, ◌∙◌, arith, Option, Some, None, Ok, slice_get, ok_or, eqb, ltb, ne_eqb, lt-ltb, count_by, position}
+use Rattle.std.proofs.Common.{◌≡◌, ◌≢◌, ℕ, zero, suc, ◌+◌, ◌%◌, ◌<◌, Bool, true, false, cond, List, [], ◌∷◌, length, length-set, set, get_or, refl, sym, ap, ◌∙◌, arith, Option, Some, None, Ok, slice_get, ok_or, ltb, ne_eqb, lt-ltb, count_by, position}
 use Rattle.std.specs.List.{position_or_len}
 use Rattle.std.proofs.lemmas.List.Sums.{sum_by-set, passes_at_first}
 use Rattle.event_theory.specs.declared.alarm.Alarm.{Alarm}
 use Rattle.event_theory.specs.declared.refusal.Refusal.TheVariants.{UnknownName, Full, NotRaised}
-use Rattle.event_theory.specs.Meters.{Meters, tick, advance, set_alarm, fire, cancel, is_empty, standing}
+use Rattle.event_theory.specs.Meters.{Meters, tick, advance, fire, cancel, is_empty, standing}
 use Rattle.event_theory.specs.Lawful.{IsLawfulMeters, is_alarm, stands}
-use Rattle.event_theory.specs.Results.{◌>>=◌, refused_if, change_at}
+use Rattle.event_theory.specs.Results.{◌>>=◌, refused_if}
 use Rattle.event_theory.proofs.Keeping.Meters.{tick_law, advance_law, set_alarm_law, fire_law, cancel_law}
-use Rattle.event_theory.proofs.Lists.Inversions.{then_ok, test_ok, given_ok}
 use Rattle.meters.specs.declared.rule.Reading.{Reading}
-use Rattle.meters.specs.Changes.{meters_of, IsLawful, in_slot, AreAlike, IsSet, Happens, ticked, advanced, was_set, fired, cancelled, Leads, here, further}
+use Rattle.meters.specs.Changes.{meters_of, IsLawful, in_slot, with_tick, with_advance, with_alarm, with_fired, with_cancelled}
+use Rattle.meters.specs.Events.{AreAlike, IsSet}
 
 pub got : {A : Type 0} (xs : List A) (i : ℕ) (d : A) → i < length xs → slice_get xs i ≡ Some (get_or xs i d)
 got [] i d h = absurd (omega arith)
 got (x ∷ xs) zero d h = refl
 got (x ∷ xs) (suc i) d h = got xs i d (omega arith)
-
--- the meters after each event
-abbrev pub with_tick : Reading → ℕ → ℕ → Reading
-with_tick m g n = record m { gauges = set m.gauges g ((get_or m.gauges g 0 + n) % 18446744073709551616) }
-
-abbrev pub with_advance : Reading → Reading
-with_advance m = record m { clock = m.clock + 1 }
-
-abbrev pub with_alarm : Reading → ℕ → Alarm → Reading
-with_alarm m slot alarm = record m { slots = set m.slots slot (Some alarm); set = m.set ++ alarm ∷ [] }
-
-abbrev pub with_fired : Reading → ℕ → Alarm → Reading
-with_fired m slot alarm = record m { slots = set m.slots slot None; fired = m.fired ++ alarm ∷ [] }
-
-abbrev pub with_cancelled : Reading → ℕ → Alarm → Reading
-with_cancelled m slot alarm = record m { slots = set m.slots slot None; cancelled = m.cancelled ++ alarm ∷ [] }
 
 pub tick_is : (m : Reading) (g n : ℕ) → g < length m.gauges → tick g n (meters_of m) ≡ Ok (meters_of (with_tick m g n))
 tick_is m g n h = ap (λ (found : Option ℕ). (ok_or found UnknownName >>= (λ value. Ok ((value + n) % 18446744073709551616)) >>= (λ new. Ok (set m.gauges g new))) >>= (λ gauges. Ok (record (meters_of m) { gauges = gauges }))) (got m.gauges g 0 h)
@@ -101,35 +85,3 @@ fire_lawful m slot alarm within stood due lawful = fire_law slot (meters_of m) (
 
 pub cancel_lawful : (m : Reading) (slot : ℕ) (alarm : Alarm) → slot < length m.slots → in_slot m slot ≡ Some alarm → IsLawful m → IsLawful (with_cancelled m slot alarm)
 cancel_lawful m slot alarm within stood lawful = cancel_law slot (meters_of m) (meters_of (with_cancelled m slot alarm)) lawful (cancel_is m slot alarm within stood)
-
--- the clock never goes down
-tick_clock : (g n : ℕ) (m o : Meters) → tick g n m ≡ Ok o → o.clock ≡ m.clock
-tick_clock g n m o ok = let h = then_ok (change_at g (λ value. Ok ((value + n) % 18446744073709551616)) m.gauges) (λ gauges. Ok (record m { gauges = gauges })) o ok in ap (λ (z : Meters). z.clock) (sym (given_ok (record m { gauges = h.0 }) o h.2))
-
-advance_clock : (m o : Meters) → advance m ≡ Ok o → o.clock ≡ m.clock + 1
-advance_clock m o ok = let h = test_ok (eqb m.clock 4294967295) Full (Ok (record m { clock = m.clock + 1 })) o ok in ap (λ (z : Meters). z.clock) (sym (given_ok (record m { clock = m.clock + 1 }) o h.1))
-
-fire_clock : (slot : ℕ) (m o : Meters) → fire slot m ≡ Ok o → o.clock ≡ m.clock
-fire_clock slot m o ok = let after : Alarm → Meters = λ alarm. record m { slots = set m.slots slot None; fired = m.fired ++ alarm ∷ [] } in let h = then_ok (standing slot m) (λ alarm. refused_if (ltb m.clock alarm.due) NotRaised (Ok (after alarm))) o ok in
-    let t = test_ok (ltb m.clock h.0.due) NotRaised (Ok (after h.0)) o h.2 in ap (λ (z : Meters). z.clock) (sym (given_ok (after h.0) o t.1))
-
-cancel_clock : (slot : ℕ) (m o : Meters) → cancel slot m ≡ Ok o → o.clock ≡ m.clock
-cancel_clock slot m o ok = let after : Alarm → Meters = λ alarm. record m { slots = set m.slots slot None; cancelled = m.cancelled ++ alarm ∷ [] } in let h = then_ok (standing slot m) (λ alarm. Ok (after alarm)) o ok in ap (λ (z : Meters). z.clock) (sym (given_ok (after h.0) o h.2))
-
-set_clock : (alarm : Alarm) (m o : Meters) → set_alarm alarm m ≡ Ok o → o.clock ≡ m.clock
-set_clock alarm m o ok = let after : ℕ → Meters = λ slot. record m { slots = set m.slots slot (Some alarm); set = m.set ++ alarm ∷ [] } in let h = then_ok (ok_or (position is_empty m.slots) Full) (λ slot. Ok (after slot)) o ok in ap (λ (z : Meters). z.clock) (sym (given_ok (after h.0) o h.2))
-
-clock_on : (m n : Reading) → Happens m n → m.clock ≤ n.clock
-clock_on m n (ticked g a e) = let x : n.clock ≡ m.clock = tick_clock g a (meters_of m) (meters_of n) e in omega arith
-clock_on m n (advanced e) = let x : n.clock ≡ m.clock + 1 = advance_clock (meters_of m) (meters_of n) e in omega arith
-clock_on m n (was_set slot alarm s) = let x : s.core.clock ≡ m.clock = set_clock alarm (meters_of m) s.core s.event in let y : n.clock ≡ s.core.clock = s.alike.clock in omega arith
-clock_on m n (fired slot e) = let x : n.clock ≡ m.clock = fire_clock slot (meters_of m) (meters_of n) e in omega arith
-clock_on m n (cancelled slot e) = let x : n.clock ≡ m.clock = cancel_clock slot (meters_of m) (meters_of n) e in omega arith
-
-pub clock_leads : (m n : Reading) → Leads m n → m.clock ≤ n.clock
-clock_leads m n here = omega arith
-clock_leads m n (further o _ l e) = let a = clock_leads m o l in let b = clock_on o n e in omega arith
-
-pub leads_on : (m n o : Reading) → Leads m n → Leads n o → Leads m o
-leads_on m n _ l here = l
-leads_on m n o l (further p _ k e) = further p o (leads_on m n p l k) e

@@ -1,210 +1,233 @@
 -- What several steps tell together.
-use Rattle.std.proofs.Common.{◌≡◌, ◌≢◌, ℕ, suc, ◌+◌, ◌-◌, ◌<◌, ◌≤◌, true, false, List, [], ◌∷◌, ◌++◌, length, length-append, filter_map, refl, sym, ap, ◌∙◌, subst, arith, Option, Some, None, append_assoc, append-nil, true≢false}
+use Rattle.std.proofs.Common.{◌≡◌, ◌≢◌, ◌⊎◌, inl, inr, ℕ, suc, ◌+◌, ◌<◌, ◌≤◌, true, false, List, [], ◌∷◌, ◌++◌, length, length-append, filter_map, refl, sym, ap, ◌∙◌, subst, arith, Option, Some, None, append_assoc, append-nil, true≢false}
 use Rattle.std.proofs.lemmas.List.Elements.{filter_map-append}
+use Rattle.std.proofs.Math.Bridge.{le_prop}
+use Rattle.std.proofs.Math.Logic.{∥∥₁_elim}
+use Rattle.std.specs.List.{AllByRecursion}
 use Rattle.std.specs.Option.{is_some}
 use Rattle.event_theory.specs.declared.alarm.Alarm.{Alarm}
-use Rattle.table_theory.specs.Ends.{Begins}
-use Rattle.table_theory.specs.Members as members
-use Rattle.table_theory.specs.Sharing.{kept, given}
+use Rattle.table_theory.specs.declared.views.Moment.{Moment}
+use Rattle.table_theory.specs.declared.views.Part.{Part}
+use Rattle.table_theory.specs.Ledgers.{Step, load, change, IsHonest, Made, Looked}
+use Rattle.table_theory.proofs.Reaching.{adds_on, all_on}
+use Rattle.table_theory.proofs.Parting.{made_none, made_on}
+use Rattle.meters.specs.Layout.{clock_word, slot_word, word_of, alarm_in}
+use Rattle.meters.specs.declared.rule.Did.{Did}
 use Rattle.meters.specs.declared.rule.Reading.{Reading}
-use Rattle.meters.specs.declared.rule.View.{View}
-use Rattle.meters.specs.Changes.{Leads, further, fired}
-use Rattle.meters.specs.Own.{Own, own_of, DidNothing, DidAdvance, DidSet, DidFire}
-use Rattle.meters.specs.Views.{Later}
-use Rattle.meters.specs.Layout.{clock_word}
-use Rattle.meters.specs.Steps.{counted, Found, Advanced, Fired, CountedUp, CountedDown, rest_of, newborn, both}
-use Rattle.meters.specs.Endings.{Divided, IsNewborn, TookIn}
-use Rattle.meters.specs.Answers.{WasLost, FoundIn, FoundOther, FoundAlarms, FoundEmpty, SetNow, FoundNoRoom, WasTaken, Visit, stays, goes, went, IsNotDue, Visited, AllVisited, gave, Gave}
-use Rattle.meters.proofs.Events.{clock_leads, leads_on}
+use Rattle.meters.specs.Changes.{with_alarm, with_fired}
+use Rattle.meters.specs.Own.{SeatView, own_of, of_meters, DidNothing, DidTick, DidAdvance, DidSet, DidCancel, DidFire}
+use Rattle.meters.specs.Words.{Fits}
+use Rattle.meters.specs.Steps.{WasTicked, WasAdvanced, WasSet, WasFired, WasCancelled, FoundIn, FoundOther, Gave}
+use Rattle.meters.specs.Answers.{Ticked, AdvancedNow, NotAdvanced, Scanned, scan, AreTaken, SetNow, NotSet, CancelledNow, Visit, stays, goes, went, entries_of, IsVisit, tour, gave, FiredNow}
+use Rattle.meters.specs.declared.alarms.SetRefusal.TheVariants as not_set
+use Rattle.meters.specs.declared.gauges.AdvanceRefusal.TheVariants as not_advanced
+use Rattle.meters.proofs.Codes.{given_back}
+use Rattle.meters.proofs.Clocks.{clock_seen}
 
-pub later_than : (v : View) (m n : Reading) → Later v m → Leads m n → Later v n
-later_than v m n l k = (leads_on v.seen m n l.0 k, leads_on v.joined m n l.1 k)
+-- what an end is that did this, and is among the ends as it was
+pub own_by : (v w : SeatView) (own : Did) → w.own ≡ own → w.member ≡ v.member → own_of w ≡ own_of (record v { own = own })
+own_by v w own did member = (λ i. own_of (record v { own = did i; member = member i }))
 
--- a look is no event
-pub found_nothing : (v w : View) (word found : ℕ) → Found v word found w → DidNothing v w
-found_nothing v w word found s = ap own_of s.same
+pub made_own : (v w : SeatView) (es : List (Step Reading)) (own : Did) → Made v es own w → own_of w ≡ own_of (record v { own = own })
+made_own v w es own m = own_by v w own m.did m.member
+
+made_as : (v w : SeatView) (es : List (Step Reading)) (own new : Did) → own ≡ new → Made v es own w → Made v es new w
+made_as v w es own new e m = record { adds = m.adds; did = m.did ∙ e; member = m.member }
+
+entries_as : (v w : SeatView) (es fs : List (Step Reading)) (own : Did) → es ≡ fs → Made v es own w → Made v fs own w
+entries_as v w es fs own e m = subst (λ (z : List (Step Reading)). Made v z own w) e m
+
+-- one end, as it was among the ends
+pub still_one : (v w : SeatView) → w.member ≡ v.member → v.member.ends ≡ 1 → w.member.ends ≡ 1
+still_one v w e one = ap (λ (z : Part). z.ends) e ∙ one
 
 -- the clock
-pub lost_clock : (v u w : View) (clock found : ℕ) → Found v clock_word clock u → clock ≡ u.seen.clock → clock < 4294967296 → clock ≢ 4294967295 → Found u clock_word found w → found ≡ w.seen.clock → found ≢ clock → WasLost v found w
-lost_clock v u w clock found a is bounded left b now ne = let up = clock_leads u.seen w.seen b.later.0 in record {
-  first = clock;
-  loaded = u;
-  clock_loaded = a;
-  ticks_left = omega arith;
-  missed = b;
-  past = omega arith;
-}
+pub lost_clock : (v u w : SeatView) (was found : ℕ) → Looked v clock_word was u → was ≡ u.seen.object.clock → Looked u clock_word found w → found ≡ w.seen.object.clock → found ≢ was → IsHonest of_meters u → IsHonest of_meters w → NotAdvanced v (not_advanced.Lost found) w
+lost_clock v u w was found a is b now ne x y = let up = clock_seen u w (load clock_word found b.at ∷ []) x y b.made.adds in (was, a.at, b.at, omega arith, adds_on v u w (load clock_word was a.at ∷ []) (load clock_word found b.at ∷ []) a.made.adds b.made.adds)
 
-pub advance_nothing : (v u w : View) (clock found : ℕ) → Found v clock_word clock u → Found u clock_word found w → DidNothing v w
-advance_nothing v u w clock found a b = found_nothing u w clock_word found b ∙ found_nothing v u clock_word clock a
+pub spent_clock : (v w : SeatView) (found : ℕ) → Looked v clock_word found w → found ≡ 4294967295 → NotAdvanced v not_advanced.Spent w
+spent_clock v w found a e = let l : Looked v clock_word 4294967295 w = subst (λ (z : ℕ). Looked v clock_word z w) e a in (l.at, l.made.adds)
 
-pub advance_did : (v u w : View) (clock next : ℕ) → Found v clock_word clock u → Advanced u clock w → next ≡ clock + 1 → DidAdvance next v w
-advance_did v u w clock next a b is = ap own_of b.same ∙ ((λ i. let e : Own = found_nothing v u clock_word clock a i in record e { advances = e.advances ++ (clock + 1) ∷ [] }) ∙ (λ i. record (own_of v) { advances = v.advances ++ sym is i ∷ [] }))
+looked_own : (v w : SeatView) (word found : ℕ) → Looked v word found w → DidNothing v w
+looked_own v w word found l = made_own v w (load word found l.at ∷ []) v.own l.made
 
--- one slot more was found taken
-pub alarms_push : (v u w : View) (slot : ℕ) (alarms : List Alarm) (alarm : Alarm) → FoundAlarms v slot alarms u → FoundIn u (slot + length alarms) (Some alarm) w → FoundAlarms v slot (alarms ++ alarm ∷ []) w
-alarms_push v u w slot [] alarm e f = let z : slot + 0 ≡ slot = omega arith in (w, subst (λ (k : ℕ). FoundIn v k (Some alarm) w) z (subst (λ (x : View). FoundIn x (slot + 0) (Some alarm) w) e f), refl)
-alarms_push v u w slot (a ∷ more) alarm (x, g, rest) f = let n : ℕ = length more in let z : slot + suc n ≡ slot + 1 + n = omega arith in (x, g, alarms_push x u w (slot + 1) more alarm rest (subst (λ (k : ℕ). FoundIn u k (Some alarm) w) z f))
+pub look_nothing : (v w : SeatView) (word found : ℕ) → Looked v word found w → DidNothing v w
+look_nothing v w word found l = looked_own v w word found l
 
-pub alarms_nothing : (v w : View) (slot : ℕ) (alarms : List Alarm) → FoundAlarms v slot alarms w → DidNothing v w
-alarms_nothing v w slot [] e = ap own_of e
-alarms_nothing v w slot (a ∷ more) (x, g, rest) = alarms_nothing x w (slot + 1) more rest ∙ found_nothing v x _ _ g.word
+pub two_looks : (v u w : SeatView) (word found word' found' : ℕ) → Looked v word found u → Looked u word' found' w → DidNothing v w
+two_looks v u w word found word' found' a b = looked_own u w word' found' b ∙ looked_own v u word found a
+
+pub advanced_now : (v u w : SeatView) (was : ℕ) → Looked v clock_word was u → WasAdvanced u was w → AdvancedNow v (was + 1) w
+advanced_now v u w was a b = (was, a.at, b.0, refl, adds_on v u w (load clock_word was a.at ∷ []) _ a.made.adds b.1.adds)
+
+pub advance_did : (v u w : SeatView) (was : ℕ) → Looked v clock_word was u → WasAdvanced u was w → DidAdvance (was + 1) v w
+advance_did v u w was a b = own_by u w (record u.own { advances = u.own.advances ++ (was + 1) ∷ [] }) b.1.did b.1.member ∙ (λ i. own_of (record v { own = record (a.made.did i) { advances = (a.made.did i).advances ++ (was + 1) ∷ [] }; member = a.made.member i }))
 
 -- the slots below this one were found taken
-pub record Searched (v : View) (slot : ℕ) (w : View) : Type 0 where
-  pub alarms : List Alarm
-  pub as_many : length alarms ≡ slot
-  pub taken : FoundAlarms v 0 alarms w
+pub record Searched (v : SeatView) (slot : ℕ) (w : SeatView) : Type 0 where
+  pub taken : Scanned
+  pub as_many : length taken ≡ slot
+  pub full : AreTaken taken
+  pub made : Made v (scan 0 taken) v.own w
 
-pub searched_none : (v : View) → Searched v 0 v
-searched_none v = record { alarms = []; as_many = refl; taken = refl }
+pub searched_none : (v : SeatView) → Searched v 0 v
+searched_none v = record { taken = []; as_many = refl; full = tt; made = made_none v }
 
-pub searched_more : (v u w : View) (slot : ℕ) (stood : Option Alarm) → Searched v slot u → FoundIn u slot stood w → is_some stood ≡ true → Searched v (slot + 1) w
+scan_on : (slot : ℕ) (xs ys : Scanned) → scan slot (xs ++ ys) ≡ scan slot xs ++ scan (slot + length xs) ys
+scan_on slot [] ys = let z : slot + 0 ≡ slot = omega arith in ap (λ (k : ℕ). scan k ys) (sym z)
+scan_on slot (x ∷ xs) ys = let n : ℕ = length xs in let z : slot + suc n ≡ slot + 1 + n = omega arith in (λ i. load (slot_word slot) x.0 x.1 ∷ (scan_on (slot + 1) xs ys ∙ ap (λ (k : ℕ). scan (slot + 1) xs ++ scan k ys) (sym z)) i)
+
+pub searched_more : (v u w : SeatView) (slot : ℕ) (stood : Option Alarm) → Searched v slot u → FoundIn u slot stood w → is_some stood ≡ true → Searched v (slot + 1) w
 searched_more v u w slot None s f e = absurd (true≢false (sym e))
-searched_more v u w slot (Some alarm) s f e = let long = length-append s.alarms (alarm ∷ []) in let n = s.as_many in let z : slot ≡ 0 + length s.alarms = omega arith in record {
-  alarms = s.alarms ++ alarm ∷ [];
+searched_more v u w slot (Some alarm) s f e = let bits : ℕ = word_of (Some alarm) in let l = f.looked in let x : ℕ × Moment Reading = (bits, l.at) in let long = length-append s.taken (x ∷ []) in let n = s.as_many in let z : slot ≡ 0 + length s.taken = omega arith in let some : 0 < bits = omega arith in record {
+  taken = s.taken ++ x ∷ [];
   as_many = omega arith;
-  taken = alarms_push v u w 0 s.alarms alarm s.taken (subst (λ (k : ℕ). FoundIn u k (Some alarm) w) z f);
+  full = all_on (λ (found : ℕ × Moment Reading). 0 < found.0) s.taken (x ∷ []) s.full (some, tt);
+  made = entries_as v w (scan 0 s.taken ++ load (slot_word slot) bits l.at ∷ []) (scan 0 (s.taken ++ x ∷ [])) v.own (ap (λ (k : ℕ). scan 0 s.taken ++ scan k (x ∷ [])) z ∙ sym (scan_on 0 s.taken (x ∷ [])))
+      (made_as v w _ u.own v.own s.made.did (made_on v u w (scan 0 s.taken) (load (slot_word slot) bits l.at ∷ []) v.own u.own s.made l.made));
 }
 
-pub no_room : (v w : View) → Searched v 16 w → FoundNoRoom v w
-no_room v w s = record { alarms = s.alarms; sixteen = s.as_many; taken = s.taken }
+pub no_room : (v w : SeatView) → Searched v 16 w → NotSet v not_set.NoRoom w
+no_room v w s = (s.taken, s.as_many, s.full, s.made.adds)
 
-pub found_empty : (v u w : View) (slot : ℕ) (stood : Option Alarm) → slot < 16 → Searched v slot u → FoundIn u slot stood w → is_some stood ≡ false → FoundEmpty v slot w
-found_empty v u w slot None below s f e = record { within = below; alarms = s.alarms; as_many = s.as_many; passed = u; taken = s.taken; empty = f }
-found_empty v u w slot (Some alarm) below s f e = absurd (true≢false e)
+pub searched_nothing : (v w : SeatView) (slot : ℕ) → Searched v slot w → DidNothing v w
+searched_nothing v w slot s = made_own v w (scan 0 s.taken) v.own s.made
 
-empty_nothing : (v w : View) (slot : ℕ) → FoundEmpty v slot w → DidNothing v w
-empty_nothing v w slot f = found_nothing f.passed w _ _ f.empty.word ∙ alarms_nothing v f.passed 0 f.alarms f.taken
+-- the slot was found empty behind a search
+empty_slot : (u x : SeatView) (slot : ℕ) (stood : Option Alarm) → FoundIn u slot stood x → is_some stood ≡ false → Looked u (slot_word slot) 0 x
+empty_slot u x slot None f e = f.looked
+empty_slot u x slot (Some alarm) f e = absurd (true≢false e)
 
-pub searched_nothing : (v w : View) (slot : ℕ) → Searched v slot w → DidNothing v w
-searched_nothing v w slot s = alarms_nothing v w 0 s.alarms s.taken
+pub set_now : (v u x w : SeatView) (slot : ℕ) (stood : Option Alarm) (alarm : Alarm) → slot < 16 → Searched v slot u → FoundIn u slot stood x → is_some stood ≡ false → WasSet x slot alarm w → SetNow v slot alarm w
+set_now v u x w slot stood alarm below s f e h = let g = empty_slot u x slot stood f e in
+    (s.taken, g.at, h.0, s.as_many, below, s.full, adds_on v u w (scan 0 s.taken) _ s.made.adds (adds_on u x w (load (slot_word slot) 0 g.at ∷ []) (change (slot_word slot) 0 h.0 (with_alarm h.0.object slot alarm) ∷ []) g.made.adds h.1.adds))
 
-pub set_did : (v w : View) (slot : ℕ) (alarm : Alarm) → SetNow v slot alarm w → DidSet alarm v w
-set_did v w slot alarm s = ap own_of s.set.same ∙ (λ i. let e : Own = empty_nothing v s.before slot s.found i in record e { set = e.set ++ alarm ∷ [] })
+pub set_did : (v u x w : SeatView) (slot : ℕ) (stood : Option Alarm) (alarm : Alarm) → Searched v slot u → FoundIn u slot stood x → WasSet x slot alarm w → DidSet alarm v w
+set_did v u x w slot stood alarm s f h = let own : x.own ≡ v.own = f.looked.made.did ∙ s.made.did in let member : x.member ≡ v.member = f.looked.made.member ∙ s.made.member in
+    own_by x w (record x.own { set = x.own.set ++ alarm ∷ [] }) h.1.did h.1.member ∙ (λ i. own_of (record v { own = record (own i) { set = (own i).set ++ alarm ∷ [] }; member = member i }))
 
-pub taken_nothing : (v w : View) (slot : ℕ) → WasTaken v slot w → DidNothing v w
-taken_nothing v w slot t = found_nothing t.before w _ _ t.missed.found.word ∙ empty_nothing v t.before slot t.found
+pub lost_slot : (v u x w : SeatView) (slot : ℕ) (stood : Option Alarm) → slot < 16 → Searched v slot u → FoundIn u slot stood x → is_some stood ≡ false → FoundOther x slot None w → NotSet v (not_set.Lost slot) w
+lost_slot v u x w slot stood below s f e (other, o, ne) = let g = empty_slot u x slot stood f e in let some : 0 < other = omega arith in
+    (s.taken, other, g.at, o.at, s.as_many, below, s.full, some, adds_on v u w (scan 0 s.taken) _ s.made.adds (adds_on u x w (load (slot_word slot) 0 g.at ∷ []) (load (slot_word slot) other o.at ∷ []) g.made.adds o.made.adds))
+
+pub lost_nothing : (v u x w : SeatView) (slot : ℕ) (stood : Option Alarm) → Searched v slot u → FoundIn u slot stood x → FoundOther x slot None w → DidNothing v w
+lost_nothing v u x w slot stood s f (other, o, ne) = looked_own x w _ _ o ∙ (looked_own u x _ _ f.looked ∙ searched_nothing v u slot s)
 
 -- what one slot gave
-pub gave_none : (v w : View) (clock slot : ℕ) (stood : Option Alarm) → FoundIn v slot stood w → IsNotDue clock stood → Gave v clock slot None w
-gave_none v w clock slot stood f n = record { visit = stays stood; alarm_is = refl; visited = (f, n) }
+nothing_more : (v w : SeatView) → w.own ≡ v.own → w.own ≡ record v.own { fired = v.own.fired ++ [] }
+nothing_more v w e = e ∙ (λ i. record v.own { fired = sym (append-nil v.own.fired) i })
 
-pub gave_lost : (v u w : View) (clock slot : ℕ) (alarm : Alarm) → FoundIn v slot (Some alarm) u → alarm.due ≤ clock → FoundOther u slot alarm w → Gave v clock slot None w
-gave_lost v u w clock slot alarm f due o = record { visit = went alarm; alarm_is = refl; visited = (u, f, due, o) }
+-- what stood is not due
+abbrev pub IsNotDue : ℕ → Option Alarm → Type 0
+IsNotDue clock None = Unit {0}
+IsNotDue clock (Some alarm) = clock < alarm.due
 
-pub gave_fired : (v u w : View) (clock slot : ℕ) (alarm : Alarm) → FoundIn v slot (Some alarm) u → alarm.due ≤ clock → Fired u slot alarm w → Gave v clock slot (Some alarm) w
-gave_fired v u w clock slot alarm f due h = record { visit = goes alarm; alarm_is = refl; visited = (u, f, due, h) }
+not_due : (clock : ℕ) (stood : Option Alarm) → Fits stood → IsNotDue clock stood → (word_of stood ≡ 0) ⊎ (clock < (alarm_in (word_of stood)).due)
+not_due clock None fits n = inl refl
+not_due clock (Some alarm) fits n = let back : (alarm_in (word_of (Some alarm))).due ≡ alarm.due = ap (λ (z : Alarm). z.due) (given_back alarm fits) in inr (subst (λ (z : ℕ). clock < z) (sym back) n)
 
-pub clock_in : (v w : View) (clock slot : ℕ) (stood : Option Alarm) → FoundIn v slot stood w → clock ≤ v.seen.clock → clock ≤ w.seen.clock
-clock_in v w clock slot stood f told = let up = clock_leads v.seen w.seen f.word.later.0 in omega arith
+pub gave_none : (v w : SeatView) (clock slot : ℕ) (stood : Option Alarm) → FoundIn v slot stood w → IsNotDue clock stood → Gave v clock slot None w
+gave_none v w clock slot stood f n = let l = f.looked in record { visit = stays (word_of stood) l.at; alarm_is = refl; fits = not_due clock stood f.fits n; made = record { adds = l.made.adds; did = nothing_more v w l.made.did; member = l.made.member } }
 
-pub clock_fired : (v w : View) (clock slot : ℕ) (alarm : Alarm) → Fired v slot alarm w → clock ≤ v.seen.clock → clock ≤ w.seen.clock
-clock_fired v w clock slot alarm h told = let up = clock_leads v.seen w.seen (further h.meters w.seen h.later.0 (fired slot h.event)) in omega arith
+pub gave_lost : (v u w : SeatView) (clock slot : ℕ) (alarm : Alarm) → FoundIn v slot (Some alarm) u → alarm.due ≤ clock → FoundOther u slot (Some alarm) w → Gave v clock slot None w
+gave_lost v u w clock slot alarm f due (other, o, ne) = let l = f.looked in let back : (alarm_in (word_of (Some alarm))).due ≡ alarm.due = ap (λ (z : Alarm). z.due) (given_back alarm f.fits) in record {
+  visit = went (word_of (Some alarm)) l.at other o.at;
+  alarm_is = refl;
+  fits = (omega arith, subst (λ (z : ℕ). z ≤ clock) (sym back) due, ne);
+  made = let m = made_on v u w (load (slot_word slot) (word_of (Some alarm)) l.at ∷ []) (load (slot_word slot) other o.at ∷ []) v.own u.own l.made o.made in record { adds = m.adds; did = nothing_more v w (m.did ∙ l.made.did); member = m.member };
+}
 
--- one slot more was visited
-pub visits_push : (v u w : View) (clock slot : ℕ) (visits : List Visit) (visit : Visit) → AllVisited v clock slot visits u → Visited u clock (slot + length visits) visit w → AllVisited v clock slot (visits ++ visit ∷ []) w
-visits_push v u w clock slot [] visit e f = let z : slot + 0 ≡ slot = omega arith in (w, subst (λ (k : ℕ). Visited v clock k visit w) z (subst (λ (x : View). Visited x clock (slot + 0) visit w) e f), refl)
-visits_push v u w clock slot (a ∷ more) visit (x, g, rest) f = let n : ℕ = length more in let z : slot + suc n ≡ slot + 1 + n = omega arith in (x, g, visits_push x u w clock (slot + 1) more visit rest (subst (λ (k : ℕ). Visited u clock k visit w) z f))
+pub gave_fired : (v u w : SeatView) (clock slot : ℕ) (alarm : Alarm) → FoundIn v slot (Some alarm) u → alarm.due ≤ clock → WasFired u slot alarm w → Gave v clock slot (Some alarm) w
+gave_fired v u w clock slot alarm f due h = let l = f.looked in record {
+  visit = goes alarm l.at h.0;
+  alarm_is = refl;
+  fits = due;
+  made = let m = made_on v u w (load (slot_word slot) (word_of (Some alarm)) l.at ∷ []) (change (slot_word slot) (word_of (Some alarm)) h.0 (with_fired h.0.object slot alarm) ∷ []) v.own (record u.own { fired = u.own.fired ++ alarm ∷ [] }) l.made h.1 in
+      record { adds = m.adds; did = m.did ∙ (λ i. record (l.made.did i) { fired = (l.made.did i).fired ++ alarm ∷ [] }); member = m.member };
+}
 
-nothing_fired : (v w : View) → DidNothing v w → DidFire [] v w
-nothing_fired v w e = e ∙ (λ i. record (own_of v) { fired = sym (append-nil v.fired) i })
+pub clock_in : (v w : SeatView) (clock : ℕ) (word found : ℕ) → IsHonest of_meters v → IsHonest of_meters w → Looked v word found w → clock ≤ v.seen.object.clock → clock ≤ w.seen.object.clock
+clock_in v w clock word found x y f told = let up = clock_seen v w (load word found f.at ∷ []) x y f.made.adds in omega arith
 
-visit_did : (v w : View) (clock slot : ℕ) (visit : Visit) → Visited v clock slot visit w → DidFire (filter_map gave (visit ∷ [])) v w
-visit_did v w clock slot (stays stood) (f, n) = nothing_fired v w (found_nothing v w _ _ f.word)
-visit_did v w clock slot (goes alarm) (u, f, due, h) = ap own_of h.same ∙ (λ i. let e : Own = found_nothing v u _ _ f.word i in record e { fired = e.fired ++ alarm ∷ [] })
-visit_did v w clock slot (went alarm) (u, f, due, o) = nothing_fired v w (found_nothing u w _ _ o.found.word ∙ found_nothing v u _ _ f.word)
+-- the same, by the seat's own invariant
+pub clock_seat : (v w : SeatView) (clock : ℕ) (word found : ℕ) → ∥ IsHonest of_meters v ∥₁ → IsHonest of_meters w → Looked v word found w → clock ≤ v.seen.object.clock → clock ≤ w.seen.object.clock
+clock_seat v w clock word found x y f told = ∥∥₁_elim x le_prop (λ (h : IsHonest of_meters v). clock_in v w clock word found h y f told)
 
-pub visits_did : (v w : View) (clock slot : ℕ) (visits : List Visit) → AllVisited v clock slot visits w → DidFire (filter_map gave visits) v w
-visits_did v w clock slot [] e = nothing_fired v w (ap own_of e)
-visits_did v w clock slot (a ∷ more) (u, f, rest) = let d = visit_did v u clock slot a f in visits_did u w clock (slot + 1) more rest ∙
-    ((λ i. let e : Own = d i in record e { fired = e.fired ++ filter_map gave more }) ∙
-    (λ i. record (own_of v) { fired = (append_assoc v.fired (filter_map gave (a ∷ [])) (filter_map gave more) ∙ ap (λ (z : List Alarm). v.fired ++ z) (sym (filter_map-append gave (a ∷ []) more))) i }))
+pub clock_fired : (v w : SeatView) (clock slot : ℕ) (alarm : Alarm) → IsHonest of_meters v → IsHonest of_meters w → WasFired v slot alarm w → clock ≤ v.seen.object.clock → clock ≤ w.seen.object.clock
+clock_fired v w clock slot alarm x y h told = let up = clock_seen v w _ x y h.1.adds in omega arith
 
 -- the slots below this one were visited, and gave these alarms
-pub record Swept (v : View) (clock slot : ℕ) (alarms : List Alarm) (w : View) : Type 0 where
+pub record Swept (v : SeatView) (clock slot : ℕ) (alarms : List Alarm) (w : SeatView) : Type 0 where
   pub visits : List Visit
   pub as_many : length visits ≡ slot
-  pub visited : AllVisited v clock 0 visits w
+  pub fit : AllByRecursion (IsVisit clock) visits
   pub alarms_are : alarms ≡ filter_map gave visits
+  pub made : Made v (tour 0 visits) (record v.own { fired = v.own.fired ++ filter_map gave visits }) w
 
-pub swept_none : (v : View) (clock : ℕ) (alarms : List Alarm) → alarms ≡ [] → Swept v clock 0 alarms v
-swept_none v clock alarms none = record { visits = []; as_many = refl; visited = refl; alarms_are = none }
+pub swept_none : (v : SeatView) (clock : ℕ) (alarms : List Alarm) → alarms ≡ [] → Swept v clock 0 alarms v
+swept_none v clock alarms none = record { visits = []; as_many = refl; fit = tt; alarms_are = none; made = made_as v v [] v.own (record v.own { fired = v.own.fired ++ [] }) (nothing_more v v refl) (made_none v) }
 
-pub swept_more : (v u w : View) (clock slot : ℕ) (alarms new : List Alarm) (alarm : Option Alarm) → Swept v clock slot alarms u → Gave u clock slot alarm w → new ≡ alarms ++ filter_map (λ (x : Option Alarm). x) (alarm ∷ []) → Swept v clock (slot + 1) new w
-swept_more v u w clock slot alarms new alarm s g is = let long = length-append s.visits (g.visit ∷ []) in let n = s.as_many in let z : slot ≡ 0 + length s.visits = omega arith in record {
-  visits = s.visits ++ g.visit ∷ [];
-  as_many = omega arith;
-  visited = visits_push v u w clock 0 s.visits g.visit s.visited (subst (λ (k : ℕ). Visited u clock k g.visit w) z g.visited);
-  alarms_are = is ∙ ((λ i. s.alarms_are i ++ one g.visit alarm g.alarm_is i) ∙ sym (filter_map-append gave s.visits (g.visit ∷ [])));
-}
+tour_on : (slot : ℕ) (xs ys : List Visit) → tour slot (xs ++ ys) ≡ tour slot xs ++ tour (slot + length xs) ys
+tour_on slot [] ys = let z : slot + 0 ≡ slot = omega arith in ap (λ (k : ℕ). tour k ys) (sym z)
+tour_on slot (x ∷ xs) ys = let n : ℕ = length xs in let z : slot + suc n ≡ slot + 1 + n = omega arith in
+    (λ i. entries_of slot x ++ (tour_on (slot + 1) xs ys ∙ ap (λ (k : ℕ). tour (slot + 1) xs ++ tour k ys) (sym z)) i) ∙ sym (append_assoc (entries_of slot x) (tour (slot + 1) xs) (tour (slot + suc n) ys))
+
+pub swept_more : (v u w : SeatView) (clock slot : ℕ) (alarms new : List Alarm) (alarm : Option Alarm) → Swept v clock slot alarms u → Gave u clock slot alarm w → new ≡ alarms ++ filter_map (λ (x : Option Alarm). x) (alarm ∷ []) → Swept v clock (slot + 1) new w
+swept_more v u w clock slot alarms new alarm s g is = let x : Visit = g.visit in let long = length-append s.visits (x ∷ []) in let n = s.as_many in let z : slot ≡ 0 + length s.visits = omega arith in
+    let all = sym (filter_map-append gave s.visits (x ∷ [])) in record {
+      visits = s.visits ++ x ∷ [];
+      as_many = omega arith;
+      fit = all_on (IsVisit clock) s.visits (x ∷ []) s.fit (g.fits, tt);
+      alarms_are = is ∙ ((λ i. s.alarms_are i ++ one g.visit alarm g.alarm_is i) ∙ all);
+      made = entries_as v w (tour 0 s.visits ++ entries_of slot x) (tour 0 (s.visits ++ x ∷ [])) _ (ap (λ (e : List (Step Reading)). tour 0 s.visits ++ e) (sym (append-nil (entries_of slot x))) ∙ (ap (λ (k : ℕ). tour 0 s.visits ++ tour k (x ∷ [])) z ∙ sym (tour_on 0 s.visits (x ∷ []))))
+          (made_as v w _ (record u.own { fired = u.own.fired ++ filter_map gave (x ∷ []) }) (record v.own { fired = v.own.fired ++ filter_map gave (s.visits ++ x ∷ []) })
+          ((λ i. record (s.made.did i) { fired = (s.made.did i).fired ++ filter_map gave (x ∷ []) }) ∙
+          (λ i. record v.own { fired = (append_assoc v.own.fired (filter_map gave s.visits) (filter_map gave (x ∷ [])) ∙ ap (λ (e : List Alarm). v.own.fired ++ e) all) i }))
+          (made_on v u w (tour 0 s.visits) (entries_of slot x) _ _ s.made g.made));
+    }
   where
     one : (visit : Visit) (a : Option Alarm) → a ≡ gave visit → filter_map (λ (x : Option Alarm). x) (a ∷ []) ≡ filter_map gave (visit ∷ [])
-    one (stays stood) a e = ap (λ (x : Option Alarm). filter_map (λ (y : Option Alarm). y) (x ∷ [])) e
-    one (goes alarm) a e = ap (λ (x : Option Alarm). filter_map (λ (y : Option Alarm). y) (x ∷ [])) e
-    one (went alarm) a e = ap (λ (x : Option Alarm). filter_map (λ (y : Option Alarm). y) (x ∷ [])) e
+    one (stays found m) a e = ap (λ (x : Option Alarm). filter_map (λ (y : Option Alarm). y) (x ∷ [])) e
+    one (goes alarm m k) a e = ap (λ (x : Option Alarm). filter_map (λ (y : Option Alarm). y) (x ∷ [])) e
+    one (went found m other k) a e = ap (λ (x : Option Alarm). filter_map (λ (y : Option Alarm). y) (x ∷ [])) e
 
 few : (visits : List Visit) → length (filter_map gave visits) ≤ length visits
 few [] = omega arith
-few (stays stood ∷ xs) = let f = few xs in omega arith
-few (goes alarm ∷ xs) = let f = few xs in omega arith
-few (went alarm ∷ xs) = let f = few xs in omega arith
+few (stays found m ∷ xs) = let f = few xs in omega arith
+few (goes alarm m n ∷ xs) = let f = few xs in omega arith
+few (went found m other n ∷ xs) = let f = few xs in omega arith
 
-pub swept_few : (v w : View) (clock slot : ℕ) (alarms : List Alarm) → Swept v clock slot alarms w → length alarms ≤ slot
+pub swept_few : (v w : SeatView) (clock slot : ℕ) (alarms : List Alarm) → Swept v clock slot alarms w → length alarms ≤ slot
 swept_few v w clock slot alarms s = let f = few s.visits in let n = s.as_many in let e : length alarms ≡ length (filter_map gave s.visits) = ap length s.alarms_are in omega arith
 
 -- a load of the clock, and then the slots
-pub due_did : (v u w : View) (clock : ℕ) (alarms : List Alarm) → Found v clock_word clock u → Swept u clock 16 alarms w → DidFire alarms v w
-due_did v u w clock alarms f s = visits_did u w clock 0 s.visits s.visited ∙ ((λ i. let e : Own = found_nothing v u clock_word clock f i in record e { fired = e.fired ++ filter_map gave s.visits }) ∙ (λ i. record (own_of v) { fired = v.fired ++ sym s.alarms_are i }))
+pub fired_now : (v u w : SeatView) (clock : ℕ) (alarms : List Alarm) → Looked v clock_word clock u → Swept u clock 16 alarms w → FiredNow v alarms w
+fired_now v u w clock alarms f s = (clock, f.at, s.visits, s.as_many, s.fit, s.alarms_are, adds_on v u w (load clock_word clock f.at ∷ []) (tour 0 s.visits) f.made.adds s.made.adds)
 
--- ends
-divided : (v u : View) (found : ℕ) → CountedUp v found u → Divided v (rest_of u) × IsNewborn v (rest_of u) (newborn u)
-divided v u found c = let n = c.member in (
-  record {
-    found = found;
-    before = c.before;
-    follows = c.follows;
-    same = ap rest_of c.same;
-    later = c.later;
-    lawful = c.lawful;
-    member = record {
-      log = n.log;
-      same = ap members.rest_of n.same ∙ (λ i. record (members.with_split v.member n.log) { ends = less i; share = kept v.member.share });
-      later = n.later;
-      number = n.number;
-    };
-  },
-  λ i. record (newborn u) { member = record (members.newborn u.member) { share = given (n.same i).share } },
-)
-  where
-    less : v.member.ends + 1 - 1 ≡ v.member.ends
-    less = omega arith
+pub due_did : (v u w : SeatView) (clock : ℕ) (alarms : List Alarm) → Looked v clock_word clock u → Swept u clock 16 alarms w → DidFire alarms v w
+due_did v u w clock alarms f s = own_by u w (record u.own { fired = u.own.fired ++ filter_map gave s.visits }) s.made.did s.made.member ∙
+    ((λ i. own_of (record v { own = record (f.made.did i) { fired = (f.made.did i).fired ++ filter_map gave s.visits }; member = f.made.member i })) ∙ (λ i. record (own_of v) { fired = v.own.fired ++ sym s.alarms_are i }))
 
--- the two ends of a split, as they are given back
-pub split_views : {A : Type 0} (v u : View) (found : ℕ) (one other : View × A) (a b : A) → CountedUp v found u → one ≡ (rest_of u, a) → other ≡ (newborn u, b) → Divided v one.0 × IsNewborn v one.0 other.0
-split_views v u found one other a b c e e' = let d = divided v u found c in (subst (λ z. Divided v z.0) (sym e) d.0, subst (λ z. IsNewborn v z.0 other.0) (sym e) (subst (λ z. IsNewborn v (rest_of u) z.0) (sym e') d.1))
+-- one step
+pub tick_now : (v w : SeatView) (gauge amount found : ℕ) → WasTicked v gauge amount found w → Ticked v gauge amount found w
+tick_now v w gauge amount found t = (t.0, t.1.adds)
 
--- an end that took in another, and then was counted down
-pub took_in : (v u b w : View) (found : ℕ) → v.member.ends ≡ 1 → u.member.ends ≡ 1 → b ≡ both v u → CountedDown b found w → TookIn v u w
-took_in v u b w found one one' is c = let n = c.member in record {
-  found = found;
-  before = c.before;
-  follows = subst (λ (z : View). Begins z.course c.before) is c.follows;
-  same = c.same ∙ (λ i. counted (is i) found c.before w.seen w.member);
-  later = subst (λ (z : View). Later z w.seen) is c.later;
-  lawful = c.lawful;
-  member = record {
-    log = n.log;
-    same = n.same ∙ ((λ i. members.with_join (is i).member n.log) ∙ (λ i. record (members.with_join (members.both v.member u.member) n.log) { ends = less i }));
-    later = subst (λ (z : View). Begins z.member.log n.log) is n.later;
-    number = n.number;
-  };
-}
-  where
-    less : v.member.ends + u.member.ends - 1 ≡ 1
-    less = omega arith
+pub tick_did : (v w : SeatView) (gauge amount found : ℕ) → WasTicked v gauge amount found w → DidTick gauge amount v w
+tick_did v w gauge amount found t = own_by v w (record v.own { ticks = v.own.ticks ++ record { gauge = gauge; amount = amount } ∷ [] }) t.1.did t.1.member
 
--- the words of a load that found no alarm
+pub cancel_now : (v w : SeatView) (slot : ℕ) (alarm : Alarm) → WasCancelled v slot alarm w → CancelledNow v slot alarm true w
+cancel_now v w slot alarm t = (t.0, t.1.adds)
+
+pub cancel_did : (v w : SeatView) (slot : ℕ) (alarm : Alarm) → WasCancelled v slot alarm w → DidCancel alarm v w
+cancel_did v w slot alarm t = own_by v w (record v.own { cancelled = v.own.cancelled ++ alarm ∷ [] }) t.1.did t.1.member
+
+pub cancel_not : (v w : SeatView) (slot : ℕ) (alarm : Alarm) → FoundOther v slot (Some alarm) w → CancelledNow v slot alarm false w
+cancel_not v w slot alarm (other, o, ne) = (other, o.at, ne, o.made.adds)
+
+pub cancel_nothing : (v w : SeatView) (slot : ℕ) (alarm : Alarm) → FoundOther v slot (Some alarm) w → DidNothing v w
+cancel_nothing v w slot alarm (other, o, ne) = looked_own v w _ _ o
+
+-- the words of a load that found no alarm that is due
 pub not_due_none : (clock : ℕ) (stood : Option Alarm) → stood ≡ None → IsNotDue clock stood
 not_due_none clock stood e = subst (IsNotDue clock) (sym e) tt
 

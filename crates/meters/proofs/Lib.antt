@@ -1,5 +1,7 @@
 pub mod Codes
 pub mod Events
+pub mod Clocks
+pub mod Lawful
 pub mod Showing
 pub mod Listed
 pub mod Stepping

@@ -3,16 +3,14 @@ use Rattle.std.proofs.Common.{◌≡◌, ℕ, suc, zero, replicate, ◌+◌, ◌
 use Rattle.std.specs.List.{repeat}
 use Rattle.atomic_table.specs.Table.{opening}
 use Rattle.event_theory.specs.declared.alarm.Alarm.{Alarm}
-use Rattle.table_theory.specs.Members.{EndsKnown}
-use Rattle.table_theory.proofs.Courses.{course_first}
-use Rattle.table_theory.proofs.Members.{known_first}
-use Rattle.meters.specs.declared.rule.Shape.{Shape}
-use Rattle.meters.specs.declared.rule.View.{View}
-use Rattle.meters.specs.Changes.{first_reading, here}
+use Rattle.table_theory.specs.Ledgers.{opened}
+use Rattle.table_theory.proofs.Ledgers.{true_first}
 use Rattle.meters.specs.Layout.{word_of}
+use Rattle.meters.specs.declared.rule.Shape.{Shape}
+use Rattle.meters.specs.Changes.{first_reading}
+use Rattle.meters.specs.Own.{of_meters, nothing_did, did_both}
 use Rattle.meters.specs.Words.{Fits, WordsShow}
-use Rattle.meters.specs.Rules.{Rule, member_of, steps_of, course_of, IsIdle, newcomer}
-use Rattle.meters.proofs.Listed.{first_later}
+use Rattle.meters.specs.Rules.{Rule, newcomer}
 
 none_set : (n j : ℕ) → get_or {A = Option Alarm} (repeat n (None ∷ [])) j None ≡ None
 none_set zero j = refl
@@ -39,20 +37,19 @@ shows_first key words bounded long clock rest = record {
 }
 
 pub opens : (key : Shape) (words : List ℕ) → key.clock < 4294967296 → length words ≡ 26 → get_or words 0 0 ≡ 1 → get_or words 9 0 ≡ key.clock → ((j : ℕ) → 0 < j → j ≢ 9 → get_or words j 0 ≡ 0) → Rule key (opening words [] (newcomer key))
-opens key words bounded long ends clock rest = let v : View = newcomer key in record {
-  meters = first_reading key.clock;
+opens key words bounded long ends clock rest = record {
+  now = opened (first_reading key.clock);
   lawful = λ alarm. refl;
   shows = shows_first key words bounded long clock rest;
+  number = ends;
   listed = record {
     gauges = λ g b. all_zero 8 g;
     advances = record { number = omega arith; once = λ t past upto. absurd (omega arith); never = λ t out. refl };
     set = λ a. refl;
     fired = λ a. refl;
     cancelled = λ a. refl;
-    later = first_later (first_reading key.clock) v (here, here);
   };
-  ends = subst (λ (c : ℕ). EndsKnown member_of IsIdle c (v ∷ [])) (sym ends) (known_first member_of IsIdle v refl);
-  course = course_first steps_of course_of (first_reading key.clock) v refl refl;
+  true_ends = true_first of_meters nothing_did did_both (first_reading key.clock);
 }
 
 zeros : (n j : ℕ) → get_or {A = ℕ} (replicate n 0) j 0 ≡ 0

@@ -1,37 +1,34 @@
 -- What closing reads and tells.
-use Rattle.std.proofs.Common.{◌≡◌, ◌≢◌, ℕ, suc, zero, ◌+◌, ◌-◌, ◌%◌, ◌<◌, ◌≤◌, cond, List, [], ◌∷◌, ◌++◌, take, drop, length, length-drop, length-take, get_or, get_or-drop, get_or-take, get_or-set_same, get_or-set_other, take-suc, set, ⊎_elim, sym, refl, ap, ◌∙◌, subst, arith, Option, Some, None, count_by}
+use Rattle.std.proofs.Common.{◌≡◌, ◌≢◌, ℕ, suc, zero, ◌+◌, ◌%◌, ◌<◌, ◌≤◌, cond, List, [], ◌∷◌, ◌++◌, take, drop, length, length-drop, length-take, get_or, get_or-drop, get_or-take, get_or-set_same, get_or-set_other, take-suc, set, sym, refl, ap, ◌∙◌, subst, arith, Option, Some, None, count_by}
 use Rattle.std.proofs.lemmas.Grind.{same_number_lists}
 use Rattle.std.proofs.lemmas.List.Elements.{filter_map-append}
 use Rattle.std.proofs.lemmas.List.Sums.{sum_by-cons}
+use Rattle.std.proofs.Math.Logic.{∥∥₁_map}
 use mathlib.Core.Option as maybe
 use mathlib.Core.Logic.{dite}
 use native.Mathlib.Decide.{ℕ_discrete}
 use lib.ListN.{get_elem?}
 use Rattle.atomic_table.specs.Table.{Final, Seen}
-use Rattle.atomic_table.proofs.Lists.{at_snoc}
 use Rattle.event_theory.specs.declared.alarm.Alarm.{Alarm}
 use Rattle.event_theory.specs.Lawful.{is_alarm, stands}
 use Rattle.table_theory.specs.Sharing.{IsWhole}
-use Rattle.table_theory.specs.declared.views.Member.{Member}
-use Rattle.table_theory.specs.Ends.{IsNumber, Begins}
-use Rattle.table_theory.specs.Members.{EndsKnown}
-use Rattle.table_theory.proofs.Counting.{counted_first}
-use Rattle.table_theory.proofs.Members.{rest_idle, tallied}
-use Rattle.table_theory.proofs.Ends.{begins_trans}
+use Rattle.table_theory.specs.declared.views.Part.{Part}
+use Rattle.table_theory.specs.Ledgers.{Tallied, IsHonest}
+use Rattle.table_theory.proofs.Ledgers.{seen_leads}
+use Rattle.table_theory.proofs.Reaching.{reaches_on, reaches_since}
+use Rattle.table_theory.proofs.Standing.{rest_spent, number_is}
+use Rattle.table_theory.proofs.Totals.{sole_total, two_of}
+use Rattle.meters.specs.Layout.{ends_word, word_of}
 use Rattle.meters.specs.declared.rule.Reading.{Reading}
 use Rattle.meters.specs.declared.rule.Shape.{Shape}
-use Rattle.meters.specs.declared.rule.View.{View}
-use Rattle.meters.specs.Closings.{IsAllOf, ClosedNow, WereOpen}
-use Rattle.meters.specs.Rules.{Rule, member_of, IsIdle}
-use Rattle.meters.specs.Steps.{Tallied}
-use Rattle.meters.specs.Changes.{IsLawful}
-use Rattle.meters.specs.Own.{own_of, nothing_own}
+use Rattle.meters.specs.Closings.{IsAllOf, ClosedNow}
+use Rattle.meters.specs.Rules.{Rule}
+use Rattle.meters.specs.Changes.{IsLawful, first_reading}
+use Rattle.meters.specs.Own.{SeatView, of_meters, nothing_did, did_both, own_of, nothing_own}
 use Rattle.meters.specs.Views.{ViewsShow, amount_on, times, times_to}
-use Rattle.meters.specs.Layout.{word_of}
 use Rattle.meters.specs.Words.{Fits, SlotsShow, WordsShow, standing}
 use Rattle.meters.proofs.Betweens.{shown_gauges}
-use Rattle.meters.proofs.Following.{later_than}
-use Rattle.meters.proofs.Listed.{sole_own, sole_listed}
+use Rattle.meters.proofs.Listed.{sole_listed}
 use Rattle.meters.proofs.Stepping.{St}
 
 pub read_word : (l : List ℕ) (i x : ℕ) → get_elem? l i ≡ maybe.some x → get_or l i 0 ≡ x
@@ -71,62 +68,47 @@ standing_times a (None ∷ xs) = standing_times a xs
 standing_times a (Some b ∷ xs) = sum_by-cons (λ x. cond (is_alarm a x) 1 0) b (standing xs) ∙ (ap (λ (n : ℕ). cond (is_alarm a b) 1 0 + n) (standing_times a xs) ∙ sym (sum_by-cons (λ x. cond (stands a x) 1 0) (Some b) xs))
 
 -- what one end lists that lists all
-all_of : (first : ℕ) (m : Reading) (v : View) → IsLawful m → ViewsShow first m (v ∷ []) → IsAllOf v first m.gauges m.clock (standing m.slots)
+all_of : (first : ℕ) (m : Reading) (v : SeatView) → IsLawful m → ViewsShow first m (v ∷ []) → IsAllOf v first m.gauges m.clock (standing m.slots)
 all_of first m v lawful h = record {
-  sums = λ g b. h.gauges g b ∙ ap (λ (z : ℕ). z % 18446744073709551616) (alone (amount_on g v.ticks));
-  number = h.advances.number ∙ ap (λ (z : ℕ). first + z) (alone (length v.advances));
-  each = λ t past upto. sym (alone (times_to t v.advances)) ∙ h.advances.once t past upto;
+  sums = λ g b. h.gauges g b ∙ ap (λ (z : ℕ). z % 18446744073709551616) (alone (amount_on g v.own.ticks));
+  number = h.advances.number ∙ ap (λ (z : ℕ). first + z) (alone (length v.own.advances));
+  each = λ t past upto. sym (alone (times_to t v.own.advances)) ∙ h.advances.once t past upto;
   once = λ a. (let x = lawful a in let p = h.set a in let q = h.fired a in let r = h.cancelled a in let t = standing_times a m.slots in omega arith);
 }
   where
     alone : (n : ℕ) → n + 0 ≡ n
     alone n = omega arith
 
-same_all : (v : View) (first : ℕ) (gauges gauges' : List ℕ) (clock clock' : ℕ) (alarms alarms' : List Alarm) → gauges ≡ gauges' → clock ≡ clock' → alarms ≡ alarms' → IsAllOf v first gauges' clock' alarms' → IsAllOf v first gauges clock alarms
+same_all : (v : SeatView) (first : ℕ) (gauges gauges' : List ℕ) (clock clock' : ℕ) (alarms alarms' : List Alarm) → gauges ≡ gauges' → clock ≡ clock' → alarms ≡ alarms' → IsAllOf v first gauges' clock' alarms' → IsAllOf v first gauges clock alarms
 same_all v first gauges gauges' clock clock' alarms alarms' e f g a = subst (λ z. IsAllOf v first z clock alarms) (sym e) (subst (λ z. IsAllOf v first gauges' z alarms) (sym f) (subst (λ z. IsAllOf v first gauges' clock' z) (sym g) a))
 
--- the one end lists all splits and joins
-sole_known : (n : ℕ) (views : List View) (id : ℕ) (v w : View) → EndsKnown member_of IsIdle n views → n ≡ 1 → v.member.ends ≡ 1 → IsWhole v.member.share → get_elem? views id ≡ maybe.some w → ((i : ℕ) (u : View) → get_elem? views i ≡ maybe.some u → i ≢ id → own_of u ≡ nothing_own)
-    → own_of w ≡ own_of v → Begins v.member.log w.member.log → EndsKnown member_of IsIdle 1 (v ∷ [])
-sole_known n views id v w k one one_end whole at idle same begins = let c = k.logged in let seen : Begins v.member.log c.log = begins_trans v.member.log w.member.log c.log begins (c.seen id w at) in record {
-  counted = counted_first (λ u. u.member.ends) (λ u. u.member.share) IsIdle v one_end whole;
-  logged = record {
-    log = c.log;
-    number = subst (IsNumber c.log) one c.number;
-    splits = sole_own views id v w at idle same (λ e. e.splits) refl ∙ c.splits;
-    joins = sole_own views id v w at idle same (λ e. e.joins) refl ∙ c.joins;
-    seen = λ j u has. ⊎_elim (λ e. absurd (maybe.some-ne-none u (sym e))) (λ e. subst (λ (z : View). Begins z.member.log c.log) e seen) (at_snoc [] v u j has);
-  };
-  standing = λ j u has. ⊎_elim (λ e. absurd (maybe.some-ne-none u (sym e))) (λ e. subst (λ (z : View). z.member.ends ≡ 0 → (z.member.splits ≡ 0) × (z.member.joins ≡ 0)) e (λ none. absurd (omega arith))) (at_snoc [] v u j has);
-}
-
--- a look at the number of ends is no event
-tally_nothing : (v w : View) (found : ℕ) → Tallied v found w → own_of w ≡ own_of v
-tally_nothing v w found t = ap own_of t.same ∙ (λ i. let m : Member = t.member.same i in record (own_of v) { splits = m.splits; joins = m.joins; share = m.share })
-
-pub closes : (key : Shape) (v w : View) (found id : ℕ) (ws : List ℕ) (xs : List Unit) (gauges : List ℕ) (clock : ℕ) (alarms : List Alarm) → v.member.ends ≡ 1 → Tallied v found w → found ≡ 1 → Final (Seen (Rule key) id w) ws xs
+pub closes : (key : Shape) (v w : SeatView) (found id : ℕ) (ws : List ℕ) (xs : List Unit) (gauges : List ℕ) (clock : ℕ) (alarms : List Alarm) → v.member.ends ≡ 1 → ∥ IsHonest of_meters v ∥₁ → IsHonest of_meters w → Tallied ends_word v found w → found ≡ 1 → Final (Seen (Rule key) id w) ws xs
     → gauges ≡ take 8 (drop 1 ws) → get_elem? ws 9 ≡ maybe.some clock → ((slots : List (Option Alarm)) → SlotsShow slots ws → alarms ≡ standing slots) → ClosedNow key.clock v gauges clock alarms
-closes key v w found id ws xs gauges clock alarms one_end t is fin read_gauges read_clock read_alarms =
-    let s : St = fin.0 in let k = fin.1.0 in let m : Reading = k.meters in let shows : WordsShow m ws = subst (WordsShow m) fin.2 k.shows in let seen = k.listed.later id w fin.1.1 in
+closes key v w found id ws xs gauges clock alarms one_end true_v true_w t is fin read_gauges read_clock read_alarms =
+    let s : St = fin.0 in let k = fin.1.0 in let at = fin.1.1 in let m : Reading = k.now.object in let shows : WordsShow m ws = subst (WordsShow m) fin.2 k.shows in
     let gauges_is : gauges ≡ m.gauges = read_gauges ∙ sym (shown_gauges m ws shows) in let alarms_is : alarms ≡ standing m.slots = read_alarms m.slots shows.slots in let clock_is : clock ≡ m.clock = sym (read_word ws 9 clock read_clock) ∙ shows.clock in
-    let whole : IsWhole v.member.share = t.member.count.alone is in let still : IsWhole w.member.share = ap (λ (z : Member). z.share) t.member.same ∙ whole in let n : ℕ = get_or s.words 0 0 in
-    let idle = rest_idle member_of IsIdle n s.views id w k.ends fin.1.1 still in let same : own_of w ≡ own_of v = tally_nothing v w found t in
-    let one : n ≡ 1 = (tallied member_of IsIdle n s.views id w k.ends fin.1.1 (ap (λ (z : Member). z.ends) t.member.same ∙ one_end)).count.whole still in
-    let listed : ViewsShow key.clock m (v ∷ []) = sole_listed key.clock m s.views id v w k.listed fin.1.1 (λ i u has ne. (idle i u has ne).0) same (later_than v w.seen m t.later seen.0) in record {
+    let whole : IsWhole v.member.share = t.count.alone is in let still : IsWhole w.member.share = ap (λ (z : Part). z.share) t.made.member ∙ whole in let n : ℕ = k.now.ends in
+    let idle = rest_spent nothing_did did_both n s.views id w k.true_ends.ends at still in let same : own_of w ≡ own_of v = (λ i. own_of (record v { own = t.made.did i; member = t.made.member i })) in
+    let one : n ≡ 1 = (number_is nothing_did did_both n s.views id w k.true_ends.ends at (ap (λ (z : Part). z.ends) t.made.member ∙ one_end)).whole still in
+    let nothing : (i : ℕ) (u : SeatView) → get_elem? s.views i ≡ maybe.some u → i ≢ id → own_of u ≡ nothing_own = λ i u has ne. none_own key s k id w still at i u has ne in
+    let listed : ViewsShow key.clock m (v ∷ []) = sole_listed key.clock m s.views id v w k.listed at nothing same in record {
       whole = whole;
-      last = m;
+      last = k.now;
+      since = ∥∥₁_map true_v (λ x. reaches_on of_meters v.seen w.seen k.now (reaches_since of_meters v w _ x true_w t.made.adds) (seen_leads of_meters nothing_did did_both (first_reading key.clock) k.now s.views id w k.true_ends at));
       lawful = k.lawful;
       listed = listed;
-      ends = sole_known n s.views id v w k.ends one one_end whole fin.1.1 (λ i u has ne. (idle i u has ne).0) same t.member.later;
+      sole = one;
+      joined = (let b = k.true_ends.ends.balanced in let x = sole_total (λ (u : SeatView). u.member.splits) s.views id w at (λ i u has ne. (idle i u has ne).splits) in let y = sole_total (λ (u : SeatView). u.member.joins) s.views id w at (λ i u has ne. (idle i u has ne).joins) in
+          let a : w.member.splits ≡ v.member.splits = ap (λ (z : Part). z.splits) t.made.member in let c : w.member.joins ≡ v.member.joins = ap (λ (z : Part). z.joins) t.made.member in omega arith);
       gauges_are = gauges_is;
       clock_is = clock_is;
       alarms_are = alarms_is;
       all = same_all v key.clock gauges m.gauges clock m.clock alarms (standing m.slots) gauges_is clock_is alarms_is (all_of key.clock m v k.lawful listed);
     }
-
-pub were_open : (v w : View) (found : ℕ) → Tallied v found w → found ≢ 1 → WereOpen v (found - 1) w
-were_open v w found t ne = let some_end = t.member.count.some_end in let e : found ≡ found - 1 + 1 = omega arith in record {
-  tallied = subst (λ (z : ℕ). Tallied v z w) e t;
-  some_other = omega arith;
-  not_whole = λ whole. ne (t.member.count.whole whole);
-}
+  where
+    none_own : (key : Shape) (s : St) (k : Rule key s) (id : ℕ) (w : SeatView) → IsWhole w.member.share → get_elem? s.views id ≡ maybe.some w → (i : ℕ) (u : SeatView) → get_elem? s.views i ≡ maybe.some u → i ≢ id → own_of u ≡ nothing_own
+    none_own key s k id w whole at i u has ne = let d = rest_spent nothing_did did_both k.now.ends s.views id w k.true_ends.ends at whole i u has ne in let share : u.member.share ≡ 0 = none_share in
+        (λ j. record { ticks = (d.own j).ticks; advances = (d.own j).advances; set = (d.own j).set; fired = (d.own j).fired; cancelled = (d.own j).cancelled; splits = d.splits j; joins = d.joins j; share = share j })
+      where
+        none_share : u.member.share ≡ 0
+        none_share = (let c = k.true_ends.ends.counted in let t = two_of (λ (z : SeatView). z.member.share) s.views i id u w has at ne in let x = c.shared in omega arith)

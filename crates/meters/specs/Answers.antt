@@ -1,140 +1,105 @@
--- What the calls answer, by the steps that they made.
-use Rattle.std.specs.Prelude.{◌≡◌, ◌≢◌, ◌+◌, ◌<◌, ◌≤◌, ℕ, Bool, true, false, List, [], ◌∷◌, length, filter_map}
-use Rattle.std.specs.Prelude.{Option, Some, None}
+-- What the calls answer: the entries that they added, all of them, and how their numbers compare.
+use Rattle.std.specs.Prelude.{◌≡◌, ◌≢◌, ◌⊎◌, ◌+◌, ◌<◌, ◌≤◌, ℕ, Bool, true, false, List, [], ◌∷◌, ◌++◌, length}
+use Rattle.std.specs.Prelude.{filter_map, Option, Some, None}
+use Rattle.std.specs.List.{AllByRecursion}
 use Rattle.event_theory.specs.declared.alarm.Alarm.{Alarm}
+use Rattle.table_theory.specs.declared.views.Moment.{Moment}
+use Rattle.table_theory.specs.Ledgers.{Step, load, change, Adds}
+use Rattle.meters.specs.Layout.{gauge_word, clock_word, slot_word, word_of, alarm_in}
+use Rattle.meters.specs.declared.layout.TheConstants.{SLOTS, LAST_TICK}
 use Rattle.meters.specs.declared.alarms.SetRefusal.{SetRefusal}
 use Rattle.meters.specs.declared.alarms.SetRefusal.TheVariants as not_set
 use Rattle.meters.specs.declared.gauges.AdvanceRefusal.{AdvanceRefusal}
 use Rattle.meters.specs.declared.gauges.AdvanceRefusal.TheVariants as not_advanced
-use Rattle.meters.specs.declared.layout.TheConstants.{SLOTS, LAST_TICK}
-use Rattle.meters.specs.declared.rule.View.{View}
-use Rattle.meters.specs.Changes.{in_slot}
-use Rattle.meters.specs.Steps.{Found, Advanced, SetIn, Fired, Cancelled}
-use Rattle.meters.specs.Layout.{clock_word, slot_word, word_of}
+use Rattle.meters.specs.declared.rule.Reading.{Reading}
+use Rattle.meters.specs.Changes.{with_tick, with_advance, with_alarm, with_fired, with_cancelled}
+use Rattle.meters.specs.Own.{SeatView}
 
--- the clock was loaded, and then moved on from the tick that was found, to the next
-pub record AdvancedNow (v : View) (clock : ℕ) (w : View) : Type 0 where
-  pub found : ℕ
-  pub loaded : View
-  pub clock_loaded : Found v clock_word found loaded
-  pub advanced : Advanced loaded found w
-  pub next : clock ≡ found + 1
+-- the gauge was found at this number, and ticked
+abbrev pub Ticked : SeatView → ℕ → ℕ → ℕ → SeatView → Type 0
+Ticked v gauge amount found w =
+    (m : Moment Reading) × Adds v (change (gauge_word gauge) found m (with_tick m.object gauge amount) ∷ []) w
 
--- the clock was loaded, with ticks left, but the exchange found another, past the one loaded
-pub record WasLost (v : View) (clock : ℕ) (w : View) : Type 0 where
-  pub first : ℕ
-  pub loaded : View
-  pub clock_loaded : Found v clock_word first loaded
-  pub ticks_left : first < LAST_TICK
-  pub missed : Found loaded clock_word clock w
-  pub past : first < clock
+-- the clock was loaded, and moved on from the tick that was found, to the next
+abbrev pub AdvancedNow : SeatView → ℕ → SeatView → Type 0
+AdvancedNow v clock w = (was : ℕ) × (m n : Moment Reading) × (clock ≡ was + 1)
+    × Adds v (load clock_word was m ∷ change clock_word was n (with_advance n.object) ∷ []) w
 
--- why the clock was not moved on. Spent: it was loaded, and is the last tick
-abbrev pub NotAdvanced : View → AdvanceRefusal → View → Type 0
-NotAdvanced v not_advanced.Spent w = Found v clock_word LAST_TICK w
-NotAdvanced v (not_advanced.Lost clock) w = WasLost v clock w
+-- Why the clock was not moved on. Spent: it was loaded, and is the last tick. Lost: it was loaded, but the exchange
+-- found another, past the one loaded
+abbrev pub NotAdvanced : SeatView → AdvanceRefusal → SeatView → Type 0
+NotAdvanced v not_advanced.Spent w = (m : Moment Reading) × Adds v (load clock_word LAST_TICK m ∷ []) w
+NotAdvanced v (not_advanced.Lost clock) w = (was : ℕ) × (m n : Moment Reading) × (was < clock)
+    × Adds v (load clock_word was m ∷ load clock_word clock n ∷ []) w
 
--- a slot's word was found, and this stood in the slot
-pub record FoundIn (v : View) (slot : ℕ) (stood : Option Alarm) (w : View) : Type 0 where
-  pub word : Found v (slot_word slot) (word_of stood) w
-  pub stands : in_slot w.seen slot ≡ stood
+-- numbers that were found in slots, each at its moment
+abbrev pub Scanned : Type 0
+Scanned = List (ℕ × Moment Reading)
 
--- a slot's word was found, and an alarm stood in the slot
-pub record FoundTaken (v : View) (slot : ℕ) (w : View) : Type 0 where
-  pub alarm : Alarm
-  pub found : FoundIn v slot (Some alarm) w
+-- the slots from this one on were loaded, in order
+abbrev pub scan : ℕ → Scanned → List (Step Reading)
+scan slot [] = []
+scan slot (found ∷ more) = load (slot_word slot) found.0 found.1 ∷ scan (slot + 1) more
 
--- a slot's word was found, and something else than this alarm stood in the slot, or nothing
-pub record FoundOther (v : View) (slot : ℕ) (alarm : Alarm) (w : View) : Type 0 where
-  pub stood : Option Alarm
-  pub found : FoundIn v slot stood w
-  pub other : stood ≢ Some alarm
+-- each of them had an alarm
+abbrev pub AreTaken : Scanned → Type 0
+AreTaken scanned = AllByRecursion (λ found. 0 < found.0) scanned
 
--- the slots from this one on were loaded, one behind the other, and these alarms stood in them
-abbrev pub FoundAlarms : View → ℕ → List Alarm → View → Type 0
-FoundAlarms v slot [] w = w ≡ v
-FoundAlarms v slot (alarm ∷ alarms) w =
-    (u : View) × FoundIn v slot (Some alarm) u × FoundAlarms u (slot + 1) alarms w
+-- the slots before this one were found taken, this one empty, and then the alarm was set in it
+abbrev pub SetNow : SeatView → ℕ → Alarm → SeatView → Type 0
+SetNow v slot alarm w = (taken : Scanned) × (m n : Moment Reading)
+    × (length taken ≡ slot) × (slot < SLOTS) × AreTaken taken
+    × Adds v (scan 0 taken
+    ++ load (slot_word slot) 0 m ∷ change (slot_word slot) 0 n (with_alarm n.object slot alarm) ∷ []) w
 
--- the slots before this one were loaded, in order, each taken, and then this one, which was empty
-pub record FoundEmpty (v : View) (slot : ℕ) (w : View) : Type 0 where
-  pub within : slot < SLOTS
-  pub alarms : List Alarm
-  pub as_many : length alarms ≡ slot
-  pub passed : View
-  pub taken : FoundAlarms v 0 alarms passed
-  pub empty : FoundIn passed slot None w
+-- Why an alarm was not set. NoRoom: all 16 slots were found taken. Lost: those before this one were found taken, this
+-- one empty, but the exchange found an alarm in it
+abbrev pub NotSet : SeatView → SetRefusal → SeatView → Type 0
+NotSet v not_set.NoRoom w =
+    (taken : Scanned) × (length taken ≡ SLOTS) × AreTaken taken × Adds v (scan 0 taken) w
+NotSet v (not_set.Lost slot) w = (taken : Scanned) × (other : ℕ) × (m n : Moment Reading)
+    × (length taken ≡ slot) × (slot < SLOTS) × AreTaken taken × (0 < other)
+    × Adds v (scan 0 taken ++ load (slot_word slot) 0 m ∷ load (slot_word slot) other n ∷ []) w
 
--- the first slot that was found empty, by the loads of a search, has the alarm
-pub record SetNow (v : View) (slot : ℕ) (alarm : Alarm) (w : View) : Type 0 where
-  pub before : View
-  pub found : FoundEmpty v slot before
-  pub set : SetIn before slot alarm w
+-- the alarm was found in the slot and cancelled, or another number was found there
+abbrev pub CancelledNow : SeatView → ℕ → Alarm → Bool → SeatView → Type 0
+CancelledNow v slot alarm true w = (m : Moment Reading)
+    × Adds v (change (slot_word slot) (word_of (Some alarm)) m (with_cancelled m.object slot alarm) ∷ []) w
+CancelledNow v slot alarm false w = (other : ℕ) × (m : Moment Reading) × (other ≢ word_of (Some alarm))
+    × Adds v (load (slot_word slot) other m ∷ []) w
 
--- all slots were loaded, each taken
-pub record FoundNoRoom (v w : View) : Type 0 where
-  pub alarms : List Alarm
-  pub sixteen : length alarms ≡ SLOTS
-  pub taken : FoundAlarms v 0 alarms w
-
--- the exchange found the slot taken which the search had found empty
-pub record WasTaken (v : View) (slot : ℕ) (w : View) : Type 0 where
-  pub before : View
-  pub found : FoundEmpty v slot before
-  pub missed : FoundTaken before slot w
-
--- why an alarm was not set
-abbrev pub NotSet : View → SetRefusal → View → Type 0
-NotSet v not_set.NoRoom w = FoundNoRoom v w
-NotSet v (not_set.Lost slot) w = WasTaken v slot w
-
--- the alarm stood in the slot and is cancelled, or it did not stand there
-abbrev pub CancelledNow : View → ℕ → Alarm → Bool → View → Type 0
-CancelledNow v slot alarm true w = Cancelled v slot alarm w
-CancelledNow v slot alarm false w = FoundOther v slot alarm w
-
--- What `due` finds in a slot: what stands there is not due, or an alarm is due and is fired, or it is due but then
--- something else stands there
+-- What `due` finds in a slot: no alarm, or one that is not due; one that is due, and is fired; or one that is due, but
+-- then another number
 pub data Visit : Type 0 where
-  stays : Option Alarm → Visit
-  goes : Alarm → Visit
-  went : Alarm → Visit
+  stays : ℕ → Moment Reading → Visit
+  goes : Alarm → Moment Reading → Moment Reading → Visit
+  went : ℕ → Moment Reading → ℕ → Moment Reading → Visit
 
-abbrev pub IsNotDue : ℕ → Option Alarm → Type 0
-IsNotDue clock None = Unit {0}
-IsNotDue clock (Some alarm) = clock < alarm.due
+-- the entries of a visit of this slot
+abbrev pub entries_of : ℕ → Visit → List (Step Reading)
+entries_of slot (stays found m) = load (slot_word slot) found m ∷ []
+entries_of slot (goes alarm m n) = load (slot_word slot) (word_of (Some alarm)) m
+    ∷ change (slot_word slot) (word_of (Some alarm)) n (with_fired n.object slot alarm) ∷ []
+entries_of slot (went found m other n) = load (slot_word slot) found m ∷ load (slot_word slot) other n ∷ []
 
--- The slot was loaded; where an alarm stood there that is due at this clock, an exchange took it out, or missed
-abbrev pub Visited : View → ℕ → ℕ → Visit → View → Type 0
-Visited v clock slot (stays stood) w = FoundIn v slot stood w × IsNotDue clock stood
-Visited v clock slot (goes alarm) w =
-    (u : View) × FoundIn v slot (Some alarm) u × (alarm.due ≤ clock) × Fired u slot alarm w
-Visited v clock slot (went alarm) w =
-    (u : View) × FoundIn v slot (Some alarm) u × (alarm.due ≤ clock) × FoundOther u slot alarm w
+-- how its numbers compare with the clock
+abbrev pub IsVisit : ℕ → Visit → Type 0
+IsVisit clock (stays found m) = (found ≡ 0) ⊎ (clock < (alarm_in found).due)
+IsVisit clock (goes alarm m n) = alarm.due ≤ clock
+IsVisit clock (went found m other n) = (0 < found) × ((alarm_in found).due ≤ clock) × (other ≢ found)
 
--- the slots from this one on were visited, one behind the other
-abbrev pub AllVisited : View → ℕ → ℕ → List Visit → View → Type 0
-AllVisited v clock slot [] w = w ≡ v
-AllVisited v clock slot (visit ∷ visits) w =
-    (u : View) × Visited v clock slot visit u × AllVisited u clock (slot + 1) visits w
+-- the entries of visits of the slots from this one on, in order
+abbrev pub tour : ℕ → List Visit → List (Step Reading)
+tour slot [] = []
+tour slot (visit ∷ visits) = entries_of slot visit ++ tour (slot + 1) visits
 
 abbrev pub gave : Visit → Option Alarm
-gave (stays stood) = None
-gave (goes alarm) = Some alarm
-gave (went alarm) = None
+gave (stays found m) = None
+gave (goes alarm m n) = Some alarm
+gave (went found m other n) = None
 
--- one slot was visited, and gave this
-pub record Gave (v : View) (clock slot : ℕ) (alarm : Option Alarm) (w : View) : Type 0 where
-  pub visit : Visit
-  pub alarm_is : alarm ≡ gave visit
-  pub visited : Visited v clock slot visit w
-
--- The clock was loaded, and then all slots were visited, in order. The alarms are those that were fired
-pub record FiredNow (v : View) (alarms : List Alarm) (w : View) : Type 0 where
-  pub clock : ℕ
-  pub loaded : View
-  pub clock_loaded : Found v clock_word clock loaded
-  pub visits : List Visit
-  pub sixteen : length visits ≡ SLOTS
-  pub visited : AllVisited loaded clock 0 visits w
-  pub alarms_are : alarms ≡ filter_map gave visits
+-- The clock was loaded, and then all 16 slots were visited, in order. The alarms are those that were fired
+abbrev pub FiredNow : SeatView → List Alarm → SeatView → Type 0
+FiredNow v alarms w = (clock : ℕ) × (m : Moment Reading) × (visits : List Visit) × (length visits ≡ SLOTS)
+    × AllByRecursion (IsVisit clock) visits × (alarms ≡ filter_map gave visits)
+    × Adds v (load clock_word clock m ∷ tour 0 visits) w

@@ -1,26 +1,23 @@
 -- What holds between any two steps: lawful meters of the core that the words and the views show.
-use Rattle.std.specs.Prelude.{◌≡◌, ℕ, ◌+◌, ◌%◌, ◌^◌, ◌<◌, length, map, slice_index_or, count_by, None}
-use mathlib.Core.Option.{some}
-use lib.ListN.{get_elem?}
+use Rattle.std.specs.Prelude.{◌≡◌, ℕ, ◌+◌, ◌%◌, ◌^◌, ◌<◌, length, map, take, drop, slice_index_or, count_by, None}
 use Rattle.atomic_table.specs.Table.{State}
 use Rattle.event_theory.specs.declared.alarm.Alarm.{Alarm}
 use Rattle.event_theory.specs.Lawful.{IsLawfulMeters, stands}
 use Rattle.event_theory.specs.Meters.{Meters}
-use Rattle.table_theory.specs.Courses.{IsCourse}
-use Rattle.table_theory.specs.Members.{EndsKnown}
+use Rattle.table_theory.specs.declared.views.Moment.{Moment}
+use Rattle.table_theory.specs.Ledgers.{AreTrue}
 use Rattle.table_theory.specs.Sharing.{total}
+use Rattle.meters.specs.Layout.{ends_word, clock_word, word_of, width, gauges_in, slots_in}
 use Rattle.meters.specs.declared.layout.TheConstants.{GAUGES, SLOTS, TICKS}
 use Rattle.meters.specs.declared.rule.Reading.{Reading}
 use Rattle.meters.specs.declared.rule.Shape.{Shape}
-use Rattle.meters.specs.declared.rule.View.{View}
 use Rattle.meters.specs.Changes.{meters_of, first_reading}
-use Rattle.meters.specs.Rules.{member_of, steps_of, course_of, IsIdle}
-use Rattle.meters.specs.Views.{AdvancesShow, amount_on, times, Later}
-use Rattle.meters.specs.Layout.{ends_word, clock_word, width, gauges_in, slots_in, word_of}
+use Rattle.meters.specs.Own.{SeatView, of_meters, nothing_did}
+use Rattle.meters.specs.Views.{AdvancesShow, amount_on, times}
 use Rattle.meters.specs.Words.{Fits}
 
 -- the words and the views show the meters
-pub record IsShown (key : Shape) (s : State Unit View) (m : Meters) : Type 0 where
+pub record IsShown (key : Shape) (s : State Unit SeatView) (m : Meters) : Type 0 where
   pub long : length s.words ≡ width
   pub gauges : m.gauges ≡ gauges_in s.words
   pub clock : m.clock ≡ slice_index_or s.words clock_word 0
@@ -29,27 +26,25 @@ pub record IsShown (key : Shape) (s : State Unit View) (m : Meters) : Type 0 whe
   pub fit : (slot : ℕ) → slot < SLOTS → Fits (slice_index_or m.slots slot None)
   -- the gauges are the sums of the ticks that the ends list
   pub sums : (gauge : ℕ) → gauge < GAUGES
-      → slice_index_or m.gauges gauge 0 ≡ total (λ v. amount_on gauge v.ticks) s.views % 2 ^ 64
+      → slice_index_or m.gauges gauge 0 ≡ total (λ v. amount_on gauge v.own.ticks) s.views % 2 ^ 64
   -- the clock was moved on as often as the ends list, once to each tick
   pub advances : AdvancesShow key.clock m.clock s.views
-  pub set : (alarm : Alarm) → times alarm m.set ≡ total (λ v. times alarm v.set) s.views
-  pub fired : (alarm : Alarm) → times alarm m.fired ≡ total (λ v. times alarm v.fired) s.views
-  pub cancelled : (alarm : Alarm) → times alarm m.cancelled ≡ total (λ v. times alarm v.cancelled) s.views
+  pub set : (alarm : Alarm) → times alarm m.set ≡ total (λ v. times alarm v.own.set) s.views
+  pub fired : (alarm : Alarm) → times alarm m.fired ≡ total (λ v. times alarm v.own.fired) s.views
+  pub cancelled : (alarm : Alarm) → times alarm m.cancelled ≡ total (λ v. times alarm v.own.cancelled) s.views
   -- by the ends' lists, each alarm set was fired, cancelled or stands
-  pub once : (alarm : Alarm) → total (λ v. times alarm v.set) s.views
-      ≡ total (λ v. times alarm v.fired) s.views + total (λ v. times alarm v.cancelled) s.views
+  pub once : (alarm : Alarm) → total (λ v. times alarm v.own.set) s.views
+      ≡ total (λ v. times alarm v.own.fired) s.views + total (λ v. times alarm v.own.cancelled) s.views
       + count_by (stands alarm) m.slots
 
 -- there are lawful meters that are shown
-pub record ShowsMeters (key : Shape) (s : State Unit View) : Type 0 where
-  pub now : Reading
+pub record ShowsMeters (key : Shape) (s : State Unit SeatView) : Type 0 where
+  pub now : Moment Reading
   pub meters : Meters
   pub lawful : IsLawfulMeters meters
   pub shown : IsShown key s meters
-  pub same : meters ≡ meters_of now
-  -- each end has seen the meters no later than now
-  pub seen : (j : ℕ) (v : View) → get_elem? s.views j ≡ some v → Later v now
-  -- the ends' steps lead to it from the first meters, and each end has seen all of them up to its own last one
-  pub course : IsCourse steps_of course_of (first_reading key.clock) now s.views
+  pub same : meters ≡ meters_of now.object
   -- the word has the number of the ends that stand
-  pub ends : EndsKnown member_of IsIdle (slice_index_or s.words ends_word 0) s.views
+  pub number : slice_index_or s.words ends_word 0 ≡ now.ends
+  -- the ends' steps lead to it from the first meters, and each end has seen all of them up to its own last one
+  pub true_ends : AreTrue of_meters nothing_did (first_reading key.clock) now s.views

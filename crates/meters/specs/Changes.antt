@@ -1,11 +1,10 @@
--- How the meters change: by one event of the core at a time.
-use Rattle.std.specs.Prelude.{◌≡◌, ℕ, ◌∷◌, [], ◌<◌, length, slice_index_or, slice_set, Option, Some, None, Ok}
-use Rattle.std.specs.Prelude.{count_by}
+-- How the meters change: by one event at a time. `Events` has the core's events that these are.
+use Rattle.std.specs.Prelude.{◌≡◌, ℕ, ◌+◌, ◌%◌, ◌^◌, ◌<◌, ◌≤◌, [], ◌∷◌, ◌++◌, slice_index_or, slice_set, Option, Some, None}
 use Rattle.std.specs.List.{repeat}
 use Rattle.event_theory.specs.declared.alarm.Alarm.{Alarm}
-use Rattle.event_theory.specs.Meters.{Meters, tick, advance, set_alarm, fire, cancel}
-use Rattle.event_theory.specs.Lawful.{IsLawfulMeters, stands}
-use Rattle.meters.specs.declared.layout.TheConstants.{GAUGES, SLOTS}
+use Rattle.event_theory.specs.Meters.{Meters}
+use Rattle.event_theory.specs.Lawful.{IsLawfulMeters}
+use Rattle.meters.specs.declared.layout.TheConstants.{GAUGES, SLOTS, LAST_TICK}
 use Rattle.meters.specs.declared.rule.Reading.{Reading}
 
 -- the core's meters that a reading has
@@ -37,34 +36,33 @@ first_reading clock = record {
   cancelled = [];
 }
 
--- the same but for the slots that the same alarms stand in
-pub record AreAlike (m n : Meters) : Type 0 where
-  pub gauges : n.gauges ≡ m.gauges
-  pub clock : n.clock ≡ m.clock
-  pub set : n.set ≡ m.set
-  pub fired : n.fired ≡ m.fired
-  pub cancelled : n.cancelled ≡ m.cancelled
-  pub as_many : length n.slots ≡ length m.slots
-  pub stand : (alarm : Alarm) → count_by (stands alarm) n.slots ≡ count_by (stands alarm) m.slots
+-- the meters after each event: a tick of a gauge
+abbrev pub with_tick : Reading → ℕ → ℕ → Reading
+with_tick m gauge amount = record m {
+  gauges = slice_set m.gauges gauge ((slice_index_or m.gauges gauge 0 + amount) % 2 ^ 64);
+}
 
--- The alarm is set, in this slot, which was empty. It is the core's event, which sets it in the first empty slot
-pub record IsSet (slot : ℕ) (alarm : Alarm) (m n : Reading) : Type 0 where
-  pub within : slot < length m.slots
-  pub empty : in_slot m slot ≡ None
-  pub slots : n.slots ≡ slice_set m.slots slot (Some alarm)
-  pub core : Meters
-  pub event : set_alarm alarm (meters_of m) ≡ Ok core
-  pub alike : AreAlike core (meters_of n)
+-- the clock is one tick on
+abbrev pub with_advance : Reading → Reading
+with_advance m = record m { clock = m.clock + 1 }
 
--- one event of the core
-pub data Happens (m n : Reading) : Type 0 where
-  ticked : (gauge amount : ℕ) → tick gauge amount (meters_of m) ≡ Ok (meters_of n) → Happens m n
-  advanced : advance (meters_of m) ≡ Ok (meters_of n) → Happens m n
-  was_set : (slot : ℕ) (alarm : Alarm) → IsSet slot alarm m n → Happens m n
-  fired : (slot : ℕ) → fire slot (meters_of m) ≡ Ok (meters_of n) → Happens m n
-  cancelled : (slot : ℕ) → cancel slot (meters_of m) ≡ Ok (meters_of n) → Happens m n
+-- the alarm is set in this slot
+abbrev pub with_alarm : Reading → ℕ → Alarm → Reading
+with_alarm m slot alarm = record m { slots = slice_set m.slots slot (Some alarm); set = m.set ++ alarm ∷ [] }
 
--- events of the core, one after another, lead from the one to the other
-pub data Leads (m : Reading) : Reading → Type 0 where
-  here : Leads m m
-  further : (n o : Reading) → Leads m n → Happens n o → Leads m o
+-- the alarm of this slot is taken out, as fired or as cancelled
+abbrev pub with_fired : Reading → ℕ → Alarm → Reading
+with_fired m slot alarm = record m { slots = slice_set m.slots slot None; fired = m.fired ++ alarm ∷ [] }
+
+abbrev pub with_cancelled : Reading → ℕ → Alarm → Reading
+with_cancelled m slot alarm = record m { slots = slice_set m.slots slot None; cancelled = m.cancelled ++ alarm ∷ [] }
+
+-- one event makes n of m
+pub data Becomes (m n : Reading) : Type 0 where
+  ticked : (gauge amount : ℕ) → gauge < GAUGES → n ≡ with_tick m gauge amount → Becomes m n
+  advanced : m.clock < LAST_TICK → n ≡ with_advance m → Becomes m n
+  was_set : (slot : ℕ) (alarm : Alarm) → slot < SLOTS → in_slot m slot ≡ None → n ≡ with_alarm m slot alarm → Becomes m n
+  fired : (slot : ℕ) (alarm : Alarm) → slot < SLOTS → in_slot m slot ≡ Some alarm → alarm.due ≤ m.clock
+      → n ≡ with_fired m slot alarm → Becomes m n
+  cancelled : (slot : ℕ) (alarm : Alarm) → slot < SLOTS → in_slot m slot ≡ Some alarm → n ≡ with_cancelled m slot alarm
+      → Becomes m n

@@ -1,13 +1,13 @@
 -- What a clause says of meters and of their ends.
 use Rattle.std.specs.Prelude.{◌≡◌, ◌≤◌, ℕ}
-use Rattle.meters.specs.declared.rule.View.{View}
+use Rattle.meters.specs.Own.{SeatView}
 use Rattle.meters.specs.declared.ends.Meters.{Meters}
 use Rattle.meters.specs.declared.ends.MeterSeat.{MeterSeat}
 use Rattle.table_theory.specs.Seating.{IsSame}
 use Rattle.table_theory.specs.Sharing.{IsWhole}
 
 -- what the end knows
-abbrev pub view_of : MeterSeat → View
+abbrev pub view_of : MeterSeat → SeatView
 view_of end = end.seat.me.0
 
 -- the clock with which the meters were made

@@ -1,11 +1,12 @@
 pub mod Layout
 pub mod Words
 pub mod Changes
+pub mod Events
 pub mod Own
 pub mod Views
 pub mod Rules
-pub mod Steps
 pub mod Answers
+pub mod Steps
 pub mod Handles
 pub mod Endings
 pub mod Closings

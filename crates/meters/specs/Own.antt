@@ -1,9 +1,37 @@
 -- What is an end's own: what it did, and its share. Each call says how its end's own changes.
 use Rattle.std.specs.Prelude.{◌≡◌, ℕ, ◌+◌, List, [], ◌∷◌, ◌++◌}
 use Rattle.event_theory.specs.declared.alarm.Alarm.{Alarm}
+use Rattle.table_theory.specs.declared.views.Ledger.{Ledger}
+use Rattle.table_theory.specs.Ledgers.{Subject}
 use Rattle.table_theory.specs.Sharing.{kept}
+use Rattle.meters.specs.Layout.{ends_word}
+use Rattle.meters.specs.declared.rule.Did.{Did}
+use Rattle.meters.specs.declared.rule.Reading.{Reading}
 use Rattle.meters.specs.declared.rule.Tick.{Tick}
-use Rattle.meters.specs.declared.rule.View.{View}
+use Rattle.meters.specs.Changes.{IsLawful, Becomes}
+use Rattle.meters.specs.Words.{WordsShow}
+
+-- what an end of the meters knows
+abbrev pub SeatView : Type 0
+SeatView = Ledger Did Reading
+
+-- what an end did that did nothing
+abbrev pub nothing_did : Did
+nothing_did = record { ticks = []; advances = []; set = []; fired = []; cancelled = [] }
+
+-- what two ends did
+abbrev pub did_both : Did → Did → Did
+did_both d e = record {
+  ticks = d.ticks ++ e.ticks;
+  advances = d.advances ++ e.advances;
+  set = d.set ++ e.set;
+  fired = d.fired ++ e.fired;
+  cancelled = d.cancelled ++ e.cancelled;
+}
+
+-- what the table of the meters says of them
+abbrev pub of_meters : Subject Reading
+of_meters = record { ends_word = ends_word; Shows = WordsShow; IsLawful = IsLawful; Happens = Becomes }
 
 -- its ticks, the ticks that it moved the clock on to, the alarms that it set, fired and cancelled, how often it was
 -- split and took in another end, and its share
@@ -17,13 +45,13 @@ pub record Own : Type 0 where
   pub joins : ℕ
   pub share : ℕ
 
-abbrev pub own_of : View → Own
+abbrev pub own_of : SeatView → Own
 own_of v = record {
-  ticks = v.ticks;
-  advances = v.advances;
-  set = v.set;
-  fired = v.fired;
-  cancelled = v.cancelled;
+  ticks = v.own.ticks;
+  advances = v.own.advances;
+  set = v.own.set;
+  fired = v.own.fired;
+  cancelled = v.own.cancelled;
   splits = v.member.splits;
   joins = v.member.joins;
   share = v.member.share;
@@ -42,39 +70,39 @@ nothing_own = record {
 }
 
 -- the end's own is as it was
-abbrev pub DidNothing : View → View → Type 0
+abbrev pub DidNothing : SeatView → SeatView → Type 0
 DidNothing v w = own_of w ≡ own_of v
 
 -- one of these more, and nothing else: a tick of this gauge by this amount; a move of the clock on to this tick; an
 -- alarm set; an alarm cancelled; these alarms fired
-abbrev pub DidTick : ℕ → ℕ → View → View → Type 0
+abbrev pub DidTick : ℕ → ℕ → SeatView → SeatView → Type 0
 DidTick gauge amount v w =
-    own_of w ≡ record (own_of v) { ticks = v.ticks ++ record { gauge = gauge; amount = amount } ∷ [] }
+    own_of w ≡ record (own_of v) { ticks = v.own.ticks ++ record { gauge = gauge; amount = amount } ∷ [] }
 
-abbrev pub DidAdvance : ℕ → View → View → Type 0
-DidAdvance clock v w = own_of w ≡ record (own_of v) { advances = v.advances ++ clock ∷ [] }
+abbrev pub DidAdvance : ℕ → SeatView → SeatView → Type 0
+DidAdvance clock v w = own_of w ≡ record (own_of v) { advances = v.own.advances ++ clock ∷ [] }
 
-abbrev pub DidSet : Alarm → View → View → Type 0
-DidSet alarm v w = own_of w ≡ record (own_of v) { set = v.set ++ alarm ∷ [] }
+abbrev pub DidSet : Alarm → SeatView → SeatView → Type 0
+DidSet alarm v w = own_of w ≡ record (own_of v) { set = v.own.set ++ alarm ∷ [] }
 
-abbrev pub DidCancel : Alarm → View → View → Type 0
-DidCancel alarm v w = own_of w ≡ record (own_of v) { cancelled = v.cancelled ++ alarm ∷ [] }
+abbrev pub DidCancel : Alarm → SeatView → SeatView → Type 0
+DidCancel alarm v w = own_of w ≡ record (own_of v) { cancelled = v.own.cancelled ++ alarm ∷ [] }
 
-abbrev pub DidFire : List Alarm → View → View → Type 0
-DidFire alarms v w = own_of w ≡ record (own_of v) { fired = v.fired ++ alarms }
+abbrev pub DidFire : List Alarm → SeatView → SeatView → Type 0
+DidFire alarms v w = own_of w ≡ record (own_of v) { fired = v.own.fired ++ alarms }
 
 -- a split more, and the share that is kept
-abbrev pub DidSplit : View → View → Type 0
+abbrev pub DidSplit : SeatView → SeatView → Type 0
 DidSplit v w = own_of w ≡ record (own_of v) { splits = v.member.splits + 1; share = kept v.member.share }
 
 -- the end then has what both had, and one join more
-abbrev pub DidBoth : View → View → View → Type 0
+abbrev pub DidBoth : SeatView → SeatView → SeatView → Type 0
 DidBoth v u w = own_of w ≡ record {
-  ticks = v.ticks ++ u.ticks;
-  advances = v.advances ++ u.advances;
-  set = v.set ++ u.set;
-  fired = v.fired ++ u.fired;
-  cancelled = v.cancelled ++ u.cancelled;
+  ticks = v.own.ticks ++ u.own.ticks;
+  advances = v.own.advances ++ u.own.advances;
+  set = v.own.set ++ u.own.set;
+  fired = v.own.fired ++ u.own.fired;
+  cancelled = v.own.cancelled ++ u.own.cancelled;
   splits = v.member.splits + u.member.splits;
   joins = v.member.joins + u.member.joins + 1;
   share = v.member.share + u.member.share;

@@ -1,8 +1,9 @@
 //! Alarms.
 ghost use Rattle.std.specs.Prelude.{◌≡◌, ◌<◌, ◌≤◌, MatchResult, MatchBool, MatchOption, [], ◌∷◌};
-ghost use Rattle.meters.specs.Handles.{view_of, IsSeatOf, IsSameSeat};
-ghost use Rattle.meters.specs.Answers.{SetNow, NotSet, CancelledNow, Gave, FiredNow};
 ghost use Rattle.meters.specs.declared.layout.TheConstants.{SLOTS};
+ghost use Rattle.meters.specs.Handles.{view_of, IsSeatOf, IsSameSeat};
+ghost use Rattle.meters.specs.Answers.{SetNow, NotSet, CancelledNow, FiredNow};
+ghost use Rattle.meters.specs.Steps.{Gave};
 ghost use Rattle.meters.specs.Own.{DidNothing, DidSet, DidCancel, DidFire};
 
 use crate::ends::{MeterSeat, Meters};
@@ -29,11 +30,11 @@ impl Meters {
     /// Gives the slot, 0 to 15, by which the alarm can be cancelled.
     pub fn try_set(&self, seat: &mut MeterSeat, alarm: Alarm) -> Result<usize, SetRefusal>
         requires { IsSeatOf self.now seat.old }
-        ensures seat { IsSameSeat seat.old seat.new }
-        ensures set { MatchResult result (λ slot. SetNow (view_of seat.old) slot alarm (view_of seat.new))
-            (λ r. NotSet (view_of seat.old) r (view_of seat.new)) }
         ensures own { MatchResult result (λ slot. DidSet alarm (view_of seat.old) (view_of seat.new))
             (λ r. DidNothing (view_of seat.old) (view_of seat.new)) }
+        ensures steps { MatchResult result (λ slot. SetNow (view_of seat.old) slot alarm (view_of seat.new))
+            (λ r. NotSet (view_of seat.old) r (view_of seat.new)) }
+        ensures same { IsSameSeat seat.old seat.new }
     {
         for slot in 0..SLOTS {
             if load_alarm(&self.table.shared, &mut seat.seat, slot).is_none() {
@@ -50,20 +51,20 @@ impl Meters {
     /// cancelled before, or never stood there. Two alarms that are equal cannot be told apart.
     pub fn cancel(&self, seat: &mut MeterSeat, slot: usize, alarm: Alarm) -> bool
         requires { IsSeatOf self.now seat.old × (slot < SLOTS) }
-        ensures seat { IsSameSeat seat.old seat.new }
-        ensures cancelled { CancelledNow (view_of seat.old) slot alarm result (view_of seat.new) }
         ensures own { MatchBool result (DidCancel alarm (view_of seat.old) (view_of seat.new))
             (DidNothing (view_of seat.old) (view_of seat.new)) }
+        ensures steps { CancelledNow (view_of seat.old) slot alarm result (view_of seat.new) }
+        ensures same { IsSameSeat seat.old seat.new }
     {
         exchange_cancelled(&self.table.shared, &mut seat.seat, slot, alarm)
     }
 
     // Takes out the alarm of this slot where it is due at this tick of the clock.
     fn fire(&self, seat: &mut MeterSeat, slot: usize, clock: u64) -> Option<Alarm>
-        requires { IsSeatOf self.now seat.old × (slot < SLOTS) × (clock ≤ (view_of seat.old).seen.clock) }
-        ensures seat { IsSameSeat seat.old seat.new }
+        requires { IsSeatOf self.now seat.old × (slot < SLOTS) × (clock ≤ (view_of seat.old).seen.object.clock) }
         ensures gave { Gave (view_of seat.old) clock slot result (view_of seat.new) }
-        ensures clock { clock ≤ (view_of seat.new).seen.clock }
+        ensures clock { clock ≤ (view_of seat.new).seen.object.clock }
+        ensures same { IsSameSeat seat.old seat.new }
     {
         let alarm = load_alarm(&self.table.shared, &mut seat.seat, slot)?;
         let standing = alarm;
@@ -82,9 +83,9 @@ impl Meters {
     /// passed over.
     pub fn due(&self, seat: &mut MeterSeat) -> ArrayVec<Alarm, SLOTS>
         requires { IsSeatOf self.now seat.old }
-        ensures seat { IsSameSeat seat.old seat.new }
-        ensures fired { FiredNow (view_of seat.old) result.items (view_of seat.new) }
         ensures own { DidFire result.items (view_of seat.old) (view_of seat.new) }
+        ensures steps { FiredNow (view_of seat.old) result.items (view_of seat.new) }
+        ensures same { IsSameSeat seat.old seat.new }
     {
         let clock = load_clock(&self.table.shared, &mut seat.seat);
         let mut fired = ArrayVec::new();

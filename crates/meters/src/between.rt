@@ -2,10 +2,11 @@
 
 ghost use Rattle.atomic_table.specs.Table.{State};
 ghost use Rattle.meters.specs.declared.rule.Shape.{Shape};
-ghost use Rattle.meters.specs.declared.rule.View.{View};
-ghost use Rattle.std.specs.Prelude.{◌≤◌};
-ghost use Rattle.meters.specs.Changes.{Leads};
 ghost use Rattle.meters.specs.declared.rule.Reading.{Reading};
+ghost use Rattle.std.specs.Prelude.{◌≤◌};
+ghost use Rattle.table_theory.specs.declared.views.Moment.{Moment};
+ghost use Rattle.table_theory.specs.Ledgers.{Reaches};
+ghost use Rattle.meters.specs.Own.{SeatView, of_meters};
 ghost use Rattle.meters.specs.Between.{ShowsMeters};
 
 use crate::rule::{MeterRule, Shape, View};
@@ -16,7 +17,7 @@ use atomic_table::TableRule;
 /// Every atomic step of this crate keeps the rule, so it holds between any two steps, whoever makes them. And wherever
 /// the steps lead, the clock never goes down.
 pub fn between_steps()
-    ensures shown { (key : Shape) (state : State Unit View)
+    ensures shown { (key : Shape) (state : State Unit SeatView)
         → ⟦<MeterRule as TableRule<(), View, Shape>>⟧.holds key state → ShowsMeters key state }
-    ensures clock { (m n : Reading) → Leads m n → m.clock ≤ n.clock }
+    ensures clock { (m n : Moment Reading) → Reaches of_meters m n → m.object.clock ≤ n.object.clock }
 {}

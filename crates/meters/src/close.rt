@@ -56,11 +56,11 @@ impl Meters {
     /// of the others. It takes no memory.
     pub fn close(self, seat: MeterSeat) -> Result<Metered, (Meters, MeterSeat, OpenEnds)>
         requires { IsSeatOf self seat }
+        ensures only { IsOnlySeat seat → MatchResult result (λ c. Unit {0}) (λ e. ⊥) }
         ensures closed { IfOk result
             (λ c. ClosedNow (first_of self) (view_of seat) c.gauges c.clock c.alarms.items) }
-        ensures open { IfErr result (λ e. (e.0 ≡ self) × IsSameSeat seat e.1
-            × WereOpen (view_of seat) e.2.others (view_of e.1)) }
-        ensures only { IsOnlySeat seat → MatchResult result (λ c. Unit {0}) (λ e. ⊥) }
+        ensures steps { IfErr result (λ e. WereOpen (view_of seat) e.2.others (view_of e.1)) }
+        ensures same { IfErr result (λ e. (e.0 ≡ self) × IsSameSeat seat e.1) }
     {
         let mut seat = seat;
         let ends = count(&self.table.shared, &mut seat.seat);

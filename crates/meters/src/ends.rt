@@ -3,7 +3,8 @@ ghost use Rattle.std.specs.Prelude.{◌≡◌, [], IfOk};
 ghost use Rattle.meters.specs.Layout.{width};
 ghost use Rattle.meters.specs.Rules.{newcomer};
 ghost use Rattle.meters.specs.Endings.{Divided, IsNewborn, TookIn};
-ghost use Rattle.meters.specs.Own.{DidSplit, DidBoth};
+ghost use Rattle.meters.specs.Own.{DidSplit, DidBoth, of_meters};
+ghost use Rattle.table_theory.specs.Ledgers.{IsHonest};
 
 use crate::layout::{CLOCK, ENDS, WORDS};
 use crate::rule::{MeterRule, Shape, View};
@@ -25,12 +26,16 @@ pub struct Meters {
 
 /// An end of the meters. It has no bytes.
 ///
+/// What it lists is true: each entry of its steps, and of the steps of all ends that it has seen, found the number that
+/// stood in its word then, and found the meters as the step before it left them, lawful and shown by the words.
+///
 /// An end that is dropped can never be joined, so the meters can then never be closed; what it did stays done.
 #[derive(Drop)]
 pub struct MeterSeat {
     pub(crate) seat: Seat<(), View>,
     ghost bare: { seat.me.1 ≡ [] },
     ghost one: { seat.me.0.member.ends ≡ 1 },
+    ghost told: { ∥ IsHonest of_meters seat.me.0 ∥₁ },
 }
 
 impl Meters {
@@ -51,29 +56,31 @@ impl Meters {
         Ok((Meters { table }, MeterSeat { seat }))
     }
 
-    /// A new end, which has done nothing. Both ends are to be joined again before the meters can be closed.
+    /// A new end, which has done nothing. Both ends are to be joined again before the meters can be closed. Besides the
+    /// step that counts it, the first word is loaded once, and what is found there is not used.
     ///
     /// Condition: the end has two parts or more of its meters' 2^64 - 1. The first end can be split two million
     /// times without a join, and each of those ends 43 times in a chain.
     pub fn split(&self, seat: &mut MeterSeat) -> MeterSeat
         requires seat { IsSeatOf self.now seat.old }
         requires parts { IsDivisible seat.old }
-        ensures seat { IsSameSeat seat.old seat.new × AreOfOneTable seat.old result }
-        ensures split { Divided (view_of seat.old) (view_of seat.new) }
-        ensures born { IsNewborn (view_of seat.old) (view_of seat.new) (view_of result) }
         ensures own { DidSplit (view_of seat.old) (view_of seat.new) }
+        ensures born { IsNewborn (view_of seat.old) (view_of seat.new) (view_of result) }
+        ensures steps { Divided (view_of seat.old) (view_of seat.new) }
+        ensures same { IsSameSeat seat.old seat.new × AreOfOneTable seat.old result }
     {
         count_up(&self.table.shared, &mut seat.seat);
         let new = split_off(&self.table.shared, &mut seat.seat);
         MeterSeat { seat: new }
     }
 
-    /// The first end then has all that both had: what they did, and their parts of the meters.
+    /// The first end then has all that both had: what they did, and their parts of the meters. Besides the step that
+    /// counts one end less, the first word is loaded once, and what is found there is not used.
     pub fn join(&self, seat: &mut MeterSeat, other: MeterSeat)
         requires { IsSeatOf self.now seat.old × IsSeatOf self.now other }
-        ensures seat { IsSameSeat seat.old seat.new }
-        ensures joined { TookIn (view_of seat.old) (view_of other) (view_of seat.new) }
         ensures own { DidBoth (view_of seat.old) (view_of other) (view_of seat.new) }
+        ensures steps { TookIn (view_of seat.old) (view_of other) (view_of seat.new) }
+        ensures same { IsSameSeat seat.old seat.new }
     {
         let MeterSeat { seat: spent } = other;
         take_in::<Brand>(&self.table.shared, &mut seat.seat, spent);

@@ -1,9 +1,8 @@
 //! Gauges and the clock.
 ghost use Rattle.std.specs.Prelude.{◌≡◌, ◌<◌, MatchResult};
-ghost use Rattle.meters.specs.Handles.{view_of, IsSeatOf, IsSameSeat};
 ghost use Rattle.meters.specs.declared.layout.TheConstants.{GAUGES};
-ghost use Rattle.meters.specs.Steps.{Ticked};
-ghost use Rattle.meters.specs.Answers.{AdvancedNow, NotAdvanced};
+ghost use Rattle.meters.specs.Handles.{view_of, IsSeatOf, IsSameSeat};
+ghost use Rattle.meters.specs.Answers.{Ticked, AdvancedNow, NotAdvanced};
 ghost use Rattle.meters.specs.Own.{DidNothing, DidTick, DidAdvance};
 
 use crate::ends::{MeterSeat, Meters};
@@ -26,9 +25,9 @@ impl Meters {
     /// Adds `amount` to the gauge 0 to 7, modulo 2^64, by one step, and gives the gauge's value before.
     pub fn tick(&self, seat: &mut MeterSeat, gauge: usize, amount: u64) -> u64
         requires { IsSeatOf self.now seat.old × (gauge < GAUGES) }
-        ensures seat { IsSameSeat seat.old seat.new }
-        ensures ticked { Ticked (view_of seat.old) gauge amount result (view_of seat.new) }
         ensures own { DidTick gauge amount (view_of seat.old) (view_of seat.new) }
+        ensures steps { Ticked (view_of seat.old) gauge amount result (view_of seat.new) }
+        ensures same { IsSameSeat seat.old seat.new }
     {
         add_to_gauge(&self.table.shared, &mut seat.seat, gauge, amount)
     }
@@ -37,11 +36,11 @@ impl Meters {
     /// after.
     pub fn advance(&self, seat: &mut MeterSeat) -> Result<u32, AdvanceRefusal>
         requires { IsSeatOf self.now seat.old }
-        ensures seat { IsSameSeat seat.old seat.new }
-        ensures advanced { MatchResult result (λ clock. AdvancedNow (view_of seat.old) clock (view_of seat.new))
-            (λ r. NotAdvanced (view_of seat.old) r (view_of seat.new)) }
         ensures own { MatchResult result (λ clock. DidAdvance clock (view_of seat.old) (view_of seat.new))
             (λ r. DidNothing (view_of seat.old) (view_of seat.new)) }
+        ensures steps { MatchResult result (λ clock. AdvancedNow (view_of seat.old) clock (view_of seat.new))
+            (λ r. NotAdvanced (view_of seat.old) r (view_of seat.new)) }
+        ensures same { IsSameSeat seat.old seat.new }
     {
         let clock = load_clock(&self.table.shared, &mut seat.seat);
         if clock == LAST_TICK {

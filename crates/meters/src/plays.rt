@@ -1,8 +1,9 @@
 //! What each step tells. These types are for the proofs alone.
-ghost use Rattle.meters.specs.Steps.{finds, ticks, advances, sets, fires, cancels, counts_up, counts_down, counts};
-ghost use Rattle.meters.specs.Steps.{rest_of, newborn, both};
+ghost use Rattle.table_theory.specs.Ledgers.{rest_of, newborn, both};
+ghost use Rattle.table_theory.specs.Plays.{finds, counts_up, counts};
+ghost use Rattle.meters.specs.Own.{SeatView, of_meters, nothing_did, did_both};
 ghost use Rattle.meters.specs.Rules.{newcomer};
-ghost use Rattle.meters.specs.declared.rule.View.{View};
+ghost use Rattle.meters.specs.Steps.{ticks, advances, sets, fires, cancels, counts_down};
 
 use crate::rule::View;
 use atomic_table::{Join, Play, Split};
@@ -11,7 +12,7 @@ use std::marker::{Brand, PhantomData};
 pub struct Finds;
 
 impl Play<(), View> for Finds {
-    ghost then = { finds };
+    ghost then = { finds of_meters };
 }
 
 pub struct Ticks;
@@ -47,7 +48,7 @@ impl Play<(), View> for Cancels {
 pub struct CountsUp;
 
 impl Play<(), View> for CountsUp {
-    ghost then = { counts_up };
+    ghost then = { counts_up of_meters };
 }
 
 pub struct CountsDown;
@@ -59,7 +60,7 @@ impl Play<(), View> for CountsDown {
 pub struct Counts;
 
 impl Play<(), View> for Counts {
-    ghost then = { counts };
+    ghost then = { counts of_meters };
 }
 
 pub struct Gives;
@@ -67,12 +68,12 @@ pub struct Gives;
 impl Split<View> for Gives {
     ghost left = { rest_of };
 
-    ghost right = { newborn };
+    ghost right = { newborn nothing_did };
 }
 
 /// The view of an end that was taken in.
 pub trait Spent {
-    ghost view: { View };
+    ghost view: { SeatView };
 }
 
 impl Spent for Brand {
@@ -84,7 +85,7 @@ pub struct Joins<J> {
 }
 
 impl<J: Spent> Join<View> for Joins<J> {
-    ghost both = { both };
+    ghost both = { both did_both };
 
     ghost spent = { J.view };
 }

@@ -3,7 +3,7 @@
 use atomic_table::TableRule;
 use event_theory::Alarm;
 use std::collections::LinkedList;
-use table_theory::views::{Entry, Member};
+use table_theory::views::Ledger;
 
 /// What the rule is told when the table is made: the clock then.
 #[derive(Drop)]
@@ -28,21 +28,18 @@ pub struct Reading {
     pub cancelled: LinkedList<Alarm>,
 }
 
-/// What an end knows: the meters at its last step, the meters as an end that it joined had seen them, its own ticks,
-/// the ticks that it moved the clock on to, the alarms that it set, fired and cancelled, which of the ends it is, every
-/// step that it made, and every step that any end had made up to its own last one.
-pub struct View {
-    pub seen: Reading,
-    pub joined: Reading,
+/// What an end did: its ticks, the ticks that it moved the clock on to, and the alarms that it set, fired and
+/// cancelled. Proofs alone speak of it.
+pub struct Did {
     pub ticks: LinkedList<Tick>,
     pub advances: LinkedList<u64>,
     pub set: LinkedList<Alarm>,
     pub fired: LinkedList<Alarm>,
     pub cancelled: LinkedList<Alarm>,
-    pub member: Member,
-    pub steps: LinkedList<Entry<Reading>>,
-    pub course: LinkedList<Entry<Reading>>,
 }
+
+/// What an end knows: what it did, its steps, and all ends' steps up to its own last one.
+pub type View = Ledger<Did, Reading>;
 
 pub struct MeterRule;
 

@@ -1,11 +1,13 @@
 //! The atomic steps, one function for each kind.
-ghost use Rattle.std.specs.Prelude.{◌≡◌, ◌≢◌, ◌+◌, ◌<◌, ◌≤◌, [], IsTrue, IsFalse};
+ghost use Rattle.std.specs.Prelude.{◌≡◌, ◌≢◌, ◌+◌, ◌<◌, ◌≤◌, [], IsTrue, IsFalse, Some, None};
 ghost use Rattle.table_theory.specs.Seating.{IsSame};
-ghost use Rattle.meters.specs.Steps.{Found, Ticked, Advanced, SetIn, Fired, Cancelled, CountedUp, CountedDown, Tallied};
-ghost use Rattle.meters.specs.Steps.{rest_of, newborn, both, emptied};
-ghost use Rattle.meters.specs.Answers.{FoundIn, FoundTaken, FoundOther};
-ghost use Rattle.meters.specs.Layout.{clock_word, width};
+ghost use Rattle.table_theory.specs.Ledgers.{IsHonest, Looked, CountedUp, CountedDown, Tallied};
+ghost use Rattle.table_theory.specs.Ledgers.{rest_of, newborn, both, emptied};
+ghost use Rattle.meters.specs.Layout.{ends_word, clock_word, width};
 ghost use Rattle.meters.specs.declared.layout.TheConstants.{GAUGES, SLOTS, TICKS, LAST_TICK};
+ghost use Rattle.meters.specs.Own.{of_meters, nothing_did, did_both};
+ghost use Rattle.meters.specs.Steps.{WasTicked, WasAdvanced, WasSet, WasFired, WasCancelled, FoundIn, FoundOther};
+ghost use Rattle.meters.specs.Views.{IsPart};
 
 use crate::layout::{CLOCK, ENDS, FIRST_GAUGE, FIRST_SLOT};
 use crate::plays::{
@@ -21,8 +23,9 @@ pub(crate) type Words = Shared<(), View, Shape, MeterRule>;
 pub(crate) fn load(words: &Words, seat: &mut Seat<(), View>, word: usize) -> u64
     requires seat { (seat.old.table_id ≡ words.now.table_id) × (word < words.now.table_id.words) }
     requires live { 1 ≤ seat.old.me.0.member.ends }
-    ensures { IsSame seat.old seat.new × (seat.new.me.1 ≡ seat.old.me.1)
-        × Found seat.old.me.0 word result seat.new.me.0 }
+    ensures seat { IsSame seat.old seat.new × (seat.new.me.1 ≡ seat.old.me.1) }
+    ensures told { IsHonest of_meters seat.new.me.0 }
+    ensures found { Looked seat.old.me.0 word result seat.new.me.0 }
 {
     words.load::<Finds>(seat, word)
 }
@@ -31,8 +34,9 @@ pub(crate) fn load_clock(words: &Words, seat: &mut Seat<(), View>) -> u64
     requires seat { (seat.old.table_id ≡ words.now.table_id) × (width ≤ words.now.table_id.words) }
     requires live { 1 ≤ seat.old.me.0.member.ends }
     ensures seat { IsSame seat.old seat.new × (seat.new.me.1 ≡ seat.old.me.1) }
-    ensures found { Found seat.old.me.0 clock_word result seat.new.me.0 }
-    ensures clock { result ≡ seat.new.me.0.seen.clock }
+    ensures told { IsHonest of_meters seat.new.me.0 }
+    ensures found { Looked seat.old.me.0 clock_word result seat.new.me.0 }
+    ensures clock { result ≡ seat.new.me.0.seen.object.clock }
     ensures bounded { result < TICKS }
 {
     load(words, seat, CLOCK)
@@ -42,6 +46,7 @@ pub(crate) fn load_alarm(words: &Words, seat: &mut Seat<(), View>, slot: usize) 
     requires seat { (seat.old.table_id ≡ words.now.table_id) × (width ≤ words.now.table_id.words) × (slot < SLOTS) }
     requires live { 1 ≤ seat.old.me.0.member.ends }
     ensures seat { IsSame seat.old seat.new × (seat.new.me.1 ≡ seat.old.me.1) }
+    ensures told { IsHonest of_meters seat.new.me.0 }
     ensures found { FoundIn seat.old.me.0 slot result seat.new.me.0 }
 {
     AlarmWord::from_bits(load(words, seat, FIRST_SLOT + slot)).alarm()
@@ -56,7 +61,8 @@ pub(crate) fn add_to_gauge(
     requires seat { (seat.old.table_id ≡ words.now.table_id) × (width ≤ words.now.table_id.words) × (gauge < GAUGES) }
     requires live { 1 ≤ seat.old.me.0.member.ends }
     ensures seat { IsSame seat.old seat.new × (seat.new.me.1 ≡ seat.old.me.1) }
-    ensures ticked { Ticked seat.old.me.0 gauge amount result seat.new.me.0 }
+    ensures told { IsHonest of_meters seat.new.me.0 }
+    ensures ticked { WasTicked seat.old.me.0 gauge amount result seat.new.me.0 }
 {
     words.fetch_add::<Ticks>(seat, FIRST_GAUGE + gauge, amount)
 }
@@ -66,9 +72,10 @@ pub(crate) fn exchange_clock(words: &Words, seat: &mut Seat<(), View>, clock: u6
     requires live { 1 ≤ seat.old.me.0.member.ends }
     requires below { clock < LAST_TICK }
     ensures seat { IsSame seat.old seat.new × (seat.new.me.1 ≡ seat.old.me.1) }
-    ensures hit { result ≡ clock → Advanced seat.old.me.0 clock seat.new.me.0 }
-    ensures miss { result ≢ clock → Found seat.old.me.0 clock_word result seat.new.me.0
-        × (result ≡ seat.new.me.0.seen.clock) }
+    ensures told { IsHonest of_meters seat.new.me.0 }
+    ensures hit { result ≡ clock → WasAdvanced seat.old.me.0 clock seat.new.me.0 }
+    ensures miss { result ≢ clock → Looked seat.old.me.0 clock_word result seat.new.me.0
+        × (result ≡ seat.new.me.0.seen.object.clock) }
     ensures bounded { result < TICKS }
 {
     words.compare_exchange::<Advances>(seat, CLOCK, clock, clock + 1)
@@ -84,8 +91,9 @@ pub(crate) fn exchange_in(
     requires seat { (seat.old.table_id ≡ words.now.table_id) × (width ≤ words.now.table_id.words) × (slot < SLOTS) }
     requires live { 1 ≤ seat.old.me.0.member.ends }
     ensures seat { IsSame seat.old seat.new × (seat.new.me.1 ≡ seat.old.me.1) }
-    ensures hit { IsTrue result → SetIn seat.old.me.0 slot alarm seat.new.me.0 }
-    ensures miss { IsFalse result → FoundTaken seat.old.me.0 slot seat.new.me.0 }
+    ensures told { IsHonest of_meters seat.new.me.0 }
+    ensures hit { IsTrue result → WasSet seat.old.me.0 slot alarm seat.new.me.0 }
+    ensures miss { IsFalse result → FoundOther seat.old.me.0 slot None seat.new.me.0 }
 {
     let word = AlarmWord::of(alarm).bits();
     words.compare_exchange::<Sets>(seat, FIRST_SLOT + slot, 0, word) == 0
@@ -100,10 +108,11 @@ pub(crate) fn exchange_fired(
 ) -> bool
     requires seat { (seat.old.table_id ≡ words.now.table_id) × (width ≤ words.now.table_id.words) × (slot < SLOTS) }
     requires live { 1 ≤ seat.old.me.0.member.ends }
-    requires due { alarm.due ≤ seat.old.me.0.seen.clock }
+    requires due { alarm.due ≤ seat.old.me.0.seen.object.clock }
     ensures seat { IsSame seat.old seat.new × (seat.new.me.1 ≡ seat.old.me.1) }
-    ensures hit { IsTrue result → Fired seat.old.me.0 slot alarm seat.new.me.0 }
-    ensures miss { IsFalse result → FoundOther seat.old.me.0 slot alarm seat.new.me.0 }
+    ensures told { IsHonest of_meters seat.new.me.0 }
+    ensures hit { IsTrue result → WasFired seat.old.me.0 slot alarm seat.new.me.0 }
+    ensures miss { IsFalse result → FoundOther seat.old.me.0 slot (Some alarm) seat.new.me.0 }
 {
     let word = AlarmWord::of(alarm).bits();
     words.compare_exchange::<Fires>(seat, FIRST_SLOT + slot, word, 0) == word
@@ -119,8 +128,9 @@ pub(crate) fn exchange_cancelled(
     requires seat { (seat.old.table_id ≡ words.now.table_id) × (width ≤ words.now.table_id.words) × (slot < SLOTS) }
     requires live { 1 ≤ seat.old.me.0.member.ends }
     ensures seat { IsSame seat.old seat.new × (seat.new.me.1 ≡ seat.old.me.1) }
-    ensures hit { IsTrue result → Cancelled seat.old.me.0 slot alarm seat.new.me.0 }
-    ensures miss { IsFalse result → FoundOther seat.old.me.0 slot alarm seat.new.me.0 }
+    ensures told { IsHonest of_meters seat.new.me.0 }
+    ensures hit { IsTrue result → WasCancelled seat.old.me.0 slot alarm seat.new.me.0 }
+    ensures miss { IsFalse result → FoundOther seat.old.me.0 slot (Some alarm) seat.new.me.0 }
 {
     let word = AlarmWord::of(alarm).bits();
     words.compare_exchange::<Cancels>(seat, FIRST_SLOT + slot, word, 0) == word
@@ -130,7 +140,8 @@ pub(crate) fn count_up(words: &Words, seat: &mut Seat<(), View>) -> u64
     requires seat { (seat.old.table_id ≡ words.now.table_id) × (width ≤ words.now.table_id.words) }
     requires parts { seat.old.me.0.member.ends + 1 ≤ seat.old.me.0.member.share }
     ensures seat { IsSame seat.old seat.new × (seat.new.me.1 ≡ seat.old.me.1) }
-    ensures counted { CountedUp seat.old.me.0 result seat.new.me.0 }
+    ensures told { IsHonest of_meters seat.new.me.0 }
+    ensures counted { CountedUp ends_word seat.old.me.0 seat.new.me.0 }
 {
     words.fetch_add::<CountsUp>(seat, ENDS, 1)
 }
@@ -139,7 +150,8 @@ pub(crate) fn count_down(words: &Words, seat: &mut Seat<(), View>) -> u64
     requires seat { (seat.old.table_id ≡ words.now.table_id) × (width ≤ words.now.table_id.words) }
     requires live { 2 ≤ seat.old.me.0.member.ends }
     ensures seat { IsSame seat.old seat.new × (seat.new.me.1 ≡ seat.old.me.1) }
-    ensures counted { CountedDown seat.old.me.0 result seat.new.me.0 }
+    ensures told { IsHonest of_meters seat.new.me.0 }
+    ensures counted { CountedDown ends_word seat.old.me.0 seat.new.me.0 × IsPart seat.new.me.0 }
 {
     words.fetch_sub::<CountsDown>(seat, ENDS, 1)
 }
@@ -148,7 +160,8 @@ pub(crate) fn count(words: &Words, seat: &mut Seat<(), View>) -> u64
     requires seat { (seat.old.table_id ≡ words.now.table_id) × (width ≤ words.now.table_id.words) }
     requires one { seat.old.me.0.member.ends ≡ 1 }
     ensures seat { IsSame seat.old seat.new × (seat.new.me.1 ≡ seat.old.me.1) }
-    ensures tallied { Tallied seat.old.me.0 result seat.new.me.0 }
+    ensures told { IsHonest of_meters seat.new.me.0 }
+    ensures tallied { Tallied ends_word seat.old.me.0 result seat.new.me.0 }
 {
     words.load::<Counts>(seat, ENDS)
 }
@@ -157,7 +170,8 @@ pub(crate) fn split_off(words: &Words, seat: &mut Seat<(), View>) -> Seat<(), Vi
     requires seat { (seat.old.table_id ≡ words.now.table_id) × (width ≤ words.now.table_id.words) }
     requires two { seat.old.me.0.member.ends ≡ 2 }
     ensures seat { IsSame seat.old seat.new × (result.table_id ≡ seat.old.table_id) }
-    ensures split { (seat.new.me ≡ (rest_of seat.old.me.0, seat.old.me.1)) × (result.me ≡ (newborn seat.old.me.0, [])) }
+    ensures split { (seat.new.me ≡ (rest_of seat.old.me.0, seat.old.me.1))
+        × (result.me ≡ (newborn nothing_did seat.old.me.0, [])) }
 {
     words.split_seat::<Gives>(seat)
 }
@@ -166,9 +180,9 @@ pub(crate) fn take_in<J: Spent>(words: &Words, seat: &mut Seat<(), View>, other:
     requires seat { (seat.old.table_id ≡ words.now.table_id) × (other.table_id ≡ words.now.table_id)
         × (other.me.1 ≡ []) × (width ≤ words.now.table_id.words) }
     requires live { (1 ≤ seat.old.me.0.member.ends) × (1 ≤ other.me.0.member.ends) }
-    requires spent { J.view ≡ emptied seat.old.me.0 }
+    requires spent { J.view ≡ emptied nothing_did seat.old.me.0 }
     ensures seat { IsSame seat.old seat.new }
-    ensures joined { seat.new.me ≡ (both seat.old.me.0 other.me.0, seat.old.me.1) }
+    ensures joined { seat.new.me ≡ (both did_both seat.old.me.0 other.me.0, seat.old.me.1) }
 {
     words.join_seat::<Joins<J>>(seat, other);
 }

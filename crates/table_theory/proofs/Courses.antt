@@ -81,6 +81,12 @@ module _ {V O : Type 0} (f p : V → List (Entry O)) where
         own = owns_step vs j v w e c.course c.own at (ap length all ∙ length-append old (e ∷ []));
       }
 
+  -- its steps are those up to then, and this one
+  pub step_entries : (first now : O) (vs : List V) (j : ℕ) (v w : V) (e : Entry O) (c : IsCourse f p first now vs) (at : get_elem? vs j ≡ some v) (found : e.then ≡ now) (own : f w ≡ f v ++ e ∷ []) (all : p w ≡ map entry_of c.course ++ e ∷ [])
+      → map entry_of (course_step first now vs j v w e c at found own all).course ≡ map entry_of c.course ++ e ∷ []
+  unfolding course_step
+  step_entries first now vs j v w e c at found own all = map-append entry_of c.course ((j, length (f v), e) ∷ [])
+
   pub course_split : (first now : O) (vs : List V) (j : ℕ) (v left right : V) → IsCourse f p first now vs → get_elem? vs j ≡ some v → f left ≡ f v → p left ≡ p v → f right ≡ [] → p right ≡ p v
       → IsCourse f p first now (set vs j left ++ right ∷ [])
   course_split first now vs j v left right c at own all none all' = let old : List (Entry O) = map entry_of c.course in record {
@@ -96,6 +102,11 @@ module _ {V O : Type 0} (f p : V → List (Entry O)) where
         (λ new. absurd (let s = c.filed.stands k o has in let below = at_below (map f vs) o.0 s.0 s.1 in let n = length-map vs f in let m = length-set vs j left in let i = new.0 in omega arith))
         (at_push (set vs j left) right u o.0 of);
   }
+
+  pub split_entries : (first now : O) (vs : List V) (j : ℕ) (v left right : V) (c : IsCourse f p first now vs) (at : get_elem? vs j ≡ some v) (own : f left ≡ f v) (all : p left ≡ p v) (none : f right ≡ []) (all' : p right ≡ p v)
+      → map entry_of (course_split first now vs j v left right c at own all none all').course ≡ map entry_of c.course
+  unfolding course_split
+  split_entries first now vs j v left right c at own all none all' = refl
 
   owns_join : (vs : List V) (j k n : ℕ) (v u both spent : V) (course : List (Owned (Entry O))) → Owns course vs → get_elem? vs j ≡ some v → get_elem? vs k ≡ some u → k ≢ j → p both ≡ later_of (p v) (p u) → Owns (map (moved j k n) course) (set (set vs j both) k spent)
   owns_join vs j k n v u both spent course old at at' ne all i o x has of = let b = at_map_back (moved j k n) course i o has in let q : Owned (Entry O) = b.0 in
@@ -127,6 +138,11 @@ module _ {V O : Type 0} (f p : V → List (Entry O)) where
     own = owns_join vs j k n v u both spent c.course c.own at at' ne all;
   }
 
+  pub join_entries : (first now : O) (vs : List V) (j k : ℕ) (v u both spent : V) (c : IsCourse f p first now vs) (at : get_elem? vs j ≡ some v) (at' : get_elem? vs k ≡ some u) (ne : k ≢ j) (own : f both ≡ f v ++ f u) (all : p both ≡ later_of (p v) (p u)) (none : f spent ≡ []) (all' : p spent ≡ p v)
+      → map entry_of (course_join first now vs j k v u both spent c at at' ne own all none all').course ≡ map entry_of c.course
+  unfolding course_join
+  join_entries first now vs j k v u both spent c at at' ne own all none all' = entries_moved j k (length (f v)) c.course
+
   pub course_first : (first : O) (w : V) → f w ≡ [] → p w ≡ [] → IsCourse f p first first (w ∷ [])
   course_first first w own all = record {
     course = [];
@@ -135,3 +151,7 @@ module _ {V O : Type 0} (f p : V → List (Entry O)) where
     seen = only_seen [] w (subst (λ z. Begins z []) (sym all) (begins_refl []));
     own = λ k o v has of. absurd (some-ne-none o (sym has));
   }
+
+  pub first_entries : (first : O) (w : V) (own : f w ≡ []) (all : p w ≡ []) → map entry_of (course_first first w own all).course ≡ []
+  unfolding course_first
+  first_entries first w own all = refl

@@ -3,8 +3,10 @@ pub mod Courses
 pub mod Ends
 pub mod Filing
 pub mod Interleaving
+pub mod Ledgers
 pub mod Listing
 pub mod Members
+pub mod Plays
 pub mod Positioned
 pub mod QueueOf
 pub mod Reads

@@ -28,3 +28,31 @@ pub struct Member {
 pub struct OpenEnds {
     pub others: u64,
 }
+
+/// An object at one moment, and how many ends it has then. Proofs alone speak of it.
+pub struct Moment<O> {
+    pub ends: u64,
+    pub object: O,
+}
+
+/// An end among the ends of its object: how many of the ends counted it is, its share, and how often it was split and
+/// took in another end. Proofs alone speak of it.
+pub struct Part {
+    pub ends: u64,
+    pub share: u64,
+    pub splits: u64,
+    pub joins: u64,
+}
+
+/// What an end knows: the object as it was made, what the end did, the object as its last step left it, what the end is
+/// among the ends, every step that it made, and every step that any end had made up to its own last one. Between taking
+/// in another end and its next step it has those that the one of both had seen that saw less. Proofs alone speak of it.
+pub struct Ledger<K, O> {
+    pub first: O,
+    pub own: K,
+    pub seen: Moment<O>,
+    pub member: Part,
+    pub steps: LinkedList<Entry<Moment<O>>>,
+    pub course: LinkedList<Entry<Moment<O>>>,
+    pub joined: LinkedList<Entry<Moment<O>>>,
+}

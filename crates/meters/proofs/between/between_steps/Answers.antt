@@ -1,5 +1,5 @@
 use Rattle.meters.proofs.Betweens.{shows_meters}
-use Rattle.meters.proofs.Events.{clock_leads}
+use Rattle.meters.proofs.Clocks.{clock_leads}
 use Rattle.meters.proofs.between.between_steps.Goals as goal
 
 pub returns-clause-shown : goal.returns-clause-shown

@@ -1,4 +1,4 @@
-use Rattle.std.proofs.Common.{rules, ◌∙◌}
+use Rattle.std.proofs.Common.{rules, ◌∙◌, Some}
 use Rattle.meters.proofs.Finding.{found_other, differs}
 use Rattle.meters.proofs.Stepping.{cancels_bits}
 use Rattle.meters.proofs.steps.exchange_cancelled.Goals as goal
@@ -7,4 +7,4 @@ pub compare_exchange-requires : goal.compare_exchange-requires
 compare_exchange-requires c = (search rules, search rules, cancels_bits _ _ _ _ _ c.args.alarm _ (c.bits-word.ensures ∙ c.of.ensures.bits) c.requires.seat.2 c.of.ensures.range c.requires.live)
 
 pub returns-clause-miss : goal.returns-clause-miss
-returns-clause-miss c = λ miss. let ne = differs _ _ miss in found_other _ _ _ _ c.args.alarm _ c.requires.seat.2 (c.compare_exchange.ensures.2.2 ne) (c.bits-word.ensures ∙ c.of.ensures.bits) ne
+returns-clause-miss c = λ miss. let ne = differs _ _ miss in let t = c.compare_exchange.ensures.2 in found_other _ _ _ _ _ (Some c.args.alarm) (t.2 ne) (c.bits-word.ensures ∙ c.of.ensures.bits) ne

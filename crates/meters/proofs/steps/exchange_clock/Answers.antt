@@ -1,5 +1,7 @@
-use Rattle.std.proofs.Common.{rules}
-use Rattle.meters.proofs.Finding.{clock_found}
+use Rattle.std.proofs.Common.{rules, arith, ◌<◌, ℕ}
+use mathlib.Core.Logic.{dite}
+use native.Mathlib.Decide.{ℕ_discrete}
+use Rattle.meters.proofs.Clocks.{clock_found}
 use Rattle.meters.proofs.Stepping.{advances_clock}
 use Rattle.meters.proofs.steps.exchange_clock.Goals as goal
 
@@ -7,4 +9,7 @@ pub compare_exchange-requires : goal.compare_exchange-requires
 compare_exchange-requires c = (search rules, search rules, advances_clock _ _ _ _ _ c.requires.below c.requires.live)
 
 pub returns-clause-miss : goal.returns-clause-miss
-returns-clause-miss c = λ miss. let s = c.compare_exchange.ensures.2.2 miss in (s, clock_found _ _ _ s)
+returns-clause-miss c = λ miss. let t = c.compare_exchange.ensures.2 in let s = t.2 miss in (s, (clock_found _ _ _ t.0.1 s).0)
+
+pub returns-clause-bounded : goal.returns-clause-bounded
+returns-clause-bounded c = let t = c.compare_exchange.ensures.2 in let below = c.requires.below in let found : ℕ = c.compare_exchange.result in let goes : found < 4294967296 = dite (ℕ_discrete found c.args.clock) (λ e. omega arith) (λ ne. (clock_found _ _ _ t.0.1 (t.2 ne)).1) in goes

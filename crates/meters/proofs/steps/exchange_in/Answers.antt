@@ -1,5 +1,5 @@
-use Rattle.std.proofs.Common.{rules, ◌∙◌}
-use Rattle.meters.proofs.Finding.{found_taken, differs}
+use Rattle.std.proofs.Common.{rules, ◌∙◌, refl, None}
+use Rattle.meters.proofs.Finding.{found_other, differs}
 use Rattle.meters.proofs.Stepping.{sets_bits}
 use Rattle.meters.proofs.steps.exchange_in.Goals as goal
 
@@ -7,4 +7,4 @@ pub compare_exchange-requires : goal.compare_exchange-requires
 compare_exchange-requires c = (search rules, search rules, sets_bits _ _ _ _ _ c.args.alarm _ (c.bits-word.ensures ∙ c.of.ensures.bits) c.requires.seat.2 c.of.ensures.range c.requires.live)
 
 pub returns-clause-miss : goal.returns-clause-miss
-returns-clause-miss c = λ miss. let ne = differs _ _ miss in found_taken _ _ _ _ c.requires.seat.2 (c.compare_exchange.ensures.2.2 ne) ne
+returns-clause-miss c = λ miss. let ne = differs _ _ miss in let t = c.compare_exchange.ensures.2 in found_other _ _ _ _ 0 None (t.2 ne) refl ne

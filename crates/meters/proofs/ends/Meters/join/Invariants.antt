@@ -1,5 +1,6 @@
-use Rattle.meters.specs.Steps.{emptied}
+use Rattle.table_theory.specs.Ledgers.{emptied}
+use Rattle.meters.specs.Own.{nothing_did}
 use Rattle.meters.proofs.ends.Meters.join.Given as goal
 
 abbrev pub ghosts-take_in : goal.ghosts-take_in
-ghosts-take_in a = record { view = emptied a.seat.now.me.0 }
+ghosts-take_in a = record { view = emptied nothing_did a.seat.now.me.0 }

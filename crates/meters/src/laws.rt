@@ -1,0 +1,69 @@
+//! What an end lists is true, and each change is an event of the core: statements over plain data.
+
+ghost use Rattle.std.specs.Prelude.{◌≡◌, ◌≢◌, ◌<◌, ◌≤◌, ◌⊎◌, ℕ, List, Some, None, Ok, slice_index_or};
+ghost use Rattle.std.specs.List.{AllByRecursion};
+ghost use Rattle.event_theory.specs.declared.alarm.Alarm.{Alarm};
+ghost use Rattle.event_theory.specs.Meters.{tick, advance, fire, cancel};
+ghost use Rattle.table_theory.specs.declared.views.Moment.{Moment};
+ghost use Rattle.table_theory.specs.Ledgers.{Step, load, change, Adds, IsReal, IsHonest, Reaches};
+ghost use Rattle.meters.specs.Layout.{ends_word, gauge_word, clock_word, slot_word, word_of, alarm_in};
+ghost use Rattle.meters.specs.declared.layout.TheConstants.{GAUGES, SLOTS, TICKS};
+ghost use Rattle.meters.specs.declared.rule.Reading.{Reading};
+ghost use Rattle.meters.specs.declared.ends.MeterSeat.{MeterSeat};
+ghost use Rattle.meters.specs.Changes.{meters_of, IsLawful, in_slot};
+ghost use Rattle.meters.specs.Changes.{with_tick, with_advance, with_alarm, with_fired, with_cancelled};
+ghost use Rattle.meters.specs.Events.{Happens, Leads, IsSet};
+ghost use Rattle.meters.specs.Own.{of_meters};
+ghost use Rattle.meters.specs.Words.{IsInRange};
+ghost use Rattle.meters.specs.Handles.{view_of};
+
+/// What an end lists is true: each entry that a call adds is a real step. It found lawful meters that the words showed,
+/// and the number in its word, and made one event of the core, or none. Real steps lead from what the end had seen to
+/// what it sees then.
+pub fn lists_are_true()
+    ensures seat { (seat : MeterSeat) → ∥ IsHonest of_meters (view_of seat) ∥₁ }
+    ensures entries { (old new : MeterSeat) (entries : List (Step Reading)) → Adds (view_of old) entries (view_of new)
+        → ∥ AllByRecursion (IsReal of_meters) entries ∥₁ }
+    ensures since { (old new : MeterSeat) (entries : List (Step Reading)) → Adds (view_of old) entries (view_of new)
+        → ∥ Reaches of_meters (view_of old).seen (view_of new).seen ∥₁ }
+    ensures leads { (m n : Moment Reading) → Reaches of_meters m n → Leads m.object n.object }
+    ensures event { (e : Step Reading) → IsReal of_meters e
+        → (e.next.object ≡ e.then.object) ⊎ Happens e.then.object e.next.object }
+    ensures lawful { (e : Step Reading) → IsReal of_meters e → IsLawful e.next.object }
+{}
+
+/// What the number says that a step found: the number of ends, a gauge, the clock, or what stands in a slot.
+pub fn numbers_say()
+    ensures ends { (found : ℕ) (m : Moment Reading) → IsReal of_meters (load ends_word found m) → found ≡ m.ends }
+    ensures gauge { (e : Step Reading) (gauge : ℕ) → gauge < GAUGES → e.word ≡ gauge_word gauge → IsReal of_meters e
+        → e.found ≡ slice_index_or e.then.object.gauges gauge 0 }
+    ensures clock { (e : Step Reading) → e.word ≡ clock_word → IsReal of_meters e
+        → (e.found ≡ e.then.object.clock) × (e.found < TICKS) }
+    ensures empty { (e : Step Reading) (slot : ℕ) → slot < SLOTS → e.word ≡ slot_word slot → IsReal of_meters e
+        → e.found ≡ 0 → in_slot e.then.object slot ≡ None }
+    ensures taken { (e : Step Reading) (slot : ℕ) → slot < SLOTS → e.word ≡ slot_word slot → IsReal of_meters e
+        → 0 < e.found → in_slot e.then.object slot ≡ Some (alarm_in e.found) }
+    ensures other { (e : Step Reading) (slot : ℕ) (alarm : Alarm) → slot < SLOTS → e.word ≡ slot_word slot
+        → IsReal of_meters e → e.found ≢ word_of (Some alarm) → in_slot e.then.object slot ≢ Some alarm }
+{}
+
+/// Each change that an answer lists is the event of the core that its name says.
+pub fn changes_are_events()
+    ensures ticked { (gauge amount found : ℕ) (m : Moment Reading) → gauge < GAUGES
+        → IsReal of_meters (change (gauge_word gauge) found m (with_tick m.object gauge amount))
+        → tick gauge amount (meters_of m.object) ≡ Ok (meters_of (with_tick m.object gauge amount)) }
+    ensures advanced { (found : ℕ) (m : Moment Reading)
+        → IsReal of_meters (change clock_word found m (with_advance m.object))
+        → advance (meters_of m.object) ≡ Ok (meters_of (with_advance m.object)) }
+    ensures set { (slot : ℕ) (alarm : Alarm) (m : Moment Reading) → slot < SLOTS
+        → IsReal of_meters (change (slot_word slot) 0 m (with_alarm m.object slot alarm))
+        → IsSet slot alarm m.object (with_alarm m.object slot alarm) }
+    ensures fired { (slot : ℕ) (alarm : Alarm) (m : Moment Reading) → slot < SLOTS → IsInRange alarm
+        → IsReal of_meters (change (slot_word slot) (word_of (Some alarm)) m (with_fired m.object slot alarm))
+        → (alarm.due ≤ m.object.clock) × (in_slot m.object slot ≡ Some alarm)
+        × (fire slot (meters_of m.object) ≡ Ok (meters_of (with_fired m.object slot alarm))) }
+    ensures cancelled { (slot : ℕ) (alarm : Alarm) (m : Moment Reading) → slot < SLOTS → IsInRange alarm
+        → IsReal of_meters (change (slot_word slot) (word_of (Some alarm)) m (with_cancelled m.object slot alarm))
+        → (in_slot m.object slot ≡ Some alarm)
+        × (cancel slot (meters_of m.object) ≡ Ok (meters_of (with_cancelled m.object slot alarm))) }
+{}

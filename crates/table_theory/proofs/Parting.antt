@@ -1,0 +1,62 @@
+-- What the calls that split, join and close tell, by the steps that they are made of.
+use Rattle.std.proofs.Common.{◌≡◌, ◌≢◌, ℕ, ◌+◌, ◌-◌, Bool, true, false, List, [], ◌++◌, sym, refl, ◌∙◌, subst, arith}
+use Rattle.std.specs.Prelude.{if◌then◌else◌, nat_lt, length}
+use Rattle.table_theory.specs.declared.views.Ledger.{Ledger}
+use Rattle.table_theory.specs.Ends.{Begins}
+use Rattle.table_theory.specs.Sharing.{kept, given}
+use Rattle.table_theory.specs.Ledgers.{Step, Made, CountedUp, CountedDown, Divided, IsNewborn, TookIn, Tallied, WereOpen, rest_of, newborn, both}
+use Rattle.table_theory.proofs.Reaching.{adds_none, adds_on}
+
+module _ {K O : Type 0} where
+  -- no step yet, and steps behind others
+  pub made_none : (v : (Ledger K O)) → Made v [] v.own v
+  made_none v = record { adds = adds_none v; did = refl; member = refl }
+
+  pub made_on : (v u w : (Ledger K O)) (xs ys : List (Step O)) (one own : K) → Made v xs one u → Made u ys own w → Made v (xs ++ ys) own w
+  made_on v u w xs ys one own a b = record { adds = adds_on v u w xs ys a.adds b.adds; did = b.did; member = b.member ∙ a.member }
+
+module _ {K O : Type 0} (nothing : K) (plus : K → K → K) (word : ℕ) where
+  divided : (v u : (Ledger K O)) → CountedUp word v u → Divided word v (rest_of u)
+  divided v u c = record {
+    found = c.found;
+    adds = record { first = c.adds.first; entries_are = c.adds.entries_are; since = c.adds.since; course_is = c.adds.course_is; own = c.adds.own };
+    own = c.own;
+    member = (λ i. record (c.member i) { ends = (c.member i).ends - 1; share = kept (c.member i).share }) ∙ (λ i. record v.member { ends = less i; share = kept v.member.share; splits = v.member.splits + 1 });
+  }
+    where
+      less : v.member.ends + 1 - 1 ≡ v.member.ends
+      less = omega arith
+
+  born : (v u : (Ledger K O)) → CountedUp word v u → IsNewborn nothing v (rest_of u) (newborn nothing u)
+  born v u c = λ i. record (newborn nothing u) { member = record { ends = 1; share = given (c.member i).share; splits = 0; joins = 0 } }
+
+  -- the two ends of a split, as they are given back
+  pub split_views : {A : Type 0} (v u : (Ledger K O)) (one other : (Ledger K O) × A) (a b : A) → CountedUp word v u → one ≡ (rest_of u, a) → other ≡ (newborn nothing u, b) → Divided word v one.0 × IsNewborn nothing v one.0 other.0
+  split_views v u one other a b c e e' = (subst (λ z. Divided word v z.0) (sym e) (divided v u c), subst (λ z. IsNewborn nothing v z.0 other.0) (sym e) (subst (λ z. IsNewborn nothing v (rest_of u) z.0) (sym e') (born v u c)))
+
+  -- both begin what was seen then
+  one_seen : (b : Bool) (x y all : List (Step O)) → Begins (if b then y else x) all → Begins (if b then x else y) all → Begins x all × Begins y all
+  one_seen true x y all p q = (q, p)
+  one_seen false x y all p q = (p, q)
+
+  -- an end that took in another, and then was counted down
+  pub took_in : (v u b w : (Ledger K O)) → v.member.ends ≡ 1 → u.member.ends ≡ 1 → b ≡ both plus v u → CountedDown word b w → TookIn plus word v u w
+  took_in v u b w one one' is c = let d : CountedDown word (both plus v u) w = subst (λ (z : (Ledger K O)). CountedDown word z w) is c in
+      let seen = one_seen (nat_lt (length v.course) (length u.course)) v.course u.course w.course (d.adds.since, sym d.adds.course_is) d.joined in record {
+        found = d.found;
+        adds = d.adds;
+        own = d.own;
+        member = d.member ∙ (λ i. record (both plus v u).member { ends = less i; joins = v.member.joins + u.member.joins + 1 });
+        one = seen.0;
+        other = seen.1;
+      }
+    where
+      less : v.member.ends + u.member.ends - 1 ≡ 1
+      less = omega arith
+
+  pub were_open : (v w : (Ledger K O)) (number : ℕ) → Tallied word v number w → number ≢ 1 → WereOpen word v (number - 1) w
+  were_open v w number t ne = let some_end = t.count.some_end in let e : number ≡ number - 1 + 1 = omega arith in record {
+    tallied = subst (λ (z : ℕ). Tallied word v z w) e t;
+    some_other = omega arith;
+    not_whole = λ whole. ne (t.count.whole whole);
+  }

@@ -1,11 +1,11 @@
 -- The slot that a refused setting tells.
 use Rattle.std.proofs.Common.{◌<◌, arith}
-use Rattle.meters.specs.declared.rule.View.{View}
+use Rattle.meters.specs.Own.{SeatView}
 use Rattle.meters.specs.declared.alarms.SetRefusal.{SetRefusal}
 use Rattle.meters.specs.declared.alarms.SetRefusal.TheVariants.{NoRoom, Lost}
 use Rattle.meters.specs.Answers.{NotSet}
 use Rattle.bindings.specs.SeatCalls.{head_of_set}
 
-pub set_small : (v w : View) (r : SetRefusal) → NotSet v r w → head_of_set r < 16
+pub set_small : (v w : SeatView) (r : SetRefusal) → NotSet v r w → head_of_set r < 16
 set_small v w NoRoom h = omega arith
-set_small v w (Lost slot) h = h.found.within
+set_small v w (Lost slot) h = h.4

@@ -9,7 +9,7 @@ use Rattle.meters.specs.Handles.{view_of, first_of, IsSameSeat}
 use Rattle.meters.specs.Handles as meters
 use Rattle.meters.specs.Rules.{newcomer}
 use Rattle.meters.specs.Endings as endings
-use Rattle.meters.specs.Steps.{Ticked}
+use Rattle.meters.specs.Answers.{Ticked}
 use Rattle.meters.specs.Answers.{AdvancedNow, NotAdvanced, SetNow, NotSet, CancelledNow, FiredNow}
 use Rattle.bindings.specs.declared.seat.held.HeldSeat.{HeldSeat}
 

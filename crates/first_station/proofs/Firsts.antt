@@ -4,7 +4,7 @@ use Rattle.std.specs.Prelude.{None}
 use Rattle.std.specs.List.{repeat}
 use Rattle.meters.specs.declared.ends.Meters.{Meters}
 use Rattle.meters.specs.declared.ends.MeterSeat.{MeterSeat}
-use Rattle.meters.specs.declared.rule.View as meter_views
+use Rattle.meters.specs.Own.{SeatView}
 use Rattle.meters.specs.Handles as meters
 use Rattle.meters.specs.Rules as meter_rules
 use Rattle.thread_table.specs.declared.hand.ThreadTable.{ThreadTable}
@@ -34,4 +34,4 @@ first_hand table hand first knows = record {
 }
 
 pub first_seat : (table : Meters) (seat : MeterSeat) → meters.first_of table ≡ 0 → meters.view_of seat ≡ meter_rules.newcomer (record { clock = 0 }) → IsFirstSeat table seat
-first_seat table seat first knows = record { first = first; knows = knows; only = ap (λ (v : meter_views.View). v.member.share) knows }
+first_seat table seat first knows = record { first = first; knows = knows; only = ap (λ (v : SeatView). v.member.share) knows }

@@ -5,8 +5,7 @@ use Rattle.std.proofs.Math.Seq.{take-suc}
 use Rattle.std.proofs.lemmas.List.{append-nil}
 use Rattle.event_theory.specs.declared.alarm.Alarm.{Alarm}
 use Rattle.meters.specs.declared.gauges.AdvanceRefusal.{AdvanceRefusal}
-use Rattle.meters.specs.declared.rule.View.{View as SeatView}
-use Rattle.meters.specs.Own.{own_of, Own, DidNothing, DidAdvance, DidFire}
+use Rattle.meters.specs.Own.{SeatView, own_of, Own, DidNothing, DidAdvance, DidFire}
 use Rattle.thread_table.specs.declared.rule.View.{View}
 use Rattle.thread_table.specs.declared.states.Signalled.{Signalled}
 use Rattle.thread_table.specs.Answers.{SignalAnswer}
@@ -40,8 +39,8 @@ pub tended_own : (advanced : Result ℕ AdvanceRefusal) (fired : List Alarm) (v 
 tended_own (Ok clock) fired v u w a b = b ∙ ap (λ (o : Own). let x : Own = record o { fired = o.fired ++ fired } in x) a
 tended_own (Err refusal) fired v u w a b = b ∙ (ap (λ (o : Own). let x : Own = record o { fired = o.fired ++ fired } in x) a ∙ nothing)
   where
-    nothing : (record (own_of v) { fired = v.fired ++ fired }) ≡ (record (own_of v) { advances = v.advances ++ []; fired = v.fired ++ fired })
-    nothing = sym (ap (λ (xs : List ℕ). let x : Own = record (own_of v) { advances = xs; fired = v.fired ++ fired } in x) (append-nil v.advances))
+    nothing : (record (own_of v) { fired = v.own.fired ++ fired }) ≡ (record (own_of v) { advances = v.own.advances ++ []; fired = v.own.fired ++ fired })
+    nothing = sym (ap (λ (xs : List ℕ). let x : Own = record (own_of v) { advances = xs; fired = v.own.fired ++ fired } in x) (append-nil v.own.advances))
 
 pub taken_one : (alarms : List Alarm) (i : ℕ) (a : Alarm) → i < length alarms → a ≡ get_or alarms i a → take (i + 1) alarms ≡ take i alarms ++ a ∷ []
 taken_one alarms i a low is = rw (add_one i) (take-suc alarms i a low ∙ ap (λ (x : Alarm). take i alarms ++ x ∷ []) (sym is))

@@ -2,9 +2,8 @@
 use Rattle.std.specs.Prelude.{◌≡◌, ℕ, List, [], ◌∷◌, ◌++◌, Result, Ok, Err, MatchResult}
 use Rattle.event_theory.specs.declared.alarm.Alarm.{Alarm}
 use Rattle.meters.specs.declared.gauges.AdvanceRefusal.{AdvanceRefusal}
-use Rattle.meters.specs.declared.rule.View.{View as SeatView}
+use Rattle.meters.specs.Own.{SeatView, own_of}
 use Rattle.meters.specs.Answers.{AdvancedNow, NotAdvanced, FiredNow}
-use Rattle.meters.specs.Own.{own_of}
 use Rattle.thread_table.specs.declared.rule.View.{View}
 use Rattle.thread_table.specs.declared.states.Signalled.{Signalled}
 use Rattle.thread_table.specs.Answers.{SignalAnswer}
@@ -23,7 +22,7 @@ tick_to (Err refusal) = []
 -- all that the seat lists of its own besides is as it was
 abbrev pub DidTend : Result ℕ AdvanceRefusal → List Alarm → SeatView → SeatView → Type 0
 DidTend advanced fired v w =
-    own_of w ≡ record (own_of v) { advances = v.advances ++ tick_to advanced; fired = v.fired ++ fired }
+    own_of w ≡ record (own_of v) { advances = v.own.advances ++ tick_to advanced; fired = v.own.fired ++ fired }
 
 -- each alarm's signal was raised at its element, one behind the other
 abbrev pub RaisedAll : ℕ → List Alarm → View → View → Type 0

@@ -8,8 +8,7 @@ use Rattle.boot_data.specs.Plans.{steps_in}
 use Rattle.end_steps.specs.EndLists.{lines_put_at, lines_taken_at, shuts_at, notes_put_at, notes_taken_at}
 use Rattle.hand_steps.specs.Tallies.{done_by, signalled_by, delivered_by, retired_by, taken_by, step_by, signal_by, delivery_by, retiring_by}
 use Rattle.meters.specs.declared.ends.Meters.{Meters}
-use Rattle.meters.specs.declared.rule.View.{View as SeatView}
-use Rattle.meters.specs.Own.{Own}
+use Rattle.meters.specs.Own.{SeatView, Own}
 use Rattle.objects.specs.Objects.{HaveDoneNothing, HaveNotedNothing, IsFirstHand, IsFirstSeat}
 use Rattle.processor.specs.declared.station.Parts.{Parts}
 use Rattle.processor.specs.Partings.{AreSplit}
@@ -184,11 +183,11 @@ first_prepared plan table meters old new unused hand seat small large chains p =
       large_shuts = λ q. ap (λ z. shuts_at z.items q) p.large ∙ large.none_shut q;
       chains = λ q. ap (λ z. notes_put_at z.items q) p.chains ∙ chains.none_put q;
       ran = λ q. ap (λ z. notes_taken_at z.items q) p.chains ∙ chains.none_run q;
-      ticks = ap (λ (z : Own). z.ticks) p.alarms ∙ ap (λ (z : SeatView). z.ticks) seat.knows;
-      alarms = ap (λ (z : Own). z.set) p.alarms ∙ ap (λ (z : SeatView). z.set ++ plan.alarms) seat.knows;
-      advances = ap (λ (z : Own). z.advances) p.alarms ∙ ap (λ (z : SeatView). z.advances) seat.knows;
-      fired = ap (λ (z : Own). z.fired) p.alarms ∙ ap (λ (z : SeatView). z.fired) seat.knows;
-      cancelled = ap (λ (z : Own). z.cancelled) p.alarms ∙ ap (λ (z : SeatView). z.cancelled) seat.knows;
+      ticks = ap (λ (z : Own). z.ticks) p.alarms ∙ ap (λ (z : SeatView). z.own.ticks) seat.knows;
+      alarms = ap (λ (z : Own). z.set) p.alarms ∙ ap (λ (z : SeatView). z.own.set ++ plan.alarms) seat.knows;
+      advances = ap (λ (z : Own). z.advances) p.alarms ∙ ap (λ (z : SeatView). z.own.advances) seat.knows;
+      fired = ap (λ (z : Own). z.fired) p.alarms ∙ ap (λ (z : SeatView). z.own.fired) seat.knows;
+      cancelled = ap (λ (z : Own). z.cancelled) p.alarms ∙ ap (λ (z : SeatView). z.own.cancelled) seat.knows;
       signals = p.signals ∙ unused.signals;
     }
 

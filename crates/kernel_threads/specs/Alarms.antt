@@ -1,9 +1,8 @@
 -- The alarms that an end of the meters set.
 use Rattle.std.specs.Prelude.{◌≡◌, List, ◌++◌}
 use Rattle.event_theory.specs.declared.alarm.Alarm.{Alarm}
-use Rattle.meters.specs.declared.rule.View.{View}
-use Rattle.meters.specs.Own.{own_of}
+use Rattle.meters.specs.Own.{SeatView, own_of}
 
 -- the end set these alarms in their order, and did nothing else
-abbrev pub DidSetAll : List Alarm → View → View → Type 0
+abbrev pub DidSetAll : List Alarm → SeatView → SeatView → Type 0
 DidSetAll alarms v w = own_of w ≡ record (own_of v) { set = v.set ++ alarms }

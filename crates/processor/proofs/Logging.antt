@@ -48,8 +48,7 @@ use Rattle.hand_steps.specs.Tallies.{Tally, tally, behind, no_events, Adds, is_d
 use Rattle.meters.specs.declared.gauges.AdvanceRefusal.{AdvanceRefusal}
 use Rattle.meters.specs.Handles as meters
 use Rattle.meters.specs.declared.rule.Tick.{Tick}
-use Rattle.meters.specs.declared.rule.View.{View as SeatView}
-use Rattle.meters.specs.Own.{Own, own_of}
+use Rattle.meters.specs.Own.{SeatView, Own, own_of}
 use Rattle.proc_chain.specs.declared.ends.ChainEnd.{ChainEnd}
 use Rattle.proc_chain.specs.declared.quaject.Quaject.{Ghosts}
 use Rattle.thread_table.specs.Answers.{is_in}
@@ -140,9 +139,9 @@ seat_on : (xs ys : List LogEntry) (u v w : SeatView) → own_of v ≡ seat_after
 seat_on xs ys u v w a b =
     b ∙ ap (λ (o : Own). own_with o (o.ticks ++ flat_map ticked_by ys) (o.advances ++ flat_map clock_by ys) (o.fired ++ flat_map fired_by ys)) a
     ∙ own_eq (own_of u) _ _ _ _ _ _
-    (append_assoc u.ticks (flat_map ticked_by xs) (flat_map ticked_by ys) ∙ ap (λ z. u.ticks ++ z) (sym (flat_map-append ticked_by xs ys)))
-    (append_assoc u.advances (flat_map clock_by xs) (flat_map clock_by ys) ∙ ap (λ z. u.advances ++ z) (sym (flat_map-append clock_by xs ys)))
-    (append_assoc u.fired (flat_map fired_by xs) (flat_map fired_by ys) ∙ ap (λ z. u.fired ++ z) (sym (flat_map-append fired_by xs ys)))
+    (append_assoc u.own.ticks (flat_map ticked_by xs) (flat_map ticked_by ys) ∙ ap (λ z. u.own.ticks ++ z) (sym (flat_map-append ticked_by xs ys)))
+    (append_assoc u.own.advances (flat_map clock_by xs) (flat_map clock_by ys) ∙ ap (λ z. u.own.advances ++ z) (sym (flat_map-append clock_by xs ys)))
+    (append_assoc u.own.fired (flat_map fired_by xs) (flat_map fired_by ys) ∙ ap (λ z. u.own.fired ++ z) (sym (flat_map-append fired_by xs ys)))
 
 abbrev slice_is : ℕ → ℕ → List ℕ → Bool
 slice_is e s masks = is_in (slice_index_or masks e 0) s
@@ -226,7 +225,7 @@ chains_rest xs ys e = record {
 }
 
 seat_rests : (v w : SeatView) → own_of w ≡ own_of v → own_of w ≡ seat_after [] v
-seat_rests v w e = e ∙ own_eq (own_of v) _ _ _ _ _ _ (sym (append-nil v.ticks)) (sym (append-nil v.advances)) (sym (append-nil v.fired))
+seat_rests v w e = e ∙ own_eq (own_of v) _ _ _ _ _ _ (sym (append-nil v.own.ticks)) (sym (append-nil v.own.advances)) (sym (append-nil v.own.fired))
 
 shows_none : (a b : List ℕ) → b ≡ a → Shows [] a b
 shows_none a b e e' s low small = ap (λ z. slice_is e' s z) e ∙ or_false (slice_is e' s a)
@@ -303,13 +302,13 @@ pub tended_logged : (plan : BootPlan) (advanced : Result ℕ AdvanceRefusal) (al
     → DidTend advanced alarms (meters.view_of old.meters) (meters.view_of new.meters) → new.signals ≡ old.signals → Logs plan (Tended advanced alarms ∷ []) old new
 tended_logged plan advanced alarms old new h up r m s = one_entry plan (Tended advanced alarms) old new tt h
     (rests _ _ (ap (λ z. z.items) r.small)) (rests _ _ (ap (λ z. z.items) r.large)) (λ q k. cc) (λ q k. cc) (chains_rest _ _ (ap (λ z. z.items) r.chains))
-    (m ∙ own_eq (own_of (meters.view_of old.meters)) _ _ _ _ _ _ (sym (append-nil (meters.view_of old.meters).ticks))
-    (ap (λ z. (meters.view_of old.meters).advances ++ z) (sym (append-nil (tick_to advanced)))) (ap (λ z. (meters.view_of old.meters).fired ++ z) (sym (append-nil alarms)))) (ap (λ z. map line_heard z.items) r.heard ∙ sym (append-nil (heard_lines old))) (shows_none _ _ s) up
+    (m ∙ own_eq (own_of (meters.view_of old.meters)) _ _ _ _ _ _ (sym (append-nil (meters.view_of old.meters).own.ticks))
+    (ap (λ z. (meters.view_of old.meters).own.advances ++ z) (sym (append-nil (tick_to advanced)))) (ap (λ z. (meters.view_of old.meters).own.fired ++ z) (sym (append-nil alarms)))) (ap (λ z. map line_heard z.items) r.heard ∙ sym (append-nil (heard_lines old))) (shows_none _ _ s) up
 
 -- a step was tried
-ticked : (step : Step) (deed : Deed) (v w : SeatView) → SeatDid step deed v w → own_of w ≡ record (own_of v) { ticks = v.ticks ++ ticks_by step deed }
+ticked : (step : Step) (deed : Deed) (v w : SeatView) → SeatDid step deed v w → own_of w ≡ record (own_of v) { ticks = v.own.ticks ++ ticks_by step deed }
 ticked (steps.Tick gauge amount) (deeds.Ticked before) v w h = h.1
-ticked step deed v w h = ap (λ (z : SeatView). own_of z) h ∙ own_eq (own_of v) _ _ _ _ _ _ (sym (append-nil v.ticks)) refl refl
+ticked step deed v w h = ap (λ (z : SeatView). own_of z) h ∙ own_eq (own_of v) _ _ _ _ _ _ (sym (append-nil v.own.ticks)) refl refl
 
 raises_only : (step : Step) (deed : Deed) → (raised_by step deed).delivered ≡ []
 raises_only (steps.Signal thread signal) (deeds.Signalled answer) = refl
@@ -400,8 +399,8 @@ tried_logged plan shared call p element number step deed answer text old new is 
     one_entry plan (Tried element number step deed answer text) old new
     (is, comes, counted_so call element (is_done deed) number answer s.did s.after _ _ s.counts nth now low, one_line step deed text _ _ _ _ e.queues) h e.small_lines e.large_lines
     (told_small step deed text _ _ _ _ e.queues) (told_large step deed text _ _ _ _ e.queues) e.notes
-    (ticked step deed _ _ e.seat ∙ own_eq (own_of (meters.view_of old.meters)) _ _ _ _ _ _ (ap (λ z. (meters.view_of old.meters).ticks ++ z) (sym (append-nil (ticks_by step deed))))
-    (sym (append-nil (meters.view_of old.meters).advances)) (sym (append-nil (meters.view_of old.meters).fired)))
+    (ticked step deed _ _ e.seat ∙ own_eq (own_of (meters.view_of old.meters)) _ _ _ _ _ _ (ap (λ z. (meters.view_of old.meters).own.ticks ++ z) (sym (append-nil (ticks_by step deed))))
+    (sym (append-nil (meters.view_of old.meters).own.advances)) (sym (append-nil (meters.view_of old.meters).own.fired)))
     lines
     (λ i k low small. shows_none _ _ sig i k low small
     ∙ ap (λ z. slice_is i k old.signals || is_delivered z i k) (sym (ap (λ z. z ++ (counted_step answer element number).delivered) (raises_only step deed) ∙ counts_only answer element number)))

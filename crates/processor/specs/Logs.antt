@@ -18,9 +18,8 @@ use Rattle.hand_steps.specs.Tallies.{is_delivered}
 use Rattle.hand_steps.specs.Tendings.{tick_to}
 use Rattle.meters.specs.declared.gauges.AdvanceRefusal.{AdvanceRefusal}
 use Rattle.meters.specs.declared.rule.Tick.{Tick}
-use Rattle.meters.specs.declared.rule.View.{View as SeatView}
+use Rattle.meters.specs.Own.{SeatView, Own, own_of, nothing_own}
 use Rattle.meters.specs.Handles as meters
-use Rattle.meters.specs.Own.{Own, own_of, nothing_own}
 use Rattle.event_theory.specs.declared.alarm.Alarm.{Alarm}
 use Rattle.thread_table.specs.Answers.{is_in}
 use Rattle.thread_table.specs.Handles.{view_of}
@@ -181,9 +180,9 @@ Climbs (number ∷ numbers) low high = (low ≤ number) × Climbs numbers (numbe
 
 abbrev pub seat_after : List LogEntry → SeatView → Own
 seat_after log v = record (own_of v) {
-  ticks = v.ticks ++ flat_map ticked_by log;
-  advances = v.advances ++ flat_map clock_by log;
-  fired = v.fired ++ flat_map fired_by log;
+  ticks = v.own.ticks ++ flat_map ticked_by log;
+  advances = v.own.advances ++ flat_map clock_by log;
+  fired = v.own.fired ++ flat_map fired_by log;
 }
 
 -- what a seat with this share has of its own that did this and nothing else

@@ -31,9 +31,9 @@ pub record IsPrepared (plan : BootPlan) (first : Parts) : Type 0 where
   pub large_shuts : (q : ℕ) → shuts_at first.large.items q ≡ 0
   pub chains : (q : ℕ) → notes_put_at first.chains.items q ≡ []
   pub ran : (q : ℕ) → notes_taken_at first.chains.items q ≡ []
-  pub ticks : (meters.view_of first.meters).ticks ≡ []
-  pub advances : (meters.view_of first.meters).advances ≡ []
-  pub alarms : (meters.view_of first.meters).set ≡ plan.alarms
-  pub fired : (meters.view_of first.meters).fired ≡ []
-  pub cancelled : (meters.view_of first.meters).cancelled ≡ []
+  pub ticks : (meters.view_of first.meters).own.ticks ≡ []
+  pub advances : (meters.view_of first.meters).own.advances ≡ []
+  pub alarms : (meters.view_of first.meters).own.set ≡ plan.alarms
+  pub fired : (meters.view_of first.meters).own.fired ≡ []
+  pub cancelled : (meters.view_of first.meters).own.cancelled ≡ []
   pub signals : first.signals ≡ no_signals

@@ -15,9 +15,8 @@ use Rattle.end_steps.specs.Sums.{no_lines, never, once_if, notes_run}
 use Rattle.hand_steps.specs.Tallies.{Tally, no_events, one_signal}
 use Rattle.hand_steps.specs.Wakings.{Woke, ResumeAnswer}
 use Rattle.meters.specs.declared.rule.Tick.{Tick}
-use Rattle.meters.specs.declared.rule.View.{View as SeatView}
-use Rattle.meters.specs.Own.{DidTick}
-use Rattle.meters.specs.Steps.{Ticked}
+use Rattle.meters.specs.Own.{SeatView, DidTick}
+use Rattle.meters.specs.Answers.{Ticked}
 use Rattle.proc_chain.specs.declared.ends.ChainEnd.{ChainEnd}
 use Rattle.proc_chain.specs.declared.ends.ProcChain.{ProcChain}
 use Rattle.proc_chain.specs.declared.quaject.Quaject.{Ghosts}

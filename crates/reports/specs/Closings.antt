@@ -148,7 +148,7 @@ closed_of plan boot ended quajects devices = record {
   ttys = drop (length plan.movers) (chains_of quajects (homes_in ended.counts.items));
   devices = devices;
   gauges = take (length plan.gauges) ended.meters.gauges;
-  fired = (meters.view_of boot.last.meters).fired;
+  fired = (meters.view_of boot.last.meters).own.fired;
   left = ended.meters.alarms.items;
 }
 

@@ -149,4 +149,4 @@ pub record MetersEnded (plan : BootPlan) (last : Parts) (c : ClosedTables) : Typ
   pub closes : seats.ClosedNow first (meters.view_of last.meters) gauges clock c.left
   pub gauges_are : c.gauges ≡ take (length plan.gauges) gauges
   pub few : length plan.gauges ≤ 8
-  pub fired : c.fired ≡ (meters.view_of last.meters).fired
+  pub fired : c.fired ≡ (meters.view_of last.meters).own.fired

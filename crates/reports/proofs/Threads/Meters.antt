@@ -2,7 +2,7 @@
 use Rattle.std.proofs.Common.{◌≡◌, ℕ, zero, suc, ◌<◌, ◌%◌, List, [], ◌∷◌, ◌++◌, length, get_or, take, refl, sym, ap, ◌∙◌, subst, arith, append-nil, Some, slice_get, flat_map}
 use Rattle.std.specs.List.{AllZip}
 use Rattle.boot_data.specs.declared.boot_plan.BootPlan.{BootPlan}
-use Rattle.meters.specs.declared.rule.View.{View}
+use Rattle.meters.specs.Own.{SeatView}
 use Rattle.meters.specs.Handles.{view_of}
 use Rattle.meters.specs.Views.{amount_on, times}
 use Rattle.processor.specs.declared.station.Parts.{Parts}
@@ -26,26 +26,26 @@ nothing : {A : Type 0} (logs : List (List LogEntry)) → flat_map {A = A} (λ lo
 nothing [] = refl
 nothing (l ∷ ls) = nothing ls
 
-abbrev seat : Parts → View
+abbrev seat : Parts → SeatView
 seat parts = view_of parts.meters
 
 module _ (plan : BootPlan) (logs : List (List LogEntry)) (stations : List Parts) (first last : Parts) (left : AllZip (Leaves plan) logs stations)
     (begun : IsPrepared plan first) (joins : AllJoined first stations last) where
-  ticks_are : (seat last).ticks ≡ flat_map ticked_by (all_of logs)
-  ticks_are = joined_from_none (λ p. (seat p).ticks) (λ a b c j. ap (λ o. o.ticks) j.own) first stations last begun.ticks joins
-      ∙ (zip_lists (Leaves plan) (λ p. (seat p).ticks) (flat_map ticked_by) (λ log p l. ap (λ o. o.ticks) l.meters) logs stations left ∙ sym (flat_all ticked_by logs))
+  ticks_are : (seat last).own.ticks ≡ flat_map ticked_by (all_of logs)
+  ticks_are = joined_from_none (λ p. (seat p).own.ticks) (λ a b c j. ap (λ o. o.ticks) j.own) first stations last begun.ticks joins
+      ∙ (zip_lists (Leaves plan) (λ p. (seat p).own.ticks) (flat_map ticked_by) (λ log p l. ap (λ o. o.ticks) l.meters) logs stations left ∙ sym (flat_all ticked_by logs))
 
-  pub fired_are : (seat last).fired ≡ flat_map fired_by (all_of logs)
-  fired_are = joined_from_none (λ p. (seat p).fired) (λ a b c j. ap (λ o. o.fired) j.own) first stations last begun.fired joins
-      ∙ (zip_lists (Leaves plan) (λ p. (seat p).fired) (flat_map fired_by) (λ log p l. ap (λ o. o.fired) l.meters) logs stations left ∙ sym (flat_all fired_by logs))
+  pub fired_are : (seat last).own.fired ≡ flat_map fired_by (all_of logs)
+  fired_are = joined_from_none (λ p. (seat p).own.fired) (λ a b c j. ap (λ o. o.fired) j.own) first stations last begun.fired joins
+      ∙ (zip_lists (Leaves plan) (λ p. (seat p).own.fired) (flat_map fired_by) (λ log p l. ap (λ o. o.fired) l.meters) logs stations left ∙ sym (flat_all fired_by logs))
 
-  cancelled_none : (seat last).cancelled ≡ []
-  cancelled_none = joined_from_none (λ p. (seat p).cancelled) (λ a b c j. ap (λ o. o.cancelled) j.own) first stations last begun.cancelled joins
-      ∙ (zip_lists (Leaves plan) (λ p. (seat p).cancelled) (λ log. []) (λ log p l. ap (λ o. o.cancelled) l.meters) logs stations left ∙ nothing logs)
+  cancelled_none : (seat last).own.cancelled ≡ []
+  cancelled_none = joined_from_none (λ p. (seat p).own.cancelled) (λ a b c j. ap (λ o. o.cancelled) j.own) first stations last begun.cancelled joins
+      ∙ (zip_lists (Leaves plan) (λ p. (seat p).own.cancelled) (λ log. []) (λ log p l. ap (λ o. o.cancelled) l.meters) logs stations left ∙ nothing logs)
 
-  set_are : (seat last).set ≡ plan.alarms
-  set_are = joined_lists (λ p. (seat p).set) (λ a b c j. ap (λ o. o.set) j.own) first stations last joins
-      ∙ ((λ k. begun.alarms k ++ (zip_lists (Leaves plan) (λ p. (seat p).set) (λ log. []) (λ log p l. ap (λ o. o.set) l.meters) logs stations left ∙ nothing logs) k)
+  set_are : (seat last).own.set ≡ plan.alarms
+  set_are = joined_lists (λ p. (seat p).own.set) (λ a b c j. ap (λ o. o.set) j.own) first stations last joins
+      ∙ ((λ k. begun.alarms k ++ (zip_lists (Leaves plan) (λ p. (seat p).own.set) (λ log. []) (λ log p l. ap (λ o. o.set) l.meters) logs stations left ∙ nothing logs) k)
       ∙ append-nil plan.alarms)
 
   pub gauges_agree : (c : ClosedTables) → MetersEnded plan last c → GaugesAgree c.gauges logs
@@ -55,9 +55,9 @@ module _ (plan : BootPlan) (logs : List (List LogEntry)) (stations : List Parts)
 
   pub alarms_agree : (c : ClosedTables) → MetersEnded plan last c → AlarmsAgree plan c logs
   alarms_agree c e = record {
-    each = λ a. let s : times a (seat last).set ≡ times a plan.alarms = ap (times a) set_are in
-        let f : times a (seat last).fired ≡ times a c.fired = ap (times a) (sym e.fired) in
-        let n : times a (seat last).cancelled ≡ 0 = ap (times a) cancelled_none in
+    each = λ a. let s : times a (seat last).own.set ≡ times a plan.alarms = ap (times a) set_are in
+        let f : times a (seat last).own.fired ≡ times a c.fired = ap (times a) (sym e.fired) in
+        let n : times a (seat last).own.cancelled ≡ 0 = ap (times a) cancelled_none in
         let all = e.closes.all.once a in omega arith;
     by = e.fired ∙ fired_are;
   }

@@ -8,4 +8,4 @@ use Rattle.bindings.specs.SeatCalls.{head_of_set}
 
 pub set_small : (v w : SeatView) (r : SetRefusal) → NotSet v r w → head_of_set r < 16
 set_small v w NoRoom h = omega arith
-set_small v w (Lost slot) h = h.4
+set_small v w (Lost slot) h = h.5

@@ -93,6 +93,7 @@ abbrev pub tour : ℕ → List Visit → List (Step Reading)
 tour slot [] = []
 tour slot (visit ∷ visits) = entries_of slot visit ++ tour (slot + 1) visits
 
+-- the alarm that was fired there
 abbrev pub gave : Visit → Option Alarm
 gave (stays found m) = None
 gave (goes alarm m n) = Some alarm

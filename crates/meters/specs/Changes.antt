@@ -50,10 +50,11 @@ with_advance m = record m { clock = m.clock + 1 }
 abbrev pub with_alarm : Reading → ℕ → Alarm → Reading
 with_alarm m slot alarm = record m { slots = slice_set m.slots slot (Some alarm); set = m.set ++ alarm ∷ [] }
 
--- the alarm of this slot is taken out, as fired or as cancelled
+-- the alarm of this slot is taken out, as fired
 abbrev pub with_fired : Reading → ℕ → Alarm → Reading
 with_fired m slot alarm = record m { slots = slice_set m.slots slot None; fired = m.fired ++ alarm ∷ [] }
 
+-- the same, as cancelled
 abbrev pub with_cancelled : Reading → ℕ → Alarm → Reading
 with_cancelled m slot alarm = record m { slots = slice_set m.slots slot None; cancelled = m.cancelled ++ alarm ∷ [] }
 

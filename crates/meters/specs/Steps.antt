@@ -19,6 +19,7 @@ WasTicked v gauge amount found w = (m : Moment Reading)
     × Made v (change (gauge_word gauge) found m (with_tick m.object gauge amount) ∷ [])
     (record v.own { ticks = v.own.ticks ++ record { gauge = gauge; amount = amount } ∷ [] }) w
 
+-- what adding to a gauge tells
 abbrev pub ticks : Step Unit → Me Unit SeatView → ℕ → Me Unit SeatView → Type 0
 ticks st m r m' = Stays of_meters m m'
     × ((gauge : ℕ) → st.word ≡ gauge_word gauge → WasTicked m.0 gauge st.first r m'.0)
@@ -29,6 +30,7 @@ WasAdvanced v clock w = (m : Moment Reading)
     × Made v (change clock_word clock m (with_advance m.object) ∷ [])
     (record v.own { advances = v.own.advances ++ (clock + 1) ∷ [] }) w
 
+-- what an exchange of the clock tells
 abbrev pub advances : Step Unit → Me Unit SeatView → ℕ → Me Unit SeatView → Type 0
 advances st m r m' = Stays of_meters m m'
     × (r ≡ st.first → WasAdvanced m.0 st.first m'.0)
@@ -46,6 +48,7 @@ WasSet v slot alarm w = (m : Moment Reading)
     × Made v (change (slot_word slot) 0 m (with_alarm m.object slot alarm) ∷ [])
     (record v.own { set = v.own.set ++ alarm ∷ [] }) w
 
+-- what an exchange tells that is to set an alarm
 abbrev pub sets : Step Unit → Me Unit SeatView → ℕ → Me Unit SeatView → Type 0
 sets st m r m' = Stays of_meters m m'
     × (r ≡ 0 → (slot : ℕ) (alarm : Alarm) → IsWordOf slot alarm st.word st.second → WasSet m.0 slot alarm m'.0)
@@ -57,6 +60,7 @@ WasFired v slot alarm w = (m : Moment Reading)
     × Made v (change (slot_word slot) (word_of (Some alarm)) m (with_fired m.object slot alarm) ∷ [])
     (record v.own { fired = v.own.fired ++ alarm ∷ [] }) w
 
+-- what an exchange tells that is to fire an alarm
 abbrev pub fires : Step Unit → Me Unit SeatView → ℕ → Me Unit SeatView → Type 0
 fires st m r m' = Stays of_meters m m'
     × (r ≡ st.first → (slot : ℕ) (alarm : Alarm) → IsWordOf slot alarm st.word st.first → WasFired m.0 slot alarm m'.0)
@@ -68,12 +72,14 @@ WasCancelled v slot alarm w = (m : Moment Reading)
     × Made v (change (slot_word slot) (word_of (Some alarm)) m (with_cancelled m.object slot alarm) ∷ [])
     (record v.own { cancelled = v.own.cancelled ++ alarm ∷ [] }) w
 
+-- what an exchange tells that is to cancel an alarm
 abbrev pub cancels : Step Unit → Me Unit SeatView → ℕ → Me Unit SeatView → Type 0
 cancels st m r m' = Stays of_meters m m'
     × (r ≡ st.first → (slot : ℕ) (alarm : Alarm) → IsWordOf slot alarm st.word st.first
     → WasCancelled m.0 slot alarm m'.0)
     × (r ≢ st.first → Looked m.0 st.word r m'.0)
 
+-- what counting one end less tells; no alarm that was set or taken out is had by two ends
 abbrev pub counts_down : Step Unit → Me Unit SeatView → ℕ → Me Unit SeatView → Type 0
 counts_down st m r m' = Stays of_meters m m' × CountedDown ends_word m.0 m'.0 × IsPart m'.0
 

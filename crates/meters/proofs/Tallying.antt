@@ -10,7 +10,7 @@ use Rattle.table_theory.specs.Ledgers.{Step, load, count_up, count_down, IsReal,
 use Rattle.table_theory.specs.Plays.{counts_up, counts}
 use Rattle.table_theory.specs.Sharing.{IsCount}
 use Rattle.table_theory.proofs.Ends.{begins_on}
-use Rattle.table_theory.proofs.Ledgers.{after, adds_step, true_after, true_step, true_split, true_join}
+use Rattle.table_theory.proofs.Ledgers.{after, adds_step, true_after, true_step, true_split, true_join, of_one_object}
 use Rattle.table_theory.proofs.Standing.{stand_same, stand_up, stand_down, number_is}
 use Rattle.meters.specs.declared.rule.Reading.{Reading}
 use Rattle.meters.specs.declared.rule.Shape.{Shape}
@@ -68,6 +68,7 @@ downs key n id me live s k _ at _ = let v : SeatView = me.0 in let c : ℕ = k.n
           own = refl;
           member = refl;
           joined = begins_on v.joined (past k) e more_seen;
+          one_object = of_one_object of_meters nothing_did did_both (first_reading key.clock) k.now s.views id v k.true_ends at;
         },
         is_part key.clock k.now.object s.views id v w k.listed at refl refl,
       ),

@@ -29,6 +29,7 @@ module _ {K O : Type 0} where
     steps = v.steps ++ e ∷ [];
     course = before ++ e ∷ [];
     joined = before ++ e ∷ [];
+    joined_first = v.first;
   }
 
 -- all steps of all ends up to now
@@ -101,6 +102,7 @@ module _ {K O : Type 0} (T : Subject O) (nothing : K) (plus : K → K → K) whe
         seen = all_set (Seen first) vs j w t.seen (continues_on (opened first) now e.next old (e ∷ []) t.course.continues (continues_one now e found));
         joined = subst (λ (z : List (Step O)). (i : ℕ) (u : V) → get_elem? (set vs j w) i ≡ some u → Begins u.joined z) (sym is)
             (all_set (λ u. Begins u.joined (old ++ e ∷ [])) vs j w (λ i u has. begins_on u.joined old e (t.joined i u has)) (begins_refl (old ++ e ∷ [])));
+        joined_first = all_set (λ u. u.joined_first ≡ first) vs j w t.joined_first (t.first_is j v at);
       }
 
   pub true_split : (first : O) (now : Moment O) (vs : List V) (j : ℕ) (v : V) → AreTrue T nothing first now vs → get_elem? vs j ≡ some v → v.member.ends ≡ 2 → AreTrue T nothing first now (set vs j (rest_of v) ++ newborn nothing v ∷ [])
@@ -113,6 +115,7 @@ module _ {K O : Type 0} (T : Subject O) (nothing : K) (plus : K → K → K) whe
         seen = all_push (Seen first) (set vs j left) right (all_set (Seen first) vs j left t.seen (t.seen j v at)) (t.seen j v at);
         joined = subst (λ (z : List (Step O)). (i : ℕ) (u : V) → get_elem? (set vs j left ++ right ∷ []) i ≡ some u → Begins u.joined z) (sym is)
             (all_push (λ u. Begins u.joined old) (set vs j left) right (all_set (λ u. Begins u.joined old) vs j left t.joined (t.joined j v at)) (t.joined j v at));
+        joined_first = all_push (λ u. u.joined_first ≡ first) (set vs j left) right (all_set (λ u. u.joined_first ≡ first) vs j left t.joined_first (t.joined_first j v at)) (t.joined_first j v at);
       }
 
   -- what holds of both holds of the later of them
@@ -137,6 +140,7 @@ module _ {K O : Type 0} (T : Subject O) (nothing : K) (plus : K → K → K) whe
             (all_set (λ w. Begins w.joined old) (set vs j b) k x
             (all_set (λ w. Begins w.joined old) vs j b t.joined (by_case (λ z. Begins z old) later u.course v.course (t.course.seen k u at') (t.course.seen j v at)))
             (t.joined j v at));
+        joined_first = all_set (λ z. z.joined_first ≡ first) (set vs j b) k x (all_set (λ z. z.joined_first ≡ first) vs j b t.joined_first (t.first_is k u at')) (t.joined_first j v at);
       }
 
   pub true_first : (first : O) → AreTrue T nothing first (opened first) (first_of nothing first ∷ [])
@@ -148,4 +152,9 @@ module _ {K O : Type 0} (T : Subject O) (nothing : K) (plus : K → K → K) whe
     seen = all_push (Seen first) [] v (none_yet (Seen first)) refl;
     joined = subst (λ (z : List (Step O)). (i : ℕ) (u : V) → get_elem? (v ∷ []) i ≡ some u → Begins u.joined z) (sym (first_entries steps_of course_of (opened first) v refl refl))
         (all_push (λ u. Begins u.joined []) [] v (none_yet (λ u. Begins u.joined [])) (begins_refl []));
+    joined_first = all_push (λ u. u.joined_first ≡ first) [] v (none_yet (λ u. u.joined_first ≡ first)) refl;
   }
+
+  -- the end that was taken in last had the same object
+  pub of_one_object : (first : O) (now : Moment O) (vs : List V) (j : ℕ) (v : V) → AreTrue T nothing first now vs → get_elem? vs j ≡ some v → v.joined_first ≡ v.first
+  of_one_object first now vs j v t at = t.joined_first j v at ∙ sym (t.first_is j v at)

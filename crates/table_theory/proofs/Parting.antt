@@ -49,6 +49,7 @@ module _ {K O : Type 0} (nothing : K) (plus : K → K → K) (word : ℕ) where
         member = d.member ∙ (λ i. record (both plus v u).member { ends = less i; joins = v.member.joins + u.member.joins + 1 });
         one = seen.0;
         other = seen.1;
+        one_object = d.one_object;
       }
     where
       less : v.member.ends + u.member.ends - 1 ≡ 1

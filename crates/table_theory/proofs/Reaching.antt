@@ -1,12 +1,13 @@
 -- Real steps from one moment to another, and an end's own among them.
-use Rattle.std.proofs.Common.{◌≡◌, List, [], ◌∷◌, ◌++◌, sym, refl, ap, ◌∙◌, subst}
+use Rattle.std.proofs.Common.{◌≡◌, ℕ, List, [], ◌∷◌, ◌++◌, sym, refl, ap, ◌∙◌, subst}
 use Rattle.std.proofs.lemmas.List.{append_assoc, append-nil}
 use Rattle.std.specs.List.{AllByRecursion}
 use Rattle.table_theory.specs.declared.views.Entry.{Entry}
 use Rattle.table_theory.specs.declared.views.Moment.{Moment}
 use Rattle.table_theory.specs.declared.views.Ledger.{Ledger}
 use Rattle.table_theory.specs.Courses.{Continues}
-use Rattle.table_theory.specs.Ledgers.{Subject, Step, IsReal, IsHonest, Reaches, Weaves, Adds, opened}
+use Rattle.table_theory.specs.Ends.{Begins}
+use Rattle.table_theory.specs.Ledgers.{Subject, Step, IsReal, IsHonest, Reaches, Weaves, Adds, TookIn, opened}
 
 module _ {E : Type 0} (P : E → Type 0) where
   pub all_on : (xs ys : List E) → AllByRecursion P xs → AllByRecursion P ys → AllByRecursion P (xs ++ ys)
@@ -83,6 +84,18 @@ module _ {K O : Type 0} (T : Subject O) where
 
   pub reaches_since : (v w : Ledger K O) (es : List (Step O)) → IsHonest T v → IsHonest T w → Adds v es w → Reaches T v.seen w.seen
   reaches_since v w es x y a = let s = seen_since v w es x y a in record { steps = a.since; leads = s.0; real = s.1 }
+
+  -- the same, of what an end of the same object had seen whose steps the other has seen too
+  pub reaches_begun : (u w : Ledger K O) → IsHonest T u → IsHonest T w → w.first ≡ u.first → (b : Begins u.course w.course) → Reaches T u.seen w.seen
+  reaches_begun u w x y same b = record {
+    steps = b.0;
+    leads = continues_behind (opened u.first) u.seen w.seen u.course b.0 x.leads (subst (λ (z : List (Step O)). Continues (opened u.first) z w.seen) (sym b.1) (subst (λ (z : O). Continues (opened z) w.course w.seen) same y.leads));
+    real = all_behind (IsReal T) u.course b.0 (subst (AllByRecursion (IsReal T)) (sym b.1) y.real);
+  }
+
+  -- after a join, real steps lead from what either of both had seen
+  pub reaches_both : (plus : K → K → K) (word : ℕ) (v u w : Ledger K O) → IsHonest T v → IsHonest T u → IsHonest T w → TookIn plus word v u w → Reaches T v.seen w.seen × Reaches T u.seen w.seen
+  reaches_both plus word v u w x y z t = (reaches_begun v w x z t.adds.first t.one, reaches_begun u w y z (t.adds.first ∙ sym t.one_object) t.other)
 
   -- each entry of a call is real
   pub entries_real : (v w : Ledger K O) (es : List (Step O)) → IsHonest T w → Adds v es w → AllByRecursion (IsReal T) es

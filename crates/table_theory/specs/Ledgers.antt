@@ -97,6 +97,7 @@ first_of nothing object = record {
   steps = [];
   course = [];
   joined = [];
+  joined_first = object;
 }
 
 -- what a split leaves, where it was counted
@@ -130,6 +131,7 @@ both plus v w = record {
   steps = v.steps ++ w.steps;
   course = by_later v w v.course w.course;
   joined = by_later v w w.course v.course;
+  joined_first = w.first;
 }
 
 -- an end that was taken in by the end v
@@ -166,6 +168,7 @@ pub record CountedDown {K O : Type 0} (word : ℕ) (v w : Ledger K O) : Type 0 w
   pub own : w.own ≡ v.own
   pub member : w.member ≡ record v.member { ends = v.member.ends - 1; joins = v.member.joins + 1 }
   pub joined : Begins v.joined w.course
+  pub one_object : v.joined_first ≡ v.first
 
 -- The number of ends was found and made one more, and the end gave a part of its share away. One load more, of the
 -- first word, stands in no list: by it the new end gets what the end knows
@@ -179,8 +182,8 @@ pub record Divided {K O : Type 0} (word : ℕ) (v w : Ledger K O) : Type 0 where
 abbrev pub IsNewborn : {K O : Type 0} → K → Ledger K O → Ledger K O → Ledger K O → Type 0
 IsNewborn nothing old new born = born ≡ newborn nothing (record new { member = old.member })
 
--- The end has what both had; then the number of ends was found and made one less. It has seen what both had seen. One
--- load more, of the first word, stands in no list: by it the end gets what the other knows
+-- The end has what both had; then the number of ends was found and made one less. It has seen what both had seen, of
+-- the one object. One load more, of the first word, stands in no list: by it the end gets what the other knows
 pub record TookIn {K O : Type 0} (plus : K → K → K) (word : ℕ) (v u w : Ledger K O) : Type 0 where
   pub found : Moment O
   pub adds : Adds (both plus v u) (count_down word found ∷ []) w
@@ -188,6 +191,7 @@ pub record TookIn {K O : Type 0} (plus : K → K → K) (word : ℕ) (v u w : Le
   pub member : w.member ≡ record (both plus v u).member { ends = 1; joins = v.member.joins + u.member.joins + 1 }
   pub one : Begins v.course w.course
   pub other : Begins u.course w.course
+  pub one_object : u.first ≡ v.first
 
 -- The number of ends was found, which is 1 exactly where this end has the whole
 pub record Tallied {K O : Type 0} (word : ℕ) (v : Ledger K O) (number : ℕ) (w : Ledger K O) : Type 0 where
@@ -224,3 +228,4 @@ pub record AreTrue {K O : Type 0} (subject : Subject O) (nothing : K) (first : O
   pub first_is : (j : ℕ) (v : Ledger K O) → get_elem? views j ≡ some v → v.first ≡ first
   pub seen : (j : ℕ) (v : Ledger K O) → get_elem? views j ≡ some v → Continues (opened first) v.course v.seen
   pub joined : (j : ℕ) (v : Ledger K O) → get_elem? views j ≡ some v → Begins v.joined (map entry_of course.course)
+  pub joined_first : (j : ℕ) (v : Ledger K O) → get_elem? views j ≡ some v → v.joined_first ≡ first

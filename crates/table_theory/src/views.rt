@@ -46,7 +46,8 @@ pub struct Part {
 
 /// What an end knows: the object as it was made, what the end did, the object as its last step left it, what the end is
 /// among the ends, every step that it made, and every step that any end had made up to its own last one. Between taking
-/// in another end and its next step it has those that the one of both had seen that saw less. Proofs alone speak of it.
+/// in another end and its next step it has those that the one of both had seen that saw less, and the object as it was
+/// made, as the other end had it. Proofs alone speak of it.
 pub struct Ledger<K, O> {
     pub first: O,
     pub own: K,
@@ -55,4 +56,5 @@ pub struct Ledger<K, O> {
     pub steps: LinkedList<Entry<Moment<O>>>,
     pub course: LinkedList<Entry<Moment<O>>>,
     pub joined: LinkedList<Entry<Moment<O>>>,
+    pub joined_first: O,
 }

@@ -130,29 +130,53 @@ head_or d (z ∷ zs) = z
 last_of : {A : Type 0} (xs : List A) (x y : A) → xs ++ x ∷ [] ≡ xs ++ y ∷ [] → x ≡ y
 last_of xs x y e = ap (head_or x) (append_cancel_left xs (x ∷ []) (y ∷ []) e)
 
-was_due : (m o : Reading) (slot : ℕ) (alarm : Alarm) → Becomes m o → with_fired m slot alarm ≡ o → alarm.due ≤ m.clock
-was_due m o slot alarm (becomes.ticked g a b e) is = absurd (longer m.fired alarm ((λ i. (is i).fired) ∙ λ i. (e i).fired))
-was_due m o slot alarm (becomes.advanced b e) is = absurd (longer m.fired alarm ((λ i. (is i).fired) ∙ λ i. (e i).fired))
-was_due m o slot alarm (becomes.was_set k other b s e) is = absurd (longer m.fired alarm ((λ i. (is i).fired) ∙ λ i. (e i).fired))
-was_due m o slot alarm (becomes.fired k other b s d e) is = let same : other ≡ alarm = last_of m.fired other alarm ((λ i. (sym e i).fired) ∙ λ i. (sym is i).fired) in subst (λ (z : Alarm). z.due ≤ m.clock) same d
-was_due m o slot alarm (becomes.cancelled k other b s e) is = absurd (longer m.fired alarm ((λ i. (is i).fired) ∙ λ i. (e i).fired))
+-- the alarm stood in some slot
+abbrev Stood : Reading → Alarm → Type 0
+Stood m alarm = (k : ℕ) × (k < 16) × (in_slot m k ≡ Some alarm)
 
-due_then : (m n : Moment Reading) (slot : ℕ) (alarm : Alarm) → n ≡ record m { object = with_fired m.object slot alarm } → Turns of_meters m n → alarm.due ≤ m.object.clock
-due_then m n slot alarm is (stays e) = absurd (longer m.object.fired alarm ((λ i. (sym is i).object.fired) ∙ λ i. (e i).object.fired))
-due_then m n slot alarm is (event o b e) = was_due m.object o slot alarm b (λ i. ((sym is ∙ e) i).object)
-due_then m n slot alarm is (more e) = absurd (longer m.object.fired alarm ((λ i. (sym is i).object.fired) ∙ λ i. (e i).object.fired))
-due_then m n slot alarm is (fewer e some) = absurd (longer m.object.fired alarm ((λ i. (sym is i).object.fired) ∙ λ i. (e i).object.fired))
+-- an alarm that was fired stood somewhere, and was due
+was_there : (m o : Reading) (slot : ℕ) (alarm : Alarm) → Becomes m o → with_fired m slot alarm ≡ o → Stood m alarm × (alarm.due ≤ m.clock)
+was_there m o slot alarm (becomes.ticked g a b e) is = absurd (longer m.fired alarm ((λ i. (is i).fired) ∙ λ i. (e i).fired))
+was_there m o slot alarm (becomes.advanced b e) is = absurd (longer m.fired alarm ((λ i. (is i).fired) ∙ λ i. (e i).fired))
+was_there m o slot alarm (becomes.was_set k other b s e) is = absurd (longer m.fired alarm ((λ i. (is i).fired) ∙ λ i. (e i).fired))
+was_there m o slot alarm (becomes.fired k other b s d e) is = let same : other ≡ alarm = last_of m.fired other alarm ((λ i. (sym e i).fired) ∙ λ i. (sym is i).fired) in ((k, b, s ∙ ap Some same), subst (λ (z : Alarm). z.due ≤ m.clock) same d)
+was_there m o slot alarm (becomes.cancelled k other b s e) is = absurd (longer m.fired alarm ((λ i. (is i).fired) ∙ λ i. (e i).fired))
+
+there_then : (m n : Moment Reading) (slot : ℕ) (alarm : Alarm) → n ≡ record m { object = with_fired m.object slot alarm } → Turns of_meters m n → Stood m.object alarm × (alarm.due ≤ m.object.clock)
+there_then m n slot alarm is (stays e) = absurd (longer m.object.fired alarm ((λ i. (sym is i).object.fired) ∙ λ i. (e i).object.fired))
+there_then m n slot alarm is (event o b e) = was_there m.object o slot alarm b (λ i. ((sym is ∙ e) i).object)
+there_then m n slot alarm is (more e) = absurd (longer m.object.fired alarm ((λ i. (sym is i).object.fired) ∙ λ i. (e i).object.fired))
+there_then m n slot alarm is (fewer e some) = absurd (longer m.object.fired alarm ((λ i. (sym is i).object.fired) ∙ λ i. (e i).object.fired))
+
+-- an alarm that was cancelled stood somewhere
+was_cancellable : (m o : Reading) (slot : ℕ) (alarm : Alarm) → Becomes m o → with_cancelled m slot alarm ≡ o → Stood m alarm
+was_cancellable m o slot alarm (becomes.ticked g a b e) is = absurd (longer m.cancelled alarm ((λ i. (is i).cancelled) ∙ λ i. (e i).cancelled))
+was_cancellable m o slot alarm (becomes.advanced b e) is = absurd (longer m.cancelled alarm ((λ i. (is i).cancelled) ∙ λ i. (e i).cancelled))
+was_cancellable m o slot alarm (becomes.was_set k other b s e) is = absurd (longer m.cancelled alarm ((λ i. (is i).cancelled) ∙ λ i. (e i).cancelled))
+was_cancellable m o slot alarm (becomes.fired k other b s d e) is = absurd (longer m.cancelled alarm ((λ i. (is i).cancelled) ∙ λ i. (e i).cancelled))
+was_cancellable m o slot alarm (becomes.cancelled k other b s e) is = (k, b, s ∙ ap Some (last_of m.cancelled other alarm ((λ i. (sym e i).cancelled) ∙ λ i. (sym is i).cancelled)))
+
+cancellable_then : (m n : Moment Reading) (slot : ℕ) (alarm : Alarm) → n ≡ record m { object = with_cancelled m.object slot alarm } → Turns of_meters m n → Stood m.object alarm
+cancellable_then m n slot alarm is (stays e) = absurd (longer m.object.cancelled alarm ((λ i. (sym is i).object.cancelled) ∙ λ i. (e i).object.cancelled))
+cancellable_then m n slot alarm is (event o b e) = was_cancellable m.object o slot alarm b (λ i. ((sym is ∙ e) i).object)
+cancellable_then m n slot alarm is (more e) = absurd (longer m.object.cancelled alarm ((λ i. (sym is i).object.cancelled) ∙ λ i. (e i).object.cancelled))
+cancellable_then m n slot alarm is (fewer e some) = absurd (longer m.object.cancelled alarm ((λ i. (sym is i).object.cancelled) ∙ λ i. (e i).object.cancelled))
+
+-- an alarm that stood can be said by a word
+in_range : (m : Reading) (words : List ℕ) (alarm : Alarm) → WordsShow m words → Stood m alarm → IsInRange alarm
+in_range m words alarm h s = subst Fits s.2 (h.slots.fit s.0 s.1)
 
 -- the alarm stood in the slot whose word was the alarm's
 stood_then : (e : Step Reading) (slot : ℕ) (alarm : Alarm) → slot < 16 → IsInRange alarm → e.word ≡ slot_word slot → e.found ≡ word_of (Some alarm) → IsReal of_meters e → in_slot e.then.object slot ≡ Some alarm
 stood_then e slot alarm below range is bits r = one_word (in_slot e.then.object slot) alarm (r.shows.slots.fit slot below) range (sym (slot_says e slot below is r) ∙ bits)
 
-pub fire_event : (slot : ℕ) (alarm : Alarm) (m : Moment Reading) → slot < 16 → IsInRange alarm → IsReal of_meters (change (slot_word slot) (word_of (Some alarm)) m (with_fired m.object slot alarm))
+pub fire_event : (slot : ℕ) (alarm : Alarm) (m : Moment Reading) → slot < 16 → IsReal of_meters (change (slot_word slot) (word_of (Some alarm)) m (with_fired m.object slot alarm))
     → (alarm.due ≤ m.object.clock) × (in_slot m.object slot ≡ Some alarm) × (fire slot (meters_of m.object) ≡ Ok (meters_of (with_fired m.object slot alarm)))
-fire_event slot alarm m below range r = let sixteen = r.shows.slots.sixteen in let e : Step Reading = change (slot_word slot) (word_of (Some alarm)) m (with_fired m.object slot alarm) in let stood = stood_then e slot alarm below range refl refl r in
-    let due = due_then m e.next slot alarm refl r.turns in (due, stood, fire_is m.object slot alarm (omega arith) stood (le-ltb m.object.clock alarm.due due))
+fire_event slot alarm m below r = let sixteen = r.shows.slots.sixteen in let e : Step Reading = change (slot_word slot) (word_of (Some alarm)) m (with_fired m.object slot alarm) in let there = there_then m e.next slot alarm refl r.turns in
+    let due = there.1 in let stood = stood_then e slot alarm below (in_range m.object r.words alarm r.shows there.0) refl refl r in (due, stood, fire_is m.object slot alarm (omega arith) stood (le-ltb m.object.clock alarm.due due))
 
-pub cancel_event : (slot : ℕ) (alarm : Alarm) (m : Moment Reading) → slot < 16 → IsInRange alarm → IsReal of_meters (change (slot_word slot) (word_of (Some alarm)) m (with_cancelled m.object slot alarm))
+pub cancel_event : (slot : ℕ) (alarm : Alarm) (m : Moment Reading) → slot < 16 → IsReal of_meters (change (slot_word slot) (word_of (Some alarm)) m (with_cancelled m.object slot alarm))
     → (in_slot m.object slot ≡ Some alarm) × (cancel slot (meters_of m.object) ≡ Ok (meters_of (with_cancelled m.object slot alarm)))
-cancel_event slot alarm m below range r = let sixteen = r.shows.slots.sixteen in let e : Step Reading = change (slot_word slot) (word_of (Some alarm)) m (with_cancelled m.object slot alarm) in let stood = stood_then e slot alarm below range refl refl r in
+cancel_event slot alarm m below r = let sixteen = r.shows.slots.sixteen in let e : Step Reading = change (slot_word slot) (word_of (Some alarm)) m (with_cancelled m.object slot alarm) in
+    let stood = stood_then e slot alarm below (in_range m.object r.words alarm r.shows (cancellable_then m e.next slot alarm refl r.turns)) refl refl r in
     (stood, cancel_is m.object slot alarm (omega arith) stood)

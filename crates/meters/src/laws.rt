@@ -14,7 +14,6 @@ ghost use Rattle.meters.specs.Changes.{meters_of, IsLawful, in_slot};
 ghost use Rattle.meters.specs.Changes.{with_tick, with_advance, with_alarm, with_fired, with_cancelled};
 ghost use Rattle.meters.specs.Events.{Happens, Leads, IsSet};
 ghost use Rattle.meters.specs.Own.{of_meters};
-ghost use Rattle.meters.specs.Words.{IsInRange};
 ghost use Rattle.meters.specs.Handles.{view_of};
 
 /// What an end lists is true: each entry that a call adds is a real step. It found lawful meters that the words showed,
@@ -58,11 +57,11 @@ pub fn changes_are_events()
     ensures set { (slot : ℕ) (alarm : Alarm) (m : Moment Reading) → slot < SLOTS
         → IsReal of_meters (change (slot_word slot) 0 m (with_alarm m.object slot alarm))
         → IsSet slot alarm m.object (with_alarm m.object slot alarm) }
-    ensures fired { (slot : ℕ) (alarm : Alarm) (m : Moment Reading) → slot < SLOTS → IsInRange alarm
+    ensures fired { (slot : ℕ) (alarm : Alarm) (m : Moment Reading) → slot < SLOTS
         → IsReal of_meters (change (slot_word slot) (word_of (Some alarm)) m (with_fired m.object slot alarm))
         → (alarm.due ≤ m.object.clock) × (in_slot m.object slot ≡ Some alarm)
         × (fire slot (meters_of m.object) ≡ Ok (meters_of (with_fired m.object slot alarm))) }
-    ensures cancelled { (slot : ℕ) (alarm : Alarm) (m : Moment Reading) → slot < SLOTS → IsInRange alarm
+    ensures cancelled { (slot : ℕ) (alarm : Alarm) (m : Moment Reading) → slot < SLOTS
         → IsReal of_meters (change (slot_word slot) (word_of (Some alarm)) m (with_cancelled m.object slot alarm))
         → (in_slot m.object slot ≡ Some alarm)
         × (cancel slot (meters_of m.object) ≡ Ok (meters_of (with_cancelled m.object slot alarm))) }

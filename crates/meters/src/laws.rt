@@ -5,13 +5,14 @@ ghost use Rattle.std.specs.List.{AllByRecursion};
 ghost use Rattle.event_theory.specs.declared.alarm.Alarm.{Alarm};
 ghost use Rattle.event_theory.specs.Meters.{tick, advance, fire, cancel};
 ghost use Rattle.table_theory.specs.declared.views.Moment.{Moment};
-ghost use Rattle.table_theory.specs.Ledgers.{Step, load, change, Adds, IsReal, IsHonest, Reaches};
+ghost use Rattle.table_theory.specs.Ledgers.{Step, load, change, count_down, Adds, IsReal, IsHonest, Reaches};
 ghost use Rattle.meters.specs.Layout.{ends_word, gauge_word, clock_word, slot_word, word_of, alarm_in};
 ghost use Rattle.meters.specs.declared.layout.TheConstants.{GAUGES, SLOTS, TICKS};
 ghost use Rattle.meters.specs.declared.rule.Reading.{Reading};
 ghost use Rattle.meters.specs.declared.ends.MeterSeat.{MeterSeat};
 ghost use Rattle.meters.specs.Changes.{meters_of, IsLawful, in_slot};
 ghost use Rattle.meters.specs.Changes.{with_tick, with_advance, with_alarm, with_fired, with_cancelled};
+ghost use Rattle.meters.specs.Endings.{TookIn};
 ghost use Rattle.meters.specs.Events.{Happens, Leads, IsSet};
 ghost use Rattle.meters.specs.Own.{of_meters};
 ghost use Rattle.meters.specs.Handles.{view_of};
@@ -29,6 +30,16 @@ pub fn lists_are_true()
     ensures event { (e : Step Reading) → IsReal of_meters e
         → (e.next.object ≡ e.then.object) ⊎ Happens e.then.object e.next.object }
     ensures lawful { (e : Step Reading) → IsReal of_meters e → IsLawful e.next.object }
+{}
+
+/// The same of a join: real steps lead from what either end had seen to what the one sees then, and the entry of the
+/// step that counts one end less is real.
+pub fn joins_are_true()
+    ensures since { (old other new : MeterSeat) → TookIn (view_of old) (view_of other) (view_of new)
+        → ∥ Reaches of_meters (view_of old).seen (view_of new).seen ∥₁
+        × ∥ Reaches of_meters (view_of other).seen (view_of new).seen ∥₁ }
+    ensures entry { (old other new : MeterSeat) (t : TookIn (view_of old) (view_of other) (view_of new))
+        → ∥ IsReal of_meters (count_down ends_word t.0.found) ∥₁ }
 {}
 
 /// What the number says that a step found: the number of ends, a gauge, the clock, or what stands in a slot.

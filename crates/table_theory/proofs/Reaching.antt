@@ -94,8 +94,11 @@ module _ {K O : Type 0} (T : Subject O) where
   }
 
   -- after a join, real steps lead from what either of both had seen
-  pub reaches_both : (plus : K → K → K) (word : ℕ) (v u w : Ledger K O) → IsHonest T v → IsHonest T u → IsHonest T w → TookIn plus word v u w → Reaches T v.seen w.seen × Reaches T u.seen w.seen
-  reaches_both plus word v u w x y z t = (reaches_begun v w x z t.adds.first t.one, reaches_begun u w y z (t.adds.first ∙ sym t.one_object) t.other)
+  pub reaches_one : (plus : K → K → K) (word : ℕ) (v u w : Ledger K O) → IsHonest T v → IsHonest T w → TookIn plus word v u w → Reaches T v.seen w.seen
+  reaches_one plus word v u w x y t = reaches_begun v w x y t.adds.first t.one
+
+  pub reaches_other : (plus : K → K → K) (word : ℕ) (v u w : Ledger K O) → IsHonest T u → IsHonest T w → TookIn plus word v u w → Reaches T u.seen w.seen
+  reaches_other plus word v u w x y t = reaches_begun u w x y (t.adds.first ∙ sym t.one_object) t.other
 
   -- each entry of a call is real
   pub entries_real : (v w : Ledger K O) (es : List (Step O)) → IsHonest T w → Adds v es w → AllByRecursion (IsReal T) es

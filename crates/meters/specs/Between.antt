@@ -1,5 +1,5 @@
 -- What holds between any two steps: lawful meters of the core that the words and the views show.
-use Rattle.std.specs.Prelude.{◌≡◌, ℕ, ◌+◌, ◌%◌, ◌^◌, ◌<◌, length, map, take, drop, slice_index_or, count_by, None}
+use Rattle.std.specs.Prelude.{◌≡◌, ℕ, ◌+◌, ◌%◌, ◌^◌, ◌<◌, length, map, drop, slice_index_or, count_by, None}
 use Rattle.atomic_table.specs.Table.{State}
 use Rattle.event_theory.specs.declared.alarm.Alarm.{Alarm}
 use Rattle.event_theory.specs.Lawful.{IsLawfulMeters, stands}
@@ -7,7 +7,7 @@ use Rattle.event_theory.specs.Meters.{Meters}
 use Rattle.table_theory.specs.declared.views.Moment.{Moment}
 use Rattle.table_theory.specs.Ledgers.{AreTrue}
 use Rattle.table_theory.specs.Sharing.{total}
-use Rattle.meters.specs.Layout.{ends_word, clock_word, word_of, width, gauges_in, slots_in}
+use Rattle.meters.specs.Layout.{ends_word, clock_word, slot_word, word_of, width, gauges_in}
 use Rattle.meters.specs.declared.layout.TheConstants.{GAUGES, SLOTS, TICKS}
 use Rattle.meters.specs.declared.rule.Reading.{Reading}
 use Rattle.meters.specs.declared.rule.Shape.{Shape}
@@ -22,7 +22,7 @@ pub record IsShown (key : Shape) (s : State Unit SeatView) (m : Meters) : Type 0
   pub gauges : m.gauges ≡ gauges_in s.words
   pub clock : m.clock ≡ slice_index_or s.words clock_word 0
   pub tick : m.clock < TICKS
-  pub alarms : map word_of m.slots ≡ slots_in s.words
+  pub alarms : map word_of m.slots ≡ drop (slot_word 0) s.words
   pub fit : (slot : ℕ) → slot < SLOTS → Fits (slice_index_or m.slots slot None)
   -- the gauges are the sums of the ticks that the ends list
   pub sums : (gauge : ℕ) → gauge < GAUGES

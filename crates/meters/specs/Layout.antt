@@ -28,10 +28,6 @@ width = WORDS
 abbrev pub gauges_in : List ℕ → List ℕ
 gauges_in words = take GAUGES (drop FIRST_GAUGE words)
 
--- the slots' words
-abbrev pub slots_in : List ℕ → List ℕ
-slots_in words = drop FIRST_SLOT words
-
 -- what the word of a slot is: 0, or bit 63 set, and in it the alarm's signal, element and tick
 abbrev pub word_of : Option Alarm → ℕ
 word_of None = 0

@@ -1,5 +1,5 @@
 -- What a clause says of meters and of their ends.
-use Rattle.std.specs.Prelude.{◌≡◌, ℕ}
+use Rattle.std.specs.Prelude.{ℕ}
 use Rattle.meters.specs.declared.ends.Meters.{Meters}
 use Rattle.meters.specs.declared.ends.MeterSeat.{MeterSeat}
 use Rattle.meters.specs.Own.{SeatView}

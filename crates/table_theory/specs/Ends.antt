@@ -1,6 +1,6 @@
 -- How the ends of an object came and went: a log of the splits (true) and of the joins (false), in the order of their
 -- steps. Each end knows how often it was split and took in another, and the log as it was at its last step of counting.
-use Rattle.std.specs.Prelude.{◌≡◌, ℕ, ◌+◌, ◌<◌, Bool, true, false, if◌then◌else◌, List, [], ◌∷◌, ◌++◌, length, nat_lt}
+use Rattle.std.specs.Prelude.{◌≡◌, ℕ, ◌+◌, Bool, if◌then◌else◌, List, ◌++◌, length, nat_lt}
 use Rattle.std.specs.List.{sum_by}
 use mathlib.Core.Option.{some}
 use lib.ListN.{get_elem?}

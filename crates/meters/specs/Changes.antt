@@ -62,7 +62,8 @@ with_cancelled m slot alarm = record m { slots = slice_set m.slots slot None; ca
 pub data Becomes (m n : Reading) : Type 0 where
   ticked : (gauge amount : ℕ) → gauge < GAUGES → n ≡ with_tick m gauge amount → Becomes m n
   advanced : m.clock < LAST_TICK → n ≡ with_advance m → Becomes m n
-  was_set : (slot : ℕ) (alarm : Alarm) → slot < SLOTS → in_slot m slot ≡ None → n ≡ with_alarm m slot alarm → Becomes m n
+  was_set : (slot : ℕ) (alarm : Alarm) → slot < SLOTS → in_slot m slot ≡ None → n ≡ with_alarm m slot alarm
+      → Becomes m n
   fired : (slot : ℕ) (alarm : Alarm) → slot < SLOTS → in_slot m slot ≡ Some alarm → alarm.due ≤ m.clock
       → n ≡ with_fired m slot alarm → Becomes m n
   cancelled : (slot : ℕ) (alarm : Alarm) → slot < SLOTS → in_slot m slot ≡ Some alarm → n ≡ with_cancelled m slot alarm

@@ -18,6 +18,7 @@ meters_of m = record {
   cancelled = m.cancelled;
 }
 
+-- they are lawful meters of the core
 abbrev pub IsLawful : Reading → Type 0
 IsLawful m = IsLawfulMeters (meters_of m)
 

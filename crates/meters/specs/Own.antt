@@ -45,6 +45,7 @@ pub record Own : Type 0 where
   pub joins : ℕ
   pub share : ℕ
 
+-- what is the end's own
 abbrev pub own_of : SeatView → Own
 own_of v = record {
   ticks = v.own.ticks;
@@ -57,6 +58,7 @@ own_of v = record {
   share = v.member.share;
 }
 
+-- the own of an end that did nothing, and has no share
 abbrev pub nothing_own : Own
 nothing_own = record {
   ticks = [];

@@ -59,8 +59,8 @@ pub fn positions_are_queues()
         → queue_of q (map (moved call other count) runs) ≡ join_queue call other (queue_of q runs) }
 {}
 
-/// Where each end lists its entries in their order, the log of all of them interleaves the ends' lists. So it is with the
-/// runs of a queue, and with its takings.
+/// Where each end lists its entries in their order, the log of all of them interleaves the ends' lists. The runs of a
+/// queue are such entries, and its takings are.
 pub fn logs_interleave()
     ensures { (first : ℕ) (log : List (Owned Batch)) (lists : List (List Batch))
         → Adjacent first log → ((k : ℕ) (o : Owned Batch) → get_elem? log k ≡ some o → 0 < length o.2.places)

@@ -3,7 +3,7 @@ use Rattle.std.proofs.Common.{◌≡◌, ℕ, ◌+◌, ◌<◌, ◌≤◌, List,
 use Rattle.std.specs.List.{AllByRecursion}
 use Rattle.table_theory.specs.declared.views.Moment.{Moment}
 use Rattle.table_theory.specs.Courses.{Continues}
-use Rattle.table_theory.specs.Ledgers.{Step, load, Turns, stays, event, more, fewer, IsReal, IsHonest, Reaches, Adds, Looked}
+use Rattle.table_theory.specs.Ledgers.{Step, load, StepEffect, stays, event, more, fewer, IsReal, IsHonest, Reaches, Adds, Looked}
 use Rattle.table_theory.proofs.Reaching.{reaches_since, entries_real}
 use Rattle.meters.specs.Layout.{clock_word, slot_word, word_of}
 use Rattle.meters.specs.declared.rule.Reading.{Reading}
@@ -18,7 +18,7 @@ clock_becomes m n (was_set slot alarm b s e) = let x : n.clock ≡ m.clock = ap 
 clock_becomes m n (fired slot alarm b s d e) = let x : n.clock ≡ m.clock = ap (λ (z : Reading). z.clock) e in omega arith
 clock_becomes m n (cancelled slot alarm b s e) = let x : n.clock ≡ m.clock = ap (λ (z : Reading). z.clock) e in omega arith
 
-clock_turns : (m n : Moment Reading) → Turns of_meters m n → m.object.clock ≤ n.object.clock
+clock_turns : (m n : Moment Reading) → StepEffect of_meters m n → m.object.clock ≤ n.object.clock
 clock_turns m n (stays e) = let x : n.object.clock ≡ m.object.clock = ap (λ (z : Moment Reading). z.object.clock) e in omega arith
 clock_turns m n (event o b e) = let x : n.object.clock ≡ o.clock = ap (λ (z : Moment Reading). z.object.clock) e in let y = clock_becomes m.object o b in omega arith
 clock_turns m n (more e) = let x : n.object.clock ≡ m.object.clock = ap (λ (z : Moment Reading). z.object.clock) e in omega arith
@@ -26,7 +26,7 @@ clock_turns m n (fewer e some) = let x : n.object.clock ≡ m.object.clock = ap 
 
 clock_steps : (m n : Moment Reading) (steps : List (Step Reading)) → Continues m steps n → AllByRecursion (IsReal of_meters) steps → m.object.clock ≤ n.object.clock
 clock_steps m n [] e r = let x : m.object.clock ≡ n.object.clock = ap (λ (z : Moment Reading). z.object.clock) e in omega arith
-clock_steps m n (s ∷ steps) e r = let x : m.object.clock ≡ s.then.object.clock = ap (λ (z : Moment Reading). z.object.clock) e.0 in let y = clock_turns s.then s.next r.0.turns in let z = clock_steps s.next n steps e.1 r.1 in omega arith
+clock_steps m n (s ∷ steps) e r = let x : m.object.clock ≡ s.then.object.clock = ap (λ (z : Moment Reading). z.object.clock) e.0 in let y = clock_turns s.then s.next r.0.effect in let z = clock_steps s.next n steps e.1 r.1 in omega arith
 
 pub clock_leads : (m n : Moment Reading) → Reaches of_meters m n → m.object.clock ≤ n.object.clock
 clock_leads m n r = clock_steps m n r.steps r.leads r.real

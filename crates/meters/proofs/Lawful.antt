@@ -6,7 +6,7 @@ use Rattle.event_theory.specs.declared.alarm.Alarm.{Alarm}
 use Rattle.event_theory.specs.Meters.{tick, advance, fire, cancel}
 use Rattle.table_theory.specs.declared.views.Moment.{Moment}
 use Rattle.table_theory.specs.Courses.{Continues}
-use Rattle.table_theory.specs.Ledgers.{Step, load, change, Turns, stays, event, more, fewer, IsReal, Reaches}
+use Rattle.table_theory.specs.Ledgers.{Step, load, change, StepEffect, stays, event, more, fewer, IsReal, Reaches}
 use Rattle.meters.specs.Layout.{ends_word, gauge_word, clock_word, slot_word, word_of, alarm_in}
 use Rattle.meters.specs.declared.rule.Reading.{Reading}
 use Rattle.meters.specs.Changes.{meters_of, IsLawful, in_slot, with_tick, with_advance, with_alarm, with_fired, with_cancelled, Becomes}
@@ -33,23 +33,23 @@ stays_lawful m n words h l (becomes.was_set slot alarm b s e) = let sixteen = h.
 stays_lawful m n words h l (becomes.fired slot alarm b s d e) = let sixteen = h.slots.sixteen in subst IsLawful (sym e) (fire_lawful m slot alarm (omega arith) s (le-ltb m.clock alarm.due d) l)
 stays_lawful m n words h l (becomes.cancelled slot alarm b s e) = let sixteen = h.slots.sixteen in subst IsLawful (sym e) (cancel_lawful m slot alarm (omega arith) s l)
 
-event_of : (m n : Moment Reading) (words : List ℕ) → WordsShow m.object words → Turns of_meters m n → (n.object ≡ m.object) ⊎ Happens m.object n.object
+event_of : (m n : Moment Reading) (words : List ℕ) → WordsShow m.object words → StepEffect of_meters m n → (n.object ≡ m.object) ⊎ Happens m.object n.object
 event_of m n words h (stays e) = inl (λ i. (e i).object)
 event_of m n words h (event o b e) = inr (subst (λ (z : Moment Reading). Happens m.object z.object) (sym e) (happens m.object o words h b))
 event_of m n words h (more e) = inl (λ i. (e i).object)
 event_of m n words h (fewer e some) = inl (λ i. (e i).object)
 
-lawful_of : (m n : Moment Reading) (words : List ℕ) → WordsShow m.object words → IsLawful m.object → Turns of_meters m n → IsLawful n.object
+lawful_of : (m n : Moment Reading) (words : List ℕ) → WordsShow m.object words → IsLawful m.object → StepEffect of_meters m n → IsLawful n.object
 lawful_of m n words h l (stays e) = subst (λ (z : Moment Reading). IsLawful z.object) (sym e) l
 lawful_of m n words h l (event o b e) = subst (λ (z : Moment Reading). IsLawful z.object) (sym e) (stays_lawful m.object o words h l b)
 lawful_of m n words h l (more e) = subst (λ (z : Moment Reading). IsLawful z.object) (sym e) l
 lawful_of m n words h l (fewer e some) = subst (λ (z : Moment Reading). IsLawful z.object) (sym e) l
 
 pub real_event : (e : Step Reading) → IsReal of_meters e → (e.next.object ≡ e.then.object) ⊎ Happens e.then.object e.next.object
-real_event e r = event_of e.then e.next r.words r.shows r.turns
+real_event e r = event_of e.then e.next r.words r.shows r.effect
 
 pub real_lawful : (e : Step Reading) → IsReal of_meters e → IsLawful e.next.object
-real_lawful e r = lawful_of e.then e.next r.words r.shows r.lawful r.turns
+real_lawful e r = lawful_of e.then e.next r.words r.shows r.lawful r.effect
 
 leads_on : (m n o : Reading) → Leads m n → Leads n o → Leads m o
 leads_on m n _ l here = l
@@ -107,14 +107,14 @@ below_last m o (becomes.was_set slot alarm b s e) is last = let x : m.clock + 1 
 below_last m o (becomes.fired slot alarm b s d e) is last = let x : m.clock + 1 ≡ o.clock = (λ i. (is i).clock) in let y : o.clock ≡ m.clock = (λ i. (e i).clock) in omega arith
 below_last m o (becomes.cancelled slot alarm b s e) is last = let x : m.clock + 1 ≡ o.clock = (λ i. (is i).clock) in let y : o.clock ≡ m.clock = (λ i. (e i).clock) in omega arith
 
-went_on : (m n : Moment Reading) → n ≡ record m { object = with_advance m.object } → Turns of_meters m n → m.object.clock ≢ 4294967295
+went_on : (m n : Moment Reading) → n ≡ record m { object = with_advance m.object } → StepEffect of_meters m n → m.object.clock ≢ 4294967295
 went_on m n is (stays e) last = let x : n.object.clock ≡ m.object.clock + 1 = (λ i. (is i).object.clock) in let y : n.object.clock ≡ m.object.clock = (λ i. (e i).object.clock) in omega arith
 went_on m n is (event o b e) last = below_last m.object o b (λ i. ((sym is ∙ e) i).object) last
 went_on m n is (more e) last = let x : n.object.clock ≡ m.object.clock + 1 = (λ i. (is i).object.clock) in let y : n.object.clock ≡ m.object.clock = (λ i. (e i).object.clock) in omega arith
 went_on m n is (fewer e some) last = let x : n.object.clock ≡ m.object.clock + 1 = (λ i. (is i).object.clock) in let y : n.object.clock ≡ m.object.clock = (λ i. (e i).object.clock) in omega arith
 
 pub advance_event : (found : ℕ) (m : Moment Reading) → IsReal of_meters (change clock_word found m (with_advance m.object)) → advance (meters_of m.object) ≡ Ok (meters_of (with_advance m.object))
-advance_event found m r = advance_is m.object (went_on m (record m { object = with_advance m.object }) refl r.turns)
+advance_event found m r = advance_is m.object (went_on m (record m { object = with_advance m.object }) refl r.effect)
 
 pub set_event : (slot : ℕ) (alarm : Alarm) (m : Moment Reading) → slot < 16 → IsReal of_meters (change (slot_word slot) 0 m (with_alarm m.object slot alarm)) → IsSet slot alarm m.object (with_alarm m.object slot alarm)
 set_event slot alarm m below r = let sixteen = r.shows.slots.sixteen in set_is m.object slot alarm (omega arith) (empty_says (change (slot_word slot) 0 m (with_alarm m.object slot alarm)) slot below refl r refl)
@@ -142,7 +142,7 @@ was_there m o slot alarm (becomes.was_set k other b s e) is = absurd (longer m.f
 was_there m o slot alarm (becomes.fired k other b s d e) is = let same : other ≡ alarm = last_of m.fired other alarm ((λ i. (sym e i).fired) ∙ λ i. (sym is i).fired) in ((k, b, s ∙ ap Some same), subst (λ (z : Alarm). z.due ≤ m.clock) same d)
 was_there m o slot alarm (becomes.cancelled k other b s e) is = absurd (longer m.fired alarm ((λ i. (is i).fired) ∙ λ i. (e i).fired))
 
-there_then : (m n : Moment Reading) (slot : ℕ) (alarm : Alarm) → n ≡ record m { object = with_fired m.object slot alarm } → Turns of_meters m n → Stood m.object alarm × (alarm.due ≤ m.object.clock)
+there_then : (m n : Moment Reading) (slot : ℕ) (alarm : Alarm) → n ≡ record m { object = with_fired m.object slot alarm } → StepEffect of_meters m n → Stood m.object alarm × (alarm.due ≤ m.object.clock)
 there_then m n slot alarm is (stays e) = absurd (longer m.object.fired alarm ((λ i. (sym is i).object.fired) ∙ λ i. (e i).object.fired))
 there_then m n slot alarm is (event o b e) = was_there m.object o slot alarm b (λ i. ((sym is ∙ e) i).object)
 there_then m n slot alarm is (more e) = absurd (longer m.object.fired alarm ((λ i. (sym is i).object.fired) ∙ λ i. (e i).object.fired))
@@ -156,7 +156,7 @@ was_cancellable m o slot alarm (becomes.was_set k other b s e) is = absurd (long
 was_cancellable m o slot alarm (becomes.fired k other b s d e) is = absurd (longer m.cancelled alarm ((λ i. (is i).cancelled) ∙ λ i. (e i).cancelled))
 was_cancellable m o slot alarm (becomes.cancelled k other b s e) is = (k, b, s ∙ ap Some (last_of m.cancelled other alarm ((λ i. (sym e i).cancelled) ∙ λ i. (sym is i).cancelled)))
 
-cancellable_then : (m n : Moment Reading) (slot : ℕ) (alarm : Alarm) → n ≡ record m { object = with_cancelled m.object slot alarm } → Turns of_meters m n → Stood m.object alarm
+cancellable_then : (m n : Moment Reading) (slot : ℕ) (alarm : Alarm) → n ≡ record m { object = with_cancelled m.object slot alarm } → StepEffect of_meters m n → Stood m.object alarm
 cancellable_then m n slot alarm is (stays e) = absurd (longer m.object.cancelled alarm ((λ i. (sym is i).object.cancelled) ∙ λ i. (e i).object.cancelled))
 cancellable_then m n slot alarm is (event o b e) = was_cancellable m.object o slot alarm b (λ i. ((sym is ∙ e) i).object)
 cancellable_then m n slot alarm is (more e) = absurd (longer m.object.cancelled alarm ((λ i. (sym is i).object.cancelled) ∙ λ i. (e i).object.cancelled))
@@ -172,11 +172,11 @@ stood_then e slot alarm below range is bits r = one_word (in_slot e.then.object 
 
 pub fire_event : (slot : ℕ) (alarm : Alarm) (m : Moment Reading) → slot < 16 → IsReal of_meters (change (slot_word slot) (word_of (Some alarm)) m (with_fired m.object slot alarm))
     → (alarm.due ≤ m.object.clock) × (in_slot m.object slot ≡ Some alarm) × (fire slot (meters_of m.object) ≡ Ok (meters_of (with_fired m.object slot alarm)))
-fire_event slot alarm m below r = let sixteen = r.shows.slots.sixteen in let e : Step Reading = change (slot_word slot) (word_of (Some alarm)) m (with_fired m.object slot alarm) in let there = there_then m e.next slot alarm refl r.turns in
+fire_event slot alarm m below r = let sixteen = r.shows.slots.sixteen in let e : Step Reading = change (slot_word slot) (word_of (Some alarm)) m (with_fired m.object slot alarm) in let there = there_then m e.next slot alarm refl r.effect in
     let due = there.1 in let stood = stood_then e slot alarm below (in_range m.object r.words alarm r.shows there.0) refl refl r in (due, stood, fire_is m.object slot alarm (omega arith) stood (le-ltb m.object.clock alarm.due due))
 
 pub cancel_event : (slot : ℕ) (alarm : Alarm) (m : Moment Reading) → slot < 16 → IsReal of_meters (change (slot_word slot) (word_of (Some alarm)) m (with_cancelled m.object slot alarm))
     → (in_slot m.object slot ≡ Some alarm) × (cancel slot (meters_of m.object) ≡ Ok (meters_of (with_cancelled m.object slot alarm)))
 cancel_event slot alarm m below r = let sixteen = r.shows.slots.sixteen in let e : Step Reading = change (slot_word slot) (word_of (Some alarm)) m (with_cancelled m.object slot alarm) in
-    let stood = stood_then e slot alarm below (in_range m.object r.words alarm r.shows (cancellable_then m e.next slot alarm refl r.turns)) refl refl r in
+    let stood = stood_then e slot alarm below (in_range m.object r.words alarm r.shows (cancellable_then m e.next slot alarm refl r.effect)) refl refl r in
     (stood, cancel_is m.object slot alarm (omega arith) stood)

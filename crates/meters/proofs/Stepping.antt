@@ -41,10 +41,10 @@ Goes key s i id me joined y = (w : SeatView) × (a : Act Unit) × Valid s.homes 
 
 -- a step of this entry is real
 pub real_step : (key : Shape) (s : St) (k : Rule key s) (i found : ℕ) (o : Reading) → found ≡ get_or s.words i 0 → Becomes k.now.object o → IsReal of_meters (change i found k.now o)
-real_step key s k i found o is b = record { lawful = k.lawful; words = s.words; shows = k.shows; ends = k.number; is = is; turns = event o b refl }
+real_step key s k i found o is b = record { lawful = k.lawful; words = s.words; shows = k.shows; ends = k.number; is = is; effect = event o b refl }
 
 real_look : (key : Shape) (s : St) (k : Rule key s) (i : ℕ) → IsReal of_meters (load i (get_or s.words i 0) k.now)
-real_look key s k i = record { lawful = k.lawful; words = s.words; shows = k.shows; ends = k.number; is = refl; turns = stays refl }
+real_look key s k i = record { lawful = k.lawful; words = s.words; shows = k.shows; ends = k.number; is = refl; effect = stays refl }
 
 -- the view after an event, and after a look
 abbrev pub acted : {key : Shape} {s : St} → Rule key s → SeatView → Did → ℕ → ℕ → Reading → SeatView

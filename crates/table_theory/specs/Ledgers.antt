@@ -57,11 +57,11 @@ pub record Subject (O : Type 0) : Type 1 where
   pub Happens : O → O → Type 0
 
 -- what one step does: nothing, one event of the object, or one end more or less
-pub data Turns {O : Type 0} (subject : Subject O) (m n : Moment O) : Type 0 where
-  stays : n ≡ m → Turns subject m n
-  event : (object : O) → subject.Happens m.object object → n ≡ record m { object = object } → Turns subject m n
-  more : n ≡ record m { ends = m.ends + 1 } → Turns subject m n
-  fewer : n ≡ record m { ends = m.ends - 1 } → 0 < m.ends → Turns subject m n
+pub data StepEffect {O : Type 0} (subject : Subject O) (m n : Moment O) : Type 0 where
+  stays : n ≡ m → StepEffect subject m n
+  event : (object : O) → subject.Happens m.object object → n ≡ record m { object = object } → StepEffect subject m n
+  more : n ≡ record m { ends = m.ends + 1 } → StepEffect subject m n
+  fewer : n ≡ record m { ends = m.ends - 1 } → 0 < m.ends → StepEffect subject m n
 
 -- The step found the object lawful and shown by words, its number is the one in its word, and it did one thing
 pub record IsReal {O : Type 0} (subject : Subject O) (e : Step O) : Type 0 where
@@ -70,7 +70,7 @@ pub record IsReal {O : Type 0} (subject : Subject O) (e : Step O) : Type 0 where
   pub shows : subject.Shows e.then.object words
   pub ends : slice_index_or words subject.ends_word 0 ≡ e.then.ends
   pub is : e.found ≡ slice_index_or words e.word 0
-  pub turns : Turns subject e.then e.next
+  pub effect : StepEffect subject e.then e.next
 
 -- real steps, each of which found what the one before it left, lead from one moment to the other
 pub record Reaches {O : Type 0} (subject : Subject O) (m n : Moment O) : Type 0 where

@@ -35,6 +35,7 @@ use Rattle.quajects.specs.declared.any.AnyQuaject.TheVariants as any
 use Rattle.quajects.specs.Settled.{runs_of, views_of}
 use Rattle.table_theory.specs.declared.queues.Batch.{Batch}
 use Rattle.table_theory.specs.Filing.{Owned, entry_of, ListedOnce}
+use Rattle.table_theory.specs.Interleaving.{Ascending}
 use Rattle.table_theory.specs.Listing.{all_places, Adjacent}
 use Rattle.table_theory.specs.Positioned.{item_of}
 use Rattle.table_theory.proofs.Owned.{at_map_back}

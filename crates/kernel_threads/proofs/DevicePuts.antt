@@ -7,6 +7,7 @@ use mathlib.Core.Option.{some, some-injective, some-ne-none}
 use lib.ListN.{get_elem?}
 use Rattle.objects.specs.DeviceEndings.{AreWithout}
 use Rattle.table_theory.specs.declared.queues.Batch.{Batch}
+use Rattle.table_theory.specs.Interleaving.{Ascending}
 use Rattle.table_theory.specs.Listing.{written_to}
 use Rattle.table_theory.specs.Positioned.{blank, fresh}
 use Rattle.claim_queue.specs.declared.rule.View.{View}

@@ -17,7 +17,7 @@ use crate::sorting::{gather, sort_heard};
 use crate::threads::thread_lines;
 use crate::ttys::{Typed, lines_of_ttys};
 use boot_data::{AlarmCounts, Report};
-use closing::Ended;
+use closing::Unmade;
 use event_theory::Items;
 use processor::Heard;
 

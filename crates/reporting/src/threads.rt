@@ -5,7 +5,7 @@ ghost use Rattle.reporting.specs.Made.{numbered, thread_line, told, state_at, fe
 use crate::amounts::{copy_of, number_in};
 use boot_data::plan::PlannedThread;
 use boot_data::{ThreadLine, ThreadState};
-use closing::Ended;
+use closing::Unmade;
 use event_theory::WaitNumber;
 use thread_table::Place;
 

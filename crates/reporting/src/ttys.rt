@@ -5,7 +5,7 @@ ghost use Rattle.reporting.specs.Made.{numbered, tty_lines, typed_at};
 use crate::amounts::{copy_of, counts_in, numbers_in};
 use boot_data::TtyLines;
 use boot_data::plan::PlannedTty;
-use closing::Ended;
+use closing::Unmade;
 
 /// What the device of a tty did: how many bytes it popped, and how many of them the raw queue refused.
 #[derive(Clone, Copy, Debug, PartialEq, Eq)]

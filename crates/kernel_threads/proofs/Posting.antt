@@ -16,6 +16,7 @@ use Rattle.processor.specs.Partings.{AreDivisible, AreSplit}
 use Rattle.processor.specs.Rooms.{HasRoom}
 use Rattle.processor.specs.Stations.{ArePartsOf, AreSameParts}
 use Rattle.table_theory.specs.declared.views.Member.{Member}
+use Rattle.table_theory.specs.declared.views.Part.{Part}
 use Rattle.table_theory.specs.Sharing.{given, kept}
 use Rattle.thread_table.proofs.Lists.Copies.{get_or-copies}
 use Rattle.thread_table.specs.declared.rule.View.{View}
@@ -71,7 +72,7 @@ can_split mask n old new born s same c = record {
   small = still_at (share_at old.small.items) (share_at new.small.items) _ _ n (as_many end_table old.small.items new.small.items same.small.tables) s.small.shares c.small;
   large = still_at (share_at old.large.items) (share_at new.large.items) _ _ n (as_many end_table old.large.items new.large.items same.large.tables) s.large.shares c.large;
   chains = still_at (chain_share_at old.chains.items) (chain_share_at new.chains.items) _ _ n (as_many chain_end_table old.chains.items new.chains.items same.chains.tables) s.chains.shares c.chains;
-  meters = let k = kept_more _ n c.meters in let e = ap (λ (m : Member). m.share) s.meters.member.same in omega arith;
+  meters = let k = kept_more _ n c.meters in let e = ap (λ (m : Part). m.share) s.meters.member in omega arith;
 }
 
 parted_at : (a b c : ℕ) → b ≡ kept a → c ≡ given a → a ≡ b + c
@@ -83,7 +84,7 @@ parted mask old new born s = record {
   small = λ q. parted_at _ _ _ (s.small.shares q) (s.small.given_are q);
   large = λ q. parted_at _ _ _ (s.large.shares q) (s.large.given_are q);
   chains = λ q. parted_at _ _ _ (s.chains.shares q) (s.chains.given_are q);
-  meters = parted_at _ _ _ (ap (λ (m : Member). m.share) s.meters.member.same) (ap (λ v. v.member.share) s.born_meters);
+  meters = parted_at _ _ _ (ap (λ (m : Part). m.share) s.meters.member) (ap (λ v. v.member.share) s.born_meters);
 }
 
 -- only the processor of the mask is asked for

@@ -5,4 +5,4 @@ use Rattle.meters.specs.Own.{SeatView, own_of}
 
 -- the end set these alarms in their order, and did nothing else
 abbrev pub DidSetAll : List Alarm → SeatView → SeatView → Type 0
-DidSetAll alarms v w = own_of w ≡ record (own_of v) { set = v.set ++ alarms }
+DidSetAll alarms v w = own_of w ≡ record (own_of v) { set = v.own.set ++ alarms }

@@ -2,7 +2,7 @@
 use Rattle.std.proofs.Common.{◌≡◌, ◌<◌, ◌≤◌, ℕ, zero, suc, ◌+◌, List, [], ◌∷◌, ◌++◌, length, take, drop, set, refl, sym, ap, subst, ◌∙◌, arith}
 use Rattle.std.proofs.lemmas.List.{drop-set-lt}
 use Rattle.std.proofs.Math.Seq.{take-suc-set}
-use Rattle.claim_queue.specs.declared.rule.View.{View}
+use Rattle.claim_queue.specs.Own.{View}
 use Rattle.claim_queue.specs.Takings.{TookItems, IsLine}
 use Rattle.bindings.specs.QueueTaking.{IsKeptFrom}
 
@@ -24,7 +24,7 @@ pub filled_more : (i x : ℕ) (new : List ℕ) → i < length new → take (i + 
 filled_more i x new l = let e : suc i ≡ i + 1 = omega arith in subst (λ (n : ℕ). take n (set new i x) ≡ take i new ++ x ∷ []) e (take-suc-set new i x l)
 
 -- the line that was copied to the beginning of the buffer
-pub line_filled : (n call : ℕ) (v w : View) (k : ℕ) (line old new : List ℕ) → k ≡ length line → length line ≤ n → take (length line) new ≡ line → IsKeptFrom (length line) old new
-    → IsLine n line → TookItems n call v line w → (k ≤ n) × IsLine n (take k new) × IsKeptFrom k old new × TookItems n call v (take k new) w
-line_filled n call v w k line old new e small copied kept is took = let same : line ≡ take k new = sym (ap (λ (z : ℕ). take z new) e ∙ copied) in
-    (subst (λ (z : ℕ). z ≤ n) (sym e) small, subst (IsLine n) same is, subst (λ (z : ℕ). IsKeptFrom z old new) (sym e) kept, subst (λ (z : List ℕ). TookItems n call v z w) same took)
+pub line_filled : (n : ℕ) (v w : View) (k : ℕ) (line old new : List ℕ) → k ≡ length line → length line ≤ n → take (length line) new ≡ line → IsKeptFrom (length line) old new
+    → IsLine n line → TookItems n v line w → (k ≤ n) × IsLine n (take k new) × IsKeptFrom k old new × TookItems n v (take k new) w
+line_filled n v w k line old new e small copied kept is took = let same : line ≡ take k new = sym (ap (λ (z : ℕ). take z new) e ∙ copied) in
+    (subst (λ (z : ℕ). z ≤ n) (sym e) small, subst (IsLine n) same is, subst (λ (z : ℕ). IsKeptFrom z old new) (sym e) kept, subst (λ (z : List ℕ). TookItems n v z w) same took)

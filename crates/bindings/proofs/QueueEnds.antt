@@ -5,52 +5,52 @@ use Rattle.std.specs.declared.option.Option.{Option}
 use Rattle.std.specs.declared.option.Option.TheVariants.{None, Some}
 use Rattle.table_theory.specs.declared.queues.Batch.{Batch}
 use Rattle.table_theory.specs.Listing.{AllRaised}
-use Rattle.claim_queue.specs.declared.rule.View.{View}
+use Rattle.claim_queue.specs.Own.{View}
 use Rattle.claim_queue.specs.declared.take.TakeRefusal.{TakeRefusal}
 use Rattle.claim_queue.specs.Takings.{TookItems, RefusedTake, IsNone, IsOne, IsLine, IsBegun}
 use Rattle.claim_queue.specs.Endings.{TookIn}
-use Rattle.claim_queue.proofs.Lining.{took_line, refused_stays}
+use Rattle.claim_queue.proofs.Answered.{refused_take_own, took_own}
 use Rattle.bindings.specs.QueueTaking.{TookEach, TookSome}
 
 -- the end has its share and its claims still
 pub record Keeps (v w : View) : Type 0 where
-  pub runs : w.part.runs ≡ v.part.runs
+  pub runs : w.own.runs ≡ v.own.runs
   pub share : w.member.share ≡ v.member.share
 
 keeps_on : (u v w : View) → Keeps u v → Keeps v w → Keeps u w
 keeps_on u v w a b = record { runs = b.runs ∙ a.runs; share = b.share ∙ a.share }
 
-pub still_raised : {v w : View} → Keeps v w → AllRaised v.part.runs → AllRaised w.part.runs
+pub still_raised : {v w : View} → Keeps v w → AllRaised v.own.runs → AllRaised w.own.runs
 still_raised k = subst AllRaised (sym k.runs)
 
-pub took_keeps : (n call : ℕ) (v w : View) (items : List ℕ) → TookItems n call v items w → Keeps v w
-took_keeps n call v w items t = let l = took_line n call v w items t in record { runs = l.1; share = l.0.share }
+pub took_keeps : (n : ℕ) (v w : View) (items : List ℕ) → TookItems n v items w → Keeps v w
+took_keeps n v w items t = let m = took_own n v w items t in record { runs = λ i. (m.did i).runs; share = λ i. (m.member i).share }
 
 pub refused_keeps : (Few Enough : List ℕ → Type 0) (n : ℕ) (v w : View) (r : TakeRefusal) → RefusedTake Few Enough n v r w → Keeps v w
-refused_keeps Few Enough n v w r h = let s = refused_stays Few Enough n v w r h in record { runs = s.runs; share = s.share }
+refused_keeps Few Enough n v w r h = let m = refused_take_own Few Enough n v w r h in record { runs = λ i. (m.did i).runs; share = λ i. (m.member i).share }
 
-pub take_keeps : (n call : ℕ) (v w : View) (answer : Result ℕ TakeRefusal)
-    → MatchResult answer (λ x. TookItems n call v (x ∷ []) w) (λ r. RefusedTake IsNone IsOne n v r w) → Keeps v w
-take_keeps n call v w (Ok x) h = took_keeps n call v w (x ∷ []) h
-take_keeps n call v w (Err r) h = refused_keeps IsNone IsOne n v w r h
+pub take_keeps : (n : ℕ) (v w : View) (answer : Result ℕ TakeRefusal)
+    → MatchResult answer (λ x. TookItems n v (x ∷ []) w) (λ r. RefusedTake IsNone IsOne n v r w) → Keeps v w
+take_keeps n v w (Ok x) h = took_keeps n v w (x ∷ []) h
+take_keeps n v w (Err r) h = refused_keeps IsNone IsOne n v w r h
 
-pub line_keeps : (n call : ℕ) (v w : View) (items : List ℕ) (answer : Result ℕ TakeRefusal)
-    → MatchResult answer (λ k. (k ≡ length items) × IsLine n items × TookItems n call v items w) (λ r. (items ≡ []) × RefusedTake (IsBegun n) (IsLine n) n v r w) → Keeps v w
-line_keeps n call v w items (Ok k) h = took_keeps n call v w items h.2
-line_keeps n call v w items (Err r) h = refused_keeps (IsBegun n) (IsLine n) n v w r h.1
+pub line_keeps : (n : ℕ) (v w : View) (items : List ℕ) (answer : Result ℕ TakeRefusal)
+    → MatchResult answer (λ k. TookItems n v items w) (λ r. RefusedTake (IsBegun n) (IsLine n) n v r w) → Keeps v w
+line_keeps n v w items (Ok k) h = took_keeps n v w items h
+line_keeps n v w items (Err r) h = refused_keeps (IsBegun n) (IsLine n) n v w r h
 
-each_keeps : (n call : ℕ) (v w : View) (items : List ℕ) → TookEach n call v items w → Keeps v w
-each_keeps n call v w [] h = record { runs = ap (λ (z : View). z.part.runs) h; share = ap (λ (z : View). z.member.share) h }
-each_keeps n call v w (x ∷ xs) h = keeps_on v h.0 w (took_keeps n call v h.0 (x ∷ []) h.1) (each_keeps n call h.0 w xs h.2)
+each_keeps : (n : ℕ) (v w : View) (items : List ℕ) → TookEach n v items w → Keeps v w
+each_keeps n v w [] h = record { runs = ap (λ (z : View). z.own.runs) h; share = ap (λ (z : View). z.member.share) h }
+each_keeps n v w (x ∷ xs) h = keeps_on v h.0 w (took_keeps n v h.0 (x ∷ []) h.1) (each_keeps n h.0 w xs h.2)
 
-pub some_keeps : (n call : ℕ) (v w : View) (items : List ℕ) (buffer : ℕ) (r : Option TakeRefusal) → TookSome n call v items buffer r w → Keeps v w
-some_keeps n call v w items buffer None h = each_keeps n call v w items h.1
-some_keeps n call v w items buffer (Some r) h = keeps_on v h.0 w (each_keeps n call v h.0 items h.1) (refused_keeps IsNone IsOne n h.0 w r h.2)
+pub some_keeps : (n : ℕ) (v w : View) (items : List ℕ) (buffer : ℕ) (r : Option TakeRefusal) → TookSome n v items buffer r w → Keeps v w
+some_keeps n v w items buffer None h = each_keeps n v w items h.1
+some_keeps n v w items buffer (Some r) h = keeps_on v h.0 w (each_keeps n v h.0 items h.1) (refused_keeps IsNone IsOne n h.0 w r h.2)
 
 -- one taking more
-pub each_more : (n call : ℕ) (v u w : View) (items : List ℕ) (x : ℕ) → TookEach n call v items u → TookItems n call u (x ∷ []) w → TookEach n call v (items ++ x ∷ []) w
-each_more n call v u w [] x h t = (w, subst (λ (z : View). TookItems n call z (x ∷ []) w) h t, refl)
-each_more n call v u w (y ∷ ys) x h t = (h.0, h.1, each_more n call h.0 u w ys x h.2 t)
+pub each_more : (n : ℕ) (v u w : View) (items : List ℕ) (x : ℕ) → TookEach n v items u → TookItems n u (x ∷ []) w → TookEach n v (items ++ x ∷ []) w
+each_more n v u w [] x h t = (w, subst (λ (z : View). TookItems n z (x ∷ []) w) h t, refl)
+each_more n v u w (y ∷ ys) x h t = (h.0, h.1, each_more n h.0 u w ys x h.2 t)
 
 raised_both : (a b : List Batch) → AllRaised a → AllRaised b → AllRaised (a ++ b)
 raised_both [] b ha hb m e at i l = hb m e at i l
@@ -58,5 +58,5 @@ raised_both (x ∷ a) b ha hb zero e at i l = ha zero e at i l
 raised_both (x ∷ a) b ha hb (suc m) e at i l = raised_both a b (λ m. ha (suc m)) hb m e at i l
 
 -- an end that took another in has raised what both had
-pub joined_raised : (v u w : View) → TookIn v u w → AllRaised v.part.runs → AllRaised u.part.runs → AllRaised w.part.runs
-joined_raised v u w j a b = subst AllRaised (sym (ap (λ (z : View). z.part.runs) j.same)) (raised_both v.part.runs u.part.runs a b)
+pub joined_raised : (v u w : View) → TookIn v u w → AllRaised v.own.runs → AllRaised u.own.runs → AllRaised w.own.runs
+joined_raised v u w j a b = subst AllRaised (λ i. (sym j.own i).runs) (raised_both v.own.runs u.own.runs a b)

@@ -7,8 +7,7 @@ use Rattle.thread_table.specs.Handles.{view_of, call_of, first_of, IsSameHand}
 use Rattle.thread_table.specs.Handles as hands
 use Rattle.thread_table.specs.Rules.{newcomer, has, serves, running}
 use Rattle.thread_table.specs.Endings as endings
-use Rattle.thread_table.specs.Steps.{PutsOn, TakesOff, ReadPc}
-use Rattle.thread_table.specs.Answers.{is_in, DoneAnswer}
+use Rattle.thread_table.specs.Answers.{is_in, DoneAnswer, PutsOn, TakesOff, ReadPc}
 use Rattle.bindings.specs.declared.hand.held.HeldHand.{HeldHand}
 
 -- the same hand of the same table

@@ -5,7 +5,7 @@ use Rattle.std.specs.declared.option.Option.{Option}
 use Rattle.table_theory.specs.Sharing.{given, kept, the_whole}
 use Rattle.claim_queue.specs.declared.claim.ClaimRefusal.{ClaimRefusal}
 use Rattle.claim_queue.specs.declared.take.TakeRefusal.{TakeRefusal}
-use Rattle.claim_queue.specs.Handles.{IsSameEnd, AreOfOneQueue, call_of, view_of, first_of}
+use Rattle.claim_queue.specs.Handles.{IsSameEnd, AreOfOneQueue, view_of, first_of}
 use Rattle.claim_queue.specs.Rules.{newcomer}
 use Rattle.claim_queue.specs.Puts.{IsPut}
 use Rattle.claim_queue.specs.Answers.{Refused}
@@ -47,30 +47,30 @@ IsNewPart first mark n x = (first_of (arc_value x.queue) ≡ first) × (view_of 
 -- `try_put` gave this answer
 abbrev pub PutPart : List ℕ → Result ℕ ClaimRefusal → (n : ℕ) → Part n → Part n → Type 0
 PutPart items answer n x y = IsKept n x y × MatchResult answer
-    (λ start. IsPut n (call_of x.end) (view_of x.end) start items (view_of y.end))
+    (λ start. IsPut n (view_of x.end) start items (view_of y.end))
     (λ r. Refused n (view_of x.end) (length items) r (view_of y.end))
 
 -- `try_take` gave this answer
 abbrev pub TookPart : Result ℕ TakeRefusal → (n : ℕ) → Part n → Part n → Type 0
 TookPart answer n x y = IsKept n x y × MatchResult answer
-    (λ item. TookItems n (call_of x.end) (view_of x.end) (item ∷ []) (view_of y.end))
+    (λ item. TookItems n (view_of x.end) (item ∷ []) (view_of y.end))
     (λ r. RefusedTake IsNone IsOne n (view_of x.end) r (view_of y.end))
 
 -- `try_take_line` gave this answer: the line lies at the beginning of the buffer, and the rest is as it was
 abbrev pub TookLinePart : List ℕ → List ℕ → Result ℕ TakeRefusal → (n : ℕ) → Part n → Part n → Type 0
 TookLinePart old new answer n x y = IsKept n x y × MatchResult answer
     (λ k. (k ≤ n) × IsLine n (take k new) × IsKeptFrom k old new
-    × TookItems n (call_of x.end) (view_of x.end) (take k new) (view_of y.end))
+    × TookItems n (view_of x.end) (take k new) (view_of y.end))
     (λ r. (new ≡ old) × RefusedTake (IsBegun n) (IsLine n) n (view_of x.end) r (view_of y.end))
 
 -- so many items were taken one by one, into the beginning of the buffer, and then it was full or a taking was refused
 abbrev pub TookSomePart : List ℕ → List ℕ → ℕ × Option TakeRefusal → (n : ℕ) → Part n → Part n → Type 0
 TookSomePart old new answer n x y = IsKept n x y × (answer.0 ≤ length old) × IsKeptFrom answer.0 old new
-    × TookSome n (call_of x.end) (view_of x.end) (take answer.0 new) (length old) answer.1 (view_of y.end)
+    × TookSome n (view_of x.end) (take answer.0 new) (length old) answer.1 (view_of y.end)
 
 -- `shut` gave this answer
 abbrev pub ShutPart : Bool → (n : ℕ) → Part n → Part n → Type 0
-ShutPart was_open n x y = IsKept n x y × ShutNow (call_of x.end) (view_of x.end) was_open (view_of y.end)
+ShutPart was_open n x y = IsKept n x y × ShutNow (view_of x.end) was_open (view_of y.end)
 
 -- `split` gave this end, of the same queue and with its parts of the share
 abbrev pub DividedPart : (n : ℕ) → Part n → Part n → Part n → Type 0

@@ -2,7 +2,7 @@
 use Rattle.std.specs.Prelude.{◌≡◌, ℕ, List, [], ◌∷◌, length, drop}
 use Rattle.std.specs.declared.option.Option.{Option}
 use Rattle.std.specs.declared.option.Option.TheVariants.{None, Some}
-use Rattle.claim_queue.specs.declared.rule.View.{View}
+use Rattle.claim_queue.specs.Own.{View}
 use Rattle.claim_queue.specs.declared.take.TakeRefusal.{TakeRefusal}
 use Rattle.claim_queue.specs.Takings.{TookItems, RefusedTake, IsNone, IsOne}
 
@@ -15,12 +15,12 @@ or_zero None = 0
 or_zero (Some x) = x
 
 -- these items were taken, one by one, each by a taking of its own
-abbrev pub TookEach : ℕ → ℕ → View → List ℕ → View → Type 0
-TookEach room call v [] w = w ≡ v
-TookEach room call v (x ∷ xs) w = (u : View) × TookItems room call v (x ∷ []) u × TookEach room call u xs w
+abbrev pub TookEach : ℕ → View → List ℕ → View → Type 0
+TookEach room v [] w = w ≡ v
+TookEach room v (x ∷ xs) w = (u : View) × TookItems room v (x ∷ []) u × TookEach room u xs w
 
 -- these items were taken one by one, and then the buffer was full, or a taking was refused
-abbrev pub TookSome : ℕ → ℕ → View → List ℕ → ℕ → Option TakeRefusal → View → Type 0
-TookSome room call v items buffer None w = (length items ≡ buffer) × TookEach room call v items w
-TookSome room call v items buffer (Some r) w =
-    (u : View) × TookEach room call v items u × RefusedTake IsNone IsOne room u r w
+abbrev pub TookSome : ℕ → View → List ℕ → ℕ → Option TakeRefusal → View → Type 0
+TookSome room v items buffer None w = (length items ≡ buffer) × TookEach room v items w
+TookSome room v items buffer (Some r) w =
+    (u : View) × TookEach room v items u × RefusedTake IsNone IsOne room u r w

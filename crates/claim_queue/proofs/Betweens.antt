@@ -8,7 +8,6 @@ use native.Mathlib.Decide.{dec_le}
 use Rattle.table_theory.specs.declared.queues.Cell.{Cell}
 use Rattle.table_theory.specs.declared.queues.Batch.{Batch}
 use Rattle.table_theory.specs.declared.queues.Positions.{Positions}
-use Rattle.atomic_table.proofs.Lists.{at_map}
 use Rattle.event_theory.specs.Runs.{flat, pairs}
 use Rattle.event_theory.specs.Queues.{is_raised}
 use Rattle.table_theory.specs.Positioned.{blank, place_at}
@@ -21,9 +20,10 @@ use Rattle.table_theory.proofs.QueueOf.{up_of, long_is, is_lawful_queue}
 use Rattle.table_theory.proofs.QueueEvents.{history_of}
 use Rattle.claim_queue.specs.declared.rule.Shape.{Shape}
 use Rattle.claim_queue.specs.Layout.{mark, data_in, flag_in}
-use Rattle.claim_queue.specs.Rules.{part_of, Rule}
-use Rattle.claim_queue.specs.Between.{pair_at, PlaceIs, ShowsQueue}
-use Rattle.claim_queue.proofs.Looks.{St}
+use Rattle.claim_queue.specs.Own.{part_of}
+use Rattle.claim_queue.specs.Rules.{Rule}
+use Rattle.claim_queue.specs.Between.{pair_at, PlaceIs, ShowsQueue, ShowsEnds}
+use Rattle.claim_queue.proofs.Stepping.{St, seen_grows}
 
 -- whether the item with the number i is raised
 module _ (q : Positions) (runs : List (Owned Batch)) (same : all_places runs ≡ q.places) (i : ℕ) (below : i < length q.places) where
@@ -38,8 +38,8 @@ up_written e h = leb-true 2 e.written h
 low_written : (e : Cell) → is_up e ≡ false → e.written < 2
 low_written e h = dite (dec_le 2 e.written) (λ y. absurd (true≢false (sym (le-leb 2 e.written y) ∙ h))) (λ no. omega arith)
 
-place_is : (key : Shape) (s : St) (k : Rule key s) (i : ℕ) → k.queue.taken ≤ i → i < length k.queue.places → PlaceIs (queue_of k.queue k.listed.runs) key.room s.words i (key.first + i)
-place_is key s k i from below = let q : Positions = k.queue in let l = k.listed in let u = up_is q l.runs l.runs_flat i below in let x = item_is q l.runs l.runs_flat i below in
+place_is : (key : Shape) (s : St) (k : Rule key s) (i : ℕ) → k.now.object.taken ≤ i → i < length k.now.object.places → PlaceIs (queue_of k.now.object k.listed.runs) key.room s.words i (key.first + i)
+place_is key s k i from below = let q : Positions = k.now.object in let l = k.listed in let u = up_is q l.runs l.runs_flat i below in let x = item_is q l.runs l.runs_flat i below in
     let within = k.lawful.within in let p = k.shows.window.each i from (omega arith) in
     let at : (q.first + i) % q.room ≡ (key.first + i) % key.room = (λ z. (k.first z + i) % k.room z) in
     let flag : flag_in q.room s.words ((q.first + i) % q.room) ≡ flag_in key.room s.words ((key.first + i) % key.room) = (λ z. flag_in (k.room z) s.words (at z)) in
@@ -51,16 +51,15 @@ place_is key s k i from below = let q : Positions = k.queue in let l = k.listed 
     }
 
 pub shows_queue : (key : Shape) (s : St) → Rule key s → ShowsQueue key s
-shows_queue key s k = let q : Positions = k.queue in let l = k.listed in let n = long_is q l.runs l.runs_flat in let h = k.shows in let first = k.first in let room = k.room in record {
-  now = q;
+shows_queue key s k = let q : Positions = k.now.object in let l = k.listed in let n = long_is q l.runs l.runs_flat in let h = k.shows in let first = k.first in let room = k.room in record {
+  now = k.now;
   queue = queue_of q l.runs;
   same = refl;
   first = k.first;
   history = history_of q (map part_of s.views) l;
-  seen = λ j v at. k.listed.seen j v.part (at_map part_of s.views j v at);
-  course = k.course;
-  ends = k.ends;
+  seen = λ j v at. seen_grows key s k j v at;
   shut_once = k.shut_once;
+  number = k.number;
   lawful = is_lawful_queue q l.runs k.lawful (history_of q (map part_of s.views) l);
   shown = record {
     runs = l.runs;
@@ -80,3 +79,7 @@ shows_queue key s k = let q : Positions = k.queue in let l = k.listed in let n =
     places = λ i from below. place_is key s k i from (omega arith);
   };
 }
+
+pub shows_ends : (key : Shape) (s : St) → Rule key s → ShowsEnds key s
+unfolding shows_queue
+shows_ends key s k = record { shows = shows_queue key s k; true_ends = k.true_ends }

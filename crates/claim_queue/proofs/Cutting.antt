@@ -13,9 +13,9 @@ use Rattle.table_theory.specs.Positioned.{blank, item_of, left_of}
 use Rattle.table_theory.specs.Filing.{Owned, entry_of, ListedOnce}
 use Rattle.table_theory.specs.Listing.{all_places, ViewsShow, AllRaised}
 use Rattle.table_theory.proofs.Owned.{told, file_map}
-use Rattle.claim_queue.specs.declared.rule.View.{View}
+use Rattle.table_theory.specs.declared.queues.QueueView.{QueueView}
 use Rattle.claim_queue.specs.Closings.{shown}
-use Rattle.claim_queue.specs.Lines.{line_of, lines_put, lines_taken, IsCut, IsSettled}
+use Rattle.claim_queue.specs.Lines.{line_of, IsCut, IsSettled}
 
 flat_lines : (log : List (Owned Batch)) → concat (map entry_of (map (told line_of) log)) ≡ map item_of (all_places log)
 flat_lines [] = refl
@@ -30,11 +30,11 @@ take_map (suc n) [] = refl
 take_map (suc n) (x ∷ l) = ap (λ (z : List ℕ). x.item ∷ z) (take_map n l)
 
 -- a queue that one end lists
-pub settled : (v : View) (q : Positions) (taken : ℕ) → ViewsShow q (v.part ∷ []) → q.taken ≤ length q.places → taken ≡ q.taken → IsSettled (map item_of q.places) taken (lines_put v) (lines_taken v)
+pub settled : (v : QueueView) (q : Positions) (taken : ℕ) → ViewsShow q (v ∷ []) → q.taken ≤ length q.places → taken ≡ q.taken → IsSettled (map item_of q.places) taken (map line_of v.runs) (map line_of v.takes)
 settled v q taken l behind is = let n = length-map q.places item_of in record {
   behind = omega arith;
-  puts_are = cut_of l.runs v.part.runs q.places l.runs_filed l.runs_flat;
-  takes_are = subst (λ (z : List ℕ). IsCut z (lines_taken v)) (take_map q.taken q.places ∙ ap (λ (z : ℕ). take z (map item_of q.places)) (sym is)) (cut_of l.takes v.part.takes (take q.taken q.places) l.takes_filed l.takes_flat);
+  puts_are = cut_of l.runs v.runs q.places l.runs_filed l.runs_flat;
+  takes_are = subst (λ (z : List ℕ). IsCut z (map line_of v.takes)) (take_map q.taken q.places ∙ ap (λ (z : ℕ). take z (map item_of q.places)) (sym is)) (cut_of l.takes v.takes (take q.taken q.places) l.takes_filed l.takes_flat);
 }
 
 -- Where all runs are raised, so are all places
@@ -68,6 +68,6 @@ one_list : (l m : List Batch) (c : ℕ) → get_elem? (l ∷ []) c ≡ maybe.som
 one_list l m zero e = sym (maybe.some-injective l m e)
 one_list l m (suc c) e = absurd (maybe.some-ne-none m (sym e))
 
-pub all_left : (v : View) (q : Positions) → ViewsShow q (v.part ∷ []) → AllRaised v.part.runs → map shown (drop q.taken q.places) ≡ map Some (left_of q)
+pub all_left : (v : QueueView) (q : Positions) → ViewsShow q (v ∷ []) → AllRaised v.runs → map shown (drop q.taken q.places) ≡ map Some (left_of q)
 all_left v q l raised = shown_up (drop q.taken q.places) (up_drop q.taken q.places (subst AllUp l.runs_flat (all_up l.runs
-    (λ k o at. let s = l.runs_filed.stands k o at in raised o.1 o.2 (subst (λ (z : List Batch). get_elem? z o.1 ≡ maybe.some o.2) (one_list v.part.runs s.0 o.0 s.1) s.2)))))
+    (λ k o at. let s = l.runs_filed.stands k o at in raised o.1 o.2 (subst (λ (z : List Batch). get_elem? z o.1 ≡ maybe.some o.2) (one_list v.runs s.0 o.0 s.1) s.2)))))

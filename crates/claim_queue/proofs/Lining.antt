@@ -1,116 +1,124 @@
 -- The lines that an end put and took, through each answer of a queue.
-use Rattle.std.proofs.Common.{◌≡◌, ℕ, zero, suc, List, [], ◌∷◌, ◌++◌, map, length, get_or, ap, ◌∙◌, ⊎_elim, Result, Ok, Err}
+use Rattle.std.proofs.Common.{◌≡◌, ℕ, zero, suc, ◌+◌, ◌≤◌, ◌<◌, List, [], ◌∷◌, ◌++◌, map, length, set, refl, sym, ap, subst, ◌∙◌, ⊎_elim, arith, get_or, Bool, Result, Ok, Err}
 use Rattle.std.specs.Prelude.{MatchResult}
 use Rattle.std.proofs.lemmas.List.{map-append}
-use Rattle.table_theory.proofs.Batches.{same_lines_set}
+use mathlib.Core.Option.{some, some-injective}
+use lib.ListN.{get_elem?}
+use Rattle.table_theory.specs.declared.queues.Batch.{Batch}
+use Rattle.table_theory.specs.declared.views.Part.{Part}
+use Rattle.table_theory.specs.Listing.{AllRaised, Distinct, number_of}
+use Rattle.table_theory.specs.Ledgers.{Step, Made}
+use Rattle.table_theory.specs.Positioned.{item_of, blank}
+use Rattle.table_theory.specs.declared.queues.Positions.{Positions}
+use Rattle.claim_queue.specs.Endings.{TookIn}
 use Rattle.table_theory.proofs.Leaving.{fresh_items}
-use Rattle.claim_queue.specs.declared.rule.View.{View}
+use Rattle.table_theory.proofs.Owned.{at_push}
 use Rattle.claim_queue.specs.declared.claim.ClaimRefusal.{ClaimRefusal}
-use Rattle.claim_queue.specs.declared.claim.ClaimRefusal.TheVariants.{NoItems, TooLong, Closed, Spent, Full, Lost}
 use Rattle.claim_queue.specs.declared.take.TakeRefusal.{TakeRefusal}
-use Rattle.claim_queue.specs.declared.take.TakeRefusal.TheVariants as takes
-use Rattle.claim_queue.specs.Steps.{run, taking, Wrote}
-use Rattle.claim_queue.specs.Answers.{ClaimedItems, Refused}
-use Rattle.claim_queue.specs.Takings.{TookItems, FoundTooFew, RefusedTake}
-use Rattle.claim_queue.specs.Puts.{Raised, RaisedFrom, IsPut, Tries, PutAnswer}
+use Rattle.claim_queue.specs.Answers.{Refused, ClaimedItems}
+use Rattle.claim_queue.specs.Claims.{places_of, run_of, Owns, KeepsClaims}
 use Rattle.claim_queue.specs.Lines.{line_of, lines_put, lines_taken, SameLines, PutLine, TookLine}
-use Rattle.claim_queue.proofs.Following.{same_runs, same_takes, same_share}
-use Rattle.claim_queue.specs.Claims.{KeepsClaims}
-use Rattle.claim_queue.proofs.Raising.{room_runs, room_takes, room_share, refused_runs, refused_share, owns_same}
-use Rattle.claim_queue.proofs.Staying.{Stays, stays_on, stays_found, stays_scanned, stays_stopped}
+use Rattle.claim_queue.specs.Own.{View, run, taking, with_run, with_shutting}
+use Rattle.claim_queue.specs.Puts.{Raised, IsPut, PutAnswer}
+use Rattle.claim_queue.specs.Takings.{TookItems, RefusedTake}
+use Rattle.claim_queue.proofs.Answered.{Does, refused_own, claimed_own, put_own, answer_own, took_own, refused_take_own}
+use Rattle.claim_queue.proofs.Raising.{owns_more, owns_same, owns_behind}
 
--- where runs and takings stay, so do the lines
-pub lines_same : (v w : View) → w.part.runs ≡ v.part.runs → w.part.takes ≡ v.part.takes → w.member.share ≡ v.member.share → SameLines v w
-lines_same v w runs takes share = record { puts = ap (map line_of) runs; takes = ap (map line_of) takes; share = share }
+-- where nothing was done, the lines stay
+pub lines_same : (v w : View) → Does v v.own w → SameLines v w
+lines_same v w d = record { puts = (λ k. map line_of (d.did k).runs); takes = (λ k. map line_of (d.did k).takes); share = ap (λ (z : Part). z.share) d.member }
 
-pub lines_stay : (v w : View) → Stays v w → SameLines v w
-lines_stay v w s = lines_same v w s.runs s.takes s.share
-
-pub same_on : (u v w : View) → SameLines u v → SameLines v w → SameLines u w
-same_on u v w a b = record { puts = b.puts ∙ a.puts; takes = b.takes ∙ a.takes; share = b.share ∙ a.share }
-
-pub refused_lines : (room n : ℕ) (v w : View) (r : ClaimRefusal) → Refused room v n r w → SameLines v w
-refused_lines room n v w r h = let s = refused_runs room n v w r h in lines_same v w s.0 s.1 (refused_share room n v w r h)
-
--- a claim is one line more
-pub claimed_line : (room call : ℕ) (v w : View) (start : ℕ) (items : List ℕ) → ClaimedItems room call v start items w → PutLine items v w
-claimed_line room call v w start items h = let u = h.before in let c = h.claimed in let f = h.found in record {
-  puts = ap lines_put c.same ∙ map-append line_of u.part.runs (run start items ∷ [])
-      ∙ (λ k. map line_of (room_runs room v (length items) start u f k) ++ fresh_items items k ∷ []);
-  takes = ap lines_taken c.same ∙ ap (map line_of) (room_takes room v (length items) start u f);
-  share = ap (λ (z : View). z.member.share) c.same ∙ room_share room v (length items) start u f;
+-- one run more is one line more
+line_more : (v w : View) (e : Batch) (items : List ℕ) → line_of e ≡ items → Does v (with_run v.own e) w → PutLine items v w
+line_more v w e items is d = record {
+  puts = (λ k. map line_of (d.did k).runs) ∙ (map-append line_of v.own.runs (e ∷ []) ∙ (λ k. map line_of v.own.runs ++ is k ∷ []));
+  takes = (λ k. map line_of (d.did k).takes);
+  share = ap (λ (z : Part). z.share) d.member;
 }
 
-pub wrote_lines : (call : ℕ) (v w : View) (m i n u x : ℕ) → Wrote call v m i n u x w → SameLines v w
-wrote_lines call v w m i n u x h = record { puts = ap lines_put h.same ∙ same_lines_set v.part.runs m i n h.run h.has; takes = ap lines_taken h.same; share = ap (λ (z : View). z.member.share) h.same }
+run_items : (xs : List ℕ) (r : ℕ) → map item_of (places_of xs r) ≡ xs
+run_items [] r = refl
+run_items (x ∷ xs) zero = ap (λ (z : List ℕ). x ∷ z) (run_items xs zero)
+run_items (x ∷ xs) (suc r) = ap (λ (z : List ℕ). x ∷ z) (run_items xs r)
 
-pub raised_lines : (room call : ℕ) (v w : View) (start i item : ℕ) → Raised room call v start i item w → SameLines v w
-raised_lines room call v w start i item h = same_on v h.between w (wrote_lines call v h.between _ i 1 _ _ h.stored) (wrote_lines call h.between w _ i 2 _ _ h.raised)
+pub refused_lines : (room n : ℕ) (v w : View) (r : ClaimRefusal) → Refused room v n r w → SameLines v w
+refused_lines room n v w r h = lines_same v w (refused_own room n v w r h)
 
-pub raised_from_lines : (room call start : ℕ) (items : List ℕ) (v w : View) (n : ℕ) → RaisedFrom room call start items v w n → SameLines v w
-raised_from_lines room call start items v w zero h = record { puts = ap lines_put h; takes = ap lines_taken h; share = ap (λ (z : View). z.member.share) h }
-raised_from_lines room call start items v w (suc n) h = let u = h.0 in
-    same_on v u w (raised_from_lines room call start items v u n h.1) (raised_lines room call u w start n (get_or items n 0) h.2)
+pub claimed_line : (room : ℕ) (v w : View) (start : ℕ) (items : List ℕ) → ClaimedItems room v start items w → PutLine items v w
+claimed_line room v w start items h = line_more v w (run start items) items (fresh_items items) (claimed_own room v w start items h)
 
-pub put_line : (room call : ℕ) (v w : View) (start : ℕ) (items : List ℕ) → IsPut room call v start items w → PutLine items v w
-put_line room call v w start items h = let u = h.0 in let c = claimed_line room call v u start items h.1 in let r = raised_from_lines room call start items u w (length items) h.2 in
-    record { puts = r.puts ∙ c.puts; takes = r.takes ∙ c.takes; share = r.share ∙ c.share }
+pub put_line : (room : ℕ) (v w : View) (start : ℕ) (items : List ℕ) → IsPut room v start items w → PutLine items v w
+put_line room v w start items h = line_more v w (run_of start items (length items)) items (run_items items (length items)) (put_own room v w start items h)
 
-pub put_lines : (room call : ℕ) (v w : View) (items : List ℕ) (r : Result ℕ ClaimRefusal) → MatchResult r (λ start. IsPut room call v start items w) (λ e. Refused room v (length items) e w)
-    → MatchResult r (λ start. PutLine items v w) (λ e. SameLines v w)
-put_lines room call v w items (Ok start) h = put_line room call v w start items h
-put_lines room call v w items (Err e) h = refused_lines room (length items) v w e h
+pub answer_lines : (room : ℕ) (v w : View) (items : List ℕ) (r : Result ℕ ClaimRefusal) → PutAnswer room v items r w → MatchResult r (λ start. PutLine items v w) (λ e. SameLines v w)
+answer_lines room v w items (Ok start) h = line_more v w (run_of start items (length items)) items (run_items items (length items)) (answer_own room v w items (Ok start) h)
+answer_lines room v w items (Err e) h = lines_same v w (answer_own room v w items (Err e) h)
 
-tries_lines : (room n : ℕ) (v w : View) (lost : List ℕ) → Tries room v n lost w → SameLines v w
-tries_lines room n v w [] t = record { puts = ap lines_put t; takes = ap lines_taken t; share = ap (λ (z : View). z.member.share) t }
-tries_lines room n v w (x ∷ xs) t = let l = t.1 in let f = l.found in
-    same_on v t.0 w (lines_same v t.0 (same_runs l.before t.0 0 x l.missed ∙ room_runs room v n l.first l.before f) (same_takes l.before t.0 0 x l.missed ∙ room_takes room v n l.first l.before f) (same_share l.before t.0 0 x l.missed ∙ room_share room v n l.first l.before f)) (tries_lines room n t.0 w xs t.2)
+-- a run that is raised further is the same line
+same_line : (l : List Batch) (m : ℕ) (e f : Batch) → get_elem? l m ≡ some e → line_of f ≡ line_of e → map line_of (set l m f) ≡ map line_of l
+same_line [] m e f has is = refl
+same_line (x ∷ xs) zero e f has is = ap (λ (z : List ℕ). z ∷ map line_of xs) (is ∙ ap line_of (sym (some-injective x e has)))
+same_line (x ∷ xs) (suc m) e f has is = ap (λ (z : List (List ℕ)). line_of x ∷ z) (same_line xs m e f has is)
 
-tried : (room n : ℕ) (v u w : View) (lost : List ℕ) (e : ClaimRefusal) → Tries room v n lost u → Refused room u n e w → SameLines v w
-tried room n v u w lost e t h = same_on v u w (tries_lines room n v u lost t) (refused_lines room n u w e h)
+pub raised_lines : (room : ℕ) (v w : View) (start : ℕ) (items : List ℕ) (i : ℕ) → Owns v start items i → Raised room v start items i w → SameLines v w
+raised_lines room v w start items i own (r, is, made) = record {
+  puts = (λ k. map line_of (made.did k).runs) ∙ same_line v.own.runs (number_of start v.own.runs) (run_of start items i) (run_of start items (i + 1)) own (run_items items (i + 1) ∙ sym (run_items items i));
+  takes = (λ k. map line_of (made.did k).takes);
+  share = ap (λ (z : Part). z.share) made.member;
+}
 
-pub answer_lines : (room call : ℕ) (v w : View) (items : List ℕ) (r : Result ℕ ClaimRefusal) → PutAnswer room call v items r w → MatchResult r (λ start. PutLine items v w) (λ e. SameLines v w)
-answer_lines room call v w items (Ok start) h = let s = tries_lines room (length items) v h.1 h.0 h.2 in let p = put_line room call h.1 w start items h.3 in
-    record { puts = p.puts ∙ ap (λ (z : List (List ℕ)). z ++ items ∷ []) s.puts; takes = p.takes ∙ s.takes; share = p.share ∙ s.share }
-answer_lines room call v w items (Err NoItems) h = tried room (length items) v h.1 w h.0 NoItems h.2 h.3
-answer_lines room call v w items (Err TooLong) h = tried room (length items) v h.1 w h.0 TooLong h.2 h.3
-answer_lines room call v w items (Err Closed) h = tried room (length items) v h.1 w h.0 Closed h.2 h.3
-answer_lines room call v w items (Err Spent) h = tried room (length items) v h.1 w h.0 Spent h.2 h.3
-answer_lines room call v w items (Err (Full head tail)) h = tried room (length items) v h.1 w h.0 (Full head tail) h.2 h.3
-answer_lines room call v w items (Err (Lost head)) h = absurd h
+-- the end keeps its claims
+pub refused_claims : (v w : View) → Does v v.own w → KeepsClaims v w
+refused_claims v w d = owns_same v w (λ k. (d.did k).runs)
+
+pub more_claims : (v w : View) (e : Batch) → Does v (with_run v.own e) w → KeepsClaims v w
+more_claims v w e d = owns_more v w (e ∷ []) (λ k. (d.did k).runs)
+
+pub answer_claims : (room : ℕ) (v w : View) (items : List ℕ) (r : Result ℕ ClaimRefusal) → PutAnswer room v items r w → KeepsClaims v w
+answer_claims room v w items (Ok start) h = more_claims v w (run_of start items (length items)) (answer_own room v w items (Ok start) h)
+answer_claims room v w items (Err e) h = refused_claims v w (answer_own room v w items (Err e) h)
+
+-- where the runs stay, what was raised stays so
+pub same_raised : (v w : View) → Does v v.own w → AllRaised v.own.runs → AllRaised w.own.runs
+same_raised v w d a = subst AllRaised (λ k. (sym d.did k).runs) a
+
+all_places : (start : ℕ) (xs : List ℕ) (i : ℕ) → i < length (run_of start xs (length xs)).places → 2 ≤ (get_or (run_of start xs (length xs)).places i blank).written
+all_places start [] i h = absurd (omega arith)
+all_places start (x ∷ xs) zero h = omega arith
+all_places start (x ∷ xs) (suc i) h = all_places start xs i (omega arith)
+
+-- after a put, all runs are raised where they were before
+raised_more : (v w : View) (start : ℕ) (items : List ℕ) → Does v (with_run v.own (run_of start items (length items))) w → AllRaised v.own.runs → AllRaised w.own.runs
+raised_more v w start items d old = let e : Batch = run_of start items (length items) in
+    subst AllRaised (λ k. (sym d.did k).runs) (λ m f has i below. ⊎_elim (λ o. old m f o i below) (λ n. subst (λ (z : Batch). 2 ≤ (get_or z.places i blank).written) n.1 (all_places start items i (subst (λ (z : Batch). i < length z.places) (sym n.1) below))) (at_push v.own.runs e f m has))
+
+pub raised_put : (room : ℕ) (v w : View) (start : ℕ) (items : List ℕ) → IsPut room v start items w → AllRaised v.own.runs → AllRaised w.own.runs
+raised_put room v w start items h = raised_more v w start items (put_own room v w start items h)
+
+pub raised_answer : (room : ℕ) (v w : View) (items : List ℕ) (r : Result ℕ ClaimRefusal) → PutAnswer room v items r w → AllRaised v.own.runs → AllRaised w.own.runs
+raised_answer room v w items (Ok start) h = raised_more v w start items (answer_own room v w items (Ok start) h)
+raised_answer room v w items (Err e) h = same_raised v w (answer_own room v w items (Err e) h)
 
 -- a taking is one line more
-pub took_line : (room call : ℕ) (v w : View) (items : List ℕ) → TookItems room call v items w → (TookLine items v w) × (w.part.runs ≡ v.part.runs)
-took_line room call v w items t = let q = t.taken.queue in let k = stays_on v t.loaded t.before (stays_found v t.loaded _ _ t.tail_loaded) (stays_scanned room t.loaded t.before t.tail items t.scanned) in (
-  record {
-    puts = ap lines_put t.taken.same ∙ ap (map line_of) k.runs;
-    takes = ap lines_taken t.taken.same ∙ map-append line_of t.before.part.takes (taking q (length items) ∷ [])
-        ∙ (λ i. map line_of (k.takes i) ++ t.first_left i ∷ []);
-    share = ap (λ (z : View). z.member.share) t.taken.same ∙ k.share;
-  },
-  ap (λ (z : View). z.part.runs) t.taken.same ∙ k.runs,
-)
+pub took_line : (room : ℕ) (v w : View) (items : List ℕ) → TookItems room v items w → TookLine items v w
+took_line room v w items (tail, m, o, scan, are, first, made) = record {
+  puts = (λ k. map line_of (made.did k).runs);
+  takes = (λ k. map line_of (made.did k).takes) ∙ (map-append line_of v.own.takes (taking o.object (length items) ∷ []) ∙ (λ k. map line_of v.own.takes ++ first k ∷ []));
+  share = ap (λ (z : Part). z.share) made.member;
+}
 
-too_few_stays : (Few : List ℕ → Type 0) (room : ℕ) (v w : View) (tail head : ℕ) (items : List ℕ) → FoundTooFew Few room v tail items head w → Stays v w
-too_few_stays Few room v w tail head items f = stays_on v f.loaded w (stays_found v f.loaded _ _ f.tail_loaded) (stays_on f.loaded f.stopped w (stays_stopped room f.loaded f.stopped tail items f.stop) (stays_found f.stopped w _ _ f.head_loaded))
-
-pub refused_stays : (Few Enough : List ℕ → Type 0) (room : ℕ) (v w : View) (r : TakeRefusal) → RefusedTake Few Enough room v r w → Stays v w
-refused_stays Few Enough room v w (takes.Empty at) h = stays_on v h.before w (too_few_stays Few room v h.before h.tail h.head h.items h.found) (stays_found h.before w _ _ h.tail_again)
-refused_stays Few Enough room v w (takes.Lost tail) h = ⊎_elim
-    (λ p. stays_on v p.before w (too_few_stays Few room v p.before p.tail p.head p.items p.found) (stays_found p.before w _ _ p.tail_again))
-    (λ p. stays_on v p.loaded w (stays_found v p.loaded _ _ p.tail_loaded) (stays_on p.loaded p.before w (stays_scanned room p.loaded p.before p.tail p.items p.scanned) (stays_found p.before w _ _ p.missed))) h
-refused_stays Few Enough room v w takes.Closed h = too_few_stays Few room v w h.tail _ h.items h.found
-
--- what a taking that was answered says of the lines
-pub taken_lines : (room call : ℕ) (v w : View) (items : List ℕ) → TookItems room call v items w → TookLine items v w
-taken_lines room call v w items t = (took_line room call v w items t).0
+pub took_claims : (room : ℕ) (v w : View) (items : List ℕ) → TookItems room v items w → KeepsClaims v w
+took_claims room v w items t = owns_same v w (λ k. ((took_own room v w items t).did k).runs)
 
 pub refused_take_lines : (Few Enough : List ℕ → Type 0) (room : ℕ) (v w : View) (r : TakeRefusal) → RefusedTake Few Enough room v r w → SameLines v w
-refused_take_lines Few Enough room v w r h = lines_stay v w (refused_stays Few Enough room v w r h)
+refused_take_lines Few Enough room v w r h = lines_same v w (refused_take_own Few Enough room v w r h)
 
--- the end's claims through a taking
-pub taken_claims : (room call : ℕ) (v w : View) (items : List ℕ) → TookItems room call v items w → KeepsClaims v w
-taken_claims room call v w items t = owns_same v w (took_line room call v w items t).1
+pub shut_lines : (v w : View) (was_open : Bool) (entries : List (Step Positions)) → Made v entries (with_shutting v.own was_open) w → SameLines v w
+shut_lines v w was_open entries m = record { puts = (λ k. map line_of (m.did k).runs); takes = (λ k. map line_of (m.did k).takes); share = ap (λ (z : Part). z.share) m.member }
 
-pub refused_take_claims : (Few Enough : List ℕ → Type 0) (room : ℕ) (v w : View) (r : TakeRefusal) → RefusedTake Few Enough room v r w → KeepsClaims v w
-refused_take_claims Few Enough room v w r h = let k = refused_stays Few Enough room v w r h in owns_same v w k.runs
+-- a join
+pub joined_lines : (v u w : View) → TookIn v u w → (lines_put w ≡ lines_put v ++ lines_put u) × (lines_taken w ≡ lines_taken v ++ lines_taken u)
+joined_lines v u w t = ((λ k. map line_of (t.own k).runs) ∙ map-append line_of v.own.runs u.own.runs, (λ k. map line_of (t.own k).takes) ∙ map-append line_of v.own.takes u.own.takes)
+
+pub joined_claims : (v u w : View) → TookIn v u w → Distinct w.own.runs → KeepsClaims v w × KeepsClaims u w
+joined_claims v u w t distinct = (owns_more v w u.own.runs (λ k. (t.own k).runs), owns_behind u w v.own.runs (λ k. (t.own k).runs) distinct)

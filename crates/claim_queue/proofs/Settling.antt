@@ -1,5 +1,5 @@
 -- What is read of a closed table.
-use Rattle.std.proofs.Common.{◌≡◌, ◌≢◌, ℕ, zero, suc, ◌+◌, ◌-◌, ◌%◌, ◌<◌, ◌≤◌, Bool, true, false, eq-eqb, ne_eqb, Option, Some, None, List, [], ◌∷◌, length, get_or, map, drop, sym, refl, ap, ◌∙◌, subst, arith}
+use Rattle.std.proofs.Common.{◌≡◌, ◌≢◌, ℕ, zero, suc, ◌+◌, ◌-◌, ◌%◌, ◌<◌, ◌≤◌, Bool, true, false, eq-eqb, ne_eqb, Option, Some, None, List, [], ◌∷◌, length, get_or, map, drop, sym, ap, ◌∙◌, subst, arith}
 use Rattle.std.proofs.lemmas.List.{drop_more, drop_all}
 use Rattle.std.proofs.lemmas.Bool.{lt-ltb, le-ltb}
 use Rattle.std.specs.Prelude.{if◌then◌else◌}
@@ -8,30 +8,32 @@ use mathlib.Core.Logic.{dite}
 use native.Mathlib.Decide.{dec_lt}
 use lib.ListN.{get_elem?}
 use Rattle.table_theory.specs.declared.queues.Positions.{Positions}
-use Rattle.table_theory.specs.Positioned.{blank, place_at, item_at, written_at, head_of}
-use Rattle.claim_queue.specs.Layout.{data_word, flag_word, mark, data_in, flag_in}
-use Rattle.claim_queue.specs.Shown.{WordsShow}
 use Rattle.table_theory.specs.declared.queues.QueueView.{QueueView}
-use Rattle.table_theory.specs.declared.views.Member.{Member}
-use Rattle.table_theory.specs.Listing.{ViewsShow}
-use Rattle.atomic_table.proofs.Lists.{at_map}
-use Rattle.table_theory.proofs.Owned.{at_map_back}
-use Rattle.table_theory.proofs.Listing.{listed_sole}
-use Rattle.table_theory.specs.Positioned.{Grows}
+use Rattle.table_theory.specs.declared.views.Moment.{Moment}
+use Rattle.table_theory.specs.declared.views.Part.{Part}
+use Rattle.table_theory.specs.Ledgers.{Tallied}
+use Rattle.table_theory.specs.Listing.{AllRaised, ViewsShow}
+use Rattle.table_theory.specs.Positioned.{blank, place_at, item_at, item_of, written_at, head_of, left_of}
 use Rattle.table_theory.specs.Sharing.{IsWhole}
-use Rattle.table_theory.proofs.Totals.{sole_total}
-use Rattle.table_theory.proofs.Members.{rest_idle}
-use Rattle.table_theory.proofs.Listing.{listed_look}
+use Rattle.table_theory.proofs.Ledgers.{whole_seen}
+use Rattle.table_theory.proofs.Listing.{listed_sole}
+use Rattle.table_theory.proofs.Owned.{at_map_back}
 use Rattle.table_theory.proofs.Reading.{read_word}
-use Rattle.table_theory.proofs.Seeing.{later_on}
-use Rattle.claim_queue.proofs.Cutting.{settled, all_left}
+use Rattle.table_theory.proofs.Standing.{rest_spent, number_is}
+use Rattle.table_theory.proofs.Totals.{sole_total}
+use Rattle.atomic_table.proofs.Lists.{at_map}
 use Rattle.atomic_table.specs.Table.{Final, Seen}
+use Rattle.claim_queue.specs.declared.rule.Did.{Did}
 use Rattle.claim_queue.specs.declared.rule.Shape.{Shape}
-use Rattle.claim_queue.specs.declared.rule.View.{View}
-use Rattle.claim_queue.specs.Rules.{part_of, member_of, shuts_of, times_shut, IsIdle, Rule}
-use Rattle.claim_queue.specs.Steps.{Tallied}
-use Rattle.claim_queue.specs.Closings.{WereOpen, left_at, left_from, shown, ClosedNow}
-use Rattle.claim_queue.proofs.Looks.{St}
+use Rattle.claim_queue.specs.Changes.{empty}
+use Rattle.claim_queue.specs.Closings.{left_at, left_from, shown, ClosedNow}
+use Rattle.claim_queue.specs.Layout.{ends_word, data_word, flag_word, mark, data_in, flag_in}
+use Rattle.claim_queue.specs.Lines.{line_of, IsSettled}
+use Rattle.claim_queue.specs.Own.{View, of_queues, nothing_did, did_both, part_of}
+use Rattle.claim_queue.specs.Rules.{shuts_of, times_shut, Rule, IsRuled}
+use Rattle.claim_queue.specs.Shown.{WordsShow}
+use Rattle.claim_queue.proofs.Cutting.{settled, all_left}
+use Rattle.claim_queue.proofs.Stepping.{St}
 
 -- a place that is left reads as its item, if it was raised
 pub left_shown : (q : Positions) (ws : List ℕ) (i : ℕ) → WordsShow q ws → q.taken ≤ i → i < q.taken + q.room → left_at q.room ws (q.first + i) ≡ shown (place_at q i)
@@ -59,47 +61,63 @@ low_of n h true bounded is = omega arith
 low_of n h false bounded is = omega arith
 
 -- an end with the whole lists the queue alone
-sole : (key : Shape) (s : St) (k : Rule key s) (id : ℕ) (w : View) → get_elem? s.views id ≡ maybe.some w → IsWhole w.member.share → ViewsShow k.queue (w.part ∷ [])
-sole key s k id w at whole = listed_sole k.queue (map part_of s.views) id w.part k.listed (at_map part_of s.views id w at)
-    (λ i u has ne. let b = at_map_back part_of s.views i u has in subst (λ (z : QueueView). (z.runs ≡ []) × (z.takes ≡ [])) b.2 (let o = rest_idle member_of IsIdle (get_or s.words 2 0) s.views id w k.ends at whole i b.0 b.1 ne in (o.0, o.1)))
+sole : (key : Shape) (s : St) (k : Rule key s) (id : ℕ) (w : View) → get_elem? s.views id ≡ maybe.some w → IsWhole w.member.share → ViewsShow k.now.object (part_of w ∷ [])
+sole key s k id w at whole = listed_sole k.now.object (map part_of s.views) id (part_of w) k.listed (at_map part_of s.views id w at)
+    (λ i u has ne. let b = at_map_back part_of s.views i u has in subst (λ (z : QueueView). (z.runs ≡ []) × (z.takes ≡ [])) b.2 (let o = rest_spent nothing_did did_both k.now.ends s.views id w k.true_ends.ends at whole i b.0 b.1 ne in ((λ j. (o.own j).runs), λ j. (o.own j).takes)))
 
--- the end with the whole listed all of it, when it was given in
-given_in : (v w : View) (found : ℕ) (q : Positions) → Tallied v found w → ViewsShow q (w.part ∷ []) → ViewsShow q (v.part ∷ [])
-given_in v w found q t l = let runs : v.part.runs ≡ w.part.runs = sym (ap (λ (z : View). z.part.runs) t.same) in let takes : v.part.takes ≡ w.part.takes = sym (ap (λ (z : View). z.part.takes) t.same) in
-    let on : Grows w.part.queue q = (l.seen 0 w.part refl).0 in
-    listed_look q (w.part ∷ []) 0 w.part v.part l refl runs takes (later_on v.part w.part.queue q t.sees.later on)
+pub whole_lists : (v : View) → IsRuled v → IsWhole v.member.share → ViewsShow v.seen.object (part_of v ∷ [])
+whole_lists v r whole = subst (λ (z : Moment Positions). ViewsShow z.object (part_of v ∷ [])) (sym r.seen) (sole r.key r.state r.rule r.number v r.here whole)
 
--- where the end with the view w has the whole, it alone has shut the queue
-shut_alone : (key : Shape) (s : St) (k : Rule key s) (id : ℕ) (w : View) → get_elem? s.views id ≡ maybe.some w → IsWhole w.member.share → w.shuts ≡ times_shut k.queue
-shut_alone key s k id w at whole = sym (sole_total shuts_of s.views id w at (λ i u has ne. (rest_idle member_of IsIdle (get_or s.words 2 0) s.views id w k.ends at whole i u has ne).2)) ∙ k.shut_once
+-- what is read, where the queue is so and its one end did this
+record Facts (q : Positions) (own : Did) (first put taken : ℕ) (left : List (Option ℕ)) : Type 0 where
+  starts : q.first ≡ first
+  puts : put ≡ length q.places
+  taken_is : taken ≡ q.taken
+  within : put ≤ taken + q.room
+  left_is : left ≡ map shown (drop q.taken q.places)
+  shut_once : own.shuts ≡ times_shut q
+  settles : IsSettled (map item_of q.places) taken (map line_of own.runs) (map line_of own.takes)
+  raised : AllRaised own.runs → left ≡ map Some (left_of q)
 
-pub were_open : (v w : View) (found others : ℕ) → Tallied v found w → found ≢ 1 → others ≡ found - 1 → WereOpen v others w
-were_open v w found others t more is = let s = t.member.count.some_end in let e : found ≡ others + 1 = omega arith in record {
-  tallied = subst (λ (z : ℕ). Tallied v z w) e t;
-  some_other = omega arith;
-  not_whole = λ whole. more (t.member.count.whole whole);
-}
-
-pub closes : (key : Shape) (v w : View) (found id h t put taken : ℕ) (ws : List ℕ) (xs : List Unit) (left : List (Option ℕ)) (at : ℕ) → key.first ≡ at → Tallied v found w → found ≡ 1 → Final (Seen (Rule key) id w) ws xs → get_elem? ws 0 ≡ maybe.some h → get_elem? ws 1 ≡ maybe.some t
+pub closes : (key : Shape) (v w : View) (found id h t put taken : ℕ) (ws : List ℕ) (xs : List Unit) (left : List (Option ℕ)) (at : ℕ) → v.member.ends ≡ 1 → key.first ≡ at → Tallied ends_word v found w → found ≡ 1 → Final (Seen (Rule key) id w) ws xs → get_elem? ws 0 ≡ maybe.some h → get_elem? ws 1 ≡ maybe.some t
     → put ≡ h % 4294967296 - key.first → taken ≡ t - key.first → left ≡ left_from key.room ws t (h % 4294967296 - t) → ClosedNow v at put taken left
-closes key v w found id h t put taken ws xs left at at_is tallied one fin at_h at_t put_is taken_is left_is =
-    let s : St = fin.0 in let k = fin.1.0 in let q : Positions = k.queue in let sh : WordsShow q ws = subst (WordsShow q) fin.2 k.shows in
-    let first = k.first in let bounded = sh.bounded in let behind = k.lawful.behind in
+closes key v w found id h t put taken ws xs left at one_end at_is tallied one fin at_h at_t put_is taken_is left_is =
+    let s : St = fin.0 in let k = fin.1.0 in let here = fin.1.1 in let q : Positions = k.now.object in let sh : WordsShow q ws = subst (WordsShow q) fin.2 k.shows in
+    let first = k.first in let bounded = sh.bounded in let behind = k.lawful.behind in let most = k.lawful.within in
     let hd : h % 4294967296 ≡ head_of q = low_of (head_of q) h q.shut bounded (sym (read_word ws 0 h at_h) ∙ sh.head) in let tl : t ≡ q.first + q.taken = sym (read_word ws 1 t at_t) ∙ sh.tail in
     let n : h % 4294967296 - t ≡ length q.places - q.taken = omega arith in let tk : taken ≡ q.taken = omega arith in
-    let whole : IsWhole v.member.share = tallied.member.count.alone one in let whole' : IsWhole w.member.share = ap (λ (z : Member). z.share) tallied.member.same ∙ whole in
-    let listed : ViewsShow q (v.part ∷ []) = given_in v w found q tallied (sole key s k id w fin.1.1 whole') in
+    let whole : IsWhole v.member.share = tallied.count.alone one in let still : IsWhole w.member.share = ap (λ (z : Part). z.share) tallied.made.member ∙ whole in
+    let now : k.now ≡ v.seen = whole_seen of_queues nothing_did did_both (empty key) k.now s.views id w k.true_ends here still ∙ tallied.still whole in
+    let listed : ViewsShow q (part_of w ∷ []) = sole key s k id w here still in let idle = rest_spent nothing_did did_both k.now.ends s.views id w k.true_ends.ends here still in
+    let sum : k.now.ends ≡ 1 = (number_is nothing_did did_both k.now.ends s.views id w k.true_ends.ends here (ap (λ (z : Part). z.ends) tallied.made.member ∙ one_end)).whole still in
     let is : left ≡ map shown (drop q.taken q.places) = left_is ∙ ((λ i. left_from (sym k.room i) ws (tl i) (n i)) ∙ left_all q ws (length q.places - q.taken) q.taken sh (omega arith) (omega arith) k.lawful.within) in
-    record {
-      whole = whole;
-      queue = q;
-      listed = listed;
+    let facts : Facts q w.own at put taken left = record {
       starts = first ∙ at_is;
       puts = omega arith;
       taken_is = tk;
-      within = let room = (listed.seen 0 v.part refl).0.room in let most = k.lawful.within in omega arith;
+      within = omega arith;
       left_is = is;
-      shut_once = sym (ap (λ (z : View). z.shuts) tallied.same) ∙ shut_alone key s k id w fin.1.1 whole';
-      settled = settled v q taken listed behind tk;
-      raised = λ up. is ∙ all_left v q listed up;
+      shut_once = sym (sole_total shuts_of s.views id w here (λ i u has ne. (λ j. ((idle i u has ne).own j).shuts))) ∙ k.shut_once;
+      settles = settled (part_of w) q taken listed behind tk;
+      raised = λ up. is ∙ all_left (part_of w) q listed up;
+    } in let f : Facts v.seen.object v.own at put taken left = subst (λ (z : Moment Positions). Facts z.object v.own at put taken left) now (subst (λ (z : Did). Facts q z at put taken left) tallied.made.did facts) in record {
+      whole = whole;
+      sole = ap (λ (z : Moment Positions). z.ends) (sym now) ∙ sum;
+      joined = (let b = k.true_ends.ends.balanced in let x = sole_total (λ (u : View). u.member.splits) s.views id w here (λ i u has ne. (idle i u has ne).splits) in let y = sole_total (λ (u : View). u.member.joins) s.views id w here (λ i u has ne. (idle i u has ne).joins) in
+          let a : w.member.splits ≡ v.member.splits = ap (λ (z : Part). z.splits) tallied.made.member in let c : w.member.joins ≡ v.member.joins = ap (λ (z : Part). z.joins) tallied.made.member in
+          omega arith);
+      listed = (let same : part_of w ≡ part_of v = λ i. record { queue = (tallied.still whole i).object; joined = (tallied.still whole i).object; runs = (tallied.made.did i).runs; takes = (tallied.made.did i).takes } in
+          subst (λ (z : Moment Positions). ViewsShow z.object (part_of v ∷ [])) now (subst (λ (z : QueueView). ViewsShow q (z ∷ [])) same listed));
+      starts = f.starts;
+      puts = f.puts;
+      taken_is = f.taken_is;
+      within = f.within;
+      left_is = f.left_is;
+      shut_once = f.shut_once;
+      settled = f.settles;
+      raised = f.raised;
     }
+
+-- the views of all ends list what an end has seen, its own among them
+pub ruled_lists : (v : View) → IsRuled v → (views : List QueueView) × (seat : ℕ) × ViewsShow v.seen.object views × (get_elem? views seat ≡ maybe.some (part_of v))
+ruled_lists v r = (map part_of r.state.views, r.number, subst (λ (z : Moment Positions). ViewsShow z.object (map part_of r.state.views)) (sym r.seen) r.rule.listed, at_map part_of r.state.views r.number v r.here)

@@ -1,91 +1,70 @@
--- What the claims answer, by the steps that they made.
-use Rattle.std.specs.Prelude.{◌≡◌, ◌⊎◌, ◌+◌, ◌<◌, ◌≤◌, ℕ, true, List, length}
+-- What the claims answer: the entries that they added, all of them, and how their numbers compare.
+use Rattle.std.specs.Prelude.{◌≡◌, ◌⊎◌, ◌+◌, ◌<◌, ◌≤◌, ℕ, List, [], ◌∷◌, length}
 use Rattle.table_theory.specs.Batches.{IsPast}
 use Rattle.table_theory.specs.declared.positions.TheConstants.{POSITIONS}
-use Rattle.claim_queue.specs.declared.layout.TheConstants.{SHUT}
-use Rattle.claim_queue.specs.declared.rule.View.{View}
+use Rattle.table_theory.specs.declared.queues.Positions.{Positions}
+use Rattle.table_theory.specs.declared.views.Moment.{Moment}
+use Rattle.table_theory.specs.Ledgers.{Step, load, change, Made}
+use Rattle.table_theory.specs.Positioned.{with_claim}
 use Rattle.claim_queue.specs.declared.claim.ClaimRefusal.{ClaimRefusal}
 use Rattle.claim_queue.specs.declared.claim.ClaimRefusal.TheVariants.{NoItems, TooLong, Closed, Spent, Full, Lost}
+use Rattle.claim_queue.specs.declared.layout.TheConstants.{SHUT}
 use Rattle.claim_queue.specs.Layout.{head_word, tail_word}
-use Rattle.claim_queue.specs.Steps.{Found, Claimed}
+use Rattle.claim_queue.specs.Own.{View, run, with_run, Looks}
 
 -- a number of items that a run may have
 abbrev pub Fits : ℕ → ℕ → Type 0
 Fits room n = (0 < n) × (n ≤ room)
 
--- The head was loaded, open and with n positions left, and then the tail, with room for n behind it
-pub record FoundRoom (room : ℕ) (v : View) (n head : ℕ) (w : View) : Type 0 where
-  pub tail : ℕ
-  pub loaded : View
-  pub head_loaded : Found v head_word head loaded
-  pub tail_loaded : Found loaded tail_word tail w
-  pub positions : head + n < POSITIONS
-  pub fits : head + n ≤ tail + room
+-- there are n positions behind this head, and room for n before this tail
+abbrev pub HasRoom : ℕ → ℕ → ℕ → ℕ → Type 0
+HasRoom room n head tail = (head + n < POSITIONS) × (head + n ≤ tail + room)
 
--- The end found room, and then claimed these items by one exchange of the head that it had loaded
-pub record ClaimedItems (room call : ℕ) (v : View) (head : ℕ) (items : List ℕ) (w : View) : Type 0 where
-  pub short : Fits room (length items)
-  pub before : View
-  pub found : FoundRoom room v (length items) head before
-  pub claimed : Claimed call before head items w
-  pub past : IsPast v.part.runs head
+-- The head was loaded, then the tail, with room between them; then the head that was found was exchanged, and the items
+-- claimed. Added says where these entries stand
+abbrev pub ClaimedBy : (List (Step Positions) → Type 0) → ℕ → ℕ → List ℕ → Type 0
+ClaimedBy Added room head items = (tail : ℕ) × (m n o : Moment Positions)
+    × Fits room (length items) × HasRoom room (length items) head tail
+    × Added (load head_word head m ∷ load tail_word tail n ∷ change head_word head o (with_claim o.object items) ∷ [])
+
+-- the items were claimed, at or past the end of each earlier run of the end
+abbrev pub ClaimedItems : ℕ → View → ℕ → List ℕ → View → Type 0
+ClaimedItems room v head items w = IsPast v.own.runs head
+    × ClaimedBy (λ entries. Made v entries (with_run v.own (run head items)) w) room head items
 
 -- the head that was loaded has the shut mark
-pub record FoundShut (v w : View) : Type 0 where
-  pub head : ℕ
-  pub loaded : Found v head_word head w
-  pub marked : SHUT ≤ head
-  pub shut : w.part.queue.shut ≡ true
+abbrev pub FoundShut : (List (Step Positions) → Type 0) → Type 0
+FoundShut Added = (head : ℕ) × (m : Moment Positions) × (SHUT ≤ head) × Added (load head_word head m ∷ [])
 
--- the end found room, but the exchange found the shut mark
-pub record ShutMeanwhile (room : ℕ) (v : View) (n : ℕ) (w : View) : Type 0 where
-  pub first : ℕ
-  pub before : View
-  pub found : FoundRoom room v n first before
-  pub head : ℕ
-  pub missed : Found before head_word head w
-  pub marked : SHUT ≤ head
-  pub shut : w.part.queue.shut ≡ true
+-- there was room, but the exchange found the shut mark
+abbrev pub ShutMeanwhile : (List (Step Positions) → Type 0) → ℕ → ℕ → Type 0
+ShutMeanwhile Added room count = (head tail now : ℕ) × (m n o : Moment Positions)
+    × HasRoom room count head tail × (SHUT ≤ now)
+    × Added (load head_word head m ∷ load tail_word tail n ∷ load head_word now o ∷ [])
 
--- the head that was loaded is open, and n more would go past the last position
-pub record WasSpent (v : View) (n : ℕ) (w : View) : Type 0 where
-  pub head : ℕ
-  pub loaded : Found v head_word head w
-  pub is_open : head < SHUT
-  pub spent : POSITIONS ≤ head + n
+-- What a refused claim says of its entries. Spent: so many more would go past the last position. Full: there was no
+-- room between the head and the tail. Lost: there was, but the exchange found another head, past the one loaded
+abbrev pub RefusedBy : (List (Step Positions) → Type 0) → ℕ → ℕ → ClaimRefusal → Type 0
+RefusedBy Added room count NoItems = (count ≡ 0) × Added []
+RefusedBy Added room count TooLong = (room < count) × Added []
+RefusedBy Added room count Closed = Fits room count × (FoundShut Added ⊎ ShutMeanwhile Added room count)
+RefusedBy Added room count Spent = Fits room count × (head : ℕ) × (m : Moment Positions)
+    × (head < SHUT) × (POSITIONS ≤ head + count) × Added (load head_word head m ∷ [])
+RefusedBy Added room count (Full head tail) = Fits room count × (m n : Moment Positions)
+    × (head + count < POSITIONS) × (tail + room < head + count)
+    × Added (load head_word head m ∷ load tail_word tail n ∷ [])
+RefusedBy Added room count (Lost now) = Fits room count × (head tail : ℕ) × (m n o : Moment Positions)
+    × HasRoom room count head tail × (now < SHUT) × (head < now)
+    × Added (load head_word head m ∷ load tail_word tail n ∷ load head_word now o ∷ [])
 
--- The head was loaded, open and with n positions left, and then the tail, with no room for n behind it. So there was
--- none when the head was loaded
-pub record WasFull (room : ℕ) (v : View) (n head tail : ℕ) (w : View) : Type 0 where
-  pub loaded : View
-  pub head_loaded : Found v head_word head loaded
-  pub tail_loaded : Found loaded tail_word tail w
-  pub positions : head + n < POSITIONS
-  pub full : tail + room < head + n
-  pub was_full : loaded.part.queue.taken + room < length loaded.part.queue.places + n
-
--- the end found room, but the exchange found another head, open and past the one loaded
-pub record WasLost (room : ℕ) (v : View) (n head : ℕ) (w : View) : Type 0 where
-  pub first : ℕ
-  pub before : View
-  pub found : FoundRoom room v n first before
-  pub missed : Found before head_word head w
-  pub is_open : head < SHUT
-  pub past : first < head
-
--- what a refused claim of n items says
+-- the claim was refused; where no step was made, all is as it was
 abbrev pub Refused : ℕ → View → ℕ → ClaimRefusal → View → Type 0
-Refused room v n NoItems w = (n ≡ 0) × (w ≡ v)
-Refused room v n TooLong w = (room < n) × (w ≡ v)
-Refused room v n Closed w = Fits room n × (FoundShut v w ⊎ ShutMeanwhile room v n w)
-Refused room v n Spent w = Fits room n × WasSpent v n w
-Refused room v n (Full head tail) w = Fits room n × WasFull room v n head tail w
-Refused room v n (Lost head) w = Fits room n × WasLost room v n head w
+Refused room v count refusal w = RefusedBy (λ entries. Looks v entries w) room count refusal
 
--- What a refused claim of n items did to its pause: called it once where it came to its exchange, and else left it as
--- it was. Closed comes with the exchange and without it, as the entries tell: head, tail and head, or the head alone
+-- What a refused claim did to its pause: called it once where it came to its exchange, and else left it as it was.
+-- Closed comes with the exchange and without it, as the entries tell: head, tail and head, or the head alone
 abbrev pub PausedClaim : {P : Type 0} → (P → P → Type 0) → ℕ → View → ℕ → ClaimRefusal → View → P → P → Type 0
-PausedClaim Called room v n Closed w old new =
-    (FoundShut v w × (new ≡ old)) ⊎ (ShutMeanwhile room v n w × Called old new)
-PausedClaim Called room v n (Lost head) w old new = Called old new
-PausedClaim Called room v n refusal w old new = new ≡ old
+PausedClaim Called room v count Closed w old new = (FoundShut (λ entries. Looks v entries w) × (new ≡ old))
+    ⊎ (ShutMeanwhile (λ entries. Looks v entries w) room count × Called old new)
+PausedClaim Called room v count (Lost head) w old new = Called old new
+PausedClaim Called room v count refusal w old new = new ≡ old

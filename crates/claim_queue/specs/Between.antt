@@ -11,16 +11,17 @@ use Rattle.table_theory.specs.declared.queues.Positions.{Positions}
 use Rattle.event_theory.specs.Runs.{flat, pairs}
 use Rattle.event_theory.specs.Queues.{Queue, is_raised}
 use Rattle.event_theory.specs.Lawful.{IsLawfulQueue}
-use Rattle.table_theory.specs.Positioned.{item_of}
+use Rattle.table_theory.specs.Positioned.{Grows, item_of}
 use Rattle.table_theory.specs.Filing.{Owned, ListedOnce}
-use Rattle.table_theory.specs.Listing.{all_places, Adjacent, Later}
+use Rattle.table_theory.specs.Listing.{all_places, Adjacent}
 use Rattle.table_theory.specs.QueueOf.{run_in, up_in, queue_of, IsHistory}
 use Rattle.claim_queue.specs.declared.rule.Shape.{Shape}
-use Rattle.claim_queue.specs.declared.rule.View.{View}
-use Rattle.table_theory.specs.Courses.{IsCourse}
-use Rattle.table_theory.specs.Members.{EndsKnown}
+use Rattle.table_theory.specs.declared.views.Moment.{Moment}
+use Rattle.table_theory.specs.Ledgers.{AreTrue}
 use Rattle.table_theory.specs.Sharing.{total}
-use Rattle.claim_queue.specs.Rules.{member_of, steps_of, course_of, shuts_of, IsIdle, empty}
+use Rattle.claim_queue.specs.Changes.{empty}
+use Rattle.claim_queue.specs.Own.{View, nothing_did, of_queues}
+use Rattle.claim_queue.specs.Rules.{shuts_of}
 use Rattle.claim_queue.specs.Layout.{head_word, tail_word, ends_word, width, mark, data_in, flag_in}
 
 -- the pair (run, index) of the item with this number
@@ -39,13 +40,13 @@ pub record IsShown (key : Shape) (s : State Unit View) (c : Queue) : Type 0 wher
   pub runs : List (Owned Batch)
   pub history : c.history ≡ map run_in runs
   -- each run of a view is one of the history, and each of the history is of one view, at one place of its list
-  pub once : ListedOnce runs (map (λ view. view.part.runs) s.views)
+  pub once : ListedOnce runs (map (λ view. view.own.runs) s.views)
   -- each run begins where the one before it ends, the first at the first position
   pub side_by_side : Adjacent key.first runs
   pub raised : (run index : ℕ) → c.raised run index ≡ up_in (slice_get runs run) index
   pub takings : List (Owned Batch)
   -- each taking is in one view, and they take each position below the tail once, with the item that its run gave it
-  pub taken_once : ListedOnce takings (map (λ view. view.part.takes) s.views)
+  pub taken_once : ListedOnce takings (map (λ view. view.own.takes) s.views)
   pub taken_in_order : Adjacent key.first takings
   pub taken_items : map item_of (all_places takings) ≡ take c.taken (flat c.history)
   pub capacity : c.capacity ≡ key.room
@@ -57,18 +58,22 @@ pub record IsShown (key : Shape) (s : State Unit View) (c : Queue) : Type 0 wher
 
 -- there is a lawful queue that is shown
 pub record ShowsQueue (key : Shape) (s : State Unit View) : Type 0 where
-  pub now : Positions
+  pub now : Moment Positions
   pub queue : Queue
   pub lawful : IsLawfulQueue queue
   pub shown : IsShown key s queue
-  pub same : queue ≡ queue_of now shown.runs
-  pub first : now.first ≡ key.first
-  pub history : IsHistory now shown.runs
+  pub same : queue ≡ queue_of now.object shown.runs
+  pub first : now.object.first ≡ key.first
+  pub history : IsHistory now.object shown.runs
   -- each end has seen the queue no later than now
-  pub seen : (j : ℕ) (v : View) → get_elem? s.views j ≡ some v → Later v.part now
-  -- the ends' steps lead to it from the empty queue, and each end has seen all of them up to its own last one
-  pub course : IsCourse steps_of course_of (empty key) now s.views
-  -- the word has the number of the ends that stand
-  pub ends : EndsKnown member_of IsIdle (slice_index_or s.words ends_word 0) s.views
+  pub seen : (j : ℕ) (v : View) → get_elem? s.views j ≡ some v → Grows v.seen.object now.object
   -- one end has shut the queue where it is shut, and none where it is open
   pub shut_once : total shuts_of s.views ≡ (if queue.shut then 1 else 0)
+  -- the word has the number of the ends that stand
+  pub number : slice_index_or s.words ends_word 0 ≡ now.ends
+
+-- The queue is shown. The ends' steps lead to it from the empty queue, each end has seen all of them up to its own last
+-- one, and the number of ends is that of the ends that stand
+pub record ShowsEnds (key : Shape) (s : State Unit View) : Type 0 where
+  pub shows : ShowsQueue key s
+  pub true_ends : AreTrue of_queues nothing_did (empty key) shows.now s.views

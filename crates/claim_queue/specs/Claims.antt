@@ -6,23 +6,20 @@ use Rattle.table_theory.specs.declared.queues.Cell.{Cell}
 use Rattle.table_theory.specs.declared.queues.Batch.{Batch}
 use Rattle.table_theory.specs.Positioned.{fresh}
 use Rattle.table_theory.specs.Listing.{number_of}
-use Rattle.claim_queue.specs.declared.rule.View.{View}
-
-abbrev pub raised_place : ℕ → Cell
-raised_place x = record { item = x; written = 2 }
+use Rattle.claim_queue.specs.Own.{View}
 
 -- the first r of the items are raised
 abbrev pub places_of : List ℕ → ℕ → List Cell
 places_of [] r = []
 places_of (x ∷ xs) zero = fresh x ∷ places_of xs zero
-places_of (x ∷ xs) (suc r) = raised_place x ∷ places_of xs r
+places_of (x ∷ xs) (suc r) = record { item = x; written = 2 } ∷ places_of xs r
 
 abbrev pub run_of : ℕ → List ℕ → ℕ → Batch
 run_of start xs r = record { start = start; places = places_of xs r }
 
 -- the claim is one of the end's own
 abbrev pub Owns : View → ℕ → List ℕ → ℕ → Type 0
-Owns v start xs r = get_elem? v.part.runs (number_of start v.part.runs) ≡ some (run_of start xs r)
+Owns v start xs r = get_elem? v.own.runs (number_of start v.own.runs) ≡ some (run_of start xs r)
 
 -- each claim that was the end's own still is, as far as it was raised
 abbrev pub KeepsClaims : View → View → Type 0

@@ -1,24 +1,24 @@
 -- What closing a queue and shutting it answer.
-use Rattle.std.specs.Prelude.{◌≡◌, ◌+◌, ◌%◌, ◌==◌, ◌<◌, ◌≤◌, ℕ, Bool, List, [], ◌∷◌, Option, Some, None}
+use Rattle.std.specs.Prelude.{◌≡◌, ◌+◌, ◌%◌, ◌==◌, ◌≤◌, ℕ, Bool, List, [], ◌∷◌, Option, Some, None}
 use Rattle.std.specs.Prelude.{if◌then◌else◌, length, map, drop, nat_lt}
 use Rattle.table_theory.specs.declared.queues.Cell.{Cell}
 use Rattle.table_theory.specs.declared.queues.Positions.{Positions}
-use Rattle.table_theory.specs.Positioned.{item_of, left_of}
-use Rattle.table_theory.specs.Listing.{ViewsShow, AllRaised}
+use Rattle.table_theory.specs.declared.views.Moment.{Moment}
+use Rattle.table_theory.specs.Ledgers as ends
+use Rattle.table_theory.specs.Positioned.{item_of, left_of, with_shut}
+use Rattle.table_theory.specs.Listing.{AllRaised, ViewsShow}
 use Rattle.table_theory.specs.Reads.{read_from}
 use Rattle.table_theory.specs.Sharing.{IsWhole}
 use Rattle.claim_queue.specs.declared.layout.TheConstants.{SHUT}
-use Rattle.claim_queue.specs.declared.rule.View.{View}
-use Rattle.claim_queue.specs.Layout.{data_in, flag_in}
+use Rattle.claim_queue.specs.Layout.{head_word, ends_word, data_in, flag_in}
 use Rattle.claim_queue.specs.Lines.{lines_put, lines_taken, IsSettled}
+use Rattle.claim_queue.specs.Own.{View, part_of, with_shutting}
 use Rattle.claim_queue.specs.Rules.{times_shut}
-use Rattle.claim_queue.specs.Steps.{Shut, Tallied}
 
 -- the queue is shut, and was open exactly where the head word that was found had no mark
-pub record ShutNow (call : ℕ) (v : View) (was_open : Bool) (w : View) : Type 0 where
-  pub found : ℕ
-  pub shut : Shut call v found w
-  pub answer : was_open ≡ nat_lt found SHUT
+abbrev pub ShutNow : View → Bool → View → Type 0
+ShutNow v was_open w = (head : ℕ) × (m : Moment Positions) × (was_open ≡ nat_lt head SHUT)
+    × ends.Made v (ends.change head_word head m (with_shut m.object) ∷ []) (with_shutting v.own was_open) w
 
 -- what is read at the position p, where the flags stand behind the room's data words
 abbrev pub left_at : ℕ → List ℕ → ℕ → Option ℕ
@@ -32,24 +32,23 @@ left_from room words p n = read_from (left_at room words) p n
 abbrev pub shown : Cell → Option ℕ
 shown p = if nat_lt p.written 2 then None else Some p.item
 
--- The queue is closed, by an end that has the whole and so lists all of it: what is left is what was put behind what
--- was taken, no more than the queue has places; the lines put are the items put, and the lines taken the items taken.
--- Where the end has raised all that it claimed, each place left has its item
+-- The queue is closed, by an end that has the whole and so has seen all of it, and each split was joined: what is left
+-- is what was put behind what was taken, no more than the queue has places; the lines put are the items put, and the
+-- lines taken the items taken. Where the end has raised all that it claimed, each place left has its item
 pub record ClosedNow (v : View) (first put taken : ℕ) (left : List (Option ℕ)) : Type 0 where
   pub whole : IsWhole v.member.share
-  pub queue : Positions
-  pub listed : ViewsShow queue (v.part ∷ [])
-  pub starts : queue.first ≡ first
-  pub puts : put ≡ length queue.places
-  pub taken_is : taken ≡ queue.taken
-  pub within : put ≤ taken + v.part.queue.room
-  pub left_is : left ≡ map shown (drop queue.taken queue.places)
-  pub shut_once : v.shuts ≡ times_shut queue
-  pub settled : IsSettled (map item_of queue.places) taken (lines_put v) (lines_taken v)
-  pub raised : AllRaised v.part.runs → left ≡ map Some (left_of queue)
+  pub sole : v.seen.ends ≡ 1
+  pub joined : v.member.splits ≡ v.member.joins
+  pub starts : v.seen.object.first ≡ first
+  pub puts : put ≡ length v.seen.object.places
+  pub taken_is : taken ≡ v.seen.object.taken
+  pub within : put ≤ taken + v.seen.object.room
+  pub left_is : left ≡ map shown (drop v.seen.object.taken v.seen.object.places)
+  pub shut_once : v.own.shuts ≡ times_shut v.seen.object
+  pub listed : ViewsShow v.seen.object (part_of v ∷ [])
+  pub settled : IsSettled (map item_of v.seen.object.places) taken (lines_put v) (lines_taken v)
+  pub raised : AllRaised v.own.runs → left ≡ map Some (left_of v.seen.object)
 
 -- other ends stand: their number was found, with this end's, and this end has not the whole
-pub record WereOpen (v : View) (others : ℕ) (w : View) : Type 0 where
-  pub tallied : Tallied v (others + 1) w
-  pub some_other : 0 < others
-  pub not_whole : IsWhole v.member.share → ⊥
+abbrev pub WereOpen : View → ℕ → View → Type 0
+WereOpen v others w = ends.WereOpen ends_word v others w

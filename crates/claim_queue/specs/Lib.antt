@@ -1,5 +1,7 @@
 pub mod Layout
 pub mod Shown
+pub mod Changes
+pub mod Own
 pub mod Rules
 pub mod Steps
 pub mod Claims

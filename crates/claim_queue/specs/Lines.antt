@@ -3,15 +3,15 @@ use Rattle.std.specs.Prelude.{◌≡◌, ◌≤◌, ℕ, List, [], ◌∷◌, �
 use Rattle.std.specs.List.{concat}
 pub use Rattle.table_theory.specs.Batches.{line_of}
 use Rattle.table_theory.specs.Filing.{Owned, entry_of, ListedOnce}
-use Rattle.claim_queue.specs.declared.rule.View.{View}
+use Rattle.claim_queue.specs.Own.{View}
 
 -- the lines that the end put, in the order of its claims
 abbrev pub lines_put : View → List (List ℕ)
-lines_put v = map line_of v.part.runs
+lines_put v = map line_of v.own.runs
 
 -- the lines that the end took, in the order of its takings
 abbrev pub lines_taken : View → List (List ℕ)
-lines_taken v = map line_of v.part.takes
+lines_taken v = map line_of v.own.takes
 
 -- nothing was put and nothing taken, and the end has the share that it had
 pub record SameLines (v w : View) : Type 0 where

@@ -1,44 +1,99 @@
 -- What raising and putting a run answer.
-use Rattle.std.specs.Prelude.{◌≡◌, ◌+◌, ℕ, zero, suc, List, [], ◌∷◌, length, slice_index_or, Bool, true, false, Result}
-use Rattle.std.specs.Prelude.{Ok, Err}
-use Rattle.table_theory.specs.Listing.{number_of}
-use Rattle.claim_queue.specs.declared.rule.View.{View}
+use Rattle.std.specs.Prelude.{◌+◌, ◌<◌, ℕ, List, [], ◌∷◌, ◌++◌, length, take, slice_index_or, Bool, true, false}
+use Rattle.std.specs.Prelude.{Result, Ok, Err}
+use Rattle.std.specs.List.{AllByRecursion}
+use Rattle.table_theory.specs.Batches.{IsPast}
+use Rattle.table_theory.specs.declared.queues.Positions.{Positions}
+use Rattle.table_theory.specs.declared.views.Moment.{Moment}
+use Rattle.table_theory.specs.Ledgers.{Step, load, change, Made}
+use Rattle.table_theory.specs.Positioned.{fresh}
 use Rattle.claim_queue.specs.declared.claim.ClaimRefusal.{ClaimRefusal}
 use Rattle.claim_queue.specs.declared.claim.ClaimRefusal.TheVariants.{Lost}
-use Rattle.claim_queue.specs.Layout.{data_word, flag_word}
-use Rattle.claim_queue.specs.Steps.{Wrote}
-use Rattle.claim_queue.specs.Answers.{ClaimedItems, Refused, WasLost}
+use Rattle.claim_queue.specs.declared.layout.TheConstants.{SHUT}
+use Rattle.claim_queue.specs.Answers.{HasRoom, ClaimedBy, RefusedBy}
+use Rattle.claim_queue.specs.Changes.{IsPlace, written}
+use Rattle.claim_queue.specs.Claims.{run_of}
+use Rattle.claim_queue.specs.Layout.{head_word, tail_word, data_word, flag_word}
+use Rattle.claim_queue.specs.Own.{View, with_run, with_changed, Looks}
 
--- The place i of the end's run at this start was raised: its item was stored, and then its flag
-pub record Raised (room call : ℕ) (v : View) (start i item : ℕ) (w : View) : Type 0 where
-  pub between : View
-  pub stored : Wrote call v (number_of start v.part.runs) i 1 (data_word room (start + i)) item between
-  pub raised : Wrote call between (number_of start v.part.runs) i 2 (flag_word room (start + i)) (start + i + 1) w
+-- the numbers that were found in the data word and in the flag word of a place, each at its moment
+pub record Raise : Type 0 where
+  pub found_data : ℕ
+  pub at_data : Moment Positions
+  pub found_flag : ℕ
+  pub at_flag : Moment Positions
+
+-- The item was stored in its data word, and then the flag in its flag word
+abbrev pub raise_entries : ℕ → ℕ → Raise → List (Step Positions)
+raise_entries room position r =
+    change (data_word room position) r.found_data r.at_data (written r.at_data.object position 1)
+    ∷ change (flag_word room position) r.found_flag r.at_flag (written r.at_flag.object position 2) ∷ []
+
+-- the place was claimed for this item, first with nothing written, and then with the item stored
+pub record IsRaise (position item : ℕ) (r : Raise) : Type 0 where
+  pub was_claimed : IsPlace r.at_data.object position (fresh item)
+  pub was_stored : IsPlace r.at_flag.object position (record { item = item; written = 1 })
+
+-- places from this position on were raised, one behind the other
+abbrev pub raising : ℕ → ℕ → List Raise → List (Step Positions)
+raising room position [] = []
+raising room position (r ∷ raises) = raise_entries room position r ++ raising room (position + 1) raises
+
+-- one for each of these items
+abbrev pub AreRaises : ℕ → List ℕ → List Raise → Type 0
+AreRaises position [] [] = Unit {0}
+AreRaises position (x ∷ items) (r ∷ raises) = IsRaise position x r × AreRaises (position + 1) items raises
+AreRaises position items raises = ⊥
+
+-- the place i of the end's run at this start was raised
+abbrev pub Raised : ℕ → View → ℕ → List ℕ → ℕ → View → Type 0
+Raised room v start items i w = (r : Raise) × IsRaise (start + i) (slice_index_or items i 0) r
+    × Made v (raise_entries room (start + i) r) (with_changed v.own (run_of start items (i + 1))) w
 
 -- the first n of the items of the run at this start were raised, one behind the other
-abbrev pub RaisedFrom : ℕ → ℕ → ℕ → List ℕ → View → View → ℕ → Type 0
-RaisedFrom room call start items v w zero = w ≡ v
-RaisedFrom room call start items v w (suc n) = (u : View) × RaisedFrom room call start items v u n
-    × Raised room call u start n (slice_index_or items n 0) w
+abbrev pub RaisedFrom : ℕ → ℕ → List ℕ → View → View → ℕ → Type 0
+RaisedFrom room start items v w n = (raises : List Raise) × AreRaises start (take n items) raises
+    × Made v (raising room start raises) (with_changed v.own (run_of start items n)) w
 
 -- the items were claimed, by one claim, and then raised
-abbrev pub IsPut : ℕ → ℕ → View → ℕ → List ℕ → View → Type 0
-IsPut room call v start items w = (u : View) × ClaimedItems room call v start items u
-    × RaisedFrom room call start items u w (length items)
+abbrev pub PutBy : (List (Step Positions) → Type 0) → ℕ → ℕ → List ℕ → Type 0
+PutBy Added room start items = (raises : List Raise) × AreRaises start items raises
+    × ClaimedBy (λ entries. Added (entries ++ raising room start raises)) room start items
 
--- tries that were lost, one behind the other, each with the head that it found
-abbrev pub Tries : ℕ → View → ℕ → List ℕ → View → Type 0
-Tries room v n [] w = w ≡ v
-Tries room v n (head ∷ heads) w = (u : View) × WasLost room v n head u × Tries room u n heads w
+-- the end has one run more, all of it raised
+abbrev pub IsPut : ℕ → View → ℕ → List ℕ → View → Type 0
+IsPut room v start items w = IsPast v.own.runs start
+    × PutBy (λ entries. Made v entries (with_run v.own (run_of start items (length items))) w) room start items
+
+-- a try that was lost: the head and the tail that were loaded, and the head that the exchange found
+pub record Try : Type 0 where
+  pub head : ℕ
+  pub at_head : Moment Positions
+  pub tail : ℕ
+  pub at_tail : Moment Positions
+  pub found : ℕ
+  pub at_exchange : Moment Positions
+
+-- there was room, but the exchange found another head, past the one loaded
+abbrev pub IsLost : ℕ → ℕ → Try → Type 0
+IsLost room count t = HasRoom room count t.head t.tail × (t.found < SHUT) × (t.head < t.found)
+
+-- the entries of tries, one behind the other
+abbrev pub tried : List Try → List (Step Positions)
+tried [] = []
+tried (t ∷ tries) = load head_word t.head t.at_head ∷ load tail_word t.tail t.at_tail
+    ∷ load head_word t.found t.at_exchange ∷ tried tries
 
 abbrev pub is_lost : Result ℕ ClaimRefusal → Bool
 is_lost (Err (Lost head)) = true
 is_lost _ = false
 
 -- One try was answered, after tries that were lost. Lost is no answer
-abbrev pub PutAnswer : ℕ → ℕ → View → List ℕ → Result ℕ ClaimRefusal → View → Type 0
-PutAnswer room call v items (Ok start) w =
-    (lost : List ℕ) × (u : View) × Tries room v (length items) lost u × IsPut room call u start items w
-PutAnswer room call v items (Err (Lost head)) w = ⊥
-PutAnswer room call v items (Err refusal) w =
-    (lost : List ℕ) × (u : View) × Tries room v (length items) lost u × Refused room u (length items) refusal w
+abbrev pub PutAnswer : ℕ → View → List ℕ → Result ℕ ClaimRefusal → View → Type 0
+PutAnswer room v items (Ok start) w = IsPast v.own.runs start × (tries : List Try)
+    × AllByRecursion (IsLost room (length items)) tries
+    × PutBy (λ entries. Made v (tried tries ++ entries) (with_run v.own (run_of start items (length items))) w)
+    room start items
+PutAnswer room v items (Err (Lost head)) w = ⊥
+PutAnswer room v items (Err refusal) w = (tries : List Try) × AllByRecursion (IsLost room (length items)) tries
+    × RefusedBy (λ entries. Looks v (tried tries ++ entries) w) room (length items) refusal

@@ -1,12 +1,40 @@
 -- What the items that were found so far say of the queue as it is.
-use Rattle.std.specs.Prelude.{◌≡◌, ◌+◌, ◌-◌, ◌<◌, ◌≤◌, ℕ, List, length, slice_index_or}
+use Rattle.std.specs.Prelude.{◌≡◌, ◌≢◌, ◌+◌, ◌-◌, ◌<◌, ◌≤◌, ℕ, List, [], ◌∷◌, ◌++◌, length, slice_index_or}
+use Rattle.table_theory.specs.declared.queues.Positions.{Positions}
+use Rattle.table_theory.specs.declared.views.Moment.{Moment}
+use Rattle.table_theory.specs.Ledgers.{load, Made}
 use Rattle.table_theory.specs.Positioned.{written_at, item_at, tail_of}
-use Rattle.claim_queue.specs.declared.rule.View.{View}
+use Rattle.claim_queue.specs.declared.layout.TheConstants.{SHUT}
+use Rattle.claim_queue.specs.declared.take.TakeRefusal.{TakeRefusal}
+use Rattle.claim_queue.specs.declared.take.TakeRefusal.TheVariants.{Empty, Lost, Closed}
+use Rattle.claim_queue.specs.Layout.{head_word, tail_word, flag_word}
+use Rattle.claim_queue.specs.Own.{View}
+use Rattle.claim_queue.specs.Takings.{Scan, items_of, scanned, HasRaised}
 
 -- The items stand raised, one behind the other from the position `tail` on
 pub record HasFound (v : View) (tail : ℕ) (xs : List ℕ) : Type 0 where
-  pub first : v.part.queue.first ≤ tail
-  pub started : tail ≤ tail_of v.part.queue
-  pub up : (i : ℕ) → i < length xs → 2 ≤ written_at v.part.queue (tail - v.part.queue.first + i)
-  pub items : (i : ℕ) → i < length xs → tail_of v.part.queue ≤ tail
-      → slice_index_or xs i 0 ≡ item_at v.part.queue (tail - v.part.queue.first + i)
+  pub first : v.seen.object.first ≤ tail
+  pub started : tail ≤ tail_of v.seen.object
+  pub up : (i : ℕ) → i < length xs → 2 ≤ written_at v.seen.object (tail - v.seen.object.first + i)
+  pub items : (i : ℕ) → i < length xs → tail_of v.seen.object ≤ tail
+      → slice_index_or xs i 0 ≡ item_at v.seen.object (tail - v.seen.object.first + i)
+
+-- where a taking is while it finds items: these were found behind that tail by these entries
+abbrev pub IsScanned : ℕ → View → ℕ → List ℕ → View → Type 0
+IsScanned room v tail items w = (scan : Scan) × (items_of scan ≡ items) × Made v (scanned room tail scan) v.own w
+
+-- the same, and then the next flag was found not raised, at a place that the end has not raised
+abbrev pub IsStopped : ℕ → View → ℕ → List ℕ → View → Type 0
+IsStopped room v tail items w = (scan : Scan) × (items_of scan ≡ items) × (flag : ℕ) × (m : Moment Positions)
+    × (flag ≢ tail + length scan + 1)
+    × (tail_of w.seen.object ≤ tail → HasRaised w.own.runs (tail + length scan) → ⊥)
+    × Made v (scanned room tail scan ++ load (flag_word room (tail + length scan)) flag m ∷ []) v.own w
+
+-- why nothing can be taken at this tail, by the head that was loaded and the tail that was found again
+abbrev pub IsRefusedAt : View → ℕ → ℕ → TakeRefusal → View → Type 0
+IsRefusedAt v tail at (Empty position) w = (position ≡ at) × (tail_of v.seen.object ≤ tail) × (head : ℕ)
+    × (m n : Moment Positions) × (head ≢ SHUT + tail)
+    × Made v (load head_word head m ∷ load tail_word tail n ∷ []) v.own w
+IsRefusedAt v tail at (Lost now) w = (head : ℕ) × (m n : Moment Positions) × (head ≢ SHUT + tail) × (tail < now)
+    × Made v (load head_word head m ∷ load tail_word now n ∷ []) v.own w
+IsRefusedAt v tail at Closed w = (m : Moment Positions) × Made v (load head_word (SHUT + tail) m ∷ []) v.own w

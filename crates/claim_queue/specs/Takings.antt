@@ -1,28 +1,32 @@
--- What the takings answer, by the steps that they made.
-use Rattle.std.specs.Prelude.{◌≡◌, ◌≢◌, ◌⊎◌, ◌+◌, ◌-◌, ◌<◌, ℕ, true, false, List, [], ◌∷◌, length, map, take, drop}
-use Rattle.std.specs.Prelude.{slice_index_or}
-use Rattle.table_theory.specs.Positioned.{item_of, written_at, tail_of}
-use Rattle.table_theory.specs.Seeing.{HasRaised}
+-- What the takings answer: the entries that they added, all of them, and how their numbers compare.
+use Rattle.std.specs.Prelude.{◌≡◌, ◌≢◌, ◌⊎◌, ◌+◌, ◌-◌, ◌<◌, ◌≤◌, ℕ, List, [], ◌∷◌, ◌++◌, length, map, slice_index_or}
+use mathlib.Core.Option.{some}
+use lib.ListN.{get_elem?}
+use Rattle.table_theory.specs.declared.queues.Batch.{Batch}
+use Rattle.table_theory.specs.declared.queues.Positions.{Positions}
+use Rattle.table_theory.specs.declared.views.Moment.{Moment}
+use Rattle.table_theory.specs.Batches.{line_of}
+use Rattle.table_theory.specs.Ledgers.{Step, load, change, Made}
+use Rattle.table_theory.specs.Positioned.{blank, with_take}
 use Rattle.claim_queue.specs.declared.layout.TheConstants.{SHUT}
-use Rattle.claim_queue.specs.declared.rule.View.{View}
 use Rattle.claim_queue.specs.declared.take.TakeRefusal.{TakeRefusal}
 use Rattle.claim_queue.specs.declared.take.TakeRefusal.TheVariants.{Empty, Lost, Closed}
 use Rattle.claim_queue.specs.Layout.{head_word, tail_word, data_word, flag_word}
-use Rattle.claim_queue.specs.Steps.{Found, Took}
+use Rattle.claim_queue.specs.Own.{View, taking}
 
--- Items were found raised, one behind the other from this position on: of each first its flag, and then its item
-abbrev pub Scanned : ℕ → View → ℕ → List ℕ → View → Type 0
-Scanned room v position [] w = w ≡ v
-Scanned room v position (x ∷ xs) w = (f : View) × (d : View) × Found v (flag_word room position) (position + 1) f
-    × Found f (data_word room position) x d × Scanned room d (position + 1) xs w
+-- items that were found raised: each item, with the moments of its flag and of its data word
+abbrev pub Scan : Type 0
+Scan = List (ℕ × Moment Positions × Moment Positions)
 
--- behind these items the next flag was found not raised
-pub record StoppedAt (room : ℕ) (v : View) (position : ℕ) (xs : List ℕ) (w : View) : Type 0 where
-  pub before : View
-  pub scanned : Scanned room v position xs before
-  pub flag : ℕ
-  pub flag_loaded : Found before (flag_word room (position + length xs)) flag w
-  pub low : flag ≢ position + length xs + 1
+-- the items
+abbrev pub items_of : Scan → List ℕ
+items_of scan = map (λ found. found.0) scan
+
+-- one behind the other from this position on, of each first its flag was loaded, and then its item
+abbrev pub scanned : ℕ → ℕ → Scan → List (Step Positions)
+scanned room position [] = []
+scanned room position (found ∷ more) = load (flag_word room position) (position + 1) found.1
+    ∷ load (data_word room position) found.0 found.2 ∷ scanned room (position + 1) more
 
 -- no item ends a line
 abbrev pub NoEnd : List ℕ → Type 0
@@ -47,72 +51,67 @@ IsNone xs = xs ≡ []
 
 -- The tail was loaded, the items were found behind it, and then taken by one exchange of that tail: they were the first
 -- items left
-pub record TookItems (room call : ℕ) (v : View) (items : List ℕ) (w : View) : Type 0 where
-  pub tail : ℕ
-  pub loaded : View
-  pub tail_loaded : Found v tail_word tail loaded
-  pub before : View
-  pub scanned : Scanned room loaded tail items before
-  pub taken : Took call before tail (length items) w
-  pub first_left : map item_of (take (length items) (drop taken.queue.taken taken.queue.places)) ≡ items
+abbrev pub TookItems : ℕ → View → List ℕ → View → Type 0
+TookItems room v items w = (tail : ℕ) × (m o : Moment Positions) × (scan : Scan)
+    × (items_of scan ≡ items) × (line_of (taking o.object (length items)) ≡ items)
+    × Made v (load tail_word tail m ∷ scanned room tail scan
+    ++ change tail_word tail o (with_take o.object (length items)) ∷ [])
+    (record v.own { takes = v.own.takes ++ taking o.object (length items) ∷ [] }) w
 
--- The tail was loaded; behind these items, too few to be taken, the next place was not raised; then the head was loaded
-pub record FoundTooFew (Few : List ℕ → Type 0) (room : ℕ) (v : View) (tail : ℕ) (items : List ℕ) (head : ℕ) (w : View)
-    : Type 0 where
-  pub loaded : View
-  pub tail_loaded : Found v tail_word tail loaded
-  pub stopped : View
-  pub stop : StoppedAt room loaded tail items stopped
-  pub few : Few items
-  pub head_loaded : Found stopped head_word head w
-
--- There were too few items, the queue was not shut at that tail, and the tail was found again. So the place at `at` was
--- not raised while the tail was there, and then the queue was open or had something left. The end itself has not raised
--- it
-pub record WasEmpty (Few : List ℕ → Type 0) (room : ℕ) (v : View) (at : ℕ) (w : View) : Type 0 where
+-- a taking that found a place not raised: the tail, the items behind it, and the flag of the next place
+pub record Stop : Type 0 where
   pub tail : ℕ
-  pub items : List ℕ
-  pub head : ℕ
-  pub before : View
-  pub found : FoundTooFew Few room v tail items head before
-  pub going_on : head ≢ SHUT + tail
-  pub tail_again : Found before tail_word tail w
-  pub at_is : at ≡ tail + length items
-  pub from : tail_of found.stopped.part.queue ≡ tail
-  pub low : written_at found.stopped.part.queue (at - found.stopped.part.queue.first) < 2
-  pub open_or_left : (before.part.queue.shut ≡ false) ⊎ (before.part.queue.taken < length before.part.queue.places)
-  pub not_mine : HasRaised v.part at → ⊥
+  pub at_tail : Moment Positions
+  pub scan : Scan
+  pub flag : ℕ
+  pub at_flag : Moment Positions
+
+-- the position of that place, behind the items
+abbrev pub behind : Stop → ℕ
+behind s = s.tail + length s.scan
+
+-- the entries up to there
+abbrev pub stopping : ℕ → Stop → List (Step Positions)
+stopping room s = load tail_word s.tail s.at_tail ∷ scanned room s.tail s.scan
+    ++ load (flag_word room (behind s)) s.flag s.at_flag ∷ []
+
+-- too few items were found, and the next place was not raised
+abbrev pub IsStop : (List ℕ → Type 0) → Stop → Type 0
+IsStop Few s = Few (items_of s.scan) × (s.flag ≢ behind s + 1)
+
+-- one of these runs was raised at this position
+pub record HasRaised (runs : List Batch) (position : ℕ) : Type 0 where
+  pub number : ℕ
+  pub run : Batch
+  pub has : get_elem? runs number ≡ some run
+  pub index : ℕ
+  pub below : index < length run.places
+  pub raised : 2 ≤ (slice_index_or run.places index blank).written
+  pub is : run.start + index ≡ position
+
+-- There were too few items; the queue was not shut at that tail, and the tail was found again. The end itself has not
+-- raised the place
+abbrev pub WasEmpty : (List ℕ → Type 0) → ℕ → View → ℕ → View → Type 0
+WasEmpty Few room v at w = (s : Stop) × (head : ℕ) × (m n : Moment Positions) × IsStop Few s
+    × (at ≡ behind s) × (head ≢ SHUT + s.tail) × (HasRaised v.own.runs at → ⊥)
+    × Made v (stopping room s ++ load head_word head m ∷ load tail_word s.tail n ∷ []) v.own w
 
 -- there were too few items, the queue was not shut at that tail, and another tail was found, past that one
-pub record PassedBefore (Few : List ℕ → Type 0) (room : ℕ) (v : View) (found_tail : ℕ) (w : View) : Type 0 where
-  pub tail : ℕ
-  pub items : List ℕ
-  pub head : ℕ
-  pub before : View
-  pub found : FoundTooFew Few room v tail items head before
-  pub going_on : head ≢ SHUT + tail
-  pub tail_again : Found before tail_word found_tail w
-  pub past : tail < found_tail
+abbrev pub PassedBefore : (List ℕ → Type 0) → ℕ → View → ℕ → View → Type 0
+PassedBefore Few room v now w = (s : Stop) × (head : ℕ) × (m n : Moment Positions) × IsStop Few s
+    × (head ≢ SHUT + s.tail) × (s.tail < now)
+    × Made v (stopping room s ++ load head_word head m ∷ load tail_word now n ∷ []) v.own w
 
 -- there were enough items, but the exchange found another tail, past the one loaded
-pub record PassedMeanwhile (Enough : List ℕ → Type 0) (room : ℕ) (v : View) (found_tail : ℕ) (w : View) : Type 0 where
-  pub tail : ℕ
-  pub items : List ℕ
-  pub loaded : View
-  pub tail_loaded : Found v tail_word tail loaded
-  pub before : View
-  pub scanned : Scanned room loaded tail items before
-  pub enough : Enough items
-  pub missed : Found before tail_word found_tail w
-  pub past : tail < found_tail
+abbrev pub PassedMeanwhile : (List ℕ → Type 0) → ℕ → View → ℕ → View → Type 0
+PassedMeanwhile Enough room v now w = (tail : ℕ) × (m o : Moment Positions) × (scan : Scan)
+    × Enough (items_of scan) × (tail < now)
+    × Made v (load tail_word tail m ∷ scanned room tail scan ++ load tail_word now o ∷ []) v.own w
 
 -- there were too few items, and the head word was the shut mark and that tail: all that was put was taken
-pub record WasDone (Few : List ℕ → Type 0) (room : ℕ) (v w : View) : Type 0 where
-  pub tail : ℕ
-  pub items : List ℕ
-  pub found : FoundTooFew Few room v tail items (SHUT + tail) w
-  pub shut : w.part.queue.shut ≡ true
-  pub all : w.part.queue.taken ≡ length w.part.queue.places
+abbrev pub WasDone : (List ℕ → Type 0) → ℕ → View → View → Type 0
+WasDone Few room v w = (s : Stop) × (m : Moment Positions) × IsStop Few s
+    × Made v (stopping room s ++ load head_word (SHUT + s.tail) m ∷ []) v.own w
 
 -- what a refused taking says, where so many items are too few and so many are enough
 abbrev pub RefusedTake : (List ℕ → Type 0) → (List ℕ → Type 0) → ℕ → View → TakeRefusal → View → Type 0
@@ -120,13 +119,9 @@ RefusedTake Few Enough room v (Empty at) w = WasEmpty Few room v at w
 RefusedTake Few Enough room v (Lost tail) w = PassedBefore Few room v tail w ⊎ PassedMeanwhile Enough room v tail w
 RefusedTake Few Enough room v Closed w = WasDone Few room v w
 
--- why nothing can be taken at this tail, by the head that was loaded and the tail that was found again
-abbrev pub IsRefusedAt : View → ℕ → ℕ → TakeRefusal → View → Type 0
-IsRefusedAt v tail at (Empty position) w = (position ≡ at) × (head : ℕ) × (u : View) × Found v head_word head u
-    × (head ≢ SHUT + tail) × Found u tail_word tail w
-IsRefusedAt v tail at (Lost now) w = (head : ℕ) × (u : View) × Found v head_word head u
-    × (head ≢ SHUT + tail) × Found u tail_word now w × (now ≢ tail)
-IsRefusedAt v tail at Closed w = Found v head_word (SHUT + tail) w
+-- it holds of takings of one item, and of takings of a line: of what is too few for each, and what is enough
+abbrev pub OfBoth : ℕ → ((List ℕ → Type 0) → (List ℕ → Type 0) → Type 0) → Type 0
+OfBoth room Holds = Holds IsNone IsOne × Holds (IsBegun room) (IsLine room)
 
 -- What a refused taking of one item did to its pause: called it once where it came to its exchange, and else left it as
 -- it was. Lost comes with the exchange and without it, as the entries tell: tail, flag, data and tail, or tail, flag,

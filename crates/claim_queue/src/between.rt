@@ -2,8 +2,8 @@
 
 ghost use Rattle.atomic_table.specs.Table.{State};
 ghost use Rattle.claim_queue.specs.declared.rule.Shape.{Shape};
-ghost use Rattle.claim_queue.specs.declared.rule.View.{View};
-ghost use Rattle.claim_queue.specs.Between.{ShowsQueue};
+ghost use Rattle.claim_queue.specs.Own.{View};
+ghost use Rattle.claim_queue.specs.Between.{ShowsQueue, ShowsEnds};
 
 use crate::rule::{ClaimRule, Shape, View};
 use atomic_table::TableRule;
@@ -14,4 +14,11 @@ use atomic_table::TableRule;
 pub fn between_steps()
     ensures { (key : Shape) (state : State Unit View)
         → ⟦<ClaimRule as TableRule<(), View, Shape>>⟧.holds key state → ShowsQueue key state }
+{}
+
+/// The same of its ends: the number of ends is that of the ends that stand, and their steps, all in one order, lead
+/// from the empty queue to the queue that is shown.
+pub fn ends_between_steps()
+    ensures { (key : Shape) (state : State Unit View)
+        → ⟦<ClaimRule as TableRule<(), View, Shape>>⟧.holds key state → ShowsEnds key state }
 {}

@@ -1,7 +1,7 @@
 //! Claims: an end stakes out a run of places by one exchange of the head, and then raises them one by one (Massalin and
 //! Pu 1991, the many-producer queue).
 ghost use Rattle.std.specs.Prelude.{◌≡◌, ◌+◌, ◌<◌, ◌≤◌, ℕ, true, length, MatchResult, MatchBool, IfOk, slice_index};
-ghost use Rattle.table_theory.specs.Listing.{AllRaised};
+ghost use Rattle.table_theory.specs.Listing.{AllRaised, Distinct};
 ghost use Rattle.claim_queue.specs.Claims.{Owns, KeepsClaims, KeepsOthers};
 ghost use Rattle.claim_queue.specs.Answers.{ClaimedItems, Refused, PausedClaim};
 ghost use Rattle.claim_queue.specs.declared.claim.ClaimRefusal.TheVariants as refusals;
@@ -96,23 +96,24 @@ fn was_lost(answer: &Result<u32, ClaimRefusal>) -> bool
 }
 
 impl<const N: usize> ClaimQueue<N> {
-    ghost use Rattle.claim_queue.specs.Handles.{view_of, call_of, IsEndOf, IsSameEnd};
+    ghost use Rattle.claim_queue.specs.Handles.{view_of, IsEndOf, IsSameEnd};
 
     /// One try to claim a place for each of the items: it loads the head, then the tail, and exchanges the head. The
     /// items can be taken once they are raised. The refusals are checked in the order in which `ClaimRefusal` lists
     /// them.
     pub fn try_claim(&self, end: &mut QueueEnd<N>, items: &[u64]) -> Result<Claim<N>, ClaimRefusal>
         requires { IsEndOf self.now end.old }
-        ensures queue { IsSameEnd end.old end.new }
-        ensures ok { MatchResult result (λ c. ClaimedItems N (call_of end.old) (view_of end.old) c.start items.now
-            (view_of end.new) × (c.items.items ≡ items.now) × (c.raised ≡ 0))
-            (λ r. Refused N (view_of end.old) (length items.now) r (view_of end.new)) }
-        ensures own { IfOk result (λ c. Owns (view_of end.new) c.start c.items.items c.raised) }
-        ensures others { KeepsClaims (view_of end.old) (view_of end.new) }
         ensures lines { MatchResult result (λ c. PutLine items.now (view_of end.old) (view_of end.new))
             (λ r. SameLines (view_of end.old) (view_of end.new)) }
-        ensures shut { (view_of end.old).part.queue.shut ≡ true → 0 < length items.now → length items.now ≤ N
+        ensures own { IfOk result (λ c. (c.items.items ≡ items.now) × (c.raised ≡ 0)
+            × Owns (view_of end.new) c.start c.items.items c.raised) }
+        ensures shut { (view_of end.old).seen.object.shut ≡ true → 0 < length items.now → length items.now ≤ N
             → MatchResult result (λ claim. ⊥) (λ refusal. refusal ≡ refusals.Closed) }
+        ensures steps { MatchResult result
+            (λ c. ClaimedItems N (view_of end.old) c.start items.now (view_of end.new))
+            (λ r. Refused N (view_of end.old) (length items.now) r (view_of end.new)) }
+        ensures others { KeepsClaims (view_of end.old) (view_of end.new) }
+        ensures same { IsSameEnd end.old end.new }
     {
         self.try_claim_paused(end, items, &mut NoPause)
     }
@@ -126,16 +127,17 @@ impl<const N: usize> ClaimQueue<N> {
         pause: &mut P,
     ) -> Result<Claim<N>, ClaimRefusal>
         requires { IsEndOf self.now end.old }
-        ensures queue { IsSameEnd end.old end.new }
-        ensures ok { MatchResult result (λ c. ClaimedItems N (call_of end.old) (view_of end.old) c.start items.now
-            (view_of end.new) × (c.items.items ≡ items.now) × (c.raised ≡ 0))
-            (λ r. Refused N (view_of end.old) (length items.now) r (view_of end.new)) }
-        ensures own { IfOk result (λ c. Owns (view_of end.new) c.start c.items.items c.raised) }
-        ensures others { KeepsClaims (view_of end.old) (view_of end.new) }
         ensures lines { MatchResult result (λ c. PutLine items.now (view_of end.old) (view_of end.new))
             (λ r. SameLines (view_of end.old) (view_of end.new)) }
-        ensures shut { (view_of end.old).part.queue.shut ≡ true → 0 < length items.now → length items.now ≤ N
+        ensures own { IfOk result (λ c. (c.items.items ≡ items.now) × (c.raised ≡ 0)
+            × Owns (view_of end.new) c.start c.items.items c.raised) }
+        ensures shut { (view_of end.old).seen.object.shut ≡ true → 0 < length items.now → length items.now ≤ N
             → MatchResult result (λ claim. ⊥) (λ refusal. refusal ≡ refusals.Closed) }
+        ensures steps { MatchResult result
+            (λ c. ClaimedItems N (view_of end.old) c.start items.now (view_of end.new))
+            (λ r. Refused N (view_of end.old) (length items.now) r (view_of end.new)) }
+        ensures others { KeepsClaims (view_of end.old) (view_of end.new) }
+        ensures same { IsSameEnd end.old end.new }
         ensures paused { MatchResult result (λ c. P.paused pause.old pause.new) (λ r. PausedClaim P.paused N
             (view_of end.old) (length items.now) r (view_of end.new) pause.old pause.new) }
     {
@@ -155,11 +157,14 @@ impl<const N: usize> ClaimQueue<N> {
         pause: &mut P,
     ) -> Result<u32, ClaimRefusal>
         requires { IsEndOf self.now end.old }
-        ensures queue { IsSameEnd end.old end.new }
-        ensures ok { MatchResult result
-            (λ start. ClaimedItems N (call_of end.old) (view_of end.old) start items.now (view_of end.new))
-            (λ r. Refused N (view_of end.old) (length items.now) r (view_of end.new)) }
         ensures own { IfOk result (λ start. Owns (view_of end.new) start items.now 0 × (length items.now ≤ N)) }
+        ensures distinct { IfOk result (λ start. Distinct (view_of end.new).own.runs) }
+        ensures shut { (view_of end.old).seen.object.shut ≡ true → 0 < length items.now → length items.now ≤ N
+            → MatchResult result (λ start. ⊥) (λ refusal. refusal ≡ refusals.Closed) }
+        ensures steps { MatchResult result
+            (λ start. ClaimedItems N (view_of end.old) start items.now (view_of end.new))
+            (λ r. Refused N (view_of end.old) (length items.now) r (view_of end.new)) }
+        ensures same { IsSameEnd end.old end.new }
         ensures paused { MatchResult result (λ start. P.paused pause.old pause.new) (λ r. PausedClaim P.paused N
             (view_of end.old) (length items.now) r (view_of end.new) pause.old pause.new) }
     {
@@ -201,11 +206,10 @@ impl<const N: usize> ClaimQueue<N> {
         requires queue { IsEndOf self.now end.old }
         requires own { Owns (view_of end.old) start items.now index × (length items.now ≤ N) }
         requires below { index < length items.now }
-        ensures queue { IsSameEnd end.old end.new }
         ensures own { Owns (view_of end.new) start items.now (index + 1) }
+        ensures steps { Raised N (view_of end.old) start items.now index (view_of end.new) }
         ensures others { KeepsOthers start (view_of end.old) (view_of end.new) }
-        ensures raised { Raised N (call_of end.old) (view_of end.old) start index (slice_index items.now index)
-            (view_of end.new) }
+        ensures same { IsSameEnd end.old end.new }
     {
         let (start, item) = (start as u64, items[index]);
         store_data::<Brand>(&self.table.shared, &mut end.seat, N, start, index, item);
@@ -219,15 +223,15 @@ impl<const N: usize> ClaimQueue<N> {
     pub fn raise_next(&self, end: &mut QueueEnd<N>, claim: &mut Claim<N>) -> bool
         requires queue { IsEndOf self.now end.old }
         requires own { Owns (view_of end.old) claim.old.start claim.old.items.items claim.old.raised }
-        ensures queue { IsSameEnd end.old end.new }
-        ensures claim { (claim.new.start ≡ claim.old.start) × (claim.new.items.items ≡ claim.old.items.items) }
-        ensures own { Owns (view_of end.new) claim.new.start claim.new.items.items claim.new.raised }
-        ensures others { KeepsOthers claim.old.start (view_of end.old) (view_of end.new) }
+        ensures raised { MatchBool result (claim.new.raised ≡ claim.old.raised + 1)
+            ((claim.old.raised ≡ length claim.old.items.items) × (claim.new.raised ≡ claim.old.raised)) }
         ensures lines { SameLines (view_of end.old) (view_of end.new) }
-        ensures raised { MatchBool result (Raised N (call_of end.old) (view_of end.old) claim.old.start claim.old.raised
-            (slice_index claim.old.items.items claim.old.raised) (view_of end.new)
-            × (claim.new.raised ≡ claim.old.raised + 1)) ((claim.old.raised ≡ length claim.old.items.items)
-            × (claim.new.raised ≡ claim.old.raised) × ((view_of end.new) ≡ (view_of end.old))) }
+        ensures own { Owns (view_of end.new) claim.new.start claim.new.items.items claim.new.raised }
+        ensures steps { MatchBool result (Raised N (view_of end.old) claim.old.start claim.old.items.items
+            claim.old.raised (view_of end.new)) ((view_of end.new) ≡ (view_of end.old)) }
+        ensures claim { (claim.new.start ≡ claim.old.start) × (claim.new.items.items ≡ claim.old.items.items) }
+        ensures others { KeepsOthers claim.old.start (view_of end.old) (view_of end.new) }
+        ensures same { IsSameEnd end.old end.new }
     {
         let index = claim.raised;
         if index >= claim.items.len() {
@@ -242,11 +246,10 @@ impl<const N: usize> ClaimQueue<N> {
     fn raise_all(&self, end: &mut QueueEnd<N>, start: u32, items: &[u64])
         requires queue { IsEndOf self.now end.old }
         requires own { Owns (view_of end.old) start items.now 0 × (length items.now ≤ N) }
-        ensures queue { IsSameEnd end.old end.new }
         ensures own { Owns (view_of end.new) start items.now (length items.now) }
+        ensures steps { RaisedFrom N start items.now (view_of end.old) (view_of end.new) (length items.now) }
         ensures others { KeepsOthers start (view_of end.old) (view_of end.new) }
-        ensures raised { RaisedFrom N (call_of end.old) start items.now (view_of end.old) (view_of end.new)
-            (length items.now) }
+        ensures same { IsSameEnd end.old end.new }
     {
         for i in 0..items.len() {
             self.raise_place(end, start, items, i);
@@ -256,16 +259,15 @@ impl<const N: usize> ClaimQueue<N> {
     /// One try to claim a run and, where it wins, all its raises. Gives the position of the first item.
     pub fn try_put(&self, end: &mut QueueEnd<N>, items: &[u64]) -> Result<u32, ClaimRefusal>
         requires { IsEndOf self.now end.old }
-        ensures queue { IsSameEnd end.old end.new }
-        ensures put { MatchResult result
-            (λ start. IsPut N (call_of end.old) (view_of end.old) start items.now (view_of end.new))
-            (λ r. Refused N (view_of end.old) (length items.now) r (view_of end.new)) }
-        ensures others { KeepsClaims (view_of end.old) (view_of end.new) }
-        ensures raised { AllRaised (view_of end.old).part.runs → AllRaised (view_of end.new).part.runs }
         ensures lines { MatchResult result (λ start. PutLine items.now (view_of end.old) (view_of end.new))
             (λ r. SameLines (view_of end.old) (view_of end.new)) }
-        ensures shut { (view_of end.old).part.queue.shut ≡ true → 0 < length items.now → length items.now ≤ N
+        ensures raised { AllRaised (view_of end.old).own.runs → AllRaised (view_of end.new).own.runs }
+        ensures shut { (view_of end.old).seen.object.shut ≡ true → 0 < length items.now → length items.now ≤ N
             → MatchResult result (λ start. ⊥) (λ refusal. refusal ≡ refusals.Closed) }
+        ensures steps { MatchResult result (λ start. IsPut N (view_of end.old) start items.now (view_of end.new))
+            (λ r. Refused N (view_of end.old) (length items.now) r (view_of end.new)) }
+        ensures others { KeepsClaims (view_of end.old) (view_of end.new) }
+        ensures same { IsSameEnd end.old end.new }
     {
         let start = self.claim_places(end, items, &mut NoPause)?;
         self.raise_all(end, start, items);
@@ -281,14 +283,14 @@ impl<const N: usize> ClaimQueue<N> {
         items: &[u64],
     ) -> Result<u32, ClaimRefusal>
         requires { IsEndOf self.now end.old }
-        ensures queue { IsSameEnd end.old end.new }
-        ensures put { PutAnswer N (call_of end.old) (view_of end.old) items.now result (view_of end.new) }
-        ensures others { KeepsClaims (view_of end.old) (view_of end.new) }
-        ensures raised { AllRaised (view_of end.old).part.runs → AllRaised (view_of end.new).part.runs }
         ensures lines { MatchResult result (λ start. PutLine items.now (view_of end.old) (view_of end.new))
             (λ r. SameLines (view_of end.old) (view_of end.new)) }
-        ensures shut { (view_of end.old).part.queue.shut ≡ true → 0 < length items.now → length items.now ≤ N
+        ensures raised { AllRaised (view_of end.old).own.runs → AllRaised (view_of end.new).own.runs }
+        ensures shut { (view_of end.old).seen.object.shut ≡ true → 0 < length items.now → length items.now ≤ N
             → MatchResult result (λ start. ⊥) (λ refusal. refusal ≡ refusals.Closed) }
+        ensures steps { PutAnswer N (view_of end.old) items.now result (view_of end.new) }
+        ensures others { KeepsClaims (view_of end.old) (view_of end.new) }
+        ensures same { IsSameEnd end.old end.new }
     {
         let backoff = Backoff::new();
         for _ in rt.forever() {

@@ -13,7 +13,6 @@ use crate::layout::{HEAD, SHUT, TAIL, data_word, flag_word};
 use crate::steps::{count, or_head};
 use arrayvec::ArrayVec;
 use std::alloc::Global;
-use std::marker::Brand;
 use table_theory::OpenEnds;
 
 /// What a queue had at its end: its first position, how many items were put (claimed) and taken, and those left, in the
@@ -57,18 +56,18 @@ fn read_left<const N: usize>(
 }
 
 impl<const N: usize> ClaimQueue<N> {
-    ghost use Rattle.claim_queue.specs.Handles.{view_of, call_of, first_of, IsEndOf, IsOnlyEnd, IsSameEnd};
+    ghost use Rattle.claim_queue.specs.Handles.{view_of, first_of, IsEndOf, IsOnlyEnd, IsSameEnd};
 
     /// Shuts the queue for claims, for good; what was put can still be taken. True where it was open, which one end
     /// alone is ever told.
     pub fn shut(&self, end: &mut QueueEnd<N>) -> bool
         requires { IsEndOf self.now end.old }
-        ensures queue { IsSameEnd end.old end.new }
-        ensures shut { ShutNow (call_of end.old) (view_of end.old) result (view_of end.new) }
-        ensures others { KeepsClaims (view_of end.old) (view_of end.new) }
         ensures lines { SameLines (view_of end.old) (view_of end.new) }
+        ensures steps { ShutNow (view_of end.old) result (view_of end.new) }
+        ensures others { KeepsClaims (view_of end.old) (view_of end.new) }
+        ensures same { IsSameEnd end.old end.new }
     {
-        or_head::<Brand>(&self.table.shared, &mut end.seat) < SHUT
+        or_head(&self.table.shared, &mut end.seat) < SHUT
     }
 
     /// Closes the queue where every other end has been joined. Else the queue and the end come back, and the number of
@@ -78,11 +77,11 @@ impl<const N: usize> ClaimQueue<N> {
         end: QueueEnd<N>,
     ) -> Result<Closed<N>, (ClaimQueue<N>, QueueEnd<N>, OpenEnds)>
         requires { IsEndOf self end }
+        ensures only { IsOnlyEnd end.entry → MatchResult result (λ c. Unit {0}) (λ e. ⊥) }
         ensures closed { IfOk result (λ c. (c.first ≡ first_of self.entry)
             × ClosedNow (view_of end.entry) c.first c.put c.taken c.left.items) }
-        ensures open { IfErr result (λ e. (e.0 ≡ self.entry) × IsSameEnd end.entry e.1
-            × WereOpen (view_of end.entry) e.2.others (view_of e.1)) }
-        ensures only { IsOnlyEnd end.entry → MatchResult result (λ c. Unit {0}) (λ e. ⊥) }
+        ensures steps { IfErr result (λ e. WereOpen (view_of end.entry) e.2.others (view_of e.1)) }
+        ensures same { IfErr result (λ e. (e.0 ≡ self.entry) × IsSameEnd end.entry e.1) }
     {
         let mut end = end;
         let ends = count(&self.table.shared, &mut end.seat);

@@ -1,6 +1,6 @@
 //! The queue and its ends.
 ghost use Rattle.std.specs.Prelude.{◌≡◌, ◌+◌, ◌≤◌, ◌<◌, [], ◌++◌, IfOk};
-ghost use Rattle.claim_queue.specs.Rules.{newcomer};
+ghost use Rattle.claim_queue.specs.Rules.{newcomer, IsRuled};
 ghost use Rattle.claim_queue.specs.Claims.{KeepsClaims};
 ghost use Rattle.claim_queue.specs.Endings.{Divided, IsNewborn, TookIn};
 ghost use Rattle.claim_queue.specs.declared.layout.TheConstants.{MOST_PLACES};
@@ -26,13 +26,17 @@ pub struct ClaimQueue<const N: usize> {
 }
 
 /// An end of a queue. It has no bytes.
+///
+/// What it lists is true: each entry of its steps, and of the steps of all ends that it has seen, found the number that
+/// stood in its word then, and found the queue as the step before it left it, lawful and shown by the words.
 #[derive(Drop)]
 pub struct QueueEnd<const N: usize> {
     pub(crate) seat: Seat<(), View>,
-    ghost room: { seat.me.0.part.queue.room ≡ N },
+    ghost room: { seat.me.0.first.room ≡ N },
     ghost bare: { seat.me.1 ≡ [] },
     ghost one: { seat.me.0.member.ends ≡ 1 },
-    ghost distinct: { Distinct seat.me.0.part.runs },
+    ghost distinct: { Distinct seat.me.0.own.runs },
+    ghost ruled: { ∥ IsRuled seat.me.0 ∥₁ },
 }
 
 impl<const N: usize> ClaimQueue<N> {
@@ -65,12 +69,12 @@ impl<const N: usize> ClaimQueue<N> {
     pub fn split(&self, end: &mut QueueEnd<N>) -> QueueEnd<N>
         requires queue { IsEndOf self.now end.old }
         requires parts { IsDivisible end.old }
-        ensures queue { IsSameEnd end.old end.new × AreOfOneQueue end.old result }
-        ensures split { Divided (view_of end.old) (view_of end.new) }
-        ensures born { IsNewborn (view_of end.old) (view_of end.new) (view_of result) }
-        ensures claims { KeepsClaims (view_of end.old) (view_of end.new) }
         ensures lines { (lines_put (view_of end.new) ≡ lines_put (view_of end.old))
             × (lines_taken (view_of end.new) ≡ lines_taken (view_of end.old)) }
+        ensures born { IsNewborn (view_of end.old) (view_of end.new) (view_of result) }
+        ensures steps { Divided (view_of end.old) (view_of end.new) }
+        ensures claims { KeepsClaims (view_of end.old) (view_of end.new) }
+        ensures same { IsSameEnd end.old end.new × AreOfOneQueue end.old result }
     {
         count_up(&self.table.shared, &mut end.seat);
         let seat = split_off(&self.table.shared, &mut end.seat);
@@ -80,12 +84,12 @@ impl<const N: usize> ClaimQueue<N> {
     /// The first end then has all that both had: their claims, what they took, and their parts of the queue.
     pub fn join(&self, end: &mut QueueEnd<N>, other: QueueEnd<N>)
         requires { IsEndOf self.now end.old × IsEndOf self.now other }
-        ensures queue { IsSameEnd end.old end.new }
-        ensures joined { TookIn (view_of end.old) (view_of other.entry) (view_of end.new) }
-        ensures claims { KeepsClaims (view_of end.old) (view_of end.new)
-            × KeepsClaims (view_of other.entry) (view_of end.new) }
         ensures lines { (lines_put (view_of end.new) ≡ lines_put (view_of end.old) ++ lines_put (view_of other.entry))
             × (lines_taken (view_of end.new) ≡ lines_taken (view_of end.old) ++ lines_taken (view_of other.entry)) }
+        ensures steps { TookIn (view_of end.old) (view_of other.entry) (view_of end.new) }
+        ensures claims { KeepsClaims (view_of end.old) (view_of end.new)
+            × KeepsClaims (view_of other.entry) (view_of end.new) }
+        ensures same { IsSameEnd end.old end.new }
     {
         let QueueEnd { seat } = other;
         take_in::<Brand>(&self.table.shared, &mut end.seat, seat);

@@ -31,13 +31,14 @@
 //! leaves its places unraised: nobody takes past them, and with N places claimed behind the tail every claim is Full.
 //! An end that is dropped is never joined, so the queue can't be closed any more; all else goes on.
 //!
-//! `ClaimRule`, `Shape` and `View` are for the proofs alone: they stand in the contracts of what the ends list.
+//! `ClaimRule`, `Shape`, `Did` and `View` are for the proofs alone: they stand in the contracts of what the ends list.
 #![tactic(auto)]
 
 mod between;
 mod claim;
 mod close;
 mod ends;
+pub mod laws;
 mod layout;
 mod pause;
 mod plays;
@@ -45,11 +46,11 @@ mod rule;
 mod steps;
 mod take;
 
-pub use between::between_steps;
+pub use between::{between_steps, ends_between_steps};
 pub use claim::{Claim, ClaimRefusal};
 pub use close::Closed;
 pub use ends::{ClaimQueue, QueueEnd};
 pub use pause::{NoPause, Pause};
-pub use rule::{ClaimRule, Shape, View};
+pub use rule::{ClaimRule, Did, Shape, View};
 pub use table_theory::OpenEnds;
 pub use take::TakeRefusal;

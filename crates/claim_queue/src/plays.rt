@@ -1,9 +1,9 @@
 //! What each step tells. These types are for the proofs alone.
 ghost use Rattle.std.specs.Prelude.{ℕ, List, []};
-ghost use Rattle.claim_queue.specs.Steps.{finds, claims, writes, takes, shuts, counts_up, counts_down, counts};
-ghost use Rattle.claim_queue.specs.Steps.{rest_of, newborn, both};
+ghost use Rattle.table_theory.specs.Ledgers.{rest_of, newborn, both};
+ghost use Rattle.claim_queue.specs.Own.{View, nothing_did, did_both};
 ghost use Rattle.claim_queue.specs.Rules.{newcomer};
-ghost use Rattle.claim_queue.specs.declared.rule.View.{View};
+ghost use Rattle.claim_queue.specs.Steps.{finds, claims, writes, takes, shuts, counts_up, counts_down, counts};
 
 use crate::rule::View;
 use atomic_table::{Join, Play, Split};
@@ -15,25 +15,12 @@ impl Play<(), View> for Finds {
     ghost then = { finds };
 }
 
-/// The number of the end that steps.
-pub trait Caller {
-    ghost call: { ℕ };
-}
-
-impl Caller for Brand {
-    ghost call = { 0 };
-}
-
-/// The items of a claim, and the number of the end that claims.
+/// The items of a claim.
 pub trait ClaimItems {
-    ghost call: { ℕ };
-
     ghost items: { List ℕ };
 }
 
 impl ClaimItems for Brand {
-    ghost call = { 0 };
-
     ghost items = { [] };
 }
 
@@ -42,21 +29,17 @@ pub struct Claims<J> {
 }
 
 impl<J: ClaimItems> Play<(), View> for Claims<J> {
-    ghost then = { claims J.call J.items };
+    ghost then = { claims J.items };
 }
 
-/// A place of a run: the number of the end that claimed it, the run's start, and the place's index in it.
+/// A place of a run: the run's start, and the place's index in it.
 pub trait Spot {
-    ghost call: { ℕ };
-
     ghost start: { ℕ };
 
     ghost index: { ℕ };
 }
 
 impl Spot for Brand {
-    ghost call = { 0 };
-
     ghost start = { 0 };
 
     ghost index = { 0 };
@@ -67,7 +50,7 @@ pub struct StoresData<J> {
 }
 
 impl<J: Spot> Play<(), View> for StoresData<J> {
-    ghost then = { writes J.call J.start J.index 1 };
+    ghost then = { writes J.start J.index 1 };
 }
 
 pub struct StoresFlag<J> {
@@ -75,23 +58,19 @@ pub struct StoresFlag<J> {
 }
 
 impl<J: Spot> Play<(), View> for StoresFlag<J> {
-    ghost then = { writes J.call J.start J.index 2 };
+    ghost then = { writes J.start J.index 2 };
 }
 
-pub struct Takes<J> {
-    marker: PhantomData<J>,
+pub struct Takes;
+
+impl Play<(), View> for Takes {
+    ghost then = { takes };
 }
 
-impl<J: Caller> Play<(), View> for Takes<J> {
-    ghost then = { takes J.call };
-}
+pub struct Shuts;
 
-pub struct Shuts<J> {
-    marker: PhantomData<J>,
-}
-
-impl<J: Caller> Play<(), View> for Shuts<J> {
-    ghost then = { shuts J.call };
+impl Play<(), View> for Shuts {
+    ghost then = { shuts };
 }
 
 pub struct CountsUp;
@@ -117,7 +96,7 @@ pub struct Gives;
 impl Split<View> for Gives {
     ghost left = { rest_of };
 
-    ghost right = { newborn };
+    ghost right = { newborn nothing_did };
 }
 
 /// The view of an end that was taken in.
@@ -134,7 +113,7 @@ pub struct Joins<J> {
 }
 
 impl<J: Spent> Join<View> for Joins<J> {
-    ghost both = { both };
+    ghost both = { both did_both };
 
     ghost spent = { J.view };
 }

@@ -1,8 +1,8 @@
 //! The rule of the table. Its types are for the proofs alone: no program makes a value of them but the queue itself.
 use atomic_table::TableRule;
 use std::collections::LinkedList;
-use table_theory::queues::{Positions, QueueView};
-use table_theory::views::{Entry, Member};
+use table_theory::queues::{Batch, Positions};
+use table_theory::views::Ledger;
 
 /// What the rule is told when the table is made.
 #[derive(Drop)]
@@ -11,15 +11,16 @@ pub struct Shape {
     pub room: u64,
 }
 
-/// What an end knows: its runs and takings in the queue as it was at the end's last step, which of the ends it is, how
-/// often it shut the queue, every step that it made, and every step that any end had made up to its own last one.
-pub struct View {
-    pub part: QueueView,
-    pub member: Member,
+/// What an end did: its runs, each as far as it was raised, what it took, and how often it shut the queue where it was
+/// open. Proofs alone speak of it.
+pub struct Did {
+    pub runs: LinkedList<Batch>,
+    pub takes: LinkedList<Batch>,
     pub shuts: u64,
-    pub steps: LinkedList<Entry<Positions>>,
-    pub course: LinkedList<Entry<Positions>>,
 }
+
+/// What an end knows: what it did, its steps, and all ends' steps up to its own last one.
+pub type View = Ledger<Did, Positions>;
 
 pub struct ClaimRule;
 

@@ -4,18 +4,20 @@ ghost use mathlib.Core.Option.{some};
 ghost use lib.ListN.{get_elem?};
 ghost use Rattle.table_theory.specs.declared.positions.TheConstants.{POSITIONS};
 ghost use Rattle.table_theory.specs.declared.queues.Batch.{Batch};
-ghost use Rattle.table_theory.specs.Listing.{number_of};
+ghost use Rattle.table_theory.specs.Ledgers.{CountedUp, CountedDown, Tallied, rest_of, newborn, both, emptied};
+ghost use Rattle.table_theory.specs.Listing.{Distinct, number_of};
 ghost use Rattle.table_theory.specs.Positioned.{blank, head_of, tail_of, item_at, written_at};
 ghost use Rattle.table_theory.specs.Seating.{IsSame};
-ghost use Rattle.claim_queue.specs.Layout.{mark, head_word, tail_word, data_word, flag_word, width};
+ghost use Rattle.claim_queue.specs.Layout.{mark, head_word, tail_word, ends_word, data_word, flag_word, width};
 ghost use Rattle.claim_queue.specs.declared.layout.TheConstants.{FIRST_DATA, MOST_PLACES, SHUT};
-ghost use Rattle.claim_queue.specs.Steps.{Found, Claimed, Wrote, Took, Shut, CountedUp, CountedDown, Tallied};
-ghost use Rattle.claim_queue.specs.Steps.{rest_of, newborn, both, emptied};
+ghost use Rattle.claim_queue.specs.Own.{nothing_did, did_both};
+ghost use Rattle.claim_queue.specs.Steps.{Told, Found, Claimed, Wrote, Took, Shut};
+ghost use Rattle.claim_queue.specs.Takings.{HasRaised};
 
 use crate::layout::{ENDS, HEAD, SHUT, TAIL, data_word, flag_word};
 use crate::plays::{
-    Caller, ClaimItems, Claims, Counts, CountsDown, CountsUp, Finds, Gives, Joins, Shuts, Spent,
-    Spot, StoresData, StoresFlag, Takes,
+    ClaimItems, Claims, Counts, CountsDown, CountsUp, Finds, Gives, Joins, Shuts, Spent, Spot,
+    StoresData, StoresFlag, Takes,
 };
 use crate::rule::{ClaimRule, Shape, View};
 use atomic_table::{Seat, Shared};
@@ -36,8 +38,8 @@ pub(crate) fn load_head(words: &Words, seat: &mut Seat<(), View>) -> u64
     requires live { 1 ≤ seat.old.me.0.member.ends }
     ensures queue { IsSame seat.old seat.new × (seat.new.me.1 ≡ seat.old.me.1) }
     ensures found { Found seat.old.me.0 head_word result seat.new.me.0 }
-    ensures head { result ≡ head_of seat.new.me.0.part.queue + mark seat.new.me.0.part.queue.shut }
-    ensures is_open { result < SHUT → seat.new.me.0.part.queue.shut ≡ false }
+    ensures head { result ≡ head_of seat.new.me.0.seen.object + mark seat.new.me.0.seen.object.shut }
+    ensures is_open { result < SHUT → seat.new.me.0.seen.object.shut ≡ false }
 {
     load(words, seat, HEAD)
 }
@@ -47,7 +49,7 @@ pub(crate) fn load_tail(words: &Words, seat: &mut Seat<(), View>) -> u64
     requires live { 1 ≤ seat.old.me.0.member.ends }
     ensures queue { IsSame seat.old seat.new × (seat.new.me.1 ≡ seat.old.me.1) }
     ensures found { Found seat.old.me.0 tail_word result seat.new.me.0 }
-    ensures tail { result ≡ tail_of seat.new.me.0.part.queue }
+    ensures tail { result ≡ tail_of seat.new.me.0.seen.object }
     ensures bounded { result < POSITIONS }
 {
     load(words, seat, TAIL)
@@ -62,14 +64,13 @@ pub(crate) fn exchange_head<J: ClaimItems>(
 ) -> u64
     requires queue { (seat.old.table_id ≡ words.now.table_id) × (FIRST_DATA ≤ words.now.table_id.words) }
     requires live { 1 ≤ seat.old.me.0.member.ends }
-    requires call { J.call ≡ seat.old.id }
     requires items { (items.now ≡ J.items) × (0 < length items.now) }
-    requires room { head + length items.now ≤ tail_of seat.old.me.0.part.queue + seat.old.me.0.part.queue.room }
+    requires room { head + length items.now ≤ tail_of seat.old.me.0.seen.object + seat.old.me.0.first.room }
     requires new { (new ≡ head + length items.now) × (new < POSITIONS) }
     ensures queue { IsSame seat.old seat.new × (seat.new.me.1 ≡ seat.old.me.1) }
-    ensures hit { result ≡ head → Claimed J.call seat.old.me.0 head J.items seat.new.me.0 }
+    ensures hit { result ≡ head → Claimed seat.old.me.0 head J.items seat.new.me.0 }
     ensures miss { result ≢ head → Found seat.old.me.0 head_word result seat.new.me.0
-        × (result ≡ head_of seat.new.me.0.part.queue + mark seat.new.me.0.part.queue.shut) }
+        × (result ≡ head_of seat.new.me.0.seen.object + mark seat.new.me.0.seen.object.shut) }
 {
     let _ = items;
     words.compare_exchange::<Claims<J>>(seat, HEAD, head, new)
@@ -85,16 +86,15 @@ pub(crate) fn store_data<J: Spot>(
     item: u64,
 )
     requires queue { (seat.old.table_id ≡ words.now.table_id) × (words.now.table_id.words ≡ width room)
-        × (0 < room) × (room ≤ MOST_PLACES) × (seat.old.me.0.part.queue.room ≡ room) }
-    requires call { J.call ≡ seat.old.id }
+        × (0 < room) × (room ≤ MOST_PLACES) × (seat.old.me.0.first.room ≡ room) }
+    requires live { 1 ≤ seat.old.me.0.member.ends }
     requires spot { (J.start ≡ start) × (J.index ≡ index) × (start < POSITIONS) × (index < MOST_PLACES) }
     requires mine { (e : Batch)
-        × (get_elem? seat.old.me.0.part.runs (number_of J.start seat.old.me.0.part.runs) ≡ some e)
-        × (e.start ≡ J.start) × (J.index < length e.places) × ((slice_index_or e.places J.index blank).written < 2)
+        × (get_elem? seat.old.me.0.own.runs (number_of J.start seat.old.me.0.own.runs) ≡ some e)
+        × (e.start ≡ J.start) × (J.index < length e.places) × ((slice_index_or e.places J.index blank).written ≡ 0)
         × (item ≡ (slice_index_or e.places J.index blank).item) }
     ensures queue { IsSame seat.old seat.new × (seat.new.me.1 ≡ seat.old.me.1) }
-    ensures wrote { Wrote J.call seat.old.me.0 (number_of J.start seat.old.me.0.part.runs) J.index 1
-        (data_word room (start + index)) item seat.new.me.0 }
+    ensures wrote { Wrote seat.old.me.0 J.start J.index 1 (data_word room (start + index)) seat.new.me.0 }
 {
     words.store::<StoresData<J>>(seat, data_word(room, start as usize + index), item);
 }
@@ -107,15 +107,14 @@ pub(crate) fn store_flag<J: Spot>(
     index: usize,
 )
     requires queue { (seat.old.table_id ≡ words.now.table_id) × (words.now.table_id.words ≡ width room)
-        × (0 < room) × (room ≤ MOST_PLACES) × (seat.old.me.0.part.queue.room ≡ room) }
-    requires call { J.call ≡ seat.old.id }
+        × (0 < room) × (room ≤ MOST_PLACES) × (seat.old.me.0.first.room ≡ room) }
+    requires live { 1 ≤ seat.old.me.0.member.ends }
     requires spot { (J.start ≡ start) × (J.index ≡ index) × (start < POSITIONS) × (index < MOST_PLACES) }
     requires mine { (e : Batch)
-        × (get_elem? seat.old.me.0.part.runs (number_of J.start seat.old.me.0.part.runs) ≡ some e)
+        × (get_elem? seat.old.me.0.own.runs (number_of J.start seat.old.me.0.own.runs) ≡ some e)
         × (e.start ≡ J.start) × (J.index < length e.places) × ((slice_index_or e.places J.index blank).written ≡ 1) }
     ensures queue { IsSame seat.old seat.new × (seat.new.me.1 ≡ seat.old.me.1) }
-    ensures wrote { Wrote J.call seat.old.me.0 (number_of J.start seat.old.me.0.part.runs) J.index 2
-        (flag_word room (start + index)) (start + index + 1) seat.new.me.0 }
+    ensures wrote { Wrote seat.old.me.0 J.start J.index 2 (flag_word room (start + index)) seat.new.me.0 }
 {
     let word = flag_word(room, start as usize + index);
     words.store::<StoresFlag<J>>(seat, word, start + index as u64 + 1);
@@ -123,70 +122,66 @@ pub(crate) fn store_flag<J: Spot>(
 
 pub(crate) fn load_flag(words: &Words, seat: &mut Seat<(), View>, room: usize, position: u64) -> u64
     requires queue { (seat.old.table_id ≡ words.now.table_id) × (words.now.table_id.words ≡ width room)
-        × (0 < room) × (room ≤ MOST_PLACES) × (seat.old.me.0.part.queue.room ≡ room) }
+        × (0 < room) × (room ≤ MOST_PLACES) × (seat.old.me.0.first.room ≡ room) }
     requires live { 1 ≤ seat.old.me.0.member.ends }
-    requires near { (seat.old.me.0.part.queue.first ≤ position)
-        × (position < tail_of seat.old.me.0.part.queue + room) × (position < 2 * POSITIONS) }
+    requires near { (seat.old.me.0.seen.object.first ≤ position)
+        × (position < tail_of seat.old.me.0.seen.object + room) × (position < 2 * POSITIONS) }
     ensures queue { IsSame seat.old seat.new × (seat.new.me.1 ≡ seat.old.me.1) }
     ensures found { Found seat.old.me.0 (flag_word room position) result seat.new.me.0 }
     ensures raised { result ≡ position + 1
-        → 2 ≤ written_at seat.new.me.0.part.queue (position - seat.new.me.0.part.queue.first) }
-    ensures low { result ≢ position + 1 → tail_of seat.new.me.0.part.queue ≤ position
-        → written_at seat.new.me.0.part.queue (position - seat.new.me.0.part.queue.first) < 2 }
+        → 2 ≤ written_at seat.new.me.0.seen.object (position - seat.new.me.0.seen.object.first) }
+    ensures low { result ≢ position + 1 → tail_of seat.new.me.0.seen.object ≤ position
+        → written_at seat.new.me.0.seen.object (position - seat.new.me.0.seen.object.first) < 2 }
+    ensures not_mine { result ≢ position + 1 → tail_of seat.new.me.0.seen.object ≤ position
+        → HasRaised seat.new.me.0.own.runs position → ⊥ }
 {
     load(words, seat, flag_word(room, position as usize))
 }
 
 pub(crate) fn load_data(words: &Words, seat: &mut Seat<(), View>, room: usize, position: u64) -> u64
     requires queue { (seat.old.table_id ≡ words.now.table_id) × (words.now.table_id.words ≡ width room)
-        × (0 < room) × (room ≤ MOST_PLACES) × (seat.old.me.0.part.queue.room ≡ room) }
+        × (0 < room) × (room ≤ MOST_PLACES) × (seat.old.me.0.first.room ≡ room) }
     requires live { 1 ≤ seat.old.me.0.member.ends }
-    requires near { (seat.old.me.0.part.queue.first ≤ position)
-        × (position < tail_of seat.old.me.0.part.queue + room) × (position < 2 * POSITIONS) }
-    requires raised { 2 ≤ written_at seat.old.me.0.part.queue (position - seat.old.me.0.part.queue.first) }
+    requires near { (seat.old.me.0.seen.object.first ≤ position)
+        × (position < tail_of seat.old.me.0.seen.object + room) × (position < 2 * POSITIONS) }
+    requires raised { 2 ≤ written_at seat.old.me.0.seen.object (position - seat.old.me.0.seen.object.first) }
     ensures queue { IsSame seat.old seat.new × (seat.new.me.1 ≡ seat.old.me.1) }
     ensures found { Found seat.old.me.0 (data_word room position) result seat.new.me.0 }
-    ensures item { tail_of seat.new.me.0.part.queue ≤ position
-        → result ≡ item_at seat.new.me.0.part.queue (position - seat.new.me.0.part.queue.first) }
+    ensures item { tail_of seat.new.me.0.seen.object ≤ position
+        → result ≡ item_at seat.new.me.0.seen.object (position - seat.new.me.0.seen.object.first) }
 {
     load(words, seat, data_word(room, position as usize))
 }
 
-pub(crate) fn exchange_tail<J: Caller>(
-    words: &Words,
-    seat: &mut Seat<(), View>,
-    tail: u64,
-    new: u64,
-) -> u64
+pub(crate) fn exchange_tail(words: &Words, seat: &mut Seat<(), View>, tail: u64, new: u64) -> u64
     requires queue { (seat.old.table_id ≡ words.now.table_id) × (FIRST_DATA ≤ words.now.table_id.words) }
     requires live { 1 ≤ seat.old.me.0.member.ends }
-    requires call { J.call ≡ seat.old.id }
-    requires new { (tail < new) × (seat.old.me.0.part.queue.first ≤ tail) }
+    requires new { (tail < new) × (seat.old.me.0.seen.object.first ≤ tail) }
     requires raised { (i : ℕ) → i < new - tail
-        → 2 ≤ written_at seat.old.me.0.part.queue (tail - seat.old.me.0.part.queue.first + i) }
+        → 2 ≤ written_at seat.old.me.0.seen.object (tail - seat.old.me.0.seen.object.first + i) }
     ensures queue { IsSame seat.old seat.new × (seat.new.me.1 ≡ seat.old.me.1) }
-    ensures hit { result ≡ tail → Took J.call seat.old.me.0 tail (new - tail) seat.new.me.0 }
+    ensures hit { result ≡ tail → Took seat.old.me.0 tail (new - tail) seat.new.me.0 }
     ensures miss { result ≢ tail → Found seat.old.me.0 tail_word result seat.new.me.0
-        × (result ≡ tail_of seat.new.me.0.part.queue) }
+        × (result ≡ tail_of seat.new.me.0.seen.object) }
 {
-    words.compare_exchange::<Takes<J>>(seat, TAIL, tail, new)
+    words.compare_exchange::<Takes>(seat, TAIL, tail, new)
 }
 
-pub(crate) fn or_head<J: Caller>(words: &Words, seat: &mut Seat<(), View>) -> u64
+pub(crate) fn or_head(words: &Words, seat: &mut Seat<(), View>) -> u64
     requires queue { (seat.old.table_id ≡ words.now.table_id) × (FIRST_DATA ≤ words.now.table_id.words) }
     requires live { 1 ≤ seat.old.me.0.member.ends }
-    requires call { J.call ≡ seat.old.id }
     ensures queue { IsSame seat.old seat.new × (seat.new.me.1 ≡ seat.old.me.1) }
-    ensures shut { Shut J.call seat.old.me.0 result seat.new.me.0 }
+    ensures shut { Shut seat.old.me.0 result seat.new.me.0 }
 {
-    words.fetch_or::<Shuts<J>>(seat, HEAD, SHUT)
+    words.fetch_or::<Shuts>(seat, HEAD, SHUT)
 }
 
 pub(crate) fn count_up(words: &Words, seat: &mut Seat<(), View>) -> u64
     requires queue { (seat.old.table_id ≡ words.now.table_id) × (FIRST_DATA ≤ words.now.table_id.words) }
     requires parts { seat.old.me.0.member.ends + 1 ≤ seat.old.me.0.member.share }
     ensures queue { IsSame seat.old seat.new × (seat.new.me.1 ≡ seat.old.me.1) }
-    ensures counted { CountedUp seat.old.me.0 result seat.new.me.0 }
+    ensures told { Told seat.old.me.0 seat.new.me.0 }
+    ensures counted { CountedUp ends_word seat.old.me.0 seat.new.me.0 }
 {
     words.fetch_add::<CountsUp>(seat, ENDS, 1)
 }
@@ -195,7 +190,8 @@ pub(crate) fn count_down(words: &Words, seat: &mut Seat<(), View>) -> u64
     requires queue { (seat.old.table_id ≡ words.now.table_id) × (FIRST_DATA ≤ words.now.table_id.words) }
     requires live { 2 ≤ seat.old.me.0.member.ends }
     ensures queue { IsSame seat.old seat.new × (seat.new.me.1 ≡ seat.old.me.1) }
-    ensures counted { CountedDown seat.old.me.0 result seat.new.me.0 }
+    ensures told { Told seat.old.me.0 seat.new.me.0 }
+    ensures counted { CountedDown ends_word seat.old.me.0 seat.new.me.0 × Distinct seat.new.me.0.own.runs }
 {
     words.fetch_sub::<CountsDown>(seat, ENDS, 1)
 }
@@ -204,7 +200,8 @@ pub(crate) fn count(words: &Words, seat: &mut Seat<(), View>) -> u64
     requires queue { (seat.old.table_id ≡ words.now.table_id) × (FIRST_DATA ≤ words.now.table_id.words) }
     requires live { seat.old.me.0.member.ends ≡ 1 }
     ensures queue { IsSame seat.old seat.new × (seat.new.me.1 ≡ seat.old.me.1) }
-    ensures tallied { Tallied seat.old.me.0 result seat.new.me.0 }
+    ensures told { Told seat.old.me.0 seat.new.me.0 }
+    ensures tallied { Tallied ends_word seat.old.me.0 result seat.new.me.0 }
 {
     words.load::<Counts>(seat, ENDS)
 }
@@ -213,7 +210,8 @@ pub(crate) fn split_off(words: &Words, seat: &mut Seat<(), View>) -> Seat<(), Vi
     requires queue { (seat.old.table_id ≡ words.now.table_id) × (FIRST_DATA ≤ words.now.table_id.words) }
     requires live { seat.old.me.0.member.ends ≡ 2 }
     ensures queue { IsSame seat.old seat.new × (result.table_id ≡ seat.old.table_id) }
-    ensures split { (seat.new.me ≡ (rest_of seat.old.me.0, seat.old.me.1)) × (result.me ≡ (newborn seat.old.me.0, [])) }
+    ensures split { (seat.new.me ≡ (rest_of seat.old.me.0, seat.old.me.1))
+        × (result.me ≡ (newborn nothing_did seat.old.me.0, [])) }
 {
     words.split_seat::<Gives>(seat)
 }
@@ -222,9 +220,9 @@ pub(crate) fn take_in<J: Spent>(words: &Words, seat: &mut Seat<(), View>, other:
     requires queue { (seat.old.table_id ≡ words.now.table_id) × (other.table_id ≡ words.now.table_id)
         × (other.me.1 ≡ []) × (FIRST_DATA ≤ words.now.table_id.words) }
     requires live { (1 ≤ seat.old.me.0.member.ends) × (1 ≤ other.me.0.member.ends) }
-    requires spent { J.view ≡ emptied seat.old.me.0 }
+    requires spent { J.view ≡ emptied nothing_did seat.old.me.0 }
     ensures queue { IsSame seat.old seat.new }
-    ensures joined { seat.new.me ≡ (both seat.old.me.0 other.me.0, seat.old.me.1) }
+    ensures joined { seat.new.me ≡ (both did_both seat.old.me.0 other.me.0, seat.old.me.1) }
 {
     words.join_seat::<Joins<J>>(seat, other);
 }

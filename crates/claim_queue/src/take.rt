@@ -1,19 +1,17 @@
 //! Takings: an end reads what is raised behind the tail, and takes it by one exchange of the tail.
 ghost use Rattle.std.specs.Prelude.{◌≡◌, ◌+◌, ◌-◌, ◌<◌, ◌≤◌, ◌∷◌, [], length, MatchResult, MatchBool, IsFalse};
 ghost use Rattle.table_theory.specs.declared.positions.TheConstants.{POSITIONS};
-ghost use Rattle.table_theory.specs.Positioned.{tail_of, written_at};
+ghost use Rattle.table_theory.specs.Positioned.{tail_of};
 ghost use Rattle.claim_queue.specs.Claims.{KeepsClaims};
 ghost use Rattle.claim_queue.specs.Lines.{SameLines, TookLine};
-ghost use Rattle.claim_queue.specs.Takings.{TookItems, RefusedTake, Scanned, StoppedAt, PausedTake};
-ghost use Rattle.claim_queue.specs.Takings.{IsLine, IsBegun, IsOne, IsNone, IsRefusedAt};
-ghost use Rattle.claim_queue.specs.Reads.{HasFound};
+ghost use Rattle.claim_queue.specs.Takings.{TookItems, RefusedTake, PausedTake, IsLine, IsBegun, IsOne, IsNone};
+ghost use Rattle.claim_queue.specs.Reads.{HasFound, IsScanned, IsStopped, IsRefusedAt};
 
 use crate::ends::{ClaimQueue, QueueEnd};
 use crate::layout::SHUT;
 use crate::pause::{NoPause, Pause};
 use crate::steps::{exchange_tail, load_data, load_flag, load_head, load_tail};
 use arrayvec::ArrayVec;
-use std::marker::Brand;
 use thiserror::Error;
 
 /// Why nothing was taken.
@@ -32,18 +30,17 @@ pub enum TakeRefusal {
 }
 
 impl<const N: usize> ClaimQueue<N> {
-    ghost use Rattle.claim_queue.specs.Handles.{view_of, call_of, first_of, IsEndOf, IsSameEnd, AreOfOneQueue};
+    ghost use Rattle.claim_queue.specs.Handles.{view_of, IsEndOf, IsSameEnd};
 
     /// One try to take the first item left.
     pub fn try_take(&self, end: &mut QueueEnd<N>) -> Result<u64, TakeRefusal>
         requires { IsEndOf self.now end.old }
-        ensures queue { IsSameEnd end.old end.new }
-        ensures taken { MatchResult result
-            (λ x. TookItems N (call_of end.old) (view_of end.old) (x ∷ []) (view_of end.new))
-            (λ r. RefusedTake IsNone IsOne N (view_of end.old) r (view_of end.new)) }
-        ensures others { KeepsClaims (view_of end.old) (view_of end.new) }
         ensures lines { MatchResult result (λ x. TookLine (x ∷ []) (view_of end.old) (view_of end.new))
             (λ r. SameLines (view_of end.old) (view_of end.new)) }
+        ensures steps { MatchResult result (λ x. TookItems N (view_of end.old) (x ∷ []) (view_of end.new))
+            (λ r. RefusedTake IsNone IsOne N (view_of end.old) r (view_of end.new)) }
+        ensures others { KeepsClaims (view_of end.old) (view_of end.new) }
+        ensures same { IsSameEnd end.old end.new }
     {
         self.try_take_paused(end, &mut NoPause)
     }
@@ -56,13 +53,12 @@ impl<const N: usize> ClaimQueue<N> {
         pause: &mut P,
     ) -> Result<u64, TakeRefusal>
         requires { IsEndOf self.now end.old }
-        ensures queue { IsSameEnd end.old end.new }
-        ensures taken { MatchResult result
-            (λ x. TookItems N (call_of end.old) (view_of end.old) (x ∷ []) (view_of end.new))
-            (λ r. RefusedTake IsNone IsOne N (view_of end.old) r (view_of end.new)) }
-        ensures others { KeepsClaims (view_of end.old) (view_of end.new) }
         ensures lines { MatchResult result (λ x. TookLine (x ∷ []) (view_of end.old) (view_of end.new))
             (λ r. SameLines (view_of end.old) (view_of end.new)) }
+        ensures steps { MatchResult result (λ x. TookItems N (view_of end.old) (x ∷ []) (view_of end.new))
+            (λ r. RefusedTake IsNone IsOne N (view_of end.old) r (view_of end.new)) }
+        ensures others { KeepsClaims (view_of end.old) (view_of end.new) }
+        ensures same { IsSameEnd end.old end.new }
         ensures paused { MatchResult result (λ x. P.paused pause.old pause.new)
             (λ r. PausedTake P.paused N (view_of end.old) r (view_of end.new) pause.old pause.new) }
     {
@@ -73,7 +69,7 @@ impl<const N: usize> ClaimQueue<N> {
         }
         let item = load_data(&self.table.shared, &mut end.seat, N, tail);
         pause.between();
-        let found = exchange_tail::<Brand>(&self.table.shared, &mut end.seat, tail, tail + 1);
+        let found = exchange_tail(&self.table.shared, &mut end.seat, tail, tail + 1);
         if found != tail {
             return Err(TakeRefusal::Lost { tail: found as u32 });
         }
@@ -84,8 +80,9 @@ impl<const N: usize> ClaimQueue<N> {
     fn refusal_at(&self, end: &mut QueueEnd<N>, tail: u64, at: u64) -> TakeRefusal
         requires queue { IsEndOf self.now end.old }
         requires bounded { (tail < POSITIONS) × (at < POSITIONS) }
-        ensures queue { IsSameEnd end.old end.new }
+        requires passed { tail ≤ tail_of (view_of end.old).seen.object }
         ensures why { IsRefusedAt (view_of end.old) tail at result (view_of end.new) }
+        ensures same { IsSameEnd end.old end.new }
     {
         let head = load_head(&self.table.shared, &mut end.seat);
         if head == SHUT + tail {
@@ -103,15 +100,12 @@ impl<const N: usize> ClaimQueue<N> {
         requires queue { IsEndOf self.now end.old }
         requires started { HasFound (view_of end.old) tail [] × (tail < POSITIONS) }
         requires empty { line.old.items ≡ [] }
-        ensures queue { IsSameEnd end.old end.new }
         ensures found { HasFound (view_of end.new) tail line.new.items }
         ensures steps { MatchBool result
-            (Scanned N (view_of end.old) tail line.new.items (view_of end.new) × IsLine N line.new.items)
-            (StoppedAt N (view_of end.old) tail line.new.items (view_of end.new) × IsBegun N line.new.items) }
+            (IsScanned N (view_of end.old) tail line.new.items (view_of end.new) × IsLine N line.new.items)
+            (IsStopped N (view_of end.old) tail line.new.items (view_of end.new) × IsBegun N line.new.items) }
         ensures short { IsFalse result → tail + length line.new.items < POSITIONS }
-        ensures low { IsFalse result → tail_of (view_of end.new).part.queue ≤ tail
-            → written_at (view_of end.new).part.queue (tail + length line.new.items -
-            (view_of end.new).part.queue.first) < 2 }
+        ensures same { IsSameEnd end.old end.new }
     {
         for i in 0..N {
             let position = tail + i as u64;
@@ -140,13 +134,14 @@ impl<const N: usize> ClaimQueue<N> {
     ) -> Result<usize, TakeRefusal>
         requires queue { IsEndOf self.now end.old }
         requires empty { line.old.items ≡ [] }
-        ensures queue { IsSameEnd end.old end.new }
-        ensures taken { MatchResult result (λ n. (n ≡ length line.new.items) × IsLine N line.new.items
-            × TookItems N (call_of end.old) (view_of end.old) line.new.items (view_of end.new))
-            (λ r. (line.new.items ≡ []) × RefusedTake (IsBegun N) (IsLine N) N (view_of end.old) r (view_of end.new)) }
-        ensures others { KeepsClaims (view_of end.old) (view_of end.new) }
+        ensures line { MatchResult result (λ n. (n ≡ length line.new.items) × IsLine N line.new.items)
+            (λ r. line.new.items ≡ []) }
         ensures lines { MatchResult result (λ n. TookLine line.new.items (view_of end.old) (view_of end.new))
             (λ r. SameLines (view_of end.old) (view_of end.new)) }
+        ensures steps { MatchResult result (λ n. TookItems N (view_of end.old) line.new.items (view_of end.new))
+            (λ r. RefusedTake (IsBegun N) (IsLine N) N (view_of end.old) r (view_of end.new)) }
+        ensures others { KeepsClaims (view_of end.old) (view_of end.new) }
+        ensures same { IsSameEnd end.old end.new }
     {
         let tail = load_tail(&self.table.shared, &mut end.seat);
         if !self.scan(end, tail, line) {
@@ -155,12 +150,7 @@ impl<const N: usize> ClaimQueue<N> {
             return Err(self.refusal_at(end, tail, at));
         }
         let count = line.len();
-        let found = exchange_tail::<Brand>(
-            &self.table.shared,
-            &mut end.seat,
-            tail,
-            tail + count as u64,
-        );
+        let found = exchange_tail(&self.table.shared, &mut end.seat, tail, tail + count as u64);
         if found != tail {
             line.clear();
             return Err(TakeRefusal::Lost { tail: found as u32 });

@@ -16,7 +16,7 @@ one_shut q true e = let h : times_shut q ≡ 1 = cc in omega arith
 one_shut q false e = let h : times_shut q ≡ 0 = cc in omega arith
 
 pub is_closed : {n : ℕ} (queue : ClaimQueue n) (end : QueueEnd n) (closed : Closed n) → closed.first ≡ first_of queue → ClosedNow (view_of end) closed.first closed.put closed.taken closed.left.items → IsClosed queue end closed
-is_closed queue end closed starts c = let q = c.queue in let items = map item_of q.places in record {
+is_closed queue end closed starts c = let q = (view_of end).seen.object in let items = map item_of q.places in record {
   starts = starts;
   now = c;
   items = items;

@@ -1,12 +1,13 @@
 -- What a split and a join of all chain ends of a list say together.
-use Rattle.std.proofs.Common.{◌≡◌, ◌+◌, ◌||◌, Bool, false, List, [], ◌++◌, refl, ap, subst, ◌∙◌}
+use Rattle.std.proofs.Common.{◌≡◌, ◌+◌, ◌||◌, Bool, false, List, [], ◌++◌, map, refl, ap, subst, ◌∙◌}
 use Rattle.std.proofs.lemmas.List.{map-append}
-use Rattle.table_theory.specs.declared.views.Member.{Member}
+use Rattle.table_theory.specs.declared.views.Part.{Part}
 use Rattle.table_theory.specs.Sharing.{given, kept}
 use Rattle.proc_chain.specs.declared.ends.ChainEnd.{ChainEnd}
 use Rattle.proc_chain.specs.declared.ends.ProcChain.{ProcChain}
 use Rattle.proc_chain.specs.declared.quaject.Quaject.{Ghosts}
-use Rattle.proc_chain.specs.declared.rule.View.{View}
+use Rattle.proc_chain.specs.declared.rule.Did.{Did}
+use Rattle.proc_chain.specs.Own.{View}
 use Rattle.proc_chain.specs.Endings.{TookIn, Joined}
 use Rattle.proc_chain.specs.Handles.{view_of, me_of, turn_of, IsEndOf}
 use Rattle.proc_chain.specs.Notes.{line_of, notes_put, notes_taken}
@@ -29,9 +30,9 @@ module _ {Q W : Type 0} {g : Ghosts Q W} where
   pub are_chains_split : (old new born : List (ChainEnd Q W g)) → AllThree IsChainSplit old new born → AreChainsSplit old new born
   are_chains_split old new born h = record {
     each = h;
-    puts = map_three IsChainSplit chain_end_puts chain_end_puts (λ x y z s. ap notes_put s.0.same) old new born h;
-    takes = map_three IsChainSplit chain_end_takes chain_end_takes (λ x y z s. ap notes_taken s.0.same) old new born h;
-    shares = at_three IsChainSplit chain_end_share chain_end_share chain_end_share (λ a b c. b ≡ kept a) 0 refl (λ x y z s. ap (λ (m : Member). m.share) s.0.member.same) old new born h;
+    puts = map_three IsChainSplit chain_end_puts chain_end_puts (λ x y z s. ap (λ (d : Did). map line_of d.runs) s.0.own) old new born h;
+    takes = map_three IsChainSplit chain_end_takes chain_end_takes (λ x y z s. ap (λ (d : Did). map line_of d.takes) s.0.own) old new born h;
+    shares = at_three IsChainSplit chain_end_share chain_end_share chain_end_share (λ a b c. b ≡ kept a) 0 refl (λ x y z s. ap (λ (m : Part). m.share) s.0.member) old new born h;
     none_put = at_three IsChainSplit chain_end_puts chain_end_puts chain_end_puts (λ a b c. c ≡ []) [] refl (λ x y z s. ap notes_put s.1) old new born h;
     none_taken = at_three IsChainSplit chain_end_takes chain_end_takes chain_end_takes (λ a b c. c ≡ []) [] refl (λ x y z s. ap notes_taken s.1) old new born h;
     given_are = at_three IsChainSplit chain_end_share chain_end_share chain_end_share (λ a b c. c ≡ given a) 0 refl (λ x y z s. ap (λ (v : View). v.member.share) s.1) old new born h;
@@ -40,7 +41,7 @@ module _ {Q W : Type 0} {g : Ghosts Q W} where
   pub are_chains_joined : (old new others : List (ChainEnd Q W g)) → AllThree IsChainJoined old new others → AreChainsJoined old others new
   are_chains_joined old new others h = record {
     each = h;
-    puts = at_three IsChainJoined chain_end_puts chain_end_puts chain_end_puts (λ a b c. b ≡ a ++ c) [] refl (λ x y z s. ap notes_put s.same ∙ map-append line_of (view_of x).part.runs (view_of z).part.runs) old new others h;
-    takes = at_three IsChainJoined chain_end_takes chain_end_takes chain_end_takes (λ a b c. b ≡ a ++ c) [] refl (λ x y z s. ap notes_taken s.same ∙ map-append line_of (view_of x).part.takes (view_of z).part.takes) old new others h;
-    shares = at_three IsChainJoined chain_end_share chain_end_share chain_end_share (λ a b c. b ≡ a + c) 0 refl (λ x y z s. ap (λ (m : Member). m.share) s.member.same) old new others h;
+    puts = at_three IsChainJoined chain_end_puts chain_end_puts chain_end_puts (λ a b c. b ≡ a ++ c) [] refl (λ x y z s. ap (λ (d : Did). map line_of d.runs) s.0.own ∙ map-append line_of (view_of x).own.runs (view_of z).own.runs) old new others h;
+    takes = at_three IsChainJoined chain_end_takes chain_end_takes chain_end_takes (λ a b c. b ≡ a ++ c) [] refl (λ x y z s. ap (λ (d : Did). map line_of d.takes) s.0.own ∙ map-append line_of (view_of x).own.takes (view_of z).own.takes) old new others h;
+    shares = at_three IsChainJoined chain_end_share chain_end_share chain_end_share (λ a b c. b ≡ a + c) 0 refl (λ x y z s. ap (λ (m : Part). m.share) s.0.member) old new others h;
   }

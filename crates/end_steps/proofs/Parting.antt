@@ -1,14 +1,20 @@
 -- What a split and a join of all ends of a list say together.
-use Rattle.std.proofs.Common.{◌≡◌, ℕ, zero, suc, ◌+◌, true, false, List, [], ◌∷◌, ◌++◌, refl, sym, ap, subst, ◌∙◌}
+use Rattle.std.proofs.Common.{◌≡◌, ℕ, zero, suc, ◌+◌, true, false, List, [], ◌∷◌, ◌++◌, map, refl, sym, ap, subst, ◌∙◌}
+use Rattle.std.proofs.Math.Logic.{∥∥₁_elim}
+use Rattle.std.proofs.Math.Bool.{Bool-set}
 use Rattle.std.proofs.lemmas.List.{map-append}
 use Rattle.table_theory.specs.declared.queues.Batch.{Batch}
-use Rattle.table_theory.specs.declared.views.Member.{Member}
+use Rattle.table_theory.specs.declared.views.Part.{Part}
 use Rattle.table_theory.specs.Listing.{AllRaised}
+use Rattle.table_theory.specs.Positioned.{Grows}
 use Rattle.table_theory.specs.Sharing.{given, kept}
 use Rattle.claim_queue.specs.declared.ends.QueueEnd.{QueueEnd}
-use Rattle.claim_queue.specs.declared.rule.View.{View}
+use Rattle.claim_queue.specs.declared.rule.Did.{Did}
+use Rattle.claim_queue.specs.Own.{View}
 use Rattle.claim_queue.specs.Handles.{view_of}
 use Rattle.claim_queue.specs.Lines.{line_of, lines_put, lines_taken}
+use Rattle.claim_queue.proofs.Certain.{honest_end, still_shut}
+use Rattle.claim_queue.proofs.Ordered.{join_grows, join_grows_other}
 use Rattle.end_steps.specs.EndLists.{end_puts, end_takes, end_share, end_shuts, end_knows_shut, HasRaised}
 use Rattle.end_steps.specs.Splits.{AllThree, IsSplit, IsJoined, AreSplit, AreJoined}
 use Rattle.end_steps.proofs.Walking.{at_three, map_three, all_three, all_third}
@@ -22,31 +28,38 @@ raised_both (x ∷ a) b ha hb zero e at i l = ha zero e at i l
 raised_both (x ∷ a) b ha hb (suc m) e at i l = raised_both a b (λ m. ha (suc m)) hb m e at i l
 
 module _ {n : ℕ} where
+  -- a queue that either end knew to be shut is shut
+  joined_shut : (x y z : QueueEnd n) → IsJoined x y z → (view_of x).seen.object.shut ≡ true → (view_of y).seen.object.shut ≡ true
+  joined_shut x y z s k = ∥∥₁_elim (join_grows (view_of x) (view_of z) (view_of y) (honest_end x) (honest_end y) s) (Bool-set _ _) (λ (g : Grows (view_of x).seen.object (view_of y).seen.object). g.shut k)
+
+  joined_other_shut : (x y z : QueueEnd n) → IsJoined x y z → (view_of z).seen.object.shut ≡ true → (view_of y).seen.object.shut ≡ true
+  joined_other_shut x y z s k = ∥∥₁_elim (join_grows_other (view_of x) (view_of z) (view_of y) (honest_end z) (honest_end y) s) (Bool-set _ _) (λ (g : Grows (view_of z).seen.object (view_of y).seen.object). g.shut k)
+
   pub are_split : (old new born : List (QueueEnd n)) → AllThree IsSplit old new born → AreSplit old new born
   are_split old new born h = record {
     each = h;
-    puts = map_three IsSplit end_puts end_puts (λ x y z s. ap lines_put s.0.same) old new born h;
-    takes = map_three IsSplit end_takes end_takes (λ x y z s. ap lines_taken s.0.same) old new born h;
-    shuts = map_three IsSplit end_shuts end_shuts (λ x y z s. ap (λ (v : View). v.shuts) s.0.same) old new born h;
-    shares = at_three IsSplit end_share end_share end_share (λ a b c. b ≡ kept a) 0 refl (λ x y z s. ap (λ (m : Member). m.share) s.0.member.same) old new born h;
-    raised = λ all. all_three IsSplit HasRaised HasRaised (λ z. Unit {0}) (λ x y z s r t. subst AllRaised (sym (ap (λ (v : View). v.part.runs) s.0.same)) r) old new born h all (λ k d l. tt);
-    known = at_three IsSplit end_knows_shut end_knows_shut end_knows_shut (λ a b c. a ≡ true → b ≡ true) false (λ k. k) (λ x y z s k. ap (λ (v : View). v.part.queue.shut) s.0.same ∙ s.0.sees.later.0.shut k) old new born h;
+    puts = map_three IsSplit end_puts end_puts (λ x y z s. ap (λ (d : Did). map line_of d.runs) s.0.own) old new born h;
+    takes = map_three IsSplit end_takes end_takes (λ x y z s. ap (λ (d : Did). map line_of d.takes) s.0.own) old new born h;
+    shuts = map_three IsSplit end_shuts end_shuts (λ x y z s. ap (λ (d : Did). d.shuts) s.0.own) old new born h;
+    shares = at_three IsSplit end_share end_share end_share (λ a b c. b ≡ kept a) 0 refl (λ x y z s. ap (λ (m : Part). m.share) s.0.member) old new born h;
+    raised = λ all. all_three IsSplit HasRaised HasRaised (λ z. Unit {0}) (λ x y z s r t. subst AllRaised (sym (ap (λ (d : Did). d.runs) s.0.own)) r) old new born h all (λ k d l. tt);
+    known = at_three IsSplit end_knows_shut end_knows_shut end_knows_shut (λ a b c. a ≡ true → b ≡ true) false (λ k. k) (λ x y z s k. still_shut x y _ s.0.adds k) old new born h;
     none_put = at_three IsSplit end_puts end_puts end_puts (λ a b c. c ≡ []) [] refl (λ x y z s. ap lines_put s.1) old new born h;
     none_taken = at_three IsSplit end_takes end_takes end_takes (λ a b c. c ≡ []) [] refl (λ x y z s. ap lines_taken s.1) old new born h;
-    none_shut = at_three IsSplit end_shuts end_shuts end_shuts (λ a b c. c ≡ 0) 0 refl (λ x y z s. ap (λ (v : View). v.shuts) s.1) old new born h;
+    none_shut = at_three IsSplit end_shuts end_shuts end_shuts (λ a b c. c ≡ 0) 0 refl (λ x y z s. ap (λ (v : View). v.own.shuts) s.1) old new born h;
     given_are = at_three IsSplit end_share end_share end_share (λ a b c. c ≡ given a) 0 refl (λ x y z s. ap (λ (v : View). v.member.share) s.1) old new born h;
-    born_raised = all_third IsSplit HasRaised (λ x y z s. none_raised _ (ap (λ (v : View). v.part.runs) s.1)) old new born h;
+    born_raised = all_third IsSplit HasRaised (λ x y z s. none_raised _ (ap (λ (v : View). v.own.runs) s.1)) old new born h;
   }
 
   pub are_joined : (old new others : List (QueueEnd n)) → AllThree IsJoined old new others → AreJoined old others new
   are_joined old new others h = record {
     each = h;
-    puts = at_three IsJoined end_puts end_puts end_puts (λ a b c. b ≡ a ++ c) [] refl (λ x y z s. ap lines_put s.same ∙ map-append line_of (view_of x).part.runs (view_of z).part.runs) old new others h;
-    takes = at_three IsJoined end_takes end_takes end_takes (λ a b c. b ≡ a ++ c) [] refl (λ x y z s. ap lines_taken s.same ∙ map-append line_of (view_of x).part.takes (view_of z).part.takes) old new others h;
-    shuts = at_three IsJoined end_shuts end_shuts end_shuts (λ a b c. b ≡ a + c) 0 refl (λ x y z s. ap (λ (v : View). v.shuts) s.same) old new others h;
-    shares = at_three IsJoined end_share end_share end_share (λ a b c. b ≡ a + c) 0 refl (λ x y z s. ap (λ (m : Member). m.share) s.member.same) old new others h;
+    puts = at_three IsJoined end_puts end_puts end_puts (λ a b c. b ≡ a ++ c) [] refl (λ x y z s. ap (λ (d : Did). map line_of d.runs) s.own ∙ map-append line_of (view_of x).own.runs (view_of z).own.runs) old new others h;
+    takes = at_three IsJoined end_takes end_takes end_takes (λ a b c. b ≡ a ++ c) [] refl (λ x y z s. ap (λ (d : Did). map line_of d.takes) s.own ∙ map-append line_of (view_of x).own.takes (view_of z).own.takes) old new others h;
+    shuts = at_three IsJoined end_shuts end_shuts end_shuts (λ a b c. b ≡ a + c) 0 refl (λ x y z s. ap (λ (d : Did). d.shuts) s.own) old new others h;
+    shares = at_three IsJoined end_share end_share end_share (λ a b c. b ≡ a + c) 0 refl (λ x y z s. ap (λ (m : Part). m.share) s.member) old new others h;
     raised = all_three IsJoined HasRaised HasRaised HasRaised
-        (λ x y z s p t. subst AllRaised (sym (ap (λ (v : View). v.part.runs) s.same)) (raised_both (view_of x).part.runs (view_of z).part.runs p t)) old new others h;
-    known = at_three IsJoined end_knows_shut end_knows_shut end_knows_shut (λ a b c. a ≡ true → b ≡ true) false (λ k. k) (λ x y z s k. s.sees.later.0.shut k) old new others h;
-    others_known = at_three IsJoined end_knows_shut end_knows_shut end_knows_shut (λ a b c. c ≡ true → b ≡ true) false (λ k. k) (λ x y z s k. s.sees.later.1.shut k) old new others h;
+        (λ x y z s p t. subst AllRaised (sym (ap (λ (d : Did). d.runs) s.own)) (raised_both (view_of x).own.runs (view_of z).own.runs p t)) old new others h;
+    known = at_three IsJoined end_knows_shut end_knows_shut end_knows_shut (λ a b c. a ≡ true → b ≡ true) false (λ k. k) (λ x y z s k. joined_shut x y z s k) old new others h;
+    others_known = at_three IsJoined end_knows_shut end_knows_shut end_knows_shut (λ a b c. c ≡ true → b ≡ true) false (λ k. k) (λ x y z s k. joined_other_shut x y z s k) old new others h;
   }

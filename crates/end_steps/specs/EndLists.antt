@@ -55,15 +55,15 @@ module _ {n : ℕ} where
   end_share end = (queues.view_of end).member.share
 
   abbrev pub end_shuts : QueueEnd n → ℕ
-  end_shuts end = (queues.view_of end).shuts
+  end_shuts end = (queues.view_of end).own.shuts
 
   -- whether the queue was shut when the end last looked
   abbrev pub end_knows_shut : QueueEnd n → Bool
-  end_knows_shut end = (queues.view_of end).part.queue.shut
+  end_knows_shut end = (queues.view_of end).seen.object.shut
 
   -- the end has raised all that it claimed
   abbrev pub HasRaised : QueueEnd n → Type 0
-  HasRaised end = AllRaised (queues.view_of end).part.runs
+  HasRaised end = AllRaised (queues.view_of end).own.runs
 
   -- the end claimed its runs one behind the other
   abbrev pub ClaimedInOrder : QueueEnd n → Type 0
@@ -115,7 +115,7 @@ module _ {Q W : Type 0} {g : Ghosts Q W} where
   chain_end_table end = end.seat.table_id
 
   abbrev pub chain_end_call : ChainEnd Q W g → ℕ
-  chain_end_call end = chains.call_of end
+  chain_end_call end = end.seat.id
 
   abbrev pub chain_end_puts : ChainEnd Q W g → List (List ℕ)
   chain_end_puts end = notes_put (chains.view_of end)

@@ -30,8 +30,8 @@ module _ {n : ℕ} where
   abbrev pub IsJoined : QueueEnd n → QueueEnd n → QueueEnd n → Type 0
   IsJoined old new other = queues.TookIn (view_of old) (view_of other) (view_of new)
 
-  -- Each end was split. The old ends have their lines and what is left of their shares; the new ones have the parts that
-  -- were given away, and have put and taken no line and shut nothing
+  -- Each end was split. The old ends have their lines and what is left of their shares; the new ones have the parts
+  -- that were given away, and have put and taken no line and shut nothing
   pub record AreSplit (old new born : List (QueueEnd n)) : Type 0 where
     pub each : AllThree IsSplit old new born
     pub puts : map end_puts new ≡ map end_puts old
@@ -68,8 +68,8 @@ module _ {Q W : Type 0} {g : Ghosts Q W} where
   IsChainJoined old new other =
       chains.TookIn (chain_ends.view_of old) (chain_ends.view_of other) (chain_ends.view_of new)
 
-  -- Each end was split. The old ends have their notes and what is left of their shares; the new ones have the parts that
-  -- were given away, and have chained and run no note
+  -- Each end was split. The old ends have their notes and what is left of their shares; the new ones have the parts
+  -- that were given away, and have chained and run no note
   pub record AreChainsSplit (old new born : List (ChainEnd Q W g)) : Type 0 where
     pub each : AllThree IsChainSplit old new born
     pub puts : map chain_end_puts new ≡ map chain_end_puts old

@@ -24,10 +24,10 @@ pub fn split_chain_ends_into(
     requires ends { AreChainEndsOf chains.now ends.old }
     requires parts { All IsChainDivisible ends.old }
     requires room { (born.items ≡ []) × (length chains.now ≤ vec_capacity born) }
-    ensures same { AreSameChainEnds ends.old ends.new }
-    ensures ends { AreChainEndsOf chains.now ends.new }
-    ensures born { AreChainEndsOf chains.now result.items }
     ensures split { AreChainsSplit ends.old ends.new result.items }
+    ensures born { AreChainEndsOf chains.now result.items }
+    ensures ends { AreChainEndsOf chains.now ends.new }
+    ensures same { AreSameChainEnds ends.old ends.new }
 {
     let mut born = born;
     for i in 0..chains.len() {
@@ -46,11 +46,11 @@ pub fn split_chain_ends(
 ) -> Result<Vec<ChainEnd<AnyQuaject>>, OutOfMemory>
     requires ends { AreChainEndsOf chains.now ends.old }
     requires parts { All IsChainDivisible ends.old }
-    ensures same { AreSameChainEnds ends.old ends.new }
-    ensures ends { AreChainEndsOf chains.now ends.new }
-    ensures born { IfOk result (λ born. AreChainEndsOf chains.now born.items) }
     ensures split { IfOk result (λ born. AreChainsSplit ends.old ends.new born.items) }
+    ensures born { IfOk result (λ born. AreChainEndsOf chains.now born.items) }
     ensures refused { IfErr result (λ e. ends.new ≡ ends.old) }
+    ensures ends { AreChainEndsOf chains.now ends.new }
+    ensures same { AreSameChainEnds ends.old ends.new }
 {
     let born = Vec::with_capacity(alloc, chains.len())?;
     Ok(split_chain_ends_into(chains, ends, born))
@@ -67,9 +67,9 @@ pub fn join_chain_ends(
 )
     requires ends { AreChainEndsOf chains.now ends.old }
     requires others { AreChainEndsOf chains.now others.items }
-    ensures same { AreSameChainEnds ends.old ends.new }
-    ensures ends { AreChainEndsOf chains.now ends.new }
     ensures joined { AreChainsJoined ends.old others.items ends.new }
+    ensures ends { AreChainEndsOf chains.now ends.new }
+    ensures same { AreSameChainEnds ends.old ends.new }
 {
     let mut i = 0usize;
     for other in others {

@@ -50,12 +50,12 @@ pub fn hear<const N: usize, G: Gate>(
     requires ends { AreEndsOf queues.now ends.old }
     requires known { index < length queues.now }
     requires empty { line.old.items ≡ [] }
-    ensures same { AreSameEnds ends.old ends.new }
-    ensures ends { AreEndsOf queues.now ends.new }
-    ensures heard { OnEnd index (Heard line.new.items result) ends.old ends.new }
     ensures worked { Worked no_lines (only_at index (line_if result line.new.items)) never ends.old ends.new }
-    ensures gate { G.told gate.old p TakeAnswered gate.new }
     ensures long { IfOk result (λ done. (0 < length line.new.items) × (length line.new.items ≤ N)) }
+    ensures gate { G.told gate.old p TakeAnswered gate.new }
+    ensures heard { OnEnd index (Heard line.new.items result) ends.old ends.new }
+    ensures ends { AreEndsOf queues.now ends.new }
+    ensures same { AreSameEnds ends.old ends.new }
 {
     hear_line(&queues[index], item_at(ends, index), line, p, gate)
 }
@@ -81,10 +81,10 @@ pub fn shut_queue<const N: usize>(
 ) -> bool
     requires ends { AreEndsOf queues.now ends.old }
     requires known { index < length queues.now }
-    ensures same { AreSameEnds ends.old ends.new }
-    ensures ends { AreEndsOf queues.now ends.new }
-    ensures shut { OnEnd index (HasShut result) ends.old ends.new }
     ensures worked { Worked no_lines no_lines (number_at index (once_if result)) ends.old ends.new }
+    ensures shut { OnEnd index (HasShut result) ends.old ends.new }
+    ensures ends { AreEndsOf queues.now ends.new }
+    ensures same { AreSameEnds ends.old ends.new }
 {
     shut_end(&queues[index], item_at(ends, index))
 }

@@ -75,12 +75,12 @@ pub fn poke<R: Wait, G: Gate>(
     requires ends { AreChainEndsOf chains.now ends.old }
     requires known { index < length chains.now }
     requires world { AreChainsOver world.now chains.now }
-    ensures same { AreSameChainEnds ends.old ends.new }
-    ensures ends { AreChainEndsOf chains.now ends.new }
-    ensures poked { PokedAt chains.now index 0 result ends.old ends.new }
     ensures worked { ChainsWorked (only_at index (note_if result 0)) (number_at index (notes_run result))
         ends.old ends.new }
     ensures gate { G.told gate.old p points.Chained gate.new }
+    ensures poked { PokedAt chains.now index 0 result ends.old ends.new }
+    ensures ends { AreChainEndsOf chains.now ends.new }
+    ensures same { AreSameChainEnds ends.old ends.new }
 {
     poke_end(rt, world, &chains[index], item_at(ends, index), p, gate)
 }

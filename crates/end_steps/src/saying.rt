@@ -1,7 +1,7 @@
 //! Saying a line: it is put in a queue by one claim, and raised.
 ghost use Rattle.std.specs.Prelude.{◌≡◌, ◌<◌, ℕ, [], length};
 ghost use Rattle.claim_queue.specs.Claims.{Owns};
-ghost use Rattle.claim_queue.specs.Handles.{view_of, call_of, IsEndOf, IsSameEnd};
+ghost use Rattle.claim_queue.specs.Handles.{view_of, IsEndOf, IsSameEnd};
 ghost use Rattle.claim_queue.specs.Puts.{RaisedFrom};
 ghost use Rattle.end_steps.specs.Deeds.{Said};
 ghost use Rattle.end_steps.specs.EndLists.{AreEndsOf, AreSameEnds, OnEnd, only_at};
@@ -18,8 +18,8 @@ fn raise_all<const N: usize>(queue: &ClaimQueue<N>, end: &mut QueueEnd<N>, claim
     requires own { Owns (view_of end.old) claim.start claim.items.items 0 × (claim.raised ≡ 0) }
     ensures queue { IsSameEnd end.old end.new }
     ensures own { Owns (view_of end.new) claim.entry.start claim.entry.items.items (length claim.entry.items.items) }
-    ensures raised { RaisedFrom N (call_of end.old) claim.entry.start claim.entry.items.items (view_of end.old)
-        (view_of end.new) (length claim.entry.items.items) }
+    ensures raised { RaisedFrom N claim.entry.start claim.entry.items.items (view_of end.old) (view_of end.new)
+        (length claim.entry.items.items) }
 {
     let mut claim = claim;
     for i in 0..claim.items().len() {
@@ -67,11 +67,11 @@ pub fn say<const N: usize, G: Gate>(
 ) -> Result<(), ClaimRefusal>
     requires ends { AreEndsOf queues.now ends.old }
     requires known { index < length queues.now }
-    ensures same { AreSameEnds ends.old ends.new }
-    ensures ends { AreEndsOf queues.now ends.new }
-    ensures said { OnEnd index (Said line.now result) ends.old ends.new }
     ensures worked { Worked (only_at index (line_if result line.now)) no_lines never ends.old ends.new }
     ensures gate { ToldOfSay G.told p result gate.old gate.new }
+    ensures said { OnEnd index (Said line.now result) ends.old ends.new }
+    ensures ends { AreEndsOf queues.now ends.new }
+    ensures same { AreSameEnds ends.old ends.new }
 {
     say_line(&queues[index], item_at(ends, index), line, p, gate)
 }

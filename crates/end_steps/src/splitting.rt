@@ -9,8 +9,8 @@ use claim_queue::{ClaimQueue, QueueEnd};
 use event_theory::OutOfMemory;
 use std::alloc::Global;
 
-/// A new end of each queue, in the order of the queues, split off from the one in the list. They go into `born`, which is
-/// empty and has room for them, so it takes no memory.
+/// A new end of each queue, in the order of the queues, split off from the one in the list. They go into `born`, which
+/// is empty and has room for them, so it takes no memory.
 ///
 /// Conditions: the ends are those of the queues, in their order, and each has two parts or more of its queue's
 /// 2^64 - 1.
@@ -22,10 +22,10 @@ pub fn split_ends_into<const N: usize>(
     requires ends { AreEndsOf queues.now ends.old }
     requires parts { All IsDivisible ends.old }
     requires room { (born.items ≡ []) × (length queues.now ≤ vec_capacity born) }
-    ensures same { AreSameEnds ends.old ends.new }
-    ensures ends { AreEndsOf queues.now ends.new }
-    ensures born { AreEndsOf queues.now result.items }
     ensures split { AreSplit ends.old ends.new result.items }
+    ensures born { AreEndsOf queues.now result.items }
+    ensures ends { AreEndsOf queues.now ends.new }
+    ensures same { AreSameEnds ends.old ends.new }
 {
     let mut born = born;
     for i in 0..queues.len() {
@@ -44,11 +44,11 @@ pub fn split_ends<const N: usize>(
 ) -> Result<Vec<QueueEnd<N>>, OutOfMemory>
     requires ends { AreEndsOf queues.now ends.old }
     requires parts { All IsDivisible ends.old }
-    ensures same { AreSameEnds ends.old ends.new }
-    ensures ends { AreEndsOf queues.now ends.new }
-    ensures born { IfOk result (λ born. AreEndsOf queues.now born.items) }
     ensures split { IfOk result (λ born. AreSplit ends.old ends.new born.items) }
+    ensures born { IfOk result (λ born. AreEndsOf queues.now born.items) }
     ensures refused { IfErr result (λ e. ends.new ≡ ends.old) }
+    ensures ends { AreEndsOf queues.now ends.new }
+    ensures same { AreSameEnds ends.old ends.new }
 {
     let born = Vec::with_capacity(alloc, queues.len())?;
     Ok(split_ends_into(queues, ends, born))
@@ -65,9 +65,9 @@ pub fn join_ends<const N: usize>(
 )
     requires ends { AreEndsOf queues.now ends.old }
     requires others { AreEndsOf queues.now others.items }
-    ensures same { AreSameEnds ends.old ends.new }
-    ensures ends { AreEndsOf queues.now ends.new }
     ensures joined { AreJoined ends.old others.entry.items ends.new }
+    ensures ends { AreEndsOf queues.now ends.new }
+    ensures same { AreSameEnds ends.old ends.new }
 {
     let mut i = 0usize;
     for other in others {

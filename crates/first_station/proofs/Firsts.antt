@@ -9,7 +9,7 @@ use Rattle.meters.specs.Handles as meters
 use Rattle.meters.specs.Rules as meter_rules
 use Rattle.thread_table.specs.declared.hand.ThreadTable.{ThreadTable}
 use Rattle.thread_table.specs.declared.hand.Hand.{Hand}
-use Rattle.thread_table.specs.declared.rule.View.{View}
+use Rattle.thread_table.specs.Own.{View}
 use Rattle.thread_table.specs.Handles as threads
 use Rattle.thread_table.specs.Rules as thread_rules
 use Rattle.objects.specs.Objects.{IsFirstHand, IsFirstSeat}

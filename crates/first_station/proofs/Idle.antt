@@ -53,7 +53,7 @@ module _ {n : ℕ} where
   raised [] [] h = All-nil HasRaised
   raised [] (e ∷ ends) h = absurd h
   raised (x ∷ queues) [] h = absurd h
-  raised (x ∷ queues) (e ∷ ends) h = All-cons HasRaised e ends (none_raised (view_of e).part.runs h.0.unused.0) (raised queues ends h.1)
+  raised (x ∷ queues) (e ∷ ends) h = All-cons HasRaised e ends (none_raised (view_of e).own.runs h.0.unused.0) (raised queues ends h.1)
 
   pub done_nothing : (queues : List (ClaimQueue n)) (ends : List (QueueEnd n)) → IsStock queues ends → HaveDoneNothing ends
   done_nothing queues ends h = record { none_put = none_put queues ends h; none_taken = none_taken queues ends h; none_shut = none_shut queues ends h; raised = raised queues ends h }

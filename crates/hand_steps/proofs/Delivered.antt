@@ -7,9 +7,9 @@ use Rattle.std.specs.List.{list_any, range_with_len}
 use Rattle.std.proofs.lemmas.Bool.Decides.{eqb_tells, nat_tests}
 use Rattle.std.proofs.lemmas.List.{get_or-set_same, get_or-set_other}
 use Rattle.std.proofs.lemmas.Nat.Bits.{bit_at_or, bit_at-lt}
-use Rattle.thread_table.specs.Answers.{is_in}
+use Rattle.thread_table.specs.Answers.{is_in, signals_in}
 use Rattle.hand_steps.specs.Holdings.{Shows}
-use Rattle.hand_steps.specs.Tallies.{delivery, is_delivered, signals_in}
+use Rattle.hand_steps.specs.Tallies.{delivery, is_delivered}
 
 either_bit : (x y : ℕ) → x < 2 → y < 2 → eqb (max x y) 1 ≡ (eqb x 1 || eqb y 1)
 either_bit zero zero a b = refl

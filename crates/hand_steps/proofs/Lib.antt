@@ -1,6 +1,5 @@
 pub mod Tallies
 pub mod Calm
-pub mod Lawful
 pub mod Looks
 pub mod Sends
 pub mod Stepped
@@ -8,3 +7,4 @@ pub mod Beginnings
 pub mod Delivered
 pub mod Wakes
 pub mod Raised
+pub mod Placed

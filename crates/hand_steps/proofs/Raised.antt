@@ -6,13 +6,14 @@ use Rattle.std.proofs.lemmas.List.{append-nil}
 use Rattle.event_theory.specs.declared.alarm.Alarm.{Alarm}
 use Rattle.meters.specs.declared.gauges.AdvanceRefusal.{AdvanceRefusal}
 use Rattle.meters.specs.Own.{SeatView, own_of, Own, DidNothing, DidAdvance, DidFire}
-use Rattle.thread_table.specs.declared.rule.View.{View}
+use Rattle.thread_table.specs.Own.{View}
 use Rattle.thread_table.specs.declared.states.Signalled.{Signalled}
 use Rattle.thread_table.specs.Answers.{SignalAnswer}
+use Rattle.thread_table.specs.Telling.{IsHonest}
 use Rattle.hand_steps.specs.Holdings.{OnlyAdds}
 use Rattle.hand_steps.specs.Tallies.{no_events, one_signal, signals_for}
 use Rattle.hand_steps.specs.Tendings.{RaisedAll, DidTend}
-use Rattle.hand_steps.proofs.Calm.{Goes, goes_on, left, none_goes, only}
+use Rattle.hand_steps.proofs.Calm.{Goes, Looks, goes_on, left, looks_none, only}
 use Rattle.hand_steps.proofs.Looks.{signal_goes}
 
 -- one more signal was raised
@@ -23,16 +24,16 @@ raised_more call (x ∷ xs) a r v u w all s = (all.0, all.1, all.2, raised_more 
 pub raised_again : (call call' : ℕ) (alarms more : List Alarm) (a : Alarm) (r : Signalled) (v u w : View) → call' ≡ call → more ≡ alarms ++ a ∷ [] → RaisedAll call alarms v u → SignalAnswer call' u a.element a.signal r w → RaisedAll call more v w
 raised_again call call' alarms more a r v u w same is all s = subst (λ (xs : List Alarm). RaisedAll call xs v w) (sym is) (raised_more call alarms a r v u w all (subst (λ (c : ℕ). SignalAnswer c u a.element a.signal r w) same s))
 
-raised_goes : (call : ℕ) (alarms : List Alarm) (v w : View) → v.fresh ≡ true → RaisedAll call alarms v w → Goes (signals_for alarms) v w × (w.held ≡ v.held)
-raised_goes call [] v w up same = subst (λ (z : View). Goes no_events v z × (z.held ≡ v.held)) (sym same) (none_goes v up, refl)
+raised_goes : (call : ℕ) (alarms : List Alarm) (v w : View) → v.own.fresh ≡ true → RaisedAll call alarms v w → Goes (signals_for alarms) v w × (w.own.held ≡ v.own.held)
+raised_goes call [] v w up same = subst (Looks v) (sym same) (looks_none v up)
 raised_goes call (a ∷ rest) v w up all =
     let u : View = all.0 in
     let first = signal_goes call a.element a.signal all.1 v u all.2 in
     let more = raised_goes call rest u w first.0.calm.fresh all.3 in
     (goes_on (one_signal a.element a.signal) (signals_for rest) v u w first.0 more.0 (left v u w first.1), more.1 ∙ first.1)
 
-pub raised_only : (call : ℕ) (alarms : List Alarm) (v w : View) → v.fresh ≡ true → RaisedAll call alarms v w → OnlyAdds (signals_for alarms) v w
-raised_only call alarms v w up all = let g = raised_goes call alarms v w up all in only (signals_for alarms) v w up g.0 g.1
+pub raised_only : (call : ℕ) (alarms : List Alarm) (v w : View) → v.own.fresh ≡ true → ∥ IsHonest v ∥₁ → ∥ IsHonest w ∥₁ → RaisedAll call alarms v w → OnlyAdds (signals_for alarms) v w
+raised_only call alarms v w up before behind all = let g = raised_goes call alarms v w up all in only (signals_for alarms) v w (λ e. refl) up before behind g.0 g.1
 
 -- what the seat lists
 pub tended_own : (advanced : Result ℕ AdvanceRefusal) (fired : List Alarm) (v u w : SeatView) → MatchResult advanced (λ clock. DidAdvance clock v u) (λ refusal. DidNothing v u) → DidFire fired u w → DidTend advanced fired v w

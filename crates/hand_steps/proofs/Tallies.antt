@@ -1,14 +1,16 @@
 -- What events come to, one behind the other.
-use Rattle.std.proofs.Common.{◌≡◌, ℕ, List, [], ◌∷◌, ◌++◌, sym, ap, ◌∙◌, subst}
+use Rattle.std.proofs.Common.{◌≡◌, ◌+◌, ℕ, List, [], ◌∷◌, ◌++◌, cond, refl, sym, ap, ◌∙◌, subst, arith}
+use Rattle.std.specs.Prelude.{◌==◌, count_by, flat_map}
 use Rattle.std.proofs.lemmas.Grind.{flat_map-append}
 use Rattle.std.proofs.lemmas.List.{append-nil, append_assoc}
+use Rattle.std.proofs.lemmas.List.Sums.{sum_by-cons, sum_by-append}
+use Rattle.event_theory.specs.Accounts.{is_done}
 use Rattle.event_theory.specs.declared.event.Event.{Event}
+use Rattle.event_theory.specs.declared.event.Event.TheVariants as events
 use Rattle.thread_table.specs.declared.rule.Made.{Made}
-use Rattle.thread_table.specs.declared.rule.View.{View}
-use Rattle.thread_table.specs.Makers.{made_in}
-use Rattle.thread_table.specs.Schedules.{state_after}
-use Rattle.thread_table.specs.Steps.{Did}
-use Rattle.hand_steps.specs.Tallies.{Tally, tally, behind, no_events, Adds, done_by, signalled_by, delivered_by, retired_by, taken_by}
+use Rattle.thread_table.specs.Own.{View}
+use Rattle.thread_table.specs.Entries.{steps_by}
+use Rattle.hand_steps.specs.Tallies.{Tally, tally, behind, no_events, Adds, step_by, done_by, signalled_by, delivered_by, retired_by, taken_by}
 
 tally_more : (a b : List Made) → tally (a ++ b) ≡ behind (tally a) (tally b)
 tally_more a b = λ i. record {
@@ -38,11 +40,11 @@ behind_none a = λ i. record {
 }
 
 -- a hand that made no event adds nothing
-pub adds_none : (v w : View) → w.made ≡ v.made → Adds no_events v w
-adds_none v w same = ap tally same ∙ sym (behind_none (tally v.made))
+pub adds_none : (v w : View) → w.own.made ≡ v.own.made → Adds no_events v w
+adds_none v w same = ap tally same ∙ sym (behind_none (tally v.own.made))
 
 pub adds_on : (a b : Tally) (u v w : View) → Adds a u v → Adds b v w → Adds (behind a b) u w
-adds_on a b u v w x y = y ∙ (ap (λ (t : Tally). behind t b) x ∙ behind_more (tally u.made) a b)
+adds_on a b u v w x y = y ∙ (ap (λ (t : Tally). behind t b) x ∙ behind_more (tally u.own.made) a b)
 
 -- what comes before an addition of nothing, and behind it
 pub adds_after : (a : Tally) (u v w : View) → Adds no_events u v → Adds a v w → Adds a u w
@@ -51,10 +53,35 @@ adds_after a u v w x y = adds_on no_events a u v w x y
 pub adds_before : (a : Tally) (u v w : View) → Adds a u v → Adds no_events v w → Adds a u w
 adds_before a u v w x y = subst (λ (t : Tally). Adds t u w) (behind_none a) (adds_on a no_events u v w x y)
 
--- what an event comes to
-pub adds_did : (call : ℕ) (v w : View) (word found : ℕ) (event : Event) (knows : List Event → View) (more : Tally) → ((before : List Event) → (knows before).made ≡ v.made)
-    → (d : Did call v word found event knows w) → tally (made_in event (state_after d.before) ∷ []) ≡ more → Adds more v w
-adds_did call v w word found event knows more kept d is =
-    ap (λ (x : View). tally x.made) d.same
-    ∙ (ap (λ (m : List Made). tally (m ++ made_in event (state_after d.before) ∷ [])) (kept d.before)
-    ∙ (tally_more v.made (made_in event (state_after d.before) ∷ []) ∙ ap (behind (tally v.made)) is))
+-- what events come to that are listed behind those before
+pub adds_more : (a : Tally) (v w : View) (l : List Made) → w.own.made ≡ v.own.made ++ l → tally l ≡ a → Adds a v w
+adds_more a v w l grew is = ap tally grew ∙ (tally_more v.own.made l ∙ ap (behind (tally v.own.made)) is)
+
+-- the steps of an element that a tally tells
+abbrev pub told_steps : ℕ → Tally → ℕ
+told_steps e t = count_by (λ (p : ℕ × ℕ). p.0 == e) t.done
+
+one_told : (e : ℕ) (event : Event) (number : ℕ) → count_by (λ (p : ℕ × ℕ). p.0 == e) (step_by event number) ≡ cond (is_done e event) 1 0
+one_told e (events.Done call element) number = sum_by-cons (λ (p : ℕ × ℕ). cond (p.0 == e) 1 0) (element, number) [] ∙ plus_none (cond (element == e) 1 0)
+  where
+    plus_none : (n : ℕ) → n + 0 ≡ n
+    plus_none n = omega arith
+one_told e event number = refl
+
+-- they are those that the list tells
+pub told_by : (e : ℕ) (made : List Made) → steps_by e made ≡ told_steps e (tally made)
+told_by e [] = refl
+told_by e (m ∷ ms) =
+    let a : steps_by e (m ∷ ms) ≡ cond (is_done e m.event) 1 0 + steps_by e ms = sum_by-cons (λ (x : Made). cond (is_done e x.event) 1 0) m ms in
+    let b : told_steps e (tally (m ∷ ms)) ≡ count_by (λ (p : ℕ × ℕ). p.0 == e) (done_by m) + told_steps e (tally ms) = sum_by-append (λ (p : ℕ × ℕ). cond (p.0 == e) 1 0) (done_by m) (flat_map done_by ms) in
+    let c = one_told e m.event m.number in
+    let d = told_by e ms in
+    omega arith
+
+-- so the list tells as many more as were added
+pub told_more : (e : ℕ) (a : Tally) (v w : View) → Adds a v w → steps_by e w.own.made ≡ steps_by e v.own.made + told_steps e a
+told_more e a v w adds =
+    let b : told_steps e (tally w.own.made) ≡ told_steps e (tally v.own.made) + told_steps e a = ap (told_steps e) adds ∙ sum_by-append (λ (p : ℕ × ℕ). cond (p.0 == e) 1 0) (tally v.own.made).done a.done in
+    let x = told_by e v.own.made in
+    let y = told_by e w.own.made in
+    omega arith

@@ -1,62 +1,40 @@
 -- Waking all that wait, and starting.
 use Rattle.std.proofs.Common.{◌≡◌, ◌≢◌, ◌⊎◌, inl, inr, ℕ, zero, suc, ◌+◌, ◌*◌, ◌^◌, ◌%◌, ◌<◌, ◌≤◌, Bool, true, false, ◌||◌, List, [], ◌∷◌, get_or, Result, Ok, Err, refl, sym, ap, ◌∙◌, subst, arith, eqb}
-use Rattle.std.specs.Prelude.{◌==◌, ◌&&◌, not, if◌then◌else◌}
+use Rattle.std.specs.Prelude.{◌==◌, ◌&&◌, not, if◌then◌else◌, flat_map}
 use Rattle.std.specs.Int.Bits.{bit_or}
 use Rattle.std.proofs.Math.Pow.{pow-lt}
 use Rattle.std.proofs.lemmas.Bool.Decides.{eqb_tells, nat_tests}
-use Rattle.thread_table.specs.declared.rule.View.{View}
-use Rattle.thread_table.specs.declared.takings.NextRefusal.{NextRefusal}
+use Rattle.thread_table.specs.Own.{View}
 use Rattle.thread_table.specs.declared.states.Lost.{Lost}
-use Rattle.thread_table.specs.Answers.{TakeAnswer, is_in, head_in}
+use Rattle.thread_table.specs.Answers.{is_in}
 use Rattle.thread_table.specs.Rules.{has}
-use Rattle.thread_table.specs.Wakes.{WokeAll, Tries}
-use Rattle.thread_table.proofs.Schedule.Following.{found_looked}
+use Rattle.thread_table.specs.Wakes.{WokeAll, Try, took, missed, made_by_try, with_wakes}
 use Rattle.thread_table.proofs.Shown.StateBits.{bit_set_here, bit_set_other}
-use Rattle.hand_steps.specs.declared.moving.Target.TheVariants as targets
 use Rattle.hand_steps.specs.declared.waking.Woken.{Woken}
 use Rattle.hand_steps.specs.declared.waking.Resumed.{Resumed}
 use Rattle.hand_steps.specs.declared.waking.Resumed.TheVariants as resumed
 use Rattle.hand_steps.specs.Holdings.{HoldsSame}
 use Rattle.hand_steps.specs.Sendings.{Sent, HoldsUnless}
-use Rattle.hand_steps.specs.Tallies.{no_events}
+use Rattle.hand_steps.specs.Tallies.{tally, no_events}
 use Rattle.hand_steps.specs.Wakings.{CanWake, OneReady, AllReady, Woke, HoldsWoken, ResumeAnswer, ResumeHolds}
-use Rattle.hand_steps.proofs.Beginnings.{back, more_has, more_grows}
-use Rattle.hand_steps.proofs.Calm.{Goes, goes_after, goes_before, left, right, looked_held, looked_goes, none_goes, did_goes}
-use Rattle.hand_steps.proofs.Looks.{take_looked, took_goes, start_looked, goes_looked, cleared_goes, cleared_holds, started_holds}
+use Rattle.hand_steps.proofs.Beginnings.{back, more_grows}
+use Rattle.hand_steps.proofs.Calm.{Goes, goes_after, goes_before, looks_none, acts_goes}
+use Rattle.hand_steps.proofs.Looks.{start_looks, goes_looks, started_goes, cleared_held}
 use Rattle.hand_steps.proofs.Sends.{sent_goes, sent_holds}
 
--- all that the hand held, it holds still
-abbrev Grows : View → View → Type 0
-Grows v w = (e : ℕ) → e < 64 → has v e ≡ true → has w e ≡ true
-
-same_grows : (v w : View) → w.held ≡ v.held → Grows v w
-same_grows v w same e low held = ap (λ xs. get_or xs e false) same ∙ held
-
-taken_goes : (call ring : ℕ) (v w : View) (r : Result ℕ NextRefusal) → ring ≢ 1 → TakeAnswer call v ring r w → Goes no_events v w × Grows v w
-taken_goes call ring v w (Ok element) other t = (took_goes call ring element v w other t, λ e low held. t.holds e ∙ ap (λ (b : Bool). b || e == element) held)
-taken_goes call ring v w (Err r) other t = let l = take_looked call ring v w r t in (looked_goes v w l, same_grows v w (looked_held v w l))
-
-tries_go : (call ring head : ℕ) (v w : View) (answers : List (Result ℕ NextRefusal)) → ring ≢ 1 → v.fresh ≡ true → Tries call ring head v answers w → Goes no_events v w × Grows v w
-tries_go call ring head v w [] other up same = subst (λ (z : View). Goes no_events v z × Grows v z) (sym same) (none_goes v up, λ e low held. held)
-tries_go call ring head v w (r ∷ rs) other up t =
-    let u : View = t.0 in
-    let b : View = t.1.before in
-    let l = found_looked v b _ _ t.1.tail_loaded in
-    let first = looked_goes v b l in
-    let take = taken_goes call ring b u r other t.1.taken in
-    let one = goes_after no_events v b u first take.0 (left v b u (looked_held v b l)) in
-    let grows : Grows v u = λ e low held. take.1 e low (same_grows v b (looked_held v b l) e low held) in
-    let rest = tries_go call ring head u w rs other one.calm.fresh t.2 in
-    (goes_after no_events v u w one rest.0 (λ e low held still. grows e low held), λ e low held. rest.1 e low (grows e low held))
+-- the takings of those that wait come to nothing
+none_taken : (call wait : ℕ) (tries : List Try) → tally (flat_map (made_by_try call (suc (suc wait))) tries) ≡ no_events
+none_taken call wait [] = refl
+none_taken call wait (took before tail place q r s t ∷ tries) = none_taken call wait tries
+none_taken call wait (missed before tail place seen q r s t ∷ tries) = none_taken call wait tries
 
 woke_goes : (call wait mask : ℕ) (v w : View) → WokeAll call v wait mask w → Goes no_events v w
 woke_goes call wait mask v w a =
-    let n : View = a.notified in
-    let first = did_goes call v n _ _ _ _ no_events record { first = λ _. refl; serves = λ _. refl; on = λ _. refl; share = λ _. refl; made = λ _. refl } (λ e. refl) a.notifies.did refl in
-    let tries = tries_go call (wait + 2) (head_in a.word) n a.tried a.answers (λ z. omega arith) first.calm.fresh a.tries in
-    let l = found_looked a.tried w _ _ a.tail_loaded in
-    let most = goes_after no_events v n a.tried first tries.0 (left v n a.tried (ap (λ (z : View). z.held) a.notifies.did.same)) in
-    goes_before no_events v a.tried w most (looked_goes a.tried w l) (right v a.tried w (looked_held a.tried w l))
+    let same : tally (flat_map (made_by_try call (wait + 2)) a.tries) ≡ no_events = subst (λ (k : ℕ). tally (flat_map (made_by_try call k) a.tries) ≡ no_events) (two wait) (none_taken call wait a.tries) in
+    acts_goes no_events v w (with_wakes v call wait a.tries w) _ _ record { first = refl; serves = refl; on = refl; share = refl } refl same a.acts
+  where
+    two : (n : ℕ) → suc (suc n) ≡ n + 2
+    two n = omega arith
 
 -- what one element leaves
 unless : (b : Bool) → (b && not true) ≡ false
@@ -68,20 +46,20 @@ always true = refl
 always false = refl
 
 one_by : (call n e : ℕ) (t r : Bool) (u w : View) → ((eqb e n ≡ true) × (e ≡ n)) ⊎ ((eqb e n ≡ false) × (e ≢ n)) → e < 64 → HoldsUnless r n u w → has w e ≡ (if e == n then (has u e && not (true && r)) else has u e)
-one_by call n e t true u w (inl same) low h = h e low ∙ (ap (λ (b : Bool). if b then false else has u e) same.0 ∙ (sym (unless (has u e)) ∙ sym (ap (λ (b : Bool). if b then (has u e && not true) else has u e) same.0)))
-one_by call n e t true u w (inr other) low h = h e low ∙ (ap (λ (b : Bool). if b then false else has u e) other.0 ∙ sym (ap (λ (b : Bool). if b then (has u e && not true) else has u e) other.0))
-one_by call n e t false u w (inl same) low h = h e low ∙ (always (has u e) ∙ sym (ap (λ (b : Bool). if b then (has u e && not false) else has u e) same.0))
-one_by call n e t false u w (inr other) low h = h e low ∙ sym (ap (λ (b : Bool). if b then (has u e && not false) else has u e) other.0)
+one_by call n e t true u w (inl same) low h = h e ∙ (ap (λ (b : Bool). if b then false else has u e) same.0 ∙ (sym (unless (has u e)) ∙ sym (ap (λ (b : Bool). if b then (has u e && not true) else has u e) same.0)))
+one_by call n e t true u w (inr other) low h = h e ∙ (ap (λ (b : Bool). if b then false else has u e) other.0 ∙ sym (ap (λ (b : Bool). if b then (has u e && not true) else has u e) other.0))
+one_by call n e t false u w (inl same) low h = h e ∙ (always (has u e) ∙ sym (ap (λ (b : Bool). if b then (has u e && not false) else has u e) same.0))
+one_by call n e t false u w (inr other) low h = h e ∙ sym (ap (λ (b : Bool). if b then (has u e && not false) else has u e) other.0)
 
 either_way : (b h : Bool) → h ≡ (if b then (h && not false) else h)
 either_way true h = always h
 either_way false h = refl
 
-one_is : (call n : ℕ) (t r : Bool) (u w : View) → n < 64 → u.fresh ≡ true → (t ≡ true → has u n ≡ true) → OneReady call n t r u w
+one_is : (call n : ℕ) (t r : Bool) (u w : View) → u.own.fresh ≡ true → OneReady call n t r u w
     → Goes no_events u w × ((e : ℕ) → e < 64 → has w e ≡ (if e == n then (has u e && not (t && r)) else has u e))
-one_is call n true r u w low up held s = (sent_goes call targets.Ready n r u w low up (held refl) s, λ e below. one_by call n e true r u w (eqb_tells e n) below (sent_holds call 0 n r u w up s))
-one_is call n false r u w low up held s = subst (λ (z : View). Goes no_events u z × ((e : ℕ) → e < 64 → has z e ≡ (if e == n then (has u e && not false) else has u e))) (sym s.0)
-    (none_goes u up, λ e below. either_way (e == n) (has u e))
+one_is call n true r u w up s = (sent_goes call 0 n r u w (λ z. omega arith) up s, λ e below. one_by call n e true r u w (eqb_tells e n) below (sent_holds call 0 n r u w up s))
+one_is call n false r u w up s = subst (λ (z : View). Goes no_events u z × ((e : ℕ) → e < 64 → has z e ≡ (if e == n then (has u e && not false) else has u e))) (sym s.0)
+    ((looks_none u up).0, λ e below. either_way (e == n) (has u e))
 
 -- what the elements below a number leave
 pub record ReadyTo (k : Woken) (v : View) (n : ℕ) (w : View) : Type 0 where
@@ -93,14 +71,14 @@ shrinks : (b t : Bool) → (b && t) ≡ true → b ≡ true
 shrinks true t up = refl
 shrinks false t up = absurd (cc)
 
-pub ready_to : (call : ℕ) (k : Woken) (v w : View) (n : ℕ) → n ≤ 64 → v.fresh ≡ true → CanWake k.taken v → AllReady call k v n w → ReadyTo k v n w
-ready_to call k v w zero few up can same = subst (λ (z : View). ReadyTo k v 0 z) (sym same) record { goes = none_goes v up; past = λ e low below. absurd (omega arith); next = λ e low above. refl }
+pub ready_to : (call : ℕ) (k : Woken) (v w : View) (n : ℕ) → n ≤ 64 → v.own.fresh ≡ true → CanWake k.taken v → AllReady call k v n w → ReadyTo k v n w
+ready_to call k v w zero few up can same = subst (λ (z : View). ReadyTo k v 0 z) (sym same) record { goes = (looks_none v up).0; past = λ e low below. absurd (omega arith); next = λ e low above. refl }
 ready_to call k v w (suc n) few up can s =
     let u : View = s.0 in
     let a = ready_to call k v u n (omega arith) up can s.1 in
     let low : n < 64 = omega arith in
     let now : has u n ≡ has v n = a.next n low (omega arith) in
-    let b = one_is call n (is_in k.taken n) (is_in k.ready n) u w low a.goes.calm.fresh (λ t. now ∙ can n low t) s.2 in
+    let b = one_is call n (is_in k.taken n) (is_in k.ready n) u w a.goes.calm.fresh s.2 in
     record {
       goes = goes_before no_events v u w a.goes b.0 (λ e below held still. kept e u b.1 below still (eqb_tells e n));
       past = λ e below under. by e u a b.1 now below under (eqb_tells e n);
@@ -178,7 +156,7 @@ sending_ready call call' taken ready n v u w low same s member sent = rw (one_bi
 })
 
 -- the next element of the mask is held still
-pub still_held : (call taken ready n : ℕ) (v w : View) → n < 64 → v.fresh ≡ true → CanWake taken v → Sending call taken ready n v w → is_in taken n ≡ true → has w n ≡ true
+pub still_held : (call taken ready n : ℕ) (v w : View) → n < 64 → v.own.fresh ≡ true → CanWake taken v → Sending call taken ready n v w → is_in taken n ≡ true → has w n ≡ true
 still_held call taken ready n v w low up can s member = (ready_to call (record { taken = taken; ready = ready }) v w n (omega arith) up can s.sent).next n low (omega arith) ∙ can n low member
 
 -- all that were woken
@@ -195,7 +173,7 @@ held_rest true false r fresh = refl
 held_rest false true r fresh = refl
 held_rest false false r fresh = refl
 
-pub woken_is : (call wait : ℕ) (k : Woken) (v w : View) → v.fresh ≡ true → Woke call wait k v w → Goes no_events v w × HoldsWoken k v w
+pub woken_is : (call wait : ℕ) (k : Woken) (v w : View) → v.own.fresh ≡ true → Woke call wait k v w → Goes no_events v w × HoldsWoken k v w
 woken_is call wait k v w up a =
     let u : View = a.between in
     let first = woke_goes call wait k.taken v u a.took in
@@ -208,27 +186,25 @@ woken_is call wait k v w up a =
     )
 
 -- a start
-pub resumed_is : (call element : ℕ) (r : Result Resumed Lost) (v w : View) → element < 64 → ResumeAnswer call element r v w → Goes no_events v w × ResumeHolds element r v w
-resumed_is call element (Ok resumed.NotStopped) v w low a = let l = goes_looked call element v w a in (looked_goes v w l, λ e below. ap (λ xs. get_or xs e false) (looked_held v w l))
-resumed_is call element (Ok resumed.Cleared) v w low a = (cleared_goes call element v w a.0, λ e below. ap (λ xs. get_or xs e false) (cleared_holds call element v w a))
-resumed_is call element (Ok resumed.Ready) v w low a =
+pub resumed_is : (call element : ℕ) (r : Result Resumed Lost) (v w : View) → ResumeAnswer call element r v w → Goes no_events v w × ResumeHolds element r v w
+resumed_is call element (Ok resumed.NotStopped) v w a = let l = goes_looks call element v w a in (l.0, λ e. ap (λ xs. get_or xs e false) l.1)
+resumed_is call element (Ok resumed.Cleared) v w a = (started_goes call element false v w a, λ e. ap (λ xs. get_or xs e false) (cleared_held call element v w a))
+resumed_is call element (Ok resumed.Ready) v w a =
     let u : View = a.0 in
-    let first = cleared_goes call element v u a.1.0 in
-    let more = started_holds call element v u low a.1 in
-    let held = more_has element v u low more in (
-      goes_after no_events v u w first (sent_goes call targets.Ready element true u w low first.calm.fresh held a.2) (more_grows element v u w more),
+    let first = started_goes call element true v u a.1.1 in
+    let more = a.1.0 in (
+      goes_after no_events v u w first (sent_goes call 0 element true u w (λ z. omega arith) first.calm.fresh a.2) (more_grows element v u w more),
       back element v u w more (sent_holds call 0 element true u w first.calm.fresh a.2),
     )
-resumed_is call element (Ok resumed.Held) v w low a =
+resumed_is call element (Ok resumed.Held) v w a =
     let u : View = a.0 in
-    let first = cleared_goes call element v u a.1.0 in
-    let more = started_holds call element v u low a.1 in
-    let held = more_has element v u low more in
+    let first = started_goes call element true v u a.1.1 in
+    let more = a.1.0 in
     let s : HoldsSame u w = sent_holds call 0 element false u w first.calm.fresh a.2 in (
-      goes_after no_events v u w first (sent_goes call targets.Ready element false u w low first.calm.fresh held a.2) (more_grows element v u w more),
-      (more.0, λ e below. s e below ∙ more.1 e below),
+      goes_after no_events v u w first (sent_goes call 0 element false u w (λ z. omega arith) first.calm.fresh a.2) (more_grows element v u w more),
+      (more.0, λ e. s e ∙ more.1 e),
     )
-resumed_is call element (Err lost) v w low a = let l = start_looked call element v w lost a in (looked_goes v w l, λ e below. ap (λ xs. get_or xs e false) (looked_held v w l))
+resumed_is call element (Err lost) v w a = let l = start_looks call element v w lost a in (l.0, λ e. ap (λ xs. get_or xs e false) l.1)
 
 pub woke : (call call' wait taken ready : ℕ) (v u w : View) → call' ≡ call → WokeAll call v wait taken u → AllReady call' (record { taken = taken; ready = ready }) u 64 w → Woke call wait (record { taken = taken; ready = ready }) v w
-woke call call' wait taken ready v u w same took sent = record { between = u; took = took; sent = subst (λ (c : ℕ). AllReady c (record { taken = taken; ready = ready }) u 64 w) same sent }
+woke call call' wait taken ready v u w same all sent = record { between = u; took = all; sent = subst (λ (c : ℕ). AllReady c (record { taken = taken; ready = ready }) u 64 w) same sent }

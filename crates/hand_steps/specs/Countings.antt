@@ -2,10 +2,9 @@
 use Rattle.std.specs.Prelude.{◌≡◌, ◌+◌, ◌<◌, ◌≢◌, ℕ, Bool, true, false, Ok}
 use Rattle.thread_table.specs.declared.layout.TheConstants.{ELEMENTS}
 use Rattle.thread_table.specs.Layout.{most_done}
-use Rattle.thread_table.specs.declared.rule.View.{View}
-use Rattle.thread_table.specs.Answers.{DoneAnswer}
+use Rattle.thread_table.specs.Own.{View}
+use Rattle.thread_table.specs.Answers.{DoneAnswer, ReadPc}
 use Rattle.thread_table.specs.Rules.{MayStep, done_at}
-use Rattle.thread_table.specs.Steps.{ReadPc}
 use Rattle.hand_steps.specs.declared.counting.Counted.{Counted}
 use Rattle.hand_steps.specs.declared.counting.Counted.TheVariants as counted
 use Rattle.hand_steps.specs.Tallies.{Tally, no_events, one_step}
@@ -25,12 +24,12 @@ counted_step answer element before = no_events
 -- the number of the element's steps done is now one more where one was counted, and else what it was
 abbrev pub IsNumber : Counted → ℕ → View → View → Type 0
 IsNumber (counted.Done number) element v w =
-    (number ≡ done_at v.schedule element + 1) × (done_at w.schedule element ≡ number)
-IsNumber counted.Undone element v w = done_at w.schedule element ≡ done_at v.schedule element
+    (number ≡ done_at v.seen.object element + 1) × (done_at w.seen.object element ≡ number)
+IsNumber counted.Undone element v w = done_at w.seen.object element ≡ done_at v.seen.object element
 IsNumber counted.Spent element v w =
-    (done_at v.schedule element ≡ most_done) × (done_at w.schedule element ≡ most_done)
+    (done_at v.seen.object element ≡ most_done) × (done_at w.seen.object element ≡ most_done)
 
 -- no step was counted in between of any other element that the hand has before and after
 abbrev pub SteadyBut : ℕ → View → View → Type 0
 SteadyBut element v w = (e : ℕ) → e < ELEMENTS → e ≢ element → MayStep v e → MayStep w e
-    → done_at w.schedule e ≡ done_at v.schedule e
+    → done_at w.seen.object e ≡ done_at v.seen.object e

@@ -1,14 +1,14 @@
 -- How a turn begins: with an element from the ready ring, or with none.
 use Rattle.std.specs.Prelude.{ℕ, true, false, Result, Ok, Err}
 use Rattle.thread_table.specs.Layout.{ready_ring}
-use Rattle.thread_table.specs.declared.rule.View.{View}
+use Rattle.thread_table.specs.Own.{View}
 use Rattle.thread_table.specs.declared.states.Lost.{Lost}
-use Rattle.thread_table.specs.Answers.{TakeAnswer, ParkAnswer, DeliverAnswer}
-use Rattle.thread_table.specs.Steps.{ReadPc}
+use Rattle.thread_table.specs.Answers.{TakeAnswer, ParkAnswer, DeliverAnswer, ReadPc}
+use Rattle.thread_table.specs.Entries.{HoldsMore}
 use Rattle.hand_steps.specs.declared.dispatch.Begun.{Begun}
 use Rattle.hand_steps.specs.declared.dispatch.Idle.{Idle}
 use Rattle.hand_steps.specs.declared.dispatch.Idle.TheVariants as idle
-use Rattle.hand_steps.specs.Holdings.{HoldsSame, HoldsMore}
+use Rattle.hand_steps.specs.Holdings.{HoldsSame}
 use Rattle.hand_steps.specs.Sendings.{Sent}
 
 -- the element was taken from the ready ring, and its stop bit was clear

@@ -1,8 +1,7 @@
 -- What a hand has, and what it has still.
-use Rattle.std.specs.Prelude.{◌≡◌, ◌<◌, ◌==◌, ◌||◌, ℕ, true, false, if◌then◌else◌, List, slice_index_or, Option, Some}
-use Rattle.std.specs.Prelude.{None}
+use Rattle.std.specs.Prelude.{◌≡◌, ◌<◌, ◌||◌, ℕ, true, List, slice_index_or, Option, Some, None}
 use Rattle.thread_table.specs.declared.layout.TheConstants.{ELEMENTS}
-use Rattle.thread_table.specs.declared.rule.View.{View}
+use Rattle.thread_table.specs.Own.{View}
 use Rattle.thread_table.specs.Answers.{is_in}
 use Rattle.thread_table.specs.Keeping.{Keeps}
 use Rattle.thread_table.specs.Rules.{MayStep, done_at, has, serves, running}
@@ -18,26 +17,17 @@ IsOn p element v = (serves v p ≡ true) × (running v p ≡ Some element)
 
 -- the hand holds what it held
 abbrev pub HoldsSame : View → View → Type 0
-HoldsSame v w = (e : ℕ) → e < ELEMENTS → has w e ≡ has v e
-
--- the hand holds this element, which it didn't, beside what it held
-abbrev pub HoldsMore : ℕ → View → View → Type 0
-HoldsMore element v w =
-    (has v element ≡ false) × ((e : ℕ) → e < ELEMENTS → has w e ≡ (has v e || e == element))
-
--- the hand holds what it held but for this element
-abbrev pub HoldsLess : ℕ → View → View → Type 0
-HoldsLess element v w = (e : ℕ) → e < ELEMENTS → has w e ≡ (if e == element then false else has v e)
+HoldsSame v w = (e : ℕ) → has w e ≡ has v e
 
 -- no step was counted in between of an element that the hand has before and after
 abbrev pub Steady : View → View → Type 0
-Steady v w = (e : ℕ) → e < ELEMENTS → MayStep v e → MayStep w e → done_at w.schedule e ≡ done_at v.schedule e
+Steady v w = (e : ℕ) → e < ELEMENTS → MayStep v e → MayStep w e → done_at w.seen.object e ≡ done_at v.seen.object e
 
 -- Its processors and its share are as they were, and what stands on the processors is this
 pub record KeepsBut (on : List (Option ℕ)) (v w : View) : Type 0 where
-  pub first : w.first ≡ v.first
-  pub serves : w.serves ≡ v.serves
-  pub on_are : w.on ≡ on
+  pub first : w.own.first ≡ v.own.first
+  pub serves : w.own.serves ≡ v.own.serves
+  pub on_are : w.own.on ≡ on
   pub share : w.member.share ≡ v.member.share
 
 -- the hand has all that it had, and made events that come to this

@@ -1,14 +1,15 @@
 -- Moves that are tried again where they were lost.
 use Rattle.std.specs.Prelude.{◌≡◌, ℕ, zero, suc, Bool, true, false, Ok, Err}
 use Rattle.thread_table.specs.Layout.{ready_ring, free_ring, wait_ring}
-use Rattle.thread_table.specs.declared.rule.View.{View}
+use Rattle.thread_table.specs.Own.{View}
 use Rattle.thread_table.specs.declared.moves.MoveRefusal.TheVariants as moves
 use Rattle.thread_table.specs.Answers.{MoveAnswer, WaitAnswer}
+use Rattle.thread_table.specs.Entries.{HoldsLess}
 use Rattle.hand_steps.specs.declared.moving.Target.{Target}
 use Rattle.hand_steps.specs.declared.moving.Target.TheVariants as targets
 use Rattle.hand_steps.specs.declared.moving.Waited.{Waited}
 use Rattle.hand_steps.specs.declared.moving.Waited.TheVariants as waited
-use Rattle.hand_steps.specs.Holdings.{HoldsSame, HoldsLess}
+use Rattle.hand_steps.specs.Holdings.{HoldsSame}
 use Rattle.hand_steps.specs.Tallies.{Tally, no_events, one_retired}
 
 -- the element queue that an element is moved to

@@ -1,15 +1,15 @@
 -- What the events in a hand's list come to: the steps that it counted, the signals that it made pending and that it
 -- delivered, the elements that it put behind the free ones, and its takings of free elements.
 use Rattle.std.specs.Prelude.{◌≡◌, ◌==◌, ◌&&◌, ℕ, zero, suc, Bool, List, [], ◌∷◌, ◌++◌, map, slice_index_or}
-use Rattle.std.specs.Prelude.{filter, flat_map}
-use Rattle.std.specs.List.{list_any, range_with_len}
+use Rattle.std.specs.Prelude.{flat_map}
+use Rattle.std.specs.List.{list_any}
 use Rattle.event_theory.specs.declared.alarm.Alarm.{Alarm}
 use Rattle.event_theory.specs.declared.event.Event.{Event}
 use Rattle.event_theory.specs.declared.event.Event.TheVariants as events
 use Rattle.event_theory.specs.declared.names.QueueName.TheVariants as names
 use Rattle.thread_table.specs.declared.rule.Made.{Made}
-use Rattle.thread_table.specs.declared.rule.View.{View}
-use Rattle.thread_table.specs.Answers.{is_in}
+use Rattle.thread_table.specs.Own.{View}
+use Rattle.thread_table.specs.Answers.{signals_in}
 use Rattle.thread_table.specs.Retiring.{taking_by}
 
 -- the step that an event counts: its element, and how many that had done before
@@ -88,10 +88,6 @@ one_signal element signal = record no_events { signalled = (element, signal) ∷
 abbrev pub one_retired : ℕ → ℕ → Tally
 one_retired element number = record no_events { retired = (element, number) ∷ [] }
 
--- the signals of a mask
-abbrev pub signals_in : ℕ → List ℕ
-signals_in mask = filter (is_in mask) (range_with_len 0 16)
-
 -- what a delivery of a mask tells: no event where the mask is empty
 abbrev pub delivery : ℕ → ℕ → List (ℕ × List ℕ)
 delivery element zero = []
@@ -106,7 +102,7 @@ signals_for alarms = record no_events { signalled = map (λ (alarm : Alarm). (al
 
 -- what the hand's list comes to grew by so much
 abbrev pub Adds : Tally → View → View → Type 0
-Adds more v w = tally w.made ≡ behind (tally v.made) more
+Adds more v w = tally w.own.made ≡ behind (tally v.own.made) more
 
 -- whether a signal of an element is among those delivered
 abbrev pub is_delivered : List (ℕ × List ℕ) → ℕ → ℕ → Bool

@@ -4,7 +4,7 @@ use Rattle.event_theory.specs.declared.alarm.Alarm.{Alarm}
 use Rattle.meters.specs.declared.gauges.AdvanceRefusal.{AdvanceRefusal}
 use Rattle.meters.specs.Own.{SeatView, own_of}
 use Rattle.meters.specs.Answers.{AdvancedNow, NotAdvanced, FiredNow}
-use Rattle.thread_table.specs.declared.rule.View.{View}
+use Rattle.thread_table.specs.Own.{View}
 use Rattle.thread_table.specs.declared.states.Signalled.{Signalled}
 use Rattle.thread_table.specs.Answers.{SignalAnswer}
 

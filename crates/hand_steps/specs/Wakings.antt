@@ -3,16 +3,17 @@ use Rattle.std.specs.Prelude.{◌≡◌, ◌<◌, ◌||◌, ◌&&◌, ℕ, zero,
 use Rattle.std.specs.Prelude.{Option, Some, None}
 use Rattle.thread_table.specs.declared.layout.TheConstants.{ELEMENTS}
 use Rattle.thread_table.specs.Layout.{ready_ring}
-use Rattle.thread_table.specs.declared.rule.View.{View}
+use Rattle.thread_table.specs.Own.{View}
 use Rattle.thread_table.specs.declared.states.Lost.{Lost}
 use Rattle.thread_table.specs.declared.states.Started.TheVariants as started
 use Rattle.thread_table.specs.Answers.{StartAnswer, is_in}
+use Rattle.thread_table.specs.Entries.{HoldsMore}
 use Rattle.thread_table.specs.Rules.{has}
 use Rattle.thread_table.specs.Wakes.{WokeAll}
 use Rattle.hand_steps.specs.declared.waking.Woken.{Woken}
 use Rattle.hand_steps.specs.declared.waking.Resumed.{Resumed}
 use Rattle.hand_steps.specs.declared.waking.Resumed.TheVariants as resumed
-use Rattle.hand_steps.specs.Holdings.{HoldsSame, HoldsMore}
+use Rattle.hand_steps.specs.Holdings.{HoldsSame}
 use Rattle.hand_steps.specs.Sendings.{Sent}
 
 -- an element of the mask was made ready, or the ring was spent; one that isn't in the mask was left alone

@@ -1,11 +1,12 @@
 //! How a turn begins: with an element from the ready ring, or with none.
 ghost use Rattle.std.specs.Prelude.{◌≡◌, ◌<◌, true, IfOk, MatchResult};
 ghost use Rattle.thread_table.specs.Answers.{DeliverAnswer};
+ghost use Rattle.thread_table.specs.Entries.{HoldsMore};
 ghost use Rattle.thread_table.specs.Handles.{view_of, call_of, IsHandOf, IsSameHand};
 ghost use Rattle.thread_table.specs.Keeping.{Keeps};
 ghost use Rattle.thread_table.specs.Rules.{done_at, has};
 ghost use Rattle.hand_steps.specs.Dispatches.{Awake, Began, WasIdle, IdleHolds, mask_of};
-ghost use Rattle.hand_steps.specs.Holdings.{HoldsMore, Shows, Steady};
+ghost use Rattle.hand_steps.specs.Holdings.{Shows, Steady};
 ghost use Rattle.hand_steps.specs.Tallies.{Adds, no_events, one_delivery, delivery};
 
 use crate::moving::make_ready;
@@ -111,7 +112,7 @@ pub fn begin<R: Wait>(
     ensures adds { MatchResult result
         (λ begun. Adds (one_delivery begun.element (mask_of begun.delivered)) (view_of hand.old) (view_of hand.new))
         (λ idle. Adds no_events (view_of hand.old) (view_of hand.new)) }
-    ensures number { IfOk result (λ begun. begun.number ≡ done_at (view_of hand.new).schedule begun.element) }
+    ensures number { IfOk result (λ begun. begun.number ≡ done_at (view_of hand.new).seen.object begun.element) }
     ensures steady { Steady (view_of hand.old) (view_of hand.new) }
     ensures signals { MatchResult result
         (λ begun. Shows (delivery begun.element (mask_of begun.delivered)) signals.old signals.new)

@@ -102,7 +102,7 @@ pub fn retire<R: Wait>(rt: &R, threads: &ThreadTable, hand: &mut Hand, element: 
     ensures sent { Sent (call_of hand.old) free_ring element result (view_of hand.old) (view_of hand.new) }
     ensures keeps { Keeps (view_of hand.old) (view_of hand.new) }
     ensures holds { HoldsUnless result element (view_of hand.old) (view_of hand.new) }
-    ensures adds { Adds (retired result element (done_at (view_of hand.old).schedule element)) (view_of hand.old)
+    ensures adds { Adds (retired result element (done_at (view_of hand.old).seen.object element)) (view_of hand.old)
         (view_of hand.new) }
     ensures steady { Steady (view_of hand.old) (view_of hand.new) }
 {

@@ -2,8 +2,9 @@
 ghost use Rattle.std.specs.Prelude.{◌≡◌, ◌≢◌, true, Some, None, slice_set};
 ghost use Rattle.thread_table.specs.Handles.{view_of, call_of, IsHandOf, IsSameHand};
 ghost use Rattle.thread_table.specs.Rules.{has, serves, running};
-ghost use Rattle.thread_table.specs.Steps.{PutsOn, TakesOff};
-ghost use Rattle.hand_steps.specs.Holdings.{IsFree, IsOn, HoldsMore, HoldsLess, KeepsBut, Steady};
+ghost use Rattle.thread_table.specs.Answers.{PutsOn, TakesOff};
+ghost use Rattle.thread_table.specs.Entries.{HoldsMore, HoldsLess};
+ghost use Rattle.hand_steps.specs.Holdings.{IsFree, IsOn, KeepsBut, Steady};
 ghost use Rattle.hand_steps.specs.Tallies.{Adds, no_events};
 
 use event_theory::{Element, Processor};
@@ -17,7 +18,7 @@ pub fn put_on(threads: &ThreadTable, hand: &mut Hand, processor: Processor, elem
     ensures table { IsSameHand hand.old hand.new }
     ensures put { PutsOn (call_of hand.old) processor element (view_of hand.old) (view_of hand.new) }
     ensures there { IsOn processor element (view_of hand.new) }
-    ensures keeps { KeepsBut (slice_set (view_of hand.old).on processor (Some element)) (view_of hand.old)
+    ensures keeps { KeepsBut (slice_set (view_of hand.old).own.on processor (Some element)) (view_of hand.old)
         (view_of hand.new) }
     ensures holds { HoldsLess element (view_of hand.old) (view_of hand.new) }
     ensures adds { Adds no_events (view_of hand.old) (view_of hand.new) }
@@ -37,7 +38,8 @@ pub fn take_off(threads: &ThreadTable, hand: &mut Hand, processor: Processor) ->
     ensures stood { running (view_of hand.old) processor ≡ Some result }
     ensures taken { TakesOff (call_of hand.old) processor result (view_of hand.old) (view_of hand.new) }
     ensures free { IsFree processor (view_of hand.new) }
-    ensures keeps { KeepsBut (slice_set (view_of hand.old).on processor None) (view_of hand.old) (view_of hand.new) }
+    ensures keeps { KeepsBut (slice_set (view_of hand.old).own.on processor None) (view_of hand.old)
+        (view_of hand.new) }
     ensures holds { HoldsMore result (view_of hand.old) (view_of hand.new) }
     ensures adds { Adds no_events (view_of hand.old) (view_of hand.new) }
     ensures steady { Steady (view_of hand.old) (view_of hand.new) }

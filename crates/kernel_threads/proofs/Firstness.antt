@@ -11,7 +11,7 @@ use Rattle.objects.specs.Objects.{IsFirstHand, IsFirstSeat}
 use Rattle.objects.specs.Stocks.{CanGive, shares, chain_shares}
 use Rattle.processor.specs.declared.station.Parts.{Parts}
 use Rattle.thread_table.specs.declared.hand.ThreadTable.{ThreadTable}
-use Rattle.thread_table.specs.declared.rule.View.{View}
+use Rattle.thread_table.specs.Own.{View}
 use Rattle.thread_table.specs.Handles.{view_of, IsOnlyHand}
 use Rattle.kernel_threads.specs.Backs.{SameShares}
 use Rattle.kernel_threads.specs.Readiness.{HasPrepared}
@@ -58,7 +58,7 @@ can_split_eight plan table meters old new hand seat small large chains p =
 pub all_free : (plan : BootPlan) (table : ThreadTable) (old new : Parts) → IsFirstHand table old.hand → HasPrepared plan old new → NoneOn new × ((k : ℕ) → k < 8 → IsFree k (view_of new.hand))
 all_free plan table old new hand p =
     let k = p.hand.moved.keeps in (
-      k.on ∙ ap (λ (v : View). v.on) hand.knows,
+      k.on ∙ ap (λ (v : View). v.own.on) hand.knows,
       λ q low. let f = hand.free q low in (
         ap (λ (z : List Bool). get_or z q false) k.serves ∙ f.0,
         ap (λ (z : List (Option ℕ)). get_or z q None) k.on ∙ f.1,

@@ -1,32 +1,31 @@
 -- How many takings of free elements there were, behind the events of a hand that takes and moves elements, and how many
 -- elements the hand holds.
-use Rattle.std.proofs.Common.{◌≡◌, ℕ, zero, suc, ◌+◌, ◌<◌, ◌≤◌, Bool, true, false, List, [], ◌∷◌, ◌++◌, ◌∙◌, length, get_or, set, refl, sym, ap, arith, length-set}
+use Rattle.std.proofs.Common.{◌≡◌, ℕ, zero, suc, ◌+◌, ◌<◌, ◌≤◌, Bool, true, false, List, [], ◌∷◌, ◌++◌, ◌∙◌, length, get_or, set, Ok, refl, sym, ap, arith, length-set}
+use Rattle.std.proofs.Math.Bridge.{le_prop}
+use Rattle.std.proofs.Math.Logic.{∥∥₁_elim}
 use Rattle.std.specs.Prelude.{filter, ◌||◌, ◌==◌}
 use Rattle.event_theory.specs.Elements.{Elements}
 use Rattle.event_theory.specs.Queues.{Queue, empty_queue}
+use Rattle.event_theory.specs.States.{step}
 use Rattle.event_theory.specs.declared.event.Event.{Event}
-use Rattle.thread_table.specs.declared.rule.View.{View}
+use Rattle.table_theory.specs.Ends.{Begins}
+use Rattle.thread_table.specs.Own.{View}
+use Rattle.thread_table.specs.Answers.{TakeAnswer}
+use Rattle.thread_table.specs.Entries.{take_event}
 use Rattle.thread_table.specs.Retiring.{taking_by}
-use Rattle.thread_table.specs.Schedules.{state_after, elements_after, ring_at}
-use Rattle.thread_table.specs.Steps.{Did}
-use Rattle.thread_table.proofs.Schedule.Following.{Looked}
+use Rattle.thread_table.specs.Schedules.{Past, state_after, elements_after, ring_at}
+use Rattle.thread_table.specs.Telling.{IsHonest}
 use Rattle.thread_table.proofs.Closing.Retiring.{step_takes}
+use Rattle.thread_table.proofs.Events.Answering.{held_more}
+use Rattle.thread_table.proofs.Events.Saying.{change_says}
+use Rattle.thread_table.proofs.Schedule.Orders.{adds_real, adds_in_order, honest_grows}
 use Rattle.thread_table.proofs.Schedule.Schedules.{elements_of}
-use Rattle.hand_steps.proofs.Lawful.{put_in}
 use Rattle.kernel_threads.specs.Elements.{free_taken}
 
 -- MARKS
 
 abbrev marked : List Bool → ℕ
 marked marks = length (filter (λ (held : Bool). held) marks)
-
--- a mark more is one more at most
-pub mark_more : (marks : List Bool) (i : ℕ) → marked (set marks i true) ≤ marked marks + 1
-mark_more [] i = omega arith
-mark_more (true ∷ marks) zero = omega arith
-mark_more (false ∷ marks) zero = omega arith
-mark_more (true ∷ marks) (suc i) = let m = mark_more marks i in omega arith
-mark_more (false ∷ marks) (suc i) = mark_more marks i
 
 -- where the first n are marked, there are as many marks
 pub all_marked : (marks : List Bool) (n : ℕ) → ((i : ℕ) → i < n → get_or marks i false ≡ true) → n ≤ marked marks
@@ -57,7 +56,7 @@ one_more (false ∷ marks) (suc i) low none = one_more marks i (omega arith) non
 -- a mark where none was is one more
 pub mark_new : (xs ys : List Bool) (i : ℕ) → length ys ≡ length xs → i < length xs → get_or xs i false ≡ false → ((e : ℕ) → get_or ys e false ≡ (get_or xs e false || e == i)) → marked ys ≡ marked xs + 1
 mark_new xs ys i long low none each =
-    ap marked (same_marks ys (set xs i true) (long ∙ sym (length-set xs i true)) (λ e. each e ∙ sym (put_in xs i e low)))
+    ap marked (same_marks ys (set xs i true) (long ∙ sym (length-set xs i true)) (λ e. each e ∙ sym (held_more xs i e low)))
     ∙ one_more xs i low none
 
 -- a mark that is taken away is one less
@@ -67,6 +66,12 @@ mark_less (true ∷ marks) zero up = omega arith
 mark_less (false ∷ marks) zero up = absurd (cc)
 mark_less (true ∷ marks) (suc i) up = let m = mark_less marks i up in omega arith
 mark_less (false ∷ marks) (suc i) up = mark_less marks i up
+
+-- what is marked is in the list
+pub mark_in : (marks : List Bool) (i : ℕ) → get_or marks i false ≡ true → i < length marks
+mark_in [] i up = absurd (cc)
+mark_in (b ∷ marks) zero up = omega arith
+mark_in (b ∷ marks) (suc i) up = let m = mark_in marks i up in omega arith
 
 -- where none is marked, there is no mark
 pub none_marked : (marks : List Bool) (n : ℕ) → length marks ≤ n → ((i : ℕ) → i < n → get_or marks i false ≡ false) → marked marks ≡ 0
@@ -83,17 +88,36 @@ none_marked (false ∷ marks) (suc n) few h = none_marked marks n (omega arith) 
 abbrev free_line : List Queue → Queue
 free_line lines = get_or lines 1 (empty_queue 64)
 
--- what a hand saw of the free elements' queue at an event that it made
-pub did_take : (call : ℕ) (v w : View) (word found : ℕ) (event : Event) (knows : List Event → View) → Did call v word found event knows w → free_taken v + length (taking_by event) ≤ free_taken w
-did_take call v w word found event knows d =
-    let past = d.before ++ event ∷ [] in
-    let grown = d.sees.seen.grows 1 in
-    let seen = grown.further in
-    let before : (ring_at (elements_after d.before) 1).taken ≡ (free_line (state_after d.before).elements.rings).taken = ap (λ (z : Elements). (ring_at z 1).taken) (elements_of d.before) in
-    let more : (free_line (state_after past).elements.rings).taken ≡ (free_line (state_after d.before).elements.rings).taken + length (taking_by event) = step_takes event (state_after d.before) (state_after past) d.step in
-    let after : free_taken w ≡ (free_line (state_after past).elements.rings).taken = ap (λ (z : View). free_taken z) d.same ∙ ap (λ (z : Elements). (ring_at z 1).taken) (elements_of past) in
+-- the takings of free elements among these events
+abbrev taken_after : List Event → ℕ
+taken_after events = (ring_at (elements_after events) 1).taken
+
+-- an event more
+one_after : (past : List Event) (event : Event) → step event (state_after past) ≡ Ok (state_after (past ++ event ∷ [])) → taken_after (past ++ event ∷ []) ≡ taken_after past + length (taking_by event)
+one_after past event ok =
+    let all : List Event = past ++ event ∷ [] in
+    let before : taken_after past ≡ (free_line (state_after past).elements.rings).taken = ap (λ (z : Elements). (ring_at z 1).taken) (elements_of past) in
+    let after : taken_after all ≡ (free_line (state_after all).elements.rings).taken = ap (λ (z : Elements). (ring_at z 1).taken) (elements_of all) in
+    let more = step_takes event (state_after past) (state_after all) ok in
     omega arith
 
--- where it only looked
-pub looked_take : (v w : View) → Looked v w → free_taken v ≤ free_taken w
-looked_take v w l = let grown = l.sees.seen.grows 1 in grown.further
+-- what a hand sees of the takings never falls
+pub free_later : (v w : View) → ∥ IsHonest w ∥₁ → Begins v.seen.object w.seen.object → free_taken v ≤ free_taken w
+free_later v w told later = ∥∥₁_elim told le_prop (λ (h : IsHonest w). (honest_grows w h v.seen.object later 1).further)
+
+took_one : (call element : ℕ) (v w : View) → IsHonest v → IsHonest w → TakeAnswer call v 1 (Ok element) w → free_taken v + 1 ≤ free_taken w
+took_one call element v w hv hw t =
+    let event : Event = take_event call 1 in
+    let past : List Event = t.4.object in
+    let all = adds_real v w _ hw t.8.adds in
+    let order = adds_in_order v w _ hv hw t.8.adds in
+    let first = (order.1 1).further in
+    let second = (order.2.1 1).further in
+    let third = (order.2.2.1 1).further in
+    let more = one_after past event (change_says w.own.first _ _ t.4 event all.1.1.0).1 in
+    let now : free_taken w ≡ taken_after (past ++ event ∷ []) = ap (λ (z : Past). taken_after z.object) t.8.seen in
+    omega arith
+
+-- a taking of a free element
+pub took_more : (call element : ℕ) (v w : View) → ∥ IsHonest v ∥₁ → ∥ IsHonest w ∥₁ → TakeAnswer call v 1 (Ok element) w → free_taken v + 1 ≤ free_taken w
+took_more call element v w before behind t = ∥∥₁_elim before le_prop (λ (hv : IsHonest v). ∥∥₁_elim behind le_prop (λ (hw : IsHonest w). took_one call element v w hv hw t))

@@ -1,5 +1,5 @@
 -- What the takings and moves of elements add to the hand's own list of events.
-use Rattle.std.proofs.Common.{◌≡◌, ◌≢◌, ℕ, zero, suc, ◌+◌, ◌-◌, ◌<◌, ◌≤◌, ◌||◌, Bool, true, false, List, [], ◌∷◌, ◌++◌, get_or, refl, sym, ap, subst, ◌∙◌, arith, ⊎_elim}
+use Rattle.std.proofs.Common.{◌≡◌, ◌≢◌, ℕ, zero, suc, ◌+◌, ◌-◌, ◌<◌, ◌≤◌, ◌||◌, Bool, true, false, List, [], ◌∷◌, ◌++◌, get_or, set, refl, sym, ap, subst, ◌∙◌, arith, ⊎_elim}
 use Rattle.std.specs.Prelude.{◌==◌, if◌then◌else◌, filter, flat_map, length, Result, Ok, Err}
 use Rattle.std.specs.List.{range_with_len}
 use Rattle.std.proofs.lemmas.Bool.{eq-eqb}
@@ -8,37 +8,26 @@ use Rattle.std.proofs.lemmas.List.{append_assoc, append-nil, map-append, length-
 use Rattle.std.proofs.lemmas.List.Concat.{flat_map-append}
 use Rattle.event_theory.specs.declared.event.Event.{Event}
 use Rattle.thread_table.specs.declared.rule.Made.{Made}
-use Rattle.thread_table.specs.declared.rule.View.{View}
+use Rattle.thread_table.specs.Own.{View}
 use Rattle.thread_table.specs.declared.takings.NextRefusal.{NextRefusal}
 use Rattle.thread_table.specs.declared.takings.NextRefusal.TheVariants as nexts
 use Rattle.thread_table.specs.declared.moves.MoveRefusal.{MoveRefusal}
 use Rattle.thread_table.specs.declared.moves.MoveRefusal.TheVariants as moves
-use Rattle.thread_table.specs.Answers.{TakeAnswer, MoveAnswer}
+use Rattle.table_theory.specs.Ends.{Begins}
+use Rattle.thread_table.specs.Answers.{TakeAnswer, MoveAnswer, with_move, raise_event, head_in}
+use Rattle.thread_table.specs.Entries.{Step, Acts, HoldsLess, with_event, take_event, claim_event}
 use Rattle.thread_table.specs.Keeping.{Keeps, Stays}
 use Rattle.thread_table.specs.Makers.{made_in}
 use Rattle.thread_table.specs.Retiring.{retired_by, taking_by, free_takings}
 use Rattle.thread_table.specs.Rules.{has}
-use Rattle.thread_table.specs.Schedules.{state_after, elements_after, ring_at, element_at}
-use Rattle.thread_table.specs.Steps.{Found, Did}
-use Rattle.thread_table.specs.Views.{with_claim, with_raise}
-use Rattle.thread_table.proofs.Schedule.Following.{Looked, found_looked, looked_on}
+use Rattle.thread_table.specs.Schedules.{state_after}
+use Rattle.thread_table.specs.Telling.{IsHonest}
+use Rattle.thread_table.specs.Views.{with_held}
+use Rattle.thread_table.proofs.Hands.Unchanged.{take_stays, move_stays}
 use Rattle.std.proofs.lemmas.List.FromFn.{length-range_with_len}
-use Rattle.hand_steps.proofs.Lawful.{took_known, took_unheld}
 use Rattle.processor.proofs.Acting.{keeps_on}
-use Rattle.kernel_threads.proofs.FreeTakings.{did_take, looked_take, mark_more, mark_new, mark_less, all_marked}
-use Rattle.kernel_threads.specs.Elements.{readied_by, other_by, readied, freed, others, free_taken, own_takings, many_held, one_by_one, Moved, TookFree, HoldsLess, HoldsFrom, MadeReady, Freed, Prepared}
-
-looked_stays : (v w : View) → Looked v w → Stays v w
-looked_stays v w l = record {
-  keeps = record {
-    first = ap (λ (z : View). z.first) l.same;
-    serves = ap (λ (z : View). z.serves) l.same;
-    on = ap (λ (z : View). z.on) l.same;
-    share = ap (λ (z : View). z.member.share) l.same;
-  };
-  held = ap (λ (z : View). z.held) l.same;
-  made = ap (λ (z : View). z.made) l.same;
-}
+use Rattle.kernel_threads.proofs.FreeTakings.{free_later, took_more, mark_new, mark_less, mark_in, all_marked}
+use Rattle.kernel_threads.specs.Elements.{readied_by, other_by, readied, freed, others, free_taken, own_takings, many_held, one_by_one, Moved, TookFree, HoldsFrom, MadeReady, Freed, Prepared}
 
 pub stays_on : (u v w : View) → Stays u v → Stays v w → Stays u w
 stays_on u v w a b = record { keeps = keeps_on u v w a.keeps b.keeps; held = b.held ∙ a.held; made = b.made ∙ a.made }
@@ -51,8 +40,8 @@ pub record Waits (v w : View) : Type 0 where
   pub stays : Stays v w
   pub later : free_taken v ≤ free_taken w
 
-looked_waits : (v w : View) → Looked v w → Waits v w
-looked_waits v w l = record { stays = looked_stays v w l; later = looked_take v w l }
+stays_wait : (v w : View) → ∥ IsHonest w ∥₁ → Begins v.seen.object w.seen.object → Stays v w → Waits v w
+stays_wait v w told later s = record { stays = s; later = free_later v w told later }
 
 pub waits_on : (u v w : View) → Waits u v → Waits v w → Waits u w
 waits_on u v w a b = record { stays = stays_on u v w a.stays b.stays; later = let x = a.later in let y = b.later in omega arith }
@@ -93,50 +82,42 @@ moved_on a b c d u v w m n = record {
       let r = length-append a c in let f = length-append b d in omega arith;
 }
 
-one_more : {A : Type 0} (f : Made → List A) (xs ys : List Made) (m : Made) → ys ≡ xs ++ m ∷ [] → flat_map f ys ≡ flat_map f xs ++ f m
-one_more {A} f xs ys m e = ap (flat_map f) e ∙ flat_map-append f xs (m ∷ []) ∙ ap (λ (z : List A). flat_map f xs ++ z) (append-nil (f m))
+more_of : {A : Type 0} (f : Made → List A) (xs ys l : List Made) → ys ≡ xs ++ l → flat_map f ys ≡ flat_map f xs ++ flat_map f l
+more_of f xs ys l e = ap (flat_map f) e ∙ flat_map-append f xs l
 
--- one event more
-did_moved : (call : ℕ) (v w : View) (word found : ℕ) (event : Event) (knows : List Event → View) (ready free : List ℕ) → ((es : List Event) → (knows es).made ≡ v.made) → ((es : List Event) → Keeps v (knows es)) → Did call v word found event knows w
-    → readied_by event ≡ one_by_one ready → retired_by event ≡ one_by_one free → other_by event ≡ [] → length w.held ≡ length v.held → length (taking_by event) + many_held v ≡ many_held w + (length ready + length free) → Moved ready free v w
-did_moved call v w word found event knows ready free made keeps d r f o long own =
-    let m = made_in event (state_after d.before) in
-    let k = keeps d.before in
-    let grew : w.made ≡ v.made ++ m ∷ [] = ap (λ (z : View). z.made) d.same ∙ ap (λ (z : List Made). z ++ m ∷ []) (made d.before) in record {
-      readied_is = one_more (λ (m : Made). readied_by m.event) v.made w.made m grew ∙ ap (λ (z : List (List ℕ)). readied v ++ z) r;
-      freed_is = one_more (λ (m : Made). retired_by m.event) v.made w.made m grew ∙ ap (λ (z : List (List ℕ)). freed v ++ z) f;
-      others_are = one_more (λ (m : Made). other_by m.event) v.made w.made m grew ∙ ap (λ (z : List Event). others v ++ z) o ∙ append-nil (others v);
+-- events more
+acts_moved : (v w now : View) (entries : List Step) (l : List Made) (ready free : List ℕ) → Keeps v now → now.own.made ≡ v.own.made ++ l → Acts v entries now w → free_taken v ≤ free_taken w
+    → flat_map (λ (m : Made). readied_by m.event) l ≡ one_by_one ready → flat_map (λ (m : Made). retired_by m.event) l ≡ one_by_one free → flat_map (λ (m : Made). other_by m.event) l ≡ []
+    → length w.own.held ≡ length v.own.held → length (free_takings l) + many_held v ≡ many_held w + (length ready + length free) → Moved ready free v w
+acts_moved v w now entries l ready free k made a later r f o long own =
+    let grew : w.own.made ≡ v.own.made ++ l = ap (λ (z : View). z.own.made) a.has ∙ made in record {
+      readied_is = more_of (λ (m : Made). readied_by m.event) v.own.made w.own.made l grew ∙ ap (λ (z : List (List ℕ)). readied v ++ z) r;
+      freed_is = more_of (λ (m : Made). retired_by m.event) v.own.made w.own.made l grew ∙ ap (λ (z : List (List ℕ)). freed v ++ z) f;
+      others_are = more_of (λ (m : Made). other_by m.event) v.own.made w.own.made l grew ∙ ap (λ (z : List Event). others v ++ z) o ∙ append-nil (others v);
       keeps = record {
-        first = ap (λ (z : View). z.first) d.same ∙ k.first;
-        serves = ap (λ (z : View). z.serves) d.same ∙ k.serves;
-        on = ap (λ (z : View). z.on) d.same ∙ k.on;
-        share = ap (λ (z : View). z.member.share) d.same ∙ k.share;
+        first = ap (λ (z : View). z.own.first) a.has ∙ k.first;
+        serves = ap (λ (z : View). z.own.serves) a.has ∙ k.serves;
+        on = ap (λ (z : View). z.own.on) a.has ∙ k.on;
+        share = ap (λ (z : View). z.member.share) a.has ∙ k.share;
       };
-      later = let t = did_take call v w word found event knows d in omega arith;
+      later = later;
       long = long;
       own =
-          let more : own_takings w ≡ length (free_takings v.made ++ taking_by event) = ap length (one_more (λ (m : Made). taking_by m.event) v.made w.made m grew) in
-          let parts : length (free_takings v.made ++ taking_by event) ≡ own_takings v + length (taking_by event) = length-append (free_takings v.made) (taking_by event) in omega arith;
+          let more : own_takings w ≡ length (free_takings v.own.made ++ free_takings l) = ap length (more_of (λ (m : Made). taking_by m.event) v.own.made w.own.made l grew) in
+          let parts : length (free_takings v.own.made ++ free_takings l) ≡ own_takings v + length (free_takings l) = length-append (free_takings v.own.made) (free_takings l) in omega arith;
     }
 
-found_two : (u v w : View) (i r j s : ℕ) → Found u i r v → Found v j s w → Looked u w
-found_two u v w i r j s a b = looked_on u v w (found_looked u v i r a) (found_looked v w j s b)
-
--- a refused taking
-take_waits : (call line : ℕ) (v w : View) (r : NextRefusal) → TakeAnswer call v line (Err r) w → Waits v w
-take_waits call line v w nexts.NoneReady a = looked_waits v w (looked_on v a.before w (found_two v a.found.loaded a.before _ _ _ _ a.found.tail_loaded a.found.place_loaded) (found_looked a.before w _ _ a.tail_again))
-take_waits call line v w (nexts.Lost seen) answer = ⊎_elim
-    (λ a. looked_waits v w (looked_on v a.before w (found_two v a.found.loaded a.before _ _ _ _ a.found.tail_loaded a.found.place_loaded) (found_looked a.before w _ _ a.tail_again)))
-    (λ a. looked_waits v w (looked_on v a.before w (found_two v a.found.loaded a.before _ _ _ _ a.found.tail_loaded a.found.place_loaded) (found_looked a.before w _ _ a.missed)))
-    answer
-
 -- a refused move
-pub move_waits : (call line element : ℕ) (v w : View) (r : MoveRefusal) → MoveAnswer call v line element (Err r) w → Waits v w
-move_waits call line element v w moves.Spent a = looked_waits v w (found_looked v w _ _ a.loaded)
-move_waits call line element v w (moves.Lost seen) a = looked_waits v w (found_two v a.before w _ _ _ _ a.found.loaded a.missed)
-move_waits call line element v w (moves.Moved mark) a = absurd a
+pub move_waits : (call line element : ℕ) (v w : View) (r : MoveRefusal) → ∥ IsHonest w ∥₁ → MoveAnswer call v line element (Err r) w → Waits v w
+move_waits call line element v w moves.Spent told a = stays_wait v w told a.3.later (move_stays call line element v w moves.Spent a)
+move_waits call line element v w (moves.Lost seen) told a = stays_wait v w told a.1.4.later (move_stays call line element v w (moves.Lost seen) a)
+move_waits call line element v w (moves.Moved mark) told a = absurd a
 
-same_many : (v w : View) → w.held ≡ v.held → many_held w ≡ many_held v
+take_waits : (call line : ℕ) (v w : View) (r : NextRefusal) → ∥ IsHonest w ∥₁ → TakeAnswer call v line (Err r) w → Waits v w
+take_waits call line v w nexts.NoneReady told a = stays_wait v w told a.6.later (take_stays call line v w nexts.NoneReady a)
+take_waits call line v w (nexts.Lost seen) told a = stays_wait v w told a.6.later (take_stays call line v w (nexts.Lost seen) a)
+
+same_many : (v w : View) → w.own.held ≡ v.own.held → many_held w ≡ many_held v
 same_many v w same = ap (λ (z : List Bool). length (filter (λ (held : Bool). held) z)) same
 
 waits_took : (v w : View) → Waits v w → TookFree v w
@@ -147,28 +128,27 @@ waits_took v w s = record {
 }
 
 -- a taking of a free element, or none
-pub take_took : (call : ℕ) (v w : View) (r : Result ℕ NextRefusal) → TakeAnswer call v 1 r w → TookFree v w
-take_took call v w (Err r) a = waits_took v w (take_waits call 1 v w r a)
-take_took call v w (Ok element) t =
-    let s = looked_waits v t.before (found_two v t.found.loaded t.before _ _ _ _ t.found.tail_loaded t.found.place_loaded) in
-    let one : free_taken t.before + 1 ≤ free_taken w = did_take call t.before w _ _ _ _ t.took.did in
-    let low = took_known call 1 element v w t in
-    let d = t.took.did in
-    let wide = d.hand.held_long in
-    let long : length w.held ≡ length t.before.held = ap (λ (z : View). length z.held) d.same ∙ length-set t.before.held _ true in
-    let none : has t.before element ≡ false = ap (λ (z : List Bool). get_or z element false) s.stays.held ∙ took_unheld call 1 element v w low t in
-    let added : many_held w ≡ many_held t.before + 1 = mark_new t.before.held w.held element long (omega arith) none
-    (λ e. t.holds e ∙ ap (λ (z : List Bool). get_or z e false || e == element) (sym s.stays.held)) in
-    let own : 1 + many_held t.before ≡ many_held w + (0 + 0) = omega arith in
-    let more = mark_more t.before.held (element_at (ring_at (elements_after t.took.did.before) 1) (ring_at (elements_after t.took.did.before) 1).taken) in
-    let marks = ap (λ (z : View). many_held z) t.took.did.same in
-    let same = same_many v t.before s.stays.held in
-    let later = s.later in record {
-      moved = moved_on [] [] [] [] v t.before w (none_moved v t.before s)
-          (did_moved call t.before w _ _ _ _ [] [] (λ es. refl) (λ es. record { first = refl; serves = refl; on = refl; share = refl }) t.took.did refl refl refl long own);
-      held = λ e h. t.holds e ∙ ap (λ (z : Bool). z || e == element) h;
+pub take_took : (call : ℕ) (v w : View) (r : Result ℕ NextRefusal) → ∥ IsHonest v ∥₁ → ∥ IsHonest w ∥₁ → TakeAnswer call v 1 r w → TookFree v w
+take_took call v w (Err r) before behind a = waits_took v w (take_waits call 1 v w r behind a)
+take_took call v w (Ok element) before behind t =
+    let now : View = with_event (with_held v element true) (take_event call 1) in
+    let holds = t.7 in
+    let held : w.own.held ≡ set v.own.held element true = ap (λ (z : View). z.own.held) t.8.has in
+    let long : length w.own.held ≡ length v.own.held = ap length held ∙ length-set v.own.held element true in
+    let new : has w element ≡ true = holds.1 element ∙ ap (λ (b : Bool). has v element || b) (eq-eqb element element refl) ∙ or_true (has v element) in
+    let low : element < length v.own.held = let m = mark_in w.own.held element new in omega arith in
+    let added : many_held w ≡ many_held v + 1 = mark_new v.own.held w.own.held element long low holds.0 holds.1 in
+    let one = took_more call element v w before behind t in
+    let later : free_taken v ≤ free_taken w = omega arith in
+    let own : 1 + many_held v ≡ many_held w + (0 + 0) = omega arith in record {
+      moved = acts_moved v w now _ (record { event = take_event call 1; number = 0; signals = [] } ∷ []) [] [] (record { first = refl; serves = refl; on = refl; share = refl }) refl t.8 later refl refl refl long own;
+      held = λ e h. holds.1 e ∙ ap (λ (z : Bool). z || e == element) h;
       taken = omega arith;
     }
+  where
+    or_true : (b : Bool) → (b || true) ≡ true
+    or_true true = refl
+    or_true false = refl
 
 pub took_none : (v : View) → TookFree v v
 took_none v = waits_took v v (waits_none v)
@@ -176,43 +156,37 @@ took_none v = waits_took v v (waits_none v)
 pub took_on : (u v w : View) → TookFree u v → TookFree v w → TookFree u w
 took_on u v w a b = record { moved = moved_on [] [] [] [] u v w a.moved b.moved; held = λ e h. b.held e (a.held e h); taken = let x = a.taken in let y = b.taken in omega arith }
 
--- the hand lets the element go that it claims a place for
-claim_counts : (call element line : ℕ) (v w : View) (word found : ℕ) (event : Event) → Did call v word found event (λ before. with_claim v line (length (ring_at (elements_after before) line).history) element) w
-    → has v element ≡ true → (length w.held ≡ length v.held) × (0 + many_held v ≡ many_held w + (1 + 0))
-claim_counts call element line v w word found event d here = (
-  ap (λ (z : View). length z.held) d.same ∙ length-set v.held element false,
-  let less = mark_less v.held element here in let same = ap (λ (z : View). many_held z) d.same in omega arith,
+-- the hand lets the element go that it moves
+let_go : (element : ℕ) (v w : View) → has v element ≡ true → w.own.held ≡ set v.own.held element false → (length w.own.held ≡ length v.own.held) × (0 + many_held v ≡ many_held w + 1)
+let_go element v w here held = (
+  ap length held ∙ length-set v.own.held element false,
+  let less = mark_less v.own.held element here in let same = ap (λ (z : List Bool). length (filter (λ (held : Bool). held) z)) held in omega arith,
 )
 
-raise_counts : (call : ℕ) (v w : View) (word found : ℕ) (event : Event) → Did call v word found event (λ before. with_raise v) w → (length w.held ≡ length v.held) × (0 + many_held v ≡ many_held w + (0 + 0))
-raise_counts call v w word found event d = (ap (λ (z : View). length z.held) d.same, let same = ap (λ (z : View). many_held z) d.same in omega arith)
-
 -- a move to the ready ring, after others that were lost
-pub ready_moved : (call element : ℕ) (u v w : View) → has v element ≡ true → Waits u v → MoveAnswer call v 0 element (Ok tt) w → MadeReady element u w
-ready_moved call element u v w here s m =
-    let looks = looked_waits v m.before (found_looked v m.before _ _ m.found.loaded) in
-    let l = waits_on u v m.before s looks in
-    let c = claim_counts call element 0 m.before m.between _ _ _ m.claims.did (ap (λ (z : List Bool). get_or z element false) looks.stays.held ∙ here) in
-    let r = raise_counts call m.between w _ _ _ m.raises in (
-      moved_on [] [] (element ∷ []) [] u m.before w (none_moved u m.before l)
-          (moved_on (element ∷ []) [] [] [] m.before m.between w
-          (did_moved call m.before m.between _ _ _ _ (element ∷ []) [] (λ es. refl) (λ es. record { first = refl; serves = refl; on = refl; share = refl }) m.claims.did refl refl refl c.0 c.1)
-          (did_moved call m.between w _ _ _ _ [] [] (λ es. refl) (λ es. record { first = refl; serves = refl; on = refl; share = refl }) m.raises refl refl refl r.0 r.1)),
-      λ e. m.gone e ∙ ap (λ (z : List Bool). if e == element then false else get_or z e false) s.stays.held,
+pub ready_moved : (call element : ℕ) (u v w : View) → ∥ IsHonest w ∥₁ → has v element ≡ true → Waits u v → MoveAnswer call v 0 element (Ok tt) w → MadeReady element u w
+ready_moved call element u v w told here s m =
+    let a = m.1.7 in
+    let event : Event = claim_event call 0 element in
+    let raise : Event = raise_event call v 0 (head_in m.0) in
+    let c = let_go element v w here (ap (λ (z : View). z.own.held) a.has) in (
+      moved_on [] [] (element ∷ []) [] u v w (none_moved u v s)
+          (acts_moved v w (with_move v element event m.1.2 raise) _ (made_in event (state_after m.1.2.object) ∷ record { event = raise; number = 0; signals = [] } ∷ []) (element ∷ []) []
+          (record { first = refl; serves = refl; on = refl; share = refl }) refl a (free_later v w told a.later) refl refl refl c.0 c.1),
+      λ e. m.1.6 e ∙ ap (λ (z : List Bool). if e == element then false else get_or z e false) s.stays.held,
     )
 
 -- a move behind the free elements, after others that were lost
-pub free_moved : (call element : ℕ) (u v w : View) → has v element ≡ true → Waits u v → MoveAnswer call v 1 element (Ok tt) w → Freed element u w
-free_moved call element u v w here s m =
-    let looks = looked_waits v m.before (found_looked v m.before _ _ m.found.loaded) in
-    let l = waits_on u v m.before s looks in
-    let c = claim_counts call element 1 m.before m.between _ _ _ m.claims.did (ap (λ (z : List Bool). get_or z element false) looks.stays.held ∙ here) in
-    let r = raise_counts call m.between w _ _ _ m.raises in (
-      moved_on [] [] [] (element ∷ []) u m.before w (none_moved u m.before l)
-          (moved_on [] (element ∷ []) [] [] m.before m.between w
-          (did_moved call m.before m.between _ _ _ _ [] (element ∷ []) (λ es. refl) (λ es. record { first = refl; serves = refl; on = refl; share = refl }) m.claims.did refl refl refl c.0 c.1)
-          (did_moved call m.between w _ _ _ _ [] [] (λ es. refl) (λ es. record { first = refl; serves = refl; on = refl; share = refl }) m.raises refl refl refl r.0 r.1)),
-      λ e. m.gone e ∙ ap (λ (z : List Bool). if e == element then false else get_or z e false) s.stays.held,
+pub free_moved : (call element : ℕ) (u v w : View) → ∥ IsHonest w ∥₁ → has v element ≡ true → Waits u v → MoveAnswer call v 1 element (Ok tt) w → Freed element u w
+free_moved call element u v w told here s m =
+    let a = m.1.7 in
+    let event : Event = claim_event call 1 element in
+    let raise : Event = raise_event call v 1 (head_in m.0) in
+    let c = let_go element v w here (ap (λ (z : View). z.own.held) a.has) in (
+      moved_on [] [] [] (element ∷ []) u v w (none_moved u v s)
+          (acts_moved v w (with_move v element event m.1.2 raise) _ (made_in event (state_after m.1.2.object) ∷ record { event = raise; number = 0; signals = [] } ∷ []) [] (element ∷ [])
+          (record { first = refl; serves = refl; on = refl; share = refl }) refl a (free_later v w told a.later) refl refl refl c.0 c.1),
+      λ e. m.1.6 e ∙ ap (λ (z : List Bool). if e == element then false else get_or z e false) s.stays.held,
     )
 
 range_more : (a n : ℕ) → range_with_len a n ++ (a + n) ∷ [] ≡ range_with_len a (suc n)
@@ -267,6 +241,6 @@ prepared count a b c d most t all m n h =
           let x = moved.own in let r = length-range_with_len 0 count in let f = length-range_with_len count (64 - count) in omega arith;
       none = h.gone;
       taken =
-          let many : 64 ≤ many_held b = all_marked b.held 64 (λ e low. all.held e (omega arith) low) in
+          let many : 64 ≤ many_held b = all_marked b.own.held 64 (λ e low. all.held e (omega arith) low) in
           let x = t.taken in let y = m.later in let z = n.later in omega arith;
     }

@@ -15,11 +15,10 @@ use Rattle.processor.specs.Logs.{IsFresh}
 use Rattle.processor.specs.Partings.{AreDivisible, AreSplit}
 use Rattle.processor.specs.Rooms.{HasRoom}
 use Rattle.processor.specs.Stations.{ArePartsOf, AreSameParts}
-use Rattle.table_theory.specs.declared.views.Member.{Member}
 use Rattle.table_theory.specs.declared.views.Part.{Part}
 use Rattle.table_theory.specs.Sharing.{given, kept}
 use Rattle.thread_table.proofs.Lists.Copies.{get_or-copies}
-use Rattle.thread_table.specs.declared.rule.View.{View}
+use Rattle.thread_table.specs.Own.{View}
 use Rattle.thread_table.specs.Answers.{is_in}
 use Rattle.thread_table.specs.Handles as threads
 use Rattle.thread_table.specs.Rules.{running}
@@ -68,7 +67,7 @@ still_at share share' many many' n same shares h q low = let k = kept_more (shar
 
 pub can_split : (mask n : ℕ) (old new born : Parts) → AreSplit mask old new born → AreSameParts old new → CanSplit (n + 1) old → CanSplit n new
 can_split mask n old new born s same c = record {
-  hand = let k = kept_more _ n c.hand in let e = ap (λ (m : Member). m.share) s.hand.member.same in omega arith;
+  hand = let k = kept_more _ n c.hand in let e = ap (λ (v : View). v.member.share) s.hand.acts.has in omega arith;
   small = still_at (share_at old.small.items) (share_at new.small.items) _ _ n (as_many end_table old.small.items new.small.items same.small.tables) s.small.shares c.small;
   large = still_at (share_at old.large.items) (share_at new.large.items) _ _ n (as_many end_table old.large.items new.large.items same.large.tables) s.large.shares c.large;
   chains = still_at (chain_share_at old.chains.items) (chain_share_at new.chains.items) _ _ n (as_many chain_end_table old.chains.items new.chains.items same.chains.tables) s.chains.shares c.chains;
@@ -80,7 +79,7 @@ parted_at a b c e f = let k = all_kept a in omega arith
 
 pub parted : (mask : ℕ) (old new born : Parts) → AreSplit mask old new born → AreParted old new born
 parted mask old new born s = record {
-  hand = parted_at _ _ _ (ap (λ (m : Member). m.share) s.hand.member.same) (ap (λ (v : View). v.member.share) s.born_hand.same);
+  hand = parted_at _ _ _ (ap (λ (v : View). v.member.share) s.hand.acts.has) (ap (λ (v : View). v.member.share) s.born_hand.same);
   small = λ q. parted_at _ _ _ (s.small.shares q) (s.small.given_are q);
   large = λ q. parted_at _ _ _ (s.large.shares q) (s.large.given_are q);
   chains = λ q. parted_at _ _ _ (s.chains.shares q) (s.chains.given_are q);
@@ -118,7 +117,7 @@ pub still_free : (p : ℕ) (old new born : Parts) → p < 8 → AreSplit (1 * 2 
 still_free p old new born low s free k past below =
     let f = free k (omega arith) below in (
       s.hand.serves k below ∙ ap (λ b. b && not (is_in (1 * 2 ^ p % 256) k)) f.0 ∙ ap (λ b. true && not b) (mask_bit p k low ∙ apart (eqb_tells k p)),
-      ap (λ (v : View). running v k) s.hand.same ∙ f.1,
+      ap (λ (v : View). running v k) s.hand.acts.has ∙ f.1,
     )
   where
     apart : ((eqb k p ≡ true) × (k ≡ p)) ⊎ ((eqb k p ≡ false) × (k ≢ p)) → eqb k p ≡ false
@@ -132,11 +131,11 @@ posted shared p turns gate old new station low s parts room fresh = record {
   is = refl;
   usable = record { parts = parts; free = born_free p old new station.parts low s; room = room };
   fresh = fresh;
-  unmoved = (ap (λ (v : View). v.made) s.born_hand.same, ap (λ (v : View). v.held) s.born_hand.same);
-  as_moved = (ap (λ (v : View). v.made) s.hand.same, ap (λ (v : View). v.held) s.hand.same);
+  unmoved = (ap (λ (v : View). v.own.made) s.born_hand.same, ap (λ (v : View). v.own.held) s.born_hand.same);
+  as_moved = (ap (λ (v : View). v.own.made) s.hand.acts.has, ap (λ (v : View). v.own.held) s.hand.acts.has);
   seat = s.own;
   alone = λ k below. s.born_hand.serves k below ∙ mask_bit p k low;
-  none_on = ap (λ (v : View). v.on) s.born_hand.same;
+  none_on = ap (λ (v : View). v.own.on) s.born_hand.same;
   parted = parted (1 * 2 ^ p % 256) old new station.parts s;
   split = (1 * 2 ^ p % 256, s);
 }

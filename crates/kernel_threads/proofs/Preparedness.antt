@@ -20,11 +20,11 @@ use Rattle.event_theory.specs.declared.event.Event.TheVariants as events
 use Rattle.event_theory.specs.declared.names.QueueName.TheVariants as names
 use Rattle.thread_table.specs.declared.hand.ThreadTable.{ThreadTable}
 use Rattle.thread_table.specs.declared.rule.Made.{Made}
-use Rattle.thread_table.specs.declared.rule.View.{View}
+use Rattle.thread_table.specs.Own.{View}
 use Rattle.thread_table.specs.Handles as threads
 use Rattle.thread_table.specs.Retiring as retiring
 use Rattle.kernel_threads.specs.Elements.{other_by, freed, free_taken, own_takings, many_held, one_by_one}
-use Rattle.kernel_threads.proofs.FreeTakings.{none_marked}
+use Rattle.kernel_threads.proofs.FreeTakings.{none_marked, free_later}
 use Rattle.kernel_threads.specs.Readiness.{HasPrepared}
 
 -- EVENTS
@@ -160,14 +160,14 @@ pub first_prepared : (plan : BootPlan) (table : ThreadTable) (meters : Meters) (
 first_prepared plan table meters old new unused hand seat small large chains p =
     let v : View = threads.view_of old.hand in
     let w : View = threads.view_of new.hand in
-    let none_made : v.made ≡ [] = ap (λ (z : View). z.made) hand.knows in
+    let none_made : v.own.made ≡ [] = ap (λ (z : View). z.own.made) hand.knows in
     let none_held : many_held v ≡ 0 = ap (λ (z : View). many_held z) hand.knows in
     let all_taken = p.hand.taken in
     let none_took : own_takings v ≡ 0 = ap (λ (z : List Made). length (retiring.free_takings z)) none_made in
-    let wide : length w.held ≡ 64 = p.hand.moved.long ∙ ap (λ (z : View). length z.held) hand.knows in
-    let none_left : many_held w ≡ 0 = none_marked w.held 64 (omega arith) p.hand.none in
+    let wide : length w.own.held ≡ 64 = p.hand.moved.long ∙ ap (λ (z : View). length z.own.held) hand.knows in
+    let none_left : many_held w ≡ 0 = none_marked w.own.held 64 (omega arith) p.hand.none in
     let all_own = p.hand.own in
-    let calm : AreQuiet w.made = all_quiet w.made (p.hand.moved.others_are ∙ ap (λ (z : List Made). flat_map (λ (m : Made). other_by m.event) z) none_made) in
+    let calm : AreQuiet w.own.made = all_quiet w.own.made (p.hand.moved.others_are ∙ ap (λ (z : List Made). flat_map (λ (m : Made). other_by m.event) z) none_made) in
     let runs : freed w ≡ one_by_one (range_with_len (length plan.threads) (64 - length plan.threads)) =
     p.hand.moved.freed_is ∙ ap (λ (z : List Made). flat_map (λ (m : Made). retiring.retired_by m.event) z ++ one_by_one (range_with_len (length plan.threads) (64 - length plan.threads))) none_made in
     record {
@@ -175,7 +175,7 @@ first_prepared plan table meters old new unused hand seat small large chains p =
       done = calm.steps;
       signalled = calm.raises;
       delivered = calm.delivers;
-      retired = all_done plan w.made (subst (λ z. AllByRecursion (HasNone plan) z) (sym runs) (no_program plan (length plan.threads) (64 - length plan.threads) (omega arith)));
+      retired = all_done plan w.own.made (subst (λ z. AllByRecursion (HasNone plan) z) (sym runs) (no_program plan (length plan.threads) (64 - length plan.threads) (omega arith)));
       took = omega arith;
       small = λ q. (ap (λ z. lines_put_at z.items q) p.small ∙ small.none_put q, ap (λ z. lines_taken_at z.items q) p.small ∙ small.none_taken q);
       small_shuts = λ q. ap (λ z. shuts_at z.items q) p.small ∙ small.none_shut q;
@@ -196,9 +196,8 @@ pub still_prepared : (mask : ℕ) (old new born : Parts) → AreSplit mask old n
 still_prepared mask old new born s plan p =
     let v : View = threads.view_of old.hand in
     let w : View = threads.view_of new.hand in
-    let same : w.made ≡ v.made = ap (λ (z : View). z.made) s.hand.same in
-    let grown = s.hand.sees.seen.grows 1 in
-    let further : free_taken v ≤ free_taken w = grown.further in
+    let same : w.own.made ≡ v.own.made = ap (λ (z : View). z.own.made) s.hand.acts.has in
+    let further : free_taken v ≤ free_taken w = free_later v w new.hand.told s.hand.acts.later in
     let before : 64 ≤ free_taken v = p.taken in
     record {
       taken = omega arith;

@@ -13,9 +13,8 @@ use Rattle.processor.specs.declared.station.Parts.{Parts}
 use Rattle.processor.specs.declared.station.Station.{Station}
 use Rattle.processor.specs.Logs.{LogEntry, Leaves}
 use Rattle.processor.specs.Partings.{AreJoined, AllJoined}
-use Rattle.table_theory.specs.declared.views.Member.{Member}
 use Rattle.thread_table.proofs.Lists.Copies.{get_or-copies}
-use Rattle.thread_table.specs.declared.rule.View.{View}
+use Rattle.thread_table.specs.Own.{View}
 use Rattle.thread_table.specs.Handles as threads
 use Rattle.thread_table.specs.Rules.{serves, nothing_on}
 use Rattle.thread_table.specs.Steps.{either_on}
@@ -109,7 +108,7 @@ hand_is : (G : Type 0) (T : G → ℕ → Point → G → Type 0) → IsShare G 
 hand_is G T = record {
   parted = λ old new born p. p.hand;
   kept = λ shared p turns g g' s b h. h.share;
-  joined = λ a b c j. ap (λ (m : Member). m.share) j.hand.member.same;
+  joined = λ a b c j. ap (λ (v : View). v.member.share) j.hand.acts.has;
 }
 
 small_is : (G : Type 0) (T : G → ℕ → Point → G → Type 0) (q : ℕ) → IsShare G T (λ (parts : Parts). share_at parts.small.items q)
@@ -179,7 +178,7 @@ none_after G T shared p turns (g ∷ gates) old new first last (w ∷ posts) [] 
 none_after G T shared p turns (g ∷ gates) old new first last (w ∷ posts) (s ∷ stations) a z j none =
     let run = ran G T shared p turns g old a.0 w a.1 s z.0 in
     none_after G T shared (p + 1) turns gates a.0 new j.0 last posts stations a.2 z.1 j.2
-    (ap (λ (v : View). v.on) j.1.hand.same ∙ none_either _ _ none (run.on ∙ a.1.none_on))
+    (ap (λ (v : View). v.own.on) j.1.hand.acts.has ∙ none_either _ _ none (run.on ∙ a.1.none_on))
 
 pub came_together : {G : Type 0} (T : G → ℕ → Point → G → Type 0) (shared : Shared) (turns : ℕ) (gates : List G) (old new last : Parts) (posts : List (Work G)) (stations : List (Processed G))
     → ArePosted shared 0 turns gates old new posts → AllZip (GaveBack (HasWorked T) shared) posts (map back_of stations) → AllJoined new (map parts_of stations) last

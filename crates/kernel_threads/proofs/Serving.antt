@@ -7,11 +7,11 @@ use Rattle.atomic_table.specs.Table.{Me}
 use Rattle.spsc_line.specs.declared.line_out.LineOut.{LineOut}
 use Rattle.spsc_line.specs.Lines.{bytes_received}
 use Rattle.claim_queue.specs.Handles as claims
-use Rattle.claim_queue.specs.declared.rule.View.{View}
+use Rattle.claim_queue.specs.Own.{View}
 use Rattle.claim_queue.specs.Lines.{lines_put, PutLine, SameLines}
 use Rattle.proc_chain.specs.declared.ends.ProcChain.{ProcChain}
-use Rattle.proc_chain.specs.declared.rule.View as chains
-use Rattle.proc_chain.specs.Handles.{pact_of, me_of, call_of, IsSameEnd}
+use Rattle.proc_chain.specs.Own as chains
+use Rattle.proc_chain.specs.Handles.{pact_of, me_of, IsSameEnd}
 use Rattle.proc_chain.specs.Notes.{notes_put, alone}
 use Rattle.proc_chain.specs.Rules.{suits, makes}
 use Rattle.quajects.specs.declared.any.AnyQuaject.{AnyQuaject}
@@ -22,31 +22,30 @@ use Rattle.quajects.specs.Notings.{Noted}
 use Rattle.quajects.specs.Raws.{end_of, overruns_of, PutByte}
 use Rattle.kernel_threads.specs.Devices.{without_refused, refused, PutEach, NotedEach, zeros, Served}
 
-module _ (call : ℕ) where
-  put_more : (bytes : List ℕ) (puts : List Bool) (byte : ℕ) (put : Bool) (v u w : View) → PutEach call v bytes puts u → PutByte call u byte put w → PutEach call v (bytes ++ byte ∷ []) (puts ++ put ∷ []) w
-  put_more [] [] byte put v u w e h = (w, subst (λ (z : View). PutByte call z byte put w) e h, refl)
-  put_more [] (p ∷ puts) byte put v u w e h = absurd e
-  put_more (b ∷ bytes) [] byte put v u w e h = absurd e
-  put_more (b ∷ bytes) (p ∷ puts) byte put v u w e h = (e.0, e.1, put_more bytes puts byte put e.0 u w e.2 h)
+put_more : (bytes : List ℕ) (puts : List Bool) (byte : ℕ) (put : Bool) (v u w : View) → PutEach v bytes puts u → PutByte u byte put w → PutEach v (bytes ++ byte ∷ []) (puts ++ put ∷ []) w
+put_more [] [] byte put v u w e h = (w, subst (λ (z : View). PutByte z byte put w) e h, refl)
+put_more [] (p ∷ puts) byte put v u w e h = absurd e
+put_more (b ∷ bytes) [] byte put v u w e h = absurd e
+put_more (b ∷ bytes) (p ∷ puts) byte put v u w e h = (e.0, e.1, put_more bytes puts byte put e.0 u w e.2 h)
 
-  put_line_more : (bytes : List ℕ) (puts : List Bool) (byte : ℕ) (v u : View) → PutEach call v bytes puts u → without_refused (bytes ++ byte ∷ []) (puts ++ true ∷ []) ≡ without_refused bytes puts ++ (byte ∷ []) ∷ []
-  put_line_more [] [] byte v u e = refl
-  put_line_more [] (p ∷ puts) byte v u e = absurd e
-  put_line_more (b ∷ bytes) [] byte v u e = absurd e
-  put_line_more (b ∷ bytes) (true ∷ puts) byte v u e = ap (λ (z : List (List ℕ)). (b ∷ []) ∷ z) (put_line_more bytes puts byte e.0 u e.2)
-  put_line_more (b ∷ bytes) (false ∷ puts) byte v u e = put_line_more bytes puts byte e.0 u e.2
+put_line_more : (bytes : List ℕ) (puts : List Bool) (byte : ℕ) (v u : View) → PutEach v bytes puts u → without_refused (bytes ++ byte ∷ []) (puts ++ true ∷ []) ≡ without_refused bytes puts ++ (byte ∷ []) ∷ []
+put_line_more [] [] byte v u e = refl
+put_line_more [] (p ∷ puts) byte v u e = absurd e
+put_line_more (b ∷ bytes) [] byte v u e = absurd e
+put_line_more (b ∷ bytes) (true ∷ puts) byte v u e = ap (λ (z : List (List ℕ)). (b ∷ []) ∷ z) (put_line_more bytes puts byte e.0 u e.2)
+put_line_more (b ∷ bytes) (false ∷ puts) byte v u e = put_line_more bytes puts byte e.0 u e.2
 
-  no_line_more : (bytes : List ℕ) (puts : List Bool) (byte : ℕ) (v u : View) → PutEach call v bytes puts u → without_refused (bytes ++ byte ∷ []) (puts ++ false ∷ []) ≡ without_refused bytes puts
-  no_line_more [] [] byte v u e = refl
-  no_line_more [] (p ∷ puts) byte v u e = absurd e
-  no_line_more (b ∷ bytes) [] byte v u e = absurd e
-  no_line_more (b ∷ bytes) (true ∷ puts) byte v u e = ap (λ (z : List (List ℕ)). (b ∷ []) ∷ z) (no_line_more bytes puts byte e.0 u e.2)
-  no_line_more (b ∷ bytes) (false ∷ puts) byte v u e = no_line_more bytes puts byte e.0 u e.2
+no_line_more : (bytes : List ℕ) (puts : List Bool) (byte : ℕ) (v u : View) → PutEach v bytes puts u → without_refused (bytes ++ byte ∷ []) (puts ++ false ∷ []) ≡ without_refused bytes puts
+no_line_more [] [] byte v u e = refl
+no_line_more [] (p ∷ puts) byte v u e = absurd e
+no_line_more (b ∷ bytes) [] byte v u e = absurd e
+no_line_more (b ∷ bytes) (true ∷ puts) byte v u e = ap (λ (z : List (List ℕ)). (b ∷ []) ∷ z) (no_line_more bytes puts byte e.0 u e.2)
+no_line_more (b ∷ bytes) (false ∷ puts) byte v u e = no_line_more bytes puts byte e.0 u e.2
 
-  lines_more : (bytes : List ℕ) (puts : List Bool) (byte : ℕ) (put : Bool) (v u w : View) → PutEach call v bytes puts u → lines_put u ≡ lines_put v ++ without_refused bytes puts → MatchBool put (PutLine (byte ∷ []) u w) (SameLines u w)
-      → lines_put w ≡ lines_put v ++ without_refused (bytes ++ byte ∷ []) (puts ++ put ∷ [])
-  lines_more bytes puts byte true v u w e h l = l.puts ∙ ap (λ (z : List (List ℕ)). z ++ (byte ∷ []) ∷ []) h ∙ append_assoc (lines_put v) (without_refused bytes puts) ((byte ∷ []) ∷ []) ∙ ap (λ (z : List (List ℕ)). lines_put v ++ z) (sym (put_line_more bytes puts byte v u e))
-  lines_more bytes puts byte false v u w e h l = l.puts ∙ h ∙ ap (λ (z : List (List ℕ)). lines_put v ++ z) (sym (no_line_more bytes puts byte v u e))
+lines_more : (bytes : List ℕ) (puts : List Bool) (byte : ℕ) (put : Bool) (v u w : View) → PutEach v bytes puts u → lines_put u ≡ lines_put v ++ without_refused bytes puts → MatchBool put (PutLine (byte ∷ []) u w) (SameLines u w)
+    → lines_put w ≡ lines_put v ++ without_refused (bytes ++ byte ∷ []) (puts ++ put ∷ [])
+lines_more bytes puts byte true v u w e h l = l.puts ∙ ap (λ (z : List (List ℕ)). z ++ (byte ∷ []) ∷ []) h ∙ append_assoc (lines_put v) (without_refused bytes puts) ((byte ∷ []) ∷ []) ∙ ap (λ (z : List (List ℕ)). lines_put v ++ z) (sym (put_line_more bytes puts byte v u e))
+lines_more bytes puts byte false v u w e h l = l.puts ∙ h ∙ ap (λ (z : List (List ℕ)). lines_put v ++ z) (sym (no_line_more bytes puts byte v u e))
 
 put_share : (line : List ℕ) (put : Bool) (u w : View) → MatchBool put (PutLine line u w) (SameLines u w) → w.member.share ≡ u.member.share
 put_share line true u w l = l.share
@@ -68,9 +67,9 @@ overruns_more first before after puts false h e =
     let sums : first + refused puts + 1 ≡ first + refused (puts ++ false ∷ []) = let m = refused_more puts in omega (arith, m) in
     e ∙ ap (λ (z : ℕ). (z + 1) % 2 ^ 64) h ∙ mod-add-mod (first + refused puts) (2 ^ 64) 1 ∙ ap (λ (z : ℕ). z % 2 ^ 64) sums
 
-module _ {Q : Type 0} (made : Q → List ℕ → Type 0) (fits : Q → Type 0) (call : ℕ) where
-  noted_more : (bytes : List ℕ) (byte : ℕ) (v u w : Me Q chains.View) → NotedEach made fits call v bytes u → Noted made fits call u 0 w → NotedEach made fits call v (bytes ++ byte ∷ []) w
-  noted_more [] byte v u w e h = (w, subst (λ (z : Me Q chains.View). Noted made fits call z 0 w) e h, refl)
+module _ {Q : Type 0} (made : Q → List ℕ → Type 0) (fits : Q → Type 0) where
+  noted_more : (bytes : List ℕ) (byte : ℕ) (v u w : Me Q chains.View) → NotedEach made fits v bytes u → Noted made fits u 0 w → NotedEach made fits v (bytes ++ byte ∷ []) w
+  noted_more [] byte v u w e h = (w, subst (λ (z : Me Q chains.View). Noted made fits z 0 w) e h, refl)
   noted_more (b ∷ bytes) byte v u w e h = (e.0, e.1, noted_more bytes byte e.0 u w e.2 h)
 
 zeros_more : (count : ℕ) → zeros count ++ alone 0 ∷ [] ≡ zeros (suc count)
@@ -120,14 +119,13 @@ module _ (chain : ProcChain AnyQuaject Queues) (line : LineOut) (tty : RawTty) w
   pub served_more : (count byte : ℕ) (put : Bool) (line1 line2 : LineOut) (tty1 tty2 : RawTty) → Served chain count line tty line1 tty1
       → bytes_received line2 ≡ bytes_received line1 ++ byte ∷ []
       → claims.IsSameEnd (end_of tty1) (end_of tty2)
-      → PutByte (claims.call_of (end_of tty1)) (claims.view_of (end_of tty1)) byte put (claims.view_of (end_of tty2))
+      → PutByte (claims.view_of (end_of tty1)) byte put (claims.view_of (end_of tty2))
       → MatchBool put (PutLine (byte ∷ []) (claims.view_of (end_of tty1)) (claims.view_of (end_of tty2))) (SameLines (claims.view_of (end_of tty1)) (claims.view_of (end_of tty2)))
       → overruns_of tty2 ≡ (if put then overruns_of tty1 else (overruns_of tty1 + 1) % 2 ^ 64)
       → IsSameEnd tty1.chain tty2.chain
-      → Noted (makes MadeOf (pact_of chain)) (suits Fits (pact_of chain)) (call_of tty1.chain) (me_of tty1.chain) 0 (me_of tty2.chain)
+      → Noted (makes MadeOf (pact_of chain)) (suits Fits (pact_of chain)) (me_of tty1.chain) 0 (me_of tty2.chain)
       → Served chain (count + 1) line tty line2 tty2
   served_more count byte put line1 line2 tty1 tty2 s received same tried lines overruns same_chain noted =
-      let call = claims.call_of (end_of tty) in
       let v = claims.view_of (end_of tty) in
       let u = claims.view_of (end_of tty1) in
       let w = claims.view_of (end_of tty2) in
@@ -138,13 +136,12 @@ module _ (chain : ProcChain AnyQuaject Queues) (line : LineOut) (tty : RawTty) w
         received = received ∙ ap (λ (z : List ℕ). z ++ byte ∷ []) s.received ∙ append_assoc (bytes_received line) s.bytes (byte ∷ []);
         puts = s.puts ++ put ∷ [];
         same_end = (same.0 ∙ s.same_end.0, same.1 ∙ s.same_end.1);
-        put = put_more call s.bytes s.puts byte put v u w s.put (subst (λ (z : ℕ). PutByte z u byte put w) s.same_end.1 tried);
-        lines = lines_more call s.bytes s.puts byte put v u w s.put s.lines lines;
+        put = put_more s.bytes s.puts byte put v u w s.put tried;
+        lines = lines_more s.bytes s.puts byte put v u w s.put s.lines lines;
         overruns = overruns_more (overruns_of tty) (overruns_of tty1) (overruns_of tty2) s.puts put s.overruns overruns;
         share = put_share (byte ∷ []) put u w lines ∙ s.share;
         same_chain = (same_chain.0 ∙ s.same_chain.0, same_chain.1 ∙ s.same_chain.1);
-        noted = noted_more made fits (call_of tty.chain) s.bytes byte (me_of tty.chain) (me_of tty1.chain) (me_of tty2.chain) s.noted
-            (subst (λ (z : ℕ). Noted made fits z (me_of tty1.chain) 0 (me_of tty2.chain)) s.same_chain.1 noted);
+        noted = noted_more made fits s.bytes byte (me_of tty.chain) (me_of tty1.chain) (me_of tty2.chain) s.noted noted;
         chained = few.chained;
         at_most = few.at_most;
         notes = few.notes;

@@ -4,8 +4,8 @@ use Rattle.std.specs.List.{concat}
 use Rattle.std.proofs.Math.Nat.{mod-eq_of_lt}
 use Rattle.boot_data.specs.declared.plan.PlannedTty.{PlannedTty}
 use Rattle.claim_queue.specs.declared.ends.ClaimQueue.{ClaimQueue}
-use Rattle.claim_queue.specs.declared.rule.View.{View}
-use Rattle.claim_queue.specs.Handles.{view_of, call_of}
+use Rattle.claim_queue.specs.Own.{View}
+use Rattle.claim_queue.specs.Handles.{view_of}
 use Rattle.claim_queue.specs.Lines.{line_of, lines_put}
 use Rattle.objects.specs.declared.device.Device.{Device}
 use Rattle.objects.specs.Devices.{IsDevice}
@@ -30,12 +30,11 @@ served_all queues chains raw chain device its p input line tty d few sent s whol
     let typed : List ℕ = p.typed in
     let v : View = view_of (end_of device.tty) in
     let w : View = view_of (end_of tty) in
-    let call = call_of (end_of device.tty) in
-    let none_runs : v.part.runs ≡ [] = d.unused.0 in
+    let none_runs : v.own.runs ≡ [] = d.unused.0 in
     let received : bytes_received line ≡ s.bytes = s.received ∙ ap (λ (z : List ℕ). z ++ s.bytes) d.output.1 in
     let all_sent : bytes_sent input ≡ typed = sent ∙ ap (λ (z : List ℕ). z ++ typed) d.input.1 in
     let popped : s.bytes ≡ typed = all_received s.bytes (bytes_left input line) typed (ap (λ (z : List ℕ). z ++ bytes_left input line) (sym received) ∙ whole ∙ all_sent) s.many in
-    let answers : length s.puts ≡ length s.bytes = as_many_answers call s.bytes s.puts v w s.put in
+    let answers : length s.puts ≡ length s.bytes = as_many_answers s.bytes s.puts v w s.put in
     let fewer = few_refused s.puts in
     let small : refused s.puts < 2 ^ 64 = (let m = s.many in omega arith) in
     let none_before : 0 + refused s.puts ≡ refused s.puts = omega arith in
@@ -46,7 +45,7 @@ served_all queues chains raw chain device its p input line tty d few sent s whol
       put = subst (λ (z : List ℕ). AreWithout z (overruns_of tty) (concat (lines_put w))) (sym received)
           (subst (λ (z : ℕ). AreWithout s.bytes z (concat (lines_put w))) (sym overruns)
           (subst (λ (z : List (List ℕ)). AreWithout s.bytes (refused s.puts) (concat z)) (sym lines) (put_without s.bytes s.puts answers)));
-      ascends = puts_ascend call s.bytes s.puts v w s.put none_runs;
+      ascends = puts_ascend s.bytes s.puts v w s.put none_runs;
       took_none = tty.only;
-      shut_none = puts_shut_none call s.bytes s.puts v w s.put ∙ d.none_shut;
+      shut_none = puts_shut_none s.bytes s.puts v w s.put ∙ d.none_shut;
     }

@@ -5,11 +5,11 @@ use Rattle.atomic_table.specs.Table.{Me}
 use Rattle.spsc_line.specs.declared.line_out.LineOut.{LineOut}
 use Rattle.spsc_line.specs.Lines.{bytes_received}
 use Rattle.claim_queue.specs.Handles as claims
-use Rattle.claim_queue.specs.declared.rule.View.{View}
+use Rattle.claim_queue.specs.Own.{View}
 use Rattle.claim_queue.specs.Lines.{lines_put}
 use Rattle.proc_chain.specs.declared.ends.ProcChain.{ProcChain}
-use Rattle.proc_chain.specs.declared.rule.View as chains
-use Rattle.proc_chain.specs.Handles.{pact_of, me_of, call_of, IsSameEnd}
+use Rattle.proc_chain.specs.Own as chains
+use Rattle.proc_chain.specs.Handles.{pact_of, me_of, IsSameEnd}
 use Rattle.proc_chain.specs.Notes.{notes_put, alone}
 use Rattle.proc_chain.specs.Rules.{suits, makes}
 use Rattle.quajects.specs.declared.any.AnyQuaject.{AnyQuaject}
@@ -32,17 +32,17 @@ refused (true ∷ puts) = refused puts
 refused (false ∷ puts) = suc (refused puts)
 
 -- the end tried to put each of these bytes as a line of its own, in their order, each with this answer
-abbrev pub PutEach : ℕ → View → List ℕ → List Bool → View → Type 0
-PutEach call v [] [] w = w ≡ v
-PutEach call v (byte ∷ bytes) (put ∷ puts) w = (u : View) × PutByte call v byte put u × PutEach call u bytes puts w
-PutEach call v bytes puts w = ⊥
+abbrev pub PutEach : View → List ℕ → List Bool → View → Type 0
+PutEach v [] [] w = w ≡ v
+PutEach v (byte ∷ bytes) (put ∷ puts) w = (u : View) × PutByte v byte put u × PutEach u bytes puts w
+PutEach v bytes puts w = ⊥
 
 -- the end chained note 0 so many times, one behind the other, each as far as the chain had room
-abbrev pub NotedEach : {Q : Type 0} → (Q → List ℕ → Type 0) → (Q → Type 0) → ℕ → Me Q chains.View → List ℕ
+abbrev pub NotedEach : {Q : Type 0} → (Q → List ℕ → Type 0) → (Q → Type 0) → Me Q chains.View → List ℕ
     → Me Q chains.View → Type 0
-NotedEach made fits call me [] w = w ≡ me
-NotedEach {Q} made fits call me (byte ∷ bytes) w =
-    (u : Me Q chains.View) × Noted made fits call me 0 u × NotedEach made fits call u bytes w
+NotedEach made fits me [] w = w ≡ me
+NotedEach {Q} made fits me (byte ∷ bytes) w =
+    (u : Me Q chains.View) × Noted made fits me 0 u × NotedEach made fits u bytes w
 
 -- so many notes 0
 abbrev pub zeros : ℕ → List (List ℕ)
@@ -58,15 +58,14 @@ pub record Served (chain : ProcChain AnyQuaject Queues) (count : ℕ) (line : Li
   pub received : bytes_received line' ≡ bytes_received line ++ bytes
   pub puts : List Bool
   pub same_end : claims.IsSameEnd (end_of tty) (end_of tty')
-  pub put : PutEach (claims.call_of (end_of tty)) (claims.view_of (end_of tty)) bytes puts
-      (claims.view_of (end_of tty'))
+  pub put : PutEach (claims.view_of (end_of tty)) bytes puts (claims.view_of (end_of tty'))
   pub lines : lines_put (claims.view_of (end_of tty')) ≡ lines_put (claims.view_of (end_of tty))
       ++ without_refused bytes puts
   pub overruns : overruns_of tty' ≡ (overruns_of tty + refused puts) % 2 ^ 64
   pub share : (claims.view_of (end_of tty')).member.share ≡ (claims.view_of (end_of tty)).member.share
   pub same_chain : IsSameEnd tty.chain tty'.chain
-  pub noted : NotedEach (makes MadeOf (pact_of chain)) (suits Fits (pact_of chain)) (call_of tty.chain)
-      (me_of tty.chain) bytes (me_of tty'.chain)
+  pub noted : NotedEach (makes MadeOf (pact_of chain)) (suits Fits (pact_of chain)) (me_of tty.chain)
+      bytes (me_of tty'.chain)
   pub chained : ℕ
   pub at_most : chained ≤ count
   pub notes : notes_put (me_of tty'.chain).0 ≡ notes_put (me_of tty.chain).0 ++ zeros chained

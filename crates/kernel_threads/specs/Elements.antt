@@ -1,12 +1,13 @@
 -- What was done with thread elements before the first turn, as the hand's own list of events tells it.
-use Rattle.std.specs.Prelude.{◌≡◌, ℕ, ◌+◌, ◌-◌, ◌<◌, ◌≤◌, ◌==◌, Bool, true, false, if◌then◌else◌, List, [], ◌∷◌}
+use Rattle.std.specs.Prelude.{◌≡◌, ℕ, ◌+◌, ◌-◌, ◌<◌, ◌≤◌, Bool, true, false, List, [], ◌∷◌}
 use Rattle.std.specs.Prelude.{◌++◌, map, length, filter, flat_map}
 use Rattle.std.specs.List.{range_with_len}
 use Rattle.event_theory.specs.declared.event.Event.{Event}
 use Rattle.event_theory.specs.declared.event.Event.TheVariants as events
 use Rattle.event_theory.specs.declared.names.QueueName.TheVariants as names
 use Rattle.thread_table.specs.declared.rule.Made.{Made}
-use Rattle.thread_table.specs.declared.rule.View.{View}
+use Rattle.thread_table.specs.Own.{View}
+use Rattle.thread_table.specs.Entries.{HoldsLess}
 use Rattle.thread_table.specs.Keeping.{Keeps}
 use Rattle.thread_table.specs.Retiring.{retired_by, free_takings}
 use Rattle.thread_table.specs.Rules.{has}
@@ -28,27 +29,27 @@ other_by event = event ∷ []
 
 -- the runs that the hand put into the ready ring, in their order
 abbrev pub readied : View → List (List ℕ)
-readied v = flat_map (λ (m : Made). readied_by m.event) v.made
+readied v = flat_map (λ (m : Made). readied_by m.event) v.own.made
 
 -- the runs that the hand put behind the free elements, in their order
 abbrev pub freed : View → List (List ℕ)
-freed v = flat_map (λ (m : Made). retired_by m.event) v.made
+freed v = flat_map (λ (m : Made). retired_by m.event) v.own.made
 
 -- what else the hand did
 abbrev pub others : View → List Event
-others v = flat_map (λ (m : Made). other_by m.event) v.made
+others v = flat_map (λ (m : Made). other_by m.event) v.own.made
 
 -- how many takings of free elements there were, by all hands, when the hand last looked
 abbrev pub free_taken : View → ℕ
-free_taken v = (ring_at (elements_after v.schedule) 1).taken
+free_taken v = (ring_at (elements_after v.seen.object) 1).taken
 
 -- how many takings of free elements are in the hand's own list
 abbrev pub own_takings : View → ℕ
-own_takings v = length (free_takings v.made)
+own_takings v = length (free_takings v.own.made)
 
 -- how many elements the hand holds
 abbrev pub many_held : View → ℕ
-many_held v = length (filter (λ (held : Bool). held) v.held)
+many_held v = length (filter (λ (held : Bool). held) v.own.held)
 
 -- each of these elements, in a run of its own
 abbrev pub one_by_one : List ℕ → List (List ℕ)
@@ -63,7 +64,7 @@ pub record Moved (ready free : List ℕ) (v w : View) : Type 0 where
   pub others_are : others w ≡ others v
   pub keeps : Keeps v w
   pub later : free_taken v ≤ free_taken w
-  pub long : length w.held ≡ length v.held
+  pub long : length w.own.held ≡ length v.own.held
   pub own : own_takings v + many_held w + (length ready + length free) ≡ own_takings w + many_held v
 
 -- the hand took free elements, and holds what it held beside them: for each that it has more there was a taking
@@ -71,10 +72,6 @@ pub record TookFree (v w : View) : Type 0 where
   pub moved : Moved [] [] v w
   pub held : (e : ℕ) → has v e ≡ true → has w e ≡ true
   pub taken : free_taken v + many_held w ≤ free_taken w + many_held v
-
--- all elements but this one are held as they were
-abbrev pub HoldsLess : ℕ → View → View → Type 0
-HoldsLess element v w = (e : ℕ) → has w e ≡ (if e == element then false else has v e)
 
 -- of the 64 elements it holds those from this number on, and no other
 pub record HoldsFrom (count : ℕ) (v : View) : Type 0 where

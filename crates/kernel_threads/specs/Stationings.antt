@@ -41,16 +41,16 @@ pub record AreParted (old new born : Parts) : Type 0 where
 
 -- nothing stands on any processor
 abbrev pub NoneOn : Parts → Type 0
-NoneOn parts = (threads.view_of parts.hand).on ≡ nothing_on
+NoneOn parts = (threads.view_of parts.hand).own.on ≡ nothing_on
 
 -- the hand has made no event and holds no element
 abbrev pub IsUnmoved : Parts → Type 0
-IsUnmoved parts = ((threads.view_of parts.hand).made ≡ []) × ((threads.view_of parts.hand).held ≡ nothing_held)
+IsUnmoved parts = ((threads.view_of parts.hand).own.made ≡ []) × ((threads.view_of parts.hand).own.held ≡ nothing_held)
 
 -- the hand has made no event more, and holds what it held
 abbrev pub IsAsMoved : Parts → Parts → Type 0
-IsAsMoved old new = ((threads.view_of new.hand).made ≡ (threads.view_of old.hand).made)
-    × ((threads.view_of new.hand).held ≡ (threads.view_of old.hand).held)
+IsAsMoved old new = ((threads.view_of new.hand).own.made ≡ (threads.view_of old.hand).own.made)
+    × ((threads.view_of new.hand).own.held ≡ (threads.view_of old.hand).own.held)
 
 -- the work of a processor on a station that has done nothing yet, of which the first has given a part and has done
 -- nothing else: it serves this processor alone

@@ -43,8 +43,8 @@ pub record HasRun {G : Type 0} (T : G → ℕ → Point → G → Type 0) (share
   pub told : ToldTurns T shared p station.parts back.parts turns gate gate'
   pub logged : Logged shared.plan station.parts back.parts
   pub leaves : IsFresh station.parts → HasLeft shared.plan back.parts
-  pub on : (view_of back.parts.hand).on ≡ (view_of station.parts.hand).on
-  pub serves : (view_of back.parts.hand).serves ≡ (view_of station.parts.hand).serves
+  pub on : (view_of back.parts.hand).own.on ≡ (view_of station.parts.hand).own.on
+  pub serves : (view_of back.parts.hand).own.serves ≡ (view_of station.parts.hand).own.serves
   pub share : (view_of back.parts.hand).member.share ≡ (view_of station.parts.hand).member.share
 
 -- a raw tty of these objects, whose chain has this index

@@ -43,7 +43,7 @@ still_one v w e one = ap (λ (z : Part). z.ends) e ∙ one
 
 -- the clock
 pub lost_clock : (v u w : SeatView) (was found : ℕ) → Looked v clock_word was u → was ≡ u.seen.object.clock → Looked u clock_word found w → found ≡ w.seen.object.clock → found ≢ was → IsHonest of_meters u → IsHonest of_meters w → NotAdvanced v (not_advanced.Lost found) w
-lost_clock v u w was found a is b now ne x y = let up = clock_seen u w (load clock_word found b.at ∷ []) x y b.made.adds in (was, a.at, b.at, omega arith, adds_on v u w (load clock_word was a.at ∷ []) (load clock_word found b.at ∷ []) a.made.adds b.made.adds)
+lost_clock v u w was found a is b now ne x y = let up = clock_seen u w (load clock_word found b.at ∷ []) x y b.made.adds in (was, a.at, b.at, omega arith, adds_on v u w (load clock_word was a.at ∷ []) (load clock_word found b.at ∷ []) a.made.member a.made.adds b.made.adds)
 
 pub spent_clock : (v w : SeatView) (found : ℕ) → Looked v clock_word found w → found ≡ 4294967295 → NotAdvanced v not_advanced.Spent w
 spent_clock v w found a e = let l : Looked v clock_word 4294967295 w = subst (λ (z : ℕ). Looked v clock_word z w) e a in (l.at, l.made.adds)
@@ -58,7 +58,7 @@ pub two_looks : (v u w : SeatView) (word found word' found' : ℕ) → Looked v 
 two_looks v u w word found word' found' a b = looked_own u w word' found' b ∙ looked_own v u word found a
 
 pub advanced_now : (v u w : SeatView) (was : ℕ) → Looked v clock_word was u → WasAdvanced u was w → AdvancedNow v (was + 1) w
-advanced_now v u w was a b = (was, a.at, b.0, refl, adds_on v u w (load clock_word was a.at ∷ []) _ a.made.adds b.1.adds)
+advanced_now v u w was a b = (was, a.at, b.0, refl, adds_on v u w (load clock_word was a.at ∷ []) _ a.made.member a.made.adds b.1.adds)
 
 pub advance_did : (v u w : SeatView) (was : ℕ) → Looked v clock_word was u → WasAdvanced u was w → DidAdvance (was + 1) v w
 advance_did v u w was a b = own_by u w (record u.own { advances = u.own.advances ++ (was + 1) ∷ [] }) b.1.did b.1.member ∙ (λ i. own_of (record v { own = record (a.made.did i) { advances = (a.made.did i).advances ++ (was + 1) ∷ [] }; member = a.made.member i }))
@@ -100,7 +100,7 @@ empty_slot u x slot (Some alarm) f e = absurd (true≢false e)
 
 pub set_now : (v u x w : SeatView) (slot : ℕ) (stood : Option Alarm) (alarm : Alarm) → slot < 16 → Searched v slot u → FoundIn u slot stood x → is_some stood ≡ false → WasSet x slot alarm w → SetNow v slot alarm w
 set_now v u x w slot stood alarm below s f e h = let g = empty_slot u x slot stood f e in
-    (s.taken, g.at, h.0, s.as_many, below, s.full, adds_on v u w (scan 0 s.taken) _ s.made.adds (adds_on u x w (load (slot_word slot) 0 g.at ∷ []) (change (slot_word slot) 0 h.0 (with_alarm h.0.object slot alarm) ∷ []) g.made.adds h.1.adds))
+    (s.taken, g.at, h.0, s.as_many, below, s.full, adds_on v u w (scan 0 s.taken) _ s.made.member s.made.adds (adds_on u x w (load (slot_word slot) 0 g.at ∷ []) (change (slot_word slot) 0 h.0 (with_alarm h.0.object slot alarm) ∷ []) g.made.member g.made.adds h.1.adds))
 
 pub set_did : (v u x w : SeatView) (slot : ℕ) (stood : Option Alarm) (alarm : Alarm) → Searched v slot u → FoundIn u slot stood x → WasSet x slot alarm w → DidSet alarm v w
 set_did v u x w slot stood alarm s f h = let own : x.own ≡ v.own = f.looked.made.did ∙ s.made.did in let member : x.member ≡ v.member = f.looked.made.member ∙ s.made.member in
@@ -108,7 +108,7 @@ set_did v u x w slot stood alarm s f h = let own : x.own ≡ v.own = f.looked.ma
 
 pub lost_slot : (v u x w : SeatView) (slot : ℕ) (stood : Option Alarm) → slot < 16 → Searched v slot u → FoundIn u slot stood x → is_some stood ≡ false → FoundOther x slot None w → NotSet v (not_set.Lost slot) w
 lost_slot v u x w slot stood below s f e (other, o, ne) = let g = empty_slot u x slot stood f e in let some : 0 < other = omega arith in
-    (s.taken, other, g.at, o.at, s.as_many, below, s.full, some, adds_on v u w (scan 0 s.taken) _ s.made.adds (adds_on u x w (load (slot_word slot) 0 g.at ∷ []) (load (slot_word slot) other o.at ∷ []) g.made.adds o.made.adds))
+    (s.taken, other, g.at, o.at, s.as_many, below, s.full, some, adds_on v u w (scan 0 s.taken) _ s.made.member s.made.adds (adds_on u x w (load (slot_word slot) 0 g.at ∷ []) (load (slot_word slot) other o.at ∷ []) g.made.member g.made.adds o.made.adds))
 
 pub lost_nothing : (v u x w : SeatView) (slot : ℕ) (stood : Option Alarm) → Searched v slot u → FoundIn u slot stood x → FoundOther x slot None w → DidNothing v w
 lost_nothing v u x w slot stood s f (other, o, ne) = looked_own x w _ _ o ∙ (looked_own u x _ _ f.looked ∙ searched_nothing v u slot s)
@@ -202,7 +202,7 @@ swept_few v w clock slot alarms s = let f = few s.visits in let n = s.as_many in
 
 -- a load of the clock, and then the slots
 pub fired_now : (v u w : SeatView) (clock : ℕ) (alarms : List Alarm) → Looked v clock_word clock u → Swept u clock 16 alarms w → FiredNow v alarms w
-fired_now v u w clock alarms f s = (clock, f.at, s.visits, s.as_many, s.fit, s.alarms_are, adds_on v u w (load clock_word clock f.at ∷ []) (tour 0 s.visits) f.made.adds s.made.adds)
+fired_now v u w clock alarms f s = (clock, f.at, s.visits, s.as_many, s.fit, s.alarms_are, adds_on v u w (load clock_word clock f.at ∷ []) (tour 0 s.visits) f.made.member f.made.adds s.made.adds)
 
 pub due_did : (v u w : SeatView) (clock : ℕ) (alarms : List Alarm) → Looked v clock_word clock u → Swept u clock 16 alarms w → DidFire alarms v w
 due_did v u w clock alarms f s = own_by u w (record u.own { fired = u.own.fired ++ filter_map gave s.visits }) s.made.did s.made.member ∙

@@ -79,7 +79,7 @@ gauge_says e gauge below is r = at_word e (gauge_word gauge) is r ∙ r.shows.ga
 pub clock_says : (e : Step Reading) → e.word ≡ clock_word → IsReal of_meters e → (e.found ≡ e.then.object.clock) × (e.found < 4294967296)
 clock_says e is r = let f = at_word e clock_word is r ∙ r.shows.clock in let b = r.shows.bounded in (f, omega arith)
 
-slot_says : (e : Step Reading) (slot : ℕ) → slot < 16 → e.word ≡ slot_word slot → IsReal of_meters e → e.found ≡ word_of (in_slot e.then.object slot)
+pub slot_says : (e : Step Reading) (slot : ℕ) → slot < 16 → e.word ≡ slot_word slot → IsReal of_meters e → e.found ≡ word_of (in_slot e.then.object slot)
 slot_says e slot below is r = at_word e (slot_word slot) is r ∙ r.shows.slots.each slot below
 
 pub empty_says : (e : Step Reading) (slot : ℕ) → slot < 16 → e.word ≡ slot_word slot → IsReal of_meters e → e.found ≡ 0 → in_slot e.then.object slot ≡ None

@@ -8,6 +8,7 @@ pub mod Stepping
 pub mod Tallying
 pub mod Finding
 pub mod Following
+pub mod Lone
 pub mod Betweens
 pub mod Opening
 pub mod Settling

@@ -3,7 +3,6 @@ use Rattle.std.proofs.Common.{◌≡◌, ◌≢◌, ℕ, suc, zero, ◌+◌, ◌
 use Rattle.std.proofs.lemmas.Grind.{same_number_lists}
 use Rattle.std.proofs.lemmas.List.Elements.{filter_map-append}
 use Rattle.std.proofs.lemmas.List.Sums.{sum_by-cons}
-use Rattle.std.proofs.Math.Logic.{∥∥₁_map}
 use mathlib.Core.Option as maybe
 use mathlib.Core.Logic.{dite}
 use native.Mathlib.Decide.{ℕ_discrete}
@@ -12,10 +11,10 @@ use Rattle.atomic_table.specs.Table.{Final, Seen}
 use Rattle.event_theory.specs.declared.alarm.Alarm.{Alarm}
 use Rattle.event_theory.specs.Lawful.{is_alarm, stands}
 use Rattle.table_theory.specs.Sharing.{IsWhole}
+use Rattle.table_theory.specs.declared.views.Moment.{Moment}
 use Rattle.table_theory.specs.declared.views.Part.{Part}
-use Rattle.table_theory.specs.Ledgers.{Tallied, IsHonest}
-use Rattle.table_theory.proofs.Ledgers.{seen_leads}
-use Rattle.table_theory.proofs.Reaching.{reaches_on, reaches_since}
+use Rattle.table_theory.specs.Ledgers.{Tallied}
+use Rattle.table_theory.proofs.Ledgers.{whole_seen}
 use Rattle.table_theory.proofs.Standing.{rest_spent, number_is}
 use Rattle.table_theory.proofs.Totals.{sole_total, two_of}
 use Rattle.meters.specs.Layout.{ends_word, word_of}
@@ -82,28 +81,31 @@ all_of first m v lawful h = record {
 same_all : (v : SeatView) (first : ℕ) (gauges gauges' : List ℕ) (clock clock' : ℕ) (alarms alarms' : List Alarm) → gauges ≡ gauges' → clock ≡ clock' → alarms ≡ alarms' → IsAllOf v first gauges' clock' alarms' → IsAllOf v first gauges clock alarms
 same_all v first gauges gauges' clock clock' alarms alarms' e f g a = subst (λ z. IsAllOf v first z clock alarms) (sym e) (subst (λ z. IsAllOf v first gauges' z alarms) (sym f) (subst (λ z. IsAllOf v first gauges' clock' z) (sym g) a))
 
-pub closes : (key : Shape) (v w : SeatView) (found id : ℕ) (ws : List ℕ) (xs : List Unit) (gauges : List ℕ) (clock : ℕ) (alarms : List Alarm) → v.member.ends ≡ 1 → ∥ IsHonest of_meters v ∥₁ → IsHonest of_meters w → Tallied ends_word v found w → found ≡ 1 → Final (Seen (Rule key) id w) ws xs
+-- the clock that was read fits a tick
+pub clock_fits : (key : Shape) (w : SeatView) (id : ℕ) (ws : List ℕ) (xs : List Unit) (clock : ℕ) → Final (Seen (Rule key) id w) ws xs → get_elem? ws 9 ≡ maybe.some clock → clock < 4294967296
+clock_fits key w id ws xs clock fin read = let k = fin.1.0 in let shows : WordsShow k.now.object ws = subst (WordsShow k.now.object) fin.2 k.shows in let is = shows.clock in let b = shows.bounded in let r = read_word ws 9 clock read in omega arith
+
+pub closes : (key : Shape) (v w : SeatView) (found id : ℕ) (ws : List ℕ) (xs : List Unit) (gauges : List ℕ) (clock : ℕ) (alarms : List Alarm) → v.member.ends ≡ 1 → Tallied ends_word v found w → found ≡ 1 → Final (Seen (Rule key) id w) ws xs
     → gauges ≡ take 8 (drop 1 ws) → get_elem? ws 9 ≡ maybe.some clock → ((slots : List (Option Alarm)) → SlotsShow slots ws → alarms ≡ standing slots) → ClosedNow key.clock v gauges clock alarms
-closes key v w found id ws xs gauges clock alarms one_end true_v true_w t is fin read_gauges read_clock read_alarms =
-    let s : St = fin.0 in let k = fin.1.0 in let at = fin.1.1 in let m : Reading = k.now.object in let shows : WordsShow m ws = subst (WordsShow m) fin.2 k.shows in
+closes key v w found id ws xs gauges clock alarms one_end t is fin read_gauges read_clock read_alarms =
+    let s : St = fin.0 in let k = fin.1.0 in let at = fin.1.1 in let m : Reading = v.seen.object in let whole : IsWhole v.member.share = t.count.alone is in let still : IsWhole w.member.share = ap (λ (z : Part). z.share) t.made.member ∙ whole in
+    let now : k.now ≡ v.seen = whole_seen of_meters nothing_did did_both (first_reading key.clock) k.now s.views id w k.true_ends at still ∙ t.still whole in let shows : WordsShow m ws = subst (WordsShow m) fin.2 (subst (λ (z : Moment Reading). WordsShow z.object s.words) now k.shows) in
     let gauges_is : gauges ≡ m.gauges = read_gauges ∙ sym (shown_gauges m ws shows) in let alarms_is : alarms ≡ standing m.slots = read_alarms m.slots shows.slots in let clock_is : clock ≡ m.clock = sym (read_word ws 9 clock read_clock) ∙ shows.clock in
-    let whole : IsWhole v.member.share = t.count.alone is in let still : IsWhole w.member.share = ap (λ (z : Part). z.share) t.made.member ∙ whole in let n : ℕ = k.now.ends in
+    let n : ℕ = k.now.ends in
     let idle = rest_spent nothing_did did_both n s.views id w k.true_ends.ends at still in let same : own_of w ≡ own_of v = (λ i. own_of (record v { own = t.made.did i; member = t.made.member i })) in
     let one : n ≡ 1 = (number_is nothing_did did_both n s.views id w k.true_ends.ends at (ap (λ (z : Part). z.ends) t.made.member ∙ one_end)).whole still in
     let nothing : (i : ℕ) (u : SeatView) → get_elem? s.views i ≡ maybe.some u → i ≢ id → own_of u ≡ nothing_own = λ i u has ne. none_own key s k id w still at i u has ne in
-    let listed : ViewsShow key.clock m (v ∷ []) = sole_listed key.clock m s.views id v w k.listed at nothing same in record {
+    let listed : ViewsShow key.clock m (v ∷ []) = sole_listed key.clock m s.views id v w (subst (λ (z : Moment Reading). ViewsShow key.clock z.object s.views) now k.listed) at nothing same in let lawful : IsLawful m = subst (λ (z : Moment Reading). IsLawful z.object) now k.lawful in record {
       whole = whole;
-      last = k.now;
-      since = ∥∥₁_map true_v (λ x. reaches_on of_meters v.seen w.seen k.now (reaches_since of_meters v w _ x true_w t.made.adds) (seen_leads of_meters nothing_did did_both (first_reading key.clock) k.now s.views id w k.true_ends at));
-      lawful = k.lawful;
+      lawful = lawful;
       listed = listed;
-      sole = one;
+      sole = ap (λ (z : Moment Reading). z.ends) (sym now) ∙ one;
       joined = (let b = k.true_ends.ends.balanced in let x = sole_total (λ (u : SeatView). u.member.splits) s.views id w at (λ i u has ne. (idle i u has ne).splits) in let y = sole_total (λ (u : SeatView). u.member.joins) s.views id w at (λ i u has ne. (idle i u has ne).joins) in
           let a : w.member.splits ≡ v.member.splits = ap (λ (z : Part). z.splits) t.made.member in let c : w.member.joins ≡ v.member.joins = ap (λ (z : Part). z.joins) t.made.member in omega arith);
       gauges_are = gauges_is;
       clock_is = clock_is;
       alarms_are = alarms_is;
-      all = same_all v key.clock gauges m.gauges clock m.clock alarms (standing m.slots) gauges_is clock_is alarms_is (all_of key.clock m v k.lawful listed);
+      all = same_all v key.clock gauges m.gauges clock m.clock alarms (standing m.slots) gauges_is clock_is alarms_is (all_of key.clock m v lawful listed);
     }
   where
     none_own : (key : Shape) (s : St) (k : Rule key s) (id : ℕ) (w : SeatView) → IsWhole w.member.share → get_elem? s.views id ≡ maybe.some w → (i : ℕ) (u : SeatView) → get_elem? s.views i ≡ maybe.some u → i ≢ id → own_of u ≡ nothing_own

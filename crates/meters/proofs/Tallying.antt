@@ -10,7 +10,7 @@ use Rattle.table_theory.specs.Ledgers.{Step, load, count_up, count_down, IsReal,
 use Rattle.table_theory.specs.Plays.{counts_up, counts}
 use Rattle.table_theory.specs.Sharing.{IsCount}
 use Rattle.table_theory.proofs.Ends.{begins_on}
-use Rattle.table_theory.proofs.Ledgers.{after, adds_step, true_after, true_step, true_split, true_join, of_one_object}
+use Rattle.table_theory.proofs.Ledgers.{after, adds_step, true_after, true_step, true_split, true_join, of_one_object, whole_seen}
 use Rattle.table_theory.proofs.Standing.{stand_same, stand_up, stand_down, number_is}
 use Rattle.meters.specs.declared.rule.Reading.{Reading}
 use Rattle.meters.specs.declared.rule.Shape.{Shape}
@@ -88,6 +88,7 @@ tallies key n id me one s k _ at _ = let v : SeatView = me.0 in let found : ℕ 
       made = record { adds = adds_step of_meters nothing_did did_both (first_reading key.clock) k.now s.views id v v.own v.member e k.true_ends at; did = refl; member = refl };
       is = is;
       count = subst (λ (z : ℕ). IsCount v.member.share z) (sym is) (number_is nothing_did did_both k.now.ends s.views id v k.true_ends.ends at one);
+      still = whole_seen of_meters nothing_did did_both (first_reading key.clock) k.now s.views id v k.true_ends at;
     },
   ),
 )

@@ -5,25 +5,35 @@ ghost use Rattle.std.specs.List.{AllByRecursion};
 ghost use Rattle.event_theory.specs.declared.alarm.Alarm.{Alarm};
 ghost use Rattle.event_theory.specs.Meters.{tick, advance, fire, cancel};
 ghost use Rattle.table_theory.specs.declared.views.Moment.{Moment};
-ghost use Rattle.table_theory.specs.Ledgers.{Step, load, change, count_down, Adds, IsReal, IsHonest, Reaches};
+ghost use Rattle.table_theory.specs.Courses.{Continues};
+ghost use Rattle.table_theory.specs.Ledgers.{Step, load, change, count_down, Adds, IsReal, IsHonest, Reaches, Passes};
 ghost use Rattle.meters.specs.Layout.{ends_word, gauge_word, clock_word, slot_word, word_of, alarm_in};
 ghost use Rattle.meters.specs.declared.layout.TheConstants.{GAUGES, SLOTS, TICKS};
 ghost use Rattle.meters.specs.declared.rule.Reading.{Reading};
 ghost use Rattle.meters.specs.declared.ends.MeterSeat.{MeterSeat};
+ghost use Rattle.meters.specs.declared.alarms.SetRefusal.TheVariants as not_set;
+ghost use Rattle.meters.specs.declared.gauges.AdvanceRefusal.TheVariants as not_advanced;
+ghost use Rattle.meters.specs.Answers.{NotAdvanced, NotSet};
 ghost use Rattle.meters.specs.Changes.{meters_of, IsLawful, in_slot};
 ghost use Rattle.meters.specs.Changes.{with_tick, with_advance, with_alarm, with_fired, with_cancelled};
 ghost use Rattle.meters.specs.Endings.{TookIn};
 ghost use Rattle.meters.specs.Events.{Happens, Leads, IsSet};
-ghost use Rattle.meters.specs.Own.{of_meters};
-ghost use Rattle.meters.specs.Handles.{view_of};
+ghost use Rattle.meters.specs.Own.{SeatView, of_meters};
+ghost use Rattle.meters.specs.Handles.{view_of, IsOnlySeat};
 
 /// What an end lists is true: each entry that a call adds is a real step. It found lawful meters that the words showed,
 /// and the number in its word, and made one event of the core, or none. Real steps lead from what the end had seen to
-/// what it sees then.
+/// each of these entries, in their order, and the last of them left what the end sees then. Where the end has the
+/// whole, these entries alone lead there.
 pub fn lists_are_true()
     ensures seat { (seat : MeterSeat) → ∥ IsHonest of_meters (view_of seat) ∥₁ }
-    ensures entries { (old new : MeterSeat) (entries : List (Step Reading)) → Adds (view_of old) entries (view_of new)
-        → ∥ AllByRecursion (IsReal of_meters) entries ∥₁ }
+    ensures entries { (old : SeatView) (new : MeterSeat) (entries : List (Step Reading))
+        → Adds old entries (view_of new) → ∥ AllByRecursion (IsReal of_meters) entries ∥₁ }
+    ensures order { (old new : MeterSeat) (entries : List (Step Reading)) → Adds (view_of old) entries (view_of new)
+        → ∥ Passes of_meters (view_of old).seen entries (view_of new).seen ∥₁ }
+    ensures alone { (old new : MeterSeat) (entries : List (Step Reading)) → IsOnlySeat old
+        → Adds (view_of old) entries (view_of new)
+        → ∥ Continues (view_of old).seen entries (view_of new).seen ∥₁ }
     ensures since { (old new : MeterSeat) (entries : List (Step Reading)) → Adds (view_of old) entries (view_of new)
         → ∥ Reaches of_meters (view_of old).seen (view_of new).seen ∥₁ }
     ensures leads { (m n : Moment Reading) → Reaches of_meters m n → Leads m.object n.object }
@@ -40,6 +50,14 @@ pub fn joins_are_true()
         × ∥ Reaches of_meters (view_of other).seen (view_of new).seen ∥₁ }
     ensures entry { (old other new : MeterSeat) (t : TookIn (view_of old) (view_of other) (view_of new))
         → ∥ IsReal of_meters (count_down ends_word t.0.found) ∥₁ }
+{}
+
+/// An end that has the whole is never answered Lost: between its steps, no other end makes one.
+pub fn only_ends_are_never_lost()
+    ensures advance { (old new : MeterSeat) (clock : ℕ) → IsOnlySeat old
+        → NotAdvanced (view_of old) (not_advanced.Lost clock) (view_of new) → ⊥ }
+    ensures set { (old new : MeterSeat) (slot : ℕ) → IsOnlySeat old
+        → NotSet (view_of old) (not_set.Lost slot) (view_of new) → ⊥ }
 {}
 
 /// What the number says that a step found: the number of ends, a gauge, the clock, or what stands in a slot.

@@ -6,7 +6,7 @@ use Rattle.std.proofs.lemmas.List.Elements.{All-nil, All-cons, All-head, All-tai
 use Rattle.table_theory.specs.Sharing.{the_whole}
 use Rattle.claim_queue.specs.declared.ends.ClaimQueue.{ClaimQueue}
 use Rattle.claim_queue.specs.declared.ends.QueueEnd.{QueueEnd}
-use Rattle.claim_queue.specs.declared.rule.View.{View}
+use Rattle.claim_queue.specs.Own.{View}
 use Rattle.claim_queue.specs.Handles.{first_of}
 use Rattle.quajects.specs.Worlds.{IsFresh}
 use Rattle.end_steps.specs.EndLists.{end_share}
@@ -16,8 +16,8 @@ module _ {n : ℕ} where
   idle_of : (queue : ClaimQueue n) (end : QueueEnd n) → IsFresh queue end → IsIdleEnd queue end
   idle_of queue end h = record {
     its = h.0;
-    unused = (ap (λ (v : View). v.part.runs) h.2, ap (λ (v : View). v.part.takes) h.2);
-    shuts = ap (λ (v : View). v.shuts) h.2;
+    unused = (ap (λ (v : View). v.own.runs) h.2, ap (λ (v : View). v.own.takes) h.2);
+    shuts = ap (λ (v : View). v.own.shuts) h.2;
   }
 
   pub fresh_stock : (queues : List (ClaimQueue n)) (ends : List (QueueEnd n)) → AllZip IsFresh queues ends → IsStock queues ends

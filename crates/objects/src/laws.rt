@@ -1,7 +1,7 @@
 //! What the shares of quajects tell of the ends that come home.
 ghost use Rattle.std.specs.Prelude.{◌≡◌, ℕ, map};
 ghost use Rattle.proc_chain.specs.declared.rule.Pact.{Pact};
-ghost use Rattle.proc_chain.specs.declared.rule.View.{View};
+ghost use Rattle.proc_chain.specs.Own.{View};
 ghost use Rattle.quajects.specs.declared.any.AnyQuaject.{AnyQuaject};
 ghost use Rattle.quajects.specs.declared.home.Home.{Home};
 ghost use Rattle.quajects.specs.declared.world.Queues.{Queues};

@@ -21,34 +21,34 @@ use Rattle.table_theory.proofs.QueueOf.{long_is}
 use Rattle.table_theory.proofs.QueueEvents.{history_of, got}
 use Rattle.atomic_table.proofs.Lists.{at_map}
 use Rattle.proc_chain.specs.declared.rule.Shape.{Shape}
-use Rattle.proc_chain.specs.declared.rule.View.{View}
-use Rattle.proc_chain.specs.Layout.{note_in, mark_in, gate_in}
+use Rattle.proc_chain.specs.Own.{View, part_of}
+use Rattle.proc_chain.specs.Layout.{note_in, mark_in}
 use Rattle.proc_chain.specs.Shown.{notes_of}
-use Rattle.proc_chain.specs.Rules.{part_of, moment, Rule}
+use Rattle.proc_chain.specs.Rules.{Rule}
 use Rattle.proc_chain.specs.Gates.{GateShows}
 use Rattle.proc_chain.specs.Chainings.{gate_of, runner_from, owes_in, chain_of}
-use Rattle.proc_chain.specs.Between.{pair_at, PlaceIs, ShowsChain}
+use Rattle.proc_chain.specs.Between.{pair_at, PlaceIs, ShowsChain, ShowsEnds}
 use Rattle.proc_chain.proofs.Gates.{others_still}
 use Rattle.proc_chain.proofs.Events.{runner_none, runner_at, up_is, not_idle, chain_is_lawful}
 
 -- a view has the turn exactly where its end is the runner
-runner_is : (q : Positions) (gate : ℕ) (views : List View) → GateShows q gate views → (call : ℕ) (v : View) → get_elem? views call ≡ maybe.some v → v.runner ≡ is_call call (runner_from 0 views)
+runner_is : (q : Positions) (gate : ℕ) (views : List View) → GateShows q gate views → (call : ℕ) (v : View) → get_elem? views call ≡ maybe.some v → v.own.runner ≡ is_call call (runner_from 0 views)
 runner_is q gate views g call v at = dite (ℕ_discrete gate 0)
     (λ down. g.still down call v at ∙ ap (is_call call) (sym (runner_none 0 views (g.still down))))
     (λ up. let r = g.runs up in let is : runner_from 0 views ≡ Some (0 + r.number) = runner_at 0 r.number views r.view r.is_view r.runner (others_still q gate views r.number r.view g r.is_view r.runner) in
     dite (ℕ_discrete call r.number)
     (λ same. let e : eqb (0 + r.number) call ≡ true = eq-eqb (0 + r.number) call (omega arith) in
-    (let w : v ≡ r.view = maybe.some-injective v r.view (sym at ∙ (ap (get_elem? views) same ∙ r.is_view)) in ap (λ (z : View). z.runner) w ∙ r.runner) ∙ (sym e ∙ ap (is_call call) (sym is)))
+    (let w : v ≡ r.view = maybe.some-injective v r.view (sym at ∙ (ap (get_elem? views) same ∙ r.is_view)) in ap (λ (z : View). z.own.runner) w ∙ r.runner) ∙ (sym e ∙ ap (is_call call) (sym is)))
     (λ ne. let e : eqb (0 + r.number) call ≡ false = ne_eqb (0 + r.number) call (λ z. ne (omega arith)) in
     others_still q gate views r.number r.view g r.is_view r.runner call v at ne ∙ (sym e ∙ ap (is_call call) (sym is))))
 
 module _ {Q W : Type 0} (made : W → Q → List ℕ → Type 0) (fits : W → Q → Type 0) (key : Shape W) (s : State Q View) (k : Rule made fits key s) where
   abbrev c : Chain
-  c = chain_of k.queue k.listed.runs (gate_in s.words) s.views
+  c = chain_of k.now.object.queue k.listed.runs k.now.object.gate s.views
 
-  place_is : (i : ℕ) → k.queue.taken ≤ i → i < length k.queue.places → PlaceIs c s.words i (key.first + i)
-  place_is i from below = let q : Positions = k.queue in let u = up_is q k.listed.runs k.listed.runs_flat i below in let x = item_is k.queue k.listed.runs k.listed.runs_flat i below in let within = k.lawful.within in let p = k.shows.window.each i from (omega arith) in
-      let at : (q.first + i) % q.room ≡ (key.first + i) % 32 = (λ z. (k.first z + i) % k.shows.room z) in
+  place_is : (i : ℕ) → k.now.object.queue.taken ≤ i → i < length k.now.object.queue.places → PlaceIs c s.words i (key.first + i)
+  place_is i from below = let q : Positions = k.now.object.queue in let u = up_is q k.listed.runs k.listed.runs_flat i below in let x = item_is k.now.object.queue k.listed.runs k.listed.runs_flat i below in let within = k.lawful.0.within in let p = k.shows.0.window.each i from (omega arith) in
+      let at : (q.first + i) % q.room ≡ (key.first + i) % 32 = (λ z. (k.first z + i) % k.shows.0.room z) in
       let mark : mark_in s.words ((q.first + i) % q.room) ≡ mark_in s.words ((key.first + i) % 32) = ap (mark_in s.words) at in
       let note : note_in s.words ((q.first + i) % q.room) ≡ note_in s.words ((key.first + i) % 32) = ap (note_in s.words) at in let first = k.first in
       let raised : is_raised c.notes (pair_at c i) ≡ true → 2 ≤ (place_at q i).written = (λ h. leb-true 2 (place_at q i).written (sym u ∙ h)) in record {
@@ -57,17 +57,17 @@ module _ {Q W : Type 0} (made : W → Q → List ℕ → Type 0) (fits : W → Q
         claimed = λ h. let low : (place_at q i).written < 2 = dite (dec_le 2 (place_at q i).written) (λ y. absurd (true≢false (sym (le-leb 2 (place_at q i).written y) ∙ (sym u ∙ h)))) (λ no. omega arith) in let f = p.low low in omega arith;
       }
 
-  notes_are : notes_of k.queue ≡ take c.notes.taken (flat c.notes.history)
-  notes_are = taken_is k.queue k.listed.runs k.listed.runs_flat
+  notes_are : notes_of k.now.object.queue ≡ take c.notes.taken (flat c.notes.history)
+  notes_are = taken_is k.now.object.queue k.listed.runs k.listed.runs_flat
 
-  idle_word : gate_of (gate_in s.words) ≡ Idle → gate_in s.words ≡ 0
-  idle_word h = dite (ℕ_discrete (gate_in s.words) 0) (λ y. y) (λ up. absurd (true≢false (sym (ap is_idle h) ∙ not_idle (gate_in s.words) up)))
+  idle_word : gate_of k.now.object.gate ≡ Idle → k.now.object.gate ≡ 0
+  idle_word h = dite (ℕ_discrete k.now.object.gate 0) (λ y. y) (λ up. absurd (true≢false (sym (ap is_idle h) ∙ not_idle k.now.object.gate up)))
 
   pub shows_chain : ShowsChain made fits key s
-  shows_chain = let q : Positions = k.queue in let l = k.listed in let n = long_is q l.runs l.runs_flat in let h = k.shows in let first = k.first in record {
-    now = moment q (gate_in s.words);
+  shows_chain = let q : Positions = k.now.object.queue in let l = k.listed in let n = long_is q l.runs l.runs_flat in let h = k.shows.0 in let first = k.first in record {
+    now = k.now.object;
     chain = c;
-    lawful = chain_is_lawful q (gate_in s.words) s.views l k.lawful k.gate;
+    lawful = chain_is_lawful q k.now.object.gate s.views l k.lawful.0 k.gate;
     shown = record {
       runs = l.runs;
       history = refl;
@@ -85,18 +85,21 @@ module _ {Q W : Type 0} (made : W → Q → List ℕ → Type 0) (fits : W → Q
       head = h.head ∙ (omega arith);
       tail = h.tail ∙ ap (λ (z : ℕ). z + q.taken) first;
       places = λ i from below. place_is i from (omega arith);
-      gate = refl;
-      gate_word = k.gate.bounded;
-      runner = runner_is q (gate_in s.words) s.views k.gate;
+      gate = ap gate_of (sym k.shows.1);
+      gate_word = subst (λ (z : ℕ). z ≤ 2) (sym k.shows.1) k.gate.bounded;
+      runner = runner_is q k.now.object.gate s.views k.gate;
       owing = λ call v at. sym (ap owes_in (got s.views call v at));
     };
     same = refl;
     first = k.first;
     history = history_of q (map part_of s.views) l;
-    gate = refl;
-    seen = λ j v at. k.listed.seen j v.part (at_map part_of s.views j v at);
-    course = k.course;
-    ends = k.ends;
+    gate = sym k.shows.1;
+    seen = λ j v at. (k.listed.seen j (part_of v) (at_map part_of s.views j v at)).0;
     home = λ idle. let x = k.slot.home (idle_word idle) in (x.0, x.1, subst (made key.pact x.0) notes_are x.2, x.3);
     held = λ busy. k.slot.held (λ down. busy (ap gate_of down));
   }
+
+  -- and the ends that made it so
+  pub shows_ends : ShowsEnds key s shows_chain.now
+  unfolding shows_chain
+  shows_ends = record { words = k.shows; lawful = k.lawful; views = record { listed = k.listed; gate = k.gate }; ends = k.now.ends; number = k.number; true_ends = k.true_ends }

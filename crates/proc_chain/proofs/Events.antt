@@ -29,39 +29,40 @@ use Rattle.table_theory.proofs.QueueOf.{Log, up_of, long_is, left_long, is_lawfu
 use Rattle.table_theory.proofs.QueueEvents.{history_of, claimed_is, claim_goes, got, set_got, set_other, raised_is, raise_goes, take_goes, first_raised}
 use Rattle.table_theory.proofs.Listing.{listed_look, listed_claim, listed_write, listed_take}
 use Rattle.atomic_table.proofs.Lists.{at_map}
-use Rattle.proc_chain.specs.declared.rule.View.{View}
-use Rattle.proc_chain.specs.Rules.{part_of}
+use Rattle.proc_chain.specs.declared.rule.GatedQueue.{GatedQueue}
+use Rattle.proc_chain.specs.Own.{View, part_of}
+use Rattle.proc_chain.specs.Changes.{with_note, with_taken, with_gate}
 use Rattle.proc_chain.specs.Gates.{IsSettled, GateShows}
 use Rattle.proc_chain.proofs.Gates.{others_still}
-use Rattle.proc_chain.specs.Chainings.{gate_of, runner_from, owes_in, chain_of, IsChainEvent}
+use Rattle.proc_chain.specs.Chainings.{gate_of, runner_from, owes_in, chain_of, AreShown, IsChainEvent}
 
 -- who the runner is
 
-pub runner_none : (n : ℕ) (views : List View) → ((j : ℕ) (u : View) → get_elem? views j ≡ some u → u.runner ≡ false) → runner_from n views ≡ None
+pub runner_none : (n : ℕ) (views : List View) → ((j : ℕ) (u : View) → get_elem? views j ≡ some u → u.own.runner ≡ false) → runner_from n views ≡ None
 runner_none n [] none = refl
 runner_none n (x ∷ xs) none = ap (λ (b : Bool). if b then Some n else runner_from (suc n) xs) (none 0 x refl) ∙ runner_none (suc n) xs (λ j u has. none (suc j) u has)
 
-pub runner_at : (n id : ℕ) (views : List View) (v : View) → get_elem? views id ≡ some v → v.runner ≡ true → ((j : ℕ) (u : View) → get_elem? views j ≡ some u → j ≢ id → u.runner ≡ false) → runner_from n views ≡ Some (n + id)
+pub runner_at : (n id : ℕ) (views : List View) (v : View) → get_elem? views id ≡ some v → v.own.runner ≡ true → ((j : ℕ) (u : View) → get_elem? views j ≡ some u → j ≢ id → u.own.runner ≡ false) → runner_from n views ≡ Some (n + id)
 runner_at n id [] v at up others = absurd (some-ne-none v (sym at))
-runner_at n zero (x ∷ xs) v at up others = let e : x.runner ≡ true = ap (λ (z : View). z.runner) (some-injective x v at) ∙ up in
+runner_at n zero (x ∷ xs) v at up others = let e : x.own.runner ≡ true = ap (λ (z : View). z.own.runner) (some-injective x v at) ∙ up in
     ap (λ (b : Bool). if b then Some n else runner_from (suc n) xs) e ∙ ap Some (sym (add-zero n))
 runner_at n (suc id) (x ∷ xs) v at up others = let e : suc n + id ≡ n + suc id = omega arith in
     ap (λ (b : Bool). if b then Some n else runner_from (suc n) xs) (others 0 x refl (λ z. omega arith))
     ∙ (runner_at (suc n) id xs v at up (λ j u has ne. others (suc j) u has (λ z. ne (omega arith))) ∙ ap Some e)
 
-pub runner_set : (n id : ℕ) (views : List View) (v w : View) → get_elem? views id ≡ some v → w.runner ≡ v.runner → runner_from n (set views id w) ≡ runner_from n views
+pub runner_set : (n id : ℕ) (views : List View) (v w : View) → get_elem? views id ≡ some v → w.own.runner ≡ v.own.runner → runner_from n (set views id w) ≡ runner_from n views
 runner_set n id [] v w at same = absurd (some-ne-none v (sym at))
-runner_set n zero (x ∷ xs) v w at same = let e : w.runner ≡ x.runner = same ∙ sym (ap (λ (z : View). z.runner) (some-injective x v at)) in ap (λ (b : Bool). if b then Some n else runner_from (suc n) xs) e
-runner_set n (suc id) (x ∷ xs) v w at same = ap (λ (z : Option ℕ). if x.runner then Some n else z) (runner_set (suc n) id xs v w at same)
+runner_set n zero (x ∷ xs) v w at same = let e : w.own.runner ≡ x.own.runner = same ∙ sym (ap (λ (z : View). z.own.runner) (some-injective x v at)) in ap (λ (b : Bool). if b then Some n else runner_from (suc n) xs) e
+runner_set n (suc id) (x ∷ xs) v w at same = ap (λ (z : Option ℕ). if x.own.runner then Some n else z) (runner_set (suc n) id xs v w at same)
 
 -- who owes
 
-pub owing_set : (views : List View) (id : ℕ) (v w : View) (b : Bool) → get_elem? views id ≡ some v → w.owes ≡ b → (call : ℕ) → with_number b id (λ c. owes_in (slice_get views c)) call ≡ owes_in (slice_get (set views id w) call)
+pub owing_set : (views : List View) (id : ℕ) (v w : View) (b : Bool) → get_elem? views id ≡ some v → w.own.owes ≡ b → (call : ℕ) → with_number b id (λ c. owes_in (slice_get views c)) call ≡ owes_in (slice_get (set views id w) call)
 owing_set views id v w b at is call = dite (ℕ_discrete call id)
     (λ same. let e : owes_in (slice_get (set views id w) call) ≡ b = ap (λ (z : ℕ). owes_in (slice_get (set views id w) z)) same ∙ (ap owes_in (set_got views id v w at) ∙ is) in rw (eq-eqb call id same, e) refl)
     (λ ne. rw (ne_eqb call id ne, set_other views id call w ne) refl)
 
-pub owing_same : (views : List View) (id : ℕ) (v w : View) → get_elem? views id ≡ some v → w.owes ≡ v.owes → (call : ℕ) → owes_in (slice_get views call) ≡ owes_in (slice_get (set views id w) call)
+pub owing_same : (views : List View) (id : ℕ) (v w : View) → get_elem? views id ≡ some v → w.own.owes ≡ v.own.owes → (call : ℕ) → owes_in (slice_get views call) ≡ owes_in (slice_get (set views id w) call)
 owing_same views id v w at is call = dite (ℕ_discrete call id)
     (λ same. ap (λ (z : ℕ). owes_in (slice_get views z)) same ∙ (ap owes_in (got views id v at) ∙ (sym is ∙ (sym (ap owes_in (set_got views id v w at)) ∙ ap (λ (z : ℕ). owes_in (slice_get (set views id w) z)) (sym same)))))
     (λ ne. ap owes_in (sym (set_other views id call w ne)))
@@ -117,7 +118,7 @@ not_forgotten q gate views l settled = let c : Chain = chain_of q l.runs gate vi
     (λ below. dite (dec_lt (written_at q t) 2)
     (λ low. let e : is_raised c.notes (get_or ps t (0, 0)) ≡ false = up_is q l.runs l.runs_flat t below ∙ not_up (place_at q t) low in
     ap (forgotten c) (slice_get-get_or ps t (0, 0) (omega arith)) ∙ (rw (e) refl))
-    (λ up. let o = settled (omega arith) in let f = l.runs_filed.listed o.owner o.view.part.runs o.number o.run (at_map runs_of (map part_of views) o.owner o.view.part (at_map part_of views o.owner o.view o.is_view)) o.has in
+    (λ up. let o = settled (omega arith) in let f = l.runs_filed.listed o.owner o.view.own.runs o.number o.run (at_map runs_of (map part_of views) o.owner (part_of o.view) (at_map part_of views o.owner o.view o.is_view)) o.has in
     let entry : Owned Batch = (o.owner, o.number, o.run) in let solid = l.solid f.0 entry f.1 in let st = o.start in
     let there = pair_there 0 q.first t f.0 0 l.runs entry l.runs_adjacent f.1 solid (omega arith) in
     let run : slice_get c.notes.history (0 + f.0) ≡ Some (run_in entry) = ap (slice_get (map run_in l.runs)) (zero-add f.0) ∙ (slice_get-map run_in l.runs f.0 ∙ ap (option_map run_in) (got l.runs f.0 entry f.1)) in
@@ -176,43 +177,49 @@ after_busy id (suc zero) r h = refl
 after_busy id (suc (suc n)) r h = refl
 
 -- the steps
-module _ (q : Positions) (gate : ℕ) (views : List View) (id : ℕ) (v w : View) (l : ViewsShow q (map part_of views)) (at : get_elem? views id ≡ some v) (lawful : Lawful q) (g : GateShows q gate views) where
-  at_part : get_elem? (map part_of views) id ≡ some v.part
+module _ (o : GatedQueue) (views : List View) (id : ℕ) (v w : View) (shown : AreShown o views) (at : get_elem? views id ≡ some v) (lawful : Lawful o.queue) where
+  abbrev q : Positions
+  q = o.queue
+
+  abbrev gate : ℕ
+  gate = o.gate
+
+  abbrev l : ViewsShow q (map part_of views)
+  l = shown.listed
+
+  abbrev g : GateShows q gate views
+  g = shown.gate
+
+  at_part : get_elem? (map part_of views) id ≡ some (part_of v)
   at_part = at_map part_of views id v at
 
-  the_runner : v.runner ≡ true → runner_from 0 views ≡ Some id
+  the_runner : v.own.runner ≡ true → runner_from 0 views ≡ Some id
   the_runner r = runner_at 0 id views v at r (others_still q gate views id v g at r) ∙ ap Some (zero-add id)
 
-  the_owing : v.owes ≡ true → owes_in (slice_get views id) ≡ true
-  the_owing o = ap owes_in (got views id v at) ∙ o
+  the_owing : v.own.owes ≡ true → owes_in (slice_get views id) ≡ true
+  the_owing w_owes = ap owes_in (got views id v at) ∙ w_owes
 
-  pub claim_event : (x : ℕ) → x < 65536 → length q.places + 1 ≤ q.taken + q.room → q.shut ≡ false → w.part.runs ≡ v.part.runs ++ record { start = head_of q; places = map fresh (x ∷ []) } ∷ [] → w.part.takes ≡ v.part.takes → Later w.part (with_claim q (x ∷ []))
-      → w.runner ≡ v.runner → w.owes ≡ v.owes → IsChainEvent q (with_claim q (x ∷ [])) gate gate id v w (claim_note id (x ∷ []))
+  pub claim_event : (x : ℕ) → x < 65536 → length q.places + 1 ≤ q.taken + q.room → q.shut ≡ false → w.own.runs ≡ v.own.runs ++ record { start = head_of q; places = map fresh (x ∷ []) } ∷ [] → w.own.takes ≡ v.own.takes → Later (part_of w) (with_claim q (x ∷ []))
+      → w.own.runner ≡ v.own.runner → w.own.owes ≡ v.own.owes → IsChainEvent o (with_note o x) views shown id w (claim_note id (x ∷ []))
   unfolding listed_claim
   claim_event x bounded room is_open runs takes grown runner owing = let xs : List ℕ = x ∷ [] in let behind = lawful.behind in let n = left_long q l.runs l.runs_flat in
       let c : Chain = chain_of q l.runs gate views in record {
-        views = views;
-        here = at;
-        shown = l;
-        new_shown = listed_claim q (map part_of views) id v.part w.part xs l at_part behind is_open (omega arith) runs takes grown;
+        new_shown = listed_claim q (map part_of views) id (part_of v) (part_of w) xs l at_part behind is_open (omega arith) runs takes grown;
         lawful = chain_is_lawful q gate views l lawful g;
         made = claim_note_goes id x c (after_claim id xs c.notes) bounded (claim_goes 1 id xs c.notes (omega arith) (omega arith) is_open (omega arith))
-            ∙ ap Ok (same_chain (after_claim id xs c.notes) (queue_of (with_claim q xs) (l.runs ++ (id, length v.part.runs, record { start = head_of q; places = map fresh xs }) ∷ [])) c.gate c.gate c.runner (runner_from 0 (set views id w)) c.owing (λ call. owes_in (slice_get (set views id w) call))
-            (claimed_is q l.runs id (length v.part.runs) xs) refl (sym (runner_set 0 id views v w at runner)) (owing_same views id v w at owing));
+            ∙ ap Ok (same_chain (after_claim id xs c.notes) (queue_of (with_claim q xs) (l.runs ++ (id, length v.own.runs, record { start = head_of q; places = map fresh xs }) ∷ [])) c.gate c.gate c.runner (runner_from 0 (set views id w)) c.owing (λ call. owes_in (slice_get (set views id w) call))
+            (claimed_is q l.runs id (length v.own.runs) xs) refl (sym (runner_set 0 id views v w at runner)) (owing_same views id v w at owing));
       }
 
-  pub raise_event : (m p : ℕ) (e : Batch) → get_elem? v.part.runs m ≡ some e → 0 < length e.places → e.start + 0 ≡ q.first + p → q.taken ≤ p → (get_or e.places 0 blank).written < 2 → written_at q p ≤ 2
-      → w.part.runs ≡ set v.part.runs m (written_to e 0 2) → w.part.takes ≡ v.part.takes → Later w.part (with_write q p 2) → w.runner ≡ v.runner → w.owes ≡ true
-      → (k : ℕ) × (event : IsChainEvent q (with_write q p 2) gate gate id v w (raise_note id k 0)) × (get_elem? event.shown.runs k ≡ some (id, m, e))
+  pub raise_event : (m p : ℕ) (e : Batch) → get_elem? v.own.runs m ≡ some e → 0 < length e.places → e.start + 0 ≡ q.first + p → q.taken ≤ p → (get_or e.places 0 blank).written < 2 → written_at q p ≤ 2
+      → w.own.runs ≡ set v.own.runs m (written_to e 0 2) → w.own.takes ≡ v.own.takes → Later (part_of w) (with_write q p 2) → w.own.runner ≡ v.own.runner → w.own.owes ≡ true
+      → (k : ℕ) × IsChainEvent o (record o { queue = with_write q p 2 }) views shown id w (raise_note id k 0) × (get_elem? l.runs k ≡ some (id, m, e))
   unfolding listed_write
   raise_event m p e has below is ahead low more runs takes grown runner owing = let c : Chain = chain_of q l.runs gate views in
-      let r = l.runs_filed.listed id v.part.runs m e (at_map runs_of (map part_of views) id v.part at_part) has in (
+      let r = l.runs_filed.listed id v.own.runs m e (at_map runs_of (map part_of views) id (part_of v) at_part) has in (
         r.0,
         record {
-          views = views;
-          here = at;
-          shown = l;
-          new_shown = listed_write q (map part_of views) id m 0 2 p v.part w.part e l at_part has below is ahead more runs takes grown;
+          new_shown = listed_write q (map part_of views) id m 0 2 p (part_of v) (part_of w) e l at_part has below is ahead more runs takes grown;
           lawful = chain_is_lawful q gate views l lawful g;
           made = raise_note_goes id r.0 0 c (after_raise r.0 0 c.notes) (raise_goes l.runs r.0 id m 0 e r.1 below q low)
               ∙ ap Ok (same_chain (after_raise r.0 0 c.notes) (queue_of (with_write q p 2) (set l.runs r.0 (id, m, written_to e 0 2))) c.gate c.gate c.runner (runner_from 0 (set views id w)) (with_number true id c.owing) (λ call. owes_in (slice_get (set views id w) call))
@@ -221,29 +228,23 @@ module _ (q : Positions) (gate : ℕ) (views : List View) (id : ℕ) (v w : View
         r.1,
       )
 
-  pub take_event : v.runner ≡ true → q.taken + 1 ≤ length q.places → 2 ≤ written_at q q.taken → w.part.takes ≡ v.part.takes ++ record { start = tail_of q; places = take 1 (drop q.taken q.places) } ∷ [] → w.part.runs ≡ v.part.runs → Later w.part (with_take q 1)
-      → w.runner ≡ v.runner → w.owes ≡ v.owes → IsChainEvent q (with_take q 1) gate gate id v w (take_note id 1)
+  pub take_event : v.own.runner ≡ true → q.taken + 1 ≤ length q.places → 2 ≤ written_at q q.taken → w.own.takes ≡ v.own.takes ++ record { start = tail_of q; places = take 1 (drop q.taken q.places) } ∷ [] → w.own.runs ≡ v.own.runs → Later (part_of w) (with_take q 1)
+      → w.own.runner ≡ v.own.runner → w.own.owes ≡ v.own.owes → IsChainEvent o (with_taken o) views shown id w (take_note id 1)
   unfolding listed_take
   take_event r long up takes runs grown runner owing = let c : Chain = chain_of q l.runs gate views in record {
-    views = views;
-    here = at;
-    shown = l;
-    new_shown = listed_take q (map part_of views) id 1 v.part w.part l at_part (omega arith) long takes runs grown;
+    new_shown = listed_take q (map part_of views) id 1 (part_of v) (part_of w) l at_part (omega arith) long takes runs grown;
     lawful = chain_is_lawful q gate views l lawful g;
     made = take_note_goes id c (after_take 1 c.notes) (take_goes 1 1 c.notes (omega arith) (omega arith) (first_raised q l.runs 1 l.runs_flat long (λ i h. let e : q.taken ≡ q.taken + i = omega arith in subst (λ (z : ℕ). 2 ≤ written_at q z) e up))) (the_runner r)
         ∙ ap Ok (same_chain (after_take 1 c.notes) (queue_of (with_take q 1) l.runs) c.gate c.gate c.runner (runner_from 0 (set views id w)) c.owing (λ call. owes_in (slice_get (set views id w) call)) refl refl (sym (runner_set 0 id views v w at runner)) (owing_same views id v w at owing));
   }
 
-  pub notify_idle : gate ≡ 0 → v.owes ≡ true → w.part.runs ≡ v.part.runs → w.part.takes ≡ v.part.takes → Later w.part q → w.runner ≡ true → w.owes ≡ false → ((j : ℕ) (u : View) → get_elem? (set views id w) j ≡ some u → j ≢ id → u.runner ≡ false)
-      → get_elem? (set views id w) id ≡ some w → IsChainEvent q q gate 2 id v w (notify id)
+  pub notify_idle : gate ≡ 0 → v.own.owes ≡ true → w.own.runs ≡ v.own.runs → w.own.takes ≡ v.own.takes → Later (part_of w) q → w.own.runner ≡ true → w.own.owes ≡ false → ((j : ℕ) (u : View) → get_elem? (set views id w) j ≡ some u → j ≢ id → u.own.runner ≡ false)
+      → get_elem? (set views id w) id ≡ some w → IsChainEvent o (with_gate o 2) views shown id w (notify id)
   unfolding listed_look
-  notify_idle down o runs takes grown runner owing others here = let c : Chain = chain_of q l.runs gate views in record {
-    views = views;
-    here = at;
-    shown = l;
-    new_shown = listed_look q (map part_of views) id v.part w.part l at_part runs takes grown;
+  notify_idle down ow runs takes grown runner owing others here = let c : Chain = chain_of q l.runs gate views in record {
+    new_shown = listed_look q (map part_of views) id (part_of v) (part_of w) l at_part runs takes grown;
     lawful = chain_is_lawful q gate views l lawful g;
-    made = notify_goes id c (the_owing o)
+    made = notify_goes id c (the_owing ow)
         ∙ ap Ok (same_chain c.notes c.notes More More (runner_after id c.gate c.runner) (runner_from 0 (set views id w)) (with_number false id c.owing) (λ call. owes_in (slice_get (set views id w) call)) refl refl
         (ap (λ (z : ℕ). runner_after id (gate_of z) c.runner) down ∙ sym (runner_at 0 id (set views id w) w here runner others ∙ ap Some (zero-add id))) (owing_set views id v w false at owing));
   }
@@ -251,38 +252,29 @@ module _ (q : Positions) (gate : ℕ) (views : List View) (id : ℕ) (v w : View
   still_runs : gate ≢ 0 → runner_after id (gate_of gate) (runner_from 0 views) ≡ runner_from 0 views
   still_runs up = after_busy id gate (runner_from 0 views) up
 
-  pub notify_busy : gate ≢ 0 → v.owes ≡ true → w.part.runs ≡ v.part.runs → w.part.takes ≡ v.part.takes → Later w.part q → w.runner ≡ v.runner → w.owes ≡ false → IsChainEvent q q gate 2 id v w (notify id)
+  pub notify_busy : gate ≢ 0 → v.own.owes ≡ true → w.own.runs ≡ v.own.runs → w.own.takes ≡ v.own.takes → Later (part_of w) q → w.own.runner ≡ v.own.runner → w.own.owes ≡ false → IsChainEvent o (with_gate o 2) views shown id w (notify id)
   unfolding listed_look
-  notify_busy up o runs takes grown runner owing = let c : Chain = chain_of q l.runs gate views in record {
-    views = views;
-    here = at;
-    shown = l;
-    new_shown = listed_look q (map part_of views) id v.part w.part l at_part runs takes grown;
+  notify_busy up ow runs takes grown runner owing = let c : Chain = chain_of q l.runs gate views in record {
+    new_shown = listed_look q (map part_of views) id (part_of v) (part_of w) l at_part runs takes grown;
     lawful = chain_is_lawful q gate views l lawful g;
-    made = notify_goes id c (the_owing o)
+    made = notify_goes id c (the_owing ow)
         ∙ ap Ok (same_chain c.notes c.notes More More (runner_after id c.gate c.runner) (runner_from 0 (set views id w)) (with_number false id c.owing) (λ call. owes_in (slice_get (set views id w) call)) refl refl
         (still_runs up ∙ sym (runner_set 0 id views v w at runner)) (owing_set views id v w false at owing));
   }
 
-  pub round_event : v.runner ≡ true → w.part.runs ≡ v.part.runs → w.part.takes ≡ v.part.takes → Later w.part q → w.runner ≡ v.runner → w.owes ≡ v.owes → IsChainEvent q q gate 1 id v w (round id)
+  pub round_event : v.own.runner ≡ true → w.own.runs ≡ v.own.runs → w.own.takes ≡ v.own.takes → Later (part_of w) q → w.own.runner ≡ v.own.runner → w.own.owes ≡ v.own.owes → IsChainEvent o (with_gate o 1) views shown id w (round id)
   unfolding listed_look
   round_event r runs takes grown runner owing = let c : Chain = chain_of q l.runs gate views in record {
-    views = views;
-    here = at;
-    shown = l;
-    new_shown = listed_look q (map part_of views) id v.part w.part l at_part runs takes grown;
+    new_shown = listed_look q (map part_of views) id (part_of v) (part_of w) l at_part runs takes grown;
     lawful = chain_is_lawful q gate views l lawful g;
     made = round_goes id c (the_runner r)
         ∙ ap Ok (same_chain c.notes c.notes Running Running c.runner (runner_from 0 (set views id w)) c.owing (λ call. owes_in (slice_get (set views id w) call)) refl refl (sym (runner_set 0 id views v w at runner)) (owing_same views id v w at owing));
   }
 
-  pub leave_event : gate ≡ 1 → v.runner ≡ true → IsSettled q views → w.part.runs ≡ v.part.runs → w.part.takes ≡ v.part.takes → Later w.part q → ((j : ℕ) (u : View) → get_elem? (set views id w) j ≡ some u → u.runner ≡ false) → w.owes ≡ v.owes → IsChainEvent q q gate 0 id v w (leave id)
+  pub leave_event : gate ≡ 1 → v.own.runner ≡ true → IsSettled q views → w.own.runs ≡ v.own.runs → w.own.takes ≡ v.own.takes → Later (part_of w) q → ((j : ℕ) (u : View) → get_elem? (set views id w) j ≡ some u → u.own.runner ≡ false) → w.own.owes ≡ v.own.owes → IsChainEvent o (with_gate o 0) views shown id w (leave id)
   unfolding listed_look
   leave_event one r settled runs takes grown none owing = let c : Chain = chain_of q l.runs gate views in record {
-    views = views;
-    here = at;
-    shown = l;
-    new_shown = listed_look q (map part_of views) id v.part w.part l at_part runs takes grown;
+    new_shown = listed_look q (map part_of views) id (part_of v) (part_of w) l at_part runs takes grown;
     lawful = chain_is_lawful q gate views l lawful g;
     made = leave_goes id c (ap (λ (z : ℕ). is_more (gate_of z)) one) (not_forgotten q gate views l settled) (the_runner r)
         ∙ ap Ok (same_chain c.notes c.notes Idle Idle None (runner_from 0 (set views id w)) c.owing (λ call. owes_in (slice_get (set views id w) call)) refl refl (sym (runner_none 0 (set views id w) none)) (owing_same views id v w at owing));

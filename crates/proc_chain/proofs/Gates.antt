@@ -10,7 +10,7 @@ use Rattle.table_theory.specs.declared.queues.Positions.{Positions}
 use Rattle.table_theory.specs.Positioned.{blank, item_of, item_at, Grows, with_take, tail_of}
 use Rattle.atomic_table.proofs.Lists.{at_set, set_here, set_else, at_longer}
 use Rattle.table_theory.proofs.Owned.{at_push, at_below, one_at}
-use Rattle.proc_chain.specs.declared.rule.View.{View}
+use Rattle.proc_chain.specs.Own.{View}
 use Rattle.proc_chain.specs.Shown.{notes_of}
 use Rattle.proc_chain.specs.Gates.{IsOwed, IsSettled, HasRunner, GateShows, SlotShows}
 
@@ -20,96 +20,101 @@ not_true false h = refl
 
 -- each run of one end has a run of the other with its start
 abbrev pub Covers : View → View → Type 0
-Covers v w = (m : ℕ) (e : Batch) → get_elem? v.part.runs m ≡ some e → (n : ℕ) × (f : Batch) × (get_elem? w.part.runs n ≡ some f) × (f.start ≡ e.start)
+Covers v w = (m : ℕ) (e : Batch) → get_elem? v.own.runs m ≡ some e → (n : ℕ) × (f : Batch) × (get_elem? w.own.runs n ≡ some f) × (f.start ≡ e.start)
 
-pub covers_same : (v w : View) → w.part.runs ≡ v.part.runs → Covers v w
+pub covers_same : (v w : View) → w.own.runs ≡ v.own.runs → Covers v w
 covers_same v w is m e has = (m, e, subst (λ (z : List Batch). get_elem? z m ≡ some e) (sym is) has, refl)
 
-pub covers_more : (v w : View) (l : List Batch) → w.part.runs ≡ v.part.runs ++ l → Covers v w
-covers_more v w l is m e has = (m, e, subst (λ (z : List Batch). get_elem? z m ≡ some e) (sym is) (at_longer v.part.runs l m e has), refl)
+pub covers_more : (v w : View) (l : List Batch) → w.own.runs ≡ v.own.runs ++ l → Covers v w
+covers_more v w l is m e has = (m, e, subst (λ (z : List Batch). get_elem? z m ≡ some e) (sym is) (at_longer v.own.runs l m e has), refl)
 
-pub owed_on : (q q' : Positions) (views : List View) (id : ℕ) (v w : View) → get_elem? views id ≡ some v → IsOwed q views → tail_of q' ≡ tail_of q → (v.owes ≡ true → w.owes ≡ true) → (v.owes ≡ true → Covers v w) → IsOwed q' (set views id w)
+pub owed_on : (q q' : Positions) (views : List View) (id : ℕ) (v w : View) → get_elem? views id ≡ some v → IsOwed q views → tail_of q' ≡ tail_of q → (v.own.owes ≡ true → w.own.owes ≡ true) → (v.own.owes ≡ true → Covers v w) → IsOwed q' (set views id w)
 owed_on q q' views id v w at o tail owes covers = dite (ℕ_discrete o.owner id)
-    (λ same. let is : o.view ≡ v = one_at views id o.view v (subst (λ (z : ℕ). get_elem? views z ≡ some o.view) same o.is_view) at in let mine : v.owes ≡ true = ap (λ (z : View). z.owes) (sym is) ∙ o.owes in
-    let r = covers mine o.number o.run (subst (λ (z : View). get_elem? z.part.runs o.number ≡ some o.run) is o.has) in
+    (λ same. let is : o.view ≡ v = one_at views id o.view v (subst (λ (z : ℕ). get_elem? views z ≡ some o.view) same o.is_view) at in let mine : v.own.owes ≡ true = ap (λ (z : View). z.own.owes) (sym is) ∙ o.owes in
+    let r = covers mine o.number o.run (subst (λ (z : View). get_elem? z.own.runs o.number ≡ some o.run) is o.has) in
     record { owner = id; view = w; is_view = set_here views id w (at_below views id v at); owes = owes mine; number = r.0; run = r.1; has = r.2; start = r.3 ∙ (o.start ∙ sym tail) })
     (λ ne. record { owner = o.owner; view = o.view; is_view = set_else views id o.owner w ne ∙ o.is_view; owes = o.owes; number = o.number; run = o.run; has = o.has; start = o.start ∙ sym tail })
 
-was : (views : List View) (id j : ℕ) (v w u : View) → get_elem? views id ≡ some v → w.runner ≡ v.runner → get_elem? (set views id w) j ≡ some u → u.runner ≡ true → (x : View) × (get_elem? views j ≡ some x) × (x.runner ≡ true)
-was views id j v w u at r has up = ⊎_elim (λ t. (v, subst (λ (z : ℕ). get_elem? views z ≡ some v) (sym t.0) at, sym r ∙ (ap (λ (z : View). z.runner) t.1 ∙ up))) (λ t. (u, t.1, up)) (at_set views id j w u has)
+was : (views : List View) (id j : ℕ) (v w u : View) → get_elem? views id ≡ some v → w.own.runner ≡ v.own.runner → get_elem? (set views id w) j ≡ some u → u.own.runner ≡ true → (x : View) × (get_elem? views j ≡ some x) × (x.own.runner ≡ true)
+was views id j v w u at r has up = ⊎_elim (λ t. (v, subst (λ (z : ℕ). get_elem? views z ≡ some v) (sym t.0) at, sym r ∙ (ap (λ (z : View). z.own.runner) t.1 ∙ up))) (λ t. (u, t.1, up)) (at_set views id j w u has)
 
-runs_set : (views : List View) (id : ℕ) (v w : View) → get_elem? views id ≡ some v → w.runner ≡ v.runner → HasRunner views → HasRunner (set views id w)
+runs_set : (views : List View) (id : ℕ) (v w : View) → get_elem? views id ≡ some v → w.own.runner ≡ v.own.runner → HasRunner views → HasRunner (set views id w)
 runs_set views id v w at r o = dite (ℕ_discrete o.number id)
     (λ same. let is : o.view ≡ v = one_at views id o.view v (subst (λ (z : ℕ). get_elem? views z ≡ some o.view) same o.is_view) at in
-    record { number = id; view = w; is_view = set_here views id w (at_below views id v at); runner = r ∙ (ap (λ (z : View). z.runner) (sym is) ∙ o.runner) })
+    record { number = id; view = w; is_view = set_here views id w (at_below views id v at); runner = r ∙ (ap (λ (z : View). z.own.runner) (sym is) ∙ o.runner) })
     (λ ne. record { number = o.number; view = o.view; is_view = set_else views id o.number w ne ∙ o.is_view; runner = o.runner })
 
 -- a step that leaves the gate and the turn
-pub gated_same : (q q' : Positions) (gate : ℕ) (views : List View) (id : ℕ) (v w : View) → GateShows q gate views → get_elem? views id ≡ some v → w.runner ≡ v.runner → q'.taken ≡ q.taken → (w.runner ≡ true → w.part.queue.taken ≡ q'.taken)
-    → (w.saw ≡ true → (v.saw ≡ true) ⊎ IsSettled q' (set views id w)) → (IsSettled q views → IsSettled q' (set views id w)) → GateShows q' gate (set views id w)
-gated_same q q' gate views id v w g at r taken sees saw settled = record {
+pub gated_same : (q q' : Positions) (gate : ℕ) (views : List View) (id : ℕ) (v w : View) → GateShows q gate views → get_elem? views id ≡ some v → w.own.runner ≡ v.own.runner → q'.taken ≡ q.taken → (w.own.runner ≡ true → w.seen.object.queue.taken ≡ q'.taken) → (w.own.runner ≡ true → w.own.taken ≡ v.own.taken)
+    → (w.own.saw ≡ true → (v.own.saw ≡ true) ⊎ IsSettled q' (set views id w)) → (IsSettled q views → IsSettled q' (set views id w)) → GateShows q' gate (set views id w)
+gated_same q q' gate views id v w g at r taken sees same saw settled = record {
   bounded = g.bounded;
   runs = λ up. runs_set views id v w at r (g.runs up);
-  still = λ down j u has. ⊎_elim (λ t. ap (λ (z : View). z.runner) (sym t.1) ∙ (r ∙ g.still down id v at)) (λ t. g.still down j u t.1) (at_set views id j w u has);
+  still = λ down j u has. ⊎_elim (λ t. ap (λ (z : View). z.own.runner) (sym t.1) ∙ (r ∙ g.still down id v at)) (λ t. g.still down j u t.1) (at_set views id j w u has);
   sole = λ i j x y has has' up up'. let a = was views id i v w x at r has up in let b = was views id j v w y at r has' up' in g.sole i j a.0 b.0 a.1 b.1 a.2 b.2;
-  takes = λ j u has up. ⊎_elim (λ t. subst (λ (z : View). z.part.queue.taken ≡ q'.taken) t.1 (sees (ap (λ (z : View). z.runner) t.1 ∙ up))) (λ t. g.takes j u t.1 up ∙ sym taken) (at_set views id j w u has);
+  takes = λ j u has up. ⊎_elim (λ t. subst (λ (z : View). z.seen.object.queue.taken ≡ q'.taken) t.1 (sees (ap (λ (z : View). z.own.runner) t.1 ∙ up))) (λ t. g.takes j u t.1 up ∙ sym taken) (at_set views id j w u has);
+  counts = λ j u has up. ⊎_elim (λ t. subst (λ (z : View). z.own.taken ≡ q'.taken) t.1 (let up' = ap (λ (z : View). z.own.runner) t.1 ∙ up in same up' ∙ (g.counts id v at (sym r ∙ up') ∙ sym taken))) (λ t. g.counts j u t.1 up ∙ sym taken) (at_set views id j w u has);
   idle = λ down. settled (g.idle down);
   seen = λ j u has up sw one. ⊎_elim
-      (λ t. ⊎_elim (λ old. settled (g.seen id v at (sym r ∙ (ap (λ (z : View). z.runner) t.1 ∙ up)) old one)) (λ now. now) (saw (ap (λ (z : View). z.saw) t.1 ∙ sw)))
+      (λ t. ⊎_elim (λ old. settled (g.seen id v at (sym r ∙ (ap (λ (z : View). z.own.runner) t.1 ∙ up)) old one)) (λ now. now) (saw (ap (λ (z : View). z.own.saw) t.1 ∙ sw)))
       (λ t. settled (g.seen j u t.1 up sw one)) (at_set views id j w u has);
 }
 
 -- a step of an end that then alone has the turn, at a gate that is not idle
-pub gated_runs : (q' : Positions) (gate' : ℕ) (views : List View) (id : ℕ) (v w : View) → get_elem? views id ≡ some v → ((j : ℕ) (u : View) → get_elem? views j ≡ some u → j ≢ id → u.runner ≡ false) → gate' ≢ 0 → gate' ≤ 2
-    → w.runner ≡ true → w.saw ≡ false → w.part.queue.taken ≡ q'.taken → GateShows q' gate' (set views id w)
-gated_runs q' gate' views id v w at others up bounded r no_saw sees = let mine : (j : ℕ) (u : View) → get_elem? (set views id w) j ≡ some u → u.runner ≡ true → (j ≡ id) × (w ≡ u) = λ j u has is. ⊎_elim (λ t. t) (λ t. absurd (true≢false (sym is ∙ others j u t.1 t.0))) (at_set views id j w u has) in record {
+pub gated_runs : (q' : Positions) (gate' : ℕ) (views : List View) (id : ℕ) (v w : View) → get_elem? views id ≡ some v → ((j : ℕ) (u : View) → get_elem? views j ≡ some u → j ≢ id → u.own.runner ≡ false) → gate' ≢ 0 → gate' ≤ 2
+    → w.own.runner ≡ true → w.own.saw ≡ false → w.seen.object.queue.taken ≡ q'.taken → w.own.taken ≡ q'.taken → GateShows q' gate' (set views id w)
+gated_runs q' gate' views id v w at others up bounded r no_saw sees count = let mine : (j : ℕ) (u : View) → get_elem? (set views id w) j ≡ some u → u.own.runner ≡ true → (j ≡ id) × (w ≡ u) = λ j u has is. ⊎_elim (λ t. t) (λ t. absurd (true≢false (sym is ∙ others j u t.1 t.0))) (at_set views id j w u has) in record {
   bounded = bounded;
   runs = λ _. record { number = id; view = w; is_view = set_here views id w (at_below views id v at); runner = r };
   still = λ down. absurd (up down);
   sole = λ i j x y has has' is is'. (mine i x has is).0 ∙ sym (mine j y has' is').0;
-  takes = λ j u has is. subst (λ (z : View). z.part.queue.taken ≡ q'.taken) (mine j u has is).1 sees;
+  takes = λ j u has is. subst (λ (z : View). z.seen.object.queue.taken ≡ q'.taken) (mine j u has is).1 sees;
+  counts = λ j u has is. subst (λ (z : View). z.own.taken ≡ q'.taken) (mine j u has is).1 count;
   idle = λ down. absurd (up down);
-  seen = λ j u has is sw one. absurd (true≢false (sym sw ∙ (ap (λ (z : View). z.saw) (sym (mine j u has is).1) ∙ no_saw)));
+  seen = λ j u has is sw one. absurd (true≢false (sym sw ∙ (ap (λ (z : View). z.own.saw) (sym (mine j u has is).1) ∙ no_saw)));
 }
 
-pub others_still : (q : Positions) (gate : ℕ) (views : List View) (id : ℕ) (v : View) → GateShows q gate views → get_elem? views id ≡ some v → v.runner ≡ true → (j : ℕ) (u : View) → get_elem? views j ≡ some u → j ≢ id → u.runner ≡ false
-others_still q gate views id v g at r j u has ne = not_true u.runner (λ is. ne (g.sole j id u v has at is r))
+pub others_still : (q : Positions) (gate : ℕ) (views : List View) (id : ℕ) (v : View) → GateShows q gate views → get_elem? views id ≡ some v → v.own.runner ≡ true → (j : ℕ) (u : View) → get_elem? views j ≡ some u → j ≢ id → u.own.runner ≡ false
+others_still q gate views id v g at r j u has ne = not_true u.own.runner (λ is. ne (g.sole j id u v has at is r))
 
-pub gate_up : (q : Positions) (gate : ℕ) (views : List View) (id : ℕ) (v : View) → GateShows q gate views → get_elem? views id ≡ some v → v.runner ≡ true → gate ≢ 0
+pub gate_up : (q : Positions) (gate : ℕ) (views : List View) (id : ℕ) (v : View) → GateShows q gate views → get_elem? views id ≡ some v → v.own.runner ≡ true → gate ≢ 0
 gate_up q gate views id v g at r down = absurd (true≢false (sym r ∙ g.still down id v at))
 
 -- the gate becomes More where it was not idle
-pub gated_more : (q : Positions) (gate : ℕ) (views : List View) (id : ℕ) (v w : View) → GateShows q gate views → get_elem? views id ≡ some v → gate ≢ 0 → w.runner ≡ v.runner → w.part.queue.taken ≡ q.taken → GateShows q 2 (set views id w)
-gated_more q gate views id v w g at up r sees = record {
+pub gated_more : (q : Positions) (gate : ℕ) (views : List View) (id : ℕ) (v w : View) → GateShows q gate views → get_elem? views id ≡ some v → gate ≢ 0 → w.own.runner ≡ v.own.runner → w.seen.object.queue.taken ≡ q.taken → w.own.taken ≡ v.own.taken → GateShows q 2 (set views id w)
+gated_more q gate views id v w g at up r sees same = record {
   bounded = omega arith;
   runs = λ _. runs_set views id v w at r (g.runs up);
   still = λ down. absurd (omega arith);
   sole = λ i j x y has has' is is'. let a = was views id i v w x at r has is in let b = was views id j v w y at r has' is' in g.sole i j a.0 b.0 a.1 b.1 a.2 b.2;
-  takes = λ j u has is. ⊎_elim (λ t. subst (λ (z : View). z.part.queue.taken ≡ q.taken) t.1 sees) (λ t. g.takes j u t.1 is) (at_set views id j w u has);
+  takes = λ j u has is. ⊎_elim (λ t. subst (λ (z : View). z.seen.object.queue.taken ≡ q.taken) t.1 sees) (λ t. g.takes j u t.1 is) (at_set views id j w u has);
+  counts = λ j u has is. ⊎_elim (λ t. subst (λ (z : View). z.own.taken ≡ q.taken) t.1 (same ∙ g.counts id v at (sym r ∙ (ap (λ (z : View). z.own.runner) t.1 ∙ is)))) (λ t. g.counts j u t.1 is) (at_set views id j w u has);
   idle = λ down. absurd (omega arith);
   seen = λ j u has is sw one. absurd (omega arith);
 }
 
 -- the runner leaves, having seen that the first note left was not raised
-pub gated_leaves : (q : Positions) (views : List View) (id : ℕ) (v w : View) → GateShows q 1 views → get_elem? views id ≡ some v → v.runner ≡ true → v.saw ≡ true → w.runner ≡ false → w.owes ≡ v.owes → w.part.runs ≡ v.part.runs → GateShows q 0 (set views id w)
-gated_leaves q views id v w g at r sw down owes same = let none : (j : ℕ) (u : View) → get_elem? (set views id w) j ≡ some u → u.runner ≡ false = λ j u has. ⊎_elim (λ t. ap (λ (z : View). z.runner) (sym t.1) ∙ down) (λ t. others_still q 1 views id v g at r j u t.1 t.0) (at_set views id j w u has) in record {
+pub gated_leaves : (q : Positions) (views : List View) (id : ℕ) (v w : View) → GateShows q 1 views → get_elem? views id ≡ some v → v.own.runner ≡ true → v.own.saw ≡ true → w.own.runner ≡ false → w.own.owes ≡ v.own.owes → w.own.runs ≡ v.own.runs → GateShows q 0 (set views id w)
+gated_leaves q views id v w g at r sw down owes same = let none : (j : ℕ) (u : View) → get_elem? (set views id w) j ≡ some u → u.own.runner ≡ false = λ j u has. ⊎_elim (λ t. ap (λ (z : View). z.own.runner) (sym t.1) ∙ down) (λ t. others_still q 1 views id v g at r j u t.1 t.0) (at_set views id j w u has) in record {
   bounded = omega arith;
   runs = λ up. absurd (up refl);
   still = λ _. none;
   sole = λ i j x y has has' is is'. absurd (true≢false (sym is ∙ none i x has));
   takes = λ j u has is. absurd (true≢false (sym is ∙ none j u has));
+  counts = λ j u has is. absurd (true≢false (sym is ∙ none j u has));
   idle = λ _ up. owed_on q q views id v w at (g.seen id v at r sw refl up) refl (λ h. owes ∙ h) (λ _. covers_same v w same);
   seen = λ j u has is. absurd (true≢false (sym is ∙ none j u has));
 }
 
-pub gated_new : (q : Positions) (gate : ℕ) (views : List View) (w : View) → GateShows q gate views → w.runner ≡ false → GateShows q gate (views ++ w ∷ [])
-gated_new q gate views w g r = let old : (j : ℕ) (u : View) → get_elem? (views ++ w ∷ []) j ≡ some u → u.runner ≡ true → get_elem? views j ≡ some u = λ j u has is. ⊎_elim (λ t. t) (λ t. absurd (true≢false (sym is ∙ (ap (λ (z : View). z.runner) (sym t.1) ∙ r)))) (at_push views w u j has) in
+pub gated_new : (q : Positions) (gate : ℕ) (views : List View) (w : View) → GateShows q gate views → w.own.runner ≡ false → GateShows q gate (views ++ w ∷ [])
+gated_new q gate views w g r = let old : (j : ℕ) (u : View) → get_elem? (views ++ w ∷ []) j ≡ some u → u.own.runner ≡ true → get_elem? views j ≡ some u = λ j u has is. ⊎_elim (λ t. t) (λ t. absurd (true≢false (sym is ∙ (ap (λ (z : View). z.own.runner) (sym t.1) ∙ r)))) (at_push views w u j has) in
     let settled : IsSettled q views → IsSettled q (views ++ w ∷ []) = λ s up. let o = s up in record { owner = o.owner; view = o.view; is_view = at_longer views (w ∷ []) o.owner o.view o.is_view; owes = o.owes; number = o.number; run = o.run; has = o.has; start = o.start } in record {
       bounded = g.bounded;
       runs = λ up. let o = g.runs up in record { number = o.number; view = o.view; is_view = at_longer views (w ∷ []) o.number o.view o.is_view; runner = o.runner };
-      still = λ down j u has. ⊎_elim (λ t. g.still down j u t) (λ t. ap (λ (z : View). z.runner) (sym t.1) ∙ r) (at_push views w u j has);
+      still = λ down j u has. ⊎_elim (λ t. g.still down j u t) (λ t. ap (λ (z : View). z.own.runner) (sym t.1) ∙ r) (at_push views w u j has);
       sole = λ i j x y has has' is is'. g.sole i j x y (old i x has is) (old j y has' is') is is';
       takes = λ j u has is. g.takes j u (old j u has is) is;
+      counts = λ j u has is. g.counts j u (old j u has is) is;
       idle = λ down. settled (g.idle down);
       seen = λ j u has is sw one. settled (g.seen j u (old j u has is) is sw one);
     }

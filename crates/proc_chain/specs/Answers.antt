@@ -1,77 +1,57 @@
--- What chaining a note answers, by the steps that it made.
-use Rattle.std.specs.Prelude.{◌≡◌, ℕ, ◌+◌, ◌<◌, ◌≤◌, Bool, true, false, length, List}
+-- What chaining a note answers: the entries that it added, all of them, and how their numbers compare.
+use Rattle.std.specs.Prelude.{◌≢◌, ℕ, ◌+◌, ◌<◌, ◌≤◌, Bool, true, false, [], ◌∷◌, ◌++◌}
 use Rattle.table_theory.specs.Batches.{IsPast}
-use Rattle.atomic_table.specs.Table.{Me}
+use Rattle.table_theory.specs.Positioned.{fresh}
 use Rattle.table_theory.specs.declared.positions.TheConstants.{POSITIONS}
-use Rattle.proc_chain.specs.declared.rule.View.{View}
-use Rattle.proc_chain.specs.declared.layout.TheConstants.{PLACES}
+use Rattle.table_theory.specs.declared.views.Moment.{Moment}
+use Rattle.table_theory.specs.Ledgers.{load, change, Made}
+use Rattle.proc_chain.specs.declared.rule.Did.{Did}
+use Rattle.proc_chain.specs.declared.rule.GatedQueue.{GatedQueue}
+use Rattle.proc_chain.specs.declared.layout.TheConstants.{PLACES, IDLE, MORE}
 use Rattle.proc_chain.specs.declared.chaining.ChainRefusal.{ChainRefusal}
 use Rattle.proc_chain.specs.declared.chaining.ChainRefusal.TheVariants.{Spent, Full, Lost}
 use Rattle.proc_chain.specs.declared.chaining.Chained.{Chained}
 use Rattle.proc_chain.specs.declared.chaining.Chained.TheVariants.{Run, Left}
-use Rattle.proc_chain.specs.Layout.{head_word, tail_word, place_word, raised_word}
-use Rattle.proc_chain.specs.Steps.{Found, Claimed, Raised, GotTurn, Notified}
+use Rattle.proc_chain.specs.Layout.{head_word, tail_word, place_word, gate_word}
+use Rattle.proc_chain.specs.Changes.{IsPlace, with_note, with_raise, with_gate}
+use Rattle.proc_chain.specs.Own.{View}
 
--- the head was loaded, with a position left, and then the tail, with room for one more behind it
-pub record FoundRoom (v : View) (head : ℕ) (w : View) : Type 0 where
-  pub tail : ℕ
-  pub loaded : View
-  pub head_loaded : Found v head_word head loaded
-  pub tail_loaded : Found loaded tail_word tail w
-  pub position : head + 1 < POSITIONS
-  pub fits : head < tail + PLACES
+-- Why a note was refused. Spent: the head was loaded, past the last position. Full: the head was loaded, then the tail,
+-- with no room behind it. Lost: there was room, but the exchange found another head, past the one that was loaded
+abbrev pub NotChained : View → ChainRefusal → View → Type 0
+NotChained v Spent w = (head : ℕ) × (m : Moment GatedQueue) × (POSITIONS ≤ head + 1)
+    × Made v (load head_word head m ∷ []) v.own w
+NotChained v (Full head tail) w = (m n : Moment GatedQueue) × (head + 1 < POSITIONS) × (tail + PLACES ≤ head)
+    × Made v (load head_word head m ∷ load tail_word tail n ∷ []) v.own w
+NotChained v (Lost head) w = (first tail : ℕ) × (m n o : Moment GatedQueue)
+    × (first + 1 < POSITIONS) × (first < tail + PLACES) × (first < head)
+    × Made v (load head_word first m ∷ load tail_word tail n ∷ load head_word head o ∷ []) v.own w
 
--- the head that was loaded is past the last position
-pub record WasSpent (v w : View) : Type 0 where
-  pub head : ℕ
-  pub loaded : Found v head_word head w
-  pub spent : POSITIONS ≤ head + 1
+-- what the end has then done: a run more, of this note, raised at this position, and it owes no notify
+abbrev pub with_run : Did → ℕ → ℕ → Did
+with_run d position note = record d {
+  runs = d.runs ++ record { start = position; places = record { item = note; written = 2 } ∷ [] } ∷ [];
+  owes = false;
+}
 
--- The head was loaded, with a position left, and then the tail, with no room behind it. So there was none when the head
--- was loaded
-pub record WasFull (v : View) (head tail : ℕ) (w : View) : Type 0 where
-  pub loaded : View
-  pub head_loaded : Found v head_word head loaded
-  pub tail_loaded : Found loaded tail_word tail w
-  pub position : head + 1 < POSITIONS
-  pub full : tail + PLACES ≤ head
-  pub was_full : loaded.part.queue.taken + PLACES ≤ length loaded.part.queue.places
+-- The head was loaded, then the tail, with room for one more. The exchange found the head that was loaded, and claimed
+-- a place for the note. The note was raised there, and the gate, which was found so, set to More
+abbrev pub ChainedAt : View → ℕ → ℕ → (ℕ → Did → Did) → View → Type 0
+ChainedAt v note gate then w = (head tail was : ℕ) × (k l m n o : Moment GatedQueue)
+    × (head + 1 < POSITIONS) × (head < tail + PLACES) × IsPast v.own.runs head
+    × IsPlace n.object.queue head (fresh note)
+    × Made v (load head_word head k ∷ load tail_word tail l ∷ change head_word head m (with_note m.object note)
+    ∷ change (place_word head) was n (with_raise n.object head note)
+    ∷ change gate_word gate o (with_gate o.object MORE) ∷ []) (then o.object.queue.taken (with_run v.own head note)) w
 
--- the end found room, but the exchange found another head, past the one loaded
-pub record WasLost (v : View) (head : ℕ) (w : View) : Type 0 where
-  pub first : ℕ
-  pub before : View
-  pub found : FoundRoom v first before
-  pub missed : Found before head_word head w
-  pub past : first < head
+-- the end has the turn, so many notes were taken, and it has not looked yet
+abbrev pub with_turn : ℕ → Did → Did
+with_turn taken d = record d { runner = true; taken = taken; saw = false }
 
--- what a refused note says, by what the end knew
-abbrev pub WasRefused : View → ChainRefusal → View → Type 0
-WasRefused v Spent w = WasSpent v w
-WasRefused v (Full head tail) w = WasFull v head tail w
-WasRefused v (Lost head) w = WasLost v head w
-
--- and what the end holds stays as it was
-abbrev pub Refused : {Q : Type 0} → Me Q View → ChainRefusal → Me Q View → Type 0
-Refused me refusal me' = WasRefused me.0 refusal me'.0 × (me'.1 ≡ me.1)
-
--- The end found room, claimed the note by one exchange of the head that it had loaded, and raised it there
-pub record Linked (call : ℕ) (v : View) (note : ℕ) (w : View) : Type 0 where
-  pub head : ℕ
-  pub before : View
-  pub found : FoundRoom v head before
-  pub between : View
-  pub claimed : Claimed call before head note between
-  pub raised : Raised call between head (place_word head) (raised_word head note) w
-  pub past : IsPast v.part.runs head
-
--- Claim, raise and notify, one behind the other: Run exactly where the notify found the gate Idle
-abbrev pub IsChained : {Q : Type 0} → (Q → List ℕ → Type 0) → (Q → Type 0) → ℕ → Me Q View → ℕ → Chained → Me Q View
-    → Type 0
-IsChained {Q} made fits call me note (Run turn) me' =
-    (u : View) × Linked call me.0 note u × GotTurn made fits call (u, me.1) me'
-IsChained {Q} made fits call me note Left me' =
-    (u : View) × (gate : ℕ) × Linked call me.0 note u × Notified call u gate me'.0 × (me'.1 ≡ me.1)
+-- Run exactly where the gate was found Idle
+abbrev pub ChainedNow : View → ℕ → Chained → View → Type 0
+ChainedNow v note (Run turn) w = ChainedAt v note IDLE with_turn w
+ChainedNow v note Left w = (gate : ℕ) × (gate ≢ IDLE) × ChainedAt v note gate (λ taken did. did) w
 
 -- the end got the Turn
 abbrev pub is_run : Chained → Bool

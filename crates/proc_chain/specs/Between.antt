@@ -12,19 +12,19 @@ use Rattle.event_theory.specs.Runs.{flat, pairs}
 use Rattle.event_theory.specs.Queues.{is_raised}
 use Rattle.event_theory.specs.Chains.{Chain, is_call}
 use Rattle.event_theory.specs.Lawful.{IsLawfulChain}
-use Rattle.table_theory.specs.Positioned.{item_of}
+use Rattle.table_theory.specs.Positioned.{item_of, Grows}
 use Rattle.table_theory.specs.Filing.{Owned, ListedOnce}
-use Rattle.table_theory.specs.Listing.{all_places, Adjacent, Later}
+use Rattle.table_theory.specs.Listing.{all_places, Adjacent}
 use Rattle.table_theory.specs.QueueOf.{run_in, up_in, IsHistory}
-use Rattle.table_theory.specs.Courses.{IsCourse}
-use Rattle.table_theory.specs.Members.{EndsKnown}
-use Rattle.proc_chain.specs.declared.rule.Moment.{Moment}
+use Rattle.table_theory.specs.Ledgers.{AreTrue}
+use Rattle.proc_chain.specs.declared.rule.GatedQueue.{GatedQueue}
 use Rattle.proc_chain.specs.declared.rule.Shape.{Shape}
-use Rattle.proc_chain.specs.declared.rule.View.{View}
+use Rattle.proc_chain.specs.Own.{View, nothing_did, of_chains, queue_of}
 use Rattle.proc_chain.specs.declared.layout.TheConstants.{PLACES, MORE}
 use Rattle.proc_chain.specs.Layout.{head_word, tail_word, ends_word, width, note_in, mark_in, gate_in}
-use Rattle.proc_chain.specs.Rules.{member_of, steps_of, course_of, IsIdle, first_moment}
-use Rattle.proc_chain.specs.Chainings.{gate_of, chain_of}
+use Rattle.proc_chain.specs.Shown.{Shows}
+use Rattle.proc_chain.specs.Changes.{first_queue, IsLawful}
+use Rattle.proc_chain.specs.Chainings.{gate_of, chain_of, AreShown}
 
 -- the pair (run, index) of the note with this number
 abbrev pub pair_at : Chain → ℕ → ℕ × ℕ
@@ -43,13 +43,13 @@ pub record IsShown {W : Type 0} (key : Shape W) (words : List ℕ) (views : List
   pub runs : List (Owned Batch)
   pub history : c.notes.history ≡ map run_in runs
   -- each run of a view is one of the history, and each of the history is of one view, at one place of its list
-  pub once : ListedOnce runs (map (λ view. view.part.runs) views)
+  pub once : ListedOnce runs (map (λ view. view.own.runs) views)
   -- each run begins where the one before it ends, the first at the first position
   pub side_by_side : Adjacent key.first runs
   pub raised : (run index : ℕ) → c.notes.raised run index ≡ up_in (slice_get runs run) index
   pub takings : List (Owned Batch)
   -- each taking is in one view, and they take each position below the tail once, with the note that its run gave it
-  pub taken_once : ListedOnce takings (map (λ view. view.part.takes) views)
+  pub taken_once : ListedOnce takings (map (λ view. view.own.takes) views)
   pub taken_in_order : Adjacent key.first takings
   pub taken_notes : map item_of (all_places takings) ≡ take c.notes.taken (flat c.notes.history)
   pub capacity : c.notes.capacity ≡ PLACES
@@ -62,14 +62,14 @@ pub record IsShown {W : Type 0} (key : Shape W) (words : List ℕ) (views : List
   pub gate : c.gate ≡ gate_of (gate_in words)
   pub gate_word : gate_in words ≤ MORE
   -- an end is the runner exactly where it knows so, and owes a notify exactly where it knows so
-  pub runner : (call : ℕ) (v : View) → get_elem? views call ≡ some v → v.runner ≡ is_call call c.runner
-  pub owing : (call : ℕ) (v : View) → get_elem? views call ≡ some v → v.owes ≡ c.owing call
+  pub runner : (call : ℕ) (v : View) → get_elem? views call ≡ some v → v.own.runner ≡ is_call call c.runner
+  pub owing : (call : ℕ) (v : View) → get_elem? views call ≡ some v → v.own.owes ≡ c.owing call
 
 -- There is a lawful chain that is shown. Where its gate is Idle, the quaject is in the slot, was made by the notes
 -- taken, in order, and suits the chain; else the slot is out
 pub record ShowsChain {Q W : Type 0} (made : W → Q → List ℕ → Type 0) (fits : W → Q → Type 0) (key : Shape W)
     (s : State Q View) : Type 0 where
-  pub now : Moment
+  pub now : GatedQueue
   pub chain : Chain
   pub lawful : IsLawfulChain chain
   pub shown : IsShown key s.words s.views chain
@@ -78,13 +78,19 @@ pub record ShowsChain {Q W : Type 0} (made : W → Q → List ℕ → Type 0) (f
   pub first : now.queue.first ≡ key.first
   pub history : IsHistory now.queue shown.runs
   pub gate : now.gate ≡ gate_in s.words
-  -- each end has seen the queue no later than now
-  pub seen : (j : ℕ) (v : View) → get_elem? s.views j ≡ some v → Later v.part now.queue
-  -- the ends' steps lead to them from the empty queue with its gate Idle, and each end has seen all of them up to its
-  -- own last one
-  pub course : IsCourse steps_of course_of (first_moment key.first) now s.views
-  -- the word has the number of the ends that stand
-  pub ends : EndsKnown member_of IsIdle (slice_index_or s.words ends_word 0) s.views
+  -- and each end has seen the queue no later than now
+  pub seen : (j : ℕ) (v : View) → get_elem? s.views j ≡ some v → Grows (queue_of v) now.queue
   pub home : chain.gate ≡ Idle → (x : Q) × (s.homes ≡ some x ∷ [])
       × made key.pact x (take chain.notes.taken (flat chain.notes.history)) × fits key.pact x
   pub held : chain.gate ≢ Idle → s.homes ≡ none ∷ []
+
+-- The words show that queue and gate, which are lawful, and have the number of the ends that stand. The ends' steps,
+-- all real, lead to them from the empty queue with its gate Idle, and each end has seen all of them up to its own last
+-- one
+pub record ShowsEnds {Q W : Type 0} (key : Shape W) (s : State Q View) (now : GatedQueue) : Type 0 where
+  pub words : Shows now s.words
+  pub lawful : IsLawful now
+  pub views : AreShown now s.views
+  pub ends : ℕ
+  pub number : slice_index_or s.words ends_word 0 ≡ ends
+  pub true_ends : AreTrue of_chains nothing_did (first_queue key.first) (record { ends = ends; object = now }) s.views

@@ -2,8 +2,6 @@
 use Rattle.std.specs.Prelude.{◌≡◌, ℕ, zero, suc, Bool, false, if◌then◌else◌, List, [], ◌∷◌, map, slice_set}
 use Rattle.std.specs.Prelude.{Option, Some, None, Result, Ok}
 use Rattle.std.specs.List.{slice_get}
-use mathlib.Core.Option.{some}
-use lib.ListN.{get_elem?}
 use Rattle.event_theory.specs.declared.refusal.Refusal.{Refusal}
 use Rattle.event_theory.specs.declared.status.Gate.{Gate}
 use Rattle.event_theory.specs.declared.status.Gate.TheVariants.{Idle, Running, More}
@@ -14,8 +12,9 @@ use Rattle.table_theory.specs.Listing.{ViewsShow}
 use Rattle.table_theory.specs.QueueOf.{queue_of}
 use Rattle.event_theory.specs.Chains.{Chain}
 use Rattle.event_theory.specs.Lawful.{IsLawfulChain}
-use Rattle.proc_chain.specs.declared.rule.View.{View}
-use Rattle.proc_chain.specs.Rules.{part_of}
+use Rattle.proc_chain.specs.Own.{View, part_of}
+use Rattle.proc_chain.specs.declared.rule.GatedQueue.{GatedQueue}
+use Rattle.proc_chain.specs.Gates.{GateShows}
 
 -- the gate that a gate word says: IDLE, RUNNING, or else MORE
 abbrev pub gate_of : ℕ → Gate
@@ -26,11 +25,11 @@ gate_of (suc (suc n)) = More
 -- the first end that has the turn
 abbrev pub runner_from : ℕ → List View → Option ℕ
 runner_from number [] = None
-runner_from number (v ∷ vs) = if v.runner then Some number else runner_from (suc number) vs
+runner_from number (v ∷ vs) = if v.own.runner then Some number else runner_from (suc number) vs
 
 abbrev pub owes_in : Option View → Bool
 owes_in None = false
-owes_in (Some v) = v.owes
+owes_in (Some v) = v.own.owes
 
 -- an end is a call: its runs, its turn and what it owes
 abbrev pub chain_of : Positions → List (Owned Batch) → ℕ → List View → Chain
@@ -41,14 +40,16 @@ chain_of q runs gate views = record {
   owing = λ call. owes_in (slice_get views call);
 }
 
--- A step of the end `seat`, which knew v and then knows w, makes r of the positions q, and another gate: it is this
--- event of the chain that the gate and the views of all ends show
-pub record IsChainEvent (q r : Positions) (gate new_gate : ℕ) (seat : ℕ) (v w : View)
+-- the queue, the gate and the views fit: the views list the queue, and the gate is as one of them knows
+pub record AreShown (o : GatedQueue) (views : List View) : Type 0 where
+  pub listed : ViewsShow o.queue (map part_of views)
+  pub gate : GateShows o.queue o.gate views
+
+-- where the end `seat` then has the view w, it is this event of the chain that the gate and the views of all ends show
+-- that makes p of o
+pub record IsChainEvent (o p : GatedQueue) (views : List View) (shown : AreShown o views) (seat : ℕ) (w : View)
     (event : Chain → Result Chain Refusal) : Type 0 where
-  pub views : List View
-  pub here : get_elem? views seat ≡ some v
-  pub shown : ViewsShow q (map part_of views)
-  pub new_shown : ViewsShow r (slice_set (map part_of views) seat w.part)
-  pub lawful : IsLawfulChain (chain_of q shown.runs gate views)
-  pub made : event (chain_of q shown.runs gate views)
-      ≡ Ok (chain_of r new_shown.runs new_gate (slice_set views seat w))
+  pub new_shown : ViewsShow p.queue (slice_set (map part_of views) seat (part_of w))
+  pub lawful : IsLawfulChain (chain_of o.queue shown.listed.runs o.gate views)
+  pub made : event (chain_of o.queue shown.listed.runs o.gate views)
+      ≡ Ok (chain_of p.queue new_shown.runs p.gate (slice_set views seat w))

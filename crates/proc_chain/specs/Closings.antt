@@ -1,15 +1,13 @@
 -- What closing a chain answers.
-use Rattle.std.specs.Prelude.{◌≡◌, ◌+◌, ◌<◌, ◌%◌, ◌==◌, ℕ, List, [], ◌∷◌, Option, Some, None}
-use Rattle.std.specs.Prelude.{if◌then◌else◌, length}
-use Rattle.table_theory.specs.declared.queues.Positions.{Positions}
+use Rattle.std.specs.Prelude.{◌≡◌, ◌+◌, ◌%◌, ◌==◌, ℕ, List, [], ◌∷◌, Option, Some, None, if◌then◌else◌, length}
+use Rattle.table_theory.specs.Ledgers as ends
 use Rattle.table_theory.specs.Listing.{ViewsShow}
 use Rattle.table_theory.specs.Reads.{read_from}
 use Rattle.table_theory.specs.Sharing.{IsWhole}
-use Rattle.proc_chain.specs.declared.rule.View.{View}
 use Rattle.proc_chain.specs.declared.layout.TheConstants.{PLACES}
-use Rattle.proc_chain.specs.Layout.{note_in, mark_in}
+use Rattle.proc_chain.specs.Layout.{ends_word, note_in, mark_in}
 use Rattle.proc_chain.specs.Shown.{notes_of}
-use Rattle.proc_chain.specs.Steps.{Tallied}
+use Rattle.proc_chain.specs.Own.{View, part_of, queue_of}
 
 -- what is read at the position p
 abbrev pub left_at : List ℕ → ℕ → Option ℕ
@@ -19,22 +17,22 @@ left_at words p = if mark_in words (p % PLACES) == p + 1 then Some (note_in word
 abbrev pub left_from : List ℕ → ℕ → ℕ → List (Option ℕ)
 left_from words p n = read_from (left_at words) p n
 
--- The chain is closed, by an end that has the whole and so lists all of it. All that was put was taken, no note is
--- left, and the quaject that comes back was made by the notes taken, in order, and suits the chain
+-- The chain is closed, by an end that has the whole and so has seen and lists all of it, and each split was joined. All
+-- that was put was taken, no note is left, and the quaject that comes back was made by the notes taken, in order, and
+-- suits the chain
 pub record ClosedNow {Q : Type 0} (made : Q → List ℕ → Type 0) (fits : Q → Type 0) (v : View) (first put taken : ℕ)
     (left : List (Option ℕ)) (quaject : Q) : Type 0 where
   pub whole : IsWhole v.member.share
-  pub queue : Positions
-  pub listed : ViewsShow queue (v.part ∷ [])
-  pub starts : queue.first ≡ first
-  pub puts : put ≡ length queue.places
-  pub taken_is : taken ≡ queue.taken
+  pub listed : ViewsShow (queue_of v) (part_of v ∷ [])
+  pub sole : v.seen.ends ≡ 1
+  pub joined : v.member.splits ≡ v.member.joins
+  pub starts : (queue_of v).first ≡ first
+  pub puts : put ≡ length (queue_of v).places
+  pub taken_is : taken ≡ (queue_of v).taken
   pub all_taken : taken ≡ put
   pub none_left : left ≡ []
-  pub home : made quaject (notes_of queue) × fits quaject
+  pub home : made quaject (notes_of (queue_of v)) × fits quaject
 
 -- other ends stand: their number was found, with this end's, and this end has not the whole
-pub record WereOpen (v : View) (others : ℕ) (w : View) : Type 0 where
-  pub tallied : Tallied v (others + 1) w
-  pub some_other : 0 < others
-  pub not_whole : IsWhole v.member.share → ⊥
+abbrev pub WereOpen : View → ℕ → View → Type 0
+WereOpen v others w = ends.WereOpen ends_word v others w

@@ -1,43 +1,21 @@
--- What making and joining ends does to their views.
-use Rattle.std.specs.Prelude.{◌≡◌, ℕ, Bool, true, false, ◌&&◌}
-use Rattle.table_theory.specs.Ends.{Begins}
-use Rattle.table_theory.specs.Members as members
-use Rattle.table_theory.specs.Seeing.{Sees}
-use Rattle.table_theory.specs.Sharing.{given}
+-- What making and joining ends does to what they know.
+use Rattle.std.specs.Prelude.{◌≡◌, Bool, true, false, ◌&&◌}
 use Rattle.atomic_table.specs.Table.{Me}
-use Rattle.proc_chain.specs.declared.rule.View.{View}
-use Rattle.proc_chain.specs.Rules.{moment}
-use Rattle.proc_chain.specs.Steps.{Course, KeepsTaken, counted, both, newborn}
+use Rattle.table_theory.specs.Ledgers as ends
+use Rattle.proc_chain.specs.Layout.{ends_word}
+use Rattle.proc_chain.specs.Own.{View, nothing_did, did_both}
 
--- The number of ends was found and made one more, and the end gave a part of its share away. Nothing else changed
-pub record Divided (v w : View) : Type 0 where
-  pub found : ℕ
-  pub before : Course
-  pub follows : Begins v.course before
-  pub gate : ℕ
-  pub same : w ≡ counted v found before (moment w.part.queue gate) w.member
-  pub sees : Sees v.part w.part.queue
-  pub turn : KeepsTaken v w.part.queue
-  pub member : members.Divided v.member found w.member
+-- the end was counted once more, and gave a part of its share away
+abbrev pub Divided : View → View → Type 0
+Divided v w = ends.Divided ends_word v w
 
 -- the new end has nothing but the part of the share, and has seen what the other end had seen
 abbrev pub IsNewborn : View → View → View → Type 0
-IsNewborn old new born = born ≡ record (newborn new) {
-  member = record (members.newborn new.member) { share = given old.member.share };
-}
+IsNewborn old new born = ends.IsNewborn nothing_did old new born
 
--- The end has what both had, and has seen what both had seen; then the number of ends was found and made one less. Not
--- both had the turn
-pub record TookIn (v u w : View) : Type 0 where
-  pub found : ℕ
-  pub before : Course
-  pub follows : Begins (both v u).course before
-  pub gate : ℕ
-  pub same : w ≡ counted (both v u) found before (moment w.part.queue gate) w.member
-  pub sees : Sees (both v u).part w.part.queue
-  pub turn : KeepsTaken v w.part.queue
-  pub member : members.TookIn v.member u.member found w.member
-  pub one_turn : (v.runner && u.runner) ≡ false
+-- the end has what both had, and was counted once less; not both had the turn
+abbrev pub TookIn : View → View → View → Type 0
+TookIn v u w = ends.TookIn did_both ends_word v u w × ((v.own.runner && u.own.runner) ≡ false)
 
 -- the end takes in the other, or is taken in by it, where that is told to have the turn; it then holds what that end
 -- held

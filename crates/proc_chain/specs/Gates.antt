@@ -5,7 +5,7 @@ use lib.ListN.{get_elem?}
 use Rattle.table_theory.specs.declared.queues.Batch.{Batch}
 use Rattle.table_theory.specs.declared.queues.Positions.{Positions}
 use Rattle.table_theory.specs.Positioned.{written_at, tail_of}
-use Rattle.proc_chain.specs.declared.rule.View.{View}
+use Rattle.proc_chain.specs.Own.{View}
 use Rattle.proc_chain.specs.declared.layout.TheConstants.{IDLE, RUNNING, MORE}
 use Rattle.proc_chain.specs.Shown.{notes_of}
 
@@ -14,10 +14,10 @@ pub record IsOwed (q : Positions) (views : List View) : Type 0 where
   pub owner : ℕ
   pub view : View
   pub is_view : get_elem? views owner ≡ some view
-  pub owes : view.owes ≡ true
+  pub owes : view.own.owes ≡ true
   pub number : ℕ
   pub run : Batch
-  pub has : get_elem? view.part.runs number ≡ some run
+  pub has : get_elem? view.own.runs number ≡ some run
   pub start : run.start ≡ tail_of q
 
 -- where the first note left is raised, the end that owns its run owes a notify
@@ -29,19 +29,21 @@ pub record HasRunner (views : List View) : Type 0 where
   pub number : ℕ
   pub view : View
   pub is_view : get_elem? views number ≡ some view
-  pub runner : view.runner ≡ true
+  pub runner : view.own.runner ≡ true
 
 -- One end has the turn where the gate is not Idle, and none where it is. That end knows how many notes were taken. In
 -- an Idle chain no raised note is forgotten, nor in a Running one whose runner has seen that none was raised
 pub record GateShows (q : Positions) (gate : ℕ) (views : List View) : Type 0 where
   pub bounded : gate ≤ MORE
   pub runs : gate ≢ IDLE → HasRunner views
-  pub still : gate ≡ IDLE → (j : ℕ) (v : View) → get_elem? views j ≡ some v → v.runner ≡ false
-  pub sole : (i j : ℕ) (u v : View) → get_elem? views i ≡ some u → get_elem? views j ≡ some v → u.runner ≡ true
-      → v.runner ≡ true → i ≡ j
-  pub takes : (j : ℕ) (v : View) → get_elem? views j ≡ some v → v.runner ≡ true → v.part.queue.taken ≡ q.taken
+  pub still : gate ≡ IDLE → (j : ℕ) (v : View) → get_elem? views j ≡ some v → v.own.runner ≡ false
+  pub sole : (i j : ℕ) (u v : View) → get_elem? views i ≡ some u → get_elem? views j ≡ some v → u.own.runner ≡ true
+      → v.own.runner ≡ true → i ≡ j
+  pub takes : (j : ℕ) (v : View) → get_elem? views j ≡ some v → v.own.runner ≡ true
+      → v.seen.object.queue.taken ≡ q.taken
+  pub counts : (j : ℕ) (v : View) → get_elem? views j ≡ some v → v.own.runner ≡ true → v.own.taken ≡ q.taken
   pub idle : gate ≡ IDLE → IsSettled q views
-  pub seen : (j : ℕ) (v : View) → get_elem? views j ≡ some v → v.runner ≡ true → v.saw ≡ true
+  pub seen : (j : ℕ) (v : View) → get_elem? views j ≡ some v → v.own.runner ≡ true → v.own.saw ≡ true
       → gate ≡ RUNNING → IsSettled q views
 
 -- Where the gate is Idle the quaject is in the slot, made by the notes taken, and suits the chain; else the slot is

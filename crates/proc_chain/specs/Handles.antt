@@ -5,7 +5,7 @@ use Rattle.table_theory.specs.Sharing.{IsWhole}
 use Rattle.atomic_table.specs.Table.{Me}
 use Rattle.proc_chain.specs.declared.quaject.Quaject.{Ghosts}
 use Rattle.proc_chain.specs.declared.rule.Pact.{Pact}
-use Rattle.proc_chain.specs.declared.rule.View.{View}
+use Rattle.proc_chain.specs.Own.{View}
 use Rattle.proc_chain.specs.declared.ends.ProcChain.{ProcChain}
 use Rattle.proc_chain.specs.declared.ends.ChainEnd.{ChainEnd}
 use Rattle.proc_chain.specs.Rules.{suits, makes}
@@ -37,10 +37,6 @@ module _ {Q W : Type 0} {g : Ghosts Q W} where
   abbrev pub me_of : ChainEnd Q W g → Me Q View
   me_of end = end.seat.me
 
-  -- the number of the end, which is the call of its events
-  abbrev pub call_of : ChainEnd Q W g → ℕ
-  call_of end = end.seat.id
-
   -- whether the end has a Turn to serve
   abbrev pub turn_of : ChainEnd Q W g → Bool
   turn_of end = end.turn
@@ -58,6 +54,10 @@ module _ {Q W : Type 0} {g : Ghosts Q W} where
   abbrev pub IsEndOf : ProcChain Q W → ChainEnd Q W g → Type 0
   IsEndOf chain end = (end.seat.table_id ≡ chain.table.shared.table_id)
       × HasSlot (makes g.made_by chain.table.shared.key.pact) (suits g.fits chain.table.shared.key.pact) end.seat.me
+
+  -- its turn, and what it holds of the slot, are as they were
+  abbrev pub KeepsTurn : ChainEnd Q W g → ChainEnd Q W g → Type 0
+  KeepsTurn old new = (new.turn ≡ old.turn) × (new.seat.me.1 ≡ old.seat.me.1)
 
   -- it is the same end of the same chain
   abbrev pub IsSameEnd : ChainEnd Q W g → ChainEnd Q W g → Type 0

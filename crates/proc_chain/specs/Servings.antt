@@ -1,124 +1,118 @@
--- What serving does, step by step, and what it answers.
-use Rattle.std.specs.Prelude.{◌≡◌, ◌≢◌, ℕ, zero, suc, ◌+◌, ◌<◌, Bool, true, false, List, [], ◌∷◌, ◌++◌, map}
+-- What serving answers: the entries that it added, all of them, how their numbers compare, and what was run.
+use Rattle.std.specs.Prelude.{◌≡◌, ◌≢◌, ℕ, zero, suc, ◌+◌, ◌<◌, Bool, true, false, List, [], ◌∷◌, ◌++◌}
 use Rattle.std.specs.Prelude.{length, Option, Some, None}
-use Rattle.std.specs.List.{concat}
-use Rattle.table_theory.specs.Positioned.{item_at}
+use Rattle.std.specs.List.{AllByRecursion, flat_map}
 use Rattle.atomic_table.specs.Table.{Me}
-use Rattle.proc_chain.specs.declared.rule.View.{View}
-use Rattle.proc_chain.specs.declared.layout.TheConstants.{MORE}
+use Rattle.table_theory.specs.declared.queues.Batch.{Batch}
+use Rattle.table_theory.specs.declared.views.Moment.{Moment}
+use Rattle.table_theory.specs.Ledgers.{Step, load, change, Made}
+use Rattle.proc_chain.specs.declared.rule.Did.{Did}
+use Rattle.proc_chain.specs.declared.rule.GatedQueue.{GatedQueue}
+use Rattle.proc_chain.specs.declared.layout.TheConstants.{IDLE, RUNNING, MORE, NOTES}
 use Rattle.proc_chain.specs.declared.serve.TheConstants.{MOST_RUN}
 use Rattle.proc_chain.specs.declared.serve.Served.{Served}
 use Rattle.proc_chain.specs.declared.serve.Served.TheVariants.{Done, More}
 use Rattle.proc_chain.specs.Layout.{tail_word, gate_word, place_word, raised_word, mark_of}
-use Rattle.proc_chain.specs.Shown.{notes_of}
-use Rattle.proc_chain.specs.Steps.{Carries, Found, FoundNotRaised, Took, BegunRound, HasLeft}
+use Rattle.proc_chain.specs.Changes.{with_taken, with_gate, taking}
+use Rattle.proc_chain.specs.Own.{View}
 use Rattle.proc_chain.specs.Turns.{HasServed}
 
--- The runner loaded the tail and the word of its place, found this note raised there, and took it by a store of the
--- tail. The quaject that it had was made by the notes taken before, and the one that it has then by this one too
-pub record RanNote {Q : Type 0} (made : Q → List ℕ → Type 0) (fits : Q → Type 0) (call : ℕ) (me : Me Q View) (note : ℕ)
-    (me' : Me Q View) : Type 0 where
-  pub tail : ℕ
-  pub loaded : View
-  pub tail_loaded : Found me.0 tail_word tail loaded
-  pub found : View
-  pub place_loaded : Found loaded (place_word tail) (raised_word tail note) found
-  pub took : Took made fits call (found, me.1) (tail + 1) me'.0
-  pub note_is : note ≡ item_at took.queue took.queue.taken
-  pub ran : Carries made fits (notes_of me'.0.part.queue) [] me'.1
+-- What used one of the limit. A note that was run: the tail was loaded, then the note found raised at its place, and
+-- taken by a store of the tail. Or a leave that failed: the tail was loaded, no note found raised at its place, the
+-- exchange found the gate More, and a round was begun
+pub data Use : Type 0 where
+  took : (note tail : ℕ) → Moment GatedQueue → Moment GatedQueue → Moment GatedQueue → Use
+  failed : (tail word gate : ℕ) → Moment GatedQueue → Moment GatedQueue → Moment GatedQueue → Moment GatedQueue → Use
 
--- the runner loaded the tail and the word of its place, and found no note raised there
-pub record FoundNone (v w : View) : Type 0 where
-  pub tail : ℕ
-  pub loaded : View
-  pub tail_loaded : Found v tail_word tail loaded
-  pub found : ℕ
-  pub place_loaded : FoundNotRaised loaded (place_word tail) found w
-  pub no_mark : mark_of found ≢ tail + 1
+-- its entries
+abbrev pub entries_of : Use → List (Step GatedQueue)
+entries_of (took note tail m n o) = load tail_word tail m ∷ load (place_word tail) (raised_word tail note) n
+    ∷ change tail_word tail o (with_taken o.object) ∷ []
+entries_of (failed tail word gate m n o p) = load tail_word tail m ∷ load (place_word tail) word n
+    ∷ load gate_word MORE o ∷ change gate_word gate p (with_gate p.object RUNNING) ∷ []
 
--- the runner found none raised, and could not leave, since its exchange found the gate More; it began a round
-pub record FoundMore {Q : Type 0} (made : Q → List ℕ → Type 0) (fits : Q → Type 0) (call : ℕ) (me me' : Me Q View)
-    : Type 0 where
-  pub low : View
-  pub none_raised : FoundNone me.0 low
-  pub more : View
-  pub missed : Found low gate_word MORE more
-  pub gate : ℕ
-  pub round : BegunRound made fits call (more, me.1) gate me'.0
-  pub held : me'.1 ≡ me.1
+-- how its numbers compare
+abbrev pub IsUse : Use → Type 0
+IsUse (took note tail m n o) = note < NOTES
+IsUse (failed tail word gate m n o p) = mark_of word ≢ tail + 1
 
--- the runner found none raised, and left, since its exchange found the gate Running
-pub record LeftNone {Q : Type 0} (made : Q → List ℕ → Type 0) (fits : Q → Type 0) (call : ℕ) (me me' : Me Q View)
-    : Type 0 where
-  pub low : View
-  pub none_raised : FoundNone me.0 low
-  pub left : HasLeft made fits call (low, me.1) me'.0
-  pub held : me'.1 ≡ []
-
--- What used the limit, one behind the other: each note run uses one, and each leave that found More
-abbrev pub Used : {Q : Type 0} → (Q → List ℕ → Type 0) → (Q → Type 0) → ℕ → Me Q View → List (Option ℕ) → Me Q View
-    → Type 0
-Used made fits call me [] me' = me' ≡ me
-Used {Q} made fits call me (Some note ∷ uses) me' =
-    (u : Me Q View) × RanNote made fits call me note u × Used made fits call u uses me'
-Used {Q} made fits call me (None ∷ uses) me' =
-    (u : Me Q View) × FoundMore made fits call me u × Used made fits call u uses me'
-
--- the notes run, in order
-abbrev pub notes_run : List (Option ℕ) → List ℕ
+-- the notes run, in order, and the takings
+abbrev pub notes_run : List Use → List ℕ
 notes_run [] = []
-notes_run (Some note ∷ uses) = note ∷ notes_run uses
-notes_run (None ∷ uses) = notes_run uses
+notes_run (took note tail m n o ∷ uses) = note ∷ notes_run uses
+notes_run (failed tail word gate m n o p ∷ uses) = notes_run uses
 
--- a round was begun, from the gate that was found, and then the limit was used so
-pub record UsedInRounds {Q : Type 0} (made : Q → List ℕ → Type 0) (fits : Q → Type 0) (call : ℕ) (me : Me Q View)
-    (uses : List (Option ℕ)) (me' : Me Q View) : Type 0 where
+abbrev pub takings : List Use → List Batch
+takings [] = []
+takings (took note tail m n o ∷ uses) = taking o.object.queue ∷ takings uses
+takings (failed tail word gate m n o p ∷ uses) = takings uses
+
+-- a round that was begun, from this gate, and what then used the limit
+pub record Serving : Type 0 where
   pub gate : ℕ
-  pub start : View
-  pub round : BegunRound made fits call me gate start
-  pub used : Used made fits call (start, me.1) uses me'
+  pub begun : Moment GatedQueue
+  pub uses : List Use
 
--- all of the limit was used, or less, and then the end left. Where there is none, no step was made
-abbrev pub HowServed : {Q : Type 0} → (Q → List ℕ → Type 0) → (Q → Type 0) → ℕ → Me Q View → ℕ → Bool → List (Option ℕ)
-    → Me Q View → Type 0
-HowServed made fits call me zero false uses me' = (uses ≡ []) × (me' ≡ me)
-HowServed made fits call me (suc n) false uses me' =
-    (length uses ≡ suc n) × UsedInRounds made fits call me uses me'
-HowServed {Q} made fits call me limit true uses me' = (length uses < limit) × (u : Me Q View)
-    × UsedInRounds made fits call me uses u × LeftNone made fits call u me'
+-- its entries
+abbrev pub serving : Serving → List (Step GatedQueue)
+serving s = change gate_word s.gate s.begun (with_gate s.begun.object RUNNING) ∷ flat_map entries_of s.uses
 
--- so many notes were run
-pub record IsServing {Q : Type 0} (made : Q → List ℕ → Type 0) (fits : Q → Type 0) (call : ℕ) (me : Me Q View)
-    (limit ran : ℕ) (done : Bool) (me' : Me Q View) : Type 0 where
-  pub uses : List (Option ℕ)
-  pub how : HowServed made fits call me limit done uses me'
-  pub number : length (notes_run uses) ≡ ran
-  pub served : HasServed me.0 (notes_run uses) me'.0
+-- how the end left: the tail was loaded, no note found raised at its place, and the exchange found the gate Running
+pub record Leaving : Type 0 where
+  pub tail : ℕ
+  pub word : ℕ
+  pub low : mark_of word ≢ tail + 1
+  pub at_tail : Moment GatedQueue
+  pub at_place : Moment GatedQueue
+  pub at_gate : Moment GatedQueue
 
-abbrev pub IsServed : {Q : Type 0} → (Q → List ℕ → Type 0) → (Q → Type 0) → ℕ → Me Q View → ℕ → Served → Me Q View
-    → Type 0
-IsServed made fits call me limit (Done ran) me' = IsServing made fits call me limit ran true me'
-IsServed made fits call me limit (More turn ran) me' = IsServing made fits call me limit ran false me'
+-- its entries
+abbrev pub leaving : Option Leaving → List (Step GatedQueue)
+leaving None = []
+leaving (Some l) = load tail_word l.tail l.at_tail ∷ load (place_word l.tail) l.word l.at_place
+    ∷ change gate_word RUNNING l.at_gate (with_gate l.at_gate.object IDLE) ∷ []
+
+-- whether the end has the turn then
+abbrev pub goes_on : Option Leaving → Bool
+goes_on None = true
+goes_on (Some l) = false
+
+-- all that used the limit in these servings
+abbrev pub all_uses : List Serving → List Use
+all_uses servings = flat_map (λ s. s.uses) servings
+
+-- what the end has then done: it took so, and has the turn still, or not
+abbrev pub after_all : Did → List Use → Option Leaving → Did
+after_all d uses left = record d {
+  takes = d.takes ++ takings uses;
+  runner = goes_on left;
+  taken = d.taken + length (notes_run uses);
+  saw = false;
+}
+
+-- These servings were made, one behind the other, and then the end left, if it did. So many notes were run
+pub record HasRun (v : View) (servings : List Serving) (left : Option Leaving) (ran : ℕ) (w : View) : Type 0 where
+  pub fit : AllByRecursion IsUse (all_uses servings)
+  pub number : length (notes_run (all_uses servings)) ≡ ran
+  pub made : Made v (flat_map serving servings ++ leaving left)
+      (after_all v.own (all_uses servings) left) w
+  pub served : HasServed v (notes_run (all_uses servings)) w
+
+-- Done: less than the limit was used, and the end left. More: all of it was used. Where there is none, no step was made
+abbrev pub ServedNow : {Q : Type 0} → Me Q View → ℕ → Served → Me Q View → Type 0
+ServedNow me limit (Done ran) me' = (s : Serving) × (l : Leaving) × (length s.uses < limit)
+    × HasRun me.0 (s ∷ []) (Some l) ran me'.0
+ServedNow me zero (More turn ran) me' = (ran ≡ 0) × (me' ≡ me)
+ServedNow me (suc n) (More turn ran) me' = (s : Serving) × (length s.uses ≡ suc n)
+    × HasRun me.0 (s ∷ []) None ran me'.0
 
 -- the end still has the turn
 abbrev pub is_more : Served → Bool
 is_more (Done ran) = false
 is_more (More turn ran) = true
 
--- servings that used their limit up, one behind the other
-abbrev pub Servings : {Q : Type 0} → (Q → List ℕ → Type 0) → (Q → Type 0) → ℕ → Me Q View → ℕ → List (List (Option ℕ))
-    → Me Q View → Type 0
-Servings made fits call me limit [] me' = me' ≡ me
-Servings {Q} made fits call me limit (uses ∷ more) me' = (u : Me Q View)
-    × HowServed made fits call me limit false uses u × Servings made fits call u limit more me'
-
--- Servings of the greatest limit were used up, one behind the other, and at last the end left. So many notes were run
-pub record AllServed {Q : Type 0} (made : Q → List ℕ → Type 0) (fits : Q → Type 0) (call : ℕ) (me : Me Q View) (ran : ℕ)
-    (me' : Me Q View) : Type 0 where
-  pub used_up : List (List (Option ℕ))
-  pub before : Me Q View
-  pub servings : Servings made fits call me MOST_RUN used_up before
-  pub last : List (Option ℕ)
-  pub how : HowServed made fits call before MOST_RUN true last me'
-  pub number : length (concat (map notes_run used_up) ++ notes_run last) ≡ ran
-  pub served : HasServed me.0 (concat (map notes_run used_up) ++ notes_run last) me'.0
+-- servings of the greatest limit were used up, one behind the other, and in a last one the end left
+abbrev pub AllServed : View → ℕ → View → Type 0
+AllServed v ran w = (used_up : List Serving) × (last : Serving) × (l : Leaving)
+    × AllByRecursion (λ s. length s.uses ≡ MOST_RUN) used_up × (length last.uses < MOST_RUN)
+    × HasRun v (used_up ++ last ∷ []) (Some l) ran w

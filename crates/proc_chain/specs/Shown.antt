@@ -1,11 +1,12 @@
--- What the words of the table show of the queue of notes.
+-- What the words of the table show of the queue of notes, and of the gate.
 use Rattle.std.specs.Prelude.{◌≡◌, ℕ, ◌<◌, false, List, length, map, take, slice_index_or}
 use Rattle.table_theory.specs.declared.positions.TheConstants.{POSITIONS}
 use Rattle.table_theory.specs.declared.queues.Positions.{Positions}
 use Rattle.table_theory.specs.Positioned.{head_of, tail_of, item_of}
 use Rattle.table_theory.specs.Windows.{PlacesShow}
+use Rattle.proc_chain.specs.declared.rule.GatedQueue.{GatedQueue}
 use Rattle.proc_chain.specs.declared.layout.TheConstants.{PLACES}
-use Rattle.proc_chain.specs.Layout.{head_word, tail_word, width, note_in, mark_in}
+use Rattle.proc_chain.specs.Layout.{head_word, tail_word, width, note_in, mark_in, gate_in}
 
 -- the words show the queue's head and tail, and the places from the tail on
 pub record WordsShow (q : Positions) (words : List ℕ) : Type 0 where
@@ -16,6 +17,10 @@ pub record WordsShow (q : Positions) (words : List ℕ) : Type 0 where
   pub head : slice_index_or words head_word 0 ≡ head_of q
   pub tail : slice_index_or words tail_word 0 ≡ tail_of q
   pub window : PlacesShow q (mark_in words) (note_in words)
+
+-- they show the queue, and the gate
+abbrev pub Shows : GatedQueue → List ℕ → Type 0
+Shows o words = WordsShow o.queue words × (gate_in words ≡ o.gate)
 
 -- the notes that were taken, in order
 abbrev pub notes_of : Positions → List ℕ

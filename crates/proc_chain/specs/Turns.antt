@@ -1,27 +1,38 @@
 -- What an end with the turn has, and what serving does to it.
-use Rattle.std.specs.Prelude.{◌≡◌, ℕ, ◌+◌, ◌<◌, ◌≤◌, true, false, List, [], ◌++◌, map, length}
-use Rattle.table_theory.specs.Positioned.{head_of, Grows}
+use Rattle.std.specs.Prelude.{◌≡◌, ℕ, ◌+◌, ◌≤◌, Bool, true, false, List, [], ◌∷◌, ◌++◌, map, length, take}
 use Rattle.atomic_table.specs.Table.{Me}
-use Rattle.table_theory.specs.declared.positions.TheConstants.{POSITIONS}
-use Rattle.proc_chain.specs.declared.rule.View.{View}
+use Rattle.proc_chain.specs.Own.{View, queue_of}
 use Rattle.proc_chain.specs.Shown.{notes_of}
 use Rattle.proc_chain.specs.Notes.{notes_taken, alone}
-use Rattle.proc_chain.specs.Steps.{Carries}
+
+-- a quaject that was made by these notes, and fits, stands in the slot that was taken last
+abbrev pub Carries : {Q : Type 0} → (Q → List ℕ → Type 0) → (Q → Type 0) → List ℕ → List (ℕ × Q) → List (ℕ × Q)
+    → Type 0
+Carries {Q} made fits notes held c = (x : Q) × (c ≡ (0, x) ∷ held) × made x notes × fits x
 
 -- an end with the turn holds the slot, and in it the quaject that the notes taken made; an end without it holds none
 abbrev pub HasSlot : {Q : Type 0} → (Q → List ℕ → Type 0) → (Q → Type 0) → Me Q View → Type 0
-HasSlot made fits me = (me.0.runner ≡ true → Carries made fits (notes_of me.0.part.queue) [] me.1)
-    × (me.0.runner ≡ false → me.1 ≡ [])
+HasSlot made fits me = (me.0.own.runner ≡ true → Carries made fits (notes_of (queue_of me.0)) [] me.1)
+    × (me.0.own.runner ≡ false → me.1 ≡ [])
+
+-- the end still has the quaject, which the notes taken made; or it gave it back so, and holds nothing
+abbrev pub HasOrGave : {Q : Type 0} → (Q → List ℕ → Type 0) → (Q → Type 0) → Bool → Me Q View → Type 0
+HasOrGave made fits true me = Carries made fits (notes_of (queue_of me.0)) [] me.1
+HasOrGave {Q} made fits false me = (me.1 ≡ []) × ((x : Q) × made x (notes_of (queue_of me.0)) × fits x)
+
+-- at each number of notes taken in between, the quaject was made by so many of them, in order, and fits
+abbrev pub MadeSince : {Q : Type 0} → (Q → List ℕ → Type 0) → (Q → Type 0) → View → View → Type 0
+MadeSince {Q} made fits v w = (n : ℕ) → (queue_of v).taken ≤ n → n ≤ (queue_of w).taken
+    → (x : Q) × made x (take n (notes_of (queue_of w))) × fits x
+
+-- where the end has the turn, no note was taken since
+abbrev pub KeepsTaken : View → View → Type 0
+KeepsTaken v w = v.own.runner ≡ true → (queue_of w).taken ≡ (queue_of v).taken
 
 -- these notes were taken in between, by this end alone, each by a taking of its own, and it put none
 pub record HasServed (v : View) (ns : List ℕ) (w : View) : Type 0 where
-  pub notes : notes_of w.part.queue ≡ notes_of v.part.queue ++ ns
-  pub taken : w.part.queue.taken ≡ v.part.queue.taken + length ns
-  pub grows : Grows v.part.queue w.part.queue
-  pub behind : w.part.queue.taken ≤ length w.part.queue.places
-  pub bounded : head_of w.part.queue < POSITIONS
-  pub runs : w.part.runs ≡ v.part.runs
+  pub notes : notes_of (queue_of w) ≡ notes_of (queue_of v) ++ ns
+  pub taken : (queue_of w).taken ≡ (queue_of v).taken + length ns
   pub takes : notes_taken w ≡ notes_taken v ++ map alone ns
-  pub ends : w.member.ends ≡ v.member.ends
+  pub runs : w.own.runs ≡ v.own.runs
   pub share : w.member.share ≡ v.member.share
-  pub owes : w.owes ≡ v.owes

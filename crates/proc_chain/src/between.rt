@@ -3,8 +3,8 @@
 ghost use Rattle.atomic_table.specs.Table.{State};
 ghost use Rattle.proc_chain.specs.declared.rule.Pact.{Pact};
 ghost use Rattle.proc_chain.specs.declared.rule.Shape.{Shape};
-ghost use Rattle.proc_chain.specs.declared.rule.View.{View};
-ghost use Rattle.proc_chain.specs.Between.{ShowsChain};
+ghost use Rattle.proc_chain.specs.Own.{View};
+ghost use Rattle.proc_chain.specs.Between.{ShowsChain, ShowsEnds};
 ghost use Rattle.proc_chain.specs.Rules.{suits, makes};
 
 use crate::quaject::Quaject;
@@ -19,4 +19,11 @@ pub fn between_steps<Q: Quaject>()
     ensures { (key : Shape (Pact Q.World Q)) (state : State Q View)
         → ⟦<ChainRule as TableRule<Q, View, Shape<Pact<Q::World, Q>>>>⟧.holds key state
         → ShowsChain (makes Q.made_by) (suits Q.fits) key state }
+{}
+
+/// The same, and the words show the queue and the gate of that chain, to which the steps of all ends lead, each real.
+pub fn ends_between_steps<Q: Quaject>()
+    ensures { (key : Shape (Pact Q.World Q)) (state : State Q View)
+        → ⟦<ChainRule as TableRule<Q, View, Shape<Pact<Q::World, Q>>>>⟧.holds key state
+        → (shown : ShowsChain (makes Q.made_by) (suits Q.fits) key state) × ShowsEnds key state shown.now }
 {}

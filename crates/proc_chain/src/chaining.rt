@@ -1,8 +1,8 @@
 //! Chaining a note.
-ghost use Rattle.std.specs.Prelude.{◌≡◌, ◌+◌, ◌<◌, MatchResult, IfOk, false, true};
-ghost use Rattle.proc_chain.specs.Answers.{IsChained, Refused, is_run};
-ghost use Rattle.proc_chain.specs.Rules.{suits, makes};
+ghost use Rattle.std.specs.Prelude.{◌≡◌, MatchResult, IfOk, false, true};
+ghost use Rattle.proc_chain.specs.Answers.{ChainedNow, NotChained, is_run};
 ghost use Rattle.proc_chain.specs.Notes.{SameNotes, PutNote};
+ghost use Rattle.proc_chain.specs.Turns.{KeepsTaken};
 
 use crate::ends::{ChainEnd, ProcChain};
 use crate::layout::{IDLE, PLACES};
@@ -40,7 +40,7 @@ pub enum ChainRefusal {
 }
 
 impl<Q: Quaject> ProcChain<Q> {
-    ghost use Rattle.proc_chain.specs.Handles.{view_of, me_of, call_of, turn_of, pact_of, IsEndOf, IsSameEnd};
+    ghost use Rattle.proc_chain.specs.Handles.{view_of, turn_of, IsEndOf, KeepsTurn, IsSameEnd};
 
     /// One try to chain a note: it loads the head, then the tail, and exchanges the head, which claims a place; it
     /// raises the note there, and swaps the gate to More, which notifies. Where that swap found the gate Idle, the
@@ -49,16 +49,15 @@ impl<Q: Quaject> ProcChain<Q> {
     /// `ChainRefusal` lists them, and change nothing.
     pub fn try_chain(&self, end: &mut ChainEnd<Q>, note: u16) -> Result<Chained, ChainRefusal>
         requires { IsEndOf self.now end.old }
-        ensures queue { IsSameEnd end.old end.new }
-        ensures ends { IsEndOf self.now end.new }
-        ensures chained { MatchResult result
-            (λ r. IsChained (makes Q.made_by (pact_of self.now)) (suits Q.fits (pact_of self.now)) (call_of end.old)
-            (me_of end.old) note r (me_of end.new)) (λ e. Refused (me_of end.old) e (me_of end.new)) }
         ensures notes { MatchResult result (λ r. PutNote note (view_of end.old) (view_of end.new))
             (λ e. SameNotes (view_of end.old) (view_of end.new)) }
         ensures turn { MatchResult result (λ r. is_run r ≡ true → (turn_of end.old ≡ false) × (turn_of end.new ≡ true))
-            (λ e. turn_of end.new ≡ turn_of end.old) }
-        ensures kept { IfOk result (λ r. is_run r ≡ false → turn_of end.new ≡ turn_of end.old) }
+            (λ e. KeepsTurn end.old end.new) }
+        ensures kept { IfOk result (λ r. is_run r ≡ false → KeepsTurn end.old end.new) }
+        ensures steps { MatchResult result (λ r. ChainedNow (view_of end.old) note r (view_of end.new))
+            (λ e. NotChained (view_of end.old) e (view_of end.new)) }
+        ensures ends { IsEndOf self.now end.new }
+        ensures same { IsSameEnd end.old end.new × KeepsTaken (view_of end.old) (view_of end.new) }
     {
         let words = &self.table.shared;
         let head = load_head(words, &mut end.seat);
@@ -76,7 +75,7 @@ impl<Q: Quaject> ProcChain<Q> {
         if found != head {
             return Err(ChainRefusal::Lost { head: found as u32 });
         }
-        store_place::<Q, Brand>(words, &mut end.seat, head, note);
+        store_place(words, &mut end.seat, head, note);
         if swap_more::<Q, Brand>(words, &mut end.seat) == IDLE {
             end.turn = true;
             return Ok(Chained::Run(Turn(())));

@@ -56,7 +56,8 @@ fn read_left<Q>(closed: &Closed<Q, Global>, tail: u64, head: u64) -> ArrayVec<Op
 }
 
 impl<Q: Quaject> ProcChain<Q> {
-    ghost use Rattle.proc_chain.specs.Handles.{view_of, turn_of, pact_of, first_of, IsEndOf, IsOnlyEnd, IsSameEnd};
+    ghost use Rattle.proc_chain.specs.Handles.{view_of, turn_of, pact_of, first_of};
+    ghost use Rattle.proc_chain.specs.Handles.{IsEndOf, IsOnlyEnd, KeepsTurn, IsSameEnd};
 
     /// Closes the chain where every other end has been joined, and gives the quaject back. Else the chain and the end
     /// come back, and the number of the others. As each end has raised all that it claimed and told of it, no note is
@@ -69,11 +70,12 @@ impl<Q: Quaject> ProcChain<Q> {
     ) -> Result<ChainClosed<Q>, (ProcChain<Q>, ChainEnd<Q>, OpenEnds)>
         requires ends { IsEndOf self end }
         requires turn { turn_of end ≡ false }
+        ensures only { IsOnlyEnd end → MatchResult result (λ c. Unit {0}) (λ e. ⊥) }
         ensures closed { IfOk result (λ c. ClosedNow (makes Q.made_by (pact_of self)) (suits Q.fits (pact_of self))
             (view_of end) (first_of self) c.put c.taken c.left.items c.quaject) }
-        ensures open { IfErr result (λ e. (e.0 ≡ self) × IsEndOf self e.1 × IsSameEnd end e.1 × (turn_of e.1 ≡ false)
-            × WereOpen (view_of end) e.2.others (view_of e.1)) }
-        ensures only { IsOnlyEnd end → MatchResult result (λ c. Unit {0}) (λ e. ⊥) }
+        ensures steps { IfErr result (λ e. WereOpen (view_of end) e.2.others (view_of e.1)) }
+        ensures ends { IfErr result (λ e. IsEndOf self e.1) }
+        ensures same { IfErr result (λ e. (e.0 ≡ self) × IsSameEnd end e.1 × KeepsTurn end e.1) }
     {
         let mut end = end;
         let ends = count(&self.table.shared, &mut end.seat);

@@ -1,14 +1,15 @@
 //! The chain and its ends.
 ghost use Rattle.std.specs.Prelude.{◌≡◌, ◌≤◌, ◌<◌, ◌||◌, [], true, false, length, IfOk, IfErr};
 ghost use Rattle.table_theory.specs.Listing.{Distinct, AllRaised};
-ghost use Rattle.table_theory.specs.Members.{first_member};
 ghost use Rattle.table_theory.specs.Positioned.{head_of};
 ghost use Rattle.table_theory.specs.declared.positions.TheConstants.{POSITIONS};
 ghost use Rattle.proc_chain.specs.declared.layout.TheConstants.{PLACES};
 ghost use Rattle.proc_chain.specs.Layout.{width};
-ghost use Rattle.proc_chain.specs.Rules.{view_from};
+ghost use Rattle.proc_chain.specs.Own.{queue_of};
+ghost use Rattle.proc_chain.specs.Rules.{view_from, IsTold};
 ghost use Rattle.proc_chain.specs.Endings.{Divided, IsNewborn, TookIn, Joined};
 ghost use Rattle.proc_chain.specs.Notes.{SameNotes};
+ghost use Rattle.proc_chain.specs.Turns.{KeepsTaken};
 
 use crate::layout::{ENDS, HEAD, TAIL, WORDS};
 use crate::quaject::Quaject;
@@ -34,18 +35,24 @@ pub struct ProcChain<Q: Quaject> {
 
 /// An end of a chain, which chains notes and, with a Turn, serves them. It has all that it claimed raised, and owes no
 /// notify. It has no bytes but the Turn's flag.
+///
+/// What it lists is true: each entry of its steps, and of the steps of all ends that it has seen, found the number that
+/// stood in its word then, and found the queue and the gate as the step before it left them, lawful and shown by the
+/// words.
 #[derive(Drop)]
 pub struct ChainEnd<Q: Quaject> {
     pub(crate) seat: Seat<Q, View>,
     pub(crate) turn: bool,
-    ghost room: { seat.me.0.part.queue.room ≡ PLACES },
+    ghost room: { (queue_of seat.me.0).room ≡ PLACES },
     ghost one: { seat.me.0.member.ends ≡ 1 },
-    ghost turned: { seat.me.0.runner ≡ turn },
-    ghost settled: { seat.me.0.owes ≡ false },
-    ghost behind: { seat.me.0.part.queue.taken ≤ length seat.me.0.part.queue.places },
-    ghost bounded: { head_of seat.me.0.part.queue < POSITIONS },
-    ghost distinct: { Distinct seat.me.0.part.runs },
-    ghost raised: { AllRaised seat.me.0.part.runs },
+    ghost turned: { seat.me.0.own.runner ≡ turn },
+    ghost counts: { seat.me.0.own.runner ≡ true → seat.me.0.own.taken ≡ (queue_of seat.me.0).taken },
+    ghost settled: { seat.me.0.own.owes ≡ false },
+    ghost behind: { (queue_of seat.me.0).taken ≤ length (queue_of seat.me.0).places },
+    ghost bounded: { head_of (queue_of seat.me.0) < POSITIONS },
+    ghost distinct: { Distinct seat.me.0.own.runs },
+    ghost raised: { AllRaised seat.me.0.own.runs },
+    ghost told: { ∥ IsTold seat.me.0 ∥₁ },
 }
 
 impl<Q: Quaject> ChainEnd<Q> {
@@ -61,7 +68,7 @@ impl<Q: Quaject> ChainEnd<Q> {
 
 impl<Q: Quaject> ProcChain<Q> {
     ghost use Rattle.proc_chain.specs.Handles.{view_of, me_of, turn_of, world_of, opening_of, first_of};
-    ghost use Rattle.proc_chain.specs.Handles.{IsDivisible, IsEndOf, IsSameEnd};
+    ghost use Rattle.proc_chain.specs.Handles.{IsDivisible, IsEndOf, KeepsTurn, IsSameEnd};
 
     /// A chain whose first position is `first`, its gate Idle and the quaject in it, and its only end. Where an
     /// allocation is refused, the quaject comes back.
@@ -74,7 +81,7 @@ impl<Q: Quaject> ProcChain<Q> {
         requires made { Q.made_by quaject quaject [] }
         requires fits { Q.fits world.now quaject }
         ensures ok { IfOk result (λ r. IsEndOf r.0 r.1 × (first_of r.0 ≡ first) × (world_of r.0 ≡ world.now)
-            × (opening_of r.0 ≡ quaject) × (turn_of r.1 ≡ false) × (view_of r.1 ≡ view_from first first_member)) }
+            × (opening_of r.0 ≡ quaject) × (turn_of r.1 ≡ false) × (view_of r.1 ≡ view_from first)) }
         ensures err { IfErr result (λ e. e.0 ≡ quaject) }
     {
         let shape = Shape {
@@ -114,12 +121,12 @@ impl<Q: Quaject> ProcChain<Q> {
     pub fn split(&self, end: &mut ChainEnd<Q>) -> ChainEnd<Q>
         requires ends { IsEndOf self.now end.old }
         requires parts { IsDivisible end.old }
-        ensures queue { IsSameEnd end.old end.new }
-        ensures ends { IsEndOf self.now end.new × IsEndOf self.now result }
-        ensures split { Divided (view_of end.old) (view_of end.new) × ((me_of end.new).1 ≡ (me_of end.old).1) }
-        ensures born { IsNewborn (view_of end.old) (view_of end.new) (view_of result) }
         ensures notes { SameNotes (view_of end.old) (view_of end.new) }
-        ensures turns { (turn_of end.new ≡ turn_of end.old) × (turn_of result ≡ false) }
+        ensures turns { KeepsTurn end.old end.new × (turn_of result ≡ false) }
+        ensures born { IsNewborn (view_of end.old) (view_of end.new) (view_of result) }
+        ensures steps { Divided (view_of end.old) (view_of end.new) }
+        ensures ends { IsEndOf self.now end.new × IsEndOf self.now result }
+        ensures same { IsSameEnd end.old end.new × KeepsTaken (view_of end.old) (view_of end.new) }
     {
         count_up(&self.table.shared, &mut end.seat);
         let seat = split_off(&self.table.shared, &mut end.seat);
@@ -131,12 +138,14 @@ impl<Q: Quaject> ProcChain<Q> {
     /// Turn, or else under its own.
     pub fn join(&self, end: &mut ChainEnd<Q>, other: ChainEnd<Q>)
         requires ends { IsEndOf self.now end.old × IsEndOf self.now other }
-        ensures ends { IsEndOf self.now end.new }
-        ensures one_turn { turn_of other ≡ true → turn_of end.old ≡ false }
-        ensures joined { Joined (turn_of other) (me_of end.old) (me_of other) (me_of end.new) }
         ensures turn { turn_of end.new ≡ (turn_of other || turn_of end.old) }
-        ensures same { turn_of other ≡ false → IsSameEnd end.old end.new }
-        ensures swapped { turn_of other ≡ true → IsSameEnd other end.new }
+        ensures one_turn { turn_of other ≡ true → turn_of end.old ≡ false }
+        ensures steps { Joined (turn_of other) (me_of end.old) (me_of other) (me_of end.new) }
+        ensures ends { IsEndOf self.now end.new }
+        ensures same { turn_of other ≡ false
+            → IsSameEnd end.old end.new × KeepsTaken (view_of end.old) (view_of end.new) }
+        ensures swapped { turn_of other ≡ true
+            → IsSameEnd other end.new × KeepsTaken (view_of other) (view_of end.new) }
     {
         let mut other = other;
         if other.turn {
@@ -156,6 +165,7 @@ impl<Q: Quaject> ProcChain<Q> {
         ensures ends { IsEndOf self.now end.new }
         ensures joined { TookIn (view_of end.old) (view_of other) (view_of end.new)
             × ((me_of end.new).1 ≡ (me_of end.old).1) }
+        ensures taken { KeepsTaken (view_of end.old) (view_of end.new) }
     {
         let ChainEnd { mut seat, turn: _ } = other;
         let rest = hand_over(&self.table.shared, &mut seat);

@@ -1,9 +1,10 @@
 //! What each step tells. These types are for the proofs alone.
 ghost use Rattle.std.specs.Prelude.{ℕ, List};
-ghost use Rattle.proc_chain.specs.Steps.{finds, claims, raises, spies, takes, notifies, rounds, leaves, counts_up};
-ghost use Rattle.proc_chain.specs.Steps.{counts_down, counts, rest_of, newborn, both, emptied};
-ghost use Rattle.proc_chain.specs.declared.rule.View.{View};
-ghost use Rattle.proc_chain.specs.Rules.{nobody};
+ghost use Rattle.table_theory.specs.Ledgers.{rest_of, newborn, both, emptied};
+ghost use Rattle.proc_chain.specs.Own.{View, nothing_did, did_both};
+ghost use Rattle.proc_chain.specs.Rules.{view_from};
+ghost use Rattle.proc_chain.specs.Steps.{finds, claims, raises, spies, takes, notifies, rounds, leaves};
+ghost use Rattle.proc_chain.specs.Steps.{counts_up, counts_down, counts};
 
 use crate::quaject::Quaject;
 use crate::rule::View;
@@ -16,25 +17,12 @@ impl<Q> Play<Q, View> for Finds {
     ghost then = { finds };
 }
 
-/// The number of the end that steps.
-pub trait Caller {
-    ghost call: { ℕ };
-}
-
-impl Caller for Brand {
-    ghost call = { 0 };
-}
-
-/// The note of a claim, and the number of the end that claims.
+/// The note of a claim.
 pub trait ClaimedNote {
-    ghost call: { ℕ };
-
     ghost note: { ℕ };
 }
 
 impl ClaimedNote for Brand {
-    ghost call = { 0 };
-
     ghost note = { 0 };
 }
 
@@ -43,15 +31,13 @@ pub struct Claims<J> {
 }
 
 impl<Q, J: ClaimedNote> Play<Q, View> for Claims<J> {
-    ghost then = { claims J.call J.note };
+    ghost then = { claims J.note };
 }
 
-pub struct Raises<J> {
-    marker: PhantomData<J>,
-}
+pub struct Raises;
 
-impl<Q, J: Caller> Play<Q, View> for Raises<J> {
-    ghost then = { raises J.call };
+impl<Q> Play<Q, View> for Raises {
+    ghost then = { raises };
 }
 
 pub struct Spies;
@@ -60,29 +46,23 @@ impl<Q> Play<Q, View> for Spies {
     ghost then = { spies };
 }
 
-/// The number of an end that has the turn or may get it, what notes make its quaject, and what suits the chain.
-pub trait Runner<Q> {
-    ghost call: { ℕ };
+pub struct Takes;
 
+impl<Q> Play<Q, View> for Takes {
+    ghost then = { takes };
+}
+
+/// What notes make the quaject of an end that may get the turn, and what suits the chain.
+pub trait Runner<Q> {
     ghost made: { Q → List ℕ → Type 0 };
 
     ghost suits: { Q → Type 0 };
 }
 
 impl<Q> Runner<Q> for Brand {
-    ghost call = { 0 };
-
     ghost made = { λ _ _. Unit {0} };
 
     ghost suits = { λ _. Unit {0} };
-}
-
-pub struct Takes<J> {
-    marker: PhantomData<J>,
-}
-
-impl<Q: Quaject, J: Runner<Q>> Play<Q, View> for Takes<J> {
-    ghost then = { takes J.made J.suits J.call };
 }
 
 pub struct Notifies<J> {
@@ -90,23 +70,19 @@ pub struct Notifies<J> {
 }
 
 impl<Q: Quaject, J: Runner<Q>> Play<Q, View> for Notifies<J> {
-    ghost then = { notifies J.made J.suits J.call };
+    ghost then = { notifies J.made J.suits };
 }
 
-pub struct Rounds<J> {
-    marker: PhantomData<J>,
+pub struct Rounds;
+
+impl<Q> Play<Q, View> for Rounds {
+    ghost then = { rounds };
 }
 
-impl<Q: Quaject, J: Runner<Q>> Play<Q, View> for Rounds<J> {
-    ghost then = { rounds J.made J.suits J.call };
-}
+pub struct Leaves;
 
-pub struct Leaves<J> {
-    marker: PhantomData<J>,
-}
-
-impl<Q: Quaject, J: Runner<Q>> Play<Q, View> for Leaves<J> {
-    ghost then = { leaves J.made J.suits J.call };
+impl<Q> Play<Q, View> for Leaves {
+    ghost then = { leaves };
 }
 
 pub struct CountsUp;
@@ -132,13 +108,13 @@ pub struct Gives;
 impl Split<View> for Gives {
     ghost left = { rest_of };
 
-    ghost right = { newborn };
+    ghost right = { newborn nothing_did };
 }
 
 pub struct HandsOver;
 
 impl Split<View> for HandsOver {
-    ghost left = { emptied };
+    ghost left = { emptied nothing_did };
 
     ghost right = { λ v. v };
 }
@@ -149,7 +125,7 @@ pub trait Spent {
 }
 
 impl Spent for Brand {
-    ghost view = { nobody };
+    ghost view = { view_from 0 };
 }
 
 pub struct Joins<J> {
@@ -157,7 +133,7 @@ pub struct Joins<J> {
 }
 
 impl<J: Spent> Join<View> for Joins<J> {
-    ghost both = { both };
+    ghost both = { both did_both };
 
     ghost spent = { J.view };
 }

@@ -3,8 +3,8 @@ use crate::quaject::Quaject;
 use atomic_table::TableRule;
 use std::collections::LinkedList;
 use std::snapshot::Snapshot;
-use table_theory::queues::{Positions, QueueView};
-use table_theory::views::{Entry, Member};
+use table_theory::queues::{Batch, Positions};
+use table_theory::views::Ledger;
 
 /// What binds the quaject of a chain: the world that it fits, and the quaject that was given to `new`.
 #[derive(Drop)]
@@ -21,27 +21,29 @@ pub struct Shape<P> {
 }
 
 /// The queue of notes and the gate word at one moment. Proofs alone speak of it.
-pub struct Moment {
+pub struct GatedQueue {
     pub queue: Positions,
     pub gate: u64,
 }
 
-/// What an end knows: its runs and takings in the queue of notes as it was at the end's last step, which of the ends it
-/// is, its turn, every step that it made, and every step that any end had made up to its own last one.
-pub struct View {
-    pub part: QueueView,
-    pub member: Member,
+/// What an end did: its runs and its takings in the queue of notes, and its turn. Proofs alone speak of it.
+pub struct Did {
+    pub runs: LinkedList<Batch>,
+    pub takes: LinkedList<Batch>,
     /// It has the turn to run notes.
     pub runner: bool,
+    /// As the runner: how many notes were taken up to now.
+    pub taken: u64,
     /// It raised a note and has not yet notified.
     pub owes: bool,
     /// As the runner it saw, since its last round, that the first note left was not raised.
     pub saw: bool,
     /// It took in an end that had the turn while it had it itself: the rule says that no end ever did.
     pub doubled: bool,
-    pub steps: LinkedList<Entry<Moment>>,
-    pub course: LinkedList<Entry<Moment>>,
 }
+
+/// What an end knows: what it did, its steps, and all ends' steps up to its own last one.
+pub type View = Ledger<Did, GatedQueue>;
 
 pub struct ChainRule;
 

@@ -3,12 +3,12 @@ ghost use Rattle.std.specs.Prelude.{◌≡◌, ◌+◌, ◌<◌, ◌≤◌, ℕ,
 ghost use Rattle.table_theory.specs.Seating.{IsSame};
 ghost use Rattle.proc_chain.specs.declared.layout.TheConstants.{PLACES};
 ghost use Rattle.proc_chain.specs.Layout.{width};
-ghost use Rattle.proc_chain.specs.Rules.{suits, makes};
+ghost use Rattle.proc_chain.specs.Own.{queue_of};
+ghost use Rattle.proc_chain.specs.Rules.{suits, makes, IsTold};
 ghost use Rattle.proc_chain.specs.Shown.{notes_of};
-ghost use Rattle.proc_chain.specs.Steps.{Carries};
-ghost use Rattle.proc_chain.specs.Turns.{HasServed};
-ghost use Rattle.proc_chain.specs.Servings.{RanNote, FoundMore, LeftNone, FoundNone, IsServing, IsServed, AllServed};
-ghost use Rattle.proc_chain.specs.Servings.{is_more};
+ghost use Rattle.proc_chain.specs.Rounds.{RanNote, FoundNone, LeftNow, RoundNow, IsDone, IsUsedUp};
+ghost use Rattle.proc_chain.specs.Turns.{Carries, HasOrGave, MadeSince};
+ghost use Rattle.proc_chain.specs.Servings.{ServedNow, AllServed, is_more};
 
 use crate::chaining::Turn;
 use crate::ends::{ChainEnd, ProcChain};
@@ -17,7 +17,6 @@ use crate::quaject::Quaject;
 use crate::rule::{ChainRule, Pact, Shape, View};
 use crate::steps::{exchange_gate, load_place, load_tail, store_tail, swap_running};
 use atomic_table::{Seat, Shared};
-use std::marker::Brand;
 use std::sync::Wait;
 
 /// The greatest limit of one `serve`.
@@ -59,29 +58,25 @@ fn run_next<Q: Quaject>(
     world: &Q::World,
 ) -> bool
     requires queue { (seat.old.table_id ≡ words.now.table_id) × (words.now.table_id.words ≡ width) }
-    requires live { (1 ≤ seat.old.me.0.member.ends) × (seat.old.me.0.runner ≡ true) }
-    requires positions { (seat.old.me.0.part.queue.room ≡ PLACES)
-        × (seat.old.me.0.part.queue.taken ≤ length seat.old.me.0.part.queue.places) }
+    requires live { (1 ≤ seat.old.me.0.member.ends) × (seat.old.me.0.own.runner ≡ true) }
+    requires positions { ((queue_of seat.old.me.0).room ≡ PLACES)
+        × ((queue_of seat.old.me.0).taken ≤ length (queue_of seat.old.me.0).places) }
     requires world { words.now.key.pact.world.value ≡ world.now }
     requires carries { Carries (makes Q.made_by words.now.key.pact) (suits Q.fits words.now.key.pact)
-        (notes_of seat.old.me.0.part.queue) [] seat.old.me.1 }
+        (notes_of (queue_of seat.old.me.0)) [] seat.old.me.1 }
     ensures queue { IsSame seat.old seat.new }
-    ensures turn { seat.new.me.0.runner ≡ true }
     ensures carries { Carries (makes Q.made_by words.now.key.pact) (suits Q.fits words.now.key.pact)
-        (notes_of seat.new.me.0.part.queue) [] seat.new.me.1 }
-    ensures ran { MatchBool result
-        ((note : ℕ) × RanNote (makes Q.made_by words.now.key.pact) (suits Q.fits words.now.key.pact) seat.old.id
-        seat.old.me note seat.new.me
-        × HasServed seat.old.me.0 (note ∷ []) seat.new.me.0)
-        (FoundNone seat.old.me.0 seat.new.me.0 × (seat.new.me.1 ≡ seat.old.me.1)
-        × HasServed seat.old.me.0 [] seat.new.me.0) }
+        (notes_of (queue_of seat.new.me.0)) [] seat.new.me.1 }
+    ensures told { IsTold seat.new.me.0 }
+    ensures ran { MatchBool result (RanNote seat.old.me.0 seat.new.me.0)
+        (FoundNone seat.old.me.0 seat.new.me.0 × (seat.new.me.1 ≡ seat.old.me.1)) }
 {
     let tail = load_tail(words, seat);
     let word = load_place(words, seat, tail);
     if word.mark != tail + 1 {
         return false;
     }
-    store_tail::<Q, Brand>(words, seat, tail);
+    store_tail(words, seat, tail);
     run_held(words, seat, world, word.note);
     true
 }
@@ -92,26 +87,23 @@ fn leave_or_round<Q: Quaject>(
     seat: &mut Seat<Q, View>,
 ) -> bool
     requires queue { (seat.old.table_id ≡ words.now.table_id) × (words.now.table_id.words ≡ width) }
-    requires live { (1 ≤ seat.old.me.0.member.ends) × (seat.old.me.0.runner ≡ true) × (seat.old.me.0.saw ≡ true) }
-    requires behind { seat.old.me.0.part.queue.taken ≤ length seat.old.me.0.part.queue.places }
+    requires live { (1 ≤ seat.old.me.0.member.ends) × (seat.old.me.0.own.runner ≡ true)
+        × (seat.old.me.0.own.saw ≡ true) }
+    requires behind { (queue_of seat.old.me.0).taken ≤ length (queue_of seat.old.me.0).places }
     requires carries { Carries (makes Q.made_by words.now.key.pact) (suits Q.fits words.now.key.pact)
-        (notes_of seat.old.me.0.part.queue) [] seat.old.me.1 }
+        (notes_of (queue_of seat.old.me.0)) [] seat.old.me.1 }
     ensures queue { IsSame seat.old seat.new }
-    ensures carries { MatchBool result ((seat.new.me.0.runner ≡ false) × (seat.new.me.1 ≡ []))
-        ((seat.new.me.0.runner ≡ true)
-        × Carries (makes Q.made_by words.now.key.pact) (suits Q.fits words.now.key.pact)
-        (notes_of seat.new.me.0.part.queue) [] seat.new.me.1) }
-    ensures left { (v : View) → FoundNone v seat.old.me.0 → MatchBool result
-        (LeftNone (makes Q.made_by words.now.key.pact) (suits Q.fits words.now.key.pact) seat.old.id
-        (v, seat.old.me.1) seat.new.me)
-        (FoundMore (makes Q.made_by words.now.key.pact) (suits Q.fits words.now.key.pact) seat.old.id
-        (v, seat.old.me.1) seat.new.me) }
-    ensures served { HasServed seat.old.me.0 [] seat.new.me.0 }
+    ensures carries { MatchBool result (HasOrGave (makes Q.made_by words.now.key.pact)
+        (suits Q.fits words.now.key.pact) false seat.new.me)
+        (Carries (makes Q.made_by words.now.key.pact) (suits Q.fits words.now.key.pact)
+        (notes_of (queue_of seat.new.me.0)) [] seat.new.me.1) }
+    ensures told { IsTold seat.new.me.0 }
+    ensures left { MatchBool result (LeftNow seat.old.me.0 seat.new.me.0) (RoundNow seat.old.me.0 seat.new.me.0) }
 {
-    if exchange_gate::<Q, Brand>(words, seat) == RUNNING {
+    if exchange_gate(words, seat) == RUNNING {
         return true;
     }
-    swap_running::<Q, Brand>(words, seat);
+    swap_running(words, seat);
     false
 }
 
@@ -124,23 +116,26 @@ fn serve_seat<Q: Quaject>(
     limit: u32,
 ) -> (bool, u32)
     requires queue { (seat.old.table_id ≡ words.now.table_id) × (words.now.table_id.words ≡ width) }
-    requires live { (1 ≤ seat.old.me.0.member.ends) × (seat.old.me.0.runner ≡ true) }
-    requires positions { (seat.old.me.0.part.queue.room ≡ PLACES)
-        × (seat.old.me.0.part.queue.taken ≤ length seat.old.me.0.part.queue.places) }
+    requires live { (1 ≤ seat.old.me.0.member.ends) × (seat.old.me.0.own.runner ≡ true) }
+    requires positions { ((queue_of seat.old.me.0).room ≡ PLACES)
+        × ((queue_of seat.old.me.0).taken ≤ length (queue_of seat.old.me.0).places) }
     requires world { words.now.key.pact.world.value ≡ world.now }
     requires carries { Carries (makes Q.made_by words.now.key.pact) (suits Q.fits words.now.key.pact)
-        (notes_of seat.old.me.0.part.queue) [] seat.old.me.1 }
+        (notes_of (queue_of seat.old.me.0)) [] seat.old.me.1 }
     requires some_limit { 0 < limit }
     ensures queue { IsSame seat.old seat.new }
-    ensures carries { MatchBool result.0 ((seat.new.me.0.runner ≡ false) × (seat.new.me.1 ≡ []))
-        ((seat.new.me.0.runner ≡ true)
-        × Carries (makes Q.made_by words.now.key.pact) (suits Q.fits words.now.key.pact)
-        (notes_of seat.new.me.0.part.queue) [] seat.new.me.1) }
-    ensures served { IsServing (makes Q.made_by words.now.key.pact) (suits Q.fits words.now.key.pact) seat.old.id
-        seat.old.me limit result.1 result.0 seat.new.me }
+    ensures carries { MatchBool result.0 (HasOrGave (makes Q.made_by words.now.key.pact)
+        (suits Q.fits words.now.key.pact) false seat.new.me)
+        (Carries (makes Q.made_by words.now.key.pact) (suits Q.fits words.now.key.pact)
+        (notes_of (queue_of seat.new.me.0)) [] seat.new.me.1) }
+    ensures told { IsTold seat.new.me.0 }
+    ensures made { MadeSince (makes Q.made_by words.now.key.pact) (suits Q.fits words.now.key.pact)
+        seat.old.me.0 seat.new.me.0 }
+    ensures served { MatchBool result.0 (IsDone seat.old.me.0 limit result.1 seat.new.me.0)
+        (IsUsedUp seat.old.me.0 limit result.1 seat.new.me.0) }
 {
     let mut ran = 0u32;
-    swap_running::<Q, Brand>(words, seat);
+    swap_running(words, seat);
     for used in 0..limit {
         if run_next(words, seat, world) {
             ran += 1;
@@ -152,7 +147,7 @@ fn serve_seat<Q: Quaject>(
 }
 
 impl<Q: Quaject> ProcChain<Q> {
-    ghost use Rattle.proc_chain.specs.Handles.{me_of, call_of, turn_of, world_of, pact_of, IsEndOf, IsSameEnd};
+    ghost use Rattle.proc_chain.specs.Handles.{view_of, me_of, turn_of, world_of, pact_of, IsEndOf, IsSameEnd};
 
     /// Serves the end's Turn: it begins a round, by a swap of the gate to Running, and runs the notes in order. Each is
     /// taken, by a store of the tail, before it is run. At a place that isn't raised it leaves, by an exchange of a
@@ -165,11 +160,14 @@ impl<Q: Quaject> ProcChain<Q> {
         requires ends { IsEndOf self.now end.old }
         requires turn { turn_of end.old ≡ true }
         requires world { world_of self.now ≡ world.now }
-        ensures queue { IsSameEnd end.old end.new }
-        ensures ends { IsEndOf self.now end.new }
-        ensures served { IsServed (makes Q.made_by (pact_of self.now)) (suits Q.fits (pact_of self.now))
-            (call_of end.old) (me_of end.old) limit result (me_of end.new) }
         ensures turn { turn_of end.new ≡ is_more result }
+        ensures slot { HasOrGave (makes Q.made_by (pact_of self.now)) (suits Q.fits (pact_of self.now))
+            (is_more result) (me_of end.new) }
+        ensures made { MadeSince (makes Q.made_by (pact_of self.now)) (suits Q.fits (pact_of self.now))
+            (view_of end.old) (view_of end.new) }
+        ensures steps { ServedNow (me_of end.old) limit result (me_of end.new) }
+        ensures ends { IsEndOf self.now end.new }
+        ensures same { IsSameEnd end.old end.new }
     {
         if limit == 0 {
             return Served::More { turn, ran: 0 };
@@ -197,11 +195,14 @@ impl<Q: Quaject> ProcChain<Q> {
         requires ends { IsEndOf self.now end.old }
         requires turn { turn_of end.old ≡ true }
         requires world { world_of self.now ≡ world.now }
-        ensures queue { IsSameEnd end.old end.new }
-        ensures ends { IsEndOf self.now end.new }
-        ensures served { AllServed (makes Q.made_by (pact_of self.now)) (suits Q.fits (pact_of self.now))
-            (call_of end.old) (me_of end.old) result (me_of end.new) }
         ensures turn { turn_of end.new ≡ false }
+        ensures slot { HasOrGave (makes Q.made_by (pact_of self.now)) (suits Q.fits (pact_of self.now))
+            false (me_of end.new) }
+        ensures made { MadeSince (makes Q.made_by (pact_of self.now)) (suits Q.fits (pact_of self.now))
+            (view_of end.old) (view_of end.new) }
+        ensures steps { AllServed (view_of end.old) result (view_of end.new) }
+        ensures ends { IsEndOf self.now end.new }
+        ensures same { IsSameEnd end.old end.new }
     {
         let mut turn = turn;
         let mut total = 0u64;

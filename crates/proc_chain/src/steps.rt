@@ -5,21 +5,25 @@ ghost use mathlib.Core.Option.{some};
 ghost use lib.ListN.{get_elem?};
 ghost use Rattle.table_theory.specs.declared.positions.TheConstants.{POSITIONS};
 ghost use Rattle.table_theory.specs.declared.queues.Batch.{Batch};
-ghost use Rattle.table_theory.specs.Listing.{number_of};
+ghost use Rattle.table_theory.specs.Ledgers.{CountedUp, CountedDown, Tallied};
+ghost use Rattle.table_theory.specs.Ledgers.{rest_of, newborn, both, emptied};
+ghost use Rattle.table_theory.specs.Listing.{number_of, Distinct};
 ghost use Rattle.table_theory.specs.Positioned.{blank, head_of, tail_of, written_at};
 ghost use Rattle.table_theory.specs.Seating.{IsSame};
-ghost use Rattle.proc_chain.specs.Rules.{suits, makes};
-ghost use Rattle.proc_chain.specs.Layout.{head_word, tail_word, gate_word, place_word, raised_word, mark_of, width};
-ghost use Rattle.proc_chain.specs.declared.layout.TheConstants.{IDLE, RUNNING, MORE, NOTES};
+ghost use Rattle.proc_chain.specs.Rules.{suits, makes, IsTold};
+ghost use Rattle.proc_chain.specs.Layout.{head_word, tail_word, ends_word, gate_word, place_word, raised_word};
+ghost use Rattle.proc_chain.specs.Layout.{mark_of, width};
+ghost use Rattle.proc_chain.specs.declared.layout.TheConstants.{PLACES, IDLE, RUNNING, MORE, NOTES};
+ghost use Rattle.proc_chain.specs.Own.{nothing_did, did_both, queue_of};
 ghost use Rattle.proc_chain.specs.Shown.{notes_of};
 ghost use Rattle.proc_chain.specs.Steps.{Found, FoundNotRaised, Claimed, Raised, Took, Notified, GotTurn, BegunRound};
-ghost use Rattle.proc_chain.specs.Steps.{HasLeft, Carries, CountedUp, CountedDown, Tallied, rest_of, newborn, both};
-ghost use Rattle.proc_chain.specs.Steps.{emptied};
+ghost use Rattle.proc_chain.specs.Steps.{HasLeft, Meets};
+ghost use Rattle.proc_chain.specs.Turns.{Carries};
 
 use crate::layout::{ENDS, GATE, HEAD, IDLE, MORE, RUNNING, TAIL, place_word};
 use crate::plays::{
-    Caller, ClaimedNote, Claims, Counts, CountsDown, CountsUp, Finds, Gives, HandsOver, Joins,
-    Leaves, Notifies, Raises, Rounds, Runner, Spent, Spies, Takes,
+    ClaimedNote, Claims, Counts, CountsDown, CountsUp, Finds, Gives, HandsOver, Joins, Leaves,
+    Notifies, Raises, Rounds, Runner, Spent, Spies, Takes,
 };
 use crate::quaject::Quaject;
 use crate::rule::{ChainRule, Pact, Shape, View};
@@ -33,8 +37,9 @@ pub(crate) fn load<Q: Quaject>(
 ) -> u64
     requires queue { (seat.old.table_id ≡ words.now.table_id) × (word < words.now.table_id.words) }
     requires live { 1 ≤ seat.old.me.0.member.ends }
-    ensures { IsSame seat.old seat.new × (seat.new.me.1 ≡ seat.old.me.1)
-        × Found seat.old.me.0 word result seat.new.me.0 }
+    ensures queue { IsSame seat.old seat.new × (seat.new.me.1 ≡ seat.old.me.1) }
+    ensures told { IsTold seat.new.me.0 }
+    ensures found { Found seat.old.me.0 word result seat.new.me.0 }
 {
     words.load::<Finds>(seat, word)
 }
@@ -46,8 +51,9 @@ pub(crate) fn load_head<Q: Quaject>(
     requires queue { (seat.old.table_id ≡ words.now.table_id) × (words.now.table_id.words ≡ width) }
     requires live { 1 ≤ seat.old.me.0.member.ends }
     ensures queue { IsSame seat.old seat.new × (seat.new.me.1 ≡ seat.old.me.1) }
+    ensures told { IsTold seat.new.me.0 }
     ensures found { Found seat.old.me.0 head_word result seat.new.me.0 }
-    ensures head { result ≡ head_of seat.new.me.0.part.queue }
+    ensures head { result ≡ head_of (queue_of seat.new.me.0) }
     ensures bounded { result < POSITIONS }
 {
     load(words, seat, HEAD)
@@ -60,8 +66,9 @@ pub(crate) fn load_tail<Q: Quaject>(
     requires queue { (seat.old.table_id ≡ words.now.table_id) × (words.now.table_id.words ≡ width) }
     requires live { 1 ≤ seat.old.me.0.member.ends }
     ensures queue { IsSame seat.old seat.new × (seat.new.me.1 ≡ seat.old.me.1) }
+    ensures told { IsTold seat.new.me.0 }
     ensures found { Found seat.old.me.0 tail_word result seat.new.me.0 }
-    ensures tail { result ≡ tail_of seat.new.me.0.part.queue }
+    ensures tail { result ≡ tail_of (queue_of seat.new.me.0) }
     ensures bounded { result < POSITIONS }
 {
     load(words, seat, TAIL)
@@ -76,38 +83,40 @@ pub(crate) fn exchange_head<Q: Quaject, J: ClaimedNote>(
 ) -> u64
     requires queue { (seat.old.table_id ≡ words.now.table_id) × (words.now.table_id.words ≡ width) }
     requires live { 1 ≤ seat.old.me.0.member.ends }
-    requires call { J.call ≡ seat.old.id }
     requires note { J.note ≡ note }
-    requires room { head + 1 ≤ tail_of seat.old.me.0.part.queue + seat.old.me.0.part.queue.room }
+    requires room { head + 1 ≤ tail_of (queue_of seat.old.me.0) + (queue_of seat.old.me.0).room }
     requires bounded { head + 1 < POSITIONS }
     ensures queue { IsSame seat.old seat.new × (seat.new.me.1 ≡ seat.old.me.1) }
-    ensures hit { result ≡ head → Claimed J.call seat.old.me.0 head J.note seat.new.me.0 }
+    ensures told { IsTold seat.new.me.0 }
+    ensures hit { result ≡ head → Claimed seat.old.me.0 head J.note seat.new.me.0 }
     ensures miss { result ≢ head → Found seat.old.me.0 head_word result seat.new.me.0
-        × (result ≡ head_of seat.new.me.0.part.queue) }
+        × (result ≡ head_of (queue_of seat.new.me.0)) }
 {
     let _ = note;
     words.compare_exchange::<Claims<J>>(seat, HEAD, head, head + 1)
 }
 
 /// The raise of the end's run that begins at `start`.
-pub(crate) fn store_place<Q: Quaject, J: Caller>(
+pub(crate) fn store_place<Q: Quaject>(
     words: &Shared<Q, View, Shape<Pact<Q::World, Q>>, ChainRule>,
     seat: &mut Seat<Q, View>,
     start: u64,
     note: u16,
 )
     requires queue { (seat.old.table_id ≡ words.now.table_id) × (words.now.table_id.words ≡ width) }
-    requires call { J.call ≡ seat.old.id }
+    requires live { 1 ≤ seat.old.me.0.member.ends }
     requires bounded { start < POSITIONS }
     requires mine { (e : Batch)
-        × (get_elem? seat.old.me.0.part.runs (number_of start seat.old.me.0.part.runs) ≡ some e)
+        × (get_elem? seat.old.me.0.own.runs (number_of start seat.old.me.0.own.runs) ≡ some e)
         × (e.start ≡ start) × (0 < length e.places) × ((slice_index_or e.places 0 blank).written < 2)
         × ((slice_index_or e.places 0 blank).item ≡ note) }
     ensures queue { IsSame seat.old seat.new × (seat.new.me.1 ≡ seat.old.me.1) }
-    ensures raised { Raised J.call seat.old.me.0 start (place_word start) (raised_word start note) seat.new.me.0 }
+    ensures told { IsTold seat.new.me.0 }
+    ensures raised { (e : Batch) → get_elem? seat.old.me.0.own.runs (number_of start seat.old.me.0.own.runs) ≡ some e
+        → Raised seat.old.me.0 start note e seat.new.me.0 }
 {
     let word = PlaceWord::raised(start, note).bits();
-    words.store::<Raises<J>>(seat, place_word(start as usize), word);
+    words.store::<Raises>(seat, place_word(start as usize), word);
 }
 
 /// The notify.
@@ -116,14 +125,14 @@ pub(crate) fn swap_more<Q: Quaject, J: Runner<Q>>(
     seat: &mut Seat<Q, View>,
 ) -> u64
     requires queue { (seat.old.table_id ≡ words.now.table_id) × (words.now.table_id.words ≡ width) }
-    requires live { (1 ≤ seat.old.me.0.member.ends) × (seat.old.me.0.owes ≡ true) }
-    requires call { J.call ≡ seat.old.id }
+    requires live { (1 ≤ seat.old.me.0.member.ends) × (seat.old.me.0.own.owes ≡ true) }
     requires suits { (x : Q) → suits Q.fits words.now.key.pact x → J.suits x }
     requires makes { (x : Q) (notes : List ℕ) → makes Q.made_by words.now.key.pact x notes → J.made x notes }
     ensures queue { IsSame seat.old seat.new }
-    ensures won { result ≡ IDLE → GotTurn J.made J.suits J.call seat.old.me seat.new.me }
-    ensures told { result ≢ IDLE → (seat.new.me.1 ≡ seat.old.me.1)
-        × Notified J.call seat.old.me.0 result seat.new.me.0 }
+    ensures told { IsTold seat.new.me.0 }
+    ensures won { result ≡ IDLE → GotTurn J.made J.suits seat.old.me seat.new.me }
+    ensures lost { result ≢ IDLE → (seat.new.me.1 ≡ seat.old.me.1)
+        × Notified seat.old.me.0 result seat.new.me.0 }
 {
     words.swap::<Notifies<J>>(seat, GATE, MORE)
 }
@@ -135,9 +144,10 @@ pub(crate) fn load_place<Q: Quaject>(
     tail: u64,
 ) -> PlaceWord
     requires queue { (seat.old.table_id ≡ words.now.table_id) × (words.now.table_id.words ≡ width) }
-    requires live { (1 ≤ seat.old.me.0.member.ends) × (seat.old.me.0.runner ≡ true) }
-    requires tail { (tail ≡ tail_of seat.old.me.0.part.queue) × (tail < POSITIONS) }
+    requires live { (1 ≤ seat.old.me.0.member.ends) × (seat.old.me.0.own.runner ≡ true) }
+    requires tail { (tail ≡ tail_of (queue_of seat.old.me.0)) × (tail < POSITIONS) }
     ensures queue { IsSame seat.old seat.new × (seat.new.me.1 ≡ seat.old.me.1) }
+    ensures told { IsTold seat.new.me.0 }
     ensures note { result.note < NOTES }
     ensures up { result.mark ≡ tail + 1
         → Found seat.old.me.0 (place_word tail) (raised_word tail result.note) seat.new.me.0 }
@@ -148,65 +158,58 @@ pub(crate) fn load_place<Q: Quaject>(
 }
 
 /// The taking of one note: a single runner takes, so it stores. The quaject in its hand is not yet made by this note.
-pub(crate) fn store_tail<Q: Quaject, J: Runner<Q>>(
+pub(crate) fn store_tail<Q: Quaject>(
     words: &Shared<Q, View, Shape<Pact<Q::World, Q>>, ChainRule>,
     seat: &mut Seat<Q, View>,
     tail: u64,
 )
     requires queue { (seat.old.table_id ≡ words.now.table_id) × (words.now.table_id.words ≡ width) }
-    requires live { (1 ≤ seat.old.me.0.member.ends) × (seat.old.me.0.runner ≡ true) }
-    requires call { J.call ≡ seat.old.id }
-    requires suits { (x : Q) → suits Q.fits words.now.key.pact x → J.suits x }
-    requires makes { (x : Q) (notes : List ℕ) → makes Q.made_by words.now.key.pact x notes → J.made x notes }
-    requires tail { (tail ≡ tail_of seat.old.me.0.part.queue) × (tail < POSITIONS) }
-    requires raised { 2 ≤ written_at seat.old.me.0.part.queue seat.old.me.0.part.queue.taken }
-    requires behind { seat.old.me.0.part.queue.taken ≤ length seat.old.me.0.part.queue.places }
+    requires live { (1 ≤ seat.old.me.0.member.ends) × (seat.old.me.0.own.runner ≡ true) }
+    requires tail { (tail ≡ tail_of (queue_of seat.old.me.0)) × (tail < POSITIONS) }
+    requires raised { 2 ≤ written_at (queue_of seat.old.me.0) (queue_of seat.old.me.0).taken }
     requires carries { Carries (makes Q.made_by words.now.key.pact) (suits Q.fits words.now.key.pact)
-        (notes_of seat.old.me.0.part.queue) [] seat.old.me.1 }
+        (notes_of (queue_of seat.old.me.0)) [] seat.old.me.1 }
     ensures queue { IsSame seat.old seat.new × (seat.new.me.1 ≡ seat.old.me.1) }
-    ensures took { Took J.made J.suits J.call seat.old.me (tail + 1) seat.new.me.0 }
+    ensures told { IsTold seat.new.me.0 }
+    ensures took { Took seat.old.me.0 tail seat.new.me.0 }
 {
-    words.store::<Takes<J>>(seat, TAIL, tail + 1);
+    words.store::<Takes>(seat, TAIL, tail + 1);
 }
 
 /// The begin of a round.
-pub(crate) fn swap_running<Q: Quaject, J: Runner<Q>>(
+pub(crate) fn swap_running<Q: Quaject>(
     words: &Shared<Q, View, Shape<Pact<Q::World, Q>>, ChainRule>,
     seat: &mut Seat<Q, View>,
 ) -> u64
     requires queue { (seat.old.table_id ≡ words.now.table_id) × (words.now.table_id.words ≡ width) }
-    requires live { (1 ≤ seat.old.me.0.member.ends) × (seat.old.me.0.runner ≡ true) }
-    requires call { J.call ≡ seat.old.id }
-    requires suits { (x : Q) → suits Q.fits words.now.key.pact x → J.suits x }
-    requires makes { (x : Q) (notes : List ℕ) → makes Q.made_by words.now.key.pact x notes → J.made x notes }
-    requires behind { seat.old.me.0.part.queue.taken ≤ length seat.old.me.0.part.queue.places }
+    requires live { (1 ≤ seat.old.me.0.member.ends) × (seat.old.me.0.own.runner ≡ true) }
     requires carries { Carries (makes Q.made_by words.now.key.pact) (suits Q.fits words.now.key.pact)
-        (notes_of seat.old.me.0.part.queue) [] seat.old.me.1 }
+        (notes_of (queue_of seat.old.me.0)) [] seat.old.me.1 }
     ensures queue { IsSame seat.old seat.new × (seat.new.me.1 ≡ seat.old.me.1) }
-    ensures rounded { BegunRound J.made J.suits J.call seat.old.me result seat.new.me.0 }
+    ensures told { IsTold seat.new.me.0 }
+    ensures rounded { BegunRound seat.old.me.0 result seat.new.me.0 }
 {
-    words.swap::<Rounds<J>>(seat, GATE, RUNNING)
+    words.swap::<Rounds>(seat, GATE, RUNNING)
 }
 
 /// The leave. The quaject goes back into the table where the gate was Running.
-pub(crate) fn exchange_gate<Q: Quaject, J: Runner<Q>>(
+pub(crate) fn exchange_gate<Q: Quaject>(
     words: &Shared<Q, View, Shape<Pact<Q::World, Q>>, ChainRule>,
     seat: &mut Seat<Q, View>,
 ) -> u64
     requires queue { (seat.old.table_id ≡ words.now.table_id) × (words.now.table_id.words ≡ width) }
-    requires live { (1 ≤ seat.old.me.0.member.ends) × (seat.old.me.0.runner ≡ true) × (seat.old.me.0.saw ≡ true) }
-    requires call { J.call ≡ seat.old.id }
-    requires suits { (x : Q) → suits Q.fits words.now.key.pact x → J.suits x }
-    requires makes { (x : Q) (notes : List ℕ) → makes Q.made_by words.now.key.pact x notes → J.made x notes }
-    requires behind { seat.old.me.0.part.queue.taken ≤ length seat.old.me.0.part.queue.places }
+    requires live { (1 ≤ seat.old.me.0.member.ends) × (seat.old.me.0.own.runner ≡ true)
+        × (seat.old.me.0.own.saw ≡ true) }
+    requires behind { (queue_of seat.old.me.0).taken ≤ length (queue_of seat.old.me.0).places }
     requires carries { Carries (makes Q.made_by words.now.key.pact) (suits Q.fits words.now.key.pact)
-        (notes_of seat.old.me.0.part.queue) [] seat.old.me.1 }
+        (notes_of (queue_of seat.old.me.0)) [] seat.old.me.1 }
     ensures queue { IsSame seat.old seat.new }
-    ensures hit { result ≡ RUNNING → (seat.new.me.1 ≡ []) × HasLeft J.made J.suits J.call seat.old.me seat.new.me.0 }
+    ensures told { IsTold seat.new.me.0 }
+    ensures hit { result ≡ RUNNING → (seat.new.me.1 ≡ []) × HasLeft seat.old.me.0 seat.new.me.0 }
     ensures miss { result ≢ RUNNING → (result ≡ MORE) × (seat.new.me.1 ≡ seat.old.me.1)
         × Found seat.old.me.0 gate_word result seat.new.me.0 }
 {
-    words.compare_exchange::<Leaves<J>>(seat, GATE, RUNNING, IDLE)
+    words.compare_exchange::<Leaves>(seat, GATE, RUNNING, IDLE)
 }
 
 pub(crate) fn count_up<Q: Quaject>(
@@ -216,7 +219,9 @@ pub(crate) fn count_up<Q: Quaject>(
     requires queue { (seat.old.table_id ≡ words.now.table_id) × (words.now.table_id.words ≡ width) }
     requires parts { seat.old.me.0.member.ends + 1 ≤ seat.old.me.0.member.share }
     ensures queue { IsSame seat.old seat.new × (seat.new.me.1 ≡ seat.old.me.1) }
-    ensures counted { CountedUp seat.old.me.0 result seat.new.me.0 }
+    ensures told { IsTold seat.new.me.0 }
+    ensures counted { CountedUp ends_word seat.old.me.0 seat.new.me.0
+        × Meets seat.old.me.0 seat.new.me.0.seen.object }
 {
     words.fetch_add::<CountsUp>(seat, ENDS, 1)
 }
@@ -228,7 +233,10 @@ pub(crate) fn count_down<Q: Quaject>(
     requires queue { (seat.old.table_id ≡ words.now.table_id) × (words.now.table_id.words ≡ width) }
     requires live { 2 ≤ seat.old.me.0.member.ends }
     ensures queue { IsSame seat.old seat.new × (seat.new.me.1 ≡ seat.old.me.1) }
-    ensures counted { CountedDown seat.old.me.0 result seat.new.me.0 }
+    ensures told { IsTold seat.new.me.0 }
+    ensures counted { CountedDown ends_word seat.old.me.0 seat.new.me.0
+        × Meets seat.old.me.0 seat.new.me.0.seen.object × Distinct seat.new.me.0.own.runs
+        × (seat.old.me.0.own.doubled ≡ false) }
 {
     words.fetch_sub::<CountsDown>(seat, ENDS, 1)
 }
@@ -240,7 +248,9 @@ pub(crate) fn count<Q: Quaject>(
     requires queue { (seat.old.table_id ≡ words.now.table_id) × (words.now.table_id.words ≡ width) }
     requires live { seat.old.me.0.member.ends ≡ 1 }
     ensures queue { IsSame seat.old seat.new × (seat.new.me.1 ≡ seat.old.me.1) }
-    ensures tallied { Tallied seat.old.me.0 result seat.new.me.0 }
+    ensures told { IsTold seat.new.me.0 }
+    ensures tallied { Tallied ends_word seat.old.me.0 result seat.new.me.0
+        × Meets seat.old.me.0 seat.new.me.0.seen.object }
 {
     words.load::<Counts>(seat, ENDS)
 }
@@ -253,7 +263,7 @@ pub(crate) fn split_off<Q: Quaject>(
     requires live { seat.old.me.0.member.ends ≡ 2 }
     ensures queue { IsSame seat.old seat.new × (result.table_id ≡ seat.old.table_id) }
     ensures split { (seat.new.me ≡ (rest_of seat.old.me.0, seat.old.me.1))
-        × (result.me ≡ (newborn seat.old.me.0, [])) }
+        × (result.me ≡ (newborn nothing_did seat.old.me.0, [])) }
 {
     words.split_seat::<Gives>(seat)
 }
@@ -278,11 +288,11 @@ pub(crate) fn take_in<Q: Quaject, J: Spent>(
     requires queue { (seat.old.table_id ≡ words.now.table_id) × (other.table_id ≡ words.now.table_id)
         × (other.me.1 ≡ []) × (words.now.table_id.words ≡ width) }
     requires live { 1 ≤ seat.old.me.0.member.ends }
-    requires turns { other.me.0.runner ≡ true → seat.old.me.0.runner ≡ true }
-    requires settled { other.me.0.owes ≡ false }
-    requires spent { J.view ≡ emptied seat.old.me.0 }
+    requires turns { other.me.0.own.runner ≡ true → seat.old.me.0.own.runner ≡ true }
+    requires settled { other.me.0.own.owes ≡ false }
+    requires spent { J.view ≡ emptied nothing_did seat.old.me.0 }
     ensures queue { IsSame seat.old seat.new }
-    ensures joined { seat.new.me ≡ (both seat.old.me.0 other.me.0, seat.old.me.1) }
+    ensures joined { seat.new.me ≡ (both did_both seat.old.me.0 other.me.0, seat.old.me.1) }
 {
     words.join_seat::<Joins<J>>(seat, other);
 }

@@ -1,7 +1,7 @@
 -- What a hand keeps over several steps, and what its events come to.
 use Rattle.std.proofs.Common.{◌≡◌, inr, ℕ, zero, suc, true, List, [], ◌∷◌, ◌++◌, Option, Some, None, false, get_or, set, refl, sym, ap, ◌∙◌, arith}
 use Rattle.std.proofs.lemmas.List.{append_assoc, append-nil}
-use Rattle.thread_table.specs.declared.rule.View.{View}
+use Rattle.thread_table.specs.Own.{View}
 use Rattle.thread_table.specs.Keeping.{Keeps}
 use Rattle.thread_table.specs.Rules.{serves, running}
 use Rattle.hand_steps.specs.Holdings.{OnlyAdds, Steady}
@@ -19,7 +19,7 @@ behind_assoc a b c = λ i. record {
 }
 
 pub adds_on : (s t : Tally) (u v w : View) → Adds s u v → Adds t v w → Adds (behind s t) u w
-adds_on s t u v w a b = b ∙ ap (λ z. behind z t) a ∙ behind_assoc (tally u.made) s t
+adds_on s t u v w a b = b ∙ ap (λ z. behind z t) a ∙ behind_assoc (tally u.own.made) s t
 
 pub nothing_behind : (t : Tally) → behind t no_events ≡ t
 nothing_behind t = λ i. record {
@@ -60,7 +60,7 @@ acts_on s t u v w a b = record {
 pub acts_none : (v : View) → Acts no_events v v
 acts_none v = record {
   keeps = record { first = refl; serves = refl; on = refl; share = refl };
-  adds = sym (nothing_behind (tally v.made));
+  adds = sym (nothing_behind (tally v.own.made));
   steady = λ p e low serve on. refl;
   rises = λ e. omega arith;
 }

@@ -14,12 +14,16 @@ use Rattle.thread_table.proofs.Lists.Copies.{get_or-copies}
 use Rattle.std.proofs.lemmas.Grind.{flat_map-append}
 use Rattle.std.proofs.Math.Bool.{or_assoc}
 use Rattle.boot_data.specs.declared.boot_plan.BootPlan.{BootPlan}
+use Rattle.claim_queue.proofs.Certain.{by_both}
+use Rattle.claim_queue.proofs.Saying.{closed_says, done_says}
+use Rattle.claim_queue.specs.Takings.{IsBegun, IsLine}
+use Rattle.std.proofs.Math.Bool.{Bool-set}
 use Rattle.claim_queue.specs.declared.claim.ClaimRefusal.{ClaimRefusal}
 use Rattle.claim_queue.specs.declared.claim.ClaimRefusal.TheVariants as claims
 use Rattle.claim_queue.specs.declared.take.TakeRefusal.{TakeRefusal}
 use Rattle.claim_queue.specs.declared.take.TakeRefusal.TheVariants as takes
 use Rattle.claim_queue.specs.declared.ends.QueueEnd.{QueueEnd}
-use Rattle.claim_queue.specs.declared.rule.View.{View as EndView}
+use Rattle.claim_queue.specs.Own.{View as EndView}
 use Rattle.claim_queue.specs.Lines.{line_of}
 use Rattle.claim_queue.specs.Handles as queues
 use Rattle.claim_queue.specs.Orders.{TakesInOrder}
@@ -52,7 +56,7 @@ use Rattle.meters.specs.Own.{SeatView, Own, own_of}
 use Rattle.proc_chain.specs.declared.ends.ChainEnd.{ChainEnd}
 use Rattle.proc_chain.specs.declared.quaject.Quaject.{Ghosts}
 use Rattle.thread_table.specs.Answers.{is_in}
-use Rattle.thread_table.specs.declared.rule.View.{View}
+use Rattle.thread_table.specs.Own.{View}
 use Rattle.thread_table.specs.Handles.{view_of}
 use Rattle.thread_table.specs.Rules.{done_at}
 use Rattle.processor.specs.Acts.{NeverFalls}
@@ -181,12 +185,12 @@ climbs_on (x ∷ xs) ys a b c f g = (f.0, climbs_on xs ys (x + 1) b c f.1 g)
 
 -- how many steps of a thread the hand of the station knows to be done
 abbrev known_done : Parts → ℕ → ℕ
-known_done parts t = done_at (view_of parts.hand).schedule t
+known_done parts t = done_at (view_of parts.hand).seen.object t
 
 pub logs_on : (plan : BootPlan) (xs ys : List LogEntry) (a b c : Parts) → Logs plan xs a b → Logs plan ys b c → Logs plan (xs ++ ys) a c
 logs_on plan xs ys a b c f g = record {
   planned = all_on (FollowsPlan plan) xs ys f.planned g.planned;
-  hand = adds_on (tally_of xs) (tally_of ys) (view_of a.hand) (view_of b.hand) (view_of c.hand) f.hand g.hand ∙ ap (λ z. behind (tally (view_of a.hand).made) z) (sym (tally_on xs ys));
+  hand = adds_on (tally_of xs) (tally_of ys) (view_of a.hand) (view_of b.hand) (view_of c.hand) f.hand g.hand ∙ ap (λ z. behind (tally (view_of a.hand).own.made) z) (sym (tally_on xs ys));
   order = λ t. subst (λ z. Climbs z (known_done a t) (known_done c t)) (sym (numbers_on xs ys t))
       (climbs_on (numbers_done xs t) (numbers_done ys t) (known_done a t) (known_done b t) (known_done c t) (f.order t) (g.order t));
   small = worked_as _ _ _ _ _ _ _ _ (λ q. sym (flat_map-append (small_put_by q) xs ys)) (λ q. sym (flat_map-append (small_taken_by q) xs ys)) (λ q. sym (sum_by-append (shut_by q) xs ys))
@@ -249,7 +253,7 @@ pub one_entry : (plan : BootPlan) (x : LogEntry) (old new : Parts) → FollowsPl
     → ((t : ℕ) → Climbs (numbers_done (x ∷ []) t) (known_done old t) (known_done new t)) → Logs plan (x ∷ []) old new
 one_entry plan x old new p h s l st lt c m lines sig o = record {
   planned = (p, tt);
-  hand = h ∙ ap (λ z. behind (tally (view_of old.hand).made) z) (sym (nothing_behind (tally_by x)));
+  hand = h ∙ ap (λ z. behind (tally (view_of old.hand).own.made) z) (sym (nothing_behind (tally_by x)));
   order = o;
   small = worked_as _ _ _ _ _ _ _ _ (λ q. sym (append-nil (small_put_by q x))) (λ q. sym (append-nil (small_taken_by q x))) (λ q. zero_first (shut_by q x)) s;
   large = worked_as _ _ _ _ _ _ _ _ (λ q. sym (append-nil (large_put_by q x))) (λ q. sym (append-nil (large_taken_by q x))) (λ q. refl) l;
@@ -320,7 +324,7 @@ counts_only answer e n = refl
 
 -- a say that was told so found its queue shut
 found_so : {n : ℕ} (line : List ℕ) (refusal : ClaimRefusal) (old new : QueueEnd n) → is_shut refusal ≡ true → Said {A = Unit {0}} line (Err refusal) old new → end_knows_shut new ≡ true
-found_so line claims.Closed old new is s = ⊎_elim (λ f. f.shut) (λ f. f.shut) s.1
+found_so {n} line claims.Closed old new is s = by_both old new (Bool-set _ _) (λ x y. closed_says (queues.view_of old) (queues.view_of new) x y n _ s)
 found_so line refusal old new is s = cc
 
 set_there : {E : Type 0} (f : E → Bool) (xs : List E) (k : ℕ) (end after : E) → slice_get xs k ≡ Some end → f after ≡ true → get_or (map f (set xs k after)) k false ≡ true
@@ -330,7 +334,7 @@ set_there f (x ∷ xs) (suc k) end after at h = set_there f xs k end after at h
 
 -- and so did a hear
 heard_so : {n : ℕ} (line : List ℕ) (refusal : TakeRefusal) (old new : QueueEnd n) → is_over refusal ≡ true → Heard {A = Unit {0}} line (Err refusal) old new → end_knows_shut new ≡ true
-heard_so line takes.Closed old new is h = h.1.shut
+heard_so {n} line takes.Closed old new is h = by_both old new (Bool-set _ _) (λ x y. (done_says (queues.view_of old) (queues.view_of new) x y (IsBegun n) (IsLine n) n h.1).0)
 heard_so line refusal old new is h = cc
 
 on_so : {n : ℕ} (R : QueueEnd n → QueueEnd n → Type 0) (k : ℕ) (old new : List (QueueEnd n)) → ((a b : QueueEnd n) → R a b → end_knows_shut b ≡ true) → OnEnd k R old new
@@ -361,7 +365,7 @@ one_line (steps.Hear (Large k)) (deeds.Heard woken) heard old new old' new' d = 
 one_line step deed heard old new old' new' d = tt
 
 counted_so : (call element : ℕ) (done : Bool) (number : ℕ) (answer : Counted) (did after v w : View) → CountAnswer call element done did answer after → IsNumber answer element v w
-    → number ≡ done_at v.schedule element → number < 64 → answer ≡ count_of done number
+    → number ≡ done_at v.seen.object element → number < 64 → answer ≡ count_of done number
 counted_so call element true number (counted.Done m) did after v w a is now low = ap counted.Done (is.0 ∙ ap (λ z. z + 1) (sym now))
 counted_so call element true number counted.Spent did after v w a is now low = absurd (let p = is.0 in omega arith)
 counted_so call element true number counted.Undone did after v w a is now low = absurd a
@@ -371,27 +375,27 @@ counted_so call element false number counted.Spent did after v w a is now low = 
 
 -- a step that is done is one more
 one_more : (call element : ℕ) (done : Bool) (number : ℕ) (answer : Counted) (did after v w : View) → CountAnswer call element done did answer after → IsNumber answer element v w
-    → number ≡ done_at v.schedule element → number < 64 → done ≡ true → done_at w.schedule element ≡ number + 1
+    → number ≡ done_at v.seen.object element → number < 64 → done ≡ true → done_at w.seen.object element ≡ number + 1
 one_more call element true number (counted.Done m) did after v w a is now low done = is.1 ∙ is.0 ∙ ap (λ z. z + 1) (sym now)
 one_more call element true number counted.Spent did after v w a is now low done = absurd (let p = is.0 in omega arith)
 one_more call element true number counted.Undone did after v w a is now low done = absurd a
 one_more call element false number answer did after v w a is now low done = absurd cc
 
 -- and so the number of the step that was tried, where it is done, is between
-tried_climbs : (done : Bool) (element number t : ℕ) (v w : View) → NeverFalls v w → number ≡ done_at v.schedule element
-    → (done ≡ true → done_at w.schedule element ≡ number + 1)
-    → Climbs (its_numbers t ((if done then (element, number) ∷ [] else []) ++ [])) (done_at v.schedule t) (done_at w.schedule t)
+tried_climbs : (done : Bool) (element number t : ℕ) (v w : View) → NeverFalls v w → number ≡ done_at v.seen.object element
+    → (done ≡ true → done_at w.seen.object element ≡ number + 1)
+    → Climbs (its_numbers t ((if done then (element, number) ∷ [] else []) ++ [])) (done_at v.seen.object t) (done_at w.seen.object t)
 tried_climbs false element number t v w up now more = up t
 tried_climbs true element number t v w up now more = ⊎_elim
-    (λ same. subst (λ z. Climbs z (done_at v.schedule t) (done_at w.schedule t)) (sym (ap (λ (b : Bool). map (λ (key : Key). key.1) (cond b ((element, number) ∷ []) [])) same.0))
-    (let a = ap (done_at v.schedule) same.1 in let b = ap (done_at w.schedule) same.1 in let m = more refl in (omega arith, omega arith)))
-    (λ other. subst (λ z. Climbs z (done_at v.schedule t) (done_at w.schedule t)) (sym (ap (λ (b : Bool). map (λ (key : Key). key.1) (cond b ((element, number) ∷ []) [])) other.0)) (up t))
+    (λ same. subst (λ z. Climbs z (done_at v.seen.object t) (done_at w.seen.object t)) (sym (ap (λ (b : Bool). map (λ (key : Key). key.1) (cond b ((element, number) ∷ []) [])) same.0))
+    (let a = ap (done_at v.seen.object) same.1 in let b = ap (done_at w.seen.object) same.1 in let m = more refl in (omega arith, omega arith)))
+    (λ other. subst (λ z. Climbs z (done_at v.seen.object t) (done_at w.seen.object t)) (sym (ap (λ (b : Bool). map (λ (key : Key). key.1) (cond b ((element, number) ∷ []) [])) other.0)) (up t))
     (eqb_tells t element)
 
 pub tried_logged : (plan : BootPlan) (shared : Shared) (call p element number : ℕ) (step : Step) (deed : Deed) (answer : Counted) (text : List ℕ) (old new : Parts)
     → step_of plan element number ≡ Some step → comes_of step deed ≡ true → Stepped call plan p element step deed answer (view_of old.hand) (view_of new.hand)
     → IsNumber answer element (view_of old.hand) (view_of new.hand) → NeverFalls (view_of old.hand) (view_of new.hand)
-    → number ≡ done_at (view_of old.hand).schedule element → number < 64
+    → number ≡ done_at (view_of old.hand).seen.object element → number < 64
     → Adds (step_tally step deed answer element number) (view_of old.hand) (view_of new.hand)
     → EndsDid shared step deed text old new → heard_lines new ≡ heard_lines old ++ heard_in deed element number text → new.signals ≡ old.signals
     → Logs plan (Tried element number step deed answer text ∷ []) old new
@@ -416,8 +420,8 @@ fresh_shown e s = ap (λ z. is_in z s) (get_or-copies 64 0 e) ∙ none_in s
 no_claims : (runs : List Batch) → map line_of runs ≡ [] → InOrder runs
 no_claims runs e = subst InOrder (sym (none_of runs e)) order_none
 
-no_takings : (v : EndView) → map line_of v.part.takes ≡ [] → TakesInOrder v
-no_takings v e = let none = none_of v.part.takes e in
+no_takings : (v : EndView) → map line_of v.own.takes ≡ [] → TakesInOrder v
+no_takings v e = let none = none_of v.own.takes e in
     (subst InOrder (sym none) order_none, λ m b at. absurd (some-ne-none b (sym (subst (λ (z : List Batch). get_elem? z m ≡ some b) none at))))
 
 -- ends that put no line
@@ -470,7 +474,7 @@ begun_logged plan (Err i) old new h up r m s = record { log = []; its = nothing_
 pub idle_logged : (plan : BootPlan) (parts : Parts) → Logged plan parts parts
 idle_logged plan parts = record {
   log = [];
-  its = nothing_logged plan parts parts (sym (nothing_behind (tally (view_of parts.hand).made))) (λ e. omega arith) (record { small = refl; large = refl; chains = refl; heard = refl }) refl refl;
+  its = nothing_logged plan parts parts (sym (nothing_behind (tally (view_of parts.hand).own.made))) (λ e. omega arith) (record { small = refl; large = refl; chains = refl; heard = refl }) refl refl;
 }
 
 -- an element moved on behind its step
@@ -482,7 +486,7 @@ moved_logged plan call step deed last e n moved old new g over h up r m s = reco
 
 -- behind the last step no step is left
 pub over_so : (plan : BootPlan) (call e number : ℕ) (done : Bool) (answer : Counted) (did after v w : View) → CountAnswer call e done did answer after → IsNumber answer e v w
-    → number ≡ done_at v.schedule e → number < 64 → is_last done number (length (program plan e)) ≡ true → length (program plan e) ≤ done_at w.schedule e
+    → number ≡ done_at v.seen.object e → number < 64 → is_last done number (length (program plan e)) ≡ true → length (program plan e) ≤ done_at w.seen.object e
 over_so plan call e number false answer did after v w a is now low last = cc
 over_so plan call e number true (counted.Done m) did after v w a is now low last =
     let few = leb-true (length (program plan e)) (number + 1) last in let p = is.0 in let q = is.1 in omega arith

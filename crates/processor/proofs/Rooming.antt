@@ -1,5 +1,5 @@
 -- There is room for each line that is heard.
-use Rattle.std.proofs.Common.{◌≡◌, ℕ, ◌<◌, ◌≤◌, ◌==◌, Bool, true, false, List, [], ◌∷◌, ◌++◌, map, vec_capacity, length, length-append, Some, refl, sym, ap, ◌∙◌, subst, arith}
+use Rattle.std.proofs.Common.{◌≡◌, ◌+◌, ℕ, ◌<◌, ◌≤◌, ◌==◌, Bool, true, false, List, [], ◌∷◌, ◌++◌, map, vec_capacity, length, length-append, Some, refl, sym, ap, ◌∙◌, subst, arith}
 use Rattle.std.proofs.lemmas.Bool.{eqb-true, and_parts as split}
 use Rattle.std.proofs.lemmas.List.{append-nil}
 use Rattle.std.specs.List.{AllByRecursion, IsDistinct}
@@ -9,7 +9,7 @@ use Rattle.boot_data.specs.declared.plan.Step.TheVariants as steps
 use Rattle.hand_steps.specs.declared.counting.Counted.{Counted}
 use Rattle.hand_steps.specs.declared.counting.Counted.TheVariants as counted
 use Rattle.hand_steps.specs.Countings.{CountAnswer, IsNumber}
-use Rattle.thread_table.specs.declared.rule.View.{View}
+use Rattle.thread_table.specs.Own.{View}
 use Rattle.thread_table.specs.Rules.{done_at}
 use Rattle.processor.specs.declared.deed.Deed.{Deed}
 use Rattle.processor.specs.declared.deed.Deed.TheVariants as deeds
@@ -56,15 +56,15 @@ unfolding IsDistinct
 distinct_push [] k d all = (tt, tt)
 distinct_push (x ∷ xs) k d all = (all_push (λ y. same_key x y ≡ false) xs k d.0 all.0, distinct_push xs k d.1 all.1)
 
-apart : (v : View) (e n : ℕ) (k : Key) → n ≡ done_at v.schedule e → IsPast v k → (b : Bool) → same_key k (e, n) ≡ b → b ≡ false
+apart : (v : View) (e n : ℕ) (k : Key) → n ≡ done_at v.seen.object e → IsPast v k → (b : Bool) → same_key k (e, n) ≡ b → b ≡ false
 apart v e n k is past false h = refl
 apart v e n k is past true h = absurd (clash (split (k.0 == e) (k.1 == n) h))
   where
     clash : ((k.0 == e) ≡ true) × ((k.1 == n) ≡ true) → ⊥
     clash p = let a = eqb-true k.0 e p.0 in let b = eqb-true k.1 n p.1 in
-        let low : k.1 < done_at v.schedule e = subst (λ (z : ℕ). k.1 < done_at v.schedule z) a past in omega arith
+        let low : k.1 < done_at v.seen.object e = subst (λ (z : ℕ). k.1 < done_at v.seen.object z) a past in omega arith
 
-all_apart : (v : View) (e n : ℕ) (ks : List Key) → n ≡ done_at v.schedule e → AllByRecursion (IsPast v) ks → AllByRecursion (λ x. same_key x (e, n) ≡ false) ks
+all_apart : (v : View) (e n : ℕ) (ks : List Key) → n ≡ done_at v.seen.object e → AllByRecursion (IsPast v) ks → AllByRecursion (λ x. same_key x (e, n) ≡ false) ks
 all_apart v e n [] is all = tt
 all_apart v e n (k ∷ ks) is all = (let f = apart v e n k is all.0 (same_key k (e, n)) refl in f, all_apart v e n ks is all.1)
 
@@ -87,16 +87,22 @@ heard_hears call plan steps.Pass (deeds.Heard woken) v w a h = absurd a
 heard_hears call plan (steps.Close queue) (deeds.Heard woken) v w a h = absurd a
 heard_hears call plan step deed v w a h = cc
 
+-- what a count tells stays so, where no step of the element was counted before and behind
+pub number_on : (answer : Counted) (e : ℕ) (v did after w : View) → done_at did.seen.object e ≡ done_at v.seen.object e → done_at w.seen.object e ≡ done_at after.seen.object e → IsNumber answer e did after → IsNumber answer e v w
+number_on (counted.Done number) e v did after w x y is = (is.0 ∙ ap (λ n. n + 1) x, y ∙ is.1)
+number_on counted.Spent e v did after w x y is = (sym x ∙ is.0, y ∙ is.1)
+number_on counted.Undone e v did after w x y is = y ∙ (is ∙ x)
+
 -- a step that is done is counted, where there are few enough
-counts_one : (call e : ℕ) (answer : Counted) (did after v w : View) → CountAnswer call e true did answer after → IsNumber answer e v w → done_at v.schedule e < 64
-    → done_at v.schedule e < done_at w.schedule e
+counts_one : (call e : ℕ) (answer : Counted) (did after v w : View) → CountAnswer call e true did answer after → IsNumber answer e v w → done_at v.seen.object e < 64
+    → done_at v.seen.object e < done_at w.seen.object e
 counts_one call e (counted.Done number) did after v w a is low = let p = is.0 in let q = is.1 in omega arith
 counts_one call e counted.Spent did after v w a is low = absurd (let p = is.0 in omega arith)
 counts_one call e counted.Undone did after v w a is low = absurd a
 
 -- with a line more that was heard
 pub hears_more : (call p e n : ℕ) (plan : BootPlan) (step : Step) (deed : Deed) (answer : Counted) (v u : View) (keys : List Key)
-    → step_of plan e n ≡ Some step → Stepped call plan p e step deed answer v u → n ≡ done_at v.schedule e
+    → step_of plan e n ≡ Some step → Stepped call plan p e step deed answer v u → n ≡ done_at v.seen.object e
     → AreHears plan keys → AllByRecursion (IsPast v) keys → AreHears plan (keys ++ key_in deed e n)
 hears_more call p e n plan step (deeds.Heard woken) answer v u keys is s now hears past = (
   all_push (IsHear plan) keys (e, n) hears.0 (record { step = step; is = is; hears = heard_hears call plan step (deeds.Heard woken) s.on s.did s.does refl }),
@@ -105,7 +111,7 @@ hears_more call p e n plan step (deeds.Heard woken) answer v u keys is s now hea
 hears_more call p e n plan step deed answer v u keys is s now hears past = subst (AreHears plan) (sym (append-nil keys)) hears
 
 pub past_more : (call p e n : ℕ) (plan : BootPlan) (step : Step) (deed : Deed) (answer : Counted) (v u w : View) (keys : List Key)
-    → Stepped call plan p e step deed answer v u → IsNumber answer e v u → n ≡ done_at v.schedule e → n < 64 → NeverFalls v u → NeverFalls u w
+    → Stepped call plan p e step deed answer v u → IsNumber answer e v u → n ≡ done_at v.seen.object e → n < 64 → NeverFalls v u → NeverFalls u w
     → AllByRecursion (IsPast v) keys → AllByRecursion (IsPast w) (keys ++ key_in deed e n)
 past_more call p e n plan step (deeds.Heard woken) answer v u w keys s is now low rises on past =
     let counts = counts_one call e answer s.did s.after v u s.counts is (omega (arith, now, low)) in

@@ -1,18 +1,18 @@
 -- What a step of a thread leaves to the hand that runs it.
 use Rattle.std.specs.Prelude.{◌≡◌, ◌≤◌, ◌<◌, ℕ, true, Some}
-use Rattle.thread_table.specs.declared.rule.View.{View}
+use Rattle.thread_table.specs.Own.{View}
 use Rattle.thread_table.specs.Keeping.{Keeps}
 use Rattle.thread_table.specs.Rules.{done_at, serves, running}
 use Rattle.hand_steps.specs.Tallies.{Tally, Adds}
 
 -- no element's number of steps fell
 abbrev pub NeverFalls : View → View → Type 0
-NeverFalls v w = (e : ℕ) → done_at v.schedule e ≤ done_at w.schedule e
+NeverFalls v w = (e : ℕ) → done_at v.seen.object e ≤ done_at w.seen.object e
 
 -- no step was counted of what stands on the hand's processors
 abbrev pub SteadyOn : View → View → Type 0
 SteadyOn v w = (p e : ℕ) → e < 64 → serves v p ≡ true → running v p ≡ Some e
-    → done_at w.schedule e ≡ done_at v.schedule e
+    → done_at w.seen.object e ≡ done_at v.seen.object e
 
 -- Its processors and its share are as they were, and so is what stands there, of which no step was counted; the hand
 -- made events that come to this, and no step is undone

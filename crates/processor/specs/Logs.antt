@@ -199,8 +199,8 @@ seat_of log share = record nothing_own {
 pub record Logs (plan : BootPlan) (log : List LogEntry) (old new : Parts) : Type 0 where
   pub planned : AllByRecursion (FollowsPlan plan) log
   pub hand : Adds (tally_of log) (view_of old.hand) (view_of new.hand)
-  pub order : (thread : ℕ) → Climbs (numbers_done log thread) (done_at (view_of old.hand).schedule thread)
-      (done_at (view_of new.hand).schedule thread)
+  pub order : (thread : ℕ) → Climbs (numbers_done log thread) (done_at (view_of old.hand).seen.object thread)
+      (done_at (view_of new.hand).seen.object thread)
   pub small : Worked (small_put log) (small_taken log) (times_shut log) old.small.items new.small.items
   pub large : Worked (large_put log) (large_taken log) never old.large.items new.large.items
   pub small_shut : (q : ℕ) → small_was_shut log q ≡ true → knows_shut_at new.small.items q ≡ true
@@ -216,7 +216,7 @@ pub record Logged (plan : BootPlan) (old new : Parts) : Type 0 where
 
 -- the ends of the station have done nothing
 pub record IsFresh (parts : Parts) : Type 0 where
-  pub hand : tally (view_of parts.hand).made ≡ no_events
+  pub hand : tally (view_of parts.hand).own.made ≡ no_events
   pub small : (q : ℕ) → (lines_put_at parts.small.items q ≡ []) × (lines_taken_at parts.small.items q ≡ [])
       × (shuts_at parts.small.items q ≡ 0)
   pub large : (q : ℕ) → (lines_put_at parts.large.items q ≡ []) × (lines_taken_at parts.large.items q ≡ [])
@@ -231,8 +231,8 @@ pub record IsFresh (parts : Parts) : Type 0 where
 -- seen done
 pub record Leaves (plan : BootPlan) (log : List LogEntry) (parts : Parts) : Type 0 where
   pub planned : AllByRecursion (FollowsPlan plan) log
-  pub hand : tally (view_of parts.hand).made ≡ tally_of log
-  pub order : (thread : ℕ) → Climbs (numbers_done log thread) 0 (done_at (view_of parts.hand).schedule thread)
+  pub hand : tally (view_of parts.hand).own.made ≡ tally_of log
+  pub order : (thread : ℕ) → Climbs (numbers_done log thread) 0 (done_at (view_of parts.hand).seen.object thread)
   pub small_puts : (q : ℕ) → lines_put_at parts.small.items q ≡ small_put log q
   pub small_order : All ClaimedInOrder parts.small.items
   pub small_takes : (q : ℕ) → lines_taken_at parts.small.items q ≡ small_taken log q

@@ -7,7 +7,7 @@ use Rattle.boot_data.specs.declared.plan.QueueIndex.TheVariants.{Small, Large}
 use Rattle.quajects.specs.declared.world.Pipe.{Pipe}
 use Rattle.hand_steps.specs.declared.waking.Woken.{Woken}
 use Rattle.hand_steps.specs.Wakings.{Woke}
-use Rattle.thread_table.specs.declared.rule.View.{View}
+use Rattle.thread_table.specs.Own.{View}
 use Rattle.thread_table.specs.Answers.{IsTicket}
 use Rattle.processor.specs.declared.ticket.Ticket.{Ticket}
 use Rattle.processor.specs.Queues.{waits_at}

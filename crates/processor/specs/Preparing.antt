@@ -19,12 +19,12 @@ HasDoneAll plan retired = length (program plan retired.0) ≤ retired.1
 -- raised and delivered no signal, put and took no line and no note, and shut nothing; the elements that it put behind
 -- the free ones had nothing to do; of the meters it set the plan's alarms, and did nothing else
 pub record IsPrepared (plan : BootPlan) (first : Parts) : Type 0 where
-  pub taken : 64 ≤ (ring_at (elements_after (view_of first.hand).schedule) 1).taken
-  pub done : (tally (view_of first.hand).made).done ≡ []
-  pub signalled : (tally (view_of first.hand).made).signalled ≡ []
-  pub delivered : (tally (view_of first.hand).made).delivered ≡ []
-  pub retired : AllByRecursion (HasDoneAll plan) (tally (view_of first.hand).made).retired
-  pub took : length (tally (view_of first.hand).made).taken ≡ 64
+  pub taken : 64 ≤ (ring_at (elements_after (view_of first.hand).seen.object) 1).taken
+  pub done : (tally (view_of first.hand).own.made).done ≡ []
+  pub signalled : (tally (view_of first.hand).own.made).signalled ≡ []
+  pub delivered : (tally (view_of first.hand).own.made).delivered ≡ []
+  pub retired : AllByRecursion (HasDoneAll plan) (tally (view_of first.hand).own.made).retired
+  pub took : length (tally (view_of first.hand).own.made).taken ≡ 64
   pub small : (q : ℕ) → (lines_put_at first.small.items q ≡ []) × (lines_taken_at first.small.items q ≡ [])
   pub small_shuts : (q : ℕ) → shuts_at first.small.items q ≡ 0
   pub large : (q : ℕ) → (lines_put_at first.large.items q ≡ []) × (lines_taken_at first.large.items q ≡ [])

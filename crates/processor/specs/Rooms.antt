@@ -2,7 +2,7 @@
 use Rattle.std.specs.Prelude.{◌<◌, ◌≤◌, map, vec_capacity}
 use Rattle.std.specs.List.{AllByRecursion}
 use Rattle.boot_data.specs.declared.boot_plan.BootPlan.{BootPlan}
-use Rattle.thread_table.specs.declared.rule.View.{View}
+use Rattle.thread_table.specs.Own.{View}
 use Rattle.thread_table.specs.Handles.{view_of}
 use Rattle.thread_table.specs.Rules.{done_at}
 use Rattle.processor.specs.declared.station.Heard.{Heard}
@@ -14,7 +14,7 @@ key_of h = (h.thread, h.step)
 
 -- the step is done
 abbrev pub IsPast : View → Key → Type 0
-IsPast v key = key.1 < done_at v.schedule key.0
+IsPast v key = key.1 < done_at v.seen.object key.0
 
 -- The heard lines are those of steps of the plan that hear and are done, none of them twice, and there is room for as
 -- many as the plan has

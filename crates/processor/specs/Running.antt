@@ -10,8 +10,8 @@ use Rattle.hand_steps.specs.Countings.{CountAnswer, counted_step}
 use Rattle.hand_steps.specs.Sendings.{Sent, WaitedAt, retired}
 use Rattle.hand_steps.specs.Tallies.{Tally, behind, no_events}
 use Rattle.meters.specs.Handles as meters
-use Rattle.thread_table.specs.declared.rule.View.{View}
-use Rattle.thread_table.specs.Steps.{PutsOn, TakesOff}
+use Rattle.thread_table.specs.Own.{View}
+use Rattle.thread_table.specs.Answers.{PutsOn, TakesOff}
 use Rattle.processor.specs.declared.deed.Deed.{Deed}
 use Rattle.processor.specs.declared.deed.Deed.TheVariants as deeds
 use Rattle.processor.specs.declared.ticket.Ticket.{Ticket}

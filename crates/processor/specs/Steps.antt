@@ -22,7 +22,7 @@ use Rattle.proc_chain.specs.declared.ends.ProcChain.{ProcChain}
 use Rattle.proc_chain.specs.declared.quaject.Quaject.{Ghosts}
 use Rattle.proc_chain.specs.Notes.{alone}
 use Rattle.quajects.specs.declared.world.Queues.{Queues}
-use Rattle.thread_table.specs.declared.rule.View.{View}
+use Rattle.thread_table.specs.Own.{View}
 use Rattle.thread_table.specs.Answers.{SignalAnswer, StoppedNow}
 use Rattle.processor.specs.declared.deed.Deed.{Deed}
 use Rattle.processor.specs.declared.deed.Deed.TheVariants as deeds

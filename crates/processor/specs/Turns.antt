@@ -10,7 +10,7 @@ use Rattle.hand_steps.specs.Sendings.{Sent}
 use Rattle.hand_steps.specs.Tallies.{delivery}
 use Rattle.hand_steps.specs.Tendings.{Fires, RaisedAll}
 use Rattle.meters.specs.Handles as meters
-use Rattle.thread_table.specs.declared.rule.View.{View}
+use Rattle.thread_table.specs.Own.{View}
 use Rattle.thread_table.specs.Handles.{view_of, call_of}
 use Rattle.processor.specs.declared.outcome.Had.{Had}
 use Rattle.processor.specs.declared.outcome.Had.TheVariants as hads

@@ -4,11 +4,12 @@
 //! element goes on. `seat` alone makes a `Seated`, which `do_step` takes by value; `do_step` alone makes an `Attempt`,
 //! which the count takes by value. So a tick, a shut, a poke and all else that a step does is done in between.
 ghost use Rattle.std.specs.Prelude.{◌≡◌, [], length, true, Some, slice_set};
-ghost use Rattle.hand_steps.specs.Holdings.{IsFree, IsOn, HoldsLess, KeepsBut, Steady};
+ghost use Rattle.hand_steps.specs.Holdings.{IsFree, IsOn, KeepsBut, Steady};
 ghost use Rattle.hand_steps.specs.Tallies.{Adds, no_events};
 ghost use Rattle.thread_table.specs.Handles.{view_of, call_of, IsHandOf, IsSameHand};
 ghost use Rattle.thread_table.specs.Rules.{has};
-ghost use Rattle.thread_table.specs.Steps.{PutsOn};
+ghost use Rattle.thread_table.specs.Answers.{PutsOn};
+ghost use Rattle.thread_table.specs.Entries.{HoldsLess};
 ghost use Rattle.processor.specs.Acts.{Acts};
 ghost use Rattle.processor.specs.Points.{GateSaw, points_of};
 ghost use Rattle.processor.specs.Running.{EndsDid};
@@ -65,7 +66,7 @@ pub(crate) fn seat(
     ensures table { IsSameHand hand.old hand.new }
     ensures put { PutsOn (call_of hand.old) processor element (view_of hand.old) (view_of hand.new) }
     ensures there { IsOn processor element (view_of hand.new) }
-    ensures keeps { KeepsBut (slice_set (view_of hand.old).on processor (Some element)) (view_of hand.old)
+    ensures keeps { KeepsBut (slice_set (view_of hand.old).own.on processor (Some element)) (view_of hand.old)
         (view_of hand.new) }
     ensures holds { HoldsLess element (view_of hand.old) (view_of hand.new) }
     ensures adds { Adds no_events (view_of hand.old) (view_of hand.new) }

@@ -49,7 +49,7 @@ pub(crate) fn count_step(
         (view_of hand.new) }
     ensures keeps { Keeps (view_of hand.old) (view_of hand.new) }
     ensures holds { HoldsSame (view_of hand.old) (view_of hand.new) }
-    ensures adds { Adds (counted_step result.counted element (done_at (view_of hand.old).schedule element))
+    ensures adds { Adds (counted_step result.counted element (done_at (view_of hand.old).seen.object element))
         (view_of hand.old) (view_of hand.new) }
     ensures number { IsNumber result.counted element (view_of hand.old) (view_of hand.new) }
     ensures steady { SteadyBut element (view_of hand.old) (view_of hand.new) }

@@ -49,12 +49,12 @@ pub(crate) fn run_step<R: Wait, G: Gate>(
     ensures comes { comes_of step.now result.deed ≡ true }
     ensures ends { EndsDid shared.now step.now result.deed heard.new.items parts.old parts.new }
     ensures adds { Adds (step_tally step.now result.deed result.counted element
-        (done_at (view_of parts.old.hand).schedule element)) (view_of parts.old.hand) (view_of parts.new.hand) }
+        (done_at (view_of parts.old.hand).seen.object element)) (view_of parts.old.hand) (view_of parts.new.hand) }
     ensures number { IsNumber result.counted element (view_of parts.old.hand) (view_of parts.new.hand) }
     ensures rises { NeverFalls (view_of parts.old.hand) (view_of parts.new.hand) }
-    ensures serves { (view_of parts.new.hand).serves ≡ (view_of parts.old.hand).serves }
+    ensures serves { (view_of parts.new.hand).own.serves ≡ (view_of parts.old.hand).own.serves }
     ensures share { (view_of parts.new.hand).member.share ≡ (view_of parts.old.hand).member.share }
-    ensures on { (view_of parts.new.hand).on ≡ (view_of parts.old.hand).on }
+    ensures on { (view_of parts.new.hand).own.on ≡ (view_of parts.old.hand).own.on }
     ensures heard { parts.new.heard ≡ parts.old.heard }
     ensures signals { parts.new.signals ≡ parts.old.signals }
     ensures gate { GateSaw G.told p (points_of result.deed) gate.old gate.new }

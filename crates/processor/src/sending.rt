@@ -65,7 +65,7 @@ fn move_on<R: Wait>(
     ensures goes { Goes (call_of hand.old) step.now tried.now.deed last element result (view_of hand.old)
         (view_of hand.new) }
     ensures keeps { Keeps (view_of hand.old) (view_of hand.new) }
-    ensures adds { Adds (gone result element (done_at (view_of hand.old).schedule element)) (view_of hand.old)
+    ensures adds { Adds (gone result element (done_at (view_of hand.old).seen.object element)) (view_of hand.old)
         (view_of hand.new) }
     ensures rises { NeverFalls (view_of hand.old) (view_of hand.new) }
 {
@@ -99,7 +99,7 @@ pub(crate) fn send_on<R: Wait>(
     ensures goes { Goes (call_of hand.old) step.now tried.deed last element result.moved (view_of hand.old)
         (view_of hand.new) }
     ensures keeps { Keeps (view_of hand.old) (view_of hand.new) }
-    ensures adds { Adds (gone result.moved element (done_at (view_of hand.old).schedule element)) (view_of hand.old)
+    ensures adds { Adds (gone result.moved element (done_at (view_of hand.old).seen.object element)) (view_of hand.old)
         (view_of hand.new) }
     ensures rises { NeverFalls (view_of hand.old) (view_of hand.new) }
 {

@@ -5,7 +5,7 @@ ghost use Rattle.end_steps.specs.EndLists.{AreChainEndsOf, AreSameChainEnds};
 ghost use Rattle.end_steps.specs.Sums.{Worked, ChainsWorked, never};
 ghost use Rattle.meters.specs.Handles as seats;
 ghost use Rattle.thread_table.specs.Handles.{view_of, call_of};
-ghost use Rattle.thread_table.specs.declared.rule.View.{View};
+ghost use Rattle.thread_table.specs.Own.{View};
 ghost use Rattle.processor.specs.Acts.{Acts};
 ghost use Rattle.processor.specs.Points.{GateSaw, points_of};
 ghost use Rattle.processor.specs.Stations.{ArePartsOf, AreSameParts};

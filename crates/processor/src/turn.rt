@@ -50,7 +50,7 @@ fn run_element<R: Wait, G: Gate>(
     requires held { has (view_of parts.old.hand) element ≡ true }
     requires free { IsFree p (view_of parts.old.hand) }
     requires room { HasRoom shared.now.plan parts.old }
-    requires known { number ≡ done_at (view_of parts.old.hand).schedule element }
+    requires known { number ≡ done_at (view_of parts.old.hand).seen.object element }
     requires low { number < 64 }
     requires its { step_of shared.now.plan element number ≡ Some step.now }
     ensures parts { ArePartsOf shared.now parts.new }
@@ -59,8 +59,8 @@ fn run_element<R: Wait, G: Gate>(
     ensures room { HasRoom shared.now.plan parts.new }
     ensures ran { RanStep shared.now p element number result.tried result.moved parts.old parts.new }
     ensures logged { Logged shared.now.plan parts.old parts.new }
-    ensures on { (view_of parts.new.hand).on ≡ (view_of parts.old.hand).on }
-    ensures serves { (view_of parts.new.hand).serves ≡ (view_of parts.old.hand).serves }
+    ensures on { (view_of parts.new.hand).own.on ≡ (view_of parts.old.hand).own.on }
+    ensures serves { (view_of parts.new.hand).own.serves ≡ (view_of parts.old.hand).own.serves }
     ensures share { (view_of parts.new.hand).member.share ≡ (view_of parts.old.hand).member.share }
     ensures gate { GateSaw G.told p (points_of result.tried.deed) gate.old gate.new }
 {
@@ -91,10 +91,10 @@ fn begin_turn<R: Wait>(
     ensures begun { MatchResult result (λ begun. BegunAt begun parts.old parts.new)
         (λ idle. IdleAt idle parts.old parts.new) }
     ensures held { IfOk result (λ begun. has (view_of parts.new.hand) begun.element ≡ true) }
-    ensures number { IfOk result (λ begun. begun.number ≡ done_at (view_of parts.new.hand).schedule begun.element) }
+    ensures number { IfOk result (λ begun. begun.number ≡ done_at (view_of parts.new.hand).seen.object begun.element) }
     ensures logged { Logged shared.now.plan parts.old parts.new }
-    ensures on { (view_of parts.new.hand).on ≡ (view_of parts.old.hand).on }
-    ensures serves { (view_of parts.new.hand).serves ≡ (view_of parts.old.hand).serves }
+    ensures on { (view_of parts.new.hand).own.on ≡ (view_of parts.old.hand).own.on }
+    ensures serves { (view_of parts.new.hand).own.serves ≡ (view_of parts.old.hand).own.serves }
     ensures share { (view_of parts.new.hand).member.share ≡ (view_of parts.old.hand).member.share }
 {
     begin(rt, &shared.threads, &mut parts.hand, &mut parts.signals)
@@ -112,7 +112,7 @@ fn retire_at<R: Wait>(
     requires held { has (view_of parts.old.hand) element ≡ true }
     requires free { IsFree p (view_of parts.old.hand) }
     requires room { HasRoom shared.now.plan parts.old }
-    requires over { length (program shared.now.plan element) ≤ done_at (view_of parts.old.hand).schedule element }
+    requires over { length (program shared.now.plan element) ≤ done_at (view_of parts.old.hand).seen.object element }
     ensures parts { ArePartsOf shared.now parts.new }
     ensures same { AreSameParts parts.old parts.new }
     ensures free { IsFree p (view_of parts.new.hand) }
@@ -121,8 +121,8 @@ fn retire_at<R: Wait>(
     ensures rest { AreAtRest parts.old parts.new }
     ensures others { (parts.new.meters ≡ parts.old.meters) × (parts.new.signals ≡ parts.old.signals) }
     ensures logged { Logged shared.now.plan parts.old parts.new }
-    ensures on { (view_of parts.new.hand).on ≡ (view_of parts.old.hand).on }
-    ensures serves { (view_of parts.new.hand).serves ≡ (view_of parts.old.hand).serves }
+    ensures on { (view_of parts.new.hand).own.on ≡ (view_of parts.old.hand).own.on }
+    ensures serves { (view_of parts.new.hand).own.serves ≡ (view_of parts.old.hand).own.serves }
     ensures share { (view_of parts.new.hand).member.share ≡ (view_of parts.old.hand).member.share }
 {
     let threads = &shared.threads;
@@ -144,15 +144,15 @@ fn take_turn<R: Wait, G: Gate>(
     requires held { has (view_of parts.old.hand) element ≡ true }
     requires free { IsFree p (view_of parts.old.hand) }
     requires room { HasRoom shared.now.plan parts.old }
-    requires known { number ≡ done_at (view_of parts.old.hand).schedule element }
+    requires known { number ≡ done_at (view_of parts.old.hand).seen.object element }
     ensures parts { ArePartsOf shared.now parts.new }
     ensures same { AreSameParts parts.old parts.new }
     ensures free { IsFree p (view_of parts.new.hand) }
     ensures room { HasRoom shared.now.plan parts.new }
     ensures had { HadTurn shared.now p element number result parts.old parts.new }
     ensures logged { Logged shared.now.plan parts.old parts.new }
-    ensures on { (view_of parts.new.hand).on ≡ (view_of parts.old.hand).on }
-    ensures serves { (view_of parts.new.hand).serves ≡ (view_of parts.old.hand).serves }
+    ensures on { (view_of parts.new.hand).own.on ≡ (view_of parts.old.hand).own.on }
+    ensures serves { (view_of parts.new.hand).own.serves ≡ (view_of parts.old.hand).own.serves }
     ensures share { (view_of parts.new.hand).member.share ≡ (view_of parts.old.hand).member.share }
     ensures gate { GateSaw G.told p (points_had result) gate.old gate.new }
 {
@@ -184,8 +184,8 @@ fn dispatch<R: Wait, G: Gate>(
     ensures room { HasRoom shared.now.plan parts.new }
     ensures came { CameOf shared.now p result parts.old parts.new }
     ensures logged { Logged shared.now.plan parts.old parts.new }
-    ensures on { (view_of parts.new.hand).on ≡ (view_of parts.old.hand).on }
-    ensures serves { (view_of parts.new.hand).serves ≡ (view_of parts.old.hand).serves }
+    ensures on { (view_of parts.new.hand).own.on ≡ (view_of parts.old.hand).own.on }
+    ensures serves { (view_of parts.new.hand).own.serves ≡ (view_of parts.old.hand).own.serves }
     ensures share { (view_of parts.new.hand).member.share ≡ (view_of parts.old.hand).member.share }
     ensures gate { GateSaw G.told p (points_out result) gate.old gate.new }
 {
@@ -218,8 +218,8 @@ fn tend(shared: &Shared, parts: &mut Parts, p: Processor) -> Option<Tended>
     ensures room { HasRoom shared.now.plan parts.new }
     ensures tended { TendedBy p result parts.old parts.new }
     ensures logged { Logged shared.now.plan parts.old parts.new }
-    ensures on { (view_of parts.new.hand).on ≡ (view_of parts.old.hand).on }
-    ensures serves { (view_of parts.new.hand).serves ≡ (view_of parts.old.hand).serves }
+    ensures on { (view_of parts.new.hand).own.on ≡ (view_of parts.old.hand).own.on }
+    ensures serves { (view_of parts.new.hand).own.serves ≡ (view_of parts.old.hand).own.serves }
     ensures share { (view_of parts.new.hand).member.share ≡ (view_of parts.old.hand).member.share }
 {
     if p.number() != 0 {
@@ -247,8 +247,8 @@ fn turn<R: Wait, G: Gate>(
     ensures room { HasRoom shared.now.plan parts.new }
     ensures turn { TurnOf shared.now p result parts.old parts.new }
     ensures logged { Logged shared.now.plan parts.old parts.new }
-    ensures on { (view_of parts.new.hand).on ≡ (view_of parts.old.hand).on }
-    ensures serves { (view_of parts.new.hand).serves ≡ (view_of parts.old.hand).serves }
+    ensures on { (view_of parts.new.hand).own.on ≡ (view_of parts.old.hand).own.on }
+    ensures serves { (view_of parts.new.hand).own.serves ≡ (view_of parts.old.hand).own.serves }
     ensures share { (view_of parts.new.hand).member.share ≡ (view_of parts.old.hand).member.share }
     ensures gate { GateSaw G.told p (points_out result.outcome) gate.old gate.new }
 {
@@ -281,8 +281,8 @@ pub fn run<R: Wait, G: Gate>(
     ensures turns { Turns shared.now p station.parts result.parts turns }
     ensures logged { Logged shared.now.plan station.parts result.parts }
     ensures leaves { IsFresh station.parts → HasLeft shared.now.plan result.parts }
-    ensures on { (view_of result.parts.hand).on ≡ (view_of station.parts.hand).on }
-    ensures serves { (view_of result.parts.hand).serves ≡ (view_of station.parts.hand).serves }
+    ensures on { (view_of result.parts.hand).own.on ≡ (view_of station.parts.hand).own.on }
+    ensures serves { (view_of result.parts.hand).own.serves ≡ (view_of station.parts.hand).own.serves }
     ensures share { (view_of result.parts.hand).member.share ≡ (view_of station.parts.hand).member.share }
     ensures told { ToldTurns G.told shared.now p station.parts result.parts turns gate.old gate.new }
 {

@@ -2,7 +2,7 @@
 use Rattle.std.proofs.Common.{◌≡◌, ℕ, suc, ◌<◌, ◌==◌, Bool, true, false, List, [], ◌∷◌, ◌++◌, map, length, refl, sym, ap, subst, ◌∙◌, if◌then◌else◌, arith}
 use Rattle.std.proofs.lemmas.List.{map-append, append-nil}
 use Rattle.std.proofs.lemmas.Bool.{false≢true, eqb-true}
-use Rattle.claim_queue.specs.declared.rule.View.{View}
+use Rattle.claim_queue.specs.Own.{View}
 use Rattle.quajects.specs.Lines.{held_line}
 use Rattle.quajects.specs.Cooked.{kept, after_kills, typed, cooked}
 use Rattle.quajects.specs.Tries.{TriedTake}
@@ -34,9 +34,9 @@ if_held false held e = ap held_line e
 pub nothing_held_if : (old puts : List (List ℕ)) (held : List ℕ) (b : Bool) → held ≡ [] → map cooked old ≡ puts ++ (if b then [] else held_line held) → map cooked old ≡ puts
 nothing_held_if old puts held b e law = law ∙ ap (λ (z : List (List ℕ)). puts ++ z) (if_held b held e) ∙ append-nil puts
 
-pub some_taken : (call : ℕ) (v : View) (took : Bool) (line : List ℕ) (w : View) → took ≡ true → TriedTake 64 call v took line w → 0 < length line
-some_taken call v true line w e t = t.0.1
-some_taken call v false line w e t = absurd (false≢true e)
+pub some_taken : (v : View) (took : Bool) (line : List ℕ) (w : View) → took ≡ true → TriedTake 64 v took line w → 0 < length line
+some_taken v true line w e t = t.0.1
+some_taken v false line w e t = absurd (false≢true e)
 
 not_empty : (xs : List ℕ) → xs ++ 10 ∷ [] ≡ [] → ⊥
 not_empty [] e = cc
@@ -55,9 +55,9 @@ as_not_in true lines puts line e h = absurd (false≢true (sym e))
 as_not_in false lines puts line e h = h
 
 -- a raw line was taken and cooked
-pub cooked_raw : (call : ℕ) (v w : View) (held line raw : List ℕ) (took : Bool) → held ≡ [] → took ≡ true → line ≡ cooked raw → TriedTake 64 call v took raw w → CookedRaw call v held true line w
-cooked_raw call v w held line raw took none is cooks tried = record {
-  tried = λ e. (raw, subst (λ (z : Bool). TriedTake 64 call v z raw w) is tried, λ t. cooks);
+pub cooked_raw : (v w : View) (held line raw : List ℕ) (took : Bool) → held ≡ [] → took ≡ true → line ≡ cooked raw → TriedTake 64 v took raw w → CookedRaw v held true line w
+cooked_raw v w held line raw took none is cooks tried = record {
+  tried = λ e. (raw, subst (λ (z : Bool). TriedTake 64 v z raw w) is tried, λ t. cooks);
   else = λ n. absurd (n none);
   kept = λ f. absurd (false≢true (sym f));
 }

@@ -5,7 +5,7 @@ use Rattle.std.specs.List.{AllByRecursion}
 use Rattle.std.proofs.lemmas.List.{length-map, length-take-le}
 use Rattle.table_theory.specs.Positioned.{item_of}
 use Rattle.claim_queue.specs.declared.ends.ClaimQueue.{ClaimQueue}
-use Rattle.proc_chain.specs.declared.rule.View.{View}
+use Rattle.proc_chain.specs.Own.{View, queue_of}
 use Rattle.proc_chain.specs.declared.rule.Pact.{Pact}
 use Rattle.proc_chain.specs.Rules.{suits, makes}
 use Rattle.proc_chain.specs.Closings.{ClosedNow}
@@ -95,9 +95,9 @@ ways_up (None ∷ ways) = ways_up ways
 ways_up (Some way ∷ ways) = (way.outlet.raised, ways_up ways)
 
 ports_up : (x : AnyQuaject) (small : List (Option (Port 64))) (large : List (Option (Port 256))) → anys.PortsOf x (small, large) → AllUp small × AllUp large
-ports_up (any.Cooked tty) small large p = (subst AllUp (sym p.0) (none_put (view_of tty.raw.end).part.runs tty.raw.only, tt), subst AllUp (sym p.1) (tty.line.raised, (tty.screen.raised, tt)))
-ports_up (any.Pump pump) small large p = (subst AllUp (sym p.0) (none_put (view_of pump.source.end).part.runs pump.source.only, (pump.target.raised, tt)), subst AllUp (sym p.1) tt)
-ports_up (any.Switch switch) small large p = (subst AllUp (sym p.0) (none_put (view_of switch.source.end).part.runs switch.source.only, (switch.other.raised, ways_up switch.ways)), subst AllUp (sym p.1) tt)
+ports_up (any.Cooked tty) small large p = (subst AllUp (sym p.0) (none_put (view_of tty.raw.end).own.runs tty.raw.only, tt), subst AllUp (sym p.1) (tty.line.raised, (tty.screen.raised, tt)))
+ports_up (any.Pump pump) small large p = (subst AllUp (sym p.0) (none_put (view_of pump.source.end).own.runs pump.source.only, (pump.target.raised, tt)), subst AllUp (sym p.1) tt)
+ports_up (any.Switch switch) small large p = (subst AllUp (sym p.0) (none_put (view_of switch.source.end).own.runs switch.source.only, (switch.other.raised, ways_up switch.ways)), subst AllUp (sym p.1) tt)
 
 module _ {made : AnyQuaject → List ℕ → Type 0} {fits : AnyQuaject → Type 0} {v : View} {x : AnyQuaject} where
   -- the same, by the number of notes alone
@@ -106,13 +106,13 @@ module _ {made : AnyQuaject → List ℕ → Type 0} {fits : AnyQuaject → Type
       (subst (λ (z : ℕ). ClosedNow made fits v first put z [] x) c.all_taken (subst (λ (z : List (Option ℕ)). ClosedNow made fits v first put taken z x) c.none_left c))
 
   -- as many notes made it as were put
-  pub notes_long : {first put taken : ℕ} {left : List (Option ℕ)} (c : ClosedNow made fits v first put taken left x) → length (notes_of c.queue) ≡ put
-  notes_long {put = put} c = let q = c.queue in
+  pub notes_long : {first put taken : ℕ} {left : List (Option ℕ)} (c : ClosedNow made fits v first put taken left x) → length (notes_of (queue_of v)) ≡ put
+  notes_long {put = put} c = let q = queue_of v in
       let whole : q.taken ≡ length q.places = sym c.taken_is ∙ c.all_taken ∙ c.puts in
       length-map (take q.taken q.places) item_of ∙ length-take-le q.taken q.places (subst (λ (z : ℕ). z ≤ length q.places) (sym whole) (omega arith)) ∙ whole ∙ sym c.puts
 
 pub came_home : (pact : Pact Queues AnyQuaject) (v : View) (first put taken : ℕ) (left : List (Option ℕ)) (x : AnyQuaject) (home : Home) → ClosedNow (makes anys.MadeOf pact) (suits anys.Fits pact) v first put taken left x → IsHome x put (length left) home → CameHome pact first v home
-came_home pact v first put taken left x home c h = let q = c.queue in
+came_home pact v first put taken left x home c h = let q = queue_of v in
     let all : length (notes_of q) ≡ put = notes_long c in
     record {
       quaject = x;

@@ -9,13 +9,14 @@ use Rattle.table_theory.specs.declared.queues.Batch.{Batch}
 use Rattle.table_theory.specs.Listing.{AllRaised}
 use Rattle.table_theory.specs.Positioned.{item_of}
 use Rattle.table_theory.specs.Sharing.{IsWhole}
-use Rattle.table_theory.specs.declared.views.Member.{Member}
+use Rattle.table_theory.specs.declared.views.Part.{Part}
+use Rattle.claim_queue.specs.declared.rule.Did.{Did}
 use Rattle.claim_queue.specs.declared.ends.QueueEnd.{QueueEnd}
-use Rattle.claim_queue.specs.declared.rule.View.{View}
+use Rattle.claim_queue.specs.Own.{View}
 use Rattle.claim_queue.specs.Closings.{ClosedNow, WereOpen, shown}
 use Rattle.claim_queue.specs.Endings.{TookIn}
 use Rattle.claim_queue.specs.Handles.{view_of}
-use Rattle.claim_queue.specs.Lines.{lines_put, lines_taken, IsSettled}
+use Rattle.claim_queue.specs.Lines.{line_of, lines_put, lines_taken, IsSettled}
 use Rattle.quajects.specs.Settled.{views_of, share_of, shuts_of, runs_of, takings_of, HasRaised, HasAll, SettledNow, StillOpen}
 
 -- an end alone has what it has
@@ -45,12 +46,12 @@ pub joined_has : (ends : List View) (v u w : View) → HasAll ends v → TookIn 
 joined_has ends v u w h j l = record {
   puts = more_lines lines_put ends v u w h.puts l.0;
   takes = more_lines lines_taken ends v u w h.takes l.1;
-  share = ap (λ (z : Member). z.share) j.member.same ∙ ap (λ (z : ℕ). z + share_of u) h.share ∙ sym (sum_by_push share_of ends u);
-  shuts = ap shuts_of j.same ∙ ap (λ (z : ℕ). z + shuts_of u) h.shuts ∙ sym (sum_by_push shuts_of ends u);
-  runs = more_lines runs_of ends v u w h.runs (ap runs_of j.same);
-  takings = more_lines takings_of ends v u w h.takings (ap takings_of j.same);
-  raised = λ all. subst AllRaised (sym (ap (λ (z : View). z.part.runs) j.same))
-      (raised_both v.part.runs u.part.runs (h.raised (front_holds HasRaised ends (u ∷ []) all)) (last_holds HasRaised ends u all));
+  share = ap (λ (z : Part). z.share) j.member ∙ ap (λ (z : ℕ). z + share_of u) h.share ∙ sym (sum_by_push share_of ends u);
+  shuts = ap (λ (z : Did). z.shuts) j.own ∙ ap (λ (z : ℕ). z + shuts_of u) h.shuts ∙ sym (sum_by_push shuts_of ends u);
+  runs = more_lines runs_of ends v u w h.runs (ap (λ (z : Did). z.runs) j.own);
+  takings = more_lines takings_of ends v u w h.takings (ap (λ (z : Did). z.takes) j.own);
+  raised = λ all. subst AllRaised (sym (ap (λ (z : Did). z.runs) j.own))
+      (raised_both v.own.runs u.own.runs (h.raised (front_holds HasRaised ends (u ∷ []) all)) (last_holds HasRaised ends u all));
 }
 
 module _ {n : ℕ} where
@@ -63,7 +64,7 @@ module _ {n : ℕ} where
 
 -- the end that had all closed the queue
 pub settled_now : (ends : List View) (w : View) (first put taken : ℕ) (left : List (Option ℕ)) → HasAll ends w → ClosedNow w first put taken left → SettledNow ends first put taken left
-settled_now ends w first put taken left h c = let q = c.queue in let items = map item_of q.places in record {
+settled_now ends w first put taken left h c = let q = w.seen.object in let items = map item_of q.places in record {
   before = w;
   has = h;
   closed = c;
@@ -77,18 +78,18 @@ settled_now ends w first put taken left h c = let q = c.queue in let items = map
 
 -- the end found others
 pub still_open : (ends : List View) (v w : View) (others : ℕ) → HasAll ends v → WereOpen v others w → StillOpen ends others w
-still_open ends v w others h o = let s = o.tallied.same in let share = ap (λ (z : Member). z.share) o.tallied.member.same in record {
+still_open ends v w others h o = let did = o.tallied.made.did in let share = ap (λ (z : Part). z.share) o.tallied.made.member in record {
   before = v;
   had = h;
   found = o;
   has = record {
-    puts = ap lines_put s ∙ h.puts;
-    takes = ap lines_taken s ∙ h.takes;
+    puts = ap (λ (z : Did). map line_of z.runs) did ∙ h.puts;
+    takes = ap (λ (z : Did). map line_of z.takes) did ∙ h.takes;
     share = share ∙ h.share;
-    shuts = ap shuts_of s ∙ h.shuts;
-    runs = ap runs_of s ∙ h.runs;
-    takings = ap takings_of s ∙ h.takings;
-    raised = λ all. subst AllRaised (sym (ap (λ (z : View). z.part.runs) s)) (h.raised all);
+    shuts = ap (λ (z : Did). z.shuts) did ∙ h.shuts;
+    runs = ap (λ (z : Did). z.runs) did ∙ h.runs;
+    takings = ap (λ (z : Did). z.takes) did ∙ h.takings;
+    raised = λ all. subst AllRaised (sym (ap (λ (z : Did). z.runs) did)) (h.raised all);
   };
   some_other = o.some_other;
 }
@@ -96,6 +97,10 @@ still_open ends v w others h o = let s = o.tallied.same in let share = ap (λ (z
 pub if_ok : {A B : Type 0} {P Q : A → Type 0} (r : Result A B) → IfOk r P → ((a : A) → P a → Q a) → IfOk r Q
 if_ok (Ok a) h f = f a h
 if_ok (Err b) h f = tt
+
+pub both_err : {A B : Type 0} (P Q : B → Type 0) (r : Result A B) → IfErr r P → IfErr r Q → IfErr r (λ b. P b × Q b)
+both_err P Q (Ok a) p q = tt
+both_err P Q (Err b) p q = (p, q)
 
 pub if_err : {A B : Type 0} {P Q : B → Type 0} (r : Result A B) → IfErr r P → ((b : B) → P b → Q b) → IfErr r Q
 if_err (Ok a) h f = tt

@@ -1,101 +1,155 @@
 -- A note that is told to a chain, after tries that were lost.
-use Rattle.std.proofs.Common.{◌≡◌, ℕ, List, [], ◌∷◌, ◌++◌, map, refl, ap, subst, ◌∙◌, Ok, Err}
+use Rattle.std.proofs.Common.{◌≡◌, ℕ, ◌+◌, ◌≤◌, false, List, [], ◌∷◌, ◌++◌, map, length, refl, sym, ap, subst, ◌∙◌, Ok, Err}
+use Rattle.std.proofs.Math.Logic.{∥∥₁_elim}
+use native.Mathlib.Nat.{ℕ_set}
+use mathlib.Core.List.{is_set}
+use Rattle.std.specs.List.{AllByRecursion}
 use Rattle.atomic_table.specs.Table.{Me}
-use Rattle.table_theory.specs.declared.queues.Batch.{Batch}
-use Rattle.proc_chain.specs.declared.rule.View.{View}
+use Rattle.table_theory.specs.declared.queues.Positions.{Positions}
+use Rattle.table_theory.specs.declared.views.Moment.{Moment}
+use Rattle.table_theory.specs.declared.views.Part.{Part}
+use Rattle.table_theory.specs.Batches.{IsPast}
+use Rattle.table_theory.specs.Ledgers.{Step, load, Made}
+use Rattle.table_theory.proofs.Parting.{made_none, made_on}
+use Rattle.table_theory.proofs.Reaching.{all_on, passes_since}
+use Rattle.proc_chain.specs.declared.rule.Did.{Did}
+use Rattle.proc_chain.specs.declared.rule.GatedQueue.{GatedQueue}
 use Rattle.proc_chain.specs.declared.chaining.Turn.{Turn}
 use Rattle.proc_chain.specs.declared.chaining.Chained.{Chained}
 use Rattle.proc_chain.specs.declared.chaining.Chained.TheVariants.{Run, Left}
 use Rattle.proc_chain.specs.declared.chaining.ChainRefusal.{ChainRefusal}
 use Rattle.proc_chain.specs.declared.chaining.ChainRefusal.TheVariants.{Spent, Full, Lost}
-use Rattle.proc_chain.specs.Answers.{FoundRoom, WasLost, Linked, IsChained, Refused}
+use Rattle.proc_chain.specs.Own.{View, of_chains, queue_of}
+use Rattle.proc_chain.specs.Rules.{IsTold}
+use Rattle.proc_chain.specs.Shown.{notes_of}
+use Rattle.proc_chain.specs.Answers.{ChainedAt, ChainedNow, NotChained, with_run, with_turn}
 use Rattle.proc_chain.specs.Notes.{line_of, notes_put, alone, PutNote}
 use Rattle.proc_chain.specs.Servings.{AllServed}
-use Rattle.proc_chain.specs.Steps.{Found, Notified}
-use Rattle.quajects.specs.Notings.{LostTries, Noted}
+use Rattle.proc_chain.specs.Turns.{HasOrGave, MadeSince}
+use Rattle.proc_chain.specs.Layout.{head_word, tail_word}
+use Rattle.proc_chain.specs.Links.{LostTry, IsLost, tried, Link, linked, IsLink, Service, served, notes_in, with_service}
+use Rattle.quajects.specs.Notings.{IsRun, IsLeft, Noted}
 
--- the runs of the end and its share stay
-pub record Stays (v w : View) : Type 0 where
-  pub runs : w.part.runs ≡ v.part.runs
-  pub share : w.member.share ≡ v.member.share
+tried_on : (lost more : List LostTry) → tried (lost ++ more) ≡ tried lost ++ tried more
+tried_on [] more = refl
+tried_on (t ∷ lost) more = ap (λ (z : List (Step GatedQueue)). load head_word t.head t.at_head ∷ load tail_word t.tail t.at_tail ∷ load head_word t.found t.at_exchange ∷ z) (tried_on lost more)
 
-stays_on : (u v w : View) → Stays u v → Stays v w → Stays u w
-stays_on u v w a b = record { runs = b.runs ∙ a.runs; share = b.share ∙ a.share }
+-- these tries were lost, and the end did nothing else
+pub record WereLost (v : View) (lost : List LostTry) (w : View) : Type 0 where
+  pub fit : AllByRecursion IsLost lost
+  pub made : Made v (tried lost) v.own w
 
-found_stays : (v w : View) (word found : ℕ) → Found v word found w → Stays v w
-found_stays v w word found f = record { runs = ap (λ (z : View). z.part.runs) f.same; share = ap (λ (z : View). z.member.share) f.same }
+-- none yet
+pub none_lost : (v : View) → WereLost v [] v
+none_lost v = record { fit = tt; made = made_none v }
 
-room_stays : (v w : View) (head : ℕ) → FoundRoom v head w → Stays v w
-room_stays v w head f = stays_on v f.loaded w (found_stays v f.loaded 0 head f.head_loaded) (found_stays f.loaded w 1 f.tail f.tail_loaded)
+-- one lost try more
+pub tries_more : (v u w : View) (lost : List LostTry) (head : ℕ) (e : ChainRefusal) → e ≡ Lost head → WereLost v lost u → NotChained u e w → (more : List LostTry) × WereLost v more w
+tries_more v u w lost head e is l n = let r = subst (λ (z : ChainRefusal). NotChained u z w) is n in
+    let t : LostTry = record { head = r.0; at_head = r.2; tail = r.1; at_tail = r.3; found = head; at_exchange = r.4 } in (
+      lost ++ t ∷ [],
+      record {
+        fit = all_on IsLost lost (t ∷ []) l.fit (((r.5, r.6), r.7), tt);
+        made = subst (λ (z : List (Step GatedQueue)). Made v z v.own w) (sym (tried_on lost (t ∷ [])))
+            (made_on v u w (tried lost) (tried (t ∷ [])) v.own v.own l.made (subst (λ (z : Did). Made u (tried (t ∷ [])) z w) l.made.did r.8));
+      },
+    )
 
-lost_stays : (v w : View) (head : ℕ) → WasLost v head w → Stays v w
-lost_stays v w head l = stays_on v l.before w (room_stays v l.before l.first l.found) (found_stays l.before w 0 head l.missed)
+-- some steps behind lost tries
+behind : (F : Did → Did) (v b w : View) (lost : List LostTry) (entries : List (Step GatedQueue)) → WereLost v lost b → Made b entries (F b.own) w → Made v (tried lost ++ entries) (F v.own) w
+behind F v b w lost entries l m = made_on v b w (tried lost) entries v.own (F v.own) l.made (subst (λ (z : Did). Made b entries (F z) w) l.made.did m)
 
-notified_share : (call : ℕ) (v w : View) (found : ℕ) → Notified call v found w → w.member.share ≡ v.member.share
-notified_share call v w found h = ap (λ (z : View). z.member.share) h.same
+puts_behind : (v b w : View) (lost : List LostTry) (note : ℕ) → WereLost v lost b → notes_put w ≡ notes_put b ++ alone note ∷ [] → notes_put w ≡ notes_put v ++ alone note ∷ []
+puts_behind v b w lost note l e = e ∙ ap (λ (z : Did). map line_of z.runs ++ alone note ∷ []) l.made.did
 
-module _ {Q : Type 0} where
-  tries_stay : (me w : Me Q View) (lost : List ℕ) → LostTries me lost w → Stays me.0 w.0
-  tries_stay me w [] t = record { runs = ap (λ (z : Me Q View). z.0.part.runs) t; share = ap (λ (z : Me Q View). z.0.member.share) t }
-  tries_stay me w (head ∷ heads) t = let u = t.0 in stays_on me.0 u.0 w.0 (lost_stays me.0 u.0 head t.1.0) (tries_stay u w heads t.2)
+share_of : {v w : View} {entries : List (Step GatedQueue)} {own : Did} → Made v entries own w → w.member.share ≡ v.member.share
+share_of m = ap (λ (z : Part). z.share) m.member
 
-  -- one lost try more
-  pub tries_more : (me u w : Me Q View) (lost : List ℕ) (head : ℕ) (e : ChainRefusal) → e ≡ Lost head → LostTries me lost u → Refused u e w → LostTries me (lost ++ head ∷ []) w
-  tries_more me u w [] head e is t r = (w, subst (λ (z : Me Q View). Refused z (Lost head) w) t (subst (λ (z : ChainRefusal). Refused u z w) is r), refl)
-  tries_more me u w (x ∷ xs) head e is t r = (t.0, t.1, tries_more t.0 u w xs head e is t.2 r)
+-- the queue that the end sees is the one at its last step
+at_gate : {A : Type 0} (F : Positions → A) → ((a b : A) → IsProp (a ≡ b)) → (v u : View) (note : ℕ) (l : Link) (own : Did) → ∥ IsTold v ∥₁ → ∥ IsTold u ∥₁ → Made v (linked note l) own u → F (queue_of u) ≡ F l.at_gate.object.queue
+at_gate F prop v u note l own x y m = ∥∥₁_elim x (prop _ _) (λ (a : IsTold v). ∥∥₁_elim y (prop _ _) (λ (b : IsTold u).
+    ap (λ (z : Moment GatedQueue). F z.object.queue) (sym (passes_since of_chains v u (linked note l) a.honest b.honest m.adds).2.2.2.2.2)))
 
-  module _ (made : Q → List ℕ → Type 0) (fits : Q → Type 0) where
-    linked_share : (call : ℕ) (v w : View) (note : ℕ) → Linked call v note w → w.member.share ≡ v.member.share
-    linked_share call v w note l = ap (λ (z : View). z.member.share) l.raised.same ∙ ap (λ (z : View). z.member.share) l.claimed.same ∙ (room_stays v l.before l.head l.found).share
+-- the link of a note that was chained
+link_of : (v w : View) (note gate : ℕ) (then : ℕ → Did → Did) → ChainedAt v note gate then w → (l : Link) × IsLink v.own.runs note l × (l.gate ≡ gate) × Made v (linked note l) (then l.at_gate.object.queue.taken (with_run v.own l.head note)) w
+link_of v w note gate then c = (
+  record { head = c.0; at_head = c.3; tail = c.1; at_tail = c.4; at_claim = c.5; was = c.2; at_raise = c.6; gate = gate; at_gate = c.7 },
+  record { room = (c.8, c.9); past = c.10; place = c.11 },
+  refl,
+  c.12,
+)
 
-    more_notes : (v u w : View) (note : ℕ) → PutNote note v u → w.part.runs ≡ u.part.runs → notes_put w ≡ notes_put v ++ alone note ∷ []
-    more_notes v u w note p runs = ap (map line_of) runs ∙ p.puts
+link_behind : (v b : View) (lost : List LostTry) (note : ℕ) (l : Link) → WereLost v lost b → IsLink b.own.runs note l → IsLink v.own.runs note l
+link_behind v b lost note l t h = record { room = h.room; past = subst (λ (z : Did). IsPast z.runs l.head) t.made.did h.past; place = h.place }
 
-    after_tries : (me b : Me Q View) (lost : List ℕ) (notes : List (List ℕ)) (note : ℕ) → LostTries me lost b → notes ≡ notes_put b.0 ++ alone note ∷ [] → notes ≡ notes_put me.0 ++ alone note ∷ []
-    after_tries me b lost notes note t e = e ∙ ap (λ (z : List Batch). map line_of z ++ alone note ∷ []) (tries_stay me b lost t).runs
+pub is_left : {Q : Type 0} (me b w : Me Q View) (lost : List LostTry) (note : ℕ) (r : Chained) → r ≡ Left → WereLost me.0 lost b.0 → b.1 ≡ me.1 → w.1 ≡ b.1 → ChainedNow b.0 note r w.0 → IsLeft me (tried lost) note w
+is_left me b w lost note r is l same same' chained = let c = subst (λ (z : Chained). ChainedNow b.0 note z w.0) is chained in
+    let k = link_of b.0 w.0 note c.0 (λ taken did. did) c.2 in
+    (k.0, link_behind me.0 b.0 lost note k.0 l k.1, (λ e. c.1 (sym k.2 ∙ e)), behind (λ (d : Did). with_run d k.0.head note) me.0 b.0 w.0 lost (linked note k.0) l k.3, same' ∙ same)
 
-    pub noted_run : (call other third : ℕ) (me b u w : Me Q View) (note ran : ℕ) (turn : Turn) (r : Chained) (lost : List ℕ) → r ≡ Run turn → other ≡ call → LostTries me lost b → IsChained made fits other b note r u → PutNote note b.0 u.0
-        → third ≡ other → AllServed made fits third u ran w → Noted made fits call me note w
-    noted_run call other third me b u w note ran turn r lost is e t chained p same s = let c = subst (λ (z : Chained). IsChained made fits other b note z u) is chained in subst (λ (z : ℕ). Noted made fits z me note w) e (record {
-      lost = lost;
-      before = b;
-      tries = t;
-      answer = Ok (Run turn);
-      told = (u, ran, c, subst (λ (z : ℕ). AllServed made fits z u ran w) same s);
-      puts = after_tries me b lost (notes_put w.0) note t (more_notes b.0 u.0 w.0 note p s.served.runs);
-      share = s.served.share ∙ ap (λ (z : View). z.member.share) c.2.same ∙ linked_share other b.0 c.0 note c.1 ∙ (tries_stay me b lost t).share;
-    })
+module _ {Q : Type 0} (made : Q → List ℕ → Type 0) (fits : Q → Type 0) where
+  pub is_run : (me b u w : Me Q View) (lost : List LostTry) (note ran : ℕ) (turn : Turn) (r : Chained) → r ≡ Run turn → WereLost me.0 lost b.0 → ∥ IsTold b.0 ∥₁ → ∥ IsTold u.0 ∥₁
+      → ChainedNow b.0 note r u.0 → PutNote note b.0 u.0 → MadeSince made fits u.0 w.0 → AllServed u.0 ran w.0 → HasOrGave made fits false w → IsRun made fits me (tried lost) note ran w
+  is_run me b u w lost note ran turn r is l x y c p runs s gave =
+      let k = link_of b.0 u.0 note 0 with_turn (subst (λ (z : Chained). ChainedNow b.0 note z u.0) is c) in
+      let service : Service = record { used_up = s.0; last = s.1; left = s.2 } in let h = s.5 in
+      let here = at_gate notes_of (is_set ℕ_set) b.0 u.0 note k.0 _ x y k.3 in
+      let there = at_gate (λ (z : Positions). z.taken) ℕ_set b.0 u.0 note k.0 _ x y k.3 in
+      let turn_got : Made me.0 (tried lost ++ linked note k.0) (with_turn k.0.at_gate.object.queue.taken (with_run me.0.own k.0.head note)) u.0 = behind (λ (d : Did). with_turn k.0.at_gate.object.queue.taken (with_run d k.0.head note)) me.0 b.0 u.0 lost (linked note k.0) l k.3 in record {
+        link = k.0;
+        linked_is = link_behind me.0 b.0 lost note k.0 l k.1;
+        idle = k.2;
+        service = service;
+        is = record { full = s.3; less = s.4; uses = h.fit };
+        steps = made_on me.0 u.0 w.0 (tried lost ++ linked note k.0) (served service) (with_turn k.0.at_gate.object.queue.taken (with_run me.0.own k.0.head note)) (with_service (with_turn k.0.at_gate.object.queue.taken (with_run me.0.own k.0.head note)) service) turn_got
+            (subst (λ (z : Did). Made u.0 (served service) (with_service z service) w.0) turn_got.did h.made);
+        number = h.number;
+        notes = h.served.notes ∙ ap (λ (z : List ℕ). z ++ notes_in service) here;
+        taken = h.served.taken ∙ ap (λ (z : ℕ). z + length (notes_in service)) there;
+        takes = h.served.takes ∙ ap (λ (z : List (List ℕ)). z ++ map alone (notes_in service)) (p.takes ∙ ap (λ (z : Did). map line_of z.takes) l.made.did);
+        since = λ n from to. runs n (subst (λ (z : ℕ). z ≤ n) (sym there) from) to;
+        gave = gave;
+      }
 
-    pub noted_left : (call other : ℕ) (me b w : Me Q View) (note : ℕ) (r : Chained) (lost : List ℕ) → r ≡ Left → other ≡ call → LostTries me lost b → IsChained made fits other b note r w → PutNote note b.0 w.0 → Noted made fits call me note w
-    noted_left call other me b w note r lost is e t chained p = let c = subst (λ (z : Chained). IsChained made fits other b note z w) is chained in subst (λ (z : ℕ). Noted made fits z me note w) e (record {
-      lost = lost;
-      before = b;
-      tries = t;
-      answer = Ok Left;
-      told = c;
-      puts = after_tries me b lost (notes_put w.0) note t (more_notes b.0 w.0 w.0 note p refl);
-      share = notified_share other c.0 w.0 c.1 c.3 ∙ linked_share other b.0 c.0 note c.2 ∙ (tries_stay me b lost t).share;
-    })
+  pub noted_run : (me b u w : Me Q View) (lost : List LostTry) (note ran : ℕ) (turn : Turn) (r : Chained) → r ≡ Run turn → WereLost me.0 lost b.0 → ∥ IsTold b.0 ∥₁ → ∥ IsTold u.0 ∥₁
+      → ChainedNow b.0 note r u.0 → PutNote note b.0 u.0 → MadeSince made fits u.0 w.0 → AllServed u.0 ran w.0 → HasOrGave made fits false w → Noted made fits me note w
+  noted_run me b u w lost note ran turn r is l x y c p runs s gave = let i = is_run me b u w lost note ran turn r is l x y c p runs s gave in record {
+    lost = lost;
+    tries = l.fit;
+    answer = Ok (Run turn);
+    told = (ran, i);
+    puts = puts_behind me.0 b.0 w.0 lost note l (ap (map line_of) s.5.served.runs ∙ p.puts);
+    share = share_of i.steps;
+  }
 
-    pub noted_spent : (call : ℕ) (me b w : Me Q View) (note : ℕ) (e : ChainRefusal) (lost : List ℕ) → e ≡ Spent → LostTries me lost b → Refused b e w → Noted made fits call me note w
-    noted_spent call me b w note e lost is t refused = let r = subst (λ (z : ChainRefusal). Refused b z w) is refused in let s = tries_stay me b lost t in let f = found_stays b.0 w.0 0 r.0.head r.0.loaded in record {
-      lost = lost;
-      before = b;
-      tries = t;
-      answer = Err Spent;
-      told = r;
-      puts = ap (map line_of) (f.runs ∙ s.runs);
-      share = f.share ∙ s.share;
-    }
+  pub noted_left : (me b w : Me Q View) (lost : List LostTry) (note : ℕ) (r : Chained) → r ≡ Left → WereLost me.0 lost b.0 → b.1 ≡ me.1 → w.1 ≡ b.1 → ChainedNow b.0 note r w.0 → PutNote note b.0 w.0 → Noted made fits me note w
+  noted_left me b w lost note r is l same same' chained p = let i = is_left me b w lost note r is l same same' chained in record {
+    lost = lost;
+    tries = l.fit;
+    answer = Ok Left;
+    told = i;
+    puts = puts_behind me.0 b.0 w.0 lost note l p.puts;
+    share = share_of i.3;
+  }
 
-    pub noted_full : (call : ℕ) (me b w : Me Q View) (note head tail : ℕ) (e : ChainRefusal) (lost : List ℕ) → e ≡ Full head tail → LostTries me lost b → Refused b e w → Noted made fits call me note w
-    noted_full call me b w note head tail e lost is t refused = let r = subst (λ (z : ChainRefusal). Refused b z w) is refused in let s = tries_stay me b lost t in
-        let f = stays_on b.0 r.0.loaded w.0 (found_stays b.0 r.0.loaded 0 head r.0.head_loaded) (found_stays r.0.loaded w.0 1 tail r.0.tail_loaded) in record {
-          lost = lost;
-          before = b;
-          tries = t;
-          answer = Err (Full head tail);
-          told = r;
-          puts = ap (map line_of) (f.runs ∙ s.runs);
-          share = f.share ∙ s.share;
-        }
+  pub noted_spent : (me b w : Me Q View) (lost : List LostTry) (note : ℕ) (e : ChainRefusal) → e ≡ Spent → WereLost me.0 lost b.0 → b.1 ≡ me.1 → w.1 ≡ b.1 → NotChained b.0 e w.0 → Noted made fits me note w
+  noted_spent me b w lost note e is l same same' refused = let r = subst (λ (z : ChainRefusal). NotChained b.0 z w.0) is refused in
+      let m = behind (λ d. d) me.0 b.0 w.0 lost _ l r.3 in record {
+        lost = lost;
+        tries = l.fit;
+        answer = Err Spent;
+        told = (r.0, r.1, r.2, m, same' ∙ same);
+        puts = ap (λ (z : Did). map line_of z.runs) m.did;
+        share = share_of m;
+      }
+
+  pub noted_full : (me b w : Me Q View) (lost : List LostTry) (note head tail : ℕ) (e : ChainRefusal) → e ≡ Full head tail → WereLost me.0 lost b.0 → b.1 ≡ me.1 → w.1 ≡ b.1 → NotChained b.0 e w.0 → Noted made fits me note w
+  noted_full me b w lost note head tail e is l same same' refused = let r = subst (λ (z : ChainRefusal). NotChained b.0 z w.0) is refused in
+      let m = behind (λ d. d) me.0 b.0 w.0 lost _ l r.4 in record {
+        lost = lost;
+        tries = l.fit;
+        answer = Err (Full head tail);
+        told = (r.0, r.1, (r.2, r.3), m, same' ∙ same);
+        puts = ap (λ (z : Did). map line_of z.runs) m.did;
+        share = share_of m;
+      }

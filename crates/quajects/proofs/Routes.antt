@@ -5,7 +5,7 @@ use Rattle.std.specs.List.{slice_get, filter, All, AllZip}
 use Rattle.std.proofs.lemmas.List.{append-nil}
 use native.Mathlib.Decide.{dec_le}
 use Rattle.std.proofs.lemmas.Bool.{ne_eqb}
-use Rattle.claim_queue.specs.Handles.{view_of, call_of}
+use Rattle.claim_queue.specs.Handles.{view_of}
 use Rattle.claim_queue.specs.Lines.{lines_put}
 use Rattle.claim_queue.specs.declared.ends.ClaimQueue.{ClaimQueue}
 use Rattle.claim_queue.specs.declared.ends.QueueEnd.{QueueEnd}
@@ -141,11 +141,23 @@ none_true [] line h = refl
 none_true (None ∷ keys) line h = none_true keys line (λ i key e. h (suc i) key e)
 none_true (Some u ∷ keys) line h = not_key u line (begins_none keys line) (h 0 u refl) (none_true keys line (λ i key e. h (suc i) key e))
 
+none_got : {B : Type 0} (b : B) → None ≡ Some b → ⊥
+none_got b e = cc
+
+same_got : {B : Type 0} (a b : B) → Some a ≡ Some b → a ≡ b
+same_got a b e = cc
+
+get_back : {A B : Type 0} (f : A → B) (l : List A) (i : ℕ) (b : B) → slice_get (map f l) i ≡ Some b → (a : A) × (slice_get l i ≡ Some a) × (f a ≡ b)
+get_back f [] i b e = absurd (none_got b e)
+get_back f (a ∷ l) zero b e = (a, refl, same_got (f a) b e)
+get_back f (a ∷ l) (suc i) b e = get_back f l i b e
+
+way_back : (w : Option Way) (key : ℕ) → key_of w ≡ Some key → (way : Way) × (w ≡ Some way) × (way.key ≡ key)
+way_back None key e = absurd (none_got key e)
+way_back (Some u) key e = (u, refl, same_got u.key key e)
+
 key_back : (ways : List (Option Way)) (i key : ℕ) → slice_get (map key_of ways) i ≡ Some (Some key) → (way : Way) × (slice_get ways i ≡ Some (Some way)) × (way.key ≡ key)
-key_back [] i key e = cc
-key_back (None ∷ ways) zero key e = cc
-key_back (Some u ∷ ways) zero key e = (u, refl, cc)
-key_back (w ∷ ways) (suc i) key e = key_back ways i key e
+key_back ways i key e = let g = get_back key_of ways i (Some key) e in let w = way_back g.0 key g.2 in (w.0, g.1 ∙ ap Some w.1, w.2)
 
 pub each_other : (ways : List (Option Way)) (taken : List (List ℕ)) (held held' : List ℕ) → ((i : ℕ) (way : Way) → slice_get ways i ≡ Some (Some way) → slice_index held 0 ≢ way.key) → held' ≡ []
     → RoutesEach ways taken held → RoutesEach ways taken held'
@@ -162,7 +174,7 @@ fit_after queues ways i way outlet fit at j v e = ⊎_elim
     (λ t. fit j v t.1) (set_get ways i j (Some (changed way outlet)) (Some v) e)
 
 tried_way : (ways : List (Option Way)) (i : ℕ) (known way : Way) (outlet : Outlet 64) (d : Option Way) (line : List ℕ) (put : Bool) → slice_get ways i ≡ Some (Some known) → slice_index line 0 ≡ known.key → slice_index_or ways i d ≡ Some way
-    → post_of outlet.index outlet.end ≡ post_of way.outlet.index way.outlet.end → TriedPut 64 (call_of way.outlet.end) (view_of way.outlet.end) put line (view_of outlet.end) → TriedWay ways line put (after ways i way outlet)
+    → post_of outlet.index outlet.end ≡ post_of way.outlet.index way.outlet.end → TriedPut 64 (view_of way.outlet.end) put line (view_of outlet.end) → TriedWay ways line put (after ways i way outlet)
 tried_way ways i known way outlet d line put at key is same tried = let e : known ≡ way = way_read ways i known way d at is in record {
   number = i;
   way = way;
@@ -178,10 +190,10 @@ pub fits_way : (queues : List (ClaimQueue 64)) (ways : List (Option Way)) (i : �
 fits_way queues ways i known way d fit at is = fit i way (at ∙ ap (λ (z : Way). Some (Some z)) (way_read ways i known way d at is))
 
 pub tried_as : (ways : List (Option Way)) (i : ℕ) (known way : Way) (outlet : Outlet 64) (d : Option Way) (line line' : List ℕ) (put put' : Bool) → slice_get ways i ≡ Some (Some known) → slice_index line 0 ≡ known.key → slice_index_or ways i d ≡ Some way
-    → line' ≡ line → put' ≡ put → post_of outlet.index outlet.end ≡ post_of way.outlet.index way.outlet.end → TriedPut 64 (call_of way.outlet.end) (view_of way.outlet.end) put' line' (view_of outlet.end) → TriedWay ways line put (after ways i way outlet)
+    → line' ≡ line → put' ≡ put → post_of outlet.index outlet.end ≡ post_of way.outlet.index way.outlet.end → TriedPut 64 (view_of way.outlet.end) put' line' (view_of outlet.end) → TriedWay ways line put (after ways i way outlet)
 tried_as ways i known way outlet d line line' put put' at key is el ep same tried = tried_way ways i known way outlet d line put at key is same
-    (subst (λ (z : List ℕ). TriedPut 64 (call_of way.outlet.end) (view_of way.outlet.end) put z (view_of outlet.end)) el
-    (subst (λ (z : Bool). TriedPut 64 (call_of way.outlet.end) (view_of way.outlet.end) z line' (view_of outlet.end)) ep tried))
+    (subst (λ (z : List ℕ). TriedPut 64 (view_of way.outlet.end) put z (view_of outlet.end)) el
+    (subst (λ (z : Bool). TriedPut 64 (view_of way.outlet.end) z line' (view_of outlet.end)) ep tried))
 
 -- nothing was taken, so nothing goes anywhere
 none_routed : (p : List ℕ → Bool) (taken puts : List (List ℕ)) (held : List ℕ) → taken ≡ [] → puts ≡ [] → held ≡ [] → Routed p taken held puts

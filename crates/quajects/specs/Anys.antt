@@ -86,8 +86,8 @@ RanAny (any.Pump old) (any.Pump new) answer = pumps.RanPump old new answer
 RanAny (any.Switch old) (any.Switch new) answer = switches.RanSwitch old new answer
 RanAny _ _ answer = ⊥
 
--- Runs of these notes, in order, made it of the first: its numbers and its ends changed by the tries of these runs and by
--- nothing else
+-- Runs of these notes, in order, made it of the first: its numbers and its ends changed by the tries of these runs and
+-- by nothing else
 abbrev pub MadeOf : AnyQuaject → AnyQuaject → List ℕ → Type 0
 MadeOf = MadeBy SameEnds HasRun RanAny
 

@@ -6,7 +6,7 @@ use Rattle.quajects.specs.declared.home.Home.{Home}
 use Rattle.quajects.specs.declared.came.Came.{Came}
 use Rattle.quajects.specs.Anys.{PortsOf, PostsOf, IsKept, MadeOf, Fits, notes_of, all_taken, all_puts}
 use Rattle.quajects.specs.Anys.{held_of, KeepsSides}
-use Rattle.proc_chain.specs.declared.rule.View.{View}
+use Rattle.proc_chain.specs.Own.{View}
 use Rattle.proc_chain.specs.declared.rule.Pact.{Pact}
 use Rattle.proc_chain.specs.Rules.{suits, makes}
 use Rattle.proc_chain.specs.Closings.{ClosedNow}
@@ -23,9 +23,9 @@ pub record IsHome (quaject : AnyQuaject) (chained left : ℕ) (home : Home) : Ty
   pub put : home.put ≡ counted (all_puts quaject)
   pub held : home.held ≡ length (held_of quaject)
 
--- These are the ends and the numbers of a quaject that has kept its law and its sides, and came of the one that was given
--- to the chain by runs of notes alone. Its ends are that one's, each in its place, each one of the queue that it names,
--- with all raised that it claimed and as many shuts as it had; and as many notes were run as were chained
+-- These are the ends and the numbers of a quaject that has kept its law and its sides, and came of the one that was
+-- given to the chain by runs of notes alone. Its ends are that one's, each in its place, each one of the queue that it
+-- names, with all raised that it claimed and as many shuts as it had; and as many notes were run as were chained
 pub record CameHome (pact : Pact Queues AnyQuaject) (first : ℕ) (v : View) (home : Home) : Type 0 where
   pub quaject : AnyQuaject
   pub closed : ClosedNow (makes MadeOf pact) (suits Fits pact) v first home.chained home.chained [] quaject

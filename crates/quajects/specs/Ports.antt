@@ -5,7 +5,7 @@ use Rattle.atomic_table.specs.Seated.{TableId}
 use Rattle.table_theory.specs.Listing.{AllRaised}
 use Rattle.claim_queue.specs.declared.ends.ClaimQueue.{ClaimQueue}
 use Rattle.claim_queue.specs.declared.ends.QueueEnd.{QueueEnd}
-use Rattle.claim_queue.specs.declared.rule.View.{View}
+use Rattle.claim_queue.specs.Own.{View}
 use Rattle.claim_queue.specs.Handles.{view_of, call_of, IsEndOf}
 use Rattle.quajects.specs.declared.ports.Port.{Port}
 
@@ -16,7 +16,7 @@ pub record IsEndAt {n : ℕ} (queues : List (ClaimQueue n)) (index : ℕ) (end :
 
 -- the end has claimed nothing and taken nothing
 abbrev pub IsUnused : View → Type 0
-IsUnused v = (v.part.runs ≡ []) × (v.part.takes ≡ [])
+IsUnused v = (v.own.runs ≡ []) × (v.own.takes ≡ [])
 
 -- the end with the index of its queue
 abbrev pub port : {n : ℕ} → ℕ → QueueEnd n → Port n
@@ -37,7 +37,7 @@ post_of index end = record {
   table = end.seat.table_id;
   call = call_of end;
   share = (view_of end).member.share;
-  shuts = (view_of end).shuts;
+  shuts = (view_of end).own.shuts;
 }
 
 abbrev pub post_at : {n : ℕ} → Option (Port n) → Option Post
@@ -60,4 +60,4 @@ AllFit queues (Some port ∷ ports) = IsEndAt queues port.index port.end × AllF
 abbrev pub AllUp : {n : ℕ} → List (Option (Port n)) → Type 0
 AllUp [] = Unit {0}
 AllUp (None ∷ ports) = AllUp ports
-AllUp (Some port ∷ ports) = AllRaised (view_of port.end).part.runs × AllUp ports
+AllUp (Some port ∷ ports) = AllRaised (view_of port.end).own.runs × AllUp ports

@@ -1,7 +1,7 @@
 -- A pump: what a caller sees of it, and what it does for a note.
 use Rattle.std.specs.Prelude.{◌≡◌, ℕ, ◌+◌, ◌||◌, ◌%◌, ◌^◌, Bool, List, [], ◌++◌, length, if◌then◌else◌}
 use Rattle.claim_queue.specs.declared.ends.QueueEnd.{QueueEnd}
-use Rattle.claim_queue.specs.Handles.{view_of, call_of}
+use Rattle.claim_queue.specs.Handles.{view_of}
 use Rattle.claim_queue.specs.Lines.{lines_put, lines_taken}
 use Rattle.proc_chain.specs.declared.quaject.Ran.{Ran}
 use Rattle.proc_chain.specs.declared.quaject.Ran.TheVariants.{Worked, Nothing}
@@ -79,9 +79,9 @@ pub record RanPump (old new : Pump) (answer : Ran) : Type 0 where
   pub line : List ℕ
   pub took : Bool
   pub put : Bool
-  pub refilled : Refilled 64 (call_of (source_of old)) (view_of (source_of old)) (held_of old) took line
+  pub refilled : Refilled 64 (view_of (source_of old)) (held_of old) took line
       (view_of (source_of new))
-  pub flushed : Flushed 64 (call_of (target_of old)) (view_of (target_of old)) line put (held_of new)
+  pub flushed : Flushed 64 (view_of (target_of old)) line put (held_of new)
       (view_of (target_of new))
   pub answered : answer ≡ (if took || put then Worked else Nothing)
   pub noted : notes_of new ≡ (notes_of old + 1) % 2 ^ 64

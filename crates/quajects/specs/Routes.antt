@@ -4,7 +4,7 @@ use Rattle.std.specs.Prelude.{map, slice_index, slice_set}
 use Rattle.std.specs.List.{slice_get, filter}
 use Rattle.claim_queue.specs.declared.ends.ClaimQueue.{ClaimQueue}
 use Rattle.claim_queue.specs.declared.ends.QueueEnd.{QueueEnd}
-use Rattle.claim_queue.specs.Handles.{view_of, call_of}
+use Rattle.claim_queue.specs.Handles.{view_of}
 use Rattle.claim_queue.specs.Lines.{lines_put, lines_taken}
 use Rattle.quajects.specs.declared.ports.Outlet.{Outlet}
 use Rattle.quajects.specs.declared.ports.Port.{Port}
@@ -126,7 +126,7 @@ pub record TriedWay (old : List (Option Way)) (line : List ℕ) (put : Bool) (ne
   pub outlet : Outlet 64
   pub now : new ≡ slice_set old number (Some (record { key = way.key; outlet = outlet }))
   pub same : post_of outlet.index outlet.end ≡ post_of way.outlet.index way.outlet.end
-  pub tried : TriedPut 64 (call_of way.outlet.end) (view_of way.outlet.end) put line (view_of outlet.end)
+  pub tried : TriedPut 64 (view_of way.outlet.end) put line (view_of outlet.end)
 
 -- The line that is held was tried at the target that its first item chooses, and at no other; it is held on where that
 -- was refused. With nothing held no target was tried
@@ -134,7 +134,7 @@ pub record Switched (ways : List (Option Way)) (other : Outlet 64) (line : List 
     (new_ways : List (Option Way)) (new_other : Outlet 64) : Type 0 where
   pub none : line ≡ [] → (put ≡ false) × (new_ways ≡ ways) × (new_other ≡ other)
   pub else : line ≢ [] → IsNoKey ways (slice_index line 0) → (new_ways ≡ ways)
-      × TriedPut 64 (call_of other.end) (view_of other.end) put line (view_of new_other.end)
+      × TriedPut 64 (view_of other.end) put line (view_of new_other.end)
   pub way : line ≢ [] → (IsNoKey ways (slice_index line 0) → ⊥) → (new_other ≡ other)
       × TriedWay ways line put new_ways
   pub done : put ≡ true → held ≡ []

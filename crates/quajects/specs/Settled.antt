@@ -2,7 +2,7 @@
 use Rattle.std.specs.Prelude.{◌≡◌, ◌-◌, ◌<◌, ℕ, List, ◌∷◌, map, drop, length, Option, Some}
 use Rattle.std.specs.List.{All, flat_map, sum_by}
 use Rattle.claim_queue.specs.declared.ends.QueueEnd.{QueueEnd}
-use Rattle.claim_queue.specs.declared.rule.View.{View}
+use Rattle.claim_queue.specs.Own.{View}
 use Rattle.claim_queue.specs.Handles.{view_of}
 use Rattle.claim_queue.specs.Lines.{lines_put, lines_taken, IsSettled}
 use Rattle.table_theory.specs.declared.queues.Batch.{Batch}
@@ -19,21 +19,21 @@ share_of v = v.member.share
 
 -- how often the end shut the queue
 abbrev pub shuts_of : View → ℕ
-shuts_of v = v.shuts
+shuts_of v = v.own.shuts
 
 -- the end has raised all that it claimed
 abbrev pub HasRaised : View → Type 0
-HasRaised v = AllRaised v.part.runs
+HasRaised v = AllRaised v.own.runs
 
 -- what the end claimed, and what it took, with their positions
 abbrev pub runs_of : View → List Batch
-runs_of v = v.part.runs
+runs_of v = v.own.runs
 
 abbrev pub takings_of : View → List Batch
-takings_of v = v.part.takes
+takings_of v = v.own.takes
 
--- The end has the lines of all these ends, end by end, and their shares; it shut the queue as often as they all did; and
--- it has raised all that it claimed where each of them has
+-- The end has the lines of all these ends, end by end, and their shares; it shut the queue as often as they all did;
+-- and it has raised all that it claimed where each of them has
 pub record HasAll (ends : List View) (w : View) : Type 0 where
   pub puts : lines_put w ≡ flat_map lines_put ends
   pub takes : lines_taken w ≡ flat_map lines_taken ends

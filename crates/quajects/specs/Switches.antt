@@ -2,7 +2,7 @@
 use Rattle.std.specs.Prelude.{◌≡◌, ℕ, ◌+◌, ◌||◌, ◌%◌, ◌^◌, Bool, List, [], ◌++◌, map, length, Option, if◌then◌else◌}
 use Rattle.std.specs.List.{flat_map, AllByRecursion}
 use Rattle.claim_queue.specs.declared.ends.QueueEnd.{QueueEnd}
-use Rattle.claim_queue.specs.Handles.{view_of, call_of}
+use Rattle.claim_queue.specs.Handles.{view_of}
 use Rattle.claim_queue.specs.Lines.{lines_put, lines_taken}
 use Rattle.proc_chain.specs.declared.quaject.Ran.{Ran}
 use Rattle.proc_chain.specs.declared.quaject.Ran.TheVariants.{Worked, Nothing}
@@ -109,7 +109,7 @@ pub record RanSwitch (old new : Switch) (answer : Ran) : Type 0 where
   pub line : List ℕ
   pub took : Bool
   pub put : Bool
-  pub refilled : Refilled 64 (call_of (source_of old)) (view_of (source_of old)) (held_of old) took line
+  pub refilled : Refilled 64 (view_of (source_of old)) (held_of old) took line
       (view_of (source_of new))
   pub switched : Switched old.ways old.other line put (held_of new) new.ways new.other
   pub answered : answer ≡ (if took || put then Worked else Nothing)

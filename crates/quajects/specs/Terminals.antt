@@ -2,7 +2,7 @@
 use Rattle.std.specs.Prelude.{◌≡◌, ◌≢◌, ℕ, ◌+◌, ◌||◌, ◌%◌, ◌^◌, Bool, true, List, [], ◌++◌, map, length}
 use Rattle.std.specs.Prelude.{if◌then◌else◌}
 use Rattle.claim_queue.specs.declared.ends.QueueEnd.{QueueEnd}
-use Rattle.claim_queue.specs.Handles.{view_of, call_of}
+use Rattle.claim_queue.specs.Handles.{view_of}
 use Rattle.claim_queue.specs.Lines.{lines_put, lines_taken}
 use Rattle.proc_chain.specs.declared.quaject.Ran.{Ran}
 use Rattle.proc_chain.specs.declared.quaject.Ran.TheVariants.{Worked, Nothing}
@@ -110,11 +110,11 @@ pub record RanCooked (old new : CookedTty) (answer : Ran) : Type 0 where
   pub took : Bool
   pub put_line : Bool
   pub put_screen : Bool
-  pub refilled : CookedRaw (call_of (raw_of old)) (view_of (raw_of old)) (held_of old) took line
+  pub refilled : CookedRaw (view_of (raw_of old)) (held_of old) took line
       (view_of (raw_of new))
-  pub flushed : TriedLine (call_of (line_of old)) (view_of (line_of old)) line (is_in_line old) put_line in_line
+  pub flushed : TriedLine (view_of (line_of old)) line (is_in_line old) put_line in_line
       (view_of (line_of new))
-  pub screened : TriedScreen (call_of (screen_of old)) (view_of (screen_of old)) line in_line put_screen (held_of new)
+  pub screened : TriedScreen (view_of (screen_of old)) line in_line put_screen (held_of new)
       (is_in_line new) (view_of (screen_of new))
   pub answered : answer ≡ (if took || put_line || put_screen then Worked else Nothing)
   pub noted : notes_of new ≡ (notes_of old + 1) % 2 ^ 64

@@ -11,8 +11,8 @@ use proc_chain::{ChainEnd, OpenEnds, ProcChain};
 use std::snapshot::Snapshot;
 
 /// What comes home from a chain: the quaject's ends with the indexes of their queues, in the order of its `new`, and
-/// its numbers. `chained` notes were put in the chain, `left` of them were not run. Only `retire` makes one, nobody changes
-/// it, and it comes apart by one call alone.
+/// its numbers. `chained` notes were put in the chain, `left` of them were not run. Only `retire` makes one, nobody
+/// changes it, and it comes apart by one call alone.
 #[derive(Drop)]
 pub struct Home {
     small: [Option<Port<64>>; 6],
@@ -87,10 +87,10 @@ fn home_of(quaject: AnyQuaject, chained: u32, left: usize) -> Home
 pub fn retire(chain: Chain, end: End) -> Result<Home, (Chain, End, OpenEnds)>
     requires ends { IsEndOf chain end }
     requires turn { turn_of end ≡ false }
+    ensures only { IsOnlyEnd end → MatchResult result (λ home. Unit {0}) (λ e. ⊥) }
     ensures home { IfOk result (λ home. CameHome (pact_of chain) (first_of chain) (view_of end) home) }
     ensures open { IfErr result (λ e. (e.0 ≡ chain) × IsEndOf chain e.1 × IsSameEnd end e.1 × (turn_of e.1 ≡ false)
         × WereOpen (view_of end) e.2.others (view_of e.1)) }
-    ensures only { IsOnlyEnd end → MatchResult result (λ home. Unit {0}) (λ e. ⊥) }
 {
     let closed = chain.close(end)?;
     Ok(home_of(closed.quaject, closed.put, closed.left.len()))

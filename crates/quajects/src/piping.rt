@@ -1,6 +1,6 @@
 //! The pump (Massalin 1992).
 ghost use Rattle.std.specs.Prelude.{◌≡◌, ℕ, List, [], ◌++◌, ◌∷◌, length};
-ghost use Rattle.claim_queue.specs.Handles.{view_of, call_of};
+ghost use Rattle.claim_queue.specs.Handles.{view_of};
 ghost use Rattle.claim_queue.specs.Lines.{lines_put, lines_taken};
 ghost use Rattle.quajects.specs.Lines.{held_line, counted};
 ghost use Rattle.quajects.specs.Ports.{IsEndAt, IsUnused, post_of};
@@ -95,7 +95,7 @@ impl Pump {
         ensures at { IsEndAt queues.now self.new.source.index self.new.source.end }
         ensures same { post_of self.new.source.index self.new.source.end
             ≡ post_of self.old.source.index self.old.source.end }
-        ensures tried { Refilled 64 (call_of self.old.source.end) (view_of self.old.source.end) self.old.held.items
+        ensures tried { Refilled 64 (view_of self.old.source.end) self.old.held.items
             result self.new.held.items (view_of self.new.source.end) }
     {
         self.held.is_empty() && self.source.try_line(queues, &mut self.held)
@@ -108,7 +108,7 @@ impl Pump {
         ensures at { IsEndAt queues.now self.new.target.index self.new.target.end }
         ensures same { post_of self.new.target.index self.new.target.end
             ≡ post_of self.old.target.index self.old.target.end }
-        ensures tried { Flushed 64 (call_of self.old.target.end) (view_of self.old.target.end) self.old.held.items
+        ensures tried { Flushed 64 (view_of self.old.target.end) self.old.held.items
             result self.new.held.items (view_of self.new.target.end) }
     {
         if self.held.is_empty() || !self.target.try_line(queues, self.held.as_slice()) {

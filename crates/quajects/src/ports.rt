@@ -3,7 +3,7 @@ ghost use Rattle.std.specs.Prelude.{◌≡◌, [], ◌++◌, ◌∷◌, if◌the
 ghost use Rattle.table_theory.specs.Listing.{AllRaised};
 ghost use Rattle.claim_queue.specs.Claims.{KeepsClaims};
 ghost use Rattle.claim_queue.specs.Endings.{TookIn};
-ghost use Rattle.claim_queue.specs.Handles.{view_of, call_of, IsEndOf, IsSameEnd};
+ghost use Rattle.claim_queue.specs.Handles.{view_of, IsEndOf, IsSameEnd};
 ghost use Rattle.claim_queue.specs.Lines.{lines_put, lines_taken};
 ghost use Rattle.quajects.specs.Lines.{held_line, counted};
 ghost use Rattle.quajects.specs.Ports.{IsEndAt, IsUnused, port, post_of};
@@ -12,8 +12,8 @@ ghost use Rattle.quajects.specs.Tries.{TriedTake, TriedPut};
 use arrayvec::ArrayVec;
 use claim_queue::{ClaimQueue, QueueEnd};
 
-/// An end of a queue that came out of a quaject, and the index of that queue. Outside of this crate nobody makes one, and
-/// nobody gets its end: all that is done with it is to join it to another end.
+/// An end of a queue that came out of a quaject, and the index of that queue. Outside of this crate nobody makes one,
+/// and nobody gets its end: all that is done with it is to join it to another end.
 #[derive(Drop)]
 pub struct Port<const N: usize> {
     index: usize,
@@ -38,7 +38,7 @@ pub struct Outlet<const N: usize> {
     pub(crate) put: u64,
     ghost number: { put ≡ counted (lines_put (view_of end)) },
     ghost only: { lines_taken (view_of end) ≡ [] },
-    ghost raised: { AllRaised (view_of end).part.runs },
+    ghost raised: { AllRaised (view_of end).own.runs },
 }
 
 impl<const N: usize> Port<N> {
@@ -49,18 +49,19 @@ impl<const N: usize> Port<N> {
         self.index
     }
 
-    /// Joins its end to this one, which then has all that both had: their claims, what they took, and their parts of the
-    /// queue.
+    /// Joins its end to this one, which then has all that both had: their claims, what they took, and their parts of
+    /// the queue.
     ///
     /// Conditions: both are ends of this queue.
     pub fn join_into(self, queue: &ClaimQueue<N>, end: &mut QueueEnd<N>)
         requires { IsEndOf queue.now end.old × IsEndOf queue.now self.end }
-        ensures queue { IsSameEnd end.old end.new }
+        ensures lines { (lines_put (view_of end.new) ≡ lines_put (view_of end.old)
+            ++ lines_put (view_of self.entry.end))
+            × (lines_taken (view_of end.new) ≡ lines_taken (view_of end.old) ++ lines_taken (view_of self.entry.end)) }
         ensures joined { TookIn (view_of end.old) (view_of self.entry.end) (view_of end.new) }
         ensures claims { KeepsClaims (view_of end.old) (view_of end.new)
             × KeepsClaims (view_of self.entry.end) (view_of end.new) }
-        ensures lines { (lines_put (view_of end.new) ≡ lines_put (view_of end.old) ++ lines_put (view_of self.entry.end))
-            × (lines_taken (view_of end.new) ≡ lines_taken (view_of end.old) ++ lines_taken (view_of self.entry.end)) }
+        ensures queue { IsSameEnd end.old end.new }
     {
         queue.join(end, self.end);
     }
@@ -99,7 +100,7 @@ impl<const N: usize> Intake<N> {
         requires empty { line.old.items ≡ [] }
         ensures at { IsEndAt queues.now self.new.index self.new.end }
         ensures same { post_of self.new.index self.new.end ≡ post_of self.old.index self.old.end }
-        ensures tried { TriedTake N (call_of self.old.end) (view_of self.old.end) result line.new.items
+        ensures tried { TriedTake N (view_of self.old.end) result line.new.items
             (view_of self.new.end) }
         ensures lines { lines_taken (view_of self.new.end) ≡ lines_taken (view_of self.old.end)
             ++ held_line line.new.items }
@@ -139,7 +140,7 @@ impl<const N: usize> Outlet<N> {
         requires at { IsEndAt queues.now self.old.index self.old.end }
         ensures at { IsEndAt queues.now self.new.index self.new.end }
         ensures same { post_of self.new.index self.new.end ≡ post_of self.old.index self.old.end }
-        ensures tried { TriedPut N (call_of self.old.end) (view_of self.old.end) result line.now
+        ensures tried { TriedPut N (view_of self.old.end) result line.now
             (view_of self.new.end) }
         ensures lines { lines_put (view_of self.new.end) ≡ (if result then lines_put (view_of self.old.end)
             ++ line.now ∷ [] else lines_put (view_of self.old.end)) }

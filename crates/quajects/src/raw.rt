@@ -3,7 +3,7 @@ ghost use Rattle.std.specs.Prelude.{◌≡◌, ◌+◌, ◌%◌, ◌^◌, false,
 ghost use Rattle.table_theory.specs.Listing.{AllRaised};
 ghost use Rattle.claim_queue.specs.Handles as claims;
 ghost use Rattle.claim_queue.specs.Lines.{lines_taken, PutLine, SameLines};
-ghost use Rattle.proc_chain.specs.Handles.{turn_of, world_of, pact_of, me_of, call_of, IsEndOf, IsSameEnd};
+ghost use Rattle.proc_chain.specs.Handles.{turn_of, world_of, pact_of, me_of, IsEndOf, IsSameEnd};
 ghost use Rattle.quajects.specs.Anys.{MadeOf, Fits};
 ghost use Rattle.proc_chain.specs.Rules.{suits, makes};
 ghost use Rattle.quajects.specs.Notings.{Noted};
@@ -26,7 +26,7 @@ pub struct RawTty {
     chain: ChainEnd<AnyQuaject>,
     overruns: u64,
     ghost only: { lines_taken (claims.view_of end) ≡ [] },
-    ghost raised: { AllRaised (claims.view_of end).part.runs },
+    ghost raised: { AllRaised (claims.view_of end).own.runs },
     ghost idle: { turn_of chain ≡ false },
 }
 
@@ -43,7 +43,7 @@ fn tell<R: Wait>(
     requires world { world_of chain.now ≡ queues.now }
     ensures end { IsEndOf chain.now end.new × IsSameEnd end.old end.new }
     ensures idle { turn_of end.new ≡ false }
-    ensures noted { Noted (makes MadeOf (pact_of chain.now)) (suits Fits (pact_of chain.now)) (call_of end.old)
+    ensures noted { Noted (makes MadeOf (pact_of chain.now)) (suits Fits (pact_of chain.now))
         (me_of end.old) note (me_of end.new) }
 {
     for _ in rt.forever() {
@@ -111,18 +111,18 @@ impl RawTty {
         requires fits { IsEndAt queues.now.small.items self.old.index (end_of self.old) }
         requires chain { IsEndOf chain.now self.old.chain }
         requires world { world_of chain.now ≡ queues.now }
-        ensures fits { (self.new.index ≡ self.old.index) × claims.IsSameEnd (end_of self.old) (end_of self.new)
-            × IsEndAt queues.now.small.items self.new.index (end_of self.new) }
-        ensures chain { IsEndOf chain.now self.new.chain × IsSameEnd self.old.chain self.new.chain }
-        ensures put { PutByte (claims.call_of (end_of self.old)) (claims.view_of (end_of self.old)) byte result
-            (claims.view_of (end_of self.new)) }
         ensures lines { MatchBool result
             (PutLine (byte ∷ []) (claims.view_of (end_of self.old)) (claims.view_of (end_of self.new)))
             (SameLines (claims.view_of (end_of self.old)) (claims.view_of (end_of self.new))) }
         ensures overruns { overruns_of self.new ≡ (if result then overruns_of self.old else
             (overruns_of self.old + 1) % 2 ^ 64) }
-        ensures noted { Noted (makes MadeOf (pact_of chain.now)) (suits Fits (pact_of chain.now)) (call_of self.old.chain)
+        ensures put { PutByte (claims.view_of (end_of self.old)) byte result
+            (claims.view_of (end_of self.new)) }
+        ensures noted { Noted (makes MadeOf (pact_of chain.now)) (suits Fits (pact_of chain.now))
             (me_of self.old.chain) 0 (me_of self.new.chain) }
+        ensures chain { IsEndOf chain.now self.new.chain × IsSameEnd self.old.chain self.new.chain }
+        ensures fits { (self.new.index ≡ self.old.index) × claims.IsSameEnd (end_of self.old) (end_of self.new)
+            × IsEndAt queues.now.small.items self.new.index (end_of self.new) }
     {
         let item = [byte as u64];
         let queue = &queues.small[self.index];

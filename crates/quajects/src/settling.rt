@@ -30,12 +30,12 @@ pub fn settle<const N: usize>(
 ) -> Result<Closed<N>, (ClaimQueue<N>, QueueEnd<N>, OpenEnds)>
     requires end { IsEndOf queue end }
     requires others { All (IsEndOf queue) others.items }
+    ensures only { IsWhole (sum_by share_of (views_of end.entry others.entry.items))
+        → MatchResult result (λ c. Unit {0}) (λ e. ⊥) }
     ensures closed { IfOk result (λ c. (c.first ≡ first_of queue.entry)
         × SettledNow (views_of end.entry others.entry.items) c.first c.put c.taken c.left.items) }
     ensures open { IfErr result (λ e. (e.0 ≡ queue.entry) × IsSameEnd end.entry e.1
         × StillOpen (views_of end.entry others.entry.items) e.2.others (view_of e.1)) }
-    ensures only { IsWhole (sum_by share_of (views_of end.entry others.entry.items))
-        → MatchResult result (λ c. Unit {0}) (λ e. ⊥) }
 {
     let mut end = end;
     join_all(&queue, &mut end, others);

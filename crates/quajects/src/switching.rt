@@ -2,7 +2,7 @@
 ghost use Rattle.std.specs.Prelude.{◌≡◌, ◌≢◌, ◌<◌, ℕ, List, [], ◌++◌, ◌∷◌, length, Option, Some, MatchOption};
 ghost use Rattle.std.specs.Prelude.{slice_index, map, if◌then◌else◌};
 ghost use Rattle.std.specs.List.{slice_get, All, AllZip};
-ghost use Rattle.claim_queue.specs.Handles.{view_of, call_of};
+ghost use Rattle.claim_queue.specs.Handles.{view_of};
 ghost use Rattle.claim_queue.specs.Lines.{lines_put, lines_taken};
 ghost use Rattle.quajects.specs.Lines.{held_line, counted};
 ghost use Rattle.quajects.specs.Ports.{IsEndAt, IsUnused, post_of};
@@ -195,7 +195,7 @@ impl Switch {
         ensures at { IsEndAt queues.now self.new.source.index self.new.source.end }
         ensures same { post_of self.new.source.index self.new.source.end
             ≡ post_of self.old.source.index self.old.source.end }
-        ensures tried { Refilled 64 (call_of self.old.source.end) (view_of self.old.source.end) self.old.held.items
+        ensures tried { Refilled 64 (view_of self.old.source.end) self.old.held.items
             result self.new.held.items (view_of self.new.source.end) }
     {
         self.held.is_empty() && self.source.try_line(queues, &mut self.held)
@@ -252,7 +252,7 @@ impl Switch {
         ensures at { IsEndAt queues.now self.new.other.index self.new.other.end }
         ensures same { post_of self.new.other.index self.new.other.end
             ≡ post_of self.old.other.index self.old.other.end }
-        ensures tried { Flushed 64 (call_of self.old.other.end) (view_of self.old.other.end) self.old.held.items
+        ensures tried { Flushed 64 (view_of self.old.other.end) self.old.held.items
             result self.new.held.items (view_of self.new.other.end) }
     {
         if !self.other.try_line(queues, self.held.as_slice()) {

@@ -1,6 +1,6 @@
 //! The cooked tty (Massalin 1992).
 ghost use Rattle.std.specs.Prelude.{◌≡◌, ◌≢◌, ℕ, true, List, [], ◌++◌, ◌∷◌, map, length, if◌then◌else◌};
-ghost use Rattle.claim_queue.specs.Handles.{view_of, call_of};
+ghost use Rattle.claim_queue.specs.Handles.{view_of};
 ghost use Rattle.claim_queue.specs.Lines.{lines_put, lines_taken};
 ghost use Rattle.quajects.specs.Cooked.{cooked};
 ghost use Rattle.quajects.specs.Lines.{held_line, counted};
@@ -125,7 +125,7 @@ impl CookedTty {
         ensures at { IsEndAt queues.now self.new.raw.index self.new.raw.end }
         ensures same { post_of self.new.raw.index self.new.raw.end
             ≡ post_of self.old.raw.index self.old.raw.end }
-        ensures tried { CookedRaw (call_of self.old.raw.end) (view_of self.old.raw.end) self.old.held.items result
+        ensures tried { CookedRaw (view_of self.old.raw.end) self.old.held.items result
             self.new.held.items (view_of self.new.raw.end) }
     {
         if !self.held.is_empty() {
@@ -147,7 +147,7 @@ impl CookedTty {
         ensures at { IsEndAt queues.now self.new.line.index self.new.line.end }
         ensures same { post_of self.new.line.index self.new.line.end
             ≡ post_of self.old.line.index self.old.line.end }
-        ensures tried { TriedLine (call_of self.old.line.end) (view_of self.old.line.end) self.old.held.items
+        ensures tried { TriedLine (view_of self.old.line.end) self.old.held.items
             self.old.in_line result self.new.in_line (view_of self.new.line.end) }
     {
         if self.held.is_empty() || self.in_line {
@@ -168,7 +168,7 @@ impl CookedTty {
         ensures at { IsEndAt queues.now self.new.screen.index self.new.screen.end }
         ensures same { post_of self.new.screen.index self.new.screen.end
             ≡ post_of self.old.screen.index self.old.screen.end }
-        ensures tried { TriedScreen (call_of self.old.screen.end) (view_of self.old.screen.end) self.old.held.items
+        ensures tried { TriedScreen (view_of self.old.screen.end) self.old.held.items
             self.old.in_line result self.new.held.items self.new.in_line (view_of self.new.screen.end) }
     {
         if !self.in_line || !self.screen.try_line(queues, self.held.as_slice()) {

@@ -3,6 +3,8 @@ use Rattle.std.proofs.Common.{◌≡◌, ℕ, ◌+◌, ◌<◌, true, List, ◌+
 use Rattle.std.specs.Prelude.{slice_index_or}
 use Rattle.std.proofs.lemmas.List.{length-append, get_or_past}
 use Rattle.std.proofs.lemmas.List.Sorted.{length_permutation}
+use Rattle.std.proofs.Math.Logic.{∥∥₁_elim}
+use Rattle.std.proofs.Math.Nat.{ℕ_set}
 use Rattle.std.proofs.lemmas.Bool.{and_parts, and_from}
 use Rattle.std.proofs.lemmas.Option.{slice_get_within}
 use mathlib.Core.Logic.{dite}
@@ -26,7 +28,7 @@ use Rattle.reports.specs.ClosedTables.{ClosedTables}
 use Rattle.reports.specs.ClosedTables as closed
 use Rattle.reports.specs.Endings.{ThreadsEnded}
 use Rattle.thread_table.proofs.Lists.Counts.{many_more}
-use Rattle.reports.proofs.Threads.Places.{joined_shows}
+use Rattle.reports.proofs.Threads.Places.{Shown, joined_shows}
 use Rattle.thread_table.proofs.Lists.Shuffles.{same_counts}
 use Rattle.reporting.specs.Shown.{IsNamed}
 
@@ -44,10 +46,11 @@ named call element e (places.Processor p) many stands = tt
 pub waits : (stations : List Parts) (first last : Parts) (c : ClosedTables) (thread : ℕ) (t : closed.Thread) → 0 < length stations
     → AllJoined first stations last → ThreadsEnded last c → slice_get c.threads thread ≡ Some t → IsNamed t.place
 waits stations first last c thread t some joined ended is =
-    let shown = joined_shows first stations last some joined in
+    let many : length (elements_after (view_of last.hand).seen.object).rings ≡ 18 = ∥∥₁_elim (joined_shows first stations last some joined)
+    (ℕ_set (length (elements_after (view_of last.hand).seen.object).rings) 18) (λ (shows : Shown (view_of last.hand)). shows.2.queues) in
     let low = slice_get_within c.threads thread t is in let few = ended.few in
     subst IsNamed (sym (ended.places thread t is))
-    (named ended.call thread (elements_after (view_of last.hand).schedule) (slice_index_or ended.stands thread places.Held) shown.2.queues (ended.closes.places thread (omega arith)))
+    (named ended.call thread (elements_after (view_of last.hand).seen.object) (slice_index_or ended.stands thread places.Held) many (ended.closes.places thread (omega arith)))
 
 tells : (a b : Alarm) → is_alarm a b ≡ true → a ≡ b
 tells a b same =

@@ -6,7 +6,7 @@ use Rattle.boot_data.specs.declared.plan.PlannedMover.{PlannedMover}
 use Rattle.boot_data.specs.declared.plan.PlannedTty.{PlannedTty}
 use Rattle.boot_data.specs.declared.report.Report.{Report}
 use Rattle.claim_queue.specs.declared.ends.QueueEnd.{QueueEnd}
-use Rattle.proc_chain.specs.declared.rule.View.{View as ChainView}
+use Rattle.proc_chain.specs.Own.{View as ChainView}
 use Rattle.quajects.specs.declared.home.Home.{Home}
 use Rattle.processor.specs.declared.station.Parts.{Parts}
 use Rattle.processor.specs.Logs.{LogEntry, Leaves}

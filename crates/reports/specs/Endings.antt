@@ -18,7 +18,7 @@ use Rattle.meters.specs.Handles as meters
 use Rattle.objects.specs.DeviceEndings.{DeviceEnded}
 use Rattle.proc_chain.specs.declared.ends.ChainEnd.{ChainEnd}
 use Rattle.proc_chain.specs.declared.rule.Pact.{Pact}
-use Rattle.proc_chain.specs.declared.rule.View.{View as ChainView}
+use Rattle.proc_chain.specs.Own.{View as ChainView}
 use Rattle.proc_chain.specs.Handles as chains
 use Rattle.quajects.specs.declared.any.AnyQuaject.{AnyQuaject}
 use Rattle.quajects.specs.declared.home.Home.{Home}
@@ -42,7 +42,7 @@ use Rattle.reports.specs.ClosedTables as closed
 -- the elements that the station put behind the free ones are no thread's
 abbrev pub FreedSpare : BootPlan → Parts → Type 0
 FreedSpare plan station =
-    AllByRecursion (λ (freed : Key). length plan.threads ≤ freed.0) (tally (view_of station.hand).made).retired
+    AllByRecursion (λ (freed : Key). length plan.threads ≤ freed.0) (tally (view_of station.hand).own.made).retired
 
 -- The last hand, which has all, closed the table, and nothing stands on a processor. The closed threads are as the
 -- table told, and shown what any processor was shown
@@ -77,13 +77,13 @@ pub record QueueEnded {n : ℕ} (ends : Parts → List (QueueEnd n)) (number : �
   pub put : ℕ
   pub left : List (Option ℕ)
   pub closes : SettledNow (views_of end others) position put q.taken left
-  pub items : q.items ≡ map item_of closes.closed.queue.places
+  pub items : q.items ≡ map item_of closes.before.seen.object.places
   pub within : length q.items ≤ q.taken + n
   pub put_by : q.put_by ≡ map (λ station. lines_put_at (ends station) number) stations
   pub taken_by : q.taken_by ≡ map (λ station. lines_taken_at (ends station) number) stations
   pub put_by_others : q.put_by_others ≡ flat_map lines_put (map queues.view_of others)
   pub taken_by_others : q.taken_by_others ≡ flat_map lines_taken (map queues.view_of others)
-  pub known : (queues.view_of end).part.queue.shut ≡ true → closes.before.part.queue.shut ≡ true
+  pub known : (queues.view_of end).seen.object.shut ≡ true → closes.before.seen.object.shut ≡ true
   pub none_shut : sum_by shuts_of (map queues.view_of others) ≡ 0
 
 abbrev pub small_of : Parts → List (QueueEnd 64)

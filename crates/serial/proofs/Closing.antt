@@ -6,7 +6,7 @@ use Rattle.std.proofs.lemmas.List.{append-nil, length-map}
 use Rattle.std.proofs.Math.Seq.{take-length}
 use mathlib.Core.Option.{some, some-injective, some-ne-none}
 use lib.ListN.{get_elem?}
-use Rattle.proc_chain.specs.declared.rule.View.{View}
+use Rattle.proc_chain.specs.Own.{View, part_of, queue_of}
 use Rattle.proc_chain.specs.Closings.{ClosedNow}
 use Rattle.proc_chain.specs.Endings.{Joined}
 use Rattle.atomic_table.specs.Table.{Me}
@@ -37,12 +37,12 @@ pub record Collected {Q : Type 0} (made : Q → List ℕ → Type 0) (xs ys : Li
 
 module _ {Q : Type 0} (made : Q → List ℕ → Type 0) (fits : Q → Type 0) where
   pub collected_all : (a b v : View) (xs ys : List ℕ) (first put taken : ℕ) (left : List (Option ℕ)) (quaject : Q) → Small xs → Small ys
-      → InOrder a.part.runs → notes_put a ≡ map alone (notes_for 0 xs) → InOrder b.part.runs → notes_put b ≡ map alone (notes_for 256 ys)
-      → v.part.runs ≡ a.part.runs ++ b.part.runs → ClosedNow made fits v first put taken left quaject → Collected made xs ys put taken left quaject
+      → InOrder a.own.runs → notes_put a ≡ map alone (notes_for 0 xs) → InOrder b.own.runs → notes_put b ≡ map alone (notes_for 256 ys)
+      → v.own.runs ≡ a.own.runs ++ b.own.runs → ClosedNow made fits v first put taken left quaject → Collected made xs ys put taken left quaject
   collected_all a b v xs ys first put taken left quaject small small' up a_put up' b_put runs c =
-      let q = c.queue in
-      let joins : v.part.runs ≡ joined (a.part.runs ∷ b.part.runs ∷ []) = runs ∙ ap (λ (z : List Batch). a.part.runs ++ z) (sym (append-nil b.part.runs)) in
-      let m = runs_merge q v.part (a.part.runs ∷ b.part.runs ∷ []) c.listed (λ k l at. two a.part.runs b.part.runs l up.0 up'.0 k at) joins in
+      let q = queue_of v in
+      let joins : v.own.runs ≡ joined (a.own.runs ∷ b.own.runs ∷ []) = runs ∙ ap (λ (z : List Batch). a.own.runs ++ z) (sym (append-nil b.own.runs)) in
+      let m = runs_merge q (part_of v) (a.own.runs ∷ b.own.runs ∷ []) c.listed (λ k l at. two a.own.runs b.own.runs l up.0 up'.0 k at) joins in
       let i : Interleaves m.0 (map alone (notes_for 0 xs) ∷ map alone (notes_for 256 ys) ∷ []) = subst (λ (z : List (List ℕ)). Interleaves m.0 (z ∷ map alone (notes_for 256 ys) ∷ [])) a_put
       (subst (λ (z : List (List ℕ)). Interleaves m.0 (notes_put a ∷ z ∷ [])) b_put m.1) in
       let h = both m.0 xs ys small small' i in
@@ -59,10 +59,10 @@ module _ {Q : Type 0} (made : Q → List ℕ → Type 0) (fits : Q → Type 0) w
 
 module _ {Q : Type 0} where
   -- an end that took in another, which had no turn, lists the runs of both
-  pub joined_runs : (turn : Bool) (me other me' : Me Q View) → turn ≡ false → Joined turn me other me' → me'.0.part.runs ≡ me.0.part.runs ++ other.0.part.runs
+  pub joined_runs : (turn : Bool) (me other me' : Me Q View) → turn ≡ false → Joined turn me other me' → me'.0.own.runs ≡ me.0.own.runs ++ other.0.own.runs
   joined_runs true me other me' is j = absurd cc
-  joined_runs false me other me' is j = ap (λ (z : View). z.part.runs) j.0.same
+  joined_runs false me other me' is j = λ i. (j.0.0.own i).runs
 
 -- an end that had nothing before has what it sent
-pub sent_all : (v w : View) (notes : List ℕ) → v.part.runs ≡ [] → HasSent notes v w → InOrder w.part.runs × (notes_put w ≡ map alone notes)
+pub sent_all : (v w : View) (notes : List ℕ) → v.own.runs ≡ [] → HasSent notes v w → InOrder w.own.runs × (notes_put w ≡ map alone notes)
 sent_all v w notes none h = (h.order (subst InOrder (sym none) order_none), h.puts ∙ ap (λ (z : List Batch). map line_of z ++ map alone notes) none)

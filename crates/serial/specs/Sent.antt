@@ -4,14 +4,14 @@ use Rattle.table_theory.specs.Interleaving.{InOrder}
 use Rattle.proc_chain.specs.declared.quaject.Quaject.{Ghosts}
 use Rattle.proc_chain.specs.declared.ends.ProcChain.{ProcChain}
 use Rattle.proc_chain.specs.declared.ends.ChainEnd.{ChainEnd}
-use Rattle.proc_chain.specs.declared.rule.View.{View}
+use Rattle.proc_chain.specs.Own.{View}
 use Rattle.proc_chain.specs.Handles.{turn_of, view_of, IsEndOf}
 use Rattle.proc_chain.specs.Notes.{notes_put, alone}
 
 -- it chained these notes, one behind the other
 pub record HasSent (notes : List ℕ) (v w : View) : Type 0 where
   pub puts : notes_put w ≡ notes_put v ++ map alone notes
-  pub order : InOrder v.part.runs → InOrder w.part.runs
+  pub order : InOrder v.own.runs → InOrder w.own.runs
   pub share : w.member.share ≡ v.member.share
 
 module _ {Q W : Type 0} {g : Ghosts Q W} where

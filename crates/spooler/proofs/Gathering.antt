@@ -6,7 +6,7 @@ use Rattle.table_theory.specs.declared.queues.Batch.{Batch}
 use Rattle.table_theory.specs.Interleaving.{joined}
 use Rattle.table_theory.specs.Sharing.{total}
 use Rattle.claim_queue.specs.declared.ends.QueueEnd.{QueueEnd}
-use Rattle.claim_queue.specs.declared.rule.View.{View}
+use Rattle.claim_queue.specs.Own.{View}
 use Rattle.claim_queue.specs.Endings.{TookIn}
 use Rattle.claim_queue.specs.Handles.{view_of}
 use Rattle.spooler.specs.declared.line.Line.{Line}
@@ -23,7 +23,7 @@ total_push f [] u = omega arith
 total_push f (x ∷ us) u = let h = total_push f us u in omega arith
 
 pub gathered_none : (v : View) → Gathered v [] v
-gathered_none v = record { runs = sym (append-nil v.part.runs); takes = sym (append-nil v.part.takes); share = omega arith }
+gathered_none v = record { runs = sym (append-nil v.own.runs); takes = sym (append-nil v.own.takes); share = omega arith }
 
 -- the lists after one end more was taken in
 more_lists : (f : View → List Batch) (v w u z : View) (us : List View) → f w ≡ f v ++ joined (map f us) → f z ≡ f w ++ f u → f z ≡ f v ++ joined (map f (us ++ u ∷ []))
@@ -31,14 +31,14 @@ more_lists f v w u z us h t = t ∙ (ap (λ (l : List Batch). l ++ f u) h ∙ (a
 
 pub gathered_more : (v w u z : View) (us : List View) → Gathered v us w → TookIn w u z → Gathered v (us ++ u ∷ []) z
 gathered_more v w u z us h t = record {
-  runs = more_lists (λ (x : View). x.part.runs) v w u z us h.runs (ap (λ (x : View). x.part.runs) t.same);
-  takes = more_lists (λ (x : View). x.part.takes) v w u z us h.takes (ap (λ (x : View). x.part.takes) t.same);
+  runs = more_lists (λ (x : View). x.own.runs) v w u z us h.runs (λ i. (t.own i).runs);
+  takes = more_lists (λ (x : View). x.own.takes) v w u z us h.takes (λ i. (t.own i).takes);
   share = let s = h.share in let n = total_push (λ (x : View). x.member.share) us u in
-      let m : z.member.share ≡ w.member.share + u.member.share = ap (λ x. x.share) t.member.same in omega arith;
+      let m : z.member.share ≡ w.member.share + u.member.share = (λ i. (t.member i).share) in omega arith;
 }
 
 -- a step that leaves lists and share as they are
-pub gathered_same : (v w z : View) (us : List View) → Gathered v us w → z.part.runs ≡ w.part.runs → z.part.takes ≡ w.part.takes → z.member.share ≡ w.member.share → Gathered v us z
+pub gathered_same : (v w z : View) (us : List View) → Gathered v us w → z.own.runs ≡ w.own.runs → z.own.takes ≡ w.own.takes → z.member.share ≡ w.member.share → Gathered v us z
 gathered_same v w z us h runs takes share = record { runs = runs ∙ h.runs; takes = takes ∙ h.takes; share = share ∙ h.share }
 
 abbrev End : Type 0

@@ -1,23 +1,23 @@
 -- What a producer put, one line behind the other.
 use Rattle.std.proofs.Common.{ℕ, List, [], ◌∷◌, ◌++◌, ◌∙◌, refl, sym, ap, append_assoc, Result}
 use Rattle.std.proofs.lemmas.List.{append-nil}
-use Rattle.claim_queue.specs.declared.rule.View.{View}
+use Rattle.claim_queue.specs.Own.{View}
 use Rattle.claim_queue.specs.declared.claim.ClaimRefusal.{ClaimRefusal}
 use Rattle.claim_queue.specs.Lines.{lines_put, SameLines, PutLine}
 use Rattle.claim_queue.specs.Puts.{PutAnswer}
-use Rattle.claim_queue.proofs.Order.{answer_order}
+use Rattle.claim_queue.proofs.Ordered.{answer_order}
 use Rattle.spooler.specs.Doings.{HasPut}
 
 -- one line was put
-pub put_one : (room call start : ℕ) (v w : View) (items : List ℕ) (r : Result ℕ ClaimRefusal) → PutAnswer room call v items r w → PutLine items v w → HasPut (items ∷ []) v w
-put_one room call start v w items r a p = record { puts = p.puts; takes = p.takes; order = answer_order room call v w items r a; share = p.share }
+pub put_one : (room : ℕ) (v w : View) (items : List ℕ) (r : Result ℕ ClaimRefusal) → PutAnswer room v items r w → PutLine items v w → HasPut (items ∷ []) v w
+put_one room v w items r a p = record { puts = p.puts; takes = p.takes; order = answer_order room v w items r a; share = p.share }
 
 -- none was put
 pub put_none : (v : View) → HasPut [] v v
 put_none v = record { puts = sym (append-nil (lines_put v)); takes = refl; order = λ up. up; share = refl }
 
-pub put_lost : (room call : ℕ) (v w : View) (items : List ℕ) (r : Result ℕ ClaimRefusal) → PutAnswer room call v items r w → SameLines v w → HasPut [] v w
-put_lost room call v w items r a s = record { puts = s.puts ∙ sym (append-nil (lines_put v)); takes = s.takes; order = answer_order room call v w items r a; share = s.share }
+pub put_lost : (room : ℕ) (v w : View) (items : List ℕ) (r : Result ℕ ClaimRefusal) → PutAnswer room v items r w → SameLines v w → HasPut [] v w
+put_lost room v w items r a s = record { puts = s.puts ∙ sym (append-nil (lines_put v)); takes = s.takes; order = answer_order room v w items r a; share = s.share }
 
 -- more was put
 pub put_on : (u v w : View) (lines more : List (List ℕ)) → HasPut lines u v → HasPut more v w → HasPut (lines ++ more) u w

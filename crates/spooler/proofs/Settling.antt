@@ -4,6 +4,8 @@ use Rattle.std.specs.Global.{Vec}
 use Rattle.std.specs.Prelude.{Option}
 use Rattle.std.specs.List.{concat}
 use Rattle.std.proofs.lemmas.List.{append-nil, length-map}
+use Rattle.std.proofs.Math.Logic.{∥∥₁_elim, ∥∥₁_map}
+use Rattle.std.proofs.Math.Nat.{ℕ_set}
 use Rattle.std.proofs.Math.Seq.{take-length}
 use mathlib.Core.Option.{some, some-injective, some-ne-none}
 use lib.ListN.{get_elem?}
@@ -15,7 +17,7 @@ use Rattle.table_theory.specs.Sharing.{total}
 use Rattle.table_theory.proofs.Interleaving.{runs_merge, takes_merge}
 use Rattle.table_theory.proofs.Ordering.{order_none}
 use Rattle.table_theory.proofs.Positioned.{grows_trans}
-use Rattle.claim_queue.specs.declared.rule.View.{View}
+use Rattle.claim_queue.specs.Own.{View, part_of}
 use Rattle.claim_queue.specs.Closings.{ClosedNow}
 use Rattle.claim_queue.specs.Lines.{line_of, lines_taken}
 use Rattle.spooler.specs.declared.line.Line.{Line}
@@ -29,24 +31,24 @@ use Rattle.spooler.proofs.Wholes.{AllWhole, all_whole, order_whole, one_cut}
 
 -- what these ends, one for each job, have put
 pub record Produced (jobs : List (List (List ℕ))) (backs : List View) : Type 0 where
-  pub puts : map (map line_of) (map (λ u. u.part.runs) backs) ≡ jobs
-  pub up : (k : ℕ) (l : List Batch) → get_elem? (map (λ u. u.part.runs) backs) k ≡ some l → Ascending l
-  pub none : joined (map (λ u. u.part.takes) backs) ≡ []
+  pub puts : map (map line_of) (map (λ u. u.own.runs) backs) ≡ jobs
+  pub up : (k : ℕ) (l : List Batch) → get_elem? (map (λ u. u.own.runs) backs) k ≡ some l → Ascending l
+  pub none : joined (map (λ u. u.own.takes) backs) ≡ []
 
 -- a taker's end has taken these lines and nothing else, and found the queue shut and all taken
 pub record Taken (lines : List (List ℕ)) (v : View) : Type 0 where
   pub takes : lines_taken v ≡ lines
-  pub order : InOrder v.part.takes
-  pub none : v.part.runs ≡ []
-  pub shut : v.part.queue.shut ≡ true
-  pub all : v.part.queue.taken ≡ length v.part.queue.places
+  pub order : InOrder v.own.takes
+  pub none : v.own.runs ≡ []
+  pub shut : v.seen.object.shut ≡ true
+  pub all : v.seen.object.taken ≡ length v.seen.object.places
 
 no_batch : (l : List Batch) → map line_of l ≡ [] → l ≡ []
 no_batch [] e = refl
 no_batch (x ∷ xs) e = absurd cc
 
 abbrev pub Idle : View → Type 0
-Idle v = (v.part.runs ≡ []) × (v.part.takes ≡ [])
+Idle v = (v.own.runs ≡ []) × (v.own.takes ≡ [])
 
 abbrev pub AllIdle : List View → Type 0
 AllIdle [] = Unit {0}
@@ -64,10 +66,10 @@ produced (job ∷ jobs) [] backs idle p = absurd p
 produced (job ∷ jobs) (v ∷ ends) [] idle p = absurd p
 produced (job ∷ jobs) (v ∷ ends) (w ∷ backs) idle p =
     let rest = produced jobs ends backs idle.1 p.1 in
-    let puts : map line_of w.part.runs ≡ job = p.0.puts ∙ ap (λ (z : List Batch). map line_of z ++ job) idle.0.0 in
-    let none : w.part.takes ≡ [] = no_batch w.part.takes (p.0.takes ∙ ap (map line_of) idle.0.1) in record {
+    let puts : map line_of w.own.runs ≡ job = p.0.puts ∙ ap (λ (z : List Batch). map line_of z ++ job) idle.0.0 in
+    let none : w.own.takes ≡ [] = no_batch w.own.takes (p.0.takes ∙ ap (map line_of) idle.0.1) in record {
       puts = λ i. puts i ∷ rest.puts i;
-      up = at_front w.part.runs (map (λ (u : View). u.part.runs) backs) (p.0.order (subst InOrder (sym idle.0.0) order_none)).0 rest.up;
+      up = at_front w.own.runs (map (λ (u : View). u.own.runs) backs) (p.0.order (subst InOrder (sym idle.0.0) order_none)).0 rest.up;
       none = (λ i. none i ++ rest.none i);
     }
 
@@ -78,11 +80,11 @@ same_share (job ∷ jobs) [] backs p = absurd p
 same_share (job ∷ jobs) (v ∷ ends) [] p = absurd p
 same_share (job ∷ jobs) (v ∷ ends) (w ∷ backs) p = let one = p.0.share in let rest = same_share jobs ends backs p.1 in omega arith
 
-pub taken : (lines : List (List ℕ)) (v w : View) → v.part.runs ≡ [] → v.part.takes ≡ [] → KeepsPuts v w → HasTaken lines v w → Taken lines w
+pub taken : (lines : List (List ℕ)) (v w : View) → v.own.runs ≡ [] → v.own.takes ≡ [] → KeepsPuts v w → HasTaken lines v w → Taken lines w
 taken lines v w runs takes k h = record {
   takes = h.takes ∙ ap (λ (z : List Batch). map line_of z ++ lines) takes;
   order = (h.order (subst InOrder (sym takes) order_none, λ m e at. absurd (some-ne-none e (sym (subst (λ (z : List Batch). get_elem? z m ≡ some e) takes at))))).0;
-  none = no_batch w.part.runs (k.puts ∙ ap (map line_of) runs);
+  none = no_batch w.own.runs (k.puts ∙ ap (map line_of) runs);
   shut = h.shut;
   all = h.all;
 }
@@ -108,31 +110,35 @@ whole_two a b l (suc (suc k)) at = absurd (some-ne-none l (sym at))
 all_out : (q r : Positions) → Grows q r → q.shut ≡ true → q.taken ≡ length q.places → r.taken ≤ length r.places → r.taken ≡ length r.places
 all_out q r g shut all behind = let s = g.still shut in let f = g.further in omega arith
 
+-- a queue that grew twice
+pub grown_two : (q r s : Positions) → ∥ Grows q r ∥₁ → ∥ Grows r s ∥₁ → ∥ Grows q s ∥₁
+grown_two q r s a b = ∥∥₁_elim a squash₁ (λ (g : Grows q r). ∥∥₁_map b (grows_trans q r s g))
+
 module _ (jobs : List (Vec Line)) (one other : List Line) (first p t u v : View) (backs : List View) where
   abbrev lines_in : List (List (List ℕ))
   lines_in = map (λ (job : Vec Line). lines_of job.items) jobs
 
   abbrev runs_in : List (List Batch)
-  runs_in = map (λ (w : View). w.part.runs) backs
+  runs_in = map (λ (w : View). w.own.runs) backs
 
   pub spooled : (begin put gone : ℕ) (left : List (Option ℕ)) → Idle first → Produced lines_in backs → Gathered first backs p → Taken (lines_of one) t → Taken (lines_of other) u
-      → v.part.runs ≡ (p.part.runs ++ t.part.runs) ++ u.part.runs → v.part.takes ≡ (p.part.takes ++ t.part.takes) ++ u.part.takes
-      → Grows t.part.queue v.part.queue → ClosedNow v begin put gone left → IsSpooled lines_in (lines_of one ∷ lines_of other ∷ [])
+      → v.own.runs ≡ (p.own.runs ++ t.own.runs) ++ u.own.runs → v.own.takes ≡ (p.own.takes ++ t.own.takes) ++ u.own.takes
+      → ∥ Grows t.seen.object v.seen.object ∥₁ → ClosedNow v begin put gone left → IsSpooled lines_in (lines_of one ∷ lines_of other ∷ [])
   spooled begin put gone left idle s g s' s'' runs takes grows closed =
-      let q : Positions = closed.queue in
-      let p_runs : p.part.runs ≡ joined runs_in = g.runs ∙ ap (λ (z : List Batch). z ++ joined runs_in) idle.0 in
-      let p_takes : p.part.takes ≡ [] = g.takes ∙ (λ i. idle.1 i ++ s.none i) in
-      let put_is : v.part.runs ≡ joined runs_in = runs ∙ ((λ i. (p.part.runs ++ s'.none i) ++ s''.none i) ∙ (append-nil (p.part.runs ++ []) ∙ (append-nil p.part.runs ∙ p_runs))) in
-      let now : v.part.takes ≡ joined (t.part.takes ∷ u.part.takes ∷ []) = takes ∙ ((λ i. (p_takes i ++ t.part.takes) ++ u.part.takes) ∙ ap (λ (z : List Batch). t.part.takes ++ z) (sym (append-nil u.part.takes))) in
-      let m = runs_merge q v.part runs_in closed.listed s.up put_is in
-      let n = takes_merge q v.part (t.part.takes ∷ u.part.takes ∷ []) closed.listed (λ k z at. two t.part.takes u.part.takes z s'.order.0 s''.order.0 k at) now in
+      let q : Positions = v.seen.object in
+      let p_runs : p.own.runs ≡ joined runs_in = g.runs ∙ ap (λ (z : List Batch). z ++ joined runs_in) idle.0 in
+      let p_takes : p.own.takes ≡ [] = g.takes ∙ (λ i. idle.1 i ++ s.none i) in
+      let put_is : v.own.runs ≡ joined runs_in = runs ∙ ((λ i. (p.own.runs ++ s'.none i) ++ s''.none i) ∙ (append-nil (p.own.runs ++ []) ∙ (append-nil p.own.runs ∙ p_runs))) in
+      let now : v.own.takes ≡ joined (t.own.takes ∷ u.own.takes ∷ []) = takes ∙ ((λ i. (p_takes i ++ t.own.takes) ++ u.own.takes) ∙ ap (λ (z : List Batch). t.own.takes ++ z) (sym (append-nil u.own.takes))) in
+      let m = runs_merge q (part_of v) runs_in closed.listed s.up put_is in
+      let n = takes_merge q (part_of v) (t.own.takes ∷ u.own.takes ∷ []) closed.listed (λ k z at. two t.own.takes u.own.takes z s'.order.0 s''.order.0 k at) now in
       let put_so : Interleaves m.0 lines_in = subst (λ (z : List (List (List ℕ))). Interleaves m.0 z) s.puts m.1 in
       let took_so : Interleaves n.0 (lines_of one ∷ lines_of other ∷ []) = subst (λ (z : List (List (List ℕ))). Interleaves n.0 z) (λ i. s'.takes i ∷ s''.takes i ∷ []) n.1 in
-      let later : Grows v.part.queue q = (closed.listed.seen 0 v.part refl).0 in
       let behind = closed.settled.behind in
       let is = closed.taken_is in
       let long : length (map item_of q.places) ≡ length q.places = length-map q.places item_of in
-      let out : q.taken ≡ length q.places = all_out t.part.queue q (grows_trans t.part.queue v.part.queue q grows later) s'.shut s'.all (omega arith) in
+      let out : q.taken ≡ length q.places =
+      ∥∥₁_elim grows (ℕ_set _ _) (λ (g : Grows t.seen.object q). all_out t.seen.object q g s'.shut s'.all (omega arith)) in
       let items : concat n.0 ≡ concat m.0 = n.2 ∙ (ap (map item_of) (ap (λ (z : ℕ). take z q.places) out ∙ take-length q.places) ∙ sym m.2) in
       let same : n.0 ≡ m.0 = one_cut n.0 m.0 (order_whole n.0 (lines_of one ∷ lines_of other ∷ []) took_so (λ k z at. whole_two one other z k at)) (order_whole m.0 lines_in put_so (λ k z at. whole_jobs jobs z k at)) items in
       record { order = m.0; of_producers = put_so; of_takers = subst (λ (z : List (List ℕ)). Interleaves z (lines_of one ∷ lines_of other ∷ [])) same took_so }

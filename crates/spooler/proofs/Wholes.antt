@@ -1,5 +1,5 @@
 -- Which lists of items are lines, and that items are cut into lines in one way.
-use Rattle.std.proofs.Common.{◌≡◌, ◌≢◌, ⊎_elim, ℕ, ◌+◌, ◌-◌, ◌<◌, List, [], ◌∷◌, ◌++◌, ◌∙◌, length, get_or, take, drop, set, refl, sym, ap, subst, arith}
+use Rattle.std.proofs.Common.{◌≡◌, ◌≢◌, ⊎_elim, ℕ, ◌+◌, ◌-◌, ◌<◌, ◌≤◌, List, [], ◌∷◌, ◌++◌, ◌∙◌, length, get_or, take, drop, set, refl, sym, ap, subst, arith}
 use Rattle.std.specs.List.{concat}
 use Rattle.std.proofs.lemmas.List.{get_or_append_left, length-append, take-append-le}
 use Rattle.std.proofs.Math.Seq.{drop-append_seam, get_or-append_seam, take-length}
@@ -8,6 +8,7 @@ use mathlib.Core.Logic.{dite}
 use native.Mathlib.Decide.{ℕ_discrete}
 use lib.ListN.{get_elem?}
 use Rattle.atomic_table.proofs.Lists.{at_set}
+use Rattle.claim_queue.specs.Takings.{IsLine}
 use Rattle.table_theory.specs.Interleaving.{Interleaves}
 use Rattle.spooler.specs.declared.line.Line.{Line}
 use Rattle.spooler.specs.Lines.{lines_of}
@@ -23,6 +24,10 @@ whole_of text low none =
       (λ i within ten. none i (omega arith) (sym (get_or_append_left text (10 ∷ []) 0 i (omega arith)) ∙ ten)),
       (λ _. ap (λ (z : ℕ). get_or (text ++ 10 ∷ []) z 0) at ∙ get_or-append_seam text 10 [] 0),
     )
+
+-- what was taken as a line is one
+pub line_whole : (items : List ℕ) → IsLine 64 items → length items ≤ 64 → IsWhole items
+line_whole items l short = (l.1, short, l.0, λ low. ⊎_elim (λ ten. ten) (λ full. absurd (omega arith)) l.2)
 
 abbrev pub AllWhole : List (List ℕ) → Type 0
 AllWhole [] = Unit {0}

@@ -1,6 +1,6 @@
 -- What a producer and a taker did at their ends of the queue.
 use Rattle.std.specs.Prelude.{◌≡◌, ℕ, true, List, ◌++◌, length}
-use Rattle.claim_queue.specs.declared.rule.View.{View}
+use Rattle.claim_queue.specs.Own.{View}
 use Rattle.claim_queue.specs.Lines.{lines_put, lines_taken}
 use Rattle.claim_queue.specs.Orders.{ClaimsInOrder, TakesInOrder}
 
@@ -20,5 +20,5 @@ pub record KeepsPuts (v w : View) : Type 0 where
 pub record HasTaken (lines : List (List ℕ)) (v w : View) : Type 0 where
   pub takes : lines_taken w ≡ lines_taken v ++ lines
   pub order : TakesInOrder v → TakesInOrder w
-  pub shut : w.part.queue.shut ≡ true
-  pub all : w.part.queue.taken ≡ length w.part.queue.places
+  pub shut : w.seen.object.shut ≡ true
+  pub all : w.seen.object.taken ≡ length w.seen.object.places

@@ -3,7 +3,7 @@ use Rattle.std.specs.Global.{Vec}
 use Rattle.std.specs.Prelude.{◌≡◌, ◌+◌, ◌<◌, ℕ, List, [], ◌∷◌, ◌++◌, map, length, Option, IfSome, slice_index_or}
 use Rattle.table_theory.specs.Interleaving.{joined}
 use Rattle.table_theory.specs.Sharing.{total}
-use Rattle.claim_queue.specs.declared.rule.View.{View}
+use Rattle.claim_queue.specs.Own.{View}
 use Rattle.claim_queue.specs.declared.ends.ClaimQueue.{ClaimQueue}
 use Rattle.claim_queue.specs.declared.ends.QueueEnd.{QueueEnd}
 use Rattle.claim_queue.specs.Handles.{view_of, IsEndOf}
@@ -33,8 +33,8 @@ PutsEach (job ∷ jobs) (v ∷ vs) (w ∷ ws) = HasPut job v w × PutsEach jobs 
 
 -- it took in these ends, one after the other
 pub record Gathered (v : View) (others : List View) (w : View) : Type 0 where
-  pub runs : w.part.runs ≡ v.part.runs ++ joined (map (λ u. u.part.runs) others)
-  pub takes : w.part.takes ≡ v.part.takes ++ joined (map (λ u. u.part.takes) others)
+  pub runs : w.own.runs ≡ v.own.runs ++ joined (map (λ u. u.own.runs) others)
+  pub takes : w.own.takes ≡ v.own.takes ++ joined (map (λ u. u.own.takes) others)
   pub share : w.member.share ≡ v.member.share + total (λ u. u.member.share) others
 
 -- Each of these ends put the lines of its job; then the end took in all of them

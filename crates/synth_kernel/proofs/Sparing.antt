@@ -12,7 +12,7 @@ use Rattle.event_theory.specs.declared.names.QueueName.TheVariants as names
 use Rattle.event_theory.proofs.Lists.Placed.{all_append as all_joined}
 use Rattle.reports.specs.Endings.{FreedSpare}
 use Rattle.thread_table.specs.declared.rule.Made.{Made}
-use Rattle.thread_table.specs.declared.rule.View.{View}
+use Rattle.thread_table.specs.Own.{View}
 use Rattle.thread_table.specs.Handles.{view_of}
 use Rattle.thread_table.specs.Retiring as retiring
 use Rattle.kernel_threads.specs.declared.work.Work.{Work}
@@ -22,7 +22,7 @@ use Rattle.synth_kernel.specs.declared.ready.Ready.{Ready}
 use Rattle.synth_kernel.specs.Readies.{IsReady}
 
 abbrev made_at : Parts → List Made
-made_at parts = (view_of parts.hand).made
+made_at parts = (view_of parts.hand).own.made
 
 -- giving parts of the station away makes no event
 made_same : {G : Type 0} (shared : Shared) (p turns : ℕ) (gates : List G) (old new : Parts) (posts : List (Work G)) → ArePosted shared p turns gates old new posts → made_at new ≡ made_at old
@@ -59,7 +59,7 @@ module _ (n : ℕ) where
 pub freed_spare : {G : Type 0} (plan : BootPlan) (turns : ℕ) (gates : List G) (ready : Ready G) → IsReady plan turns gates ready → FreedSpare ready.shared.plan ready.station.parts
 freed_spare plan turns gates ready r =
     let n : ℕ = length ready.shared.plan.threads in
-    let none_made : made_at r.made ≡ [] = ap (λ (z : View). z.made) r.hand.knows in
+    let none_made : made_at r.made ≡ [] = ap (λ (z : View). z.own.made) r.hand.knows in
     let runs : freed (view_of r.first.hand) ≡ one_by_one (range_with_len n (64 - n)) =
     r.first_is.hand.moved.freed_is ∙ ap (λ (z : List Made). flat_map (λ (m : Made). retiring.retired_by m.event) z ++ one_by_one (range_with_len n (64 - n))) none_made in
     subst (λ (z : List Made). AllByRecursion (IsSpare n) (flat_map retired_by z)) (sym (made_same ready.shared 0 turns gates r.first ready.station.parts r.posts r.posted))

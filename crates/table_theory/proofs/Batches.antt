@@ -1,25 +1,15 @@
 -- Runs and takings as lines, and the items of a queue that a table shows.
-use Rattle.std.proofs.Common.{◌≡◌, ℕ, zero, suc, ◌<◌, List, [], ◌∷◌, map, length, take, get_or, set, refl, sym, ap, ◌∙◌}
+use Rattle.std.proofs.Common.{◌≡◌, ℕ, ◌<◌, List, map, length, take, get_or, sym, ap, ◌∙◌}
 use Rattle.std.proofs.lemmas.List.{get_or-map, take-map}
-use mathlib.Core.Option.{some, some-injective}
-use lib.ListN.{get_elem?}
 use Rattle.table_theory.specs.declared.queues.Batch.{Batch}
 use Rattle.table_theory.specs.declared.queues.Positions.{Positions}
 use Rattle.table_theory.specs.declared.queues.QueueView.{QueueView}
 use Rattle.event_theory.specs.Runs.{flat}
-use Rattle.table_theory.specs.Batches.{line_of}
 use Rattle.table_theory.specs.Filing.{Owned}
-use Rattle.table_theory.specs.Listing.{all_places, written_to, ViewsShow}
+use Rattle.table_theory.specs.Listing.{all_places, ViewsShow}
 use Rattle.table_theory.specs.Positioned.{blank, item_of, item_at}
 use Rattle.table_theory.specs.QueueOf.{run_in}
-use Rattle.table_theory.proofs.Leaving.{same_items}
 use Rattle.table_theory.proofs.QueueOf.{flat_of}
-
--- storing leaves the lines as they were
-pub same_lines_set : (l : List Batch) (m i n : ℕ) (e : Batch) → get_elem? l m ≡ some e → map line_of (set l m (written_to e i n)) ≡ map line_of l
-same_lines_set [] m i n e h = refl
-same_lines_set (x ∷ xs) zero i n e h = ap (λ (z : List ℕ). z ∷ map line_of xs) (same_items e.places i n ∙ ap line_of (sym (some-injective x e h)))
-same_lines_set (x ∷ xs) (suc m) i n e h = ap (λ (z : List (List ℕ)). line_of x ∷ z) (same_lines_set xs m i n e h)
 
 -- where the runs have these places, in order, the history has their items
 module _ (q : Positions) (runs : List (Owned Batch)) (same : all_places runs ≡ q.places) where

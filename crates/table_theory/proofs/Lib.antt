@@ -1,14 +1,17 @@
+pub mod Alone
 pub mod Batches
 pub mod Counting
 pub mod Courses
 pub mod Ends
 pub mod Interleaving
+pub mod Latest
 pub mod Leaving
 pub mod Ledgers
 pub mod Listing
 pub mod Logs
-pub mod Members
 pub mod Ordering
+pub mod Moving
+pub mod Orders
 pub mod Owned
 pub mod Parting
 pub mod Positioned
@@ -16,7 +19,6 @@ pub mod QueueEvents
 pub mod QueueOf
 pub mod Reading
 pub mod Reaching
-pub mod Seeing
 pub mod Standing
 pub mod Totals
 pub mod Windows

@@ -7,19 +7,24 @@ use Rattle.table_theory.specs.Sharing.{kept, given}
 use Rattle.table_theory.specs.Ledgers.{Step, Made, CountedUp, CountedDown, Divided, IsNewborn, TookIn, Tallied, WereOpen, rest_of, newborn, both}
 use Rattle.table_theory.proofs.Reaching.{adds_none, adds_on}
 
+-- both begin what was seen then
+pub one_seen : {E : Type 0} (b : Bool) (x y all : List E) → Begins (if b then y else x) all → Begins (if b then x else y) all → Begins x all × Begins y all
+one_seen true x y all p q = (q, p)
+one_seen false x y all p q = (p, q)
+
 module _ {K O : Type 0} where
   -- no step yet, and steps behind others
   pub made_none : (v : (Ledger K O)) → Made v [] v.own v
   made_none v = record { adds = adds_none v; did = refl; member = refl }
 
   pub made_on : (v u w : (Ledger K O)) (xs ys : List (Step O)) (one own : K) → Made v xs one u → Made u ys own w → Made v (xs ++ ys) own w
-  made_on v u w xs ys one own a b = record { adds = adds_on v u w xs ys a.adds b.adds; did = b.did; member = b.member ∙ a.member }
+  made_on v u w xs ys one own a b = record { adds = adds_on v u w xs ys a.member a.adds b.adds; did = b.did; member = b.member ∙ a.member }
 
 module _ {K O : Type 0} (nothing : K) (plus : K → K → K) (word : ℕ) where
   divided : (v u : (Ledger K O)) → CountedUp word v u → Divided word v (rest_of u)
   divided v u c = record {
     found = c.found;
-    adds = record { first = c.adds.first; entries_are = c.adds.entries_are; since = c.adds.since; course_is = c.adds.course_is; own = c.adds.own };
+    adds = record { first = c.adds.first; entries_are = c.adds.entries_are; since = c.adds.since; course_is = c.adds.course_is; own = c.adds.own; alone = c.adds.alone };
     own = c.own;
     member = (λ i. record (c.member i) { ends = (c.member i).ends - 1; share = kept (c.member i).share }) ∙ (λ i. record v.member { ends = less i; share = kept v.member.share; splits = v.member.splits + 1 });
   }
@@ -33,11 +38,6 @@ module _ {K O : Type 0} (nothing : K) (plus : K → K → K) (word : ℕ) where
   -- the two ends of a split, as they are given back
   pub split_views : {A : Type 0} (v u : (Ledger K O)) (one other : (Ledger K O) × A) (a b : A) → CountedUp word v u → one ≡ (rest_of u, a) → other ≡ (newborn nothing u, b) → Divided word v one.0 × IsNewborn nothing v one.0 other.0
   split_views v u one other a b c e e' = (subst (λ z. Divided word v z.0) (sym e) (divided v u c), subst (λ z. IsNewborn nothing v z.0 other.0) (sym e) (subst (λ z. IsNewborn nothing v (rest_of u) z.0) (sym e') (born v u c)))
-
-  -- both begin what was seen then
-  one_seen : (b : Bool) (x y all : List (Step O)) → Begins (if b then y else x) all → Begins (if b then x else y) all → Begins x all × Begins y all
-  one_seen true x y all p q = (q, p)
-  one_seen false x y all p q = (p, q)
 
   -- an end that took in another, and then was counted down
   pub took_in : (v u b w : (Ledger K O)) → v.member.ends ≡ 1 → u.member.ends ≡ 1 → b ≡ both plus v u → CountedDown word b w → TookIn plus word v u w

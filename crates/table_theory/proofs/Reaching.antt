@@ -4,10 +4,12 @@ use Rattle.std.proofs.lemmas.List.{append_assoc, append-nil}
 use Rattle.std.specs.List.{AllByRecursion}
 use Rattle.table_theory.specs.declared.views.Entry.{Entry}
 use Rattle.table_theory.specs.declared.views.Moment.{Moment}
+use Rattle.table_theory.specs.declared.views.Part.{Part}
 use Rattle.table_theory.specs.declared.views.Ledger.{Ledger}
 use Rattle.table_theory.specs.Courses.{Continues}
 use Rattle.table_theory.specs.Ends.{Begins}
-use Rattle.table_theory.specs.Ledgers.{Subject, Step, IsReal, IsHonest, Reaches, Weaves, Adds, TookIn, opened}
+use Rattle.table_theory.specs.Sharing.{IsWhole}
+use Rattle.table_theory.specs.Ledgers.{Subject, Step, IsReal, IsHonest, Reaches, Passes, Weaves, Adds, TookIn, opened}
 
 module _ {E : Type 0} (P : E → Type 0) where
   pub all_on : (xs ys : List E) → AllByRecursion P xs → AllByRecursion P ys → AllByRecursion P (xs ++ ys)
@@ -31,6 +33,21 @@ module _ {O : Type 0} where
   pub continues_behind : (a b c : O) (xs ys : List (Entry O)) → Continues a xs b → Continues a (xs ++ ys) c → Continues b ys c
   continues_behind a b c [] ys h k = subst (λ (z : O). Continues z ys c) h k
   continues_behind a b c (x ∷ xs) ys h k = continues_behind x.next b c xs ys h.1 k.1
+
+  -- from one, the same steps lead to one alone
+  pub continues_same : (a b c : O) (xs : List (Entry O)) → Continues a xs b → Continues a xs c → b ≡ c
+  continues_same a b c [] h k = sym h ∙ k
+  continues_same a b c (x ∷ xs) h k = continues_same x.next b c xs h.1 k.1
+
+  -- steps lead to a step among them, and on from it
+  pub continues_split : (a c : O) (xs : List (Entry O)) (e : Entry O) (ys : List (Entry O)) → Continues a (xs ++ e ∷ ys) c → Continues a xs e.then × Continues e.next ys c
+  continues_split a c [] e ys h = h
+  continues_split a c (x ∷ xs) e ys h = let s = continues_split x.next c xs e ys h.1 in ((h.0, s.0), s.1)
+
+  -- steps that lead on lead on from where some of them led
+  pub continues_cut : (a c : O) (xs ys : List (Entry O)) → Continues a (xs ++ ys) c → (b : O) × Continues b ys c
+  continues_cut a c [] ys h = (a, h)
+  continues_cut a c (x ∷ xs) ys h = continues_cut x.next c xs ys h.1
 
   pub continues_one : (m : O) (e : Entry O) → e.then ≡ m → Continues m (e ∷ []) e.next
   continues_one m e t = (sym t, refl)
@@ -59,39 +76,74 @@ module _ {O : Type 0} (T : Subject O) where
   pub reaches_on : (m n o : Moment O) → Reaches T m n → Reaches T n o → Reaches T m o
   reaches_on m n o a b = record { steps = a.steps ++ b.steps; leads = continues_on m n o a.steps b.steps a.leads b.leads; real = all_on (IsReal T) a.steps b.steps a.real b.real }
 
+  -- steps that lead from one moment to another pass an end's own among them
+  passes : (m n : Moment O) (own all : List (Step O)) → Weaves own all → Continues m all n → AllByRecursion (IsReal T) all → Passes T m own n
+  passes m n [] all w c r = subst (λ (z : List (Step O)). Continues m z n) w c
+  passes m n (e ∷ own) all (others, rest, is, w) c r = let s = continues_split m n others e rest (subst (λ (z : List (Step O)). Continues m z n) is c) in let q = subst (AllByRecursion (IsReal T)) is r in let b = all_behind (IsReal T) others (e ∷ rest) q in
+      (record { steps = others; leads = s.0; real = all_before (IsReal T) others (e ∷ rest) q }, b.0, passes e.next n own rest w s.1 b.1)
+
 module _ {K O : Type 0} where
   -- no step yet
   pub adds_none : (v : Ledger K O) → Adds v [] v
-  adds_none v = record { first = refl; entries_are = sym (append-nil v.steps); since = []; course_is = sym (append-nil v.course); own = refl }
+  adds_none v = record { first = refl; entries_are = sym (append-nil v.steps); since = []; course_is = sym (append-nil v.course); own = refl; alone = λ whole. refl }
 
-  -- some steps, and then others
-  pub adds_on : (v u w : Ledger K O) (xs ys : List (Step O)) → Adds v xs u → Adds u ys w → Adds v (xs ++ ys) w
-  adds_on v u w xs ys a b = record {
+  -- some steps, and then others of an end with the same share
+  pub adds_behind : (v u w : Ledger K O) (xs ys : List (Step O)) → u.member.share ≡ v.member.share → Adds v xs u → Adds u ys w → Adds v (xs ++ ys) w
+  adds_behind v u w xs ys same a b = record {
     first = b.first ∙ a.first;
     entries_are = b.entries_are ∙ (ap (λ (z : List (Step O)). z ++ ys) a.entries_are ∙ append_assoc v.steps xs ys);
     since = a.since ++ b.since;
     course_is = b.course_is ∙ (ap (λ (z : List (Step O)). z ++ b.since) a.course_is ∙ append_assoc v.course a.since b.since);
     own = weaves_on xs ys a.since b.since a.own b.own;
+    alone = λ whole. (λ i. a.alone whole i ++ b.alone (same ∙ whole) i);
   }
 
+  pub adds_on : (v u w : Ledger K O) (xs ys : List (Step O)) → u.member ≡ v.member → Adds v xs u → Adds u ys w → Adds v (xs ++ ys) w
+  adds_on v u w xs ys same a b = adds_behind v u w xs ys (ap (λ (z : Part). z.share) same) a b
+
 module _ {K O : Type 0} (T : Subject O) where
-  -- the steps since then are real, and lead from what was seen to what is seen
-  pub seen_since : (v w : Ledger K O) (es : List (Step O)) → IsHonest T v → IsHonest T w → (a : Adds v es w) → Continues v.seen a.since w.seen × AllByRecursion (IsReal T) a.since
-  seen_since v w es x y a = (
-    continues_behind (opened v.first) v.seen w.seen v.course a.since x.leads (subst (λ (z : List (Step O)). Continues (opened v.first) z w.seen) a.course_is (subst (λ (z : O). Continues (opened z) w.course w.seen) a.first y.leads)),
+  -- the steps since then are real, and lead from what was seen, where the course led to that, to what is seen
+  led_since : (v w : Ledger K O) (es : List (Step O)) → Continues (opened v.first) v.course v.seen → IsHonest T w → (a : Adds v es w) → Continues v.seen a.since w.seen × AllByRecursion (IsReal T) a.since
+  led_since v w es x y a = (
+    continues_behind (opened v.first) v.seen w.seen v.course a.since x (subst (λ (z : List (Step O)). Continues (opened v.first) z w.seen) a.course_is (subst (λ (z : O). Continues (opened z) w.course w.seen) a.first y.leads)),
     all_behind (IsReal T) v.course a.since (subst (AllByRecursion (IsReal T)) a.course_is y.real),
   )
+
+  pub seen_since : (v w : Ledger K O) (es : List (Step O)) → IsHonest T v → IsHonest T w → (a : Adds v es w) → Continues v.seen a.since w.seen × AllByRecursion (IsReal T) a.since
+  seen_since v w es x y a = led_since v w es x.leads y a
+
+  -- they pass each entry in its order
+  pub passes_led : (v w : Ledger K O) (es : List (Step O)) → Continues (opened v.first) v.course v.seen → IsHonest T w → Adds v es w → Passes T v.seen es w.seen
+  passes_led v w es x y a = let s = led_since v w es x y a in passes T v.seen w.seen es a.since a.own s.0 s.1
+
+  pub passes_since : (v w : Ledger K O) (es : List (Step O)) → IsHonest T v → IsHonest T w → Adds v es w → Passes T v.seen es w.seen
+  passes_since v w es x y a = passes_led v w es x.leads y a
+
+  -- the entries behind any other steps of the end pass one another in their order
+  pub passes_some : (v w : Ledger K O) (es : List (Step O)) → IsHonest T w → Adds v es w → (m : Moment O) × Passes T m es w.seen
+  passes_some v w es y a = let c : Continues (opened w.first) (v.course ++ a.since) w.seen = subst (λ (z : List (Step O)). Continues (opened w.first) z w.seen) a.course_is y.leads in let m = continues_cut (opened w.first) w.seen v.course a.since c in
+      (m.0, passes T m.0 w.seen es a.since a.own m.1 (all_behind (IsReal T) v.course a.since (subst (AllByRecursion (IsReal T)) a.course_is y.real)))
+
+  -- the entries of an end that has the whole are all steps since
+  pub alone_led : (v w : Ledger K O) (es : List (Step O)) → IsWhole v.member.share → Continues (opened v.first) v.course v.seen → IsHonest T w → Adds v es w → Continues v.seen es w.seen × AllByRecursion (IsReal T) es
+  alone_led v w es whole x y a = let s = led_since v w es x y a in let is = a.alone whole in (subst (λ (z : List (Step O)). Continues v.seen z w.seen) is s.0, subst (AllByRecursion (IsReal T)) is s.1)
+
+  pub alone_since : (v w : Ledger K O) (es : List (Step O)) → IsWhole v.member.share → IsHonest T v → IsHonest T w → Adds v es w → Continues v.seen es w.seen × AllByRecursion (IsReal T) es
+  alone_since v w es whole x y a = alone_led v w es whole x.leads y a
 
   pub reaches_since : (v w : Ledger K O) (es : List (Step O)) → IsHonest T v → IsHonest T w → Adds v es w → Reaches T v.seen w.seen
   reaches_since v w es x y a = let s = seen_since v w es x y a in record { steps = a.since; leads = s.0; real = s.1 }
 
   -- the same, of what an end of the same object had seen whose steps the other has seen too
-  pub reaches_begun : (u w : Ledger K O) → IsHonest T u → IsHonest T w → w.first ≡ u.first → (b : Begins u.course w.course) → Reaches T u.seen w.seen
-  reaches_begun u w x y same b = record {
+  pub reaches_led : (u w : Ledger K O) → Continues (opened u.first) u.course u.seen → IsHonest T w → w.first ≡ u.first → (b : Begins u.course w.course) → Reaches T u.seen w.seen
+  reaches_led u w x y same b = record {
     steps = b.0;
-    leads = continues_behind (opened u.first) u.seen w.seen u.course b.0 x.leads (subst (λ (z : List (Step O)). Continues (opened u.first) z w.seen) (sym b.1) (subst (λ (z : O). Continues (opened z) w.course w.seen) same y.leads));
+    leads = continues_behind (opened u.first) u.seen w.seen u.course b.0 x (subst (λ (z : List (Step O)). Continues (opened u.first) z w.seen) (sym b.1) (subst (λ (z : O). Continues (opened z) w.course w.seen) same y.leads));
     real = all_behind (IsReal T) u.course b.0 (subst (AllByRecursion (IsReal T)) (sym b.1) y.real);
   }
+
+  pub reaches_begun : (u w : Ledger K O) → IsHonest T u → IsHonest T w → w.first ≡ u.first → (b : Begins u.course w.course) → Reaches T u.seen w.seen
+  reaches_begun u w x y same b = reaches_led u w x.leads y same b
 
   -- after a join, real steps lead from what either of both had seen
   pub reaches_one : (plus : K → K → K) (word : ℕ) (v u w : Ledger K O) → IsHonest T v → IsHonest T w → TookIn plus word v u w → Reaches T v.seen w.seen

@@ -57,11 +57,17 @@ module _ {K O : Type 0} (T : K) (plus : K → K → K) where
         },
       )
 
-  pub stand_split : (n : ℕ) (vs : List (Ledger K O)) (j : ℕ) (v : (Ledger K O)) → EndsStand T n vs → get_elem? vs j ≡ some v → v.member.ends ≡ 2 → EndsStand T n (set vs j (rest_of v) ++ newborn T v ∷ [])
-  stand_split n vs j v h at two = let left : (Ledger K O) = rest_of v in let right : (Ledger K O) = newborn T v in let one : ends left ≡ 1 = omega arith in record {
-    counted = counted_split ends share (IsIdle T) n vs j v left right h.counted at two one refl refl refl;
-    balanced = let x = h.balanced in let a = total_kept joins vs j v left at refl in let b = total_kept splits vs j v left at refl in let c = total_push joins (set vs j left) right in let d = total_push splits (set vs j left) right in omega arith;
+  -- an end is split in two, of which each has what it has
+  pub stand_parted : (n : ℕ) (vs : List (Ledger K O)) (j : ℕ) (v left right : (Ledger K O)) → EndsStand T n vs → get_elem? vs j ≡ some v → v.member.ends ≡ 2 → left.member ≡ (rest_of v).member → right.member ≡ (newborn T v).member
+      → EndsStand T n (set vs j left ++ right ∷ [])
+  stand_parted n vs j v left right h at two rest new = let one : ends left ≡ 1 = let e : ends left ≡ ends v - 1 = ap (λ (z : Part). z.ends) rest in omega arith in record {
+    counted = counted_split ends share (IsIdle T) n vs j v left right h.counted at two one (ap (λ (z : Part). z.ends) new) (ap (λ (z : Part). z.share) rest) (ap (λ (z : Part). z.share) new);
+    balanced = let x = h.balanced in let a = total_kept joins vs j v left at (ap (λ (z : Part). z.joins) rest) in let b = total_kept splits vs j v left at (ap (λ (z : Part). z.splits) rest) in let c = total_push joins (set vs j left) right in
+        let d = total_push splits (set vs j left) right in let e : joins right ≡ 0 = ap (λ (z : Part). z.joins) new in let f : splits right ≡ 0 = ap (λ (z : Part). z.splits) new in omega arith;
   }
+
+  pub stand_split : (n : ℕ) (vs : List (Ledger K O)) (j : ℕ) (v : (Ledger K O)) → EndsStand T n vs → get_elem? vs j ≡ some v → v.member.ends ≡ 2 → EndsStand T n (set vs j (rest_of v) ++ newborn T v ∷ [])
+  stand_split n vs j v h at two = stand_parted n vs j v (rest_of v) (newborn T v) h at two refl refl
 
   pub stand_join : (n : ℕ) (vs : List (Ledger K O)) (j k : ℕ) (v u : (Ledger K O)) → EndsStand T n vs → get_elem? vs j ≡ some v → get_elem? vs k ≡ some u → k ≢ j → 1 ≤ v.member.ends → EndsStand T n (set (set vs j (both plus v u)) k (emptied T v))
   stand_join n vs j k v u h at at' ne live = let b : (Ledger K O) = both plus v u in let x : (Ledger K O) = emptied T v in let at'' : get_elem? (set vs j b) k ≡ some u = set_else vs j k b ne ∙ at' in record {
@@ -69,8 +75,12 @@ module _ {K O : Type 0} (T : K) (plus : K → K → K) where
     balanced = let y = h.balanced in let a = total_set joins vs j v b at in let c = total_set joins (set vs j b) k u x at'' in let d = total_set splits vs j v b at in let e = total_set splits (set vs j b) k u x at'' in omega arith;
   }
 
+  -- the only end of a new object, whatever it has
+  pub stand_opened : (own : K) (first : O) → EndsStand T 1 (first_of own first ∷ [])
+  stand_opened own first = record { counted = counted_first ends share (IsIdle T) (first_of own first) refl refl; balanced = refl }
+
   pub stand_first : (first : O) → EndsStand T 1 (first_of T first ∷ [])
-  stand_first first = record { counted = counted_first ends share (IsIdle T) (first_of T first) refl refl; balanced = refl }
+  stand_first first = stand_opened T first
 
   -- beside an end with the whole, each end is spent
   pub rest_spent : (n : ℕ) (vs : List (Ledger K O)) (j : ℕ) (v : (Ledger K O)) → EndsStand T n vs → get_elem? vs j ≡ some v → IsWhole v.member.share → (i : ℕ) (u : (Ledger K O)) → get_elem? vs i ≡ some u → i ≢ j → IsIdle T u

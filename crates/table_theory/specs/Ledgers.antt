@@ -40,13 +40,14 @@ Weaves {O} (e ∷ own) all = (others : List (Step O)) × (rest : List (Step O)) 
     × Weaves own rest
 
 -- These entries stand behind those of v in w. In the order of all ends' steps, w has seen what v had seen, and then
--- steps among which are these, the last one last
+-- steps among which are these, the last one last; an end that has the whole stepped alone
 pub record Adds {K O : Type 0} (v : Ledger K O) (entries : List (Step O)) (w : Ledger K O) : Type 0 where
   pub first : w.first ≡ v.first
   pub entries_are : w.steps ≡ v.steps ++ entries
   pub since : List (Step O)
   pub course_is : w.course ≡ v.course ++ since
   pub own : Weaves entries since
+  pub alone : IsWhole v.member.share → since ≡ entries
 
 -- What a table says of its objects: the word of the number of ends, what the other words show, which objects are
 -- lawful, and what one event makes of one
@@ -78,14 +79,22 @@ pub record Reaches {O : Type 0} (subject : Subject O) (m n : Moment O) : Type 0 
   pub leads : Continues m steps n
   pub real : AllByRecursion (IsReal subject) steps
 
+-- Real steps lead from the first moment to each of these entries, in their order, and the last of them leaves the other
+-- moment
+abbrev pub Passes : {O : Type 0} → Subject O → Moment O → List (Step O) → Moment O → Type 0
+Passes subject m [] n = m ≡ n
+Passes subject m (e ∷ entries) n = Reaches subject m e.then × IsReal subject e × Passes subject e.next entries n
+
 -- an object with one end
 abbrev pub opened : {O : Type 0} → O → Moment O
 opened object = record { ends = 1; object = object }
 
--- the steps that the end has seen are real, and lead from the object as it was made to what the end has seen
+-- The steps that the end has seen are real, and lead from the object as it was made to what the end has seen; its own
+-- are real
 pub record IsHonest {K O : Type 0} (subject : Subject O) (v : Ledger K O) : Type 0 where
   pub leads : Continues (opened v.first) v.course v.seen
   pub real : AllByRecursion (IsReal subject) v.course
+  pub own : AllByRecursion (IsReal subject) v.steps
 
 -- the only end of a new object, which has done nothing
 abbrev pub first_of : {K O : Type 0} → K → O → Ledger K O
@@ -193,12 +202,14 @@ pub record TookIn {K O : Type 0} (plus : K → K → K) (word : ℕ) (v u w : Le
   pub other : Begins u.course w.course
   pub one_object : u.first ≡ v.first
 
--- The number of ends was found, which is 1 exactly where this end has the whole
+-- The number of ends was found, which is 1 exactly where this end has the whole. Such an end had seen the object as
+-- it is
 pub record Tallied {K O : Type 0} (word : ℕ) (v : Ledger K O) (number : ℕ) (w : Ledger K O) : Type 0 where
   pub found : Moment O
   pub made : Made v (load word number found ∷ []) v.own w
   pub is : number ≡ found.ends
   pub count : IsCount v.member.share number
+  pub still : IsWhole v.member.share → w.seen ≡ v.seen
 
 -- other ends stand: their number was found, with this end's, and this end has not the whole
 pub record WereOpen {K O : Type 0} (word : ℕ) (v : Ledger K O) (others : ℕ) (w : Ledger K O) : Type 0 where

@@ -5,7 +5,7 @@ pub mod Filing
 pub mod Interleaving
 pub mod Ledgers
 pub mod Listing
-pub mod Members
+pub mod Orders
 pub mod Plays
 pub mod Positioned
 pub mod QueueOf

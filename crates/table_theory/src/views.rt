@@ -11,17 +11,6 @@ pub struct Entry<O> {
     pub next: O,
 }
 
-/// An end among the ends of its object: how many of the ends counted it is, its share, how often it was split and took
-/// in another end, and the splits (true) and joins (false) of all ends up to its last step on their number. Proofs
-/// alone speak of it.
-pub struct Member {
-    pub ends: u64,
-    pub share: u64,
-    pub splits: u64,
-    pub joins: u64,
-    pub log: LinkedList<bool>,
-}
-
 /// Ends that were made and not joined, and their number.
 #[derive(Clone, Copy, Debug, PartialEq, Eq, Drop, Error)]
 #[error("{others} other ends are not joined")]

@@ -2,6 +2,8 @@
 pub mod Answering
 pub mod Claims
 pub mod Effects
+pub mod Firsts
+pub mod Lone
 pub mod Notices
 pub mod OnProcessors
 pub mod Owing
@@ -9,6 +11,7 @@ pub mod Parkings
 pub mod QueueSteps
 pub mod Raises
 pub mod Rooms
+pub mod Saying
 pub mod SingleRuns
 pub mod StateSteps
 pub mod StatesSeen

@@ -1,8 +1,10 @@
 -- The schedule: what it leads to, what the hands list of it, and its joins.
+pub mod Acting
 pub mod Betweens
 pub mod Courses
 pub mod Following
 pub mod JoinEvents
 pub mod ListedEvents
 pub mod Once
+pub mod Orders
 pub mod Schedules

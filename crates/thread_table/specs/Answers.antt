@@ -1,11 +1,12 @@
--- What the calls answer, by the steps that they made.
-use Rattle.std.specs.Prelude.{◌≡◌, ◌≢◌, ◌⊎◌, ◌+◌, ◌/◌, ◌%◌, ◌<◌, ◌==◌, ◌||◌, ℕ, zero, suc, if◌then◌else◌, Bool}
-use Rattle.std.specs.Prelude.{true, false, List, [], ◌∷◌, length, take, Result, Ok, Err, not}
+-- What the calls answer: the entries that they added, all of them, how their numbers compare, and what the hand then
+-- has.
+use Rattle.std.specs.Prelude.{◌≡◌, ◌≢◌, ◌⊎◌, ◌+◌, ◌-◌, ◌/◌, ◌%◌, ◌<◌, ◌==◌, ℕ, zero, suc, Bool, true, false, not}
+use Rattle.std.specs.Prelude.{List, [], ◌∷◌, ◌++◌, slice_set, filter, Result, Ok, Err, Some, None}
+use Rattle.std.specs.List.{range_with_len}
 use Rattle.std.specs.Int.{bit_at}
-use Rattle.event_theory.specs.Queues.{left}
 use Rattle.event_theory.specs.declared.event.Event.{Event}
 use Rattle.event_theory.specs.declared.event.Event.TheVariants as events
-use Rattle.thread_table.specs.declared.rule.View.{View}
+use Rattle.thread_table.specs.Own.{View}
 use Rattle.thread_table.specs.declared.takings.NextRefusal.{NextRefusal}
 use Rattle.thread_table.specs.declared.takings.NextRefusal.TheVariants as nexts
 use Rattle.thread_table.specs.declared.moves.MoveRefusal.{MoveRefusal}
@@ -16,72 +17,38 @@ use Rattle.thread_table.specs.declared.states.Signalled.{Signalled}
 use Rattle.thread_table.specs.declared.states.Signalled.TheVariants as signalled
 use Rattle.thread_table.specs.declared.states.Lost.{Lost}
 use Rattle.thread_table.specs.declared.programs.Spent.{Spent}
-use Rattle.thread_table.specs.Schedules.{elements_after, ring_at, thread_at}
 use Rattle.thread_table.specs.declared.layout.TheConstants.{NOTIFY, STOP}
-use Rattle.thread_table.specs.Layout.{state_word, head_word, tail_word, place_word, wait_ring, stop_bit, last_head}
-use Rattle.thread_table.specs.Layout.{most_done}
-use Rattle.thread_table.specs.Shown.{tail_shown, mark_of}
-use Rattle.thread_table.specs.Rules.{has}
-use Rattle.thread_table.specs.Steps.{Found, Claims, claim_event, Raises, Takes, Marks, Parks, Starts, Delivers}
-use Rattle.thread_table.specs.Steps.{ReadPc, StoresPc}
+use Rattle.thread_table.specs.Schedules.{Past, state_after, ring_name}
+use Rattle.thread_table.specs.Layout.{processor_word, state_word, done_word, head_word, tail_word, place_word}
+use Rattle.thread_table.specs.Layout.{wait_ring, stop_bit, cell_bit, last_head, most_done}
+use Rattle.thread_table.specs.Makers.{made_in}
+use Rattle.thread_table.specs.Views.{quiet, with_held, with_start, with_on, with_off, count_of, having_found}
+use Rattle.thread_table.specs.Rules.{running}
+use Rattle.table_theory.specs.Ledgers.{load}
+use Rattle.thread_table.specs.Entries.{Step, change, Acts, with_event, steps_in, HoldsMore, HoldsLess}
+use Rattle.thread_table.specs.Entries.{take_event, claim_event}
 
--- The tail was loaded, and then the place at it
-pub record FoundFirst (v : View) (ring tail place : ℕ) (w : View) : Type 0 where
-  pub loaded : View
-  pub tail_loaded : Found v (tail_word ring) tail loaded
-  pub place_loaded : Found loaded (place_word ring tail) place w
+-- Behind these entries, the answer to a taking. The tail was loaded, and then the place at it. The place was raised,
+-- and the exchange of the tail found it still: the hand holds the place's element. NoneReady: the place was not raised,
+-- and the tail was found again. Lost: another tail was found, past that one
+abbrev pub TakesAfter : List Step → ℕ → View → ℕ → Result ℕ NextRefusal → View → Type 0
+TakesAfter before call v ring (Ok element) w = (tail place : ℕ) × (r s t : Past)
+    × (place / 256 ≡ tail + 1) × (element ≡ place % 256) × HoldsMore element v w
+    × Acts v (before ++ load (tail_word ring) tail r ∷ load (place_word ring tail) place s
+    ∷ change (tail_word ring) tail t (take_event call ring) ∷ [])
+    (with_event (with_held v element true) (take_event call ring)) w
+TakesAfter before call v ring (Err nexts.NoneReady) w = (tail place : ℕ) × (r s t : Past)
+    × (place / 256 ≢ tail + 1)
+    × Acts v (before ++ load (tail_word ring) tail r ∷ load (place_word ring tail) place s
+    ∷ load (tail_word ring) tail t ∷ []) (quiet v) w
+TakesAfter before call v ring (Err (nexts.Lost seen)) w = (tail place : ℕ) × (r s t : Past)
+    × (tail < seen)
+    × Acts v (before ++ load (tail_word ring) tail r ∷ load (place_word ring tail) place s
+    ∷ load (tail_word ring) seen t ∷ []) (quiet v) w
 
--- The place at the tail was raised, and then the tail was exchanged, and was still that one. The element of the place
--- was the oldest of the queue, and the hand holds it
-pub record TookFirst (call : ℕ) (v : View) (ring element : ℕ) (w : View) : Type 0 where
-  pub tail : ℕ
-  pub place : ℕ
-  pub before : View
-  pub found : FoundFirst v ring tail place before
-  pub raised : place / 256 ≡ tail + 1
-  pub element_is : element ≡ place % 256
-  pub took : Takes call ring tail before w
-  pub oldest : take 1 (left (ring_at (elements_after took.did.before) ring)) ≡ element ∷ []
-  pub holds : (e : ℕ) → has w e ≡ (has v e || e == element)
-
--- The place at the tail was not raised, and the tail was found again after that. So the run at the tail was not raised
--- when the place was loaded
-pub record WasNotRaised (v : View) (ring : ℕ) (w : View) : Type 0 where
-  pub tail : ℕ
-  pub place : ℕ
-  pub before : View
-  pub found : FoundFirst v ring tail place before
-  pub low : place / 256 ≢ tail + 1
-  pub tail_again : Found before (tail_word ring) tail w
-  pub from : tail ≡ tail_shown v.first (elements_after before.schedule) ring
-  pub unraised : (ring_at (elements_after before.schedule) ring).raised
-      (ring_at (elements_after before.schedule) ring).taken 0 ≡ false
-
--- the place at the tail was not raised, and then another tail was found, past that one
-pub record PassedBefore (v : View) (ring seen : ℕ) (w : View) : Type 0 where
-  pub tail : ℕ
-  pub place : ℕ
-  pub before : View
-  pub found : FoundFirst v ring tail place before
-  pub low : place / 256 ≢ tail + 1
-  pub tail_again : Found before (tail_word ring) seen w
-  pub past : tail < seen
-
--- the place at the tail was raised, but the exchange found another tail, past that one
-pub record PassedMeanwhile (v : View) (ring seen : ℕ) (w : View) : Type 0 where
-  pub tail : ℕ
-  pub place : ℕ
-  pub before : View
-  pub found : FoundFirst v ring tail place before
-  pub raised : place / 256 ≡ tail + 1
-  pub missed : Found before (tail_word ring) seen w
-  pub past : tail < seen
-
--- the answer to a taking: the first element; or there was none that was ready; or another hand took first
+-- the answer to a taking
 abbrev pub TakeAnswer : ℕ → View → ℕ → Result ℕ NextRefusal → View → Type 0
-TakeAnswer call v ring (Ok element) w = TookFirst call v ring element w
-TakeAnswer call v ring (Err nexts.NoneReady) w = WasNotRaised v ring w
-TakeAnswer call v ring (Err (nexts.Lost seen)) w = PassedBefore v ring seen w ⊎ PassedMeanwhile v ring seen w
+TakeAnswer call v ring answer w = TakesAfter [] call v ring answer w
 
 -- the position, and the number of notifies, of a head word
 abbrev pub head_in : ℕ → ℕ
@@ -90,183 +57,197 @@ head_in word = word % NOTIFY
 abbrev pub mark_in : ℕ → ℕ
 mark_in word = word / NOTIFY
 
--- the head word was loaded, with a position left
-pub record FoundHead (v : View) (ring word : ℕ) (w : View) : Type 0 where
-  pub loaded : Found v (head_word ring) word w
-  pub positions : head_in word < last_head
+-- the hand raises the place of this position
+abbrev pub raise_event : ℕ → View → ℕ → ℕ → Event
+raise_event call v ring position = events.Raise call (ring_name ring) (position - v.own.first) 0
 
--- The hand found a position left, claimed it for an element that it held, by one exchange of the head word that it had
--- loaded, and raised it. It holds the element no more
-pub record MovedTo (call : ℕ) (v : View) (ring element : ℕ) (event : Event) (w : View) : Type 0 where
-  pub word : ℕ
-  pub before : View
-  pub found : FoundHead v ring word before
-  pub between : View
-  pub claims : Claims call ring element event word before between
-  pub raises : Raises call ring (length (ring_at (elements_after claims.did.before) ring).history) element between w
-  pub gone : (e : ℕ) → has w e ≡ (if e == element then false else has v e)
+-- the element is moved on by these two events, the first behind this schedule
+abbrev pub with_move : View → ℕ → Event → Past → Event → View
+with_move v element claim past raise = record v {
+  own = record v.own {
+    held = slice_set v.own.held element false;
+    claimed = None;
+    counted = None;
+    made = v.own.made ++ made_in claim (state_after past.object)
+        ∷ record { event = raise; number = 0; signals = [] } ∷ [];
+  };
+}
 
--- the head that was loaded is the last position
-pub record WasSpent (v : View) (ring : ℕ) (w : View) : Type 0 where
-  pub word : ℕ
-  pub loaded : Found v (head_word ring) word w
-  pub spent : head_in word ≡ last_head
-  pub at_end : v.first + length (ring_at (elements_after w.schedule) ring).history ≡ last_head
+-- The head word was loaded, with a position left, and exchanged, and was that one still: the event claims the position
+-- for the element, of which no step was counted up to then. Then the place there was raised. The hand holds the element
+-- no more
+abbrev pub MovedBy : ℕ → View → ℕ → ℕ → Event → ℕ → View → Type 0
+MovedBy call v ring element event word w = (place : ℕ) × (r s t : Past)
+    × (head_in word < last_head) × (steps_in element s.object ≡ steps_in element v.seen.object) × HoldsLess element v w
+    × Acts v (load (head_word ring) word r ∷ change (head_word ring) word s event
+    ∷ change (place_word ring (head_in word)) place t (raise_event call v ring (head_in word)) ∷ [])
+    (with_move v element event s (raise_event call v ring (head_in word))) w
 
--- a position was left, but the exchange found another head word
-pub record WasOvertaken (v : View) (ring seen : ℕ) (w : View) : Type 0 where
-  pub word : ℕ
-  pub before : View
-  pub found : FoundHead v ring word before
-  pub missed : Found before (head_word ring) seen w
-  pub differs : seen ≢ word
+-- the head word was loaded, and its head is the last position
+abbrev pub WasSpent : View → ℕ → View → Type 0
+WasSpent v ring w = (word : ℕ) × (r : Past) × (head_in word ≡ last_head)
+    × Acts v (load (head_word ring) word r ∷ []) (quiet v) w
+
+-- the head word was loaded, with a position left, but the exchange found another
+abbrev pub Overtaken : View → ℕ → ℕ → ℕ → View → Type 0
+Overtaken v ring word seen w = (r s : Past) × (head_in word < last_head) × (seen ≢ word)
+    × Acts v (load (head_word ring) word r ∷ load (head_word ring) seen s ∷ []) (quiet v) w
 
 -- the answer to a move without a ticket: the element is in the queue; or no position was left; or another hand moved
 -- first
 abbrev pub MoveAnswer : ℕ → View → ℕ → ℕ → Result (Unit {0}) MoveRefusal → View → Type 0
-MoveAnswer call v ring element (Ok done) w = MovedTo call v ring element (claim_event call ring element) w
+MoveAnswer call v ring element (Ok done) w =
+    (word : ℕ) × MovedBy call v ring element (claim_event call ring element) word w
 MoveAnswer call v ring element (Err moves.Spent) w = WasSpent v ring w
-MoveAnswer call v ring element (Err (moves.Lost seen)) w = WasOvertaken v ring seen w
+MoveAnswer call v ring element (Err (moves.Lost seen)) w = (word : ℕ) × Overtaken v ring word seen w
 MoveAnswer call v ring element (Err (moves.Moved mark)) w = ⊥
 
 -- the number of notifies was loaded
-pub record IsTicket (v : View) (wait ticket : ℕ) (w : View) : Type 0 where
-  pub word : ℕ
-  pub loaded : Found v (head_word (wait_ring wait)) word w
-  pub is : ticket ≡ mark_in word
-  pub marked : ticket ≡ mark_of (elements_after w.schedule) (wait_ring wait)
+abbrev pub IsTicket : View → ℕ → ℕ → View → Type 0
+IsTicket v wait ticket w = (word : ℕ) × (r : Past) × (ticket ≡ mark_in word)
+    × Acts v (load (head_word (wait_ring wait)) word r ∷ []) (quiet v) w
 
--- the hand moved, and the head word had the ticket
-pub record WaitedAt (call : ℕ) (v : View) (wait element ticket : ℕ) (w : View) : Type 0 where
-  pub moved : MovedTo call v (wait_ring wait) element (events.WaitAt call wait element ticket) w
-  pub is : mark_in moved.word ≡ ticket
-
--- a position was left, and the number of notifies was this one, not the ticket
-pub record MovedBefore (v : View) (wait ticket mark : ℕ) (w : View) : Type 0 where
-  pub word : ℕ
-  pub found : FoundHead v (wait_ring wait) word w
-  pub mark_is : mark ≡ mark_in word
-  pub differs : mark ≢ ticket
-
--- A position was left, and the number of notifies was the ticket, but the exchange found this other one
-pub record MovedMeanwhile (v : View) (wait ticket mark : ℕ) (w : View) : Type 0 where
-  pub word : ℕ
-  pub before : View
-  pub found : FoundHead v (wait_ring wait) word before
-  pub was : mark_in word ≡ ticket
-  pub seen : ℕ
-  pub missed : Found before (head_word (wait_ring wait)) seen w
-  pub mark_is : mark ≡ mark_in seen
-  pub differs : mark ≢ ticket
-
--- a position was left, and the exchange found another head word, but the ticket in both
-pub record OvertakenAt (v : View) (wait ticket seen : ℕ) (w : View) : Type 0 where
-  pub lost : WasOvertaken v (wait_ring wait) seen w
-  pub was : mark_in lost.word ≡ ticket
-  pub still : mark_in seen ≡ ticket
+-- Not the ticket but this number of notifies was found: in the head word that was loaded, with a position left; or in
+-- the one that the exchange found, where the one loaded had the ticket
+abbrev pub HasMoved : View → ℕ → ℕ → ℕ → View → Type 0
+HasMoved v wait ticket mark w = (word : ℕ) × (r : Past) × (head_in word < last_head) × (mark ≢ ticket)
+    × (((mark ≡ mark_in word) × Acts v (load (head_word (wait_ring wait)) word r ∷ []) (quiet v) w)
+    ⊎ ((mark_in word ≡ ticket) × (seen : ℕ) × (s : Past) × (mark ≡ mark_in seen)
+    × Acts v (load (head_word (wait_ring wait)) word r ∷ load (head_word (wait_ring wait)) seen s ∷ []) (quiet v) w))
 
 -- the answer to a wait with a ticket: the element is in the wait queue; or no position was left; or another hand moved
 -- first; or the number of notifies was no more the ticket
 abbrev pub WaitAnswer : ℕ → View → ℕ → ℕ → ℕ → Result (Unit {0}) MoveRefusal → View → Type 0
-WaitAnswer call v wait element ticket (Ok done) w = WaitedAt call v wait element ticket w
+WaitAnswer call v wait element ticket (Ok done) w = (word : ℕ) × (mark_in word ≡ ticket)
+    × MovedBy call v (wait_ring wait) element (events.WaitAt call wait element ticket) word w
 WaitAnswer call v wait element ticket (Err moves.Spent) w = WasSpent v (wait_ring wait) w
-WaitAnswer call v wait element ticket (Err (moves.Lost seen)) w = OvertakenAt v wait ticket seen w
-WaitAnswer call v wait element ticket (Err (moves.Moved mark)) w =
-    MovedBefore v wait ticket mark w ⊎ MovedMeanwhile v wait ticket mark w
+WaitAnswer call v wait element ticket (Err (moves.Lost seen)) w =
+    (word : ℕ) × (mark_in word ≡ ticket) × (mark_in seen ≡ ticket) × Overtaken v (wait_ring wait) word seen w
+WaitAnswer call v wait element ticket (Err (moves.Moved mark)) w = HasMoved v wait ticket mark w
 
 abbrev pub is_in : ℕ → ℕ → Bool
 is_in mask number = bit_at mask number == 1
 
 -- the stop bit was set, and the answer is whether it was clear
-pub record StoppedNow (call : ℕ) (v : View) (element : ℕ) (was_clear : Bool) (w : View) : Type 0 where
-  pub word : ℕ
-  pub marks : Marks call element (events.Stop call element) v word w
-  pub answer : was_clear ≡ not (thread_at (elements_after marks.did.before) element).stop
+abbrev pub StoppedNow : ℕ → View → ℕ → Bool → View → Type 0
+StoppedNow call v element was_clear w = (word : ℕ) × (r : Past) × (was_clear ≡ not (is_in word stop_bit))
+    × Acts v (change (state_word element) word r (events.Stop call element) ∷ [])
+    (with_event (quiet v) (events.Stop call element)) w
 
 -- the signal was made pending, and this is whether it had been
-pub record SignalledNow (call : ℕ) (v : View) (element number : ℕ) (was_pending : Bool) (w : View) : Type 0 where
-  pub word : ℕ
-  pub marks : Marks call element (events.Signal call element number) v word w
-  pub was : (thread_at (elements_after marks.did.before) element).pending number ≡ was_pending
+abbrev pub SignalledNow : ℕ → View → ℕ → ℕ → Bool → View → Type 0
+SignalledNow call v element number was_pending w = (word : ℕ) × (r : Past) × (is_in word number ≡ was_pending)
+    × Acts v (change (state_word element) word r (events.Signal call element number) ∷ [])
+    (with_event (quiet v) (events.Signal call element number)) w
 
 -- the answer to a signal: whether it was pending before
 abbrev pub SignalAnswer : ℕ → View → ℕ → ℕ → Signalled → View → Type 0
 SignalAnswer call v element number signalled.Raised w = SignalledNow call v element number false w
 SignalAnswer call v element number signalled.Merged w = SignalledNow call v element number true w
 
--- the state word was loaded, and then this was done by one exchange of that word
-pub record FoundThen (v : View) (element : ℕ) (Does : ℕ → View → View → Type 0) (w : View) : Type 0 where
-  pub word : ℕ
-  pub before : View
-  pub loaded : Found v (state_word element) word before
-  pub does : Does word before w
+-- the state word was loaded, which is so, and exchanged, and was that one still: the event was made
+abbrev pub Exchanged : (ℕ → Type 0) → View → ℕ → Event → View → View → Type 0
+Exchanged Is v element event now w = (word : ℕ) × (r s : Past) × Is word
+    × Acts v (load (state_word element) word r ∷ change (state_word element) word s event ∷ []) now w
 
--- the state word was loaded, and the exchange found another one
-pub record WasChanged (Allows : ℕ → Type 0) (v : View) (element seen : ℕ) (w : View) : Type 0 where
-  pub word : ℕ
-  pub before : View
-  pub loaded : Found v (state_word element) word before
-  pub allows : Allows word
-  pub missed : Found before (state_word element) seen w
-  pub differs : seen ≢ word
+-- the state word was loaded, which is so, but the exchange found another
+abbrev pub WasChanged : (ℕ → Type 0) → View → ℕ → ℕ → View → Type 0
+WasChanged Is v element seen w = (word : ℕ) × (r s : Past) × Is word × (seen ≢ word)
+    × Acts v (load (state_word element) word r ∷ load (state_word element) seen s ∷ []) (quiet v) w
 
--- the state word was loaded, and the stop bit was clear
-pub record FoundRunning (v : View) (element : ℕ) (w : View) : Type 0 where
-  pub word : ℕ
-  pub loaded : Found v (state_word element) word w
-  pub clear : (thread_at (elements_after w.schedule) element).stop ≡ false
+-- the state word was loaded, which is so
+abbrev pub FoundState : (ℕ → Type 0) → View → ℕ → View → Type 0
+FoundState Is v element w = (word : ℕ) × (r : Past) × Is word
+    × Acts v (load (state_word element) word r ∷ []) (quiet v) w
 
--- the stop bit of a state word is set
+-- the stop bit of a state word is set, or clear
 abbrev pub HasStop : ℕ → Type 0
-HasStop word = bit_at word stop_bit ≡ 1
+HasStop word = is_in word stop_bit ≡ true
+
+abbrev pub HasNoStop : ℕ → Type 0
+HasNoStop word = is_in word stop_bit ≡ false
+
+-- its stop bit is set, and the bit of its stop cell is this
+abbrev pub HasCell : Bool → ℕ → Type 0
+HasCell parked word = HasStop word × (is_in word cell_bit ≡ parked)
 
 -- a signal of a state word is pending
 abbrev pub HasSignals : ℕ → Type 0
 HasSignals word = 0 < word % STOP
 
+-- the stop bit is cleared, and this is whether the element was parked
+abbrev pub StartedNow : ℕ → View → ℕ → Bool → View → Type 0
+StartedNow call v element parked w = Exchanged (HasCell parked) v element (events.Start call element)
+    (with_event (with_start v element parked) (events.Start call element)) w
+
 -- the answer to a start: the stop bit was clear; or it is now, and the hand holds the element where that was parked; or
 -- the state word was changed meanwhile
 abbrev pub StartAnswer : ℕ → View → ℕ → Result Started Lost → View → Type 0
-StartAnswer call v element (Ok started.NotStopped) w = FoundRunning v element w
-StartAnswer call v element (Ok started.Cleared) w = (b : FoundThen v element (Starts call element) w)
-    × ((thread_at (elements_after b.does.did.before) element).parked ≡ false)
-StartAnswer call v element (Ok started.Held) w = (b : FoundThen v element (Starts call element) w)
-    × ((thread_at (elements_after b.does.did.before) element).parked ≡ true) × (has w element ≡ true)
+StartAnswer call v element (Ok started.NotStopped) w = FoundState HasNoStop v element w
+StartAnswer call v element (Ok started.Cleared) w = StartedNow call v element false w
+StartAnswer call v element (Ok started.Held) w = HoldsMore element v w × StartedNow call v element true w
 StartAnswer call v element (Err lost) w = WasChanged HasStop v element lost.seen w
 
--- the answer to a park: whether the element stands in its stop cell
+-- the answer to a park: whether the element stands in its stop cell; no step of it was counted
 abbrev pub ParkAnswer : ℕ → View → ℕ → Result Bool Lost → View → Type 0
-ParkAnswer call v element (Ok true) w = FoundThen v element (Parks call element) w × (has w element ≡ false)
-ParkAnswer call v element (Ok false) w = FoundRunning v element w
+ParkAnswer call v element (Ok true) w = HoldsLess element v w
+    × Exchanged HasStop v element (events.Park call element)
+    (with_event (with_held v element false) (events.Park call element)) w
+    × (steps_in element w.seen.object ≡ steps_in element v.seen.object)
+ParkAnswer call v element (Ok false) w = FoundState HasNoStop v element w
 ParkAnswer call v element (Err lost) w = WasChanged HasStop v element lost.seen w
 
--- the bits of the mask are the signals that are pending after these events
-abbrev pub ArePending : ℕ → List Event → ℕ → Type 0
-ArePending element schedule mask = (signal : ℕ) → signal < 16
-    → (thread_at (elements_after schedule) element).pending signal ≡ is_in mask signal
+-- the signals of a mask, in order
+abbrev pub signals_in : ℕ → List ℕ
+signals_in mask = filter (is_in mask) (range_with_len 0 16)
 
--- the state word was loaded, and no signal was pending
-pub record FoundNoSignal (v : View) (element : ℕ) (w : View) : Type 0 where
-  pub word : ℕ
-  pub loaded : Found v (state_word element) word w
-  pub none : ArePending element w.schedule 0
+-- these signals of an element are delivered
+abbrev pub with_delivery : View → Event → ℕ → View
+with_delivery v event mask = record v {
+  own = record v.own {
+    counted = None;
+    made = v.own.made ++ record { event = event; number = 0; signals = signals_in mask } ∷ [];
+  };
+}
 
 -- the answer to a delivery: the signals that were pending; where none was, no event is made
 abbrev pub DeliverAnswer : ℕ → View → ℕ → Result ℕ Lost → View → Type 0
-DeliverAnswer call v element (Ok zero) w = FoundNoSignal v element w
-DeliverAnswer call v element (Ok (suc mask)) w = (b : FoundThen v element (Delivers call element) w)
-    × ArePending element b.does.did.before (suc mask)
+DeliverAnswer call v element (Ok zero) w = FoundState (λ word. word % STOP ≡ 0) v element w
+DeliverAnswer call v element (Ok (suc mask)) w = Exchanged (λ word. word % STOP ≡ suc mask) v element
+    (events.Deliver call element) (with_delivery v (events.Deliver call element) (suc mask)) w
 DeliverAnswer call v element (Err lost) w = WasChanged HasSignals v element lost.seen w
 
--- the number of steps done was found, and then one more counted
-pub record CountedStep (call : ℕ) (v : View) (element number : ℕ) (w : View) : Type 0 where
-  pub count : ℕ
-  pub between : View
-  pub found : ReadPc element v count between
-  pub steps : StoresPc call element count between w
-  pub is : number ≡ count + 1
+-- the number of steps that the element had done was found: those that were counted up to then
+abbrev pub ReadPc : ℕ → View → ℕ → View → Type 0
+ReadPc element v found w = (r : Past) × (found ≡ steps_in element r.object)
+    × Acts v (load (done_word element) found r ∷ []) (having_found v (count_of element found)) w
 
--- the answer to a step done: the new number of steps; or Spent, where 4,294,967,295 were found to be done
+-- the hand counts a step of an element, which had done so many
+abbrev pub with_step : View → Event → ℕ → View
+with_step v event number = record v {
+  own = record v.own {
+    counted = None;
+    made = v.own.made ++ record { event = event; number = number; signals = [] } ∷ [];
+  };
+}
+
+-- the answer to a step done: the new number of steps, one more than was found; or Spent, where 4,294,967,295 were found
+-- to be done
 abbrev pub DoneAnswer : ℕ → View → ℕ → Result ℕ Spent → View → Type 0
-DoneAnswer call v element (Ok number) w = CountedStep call v element number w
+DoneAnswer call v element (Ok number) w = (count : ℕ) × (r s : Past) × (number ≡ count + 1)
+    × (count ≡ steps_in element r.object) × (count ≡ steps_in element s.object)
+    × Acts v (load (done_word element) count r ∷ change (done_word element) count s (events.Done call element) ∷ [])
+    (with_step v (events.Done call element) count) w
 DoneAnswer call v element (Err spent) w = ReadPc element v most_done w
+
+-- an element that the hand held is on a processor, whose word was 0
+abbrev pub PutsOn : ℕ → ℕ → ℕ → View → View → Type 0
+PutsOn call p element v w = (r : Past) × (running w p ≡ Some element) × HoldsLess element v w
+    × Acts v (change (processor_word p) 0 r (events.On call p element) ∷ [])
+    (with_event (with_on v p element) (events.On call p element)) w
+
+-- the element is off the processor, whose word was one more than its number
+abbrev pub TakesOff : ℕ → ℕ → ℕ → View → View → Type 0
+TakesOff call p element v w = (r : Past) × (running w p ≡ None) × HoldsMore element v w
+    × Acts v (change (processor_word p) (element + 1) r (events.Off call p) ∷ [])
+    (with_event (with_off v p element) (events.Off call p)) w

@@ -12,14 +12,14 @@ use Rattle.event_theory.specs.States.{State, first_state}
 use Rattle.event_theory.specs.declared.event.Event.{Event}
 use Rattle.table_theory.specs.Courses.{IsCourse}
 use Rattle.table_theory.specs.Ends.{Begins}
-use Rattle.table_theory.specs.Members.{EndsKnown}
+use Rattle.table_theory.specs.Ledgers.{EndsStand, opened}
 use Rattle.thread_table.specs.declared.rule.Shape.{Shape}
-use Rattle.thread_table.specs.declared.rule.View.{View}
+use Rattle.thread_table.specs.Own.{View}
 use Rattle.thread_table.specs.Schedules.{ring_at, element_at}
 use Rattle.thread_table.specs.declared.layout.TheConstants.{ELEMENTS, RINGS}
 use Rattle.thread_table.specs.Layout.{ends_word}
 use Rattle.thread_table.specs.Shown.{WordsShow}
-use Rattle.thread_table.specs.Rules.{HandIs, IsIdle, IsOpen, serves, member_of, steps_of, course_of}
+use Rattle.thread_table.specs.Rules.{HandIs, IsOpen, serves, nothing_of, now_of}
 use Rattle.thread_table.specs.Joins.{AreJoins, AreJoined}
 use Rattle.thread_table.specs.Makers.{AreMade, made_of}
 use Rattle.thread_table.specs.Retiring.{AreRetired}
@@ -37,7 +37,7 @@ pub record ShowsElements (key : Shape) (s : tables.State Unit View) : Type 0 whe
   pub once : (element : ℕ) → element < ELEMENTS → appearances element core.elements ≡ 1
   pub accounted : IsAccounted (first_state ELEMENTS) events core
   pub shown : WordsShow key.first core.elements s.words
-  pub hands : (j : ℕ) (v : View) → get_elem? s.views j ≡ some v → HandIs j v core.elements × Begins v.schedule events
+  pub hands : (j : ℕ) (v : View) → get_elem? s.views j ≡ some v → HandIs j v core.elements × Begins v.seen.object events
   -- the hands list the events, each once, but for the joins
   pub made : AreMade events (map made_of s.views)
   -- each run of the free elements' queue, behind those with which it began, is a claim among the events
@@ -48,14 +48,14 @@ pub record ShowsElements (key : Shape) (s : tables.State Unit View) : Type 0 whe
   -- each run that isn't raised is that of a hand which is about to raise it
   pub owned : (ring run : ℕ) → ring < RINGS → IsOpen ring run core.elements → (j : ℕ) × (v : View)
       × (get_elem? s.views j ≡ some v)
-      × (v.claimed ≡ Some (claim_of ring run (element_at (ring_at core.elements ring) run)))
+      × (v.own.claimed ≡ Some (claim_of ring run (element_at (ring_at core.elements ring) run)))
   -- the word has the number of the hands that stand
-  pub ends : EndsKnown member_of IsIdle (slice_index_or s.words ends_word 0) s.views
+  pub ends : EndsStand (nothing_of key.first) (slice_index_or s.words ends_word 0) s.views
   -- the joins of the schedule are the hands': each hand that doesn't stand any more was joined once, and no other
   pub joined : AreJoined events s.views
   -- the hands' steps lead to the events from none, with the joins among them, which this view, of no hand, has; and
   -- each hand has seen all of them up to its own last step
   pub joiner : View
   pub are_joins : AreJoins events joiner.steps
-  pub course : IsCourse steps_of course_of [] events (joiner ∷ s.views)
+  pub course : IsCourse (λ v. v.steps) (λ v. v.course) (opened []) (now_of events s.words) (joiner ∷ s.views)
   pub no_others : (call element : ℕ) → length s.views ≤ call → holds call element core.elements ≡ false

@@ -8,20 +8,22 @@ use Rattle.event_theory.specs.Appearances.{is_on}
 use Rattle.event_theory.specs.Elements.{Elements, holds}
 use Rattle.event_theory.specs.Queues.{Queue, left}
 use Rattle.event_theory.specs.States.{first_state}
-use Rattle.table_theory.specs.Sharing.{IsWhole}
+use Rattle.event_theory.specs.declared.event.Event.{Event}
+use Rattle.table_theory.specs.Ledgers.{load}
+use Rattle.table_theory.specs.Sharing.{IsWhole, IsCount}
 use Rattle.thread_table.specs.declared.places.Place.{Place}
 use Rattle.thread_table.specs.declared.places.Place.TheVariants as places
-use Rattle.thread_table.specs.declared.rule.View.{View}
-use Rattle.thread_table.specs.Schedules.{state_after, elements_after, IsAllowed, ring_at, thread_at}
+use Rattle.thread_table.specs.Own.{View}
+use Rattle.thread_table.specs.Schedules.{Past, state_after, elements_after, IsAllowed, ring_at, thread_at}
 use Rattle.thread_table.specs.declared.layout.TheConstants.{PROCESSORS, ELEMENTS, RINGS, NOTIFY}
 use Rattle.thread_table.specs.Layout.{processor_word, state_word, head_word, tail_word, place_word, ready_ring}
-use Rattle.thread_table.specs.Layout.{free_ring, wait_ring, cell_bit}
+use Rattle.thread_table.specs.Layout.{ends_word, free_ring, wait_ring, cell_bit}
 use Rattle.thread_table.specs.Rules.{HandIs, done_at}
 use Rattle.thread_table.specs.Views.{quiet}
 use Rattle.thread_table.specs.Makers.{AreMade, StepsOnce}
 use Rattle.thread_table.specs.Retiring.{AreRetired}
-use Rattle.thread_table.specs.Steps.{Tallied}
-use Rattle.thread_table.specs.Answers.{ArePending, is_in}
+use Rattle.thread_table.specs.Entries.{Acts}
+use Rattle.thread_table.specs.Answers.{is_in}
 
 abbrev pub word_at : List ℕ → ℕ → ℕ
 word_at words i = slice_index_or words i 0
@@ -70,25 +72,33 @@ StandsAt call element e (places.Wait wait) = is_left element (ring_at e (wait_ri
 StandsAt call element e places.Stopped = (thread_at e element).parked ≡ true
 StandsAt call element e places.Held = holds call element e ≡ true
 
+-- the bits of the mask are the signals that are pending after these events
+abbrev pub ArePending : ℕ → List Event → ℕ → Type 0
+ArePending element schedule mask = (signal : ℕ) → signal < 16
+    → (thread_at (elements_after schedule) element).pending signal ≡ is_in mask signal
+
 -- The table is closed, by a hand that has the whole and so has seen all events: its schedule is that of the table, its
 -- list has each event of a hand once, each step that an element has done is counted by one of them, and each signal was
 -- made pending as often as it was delivered, once more where it is pending. Each element is in the place that is told
 pub record ClosedNow (call : ℕ) (v : View) (stands : List Place) (pcs pending : List ℕ) (stops : ℕ) : Type 0 where
   pub whole : IsWhole v.member.share
-  pub allowed : IsAllowed v.schedule
-  pub accounted : IsAccounted (first_state ELEMENTS) v.schedule (state_after v.schedule)
-  pub hand : HandIs call (quiet v) (elements_after v.schedule)
-  pub made : AreMade v.schedule (v.made ∷ [])
-  pub steps_once : StepsOnce v.made (elements_after v.schedule)
-  pub retired : AreRetired v.schedule
+  pub allowed : IsAllowed v.seen.object
+  pub accounted : IsAccounted (first_state ELEMENTS) v.seen.object (state_after v.seen.object)
+  pub hand : HandIs call (quiet v) (elements_after v.seen.object)
+  pub made : AreMade v.seen.object (v.own.made ∷ [])
+  pub steps_once : StepsOnce v.own.made (elements_after v.seen.object)
+  pub retired : AreRetired v.seen.object
   pub places : (x : ℕ) → x < ELEMENTS
-      → StandsAt call x (elements_after v.schedule) (slice_index_or stands x places.Held)
-  pub steps : (x : ℕ) → x < ELEMENTS → slice_index_or pcs x 0 ≡ done_at v.schedule x
-  pub signals : (x : ℕ) → x < ELEMENTS → ArePending x v.schedule (slice_index_or pending x 0)
-  pub stopped : (x : ℕ) → x < ELEMENTS → (thread_at (elements_after v.schedule) x).stop ≡ is_in stops x
+      → StandsAt call x (elements_after v.seen.object) (slice_index_or stands x places.Held)
+  pub steps : (x : ℕ) → x < ELEMENTS → slice_index_or pcs x 0 ≡ done_at v.seen.object x
+  pub signals : (x : ℕ) → x < ELEMENTS → ArePending x v.seen.object (slice_index_or pending x 0)
+  pub stopped : (x : ℕ) → x < ELEMENTS → (thread_at (elements_after v.seen.object) x).stop ≡ is_in stops x
 
 -- other hands stand: their number was found, with this hand's, and this hand has not the whole
 pub record WereOpen (v : View) (others : ℕ) (w : View) : Type 0 where
-  pub tallied : Tallied v (others + 1) w
   pub some_other : 0 < others
   pub not_whole : IsWhole v.member.share → ⊥
+  pub past : Past
+  pub acts : Acts v (load ends_word (others + 1) past ∷ []) (quiet v) w
+  pub number : others + 1 ≡ past.ends
+  pub count : IsCount v.member.share (others + 1)

@@ -1,10 +1,9 @@
 -- What a clause says of a table and of a hand.
-use Rattle.std.specs.Prelude.{◌≡◌, ◌≤◌, ℕ}
-use Rattle.table_theory.specs.Sharing.{IsWhole}
-use Rattle.thread_table.specs.declared.rule.View.{View}
+use Rattle.std.specs.Prelude.{ℕ}
+use Rattle.thread_table.specs.Own.{View}
 use Rattle.thread_table.specs.declared.hand.ThreadTable.{ThreadTable}
 use Rattle.thread_table.specs.declared.hand.Hand.{Hand}
-use Rattle.table_theory.specs.Seating.{IsSame}
+use Rattle.table_theory.specs.Seating as seats
 
 -- what the hand knows
 abbrev pub view_of : Hand → View
@@ -16,23 +15,23 @@ call_of hand = hand.seat.id
 
 -- every other hand was joined
 abbrev pub IsOnlyHand : Hand → Type 0
-IsOnlyHand hand = IsWhole hand.seat.me.0.member.share
+IsOnlyHand hand = seats.IsOnly hand.seat
 
 -- the hand can be split: it has two parts of the share or more
 abbrev pub IsDivisible : Hand → Type 0
-IsDivisible hand = 2 ≤ hand.seat.me.0.member.share
+IsDivisible hand = seats.IsDivisible hand.seat
 
 -- it is a hand of this table
 abbrev pub IsHandOf : ThreadTable → Hand → Type 0
-IsHandOf table hand = hand.seat.table_id ≡ table.table.shared.table_id
+IsHandOf table hand = seats.IsOf table.table.shared.table_id hand.seat
 
 -- it is the same hand of the same table
 abbrev pub IsSameHand : Hand → Hand → Type 0
-IsSameHand old new = IsSame old.seat new.seat
+IsSameHand old new = seats.IsSame old.seat new.seat
 
 -- both are hands of one table
 abbrev pub AreOfOneTable : Hand → Hand → Type 0
-AreOfOneTable one other = other.seat.table_id ≡ one.seat.table_id
+AreOfOneTable one other = seats.IsOf one.seat.table_id other.seat
 
 -- the first position of each element queue
 abbrev pub first_of : ThreadTable → ℕ

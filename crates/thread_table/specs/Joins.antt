@@ -5,24 +5,23 @@ use lib.ListN.{get_elem?}
 use Rattle.event_theory.specs.declared.event.Event.{Event}
 use Rattle.event_theory.specs.declared.event.Event.TheVariants as events
 use Rattle.table_theory.specs.Sharing.{total}
-use Rattle.table_theory.specs.declared.views.Entry.{Entry}
+use Rattle.table_theory.specs.Ledgers.{Step, change}
 use Rattle.thread_table.specs.declared.layout.TheConstants.{WORDS}
-use Rattle.thread_table.specs.declared.rule.View.{View}
+use Rattle.thread_table.specs.Own.{View}
 use Rattle.thread_table.specs.Makers.{is_join}
-use Rattle.thread_table.specs.Schedules.{Course}
+use Rattle.thread_table.specs.Schedules.{Past, Course}
 
 -- behind the last word
 abbrev pub no_word : ℕ
 no_word = WORDS
 
--- the entry of a join, behind these events
-abbrev pub joining : List Event → ℕ → ℕ → Entry (List Event)
-joining before call other =
-    record { word = no_word; found = 0; then = before; next = before ++ events.Join call other ∷ [] }
+-- the entry of a join
+abbrev pub joining : Past → ℕ → ℕ → Step (List Event)
+joining before call other = change no_word 0 before (before.object ++ events.Join call other ∷ [])
 
 -- Each of the entries is that of a join, and they are all the joins of the schedule
 pub record AreJoins (schedule : List Event) (joins : Course) : Type 0 where
-  pub each : (i : ℕ) (e : Entry (List Event)) → get_elem? joins i ≡ some e → (call : ℕ) × (other : ℕ)
+  pub each : (i : ℕ) (e : Step (List Event)) → get_elem? joins i ≡ some e → (call : ℕ) × (other : ℕ)
       × (e ≡ joining e.then call other)
   pub all : count_by is_join schedule ≡ length joins
 
@@ -37,7 +36,7 @@ times_joined hand schedule = count_by (is_join_of hand) schedule
 
 -- how many joins the hand has yet to count: one, where it stands, took in another and has made no step since
 abbrev pub uncounted : View → ℕ
-uncounted v = if v.fresh then 0 else (if v.member.ends == 0 then 0 else 1)
+uncounted v = if v.own.fresh then 0 else (if v.member.ends == 0 then 0 else 1)
 
 -- The joins of the schedule are as many as the hands have counted, and are about to count. Each hand that doesn't stand
 -- any more was joined once, and no other ever

@@ -1,9 +1,12 @@
+pub mod Own
 pub mod Schedules
 pub mod Layout
 pub mod Shown
 pub mod Views
+pub mod Telling
 pub mod Joins
 pub mod Rules
+pub mod Entries
 pub mod Steps
 pub mod Answers
 pub mod Reads

@@ -11,7 +11,7 @@ use Rattle.event_theory.specs.declared.event.Event.TheVariants as events
 use Rattle.thread_table.specs.declared.rule.Made.{Made}
 use Rattle.std.specs.Result.{result_unwrap_or}
 use Rattle.event_theory.specs.States.{State, step}
-use Rattle.thread_table.specs.declared.rule.View.{View}
+use Rattle.thread_table.specs.Own.{View}
 use Rattle.thread_table.specs.Schedules.{begun, thread_at}
 
 abbrev pub is_join : Event → Bool
@@ -19,7 +19,7 @@ is_join (events.Join call other) = true
 is_join event = false
 
 abbrev pub made_of : View → List Made
-made_of v = v.made
+made_of v = v.own.made
 
 -- how many steps the element of a done event, or of a claim, had done before
 abbrev pub number_of : Event → State → ℕ

@@ -1,22 +1,24 @@
 -- What a look at a place or at a state word tells of the table as it is.
 use Rattle.std.specs.Prelude.{◌≡◌, ◌≢◌, ◌+◌, ◌/◌, ◌%◌, ◌≤◌, ℕ, true, false}
-use Rattle.thread_table.specs.declared.rule.View.{View}
+use Rattle.thread_table.specs.Own.{View}
 use Rattle.thread_table.specs.Schedules.{elements_after, ring_at, thread_at, element_at}
 use Rattle.thread_table.specs.Shown.{StateShows}
 
 -- The place at the tail that the hand had seen was found. Where it shows one more than that position, the run is
 -- raised, and while it isn't taken, the word has its element; else the run, while it isn't taken, isn't raised
 pub record Peeked (v : View) (ring found : ℕ) (w : View) : Type 0 where
-  pub up : found / 256 ≡ v.first + (ring_at (elements_after v.schedule) ring).taken + 1
-      → (ring_at (elements_after w.schedule) ring).raised (ring_at (elements_after v.schedule) ring).taken 0 ≡ true
-  pub item : found / 256 ≡ v.first + (ring_at (elements_after v.schedule) ring).taken + 1
-      → (ring_at (elements_after w.schedule) ring).taken ≤ (ring_at (elements_after v.schedule) ring).taken
+  pub up : found / 256 ≡ v.own.first + (ring_at (elements_after v.seen.object) ring).taken + 1
+      → (ring_at (elements_after w.seen.object) ring).raised (ring_at (elements_after v.seen.object) ring).taken 0
+      ≡ true
+  pub item : found / 256 ≡ v.own.first + (ring_at (elements_after v.seen.object) ring).taken + 1
+      → (ring_at (elements_after w.seen.object) ring).taken ≤ (ring_at (elements_after v.seen.object) ring).taken
       → found % 256
-      ≡ element_at (ring_at (elements_after w.schedule) ring) (ring_at (elements_after v.schedule) ring).taken
-  pub low : found / 256 ≢ v.first + (ring_at (elements_after v.schedule) ring).taken + 1
-      → (ring_at (elements_after w.schedule) ring).taken ≤ (ring_at (elements_after v.schedule) ring).taken
-      → (ring_at (elements_after w.schedule) ring).raised (ring_at (elements_after v.schedule) ring).taken 0 ≡ false
+      ≡ element_at (ring_at (elements_after w.seen.object) ring) (ring_at (elements_after v.seen.object) ring).taken
+  pub low : found / 256 ≢ v.own.first + (ring_at (elements_after v.seen.object) ring).taken + 1
+      → (ring_at (elements_after w.seen.object) ring).taken ≤ (ring_at (elements_after v.seen.object) ring).taken
+      → (ring_at (elements_after w.seen.object) ring).raised (ring_at (elements_after v.seen.object) ring).taken 0
+      ≡ false
 
 -- the state word shows the element as it was when the hand last looked
 abbrev pub StateIs : ℕ → ℕ → View → Type 0
-StateIs element word w = StateShows (thread_at (elements_after w.schedule) element) word
+StateIs element word w = StateShows (thread_at (elements_after w.seen.object) element) word

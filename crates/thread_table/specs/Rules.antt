@@ -4,34 +4,27 @@ use Rattle.std.specs.Prelude.{slice_index_or, Option, Some, None, option_map}
 use Rattle.std.specs.List.{slice_get, list_any, repeat}
 use mathlib.Core.Option.{some}
 use lib.ListN.{get_elem?}
-use Rattle.table_theory.specs.declared.views.Member.{Member}
-use Rattle.table_theory.specs.Courses.{IsCourse}
 use Rattle.table_theory.specs.Ends.{Begins}
-use Rattle.table_theory.specs.Members.{first_member, EndsKnown}
+use Rattle.table_theory.specs.Filing.{entry_of}
+use Rattle.table_theory.specs.Ledgers.{first_of, EndsStand}
+use Rattle.table_theory.specs.Orders.{AreOrdered}
 use Rattle.table_theory.specs.Sharing.{IsWhole}
 use Rattle.event_theory.specs.Elements.{Elements, hold, holds, is_put}
 use Rattle.event_theory.specs.declared.event.Event.{Event}
 use Rattle.atomic_table.specs.Table.{State}
 use Rattle.thread_table.specs.declared.rule.Shape.{Shape}
-use Rattle.thread_table.specs.declared.rule.View.{View}
+use Rattle.thread_table.specs.Own.{View}
 use Rattle.thread_table.specs.declared.rule.Claimed.{Claimed}
 use Rattle.thread_table.specs.declared.rule.Counted.{Counted}
-use Rattle.thread_table.specs.Schedules.{Course, elements_after, IsAllowed, Grows, ring_at, thread_at, element_at}
+use Rattle.thread_table.specs.declared.rule.Having.{Having}
+use Rattle.thread_table.specs.Schedules.{Past, Course, elements_after, IsAllowed, Grows, ring_at, thread_at, element_at}
 use Rattle.thread_table.specs.Views.{claim_of}
 use Rattle.thread_table.specs.Joins.{AreJoins, AreJoined}
 use Rattle.thread_table.specs.Makers.{AreMade, made_of}
 use Rattle.thread_table.specs.declared.layout.TheConstants.{PROCESSORS, ELEMENTS, RINGS}
 use Rattle.thread_table.specs.Layout.{ends_word}
 use Rattle.thread_table.specs.Shown.{WordsShow}
-
-abbrev pub member_of : View → Member
-member_of v = v.member
-
-abbrev pub steps_of : View → Course
-steps_of v = v.steps
-
-abbrev pub course_of : View → Course
-course_of v = v.course
+use Rattle.thread_table.specs.Telling.{of_hands}
 
 -- no element is held
 abbrev pub nothing_held : List Bool
@@ -43,17 +36,35 @@ no_processors = repeat PROCESSORS (false ∷ [])
 abbrev pub nothing_on : List (Option ℕ)
 nothing_on = repeat PROCESSORS (None ∷ [])
 
+-- what a hand has that has nothing, in a table with this first position
+abbrev pub nothing_of : ℕ → Having
+nothing_of first = record {
+  first = first;
+  held = nothing_held;
+  serves = no_processors;
+  on = nothing_on;
+  claimed = None;
+  counted = None;
+  made = [];
+  fresh = false;
+  doubled = false;
+}
+
+-- what a new hand has, which serves the processors of the mask
+abbrev pub serving : ℕ → List Bool → Having
+serving first mask = record (nothing_of first) { serves = mask; fresh = true }
+
 -- the hand holds the element
 abbrev pub has : View → ℕ → Bool
-has v element = slice_index_or v.held element false
+has v element = slice_index_or v.own.held element false
 
 -- the hand serves the processor
 abbrev pub serves : View → ℕ → Bool
-serves v processor = slice_index_or v.serves processor false
+serves v processor = slice_index_or v.own.serves processor false
 
 -- the element that the hand has on the processor
 abbrev pub running : View → ℕ → Option ℕ
-running v processor = slice_index_or v.on processor None
+running v processor = slice_index_or v.own.on processor None
 
 -- the call holds the element, or has it on a processor
 abbrev pub may_step : ℕ → ℕ → Elements → Bool
@@ -74,34 +85,32 @@ pub record IsCounted (call : ℕ) (c : Counted) (e : Elements) : Type 0 where
 
 -- what a hand has is what its call has
 pub record HandIs (call : ℕ) (v : View) (e : Elements) : Type 0 where
-  pub held_long : length v.held ≡ ELEMENTS
-  pub serves_long : length v.serves ≡ PROCESSORS
-  pub on_long : length v.on ≡ PROCESSORS
+  pub held_long : length v.own.held ≡ ELEMENTS
+  pub serves_long : length v.own.serves ≡ PROCESSORS
+  pub on_long : length v.own.on ≡ PROCESSORS
   pub held : (element : ℕ) → holds call element e ≡ has v element
   pub on : (p : ℕ) → serves v p ≡ true → slice_get e.processors p ≡ Some (option_map (hold call) (running v p))
   pub off : (p : ℕ) → serves v p ≡ false → running v p ≡ None
-  pub claimed : (c : Claimed) → v.claimed ≡ Some c → IsClaimed call c e
-  pub counted : (c : Counted) → v.counted ≡ Some c → IsCounted call c e
+  pub claimed : (c : Claimed) → v.own.claimed ≡ Some c → IsClaimed call c e
+  pub counted : (c : Counted) → v.own.counted ≡ Some c → IsCounted call c e
+
+-- a hand that has made a step has what its call has in what it has seen
+abbrev pub HasStood : ℕ → View → Type 0
+HasStood call v = (v.steps ≡ [] → ⊥) → HandIs call v (elements_after v.seen.object)
 
 -- what a hand has seen was earlier
 pub record Seen (v : View) (events : List Event) : Type 0 where
-  pub schedule : Begins v.schedule events
-  pub joined : Begins v.joined events
-  pub grows : Grows (elements_after v.schedule) (elements_after events)
+  pub schedule : Begins v.seen.object events
+  pub grows : Grows (elements_after v.seen.object) (elements_after events)
 
 -- the run is claimed and not raised
 abbrev pub IsOpen : ℕ → ℕ → Elements → Type 0
 IsOpen ring run e =
     (run < length (ring_at e ring).history) × ((ring_at e ring).raised run 0 ≡ false)
 
--- a hand that was joined has nothing, and lists no step
-abbrev pub IsIdle : View → Type 0
-IsIdle v = (v.held ≡ nothing_held) × (v.serves ≡ no_processors) × (v.on ≡ nothing_on) × (v.claimed ≡ None)
-    × (v.made ≡ []) × (v.steps ≡ [])
-
 -- the hand stands, and has counted each join that it made
 abbrev pub IsActive : View → Type 0
-IsActive v = (1 ≤ v.member.ends) × (v.fresh ≡ true)
+IsActive v = (1 ≤ v.member.ends) × (v.own.fresh ≡ true)
 
 -- the hand holds the element, or has it on a processor
 abbrev pub MayStep : View → ℕ → Type 0
@@ -113,12 +122,16 @@ done_at events element = (thread_at (elements_after events) element).done
 
 -- where the hand has made a step since it took in another, no step was counted of what it has
 abbrev pub IsSteady : View → List Event → Type 0
-IsSteady v events = v.fresh ≡ true → (element : ℕ) → element < ELEMENTS → MayStep v element
-    → done_at events element ≡ done_at v.schedule element
+IsSteady v events = v.own.fresh ≡ true → (element : ℕ) → element < ELEMENTS → MayStep v element
+    → done_at events element ≡ done_at v.seen.object element
 
--- a hand that has the whole, and has made a step since it took in another, has seen all events
-abbrev pub IsNewest : View → List Event → Type 0
-IsNewest v events = IsWhole v.member.share → v.fresh ≡ true → v.schedule ≡ events
+-- a hand that has the whole, and has made a step since it took in another, has seen all these steps
+abbrev pub IsNewest : View → Course → Type 0
+IsNewest v past = IsWhole v.member.share → v.own.fresh ≡ true → past ≡ v.course
+
+-- the schedule, and the number of hands that the first word shows
+abbrev pub now_of : List Event → List ℕ → Past
+now_of events words = record { ends = slice_index_or words ends_word 0; object = events }
 
 -- The core allowed each of these events in its turn; what they lead to is what the words show and what the hands have.
 -- No processor is served by two hands, each run that isn't raised is a hand's that is about to raise it, no call but
@@ -128,41 +141,26 @@ pub record Rule (key : Shape) (s : State Unit View) : Type 0 where
   pub events : List Event
   pub allowed : IsAllowed events
   pub shows : WordsShow key.first (elements_after events) s.words
-  pub first : (j : ℕ) (v : View) → get_elem? s.views j ≡ some v → v.first ≡ key.first
+  pub first : (j : ℕ) (v : View) → get_elem? s.views j ≡ some v → v.own.first ≡ key.first
   pub seen : (j : ℕ) (v : View) → get_elem? s.views j ≡ some v → Seen v events
   pub hands : (j : ℕ) (v : View) → get_elem? s.views j ≡ some v → HandIs j v (elements_after events)
   pub sole : (i j p : ℕ) (u v : View) → get_elem? s.views i ≡ some u → get_elem? s.views j ≡ some v
       → serves u p ≡ true → serves v p ≡ true → i ≡ j
   pub owned : (ring run : ℕ) → ring < RINGS → IsOpen ring run (elements_after events) → (j : ℕ) × (v : View)
       × (get_elem? s.views j ≡ some v)
-      × (v.claimed ≡ Some (claim_of ring run (element_at (ring_at (elements_after events) ring) run)))
+      × (v.own.claimed ≡ Some (claim_of ring run (element_at (ring_at (elements_after events) ring) run)))
   pub strange : (call element : ℕ) → length s.views ≤ call → holds call element (elements_after events) ≡ false
   pub made : AreMade events (map made_of s.views)
   pub steady : (j : ℕ) (v : View) → get_elem? s.views j ≡ some v → IsSteady v events
-  pub newest : (j : ℕ) (v : View) → get_elem? s.views j ≡ some v → IsNewest v events
-  pub undoubled : (j : ℕ) (v : View) → get_elem? s.views j ≡ some v → v.doubled ≡ false
-  pub ends : EndsKnown member_of IsIdle (slice_index_or s.words ends_word 0) s.views
+  pub undoubled : (j : ℕ) (v : View) → get_elem? s.views j ≡ some v → v.own.doubled ≡ false
+  pub ends : EndsStand (nothing_of key.first) (slice_index_or s.words ends_word 0) s.views
   pub joined : AreJoined events s.views
   -- the hands' steps lead to the events from none, with the joins among them, which this view, of no hand, has
   pub joiner : View
   pub are_joins : AreJoins events joiner.steps
-  pub course : IsCourse steps_of course_of [] events (joiner ∷ s.views)
+  pub order : AreOrdered (of_hands key.first) [] (now_of events s.words) (joiner ∷ s.views)
+  pub newest : (j : ℕ) (v : View) → get_elem? s.views j ≡ some v → IsNewest v (map entry_of order.course.course)
 
 -- what the first hand of a table knows
 abbrev pub newcomer : Shape → View
-newcomer key = record {
-  first = key.first;
-  schedule = [];
-  joined = [];
-  held = nothing_held;
-  serves = repeat PROCESSORS (true ∷ []);
-  on = nothing_on;
-  claimed = None;
-  counted = None;
-  made = [];
-  fresh = true;
-  doubled = false;
-  member = first_member;
-  steps = [];
-  course = [];
-}
+newcomer key = first_of (serving key.first (repeat PROCESSORS (true ∷ []))) []

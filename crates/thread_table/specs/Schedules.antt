@@ -11,11 +11,16 @@ use Rattle.event_theory.specs.States.{State, first_state, step}
 use Rattle.event_theory.specs.declared.event.Event.{Event}
 use Rattle.event_theory.specs.declared.names.QueueName.{QueueName}
 use Rattle.event_theory.specs.declared.names.QueueName.TheVariants as names
-use Rattle.table_theory.specs.declared.views.Entry.{Entry}
+use Rattle.table_theory.specs.declared.views.Moment.{Moment}
+use Rattle.table_theory.specs.Ledgers.{Step}
 
--- steps of all hands and their joins, in their order: each found a schedule, and left one
+-- what a step found: a schedule, and how many hands there are
+abbrev pub Past : Type 0
+Past = Moment (List Event)
+
+-- steps of all hands and their joins, in their order
 abbrev pub Course : Type 0
-Course = List (Entry (List Event))
+Course = List (Step (List Event))
 
 -- the state after these events; one that isn't allowed changes nothing
 unfoldable pub after : State → List Event → State

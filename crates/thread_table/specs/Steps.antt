@@ -1,51 +1,50 @@
 -- What each step tells its hand. Each adds one entry to the hand's list, and to the course of all hands' steps that it
--- has seen: the word's number, what was found there (at a store, what was stored), and the schedule as the step found
--- it and left it.
-use Rattle.std.specs.Prelude.{◌≡◌, ◌≢◌, ℕ, ◌+◌, ◌*◌, ◌≤◌, Bool, true, false, ◌&&◌, ◌||◌, if◌then◌else◌, List, []}
+-- has seen: the word's number, what was found there, and the schedule as the step found it and left it.
+use Rattle.std.specs.Prelude.{◌≡◌, ◌≢◌, ℕ, ◌+◌, ◌-◌, ◌≤◌, Bool, true, false, ◌&&◌, ◌||◌, if◌then◌else◌, List, []}
 use Rattle.std.specs.Prelude.{◌∷◌, ◌++◌, length, slice_index_or, Some, None, Ok, Option}
 use Rattle.atomic_table.specs.Table.{Me, Step}
-use Rattle.table_theory.specs.declared.views.Entry.{Entry}
-use Rattle.table_theory.specs.declared.views.Member.{Member}
-use Rattle.table_theory.specs.Ends.{Begins, later_of}
-use Rattle.table_theory.specs.Members as members
+use Rattle.table_theory.specs.declared.views.Part.{Part}
+use Rattle.table_theory.specs.Ends.{Begins}
+use Rattle.table_theory.specs.Ledgers as ends
+use Rattle.table_theory.specs.Ledgers.{load}
+use Rattle.table_theory.specs.Sharing.{IsWhole, IsCount}
 use Rattle.event_theory.specs.Lawful.{IsLawfulElements}
 use Rattle.event_theory.specs.States.{step}
 use Rattle.event_theory.specs.declared.event.Event.{Event}
 use Rattle.event_theory.specs.declared.event.Event.TheVariants as events
-use Rattle.thread_table.specs.declared.rule.View.{View}
-use Rattle.thread_table.specs.Schedules.{Course, state_after, elements_after, IsAllowed, ring_at, thread_at}
+use Rattle.thread_table.specs.Own.{View}
+use Rattle.thread_table.specs.declared.rule.Having.{Having}
+use Rattle.thread_table.specs.Schedules.{Past, Course, state_after, elements_after, IsAllowed, ring_at, thread_at}
 use Rattle.thread_table.specs.Schedules.{element_at, ring_name}
 use Rattle.thread_table.specs.Layout.{ends_word, processor_word, state_word, done_word, head_word, tail_word}
 use Rattle.thread_table.specs.Layout.{place_word, wait_ring}
 use Rattle.thread_table.specs.Shown.{WordsShow, head_shown, tail_shown}
-use Rattle.thread_table.specs.Rules.{HandIs, Seen, IsSteady, IsNewest, done_at, nothing_held, no_processors, nothing_on}
+use Rattle.thread_table.specs.Rules.{HandIs, Seen, IsSteady, done_at, nothing_of, serving}
 use Rattle.thread_table.specs.Makers.{made_in}
+use Rattle.thread_table.specs.Entries.{change, take_event, claim_event}
+use Rattle.thread_table.specs.Telling.{IsHonest}
 use Rattle.thread_table.specs.Views.{quiet, with_held, with_claim, with_raise, with_on, with_off, with_start, count_of}
 
-abbrev pub entry : ℕ → ℕ → List Event → List Event → Entry (List Event)
-entry word found old new = record { word = word; found = found; then = old; next = new }
-
--- the view after a step that found this number in this word, behind all steps of the course: it found the schedule so,
--- and left it so
-abbrev pub after : View → ℕ → ℕ → Course → List Event → List Event → View
-after v word found past old new = record v {
-  schedule = new;
-  joined = new;
-  counted = None;
-  fresh = true;
-  steps = v.steps ++ entry word found old new ∷ [];
-  course = past ++ entry word found old new ∷ [];
+-- The view after a step, behind all steps of the course: the hand has seen what the step left, and has made a step
+abbrev pub after : View → Course → ends.Step (List Event) → View
+after v past e = record v {
+  own = record v.own { counted = None; fresh = true };
+  seen = e.next;
+  steps = v.steps ++ e ∷ [];
+  course = past ++ e ∷ [];
+  joined = past ++ e ∷ [];
+  joined_first = v.first;
 }
 
--- the same, where the step left the schedule as it was
-abbrev pub looked : View → ℕ → ℕ → Course → List Event → View
-looked v word found past schedule = after v word found past schedule schedule
+-- the same, where the step found this number in this word, and left all as it was
+abbrev pub looked : View → ℕ → ℕ → Course → Past → View
+looked v word found past m = after v past (load word found m)
 
--- the view after a step that made this event, behind those
-abbrev pub made_by : View → ℕ → ℕ → Course → List Event → Event → View
-made_by v word found past before event = record (after v word found past before (before ++ event ∷ [])) {
-  made = v.made ++ made_in event (state_after before) ∷ [];
-}
+-- the view after a step that made this event
+abbrev pub made_by : View → ℕ → ℕ → Course → Past → Event → View
+made_by v word found past m event = after
+    (record v { own = record v.own { made = v.own.made ++ made_in event (state_after m.object) ∷ [] } })
+    past (change word found m event)
 
 -- At a step of the hand this was the schedule: each of its events was allowed, it is no earlier than what the hand had
 -- seen, no step is undone, none was counted of what the hand has, and the words showed the elements after it
@@ -53,85 +52,92 @@ pub record Sees (v : View) (schedule : List Event) : Type 0 where
   pub allowed : IsAllowed schedule
   pub lawful : IsLawfulElements (elements_after schedule)
   pub seen : Seen v schedule
-  pub done : (element : ℕ) → done_at v.schedule element ≤ done_at schedule element
+  pub done : (element : ℕ) → done_at v.seen.object element ≤ done_at schedule element
   pub steady : IsSteady v schedule
-  pub newest : IsNewest v schedule
-  pub undoubled : v.doubled ≡ false
+  pub newest : IsWhole v.member.share → v.own.fresh ≡ true → v.seen.object ≡ schedule
+  pub undoubled : v.own.doubled ≡ false
   pub words : List ℕ
-  pub shows : WordsShow v.first (elements_after schedule) words
+  pub shows : WordsShow v.own.first (elements_after schedule) words
 
 -- A number was found in a word, and nothing else changed for the hand
 pub record Found (v : View) (word found : ℕ) (w : View) : Type 0 where
   pub past : Course
   pub follows : Begins v.course past
-  pub same : w ≡ looked v word found past w.schedule
-  pub sees : Sees v w.schedule
+  pub newest : IsWhole v.member.share → past ≡ v.course
+  pub same : w ≡ looked v word found past w.seen
+  pub sees : Sees v w.seen.object
   pub is : found ≡ slice_index_or sees.words word 0
+  pub told : IsHonest w
 
-abbrev pub finds : Step Unit → Me Unit View → ℕ → Me Unit View → Type 0
-finds st m r m' = (m'.1 ≡ m.1) × Found m.0 st.word r m'.0
+-- what the hand has is what its call has in what it has seen
+abbrev pub Stands : ℕ → View → Type 0
+Stands call v = HandIs call v (elements_after v.seen.object)
+
+abbrev pub finds : ℕ → Step Unit → Me Unit View → ℕ → Me Unit View → Type 0
+finds call st m r m' = (m'.1 ≡ m.1) × Found m.0 st.word r m'.0 × Stands call m'.0
 
 -- The hand made this event: the schedule is the one before it, with the event at its end
 pub record Did (call : ℕ) (v : View) (word found : ℕ) (event : Event) (knows : List Event → View) (w : View)
     : Type 0 where
   pub past : Course
   pub follows : Begins v.course past
-  pub before : List Event
-  pub sees : Sees v before
-  pub hand : HandIs call v (elements_after before)
-  pub same : w ≡ made_by (knows before) word found past before event
-  pub step : step event (state_after before) ≡ Ok (state_after (before ++ event ∷ []))
-  pub allowed : IsAllowed (before ++ event ∷ [])
+  pub newest : IsWhole v.member.share → past ≡ v.course
+  pub before : Past
+  pub sees : Sees v before.object
+  pub hand : HandIs call v (elements_after before.object)
+  pub same : w ≡ made_by (knows before.object) word found past before event
+  pub step : step event (state_after before.object) ≡ Ok (state_after (before.object ++ event ∷ []))
+  pub allowed : IsAllowed (before.object ++ event ∷ [])
+  pub told : IsHonest w
 
 -- a step that is the event, or found another word than the one that was expected
-abbrev pub Tries : (View → View → Type 0) → Step Unit → Me Unit View → ℕ → Me Unit View → Type 0
-Tries Makes st m r m' = (m'.1 ≡ m.1) × (r ≡ st.first → Makes m.0 m'.0) × (r ≢ st.first → Found m.0 st.word r m'.0)
+abbrev pub Tries : ℕ → (View → View → Type 0) → Step Unit → Me Unit View → ℕ → Me Unit View → Type 0
+Tries call Makes st m r m' = (m'.1 ≡ m.1) × (r ≡ st.first → Makes m.0 m'.0)
+    × (r ≢ st.first → Found m.0 st.word r m'.0) × Stands call m'.0
 
 -- a step that is the event, whatever word it found
-abbrev pub Makes : (View → ℕ → View → Type 0) → Step Unit → Me Unit View → ℕ → Me Unit View → Type 0
-Makes Does st m r m' = (m'.1 ≡ m.1) × Does m.0 r m'.0
+abbrev pub Makes : ℕ → (View → ℕ → View → Type 0) → Step Unit → Me Unit View → ℕ → Me Unit View → Type 0
+Makes call Does st m r m' = (m'.1 ≡ m.1) × Does m.0 r m'.0 × Stands call m'.0
 
 -- a place in the queue was claimed for an element that the hand held, where the head word was this one
 pub record Claims (call ring element : ℕ) (event : Event) (head : ℕ) (v w : View) : Type 0 where
   pub did : Did call v (head_word ring) head event
       (λ before. with_claim v ring (length (ring_at (elements_after before) ring).history) element) w
-  pub head_is : head ≡ head_shown v.first (elements_after did.before) ring
-
-abbrev pub claim_event : ℕ → ℕ → ℕ → Event
-claim_event call ring element = events.Claim call (ring_name ring) (element ∷ [])
+  pub head_is : head ≡ head_shown v.own.first (elements_after did.before.object) ring
 
 abbrev pub claims : ℕ → ℕ → ℕ → Step Unit → Me Unit View → ℕ → Me Unit View → Type 0
 claims call ring element st m r m' =
-    Tries (Claims call ring element (claim_event call ring element) st.first) st m r m'
+    Tries call (Claims call ring element (claim_event call ring element) st.first) st m r m'
 
 abbrev pub claims_at : ℕ → ℕ → ℕ → ℕ → Step Unit → Me Unit View → ℕ → Me Unit View → Type 0
 claims_at call wait element ticket st m r m' =
-    Tries (Claims call (wait_ring wait) element (events.WaitAt call wait element ticket) st.first) st m r m'
+    Tries call (Claims call (wait_ring wait) element (events.WaitAt call wait element ticket) st.first) st m r m'
 
--- the place that the hand had claimed is raised, with the element and one more than the position
-abbrev pub Raises : ℕ → ℕ → ℕ → ℕ → View → View → Type 0
-Raises call ring run element v w = Did call v (place_word ring (v.first + run)) (element + 256 * (v.first + run + 1))
-    (events.Raise call (ring_name ring) run 0) (λ before. with_raise v) w
+-- the place that the hand had claimed is raised, and this was found there
+pub record Raises (call ring run : ℕ) (v w : View) : Type 0 where
+  pub found : ℕ
+  pub did : Did call v (place_word ring (v.own.first + run)) found (events.Raise call (ring_name ring) run 0)
+      (λ before. with_raise v) w
 
-abbrev pub raises : ℕ → ℕ → ℕ → ℕ → Step Unit → Me Unit View → ℕ → Me Unit View → Type 0
-raises call ring run element st m r m' = Makes (λ v found w. Raises call ring run element v w) st m r m'
+abbrev pub raises : ℕ → ℕ → ℕ → Step Unit → Me Unit View → ℕ → Me Unit View → Type 0
+raises call ring run st m r m' = Makes call (λ v found w. Raises call ring run v w) st m r m'
 
 -- the oldest element of the queue was taken, where the tail was this one
 pub record Takes (call ring tail : ℕ) (v w : View) : Type 0 where
-  pub did : Did call v (tail_word ring) tail (events.Take call (ring_name ring) 1) (λ before. with_held v
+  pub did : Did call v (tail_word ring) tail (take_event call ring) (λ before. with_held v
       (element_at (ring_at (elements_after before) ring) (ring_at (elements_after before) ring).taken) true) w
-  pub tail_is : tail ≡ tail_shown v.first (elements_after did.before) ring
+  pub tail_is : tail ≡ tail_shown v.own.first (elements_after did.before.object) ring
 
 abbrev pub takes : ℕ → ℕ → Step Unit → Me Unit View → ℕ → Me Unit View → Type 0
-takes call ring st m r m' = Tries (Takes call ring st.first) st m r m'
+takes call ring st m r m' = Tries call (Takes call ring st.first) st m r m'
 
 -- one more notify of a wait queue, and the head word that it found
 pub record Notifies (call wait : ℕ) (v : View) (found : ℕ) (w : View) : Type 0 where
   pub did : Did call v (head_word (wait_ring wait)) found (events.NotifyWait call wait) (λ before. quiet v) w
-  pub is : found ≡ head_shown v.first (elements_after did.before) (wait_ring wait)
+  pub is : found ≡ head_shown v.own.first (elements_after did.before.object) (wait_ring wait)
 
 abbrev pub notifies : ℕ → ℕ → Step Unit → Me Unit View → ℕ → Me Unit View → Type 0
-notifies call wait st m r m' = Makes (Notifies call wait) st m r m'
+notifies call wait st m r m' = Makes call (Notifies call wait) st m r m'
 
 -- an element that the hand held is on a processor, whose word was 0
 abbrev pub PutsOn : ℕ → ℕ → ℕ → View → View → Type 0
@@ -139,7 +145,7 @@ PutsOn call p element v w =
     Did call v (processor_word p) 0 (events.On call p element) (λ before. with_on v p element) w
 
 abbrev pub puts_on : ℕ → ℕ → ℕ → Step Unit → Me Unit View → ℕ → Me Unit View → Type 0
-puts_on call p element st m r m' = Makes (λ v found w. PutsOn call p element v w) st m r m'
+puts_on call p element st m r m' = Makes call (λ v found w. PutsOn call p element v w) st m r m'
 
 -- the element is off the processor, whose word was one more than its number
 abbrev pub TakesOff : ℕ → ℕ → ℕ → View → View → Type 0
@@ -147,7 +153,7 @@ TakesOff call p element v w =
     Did call v (processor_word p) (element + 1) (events.Off call p) (λ before. with_off v p element) w
 
 abbrev pub takes_off : ℕ → ℕ → ℕ → Step Unit → Me Unit View → ℕ → Me Unit View → Type 0
-takes_off call p element st m r m' = Makes (λ v found w. TakesOff call p element v w) st m r m'
+takes_off call p element st m r m' = Makes call (λ v found w. TakesOff call p element v w) st m r m'
 
 -- An event of an element, and the state word that it found
 pub record ChangedState (call element : ℕ) (event : Event) (knows : List Event → View) (found : ℕ) (v w : View)
@@ -160,10 +166,10 @@ abbrev pub Marks : ℕ → ℕ → Event → View → ℕ → View → Type 0
 Marks call element event v found w = ChangedState call element event (λ before. quiet v) found v w
 
 abbrev pub stops : ℕ → ℕ → Step Unit → Me Unit View → ℕ → Me Unit View → Type 0
-stops call element st m r m' = Makes (Marks call element (events.Stop call element)) st m r m'
+stops call element st m r m' = Makes call (Marks call element (events.Stop call element)) st m r m'
 
 abbrev pub signals : ℕ → ℕ → ℕ → Step Unit → Me Unit View → ℕ → Me Unit View → Type 0
-signals call element number st m r m' = Makes (Marks call element (events.Signal call element number)) st m r m'
+signals call element number st m r m' = Makes call (Marks call element (events.Signal call element number)) st m r m'
 
 -- the element stands in its stop cell, and the hand holds it no more
 abbrev pub Parks : ℕ → ℕ → ℕ → View → View → Type 0
@@ -180,69 +186,83 @@ abbrev pub Delivers : ℕ → ℕ → ℕ → View → View → Type 0
 Delivers call element found v w = ChangedState call element (events.Deliver call element) (λ before. quiet v) found v w
 
 abbrev pub parks : ℕ → ℕ → Step Unit → Me Unit View → ℕ → Me Unit View → Type 0
-parks call element st m r m' = Tries (Parks call element st.first) st m r m'
+parks call element st m r m' = Tries call (Parks call element st.first) st m r m'
 
 abbrev pub starts : ℕ → ℕ → Step Unit → Me Unit View → ℕ → Me Unit View → Type 0
-starts call element st m r m' = Tries (Starts call element st.first) st m r m'
+starts call element st m r m' = Tries call (Starts call element st.first) st m r m'
 
 abbrev pub delivers : ℕ → ℕ → Step Unit → Me Unit View → ℕ → Me Unit View → Type 0
-delivers call element st m r m' = Tries (Delivers call element st.first) st m r m'
+delivers call element st m r m' = Tries call (Delivers call element st.first) st m r m'
+
+-- the view after a step that found how many steps the element had done
+abbrev pub read_pc : View → ℕ → ℕ → Course → Past → View
+read_pc v element found past m = record (looked v (done_word element) found past m) {
+  own = record v.own { counted = Some (count_of element found); fresh = true };
+}
 
 -- the number of steps that the element had done was found
 pub record ReadPc (element : ℕ) (v : View) (found : ℕ) (w : View) : Type 0 where
   pub past : Course
   pub follows : Begins v.course past
-  pub same : w ≡ record (looked v (done_word element) found past w.schedule) { counted = Some (count_of element found) }
-  pub sees : Sees v w.schedule
-  pub is : found ≡ done_at w.schedule element
+  pub newest : IsWhole v.member.share → past ≡ v.course
+  pub same : w ≡ read_pc v element found past w.seen
+  pub sees : Sees v w.seen.object
+  pub is : found ≡ done_at w.seen.object element
+  pub told : IsHonest w
 
-abbrev pub reads_pc : ℕ → Step Unit → Me Unit View → ℕ → Me Unit View → Type 0
-reads_pc element st m r m' = Makes (ReadPc element) st m r m'
+abbrev pub reads_pc : ℕ → ℕ → Step Unit → Me Unit View → ℕ → Me Unit View → Type 0
+reads_pc call element st m r m' = Makes call (ReadPc element) st m r m'
 
 -- one more step of the element is done, behind this number of them
 abbrev pub StoresPc : ℕ → ℕ → ℕ → View → View → Type 0
 StoresPc call element count v w =
-    Did call v (done_word element) (count + 1) (events.Done call element) (λ before. quiet v) w
+    Did call v (done_word element) count (events.Done call element) (λ before. quiet v) w
 
 abbrev pub steps_on : ℕ → ℕ → ℕ → Step Unit → Me Unit View → ℕ → Me Unit View → Type 0
-steps_on call element count st m r m' = Makes (λ v found w. StoresPc call element count v w) st m r m'
+steps_on call element count st m r m' = Makes call (λ v found w. StoresPc call element count v w) st m r m'
 
--- the view after so many hands were found, which makes another of them of the hand
-abbrev pub counted : View → ℕ → Course → List Event → Member → View
-counted v found past schedule m = record (looked v ends_word found past schedule) { member = m }
+-- a split more, and a join more
+abbrev pub with_split : Part → Part
+with_split m = record m { ends = m.ends + 1; splits = m.splits + 1 }
+
+abbrev pub with_join : Part → Part
+with_join m = record m { ends = m.ends - 1; joins = m.joins + 1 }
 
 -- The number of hands was found, and made one more
 pub record CountedUp (v : View) (found : ℕ) (w : View) : Type 0 where
   pub past : Course
   pub follows : Begins v.course past
-  pub same : w ≡ counted v found past w.schedule w.member
-  pub sees : Sees v w.schedule
-  pub member : members.CountedUp v.member found w.member
+  pub newest : IsWhole v.member.share → past ≡ v.course
+  pub before : Past
+  pub same : w ≡ after (record v { member = with_split v.member }) past (ends.count_up ends_word before)
+  pub sees : Sees v before.object
+  pub told : IsHonest w
 
 -- The number of hands was found, and made one less
 pub record CountedDown (v : View) (found : ℕ) (w : View) : Type 0 where
   pub past : Course
   pub follows : Begins v.course past
-  pub same : w ≡ counted v found past w.schedule w.member
-  pub sees : Sees v w.schedule
-  pub member : members.CountedDown v.member found w.member
+  pub joined : Begins v.joined past
+  pub one_object : v.joined_first ≡ v.first
+  pub before : Past
+  pub same : w ≡ after (record v { member = with_join v.member }) past (ends.count_down ends_word before)
+  pub sees : Sees v before.object
+  pub told : IsHonest w
 
--- The number of hands was found: that of the splits and joins up to then, and 1 exactly where this hand has the whole
+-- the number of hands was found, which is 1 exactly where this hand has the whole
 pub record Tallied (v : View) (found : ℕ) (w : View) : Type 0 where
-  pub past : Course
-  pub follows : Begins v.course past
-  pub same : w ≡ counted v found past w.schedule w.member
-  pub sees : Sees v w.schedule
-  pub member : members.Tallied v.member found w.member
+  pub looked : Found v ends_word found w
+  pub number : found ≡ w.seen.ends
+  pub count : IsCount v.member.share found
 
-abbrev pub counts_up : Step Unit → Me Unit View → ℕ → Me Unit View → Type 0
-counts_up st m r m' = Makes CountedUp st m r m'
+abbrev pub counts_up : ℕ → Step Unit → Me Unit View → ℕ → Me Unit View → Type 0
+counts_up call st m r m' = Makes call CountedUp st m r m'
 
-abbrev pub counts_down : Step Unit → Me Unit View → ℕ → Me Unit View → Type 0
-counts_down st m r m' = Makes CountedDown st m r m'
+abbrev pub counts_down : ℕ → Step Unit → Me Unit View → ℕ → Me Unit View → Type 0
+counts_down call st m r m' = Makes call CountedDown st m r m'
 
-abbrev pub tallies : Step Unit → Me Unit View → ℕ → Me Unit View → Type 0
-tallies st m r m' = Makes Tallied st m r m'
+abbrev pub tallies : ℕ → Step Unit → Me Unit View → ℕ → Me Unit View → Type 0
+tallies call st m r m' = Makes call Tallied st m r m'
 
 -- the marks of the first list that the second has not
 abbrev pub parted : List Bool → List Bool → List Bool
@@ -271,61 +291,31 @@ either_on (Some x ∷ xs) (y ∷ ys) = Some x ∷ either_on xs ys
 
 -- what a split leaves
 abbrev pub rest_of : List Bool → View → View
-rest_of mask v = record v { serves = parted v.serves mask; counted = None; member = members.rest_of v.member }
+rest_of mask v =
+    record (ends.rest_of v) { own = record v.own { serves = parted v.own.serves mask; counted = None } }
 
 -- the view of a new hand, which serves the processors of the mask
 abbrev pub newborn : List Bool → View → View
-newborn mask v = record {
-  first = v.first;
-  schedule = v.schedule;
-  joined = v.joined;
-  held = nothing_held;
-  serves = mask;
-  on = nothing_on;
+newborn mask v = ends.newborn (serving v.own.first mask) v
+
+-- what a hand has that took in another, which had this
+abbrev pub had_by_both : Having → Having → Having
+had_by_both d e = record {
+  first = d.first;
+  held = either d.held e.held;
+  serves = either d.serves e.serves;
+  on = either_on d.on e.on;
   claimed = None;
   counted = None;
-  made = [];
-  fresh = true;
-  doubled = false;
-  member = members.newborn v.member;
-  steps = [];
-  course = v.course;
+  made = d.made ++ e.made;
+  fresh = false;
+  doubled = d.doubled || e.doubled || any_both d.held e.held || any_both d.serves e.serves;
 }
 
 -- the view of a hand that took in a hand with the view w
 abbrev pub both : View → View → View
-both v w = record {
-  first = v.first;
-  schedule = v.schedule;
-  joined = w.schedule;
-  held = either v.held w.held;
-  serves = either v.serves w.serves;
-  on = either_on v.on w.on;
-  claimed = None;
-  counted = None;
-  made = v.made ++ w.made;
-  fresh = false;
-  doubled = v.doubled || w.doubled || any_both v.held w.held || any_both v.serves w.serves;
-  member = members.both v.member w.member;
-  steps = v.steps ++ w.steps;
-  course = later_of v.course w.course;
-}
+both v w = ends.both had_by_both v w
 
 -- the view of a hand that was taken in
 abbrev pub emptied : View → View
-emptied v = record {
-  first = v.first;
-  schedule = v.schedule;
-  joined = v.schedule;
-  held = nothing_held;
-  serves = no_processors;
-  on = nothing_on;
-  claimed = None;
-  counted = None;
-  made = [];
-  fresh = false;
-  doubled = false;
-  member = members.emptied v.member;
-  steps = [];
-  course = v.course;
-}
+emptied v = ends.emptied (nothing_of v.own.first) v

@@ -1,105 +1,104 @@
 -- What waking all answers: one notify, and then tries to take.
-use Rattle.std.specs.Prelude.{◌≡◌, ◌+◌, ◌<◌, ◌≤◌, ◌==◌, ◌||◌, ℕ, Bool, true, false, List, [], ◌∷◌, ◌++◌, length}
-use Rattle.std.specs.Prelude.{Result, Ok, Err, Option, Some, None}
-use mathlib.Core.Option.{some}
-use lib.ListN.{get_elem?}
+use Rattle.std.specs.Prelude.{◌≡◌, ◌≢◌, ◌⊎◌, ◌+◌, ◌/◌, ◌%◌, ◌<◌, ◌≤◌, ◌==◌, ◌||◌, ℕ, Bool, true, false, List, [], ◌∷◌}
+use Rattle.std.specs.Prelude.{◌++◌, flat_map, Result, Ok, Err, Option, Some, None}
+use Rattle.std.specs.List.{AllByRecursion}
 use Rattle.event_theory.specs.declared.event.Event.TheVariants as events
 use Rattle.thread_table.specs.declared.rule.Made.{Made}
-use Rattle.thread_table.specs.declared.rule.View.{View}
+use Rattle.thread_table.specs.Own.{View}
 use Rattle.thread_table.specs.declared.takings.NextRefusal.{NextRefusal}
-use Rattle.thread_table.specs.Schedules.{elements_after, ring_at, ring_name}
 use Rattle.thread_table.specs.declared.layout.TheConstants.{ELEMENTS}
-use Rattle.thread_table.specs.Layout.{tail_word, wait_ring}
+use Rattle.thread_table.specs.Layout.{head_word, tail_word, place_word, wait_ring}
+use Rattle.thread_table.specs.Schedules.{Past}
 use Rattle.thread_table.specs.Rules.{has}
-use Rattle.thread_table.specs.Steps.{Found, Notifies}
-use Rattle.thread_table.specs.Answers.{TakeAnswer, is_in, head_in}
+use Rattle.thread_table.specs.Views.{quiet}
+use Rattle.table_theory.specs.Ledgers.{load}
+use Rattle.thread_table.specs.Entries.{Step, change, Acts, with_event, take_event, steps_in}
+use Rattle.thread_table.specs.Answers.{TakesAfter, is_in, head_in}
 
--- the tail was found below the head, and then one try to take from the queue had this answer
-pub record Tried (call ring head : ℕ) (v : View) (answer : Result ℕ NextRefusal) (w : View) : Type 0 where
-  pub tail : ℕ
-  pub before : View
-  pub tail_loaded : Found v (tail_word ring) tail before
-  pub below : tail < head
-  pub taken : TakeAnswer call before ring answer w
+-- The tail was found, and then there was one try to take: the tail and the place there were loaded, and the tail was
+-- exchanged; or this other number was found, at the exchange or in its place
+pub data Try : Type 0 where
+  took : (before tail place : ℕ) (q r s t : Past) → Try
+  missed : (before tail place seen : ℕ) (q r s t : Past) → Try
 
--- tries, one behind the other
-abbrev pub Tries : ℕ → ℕ → ℕ → View → List (Result ℕ NextRefusal) → View → Type 0
-Tries call ring head v [] w = w ≡ v
-Tries call ring head v (answer ∷ answers) w = (u : View) × Tried call ring head v answer u
-    × Tries call ring head u answers w
+-- its entries
+abbrev pub entries_of : ℕ → ℕ → Try → List Step
+entries_of call ring (took before tail place q r s t) = load (tail_word ring) before q ∷ load (tail_word ring) tail r
+    ∷ load (place_word ring tail) place s ∷ change (tail_word ring) tail t (take_event call ring) ∷ []
+entries_of call ring (missed before tail place seen q r s t) = load (tail_word ring) before q
+    ∷ load (tail_word ring) tail r ∷ load (place_word ring tail) place s ∷ load (tail_word ring) seen t ∷ []
+
+-- the tail was found below the head; the place was raised, where it was taken; and else the tail was found again, or
+-- another tail past it
+abbrev pub IsTry : ℕ → Try → Type 0
+IsTry head (took before tail place q r s t) = (before < head) × (place / 256 ≡ tail + 1)
+IsTry head (missed before tail place seen q r s t) = (before < head)
+    × (((seen ≡ tail) × (place / 256 ≢ tail + 1)) ⊎ (tail < seen))
+
+-- the event that it made, in the hand's list
+abbrev pub made_by_try : ℕ → ℕ → Try → List Made
+made_by_try call ring (took before tail place q r s t) =
+    record { event = take_event call ring; number = 0; signals = [] } ∷ []
+made_by_try call ring (missed before tail place seen q r s t) = []
 
 -- the elements that were taken
-abbrev pub taken_in : List (Result ℕ NextRefusal) → List ℕ
+abbrev pub taken_in : List Try → List ℕ
 taken_in [] = []
-taken_in (Ok element ∷ answers) = element ∷ taken_in answers
-taken_in (Err refusal ∷ answers) = taken_in answers
+taken_in (took before tail place q r s t ∷ tries) = place % 256 ∷ taken_in tries
+taken_in (missed before tail place seen q r s t ∷ tries) = taken_in tries
 
 -- whether a number is in a list
 abbrev pub is_among : List ℕ → ℕ → Bool
 is_among [] e = false
 is_among (x ∷ xs) e = e == x || is_among xs e
 
--- what the hand has but for what it holds, and for what it has seen and done, is what it had
-abbrev pub holding_as : View → View → View
-holding_as v w = record v {
-  held = w.held;
-  schedule = w.schedule;
-  joined = w.joined;
-  counted = w.counted;
-  made = w.made;
-  fresh = true;
-  steps = w.steps;
-  course = w.course;
+-- of the element that was taken no step was counted since
+abbrev pub IsStill : View → Try → Type 0
+IsStill w (took before tail place q r s t) = steps_in (place % 256) w.seen.object ≡ steps_in (place % 256) t.object
+IsStill w (missed before tail place seen q r s t) = Unit {0}
+
+-- the hand has made one notify and these tries, and holds what w holds
+abbrev pub with_wakes : View → ℕ → ℕ → List Try → View → View
+with_wakes v call wait tries w = record v {
+  own = record v.own {
+    held = w.own.held;
+    counted = None;
+    made = v.own.made ++ record { event = events.NotifyWait call wait; number = 0; signals = [] }
+        ∷ flat_map (made_by_try call (wait_ring wait)) tries;
+  };
 }
 
--- each of these events is a taking of one element from the queue by the call
-abbrev pub AreTakesOf : ℕ → ℕ → List Made → Type 0
-AreTakesOf call ring l = (m : ℕ) (x : Made) → get_elem? l m ≡ some x
-    → x.event ≡ events.Take call (ring_name ring) 1
-
+-- The mask has the elements that were taken, which the hand didn't hold before, and holds beside those that it held.
 -- One notify was made; then there were tries to take, each while the tail was found below the head that the notify had
--- found, until the tail was found to have reached it. The mask has the elements that were taken, which the hand didn't
--- hold before, and holds beside those that it held. All else that it has is as it was
+-- found, until the tail was found to have reached it. All else that the hand has is as it was
 pub record WokeAll (call : ℕ) (v : View) (wait mask : ℕ) (w : View) : Type 0 where
-  pub word : ℕ
-  pub notified : View
-  pub notifies : Notifies call wait v word notified
-  pub answers : List (Result ℕ NextRefusal)
-  pub tried : View
-  pub tries : Tries call (wait_ring wait) (head_in word) notified answers tried
-  pub tail : ℕ
-  pub tail_loaded : Found tried (tail_word (wait_ring wait)) tail w
-  pub reached : head_in word ≤ tail
-  pub mask_is : (e : ℕ) → e < ELEMENTS → is_in mask e ≡ is_among (taken_in answers) e
-  pub all : length (ring_at (elements_after notifies.did.before) (wait_ring wait)).history
-      ≤ (ring_at (elements_after w.schedule) (wait_ring wait)).taken
   pub holds : (e : ℕ) → e < ELEMENTS → has w e ≡ (has v e || is_in mask e)
   pub woken : (e : ℕ) → e < ELEMENTS → is_in mask e ≡ true → has v e ≡ false
-  pub same : w ≡ holding_as v w
-  pub made : (l : List Made) × (w.made ≡ notified.made ++ l) × AreTakesOf call (wait_ring wait) l
-
--- One notify was made, and this is the head that it found: the position behind the last place claimed before it
-pub record NotifiedNow (call : ℕ) (v : View) (wait head : ℕ) (w : View) : Type 0 where
+  pub tries : List Try
+  pub mask_is : (e : ℕ) → e < ELEMENTS → is_in mask e ≡ is_among (taken_in tries) e
   pub word : ℕ
-  pub notifies : Notifies call wait v word w
-  pub is : head ≡ head_in word
-  pub behind : head ≡ v.first + length (ring_at (elements_after notifies.did.before) (wait_ring wait)).history
-
--- the tail was found, and had reached this position: each place before it is taken
-pub record HasReached (v : View) (ring head : ℕ) (w : View) : Type 0 where
   pub tail : ℕ
-  pub tail_loaded : Found v (tail_word ring) tail w
-  pub reached : head ≤ tail
-  pub taken : head ≤ v.first + (ring_at (elements_after w.schedule) ring).taken
+  pub first : Past
+  pub last : Past
+  pub each : AllByRecursion (IsTry (head_in word)) tries
+  pub still : AllByRecursion (IsStill w) tries
+  pub reached : head_in word ≤ tail
+  pub acts : Acts v (change (head_word (wait_ring wait)) word first (events.NotifyWait call wait)
+      ∷ flat_map (entries_of call (wait_ring wait)) tries ++ load (tail_word (wait_ring wait)) tail last ∷ [])
+      (with_wakes v call wait tries w) w
 
--- the tail was found before this position, and then this element, which the hand didn't hold, was taken
-pub record TookBefore (call ring head : ℕ) (v : View) (element : ℕ) (w : View) : Type 0 where
-  pub tried : Tried call ring head v (Ok element) w
-  pub unheld : has v element ≡ false
+-- one notify was made, and this is the head that it found
+abbrev pub NotifiedNow : ℕ → View → ℕ → ℕ → View → Type 0
+NotifiedNow call v wait head w = (word : ℕ) × (r : Past) × (head ≡ head_in word)
+    × Acts v (change (head_word (wait_ring wait)) word r (events.NotifyWait call wait) ∷ [])
+    (with_event (quiet v) (events.NotifyWait call wait)) w
 
--- the answer to a try to take what is before a position: the tail has reached it; or the oldest element of the queue;
--- or a taking was refused
+-- the answer to a try to take what is before a position: the tail was found, and has reached it; or it was found before
+-- it, and then there was a taking, which has this answer
 abbrev pub BeforeAnswer : ℕ → View → ℕ → ℕ → Result (Option ℕ) NextRefusal → View → Type 0
-BeforeAnswer call v ring head (Ok None) w = HasReached v ring head w
-BeforeAnswer call v ring head (Ok (Some element)) w = TookBefore call ring head v element w
-BeforeAnswer call v ring head (Err refusal) w = Tried call ring head v (Err refusal) w
+BeforeAnswer call v ring head (Ok None) w = (tail : ℕ) × (q : Past) × (head ≤ tail)
+    × Acts v (load (tail_word ring) tail q ∷ []) (quiet v) w
+BeforeAnswer call v ring head (Ok (Some element)) w = (tail : ℕ) × (q : Past) × (tail < head)
+    × TakesAfter (load (tail_word ring) tail q ∷ []) call v ring (Ok element) w
+BeforeAnswer call v ring head (Err refusal) w = (tail : ℕ) × (q : Past) × (tail < head)
+    × TakesAfter (load (tail_word ring) tail q ∷ []) call v ring (Err refusal) w

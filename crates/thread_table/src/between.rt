@@ -2,7 +2,7 @@
 
 ghost use Rattle.atomic_table.specs.Table.{State};
 ghost use Rattle.thread_table.specs.declared.rule.Shape.{Shape};
-ghost use Rattle.thread_table.specs.declared.rule.View.{View};
+ghost use Rattle.thread_table.specs.Own.{View};
 ghost use Rattle.thread_table.specs.Between.{ShowsElements};
 
 use crate::rule::{Shape, ThreadRule, View};

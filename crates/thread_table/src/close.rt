@@ -15,6 +15,7 @@ use crate::steps::count;
 use crate::words::StateWord;
 use atomic_table::Closed;
 use std::alloc::Global;
+use std::marker::Brand;
 use table_theory::OpenEnds;
 
 /// What a table had at its end, each list by the number of the element.
@@ -104,7 +105,7 @@ impl ThreadTable {
         ensures only { IsOnlyHand hand → MatchResult result (λ c. Unit {0}) (λ e. ⊥) }
     {
         let mut hand = hand;
-        let ends = count(&self.table.shared, &mut hand.seat);
+        let ends = count::<Brand>(&self.table.shared, &mut hand.seat);
         if ends != 1 {
             return Err((self, hand, OpenEnds { others: ends - 1 }));
         }

@@ -3,10 +3,11 @@ ghost use Rattle.std.specs.Prelude.{◌≡◌, ◌+◌, ◌≤◌, ◌<◌, [], 
 ghost use Rattle.std.specs.Prelude.{◌==◌, slice_set};
 ghost use Rattle.thread_table.specs.declared.layout.TheConstants.{WORDS, PROCESSORS, ELEMENTS};
 ghost use Rattle.thread_table.specs.Layout.{last_first};
-ghost use Rattle.thread_table.specs.Rules.{newcomer, has, serves, running};
+ghost use Rattle.thread_table.specs.Rules.{newcomer, HasStood, has, serves, running};
 ghost use Rattle.thread_table.specs.Endings.{Divided, IsNewborn, TookIn};
 ghost use Rattle.thread_table.specs.Answers.{is_in};
 ghost use Rattle.thread_table.specs.Steps.{parted, either, either_on};
+ghost use Rattle.thread_table.specs.Telling.{IsHonest};
 
 use crate::first_words::{lay_free, lay_rings};
 use crate::layout::WORDS;
@@ -27,8 +28,14 @@ pub struct ThreadTable {
     ghost shaped: { table.shared.key.first ≡ first },
 }
 
-/// The elements that one user of the table holds, the processors that it serves, and what it has put on them. A hand
-/// that is dropped can never be joined: what it had stays out of all others' reach, and the table can't be closed.
+/// The elements that one user of the table holds, the processors that it serves, and what it has put on them.
+///
+/// What it lists is true: each entry of its steps, and of the steps of all hands that it has seen, found the number
+/// that stood in its word then, and found the events that the step before it left, each allowed in its turn, with the
+/// words showing what they led to. What it has is what its call has in what it has seen, once it has made a step.
+///
+/// A hand that is dropped can never be joined: what it had stays out of all others' reach, and the table can't be
+/// closed.
 #[derive(Drop)]
 pub struct Hand {
     pub(crate) seat: Seat<(), View>,
@@ -37,11 +44,13 @@ pub struct Hand {
     pub(crate) running: [Option<Element>; 8],
     ghost bare: { seat.me.1 ≡ [] },
     ghost one: { seat.me.0.member.ends ≡ 1 },
-    ghost none: { seat.me.0.claimed ≡ None },
-    ghost fresh: { seat.me.0.fresh ≡ true },
-    ghost holding: { held ≡ seat.me.0.held },
-    ghost serving: { served ≡ seat.me.0.serves },
-    ghost putting: { running ≡ seat.me.0.on },
+    ghost none: { seat.me.0.own.claimed ≡ None },
+    ghost fresh: { seat.me.0.own.fresh ≡ true },
+    ghost holding: { held ≡ seat.me.0.own.held },
+    ghost serving: { served ≡ seat.me.0.own.serves },
+    ghost putting: { running ≡ seat.me.0.own.on },
+    ghost told: { ∥ IsHonest seat.me.0 ∥₁ },
+    ghost stands: { ∥ HasStood seat.id seat.me.0 ∥₁ },
 }
 
 impl Hand {
@@ -121,7 +130,7 @@ impl ThreadTable {
         ensures born { IsNewborn processors (view_of hand.old) (view_of hand.new) (view_of result) }
     {
         let mask = marks_of(processors);
-        count_up(&self.table.shared, &mut hand.seat);
+        count_up::<Brand>(&self.table.shared, &mut hand.seat);
         let seat = split_off::<Brand>(&self.table.shared, &mut hand.seat, &mask);
         hand.served = parted(&hand.served, &mask);
         Hand {
@@ -146,7 +155,7 @@ impl ThreadTable {
             running,
         } = other;
         take_in::<Brand>(&self.table.shared, &mut hand.seat, seat);
-        count_down(&self.table.shared, &mut hand.seat);
+        count_down::<Brand>(&self.table.shared, &mut hand.seat);
         hand.held = either(&hand.held, &held);
         hand.served = either(&hand.served, &served);
         hand.running = either_running(&hand.running, &running);

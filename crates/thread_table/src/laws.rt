@@ -1,10 +1,28 @@
-//! What a call leaves to its hand as it was, and where a closed table tells what was put behind the free elements.
+//! What a hand lists is true, what a call leaves to its hand as it was, and where a closed table tells what was put
+//! behind the free elements: statements over plain data.
 ghost use Rattle.std.specs.Prelude.{◌≡◌, ◌<◌, ◌≤◌, ℕ, Bool, true, false, List, length, slice_index_or, Result, Ok, Err};
-ghost use Rattle.std.specs.Prelude.{Option, None};
-ghost use Rattle.thread_table.specs.declared.layout.TheConstants.{ELEMENTS};
-ghost use Rattle.thread_table.specs.declared.rule.View.{View};
+ghost use Rattle.std.specs.Prelude.{Option, None, ◌≢◌, ◌+◌, ◌/◌, ◌%◌, [], ◌∷◌, ◌++◌, take};
+ghost use Rattle.std.specs.List.{AllByRecursion};
+ghost use Rattle.event_theory.specs.Elements.{Thread};
+ghost use Rattle.event_theory.specs.Queues.{left};
+ghost use Rattle.event_theory.specs.States.{step};
+ghost use Rattle.event_theory.specs.declared.event.Event.{Event};
+ghost use Rattle.table_theory.specs.Ends.{Begins};
+ghost use Rattle.thread_table.specs.declared.hand.Hand.{Hand};
+ghost use Rattle.thread_table.specs.declared.layout.TheConstants.{PROCESSORS, ELEMENTS, RINGS, PLACES, WAITS, STOP};
+ghost use Rattle.thread_table.specs.Schedules.{Past, state_after, elements_after, IsAllowed, Grows, ring_at};
+ghost use Rattle.thread_table.specs.Schedules.{thread_at};
+ghost use Rattle.thread_table.specs.Layout.{ends_word, processor_word, state_word, done_word, head_word, tail_word};
+ghost use Rattle.thread_table.specs.Layout.{place_word, stop_bit, cell_bit};
+ghost use Rattle.thread_table.specs.Shown.{StateShows, PlaceShows, processor_shown, tail_shown, mark_of};
+ghost use Rattle.thread_table.specs.Rules.{HandIs, done_at};
+ghost use Rattle.thread_table.specs.Handles.{view_of, call_of, IsOnlyHand};
+ghost use Rattle.thread_table.specs.Telling.{of_hands, IsReal, IsHonest};
+ghost use Rattle.thread_table.specs.Own.{View};
 ghost use Rattle.thread_table.specs.declared.takings.NextRefusal.{NextRefusal};
+ghost use Rattle.thread_table.specs.declared.takings.NextRefusal.TheVariants as nexts;
 ghost use Rattle.thread_table.specs.declared.moves.MoveRefusal.{MoveRefusal};
+ghost use Rattle.thread_table.specs.declared.moves.MoveRefusal.TheVariants as moves;
 ghost use Rattle.thread_table.specs.declared.states.Started.{Started};
 ghost use Rattle.thread_table.specs.declared.states.Started.TheVariants as started;
 ghost use Rattle.thread_table.specs.declared.states.Lost.{Lost};
@@ -14,11 +32,131 @@ ghost use Rattle.thread_table.specs.declared.places.Place.{Place};
 ghost use Rattle.thread_table.specs.declared.places.Place.TheVariants as places;
 ghost use Rattle.thread_table.specs.Closings.{ClosedNow};
 ghost use Rattle.thread_table.specs.Retiring.{free_takings, was_freed};
-ghost use Rattle.thread_table.specs.Steps.{Found, ReadPc};
+ghost use Rattle.thread_table.specs.Views.{quiet};
+ghost use Rattle.table_theory.specs.Courses.{Continues};
+ghost use Rattle.table_theory.specs.Ledgers.{load, count_down, Adds, Reaches, Passes};
+ghost use Rattle.thread_table.specs.Entries.{Step, change, Acts, AreInOrder, steps_in};
+ghost use Rattle.thread_table.specs.Endings.{TookIn};
 ghost use Rattle.thread_table.specs.Answers.{TakeAnswer, MoveAnswer, WaitAnswer, IsTicket, StoppedNow, StartAnswer};
-ghost use Rattle.thread_table.specs.Answers.{ParkAnswer, SignalAnswer, DeliverAnswer, DoneAnswer};
+ghost use Rattle.thread_table.specs.Answers.{ParkAnswer, SignalAnswer, DeliverAnswer, ReadPc, DoneAnswer, is_in};
+ghost use Rattle.thread_table.specs.Answers.{head_in, mark_in};
 ghost use Rattle.thread_table.specs.Wakes.{WokeAll, NotifiedNow, BeforeAnswer};
 ghost use Rattle.thread_table.specs.Keeping.{Keeps, Stays};
+
+/// What a hand lists is true: each entry that a call adds is a real step. It found events that were allowed, each in
+/// its turn, words that showed what they led to, and the number in its word, and it made one event, or none. Real steps
+/// lead from what the hand had seen to each of these entries, in their order, and the last of them left what the hand
+/// sees then. What was seen before is a beginning of what is seen, and the elements have grown since. A hand has seen
+/// as many steps of an element done as done events.
+pub fn lists_are_true()
+    ensures hand { (hand : Hand) → ∥ IsHonest (view_of hand) ∥₁ }
+    ensures entries { (old : View) (new : Hand) (entries : List Step) → Adds old entries (view_of new)
+        → ∥ AllByRecursion (IsReal (view_of new).own.first) entries ∥₁ }
+    ensures passes { (old new : Hand) (entries : List Step) → Adds (view_of old) entries (view_of new)
+        → ∥ Passes (of_hands (view_of new).own.first) (view_of old).seen entries (view_of new).seen ∥₁ }
+    ensures leads { (first : ℕ) (m n : Past) → Reaches (of_hands first) m n
+        → Begins m.object n.object × Grows (elements_after m.object) (elements_after n.object) }
+    ensures alone { (old new : Hand) (entries : List Step) → IsOnlyHand old
+        → Adds (view_of old) entries (view_of new)
+        → ∥ Continues (view_of old).seen entries (view_of new).seen ∥₁ }
+    ensures order { (old new : Hand) (entries : List Step) → Adds (view_of old) entries (view_of new)
+        → ∥ AreInOrder (view_of old).seen entries ∥₁ }
+    ensures among { (old : View) (new : Hand) (entries : List Step) → Adds old entries (view_of new)
+        → ∥ ((past : Past) × AreInOrder past entries) ∥₁ }
+    ensures grows { (hand : Hand) (past : List Event) → Begins past (view_of hand).seen.object
+        → ∥ Grows (elements_after past) (elements_after (view_of hand).seen.object) ∥₁ }
+    ensures allowed { (first : ℕ) (e : Step) → IsReal first e → IsAllowed e.next.object }
+    ensures counted { (past : List Event) (element : ℕ) → IsAllowed past
+        → done_at past element ≡ steps_in element past }
+{}
+
+/// What a hand has is what its call has: where the hand has made a step, what it holds, the processors that it serves
+/// and what it has on them, and the run that it has claimed, are its call's in what it has seen.
+pub fn hands_stand()
+    ensures { (hand : Hand) → ((view_of hand).steps ≡ [] → ⊥)
+        → ∥ HandIs (call_of hand) (view_of hand) (elements_after (view_of hand).seen.object) ∥₁ }
+{}
+
+/// Of a join: real steps lead from what either hand had seen to what the one sees then, and the entry of the
+/// step that counts one hand less is real.
+pub fn joins_are_true()
+    ensures since { (old other new : Hand) → TookIn (view_of old) (view_of other) (view_of new)
+        → ∥ Reaches (of_hands (view_of new).own.first) (view_of old).seen (view_of new).seen ∥₁
+        × ∥ Reaches (of_hands (view_of new).own.first) (view_of other).seen (view_of new).seen ∥₁ }
+    ensures entry { (old other new : Hand) (t : TookIn (view_of old) (view_of other) (view_of new))
+        → ∥ IsReal (view_of new).own.first (count_down ends_word t.found) ∥₁ }
+{}
+
+/// A hand that has the whole is never answered Lost: between its steps, no other hand makes one.
+pub fn only_hands_are_never_lost()
+    ensures takes { (old new : Hand) (call ring seen : ℕ) → ring < RINGS → IsOnlyHand old
+        → TakeAnswer call (view_of old) ring (Err (nexts.Lost seen)) (view_of new) → ⊥ }
+    ensures befores { (old new : Hand) (call ring head seen : ℕ) → ring < RINGS → IsOnlyHand old
+        → BeforeAnswer call (view_of old) ring head (Err (nexts.Lost seen)) (view_of new) → ⊥ }
+    ensures moves { (old new : Hand) (call ring element seen : ℕ) → ring < RINGS → IsOnlyHand old
+        → MoveAnswer call (view_of old) ring element (Err (moves.Lost seen)) (view_of new) → ⊥ }
+    ensures waits { (old new : Hand) (call wait element ticket seen : ℕ) → wait < WAITS → IsOnlyHand old
+        → WaitAnswer call (view_of old) wait element ticket (Err (moves.Lost seen)) (view_of new) → ⊥ }
+    ensures starts { (old new : Hand) (call element : ℕ) (r : Lost) → element < ELEMENTS → IsOnlyHand old
+        → StartAnswer call (view_of old) element (Err r) (view_of new) → ⊥ }
+    ensures parks { (old new : Hand) (call element : ℕ) (r : Lost) → element < ELEMENTS → IsOnlyHand old
+        → ParkAnswer call (view_of old) element (Err r) (view_of new) → ⊥ }
+    ensures delivers { (old new : Hand) (call element : ℕ) (r : Lost) → element < ELEMENTS → IsOnlyHand old
+        → DeliverAnswer call (view_of old) element (Err r) (view_of new) → ⊥ }
+{}
+
+/// What the number says that a step found: the number of hands, the head and the number of notifies of an element
+/// queue, its tail, one of its places, a state word by its bits, the steps done of an element, or what stands on a
+/// processor.
+pub fn numbers_say()
+    ensures ends { (first found : ℕ) (m : Past) → IsReal first (load ends_word found m) → found ≡ m.ends }
+    ensures head { (first : ℕ) (e : Step) (ring : ℕ) → ring < RINGS → e.word ≡ head_word ring → IsReal first e
+        → (head_in e.found ≡ first + length (ring_at (elements_after e.then.object) ring).history)
+        × (mark_in e.found ≡ mark_of (elements_after e.then.object) ring) }
+    ensures tail { (first : ℕ) (e : Step) (ring : ℕ) → ring < RINGS → e.word ≡ tail_word ring → IsReal first e
+        → e.found ≡ tail_shown first (elements_after e.then.object) ring }
+    ensures place { (first : ℕ) (e : Step) (ring run : ℕ) → ring < RINGS
+        → (ring_at (elements_after e.then.object) ring).taken ≤ run
+        → run < (ring_at (elements_after e.then.object) ring).taken + PLACES → e.word ≡ place_word ring (first + run)
+        → IsReal first e → PlaceShows first (ring_at (elements_after e.then.object) ring) run e.found }
+    ensures state { (first : ℕ) (e : Step) (element : ℕ) → element < ELEMENTS → e.word ≡ state_word element
+        → IsReal first e → StateShows (thread_at (elements_after e.then.object) element) e.found }
+    ensures bits { (thread : Thread) (word : ℕ) → StateShows thread word
+        → (is_in word stop_bit ≡ thread.stop) × (is_in word cell_bit ≡ thread.parked)
+        × ((signal : ℕ) → signal < 16 → is_in word signal ≡ thread.pending signal)
+        × ((signal : ℕ) → signal < 16 → is_in (word % STOP) signal ≡ thread.pending signal) }
+    ensures done { (first : ℕ) (e : Step) (element : ℕ) → element < ELEMENTS → e.word ≡ done_word element
+        → IsReal first e → e.found ≡ done_at e.then.object element }
+    ensures processor { (first : ℕ) (e : Step) (p : ℕ) → p < PROCESSORS → e.word ≡ processor_word p → IsReal first e
+        → e.found ≡ processor_shown (slice_index_or (elements_after e.then.object).processors p None) }
+{}
+
+/// What the entries of a taking say. Where the place at the tail was raised, and then the tail was found again, the
+/// place has the oldest element of the queue. Where it was not raised, and the tail was found again, the run at the
+/// tail was not raised.
+pub fn takings_say()
+    ensures oldest { (first ring tail place : ℕ) (p q r : Past) → ring < RINGS
+        → IsReal first (load (tail_word ring) tail p) → IsReal first (load (place_word ring tail) place q)
+        → Grows (elements_after p.object) (elements_after q.object)
+        → Grows (elements_after q.object) (elements_after r.object)
+        → IsReal first (load (tail_word ring) tail r) → place / 256 ≡ tail + 1
+        → take 1 (left (ring_at (elements_after r.object) ring)) ≡ place % 256 ∷ [] }
+    ensures unraised { (first ring tail place : ℕ) (p q r : Past) → ring < RINGS
+        → IsReal first (load (tail_word ring) tail p) → IsReal first (load (place_word ring tail) place q)
+        → Grows (elements_after p.object) (elements_after q.object)
+        → Grows (elements_after q.object) (elements_after r.object)
+        → IsReal first (load (tail_word ring) tail r) → place / 256 ≢ tail + 1
+        → (ring_at (elements_after q.object) ring).raised (ring_at (elements_after q.object) ring).taken 0 ≡ false }
+    ensures found { (first word found : ℕ) (past : Past) (event : Event)
+        → IsReal first (change word found past event) → IsReal first (load word found past) }
+{}
+
+/// Each change that an answer lists is the event of the core that it names, which was allowed there.
+pub fn changes_are_events()
+    ensures { (first word found : ℕ) (past : Past) (event : Event) → IsReal first (change word found past event)
+        → IsAllowed (past.object ++ event ∷ [])
+        × (step event (state_after past.object) ≡ Ok (state_after (past.object ++ event ∷ []))) }
+{}
 
 /// A call that only looked, or that was refused, leaves to its hand all that it has, and made no event.
 ///
@@ -26,7 +164,7 @@ ghost use Rattle.thread_table.specs.Keeping.{Keeps, Stays};
 /// without an event: a ticket, the steps done, a start, a park or a delivery where there is nothing to do, and a try to
 /// take what is before a position that the tail has reached.
 pub fn refusals_stay()
-    ensures looks { (v w : View) (word found : ℕ) → Found v word found w → Stays v w }
+    ensures looks { (v w : View) (entries : List Step) → Acts v entries (quiet v) w → Stays v w }
     ensures takes { (call ring : ℕ) (v w : View) (r : NextRefusal) → TakeAnswer call v ring (Err r) w → Stays v w }
     ensures befores { (call ring head : ℕ) (v w : View) (r : NextRefusal) → BeforeAnswer call v ring head (Err r) w
         → Stays v w }
@@ -78,6 +216,6 @@ pub fn answers_keep()
 /// elements than these, each element that an event of the list put behind the free ones is told as free.
 pub fn freed_stay_free()
     ensures { (call : ℕ) (v : View) (stands : List Place) (pcs pending : List ℕ) (stops element : ℕ)
-        → ClosedNow call v stands pcs pending stops → length (free_takings v.made) ≤ ELEMENTS → element < ELEMENTS
-        → was_freed element v.made ≡ true → slice_index_or stands element places.Held ≡ places.Free }
+        → ClosedNow call v stands pcs pending stops → length (free_takings v.own.made) ≤ ELEMENTS → element < ELEMENTS
+        → was_freed element v.own.made ≡ true → slice_index_or stands element places.Held ≡ places.Free }
 {}

@@ -38,8 +38,8 @@
 //! whose place was claimed before it. So a waiter is either ahead of the notify, and is woken, or is told to look
 //! again. This is the event count of Reed and Kanodia (1979).
 //!
-//! `Claimed`, `Counted`, `Made`, `Shape`, `ThreadRule` and `View` are for proofs alone: no program makes a value of
-//! them but the table itself.
+//! `Claimed`, `Counted`, `Having`, `Made`, `Shape`, `ThreadRule` and `View` are for proofs alone: no program makes a
+//! value of them but the table itself.
 #![tactic(auto)]
 
 mod between;
@@ -63,12 +63,15 @@ mod words;
 pub use between::between_steps;
 pub use close::Places;
 pub use hand::{Hand, ThreadTable};
-pub use laws::{answers_keep, freed_stay_free, refusals_stay};
+pub use laws::{
+    answers_keep, changes_are_events, freed_stay_free, hands_stand, joins_are_true, lists_are_true,
+    numbers_say, only_hands_are_never_lost, refusals_stay, takings_say,
+};
 pub use moves::MoveRefusal;
 pub use places::Place;
 pub use processors::{ProcessorBusy, ProcessorEmpty};
 pub use programs::Spent;
-pub use rule::{Claimed, Counted, Made, Shape, ThreadRule, View};
+pub use rule::{Claimed, Counted, Having, Made, Shape, ThreadRule, View};
 pub use states::{Lost, Signalled, Started};
 pub use table_theory::OpenEnds;
 pub use takings::NextRefusal;

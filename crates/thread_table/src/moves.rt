@@ -5,7 +5,7 @@ ghost use Rattle.thread_table.specs.declared.layout.TheConstants.{WORDS, ELEMENT
 ghost use Rattle.thread_table.specs.Layout.{ready_ring, free_ring, wait_ring, last_head};
 ghost use Rattle.thread_table.specs.Handles.{view_of, call_of, IsHandOf, IsSameHand};
 ghost use Rattle.thread_table.specs.Answers.{MoveAnswer, WaitAnswer, IsTicket};
-ghost use Rattle.thread_table.specs.Rules.{IsActive, has};
+ghost use Rattle.thread_table.specs.Rules.{HasStood, IsActive, has};
 ghost use Rattle.thread_table.specs.Steps.{Raises};
 ghost use Rattle.thread_table.specs.Views.{claim_of};
 
@@ -48,10 +48,11 @@ fn raise<J: Deed>(
     requires queue { (seat.old.table_id ≡ words.now.table_id) × (words.now.table_id.words ≡ WORDS) × (ring < RINGS) }
     requires mine { IsActive seat.old.me.0 }
     requires deed { (J.call ≡ seat.old.id) × (J.at ≡ ring) × (J.element ≡ element) × (element < ELEMENTS) }
-    requires claimed { seat.old.me.0.claimed ≡ Some (claim_of J.at J.number J.element) }
-    requires position { (head ≡ seat.old.me.0.first + J.number) × (head < last_head) }
+    requires claimed { seat.old.me.0.own.claimed ≡ Some (claim_of J.at J.number J.element) }
+    requires position { (head ≡ seat.old.me.0.own.first + J.number) × (head < last_head) }
     ensures queue { IsSame seat.old seat.new × (seat.new.me.1 ≡ seat.old.me.1) }
-    ensures raised { Raises J.call J.at J.number J.element seat.old.me.0 seat.new.me.0 }
+    ensures stands { ∥ HasStood seat.new.id seat.new.me.0 ∥₁ }
+    ensures raised { Raises J.call J.at J.number seat.old.me.0 seat.new.me.0 }
     ensures held { held.new ≡ slice_set held.old element false }
 {
     let place = PlaceWord {

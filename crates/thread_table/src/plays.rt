@@ -4,17 +4,11 @@ ghost use Rattle.thread_table.specs.Steps.{finds, claims, claims_at, raises, tak
 ghost use Rattle.thread_table.specs.Steps.{stops, signals, parks, starts, delivers, reads_pc, steps_on};
 ghost use Rattle.thread_table.specs.Steps.{counts_up, counts_down, tallies, rest_of, newborn, both};
 ghost use Rattle.thread_table.specs.Rules.{newcomer};
-ghost use Rattle.thread_table.specs.declared.rule.View.{View};
+ghost use Rattle.thread_table.specs.Own.{View};
 
 use crate::rule::View;
 use atomic_table::{Join, Play, Split};
 use std::marker::{Brand, PhantomData};
-
-pub struct Look;
-
-impl Play<(), View> for Look {
-    ghost then = { finds };
-}
 
 /// The call of an event, and what else the event names: a queue, a wait queue or a processor; an element; and a run, a
 /// ticket or a signal.
@@ -38,6 +32,14 @@ impl Deed for Brand {
     ghost number = { 0 };
 }
 
+pub struct Look<J> {
+    marker: PhantomData<J>,
+}
+
+impl<J: Deed> Play<(), View> for Look<J> {
+    ghost then = { finds J.call };
+}
+
 pub struct ClaimHead<J> {
     marker: PhantomData<J>,
 }
@@ -59,7 +61,7 @@ pub struct RaisePlace<J> {
 }
 
 impl<J: Deed> Play<(), View> for RaisePlace<J> {
-    ghost then = { raises J.call J.at J.number J.element };
+    ghost then = { raises J.call J.at J.number };
 }
 
 pub struct TakeTail<J> {
@@ -139,7 +141,7 @@ pub struct LoadDone<J> {
 }
 
 impl<J: Deed> Play<(), View> for LoadDone<J> {
-    ghost then = { reads_pc J.element };
+    ghost then = { reads_pc J.call J.element };
 }
 
 pub struct StoreDone<J> {
@@ -150,22 +152,28 @@ impl<J: Deed> Play<(), View> for StoreDone<J> {
     ghost then = { steps_on J.call J.element J.number };
 }
 
-pub struct CountUp;
-
-impl Play<(), View> for CountUp {
-    ghost then = { counts_up };
+pub struct CountUp<J> {
+    marker: PhantomData<J>,
 }
 
-pub struct CountDown;
-
-impl Play<(), View> for CountDown {
-    ghost then = { counts_down };
+impl<J: Deed> Play<(), View> for CountUp<J> {
+    ghost then = { counts_up J.call };
 }
 
-pub struct LoadCount;
+pub struct CountDown<J> {
+    marker: PhantomData<J>,
+}
 
-impl Play<(), View> for LoadCount {
-    ghost then = { tallies };
+impl<J: Deed> Play<(), View> for CountDown<J> {
+    ghost then = { counts_down J.call };
+}
+
+pub struct LoadCount<J> {
+    marker: PhantomData<J>,
+}
+
+impl<J: Deed> Play<(), View> for LoadCount<J> {
+    ghost then = { tallies J.call };
 }
 
 /// The processors that a new hand serves.

@@ -2,7 +2,7 @@
 ghost use Rattle.std.specs.Prelude.{◌≡◌, ◌≢◌, true, Some, None, MatchResult};
 ghost use Rattle.thread_table.specs.Handles.{view_of, call_of, IsHandOf, IsSameHand};
 ghost use Rattle.thread_table.specs.Rules.{has, serves, running};
-ghost use Rattle.thread_table.specs.Steps.{PutsOn, TakesOff};
+ghost use Rattle.thread_table.specs.Answers.{PutsOn, TakesOff};
 
 use crate::hand::{Hand, ThreadTable, set_held, set_running};
 use crate::steps::{swap_off, swap_on};

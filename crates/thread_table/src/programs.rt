@@ -2,8 +2,7 @@
 ghost use Rattle.std.specs.Prelude.{◌≡◌};
 ghost use Rattle.thread_table.specs.Handles.{view_of, call_of, IsHandOf, IsSameHand};
 ghost use Rattle.thread_table.specs.Rules.{MayStep};
-ghost use Rattle.thread_table.specs.Steps.{ReadPc};
-ghost use Rattle.thread_table.specs.Answers.{DoneAnswer};
+ghost use Rattle.thread_table.specs.Answers.{ReadPc, DoneAnswer};
 
 use crate::hand::{Hand, ThreadTable};
 use crate::steps::{load_done, store_done};

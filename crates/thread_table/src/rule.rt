@@ -2,7 +2,7 @@
 use atomic_table::TableRule;
 use event_theory::Event;
 use std::collections::LinkedList;
-use table_theory::views::{Entry, Member};
+use table_theory::views::Ledger;
 
 /// What the rule is told when the table is made: the first position of each element queue.
 #[derive(Drop)]
@@ -31,16 +31,12 @@ pub struct Made {
     pub signals: LinkedList<u64>,
 }
 
-/// What a hand knows: the first position of each element queue, the schedule as it was at the hand's last step, and as
-/// a hand that it took in had seen it; what it holds, the processors that it serves and what it has on them; the run
-/// that it has claimed and not raised, and the number of steps that it has just found; the events that it made; whether
-/// it has made a step since it took in a hand, and whether both had something then; which of the hands it is, every
-/// step that it made, and every step that any hand had made, with every join, up to its own last one. No value of it is
-/// made.
-pub struct View {
+/// What a hand has: the first position of each element queue; what it holds, the processors that it serves and what it
+/// has on them; the run that it has claimed and not raised, and the number of steps that it has just found; the events
+/// that it made; whether it has made a step since it took in a hand, and whether both had something then. Proofs alone
+/// speak of it.
+pub struct Having {
     pub first: u64,
-    pub schedule: LinkedList<Event>,
-    pub joined: LinkedList<Event>,
     pub held: LinkedList<bool>,
     pub serves: LinkedList<bool>,
     pub on: LinkedList<Option<u64>>,
@@ -49,10 +45,11 @@ pub struct View {
     pub made: LinkedList<Made>,
     pub fresh: bool,
     pub doubled: bool,
-    pub member: Member,
-    pub steps: LinkedList<Entry<LinkedList<Event>>>,
-    pub course: LinkedList<Entry<LinkedList<Event>>>,
 }
+
+/// What a hand knows: what it has, its steps, and all hands' steps up to its own last one, with every join. The object
+/// is the schedule: the events of all hands.
+pub type View = Ledger<Having, LinkedList<Event>>;
 
 pub struct ThreadRule;
 

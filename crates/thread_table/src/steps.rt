@@ -12,9 +12,10 @@ ghost use Rattle.thread_table.specs.declared.layout.TheConstants.{CELL, SIGNAL_B
 ghost use Rattle.thread_table.specs.Layout.{state_word, head_word, tail_word, place_word, wait_ring, stop_bit};
 ghost use Rattle.thread_table.specs.Layout.{half_word, most_done};
 ghost use Rattle.thread_table.specs.Shown.{head_shown, tail_shown};
-ghost use Rattle.thread_table.specs.Rules.{IsActive, MayStep, has, serves, running};
+ghost use Rattle.thread_table.specs.Rules.{HasStood, IsActive, MayStep, has, serves, running};
 ghost use Rattle.thread_table.specs.Views.{claim_of, count_of};
-ghost use Rattle.thread_table.specs.Steps.{Found, Claims, claim_event, Raises, Takes, Notifies, PutsOn, TakesOff};
+ghost use Rattle.thread_table.specs.Entries.{claim_event};
+ghost use Rattle.thread_table.specs.Steps.{Found, Claims, Raises, Takes, Notifies, PutsOn, TakesOff};
 ghost use Rattle.thread_table.specs.Steps.{Marks, ReadPc, StoresPc, CountedUp, CountedDown, Tallied};
 ghost use Rattle.thread_table.specs.Steps.{Parks, Starts, Delivers, rest_of, newborn, both, emptied};
 ghost use Rattle.event_theory.specs.declared.event.Event.TheVariants as events;
@@ -30,37 +31,41 @@ use crate::plays::{
 };
 use crate::rule::{Shape, ThreadRule, View};
 use atomic_table::{Seat, Shared};
+use std::marker::Brand;
 
 pub(crate) type Words = Shared<(), View, Shape, ThreadRule>;
 
-pub(crate) fn load(words: &Words, seat: &mut Seat<(), View>, word: usize) -> u64
+pub(crate) fn load<J: Deed>(words: &Words, seat: &mut Seat<(), View>, word: usize) -> u64
     requires queue { (seat.old.table_id ≡ words.now.table_id) × (word < words.now.table_id.words) }
     requires live { IsActive seat.old.me.0 }
+    requires deed { J.call ≡ seat.old.id }
     ensures { IsSame seat.old seat.new × (seat.new.me.1 ≡ seat.old.me.1)
-        × Found seat.old.me.0 word result seat.new.me.0 }
+        × Found seat.old.me.0 word result seat.new.me.0 × ∥ HasStood seat.new.id seat.new.me.0 ∥₁ }
 {
-    words.load::<Look>(seat, word)
+    words.load::<Look<J>>(seat, word)
 }
 
 pub(crate) fn load_head(words: &Words, seat: &mut Seat<(), View>, ring: usize) -> u64
     requires queue { (seat.old.table_id ≡ words.now.table_id) × (words.now.table_id.words ≡ WORDS) × (ring < RINGS) }
     requires live { IsActive seat.old.me.0 }
     ensures queue { IsSame seat.old seat.new × (seat.new.me.1 ≡ seat.old.me.1) }
+    ensures stands { ∥ HasStood seat.new.id seat.new.me.0 ∥₁ }
     ensures found { Found seat.old.me.0 (head_word ring) result seat.new.me.0 }
-    ensures head { result ≡ head_shown seat.old.me.0.first (elements_after seat.new.me.0.schedule) ring }
+    ensures head { result ≡ head_shown seat.old.me.0.own.first (elements_after seat.new.me.0.seen.object) ring }
 {
-    load(words, seat, head_word(ring))
+    load::<Brand>(words, seat, head_word(ring))
 }
 
 pub(crate) fn load_tail(words: &Words, seat: &mut Seat<(), View>, ring: usize) -> u64
     requires queue { (seat.old.table_id ≡ words.now.table_id) × (words.now.table_id.words ≡ WORDS) × (ring < RINGS) }
     requires live { IsActive seat.old.me.0 }
     ensures queue { IsSame seat.old seat.new × (seat.new.me.1 ≡ seat.old.me.1) }
+    ensures stands { ∥ HasStood seat.new.id seat.new.me.0 ∥₁ }
     ensures found { Found seat.old.me.0 (tail_word ring) result seat.new.me.0 }
-    ensures tail { result ≡ tail_shown seat.old.me.0.first (elements_after seat.new.me.0.schedule) ring }
+    ensures tail { result ≡ tail_shown seat.old.me.0.own.first (elements_after seat.new.me.0.seen.object) ring }
     ensures bounded { result < POSITIONS }
 {
-    load(words, seat, head_word(ring) + 1)
+    load::<Brand>(words, seat, head_word(ring) + 1)
 }
 
 // The place of a position at which the tail was, or is behind.
@@ -72,12 +77,13 @@ pub(crate) fn load_place(
 ) -> u64
     requires queue { (seat.old.table_id ≡ words.now.table_id) × (words.now.table_id.words ≡ WORDS) × (ring < RINGS) }
     requires live { IsActive seat.old.me.0 }
-    requires tail { position ≡ tail_shown seat.old.me.0.first (elements_after seat.old.me.0.schedule) ring }
+    requires tail { position ≡ tail_shown seat.old.me.0.own.first (elements_after seat.old.me.0.seen.object) ring }
     ensures queue { IsSame seat.old seat.new × (seat.new.me.1 ≡ seat.old.me.1) }
+    ensures stands { ∥ HasStood seat.new.id seat.new.me.0 ∥₁ }
     ensures found { Found seat.old.me.0 (place_word ring position) result seat.new.me.0 }
     ensures place { Peeked seat.old.me.0 ring result seat.new.me.0 }
 {
-    load(words, seat, place_word(ring, position))
+    load::<Brand>(words, seat, place_word(ring, position))
 }
 
 pub(crate) fn exchange_head<J: Deed>(
@@ -88,15 +94,16 @@ pub(crate) fn exchange_head<J: Deed>(
     head: u64,
 ) -> u64
     requires queue { (seat.old.table_id ≡ words.now.table_id) × (words.now.table_id.words ≡ WORDS) × (ring < RINGS) }
-    requires mine { IsActive seat.old.me.0 × (seat.old.me.0.claimed ≡ None) }
+    requires mine { IsActive seat.old.me.0 × (seat.old.me.0.own.claimed ≡ None) }
     requires deed { (J.call ≡ seat.old.id) × (J.at ≡ ring) × (J.element ≡ element) }
     requires held { (element < ELEMENTS) × (has seat.old.me.0 element ≡ true) }
     requires room { head % NOTIFY + 1 < POSITIONS }
     ensures queue { IsSame seat.old seat.new × (seat.new.me.1 ≡ seat.old.me.1) }
+    ensures stands { ∥ HasStood seat.new.id seat.new.me.0 ∥₁ }
     ensures hit { result ≡ head
         → Claims J.call J.at J.element (claim_event J.call J.at J.element) head seat.old.me.0 seat.new.me.0 }
     ensures miss { result ≢ head → Found seat.old.me.0 (head_word ring) result seat.new.me.0
-        × (result ≡ head_shown seat.old.me.0.first (elements_after seat.new.me.0.schedule) ring) }
+        × (result ≡ head_shown seat.old.me.0.own.first (elements_after seat.new.me.0.seen.object) ring) }
 {
     let _ = element;
     words.compare_exchange::<ClaimHead<J>>(seat, head_word(ring), head, head + 1)
@@ -111,17 +118,18 @@ pub(crate) fn exchange_head_at<J: Deed>(
     head: u64,
 ) -> u64
     requires queue { (seat.old.table_id ≡ words.now.table_id) × (words.now.table_id.words ≡ WORDS) × (wait < WAITS) }
-    requires mine { IsActive seat.old.me.0 × (seat.old.me.0.claimed ≡ None) }
+    requires mine { IsActive seat.old.me.0 × (seat.old.me.0.own.claimed ≡ None) }
     requires deed { (J.call ≡ seat.old.id) × (J.at ≡ wait) × (J.element ≡ element) × (J.number ≡ ticket) }
     requires held { (element < ELEMENTS) × (has seat.old.me.0 element ≡ true) }
     requires room { head % NOTIFY + 1 < POSITIONS }
     requires ticket { head / NOTIFY ≡ ticket }
     ensures queue { IsSame seat.old seat.new × (seat.new.me.1 ≡ seat.old.me.1) }
+    ensures stands { ∥ HasStood seat.new.id seat.new.me.0 ∥₁ }
     ensures hit { result ≡ head
         → Claims J.call (wait_ring J.at) J.element (events.WaitAt J.call J.at J.element J.number) head
         seat.old.me.0 seat.new.me.0 }
     ensures miss { result ≢ head → Found seat.old.me.0 (head_word (wait_ring wait)) result seat.new.me.0
-        × (result ≡ head_shown seat.old.me.0.first (elements_after seat.new.me.0.schedule) (wait_ring wait)) }
+        × (result ≡ head_shown seat.old.me.0.own.first (elements_after seat.new.me.0.seen.object) (wait_ring wait)) }
 {
     let _ = (element, ticket);
     words.compare_exchange::<ClaimHeadAt<J>>(seat, head_word(wait_ring(wait)), head, head + 1)
@@ -139,10 +147,11 @@ pub(crate) fn store_place<J: Deed>(
     requires queue { (seat.old.table_id ≡ words.now.table_id) × (words.now.table_id.words ≡ WORDS) × (ring < RINGS) }
     requires mine { IsActive seat.old.me.0 }
     requires deed { (J.call ≡ seat.old.id) × (J.at ≡ ring) × (J.element ≡ element) }
-    requires claimed { seat.old.me.0.claimed ≡ Some (claim_of J.at J.number J.element) }
-    requires position { (position ≡ seat.old.me.0.first + J.number) × (new ≡ J.element + 256 * (position + 1)) }
+    requires claimed { seat.old.me.0.own.claimed ≡ Some (claim_of J.at J.number J.element) }
+    requires position { (position ≡ seat.old.me.0.own.first + J.number) × (new ≡ J.element + 256 * (position + 1)) }
     ensures queue { IsSame seat.old seat.new × (seat.new.me.1 ≡ seat.old.me.1) }
-    ensures raised { Raises J.call J.at J.number J.element seat.old.me.0 seat.new.me.0 }
+    ensures stands { ∥ HasStood seat.new.id seat.new.me.0 ∥₁ }
+    ensures raised { Raises J.call J.at J.number seat.old.me.0 seat.new.me.0 }
 {
     let _ = element;
     words.store::<RaisePlace<J>>(seat, place_word(ring, position), new);
@@ -156,24 +165,26 @@ pub(crate) fn exchange_tail<J: Deed>(
     tail: u64,
 ) -> u64
     requires queue { (seat.old.table_id ≡ words.now.table_id) × (words.now.table_id.words ≡ WORDS) × (ring < RINGS) }
-    requires mine { IsActive seat.old.me.0 × (seat.old.me.0.claimed ≡ None) }
+    requires mine { IsActive seat.old.me.0 × (seat.old.me.0.own.claimed ≡ None) }
     requires deed { (J.call ≡ seat.old.id) × (J.at ≡ ring) }
-    requires raised { (run : ℕ) × (tail ≡ seat.old.me.0.first + run)
-        × ((ring_at (elements_after seat.old.me.0.schedule) ring).raised run 0 ≡ true) }
+    requires raised { (run : ℕ) × (tail ≡ seat.old.me.0.own.first + run)
+        × ((ring_at (elements_after seat.old.me.0.seen.object) ring).raised run 0 ≡ true) }
     requires bounded { tail < POSITIONS }
     ensures queue { IsSame seat.old seat.new × (seat.new.me.1 ≡ seat.old.me.1) }
+    ensures stands { ∥ HasStood seat.new.id seat.new.me.0 ∥₁ }
     ensures hit { result ≡ tail → Takes J.call J.at tail seat.old.me.0 seat.new.me.0 }
     ensures miss { result ≢ tail → Found seat.old.me.0 (tail_word ring) result seat.new.me.0
-        × (result ≡ tail_shown seat.old.me.0.first (elements_after seat.new.me.0.schedule) ring) }
+        × (result ≡ tail_shown seat.old.me.0.own.first (elements_after seat.new.me.0.seen.object) ring) }
 {
     words.compare_exchange::<TakeTail<J>>(seat, head_word(ring) + 1, tail, tail + 1)
 }
 
 pub(crate) fn add_notify<J: Deed>(words: &Words, seat: &mut Seat<(), View>, wait: u8) -> u64
     requires queue { (seat.old.table_id ≡ words.now.table_id) × (words.now.table_id.words ≡ WORDS) × (wait < WAITS) }
-    requires mine { IsActive seat.old.me.0 × (seat.old.me.0.claimed ≡ None) }
+    requires mine { IsActive seat.old.me.0 × (seat.old.me.0.own.claimed ≡ None) }
     requires deed { (J.call ≡ seat.old.id) × (J.at ≡ wait) }
     ensures queue { IsSame seat.old seat.new × (seat.new.me.1 ≡ seat.old.me.1) }
+    ensures stands { ∥ HasStood seat.new.id seat.new.me.0 ∥₁ }
     ensures notified { Notifies J.call J.at seat.old.me.0 result seat.new.me.0 }
 {
     words.fetch_add::<AddNotify<J>>(seat, head_word(wait_ring(wait)), NOTIFY)
@@ -181,12 +192,13 @@ pub(crate) fn add_notify<J: Deed>(words: &Words, seat: &mut Seat<(), View>, wait
 
 pub(crate) fn swap_on<J: Deed>(words: &Words, seat: &mut Seat<(), View>, processor: u8, element: u8)
     requires queue { (seat.old.table_id ≡ words.now.table_id) × (words.now.table_id.words ≡ WORDS) }
-    requires mine { IsActive seat.old.me.0 × (seat.old.me.0.claimed ≡ None) }
+    requires mine { IsActive seat.old.me.0 × (seat.old.me.0.own.claimed ≡ None) }
     requires deed { (J.call ≡ seat.old.id) × (J.at ≡ processor) × (J.element ≡ element) }
     requires held { (element < ELEMENTS) × (has seat.old.me.0 element ≡ true) }
     requires empty { (processor < PROCESSORS) × (serves seat.old.me.0 processor ≡ true)
         × (running seat.old.me.0 processor ≡ None) }
     ensures queue { IsSame seat.old seat.new × (seat.new.me.1 ≡ seat.old.me.1) }
+    ensures stands { ∥ HasStood seat.new.id seat.new.me.0 ∥₁ }
     ensures on { PutsOn J.call J.at J.element seat.old.me.0 seat.new.me.0 }
 {
     words.swap::<PutOn<J>>(seat, processor_word(processor), element as u64 + 1);
@@ -199,11 +211,12 @@ pub(crate) fn swap_off<J: Deed>(
     element: u8,
 )
     requires queue { (seat.old.table_id ≡ words.now.table_id) × (words.now.table_id.words ≡ WORDS) }
-    requires mine { IsActive seat.old.me.0 × (seat.old.me.0.claimed ≡ None) }
+    requires mine { IsActive seat.old.me.0 × (seat.old.me.0.own.claimed ≡ None) }
     requires deed { (J.call ≡ seat.old.id) × (J.at ≡ processor) × (J.element ≡ element) }
     requires there { (processor < PROCESSORS) × (serves seat.old.me.0 processor ≡ true)
         × (running seat.old.me.0 processor ≡ Some element) }
     ensures queue { IsSame seat.old seat.new × (seat.new.me.1 ≡ seat.old.me.1) }
+    ensures stands { ∥ HasStood seat.new.id seat.new.me.0 ∥₁ }
     ensures off { TakesOff J.call J.at J.element seat.old.me.0 seat.new.me.0 }
 {
     let _ = element;
@@ -215,18 +228,20 @@ pub(crate) fn load_state(words: &Words, seat: &mut Seat<(), View>, element: u8) 
         × (element < ELEMENTS) }
     requires live { IsActive seat.old.me.0 }
     ensures queue { IsSame seat.old seat.new × (seat.new.me.1 ≡ seat.old.me.1) }
+    ensures stands { ∥ HasStood seat.new.id seat.new.me.0 ∥₁ }
     ensures found { Found seat.old.me.0 (state_word element) result seat.new.me.0 }
     ensures state { StateIs element result seat.new.me.0 }
 {
-    load(words, seat, state_word(element))
+    load::<Brand>(words, seat, state_word(element))
 }
 
 pub(crate) fn or_stop<J: Deed>(words: &Words, seat: &mut Seat<(), View>, element: u8) -> u64
     requires queue { (seat.old.table_id ≡ words.now.table_id) × (words.now.table_id.words ≡ WORDS)
         × (element < ELEMENTS) }
-    requires mine { IsActive seat.old.me.0 × (seat.old.me.0.claimed ≡ None) }
+    requires mine { IsActive seat.old.me.0 × (seat.old.me.0.own.claimed ≡ None) }
     requires deed { (J.call ≡ seat.old.id) × (J.element ≡ element) }
     ensures queue { IsSame seat.old seat.new × (seat.new.me.1 ≡ seat.old.me.1) }
+    ensures stands { ∥ HasStood seat.new.id seat.new.me.0 ∥₁ }
     ensures stopped { Marks J.call J.element (events.Stop J.call J.element) seat.old.me.0 result seat.new.me.0 }
 {
     words.fetch_or::<SetStop<J>>(seat, state_word(element), STOP)
@@ -240,9 +255,10 @@ pub(crate) fn or_signal<J: Deed>(
 ) -> u64
     requires queue { (seat.old.table_id ≡ words.now.table_id) × (words.now.table_id.words ≡ WORDS)
         × (element < ELEMENTS) }
-    requires mine { IsActive seat.old.me.0 × (seat.old.me.0.claimed ≡ None) }
+    requires mine { IsActive seat.old.me.0 × (seat.old.me.0.own.claimed ≡ None) }
     requires deed { (J.call ≡ seat.old.id) × (J.element ≡ element) × (J.number ≡ signal) × (signal < 16) }
     ensures queue { IsSame seat.old seat.new × (seat.new.me.1 ≡ seat.old.me.1) }
+    ensures stands { ∥ HasStood seat.new.id seat.new.me.0 ∥₁ }
     ensures signalled { Marks J.call J.element (events.Signal J.call J.element J.number) seat.old.me.0 result
         seat.new.me.0 }
 {
@@ -257,11 +273,12 @@ pub(crate) fn exchange_park<J: Deed>(
     new: u64,
 ) -> u64
     requires queue { (seat.old.table_id ≡ words.now.table_id) × (words.now.table_id.words ≡ WORDS) }
-    requires mine { IsActive seat.old.me.0 × (seat.old.me.0.claimed ≡ None) }
+    requires mine { IsActive seat.old.me.0 × (seat.old.me.0.own.claimed ≡ None) }
     requires deed { (J.call ≡ seat.old.id) × (J.element ≡ element) }
     requires held { (element < ELEMENTS) × (has seat.old.me.0 element ≡ true) }
     requires stopping { (bit_at old stop_bit ≡ 1) × (new ≡ bit_or old CELL) }
     ensures queue { IsSame seat.old seat.new × (seat.new.me.1 ≡ seat.old.me.1) }
+    ensures stands { ∥ HasStood seat.new.id seat.new.me.0 ∥₁ }
     ensures hit { result ≡ old → Parks J.call J.element old seat.old.me.0 seat.new.me.0 }
     ensures miss { result ≢ old → Found seat.old.me.0 (state_word element) result seat.new.me.0
         × StateIs element result seat.new.me.0 }
@@ -278,10 +295,11 @@ pub(crate) fn exchange_start<J: Deed>(
 ) -> u64
     requires queue { (seat.old.table_id ≡ words.now.table_id) × (words.now.table_id.words ≡ WORDS)
         × (element < ELEMENTS) }
-    requires mine { IsActive seat.old.me.0 × (seat.old.me.0.claimed ≡ None) }
+    requires mine { IsActive seat.old.me.0 × (seat.old.me.0.own.claimed ≡ None) }
     requires deed { (J.call ≡ seat.old.id) × (J.element ≡ element) }
     requires stopping { (bit_at old stop_bit ≡ 1) × (new ≡ bit_and old SIGNAL_BITS) }
     ensures queue { IsSame seat.old seat.new × (seat.new.me.1 ≡ seat.old.me.1) }
+    ensures stands { ∥ HasStood seat.new.id seat.new.me.0 ∥₁ }
     ensures hit { result ≡ old → Starts J.call J.element old seat.old.me.0 seat.new.me.0 }
     ensures miss { result ≢ old → Found seat.old.me.0 (state_word element) result seat.new.me.0
         × StateIs element result seat.new.me.0 }
@@ -297,11 +315,12 @@ pub(crate) fn exchange_deliver<J: Deed>(
     new: u64,
 ) -> u64
     requires queue { (seat.old.table_id ≡ words.now.table_id) × (words.now.table_id.words ≡ WORDS) }
-    requires mine { IsActive seat.old.me.0 × (seat.old.me.0.claimed ≡ None) }
+    requires mine { IsActive seat.old.me.0 × (seat.old.me.0.own.claimed ≡ None) }
     requires deed { (J.call ≡ seat.old.id) × (J.element ≡ element) }
     requires held { (element < ELEMENTS) × (has seat.old.me.0 element ≡ true) }
     requires new { new ≡ bit_and old STOP_BITS }
     ensures queue { IsSame seat.old seat.new × (seat.new.me.1 ≡ seat.old.me.1) }
+    ensures stands { ∥ HasStood seat.new.id seat.new.me.0 ∥₁ }
     ensures hit { result ≡ old → Delivers J.call J.element old seat.old.me.0 seat.new.me.0 }
     ensures miss { result ≢ old → Found seat.old.me.0 (state_word element) result seat.new.me.0
         × StateIs element result seat.new.me.0 }
@@ -314,7 +333,9 @@ pub(crate) fn load_done<J: Deed>(words: &Words, seat: &mut Seat<(), View>, eleme
     requires queue { (seat.old.table_id ≡ words.now.table_id) × (words.now.table_id.words ≡ WORDS)
         × (element < ELEMENTS) }
     requires mine { IsActive seat.old.me.0 × MayStep seat.old.me.0 element × (J.element ≡ element) }
+    requires deed { J.call ≡ seat.old.id }
     ensures queue { IsSame seat.old seat.new × (seat.new.me.1 ≡ seat.old.me.1) }
+    ensures stands { ∥ HasStood seat.new.id seat.new.me.0 ∥₁ }
     ensures counted { ReadPc J.element seat.old.me.0 result seat.new.me.0 }
     ensures bounded { result < half_word }
 {
@@ -324,41 +345,48 @@ pub(crate) fn load_done<J: Deed>(words: &Words, seat: &mut Seat<(), View>, eleme
 pub(crate) fn store_done<J: Deed>(words: &Words, seat: &mut Seat<(), View>, element: u8, done: u64)
     requires queue { (seat.old.table_id ≡ words.now.table_id) × (words.now.table_id.words ≡ WORDS)
         × (element < ELEMENTS) }
-    requires mine { IsActive seat.old.me.0 × (seat.old.me.0.claimed ≡ None) }
+    requires mine { IsActive seat.old.me.0 × (seat.old.me.0.own.claimed ≡ None) }
     requires deed { (J.call ≡ seat.old.id) × (J.element ≡ element) × (J.number ≡ done) }
-    requires counted { (seat.old.me.0.counted ≡ Some (count_of J.element J.number)) × (done < most_done) }
+    requires counted { (seat.old.me.0.own.counted ≡ Some (count_of J.element J.number)) × (done < most_done) }
     ensures queue { IsSame seat.old seat.new × (seat.new.me.1 ≡ seat.old.me.1) }
+    ensures stands { ∥ HasStood seat.new.id seat.new.me.0 ∥₁ }
     ensures stepped { StoresPc J.call J.element J.number seat.old.me.0 seat.new.me.0 }
 {
     words.store::<StoreDone<J>>(seat, done_word(element), done + 1);
 }
 
-pub(crate) fn count_up(words: &Words, seat: &mut Seat<(), View>) -> u64
+pub(crate) fn count_up<J: Deed>(words: &Words, seat: &mut Seat<(), View>) -> u64
     requires queue { (seat.old.table_id ≡ words.now.table_id) × (words.now.table_id.words ≡ WORDS) }
+    requires deed { J.call ≡ seat.old.id }
     requires live { IsActive seat.old.me.0 }
     requires parts { seat.old.me.0.member.ends + 1 ≤ seat.old.me.0.member.share }
     ensures queue { IsSame seat.old seat.new × (seat.new.me.1 ≡ seat.old.me.1) }
+    ensures stands { ∥ HasStood seat.new.id seat.new.me.0 ∥₁ }
     ensures counted { CountedUp seat.old.me.0 result seat.new.me.0 }
 {
-    words.fetch_add::<CountUp>(seat, ENDS, 1)
+    words.fetch_add::<CountUp<J>>(seat, ENDS, 1)
 }
 
-pub(crate) fn count_down(words: &Words, seat: &mut Seat<(), View>) -> u64
+pub(crate) fn count_down<J: Deed>(words: &Words, seat: &mut Seat<(), View>) -> u64
     requires queue { (seat.old.table_id ≡ words.now.table_id) × (words.now.table_id.words ≡ WORDS) }
-    requires live { (2 ≤ seat.old.me.0.member.ends) × (seat.old.me.0.fresh ≡ false) }
+    requires deed { J.call ≡ seat.old.id }
+    requires live { (2 ≤ seat.old.me.0.member.ends) × (seat.old.me.0.own.fresh ≡ false) }
     ensures queue { IsSame seat.old seat.new × (seat.new.me.1 ≡ seat.old.me.1) }
+    ensures stands { ∥ HasStood seat.new.id seat.new.me.0 ∥₁ }
     ensures counted { CountedDown seat.old.me.0 result seat.new.me.0 }
 {
-    words.fetch_sub::<CountDown>(seat, ENDS, 1)
+    words.fetch_sub::<CountDown<J>>(seat, ENDS, 1)
 }
 
-pub(crate) fn count(words: &Words, seat: &mut Seat<(), View>) -> u64
+pub(crate) fn count<J: Deed>(words: &Words, seat: &mut Seat<(), View>) -> u64
     requires queue { (seat.old.table_id ≡ words.now.table_id) × (words.now.table_id.words ≡ WORDS) }
-    requires live { (seat.old.me.0.member.ends ≡ 1) × (seat.old.me.0.fresh ≡ true) }
+    requires deed { J.call ≡ seat.old.id }
+    requires live { (seat.old.me.0.member.ends ≡ 1) × (seat.old.me.0.own.fresh ≡ true) }
     ensures queue { IsSame seat.old seat.new × (seat.new.me.1 ≡ seat.old.me.1) }
+    ensures stands { ∥ HasStood seat.new.id seat.new.me.0 ∥₁ }
     ensures tallied { Tallied seat.old.me.0 result seat.new.me.0 }
 {
-    words.load::<LoadCount>(seat, ENDS)
+    words.load::<LoadCount<J>>(seat, ENDS)
 }
 
 // The new hand serves the processors of the mask, which are the hand's and empty.
@@ -369,9 +397,11 @@ pub(crate) fn split_off<J: Mask>(
 ) -> Seat<(), View>
     requires queue { (seat.old.table_id ≡ words.now.table_id) × (words.now.table_id.words ≡ WORDS) }
     requires live { seat.old.me.0.member.ends ≡ 2 }
+    requires stands { ∥ HasStood seat.old.id seat.old.me.0 ∥₁ }
     requires mask { (J.mask ≡ mask.now) × ((p : ℕ) → slice_index_or mask.now p false ≡ true
         → (serves seat.old.me.0 p ≡ true) × (running seat.old.me.0 p ≡ None)) }
     ensures queue { IsSame seat.old seat.new × (result.table_id ≡ seat.old.table_id) }
+    ensures stands { ∥ HasStood seat.new.id seat.new.me.0 ∥₁ × ∥ HasStood result.id result.me.0 ∥₁ }
     ensures split { (seat.new.me ≡ (rest_of J.mask seat.old.me.0, seat.old.me.1))
         × (result.me ≡ (newborn J.mask seat.old.me.0, [])) }
 {
@@ -383,7 +413,7 @@ pub(crate) fn take_in<J: Spent>(words: &Words, seat: &mut Seat<(), View>, other:
     requires queue { (seat.old.table_id ≡ words.now.table_id) × (other.table_id ≡ words.now.table_id)
         × (other.me.1 ≡ []) × (words.now.table_id.words ≡ WORDS) }
     requires live { IsActive seat.old.me.0 × IsActive other.me.0 }
-    requires none { (seat.old.me.0.claimed ≡ None) × (other.me.0.claimed ≡ None) }
+    requires none { (seat.old.me.0.own.claimed ≡ None) × (other.me.0.own.claimed ≡ None) }
     requires spent { J.view ≡ emptied seat.old.me.0 }
     ensures queue { IsSame seat.old seat.new }
     ensures joined { seat.new.me ≡ (both seat.old.me.0 other.me.0, seat.old.me.1) }

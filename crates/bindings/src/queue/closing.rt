@@ -28,7 +28,7 @@ fn close_queue<const N: usize>(
 ) -> SynthClosed
     requires queue { IsEndOf queue end }
     requires only { IsOnlyEnd end }
-    requires raised { AllRaised (view_of end).part.runs }
+    requires raised { AllRaised (view_of end).own.runs }
     requires buffer { N ≤ length out.old }
     ensures { ClosedInto out.old out.new result N queue.entry end.entry }
 {

@@ -23,7 +23,7 @@ pub struct Part<const N: usize> {
     pub(super) line: ArrayVec<u64, N>,
     ghost own: { IsEndOf (arc_value queue) end },
     ghost known: { parts ≡ (view_of end).member.share },
-    ghost raised: { AllRaised (view_of end).part.runs },
+    ghost raised: { AllRaised (view_of end).own.runs },
     ghost blank: { line.items ≡ [] },
 }
 

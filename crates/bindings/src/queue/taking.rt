@@ -1,6 +1,6 @@
 //! Items that go into a buffer of the caller's.
 ghost use Rattle.std.specs.Prelude.{◌≡◌, ◌≤◌, ◌<◌, length, take, map};
-ghost use Rattle.claim_queue.specs.Handles.{IsEndOf, IsSameEnd, view_of, call_of};
+ghost use Rattle.claim_queue.specs.Handles.{IsEndOf, IsSameEnd, view_of};
 ghost use Rattle.bindings.specs.QueueTaking.{TookSome, IsKeptFrom, or_zero};
 
 use arrayvec::ArrayVec;
@@ -39,8 +39,7 @@ pub fn take_up_to<const N: usize>(
     ensures queue { IsSameEnd end.old end.new }
     ensures number { result.0 ≤ length out.old }
     ensures rest { IsKeptFrom result.0 out.old out.new }
-    ensures taken { TookSome N (call_of end.old) (view_of end.old) (take result.0 out.new) (length out.old) result.1
-        (view_of end.new) }
+    ensures taken { TookSome N (view_of end.old) (take result.0 out.new) (length out.old) result.1 (view_of end.new) }
 {
     for i in 0..out.len() {
         match queue.try_take(end) {

@@ -25,11 +25,28 @@ fn alone(alloc: Global, clock: u32) -> Result<Metered, OutOfMemory>
     }
 }
 
+/// What a client can prove of the clock where its end is alone: a try to move it on is never lost, and gives the next
+/// tick.
+fn moves_on(alloc: Global) -> Result<u32, OutOfMemory>
+    ensures { IfOk result (λ clock. clock ≡ 1) }
+{
+    let (meters, mut seat) = Meters::new(alloc, 0)?;
+    laws::lists_are_true();
+    laws::only_ends_are_never_lost();
+    laws::numbers_say();
+    match meters.advance(&mut seat) {
+        Ok(clock) => Ok(clock),
+        Err(AdvanceRefusal::Spent) => unreachable!(),
+        Err(AdvanceRefusal::Lost { .. }) => unreachable!(),
+    }
+}
+
 #[test]
 fn the_only_end(rt: HostRuntime) -> Result<(), Fail> {
     let metered = alone(rt.alloc(), 9)?;
     assert!(rt; metered.gauges == [0, 0, 0, 7, 0, 0, 0, 0]);
     assert!(rt; (metered.clock, metered.alarms.len()) == (9, 0));
+    assert!(rt; moves_on(rt.alloc())? == 1);
     Ok(())
 }
 

@@ -33,6 +33,7 @@ use Rattle.proc_chain.specs.declared.ends.ChainEnd.{ChainEnd}
 use Rattle.proc_chain.specs.declared.ends.ProcChain.{ProcChain}
 use Rattle.proc_chain.specs.declared.quaject.Quaject.{Ghosts}
 use Rattle.proc_chain.specs.Handles as chains
+use Rattle.proc_chain.specs.Own.{queue_of}
 use Rattle.proc_chain.specs.Shown.{notes_of}
 use Rattle.processor.specs.declared.shared.Shared.{Shared}
 use Rattle.processor.specs.declared.station.Parts.{Parts}
@@ -305,7 +306,7 @@ module _ (shared : Shared) (logs : List (List LogEntry)) (first : Parts) (statio
 
   of_new : (k : ℕ) (chain : closed.Chain) → ChainShut shared.chains.items parts.chains.items all_homes k chain → MadeOfNew chain.quaject
   of_new k chain d = subst MadeOfNew (sym (ap (λ (z : closed.Chain). z.quaject) d.is))
-      (made_new plan shared.queues shared.chains.items s.quajects k d.its d.came.quaject (notes_of d.came.closed.queue) d.at d.came.closed.home.0
+      (made_new plan shared.queues shared.chains.items s.quajects k d.its d.came.quaject (notes_of (queue_of (chains.view_of d.end))) d.at d.came.closed.home.0
       (let e = notes_long d.came.closed in let f = all_got IsFew all_homes k d.home s.closed.few d.home_at in omega (arith, e)))
 
   pub mover_ended : (k : ℕ) (p : PlannedMover) (home : Home) (m : closed.Chain) → slice_get plan.movers k ≡ Some p → slice_get boot.movers k ≡ Some home → slice_get c.movers k ≡ Some m

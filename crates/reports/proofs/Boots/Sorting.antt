@@ -67,9 +67,9 @@ module _ (plan : BootPlan) (logs : List (List LogEntry)) (stations : List Parts)
     (begun : IsPrepared plan first) (joins : AllJoined first stations last) (c : ClosedTables) (e : ThreadsEnded last c) where
   pub once_most : (x n : ℕ) → count_by (same_key (x, n)) (flat_map done_by (all_of logs)) ≤ 1
   once_most x n =
-      let h : count_by (same_key (x, n)) (flat_map done_by (all_of logs)) ≡ (if nat_lt n (done_at (view_of last.hand).schedule x) then 1 else 0) =
-      sym (ap (count_by (same_key (x, n))) (all_steps plan logs stations first last left begun joins)) ∙ steps_counted (view_of last.hand).schedule (made_at last) e.closes.allowed e.closes.made x n in
-      let m = one_most (nat_lt n (done_at (view_of last.hand).schedule x)) in omega arith
+      let h : count_by (same_key (x, n)) (flat_map done_by (all_of logs)) ≡ (if nat_lt n (done_at (view_of last.hand).seen.object x) then 1 else 0) =
+      sym (ap (count_by (same_key (x, n))) (all_steps plan logs stations first last left begun joins)) ∙ steps_counted (view_of last.hand).seen.object (made_at last) e.closes.allowed e.closes.made x n in
+      let m = one_most (nat_lt n (done_at (view_of last.hand).seen.object x)) in omega arith
 
   -- where they ascend
   pub sorted : (heard : List Line) → IsPermutation (flat_map heard_by (all_of logs)) heard → Ascend heard → AreSorted heard

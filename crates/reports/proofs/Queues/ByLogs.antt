@@ -4,7 +4,6 @@ use Rattle.std.specs.List.{AllZip}
 use Rattle.boot_data.specs.declared.boot_plan.BootPlan.{BootPlan}
 use Rattle.claim_queue.specs.declared.ends.QueueEnd.{QueueEnd}
 use Rattle.closing.specs.Gains.{end_runs, end_takings, runs_at, takings_at}
-use Rattle.claim_queue.specs.declared.rule.View.{View}
 use Rattle.end_steps.specs.EndLists.{end_puts, end_takes, lines_put_at, lines_taken_at}
 use Rattle.end_steps.specs.Splits.{IsJoined}
 use Rattle.processor.specs.declared.station.Parts.{Parts}
@@ -36,10 +35,10 @@ module _ {n : ℕ} (ends : Parts → List (QueueEnd n)) (number : ℕ) (stations
 -- what an end claimed and took when it has taken another in
 module _ {n : ℕ} (x y z : QueueEnd n) (j : IsJoined x y z) where
   runs_joined : end_runs y ≡ end_runs x ++ end_runs z
-  runs_joined = ap (λ (v : View). v.part.runs) j.same
+  runs_joined = λ k. (j.own k).runs
 
   takings_joined : end_takings y ≡ end_takings x ++ end_takings z
-  takings_joined = ap (λ (v : View). v.part.takes) j.same
+  takings_joined = λ k. (j.own k).takes
 
 module _ (plan : BootPlan) (logs : List (List LogEntry)) (stations : List Parts) (first last : Parts) (left : AllZip (Leaves plan) logs stations)
     (begun : IsPrepared plan first) (joins : AllJoined first stations last) (number : ℕ) where

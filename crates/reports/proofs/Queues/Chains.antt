@@ -15,7 +15,7 @@ use Rattle.table_theory.specs.declared.queues.Batch.{Batch}
 use Rattle.table_theory.specs.Filing.{Owned, entry_of}
 use Rattle.table_theory.specs.Listing.{all_places}
 use Rattle.table_theory.specs.Positioned.{item_of}
-use Rattle.proc_chain.specs.declared.rule.View.{View}
+use Rattle.proc_chain.specs.Own.{View}
 use Rattle.proc_chain.specs.Handles.{view_of}
 use Rattle.proc_chain.specs.Notes.{line_of, notes_put}
 use Rattle.quajects.specs.declared.home.Home.{Home}
@@ -51,7 +51,7 @@ lines_long (b ∷ runs) = length-append (line_of b) (concat (map line_of runs)) 
 pub chained_are : (v : View) (home : Home) (chain : closed.Chain) → ChainEnded v home chain → home.chained ≡ length (concat (notes_put v))
 chained_are v home chain e = let c = e.came.closed in let l = c.listed in
     c.puts ∙ (ap length (sym l.runs_flat) ∙ (places_long l.runs
-    ∙ (sum_by-IsPermutation long v.part.runs (map entry_of l.runs) (filed_shuffle l.runs v.part.runs l.runs_filed) ∙ sym (lines_long v.part.runs))))
+    ∙ (sum_by-IsPermutation long v.own.runs (map entry_of l.runs) (filed_shuffle l.runs v.own.runs l.runs_filed) ∙ sym (lines_long v.own.runs))))
 
 pub none_left : (v : View) (home : Home) (chain : closed.Chain) → ChainEnded v home chain → chain.left ≡ 0
 none_left v home chain e = e.left_is ∙ e.came.none_left

@@ -7,7 +7,7 @@ use mathlib.Core.Option.{some, some-injective, some-ne-none}
 use mathlib.Core.Logic.{dite}
 use native.Mathlib.Decide.{dec_lt}
 use lib.ListN.{get_elem?}
-use Rattle.claim_queue.specs.declared.rule.View.{View}
+use Rattle.claim_queue.specs.Own.{View}
 use Rattle.claim_queue.specs.Closings.{ClosedNow}
 use Rattle.table_theory.specs.declared.queues.Batch.{Batch}
 use Rattle.table_theory.specs.declared.queues.Cell.{Cell}
@@ -96,8 +96,8 @@ listed l p (x ∷ xs) h = λ k. (ap (item_at l) (let z : p ≡ p + 0 = omega ari
     ∷ listed l (suc p) xs (λ i low. ap (item_at l) (let z : suc p + i ≡ p + suc i = omega arith in z) ∙ h (suc i) (omega arith)) k
 
 -- the items at the positions of a closed queue are those of its places
-pub items_are : (v : View) (first put taken : ℕ) (left : List _) (c : ClosedNow v first put taken left) → items_from v.part.runs first put ≡ map item_of c.queue.places
+pub items_are : (v : View) (first put taken : ℕ) (left : List _) (c : ClosedNow v first put taken left) → items_from v.own.runs first put ≡ map item_of v.seen.object.places
 items_are v first put taken left c = let s = c.listed in
-    ap (λ (z : ℕ). items_from v.part.runs z put) (sym c.starts) ∙ (ap (items_from v.part.runs c.queue.first) c.puts
-    ∙ listed v.part.runs c.queue.first c.queue.places (λ i low. one_item c.queue.first i s.runs v.part.runs s.runs_filed s.runs_adjacent (let e = ap length s.runs_flat in omega arith)
+    ap (λ (z : ℕ). items_from v.own.runs z put) (sym c.starts) ∙ (ap (items_from v.own.runs v.seen.object.first) c.puts
+    ∙ listed v.own.runs v.seen.object.first v.seen.object.places (λ i low. one_item v.seen.object.first i s.runs v.own.runs s.runs_filed s.runs_adjacent (let e = ap length s.runs_flat in omega arith)
     ∙ ap (λ (z : List Cell). (get_or z i blank).item) s.runs_flat))

@@ -9,10 +9,11 @@ use mathlib.Core.Option.{some-ne-none}
 use Rattle.claim_queue.specs.declared.close.Closed.{Closed as Shut}
 use Rattle.claim_queue.specs.declared.ends.ClaimQueue.{ClaimQueue}
 use Rattle.claim_queue.specs.declared.ends.QueueEnd.{QueueEnd}
-use Rattle.claim_queue.specs.declared.rule.View.{View}
+use Rattle.claim_queue.specs.Own.{View}
 use Rattle.claim_queue.specs.Closings.{ClosedNow}
 use Rattle.claim_queue.specs.Handles.{view_of}
 use Rattle.claim_queue.specs.Lines.{line_of, lines_put, lines_taken, IsSettled}
+use Rattle.claim_queue.proofs.Certain.{seen_room}
 use Rattle.closing.specs.ClosedQueues.{IsClosed, AreClosed}
 use Rattle.closing.specs.Comings.{GainedAllSmall, GainedAllLarge}
 use Rattle.closing.specs.Gains.{Gained, end_runs, end_takings, runs_at, takings_at}
@@ -219,10 +220,10 @@ module _ {n : ℕ} where
     }
 
     -- no more is left than there are places
-    few_left : (end : QueueEnd n) (shut : Shut n) (c : ClosedNow (view_of end) shut.first shut.put shut.taken shut.left.items) → length (items_from (view_of end).part.runs shut.first shut.put) ≤ shut.taken + n
+    few_left : (end : QueueEnd n) (shut : Shut n) (c : ClosedNow (view_of end) shut.first shut.put shut.taken shut.left.items) → length (items_from (view_of end).own.runs shut.first shut.put) ≤ shut.taken + n
     few_left end shut c =
-        let items = ap length (items_are (view_of end) shut.first shut.put shut.taken shut.left.items c) ∙ length-map c.queue.places item_of in
-        let room = end.room in let put = c.puts in let within = c.within in omega arith
+        let items = ap length (items_are (view_of end) shut.first shut.put shut.taken shut.left.items c) ∙ length-map (view_of end).seen.object.places item_of in
+        let room = seen_room end in let put = c.puts in let within = c.within in omega arith
 
     there : (l : List (QueueEnd n)) (m : List (QueueEnd n)) (k : ℕ) (e : QueueEnd n) → length m ≡ length l → slice_get l k ≡ Some e → (x : QueueEnd n) × (slice_get m k ≡ Some x)
     there [] m k e long at = absurd (cc)

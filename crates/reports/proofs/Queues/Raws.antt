@@ -20,7 +20,7 @@ use Rattle.boot_data.specs.BootPlans.{plan_of}
 use Rattle.boot_data.specs.Plans.{Plan, steps_at}
 use Rattle.boot_data.specs.PlanLimits.{IsPlan, IsProgramOf, IsStepOf, IsMoverOf, IsWayOf, many_of}
 use Rattle.claim_queue.specs.declared.ends.QueueEnd.{QueueEnd}
-use Rattle.claim_queue.specs.declared.rule.View.{View}
+use Rattle.claim_queue.specs.Own.{View}
 use Rattle.claim_queue.specs.Handles.{view_of}
 use Rattle.claim_queue.specs.Lines.{line_of, lines_put}
 use Rattle.end_steps.specs.EndLists.{lines_put_at}
@@ -113,8 +113,8 @@ pub put_in_order : {n : ℕ} (ends : Parts → List (QueueEnd n)) (number : ℕ)
     → q.items ≡ concat (lines_put v)
 put_in_order ends number stations last others q e v alone up =
     let c = e.closes.closed in let s = c.listed in
-    let runs : e.closes.before.part.runs ≡ runs_of v = e.closes.has.runs ∙ alone in
-    let same = in_order c.queue.first s.runs e.closes.before.part.runs s.runs_filed s.runs_adjacent s.solid (subst Ascending (sym runs) up) ∙ runs in
+    let runs : e.closes.before.own.runs ≡ runs_of v = e.closes.has.runs ∙ alone in
+    let same = in_order e.closes.before.seen.object.first s.runs e.closes.before.own.runs s.runs_filed s.runs_adjacent s.solid (subst Ascending (sym runs) up) ∙ runs in
     e.items ∙ (ap (map item_of) (sym s.runs_flat) ∙ (sym (flat_lines s.runs) ∙ ap (λ z. concat (map line_of z)) same))
 
 -- THE PLAN SAYS NOTHING TO A RAW QUEUE

@@ -63,9 +63,9 @@ module _ {n : ℕ} (ends : Parts → List (QueueEnd n)) (number : ℕ) (stations
       let all = e.closes.has.shuts in
       let sum = sum_by-cons shuts_of (view_of e.end) (map view_of others) in
       let rest = e.none_shut in
-      let zero_shuts : e.closes.before.shuts ≡ 0 = omega arith in
-      let its : (view_of e.end).part.queue.shut ≡ true = sym (at_its end_knows_shut (ends last) number e.end false e.its) ∙ knows in
-      one_none c.queue.shut (sym zero_shuts ∙ c.shut_once) ((c.listed.seen 0 e.closes.before.part refl).0.shut (e.known its))
+      let zero_shuts : e.closes.before.own.shuts ≡ 0 = omega arith in
+      let its : (view_of e.end).seen.object.shut ≡ true = sym (at_its end_knows_shut (ends last) number e.end false e.its) ∙ knows in
+      one_none e.closes.before.seen.object.shut (sym zero_shuts ∙ c.shut_once) (e.known its)
 
 zip_with_all : {A B : Type 0} (R : A → B → Type 0) (P : A → Type 0) (xs : List A) (ys : List B) → AllZip R xs ys → AllByRecursion P xs → AllZip (λ x y. R x y × P x) xs ys
 zip_with_all R P [] [] z p = tt

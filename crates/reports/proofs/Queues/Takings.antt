@@ -5,10 +5,10 @@ use Rattle.std.specs.List.{AllZip, AllByRecursion}
 use Rattle.std.proofs.lemmas.List.{map-append}
 use Rattle.std.proofs.lemmas.Grind.{flat_map-append}
 use Rattle.claim_queue.specs.declared.ends.QueueEnd.{QueueEnd}
-use Rattle.claim_queue.specs.declared.rule.View.{View}
+use Rattle.claim_queue.specs.Own.{View}
 use Rattle.claim_queue.specs.Handles.{view_of}
 use Rattle.claim_queue.specs.Lines.{lines_put, lines_taken}
-use Rattle.proc_chain.specs.declared.rule.View.{View as ChainView}
+use Rattle.proc_chain.specs.Own.{View as ChainView}
 use Rattle.quajects.specs.declared.any.AnyQuaject.{AnyQuaject}
 use Rattle.quajects.specs.declared.any.AnyQuaject.TheVariants as any
 use Rattle.quajects.specs.declared.home.Home.{Home}
@@ -175,7 +175,7 @@ devices_took_none number raw (end ∷ ends) h = of_one lines_taken (raw == numbe
 -- WHAT WAS PUT IN A RAW QUEUE
 
 pub no_runs : (v : View) → lines_put v ≡ [] → runs_of v ≡ []
-no_runs v e = no_lines v.part.runs e
+no_runs v e = no_lines v.own.runs e
 
 abbrev runs_at : {n : ℕ} → ℕ → List (Option (Port n)) → List Batch
 runs_at number ports = of_ends runs_of (ends_at number ports)

@@ -13,6 +13,7 @@ use Rattle.table_theory.proofs.Interleaving.{Merges, runs_merge, takes_merge}
 use Rattle.table_theory.proofs.Ordering.{order_none}
 use Rattle.claim_queue.specs.declared.ends.QueueEnd.{QueueEnd}
 use Rattle.claim_queue.specs.Handles.{view_of}
+use Rattle.claim_queue.specs.Own.{part_of}
 use Rattle.claim_queue.specs.Lines.{line_of}
 use Rattle.closing.specs.Gains.{end_runs, end_takings, runs_at, takings_at}
 use Rattle.end_steps.specs.EndLists.{end_puts, end_takes}
@@ -139,8 +140,8 @@ module _ {n : ℕ} (ends : Parts → List (QueueEnd n)) (number : ℕ) (stations
   claims_woven all up =
       let own = of_each end_runs ends number stations in
       let rest : List Batch = flat_map runs_of (map view_of others) in
-      let m = runs_merge e.closes.closed.queue e.closes.before.part (own ++ each_alone rest) e.closes.closed.listed (both_ascend own (each_alone rest) up (each_ascends rest))
-      (all_of_them end_runs ends number stations last e.end rest e.closes.before.part.runs e.its e.closes.has.runs all) in
+      let m = runs_merge e.closes.before.seen.object (part_of e.closes.before) (own ++ each_alone rest) e.closes.closed.listed (both_ascend own (each_alone rest) up (each_ascends rest))
+      (all_of_them end_runs ends number stations last e.end rest e.closes.before.own.runs e.its e.closes.has.runs all) in
       woven own rest q.items q.put_by q.put_by_others (m.0, m.1, m.2 ∙ sym e.items) (lines_all end_runs ends number end_puts (λ x. refl) stations ∙ sym e.put_by)
       (map_flat runs_of (map view_of others) ∙ sym e.put_by_others)
 
@@ -148,9 +149,9 @@ module _ {n : ℕ} (ends : Parts → List (QueueEnd n)) (number : ℕ) (stations
   takings_woven all up =
       let own = of_each end_takings ends number stations in
       let rest : List Batch = flat_map takings_of (map view_of others) in
-      let queue = e.closes.closed.queue in
-      let m = takes_merge queue e.closes.before.part (own ++ each_alone rest) e.closes.closed.listed (both_ascend own (each_alone rest) up (each_ascends rest))
-      (all_of_them end_takings ends number stations last e.end rest e.closes.before.part.takes e.its e.closes.has.takings all) in
+      let queue = e.closes.before.seen.object in
+      let m = takes_merge queue (part_of e.closes.before) (own ++ each_alone rest) e.closes.closed.listed (both_ascend own (each_alone rest) up (each_ascends rest))
+      (all_of_them end_takings ends number stations last e.end rest e.closes.before.own.takes e.its e.closes.has.takings all) in
       let taken : map item_of (take queue.taken queue.places) ≡ take q.taken q.items = sym (take-map item_of queue.taken queue.places) ∙ (λ k. take (sym e.closes.closed.taken_is k) (sym e.items k)) in
       woven own rest (take q.taken q.items) q.taken_by q.taken_by_others (m.0, m.1, m.2 ∙ taken) (lines_all end_takings ends number end_takes (λ x. refl) stations ∙ sym e.taken_by)
       (map_flat takings_of (map view_of others) ∙ sym e.taken_by_others)

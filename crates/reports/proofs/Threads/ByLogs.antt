@@ -110,7 +110,7 @@ module _ (plan : BootPlan) (x top : ℕ) where
       let parts : (n : ℕ) → count_by (same_key (x, n)) (flat_map done_by (all_of (l ∷ ls)))
       ≡ count_by (same_key (x, n)) (flat_map done_by l) + count_by (same_key (x, n)) (flat_map done_by (all_of ls)) =
       λ n. ap (count_by (same_key (x, n))) (flat_map-append done_by l (all_of ls)) ∙ many_more (same_key (x, n)) (flat_map done_by l) (flat_map done_by (all_of ls)) in (
-        climbs_below (numbers_done l x) 0 (done_at (view_of s.hand).schedule x) top (omega arith)
+        climbs_below (numbers_done l x) 0 (done_at (view_of s.hand).seen.object x) top (omega arith)
             (λ n some. below n (let e = numbered x n (flat_map done_by l) in let p = parts n in omega arith)) (z.0.order x),
         all_climb ls ss z.1 (λ n some. below n (let p = parts n in omega arith)),
       )
@@ -146,12 +146,12 @@ module _ (plan : BootPlan) (logs : List (List LogEntry)) (stations : List Parts)
   pub known : x < 64
   known = let a = within c.threads x t at in let b = e.few in omega arith
 
-  pub done_are : t.steps ≡ done_at (view_of last.hand).schedule x
+  pub done_are : t.steps ≡ done_at (view_of last.hand).seen.object x
   done_are = e.steps x t at ∙ e.closes.steps x known
 
   pub once : (n : ℕ) → count_by (same_key (x, n)) (flat_map done_by (all_of logs)) ≡ (if nat_lt n t.steps then 1 else 0)
   once n = sym (ap (count_by (same_key (x, n))) (all_steps plan logs stations first last left begun joins))
-      ∙ (steps_counted (view_of last.hand).schedule (made_at last) e.closes.allowed e.closes.made x n
+      ∙ (steps_counted (view_of last.hand).seen.object (made_at last) e.closes.allowed e.closes.made x n
       ∙ ap (λ z. if nat_lt n z then 1 else 0) (sym done_are))
 
   pub steps_agree : StepsAgree plan x t.steps logs
@@ -178,7 +178,7 @@ module _ (plan : BootPlan) (logs : List (List LogEntry)) (stations : List Parts)
       shown_agrees n low ∙ ap (list_any (is_it x n)) (sym (all_deliveries plan logs stations first last left begun joins)) in
       let pending : is_in t.pending n ≡ _ = ap (λ m. is_in m n) (e.pending_are x t at) ∙ sym (k.signals x known n low) in
       (λ i. shown i || pending i)
-      ∙ (told x n (view_of last.hand).schedule (made_at last) k.allowed k.made low
+      ∙ (told x n (view_of last.hand).seen.object (made_at last) k.allowed k.made low
       ∙ (ap (list_any (same_key (x, n))) (all_signals plan logs stations first last left begun joins)
       ∙ (logs_signals x n logs
       ∙ ap (λ z. list_any (same_key (x, n)) (flat_map doings.signals_by (all_of logs)) || list_any (doings.is_for x n) z) (sym fired))))

@@ -4,7 +4,10 @@ use Rattle.std.specs.Prelude.{slice_index_or, ◌||◌, ◌&&◌, ◌==◌, nat_
 use Rattle.std.specs.List.{AllZip, AllByRecursion, list_any}
 use Rattle.std.proofs.lemmas.Bool.Decides.{eqb_tells}
 use Rattle.std.proofs.lemmas.List.Folds.{list_any-append}
-use Rattle.std.proofs.Math.Bool.{or-true as or_true}
+use Rattle.std.proofs.Math.Bool.{Bool-set, or-true as or_true}
+use Rattle.std.proofs.Math.Bridge.{le_prop}
+use Rattle.std.proofs.Math.Logic.{∥∥₁_elim, ∥∥₁_map}
+use Rattle.std.proofs.Math.Nat.{ℕ_set}
 use Rattle.std.proofs.lemmas.Bool.{or_cases as some_of, false_from_ne_true as not_true}
 use mathlib.Core.Logic.{dite}
 use native.Mathlib.Decide.{dec_lt}
@@ -27,12 +30,15 @@ use Rattle.thread_table.specs.Retiring.{frees, was_freed}
 use Rattle.thread_table.proofs.Closing.Freed.{freed_is_told}
 use Rattle.thread_table.specs.declared.places.Place.{Place}
 use Rattle.thread_table.specs.declared.places.Place.TheVariants as places
-use Rattle.thread_table.specs.declared.rule.View.{View}
+use Rattle.thread_table.specs.Own.{View}
 use Rattle.thread_table.specs.Closings.{ClosedNow, StandsAt}
+use Rattle.thread_table.specs.Endings.{TookIn}
 use Rattle.thread_table.specs.Handles.{view_of}
 use Rattle.thread_table.specs.Rules.{done_at}
-use Rattle.thread_table.specs.Schedules.{elements_after, ring_at}
+use Rattle.thread_table.specs.Schedules.{Past, elements_after, ring_at}
 use Rattle.thread_table.specs.Shown.{WordsShow}
+use Rattle.thread_table.specs.Telling.{IsHonest}
+use Rattle.thread_table.proofs.Schedule.Orders.{joins_reach, join_real, reach_leads}
 use Rattle.processor.specs.declared.deed.Deed.{Deed}
 use Rattle.processor.specs.declared.deed.Deed.TheVariants as deeds
 use Rattle.processor.specs.declared.station.Parts.{Parts}
@@ -56,19 +62,27 @@ use Rattle.reports.proofs.Threads.ByLogs.{known, done_are, steps_agree, shown_ag
 -- THE WORDS OF THE TABLE
 
 abbrev pub Shown : View → Type 0
-Shown v = (first : ℕ) × (words : List ℕ) × WordsShow first (elements_after v.schedule) words
+Shown v = (first : ℕ) × (words : List ℕ) × WordsShow first (elements_after v.seen.object) words
 
-pub joined_shows : (first : Parts) (stations : List Parts) (last : Parts) → 0 < length stations → AllJoined first stations last → Shown (view_of last.hand)
+shown_of : (v u w : View) → ∥ IsHonest w ∥₁ → TookIn v u w → ∥ Shown w ∥₁
+shown_of v u w told t = ∥∥₁_map told (λ (h : IsHonest w).
+    let r = join_real v u w h t in
+    (w.own.first, r.words, subst (λ (z : Past). WordsShow w.own.first (elements_after z.object) r.words) (sym t.acts.seen) r.shows))
+
+pub joined_shows : (first : Parts) (stations : List Parts) (last : Parts) → 0 < length stations → AllJoined first stations last → ∥ Shown (view_of last.hand) ∥₁
 joined_shows first [] last low j = absurd (omega arith)
-joined_shows first (s ∷ []) last low j = subst (λ (p : Parts). Shown (view_of p.hand)) (sym j.2) (_, j.1.hand.sees.words, j.1.hand.sees.shows)
+joined_shows first (s ∷ []) last low j = subst (λ (p : Parts). ∥ Shown (view_of p.hand) ∥₁) (sym j.2) (shown_of (view_of first.hand) (view_of s.hand) (view_of j.0.hand) j.0.hand.told j.1.hand)
 joined_shows first (s ∷ r ∷ ss) last low j = joined_shows j.0 (r ∷ ss) last (omega arith) j.2
 
 -- once the free elements of the beginning were all taken, they stay so
 abbrev AllTaken : Parts → Type 0
-AllTaken p = 64 ≤ (ring_at (elements_after (view_of p.hand).schedule) 1).taken
+AllTaken p = 64 ≤ (ring_at (elements_after (view_of p.hand).seen.object) 1).taken
+
+join_grows : (v u w : View) → ∥ IsHonest v ∥₁ → ∥ IsHonest w ∥₁ → TookIn v u w → (ring_at (elements_after v.seen.object) 1).taken ≤ (ring_at (elements_after w.seen.object) 1).taken
+join_grows v u w before behind t = ∥∥₁_elim before le_prop (λ (x : IsHonest v). ∥∥₁_elim behind le_prop (λ (y : IsHonest w). ((reach_leads w.own.first v.seen w.seen (joins_reach v u w x y t)).1 1).further))
 
 all_taken : (first : Parts) (stations : List Parts) (last : Parts) → AllJoined first stations last → AllTaken first → AllTaken last
-all_taken first stations last j h = stays AllTaken (λ a b c k many. let f = (k.hand.sees.seen.grows 1).further in omega arith) first stations last j h
+all_taken first stations last j h = stays AllTaken (λ a b c k many. let f = join_grows (view_of a.hand) (view_of b.hand) (view_of c.hand) a.hand.told c.hand.told k.hand in omega arith) first stations last j h
 
 got : (l : List (Option Hold)) (p : ℕ) (x : Option Hold) → slice_get l p ≡ Some x → get_or l p None ≡ x
 got [] p x e = absurd (cc)
@@ -81,9 +95,9 @@ past (y ∷ l) zero h = absurd (omega arith)
 past (y ∷ l) (suc p) h = past l p (omega arith)
 
 none_on : (call : ℕ) (v : View) (stands : List Place) (pcs pending : List ℕ) (stops : ℕ) → ClosedNow call v stands pcs pending stops
-    → length (elements_after v.schedule).processors ≡ 8 → ((p : ℕ) → p < 8 → IsFree p v) → (x p : ℕ) → is_on x (get_or (elements_after v.schedule).processors p None) ≡ true → ⊥
+    → length (elements_after v.seen.object).processors ≡ 8 → ((p : ℕ) → p < 8 → IsFree p v) → (x p : ℕ) → is_on x (get_or (elements_after v.seen.object).processors p None) ≡ true → ⊥
 none_on call v stands pcs pending stops c long empty x p at =
-    let e : Elements = elements_after v.schedule in
+    let e : Elements = elements_after v.seen.object in
     let none : get_or e.processors p None ≡ None = dite (dec_lt p 8)
     (λ under. let s = empty p under in got e.processors p None (c.hand.on p s.0 ∙ ap (λ z. Some (option_map (hold call) z)) s.1))
     (λ over. past e.processors p (omega (arith, over))) in
@@ -208,28 +222,26 @@ by_place call x steps all retired e places.Held h free none only = not_true reti
 module _ (plan : BootPlan) (logs : List (List LogEntry)) (stations : List Parts) (first last : Parts) (left : AllZip (Leaves plan) logs stations)
     (begun : IsPrepared plan first) (spare : FreedSpare plan first) (some : 0 < length stations) (joins : AllJoined first stations last) (c : ClosedTables) (e : ThreadsEnded last c) (x : ℕ)
     (its : x < length plan.threads) (t : closed.Thread) (at : slice_get c.threads x ≡ Some t) where
-  free_is_retired : StandsAt e.call x (elements_after (view_of last.hand).schedule) places.Free → list_any (is_retired x) (all_of logs) ≡ true
-  free_is_retired free =
+  free_is_retired : StandsAt e.call x (elements_after (view_of last.hand).seen.object) places.Free → list_any (is_retired x) (all_of logs) ≡ true
+  free_is_retired free = ∥∥₁_elim (joined_shows first stations last some joins) (Bool-set (list_any (is_retired x) (all_of logs)) true) (λ (shows : Shown (view_of last.hand)).
       let k = e.closes in
-      let d : ℕ = done_at (view_of last.hand).schedule x in
-      let shows = joined_shows first stations last some joins in
-      let any = retired_once (view_of last.hand).schedule (made_at last) x k.allowed k.made k.retired (shows.2.rings 1 (omega arith)).single (all_taken first stations last joins begun.taken) free in
+      let d : ℕ = done_at (view_of last.hand).seen.object x in
+      let any = retired_once (view_of last.hand).seen.object (made_at last) x k.allowed k.made k.retired (shows.2.rings 1 (omega arith)).single (all_taken first stations last joins begun.taken) free in
       let parted = sym (ap (list_any (with_few x d)) (all_retired plan logs stations first last left begun joins)) ∙ any in
       ⊎_elim (λ a. absurd (none_spare x d (length plan.threads) its (flat_map retired_by (made_at first)) spare a)) (λ b. logs_one x d logs b)
       (some_of (list_any (with_few x d) (flat_map retired_by (made_at first))) (list_any (with_few x d) (flat_map (λ log. (tally_of log).retired) logs))
-      (sym (list_any-append (with_few x d) (flat_map retired_by (made_at first)) (flat_map (λ log. (tally_of log).retired) logs)) ∙ parted))
+      (sym (list_any-append (with_few x d) (flat_map retired_by (made_at first)) (flat_map (λ log. (tally_of log).retired) logs)) ∙ parted)))
 
-  free_is_done : StandsAt e.call x (elements_after (view_of last.hand).schedule) places.Free → t.steps ≡ length (program plan x)
-  free_is_done free =
+  free_is_done : StandsAt e.call x (elements_after (view_of last.hand).seen.object) places.Free → t.steps ≡ length (program plan x)
+  free_is_done free = ∥∥₁_elim (joined_shows first stations last some joins) (ℕ_set t.steps (length (program plan x))) (λ (shows : Shown (view_of last.hand)).
       let k = e.closes in
-      let shows = joined_shows first stations last some joins in
       let retired = subst (AllByRecursion (HasDoneAll plan)) (sym (all_retired plan logs stations first last left begun joins))
       (plan_more plan (flat_map retired_by (made_at first)) (flat_map (λ log. (tally_of log).retired) logs) begun.retired (logs_retired plan logs (planned_all plan logs stations left))) in
       let few = has_done_all plan x _ (flat_map retired_by (made_at last)) retired
-      (retired_once (view_of last.hand).schedule (made_at last) x k.allowed k.made k.retired (shows.2.rings 1 (omega arith)).single (all_taken first stations last joins begun.taken) free) in
+      (retired_once (view_of last.hand).seen.object (made_at last) x k.allowed k.made k.retired (shows.2.rings 1 (omega arith)).single (all_taken first stations last joins begun.taken) free) in
       let same = done_are plan logs stations first last left begun joins c e x t at in
       let prefix = (steps_agree plan logs stations first last left begun joins c e x t at).prefix in
-      omega arith
+      omega arith)
 
   -- no more free elements were taken than there were at first, so what a log retired is there still
   retired_is_free : list_any (is_retired x) (all_of logs) ≡ true → slice_index_or e.stands x places.Held ≡ places.Free
@@ -245,10 +257,9 @@ module _ (plan : BootPlan) (logs : List (List LogEntry)) (stations : List Parts)
   pub place_agrees : PlaceAgrees t.place t.steps (length (program plan x)) (list_any (is_retired x) (all_of logs))
   place_agrees =
       let low = known plan logs stations first last left begun joins c e x t at in
-      let shows = joined_shows first stations last some joins in
       subst (λ (z : Place). PlaceAgrees z t.steps (length (program plan x)) (list_any (is_retired x) (all_of logs))) (sym (e.places x t at))
-      (by_place e.call x t.steps (length (program plan x)) (list_any (is_retired x) (all_of logs)) (elements_after (view_of last.hand).schedule) (slice_index_or e.stands x places.Held) (e.closes.places x low) (λ free. (free_is_done free, free_is_retired free))
-      (λ p h. none_on e.call (view_of last.hand) e.stands e.pcs e.pending e.stops e.closes shows.2.processors e.none_on x p h) retired_is_free)
+      (by_place e.call x t.steps (length (program plan x)) (list_any (is_retired x) (all_of logs)) (elements_after (view_of last.hand).seen.object) (slice_index_or e.stands x places.Held) (e.closes.places x low) (λ free. (free_is_done free, free_is_retired free))
+      (λ p h. ∥∥₁_elim (joined_shows first stations last some joins) (λ a b. absurd a) (λ (shows : Shown (view_of last.hand)). none_on e.call (view_of last.hand) e.stands e.pcs e.pending e.stops e.closes shows.2.processors e.none_on x p h)) retired_is_free)
 
   pub thread_agrees : c.fired ≡ flat_map fired_by (all_of logs) → ThreadAgrees plan x t c.fired logs
   thread_agrees fired = record {

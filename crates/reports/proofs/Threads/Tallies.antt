@@ -12,7 +12,7 @@ use Rattle.hand_steps.specs.declared.counting.Counted.TheVariants as counted
 use Rattle.hand_steps.specs.Countings.{counted_step}
 use Rattle.hand_steps.specs.Tallies.{done_by, signalled_by, delivered_by, retired_by, taken_by}
 use Rattle.event_theory.specs.declared.alarm.Alarm.{Alarm}
-use Rattle.thread_table.specs.declared.rule.View.{View}
+use Rattle.thread_table.specs.Own.{View}
 use Rattle.thread_table.specs.declared.rule.Made.{Made}
 use Rattle.thread_table.specs.Handles.{view_of}
 use Rattle.processor.specs.declared.deed.Deed.{Deed}
@@ -34,13 +34,13 @@ use Rattle.reports.proofs.Joined.Joining.{joined_from_none, joined_lists}
 -- JOINED HANDS
 
 abbrev pub made_of : View → List Made
-made_of v = v.made
+made_of v = v.own.made
 
 abbrev pub made_at : Parts → List Made
 made_at parts = made_of (view_of parts.hand)
 
 pub made_more : (a b c : Parts) → AreJoined a b c → made_at c ≡ made_at a ++ made_at b
-made_more a b c j = ap made_of j.hand.same
+made_more a b c j = ap made_of j.hand.acts.has
 
 pub steps_more : (a b c : Parts) → AreJoined a b c → flat_map done_by (made_at c) ≡ flat_map done_by (made_at a) ++ flat_map done_by (made_at b)
 steps_more a b c j = ap (flat_map done_by) (made_more a b c j) ∙ flat_map-append done_by (made_at a) (made_at b)

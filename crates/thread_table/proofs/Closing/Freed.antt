@@ -30,7 +30,7 @@ use Rattle.thread_table.specs.Layout.{free_ring, wait_ring}
 use Rattle.thread_table.specs.declared.places.Place.{Place}
 use Rattle.thread_table.specs.declared.places.Place.TheVariants as places
 use Rattle.thread_table.specs.declared.rule.Made.{Made}
-use Rattle.thread_table.specs.declared.rule.View.{View}
+use Rattle.thread_table.specs.Own.{View}
 use Rattle.thread_table.specs.Closings.{ClosedNow, StandsAt, is_left}
 use Rattle.thread_table.specs.Makers.{is_join, made_in, numbered, AreMade}
 use Rattle.thread_table.specs.Retiring.{items_of, retired_by, retired_in, taking_by, free_takings, frees, was_freed}
@@ -248,7 +248,7 @@ freed_is_left past l x allowed made few freed =
     left_of_freed x (ring_at (elements_after past) 1) (retired_in past) (all_solid (ring_at (elements_after past) 1).history (free_solid (elements_after past) (lawful_after past allowed))) (are_told past allowed).0 (omega arith)
     (sym (numbered_frees x begun past) ∙ (ap (was_freed x) (sym made.logged) ∙ (sym any ∙ freed)))
 
-pub freed_is_told : (call : ℕ) (v : View) (stands : List Place) (pcs pending : List ℕ) (stops x : ℕ) → ClosedNow call v stands pcs pending stops → length (free_takings v.made) ≤ 64 → x < ELEMENTS → was_freed x v.made ≡ true → slice_index_or stands x places.Held ≡ places.Free
+pub freed_is_told : (call : ℕ) (v : View) (stands : List Place) (pcs pending : List ℕ) (stops x : ℕ) → ClosedNow call v stands pcs pending stops → length (free_takings v.own.made) ≤ 64 → x < ELEMENTS → was_freed x v.own.made ≡ true → slice_index_or stands x places.Held ≡ places.Free
 freed_is_told call v stands pcs pending stops x closed few low freed =
-    only_free x call (elements_after v.schedule) (lawful_after v.schedule closed.allowed)
-    (freed_is_left v.schedule v.made x closed.allowed closed.made few freed) (slice_index_or stands x places.Held) (closed.places x low)
+    only_free x call (elements_after v.seen.object) (lawful_after v.seen.object closed.allowed)
+    (freed_is_left v.seen.object v.own.made x closed.allowed closed.made few freed) (slice_index_or stands x places.Held) (closed.places x low)

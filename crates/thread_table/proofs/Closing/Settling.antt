@@ -6,28 +6,33 @@ use mathlib.Core.Logic.{dite}
 use native.Mathlib.Decide.{dec_lt, ℕ_discrete}
 use lib.ListN.{get_elem?}
 use Rattle.atomic_table.specs.Table.{State, Final, Seen}
-use Rattle.table_theory.proofs.Members.{rest_idle}
+use Rattle.table_theory.specs.Ledgers as ends
+use Rattle.table_theory.specs.Ledgers.{load}
+use Rattle.table_theory.proofs.Standing.{rest_spent}
+use Rattle.thread_table.specs.Layout.{ends_word}
+use Rattle.thread_table.specs.Entries.{Acts}
+use Rattle.thread_table.specs.declared.rule.Having.{Having}
+use Rattle.thread_table.proofs.Schedule.Acting.{acts_one}
 use Rattle.table_theory.proofs.Owned.{one_at}
 use Rattle.event_theory.specs.Elements.{Elements}
-use Rattle.table_theory.specs.declared.views.Member.{Member}
-use Rattle.table_theory.specs.Sharing.{IsWhole}
+use Rattle.table_theory.specs.Sharing.{IsWhole, IsCount}
 use Rattle.thread_table.specs.declared.layout.TheConstants.{ELEMENTS}
 use Rattle.thread_table.specs.declared.places.Place.{Place}
 use Rattle.thread_table.specs.declared.places.Place.TheVariants as places
 use Rattle.thread_table.specs.declared.rule.Claimed.{Claimed}
 use Rattle.thread_table.specs.declared.rule.Shape.{Shape}
-use Rattle.thread_table.specs.declared.rule.View.{View}
+use Rattle.thread_table.specs.Own.{View}
 use Rattle.thread_table.specs.Closings.{ClosedNow, WereOpen, PlaceOf, word_at}
-use Rattle.thread_table.specs.Rules.{Rule, HandIs, IsIdle, member_of}
+use Rattle.thread_table.specs.Rules.{Rule, HandIs, nothing_of}
 use Rattle.thread_table.specs.Views.{quiet}
 use Rattle.thread_table.specs.Schedules.{state_after, elements_after, IsAllowed, ring_at, thread_at}
 use Rattle.event_theory.specs.declared.event.Event.{Event}
 use Rattle.event_theory.proofs.Keeping.Accounts.{account_law}
 use Rattle.thread_table.proofs.Schedule.Betweens.{reached}
-use Rattle.thread_table.proofs.Hands.Looks.{hand_quiet}
+use Rattle.thread_table.proofs.Hands.Looks.{hand_quiet, newest_schedule}
 use Rattle.thread_table.proofs.Events.StatesSeen.{pending_are}
 use Rattle.thread_table.specs.Shown.{WordsShow}
-use Rattle.thread_table.specs.Steps.{Tallied}
+use Rattle.thread_table.specs.Steps.{Tallied, had_by_both}
 use Rattle.thread_table.proofs.Lists.Copies.{get_or-copies}
 use Rattle.thread_table.proofs.Shown.QueueWords.{none_some}
 use Rattle.thread_table.proofs.Schedule.Schedules.{lawful_after}
@@ -42,10 +47,13 @@ use Rattle.thread_table.proofs.Schedule.Once.{steps_once}
 use Rattle.thread_table.proofs.Closing.Retiring.{are_retired}
 
 pub were_open : (v w : View) (found others : ℕ) → Tallied v found w → found ≢ 1 → others ≡ found - 1 → WereOpen v others w
-were_open v w found others t more is = let some = t.member.count.some_end in let n : found ≡ others + 1 = omega arith in record {
-  tallied = subst (λ (z : ℕ). Tallied v z w) n t;
+were_open v w found others t more is = let some = t.count.some_end in let n : found ≡ others + 1 = omega arith in record {
   some_other = omega arith;
-  not_whole = λ whole. more (t.member.count.whole whole);
+  not_whole = λ whole. more (t.count.whole whole);
+  past = w.seen;
+  acts = subst (λ (z : ℕ). Acts v (load ends_word z w.seen ∷ []) (quiet v) w) n (acts_one v w ends_word found t.looked);
+  number = sym n ∙ t.number;
+  count = subst (IsCount v.member.share) n t.count;
 }
 
 there : {A : Type 0} (xs : List A) (i : ℕ) → i < length xs → (a : A) × (get_elem? xs i ≡ some a)
@@ -54,20 +62,20 @@ there (x ∷ xs) zero below = (x, refl)
 there (x ∷ xs) (suc i) below = there xs i (omega arith)
 
 -- beside the hand with the whole no hand has anything, and it has no claim to raise itself
-pub settled : (key : Shape) (s : State Unit View) (k : Rule key s) (id : ℕ) (w : View) → get_elem? s.views id ≡ some w → IsWhole w.member.share → w.claimed ≡ None
+pub settled : (key : Shape) (s : State Unit View) (k : Rule key s) (id : ℕ) (w : View) → get_elem? s.views id ≡ some w → IsWhole w.member.share → w.own.claimed ≡ None
     → Settled id key.first (elements_after k.events) s.words
 settled key s k id w at whole none =
     let e : Elements = elements_after k.events in
-    let idle : (i : ℕ) (u : View) → get_elem? s.views i ≡ some u → i ≢ id → IsIdle u = rest_idle member_of IsIdle (get_or s.words 0 0) s.views id w k.ends at whole in
-    let unclaimed : (i : ℕ) (u : View) (c : Claimed) → get_elem? s.views i ≡ some u → u.claimed ≡ Some c → ⊥ = λ i u c has claims. dite (ℕ_discrete i id)
-    (λ same. none_some c u.claimed (ap (λ (z : View). z.claimed) (one_at s.views id u w (subst (λ (j : ℕ). get_elem? s.views j ≡ some u) same has) at) ∙ none) claims)
-    (λ ne. none_some c u.claimed (idle i u has ne).3 claims) in
+    let idle : (i : ℕ) (u : View) → get_elem? s.views i ≡ some u → i ≢ id → ends.IsIdle (nothing_of key.first) u = rest_spent (nothing_of key.first) had_by_both (get_or s.words 0 0) s.views id w k.ends at whole in
+    let unclaimed : (i : ℕ) (u : View) (c : Claimed) → get_elem? s.views i ≡ some u → u.own.claimed ≡ Some c → ⊥ = λ i u c has claims. dite (ℕ_discrete i id)
+    (λ same. none_some c u.own.claimed (ap (λ (z : View). z.own.claimed) (one_at s.views id u w (subst (λ (j : ℕ). get_elem? s.views j ≡ some u) same has) at) ∙ none) claims)
+    (λ ne. none_some c u.own.claimed (ap (λ (z : Having). z.claimed) (idle i u has ne).own) claims) in
     record {
       lawful = lawful_after k.events k.allowed;
       shows = k.shows;
       raised = λ ring run below within. up ((ring_at e ring).raised run 0) (λ low. let o = k.owned ring run below (within, low) in unclaimed o.0 o.1 _ o.2 o.3);
       alone = λ other element ne. dite (dec_lt other (length s.views))
-          (λ yes. let u = there s.views other yes in (k.hands other u.0 u.1).held element ∙ (ap (λ (z : List Bool). get_or z element false) (idle other u.0 u.1 ne).0 ∙ get_or-copies 64 false element))
+          (λ yes. let u = there s.views other yes in (k.hands other u.0 u.1).held element ∙ (ap (λ (z : Having). get_or z.held element false) (idle other u.0 u.1 ne).own ∙ get_or-copies 64 false element))
           (λ no. k.strange other element (omega (arith, no)));
     }
   where
@@ -76,32 +84,32 @@ settled key s k id w at whole none =
     up false not = absurd (not refl)
 
 -- beside the hand with the whole no hand lists an event
-all_made : (key : Shape) (s : State Unit View) (k : Rule key s) (id : ℕ) (w : View) → get_elem? s.views id ≡ some w → IsWhole w.member.share → AreMade k.events (w.made ∷ [])
-all_made key s k id w at whole = made_sole k.events (map made_of s.views) id w.made k.made (at_map made_of s.views id w at)
-    (λ d l has ne. let b = at_map_back made_of s.views d l has in sym b.2 ∙ (rest_idle member_of IsIdle (get_or s.words 0 0) s.views id w k.ends at whole d b.0 b.1 ne).4)
+all_made : (key : Shape) (s : State Unit View) (k : Rule key s) (id : ℕ) (w : View) → get_elem? s.views id ≡ some w → IsWhole w.member.share → AreMade k.events (w.own.made ∷ [])
+all_made key s k id w at whole = made_sole k.events (map made_of s.views) id w.own.made k.made (at_map made_of s.views id w at)
+    (λ d l has ne. let b = at_map_back made_of s.views d l has in sym b.2 ∙ ap (λ (z : Having). z.made) (rest_spent (nothing_of key.first) had_by_both (get_or s.words 0 0) s.views id w k.ends at whole d b.0 b.1 ne).own)
 
-pub closes : (key : Shape) (v w : View) (found id : ℕ) (ws : List ℕ) (xs : List Unit) (all : List Place) (pcs pending : List ℕ) (stops : ℕ) → v.fresh ≡ true → v.claimed ≡ None → Tallied v found w → found ≡ 1 → Final (Seen (Rule key) id w) ws xs
+pub closes : (key : Shape) (v w : View) (found id : ℕ) (ws : List ℕ) (xs : List Unit) (all : List Place) (pcs pending : List ℕ) (stops : ℕ) → v.own.fresh ≡ true → v.own.claimed ≡ None → Tallied v found w → found ≡ 1 → Final (Seen (Rule key) id w) ws xs
     → ((x : ℕ) → x < ELEMENTS → PlaceOf x ws (get_or all x places.Held))
     → ((x : ℕ) → x < ELEMENTS → get_or pcs x 0 ≡ word_at ws (x + 73))
     → ((x : ℕ) → x < ELEMENTS → get_or pending x 0 ≡ word_at ws (x + 9) % 65536)
     → ((x : ℕ) → x < ELEMENTS → bit_at stops x ≡ bit_at (word_at ws (x + 9)) 16)
     → ClosedNow id v all pcs pending stops
 closes key v w found id ws xs all pcs pending stops up none tallied one fin place_of pc_of pending_of stop_of =
-    let s : State Unit View = fin.0 in let k : Rule key s = fin.1.0 in let at = fin.1.1 in let whole : IsWhole v.member.share = tallied.member.count.alone one in
-    let still : IsWhole w.member.share = subst IsWhole (sym (ap (λ (m : Member). m.share) tallied.member.same)) whole in
-    let now : k.events ≡ v.schedule = sym (tallied.sees.newest whole up ∙ k.newest id w at still (ap (λ (z : View). z.fresh) tallied.same)) in let e : Elements = elements_after v.schedule in
-    let allowed : IsAllowed v.schedule = subst IsAllowed now k.allowed in let shows : WordsShow key.first e s.words = subst (λ (z : List Event). WordsShow key.first (elements_after z) s.words) now k.shows in
+    let s : State Unit View = fin.0 in let k : Rule key s = fin.1.0 in let at = fin.1.1 in let whole : IsWhole v.member.share = tallied.count.alone one in
+    let still : IsWhole w.member.share = subst IsWhole (sym (ap (λ (z : View). z.member.share) tallied.looked.same)) whole in
+    let now : k.events ≡ v.seen.object = sym (tallied.looked.sees.newest whole up ∙ newest_schedule key s k id w at still (ap (λ (z : View). z.own.fresh) tallied.looked.same)) in let e : Elements = elements_after v.seen.object in
+    let allowed : IsAllowed v.seen.object = subst IsAllowed now k.allowed in let shows : WordsShow key.first e s.words = subst (λ (z : List Event). WordsShow key.first (elements_after z) s.words) now k.shows in
     let sh : WordsShow key.first e ws = subst (WordsShow key.first e) fin.2 shows in
-    let own : AreMade v.schedule (v.made ∷ []) = subst (λ (z : List Event). AreMade z (v.made ∷ [])) now (subst (λ (l : List Made). AreMade k.events (l ∷ [])) (ap (λ (z : View). z.made) tallied.same) (all_made key s k id w at still)) in
-    let set : Settled id key.first e ws = subst (Settled id key.first e) fin.2 (subst (λ (z : List Event). Settled id key.first (elements_after z) s.words) now (settled key s k id w at still (ap (λ (z : View). z.claimed) tallied.same ∙ none))) in
+    let own : AreMade v.seen.object (v.own.made ∷ []) = subst (λ (z : List Event). AreMade z (v.own.made ∷ [])) now (subst (λ (l : List Made). AreMade k.events (l ∷ [])) (ap (λ (z : View). z.own.made) tallied.looked.same) (all_made key s k id w at still)) in
+    let set : Settled id key.first e ws = subst (Settled id key.first e) fin.2 (subst (λ (z : List Event). Settled id key.first (elements_after z) s.words) now (settled key s k id w at still (ap (λ (z : View). z.own.claimed) tallied.looked.same ∙ none))) in
     record {
       whole = whole;
       allowed = allowed;
-      accounted = account_law 64 v.schedule (state_after v.schedule) (reached v.schedule allowed);
-      hand = subst (λ (z : List Event). HandIs id (quiet v) (elements_after z)) now (hand_quiet id w (quiet v) (elements_after k.events) (sym (ap (λ (z : View). z.held) tallied.same)) (sym (ap (λ (z : View). z.serves) tallied.same)) (sym (ap (λ (z : View). z.on) tallied.same)) (sym (ap (λ (z : View). z.claimed) tallied.same)) refl (k.hands id w at));
+      accounted = account_law 64 v.seen.object (state_after v.seen.object) (reached v.seen.object allowed);
+      hand = subst (λ (z : List Event). HandIs id (quiet v) (elements_after z)) now (hand_quiet id w (quiet v) (elements_after k.events) (sym (ap (λ (z : View). z.own.held) tallied.looked.same)) (sym (ap (λ (z : View). z.own.serves) tallied.looked.same)) (sym (ap (λ (z : View). z.own.on) tallied.looked.same)) (sym (ap (λ (z : View). z.own.claimed) tallied.looked.same)) refl (k.hands id w at));
       made = own;
-      steps_once = steps_once v.schedule v.made allowed own;
-      retired = are_retired v.schedule allowed;
+      steps_once = steps_once v.seen.object v.own.made allowed own;
+      retired = are_retired v.seen.object allowed;
       places = λ x below. stands id key.first e ws set x (get_or all x places.Held) below (place_of x below);
       steps = λ x below. pc_of x below ∙ sh.steps x below;
       signals = λ x below. pending_are (thread_at e x) (word_at ws (x + 9)) (get_or pending x 0) (sh.states x below) (pending_of x below);

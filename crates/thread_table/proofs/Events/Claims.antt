@@ -16,7 +16,7 @@ use Rattle.event_theory.specs.declared.refusal.Refusal.{Refusal}
 use Rattle.event_theory.proofs.Keeping.Places.{in_hands}
 use Rattle.event_theory.proofs.Keeping.Elements.{every_at}
 use Rattle.table_theory.proofs.QueueEvents.{claim_goes}
-use Rattle.thread_table.specs.declared.rule.View.{View}
+use Rattle.thread_table.specs.Own.{View}
 use Rattle.thread_table.specs.declared.rule.Claimed.{Claimed}
 use Rattle.thread_table.specs.Schedules.{QueueGrows, ring_at, thread_at, element_at, element_of, no_run}
 use Rattle.thread_table.specs.declared.layout.TheConstants.{WORDS, ELEMENTS, RINGS, PLACES, NOTIFY}
@@ -248,19 +248,19 @@ claim_leaves id element ring rest v e inside stay = record {
 -- what the hand has then, of one element
 has_after : (id element ring : ℕ) (rest : List Hold) (v : View) (e : Elements) (x : ℕ) → element < ELEMENTS → HandIs id v e → OthersStay id element e.held rest → in_hands element rest ≡ 0
     → ((eqb x element ≡ true) × (x ≡ element)) ⊎ ((eqb x element ≡ false) × (x ≢ element))
-    → list_any (is_hold id x) rest ≡ get_or (set v.held element false) x false
+    → list_any (is_hold id x) rest ≡ get_or (set v.own.held element false) x false
 has_after id element ring rest v e x known hand stay none (inl same) =
-    let here : list_any (is_hold id element) rest ≡ get_or (set v.held element false) element false =
-    unheld id element rest none ∙ sym (get_or-set_same v.held element false false (omega (arith, hand.held_long))) in
-    subst (λ y. list_any (is_hold id y) rest ≡ get_or (set v.held element false) y false) (sym same.1) here
+    let here : list_any (is_hold id element) rest ≡ get_or (set v.own.held element false) element false =
+    unheld id element rest none ∙ sym (get_or-set_same v.own.held element false false (omega (arith, hand.held_long))) in
+    subst (λ y. list_any (is_hold id y) rest ≡ get_or (set v.own.held element false) y false) (sym same.1) here
 has_after id element ring rest v e x known hand stay none (inr differ) =
-    stay id x (other_element id element x differ.1) ∙ (hand.held x ∙ sym (get_or-set_other v.held element x false false differ.1))
+    stay id x (other_element id element x differ.1) ∙ (hand.held x ∙ sym (get_or-set_other v.own.held element x false false differ.1))
 
 claim_hand : (id element ring : ℕ) (rest : List Hold) (v : View) (e : Elements) → ring < RINGS → element < ELEMENTS → ring < length e.rings → IsLawfulQueue (ring_at e ring) → HandIs id v e
     → OthersStay id element e.held rest → in_hands element rest ≡ 0
     → HandIs id (with_claim v ring (length (ring_at e ring).history) element) (claimed id ring element rest e)
 claim_hand id element ring rest v e below known inside lawful hand stay none = record {
-  held_long = length-set v.held element false ∙ hand.held_long;
+  held_long = length-set v.own.held element false ∙ hand.held_long;
   serves_long = hand.serves_long;
   on_long = hand.on_long;
   held = λ x. has_after id element ring rest v e x known hand stay none (eqb_tells x element);
@@ -302,22 +302,22 @@ wait_ok id element wait ticket rest e known inside same at claims lets =
     rw (a, b, lets, c, at, claims) refl
 
 -- the new run is the hand's claim
-run_owes : (v w : View) (id element ring : ℕ) (q : Queue) → v.claimed ≡ None → w.claimed ≡ Some (claim_of ring (length q.history) element) → QueueOwes v w ring q (after_claim id (element ∷ []) q)
+run_owes : (v w : View) (id element ring : ℕ) (q : Queue) → v.own.claimed ≡ None → w.own.claimed ≡ Some (claim_of ring (length q.history) element) → QueueOwes v w ring q (after_claim id (element ∷ []) q)
 run_owes v w id element ring q none claims run below low = by (cases_lt run (length q.history))
   where
     new : Run
     new = record { call = id; items = element ∷ [] }
 
     by : (run < length q.history) ⊎ (length q.history ≤ run)
-        → (((run < length q.history) × (q.raised run 0 ≡ false)) × (element_at (after_claim id (element ∷ []) q) run ≡ element_at q run) × (v.claimed ≡ Some (claim_of ring run (element_at q run)) → ⊥))
-        ⊎ (w.claimed ≡ Some (claim_of ring run (element_at (after_claim id (element ∷ []) q) run)))
-    by (inl older) = inl ((older, low), same_element id element q run older, λ is. none_some _ v.claimed none is)
+        → (((run < length q.history) × (q.raised run 0 ≡ false)) × (element_at (after_claim id (element ∷ []) q) run ≡ element_at q run) × (v.own.claimed ≡ Some (claim_of ring run (element_at q run)) → ⊥))
+        ⊎ (w.own.claimed ≡ Some (claim_of ring run (element_at (after_claim id (element ∷ []) q) run)))
+    by (inl older) = inl ((older, low), same_element id element q run older, λ is. none_some _ v.own.claimed none is)
     by (inr past) =
         let last : run ≡ length q.history = omega (arith, past, below, longer id element q) in
         let its : element_at (after_claim id (element ∷ []) q) (length q.history) ≡ element = ap element_of (get_or-append_seam q.history new [] no_run) in
-        inr (subst (λ (n : ℕ). w.claimed ≡ Some (claim_of ring n (element_at (after_claim id (element ∷ []) q) n))) (sym last) (claims ∙ ap (λ (x : ℕ). Some (claim_of ring (length q.history) x)) (sym its)))
+        inr (subst (λ (n : ℕ). w.own.claimed ≡ Some (claim_of ring n (element_at (after_claim id (element ∷ []) q) n))) (sym last) (claims ∙ ap (λ (x : ℕ). Some (claim_of ring (length q.history) x)) (sym its)))
 
-claim_owes : (v w : View) (id element ring : ℕ) (rest : List Hold) (e : Elements) → ring < length e.rings → v.claimed ≡ None → w.claimed ≡ Some (claim_of ring (length (ring_at e ring).history) element)
+claim_owes : (v w : View) (id element ring : ℕ) (rest : List Hold) (e : Elements) → ring < length e.rings → v.own.claimed ≡ None → w.own.claimed ≡ Some (claim_of ring (length (ring_at e ring).history) element)
     → Owes v w e (claimed id ring element rest e)
 claim_owes v w id element ring rest e inside none claims =
     let q : Queue = ring_at e ring in
@@ -327,7 +327,7 @@ claim_owes v w id element ring rest e inside none claims =
     (run_owes v w id element ring q none claims) (λ l ne. queue_owes v w l (ring_at e l) (ring_at e l) none refl refl)
 
 -- an event that goes as the claim does has its effect
-effect_of : (id : ℕ) (v : View) (first : ℕ) (e : Elements) (words : List ℕ) (ring element : ℕ) (event : Elements → Result Elements Refusal) → Ready id v first e words → v.claimed ≡ None → ring < RINGS → element < ELEMENTS → has v element ≡ true
+effect_of : (id : ℕ) (v : View) (first : ℕ) (e : Elements) (words : List ℕ) (ring element : ℕ) (event : Elements → Result Elements Refusal) → Ready id v first e words → v.own.claimed ≡ None → ring < RINGS → element < ELEMENTS → has v element ≡ true
     → first + length (ring_at e ring).history + 1 < 4294967296
     → ((rest : List Hold) → slice_get e.rings ring ≡ Some (ring_at e ring) → claim 1 id (element ∷ []) (ring_at e ring) ≡ Ok (after_claim id (element ∷ []) (ring_at e ring)) → Lets id element e rest
     → event e ≡ Ok (claimed id ring element rest e))

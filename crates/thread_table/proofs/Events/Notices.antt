@@ -7,7 +7,7 @@ use native.Mathlib.Decide.{dec_lt}
 use Rattle.event_theory.specs.Elements.{Elements}
 use Rattle.event_theory.specs.Marks.{notify_wait}
 use Rattle.thread_table.specs.declared.layout.TheConstants.{NOTIFY}
-use Rattle.thread_table.specs.declared.rule.View.{View}
+use Rattle.thread_table.specs.Own.{View}
 use Rattle.thread_table.specs.Schedules.{ring_at}
 use Rattle.thread_table.specs.Layout.{head_word, tail_word, place_word, wait_ring}
 use Rattle.thread_table.specs.Shown.{WordsShow, RingShows, PlaceShows, head_shown, mark_of}
@@ -72,7 +72,7 @@ ring_after first e words wait word below wide s is =
       places = λ run a b. subst (PlaceShows first (ring_at e (wait_ring wait)) run) (sym (same (place_word (wait_ring wait) (first + run)) (λ e. omega arith))) (s.places run a b);
     }
 
-hand_after : (id : ℕ) (v : View) (e : Elements) (wait : ℕ) → HandIs id v e → v.claimed ≡ None → HandIs id (quiet v) (after e wait)
+hand_after : (id : ℕ) (v : View) (e : Elements) (wait : ℕ) → HandIs id v e → v.own.claimed ≡ None → HandIs id (quiet v) (after e wait)
 hand_after id v e wait h none = record {
   held_long = h.held_long;
   serves_long = h.serves_long;
@@ -80,7 +80,7 @@ hand_after id v e wait h none = record {
   held = h.held;
   on = h.on;
   off = h.off;
-  claimed = λ c at. none_some c v.claimed none at;
+  claimed = λ c at. none_some c v.own.claimed none at;
   counted = λ c at. absurd (cc);
 }
 

@@ -11,7 +11,7 @@ use Rattle.event_theory.specs.Elements.{Elements, Thread, hold, is_hold, is_put,
 use Rattle.event_theory.specs.Lawful.{IsLawfulElements}
 use Rattle.event_theory.specs.declared.hold.Hold.{Hold}
 use Rattle.event_theory.proofs.Keeping.Places.{slice_get_set_same, slice_get_set_other}
-use Rattle.thread_table.specs.declared.rule.View.{View}
+use Rattle.thread_table.specs.Own.{View}
 use Rattle.thread_table.specs.Schedules.{thread_at}
 use Rattle.thread_table.specs.declared.layout.TheConstants.{WORDS, PROCESSORS, ELEMENTS}
 use Rattle.thread_table.specs.Layout.{processor_word, state_word, done_word}
@@ -49,7 +49,7 @@ abbrev seated : ℕ → Elements → ℕ → Option ℕ → List Hold → Elemen
 seated id e p on held = with_parts e e.threads (set e.processors p (processor_of id on)) held
 
 abbrev view_with : View → ℕ → Option ℕ → ℕ → Bool → View
-view_with v p on element is = record v { held = set v.held element is; on = set v.on p on; counted = None }
+view_with v p on element is = record v { own = record v.own { held = set v.own.held element is; on = set v.own.on p on; counted = None } }
 
 not_put : (id call x : ℕ) (on : Option ℕ) → call ≢ id → is_put call x (processor_of id on) ≡ false
 not_put id call x None other = refl
@@ -96,21 +96,21 @@ on_leaves id v e p old on held served there others = record {
   steps = λ x may. refl;
 }
 
-on_hand : (id : ℕ) (v : View) (e : Elements) (p : ℕ) (old on : Option ℕ) (held : List Hold) (element : ℕ) (is : Bool) → HandIs id v e → v.claimed ≡ None → p < PROCESSORS → element < ELEMENTS
+on_hand : (id : ℕ) (v : View) (e : Elements) (p : ℕ) (old on : Option ℕ) (held : List Hold) (element : ℕ) (is : Bool) → HandIs id v e → v.own.claimed ≡ None → p < PROCESSORS → element < ELEMENTS
     → serves v p ≡ true → slice_get e.processors p ≡ Some (processor_of id old)
     → list_any (is_hold id element) held ≡ is → ((x : ℕ) → x ≢ element → list_any (is_hold id x) held ≡ list_any (is_hold id x) e.held)
     → HandIs id (view_with v p on element is) (seated id e p on held)
 on_hand id v e p old on held element is hand none low below served there own others =
     let f = seated id e p on held in
     record {
-      held_long = length-set v.held element is ∙ hand.held_long;
+      held_long = length-set v.own.held element is ∙ hand.held_long;
       serves_long = hand.serves_long;
-      on_long = length-set v.on p on ∙ hand.on_long;
+      on_long = length-set v.own.on p on ∙ hand.on_long;
       held = held_set id v e f element is hand below own others;
-      on = λ q mine. read_set (λ k seat. serves v k ≡ true → slice_get f.processors k ≡ Some (processor_of id seat)) v.on p on None (omega (arith, hand.on_long))
+      on = λ q mine. read_set (λ k seat. serves v k ≡ true → slice_get f.processors k ≡ Some (processor_of id seat)) v.own.on p on None (omega (arith, hand.on_long))
           (λ m. slice_get_set_same e.processors p (processor_of id old) (processor_of id on) there) q
           (λ apart m. slice_get_set_other e.processors p q (processor_of id on) (λ h. apart (sym h)) ∙ hand.on q m) mine;
-      off = λ q strange. get_or-set_other v.on p q on None (λ h. not_served v p q served strange (sym h)) ∙ hand.off q strange;
+      off = λ q strange. get_or-set_other v.own.on p q on None (λ h. not_served v p q served strange (sym h)) ∙ hand.off q strange;
       claimed = no_claim id v f none;
       counted = λ c is. absurd (cc);
     }

@@ -10,7 +10,7 @@ use Rattle.event_theory.specs.Runs.{Run}
 use Rattle.atomic_table.proofs.Lists.{set_here, set_else}
 use Rattle.table_theory.proofs.Owned.{at_below, one_at}
 use Rattle.thread_table.specs.declared.layout.TheConstants.{RINGS}
-use Rattle.thread_table.specs.declared.rule.View.{View}
+use Rattle.thread_table.specs.Own.{View}
 use Rattle.thread_table.specs.declared.rule.Claimed.{Claimed}
 use Rattle.thread_table.specs.Schedules.{ring_at, element_at, element_of, no_run}
 use Rattle.thread_table.specs.Views.{claim_of}
@@ -21,29 +21,29 @@ use Rattle.thread_table.proofs.Shown.QueueWords.{none_some}
 abbrev pub Owes : View → View → Elements → Elements → Type 0
 Owes v w e f = (ring run : ℕ) → ring < RINGS → IsOpen ring run f
     → (IsOpen ring run e × (element_at (ring_at f ring) run ≡ element_at (ring_at e ring) run)
-    × (v.claimed ≡ Some (claim_of ring run (element_at (ring_at e ring) run)) → ⊥))
-    ⊎ (w.claimed ≡ Some (claim_of ring run (element_at (ring_at f ring) run)))
+    × (v.own.claimed ≡ Some (claim_of ring run (element_at (ring_at e ring) run)) → ⊥))
+    ⊎ (w.own.claimed ≡ Some (claim_of ring run (element_at (ring_at f ring) run)))
 
 -- the same of one queue, q before and r after the event
 abbrev pub QueueOwes : View → View → ℕ → Queue → Queue → Type 0
 QueueOwes v w ring q r = (run : ℕ) → run < length r.history → r.raised run 0 ≡ false
     → (((run < length q.history) × (q.raised run 0 ≡ false)) × (element_at r run ≡ element_at q run)
-    × (v.claimed ≡ Some (claim_of ring run (element_at q run)) → ⊥))
-    ⊎ (w.claimed ≡ Some (claim_of ring run (element_at r run)))
+    × (v.own.claimed ≡ Some (claim_of ring run (element_at q run)) → ⊥))
+    ⊎ (w.own.claimed ≡ Some (claim_of ring run (element_at r run)))
 
 -- nothing was claimed or raised, and the hand had no claim
-pub queue_owes : (v w : View) (ring : ℕ) (q r : Queue) → v.claimed ≡ None → r.history ≡ q.history → r.raised ≡ q.raised → QueueOwes v w ring q r
+pub queue_owes : (v w : View) (ring : ℕ) (q r : Queue) → v.own.claimed ≡ None → r.history ≡ q.history → r.raised ≡ q.raised → QueueOwes v w ring q r
 queue_owes v w ring q r none history raised run below low = inl (
   (subst (λ (h : List Run). run < length h) history below, ap (λ (p : ℕ → ℕ → Bool). p run 0) (sym raised) ∙ low),
   ap (λ (h : List Run). element_of (get_or h run no_run)) history,
-  λ is. none_some _ v.claimed none is,
+  λ is. none_some _ v.own.claimed none is,
 )
 
 pub each_owes : (v w : View) (e f : Elements) → ((ring : ℕ) → QueueOwes v w ring (ring_at e ring) (ring_at f ring)) → Owes v w e f
 each_owes v w e f each ring run below is = each ring run is.0 is.1
 
 -- all queues stayed
-pub same_owes : (v w : View) (e f : Elements) → v.claimed ≡ None → ((ring : ℕ) → ring_at f ring ≡ ring_at e ring) → Owes v w e f
+pub same_owes : (v w : View) (e f : Elements) → v.own.claimed ≡ None → ((ring : ℕ) → ring_at f ring ≡ ring_at e ring) → Owes v w e f
 same_owes v w e f none same = each_owes v w e f (λ ring. queue_owes v w ring (ring_at e ring) (ring_at f ring) none (ap (λ (q : Queue). q.history) (same ring)) (ap (λ (q : Queue). q.raised) (same ring)))
 
 -- one queue changed
@@ -55,17 +55,17 @@ ring_owes v w e f ring new here stay mine others = each_owes v w e f (λ l. dite
 
 -- the claim is a hand's
 abbrev pub IsOwned : List View → Claimed → Type 0
-IsOwned views c = (j : ℕ) × (v : View) × (get_elem? views j ≡ some v) × (v.claimed ≡ Some c)
+IsOwned views c = (j : ℕ) × (v : View) × (get_elem? views j ≡ some v) × (v.own.claimed ≡ Some c)
 
 -- each run that isn't raised is a hand's claim
 abbrev pub AllOwned : List View → Elements → Type 0
 AllOwned views e = (ring run : ℕ) → ring < RINGS → IsOpen ring run e → IsOwned views (claim_of ring run (element_at (ring_at e ring) run))
 
 -- a claim stays a hand's, where one view changed that kept it or didn't have it
-pub owned_set : (views : List View) (id : ℕ) (v w : View) (c : Claimed) → get_elem? views id ≡ some v → (v.claimed ≡ Some c → w.claimed ≡ Some c) → IsOwned views c → IsOwned (set views id w) c
+pub owned_set : (views : List View) (id : ℕ) (v w : View) (c : Claimed) → get_elem? views id ≡ some v → (v.own.claimed ≡ Some c → w.own.claimed ≡ Some c) → IsOwned views c → IsOwned (set views id w) c
 owned_set views id v w c at keeps o = dite (ℕ_discrete o.0 id)
     (λ same. let is : v ≡ o.1 = one_at views id v o.1 at (subst (λ (z : ℕ). get_elem? views z ≡ some o.1) same o.2) in
-    (id, w, set_here views id w (at_below views id v at), keeps (ap (λ (u : View). u.claimed) is ∙ o.3)))
+    (id, w, set_here views id w (at_below views id v at), keeps (ap (λ (u : View). u.own.claimed) is ∙ o.3)))
     (λ ne. (o.0, o.1, set_else views id o.0 w ne ∙ o.2, o.3))
 
 -- an event of a hand, whose view becomes w
@@ -77,6 +77,6 @@ claims_set views id v w e f at owes owned ring run below is = ⊎_elim
     (owes ring run below is)
 
 -- no event, and the view keeps its claim
-pub claims_kept : (views : List View) (id : ℕ) (v w : View) (e : Elements) → get_elem? views id ≡ some v → w.claimed ≡ v.claimed → AllOwned views e → AllOwned (set views id w) e
+pub claims_kept : (views : List View) (id : ℕ) (v w : View) (e : Elements) → get_elem? views id ≡ some v → w.own.claimed ≡ v.own.claimed → AllOwned views e → AllOwned (set views id w) e
 claims_kept views id v w e at claimed owned ring run below is =
     owned_set views id v w (claim_of ring run (element_at (ring_at e ring) run)) at (λ claims. claimed ∙ claims) (owned ring run below is)

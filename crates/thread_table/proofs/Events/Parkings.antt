@@ -9,7 +9,7 @@ use Rattle.event_theory.specs.Elements.{Elements, Thread, hold, is_hold, holds, 
 use Rattle.event_theory.specs.declared.hold.Hold.{Hold}
 use Rattle.event_theory.proofs.Outcomes.{parked_ok, started_ok}
 use Rattle.thread_table.specs.declared.layout.TheConstants.{ELEMENTS}
-use Rattle.thread_table.specs.declared.rule.View.{View}
+use Rattle.thread_table.specs.Own.{View}
 use Rattle.thread_table.specs.Schedules.{thread_at}
 use Rattle.thread_table.specs.Layout.{processor_word, state_word, done_word}
 use Rattle.thread_table.specs.Shown.{WordsShow, StateShows}
@@ -85,9 +85,9 @@ threaded_leaves id v e element new held below same others = record {
   steps = λ x may. same_steps e element new below same x;
 }
 
-threaded_hand : (id : ℕ) (v : View) (e : Elements) (element : ℕ) (new : Thread) (held : List Hold) (has_now : List Bool) → HandIs id v e → v.claimed ≡ None
+threaded_hand : (id : ℕ) (v : View) (e : Elements) (element : ℕ) (new : Thread) (held : List Hold) (has_now : List Bool) → HandIs id v e → v.own.claimed ≡ None
     → length has_now ≡ 64 → ((x : ℕ) → list_any (is_hold id x) held ≡ get_or has_now x false)
-    → HandIs id (record v { held = has_now; counted = None }) (threaded e element new held)
+    → HandIs id (record v { own = record v.own { held = has_now; counted = None } }) (threaded e element new held)
 threaded_hand id v e element new held has_now hand none long is = record {
   held_long = long;
   serves_long = hand.serves_long;
@@ -113,7 +113,7 @@ park_effect id v first e words element r none low has_it stopped =
       f = f;
       goes = parked_ok id element index e old (slice_get-get_or e.threads element new_thread within) g.at stopped;
       leaves = threaded_leaves id v e element (parked old) held within refl (λ c x other. g.others c x (inl other));
-      hand = threaded_hand id v e element (parked old) held (set v.held element false) r.hand none (length-set v.held element false ∙ r.hand.held_long)
+      hand = threaded_hand id v e element (parked old) held (set v.own.held element false) r.hand none (length-set v.own.held element false ∙ r.hand.held_long)
           (held_set id v e f element false r.hand low g.own (λ x apart. g.others id x (inr apart)));
       shows = threaded_words first e words element (parked old) held (bit_or word 131072) low r.shows refl (parked_shows old word (r.shows.states element low));
       owes = same_owes v (with_held v element false) e f none (λ ring. refl);
@@ -132,7 +132,7 @@ started_others id element c x true held other = handed_else id element c x held 
 started_others id element c x false held other = ap (list_any (is_hold c x)) (append-nil held)
 
 started_held : (id : ℕ) (v : View) (e : Elements) (element : ℕ) (new : Thread) (was_parked : Bool) → HandIs id v e → element < ELEMENTS
-    → (x : ℕ) → list_any (is_hold id x) (held_after id element was_parked e.held) ≡ get_or (has_after element was_parked v.held) x false
+    → (x : ℕ) → list_any (is_hold id x) (held_after id element was_parked e.held) ≡ get_or (has_after element was_parked v.own.held) x false
 started_held id v e element new true hand low x =
     held_set id v e (threaded e element new (e.held ++ hold id element ∷ [])) element true hand low (handed id element e.held)
     (λ y apart. handed_else id element id y e.held (inr apart)) x
@@ -152,7 +152,7 @@ start_effect id v first e words element r none low stopped =
       f = threaded e element (started old) held;
       goes = started_ok id element e old (slice_get-get_or e.threads element new_thread within) stopped;
       leaves = threaded_leaves id v e element (started old) held within refl (λ c x other. started_others id element c x old.parked e.held (inl other));
-      hand = threaded_hand id v e element (started old) held (has_after element old.parked v.held) r.hand none (has_after_long element old.parked v.held ∙ r.hand.held_long)
+      hand = threaded_hand id v e element (started old) held (has_after element old.parked v.own.held) r.hand none (has_after_long element old.parked v.own.held ∙ r.hand.held_long)
           (started_held id v e element (started old) old.parked r.hand low);
       shows = threaded_words first e words element (started old) held (bit_and word 65535) low r.shows refl (started_shows old word (r.shows.states element low));
       owes = same_owes v (with_start v element old.parked) e (threaded e element (started old) held) none (λ ring. refl);

@@ -9,7 +9,7 @@ use Rattle.event_theory.specs.Results.{◌>>=◌}
 use Rattle.event_theory.specs.Runs.{Run}
 use Rattle.event_theory.specs.Lawful.{IsLawfulQueue}
 use Rattle.event_theory.proofs.Keeping.Elements.{every_at}
-use Rattle.thread_table.specs.declared.rule.View.{View}
+use Rattle.thread_table.specs.Own.{View}
 use Rattle.thread_table.specs.declared.rule.Claimed.{Claimed}
 use Rattle.thread_table.specs.Schedules.{QueueGrows, Grows, ring_at, element_at, element_of, no_run}
 use Rattle.thread_table.specs.declared.layout.TheConstants.{RINGS, PLACES}
@@ -158,13 +158,13 @@ run_in None = 0
 run_in (Some c) = c.run
 
 -- the hand's run is raised, and the others of its queue aren't the hand's
-raised_owes : (v w : View) (ring run element : ℕ) (q : Queue) → v.claimed ≡ Some (claim_of ring run element) → QueueOwes v w ring q (after_raise run 0 q)
+raised_owes : (v w : View) (ring run element : ℕ) (q : Queue) → v.own.claimed ≡ Some (claim_of ring run element) → QueueOwes v w ring q (after_raise run 0 q)
 raised_owes v w ring run element q claimed r below low =
     let ne : r ≢ run = λ is. true≢false (sym (raised_now run q.raised) ∙ (ap (λ (n : ℕ). with_pair run 0 q.raised n 0) (sym is) ∙ low)) in
     inl ((below, sym (raised_else run q.raised r ne) ∙ low), refl, λ is. ne (ap run_in (sym is ∙ claimed)))
 
 -- nor are those of another queue
-others_owe : (v w : View) (ring run element l : ℕ) (q : Queue) → v.claimed ≡ Some (claim_of ring run element) → l ≢ ring → QueueOwes v w l q q
+others_owe : (v w : View) (ring run element l : ℕ) (q : Queue) → v.own.claimed ≡ Some (claim_of ring run element) → l ≢ ring → QueueOwes v w l q q
 others_owe v w ring run element l q claimed ne r below low = inl ((below, low), refl, λ is. ne (ap ring_in (sym is ∙ claimed)))
 
 pub raise_effect : RaiseEffect

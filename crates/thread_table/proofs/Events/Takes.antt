@@ -18,7 +18,7 @@ use Rattle.event_theory.specs.declared.refusal.Refusal.TheVariants.{UnknownName}
 use Rattle.event_theory.proofs.Keeping.Elements.{every_at}
 use Rattle.event_theory.proofs.Keeping.Places.{one, sum_changed, in_joined}
 use Rattle.table_theory.proofs.QueueEvents.{take_goes}
-use Rattle.thread_table.specs.declared.rule.View.{View}
+use Rattle.thread_table.specs.Own.{View}
 use Rattle.thread_table.specs.declared.rule.Claimed.{Claimed}
 use Rattle.thread_table.specs.Schedules.{QueueGrows, Grows, ring_at, element_at}
 use Rattle.thread_table.specs.declared.layout.TheConstants.{ELEMENTS, RINGS, PLACES}
@@ -79,24 +79,24 @@ first_known e ring x lawful below first =
     let sum = sum_changed (λ (r : Queue). in_list x (left r)) e.rings ring q (empty_queue PLACES) (slice_get-get_or e.rings ring (empty_queue PLACES) below) in
     dite (dec_lt x (length e.threads)) (λ y. y) (λ no. absurd (omega (arith, lawful.known x (omega arith), some, itself, sum)))
 
-held_after : (id : ℕ) (v : View) (e : Elements) (x : ℕ) → x < length v.held → ((element : ℕ) → holds id element e ≡ has v element)
-    → (element : ℕ) → list_any (is_hold id element) (e.held ++ hold id x ∷ []) ≡ get_or (set v.held x true) element false
+held_after : (id : ℕ) (v : View) (e : Elements) (x : ℕ) → x < length v.own.held → ((element : ℕ) → holds id element e ≡ has v element)
+    → (element : ℕ) → list_any (is_hold id element) (e.held ++ hold id x ∷ []) ≡ get_or (set v.own.held x true) element false
 held_after id v e x below before element = dite (ℕ_discrete element x)
-    (λ same. subst (λ n. list_any (is_hold id n) (e.held ++ hold id x ∷ []) ≡ get_or (set v.held x true) n false) (sym same)
-    (holds_now id x e.held ∙ sym (get_or-set_same v.held x true false below)))
-    (λ ne. holds_other id x e.held id element ne ∙ (before element ∙ sym (get_or-set_other v.held x element true false ne)))
+    (λ same. subst (λ n. list_any (is_hold id n) (e.held ++ hold id x ∷ []) ≡ get_or (set v.own.held x true) n false) (sym same)
+    (holds_now id x e.held ∙ sym (get_or-set_same v.own.held x true false below)))
+    (λ ne. holds_other id x e.held id element ne ∙ (before element ∙ sym (get_or-set_other v.own.held x element true false ne)))
 
-hand_after : (id : ℕ) (v : View) (e : Elements) (ring x : ℕ) → HandIs id v e → v.claimed ≡ None → x < ELEMENTS → HandIs id (with_held v x true) (after e ring id x)
+hand_after : (id : ℕ) (v : View) (e : Elements) (ring x : ℕ) → HandIs id v e → v.own.claimed ≡ None → x < ELEMENTS → HandIs id (with_held v x true) (after e ring id x)
 hand_after id v e ring x h none known =
     let long = h.held_long in
     record {
-      held_long = length-set v.held x true ∙ h.held_long;
+      held_long = length-set v.own.held x true ∙ h.held_long;
       serves_long = h.serves_long;
       on_long = h.on_long;
       held = held_after id v e x (omega arith) h.held;
       on = h.on;
       off = h.off;
-      claimed = λ c at. none_some c v.claimed none at;
+      claimed = λ c at. none_some c v.own.claimed none at;
       counted = λ c at. absurd (cc);
     }
 

@@ -8,7 +8,7 @@ use Rattle.event_theory.specs.Elements.{Elements, Thread, new_thread, stop, sign
 use Rattle.event_theory.specs.declared.refusal.Refusal.{Refusal}
 use Rattle.event_theory.proofs.Outcomes.{changed, delivered_ok, done_ok}
 use Rattle.thread_table.specs.declared.layout.TheConstants.{ELEMENTS}
-use Rattle.thread_table.specs.declared.rule.View.{View}
+use Rattle.thread_table.specs.Own.{View}
 use Rattle.thread_table.specs.declared.rule.Counted.{Counted}
 use Rattle.thread_table.specs.Schedules.{Grows, thread_at}
 use Rattle.thread_table.specs.Layout.{processor_word, state_word, done_word, head_word, tail_word, place_word}
@@ -153,7 +153,7 @@ done_shown first e words element count known shows is_count room =
 
 -- the effect of an event that changes one thread's state
 state_effect : (id : ℕ) (v : View) (first : ℕ) (event : Elements → Result Elements Refusal) (e : Elements) (words : List ℕ) (element word : ℕ) (new : Thread)
-    → Ready id v first e words → v.claimed ≡ None → element < ELEMENTS → event e ≡ Ok (with_thread e element new) → new.done ≡ (thread_at e element).done → StateShows new word
+    → Ready id v first e words → v.own.claimed ≡ None → element < ELEMENTS → event e ≡ Ok (with_thread e element new) → new.done ≡ (thread_at e element).done → StateShows new word
     → Effect id v (quiet v) first event e (set words (state_word element) word)
 state_effect id v first event e words element word new ready free known goes steps state = record {
   f = with_thread e element new;

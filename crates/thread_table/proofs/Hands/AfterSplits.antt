@@ -1,13 +1,23 @@
 -- What a hand knows after a split, and after a join.
-use Rattle.std.proofs.Common.{◌≡◌, ℕ, zero, suc, ◌+◌, ◌-◌, Bool, true, false, ◌||◌, ◌&&◌, not, cond, List, [], ◌∷◌, length, get_or, refl, sym, ap, ◌∙◌, arith}
-use Rattle.table_theory.specs.declared.views.Member.{Member}
-use Rattle.table_theory.specs.Members as members
-use Rattle.table_theory.specs.Sharing.{given, kept}
-use Rattle.thread_table.specs.declared.rule.View.{View}
+use Rattle.std.proofs.Common.{◌≡◌, ℕ, zero, suc, ◌+◌, ◌-◌, Bool, true, false, ◌||◌, ◌&&◌, not, cond, List, [], ◌∷◌, length, get_or, refl, sym, ap, ◌∙◌, subst, arith}
+use Rattle.std.specs.Prelude.{nat_lt}
+use Rattle.event_theory.specs.declared.event.Event.{Event}
+use Rattle.table_theory.specs.Ends.{Begins}
+use Rattle.table_theory.specs.Ledgers.{Step, count_up, count_down}
+use Rattle.table_theory.specs.Sharing.{given}
+use Rattle.table_theory.proofs.Ends.{begins_trans}
+use Rattle.table_theory.proofs.Parting.{one_seen}
+use Rattle.thread_table.specs.Layout.{ends_word}
+use Rattle.thread_table.specs.Entries.{seen_as}
+use Rattle.thread_table.specs.Own.{View}
 use Rattle.thread_table.specs.Answers.{is_in}
-use Rattle.thread_table.specs.Steps.{counted, CountedUp, CountedDown, parted, any_both, rest_of, newborn, both}
-use Rattle.thread_table.specs.Endings.{Divided, IsNewborn, TookIn}
+use Rattle.thread_table.specs.Entries.{seen_as}
+use Rattle.thread_table.specs.Steps as told
+use Rattle.thread_table.specs.Steps.{after, Sees, CountedUp, CountedDown, parted, any_both, rest_of, newborn, both}
+use Rattle.thread_table.specs.Endings.{Divided, IsNewborn, TookIn, with_split, together, with_join}
+use Rattle.thread_table.proofs.Schedule.Acting.{acts_kept}
 use Rattle.thread_table.proofs.Lists.Entries.{get_or-parted, get_or-either}
+use Rattle.thread_table.specs.Layout.{ends_word}
 
 and_not : (b m : Bool) → cond m false b ≡ (b && not m)
 and_not true true = refl
@@ -38,46 +48,52 @@ both_low (b ∷ bs) (m ∷ ms) none (suc i) = both_low bs ms (no_mark (b && m) (
 
 -- the first hand, after it counted the new one and gave it the processors of the mask
 pub divided : (number : ℕ) (mask : List Bool) (v x : View) (found : ℕ) → ((p : ℕ) → get_or mask p false ≡ is_in number p) → CountedUp v found x → Divided number v (rest_of mask x)
-divided number mask v x found is t = let ends : v.member.ends + 1 - 1 ≡ v.member.ends = omega arith in let serves : v.serves ≡ x.serves = sym (ap (λ (z : View). z.serves) t.same) in record {
-  found = found;
-  past = t.past;
-  follows = t.follows;
-  same = ap (rest_of mask) t.same ∙ (λ i. let z : View = record (counted v found t.past x.schedule (members.rest_of x.member)) { serves = parted (serves i) mask } in z);
-  serves = λ p below. get_or-parted x.serves mask p ∙ (and_not (get_or x.serves p false) (get_or mask p false)
-      ∙ (ap (λ (z : List Bool). get_or z p false && not (get_or mask p false)) (ap (λ (z : View). z.serves) t.same) ∙ ap (λ (b : Bool). get_or v.serves p false && not b) (is p)));
-  sees = t.sees;
-  member = record {
-    log = t.member.log;
-    same = ap members.rest_of t.member.same ∙ (λ i. let z : Member = record (members.with_split v.member t.member.log) { share = kept v.member.share; ends = ends i } in z);
-    later = t.member.later;
-    number = t.member.number;
-  };
-}
+divided number mask v x found is t = let w : View = rest_of mask x in let e : Step (List Event) = count_up ends_word t.before in let less : v.member.ends + 1 - 1 ≡ v.member.ends = omega arith in
+    let y : View = rest_of mask (after (record v { member = told.with_split v.member }) t.past e) in let goes : w ≡ y = ap (rest_of mask) t.same in record {
+      serves = λ p below. get_or-parted x.own.serves mask p ∙ (and_not (get_or x.own.serves p false) (get_or mask p false)
+          ∙ (ap (λ (z : List Bool). get_or z p false && not (get_or mask p false)) (ap (λ (z : View). z.own.serves) t.same) ∙ ap (λ (b : Bool). get_or v.own.serves p false && not b) (is p)));
+      found = t.before;
+      acts = acts_kept v w (with_split v w) t.past e t.follows t.newest (subst (λ (z : List Event). Sees v z) (sym (ap (λ (z : View). z.seen.object) t.same)) t.sees) (ap (λ (z : View). z.first) t.same) (ap (λ (z : View). z.steps) t.same) (ap (λ (z : View). z.course) t.same) (ap (λ (z : View). z.seen) t.same)
+          (ap (λ (z : View). z.own.made) t.same)
+          (goes ∙ ((λ i. record y { member = record y.member { ends = less i } }) ∙ sym (ap (λ (z : View). seen_as (with_split v z) z) goes)));
+    }
 
 pub born : (number : ℕ) (mask : List Bool) (v x : View) (found : ℕ) → ((p : ℕ) → get_or mask p false ≡ is_in number p) → CountedUp v found x → IsNewborn number v (rest_of mask x) (newborn mask x)
-born number mask v x found is t = let share : x.member.share ≡ v.member.share = ap (λ (z : Member). z.share) t.member.same in record {
-  same = λ i. let z : View = record (newborn mask x) { member = record (members.newborn x.member) { share = given (share i) } } in z;
+born number mask v x found is t = record {
   serves = λ p below. is p;
+  same = (λ i. record (newborn mask x) { member = record (newborn mask x).member { share = given (t.same i).member.share } });
 }
 
-pub took_in : (v u w : View) (found : ℕ) → v.member.ends ≡ 1 → u.member.ends ≡ 1 → length u.held ≡ length v.held → length u.serves ≡ length v.serves → CountedDown (both v u) found w → TookIn v u w
+-- what both saw, without their share
+sees_together : (v u w : View) (found : ℕ) → CountedDown (both v u) found w → Sees (together v u) w.seen.object
+sees_together v u w found t = let s = t.sees in subst (λ (z : List Event). Sees (together v u) z) (sym (ap (λ (z : View). z.seen.object) t.same)) record {
+  allowed = s.allowed;
+  lawful = s.lawful;
+  seen = record { schedule = s.seen.schedule; grows = s.seen.grows };
+  done = s.done;
+  steady = λ up x low may. s.steady up x low may;
+  newest = λ whole up. absurd (cc);
+  undoubled = s.undoubled;
+  words = s.words;
+  shows = s.shows;
+}
+
+pub took_in : (v u w : View) (found : ℕ) → v.member.ends ≡ 1 → u.member.ends ≡ 1 → length u.own.held ≡ length v.own.held → length u.own.serves ≡ length v.own.serves → CountedDown (both v u) found w → TookIn v u w
 took_in v u w found one one' held serves t =
-    let ends : v.member.ends + u.member.ends - 1 ≡ 1 = omega arith in
-    let a = no_mark (v.doubled || u.doubled || any_both v.held u.held) (any_both v.serves u.serves) t.sees.undoubled in
-    let b = no_mark (v.doubled || u.doubled) (any_both v.held u.held) a.0 in record {
-      found = found;
-      past = t.past;
-      follows = t.follows;
-      same = t.same;
-      sees = t.sees;
-      member = record {
-        log = t.member.log;
-        same = t.member.same ∙ (λ i. let z : Member = record (members.with_join (members.both v.member u.member) t.member.log) { ends = ends i } in z);
-        later = t.member.later;
-        number = t.member.number;
-      };
-      apart = both_low v.held u.held b.1;
-      alone = both_low v.serves u.serves a.1;
-      held = λ e. ap (λ (z : View). get_or z.held e false) t.same ∙ (get_or-either v.held u.held e held ∙ or_is (get_or v.held e false) (get_or u.held e false));
-      serves = λ p. ap (λ (z : View). get_or z.serves p false) t.same ∙ (get_or-either v.serves u.serves p serves ∙ or_is (get_or v.serves p false) (get_or u.serves p false));
+    let less : v.member.ends + u.member.ends - 1 ≡ 1 = omega arith in let e : Step (List Event) = count_down ends_word t.before in let y : View = after (record (both v u) { member = told.with_join (both v u).member }) t.past e in
+    let a = no_mark (v.own.doubled || u.own.doubled || any_both v.own.held u.own.held) (any_both v.own.serves u.own.serves) t.sees.undoubled in
+    let b = no_mark (v.own.doubled || u.own.doubled) (any_both v.own.held u.own.held) a.0 in
+    let later : Begins (both v u).course w.course = begins_trans (both v u).course t.past w.course t.follows (subst (Begins t.past) (sym (ap (λ (z : View). z.course) t.same)) (e ∷ [], refl)) in
+    let before : Begins (both v u).joined w.course = begins_trans (both v u).joined t.past w.course t.joined (subst (Begins t.past) (sym (ap (λ (z : View). z.course) t.same)) (e ∷ [], refl)) in
+    let seen = one_seen (nat_lt (length v.course) (length u.course)) v.course u.course w.course later before in record {
+      apart = both_low v.own.held u.own.held b.1;
+      alone = both_low v.own.serves u.own.serves a.1;
+      held = λ e. ap (λ (z : View). get_or z.own.held e false) t.same ∙ (get_or-either v.own.held u.own.held e held ∙ or_is (get_or v.own.held e false) (get_or u.own.held e false));
+      serves = λ p. ap (λ (z : View). get_or z.own.serves p false) t.same ∙ (get_or-either v.own.serves u.own.serves p serves ∙ or_is (get_or v.own.serves p false) (get_or u.own.serves p false));
+      found = t.before;
+      acts = acts_kept (together v u) w (with_join v u) t.past e t.follows (λ whole. absurd (omega arith)) (sees_together v u w found t) (ap (λ (z : View). z.first) t.same) (ap (λ (z : View). z.steps) t.same) (ap (λ (z : View). z.course) t.same) (ap (λ (z : View). z.seen) t.same) (ap (λ (z : View). z.own.made) t.same)
+          (t.same ∙ ((λ i. record y { member = record y.member { ends = less i } }) ∙ sym (ap (seen_as (with_join v u)) t.same)));
+      one = seen.0;
+      other = seen.1;
+      one_object = t.one_object;
     }

@@ -5,23 +5,27 @@ use Rattle.std.proofs.lemmas.List.{set-get_or}
 use mathlib.Core.Option.{some, none}
 use lib.ListN.{get_elem?}
 use Rattle.atomic_table.specs.Table.{Me, step, keeps, Allows}
-use Rattle.table_theory.specs.declared.views.Member.{Member}
-use Rattle.table_theory.specs.Members.{EndsKnown, with_split, with_join}
+use Rattle.table_theory.specs.declared.views.Part.{Part}
+use Rattle.table_theory.specs.Ledgers.{Step, IsReal, EndsStand, load, count_up, count_down, stays, more, fewer}
+use Rattle.event_theory.specs.declared.event.Event.{Event}
 use Rattle.event_theory.specs.Elements.{Elements, hold, holds, is_hold, is_put}
-use Rattle.table_theory.proofs.Members.{known_look, known_tally, known_up, known_down, tallied, counted_more, counted_less}
+use Rattle.table_theory.proofs.Standing.{stand_same, stand_up, stand_down, number_is}
 use Rattle.thread_table.specs.declared.layout.TheConstants.{ELEMENTS}
 use Rattle.thread_table.specs.declared.rule.Shape.{Shape}
-use Rattle.thread_table.specs.declared.rule.View.{View}
+use Rattle.thread_table.specs.Own.{View}
 use Rattle.thread_table.specs.declared.rule.Counted.{Counted}
-use Rattle.thread_table.specs.Schedules.{elements_after, ring_at, thread_at}
-use Rattle.thread_table.specs.Layout.{processor_word, state_word, done_word, head_word, tail_word, place_word}
+use Rattle.thread_table.specs.Schedules.{Past, elements_after, ring_at, thread_at}
+use Rattle.thread_table.specs.Layout.{ends_word, processor_word, state_word, done_word, head_word, tail_word, place_word}
 use Rattle.thread_table.specs.Shown.{WordsShow, RingShows, StateShows, PlaceShows}
 use Rattle.thread_table.specs.Joins.{uncounted}
 use Rattle.thread_table.proofs.Schedule.JoinEvents.{joined_set, none_uncounted, one_uncounted}
-use Rattle.thread_table.specs.Rules.{IsActive, HandIs, IsCounted, Rule, MayStep, IsIdle, member_of, may_step}
+use Rattle.thread_table.specs.Rules.{IsActive, HandIs, IsCounted, Rule, MayStep, nothing_of, may_step}
 use Rattle.thread_table.specs.Views.{count_of}
-use Rattle.thread_table.specs.Steps.{looked, counted, counts_up, counts_down, tallies, reads_pc}
-use Rattle.thread_table.proofs.Hands.Looks.{St, steps_to, hand_counts, hand_quiet, kept, sees_of}
+use Rattle.thread_table.specs.Steps.{Stands, after, looked, read_pc, with_split, with_join, had_by_both, counts_up, counts_down, tallies, reads_pc}
+use Rattle.thread_table.specs.Telling.{of_hands}
+use Rattle.atomic_table.proofs.Lists.{set_here}
+use Rattle.table_theory.proofs.Owned.{at_below}
+use Rattle.thread_table.proofs.Hands.Looks.{St, steps_to, now_at, hand_counts, hand_quiet, stood_look, real_step, kept, kept_look, found_now, sees_of, honest_of}
 
 -- the number of hands shows nothing of the elements
 ring_count : (first ring y : ℕ) (e : Elements) (words : List ℕ) → RingShows first e ring words → RingShows first e ring (set words 0 y)
@@ -51,41 +55,65 @@ shows_count first y e words h = record {
 }
 
 -- the rule, where the number of hands becomes y, and another of them of the hand
-pub kept_count : (key : Shape) (s : St) (k : Rule key s) (id y found : ℕ) (v : View) (m : Member) → get_elem? s.views id ≡ some v → 1 ≤ v.member.ends → 1 ≤ m.ends → m.joins ≡ v.member.joins + uncounted v → EndsKnown member_of IsIdle y (set s.views id (counted v found (steps_to k) k.events m))
-    → Rule key record { words = set s.words 0 y; homes = s.homes; views = set s.views id (counted v found (steps_to k) k.events m) }
-kept_count key s k id y found v m at live live' counts e = let wide = k.shows.wide in let w : View = counted v found (steps_to k) k.events m in
-    kept key s k id 0 found (set s.words 0 y) v w at (shows_count key.first y (elements_after k.events) s.words k.shows) refl refl refl refl refl (refl, refl)
+pub kept_count : (key : Shape) (s : St) (k : Rule key s) (id y : ℕ) (v : View) (m : Part) (e : Step (List Event)) → e.then ≡ now_at k → IsReal (of_hands key.first) e → e.next ≡ record (now_at k) { ends = y } → get_elem? s.views id ≡ some v → 1 ≤ v.member.ends → 1 ≤ m.ends → m.joins ≡ v.member.joins + uncounted v
+    → EndsStand (nothing_of key.first) y (set s.views id (after (record v { member = m }) (steps_to k) e))
+    → Rule key record { words = set s.words 0 y; homes = s.homes; views = set s.views id (after (record v { member = m }) (steps_to k) e) }
+kept_count key s k id y v m e found real leaves at live live' counts stand = let wide = k.shows.wide in let w : View = after (record v { member = m }) (steps_to k) e in let is : get_or (set s.words 0 y) 0 0 ≡ y = get_or-set_same s.words 0 y 0 (omega arith) in
+    let sees : w.seen.object ≡ k.events = ap (λ (z : Past). z.object) leaves in
+    kept key s k id (set s.words 0 y) v w w.own m e refl found real (leaves ∙ ap (λ (z : ℕ). record (now_at k) { ends = z }) (sym is)) at live (shows_count key.first y (elements_after k.events) s.words k.shows) refl sees refl refl (refl, refl)
     (hand_quiet id v w (elements_after k.events) refl refl refl refl refl (k.hands id v at))
-    (subst (λ (n : ℕ). EndsKnown member_of IsIdle n (set s.views id w)) (sym (get_or-set_same s.words 0 y 0 (omega arith))) e)
+    (subst (λ (n : ℕ). EndsStand (nothing_of key.first) n (set s.views id w)) (sym is) stand)
     (joined_set k.events s.views id v w at live live' (omega arith) k.joined)
-    refl refl
 
-pub ups : (key : Shape) (n id : ℕ) (me : Me Unit View) → me.0.member.ends + 1 ≤ me.0.member.share → IsActive me.0 → Allows (Rule key) n id me 0 (λ x. (x + 1) % 18446744073709551616) (counts_up (step n 0 1 0 none) me)
-ups key n id me parts live s k _ at _ = let stands = live.0 in let v : View = me.0 in let c : ℕ = get_or s.words 0 0 in let m : Member = with_split v.member k.ends.logged.log in let w : View = counted v c (steps_to k) k.events m in (
-  w,
-  keeps,
-  tt,
-  kept_count key s k id ((c + 1) % 18446744073709551616) c v m at live.0 (omega arith) (let n = none_uncounted v live.1 in omega arith) (known_up member_of IsIdle c s.views id v w k.ends at parts refl),
-  (refl, record { past = steps_to k; follows = k.course.seen (suc id) v at; same = refl; sees = sees_of key s k id v at; member = counted_more member_of IsIdle c s.views id v k.ends at }),
-)
+pub ups : (key : Shape) (n id call : ℕ) (me : Me Unit View) → call ≡ id → me.0.member.ends + 1 ≤ me.0.member.share → IsActive me.0 → Allows (Rule key) n id me 0 (λ x. (x + 1) % 18446744073709551616) (counts_up call (step n 0 1 0 none) me)
+ups key n id call me mine parts live s k _ at _ = let stands = live.0 in let v : View = me.0 in let c : ℕ = get_or s.words 0 0 in let y : ℕ = (c + 1) % 18446744073709551616 in let m : Part = with_split v.member in let e : Step (List Event) = count_up ends_word (now_at k) in
+    let w : View = after (record v { member = m }) (steps_to k) e in
+    let t = stand_up (nothing_of key.first) had_by_both c s.views id v w k.ends at parts refl in
+    let real : IsReal (of_hands key.first) e = real_step key s k 0 c e.next refl (more refl) in
+    let counts : Rule key record { words = set s.words 0 y; homes = s.homes; views = set s.views id w } = kept_count key s k id y v m e refl real (ap (λ (z : ℕ). record (now_at k) { ends = z }) (sym t.0)) at live.0 (omega arith) (let n = none_uncounted v live.1 in omega arith)
+    (subst (λ (z : ℕ). EndsStand (nothing_of key.first) z (set s.views id w)) (sym t.0) t.1) in (
+      w,
+      keeps,
+      tt,
+      counts,
+      (refl, record { past = steps_to k; follows = k.order.course.seen (suc id) v at; newest = λ whole. k.newest id v at whole live.1; before = now_at k; same = refl; sees = sees_of key s k id v at; told = honest_of key _ counts id w (set_here s.views id w (at_below s.views id v at)) }, subst (λ (z : ℕ). Stands z w) (sym mine) (hand_quiet id v w (elements_after k.events) refl refl refl refl refl (k.hands id v at))),
+    )
 
-pub downs : (key : Shape) (n id : ℕ) (me : Me Unit View) → 2 ≤ me.0.member.ends → me.0.fresh ≡ false → Allows (Rule key) n id me 0 (λ x. (x + (18446744073709551616 - 1)) % 18446744073709551616) (counts_down (step n 0 1 0 none) me)
-downs key n id me live stale s k _ at _ = let v : View = me.0 in let c : ℕ = get_or s.words 0 0 in let m : Member = with_join v.member k.ends.logged.log in let w : View = counted v c (steps_to k) k.events m in (
-  w,
-  keeps,
-  tt,
-  kept_count key s k id ((c + (18446744073709551616 - 1)) % 18446744073709551616) c v m at (omega arith) (omega arith) (let n = one_uncounted v stale (omega arith) in omega arith) (known_down member_of IsIdle c s.views id v w k.ends at live refl),
-  (refl, record { past = steps_to k; follows = k.course.seen (suc id) v at; same = refl; sees = sees_of key s k id v at; member = counted_less member_of IsIdle c s.views id v k.ends at }),
-)
+pub downs : (key : Shape) (n id call : ℕ) (me : Me Unit View) → call ≡ id → 2 ≤ me.0.member.ends → me.0.own.fresh ≡ false → Allows (Rule key) n id me 0 (λ x. (x + (18446744073709551616 - 1)) % 18446744073709551616) (counts_down call (step n 0 1 0 none) me)
+downs key n id call me mine live stale s k _ at _ = let v : View = me.0 in let c : ℕ = get_or s.words 0 0 in let y : ℕ = (c + (18446744073709551616 - 1)) % 18446744073709551616 in let m : Part = with_join v.member in let e : Step (List Event) = count_down ends_word (now_at k) in
+    let w : View = after (record v { member = m }) (steps_to k) e in
+    let t = stand_down (nothing_of key.first) had_by_both c s.views id v w k.ends at live refl in
+    let real : IsReal (of_hands key.first) e = real_step key s k 0 c e.next refl (fewer refl t.1) in
+    let counts : Rule key record { words = set s.words 0 y; homes = s.homes; views = set s.views id w } = kept_count key s k id y v m e refl real (ap (λ (z : ℕ). record (now_at k) { ends = z }) (sym t.0)) at (omega arith) (omega arith) (let n = one_uncounted v stale (omega arith) in omega arith)
+    (subst (λ (z : ℕ). EndsStand (nothing_of key.first) z (set s.views id w)) (sym t.0) t.2) in (
+      w,
+      keeps,
+      tt,
+      counts,
+      (
+        refl,
+        record {
+          past = steps_to k;
+          follows = k.order.course.seen (suc id) v at;
+          joined = k.order.joined (suc id) v at;
+          one_object = k.order.joined_first (suc id) v at ∙ sym (k.order.first_is (suc id) v at);
+          before = now_at k;
+          same = refl;
+          sees = sees_of key s k id v at;
+          told = honest_of key _ counts id w (set_here s.views id w (at_below s.views id v at));
+        },
+        subst (λ (z : ℕ). Stands z w) (sym mine) (hand_quiet id v w (elements_after k.events) refl refl refl refl refl (k.hands id v at)),
+      ),
+    )
 
 -- the number of hands is found
-pub tallies_ends : (key : Shape) (n id : ℕ) (me : Me Unit View) → me.0.member.ends ≡ 1 → me.0.fresh ≡ true → Allows (Rule key) n id me 0 (λ x. x) (tallies (step n 0 0 0 none) me)
-tallies_ends key n id me live fresh s k _ at _ = let v : View = me.0 in let c : ℕ = get_or s.words 0 0 in let m : Member = record v.member { log = k.ends.logged.log } in let w : View = counted v c (steps_to k) k.events m in (
-  w,
+pub tallies_ends : (key : Shape) (n id call : ℕ) (me : Me Unit View) → call ≡ id → me.0.member.ends ≡ 1 → me.0.own.fresh ≡ true → Allows (Rule key) n id me 0 (λ x. x) (tallies call (step n 0 0 0 none) me)
+tallies_ends key n id call me mine live fresh s k _ at _ = let v : View = me.0 in let c : ℕ = get_or s.words 0 0 in let active : IsActive v = (omega arith, fresh) in (
+  looked v 0 c (steps_to k) (now_at k),
   keeps,
   tt,
-  kept_count key s k id c c v m at (omega arith) (omega arith) (let n = none_uncounted v fresh in omega arith) (known_tally member_of IsIdle c s.views id v w k.ends at refl (λ none. absurd (omega arith))),
-  (refl, record { past = steps_to k; follows = k.course.seen (suc id) v at; same = refl; sees = sees_of key s k id v at; member = tallied member_of IsIdle c s.views id v k.ends at live }),
+  kept_look key s k 0 id c v refl at active,
+  (refl, record { looked = found_now key s k 0 id v at active; number = refl; count = number_is (nothing_of key.first) had_by_both c s.views id v k.ends at live }, subst (λ (z : ℕ). Stands z (looked v 0 c (steps_to k) (now_at k))) (sym mine) (stood_look key s k id 0 c v at)),
 )
 
 or_true : (b : Bool) → (b || true) ≡ true
@@ -115,16 +143,18 @@ may_of call v e element h may = ⊎_elim
     may
 
 -- the number of steps that an element had done is found
-pub counts_done : (key : Shape) (n id : ℕ) (me : Me Unit View) (element : ℕ) → element < ELEMENTS → MayStep me.0 element → IsActive me.0 → Allows (Rule key) n id me (done_word element) (λ x. x) (reads_pc element (step n (done_word element) 0 0 none) me)
-counts_done key n id me element known may live s k _ at _ = let v : View = me.0 in let e : Elements = elements_after k.events in let i : ℕ = done_word element in let found : ℕ = get_or s.words i 0 in
-    let w : View = record (looked v i found (steps_to k) k.events) { counted = Some (count_of element found) } in let is : found ≡ (thread_at e element).done = k.shows.steps element known in
-    let same : set s.words i found ≡ s.words = set-get_or s.words i 0 in (
+pub counts_done : (key : Shape) (n id call : ℕ) (me : Me Unit View) (element : ℕ) → call ≡ id → element < ELEMENTS → MayStep me.0 element → IsActive me.0 → Allows (Rule key) n id me (done_word element) (λ x. x) (reads_pc call element (step n (done_word element) 0 0 none) me)
+counts_done key n id call me element mine known may live s k _ at _ = let v : View = me.0 in let e : Elements = elements_after k.events in let i : ℕ = done_word element in let found : ℕ = get_or s.words i 0 in
+    let w : View = read_pc v element found (steps_to k) (now_at k) in let is : found ≡ (thread_at e element).done = k.shows.steps element known in
+    let hand : HandIs id w e = (hand_counts id v w e refl refl refl refl (λ c has. subst (λ (z : Counted). IsCounted id z e) (some_count (count_of element found) c has) record { known = known; may = may_of id v e element (k.hands id v at) may; done = sym is }) (k.hands id v at)) in
+    let counts : Rule key record { words = set s.words i found; homes = s.homes; views = set s.views id w } = subst (λ (z : List ℕ). Rule key record { words = z; homes = s.homes; views = set s.views id w }) (sym (set-get_or s.words i 0))
+    (kept key s k id s.words v w w.own v.member (load i found (now_at k)) refl refl (real_step key s k i found (now_at k) refl (stays refl)) refl at live.0 k.shows refl refl refl refl (refl, refl)
+    hand
+    (stand_same (nothing_of key.first) had_by_both (get_or s.words 0 0) s.views id v w k.ends at live.0 refl)
+    (joined_set k.events s.views id v w at live.0 live.0 (let n = none_uncounted v live.1 in omega arith) k.joined)) in (
       w,
       keeps,
       tt,
-      kept key s k id i found (set s.words i found) v w at (subst (WordsShow key.first e) (sym same) k.shows) refl refl refl refl refl (refl, refl)
-          (hand_counts id v w e refl refl refl refl (λ c has. subst (λ (z : Counted). IsCounted id z e) (some_count (count_of element found) c has) record { known = known; may = may_of id v e element (k.hands id v at) may; done = sym is }) (k.hands id v at))
-          (subst (λ (n : ℕ). EndsKnown member_of IsIdle n (set s.views id w)) (ap (λ (z : List ℕ). get_or z 0 0) (sym same)) (known_look member_of IsIdle (get_or s.words 0 0) s.views id v w k.ends at refl (λ none. let stands = live.0 in absurd (omega arith))))
-          (joined_set k.events s.views id v w at live.0 live.0 (let n = none_uncounted v live.1 in omega arith) k.joined) refl refl,
-      (refl, record { past = steps_to k; follows = k.course.seen (suc id) v at; same = refl; sees = sees_of key s k id v at; is = is }),
+      counts,
+      (refl, record { past = steps_to k; follows = k.order.course.seen (suc id) v at; newest = λ whole. k.newest id v at whole live.1; same = refl; sees = sees_of key s k id v at; is = is; told = honest_of key _ counts id w (set_here s.views id w (at_below s.views id v at)) }, subst (λ (z : ℕ). Stands z w) (sym mine) hand),
     )

@@ -7,7 +7,7 @@ use Rattle.event_theory.specs.Appearances.{appearances}
 use Rattle.event_theory.specs.Lawful.{IsLawfulElements}
 use Rattle.event_theory.proofs.Keeping.Places.{in_hands}
 use Rattle.thread_table.specs.declared.layout.TheConstants.{ELEMENTS}
-use Rattle.thread_table.specs.declared.rule.View.{View}
+use Rattle.thread_table.specs.Own.{View}
 use Rattle.thread_table.specs.declared.rule.Claimed.{Claimed}
 use Rattle.thread_table.specs.Rules.{HandIs, IsClaimed}
 use Rattle.thread_table.proofs.Hands.Releases.{held_counts}
@@ -29,11 +29,11 @@ read_set P xs i new d below here j others = by (cases_eq j i)
 
 -- the view with this element as held or not, where nothing else of the call changed
 pub held_set : (id : ℕ) (v : View) (e f : Elements) (element : ℕ) (is : Bool) → HandIs id v e → element < ELEMENTS → holds id element f ≡ is
-    → ((x : ℕ) → x ≢ element → holds id x f ≡ holds id x e) → (x : ℕ) → holds id x f ≡ get_or (set v.held element is) x false
+    → ((x : ℕ) → x ≢ element → holds id x f ≡ holds id x e) → (x : ℕ) → holds id x f ≡ get_or (set v.own.held element is) x false
 held_set id v e f element is hand below own others x =
-    read_set (λ k b. holds id k f ≡ b) v.held element is false (omega (arith, hand.held_long)) own x (λ apart. others x apart ∙ hand.held x)
+    read_set (λ k b. holds id k f ≡ b) v.own.held element is false (omega (arith, hand.held_long)) own x (λ apart. others x apart ∙ hand.held x)
 
-pub no_claim : (id : ℕ) (v : View) (f : Elements) → v.claimed ≡ None → (c : Claimed) → v.claimed ≡ Some c → IsClaimed id c f
+pub no_claim : (id : ℕ) (v : View) (f : Elements) → v.own.claimed ≡ None → (c : Claimed) → v.own.claimed ≡ Some c → IsClaimed id c f
 no_claim id v f none c is = absurd (cc)
 
 -- an element that its call holds is in no other hands

@@ -14,14 +14,18 @@ use Rattle.event_theory.specs.declared.refusal.Refusal.TheVariants.{UnknownName}
 use Rattle.atomic_table.proofs.Lists.{at_set, set_else}
 use Rattle.table_theory.proofs.Owned.{at_below}
 use Rattle.table_theory.proofs.Ends.{begins_on}
-use Rattle.table_theory.proofs.Members.{known_join}
+use Rattle.table_theory.proofs.Standing.{stand_join}
+use Rattle.table_theory.specs.Ledgers.{IsReal, EndsStand}
+use Rattle.table_theory.specs.Ends.{Begins}
+use Rattle.table_theory.proofs.Orders.{order_to}
+use Rattle.std.specs.Prelude.{if◌then◌else◌, nat_lt}
 use Rattle.thread_table.specs.declared.rule.Shape.{Shape}
-use Rattle.thread_table.specs.declared.rule.View.{View}
-use Rattle.thread_table.specs.Schedules.{state_after, elements_after, ring_at, element_at, IsAllowed, Grows}
+use Rattle.thread_table.specs.Own.{View}
+use Rattle.thread_table.specs.Schedules.{Past, state_after, elements_after, ring_at, element_at, IsAllowed, Grows}
 use Rattle.thread_table.specs.Shown.{WordsShow}
-use Rattle.thread_table.specs.Rules.{Rule, HandIs, Seen, member_of, IsIdle, serves, running}
+use Rattle.thread_table.specs.Rules.{Rule, HandIs, Seen, nothing_of, serves, running}
 use Rattle.thread_table.specs.Views.{claim_of}
-use Rattle.thread_table.specs.Steps.{either, either_on, both, emptied}
+use Rattle.thread_table.specs.Steps.{either, either_on, had_by_both, both, emptied}
 use Rattle.thread_table.proofs.Events.Owing.{AllOwned, IsOwned, owned_set}
 use Rattle.thread_table.proofs.Shown.QueueWords.{none_some}
 use Rattle.thread_table.proofs.Lists.Copies.{length-copies, get_or-copies}
@@ -31,15 +35,18 @@ use Rattle.std.proofs.lemmas.List.{map-set}
 use Rattle.atomic_table.proofs.Lists.{at_map}
 use Rattle.thread_table.specs.declared.rule.Made.{Made}
 use Rattle.thread_table.specs.Makers.{AreMade, made_of}
-use Rattle.thread_table.proofs.Schedule.Courses.{course_joined}
+use Rattle.thread_table.proofs.Schedule.Courses.{order_joined}
 use Rattle.thread_table.proofs.Schedule.ListedEvents.{made_join}
 use Rattle.thread_table.specs.Rules.{IsActive, IsSteady, IsNewest, may_step, has}
 use Rattle.thread_table.proofs.Schedule.JoinEvents.{joined_join}
 use Rattle.thread_table.specs.Steps.{any_both}
 use Rattle.std.specs.List.{list_any}
+use Rattle.std.proofs.Math.ListN.{get_or-eq_default}
+use Rattle.thread_table.specs.Joins.{no_word, joining}
+use Rattle.thread_table.specs.Telling.{of_hands}
+use Rattle.thread_table.proofs.Hands.Looks.{now_at, no_other, real_event}
 use Rattle.event_theory.specs.Elements.{is_put}
 use Rattle.event_theory.specs.Lawful.{IsLawfulElements}
-use Rattle.thread_table.proofs.Hands.Making.{no_other}
 use Rattle.thread_table.proofs.Hands.Strangers.{others_count}
 use Rattle.thread_table.proofs.Schedule.Schedules.{lawful_after}
 use mathlib.Core.Logic.{dite}
@@ -122,7 +129,7 @@ held_apart : (id other : ℕ) (v w : View) (e : Elements) → other ≢ id → I
 held_apart id other v w e ne lawful long mine its x up up' = dite (dec_lt x 64)
     (λ known. let low : may_step id x e ≡ false = others_count id other x e lawful long known ne (or_left (holds other x e) (list_any (is_put other x) e.processors) (its.held x ∙ up')) in
     let high : may_step id x e ≡ true = or_left (holds id x e) (list_any (is_put id x) e.processors) (mine.held x ∙ up) in absurd (cc))
-    (λ past. let l = mine.held_long in let none : has v x ≡ false = get_or-eq_default v.held false (omega (arith, past)) in absurd (cc))
+    (λ past. let l = mine.held_long in let none : has v x ≡ false = get_or-eq_default v.own.held false (omega (arith, past)) in absurd (cc))
 
 -- no processor is served by both
 abbrev Apart : View → View → Type 0
@@ -137,23 +144,23 @@ record Two (id other : ℕ) (v w : View) (e : Elements) : Type 0 where
 
 both_on : (id other p : ℕ) (v w : View) (e : Elements) → Two id other v w e → (serves v p ≡ true) ⊎ (serves w p ≡ true) → slice_get (join_elements id other e).processors p ≡ Some (option_map (hold id) (running (both v w) p))
 both_on id other p v w e h (inl s) = let none : running w p ≡ None = h.its.off p (not_true (serves w p) (λ z. h.apart p s z)) in
-    processor_renamed id other id id p e (running v p) (renamed_call id other) (h.mine.on p s) ∙ sym (ap (λ (x : Option ℕ). Some (option_map (hold id) x)) (either_on_first v.on w.on p none))
+    processor_renamed id other id id p e (running v p) (renamed_call id other) (h.mine.on p s) ∙ sym (ap (λ (x : Option ℕ). Some (option_map (hold id) x)) (either_on_first v.own.on w.own.on p none))
 both_on id other p v w e h (inr s) = let none : running v p ≡ None = h.mine.off p (not_true (serves v p) (λ z. h.apart p z s)) in
     processor_renamed id other other id p e (running w p) (renamed_other id other) (h.its.on p s)
-    ∙ sym (ap (λ (x : Option ℕ). Some (option_map (hold id) x)) (either_on_other v.on w.on p (h.mine.on_long ∙ sym h.its.on_long) none))
+    ∙ sym (ap (λ (x : Option ℕ). Some (option_map (hold id) x)) (either_on_other v.own.on w.own.on p (h.mine.on_long ∙ sym h.its.on_long) none))
 
 both_off : (id other p : ℕ) (v w : View) (e : Elements) → Two id other v w e → (serves v p ≡ false) × (serves w p ≡ false) → running (both v w) p ≡ None
-both_off id other p v w e h none = either_on_first v.on w.on p (h.its.off p none.1) ∙ h.mine.off p none.0
+both_off id other p v w e h none = either_on_first v.own.on w.own.on p (h.its.off p none.1) ∙ h.mine.off p none.0
 
 serves_either : (id other p : ℕ) (v w : View) (e : Elements) → Two id other v w e → serves (both v w) p ≡ (serves v p || serves w p)
-serves_either id other p v w e h = either_at v.serves w.serves p (h.mine.serves_long ∙ sym h.its.serves_long)
+serves_either id other p v w e h = either_at v.own.serves w.own.serves p (h.mine.serves_long ∙ sym h.its.serves_long)
 
 hand_both : (id other : ℕ) (v w : View) (e : Elements) → Two id other v w e → HandIs id (both v w) (join_elements id other e)
 hand_both id other v w e h = record {
-  held_long = length-either v.held w.held ∙ h.mine.held_long;
-  serves_long = length-either v.serves w.serves ∙ h.mine.serves_long;
-  on_long = length-either_on v.on w.on ∙ h.mine.on_long;
-  held = λ element. held_call id other element e ∙ (ap₂ (λ (a b : Bool). a || b) (h.mine.held element) (h.its.held element) ∙ sym (either_at v.held w.held element (h.mine.held_long ∙ sym h.its.held_long)));
+  held_long = length-either v.own.held w.own.held ∙ h.mine.held_long;
+  serves_long = length-either v.own.serves w.own.serves ∙ h.mine.serves_long;
+  on_long = length-either_on v.own.on w.own.on ∙ h.mine.on_long;
+  held = λ element. held_call id other element e ∙ (ap₂ (λ (a b : Bool). a || b) (h.mine.held element) (h.its.held element) ∙ sym (either_at v.own.held w.own.held element (h.mine.held_long ∙ sym h.its.held_long)));
   on = λ p s. both_on id other p v w e h (one_true (serves v p) (serves w p) (sym (serves_either id other p v w e h) ∙ s));
   off = λ p s. both_off id other p v w e h (none_true (serves v p) (serves w p) (sym (serves_either id other p v w e h) ∙ s));
   claimed = λ c is. absurd (cc);
@@ -228,20 +235,36 @@ after_join id other past allowed ne = let s : core.State = state_after past in l
 
 seen_more : (u : View) (past : List Event) (event : Event) → Grows (elements_after past) (elements_after (past ++ event ∷ [])) → Seen u past → Seen u (past ++ event ∷ [])
 seen_more u past event more seen = record {
-  schedule = begins_on u.schedule past event seen.schedule;
-  joined = begins_on u.joined past event seen.joined;
-  grows = grows_trans (elements_after u.schedule) (elements_after past) (elements_after (past ++ event ∷ [])) seen.grows more;
+  schedule = begins_on u.seen.object past event seen.schedule;
+  grows = grows_trans (elements_after u.seen.object) (elements_after past) (elements_after (past ++ event ∷ [])) seen.grows more;
 }
 
+-- what both had seen was earlier
+later_seen : (b : Bool) (v w u : View) (events : List Event) → u.seen ≡ (if b then w.seen else v.seen) → Seen v events → Seen w events → Seen u events
+later_seen true v w u events is mine its = record {
+  schedule = subst (λ (z : Past). Begins z.object events) (sym is) its.schedule;
+  grows = subst (λ (z : Past). Grows (elements_after z.object) (elements_after events)) (sym is) its.grows;
+}
+later_seen false v w u events is mine its = record {
+  schedule = subst (λ (z : Past). Begins z.object events) (sym is) mine.schedule;
+  grows = subst (λ (z : Past). Grows (elements_after z.object) (elements_after events)) (sym is) mine.grows;
+}
+
+-- the ends that stand behind the join
+ends_joined : (first n : ℕ) (views : List View) (id other : ℕ) (v w : View) → v.own.first ≡ first → EndsStand (nothing_of first) n views → get_elem? views id ≡ some v → get_elem? views other ≡ some w → other ≢ id → 1 ≤ v.member.ends
+    → EndsStand (nothing_of first) n (set (set views id (both v w)) other (emptied v))
+ends_joined first n views id other v w is k at at' ne live = subst (λ (z : ℕ). EndsStand (nothing_of z) n (set (set views id (both v w)) other (emptied v))) is
+    (stand_join (nothing_of v.own.first) had_by_both n views id other v w (subst (λ (z : ℕ). EndsStand (nothing_of z) n views) (sym is) k) at at' ne live)
+
 -- neither hand had a claim, and the others keep theirs
-owned_joined : (views : List View) (id other : ℕ) (v w a b : View) (e : Elements) → get_elem? views id ≡ some v → get_elem? (set views id a) other ≡ some w → v.claimed ≡ None → w.claimed ≡ None
+owned_joined : (views : List View) (id other : ℕ) (v w a b : View) (e : Elements) → get_elem? views id ≡ some v → get_elem? (set views id a) other ≡ some w → v.own.claimed ≡ None → w.own.claimed ≡ None
     → AllOwned views e → AllOwned (set (set views id a) other b) (join_elements id other e)
 owned_joined views id other v w a b e at there idle idle' owned ring run below is =
     let old = open_joined id other e ring run is in let c = claim_of ring run (element_at (ring_at e ring) run) in
     subst (λ (x : ℕ). IsOwned (set (set views id a) other b) (claim_of ring run x)) (sym ((grows_joined id other e ring).items run old.0))
-    (owned_set (set views id a) other w b c there (λ claims. none_some c w.claimed idle' claims) (owned_set views id v a c at (λ claims. none_some c v.claimed idle claims) (owned ring run below old)))
+    (owned_set (set views id a) other w b c there (λ claims. none_some c w.own.claimed idle' claims) (owned_set views id v a c at (λ claims. none_some c v.own.claimed idle claims) (owned ring run below old)))
 
-pub joins : (key : Shape) (id other : ℕ) (v w : View) → IsActive v → IsActive w → v.claimed ≡ None → w.claimed ≡ None → Joins (Rule key) id v other w (both v w) (emptied v)
+pub joins : (key : Shape) (id other : ℕ) (v w : View) → IsActive v → IsActive w → v.own.claimed ≡ None → w.own.claimed ≡ None → Joins (Rule key) id v other w (both v w) (emptied v)
 joins key id other v w live live' idle idle' s k at ne there = let at' : get_elem? s.views other ≡ some w = sym (set_else s.views id other (both v w) ne) ∙ there in
     let e : Elements = elements_after k.events in let f : Elements = join_elements id other e in let ne' : id ≢ other = (λ z. ne (sym z)) in
     let two : Two id other v w e = record {
@@ -253,13 +276,14 @@ joins key id other v w live live' idle idle' s k at ne there = let at' : get_ele
     let after : After id other k.events = after_join id other k.events k.allowed ne' in let event : Event = events.Join id other in
     let more : Grows e (elements_after (k.events ++ event ∷ [])) = subst (Grows e) (sym after.elements) (grows_joined id other e) in
     let mine : Seen v (k.events ++ event ∷ []) = seen_more v k.events event more (k.seen id v at) in let its : Seen w (k.events ++ event ∷ []) = seen_more w k.events event more (k.seen other w at') in
-    let course = course_joined k.events s.views k.joiner id other v w k.are_joins k.course at at' ne in record {
+    let here : IsReal (of_hands key.first) (joining (now_at k) id other) = real_event key s k no_word 0 event (sym (get_or-eq_default s.words 0 (let wide = k.shows.wide in omega arith))) after.allowed more in
+    let order = order_joined (of_hands key.first) (now_at k) s.views k.joiner id other v w k.are_joins k.order here at at' ne in record {
       events = k.events ++ event ∷ [];
       allowed = after.allowed;
       shows = subst (λ (z : Elements). WordsShow key.first z s.words) (sym after.elements) (words_joined id other key.first e s.words k.shows);
-      first = each_joined (λ (j : ℕ) (u : View). u.first ≡ key.first) s.views id other (both v w) (emptied v) (λ j u _ _ has. k.first j u has) (k.first id v at) (k.first id v at);
+      first = each_joined (λ (j : ℕ) (u : View). u.own.first ≡ key.first) s.views id other (both v w) (emptied v) (λ j u _ _ has. k.first j u has) (k.first id v at) (k.first id v at);
       seen = each_joined (λ (j : ℕ) (u : View). Seen u (k.events ++ event ∷ [])) s.views id other (both v w) (emptied v) (λ j u _ _ has. seen_more u k.events event more (k.seen j u has))
-          (record { schedule = mine.schedule; joined = its.schedule; grows = mine.grows }) (record { schedule = mine.schedule; joined = mine.schedule; grows = mine.grows });
+          (later_seen (nat_lt (length v.course) (length w.course)) v w (both v w) (k.events ++ event ∷ []) refl mine its) (record { schedule = mine.schedule; grows = mine.grows });
       hands = each_joined (λ (j : ℕ) (u : View). HandIs j u (elements_after (k.events ++ event ∷ []))) s.views id other (both v w) (emptied v)
           (λ j u a b has. subst (HandIs j u) (sym after.elements) (hand_third id other j u e a b (k.hands j u has)))
           (subst (HandIs id (both v w)) (sym after.elements) (hand_both id other v w e two)) (subst (HandIs other (emptied v)) (sym after.elements) (hand_emptied id other v e ne'));
@@ -272,21 +296,21 @@ joins key id other v w live live' idle idle' s k at ne there = let at' : get_ele
       steady = each_joined (λ (j : ℕ) (u : View). IsSteady u (k.events ++ event ∷ [])) s.views id other (both v w) (emptied v)
           (λ j u a b has up x low may. ap (λ (z : Elements). (thread_at z x).done) after.elements ∙ k.steady j u has up x low may)
           (λ up x low may. absurd (cc)) (λ up x low may. absurd (cc));
-      newest = each_joined (λ (j : ℕ) (u : View). IsNewest u (k.events ++ event ∷ [])) s.views id other (both v w) (emptied v)
-          (λ j u a b has whole up. absurd (no_other (get_or s.words 0 0) s.views id j v u k.ends at live.0 has a whole))
-          (λ whole up. absurd (cc)) (λ whole up. absurd (cc));
-      undoubled = each_joined (λ (j : ℕ) (u : View). u.doubled ≡ false) s.views id other (both v w) (emptied v) (λ j u _ _ has. k.undoubled j u has)
+      undoubled = each_joined (λ (j : ℕ) (u : View). u.own.doubled ≡ false) s.views id other (both v w) (emptied v) (λ j u _ _ has. k.undoubled j u has)
           (let a = k.undoubled id v at in let b = k.undoubled other w at' in
-          let c : any_both v.held w.held ≡ false = none_both v.held w.held (held_apart id other v w e ne (lawful_after k.events k.allowed) k.shows.threads two.mine two.its) in
-          let d : any_both v.serves w.serves ≡ false = none_both v.serves w.serves two.apart in
+          let c : any_both v.own.held w.own.held ≡ false = none_both v.own.held w.own.held (held_apart id other v w e ne (lawful_after k.events k.allowed) k.shows.threads two.mine two.its) in
+          let d : any_both v.own.serves w.own.serves ≡ false = none_both v.own.serves w.own.serves two.apart in
           λ i. ((a i || b i) || c i) || d i)
           refl;
       made = subst (AreMade (k.events ++ event ∷ []))
           (sym (map-set made_of (set s.views id (both v w)) other (emptied v) ∙ ap (λ (z : List (List Made)). set z other []) (map-set made_of s.views id (both v w))))
-          (made_join k.events (map made_of s.views) id other v.made w.made k.made (at_map made_of s.views id v at) (at_map made_of s.views other w at') ne);
-      ends = known_join member_of IsIdle (get_or s.words 0 0) s.views id other v w (both v w) (emptied v) k.ends at at' ne live.0 refl refl (refl, refl, refl, refl, refl, refl);
+          (made_join k.events (map made_of s.views) id other v.own.made w.own.made k.made (at_map made_of s.views id v at) (at_map made_of s.views other w at') ne);
+      ends = ends_joined key.first (get_or s.words 0 0) s.views id other v w (k.first id v at) k.ends at at' ne live.0;
       joined = joined_join k.events s.views id other v w at at' ne live.0 live'.0 live.1 live'.1 k.joined;
-      joiner = course.0;
-      are_joins = course.1;
-      course = course.2;
+      joiner = order.0;
+      are_joins = order.1;
+      order = order.2;
+      newest = each_joined (λ (j : ℕ) (u : View). IsNewest u (order_to order.2)) s.views id other (both v w) (emptied v)
+          (λ j u a b has whole up. absurd (no_other key.first (get_or s.words 0 0) s.views id j v u k.ends at live.0 has a whole))
+          (λ whole up. absurd (cc)) (λ whole up. absurd (cc));
     }

@@ -11,18 +11,22 @@ use Rattle.thread_table.specs.declared.rule.Made.{Made}
 use Rattle.thread_table.specs.Makers.{AreMade, made_of}
 use Rattle.thread_table.proofs.Schedule.ListedEvents.{made_new}
 use Rattle.thread_table.proofs.Schedule.JoinEvents.{joined_set, joined_new, same_uncounted}
-use Rattle.thread_table.proofs.Hands.Looks.{set_again}
+use Rattle.thread_table.proofs.Hands.Looks.{set_again, now_at}
 use Rattle.table_theory.proofs.Owned.{at_push}
 use Rattle.table_theory.proofs.Counting.{given_kept, given_some, kept_some}
-use Rattle.table_theory.proofs.Courses.{course_split}
-use Rattle.table_theory.proofs.Members.{known_split}
+use Rattle.table_theory.proofs.Orders.{order_to, order_split, split_order}
+use Rattle.table_theory.specs.Orders.{AreOrdered}
+use Rattle.table_theory.specs.Ledgers.{Subject}
+use Rattle.event_theory.specs.declared.event.Event.{Event}
+use Rattle.table_theory.proofs.Standing.{stand_parted}
 use Rattle.table_theory.proofs.Totals.{one_of}
 use Rattle.thread_table.specs.declared.rule.Shape.{Shape}
-use Rattle.thread_table.specs.declared.rule.View.{View}
+use Rattle.thread_table.specs.Own.{View}
 use Rattle.thread_table.specs.Schedules.{elements_after}
-use Rattle.thread_table.specs.Rules.{IsSteady, IsNewest, Rule, HandIs, Seen, member_of, steps_of, course_of, IsIdle, MayStep, has, serves, running}
+use Rattle.thread_table.specs.Rules.{IsSteady, IsNewest, Rule, HandIs, HasStood, Seen, nothing_of, MayStep, has, serves, running}
 use Rattle.std.specs.List.{repeat}
-use Rattle.thread_table.specs.Steps.{parted, rest_of, newborn}
+use Rattle.thread_table.specs.Telling.{of_hands}
+use Rattle.thread_table.specs.Steps.{parted, rest_of, newborn, had_by_both}
 use Rattle.thread_table.proofs.Events.Owing.{claims_kept}
 use Rattle.thread_table.proofs.Shown.QueueWords.{none_some}
 use Rattle.thread_table.proofs.Lists.Copies.{length-copies, get_or-copies}
@@ -62,14 +66,21 @@ CanPart mask v = (p : ℕ) → get_or mask p false ≡ true → (serves v p ≡ 
 hand_rest : (id : ℕ) (v : View) (mask : List Bool) (e : Elements) → CanPart mask v → HandIs id v e → HandIs id (rest_of mask v) e
 hand_rest id v mask e can h = record {
   held_long = h.held_long;
-  serves_long = length-parted v.serves mask ∙ h.serves_long;
+  serves_long = length-parted v.own.serves mask ∙ h.serves_long;
   on_long = h.on_long;
   held = h.held;
-  on = λ p s. h.on p (parted_true v.serves mask p s).0;
-  off = λ p s. ⊎_elim (λ none. h.off p none) (λ marked. (can p marked).1) (parted_false v.serves mask p s);
+  on = λ p s. h.on p (parted_true v.own.serves mask p s).0;
+  off = λ p s. ⊎_elim (λ none. h.off p none) (λ marked. (can p marked).1) (parted_false v.own.serves mask p s);
   claimed = h.claimed;
   counted = λ c is. absurd (cc);
 }
+
+-- so does what a split leaves, and the new hand, which has made no step
+pub rest_stands : (id : ℕ) (v : View) (mask : List Bool) → CanPart mask v → HasStood id v → HasStood id (rest_of mask v)
+rest_stands id v mask can stands made = hand_rest id v mask (elements_after v.seen.object) can (stands made)
+
+pub born_stands : (id : ℕ) (v : View) (mask : List Bool) → HasStood id (newborn mask v)
+born_stands id v mask made = absurd (made refl)
 
 abbrev none_on : Option ℕ
 none_on = None
@@ -98,7 +109,7 @@ before : (views : List View) (id : ℕ) (v : View) (mask : List Bool) (p : ℕ) 
     → (j : ℕ) (u : View) → get_elem? (set views id (rest_of mask v) ++ newborn mask v ∷ []) j ≡ some u → serves u p ≡ true → Before views id mask p j
 before views id v mask p at can = let n : ℕ = length views in each_split (λ (j : ℕ) (u : View). serves u p ≡ true → Before views id mask p j) views id (rest_of mask v) (newborn mask v)
     (λ j u ne there s. record { seat = j; view = u; at = there; served = s; is = sym (ap (λ (b : Bool). cond b (cond (get_or mask p false) n id) j) (ne_eqb j id ne)) })
-    (λ s. let t = parted_true v.serves mask p s in record {
+    (λ s. let t = parted_true v.own.serves mask p s in record {
       seat = id;
       view = v;
       at = at;
@@ -121,33 +132,35 @@ has_nothing : (v : View) (mask : List Bool) (x : ℕ) → MayStep (newborn mask 
 has_nothing v mask x may = ⊎_elim (λ held. let no : has (newborn mask v) x ≡ false = get_or-copies 64 false x in absurd (cc)) (λ on. no_running on.0 x on.2) may
 
 pub splits : (key : Shape) (id : ℕ) (v : View) (mask : List Bool) → v.member.ends ≡ 2 → length mask ≡ 8 → ((p : ℕ) → get_or mask p false ≡ true → (serves v p ≡ true) × (running v p ≡ None)) → Splits (Rule key) id v (rest_of mask v) (newborn mask v)
-splits key id v mask live long can s k at = let e : Elements = elements_after k.events in let left : View = rest_of mask v in let right : View = newborn mask v in let seen : Seen v k.events = k.seen id v at in let hand : HandIs id v e = k.hands id v at in record {
-  events = k.events;
-  allowed = k.allowed;
-  shows = k.shows;
-  first = each_split (λ (j : ℕ) (u : View). u.first ≡ key.first) s.views id left right (λ j u ne there. k.first j u there) (k.first id v at) (k.first id v at);
-  seen = each_split (λ (j : ℕ) (u : View). Seen u k.events) s.views id left right (λ j u ne there. k.seen j u there)
-      (record { schedule = seen.schedule; joined = seen.joined; grows = seen.grows }) (record { schedule = seen.schedule; joined = seen.joined; grows = seen.grows });
-  hands = each_split (λ (j : ℕ) (u : View). HandIs j u e) s.views id left right (λ j u ne there. k.hands j u there) (hand_rest id v mask e can hand)
-      (hand_new id (length s.views) v mask e long can hand (λ element. k.strange (length s.views) element (omega arith)));
-  sole = λ i j p u w has has' served served'. let a : Before s.views id mask p i = before s.views id v mask p at can i u has served in let b : Before s.views id mask p j = before s.views id v mask p at can j w has' served' in
-      let same : a.seat ≡ b.seat = k.sole a.seat b.seat p a.view b.view a.at b.at a.served b.served in
-      a.is ∙ (ap (λ (z : ℕ). cond (eqb z id) (cond (get_or mask p false) (length s.views) id) z) same ∙ sym b.is);
-  owned = λ ring run below is. let o = claims_kept s.views id v left e at refl k.owned ring run below is in (o.0, o.1, at_longer (set s.views id left) (right ∷ []) o.0 o.1 o.2, o.3);
-  strange = λ call element past. k.strange call element (omega (arith, past, length-append (set s.views id left) (right ∷ []), length-set s.views id left));
-  steady = each_split (λ (j : ℕ) (u : View). IsSteady u k.events) s.views id left right (λ j u ne there. k.steady j u there)
-      (λ up x low may. k.steady id v at up x low (⊎_elim (λ held. inl held) (λ on. inr (on.0, (parted_true v.serves mask on.0 on.1).0, on.2)) may))
-      (λ up x low may. absurd (has_nothing v mask x may));
-  newest = each_split (λ (j : ℕ) (u : View). IsNewest u k.events) s.views id left right (λ j u ne there. k.newest j u there)
-      (λ whole up. let i = k.ends.counted.within id v at in let b = given_kept v.member.share in let g = given_some v.member.share (omega arith) in let t = one_of (λ (z : View). z.member.share) s.views id v at in let c = k.ends.counted.shared in absurd (omega arith))
-      (λ whole up. let i = k.ends.counted.within id v at in let b = given_kept v.member.share in let g = kept_some v.member.share (omega arith) in let t = one_of (λ (z : View). z.member.share) s.views id v at in let c = k.ends.counted.shared in absurd (omega arith));
-  undoubled = each_split (λ (j : ℕ) (u : View). u.doubled ≡ false) s.views id left right (λ j u ne there. k.undoubled j u there) (k.undoubled id v at) refl;
-  made = subst (AreMade k.events)
-      (sym (map-append made_of (set s.views id left) (right ∷ []) ∙ ap (λ (z : List (List Made)). z ++ [] ∷ []) (map-set made_of s.views id left ∙ set_again (map made_of s.views) id v.made (at_map made_of s.views id v at))))
-      (made_new k.events (map made_of s.views) k.made);
-  ends = known_split member_of IsIdle (get_or s.words 0 0) s.views id v left right k.ends at live refl refl;
-  joined = joined_new k.events (set s.views id left) right (omega arith) refl (joined_set k.events s.views id v left at (omega arith) (omega arith) (let n = same_uncounted v left refl (omega arith) (omega arith) in omega arith) k.joined);
-  joiner = k.joiner;
-  are_joins = k.are_joins;
-  course = course_split steps_of course_of [] k.events (k.joiner ∷ s.views) (suc id) v left right k.course at refl refl refl refl;
-}
+splits key id v mask live long can s k at = let e : Elements = elements_after k.events in let left : View = rest_of mask v in let right : View = newborn mask v in let seen : Seen v k.events = k.seen id v at in let hand : HandIs id v e = k.hands id v at in
+    let T : Subject (List Event) = of_hands key.first in let order : AreOrdered T [] (now_at k) (k.joiner ∷ (set s.views id left ++ right ∷ [])) = order_split T [] (now_at k) (k.joiner ∷ s.views) (suc id) v left.own right.own left.member right.member k.order at in record {
+      events = k.events;
+      allowed = k.allowed;
+      shows = k.shows;
+      first = each_split (λ (j : ℕ) (u : View). u.own.first ≡ key.first) s.views id left right (λ j u ne there. k.first j u there) (k.first id v at) (k.first id v at);
+      seen = each_split (λ (j : ℕ) (u : View). Seen u k.events) s.views id left right (λ j u ne there. k.seen j u there)
+          (record { schedule = seen.schedule; grows = seen.grows }) (record { schedule = seen.schedule; grows = seen.grows });
+      hands = each_split (λ (j : ℕ) (u : View). HandIs j u e) s.views id left right (λ j u ne there. k.hands j u there) (hand_rest id v mask e can hand)
+          (hand_new id (length s.views) v mask e long can hand (λ element. k.strange (length s.views) element (omega arith)));
+      sole = λ i j p u w has has' served served'. let a : Before s.views id mask p i = before s.views id v mask p at can i u has served in let b : Before s.views id mask p j = before s.views id v mask p at can j w has' served' in
+          let same : a.seat ≡ b.seat = k.sole a.seat b.seat p a.view b.view a.at b.at a.served b.served in
+          a.is ∙ (ap (λ (z : ℕ). cond (eqb z id) (cond (get_or mask p false) (length s.views) id) z) same ∙ sym b.is);
+      owned = λ ring run below is. let o = claims_kept s.views id v left e at refl k.owned ring run below is in (o.0, o.1, at_longer (set s.views id left) (right ∷ []) o.0 o.1 o.2, o.3);
+      strange = λ call element past. k.strange call element (omega (arith, past, length-append (set s.views id left) (right ∷ []), length-set s.views id left));
+      steady = each_split (λ (j : ℕ) (u : View). IsSteady u k.events) s.views id left right (λ j u ne there. k.steady j u there)
+          (λ up x low may. k.steady id v at up x low (⊎_elim (λ held. inl held) (λ on. inr (on.0, (parted_true v.own.serves mask on.0 on.1).0, on.2)) may))
+          (λ up x low may. absurd (has_nothing v mask x may));
+      undoubled = each_split (λ (j : ℕ) (u : View). u.own.doubled ≡ false) s.views id left right (λ j u ne there. k.undoubled j u there) (k.undoubled id v at) refl;
+      made = subst (AreMade k.events)
+          (sym (map-append made_of (set s.views id left) (right ∷ []) ∙ ap (λ (z : List (List Made)). z ++ [] ∷ []) (map-set made_of s.views id left ∙ set_again (map made_of s.views) id v.own.made (at_map made_of s.views id v at))))
+          (made_new k.events (map made_of s.views) k.made);
+      ends = stand_parted (nothing_of key.first) had_by_both (get_or s.words 0 0) s.views id v left right k.ends at live refl refl;
+      joined = joined_new k.events (set s.views id left) right (omega arith) refl (joined_set k.events s.views id v left at (omega arith) (omega arith) (let n = same_uncounted v left refl (omega arith) (omega arith) in omega arith) k.joined);
+      joiner = k.joiner;
+      are_joins = k.are_joins;
+      order = order;
+      newest = each_split (λ (j : ℕ) (u : View). IsNewest u (order_to order)) s.views id left right
+          (λ j u ne there whole up. split_order T [] (now_at k) (k.joiner ∷ s.views) (suc id) v left.own right.own left.member right.member k.order at ∙ k.newest j u there whole up)
+          (λ whole up. let i = k.ends.counted.within id v at in let b = given_kept v.member.share in let g = given_some v.member.share (omega arith) in let t = one_of (λ (z : View). z.member.share) s.views id v at in let c = k.ends.counted.shared in absurd (omega arith))
+          (λ whole up. let i = k.ends.counted.within id v at in let b = given_kept v.member.share in let g = kept_some v.member.share (omega arith) in let t = one_of (λ (z : View). z.member.share) s.views id v at in let c = k.ends.counted.shared in absurd (omega arith));
+    }

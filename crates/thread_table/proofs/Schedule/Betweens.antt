@@ -9,7 +9,7 @@ use Rattle.event_theory.proofs.Keeping.Accounts.{account_law}
 use Rattle.atomic_table.specs.Table as tables
 use Rattle.thread_table.specs.declared.layout.TheConstants.{ELEMENTS}
 use Rattle.thread_table.specs.declared.rule.Shape.{Shape}
-use Rattle.thread_table.specs.declared.rule.View.{View}
+use Rattle.thread_table.specs.Own.{View}
 use Rattle.thread_table.specs.Schedules.{begun, state_after, elements_after, IsAllowed}
 use Rattle.thread_table.specs.Shown.{WordsShow}
 use Rattle.thread_table.specs.Rules.{Rule, HandIs}
@@ -44,6 +44,6 @@ shows_elements key s k =
       joined = k.joined;
       joiner = k.joiner;
       are_joins = k.are_joins;
-      course = k.course;
+      course = k.order.course;
       no_others = λ call element far. subst (λ (z : Elements). holds call element z ≡ false) same (k.strange call element far);
     }

@@ -1,21 +1,21 @@
 -- The course of a table as it is made, and through a join, which is a step of no hand.
-use Rattle.std.proofs.Common.{◌≡◌, ◌≢◌, ℕ, suc, true, false, List, [], ◌∷◌, ◌++◌, ◌∙◌, map, set, sym, refl, subst, ⊎_elim, arith, length-append}
+use Rattle.std.proofs.Common.{◌≡◌, ◌≢◌, ℕ, suc, true, false, List, [], ◌∷◌, ◌++◌, ◌∙◌, set, sym, refl, subst, ⊎_elim, arith, length-append}
 use mathlib.Core.Option.{some, some-ne-none}
 use lib.ListN.{get_elem?}
-use Rattle.table_theory.specs.declared.views.Entry.{Entry}
-use Rattle.table_theory.specs.Courses.{IsCourse}
-use Rattle.table_theory.specs.Filing.{entry_of}
-use Rattle.table_theory.proofs.Courses.{course_step, course_split, course_join, course_first}
+use Rattle.table_theory.specs.Ledgers.{Subject, Step, IsReal, opened, first_of}
+use Rattle.table_theory.specs.Orders.{AreOrdered}
+use Rattle.table_theory.proofs.Orders.{after, order_to, order_first, first_order, order_split, split_order, order_join, order_step}
 use Rattle.table_theory.proofs.Owned.{at_push}
 use Rattle.event_theory.specs.declared.event.Event.{Event}
 use Rattle.event_theory.specs.declared.event.Event.TheVariants as events
-use Rattle.thread_table.specs.declared.rule.View.{View}
+use Rattle.thread_table.specs.declared.rule.Having.{Having}
+use Rattle.thread_table.specs.Own.{View}
 use Rattle.thread_table.specs.Joins.{joining, AreJoins}
 use Rattle.thread_table.specs.Makers.{is_join}
 use Rattle.thread_table.proofs.Schedule.JoinEvents.{count_more, count_same}
-use Rattle.thread_table.specs.Rules.{steps_of, course_of}
-use Rattle.thread_table.specs.Schedules.{Course}
-use Rattle.thread_table.specs.Steps.{both, emptied}
+use Rattle.thread_table.specs.Rules.{nothing_of}
+use Rattle.thread_table.specs.Schedules.{Past, Course}
+use Rattle.thread_table.specs.Steps.{had_by_both, both, emptied}
 
 pub no_joins : AreJoins [] []
 no_joins = record { each = λ i e has. absurd (some-ne-none e (sym has)); all = refl }
@@ -24,23 +24,23 @@ no_joins = record { each = λ i e has. absurd (some-ne-none e (sym has)); all = 
 pub joins_same : (past : List Event) (event : Event) (joins : Course) → is_join event ≡ false → AreJoins past joins → AreJoins (past ++ event ∷ []) joins
 joins_same past event joins plain are = record { each = are.each; all = count_same is_join past event plain ∙ are.all }
 
-joins_more : (joins : Course) (past : List Event) (id other : ℕ) → AreJoins past joins → AreJoins (past ++ events.Join id other ∷ []) (joins ++ joining past id other ∷ [])
+joins_more : (joins : Course) (past : Past) (id other : ℕ) → AreJoins past.object joins → AreJoins (past.object ++ events.Join id other ∷ []) (joins ++ joining past id other ∷ [])
 joins_more joins past id other are = record {
   each = λ i e has. ⊎_elim (λ h. are.each i e h)
-      (λ t. subst (λ (z : Entry (List Event)). (call : ℕ) × (it : ℕ) × (z ≡ joining z.then call it)) t.1 (id, other, refl)) (at_push joins (joining past id other) e i has);
-  all = (let c = count_more is_join past (events.Join id other) true refl in let l = length-append joins (joining past id other ∷ []) in let a = are.all in omega arith);
+      (λ t. subst (λ (z : Step (List Event)). (call : ℕ) × (it : ℕ) × (z ≡ joining z.then call it)) t.1 (id, other, refl)) (at_push joins (joining past id other) e i has);
+  all = (let c = count_more is_join past.object (events.Join id other) true refl in let l = length-append joins (joining past id other ∷ []) in let a = are.all in omega arith);
 }
 
 -- no hand has made a step
-pub course_opened : (w : View) → w.steps ≡ [] → w.course ≡ [] → IsCourse steps_of course_of [] [] (w ∷ w ∷ [])
-course_opened w none all = course_split steps_of course_of [] [] (w ∷ []) 0 w w w (course_first steps_of course_of [] w none all) refl refl refl none refl
+pub order_opened : (T : Subject (List Event)) (own : Having) → (o : AreOrdered T [] (opened []) (first_of own [] ∷ first_of own [] ∷ [])) × (order_to o ≡ [])
+order_opened T own = let t = order_first T own [] in let w : View = first_of own [] in
+    (order_split T [] (opened []) (w ∷ []) 0 w own own w.member w.member t refl, split_order T [] (opened []) (w ∷ []) 0 w own own w.member w.member t refl ∙ first_order T own [])
 
 -- a join comes behind all steps
-pub course_joined : (now : List Event) (views : List View) (joiner : View) (id other : ℕ) (v w : View) → AreJoins now joiner.steps → IsCourse steps_of course_of [] now (joiner ∷ views)
+pub order_joined : (T : Subject (List Event)) (now : Past) (views : List View) (joiner : View) (id other : ℕ) (v w : View) → AreJoins now.object joiner.steps → AreOrdered T [] now (joiner ∷ views) → IsReal T (joining now id other)
     → get_elem? views id ≡ some v → get_elem? views other ≡ some w → other ≢ id
-    → (next : View) × AreJoins (now ++ events.Join id other ∷ []) next.steps × IsCourse steps_of course_of [] (now ++ events.Join id other ∷ []) (next ∷ set (set views id (both v w)) other (emptied v))
-course_joined now views joiner id other v w are c at at' ne =
-    let vs : List View = set (set views id (both v w)) other (emptied v) in let e : Entry (List Event) = joining now id other in
-    let j : IsCourse steps_of course_of [] now (joiner ∷ vs) = course_join steps_of course_of [] now (joiner ∷ views) (suc id) (suc other) v w (both v w) (emptied v) c at at' (λ z. ne (omega arith)) refl refl refl refl in
-    let next : View = record joiner { steps = joiner.steps ++ e ∷ []; course = map entry_of j.course ++ e ∷ [] } in
-    (next, joins_more joiner.steps now id other are, course_step steps_of course_of [] now (joiner ∷ vs) 0 joiner next e j refl refl refl refl)
+    → (next : View) × AreJoins (now.object ++ events.Join id other ∷ []) next.steps × AreOrdered T [] (joining now id other).next (next ∷ set (set views id (both v w)) other (emptied v))
+order_joined T now views joiner id other v w are order here at at' ne =
+    let e : Step (List Event) = joining now id other in let vs : List View = set (set views id (both v w)) other (emptied v) in
+    let t : AreOrdered T [] now (joiner ∷ vs) = order_join T (nothing_of v.own.first) had_by_both [] now (joiner ∷ views) (suc id) (suc other) v w order at at' (λ z. ne (omega arith)) in
+    (after joiner joiner.own joiner.member (order_to t) e, joins_more joiner.steps now id other are, order_step T [] now (joiner ∷ vs) 0 joiner joiner.own joiner.member e t refl refl here)

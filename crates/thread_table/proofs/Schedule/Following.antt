@@ -1,23 +1,22 @@
 -- Steps of one hand, one after the other.
 use Rattle.std.proofs.Common.{◌≡◌, ⊎_elim, inl, inr, ℕ, true, None, List, ◌∙◌, sym, ap, subst, arith}
 use Rattle.event_theory.specs.declared.event.Event.{Event}
-use Rattle.thread_table.specs.declared.rule.View.{View}
+use Rattle.thread_table.specs.Own.{View}
 use Rattle.thread_table.specs.Schedules.{elements_after}
-use Rattle.table_theory.specs.Ends.{Begins}
-use Rattle.table_theory.proofs.Ends.{begins_on, begins_trans}
+use Rattle.table_theory.proofs.Ends.{begins_trans}
 use Rattle.thread_table.specs.Shown.{WordsShow}
-use Rattle.thread_table.specs.Steps.{Sees, Found, Did}
+use Rattle.thread_table.specs.Steps.{Sees, Found}
 use Rattle.thread_table.specs.Rules.{has, serves, running}
 use Rattle.thread_table.proofs.Schedule.Schedules.{grows_trans}
 
 -- what a hand that only looked knows then
 abbrev pub seen_as : View → View → View
-seen_as v w = record v { schedule = w.schedule; joined = w.schedule; counted = None; fresh = true; steps = w.steps; course = w.course }
+seen_as v w = record w { own = record v.own { counted = None; fresh = true }; member = v.member }
 
 -- the hand only looked
 pub record Looked (v w : View) : Type 0 where
   pub same : w ≡ seen_as v w
-  pub sees : Sees v w.schedule
+  pub sees : Sees v w.seen.object
 
 pub found_looked : (v w : View) (word found : ℕ) → Found v word found w → Looked v w
 found_looked v w word found f = record { same = f.same ∙ sym (ap (seen_as v) f.same); sees = f.sees }
@@ -28,24 +27,19 @@ sees_on u v events a b = let s = a.sees.seen in let t = b.seen in record {
   allowed = b.allowed;
   lawful = b.lawful;
   seen = record {
-    schedule = begins_trans u.schedule v.schedule events s.schedule t.schedule;
-    joined = begins_trans u.joined v.schedule events s.joined t.schedule;
-    grows = grows_trans (elements_after u.schedule) (elements_after v.schedule) (elements_after events) s.grows t.grows;
+    schedule = begins_trans u.seen.object v.seen.object events s.schedule t.schedule;
+    grows = grows_trans (elements_after u.seen.object) (elements_after v.seen.object) (elements_after events) s.grows t.grows;
   };
   done = λ x. let p = a.sees.done x in let q = b.done x in omega arith;
-  steady = λ up x low may. b.steady (ap (λ (z : View). z.fresh) a.same) x low
+  steady = λ up x low may. b.steady (ap (λ (z : View). z.own.fresh) a.same) x low
       (⊎_elim (λ held. inl (ap (λ (z : View). has z x) a.same ∙ held))
       (λ on. inr (on.0, ap (λ (z : View). serves z on.0) a.same ∙ on.1, ap (λ (z : View). running z on.0) a.same ∙ on.2)) may)
       ∙ a.sees.steady up x low may;
-  newest = λ whole up. a.sees.newest whole up ∙ b.newest (ap (λ (z : View). z.member.share) a.same ∙ whole) (ap (λ (z : View). z.fresh) a.same);
+  newest = λ whole up. a.sees.newest whole up ∙ b.newest (ap (λ (z : View). z.member.share) a.same ∙ whole) (ap (λ (z : View). z.own.fresh) a.same);
   undoubled = a.sees.undoubled;
   words = b.words;
-  shows = subst (λ (z : ℕ). WordsShow z (elements_after events) b.words) (ap (λ (z : View). z.first) a.same) b.shows;
+  shows = subst (λ (z : ℕ). WordsShow z (elements_after events) b.words) (ap (λ (z : View). z.own.first) a.same) b.shows;
 }
 
 pub looked_on : (u v w : View) → Looked u v → Looked v w → Looked u w
-looked_on u v w a b = record { same = b.same ∙ ap (λ (z : View). seen_as z w) a.same; sees = sees_on u v w.schedule a b.sees }
-
--- a step at which the hand made an event is later than what it had seen before
-pub did_later : (call : ℕ) (v w : View) (word found : ℕ) (event : Event) (knows : List Event → View) (d : Did call v word found event knows w) → Begins v.schedule w.schedule
-did_later call v w word found event knows d = subst (Begins v.schedule) (sym (ap (λ (z : View). z.schedule) d.same)) (begins_on v.schedule d.before event d.sees.seen.schedule)
+looked_on u v w a b = record { same = b.same ∙ ap (λ (z : View). seen_as z w) a.same; sees = sees_on u v w.seen.object a b.sees }

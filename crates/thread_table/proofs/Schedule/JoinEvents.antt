@@ -9,7 +9,7 @@ use Rattle.event_theory.specs.declared.event.Event.{Event}
 use Rattle.event_theory.specs.declared.event.Event.TheVariants as events
 use Rattle.table_theory.proofs.Owned.{at_push, at_below}
 use Rattle.table_theory.proofs.Totals.{total_set, total_push}
-use Rattle.thread_table.specs.declared.rule.View.{View}
+use Rattle.thread_table.specs.Own.{View}
 use Rattle.thread_table.specs.Joins.{is_join_of, times_joined, uncounted, AreJoined}
 use Rattle.thread_table.specs.Makers.{is_join}
 use Rattle.thread_table.specs.Steps.{both, emptied}
@@ -25,20 +25,20 @@ none_joined : (hand : ℕ) (event : Event) → is_join event ≡ false → is_jo
 none_joined hand (events.Join call other) plain = absurd (true≢false plain)
 none_joined hand event plain = refl
 
-pub none_uncounted : (v : View) → v.fresh ≡ true → uncounted v ≡ 0
+pub none_uncounted : (v : View) → v.own.fresh ≡ true → uncounted v ≡ 0
 none_uncounted v fresh = ap (λ (z : Bool). if z then 0 else (if v.member.ends == 0 then 0 else 1)) fresh
 
 -- of a hand that stands
-uncounted_by : (v : View) → 1 ≤ v.member.ends → uncounted v ≡ (if v.fresh then 0 else 1)
-uncounted_by v live = ap (λ (z : Bool). if v.fresh then 0 else (if z then 0 else 1)) (ne_eqb v.member.ends 0 (λ z. omega arith))
+uncounted_by : (v : View) → 1 ≤ v.member.ends → uncounted v ≡ (if v.own.fresh then 0 else 1)
+uncounted_by v live = ap (λ (z : Bool). if v.own.fresh then 0 else (if z then 0 else 1)) (ne_eqb v.member.ends 0 (λ z. omega arith))
 
-pub one_uncounted : (v : View) → v.fresh ≡ false → 1 ≤ v.member.ends → uncounted v ≡ 1
+pub one_uncounted : (v : View) → v.own.fresh ≡ false → 1 ≤ v.member.ends → uncounted v ≡ 1
 one_uncounted v stale live = uncounted_by v live ∙ ap (λ (z : Bool). if z then 0 else 1) stale
 
-pub same_uncounted : (v w : View) → w.fresh ≡ v.fresh → 1 ≤ v.member.ends → 1 ≤ w.member.ends → uncounted w ≡ uncounted v
+pub same_uncounted : (v w : View) → w.own.fresh ≡ v.own.fresh → 1 ≤ v.member.ends → 1 ≤ w.member.ends → uncounted w ≡ uncounted v
 same_uncounted v w same live live' = uncounted_by w live' ∙ (ap (λ (z : Bool). if z then 0 else 1) same ∙ sym (uncounted_by v live))
 
-pub joined_first : (w : View) → w.member.ends ≡ 1 → w.member.joins ≡ 0 → w.fresh ≡ true → AreJoined [] (w ∷ [])
+pub joined_first : (w : View) → w.member.ends ≡ 1 → w.member.joins ≡ 0 → w.own.fresh ≡ true → AreJoined [] (w ∷ [])
 joined_first w one none fresh = record {
   number = (let n = none_uncounted w fresh in omega arith);
   once = gone;
@@ -91,7 +91,7 @@ joined_new past views w live none j = record {
 }
 
 -- a hand takes in another
-pub joined_join : (past : List Event) (views : List View) (id other : ℕ) (v w : View) → get_elem? views id ≡ some v → get_elem? views other ≡ some w → other ≢ id → 1 ≤ v.member.ends → 1 ≤ w.member.ends → v.fresh ≡ true → w.fresh ≡ true
+pub joined_join : (past : List Event) (views : List View) (id other : ℕ) (v w : View) → get_elem? views id ≡ some v → get_elem? views other ≡ some w → other ≢ id → 1 ≤ v.member.ends → 1 ≤ w.member.ends → v.own.fresh ≡ true → w.own.fresh ≡ true
     → AreJoined past views → AreJoined (past ++ events.Join id other ∷ []) (set (set views id (both v w)) other (emptied v))
 joined_join past views id other v w at at' ne live live' fresh fresh' j =
     let event : Event = events.Join id other in let new : List Event = past ++ event ∷ [] in let one : List View = set views id (both v w) in

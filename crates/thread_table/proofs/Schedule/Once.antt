@@ -1,7 +1,7 @@
 -- Each step of an element is counted by one event of one hand.
 use Rattle.std.proofs.Common.{◌≡◌, ◌⊎◌, inl, inr, ⊎_elim, ℕ, zero, suc, ◌+◌, ◌<◌, ◌≤◌, Bool, true, false, cond, List, [], ◌∷◌, ◌++◌, map, length, get_or, refl, sym, ap, ◌∙◌, subst, arith, slice_get}
 use Rattle.std.specs.List.{filter, range_with_len}
-use Rattle.std.specs.Prelude.{if◌then◌else◌}
+use Rattle.std.specs.Prelude.{if◌then◌else◌, count_by}
 use Rattle.std.specs.Result.{result_unwrap_or}
 use Rattle.std.proofs.lemmas.Bool.Decides.{eqb_tells}
 use mathlib.Core.Option.{some, some-injective, some-ne-none}
@@ -18,12 +18,11 @@ use Rattle.event_theory.specs.States.{State, step, first_state}
 use Rattle.event_theory.specs.declared.event.Event.{Event}
 use Rattle.event_theory.specs.declared.event.Event.TheVariants as events
 use Rattle.std.proofs.lemmas.List.{append-nil}
+use Rattle.std.proofs.lemmas.List.Sums.{sum_by-cons}
 use Rattle.std.proofs.lemmas.List.FromFn.{length-range_with_len}
 use Rattle.event_theory.specs.Elements.{Elements}
 use Rattle.thread_table.specs.declared.layout.TheConstants.{ELEMENTS}
-use Rattle.thread_table.specs.declared.rule.View.{View}
 use Rattle.thread_table.specs.Rules.{done_at}
-use Rattle.thread_table.specs.Steps.{Did}
 use Rattle.thread_table.proofs.Schedule.Schedules.{elements_of, allowed_before}
 use Rattle.thread_table.proofs.Schedule.ListedEvents.{behind, by_join}
 use Rattle.table_theory.proofs.Owned.{at_map_back}
@@ -166,6 +165,34 @@ more_length : {A B : Type 0} (xs ys : List A) (f : A → B) → length (map f xs
 more_length [] ys f = omega arith
 more_length (x ∷ xs) ys f = let h = more_length xs ys f in omega arith
 
+length_mapped : {A B : Type 0} (f : A → B) (xs : List A) → length (map f xs) ≡ length xs
+length_mapped f [] = refl
+length_mapped f (x ∷ xs) = ap suc (length_mapped f xs)
+
+-- the events that count a step of the element, and what the hands list of them
+counts_listed : (x : ℕ) (s : State) (es : List Event) → length (filter (counts_step x) (numbered s es)) ≡ count_by (is_done x) es
+counts_listed x s [] = refl
+counts_listed x s (event ∷ es) =
+    let t : State = result_unwrap_or (step event s) s in let m : Made = made_in event s in let n : List Made = numbered t es in
+    ⊎_elim
+    (λ isnt. ap length (drop_it (counts_step x) m n (is_join event) isnt) ∙ (none_more (counts_listed x t es) ∙ sym (sum_by-cons (λ e. cond (is_done x e) 1 0) event es ∙ ap (λ (b : Bool). cond b 1 0 + count_by (is_done x) es) isnt)))
+    (λ is. ap (λ (b : Bool). length (filter (counts_step x) (if b then n else (m ∷ n)))) is.1
+    ∙ (ap length (keep_it (counts_step x) m n is.0) ∙ (one_more (counts_listed x t es) ∙ sym (sum_by-cons (λ e. cond (is_done x e) 1 0) event es ∙ ap (λ (b : Bool). cond b 1 0 + count_by (is_done x) es) is.0))))
+    (done_kind x event)
+  where
+    none_more : {a b : ℕ} → a ≡ b → a ≡ 0 + b
+    none_more {a} {b} e = omega arith
+
+    one_more : {a b : ℕ} → a ≡ b → suc a ≡ 1 + b
+    one_more {a} {b} e = omega arith
+
+-- an element has done as many steps as the events counted
+pub counted_done : (past : List Event) → IsAllowed past → (x : ℕ) → done_at past x ≡ count_by (is_done x) past
+counted_done past allowed x =
+    let f : Made → ℕ = λ m. m.number + 1 in
+    done_is past x ∙ (sym (length-range_with_len 1 (done_of x (state_after past))) ∙ (sym (ap length (numbers_are past allowed x))
+    ∙ (length_mapped f (filter (counts_step x) (numbered begun past)) ∙ counts_listed x begun past)))
+
 -- an element's steps done never fall
 pub done_grows : (past events : List Event) → Begins past events → IsAllowed events → (element : ℕ) → done_at past element ≤ done_at events element
 unfolding state_after
@@ -195,10 +222,6 @@ kept_done past event x old new isnt =
     let long : done_of x (state_after (past ++ event ∷ [])) ≡ done_of x (state_after past) =
     sym (length-range_with_len 1 (done_of x (state_after (past ++ event ∷ [])))) ∙ (ap length same ∙ length-range_with_len 1 (done_of x (state_after past))) in
     done_is (past ++ event ∷ []) x ∙ (long ∙ sym (done_is past x))
-
--- so does a step of a hand that is such an event
-pub did_keeps : (call : ℕ) (v : View) (word found : ℕ) (event : Event) (knows : List Event → View) (w : View) (x : ℕ) → is_done x event ≡ false → (d : Did call v word found event knows w) → done_at w.schedule x ≡ done_at d.before x
-did_keeps call v word found event knows w x isnt d = ap (λ (z : View). done_at z.schedule x) d.same ∙ kept_done d.before event x d.sees.allowed d.allowed isnt
 
 -- two events that count steps of one element, one behind the other, count different ones
 apart : (past : List Event) → IsAllowed past → (k j x : ℕ) (a b : Made) → get_elem? (numbered begun past) k ≡ some a → get_elem? (numbered begun past) j ≡ some b

@@ -5,7 +5,7 @@ use Rattle.std.proofs.lemmas.Nat.Bits.{bit_at-pow_other}
 use Rattle.std.proofs.Math.Pow.{pow-lt}
 use Rattle.std.specs.Option.{is_some}
 use Rattle.thread_table.specs.declared.layout.TheConstants.{PROCESSORS}
-use Rattle.thread_table.specs.declared.rule.View.{View}
+use Rattle.thread_table.specs.Own.{View}
 use Rattle.thread_table.specs.Rules.{serves, running}
 use Rattle.thread_table.specs.Answers.{is_in}
 

@@ -4,26 +4,31 @@ use Rattle.std.proofs.lemmas.List.FromFn.{get_or-map-range_with_len, length-map-
 use Rattle.std.proofs.lemmas.Nat.Bits.{bit_at-zero}
 use Rattle.std.proofs.lemmas.Bool.Decides.{nat_tests}
 use Rattle.std.specs.List.{range_with_len}
+use Rattle.thread_table.specs.Telling.{of_hands}
 use mathlib.Core.Option.{some, some-injective, some-ne-none}
 use lib.ListN.{get_elem?}
 use Rattle.atomic_table.specs.Table.{opening}
-use Rattle.table_theory.specs.Members.{EndsKnown}
+use Rattle.table_theory.specs.Ledgers.{EndsStand, opened, first_of}
+use Rattle.table_theory.specs.Orders.{AreOrdered}
+use Rattle.table_theory.proofs.Orders.{order_to, order_at}
+use Rattle.thread_table.specs.declared.rule.Having.{Having}
 use Rattle.event_theory.specs.Elements.{Elements, Thread, new_thread, first_elements, hold, holds}
 use Rattle.event_theory.specs.Queues.{Queue, empty_queue, full_queue}
 use Rattle.event_theory.specs.Runs.{Run}
 use Rattle.event_theory.specs.States.{State}
 use Rattle.event_theory.specs.declared.hold.Hold.{Hold}
 use Rattle.table_theory.proofs.Ends.{begins_refl}
-use Rattle.table_theory.proofs.Members.{known_first}
+use Rattle.table_theory.proofs.Standing.{stand_opened}
+use Rattle.thread_table.specs.Steps.{had_by_both}
 use Rattle.thread_table.specs.declared.rule.Shape.{Shape}
-use Rattle.thread_table.specs.declared.rule.View.{View}
+use Rattle.thread_table.specs.Own.{View}
 use Rattle.thread_table.specs.Schedules.{elements_after, ring_at, thread_at, element_at, element_of, no_run}
 use Rattle.thread_table.specs.declared.layout.TheConstants.{WORDS, ELEMENTS, RINGS, PLACES}
 use Rattle.thread_table.specs.Layout.{head_word, tail_word, place_word, free_ring}
 use Rattle.thread_table.specs.Shown.{WordsShow, RingShows, StateShows, processor_shown, mark_of}
-use Rattle.thread_table.specs.Rules.{IsSteady, IsNewest, Rule, HandIs, Seen, IsOpen, newcomer, member_of, IsIdle}
+use Rattle.thread_table.specs.Rules.{IsSteady, IsNewest, Rule, HandIs, Seen, IsOpen, newcomer, nothing_of, now_of}
 use Rattle.thread_table.proofs.Events.Owing.{AllOwned}
-use Rattle.thread_table.proofs.Schedule.Courses.{no_joins, course_opened}
+use Rattle.thread_table.proofs.Schedule.Courses.{no_joins, order_opened}
 use Rattle.thread_table.proofs.Schedule.JoinEvents.{joined_first}
 use Rattle.thread_table.proofs.Schedule.ListedEvents.{made_first}
 use Rattle.thread_table.proofs.Lists.Copies.{length-copies, get_or-copies, slice_get-copies_by}
@@ -160,27 +165,32 @@ first_owned views ring run below unraised = absurd (all_raised ring run unraised
 pub first_are : elements_after [] ≡ e64
 first_are = elements_of [] ∙ ap (λ (s : State). s.elements) after_none.0
 
+-- no hand has made a step, where the words show one
+first_known : (key : Shape) (words : List ℕ) (own : Having) → get_or words 0 0 ≡ 1 → (o : AreOrdered (of_hands key.first) [] (now_of [] words) (first_of own [] ∷ first_of own [] ∷ [])) × (order_to o ≡ [])
+first_known key words own one = let o = order_opened (of_hands key.first) own in
+    let t = order_at (of_hands key.first) [] (first_of own [] ∷ first_of own [] ∷ []) (opened []) (now_of [] words) (ap (λ (z : ℕ). record { ends = z; object = [] }) (sym one)) o.0 in (t.0, t.1 ∙ o.1)
+
 pub opens : (key : Shape) (words : List ℕ) → key.first + 64 < 4294967296 → length words ≡ WORDS → get_or words 0 0 ≡ 1 → ((i : ℕ) → 1 ≤ i → i < 73 → get_or words i 0 ≡ 0) → ((i : ℕ) → 73 ≤ i → i < 137 → get_or words i 0 ≡ 0)
     → ((ring : ℕ) → ring < RINGS → get_or words (head_word ring) 0 ≡ key.first + cond (eqb ring 1) 64 0) → ((ring : ℕ) → ring < RINGS → get_or words (tail_word ring) 0 ≡ key.first)
     → ((x : ℕ) → x < ELEMENTS → get_or words (place_word free_ring (key.first + x)) 0 ≡ x + 256 * (key.first + x + 1)) → ((ring i : ℕ) → ring < RINGS → ring ≢ 1 → i < 64 → get_or words (66 * ring + 139 + i) 0 ≡ 0)
     → Rule key (opening words [] (newcomer key))
-opens key words fits long ends none unstepped head tail items zeros = let w : View = newcomer key in record {
+opens key words fits long ends none unstepped head tail items zeros = let w : View = newcomer key in let order = first_known key words w.own ends in record {
   events = [];
   allowed = after_none.1;
   shows = subst (λ (e : Elements). WordsShow key.first e words) (sym first_are) (first_shows key.first words fits long none unstepped head tail items zeros);
-  first = only (λ (j : ℕ) (u : View). u.first ≡ key.first) w refl;
-  seen = only (λ (j : ℕ) (u : View). Seen u []) w (record { schedule = begins_refl []; joined = begins_refl []; grows = grows_refl (elements_after []) });
+  first = only (λ (j : ℕ) (u : View). u.own.first ≡ key.first) w refl;
+  seen = only (λ (j : ℕ) (u : View). Seen u []) w (record { schedule = begins_refl []; grows = grows_refl (elements_after []) });
   hands = only (λ (j : ℕ) (u : View). HandIs j u (elements_after [])) w (subst (HandIs 0 w) (sym first_are) (first_hand key));
   sole = λ i j p u v has has' _ _. only (λ (i : ℕ) (u : View). i ≡ 0) w refl i u has ∙ sym (only (λ (j : ℕ) (v : View). j ≡ 0) w refl j v has');
   owned = subst (AllOwned (w ∷ [])) (sym first_are) (first_owned (w ∷ []));
   strange = λ call element past. subst (λ (e : Elements). holds call element e ≡ false) (sym first_are) refl;
   steady = only (λ (j : ℕ) (u : View). IsSteady u []) w (λ up x low may. refl);
   made = made_first;
-  newest = only (λ (j : ℕ) (u : View). IsNewest u []) w (λ whole up. refl);
-  undoubled = only (λ (j : ℕ) (u : View). u.doubled ≡ false) w refl;
-  ends = subst (λ (c : ℕ). EndsKnown member_of IsIdle c (w ∷ [])) (sym ends) (known_first member_of IsIdle w refl);
+  undoubled = only (λ (j : ℕ) (u : View). u.own.doubled ≡ false) w refl;
+  ends = subst (λ (c : ℕ). EndsStand (nothing_of key.first) c (w ∷ [])) (sym ends) (stand_opened (nothing_of key.first) had_by_both w.own []);
   joined = joined_first w refl refl refl;
   joiner = w;
   are_joins = no_joins;
-  course = course_opened w refl refl;
+  order = order.0;
+  newest = only (λ (j : ℕ) (u : View). IsNewest u (order_to order.0)) w (λ whole up. order.1);
 }

@@ -9,7 +9,7 @@ use Rattle.event_theory.specs.Results.{change_at}
 use Rattle.event_theory.specs.Runs.{Run}
 use Rattle.event_theory.specs.declared.refusal.Refusal.{Refusal}
 use Rattle.event_theory.specs.declared.hold.Hold.{Hold}
-use Rattle.thread_table.specs.declared.rule.View.{View}
+use Rattle.thread_table.specs.Own.{View}
 use Rattle.thread_table.specs.declared.rule.Claimed.{Claimed}
 use Rattle.thread_table.specs.Schedules.{QueueGrows, Grows, ring_at, thread_at, element_at}
 use Rattle.thread_table.specs.declared.layout.TheConstants.{RINGS, PLACES, NOTIFY}

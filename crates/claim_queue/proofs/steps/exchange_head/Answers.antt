@@ -5,4 +5,4 @@ use Rattle.claim_queue.proofs.steps.exchange_head.Goals as goal
 
 pub compare_exchange-requires : goal.compare_exchange-requires
 compare_exchange-requires g c = let n : length c.args.items.now ≡ length g.J.ClaimItems.items = ap length c.requires.items.0 in let new = c.requires.new in let fits = c.requires.room in
-    (search rules, search rules, claims_head _ _ _ _ _ _ _ _ c.requires.call (omega arith) new.1 (omega arith) c.requires.live (omega arith))
+    (search rules, search rules, claims_head _ _ _ _ _ _ _ (omega arith) new.1 (omega arith) c.requires.live (omega arith))

@@ -1,7 +1,7 @@
 use Rattle.std.proofs.Common.{rules, sym, subst, set}
-use Rattle.claim_queue.specs.declared.rule.View.{View}
+use Rattle.claim_queue.specs.Own.{View, did_both}
 use Rattle.claim_queue.specs.Rules.{Rule}
-use Rattle.claim_queue.specs.Steps.{both}
+use Rattle.table_theory.specs.Ledgers.{both}
 use Rattle.claim_queue.proofs.Tallying.{joins}
 use Rattle.claim_queue.proofs.steps.take_in.Goals as goal
 
@@ -11,6 +11,6 @@ join_seat-requires g c = (
   search rules,
   search rules,
   search rules,
-  λ s k at ne has. subst (λ (w : View). Rule c.args.words.now.key record { words = s.words; homes = s.homes; views = set (set s.views c.args.seat.now.id (both c.args.seat.now.me.0 c.args.other.me.0)) c.args.other.id w }) (sym c.requires.spent)
+  λ s k at ne has. subst (λ (w : View). Rule c.args.words.now.key record { words = s.words; homes = s.homes; views = set (set s.views c.args.seat.now.id (both did_both c.args.seat.now.me.0 c.args.other.me.0)) c.args.other.id w }) (sym c.requires.spent)
       (joins c.args.words.now.key c.args.seat.now.id c.args.other.id c.args.seat.now.me.0 c.args.other.me.0 c.requires.live.0 c.requires.live.1 s k at ne has),
 )

@@ -1,6 +1,7 @@
 use Rattle.std.proofs.Common.{rules}
 use Rattle.end_steps.specs.Deeds.{Heard}
 use Rattle.end_steps.proofs.Using.{its_end, ends_same, ends_fit, used_at, taken_at}
+use Rattle.end_steps.proofs.Shares.{heard_long}
 use Rattle.end_steps.proofs.hearing.hear.Goals as goal
 
 pub hear_line-requires : goal.hear_line-requires
@@ -17,3 +18,6 @@ returns-clause-heard g c = used_at c.args.queues.now c.args.ends.now c.args.inde
 
 pub returns-clause-worked : goal.returns-clause-worked
 returns-clause-worked g c = taken_at c.args.queues.now c.args.ends.now c.args.index _ _ c.requires.ends c.item_at.ensures.value _ c.requires.known c.hear_line.ensures.worked
+
+pub returns-clause-long : goal.returns-clause-long
+returns-clause-long g c = heard_long _ _ c.hear_line.new.line.items c.hear_line.result c.hear_line.ensures.heard

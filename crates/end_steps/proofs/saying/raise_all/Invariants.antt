@@ -1,6 +1,6 @@
 use Rattle.std.proofs.Common.{◌≡◌}
 use Rattle.claim_queue.specs.Claims.{Owns}
-use Rattle.claim_queue.specs.Handles.{view_of, call_of, IsSameEnd}
+use Rattle.claim_queue.specs.Handles.{view_of, IsSameEnd}
 use Rattle.claim_queue.specs.Puts.{RaisedFrom}
 use Rattle.end_steps.proofs.saying.raise_all.Given as goal
 
@@ -10,5 +10,5 @@ invariant-loop-i g l = record {
   same : (l.claim.start ≡ l.initial.claim.start) × (l.claim.items.items ≡ l.initial.claim.items.items);
   own : Owns (view_of l.end) l.claim.start l.claim.items.items l.claim.raised;
   raised : l.claim.raised ≡ l.i;
-  done : RaisedFrom g.row.N (call_of l.initial.end) l.initial.claim.start l.initial.claim.items.items (view_of l.initial.end) (view_of l.end) l.i;
+  done : RaisedFrom g.row.N l.initial.claim.start l.initial.claim.items.items (view_of l.initial.end) (view_of l.end) l.i;
 }

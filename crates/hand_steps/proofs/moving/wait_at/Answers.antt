@@ -1,20 +1,22 @@
-use Rattle.std.proofs.Common.{rules}
+use Rattle.std.proofs.Common.{refl}
 use Rattle.thread_table.specs.Handles.{view_of, call_of}
+use Rattle.hand_steps.specs.Tallies.{no_events}
+use Rattle.hand_steps.proofs.Calm.{steady}
 use Rattle.hand_steps.proofs.Sends.{waited_goes}
 use Rattle.hand_steps.proofs.moving.wait_at.Goals as goal
 
 pub returns-clause-keeps : goal.returns-clause-keeps
 returns-clause-keeps g c = let h = c.args.hand.now in let n = c.wait_or_ready.new.hand in
-    (waited_goes (call_of h) c.args.wait c.args.element c.args.ticket c.wait_or_ready.result (view_of h) (view_of n) (search rules) h.fresh c.requires.held c.wait_or_ready.ensures.waited).0.keeps
+    (waited_goes (call_of h) c.args.wait c.args.element c.args.ticket c.wait_or_ready.result (view_of h) (view_of n) h.fresh c.wait_or_ready.ensures.waited).0.keeps
 
 pub returns-clause-holds : goal.returns-clause-holds
 returns-clause-holds g c = let h = c.args.hand.now in let n = c.wait_or_ready.new.hand in
-    (waited_goes (call_of h) c.args.wait c.args.element c.args.ticket c.wait_or_ready.result (view_of h) (view_of n) (search rules) h.fresh c.requires.held c.wait_or_ready.ensures.waited).1
+    (waited_goes (call_of h) c.args.wait c.args.element c.args.ticket c.wait_or_ready.result (view_of h) (view_of n) h.fresh c.wait_or_ready.ensures.waited).1
 
 pub returns-clause-adds : goal.returns-clause-adds
 returns-clause-adds g c = let h = c.args.hand.now in let n = c.wait_or_ready.new.hand in
-    (waited_goes (call_of h) c.args.wait c.args.element c.args.ticket c.wait_or_ready.result (view_of h) (view_of n) (search rules) h.fresh c.requires.held c.wait_or_ready.ensures.waited).0.adds
+    (waited_goes (call_of h) c.args.wait c.args.element c.args.ticket c.wait_or_ready.result (view_of h) (view_of n) h.fresh c.wait_or_ready.ensures.waited).0.adds
 
 pub returns-clause-steady : goal.returns-clause-steady
 returns-clause-steady g c = let h = c.args.hand.now in let n = c.wait_or_ready.new.hand in
-    (waited_goes (call_of h) c.args.wait c.args.element c.args.ticket c.wait_or_ready.result (view_of h) (view_of n) (search rules) h.fresh c.requires.held c.wait_or_ready.ensures.waited).0.calm.steady h.fresh
+    steady no_events (view_of h) (view_of n) (λ e. refl) h.fresh h.told n.told (waited_goes (call_of h) c.args.wait c.args.element c.args.ticket c.wait_or_ready.result (view_of h) (view_of n) h.fresh c.wait_or_ready.ensures.waited).0

@@ -1,11 +1,20 @@
-use Rattle.std.proofs.Common.{rules, refl}
+use Rattle.std.proofs.Common.{◌∙◌, false, get_or, ap}
 use Rattle.thread_table.specs.Handles.{view_of, call_of}
-use Rattle.hand_steps.proofs.Calm.{did_calm}
-use Rattle.hand_steps.proofs.Lawful.{off_holds}
+use Rattle.hand_steps.proofs.Placed.{off_is}
 use Rattle.hand_steps.proofs.placing.take_off.Goals as goal
 
+pub returns-clause-free : goal.returns-clause-free
+returns-clause-free c = let h = c.args.hand.now in let n = c.off.new.hand in
+    (ap (λ xs. get_or xs c.args.processor false) (off_is (call_of h) c.args.processor c.in-Ok.element (view_of h) (view_of n) h.fresh h.told n.told c.in-Ok.ensures.off.1).keeps.serves ∙ c.requires.mine, c.in-Ok.ensures.off.1.1)
+
+pub returns-clause-keeps : goal.returns-clause-keeps
+returns-clause-keeps c = let h = c.args.hand.now in let n = c.off.new.hand in (off_is (call_of h) c.args.processor c.in-Ok.element (view_of h) (view_of n) h.fresh h.told n.told c.in-Ok.ensures.off.1).keeps
+
 pub returns-clause-holds : goal.returns-clause-holds
-returns-clause-holds c = let h = c.args.hand.now in off_holds (call_of h) c.args.processor c.in-Ok.element (view_of h) (view_of c.off.new.hand) (search rules) (search rules) c.requires.mine c.in-Ok.ensures.off.0 c.in-Ok.ensures.off.1
+returns-clause-holds c = let h = c.args.hand.now in let n = c.off.new.hand in c.in-Ok.ensures.off.1.2
+
+pub returns-clause-adds : goal.returns-clause-adds
+returns-clause-adds c = let h = c.args.hand.now in let n = c.off.new.hand in (off_is (call_of h) c.args.processor c.in-Ok.element (view_of h) (view_of n) h.fresh h.told n.told c.in-Ok.ensures.off.1).adds
 
 pub returns-clause-steady : goal.returns-clause-steady
-returns-clause-steady c = let h = c.args.hand.now in (did_calm (call_of h) (view_of h) (view_of c.off.new.hand) _ _ _ _ (λ e. refl) c.in-Ok.ensures.off.1).steady h.fresh
+returns-clause-steady c = let h = c.args.hand.now in let n = c.off.new.hand in (off_is (call_of h) c.args.processor c.in-Ok.element (view_of h) (view_of n) h.fresh h.told n.told c.in-Ok.ensures.off.1).steady

@@ -1,5 +1,8 @@
+use Rattle.std.proofs.Common.{refl}
 use Rattle.thread_table.specs.Handles.{view_of, call_of}
 use Rattle.hand_steps.specs.declared.waking.Woken.{Woken}
+use Rattle.hand_steps.specs.Tallies.{no_events}
+use Rattle.hand_steps.proofs.Calm.{steady}
 use Rattle.hand_steps.proofs.Wakes.{can_wake, woke, woken_is}
 use Rattle.hand_steps.proofs.waking.wake.Goals as goal
 
@@ -24,4 +27,5 @@ returns-clause-adds g c = let h = c.args.hand.now in let u = c.wake_all-taken.ne
 
 pub returns-clause-steady : goal.returns-clause-steady
 returns-clause-steady g c = let h = c.args.hand.now in let u = c.wake_all-taken.new.hand in let n = c.ready_all-ready.new.hand in let k : Woken = record { taken = c.wake_all-taken.result; ready = c.ready_all-ready.result } in
-    (woken_is (call_of h) c.args.wait k (view_of h) (view_of n) h.fresh (woke (call_of h) (call_of u) c.args.wait k.taken k.ready (view_of h) (view_of u) (view_of n) c.wake_all-taken.ensures.table.1 c.wake_all-taken.ensures.woken c.ready_all-ready.ensures.sent)).0.calm.steady h.fresh
+    steady no_events (view_of h) (view_of n) (λ e. refl) h.fresh h.told n.told
+    (woken_is (call_of h) c.args.wait k (view_of h) (view_of n) h.fresh (woke (call_of h) (call_of u) c.args.wait k.taken k.ready (view_of h) (view_of u) (view_of n) c.wake_all-taken.ensures.table.1 c.wake_all-taken.ensures.woken c.ready_all-ready.ensures.sent)).0

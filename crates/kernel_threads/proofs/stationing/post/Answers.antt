@@ -3,7 +3,7 @@ use Rattle.hand_steps.specs.Holdings.{IsFree}
 use Rattle.thread_table.specs.Handles.{view_of}
 use Rattle.processor.specs.Partings.{AreSplit}
 use Rattle.kernel_threads.proofs.Posting.{divisible, only_free, can_split, still_free, posted}
-use Rattle.thread_table.specs.declared.rule.View.{View}
+use Rattle.thread_table.specs.Own.{View}
 use Rattle.kernel_threads.proofs.Preparedness.{still_prepared}
 use Rattle.kernel_threads.proofs.stationing.post.Goals as goal
 
@@ -33,7 +33,7 @@ returns-clause-posted g c =
     c.in_ok-born.ensures.born c.in_ok-born.ensures.room c.in_ok-born.ensures.fresh
 
 pub returns-clause-none_on : goal.returns-clause-none_on
-returns-clause-none_on g c none = ap (λ (z : View). z.on) c.in_ok-born.ensures.split.hand.same ∙ none
+returns-clause-none_on g c none = ap (λ (z : View). z.own.on) c.in_ok-born.ensures.split.hand.acts.has ∙ none
 
 pub returns-clause-prepared : goal.returns-clause-prepared
 returns-clause-prepared g c = still_prepared _ c.args.station.now.parts c.split.new.self.parts c.in_ok-born.born.parts c.in_ok-born.ensures.split

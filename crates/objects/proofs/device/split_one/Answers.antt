@@ -1,6 +1,5 @@
 use Rattle.std.proofs.Common.{ap, ◌∙◌}
-use Rattle.table_theory.specs.declared.views.Member.{Member}
-use Rattle.proc_chain.specs.declared.rule.View.{View}
+use Rattle.proc_chain.specs.Own.{View}
 use Rattle.proc_chain.specs.Notes.{notes_put, notes_taken}
 use Rattle.end_steps.proofs.ChainParting.{rests}
 use Rattle.objects.proofs.device.split_one.Goals as goal
@@ -9,7 +8,7 @@ pub returns-clause-idle : goal.returns-clause-idle
 returns-clause-idle c = let s = c.split.ensures in let was = c.requires.idle in (
   record {
     its = s.ends.0;
-    idle = (s.turns.0 ∙ was.idle.0, s.split.1 ∙ was.idle.1);
+    idle = (s.turns.0.0 ∙ was.idle.0, s.turns.0.1 ∙ was.idle.1);
     puts = s.notes.puts ∙ was.puts;
     takes = s.notes.takes ∙ was.takes;
   },
@@ -22,7 +21,7 @@ returns-clause-idle c = let s = c.split.ensures in let was = c.requires.idle in 
 )
 
 pub returns-clause-left : goal.returns-clause-left
-returns-clause-left c = ap (λ (m : Member). m.share) c.split.ensures.split.0.member.same
+returns-clause-left c = λ k. (c.split.ensures.steps.member k).share
 
 pub returns-clause-given : goal.returns-clause-given
 returns-clause-given c = ap (λ (v : View). v.member.share) c.split.ensures.born

@@ -1,10 +1,14 @@
 use Rattle.std.proofs.Common.{rules, arith, refl, subst, sym, ◌<◌, ℕ}
-use Rattle.proc_chain.proofs.Claiming.{claims_head}
+use Rattle.proc_chain.proofs.Finding.{head_found}
+use Rattle.proc_chain.proofs.Stepping.{claims_head}
 use Rattle.proc_chain.proofs.steps.exchange_head.Goals as goal
 
 pub compare_exchange-requires : goal.compare_exchange-requires
 compare_exchange-requires g c = let room = c.requires.room in let bounded = c.requires.bounded in let fits = c.ranges.note.fits in (
   search rules,
   search rules,
-  claims_head _ _ _ _ _ _ _ _ _ _ c.requires.call (subst (λ (z : ℕ). z < 65536) (sym c.requires.note) (omega arith)) refl bounded room c.requires.live,
+  claims_head _ _ _ _ _ _ _ _ _ (subst (λ (z : ℕ). z < 65536) (sym c.requires.note) (omega arith)) refl bounded room c.requires.live,
 )
+
+pub returns-clause-miss : goal.returns-clause-miss
+returns-clause-miss g c = λ ne. let f = c.compare_exchange.ensures.2.2 ne in (f, (head_found _ _ _ f).0)

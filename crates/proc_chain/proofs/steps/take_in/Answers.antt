@@ -1,8 +1,8 @@
 use Rattle.std.proofs.Common.{rules, subst, sym}
 use Rattle.atomic_table.specs.Table.{Joins}
-use Rattle.proc_chain.specs.Rules.{suits, makes}
-use Rattle.proc_chain.specs.Rules.{Rule}
-use Rattle.proc_chain.specs.Steps.{both}
+use Rattle.table_theory.specs.Ledgers.{both}
+use Rattle.proc_chain.specs.Own.{did_both}
+use Rattle.proc_chain.specs.Rules.{suits, makes, Rule}
 use Rattle.proc_chain.proofs.Tallying.{joins}
 use Rattle.proc_chain.proofs.steps.take_in.Goals as goal
 
@@ -12,5 +12,5 @@ join_seat-requires g c = let a = c.args.seat.now in let b = c.args.other in (
   search rules,
   c.requires.queue.2,
   search rules,
-  subst (Joins (Rule (makes g.Q.Quaject.made_by) (suits g.Q.Quaject.fits) c.args.words.now.key) a.id a.me.0 b.id b.me.0 (both a.me.0 b.me.0)) (sym c.requires.spent) (joins (makes g.Q.Quaject.made_by) (suits g.Q.Quaject.fits) c.args.words.now.key a.id b.id a.me.0 b.me.0 c.requires.live c.requires.turns c.requires.settled),
+  subst (Joins (Rule (makes g.Q.Quaject.made_by) (suits g.Q.Quaject.fits) c.args.words.now.key) a.id a.me.0 b.id b.me.0 (both did_both a.me.0 b.me.0)) (sym c.requires.spent) (joins (makes g.Q.Quaject.made_by) (suits g.Q.Quaject.fits) c.args.words.now.key a.id b.id a.me.0 b.me.0 c.requires.live c.requires.turns c.requires.settled),
 )

@@ -82,7 +82,7 @@ returns-clause-logged g c =
           (record { queues = r.ends.queues; chains = r.ends.chains; seat = r.ends.seat; small_lines = r.ends.small_lines; large_lines = r.ends.large_lines; notes = r.ends.notes })
           lines r.signals;
     })
-    (moved_logged plan _ c.args.step.now tried.deed _ e (done_at (view_of mid.hand).schedule e) c.send_on.result.moved mid _ c.send_on.ensures.goes
+    (moved_logged plan _ c.args.step.now tried.deed _ e (done_at (view_of mid.hand).seen.object e) c.send_on.result.moved mid _ c.send_on.ensures.goes
     (λ k. over_so plan _ e n _ tried.counted r.hand.did r.hand.after _ (view_of mid.hand) r.hand.counts r.number c.requires.known c.requires.low (sym last ∙ k))
     c.send_on.ensures.adds c.send_on.ensures.rises (record { small = refl; large = refl; chains = refl; heard = refl }) refl refl)
 

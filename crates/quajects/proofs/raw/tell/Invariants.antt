@@ -1,7 +1,8 @@
-use Rattle.std.proofs.Common.{◌≡◌, ℕ, List, false}
+use Rattle.std.proofs.Common.{◌≡◌, List, false}
 use Rattle.table_theory.specs.Seating.{IsSame}
 use Rattle.proc_chain.specs.Handles.{turn_of, me_of, IsEndOf}
-use Rattle.quajects.specs.Notings.{LostTries}
+use Rattle.proc_chain.specs.Links.{LostTry}
+use Rattle.quajects.proofs.Noting.{WereLost}
 use Rattle.quajects.proofs.raw.tell.Given as goal
 
 abbrev pub invariant-loop : goal.invariant-loop
@@ -10,5 +11,6 @@ invariant-loop g l = record {
   mine : IsEndOf l.chain l.end;
   idle : turn_of l.end ≡ false;
   same : IsSame l.initial.end.seat l.end.seat;
-  tried : (lost : List ℕ) × LostTries (me_of l.initial.end) lost (me_of l.end);
+  held : (me_of l.end).1 ≡ (me_of l.initial.end).1;
+  tried : (lost : List LostTry) × WereLost (me_of l.initial.end).0 lost (me_of l.end).0;
 }

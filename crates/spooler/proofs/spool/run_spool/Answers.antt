@@ -4,32 +4,33 @@ use Rattle.std.specs.Option.{ok_or, option_zip}
 use Rattle.std.proofs.Common.{◌≡◌, ◌+◌, ◌++◌, ◌∙◌, List, Option, Result, IfOk, IfSome, sym, ap, subst, arith}
 use Rattle.table_theory.specs.declared.queues.Batch.{Batch}
 use Rattle.table_theory.specs.Sharing.{given, kept}
-use Rattle.table_theory.proofs.Positioned.{grows_trans}
+use Rattle.claim_queue.proofs.Certain.{honest_end}
+use Rattle.claim_queue.proofs.Ordered.{join_grows, join_grows_other}
 use Rattle.claim_queue.specs.Handles.{view_of}
 use Rattle.claim_queue.specs.Endings.{Divided, IsNewborn, TookIn}
-use Rattle.claim_queue.specs.declared.rule.View.{View}
+use Rattle.claim_queue.specs.Own.{View}
 use Rattle.spooler.specs.declared.line.Line.{Line}
 use Rattle.spooler.specs.Doings.{HasTaken}
 use Rattle.spooler.specs.Lines.{lines_of}
-use Rattle.spooler.proofs.Settling.{Idle, spooled, produced, taken, same_share}
+use Rattle.spooler.proofs.Settling.{Idle, spooled, produced, taken, same_share, grown_two}
 use Rattle.spooler.proofs.spool.run_spool.Goals as goal
 
 -- a split leaves an end with nothing as it was, and gives one with nothing
 split_idle : (v w : View) → Divided v w → Idle v → Idle w
-split_idle v w d i = (ap (λ (z : View). z.part.runs) d.same ∙ i.0, ap (λ (z : View). z.part.takes) d.same ∙ i.1)
+split_idle v w d i = ((λ k. (d.own k).runs) ∙ i.0, (λ k. (d.own k).takes) ∙ i.1)
 
 born_idle : (v w born : View) → IsNewborn v w born → Idle born
-born_idle v w born b = (ap (λ (z : View). z.part.runs) b, ap (λ (z : View). z.part.takes) b)
+born_idle v w born b = (ap (λ (z : View). z.own.runs) b, ap (λ (z : View). z.own.takes) b)
 
 -- the shares of both are the share that was split
 split_share : (v w born : View) → Divided v w → IsNewborn v w born → w.member.share + born.member.share ≡ v.member.share
 split_share v w born d b =
-    let left : w.member.share ≡ kept v.member.share = ap (λ m. m.share) d.member.same in
+    let left : w.member.share ≡ kept v.member.share = (λ k. (d.member k).share) in
     let gone : born.member.share ≡ given v.member.share = ap (λ (z : View). z.member.share) b in
     omega arith
 
 joined_share : (v u w : View) → TookIn v u w → w.member.share ≡ v.member.share + u.member.share
-joined_share v u w t = ap (λ m. m.share) t.member.same
+joined_share v u w t = λ k. (t.member k).share
 
 -- what both came back with
 both_kept : {E : Type 0} (one other : Option (Vec Line)) (r : Result (Vec Line × Vec Line) E) (e : E) (H K : Vec Line → Type 0) (P : Vec Line × Vec Line → Type 0)
@@ -48,19 +49,19 @@ unreachable-requires g c =
     let v5 : View = view_of c.split-e.new.end in
     let back = c.join-last.result in
     let whole = ap (λ (z : View). z.member.share) c.in_ok-queue.ensures.2 in
-    let s1 = split_share v0 v1 (view_of c.split-a.result) c.split-a.ensures.split c.split-a.ensures.born in
-    let s2 = split_share v1 v2 (view_of c.split-b.result) c.split-b.ensures.split c.split-b.ensures.born in
-    let s3 = split_share v2 v3 (view_of c.split-c.result) c.split-c.ensures.split c.split-c.ensures.born in
-    let s4 = split_share v3 v4 (view_of c.split-d.result) c.split-d.ensures.split c.split-d.ensures.born in
-    let s5 = split_share v4 v5 (view_of c.split-e.result) c.split-e.ensures.split c.split-e.ensures.born in
+    let s1 = split_share v0 v1 (view_of c.split-a.result) c.split-a.ensures.steps c.split-a.ensures.born in
+    let s2 = split_share v1 v2 (view_of c.split-b.result) c.split-b.ensures.steps c.split-b.ensures.born in
+    let s3 = split_share v2 v3 (view_of c.split-c.result) c.split-c.ensures.steps c.split-c.ensures.born in
+    let s4 = split_share v3 v4 (view_of c.split-d.result) c.split-d.ensures.steps c.split-d.ensures.born in
+    let s5 = split_share v4 v5 (view_of c.split-e.result) c.split-e.ensures.steps c.split-e.ensures.born in
     let put = c.join-last.ensures.first.1 in
     let took = c.join-last.ensures.second in
     let p = put.gathered.share in
     let same = same_share _ _ put.backs put.puts in
     let t = took.0.1.share in
     let u = took.1.1.share in
-    let j1 = joined_share (view_of back.0) (view_of back.1.0.0) (view_of c.join.new.end) c.join.ensures.joined in
-    let j2 = joined_share (view_of c.join.new.end) (view_of back.1.1.0) (view_of c.join-2.new.end) c.join-2.ensures.joined in
+    let j1 = joined_share (view_of back.0) (view_of back.1.0.0) (view_of c.join.new.end) c.join.ensures.steps in
+    let j2 = joined_share (view_of c.join.new.end) (view_of back.1.1.0) (view_of c.join-2.new.end) c.join-2.ensures.steps in
     c.in_default.ensures.only (omega arith)
 
 pub returns : goal.returns
@@ -72,12 +73,12 @@ returns g c =
     let v4 : View = view_of c.split-d.new.end in
     let v5 : View = view_of c.split-e.new.end in
     let new = c.in_ok-queue.ensures in
-    let i0 : Idle v0 = (ap (λ (z : View). z.part.runs) new.2, ap (λ (z : View). z.part.takes) new.2) in
-    let i1 : Idle v1 = split_idle v0 v1 c.split-a.ensures.split i0 in
-    let i2 : Idle v2 = split_idle v1 v2 c.split-b.ensures.split i1 in
-    let i3 : Idle v3 = split_idle v2 v3 c.split-c.ensures.split i2 in
-    let i4 : Idle v4 = split_idle v3 v4 c.split-d.ensures.split i3 in
-    let i5 : Idle v5 = split_idle v4 v5 c.split-e.ensures.split i4 in
+    let i0 : Idle v0 = (ap (λ (z : View). z.own.runs) new.2, ap (λ (z : View). z.own.takes) new.2) in
+    let i1 : Idle v1 = split_idle v0 v1 c.split-a.ensures.steps i0 in
+    let i2 : Idle v2 = split_idle v1 v2 c.split-b.ensures.steps i1 in
+    let i3 : Idle v3 = split_idle v2 v3 c.split-c.ensures.steps i2 in
+    let i4 : Idle v4 = split_idle v3 v4 c.split-d.ensures.steps i3 in
+    let i5 : Idle v5 = split_idle v4 v5 c.split-e.ensures.steps i4 in
     let ia = born_idle v0 v1 (view_of c.split-a.result) c.split-a.ensures.born in
     let ib = born_idle v1 v2 (view_of c.split-b.result) c.split-b.ensures.born in
     let ic = born_idle v2 v3 (view_of c.split-c.result) c.split-c.ensures.born in
@@ -93,13 +94,13 @@ returns g c =
     let u : View = view_of back.1.1.0 in
     let j1 : View = view_of c.join.new.end in
     let j2 : View = view_of c.join-2.new.end in
-    let t1 = c.join.ensures.joined in
-    let t2 = c.join-2.ensures.joined in
-    let runs : j2.part.runs ≡ (p.part.runs ++ t.part.runs) ++ u.part.runs = ap (λ (z : View). z.part.runs) t2.same ∙ ap (λ (l : List Batch). l ++ u.part.runs) (ap (λ (z : View). z.part.runs) t1.same) in
-    let takes : j2.part.takes ≡ (p.part.takes ++ t.part.takes) ++ u.part.takes = ap (λ (z : View). z.part.takes) t2.same ∙ ap (λ (l : List Batch). l ++ u.part.takes) (ap (λ (z : View). z.part.takes) t1.same) in
+    let t1 = c.join.ensures.steps in
+    let t2 = c.join-2.ensures.steps in
+    let runs : j2.own.runs ≡ (p.own.runs ++ t.own.runs) ++ u.own.runs = (λ k. (t2.own k).runs) ∙ ap (λ (l : List Batch). l ++ u.own.runs) (λ k. (t1.own k).runs) in
+    let takes : j2.own.takes ≡ (p.own.takes ++ t.own.takes) ++ u.own.takes = (λ k. (t2.own k).takes) ∙ ap (λ (l : List Batch). l ++ u.own.takes) (λ k. (t1.own k).takes) in
     both_kept back.1.0.1 back.1.1.1 c.ok_or.result _ (λ lines. HasTaken (lines_of lines.items) d0 t) (λ lines. HasTaken (lines_of lines.items) e0 u) _
     (c.ok_or.ensures.value ∙ ap (λ z. ok_or z _) c.zip.ensures) took.0.2 took.1.2
     (λ x y h k. spooled c.args.jobs.now x.items y.items v5 p t u j2 put.backs _ _ _ _ i5
     (produced _ _ put.backs (ia, (ib, (ic, tt))) put.puts) put.gathered
     (taken (lines_of x.items) d0 t id.0 id.1 took.0.1 h) (taken (lines_of y.items) e0 u ie.0 ie.1 took.1.1 k)
-    runs takes (grows_trans t.part.queue j1.part.queue j2.part.queue t1.sees.later.1 t2.sees.later.0) c.in-Ok.ensures.closed.1)
+    runs takes (grown_two t.seen.object j1.seen.object j2.seen.object (join_grows_other p t j1 (honest_end back.1.0.0) (honest_end c.join.new.end) t1) (join_grows j1 u j2 (honest_end c.join.new.end) (honest_end c.join-2.new.end) t2)) c.in-Ok.ensures.closed.1)

@@ -1,8 +1,8 @@
-use Rattle.thread_table.proofs.Hands.Unchanged.{stays_found, take_stays, move_stays, wait_stays, start_stays, park_stays, deliver_stays, counts_stay, before_stays}
+use Rattle.thread_table.proofs.Hands.Unchanged.{stays_by, take_stays, move_stays, wait_stays, ticket_stays, start_stays, goes_on_stays, park_stays, runs_stay, deliver_stays, none_stays, counts_stay, before_stays, reached_stays}
 use Rattle.thread_table.proofs.laws.refusals_stay.Goals as goal
 
 pub returns-clause-looks : goal.returns-clause-looks
-returns-clause-looks c = stays_found
+returns-clause-looks c = λ v w entries a. stays_by v w entries a
 
 pub returns-clause-takes : goal.returns-clause-takes
 returns-clause-takes c = take_stays
@@ -14,25 +14,25 @@ pub returns-clause-waits : goal.returns-clause-waits
 returns-clause-waits c = wait_stays
 
 pub returns-clause-tickets : goal.returns-clause-tickets
-returns-clause-tickets c = λ wait ticket v w a. stays_found v w _ _ a.loaded
+returns-clause-tickets c = ticket_stays
 
 pub returns-clause-starts : goal.returns-clause-starts
 returns-clause-starts c = start_stays
 
 pub returns-clause-goes_on : goal.returns-clause-goes_on
-returns-clause-goes_on c = λ call element v w a. stays_found v w _ _ a.loaded
+returns-clause-goes_on c = goes_on_stays
 
 pub returns-clause-parks : goal.returns-clause-parks
 returns-clause-parks c = park_stays
 
 pub returns-clause-runs : goal.returns-clause-runs
-returns-clause-runs c = λ call element v w a. stays_found v w _ _ a.loaded
+returns-clause-runs c = runs_stay
 
 pub returns-clause-delivers : goal.returns-clause-delivers
 returns-clause-delivers c = deliver_stays
 
 pub returns-clause-delivers_none : goal.returns-clause-delivers_none
-returns-clause-delivers_none c = λ call element v w a. stays_found v w _ _ a.loaded
+returns-clause-delivers_none c = none_stays
 
 pub returns-clause-counts : goal.returns-clause-counts
 returns-clause-counts c = counts_stay
@@ -44,4 +44,4 @@ pub returns-clause-befores : goal.returns-clause-befores
 returns-clause-befores c = before_stays
 
 pub returns-clause-reached : goal.returns-clause-reached
-returns-clause-reached c = λ call ring head v w a. stays_found v w _ _ a.tail_loaded
+returns-clause-reached c = reached_stays

@@ -1,7 +1,8 @@
-use Rattle.std.proofs.Common.{◌∙◌, ap, arith}
+use Rattle.std.proofs.Common.{rules, ◌∙◌, ap, arith}
 use Rattle.thread_table.specs.Rules.{has}
 use Rattle.thread_table.proofs.Events.QueueSteps.{found_at}
 use Rattle.thread_table.proofs.Events.StateSteps.{parks_state, state_found}
+use Rattle.thread_table.proofs.Hands.Looks.{stood}
 use Rattle.thread_table.proofs.steps.exchange_park.Goals as goal
 
 pub compare_exchange-requires : goal.compare_exchange-requires
@@ -13,3 +14,6 @@ compare_exchange-requires g c = let v = c.args.seat.now.me.0 in let q = c.requir
 
 pub returns-clause-miss : goal.returns-clause-miss
 returns-clause-miss g c differ = let f = found_at _ _ _ _ _ c.state_word.ensures.0 (c.compare_exchange.ensures.2.2 differ) in (f, state_found _ _ _ _ c.requires.held.0 f)
+
+pub returns-clause-stands : goal.returns-clause-stands
+returns-clause-stands g c = stood _ _ _ _ c.requires.deed.0 (search rules) c.compare_exchange.ensures.2.3

@@ -1,14 +1,18 @@
-use Rattle.std.proofs.Common.{◌<◌, ℕ, arith, subst, sym}
+use Rattle.std.proofs.Common.{rules, ◌<◌, ℕ, arith, subst, sym}
 use Rattle.thread_table.specs.Rules.{MayStep}
 use Rattle.thread_table.proofs.Events.StateSteps.{counts_at}
+use Rattle.thread_table.proofs.Hands.Looks.{stood}
 use Rattle.thread_table.proofs.steps.load_done.Goals as goal
 
 pub load-requires : goal.load-requires
 load-requires g c = let v = c.args.seat.now.me.0 in let q = c.requires.queue in let place = c.done_word.ensures in let mine = c.requires.mine in (
   q.0,
   omega (arith, q.1, place.1),
-  counts_at _ _ _ _ _ _ (omega (arith, place.0, mine.2)) mine.0 (omega (arith, q.2, mine.2)) (subst (MayStep v) (sym mine.2) mine.1),
+  counts_at _ _ _ _ _ _ _ c.requires.deed (omega (arith, place.0, mine.2)) mine.0 (omega (arith, q.2, mine.2)) (subst (MayStep v) (sym mine.2) mine.1),
 )
 
 pub returns-clause-bounded : goal.returns-clause-bounded
 returns-clause-bounded g c = let mine = c.requires.mine in let found = c.load.ensures.2.1 in subst (λ (z : ℕ). z < 4294967296) (sym found.is) (found.sees.shows.few _ (omega (arith, c.requires.queue.2, mine.2)))
+
+pub returns-clause-stands : goal.returns-clause-stands
+returns-clause-stands g c = stood _ _ _ _ c.requires.deed (search rules) c.load.ensures.2.2

@@ -6,3 +6,6 @@ returns-clause-found c = found_at _ _ _ _ _ c.head_word.ensures.0 c.load.ensures
 
 pub returns-clause-head : goal.returns-clause-head
 returns-clause-head c = found_head _ _ _ _ c.requires.queue.2 (found_at _ _ _ _ _ c.head_word.ensures.0 c.load.ensures.2)
+
+pub returns-clause-stands : goal.returns-clause-stands
+returns-clause-stands c = c.load.ensures.3

@@ -9,3 +9,6 @@ returns-clause-found c = found_at _ _ _ _ _ c.place_word.ensures.0 c.load.ensure
 pub returns-clause-place : goal.returns-clause-place
 returns-clause-place c = let ring = c.args.ring in
     found_place _ _ _ _ c.requires.queue.2 (found_at _ _ _ _ _ (c.place_word.ensures.0 ∙ ap (λ (z : ℕ). place_word ring z) c.requires.tail) c.load.ensures.2)
+
+pub returns-clause-stands : goal.returns-clause-stands
+returns-clause-stands c = c.load.ensures.3

@@ -7,3 +7,6 @@ returns-clause-found c = found_at _ _ _ _ _ c.state_word.ensures.0 c.load.ensure
 
 pub returns-clause-state : goal.returns-clause-state
 returns-clause-state c = state_found _ _ _ _ c.requires.queue.2 (found_at _ _ _ _ _ c.state_word.ensures.0 c.load.ensures.2)
+
+pub returns-clause-stands : goal.returns-clause-stands
+returns-clause-stands c = c.load.ensures.3

@@ -14,3 +14,6 @@ returns-clause-tail c = let head = c.head_word.ensures.0 in let here : c.head_wo
 pub returns-clause-bounded : goal.returns-clause-bounded
 returns-clause-bounded c = let head = c.head_word.ensures.0 in let here : c.head_word.result + 1 ≡ tail_word c.args.ring = omega arith in
     let f = found_at _ _ _ _ _ here c.load.ensures.2 in let tail = found_tail _ _ _ _ c.requires.queue.2 f in let bounded = small_tail c.args.seat.now.me.0 c.load.new.seat.me.0 c.args.ring c.requires.queue.2 f.sees in omega arith
+
+pub returns-clause-stands : goal.returns-clause-stands
+returns-clause-stands c = c.load.ensures.3

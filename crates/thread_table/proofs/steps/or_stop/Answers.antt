@@ -1,5 +1,6 @@
-use Rattle.std.proofs.Common.{arith}
+use Rattle.std.proofs.Common.{rules, arith}
 use Rattle.thread_table.proofs.Events.StateSteps.{stops_state}
+use Rattle.thread_table.proofs.Hands.Looks.{stood}
 use Rattle.thread_table.proofs.steps.or_stop.Goals as goal
 
 pub fetch_or-requires : goal.fetch_or-requires
@@ -8,3 +9,6 @@ fetch_or-requires g c = let q = c.requires.queue in let place = c.state_word.ens
   omega (arith, q.1, place.1),
   stops_state _ _ _ _ _ _ _ deed.0 (omega (arith, place.0, deed.1)) c.requires.mine.0 c.requires.mine.1 (omega (arith, deed.1, q.2)),
 )
+
+pub returns-clause-stands : goal.returns-clause-stands
+returns-clause-stands g c = stood _ _ _ _ c.requires.deed.0 (search rules) c.fetch_or.ensures.2.2

@@ -1,8 +1,10 @@
-use Rattle.std.proofs.Common.{rules, List, Bool, sym, subst}
+use Rattle.std.proofs.Common.{rules, ◌≡◌, ℕ, List, Bool, sym, subst}
+use Rattle.std.proofs.Math.Logic.{∥∥₁_map}
 use Rattle.atomic_table.specs.Table.{Splits}
-use Rattle.thread_table.specs.Rules.{Rule}
+use Rattle.thread_table.specs.Own.{View}
+use Rattle.thread_table.specs.Rules.{Rule, HasStood}
 use Rattle.thread_table.specs.Steps.{rest_of, newborn}
-use Rattle.thread_table.proofs.Hands.SplitSteps.{splits}
+use Rattle.thread_table.proofs.Hands.SplitSteps.{splits, rest_stands, born_stands}
 use Rattle.thread_table.proofs.steps.split_off.Goals as goal
 
 pub split_seat-requires : goal.split_seat-requires
@@ -12,3 +14,10 @@ split_seat-requires g c = (
   subst (λ (m : List Bool). Splits (Rule c.args.words.now.key) c.args.seat.now.id c.args.seat.now.me.0 (rest_of m c.args.seat.now.me.0) (newborn m c.args.seat.now.me.0)) (sym c.requires.mask.0)
       (splits c.args.words.now.key c.args.seat.now.id c.args.seat.now.me.0 c.args.mask.now c.requires.live c.told-mask c.requires.mask.1),
 )
+
+pub returns-clause-stands : goal.returns-clause-stands
+returns-clause-stands g c = let v : View = c.args.seat.now.me.0 in let m : List Bool = c.args.mask.now in
+    let left : c.split_seat.new.seat.me.0 ≡ rest_of m v = search rules in let right : c.split_seat.result.me.0 ≡ newborn m v = search rules in let id : c.split_seat.new.seat.id ≡ c.args.seat.now.id = search rules in (
+      ∥∥₁_map c.requires.stands (λ h. subst (λ (n : ℕ). HasStood n c.split_seat.new.seat.me.0) (sym id) (subst (HasStood c.args.seat.now.id) (sym left) (rest_stands c.args.seat.now.id v m c.requires.mask.1 h))),
+      ∣ subst (HasStood c.split_seat.result.id) (sym right) (born_stands c.split_seat.result.id v m) ∣₁,
+    )

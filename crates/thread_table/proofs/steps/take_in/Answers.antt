@@ -1,5 +1,5 @@
 use Rattle.std.proofs.Common.{rules, sym, subst, set}
-use Rattle.thread_table.specs.declared.rule.View.{View}
+use Rattle.thread_table.specs.Own.{View}
 use Rattle.thread_table.specs.Rules.{Rule}
 use Rattle.thread_table.specs.Steps.{both}
 use Rattle.thread_table.proofs.Hands.JoinSteps.{joins}

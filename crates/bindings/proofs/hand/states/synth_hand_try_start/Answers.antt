@@ -8,7 +8,7 @@ use Rattle.bindings.proofs.hand.states.synth_hand_try_start.Goals as goal
 
 pub tell_start-requires : goal.tell_start-requires
 tell_start-requires c = let x = c.deref_mut.result.now in let a = c.try_start-answer in let e = c.in-Some-element_of in let is = e.ensures.0 in let below = e.ensures.1 in
-    fit_start (call_of x.hand) e.element (view_of x.hand) (view_of a.new.self.hand) a.result (omega arith) a.ensures.1
+    fit_start (call_of x.hand) e.element (view_of x.hand) (view_of a.new.self.hand) a.result (omega arith) a.new.self.hand.told a.ensures.1
 
 pub returns-clause-started : goal.returns-clause-started
 returns-clause-started c = let a = c.try_start-answer in let y = a.new.self in let t = c.tell_start in let e = c.in-Some-element_of in

@@ -8,7 +8,7 @@ use Rattle.bindings.proofs.hand.takings.synth_hand_try_free.Goals as goal
 
 pub tell_taking-requires : goal.tell_taking-requires
 tell_taking-requires c = let x = c.deref_mut.result.now in let a = c.try_free-answer in
-    fit_taking (call_of x.hand) 1 (view_of x.hand) (view_of a.new.self.hand) a.result (omega arith) a.ensures.1
+    fit_taking (call_of x.hand) 1 (view_of x.hand) (view_of a.new.self.hand) a.result (omega arith) a.new.self.hand.told a.ensures.1
 
 pub returns-clause-taken : goal.returns-clause-taken
 returns-clause-taken c = let a = c.try_free-answer in let y = a.new.self in let t = c.tell_taking in

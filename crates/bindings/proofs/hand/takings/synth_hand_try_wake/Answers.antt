@@ -8,7 +8,7 @@ use Rattle.bindings.proofs.hand.takings.synth_hand_try_wake.Goals as goal
 
 pub tell_taking-requires : goal.tell_taking-requires
 tell_taking-requires c = let x = c.deref_mut.result.now in let a = c.try_wake-answer in let m = c.in-Some-wait_of in let is = m.ensures.0 in let below = m.ensures.1 in
-    fit_taking (call_of x.hand) (m.wait + 2) (view_of x.hand) (view_of a.new.self.hand) a.result (omega arith) a.ensures.1
+    fit_taking (call_of x.hand) (m.wait + 2) (view_of x.hand) (view_of a.new.self.hand) a.result (omega arith) a.new.self.hand.told a.ensures.1
 
 pub returns-clause-taken : goal.returns-clause-taken
 returns-clause-taken c = let a = c.try_wake-answer in let y = a.new.self in let t = c.tell_taking in let m = c.in-Some-wait_of in

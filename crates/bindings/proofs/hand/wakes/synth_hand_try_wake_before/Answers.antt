@@ -8,7 +8,7 @@ use Rattle.bindings.proofs.hand.wakes.synth_hand_try_wake_before.Goals as goal
 
 pub tell_before-requires : goal.tell_before-requires
 tell_before-requires c = let x = c.deref_mut.result.now in let a = c.try_wake_before-answer in let m = c.in-Some-wait_of in let is = m.ensures.0 in let below = m.ensures.1 in
-    fit_before (call_of x.hand) (m.wait + 2) c.args.head (view_of x.hand) (view_of a.new.self.hand) a.result (omega arith) a.ensures.1
+    fit_before (call_of x.hand) (m.wait + 2) c.args.head (view_of x.hand) (view_of a.new.self.hand) a.result (omega arith) a.new.self.hand.told a.ensures.1
 
 pub returns-clause-taken : goal.returns-clause-taken
 returns-clause-taken c = let a = c.try_wake_before-answer in let y = a.new.self in let t = c.tell_before in let m = c.in-Some-wait_of in

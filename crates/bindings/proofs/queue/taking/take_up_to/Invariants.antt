@@ -1,5 +1,5 @@
 use Rattle.std.proofs.Common.{take}
-use Rattle.claim_queue.specs.Handles.{IsSameEnd, view_of, call_of}
+use Rattle.claim_queue.specs.Handles.{IsSameEnd, view_of}
 use Rattle.bindings.specs.QueueTaking.{TookEach, IsKeptFrom}
 use Rattle.bindings.proofs.queue.taking.take_up_to.Given as goal
 
@@ -7,5 +7,5 @@ abbrev pub invariant-loop-i : goal.invariant-loop-i
 invariant-loop-i g l = record {
   same : IsSameEnd l.initial.end l.end;
   kept : IsKeptFrom l.i l.initial.out l.out;
-  took : TookEach g.row.N (call_of l.initial.end) (view_of l.initial.end) (take l.i l.out) (view_of l.end);
+  took : TookEach g.row.N (view_of l.initial.end) (take l.i l.out) (view_of l.end);
 }

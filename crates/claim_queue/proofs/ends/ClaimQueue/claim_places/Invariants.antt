@@ -1,4 +1,4 @@
 use Rattle.claim_queue.proofs.ends.ClaimQueue.claim_places.Given as goal
 
 abbrev pub ghosts-exchange_head : goal.ghosts-exchange_head
-ghosts-exchange_head g a = record { call = a.seat.now.id; items = a.items.now }
+ghosts-exchange_head g a = record { items = a.items.now }

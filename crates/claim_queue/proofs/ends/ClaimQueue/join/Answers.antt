@@ -1,12 +1,15 @@
-use Rattle.std.proofs.Common.{rules}
-use Rattle.std.proofs.Common.{ap, ◌∙◌}
-use Rattle.claim_queue.specs.declared.rule.View.{View}
-use Rattle.claim_queue.proofs.Raising.{owns_more, owns_behind}
+use Rattle.std.proofs.Common.{ap}
+use Rattle.table_theory.proofs.Parting.{took_in}
+use Rattle.claim_queue.specs.Layout.{ends_word}
+use Rattle.claim_queue.specs.Own.{nothing_did, did_both}
+use Rattle.claim_queue.proofs.Lining.{joined_lines, joined_claims}
 use Rattle.claim_queue.proofs.ends.ClaimQueue.join.Goals as goal
 
-pub invariant_of-end : goal.invariant_of-end
-invariant_of-end g c = record { room = search rules; bare = search rules; one = search rules; distinct = c.count_down.ensures.counted.distinct }
+pub returns-clause-steps : goal.returns-clause-steps
+returns-clause-steps g c = took_in nothing_did did_both ends_word _ _ _ _ c.args.end.now.one c.args.other.one (ap (λ z. z.0) c.take_in.ensures.joined) c.count_down.ensures.counted.0
+
+pub returns-clause-lines : goal.returns-clause-lines
+returns-clause-lines g c = joined_lines c.args.end.now.seat.me.0 c.args.other.seat.me.0 c.count_down.new.seat.me.0 (took_in nothing_did did_both ends_word _ _ _ _ c.args.end.now.one c.args.other.one (ap (λ z. z.0) c.take_in.ensures.joined) c.count_down.ensures.counted.0)
 
 pub returns-clause-claims : goal.returns-clause-claims
-returns-clause-claims g c = let t = c.count_down.ensures.counted in let joined = c.take_in.ensures.joined in
-    (owns_more c.args.end.now.seat.me.0 c.count_down.new.seat.me.0 c.args.other.seat.me.0.part.runs (ap (λ (z : View). z.part.runs) t.same ∙ ap (λ z. z.0.part.runs) joined), owns_behind c.args.other.seat.me.0 c.count_down.new.seat.me.0 c.args.end.now.seat.me.0.part.runs (ap (λ (z : View). z.part.runs) t.same ∙ ap (λ z. z.0.part.runs) joined) t.distinct)
+returns-clause-claims g c = joined_claims c.args.end.now.seat.me.0 c.args.other.seat.me.0 c.count_down.new.seat.me.0 (took_in nothing_did did_both ends_word _ _ _ _ c.args.end.now.one c.args.other.one (ap (λ z. z.0) c.take_in.ensures.joined) c.count_down.ensures.counted.0) c.count_down.ensures.counted.1

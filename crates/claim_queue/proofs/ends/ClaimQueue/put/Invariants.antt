@@ -1,6 +1,5 @@
-use Rattle.std.proofs.Common.{ℕ, List, length}
-use Rattle.claim_queue.specs.Claims.{KeepsClaims}
-use Rattle.claim_queue.specs.Puts.{Tries}
+use Rattle.std.proofs.Common.{◌≡◌, ◌<◌, ◌≤◌, true, length}
+use Rattle.claim_queue.proofs.Putting.{Tried}
 use Rattle.table_theory.specs.Seating.{IsSame}
 use Rattle.claim_queue.proofs.ends.ClaimQueue.put.Given as goal
 
@@ -8,6 +7,6 @@ abbrev pub invariant-loop : goal.invariant-loop
 invariant-loop g l = record {
   steps : (goal.iterator-loop g).can_next l.iterator' × (goal.iterator-loop g).is_finite l.iterator';
   same : IsSame l.initial.end.seat l.end.seat;
-  tried : (lost : List ℕ) × Tries g.row.N l.initial.end.seat.me.0 (length l.items) lost l.end.seat.me.0;
-  others : KeepsClaims l.initial.end.seat.me.0 l.end.seat.me.0;
+  tried : Tried g.row.N (length l.items) l.initial.end.seat.me.0 l.end.seat.me.0;
+  shut : l.initial.end.seat.me.0.seen.object.shut ≡ true → 0 < length l.items → length l.items ≤ g.row.N → l.end.seat.me.0.seen.object.shut ≡ true;
 }

@@ -8,5 +8,5 @@ invariant-loop-i g l = record {
   same : IsSame l.initial.end.seat l.end.seat;
   own : Owns l.end.seat.me.0 l.start l.items l.i;
   others : KeepsOthers l.start l.initial.end.seat.me.0 l.end.seat.me.0;
-  steps : RaisedFrom g.row.N l.initial.end.seat.id l.start l.items l.initial.end.seat.me.0 l.end.seat.me.0 l.i;
+  steps : RaisedFrom g.row.N l.start l.items l.initial.end.seat.me.0 l.end.seat.me.0 l.i;
 }

@@ -22,14 +22,14 @@ returns-clause-adds g c =
     let n = view_of c.count-counted.new.hand in
     let o = view_of c.take_off-element.new.hand in
     let w = view_of c.make_ready.new.hand in
-    let sent : OnlyAdds (one_signal e c.args.signal) b s = signal_only (call_of c.put_on.new.hand) e c.args.signal c.signal.result b s c.put_on.new.hand.fresh c.signal.ensures.signalled in
+    let sent : OnlyAdds (one_signal e c.args.signal) b s = signal_only (call_of c.put_on.new.hand) e c.args.signal c.signal.result b s c.put_on.new.hand.fresh c.put_on.new.hand.told c.signal.new.hand.told c.signal.ensures.signalled in
     let on : IsOn c.args.p e b = c.put_on.ensures.there in
     let on' : IsOn c.args.p e s = still_on c.args.p e b s sent.keeps on in
     let on'' : IsOn c.args.p e k = still_on c.args.p e s k c.wake.ensures.keeps on' in
     let may : MayStep b e = inr (c.args.p, on.0, on.1) in
     let may' : MayStep s e = inr (c.args.p, on'.0, on'.1) in
     let may'' : MayStep k e = inr (c.args.p, on''.0, on''.1) in
-    let number : done_at k.schedule e ≡ c.in-Ok.begun.number =
+    let number : done_at k.seen.object e ≡ c.in-Ok.begun.number =
     c.wake.ensures.steady e low may' may'' ∙ (sent.steady e low may may' ∙ (c.put_on.ensures.steady e low (inl c.in-Ok.ensures.held) may ∙ sym c.in-Ok.ensures.number)) in
     let one : Tally = one_delivery e (mask_of c.in-Ok.begun.delivered) in
     let two : Tally = one_signal e c.args.signal in

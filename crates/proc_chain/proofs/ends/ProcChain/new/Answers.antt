@@ -1,9 +1,10 @@
-use Rattle.std.proofs.Common.{refl, ap, subst, sym, ◌∙◌, List, [], ◌∷◌, ◌++◌, length}
+use Rattle.std.proofs.Common.{refl, ap, true≢false, subst, sym, ◌∙◌, List, [], ◌∷◌, ◌++◌, length}
 use Rattle.atomic_table.specs.Table.{Me}
-use Rattle.proc_chain.specs.Rules.{suits, makes}
 use Rattle.proc_chain.specs.declared.rule.Shape.{Shape}
-use Rattle.proc_chain.specs.declared.rule.View.{View}
-use Rattle.proc_chain.proofs.Linking.{slot_down, of_newcomer}
+use Rattle.proc_chain.specs.Own.{View}
+use Rattle.proc_chain.specs.Rules.{suits, makes}
+use Rattle.proc_chain.proofs.Finding.{slot_down}
+use Rattle.proc_chain.proofs.Opening.{of_newcomer}
 use Rattle.proc_chain.proofs.Tallying.{opens_new}
 use Rattle.proc_chain.proofs.ends.ProcChain.new.Goals as goal
 
@@ -13,19 +14,21 @@ new-requires g c = opens_new (makes g.Q.Quaject.made_by) (suits g.Q.Quaject.fits
 
 pub invariant_of-result-in-Ok : goal.invariant_of-result-in-Ok
 invariant_of-result-in-Ok g c = let is = ap (λ (z : Me _ View). z.0) c.in-Ok.ensures.ok.4 in let n = of_newcomer _ _ is c.ranges.first.fits in record {
-  room = ap (λ (z : View). z.part.queue.room) is;
+  room = ap (λ (z : View). z.seen.object.queue.room) is;
   one = ap (λ (z : View). z.member.ends) is;
-  turned = ap (λ (z : View). z.runner) is;
-  settled = ap (λ (z : View). z.owes) is;
+  turned = ap (λ (z : View). z.own.runner) is;
+  counts = λ r. absurd (true≢false (sym r ∙ ap (λ (z : View). z.own.runner) is));
+  settled = ap (λ (z : View). z.own.owes) is;
   behind = n.0;
   bounded = n.1;
   distinct = n.2;
   raised = n.3;
+  told = ∣ n.4 ∣₁;
 }
 
 pub returns-in-Ok-clause-ok : goal.returns-in-Ok-clause-ok
 returns-in-Ok-clause-ok g c = let ok = c.in-Ok.ensures.ok in let is = ap (λ (z : Me _ View). z.0) ok.4 in (
-  (ok.2, slot_down (makes g.Q.Quaject.made_by c.in-Ok.table.shared.key.pact) (suits g.Q.Quaject.fits c.in-Ok.table.shared.key.pact) c.in-Ok.seat.me (ap (λ (z : View). z.runner) is) (ap (λ (z : Me _ View). z.1) ok.4)),
+  (ok.2, slot_down (makes g.Q.Quaject.made_by c.in-Ok.table.shared.key.pact) (suits g.Q.Quaject.fits c.in-Ok.table.shared.key.pact) c.in-Ok.seat.me (ap (λ (z : View). z.own.runner) is) (ap (λ (z : Me _ View). z.1) ok.4)),
   refl,
   ap (λ (z : Shape _). z.pact.world.value) ok.5 ∙ c.of.ensures,
   ap (λ (z : Shape _). z.pact.opening.value) ok.5 ∙ c.of-2.ensures,

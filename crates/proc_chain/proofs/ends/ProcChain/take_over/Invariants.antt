@@ -1,5 +1,6 @@
-use Rattle.proc_chain.specs.Steps.{emptied}
+use Rattle.table_theory.specs.Ledgers.{emptied}
+use Rattle.proc_chain.specs.Own.{nothing_did}
 use Rattle.proc_chain.proofs.ends.ProcChain.take_over.Given as goal
 
 abbrev pub ghosts-take_in : goal.ghosts-take_in
-ghosts-take_in g a = record { view = emptied a.seat.now.me.0 }
+ghosts-take_in g a = record { view = emptied nothing_did a.seat.now.me.0 }

@@ -2,10 +2,7 @@ use Rattle.proc_chain.specs.Rules.{suits, makes}
 use Rattle.proc_chain.proofs.ends.ProcChain.try_chain.Given as goal
 
 abbrev pub ghosts-exchange_head : goal.ghosts-exchange_head
-ghosts-exchange_head g a = record { call = a.seat.now.id; note = a.note }
-
-abbrev pub ghosts-store_place : goal.ghosts-store_place
-ghosts-store_place g a = record { call = a.seat.now.id }
+ghosts-exchange_head g a = record { note = a.note }
 
 abbrev pub ghosts-swap_more : goal.ghosts-swap_more
-ghosts-swap_more g a = record { call = a.seat.now.id; made = makes g.Q.Quaject.made_by a.words.now.key.pact; suits = suits g.Q.Quaject.fits a.words.now.key.pact }
+ghosts-swap_more g a = record { made = makes g.Q.Quaject.made_by a.words.now.key.pact; suits = suits g.Q.Quaject.fits a.words.now.key.pact }

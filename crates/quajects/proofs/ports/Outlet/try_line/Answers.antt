@@ -12,7 +12,7 @@ invariant_of-self g c = let t = put_answered _ _ _ _ _ c.is_ok-put.ensures.value
 }
 
 pub returns-then-put-clause-same : goal.returns-then-put-clause-same
-returns-then-put-clause-same g c = put_post _ _ c.args.self.now.end c.try_put.new.end _ _ _ refl c.try_put.ensures.queue c.try_put.ensures.put c.try_put.ensures.lines
+returns-then-put-clause-same g c = put_post _ _ c.args.self.now.end c.try_put.new.end _ _ refl c.try_put.ensures.same c.try_put.ensures.steps
 
 pub returns-else-put-clause-same : goal.returns-else-put-clause-same
-returns-else-put-clause-same g c = put_post _ _ c.args.self.now.end c.try_put.new.end _ _ _ refl c.try_put.ensures.queue c.try_put.ensures.put c.try_put.ensures.lines
+returns-else-put-clause-same g c = put_post _ _ c.args.self.now.end c.try_put.new.end _ _ refl c.try_put.ensures.same c.try_put.ensures.steps

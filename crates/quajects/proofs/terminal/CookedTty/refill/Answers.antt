@@ -20,4 +20,4 @@ pub returns-clause-tried : goal.returns-clause-tried
 returns-clause-tried c =
     let h = c.if-not-is_empty.false in
     let none : c.args.self.now.held.items ≡ [] = search (rules, no_items) in
-    cooked_raw _ _ _ _ _ c.try_line.new.line.items c.try_line.result none c.if-not-try_line.false (c.cooked_line-self.ensures ∙ ap cooked c.as_slice.ensures.value) c.try_line.ensures.tried
+    cooked_raw _ _ _ _ c.try_line.new.line.items c.try_line.result none c.if-not-try_line.false (c.cooked_line-self.ensures ∙ ap cooked c.as_slice.ensures.value) c.try_line.ensures.tried

@@ -9,7 +9,7 @@ pub returns-then-ends-ne1-clause-open : goal.returns-then-ends-ne1-clause-open
 returns-then-ends-ne1-clause-open c = (refl, search rules, were_open _ _ _ _ c.count-ends.ensures.tallied c.if-ends-ne1.true (search rules))
 
 pub returns-then-ends-ne1-clause-only : goal.returns-then-ends-ne1-clause-only
-returns-then-ends-ne1-clause-only c = λ whole. c.if-ends-ne1.true (c.count-ends.ensures.tallied.member.count.whole whole)
+returns-then-ends-ne1-clause-only c = λ whole. c.if-ends-ne1.true (c.count-ends.ensures.tallied.count.whole whole)
 
 pub returns-clause-closed : goal.returns-clause-closed
 returns-clause-closed c = let key = c.args.self.table.shared.key in let ws = slots_items c.close_with-closed.result.words in let xs = slots_items c.close_with-closed.result.slots in let w = c.count-ends.new.seat.me.0 in

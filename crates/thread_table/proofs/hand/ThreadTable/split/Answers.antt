@@ -1,5 +1,5 @@
 use Rattle.std.proofs.Common.{ℕ, List, Bool, sym, ap, subst}
-use Rattle.thread_table.specs.declared.rule.View.{View}
+use Rattle.thread_table.specs.Own.{View}
 use Rattle.thread_table.specs.Endings.{Divided, IsNewborn}
 use Rattle.thread_table.specs.Steps.{rest_of}
 use Rattle.thread_table.proofs.Hands.AfterSplits.{divided, born}

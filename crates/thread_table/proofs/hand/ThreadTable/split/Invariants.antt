@@ -3,3 +3,6 @@ use Rattle.thread_table.proofs.hand.ThreadTable.split.Given as goal
 -- the new hand serves the processors of the mask
 abbrev pub ghosts-split_off : goal.ghosts-split_off
 ghosts-split_off a = record { mask = a.mask.now }
+
+abbrev pub ghosts-count_up : goal.ghosts-count_up
+ghosts-count_up a = record { call = a.seat.now.id; at = 0; element = 0; number = 0 }

@@ -6,4 +6,4 @@ use Rattle.thread_table.proofs.hand.ThreadTable.ticket.Goals as goal
 
 pub returns-clause-ticket : goal.returns-clause-ticket
 returns-clause-ticket c = let q = c.number.ensures in let known : c.args.wait < WAITS = search rules in let ring : c.wait_ring.result ≡ wait_ring c.args.wait = c.wait_ring.ensures.0 ∙ ap (λ (n : ℕ). n + 2) q.value in
-    is_ticket _ _ c.args.wait _ c.of.result.head c.of.result.mark known (found_in ring c.load_head.ensures.found) c.of.ensures.0 c.of.ensures.1
+    is_ticket _ _ c.args.wait _ c.of.result.head c.of.result.mark (found_in ring c.load_head.ensures.found) c.of.ensures.0 c.of.ensures.1

@@ -2,7 +2,7 @@ use Rattle.std.proofs.Common.{ℕ, List, [], ◌∷◌, zero, suc, refl, ap, ari
 use Rattle.std.specs.List.{All, AllZip}
 use Rattle.claim_queue.specs.declared.ends.ClaimQueue.{ClaimQueue}
 use Rattle.claim_queue.specs.declared.ends.QueueEnd.{QueueEnd}
-use Rattle.claim_queue.specs.declared.rule.View.{View}
+use Rattle.claim_queue.specs.Own.{View}
 use Rattle.quajects.specs.Worlds.{IsFresh}
 use Rattle.end_steps.specs.EndLists.{AreEndsOf, IsDivisible}
 use Rattle.turn_tests.proofs.turns.stands.fresh_queues.Goals as goal

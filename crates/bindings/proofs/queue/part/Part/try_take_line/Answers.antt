@@ -1,23 +1,23 @@
 use Rattle.std.proofs.Common.{rules, ◌∙◌, sym}
-use Rattle.claim_queue.specs.Handles.{view_of, call_of}
+use Rattle.claim_queue.specs.Handles.{view_of}
 use Rattle.bindings.proofs.QueueEnds.{line_keeps, still_raised}
 use Rattle.bindings.proofs.Buffers.{line_filled}
 use Rattle.bindings.proofs.queue.part.Part.try_take_line.Goals as goal
 
 pub invariant_of-self-clause-raised : goal.invariant_of-self-clause-raised
 invariant_of-self-clause-raised g c = let x = c.args.self.now in let t = c.try_take_line in
-    still_raised (line_keeps g.row.N (call_of x.end) (view_of x.end) (view_of t.new.end) t.new.line.items t.result t.ensures.taken) x.raised
+    still_raised (line_keeps g.row.N (view_of x.end) (view_of t.new.end) t.new.line.items t.result t.ensures.steps) x.raised
 
 pub invariant_of-self-in-Err-1 : goal.invariant_of-self-in-Err-1
 invariant_of-self-in-Err-1 g c = let x = c.args.self.now in let t = c.try_take_line in
-    let k = line_keeps g.row.N (call_of x.end) (view_of x.end) (view_of t.new.end) t.new.line.items t.result t.ensures.taken in record {
-      own = t.ensures.queue.0 ∙ x.own;
+    let k = line_keeps g.row.N (view_of x.end) (view_of t.new.end) t.new.line.items t.result t.ensures.steps in record {
+      own = t.ensures.same.0 ∙ x.own;
       known = x.known ∙ sym k.share;
       raised = still_raised k x.raised;
-      blank = c.in-Err.ensures.taken.0;
+      blank = c.in-Err.ensures.line;
     }
 
 pub returns-in-Ok : goal.returns-in-Ok
-returns-in-Ok g c = let x = c.args.self.now in let t = c.try_take_line in let l = t.new.line.items in let d = c.in-Ok.ensures.taken in
-    let f = line_filled g.row.N (call_of x.end) (view_of x.end) (view_of t.new.end) c.in-Ok.taken l c.args.out.now c.copy_line.new.out d.0 (search rules) (search rules) (search rules) d.1 d.2 in
+returns-in-Ok g c = let x = c.args.self.now in let t = c.try_take_line in let l = t.new.line.items in let d = c.in-Ok.ensures.line in
+    let f = line_filled g.row.N (view_of x.end) (view_of t.new.end) c.in-Ok.taken l c.args.out.now c.copy_line.new.out d.0 (search rules) (search rules) (search rules) d.1 c.in-Ok.ensures.steps in
     (search rules, f)

@@ -3,7 +3,7 @@ use Rattle.std.proofs.Common.{rules, ◌≡◌, ◌∙◌, suc, List, [], ◌∷
 use Rattle.std.proofs.lemmas.List.{append-nil, map-append}
 use Rattle.claim_queue.specs.declared.ends.ClaimQueue.{ClaimQueue}
 use Rattle.claim_queue.specs.declared.ends.QueueEnd.{QueueEnd}
-use Rattle.claim_queue.specs.declared.rule.View.{View}
+use Rattle.claim_queue.specs.Own.{View}
 use Rattle.claim_queue.specs.Handles.{view_of, IsEndOf}
 use Rattle.spooler.specs.Doings.{HasPut}
 use Rattle.spooler.specs.Ends.{AreEndsOf, Gathered}
@@ -48,11 +48,11 @@ loop-end-preserved g c =
     let steps : array_into_iter_items at.end-iterator ≡ x ∷ array_into_iter_items c.next.new.self = c.in-Some.ensures.steps in
     let v : View = view_of c.captures.last in
     let z : View = view_of c.join.new.end in record {
-      mine = c.join.ensures.queue.0 ∙ i.mine;
+      mine = c.join.ensures.same.0 ∙ i.mine;
       theirs = behind c.captures.shared.now _ _ x steps i.theirs;
       all = append_assoc at.yielded (x ∷ []) (array_into_iter_items c.next.new.self) ∙ (ap (λ (l : List End). at.yielded ++ l) (sym steps) ∙ i.all);
       gathered = subst (λ (us : List View). Gathered v us z) (sym (map-append view_of at.yielded (x ∷ [])))
-          (gathered_more v (view_of at.last) (view_of x) z (map view_of at.yielded) i.gathered c.join.ensures.joined);
+          (gathered_more v (view_of at.last) (view_of x) z (map view_of at.yielded) i.gathered c.join.ensures.steps);
     }
 
 pub shut-was_open-requires : goal.shut-was_open-requires
@@ -71,8 +71,8 @@ returns g c =
     let all : at.yielded ≡ backs = sym (append-nil at.yielded) ∙ (ap (λ (l : List End). at.yielded ++ l) (sym empty) ∙ (i.all ∙ gives.0)) in
     let v : View = view_of c.captures.last in
     let z : View = view_of c.shut-was_open.new.end in
-    let same = c.shut-was_open.ensures.shut.shut.same in (
-      c.shut-was_open.ensures.queue.0 ∙ i.mine,
+    let same = c.shut-was_open.ensures.steps.3 in (
+      c.shut-was_open.ensures.same.0 ∙ i.mine,
       record {
         backs = map view_of backs;
         puts = puts_each c.captures.jobs.now c.captures.ends backs (jobs ∙ sym ends) (long ∙ sym ends)
@@ -80,6 +80,6 @@ returns g c =
             subst (λ (x : End). HasPut lines (view_of x) (view_of (get_or backs k d))) call.argument_is
             (subst (λ (x : End). HasPut lines (view_of call.argument.now) (view_of x)) call.left (call.call.1 j)));
         gathered = subst (λ (l : List End). Gathered v (map view_of l) z) all
-            (gathered_same v (view_of at.last) z (map view_of at.yielded) i.gathered (ap (λ (x : View). x.part.runs) same) (ap (λ (x : View). x.part.takes) same) (ap (λ (x : View). x.member.share) same));
+            (gathered_same v (view_of at.last) z (map view_of at.yielded) i.gathered (λ k. (same.did k).runs) (λ k. (same.did k).takes) (λ k. (same.member k).share));
       },
     )

@@ -1,0 +1,62 @@
+-- What is an end's own: its runs, what it took, and how often it shut the queue.
+use Rattle.std.specs.Prelude.{◌≡◌, ℕ, ◌+◌, Bool, if◌then◌else◌, List, [], ◌∷◌, ◌++◌, map, take, drop, slice_set}
+use Rattle.table_theory.specs.declared.queues.Batch.{Batch}
+use Rattle.table_theory.specs.declared.queues.Positions.{Positions}
+use Rattle.table_theory.specs.declared.queues.QueueView.{QueueView}
+use Rattle.table_theory.specs.declared.views.Ledger.{Ledger}
+use Rattle.table_theory.specs.Ledgers.{Step, Subject, Made}
+use Rattle.table_theory.specs.Listing.{number_of}
+use Rattle.table_theory.specs.Positioned.{Lawful, fresh, tail_of}
+use Rattle.claim_queue.specs.declared.rule.Did.{Did}
+use Rattle.claim_queue.specs.Changes.{Becomes}
+use Rattle.claim_queue.specs.Layout.{ends_word}
+use Rattle.claim_queue.specs.Shown.{WordsShow}
+
+-- what an end of a queue knows
+abbrev pub View : Type 0
+View = Ledger Did Positions
+
+-- what an end did that did nothing
+abbrev pub nothing_did : Did
+nothing_did = record { runs = []; takes = []; shuts = 0 }
+
+-- what two ends did
+abbrev pub did_both : Did → Did → Did
+did_both d e = record { runs = d.runs ++ e.runs; takes = d.takes ++ e.takes; shuts = d.shuts + e.shuts }
+
+-- what the table of a queue says of it
+abbrev pub of_queues : Subject Positions
+of_queues = record { ends_word = ends_word; Shows = WordsShow; IsLawful = Lawful; Happens = Becomes }
+
+-- the end as the theory of queues has it: its runs and takings, and the queue that it has seen
+abbrev pub part_of : View → QueueView
+part_of v = record { queue = v.seen.object; joined = v.seen.object; runs = v.own.runs; takes = v.own.takes }
+
+-- a run of which nothing is raised
+abbrev pub run : ℕ → List ℕ → Batch
+run head items = record { start = head; places = map fresh items }
+
+-- what a taking of n takes
+abbrev pub taking : Positions → ℕ → Batch
+taking q n = record { start = tail_of q; places = take n (drop q.taken q.places) }
+
+-- one run more was claimed
+abbrev pub with_run : Did → Batch → Did
+with_run d e = record d { runs = d.runs ++ e ∷ [] }
+
+-- the run with this start is now so
+abbrev pub with_changed : Did → Batch → Did
+with_changed d e = record d { runs = slice_set d.runs (number_of e.start d.runs) e }
+
+-- one stretch more was taken
+abbrev pub with_taking : Did → Batch → Did
+with_taking d e = record d { takes = d.takes ++ e ∷ [] }
+
+-- a shut counts where the queue was open
+abbrev pub with_shutting : Did → Bool → Did
+with_shutting d was_open = record d { shuts = d.shuts + (if was_open then 1 else 0) }
+
+-- the end made these steps, and did nothing but look; where it made none, all is as it was
+abbrev pub Looks : View → List (Step Positions) → View → Type 0
+Looks v [] w = w ≡ v
+Looks v (step ∷ steps) w = Made v (step ∷ steps) v.own w

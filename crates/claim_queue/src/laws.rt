@@ -1,0 +1,164 @@
+//! What an end lists is true, and each change is an event of the core: statements over plain data.
+
+ghost use Rattle.std.specs.Prelude.{◌≡◌, ◌≢◌, ◌+◌, ◌-◌, ◌<◌, ◌≤◌, ◌⊎◌, ℕ, true, false, List, [], ◌∷◌, ◌++◌, length};
+ghost use Rattle.std.specs.Prelude.{slice_index_or, slice_set, Ok};
+ghost use Rattle.std.specs.List.{AllByRecursion};
+ghost use mathlib.Core.Option.{some};
+ghost use lib.ListN.{get_elem?};
+ghost use Rattle.event_theory.specs.Marks.{shut};
+ghost use Rattle.event_theory.specs.Queues.{claim, raise, take_first};
+ghost use Rattle.table_theory.specs.declared.positions.TheConstants.{POSITIONS};
+ghost use Rattle.table_theory.specs.declared.queues.Batch.{Batch};
+ghost use Rattle.table_theory.specs.declared.queues.Positions.{Positions};
+ghost use Rattle.table_theory.specs.declared.queues.QueueView.{QueueView};
+ghost use Rattle.table_theory.specs.declared.views.Moment.{Moment};
+ghost use Rattle.table_theory.specs.Ledgers.{Step, load, change, count_down, Adds, IsReal, IsHonest, Reaches, Passes};
+ghost use Rattle.table_theory.specs.Listing.{Later, ViewsShow, written_to};
+ghost use Rattle.table_theory.specs.Positioned.{Lawful, Grows, blank, fresh, item_at, written_at, head_of, tail_of};
+ghost use Rattle.table_theory.specs.Positioned.{with_claim, with_take, with_shut};
+ghost use Rattle.table_theory.specs.QueueOf.{IsEvent, no_event};
+ghost use Rattle.claim_queue.specs.declared.claim.ClaimRefusal.TheVariants as not_claimed;
+ghost use Rattle.claim_queue.specs.declared.ends.QueueEnd.{QueueEnd};
+ghost use Rattle.claim_queue.specs.declared.take.TakeRefusal.TheVariants as not_taken;
+ghost use Rattle.claim_queue.specs.Answers.{Refused};
+ghost use Rattle.claim_queue.specs.Changes.{Becomes, IsPlace, written};
+ghost use Rattle.claim_queue.specs.Endings.{TookIn};
+ghost use Rattle.claim_queue.specs.Handles.{view_of, IsOnlyEnd};
+ghost use Rattle.claim_queue.specs.Layout.{head_word, tail_word, ends_word, data_word, flag_word, mark};
+ghost use Rattle.claim_queue.specs.Own.{View, of_queues, part_of, run, taking};
+ghost use Rattle.claim_queue.specs.Takings.{RefusedTake, OfBoth, behind};
+
+/// What an end lists is true: each entry that a call adds is a real step. It found a lawful queue that the words
+/// showed, and the number in its word, and made one event of the core, or none. Real steps lead from what the end had
+/// seen to each of these entries, in their order, and the last of them left what the end sees then.
+pub fn lists_are_true()
+    ensures end { (n : ℕ) (end : QueueEnd n) → ∥ IsHonest of_queues (view_of end) ∥₁ }
+    ensures entries { (n : ℕ) (old : View) (new : QueueEnd n) (entries : List (Step Positions))
+        → Adds old entries (view_of new) → ∥ AllByRecursion (IsReal of_queues) entries ∥₁ }
+    ensures order { (n : ℕ) (old new : QueueEnd n) (entries : List (Step Positions))
+        → Adds (view_of old) entries (view_of new)
+        → ∥ Passes of_queues (view_of old).seen entries (view_of new).seen ∥₁ }
+    ensures since { (n : ℕ) (old new : QueueEnd n) (entries : List (Step Positions))
+        → Adds (view_of old) entries (view_of new) → ∥ Reaches of_queues (view_of old).seen (view_of new).seen ∥₁ }
+    ensures grows { (m n : Moment Positions) → Reaches of_queues m n → Grows m.object n.object }
+    ensures change { (e : Step Positions) → IsReal of_queues e
+        → (e.next.object ≡ e.then.object) ⊎ Becomes e.then.object e.next.object }
+    ensures lawful { (e : Step Positions) → IsReal of_queues e → Lawful e.next.object }
+{}
+
+/// The same of a join: real steps lead from what either end had seen to what the one sees then, and the entry of the
+/// step that counts one end less is real.
+pub fn joins_are_true()
+    ensures since { (n : ℕ) (old other new : QueueEnd n) → TookIn (view_of old) (view_of other) (view_of new)
+        → ∥ Reaches of_queues (view_of old).seen (view_of new).seen ∥₁
+        × ∥ Reaches of_queues (view_of other).seen (view_of new).seen ∥₁ }
+    ensures entry { (n : ℕ) (old other new : QueueEnd n) (t : TookIn (view_of old) (view_of other) (view_of new))
+        → ∥ IsReal of_queues (count_down ends_word t.found) ∥₁ }
+{}
+
+/// What an end has seen: a queue with as many places as its type says, which is shut for good, and which the views of
+/// all ends list, this end's among them. An end that has the whole lists it alone.
+pub fn ends_list_queues()
+    ensures room { (n : ℕ) (end : QueueEnd n) → ((view_of end).seen.object.room ≡ n) × (0 < n) }
+    ensures shut { (n : ℕ) (old new : QueueEnd n) (entries : List (Step Positions))
+        → Adds (view_of old) entries (view_of new)
+        → (view_of old).seen.object.shut ≡ true → (view_of new).seen.object.shut ≡ true }
+    ensures tail { (n : ℕ) (old new : QueueEnd n) (entries : List (Step Positions))
+        → Adds (view_of old) entries (view_of new)
+        → tail_of (view_of old).seen.object ≤ tail_of (view_of new).seen.object }
+    ensures listed { (n : ℕ) (end : QueueEnd n)
+        → ∥ ((views : List QueueView) × (seat : ℕ) × ViewsShow (view_of end).seen.object views
+        × (get_elem? views seat ≡ some (part_of (view_of end)))) ∥₁ }
+    ensures only { (n : ℕ) (end : QueueEnd n) → IsOnlyEnd end
+        → ∥ ViewsShow (view_of end).seen.object (part_of (view_of end) ∷ []) ∥₁ }
+{}
+
+/// What the number says that a step found: the number of ends, the head and the mark, the tail, whether a place is
+/// raised, or its item. The places from the tail on, as many as the queue has, are those that words show.
+pub fn numbers_say()
+    ensures ends { (found : ℕ) (m : Moment Positions) → IsReal of_queues (load ends_word found m) → found ≡ m.ends }
+    ensures head { (e : Step Positions) → e.word ≡ head_word → IsReal of_queues e
+        → (e.found ≡ head_of e.then.object + mark e.then.object.shut) × (head_of e.then.object < POSITIONS) }
+    ensures tail { (e : Step Positions) → e.word ≡ tail_word → IsReal of_queues e → e.found ≡ tail_of e.then.object }
+    ensures raised { (e : Step Positions) (position : ℕ) → e.word ≡ flag_word e.then.object.room position
+        → IsReal of_queues e → e.then.object.first ≤ position
+        → position < tail_of e.then.object + e.then.object.room → e.found ≡ position + 1
+        → 2 ≤ written_at e.then.object (position - e.then.object.first) }
+    ensures low { (e : Step Positions) (position : ℕ) → e.word ≡ flag_word e.then.object.room position
+        → IsReal of_queues e → tail_of e.then.object ≤ position
+        → position < tail_of e.then.object + e.then.object.room → e.found ≢ position + 1
+        → written_at e.then.object (position - e.then.object.first) < 2 }
+    ensures item { (e : Step Positions) (position : ℕ) → e.word ≡ data_word e.then.object.room position
+        → IsReal of_queues e → tail_of e.then.object ≤ position
+        → position < tail_of e.then.object + e.then.object.room
+        → 1 ≤ written_at e.then.object (position - e.then.object.first)
+        → e.found ≡ item_at e.then.object (position - e.then.object.first) }
+{}
+
+/// Each change that an answer lists is the event of the core that its name says, for all views that list the queue as
+/// the step found it, if one of them is that of the end.
+pub fn changes_are_events()
+    ensures claimed { (head : ℕ) (items : List ℕ) (m : Moment Positions) (views : List QueueView) (seat : ℕ)
+        (v w : QueueView) → IsReal of_queues (change head_word head m (with_claim m.object items)) → 0 < length items
+        → ViewsShow m.object views → get_elem? views seat ≡ some v → w.runs ≡ v.runs ++ run head items ∷ []
+        → w.takes ≡ v.takes → Later w (with_claim m.object items)
+        → (m.object.shut ≡ false) × (head ≡ head_of m.object)
+        × IsEvent m.object (with_claim m.object items) seat v w (claim m.object.room seat items) }
+    ensures stored { (word found position item : ℕ) (m : Moment Positions) (views : List QueueView)
+        (seat number index : ℕ) (v w : QueueView) (e : Batch)
+        → IsReal of_queues (change word found m (written m.object position 1)) → IsPlace m.object position (fresh item)
+        → ViewsShow m.object views → get_elem? views seat ≡ some v → get_elem? v.runs number ≡ some e
+        → index < length e.places → e.start + index ≡ position
+        → w.runs ≡ slice_set v.runs number (written_to e index 1) → w.takes ≡ v.takes
+        → Later w (written m.object position 1)
+        → IsEvent m.object (written m.object position 1) seat v w no_event }
+    ensures raised { (word found position item : ℕ) (m : Moment Positions) (views : List QueueView)
+        (seat number index : ℕ) (v w : QueueView) (e : Batch)
+        → IsReal of_queues (change word found m (written m.object position 2))
+        → IsPlace m.object position (record { item = item; written = 1 })
+        → ViewsShow m.object views → get_elem? views seat ≡ some v → get_elem? v.runs number ≡ some e
+        → index < length e.places → e.start + index ≡ position
+        → w.runs ≡ slice_set v.runs number (written_to e index 2) → w.takes ≡ v.takes
+        → Later w (written m.object position 2)
+        → (k : ℕ) × (event : IsEvent m.object (written m.object position 2) seat v w (raise seat k index))
+        × (get_elem? event.shown.runs k ≡ some (seat, number, e)) }
+    ensures taken { (tail count : ℕ) (m : Moment Positions) (views : List QueueView) (seat : ℕ) (v w : QueueView)
+        → IsReal of_queues (change tail_word tail m (with_take m.object count)) → 0 < count
+        → ViewsShow m.object views → get_elem? views seat ≡ some v
+        → w.takes ≡ v.takes ++ taking m.object count ∷ [] → w.runs ≡ v.runs → Later w (with_take m.object count)
+        → (tail ≡ tail_of m.object)
+        × IsEvent m.object (with_take m.object count) seat v w (take_first m.object.room count) }
+    ensures shut { (head : ℕ) (m : Moment Positions) (views : List QueueView) (seat : ℕ) (v w : QueueView)
+        → IsReal of_queues (change head_word head m (with_shut m.object))
+        → ViewsShow m.object views → get_elem? views seat ≡ some v → w.runs ≡ v.runs → w.takes ≡ v.takes
+        → Later w (with_shut m.object) → IsEvent m.object (with_shut m.object) seat v w (λ c. Ok (shut c)) }
+{}
+
+/// What a refusal says of the queue. Closed, of a claim: it is shut. Full: there was no room when the head was loaded.
+/// Closed, of a taking: it is shut, and all that was put was taken. Empty: the place was not raised when its flag was
+/// found, at that tail, and then the queue was open or had something left.
+pub fn refusals_say()
+    ensures closed { (n : ℕ) (old new : QueueEnd n) (count : ℕ)
+        → Refused n (view_of old) count not_claimed.Closed (view_of new) → (view_of new).seen.object.shut ≡ true }
+    ensures full { (n : ℕ) (old new : QueueEnd n) (count head tail : ℕ)
+        (r : Refused n (view_of old) count (not_claimed.Full head tail) (view_of new))
+        → r.1.object.taken + n < length r.1.object.places + count }
+    ensures done { (n : ℕ) (old new : QueueEnd n)
+        → OfBoth n (λ Few Enough. RefusedTake Few Enough n (view_of old) not_taken.Closed (view_of new)
+        → ((view_of new).seen.object.shut ≡ true)
+        × ((view_of new).seen.object.taken ≡ length (view_of new).seen.object.places)) }
+    ensures empty { (n : ℕ) (old new : QueueEnd n) (at : ℕ)
+        → OfBoth n (λ Few Enough. (r : RefusedTake Few Enough n (view_of old) (not_taken.Empty at) (view_of new))
+        → length r.0.scan < n
+        → (tail_of r.0.at_flag.object ≡ r.0.tail)
+        × (written_at r.0.at_flag.object (behind r.0 - r.0.at_flag.object.first) < 2)
+        × (r.2.object.shut ≡ true → r.2.object.taken < length r.2.object.places)) }
+{}
+
+/// An end that has the whole is never answered Lost: between its steps, no other end makes one.
+pub fn only_ends_are_never_lost()
+    ensures claim { (n : ℕ) (old new : QueueEnd n) (count head : ℕ) → IsOnlyEnd old
+        → Refused n (view_of old) count (not_claimed.Lost head) (view_of new) → ⊥ }
+    ensures take { (n : ℕ) (old new : QueueEnd n) (tail : ℕ) → IsOnlyEnd old
+        → OfBoth n (λ Few Enough. RefusedTake Few Enough n (view_of old) (not_taken.Lost tail) (view_of new) → ⊥) }
+{}

@@ -1,0 +1,6 @@
+use Rattle.proc_chain.specs.Rules.{suits, makes}
+use Rattle.proc_chain.proofs.Betweens.{shows_chain, shows_ends}
+use Rattle.proc_chain.proofs.between.ends_between_steps.Goals as goal
+
+pub returns : goal.returns
+returns g c = λ key state rule. (shows_chain (makes g.Q.Quaject.made_by) (suits g.Q.Quaject.fits) key state rule, shows_ends (makes g.Q.Quaject.made_by) (suits g.Q.Quaject.fits) key state rule)

@@ -1,0 +1,18 @@
+use Rattle.std.specs.Prelude.{[], ◌∷◌}
+use Rattle.std.proofs.Math.Logic.{∥∥₁_elim, ∥∥₁_map}
+use Rattle.table_theory.specs.Ledgers.{both, count_down}
+use Rattle.table_theory.proofs.Reaching.{entries_real, reaches_one, reaches_other}
+use Rattle.proc_chain.specs.Layout.{ends_word}
+use Rattle.proc_chain.specs.Own.{of_chains, did_both}
+use Rattle.proc_chain.specs.Handles.{view_of}
+use Rattle.proc_chain.specs.Rules.{IsTold}
+use Rattle.proc_chain.proofs.laws.joins_are_true.Goals as goal
+
+pub returns-clause-since : goal.returns-clause-since
+returns-clause-since g c = λ old other new t. (
+  ∥∥₁_elim old.told squash₁ (λ (x : IsTold (view_of old)). ∥∥₁_map new.told (λ z. reaches_one of_chains did_both ends_word (view_of old) (view_of other) (view_of new) x.honest z.honest t.0)),
+  ∥∥₁_elim other.told squash₁ (λ (y : IsTold (view_of other)). ∥∥₁_map new.told (λ z. reaches_other of_chains did_both ends_word (view_of old) (view_of other) (view_of new) y.honest z.honest t.0)),
+)
+
+pub returns-clause-entry : goal.returns-clause-entry
+returns-clause-entry g c = λ old other new t. ∥∥₁_map new.told (λ h. (entries_real of_chains (both did_both (view_of old) (view_of other)) (view_of new) (count_down ends_word t.0.found ∷ []) h.honest t.0.adds).0)

@@ -1,0 +1,32 @@
+use Rattle.std.proofs.Math.Logic.{∥∥₁_elim, ∥∥₁_map}
+use Rattle.table_theory.proofs.Reaching.{entries_real, passes_since, alone_since, reaches_since}
+use Rattle.proc_chain.specs.Own.{of_chains}
+use Rattle.proc_chain.specs.Handles.{view_of}
+use Rattle.proc_chain.specs.Rules.{IsTold}
+use Rattle.proc_chain.proofs.Becoming.{real_lawful, reaches_grow}
+use Rattle.proc_chain.proofs.Lawful.{real_change}
+use Rattle.proc_chain.proofs.laws.lists_are_true.Goals as goal
+
+pub returns-clause-end : goal.returns-clause-end
+returns-clause-end g c = λ end. ∥∥₁_map end.told (λ t. t.honest)
+
+pub returns-clause-entries : goal.returns-clause-entries
+returns-clause-entries g c = λ old new entries a. ∥∥₁_map new.told (λ t. entries_real of_chains old (view_of new) entries t.honest a)
+
+pub returns-clause-order : goal.returns-clause-order
+returns-clause-order g c = λ old new entries a. ∥∥₁_elim old.told squash₁ (λ (x : IsTold (view_of old)). ∥∥₁_map new.told (λ t. passes_since of_chains (view_of old) (view_of new) entries x.honest t.honest a))
+
+pub returns-clause-alone : goal.returns-clause-alone
+returns-clause-alone g c = λ old new entries whole a. ∥∥₁_elim old.told squash₁ (λ (x : IsTold (view_of old)). ∥∥₁_map new.told (λ t. (alone_since of_chains (view_of old) (view_of new) entries whole x.honest t.honest a).0))
+
+pub returns-clause-since : goal.returns-clause-since
+returns-clause-since g c = λ old new entries a. ∥∥₁_elim old.told squash₁ (λ (x : IsTold (view_of old)). ∥∥₁_map new.told (λ t. reaches_since of_chains (view_of old) (view_of new) entries x.honest t.honest a))
+
+pub returns-clause-grows : goal.returns-clause-grows
+returns-clause-grows g c = reaches_grow
+
+pub returns-clause-change : goal.returns-clause-change
+returns-clause-change g c = real_change
+
+pub returns-clause-lawful : goal.returns-clause-lawful
+returns-clause-lawful g c = real_lawful

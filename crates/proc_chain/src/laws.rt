@@ -1,0 +1,155 @@
+//! What an end lists is true, and each change is an event of the core: statements over plain data.
+
+ghost use Rattle.std.specs.Prelude.{◌≡◌, ◌≢◌, ◌+◌, ◌-◌, ◌<◌, ◌≤◌, ◌⊎◌, ℕ, true, false, List, [], ◌∷◌, ◌++◌, length};
+ghost use Rattle.std.specs.Prelude.{slice_set};
+ghost use Rattle.std.specs.List.{AllByRecursion};
+ghost use mathlib.Core.Option.{some};
+ghost use lib.ListN.{get_elem?};
+ghost use Rattle.event_theory.specs.Chains.{claim_note, raise_note, take_note, notify, round, leave};
+ghost use Rattle.table_theory.specs.declared.positions.TheConstants.{POSITIONS};
+ghost use Rattle.table_theory.specs.declared.queues.Batch.{Batch};
+ghost use Rattle.table_theory.specs.declared.views.Moment.{Moment};
+ghost use Rattle.table_theory.specs.Courses.{Continues};
+ghost use Rattle.table_theory.specs.Ledgers.{Step, load, change, count_down, Adds, IsReal, IsHonest, Reaches, Passes};
+ghost use Rattle.table_theory.specs.Listing.{written_to};
+ghost use Rattle.table_theory.specs.Positioned.{Grows, fresh, item_at, written_at, head_of, tail_of};
+ghost use Rattle.table_theory.specs.Seeing.{Stands};
+ghost use Rattle.proc_chain.specs.declared.chaining.ChainRefusal.TheVariants.{Full, Lost};
+ghost use Rattle.proc_chain.specs.declared.ends.ChainEnd.{ChainEnd};
+ghost use Rattle.proc_chain.specs.declared.layout.TheConstants.{PLACES, IDLE, RUNNING, MORE};
+ghost use Rattle.proc_chain.specs.declared.rule.GatedQueue.{GatedQueue};
+ghost use Rattle.proc_chain.specs.Answers.{NotChained, with_turn};
+ghost use Rattle.proc_chain.specs.Chainings.{AreShown, IsChainEvent};
+ghost use Rattle.proc_chain.specs.Changes.{IsLawful, IsPlace, Becomes, taking};
+ghost use Rattle.proc_chain.specs.Changes.{with_note, with_raise, with_taken, with_gate};
+ghost use Rattle.proc_chain.specs.Endings.{TookIn};
+ghost use Rattle.proc_chain.specs.Handles.{view_of, IsOnlyEnd};
+ghost use Rattle.proc_chain.specs.Layout.{head_word, tail_word, ends_word, gate_word, place_word, note_of, mark_of};
+ghost use Rattle.proc_chain.specs.Own.{View, of_chains, queue_of};
+ghost use Rattle.proc_chain.specs.Steps.{run};
+
+use crate::quaject::Quaject;
+
+/// What an end lists is true: each entry that a call adds is a real step. It found a lawful queue and a gate that the
+/// words showed, and the number in its word, and made one event, or none. Real steps lead from what the end had seen to
+/// each of these entries, in their order, and the last of them left what the end sees then. Where the end has the
+/// whole, these entries alone lead there.
+pub fn lists_are_true<Q: Quaject>()
+    ensures end { (end : ChainEnd Q Q.World Q.Quaject) → ∥ IsHonest of_chains (view_of end) ∥₁ }
+    ensures entries { (old : View) (new : ChainEnd Q Q.World Q.Quaject) (entries : List (Step GatedQueue))
+        → Adds old entries (view_of new) → ∥ AllByRecursion (IsReal of_chains) entries ∥₁ }
+    ensures order { (old new : ChainEnd Q Q.World Q.Quaject) (entries : List (Step GatedQueue))
+        → Adds (view_of old) entries (view_of new)
+        → ∥ Passes of_chains (view_of old).seen entries (view_of new).seen ∥₁ }
+    ensures alone { (old new : ChainEnd Q Q.World Q.Quaject) (entries : List (Step GatedQueue)) → IsOnlyEnd old
+        → Adds (view_of old) entries (view_of new) → ∥ Continues (view_of old).seen entries (view_of new).seen ∥₁ }
+    ensures since { (old new : ChainEnd Q Q.World Q.Quaject) (entries : List (Step GatedQueue))
+        → Adds (view_of old) entries (view_of new)
+        → ∥ Reaches of_chains (view_of old).seen (view_of new).seen ∥₁ }
+    ensures grows { (m n : Moment GatedQueue) → Reaches of_chains m n → Grows m.object.queue n.object.queue }
+    ensures change { (e : Step GatedQueue) → IsReal of_chains e
+        → (e.next.object ≡ e.then.object) ⊎ Becomes e.then.object e.next.object }
+    ensures lawful { (e : Step GatedQueue) → IsReal of_chains e → IsLawful e.next.object }
+{}
+
+/// The same of a join: real steps lead from what either end had seen to what the one sees then, and the entry of the
+/// step that counts one end less is real.
+pub fn joins_are_true<Q: Quaject>()
+    ensures since { (old other new : ChainEnd Q Q.World Q.Quaject)
+        → TookIn (view_of old) (view_of other) (view_of new)
+        → ∥ Reaches of_chains (view_of old).seen (view_of new).seen ∥₁
+        × ∥ Reaches of_chains (view_of other).seen (view_of new).seen ∥₁ }
+    ensures entry { (old other new : ChainEnd Q Q.World Q.Quaject)
+        (t : TookIn (view_of old) (view_of other) (view_of new))
+        → ∥ IsReal of_chains (count_down ends_word t.0.found) ∥₁ }
+{}
+
+/// What an end sees is lawful, and views of all ends show it, the end's own among them. Its runs stand in the queue
+/// that it sees.
+pub fn ends_are_shown<Q: Quaject>()
+    ensures lawful { (end : ChainEnd Q Q.World Q.Quaject) → ∥ IsLawful (view_of end).seen.object ∥₁ }
+    ensures shown { (end : ChainEnd Q Q.World Q.Quaject) → ∥ ((views : List View) × (seat : ℕ)
+        × AreShown (view_of end).seen.object views × (get_elem? views seat ≡ some (view_of end))) ∥₁ }
+    ensures runs { (end : ChainEnd Q Q.World Q.Quaject) (number : ℕ) (e : Batch)
+        → get_elem? (view_of end).own.runs number ≡ some e → ∥ Stands (queue_of (view_of end)) e ∥₁ }
+    ensures room { (end : ChainEnd Q Q.World Q.Quaject) → (queue_of (view_of end)).room ≡ PLACES }
+    ensures bounded { (end : ChainEnd Q Q.World Q.Quaject) → head_of (queue_of (view_of end)) < POSITIONS }
+{}
+
+/// What the number says that a step found: the number of ends, the head, the tail, the gate, or whether a place is
+/// raised, and with which note. The places from the tail on, as many as the chain has, are those that words show.
+pub fn numbers_say()
+    ensures ends { (found : ℕ) (m : Moment GatedQueue) → IsReal of_chains (load ends_word found m) → found ≡ m.ends }
+    ensures head { (e : Step GatedQueue) → e.word ≡ head_word → IsReal of_chains e
+        → (e.found ≡ head_of e.then.object.queue) × (e.found < POSITIONS) }
+    ensures tail { (e : Step GatedQueue) → e.word ≡ tail_word → IsReal of_chains e
+        → e.found ≡ tail_of e.then.object.queue }
+    ensures gate { (e : Step GatedQueue) → e.word ≡ gate_word → IsReal of_chains e → e.found ≡ e.then.object.gate }
+    ensures raised { (e : Step GatedQueue) (i : ℕ) → e.word ≡ place_word (e.then.object.queue.first + i)
+        → IsReal of_chains e → e.then.object.queue.taken ≤ i → i < e.then.object.queue.taken + PLACES
+        → mark_of e.found ≡ e.then.object.queue.first + i + 1
+        → (2 ≤ written_at e.then.object.queue i) × (note_of e.found ≡ item_at e.then.object.queue i) }
+    ensures low { (e : Step GatedQueue) (i : ℕ) → e.word ≡ place_word (e.then.object.queue.first + i)
+        → IsReal of_chains e → e.then.object.queue.taken ≤ i → i < e.then.object.queue.taken + PLACES
+        → mark_of e.found ≢ e.then.object.queue.first + i + 1 → written_at e.then.object.queue i < 2 }
+{}
+
+/// Each change that an answer lists is the event of the core that its name says, for all views that show the queue and
+/// the gate as the step found them, if one of them is that of the end.
+pub fn changes_are_events()
+    ensures claimed { (head note : ℕ) (m : Moment GatedQueue) (views : List View) (seat : ℕ) (v w : View)
+        (shown : AreShown m.object views) → IsReal of_chains (change head_word head m (with_note m.object note))
+        → get_elem? views seat ≡ some v → w.seen.object ≡ with_note m.object note
+        → w.own ≡ record v.own { runs = v.own.runs ++ run head note ∷ [] }
+        → (head ≡ head_of m.object.queue) × (m.object.queue.shut ≡ false)
+        × IsChainEvent m.object (with_note m.object note) views shown seat w (claim_note seat (note ∷ [])) }
+    ensures raised { (position note found number : ℕ) (e : Batch) (m : Moment GatedQueue) (views : List View)
+        (seat : ℕ) (v w : View) (shown : AreShown m.object views)
+        → IsReal of_chains (change (place_word position) found m (with_raise m.object position note))
+        → IsPlace m.object.queue position (fresh note) → get_elem? views seat ≡ some v
+        → get_elem? v.own.runs number ≡ some e → e.start ≡ position → 0 < length e.places
+        → w.seen.object ≡ with_raise m.object position note
+        → w.own ≡ record v.own { runs = slice_set v.own.runs number (written_to e 0 2); owes = true }
+        → (k : ℕ) × IsChainEvent m.object (with_raise m.object position note) views shown seat w (raise_note seat k 0)
+        × (get_elem? shown.listed.runs k ≡ some (seat, number, e)) }
+    ensures taken { (tail : ℕ) (m : Moment GatedQueue) (views : List View) (seat : ℕ) (v w : View)
+        (shown : AreShown m.object views) → IsReal of_chains (change tail_word tail m (with_taken m.object))
+        → get_elem? views seat ≡ some v → v.own.runner ≡ true → w.seen.object ≡ with_taken m.object
+        → w.own ≡ record v.own {
+          takes = v.own.takes ++ taking m.object.queue ∷ [];
+          taken = v.own.taken + 1;
+          saw = false;
+        }
+        → (tail ≡ tail_of m.object.queue)
+        × IsChainEvent m.object (with_taken m.object) views shown seat w (take_note seat 1) }
+    ensures notified { (gate : ℕ) (m : Moment GatedQueue) (views : List View) (seat : ℕ) (v w : View)
+        (shown : AreShown m.object views) → IsReal of_chains (change gate_word gate m (with_gate m.object MORE))
+        → get_elem? views seat ≡ some v → v.own.owes ≡ true → gate ≢ IDLE → w.seen.object ≡ with_gate m.object MORE
+        → w.own ≡ record v.own { owes = false }
+        → IsChainEvent m.object (with_gate m.object MORE) views shown seat w (notify seat) }
+    ensures won { (m : Moment GatedQueue) (views : List View) (seat : ℕ) (v w : View)
+        (shown : AreShown m.object views) → IsReal of_chains (change gate_word IDLE m (with_gate m.object MORE))
+        → get_elem? views seat ≡ some v → v.own.owes ≡ true → w.seen.object ≡ with_gate m.object MORE
+        → w.own ≡ with_turn m.object.queue.taken (record v.own { owes = false })
+        → IsChainEvent m.object (with_gate m.object MORE) views shown seat w (notify seat) }
+    ensures rounded { (gate : ℕ) (m : Moment GatedQueue) (views : List View) (seat : ℕ) (v w : View)
+        (shown : AreShown m.object views) → IsReal of_chains (change gate_word gate m (with_gate m.object RUNNING))
+        → get_elem? views seat ≡ some v → v.own.runner ≡ true
+        → w.seen.object ≡ with_gate m.object RUNNING → w.own ≡ record v.own { saw = false }
+        → IsChainEvent m.object (with_gate m.object RUNNING) views shown seat w (round seat) }
+    ensures left { (m : Moment GatedQueue) (views : List View) (seat : ℕ) (v w : View)
+        (shown : AreShown m.object views) → IsReal of_chains (change gate_word RUNNING m (with_gate m.object IDLE))
+        → get_elem? views seat ≡ some v → v.own.runner ≡ true → v.own.saw ≡ true
+        → w.seen.object ≡ with_gate m.object IDLE → w.own ≡ record v.own { runner = false; saw = false }
+        → IsChainEvent m.object (with_gate m.object IDLE) views shown seat w (leave seat) }
+{}
+
+/// Where a note was refused as Full, there was no room when the head was loaded. An end that has the whole is never
+/// answered Lost: between its steps, no other end makes one.
+pub fn refusals_say<Q: Quaject>()
+    ensures full { (old new : ChainEnd Q Q.World Q.Quaject) (head tail : ℕ)
+        (r : NotChained (view_of old) (Full head tail) (view_of new))
+        → r.0.object.queue.taken + PLACES ≤ length r.0.object.queue.places }
+    ensures lost { (old new : ChainEnd Q Q.World Q.Quaject) (head : ℕ) → IsOnlyEnd old
+        → NotChained (view_of old) (Lost head) (view_of new) → ⊥ }
+{}

@@ -136,8 +136,8 @@ fn parts(
 ) -> Result<Vec<Passer>, Fault>
     requires table { IsHandOf table.now hand.old }
     requires parts { 8 * MOST_GIVEN + 2 ≤ (view_of hand.old).member.share }
-    ensures table { IsSameHand hand.old hand.new }
     ensures passers { IfOk result (λ passers. All (λ passer. IsHandOf table.now passer.hand) passers.items) }
+    ensures same { IsSameHand hand.old hand.new }
 {
     let mut passers = Vec::new(alloc);
     for number in 0..processors.min(8) {

@@ -1,18 +1,7 @@
 -- What the end did, and its place among the ends, by each answer of a queue.
-use Rattle.std.proofs.Common.{◌≡◌, ℕ, List, [], ◌∷◌, ◌++◌, refl, sym, subst, ⊎_elim, Result, Ok, Err}
+use Rattle.claim_queue.proofs.Common.{◌≡◌, ℕ, List, [], ◌∷◌, ◌++◌, refl, sym, subst, inl, inr, ⊎_elim, Result, Ok, Err, Positions, Step, Adds, Made, Did, ClaimRefusal, NoItems, TooLong, Closed, Spent, Full, Lost, TakeRefusal, RefusedBy, Refused, ClaimedItems, run_of, View, run, taking, with_run, with_taking, Looks, Try, tried, IsPut, PutAnswer, TookItems, RefusedTake}
 use Rattle.std.specs.Prelude.{length}
-use Rattle.table_theory.specs.declared.queues.Positions.{Positions}
-use Rattle.table_theory.specs.Ledgers.{Step, Adds, Made}
-use Rattle.claim_queue.specs.declared.rule.Did.{Did}
-use Rattle.claim_queue.specs.declared.claim.ClaimRefusal.{ClaimRefusal}
-use Rattle.claim_queue.specs.declared.claim.ClaimRefusal.TheVariants.{NoItems, TooLong, Closed, Spent, Full, Lost}
-use Rattle.claim_queue.specs.declared.take.TakeRefusal.{TakeRefusal}
 use Rattle.claim_queue.specs.declared.take.TakeRefusal.TheVariants as takes
-use Rattle.claim_queue.specs.Answers.{RefusedBy, Refused, ClaimedItems}
-use Rattle.claim_queue.specs.Claims.{run_of}
-use Rattle.claim_queue.specs.Own.{View, run, taking, with_run, with_taking, Looks}
-use Rattle.claim_queue.specs.Puts.{Try, tried, IsPut, PutAnswer}
-use Rattle.claim_queue.specs.Takings.{TookItems, RefusedTake}
 use Rattle.table_theory.proofs.Reaching.{adds_none}
 
 -- the end did this, and stands among the ends as it stood; these are its steps
@@ -29,17 +18,18 @@ pub looks_does : (v w : View) (entries : List (Step Positions)) → Looks v entr
 looks_does v w [] h = subst (λ (z : View). Does v v.own z) (sym h) (record { steps = []; adds = adds_none v; did = refl; member = refl })
 looks_does v w (e ∷ entries) h = does v w v.own (e ∷ entries) h
 
--- a refused claim, wherever its entries stand
-refused_by : (Added : List (Step Positions) → Type 0) (room count : ℕ) (X : Type 0) (r : ClaimRefusal) → ((entries : List (Step Positions)) → Added entries → X) → RefusedBy Added room count r → X
-refused_by Added room count X NoItems f h = f _ h.1
-refused_by Added room count X TooLong f h = f _ h.1
-refused_by Added room count X Closed f h = ⊎_elim (λ a. f _ a.3) (λ a. f _ a.8) h.1
-refused_by Added room count X Spent f h = f _ h.5
-refused_by Added room count X (Full head tail) f h = f _ h.5
-refused_by Added room count X (Lost now) f h = f _ h.9
+-- the entries of a refused claim, of which it says the same wherever they stand
+pub refused_at : (Added : List (Step Positions) → Type 0) (room count : ℕ) (r : ClaimRefusal) → RefusedBy Added room count r → (entries : List (Step Positions)) × Added entries × ((Behind : List (Step Positions) → Type 0) → Behind entries → RefusedBy Behind room count r)
+refused_at Added room count NoItems (none_there, a) = (_, a, λ Behind b. (none_there, b))
+refused_at Added room count TooLong (long, a) = (_, a, λ Behind b. (long, b))
+refused_at Added room count Closed (fits, inl (head, m, marked, a)) = (_, a, λ Behind b. (fits, inl (head, m, marked, b)))
+refused_at Added room count Closed (fits, inr (head, tail, now, m, n, o, there, marked, a)) = (_, a, λ Behind b. (fits, inr (head, tail, now, m, n, o, there, marked, b)))
+refused_at Added room count Spent (fits, head, m, is_open, spent, a) = (_, a, λ Behind b. (fits, head, m, is_open, spent, b))
+refused_at Added room count (Full head tail) (fits, m, n, bounded, full, a) = (_, a, λ Behind b. (fits, m, n, bounded, full, b))
+refused_at Added room count (Lost now) (fits, head, tail, m, n, o, there, is_open, past, a) = (_, a, λ Behind b. (fits, head, tail, m, n, o, there, is_open, past, b))
 
 pub refused_own : (room count : ℕ) (v w : View) (r : ClaimRefusal) → Refused room v count r w → Does v v.own w
-refused_own room count v w r h = refused_by (λ entries. Looks v entries w) room count (Does v v.own w) r (λ entries l. looks_does v w entries l) h
+refused_own room count v w r h = let at = refused_at (λ entries. Looks v entries w) room count r h in looks_does v w at.0 at.1
 
 pub claimed_own : (room : ℕ) (v w : View) (head : ℕ) (items : List ℕ) → ClaimedItems room v head items w → Does v (with_run v.own (run head items)) w
 claimed_own room v w head items (past, (tail, m, n, o, fits, there, made)) = does v w _ _ made
@@ -53,7 +43,7 @@ did_put v items (Ok start) = with_run v.own (run_of start items (length items))
 did_put v items (Err refusal) = v.own
 
 tried_own : (room count : ℕ) (v w : View) (tries : List Try) (r : ClaimRefusal) → RefusedBy (λ entries. Looks v (tried tries ++ entries) w) room count r → Does v v.own w
-tried_own room count v w tries r h = refused_by (λ entries. Looks v (tried tries ++ entries) w) room count (Does v v.own w) r (λ entries l. looks_does v w (tried tries ++ entries) l) h
+tried_own room count v w tries r h = let at = refused_at (λ entries. Looks v (tried tries ++ entries) w) room count r h in looks_does v w (tried tries ++ at.0) at.1
 
 pub answer_own : (room : ℕ) (v w : View) (items : List ℕ) (r : Result ℕ ClaimRefusal) → PutAnswer room v items r w → Does v (did_put v items r) w
 answer_own room v w items (Ok start) (past, tries, all, (raises, are, (tail, m, n, o, fits, there, made))) = does v w _ _ made

@@ -1,27 +1,15 @@
 -- Whatever the rule holds of is a lawful queue of the core, shown by the words and the views.
-use Rattle.std.proofs.Common.{◌≡◌, ℕ, ◌+◌, ◌%◌, ◌<◌, ◌≤◌, Bool, true, false, List, ◌∙◌, map, length, get_or, refl, sym, ap, subst, arith, true≢false}
-use Rattle.std.proofs.lemmas.List.{get_or-map}
+use Rattle.claim_queue.proofs.Common.{◌≡◌, ℕ, ◌+◌, ◌%◌, ◌<◌, ◌≤◌, Bool, false, List, ◌∙◌, map, length, get_or, refl, sym, ap, subst, arith, get_or-map, Batch, Positions, written_at, blank, place_at, Owned, ListedOnce, all_places, Shape, mark, data_in, flag_in, part_of, Rule}
 use Rattle.std.proofs.lemmas.Simd.{map-map}
-use Rattle.std.proofs.lemmas.Bool.{le-leb, leb-true}
-use mathlib.Core.Logic.{dite}
-use native.Mathlib.Decide.{dec_le}
-use Rattle.table_theory.specs.declared.queues.Cell.{Cell}
-use Rattle.table_theory.specs.declared.queues.Batch.{Batch}
-use Rattle.table_theory.specs.declared.queues.Positions.{Positions}
+use Rattle.std.proofs.lemmas.Bool.{leb-true, leb-false}
 use Rattle.event_theory.specs.Runs.{flat, pairs}
 use Rattle.event_theory.specs.Queues.{is_raised}
-use Rattle.table_theory.specs.Positioned.{blank, place_at}
-use Rattle.table_theory.specs.Filing.{Owned, ListedOnce}
-use Rattle.table_theory.specs.Listing.{all_places, runs_of, takes_of, Adjacent}
+use Rattle.table_theory.specs.Listing.{runs_of, takes_of, Adjacent}
 use Rattle.table_theory.specs.QueueOf.{run_in, is_up, queue_of}
 use Rattle.event_theory.proofs.Lists.Histories.{length-pairs_from}
 use Rattle.table_theory.proofs.Batches.{item_is, taken_items}
 use Rattle.table_theory.proofs.QueueOf.{up_of, long_is, is_lawful_queue}
 use Rattle.table_theory.proofs.QueueEvents.{history_of}
-use Rattle.claim_queue.specs.declared.rule.Shape.{Shape}
-use Rattle.claim_queue.specs.Layout.{mark, data_in, flag_in}
-use Rattle.claim_queue.specs.Own.{part_of}
-use Rattle.claim_queue.specs.Rules.{Rule}
 use Rattle.claim_queue.specs.Between.{pair_at, PlaceIs, ShowsQueue, ShowsEnds}
 use Rattle.claim_queue.proofs.Stepping.{St, seen_grows}
 
@@ -32,44 +20,38 @@ module _ (q : Positions) (runs : List (Owned Batch)) (same : all_places runs ≡
       sym (get_or-map (is_raised (queue_of q runs)) (pairs (map run_in runs)) i (0, 0) false (omega arith))
       ∙ (ap (λ (z : List Bool). get_or z i false) (up_of q runs ∙ ap (map is_up) same) ∙ get_or-map is_up q.places i blank false below)
 
-up_written : (e : Cell) → is_up e ≡ true → 2 ≤ e.written
-up_written e h = leb-true 2 e.written h
-
-low_written : (e : Cell) → is_up e ≡ false → e.written < 2
-low_written e h = dite (dec_le 2 e.written) (λ y. absurd (true≢false (sym (le-leb 2 e.written y) ∙ h))) (λ no. omega arith)
-
-place_is : (key : Shape) (s : St) (k : Rule key s) (i : ℕ) → k.now.object.taken ≤ i → i < length k.now.object.places → PlaceIs (queue_of k.now.object k.listed.runs) key.room s.words i (key.first + i)
-place_is key s k i from below = let q : Positions = k.now.object in let l = k.listed in let u = up_is q l.runs l.runs_flat i below in let x = item_is q l.runs l.runs_flat i below in
-    let within = k.lawful.within in let p = k.shows.window.each i from (omega arith) in
+place_is : (key : Shape) (s : St) (k : Rule key s) (i : ℕ) → k.now.object.taken ≤ i → i < length k.now.object.places → PlaceIs (queue_of k.now.object k.listed.lists.runs) key.room s.words i (key.first + i)
+place_is key s k i from below = let q : Positions = k.now.object in let l = k.listed.lists in let u = up_is q l.runs l.runs_are.flat i below in let x = item_is q l.runs l.runs_are.flat i below in
+    let within = k.stands.lawful.within in let p = k.stands.shows.window.each i from (omega arith) in
     let at : (q.first + i) % q.room ≡ (key.first + i) % key.room = (λ z. (k.first z + i) % k.room z) in
     let flag : flag_in q.room s.words ((q.first + i) % q.room) ≡ flag_in key.room s.words ((key.first + i) % key.room) = (λ z. flag_in (k.room z) s.words (at z)) in
     let datum : data_in q.room s.words ((q.first + i) % q.room) ≡ data_in key.room s.words ((key.first + i) % key.room) = (λ z. data_in (k.room z) s.words (at z)) in
     let first = k.first in record {
-      raised = λ h. sym flag ∙ (p.up (up_written (place_at q i) (sym u ∙ h)) ∙ ap (λ (z : ℕ). z + i + 1) first);
-      item = λ h. sym datum ∙ (p.holds (let w = up_written (place_at q i) (sym u ∙ h) in omega arith) ∙ sym x);
-      claimed = λ h. let f = p.low (low_written (place_at q i) (sym u ∙ h)) in omega arith;
+      raised = λ h. sym flag ∙ (p.up (leb-true 2 (written_at q i) (sym u ∙ h)) ∙ ap (λ (z : ℕ). z + i + 1) first);
+      item = λ h. sym datum ∙ (p.holds (let w = leb-true 2 (written_at q i) (sym u ∙ h) in omega arith) ∙ sym x);
+      claimed = λ h. let f = p.low (leb-false 2 (written_at q i) (sym u ∙ h)) in omega arith;
     }
 
 pub shows_queue : (key : Shape) (s : St) → Rule key s → ShowsQueue key s
-shows_queue key s k = let q : Positions = k.now.object in let l = k.listed in let n = long_is q l.runs l.runs_flat in let h = k.shows in let first = k.first in let room = k.room in record {
+shows_queue key s k = let q : Positions = k.now.object in let l = k.listed.lists in let n = long_is q l.runs l.runs_are.flat in let h = k.stands.shows in let first = k.first in let room = k.room in record {
   now = k.now;
   queue = queue_of q l.runs;
   same = refl;
   first = k.first;
-  history = history_of q (map part_of s.views) l;
+  history = history_of q (map part_of s.views) k.listed;
   seen = λ j v at. seen_grows key s k j v at;
   shut_once = k.shut_once;
-  number = k.number;
-  lawful = is_lawful_queue q l.runs k.lawful (history_of q (map part_of s.views) l);
+  number = k.stands.number;
+  lawful = is_lawful_queue q l.runs k.stands.lawful (history_of q (map part_of s.views) k.listed);
   shown = record {
     runs = l.runs;
     history = refl;
-    once = subst (ListedOnce l.runs) (map-map runs_of part_of s.views) l.runs_filed;
-    side_by_side = subst (λ (z : ℕ). Adjacent z l.runs) k.first l.runs_adjacent;
+    once = subst (ListedOnce l.runs) (map-map runs_of part_of s.views) l.runs_are.filed;
+    side_by_side = subst (λ (z : ℕ). Adjacent z l.runs) k.first l.runs_are.adjacent;
     raised = λ run index. refl;
     takings = l.takes;
-    taken_once = subst (ListedOnce l.takes) (map-map takes_of part_of s.views) l.takes_filed;
-    taken_in_order = subst (λ (z : ℕ). Adjacent z l.takes) k.first l.takes_adjacent;
+    taken_once = subst (ListedOnce l.takes) (map-map takes_of part_of s.views) l.takes_are.filed;
+    taken_in_order = subst (λ (z : ℕ). Adjacent z l.takes) k.first l.takes_are.adjacent;
     taken_items = taken_items q _ l;
     capacity = k.room;
     long = let w = h.wide in omega arith;
@@ -82,4 +64,4 @@ shows_queue key s k = let q : Positions = k.now.object in let l = k.listed in le
 
 pub shows_ends : (key : Shape) (s : St) → Rule key s → ShowsEnds key s
 unfolding shows_queue
-shows_ends key s k = record { shows = shows_queue key s k; true_ends = k.true_ends }
+shows_ends key s k = record { shows = shows_queue key s k; true_ends = k.stands.true_ends }

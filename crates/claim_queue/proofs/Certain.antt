@@ -1,19 +1,7 @@
 -- What is certain where an end's list is true: the proof of it is cut off, and what can be decided needs none.
-use Rattle.std.proofs.Common.{◌≡◌, ℕ, ◌≤◌, ◌<◌, ap, true, List, ◌∙◌, arith}
-use Rattle.std.proofs.Math.Logic.{∥∥₁_elim, ∥∥₁_map}
-use Rattle.std.proofs.Math.Bool.{Bool-set}
-use Rattle.std.proofs.Math.Bridge.{le_prop}
-use Rattle.std.proofs.Math.Nat.{ℕ_set}
-use Rattle.table_theory.specs.declared.queues.Positions.{Positions}
-use Rattle.table_theory.specs.declared.views.Moment.{Moment}
-use Rattle.table_theory.specs.Ledgers.{Step, Adds, IsHonest}
-use Rattle.table_theory.specs.Positioned.{Grows, tail_of}
-use Rattle.table_theory.proofs.Reaching.{reaches_since}
-use Rattle.claim_queue.specs.declared.ends.QueueEnd.{QueueEnd}
-use Rattle.claim_queue.specs.Handles.{view_of}
-use Rattle.claim_queue.specs.Own.{View, of_queues}
+use Rattle.claim_queue.proofs.Common.{◌≡◌, ℕ, ◌≤◌, ◌<◌, ap, true, List, ◌∙◌, arith, ∥∥₁_elim, ∥∥₁_map, Bool-set, le_prop, ℕ_set, Positions, Moment, Step, Adds, IsHonest, Grows, tail_of, reaches_since, QueueEnd, view_of, View, of_queues, Distinct}
 use Rattle.claim_queue.proofs.Growing.{reaches_grow}
-use Rattle.claim_queue.proofs.Reading.{room_of}
+use Rattle.claim_queue.proofs.Reading.{room_of, distinct_runs}
 use Rattle.claim_queue.proofs.Stepping.{honest}
 
 pub honest_end : {n : ℕ} (end : QueueEnd n) → ∥ IsHonest of_queues (view_of end) ∥₁
@@ -38,4 +26,8 @@ seen_room end = ∥∥₁_elim end.ruled (ℕ_set _ _) (λ r. room_of (view_of e
 
 -- it has a place
 pub some_room : {n : ℕ} (end : QueueEnd n) → 0 < n
-some_room {n} end = ∥∥₁_elim end.ruled le_prop (λ r. (let same = room_of (view_of end) r ∙ end.room in let more = r.rule.shows.window.some_room in let e = ap (λ (z : Moment Positions). z.object.room) r.seen in omega arith))
+some_room {n} end = ∥∥₁_elim end.ruled le_prop (λ r. (let same = room_of (view_of end) r ∙ end.room in let more = r.rule.stands.shows.window.some_room in let e = ap (λ (z : Moment Positions). z.object.room) r.seen in omega arith))
+
+-- no two runs of an end have one start
+pub distinct_end : {n : ℕ} (end : QueueEnd n) → Distinct (view_of end).own.runs
+distinct_end end m k e f at at' same = ∥∥₁_elim end.ruled (ℕ_set _ _) (λ r. distinct_runs (view_of end) r m k e f at at' same)

@@ -1,21 +1,12 @@
 -- What a closed queue was put and taken, by the lines of the end that lists all of it.
-use Rattle.std.proofs.Common.{◌≡◌, ◌≤◌, ◌<◌, ℕ, zero, suc, List, [], ◌∷◌, ◌++◌, map, length, take, drop, get_or, Some, None, refl, sym, ap, subst, ◌∙◌, arith, Bool}
+use Rattle.claim_queue.proofs.Common.{◌≡◌, ◌≤◌, ◌<◌, ℕ, zero, suc, List, [], ◌∷◌, ◌++◌, map, length, take, drop, get_or, Some, None, refl, sym, ap, subst, ◌∙◌, arith, Bool, ◌+◌, length-drop, if◌then◌else◌, map-append, length-map, get_or-drop, le-ltb, get_elem?, Cell, Batch, Positions, blank, item_of, Owned, ListedOnce, all_places, PartsShow, AllRaised, QueueView, shown, line_of}
 use Rattle.std.specs.List.{concat}
-use Rattle.std.specs.Prelude.{if◌then◌else◌}
-use Rattle.std.proofs.lemmas.List.{map-append, length-map}
-use Rattle.std.proofs.lemmas.Bool.{le-ltb}
+use Rattle.std.proofs.lemmas.List.{take-map}
 use mathlib.Core.Option as maybe
-use lib.ListN.{get_elem?}
-use Rattle.table_theory.specs.declared.queues.Cell.{Cell}
-use Rattle.table_theory.specs.declared.queues.Batch.{Batch}
-use Rattle.table_theory.specs.declared.queues.Positions.{Positions}
-use Rattle.table_theory.specs.Positioned.{blank, item_of, left_of}
-use Rattle.table_theory.specs.Filing.{Owned, entry_of, ListedOnce}
-use Rattle.table_theory.specs.Listing.{all_places, ViewsShow, AllRaised}
+use Rattle.table_theory.specs.Positioned.{left_of}
+use Rattle.table_theory.specs.Filing.{entry_of}
 use Rattle.table_theory.proofs.Owned.{told, file_map}
-use Rattle.table_theory.specs.declared.queues.QueueView.{QueueView}
-use Rattle.claim_queue.specs.Closings.{shown}
-use Rattle.claim_queue.specs.Lines.{line_of, IsCut, IsSettled}
+use Rattle.claim_queue.specs.Lines.{IsCut, IsSettled}
 
 flat_lines : (log : List (Owned Batch)) → concat (map entry_of (map (told line_of) log)) ≡ map item_of (all_places log)
 flat_lines [] = refl
@@ -24,17 +15,12 @@ flat_lines (o ∷ os) = ap (λ (z : List ℕ). line_of o.2 ++ z) (flat_lines os)
 cut_of : (log : List (Owned Batch)) (list : List Batch) (places : List Cell) → ListedOnce log (list ∷ []) → all_places log ≡ places → IsCut (map item_of places) (map line_of list)
 cut_of log list places h e = record { cut = map (told line_of) log; once = file_map line_of log (list ∷ []) h; whole = flat_lines log ∙ ap (map item_of) e }
 
-take_map : (n : ℕ) (l : List Cell) → map item_of (take n l) ≡ take n (map item_of l)
-take_map zero l = refl
-take_map (suc n) [] = refl
-take_map (suc n) (x ∷ l) = ap (λ (z : List ℕ). x.item ∷ z) (take_map n l)
-
 -- a queue that one end lists
-pub settled : (v : QueueView) (q : Positions) (taken : ℕ) → ViewsShow q (v ∷ []) → q.taken ≤ length q.places → taken ≡ q.taken → IsSettled (map item_of q.places) taken (map line_of v.runs) (map line_of v.takes)
+pub settled : (v : QueueView) (q : Positions) (taken : ℕ) → PartsShow q (v ∷ []) → q.taken ≤ length q.places → taken ≡ q.taken → IsSettled (map item_of q.places) taken (map line_of v.runs) (map line_of v.takes)
 settled v q taken l behind is = let n = length-map q.places item_of in record {
   behind = omega arith;
-  puts_are = cut_of l.runs v.runs q.places l.runs_filed l.runs_flat;
-  takes_are = subst (λ (z : List ℕ). IsCut z (map line_of v.takes)) (take_map q.taken q.places ∙ ap (λ (z : ℕ). take z (map item_of q.places)) (sym is)) (cut_of l.takes v.takes (take q.taken q.places) l.takes_filed l.takes_flat);
+  puts_are = cut_of l.runs v.runs q.places l.runs_are.filed l.runs_are.flat;
+  takes_are = subst (λ (z : List ℕ). IsCut z (map line_of v.takes)) (sym (take-map item_of q.taken q.places) ∙ ap (λ (z : ℕ). take z (map item_of q.places)) (sym is)) (cut_of l.takes v.takes (take q.taken q.places) l.takes_are.filed l.takes_are.flat);
 }
 
 -- Where all runs are raised, so are all places
@@ -55,9 +41,7 @@ all_up [] each i h = absurd (omega arith)
 all_up (o ∷ os) each i h = up_append o.2.places (all_places os) (each 0 o refl) (all_up os (λ k p at. each (suc k) p at)) i h
 
 up_drop : (n : ℕ) (l : List Cell) → AllUp l → AllUp (drop n l)
-up_drop zero l up i h = up i h
-up_drop (suc n) [] up i h = absurd (omega arith)
-up_drop (suc n) (x ∷ xs) up i h = up_drop n xs (λ j k. up (suc j) (omega arith)) i h
+up_drop n l up i h = let d = length-drop n l in subst IsUp (sym (get_or-drop n l i blank)) (up (n + i) (omega arith))
 
 shown_up : (l : List Cell) → AllUp l → map shown l ≡ map Some (map item_of l)
 shown_up [] up = refl
@@ -68,6 +52,6 @@ one_list : (l m : List Batch) (c : ℕ) → get_elem? (l ∷ []) c ≡ maybe.som
 one_list l m zero e = sym (maybe.some-injective l m e)
 one_list l m (suc c) e = absurd (maybe.some-ne-none m (sym e))
 
-pub all_left : (v : QueueView) (q : Positions) → ViewsShow q (v ∷ []) → AllRaised v.runs → map shown (drop q.taken q.places) ≡ map Some (left_of q)
-all_left v q l raised = shown_up (drop q.taken q.places) (up_drop q.taken q.places (subst AllUp l.runs_flat (all_up l.runs
-    (λ k o at. let s = l.runs_filed.stands k o at in raised o.1 o.2 (subst (λ (z : List Batch). get_elem? z o.1 ≡ maybe.some o.2) (one_list v.runs s.0 o.0 s.1) s.2)))))
+pub all_left : (v : QueueView) (q : Positions) → PartsShow q (v ∷ []) → AllRaised v.runs → map shown (drop q.taken q.places) ≡ map Some (left_of q)
+all_left v q l raised = shown_up (drop q.taken q.places) (up_drop q.taken q.places (subst AllUp l.runs_are.flat (all_up l.runs
+    (λ k o at. let s = l.runs_are.filed.stands k o at in raised o.1 o.2 (subst (λ (z : List Batch). get_elem? z o.1 ≡ maybe.some o.2) (one_list v.runs s.0 o.0 s.1) s.2)))))

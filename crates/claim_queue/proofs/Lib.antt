@@ -20,3 +20,4 @@ pub mod Lawful
 pub mod Saying
 pub mod Certain
 pub mod Ordered
+pub mod Common

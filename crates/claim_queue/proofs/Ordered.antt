@@ -1,41 +1,14 @@
 -- An end's runs, and its takings, stay in order through its calls.
-use Rattle.std.proofs.Common.{◌≡◌, ◌∙◌, ⊎_elim, ℕ, zero, suc, ◌+◌, ◌<◌, ◌≤◌, Bool, List, [], ◌∷◌, ◌++◌, length, refl, sym, ap, subst, arith, Result, Ok, Err}
-use Rattle.std.proofs.lemmas.List.{length-map}
-use Rattle.std.proofs.Math.Bridge.{le_prop}
-use Rattle.std.proofs.Math.Logic.{∥∥₁_elim, ∥∥₁_map}
-use mathlib.Core.Option.{some}
-use lib.ListN.{get_elem?}
-use Rattle.table_theory.specs.declared.queues.Batch.{Batch}
-use Rattle.table_theory.specs.declared.queues.Positions.{Positions}
+use Rattle.claim_queue.proofs.Common.{◌≡◌, ◌∙◌, ⊎_elim, ℕ, ◌+◌, ◌<◌, ◌≤◌, Bool, List, [], ◌∷◌, ◌++◌, length, refl, sym, ap, subst, arith, Result, Ok, Err, length-map, le_prop, ∥∥₁_elim, ∥∥₁_map, some, get_elem?, Batch, Positions, load, change, IsHonest, Grows, item_of, tail_of, with_take, at_push, passes_since, reaches_since, reaches_one, reaches_other, ClaimRefusal, TakeRefusal, Did, tail_word, ends_word, View, of_queues, did_both, taking, Refused, run_of, TookIn, IsPut, PutAnswer, TookItems, RefusedTake, scanned, passes_split}
 use Rattle.table_theory.specs.Interleaving.{InOrder}
-use Rattle.table_theory.specs.Ledgers.{load, change, IsHonest}
-use Rattle.table_theory.specs.Positioned.{Grows, item_of, tail_of, with_take}
 use Rattle.table_theory.proofs.Ordering.{order_push}
-use Rattle.table_theory.proofs.Owned.{at_push}
-use Rattle.table_theory.proofs.Reaching.{passes_since, reaches_since, reaches_one, reaches_other}
-use Rattle.claim_queue.specs.declared.claim.ClaimRefusal.{ClaimRefusal}
-use Rattle.claim_queue.specs.declared.take.TakeRefusal.{TakeRefusal}
-use Rattle.claim_queue.specs.declared.rule.Did.{Did}
-use Rattle.claim_queue.specs.Layout.{tail_word, ends_word}
-use Rattle.claim_queue.specs.Own.{View, of_queues, did_both, taking}
 use Rattle.claim_queue.specs.Orders.{TakesInOrder}
-use Rattle.claim_queue.specs.Answers.{Refused}
-use Rattle.claim_queue.specs.Claims.{run_of}
 use Rattle.claim_queue.specs.Closings.{ShutNow}
-use Rattle.claim_queue.specs.Endings.{TookIn}
-use Rattle.claim_queue.specs.Puts.{IsPut, PutAnswer}
-use Rattle.claim_queue.specs.Takings.{TookItems, RefusedTake, scanned}
-use Rattle.claim_queue.proofs.Answered.{Does, does, refused_own, refused_take_own, put_own, answer_own, did_put}
+use Rattle.claim_queue.proofs.Answered.{Does, does, refused_own, refused_take_own, put_own, answer_own}
 use Rattle.claim_queue.proofs.Growing.{reaches_grow}
 use Rattle.claim_queue.proofs.Raising.{places_length}
-use Rattle.claim_queue.proofs.Saying.{passes_split}
 
 -- CLAIMS
-
--- a claim that was raised is one run more, behind the others
-pub claim_order : (room : ℕ) (v w : View) (start : ℕ) (items : List ℕ) → IsPut room v start items w → InOrder v.own.runs → InOrder w.own.runs
-claim_order room v w start items h up = let long = places_length items (length items) in let some_item = h.1.2.4.0 in
-    subst InOrder (λ i. (sym (put_own room v w start items h).did i).runs) (order_push v.own.runs (run_of start items (length items)) up h.0 (omega arith))
 
 -- a line was put, or the try refused, and the runs stay in order
 pub answer_order : (room : ℕ) (v w : View) (items : List ℕ) (r : Result ℕ ClaimRefusal) → PutAnswer room v items r w → InOrder v.own.runs → InOrder w.own.runs
@@ -65,10 +38,6 @@ module _ (v w : View) (x : IsHonest of_queues v) (y : IsHonest of_queues w) wher
   pub put_order : (room start : ℕ) (items : List ℕ) → IsPut room v start items w → TakesInOrder v → TakesInOrder w
   put_order room start items h = does_order _ refl (put_own room v w start items h)
 
-  pub tried_order : (room : ℕ) (items : List ℕ) (r : Result ℕ ClaimRefusal) → PutAnswer room v items r w → TakesInOrder v → TakesInOrder w
-  tried_order room items (Ok start) h = does_order (did_put v items (Ok start)) refl (answer_own room v w items (Ok start) h)
-  tried_order room items (Err r) h = does_order v.own refl (answer_own room v w items (Err r) h)
-
   pub shut_order : (was_open : Bool) → ShutNow v was_open w → TakesInOrder v → TakesInOrder w
   shut_order was_open h = does_order _ refl (does v w _ _ h.3)
 
@@ -77,7 +46,7 @@ module _ (v w : View) (x : IsHonest of_queues v) (y : IsHonest of_queues w) wher
   took_order room items some_item (tail, m, o, scan, are, first, made) up =
       let q : Positions = o.object in
       let b : Batch = taking q (length items) in
-      let (reached, real, leaves) = passes_split v.seen w.seen (load tail_word tail m ∷ scanned room tail scan) (change tail_word tail o (with_take q (length items))) [] (passes_since of_queues v w _ x y made.adds) in
+      let (reached, real, leaves) = passes_split of_queues v.seen w.seen (load tail_word tail m ∷ scanned room tail scan) (change tail_word tail o (with_take q (length items))) [] (passes_since of_queues v w _ x y made.adds) in
       let g = reaches_grow v.seen o reached in
       let f = g.first in let further = g.further in
       let long : length b.places ≡ length items = sym (length-map b.places item_of) ∙ ap length first in

@@ -1,23 +1,11 @@
 -- The two stores of a raise, and the claim after them.
-use Rattle.std.proofs.Common.{◌≡◌, ◌≢◌, ℕ, zero, suc, ◌+◌, ◌<◌, ⊎_elim, Bool, true, false, eqb, List, [], ◌∷◌, ◌++◌, map, length, get_or, set, sym, refl, ap, ◌∙◌, subst, arith, get_or-set_same}
+use Rattle.claim_queue.proofs.Common.{◌≡◌, ◌≢◌, ℕ, zero, suc, ◌+◌, ◌<◌, Bool, true, false, eqb, List, [], ◌∷◌, ◌++◌, map, length, get_or, set, sym, refl, ap, ◌∙◌, subst, arith, get_or-set_same, length-map, if◌then◌else◌, some, get_elem?, Cell, Batch, blank, fresh, item_of, Distinct, number_of, written_to, made_then, set_here, set_else, at_longer, at_last, at_below, IsPlace, data_word, flag_word, Did, View, run, with_changed, Claimed, Raised, places_of, run_of, Owns, KeepsClaims, KeepsOthers}
 use Rattle.std.proofs.lemmas.List.{set-set}
-use Rattle.std.specs.Prelude.{if◌then◌else◌}
-use mathlib.Core.Option.{some, some-injective, some-ne-none}
-use lib.ListN.{get_elem?}
-use Rattle.table_theory.specs.declared.queues.Cell.{Cell}
-use Rattle.table_theory.specs.declared.queues.Batch.{Batch}
-use Rattle.table_theory.specs.Positioned.{blank, fresh}
-use Rattle.table_theory.specs.Listing.{Distinct, number_of, written_to}
-use Rattle.table_theory.proofs.Parting.{made_on}
-use Rattle.atomic_table.proofs.Lists.{at_set, set_here, set_else, at_longer, at_last}
-use Rattle.table_theory.proofs.Owned.{at_below, one_at, at_behind}
+use mathlib.Core.Option.{some-injective, some-ne-none}
+use Rattle.table_theory.proofs.Owned.{at_behind}
 use Rattle.table_theory.proofs.Listing.{found_by_start}
-use Rattle.claim_queue.specs.Changes.{IsPlace}
-use Rattle.claim_queue.specs.Layout.{data_word, flag_word}
-use Rattle.claim_queue.specs.Own.{View, run, with_changed}
-use Rattle.claim_queue.specs.Steps.{Wrote, Claimed}
-use Rattle.claim_queue.specs.Puts.{Raised}
-use Rattle.claim_queue.specs.Claims.{places_of, run_of, Owns, KeepsClaims, KeepsOthers}
+use Rattle.claim_queue.specs.Steps.{WroteAt}
+use Rattle.claim_queue.proofs.Reading.{distinct_runs}
 
 -- a place that is raised
 abbrev raised_place : ℕ → Cell
@@ -28,20 +16,13 @@ number_set start [] m e f has is = refl
 number_set start (x ∷ xs) zero e f has is = let same : f.start ≡ x.start = is ∙ sym (ap (λ (z : Batch). z.start) (some-injective x e has)) in ap (λ (z : ℕ). if eqb z start then 0 else suc (number_of start xs)) same
 number_set start (x ∷ xs) (suc m) e f has is = ap (λ (z : ℕ). if eqb x.start start then 0 else suc z) (number_set start xs m e f has is)
 
-pub distinct_set : (l : List Batch) (m : ℕ) (e f : Batch) → get_elem? l m ≡ some e → f.start ≡ e.start → Distinct l → Distinct (set l m f)
-distinct_set l m e f has is d = λ i j x y at at' same. ⊎_elim
-    (λ t. ⊎_elim (λ u. t.0 ∙ sym u.0)
-    (λ u. t.0 ∙ d m j e y has u.1 (sym is ∙ ap (λ (z : Batch). z.start) t.1 ∙ same))
-    (at_set l m j f y at'))
-    (λ t. ⊎_elim (λ u. d i m x e t.1 has (same ∙ sym (ap (λ (z : Batch). z.start) u.1) ∙ is) ∙ sym u.0)
-    (λ u. d i j x y t.1 u.1 same)
-    (at_set l m j f y at'))
-    (at_set l m i f x at)
+pub run_items : (xs : List ℕ) (r : ℕ) → map item_of (places_of xs r) ≡ xs
+run_items [] r = refl
+run_items (x ∷ xs) zero = ap (λ (z : List ℕ). x ∷ z) (run_items xs zero)
+run_items (x ∷ xs) (suc r) = ap (λ (z : List ℕ). x ∷ z) (run_items xs r)
 
 pub places_length : (xs : List ℕ) (r : ℕ) → length (places_of xs r) ≡ length xs
-places_length [] r = refl
-places_length (x ∷ xs) zero = ap suc (places_length xs zero)
-places_length (x ∷ xs) (suc r) = ap suc (places_length xs r)
+places_length xs r = sym (length-map (places_of xs r) item_of) ∙ ap length (run_items xs r)
 
 pub next_place : (xs : List ℕ) (r : ℕ) → r < length xs → get_or (places_of xs r) r blank ≡ fresh (get_or xs r 0)
 next_place [] r h = absurd (omega arith)
@@ -64,47 +45,39 @@ twice : (e : Batch) (i : ℕ) → i < length e.places → written_to (written_to
 twice e i h = let x : Cell = record { item = (get_or e.places i blank).item; written = 1 } in
     λ k. record { start = e.start; places = (ap (λ (z : Cell). set (set e.places i x) i (record { item = z.item; written = 2 })) (get_or-set_same e.places i x blank h) ∙ set-set e.places i x (record { item = (get_or e.places i blank).item; written = 2 })) k }
 
--- the end's runs after a store
-pub runs_after : (v w : View) (start i n u : ℕ) (e : Batch) → Wrote v start i n u w → get_elem? v.own.runs (number_of start v.own.runs) ≡ some e → w.own.runs ≡ set v.own.runs (number_of start v.own.runs) (written_to e i n)
-runs_after v w start i n u e h has = let m : ℕ = number_of start v.own.runs in let same : h.run ≡ e = one_at v.own.runs m h.run e h.has has in
-    (λ k. (h.made.did k).runs) ∙ (λ k. set v.own.runs (number_of (h.start_is k) v.own.runs) (written_to (same k) i n))
+-- a run of the end, which is then another of the same start
+pub own_changed : (v w : View) (e f : Batch) → get_elem? v.own.runs (number_of e.start v.own.runs) ≡ some e → f.start ≡ e.start → w.own ≡ with_changed v.own f → get_elem? w.own.runs (number_of e.start w.own.runs) ≡ some f
+own_changed v w e f has is did = let m : ℕ = number_of e.start v.own.runs in let same : number_of f.start v.own.runs ≡ m = ap (λ (z : ℕ). number_of z v.own.runs) is in
+    let runs : w.own.runs ≡ set v.own.runs m f = (λ k. (did k).runs) ∙ ap (λ (z : ℕ). set v.own.runs z f) same in
+    (λ k. get_elem? (runs k) (number_of e.start (runs k))) ∙ (ap (get_elem? (set v.own.runs m f)) (number_set e.start v.own.runs m e f has is) ∙ set_here v.own.runs m f (at_below v.own.runs m e has))
 
--- the run of the end, after a store
-pub run_after : (v w : View) (start i n u : ℕ) (e : Batch) → Wrote v start i n u w → get_elem? v.own.runs (number_of start v.own.runs) ≡ some e → get_elem? w.own.runs (number_of start w.own.runs) ≡ some (written_to e i n)
-run_after v w start i n u e h has = let m : ℕ = number_of start v.own.runs in
-    subst (λ (z : List Batch). get_elem? z (number_of start z) ≡ some (written_to e i n)) (sym (runs_after v w start i n u e h has))
-    (subst (λ (z : ℕ). get_elem? (set v.own.runs m (written_to e i n)) z ≡ some (written_to e i n)) (sym (number_set start v.own.runs m e (written_to e i n) has refl)) (set_here v.own.runs m (written_to e i n) (at_below v.own.runs m e has)))
-
-pub distinct_after : (v w : View) (start i n u : ℕ) → Wrote v start i n u w → Distinct v.own.runs → Distinct w.own.runs
-distinct_after v w start i n u h d = subst Distinct (sym (runs_after v w start i n u h.run h h.has)) (distinct_set v.own.runs (number_of start v.own.runs) h.run (written_to h.run i n) h.has refl d)
+-- changed twice
+pub changed_twice : (d : Did) (e f g : Batch) → get_elem? d.runs (number_of e.start d.runs) ≡ some e → f.start ≡ e.start → g.start ≡ e.start → with_changed (with_changed d f) g ≡ with_changed d g
+changed_twice d e f g has one two = let m : ℕ = number_of e.start d.runs in let at : number_of f.start d.runs ≡ m = ap (λ (z : ℕ). number_of z d.runs) one in let at' : number_of g.start d.runs ≡ m = ap (λ (z : ℕ). number_of z d.runs) two in
+    let number : number_of g.start (set d.runs (number_of f.start d.runs) f) ≡ m = (λ k. number_of (two k) (set d.runs (at k) f)) ∙ number_set e.start d.runs m e f has one in
+    (λ k. record d { runs = set (set d.runs (at k) f) (number k) g }) ∙ (λ k. record d { runs = set-set d.runs m f g k }) ∙ (λ k. record d { runs = set d.runs (sym at' k) g })
 
 -- both stores together
-pub raised_on : (room : ℕ) (u v w : View) (start r : ℕ) (xs : List ℕ) → Owns u start xs r → r < length xs → Wrote u start r 1 (data_word room (start + r)) v → Wrote v start r 2 (flag_word room (start + r)) w → Raised room u start xs r w
-raised_on room u v w start r xs own below a b = let e : Batch = run_of start xs r in let m : ℕ = number_of start u.own.runs in let f : Batch = written_to e r 1 in let long = places_length xs r in let there : r < length e.places = omega arith in
-    let one : a.run ≡ e = one_at u.own.runs m a.run e a.has own in let two : b.run ≡ f = one_at v.own.runs (number_of start v.own.runs) b.run f b.has (run_after u v start r 1 _ e a own) in
-    let runs : v.own.runs ≡ set u.own.runs m f = runs_after u v start r 1 _ e a own in
-    let next : written_to b.run r 2 ≡ run_of start xs (r + 1) = (λ k. written_to (two k) r 2) ∙ (twice e r there ∙ (next_run start xs r below ∙ ap (run_of start xs) (let n : suc r ≡ r + 1 = omega arith in n))) in
-    let did : w.own ≡ with_changed u.own (run_of start xs (r + 1)) = b.made.did ∙ (λ k. record (a.made.did k) { runs = set (runs k) (number_of (b.start_is k) (runs k)) (next k) })
-    ∙ (λ k. record u.own { runs = set (set u.own.runs m f) (number_set start u.own.runs m e f own refl k) (run_of start xs (r + 1)) })
-    ∙ (λ k. record u.own { runs = (set-set u.own.runs m f (run_of start xs (r + 1))) k }) in let both_stores = made_on u v w _ _ _ _ a.made b.made in (
-      record { found_data = a.found; at_data = a.at; found_flag = b.found; at_flag = b.at },
+pub raised_on : (room : ℕ) (u v w : View) (start r : ℕ) (xs : List ℕ) → Owns u start xs r → r < length xs → WroteAt start r 1 (data_word room (start + r)) u v → WroteAt start r 2 (flag_word room (start + r)) v w → Raised room u start xs r w
+raised_on room u v w start r xs own below one two = let e : Batch = run_of start xs r in let f : Batch = written_to e r 1 in let g : Batch = written_to f r 2 in let long = places_length xs r in let there : r < length e.places = omega arith in
+    let a = one e own refl in let b = two f (own_changed u v e f own refl a.3.made.did) refl in let made = made_then u v w _ _ _ (λ d. with_changed d g) a.3.made b.3.made in let next : g ≡ run_of start xs (r + 1) = twice e r there ∙ (next_run start xs r below ∙ ap (run_of start xs) (let n : suc r ≡ r + 1 = omega arith in n)) in (
+      record { found_data = a.0; at_data = a.1; found_flag = b.0; at_flag = b.1 },
       record {
-        was_claimed = subst (IsPlace a.at.object (start + r)) ((λ k. get_or (one k).places r blank) ∙ next_place xs r below) a.place;
-        was_stored = subst (IsPlace b.at.object (start + r)) ((λ k. get_or (two k).places r blank) ∙ (get_or-set_same e.places r (record { item = (get_or e.places r blank).item; written = 1 }) blank there ∙ (λ k. record { item = (next_place xs r below k).item; written = 1 }))) b.place;
+        was_claimed = subst (IsPlace a.1.object (start + r)) (next_place xs r below) a.2;
+        was_stored = subst (IsPlace b.1.object (start + r)) (get_or-set_same e.places r (record { item = (get_or e.places r blank).item; written = 1 }) blank there ∙ (λ k. record { item = (next_place xs r below k).item; written = 1 })) b.2;
       },
-      record { adds = both_stores.adds; did = did; member = both_stores.member },
+      record { adds = made.adds; did = made.did ∙ (changed_twice u.own e f g own refl refl ∙ ap (with_changed u.own) next); member = made.member },
     )
 
-pub own_after : (u v w : View) (start r a b : ℕ) (xs : List ℕ) → Owns u start xs r → r < length xs → Wrote u start r 1 a v → Wrote v start r 2 b w → Owns w start xs (r + 1)
-own_after u v w start r a b xs own below one two = let e : Batch = run_of start xs r in let long = places_length xs r in let n : suc r ≡ r + 1 = omega arith in
-    run_after v w start r 2 b (written_to e r 1) two (run_after u v start r 1 a e one own) ∙ ap some (twice e r (omega arith) ∙ next_run start xs r below ∙ ap (run_of start xs) n)
+pub own_after : (room : ℕ) (u w : View) (start r : ℕ) (xs : List ℕ) → Owns u start xs r → Raised room u start xs r w → Owns w start xs (r + 1)
+own_after room u w start r xs own h = own_changed u w (run_of start xs r) (run_of start xs (r + 1)) own refl h.2.did
 
 -- a claim that was just made is the end's own
-pub owns_claimed : (v w : View) (head : ℕ) (xs ys : List ℕ) → Claimed v head xs w → ys ≡ xs → Owns w head ys 0
-owns_claimed v w head xs ys h is = let runs : w.own.runs ≡ v.own.runs ++ run head xs ∷ [] = (λ k. (h.made.did k).runs) in
+pub owns_claimed : (v w : View) (head : ℕ) (xs : List ℕ) → Claimed v head xs w → Owns w head xs 0
+owns_claimed v w head xs h = let runs : w.own.runs ≡ v.own.runs ++ run head xs ∷ [] = (λ k. (h.2.made.did k).runs) in
     let last : get_elem? w.own.runs (length v.own.runs) ≡ some (run head xs) = subst (λ (z : List Batch). get_elem? z (length v.own.runs) ≡ some (run head xs)) (sym runs) (at_last v.own.runs (run head xs) (length v.own.runs) refl) in
-    let number = found_by_start w.own.runs (length v.own.runs) (run head xs) h.distinct last in
-    subst (λ (z : ℕ). get_elem? w.own.runs z ≡ some (run_of head ys 0)) (sym number) (last ∙ ap some (sym (ap (λ (z : List Cell). record { start = head; places = z }) (first_places ys ∙ ap (map fresh) is))))
+    let number = found_by_start w.own.runs (length v.own.runs) (run head xs) (distinct_runs w h.2.ruled) last in
+    subst (λ (z : ℕ). get_elem? w.own.runs z ≡ some (run_of head xs 0)) (sym number) (last ∙ ap some (sym (ap (λ (z : List Cell). record { start = head; places = z }) (first_places xs))))
 
 -- the end's other claims stay as they are
 
@@ -123,21 +96,18 @@ owns_more v w r runs start xs n own = let e : Batch = run_of start xs n in
     subst (λ (z : List Batch). get_elem? z (number_of start z) ≡ some e) (sym runs)
     (subst (λ (z : ℕ). get_elem? (v.own.runs ++ r) z ≡ some e) (sym (number_more start v.own.runs r e own)) (at_longer v.own.runs r (number_of start v.own.runs) e own))
 
-pub owns_same : (v w : View) → w.own.runs ≡ v.own.runs → KeepsClaims v w
-owns_same v w runs start xs n own = subst (λ (z : List Batch). get_elem? z (number_of start z) ≡ some (run_of start xs n)) (sym runs) own
-
 -- what the other end had stands behind what this end had
 pub owns_behind : (u w : View) (l : List Batch) → w.own.runs ≡ l ++ u.own.runs → Distinct w.own.runs → KeepsClaims u w
 owns_behind u w l runs distinct start xs n own = let e : Batch = run_of start xs n in let k : ℕ = number_of start u.own.runs in
     let at : get_elem? w.own.runs (length l + k) ≡ some e = subst (λ (z : List Batch). get_elem? z (length l + k) ≡ some e) (sym runs) (at_behind l u.own.runs k e own) in
     subst (λ (z : ℕ). get_elem? w.own.runs z ≡ some e) (sym (found_by_start w.own.runs (length l + k) e distinct at)) at
 
--- a write of one run leaves the others
-pub others_written : (v w : View) (start i n u : ℕ) → Wrote v start i n u w → KeepsOthers start v w
-others_written v w start i n u h other xs r ne own = let m : ℕ = number_of start v.own.runs in let k : ℕ = number_of other v.own.runs in let f : Batch = written_to h.run i n in let e : Batch = run_of other xs r in
-    let apart : k ≢ m = (λ z. ne (ap (λ (y : Batch). y.start) (some-injective e h.run (sym own ∙ (ap (get_elem? v.own.runs) z ∙ h.has))) ∙ h.start_is)) in
-    subst (λ (z : List Batch). get_elem? z (number_of other z) ≡ some e) (sym (runs_after v w start i n u h.run h h.has))
-    (subst (λ (z : ℕ). get_elem? (set v.own.runs m f) z ≡ some e) (sym (number_set other v.own.runs m h.run f h.has refl)) (set_else v.own.runs m k f apart ∙ own))
+-- a raise in one run leaves the others
+pub others_raised : (room : ℕ) (v w : View) (start r : ℕ) (ys : List ℕ) → Owns v start ys r → Raised room v start ys r w → KeepsOthers start v w
+others_raised room v w start r ys own h other xs n ne mine = let m : ℕ = number_of start v.own.runs in let k : ℕ = number_of other v.own.runs in let f : Batch = run_of start ys (r + 1) in let e : Batch = run_of other xs n in
+    let apart : k ≢ m = (λ z. ne (ap (λ (y : Batch). y.start) (some-injective e (run_of start ys r) (sym mine ∙ (ap (get_elem? v.own.runs) z ∙ own))))) in
+    subst (λ (z : List Batch). get_elem? z (number_of other z) ≡ some e) (λ i. (sym h.2.did i).runs)
+    (subst (λ (z : ℕ). get_elem? (set v.own.runs m f) z ≡ some e) (sym (number_set other v.own.runs m (run_of start ys r) f own refl)) (set_else v.own.runs m k f apart ∙ mine))
 
 pub others_on : (start : ℕ) (u v w : View) → KeepsOthers start u v → KeepsOthers start v w → KeepsOthers start u w
 others_on start u v w a b other xs r ne own = b other xs r ne (a other xs r ne own)

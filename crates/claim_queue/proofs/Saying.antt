@@ -1,41 +1,20 @@
 -- What a refusal says of the queue, by the real steps that lead to it.
-use Rattle.std.proofs.Common.{◌≡◌, ◌≢◌, ℕ, ◌+◌, ◌-◌, ◌<◌, ◌≤◌, Bool, true, false, List, [], ◌∷◌, ◌++◌, length, refl, sym, ap, ◌∙◌, subst, arith, ⊎_elim}
-use Rattle.std.proofs.lemmas.List.{append_assoc}
-use Rattle.table_theory.specs.declared.queues.Positions.{Positions}
-use Rattle.table_theory.specs.declared.views.Moment.{Moment}
+use Rattle.claim_queue.proofs.Common.{◌≡◌, ◌≢◌, ℕ, ◌+◌, ◌-◌, ◌<◌, ◌≤◌, Bool, true, false, List, [], ◌∷◌, ◌++◌, length, refl, sym, ap, ◌∙◌, subst, arith, ⊎_elim, append_assoc, Positions, Moment, Step, load, Adds, IsReal, IsHonest, written_at, head_of, tail_of, IsWhole, passes_since, Refused, head_word, tail_word, flag_word, mark, View, of_queues, Scan, scanned, stopping, behind, RefusedTake, passes_split}
 use Rattle.table_theory.specs.Courses.{Continues}
-use Rattle.table_theory.specs.Ledgers.{Step, load, Adds, IsReal, IsHonest, Reaches, Passes}
-use Rattle.table_theory.specs.Positioned.{written_at, head_of, tail_of}
-use Rattle.table_theory.specs.Sharing.{IsWhole}
-use Rattle.table_theory.proofs.Reaching.{all_behind, continues_one, reaches_on, passes_since, alone_since}
+use Rattle.table_theory.specs.Ledgers.{Passes}
+use Rattle.table_theory.proofs.Reaching.{all_behind, alone_since}
 use Rattle.claim_queue.specs.declared.claim.ClaimRefusal.TheVariants as not_claimed
 use Rattle.claim_queue.specs.declared.take.TakeRefusal.TheVariants as not_taken
-use Rattle.claim_queue.specs.Answers.{Refused}
-use Rattle.claim_queue.specs.Layout.{head_word, tail_word, flag_word, mark}
-use Rattle.claim_queue.specs.Own.{View, of_queues}
-use Rattle.claim_queue.specs.Takings.{Scan, scanned, stopping, behind, RefusedTake}
-use Rattle.claim_queue.proofs.Claiming.{open_at}
-use Rattle.claim_queue.proofs.Growing.{reaches_grow}
-use Rattle.claim_queue.proofs.Lawful.{head_says, tail_says, low_says, real_lawful}
-
--- to an entry behind others, by real steps
-reaches_next : (m : Moment Positions) (e : Step Positions) → Reaches of_queues m e.then → IsReal of_queues e → Reaches of_queues m e.next
-reaches_next m e a r = reaches_on of_queues m e.then e.next a (record { steps = e ∷ []; leads = continues_one e.then e refl; real = (r, tt) })
-
-pub passes_split : (m n : Moment Positions) (xs : List (Step Positions)) (e : Step Positions) (ys : List (Step Positions)) → Passes of_queues m (xs ++ e ∷ ys) n → Reaches of_queues m e.then × IsReal of_queues e × Passes of_queues e.next ys n
-passes_split m n [] e ys p = p
-passes_split m n (x ∷ xs) e ys p = let q = passes_split x.next n xs e ys p.2 in (reaches_on of_queues m x.next e.then (reaches_next m x p.0 p.1) q.0, q.1, q.2)
+use Rattle.claim_queue.proofs.Growing.{reaches_grow, real_lawful}
+use Rattle.claim_queue.proofs.Lawful.{head_says, head_open, tail_says, low_says}
 
 shut_from : (n : ℕ) (b : Bool) → n < 4294967296 → 4294967296 ≤ n + mark b → b ≡ true
 shut_from n true bounded h = refl
 shut_from n false bounded h = absurd (omega arith)
 
--- a head that was found with the mark is that of a shut queue, and one without it that of an open one
+-- a head that was found with the mark is that of a shut queue
 head_shut : (head : ℕ) (m : Moment Positions) → IsReal of_queues (load head_word head m) → 4294967296 ≤ head → m.object.shut ≡ true
 head_shut head m r marked = let h = head_says (load head_word head m) refl r in let e = h.0 in shut_from (head_of m.object) m.object.shut h.1 (omega arith)
-
-head_open : (head : ℕ) (m : Moment Positions) → IsReal of_queues (load head_word head m) → head < 4294967296 → head ≡ head_of m.object
-head_open head m r bounded = let h = (head_says (load head_word head m) refl r).0 in let is_open = open_at (head_of m.object) m.object.shut (subst (λ (z : ℕ). z < 4294967296) h bounded) in let z : mark m.object.shut ≡ 0 = ap mark is_open in omega arith
 
 last_shut : (m n : Moment Positions) → m ≡ n → m.object.shut ≡ true → n.object.shut ≡ true
 last_shut m n e h = subst (λ (z : Moment Positions). z.object.shut ≡ true) e h
@@ -51,13 +30,13 @@ module _ (v w : View) (x : IsHonest of_queues v) (y : IsHonest of_queues w) wher
       h
 
   pub full_says : (room count head tail : ℕ) → (r : Refused room v count (not_claimed.Full head tail) w) → r.1.object.taken + room < length r.1.object.places + count
-  full_says room count head tail (fits, m, n, bounded, full, made) = let p = passes (load head_word head m ∷ load tail_word tail n ∷ []) made.adds in let h = head_open head m p.1 (omega arith) in
+  full_says room count head tail (fits, m, n, bounded, full, made) = let p = passes (load head_word head m ∷ load tail_word tail n ∷ []) made.adds in let h = (head_open head m p.1 (omega arith)).1 in
       let t = tail_says (load tail_word tail n) refl p.2.1 in let g = reaches_grow m n p.2.0 in let f = g.first in let further = g.further in omega arith
 
   module _ (Few Enough : List ℕ → Type 0) (room : ℕ) where
     pub done_says : RefusedTake Few Enough room v not_taken.Closed w → (w.seen.object.shut ≡ true) × (w.seen.object.taken ≡ length w.seen.object.places)
     done_says (s, m, stop, made) = let front : List (Step Positions) = scanned room s.tail s.scan ++ load (flag_word room (behind s)) s.flag s.at_flag ∷ [] in let p = passes (stopping room s ++ load head_word (4294967296 + s.tail) m ∷ []) made.adds in
-        let t = tail_says (load tail_word s.tail s.at_tail) refl p.1 in let q = passes_split s.at_tail w.seen front (load head_word (4294967296 + s.tail) m) [] p.2 in let g = reaches_grow s.at_tail m q.0 in let f = g.first in let further = g.further in
+        let t = tail_says (load tail_word s.tail s.at_tail) refl p.1 in let q = passes_split of_queues s.at_tail w.seen front (load head_word (4294967296 + s.tail) m) [] p.2 in let g = reaches_grow s.at_tail m q.0 in let f = g.first in let further = g.further in
         let shut = head_shut (4294967296 + s.tail) m q.1 (omega arith) in let h = (head_says (load head_word (4294967296 + s.tail) m) refl q.1).0 in let z : mark m.object.shut ≡ 4294967296 = ap mark shut in let within = (real_lawful (load head_word (4294967296 + s.tail) m) q.1).behind in
         let all : m.object.taken ≡ length m.object.places = omega arith in (last_shut m w.seen q.2 shut, subst (λ (z : Moment Positions). z.object.taken ≡ length z.object.places) q.2 all)
 
@@ -67,7 +46,7 @@ module _ (v w : View) (x : IsHonest of_queues v) (y : IsHonest of_queues w) wher
         let flag : Step Positions = load (flag_word room (behind s)) s.flag s.at_flag in let scan : List (Step Positions) = scanned room s.tail s.scan in let last : List (Step Positions) = load head_word head m ∷ load tail_word s.tail n ∷ [] in
         let p = passes (stopping room s ++ last) made.adds in let t = tail_says (load tail_word s.tail s.at_tail) refl p.1 in
         let whole : Passes of_queues s.at_tail (scan ++ flag ∷ last) w.seen = subst (λ (z : List (Step Positions)). Passes of_queues s.at_tail z w.seen) (append_assoc scan (flag ∷ []) last) p.2 in
-        let a = passes_split s.at_tail w.seen scan flag last whole in let b = a.2 in let c = b.2 in let t' = tail_says (load tail_word s.tail n) refl c.1 in
+        let a = passes_split of_queues s.at_tail w.seen scan flag last whole in let b = a.2 in let c = b.2 in let t' = tail_says (load tail_word s.tail n) refl c.1 in
         let g0 = reaches_grow v.seen s.at_tail p.0 in let g1 = reaches_grow s.at_tail s.at_flag a.0 in let g2 = reaches_grow s.at_flag m b.0 in let g3 = reaches_grow m n c.0 in
         let f1 = g1.first in let f2 = g2.first in let f3 = g3.first in let k1 = g1.further in let k2 = g2.further in let k3 = g3.further in let r0 = g0.room in let r1 = g1.room in
         let same : s.at_flag.object.room ≡ room = omega arith in let from : tail_of s.at_flag.object ≡ s.tail = omega arith in (
@@ -81,7 +60,7 @@ module _ (v w : View) (x : IsHonest of_queues v) (y : IsHonest of_queues w) wher
 
   pub claim_not_lost : (room count head : ℕ) → IsWhole v.member.share → Refused room v count (not_claimed.Lost head) w → ⊥
   claim_not_lost room count now whole (fits, head, tail, m, n, o, there, is_open, past, made) = let s = alone_since of_queues v w (load head_word head m ∷ load tail_word tail n ∷ load head_word now o ∷ []) whole x y made.adds in
-      let h = head_open head m s.1.0 (omega arith) in let h' = head_open now o s.1.1.1.0 is_open in let same : head_of m.object ≡ head_of o.object = ap (λ (z : Moment Positions). head_of z.object) (s.0.1.0 ∙ s.0.1.1.0) in absurd (omega arith)
+      let h = (head_open head m s.1.0 (omega arith)).1 in let h' = (head_open now o s.1.1.1.0 is_open).1 in let same : head_of m.object ≡ head_of o.object = ap (λ (z : Moment Positions). head_of z.object) (s.0.1.0 ∙ s.0.1.1.0) in absurd (omega arith)
 
   scan_stays : (room p : ℕ) (scan : Scan) (ys : List (Step Positions)) (a b : Moment Positions) → Continues a (scanned room p scan ++ ys) b → Continues a ys b
   scan_stays room p [] ys a b c = c

@@ -1,37 +1,17 @@
 -- What is read of a closed table.
-use Rattle.std.proofs.Common.{◌≡◌, ◌≢◌, ℕ, zero, suc, ◌+◌, ◌-◌, ◌%◌, ◌<◌, ◌≤◌, Bool, true, false, eq-eqb, ne_eqb, Option, Some, None, List, [], ◌∷◌, length, get_or, map, drop, sym, ap, ◌∙◌, subst, arith}
+use Rattle.claim_queue.proofs.Common.{◌≡◌, ◌≢◌, ℕ, zero, suc, ◌+◌, ◌-◌, ◌%◌, ◌<◌, ◌≤◌, Bool, true, false, Some, None, List, [], ◌∷◌, length, get_or, map, drop, sym, ap, ◌∙◌, subst, arith, lt-ltb, le-ltb, if◌then◌else◌, dite, dec_lt, get_elem?, Positions, QueueView, Moment, Part, PartsShow, ViewsShow, blank, place_at, item_at, written_at, head_of, IsWhole, grows_refl, at_map, Shape, left_at, left_from, shown, ends_word, data_word, flag_word, mark, data_in, flag_in, View, part_of, shuts_of, Rule, IsRuled, WordsShow}
+use Rattle.std.proofs.Common.{eq-eqb, ne_eqb, Option}
 use Rattle.std.proofs.lemmas.List.{drop_more, drop_all}
-use Rattle.std.proofs.lemmas.Bool.{lt-ltb, le-ltb}
-use Rattle.std.specs.Prelude.{if◌then◌else◌}
 use mathlib.Core.Option as maybe
-use mathlib.Core.Logic.{dite}
-use native.Mathlib.Decide.{dec_lt}
-use lib.ListN.{get_elem?}
-use Rattle.table_theory.specs.declared.queues.Positions.{Positions}
-use Rattle.table_theory.specs.declared.queues.QueueView.{QueueView}
-use Rattle.table_theory.specs.declared.views.Moment.{Moment}
-use Rattle.table_theory.specs.declared.views.Part.{Part}
 use Rattle.table_theory.specs.Ledgers.{Tallied}
-use Rattle.table_theory.specs.Listing.{AllRaised, ViewsShow}
-use Rattle.table_theory.specs.Positioned.{blank, place_at, item_at, item_of, written_at, head_of, left_of}
-use Rattle.table_theory.specs.Sharing.{IsWhole}
-use Rattle.table_theory.proofs.Ledgers.{whole_seen}
-use Rattle.table_theory.proofs.Listing.{listed_sole}
+use Rattle.table_theory.proofs.Listing.{listed_sole, first_seen}
+use Rattle.table_theory.proofs.Stepping.{rest_idle, closes as closed}
+use Rattle.std.proofs.Math.Path.{transport}
 use Rattle.table_theory.proofs.Owned.{at_map_back}
 use Rattle.table_theory.proofs.Reading.{read_word}
-use Rattle.table_theory.proofs.Standing.{rest_spent, number_is}
 use Rattle.table_theory.proofs.Totals.{sole_total}
-use Rattle.atomic_table.proofs.Lists.{at_map}
 use Rattle.atomic_table.specs.Table.{Final, Seen}
-use Rattle.claim_queue.specs.declared.rule.Did.{Did}
-use Rattle.claim_queue.specs.declared.rule.Shape.{Shape}
-use Rattle.claim_queue.specs.Changes.{empty}
-use Rattle.claim_queue.specs.Closings.{left_at, left_from, shown, ClosedNow}
-use Rattle.claim_queue.specs.Layout.{ends_word, data_word, flag_word, mark, data_in, flag_in}
-use Rattle.claim_queue.specs.Lines.{line_of, IsSettled}
-use Rattle.claim_queue.specs.Own.{View, of_queues, nothing_did, did_both, part_of}
-use Rattle.claim_queue.specs.Rules.{shuts_of, times_shut, Rule, IsRuled}
-use Rattle.claim_queue.specs.Shown.{WordsShow}
+use Rattle.claim_queue.specs.Closings.{ClosedNow}
 use Rattle.claim_queue.proofs.Cutting.{settled, all_left}
 use Rattle.claim_queue.proofs.Stepping.{St}
 
@@ -61,61 +41,38 @@ low_of n h true bounded is = omega arith
 low_of n h false bounded is = omega arith
 
 -- an end with the whole lists the queue alone
-sole : (key : Shape) (s : St) (k : Rule key s) (id : ℕ) (w : View) → get_elem? s.views id ≡ maybe.some w → IsWhole w.member.share → ViewsShow k.now.object (part_of w ∷ [])
-sole key s k id w at whole = listed_sole k.now.object (map part_of s.views) id (part_of w) k.listed (at_map part_of s.views id w at)
-    (λ i u has ne. let b = at_map_back part_of s.views i u has in subst (λ (z : QueueView). (z.runs ≡ []) × (z.takes ≡ [])) b.2 (let o = rest_spent nothing_did did_both k.now.ends s.views id w k.true_ends.ends at whole i b.0 b.1 ne in ((λ j. (o.own j).runs), λ j. (o.own j).takes)))
+sole : (key : Shape) (s : St) (k : Rule key s) (id : ℕ) (w : View) → get_elem? s.views id ≡ maybe.some w → IsWhole w.member.share → PartsShow k.now.object (part_of w ∷ [])
+sole key s k id w at whole = listed_sole k.now.object (map part_of s.views) id (part_of w) k.listed.lists (at_map part_of s.views id w at)
+    (λ i u has ne. let b = at_map_back part_of s.views i u has in subst (λ (z : QueueView). (z.runs ≡ []) × (z.takes ≡ [])) b.2 (let o = rest_idle k.stands id w at whole i b.0 b.1 ne in ((λ j. (o.own j).runs), λ j. (o.own j).takes)))
+
+-- an end that lists the queue alone has seen it
+pub closed_lists : (v : View) → PartsShow v.seen.object (part_of v ∷ []) → ViewsShow v.seen.object (part_of v ∷ [])
+closed_lists v l = record { lists = l; seen = first_seen v.seen.object (part_of v) (grows_refl v.seen.object) }
 
 pub whole_lists : (v : View) → IsRuled v → IsWhole v.member.share → ViewsShow v.seen.object (part_of v ∷ [])
-whole_lists v r whole = subst (λ (z : Moment Positions). ViewsShow z.object (part_of v ∷ [])) (sym r.seen) (sole r.key r.state r.rule r.number v r.here whole)
-
--- what is read, where the queue is so and its one end did this
-record Facts (q : Positions) (own : Did) (first put taken : ℕ) (left : List (Option ℕ)) : Type 0 where
-  starts : q.first ≡ first
-  puts : put ≡ length q.places
-  taken_is : taken ≡ q.taken
-  within : put ≤ taken + q.room
-  left_is : left ≡ map shown (drop q.taken q.places)
-  shut_once : own.shuts ≡ times_shut q
-  settles : IsSettled (map item_of q.places) taken (map line_of own.runs) (map line_of own.takes)
-  raised : AllRaised own.runs → left ≡ map Some (left_of q)
+whole_lists v r whole = closed_lists v (subst (λ (z : Moment Positions). PartsShow z.object (part_of v ∷ [])) (sym r.seen) (sole r.key r.state r.rule r.number v r.here whole))
 
 pub closes : (key : Shape) (v w : View) (found id h t put taken : ℕ) (ws : List ℕ) (xs : List Unit) (left : List (Option ℕ)) (at : ℕ) → v.member.ends ≡ 1 → key.first ≡ at → Tallied ends_word v found w → found ≡ 1 → Final (Seen (Rule key) id w) ws xs → get_elem? ws 0 ≡ maybe.some h → get_elem? ws 1 ≡ maybe.some t
     → put ≡ h % 4294967296 - key.first → taken ≡ t - key.first → left ≡ left_from key.room ws t (h % 4294967296 - t) → ClosedNow v at put taken left
 closes key v w found id h t put taken ws xs left at one_end at_is tallied one fin at_h at_t put_is taken_is left_is =
-    let s : St = fin.0 in let k = fin.1.0 in let here = fin.1.1 in let q : Positions = k.now.object in let sh : WordsShow q ws = subst (WordsShow q) fin.2 k.shows in
-    let first = k.first in let bounded = sh.bounded in let behind = k.lawful.behind in let most = k.lawful.within in
+    let s : St = fin.0 in let k = fin.1.0 in let here = fin.1.1 in let q : Positions = k.now.object in let sh : WordsShow q ws = subst (WordsShow q) fin.2 k.stands.shows in
+    let c = closed k.stands id v w here ends_word found tallied one one_end in let first = k.first in let bounded = sh.bounded in let behind = k.stands.lawful.behind in let most = k.stands.lawful.within in
     let hd : h % 4294967296 ≡ head_of q = low_of (head_of q) h q.shut bounded (sym (read_word ws 0 h at_h) ∙ sh.head) in let tl : t ≡ q.first + q.taken = sym (read_word ws 1 t at_t) ∙ sh.tail in
-    let n : h % 4294967296 - t ≡ length q.places - q.taken = omega arith in let tk : taken ≡ q.taken = omega arith in
-    let whole : IsWhole v.member.share = tallied.count.alone one in let still : IsWhole w.member.share = ap (λ (z : Part). z.share) tallied.made.member ∙ whole in
-    let now : k.now ≡ v.seen = whole_seen of_queues nothing_did did_both (empty key) k.now s.views id w k.true_ends here still ∙ tallied.still whole in
-    let listed : ViewsShow q (part_of w ∷ []) = sole key s k id w here still in let idle = rest_spent nothing_did did_both k.now.ends s.views id w k.true_ends.ends here still in
-    let sum : k.now.ends ≡ 1 = (number_is nothing_did did_both k.now.ends s.views id w k.true_ends.ends here (ap (λ (z : Part). z.ends) tallied.made.member ∙ one_end)).whole still in
-    let is : left ≡ map shown (drop q.taken q.places) = left_is ∙ ((λ i. left_from (sym k.room i) ws (tl i) (n i)) ∙ left_all q ws (length q.places - q.taken) q.taken sh (omega arith) (omega arith) k.lawful.within) in
-    let facts : Facts q w.own at put taken left = record {
+    let n : h % 4294967296 - t ≡ length q.places - q.taken = omega arith in let tk : taken ≡ q.taken = omega arith in let listed = sole key s k id w here (ap (λ (z : Part). z.share) tallied.made.member ∙ c.whole) in
+    let is : left ≡ map shown (drop q.taken q.places) = left_is ∙ ((λ i. left_from (sym k.room i) ws (tl i) (n i)) ∙ left_all q ws (length q.places - q.taken) q.taken sh (omega arith) (omega arith) most) in
+    transport (λ i. ClosedNow (record v { own = tallied.made.did i; seen = c.now_is i }) at put taken left) record {
+      whole = c.whole;
+      sole = ap (λ (z : Moment Positions). z.ends) c.now_is ∙ c.sole;
+      joined = c.joined;
       starts = first ∙ at_is;
       puts = omega arith;
       taken_is = tk;
       within = omega arith;
       left_is = is;
-      shut_once = sym (sole_total shuts_of s.views id w here (λ i u has ne. (λ j. ((idle i u has ne).own j).shuts))) ∙ k.shut_once;
-      settles = settled (part_of w) q taken listed behind tk;
+      shut_once = sym (sole_total shuts_of s.views id w here (λ i u has ne. (λ j. ((c.idle i u has ne).own j).shuts))) ∙ k.shut_once;
+      listed = record { runs = listed.runs; takes = listed.takes; runs_are = listed.runs_are; takes_are = listed.takes_are };
+      settled = settled (part_of w) q taken listed behind tk;
       raised = λ up. is ∙ all_left (part_of w) q listed up;
-    } in let f : Facts v.seen.object v.own at put taken left = subst (λ (z : Moment Positions). Facts z.object v.own at put taken left) now (subst (λ (z : Did). Facts q z at put taken left) tallied.made.did facts) in record {
-      whole = whole;
-      sole = ap (λ (z : Moment Positions). z.ends) (sym now) ∙ sum;
-      joined = (let b = k.true_ends.ends.balanced in let x = sole_total (λ (u : View). u.member.splits) s.views id w here (λ i u has ne. (idle i u has ne).splits) in let y = sole_total (λ (u : View). u.member.joins) s.views id w here (λ i u has ne. (idle i u has ne).joins) in
-          let a : w.member.splits ≡ v.member.splits = ap (λ (z : Part). z.splits) tallied.made.member in let c : w.member.joins ≡ v.member.joins = ap (λ (z : Part). z.joins) tallied.made.member in
-          omega arith);
-      listed = (let same : part_of w ≡ part_of v = λ i. record { queue = (tallied.still whole i).object; joined = (tallied.still whole i).object; runs = (tallied.made.did i).runs; takes = (tallied.made.did i).takes } in
-          subst (λ (z : Moment Positions). ViewsShow z.object (part_of v ∷ [])) now (subst (λ (z : QueueView). ViewsShow q (z ∷ [])) same listed));
-      starts = f.starts;
-      puts = f.puts;
-      taken_is = f.taken_is;
-      within = f.within;
-      left_is = f.left_is;
-      shut_once = f.shut_once;
-      settled = f.settles;
-      raised = f.raised;
     }
 
 -- the views of all ends list what an end has seen, its own among them

@@ -6,11 +6,11 @@ use Rattle.table_theory.specs.declared.queues.Positions.{Positions}
 use Rattle.table_theory.specs.declared.views.Moment.{Moment}
 use Rattle.table_theory.specs.Ledgers as ends
 use Rattle.table_theory.specs.Positioned.{item_of, left_of, with_shut}
-use Rattle.table_theory.specs.Listing.{AllRaised, ViewsShow}
+use Rattle.table_theory.specs.Listing.{AllRaised, PartsShow}
 use Rattle.table_theory.specs.Reads.{read_from}
 use Rattle.table_theory.specs.Sharing.{IsWhole}
 use Rattle.claim_queue.specs.declared.layout.TheConstants.{SHUT}
-use Rattle.claim_queue.specs.Layout.{head_word, ends_word, data_in, flag_in}
+use Rattle.claim_queue.specs.Layout.{head_word, data_in, flag_in}
 use Rattle.claim_queue.specs.Lines.{lines_put, lines_taken, IsSettled}
 use Rattle.claim_queue.specs.Own.{View, part_of, with_shutting}
 use Rattle.claim_queue.specs.Rules.{times_shut}
@@ -45,10 +45,6 @@ pub record ClosedNow (v : View) (first put taken : ℕ) (left : List (Option ℕ
   pub within : put ≤ taken + v.seen.object.room
   pub left_is : left ≡ map shown (drop v.seen.object.taken v.seen.object.places)
   pub shut_once : v.own.shuts ≡ times_shut v.seen.object
-  pub listed : ViewsShow v.seen.object (part_of v ∷ [])
+  pub listed : PartsShow v.seen.object (part_of v ∷ [])
   pub settled : IsSettled (map item_of v.seen.object.places) taken (lines_put v) (lines_taken v)
   pub raised : AllRaised v.own.runs → left ≡ map Some (left_of v.seen.object)
-
--- other ends stand: their number was found, with this end's, and this end has not the whole
-abbrev pub WereOpen : View → ℕ → View → Type 0
-WereOpen v others w = ends.WereOpen ends_word v others w

@@ -1,9 +1,9 @@
 -- What a clause says of a queue, of an end and of a claim.
-use Rattle.std.specs.Prelude.{◌≡◌, ℕ}
+use Rattle.std.specs.Prelude.{◌≡◌, ◌≤◌, ℕ}
 use Rattle.claim_queue.specs.declared.ends.ClaimQueue.{ClaimQueue}
 use Rattle.claim_queue.specs.declared.ends.QueueEnd.{QueueEnd}
 use Rattle.claim_queue.specs.Own.{View}
-use Rattle.table_theory.specs.Seating as seats
+use Rattle.table_theory.specs.Sharing.{IsWhole}
 
 -- what the end knows
 abbrev pub view_of : {n : ℕ} → QueueEnd n → View
@@ -15,11 +15,11 @@ call_of end = end.seat.id
 
 -- every other end was joined
 abbrev pub IsOnlyEnd : {n : ℕ} → QueueEnd n → Type 0
-IsOnlyEnd end = seats.IsOnly end.seat
+IsOnlyEnd end = IsWhole end.seat.me.0.member.share
 
 -- the end can be split: it has two parts of the share or more
 abbrev pub IsDivisible : {n : ℕ} → QueueEnd n → Type 0
-IsDivisible end = seats.IsDivisible end.seat
+IsDivisible end = 2 ≤ end.seat.me.0.member.share
 
 -- it is an end of this queue
 abbrev pub IsEndOf : {n : ℕ} → ClaimQueue n → QueueEnd n → Type 0
@@ -27,7 +27,7 @@ IsEndOf queue end = end.seat.table_id ≡ queue.table.shared.table_id
 
 -- it is the same end of the same queue
 abbrev pub IsSameEnd : {n : ℕ} → QueueEnd n → QueueEnd n → Type 0
-IsSameEnd old new = seats.IsSame old.seat new.seat
+IsSameEnd old new = (new.seat.table_id ≡ old.seat.table_id) × (new.seat.id ≡ old.seat.id)
 
 -- both are ends of one queue
 abbrev pub AreOfOneQueue : {n : ℕ} → QueueEnd n → QueueEnd n → Type 0

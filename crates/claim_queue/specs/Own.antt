@@ -30,7 +30,7 @@ of_queues = record { ends_word = ends_word; Shows = WordsShow; IsLawful = Lawful
 
 -- the end as the theory of queues has it: its runs and takings, and the queue that it has seen
 abbrev pub part_of : View → QueueView
-part_of v = record { queue = v.seen.object; joined = v.seen.object; runs = v.own.runs; takes = v.own.takes }
+part_of v = record { queue = v.seen.object; runs = v.own.runs; takes = v.own.takes }
 
 -- a run of which nothing is raised
 abbrev pub run : ℕ → List ℕ → Batch

@@ -1,19 +1,16 @@
 -- The rule: there is a lawful queue that the words and the views show.
-use Rattle.std.specs.Prelude.{◌≡◌, ℕ, map, if◌then◌else◌, slice_index_or}
+use Rattle.std.specs.Prelude.{◌≡◌, ℕ, map, if◌then◌else◌}
 use mathlib.Core.Option.{some}
 use lib.ListN.{get_elem?}
 use Rattle.table_theory.specs.declared.queues.Positions.{Positions}
 use Rattle.table_theory.specs.declared.views.Moment.{Moment}
-use Rattle.table_theory.specs.Ledgers.{first_of, AreTrue}
+use Rattle.table_theory.specs.Ledgers.{first_of, Stands}
 use Rattle.table_theory.specs.Listing.{ViewsShow}
-use Rattle.table_theory.specs.Positioned.{Lawful}
 use Rattle.table_theory.specs.Sharing.{total}
 use Rattle.atomic_table.specs.Table.{State}
 use Rattle.claim_queue.specs.declared.rule.Shape.{Shape}
 use Rattle.claim_queue.specs.Changes.{empty}
-use Rattle.claim_queue.specs.Layout.{ends_word}
 use Rattle.claim_queue.specs.Own.{View, nothing_did, of_queues, part_of}
-use Rattle.claim_queue.specs.Shown.{WordsShow}
 
 abbrev pub shuts_of : View → ℕ
 shuts_of v = v.own.shuts
@@ -26,12 +23,9 @@ pub record Rule (key : Shape) (s : State Unit View) : Type 0 where
   pub now : Moment Positions
   pub first : now.object.first ≡ key.first
   pub room : now.object.room ≡ key.room
-  pub lawful : Lawful now.object
-  pub shows : WordsShow now.object s.words
-  pub number : slice_index_or s.words ends_word 0 ≡ now.ends
+  pub stands : Stands of_queues nothing_did (empty key) now s.words s.views
   pub listed : ViewsShow now.object (map part_of s.views)
   pub shut_once : total shuts_of s.views ≡ times_shut now.object
-  pub true_ends : AreTrue of_queues nothing_did (empty key) now s.views
 
 -- what the first end of a queue knows
 abbrev pub newcomer : Shape → View

@@ -1,7 +1,7 @@
 //! Claims: an end stakes out a run of places by one exchange of the head, and then raises them one by one (Massalin and
 //! Pu 1991, the many-producer queue).
 ghost use Rattle.std.specs.Prelude.{◌≡◌, ◌+◌, ◌<◌, ◌≤◌, ℕ, true, length, MatchResult, MatchBool, IfOk, slice_index};
-ghost use Rattle.table_theory.specs.Listing.{AllRaised, Distinct};
+ghost use Rattle.table_theory.specs.Listing.{AllRaised};
 ghost use Rattle.claim_queue.specs.Claims.{Owns, KeepsClaims, KeepsOthers};
 ghost use Rattle.claim_queue.specs.Answers.{ClaimedItems, Refused, PausedClaim};
 ghost use Rattle.claim_queue.specs.declared.claim.ClaimRefusal.TheVariants as refusals;
@@ -158,7 +158,6 @@ impl<const N: usize> ClaimQueue<N> {
     ) -> Result<u32, ClaimRefusal>
         requires { IsEndOf self.now end.old }
         ensures own { IfOk result (λ start. Owns (view_of end.new) start items.now 0 × (length items.now ≤ N)) }
-        ensures distinct { IfOk result (λ start. Distinct (view_of end.new).own.runs) }
         ensures shut { (view_of end.old).seen.object.shut ≡ true → 0 < length items.now → length items.now ≤ N
             → MatchResult result (λ start. ⊥) (λ refusal. refusal ≡ refusals.Closed) }
         ensures steps { MatchResult result

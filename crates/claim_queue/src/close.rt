@@ -2,10 +2,11 @@
 ghost use Rattle.std.specs.Prelude.{◌≡◌, ◌+◌, ◌-◌, ◌<◌, ◌≤◌, IfOk, IfErr, MatchResult};
 ghost use Rattle.std.specs.Mem.Slots.{slots_items, slots_len, IsFull};
 ghost use Rattle.claim_queue.specs.Claims.{KeepsClaims};
-ghost use Rattle.claim_queue.specs.Closings.{ShutNow, ClosedNow, WereOpen, left_at, left_from};
+ghost use Rattle.claim_queue.specs.Closings.{ShutNow, ClosedNow, left_at, left_from};
+ghost use Rattle.table_theory.specs.Ledgers.{WereOpen};
 ghost use Rattle.claim_queue.specs.declared.layout.TheConstants.{MOST_PLACES};
 ghost use Rattle.table_theory.specs.declared.positions.TheConstants.{POSITIONS};
-ghost use Rattle.claim_queue.specs.Layout.{width};
+ghost use Rattle.claim_queue.specs.Layout.{width, ends_word};
 ghost use Rattle.claim_queue.specs.Lines.{SameLines};
 
 use crate::ends::{ClaimQueue, QueueEnd};
@@ -80,7 +81,7 @@ impl<const N: usize> ClaimQueue<N> {
         ensures only { IsOnlyEnd end.entry → MatchResult result (λ c. Unit {0}) (λ e. ⊥) }
         ensures closed { IfOk result (λ c. (c.first ≡ first_of self.entry)
             × ClosedNow (view_of end.entry) c.first c.put c.taken c.left.items) }
-        ensures steps { IfErr result (λ e. WereOpen (view_of end.entry) e.2.others (view_of e.1)) }
+        ensures steps { IfErr result (λ e. WereOpen ends_word (view_of end.entry) e.2.others (view_of e.1)) }
         ensures same { IfErr result (λ e. (e.0 ≡ self.entry) × IsSameEnd end.entry e.1) }
     {
         let mut end = end;

@@ -6,7 +6,6 @@ ghost use Rattle.claim_queue.specs.Endings.{Divided, IsNewborn, TookIn};
 ghost use Rattle.claim_queue.specs.declared.layout.TheConstants.{MOST_PLACES};
 ghost use Rattle.claim_queue.specs.Layout.{width};
 ghost use Rattle.claim_queue.specs.Lines.{lines_put, lines_taken};
-ghost use Rattle.table_theory.specs.Listing.{Distinct};
 
 use crate::layout::{ENDS, HEAD, TAIL, width};
 use crate::rule::{ClaimRule, Shape, View};
@@ -35,7 +34,6 @@ pub struct QueueEnd<const N: usize> {
     ghost room: { seat.me.0.first.room ≡ N },
     ghost bare: { seat.me.1 ≡ [] },
     ghost one: { seat.me.0.member.ends ≡ 1 },
-    ghost distinct: { Distinct seat.me.0.own.runs },
     ghost ruled: { ∥ IsRuled seat.me.0 ∥₁ },
 }
 
@@ -62,7 +60,8 @@ impl<const N: usize> ClaimQueue<N> {
     }
 
     /// A new end, which has claimed and taken nothing. Both ends are to be joined again before the queue can be closed;
-    /// an end that is dropped can never be joined.
+    /// an end that is dropped can never be joined. Besides the step that counts it, the first word is loaded once, and
+    /// what is found there is not used.
     ///
     /// Condition: the end has two parts or more of its queue's 2^64 - 1. The first end can be split two million
     /// times without a join, and each of those ends 43 times in a chain.
@@ -81,7 +80,8 @@ impl<const N: usize> ClaimQueue<N> {
         QueueEnd { seat }
     }
 
-    /// The first end then has all that both had: their claims, what they took, and their parts of the queue.
+    /// The first end then has all that both had: their claims, what they took, and their parts of the queue. Besides
+    /// the step that counts one end less, the first word is loaded once, and what is found there is not used.
     pub fn join(&self, end: &mut QueueEnd<N>, other: QueueEnd<N>)
         requires { IsEndOf self.now end.old × IsEndOf self.now other }
         ensures lines { (lines_put (view_of end.new) ≡ lines_put (view_of end.old) ++ lines_put (view_of other.entry))

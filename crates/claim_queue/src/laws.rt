@@ -13,7 +13,7 @@ ghost use Rattle.table_theory.specs.declared.queues.Positions.{Positions};
 ghost use Rattle.table_theory.specs.declared.queues.QueueView.{QueueView};
 ghost use Rattle.table_theory.specs.declared.views.Moment.{Moment};
 ghost use Rattle.table_theory.specs.Ledgers.{Step, load, change, count_down, Adds, IsReal, IsHonest, Reaches, Passes};
-ghost use Rattle.table_theory.specs.Listing.{Later, ViewsShow, written_to};
+ghost use Rattle.table_theory.specs.Listing.{ViewsShow, written_to};
 ghost use Rattle.table_theory.specs.Positioned.{Lawful, Grows, blank, fresh, item_at, written_at, head_of, tail_of};
 ghost use Rattle.table_theory.specs.Positioned.{with_claim, with_take, with_shut};
 ghost use Rattle.table_theory.specs.QueueOf.{IsEvent, no_event};
@@ -101,7 +101,7 @@ pub fn changes_are_events()
     ensures claimed { (head : ℕ) (items : List ℕ) (m : Moment Positions) (views : List QueueView) (seat : ℕ)
         (v w : QueueView) → IsReal of_queues (change head_word head m (with_claim m.object items)) → 0 < length items
         → ViewsShow m.object views → get_elem? views seat ≡ some v → w.runs ≡ v.runs ++ run head items ∷ []
-        → w.takes ≡ v.takes → Later w (with_claim m.object items)
+        → w.takes ≡ v.takes → Grows w.queue (with_claim m.object items)
         → (m.object.shut ≡ false) × (head ≡ head_of m.object)
         × IsEvent m.object (with_claim m.object items) seat v w (claim m.object.room seat items) }
     ensures stored { (word found position item : ℕ) (m : Moment Positions) (views : List QueueView)
@@ -110,7 +110,7 @@ pub fn changes_are_events()
         → ViewsShow m.object views → get_elem? views seat ≡ some v → get_elem? v.runs number ≡ some e
         → index < length e.places → e.start + index ≡ position
         → w.runs ≡ slice_set v.runs number (written_to e index 1) → w.takes ≡ v.takes
-        → Later w (written m.object position 1)
+        → Grows w.queue (written m.object position 1)
         → IsEvent m.object (written m.object position 1) seat v w no_event }
     ensures raised { (word found position item : ℕ) (m : Moment Positions) (views : List QueueView)
         (seat number index : ℕ) (v w : QueueView) (e : Batch)
@@ -119,19 +119,19 @@ pub fn changes_are_events()
         → ViewsShow m.object views → get_elem? views seat ≡ some v → get_elem? v.runs number ≡ some e
         → index < length e.places → e.start + index ≡ position
         → w.runs ≡ slice_set v.runs number (written_to e index 2) → w.takes ≡ v.takes
-        → Later w (written m.object position 2)
+        → Grows w.queue (written m.object position 2)
         → (k : ℕ) × (event : IsEvent m.object (written m.object position 2) seat v w (raise seat k index))
-        × (get_elem? event.shown.runs k ≡ some (seat, number, e)) }
+        × (get_elem? event.shown.lists.runs k ≡ some (seat, number, e)) }
     ensures taken { (tail count : ℕ) (m : Moment Positions) (views : List QueueView) (seat : ℕ) (v w : QueueView)
         → IsReal of_queues (change tail_word tail m (with_take m.object count)) → 0 < count
         → ViewsShow m.object views → get_elem? views seat ≡ some v
-        → w.takes ≡ v.takes ++ taking m.object count ∷ [] → w.runs ≡ v.runs → Later w (with_take m.object count)
+        → w.takes ≡ v.takes ++ taking m.object count ∷ [] → w.runs ≡ v.runs → Grows w.queue (with_take m.object count)
         → (tail ≡ tail_of m.object)
         × IsEvent m.object (with_take m.object count) seat v w (take_first m.object.room count) }
     ensures shut { (head : ℕ) (m : Moment Positions) (views : List QueueView) (seat : ℕ) (v w : QueueView)
         → IsReal of_queues (change head_word head m (with_shut m.object))
         → ViewsShow m.object views → get_elem? views seat ≡ some v → w.runs ≡ v.runs → w.takes ≡ v.takes
-        → Later w (with_shut m.object) → IsEvent m.object (with_shut m.object) seat v w (λ c. Ok (shut c)) }
+        → Grows w.queue (with_shut m.object) → IsEvent m.object (with_shut m.object) seat v w (λ c. Ok (shut c)) }
 {}
 
 /// What a refusal says of the queue. Closed, of a claim: it is shut. Full: there was no room when the head was loaded.

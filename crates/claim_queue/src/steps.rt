@@ -1,17 +1,14 @@
 //! The atomic steps. No signature has a const parameter, since a call of such a function could not pick ghost members.
-ghost use Rattle.std.specs.Prelude.{◌≡◌, ◌≢◌, ◌+◌, ◌-◌, ◌*◌, ◌%◌, ◌<◌, ◌≤◌, ℕ, false, [], length, slice_index_or};
-ghost use mathlib.Core.Option.{some};
-ghost use lib.ListN.{get_elem?};
+ghost use Rattle.std.specs.Prelude.{◌≡◌, ◌≢◌, ◌+◌, ◌-◌, ◌%◌, ◌<◌, ◌≤◌, ℕ, false, [], length};
 ghost use Rattle.table_theory.specs.declared.positions.TheConstants.{POSITIONS};
-ghost use Rattle.table_theory.specs.declared.queues.Batch.{Batch};
 ghost use Rattle.table_theory.specs.Ledgers.{CountedUp, CountedDown, Tallied, rest_of, newborn, both, emptied};
-ghost use Rattle.table_theory.specs.Listing.{Distinct, number_of};
-ghost use Rattle.table_theory.specs.Positioned.{blank, head_of, tail_of, item_at, written_at};
+ghost use Rattle.table_theory.specs.Positioned.{fresh, tail_of, item_at, written_at};
 ghost use Rattle.table_theory.specs.Seating.{IsSame};
-ghost use Rattle.claim_queue.specs.Layout.{mark, head_word, tail_word, ends_word, data_word, flag_word, width};
+ghost use Rattle.claim_queue.specs.Layout.{head_word, tail_word, ends_word, data_word, flag_word};
 ghost use Rattle.claim_queue.specs.declared.layout.TheConstants.{FIRST_DATA, MOST_PLACES, SHUT};
 ghost use Rattle.claim_queue.specs.Own.{nothing_did, did_both};
-ghost use Rattle.claim_queue.specs.Steps.{Told, Found, Claimed, Wrote, Took, Shut};
+ghost use Rattle.claim_queue.specs.Rules.{IsRuled};
+ghost use Rattle.claim_queue.specs.Steps.{IsSeated, IsNear, HasPlace, Stays, Found, Claimed, WroteAt, Took, Shut};
 ghost use Rattle.claim_queue.specs.Takings.{HasRaised};
 
 use crate::layout::{ENDS, HEAD, SHUT, TAIL, data_word, flag_word};
@@ -27,8 +24,8 @@ pub(crate) type Words = Shared<(), View, Shape, ClaimRule>;
 pub(crate) fn load(words: &Words, seat: &mut Seat<(), View>, word: usize) -> u64
     requires queue { (seat.old.table_id ≡ words.now.table_id) × (word < words.now.table_id.words) }
     requires live { 1 ≤ seat.old.me.0.member.ends }
-    ensures { IsSame seat.old seat.new × (seat.new.me.1 ≡ seat.old.me.1)
-        × Found seat.old.me.0 word result seat.new.me.0 }
+    ensures queue { IsSame seat.old seat.new × Stays seat.old.me seat.new.me }
+    ensures found { Found seat.old.me.0 word result seat.new.me.0 }
 {
     words.load::<Finds>(seat, word)
 }
@@ -36,9 +33,8 @@ pub(crate) fn load(words: &Words, seat: &mut Seat<(), View>, word: usize) -> u64
 pub(crate) fn load_head(words: &Words, seat: &mut Seat<(), View>) -> u64
     requires queue { (seat.old.table_id ≡ words.now.table_id) × (FIRST_DATA ≤ words.now.table_id.words) }
     requires live { 1 ≤ seat.old.me.0.member.ends }
-    ensures queue { IsSame seat.old seat.new × (seat.new.me.1 ≡ seat.old.me.1) }
+    ensures queue { IsSame seat.old seat.new × Stays seat.old.me seat.new.me }
     ensures found { Found seat.old.me.0 head_word result seat.new.me.0 }
-    ensures head { result ≡ head_of seat.new.me.0.seen.object + mark seat.new.me.0.seen.object.shut }
     ensures is_open { result < SHUT → seat.new.me.0.seen.object.shut ≡ false }
 {
     load(words, seat, HEAD)
@@ -47,10 +43,9 @@ pub(crate) fn load_head(words: &Words, seat: &mut Seat<(), View>) -> u64
 pub(crate) fn load_tail(words: &Words, seat: &mut Seat<(), View>) -> u64
     requires queue { (seat.old.table_id ≡ words.now.table_id) × (FIRST_DATA ≤ words.now.table_id.words) }
     requires live { 1 ≤ seat.old.me.0.member.ends }
-    ensures queue { IsSame seat.old seat.new × (seat.new.me.1 ≡ seat.old.me.1) }
+    ensures queue { IsSame seat.old seat.new × Stays seat.old.me seat.new.me }
     ensures found { Found seat.old.me.0 tail_word result seat.new.me.0 }
-    ensures tail { result ≡ tail_of seat.new.me.0.seen.object }
-    ensures bounded { result < POSITIONS }
+    ensures tail { (result ≡ tail_of seat.new.me.0.seen.object) × (result < POSITIONS) }
 {
     load(words, seat, TAIL)
 }
@@ -67,10 +62,9 @@ pub(crate) fn exchange_head<J: ClaimItems>(
     requires items { (items.now ≡ J.items) × (0 < length items.now) }
     requires room { head + length items.now ≤ tail_of seat.old.me.0.seen.object + seat.old.me.0.first.room }
     requires new { (new ≡ head + length items.now) × (new < POSITIONS) }
-    ensures queue { IsSame seat.old seat.new × (seat.new.me.1 ≡ seat.old.me.1) }
+    ensures queue { IsSame seat.old seat.new × Stays seat.old.me seat.new.me }
     ensures hit { result ≡ head → Claimed seat.old.me.0 head J.items seat.new.me.0 }
-    ensures miss { result ≢ head → Found seat.old.me.0 head_word result seat.new.me.0
-        × (result ≡ head_of seat.new.me.0.seen.object + mark seat.new.me.0.seen.object.shut) }
+    ensures miss { result ≢ head → Found seat.old.me.0 head_word result seat.new.me.0 }
 {
     let _ = items;
     words.compare_exchange::<Claims<J>>(seat, HEAD, head, new)
@@ -85,16 +79,11 @@ pub(crate) fn store_data<J: Spot>(
     index: usize,
     item: u64,
 )
-    requires queue { (seat.old.table_id ≡ words.now.table_id) × (words.now.table_id.words ≡ width room)
-        × (0 < room) × (room ≤ MOST_PLACES) × (seat.old.me.0.first.room ≡ room) }
-    requires live { 1 ≤ seat.old.me.0.member.ends }
+    requires queue { IsSeated room words.now.table_id seat.old }
     requires spot { (J.start ≡ start) × (J.index ≡ index) × (start < POSITIONS) × (index < MOST_PLACES) }
-    requires mine { (e : Batch)
-        × (get_elem? seat.old.me.0.own.runs (number_of J.start seat.old.me.0.own.runs) ≡ some e)
-        × (e.start ≡ J.start) × (J.index < length e.places) × ((slice_index_or e.places J.index blank).written ≡ 0)
-        × (item ≡ (slice_index_or e.places J.index blank).item) }
-    ensures queue { IsSame seat.old seat.new × (seat.new.me.1 ≡ seat.old.me.1) }
-    ensures wrote { Wrote seat.old.me.0 J.start J.index 1 (data_word room (start + index)) seat.new.me.0 }
+    requires mine { HasPlace seat.old.me.0 J.start J.index (fresh item) }
+    ensures queue { IsSame seat.old seat.new × Stays seat.old.me seat.new.me }
+    ensures wrote { WroteAt J.start J.index 1 (data_word room (start + index)) seat.old.me.0 seat.new.me.0 }
 {
     words.store::<StoresData<J>>(seat, data_word(room, start as usize + index), item);
 }
@@ -106,27 +95,20 @@ pub(crate) fn store_flag<J: Spot>(
     start: u64,
     index: usize,
 )
-    requires queue { (seat.old.table_id ≡ words.now.table_id) × (words.now.table_id.words ≡ width room)
-        × (0 < room) × (room ≤ MOST_PLACES) × (seat.old.me.0.first.room ≡ room) }
-    requires live { 1 ≤ seat.old.me.0.member.ends }
+    requires queue { IsSeated room words.now.table_id seat.old }
     requires spot { (J.start ≡ start) × (J.index ≡ index) × (start < POSITIONS) × (index < MOST_PLACES) }
-    requires mine { (e : Batch)
-        × (get_elem? seat.old.me.0.own.runs (number_of J.start seat.old.me.0.own.runs) ≡ some e)
-        × (e.start ≡ J.start) × (J.index < length e.places) × ((slice_index_or e.places J.index blank).written ≡ 1) }
-    ensures queue { IsSame seat.old seat.new × (seat.new.me.1 ≡ seat.old.me.1) }
-    ensures wrote { Wrote seat.old.me.0 J.start J.index 2 (flag_word room (start + index)) seat.new.me.0 }
+    requires mine { (item : ℕ) × HasPlace seat.old.me.0 J.start J.index (record { item = item; written = 1 }) }
+    ensures queue { IsSame seat.old seat.new × Stays seat.old.me seat.new.me }
+    ensures wrote { WroteAt J.start J.index 2 (flag_word room (start + index)) seat.old.me.0 seat.new.me.0 }
 {
     let word = flag_word(room, start as usize + index);
     words.store::<StoresFlag<J>>(seat, word, start + index as u64 + 1);
 }
 
 pub(crate) fn load_flag(words: &Words, seat: &mut Seat<(), View>, room: usize, position: u64) -> u64
-    requires queue { (seat.old.table_id ≡ words.now.table_id) × (words.now.table_id.words ≡ width room)
-        × (0 < room) × (room ≤ MOST_PLACES) × (seat.old.me.0.first.room ≡ room) }
-    requires live { 1 ≤ seat.old.me.0.member.ends }
-    requires near { (seat.old.me.0.seen.object.first ≤ position)
-        × (position < tail_of seat.old.me.0.seen.object + room) × (position < 2 * POSITIONS) }
-    ensures queue { IsSame seat.old seat.new × (seat.new.me.1 ≡ seat.old.me.1) }
+    requires queue { IsSeated room words.now.table_id seat.old }
+    requires near { IsNear seat.old.me.0 room position }
+    ensures queue { IsSame seat.old seat.new × Stays seat.old.me seat.new.me }
     ensures found { Found seat.old.me.0 (flag_word room position) result seat.new.me.0 }
     ensures raised { result ≡ position + 1
         → 2 ≤ written_at seat.new.me.0.seen.object (position - seat.new.me.0.seen.object.first) }
@@ -139,13 +121,10 @@ pub(crate) fn load_flag(words: &Words, seat: &mut Seat<(), View>, room: usize, p
 }
 
 pub(crate) fn load_data(words: &Words, seat: &mut Seat<(), View>, room: usize, position: u64) -> u64
-    requires queue { (seat.old.table_id ≡ words.now.table_id) × (words.now.table_id.words ≡ width room)
-        × (0 < room) × (room ≤ MOST_PLACES) × (seat.old.me.0.first.room ≡ room) }
-    requires live { 1 ≤ seat.old.me.0.member.ends }
-    requires near { (seat.old.me.0.seen.object.first ≤ position)
-        × (position < tail_of seat.old.me.0.seen.object + room) × (position < 2 * POSITIONS) }
+    requires queue { IsSeated room words.now.table_id seat.old }
+    requires near { IsNear seat.old.me.0 room position }
     requires raised { 2 ≤ written_at seat.old.me.0.seen.object (position - seat.old.me.0.seen.object.first) }
-    ensures queue { IsSame seat.old seat.new × (seat.new.me.1 ≡ seat.old.me.1) }
+    ensures queue { IsSame seat.old seat.new × Stays seat.old.me seat.new.me }
     ensures found { Found seat.old.me.0 (data_word room position) result seat.new.me.0 }
     ensures item { tail_of seat.new.me.0.seen.object ≤ position
         → result ≡ item_at seat.new.me.0.seen.object (position - seat.new.me.0.seen.object.first) }
@@ -159,10 +138,9 @@ pub(crate) fn exchange_tail(words: &Words, seat: &mut Seat<(), View>, tail: u64,
     requires new { (tail < new) × (seat.old.me.0.seen.object.first ≤ tail) }
     requires raised { (i : ℕ) → i < new - tail
         → 2 ≤ written_at seat.old.me.0.seen.object (tail - seat.old.me.0.seen.object.first + i) }
-    ensures queue { IsSame seat.old seat.new × (seat.new.me.1 ≡ seat.old.me.1) }
+    ensures queue { IsSame seat.old seat.new × Stays seat.old.me seat.new.me }
     ensures hit { result ≡ tail → Took seat.old.me.0 tail (new - tail) seat.new.me.0 }
-    ensures miss { result ≢ tail → Found seat.old.me.0 tail_word result seat.new.me.0
-        × (result ≡ tail_of seat.new.me.0.seen.object) }
+    ensures miss { result ≢ tail → Found seat.old.me.0 tail_word result seat.new.me.0 × (result < POSITIONS) }
 {
     words.compare_exchange::<Takes>(seat, TAIL, tail, new)
 }
@@ -170,7 +148,7 @@ pub(crate) fn exchange_tail(words: &Words, seat: &mut Seat<(), View>, tail: u64,
 pub(crate) fn or_head(words: &Words, seat: &mut Seat<(), View>) -> u64
     requires queue { (seat.old.table_id ≡ words.now.table_id) × (FIRST_DATA ≤ words.now.table_id.words) }
     requires live { 1 ≤ seat.old.me.0.member.ends }
-    ensures queue { IsSame seat.old seat.new × (seat.new.me.1 ≡ seat.old.me.1) }
+    ensures queue { IsSame seat.old seat.new × Stays seat.old.me seat.new.me }
     ensures shut { Shut seat.old.me.0 result seat.new.me.0 }
 {
     words.fetch_or::<Shuts>(seat, HEAD, SHUT)
@@ -180,7 +158,7 @@ pub(crate) fn count_up(words: &Words, seat: &mut Seat<(), View>) -> u64
     requires queue { (seat.old.table_id ≡ words.now.table_id) × (FIRST_DATA ≤ words.now.table_id.words) }
     requires parts { seat.old.me.0.member.ends + 1 ≤ seat.old.me.0.member.share }
     ensures queue { IsSame seat.old seat.new × (seat.new.me.1 ≡ seat.old.me.1) }
-    ensures told { Told seat.old.me.0 seat.new.me.0 }
+    ensures ruled { IsRuled seat.new.me.0 }
     ensures counted { CountedUp ends_word seat.old.me.0 seat.new.me.0 }
 {
     words.fetch_add::<CountsUp>(seat, ENDS, 1)
@@ -190,8 +168,8 @@ pub(crate) fn count_down(words: &Words, seat: &mut Seat<(), View>) -> u64
     requires queue { (seat.old.table_id ≡ words.now.table_id) × (FIRST_DATA ≤ words.now.table_id.words) }
     requires live { 2 ≤ seat.old.me.0.member.ends }
     ensures queue { IsSame seat.old seat.new × (seat.new.me.1 ≡ seat.old.me.1) }
-    ensures told { Told seat.old.me.0 seat.new.me.0 }
-    ensures counted { CountedDown ends_word seat.old.me.0 seat.new.me.0 × Distinct seat.new.me.0.own.runs }
+    ensures ruled { IsRuled seat.new.me.0 }
+    ensures counted { CountedDown ends_word seat.old.me.0 seat.new.me.0 }
 {
     words.fetch_sub::<CountsDown>(seat, ENDS, 1)
 }
@@ -199,8 +177,7 @@ pub(crate) fn count_down(words: &Words, seat: &mut Seat<(), View>) -> u64
 pub(crate) fn count(words: &Words, seat: &mut Seat<(), View>) -> u64
     requires queue { (seat.old.table_id ≡ words.now.table_id) × (FIRST_DATA ≤ words.now.table_id.words) }
     requires live { seat.old.me.0.member.ends ≡ 1 }
-    ensures queue { IsSame seat.old seat.new × (seat.new.me.1 ≡ seat.old.me.1) }
-    ensures told { Told seat.old.me.0 seat.new.me.0 }
+    ensures queue { IsSame seat.old seat.new × Stays seat.old.me seat.new.me }
     ensures tallied { Tallied ends_word seat.old.me.0 result seat.new.me.0 }
 {
     words.load::<Counts>(seat, ENDS)

@@ -1,4 +1,5 @@
 pub mod Places
+pub mod Adding
 pub mod Shares
 pub mod Using
 pub mod Telling
@@ -6,3 +7,4 @@ pub mod Chains
 pub mod Walking
 pub mod Parting
 pub mod ChainParting
+pub mod Accounting

@@ -30,7 +30,7 @@ use Rattle.claim_queue.proofs.Growing.{reaches_grow}
 use Rattle.claim_queue.proofs.Lining.{put_line, took_line, raised_put}
 use Rattle.claim_queue.proofs.Ordered.{order_of, answer_order, refused_claim, put_order, refused_order, took_order, shut_order}
 use Rattle.claim_queue.proofs.Putting.{put_of}
-use Rattle.claim_queue.proofs.Saying.{passes_split}
+use Rattle.table_theory.proofs.Saying.{passes_split}
 use Rattle.table_theory.proofs.Reaching.{passes_since}
 use Rattle.end_steps.specs.Deeds.{Heard}
 use Rattle.end_steps.specs.Sums.{EndWorked, once_if}
@@ -121,7 +121,7 @@ module _ {n : ℕ} (old new : QueueEnd n) where
   -- a line that was taken is no longer than the queue has places
   line_fits : (line : List ℕ) → TookItems n (view_of old) line (view_of new) → length line ≤ n
   line_fits line (tail, m, o, scan, are, first, made) = by_both old new le_prop (λ x y. (let q : Positions = o.object in
-      let (reached, real, leaves) = passes_split (view_of old).seen (view_of new).seen (load tail_word tail m ∷ scanned n tail scan) (change tail_word tail o (with_take q (length line))) [] (passes_since of_queues (view_of old) (view_of new) _ x y made.adds) in
+      let (reached, real, leaves) = passes_split of_queues (view_of old).seen (view_of new).seen (load tail_word tail m ∷ scanned n tail scan) (change tail_word tail o (with_take q (length line))) [] (passes_since of_queues (view_of old) (view_of new) _ x y made.adds) in
       let room : q.room ≡ n = (reaches_grow (view_of old).seen o reached).room ∙ seen_room old in
       let few : length (drop q.taken q.places) ≤ n = (let within = real.lawful.within in let long = length-drop q.taken q.places in omega arith) in
       let short = short_take (length line) (drop q.taken q.places) in

@@ -1,5 +1,6 @@
 pub mod EndLists
 pub mod Deeds
 pub mod Sums
+pub mod Accounts
 pub mod Splits
 pub mod Gates

@@ -2,6 +2,7 @@
 ghost use Rattle.std.specs.Prelude.{◌≡◌, ◌<◌, ◌≤◌, ℕ, [], length, IfOk};
 ghost use Rattle.claim_queue.specs.Handles.{IsEndOf, IsSameEnd};
 ghost use Rattle.end_steps.specs.declared.gate.Point.TheVariants.{TakeAnswered};
+ghost use Rattle.end_steps.specs.Accounts.{at_each, at_one, both_queue, idle_queue, queue_account, shut_if, taken_if};
 ghost use Rattle.end_steps.specs.Deeds.{Heard, HasShut};
 ghost use Rattle.end_steps.specs.EndLists.{AreEndsOf, AreSameEnds, OnEnd, only_at, number_at};
 ghost use Rattle.end_steps.specs.Sums.{EndWorked, Worked, line_if, once_if, no_lines, never};
@@ -50,6 +51,8 @@ pub fn hear<const N: usize, G: Gate>(
     requires ends { AreEndsOf queues.now ends.old }
     requires known { index < length queues.now }
     requires empty { line.old.items ≡ [] }
+    ensures did { queue_account ends.new
+        ≡ at_each both_queue (queue_account ends.old) (at_one idle_queue index (taken_if result line.new.items)) }
     ensures worked { Worked no_lines (only_at index (line_if result line.new.items)) never ends.old ends.new }
     ensures long { IfOk result (λ done. (0 < length line.new.items) × (length line.new.items ≤ N)) }
     ensures gate { G.told gate.old p TakeAnswered gate.new }
@@ -81,6 +84,8 @@ pub fn shut_queue<const N: usize>(
 ) -> bool
     requires ends { AreEndsOf queues.now ends.old }
     requires known { index < length queues.now }
+    ensures did { queue_account ends.new
+        ≡ at_each both_queue (queue_account ends.old) (at_one idle_queue index (shut_if result)) }
     ensures worked { Worked no_lines no_lines (number_at index (once_if result)) ends.old ends.new }
     ensures shut { OnEnd index (HasShut result) ends.old ends.new }
     ensures ends { AreEndsOf queues.now ends.new }

@@ -6,6 +6,7 @@ mod chain_splitting;
 mod gate;
 mod hearing;
 mod items;
+mod laws;
 mod poking;
 mod saying;
 mod splitting;
@@ -14,6 +15,7 @@ pub use chain_splitting::{join_chain_ends, split_chain_ends, split_chain_ends_in
 pub use gate::{Gate, NoGate, Point};
 pub use hearing::{hear, shut_queue};
 pub use items::item_at;
+pub use laws::accounts_add;
 pub use poking::{Poked, poke};
 pub use saying::say;
 pub use splitting::{join_ends, split_ends, split_ends_into};

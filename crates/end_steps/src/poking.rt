@@ -2,6 +2,7 @@
 ghost use Rattle.std.specs.Prelude.{◌≡◌, ◌<◌, ℕ, false, length, map};
 ghost use Rattle.proc_chain.specs.Handles.{turn_of, world_of, me_of, IsEndOf, IsSameEnd};
 ghost use Rattle.end_steps.specs.declared.gate.Point.TheVariants as points;
+ghost use Rattle.end_steps.specs.Accounts.{at_each, at_one, both_chain, chain_account, chained_if, idle_chain};
 ghost use Rattle.end_steps.specs.Deeds.{HasPoked, PokedAt};
 ghost use Rattle.end_steps.specs.EndLists.{AreChainsOver, AreChainEndsOf, AreSameChainEnds, IsIdle, only_at};
 ghost use Rattle.end_steps.specs.EndLists.{number_at};
@@ -75,6 +76,8 @@ pub fn poke<R: Wait, G: Gate>(
     requires ends { AreChainEndsOf chains.now ends.old }
     requires known { index < length chains.now }
     requires world { AreChainsOver world.now chains.now }
+    ensures did { chain_account ends.new
+        ≡ at_each both_chain (chain_account ends.old) (at_one idle_chain index (chained_if result 0)) }
     ensures worked { ChainsWorked (only_at index (note_if result 0)) (number_at index (notes_run result))
         ends.old ends.new }
     ensures gate { G.told gate.old p points.Chained gate.new }

@@ -3,6 +3,7 @@ ghost use Rattle.std.specs.Prelude.{◌≡◌, ◌<◌, ℕ, [], length};
 ghost use Rattle.claim_queue.specs.Claims.{Owns};
 ghost use Rattle.claim_queue.specs.Handles.{view_of, IsEndOf, IsSameEnd};
 ghost use Rattle.claim_queue.specs.Puts.{RaisedFrom};
+ghost use Rattle.end_steps.specs.Accounts.{at_each, at_one, both_queue, idle_queue, put_if, queue_account};
 ghost use Rattle.end_steps.specs.Deeds.{Said};
 ghost use Rattle.end_steps.specs.EndLists.{AreEndsOf, AreSameEnds, OnEnd, only_at};
 ghost use Rattle.end_steps.specs.Gates.{ToldOfSay};
@@ -16,10 +17,10 @@ use claim_queue::{Claim, ClaimQueue, ClaimRefusal, QueueEnd};
 fn raise_all<const N: usize>(queue: &ClaimQueue<N>, end: &mut QueueEnd<N>, claim: Claim<N>)
     requires queue { IsEndOf queue.now end.old }
     requires own { Owns (view_of end.old) claim.start claim.items.items 0 × (claim.raised ≡ 0) }
-    ensures queue { IsSameEnd end.old end.new }
     ensures own { Owns (view_of end.new) claim.entry.start claim.entry.items.items (length claim.entry.items.items) }
     ensures raised { RaisedFrom N claim.entry.start claim.entry.items.items (view_of end.old) (view_of end.new)
         (length claim.entry.items.items) }
+    ensures same { IsSameEnd end.old end.new }
 {
     let mut claim = claim;
     for i in 0..claim.items().len() {
@@ -67,6 +68,8 @@ pub fn say<const N: usize, G: Gate>(
 ) -> Result<(), ClaimRefusal>
     requires ends { AreEndsOf queues.now ends.old }
     requires known { index < length queues.now }
+    ensures did { queue_account ends.new
+        ≡ at_each both_queue (queue_account ends.old) (at_one idle_queue index (put_if result line.now)) }
     ensures worked { Worked (only_at index (line_if result line.now)) no_lines never ends.old ends.new }
     ensures gate { ToldOfSay G.told p result gate.old gate.new }
     ensures said { OnEnd index (Said line.now result) ends.old ends.new }

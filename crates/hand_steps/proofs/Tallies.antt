@@ -12,7 +12,7 @@ use Rattle.thread_table.specs.Own.{View}
 use Rattle.thread_table.specs.Entries.{steps_by}
 use Rattle.hand_steps.specs.Tallies.{Tally, tally, behind, no_events, Adds, step_by, done_by, signalled_by, delivered_by, retired_by, taken_by}
 
-tally_more : (a b : List Made) → tally (a ++ b) ≡ behind (tally a) (tally b)
+pub tally_more : (a b : List Made) → tally (a ++ b) ≡ behind (tally a) (tally b)
 tally_more a b = λ i. record {
   done = flat_map-append done_by a b i;
   signalled = flat_map-append signalled_by a b i;
@@ -21,7 +21,7 @@ tally_more a b = λ i. record {
   taken = flat_map-append taken_by a b i;
 }
 
-behind_more : (a b c : Tally) → behind (behind a b) c ≡ behind a (behind b c)
+pub behind_more : (a b c : Tally) → behind (behind a b) c ≡ behind a (behind b c)
 behind_more a b c = λ i. record {
   done = append_assoc a.done b.done c.done i;
   signalled = append_assoc a.signalled b.signalled c.signalled i;
@@ -30,7 +30,7 @@ behind_more a b c = λ i. record {
   taken = append_assoc a.taken b.taken c.taken i;
 }
 
-behind_none : (a : Tally) → behind a no_events ≡ a
+pub behind_none : (a : Tally) → behind a no_events ≡ a
 behind_none a = λ i. record {
   done = append-nil a.done i;
   signalled = append-nil a.signalled i;

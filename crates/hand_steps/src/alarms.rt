@@ -23,8 +23,8 @@ pub struct Tended {
 // Raises the signal of each alarm at its element.
 fn raise_signals(threads: &ThreadTable, hand: &mut Hand, alarms: &[Alarm])
     requires table { IsHandOf threads.now hand.old }
-    ensures table { IsSameHand hand.old hand.new }
     ensures raised { RaisedAll (call_of hand.old) alarms.now (view_of hand.old) (view_of hand.new) }
+    ensures same { IsSameHand hand.old hand.new }
 {
     for alarm in alarms {
         threads.signal(hand, alarm.element, alarm.signal);
@@ -41,12 +41,11 @@ pub fn tend_alarms(
 ) -> Tended
     requires table { IsHandOf threads.now hand.old }
     requires meters { IsSeatOf meters.now seat.old }
-    ensures table { IsSameHand hand.old hand.new }
-    ensures meters { IsSameSeat seat.old seat.new }
-    ensures fired { Fires result.advanced result.fired.items (seats.view_of seat.old) (seats.view_of seat.new) }
     ensures own { DidTend result.advanced result.fired.items (seats.view_of seat.old) (seats.view_of seat.new) }
-    ensures raised { RaisedAll (call_of hand.old) result.fired.items (view_of hand.old) (view_of hand.new) }
     ensures only { OnlyAdds (signals_for result.fired.items) (view_of hand.old) (view_of hand.new) }
+    ensures fired { Fires result.advanced result.fired.items (seats.view_of seat.old) (seats.view_of seat.new) }
+    ensures raised { RaisedAll (call_of hand.old) result.fired.items (view_of hand.old) (view_of hand.new) }
+    ensures same { IsSameHand hand.old hand.new × IsSameSeat seat.old seat.new }
 {
     let advanced = meters.advance(seat);
     let fired = meters.due(seat);

@@ -44,11 +44,11 @@ pub enum Idle {
 // Takes an element from the ready ring whose stop bit is clear.
 fn awake<R: Wait>(rt: &R, threads: &ThreadTable, hand: &mut Hand) -> Result<Element, Idle>
     requires table { IsHandOf threads.now hand.old }
-    ensures table { IsSameHand hand.old hand.new }
+    ensures held { IfOk result (λ element. has (view_of hand.new) element ≡ true) }
     ensures woken { MatchResult result
         (λ element. Awake (call_of hand.old) element (view_of hand.old) (view_of hand.new))
         (λ idle. WasIdle (call_of hand.old) idle (view_of hand.old) (view_of hand.new)) }
-    ensures held { IfOk result (λ element. has (view_of hand.new) element ≡ true) }
+    ensures same { IsSameHand hand.old hand.new }
 {
     let element = match threads.try_next(hand) {
         Ok(element) => element,
@@ -77,10 +77,10 @@ fn deliver(
 ) -> Result<u16, Lost>
     requires table { IsHandOf threads.now hand.old }
     requires held { has (view_of hand.old) element ≡ true }
-    ensures table { IsSameHand hand.old hand.new }
-    ensures delivered { DeliverAnswer (call_of hand.old) (view_of hand.old) element result (view_of hand.new) }
     ensures held { has (view_of hand.new) element ≡ true }
     ensures signals { Shows (delivery element (mask_of result)) signals.old signals.new }
+    ensures delivered { DeliverAnswer (call_of hand.old) (view_of hand.old) element result (view_of hand.new) }
+    ensures same { IsSameHand hand.old hand.new }
 {
     let delivered = threads.try_deliver(hand, element);
     if let Ok(mask) = delivered {
@@ -101,10 +101,6 @@ pub fn begin<R: Wait>(
     signals: &mut [u16; 64],
 ) -> Result<Begun, Idle>
     requires table { IsHandOf threads.now hand.old }
-    ensures table { IsSameHand hand.old hand.new }
-    ensures begun { MatchResult result
-        (λ begun. Began (call_of hand.old) begun (view_of hand.old) (view_of hand.new))
-        (λ idle. WasIdle (call_of hand.old) idle (view_of hand.old) (view_of hand.new)) }
     ensures keeps { Keeps (view_of hand.old) (view_of hand.new) }
     ensures holds { MatchResult result (λ begun. HoldsMore begun.element (view_of hand.old) (view_of hand.new))
         (λ idle. IdleHolds idle (view_of hand.old) (view_of hand.new)) }
@@ -117,6 +113,10 @@ pub fn begin<R: Wait>(
     ensures signals { MatchResult result
         (λ begun. Shows (delivery begun.element (mask_of begun.delivered)) signals.old signals.new)
         (λ idle. signals.new ≡ signals.old) }
+    ensures begun { MatchResult result
+        (λ begun. Began (call_of hand.old) begun (view_of hand.old) (view_of hand.new))
+        (λ idle. WasIdle (call_of hand.old) idle (view_of hand.old) (view_of hand.new)) }
+    ensures same { IsSameHand hand.old hand.new }
 {
     let element = match awake(rt, threads, hand) {
         Ok(element) => element,

@@ -15,14 +15,14 @@ pub fn put_on(threads: &ThreadTable, hand: &mut Hand, processor: Processor, elem
     requires table { IsHandOf threads.now hand.old }
     requires held { has (view_of hand.old) element ≡ true }
     requires free { IsFree processor (view_of hand.old) }
-    ensures table { IsSameHand hand.old hand.new }
-    ensures put { PutsOn (call_of hand.old) processor element (view_of hand.old) (view_of hand.new) }
     ensures there { IsOn processor element (view_of hand.new) }
     ensures keeps { KeepsBut (slice_set (view_of hand.old).own.on processor (Some element)) (view_of hand.old)
         (view_of hand.new) }
     ensures holds { HoldsLess element (view_of hand.old) (view_of hand.new) }
     ensures adds { Adds no_events (view_of hand.old) (view_of hand.new) }
     ensures steady { Steady (view_of hand.old) (view_of hand.new) }
+    ensures put { PutsOn (call_of hand.old) processor element (view_of hand.old) (view_of hand.new) }
+    ensures same { IsSameHand hand.old hand.new }
 {
     let Ok(()) = threads.on(hand, processor, element) else {
         unreachable!()
@@ -34,15 +34,15 @@ pub fn take_off(threads: &ThreadTable, hand: &mut Hand, processor: Processor) ->
     requires table { IsHandOf threads.now hand.old }
     requires mine { serves (view_of hand.old) processor ≡ true }
     requires busy { running (view_of hand.old) processor ≢ None }
-    ensures table { IsSameHand hand.old hand.new }
     ensures stood { running (view_of hand.old) processor ≡ Some result }
-    ensures taken { TakesOff (call_of hand.old) processor result (view_of hand.old) (view_of hand.new) }
     ensures free { IsFree processor (view_of hand.new) }
     ensures keeps { KeepsBut (slice_set (view_of hand.old).own.on processor None) (view_of hand.old)
         (view_of hand.new) }
     ensures holds { HoldsMore result (view_of hand.old) (view_of hand.new) }
     ensures adds { Adds no_events (view_of hand.old) (view_of hand.new) }
     ensures steady { Steady (view_of hand.old) (view_of hand.new) }
+    ensures taken { TakesOff (call_of hand.old) processor result (view_of hand.old) (view_of hand.new) }
+    ensures same { IsSameHand hand.old hand.new }
 {
     let Ok(element) = threads.off(hand, processor) else {
         unreachable!()

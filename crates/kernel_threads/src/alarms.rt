@@ -10,8 +10,8 @@ use std::sync::Wait;
 // Sets an alarm, again where no slot was empty or another end was first.
 fn set_alarm<R: Wait>(rt: &R, meters: &Meters, seat: &mut MeterSeat, alarm: &Alarm)
     requires { IsSeatOf meters.now seat.old }
-    ensures seat { IsSameSeat seat.old seat.new }
     ensures set { DidSet alarm.now (view_of seat.old) (view_of seat.new) }
+    ensures same { IsSameSeat seat.old seat.new }
 {
     for _ in rt.forever() {
         match meters.try_set(seat, *alarm) {
@@ -25,8 +25,8 @@ fn set_alarm<R: Wait>(rt: &R, meters: &Meters, seat: &mut MeterSeat, alarm: &Ala
 /// in a plan, so new meters have a slot for each.
 pub fn set_alarms<R: Wait>(rt: &R, meters: &Meters, seat: MeterSeat, alarms: &[Alarm]) -> MeterSeat
     requires { IsSeatOf meters.now seat }
-    ensures seat { IsSameSeat seat result }
     ensures set { DidSetAll alarms.now (view_of seat) (view_of result) }
+    ensures same { IsSameSeat seat result }
 {
     let mut seat = seat;
     for alarm in alarms {

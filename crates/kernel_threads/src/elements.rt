@@ -12,9 +12,9 @@ use thread_table::{Hand, ThreadTable};
 // Takes free elements until the hand holds this one.
 fn take_free<R: Wait>(rt: &R, threads: &ThreadTable, hand: &mut Hand, element: Element)
     requires { IsHandOf threads.now hand.old }
-    ensures table { IsSameHand hand.old hand.new }
-    ensures took { TookFree (view_of hand.old) (view_of hand.new) }
     ensures holds { has (view_of hand.new) element ≡ true }
+    ensures took { TookFree (view_of hand.old) (view_of hand.new) }
+    ensures same { IsSameHand hand.old hand.new }
 {
     for _ in rt.forever() {
         if hand.holds(element) {
@@ -28,8 +28,8 @@ fn take_free<R: Wait>(rt: &R, threads: &ThreadTable, hand: &mut Hand, element: E
 fn make_ready<R: Wait>(rt: &R, threads: &ThreadTable, hand: &mut Hand, element: Element)
     requires table { IsHandOf threads.now hand.old }
     requires holds { has (view_of hand.old) element ≡ true }
-    ensures table { IsSameHand hand.old hand.new }
     ensures ready { MadeReady element (view_of hand.old) (view_of hand.new) }
+    ensures same { IsSameHand hand.old hand.new }
 {
     for _ in rt.forever() {
         match threads.try_ready(hand, element) {
@@ -43,8 +43,8 @@ fn make_ready<R: Wait>(rt: &R, threads: &ThreadTable, hand: &mut Hand, element: 
 fn retire<R: Wait>(rt: &R, threads: &ThreadTable, hand: &mut Hand, element: Element)
     requires table { IsHandOf threads.now hand.old }
     requires holds { has (view_of hand.old) element ≡ true }
-    ensures table { IsSameHand hand.old hand.new }
     ensures freed { Freed element (view_of hand.old) (view_of hand.new) }
+    ensures same { IsSameHand hand.old hand.new }
 {
     for _ in rt.forever() {
         match threads.try_retire(hand, element) {
@@ -68,9 +68,9 @@ fn element_of(number: u8) -> Element
 // Takes free elements until the hand holds all.
 fn take_all<R: Wait>(rt: &R, threads: &ThreadTable, hand: &mut Hand)
     requires { IsHandOf threads.now hand.old }
-    ensures table { IsSameHand hand.old hand.new }
-    ensures took { TookFree (view_of hand.old) (view_of hand.new) }
     ensures holds { HoldsFrom 0 (view_of hand.new) }
+    ensures took { TookFree (view_of hand.old) (view_of hand.new) }
+    ensures same { IsSameHand hand.old hand.new }
 {
     for number in 0..64 {
         take_free(rt, threads, hand, element_of(number));
@@ -82,9 +82,9 @@ fn ready_first<R: Wait>(rt: &R, threads: &ThreadTable, hand: &mut Hand, count: u
     requires table { IsHandOf threads.now hand.old }
     requires most { count ≤ 64 }
     requires holds { HoldsFrom 0 (view_of hand.old) }
-    ensures table { IsSameHand hand.old hand.new }
-    ensures moved { Moved (range_with_len 0 count) [] (view_of hand.old) (view_of hand.new) }
     ensures holds { HoldsFrom count (view_of hand.new) }
+    ensures moved { Moved (range_with_len 0 count) [] (view_of hand.old) (view_of hand.new) }
+    ensures same { IsSameHand hand.old hand.new }
 {
     for number in 0..count {
         make_ready(rt, threads, hand, element_of(number));
@@ -96,9 +96,9 @@ fn retire_rest<R: Wait>(rt: &R, threads: &ThreadTable, hand: &mut Hand, count: u
     requires table { IsHandOf threads.now hand.old }
     requires most { count ≤ 64 }
     requires holds { HoldsFrom count (view_of hand.old) }
-    ensures table { IsSameHand hand.old hand.new }
-    ensures moved { Moved [] (range_with_len count (64 - count)) (view_of hand.old) (view_of hand.new) }
     ensures holds { HoldsFrom 64 (view_of hand.new) }
+    ensures moved { Moved [] (range_with_len count (64 - count)) (view_of hand.old) (view_of hand.new) }
+    ensures same { IsSameHand hand.old hand.new }
 {
     for number in count..64 {
         retire(rt, threads, hand, element_of(number));
@@ -113,8 +113,8 @@ fn retire_rest<R: Wait>(rt: &R, threads: &ThreadTable, hand: &mut Hand, count: u
 pub fn prepare<R: Wait>(rt: &R, threads: &ThreadTable, hand: Hand, count: u8) -> Hand
     requires table { IsHandOf threads.now hand }
     requires most { count ≤ 64 }
-    ensures table { IsSameHand hand result }
     ensures prepared { Prepared count (view_of hand) (view_of result) }
+    ensures same { IsSameHand hand result }
 {
     let mut hand = hand;
     take_all(rt, threads, &mut hand);

@@ -1,35 +1,16 @@
 -- The clock never goes down, and what steps find.
-use Rattle.std.proofs.Common.{◌≡◌, ℕ, ◌+◌, ◌<◌, ◌≤◌, List, [], ◌∷◌, sym, ap, ◌∙◌, arith}
-use Rattle.std.specs.List.{AllByRecursion}
-use Rattle.table_theory.specs.declared.views.Moment.{Moment}
-use Rattle.table_theory.specs.Courses.{Continues}
-use Rattle.table_theory.specs.Ledgers.{Step, load, StepEffect, stays, event, more, fewer, IsReal, IsHonest, Reaches, Adds, Looked}
-use Rattle.table_theory.proofs.Reaching.{reaches_since, entries_real}
-use Rattle.meters.specs.Layout.{clock_word, slot_word, word_of}
-use Rattle.meters.specs.declared.rule.Reading.{Reading}
-use Rattle.meters.specs.Changes.{Becomes, ticked, advanced, was_set, fired, cancelled, in_slot}
-use Rattle.meters.specs.Own.{SeatView, of_meters}
-use Rattle.meters.specs.Words.{Fits}
+use Rattle.meters.proofs.Common.{◌≡◌, ◌⊎◌, ⊎_elim, inl, inr, ℕ, ◌+◌, ◌<◌, ◌≤◌, List, [], ◌∷◌, sym, ap, ◌∙◌, arith, Moment, Step, load, IsReal, IsHonest, Reaches, Adds, Looked, reaches_go, reaches_since, entries_real, clock_word, slot_word, word_of, Reading, Becomes, ticked, advanced, was_set, fired, cancelled, in_slot, SeatView, of_meters, Fits}
 
-clock_becomes : (m n : Reading) → Becomes m n → m.clock ≤ n.clock
-clock_becomes m n (ticked g a b e) = let x : n.clock ≡ m.clock = ap (λ (z : Reading). z.clock) e in omega arith
-clock_becomes m n (advanced b e) = let x : n.clock ≡ m.clock + 1 = ap (λ (z : Reading). z.clock) e in omega arith
-clock_becomes m n (was_set slot alarm b s e) = let x : n.clock ≡ m.clock = ap (λ (z : Reading). z.clock) e in omega arith
-clock_becomes m n (fired slot alarm b s d e) = let x : n.clock ≡ m.clock = ap (λ (z : Reading). z.clock) e in omega arith
-clock_becomes m n (cancelled slot alarm b s e) = let x : n.clock ≡ m.clock = ap (λ (z : Reading). z.clock) e in omega arith
-
-clock_turns : (m n : Moment Reading) → StepEffect of_meters m n → m.object.clock ≤ n.object.clock
-clock_turns m n (stays e) = let x : n.object.clock ≡ m.object.clock = ap (λ (z : Moment Reading). z.object.clock) e in omega arith
-clock_turns m n (event o b e) = let x : n.object.clock ≡ o.clock = ap (λ (z : Moment Reading). z.object.clock) e in let y = clock_becomes m.object o b in omega arith
-clock_turns m n (more e) = let x : n.object.clock ≡ m.object.clock = ap (λ (z : Moment Reading). z.object.clock) e in omega arith
-clock_turns m n (fewer e some) = let x : n.object.clock ≡ m.object.clock = ap (λ (z : Moment Reading). z.object.clock) e in omega arith
-
-clock_steps : (m n : Moment Reading) (steps : List (Step Reading)) → Continues m steps n → AllByRecursion (IsReal of_meters) steps → m.object.clock ≤ n.object.clock
-clock_steps m n [] e r = let x : m.object.clock ≡ n.object.clock = ap (λ (z : Moment Reading). z.object.clock) e in omega arith
-clock_steps m n (s ∷ steps) e r = let x : m.object.clock ≡ s.then.object.clock = ap (λ (z : Moment Reading). z.object.clock) e.0 in let y = clock_turns s.then s.next r.0.effect in let z = clock_steps s.next n steps e.1 r.1 in omega arith
+-- the clock stays, or is one tick on
+pub clock_by : (m n : Reading) → Becomes m n → (n.clock ≡ m.clock) ⊎ ((n.clock ≡ m.clock + 1) × (m.clock < 4294967295))
+clock_by m n (ticked g a b e) = inl (λ i. (e i).clock)
+clock_by m n (advanced b e) = inr (λ i. (e i).clock, b)
+clock_by m n (was_set slot alarm b s e) = inl (λ i. (e i).clock)
+clock_by m n (fired slot alarm b s d e) = inl (λ i. (e i).clock)
+clock_by m n (cancelled slot alarm b s e) = inl (λ i. (e i).clock)
 
 pub clock_leads : (m n : Moment Reading) → Reaches of_meters m n → m.object.clock ≤ n.object.clock
-clock_leads m n r = clock_steps m n r.steps r.leads r.real
+clock_leads = reaches_go of_meters (λ m n. m.clock ≤ n.clock) (λ m. omega arith) (λ m n o a b. omega arith) (λ m n words shows b. ⊎_elim (λ e. omega arith) (λ e. let more = e.0 in omega arith) (clock_by m n b))
 
 -- what an end sees of the clock
 pub clock_seen : (v w : SeatView) (es : List (Step Reading)) → IsHonest of_meters v → IsHonest of_meters w → Adds v es w → v.seen.object.clock ≤ w.seen.object.clock

@@ -1,8 +1,6 @@
 -- A word gives back the alarm that it was made of.
-use Rattle.std.proofs.Common.{◌≡◌, ◌≢◌, ℕ, ◌+◌, ◌*◌, ◌/◌, ◌%◌, ◌<◌, refl, sym, ap, ◌∙◌, arith, Option, Some, None}
-use Rattle.event_theory.specs.declared.alarm.Alarm.{Alarm}
-use Rattle.meters.specs.Layout.{word_of, alarm_in}
-use Rattle.meters.specs.Words.{IsInRange, Fits}
+use Rattle.meters.proofs.Common.{◌≡◌, ℕ, ◌+◌, ◌%◌, ◌<◌, refl, sym, ap, ◌∙◌, arith, Option, Some, None, Alarm, word_of, alarm_in, IsInRange, Fits}
+use Rattle.std.proofs.Common.{◌*◌, ◌/◌}
 
 parts : (s e d : ℕ) → s < 16 → e < 64 → d < 4294967296 → ((9223372036854775808 + s * 1099511627776 + e * 4294967296 + d) % 4294967296 ≡ d)
     × ((9223372036854775808 + s * 1099511627776 + e * 4294967296 + d) / 4294967296 % 256 ≡ e) × ((9223372036854775808 + s * 1099511627776 + e * 4294967296 + d) / 1099511627776 % 256 ≡ s)
@@ -14,9 +12,6 @@ given_back alarm range = let p = parts alarm.signal alarm.element alarm.due rang
 pub no_word : (slot : Option Alarm) → word_of slot ≡ 0 → slot ≡ None
 no_word None e = refl
 no_word (Some alarm) e = absurd (omega arith)
-
-pub none_word : (slot : Option Alarm) → word_of slot ≢ 0 → slot ≢ None
-none_word slot ne e = ne (ap word_of e)
 
 -- two slots with the same word say the same
 pub one_word : (slot : Option Alarm) (alarm : Alarm) → Fits slot → IsInRange alarm → word_of slot ≡ word_of (Some alarm) → slot ≡ Some alarm

@@ -5,10 +5,10 @@ pub mod Lawful
 pub mod Showing
 pub mod Listed
 pub mod Stepping
-pub mod Tallying
 pub mod Finding
 pub mod Following
 pub mod Lone
 pub mod Betweens
 pub mod Opening
 pub mod Settling
+pub mod Common

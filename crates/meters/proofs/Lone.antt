@@ -1,17 +1,10 @@
 -- An end that has the whole finds what it left: it loses to no other.
-use Rattle.std.proofs.Common.{◌≡◌, ℕ, List, [], ◌∷◌, ◌++◌, sym, ap, ◌∙◌, refl, arith}
-use Rattle.table_theory.specs.declared.views.Moment.{Moment}
+use Rattle.meters.proofs.Common.{◌≡◌, ℕ, List, [], ◌∷◌, ◌++◌, sym, ap, ◌∙◌, refl, arith, Moment, Step, load, IsReal, IsHonest, alone_since, Reading, clock_word, slot_word, word_of, in_slot, SeatView, of_meters, scan, NotAdvanced, NotSet}
 use Rattle.table_theory.specs.Courses.{Continues}
 use Rattle.table_theory.specs.Sharing.{IsWhole}
-use Rattle.table_theory.specs.Ledgers.{Step, load, IsReal, IsHonest}
-use Rattle.table_theory.proofs.Reaching.{all_behind, alone_since, continues_split}
-use Rattle.meters.specs.declared.rule.Reading.{Reading}
+use Rattle.table_theory.proofs.Reaching.{all_behind, continues_split}
 use Rattle.meters.specs.declared.alarms.SetRefusal.TheVariants as not_set
 use Rattle.meters.specs.declared.gauges.AdvanceRefusal.TheVariants as not_advanced
-use Rattle.meters.specs.Layout.{clock_word, slot_word, word_of}
-use Rattle.meters.specs.Changes.{in_slot}
-use Rattle.meters.specs.Own.{SeatView, of_meters}
-use Rattle.meters.specs.Answers.{scan, NotAdvanced, NotSet}
 use Rattle.meters.proofs.Lawful.{clock_says, slot_says}
 
 -- two loads, one behind the other, found the same meters

@@ -1,12 +1,5 @@
 -- What the words show after a step.
-use Rattle.std.proofs.Common.{◌≡◌, ℕ, ◌+◌, ◌%◌, ◌<◌, List, length, length-set, set, get_or, get_or-set_same, get_or-set_other, sym, ap, ◌∙◌, subst, arith, Option, None}
-use mathlib.Core.Logic.{dite}
-use native.Mathlib.Decide.{ℕ_discrete}
-use Rattle.event_theory.specs.declared.alarm.Alarm.{Alarm}
-use Rattle.meters.specs.Layout.{word_of}
-use Rattle.meters.specs.declared.rule.Reading.{Reading}
-use Rattle.meters.specs.Words.{Fits, SlotsShow, WordsShow}
-use Rattle.meters.specs.Changes.{with_tick, with_advance}
+use Rattle.meters.proofs.Common.{◌≡◌, ℕ, ◌+◌, ◌%◌, ◌<◌, List, length, length-set, set, get_or, get_or-set_same, get_or-set_other, sym, ap, ◌∙◌, subst, arith, Option, None, dite, ℕ_discrete, Alarm, word_of, Reading, Fits, SlotsShow, WordsShow, with_tick, with_advance}
 
 -- a change beside the slots leaves what they show
 slots_still : (slots : List (Option Alarm)) (words : List ℕ) (i y : ℕ) → SlotsShow slots words → i < 10 → SlotsShow slots (set words i y)

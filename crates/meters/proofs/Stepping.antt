@@ -1,209 +1,118 @@
 -- Each step keeps the rule, and tells its end what it says.
-use Rattle.std.proofs.Common.{◌≡◌, ◌≢◌, ℕ, ◌+◌, ◌%◌, ◌<◌, ◌≤◌, false, List, [], ◌∷◌, ◌++◌, length, eqb, ltb, get_or, set, get_or-set_other, sym, refl, ap, ◌∙◌, subst, arith, le-ltb, Some, None}
-use Rattle.std.proofs.lemmas.List.{set-get_or}
-use mathlib.Core.Option.{some, none}
-use lib.ListN.{get_elem?}
+use Rattle.meters.proofs.Common.{◌≡◌, ℕ, ◌+◌, ◌-◌, ◌%◌, ◌<◌, ◌≤◌, [], ◌∷◌, ◌++◌, eqb, get_or, set, sym, refl, ◌∙◌, subst, arith, Option, Some, None, some, get_elem?, State, set_else, Alarm, change, IsHonest, Made, rest_of, newborn, both, emptied, word_of, Did, Reading, Shape, Becomes, first_reading, in_slot, ticked, advanced, was_set, fired, cancelled, with_tick, with_advance, with_alarm, with_fired, with_cancelled, SeatView, of_meters, nothing_did, did_both, ViewsShow, Fits, IsInRange, WordsShow, Rule, WasSet, WasFired}
+use mathlib.Core.Option.{none}
 use prog.Atomic.{either}
-use Rattle.atomic_table.specs.Table.{State, Me, Act, step, stepped, keeps, Valid, carried_after, Allows}
-use Rattle.atomic_table.proofs.Lists.{exchanged}
-use Rattle.event_theory.specs.declared.alarm.Alarm.{Alarm}
-use Rattle.table_theory.specs.Ledgers.{Step, load, change, IsReal, IsHonest, Made, Looked, stays, event}
-use Rattle.table_theory.specs.Plays.{finds}
-use Rattle.table_theory.proofs.Ledgers.{steps_to, after, adds_step, true_after, true_step, seen_leads}
-use Rattle.table_theory.proofs.Standing.{stand_same}
-use Rattle.meters.specs.Layout.{word_of}
-use Rattle.meters.specs.declared.rule.Did.{Did}
-use Rattle.meters.specs.declared.rule.Reading.{Reading}
-use Rattle.meters.specs.declared.rule.Shape.{Shape}
+use Rattle.atomic_table.specs.Table.{Me, step, keeps, Allows, Splits, Joins}
+use Rattle.table_theory.specs.Plays.{finds, counts_up, counts}
+use Rattle.table_theory.proofs.Stepping.{leads, made_now, acted, downed, honest_event, stands_event, honest_look, found_now, counted_up, honest_up, counted_down, honest_down, tallied_now, stands_split, stands_join}
+use Rattle.table_theory.proofs.Tables.{IsTable, Goes}
+use Rattle.table_theory.proofs.Tables as tables
 use Rattle.meters.specs.declared.rule.Tick.{Tick}
-use Rattle.meters.specs.Changes.{IsLawful, Becomes, first_reading, in_slot, ticked, advanced, was_set, fired, cancelled, with_tick, with_advance, with_alarm, with_fired, with_cancelled}
-use Rattle.meters.specs.Own.{SeatView, of_meters, nothing_did, did_both}
-use Rattle.meters.specs.Views.{ViewsShow}
-use Rattle.meters.specs.Words.{IsInRange, WordsShow}
-use Rattle.meters.specs.Rules.{Rule}
-use Rattle.meters.specs.Steps.{WasTicked, ticks, advances, WasSet, IsWordOf, sets, WasFired, fires, WasCancelled, cancels}
+use Rattle.meters.specs.Steps.{exchanges, WasTicked, ticks, advances, IsWordOf, sets, fires, WasCancelled, cancels, counts_down}
 use Rattle.meters.proofs.Clocks.{clock_leads}
 use Rattle.meters.proofs.Codes.{same_alarm, no_word, one_word}
-use Rattle.meters.proofs.Events.{tick_lawful, advance_lawful, set_lawful, fire_lawful, cancel_lawful}
-use Rattle.meters.proofs.Showing.{shows_tick, shows_clock, shows_slot}
-use Rattle.meters.proofs.Listed.{same_lists, listed_look, listed_event, listed_tick, listed_advance, times_push}
+use Rattle.meters.proofs.Lawful.{stays_lawful}
+use Rattle.meters.proofs.Showing.{shows_count, shows_tick, shows_clock, shows_slot}
+use Rattle.meters.proofs.Listed.{Lists, listed_look, listed_event, listed_advance, listed_split, listed_join, tick_lists, one_more, is_part}
 
 abbrev pub St : Type 0
 St = State Unit SeatView
 
--- all steps of all ends up to now
-abbrev pub past : {key : Shape} {s : St} → Rule key s → List (Step Reading)
-past k = steps_to k.true_ends
-
--- what a step with no slot owes, where the word becomes y
-abbrev pub Goes : Shape → St → ℕ → ℕ → Me Unit SeatView → (Me Unit SeatView → Type 0) → ℕ → Type 0
-Goes key s i id me joined y = (w : SeatView) × (a : Act Unit) × Valid s.homes me.1 a × Rule key (stepped s i y id me.1 w a) × joined (w, carried_after me.1 a)
-
--- a step of this entry is real
-pub real_step : (key : Shape) (s : St) (k : Rule key s) (i found : ℕ) (o : Reading) → found ≡ get_or s.words i 0 → Becomes k.now.object o → IsReal of_meters (change i found k.now o)
-real_step key s k i found o is b = record { lawful = k.lawful; words = s.words; shows = k.shows; ends = k.number; is = is; effect = event o b refl }
-
-real_look : (key : Shape) (s : St) (k : Rule key s) (i : ℕ) → IsReal of_meters (load i (get_or s.words i 0) k.now)
-real_look key s k i = record { lawful = k.lawful; words = s.words; shows = k.shows; ends = k.number; is = refl; effect = stays refl }
-
--- the view after an event, and after a look
-abbrev pub acted : {key : Shape} {s : St} → Rule key s → SeatView → Did → ℕ → ℕ → Reading → SeatView
-acted k v own i found o = after v own v.member (past k) (change i found k.now o)
-
-abbrev pub looked : {key : Shape} {s : St} → Rule key s → SeatView → ℕ → ℕ → SeatView
-looked k v i found = after v v.own v.member (past k) (load i found k.now)
-
--- the rule after an event of a live end, which found this number
-kept_event : (key : Shape) (s : St) (k : Rule key s) (i found y id : ℕ) (v : SeatView) (own : Did) (o : Reading) → get_elem? s.views id ≡ some v → 1 ≤ v.member.ends → 0 < i → found ≡ get_or s.words i 0 → Becomes k.now.object o
-    → IsLawful o → WordsShow o (set s.words i y) → ViewsShow key.clock o (set s.views id (acted k v own i found o)) → Rule key record { words = set s.words i y; homes = s.homes; views = set s.views id (acted k v own i found o) }
-kept_event key s k i found y id v own o at live beside is b lawful shows listed = let w : SeatView = acted k v own i found o in record {
-  now = record k.now { object = o };
-  lawful = lawful;
-  shows = shows;
-  number = get_or-set_other s.words i 0 y 0 (λ e. omega arith) ∙ k.number;
-  listed = listed;
-  true_ends = true_step of_meters nothing_did did_both (first_reading key.clock) k.now s.views id v own v.member (change i found k.now o) k.true_ends at refl (real_step key s k i found o is b)
-      (stand_same nothing_did did_both k.now.ends s.views id v w k.true_ends.ends at live refl);
+-- what the rule says, and what it says alike of every table
+abbrev table : (key : Shape) → IsTable (Rule key) of_meters nothing_did (first_reading key.clock)
+table key = record {
+  now = λ s k. k.now;
+  stands = λ s k. k.stands;
+  kept = λ s k words id number v w at own seen stands. (record { now = record k.now { ends = number }; stands = stands; listed = listed_look key.clock k.now.object s.views id v w k.listed at own }, seen);
+  wide = λ o words h. let wide = h.wide in omega arith;
+  recounted = λ o words y h. shows_count o words y h;
 }
 
--- the rule after a look
-pub kept_look : (key : Shape) (s : St) (k : Rule key s) (i id : ℕ) (v : SeatView) → get_elem? s.views id ≡ some v → 1 ≤ v.member.ends
-    → Rule key record { words = set s.words i (get_or s.words i 0); homes = s.homes; views = set s.views id (looked k v i (get_or s.words i 0)) }
-kept_look key s k i id v at live = let w : SeatView = looked k v i (get_or s.words i 0) in let same : set s.words i (get_or s.words i 0) ≡ s.words = set-get_or s.words i 0 in record {
-  now = k.now;
-  lawful = k.lawful;
-  shows = subst (WordsShow k.now.object) (sym same) k.shows;
-  number = ap (λ (z : List ℕ). get_or z 0 0) same ∙ k.number;
-  listed = listed_look key.clock k.now.object s.views id v w k.listed at (same_lists k.now.object v w refl refl refl refl refl);
-  true_ends = true_step of_meters nothing_did did_both (first_reading key.clock) k.now s.views id v v.own v.member (load i (get_or s.words i 0) k.now) k.true_ends at refl (real_look key s k i)
-      (stand_same nothing_did did_both k.now.ends s.views id v w k.true_ends.ends at live refl);
-}
+module _ (key : Shape) (n id : ℕ) (me : Me Unit SeatView) where
+  abbrev v : SeatView
+  v = me.0
 
--- what an event tells, and a look
-tells : (key : Shape) (s : St) (k : Rule key s) (i found id : ℕ) (v : SeatView) (own : Did) (o : Reading) → get_elem? s.views id ≡ some v → Made v (change i found k.now o ∷ []) own (acted k v own i found o)
-tells key s k i found id v own o at = record { adds = adds_step of_meters nothing_did did_both (first_reading key.clock) k.now s.views id v own v.member (change i found k.now o) k.true_ends at; did = refl; member = refl }
+  pub ups : v.member.ends + 1 ≤ v.member.share → Allows (Rule key) n id me 0 (λ x. (x + 1) % 18446744073709551616) (counts_up of_meters (step n 0 1 0 none) me)
+  ups parts = tables.ups (table key) n id me (counts_up of_meters (step n 0 1 0 none) me) parts (λ s k at _. ((refl, honest_up k.stands id v at), counted_up k.stands id v at))
 
-told : (key : Shape) (s : St) (k : Rule key s) (i found id : ℕ) (v : SeatView) (own : Did) (o : Reading) → get_elem? s.views id ≡ some v → found ≡ get_or s.words i 0 → Becomes k.now.object o → IsHonest of_meters (acted k v own i found o)
-told key s k i found id v own o at is b = true_after of_meters nothing_did did_both (first_reading key.clock) k.now s.views id v own v.member (change i found k.now o) k.true_ends at refl (real_step key s k i found o is b)
+  pub downs : 2 ≤ v.member.ends → Allows (Rule key) n id me 0 (λ x. (x + (18446744073709551616 - 1)) % 18446744073709551616) (counts_down (step n 0 1 0 none) me)
+  downs two = tables.downs (table key) n id me (counts_down (step n 0 1 0 none) me) two
+      (λ s k at _. ((refl, honest_down k.stands id v at two), counted_down k.stands id v at, is_part key.clock k.now.object s.views id v (downed k.stands id v at) k.listed at refl refl))
 
-pub found_now : (key : Shape) (s : St) (k : Rule key s) (i id : ℕ) (v : SeatView) → get_elem? s.views id ≡ some v → Looked v i (get_or s.words i 0) (looked k v i (get_or s.words i 0))
-found_now key s k i id v at = record {
-  at = k.now;
-  made = record { adds = adds_step of_meters nothing_did did_both (first_reading key.clock) k.now s.views id v v.own v.member (load i (get_or s.words i 0) k.now) k.true_ends at; did = refl; member = refl };
-  seen = refl;
-}
+  pub tallies : v.member.ends ≡ 1 → Allows (Rule key) n id me 0 (λ x. x) (counts of_meters (step n 0 0 0 none) me)
+  tallies one = tables.looks (table key) n id me (counts of_meters (step n 0 0 0 none) me) 0 (omega arith) (λ s k at _. ((refl, honest_look k.stands id v at 0), tallied_now k.stands id v at one))
 
-pub told_look : (key : Shape) (s : St) (k : Rule key s) (i id : ℕ) (v : SeatView) → get_elem? s.views id ≡ some v → IsHonest of_meters (looked k v i (get_or s.words i 0))
-told_look key s k i id v at = true_after of_meters nothing_did did_both (first_reading key.clock) k.now s.views id v v.own v.member (load i (get_or s.words i 0) k.now) k.true_ends at refl (real_look key s k i)
+  module _ (live : 1 ≤ v.member.ends) where
+    pub looks : (i : ℕ) → Allows (Rule key) n id me i (λ x. x) (finds of_meters (step n i 0 0 none) me)
+    looks i = tables.looks (table key) n id me (finds of_meters (step n i 0 0 none) me) i live (λ s k at _. ((refl, honest_look k.stands id v at i), found_now k.stands id v at i))
 
-pub looks : (key : Shape) (n id : ℕ) (me : Me Unit SeatView) (i : ℕ) → 1 ≤ me.0.member.ends → Allows (Rule key) n id me i (λ x. x) (finds of_meters (step n i 0 0 none) me)
-looks key n id me i live s k _ at _ = (looked k me.0 i (get_or s.words i 0), keeps, tt, kept_look key s k i id me.0 at live, ((refl, told_look key s k i id me.0 at), found_now key s k i id me.0 at))
-
-pub ticks_gauge : (key : Shape) (n id : ℕ) (me : Me Unit SeatView) (g amount : ℕ) → g < 8 → 1 ≤ me.0.member.ends → Allows (Rule key) n id me (1 + g) (λ x. (x + amount) % 18446744073709551616) (ticks (step n (1 + g) amount 0 none) me)
-ticks_gauge key n id me g amount below live s k _ at _ = let v : SeatView = me.0 in let m : Reading = k.now.object in let o : Reading = with_tick m g amount in let eight = k.shows.eight in let found : ℕ = get_or s.words (1 + g) 0 in let y : ℕ = (found + amount) % 18446744073709551616 in
-    let t : Tick = record { gauge = g; amount = amount } in let own : Did = record v.own { ticks = v.own.ticks ++ t ∷ [] } in let w : SeatView = acted k v own (1 + g) found o in let within : g < length m.gauges = omega arith in let b : Becomes m o = ticked g amount below refl in (
-      w,
+    -- an event of the end, which found this number
+    event_goes : (s : St) (k : Rule key s) (at : get_elem? s.views id ≡ some v) (i found y : ℕ) (own : Did) (o : Reading) (P : Me Unit SeatView → Type 0) → 0 < i → found ≡ get_or s.words i 0 → Becomes k.now.object o → WordsShow o (set s.words i y)
+        → ViewsShow key.clock o (set s.views id (acted k.stands id v at own i found o)) → (IsHonest of_meters (acted k.stands id v at own i found o) → Made v (change i found k.now o ∷ []) own (acted k.stands id v at own i found o) → P (acted k.stands id v at own i found o, me.1))
+        → Goes (table key) n id me s i y P
+    event_goes s k at i found y own o P past is b shows listed p = let st = k.stands in (
+      acted st id v at own i found o,
       keeps,
       tt,
-      kept_event key s k (1 + g) found y id v own o at live (omega arith) refl b (tick_lawful m g amount within k.lawful) (shows_tick m s.words g amount k.shows below)
-          (listed_tick key.clock m s.views id v w g amount k.listed at within refl refl refl refl refl),
-      ((refl, told key s k (1 + g) found id v own o at refl b), λ gauge e. subst (λ (z : ℕ). WasTicked v z amount found w) (omega arith) (k.now, tells key s k (1 + g) found id v own o at)),
+      record { now = record k.now { object = o }; stands = stands_event st id v at own i found y o live (λ e. omega arith) is b (stays_lawful k.now.object o s.words st.shows st.lawful b) shows; listed = listed },
+      p (honest_event st id v at own i found o is b) (made_now st id v at own i found (record k.now { object = o })),
     )
 
-pub advances_clock : (key : Shape) (n id : ℕ) (me : Me Unit SeatView) (clock : ℕ) → clock < 4294967295 → 1 ≤ me.0.member.ends → Allows (Rule key) n id me 9 (λ x. either (eqb x clock) (clock + 1) x) (advances (step n 9 clock (clock + 1) none) me)
-advances_clock key n id me clock bounded live s k _ at _ = let y : ℕ = get_or s.words 9 0 in let v : SeatView = me.0 in let m : Reading = k.now.object in
-    exchanged y clock (clock + 1) (Goes key s 9 id me (advances (step n 9 clock (clock + 1) none) me y))
-    (λ hit. let o : Reading = with_advance m in let own : Did = record v.own { advances = v.own.advances ++ (clock + 1) ∷ [] } in let w : SeatView = acted k v own 9 clock o in let is = k.shows.clock in let now : m.clock ≡ clock = omega arith in let ne : m.clock ≢ 4294967295 = (λ e. omega arith) in
-    let b : Becomes m o = advanced (omega arith) refl in (
-      w,
-      keeps,
-      tt,
-      kept_event key s k 9 clock (clock + 1) id v own o at live (omega arith) (sym hit) b (advance_lawful m ne k.lawful) (shows_clock m s.words (clock + 1) k.shows (omega arith) (omega arith))
-          (listed_advance key.clock m s.views id v w k.listed at (λ i. v.own.advances ++ (sym now i + 1) ∷ []) refl refl refl refl),
-      ((refl, told key s k 9 clock id v own o at (sym hit) b), (λ _. (k.now, tells key s k 9 clock id v own o at)), λ miss. absurd (miss hit)),
-    ))
-    (λ miss. (looked k v 9 y, keeps, tt, kept_look key s k 9 id v at live, ((refl, told_look key s k 9 id v at), (λ hit. absurd (miss hit)), λ _. found_now key s k 9 id v at)))
+    pub ticks_gauge : (g amount : ℕ) → g < 8 → Allows (Rule key) n id me (1 + g) (λ x. (x + amount) % 18446744073709551616) (ticks (step n (1 + g) amount 0 none) me)
+    ticks_gauge g amount below s k _ at _ = let m : Reading = k.now.object in let o : Reading = with_tick m g amount in let eight = k.stands.shows.eight in let found : ℕ = get_or s.words (1 + g) 0 in let t : Tick = record { gauge = g; amount = amount } in
+        let own : Did = record v.own { ticks = v.own.ticks ++ t ∷ [] } in let w : SeatView = acted k.stands id v at own (1 + g) found o in
+        event_goes s k at (1 + g) found ((found + amount) % 18446744073709551616) own o (ticks (step n (1 + g) amount 0 none) me found) (omega arith) refl (ticked g amount below refl) (shows_tick m s.words g amount k.stands.shows below)
+        (listed_event key.clock m o s.views id v w k.listed at (tick_lists m g amount v.own (omega arith)) refl refl) (λ honest made. ((refl, honest), λ gauge e. subst (λ (z : ℕ). WasTicked v z amount found w) (omega arith) (k.now, made)))
 
--- what the play of an exchange says of its own slot and alarm it says of those that have the same word
-one_slot : (F : ℕ → Alarm → Type 0) (slot : ℕ) (alarm : Alarm) → IsInRange alarm → F slot alarm → (slot' : ℕ) (alarm' : Alarm) → IsWordOf slot' alarm' (10 + slot) (word_of (Some alarm)) → F slot' alarm'
-one_slot F slot alarm range f slot' alarm' e = let place = e.place in subst (λ (z : ℕ). F z alarm') (omega arith) (subst (λ z. F slot z) (same_alarm alarm alarm' range e.range e.bits_are) f)
+    pub advances_clock : (clock : ℕ) → clock < 4294967295 → Allows (Rule key) n id me 9 (λ x. either (eqb x clock) (clock + 1) x) (advances (step n 9 clock (clock + 1) none) me)
+    advances_clock clock bounded = tables.exchanges (table key) n id me (advances (step n 9 clock (clock + 1) none) me) 9 clock (clock + 1) live
+        (λ s k at hit. let m : Reading = k.now.object in let o : Reading = with_advance m in let own : Did = record v.own { advances = v.own.advances ++ (clock + 1) ∷ [] } in let is = k.stands.shows.clock in let now : m.clock ≡ clock = omega arith in
+        event_goes s k at 9 clock (clock + 1) own o (advances (step n 9 clock (clock + 1) none) me (get_or s.words 9 0)) (omega arith) (sym hit) (advanced (omega arith) refl) (shows_clock m s.words (clock + 1) k.stands.shows (omega arith) (omega arith))
+        (listed_advance key.clock m o s.views id v (acted k.stands id v at own 9 clock o) k.listed at (record { gauges = λ g t b h. h; set = λ a t h. h; fired = λ a t h. h; cancelled = λ a t h. h }) refl (λ i. v.own.advances ++ (sym now i + 1) ∷ []))
+        (λ honest made. ((refl, honest), (λ _. (k.now, made)), λ miss. absurd (miss hit))))
+        (λ s k at miss _. ((refl, honest_look k.stands id v at 9), (λ hit. absurd (miss hit)), λ _. found_now k.stands id v at 9))
 
-pub sets_slot : (key : Shape) (n id : ℕ) (me : Me Unit SeatView) (slot : ℕ) (alarm : Alarm) → slot < 16 → IsInRange alarm → 1 ≤ me.0.member.ends → Allows (Rule key) n id me (10 + slot) (λ x. either (eqb x 0) (word_of (Some alarm)) x) (sets (step n (10 + slot) 0 (word_of (Some alarm)) none) me)
-sets_slot key n id me slot alarm below range live s k _ at _ = let y : ℕ = get_or s.words (10 + slot) 0 in let new : ℕ = word_of (Some alarm) in let v : SeatView = me.0 in let m : Reading = k.now.object in let sixteen = k.shows.slots.sixteen in let within : slot < length m.slots = omega arith in
-    exchanged y 0 new (Goes key s (10 + slot) id me (sets (step n (10 + slot) 0 new none) me y))
-    (λ hit. let o : Reading = with_alarm m slot alarm in let own : Did = record v.own { set = v.own.set ++ alarm ∷ [] } in let w : SeatView = acted k v own (10 + slot) 0 o in let empty : in_slot m slot ≡ None = no_word (in_slot m slot) (sym (k.shows.slots.each slot below) ∙ hit) in
-    let b : Becomes m o = was_set slot alarm below empty refl in (
-      w,
-      keeps,
-      tt,
-      kept_event key s k (10 + slot) 0 new id v own o at live (omega arith) (sym hit) b (set_lawful m slot alarm within empty k.lawful) (shows_slot m o s.words slot (Some alarm) k.shows below range refl refl refl)
-          (listed_event key.clock m o s.views id v w k.listed at record {
-            ticks = refl;
-            gauges = refl;
-            advances = refl;
-            clock = refl;
-            set = λ a. (let p = times_push a alarm m.set in let q = times_push a alarm v.own.set in omega arith);
-            fired = λ a. refl;
-            cancelled = λ a. refl;
-          }),
-      ((refl, told key s k (10 + slot) 0 id v own o at (sym hit) b), (λ _. one_slot (λ j a. WasSet v j a w) slot alarm range (k.now, tells key s k (10 + slot) 0 id v own o at)), λ miss. absurd (miss hit)),
-    ))
-    (λ miss. (looked k v (10 + slot) y, keeps, tt, kept_look key s k (10 + slot) id v at live, ((refl, told_look key s k (10 + slot) id v at), (λ hit. absurd (miss hit)), λ _. found_now key s k (10 + slot) id v at)))
+    -- an exchange of a slot's word, which has these bits or is to have them
+    module _ (slot : ℕ) (alarm : Alarm) (bits : ℕ) (is_word : bits ≡ word_of (Some alarm)) (below : slot < 16) (range : IsInRange alarm) where
+      -- what it says of its own slot and alarm it says of those that have the same word
+      one_slot : (F : ℕ → Alarm → Type 0) → F slot alarm → (slot' : ℕ) (alarm' : Alarm) → IsWordOf slot' alarm' (10 + slot) bits → F slot' alarm'
+      one_slot F f slot' alarm' e = let place = e.place in subst (λ (z : ℕ). F z alarm') (omega arith) (subst (λ z. F slot z) (same_alarm alarm alarm' range e.range (sym is_word ∙ e.bits_are)) f)
 
-pub fires_slot : (key : Shape) (n id : ℕ) (me : Me Unit SeatView) (slot : ℕ) (alarm : Alarm) → slot < 16 → IsInRange alarm → alarm.due ≤ me.0.seen.object.clock → 1 ≤ me.0.member.ends
-    → Allows (Rule key) n id me (10 + slot) (λ x. either (eqb x (word_of (Some alarm))) 0 x) (fires (step n (10 + slot) (word_of (Some alarm)) 0 none) me)
-fires_slot key n id me slot alarm below range due live s k _ at _ = let y : ℕ = get_or s.words (10 + slot) 0 in let old : ℕ = word_of (Some alarm) in let v : SeatView = me.0 in let m : Reading = k.now.object in let sixteen = k.shows.slots.sixteen in let within : slot < length m.slots = omega arith in
-    exchanged y old 0 (Goes key s (10 + slot) id me (fires (step n (10 + slot) old 0 none) me y))
-    (λ hit. let o : Reading = with_fired m slot alarm in let own : Did = record v.own { fired = v.own.fired ++ alarm ∷ [] } in let w : SeatView = acted k v own (10 + slot) old o in let stood : in_slot m slot ≡ Some alarm = one_word (in_slot m slot) alarm (k.shows.slots.fit slot below) range (sym (k.shows.slots.each slot below) ∙ hit) in
-    let now = clock_leads v.seen k.now (seen_leads of_meters nothing_did did_both (first_reading key.clock) k.now s.views id v k.true_ends at) in let late : ltb m.clock alarm.due ≡ false = le-ltb m.clock alarm.due (omega arith) in let b : Becomes m o = fired slot alarm below stood (omega arith) refl in (
-      w,
-      keeps,
-      tt,
-      kept_event key s k (10 + slot) old 0 id v own o at live (omega arith) (sym hit) b (fire_lawful m slot alarm within stood late k.lawful) (shows_slot m o s.words slot None k.shows below tt refl refl refl)
-          (listed_event key.clock m o s.views id v w k.listed at record {
-            ticks = refl;
-            gauges = refl;
-            advances = refl;
-            clock = refl;
-            set = λ a. refl;
-            fired = λ a. (let p = times_push a alarm m.fired in let q = times_push a alarm v.own.fired in omega arith);
-            cancelled = λ a. refl;
-          }),
-      ((refl, told key s k (10 + slot) old id v own o at (sym hit) b), (λ _. one_slot (λ j a. WasFired v j a w) slot alarm range (k.now, tells key s k (10 + slot) old id v own o at)), λ miss. absurd (miss hit)),
-    ))
-    (λ miss. (looked k v (10 + slot) y, keeps, tt, kept_look key s k (10 + slot) id v at live, ((refl, told_look key s k (10 + slot) id v at), (λ hit. absurd (miss hit)), λ _. found_now key s k (10 + slot) id v at)))
+      slot_exchange : (Was : SeatView → ℕ → Alarm → SeatView → Type 0) (found old new : ℕ) (stand : Option Alarm) (own : Did) (o : Reading → Reading) → found ≡ old → new ≡ word_of stand → Fits stand
+          → ((m : Reading) → ((o m).gauges ≡ m.gauges) × ((o m).clock ≡ m.clock) × ((o m).slots ≡ set m.slots slot stand) × Lists m (o m) v.own own) → own.advances ≡ v.own.advances
+          → ((s : St) (k : Rule key s) → get_elem? s.views id ≡ some v → found ≡ word_of (in_slot k.now.object slot) → Becomes k.now.object (o k.now.object))
+          → ((s : St) (k : Rule key s) (w : SeatView) → Made v (change (10 + slot) found k.now (o k.now.object) ∷ []) own w → Was v slot alarm w)
+          → Allows (Rule key) n id me (10 + slot) (λ x. either (eqb x old) new x) (exchanges Was bits (step n (10 + slot) old new none) me)
+      slot_exchange Was found old new stand own o is_found is_new fits still advances becomes tells = tables.exchanges (table key) n id me (exchanges Was bits (step n (10 + slot) old new none) me) (10 + slot) old new live
+          (λ s k at hit. let m : Reading = k.now.object in let x = still m in let is : found ≡ get_or s.words (10 + slot) 0 = is_found ∙ sym hit in let w : SeatView = acted k.stands id v at own (10 + slot) found (o m) in
+          event_goes s k at (10 + slot) found new own (o m) (exchanges Was bits (step n (10 + slot) old new none) me (get_or s.words (10 + slot) 0)) (omega arith) is
+          (becomes s k at (is ∙ k.stands.shows.slots.each slot below))
+          (subst (λ (z : ℕ). WordsShow (o m) (set s.words (10 + slot) z)) (sym is_new) (shows_slot m (o m) s.words slot stand k.stands.shows below fits x.0 x.1 x.2))
+          (listed_event key.clock m (o m) s.views id v w k.listed at x.3 x.1 advances)
+          (λ honest made. ((refl, honest), (λ _. one_slot (λ j a. Was v j a w) (tells s k w made)), λ miss. absurd (miss hit))))
+          (λ s k at miss _. ((refl, honest_look k.stands id v at (10 + slot)), (λ hit. absurd (miss hit)), λ _. found_now k.stands id v at (10 + slot)))
 
-pub cancels_slot : (key : Shape) (n id : ℕ) (me : Me Unit SeatView) (slot : ℕ) (alarm : Alarm) → slot < 16 → IsInRange alarm → 1 ≤ me.0.member.ends
-    → Allows (Rule key) n id me (10 + slot) (λ x. either (eqb x (word_of (Some alarm))) 0 x) (cancels (step n (10 + slot) (word_of (Some alarm)) 0 none) me)
-cancels_slot key n id me slot alarm below range live s k _ at _ = let y : ℕ = get_or s.words (10 + slot) 0 in let old : ℕ = word_of (Some alarm) in let v : SeatView = me.0 in let m : Reading = k.now.object in let sixteen = k.shows.slots.sixteen in let within : slot < length m.slots = omega arith in
-    exchanged y old 0 (Goes key s (10 + slot) id me (cancels (step n (10 + slot) old 0 none) me y))
-    (λ hit. let o : Reading = with_cancelled m slot alarm in let own : Did = record v.own { cancelled = v.own.cancelled ++ alarm ∷ [] } in let w : SeatView = acted k v own (10 + slot) old o in
-    let stood : in_slot m slot ≡ Some alarm = one_word (in_slot m slot) alarm (k.shows.slots.fit slot below) range (sym (k.shows.slots.each slot below) ∙ hit) in let b : Becomes m o = cancelled slot alarm below stood refl in (
-      w,
-      keeps,
-      tt,
-      kept_event key s k (10 + slot) old 0 id v own o at live (omega arith) (sym hit) b (cancel_lawful m slot alarm within stood k.lawful) (shows_slot m o s.words slot None k.shows below tt refl refl refl)
-          (listed_event key.clock m o s.views id v w k.listed at record {
-            ticks = refl;
-            gauges = refl;
-            advances = refl;
-            clock = refl;
-            set = λ a. refl;
-            fired = λ a. refl;
-            cancelled = λ a. (let p = times_push a alarm m.cancelled in let q = times_push a alarm v.own.cancelled in omega arith);
-          }),
-      ((refl, told key s k (10 + slot) old id v own o at (sym hit) b), (λ _. one_slot (λ j a. WasCancelled v j a w) slot alarm range (k.now, tells key s k (10 + slot) old id v own o at)), λ miss. absurd (miss hit)),
-    ))
-    (λ miss. (looked k v (10 + slot) y, keeps, tt, kept_look key s k (10 + slot) id v at live, ((refl, told_look key s k (10 + slot) id v at), (λ hit. absurd (miss hit)), λ _. found_now key s k (10 + slot) id v at)))
+      pub sets_slot : Allows (Rule key) n id me (10 + slot) (λ x. either (eqb x 0) bits x) (sets (step n (10 + slot) 0 bits none) me)
+      sets_slot = slot_exchange WasSet 0 0 bits (Some alarm) (record v.own { set = v.own.set ++ alarm ∷ [] }) (λ m. with_alarm m slot alarm) refl is_word range
+          (λ m. (refl, refl, refl, record { gauges = λ g t b h. h; set = λ a t h. one_more a alarm m.set v.own.set t h; fired = λ a t h. h; cancelled = λ a t h. h })) refl
+          (λ s k at none. was_set slot alarm below (no_word (in_slot k.now.object slot) (sym none)) refl) (λ s k w made. (k.now, made))
 
--- the same, where the exchange has these bits
-pub sets_bits : (key : Shape) (n id : ℕ) (me : Me Unit SeatView) (slot : ℕ) (alarm : Alarm) (bits : ℕ) → bits ≡ word_of (Some alarm) → slot < 16 → IsInRange alarm → 1 ≤ me.0.member.ends → Allows (Rule key) n id me (10 + slot) (λ x. either (eqb x 0) bits x) (sets (step n (10 + slot) 0 bits none) me)
-sets_bits key n id me slot alarm bits is below range live = subst (λ (z : ℕ). Allows (Rule key) n id me (10 + slot) (λ x. either (eqb x 0) z x) (sets (step n (10 + slot) 0 z none) me)) (sym is) (sets_slot key n id me slot alarm below range live)
+      abbrev stood : (s : St) (k : Rule key s) → word_of (Some alarm) ≡ word_of (in_slot k.now.object slot) → in_slot k.now.object slot ≡ Some alarm
+      stood s k is = one_word (in_slot k.now.object slot) alarm (k.stands.shows.slots.fit slot below) range (sym is)
 
-pub fires_bits : (key : Shape) (n id : ℕ) (me : Me Unit SeatView) (slot : ℕ) (alarm : Alarm) (bits : ℕ) → bits ≡ word_of (Some alarm) → slot < 16 → IsInRange alarm → alarm.due ≤ me.0.seen.object.clock → 1 ≤ me.0.member.ends
-    → Allows (Rule key) n id me (10 + slot) (λ x. either (eqb x bits) 0 x) (fires (step n (10 + slot) bits 0 none) me)
-fires_bits key n id me slot alarm bits is below range due live = subst (λ (z : ℕ). Allows (Rule key) n id me (10 + slot) (λ x. either (eqb x z) 0 x) (fires (step n (10 + slot) z 0 none) me)) (sym is) (fires_slot key n id me slot alarm below range due live)
+      pub fires_slot : alarm.due ≤ v.seen.object.clock → Allows (Rule key) n id me (10 + slot) (λ x. either (eqb x bits) 0 x) (fires (step n (10 + slot) bits 0 none) me)
+      fires_slot due = slot_exchange WasFired (word_of (Some alarm)) bits 0 None (record v.own { fired = v.own.fired ++ alarm ∷ [] }) (λ m. with_fired m slot alarm) (sym is_word) refl tt
+          (λ m. (refl, refl, refl, record { gauges = λ g t b h. h; set = λ a t h. h; fired = λ a t h. one_more a alarm m.fired v.own.fired t h; cancelled = λ a t h. h })) refl
+          (λ s k at is. let up = clock_leads v.seen k.now (leads k.stands id v at) in fired slot alarm below (stood s k is) (omega arith) refl) (λ s k w made. (k.now, made))
 
-pub cancels_bits : (key : Shape) (n id : ℕ) (me : Me Unit SeatView) (slot : ℕ) (alarm : Alarm) (bits : ℕ) → bits ≡ word_of (Some alarm) → slot < 16 → IsInRange alarm → 1 ≤ me.0.member.ends
-    → Allows (Rule key) n id me (10 + slot) (λ x. either (eqb x bits) 0 x) (cancels (step n (10 + slot) bits 0 none) me)
-cancels_bits key n id me slot alarm bits is below range live = subst (λ (z : ℕ). Allows (Rule key) n id me (10 + slot) (λ x. either (eqb x z) 0 x) (cancels (step n (10 + slot) z 0 none) me)) (sym is) (cancels_slot key n id me slot alarm below range live)
+      pub cancels_slot : Allows (Rule key) n id me (10 + slot) (λ x. either (eqb x bits) 0 x) (cancels (step n (10 + slot) bits 0 none) me)
+      cancels_slot = slot_exchange WasCancelled (word_of (Some alarm)) bits 0 None (record v.own { cancelled = v.own.cancelled ++ alarm ∷ [] }) (λ m. with_cancelled m slot alarm) (sym is_word) refl tt
+          (λ m. (refl, refl, refl, record { gauges = λ g t b h. h; set = λ a t h. h; fired = λ a t h. h; cancelled = λ a t h. one_more a alarm m.cancelled v.own.cancelled t h })) refl
+          (λ s k at is. cancelled slot alarm below (stood s k is) refl) (λ s k w made. (k.now, made))
+
+pub splits : (key : Shape) (id : ℕ) (v : SeatView) → v.member.ends ≡ 2 → Splits (Rule key) id v (rest_of v) (newborn nothing_did v)
+splits key id v two s k at = record { now = k.now; stands = stands_split k.stands id v at two; listed = listed_split key.clock k.now.object s.views id v k.listed at }
+
+pub joins : (key : Shape) (id other : ℕ) (v w : SeatView) → 1 ≤ v.member.ends → Joins (Rule key) id v other w (both did_both v w) (emptied nothing_did v)
+joins key id other v w live s k at ne has = let at' : get_elem? s.views other ≡ some w = sym (set_else s.views id other (both did_both v w) ne) ∙ has in
+    record { now = k.now; stands = stands_join k.stands id v at did_both other w at' ne live; listed = listed_join key.clock k.now.object s.views id other v w k.listed at at' ne }

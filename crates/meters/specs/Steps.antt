@@ -1,17 +1,28 @@
 -- What each step tells its end: its entry, and what the end has done then.
-use Rattle.std.specs.Prelude.{◌≡◌, ◌≢◌, ◌+◌, ℕ, [], ◌∷◌, ◌++◌, Option, Some, filter_map}
+use Rattle.std.specs.Prelude.{◌≡◌, ◌≢◌, ◌+◌, ◌≤◌, ℕ, [], ◌∷◌, ◌++◌, Option, Some, filter_map}
 use Rattle.event_theory.specs.declared.alarm.Alarm.{Alarm}
+use Rattle.atomic_table.specs.Seated.{TableId}
 use Rattle.atomic_table.specs.Table.{Me, Step}
+use Rattle.atomic_table.specs.declared.shared.Seat.{Seat}
 use Rattle.table_theory.specs.declared.views.Moment.{Moment}
-use Rattle.table_theory.specs.Ledgers.{change, Looked, Made, CountedDown}
+use Rattle.table_theory.specs.Ledgers.{change, IsHonest, Looked, Made, CountedDown}
 use Rattle.table_theory.specs.Plays.{Stays}
-use Rattle.meters.specs.Layout.{ends_word, gauge_word, clock_word, slot_word, word_of}
+use Rattle.table_theory.specs.Seating.{IsSame}
+use Rattle.meters.specs.Layout.{ends_word, gauge_word, clock_word, slot_word, width, word_of}
 use Rattle.meters.specs.declared.rule.Reading.{Reading}
 use Rattle.meters.specs.Changes.{with_tick, with_advance, with_alarm, with_fired, with_cancelled}
 use Rattle.meters.specs.Own.{SeatView, of_meters}
 use Rattle.meters.specs.Views.{IsPart}
 use Rattle.meters.specs.Words.{IsInRange, Fits}
 use Rattle.meters.specs.Answers.{Visit, entries_of, IsVisit, gave}
+
+-- an end that stands can make a step on the words of its table
+abbrev pub CanStep : TableId → Seat Unit SeatView → Type 0
+CanStep table seat = (seat.table_id ≡ table) × (width ≤ table.words) × (1 ≤ seat.me.0.member.ends)
+
+-- it made one: it is the same end, what it holds stays, and its list is true
+abbrev pub HasStepped : Seat Unit SeatView → Seat Unit SeatView → Type 0
+HasStepped old new = IsSame old new × (new.me.1 ≡ old.me.1) × IsHonest of_meters new.me.0
 
 -- the gauge was found at this number, and ticked
 abbrev pub WasTicked : SeatView → ℕ → ℕ → ℕ → SeatView → Type 0
@@ -48,11 +59,17 @@ WasSet v slot alarm w = (m : Moment Reading)
     × Made v (change (slot_word slot) 0 m (with_alarm m.object slot alarm) ∷ [])
     (record v.own { set = v.own.set ++ alarm ∷ [] }) w
 
+-- What an exchange of a slot's word tells: where it found the old number, this happened to the slot and the alarm that
+-- have the bits
+abbrev pub exchanges : (SeatView → ℕ → Alarm → SeatView → Type 0) → ℕ → Step Unit → Me Unit SeatView → ℕ
+    → Me Unit SeatView → Type 0
+exchanges Was bits st m r m' = Stays of_meters m m'
+    × (r ≡ st.first → (slot : ℕ) (alarm : Alarm) → IsWordOf slot alarm st.word bits → Was m.0 slot alarm m'.0)
+    × (r ≢ st.first → Looked m.0 st.word r m'.0)
+
 -- what an exchange tells that is to set an alarm
 abbrev pub sets : Step Unit → Me Unit SeatView → ℕ → Me Unit SeatView → Type 0
-sets st m r m' = Stays of_meters m m'
-    × (r ≡ 0 → (slot : ℕ) (alarm : Alarm) → IsWordOf slot alarm st.word st.second → WasSet m.0 slot alarm m'.0)
-    × (r ≢ 0 → Looked m.0 st.word r m'.0)
+sets st m r m' = exchanges WasSet st.second st m r m'
 
 -- the alarm was found in this slot, and taken out as fired
 abbrev pub WasFired : SeatView → ℕ → Alarm → SeatView → Type 0
@@ -62,9 +79,7 @@ WasFired v slot alarm w = (m : Moment Reading)
 
 -- what an exchange tells that is to fire an alarm
 abbrev pub fires : Step Unit → Me Unit SeatView → ℕ → Me Unit SeatView → Type 0
-fires st m r m' = Stays of_meters m m'
-    × (r ≡ st.first → (slot : ℕ) (alarm : Alarm) → IsWordOf slot alarm st.word st.first → WasFired m.0 slot alarm m'.0)
-    × (r ≢ st.first → Looked m.0 st.word r m'.0)
+fires st m r m' = exchanges WasFired st.first st m r m'
 
 -- the same, as cancelled
 abbrev pub WasCancelled : SeatView → ℕ → Alarm → SeatView → Type 0
@@ -74,10 +89,7 @@ WasCancelled v slot alarm w = (m : Moment Reading)
 
 -- what an exchange tells that is to cancel an alarm
 abbrev pub cancels : Step Unit → Me Unit SeatView → ℕ → Me Unit SeatView → Type 0
-cancels st m r m' = Stays of_meters m m'
-    × (r ≡ st.first → (slot : ℕ) (alarm : Alarm) → IsWordOf slot alarm st.word st.first
-    → WasCancelled m.0 slot alarm m'.0)
-    × (r ≢ st.first → Looked m.0 st.word r m'.0)
+cancels st m r m' = exchanges WasCancelled st.first st m r m'
 
 -- what counting one end less tells; no alarm that was set or taken out is had by two ends
 abbrev pub counts_down : Step Unit → Me Unit SeatView → ℕ → Me Unit SeatView → Type 0

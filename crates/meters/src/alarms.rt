@@ -62,8 +62,8 @@ impl Meters {
     // Takes out the alarm of this slot where it is due at this tick of the clock.
     fn fire(&self, seat: &mut MeterSeat, slot: usize, clock: u64) -> Option<Alarm>
         requires { IsSeatOf self.now seat.old × (slot < SLOTS) × (clock ≤ (view_of seat.old).seen.object.clock) }
-        ensures gave { Gave (view_of seat.old) clock slot result (view_of seat.new) }
-        ensures clock { clock ≤ (view_of seat.new).seen.object.clock }
+        ensures gave { Gave (view_of seat.old) clock slot result (view_of seat.new)
+            × (clock ≤ (view_of seat.new).seen.object.clock) }
         ensures same { IsSameSeat seat.old seat.new }
     {
         let alarm = load_alarm(&self.table.shared, &mut seat.seat, slot)?;

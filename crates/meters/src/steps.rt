@@ -1,11 +1,12 @@
 //! The atomic steps, one function for each kind.
 ghost use Rattle.std.specs.Prelude.{◌≡◌, ◌≢◌, ◌+◌, ◌<◌, ◌≤◌, [], IsTrue, IsFalse, Some, None};
 ghost use Rattle.table_theory.specs.Seating.{IsSame};
-ghost use Rattle.table_theory.specs.Ledgers.{IsHonest, Looked, CountedUp, CountedDown, Tallied};
+ghost use Rattle.table_theory.specs.Ledgers.{Looked, CountedUp, CountedDown, Tallied};
 ghost use Rattle.table_theory.specs.Ledgers.{rest_of, newborn, both, emptied};
 ghost use Rattle.meters.specs.Layout.{ends_word, clock_word, width};
 ghost use Rattle.meters.specs.declared.layout.TheConstants.{GAUGES, SLOTS, TICKS, LAST_TICK};
 ghost use Rattle.meters.specs.Own.{of_meters, nothing_did, did_both};
+ghost use Rattle.meters.specs.Steps.{CanStep, HasStepped};
 ghost use Rattle.meters.specs.Steps.{WasTicked, WasAdvanced, WasSet, WasFired, WasCancelled, FoundIn, FoundOther};
 ghost use Rattle.meters.specs.Views.{IsPart};
 
@@ -23,18 +24,15 @@ pub(crate) type Words = Shared<(), View, Shape, MeterRule>;
 pub(crate) fn load(words: &Words, seat: &mut Seat<(), View>, word: usize) -> u64
     requires seat { (seat.old.table_id ≡ words.now.table_id) × (word < words.now.table_id.words) }
     requires live { 1 ≤ seat.old.me.0.member.ends }
-    ensures seat { IsSame seat.old seat.new × (seat.new.me.1 ≡ seat.old.me.1) }
-    ensures told { IsHonest of_meters seat.new.me.0 }
+    ensures seat { HasStepped seat.old seat.new }
     ensures found { Looked seat.old.me.0 word result seat.new.me.0 }
 {
     words.load::<Finds>(seat, word)
 }
 
 pub(crate) fn load_clock(words: &Words, seat: &mut Seat<(), View>) -> u64
-    requires seat { (seat.old.table_id ≡ words.now.table_id) × (width ≤ words.now.table_id.words) }
-    requires live { 1 ≤ seat.old.me.0.member.ends }
-    ensures seat { IsSame seat.old seat.new × (seat.new.me.1 ≡ seat.old.me.1) }
-    ensures told { IsHonest of_meters seat.new.me.0 }
+    requires seat { CanStep words.now.table_id seat.old }
+    ensures seat { HasStepped seat.old seat.new }
     ensures found { Looked seat.old.me.0 clock_word result seat.new.me.0 }
     ensures clock { result ≡ seat.new.me.0.seen.object.clock }
     ensures bounded { result < TICKS }
@@ -43,10 +41,8 @@ pub(crate) fn load_clock(words: &Words, seat: &mut Seat<(), View>) -> u64
 }
 
 pub(crate) fn load_alarm(words: &Words, seat: &mut Seat<(), View>, slot: usize) -> Option<Alarm>
-    requires seat { (seat.old.table_id ≡ words.now.table_id) × (width ≤ words.now.table_id.words) × (slot < SLOTS) }
-    requires live { 1 ≤ seat.old.me.0.member.ends }
-    ensures seat { IsSame seat.old seat.new × (seat.new.me.1 ≡ seat.old.me.1) }
-    ensures told { IsHonest of_meters seat.new.me.0 }
+    requires seat { CanStep words.now.table_id seat.old × (slot < SLOTS) }
+    ensures seat { HasStepped seat.old seat.new }
     ensures found { FoundIn seat.old.me.0 slot result seat.new.me.0 }
 {
     AlarmWord::from_bits(load(words, seat, FIRST_SLOT + slot)).alarm()
@@ -58,21 +54,17 @@ pub(crate) fn add_to_gauge(
     gauge: usize,
     amount: u64,
 ) -> u64
-    requires seat { (seat.old.table_id ≡ words.now.table_id) × (width ≤ words.now.table_id.words) × (gauge < GAUGES) }
-    requires live { 1 ≤ seat.old.me.0.member.ends }
-    ensures seat { IsSame seat.old seat.new × (seat.new.me.1 ≡ seat.old.me.1) }
-    ensures told { IsHonest of_meters seat.new.me.0 }
+    requires seat { CanStep words.now.table_id seat.old × (gauge < GAUGES) }
+    ensures seat { HasStepped seat.old seat.new }
     ensures ticked { WasTicked seat.old.me.0 gauge amount result seat.new.me.0 }
 {
     words.fetch_add::<Ticks>(seat, FIRST_GAUGE + gauge, amount)
 }
 
 pub(crate) fn exchange_clock(words: &Words, seat: &mut Seat<(), View>, clock: u64) -> u64
-    requires seat { (seat.old.table_id ≡ words.now.table_id) × (width ≤ words.now.table_id.words) }
-    requires live { 1 ≤ seat.old.me.0.member.ends }
+    requires seat { CanStep words.now.table_id seat.old }
     requires below { clock < LAST_TICK }
-    ensures seat { IsSame seat.old seat.new × (seat.new.me.1 ≡ seat.old.me.1) }
-    ensures told { IsHonest of_meters seat.new.me.0 }
+    ensures seat { HasStepped seat.old seat.new }
     ensures hit { result ≡ clock → WasAdvanced seat.old.me.0 clock seat.new.me.0 }
     ensures miss { result ≢ clock → Looked seat.old.me.0 clock_word result seat.new.me.0
         × (result ≡ seat.new.me.0.seen.object.clock) }
@@ -88,10 +80,8 @@ pub(crate) fn exchange_in(
     slot: usize,
     alarm: Alarm,
 ) -> bool
-    requires seat { (seat.old.table_id ≡ words.now.table_id) × (width ≤ words.now.table_id.words) × (slot < SLOTS) }
-    requires live { 1 ≤ seat.old.me.0.member.ends }
-    ensures seat { IsSame seat.old seat.new × (seat.new.me.1 ≡ seat.old.me.1) }
-    ensures told { IsHonest of_meters seat.new.me.0 }
+    requires seat { CanStep words.now.table_id seat.old × (slot < SLOTS) }
+    ensures seat { HasStepped seat.old seat.new }
     ensures hit { IsTrue result → WasSet seat.old.me.0 slot alarm seat.new.me.0 }
     ensures miss { IsFalse result → FoundOther seat.old.me.0 slot None seat.new.me.0 }
 {
@@ -106,11 +96,9 @@ pub(crate) fn exchange_fired(
     slot: usize,
     alarm: Alarm,
 ) -> bool
-    requires seat { (seat.old.table_id ≡ words.now.table_id) × (width ≤ words.now.table_id.words) × (slot < SLOTS) }
-    requires live { 1 ≤ seat.old.me.0.member.ends }
+    requires seat { CanStep words.now.table_id seat.old × (slot < SLOTS) }
     requires due { alarm.due ≤ seat.old.me.0.seen.object.clock }
-    ensures seat { IsSame seat.old seat.new × (seat.new.me.1 ≡ seat.old.me.1) }
-    ensures told { IsHonest of_meters seat.new.me.0 }
+    ensures seat { HasStepped seat.old seat.new }
     ensures hit { IsTrue result → WasFired seat.old.me.0 slot alarm seat.new.me.0 }
     ensures miss { IsFalse result → FoundOther seat.old.me.0 slot (Some alarm) seat.new.me.0 }
 {
@@ -125,10 +113,8 @@ pub(crate) fn exchange_cancelled(
     slot: usize,
     alarm: Alarm,
 ) -> bool
-    requires seat { (seat.old.table_id ≡ words.now.table_id) × (width ≤ words.now.table_id.words) × (slot < SLOTS) }
-    requires live { 1 ≤ seat.old.me.0.member.ends }
-    ensures seat { IsSame seat.old seat.new × (seat.new.me.1 ≡ seat.old.me.1) }
-    ensures told { IsHonest of_meters seat.new.me.0 }
+    requires seat { CanStep words.now.table_id seat.old × (slot < SLOTS) }
+    ensures seat { HasStepped seat.old seat.new }
     ensures hit { IsTrue result → WasCancelled seat.old.me.0 slot alarm seat.new.me.0 }
     ensures miss { IsFalse result → FoundOther seat.old.me.0 slot (Some alarm) seat.new.me.0 }
 {
@@ -139,8 +125,7 @@ pub(crate) fn exchange_cancelled(
 pub(crate) fn count_up(words: &Words, seat: &mut Seat<(), View>) -> u64
     requires seat { (seat.old.table_id ≡ words.now.table_id) × (width ≤ words.now.table_id.words) }
     requires parts { seat.old.me.0.member.ends + 1 ≤ seat.old.me.0.member.share }
-    ensures seat { IsSame seat.old seat.new × (seat.new.me.1 ≡ seat.old.me.1) }
-    ensures told { IsHonest of_meters seat.new.me.0 }
+    ensures seat { HasStepped seat.old seat.new }
     ensures counted { CountedUp ends_word seat.old.me.0 seat.new.me.0 }
 {
     words.fetch_add::<CountsUp>(seat, ENDS, 1)
@@ -149,8 +134,7 @@ pub(crate) fn count_up(words: &Words, seat: &mut Seat<(), View>) -> u64
 pub(crate) fn count_down(words: &Words, seat: &mut Seat<(), View>) -> u64
     requires seat { (seat.old.table_id ≡ words.now.table_id) × (width ≤ words.now.table_id.words) }
     requires live { 2 ≤ seat.old.me.0.member.ends }
-    ensures seat { IsSame seat.old seat.new × (seat.new.me.1 ≡ seat.old.me.1) }
-    ensures told { IsHonest of_meters seat.new.me.0 }
+    ensures seat { HasStepped seat.old seat.new }
     ensures counted { CountedDown ends_word seat.old.me.0 seat.new.me.0 × IsPart seat.new.me.0 }
 {
     words.fetch_sub::<CountsDown>(seat, ENDS, 1)
@@ -159,8 +143,7 @@ pub(crate) fn count_down(words: &Words, seat: &mut Seat<(), View>) -> u64
 pub(crate) fn count(words: &Words, seat: &mut Seat<(), View>) -> u64
     requires seat { (seat.old.table_id ≡ words.now.table_id) × (width ≤ words.now.table_id.words) }
     requires one { seat.old.me.0.member.ends ≡ 1 }
-    ensures seat { IsSame seat.old seat.new × (seat.new.me.1 ≡ seat.old.me.1) }
-    ensures told { IsHonest of_meters seat.new.me.0 }
+    ensures seat { HasStepped seat.old seat.new }
     ensures tallied { Tallied ends_word seat.old.me.0 result seat.new.me.0 }
 {
     words.load::<Counts>(seat, ENDS)

@@ -1,32 +1,12 @@
 -- Whatever the rule holds of is a lawful chain of the core, shown by the words and the views.
-use Rattle.std.proofs.Common.{◌≡◌, ℕ, ◌+◌, ◌%◌, ◌<◌, ◌≤◌, true, false, true≢false, List, ◌∙◌, map, length, take, refl, sym, ap, subst, arith, Some, eqb, eq-eqb, ne_eqb}
+use Rattle.proc_chain.proofs.Common.{◌≡◌, ℕ, ◌+◌, ◌%◌, ◌<◌, ◌≤◌, true, false, true≢false, List, ◌∙◌, map, length, take, refl, sym, ap, subst, arith, Some, eqb, eq-eqb, ne_eqb, dite, dec_le, ℕ_discrete, get_elem?, State, Idle, Positions, is_raised, Chain, is_call, is_idle, place_at, runs_of, Adjacent, long_is, history_of, got, at_map, Shape, View, part_of, note_in, mark_in, notes_of, Rule, GateShows, gate_of, runner_from, owes_in, chain_of}
 use Rattle.std.proofs.lemmas.Simd.{map-map}
 use Rattle.std.proofs.lemmas.Bool.{le-leb, leb-true}
 use mathlib.Core.Option as maybe
-use mathlib.Core.Logic.{dite}
-use native.Mathlib.Decide.{dec_le, ℕ_discrete}
-use lib.ListN.{get_elem?}
-use Rattle.atomic_table.specs.Table.{State}
-use Rattle.event_theory.specs.declared.status.Gate.TheVariants.{Idle}
-use Rattle.table_theory.specs.declared.queues.Positions.{Positions}
 use Rattle.event_theory.specs.Runs.{flat}
-use Rattle.event_theory.specs.Queues.{is_raised}
-use Rattle.event_theory.specs.Chains.{Chain, is_call}
-use Rattle.event_theory.specs.Lawful.{is_idle}
-use Rattle.table_theory.specs.Positioned.{place_at}
 use Rattle.table_theory.specs.Filing.{ListedOnce}
-use Rattle.table_theory.specs.Listing.{runs_of, takes_of, Adjacent}
+use Rattle.table_theory.specs.Listing.{takes_of}
 use Rattle.table_theory.proofs.Batches.{item_is, taken_is, taken_items}
-use Rattle.table_theory.proofs.QueueOf.{long_is}
-use Rattle.table_theory.proofs.QueueEvents.{history_of, got}
-use Rattle.atomic_table.proofs.Lists.{at_map}
-use Rattle.proc_chain.specs.declared.rule.Shape.{Shape}
-use Rattle.proc_chain.specs.Own.{View, part_of}
-use Rattle.proc_chain.specs.Layout.{note_in, mark_in}
-use Rattle.proc_chain.specs.Shown.{notes_of}
-use Rattle.proc_chain.specs.Rules.{Rule}
-use Rattle.proc_chain.specs.Gates.{GateShows}
-use Rattle.proc_chain.specs.Chainings.{gate_of, runner_from, owes_in, chain_of}
 use Rattle.proc_chain.specs.Between.{pair_at, PlaceIs, ShowsChain, ShowsEnds}
 use Rattle.proc_chain.proofs.Gates.{others_still}
 use Rattle.proc_chain.proofs.Events.{runner_none, runner_at, up_is, not_idle, chain_is_lawful}
@@ -44,11 +24,11 @@ runner_is q gate views g call v at = dite (ℕ_discrete gate 0)
 
 module _ {Q W : Type 0} (made : W → Q → List ℕ → Type 0) (fits : W → Q → Type 0) (key : Shape W) (s : State Q View) (k : Rule made fits key s) where
   abbrev c : Chain
-  c = chain_of k.now.object.queue k.listed.runs k.now.object.gate s.views
+  c = chain_of k.now.object.queue k.listed.lists.runs k.now.object.gate s.views
 
   place_is : (i : ℕ) → k.now.object.queue.taken ≤ i → i < length k.now.object.queue.places → PlaceIs c s.words i (key.first + i)
-  place_is i from below = let q : Positions = k.now.object.queue in let u = up_is q k.listed.runs k.listed.runs_flat i below in let x = item_is k.now.object.queue k.listed.runs k.listed.runs_flat i below in let within = k.lawful.0.within in let p = k.shows.0.window.each i from (omega arith) in
-      let at : (q.first + i) % q.room ≡ (key.first + i) % 32 = (λ z. (k.first z + i) % k.shows.0.room z) in
+  place_is i from below = let q : Positions = k.now.object.queue in let u = up_is q k.listed.lists.runs k.listed.lists.runs_are.flat i below in let x = item_is k.now.object.queue k.listed.lists.runs k.listed.lists.runs_are.flat i below in let within = k.stands.lawful.0.within in let p = k.stands.shows.0.window.each i from (omega arith) in
+      let at : (q.first + i) % q.room ≡ (key.first + i) % 32 = (λ z. (k.first z + i) % k.stands.shows.0.room z) in
       let mark : mark_in s.words ((q.first + i) % q.room) ≡ mark_in s.words ((key.first + i) % 32) = ap (mark_in s.words) at in
       let note : note_in s.words ((q.first + i) % q.room) ≡ note_in s.words ((key.first + i) % 32) = ap (note_in s.words) at in let first = k.first in
       let raised : is_raised c.notes (pair_at c i) ≡ true → 2 ≤ (place_at q i).written = (λ h. leb-true 2 (place_at q i).written (sym u ∙ h)) in record {
@@ -58,26 +38,26 @@ module _ {Q W : Type 0} (made : W → Q → List ℕ → Type 0) (fits : W → Q
       }
 
   notes_are : notes_of k.now.object.queue ≡ take c.notes.taken (flat c.notes.history)
-  notes_are = taken_is k.now.object.queue k.listed.runs k.listed.runs_flat
+  notes_are = taken_is k.now.object.queue k.listed.lists.runs k.listed.lists.runs_are.flat
 
   idle_word : gate_of k.now.object.gate ≡ Idle → k.now.object.gate ≡ 0
   idle_word h = dite (ℕ_discrete k.now.object.gate 0) (λ y. y) (λ up. absurd (true≢false (sym (ap is_idle h) ∙ not_idle k.now.object.gate up)))
 
   pub shows_chain : ShowsChain made fits key s
-  shows_chain = let q : Positions = k.now.object.queue in let l = k.listed in let n = long_is q l.runs l.runs_flat in let h = k.shows.0 in let first = k.first in record {
+  shows_chain = let q : Positions = k.now.object.queue in let l = k.listed in let n = long_is q l.lists.runs l.lists.runs_are.flat in let h = k.stands.shows.0 in let first = k.first in record {
     now = k.now.object;
     chain = c;
-    lawful = chain_is_lawful q k.now.object.gate s.views l k.lawful.0 k.gate;
+    lawful = chain_is_lawful q k.now.object.gate s.views l k.stands.lawful.0 k.gate;
     shown = record {
-      runs = l.runs;
+      runs = l.lists.runs;
       history = refl;
-      once = subst (ListedOnce l.runs) (map-map runs_of part_of s.views) l.runs_filed;
-      side_by_side = subst (λ (z : ℕ). Adjacent z l.runs) k.first l.runs_adjacent;
+      once = subst (ListedOnce l.lists.runs) (map-map runs_of part_of s.views) l.lists.runs_are.filed;
+      side_by_side = subst (λ (z : ℕ). Adjacent z l.lists.runs) k.first l.lists.runs_are.adjacent;
       raised = λ run index. refl;
-      takings = l.takes;
-      taken_once = subst (ListedOnce l.takes) (map-map takes_of part_of s.views) l.takes_filed;
-      taken_in_order = subst (λ (z : ℕ). Adjacent z l.takes) k.first l.takes_adjacent;
-      taken_notes = taken_items q _ l;
+      takings = l.lists.takes;
+      taken_once = subst (ListedOnce l.lists.takes) (map-map takes_of part_of s.views) l.lists.takes_are.filed;
+      taken_in_order = subst (λ (z : ℕ). Adjacent z l.lists.takes) k.first l.lists.takes_are.adjacent;
+      taken_notes = taken_items q _ l.lists;
       capacity = h.room;
       is_open = h.is_open;
       long = h.wide;
@@ -85,16 +65,16 @@ module _ {Q W : Type 0} (made : W → Q → List ℕ → Type 0) (fits : W → Q
       head = h.head ∙ (omega arith);
       tail = h.tail ∙ ap (λ (z : ℕ). z + q.taken) first;
       places = λ i from below. place_is i from (omega arith);
-      gate = ap gate_of (sym k.shows.1);
-      gate_word = subst (λ (z : ℕ). z ≤ 2) (sym k.shows.1) k.gate.bounded;
+      gate = ap gate_of (sym k.stands.shows.1);
+      gate_word = subst (λ (z : ℕ). z ≤ 2) (sym k.stands.shows.1) k.gate.bounded;
       runner = runner_is q k.now.object.gate s.views k.gate;
       owing = λ call v at. sym (ap owes_in (got s.views call v at));
     };
     same = refl;
     first = k.first;
     history = history_of q (map part_of s.views) l;
-    gate = sym k.shows.1;
-    seen = λ j v at. (k.listed.seen j (part_of v) (at_map part_of s.views j v at)).0;
+    gate = sym k.stands.shows.1;
+    seen = λ j v at. k.listed.seen j (part_of v) (at_map part_of s.views j v at);
     home = λ idle. let x = k.slot.home (idle_word idle) in (x.0, x.1, subst (made key.pact x.0) notes_are x.2, x.3);
     held = λ busy. k.slot.held (λ down. busy (ap gate_of down));
   }
@@ -102,4 +82,4 @@ module _ {Q W : Type 0} (made : W → Q → List ℕ → Type 0) (fits : W → Q
   -- and the ends that made it so
   pub shows_ends : ShowsEnds key s shows_chain.now
   unfolding shows_chain
-  shows_ends = record { words = k.shows; lawful = k.lawful; views = record { listed = k.listed; gate = k.gate }; ends = k.now.ends; number = k.number; true_ends = k.true_ends }
+  shows_ends = record { words = k.stands.shows; lawful = k.stands.lawful; views = record { listed = k.listed; gate = k.gate }; ends = k.now.ends; number = k.stands.number; true_ends = k.stands.true_ends }

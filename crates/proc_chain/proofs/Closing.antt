@@ -1,41 +1,15 @@
 -- What is known when a chain closes, and what is read of it.
-use Rattle.std.proofs.Common.{◌≡◌, ◌≢◌, ℕ, zero, suc, ◌+◌, ◌-◌, ◌%◌, ◌<◌, ◌≤◌, Bool, false, true≢false, eq-eqb, ne_eqb, Option, Some, None, List, [], ◌∷◌, map, length, get_or, set, sym, refl, ap, ◌∙◌, subst, arith, length-append}
+use Rattle.proc_chain.proofs.Common.{◌≡◌, ◌≢◌, ℕ, zero, suc, ◌+◌, ◌-◌, ◌%◌, ◌<◌, ◌≤◌, Bool, false, true≢false, eq-eqb, ne_eqb, Option, Some, None, List, [], ◌∷◌, map, length, get_or, set, sym, refl, ap, ◌∙◌, subst, arith, length-append, if◌then◌else◌, dite, ℕ_discrete, dec_lt, get_elem?, Cell, Batch, Positions, QueueView, blank, written_at, head_of, Owned, ViewsShow, AllRaised, all_places, runs_of, Moment, grows_refl, at_map, one_at, State, Did, GatedQueue, Shape, place_word, note_in, mark_in, WordsShow, notes_of, View, nothing_did, part_of, Rule, Rests, left_at, left_from}
 use Rattle.std.proofs.lemmas.List.{get_or_append_left, get_or-append_right}
-use Rattle.std.specs.Prelude.{if◌then◌else◌}
 use mathlib.Core.Option as maybe
-use mathlib.Core.Logic.{dite}
-use native.Mathlib.Decide.{ℕ_discrete, dec_lt}
-use lib.ListN.{get_elem?}
-use Rattle.table_theory.specs.declared.queues.Cell.{Cell}
-use Rattle.table_theory.specs.declared.queues.Batch.{Batch}
-use Rattle.table_theory.specs.declared.queues.Positions.{Positions}
-use Rattle.table_theory.specs.declared.queues.QueueView.{QueueView}
-use Rattle.table_theory.specs.Positioned.{blank, written_at, head_of}
-use Rattle.table_theory.specs.Filing.{Owned}
-use Rattle.table_theory.specs.Listing.{ViewsShow, AllRaised, all_places, runs_of}
-use Rattle.table_theory.specs.Sharing.{IsWhole}
-use Rattle.table_theory.specs.declared.views.Moment.{Moment}
-use Rattle.table_theory.specs.declared.views.Part.{Part}
 use Rattle.table_theory.specs.Ledgers.{IsIdle, Tallied}
-use Rattle.table_theory.proofs.Ledgers.{whole_seen}
-use Rattle.table_theory.proofs.Listing.{listed_look, listed_sole}
-use Rattle.table_theory.proofs.Positioned.{grows_refl}
+use Rattle.table_theory.proofs.Stepping.{closes as ends_close}
+use Rattle.table_theory.proofs.Listing.{listed_look, listed_sole, first_seen}
 use Rattle.table_theory.proofs.Reading.{read_word}
-use Rattle.table_theory.proofs.Standing.{rest_spent, number_is}
-use Rattle.table_theory.proofs.Totals.{sole_total}
-use Rattle.atomic_table.proofs.Lists.{at_map}
-use Rattle.table_theory.proofs.Owned.{one_at, at_map_back}
-use Rattle.atomic_table.specs.Table.{State, Final, Seen}
-use Rattle.proc_chain.specs.declared.rule.Did.{Did}
-use Rattle.proc_chain.specs.declared.rule.GatedQueue.{GatedQueue}
-use Rattle.proc_chain.specs.declared.rule.Shape.{Shape}
-use Rattle.proc_chain.specs.Layout.{place_word, note_of, mark_of, note_in, mark_in}
-use Rattle.proc_chain.specs.Shown.{WordsShow, notes_of}
-use Rattle.proc_chain.specs.Changes.{first_queue}
-use Rattle.proc_chain.specs.Own.{View, nothing_did, did_both, of_chains, part_of}
-use Rattle.proc_chain.specs.Rules.{Rule}
-use Rattle.proc_chain.specs.Closings.{left_at, left_from, ClosedNow}
-use Rattle.proc_chain.proofs.Linking.{all_same}
+use Rattle.table_theory.proofs.Owned.{at_map_back}
+use Rattle.atomic_table.specs.Table.{Final, Seen}
+use Rattle.proc_chain.specs.Layout.{note_of, mark_of}
+use Rattle.proc_chain.specs.Closings.{ClosedNow}
 
 -- what is read
 
@@ -67,64 +41,57 @@ flat_raised (o ∷ os) h i b = let n : ℕ = length o.2.places in let long = len
     (λ no. let e = get_or-append_right o.2.places (all_places os) n i blank refl (omega arith) in subst (λ (z : Cell). 2 ≤ z.written) (sym e) (flat_raised os (λ k. h (suc k)) (i - n) (omega arith)))
 
 module _ {Q W : Type 0} (made : W → Q → List ℕ → Type 0) (fits : W → Q → Type 0) (key : Shape W) where
-  -- an end with the whole lists the chain alone
-  sole : (s : State Q View) (k : Rule made fits key s) (id : ℕ) (w : View) → get_elem? s.views id ≡ maybe.some w → IsWhole w.member.share → ViewsShow k.now.object.queue (part_of w ∷ [])
-  sole s k id w at whole = listed_sole k.now.object.queue (map part_of s.views) id (part_of w) k.listed (at_map part_of s.views id w at)
-      (λ i u has ne. let b = at_map_back part_of s.views i u has in let idle = rest_spent nothing_did did_both k.now.ends s.views id w k.true_ends.ends at whole i b.0 b.1 ne in
-      subst (λ (z : QueueView). (z.runs ≡ []) × (z.takes ≡ [])) b.2 (ap (λ (z : Did). z.runs) idle.own, ap (λ (z : Did). z.takes) idle.own))
-
-  whole_closes : (id : ℕ) (w : View) (s : State Q View) (k : Rule made fits key s) (xs : List Q) (x : Q) → get_elem? s.views id ≡ maybe.some w → IsWhole w.member.share → w.own.runner ≡ false → w.own.owes ≡ false → AllRaised w.own.runs
+  whole_closes : (id : ℕ) (w : View) (s : State Q View) (k : Rule made fits key s) (xs : List Q) (x : Q) → get_elem? s.views id ≡ maybe.some w → ((i : ℕ) (u : View) → get_elem? s.views i ≡ maybe.some u → i ≢ id → IsIdle nothing_did u) → w.own.runner ≡ false → w.own.owes ≡ false → AllRaised w.own.runs
       → ((i : ℕ) (y : Q) → get_elem? s.homes i ≡ maybe.some (maybe.some y) → get_elem? xs i ≡ maybe.some y) → get_elem? xs 0 ≡ maybe.some x
       → made key.pact x (notes_of k.now.object.queue) × fits key.pact x × (k.now.object.queue.taken ≡ length k.now.object.queue.places)
-  whole_closes id w s k xs x at whole runner owes all home has =
-      let idle : (j : ℕ) (u : View) → get_elem? s.views j ≡ maybe.some u → j ≢ id → IsIdle nothing_did u = rest_spent nothing_did did_both k.now.ends s.views id w k.true_ends.ends at whole in
+  whole_closes id w s k xs x at idle runner owes all home has =
       let still : (j : ℕ) (u : View) → get_elem? s.views j ≡ maybe.some u → (u.own.runner ≡ false) × (u.own.owes ≡ false) = λ j u at_u. dite (ℕ_discrete j id)
       (λ same. let is : u ≡ w = one_at s.views id u w (subst (λ (z : ℕ). get_elem? s.views z ≡ maybe.some u) same at_u) at in (ap (λ (z : View). z.own.runner) is ∙ runner, ap (λ (z : View). z.own.owes) is ∙ owes))
       (λ ne. let i = idle j u at_u ne in (ap (λ (z : Did). z.runner) i.own, ap (λ (z : Did). z.owes) i.own)) in
       let down : k.now.object.gate ≡ 0 = dite (ℕ_discrete (k.now.object.gate) 0) (λ y. y) (λ up. let r = k.gate.runs up in absurd (true≢false (sym r.runner ∙ (still r.number r.view r.is_view).0))) in
       let h = k.slot.home down in
       let is : h.0 ≡ x = maybe.some-injective h.0 x (sym (home 0 h.0 (subst (λ (z : List (maybe.Option Q)). get_elem? z 0 ≡ maybe.some (maybe.some h.0)) (sym h.1) refl)) ∙ has) in
-      let raised : (i : ℕ) → i < length k.now.object.queue.places → 2 ≤ written_at k.now.object.queue i = subst (λ (z : List Cell). (i : ℕ) → i < length z → 2 ≤ (get_or z i blank).written) k.listed.runs_flat
-      (flat_raised k.listed.runs (λ m o at_o. let st = k.listed.runs_filed.stands m o at_o in let b = at_map_back runs_of (map part_of s.views) o.0 st.0 st.1 in let d = at_map_back part_of s.views o.0 b.0 b.1 in
+      let raised : (i : ℕ) → i < length k.now.object.queue.places → 2 ≤ written_at k.now.object.queue i = subst (λ (z : List Cell). (i : ℕ) → i < length z → 2 ≤ (get_or z i blank).written) k.listed.lists.runs_are.flat
+      (flat_raised k.listed.lists.runs (λ m o at_o. let st = k.listed.lists.runs_are.filed.stands m o at_o in let b = at_map_back runs_of (map part_of s.views) o.0 st.0 st.1 in let d = at_map_back part_of s.views o.0 b.0 b.1 in
       dite (ℕ_discrete o.0 id)
       (λ same. let is_w : d.0 ≡ w = one_at s.views id d.0 w (subst (λ (z : ℕ). get_elem? s.views z ≡ maybe.some d.0) same d.1) at in
       let l : st.0 ≡ w.own.runs = sym b.2 ∙ (ap (λ (z : QueueView). z.runs) (sym d.2) ∙ ap (λ (z : View). z.own.runs) is_w) in all o.1 o.2 (subst (λ (z : List Batch). get_elem? z o.1 ≡ maybe.some o.2) l st.2))
       (λ ne. let l : st.0 ≡ [] = sym b.2 ∙ (ap (λ (z : QueueView). z.runs) (sym d.2) ∙ ap (λ (z : Did). z.runs) (idle o.0 d.0 d.1 ne).own) in absurd (maybe.some-ne-none o.2 (sym (subst (λ (z : List Batch). get_elem? z o.1 ≡ maybe.some o.2) l st.2)))))) in
-      let behind = k.lawful.0.behind in
+      let behind = k.stands.lawful.0.behind in
       let none_left : k.now.object.queue.taken ≡ length k.now.object.queue.places = dite (dec_lt k.now.object.queue.taken (length k.now.object.queue.places)) (λ y. let o = k.gate.idle down (raised k.now.object.queue.taken y) in absurd (true≢false (sym o.owes ∙ (still o.owner o.view o.is_view).1))) (λ no. omega arith) in
       (subst (λ (z : Q). made key.pact z (notes_of k.now.object.queue)) is h.2, subst (fits key.pact) is h.3, none_left)
 
   -- the tail and the head that are read of a closed chain
   pub spans : (id h t : ℕ) (w : View) (ws : List ℕ) (xs : List Q) → Final (Seen (Rule made fits key) id w) ws xs → get_elem? ws 0 ≡ maybe.some h → get_elem? ws 1 ≡ maybe.some t → Spans t h
-  spans id h t w ws xs fin at_h at_t = let k = fin.1.0 in let q : Positions = k.now.object.queue in let sh : WordsShow q ws = subst (WordsShow q) fin.2 k.shows.0 in
-      let hd : h ≡ head_of q = sym (read_word ws 0 h at_h) ∙ sh.head in let tl : t ≡ q.first + q.taken = sym (read_word ws 1 t at_t) ∙ sh.tail in let behind = k.lawful.0.behind in let within = k.lawful.0.within in let room = sh.room in let low = sh.bounded in
+  spans id h t w ws xs fin at_h at_t = let k = fin.1.0 in let q : Positions = k.now.object.queue in let sh : WordsShow q ws = subst (WordsShow q) fin.2 k.stands.shows.0 in
+      let hd : h ≡ head_of q = sym (read_word ws 0 h at_h) ∙ sh.head in let tl : t ≡ q.first + q.taken = sym (read_word ws 1 t at_t) ∙ sh.tail in let behind = k.stands.lawful.0.behind in let within = k.stands.lawful.0.within in let room = sh.room in let low = sh.bounded in
       record { behind = omega arith; within = omega arith; bounded = omega arith }
 
-  pub closes : (v w : View) (found id h t put taken at : ℕ) (ws : List ℕ) (xs : List Q) (x : Q) (left : List (Option ℕ)) → key.first ≡ at → v.member.ends ≡ 1 → Tallied 2 v found w → found ≡ 1 → v.own.runner ≡ false → v.own.owes ≡ false → AllRaised v.own.runs
+  pub closes : (v w : View) (found id h t put taken at : ℕ) (ws : List ℕ) (xs : List Q) (x : Q) (left : List (Option ℕ)) → key.first ≡ at → Rests v → Tallied 2 v found w → found ≡ 1 → v.own.runner ≡ false
       → Final (Seen (Rule made fits key) id w) ws xs → get_elem? ws 0 ≡ maybe.some h → get_elem? ws 1 ≡ maybe.some t → get_elem? xs 0 ≡ maybe.some x → put ≡ h - key.first → taken ≡ t - key.first → left ≡ left_from ws t (h - t) → ClosedNow (made key.pact) (fits key.pact) v at put taken left x
-  closes v w found id h t put taken at ws xs x left at_is one_end tallied one runner owes all fin at_h at_t at_x put_is taken_is left_is =
-      let s : State Q View = fin.0 in let k = fin.1.0 in let at_w = fin.1.1 in let q : Positions = k.now.object.queue in let sh : WordsShow q ws = subst (WordsShow q) fin.2 k.shows.0 in
+  closes v w found id h t put taken at ws xs x left at_is rests tallied one runner fin at_h at_t at_x put_is taken_is left_is =
+      let s : State Q View = fin.0 in let k = fin.1.0 in let at_w = fin.1.1 in let q : Positions = k.now.object.queue in let sh : WordsShow q ws = subst (WordsShow q) fin.2 k.stands.shows.0 in
       let first = k.first in let hd : h ≡ head_of q = sym (read_word ws 0 h at_h) ∙ sh.head in let tl : t ≡ q.first + q.taken = sym (read_word ws 1 t at_t) ∙ sh.tail in
       let puts : put ≡ length q.places = omega arith in let takes_is : taken ≡ q.taken = omega arith in
-      let whole : IsWhole v.member.share = tallied.count.alone one in let member = tallied.made.member in let did = tallied.made.did in let whole' : IsWhole w.member.share = ap (λ (z : Part). z.share) member ∙ whole in
-      let c = whole_closes id w s k xs x at_w whole' (ap (λ (z : Did). z.runner) did ∙ runner) (ap (λ (z : Did). z.owes) did ∙ owes) (all_same v.own.runs w.own.runs (ap (λ (z : Did). z.runs) did) all) fin.4 at_x in
+      let cl = ends_close k.stands id v w at_w 2 found tallied one rests.one in let did = tallied.made.did in
+      let c = whole_closes id w s k xs x at_w cl.idle (ap (λ (z : Did). z.runner) did ∙ runner) (ap (λ (z : Did). z.owes) did ∙ rests.settled) (subst AllRaised (sym (ap (λ (z : Did). z.runs) did)) rests.raised) fin.4 at_x in
       let all_taken : q.taken ≡ length q.places = c.2 in let none : h - t ≡ 0 = omega arith in
-      let now : k.now ≡ v.seen = whole_seen of_chains nothing_did did_both (first_queue key.first) k.now s.views id w k.true_ends at_w whole' ∙ tallied.still whole in
-      let idle = rest_spent nothing_did did_both k.now.ends s.views id w k.true_ends.ends at_w whole' in
-      let number : k.now.ends ≡ 1 = (number_is nothing_did did_both k.now.ends s.views id w k.true_ends.ends at_w (ap (λ (z : Part). z.ends) member ∙ one_end)).whole whole' in
-      let listed : ViewsShow q (record (part_of v) { queue = q; joined = q } ∷ []) = listed_look q (part_of w ∷ []) 0 (part_of w) (record (part_of v) { queue = q; joined = q }) (sole s k id w at_w whole') refl (ap (λ (z : Did). z.runs) (sym did)) (ap (λ (z : Did). z.takes) (sym did)) (grows_refl q, grows_refl q) in
-      let P : Moment GatedQueue → Type 0 = λ m. ViewsShow m.object.queue (record (part_of v) { queue = m.object.queue; joined = m.object.queue } ∷ []) × (m.ends ≡ 1) × (m.object.queue.first ≡ at) × (put ≡ length m.object.queue.places) × (taken ≡ m.object.queue.taken) × made key.pact x (notes_of m.object.queue) in
-      let p : P v.seen = subst P now (listed, number, first ∙ at_is, puts, takes_is, c.0) in
-      record {
-        whole = whole;
+      let sole : ViewsShow q (part_of w ∷ []) = record {
+        lists = listed_sole q (map part_of s.views) id (part_of w) k.listed.lists (at_map part_of s.views id w at_w) (λ i u has ne. let b = at_map_back part_of s.views i u has in
+            subst (λ (z : QueueView). (z.runs ≡ []) × (z.takes ≡ [])) b.2 (ap (λ (z : Did). z.runs) (cl.idle i b.0 b.1 ne).own, ap (λ (z : Did). z.takes) (cl.idle i b.0 b.1 ne).own));
+        seen = first_seen q (part_of w) (k.listed.seen id (part_of w) (at_map part_of s.views id w at_w));
+      } in
+      let listed : ViewsShow q (record (part_of v) { queue = q } ∷ []) = listed_look q (part_of w ∷ []) 0 (part_of w) (record (part_of v) { queue = q }) sole refl (ap (λ (z : Did). z.runs) (sym did)) (ap (λ (z : Did). z.takes) (sym did)) (grows_refl q) in
+      let P : Moment GatedQueue → Type 0 = λ m. ViewsShow m.object.queue (record (part_of v) { queue = m.object.queue } ∷ []) × (m.object.queue.first ≡ at) × (put ≡ length m.object.queue.places) × (taken ≡ m.object.queue.taken) × made key.pact x (notes_of m.object.queue) in
+      let p : P v.seen = subst P cl.now_is (listed, first ∙ at_is, puts, takes_is, c.0) in record {
+        whole = cl.whole;
         listed = p.0;
-        sole = p.1;
-        joined = (let b = k.true_ends.ends.balanced in let y = sole_total (λ (u : View). u.member.splits) s.views id w at_w (λ i u has ne. (idle i u has ne).splits) in let z = sole_total (λ (u : View). u.member.joins) s.views id w at_w (λ i u has ne. (idle i u has ne).joins) in
-            let d : w.member.splits ≡ v.member.splits = ap (λ (z : Part). z.splits) member in let e : w.member.joins ≡ v.member.joins = ap (λ (z : Part). z.joins) member in omega arith);
-        starts = p.2;
-        puts = p.3;
-        taken_is = p.4;
+        sole = cl.sole;
+        joined = cl.joined;
+        starts = p.1;
+        puts = p.2;
+        taken_is = p.3;
         all_taken = omega arith;
         none_left = left_is ∙ ap (left_from ws t) none;
-        home = (p.5, c.1);
+        home = (p.4, c.1);
       }

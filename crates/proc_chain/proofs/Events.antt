@@ -1,40 +1,26 @@
 -- Each step is one event of the chain that the gate and the views show.
-use Rattle.std.proofs.Common.{◌≡◌, ◌≢◌, ℕ, zero, suc, ◌+◌, ◌<◌, ◌≤◌, Bool, true, false, not, ◌&&◌, ltb, eq-eqb, ne_eqb, List, [], ◌∷◌, ◌++◌, map, take, drop, length, get_or, set, sym, refl, ap, ◌∙◌, subst, arith, zero-add, add-zero, Option, Some, None, slice_get, option_map, Ok}
-use Rattle.std.specs.Prelude.{if◌then◌else◌}
+use Rattle.proc_chain.proofs.Common.{◌≡◌, ◌≢◌, ℕ, zero, suc, ◌+◌, ◌<◌, ◌≤◌, Bool, true, false, ◌&&◌, eq-eqb, ne_eqb, List, [], ◌∷◌, ◌++◌, map, length, get_or, set, sym, refl, ap, ◌∙◌, subst, arith, Option, Some, None, ⊎_elim, if◌then◌else◌, length-map, some, some-ne-none, dite, ℕ_discrete, dec_lt, get_elem?, Idle, Cell, Batch, Positions, is_raised, Chain, is_call, raise_note, is_idle, blank, Grows, item_of, place_at, written_at, head_of, Lawful, fresh, with_write, Owned, all_places, runs_of, Adjacent, ViewsShow, written_to, long_is, history_of, got, at_map, at_set, set_here, set_else, at_below, grows_refl, with_turn, GatedQueue, View, part_of, with_note, with_taken, with_gate, taking, IsSettled, GateShows, gate_of, runner_from, owes_in, chain_of, AreShown, IsChainEvent}
+use Rattle.std.proofs.Common.{not, ltb, zero-add, add-zero, slice_get, option_map, Ok, Result}
 use Rattle.std.specs.Option.{is_some}
-use Rattle.std.proofs.lemmas.List.{length-map, get_or-map}
+use Rattle.std.proofs.lemmas.List.{get_or-map}
 use Rattle.std.proofs.lemmas.Bool.Decides.{nat_tests}
 use Rattle.std.proofs.lemmas.Option.{slice_get-get_or, slice_get_past, slice_get-map}
-use mathlib.Core.Option.{some, some-ne-none, some-injective}
-use mathlib.Core.Logic.{dite}
-use native.Mathlib.Decide.{ℕ_discrete, dec_lt}
-use lib.ListN.{get_elem?}
-use Rattle.event_theory.specs.declared.status.Gate.{Gate}
-use Rattle.event_theory.specs.declared.status.Gate.TheVariants.{Idle, Running, More}
-use Rattle.table_theory.specs.declared.queues.Cell.{Cell}
-use Rattle.table_theory.specs.declared.queues.Batch.{Batch}
-use Rattle.table_theory.specs.declared.queues.Positions.{Positions}
+use mathlib.Core.Option.{some-injective}
+use Rattle.event_theory.specs.declared.status.Gate.TheVariants.{Running, More}
 use Rattle.event_theory.specs.Runs.{pairs, pairs_of, pairs_from}
-use Rattle.event_theory.specs.Queues.{Queue, left_pairs, is_raised, after_claim, after_raise, after_take, claim, raise, take_first}
-use Rattle.event_theory.specs.Chains.{Chain, with_number, is_call, owes, forgotten, is_forgotten, claim_note, raise_note, take_note, runner_after, notify, round, is_more, leave}
-use Rattle.event_theory.specs.Lawful.{IsLawfulChain, is_idle}
-use Rattle.table_theory.specs.Positioned.{blank, item_of, place_at, written_at, head_of, tail_of, Lawful, fresh, with_claim, with_write, with_take}
-use Rattle.table_theory.specs.Filing.{Owned}
-use Rattle.table_theory.specs.Listing.{all_places, runs_of, Adjacent, Later, ViewsShow, written_to}
+use Rattle.event_theory.specs.Queues.{Queue, left_pairs, after_claim, after_raise, after_take, claim, raise, take_first}
+use Rattle.event_theory.specs.Chains.{with_number, owes, forgotten, is_forgotten, claim_note, take_note, runner_after, notify, round, is_more, leave}
+use Rattle.event_theory.specs.Lawful.{IsLawfulChain}
 use Rattle.table_theory.specs.QueueOf.{run_in, is_up, queue_of}
 use Rattle.event_theory.proofs.Lists.Histories.{length-pairs_from, length-pairs_of}
 use Rattle.table_theory.proofs.Logs.{lies}
 use Rattle.event_theory.proofs.Lists.Histories.{slice_get-drop}
-use Rattle.table_theory.proofs.QueueOf.{Log, up_of, long_is, left_long, is_lawful_queue}
-use Rattle.table_theory.proofs.QueueEvents.{history_of, claimed_is, claim_goes, got, set_got, set_other, raised_is, raise_goes, take_goes, first_raised}
+use Rattle.table_theory.proofs.QueueOf.{Log, up_of, left_long, is_lawful_queue}
+use Rattle.table_theory.proofs.QueueEvents.{claimed_is, claim_goes, set_got, set_other, raised_is, raise_goes, take_goes, first_raised}
 use Rattle.table_theory.proofs.Listing.{listed_look, listed_claim, listed_write, listed_take}
-use Rattle.atomic_table.proofs.Lists.{at_map}
-use Rattle.proc_chain.specs.declared.rule.GatedQueue.{GatedQueue}
-use Rattle.proc_chain.specs.Own.{View, part_of}
-use Rattle.proc_chain.specs.Changes.{with_note, with_taken, with_gate}
-use Rattle.proc_chain.specs.Gates.{IsSettled, GateShows}
+use Rattle.event_theory.specs.declared.refusal.Refusal.{Refusal}
+use Rattle.proc_chain.specs.Own.{queue_of as seen_of}
 use Rattle.proc_chain.proofs.Gates.{others_still}
-use Rattle.proc_chain.specs.Chainings.{gate_of, runner_from, owes_in, chain_of, AreShown, IsChainEvent}
 
 -- who the runner is
 
@@ -110,18 +96,18 @@ and_false false = refl
 pub not_up : (e : Cell) → e.written < 2 → is_up e ≡ false
 not_up e h = let n : ℕ = e.written in dite (ℕ_discrete n 0) (λ z. let t : is_up e ≡ false = grind (arith, nat_tests) in t) (λ z. let t : is_up e ≡ false = grind (arith, nat_tests) in t)
 
-pub not_forgotten : (q : Positions) (gate : ℕ) (views : List View) (l : ViewsShow q (map part_of views)) → IsSettled q views → is_forgotten (chain_of q l.runs gate views) ≡ false
-not_forgotten q gate views l settled = let c : Chain = chain_of q l.runs gate views in let ps : List (ℕ × ℕ) = pairs (map run_in l.runs) in let t : ℕ = q.taken in
-    let n = length-pairs_from 0 (map run_in l.runs) in let m = long_is q l.runs l.runs_flat in
+pub not_forgotten : (q : Positions) (gate : ℕ) (views : List View) (l : ViewsShow q (map part_of views)) → IsSettled q views → is_forgotten (chain_of q l.lists.runs gate views) ≡ false
+not_forgotten q gate views l settled = let c : Chain = chain_of q l.lists.runs gate views in let ps : List (ℕ × ℕ) = pairs (map run_in l.lists.runs) in let t : ℕ = q.taken in
+    let n = length-pairs_from 0 (map run_in l.lists.runs) in let m = long_is q l.lists.runs l.lists.runs_are.flat in
     let first : slice_get (left_pairs c.notes) 0 ≡ slice_get ps t = slice_get-drop ps t 0 ∙ ap (slice_get ps) (add-zero t) in
     ap (forgotten c) first ∙ dite (dec_lt t (length q.places))
     (λ below. dite (dec_lt (written_at q t) 2)
-    (λ low. let e : is_raised c.notes (get_or ps t (0, 0)) ≡ false = up_is q l.runs l.runs_flat t below ∙ not_up (place_at q t) low in
+    (λ low. let e : is_raised c.notes (get_or ps t (0, 0)) ≡ false = up_is q l.lists.runs l.lists.runs_are.flat t below ∙ not_up (place_at q t) low in
     ap (forgotten c) (slice_get-get_or ps t (0, 0) (omega arith)) ∙ (rw (e) refl))
-    (λ up. let o = settled (omega arith) in let f = l.runs_filed.listed o.owner o.view.own.runs o.number o.run (at_map runs_of (map part_of views) o.owner (part_of o.view) (at_map part_of views o.owner o.view o.is_view)) o.has in
-    let entry : Owned Batch = (o.owner, o.number, o.run) in let solid = l.solid f.0 entry f.1 in let st = o.start in
-    let there = pair_there 0 q.first t f.0 0 l.runs entry l.runs_adjacent f.1 solid (omega arith) in
-    let run : slice_get c.notes.history (0 + f.0) ≡ Some (run_in entry) = ap (slice_get (map run_in l.runs)) (zero-add f.0) ∙ (slice_get-map run_in l.runs f.0 ∙ ap (option_map run_in) (got l.runs f.0 entry f.1)) in
+    (λ up. let o = settled (omega arith) in let f = l.lists.runs_are.filed.listed o.owner o.view.own.runs o.number o.run (at_map runs_of (map part_of views) o.owner (part_of o.view) (at_map part_of views o.owner o.view o.is_view)) o.has in
+    let entry : Owned Batch = (o.owner, o.number, o.run) in let solid = l.lists.runs_are.solid f.0 entry f.1 in let st = o.start in
+    let there = pair_there 0 q.first t f.0 0 l.lists.runs entry l.lists.runs_are.adjacent f.1 solid (omega arith) in
+    let run : slice_get c.notes.history (0 + f.0) ≡ Some (run_in entry) = ap (slice_get (map run_in l.lists.runs)) (zero-add f.0) ∙ (slice_get-map run_in l.lists.runs f.0 ∙ ap (option_map run_in) (got l.lists.runs f.0 entry f.1)) in
     let owed : owes c (slice_get c.notes.history (0 + f.0)) ≡ true = ap (owes c) run ∙ (ap owes_in (got views o.owner o.view o.is_view) ∙ o.owes) in
     ap (forgotten c) there ∙ (ap (λ (z : Bool). is_raised c.notes (0 + f.0, 0) && not z) owed ∙ and_false (is_raised c.notes (0 + f.0, 0)))))
     (λ past. ap (forgotten c) (slice_get_past ps t (omega arith)))
@@ -133,15 +119,15 @@ not_idle zero up = absurd (up refl)
 not_idle (suc zero) up = refl
 not_idle (suc (suc n)) up = refl
 
-pub chain_is_lawful : (q : Positions) (gate : ℕ) (views : List View) (l : ViewsShow q (map part_of views)) → Lawful q → GateShows q gate views → IsLawfulChain (chain_of q l.runs gate views)
+pub chain_is_lawful : (q : Positions) (gate : ℕ) (views : List View) (l : ViewsShow q (map part_of views)) → Lawful q → GateShows q gate views → IsLawfulChain (chain_of q l.lists.runs gate views)
 chain_is_lawful q gate views l lawful g = record {
-  notes = is_lawful_queue q l.runs lawful (history_of q (map part_of views) l);
+  notes = is_lawful_queue q l.lists.runs lawful (history_of q (map part_of views) l);
   run = dite (ℕ_discrete gate 0)
       (λ down. ap is_some (runner_none 0 views (g.still down)) ∙ ap (λ (z : ℕ). not (is_idle (gate_of z))) (sym down))
       (λ up. let r = g.runs up in ap is_some (runner_at 0 r.number views r.view r.is_view r.runner (others_still q gate views r.number r.view g r.is_view r.runner)) ∙ ap not (sym (not_idle gate up)));
   promised = dite (ℕ_discrete gate 0)
       (λ down. ap (λ (z : Bool). is_idle (gate_of gate) && z) (not_forgotten q gate views l (g.idle down)) ∙ and_false (is_idle (gate_of gate)))
-      (λ up. ap (λ (z : Bool). z && is_forgotten (chain_of q l.runs gate views)) (not_idle gate up));
+      (λ up. ap (λ (z : Bool). z && is_forgotten (chain_of q l.lists.runs gate views)) (not_idle gate up));
 }
 
 -- the events on any chain
@@ -167,10 +153,6 @@ round_goes call c is = rw (mine call c.runner is) refl
 leave_goes : (call : ℕ) (c : Chain) → is_more c.gate ≡ false → is_forgotten c ≡ false → c.runner ≡ Some call → leave call c ≡ Ok (record c { gate = Idle; runner = None })
 leave_goes call c a b is = rw (a, b, mine call c.runner is) refl
 
-same_chain : (a b : Queue) (g h : Gate) (r s : Option ℕ) (o p : ℕ → Bool) → a ≡ b → g ≡ h → r ≡ s → ((n : ℕ) → o n ≡ p n)
-    → (let c : Chain = record { notes = a; gate = g; runner = r; owing = o } in c) ≡ record { notes = b; gate = h; runner = s; owing = p }
-same_chain a b g h r s o p e f t u = λ k. record { notes = e k; gate = f k; runner = t k; owing = λ n. u n k }
-
 after_busy : (id n : ℕ) (r : Option ℕ) → n ≢ 0 → runner_after id (gate_of n) r ≡ r
 after_busy id zero r h = absurd (h refl)
 after_busy id (suc zero) r h = refl
@@ -181,101 +163,74 @@ module _ (o : GatedQueue) (views : List View) (id : ℕ) (v w : View) (shown : A
   abbrev q : Positions
   q = o.queue
 
-  abbrev gate : ℕ
-  gate = o.gate
-
   abbrev l : ViewsShow q (map part_of views)
   l = shown.listed
 
-  abbrev g : GateShows q gate views
-  g = shown.gate
+  abbrev c : Chain
+  c = chain_of q l.lists.runs o.gate views
 
   at_part : get_elem? (map part_of views) id ≡ some (part_of v)
   at_part = at_map part_of views id v at
 
-  the_runner : v.own.runner ≡ true → runner_from 0 views ≡ Some id
-  the_runner r = runner_at 0 id views v at r (others_still q gate views id v g at r) ∙ ap Some (zero-add id)
+  sees : (p : GatedQueue) → w.seen.object ≡ p → Grows (seen_of w) p.queue
+  sees p is = subst (λ (z : GatedQueue). Grows (seen_of w) z.queue) is (grows_refl (seen_of w))
 
-  the_owing : v.own.owes ≡ true → owes_in (slice_get views id) ≡ true
-  the_owing w_owes = ap owes_in (got views id v at) ∙ w_owes
+  the_runner : v.own.runner ≡ true → c.runner ≡ Some id
+  the_runner r = runner_at 0 id views v at r (others_still q o.gate views id v shown.gate at r) ∙ ap Some (zero-add id)
 
-  pub claim_event : (x : ℕ) → x < 65536 → length q.places + 1 ≤ q.taken + q.room → q.shut ≡ false → w.own.runs ≡ v.own.runs ++ record { start = head_of q; places = map fresh (x ∷ []) } ∷ [] → w.own.takes ≡ v.own.takes → Later (part_of w) (with_claim q (x ∷ []))
-      → w.own.runner ≡ v.own.runner → w.own.owes ≡ v.own.owes → IsChainEvent o (with_note o x) views shown id w (claim_note id (x ∷ []))
+  the_owing : v.own.owes ≡ true → c.owing id ≡ true
+  the_owing owes = ap owes_in (got views id v at) ∙ owes
+
+  -- an event by which the chain is then r
+  is_event : (p : GatedQueue) (event : Chain → Result Chain Refusal) (r : Chain) (new : ViewsShow p.queue (set (map part_of views) id (part_of w))) → event c ≡ Ok r → r.notes ≡ queue_of p.queue new.lists.runs → r.gate ≡ gate_of p.gate → r.runner ≡ runner_from 0 (set views id w)
+      → ((call : ℕ) → r.owing call ≡ owes_in (slice_get (set views id w) call)) → IsChainEvent o p views shown id w event
+  is_event p event r new e notes gate runner owing = record { new_shown = new; lawful = chain_is_lawful q o.gate views l lawful shown.gate; made = e ∙ (λ k. Ok (record { notes = notes k; gate = gate k; runner = runner k; owing = λ n. owing n k })) }
+
+  pub claim_event : (x : ℕ) → x < 65536 → length q.places + 1 ≤ q.taken + q.room → q.shut ≡ false → w.seen.object ≡ with_note o x → w.own ≡ record v.own { runs = v.own.runs ++ record { start = head_of q; places = map fresh (x ∷ []) } ∷ [] } → IsChainEvent o (with_note o x) views shown id w (claim_note id (x ∷ []))
   unfolding listed_claim
-  claim_event x bounded room is_open runs takes grown runner owing = let xs : List ℕ = x ∷ [] in let behind = lawful.behind in let n = left_long q l.runs l.runs_flat in
-      let c : Chain = chain_of q l.runs gate views in record {
-        new_shown = listed_claim q (map part_of views) id (part_of v) (part_of w) xs l at_part behind is_open (omega arith) runs takes grown;
-        lawful = chain_is_lawful q gate views l lawful g;
-        made = claim_note_goes id x c (after_claim id xs c.notes) bounded (claim_goes 1 id xs c.notes (omega arith) (omega arith) is_open (omega arith))
-            ∙ ap Ok (same_chain (after_claim id xs c.notes) (queue_of (with_claim q xs) (l.runs ++ (id, length v.own.runs, record { start = head_of q; places = map fresh xs }) ∷ [])) c.gate c.gate c.runner (runner_from 0 (set views id w)) c.owing (λ call. owes_in (slice_get (set views id w) call))
-            (claimed_is q l.runs id (length v.own.runs) xs) refl (sym (runner_set 0 id views v w at runner)) (owing_same views id v w at owing));
-      }
+  claim_event x bounded room is_open is own = let xs : List ℕ = x ∷ [] in let behind = lawful.behind in let n = left_long q l.lists.runs l.lists.runs_are.flat in
+      is_event (with_note o x) (claim_note id xs) _ (listed_claim q (map part_of views) id (part_of v) (part_of w) xs l at_part behind is_open (omega arith) (λ i. (own i).runs) (λ i. (own i).takes) (sees (with_note o x) is))
+      (claim_note_goes id x c (after_claim id xs c.notes) bounded (claim_goes 1 id xs c.notes (omega arith) (omega arith) is_open (omega arith)))
+      (claimed_is q l.lists.runs id (length v.own.runs) xs) refl (sym (runner_set 0 id views v w at (λ i. (own i).runner))) (owing_same views id v w at (λ i. (own i).owes))
 
   pub raise_event : (m p : ℕ) (e : Batch) → get_elem? v.own.runs m ≡ some e → 0 < length e.places → e.start + 0 ≡ q.first + p → q.taken ≤ p → (get_or e.places 0 blank).written < 2 → written_at q p ≤ 2
-      → w.own.runs ≡ set v.own.runs m (written_to e 0 2) → w.own.takes ≡ v.own.takes → Later (part_of w) (with_write q p 2) → w.own.runner ≡ v.own.runner → w.own.owes ≡ true
-      → (k : ℕ) × IsChainEvent o (record o { queue = with_write q p 2 }) views shown id w (raise_note id k 0) × (get_elem? l.runs k ≡ some (id, m, e))
+      → w.seen.object ≡ record o { queue = with_write q p 2 } → w.own ≡ record v.own { runs = set v.own.runs m (written_to e 0 2); owes = true }
+      → (k : ℕ) × IsChainEvent o (record o { queue = with_write q p 2 }) views shown id w (raise_note id k 0) × (get_elem? l.lists.runs k ≡ some (id, m, e))
   unfolding listed_write
-  raise_event m p e has below is ahead low more runs takes grown runner owing = let c : Chain = chain_of q l.runs gate views in
-      let r = l.runs_filed.listed id v.own.runs m e (at_map runs_of (map part_of views) id (part_of v) at_part) has in (
-        r.0,
-        record {
-          new_shown = listed_write q (map part_of views) id m 0 2 p (part_of v) (part_of w) e l at_part has below is ahead more runs takes grown;
-          lawful = chain_is_lawful q gate views l lawful g;
-          made = raise_note_goes id r.0 0 c (after_raise r.0 0 c.notes) (raise_goes l.runs r.0 id m 0 e r.1 below q low)
-              ∙ ap Ok (same_chain (after_raise r.0 0 c.notes) (queue_of (with_write q p 2) (set l.runs r.0 (id, m, written_to e 0 2))) c.gate c.gate c.runner (runner_from 0 (set views id w)) (with_number true id c.owing) (λ call. owes_in (slice_get (set views id w) call))
-              (raised_is l.runs r.0 id m 0 e r.1 below q p) refl (sym (runner_set 0 id views v w at runner)) (owing_set views id v w true at owing));
-        },
-        r.1,
-      )
+  raise_event m p e has below start ahead low more is own = let o' : GatedQueue = record o { queue = with_write q p 2 } in let r = l.lists.runs_are.filed.listed id v.own.runs m e (at_map runs_of (map part_of views) id (part_of v) at_part) has in (
+    r.0,
+    is_event o' (raise_note id r.0 0) _ (listed_write q (map part_of views) id m 0 2 p (part_of v) (part_of w) e l at_part has below start ahead more (λ i. (own i).runs) (λ i. (own i).takes) (sees o' is))
+        (raise_note_goes id r.0 0 c (after_raise r.0 0 c.notes) (raise_goes l.lists.runs r.0 id m 0 e r.1 below q low))
+        (raised_is l.lists.runs r.0 id m 0 e r.1 below q p) refl (sym (runner_set 0 id views v w at (λ i. (own i).runner))) (owing_set views id v w true at (λ i. (own i).owes)),
+    r.1,
+  )
 
-  pub take_event : v.own.runner ≡ true → q.taken + 1 ≤ length q.places → 2 ≤ written_at q q.taken → w.own.takes ≡ v.own.takes ++ record { start = tail_of q; places = take 1 (drop q.taken q.places) } ∷ [] → w.own.runs ≡ v.own.runs → Later (part_of w) (with_take q 1)
-      → w.own.runner ≡ v.own.runner → w.own.owes ≡ v.own.owes → IsChainEvent o (with_taken o) views shown id w (take_note id 1)
+  pub take_event : v.own.runner ≡ true → q.taken + 1 ≤ length q.places → 2 ≤ written_at q q.taken → w.seen.object ≡ with_taken o → w.own ≡ record v.own { takes = v.own.takes ++ taking q ∷ []; taken = v.own.taken + 1; saw = false } → IsChainEvent o (with_taken o) views shown id w (take_note id 1)
   unfolding listed_take
-  take_event r long up takes runs grown runner owing = let c : Chain = chain_of q l.runs gate views in record {
-    new_shown = listed_take q (map part_of views) id 1 (part_of v) (part_of w) l at_part (omega arith) long takes runs grown;
-    lawful = chain_is_lawful q gate views l lawful g;
-    made = take_note_goes id c (after_take 1 c.notes) (take_goes 1 1 c.notes (omega arith) (omega arith) (first_raised q l.runs 1 l.runs_flat long (λ i h. let e : q.taken ≡ q.taken + i = omega arith in subst (λ (z : ℕ). 2 ≤ written_at q z) e up))) (the_runner r)
-        ∙ ap Ok (same_chain (after_take 1 c.notes) (queue_of (with_take q 1) l.runs) c.gate c.gate c.runner (runner_from 0 (set views id w)) c.owing (λ call. owes_in (slice_get (set views id w) call)) refl refl (sym (runner_set 0 id views v w at runner)) (owing_same views id v w at owing));
-  }
+  take_event r long up is own = is_event (with_taken o) (take_note id 1) _ (listed_take q (map part_of views) id 1 (part_of v) (part_of w) l at_part (omega arith) long (λ i. (own i).takes) (λ i. (own i).runs) (sees (with_taken o) is))
+      (take_note_goes id c (after_take 1 c.notes) (take_goes 1 1 c.notes (omega arith) (omega arith) (first_raised q l.lists.runs 1 l.lists.runs_are.flat long (λ i h. let e : q.taken ≡ q.taken + i = omega arith in subst (λ (z : ℕ). 2 ≤ written_at q z) e up))) (the_runner r))
+      refl refl (sym (runner_set 0 id views v w at (λ i. (own i).runner))) (owing_same views id v w at (λ i. (own i).owes))
 
-  pub notify_idle : gate ≡ 0 → v.own.owes ≡ true → w.own.runs ≡ v.own.runs → w.own.takes ≡ v.own.takes → Later (part_of w) q → w.own.runner ≡ true → w.own.owes ≡ false → ((j : ℕ) (u : View) → get_elem? (set views id w) j ≡ some u → j ≢ id → u.own.runner ≡ false)
-      → get_elem? (set views id w) id ≡ some w → IsChainEvent o (with_gate o 2) views shown id w (notify id)
+  -- the gate is set, and the queue stays
+  gate_event : (gate : ℕ) (event : Chain → Result Chain Refusal) (r : Chain) → w.seen.object ≡ with_gate o gate → w.own.runs ≡ v.own.runs → w.own.takes ≡ v.own.takes → event c ≡ Ok r → r.notes ≡ c.notes → r.gate ≡ gate_of gate → r.runner ≡ runner_from 0 (set views id w)
+      → ((call : ℕ) → r.owing call ≡ owes_in (slice_get (set views id w) call)) → IsChainEvent o (with_gate o gate) views shown id w event
   unfolding listed_look
-  notify_idle down ow runs takes grown runner owing others here = let c : Chain = chain_of q l.runs gate views in record {
-    new_shown = listed_look q (map part_of views) id (part_of v) (part_of w) l at_part runs takes grown;
-    lawful = chain_is_lawful q gate views l lawful g;
-    made = notify_goes id c (the_owing ow)
-        ∙ ap Ok (same_chain c.notes c.notes More More (runner_after id c.gate c.runner) (runner_from 0 (set views id w)) (with_number false id c.owing) (λ call. owes_in (slice_get (set views id w) call)) refl refl
-        (ap (λ (z : ℕ). runner_after id (gate_of z) c.runner) down ∙ sym (runner_at 0 id (set views id w) w here runner others ∙ ap Some (zero-add id))) (owing_set views id v w false at owing));
-  }
+  gate_event gate event r is runs takes e notes set_to runner owing = is_event (with_gate o gate) event r (listed_look q (map part_of views) id (part_of v) (part_of w) l at_part runs takes (sees (with_gate o gate) is)) e notes set_to runner owing
 
-  still_runs : gate ≢ 0 → runner_after id (gate_of gate) (runner_from 0 views) ≡ runner_from 0 views
-  still_runs up = after_busy id gate (runner_from 0 views) up
+  pub won_event : o.gate ≡ 0 → v.own.owes ≡ true → w.seen.object ≡ with_gate o 2 → w.own ≡ with_turn q.taken (record v.own { owes = false }) → IsChainEvent o (with_gate o 2) views shown id w (notify id)
+  won_event down owes is own = let here : get_elem? (set views id w) id ≡ some w = set_here views id w (at_below views id v at) in
+      let others = λ (j : ℕ) (u : View) (has : get_elem? (set views id w) j ≡ some u) (ne : j ≢ id). shown.gate.still down j u (sym (set_else views id j w ne) ∙ has) in
+      gate_event 2 (notify id) _ is (λ i. (own i).runs) (λ i. (own i).takes) (notify_goes id c (the_owing owes)) refl refl
+      (ap (λ (z : ℕ). runner_after id (gate_of z) c.runner) down ∙ sym (runner_at 0 id (set views id w) w here (λ i. (own i).runner) others ∙ ap Some (zero-add id))) (owing_set views id v w false at (λ i. (own i).owes))
 
-  pub notify_busy : gate ≢ 0 → v.own.owes ≡ true → w.own.runs ≡ v.own.runs → w.own.takes ≡ v.own.takes → Later (part_of w) q → w.own.runner ≡ v.own.runner → w.own.owes ≡ false → IsChainEvent o (with_gate o 2) views shown id w (notify id)
-  unfolding listed_look
-  notify_busy up ow runs takes grown runner owing = let c : Chain = chain_of q l.runs gate views in record {
-    new_shown = listed_look q (map part_of views) id (part_of v) (part_of w) l at_part runs takes grown;
-    lawful = chain_is_lawful q gate views l lawful g;
-    made = notify_goes id c (the_owing ow)
-        ∙ ap Ok (same_chain c.notes c.notes More More (runner_after id c.gate c.runner) (runner_from 0 (set views id w)) (with_number false id c.owing) (λ call. owes_in (slice_get (set views id w) call)) refl refl
-        (still_runs up ∙ sym (runner_set 0 id views v w at runner)) (owing_set views id v w false at owing));
-  }
+  pub notify_event : o.gate ≢ 0 → v.own.owes ≡ true → w.seen.object ≡ with_gate o 2 → w.own ≡ record v.own { owes = false } → IsChainEvent o (with_gate o 2) views shown id w (notify id)
+  notify_event up owes is own = gate_event 2 (notify id) _ is (λ i. (own i).runs) (λ i. (own i).takes) (notify_goes id c (the_owing owes)) refl refl
+      (after_busy id o.gate c.runner up ∙ sym (runner_set 0 id views v w at (λ i. (own i).runner))) (owing_set views id v w false at (λ i. (own i).owes))
 
-  pub round_event : v.own.runner ≡ true → w.own.runs ≡ v.own.runs → w.own.takes ≡ v.own.takes → Later (part_of w) q → w.own.runner ≡ v.own.runner → w.own.owes ≡ v.own.owes → IsChainEvent o (with_gate o 1) views shown id w (round id)
-  unfolding listed_look
-  round_event r runs takes grown runner owing = let c : Chain = chain_of q l.runs gate views in record {
-    new_shown = listed_look q (map part_of views) id (part_of v) (part_of w) l at_part runs takes grown;
-    lawful = chain_is_lawful q gate views l lawful g;
-    made = round_goes id c (the_runner r)
-        ∙ ap Ok (same_chain c.notes c.notes Running Running c.runner (runner_from 0 (set views id w)) c.owing (λ call. owes_in (slice_get (set views id w) call)) refl refl (sym (runner_set 0 id views v w at runner)) (owing_same views id v w at owing));
-  }
+  pub round_event : v.own.runner ≡ true → w.seen.object ≡ with_gate o 1 → w.own ≡ record v.own { saw = false } → IsChainEvent o (with_gate o 1) views shown id w (round id)
+  round_event r is own = gate_event 1 (round id) _ is (λ i. (own i).runs) (λ i. (own i).takes) (round_goes id c (the_runner r)) refl refl (sym (runner_set 0 id views v w at (λ i. (own i).runner))) (owing_same views id v w at (λ i. (own i).owes))
 
-  pub leave_event : gate ≡ 1 → v.own.runner ≡ true → IsSettled q views → w.own.runs ≡ v.own.runs → w.own.takes ≡ v.own.takes → Later (part_of w) q → ((j : ℕ) (u : View) → get_elem? (set views id w) j ≡ some u → u.own.runner ≡ false) → w.own.owes ≡ v.own.owes → IsChainEvent o (with_gate o 0) views shown id w (leave id)
-  unfolding listed_look
-  leave_event one r settled runs takes grown none owing = let c : Chain = chain_of q l.runs gate views in record {
-    new_shown = listed_look q (map part_of views) id (part_of v) (part_of w) l at_part runs takes grown;
-    lawful = chain_is_lawful q gate views l lawful g;
-    made = leave_goes id c (ap (λ (z : ℕ). is_more (gate_of z)) one) (not_forgotten q gate views l settled) (the_runner r)
-        ∙ ap Ok (same_chain c.notes c.notes Idle Idle None (runner_from 0 (set views id w)) c.owing (λ call. owes_in (slice_get (set views id w) call)) refl refl (sym (runner_none 0 (set views id w) none)) (owing_same views id v w at owing));
-  }
+  pub leave_event : o.gate ≡ 1 → v.own.runner ≡ true → v.own.saw ≡ true → w.seen.object ≡ with_gate o 0 → w.own ≡ record v.own { runner = false; saw = false } → IsChainEvent o (with_gate o 0) views shown id w (leave id)
+  leave_event one r saw is own = let none = λ (j : ℕ) (u : View) (has : get_elem? (set views id w) j ≡ some u). ⊎_elim (λ t. ap (λ (z : View). z.own.runner) (sym t.1) ∙ (λ i. (own i).runner)) (λ t. others_still q o.gate views id v shown.gate at r j u t.1 t.0) (at_set views id j w u has) in
+      gate_event 0 (leave id) _ is (λ i. (own i).runs) (λ i. (own i).takes) (leave_goes id c (ap (λ (z : ℕ). is_more (gate_of z)) one) (not_forgotten q o.gate views l (shown.gate.seen id v at r saw one)) (the_runner r))
+      refl refl (sym (runner_none 0 (set views id w) none)) (owing_same views id v w at (λ i. (own i).owes))

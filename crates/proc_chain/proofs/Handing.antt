@@ -1,24 +1,7 @@
 -- An end hands over all that it knows but the slot: a new end goes on, and the old one is spent.
-use Rattle.std.proofs.Common.{◌≡◌, ◌≢◌, ◌⊎◌, inl, inr, ⊎_elim, ℕ, ◌<◌, false, true, true≢false, List, [], ◌∷◌, ◌++◌, map, length, set, sym, refl, ap, ◌∙◌, subst, arith, length-set}
-use Rattle.std.proofs.lemmas.List.{map-set, map-append}
-use mathlib.Core.Option.{some}
-use mathlib.Core.Logic.{dite}
-use native.Mathlib.Decide.{ℕ_discrete}
-use lib.ListN.{get_elem?}
-use Rattle.atomic_table.specs.Table.{Splits}
-use Rattle.atomic_table.proofs.Lists.{at_map, at_set, set_else, at_last, at_longer}
-use Rattle.table_theory.specs.declared.queues.Positions.{Positions}
-use Rattle.table_theory.specs.declared.queues.QueueView.{QueueView}
-use Rattle.table_theory.specs.Ledgers.{emptied}
-use Rattle.table_theory.specs.Listing.{ViewsShow}
-use Rattle.table_theory.proofs.Listing.{listed_new, listed_join}
+use Rattle.proc_chain.proofs.Common.{◌≡◌, ◌≢◌, ◌⊎◌, inl, inr, ⊎_elim, ℕ, ◌<◌, false, true, true≢false, List, [], ◌∷◌, ◌++◌, map, length, set, sym, refl, ap, ◌∙◌, subst, arith, length-set, map-set, map-append, some, dite, ℕ_discrete, get_elem?, Splits, at_map, at_set, set_else, at_last, at_longer, Positions, QueueView, emptied, ViewsShow, listed_new, listed_join, at_push, at_below, one_at, Shape, first_queue, View, nothing_did, of_chains, part_of, GateShows, Rule}
 use Rattle.table_theory.proofs.Moving.{in_place, true_moved}
-use Rattle.table_theory.proofs.Owned.{at_push, at_below, one_at}
-use Rattle.proc_chain.specs.declared.rule.Shape.{Shape}
-use Rattle.proc_chain.specs.Changes.{first_queue}
-use Rattle.proc_chain.specs.Own.{View, nothing_did, of_chains, part_of}
-use Rattle.proc_chain.specs.Gates.{IsSettled, GateShows}
-use Rattle.proc_chain.specs.Rules.{Rule}
+use Rattle.proc_chain.proofs.Gates.{gated_as}
 
 -- each view of the new list is the spent one, an old one, or the one that moved
 module _ (views : List View) (id : ℕ) (v e : View) (at : get_elem? views id ≡ some v) where
@@ -50,17 +33,8 @@ module _ (views : List View) (id : ℕ) (v e : View) (at : get_elem? views id �
       a.2
 
   gated_moved : (q : Positions) (gate : ℕ) → GateShows q gate views → e.own.runner ≡ false → GateShows q gate new
-  gated_moved q gate g down = let was : (j : ℕ) (u : View) → get_elem? new j ≡ some u → u.own.runner ≡ true → Was j u = λ j u has up. ⊎_elim (λ t. absurd (true≢false (sym up ∙ (ap (λ (z : View). z.own.runner) (sym t) ∙ down)))) (λ t. t) (moved_from j u has) in
-      let settled : IsSettled q views → IsSettled q new = λ s up. let o = s up in let m = moved_to o.owner o.view o.is_view in record { owner = m.0; view = o.view; is_view = m.1; owes = o.owes; number = o.number; run = o.run; has = o.has; start = o.start } in record {
-        bounded = g.bounded;
-        runs = λ up. let r = g.runs up in let m = moved_to r.number r.view r.is_view in record { number = m.0; view = r.view; is_view = m.1; runner = r.runner };
-        still = λ zero_gate j u has. ⊎_elim (λ t. ap (λ (z : View). z.own.runner) (sym t) ∙ down) (λ t. g.still zero_gate t.0 u t.1) (moved_from j u has);
-        sole = λ i j x y has has' up up'. let a = was i x has up in let b = was j y has' up' in one_place i j x y a b (g.sole a.0 b.0 x y a.1 b.1 up up');
-        takes = λ j u has up. let a = was j u has up in g.takes a.0 u a.1 up;
-        counts = λ j u has up. let a = was j u has up in g.counts a.0 u a.1 up;
-        idle = λ zero_gate. settled (g.idle zero_gate);
-        seen = λ j u has up sw one. let a = was j u has up in settled (g.seen a.0 u a.1 up sw one);
-      }
+  gated_moved q gate g down = let was = λ (j : ℕ) (u : View) (has : get_elem? new j ≡ some u) (up : u.own.runner ≡ true). ⊎_elim {C = Was j u} (λ t. absurd (true≢false (sym up ∙ (ap (λ (z : View). z.own.runner) (sym t) ∙ down)))) (λ t. t) (moved_from j u has) in
+      gated_as q gate views new g moved_to (λ j u has up. let a = was j u has up in (a.0, a.1)) (λ i j x y has has' up up' same. one_place i j x y (was i x has up) (was j y has' up') same)
 
   pub undoubled_moved : ((j : ℕ) (u : View) → get_elem? views j ≡ some u → u.own.doubled ≡ false) → e.own.doubled ≡ false → (j : ℕ) (u : View) → get_elem? new j ≡ some u → u.own.doubled ≡ false
   undoubled_moved old mine j u has = ⊎_elim (λ t. ap (λ (z : View). z.own.doubled) (sym t) ∙ mine) (λ t. old t.0 u t.1) (moved_from j u has)
@@ -70,14 +44,11 @@ module _ {Q W : Type 0} (made : W → Q → List ℕ → Type 0) (fits : W → Q
   hands_over id v s k at = let e : View = emptied nothing_did v in let q : Positions = k.now.object.queue in let parts : List QueueView = map part_of s.views in let at_part = at_map part_of s.views id v at in let below' : id < length parts = at_below parts id (part_of v) at_part in
       let later = k.listed.seen id (part_of v) at_part in record {
         now = k.now;
+        stands = record { lawful = k.stands.lawful; shows = k.stands.shows; number = k.stands.number; true_ends = true_moved of_chains nothing_did (first_queue key.first) k.now s.views id v k.stands.true_ends at };
         first = k.first;
-        lawful = k.lawful;
-        shows = k.shows;
-        number = k.number;
         listed = subst (ViewsShow q) (in_place parts (part_of e) (part_of v) (part_of e) id below' ∙ sym (map-append part_of (set s.views id e) (v ∷ []) ∙ ap (λ (z : List QueueView). z ++ part_of v ∷ []) (map-set part_of s.views id e)))
             (listed_join q (parts ++ part_of e ∷ []) (length parts) id (part_of e) (part_of v) (part_of v) (part_of e) (listed_new q parts (part_of e) k.listed refl refl later) (at_last parts (part_of e) (length parts) refl) (at_longer parts (part_of e ∷ []) id (part_of v) at_part) (λ z. omega arith) refl refl refl refl later later);
         gate = gated_moved s.views id v e at q k.now.object.gate k.gate refl;
         slot = k.slot;
         undoubled = undoubled_moved s.views id v e at k.undoubled refl;
-        true_ends = true_moved of_chains nothing_did (first_queue key.first) k.now s.views id v k.true_ends at;
       }

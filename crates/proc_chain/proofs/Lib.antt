@@ -11,3 +11,4 @@ pub mod Rounds
 pub mod Opening
 pub mod Closing
 pub mod Lawful
+pub mod Common

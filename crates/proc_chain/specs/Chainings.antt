@@ -50,6 +50,6 @@ pub record AreShown (o : GatedQueue) (views : List View) : Type 0 where
 pub record IsChainEvent (o p : GatedQueue) (views : List View) (shown : AreShown o views) (seat : ℕ) (w : View)
     (event : Chain → Result Chain Refusal) : Type 0 where
   pub new_shown : ViewsShow p.queue (slice_set (map part_of views) seat (part_of w))
-  pub lawful : IsLawfulChain (chain_of o.queue shown.listed.runs o.gate views)
-  pub made : event (chain_of o.queue shown.listed.runs o.gate views)
-      ≡ Ok (chain_of p.queue new_shown.runs p.gate (slice_set views seat w))
+  pub lawful : IsLawfulChain (chain_of o.queue shown.listed.lists.runs o.gate views)
+  pub made : event (chain_of o.queue shown.listed.lists.runs o.gate views)
+      ≡ Ok (chain_of p.queue new_shown.lists.runs p.gate (slice_set views seat w))

@@ -42,7 +42,6 @@ queue_of v = v.seen.object.queue
 abbrev pub part_of : View → QueueView
 part_of v = record {
   queue = v.seen.object.queue;
-  joined = v.seen.object.queue;
   runs = v.own.runs;
   takes = v.own.takes;
 }

@@ -1,18 +1,19 @@
 -- The rule: there is a lawful queue of notes that the words and the views show, and the gate and the slot fit it.
-use Rattle.std.specs.Prelude.{◌≡◌, ℕ, false, List, map, slice_index_or}
+use Rattle.std.specs.Prelude.{◌≡◌, ◌<◌, ℕ, false, List, map}
 use mathlib.Core.Option.{some}
 use lib.ListN.{get_elem?}
 use Rattle.atomic_table.specs.Table.{State}
 use Rattle.table_theory.specs.declared.views.Moment.{Moment}
 use Rattle.table_theory.specs.Ledgers as ends
-use Rattle.table_theory.specs.Listing.{ViewsShow}
+use Rattle.table_theory.specs.Listing.{ViewsShow, AllRaised}
+use Rattle.table_theory.specs.Positioned.{head_of}
+use Rattle.table_theory.specs.declared.positions.TheConstants.{POSITIONS}
+use Rattle.proc_chain.specs.declared.layout.TheConstants.{PLACES}
 use Rattle.proc_chain.specs.declared.rule.GatedQueue.{GatedQueue}
 use Rattle.proc_chain.specs.declared.rule.Pact.{Pact}
 use Rattle.proc_chain.specs.declared.rule.Shape.{Shape}
-use Rattle.proc_chain.specs.Layout.{ends_word}
-use Rattle.proc_chain.specs.Shown.{Shows}
 use Rattle.proc_chain.specs.Changes.{first_queue, IsLawful}
-use Rattle.proc_chain.specs.Own.{View, nothing_did, of_chains, part_of}
+use Rattle.proc_chain.specs.Own.{View, nothing_did, of_chains, part_of, queue_of}
 use Rattle.proc_chain.specs.Gates.{GateShows, SlotShows}
 use Rattle.proc_chain.specs.Chainings.{AreShown}
 
@@ -27,25 +28,31 @@ makes made_by pact x notes = made_by pact.opening.value x notes
 pub record Rule {Q W : Type 0} (made : W → Q → List ℕ → Type 0) (fits : W → Q → Type 0) (key : Shape W)
     (s : State Q View) : Type 0 where
   pub now : Moment GatedQueue
+  pub stands : ends.Stands of_chains nothing_did (first_queue key.first) now s.words s.views
   pub first : now.object.queue.first ≡ key.first
-  pub lawful : IsLawful now.object
-  pub shows : Shows now.object s.words
-  pub number : slice_index_or s.words ends_word 0 ≡ now.ends
   pub listed : ViewsShow now.object.queue (map part_of s.views)
   pub gate : GateShows now.object.queue now.object.gate s.views
   pub slot : SlotShows made fits key.pact now.object.queue now.object.gate s.homes
   -- no end that had the turn took in another that had it
   pub undoubled : (j : ℕ) (v : View) → get_elem? s.views j ≡ some v → v.own.doubled ≡ false
-  pub true_ends : ends.AreTrue of_chains nothing_did (first_queue key.first) now s.views
 
--- What the end lists is true, and it sees a lawful queue and a gate that views of all ends show, its own among them
+-- What the end lists is true. It sees a lawful queue with the chain's room, whose head is a position, and a gate that
+-- views of all ends show, its own among them
 pub record IsTold (v : View) : Type 0 where
   pub honest : ends.IsHonest of_chains v
   pub lawful : IsLawful v.seen.object
+  pub room : (queue_of v).room ≡ PLACES
+  pub bounded : head_of (queue_of v) < POSITIONS
   pub views : List View
   pub shown : AreShown v.seen.object views
   pub seat : ℕ
   pub here : get_elem? views seat ≡ some v
+
+-- it is one end, has raised all that it claimed, and owes no notify
+pub record Rests (v : View) : Type 0 where
+  pub one : v.member.ends ≡ 1
+  pub raised : AllRaised v.own.runs
+  pub settled : v.own.owes ≡ false
 
 -- what the first end of a chain knows that begins there
 abbrev pub view_from : ℕ → View

@@ -4,15 +4,14 @@ use mathlib.Core.Option.{some}
 use lib.ListN.{get_elem?}
 use Rattle.atomic_table.specs.Table.{Me, Step as Doing, rest}
 use Rattle.table_theory.specs.Batches.{IsPast}
-use Rattle.table_theory.specs.declared.positions.TheConstants.{POSITIONS}
 use Rattle.table_theory.specs.declared.queues.Batch.{Batch}
 use Rattle.table_theory.specs.declared.views.Moment.{Moment}
 use Rattle.table_theory.specs.Ledgers.{Step, load, change, Made, IsReal, CountedUp, CountedDown, Tallied}
-use Rattle.table_theory.specs.Positioned.{blank, Lawful, Grows, fresh, head_of, tail_of}
+use Rattle.table_theory.specs.Positioned.{blank, Grows, fresh, tail_of}
 use Rattle.table_theory.specs.Listing.{written_to, Distinct, number_of}
 use Rattle.proc_chain.specs.declared.rule.Did.{Did}
 use Rattle.proc_chain.specs.declared.rule.GatedQueue.{GatedQueue}
-use Rattle.proc_chain.specs.declared.layout.TheConstants.{PLACES, NOTES, IDLE, RUNNING, MORE}
+use Rattle.proc_chain.specs.declared.layout.TheConstants.{NOTES, IDLE, RUNNING, MORE}
 use Rattle.proc_chain.specs.Layout.{head_word, tail_word, ends_word, gate_word, place_word, raised_word, mark_of}
 use Rattle.proc_chain.specs.Shown.{notes_of}
 use Rattle.proc_chain.specs.Changes.{IsPlace, with_note, with_raise, with_taken, with_gate, taking}
@@ -20,13 +19,10 @@ use Rattle.proc_chain.specs.Own.{View, of_chains, queue_of}
 use Rattle.proc_chain.specs.Rules.{IsTold}
 use Rattle.proc_chain.specs.Turns.{Carries}
 
--- The queue that a step of the end finds is lawful, and no earlier than what the end had seen. No other end took where
--- this one has the turn
+-- The queue that a step of the end finds is no earlier than what the end had seen. No other end took where this one has
+-- the turn
 pub record Meets (v : View) (o : GatedQueue) : Type 0 where
   pub grows : Grows (queue_of v) o.queue
-  pub lawful : Lawful o.queue
-  pub bounded : head_of o.queue < POSITIONS
-  pub room : o.queue.room ≡ PLACES
   pub turn : v.own.runner ≡ true → o.queue.taken ≡ (queue_of v).taken
   pub count : v.own.runner ≡ true → o.queue.taken ≡ v.own.taken
 
@@ -154,7 +150,7 @@ module _ {Q : Type 0} where
 
   abbrev pub counts_down : Doing Q → Me Q View → ℕ → Me Q View → Type 0
   counts_down st m r m' = Stays m m' × CountedDown ends_word m.0 m'.0 × Meets m.0 m'.0.seen.object
-      × Distinct m'.0.own.runs × (m.0.own.doubled ≡ false)
+      × (m.0.own.doubled ≡ false)
 
   abbrev pub counts : Doing Q → Me Q View → ℕ → Me Q View → Type 0
   counts st m r m' = Stays m m' × Tallied ends_word m.0 r m'.0 × Meets m.0 m'.0.seen.object

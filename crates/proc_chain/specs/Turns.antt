@@ -20,6 +20,13 @@ abbrev pub HasOrGave : {Q : Type 0} → (Q → List ℕ → Type 0) → (Q → T
 HasOrGave made fits true me = Carries made fits (notes_of (queue_of me.0)) [] me.1
 HasOrGave {Q} made fits false me = (me.1 ≡ []) × ((x : Q) × made x (notes_of (queue_of me.0)) × fits x)
 
+-- a living end with the turn, which has the quaject, made by the notes taken
+pub record IsRunner {Q : Type 0} (made : Q → List ℕ → Type 0) (fits : Q → Type 0) (me : Me Q View) : Type 0 where
+  pub live : 1 ≤ me.0.member.ends
+  pub runner : me.0.own.runner ≡ true
+  pub behind : (queue_of me.0).taken ≤ length (queue_of me.0).places
+  pub carries : Carries made fits (notes_of (queue_of me.0)) [] me.1
+
 -- at each number of notes taken in between, the quaject was made by so many of them, in order, and fits
 abbrev pub MadeSince : {Q : Type 0} → (Q → List ℕ → Type 0) → (Q → Type 0) → View → View → Type 0
 MadeSince {Q} made fits v w = (n : ℕ) → (queue_of v).taken ≤ n → n ≤ (queue_of w).taken

@@ -5,9 +5,9 @@ ghost use Rattle.proc_chain.specs.Notes.{SameNotes, PutNote};
 ghost use Rattle.proc_chain.specs.Turns.{KeepsTaken};
 
 use crate::ends::{ChainEnd, ProcChain};
-use crate::layout::{IDLE, PLACES};
+use crate::layout::{HEAD, IDLE, PLACES, TAIL};
 use crate::quaject::Quaject;
-use crate::steps::{exchange_head, load_head, load_tail, store_place, swap_more};
+use crate::steps::{exchange_head, load, store_place, swap_more};
 use std::marker::Brand;
 use table_theory::positions::POSITIONS;
 use thiserror::Error;
@@ -60,11 +60,11 @@ impl<Q: Quaject> ProcChain<Q> {
         ensures same { IsSameEnd end.old end.new × KeepsTaken (view_of end.old) (view_of end.new) }
     {
         let words = &self.table.shared;
-        let head = load_head(words, &mut end.seat);
+        let head = load(words, &mut end.seat, HEAD);
         if head + 1 >= POSITIONS {
             return Err(ChainRefusal::Spent);
         }
-        let tail = load_tail(words, &mut end.seat);
+        let tail = load(words, &mut end.seat, TAIL);
         if head + 1 > tail + PLACES as u64 {
             return Err(ChainRefusal::Full {
                 head: head as u32,

@@ -1,12 +1,7 @@
 //! The chain and its ends.
-ghost use Rattle.std.specs.Prelude.{◌≡◌, ◌≤◌, ◌<◌, ◌||◌, [], true, false, length, IfOk, IfErr};
-ghost use Rattle.table_theory.specs.Listing.{Distinct, AllRaised};
-ghost use Rattle.table_theory.specs.Positioned.{head_of};
-ghost use Rattle.table_theory.specs.declared.positions.TheConstants.{POSITIONS};
-ghost use Rattle.proc_chain.specs.declared.layout.TheConstants.{PLACES};
+ghost use Rattle.std.specs.Prelude.{◌≡◌, ◌||◌, [], true, false, IfOk, IfErr};
 ghost use Rattle.proc_chain.specs.Layout.{width};
-ghost use Rattle.proc_chain.specs.Own.{queue_of};
-ghost use Rattle.proc_chain.specs.Rules.{view_from, IsTold};
+ghost use Rattle.proc_chain.specs.Rules.{view_from, IsTold, Rests};
 ghost use Rattle.proc_chain.specs.Endings.{Divided, IsNewborn, TookIn, Joined};
 ghost use Rattle.proc_chain.specs.Notes.{SameNotes};
 ghost use Rattle.proc_chain.specs.Turns.{KeepsTaken};
@@ -43,15 +38,8 @@ pub struct ProcChain<Q: Quaject> {
 pub struct ChainEnd<Q: Quaject> {
     pub(crate) seat: Seat<Q, View>,
     pub(crate) turn: bool,
-    ghost room: { (queue_of seat.me.0).room ≡ PLACES },
-    ghost one: { seat.me.0.member.ends ≡ 1 },
     ghost turned: { seat.me.0.own.runner ≡ turn },
-    ghost counts: { seat.me.0.own.runner ≡ true → seat.me.0.own.taken ≡ (queue_of seat.me.0).taken },
-    ghost settled: { seat.me.0.own.owes ≡ false },
-    ghost behind: { (queue_of seat.me.0).taken ≤ length (queue_of seat.me.0).places },
-    ghost bounded: { head_of (queue_of seat.me.0) < POSITIONS },
-    ghost distinct: { Distinct seat.me.0.own.runs },
-    ghost raised: { AllRaised seat.me.0.own.runs },
+    ghost rests: { Rests seat.me.0 },
     ghost told: { ∥ IsTold seat.me.0 ∥₁ },
 }
 
@@ -114,7 +102,8 @@ impl<Q: Quaject> ProcChain<Q> {
     }
 
     /// A new end, which has chained and taken nothing and has no Turn. Both ends are to be joined again before the
-    /// chain can be closed; an end that is dropped can never be joined.
+    /// chain can be closed; an end that is dropped can never be joined. Besides the step that counts it, the first word
+    /// is loaded once, and what is found there is not used.
     ///
     /// Condition: the end has two parts or more of its chain's 2^64 - 1. The first end can be split two million
     /// times without a join, and each of those ends 43 times in a chain.
@@ -135,7 +124,8 @@ impl<Q: Quaject> ProcChain<Q> {
 
     /// The first end then has all that both had: their notes, what they took, their parts of the chain, and the Turn
     /// that one of them had: no two ends of one chain have one. It goes on under the number of the one that had the
-    /// Turn, or else under its own.
+    /// Turn, or else under its own. Besides the step that counts one end less, the first word is loaded twice, and what
+    /// is found there is not used.
     pub fn join(&self, end: &mut ChainEnd<Q>, other: ChainEnd<Q>)
         requires ends { IsEndOf self.now end.old × IsEndOf self.now other }
         ensures turn { turn_of end.new ≡ (turn_of other || turn_of end.old) }

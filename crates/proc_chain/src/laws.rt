@@ -111,7 +111,7 @@ pub fn changes_are_events()
         → w.seen.object ≡ with_raise m.object position note
         → w.own ≡ record v.own { runs = slice_set v.own.runs number (written_to e 0 2); owes = true }
         → (k : ℕ) × IsChainEvent m.object (with_raise m.object position note) views shown seat w (raise_note seat k 0)
-        × (get_elem? shown.listed.runs k ≡ some (seat, number, e)) }
+        × (get_elem? shown.listed.lists.runs k ≡ some (seat, number, e)) }
     ensures taken { (tail : ℕ) (m : Moment GatedQueue) (views : List View) (seat : ℕ) (v w : View)
         (shown : AreShown m.object views) → IsReal of_chains (change tail_word tail m (with_taken m.object))
         → get_elem? views seat ≡ some v → v.own.runner ≡ true → w.seen.object ≡ with_taken m.object

@@ -1,21 +1,18 @@
 //! Serving a Turn.
-ghost use Rattle.std.specs.Prelude.{◌≡◌, ◌+◌, ◌<◌, ◌≤◌, ℕ, List, true, false, [], ◌∷◌, ◌++◌, length, MatchBool};
+ghost use Rattle.std.specs.Prelude.{◌≡◌, ◌+◌, ◌<◌, ℕ, List, true, false, [], ◌∷◌, ◌++◌, MatchBool};
 ghost use Rattle.table_theory.specs.Seating.{IsSame};
-ghost use Rattle.proc_chain.specs.declared.layout.TheConstants.{PLACES};
 ghost use Rattle.proc_chain.specs.Layout.{width};
-ghost use Rattle.proc_chain.specs.Own.{queue_of};
 ghost use Rattle.proc_chain.specs.Rules.{suits, makes, IsTold};
-ghost use Rattle.proc_chain.specs.Shown.{notes_of};
 ghost use Rattle.proc_chain.specs.Rounds.{RanNote, FoundNone, LeftNow, RoundNow, IsDone, IsUsedUp};
-ghost use Rattle.proc_chain.specs.Turns.{Carries, HasOrGave, MadeSince};
+ghost use Rattle.proc_chain.specs.Turns.{Carries, IsRunner, HasOrGave, MadeSince};
 ghost use Rattle.proc_chain.specs.Servings.{ServedNow, AllServed, is_more};
 
 use crate::chaining::Turn;
 use crate::ends::{ChainEnd, ProcChain};
-use crate::layout::RUNNING;
+use crate::layout::{RUNNING, TAIL};
 use crate::quaject::Quaject;
 use crate::rule::{ChainRule, Pact, Shape, View};
-use crate::steps::{exchange_gate, load_place, load_tail, store_tail, swap_running};
+use crate::steps::{exchange_gate, load, load_place, store_tail, swap_running};
 use atomic_table::{Seat, Shared};
 use std::sync::Wait;
 
@@ -58,20 +55,13 @@ fn run_next<Q: Quaject>(
     world: &Q::World,
 ) -> bool
     requires queue { (seat.old.table_id ≡ words.now.table_id) × (words.now.table_id.words ≡ width) }
-    requires live { (1 ≤ seat.old.me.0.member.ends) × (seat.old.me.0.own.runner ≡ true) }
-    requires positions { ((queue_of seat.old.me.0).room ≡ PLACES)
-        × ((queue_of seat.old.me.0).taken ≤ length (queue_of seat.old.me.0).places) }
     requires world { words.now.key.pact.world.value ≡ world.now }
-    requires carries { Carries (makes Q.made_by words.now.key.pact) (suits Q.fits words.now.key.pact)
-        (notes_of (queue_of seat.old.me.0)) [] seat.old.me.1 }
-    ensures queue { IsSame seat.old seat.new }
-    ensures carries { Carries (makes Q.made_by words.now.key.pact) (suits Q.fits words.now.key.pact)
-        (notes_of (queue_of seat.new.me.0)) [] seat.new.me.1 }
-    ensures told { IsTold seat.new.me.0 }
-    ensures ran { MatchBool result (RanNote seat.old.me.0 seat.new.me.0)
-        (FoundNone seat.old.me.0 seat.new.me.0 × (seat.new.me.1 ≡ seat.old.me.1)) }
+    requires runner { IsRunner (makes Q.made_by words.now.key.pact) (suits Q.fits words.now.key.pact) seat.old.me }
+    ensures stays { IsSame seat.old seat.new × IsTold seat.new.me.0 }
+    ensures runner { IsRunner (makes Q.made_by words.now.key.pact) (suits Q.fits words.now.key.pact) seat.new.me }
+    ensures ran { MatchBool result (RanNote seat.old.me.0 seat.new.me.0) (FoundNone seat.old.me.0 seat.new.me.0) }
 {
-    let tail = load_tail(words, seat);
+    let tail = load(words, seat, TAIL);
     let word = load_place(words, seat, tail);
     if word.mark != tail + 1 {
         return false;
@@ -87,17 +77,12 @@ fn leave_or_round<Q: Quaject>(
     seat: &mut Seat<Q, View>,
 ) -> bool
     requires queue { (seat.old.table_id ≡ words.now.table_id) × (words.now.table_id.words ≡ width) }
-    requires live { (1 ≤ seat.old.me.0.member.ends) × (seat.old.me.0.own.runner ≡ true)
-        × (seat.old.me.0.own.saw ≡ true) }
-    requires behind { (queue_of seat.old.me.0).taken ≤ length (queue_of seat.old.me.0).places }
-    requires carries { Carries (makes Q.made_by words.now.key.pact) (suits Q.fits words.now.key.pact)
-        (notes_of (queue_of seat.old.me.0)) [] seat.old.me.1 }
-    ensures queue { IsSame seat.old seat.new }
-    ensures carries { MatchBool result (HasOrGave (makes Q.made_by words.now.key.pact)
-        (suits Q.fits words.now.key.pact) false seat.new.me)
-        (Carries (makes Q.made_by words.now.key.pact) (suits Q.fits words.now.key.pact)
-        (notes_of (queue_of seat.new.me.0)) [] seat.new.me.1) }
-    ensures told { IsTold seat.new.me.0 }
+    requires runner { IsRunner (makes Q.made_by words.now.key.pact) (suits Q.fits words.now.key.pact) seat.old.me }
+    requires saw { seat.old.me.0.own.saw ≡ true }
+    ensures stays { IsSame seat.old seat.new × IsTold seat.new.me.0 }
+    ensures gave { MatchBool result
+        (HasOrGave (makes Q.made_by words.now.key.pact) (suits Q.fits words.now.key.pact) false seat.new.me)
+        (IsRunner (makes Q.made_by words.now.key.pact) (suits Q.fits words.now.key.pact) seat.new.me) }
     ensures left { MatchBool result (LeftNow seat.old.me.0 seat.new.me.0) (RoundNow seat.old.me.0 seat.new.me.0) }
 {
     if exchange_gate(words, seat) == RUNNING {
@@ -116,19 +101,13 @@ fn serve_seat<Q: Quaject>(
     limit: u32,
 ) -> (bool, u32)
     requires queue { (seat.old.table_id ≡ words.now.table_id) × (words.now.table_id.words ≡ width) }
-    requires live { (1 ≤ seat.old.me.0.member.ends) × (seat.old.me.0.own.runner ≡ true) }
-    requires positions { ((queue_of seat.old.me.0).room ≡ PLACES)
-        × ((queue_of seat.old.me.0).taken ≤ length (queue_of seat.old.me.0).places) }
     requires world { words.now.key.pact.world.value ≡ world.now }
-    requires carries { Carries (makes Q.made_by words.now.key.pact) (suits Q.fits words.now.key.pact)
-        (notes_of (queue_of seat.old.me.0)) [] seat.old.me.1 }
+    requires runner { IsRunner (makes Q.made_by words.now.key.pact) (suits Q.fits words.now.key.pact) seat.old.me }
     requires some_limit { 0 < limit }
-    ensures queue { IsSame seat.old seat.new }
-    ensures carries { MatchBool result.0 (HasOrGave (makes Q.made_by words.now.key.pact)
-        (suits Q.fits words.now.key.pact) false seat.new.me)
-        (Carries (makes Q.made_by words.now.key.pact) (suits Q.fits words.now.key.pact)
-        (notes_of (queue_of seat.new.me.0)) [] seat.new.me.1) }
-    ensures told { IsTold seat.new.me.0 }
+    ensures stays { IsSame seat.old seat.new × IsTold seat.new.me.0 }
+    ensures gave { MatchBool result.0
+        (HasOrGave (makes Q.made_by words.now.key.pact) (suits Q.fits words.now.key.pact) false seat.new.me)
+        (IsRunner (makes Q.made_by words.now.key.pact) (suits Q.fits words.now.key.pact) seat.new.me) }
     ensures made { MadeSince (makes Q.made_by words.now.key.pact) (suits Q.fits words.now.key.pact)
         seat.old.me.0 seat.new.me.0 }
     ensures served { MatchBool result.0 (IsDone seat.old.me.0 limit result.1 seat.new.me.0)

@@ -7,7 +7,7 @@ ghost use Rattle.table_theory.specs.declared.positions.TheConstants.{POSITIONS};
 ghost use Rattle.table_theory.specs.declared.queues.Batch.{Batch};
 ghost use Rattle.table_theory.specs.Ledgers.{CountedUp, CountedDown, Tallied};
 ghost use Rattle.table_theory.specs.Ledgers.{rest_of, newborn, both, emptied};
-ghost use Rattle.table_theory.specs.Listing.{number_of, Distinct};
+ghost use Rattle.table_theory.specs.Listing.{number_of};
 ghost use Rattle.table_theory.specs.Positioned.{blank, head_of, tail_of, written_at};
 ghost use Rattle.table_theory.specs.Seating.{IsSame};
 ghost use Rattle.proc_chain.specs.Rules.{suits, makes, IsTold};
@@ -15,10 +15,9 @@ ghost use Rattle.proc_chain.specs.Layout.{head_word, tail_word, ends_word, gate_
 ghost use Rattle.proc_chain.specs.Layout.{mark_of, width};
 ghost use Rattle.proc_chain.specs.declared.layout.TheConstants.{PLACES, IDLE, RUNNING, MORE, NOTES};
 ghost use Rattle.proc_chain.specs.Own.{nothing_did, did_both, queue_of};
-ghost use Rattle.proc_chain.specs.Shown.{notes_of};
 ghost use Rattle.proc_chain.specs.Steps.{Found, FoundNotRaised, Claimed, Raised, Took, Notified, GotTurn, BegunRound};
-ghost use Rattle.proc_chain.specs.Steps.{HasLeft, Meets};
-ghost use Rattle.proc_chain.specs.Turns.{Carries};
+ghost use Rattle.proc_chain.specs.Steps.{HasLeft, Meets, Stays};
+ghost use Rattle.proc_chain.specs.Turns.{IsRunner};
 
 use crate::layout::{ENDS, GATE, HEAD, IDLE, MORE, RUNNING, TAIL, place_word};
 use crate::plays::{
@@ -37,41 +36,11 @@ pub(crate) fn load<Q: Quaject>(
 ) -> u64
     requires queue { (seat.old.table_id ≡ words.now.table_id) × (word < words.now.table_id.words) }
     requires live { 1 ≤ seat.old.me.0.member.ends }
-    ensures queue { IsSame seat.old seat.new × (seat.new.me.1 ≡ seat.old.me.1) }
-    ensures told { IsTold seat.new.me.0 }
+    ensures stays { IsSame seat.old seat.new × Stays seat.old.me seat.new.me }
     ensures found { Found seat.old.me.0 word result seat.new.me.0 }
+    ensures bounded { word ≤ tail_word → result < POSITIONS }
 {
     words.load::<Finds>(seat, word)
-}
-
-pub(crate) fn load_head<Q: Quaject>(
-    words: &Shared<Q, View, Shape<Pact<Q::World, Q>>, ChainRule>,
-    seat: &mut Seat<Q, View>,
-) -> u64
-    requires queue { (seat.old.table_id ≡ words.now.table_id) × (words.now.table_id.words ≡ width) }
-    requires live { 1 ≤ seat.old.me.0.member.ends }
-    ensures queue { IsSame seat.old seat.new × (seat.new.me.1 ≡ seat.old.me.1) }
-    ensures told { IsTold seat.new.me.0 }
-    ensures found { Found seat.old.me.0 head_word result seat.new.me.0 }
-    ensures head { result ≡ head_of (queue_of seat.new.me.0) }
-    ensures bounded { result < POSITIONS }
-{
-    load(words, seat, HEAD)
-}
-
-pub(crate) fn load_tail<Q: Quaject>(
-    words: &Shared<Q, View, Shape<Pact<Q::World, Q>>, ChainRule>,
-    seat: &mut Seat<Q, View>,
-) -> u64
-    requires queue { (seat.old.table_id ≡ words.now.table_id) × (words.now.table_id.words ≡ width) }
-    requires live { 1 ≤ seat.old.me.0.member.ends }
-    ensures queue { IsSame seat.old seat.new × (seat.new.me.1 ≡ seat.old.me.1) }
-    ensures told { IsTold seat.new.me.0 }
-    ensures found { Found seat.old.me.0 tail_word result seat.new.me.0 }
-    ensures tail { result ≡ tail_of (queue_of seat.new.me.0) }
-    ensures bounded { result < POSITIONS }
-{
-    load(words, seat, TAIL)
 }
 
 /// The claim of one place.
@@ -86,11 +55,9 @@ pub(crate) fn exchange_head<Q: Quaject, J: ClaimedNote>(
     requires note { J.note ≡ note }
     requires room { head + 1 ≤ tail_of (queue_of seat.old.me.0) + (queue_of seat.old.me.0).room }
     requires bounded { head + 1 < POSITIONS }
-    ensures queue { IsSame seat.old seat.new × (seat.new.me.1 ≡ seat.old.me.1) }
-    ensures told { IsTold seat.new.me.0 }
+    ensures stays { IsSame seat.old seat.new × Stays seat.old.me seat.new.me }
     ensures hit { result ≡ head → Claimed seat.old.me.0 head J.note seat.new.me.0 }
-    ensures miss { result ≢ head → Found seat.old.me.0 head_word result seat.new.me.0
-        × (result ≡ head_of (queue_of seat.new.me.0)) }
+    ensures miss { result ≢ head → Found seat.old.me.0 head_word result seat.new.me.0 }
 {
     let _ = note;
     words.compare_exchange::<Claims<J>>(seat, HEAD, head, head + 1)
@@ -110,8 +77,7 @@ pub(crate) fn store_place<Q: Quaject>(
         × (get_elem? seat.old.me.0.own.runs (number_of start seat.old.me.0.own.runs) ≡ some e)
         × (e.start ≡ start) × (0 < length e.places) × ((slice_index_or e.places 0 blank).written < 2)
         × ((slice_index_or e.places 0 blank).item ≡ note) }
-    ensures queue { IsSame seat.old seat.new × (seat.new.me.1 ≡ seat.old.me.1) }
-    ensures told { IsTold seat.new.me.0 }
+    ensures stays { IsSame seat.old seat.new × Stays seat.old.me seat.new.me }
     ensures raised { (e : Batch) → get_elem? seat.old.me.0.own.runs (number_of start seat.old.me.0.own.runs) ≡ some e
         → Raised seat.old.me.0 start note e seat.new.me.0 }
 {
@@ -128,8 +94,7 @@ pub(crate) fn swap_more<Q: Quaject, J: Runner<Q>>(
     requires live { (1 ≤ seat.old.me.0.member.ends) × (seat.old.me.0.own.owes ≡ true) }
     requires suits { (x : Q) → suits Q.fits words.now.key.pact x → J.suits x }
     requires makes { (x : Q) (notes : List ℕ) → makes Q.made_by words.now.key.pact x notes → J.made x notes }
-    ensures queue { IsSame seat.old seat.new }
-    ensures told { IsTold seat.new.me.0 }
+    ensures stays { IsSame seat.old seat.new × IsTold seat.new.me.0 }
     ensures won { result ≡ IDLE → GotTurn J.made J.suits seat.old.me seat.new.me }
     ensures lost { result ≢ IDLE → (seat.new.me.1 ≡ seat.old.me.1)
         × Notified seat.old.me.0 result seat.new.me.0 }
@@ -144,10 +109,9 @@ pub(crate) fn load_place<Q: Quaject>(
     tail: u64,
 ) -> PlaceWord
     requires queue { (seat.old.table_id ≡ words.now.table_id) × (words.now.table_id.words ≡ width) }
-    requires live { (1 ≤ seat.old.me.0.member.ends) × (seat.old.me.0.own.runner ≡ true) }
+    requires runner { IsRunner (makes Q.made_by words.now.key.pact) (suits Q.fits words.now.key.pact) seat.old.me }
     requires tail { (tail ≡ tail_of (queue_of seat.old.me.0)) × (tail < POSITIONS) }
-    ensures queue { IsSame seat.old seat.new × (seat.new.me.1 ≡ seat.old.me.1) }
-    ensures told { IsTold seat.new.me.0 }
+    ensures stays { IsSame seat.old seat.new × Stays seat.old.me seat.new.me }
     ensures note { result.note < NOTES }
     ensures up { result.mark ≡ tail + 1
         → Found seat.old.me.0 (place_word tail) (raised_word tail result.note) seat.new.me.0 }
@@ -164,13 +128,10 @@ pub(crate) fn store_tail<Q: Quaject>(
     tail: u64,
 )
     requires queue { (seat.old.table_id ≡ words.now.table_id) × (words.now.table_id.words ≡ width) }
-    requires live { (1 ≤ seat.old.me.0.member.ends) × (seat.old.me.0.own.runner ≡ true) }
+    requires runner { IsRunner (makes Q.made_by words.now.key.pact) (suits Q.fits words.now.key.pact) seat.old.me }
     requires tail { (tail ≡ tail_of (queue_of seat.old.me.0)) × (tail < POSITIONS) }
     requires raised { 2 ≤ written_at (queue_of seat.old.me.0) (queue_of seat.old.me.0).taken }
-    requires carries { Carries (makes Q.made_by words.now.key.pact) (suits Q.fits words.now.key.pact)
-        (notes_of (queue_of seat.old.me.0)) [] seat.old.me.1 }
-    ensures queue { IsSame seat.old seat.new × (seat.new.me.1 ≡ seat.old.me.1) }
-    ensures told { IsTold seat.new.me.0 }
+    ensures stays { IsSame seat.old seat.new × Stays seat.old.me seat.new.me }
     ensures took { Took seat.old.me.0 tail seat.new.me.0 }
 {
     words.store::<Takes>(seat, TAIL, tail + 1);
@@ -182,11 +143,8 @@ pub(crate) fn swap_running<Q: Quaject>(
     seat: &mut Seat<Q, View>,
 ) -> u64
     requires queue { (seat.old.table_id ≡ words.now.table_id) × (words.now.table_id.words ≡ width) }
-    requires live { (1 ≤ seat.old.me.0.member.ends) × (seat.old.me.0.own.runner ≡ true) }
-    requires carries { Carries (makes Q.made_by words.now.key.pact) (suits Q.fits words.now.key.pact)
-        (notes_of (queue_of seat.old.me.0)) [] seat.old.me.1 }
-    ensures queue { IsSame seat.old seat.new × (seat.new.me.1 ≡ seat.old.me.1) }
-    ensures told { IsTold seat.new.me.0 }
+    requires runner { IsRunner (makes Q.made_by words.now.key.pact) (suits Q.fits words.now.key.pact) seat.old.me }
+    ensures stays { IsSame seat.old seat.new × Stays seat.old.me seat.new.me }
     ensures rounded { BegunRound seat.old.me.0 result seat.new.me.0 }
 {
     words.swap::<Rounds>(seat, GATE, RUNNING)
@@ -198,13 +156,9 @@ pub(crate) fn exchange_gate<Q: Quaject>(
     seat: &mut Seat<Q, View>,
 ) -> u64
     requires queue { (seat.old.table_id ≡ words.now.table_id) × (words.now.table_id.words ≡ width) }
-    requires live { (1 ≤ seat.old.me.0.member.ends) × (seat.old.me.0.own.runner ≡ true)
-        × (seat.old.me.0.own.saw ≡ true) }
-    requires behind { (queue_of seat.old.me.0).taken ≤ length (queue_of seat.old.me.0).places }
-    requires carries { Carries (makes Q.made_by words.now.key.pact) (suits Q.fits words.now.key.pact)
-        (notes_of (queue_of seat.old.me.0)) [] seat.old.me.1 }
-    ensures queue { IsSame seat.old seat.new }
-    ensures told { IsTold seat.new.me.0 }
+    requires runner { IsRunner (makes Q.made_by words.now.key.pact) (suits Q.fits words.now.key.pact) seat.old.me }
+    requires saw { seat.old.me.0.own.saw ≡ true }
+    ensures stays { IsSame seat.old seat.new × IsTold seat.new.me.0 }
     ensures hit { result ≡ RUNNING → (seat.new.me.1 ≡ []) × HasLeft seat.old.me.0 seat.new.me.0 }
     ensures miss { result ≢ RUNNING → (result ≡ MORE) × (seat.new.me.1 ≡ seat.old.me.1)
         × Found seat.old.me.0 gate_word result seat.new.me.0 }
@@ -218,8 +172,7 @@ pub(crate) fn count_up<Q: Quaject>(
 ) -> u64
     requires queue { (seat.old.table_id ≡ words.now.table_id) × (words.now.table_id.words ≡ width) }
     requires parts { seat.old.me.0.member.ends + 1 ≤ seat.old.me.0.member.share }
-    ensures queue { IsSame seat.old seat.new × (seat.new.me.1 ≡ seat.old.me.1) }
-    ensures told { IsTold seat.new.me.0 }
+    ensures stays { IsSame seat.old seat.new × Stays seat.old.me seat.new.me }
     ensures counted { CountedUp ends_word seat.old.me.0 seat.new.me.0
         × Meets seat.old.me.0 seat.new.me.0.seen.object }
 {
@@ -232,11 +185,9 @@ pub(crate) fn count_down<Q: Quaject>(
 ) -> u64
     requires queue { (seat.old.table_id ≡ words.now.table_id) × (words.now.table_id.words ≡ width) }
     requires live { 2 ≤ seat.old.me.0.member.ends }
-    ensures queue { IsSame seat.old seat.new × (seat.new.me.1 ≡ seat.old.me.1) }
-    ensures told { IsTold seat.new.me.0 }
+    ensures stays { IsSame seat.old seat.new × Stays seat.old.me seat.new.me }
     ensures counted { CountedDown ends_word seat.old.me.0 seat.new.me.0
-        × Meets seat.old.me.0 seat.new.me.0.seen.object × Distinct seat.new.me.0.own.runs
-        × (seat.old.me.0.own.doubled ≡ false) }
+        × Meets seat.old.me.0 seat.new.me.0.seen.object × (seat.old.me.0.own.doubled ≡ false) }
 {
     words.fetch_sub::<CountsDown>(seat, ENDS, 1)
 }
@@ -247,8 +198,7 @@ pub(crate) fn count<Q: Quaject>(
 ) -> u64
     requires queue { (seat.old.table_id ≡ words.now.table_id) × (words.now.table_id.words ≡ width) }
     requires live { seat.old.me.0.member.ends ≡ 1 }
-    ensures queue { IsSame seat.old seat.new × (seat.new.me.1 ≡ seat.old.me.1) }
-    ensures told { IsTold seat.new.me.0 }
+    ensures stays { IsSame seat.old seat.new × Stays seat.old.me seat.new.me }
     ensures tallied { Tallied ends_word seat.old.me.0 result seat.new.me.0
         × Meets seat.old.me.0 seat.new.me.0.seen.object }
 {

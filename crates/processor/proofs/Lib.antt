@@ -5,5 +5,6 @@ pub mod Fitted
 pub mod Rooming
 pub mod Acting
 pub mod Logging
+pub mod Summing
 pub mod Signals
 pub mod Pointing

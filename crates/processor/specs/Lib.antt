@@ -11,6 +11,7 @@ pub mod Turns
 pub mod Points
 pub mod Fitting
 pub mod Stations
+pub mod Accounts
 pub mod Logs
 pub mod Partings
 pub mod Preparing

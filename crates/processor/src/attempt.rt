@@ -63,14 +63,14 @@ pub(crate) fn seat(
     requires table { IsHandOf threads.now hand.old }
     requires held { has (view_of hand.old) element ≡ true }
     requires free { IsFree processor (view_of hand.old) }
-    ensures table { IsSameHand hand.old hand.new }
-    ensures put { PutsOn (call_of hand.old) processor element (view_of hand.old) (view_of hand.new) }
     ensures there { IsOn processor element (view_of hand.new) }
     ensures keeps { KeepsBut (slice_set (view_of hand.old).own.on processor (Some element)) (view_of hand.old)
         (view_of hand.new) }
     ensures holds { HoldsLess element (view_of hand.old) (view_of hand.new) }
     ensures adds { Adds no_events (view_of hand.old) (view_of hand.new) }
     ensures steady { Steady (view_of hand.old) (view_of hand.new) }
+    ensures put { PutsOn (call_of hand.old) processor element (view_of hand.old) (view_of hand.new) }
+    ensures same { IsSameHand hand.old hand.new }
 {
     put_on(threads, hand, processor, element);
     Seated(())

@@ -43,16 +43,16 @@ pub(crate) fn count_step(
 ) -> Tried
     requires table { IsHandOf threads.now hand.old }
     requires mine { MayStep (view_of hand.old) element }
-    ensures table { IsSameHand hand.old hand.new }
     ensures deed { result.deed ≡ attempt.deed }
-    ensures counted { CountAnswer (call_of hand.old) element (is_done attempt.deed) (view_of hand.old) result.counted
-        (view_of hand.new) }
     ensures keeps { Keeps (view_of hand.old) (view_of hand.new) }
     ensures holds { HoldsSame (view_of hand.old) (view_of hand.new) }
     ensures adds { Adds (counted_step result.counted element (done_at (view_of hand.old).seen.object element))
         (view_of hand.old) (view_of hand.new) }
     ensures number { IsNumber result.counted element (view_of hand.old) (view_of hand.new) }
     ensures steady { SteadyBut element (view_of hand.old) (view_of hand.new) }
+    ensures counted { CountAnswer (call_of hand.old) element (is_done attempt.deed) (view_of hand.old) result.counted
+        (view_of hand.new) }
+    ensures same { IsSameHand hand.old hand.new }
 {
     let (deed, was_tried) = attempt.into_deed();
     let counted = count(threads, hand, element, deed.is_done());

@@ -1,8 +1,12 @@
-//! What a plan keeps for its processors: room for each line that is heard, and objects for each step.
+//! What a plan keeps for its processors: room for each line that is heard, and objects for each step. And what they did
+//! adds up.
 ghost use Rattle.std.specs.Prelude.{◌≡◌, ◌≤◌, ℕ, List, length, Some};
 ghost use Rattle.boot_data.specs.declared.boot_plan.BootPlan.{BootPlan};
 ghost use Rattle.boot_data.specs.declared.plan.Step.{Step};
+ghost use Rattle.end_steps.specs.Accounts.{AddsUp};
+ghost use Rattle.table_theory.specs.Sharing.{given, kept};
 ghost use Rattle.processor.specs.declared.shared.Shared.{Shared};
+ghost use Rattle.processor.specs.Accounts.{◌⊕◌, nothing, Shares, no_shares, both_shares, each_share};
 ghost use Rattle.processor.specs.Programs.{Key, AreHears, hear_count, program, step_of};
 ghost use Rattle.processor.specs.Steps.{Fits};
 
@@ -16,4 +20,13 @@ pub fn steps_fit()
     ensures there { (shared : Shared) (thread number : ℕ) (step : Step)
         → step_of shared.plan thread number ≡ Some step → Fits shared.queues (length shared.chains.items) step }
     ensures few { (plan : BootPlan) (thread : ℕ) → length (program plan thread) ≤ 64 }
+{}
+
+/// What is done adds up, and so do shares, which add up in any order. What a split keeps and what it gives are all that
+/// there was.
+pub fn accounts_add()
+    ensures accounts { AddsUp nothing (λ a b. a ⊕ b) }
+    ensures shares { AddsUp no_shares both_shares }
+    ensures any_order { (a b : Shares) → both_shares a b ≡ both_shares b a }
+    ensures parted { (a : Shares) → both_shares (each_share kept a) (each_share given a) ≡ a }
 {}

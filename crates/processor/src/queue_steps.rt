@@ -44,8 +44,6 @@ pub(crate) fn say_step<R: Wait, G: Gate>(
     requires large { AreEndsOf shared.now.queues.large.items large.old }
     requires there { IsThere shared.now.queues queue }
     ensures comes { comes_of (steps.Say queue text.now) result ≡ true }
-    ensures same_hand { IsSameHand hand.old hand.new }
-    ensures same_ends { AreSameEnds small.old small.new × AreSameEnds large.old large.new }
     ensures small { AreEndsOf shared.now.queues.small.items small.new }
     ensures large { AreEndsOf shared.now.queues.large.items large.new }
     ensures hand { HandDid (call_of hand.old) shared.now.plan (steps.Say queue text.now) result (view_of hand.old)
@@ -55,6 +53,7 @@ pub(crate) fn say_step<R: Wait, G: Gate>(
     ensures gate { GateSaw G.told p (points_of result) gate.old gate.new }
     ensures small_lines { Worked (puts_small (steps.Say queue text.now) result) no_lines never small.old small.new }
     ensures large_lines { Worked (puts_large (steps.Say queue text.now) result) no_lines never large.old large.new }
+    ensures same { IsSameHand hand.old hand.new × AreSameEnds small.old small.new × AreSameEnds large.old large.new }
 {
     let readers = readers_at(&shared.plan, queue);
     let writers = writers_at(&shared.plan, queue);
@@ -94,8 +93,6 @@ pub(crate) fn hear_step<R: Wait, G: Gate>(
     requires there { IsThere shared.now.queues queue }
     requires empty { heard.old.items ≡ [] }
     ensures comes { comes_of (steps.Hear queue) result ≡ true }
-    ensures same_hand { IsSameHand hand.old hand.new }
-    ensures same_ends { AreSameEnds small.old small.new × AreSameEnds large.old large.new }
     ensures small { AreEndsOf shared.now.queues.small.items small.new }
     ensures large { AreEndsOf shared.now.queues.large.items large.new }
     ensures hand { HandDid (call_of hand.old) shared.now.plan (steps.Hear queue) result (view_of hand.old)
@@ -107,6 +104,7 @@ pub(crate) fn hear_step<R: Wait, G: Gate>(
         small.old small.new }
     ensures large_lines { Worked no_lines (takes_large (steps.Hear queue) result heard.new.items) never
         large.old large.new }
+    ensures same { IsSameHand hand.old hand.new × AreSameEnds small.old small.new × AreSameEnds large.old large.new }
 {
     let readers = readers_at(&shared.plan, queue);
     let writers = writers_at(&shared.plan, queue);
@@ -134,8 +132,6 @@ pub(crate) fn close_step<R: Wait>(
     requires small { AreEndsOf shared.now.queues.small.items small.old }
     requires there { queue < length shared.now.queues.small.items }
     ensures comes { comes_of (steps.Close queue) result ≡ true }
-    ensures same_hand { IsSameHand hand.old hand.new }
-    ensures same_ends { AreSameEnds small.old small.new }
     ensures small { AreEndsOf shared.now.queues.small.items small.new }
     ensures hand { HandDid (call_of hand.old) shared.now.plan (steps.Close queue) result (view_of hand.old)
         (view_of hand.new) }
@@ -144,6 +140,7 @@ pub(crate) fn close_step<R: Wait>(
         small.new others others }
     ensures small_lines { Worked no_lines no_lines (shuts_by (steps.Close queue) result) small.old small.new }
     ensures points { points_of result ≡ [] }
+    ensures same { IsSameHand hand.old hand.new × AreSameEnds small.old small.new }
 {
     let at = QueueIndex::Small(queue);
     let to_hear = readers_at(&shared.plan, at);

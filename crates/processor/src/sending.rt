@@ -61,13 +61,13 @@ fn move_on<R: Wait>(
 ) -> Moved
     requires table { IsHandOf threads.now hand.old }
     requires held { has (view_of hand.old) element ≡ true }
-    ensures table { IsSameHand hand.old hand.new }
-    ensures goes { Goes (call_of hand.old) step.now tried.now.deed last element result (view_of hand.old)
-        (view_of hand.new) }
     ensures keeps { Keeps (view_of hand.old) (view_of hand.new) }
     ensures adds { Adds (gone result element (done_at (view_of hand.old).seen.object element)) (view_of hand.old)
         (view_of hand.new) }
     ensures rises { NeverFalls (view_of hand.old) (view_of hand.new) }
+    ensures goes { Goes (call_of hand.old) step.now tried.now.deed last element result (view_of hand.old)
+        (view_of hand.new) }
+    ensures same { IsSameHand hand.old hand.new }
 {
     if let Some(ticket) = tried.deed().sleeps_on() {
         return Moved::Ticketed(wait_with(rt, threads, hand, element, ticket));
@@ -94,14 +94,14 @@ pub(crate) fn send_on<R: Wait>(
 ) -> SentOn
     requires table { IsHandOf threads.now hand.old }
     requires held { has (view_of hand.old) element ≡ true }
-    ensures table { IsSameHand hand.old hand.new }
     ensures tried { result.tried ≡ tried }
-    ensures goes { Goes (call_of hand.old) step.now tried.deed last element result.moved (view_of hand.old)
-        (view_of hand.new) }
     ensures keeps { Keeps (view_of hand.old) (view_of hand.new) }
     ensures adds { Adds (gone result.moved element (done_at (view_of hand.old).seen.object element)) (view_of hand.old)
         (view_of hand.new) }
     ensures rises { NeverFalls (view_of hand.old) (view_of hand.new) }
+    ensures goes { Goes (call_of hand.old) step.now tried.deed last element result.moved (view_of hand.old)
+        (view_of hand.new) }
+    ensures same { IsSameHand hand.old hand.new }
 {
     let moved = move_on(rt, threads, hand, element, step, &tried, last);
     SentOn { tried, moved }

@@ -7,6 +7,8 @@ ghost use Rattle.end_steps.specs.Splits as splits;
 ghost use Rattle.hand_steps.specs.Holdings.{IsFree};
 ghost use Rattle.thread_table.specs.Answers.{is_in};
 ghost use Rattle.thread_table.specs.Handles.{view_of};
+ghost use Rattle.table_theory.specs.Sharing.{given, kept};
+ghost use Rattle.processor.specs.Accounts.{◌⊕◌, account, both_shares, each_share, nothing, shares, unheard};
 ghost use Rattle.processor.specs.Logs.{IsFresh};
 ghost use Rattle.processor.specs.Partings.{AreDivisible, HaveRoom, HaveBoth, AreSplit, AreJoined};
 ghost use Rattle.processor.specs.Rooms.{HasRoom};
@@ -142,6 +144,10 @@ impl Station {
         ensures parts { ArePartsOf shared.now self.new.parts }
         ensures born { IfOk result (λ s. ArePartsOf shared.now s.parts) }
         ensures split { IfOk result (λ s. AreSplit processors self.old.parts self.new.parts s.parts) }
+        ensures did { IfOk result (λ s. (account self.new.parts ≡ account self.old.parts)
+            × (account s.parts ≡ nothing)) }
+        ensures shares { IfOk result (λ s. (shares self.new.parts ≡ each_share kept (shares self.old.parts))
+            × (shares s.parts ≡ each_share given (shares self.old.parts))) }
         ensures room { IfOk result (λ s. HasRoom shared.now.plan s.parts) }
         ensures fresh { IfOk result (λ s. IsFresh s.parts) }
         ensures refused { IfErr result (λ e. self.new ≡ self.old) }
@@ -161,6 +167,8 @@ impl Station {
         ensures same { AreSameParts self.old.parts self.new.parts }
         ensures parts { ArePartsOf shared.now self.new.parts }
         ensures joined { AreJoined self.old.parts other.parts self.new.parts }
+        ensures did { account self.new.parts ≡ account self.old.parts ⊕ unheard (account other.parts) }
+        ensures shares { shares self.new.parts ≡ both_shares (shares self.old.parts) (shares other.parts) }
         ensures heard { result ≡ other.parts.heard }
     {
         let Parts {

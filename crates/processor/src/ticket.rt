@@ -56,11 +56,11 @@ pub(crate) fn wait_with<R: Wait>(
 ) -> Waited
     requires table { IsHandOf threads.now hand.old }
     requires held { has (view_of hand.old) element ≡ true }
-    ensures table { IsSameHand hand.old hand.new }
-    ensures waited { WaitedAt (call_of hand.old) ticket.now.wait element ticket.now.number result (view_of hand.old)
-        (view_of hand.new) }
     ensures keeps { Keeps (view_of hand.old) (view_of hand.new) }
     ensures adds { Adds no_events (view_of hand.old) (view_of hand.new) }
+    ensures waited { WaitedAt (call_of hand.old) ticket.now.wait element ticket.now.number result (view_of hand.old)
+        (view_of hand.new) }
+    ensures same { IsSameHand hand.old hand.new }
 {
     wait_at(rt, threads, hand, element, ticket.wait, ticket.number)
 }

@@ -13,7 +13,9 @@ use Rattle.table_theory.specs.declared.views.Part.{Part}
 use Rattle.claim_queue.specs.declared.rule.Did.{Did}
 use Rattle.claim_queue.specs.declared.ends.QueueEnd.{QueueEnd}
 use Rattle.claim_queue.specs.Own.{View}
-use Rattle.claim_queue.specs.Closings.{ClosedNow, WereOpen, shown}
+use Rattle.claim_queue.specs.Closings.{ClosedNow, shown}
+use Rattle.claim_queue.specs.Layout.{ends_word}
+use Rattle.table_theory.specs.Ledgers.{WereOpen}
 use Rattle.claim_queue.specs.Endings.{TookIn}
 use Rattle.claim_queue.specs.Handles.{view_of}
 use Rattle.claim_queue.specs.Lines.{line_of, lines_put, lines_taken, IsSettled}
@@ -77,7 +79,7 @@ settled_now ends w first put taken left h c = let q = w.seen.object in let items
 }
 
 -- the end found others
-pub still_open : (ends : List View) (v w : View) (others : ℕ) → HasAll ends v → WereOpen v others w → StillOpen ends others w
+pub still_open : (ends : List View) (v w : View) (others : ℕ) → HasAll ends v → WereOpen ends_word v others w → StillOpen ends others w
 still_open ends v w others h o = let did = o.tallied.made.did in let share = ap (λ (z : Part). z.share) o.tallied.made.member in record {
   before = v;
   had = h;
@@ -97,10 +99,6 @@ still_open ends v w others h o = let did = o.tallied.made.did in let share = ap 
 pub if_ok : {A B : Type 0} {P Q : A → Type 0} (r : Result A B) → IfOk r P → ((a : A) → P a → Q a) → IfOk r Q
 if_ok (Ok a) h f = f a h
 if_ok (Err b) h f = tt
-
-pub both_err : {A B : Type 0} (P Q : B → Type 0) (r : Result A B) → IfErr r P → IfErr r Q → IfErr r (λ b. P b × Q b)
-both_err P Q (Ok a) p q = tt
-both_err P Q (Err b) p q = (p, q)
 
 pub if_err : {A B : Type 0} {P Q : B → Type 0} (r : Result A B) → IfErr r P → ((b : B) → P b → Q b) → IfErr r Q
 if_err (Ok a) h f = tt

@@ -22,7 +22,7 @@ use Rattle.proc_chain.specs.declared.chaining.ChainRefusal.TheVariants.{Spent, F
 use Rattle.proc_chain.specs.Own.{View, of_chains, queue_of}
 use Rattle.proc_chain.specs.Rules.{IsTold}
 use Rattle.proc_chain.specs.Shown.{notes_of}
-use Rattle.proc_chain.specs.Answers.{ChainedAt, ChainedNow, NotChained, with_run, with_turn}
+use Rattle.proc_chain.specs.Answers.{ChainedNow, NotChained, with_run, with_turn}
 use Rattle.proc_chain.specs.Notes.{line_of, notes_put, alone, PutNote}
 use Rattle.proc_chain.specs.Servings.{AllServed}
 use Rattle.proc_chain.specs.Turns.{HasOrGave, MadeSince}
@@ -70,35 +70,25 @@ at_gate : {A : Type 0} (F : Positions → A) → ((a b : A) → IsProp (a ≡ b)
 at_gate F prop v u note l own x y m = ∥∥₁_elim x (prop _ _) (λ (a : IsTold v). ∥∥₁_elim y (prop _ _) (λ (b : IsTold u).
     ap (λ (z : Moment GatedQueue). F z.object.queue) (sym (passes_since of_chains v u (linked note l) a.honest b.honest m.adds).2.2.2.2.2)))
 
--- the link of a note that was chained
-link_of : (v w : View) (note gate : ℕ) (then : ℕ → Did → Did) → ChainedAt v note gate then w → (l : Link) × IsLink v.own.runs note l × (l.gate ≡ gate) × Made v (linked note l) (then l.at_gate.object.queue.taken (with_run v.own l.head note)) w
-link_of v w note gate then c = (
-  record { head = c.0; at_head = c.3; tail = c.1; at_tail = c.4; at_claim = c.5; was = c.2; at_raise = c.6; gate = gate; at_gate = c.7 },
-  record { room = (c.8, c.9); past = c.10; place = c.11 },
-  refl,
-  c.12,
-)
-
 link_behind : (v b : View) (lost : List LostTry) (note : ℕ) (l : Link) → WereLost v lost b → IsLink b.own.runs note l → IsLink v.own.runs note l
 link_behind v b lost note l t h = record { room = h.room; past = subst (λ (z : Did). IsPast z.runs l.head) t.made.did h.past; place = h.place }
 
 pub is_left : {Q : Type 0} (me b w : Me Q View) (lost : List LostTry) (note : ℕ) (r : Chained) → r ≡ Left → WereLost me.0 lost b.0 → b.1 ≡ me.1 → w.1 ≡ b.1 → ChainedNow b.0 note r w.0 → IsLeft me (tried lost) note w
-is_left me b w lost note r is l same same' chained = let c = subst (λ (z : Chained). ChainedNow b.0 note z w.0) is chained in
-    let k = link_of b.0 w.0 note c.0 (λ taken did. did) c.2 in
-    (k.0, link_behind me.0 b.0 lost note k.0 l k.1, (λ e. c.1 (sym k.2 ∙ e)), behind (λ (d : Did). with_run d k.0.head note) me.0 b.0 w.0 lost (linked note k.0) l k.3, same' ∙ same)
+is_left me b w lost note r is l same same' chained = let k = subst (λ (z : Chained). ChainedNow b.0 note z w.0) is chained in
+    (k.0, link_behind me.0 b.0 lost note k.0 l k.2.0, k.1, behind (λ (d : Did). with_run d k.0.head note) me.0 b.0 w.0 lost (linked note k.0) l k.2.1, same' ∙ same)
 
 module _ {Q : Type 0} (made : Q → List ℕ → Type 0) (fits : Q → Type 0) where
   pub is_run : (me b u w : Me Q View) (lost : List LostTry) (note ran : ℕ) (turn : Turn) (r : Chained) → r ≡ Run turn → WereLost me.0 lost b.0 → ∥ IsTold b.0 ∥₁ → ∥ IsTold u.0 ∥₁
       → ChainedNow b.0 note r u.0 → PutNote note b.0 u.0 → MadeSince made fits u.0 w.0 → AllServed u.0 ran w.0 → HasOrGave made fits false w → IsRun made fits me (tried lost) note ran w
   is_run me b u w lost note ran turn r is l x y c p runs s gave =
-      let k = link_of b.0 u.0 note 0 with_turn (subst (λ (z : Chained). ChainedNow b.0 note z u.0) is c) in
+      let k = subst (λ (z : Chained). ChainedNow b.0 note z u.0) is c in
       let service : Service = record { used_up = s.0; last = s.1; left = s.2 } in let h = s.5 in
-      let here = at_gate notes_of (is_set ℕ_set) b.0 u.0 note k.0 _ x y k.3 in
-      let there = at_gate (λ (z : Positions). z.taken) ℕ_set b.0 u.0 note k.0 _ x y k.3 in
-      let turn_got : Made me.0 (tried lost ++ linked note k.0) (with_turn k.0.at_gate.object.queue.taken (with_run me.0.own k.0.head note)) u.0 = behind (λ (d : Did). with_turn k.0.at_gate.object.queue.taken (with_run d k.0.head note)) me.0 b.0 u.0 lost (linked note k.0) l k.3 in record {
+      let here = at_gate notes_of (is_set ℕ_set) b.0 u.0 note k.0 _ x y k.2.1 in
+      let there = at_gate (λ (z : Positions). z.taken) ℕ_set b.0 u.0 note k.0 _ x y k.2.1 in
+      let turn_got : Made me.0 (tried lost ++ linked note k.0) (with_turn k.0.at_gate.object.queue.taken (with_run me.0.own k.0.head note)) u.0 = behind (λ (d : Did). with_turn k.0.at_gate.object.queue.taken (with_run d k.0.head note)) me.0 b.0 u.0 lost (linked note k.0) l k.2.1 in record {
         link = k.0;
-        linked_is = link_behind me.0 b.0 lost note k.0 l k.1;
-        idle = k.2;
+        linked_is = link_behind me.0 b.0 lost note k.0 l k.2.0;
+        idle = k.1;
         service = service;
         is = record { full = s.3; less = s.4; uses = h.fit };
         steps = made_on me.0 u.0 w.0 (tried lost ++ linked note k.0) (served service) (with_turn k.0.at_gate.object.queue.taken (with_run me.0.own k.0.head note)) (with_service (with_turn k.0.at_gate.object.queue.taken (with_run me.0.own k.0.head note)) service) turn_got

@@ -6,7 +6,9 @@ use Rattle.claim_queue.specs.Own.{View}
 use Rattle.claim_queue.specs.Handles.{view_of}
 use Rattle.claim_queue.specs.Lines.{lines_put, lines_taken, IsSettled}
 use Rattle.table_theory.specs.declared.queues.Batch.{Batch}
-use Rattle.claim_queue.specs.Closings.{ClosedNow, WereOpen}
+use Rattle.claim_queue.specs.Closings.{ClosedNow}
+use Rattle.claim_queue.specs.Layout.{ends_word}
+use Rattle.table_theory.specs.Ledgers.{WereOpen}
 use Rattle.table_theory.specs.Listing.{AllRaised}
 use Rattle.table_theory.specs.Sharing.{IsWhole}
 
@@ -60,6 +62,6 @@ pub record SettledNow (ends : List View) (first put taken : ℕ) (left : List (O
 pub record StillOpen (ends : List View) (others : ℕ) (w : View) : Type 0 where
   pub before : View
   pub had : HasAll ends before
-  pub found : WereOpen before others w
+  pub found : WereOpen ends_word before others w
   pub has : HasAll ends w
   pub some_other : 0 < others

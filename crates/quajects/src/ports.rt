@@ -61,7 +61,7 @@ impl<const N: usize> Port<N> {
         ensures joined { TookIn (view_of end.old) (view_of self.entry.end) (view_of end.new) }
         ensures claims { KeepsClaims (view_of end.old) (view_of end.new)
             × KeepsClaims (view_of self.entry.end) (view_of end.new) }
-        ensures queue { IsSameEnd end.old end.new }
+        ensures same { IsSameEnd end.old end.new }
     {
         queue.join(end, self.end);
     }

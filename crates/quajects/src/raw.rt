@@ -41,10 +41,11 @@ fn tell<R: Wait>(
     requires end { IsEndOf chain.now end.old }
     requires idle { turn_of end.old ≡ false }
     requires world { world_of chain.now ≡ queues.now }
-    ensures end { IsEndOf chain.now end.new × IsSameEnd end.old end.new }
     ensures idle { turn_of end.new ≡ false }
     ensures noted { Noted (makes MadeOf (pact_of chain.now)) (suits Fits (pact_of chain.now))
         (me_of end.old) note (me_of end.new) }
+    ensures end { IsEndOf chain.now end.new }
+    ensures same { IsSameEnd end.old end.new }
 {
     for _ in rt.forever() {
         match chain.try_chain(end, note) {
@@ -120,9 +121,10 @@ impl RawTty {
             (claims.view_of (end_of self.new)) }
         ensures noted { Noted (makes MadeOf (pact_of chain.now)) (suits Fits (pact_of chain.now))
             (me_of self.old.chain) 0 (me_of self.new.chain) }
-        ensures chain { IsEndOf chain.now self.new.chain × IsSameEnd self.old.chain self.new.chain }
-        ensures fits { (self.new.index ≡ self.old.index) × claims.IsSameEnd (end_of self.old) (end_of self.new)
-            × IsEndAt queues.now.small.items self.new.index (end_of self.new) }
+        ensures chain { IsEndOf chain.now self.new.chain }
+        ensures fits { IsEndAt queues.now.small.items self.new.index (end_of self.new) }
+        ensures same { (self.new.index ≡ self.old.index) × claims.IsSameEnd (end_of self.old) (end_of self.new)
+            × IsSameEnd self.old.chain self.new.chain }
     {
         let item = [byte as u64];
         let queue = &queues.small[self.index];

@@ -42,7 +42,7 @@ module _ {Q : Type 0} (made : Q → List ℕ → Type 0) (fits : Q → Type 0) w
   collected_all a b v xs ys first put taken left quaject small small' up a_put up' b_put runs c =
       let q = queue_of v in
       let joins : v.own.runs ≡ joined (a.own.runs ∷ b.own.runs ∷ []) = runs ∙ ap (λ (z : List Batch). a.own.runs ++ z) (sym (append-nil b.own.runs)) in
-      let m = runs_merge q (part_of v) (a.own.runs ∷ b.own.runs ∷ []) c.listed (λ k l at. two a.own.runs b.own.runs l up.0 up'.0 k at) joins in
+      let m = runs_merge q (part_of v) (a.own.runs ∷ b.own.runs ∷ []) c.listed.lists (λ k l at. two a.own.runs b.own.runs l up.0 up'.0 k at) joins in
       let i : Interleaves m.0 (map alone (notes_for 0 xs) ∷ map alone (notes_for 256 ys) ∷ []) = subst (λ (z : List (List ℕ)). Interleaves m.0 (z ∷ map alone (notes_for 256 ys) ∷ [])) a_put
       (subst (λ (z : List (List ℕ)). Interleaves m.0 (notes_put a ∷ z ∷ [])) b_put m.1) in
       let h = both m.0 xs ys small small' i in

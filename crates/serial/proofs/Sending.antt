@@ -54,16 +54,16 @@ sent_before u v w notes h runs share = record {
 pub sent_left : (v w : View) (note : ℕ) (r : Chained) → r ≡ Left → ChainedNow v note r w → PutNote note v w → HasSent (note ∷ []) v w
 sent_left v w note r is chained p = let c = (subst (λ (z : Chained). ChainedNow v note z w) is chained).2 in record {
   puts = p.puts;
-  order = run_order v w _ (λ i. (c.12.did i).runs) c.10 (omega arith);
-  share = λ i. (c.12.member i).share;
+  order = run_order v w _ (λ i. (c.1.did i).runs) c.0.past (omega arith);
+  share = λ i. (c.1.member i).share;
 }
 
 pub sent_run : (v u w : View) (note ran : ℕ) (turn : Turn) (r : Chained) → r ≡ Run turn → ChainedNow v note r u → PutNote note v u → AllServed u ran w → HasSent (note ∷ []) v w
-sent_run v u w note ran turn r is chained p s = let c = subst (λ (z : Chained). ChainedNow v note z u) is chained in let served = s.5.served in
+sent_run v u w note ran turn r is chained p s = let c = (subst (λ (z : Chained). ChainedNow v note z u) is chained).2 in let served = s.5.served in
     sent_before v u w (note ∷ []) (record {
       puts = p.puts;
-      order = run_order v u _ (λ i. (c.12.did i).runs) c.10 (omega arith);
-      share = λ i. (c.12.member i).share;
+      order = run_order v u _ (λ i. (c.1.did i).runs) c.0.past (omega arith);
+      share = λ i. (c.1.member i).share;
     }) served.runs served.share
 
 -- nothing was sent

@@ -19,7 +19,8 @@ use Rattle.claim_queue.specs.Orders.{TakesInOrder}
 use Rattle.claim_queue.specs.Takings.{IsBegun, IsLine, TookItems, RefusedTake, scanned}
 use Rattle.claim_queue.proofs.Ordered.{refused_order, took_order, order_of}
 use Rattle.claim_queue.proofs.Certain.{by_both, seen_room}
-use Rattle.claim_queue.proofs.Saying.{done_says, passes_split}
+use Rattle.claim_queue.proofs.Saying.{done_says}
+use Rattle.table_theory.proofs.Saying.{passes_split}
 use Rattle.spooler.specs.Doings.{HasTaken, KeepsPuts}
 
 -- one line more was taken, and kept
@@ -56,7 +57,7 @@ all_taken u v w kept r is x y h s up taken = let d = closed_seen v w x y (subst 
 pub took_few : (old new : QueueEnd 64) (items : List ℕ) → TookItems 64 (view_of old) items (view_of new) → length items ≤ 64
 took_few old new items (tail, m, o, scan, are, first, made) = by_both old new le_prop (λ x y. (
     let v : View = view_of old in let w : View = view_of new in
-    let (reached, real, leaves) = passes_split v.seen w.seen (load tail_word tail m ∷ scanned 64 tail scan) (change tail_word tail o (with_take o.object (length items))) [] (passes_since of_queues v w _ x y made.adds) in
+    let (reached, real, leaves) = passes_split of_queues v.seen w.seen (load tail_word tail m ∷ scanned 64 tail scan) (change tail_word tail o (with_take o.object (length items))) [] (passes_since of_queues v w _ x y made.adds) in
     let within = real.lawful.within in
     let room : o.object.room ≡ 64 = (λ i. (leaves i).object.room) ∙ seen_room new in
     let rest = drop o.object.taken o.object.places in

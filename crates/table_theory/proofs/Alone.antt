@@ -1,16 +1,5 @@
 -- An end that has the whole is the only one that steps: its own steps are all, and it has seen all of them.
-use Rattle.std.proofs.Common.{◌≡◌, ◌≢◌, ℕ, zero, suc, ◌<◌, ◌≤◌, List, [], ◌∷◌, ◌++◌, map, length, length-append, sym, refl, ap, ◌∙◌, subst, arith}
-use Rattle.std.specs.List.{AllByRecursion}
-use Rattle.std.proofs.lemmas.List.{append-nil, length-map}
-use mathlib.Core.Option.{some, some-injective, some-ne-none}
-use mathlib.Core.Logic.{dite}
-use native.Mathlib.Decide.{ℕ_discrete}
-use lib.ListN.{get_elem?}
-use Rattle.table_theory.specs.declared.views.Entry.{Entry}
-use Rattle.table_theory.specs.Ends.{Begins}
-use Rattle.table_theory.specs.Filing.{Owned, entry_of}
-use Rattle.table_theory.specs.Courses.{IsCourse}
-use Rattle.atomic_table.proofs.Lists.{at_map}
+use Rattle.table_theory.proofs.Common.{◌≡◌, ◌≢◌, ℕ, zero, suc, ◌<◌, ◌≤◌, List, [], ◌∷◌, ◌++◌, map, length, length-append, sym, refl, ap, ◌∙◌, subst, arith, AllByRecursion, append-nil, length-map, some, some-injective, some-ne-none, dite, ℕ_discrete, get_elem?, Entry, Begins, Owned, entry_of, IsCourse, at_map}
 use Rattle.table_theory.proofs.Owned.{at_map_back}
 
 module _ {A : Type 0} where

@@ -1,10 +1,8 @@
 -- The steps that make, split, join and count ends.
-use Rattle.std.proofs.Common.{◌≡◌, ℕ, suc, zero, ◌+◌, ◌-◌, ◌/◌, ◌%◌, ◌<◌, ◌≤◌, ◌≢◌, ⊎_elim, List, [], ◌∷◌, ◌++◌, set, sym, ◌∙◌, subst, arith}
-use mathlib.Core.Option.{some, some-injective, some-ne-none}
-use lib.ListN.{get_elem?}
-use Rattle.table_theory.specs.Sharing.{IsWhole, given, kept, total, EndsCounted, IsCount}
-use Rattle.atomic_table.proofs.Lists.{at_set, set_else}
-use Rattle.table_theory.proofs.Owned.{at_push}
+use Rattle.table_theory.proofs.Common.{◌≡◌, ℕ, ◌+◌, ◌-◌, ◌%◌, ◌<◌, ◌≤◌, ◌≢◌, List, [], ◌∷◌, ◌++◌, set, ◌∙◌, arith, some, get_elem?, IsWhole, given, kept, total, IsCount, set_else}
+use Rattle.std.proofs.Common.{◌/◌}
+use Rattle.table_theory.specs.Sharing.{EndsCounted}
+use Rattle.table_theory.proofs.Owned.{all_set, all_push, all_one}
 use Rattle.table_theory.proofs.Totals.{total_set, total_push, total_below, one_of, two_of, sole_total}
 
 -- what a split gives, and what it leaves
@@ -25,26 +23,12 @@ module _ {V : Type 0} (f share : V → ℕ) (P : V → Type 0) where
   abbrev Within : V → Type 0
   Within v = f v ≤ share v
 
-  all_set : (Q : V → Type 0) (vs : List V) (j : ℕ) (w : V) → ((i : ℕ) (u : V) → get_elem? vs i ≡ some u → Q u) → Q w → (i : ℕ) (u : V) → get_elem? (set vs j w) i ≡ some u → Q u
-  all_set Q vs j w old mine i u has = ⊎_elim (λ e. subst Q e.1 mine) (λ e. old i u e.1) (at_set vs j i w u has)
-
-  all_push : (Q : V → Type 0) (vs : List V) (w : V) → ((i : ℕ) (u : V) → get_elem? vs i ≡ some u → Q u) → Q w → (i : ℕ) (u : V) → get_elem? (vs ++ w ∷ []) i ≡ some u → Q u
-  all_push Q vs w old mine i u has = ⊎_elim (λ e. old i u e) (λ e. subst Q e.1 mine) (at_push vs w u i has)
-
   -- no more ends are counted than there are parts
   pub counted_small : (n : ℕ) (vs : List V) → EndsCounted f share P n vs → n < 18446744073709551616
   counted_small n vs c = let t = total_below f share vs c.within in let s = c.shared in let x = c.counted in omega arith
 
-  pub counted_look : (n : ℕ) (vs : List V) (j : ℕ) (v w : V) → EndsCounted f share P n vs → get_elem? vs j ≡ some v → f w ≡ f v → share w ≡ share v → (f w ≡ 0 → P v → P w) → EndsCounted f share P n (set vs j w)
-  counted_look n vs j v w c at same shares still = let t = total_set f vs j v w at in let u = total_set share vs j v w at in let i = c.within j v at in record {
-    counted = let s = c.counted in omega arith;
-    shared = let s = c.shared in omega arith;
-    within = all_set Within vs j w c.within (omega arith);
-    spent = all_set Spent vs j w c.spent (λ h. let y = c.spent j v at (sym same ∙ h) in (shares ∙ y.0, still h y.1));
-  }
-
-  -- one more or one less, of a live end
-  changed : (n m : ℕ) (vs : List V) (j : ℕ) (v w : V) → EndsCounted f share P n vs → get_elem? vs j ≡ some v → 1 ≤ f w → f w ≤ share v → share w ≡ share v → total f (set vs j w) ≡ m → EndsCounted f share P m (set vs j w)
+  -- a step of a live end, which leaves so many
+  pub changed : (n m : ℕ) (vs : List V) (j : ℕ) (v w : V) → EndsCounted f share P n vs → get_elem? vs j ≡ some v → 1 ≤ f w → f w ≤ share v → share w ≡ share v → total f (set vs j w) ≡ m → EndsCounted f share P m (set vs j w)
   changed n m vs j v w c at some_end enough shares is = let u = total_set share vs j v w at in record {
     counted = is;
     shared = let s = c.shared in omega arith;
@@ -52,14 +36,13 @@ module _ {V : Type 0} (f share : V → ℕ) (P : V → Type 0) where
     spent = all_set Spent vs j w c.spent (λ h. absurd (omega arith));
   }
 
-  pub counted_up : (n : ℕ) (vs : List V) (j : ℕ) (v w : V) → EndsCounted f share P n vs → get_elem? vs j ≡ some v → f v + 1 ≤ share v → f w ≡ f v + 1 → share w ≡ share v → EndsCounted f share P ((n + 1) % 18446744073709551616) (set vs j w)
+  pub counted_up : (n : ℕ) (vs : List V) (j : ℕ) (v w : V) → EndsCounted f share P n vs → get_elem? vs j ≡ some v → f v + 1 ≤ share v → f w ≡ f v + 1 → share w ≡ share v → ((n + 1) % 18446744073709551616 ≡ n + 1) × EndsCounted f share P (n + 1) (set vs j w)
   counted_up n vs j v w c at enough more shares = let t = total_set f vs j v w at in let s = c.counted in let d : EndsCounted f share P (n + 1) (set vs j w) = changed n (n + 1) vs j v w c at (omega arith) (omega arith) shares (omega arith) in
-      let bounded = counted_small (n + 1) (set vs j w) d in let e : n + 1 ≡ (n + 1) % 18446744073709551616 = omega arith in subst (λ (z : ℕ). EndsCounted f share P z (set vs j w)) e d
+      let bounded = counted_small (n + 1) (set vs j w) d in (omega arith, d)
 
-  pub counted_down : (n : ℕ) (vs : List V) (j : ℕ) (v w : V) → EndsCounted f share P n vs → get_elem? vs j ≡ some v → 1 ≤ f w → f v ≡ f w + 1 → share w ≡ share v → EndsCounted f share P ((n + (18446744073709551616 - 1)) % 18446744073709551616) (set vs j w)
+  pub counted_down : (n : ℕ) (vs : List V) (j : ℕ) (v w : V) → EndsCounted f share P n vs → get_elem? vs j ≡ some v → 1 ≤ f w → f v ≡ f w + 1 → share w ≡ share v → ((n + (18446744073709551616 - 1)) % 18446744073709551616 ≡ n - 1) × (1 ≤ n) × EndsCounted f share P (n - 1) (set vs j w)
   counted_down n vs j v w c at some_end less shares = let t = total_set f vs j v w at in let s = c.counted in let o = one_of f vs j v at in let i = c.within j v at in let bounded = counted_small n vs c in
-      let m : ℕ = n - 1 in let d : EndsCounted f share P m (set vs j w) = changed n m vs j v w c at some_end (omega arith) shares (omega arith) in
-      let e : m ≡ (n + (18446744073709551616 - 1)) % 18446744073709551616 = omega arith in subst (λ (z : ℕ). EndsCounted f share P z (set vs j w)) e d
+      (omega arith, omega arith, changed n (n - 1) vs j v w c at some_end (omega arith) shares (omega arith))
 
   pub counted_split : (n : ℕ) (vs : List V) (j : ℕ) (v left right : V) → EndsCounted f share P n vs → get_elem? vs j ≡ some v → f v ≡ 2 → f left ≡ 1 → f right ≡ 1 → share left ≡ kept (share v) → share right ≡ given (share v)
       → EndsCounted f share P n (set vs j left ++ right ∷ [])
@@ -82,16 +65,12 @@ module _ {V : Type 0} (f share : V → ℕ) (P : V → Type 0) where
         spent = all_set Spent (set vs j both) k spent (all_set Spent vs j both c.spent (λ h. absurd (omega arith))) (λ _. (is', idle));
       }
 
-  only : (Q : V → Type 0) (w : V) → Q w → (i : ℕ) (u : V) → get_elem? (w ∷ []) i ≡ some u → Q u
-  only Q w mine zero u has = subst Q (some-injective w u has) mine
-  only Q w mine (suc i) u has = absurd (some-ne-none u (sym has))
-
   pub counted_first : (w : V) → f w ≡ 1 → share w ≡ 18446744073709551615 → EndsCounted f share P 1 (w ∷ [])
   counted_first w one is = record {
     counted = omega arith;
     shared = omega arith;
-    within = only Within w (omega arith);
-    spent = only Spent w (λ h. absurd (omega arith));
+    within = all_one Within w (omega arith);
+    spent = all_one Spent w (λ h. absurd (omega arith));
   }
 
   -- beside an end with the whole, no end stands

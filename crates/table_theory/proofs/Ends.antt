@@ -1,8 +1,6 @@
 -- Lists that begin with others.
-use Rattle.std.proofs.Common.{Bool, true, false, List, [], ◌∷◌, ◌++◌, sym, ap, ◌∙◌}
-use Rattle.std.proofs.lemmas.List.{append_assoc, append-nil}
-use Rattle.std.specs.Prelude.{if◌then◌else◌, nat_lt, length}
-use Rattle.table_theory.specs.Ends.{Begins, later_of}
+use Rattle.table_theory.proofs.Common.{Bool, true, false, List, [], ◌∷◌, ◌++◌, sym, ap, ◌∙◌, append_assoc, append-nil, if◌then◌else◌, nat_lt, Begins, later_of}
+use Rattle.std.specs.Prelude.{length}
 
 module _ {E : Type 0} where
   pub begins_refl : (a : List E) → Begins a a

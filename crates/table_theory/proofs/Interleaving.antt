@@ -1,20 +1,9 @@
 -- Lists in order are interleaved by the log that has all their entries, each once.
-use Rattle.std.proofs.Common.{◌≡◌, ℕ, suc, zero, ◌+◌, ◌<◌, ◌≤◌, ⊎_elim, List, [], ◌∷◌, ◌++◌, map, take, length, set, sym, refl, ap, ◌∙◌, subst, arith}
+use Rattle.table_theory.proofs.Common.{◌≡◌, ℕ, suc, zero, ◌+◌, ◌<◌, ⊎_elim, List, [], ◌∷◌, ◌++◌, map, take, length, set, sym, refl, ap, ◌∙◌, subst, arith, map-append, some, some-injective, some-ne-none, dite, ℕ_discrete, get_elem?, at_set, set_here, set_else, at_longer, at_map, Batch, Cell, Owned, entry_of, ListedOnce, all_places, Adjacent, IsListed, PartsShow, item_of, Positions, QueueView}
 use Rattle.std.specs.List.{concat}
-use Rattle.std.proofs.lemmas.List.{map-append}
-use mathlib.Core.Option.{some, some-injective, some-ne-none}
-use mathlib.Core.Logic.{dite}
-use native.Mathlib.Decide.{ℕ_discrete}
-use lib.ListN.{get_elem?}
-use Rattle.atomic_table.proofs.Lists.{at_set, set_here, set_else, at_longer, at_map}
-use Rattle.table_theory.specs.declared.queues.Batch.{Batch}
-use Rattle.table_theory.specs.Filing.{Owned, entry_of, ListedOnce}
 use Rattle.table_theory.specs.Interleaving.{Ascending, joined, Interleaves}
-use Rattle.table_theory.specs.Listing.{all_places, Adjacent, IsSolid, ViewsShow}
-use Rattle.table_theory.specs.Positioned.{item_of}
-use Rattle.table_theory.specs.declared.queues.Positions.{Positions}
-use Rattle.table_theory.specs.declared.queues.QueueView.{QueueView}
-use Rattle.table_theory.proofs.Logs.{one_start}
+use Rattle.table_theory.specs.Listing.{IsSolid}
+use Rattle.table_theory.proofs.Logs.{one_start, starts_past}
 use Rattle.table_theory.proofs.Owned.{at_below, at_behind, at_joined, at_map_back, one_at}
 
 -- PLACES IN JOINED LISTS
@@ -134,16 +123,11 @@ merge (x ∷ xs) lists r =
 
 -- A CHAINED LOG
 
-later : (p : ℕ) (log : List (Owned Batch)) → Adjacent p log → (j : ℕ) (e : Batch) → get_elem? (map entry_of log) j ≡ some e → p ≤ e.start
-later p [] c j e at = absurd (some-ne-none e (sym at))
-later p (o ∷ os) c zero e at = let h : o.2.start ≡ e.start = ap (λ (z : Batch). z.start) (some-injective o.2 e at) in let s = c.0 in omega arith
-later p (o ∷ os) c (suc j) e at = let h = later (p + length o.2.places) os c.1 j e at in omega arith
-
 pub log_ascends : (p : ℕ) (log : List (Owned Batch)) → Adjacent p log → IsSolid log → Ascending (map entry_of log)
 log_ascends p [] c solid i j e f at is low = absurd (some-ne-none e (sym at))
 log_ascends p (o ∷ os) c solid zero zero e f at is low = absurd (omega arith)
 log_ascends p (o ∷ os) c solid zero (suc j) e f at is low =
-    let h = later (p + length o.2.places) os c.1 j f is in let s = solid 0 o refl in
+    let b = at_map_back entry_of os j f is in let h = starts_past (p + length o.2.places) os j b.0 c.1 b.1 in let s = solid 0 o refl in let same = ap (λ (z : Batch). z.start) b.2 in
     let g : o.2.start ≡ e.start = ap (λ (z : Batch). z.start) (some-injective o.2 e at) in let k = c.0 in omega arith
 log_ascends p (o ∷ os) c solid (suc i) zero e f at is low = absurd (omega arith)
 log_ascends p (o ∷ os) c solid (suc i) (suc j) e f at is low = log_ascends (p + length o.2.places) os c.1 (λ k q h. solid (suc k) q h) i j e f at is (omega arith)
@@ -203,17 +187,16 @@ items_flat (o ∷ os) = ap (λ (z : List ℕ). items_in o.2 ++ z) (items_flat os
 abbrev pub Merges : List (List Batch) → List ℕ → Type 0
 Merges lists items = (order : List (List ℕ)) × Interleaves order (map (map items_in) lists) × (concat order ≡ items)
 
-module _ (q : Positions) (v : QueueView) (lists : List (List Batch)) (s : ViewsShow q (v ∷ [])) (ups : (k : ℕ) (l : List Batch) → get_elem? lists k ≡ some l → Ascending l) where
-  pub runs_merge : v.runs ≡ joined lists → Merges lists (map item_of q.places)
-  runs_merge is = (
-    map items_in (map entry_of s.runs),
-    interleaves_map items_in (map entry_of s.runs) lists (interleaved q.first s.runs lists s.runs_adjacent s.solid (subst (λ (z : List Batch). ListedOnce s.runs (z ∷ [])) is s.runs_filed) ups),
-    items_flat s.runs ∙ ap (map item_of) s.runs_flat,
+module _ (q : Positions) (v : QueueView) (lists : List (List Batch)) (s : PartsShow q (v ∷ [])) (ups : (k : ℕ) (l : List Batch) → get_elem? lists k ≡ some l → Ascending l) where
+  merged : (places : List Cell) (log : List (Owned Batch)) (l : List Batch) → IsListed q.first places log (l ∷ []) → l ≡ joined lists → Merges lists (map item_of places)
+  merged places log l a is = (
+    map items_in (map entry_of log),
+    interleaves_map items_in (map entry_of log) lists (interleaved q.first log lists a.adjacent a.solid (subst (λ (z : List Batch). ListedOnce log (z ∷ [])) is a.filed) ups),
+    items_flat log ∙ ap (map item_of) a.flat,
   )
 
+  pub runs_merge : v.runs ≡ joined lists → Merges lists (map item_of q.places)
+  runs_merge is = merged q.places s.runs v.runs s.runs_are is
+
   pub takes_merge : v.takes ≡ joined lists → Merges lists (map item_of (take q.taken q.places))
-  takes_merge is = (
-    map items_in (map entry_of s.takes),
-    interleaves_map items_in (map entry_of s.takes) lists (interleaved q.first s.takes lists s.takes_adjacent s.takes_solid (subst (λ (z : List Batch). ListedOnce s.takes (z ∷ [])) is s.takes_filed) ups),
-    items_flat s.takes ∙ ap (map item_of) s.takes_flat,
-  )
+  takes_merge is = merged (take q.taken q.places) s.takes v.takes s.takes_are is

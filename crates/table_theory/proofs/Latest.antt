@@ -1,17 +1,8 @@
 -- Of two ends that have seen beginnings of one order, the later has seen what the other had.
-use Rattle.std.proofs.Common.{◌≡◌, ℕ, ◌≤◌, Bool, true, false, List, [], ◌∷◌, ◌++◌, length, sym, refl, ap, ◌∙◌, subst, arith}
-use Rattle.std.specs.Prelude.{if◌then◌else◌, nat_lt}
-use Rattle.std.proofs.lemmas.Bool.{ltb-true}
-use Rattle.std.specs.List.{AllByRecursion}
-use mathlib.Core.Option.{some}
-use lib.ListN.{get_elem?}
-use Rattle.table_theory.specs.declared.views.Moment.{Moment}
-use Rattle.table_theory.specs.declared.views.Ledger.{Ledger}
-use Rattle.table_theory.specs.Courses.{Continues}
-use Rattle.table_theory.specs.Ends.{Begins}
-use Rattle.table_theory.specs.Ledgers.{Subject, Step, IsReal, Reaches, AreTrue, opened, both}
-use Rattle.table_theory.proofs.Ledgers.{steps_to}
-use Rattle.table_theory.proofs.Reaching.{all_before, all_behind, continues_behind, reaches_here}
+use Rattle.table_theory.proofs.Common.{◌≡◌, ℕ, ◌≤◌, Bool, true, false, List, [], ◌∷◌, ◌++◌, length, sym, refl, ap, ◌∙◌, arith, if◌then◌else◌, nat_lt, ltb-true, some, get_elem?, Moment, Ledger, Begins, Subject, Reaches, AreTrue, both}
+use Rattle.table_theory.proofs.Ledgers.{order_of}
+use Rattle.table_theory.proofs.Orders.{order_true}
+use Rattle.table_theory.proofs.Reaching.{reaches_here, reaches_led}
 
 module _ {E : Type 0} where
   abbrev head_or : E → List E → E
@@ -31,12 +22,8 @@ module _ {E : Type 0} where
 module _ {K O : Type 0} (T : Subject O) (nothing : K) (plus : K → K → K) where
   -- real steps lead from what the shorter has seen to what the longer has
   longer_leads : (first : O) (now : Moment O) (vs : List (Ledger K O)) (j k : ℕ) (v u : Ledger K O) → AreTrue T nothing first now vs → get_elem? vs j ≡ some v → get_elem? vs k ≡ some u → length v.course ≤ length u.course → Reaches T v.seen u.seen
-  longer_leads first now vs j k v u t at at' h = let a : Begins v.course (steps_to t) = t.course.seen j v at in let b : Begins u.course (steps_to t) = t.course.seen k u at' in let d : Begins v.course u.course = shorter v.course u.course a.0 b.0 (a.1 ∙ sym b.1) h in
-      let all : AllByRecursion (IsReal T) u.course = all_before (IsReal T) u.course b.0 (subst (AllByRecursion (IsReal T)) (sym b.1) t.real) in record {
-        steps = d.0;
-        leads = continues_behind (opened first) v.seen u.seen v.course d.0 (t.seen j v at) (subst (λ (z : List (Step O)). Continues (opened first) z u.seen) (sym d.1) (t.seen k u at'));
-        real = all_behind (IsReal T) v.course d.0 (subst (AllByRecursion (IsReal T)) (sym d.1) all);
-      }
+  longer_leads first now vs j k v u t at at' h = let a = t.course.seen j v at in let b = t.course.seen k u at' in
+      reaches_led T v u (order_true T first now vs j v (order_of t) at).leads (order_true T first now vs k u (order_of t) at') (t.first_is k u at' ∙ sym (t.first_is j v at)) (shorter v.course u.course a.0 b.0 (a.1 ∙ sym b.1) h)
 
   picked : (b : Bool) (m n : Moment O) → Reaches T m m → (b ≡ true → Reaches T m n) → Reaches T m (if b then n else m)
   picked true m n here there = there refl

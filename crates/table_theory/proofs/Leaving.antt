@@ -1,7 +1,5 @@
 -- The items of places that are claimed, or written to.
-use Rattle.std.proofs.Common.{◌≡◌, ℕ, zero, suc, List, [], ◌∷◌, map, get_or, set, refl, ap}
-use Rattle.table_theory.specs.declared.queues.Cell.{Cell}
-use Rattle.table_theory.specs.Positioned.{blank, fresh, item_of}
+use Rattle.table_theory.proofs.Common.{◌≡◌, ℕ, zero, suc, List, [], ◌∷◌, map, get_or, set, refl, ap, Cell, blank, fresh, item_of}
 
 pub fresh_items : (xs : List ℕ) → map item_of (map fresh xs) ≡ xs
 fresh_items [] = refl

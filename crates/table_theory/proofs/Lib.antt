@@ -19,6 +19,10 @@ pub mod QueueEvents
 pub mod QueueOf
 pub mod Reading
 pub mod Reaching
+pub mod Saying
 pub mod Standing
+pub mod Stepping
+pub mod Tables
 pub mod Totals
 pub mod Windows
+pub mod Common

@@ -1,14 +1,6 @@
 -- A log of stretches, each of which starts where the one before it ends.
-use Rattle.std.proofs.Common.{◌≡◌, ℕ, suc, zero, ◌+◌, ◌<◌, ◌≤◌, Bool, true, false, List, [], ◌∷◌, ◌++◌, map, length, get_or, set, sym, refl, ap, ◌∙◌, subst, eqb, arith, length-append, length-set}
-use Rattle.std.proofs.lemmas.List.{append-nil, append_assoc, get_or_append_left, get_or-append-add, set-append_left}
-use mathlib.Core.Option.{some, some-injective, some-ne-none}
-use lib.ListN.{get_elem?}
-use Rattle.std.specs.Prelude.{if◌then◌else◌}
-use Rattle.table_theory.specs.declared.queues.Cell.{Cell}
-use Rattle.table_theory.specs.declared.queues.Batch.{Batch}
-use Rattle.table_theory.specs.Positioned.{blank}
-use Rattle.table_theory.specs.Filing.{Owned, moved, sole}
-use Rattle.table_theory.specs.Listing.{all_places, Adjacent}
+use Rattle.table_theory.proofs.Common.{◌≡◌, ℕ, suc, zero, ◌+◌, ◌<◌, ◌≤◌, Bool, true, false, List, [], ◌∷◌, ◌++◌, map, length, get_or, set, sym, refl, ap, ◌∙◌, subst, eqb, arith, length-append, length-set, append-nil, append_assoc, get_or_append_left, some, some-injective, some-ne-none, get_elem?, if◌then◌else◌, Cell, Batch, blank, Owned, moved, all_places, Adjacent}
+use Rattle.std.proofs.lemmas.List.{get_or-append-add, set-append_left}
 
 abbrev Log : Type 0
 Log = List (Owned Batch)
@@ -61,16 +53,17 @@ if_same a b e false = refl
 pub moved_entry : (c d n : ℕ) (o : Owned Batch) → (moved c d n o).2 ≡ o.2
 moved_entry c d n o = let to : Owned Batch = (c, n + o.1, o.2) in if_same to o refl (eqb o.0 d)
 
-pub flat_moved : (c d n : ℕ) (log : Log) → all_places (map (moved c d n) log) ≡ all_places log
-flat_moved c d n [] = refl
-flat_moved c d n (o ∷ os) = λ k. (moved_entry c d n o k).places ++ flat_moved c d n os k
+module _ (g : Owned Batch → Owned Batch) (same : (o : Owned Batch) → (g o).2 ≡ o.2) where
+  pub flat_kept : (log : Log) → all_places (map g log) ≡ all_places log
+  flat_kept [] = refl
+  flat_kept (o ∷ os) = λ k. (same o k).places ++ flat_kept os k
 
-pub adjacent_moved : (c d n p : ℕ) (log : Log) → Adjacent p log → Adjacent p (map (moved c d n) log)
-adjacent_moved c d n p [] h = tt
-adjacent_moved c d n p (o ∷ os) h = subst (λ (z : Batch). (z.start ≡ p) × Adjacent (p + length z.places) (map (moved c d n) os)) (sym (moved_entry c d n o)) (h.0, adjacent_moved c d n (p + length o.2.places) os h.1)
+  pub adjacent_kept : (p : ℕ) (log : Log) → Adjacent p log → Adjacent p (map g log)
+  adjacent_kept p [] h = tt
+  adjacent_kept p (o ∷ os) h = subst (λ (z : Batch). (z.start ≡ p) × Adjacent (p + length z.places) (map g os)) (sym (same o)) (h.0, adjacent_kept (p + length o.2.places) os h.1)
 
 -- a stretch behind others starts no earlier than they end
-starts_past : (p : ℕ) (log : Log) (k : ℕ) (o : Owned Batch) → Adjacent p log → get_elem? log k ≡ some o → p ≤ o.2.start
+pub starts_past : (p : ℕ) (log : Log) (k : ℕ) (o : Owned Batch) → Adjacent p log → get_elem? log k ≡ some o → p ≤ o.2.start
 starts_past p log k o c e = let s = lies p log k o c e in let st = s.start in omega arith
 
 pub one_start : (p : ℕ) (log : Log) (k j : ℕ) (o r : Owned Batch) → Adjacent p log → ((i : ℕ) (x : Owned Batch) → get_elem? log i ≡ some x → 0 < length x.2.places) → get_elem? log k ≡ some o → get_elem? log j ≡ some r → o.2.start ≡ r.2.start → k ≡ j
@@ -79,11 +72,3 @@ one_start p (y ∷ ys) zero zero o r c solid e d is = refl
 one_start p (y ∷ ys) zero (suc j) o r c solid e d is = let past = starts_past (p + length y.2.places) ys j r c.1 d in let long = solid 0 y refl in let same : y.2.start ≡ o.2.start = ap (λ (z : Owned Batch). z.2.start) (some-injective y o e) in let first = c.0 in absurd (omega arith)
 one_start p (y ∷ ys) (suc k) zero o r c solid e d is = let past = starts_past (p + length y.2.places) ys k o c.1 e in let long = solid 0 y refl in let same : y.2.start ≡ r.2.start = ap (λ (z : Owned Batch). z.2.start) (some-injective y r d) in let first = c.0 in absurd (omega arith)
 one_start p (y ∷ ys) (suc k) (suc j) o r c solid e d is = ap suc (one_start (p + length y.2.places) ys k j o r c.1 (λ i x at. solid (suc i) x at) e d is)
-
-pub flat_sole : (log : Log) → all_places (map sole log) ≡ all_places log
-flat_sole [] = refl
-flat_sole (o ∷ os) = ap (λ (z : List Cell). o.2.places ++ z) (flat_sole os)
-
-pub adjacent_sole : (p : ℕ) (log : Log) → Adjacent p log → Adjacent p (map sole log)
-adjacent_sole p [] h = tt
-adjacent_sole p (o ∷ os) h = (h.0, adjacent_sole (p + length o.2.places) os h.1)

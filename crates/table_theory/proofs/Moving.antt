@@ -1,20 +1,9 @@
 -- An end can go on as a new one: the old one is then spent.
-use Rattle.std.proofs.Common.{◌≡◌, ◌≢◌, ⊎_elim, ℕ, zero, suc, ◌<◌, ◌≤◌, Bool, true, false, List, [], ◌∷◌, ◌++◌, map, length, set, sym, refl, ap, ◌∙◌, subst, arith}
-use Rattle.std.specs.Prelude.{if◌then◌else◌, nat_lt}
-use Rattle.std.specs.List.{AllByRecursion}
-use mathlib.Core.Option.{some}
-use lib.ListN.{get_elem?}
-use Rattle.atomic_table.proofs.Lists.{at_set, set_again, at_last, at_longer}
-use Rattle.table_theory.specs.declared.views.Moment.{Moment}
-use Rattle.table_theory.specs.declared.views.Ledger.{Ledger}
-use Rattle.table_theory.specs.Courses.{Continues, IsCourse}
-use Rattle.table_theory.specs.Ends.{Begins, later_of}
-use Rattle.table_theory.specs.Filing.{entry_of}
-use Rattle.table_theory.specs.Ledgers.{Subject, Step, IsReal, IsIdle, EndsStand, AreTrue, opened, emptied}
-use Rattle.table_theory.specs.Sharing.{total}
-use Rattle.table_theory.proofs.Courses.{course_split, course_join, split_entries, join_entries}
-use Rattle.table_theory.proofs.Ledgers.{steps_to}
-use Rattle.table_theory.proofs.Owned.{at_push, at_below}
+use Rattle.table_theory.proofs.Common.{◌≡◌, ℕ, zero, suc, ◌<◌, ◌≤◌, Bool, true, false, List, [], ◌∷◌, ◌++◌, map, length, set, sym, refl, ap, ◌∙◌, subst, arith, if◌then◌else◌, nat_lt, some, get_elem?, set_again, at_last, at_longer, Moment, Ledger, IsCourse, later_of, entry_of, Subject, Step, IsIdle, EndsStand, AreTrue, opened, emptied, total}
+use Rattle.table_theory.proofs.Courses.{Runs, course_split, course_join}
+use Rattle.table_theory.proofs.Orders.{IsIn, in_order, ordered}
+use Rattle.table_theory.proofs.Ledgers.{steps_to, order_of, with_ends}
+use Rattle.table_theory.proofs.Owned.{all_set, all_push, at_below}
 use Rattle.table_theory.proofs.Totals.{total_set, total_push}
 
 -- a new entry takes the place of an old one
@@ -39,7 +28,7 @@ module _ {K O : Type 0} (T : Subject O) (nothing : K) where
   V = Ledger K O
 
   all_moved : (P : V → Type 0) (vs : List V) (j : ℕ) (v e : V) → ((i : ℕ) (u : V) → get_elem? vs i ≡ some u → P u) → P e → P v → (i : ℕ) (u : V) → get_elem? (set vs j e ++ v ∷ []) i ≡ some u → P u
-  all_moved P vs j v e old spent mine i u has = ⊎_elim (λ a. ⊎_elim (λ t. subst P t.1 spent) (λ t. old i u t.1) (at_set vs j i e u a)) (λ t. subst P t.1 mine) (at_push (set vs j e) v u i has)
+  all_moved P vs j v e old spent mine = all_push P (set vs j e) v (all_set P vs j e old spent) mine
 
   total_moved : (f : V → ℕ) (vs : List V) (j : ℕ) (v e : V) → get_elem? vs j ≡ some v → f e ≡ 0 → total f (set vs j e ++ v ∷ []) ≡ total f vs
   total_moved f vs j v e at none = let t = total_set f vs j v e at in let p = total_push f (set vs j e) v in omega arith
@@ -61,30 +50,13 @@ module _ {K O : Type 0} (T : Subject O) (nothing : K) where
   abbrev course_of : V → List (Step O)
   course_of v = v.course
 
-  -- the ends' steps are these, in this order
-  abbrev Runs : O → Moment O → List (Step O) → List V → Type 0
-  Runs first now steps vs = (c : IsCourse steps_of course_of (opened first) now vs) × (map entry_of c.course ≡ steps)
-
-  course_moved : (first : O) (now : Moment O) (vs : List V) (j : ℕ) (v : V) → get_elem? vs j ≡ some v → (c : IsCourse steps_of course_of (opened first) now vs) → Runs first now (map entry_of c.course) (set vs j (emptied nothing v) ++ v ∷ [])
-  course_moved first now vs j v at c = let e : V = emptied nothing v in let o : Moment O = opened first in let all : List (Step O) = map entry_of c.course in let n : ℕ = length vs in let more : List V = vs ++ e ∷ [] in let below : j < n = at_below vs j v at in
-      let split : Runs first now all (set vs j v ++ e ∷ []) = (course_split steps_of course_of o now vs j v v e c at refl refl refl refl, split_entries steps_of course_of o now vs j v v e c at refl refl refl refl) in
-      let longer : Runs first now all more = subst (λ (z : List V). Runs first now all (z ++ e ∷ [])) (set_again vs j v at) split in
-      let last_at : get_elem? more n ≡ some e = at_last vs e n refl in let old_at : get_elem? more j ≡ some v = at_longer vs (e ∷ []) j v at in let ne : j ≢ n = λ z. omega arith in
-      let joined : Runs first now all (set (set more n v) j e) = (
-        course_join steps_of course_of o now more n j e v v e longer.0 last_at old_at ne refl (later_same v.course) refl refl,
-        join_entries steps_of course_of o now more n j e v v e longer.0 last_at old_at ne refl (later_same v.course) refl refl ∙ longer.1,
-      ) in
-      subst (Runs first now all) (in_place vs e v e j below) joined
+  course_moved : (first : O) (now : Moment O) (vs : List V) (j : ℕ) (v : V) → get_elem? vs j ≡ some v → (c : IsCourse steps_of course_of (opened first) now vs) → Runs steps_of course_of (opened first) now (map entry_of c.course) (set vs j (emptied nothing v) ++ v ∷ [])
+  course_moved first now vs j v at c = let e : V = emptied nothing v in let o : Moment O = opened first in let all : List (Step O) = map entry_of c.course in let n : ℕ = length vs in let below : j < n = at_below vs j v at in
+      let longer : Runs steps_of course_of o now all (vs ++ e ∷ []) = subst (λ (z : List V). Runs steps_of course_of o now all (z ++ e ∷ [])) (set_again vs j v at) (course_split steps_of course_of o now vs j v v e c at refl refl refl refl) in
+      let joined = course_join steps_of course_of o now (vs ++ e ∷ []) n j e v v e longer.0 (at_last vs e n refl) (at_longer vs (e ∷ []) j v at) (λ z. omega arith) refl (later_same v.course) refl refl in
+      subst (Runs steps_of course_of o now all) (in_place vs e v e j below) (joined.0, joined.1 ∙ longer.1)
 
   -- the ledgers stay true
   pub true_moved : (first : O) (now : Moment O) (vs : List V) (j : ℕ) (v : V) → AreTrue T nothing first now vs → get_elem? vs j ≡ some v → AreTrue T nothing first now (set vs j (emptied nothing v) ++ v ∷ [])
-  true_moved first now vs j v t at = let e : V = emptied nothing v in let c = course_moved first now vs j v at t.course in record {
-    ends = stand_moved now.ends vs j v t.ends at;
-    course = c.0;
-    real = subst (AllByRecursion (IsReal T)) (sym c.1) t.real;
-    first_is = all_moved (λ z. z.first ≡ first) vs j v e t.first_is (t.first_is j v at) (t.first_is j v at);
-    seen = all_moved (λ z. Continues (opened first) z.course z.seen) vs j v e t.seen (t.seen j v at) (t.seen j v at);
-    joined = subst (λ (x : List (Step O)). (i : ℕ) (u : V) → get_elem? (set vs j e ++ v ∷ []) i ≡ some u → Begins u.joined x) (sym c.1)
-        (all_moved (λ z. Begins z.joined (steps_to t)) vs j v e t.joined (t.joined j v at) (t.joined j v at));
-    joined_first = all_moved (λ z. z.joined_first ≡ first) vs j v e t.joined_first (t.joined_first j v at) (t.joined_first j v at);
-  }
+  true_moved first now vs j v t at = let e : V = emptied nothing v in let old = order_of t in let mine = in_order T old j v at in
+      with_ends (ordered T first now (steps_to t) (set vs j e ++ v ∷ []) (course_moved first now vs j v at t.course) t.real (all_moved (IsIn T first (steps_to t)) vs j v e (in_order T old) mine mine)) (stand_moved now.ends vs j v t.ends at)

@@ -1,12 +1,5 @@
 -- The laws of a log and its lists: an entry comes, an entry changes, an owner comes, and an owner takes another's entries.
-use Rattle.std.proofs.Common.{◌≡◌, ℕ, suc, zero, ◌+◌, ◌<◌, ◌≢◌, ◌⊎◌, inl, inr, ⊎_elim, Bool, eq-eqb, ne_eqb, List, [], ◌∷◌, ◌++◌, map, length, set, sym, refl, ap, ◌∙◌, subst, arith}
-use mathlib.Core.Option.{some, some-injective, some-ne-none}
-use mathlib.Core.Logic.{dite}
-use native.Mathlib.Decide.{ℕ_discrete}
-use lib.ListN.{get_elem?}
-use Rattle.std.specs.Prelude.{if◌then◌else◌}
-use Rattle.atomic_table.proofs.Lists.{at_set, set_here, set_else, at_longer, at_last, at_map}
-use Rattle.table_theory.specs.Filing.{Owned, ListedOnce, moved, sole}
+use Rattle.table_theory.proofs.Common.{◌≡◌, ℕ, suc, zero, ◌+◌, ◌<◌, ◌≢◌, ◌⊎◌, inl, inr, ⊎_elim, Bool, eq-eqb, ne_eqb, List, [], ◌∷◌, ◌++◌, map, length, set, sym, refl, ap, ◌∙◌, subst, arith, some, some-injective, some-ne-none, dite, ℕ_discrete, get_elem?, if◌then◌else◌, at_set, set_here, set_else, at_longer, at_last, at_map, Owned, ListedOnce, moved, sole}
 
 module _ {A : Type 0} where
   -- at_snoc, with the place
@@ -38,9 +31,17 @@ module _ {A : Type 0} where
   at_map_back f (x ∷ xs) zero b e = (x, refl, some-injective (f x) b e)
   at_map_back f (x ∷ xs) (suc i) b e = at_map_back f xs i b e
 
-nothing : {E : Type 0} (c : ℕ) (l : List E) (m : ℕ) (e : E) → get_elem? {A = List E} ([] ∷ []) c ≡ some l → get_elem? l m ≡ some e → ⊥
-nothing zero l m e has is = some-ne-none e (sym (subst (λ z. get_elem? z m ≡ some e) (sym (some-injective [] l has)) is))
-nothing (suc c) l m e has is = some-ne-none l (sym has)
+-- what holds of each entry of a list
+module _ {A : Type 0} (P : A → Type 0) where
+  pub all_set : (l : List A) (j : ℕ) (b : A) → ((i : ℕ) (a : A) → get_elem? l i ≡ some a → P a) → P b → (i : ℕ) (a : A) → get_elem? (set l j b) i ≡ some a → P a
+  all_set l j b old new i a at = ⊎_elim (λ t. subst P t.1 new) (λ t. old i a t.1) (at_set l j i b a at)
+
+  pub all_push : (l : List A) (b : A) → ((i : ℕ) (a : A) → get_elem? l i ≡ some a → P a) → P b → (i : ℕ) (a : A) → get_elem? (l ++ b ∷ []) i ≡ some a → P a
+  all_push l b old new i a at = ⊎_elim (λ t. old i a t) (λ t. subst P t.1 new) (at_push l b a i at)
+
+  pub all_one : (b : A) → P b → (i : ℕ) (a : A) → get_elem? (b ∷ []) i ≡ some a → P a
+  all_one b new zero a at = subst P (some-injective b a at) new
+  all_one b new (suc i) a at = absurd (some-ne-none a (sym at))
 
 module _ {E : Type 0} where
   pub moved_hit : (c d n : ℕ) (o : Owned E) → o.0 ≡ d → ◌≡◌ {A = Owned E} (moved c d n o) (c, n + o.1, o.2)
@@ -49,12 +50,21 @@ module _ {E : Type 0} where
   pub moved_miss : (c d n : ℕ) (o : Owned E) → o.0 ≢ d → ◌≡◌ {A = Owned E} (moved c d n o) o
   moved_miss c d n o e = let to : Owned E = (c, n + o.1, o.2) in ap (λ (b : Bool). if b then to else o) (ne_eqb o.0 d e)
 
-  abbrev Stands : List (List E) → Owned E → Type 0
+  -- the entry stands in the list of its owner
+  abbrev pub Stands : List (List E) → Owned E → Type 0
   Stands lists o = (l : List E) × (get_elem? lists o.0 ≡ some l) × (get_elem? l o.1 ≡ some o.2)
+
+  -- which is this one
+  its : (lists : List (List E)) (c : ℕ) (l : List E) → get_elem? lists c ≡ some l → (o : Owned E) → Stands lists o → o.0 ≡ c → get_elem? l o.1 ≡ some o.2
+  its lists c l at o s own = subst (λ (z : List E). get_elem? z o.1 ≡ some o.2) (one_at lists c s.0 l (subst (λ (z : ℕ). get_elem? lists z ≡ some s.0) own s.1) at) s.2
+
+  only_at : (l k : List E) (d : ℕ) → get_elem? (l ∷ []) d ≡ some k → (d ≡ 0) × (k ≡ l)
+  only_at l k zero at = (refl, sym (some-injective l k at))
+  only_at l k (suc d) at = absurd (some-ne-none k (sym at))
 
   pub file_first : ListedOnce {E = E} [] ([] ∷ [])
   file_first = record {
-    listed = λ c l m e has is. absurd (nothing c l m e has is);
+    listed = λ c l m e has is. absurd (some-ne-none e (sym (subst (λ (z : List E). get_elem? z m ≡ some e) (only_at [] l c has).1 is)));
     stands = λ k o has. absurd (some-ne-none o (sym has));
     once = λ k j o p has is own num. absurd (some-ne-none o (sym has));
   }
@@ -63,9 +73,7 @@ module _ {E : Type 0} where
       → ListedOnce (log ++ (c, length l, e) ∷ []) (set lists c (l ++ e ∷ []))
   file_push log lists c l e f at =
       let o : Owned E = (c, length l, e) in
-      let fresh : (k : ℕ) (p : Owned E) → get_elem? log k ≡ some p → p.0 ≡ c → p.1 ≡ length l → ⊥ = λ k p has own num.
-      let s = f.stands k p has in let same : s.0 ≡ l = one_at lists c s.0 l (subst (λ (z : ℕ). get_elem? lists z ≡ some s.0) own s.1) at in
-      let below : p.1 < length s.0 = at_below s.0 p.1 p.2 s.2 in let long : length s.0 ≡ length l = ap length same in omega arith in
+      let fresh : (k : ℕ) (p : Owned E) → get_elem? log k ≡ some p → p.0 ≡ c → p.1 ≡ length l → ⊥ = λ k p has own num. (let below = at_below l p.1 p.2 (its lists c l at p (f.stands k p has) own) in omega arith) in
       record {
         listed = λ d m i x has is. ⊎_elim
             (λ t. ⊎_elim
@@ -76,11 +84,7 @@ module _ {E : Type 0} where
             (at_set lists c d (l ++ e ∷ []) m has);
         stands = λ k p has. ⊎_elim
             (λ old. let s = f.stands k p old in dite (ℕ_discrete p.0 c)
-            (λ own. let same : s.0 ≡ l = one_at lists c s.0 l (subst (λ (z : ℕ). get_elem? lists z ≡ some s.0) own s.1) at in (
-              l ++ e ∷ [],
-              subst (λ (z : ℕ). get_elem? (set lists c (l ++ e ∷ [])) z ≡ some (l ++ e ∷ [])) (sym own) (set_here lists c (l ++ e ∷ []) (at_below lists c l at)),
-              at_longer l (e ∷ []) p.1 p.2 (subst (λ (z : List E). get_elem? z p.1 ≡ some p.2) same s.2),
-            ))
+            (λ own. (l ++ e ∷ [], subst (λ (z : ℕ). get_elem? (set lists c (l ++ e ∷ [])) z ≡ some (l ++ e ∷ [])) (sym own) (set_here lists c (l ++ e ∷ []) (at_below lists c l at)), at_longer l (e ∷ []) p.1 p.2 (its lists c l at p s own)))
             (λ other. (s.0, set_else lists c p.0 (l ++ e ∷ []) other ∙ s.1, s.2)))
             (λ new. subst (Stands (set lists c (l ++ e ∷ []))) new.1 (l ++ e ∷ [], set_here lists c (l ++ e ∷ []) (at_below lists c l at), at_last l e (length l) refl))
             (at_push log o p k has);
@@ -100,8 +104,7 @@ module _ {E : Type 0} where
   pub file_set : (log : List (Owned E)) (lists : List (List E)) (c m k : ℕ) (l : List E) (e e' : E) → ListedOnce log lists → get_elem? lists c ≡ some l → get_elem? log k ≡ some (c, m, e)
       → ListedOnce (set log k (c, m, e')) (set lists c (set l m e'))
   file_set log lists c m k l e e' f at in_log =
-      let o : Owned E = (c, m, e) in let o' : Owned E = (c, m, e') in let s = f.stands k o in_log in let mine : s.0 ≡ l = one_at lists c s.0 l s.1 at in
-      let in_list : get_elem? l m ≡ some e = subst (λ (z : List E). get_elem? z m ≡ some e) mine s.2 in
+      let o : Owned E = (c, m, e) in let o' : Owned E = (c, m, e') in let in_list = its lists c l at o (f.stands k o in_log) refl in
       let l' : List E = set l m e' in let lists' : List (List E) = set lists c l' in let here = set_here lists c l' (at_below lists c l at) in
       record {
         listed = λ d n i x has is. ⊎_elim
@@ -116,8 +119,7 @@ module _ {E : Type 0} where
         stands = λ j p has. ⊎_elim
             (λ t. subst (Stands lists') t.1 (l', here, set_here l m e' (at_below l m e in_list)))
             (λ t. let q = f.stands j p t.1 in dite (ℕ_discrete p.0 c)
-            (λ own. let same : q.0 ≡ l = one_at lists c q.0 l (subst (λ (z : ℕ). get_elem? lists z ≡ some q.0) own q.1) at in let apart : p.1 ≢ m = λ z. t.0 (f.once j k p o t.1 in_log own z) in
-            (l', subst (λ (z : ℕ). get_elem? lists' z ≡ some l') (sym own) here, set_else l m p.1 e' apart ∙ subst (λ (z : List E). get_elem? z p.1 ≡ some p.2) same q.2))
+            (λ own. (l', subst (λ (z : ℕ). get_elem? lists' z ≡ some l') (sym own) here, set_else l m p.1 e' (λ z. t.0 (f.once j k p o t.1 in_log own z)) ∙ its lists c l at p q own))
             (λ other. (q.0, set_else lists c p.0 l' other ∙ q.1, q.2)))
             (at_set log k j o' p has);
         once = λ i j p r has is own num. ⊎_elim
@@ -138,69 +140,57 @@ module _ {E : Type 0} where
     once = f.once;
   }
 
+-- A log of what becomes of each entry: where the lists then have what becomes of theirs, and nothing else, and no two at
+-- one place
+pub file_by : {E F : Type 0} (g : Owned E → Owned F) (log : List (Owned E)) (lists : List (List E)) (new : List (List F)) → ListedOnce log lists → ((o : Owned E) → Stands lists o → Stands new (g o)) → ((o : Owned F) → Stands new o → (p : Owned E) × Stands lists p × (g p ≡ o))
+    → ((o p : Owned E) → Stands lists o → Stands lists p → (g o).0 ≡ (g p).0 → (g o).1 ≡ (g p).1 → (o.0 ≡ p.0) × (o.1 ≡ p.1)) → ListedOnce (map g log) new
+file_by {E} {F} g log lists new f to from one = record {
+  listed = λ c l m e has is. let b = from (c, m, e) (l, has, is) in let r = f.listed b.0.0 b.1.0 b.0.1 b.0.2 b.1.1 b.1.2 in (r.0, at_map g log r.0 b.0 r.1 ∙ ap some b.2);
+  stands = λ k o has. let b = at_map_back g log k o has in subst (Stands new) b.2 (to b.0 (f.stands k b.0 b.1));
+  once = λ k j o p has is own num. let a = at_map_back g log k o has in let b = at_map_back g log j p is in
+      let i = one a.0 b.0 (f.stands k a.0 a.1) (f.stands j b.0 b.1) (ap (λ (z : Owned F). z.0) a.2 ∙ own ∙ ap (λ (z : Owned F). z.0) (sym b.2)) (ap (λ (z : Owned F). z.1) a.2 ∙ num ∙ ap (λ (z : Owned F). z.1) (sym b.2)) in f.once k j a.0 b.0 a.1 b.1 i.0 i.1;
+}
+
+module _ {E : Type 0} where
   -- the entries of d go to c
   pub file_join : (log : List (Owned E)) (lists : List (List E)) (c d : ℕ) (a b : List E) → ListedOnce log lists → get_elem? lists c ≡ some a → get_elem? lists d ≡ some b → d ≢ c
       → ListedOnce (map (moved c d (length a)) log) (set (set lists c (a ++ b)) d [])
   file_join log lists c d a b f at_c at_d apart =
       let n : ℕ = length a in let to : Owned E → Owned E = moved c d n in let mid : List (List E) = set lists c (a ++ b) in let lists' : List (List E) = set mid d [] in
       let here : get_elem? lists' c ≡ some (a ++ b) = set_else mid d c [] (λ e. apart (sym e)) ∙ set_here lists c (a ++ b) (at_below lists c a at_c) in
-      let a_of : (k : ℕ) (o : Owned E) → get_elem? log k ≡ some o → o.0 ≡ c → get_elem? a o.1 ≡ some o.2 = λ k o has own. let s = f.stands k o has in
-      subst (λ (z : List E). get_elem? z o.1 ≡ some o.2) (one_at lists c s.0 a (subst (λ (z : ℕ). get_elem? lists z ≡ some s.0) own s.1) at_c) s.2 in
-      let b_of : (k : ℕ) (o : Owned E) → get_elem? log k ≡ some o → o.0 ≡ d → get_elem? b o.1 ≡ some o.2 = λ k o has own. let s = f.stands k o has in
-      subst (λ (z : List E). get_elem? z o.1 ≡ some o.2) (one_at lists d s.0 b (subst (λ (z : ℕ). get_elem? lists z ≡ some s.0) own s.1) at_d) s.2 in
-      record {
-        listed = λ e l m x has is. ⊎_elim
-            (λ t. absurd (some-ne-none x (sym (subst (λ (z : List E). get_elem? z m ≡ some x) (sym t.1) is))))
-            (λ t. ⊎_elim
-            (λ u. ⊎_elim
-            (λ left. let r = f.listed c a m x at_c left in (r.0, at_map to log r.0 (c, m, x) r.1 ∙ (ap some (moved_miss c d n (c, m, x) (λ z. apart (sym z))) ∙ (λ z. some (sym u.0 z, m, x)))))
-            (λ right. let r = f.listed d b right.0 x at_d right.2 in (r.0, at_map to log r.0 (d, right.0, x) r.1 ∙ (ap some (moved_hit c d n (d, right.0, x) refl) ∙ (λ z. some (sym u.0 z, sym right.1 z, x)))))
-            (at_joined a b m x (subst (λ (z : List E). get_elem? z m ≡ some x) (sym u.1) is)))
-            (λ u. let r = f.listed e l m x u.1 is in (r.0, at_map to log r.0 (e, m, x) r.1 ∙ ap some (moved_miss c d n (e, m, x) t.0)))
-            (at_set lists c e (a ++ b) l t.1))
-            (at_set mid d e [] l has);
-        stands = λ k p has. let back = at_map_back to log k p has in let o : Owned E = back.0 in dite (ℕ_discrete o.0 d)
-            (λ own. subst (Stands lists') (sym (moved_hit c d n o own) ∙ back.2) (a ++ b, here, at_behind a b o.1 o.2 (b_of k o back.1 own)))
-            (λ other. subst (Stands lists') (sym (moved_miss c d n o other) ∙ back.2) (dite (ℕ_discrete o.0 c)
-            (λ own. (a ++ b, subst (λ (z : ℕ). get_elem? lists' z ≡ some (a ++ b)) (sym own) here, at_longer a b o.1 o.2 (a_of k o back.1 own)))
-            (λ ne. let s = f.stands k o back.1 in (s.0, set_else mid d o.0 [] other ∙ (set_else lists c o.0 (a ++ b) ne ∙ s.1), s.2))));
-        once = λ k j p r has is own num. let x = at_map_back to log k p has in let y = at_map_back to log j r is in
-            let clash : (i h : ℕ) (u v : Owned E) → get_elem? log i ≡ some u → get_elem? log h ≡ some v → u.0 ≡ d → v.0 ≢ d → (to u).0 ≡ (to v).0 → (to u).1 ≡ (to v).1 → ⊥ = λ i h u v hu hv du dv same0 same1.
-            let hit = moved_hit c d n u du in let miss = moved_miss c d n v dv in
-            let own' : v.0 ≡ c = sym (ap (λ (z : Owned E). z.0) (sym hit) ∙ same0 ∙ ap (λ (z : Owned E). z.0) miss) in
-            let num' : n + u.1 ≡ v.1 = ap (λ (z : Owned E). z.1) (sym hit) ∙ same1 ∙ ap (λ (z : Owned E). z.1) miss in
-            let below : v.1 < length a = at_below a v.1 v.2 (a_of h v hv own') in omega arith in
-            let own' : (to x.0).0 ≡ (to y.0).0 = ap (λ (z : Owned E). z.0) x.2 ∙ own ∙ ap (λ (z : Owned E). z.0) (sym y.2) in
-            let num' : (to x.0).1 ≡ (to y.0).1 = ap (λ (z : Owned E). z.1) x.2 ∙ num ∙ ap (λ (z : Owned E). z.1) (sym y.2) in
-            dite (ℕ_discrete x.0.0 d)
-            (λ dx. dite (ℕ_discrete y.0.0 d)
-            (λ dy. let e : n + x.0.1 ≡ n + y.0.1 = ap (λ (z : Owned E). z.1) (sym (moved_hit c d n x.0 dx)) ∙ num' ∙ ap (λ (z : Owned E). z.1) (moved_hit c d n y.0 dy) in
-            f.once k j x.0 y.0 x.1 y.1 (dx ∙ sym dy) (omega arith))
-            (λ ny. absurd (clash k j x.0 y.0 x.1 y.1 dx ny own' num')))
-            (λ nx. dite (ℕ_discrete y.0.0 d)
-            (λ dy. absurd (clash j k y.0 x.0 y.1 x.1 dy nx (sym own') (sym num')))
-            (λ ny. f.once k j x.0 y.0 x.1 y.1 (ap (λ (z : Owned E). z.0) (sym (moved_miss c d n x.0 nx)) ∙ own' ∙ ap (λ (z : Owned E). z.0) (moved_miss c d n y.0 ny))
-            (ap (λ (z : Owned E). z.1) (sym (moved_miss c d n x.0 nx)) ∙ num' ∙ ap (λ (z : Owned E). z.1) (moved_miss c d n y.0 ny))));
-      }
-
-  sole_listed : (log : List (Owned E)) (l : List E) (lists : List (List E)) → ((c : ℕ) (l : List E) (m : ℕ) (e : E) → get_elem? lists c ≡ some l → get_elem? l m ≡ some e → (k : ℕ) × (get_elem? log k ≡ some (c, m, e))) → (c : ℕ) → get_elem? lists c ≡ some l
-      → (d : ℕ) (k : List E) (m : ℕ) (e : E) → get_elem? (l ∷ []) d ≡ some k → get_elem? k m ≡ some e → (i : ℕ) × (get_elem? (map sole log) i ≡ some (d, m, e))
-  sole_listed log l lists f c at zero k m e has is = let r = f c l m e at (subst (λ (z : List E). get_elem? z m ≡ some e) (sym (some-injective l k has)) is) in (r.0, at_map sole log r.0 (c, m, e) r.1)
-  sole_listed log l lists f c at (suc d) k m e has is = absurd (some-ne-none k (sym has))
+      let clash : (u v : Owned E) → Stands lists u → Stands lists v → u.0 ≡ d → v.0 ≢ d → (to u).0 ≡ (to v).0 → (to u).1 ≡ (to v).1 → ⊥ = λ u v su sv du dv same0 same1.
+      (let hit = moved_hit c d n u du in let miss = moved_miss c d n v dv in let below = at_below a v.1 v.2 (its lists c a at_c v sv (sym (ap (λ (z : Owned E). z.0) (sym hit) ∙ same0 ∙ ap (λ (z : Owned E). z.0) miss))) in
+      let num : n + u.1 ≡ v.1 = ap (λ (z : Owned E). z.1) (sym hit) ∙ same1 ∙ ap (λ (z : Owned E). z.1) miss in omega arith) in
+      file_by to log lists lists' f
+      (λ o s. dite (ℕ_discrete o.0 d)
+      (λ own. subst (Stands lists') (sym (moved_hit c d n o own)) (a ++ b, here, at_behind a b o.1 o.2 (its lists d b at_d o s own)))
+      (λ other. subst (Stands lists') (sym (moved_miss c d n o other)) (dite (ℕ_discrete o.0 c)
+      (λ own. (a ++ b, subst (λ (z : ℕ). get_elem? lists' z ≡ some (a ++ b)) (sym own) here, at_longer a b o.1 o.2 (its lists c a at_c o s own)))
+      (λ ne. (s.0, set_else mid d o.0 [] other ∙ (set_else lists c o.0 (a ++ b) ne ∙ s.1), s.2)))))
+      (λ o s. ⊎_elim
+      (λ t. absurd (some-ne-none o.2 (sym (subst (λ (z : List E). get_elem? z o.1 ≡ some o.2) (sym t.1) s.2))))
+      (λ t. ⊎_elim
+      (λ u. ⊎_elim
+      (λ left. ((c, o.1, o.2), (a, at_c, left), moved_miss c d n (c, o.1, o.2) (λ z. apart (sym z)) ∙ (λ z. (sym u.0 z, o.1, o.2))))
+      (λ right. ((d, right.0, o.2), (b, at_d, right.2), moved_hit c d n (d, right.0, o.2) refl ∙ (λ z. (sym u.0 z, sym right.1 z, o.2))))
+      (at_joined a b o.1 o.2 (subst (λ (z : List E). get_elem? z o.1 ≡ some o.2) (sym u.1) s.2)))
+      (λ u. (o, (s.0, u.1, s.2), moved_miss c d n o t.0))
+      (at_set lists c o.0 (a ++ b) s.0 t.1))
+      (at_set mid d o.0 [] s.0 s.1))
+      (λ o p s r own num. dite (ℕ_discrete o.0 d)
+      (λ dx. dite (ℕ_discrete p.0 d)
+      (λ dy. (dx ∙ sym dy, (let e : n + o.1 ≡ n + p.1 = ap (λ (z : Owned E). z.1) (sym (moved_hit c d n o dx)) ∙ num ∙ ap (λ (z : Owned E). z.1) (moved_hit c d n p dy) in omega arith)))
+      (λ ny. absurd (clash o p s r dx ny own num)))
+      (λ nx. dite (ℕ_discrete p.0 d)
+      (λ dy. absurd (clash p o r s dy nx (sym own) (sym num)))
+      (λ ny. (ap (λ (z : Owned E). z.0) (sym (moved_miss c d n o nx)) ∙ own ∙ ap (λ (z : Owned E). z.0) (moved_miss c d n p ny), ap (λ (z : Owned E). z.1) (sym (moved_miss c d n o nx)) ∙ num ∙ ap (λ (z : Owned E). z.1) (moved_miss c d n p ny)))))
 
   -- all entries are those of one owner
-  pub file_sole : (log : List (Owned E)) (lists : List (List E)) (c : ℕ) (l : List E) → ListedOnce log lists → get_elem? lists c ≡ some l → ((d : ℕ) (k : List E) → get_elem? lists d ≡ some k → d ≢ c → k ≡ [])
-      → ListedOnce (map sole log) (l ∷ [])
+  pub file_sole : (log : List (Owned E)) (lists : List (List E)) (c : ℕ) (l : List E) → ListedOnce log lists → get_elem? lists c ≡ some l → ((d : ℕ) (k : List E) → get_elem? lists d ≡ some k → d ≢ c → k ≡ []) → ListedOnce (map sole log) (l ∷ [])
   file_sole log lists c l f at others =
-      let mine : (k : ℕ) (o : Owned E) → get_elem? log k ≡ some o → (o.0 ≡ c) × (get_elem? l o.1 ≡ some o.2) = λ k o has. let s = f.stands k o has in dite (ℕ_discrete o.0 c)
-      (λ own. (own, subst (λ (z : List E). get_elem? z o.1 ≡ some o.2) (one_at lists c s.0 l (subst (λ (z : ℕ). get_elem? lists z ≡ some s.0) own s.1) at) s.2))
-      (λ ne. absurd (some-ne-none o.2 (sym (subst (λ (z : List E). get_elem? z o.1 ≡ some o.2) (others o.0 s.0 s.1 ne) s.2)))) in
-      record {
-        listed = λ d k m e has is. sole_listed log l lists f.listed c at d k m e has is;
-        stands = λ k p has. let back = at_map_back sole log k p has in subst (Stands (l ∷ [])) back.2 (l, refl, (mine k back.0 back.1).1);
-        once = λ k j p r has is own num. let x = at_map_back sole log k p has in let y = at_map_back sole log j r is in
-            f.once k j x.0 y.0 x.1 y.1 ((mine k x.0 x.1).0 ∙ sym (mine j y.0 y.1).0) (ap (λ (z : Owned E). z.1) x.2 ∙ num ∙ ap (λ (z : Owned E). z.1) (sym y.2));
-      }
+      let mine : (o : Owned E) → Stands lists o → o.0 ≡ c = λ o s. dite (ℕ_discrete o.0 c) (λ own. own) (λ ne. absurd (some-ne-none o.2 (sym (subst (λ (z : List E). get_elem? z o.1 ≡ some o.2) (others o.0 s.0 s.1 ne) s.2)))) in
+      file_by sole log lists (l ∷ []) f (λ o s. (l, refl, its lists c l at o s (mine o s)))
+      (λ o s. let e = only_at l s.0 o.0 s.1 in ((c, o.1, o.2), (l, at, subst (λ (z : List E). get_elem? z o.1 ≡ some o.2) e.1 s.2), λ i. (sym e.0 i, o.1, o.2))) (λ o p s r own num. (mine o s ∙ sym (mine p r), num))
 
 -- a log of what is told of each entry
 module _ {E F : Type 0} (f : E → F) where
@@ -208,11 +198,6 @@ module _ {E F : Type 0} (f : E → F) where
   told o = (o.0, o.1, f o.2)
 
   pub file_map : (log : List (Owned E)) (lists : List (List E)) → ListedOnce log lists → ListedOnce (map told log) (map (map f) lists)
-  file_map log lists h = record {
-    listed = λ c l m e at_c at_m. let p = at_map_back (map f) lists c l at_c in let q = at_map_back f p.0 m e (subst (λ (z : List F). get_elem? z m ≡ some e) (sym p.2) at_m) in
-        let r = h.listed c p.0 m q.0 p.1 q.1 in (r.0, at_map told log r.0 (c, m, q.0) r.1 ∙ (λ i. some (c, m, q.2 i)));
-    stands = λ k o at_k. let p = at_map_back told log k o at_k in let r = h.stands k p.0 p.1 in
-        subst (λ (z : Owned F). (l : List F) × (get_elem? (map (map f) lists) z.0 ≡ some l) × (get_elem? l z.1 ≡ some z.2)) p.2 (map f r.0, at_map (map f) lists p.0.0 r.0 r.1, at_map f r.0 p.0.1 p.0.2 r.2);
-    once = λ k j o p at_k at_j e0 e1. let a = at_map_back told log k o at_k in let b = at_map_back told log j p at_j in
-        h.once k j a.0 b.0 a.1 b.1 ((λ i. (a.2 i).0) ∙ e0 ∙ sym (λ i. (b.2 i).0)) ((λ i. (a.2 i).1) ∙ e1 ∙ sym (λ i. (b.2 i).1));
-  }
+  file_map log lists h = file_by told log lists (map (map f) lists) h (λ o s. (map f s.0, at_map (map f) lists o.0 s.0 s.1, at_map f s.0 o.1 o.2 s.2))
+      (λ o s. let p = at_map_back (map f) lists o.0 s.0 s.1 in let q = at_map_back f p.0 o.1 o.2 (subst (λ (z : List F). get_elem? z o.1 ≡ some o.2) (sym p.2) s.2) in ((o.0, o.1, q.0), (p.0, p.1, q.1), λ i. (o.0, o.1, q.2 i)))
+      (λ o p s r own num. (own, num))

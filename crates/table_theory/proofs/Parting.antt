@@ -1,11 +1,8 @@
 -- What the calls that split, join and close tell, by the steps that they are made of.
-use Rattle.std.proofs.Common.{◌≡◌, ◌≢◌, ℕ, ◌+◌, ◌-◌, Bool, true, false, List, [], ◌++◌, sym, refl, ◌∙◌, subst, arith}
-use Rattle.std.specs.Prelude.{if◌then◌else◌, nat_lt, length}
-use Rattle.table_theory.specs.declared.views.Ledger.{Ledger}
-use Rattle.table_theory.specs.Ends.{Begins}
-use Rattle.table_theory.specs.Sharing.{kept, given}
-use Rattle.table_theory.specs.Ledgers.{Step, Made, CountedUp, CountedDown, Divided, IsNewborn, TookIn, Tallied, WereOpen, rest_of, newborn, both}
-use Rattle.table_theory.proofs.Reaching.{adds_none, adds_on}
+use Rattle.table_theory.proofs.Common.{◌≡◌, ◌≢◌, ℕ, ◌+◌, ◌-◌, Bool, true, false, List, [], ◌++◌, sym, refl, ap, ◌∙◌, subst, arith, if◌then◌else◌, nat_lt, Ledger, Begins, kept, given, Step, Made, CountedUp, CountedDown, TookIn, Tallied, rest_of, newborn, both, Part}
+use Rattle.std.specs.Prelude.{length}
+use Rattle.table_theory.specs.Ledgers.{Divided, IsNewborn, WereOpen}
+use Rattle.table_theory.proofs.Reaching.{adds_none, adds_behind}
 
 -- both begin what was seen then
 pub one_seen : {E : Type 0} (b : Bool) (x y all : List E) → Begins (if b then y else x) all → Begins (if b then x else y) all → Begins x all × Begins y all
@@ -18,7 +15,11 @@ module _ {K O : Type 0} where
   made_none v = record { adds = adds_none v; did = refl; member = refl }
 
   pub made_on : (v u w : (Ledger K O)) (xs ys : List (Step O)) (one own : K) → Made v xs one u → Made u ys own w → Made v (xs ++ ys) own w
-  made_on v u w xs ys one own a b = record { adds = adds_on v u w xs ys a.member a.adds b.adds; did = b.did; member = b.member ∙ a.member }
+  made_on v u w xs ys one own a b = record { adds = adds_behind v u w xs ys (ap (λ (z : Part). z.share) a.member) a.adds b.adds; did = b.did; member = b.member ∙ a.member }
+
+  -- and what the end did behind those is made of what it had done
+  pub made_then : (v u w : (Ledger K O)) (xs ys : List (Step O)) (one : K) (f : K → K) → Made v xs one u → Made u ys (f u.own) w → Made v (xs ++ ys) (f one) w
+  made_then v u w xs ys one f a b = record { adds = adds_behind v u w xs ys (ap (λ (z : Part). z.share) a.member) a.adds b.adds; did = b.did ∙ ap f a.did; member = b.member ∙ a.member }
 
 module _ {K O : Type 0} (nothing : K) (plus : K → K → K) (word : ℕ) where
   divided : (v u : (Ledger K O)) → CountedUp word v u → Divided word v (rest_of u)

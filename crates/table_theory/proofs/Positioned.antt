@@ -1,11 +1,7 @@
 -- Each event keeps a queue lawful, and the queue grows by it.
-use Rattle.std.proofs.Common.{◌≡◌, ℕ, suc, zero, ◌+◌, ◌<◌, ◌≤◌, ◌≢◌, List, [], ◌∷◌, map, length, get_or, sym, refl, ap, ◌∙◌, ◌-◌, subst, arith, length-set, length-append, get_or-set_same, get_or-set_other, le_refl, false, true≢false}
-use Rattle.std.proofs.lemmas.List.{get_or_append_left, get_or-append_right, get_or_past, length-map}
-use mathlib.Core.Logic.{dite}
-use native.Mathlib.Decide.{ℕ_discrete, dec_lt}
-use Rattle.table_theory.specs.declared.queues.Cell.{Cell}
-use Rattle.table_theory.specs.declared.queues.Positions.{Positions}
-use Rattle.table_theory.specs.Positioned.{blank, place_at, item_at, written_at, Lawful, Grows, fresh, with_claim, with_write, with_take, with_shut}
+use Rattle.table_theory.proofs.Common.{◌≡◌, ℕ, suc, zero, ◌+◌, ◌<◌, ◌≤◌, ◌≢◌, List, [], ◌∷◌, map, length, get_or, sym, refl, ap, ◌∙◌, ◌-◌, subst, arith, length-set, length-append, get_or-set_same, get_or-set_other, false, get_or_append_left, length-map, dite, ℕ_discrete, dec_lt, Cell, Positions, blank, place_at, item_at, written_at, Lawful, Grows, fresh, with_claim, with_write, with_take, with_shut}
+use Rattle.std.proofs.Common.{le_refl, true≢false}
+use Rattle.std.proofs.lemmas.List.{get_or-append_right, get_or_past}
 
 pub grows_refl : (q : Positions) → Grows q q
 grows_refl q = record { first = refl; room = refl; longer = omega arith; further = omega arith; items = λ i h. refl; more = λ i. le_refl (written_at q i); shut = λ h. h; still = λ h. refl }

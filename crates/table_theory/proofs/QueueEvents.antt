@@ -1,27 +1,14 @@
 -- Each step on a queue's positions is one event of the queue that they are, or none.
-use Rattle.std.proofs.Common.{◌≡◌, ℕ, zero, suc, ◌+◌, ◌<◌, ◌≤◌, ◌≢◌, Bool, true, false, ◌&&◌, ◌||◌, List, [], ◌∷◌, ◌++◌, ◌∙◌, map, length, take, drop, set, get_or, refl, sym, ap, ap₂, subst, arith, Some, slice_get, eqb, eq-eqb, ne_eqb, ltb, leb, Ok, option_map, get_or-set_same, get_or-set_other}
-use Rattle.std.proofs.lemmas.List.{length-map, map-append, map-set, get_or-drop}
+use Rattle.table_theory.proofs.Common.{◌≡◌, ℕ, zero, suc, ◌+◌, ◌<◌, ◌≤◌, ◌≢◌, Bool, true, false, List, [], ◌∷◌, ◌++◌, ◌∙◌, map, length, take, drop, set, get_or, refl, sym, ap, ap₂, subst, arith, slice_get, eqb, eq-eqb, ne_eqb, get_or-set_same, get_or-set_other, length-map, map-append, map-set, le-leb, list_all, if◌then◌else◌, some, some-injective, some-ne-none, dite, ℕ_discrete, get_elem?, Cell, Batch, Positions, QueueView, pairs, left, is_raised, blank, Grows, item_of, written_at, head_of, tail_of, Lawful, fresh, with_claim, with_write, with_take, with_shut, Owned, moved, all_places, ViewsShow, written_to, runs_of, run_in, is_up, up_in, queue_of, IsHistory, set_again, at_map}
+use Rattle.std.proofs.Common.{◌&&◌, ◌||◌, Some, ltb, leb, Result, Ok, option_map}
+use Rattle.std.proofs.lemmas.List.{get_or-drop}
 use Rattle.std.proofs.lemmas.Option.{slice_get-map}
-use Rattle.std.proofs.lemmas.Bool.{le-leb}
 use Rattle.std.proofs.lemmas.Bool.Decides.{nat_tests}
-use Rattle.std.specs.List.{list_all}
-use Rattle.std.specs.Prelude.{if◌then◌else◌}
-use mathlib.Core.Option.{some, some-injective, some-ne-none}
-use mathlib.Core.Logic.{dite}
-use native.Mathlib.Decide.{ℕ_discrete}
-use lib.ListN.{get_elem?}
-use Rattle.table_theory.specs.declared.queues.Cell.{Cell}
-use Rattle.table_theory.specs.declared.queues.Batch.{Batch}
-use Rattle.table_theory.specs.declared.queues.Positions.{Positions}
-use Rattle.table_theory.specs.declared.queues.QueueView.{QueueView}
-use Rattle.event_theory.specs.Runs.{Run, pairs}
-use Rattle.event_theory.specs.Queues.{Queue, left, left_pairs, is_raised, first_are_raised, after_claim, after_raise, after_take, claim, raise, raise_of, take_first, join_queue, join_run}
+use Rattle.event_theory.specs.declared.refusal.Refusal.{Refusal}
+use Rattle.event_theory.specs.Runs.{Run}
+use Rattle.event_theory.specs.Queues.{Queue, left_pairs, first_are_raised, after_claim, after_raise, after_take, claim, raise, raise_of, take_first, join_queue, join_run}
 use Rattle.event_theory.specs.Marks.{shut}
-use Rattle.table_theory.specs.Positioned.{blank, item_of, written_at, head_of, tail_of, Lawful, fresh, with_claim, with_write, with_take, with_shut}
-use Rattle.table_theory.specs.Filing.{Owned, moved}
-use Rattle.table_theory.specs.Listing.{all_places, ViewsShow, Later, written_to, runs_of}
-use Rattle.table_theory.specs.QueueOf.{run_in, is_up, up_in, queue_of, IsHistory, IsEvent, no_event}
-use Rattle.atomic_table.proofs.Lists.{set_again, at_map}
+use Rattle.table_theory.specs.QueueOf.{IsEvent, no_event}
 use Rattle.event_theory.proofs.Lists.Histories.{same_set}
 use Rattle.table_theory.proofs.Leaving.{fresh_items, same_items}
 use Rattle.table_theory.proofs.Positioned.{fresh_written}
@@ -29,8 +16,12 @@ use Rattle.table_theory.proofs.Logs.{moved_entry}
 use Rattle.table_theory.proofs.Listing.{listed_claim, listed_write, listed_take, listed_shut}
 use Rattle.table_theory.proofs.QueueOf.{Log, up_of, all_up, list_all_mapped, left_long, is_lawful_queue}
 
-pub history_of : (q : Positions) (parts : List QueueView) (l : ViewsShow q parts) → IsHistory q l.runs
-history_of q parts l = record { solid = l.solid; places = l.runs_flat; adjacent = l.runs_adjacent }
+pub history_of : (q : Positions) (parts : List QueueView) (l : ViewsShow q parts) → IsHistory q l.lists.runs
+history_of q parts l = let a = l.lists.runs_are in record { solid = a.solid; places = a.flat; adjacent = a.adjacent }
+
+-- a step by which the views that showed q show r
+abbrev event_by : (q r : Positions) (parts : List QueueView) (j : ℕ) (v w : QueueView) (event : Queue → Result Queue Refusal) (l : ViewsShow q parts) → get_elem? parts j ≡ some v → Lawful q → (new : ViewsShow r (set parts j w)) → event (queue_of q l.lists.runs) ≡ Ok (queue_of r new.lists.runs) → IsEvent q r j v w event
+event_by q r parts j v w event l at lawful new made = record { views = parts; here = at; shown = l; new_shown = new; lawful = is_lawful_queue q l.lists.runs lawful (history_of q parts l); made = made }
 
 not_up : (e : Cell) → e.written < 2 → is_up e ≡ false
 not_up e h = let n : ℕ = e.written in let t : leb 2 n ≡ false = grind (arith, nat_tests) in t
@@ -62,18 +53,12 @@ claim_goes longest call items q some_items short is_open room =
     rw (a, b, is_open, d) refl
 
 pub claim_event : (q : Positions) (parts : List QueueView) (j : ℕ) (v w : QueueView) (xs : List ℕ) → ViewsShow q parts → get_elem? parts j ≡ some v → Lawful q → 0 < length xs → length q.places + length xs ≤ q.taken + q.room → q.shut ≡ false
-    → w.runs ≡ v.runs ++ record { start = head_of q; places = map fresh xs } ∷ [] → w.takes ≡ v.takes → Later w (with_claim q xs)
+    → w.runs ≡ v.runs ++ record { start = head_of q; places = map fresh xs } ∷ [] → w.takes ≡ v.takes → Grows w.queue (with_claim q xs)
     → IsEvent q (with_claim q xs) j v w (claim q.room j xs)
 unfolding listed_claim
-claim_event q parts j v w xs l at lawful some_items room is_open runs takes grown =
-    let l' = listed_claim q parts j v w xs l at lawful.behind is_open some_items runs takes grown in let n = left_long q l.runs l.runs_flat in let behind = lawful.behind in record {
-      views = parts;
-      here = at;
-      shown = l;
-      new_shown = l';
-      lawful = is_lawful_queue q l.runs lawful (history_of q parts l);
-      made = claim_goes q.room j xs (queue_of q l.runs) some_items (omega arith) is_open (omega arith) ∙ ap Ok (claimed_is q l.runs j (length v.runs) xs);
-    }
+claim_event q parts j v w xs l at lawful some_items room is_open runs takes grown = let n = left_long q l.lists.runs l.lists.runs_are.flat in let behind = lawful.behind in
+    event_by q (with_claim q xs) parts j v w (claim q.room j xs) l at lawful (listed_claim q parts j v w xs l at lawful.behind is_open some_items runs takes grown)
+    (claim_goes q.room j xs (queue_of q l.lists.runs) some_items (omega arith) is_open (omega arith) ∙ ap Ok (claimed_is q l.lists.runs j (length v.runs) xs))
 
 pub got : {A : Type 0} (l : List A) (k : ℕ) (a : A) → get_elem? l k ≡ some a → slice_get l k ≡ Some a
 got [] k a e = absurd (some-ne-none a (sym e))
@@ -150,48 +135,28 @@ module _ (runs : Log) (k j m i : ℕ) (e : Batch) (at : get_elem? runs k ≡ som
 
 -- the number of the run that a view's batch is
 abbrev pub run_number : (q : Positions) (parts : List QueueView) (j m : ℕ) (v : QueueView) (e : Batch) → ViewsShow q parts → get_elem? parts j ≡ some v → get_elem? v.runs m ≡ some e → ℕ
-run_number q parts j m v e l at has = (l.runs_filed.listed j v.runs m e (at_map runs_of parts j v at) has).0
+run_number q parts j m v e l at has = (l.lists.runs_are.filed.listed j v.runs m e (at_map runs_of parts j v at) has).0
 
-pub run_is : (q : Positions) (parts : List QueueView) (j m : ℕ) (v : QueueView) (e : Batch) (l : ViewsShow q parts) (at : get_elem? parts j ≡ some v) (has : get_elem? v.runs m ≡ some e) → get_elem? l.runs (run_number q parts j m v e l at has) ≡ some (j, m, e)
-run_is q parts j m v e l at has = (l.runs_filed.listed j v.runs m e (at_map runs_of parts j v at) has).1
+pub run_is : (q : Positions) (parts : List QueueView) (j m : ℕ) (v : QueueView) (e : Batch) (l : ViewsShow q parts) (at : get_elem? parts j ≡ some v) (has : get_elem? v.runs m ≡ some e) → get_elem? l.lists.runs (run_number q parts j m v e l at has) ≡ some (j, m, e)
+run_is q parts j m v e l at has = (l.lists.runs_are.filed.listed j v.runs m e (at_map runs_of parts j v at) has).1
 
 module _ (q : Positions) (parts : List QueueView) (j m i p : ℕ) (v w : QueueView) (e : Batch) (l : ViewsShow q parts) (at : get_elem? parts j ≡ some v) (has : get_elem? v.runs m ≡ some e) (below : i < length e.places)
     (is : e.start + i ≡ q.first + p) (lawful : Lawful q) (ahead : q.taken ≤ p) (low : (get_or e.places i blank).written < 2) where
-  pub raise_event : written_at q p ≤ 2 → w.runs ≡ set v.runs m (written_to e i 2) → w.takes ≡ v.takes → Later w (with_write q p 2) → IsEvent q (with_write q p 2) j v w (raise j (run_number q parts j m v e l at has) i)
+  pub raise_event : written_at q p ≤ 2 → w.runs ≡ set v.runs m (written_to e i 2) → w.takes ≡ v.takes → Grows w.queue (with_write q p 2) → IsEvent q (with_write q p 2) j v w (raise j (run_number q parts j m v e l at has) i)
   unfolding listed_write
-  raise_event more runs takes grown = let l' = listed_write q parts j m i 2 p v w e l at has below is ahead more runs takes grown in let r = l.runs_filed.listed j v.runs m e (at_map runs_of parts j v at) has in record {
-    views = parts;
-    here = at;
-    shown = l;
-    new_shown = l';
-    lawful = is_lawful_queue q l.runs lawful (history_of q parts l);
-    made = raise_goes l.runs r.0 j m i e r.1 below q low ∙ ap Ok (raised_is l.runs r.0 j m i e r.1 below q p);
-  }
+  raise_event more runs takes grown = let r = l.lists.runs_are.filed.listed j v.runs m e (at_map runs_of parts j v at) has in
+      event_by q (with_write q p 2) parts j v w (raise j r.0 i) l at lawful (listed_write q parts j m i 2 p v w e l at has below is ahead more runs takes grown) (raise_goes l.lists.runs r.0 j m i e r.1 below q low ∙ ap Ok (raised_is l.lists.runs r.0 j m i e r.1 below q p))
 
   -- the raise, and its run in the history
-  pub raised_event : written_at q p ≤ 2 → w.runs ≡ set v.runs m (written_to e i 2) → w.takes ≡ v.takes → Later w (with_write q p 2)
-      → (k : ℕ) × (event : IsEvent q (with_write q p 2) j v w (raise j k i)) × (get_elem? event.shown.runs k ≡ some (j, m, e))
+  pub raised_event : written_at q p ≤ 2 → w.runs ≡ set v.runs m (written_to e i 2) → w.takes ≡ v.takes → Grows w.queue (with_write q p 2)
+      → (k : ℕ) × (event : IsEvent q (with_write q p 2) j v w (raise j k i)) × (get_elem? event.shown.lists.runs k ≡ some (j, m, e))
   unfolding raise_event
   raised_event more runs takes grown = (run_number q parts j m v e l at has, raise_event more runs takes grown, run_is q parts j m v e l at has)
 
-  pub store_event : written_at q p ≤ 1 → w.runs ≡ set v.runs m (written_to e i 1) → w.takes ≡ v.takes → Later w (with_write q p 1) → IsEvent q (with_write q p 1) j v w no_event
+  pub store_event : written_at q p ≤ 1 → w.runs ≡ set v.runs m (written_to e i 1) → w.takes ≡ v.takes → Grows w.queue (with_write q p 1) → IsEvent q (with_write q p 1) j v w no_event
   unfolding listed_write
-  store_event more runs takes grown = let l' = listed_write q parts j m i 1 p v w e l at has below is ahead more runs takes grown in let r = l.runs_filed.listed j v.runs m e (at_map runs_of parts j v at) has in record {
-    views = parts;
-    here = at;
-    shown = l;
-    new_shown = l';
-    lawful = is_lawful_queue q l.runs lawful (history_of q parts l);
-    made = ap Ok (stored_is l.runs r.0 j m i e r.1 below q p low);
-  }
-
--- the store, and the run of its place in the history
-module _ (q : Positions) (parts : List QueueView) (j m i p : ℕ) (v w : QueueView) (e : Batch) (l : ViewsShow q parts) (at : get_elem? parts j ≡ some v) (has : get_elem? v.runs m ≡ some e) (below : i < length e.places)
-    (is : e.start + i ≡ q.first + p) (lawful : Lawful q) (ahead : q.taken ≤ p) (low : (get_or e.places i blank).written < 2) where
-  pub stored_event : written_at q p ≤ 1 → w.runs ≡ set v.runs m (written_to e i 1) → w.takes ≡ v.takes → Later w (with_write q p 1)
-      → (k : ℕ) × (event : IsEvent q (with_write q p 1) j v w no_event) × (get_elem? event.shown.runs k ≡ some (j, m, e))
-  unfolding store_event
-  stored_event more runs takes grown = (run_number q parts j m v e l at has, store_event q parts j m i p v w e l at has below is lawful ahead low more runs takes grown, run_is q parts j m v e l at has)
+  store_event more runs takes grown = let r = l.lists.runs_are.filed.listed j v.runs m e (at_map runs_of parts j v at) has in
+      event_by q (with_write q p 1) parts j v w no_event l at lawful (listed_write q parts j m i 1 p v w e l at has below is ahead more runs takes grown) (ap Ok (stored_is l.lists.runs r.0 j m i e r.1 below q p low))
 
 pub take_goes : (longest count : ℕ) (q : Queue) → 0 < count → count ≤ longest → first_are_raised count q ≡ true → take_first longest count q ≡ Ok (after_take count q)
 take_goes longest count q some_items short first =
@@ -209,27 +174,14 @@ first_raised q runs n same long up_to =
     rw (a, b) refl
 
 pub take_event : (q : Positions) (parts : List QueueView) (j n : ℕ) (v w : QueueView) → ViewsShow q parts → get_elem? parts j ≡ some v → Lawful q → 0 < n → q.taken + n ≤ length q.places → ((i : ℕ) → i < n → 2 ≤ written_at q (q.taken + i))
-    → w.takes ≡ v.takes ++ record { start = tail_of q; places = take n (drop q.taken q.places) } ∷ [] → w.runs ≡ v.runs → Later w (with_take q n) → IsEvent q (with_take q n) j v w (take_first q.room n)
+    → w.takes ≡ v.takes ++ record { start = tail_of q; places = take n (drop q.taken q.places) } ∷ [] → w.runs ≡ v.runs → Grows w.queue (with_take q n) → IsEvent q (with_take q n) j v w (take_first q.room n)
 unfolding listed_take
-take_event q parts j n v w l at lawful some_items long up_to takes runs grown = let h = history_of q parts l in let within = lawful.within in record {
-  views = parts;
-  here = at;
-  shown = l;
-  new_shown = listed_take q parts j n v w l at some_items long takes runs grown;
-  lawful = is_lawful_queue q l.runs lawful h;
-  made = take_goes q.room n (queue_of q l.runs) some_items (omega arith) (first_raised q l.runs n h.places long up_to);
-}
+take_event q parts j n v w l at lawful some_items long up_to takes runs grown = let within = lawful.within in
+    event_by q (with_take q n) parts j v w (take_first q.room n) l at lawful (listed_take q parts j n v w l at some_items long takes runs grown) (take_goes q.room n (queue_of q l.lists.runs) some_items (omega arith) (first_raised q l.lists.runs n l.lists.runs_are.flat long up_to))
 
-pub shut_event : (q : Positions) (parts : List QueueView) (j : ℕ) (v w : QueueView) → ViewsShow q parts → get_elem? parts j ≡ some v → Lawful q → w.runs ≡ v.runs → w.takes ≡ v.takes → Later w (with_shut q) → IsEvent q (with_shut q) j v w (λ c. Ok (shut c))
+pub shut_event : (q : Positions) (parts : List QueueView) (j : ℕ) (v w : QueueView) → ViewsShow q parts → get_elem? parts j ≡ some v → Lawful q → w.runs ≡ v.runs → w.takes ≡ v.takes → Grows w.queue (with_shut q) → IsEvent q (with_shut q) j v w (λ c. Ok (shut c))
 unfolding listed_shut
-shut_event q parts j v w l at lawful runs takes grown = record {
-  views = parts;
-  here = at;
-  shown = l;
-  new_shown = listed_shut q parts j v w l at runs takes grown;
-  lawful = is_lawful_queue q l.runs lawful (history_of q parts l);
-  made = refl;
-}
+shut_event q parts j v w l at lawful runs takes grown = event_by q (with_shut q) parts j v w (λ c. Ok (shut c)) l at lawful (listed_shut q parts j v w l at runs takes grown) refl
 
 run_moved : (c d n : ℕ) (o : Owned Batch) (b : Bool) → run_in (if b then (c, n + o.1, o.2) else o) ≡ (let r : Run = record { call = if b then c else o.0; items = map item_of o.2.places } in r)
 run_moved c d n o true = refl

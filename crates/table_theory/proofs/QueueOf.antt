@@ -1,21 +1,12 @@
 -- The queue that positions are is lawful, and each step on the positions is an event of it or none.
-use Rattle.std.proofs.Common.{◌≡◌, ℕ, zero, suc, ◌+◌, ◌-◌, ◌<◌, ◌≤◌, Bool, true, false, List, [], ◌∷◌, ◌++◌, ◌∙◌, map, length, take, drop, get_or, refl, sym, ap, ap₂, arith, slice_get, zero-add, add-zero}
-use Rattle.std.proofs.lemmas.List.{length-map, map-append, take-map, drop-map, length-drop}
+use Rattle.table_theory.proofs.Common.{◌≡◌, ℕ, zero, suc, ◌+◌, ◌-◌, ◌<◌, ◌≤◌, Bool, true, false, List, [], ◌∷◌, ◌++◌, ◌∙◌, map, length, take, drop, get_or, refl, sym, ap, ap₂, arith, slice_get, length-map, map-append, take-map, length-drop, le-leb, list_all, some, get_elem?, Cell, Batch, Positions, flat, pairs, left, is_raised, blank, item_of, Lawful, Owned, all_places, run_in, is_up, up_in, queue_of, IsHistory}
+use Rattle.std.proofs.Common.{zero-add, add-zero}
+use Rattle.std.proofs.lemmas.List.{drop-map}
 use Rattle.std.proofs.lemmas.List.Folds.{list_all-map}
-use Rattle.std.proofs.lemmas.Bool.{le-leb, leb-true}
-use Rattle.std.specs.List.{list_all}
-use mathlib.Core.Option.{some}
-use lib.ListN.{get_elem?}
-use Rattle.table_theory.specs.declared.queues.Cell.{Cell}
-use Rattle.table_theory.specs.declared.queues.Batch.{Batch}
-use Rattle.table_theory.specs.declared.queues.Positions.{Positions}
-use Rattle.event_theory.specs.Runs.{flat, pairs_of, pairs_from, pairs, run_length}
-use Rattle.event_theory.specs.Queues.{left, is_raised}
+use Rattle.std.proofs.lemmas.Bool.{leb-true}
+use Rattle.event_theory.specs.Runs.{pairs_of, pairs_from, run_length}
 use Rattle.event_theory.specs.Lawful.{IsLawfulQueue}
-use Rattle.table_theory.specs.Positioned.{blank, item_of, left_of, Lawful}
-use Rattle.table_theory.specs.Filing.{Owned}
-use Rattle.table_theory.specs.Listing.{all_places}
-use Rattle.table_theory.specs.QueueOf.{run_in, is_up, up_in, queue_of, IsHistory}
+use Rattle.table_theory.specs.Positioned.{left_of}
 use Rattle.table_theory.proofs.Positioned.{raised_below}
 
 abbrev pub Log : Type 0
@@ -71,12 +62,16 @@ within_of [] run index h = absurd (cc)
 within_of (o ∷ os) zero index h = let n = length-map o.2.places item_of in let b = up_below o.2.places index h in omega arith
 within_of (o ∷ os) (suc run) index h = within_of os run index h
 
+-- where the runs have these places, in order, the history has their items
+pub items_are : (q : Positions) (runs : Log) → all_places runs ≡ q.places → flat (map run_in runs) ≡ map item_of q.places
+items_are q runs e = flat_of runs ∙ ap (map item_of) e
+
 -- the items left
 pub left_is : (q : Positions) (runs : Log) → all_places runs ≡ q.places → left (queue_of q runs) ≡ left_of q
-left_is q runs e = ap (drop q.taken) (flat_of runs ∙ ap (map item_of) e) ∙ drop-map item_of q.taken q.places
+left_is q runs e = ap (drop q.taken) (items_are q runs e) ∙ drop-map item_of q.taken q.places
 
 pub long_is : (q : Positions) (runs : Log) → all_places runs ≡ q.places → length (flat (map run_in runs)) ≡ length q.places
-long_is q runs e = ap length (flat_of runs ∙ ap (map item_of) e) ∙ length-map q.places item_of
+long_is q runs e = ap length (items_are q runs e) ∙ length-map q.places item_of
 
 pub left_long : (q : Positions) (runs : Log) → all_places runs ≡ q.places → length (left (queue_of q runs)) ≡ length q.places - q.taken
 left_long q runs e = ap length (left_is q runs e) ∙ (length-map (drop q.taken q.places) item_of ∙ length-drop q.taken q.places)

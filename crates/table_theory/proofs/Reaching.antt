@@ -1,15 +1,6 @@
 -- Real steps from one moment to another, and an end's own among them.
-use Rattle.std.proofs.Common.{◌≡◌, ℕ, List, [], ◌∷◌, ◌++◌, sym, refl, ap, ◌∙◌, subst}
-use Rattle.std.proofs.lemmas.List.{append_assoc, append-nil}
-use Rattle.std.specs.List.{AllByRecursion}
-use Rattle.table_theory.specs.declared.views.Entry.{Entry}
-use Rattle.table_theory.specs.declared.views.Moment.{Moment}
-use Rattle.table_theory.specs.declared.views.Part.{Part}
-use Rattle.table_theory.specs.declared.views.Ledger.{Ledger}
-use Rattle.table_theory.specs.Courses.{Continues}
-use Rattle.table_theory.specs.Ends.{Begins}
-use Rattle.table_theory.specs.Sharing.{IsWhole}
-use Rattle.table_theory.specs.Ledgers.{Subject, Step, IsReal, IsHonest, Reaches, Passes, Weaves, Adds, TookIn, opened}
+use Rattle.table_theory.proofs.Common.{◌≡◌, ℕ, List, [], ◌∷◌, ◌++◌, sym, refl, ap, ◌∙◌, subst, append_assoc, append-nil, AllByRecursion, Entry, Moment, Ledger, Continues, Begins, IsWhole, Subject, Step, IsReal, IsHonest, Reaches, Passes, Adds, TookIn, opened}
+use Rattle.table_theory.specs.Ledgers.{Weaves}
 
 module _ {E : Type 0} (P : E → Type 0) where
   pub all_on : (xs ys : List E) → AllByRecursion P xs → AllByRecursion P ys → AllByRecursion P (xs ++ ys)
@@ -98,9 +89,6 @@ module _ {K O : Type 0} where
     alone = λ whole. (λ i. a.alone whole i ++ b.alone (same ∙ whole) i);
   }
 
-  pub adds_on : (v u w : Ledger K O) (xs ys : List (Step O)) → u.member ≡ v.member → Adds v xs u → Adds u ys w → Adds v (xs ++ ys) w
-  adds_on v u w xs ys same a b = adds_behind v u w xs ys (ap (λ (z : Part). z.share) same) a b
-
 module _ {K O : Type 0} (T : Subject O) where
   -- the steps since then are real, and lead from what was seen, where the course led to that, to what is seen
   led_since : (v w : Ledger K O) (es : List (Step O)) → Continues (opened v.first) v.course v.seen → IsHonest T w → (a : Adds v es w) → Continues v.seen a.since w.seen × AllByRecursion (IsReal T) a.since
@@ -108,9 +96,6 @@ module _ {K O : Type 0} (T : Subject O) where
     continues_behind (opened v.first) v.seen w.seen v.course a.since x (subst (λ (z : List (Step O)). Continues (opened v.first) z w.seen) a.course_is (subst (λ (z : O). Continues (opened z) w.course w.seen) a.first y.leads)),
     all_behind (IsReal T) v.course a.since (subst (AllByRecursion (IsReal T)) a.course_is y.real),
   )
-
-  pub seen_since : (v w : Ledger K O) (es : List (Step O)) → IsHonest T v → IsHonest T w → (a : Adds v es w) → Continues v.seen a.since w.seen × AllByRecursion (IsReal T) a.since
-  seen_since v w es x y a = led_since v w es x.leads y a
 
   -- they pass each entry in its order
   pub passes_led : (v w : Ledger K O) (es : List (Step O)) → Continues (opened v.first) v.course v.seen → IsHonest T w → Adds v es w → Passes T v.seen es w.seen
@@ -132,7 +117,7 @@ module _ {K O : Type 0} (T : Subject O) where
   alone_since v w es whole x y a = alone_led v w es whole x.leads y a
 
   pub reaches_since : (v w : Ledger K O) (es : List (Step O)) → IsHonest T v → IsHonest T w → Adds v es w → Reaches T v.seen w.seen
-  reaches_since v w es x y a = let s = seen_since v w es x y a in record { steps = a.since; leads = s.0; real = s.1 }
+  reaches_since v w es x y a = let s = led_since v w es x.leads y a in record { steps = a.since; leads = s.0; real = s.1 }
 
   -- the same, of what an end of the same object had seen whose steps the other has seen too
   pub reaches_led : (u w : Ledger K O) → Continues (opened u.first) u.course u.seen → IsHonest T w → w.first ≡ u.first → (b : Begins u.course w.course) → Reaches T u.seen w.seen
@@ -142,15 +127,12 @@ module _ {K O : Type 0} (T : Subject O) where
     real = all_behind (IsReal T) u.course b.0 (subst (AllByRecursion (IsReal T)) (sym b.1) y.real);
   }
 
-  pub reaches_begun : (u w : Ledger K O) → IsHonest T u → IsHonest T w → w.first ≡ u.first → (b : Begins u.course w.course) → Reaches T u.seen w.seen
-  reaches_begun u w x y same b = reaches_led u w x.leads y same b
-
   -- after a join, real steps lead from what either of both had seen
   pub reaches_one : (plus : K → K → K) (word : ℕ) (v u w : Ledger K O) → IsHonest T v → IsHonest T w → TookIn plus word v u w → Reaches T v.seen w.seen
-  reaches_one plus word v u w x y t = reaches_begun v w x y t.adds.first t.one
+  reaches_one plus word v u w x y t = reaches_led v w x.leads y t.adds.first t.one
 
   pub reaches_other : (plus : K → K → K) (word : ℕ) (v u w : Ledger K O) → IsHonest T u → IsHonest T w → TookIn plus word v u w → Reaches T u.seen w.seen
-  reaches_other plus word v u w x y t = reaches_begun u w x y (t.adds.first ∙ sym t.one_object) t.other
+  reaches_other plus word v u w x y t = reaches_led u w x.leads y (t.adds.first ∙ sym t.one_object) t.other
 
   -- each entry of a call is real
   pub entries_real : (v w : Ledger K O) (es : List (Step O)) → IsHonest T w → Adds v es w → AllByRecursion (IsReal T) es

@@ -1,7 +1,6 @@
 -- What is read of positions one behind the other, and of a word.
-use Rattle.std.proofs.Common.{◌≡◌, ℕ, zero, suc, ◌+◌, ◌-◌, ◌≤◌, List, [], ◌∷◌, ◌++◌, length, get_or, refl, sym, ap, ◌∙◌, arith}
+use Rattle.table_theory.proofs.Common.{◌≡◌, ℕ, zero, suc, ◌+◌, ◌-◌, ◌≤◌, List, [], ◌∷◌, ◌++◌, length, get_or, refl, sym, ap, ◌∙◌, arith, get_elem?}
 use mathlib.Core.Option as maybe
-use lib.ListN.{get_elem?}
 use Rattle.table_theory.specs.Reads.{read_from}
 
 -- a word that was read

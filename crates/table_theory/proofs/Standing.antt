@@ -1,14 +1,7 @@
 -- The ends that stand, through each step, a split and a join.
-use Rattle.std.proofs.Common.{◌≡◌, ◌≢◌, ℕ, ◌+◌, ◌-◌, ◌%◌, ◌≤◌, List, [], ◌∷◌, ◌++◌, set, refl, ap, ◌∙◌, subst, arith}
-use mathlib.Core.Option.{some}
-use lib.ListN.{get_elem?}
-use Rattle.table_theory.specs.declared.views.Part.{Part}
-use Rattle.table_theory.specs.declared.views.Ledger.{Ledger}
-use Rattle.table_theory.specs.Sharing.{IsWhole, EndsCounted, IsCount}
-use Rattle.table_theory.specs.Ledgers.{IsIdle, EndsStand, rest_of, newborn, both, emptied, first_of}
-use Rattle.table_theory.proofs.Counting.{counted_look, counted_up, counted_down, counted_split, counted_join, counted_first, others_idle, count_found}
+use Rattle.table_theory.proofs.Common.{◌≡◌, ◌≢◌, ℕ, ◌+◌, ◌-◌, ◌%◌, ◌≤◌, List, [], ◌∷◌, ◌++◌, set, refl, ap, ◌∙◌, arith, some, get_elem?, Part, Ledger, IsWhole, IsCount, IsIdle, EndsStand, rest_of, newborn, both, emptied, first_of, set_else}
+use Rattle.table_theory.proofs.Counting.{changed, counted_up, counted_down, counted_split, counted_join, counted_first, others_idle, count_found}
 use Rattle.table_theory.proofs.Totals.{total_set, total_push, total_kept}
-use Rattle.atomic_table.proofs.Lists.{set_else}
 
 module _ {K O : Type 0} (T : K) (plus : K → K → K) where
   abbrev ends : (Ledger K O) → ℕ
@@ -26,36 +19,32 @@ module _ {K O : Type 0} (T : K) (plus : K → K → K) where
   -- a step that leaves the end as it is among the ends
   pub stand_same : (n : ℕ) (vs : List (Ledger K O)) (j : ℕ) (v w : (Ledger K O)) → EndsStand T n vs → get_elem? vs j ≡ some v → 1 ≤ v.member.ends → w.member ≡ v.member → EndsStand T n (set vs j w)
   stand_same n vs j v w h at live same = let e : ends w ≡ ends v = ap (λ (z : Part). z.ends) same in record {
-    counted = counted_look ends share (IsIdle T) n vs j v w h.counted at e (ap (λ (z : Part). z.share) same) (λ none. absurd (omega arith));
+    counted = let i = h.counted.within j v at in changed ends share (IsIdle T) n n vs j v w h.counted at (omega arith) (omega arith) (ap (λ (z : Part). z.share) same) (total_kept ends vs j v w at e ∙ h.counted.counted);
     balanced = let x = h.balanced in let a = total_kept joins vs j v w at (ap (λ (z : Part). z.joins) same) in let b = total_kept splits vs j v w at (ap (λ (z : Part). z.splits) same) in omega arith;
   }
 
   -- the number becomes one more
   pub stand_up : (n : ℕ) (vs : List (Ledger K O)) (j : ℕ) (v w : (Ledger K O)) → EndsStand T n vs → get_elem? vs j ≡ some v → v.member.ends + 1 ≤ v.member.share → w.member ≡ record v.member { ends = v.member.ends + 1; splits = v.member.splits + 1 }
       → ((n + 1) % 18446744073709551616 ≡ n + 1) × EndsStand T (n + 1) (set vs j w)
-  stand_up n vs j v w h at parts same = let y : ℕ = (n + 1) % 18446744073709551616 in let e : ends w ≡ ends v + 1 = ap (λ (z : Part). z.ends) same in
-      let c : EndsCounted ends share (IsIdle T) y (set vs j w) = counted_up ends share (IsIdle T) n vs j v w h.counted at parts e (ap (λ (z : Part). z.share) same) in
-      let t = total_set ends vs j v w at in let old = h.counted.counted in let new = c.counted in let is : y ≡ n + 1 = omega arith in (
-        is,
-        record {
-          counted = subst (λ (z : ℕ). EndsCounted ends share (IsIdle T) z (set vs j w)) is c;
-          balanced = let x = h.balanced in let a = total_kept joins vs j v w at (ap (λ (z : Part). z.joins) same) in let b = total_set splits vs j v w at in let more : splits w ≡ splits v + 1 = ap (λ (z : Part). z.splits) same in omega arith;
-        },
-      )
+  stand_up n vs j v w h at parts same = let c = counted_up ends share (IsIdle T) n vs j v w h.counted at parts (ap (λ (z : Part). z.ends) same) (ap (λ (z : Part). z.share) same) in (
+    c.0,
+    record {
+      counted = c.1;
+      balanced = let x = h.balanced in let a = total_kept joins vs j v w at (ap (λ (z : Part). z.joins) same) in let b = total_set splits vs j v w at in let more : splits w ≡ splits v + 1 = ap (λ (z : Part). z.splits) same in omega arith;
+    },
+  )
 
   -- the number becomes one less
   pub stand_down : (n : ℕ) (vs : List (Ledger K O)) (j : ℕ) (v w : (Ledger K O)) → EndsStand T n vs → get_elem? vs j ≡ some v → 2 ≤ v.member.ends → w.member ≡ record v.member { ends = v.member.ends - 1; joins = v.member.joins + 1 }
       → ((n + (18446744073709551616 - 1)) % 18446744073709551616 ≡ n - 1) × (1 ≤ n) × EndsStand T (n - 1) (set vs j w)
-  stand_down n vs j v w h at live same = let y : ℕ = (n + (18446744073709551616 - 1)) % 18446744073709551616 in let e : ends w ≡ ends v - 1 = ap (λ (z : Part). z.ends) same in
-      let c : EndsCounted ends share (IsIdle T) y (set vs j w) = counted_down ends share (IsIdle T) n vs j v w h.counted at (omega arith) (omega arith) (ap (λ (z : Part). z.share) same) in
-      let t = total_set ends vs j v w at in let old = h.counted.counted in let new = c.counted in let more : y + 1 ≡ n = omega arith in let is : y ≡ n - 1 = omega arith in (
-        is,
-        (omega arith),
-        record {
-          counted = subst (λ (z : ℕ). EndsCounted ends share (IsIdle T) z (set vs j w)) is c;
-          balanced = let x = h.balanced in let a = total_kept splits vs j v w at (ap (λ (z : Part). z.splits) same) in let b = total_set joins vs j v w at in let m : joins w ≡ joins v + 1 = ap (λ (z : Part). z.joins) same in omega arith;
-        },
-      )
+  stand_down n vs j v w h at live same = let e : ends w ≡ ends v - 1 = ap (λ (z : Part). z.ends) same in let c = counted_down ends share (IsIdle T) n vs j v w h.counted at (omega arith) (omega arith) (ap (λ (z : Part). z.share) same) in let some_end = c.1 in (
+    c.0,
+    c.1,
+    record {
+      counted = c.2;
+      balanced = let x = h.balanced in let a = total_kept splits vs j v w at (ap (λ (z : Part). z.splits) same) in let b = total_set joins vs j v w at in let m : joins w ≡ joins v + 1 = ap (λ (z : Part). z.joins) same in omega arith;
+    },
+  )
 
   -- an end is split in two, of which each has what it has
   pub stand_parted : (n : ℕ) (vs : List (Ledger K O)) (j : ℕ) (v left right : (Ledger K O)) → EndsStand T n vs → get_elem? vs j ≡ some v → v.member.ends ≡ 2 → left.member ≡ (rest_of v).member → right.member ≡ (newborn T v).member
@@ -66,9 +55,6 @@ module _ {K O : Type 0} (T : K) (plus : K → K → K) where
         let d = total_push splits (set vs j left) right in let e : joins right ≡ 0 = ap (λ (z : Part). z.joins) new in let f : splits right ≡ 0 = ap (λ (z : Part). z.splits) new in omega arith;
   }
 
-  pub stand_split : (n : ℕ) (vs : List (Ledger K O)) (j : ℕ) (v : (Ledger K O)) → EndsStand T n vs → get_elem? vs j ≡ some v → v.member.ends ≡ 2 → EndsStand T n (set vs j (rest_of v) ++ newborn T v ∷ [])
-  stand_split n vs j v h at two = stand_parted n vs j v (rest_of v) (newborn T v) h at two refl refl
-
   pub stand_join : (n : ℕ) (vs : List (Ledger K O)) (j k : ℕ) (v u : (Ledger K O)) → EndsStand T n vs → get_elem? vs j ≡ some v → get_elem? vs k ≡ some u → k ≢ j → 1 ≤ v.member.ends → EndsStand T n (set (set vs j (both plus v u)) k (emptied T v))
   stand_join n vs j k v u h at at' ne live = let b : (Ledger K O) = both plus v u in let x : (Ledger K O) = emptied T v in let at'' : get_elem? (set vs j b) k ≡ some u = set_else vs j k b ne ∙ at' in record {
     counted = counted_join ends share (IsIdle T) n vs j k v u b x h.counted at at' ne live refl refl refl refl record { own = refl; splits = refl; joins = refl; steps = refl };
@@ -78,9 +64,6 @@ module _ {K O : Type 0} (T : K) (plus : K → K → K) where
   -- the only end of a new object, whatever it has
   pub stand_opened : (own : K) (first : O) → EndsStand T 1 (first_of own first ∷ [])
   stand_opened own first = record { counted = counted_first ends share (IsIdle T) (first_of own first) refl refl; balanced = refl }
-
-  pub stand_first : (first : O) → EndsStand T 1 (first_of T first ∷ [])
-  stand_first first = stand_opened T first
 
   -- beside an end with the whole, each end is spent
   pub rest_spent : (n : ℕ) (vs : List (Ledger K O)) (j : ℕ) (v : (Ledger K O)) → EndsStand T n vs → get_elem? vs j ≡ some v → IsWhole v.member.share → (i : ℕ) (u : (Ledger K O)) → get_elem? vs i ≡ some u → i ≢ j → IsIdle T u

@@ -1,8 +1,5 @@
 -- Sums over a list.
-use Rattle.std.proofs.Common.{◌≡◌, ℕ, suc, zero, ◌+◌, ◌≤◌, ◌≢◌, List, [], ◌∷◌, ◌++◌, set, sym, refl, ap, arith}
-use mathlib.Core.Option.{some, some-injective, some-ne-none}
-use lib.ListN.{get_elem?}
-use Rattle.table_theory.specs.Sharing.{total}
+use Rattle.table_theory.proofs.Common.{◌≡◌, ℕ, suc, zero, ◌+◌, ◌≤◌, ◌≢◌, List, [], ◌∷◌, ◌++◌, set, sym, refl, ap, arith, some, some-injective, some-ne-none, get_elem?, total}
 
 module _ {V : Type 0} (f : V → ℕ) where
   pub total_set : (vs : List V) (j : ℕ) (v w : V) → get_elem? vs j ≡ some v → total f (set vs j w) + f v ≡ total f vs + f w
@@ -33,10 +30,6 @@ module _ {V : Type 0} (f : V → ℕ) where
   no_total : (vs : List V) → ((i : ℕ) (u : V) → get_elem? vs i ≡ some u → f u ≡ 0) → total f vs ≡ 0
   no_total [] none = refl
   no_total (x ∷ xs) none = let h = none 0 x refl in let t = no_total xs (λ i u has. none (suc i) u has) in omega arith
-
-  pub total_same : (g : V → ℕ) (vs : List V) → ((j : ℕ) (v : V) → get_elem? vs j ≡ some v → g v ≡ f v) → total g vs ≡ total f vs
-  total_same g [] same = refl
-  total_same g (x ∷ xs) same = let h = same 0 x refl in let t = total_same g xs (λ j v at. same (suc j) v at) in omega arith
 
   -- one alone counts
   pub sole_total : (vs : List V) (j : ℕ) (v : V) → get_elem? vs j ≡ some v → ((i : ℕ) (u : V) → get_elem? vs i ≡ some u → i ≢ j → f u ≡ 0) → total f vs ≡ f v

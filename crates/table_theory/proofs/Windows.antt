@@ -1,11 +1,8 @@
 -- Each event keeps what the words of the places say.
-use Rattle.std.proofs.Common.{◌≡◌, ℕ, ◌+◌, ◌-◌, ◌%◌, ◌<◌, ◌≤◌, ◌≢◌, List, length, sym, ap, ◌∙◌, subst, arith, mod-lt}
-use mathlib.Core.Logic.{dite}
-use native.Mathlib.Decide.{dec_lt, dec_le, ℕ_discrete}
+use Rattle.table_theory.proofs.Common.{◌≡◌, ℕ, ◌+◌, ◌-◌, ◌%◌, ◌<◌, ◌≤◌, ◌≢◌, List, length, sym, ap, ◌∙◌, subst, arith, dite, dec_lt, ℕ_discrete, Cell, Positions, written_at, Lawful, with_claim, with_write, with_take, with_shut}
+use Rattle.std.proofs.Common.{mod-lt}
+use native.Mathlib.Decide.{dec_le}
 use native.Mathlib.Nat.{add-mod_right}
-use Rattle.table_theory.specs.declared.queues.Cell.{Cell}
-use Rattle.table_theory.specs.declared.queues.Positions.{Positions}
-use Rattle.table_theory.specs.Positioned.{written_at, Lawful, with_claim, with_write, with_take, with_shut}
 use Rattle.table_theory.specs.Windows.{spot, PlaceShows, PlacesShow}
 use Rattle.atomic_table.proofs.Lists.{one_turn}
 use Rattle.table_theory.proofs.Positioned.{claim_old, claim_new, past_written, write_else}

@@ -192,7 +192,8 @@ abbrev pub IsNewborn : {K O : Type 0} → K → Ledger K O → Ledger K O → Le
 IsNewborn nothing old new born = born ≡ newborn nothing (record new { member = old.member })
 
 -- The end has what both had; then the number of ends was found and made one less. It has seen what both had seen, of
--- the one object. One load more, of the first word, stands in no list: by it the end gets what the other knows
+-- the one object. One load more, of the first word, stands in no list, for a chain two: by it the end gets what the
+-- other knows
 pub record TookIn {K O : Type 0} (plus : K → K → K) (word : ℕ) (v u w : Ledger K O) : Type 0 where
   pub found : Moment O
   pub adds : Adds (both plus v u) (count_down word found ∷ []) w
@@ -240,3 +241,12 @@ pub record AreTrue {K O : Type 0} (subject : Subject O) (nothing : K) (first : O
   pub seen : (j : ℕ) (v : Ledger K O) → get_elem? views j ≡ some v → Continues (opened first) v.course v.seen
   pub joined : (j : ℕ) (v : Ledger K O) → get_elem? views j ≡ some v → Begins v.joined (map entry_of course.course)
   pub joined_first : (j : ℕ) (v : Ledger K O) → get_elem? views j ≡ some v → v.joined_first ≡ first
+
+-- The words show the object, which is lawful, and have the number of the ends that stand. The ends' steps lead to it
+-- from the first object
+pub record Stands {K O : Type 0} (subject : Subject O) (nothing : K) (first : O) (now : Moment O) (words : List ℕ)
+    (views : List (Ledger K O)) : Type 0 where
+  pub lawful : subject.IsLawful now.object
+  pub shows : subject.Shows now.object words
+  pub number : slice_index_or words subject.ends_word 0 ≡ now.ends
+  pub true_ends : AreTrue subject nothing first now views

@@ -26,26 +26,30 @@ runs_of v = v.runs
 abbrev pub takes_of : QueueView → List Batch
 takes_of v = v.takes
 
--- the queue is no earlier than what the end has seen and was joined
-abbrev pub Later : QueueView → Positions → Type 0
-Later v q = Grows v.queue q × Grows v.joined q
-
 -- each entry of the log has a place
 abbrev pub IsSolid : List (Owned Batch) → Type 0
 IsSolid log = (k : ℕ) (o : Owned Batch) → get_elem? log k ≡ some o → 0 < length o.2.places
 
-pub record ViewsShow (q : Positions) (parts : List QueueView) : Type 0 where
+-- the log has these places, side by side from this position on, with each entry listed once by its end
+pub record IsListed (first : ℕ) (places : List Cell) (log : List (Owned Batch)) (lists : List (List Batch))
+    : Type 0 where
+  pub solid : IsSolid log
+  pub flat : all_places log ≡ places
+  pub adjacent : Adjacent first log
+  pub filed : ListedOnce log lists
+
+-- a log of all runs and one of all takings, each side by side from the first position, with each entry listed once by
+-- its end
+pub record PartsShow (q : Positions) (parts : List QueueView) : Type 0 where
   pub runs : List (Owned Batch)
   pub takes : List (Owned Batch)
-  pub solid : IsSolid runs
-  pub takes_solid : IsSolid takes
-  pub runs_flat : all_places runs ≡ q.places
-  pub takes_flat : all_places takes ≡ take q.taken q.places
-  pub runs_adjacent : Adjacent q.first runs
-  pub takes_adjacent : Adjacent q.first takes
-  pub runs_filed : ListedOnce runs (map runs_of parts)
-  pub takes_filed : ListedOnce takes (map takes_of parts)
-  pub seen : (j : ℕ) (v : QueueView) → get_elem? parts j ≡ some v → Later v q
+  pub runs_are : IsListed q.first q.places runs (map runs_of parts)
+  pub takes_are : IsListed q.first (take q.taken q.places) takes (map takes_of parts)
+
+-- the parts list the queue, which is no earlier than what each end has seen
+pub record ViewsShow (q : Positions) (parts : List QueueView) : Type 0 where
+  pub lists : PartsShow q parts
+  pub seen : (j : ℕ) (v : QueueView) → get_elem? parts j ≡ some v → Grows v.queue q
 
 -- n steps of writing are done at the place i of a stretch
 abbrev pub written_to : Batch → ℕ → ℕ → Batch

@@ -50,8 +50,8 @@ pub record IsEvent (q r : Positions) (seat : ℕ) (v w : QueueView) (event : Que
   pub here : get_elem? views seat ≡ some v
   pub shown : ViewsShow q views
   pub new_shown : ViewsShow r (slice_set views seat w)
-  pub lawful : IsLawfulQueue (queue_of q shown.runs)
-  pub made : event (queue_of q shown.runs) ≡ Ok (queue_of r new_shown.runs)
+  pub lawful : IsLawfulQueue (queue_of q shown.lists.runs)
+  pub made : event (queue_of q shown.lists.runs) ≡ Ok (queue_of r new_shown.lists.runs)
 
 -- no event: storing an item, and each load
 abbrev pub no_event : Queue → Result Queue Refusal

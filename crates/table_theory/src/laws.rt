@@ -11,10 +11,10 @@ ghost use Rattle.table_theory.specs.declared.queues.Batch.{Batch};
 ghost use Rattle.table_theory.specs.declared.queues.Positions.{Positions};
 ghost use Rattle.table_theory.specs.declared.queues.QueueView.{QueueView};
 ghost use Rattle.table_theory.specs.Positioned.{Lawful, head_of, left_of, fresh, written_at, with_claim, with_take};
-ghost use Rattle.table_theory.specs.Positioned.{blank, tail_of, with_shut, with_write};
+ghost use Rattle.table_theory.specs.Positioned.{Grows, blank, tail_of, with_shut, with_write};
 ghost use Rattle.table_theory.specs.Filing.{Owned, entry_of, moved, ListedOnce};
 ghost use Rattle.table_theory.specs.Interleaving.{Ascending, joined, Interleaves};
-ghost use Rattle.table_theory.specs.Listing.{Adjacent, ViewsShow, Later, written_to};
+ghost use Rattle.table_theory.specs.Listing.{Adjacent, ViewsShow, written_to};
 ghost use Rattle.table_theory.specs.QueueOf.{IsHistory, IsEvent, no_event, queue_of};
 
 /// The queue that a table's positions are is lawful, and each step of a table on its positions is one event of that
@@ -28,32 +28,32 @@ pub fn positions_are_queues()
         → ViewsShow q views → get_elem? views seat ≡ some v → Lawful q → 0 < length items
         → length q.places + length items ≤ q.taken + q.room → q.shut ≡ false
         → w.runs ≡ v.runs ++ record { start = head_of q; places = map fresh items } ∷ [] → w.takes ≡ v.takes
-        → Later w (with_claim q items)
+        → Grows w.queue (with_claim q items)
         → IsEvent q (with_claim q items) seat v w (claim q.room seat items) }
     ensures stored { (q : Positions) (views : List QueueView) (seat number index at : ℕ) (v w : QueueView) (run : Batch)
         → ViewsShow q views → get_elem? views seat ≡ some v → get_elem? v.runs number ≡ some run
         → index < length run.places → run.start + index ≡ q.first + at → Lawful q → q.taken ≤ at
         → (slice_index_or run.places index blank).written < 2 → written_at q at ≤ 1
         → w.runs ≡ slice_set v.runs number (written_to run index 1) → w.takes ≡ v.takes
-        → Later w (with_write q at 1)
+        → Grows w.queue (with_write q at 1)
         → IsEvent q (with_write q at 1) seat v w no_event }
     ensures raised { (q : Positions) (views : List QueueView) (seat number index at : ℕ) (v w : QueueView) (run : Batch)
         → ViewsShow q views → get_elem? views seat ≡ some v → get_elem? v.runs number ≡ some run
         → index < length run.places → run.start + index ≡ q.first + at → Lawful q → q.taken ≤ at
         → (slice_index_or run.places index blank).written < 2 → written_at q at ≤ 2
         → w.runs ≡ slice_set v.runs number (written_to run index 2) → w.takes ≡ v.takes
-        → Later w (with_write q at 2)
+        → Grows w.queue (with_write q at 2)
         → (k : ℕ) × (event : IsEvent q (with_write q at 2) seat v w (raise seat k index))
-        × (get_elem? event.shown.runs k ≡ some (seat, number, run)) }
+        × (get_elem? event.shown.lists.runs k ≡ some (seat, number, run)) }
     ensures taken { (q : Positions) (views : List QueueView) (seat count : ℕ) (v w : QueueView)
         → ViewsShow q views → get_elem? views seat ≡ some v → Lawful q → 0 < count
         → q.taken + count ≤ length q.places → ((i : ℕ) → i < count → 2 ≤ written_at q (q.taken + i))
         → w.takes ≡ v.takes ++ record { start = tail_of q; places = take count (drop q.taken q.places) } ∷ []
-        → w.runs ≡ v.runs → Later w (with_take q count)
+        → w.runs ≡ v.runs → Grows w.queue (with_take q count)
         → IsEvent q (with_take q count) seat v w (take_first q.room count) }
     ensures shut { (q : Positions) (views : List QueueView) (seat : ℕ) (v w : QueueView)
         → ViewsShow q views → get_elem? views seat ≡ some v → Lawful q → w.runs ≡ v.runs → w.takes ≡ v.takes
-        → Later w (with_shut q)
+        → Grows w.queue (with_shut q)
         → IsEvent q (with_shut q) seat v w (λ c. Ok (shut c)) }
     ensures joined { (q : Positions) (call other count : ℕ) (runs : List (Owned Batch))
         → queue_of q (map (moved call other count) runs) ≡ join_queue call other (queue_of q runs) }

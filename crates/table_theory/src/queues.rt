@@ -26,11 +26,9 @@ pub struct Positions {
     pub shut: bool,
 }
 
-/// What an end knows of one queue: the queue as it was at the end's last step, the queue as an end that it joined had
-/// seen it, its own runs and what it took.
+/// What an end knows of one queue: the queue as it was at the end's last step, its own runs and what it took.
 pub struct QueueView {
     pub queue: Positions,
-    pub joined: Positions,
     pub runs: LinkedList<Batch>,
     pub takes: LinkedList<Batch>,
 }

@@ -2,8 +2,8 @@
 use std::collections::LinkedList;
 use thiserror::Error;
 
-/// One step of an end: the number of the word, what was found there (at a store, what was stored), and the object as
-/// the step found it and as it left it. Proofs alone speak of it.
+/// One step of an end: the number of the word, what was found there (at a store too), and the object as the step found
+/// it and as it left it. Proofs alone speak of it.
 pub struct Entry<O> {
     pub word: u64,
     pub found: u64,

@@ -1,5 +1,7 @@
 -- What each event does, and what each call answers.
+pub mod Allowed
 pub mod Answering
+pub mod Changes
 pub mod Claims
 pub mod Effects
 pub mod Firsts
@@ -7,14 +9,12 @@ pub mod Lone
 pub mod Notices
 pub mod OnProcessors
 pub mod Owing
-pub mod Parkings
-pub mod QueueSteps
 pub mod Raises
 pub mod Rooms
 pub mod Saying
 pub mod SingleRuns
-pub mod StateSteps
 pub mod StatesSeen
 pub mod Takes
+pub mod Tells
 pub mod Threads
 pub mod Waking

@@ -4,3 +4,4 @@ pub mod Hands
 pub mod Lists
 pub mod Schedule
 pub mod Shown
+pub mod Common

@@ -2,7 +2,6 @@
 pub mod Acting
 pub mod Betweens
 pub mod Courses
-pub mod Following
 pub mod JoinEvents
 pub mod ListedEvents
 pub mod Once

@@ -1,5 +1,5 @@
 -- What the calls answer: the entries that they added, all of them, how their numbers compare, and what the hand then
--- has.
+-- has. The numbers and moments are those of the entries, which w's list fixes.
 use Rattle.std.specs.Prelude.{◌≡◌, ◌≢◌, ◌⊎◌, ◌+◌, ◌-◌, ◌/◌, ◌%◌, ◌<◌, ◌==◌, ℕ, zero, suc, Bool, true, false, not}
 use Rattle.std.specs.Prelude.{List, [], ◌∷◌, ◌++◌, slice_set, filter, Result, Ok, Err, Some, None}
 use Rattle.std.specs.List.{range_with_len}

@@ -52,6 +52,11 @@ abbrev pub is_among : List ℕ → ℕ → Bool
 is_among [] e = false
 is_among (x ∷ xs) e = e == x || is_among xs e
 
+-- no number stands twice in the list
+abbrev pub AreApart : List ℕ → Type 0
+AreApart [] = Unit {0}
+AreApart (x ∷ xs) = (is_among xs x ≡ false) × AreApart xs
+
 -- of the element that was taken no step was counted since
 abbrev pub IsStill : View → Try → Type 0
 IsStill w (took before tail place q r s t) = steps_in (place % 256) w.seen.object ≡ steps_in (place % 256) t.object
@@ -68,14 +73,16 @@ with_wakes v call wait tries w = record v {
   };
 }
 
--- The mask has the elements that were taken, which the hand didn't hold before, and holds beside those that it held.
--- One notify was made; then there were tries to take, each while the tail was found below the head that the notify had
--- found, until the tail was found to have reached it. All else that the hand has is as it was
+-- The mask has the elements that were taken, each once, which the hand didn't hold before, and holds beside those that
+-- it held. One notify was made; then there were tries to take, each while the tail was found below the head that the
+-- notify had found, until the tail was found to have reached it. All else that the hand has is as it was
 pub record WokeAll (call : ℕ) (v : View) (wait mask : ℕ) (w : View) : Type 0 where
   pub holds : (e : ℕ) → e < ELEMENTS → has w e ≡ (has v e || is_in mask e)
   pub woken : (e : ℕ) → e < ELEMENTS → is_in mask e ≡ true → has v e ≡ false
   pub tries : List Try
   pub mask_is : (e : ℕ) → e < ELEMENTS → is_in mask e ≡ is_among (taken_in tries) e
+  -- no element is taken twice
+  pub apart : AreApart (taken_in tries)
   pub word : ℕ
   pub tail : ℕ
   pub first : Past

@@ -98,11 +98,11 @@ impl ThreadTable {
     /// The hand that closes the table lists every event of it: each once, but for the joins.
     pub fn close(self, hand: Hand) -> Result<Places, (ThreadTable, Hand, OpenEnds)>
         requires { IsHandOf self hand }
+        ensures only { IsOnlyHand hand → MatchResult result (λ c. Unit {0}) (λ e. ⊥) }
         ensures closed { IfOk result
             (λ c. ClosedNow (call_of hand) (view_of hand) c.places c.pcs c.pending c.stops) }
-        ensures open { IfErr result (λ e. (e.0 ≡ self) × IsSameHand hand e.1
-            × WereOpen (view_of hand) e.2.others (view_of e.1)) }
-        ensures only { IsOnlyHand hand → MatchResult result (λ c. Unit {0}) (λ e. ⊥) }
+        ensures steps { IfErr result (λ e. WereOpen (view_of hand) e.2.others (view_of e.1)) }
+        ensures same { IfErr result (λ e. (e.0 ≡ self) × IsSameHand hand e.1) }
     {
         let mut hand = hand;
         let ends = count::<Brand>(&self.table.shared, &mut hand.seat);

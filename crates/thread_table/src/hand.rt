@@ -125,9 +125,9 @@ impl ThreadTable {
         requires parts { IsDivisible hand.old }
         requires empty { (p : ℕ) → p < PROCESSORS → is_in processors p ≡ true
             → (serves (view_of hand.old) p ≡ true) × (running (view_of hand.old) p ≡ None) }
-        ensures table { IsSameHand hand.old hand.new × AreOfOneTable hand.old result }
-        ensures split { Divided processors (view_of hand.old) (view_of hand.new) }
         ensures born { IsNewborn processors (view_of hand.old) (view_of hand.new) (view_of result) }
+        ensures steps { Divided processors (view_of hand.old) (view_of hand.new) }
+        ensures same { IsSameHand hand.old hand.new × AreOfOneTable hand.old result }
     {
         let mask = marks_of(processors);
         count_up::<Brand>(&self.table.shared, &mut hand.seat);
@@ -145,8 +145,8 @@ impl ThreadTable {
     /// that they made, and their parts of the table. No element was held, and no processor served, by both.
     pub fn join(&self, hand: &mut Hand, other: Hand)
         requires { IsHandOf self.now hand.old × IsHandOf self.now other }
-        ensures table { IsSameHand hand.old hand.new }
-        ensures joined { TookIn (view_of hand.old) (view_of other) (view_of hand.new) }
+        ensures steps { TookIn (view_of hand.old) (view_of other) (view_of hand.new) }
+        ensures same { IsSameHand hand.old hand.new }
     {
         let Hand {
             seat,

@@ -1,13 +1,13 @@
 //! Moves: an element that the hand holds gets the next place of an element queue.
-ghost use Rattle.std.specs.Prelude.{◌≡◌, ◌<◌, ◌+◌, true, false, slice_set, Some};
+ghost use Rattle.std.specs.Prelude.{◌≡◌, ◌<◌, ℕ, true, false, slice_set};
 ghost use Rattle.table_theory.specs.Seating.{IsSame};
 ghost use Rattle.thread_table.specs.declared.layout.TheConstants.{WORDS, ELEMENTS, RINGS};
-ghost use Rattle.thread_table.specs.Layout.{ready_ring, free_ring, wait_ring, last_head};
+ghost use Rattle.thread_table.specs.Layout.{ready_ring, free_ring, wait_ring, place_word, last_head};
 ghost use Rattle.thread_table.specs.Handles.{view_of, call_of, IsHandOf, IsSameHand};
-ghost use Rattle.thread_table.specs.Answers.{MoveAnswer, WaitAnswer, IsTicket};
+ghost use Rattle.thread_table.specs.Answers.{MoveAnswer, WaitAnswer, IsTicket, raise_event};
 ghost use Rattle.thread_table.specs.Rules.{HasStood, IsActive, has};
-ghost use Rattle.thread_table.specs.Steps.{Raises};
-ghost use Rattle.thread_table.specs.Views.{claim_of};
+ghost use Rattle.thread_table.specs.Steps.{Did};
+ghost use Rattle.thread_table.specs.Views.{HasClaimed};
 
 use crate::hand::{Hand, ThreadTable, set_held};
 use crate::layout::{FREE, READY, wait_ring};
@@ -47,12 +47,11 @@ fn raise<J: Deed>(
 )
     requires queue { (seat.old.table_id ≡ words.now.table_id) × (words.now.table_id.words ≡ WORDS) × (ring < RINGS) }
     requires mine { IsActive seat.old.me.0 }
-    requires deed { (J.call ≡ seat.old.id) × (J.at ≡ ring) × (J.element ≡ element) × (element < ELEMENTS) }
-    requires claimed { seat.old.me.0.own.claimed ≡ Some (claim_of J.at J.number J.element) }
-    requires position { (head ≡ seat.old.me.0.own.first + J.number) × (head < last_head) }
+    requires deed { (J.call ≡ seat.old.id) × (J.event ≡ raise_event seat.old.id seat.old.me.0 ring head) }
+    requires claimed { HasClaimed seat.old.me.0 ring head element × (element < ELEMENTS) × (head < last_head) }
     ensures queue { IsSame seat.old seat.new × (seat.new.me.1 ≡ seat.old.me.1) }
     ensures stands { ∥ HasStood seat.new.id seat.new.me.0 ∥₁ }
-    ensures raised { Raises J.call J.at J.number seat.old.me.0 seat.new.me.0 }
+    ensures did { (found : ℕ) × Did J.call seat.old.me.0 (place_word ring head) found J.event seat.new.me.0 }
     ensures held { held.new ≡ slice_set held.old element false }
 {
     let place = PlaceWord {
@@ -72,8 +71,8 @@ impl ThreadTable {
     pub fn try_ready(&self, hand: &mut Hand, element: Element) -> Result<(), MoveRefusal>
         requires table { IsHandOf self.now hand.old }
         requires holds { has (view_of hand.old) element ≡ true }
-        ensures table { IsSameHand hand.old hand.new }
-        ensures moved { MoveAnswer (call_of hand.old) (view_of hand.old) ready_ring element result (view_of hand.new) }
+        ensures steps { MoveAnswer (call_of hand.old) (view_of hand.old) ready_ring element result (view_of hand.new) }
+        ensures same { IsSameHand hand.old hand.new }
     {
         self.move_to(hand, READY, element)
     }
@@ -87,9 +86,9 @@ impl ThreadTable {
     ) -> Result<(), MoveRefusal>
         requires table { IsHandOf self.now hand.old }
         requires holds { has (view_of hand.old) element ≡ true }
-        ensures table { IsSameHand hand.old hand.new }
-        ensures moved { MoveAnswer (call_of hand.old) (view_of hand.old) (wait_ring wait) element result
+        ensures steps { MoveAnswer (call_of hand.old) (view_of hand.old) (wait_ring wait) element result
             (view_of hand.new) }
+        ensures same { IsSameHand hand.old hand.new }
     {
         self.move_to(hand, wait_ring(wait.number()), element)
     }
@@ -98,8 +97,8 @@ impl ThreadTable {
     pub fn try_retire(&self, hand: &mut Hand, element: Element) -> Result<(), MoveRefusal>
         requires table { IsHandOf self.now hand.old }
         requires holds { has (view_of hand.old) element ≡ true }
-        ensures table { IsSameHand hand.old hand.new }
-        ensures moved { MoveAnswer (call_of hand.old) (view_of hand.old) free_ring element result (view_of hand.new) }
+        ensures steps { MoveAnswer (call_of hand.old) (view_of hand.old) free_ring element result (view_of hand.new) }
+        ensures same { IsSameHand hand.old hand.new }
     {
         self.move_to(hand, FREE, element)
     }
@@ -108,8 +107,8 @@ impl ThreadTable {
     fn move_to(&self, hand: &mut Hand, ring: usize, element: Element) -> Result<(), MoveRefusal>
         requires table { IsHandOf self.now hand.old × (ring < RINGS) }
         requires holds { has (view_of hand.old) element ≡ true }
-        ensures table { IsSameHand hand.old hand.new }
-        ensures moved { MoveAnswer (call_of hand.old) (view_of hand.old) ring element result (view_of hand.new) }
+        ensures steps { MoveAnswer (call_of hand.old) (view_of hand.old) ring element result (view_of hand.new) }
+        ensures same { IsSameHand hand.old hand.new }
     {
         let number = element.number();
         let word = load_head(&self.table.shared, &mut hand.seat, ring);
@@ -135,8 +134,8 @@ impl ThreadTable {
     /// The wait queue's number of notifies, by one load of its head word: a ticket for a wait.
     pub fn ticket(&self, hand: &mut Hand, wait: WaitNumber) -> u32
         requires { IsHandOf self.now hand.old }
-        ensures table { IsSameHand hand.old hand.new }
-        ensures ticket { IsTicket (view_of hand.old) wait result (view_of hand.new) }
+        ensures steps { IsTicket (view_of hand.old) wait result (view_of hand.new) }
+        ensures same { IsSameHand hand.old hand.new }
     {
         HeadWord::of(load_head(&self.table.shared, &mut hand.seat, wait_ring(wait.number()))).mark
     }
@@ -154,9 +153,9 @@ impl ThreadTable {
     ) -> Result<(), MoveRefusal>
         requires table { IsHandOf self.now hand.old }
         requires holds { has (view_of hand.old) element ≡ true }
-        ensures table { IsSameHand hand.old hand.new }
-        ensures moved { WaitAnswer (call_of hand.old) (view_of hand.old) wait element ticket result
+        ensures steps { WaitAnswer (call_of hand.old) (view_of hand.old) wait element ticket result
             (view_of hand.new) }
+        ensures same { IsSameHand hand.old hand.new }
     {
         let (number, queue) = (element.number(), wait.number());
         let ring = wait_ring(queue);

@@ -20,8 +20,8 @@ impl ThreadTable {
     /// a step of it before the hand's next step, so it is the number that `step_done` then counts from.
     pub fn pc(&self, hand: &mut Hand, element: Element) -> u64
         requires { IsHandOf self.now hand.old × MayStep (view_of hand.old) element }
-        ensures table { IsSameHand hand.old hand.new }
-        ensures counted { ReadPc element (view_of hand.old) result (view_of hand.new) }
+        ensures steps { ReadPc element (view_of hand.old) result (view_of hand.new) }
+        ensures same { IsSameHand hand.old hand.new }
     {
         load_done::<Brand>(&self.table.shared, &mut hand.seat, element.number())
     }
@@ -30,8 +30,8 @@ impl ThreadTable {
     /// where the element has done 4,294,967,295 steps.
     pub fn step_done(&self, hand: &mut Hand, element: Element) -> Result<u64, Spent>
         requires { IsHandOf self.now hand.old × MayStep (view_of hand.old) element }
-        ensures table { IsSameHand hand.old hand.new }
-        ensures done { DoneAnswer (call_of hand.old) (view_of hand.old) element result (view_of hand.new) }
+        ensures steps { DoneAnswer (call_of hand.old) (view_of hand.old) element result (view_of hand.new) }
+        ensures same { IsSameHand hand.old hand.new }
     {
         let number = element.number();
         let done = load_done::<Brand>(&self.table.shared, &mut hand.seat, number);

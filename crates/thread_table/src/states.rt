@@ -5,9 +5,7 @@ ghost use Rattle.thread_table.specs.Rules.{has};
 ghost use Rattle.thread_table.specs.Answers.{StoppedNow, StartAnswer, ParkAnswer, SignalAnswer, DeliverAnswer};
 
 use crate::hand::{Hand, ThreadTable, set_held};
-use crate::steps::{
-    exchange_deliver, exchange_park, exchange_start, load_state, or_signal, or_stop,
-};
+use crate::steps::{exchange_state, load_state, or_signal, or_stop};
 use crate::words::StateWord;
 use event_theory::{Element, Signal};
 use std::marker::Brand;
@@ -45,8 +43,8 @@ impl ThreadTable {
     /// Sets the stop bit of an element, wherever it is, by one step. True where it was clear.
     pub fn stop(&self, hand: &mut Hand, element: Element) -> bool
         requires { IsHandOf self.now hand.old }
-        ensures table { IsSameHand hand.old hand.new }
-        ensures stopped { StoppedNow (call_of hand.old) (view_of hand.old) element result (view_of hand.new) }
+        ensures steps { StoppedNow (call_of hand.old) (view_of hand.old) element result (view_of hand.new) }
+        ensures same { IsSameHand hand.old hand.new }
     {
         let word = or_stop::<Brand>(&self.table.shared, &mut hand.seat, element.number());
         let state = StateWord { word };
@@ -57,8 +55,8 @@ impl ThreadTable {
     /// cell, the hand then holds it.
     pub fn try_start(&self, hand: &mut Hand, element: Element) -> Result<Started, Lost>
         requires { IsHandOf self.now hand.old }
-        ensures table { IsSameHand hand.old hand.new }
-        ensures started { StartAnswer (call_of hand.old) (view_of hand.old) element result (view_of hand.new) }
+        ensures steps { StartAnswer (call_of hand.old) (view_of hand.old) element result (view_of hand.new) }
+        ensures same { IsSameHand hand.old hand.new }
     {
         let number = element.number();
         let word = load_state(&self.table.shared, &mut hand.seat, number);
@@ -67,7 +65,7 @@ impl ThreadTable {
             return Ok(Started::NotStopped);
         }
         let new = state.started();
-        let seen = exchange_start::<Brand>(&self.table.shared, &mut hand.seat, number, word, new);
+        let seen = exchange_state::<Brand>(&self.table.shared, &mut hand.seat, number, word, new);
         if seen != word {
             return Err(Lost { seen });
         }
@@ -83,8 +81,8 @@ impl ThreadTable {
     pub fn try_park(&self, hand: &mut Hand, element: Element) -> Result<bool, Lost>
         requires table { IsHandOf self.now hand.old }
         requires holds { has (view_of hand.old) element ≡ true }
-        ensures table { IsSameHand hand.old hand.new }
-        ensures parked { ParkAnswer (call_of hand.old) (view_of hand.old) element result (view_of hand.new) }
+        ensures steps { ParkAnswer (call_of hand.old) (view_of hand.old) element result (view_of hand.new) }
+        ensures same { IsSameHand hand.old hand.new }
     {
         let number = element.number();
         let word = load_state(&self.table.shared, &mut hand.seat, number);
@@ -93,7 +91,7 @@ impl ThreadTable {
             return Ok(false);
         }
         let new = state.parked();
-        let seen = exchange_park::<Brand>(&self.table.shared, &mut hand.seat, number, word, new);
+        let seen = exchange_state::<Brand>(&self.table.shared, &mut hand.seat, number, word, new);
         if seen != word {
             return Err(Lost { seen });
         }
@@ -104,9 +102,9 @@ impl ThreadTable {
     /// Makes a signal of an element pending, wherever the element is, by one step.
     pub fn signal(&self, hand: &mut Hand, element: Element, signal: Signal) -> Signalled
         requires { IsHandOf self.now hand.old }
-        ensures table { IsSameHand hand.old hand.new }
-        ensures signalled { SignalAnswer (call_of hand.old) (view_of hand.old) element signal result
+        ensures steps { SignalAnswer (call_of hand.old) (view_of hand.old) element signal result
             (view_of hand.new) }
+        ensures same { IsSameHand hand.old hand.new }
     {
         let (number, bit) = (element.number(), signal.number());
         let word = or_signal::<Brand>(&self.table.shared, &mut hand.seat, number, bit);
@@ -122,8 +120,8 @@ impl ThreadTable {
     pub fn try_deliver(&self, hand: &mut Hand, element: Element) -> Result<u16, Lost>
         requires table { IsHandOf self.now hand.old }
         requires holds { has (view_of hand.old) element ≡ true }
-        ensures table { IsSameHand hand.old hand.new }
-        ensures delivered { DeliverAnswer (call_of hand.old) (view_of hand.old) element result (view_of hand.new) }
+        ensures steps { DeliverAnswer (call_of hand.old) (view_of hand.old) element result (view_of hand.new) }
+        ensures same { IsSameHand hand.old hand.new }
     {
         let number = element.number();
         let word = load_state(&self.table.shared, &mut hand.seat, number);
@@ -133,7 +131,7 @@ impl ThreadTable {
             return Ok(0);
         }
         let new = state.delivered();
-        let seen = exchange_deliver::<Brand>(&self.table.shared, &mut hand.seat, number, word, new);
+        let seen = exchange_state::<Brand>(&self.table.shared, &mut hand.seat, number, word, new);
         if seen != word {
             return Err(Lost { seen });
         }

@@ -22,8 +22,8 @@ impl ThreadTable {
     /// Waits for the hands that claimed a place before the notify and have not raised it.
     pub fn wake_all<R: Wait>(&self, rt: &R, hand: &mut Hand, wait: WaitNumber) -> u64
         requires { IsHandOf self.now hand.old }
-        ensures table { IsSameHand hand.old hand.new }
-        ensures woken { WokeAll (call_of hand.old) (view_of hand.old) wait result (view_of hand.new) }
+        ensures steps { WokeAll (call_of hand.old) (view_of hand.old) wait result (view_of hand.new) }
+        ensures same { IsSameHand hand.old hand.new }
     {
         let ring = wait_ring(wait.number());
         let word = add_notify::<Brand>(&self.table.shared, &mut hand.seat, wait.number());
@@ -49,8 +49,8 @@ impl ThreadTable {
     /// With `try_wake_before` it is a wake of all that never waits: a notify, and then tries until one gives None.
     pub fn notify(&self, hand: &mut Hand, wait: WaitNumber) -> u32
         requires { IsHandOf self.now hand.old }
-        ensures table { IsSameHand hand.old hand.new }
-        ensures notified { NotifiedNow (call_of hand.old) (view_of hand.old) wait result (view_of hand.new) }
+        ensures steps { NotifiedNow (call_of hand.old) (view_of hand.old) wait result (view_of hand.new) }
+        ensures same { IsSameHand hand.old hand.new }
     {
         let found = add_notify::<Brand>(&self.table.shared, &mut hand.seat, wait.number());
         HeadWord::of(found).head as u32
@@ -68,9 +68,9 @@ impl ThreadTable {
         head: u32,
     ) -> Result<Option<Element>, NextRefusal>
         requires { IsHandOf self.now hand.old }
-        ensures table { IsSameHand hand.old hand.new }
-        ensures taken { BeforeAnswer (call_of hand.old) (view_of hand.old) (wait_ring wait) head result
+        ensures steps { BeforeAnswer (call_of hand.old) (view_of hand.old) (wait_ring wait) head result
             (view_of hand.new) }
+        ensures same { IsSameHand hand.old hand.new }
     {
         let ring = wait_ring(wait.number());
         let reached = load_tail(&self.table.shared, &mut hand.seat, ring);

@@ -44,8 +44,8 @@ pub(crate) enum Act {
 /// Takes a free element.
 fn freed(threads: &ThreadTable, hand: &mut Hand) -> Option<Element>
     requires { IsHandOf threads.now hand.old }
-    ensures table { IsSameHand hand.old hand.new }
     ensures held { IfSome result (λ element. has (view_of hand.new) element ≡ true) }
+    ensures same { IsSameHand hand.old hand.new }
 {
     let Ok(element) = threads.try_free(hand) else {
         return None;
@@ -60,8 +60,8 @@ fn freed(threads: &ThreadTable, hand: &mut Hand) -> Option<Element>
 /// Takes a ready element that nobody stopped, with its number of steps done.
 fn begun<R: Wait>(rt: &R, threads: &ThreadTable, hand: &mut Hand) -> Option<(Element, u64)>
     requires { IsHandOf threads.now hand.old }
-    ensures table { IsSameHand hand.old hand.new }
     ensures held { IfSome result (λ r. has (view_of hand.new) r.0 ≡ true) }
+    ensures same { IsSameHand hand.old hand.new }
 {
     let mut signals = [0; 64];
     match begin(rt, threads, hand, &mut signals) {

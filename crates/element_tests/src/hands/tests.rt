@@ -28,12 +28,12 @@ fn turn<R: Wait>(
 ) -> Result<(Begun, Counted), Idle>
     requires table { IsHandOf threads.now hand.old }
     requires free { IsFree p (view_of hand.old) }
-    ensures table { IsSameHand hand.old hand.new }
     ensures free { IsFree p (view_of hand.new) }
     ensures adds { MatchResult result
         (λ r. Adds (behind (one_delivery r.0.element (mask_of r.0.delivered)) (behind (one_signal r.0.element signal)
         (counted_step r.1 r.0.element r.0.number))) (view_of hand.old) (view_of hand.new))
         (λ idle. Adds no_events (view_of hand.old) (view_of hand.new)) }
+    ensures same { IsSameHand hand.old hand.new }
 {
     let begun = match begin(rt, threads, hand, signals) {
         Ok(begun) => begun,

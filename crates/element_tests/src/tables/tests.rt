@@ -23,8 +23,8 @@ fn wake_and_take_off<R: Wait>(
 ) -> (u64, Result<Element, ProcessorEmpty>)
     requires table { IsHandOf table.now hand.old }
     requires mine { serves (view_of hand.old) processor ≡ true }
-    ensures table { IsSameHand hand.old hand.new }
     ensures stood { IfOk result.1 (λ element. running (view_of hand.old) processor ≡ Some element) }
+    ensures same { IsSameHand hand.old hand.new }
 {
     let woken = table.wake_all(rt, hand, wait);
     (woken, table.off(hand, processor))
@@ -37,9 +37,9 @@ fn notify_and_try(
     wait: WaitNumber,
 ) -> Result<Option<Element>, NextRefusal>
     requires table { IsHandOf table.now hand.old }
-    ensures table { IsSameHand hand.old hand.new }
     ensures taken { IfOk result (λ woken. IfSome woken (λ element. (has (view_of hand.old) element ≡ false)
         × (has (view_of hand.new) element ≡ true))) }
+    ensures same { IsSameHand hand.old hand.new }
 {
     let head = table.notify(hand, wait);
     table.try_wake_before(hand, wait, head)
@@ -49,8 +49,8 @@ fn notify_and_try(
 fn count_on(table: &ThreadTable, hand: &mut Hand, element: Element) -> (u64, Result<u64, Spent>)
     requires table { IsHandOf table.now hand.old }
     requires mine { has (view_of hand.old) element ≡ true }
-    ensures table { IsSameHand hand.old hand.new }
     ensures counted { IfOk result.1 (λ number. number ≡ result.0 + 1) }
+    ensures same { IsSameHand hand.old hand.new }
 {
     let count = table.pc(hand, element);
     (count, table.step_done(hand, element))

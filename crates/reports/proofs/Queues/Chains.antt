@@ -49,9 +49,9 @@ lines_long (b ∷ runs) = length-append (line_of b) (concat (map line_of runs)) 
 
 -- as many notes were chained as the end of a closed chain lists
 pub chained_are : (v : View) (home : Home) (chain : closed.Chain) → ChainEnded v home chain → home.chained ≡ length (concat (notes_put v))
-chained_are v home chain e = let c = e.came.closed in let l = c.listed in
-    c.puts ∙ (ap length (sym l.runs_flat) ∙ (places_long l.runs
-    ∙ (sum_by-IsPermutation long v.own.runs (map entry_of l.runs) (filed_shuffle l.runs v.own.runs l.runs_filed) ∙ sym (lines_long v.own.runs))))
+chained_are v home chain e = let c = e.came.closed in let l = c.listed.lists in
+    c.puts ∙ (ap length (sym l.runs_are.flat) ∙ (places_long l.runs
+    ∙ (sum_by-IsPermutation long v.own.runs (map entry_of l.runs) (filed_shuffle l.runs v.own.runs l.runs_are.filed) ∙ sym (lines_long v.own.runs))))
 
 pub none_left : (v : View) (home : Home) (chain : closed.Chain) → ChainEnded v home chain → chain.left ≡ 0
 none_left v home chain e = e.left_is ∙ e.came.none_left

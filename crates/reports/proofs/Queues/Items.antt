@@ -99,5 +99,5 @@ listed l p (x ∷ xs) h = λ k. (ap (item_at l) (let z : p ≡ p + 0 = omega ari
 pub items_are : (v : View) (first put taken : ℕ) (left : List _) (c : ClosedNow v first put taken left) → items_from v.own.runs first put ≡ map item_of v.seen.object.places
 items_are v first put taken left c = let s = c.listed in
     ap (λ (z : ℕ). items_from v.own.runs z put) (sym c.starts) ∙ (ap (items_from v.own.runs v.seen.object.first) c.puts
-    ∙ listed v.own.runs v.seen.object.first v.seen.object.places (λ i low. one_item v.seen.object.first i s.runs v.own.runs s.runs_filed s.runs_adjacent (let e = ap length s.runs_flat in omega arith)
-    ∙ ap (λ (z : List Cell). (get_or z i blank).item) s.runs_flat))
+    ∙ listed v.own.runs v.seen.object.first v.seen.object.places (λ i low. one_item v.seen.object.first i s.runs v.own.runs s.runs_are.filed s.runs_are.adjacent (let e = ap length s.runs_are.flat in omega arith)
+    ∙ ap (λ (z : List Cell). (get_or z i blank).item) s.runs_are.flat))

@@ -114,8 +114,8 @@ pub put_in_order : {n : ℕ} (ends : Parts → List (QueueEnd n)) (number : ℕ)
 put_in_order ends number stations last others q e v alone up =
     let c = e.closes.closed in let s = c.listed in
     let runs : e.closes.before.own.runs ≡ runs_of v = e.closes.has.runs ∙ alone in
-    let same = in_order e.closes.before.seen.object.first s.runs e.closes.before.own.runs s.runs_filed s.runs_adjacent s.solid (subst Ascending (sym runs) up) ∙ runs in
-    e.items ∙ (ap (map item_of) (sym s.runs_flat) ∙ (sym (flat_lines s.runs) ∙ ap (λ z. concat (map line_of z)) same))
+    let same = in_order e.closes.before.seen.object.first s.runs e.closes.before.own.runs s.runs_are.filed s.runs_are.adjacent s.runs_are.solid (subst Ascending (sym runs) up) ∙ runs in
+    e.items ∙ (ap (map item_of) (sym s.runs_are.flat) ∙ (sym (flat_lines s.runs) ∙ ap (λ z. concat (map line_of z)) same))
 
 -- THE PLAN SAYS NOTHING TO A RAW QUEUE
 

@@ -1,32 +1,22 @@
 -- The runs of the free elements' queue are the claims of it, and those that were taken are its takings.
-use Rattle.std.proofs.Common.{◌≡◌, ◌≢◌, ℕ, zero, suc, ◌+◌, ◌<◌, ◌≤◌, List, [], ◌∷◌, ◌++◌, ◌∙◌, map, length, drop, get_or, set, refl, sym, ap, subst, arith, Some, slice_get, Result, Ok, append-nil, append_assoc, get_or-set_same, get_or-set_other, eqb, not}
-use Rattle.std.specs.List.{list_any}
+use Rattle.thread_table.proofs.Common.{get_or-map, ◌≡◌, ◌≢◌, ℕ, zero, suc, ◌+◌, List, [], ◌∷◌, ◌++◌, ◌∙◌, map, length, drop, get_or, set, refl, sym, ap, subst, arith, Some, slice_get, Result, Ok, append-nil, get_or-set_same, get_or-set_other, map-map, nat_lt, if◌then◌else◌, Bool, Err, flat_map, map-append, get_or_from_slice_get, slice_get_within, Queue, empty_queue, full_queue, claim, raise, take_first, join_run, join_queue, Elements, let_go, claim_element, raise_element, take_element, deliver, done, wait_at, ◌>>=◌, at, change_at, Reaches, State, first_state, in_elements, effect, counted, step, Event, Refusal, UnknownName, ELEMENTS, PLACES, ring_at, items_of, retired_by, retired_in, taking_by}
+use Rattle.std.proofs.Common.{append_assoc}
+use Rattle.std.specs.Prelude.{◌==◌, ◌||◌}
+use Rattle.event_theory.specs.Chains.{empty_chain}
+use Rattle.std.proofs.lemmas.List.{length-append}
 use Rattle.std.specs.Prelude.{nat_le}
-use Rattle.std.proofs.lemmas.List.{map-append}
-use Rattle.std.proofs.lemmas.Option.{get_or_from_slice_get, slice_get_within}
-use mathlib.Core.Logic.{dite}
-use native.Mathlib.Decide.{ℕ_discrete}
-use Rattle.event_theory.specs.Runs.{Run}
-use Rattle.event_theory.specs.Queues.{Queue, empty_queue, full_queue, claim, raise, take_first, after_claim, join_run, join_queue}
-use Rattle.event_theory.specs.Chains.{Chain}
-use Rattle.event_theory.specs.Elements.{Elements, Thread, let_go, let_all_go, is_busy, put_by, claim_element, raise_element, take_element, put_on, take_off, change_thread, park, start, deliver, done}
-use Rattle.event_theory.specs.Meters.{Meters, tick, advance, set_alarm, fire, cancel}
-use Rattle.event_theory.specs.Marks.{notify_wait, wait_ring, wait_at}
-use Rattle.event_theory.specs.Results.{◌>>=◌, at, change_at}
-use Rattle.event_theory.specs.Schedules.{Reaches}
-use Rattle.event_theory.specs.States.{State, first_state, make_queue, make_chain, in_queue, in_chain, in_elements, in_meters, set_for, join, effect, counted, step}
-use Rattle.event_theory.specs.declared.alarm.Alarm.{Alarm}
-use Rattle.event_theory.specs.declared.event.Event.{Event}
+use Rattle.event_theory.specs.Elements.{let_all_go}
+use Rattle.event_theory.specs.Meters.{set_alarm}
+use Rattle.event_theory.specs.Marks.{wait_ring}
+use Rattle.event_theory.specs.States.{join}
 use Rattle.event_theory.specs.declared.event.Event.TheVariants as events
 use Rattle.event_theory.specs.declared.names.QueueName.TheVariants as names
-use Rattle.event_theory.specs.declared.refusal.Refusal.{Refusal}
-use Rattle.event_theory.specs.declared.refusal.Refusal.TheVariants.{UnknownName, TooLong, Full, Moved, NotStopped, ProcessorBusy}
+use Rattle.event_theory.specs.declared.refusal.Refusal.TheVariants.{TooLong, Full}
 use Rattle.event_theory.proofs.Keeping.Chains.{claim_ok, raise_ok}
 use Rattle.event_theory.proofs.Keeping.Queues.{take_ok}
 use Rattle.event_theory.proofs.Lists.Inversions.{then_ok, test_ok, given_ok, some_ok, change_ok}
-use Rattle.thread_table.specs.declared.layout.TheConstants.{ELEMENTS, PLACES}
-use Rattle.thread_table.specs.Schedules.{begun, state_after, elements_after, ring_at, IsAllowed}
-use Rattle.thread_table.specs.Retiring.{items_of, retired_by, retired_in, taking_by, AreRetired}
+use Rattle.thread_table.specs.Schedules.{begun, state_after, elements_after, IsAllowed}
+use Rattle.thread_table.specs.Retiring.{AreRetired}
 use Rattle.thread_table.proofs.Schedule.Schedules.{elements_of}
 
 -- what the runs of a queue put there, and how many items were taken
@@ -40,204 +30,131 @@ told rings = queue_told (get_or rings 1 (empty_queue PLACES))
 abbrev with_more : List (List ℕ) → ℕ → List (List ℕ) × ℕ → List (List ℕ) × ℕ
 with_more more n t = (t.0 ++ more, t.1 + n)
 
+-- what comes of it, if it goes, is so
+abbrev Gives : {A : Type 0} → (A → Type 0) → Result A Refusal → Type 0
+Gives {A} P said = (t : A) → said ≡ Ok t → P t
+
+module _ {B : Type 0} (P : B → Type 0) where
+  then_gives : {A : Type 0} (said : Result A Refusal) (f : A → Result B Refusal) → ((x : A) → said ≡ Ok x → Gives P (f x)) → Gives P (said >>= f)
+  then_gives said f each t ok = let a = then_ok said f t ok in each a.0 a.1 t a.2
+
+  test_gives : (test : Bool) (e : Refusal) (said : Result B Refusal) → Gives P said → Gives P (if test then Err e else said)
+  test_gives test e said gives t ok = gives t (test_ok test e said t ok).1
+
+  ok_gives : (x : B) → P x → Gives P (Ok x)
+  ok_gives x is t ok = subst P (given_ok x t ok) is
+
 -- an event of the elements adds so much to it, and takes so many
 abbrev Adds : List (List ℕ) → ℕ → (Elements → Result Elements Refusal) → Type 0
-Adds more n event = (s t : Elements) → event s ≡ Ok t → told t.rings ≡ with_more more n (told s.rings)
+Adds more n event = (s : Elements) → Gives (λ t. told t.rings ≡ with_more more n (told s.rings)) (event s)
 
 -- so does an event of the state
 abbrev AddsTo : List (List ℕ) → ℕ → (State → Result State Refusal) → Type 0
-AddsTo more n event = (s t : State) → event s ≡ Ok t → told t.elements.rings ≡ with_more more n (told s.elements.rings)
+AddsTo more n event = (s : State) → Gives (λ t. told t.elements.rings ≡ with_more more n (told s.elements.rings)) (event s)
 
-none_more : (rings : List Queue) → told rings ≡ with_more [] 0 (told rings)
-none_more rings =
-    let e : (told rings).1 ≡ (told rings).1 + 0 = omega arith in
-    λ i. (sym (append-nil (told rings).0) i, e i)
+none_more : (old : List (List ℕ) × ℕ) → old ≡ with_more [] 0 old
+none_more old =
+    let e : old.1 ≡ old.1 + 0 = omega arith in
+    λ i. (sym (append-nil old.0) i, e i)
 
--- a queue that has the runs that it had, and of which no more was taken
-same_runs : (rings : List Queue) (ring : ℕ) (old new : Queue) → slice_get rings ring ≡ Some old → queue_told new ≡ queue_told old → told (set rings ring new) ≡ told rings
-same_runs rings ring old new there same = dite (ℕ_discrete ring 1)
-    (λ is. let there' : slice_get rings 1 ≡ Some old = subst (λ (n : ℕ). slice_get rings n ≡ Some old) is there in
-    ap (λ (n : ℕ). told (set rings n new)) is
-    ∙ (ap queue_told (get_or-set_same rings 1 new (empty_queue PLACES) (slice_get_within rings 1 old there'))
-    ∙ (same ∙ ap queue_told (sym (get_or_from_slice_get rings 1 old (empty_queue PLACES) there')))))
-    (λ ne. ap queue_told (get_or-set_other rings ring 1 new (empty_queue PLACES) (λ z. ne (sym z))))
+abbrev Stays : Elements → Elements → Type 0
+Stays s t = told t.rings ≡ with_more [] 0 (told s.rings)
 
--- another queue has whatever runs
-other_runs : (rings : List Queue) (ring : ℕ) (new : Queue) → ring ≢ 1 → told (set rings ring new) ≡ told rings
-other_runs rings ring new ne = ap queue_told (get_or-set_other rings ring 1 new (empty_queue PLACES) (λ z. ne (sym z)))
+-- one queue has so many more runs, and more taken
+record Changes (more : List (List ℕ)) (n ring : ℕ) (s t : Elements) : Type 0 where
+  old : Queue
+  new : Queue
+  there : slice_get s.rings ring ≡ Some old
+  is : queue_told new ≡ with_more more n (queue_told old)
+  rings : t.rings ≡ set s.rings ring new
 
--- more runs, or more taken
-more_runs : (rings : List Queue) (more : List (List ℕ)) (n : ℕ) (old new : Queue) → slice_get rings 1 ≡ Some old → queue_told new ≡ with_more more n (queue_told old) → told (set rings 1 new) ≡ with_more more n (told rings)
-more_runs rings more n old new there is = ap queue_told (get_or-set_same rings 1 new (empty_queue PLACES) (slice_get_within rings 1 old there))
-    ∙ (is ∙ ap (λ (q : Queue). with_more more n (queue_told q)) (sym (get_or_from_slice_get rings 1 old (empty_queue PLACES) there)))
+-- so it is of the free elements, where the queue is theirs, and else theirs stays
+of_free : {more : List (List ℕ)} {n : ℕ} {s t : Elements} → Changes more n 1 s t → told t.rings ≡ with_more more n (told s.rings)
+of_free {more} {n} {s} {t} c = ap told c.rings ∙ (ap queue_told (get_or-set_same s.rings 1 c.new (empty_queue PLACES) (slice_get_within s.rings 1 c.old c.there))
+    ∙ (c.is ∙ ap (λ (q : Queue). with_more more n (queue_told q)) (sym (get_or_from_slice_get s.rings 1 c.old (empty_queue PLACES) c.there))))
 
-claim_rings : (ring call : ℕ) (items : List ℕ) (s t : Elements) → claim_element ring call items s ≡ Ok t → (old : Queue) × (new : Queue) × (slice_get s.rings ring ≡ Some old) × (new ≡ after_claim call items old) × (set s.rings ring new ≡ t.rings)
-claim_rings ring call items s t ok =
-    let a = test_ok (list_any (nat_le (length s.threads)) items) UnknownName _ t ok in
-    let b = then_ok (change_at ring (claim 1 call items) s.rings) _ t a.1 in
-    let c = then_ok (let_all_go call items s.held) _ t b.2 in
-    let d = change_ok ring (claim 1 call items) s.rings b.0 b.1 in
-    (d.0, d.1, d.2, claim_ok 1 call items d.0 d.1 d.3, sym d.4 ∙ ap (λ (e : Elements). e.rings) (given_ok _ t c.2))
+of_other : {more : List (List ℕ)} {n ring : ℕ} {s t : Elements} → ring ≢ 1 → Changes more n ring s t → told t.rings ≡ with_more [] 0 (told s.rings)
+of_other {more} {n} {ring} {s} {t} ne c = ap told c.rings ∙ (ap queue_told (get_or-set_other s.rings ring 1 c.new (empty_queue PLACES) (λ z. ne (sym z))) ∙ none_more (told s.rings))
 
-claim_adds : (ring call : ℕ) (items : List ℕ) → ring ≢ 1 → Adds [] 0 (claim_element ring call items)
-claim_adds ring call items ne s t ok = let d = claim_rings ring call items s t ok in ap told (sym d.4) ∙ (other_runs s.rings ring d.1 ne ∙ none_more s.rings)
+-- where a run is claimed
+claimed : (ring call : ℕ) (items : List ℕ) (s t : Elements) → change_at ring (claim 1 call items) s.rings ≡ Ok t.rings → Changes (items ∷ []) 0 ring s t
+claimed ring call items s t ok = let d = change_ok ring (claim 1 call items) s.rings t.rings ok in let e : d.0.taken ≡ d.0.taken + 0 = omega arith in record {
+  old = d.0;
+  new = d.1;
+  there = d.2;
+  is = ap queue_told (claim_ok 1 call items d.0 d.1 d.3) ∙ (λ i. (map-append items_of d.0.history (record { call = call; items = items } ∷ []) i, e i));
+  rings = d.4;
+}
 
-free_adds : (call : ℕ) (items : List ℕ) → Adds (items ∷ []) 0 (claim_element 1 call items)
-free_adds call items s t ok =
-    let d = claim_rings 1 call items s t ok in
-    let e : d.0.taken ≡ d.0.taken + 0 = omega arith in
-    let is : queue_told (after_claim call items d.0) ≡ with_more (items ∷ []) 0 (queue_told d.0) = λ i. (map-append items_of d.0.history (record { call = call; items = items } ∷ []) i, e i) in
-    ap told (sym d.4) ∙ more_runs s.rings (items ∷ []) 0 d.0 d.1 d.2 (ap queue_told d.3 ∙ is)
+claim_changes : (ring call : ℕ) (items : List ℕ) (s : Elements) → Gives (Changes (items ∷ []) 0 ring s) (claim_element ring call items s)
+claim_changes ring call items s = let P : Elements → Type 0 = Changes (items ∷ []) 0 ring s in
+    test_gives P _ _ _ (then_gives P (change_at ring (claim 1 call items) s.rings) _ (λ rings is. then_gives P (let_all_go call items s.held) _ (λ held _. ok_gives P _ (claimed ring call items s _ is))))
 
-raise_adds : (ring call run index : ℕ) → Adds [] 0 (raise_element ring call run index)
-raise_adds ring call run index s t ok =
-    let a = then_ok (change_at ring (raise call run index) s.rings) _ t ok in
-    let d = change_ok ring (raise call run index) s.rings a.0 a.1 in
-    let r = raise_ok call run index d.0 d.1 d.3 in
-    ap (λ (e : Elements). told e.rings) (sym (given_ok _ t a.2)) ∙ (ap told d.4 ∙ (same_runs s.rings ring d.0 d.1 d.2 (ap queue_told r.is) ∙ none_more s.rings))
+wait_changes : (call wait element ticket : ℕ) (s : Elements) → Gives (Changes ((element ∷ []) ∷ []) 0 (wait_ring wait) s) (wait_at call wait element ticket s)
+wait_changes call wait element ticket s = let P : Elements → Type 0 = Changes ((element ∷ []) ∷ []) 0 (wait_ring wait) s in
+    then_gives P (at element s.threads) _ (λ thread _. then_gives P (at wait s.notified) _ (λ count _. then_gives P (let_go call element s.held) _ (λ held _.
+    test_gives P _ _ _ (then_gives P (change_at (wait_ring wait) (claim 1 call (element ∷ [])) s.rings) _ (λ rings is. ok_gives P _ (claimed (wait_ring wait) call (element ∷ []) s _ is))))))
 
--- the queue that a taking left
-take_rings : (ring call count : ℕ) (s t : Elements) → take_element ring call count s ≡ Ok t → (old : Queue) × (new : Queue) × (slice_get s.rings ring ≡ Some old) × (new.history ≡ old.history) × (new.taken ≡ old.taken + count)
-    × (0 < count) × (count ≤ 1) × (t.rings ≡ set s.rings ring new)
-take_rings ring call count s t ok =
-    let a = then_ok (at ring s.rings) _ t ok in
-    let b = then_ok (take_first 1 count a.0) _ t a.2 in
-    let there : slice_get s.rings ring ≡ Some a.0 = some_ok (slice_get s.rings ring) UnknownName a.0 a.1 in
-    let o = take_ok 1 count a.0 b.0 b.1 in
-    (a.0, b.0, there, ap (λ (q : Queue). q.history) o.0, ap (λ (q : Queue). q.taken) o.0, o.1, o.2, ap (λ (e : Elements). e.rings) (sym (given_ok _ t b.2)))
+take_changes : (ring call count : ℕ) (s : Elements) → Gives (Changes [] 1 ring s) (take_element ring call count s)
+take_changes ring call count s = let P : Elements → Type 0 = Changes [] 1 ring s in then_gives P (at ring s.rings) _ (λ old there. then_gives P (take_first 1 count old) _ (λ new is.
+    let o = take_ok 1 count old new is in let some = o.1 in let most = o.2 in
+    let one : new.taken ≡ old.taken + 1 = ap (λ (q : Queue). q.taken) o.0 ∙ omega arith in
+    let runs : map items_of new.history ≡ map items_of old.history ++ [] = ap (λ (q : Queue). map items_of q.history) o.0 ∙ sym (append-nil (map items_of old.history)) in
+    ok_gives P _ record { old = old; new = new; there = some_ok (slice_get s.rings ring) UnknownName old there; is = λ i. (runs i, one i); rings = refl }))
 
-take_adds : (ring call count : ℕ) → ring ≢ 1 → Adds [] 0 (take_element ring call count)
-take_adds ring call count ne s t ok = let d = take_rings ring call count s t ok in ap told d.7 ∙ (other_runs s.rings ring d.1 ne ∙ none_more s.rings)
+raise_changes : (ring call run index : ℕ) (s : Elements) → Gives (Changes [] 0 ring s) (raise_element ring call run index s)
+raise_changes ring call run index s = let P : Elements → Type 0 = Changes [] 0 ring s in then_gives P (change_at ring (raise call run index) s.rings) _ (λ rings ok. let d = change_ok ring (raise call run index) s.rings rings ok in
+    ok_gives P _ record { old = d.0; new = d.1; there = d.2; is = ap queue_told (raise_ok call run index d.0 d.1 d.3).is ∙ none_more (queue_told d.0); rings = d.4 })
 
-take_free_adds : (call count : ℕ) → Adds [] 1 (take_element 1 call count)
-take_free_adds call count s t ok =
-    let d = take_rings 1 call count s t ok in
-    let some = d.5 in let most = d.6 in let now = d.4 in
-    let one : d.1.taken ≡ d.0.taken + 1 = omega arith in
-    let runs : map items_of d.1.history ≡ map items_of d.0.history ++ [] = ap (map items_of) d.3 ∙ sym (append-nil (map items_of d.0.history)) in
-    ap told d.7 ∙ more_runs s.rings [] 1 d.0 d.1 d.2 (λ i. (runs i, one i))
-
-wait_adds : (call wait element ticket : ℕ) → Adds [] 0 (wait_at call wait element ticket)
-wait_adds call wait element ticket s t ok =
-    let a = then_ok (at element s.threads) _ t ok in
-    let b = then_ok (at wait s.notified) _ t a.2 in
-    let c = then_ok (let_go call element s.held) _ t b.2 in
-    let e = test_ok (not (eqb b.0 ticket)) Moved _ t c.2 in
-    let f = then_ok (change_at (wait_ring wait) (claim 1 call (element ∷ [])) s.rings) _ t e.1 in
-    let d = change_ok (wait_ring wait) (claim 1 call (element ∷ [])) s.rings f.0 f.1 in
-    ap (λ (e : Elements). told e.rings) (sym (given_ok _ t f.2)) ∙ (ap told d.4 ∙ (other_runs s.rings (wait_ring wait) d.1 (λ z. omega arith) ∙ none_more s.rings))
-
--- an event that leaves the queues
-leaves : (s t u : Elements) → u.rings ≡ s.rings → u ≡ t → told t.rings ≡ with_more [] 0 (told s.rings)
-leaves s t u same is = ap (λ (e : Elements). told e.rings) (sym is) ∙ (ap told same ∙ none_more s.rings)
-
-put_adds : (call processor element : ℕ) → Adds [] 0 (put_on call processor element)
-put_adds call processor element s t ok =
-    let a = then_ok (at element s.threads) _ t ok in
-    let b = then_ok (at processor s.processors) _ t a.2 in
-    let c = then_ok (let_go call element s.held) _ t b.2 in
-    let e = test_ok (is_busy b.0) ProcessorBusy _ t c.2 in
-    leaves s t _ refl (given_ok _ t e.1)
-
-off_adds : (call processor : ℕ) → Adds [] 0 (take_off call processor)
-off_adds call processor s t ok = let a = then_ok (at processor s.processors >>= put_by call) _ t ok in leaves s t _ refl (given_ok _ t a.2)
-
-thread_adds : (element : ℕ) (change : Thread → Result Thread Refusal) (s t : Elements) → change_thread element change s ≡ Ok t → told t.rings ≡ with_more [] 0 (told s.rings)
-thread_adds element change s t ok = let a = then_ok (change_at element change s.threads) _ t ok in leaves s t _ refl (given_ok _ t a.2)
-
-park_adds : (call element : ℕ) → Adds [] 0 (park call element)
-park_adds call element s t ok =
-    let a = then_ok (at element s.threads) _ t ok in
-    let b = then_ok (let_go call element s.held) _ t a.2 in
-    let c = test_ok (not a.0.stop) NotStopped _ t b.2 in
-    leaves s t _ refl (given_ok _ t c.1)
-
-start_adds : (call element : ℕ) → Adds [] 0 (start call element)
-start_adds call element s t ok =
-    let a = then_ok (at element s.threads) _ t ok in
-    let b = test_ok (not a.0.stop) NotStopped _ t a.2 in
-    leaves s t _ refl (given_ok _ t b.1)
-
-notify_adds : (wait : ℕ) → Adds [] 0 (notify_wait wait)
-notify_adds wait s t ok = let a = then_ok (change_at wait _ s.notified) _ t ok in leaves s t _ refl (given_ok _ t a.2)
-
-items_joined : (call other : ℕ) (runs : List Run) → map items_of (map (join_run call other) runs) ≡ map items_of runs
-items_joined call other [] = refl
-items_joined call other (run ∷ runs) = ap (λ xs. run.items ∷ xs) (items_joined call other runs)
+-- an event that changes one other part
+part_adds : {A : Type 0} (said : Elements → Result A Refusal) (f : Elements → A → Elements) → ((s : Elements) (x : A) → (f s x).rings ≡ s.rings) → Adds [] 0 (λ s. said s >>= λ x. Ok (f s x))
+part_adds said f same s = then_gives (Stays s) (said s) _ (λ x _. ok_gives (Stays s) (f s x) (ap told (same s x) ∙ none_more (told s.rings)))
 
 rings_joined : (call other : ℕ) (rings : List Queue) → told (map (join_queue call other) rings) ≡ told rings
-rings_joined call other [] = refl
-rings_joined call other (p ∷ []) = refl
-rings_joined call other (p ∷ q ∷ rings) = λ i. (items_joined call other q.history i, q.taken)
+rings_joined call other rings = let q : Queue = get_or rings 1 (empty_queue PLACES) in
+    ap queue_told (get_or-map (join_queue call other) rings 1 (empty_queue PLACES)) ∙ (λ i. (map-map items_of (join_run call other) q.history i, q.taken))
 
 -- events of the state
 elements_add : (more : List (List ℕ)) (n : ℕ) (event : Elements → Result Elements Refusal) → Adds more n event → AddsTo more n (in_elements event)
-elements_add more n event adds s t ok = let a = then_ok (event s.elements) _ t ok in ap (λ (z : State). told z.elements.rings) (sym (given_ok _ t a.2)) ∙ adds s.elements a.0 a.1
+elements_add more n event adds s = let P : State → Type 0 = λ t. told t.elements.rings ≡ with_more more n (told s.elements.rings) in
+    then_gives P (event s.elements) _ (λ e is. ok_gives P _ (adds s.elements e is))
 
-still : (s t u : State) → u.elements ≡ s.elements → u ≡ t → told t.elements.rings ≡ with_more [] 0 (told s.elements.rings)
-still s t u same is = ap (λ (z : State). told z.elements.rings) (sym is) ∙ (ap (λ (e : Elements). told e.rings) same ∙ none_more s.elements.rings)
-
-queue_adds : (number : ℕ) (event : Queue → Result Queue Refusal) → AddsTo [] 0 (in_queue number event)
-queue_adds number event s t ok = let a = then_ok (change_at number event s.queues) _ t ok in still s t _ refl (given_ok _ t a.2)
-
-chain_adds : (number : ℕ) (event : Chain → Result Chain Refusal) → AddsTo [] 0 (in_chain number event)
-chain_adds number event s t ok = let a = then_ok (change_at number event s.chains) _ t ok in still s t _ refl (given_ok _ t a.2)
-
-meters_add : (event : Meters → Result Meters Refusal) → AddsTo [] 0 (in_meters event)
-meters_add event s t ok = let a = then_ok (event s.meters) _ t ok in still s t _ refl (given_ok _ t a.2)
-
-make_queue_adds : (capacity : ℕ) → AddsTo [] 0 (make_queue capacity)
-make_queue_adds capacity s t ok = let a = test_ok _ TooLong _ t ok in let b = test_ok _ Full _ t a.1 in still s t _ refl (given_ok _ t b.1)
-
-make_chain_adds : AddsTo [] 0 make_chain
-make_chain_adds s t ok = let b = test_ok _ Full _ t ok in still s t _ refl (given_ok _ t b.1)
-
-set_for_add : (alarm : Alarm) → AddsTo [] 0 (set_for alarm)
-set_for_add alarm s t ok = let a = then_ok (at alarm.element s.elements.threads) _ t ok in meters_add (set_alarm alarm) s t a.2
+-- one that changes another part
+else_adds : {A : Type 0} (said : State → Result A Refusal) (f : State → A → State) → ((s : State) (x : A) → (f s x).elements ≡ s.elements) → AddsTo [] 0 (λ s. said s >>= λ x. Ok (f s x))
+else_adds said f same s = let P : State → Type 0 = λ t. Stays s.elements t.elements in
+    then_gives P (said s) _ (λ x _. ok_gives P (f s x) (ap (λ (e : Elements). told e.rings) (same s x) ∙ none_more (told s.elements.rings)))
 
 join_adds : (call other : ℕ) → AddsTo [] 0 (join call other)
-join_adds call other s t ok =
-    let a = test_ok (eqb call other) UnknownName _ t ok in
-    ap (λ (z : State). told z.elements.rings) (sym (given_ok _ t a.1)) ∙ (rings_joined call other s.elements.rings ∙ none_more s.elements.rings)
+join_adds call other s = let P : State → Type 0 = λ t. Stays s.elements t.elements in
+    test_gives P _ _ _ (ok_gives P _ (rings_joined call other s.elements.rings ∙ none_more (told s.elements.rings)))
 
 effect_adds : (event : Event) → AddsTo (retired_by event) (length (taking_by event)) (effect event)
-effect_adds (events.Queue capacity) = make_queue_adds capacity
-effect_adds events.Chain = make_chain_adds
-effect_adds (events.Claim call (names.Bytes queue) items) = queue_adds queue _
-effect_adds (events.Claim call (names.Notes chain) items) = chain_adds chain _
-effect_adds (events.Claim call names.Ready items) = elements_add [] 0 _ (claim_adds 0 call items (λ z. omega arith))
-effect_adds (events.Claim call names.Free items) = elements_add (items ∷ []) 0 _ (free_adds call items)
-effect_adds (events.Claim call (names.Wait wait) items) = elements_add [] 0 _ (claim_adds (wait_ring wait) call items (λ z. omega arith))
-effect_adds (events.Raise call (names.Bytes queue) run index) = queue_adds queue _
-effect_adds (events.Raise call (names.Notes chain) run index) = chain_adds chain _
-effect_adds (events.Raise call names.Ready run index) = elements_add [] 0 _ (raise_adds 0 call run index)
-effect_adds (events.Raise call names.Free run index) = elements_add [] 0 _ (raise_adds 1 call run index)
-effect_adds (events.Raise call (names.Wait wait) run index) = elements_add [] 0 _ (raise_adds (wait_ring wait) call run index)
-effect_adds (events.Take call (names.Bytes queue) count) = queue_adds queue _
-effect_adds (events.Take call (names.Notes chain) count) = chain_adds chain _
-effect_adds (events.Take call names.Ready count) = elements_add [] 0 _ (take_adds 0 call count (λ z. omega arith))
-effect_adds (events.Take call names.Free count) = elements_add [] 1 _ (take_free_adds call count)
-effect_adds (events.Take call (names.Wait wait) count) = elements_add [] 0 _ (take_adds (wait_ring wait) call count (λ z. omega arith))
-effect_adds (events.On call processor element) = elements_add [] 0 _ (put_adds call processor element)
-effect_adds (events.Off call processor) = elements_add [] 0 _ (off_adds call processor)
-effect_adds (events.Stop call element) = elements_add [] 0 _ (thread_adds element _)
-effect_adds (events.Park call element) = elements_add [] 0 _ (park_adds call element)
-effect_adds (events.Start call element) = elements_add [] 0 _ (start_adds call element)
-effect_adds (events.Signal call element number) = elements_add [] 0 _ (thread_adds element _)
-effect_adds (events.Deliver call element) = elements_add [] 0 (deliver call element) (λ s. thread_adds element _ s)
-effect_adds (events.Done call element) = elements_add [] 0 (done call element) (λ s. thread_adds element _ s)
-effect_adds (events.Notify call chain) = chain_adds chain _
-effect_adds (events.NotifyWait call wait) = elements_add [] 0 _ (notify_adds wait)
-effect_adds (events.Round call chain) = chain_adds chain _
-effect_adds (events.Leave call chain) = chain_adds chain _
-effect_adds (events.Tick call gauge amount) = meters_add (tick gauge amount)
-effect_adds (events.Advance call) = meters_add advance
-effect_adds (events.Set call due element number) = set_for_add _
-effect_adds (events.Fire call slot) = meters_add (fire slot)
-effect_adds (events.Cancel call slot) = meters_add (cancel slot)
-effect_adds (events.Shut call queue) = queue_adds queue _
-effect_adds (events.WaitAt call wait element ticket) = elements_add [] 0 _ (wait_adds call wait element ticket)
+effect_adds (events.Queue capacity) = λ s. let P : State → Type 0 = λ t. Stays s.elements t.elements in
+    test_gives P (capacity == 0 || nat_lt 256 capacity) TooLong _ (test_gives P (nat_le 8 (length s.queues)) Full _ (ok_gives P (record s { queues = s.queues ++ empty_queue capacity ∷ [] }) (none_more (told s.elements.rings))))
+effect_adds events.Chain = λ s. let P : State → Type 0 = λ t. Stays s.elements t.elements in
+    test_gives P (nat_le 8 (length s.chains)) Full _ (ok_gives P (record s { chains = s.chains ++ empty_chain ∷ [] }) (none_more (told s.elements.rings)))
+effect_adds (events.Claim call names.Ready items) = elements_add [] 0 _ (λ s t ok. of_other (λ z. omega arith) (claim_changes 0 call items s t ok))
+effect_adds (events.Claim call names.Free items) = elements_add (items ∷ []) 0 _ (λ s t ok. of_free (claim_changes 1 call items s t ok))
+effect_adds (events.Claim call (names.Wait wait) items) = elements_add [] 0 _ (λ s t ok. of_other (λ z. omega arith) (claim_changes (wait_ring wait) call items s t ok))
+effect_adds (events.Raise call names.Ready run index) = elements_add [] 0 _ (λ s t ok. of_other (λ z. omega arith) (raise_changes 0 call run index s t ok))
+effect_adds (events.Raise call names.Free run index) = elements_add [] 0 _ (λ s t ok. of_free (raise_changes 1 call run index s t ok))
+effect_adds (events.Raise call (names.Wait wait) run index) = elements_add [] 0 _ (λ s t ok. of_other (λ z. omega arith) (raise_changes (wait_ring wait) call run index s t ok))
+effect_adds (events.Take call names.Ready count) = elements_add [] 0 _ (λ s t ok. of_other (λ z. omega arith) (take_changes 0 call count s t ok))
+effect_adds (events.Take call names.Free count) = elements_add [] 1 _ (λ s t ok. of_free (take_changes 1 call count s t ok))
+effect_adds (events.Take call (names.Wait wait) count) = elements_add [] 0 _ (λ s t ok. of_other (λ z. omega arith) (take_changes (wait_ring wait) call count s t ok))
+effect_adds (events.On call processor element) = elements_add [] 0 _ (λ s. then_gives (Stays s) (at element s.threads) _ (λ thread _. then_gives (Stays s) (at processor s.processors) _ (λ seat _. then_gives (Stays s) (let_go call element s.held) _ (λ held _. test_gives (Stays s) _ _ _ (ok_gives (Stays s) _ (none_more (told s.rings)))))))
+effect_adds (events.Off call processor) = elements_add [] 0 _ (part_adds _ _ (λ s x. refl))
+effect_adds (events.Stop call element) = elements_add [] 0 _ (part_adds _ _ (λ s x. refl))
+effect_adds (events.Park call element) = elements_add [] 0 _ (λ s. then_gives (Stays s) (at element s.threads) _ (λ thread _. then_gives (Stays s) (let_go call element s.held) _ (λ held _. test_gives (Stays s) _ _ _ (ok_gives (Stays s) _ (none_more (told s.rings))))))
+effect_adds (events.Start call element) = elements_add [] 0 _ (λ s. then_gives (Stays s) (at element s.threads) _ (λ thread _. test_gives (Stays s) _ _ _ (ok_gives (Stays s) _ (none_more (told s.rings)))))
+effect_adds (events.Signal call element number) = elements_add [] 0 _ (part_adds _ _ (λ s x. refl))
+effect_adds (events.Deliver call element) = elements_add [] 0 (deliver call element) (part_adds _ _ (λ s x. refl))
+effect_adds (events.Done call element) = elements_add [] 0 (done call element) (part_adds _ _ (λ s x. refl))
+effect_adds (events.NotifyWait call wait) = elements_add [] 0 _ (part_adds _ _ (λ s x. refl))
+effect_adds (events.Set call due element number) = λ s. then_gives (λ t. Stays s.elements t.elements) (at element s.elements.threads) _ (λ thread _. else_adds (λ s. set_alarm (record { due = due; element = element; signal = number }) s.meters) (λ s meters. record s { meters = meters }) (λ s x. refl) s)
+effect_adds (events.WaitAt call wait element ticket) = elements_add [] 0 _ (λ s t ok. of_other (λ z. omega arith) (wait_changes call wait element ticket s t ok))
 effect_adds (events.Join call other) = join_adds call other
+effect_adds event = else_adds _ _ (λ s x. refl)
 
 step_adds : (event : Event) → AddsTo (retired_by event) (length (taking_by event)) (step event)
 step_adds event s t ok = let a = then_ok (effect event s) _ t ok in ap (λ (z : State). told z.elements.rings) (sym (given_ok (counted a.0) t a.2)) ∙ effect_adds event s a.0 a.1
@@ -249,13 +166,12 @@ step_takes event s t ok = ap (λ (p : List (List ℕ) × ℕ). p.1) (step_adds e
 
 -- how many free elements the events took
 abbrev pub takings_in : List Event → ℕ
-takings_in [] = 0
-takings_in (event ∷ past) = length (taking_by event) + takings_in past
+takings_in past = length (flat_map taking_by past)
 
 reached_adds : (s : State) (past : List Event) (t : State) → Reaches s past t → told t.elements.rings ≡ with_more (retired_in past) (takings_in past) (told s.elements.rings)
-reached_adds s [] t there = ap (λ (z : State). told z.elements.rings) there ∙ none_more s.elements.rings
+reached_adds s [] t there = ap (λ (z : State). told z.elements.rings) there ∙ none_more (told s.elements.rings)
 reached_adds s (event ∷ past) t there =
-    let e : (told s.elements.rings).1 + length (taking_by event) + takings_in past ≡ (told s.elements.rings).1 + (length (taking_by event) + takings_in past) = omega arith in
+    let e : (told s.elements.rings).1 + length (taking_by event) + takings_in past ≡ (told s.elements.rings).1 + takings_in (event ∷ past) = omega (arith, length-append (taking_by event) (flat_map taking_by past)) in
     reached_adds there.0 past t there.2
     ∙ (ap (with_more (retired_in past) (takings_in past)) (step_adds event s there.0 there.1)
     ∙ (λ i. (append_assoc (told s.elements.rings).0 (retired_by event) (retired_in past) i, e i)))

@@ -1,47 +1,19 @@
 -- What closing a table answers, of the last state and of the words that were read.
-use Rattle.std.proofs.Common.{◌≡◌, ◌≢◌, ℕ, zero, suc, ◌+◌, ◌-◌, ◌%◌, ◌<◌, Bool, true, false, List, [], ◌∷◌, length, get_or, None, Some, refl, sym, ap, subst, ◌∙◌, arith}
-use Rattle.std.specs.Int.{bit_at}
-use mathlib.Core.Option.{some}
-use mathlib.Core.Logic.{dite}
-use native.Mathlib.Decide.{dec_lt, ℕ_discrete}
-use lib.ListN.{get_elem?}
-use Rattle.atomic_table.specs.Table.{State, Final, Seen}
+use Rattle.thread_table.proofs.Common.{◌≡◌, ◌≢◌, ℕ, ◌+◌, ◌-◌, ◌%◌, ◌<◌, true, false, List, [], ◌∷◌, length, get_or, None, Some, refl, sym, ap, subst, ◌∙◌, arith, there_is, true_from_ne_false, bit_at, some, dite, dec_lt, ℕ_discrete, get_elem?, Final, load, ends_word, Acts, Having, one_at, Elements, IsWhole, ELEMENTS, Place, Claimed, Shape, View, ClosedNow, PlaceOf, word_at, Rule, HandIs, nothing_of, quiet, ring_at, thread_at, Event, WordsShow, had_by_both, map, at_map, at_map_back, Made, AreMade, made_of}
+use Rattle.atomic_table.specs.Table.{State, Seen}
 use Rattle.table_theory.specs.Ledgers as ends
-use Rattle.table_theory.specs.Ledgers.{load}
 use Rattle.table_theory.proofs.Standing.{rest_spent}
-use Rattle.thread_table.specs.Layout.{ends_word}
-use Rattle.thread_table.specs.Entries.{Acts}
-use Rattle.thread_table.specs.declared.rule.Having.{Having}
-use Rattle.thread_table.proofs.Schedule.Acting.{acts_one}
-use Rattle.table_theory.proofs.Owned.{one_at}
-use Rattle.event_theory.specs.Elements.{Elements}
-use Rattle.table_theory.specs.Sharing.{IsWhole, IsCount}
-use Rattle.thread_table.specs.declared.layout.TheConstants.{ELEMENTS}
-use Rattle.thread_table.specs.declared.places.Place.{Place}
+use Rattle.table_theory.specs.Sharing.{IsCount}
 use Rattle.thread_table.specs.declared.places.Place.TheVariants as places
-use Rattle.thread_table.specs.declared.rule.Claimed.{Claimed}
-use Rattle.thread_table.specs.declared.rule.Shape.{Shape}
-use Rattle.thread_table.specs.Own.{View}
-use Rattle.thread_table.specs.Closings.{ClosedNow, WereOpen, PlaceOf, word_at}
-use Rattle.thread_table.specs.Rules.{Rule, HandIs, nothing_of}
-use Rattle.thread_table.specs.Views.{quiet}
-use Rattle.thread_table.specs.Schedules.{state_after, elements_after, IsAllowed, ring_at, thread_at}
-use Rattle.event_theory.specs.declared.event.Event.{Event}
-use Rattle.event_theory.proofs.Keeping.Accounts.{account_law}
-use Rattle.thread_table.proofs.Schedule.Betweens.{reached}
+use Rattle.thread_table.specs.Closings.{WereOpen}
+use Rattle.thread_table.specs.Schedules.{elements_after, IsAllowed}
 use Rattle.thread_table.proofs.Hands.Looks.{hand_quiet, newest_schedule}
 use Rattle.thread_table.proofs.Events.StatesSeen.{pending_are}
-use Rattle.thread_table.specs.Shown.{WordsShow}
-use Rattle.thread_table.specs.Steps.{Tallied, had_by_both}
+use Rattle.thread_table.specs.Steps.{Tallied}
 use Rattle.thread_table.proofs.Lists.Copies.{get_or-copies}
 use Rattle.thread_table.proofs.Shown.QueueWords.{none_some}
-use Rattle.thread_table.proofs.Schedule.Schedules.{lawful_after}
+use Rattle.thread_table.proofs.Schedule.Schedules.{lawful_after, accounted}
 use Rattle.thread_table.proofs.Closing.WhereElementsStand.{Settled, stands, bit_read}
-use Rattle.std.proofs.Common.{map}
-use Rattle.atomic_table.proofs.Lists.{at_map}
-use Rattle.table_theory.proofs.Owned.{at_map_back}
-use Rattle.thread_table.specs.declared.rule.Made.{Made}
-use Rattle.thread_table.specs.Makers.{AreMade, made_of}
 use Rattle.thread_table.proofs.Schedule.ListedEvents.{made_sole}
 use Rattle.thread_table.proofs.Schedule.Once.{steps_once}
 use Rattle.thread_table.proofs.Closing.Retiring.{are_retired}
@@ -51,15 +23,10 @@ were_open v w found others t more is = let some = t.count.some_end in let n : fo
   some_other = omega arith;
   not_whole = λ whole. more (t.count.whole whole);
   past = w.seen;
-  acts = subst (λ (z : ℕ). Acts v (load ends_word z w.seen ∷ []) (quiet v) w) n (acts_one v w ends_word found t.looked);
+  acts = subst (λ (z : ℕ). Acts v (load ends_word z w.seen ∷ []) (quiet v) w) n t.looked.acts;
   number = sym n ∙ t.number;
   count = subst (IsCount v.member.share) n t.count;
 }
-
-there : {A : Type 0} (xs : List A) (i : ℕ) → i < length xs → (a : A) × (get_elem? xs i ≡ some a)
-there [] i below = absurd (omega arith)
-there (x ∷ xs) zero below = (x, refl)
-there (x ∷ xs) (suc i) below = there xs i (omega arith)
 
 -- beside the hand with the whole no hand has anything, and it has no claim to raise itself
 pub settled : (key : Shape) (s : State Unit View) (k : Rule key s) (id : ℕ) (w : View) → get_elem? s.views id ≡ some w → IsWhole w.member.share → w.own.claimed ≡ None
@@ -73,15 +40,11 @@ settled key s k id w at whole none =
     record {
       lawful = lawful_after k.events k.allowed;
       shows = k.shows;
-      raised = λ ring run below within. up ((ring_at e ring).raised run 0) (λ low. let o = k.owned ring run below (within, low) in unclaimed o.0 o.1 _ o.2 o.3);
+      raised = λ ring run below within. true_from_ne_false ((ring_at e ring).raised run 0) (λ low. let o = k.owned ring run below (within, low) in unclaimed o.0 o.1 _ o.2 o.3);
       alone = λ other element ne. dite (dec_lt other (length s.views))
-          (λ yes. let u = there s.views other yes in (k.hands other u.0 u.1).held element ∙ (ap (λ (z : Having). get_or z.held element false) (idle other u.0 u.1 ne).own ∙ get_or-copies 64 false element))
+          (λ yes. let u = there_is s.views other yes in (k.hands other u.0 u.1).held element ∙ (ap (λ (z : Having). get_or z.held element false) (idle other u.0 u.1 ne).own ∙ get_or-copies 64 false element))
           (λ no. k.strange other element (omega (arith, no)));
     }
-  where
-    up : (b : Bool) → (b ≡ false → ⊥) → b ≡ true
-    up true not = refl
-    up false not = absurd (not refl)
 
 -- beside the hand with the whole no hand lists an event
 all_made : (key : Shape) (s : State Unit View) (k : Rule key s) (id : ℕ) (w : View) → get_elem? s.views id ≡ some w → IsWhole w.member.share → AreMade k.events (w.own.made ∷ [])
@@ -96,17 +59,17 @@ pub closes : (key : Shape) (v w : View) (found id : ℕ) (ws : List ℕ) (xs : L
     → ClosedNow id v all pcs pending stops
 closes key v w found id ws xs all pcs pending stops up none tallied one fin place_of pc_of pending_of stop_of =
     let s : State Unit View = fin.0 in let k : Rule key s = fin.1.0 in let at = fin.1.1 in let whole : IsWhole v.member.share = tallied.count.alone one in
-    let still : IsWhole w.member.share = subst IsWhole (sym (ap (λ (z : View). z.member.share) tallied.looked.same)) whole in
-    let now : k.events ≡ v.seen.object = sym (tallied.looked.sees.newest whole up ∙ newest_schedule key s k id w at still (ap (λ (z : View). z.own.fresh) tallied.looked.same)) in let e : Elements = elements_after v.seen.object in
+    let still : IsWhole w.member.share = subst IsWhole (sym (ap (λ (z : View). z.member.share) tallied.looked.acts.has)) whole in
+    let now : k.events ≡ v.seen.object = sym (tallied.looked.sees.newest whole up ∙ newest_schedule key s k id w at still (ap (λ (z : View). z.own.fresh) tallied.looked.acts.has)) in let e : Elements = elements_after v.seen.object in
     let allowed : IsAllowed v.seen.object = subst IsAllowed now k.allowed in let shows : WordsShow key.first e s.words = subst (λ (z : List Event). WordsShow key.first (elements_after z) s.words) now k.shows in
     let sh : WordsShow key.first e ws = subst (WordsShow key.first e) fin.2 shows in
-    let own : AreMade v.seen.object (v.own.made ∷ []) = subst (λ (z : List Event). AreMade z (v.own.made ∷ [])) now (subst (λ (l : List Made). AreMade k.events (l ∷ [])) (ap (λ (z : View). z.own.made) tallied.looked.same) (all_made key s k id w at still)) in
-    let set : Settled id key.first e ws = subst (Settled id key.first e) fin.2 (subst (λ (z : List Event). Settled id key.first (elements_after z) s.words) now (settled key s k id w at still (ap (λ (z : View). z.own.claimed) tallied.looked.same ∙ none))) in
+    let own : AreMade v.seen.object (v.own.made ∷ []) = subst (λ (z : List Event). AreMade z (v.own.made ∷ [])) now (subst (λ (l : List Made). AreMade k.events (l ∷ [])) (ap (λ (z : View). z.own.made) tallied.looked.acts.has) (all_made key s k id w at still)) in
+    let set : Settled id key.first e ws = subst (Settled id key.first e) fin.2 (subst (λ (z : List Event). Settled id key.first (elements_after z) s.words) now (settled key s k id w at still (ap (λ (z : View). z.own.claimed) tallied.looked.acts.has ∙ none))) in
     record {
       whole = whole;
       allowed = allowed;
-      accounted = account_law 64 v.seen.object (state_after v.seen.object) (reached v.seen.object allowed);
-      hand = subst (λ (z : List Event). HandIs id (quiet v) (elements_after z)) now (hand_quiet id w (quiet v) (elements_after k.events) (sym (ap (λ (z : View). z.own.held) tallied.looked.same)) (sym (ap (λ (z : View). z.own.serves) tallied.looked.same)) (sym (ap (λ (z : View). z.own.on) tallied.looked.same)) (sym (ap (λ (z : View). z.own.claimed) tallied.looked.same)) refl (k.hands id w at));
+      accounted = accounted v.seen.object allowed;
+      hand = subst (λ (z : List Event). HandIs id (quiet v) (elements_after z)) now (hand_quiet id w (quiet v) (elements_after k.events) (sym (ap (λ (z : View). z.own.held) tallied.looked.acts.has)) (sym (ap (λ (z : View). z.own.serves) tallied.looked.acts.has)) (sym (ap (λ (z : View). z.own.on) tallied.looked.acts.has)) (sym (ap (λ (z : View). z.own.claimed) tallied.looked.acts.has)) refl (k.hands id w at));
       made = own;
       steps_once = steps_once v.seen.object v.own.made allowed own;
       retired = are_retired v.seen.object allowed;

@@ -1,26 +1,9 @@
 -- Where an element of a closed table stands: the words show its one appearance, or the hand that closed holds it.
-use Rattle.std.proofs.Common.{◌≡◌, ◌≢◌, ℕ, zero, suc, ◌+◌, ◌-◌, ◌%◌, ◌<◌, ◌≤◌, Bool, true, false, cond, ◌||◌, eqb, List, [], ◌∷◌, length, map, drop, get_or, Some, None, Option, slice_get, refl, sym, ap, subst, ◌∙◌, arith, length-drop, eq-eqb, ne_eqb, true≢false}
+use Rattle.thread_table.proofs.Common.{◌≡◌, ◌≢◌, ℕ, zero, suc, ◌+◌, ◌-◌, ◌%◌, ◌<◌, ◌≤◌, Bool, true, false, cond, eqb, List, [], ◌∷◌, length, map, drop, get_or, Some, None, Option, slice_get, refl, sym, ap, subst, ◌∙◌, arith, length-drop, eq-eqb, ne_eqb, true≢false, or_left, or_right, and_from, list_any-append, list_any_at, sum_by-cons, get_or-le-sum_by, slice_get-get_or, bit_at, list_any, sum_by, dite, dec_lt, ℕ_discrete, appearances, is_on, in_list, in_cell, Elements, is_hold, holds, new_thread, IsLawfulElements, IsLawfulQueue, Queue, empty_queue, left, flat, Hold, every_at, ProcessorOf, IsIn, RingOf, PlaceOf, StandsAt, is_left, place_by, word_at, ring_at, thread_at, element_at, element_of, no_run, ELEMENTS, RINGS, PLACES, state_word, place_word, WordsShow, processor_shown, bit_of, Place}
+use Rattle.thread_table.proofs.Lists.Counts.{find_it}
 use Rattle.std.proofs.lemmas.List.{get_or-drop, get_or-map}
-use Rattle.std.proofs.lemmas.List.Folds.{list_any_at}
-use Rattle.std.proofs.lemmas.List.Sums.{sum_by-cons, get_or-le-sum_by}
-use Rattle.std.proofs.lemmas.Option.{slice_get-get_or}
-use Rattle.std.specs.Int.{bit_at}
-use Rattle.std.specs.List.{list_any, sum_by, count_by}
-use mathlib.Core.Logic.{dite}
-use native.Mathlib.Decide.{dec_lt, ℕ_discrete}
-use Rattle.event_theory.specs.Appearances.{appearances, is_on, in_list, in_cell}
-use Rattle.event_theory.specs.Elements.{Elements, is_hold, holds, new_thread}
-use Rattle.event_theory.specs.Lawful.{IsLawfulElements, IsLawfulQueue}
-use Rattle.event_theory.specs.Queues.{Queue, empty_queue, left}
-use Rattle.event_theory.specs.Runs.{flat}
-use Rattle.event_theory.specs.declared.hold.Hold.{Hold}
-use Rattle.event_theory.proofs.Keeping.Elements.{every_at}
-use Rattle.thread_table.specs.Closings.{ProcessorOf, IsIn, RingOf, PlaceOf, StandsAt, is_left, ring_place, place_by, word_at}
-use Rattle.thread_table.specs.Schedules.{ring_at, thread_at, element_at, element_of, no_run}
-use Rattle.thread_table.specs.declared.layout.TheConstants.{ELEMENTS, RINGS, PLACES}
-use Rattle.thread_table.specs.Layout.{state_word, place_word}
-use Rattle.thread_table.specs.Shown.{WordsShow, processor_shown, bit_of}
-use Rattle.thread_table.specs.declared.places.Place.{Place}
+use Rattle.std.specs.List.{count_by}
+use Rattle.thread_table.specs.Closings.{ring_place}
 use Rattle.thread_table.proofs.Events.SingleRuns.{Singles, flat_single, flat_long, within_room}
 
 sum_none : {X : Type 0} (f : X → ℕ) (xs : List X) (d : X) → ((i : ℕ) → i < length xs → f (get_or xs i d) ≡ 0) → sum_by f xs ≡ 0
@@ -45,29 +28,12 @@ left_long q single = let long : length (left q) ≡ length (flat q.history) - q.
 
 -- of one element's holds one is the call's, where all others' hands are empty
 held_by : (call x : ℕ) (held : List Hold) → 1 ≤ count_by (λ (h : Hold). eqb h.element x) held → ((other : ℕ) → other ≢ call → list_any (is_hold other x) held ≡ false) → list_any (is_hold call x) held ≡ true
-held_by call x [] some alone = absurd (omega arith)
-held_by call x (h ∷ hs) some alone =
-    by (eqb h.element x) refl (omega (arith, some, sum_by-cons (λ (g : Hold). cond (eqb g.element x) 1 0) h hs)) (held_by call x hs)
-  where
-    or_parts : (a b : Bool) → (a || b) ≡ false → (a ≡ false) × (b ≡ false)
-    or_parts true b none = absurd (true≢false none)
-    or_parts false b none = (refl, none)
-
-    or_right : (a b : Bool) → b ≡ true → (a || b) ≡ true
-    or_right true b is = refl
-    or_right false b is = is
-
-    mine : eqb h.element x ≡ true → h.call ≡ call → (is_hold call x h || list_any (is_hold call x) hs) ≡ true
-    mine is same = rw (eq-eqb h.call call same, is) refl
-
-    other : eqb h.element x ≡ true → h.call ≢ call → ⊥
-    other is ne = true≢false (sym (rw (eq-eqb h.call h.call refl, is) refl) ∙ (or_parts (is_hold h.call x h) (list_any (is_hold h.call x) hs) (alone h.call ne)).0)
-
-    by : (b : Bool) → eqb h.element x ≡ b → 1 ≤ cond b 1 0 + count_by (λ (g : Hold). eqb g.element x) hs
-        → (1 ≤ count_by (λ (g : Hold). eqb g.element x) hs → ((c : ℕ) → c ≢ call → list_any (is_hold c x) hs ≡ false) → list_any (is_hold call x) hs ≡ true)
-        → (is_hold call x h || list_any (is_hold call x) hs) ≡ true
-    by true is more rest = dite (ℕ_discrete h.call call) (λ same. mine is same) (λ ne. absurd (other is ne))
-    by false is more rest = or_right (is_hold call x h) (list_any (is_hold call x) hs) (rest (omega arith) (λ c ne. (or_parts (is_hold c x h) (list_any (is_hold c x) hs) (alone c ne)).1))
+held_by call x held some alone = let f = find_it (λ (h : Hold). eqb h.element x) held some in let p : Hold → Bool = is_hold f.it.call x in
+    let here : list_any p held ≡ true = ap (list_any p) f.is ∙ (list_any-append p f.front (f.it ∷ f.back)
+    ∙ or_right (list_any p f.front) (list_any p (f.it ∷ f.back)) (or_left (p f.it) (list_any p f.back) (and_from (eqb f.it.call f.it.call) (eqb f.it.element x) (eq-eqb f.it.call f.it.call refl) f.passes))) in
+    dite (ℕ_discrete f.it.call call)
+    (λ same. subst (λ (c : ℕ). list_any (is_hold c x) held ≡ true) same here)
+    (λ ne. absurd (true≢false (sym here ∙ alone f.it.call ne)))
 
 -- a bit that shows a mark
 pub bit_read : (bit : ℕ) (b : Bool) → bit ≡ bit_of b → b ≡ eqb bit 1
@@ -95,27 +61,22 @@ module _ (call first : ℕ) (e : Elements) (words : List ℕ) (s : Settled call 
   lawful_ring ring below = let many = s.shows.queues in every_at IsLawfulQueue e.rings ring (ring_at e ring) (slice_get-get_or e.rings ring (empty_queue PLACES) (omega arith)) s.lawful.rings
 
   -- the place of what is left has its element
-  left_word : (ring run : ℕ) → ring < RINGS → (ring_at e ring).taken ≤ run → run < length (ring_at e ring).history → word_at words (place_word ring (first + run)) % 256 ≡ element_at (ring_at e ring) run
-  left_word ring run below from to =
-      let q : Queue = ring_at e ring in let l = s.shows.rings ring below in let many = s.shows.queues in let wide = s.shows.threads in
+  left_word : (ring i : ℕ) → ring < RINGS → i < length (left (ring_at e ring)) → word_at words (place_word ring (first + ((ring_at e ring).taken + i))) % 256 ≡ get_or (left (ring_at e ring)) i 0
+  left_word ring i below within =
+      let q : Queue = ring_at e ring in let l = s.shows.rings ring below in let many = s.shows.queues in let wide = s.shows.threads in let long = left_long q l.single in
       let room = within_room q 64 (lawful_ring ring below) l.single l.capacity in let near = room.1 in
-      let long = left_long q l.single in
-      let i : ℕ = run - q.taken in let same : q.taken + i ≡ run = omega arith in
-      let bounded : get_or (left q) i 0 < length e.threads = left_known e ring i s.lawful (omega arith) (omega arith) in
-      let is : get_or (left q) i 0 ≡ element_at q run = left_at q i l.single (omega arith) ∙ ap (element_at q) same in
-      let word = (l.places run from (omega arith)).up (s.raised ring run below to) in
+      let bounded : get_or (left q) i 0 < length e.threads = left_known e ring i s.lawful (omega arith) within in
+      let is : get_or (left q) i 0 ≡ element_at q (q.taken + i) = left_at q i l.single (omega arith) in
+      let word = (l.places (q.taken + i) (omega arith) (omega arith)).up (s.raised ring (q.taken + i) below (omega arith)) in
       omega (arith, bounded, is, word, wide)
 
   in_left : (x ring : ℕ) → ring < RINGS → IsIn x words ring → is_left x (ring_at e ring) ≡ true
   in_left x ring below is =
-      let q : Queue = ring_at e ring in let l = s.shows.rings ring below in let p : ℕ = is.0 in let run : ℕ = p - first in
+      let q : Queue = ring_at e ring in let l = s.shows.rings ring below in let long = left_long q l.single in let i : ℕ = is.0 - (first + q.taken) in
       let tail = l.tail in let head = l.head in let bounded = l.bounded in let from = is.1 in let to = is.2 in
-      let there : p ≡ first + run = omega arith in
-      let a : q.taken ≤ run = omega arith in let b : run < length q.history = omega arith in
-      let i : ℕ = run - q.taken in let same : q.taken + i ≡ run = omega arith in let long = left_long q l.single in
-      let word : word_at words (place_word ring (first + run)) % 256 ≡ element_at q run = left_word ring run below a b in
-      let found : get_or (left q) i 0 ≡ x = left_at q i l.single (omega arith) ∙ (ap (element_at q) same ∙ (sym word ∙ (ap (λ (n : ℕ). word_at words (place_word ring n) % 256) (sym there) ∙ is.3))) in
-      list_any_at (λ (item : ℕ). eqb item x) (left q) i 0 (omega arith) (eq-eqb (get_or (left q) i 0) x found)
+      let there : first + (q.taken + i) ≡ is.0 = omega arith in let within : i < length (left q) = omega arith in
+      list_any_at (λ (item : ℕ). eqb item x) (left q) i 0 within
+      (eq-eqb (get_or (left q) i 0) x (sym (left_word ring i below within) ∙ (ap (λ (n : ℕ). word_at words (place_word ring n) % 256) there ∙ is.3)))
 
   not_left : (x ring : ℕ) → ring < RINGS → (IsIn x words ring → ⊥) → in_list x (left (ring_at e ring)) ≡ 0
   not_left x ring below none =
@@ -126,7 +87,7 @@ module _ (call first : ℕ) (e : Elements) (words : List ℕ) (s : Settled call 
         first + (q.taken + i),
         omega arith,
         omega arith,
-        left_word ring (q.taken + i) below (omega arith) (omega arith) ∙ (sym (left_at q i l.single (omega arith)) ∙ same),
+        left_word ring i below within ∙ same,
       ))))
 
   not_on : (x : ℕ) → ProcessorOf x words None → count_by (is_on x) e.processors ≡ 0
@@ -143,9 +104,6 @@ module _ (call first : ℕ) (e : Elements) (words : List ℕ) (s : Settled call 
       let cells : in_cell (slice_get e.threads x) ≡ 0 = ap in_cell (slice_get-get_or e.threads x new_thread (omega arith)) ∙ ap (λ (b : Bool). cond b 1 0) cell in
       held_by call x e.held (omega (arith, once, processors, rings, cells)) (λ other ne. s.alone other x ne)
 
-  on_processor : (x p : ℕ) → ProcessorOf x words (Some p) → is_on x (get_or e.processors p None) ≡ true
-  on_processor x p seat = processor_some (get_or e.processors p None) x (sym (s.shows.on p seat.0) ∙ seat.1)
-
   in_ring : (x ring : ℕ) → RingOf x words (Some ring) → StandsAt call x e (ring_place ring)
   in_ring x zero is = in_left x 0 is.0 is.1
   in_ring x (suc zero) is = in_left x 1 is.0 is.1
@@ -157,7 +115,7 @@ module _ (call first : ℕ) (e : Elements) (words : List ℕ) (s : Settled call 
 
   stands_by : (x : ℕ) → x < ELEMENTS → (seat ring : Option ℕ) → ProcessorOf x words seat → RingOf x words ring
       → StandsAt call x e (place_by seat ring (eqb (bit_at (word_at words (state_word x)) 17) 1))
-  stands_by x below (Some p) ring is in_row = on_processor x p is
+  stands_by x below (Some p) ring is in_row = processor_some (get_or e.processors p None) x (sym (s.shows.on p is.0) ∙ is.1)
   stands_by x below None (Some l) is in_row = in_ring x l in_row
   stands_by x below None None is in_row = in_cell_or_hand x below is in_row _ (bit_read (bit_at (word_at words (state_word x)) 17) (thread_at e x).parked (s.shows.states x below).parked)
 

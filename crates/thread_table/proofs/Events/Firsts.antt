@@ -1,19 +1,5 @@
 -- An element that is first in a queue, stands in its stop cell or on a processor is in nobody's hands.
-use Rattle.std.proofs.Common.{◌≡◌, ◌⊎◌, inl, inr, ℕ, ◌<◌, ◌≤◌, Bool, true, false, cond, List, [], ◌∷◌, ◌∙◌, length, take, get_or, slice_get, Option, Some, None, refl, sym, ap, arith}
-use Rattle.std.proofs.Math.ListN.{get_or-eq_default}
-use Rattle.std.proofs.lemmas.Bool.{cases_lt}
-use Rattle.std.proofs.lemmas.Bool.Decides.{nat_tests}
-use Rattle.std.proofs.lemmas.List.Sums.{sum_by-cons, get_or-le-sum_by}
-use Rattle.std.specs.List.{sum_by}
-use Rattle.event_theory.specs.Queues.{Queue, left, empty_queue}
-use Rattle.std.proofs.lemmas.Option.{slice_get-get_or, get_or_from_slice_get}
-use Rattle.event_theory.specs.declared.hold.Hold.{Hold}
-use Rattle.event_theory.specs.Elements.{Elements, Thread, hold, holds, new_thread}
-use Rattle.event_theory.specs.Appearances.{appearances, in_list, in_cell, is_on}
-use Rattle.event_theory.specs.Lawful.{IsLawfulElements}
-use Rattle.event_theory.proofs.Keeping.Places.{one, in_hands}
-use Rattle.thread_table.specs.Schedules.{ring_at, thread_at}
-use Rattle.thread_table.specs.declared.layout.TheConstants.{PLACES}
+use Rattle.thread_table.proofs.Common.{false_from_ne_true, ◌≡◌, ◌⊎◌, inl, inr, ℕ, ◌<◌, ◌≤◌, Bool, true, false, cond, List, [], ◌∷◌, ◌∙◌, length, take, get_or, slice_get, Option, Some, None, sym, ap, arith, get_or-eq_default, cases_lt, nat_tests, sum_by-cons, get_or-le-sum_by, sum_by, Queue, left, empty_queue, slice_get-get_or, get_or_from_slice_get, Hold, Elements, Thread, hold, holds, new_thread, appearances, in_list, in_cell, is_on, IsLawfulElements, one, in_hands, ring_at, thread_at, PLACES}
 use Rattle.thread_table.proofs.Events.Rooms.{unheld}
 use Rattle.thread_table.proofs.Hands.HeldLists.{held_once}
 
@@ -48,23 +34,19 @@ first_unheld call element ring e lawful is = unheld call element e.held (by (cas
     by (inl below) = let o : appearances element e ≡ 1 = lawful.once element below in omega (arith, o, first_in_rings element ring e is)
     by (inr past) = let o : appearances element e ≡ 0 = lawful.known element past in omega (arith, o)
 
-not_true : (b : Bool) → (b ≡ true → ⊥) → b ≡ false
-not_true true wrong = absurd (wrong refl)
-not_true false wrong = refl
-
 celled : (element : ℕ) (threads : List Thread) → element < length threads → (get_or threads element new_thread).parked ≡ true → in_cell (slice_get threads element) ≡ 1
 celled element threads below parked = ap in_cell (slice_get-get_or threads element new_thread below) ∙ ap (λ (b : Bool). cond b 1 0) parked
 
 -- nor is one that stands in its stop cell
 pub parked_unheld : (call element : ℕ) (e : Elements) → IsLawfulElements e → element < length e.threads → (thread_at e element).parked ≡ true → holds call element e ≡ false
-parked_unheld call element e lawful below is = not_true (holds call element e) (λ held.
+parked_unheld call element e lawful below is = false_from_ne_true (holds call element e) (λ held.
     let hands : in_hands element e.held ≡ 1 = held_once call element e lawful below held in
     let once : appearances element e ≡ 1 = lawful.once element below in
     absurd (omega (arith, once, hands, celled element e.threads below is)))
 
 -- nor one that stands on a processor
 pub placed_unheld : (call element p : ℕ) (e : Elements) → IsLawfulElements e → element < length e.threads → p < length e.processors → slice_get e.processors p ≡ Some (Some (hold call element)) → holds call element e ≡ false
-placed_unheld call element p e lawful below there is = not_true (holds call element e) (λ held.
+placed_unheld call element p e lawful below there is = false_from_ne_true (holds call element e) (λ held.
     let hands : in_hands element e.held ≡ 1 = held_once call element e lawful below held in
     let once : appearances element e ≡ 1 = lawful.once element below in
     let f : Option Hold → ℕ = λ x. cond (is_on element x) 1 0 in

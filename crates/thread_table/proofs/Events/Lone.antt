@@ -1,26 +1,12 @@
 -- A hand that has the whole finds what it left: it loses to no other.
-use Rattle.std.proofs.Common.{◌≡◌, ◌≢◌, ◌⊎◌, inl, inr, ℕ, ◌<◌, ◌≤◌, List, ◌∙◌, Err, refl, sym, subst, arith}
-use Rattle.std.proofs.lemmas.Bool.{cases_lt, cases_eq}
+use Rattle.thread_table.proofs.Common.{◌≡◌, ◌≢◌, ◌⊎◌, inl, inr, ℕ, ◌<◌, ◌≤◌, List, ◌∙◌, Err, refl, sym, subst, arith, cases_lt, cases_eq, bit_at, Thread, Continues, load, Adds, IsWhole, AllByRecursion, ELEMENTS, RINGS, WAITS, Lost, head_word, tail_word, state_word, wait_ring, View, Past, thread_at, StateShows, Step, TakeAnswer, MoveAnswer, WaitAnswer, StartAnswer, ParkAnswer, DeliverAnswer, Overtaken, BeforeAnswer, of_hands, IsHonest}
 use Rattle.std.proofs.lemmas.Nat.Bits.{same_from_bits_below}
-use Rattle.std.specs.Int.{bit_at}
-use Rattle.event_theory.specs.Elements.{Thread}
-use Rattle.table_theory.specs.Courses.{Continues}
-use Rattle.table_theory.specs.Ledgers.{load, Adds}
-use Rattle.table_theory.specs.Sharing.{IsWhole}
 use Rattle.table_theory.proofs.Reaching.{alone_led}
-use Rattle.std.specs.List.{AllByRecursion}
-use Rattle.thread_table.specs.declared.layout.TheConstants.{ELEMENTS, RINGS, WAITS}
 use Rattle.thread_table.specs.declared.moves.MoveRefusal.TheVariants as moves
-use Rattle.thread_table.specs.declared.states.Lost.{Lost}
 use Rattle.thread_table.specs.declared.takings.NextRefusal.TheVariants as nexts
-use Rattle.thread_table.specs.Layout.{head_word, tail_word, state_word, wait_ring}
-use Rattle.thread_table.specs.Own.{View}
-use Rattle.thread_table.specs.Schedules.{Past, elements_after, thread_at}
-use Rattle.thread_table.specs.Shown.{StateShows}
-use Rattle.thread_table.specs.Entries.{Step}
-use Rattle.thread_table.specs.Answers.{TakeAnswer, MoveAnswer, WaitAnswer, StartAnswer, ParkAnswer, DeliverAnswer, Overtaken, WasChanged}
-use Rattle.thread_table.specs.Wakes.{BeforeAnswer}
-use Rattle.thread_table.specs.Telling.{of_hands, IsReal, IsHonest}
+use Rattle.thread_table.specs.Schedules.{elements_after}
+use Rattle.thread_table.specs.Answers.{WasChanged}
+use Rattle.thread_table.specs.Telling.{IsReal}
 use Rattle.thread_table.proofs.Events.Saying.{tail_says, state_says}
 
 -- the steps of a hand that has the whole are all there are, and real

@@ -1,19 +1,9 @@
 -- What a notify does.
-use Rattle.std.proofs.Common.{◌≡◌, ◌≢◌, ℕ, zero, suc, ◌+◌, ◌*◌, ◌%◌, ◌<◌, List, length, set, get_or, None, Ok, refl, sym, ap, subst, ◌∙◌, arith, mod-lt, get_or-set_same, get_or-set_other, length-set}
-use Rattle.std.proofs.lemmas.Option.{slice_get-get_or}
-use Rattle.std.proofs.Math.Nat.{mod-eq_of_lt, add-mod_right}
-use mathlib.Core.Logic.{dite}
-use native.Mathlib.Decide.{dec_lt}
-use Rattle.event_theory.specs.Elements.{Elements}
+use Rattle.thread_table.proofs.Common.{View, None, ◌≡◌, ◌≢◌, ℕ, zero, suc, ◌+◌, ◌*◌, ◌%◌, ◌<◌, List, length, set, get_or, Ok, refl, sym, ap, subst, ◌∙◌, arith, mod-lt, get_or-set_same, get_or-set_other, length-set, slice_get-get_or, mod-eq_of_lt, add-mod_right, dite, dec_lt, Elements, NOTIFY, ring_at, head_word, tail_word, place_word, wait_ring, WordsShow, RingShows, PlaceShows, head_shown, mark_of, WAITS, quiet}
 use Rattle.event_theory.specs.Marks.{notify_wait}
-use Rattle.thread_table.specs.declared.layout.TheConstants.{NOTIFY}
-use Rattle.thread_table.specs.Own.{View}
-use Rattle.thread_table.specs.Schedules.{ring_at}
-use Rattle.thread_table.specs.Layout.{head_word, tail_word, place_word, wait_ring}
-use Rattle.thread_table.specs.Shown.{WordsShow, RingShows, PlaceShows, head_shown, mark_of}
-use Rattle.thread_table.specs.Rules.{HandIs}
-use Rattle.thread_table.proofs.Events.Effects.{NotifyEffect}
-use Rattle.thread_table.specs.Views.{quiet}
+use Rattle.thread_table.proofs.Events.Changes.{hand_holds}
+use Rattle.thread_table.proofs.Events.Effects.{May, Anything, becomes}
+use Rattle.event_theory.specs.declared.event.Event.TheVariants as events
 use Rattle.thread_table.proofs.Shown.QueueWords.{shows_kept, with_rings, queue_stays, claim_kept, rings_leave, none_some}
 use Rattle.thread_table.proofs.Events.Owing.{same_owes}
 
@@ -72,32 +62,24 @@ ring_after first e words wait word below wide s is =
       places = λ run a b. subst (PlaceShows first (ring_at e (wait_ring wait)) run) (sym (same (place_word (wait_ring wait) (first + run)) (λ e. omega arith))) (s.places run a b);
     }
 
-hand_after : (id : ℕ) (v : View) (e : Elements) (wait : ℕ) → HandIs id v e → v.own.claimed ≡ None → HandIs id (quiet v) (after e wait)
-hand_after id v e wait h none = record {
-  held_long = h.held_long;
-  serves_long = h.serves_long;
-  on_long = h.on_long;
-  held = h.held;
-  on = h.on;
-  off = h.off;
-  claimed = λ c at. none_some c v.own.claimed none at;
-  counted = λ c at. absurd (cc);
-}
-
-pub notify_effect : NotifyEffect
-notify_effect id v first e words wait ready none below =
-    let shows : WordsShow first e words = ready.shows in
-    let many = shows.waits in
-    let wide = shows.wide in
-    let word : ℕ = (head_shown first e (wait_ring wait) + 4294967296) % 18446744073709551616 in
-    record {
-      f = after e wait;
-      goes = goes e wait (omega arith);
-      leaves = rings_leave id v e e.rings (told e wait) e.held (λ l. queue_stays (ring_at e l) (ring_at e l) refl) (λ call element ne. refl)
-          (λ call c ne claimed. claim_kept call c e (after e wait) refl refl claimed);
-      hand = hand_after id v e wait ready.hand none;
-      shows = shows_kept first e e.rings (told e wait) e.held (wait_ring wait) (head_word (wait_ring wait)) word words shows refl (length-set e.notified wait _) (omega arith) (omega arith) (omega arith)
-          (λ l ne. refl) (mark_other e wait)
-          (ring_after first e words wait word (omega arith) (omega arith) (shows.rings (wait_ring wait) (omega arith)) refl);
-      owes = same_owes v (quiet v) e (after e wait) none (λ ring. refl);
-    }
+module _ (id : ℕ) (v : View) (free : v.own.claimed ≡ None) where
+  pub may_notify : (wait : ℕ) → wait < WAITS → May id v (events.NotifyWait id wait) (head_word (wait_ring wait)) Anything (λ x. (x + 4294967296) % 18446744073709551616)
+  may_notify wait below = record {
+    change = notify_wait wait;
+    is = λ t. refl;
+    plain = refl;
+    inside = omega arith;
+    goes = λ first same e words ready any. let shows : WordsShow first e words = ready.shows in let many = shows.waits in let wide = shows.wide in
+        let word : ℕ = (head_shown first e (wait_ring wait) + 4294967296) % 18446744073709551616 in let head = (shows.rings (wait_ring wait) (omega arith)).head in
+        becomes words _ (ap (λ (z : ℕ). (z + 4294967296) % 18446744073709551616) (sym head)) record {
+          f = after e wait;
+          goes = goes e wait (omega arith);
+          leaves = rings_leave id v e e.rings (told e wait) e.held (λ l. queue_stays (ring_at e l) (ring_at e l) refl) (λ call element ne. refl)
+              (λ call c ne claimed. claim_kept call c e (after e wait) refl refl claimed);
+          hand = hand_holds id v e (after e wait) v.own.held v.own.claimed ready.hand refl refl ready.hand.held (λ c at. none_some c v.own.claimed free at);
+          shows = shows_kept first e e.rings (told e wait) e.held (wait_ring wait) (head_word (wait_ring wait)) word words shows refl (length-set e.notified wait _) (omega arith) (omega arith) (omega arith)
+              (λ l ne. refl) (mark_other e wait)
+              (ring_after first e words wait word (omega arith) (omega arith) (shows.rings (wait_ring wait) (omega arith)) refl);
+          owes = same_owes v (quiet v) e (after e wait) free (λ ring. refl);
+        };
+  }

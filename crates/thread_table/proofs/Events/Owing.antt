@@ -1,20 +1,5 @@
 -- Which runs are still to be raised after an event, and whose claims they are.
-use Rattle.std.proofs.Common.{◌≡◌, ◌≢◌, ◌⊎◌, ⊎_elim, inl, ℕ, ◌<◌, Bool, false, List, length, set, get_or, Some, None, sym, ap, subst, ◌∙◌}
-use mathlib.Core.Logic.{dite}
-use mathlib.Core.Option.{some}
-use native.Mathlib.Decide.{ℕ_discrete}
-use lib.ListN.{get_elem?}
-use Rattle.event_theory.specs.Elements.{Elements}
-use Rattle.event_theory.specs.Queues.{Queue}
-use Rattle.event_theory.specs.Runs.{Run}
-use Rattle.atomic_table.proofs.Lists.{set_here, set_else}
-use Rattle.table_theory.proofs.Owned.{at_below, one_at}
-use Rattle.thread_table.specs.declared.layout.TheConstants.{RINGS}
-use Rattle.thread_table.specs.Own.{View}
-use Rattle.thread_table.specs.declared.rule.Claimed.{Claimed}
-use Rattle.thread_table.specs.Schedules.{ring_at, element_at, element_of, no_run}
-use Rattle.thread_table.specs.Views.{claim_of}
-use Rattle.thread_table.specs.Rules.{IsOpen}
+use Rattle.thread_table.proofs.Common.{◌≡◌, ◌≢◌, ◌⊎◌, ⊎_elim, inl, ℕ, ◌<◌, Bool, false, List, length, set, get_or, Some, None, sym, ap, subst, ◌∙◌, dite, some, ℕ_discrete, get_elem?, Elements, Queue, Run, set_here, set_else, at_below, one_at, RINGS, View, Claimed, ring_at, element_at, element_of, no_run, claim_of, IsOpen}
 use Rattle.thread_table.proofs.Shown.QueueWords.{none_some}
 
 -- a run that isn't raised after an event is then the hand's claim, or it wasn't raised before and wasn't the hand's

@@ -1,17 +1,7 @@
 -- There is room for an element that is held in each element queue, and what calls hold after it was let go.
-use Rattle.std.proofs.Common.{◌≡◌, ℕ, zero, suc, ◌+◌, ◌<◌, ◌≤◌, Bool, true, false, cond, ◌&&◌, ◌||◌, List, [], ◌∷◌, ◌∙◌, length, remove, position, get_or, refl, sym, ap, ap₂, subst, arith, Some, slice_get, eqb, ◌⊎◌, inl, inr, Ok}
-use Rattle.std.proofs.lemmas.Bool.{eqb-true, cases_lt, lt-ltb}
-use Rattle.std.proofs.lemmas.Option.{get_or_from_slice_get, slice_get_within}
-use Rattle.std.proofs.lemmas.List.Quantifiers.{position-Some}
-use Rattle.std.proofs.lemmas.List.Sums.{sum_by-cons, get_or-le-sum_by}
-use Rattle.std.specs.List.{list_any, sum_by, position_or_len}
-use Rattle.event_theory.specs.Queues.{Queue, left}
-use Rattle.event_theory.specs.Elements.{Elements, hold, is_hold, let_go}
-use Rattle.event_theory.specs.Lawful.{IsLawfulElements}
-use Rattle.event_theory.specs.Appearances.{appearances, in_list}
-use Rattle.event_theory.specs.declared.hold.Hold.{Hold}
+use Rattle.thread_table.proofs.Common.{◌≡◌, ℕ, zero, suc, ◌+◌, ◌<◌, ◌≤◌, Bool, true, false, cond, ◌&&◌, ◌||◌, List, [], ◌∷◌, ◌∙◌, length, remove, position, get_or, refl, sym, ap, ap₂, subst, arith, Some, slice_get, eqb, ◌⊎◌, inl, inr, Ok, eqb-true, cases_lt, get_or_from_slice_get, slice_get_within, position-Some, sum_by-cons, get_or-le-sum_by, list_any, sum_by, position_or_len, Queue, left, Elements, hold, is_hold, let_go, IsLawfulElements, appearances, in_list, Hold, one, in_hands, let_go_count}
+use Rattle.std.proofs.lemmas.Bool.{lt-ltb}
 use Rattle.event_theory.proofs.Lists.Histories.{both}
-use Rattle.event_theory.proofs.Keeping.Places.{one, in_hands, let_go_count}
 use Rattle.event_theory.proofs.Keeping.Rooms.{in_more, itself, few}
 
 -- an element is in one ring no more often than in all

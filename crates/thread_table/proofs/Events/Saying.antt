@@ -1,27 +1,11 @@
 -- What the numbers say that a step found, and that each change is the core's event.
-use Rattle.std.proofs.Common.{◌≡◌, ◌≢◌, ℕ, ◌+◌, ◌/◌, ◌%◌, ◌<◌, ◌≤◌, true, false, List, [], ◌∷◌, ◌++◌, ◌∙◌, length, take, get_or, None, Ok, Result, refl, sym, ap, subst, arith}
-use Rattle.std.proofs.lemmas.Option.{slice_get-get_or}
-use Rattle.std.specs.Result.{result_unwrap_or}
-use Rattle.event_theory.specs.Elements.{Thread}
-use Rattle.event_theory.specs.Queues.{left, empty_queue}
-use Rattle.event_theory.specs.Lawful.{IsLawfulQueue}
-use Rattle.event_theory.specs.Schedules.{Reaches}
-use Rattle.event_theory.specs.States.{State, step}
-use Rattle.event_theory.specs.declared.event.Event.{Event}
-use Rattle.event_theory.specs.declared.refusal.Refusal.{Refusal}
-use Rattle.event_theory.proofs.Keeping.Elements.{every_at}
-use Rattle.thread_table.specs.declared.layout.TheConstants.{PROCESSORS, ELEMENTS, RINGS, PLACES, STOP}
-use Rattle.thread_table.specs.Schedules.{Past, after, begun, state_after, elements_after, IsAllowed, Grows, ring_at, thread_at, element_at}
-use Rattle.thread_table.specs.Layout.{ends_word, processor_word, state_word, done_word, head_word, tail_word, place_word, stop_bit, cell_bit}
-use Rattle.thread_table.specs.Shown.{StateShows, PlaceShows, processor_shown, tail_shown, mark_of}
-use Rattle.thread_table.specs.Rules.{done_at}
-use Rattle.table_theory.specs.Ledgers.{load}
-use Rattle.thread_table.specs.Entries.{Step, change}
-use Rattle.thread_table.specs.Answers.{head_in, mark_in, is_in}
-use Rattle.table_theory.specs.Ledgers.{stays}
+use Rattle.thread_table.proofs.Common.{◌≡◌, ◌≢◌, ℕ, ◌+◌, ◌/◌, ◌%◌, ◌<◌, ◌≤◌, true, false, List, [], ◌∷◌, ◌++◌, ◌∙◌, length, take, get_or, None, Ok, Result, refl, sym, ap, subst, arith, slice_get-get_or, result_unwrap_or, Thread, left, empty_queue, IsLawfulQueue, Reaches, State, step, Event, Refusal, every_at, PROCESSORS, ELEMENTS, RINGS, PLACES, Past, Grows, ring_at, thread_at, element_at, ends_word, processor_word, state_word, done_word, head_word, tail_word, place_word, StateShows, PlaceShows, processor_shown, tail_shown, mark_of, done_at, load, Step, change, head_in, mark_in, is_in, stays}
+use Rattle.thread_table.specs.declared.layout.TheConstants.{STOP}
+use Rattle.thread_table.specs.Schedules.{after, begun, state_after, elements_after, IsAllowed}
+use Rattle.thread_table.specs.Layout.{stop_bit, cell_bit}
 use Rattle.thread_table.specs.Telling.{IsReal}
 use Rattle.thread_table.proofs.Schedule.Orders.{real_allows}
-use Rattle.thread_table.proofs.Events.QueueSteps.{place_says}
+use Rattle.thread_table.proofs.Events.Tells.{place_says}
 use Rattle.thread_table.proofs.Events.SingleRuns.{raised_known, first_of_left}
 use Rattle.thread_table.proofs.Events.StatesSeen.{shown_in, pending_are}
 use Rattle.thread_table.proofs.Schedule.Schedules.{lawful_after}

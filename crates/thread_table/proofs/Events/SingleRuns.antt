@@ -1,18 +1,13 @@
 -- A queue each run of which is one item: its items and pairs by their numbers, and the places of its window.
-use Rattle.std.proofs.Common.{◌≡◌, ◌≢◌, ℕ, zero, suc, ◌+◌, ◌-◌, ◌%◌, ◌<◌, ◌≤◌, Bool, true, false, List, [], ◌∷◌, ◌++◌, length, map, take, drop, get_or, Some, slice_get, refl, sym, ap, ap₂, subst, ◌∙◌, arith, length-drop, true≢false}
-use Rattle.std.proofs.lemmas.List.{length-map}
-use Rattle.std.proofs.lemmas.List.FromFn.{length-range_with_len, get_or-range_with_len}
+use Rattle.thread_table.proofs.Common.{◌≡◌, ◌≢◌, ℕ, zero, suc, ◌+◌, ◌-◌, ◌%◌, ◌<◌, ◌≤◌, Bool, true, false, List, [], ◌∷◌, ◌++◌, length, map, take, drop, get_or, Some, slice_get, refl, sym, ap, ap₂, subst, ◌∙◌, arith, length-drop, true≢false, length-map, length-range_with_len, range_with_len, dite, dec_lt, dec_le, Run, flat, run_length, Queue, left, IsLawfulQueue, element_of, element_at, no_run}
+use Rattle.std.proofs.lemmas.List.FromFn.{get_or-range_with_len}
 use Rattle.std.proofs.lemmas.Bool.{le-leb}
 use Rattle.std.specs.Cmp.Derive.{both_true}
-use Rattle.std.specs.List.{list_all, range_with_len}
-use mathlib.Core.Logic.{dite}
-use native.Mathlib.Decide.{dec_lt, dec_le}
-use Rattle.event_theory.specs.Runs.{Run, flat, pairs_of, pairs_from, run_length}
-use Rattle.event_theory.specs.Queues.{Queue, left, left_pairs, is_raised, first_are_raised}
-use Rattle.event_theory.specs.Lawful.{IsLawfulQueue}
+use Rattle.std.specs.List.{list_all}
+use Rattle.event_theory.specs.Runs.{pairs_of, pairs_from}
+use Rattle.event_theory.specs.Queues.{left_pairs, is_raised, first_are_raised}
 use Rattle.event_theory.proofs.Lists.Histories.{both}
 use Rattle.atomic_table.proofs.Lists.{one_turn}
-use Rattle.thread_table.specs.Schedules.{element_of, element_at, no_run}
 
 abbrev pub Singles : List Run → Type 0
 Singles history = (number : ℕ) (run : Run) → slice_get history number ≡ Some run → length run.items ≡ 1

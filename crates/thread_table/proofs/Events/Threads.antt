@@ -1,202 +1,163 @@
--- What a stop, a signal, a delivery and a step done do: each changes one thread and one word.
-use Rattle.std.proofs.Common.{◌≡◌, ◌≢◌, ℕ, ◌+◌, ◌*◌, ◌<◌, ◌∙◌, ◌⊎◌, inl, inr, true, false, List, length, set, get_or, eqb, refl, sym, ap, subst, arith, Some, None, slice_get, Result, Ok}
+-- What a stop, a signal, a delivery, a step done, a park and a start do: each changes one thread and one word.
+use Rattle.thread_table.proofs.Common.{Event, WordsShow, ◌^◌, None, ◌≡◌, ◌≢◌, ℕ, ◌+◌, ◌<◌, ◌∙◌, ◌⊎◌, inl, inr, Bool, true, false, cond, List, [], ◌∷◌, ◌++◌, length, set, get_or, remove, refl, sym, ap, subst, arith, append-nil, Some, slice_get, or_lt, slice_get-get_or, bit_or, bit_and, list_any, position_or_len, with_number, Elements, Thread, hold, is_hold, new_thread, deliver, done, Hold, ELEMENTS, View, thread_at, state_word, done_word, StateShows, HandIs, IsCounted, count_of, quiet, bit_at, has, bit_of}
+use Rattle.thread_table.specs.Steps.{IsTurn}
 use Rattle.std.proofs.lemmas.List.{length-set, get_or-set_same, get_or-set_other}
-use Rattle.std.proofs.lemmas.Option.{slice_get-get_or}
-use Rattle.std.proofs.lemmas.Bool.Decides.{eqb_tells}
-use Rattle.event_theory.specs.Chains.{with_number}
-use Rattle.event_theory.specs.Elements.{Elements, Thread, new_thread, stop, signal, deliver}
-use Rattle.event_theory.specs.declared.refusal.Refusal.{Refusal}
-use Rattle.event_theory.proofs.Outcomes.{changed, delivered_ok, done_ok}
-use Rattle.thread_table.specs.declared.layout.TheConstants.{ELEMENTS}
-use Rattle.thread_table.specs.Own.{View}
-use Rattle.thread_table.specs.declared.rule.Counted.{Counted}
-use Rattle.thread_table.specs.Schedules.{Grows, thread_at}
-use Rattle.thread_table.specs.Layout.{processor_word, state_word, done_word, head_word, tail_word, place_word}
-use Rattle.thread_table.specs.Shown.{WordsShow, RingShows, StateShows}
-use Rattle.thread_table.specs.Rules.{HandIs, IsClaimed, IsCounted, may_step}
-use Rattle.thread_table.proofs.Events.Effects.{Leaves, Effect, Ready, StopEffect, SignalEffect, DeliverEffect, DoneEffect}
-use Rattle.thread_table.specs.Views.{quiet}
-use Rattle.thread_table.proofs.Events.Owing.{same_owes}
+use Rattle.std.proofs.lemmas.Nat.{and_le_r}
+use Rattle.event_theory.specs.Elements.{stop, signal, park, start}
+use Rattle.event_theory.proofs.Outcomes.{changed, delivered_ok, done_ok, parked_ok, started_ok}
+use Rattle.thread_table.proofs.Events.Changes.{hand_holds, thread_effect, state_effect}
+use Rattle.thread_table.proofs.Events.Effects.{May, Anything, becomes}
+use Rattle.event_theory.specs.declared.event.Event.TheVariants as events
+use Rattle.thread_table.proofs.Hands.HeldLists.{held_set, held_once}
+use Rattle.thread_table.proofs.Hands.Releases.{releases, handed, handed_else}
+use Rattle.thread_table.proofs.Shown.Bits.{set_bit_same, set_bit_other, low_bit, high_bit}
+use Rattle.thread_table.proofs.Shown.Outside.{with_parts}
+use Rattle.thread_table.proofs.Shown.QueueWords.{none_some}
 use Rattle.thread_table.proofs.Shown.StateBits.{stop_shows, signal_shows, deliver_shows}
-
--- the elements with one thread changed
-abbrev with_thread : Elements → ℕ → Thread → Elements
-with_thread e element new = record e { threads = set e.threads element new }
-
--- a queue that nothing happened to
-same_queue : (e : Elements) → Grows e e
-same_queue e ring = record {
-  longer = omega arith;
-  further = omega arith;
-  items = λ run below. refl;
-  raised = λ run up. up;
-}
-
--- the thread that was changed, and the others
-thread_here : (e : Elements) (element : ℕ) (new : Thread) → element < length e.threads → thread_at (with_thread e element new) element ≡ new
-thread_here e element new known = get_or-set_same e.threads element new new_thread known
-
-thread_else : (e : Elements) (element x : ℕ) (new : Thread) → x ≢ element → thread_at (with_thread e element new) x ≡ thread_at e x
-thread_else e element x new differ = get_or-set_other e.threads element x new new_thread differ
-
-thread_by : (P : ℕ → Thread → Type 0) (e : Elements) (element x : ℕ) (new : Thread) → element < length e.threads → P element new → (x ≢ element → P x (thread_at e x))
-    → ((eqb x element ≡ true) × (x ≡ element)) ⊎ ((eqb x element ≡ false) × (x ≢ element)) → P x (thread_at (with_thread e element new) x)
-thread_by P e element x new known here else (inl same) =
-    subst (λ n. P n (thread_at (with_thread e element new) n)) (sym same.1) (subst (P element) (sym (thread_here e element new known)) here)
-thread_by P e element x new known here else (inr differ) = subst (P x) (sym (thread_else e element x new differ.1)) (else differ.1)
-
--- what holds of the thread that was changed and of the others
-each_thread : (P : ℕ → Thread → Type 0) (e : Elements) (element x : ℕ) (new : Thread) → element < length e.threads → P element new → (x ≢ element → P x (thread_at e x))
-    → P x (thread_at (with_thread e element new) x)
-each_thread P e element x new known here else = thread_by P e element x new known here else (eqb_tells x element)
 
 -- there is such an element
 found : (e : Elements) (element : ℕ) → length e.threads ≡ 64 → element < ELEMENTS → slice_get e.threads element ≡ Some (thread_at e element)
 found e element many known = slice_get-get_or e.threads element new_thread (subst (λ n. element < n) (sym many) known)
 
--- what others have stays, where only the call that may step counts
-thread_leaves : (id : ℕ) (v : View) (e : Elements) (element : ℕ) (new : Thread) → element < length e.threads
-    → (may_step id element e ≡ false → new.done ≡ (thread_at e element).done) → Leaves id v e (with_thread e element new)
-thread_leaves id v e element new known steps = record {
-  grows = same_queue e;
-  held = λ call x other. refl;
-  processors = λ p mine. refl;
-  puts = λ call x other. refl;
-  runs = λ call c other is. record { below = is.below; known = is.known; run = is.run; low = is.low };
-  steps = λ x may_not. each_thread (λ n thread. may_step id n e ≡ false → thread.done ≡ (thread_at e n).done) e element x new known steps (λ differ may. refl) may_not;
+abbrev parked : Thread → Thread
+parked thread = record thread { parked = true }
+
+abbrev started : Thread → Thread
+started thread = record thread { stop = false; parked = false }
+
+parked_shows : (thread : Thread) (word : ℕ) → StateShows thread word → StateShows (parked thread) (bit_or word 131072)
+parked_shows thread word shows = record {
+  bounded = or_lt 18 word 131072 shows.bounded (omega arith);
+  pending = λ signal below. set_bit_other word 17 signal (λ h. omega arith) ∙ shows.pending signal below;
+  stop = set_bit_other word 17 16 (λ h. omega arith) ∙ shows.stop;
+  parked = set_bit_same word 17;
 }
 
-thread_hand : (id : ℕ) (v : View) (e : Elements) (element : ℕ) (new : Thread) → HandIs id v e → HandIs id (quiet v) (with_thread e element new)
-thread_hand id v e element new hand = record {
-  held_long = hand.held_long;
-  serves_long = hand.serves_long;
-  on_long = hand.on_long;
-  held = hand.held;
-  on = hand.on;
-  off = hand.off;
-  claimed = λ c is. let h : IsClaimed id c e = hand.claimed c is in record { below = h.below; known = h.known; run = h.run; low = h.low };
-  counted = λ c is. absurd (cc);
+started_shows : (thread : Thread) (word : ℕ) → StateShows thread word → StateShows (started thread) (bit_and word 65535)
+started_shows thread word shows = record {
+  bounded = omega (arith, and_le_r word 65535);
+  pending = λ signal below. low_bit word 16 signal below ∙ shows.pending signal below;
+  stop = high_bit word 16 16 (omega arith);
+  parked = high_bit word 16 17 (omega arith);
 }
 
--- a word of a thread changed: those of processors and queues stay
-word_else : (words : List ℕ) (place other word : ℕ) → other ≢ place → get_or (set words place word) other 0 ≡ get_or words other 0
-word_else words place other word differ = get_or-set_other words place other word 0 differ
+-- who holds what after a start, and what the hand's view says of it
+abbrev held_after : ℕ → ℕ → Bool → List Hold → List Hold
+held_after id element was_parked held = held ++ cond was_parked (hold id element ∷ []) []
 
-ring_else : (first : ℕ) (e : Elements) (ring element : ℕ) (new : Thread) (words : List ℕ) (place word : ℕ) → place < 137 → RingShows first e ring words
-    → RingShows first (with_thread e element new) ring (set words place word)
-ring_else first e ring element new words place word before shows = record {
-  capacity = shows.capacity;
-  is_open = shows.is_open;
-  single = shows.single;
-  bounded = shows.bounded;
-  marked = shows.marked;
-  head = word_else words place (head_word ring) word (λ is. omega arith) ∙ shows.head;
-  tail = word_else words place (tail_word ring) word (λ is. omega arith) ∙ shows.tail;
-  places = λ run from to.
-      let same = word_else words place (place_word ring (first + run)) word (λ is. omega arith) in
-      let h = shows.places run from to in
-      record { up = λ up. same ∙ h.up up; low = λ low. subst (λ n. n < 256 * (first + run + 1)) (sym same) (h.low low) };
-}
+abbrev has_after : ℕ → Bool → List Bool → List Bool
+has_after element was_parked held = cond was_parked (set held element true) held
 
--- the words after one thread's state changed
-state_shown : (first : ℕ) (e : Elements) (words : List ℕ) (element word : ℕ) (new : Thread) → element < ELEMENTS → WordsShow first e words
-    → new.done ≡ (thread_at e element).done → StateShows new word → WordsShow first (with_thread e element new) (set words (state_word element) word)
-state_shown first e words element word new known shows steps state =
-    let below : element < length e.threads = subst (λ n. element < n) (sym shows.threads) known in
-    let here : get_or (set words (state_word element) word) (state_word element) 0 ≡ word =
-    get_or-set_same words (state_word element) word 0 (subst (λ n. state_word element < n) (sym shows.wide) (omega arith)) in
-    record {
-      wide = length-set words (state_word element) word ∙ shows.wide;
-      threads = length-set e.threads element new ∙ shows.threads;
-      queues = shows.queues;
-      waits = shows.waits;
-      processors = shows.processors;
-      on = λ p is. word_else words (state_word element) (processor_word p) word (λ same. omega arith) ∙ shows.on p is;
-      states = λ x is. each_thread (λ n thread. StateShows thread (get_or (set words (state_word element) word) (state_word n) 0)) e element x new below
-          (subst (StateShows new) (sym here) state)
-          (λ differ. subst (StateShows (thread_at e x)) (sym (word_else words (state_word element) (state_word x) word (λ same. differ (omega arith)))) (shows.states x is));
-      steps = λ x is. word_else words (state_word element) (done_word x) word (λ same. omega arith)
-          ∙ (shows.steps x is ∙ each_thread (λ n thread. (thread_at e n).done ≡ thread.done) e element x new below (sym steps) (λ differ. refl));
-      few = λ x is. each_thread (λ n thread. thread.done < 4294967296) e element x new below
-          (subst (λ n. n < 4294967296) (sym steps) (shows.few element known)) (λ differ. shows.few x is);
-      rings = λ ring is. ring_else first e ring element new words (state_word element) word (omega arith) (shows.rings ring is);
-    }
+started_others : (id element c x : ℕ) (was_parked : Bool) (held : List Hold) → (c ≢ id) ⊎ (x ≢ element)
+    → list_any (is_hold c x) (held_after id element was_parked held) ≡ list_any (is_hold c x) held
+started_others id element c x true held other = handed_else id element c x held other
+started_others id element c x false held other = ap (list_any (is_hold c x)) (append-nil held)
 
--- the words after one thread did a step
-done_shown : (first : ℕ) (e : Elements) (words : List ℕ) (element count : ℕ) → element < ELEMENTS → WordsShow first e words
-    → (thread_at e element).done ≡ count → count < 4294967295
-    → WordsShow first (with_thread e element (record (thread_at e element) { done = (thread_at e element).done + 1 })) (set words (done_word element) (count + 1))
-done_shown first e words element count known shows is_count room =
-    let new : Thread = record (thread_at e element) { done = (thread_at e element).done + 1 } in
-    let below : element < length e.threads = subst (λ n. element < n) (sym shows.threads) known in
-    let here : get_or (set words (done_word element) (count + 1)) (done_word element) 0 ≡ count + 1 =
-    get_or-set_same words (done_word element) (count + 1) 0 (subst (λ n. done_word element < n) (sym shows.wide) (omega arith)) in
-    let state : StateShows (thread_at e element) (get_or words (state_word element) 0) = shows.states element known in
-    let same : (x : ℕ) → x < ELEMENTS → get_or (set words (done_word element) (count + 1)) (state_word x) 0 ≡ get_or words (state_word x) 0 =
-    λ x is. word_else words (done_word element) (state_word x) (count + 1) (λ eq. omega arith) in
-    record {
-      wide = length-set words (done_word element) (count + 1) ∙ shows.wide;
-      threads = length-set e.threads element new ∙ shows.threads;
-      queues = shows.queues;
-      waits = shows.waits;
-      processors = shows.processors;
-      on = λ p is. word_else words (done_word element) (processor_word p) (count + 1) (λ eq. omega arith) ∙ shows.on p is;
-      states = λ x is. each_thread (λ n thread. n < 64 → StateShows thread (get_or (set words (done_word element) (count + 1)) (state_word n) 0)) e element x new below
-          (λ low. subst (StateShows new) (sym (same element low)) (record { bounded = state.bounded; pending = state.pending; stop = state.stop; parked = state.parked }))
-          (λ differ low. subst (StateShows (thread_at e x)) (sym (same x low)) (shows.states x low)) is;
-      steps = λ x is. each_thread (λ n thread. get_or (set words (done_word element) (count + 1)) (done_word n) 0 ≡ thread.done) e element x new below
-          (here ∙ ap (λ n. n + 1) (sym is_count))
-          (λ differ. word_else words (done_word element) (done_word x) (count + 1) (λ eq. differ (omega arith)) ∙ shows.steps x is);
-      few = λ x is. each_thread (λ n thread. thread.done < 4294967296) e element x new below (omega (arith, is_count, room)) (λ differ. shows.few x is);
-      rings = λ ring is. ring_else first e ring element new words (done_word element) (count + 1) (omega arith) (shows.rings ring is);
-    }
+started_held : (id : ℕ) (v : View) (e : Elements) (element : ℕ) (was_parked : Bool) → HandIs id v e → element < ELEMENTS
+    → (x : ℕ) → list_any (is_hold id x) (held_after id element was_parked e.held) ≡ get_or (has_after element was_parked v.own.held) x false
+started_held id v e element true hand low x =
+    held_set id v e (with_parts e e.threads e.processors (e.held ++ hold id element ∷ [])) element true hand low (handed id element e.held)
+    (λ y apart. handed_else id element id y e.held (inr apart)) x
+started_held id v e element false hand low x = ap (list_any (is_hold id x)) (append-nil e.held) ∙ hand.held x
 
--- the effect of an event that changes one thread's state
-state_effect : (id : ℕ) (v : View) (first : ℕ) (event : Elements → Result Elements Refusal) (e : Elements) (words : List ℕ) (element word : ℕ) (new : Thread)
-    → Ready id v first e words → v.own.claimed ≡ None → element < ELEMENTS → event e ≡ Ok (with_thread e element new) → new.done ≡ (thread_at e element).done → StateShows new word
-    → Effect id v (quiet v) first event e (set words (state_word element) word)
-state_effect id v first event e words element word new ready free known goes steps state = record {
-  f = with_thread e element new;
-  goes = goes;
-  leaves = thread_leaves id v e element new (subst (λ n. element < n) (sym ready.shows.threads) known) (λ may_not. steps);
-  hand = thread_hand id v e element new ready.hand;
-  shows = state_shown first e words element word new known ready.shows steps state;
-  owes = same_owes v (quiet v) e (with_thread e element new) free (λ ring. refl);
-}
+has_after_long : (element : ℕ) (was_parked : Bool) (held : List Bool) → length (has_after element was_parked held) ≡ length held
+has_after_long element true held = length-set held element true
+has_after_long element false held = refl
 
-pub stop_effect : StopEffect
-stop_effect id v first e words element ready free known =
-    let old : Thread = thread_at e element in
-    state_effect id v first (stop element) e words element _ (record old { stop = true }) ready free known
-    (changed element _ e old _ (found e element ready.shows.threads known) refl) refl
-    (stop_shows old (get_or words (state_word element) 0) (ready.shows.states element known))
+bit_set : (b : Bool) → bit_of b ≡ 1 → b ≡ true
+bit_set true is = refl
+bit_set false is = absurd (omega arith)
 
-pub signal_effect : SignalEffect
-signal_effect id v first e words element number ready free known bounded =
-    let old : Thread = thread_at e element in
-    state_effect id v first (signal element number) e words element _ (record old { pending = with_number true number old.pending }) ready free known
-    (changed element _ e old _ (found e element ready.shows.threads known) refl) refl
-    (signal_shows old (get_or words (state_word element) 0) number bounded (ready.shows.states element known))
+-- where the stop bit of the word is set the element is stopping
+stopping : (first : ℕ) (e : Elements) (words : List ℕ) (element old : ℕ) → element < ELEMENTS → WordsShow first e words → get_or words (state_word element) 0 ≡ old → bit_at old 16 ≡ 1 → (thread_at e element).stop ≡ true
+stopping first e words element old known shows hit is = bit_set _ (sym (shows.states element known).stop ∙ (ap (λ (z : ℕ). bit_at z 16) hit ∙ is))
 
-pub deliver_effect : DeliverEffect
-deliver_effect id v first e words element ready free known mine =
-    let old : Thread = thread_at e element in
-    state_effect id v first (deliver id element) e words element _ (record old { pending = λ signal. false }) ready free known
-    (delivered_ok id element e old (found e element ready.shows.threads known) (ready.hand.held element ∙ mine)) refl
-    (deliver_shows old (get_or words (state_word element) 0) (ready.shows.states element known))
+module _ (id : ℕ) (v : View) (free : v.own.claimed ≡ None) where
+  -- the stop bit of an element is set, or a signal becomes pending
+  pub may_stop : (element : ℕ) → element < ELEMENTS → May id v (events.Stop id element) (state_word element) Anything (λ x. bit_or x 65536)
+  may_stop element known = record {
+    change = stop element;
+    is = λ t. refl;
+    plain = refl;
+    inside = omega arith;
+    goes = λ first same e words ready any. let old : Thread = thread_at e element in
+        state_effect id v first (stop element) e words element _ (record old { stop = true }) e.held v.own.held ready free known
+        (changed element _ e old _ (found e element ready.shows.threads known) refl) refl
+        (stop_shows old (get_or words (state_word element) 0) (ready.shows.states element known)) (λ call x other. refl) refl ready.hand.held;
+  }
 
-pub done_effect : DoneEffect
-done_effect id v first e words element count ready free counts room =
-    let c : Counted = record { element = element; done = count } in
-    let is : IsCounted id c e = ready.hand.counted c counts in
-    let old : Thread = thread_at e element in
-    let new : Thread = record old { done = old.done + 1 } in
-    let below : element < length e.threads = subst (λ n. element < n) (sym ready.shows.threads) is.known in
-    record {
-      f = with_thread e element new;
-      goes = done_ok id element e old (found e element ready.shows.threads is.known) (subst (λ n. n < 4294967295) (sym is.done) room) is.may;
-      leaves = thread_leaves id v e element new below (λ may_not. let wrong : true ≡ false = sym is.may ∙ may_not in absurd (cc));
-      hand = thread_hand id v e element new ready.hand;
-      shows = done_shown first e words element count is.known ready.shows is.done room;
-      owes = same_owes v (quiet v) e (with_thread e element new) free (λ ring. refl);
-    }
+  pub may_signal : (element number bit : ℕ) → element < ELEMENTS → number < 16 → bit ≡ 2 ^ number → May id v (events.Signal id element number) (state_word element) Anything (λ x. bit_or x bit)
+  may_signal element number bit known below is = record {
+    change = signal element number;
+    is = λ t. refl;
+    plain = refl;
+    inside = omega arith;
+    goes = λ first same e words ready any. let old : Thread = thread_at e element in
+        becomes words _ (ap (bit_or (get_or words (state_word element) 0)) (sym is)) (state_effect id v first (signal element number) e words element _ (record old { pending = with_number true number old.pending }) e.held v.own.held ready free known
+        (changed element _ e old _ (found e element ready.shows.threads known) refl) refl
+        (signal_shows old (get_or words (state_word element) 0) number below (ready.shows.states element known)) (λ call x other. refl) refl ready.hand.held);
+  }
+
+  -- the signals of an element that the hand holds are delivered
+  may_deliver : (element old new : ℕ) → element < ELEMENTS → has v element ≡ true → new ≡ bit_and old 196608 → May id v (events.Deliver id element) (state_word element) (λ x. x ≡ old) (λ x. new)
+  may_deliver element old new known held is = record {
+    change = deliver id element;
+    is = λ t. refl;
+    plain = refl;
+    inside = omega arith;
+    goes = λ first same e words ready hit. let was : Thread = thread_at e element in
+        becomes words _ (ap (λ (z : ℕ). bit_and z 196608) hit ∙ sym is) (state_effect id v first (deliver id element) e words element _ (record was { pending = λ signal. false }) e.held v.own.held ready free known
+        (delivered_ok id element e was (found e element ready.shows.threads known) (ready.hand.held element ∙ held)) refl
+        (deliver_shows was (get_or words (state_word element) 0) (ready.shows.states element known)) (λ call x other. refl) refl ready.hand.held);
+  }
+
+  -- a stopping element is put into its stop cell, or starts
+  may_park : (element old new : ℕ) → element < ELEMENTS → has v element ≡ true → bit_at old 16 ≡ 1 → new ≡ bit_or old 131072 → May id v (events.Park id element) (state_word element) (λ x. x ≡ old) (λ x. new)
+  may_park element old new known held stops is = record {
+    change = park id element;
+    is = λ t. refl;
+    plain = refl;
+    inside = omega arith;
+    goes = λ first same e words ready hit. let was : Thread = thread_at e element in let index : ℕ = position_or_len (is_hold id element) e.held in
+        let g = releases id element e.held (ready.hand.held element ∙ held) (held_once id element e ready.lawful (omega (arith, known, ready.shows.threads)) (ready.hand.held element ∙ held)) in
+        becomes words _ (ap (λ (z : ℕ). bit_or z 131072) hit ∙ sym is) (state_effect id v first (park id element) e words element _ (parked was) (remove e.held index) (set v.own.held element false) ready free known
+        (parked_ok id element index e was (found e element ready.shows.threads known) g.at (stopping first e words element old known ready.shows hit stops)) refl (parked_shows was (get_or words (state_word element) 0) (ready.shows.states element known))
+        (λ c x other. g.others c x (inl other)) (length-set v.own.held element false)
+        (held_set id v e (with_parts e e.threads e.processors (remove e.held index)) element false ready.hand known g.own (λ x apart. g.others id x (inr apart))));
+  }
+
+  may_start : (element old new : ℕ) → element < ELEMENTS → bit_at old 16 ≡ 1 → new ≡ bit_and old 65535 → May id v (events.Start id element) (state_word element) (λ x. x ≡ old) (λ x. new)
+  may_start element old new known stops is = record {
+    change = start id element;
+    is = λ t. refl;
+    plain = refl;
+    inside = omega arith;
+    goes = λ first same e words ready hit. let was : Thread = thread_at e element in
+        becomes words _ (ap (λ (z : ℕ). bit_and z 65535) hit ∙ sym is) (state_effect id v first (start id element) e words element _ (started was) (held_after id element was.parked e.held) (has_after element was.parked v.own.held) ready free known
+        (started_ok id element e was (found e element ready.shows.threads known) (stopping first e words element old known ready.shows hit stops)) refl (started_shows was (get_or words (state_word element) 0) (ready.shows.states element known))
+        (λ c x other. started_others id element c x was.parked e.held (inl other)) (has_after_long element was.parked v.own.held) (started_held id v e element was.parked ready.hand known));
+  }
+
+  -- so an exchange of its state word is one of these events
+  pub may_turn : (event : Event) (element old new : ℕ) → element < ELEMENTS → IsTurn event id element v old new → (turn : Event) × (event ≡ turn) × May id v turn (state_word element) (λ x. x ≡ old) (λ x. new)
+  may_turn event element old new known (inl t) = (events.Park id element, t.0, may_park element old new known t.1 t.2 t.3)
+  may_turn event element old new known (inr (inl t)) = (events.Start id element, t.0, may_start element old new known t.1 t.2)
+  may_turn event element old new known (inr (inr t)) = (events.Deliver id element, t.0, may_deliver element old new known t.1 t.2)
+
+  -- one step more of the element whose number of steps the hand had found
+  pub may_count : (element count : ℕ) → v.own.counted ≡ Some (count_of element count) → count < 4294967295 → May id v (events.Done id element) (done_word element) Anything (λ x. count + 1)
+  may_count element count counted room = record {
+    change = done id element;
+    is = λ t. refl;
+    plain = refl;
+    inside = omega arith;
+    goes = λ first same e words ready any. let is : IsCounted id (count_of element count) e = ready.hand.counted (count_of element count) counted in
+        let old : Thread = thread_at e element in let new : Thread = record old { done = old.done + 1 } in
+        let state = ready.shows.states element is.known in let wide = ready.shows.wide in let low = is.known in
+        thread_effect id v (quiet v) first (done id element) e words element new e.held (done_word element) (count + 1) ready free is.known
+        (done_ok id element e old (found e element ready.shows.threads is.known) (subst (λ n. n < 4294967295) (sym is.done) room) is.may)
+        (hand_holds id v e (with_parts e (set e.threads element new) e.processors e.held) v.own.held v.own.claimed ready.hand refl refl ready.hand.held (λ c at. none_some c v.own.claimed free at))
+        (λ call x other. refl) (λ may_not. let wrong : true ≡ false = sym is.may ∙ may_not in absurd (cc)) (inr refl)
+        (subst (StateShows new) (sym (get_or-set_other words (done_word element) (state_word element) (count + 1) 0 (λ same. omega arith))) (record { bounded = state.bounded; pending = state.pending; stop = state.stop; parked = state.parked }))
+        (get_or-set_same words (done_word element) (count + 1) 0 (omega arith) ∙ ap (λ n. n + 1) (sym is.done)) (omega (arith, is.done, room));
+  }

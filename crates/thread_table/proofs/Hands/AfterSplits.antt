@@ -1,57 +1,27 @@
 -- What a hand knows after a split, and after a join.
-use Rattle.std.proofs.Common.{◌≡◌, ℕ, zero, suc, ◌+◌, ◌-◌, Bool, true, false, ◌||◌, ◌&&◌, not, cond, List, [], ◌∷◌, length, get_or, refl, sym, ap, ◌∙◌, subst, arith}
-use Rattle.std.specs.Prelude.{nat_lt}
-use Rattle.event_theory.specs.declared.event.Event.{Event}
-use Rattle.table_theory.specs.Ends.{Begins}
-use Rattle.table_theory.specs.Ledgers.{Step, count_up, count_down}
+use Rattle.thread_table.proofs.Common.{◌≡◌, ℕ, zero, suc, ◌+◌, ◌-◌, Bool, false, ◌||◌, ◌&&◌, not, List, [], ◌∷◌, length, get_or, refl, sym, ap, ◌∙◌, subst, arith, and_right, or_parts, nat_lt, Event, Begins, count_up, count_down, begins_trans, ends_word, seen_as, View, is_in, Sees, CountedDown, parted, any_both, rest_of, newborn, both, Divided, IsNewborn, TookIn}
+use Rattle.table_theory.specs.Ledgers.{Step}
 use Rattle.table_theory.specs.Sharing.{given}
-use Rattle.table_theory.proofs.Ends.{begins_trans}
 use Rattle.table_theory.proofs.Parting.{one_seen}
-use Rattle.thread_table.specs.Layout.{ends_word}
-use Rattle.thread_table.specs.Entries.{seen_as}
-use Rattle.thread_table.specs.Own.{View}
-use Rattle.thread_table.specs.Answers.{is_in}
-use Rattle.thread_table.specs.Entries.{seen_as}
 use Rattle.thread_table.specs.Steps as told
-use Rattle.thread_table.specs.Steps.{after, Sees, CountedUp, CountedDown, parted, any_both, rest_of, newborn, both}
-use Rattle.thread_table.specs.Endings.{Divided, IsNewborn, TookIn, with_split, together, with_join}
+use Rattle.thread_table.specs.Steps.{after, CountedUp}
+use Rattle.thread_table.specs.Endings.{with_split, together, with_join}
 use Rattle.thread_table.proofs.Schedule.Acting.{acts_kept}
-use Rattle.thread_table.proofs.Lists.Entries.{get_or-parted, get_or-either}
-use Rattle.thread_table.specs.Layout.{ends_word}
-
-and_not : (b m : Bool) → cond m false b ≡ (b && not m)
-and_not true true = refl
-and_not true false = refl
-and_not false true = refl
-and_not false false = refl
-
-or_is : (a b : Bool) → cond a true b ≡ (a || b)
-or_is true b = refl
-or_is false b = refl
-
-no_mark : (a b : Bool) → (a || b) ≡ false → (a ≡ false) × (b ≡ false)
-no_mark true b h = absurd (cc)
-no_mark false b h = (refl, h)
+use Rattle.thread_table.proofs.Lists.Entries.{parted_and, either_or}
 
 -- where no place has a mark in both lists
 both_low : (bs ms : List Bool) → any_both bs ms ≡ false → (i : ℕ) → (get_or bs i false && get_or ms i false) ≡ false
 both_low [] ms none i = refl
-both_low (true ∷ bs) [] none zero = refl
-both_low (false ∷ bs) [] none zero = refl
-both_low (b ∷ bs) [] none (suc i) = no_more (get_or bs i false)
-  where
-    no_more : (b : Bool) → (b && false) ≡ false
-    no_more true = refl
-    no_more false = refl
-both_low (b ∷ bs) (m ∷ ms) none zero = (no_mark (b && m) (any_both bs ms) none).0
-both_low (b ∷ bs) (m ∷ ms) none (suc i) = both_low bs ms (no_mark (b && m) (any_both bs ms) none).1 i
+both_low (b ∷ bs) [] none i = and_right (get_or (b ∷ bs) i false) false refl
+both_low (b ∷ bs) (m ∷ ms) none zero = (or_parts (b && m) (any_both bs ms) none).0
+both_low (b ∷ bs) (m ∷ ms) none (suc i) = both_low bs ms (or_parts (b && m) (any_both bs ms) none).1 i
 
 -- the first hand, after it counted the new one and gave it the processors of the mask
 pub divided : (number : ℕ) (mask : List Bool) (v x : View) (found : ℕ) → ((p : ℕ) → get_or mask p false ≡ is_in number p) → CountedUp v found x → Divided number v (rest_of mask x)
 divided number mask v x found is t = let w : View = rest_of mask x in let e : Step (List Event) = count_up ends_word t.before in let less : v.member.ends + 1 - 1 ≡ v.member.ends = omega arith in
     let y : View = rest_of mask (after (record v { member = told.with_split v.member }) t.past e) in let goes : w ≡ y = ap (rest_of mask) t.same in record {
-      serves = λ p below. get_or-parted x.own.serves mask p ∙ (and_not (get_or x.own.serves p false) (get_or mask p false)
-          ∙ (ap (λ (z : List Bool). get_or z p false && not (get_or mask p false)) (ap (λ (z : View). z.own.serves) t.same) ∙ ap (λ (b : Bool). get_or v.own.serves p false && not b) (is p)));
+      serves = λ p below. parted_and x.own.serves mask p
+          ∙ (ap (λ (z : List Bool). get_or z p false && not (get_or mask p false)) (ap (λ (z : View). z.own.serves) t.same) ∙ ap (λ (b : Bool). get_or v.own.serves p false && not b) (is p));
       found = t.before;
       acts = acts_kept v w (with_split v w) t.past e t.follows t.newest (subst (λ (z : List Event). Sees v z) (sym (ap (λ (z : View). z.seen.object) t.same)) t.sees) (ap (λ (z : View). z.first) t.same) (ap (λ (z : View). z.steps) t.same) (ap (λ (z : View). z.course) t.same) (ap (λ (z : View). z.seen) t.same)
           (ap (λ (z : View). z.own.made) t.same)
@@ -81,15 +51,15 @@ sees_together v u w found t = let s = t.sees in subst (λ (z : List Event). Sees
 pub took_in : (v u w : View) (found : ℕ) → v.member.ends ≡ 1 → u.member.ends ≡ 1 → length u.own.held ≡ length v.own.held → length u.own.serves ≡ length v.own.serves → CountedDown (both v u) found w → TookIn v u w
 took_in v u w found one one' held serves t =
     let less : v.member.ends + u.member.ends - 1 ≡ 1 = omega arith in let e : Step (List Event) = count_down ends_word t.before in let y : View = after (record (both v u) { member = told.with_join (both v u).member }) t.past e in
-    let a = no_mark (v.own.doubled || u.own.doubled || any_both v.own.held u.own.held) (any_both v.own.serves u.own.serves) t.sees.undoubled in
-    let b = no_mark (v.own.doubled || u.own.doubled) (any_both v.own.held u.own.held) a.0 in
+    let a = or_parts (v.own.doubled || u.own.doubled || any_both v.own.held u.own.held) (any_both v.own.serves u.own.serves) t.sees.undoubled in
+    let b = or_parts (v.own.doubled || u.own.doubled) (any_both v.own.held u.own.held) a.0 in
     let later : Begins (both v u).course w.course = begins_trans (both v u).course t.past w.course t.follows (subst (Begins t.past) (sym (ap (λ (z : View). z.course) t.same)) (e ∷ [], refl)) in
     let before : Begins (both v u).joined w.course = begins_trans (both v u).joined t.past w.course t.joined (subst (Begins t.past) (sym (ap (λ (z : View). z.course) t.same)) (e ∷ [], refl)) in
     let seen = one_seen (nat_lt (length v.course) (length u.course)) v.course u.course w.course later before in record {
       apart = both_low v.own.held u.own.held b.1;
       alone = both_low v.own.serves u.own.serves a.1;
-      held = λ e. ap (λ (z : View). get_or z.own.held e false) t.same ∙ (get_or-either v.own.held u.own.held e held ∙ or_is (get_or v.own.held e false) (get_or u.own.held e false));
-      serves = λ p. ap (λ (z : View). get_or z.own.serves p false) t.same ∙ (get_or-either v.own.serves u.own.serves p serves ∙ or_is (get_or v.own.serves p false) (get_or u.own.serves p false));
+      held = λ e. ap (λ (z : View). get_or z.own.held e false) t.same ∙ either_or v.own.held u.own.held e held;
+      serves = λ p. ap (λ (z : View). get_or z.own.serves p false) t.same ∙ either_or v.own.serves u.own.serves p serves;
       found = t.before;
       acts = acts_kept (together v u) w (with_join v u) t.past e t.follows (λ whole. absurd (omega arith)) (sees_together v u w found t) (ap (λ (z : View). z.first) t.same) (ap (λ (z : View). z.steps) t.same) (ap (λ (z : View). z.course) t.same) (ap (λ (z : View). z.seen) t.same) (ap (λ (z : View). z.own.made) t.same)
           (t.same ∙ ((λ i. record y { member = record y.member { ends = less i } }) ∙ sym (ap (seen_as (with_join v u)) t.same)));

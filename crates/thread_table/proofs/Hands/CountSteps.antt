@@ -1,58 +1,20 @@
 -- The steps that count hands, and the one that finds how many steps an element had done, keep the rule.
-use Rattle.std.proofs.Common.{◌≡◌, ℕ, zero, suc, ◌+◌, ◌-◌, ◌%◌, ◌<◌, ◌≤◌, Bool, true, false, ◌||◌, ◌&&◌, eqb, List, [], ◌∷◌, get_or, set, Some, Option, option_map, sym, refl, ap, ◌∙◌, subst, ⊎_elim, arith, length-set, get_or-set_same, get_or-set_other, slice_get, eq-eqb}
-use Rattle.std.specs.List.{list_any}
-use Rattle.std.proofs.lemmas.List.{set-get_or}
-use mathlib.Core.Option.{some, none}
-use lib.ListN.{get_elem?}
-use Rattle.atomic_table.specs.Table.{Me, step, keeps, Allows}
-use Rattle.table_theory.specs.declared.views.Part.{Part}
-use Rattle.table_theory.specs.Ledgers.{Step, IsReal, EndsStand, load, count_up, count_down, stays, more, fewer}
-use Rattle.event_theory.specs.declared.event.Event.{Event}
-use Rattle.event_theory.specs.Elements.{Elements, hold, holds, is_hold, is_put}
-use Rattle.table_theory.proofs.Standing.{stand_same, stand_up, stand_down, number_is}
-use Rattle.thread_table.specs.declared.layout.TheConstants.{ELEMENTS}
-use Rattle.thread_table.specs.declared.rule.Shape.{Shape}
-use Rattle.thread_table.specs.Own.{View}
-use Rattle.thread_table.specs.declared.rule.Counted.{Counted}
-use Rattle.thread_table.specs.Schedules.{Past, elements_after, ring_at, thread_at}
-use Rattle.thread_table.specs.Layout.{ends_word, processor_word, state_word, done_word, head_word, tail_word, place_word}
-use Rattle.thread_table.specs.Shown.{WordsShow, RingShows, StateShows, PlaceShows}
-use Rattle.thread_table.specs.Joins.{uncounted}
+use Rattle.thread_table.proofs.Common.{◌≡◌, ℕ, suc, ◌+◌, ◌-◌, ◌%◌, ◌<◌, ◌≤◌, true, false, List, get_or, set, Some, Option, option_map, sym, refl, ap, ◌∙◌, subst, ⊎_elim, arith, length-set, get_or-set_same, get_or-set_other, slice_get, or_left, or_right, list_any_at, slice_get_within, get_or_from_slice_get, Hold, list_any, set-get_or, some, none, get_elem?, Me, keeps, Allows, Part, IsReal, EndsStand, load, count_up, count_down, stays, more, fewer, Event, Elements, hold, holds, is_put, stand_same, ELEMENTS, Shape, begins_refl, View, Counted, Past, thread_at, ends_word, done_word, WordsShow, uncounted, IsActive, HandIs, IsCounted, Rule, MayStep, nothing_of, may_step, count_of, Stands, had_by_both, having_found, of_hands, set_here, at_below}
+use Rattle.thread_table.proofs.Hands.Releases.{hold_own}
+use Rattle.thread_table.proofs.Shown.QueueWords.{ring_kept, shows_else}
+use Rattle.atomic_table.specs.Table.{step}
+use Rattle.table_theory.specs.Ledgers.{Step}
+use Rattle.table_theory.proofs.Standing.{stand_up, stand_down, number_is}
+use Rattle.thread_table.specs.Schedules.{elements_after}
 use Rattle.thread_table.proofs.Schedule.JoinEvents.{joined_set, none_uncounted, one_uncounted}
-use Rattle.thread_table.specs.Rules.{IsActive, HandIs, IsCounted, Rule, MayStep, nothing_of, may_step}
-use Rattle.thread_table.specs.Views.{count_of}
-use Rattle.thread_table.specs.Steps.{Stands, after, looked, read_pc, with_split, with_join, had_by_both, counts_up, counts_down, tallies, reads_pc}
-use Rattle.thread_table.specs.Telling.{of_hands}
-use Rattle.atomic_table.proofs.Lists.{set_here}
-use Rattle.table_theory.proofs.Owned.{at_below}
-use Rattle.thread_table.proofs.Hands.Looks.{St, steps_to, now_at, hand_counts, hand_quiet, stood_look, real_step, kept, kept_look, found_now, sees_of, honest_of}
+use Rattle.thread_table.specs.Steps.{after, with_split, with_join, counts_up, counts_down, tallies, reads_pc}
+use Rattle.thread_table.proofs.Schedule.Acting.{stepped}
+use Rattle.thread_table.proofs.Hands.Looks.{St, steps_to, now_at, hand_counts, hand_quiet, stood_look, real_step, kept, kept_look, found_now, sees_of, honest_of, looked, stepped_now}
 
--- the number of hands shows nothing of the elements
-ring_count : (first ring y : ℕ) (e : Elements) (words : List ℕ) → RingShows first e ring words → RingShows first e ring (set words 0 y)
-ring_count first ring y e words h = record {
-  capacity = h.capacity;
-  is_open = h.is_open;
-  single = h.single;
-  bounded = h.bounded;
-  marked = h.marked;
-  head = get_or-set_other words 0 (head_word ring) y 0 (λ z. omega arith) ∙ h.head;
-  tail = get_or-set_other words 0 (tail_word ring) y 0 (λ z. omega arith) ∙ h.tail;
-  places = λ run a b. subst (PlaceShows first (ring_at e ring) run) (sym (get_or-set_other words 0 (place_word ring (first + run)) y 0 (λ z. omega arith))) (h.places run a b);
-}
-
-pub shows_count : (first y : ℕ) (e : Elements) (words : List ℕ) → WordsShow first e words → WordsShow first e (set words 0 y)
-shows_count first y e words h = record {
-  wide = length-set words 0 y ∙ h.wide;
-  threads = h.threads;
-  queues = h.queues;
-  waits = h.waits;
-  processors = h.processors;
-  on = λ p b. get_or-set_other words 0 (processor_word p) y 0 (λ z. omega arith) ∙ h.on p b;
-  states = λ x b. subst (StateShows (thread_at e x)) (sym (get_or-set_other words 0 (state_word x) y 0 (λ z. omega arith))) (h.states x b);
-  steps = λ x b. get_or-set_other words 0 (done_word x) y 0 (λ z. omega arith) ∙ h.steps x b;
-  few = h.few;
-  rings = λ ring b. ring_count first ring y e words (h.rings ring b);
-}
+shows_count : (first y : ℕ) (e : Elements) (words : List ℕ) → WordsShow first e words → WordsShow first e (set words 0 y)
+shows_count first y e words h = let same : (k : ℕ) → 1 ≤ k → get_or (set words 0 y) k 0 ≡ get_or words k 0 = λ k from. get_or-set_other words 0 k y 0 (λ z. omega arith) in
+    shows_else first e e.rings e.notified e.held words (set words 0 y) h refl refl (length-set words 0 y) (λ k from to. same k from)
+    (λ ring b. ring_kept first e e ring words (set words 0 y) refl refl (λ k from to. same k (omega arith)) (h.rings ring b))
 
 -- the rule, where the number of hands becomes y, and another of them of the hand
 pub kept_count : (key : Shape) (s : St) (k : Rule key s) (id y : ℕ) (v : View) (m : Part) (e : Step (List Event)) → e.then ≡ now_at k → IsReal (of_hands key.first) e → e.next ≡ record (now_at k) { ends = y } → get_elem? s.views id ≡ some v → 1 ≤ v.member.ends → 1 ≤ m.ends → m.joins ≡ v.member.joins + uncounted v
@@ -116,36 +78,23 @@ tallies_ends key n id call me mine live fresh s k _ at _ = let v : View = me.0 i
   (refl, record { looked = found_now key s k 0 id v at active; number = refl; count = number_is (nothing_of key.first) had_by_both c s.views id v k.ends at live }, subst (λ (z : ℕ). Stands z (looked v 0 c (steps_to k) (now_at k))) (sym mine) (stood_look key s k id 0 c v at)),
 )
 
-or_true : (b : Bool) → (b || true) ≡ true
-or_true true = refl
-or_true false = refl
-
-both_true : (a b : Bool) → a ≡ true → b ≡ true → (a && b) ≡ true
-both_true a b p q = ap (λ (z : Bool). z && b) p ∙ q
-
-is_itself : (call element : ℕ) → is_hold call element (hold call element) ≡ true
-is_itself call element = both_true (eqb call call) (eqb element element) (eq-eqb call call refl) (eq-eqb element element refl)
-
 some_count : (a b : Counted) → ◌≡◌ {A = Option Counted} (Some a) (Some b) → a ≡ b
 some_count a b is = cc
-
--- what stands in a list and passes a test
-any_at : {A : Type 0} (test : A → Bool) (xs : List A) (i : ℕ) (x : A) → slice_get xs i ≡ Some x → test x ≡ true → list_any test xs ≡ true
-any_at test [] i x at passes = absurd (cc)
-any_at test (y ∷ xs) zero x at passes = let same : y ≡ x = cc in ap (λ (z : Bool). z || list_any test xs) (ap test same ∙ passes)
-any_at test (y ∷ xs) (suc i) x at passes = ap (λ (z : Bool). test y || z) (any_at test xs i x at passes) ∙ or_true (test y)
 
 -- a hand that holds an element, or has it on a processor, may count a step of it
 pub may_of : (call : ℕ) (v : View) (e : Elements) (element : ℕ) → HandIs call v e → MayStep v element → may_step call element e ≡ true
 may_of call v e element h may = ⊎_elim
-    (λ held. ap (λ (z : Bool). z || list_any (is_put call element) e.processors) (h.held element ∙ held))
-    (λ on. ap (λ (z : Bool). holds call element e || z) (any_at (is_put call element) e.processors on.0 (Some (hold call element)) (h.on on.0 on.1 ∙ ap (λ (z : Option ℕ). Some (option_map (hold call) z)) on.2) (is_itself call element)) ∙ or_true (holds call element e))
+    (λ held. or_left (holds call element e) (list_any (is_put call element) e.processors) (h.held element ∙ held))
+    (λ on. let seat : Option Hold = Some (hold call element) in
+    let there : slice_get e.processors on.0 ≡ Some seat = h.on on.0 on.1 ∙ ap (λ (z : Option ℕ). Some (option_map (hold call) z)) on.2 in
+    or_right (holds call element e) (list_any (is_put call element) e.processors) (list_any_at (is_put call element) e.processors on.0 seat (slice_get_within e.processors on.0 seat there)
+    (ap (is_put call element) (get_or_from_slice_get e.processors on.0 seat seat there) ∙ hold_own call element)))
     may
 
 -- the number of steps that an element had done is found
 pub counts_done : (key : Shape) (n id call : ℕ) (me : Me Unit View) (element : ℕ) → call ≡ id → element < ELEMENTS → MayStep me.0 element → IsActive me.0 → Allows (Rule key) n id me (done_word element) (λ x. x) (reads_pc call element (step n (done_word element) 0 0 none) me)
 counts_done key n id call me element mine known may live s k _ at _ = let v : View = me.0 in let e : Elements = elements_after k.events in let i : ℕ = done_word element in let found : ℕ = get_or s.words i 0 in
-    let w : View = read_pc v element found (steps_to k) (now_at k) in let is : found ≡ (thread_at e element).done = k.shows.steps element known in
+    let now : View = having_found v (count_of element found) in let w : View = stepped v now (steps_to k) (load i found (now_at k)) in let is : found ≡ (thread_at e element).done = k.shows.steps element known in
     let hand : HandIs id w e = (hand_counts id v w e refl refl refl refl (λ c has. subst (λ (z : Counted). IsCounted id z e) (some_count (count_of element found) c has) record { known = known; may = may_of id v e element (k.hands id v at) may; done = sym is }) (k.hands id v at)) in
     let counts : Rule key record { words = set s.words i found; homes = s.homes; views = set s.views id w } = subst (λ (z : List ℕ). Rule key record { words = z; homes = s.homes; views = set s.views id w }) (sym (set-get_or s.words i 0))
     (kept key s k id s.words v w w.own v.member (load i found (now_at k)) refl refl (real_step key s k i found (now_at k) refl (stays refl)) refl at live.0 k.shows refl refl refl refl (refl, refl)
@@ -156,5 +105,11 @@ counts_done key n id call me element mine known may live s k _ at _ = let v : Vi
       keeps,
       tt,
       counts,
-      (refl, record { past = steps_to k; follows = k.order.course.seen (suc id) v at; newest = λ whole. k.newest id v at whole live.1; same = refl; sees = sees_of key s k id v at; is = is; told = honest_of key _ counts id w (set_here s.views id w (at_below s.views id v at)) }, subst (λ (z : ℕ). Stands z w) (sym mine) hand),
+      (refl, stepped_now key s _ k counts id v now i found (now_at k) at live.1 (set_here s.views id w (at_below s.views id v at)) refl (begins_refl k.events) (λ x. refl), subst (λ (z : ℕ). Stands z w) (sym mine) hand),
     )
+
+-- the same, where the word has another name
+pub counts_at : (key : Shape) (n id call element i : ℕ) (me : Me Unit View) → call ≡ id → i ≡ done_word element → IsActive me.0 → element < ELEMENTS → MayStep me.0 element
+    → Allows (Rule key) n id me i (λ x. x) (reads_pc call element (step n i 0 0 none) me)
+counts_at key n id call element i me mine place live known may =
+    subst (λ (z : ℕ). Allows (Rule key) n id me z (λ x. x) (reads_pc call element (step n z 0 0 none) me)) (sym place) (counts_done key n id call me element mine known may live)

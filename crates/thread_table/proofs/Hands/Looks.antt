@@ -1,37 +1,15 @@
 -- The steps that are no event keep the rule.
-use Rattle.std.proofs.Common.{◌≡◌, ◌≢◌, ℕ, zero, suc, ◌≤◌, Bool, true, false, List, [], ◌∷◌, ◌++◌, map, length, get_or, set, Some, None, Option, option_map, sym, refl, ap, ◌∙◌, subst, ⊎_elim, arith, length-set}
-use Rattle.std.proofs.lemmas.List.{set-get_or, map-set}
-use mathlib.Core.Option.{some, none, some-injective}
-use lib.ListN.{get_elem?}
-use Rattle.atomic_table.specs.Table.{State, Me, step, keeps, Allows}
-use Rattle.atomic_table.proofs.Lists.{at_set, at_map, set_here}
-use Rattle.thread_table.specs.Makers.{AreMade, made_of}
-use Rattle.table_theory.specs.declared.views.Part.{Part}
-use Rattle.table_theory.specs.Ends.{Begins}
+use Rattle.thread_table.proofs.Common.{◌≡◌, ◌≢◌, ◌+◌, ℕ, zero, suc, ◌≤◌, Bool, true, false, List, [], ◌∷◌, ◌++◌, map, length, get_or, set, Some, None, Option, option_map, sym, refl, ap, ◌∙◌, subst, ⊎_elim, arith, length-set, set-get_or, map-set, some, none, some-injective, get_elem?, Me, keeps, Allows, at_set, at_map, set_here, AreMade, made_of, Part, Begins, StepEffect, stays, event, IsReal, EndsStand, load, AreOrdered, IsWhole, order_to, order_at, order_step, stand_same, at_below, begins_refl, two_of, Elements, hold, Event, Shape, Having, View, Counted, Past, Course, Grows, WordsShow, AreJoined, HasStood, IsActive, IsSteady, IsNewest, done_at, HandIs, IsCounted, Seen, Rule, newcomer, nothing_of, now_of, serves, Sees, Found, Stands, had_by_both, steps_in, steps_by, quiet, of_hands, IsHonest}
+use Rattle.atomic_table.specs.Table.{State, step}
 use Rattle.table_theory.specs.Ledgers as ends
-use Rattle.table_theory.specs.Ledgers.{Step, StepEffect, stays, event, IsReal, EndsStand, load}
-use Rattle.table_theory.specs.Orders.{AreOrdered}
-use Rattle.table_theory.specs.Sharing.{IsWhole}
-use Rattle.table_theory.proofs.Orders.{after, order_to, order_at, order_true, order_step, step_order, newest_seen}
-use Rattle.table_theory.proofs.Standing.{stand_same}
-use Rattle.table_theory.proofs.Owned.{at_below}
-use Rattle.table_theory.proofs.Ends.{begins_refl}
-use Rattle.table_theory.proofs.Totals.{two_of}
-use Rattle.event_theory.specs.Elements.{Elements, hold}
-use Rattle.event_theory.specs.declared.event.Event.{Event}
-use Rattle.thread_table.specs.declared.rule.Shape.{Shape}
-use Rattle.thread_table.specs.declared.rule.Having.{Having}
-use Rattle.thread_table.specs.Own.{View}
-use Rattle.thread_table.specs.declared.rule.Counted.{Counted}
-use Rattle.thread_table.specs.Schedules.{Past, Course, elements_after, IsAllowed, Grows}
-use Rattle.thread_table.specs.Shown.{WordsShow}
-use Rattle.thread_table.specs.Joins.{AreJoined}
+use Rattle.table_theory.specs.Ledgers.{Step}
+use Rattle.table_theory.proofs.Orders.{after, order_true, step_order, newest_seen}
+use Rattle.thread_table.specs.Schedules.{elements_after, IsAllowed}
 use Rattle.thread_table.proofs.Schedule.JoinEvents.{joined_set, none_uncounted}
-use Rattle.thread_table.specs.Rules.{HasStood, IsActive, IsSteady, IsNewest, done_at, HandIs, IsCounted, Seen, Rule, newcomer, nothing_of, now_of, serves}
-use Rattle.thread_table.specs.Steps.{looked, Sees, Found, Stands, finds, had_by_both}
+use Rattle.thread_table.specs.Steps.{Stepped, finds}
+use Rattle.thread_table.proofs.Schedule.Acting.{stepped, acts_step}
 use Rattle.thread_table.proofs.Events.Effects.{Ready}
 use Rattle.thread_table.proofs.Events.Owing.{claims_kept}
-use Rattle.thread_table.specs.Telling.{of_hands, IsHonest}
 use Rattle.thread_table.proofs.Schedule.Schedules.{after_none, lawful_after, grows_refl, allowed_before}
 use Rattle.thread_table.proofs.Schedule.Once.{done_grows}
 
@@ -45,6 +23,10 @@ steps_to k = order_to k.order
 -- the schedule and the number of hands now
 abbrev pub now_at : {key : Shape} {s : St} → Rule key s → Past
 now_at {key} {s} k = now_of k.events s.words
+
+-- the view after a step that found this number in this word, and left all as it was
+abbrev pub looked : View → ℕ → ℕ → Course → Past → View
+looked v word found past m = stepped v (quiet v) past (load word found m)
 
 -- a hand that has the same, and counts what its call may count
 pub hand_counts : (call : ℕ) (v w : View) (e : Elements) → w.own.held ≡ v.own.held → w.own.serves ≡ v.own.serves → w.own.on ≡ v.own.on → w.own.claimed ≡ v.own.claimed
@@ -197,18 +179,22 @@ unfolding sees_of
 sees_words key s k id v at = refl
 
 pub ready_of : (key : Shape) (s : St) (k : Rule key s) (id : ℕ) (v : View) → get_elem? s.views id ≡ some v → Ready id v key.first (elements_after k.events) s.words
-ready_of key s k id v at = record { lawful = lawful_after k.events k.allowed; hand = k.hands id v at; shows = k.shows }
+ready_of key s k id v at = record { lawful = lawful_after k.events k.allowed; hand = k.hands id v at; shows = k.shows; grown = (k.seen id v at).grows }
+
+-- what a step tells that was made where the rule held, and holds then
+pub stepped_now : (key : Shape) (s t : St) (k : Rule key s) (j : Rule key t) (id : ℕ) (v now : View) (word found : ℕ) (next : Past) → get_elem? s.views id ≡ some v → v.own.fresh ≡ true → let e : Step (List Event) = record { word = word; found = found; then = now_at k; next = next } in
+    get_elem? t.views id ≡ some (stepped v now (steps_to k) e) → found ≡ get_or s.words word 0 → Begins k.events next.object → ((x : ℕ) → steps_in x next.object + steps_by x v.own.made ≡ steps_in x k.events + steps_by x now.own.made)
+    → Stepped v e now (stepped v now (steps_to k) e)
+stepped_now key s t k j id v now word found next at up there is grows counts = let e : Step (List Event) = record { word = word; found = found; then = now_at k; next = next } in let sees = sees_of key s k id v at in record {
+  sees = sees;
+  is = is ∙ ap (λ (z : List ℕ). get_or z word 0) (sym (sees_words key s k id v at));
+  acts = acts_step v now (steps_to k) e (k.order.course.seen (suc id) v at) (λ whole. k.newest id v at whole up) sees grows counts;
+  told = honest_of key t j id (stepped v now (steps_to k) e) there;
+}
 
 pub found_now : (key : Shape) (s : St) (k : Rule key s) (i id : ℕ) (v : View) → get_elem? s.views id ≡ some v → IsActive v → Found v i (get_or s.words i 0) (looked v i (get_or s.words i 0) (steps_to k) (now_at k))
-found_now key s k i id v at live = let w : View = looked v i (get_or s.words i 0) (steps_to k) (now_at k) in record {
-  past = steps_to k;
-  follows = k.order.course.seen (suc id) v at;
-  newest = λ whole. k.newest id v at whole live.1;
-  same = refl;
-  sees = sees_of key s k id v at;
-  is = ap (λ (z : List ℕ). get_or z i 0) (sym (sees_words key s k id v at));
-  told = honest_of key _ (kept_look key s k i id (get_or s.words i 0) v refl at live) id w (set_here s.views id w (at_below s.views id v at));
-}
+found_now key s k i id v at live = stepped_now key s _ k (kept_look key s k i id (get_or s.words i 0) v refl at live) id v (quiet v) i (get_or s.words i 0) (now_at k) at live.1
+    (set_here s.views id _ (at_below s.views id v at)) refl (begins_refl k.events) (λ x. refl)
 
 -- what the hand has then is what its call has
 pub stood_look : (key : Shape) (s : St) (k : Rule key s) (id i found : ℕ) (v : View) → get_elem? s.views id ≡ some v → Stands id (looked v i found (steps_to k) (now_at k))

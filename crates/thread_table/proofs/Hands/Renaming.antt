@@ -1,64 +1,20 @@
 -- What a join of two calls makes of the elements.
-use Rattle.std.proofs.Common.{◌≡◌, ◌≢◌, ◌⊎◌, inl, inr, ℕ, zero, suc, ◌+◌, ◌*◌, ◌<◌, Bool, true, false, ◌||◌, ◌&&◌, cond, eqb, eq-eqb, ne_eqb, List, [], ◌∷◌, ◌∙◌, map, length, get_or, Option, Some, None, option_map, slice_get, refl, sym, ap, ap₂, subst, arith}
-use Rattle.std.proofs.lemmas.Bool.Decides.{eqb_tells}
-use Rattle.std.proofs.lemmas.List.{length-map}
+use Rattle.thread_table.proofs.Common.{◌≡◌, ◌≢◌, ℕ, ◌+◌, ◌*◌, ◌<◌, Bool, true, false, ◌||◌, ◌&&◌, cond, eqb, eq-eqb, ne_eqb, List, [], ◌∷◌, ◌∙◌, map, length, get_or, Option, Some, None, option_map, slice_get, refl, sym, ap, ap₂, subst, arith, map-map, eqb_tells, nat_tests, or-true, get_or-map, ⊎_elim, length-map, list_any, Elements, hold, holds, is_hold, is_put, join_elements, Queue, empty_queue, renamed, join_run, join_queue, Run, Hold, PLACES, Claimed, Counted, ring_at, element_of, no_run, QueueGrows, Grows, place_word, WordsShow, RingShows, PlaceShows, processor_shown, mark_of, IsClaimed, IsCounted, IsOpen, may_step}
+use Rattle.std.proofs.Math.Bool.{and-or_distrib_right}
+use Rattle.thread_table.proofs.Shown.QueueWords.{same_mark, ring_shown}
 use Rattle.std.proofs.lemmas.Option.{slice_get-map}
-use Rattle.std.specs.List.{list_any}
-use Rattle.event_theory.specs.Elements.{Elements, hold, holds, is_hold, is_put, join_hold, join_elements}
-use Rattle.event_theory.specs.Queues.{Queue, empty_queue, renamed, join_run, join_queue}
-use Rattle.event_theory.specs.Runs.{Run}
-use Rattle.event_theory.specs.declared.hold.Hold.{Hold}
+use Rattle.event_theory.specs.Elements.{join_hold}
 use Rattle.event_theory.proofs.Keeping.Joins.{slice_get_joined}
-use Rattle.thread_table.specs.declared.layout.TheConstants.{PLACES, NOTIFY}
-use Rattle.thread_table.specs.declared.rule.Claimed.{Claimed}
-use Rattle.thread_table.specs.declared.rule.Counted.{Counted}
-use Rattle.thread_table.specs.Schedules.{ring_at, element_of, no_run, QueueGrows, Grows}
-use Rattle.thread_table.specs.Layout.{place_word}
-use Rattle.thread_table.specs.Shown.{WordsShow, RingShows, PlaceShows, processor_shown, mark_of}
-use Rattle.thread_table.specs.Rules.{IsClaimed, IsCounted, IsOpen, may_step}
-
-cond_same : (b : Bool) (n : ℕ) → cond b n n ≡ n
-cond_same true n = refl
-cond_same false n = refl
-
-or_true : (b : Bool) → (b || true) ≡ true
-or_true true = refl
-or_true false = refl
-
-or_false : (b : Bool) → (b || false) ≡ b
-or_false true = refl
-or_false false = refl
 
 -- the names of the calls after a join
 pub renamed_call : (id other : ℕ) → renamed id other id ≡ id
-renamed_call id other = cond_same (eqb id other) id
+renamed_call id other = ⊎_elim (λ same. ap (λ (b : Bool). cond b id id) same.0) (λ differ. ap (λ (b : Bool). cond b id id) differ.0) (eqb_tells id other)
 
 pub renamed_other : (id other : ℕ) → renamed id other other ≡ id
 renamed_other id other = ap (λ (b : Bool). cond b id other) (eq-eqb other other refl)
 
 pub renamed_third : (id other call : ℕ) → call ≢ other → renamed id other call ≡ call
 renamed_third id other call ne = ap (λ (b : Bool). cond b id call) (ne_eqb call other ne)
-
-named_by_third : (id other call n : ℕ) → call ≢ id → call ≢ other → ((eqb n other ≡ true) × (n ≡ other)) ⊎ ((eqb n other ≡ false) × (n ≢ other)) → eqb (renamed id other n) call ≡ eqb n call
-named_by_third id other call n ne ne' (inl same) = ap (λ (b : Bool). eqb (cond b id n) call) same.0 ∙ (ne_eqb id call (λ e. ne (sym e)) ∙ sym (ne_eqb n call (λ e. ne' (sym e ∙ same.1))))
-named_by_third id other call n ne ne' (inr differ) = ap (λ (b : Bool). eqb (cond b id n) call) differ.0
-
-named_third : (id other call n : ℕ) → call ≢ id → call ≢ other → eqb (renamed id other n) call ≡ eqb n call
-named_third id other call n ne ne' = named_by_third id other call n ne ne' (eqb_tells n other)
-
-named_by_call : (id other n : ℕ) → ((eqb n other ≡ true) × (n ≡ other)) ⊎ ((eqb n other ≡ false) × (n ≢ other)) → eqb (renamed id other n) id ≡ (eqb n id || eqb n other)
-named_by_call id other n (inl same) = ap (λ (b : Bool). eqb (cond b id n) id) same.0 ∙ (eq-eqb id id refl ∙ sym (ap (λ (b : Bool). eqb n id || b) same.0 ∙ or_true (eqb n id)))
-named_by_call id other n (inr differ) = ap (λ (b : Bool). eqb (cond b id n) id) differ.0 ∙ sym (ap (λ (b : Bool). eqb n id || b) differ.0 ∙ or_false (eqb n id))
-
-named_call : (id other n : ℕ) → eqb (renamed id other n) id ≡ (eqb n id || eqb n other)
-named_call id other n = named_by_call id other n (eqb_tells n other)
-
-named_by_other : (id other n : ℕ) → id ≢ other → ((eqb n other ≡ true) × (n ≡ other)) ⊎ ((eqb n other ≡ false) × (n ≢ other)) → eqb (renamed id other n) other ≡ false
-named_by_other id other n ne (inl same) = ap (λ (b : Bool). eqb (cond b id n) other) same.0 ∙ ne_eqb id other ne
-named_by_other id other n ne (inr differ) = ap (λ (b : Bool). eqb (cond b id n) other) differ.0 ∙ differ.0
-
-named_other : (id other n : ℕ) → id ≢ other → eqb (renamed id other n) other ≡ false
-named_other id other n ne = named_by_other id other n ne (eqb_tells n other)
 
 -- tests of changed entries
 any_as : {X Y : Type 0} (p : Y → Bool) (q : X → Bool) (f : X → Y) → ((x : X) → p (f x) ≡ q x) → (xs : List X) → list_any p (map f xs) ≡ list_any q xs
@@ -67,10 +23,8 @@ any_as p q f same (x ∷ xs) = ap₂ (λ (a b : Bool). a || b) (same x) (any_as 
 
 shuffled : (a b c d : Bool) → ((a || b) || (c || d)) ≡ ((a || c) || (b || d))
 shuffled true b c d = refl
-shuffled false true true d = refl
-shuffled false true false d = refl
-shuffled false false true d = refl
-shuffled false false false d = refl
+shuffled false true c d = sym (or-true c)
+shuffled false false c d = refl
 
 any_of_two : {X Y : Type 0} (r : Y → Bool) (p q : X → Bool) (f : X → Y) → ((x : X) → r (f x) ≡ (p x || q x)) → (xs : List X) → list_any r (map f xs) ≡ (list_any p xs || list_any q xs)
 any_of_two r p q f same [] = refl
@@ -80,20 +34,16 @@ any_not : {X Y : Type 0} (p : Y → Bool) (f : X → Y) → ((x : X) → p (f x)
 any_not p f none [] = refl
 any_not p f none (x ∷ xs) = ap₂ (λ (a b : Bool). a || b) (none x) (any_not p f none xs)
 
-shared_and : (a b c : Bool) → ((a || b) && c) ≡ ((a && c) || (b && c))
-shared_and true b true = refl
-shared_and true true false = refl
-shared_and true false false = refl
-shared_and false b c = refl
-
+-- whose a hold is after a join
 hold_third : (id other call element : ℕ) (h : Hold) → call ≢ id → call ≢ other → is_hold call element (join_hold id other h) ≡ is_hold call element h
-hold_third id other call element h ne ne' = ap (λ (b : Bool). b && eqb h.element element) (named_third id other call h.call ne ne')
+hold_third id other call element h ne ne' = let named : eqb (renamed id other h.call) call ≡ eqb h.call call = grind (arith, nat_tests) in ap (λ (b : Bool). b && eqb h.element element) named
 
 hold_call : (id other element : ℕ) (h : Hold) → is_hold id element (join_hold id other h) ≡ (is_hold id element h || is_hold other element h)
-hold_call id other element h = ap (λ (b : Bool). b && eqb h.element element) (named_call id other h.call) ∙ shared_and (eqb h.call id) (eqb h.call other) (eqb h.element element)
+hold_call id other element h = let named : eqb (renamed id other h.call) id ≡ (eqb h.call id || eqb h.call other) = grind (arith, nat_tests) in
+    ap (λ (b : Bool). b && eqb h.element element) named ∙ and-or_distrib_right (eqb h.call id) (eqb h.call other) (eqb h.element element)
 
 hold_other : (id other element : ℕ) (h : Hold) → id ≢ other → is_hold other element (join_hold id other h) ≡ false
-hold_other id other element h ne = ap (λ (b : Bool). b && eqb h.element element) (named_other id other h.call ne)
+hold_other id other element h ne = let named : eqb (renamed id other h.call) other ≡ false = grind (arith, nat_tests) in ap (λ (b : Bool). b && eqb h.element element) named
 
 put_third : (id other call element : ℕ) (seat : Option Hold) → call ≢ id → call ≢ other → is_put call element (option_map (join_hold id other) seat) ≡ is_put call element seat
 put_third id other call element None ne ne' = refl
@@ -122,13 +72,8 @@ pub processor_renamed : (id other call name p : ℕ) (e : Elements) (r : Option 
 processor_renamed id other call name p e r is at = slice_get-map (option_map (join_hold id other)) e.processors p
     ∙ (ap (option_map (option_map (join_hold id other))) at ∙ (ap Some (put_renamed id other call r) ∙ ap (λ (n : ℕ). Some (option_map (hold n) r)) is))
 
-queue_of_joined : (id other : ℕ) (rings : List Queue) (ring : ℕ) → get_or (map (join_queue id other) rings) ring (empty_queue PLACES) ≡ join_queue id other (get_or rings ring (empty_queue PLACES))
-queue_of_joined id other [] ring = refl
-queue_of_joined id other (q ∷ rings) zero = refl
-queue_of_joined id other (q ∷ rings) (suc ring) = queue_of_joined id other rings ring
-
 pub ring_joined : (id other ring : ℕ) (e : Elements) → ring_at (join_elements id other e) ring ≡ join_queue id other (ring_at e ring)
-ring_joined id other ring e = queue_of_joined id other e.rings ring
+ring_joined id other ring e = get_or-map (join_queue id other) e.rings ring (empty_queue PLACES)
 
 pub claim_third : (id other call : ℕ) (c : Claimed) (e : Elements) → call ≢ other → IsClaimed call c e → IsClaimed call c (join_elements id other e)
 claim_third id other call c e ne h = let f : Elements = join_elements id other e in let q : Queue = ring_at e c.ring in let is : ring_at f c.ring ≡ join_queue id other q = ring_joined id other c.ring e in record {
@@ -144,9 +89,7 @@ count_third id other call c e ne ne' h = record { known = h.known; may = may_thi
 
 -- the items of the runs stay
 item_of_joined : (id other : ℕ) (h : List Run) (run : ℕ) → element_of (get_or (map (join_run id other) h) run no_run) ≡ element_of (get_or h run no_run)
-item_of_joined id other [] run = refl
-item_of_joined id other (r ∷ h) zero = refl
-item_of_joined id other (r ∷ h) (suc run) = item_of_joined id other h run
+item_of_joined id other h run = sym (get_or-map element_of (map (join_run id other) h) run no_run) ∙ (ap (λ (l : List ℕ). get_or l run 0) (map-map element_of (join_run id other) h) ∙ get_or-map element_of h run no_run)
 
 queue_grows : (id other : ℕ) (q : Queue) → QueueGrows q (join_queue id other q)
 queue_grows id other q = let long : length (map (join_run id other) q.history) ≡ length q.history = length-map q.history (join_run id other) in record {
@@ -166,12 +109,6 @@ open_joined id other e ring run is = let q : Queue = ring_at e ring in let same 
   sym (ap (λ (z : Queue). z.raised run 0) same) ∙ is.1,
 )
 
--- the words show what they showed
-mark_joined : (id other ring : ℕ) (e : Elements) → mark_of (join_elements id other e) ring ≡ mark_of e ring
-mark_joined id other zero e = refl
-mark_joined id other (suc zero) e = refl
-mark_joined id other (suc (suc wait)) e = refl
-
 place_joined : (id other first run word : ℕ) (q : Queue) → PlaceShows first q run word → PlaceShows first (join_queue id other q) run word
 place_joined id other first run word q h = record {
   up = λ up. h.up up ∙ ap (λ (x : ℕ). x + 256 * (first + run + 1)) (sym (item_of_joined id other q.history run));
@@ -183,25 +120,15 @@ single_by id other None run one at = absurd (cc)
 single_by id other (Some r) run one at = let e : join_run id other r ≡ run = cc in sym (ap (λ (z : Run). length z.items) e) ∙ one r refl
 
 ring_shows : (id other first ring : ℕ) (e : Elements) (words : List ℕ) → RingShows first e ring words → RingShows first (join_elements id other e) ring words
-ring_shows id other first ring e words h = let f : Elements = join_elements id other e in let q : Queue = ring_at e ring in let is : ring_at f ring ≡ join_queue id other q = ring_joined id other ring e in
-    let m : mark_of f ring ≡ mark_of e ring = mark_joined id other ring e in let taken : (ring_at f ring).taken ≡ q.taken = ap (λ (z : Queue). z.taken) is in
-    let long : length (ring_at f ring).history ≡ length q.history = ap (λ (z : Queue). length z.history) is ∙ length-map q.history (join_run id other) in record {
-      capacity = ap (λ (z : Queue). z.capacity) is ∙ h.capacity;
-      is_open = ap (λ (z : Queue). z.shut) is ∙ h.is_open;
-      single = λ number run at. single_by id other (slice_get q.history number) run (h.single number) (sym (ap (λ (z : Queue). slice_get z.history number) is ∙ slice_get_joined id other q.history number) ∙ at);
-      bounded = omega (arith, h.bounded);
-      marked = omega (arith, h.marked);
-      head = h.head ∙ sym (ap₂ (λ (n k : ℕ). first + n + k * NOTIFY) long m);
-      tail = h.tail ∙ sym (ap (λ (n : ℕ). first + n) taken);
-      places = λ run from to. subst (λ (z : Queue). PlaceShows first z run (get_or words (place_word ring (first + run)) 0)) (sym is)
-          (place_joined id other first run (get_or words (place_word ring (first + run)) 0) q (h.places run (omega arith) (omega arith)));
-    }
+ring_shows id other first ring e words h = let q : Queue = ring_at e ring in let long = length-map q.history (join_run id other) in
+    ring_shown first (join_elements id other e) ring words (join_queue id other q) (mark_of e ring) (ring_joined id other ring e) (same_mark e (join_elements id other e) ring refl) h.capacity h.is_open
+    (λ number run at. single_by id other (slice_get q.history number) run (h.single number) (sym (slice_get_joined id other q.history number) ∙ at))
+    (omega (arith, h.bounded, long)) h.marked (h.head ∙ omega (arith, long)) h.tail
+    (λ run from to. place_joined id other first run (get_or words (place_word ring (first + run)) 0) q (h.places run from to))
 
-processor_word_joined : (id other : ℕ) (processors : List (Option Hold)) (p : ℕ) → processor_shown (get_or (map (option_map (join_hold id other)) processors) p None) ≡ processor_shown (get_or processors p None)
-processor_word_joined id other [] p = refl
-processor_word_joined id other (None ∷ processors) zero = refl
-processor_word_joined id other (Some h ∷ processors) zero = refl
-processor_word_joined id other (seat ∷ processors) (suc p) = processor_word_joined id other processors p
+seat_word_joined : (id other : ℕ) (seat : Option Hold) → processor_shown (option_map (join_hold id other) seat) ≡ processor_shown seat
+seat_word_joined id other None = refl
+seat_word_joined id other (Some h) = refl
 
 pub words_joined : (id other first : ℕ) (e : Elements) (words : List ℕ) → WordsShow first e words → WordsShow first (join_elements id other e) words
 words_joined id other first e words h = record {
@@ -210,7 +137,7 @@ words_joined id other first e words h = record {
   queues = length-map e.rings (join_queue id other) ∙ h.queues;
   waits = h.waits;
   processors = length-map e.processors (option_map (join_hold id other)) ∙ h.processors;
-  on = λ p below. h.on p below ∙ sym (processor_word_joined id other e.processors p);
+  on = λ p below. h.on p below ∙ sym (ap processor_shown (get_or-map (option_map (join_hold id other)) e.processors p None) ∙ seat_word_joined id other (get_or e.processors p None));
   states = h.states;
   steps = h.steps;
   few = h.few;

@@ -1,63 +1,26 @@
 -- A split of a hand keeps the rule.
-use Rattle.std.proofs.Common.{◌≡◌, ◌≢◌, ◌⊎◌, ⊎_elim, inl, inr, ℕ, zero, suc, Bool, true, false, cond, eqb, eq-eqb, ne_eqb, List, [], ◌∷◌, ◌++◌, ◌∙◌, map, length, get_or, set, Option, option_map, Some, None, refl, sym, ap, subst, arith, length-set}
+use Rattle.thread_table.proofs.Common.{◌≡◌, ⊎_elim, inl, inr, ℕ, suc, Bool, true, false, cond, eqb, eq-eqb, ne_eqb, List, [], ◌∷◌, ◌++◌, ◌∙◌, map, length, get_or, set, Option, option_map, Some, None, refl, sym, ap, subst, arith, length-set, and_parts, some, get_elem?, Splits, Elements, hold, holds, at_map, map-append, map-set, Made, AreMade, made_of, order_to, order_split, split_order, AreOrdered, Subject, Event, Shape, View, IsSteady, IsNewest, Rule, HandIs, HasStood, Seen, nothing_of, MayStep, has, serves, running, of_hands, parted, rest_of, newborn, had_by_both}
+use Rattle.std.proofs.lemmas.Bool.{and_cases, not-true, not-false}
+use Rattle.std.specs.Prelude.{not}
+use Rattle.thread_table.proofs.Lists.Entries.{each_split, Passed, one_passes}
 use Rattle.std.proofs.lemmas.List.{length-append}
-use mathlib.Core.Option.{some}
-use lib.ListN.{get_elem?}
-use Rattle.atomic_table.specs.Table.{Splits}
-use Rattle.event_theory.specs.Elements.{Elements, hold, holds}
-use Rattle.atomic_table.proofs.Lists.{at_set, at_longer, at_map}
-use Rattle.std.proofs.lemmas.List.{map-append, map-set}
-use Rattle.thread_table.specs.declared.rule.Made.{Made}
-use Rattle.thread_table.specs.Makers.{AreMade, made_of}
+use Rattle.atomic_table.proofs.Lists.{at_longer, set_again}
 use Rattle.thread_table.proofs.Schedule.ListedEvents.{made_new}
 use Rattle.thread_table.proofs.Schedule.JoinEvents.{joined_set, joined_new, same_uncounted}
-use Rattle.thread_table.proofs.Hands.Looks.{set_again, now_at}
-use Rattle.table_theory.proofs.Owned.{at_push}
+use Rattle.thread_table.proofs.Hands.Looks.{now_at}
 use Rattle.table_theory.proofs.Counting.{given_kept, given_some, kept_some}
-use Rattle.table_theory.proofs.Orders.{order_to, order_split, split_order}
-use Rattle.table_theory.specs.Orders.{AreOrdered}
-use Rattle.table_theory.specs.Ledgers.{Subject}
-use Rattle.event_theory.specs.declared.event.Event.{Event}
 use Rattle.table_theory.proofs.Standing.{stand_parted}
 use Rattle.table_theory.proofs.Totals.{one_of}
-use Rattle.thread_table.specs.declared.rule.Shape.{Shape}
-use Rattle.thread_table.specs.Own.{View}
 use Rattle.thread_table.specs.Schedules.{elements_after}
-use Rattle.thread_table.specs.Rules.{IsSteady, IsNewest, Rule, HandIs, HasStood, Seen, nothing_of, MayStep, has, serves, running}
-use Rattle.std.specs.List.{repeat}
-use Rattle.thread_table.specs.Telling.{of_hands}
-use Rattle.thread_table.specs.Steps.{parted, rest_of, newborn, had_by_both}
 use Rattle.thread_table.proofs.Events.Owing.{claims_kept}
 use Rattle.thread_table.proofs.Shown.QueueWords.{none_some}
-use Rattle.thread_table.proofs.Lists.Copies.{length-copies, get_or-copies}
-
--- an entry of the list in which one was cut in two
-pub each_split : {V : Type 0} (Q : ℕ → V → Type 0) (vs : List V) (id : ℕ) (left right : V) → ((j : ℕ) (u : V) → j ≢ id → get_elem? vs j ≡ some u → Q j u) → Q id left → Q (length vs) right
-    → (j : ℕ) (u : V) → get_elem? (set vs id left ++ right ∷ []) j ≡ some u → Q j u
-each_split Q vs id left right old mine new j u at = ⊎_elim
-    (λ h. ⊎_elim (λ t. subst (λ (z : ℕ). Q z u) (sym t.0) (subst (Q id) t.1 mine)) (λ t. old j u t.0 t.1) (at_set vs id j left u h))
-    (λ t. subst (λ (z : ℕ). Q z u) (sym (t.0 ∙ length-set vs id left)) (subst (Q (length vs)) t.1 new))
-    (at_push (set vs id left) right u j at)
-
-length-parted : (bs ms : List Bool) → length (parted bs ms) ≡ length bs
-length-parted [] ms = refl
-length-parted (b ∷ bs) [] = refl
-length-parted (b ∷ bs) (m ∷ ms) = ap suc (length-parted bs ms)
+use Rattle.thread_table.proofs.Lists.Copies.{get_or-copies}
+use Rattle.thread_table.proofs.Lists.Entries.{length-parted, parted_and}
+use Rattle.thread_table.proofs.Hands.HeldLists.{hand_idle}
 
 -- the mark stays where the mask has none
 parted_true : (bs ms : List Bool) (p : ℕ) → get_or (parted bs ms) p false ≡ true → (get_or bs p false ≡ true) × (get_or ms p false ≡ false)
-parted_true [] ms p h = absurd (cc)
-parted_true (b ∷ bs) [] p h = (h, refl)
-parted_true (b ∷ bs) (true ∷ ms) zero h = absurd (cc)
-parted_true (b ∷ bs) (false ∷ ms) zero h = (h, refl)
-parted_true (b ∷ bs) (m ∷ ms) (suc p) h = parted_true bs ms p h
-
-parted_false : (bs ms : List Bool) (p : ℕ) → get_or (parted bs ms) p false ≡ false → (get_or bs p false ≡ false) ⊎ (get_or ms p false ≡ true)
-parted_false [] ms p h = inl refl
-parted_false (b ∷ bs) [] p h = inl h
-parted_false (b ∷ bs) (true ∷ ms) zero h = inr refl
-parted_false (b ∷ bs) (false ∷ ms) zero h = inl h
-parted_false (b ∷ bs) (m ∷ ms) (suc p) h = parted_false bs ms p h
+parted_true bs ms p is = let a = and_parts (get_or bs p false) (not (get_or ms p false)) (sym (parted_and bs ms p) ∙ is) in (a.0, not-true (get_or ms p false) a.1)
 
 -- the mask has processors that the hand serves, with nothing on them
 abbrev pub CanPart : List Bool → View → Type 0
@@ -70,7 +33,8 @@ hand_rest id v mask e can h = record {
   on_long = h.on_long;
   held = h.held;
   on = λ p s. h.on p (parted_true v.own.serves mask p s).0;
-  off = λ p s. ⊎_elim (λ none. h.off p none) (λ marked. (can p marked).1) (parted_false v.own.serves mask p s);
+  off = λ p s. ⊎_elim (λ none. h.off p none) (λ marked. (can p (not-false (get_or mask p false) marked)).1)
+      (and_cases (serves v p) (not (get_or mask p false)) (sym (parted_and v.own.serves mask p) ∙ s));
   claimed = h.claimed;
   counted = λ c is. absurd (cc);
 }
@@ -82,54 +46,25 @@ rest_stands id v mask can stands made = hand_rest id v mask (elements_after v.se
 pub born_stands : (id : ℕ) (v : View) (mask : List Bool) → HasStood id (newborn mask v)
 born_stands id v mask made = absurd (made refl)
 
-abbrev none_on : Option ℕ
-none_on = None
-
 hand_new : (id call : ℕ) (v : View) (mask : List Bool) (e : Elements) → length mask ≡ 8 → CanPart mask v → HandIs id v e → ((element : ℕ) → holds call element e ≡ false) → HandIs call (newborn mask v) e
-hand_new id call v mask e long can h none = record {
-  held_long = length-copies 64 false;
-  serves_long = long;
-  on_long = length-copies 8 none_on;
-  held = λ element. none element ∙ sym (get_or-copies 64 false element);
-  on = λ p s. h.on p (can p s).0 ∙ (ap (λ (x : Option ℕ). Some (option_map (hold id) x)) (can p s).1 ∙ sym (ap (λ (x : Option ℕ). Some (option_map (hold call) x)) (get_or-copies 8 none_on p)));
-  off = λ p s. get_or-copies 8 none_on p;
-  claimed = λ c is. absurd (cc);
-  counted = λ c is. absurd (cc);
-}
+hand_new id call v mask e long can h none = hand_idle call v.own.first mask true (newborn mask v) e long none
+    (λ p s. h.on p (can p s).0 ∙ ap (λ (x : Option ℕ). Some (option_map (hold id) x)) (can p s).1)
 
--- who served a processor before the split
-record Before (views : List View) (id : ℕ) (mask : List Bool) (p j : ℕ) : Type 0 where
-  seat : ℕ
-  view : View
-  at : get_elem? views seat ≡ some view
-  served : serves view p ≡ true
-  is : j ≡ cond (eqb seat id) (cond (get_or mask p false) (length views) id) seat
+-- who serves a processor after a split
+abbrev name_split : ℕ → ℕ → List Bool → ℕ → ℕ → ℕ
+name_split new id mask p seat = cond (eqb seat id) (cond (get_or mask p false) new id) seat
 
 before : (views : List View) (id : ℕ) (v : View) (mask : List Bool) (p : ℕ) → get_elem? views id ≡ some v → CanPart mask v
-    → (j : ℕ) (u : View) → get_elem? (set views id (rest_of mask v) ++ newborn mask v ∷ []) j ≡ some u → serves u p ≡ true → Before views id mask p j
-before views id v mask p at can = let n : ℕ = length views in each_split (λ (j : ℕ) (u : View). serves u p ≡ true → Before views id mask p j) views id (rest_of mask v) (newborn mask v)
-    (λ j u ne there s. record { seat = j; view = u; at = there; served = s; is = sym (ap (λ (b : Bool). cond b (cond (get_or mask p false) n id) j) (ne_eqb j id ne)) })
-    (λ s. let t = parted_true v.own.serves mask p s in record {
-      seat = id;
-      view = v;
-      at = at;
-      served = t.0;
-      is = sym (ap (λ (b : Bool). cond b (cond (get_or mask p false) n id) id) (eq-eqb id id refl) ∙ ap (λ (b : Bool). cond b n id) t.1);
-    })
-    (λ s. record {
-      seat = id;
-      view = v;
-      at = at;
-      served = (can p s).0;
-      is = sym (ap (λ (b : Bool). cond b (cond (get_or mask p false) n id) id) (eq-eqb id id refl) ∙ ap (λ (b : Bool). cond b n id) s);
-    })
-
-no_running : (p element : ℕ) → get_or (repeat 8 (none_on ∷ [])) p None ≡ Some element → ⊥
-no_running p element is = none_some element (get_or (repeat 8 (none_on ∷ [])) p None) (get_or-copies 8 none_on p) is
+    → (j : ℕ) (u : View) → get_elem? (set views id (rest_of mask v) ++ newborn mask v ∷ []) j ≡ some u → serves u p ≡ true → Passed (λ o. serves o p) (name_split (length views) id mask p) views j
+before views id v mask p at can = each_split (λ (j : ℕ) (u : View). serves u p ≡ true → Passed (λ o. serves o p) (name_split (length views) id mask p) views j) views id (rest_of mask v) (newborn mask v)
+    (λ j u ne there s. (j, u, there, s, rw (ne_eqb j id ne) refl))
+    (λ s. let t = parted_true v.own.serves mask p s in (id, v, at, t.0, rw (eq-eqb id id refl, t.1) refl))
+    (λ s. (id, v, at, (can p s).0, rw (eq-eqb id id refl, s) refl))
 
 -- a new hand has no element
 has_nothing : (v : View) (mask : List Bool) (x : ℕ) → MayStep (newborn mask v) x → ⊥
-has_nothing v mask x may = ⊎_elim (λ held. let no : has (newborn mask v) x ≡ false = get_or-copies 64 false x in absurd (cc)) (λ on. no_running on.0 x on.2) may
+has_nothing v mask x may = ⊎_elim (λ held. let no : has (newborn mask v) x ≡ false = get_or-copies 64 false x in absurd (cc))
+    (λ on. none_some x (running (newborn mask v) on.0) (get_or-copies {X = Option ℕ} 8 None on.0) on.2) may
 
 pub splits : (key : Shape) (id : ℕ) (v : View) (mask : List Bool) → v.member.ends ≡ 2 → length mask ≡ 8 → ((p : ℕ) → get_or mask p false ≡ true → (serves v p ≡ true) × (running v p ≡ None)) → Splits (Rule key) id v (rest_of mask v) (newborn mask v)
 splits key id v mask live long can s k at = let e : Elements = elements_after k.events in let left : View = rest_of mask v in let right : View = newborn mask v in let seen : Seen v k.events = k.seen id v at in let hand : HandIs id v e = k.hands id v at in
@@ -142,9 +77,7 @@ splits key id v mask live long can s k at = let e : Elements = elements_after k.
           (record { schedule = seen.schedule; grows = seen.grows }) (record { schedule = seen.schedule; grows = seen.grows });
       hands = each_split (λ (j : ℕ) (u : View). HandIs j u e) s.views id left right (λ j u ne there. k.hands j u there) (hand_rest id v mask e can hand)
           (hand_new id (length s.views) v mask e long can hand (λ element. k.strange (length s.views) element (omega arith)));
-      sole = λ i j p u w has has' served served'. let a : Before s.views id mask p i = before s.views id v mask p at can i u has served in let b : Before s.views id mask p j = before s.views id v mask p at can j w has' served' in
-          let same : a.seat ≡ b.seat = k.sole a.seat b.seat p a.view b.view a.at b.at a.served b.served in
-          a.is ∙ (ap (λ (z : ℕ). cond (eqb z id) (cond (get_or mask p false) (length s.views) id) z) same ∙ sym b.is);
+      sole = λ i j p. one_passes (λ u. serves u p) (name_split (length s.views) id mask p) s.views (set s.views id left ++ right ∷ []) (λ i j. k.sole i j p) (before s.views id v mask p at can) i j;
       owned = λ ring run below is. let o = claims_kept s.views id v left e at refl k.owned ring run below is in (o.0, o.1, at_longer (set s.views id left) (right ∷ []) o.0 o.1 o.2, o.3);
       strange = λ call element past. k.strange call element (omega (arith, past, length-append (set s.views id left) (right ∷ []), length-set s.views id left));
       steady = each_split (λ (j : ℕ) (u : View). IsSteady u k.events) s.views id left right (λ j u ne there. k.steady j u there)

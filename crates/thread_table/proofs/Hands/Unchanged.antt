@@ -1,8 +1,5 @@
 -- What a call leaves to its hand as it was.
-use Rattle.std.proofs.Common.{◌≡◌, ⊎_elim, ℕ, zero, suc, Bool, true, false, List, Option, Some, None, Result, Ok, Err, [], ◌∷◌, refl, ap, ◌∙◌}
-use Rattle.table_theory.specs.declared.views.Part.{Part}
-use Rattle.thread_table.specs.Own.{View}
-use Rattle.thread_table.specs.declared.takings.NextRefusal.{NextRefusal}
+use Rattle.thread_table.proofs.Common.{◌≡◌, ⊎_elim, ℕ, zero, suc, Bool, true, false, List, Option, Some, None, Result, Ok, Err, [], ◌∷◌, refl, ap, ◌∙◌, Part, View, NextRefusal, Lost, quiet, tail_word, load, Step, Acts, TakeAnswer, MoveAnswer, WaitAnswer, IsTicket, StartAnswer, ParkAnswer, DeliverAnswer, ReadPc, DoneAnswer, NotifiedNow, BeforeAnswer}
 use Rattle.thread_table.specs.declared.takings.NextRefusal.TheVariants as nexts
 use Rattle.thread_table.specs.declared.moves.MoveRefusal.{MoveRefusal}
 use Rattle.thread_table.specs.declared.moves.MoveRefusal.TheVariants as moves
@@ -10,25 +7,19 @@ use Rattle.thread_table.specs.declared.states.Started.{Started}
 use Rattle.thread_table.specs.declared.states.Started.TheVariants as started
 use Rattle.thread_table.specs.declared.states.Signalled.{Signalled}
 use Rattle.thread_table.specs.declared.states.Signalled.TheVariants as signalled
-use Rattle.thread_table.specs.declared.states.Lost.{Lost}
 use Rattle.thread_table.specs.declared.programs.Spent.{Spent}
-use Rattle.thread_table.specs.Views.{quiet}
-use Rattle.thread_table.specs.Layout.{tail_word}
-use Rattle.table_theory.specs.Ledgers.{load}
-use Rattle.thread_table.specs.Entries.{Step, Acts}
-use Rattle.thread_table.specs.Answers.{TakesAfter, TakeAnswer, MoveAnswer, WaitAnswer, IsTicket, StoppedNow, StartAnswer, ParkAnswer, SignalAnswer, DeliverAnswer, ReadPc, DoneAnswer}
-use Rattle.thread_table.specs.Wakes.{WokeAll, NotifiedNow, BeforeAnswer}
+use Rattle.thread_table.specs.Answers.{TakesAfter, StoppedNow, SignalAnswer}
 use Rattle.thread_table.specs.Keeping.{Keeps, Stays}
 
 -- the hand has what it had, but for what it holds
-keeps_by : (v w now : View) (es : List Step) → Acts v es now w → now.own.first ≡ v.own.first → now.own.serves ≡ v.own.serves → now.own.on ≡ v.own.on → now.member ≡ v.member → Keeps v w
+pub keeps_by : (v w now : View) (es : List Step) → Acts v es now w → now.own.first ≡ v.own.first → now.own.serves ≡ v.own.serves → now.own.on ≡ v.own.on → now.member ≡ v.member → Keeps v w
 keeps_by v w now es a first serves on member = record { first = ap (λ (z : View). z.own.first) a.has ∙ first; serves = ap (λ (z : View). z.own.serves) a.has ∙ serves; on = ap (λ (z : View). z.own.on) a.has ∙ on; share = ap (λ (z : View). z.member.share) a.has ∙ ap (λ (m : Part). m.share) member }
 
 -- it only looked
 pub stays_by : (v w : View) (es : List Step) → Acts v es (quiet v) w → Stays v w
 stays_by v w es a = record { keeps = keeps_by v w (quiet v) es a refl refl refl refl; held = ap (λ (z : View). z.own.held) a.has; made = ap (λ (z : View). z.own.made) a.has }
 
-after_stays : (before : List Step) (call ring : ℕ) (v w : View) (r : NextRefusal) → TakesAfter before call v ring (Err r) w → Stays v w
+pub after_stays : (before : List Step) (call ring : ℕ) (v w : View) (r : NextRefusal) → TakesAfter before call v ring (Err r) w → Stays v w
 after_stays before call ring v w nexts.NoneReady a = stays_by v w _ a.6
 after_stays before call ring v w (nexts.Lost seen) a = stays_by v w _ a.6
 
@@ -47,24 +38,6 @@ wait_stays call wait element ticket v w (moves.Moved mark) a = ⊎_elim (λ b. s
 
 pub ticket_stays : (wait ticket : ℕ) (v w : View) → IsTicket v wait ticket w → Stays v w
 ticket_stays wait ticket v w a = stays_by v w _ a.3
-
-pub start_stays : (call element : ℕ) (v w : View) (r : Lost) → StartAnswer call v element (Err r) w → Stays v w
-start_stays call element v w r a = stays_by v w _ a.5
-
-pub goes_on_stays : (call element : ℕ) (v w : View) → StartAnswer call v element (Ok started.NotStopped) w → Stays v w
-goes_on_stays call element v w a = stays_by v w _ a.3
-
-pub park_stays : (call element : ℕ) (v w : View) (r : Lost) → ParkAnswer call v element (Err r) w → Stays v w
-park_stays call element v w r a = stays_by v w _ a.5
-
-pub runs_stay : (call element : ℕ) (v w : View) → ParkAnswer call v element (Ok false) w → Stays v w
-runs_stay call element v w a = stays_by v w _ a.3
-
-pub deliver_stays : (call element : ℕ) (v w : View) (r : Lost) → DeliverAnswer call v element (Err r) w → Stays v w
-deliver_stays call element v w r a = stays_by v w _ a.5
-
-pub none_stays : (call element : ℕ) (v w : View) → DeliverAnswer call v element (Ok 0) w → Stays v w
-none_stays call element v w a = stays_by v w _ a.3
 
 pub counts_stay : (element found : ℕ) (v w : View) → ReadPc element v found w → Stays v w
 counts_stay element found v w c = record { keeps = keeps_by v w _ _ c.2 refl refl refl refl; held = ap (λ (z : View). z.own.held) c.2.has; made = ap (λ (z : View). z.own.made) c.2.has }
@@ -91,12 +64,12 @@ pub start_keeps : (call element : ℕ) (v w : View) (r : Result Started Lost) �
 start_keeps call element v w (Ok started.NotStopped) a = (stays_by v w _ a.3).keeps
 start_keeps call element v w (Ok started.Cleared) a = keeps_by v w _ _ a.4 refl refl refl refl
 start_keeps call element v w (Ok started.Held) a = keeps_by v w _ _ a.1.4 refl refl refl refl
-start_keeps call element v w (Err r) a = (start_stays call element v w r a).keeps
+start_keeps call element v w (Err r) a = (stays_by v w _ a.5).keeps
 
 pub park_keeps : (call element : ℕ) (v w : View) (r : Result Bool Lost) → ParkAnswer call v element r w → Keeps v w
 park_keeps call element v w (Ok true) a = keeps_by v w _ _ a.1.4 refl refl refl refl
 park_keeps call element v w (Ok false) a = (stays_by v w _ a.3).keeps
-park_keeps call element v w (Err r) a = (park_stays call element v w r a).keeps
+park_keeps call element v w (Err r) a = (stays_by v w _ a.5).keeps
 
 pub signal_keeps : (call element number : ℕ) (v w : View) (r : Signalled) → SignalAnswer call v element number r w → Keeps v w
 signal_keeps call element number v w signalled.Raised a = keeps_by v w _ _ a.3 refl refl refl refl
@@ -105,25 +78,16 @@ signal_keeps call element number v w signalled.Merged a = keeps_by v w _ _ a.3 r
 pub deliver_keeps : (call element : ℕ) (v w : View) (r : Result ℕ Lost) → DeliverAnswer call v element r w → Keeps v w
 deliver_keeps call element v w (Ok zero) a = (stays_by v w _ a.3).keeps
 deliver_keeps call element v w (Ok (suc mask)) a = keeps_by v w _ _ a.4 refl refl refl refl
-deliver_keeps call element v w (Err r) a = (deliver_stays call element v w r a).keeps
+deliver_keeps call element v w (Err r) a = (stays_by v w _ a.5).keeps
 
 pub done_keeps : (call element : ℕ) (v w : View) (r : Result ℕ Spent) → DoneAnswer call v element r w → Keeps v w
 done_keeps call element v w (Ok number) a = keeps_by v w _ _ a.6 refl refl refl refl
 done_keeps call element v w (Err r) a = (counts_stay element 4294967295 v w a).keeps
 
-pub wake_keeps : (call wait mask : ℕ) (v w : View) → WokeAll call v wait mask w → Keeps v w
-wake_keeps call wait mask v w a = keeps_by v w _ _ a.acts refl refl refl refl
-
 pub notify_keeps : (call wait head : ℕ) (v w : View) → NotifiedNow call v wait head w → Keeps v w
 notify_keeps call wait head v w a = keeps_by v w _ _ a.3 refl refl refl refl
 
-pub before_stays : (call ring head : ℕ) (v w : View) (r : NextRefusal) → BeforeAnswer call v ring head (Err r) w → Stays v w
-before_stays call ring head v w r a = after_stays (load (tail_word ring) a.0 a.1 ∷ []) call ring v w r a.3
-
-pub reached_stays : (call ring head : ℕ) (v w : View) → BeforeAnswer call v ring head (Ok None) w → Stays v w
-reached_stays call ring head v w a = stays_by v w _ a.3
-
 pub before_keeps : (call ring head : ℕ) (v w : View) (r : Result (Option ℕ) NextRefusal) → BeforeAnswer call v ring head r w → Keeps v w
-before_keeps call ring head v w (Ok None) a = (reached_stays call ring head v w a).keeps
+before_keeps call ring head v w (Ok None) a = (stays_by v w _ a.3).keeps
 before_keeps call ring head v w (Ok (Some element)) a = after_keeps (load (tail_word ring) a.0 a.1 ∷ []) call ring v w (Ok element) a.3
-before_keeps call ring head v w (Err r) a = (before_stays call ring head v w r a).keeps
+before_keeps call ring head v w (Err r) a = after_keeps (load (tail_word ring) a.0 a.1 ∷ []) call ring v w (Err r) a.3

@@ -1,6 +1,5 @@
 -- A list of one entry, so many times over.
-use Rattle.std.proofs.Common.{◌≡◌, ℕ, zero, suc, ◌<◌, true, false, [], ◌∷◌, length, get_or, refl, ap, arith, Some, slice_get}
-use Rattle.std.specs.List.{repeat}
+use Rattle.thread_table.proofs.Common.{◌≡◌, ℕ, zero, suc, true, false, [], ◌∷◌, length, get_or, refl, ap, Some, slice_get, repeat}
 
 pub length-copies : {X : Type 0} (count : ℕ) (x : X) → length (repeat count (x ∷ [])) ≡ count
 length-copies zero x = refl
@@ -11,12 +10,6 @@ pub get_or-copies : {X : Type 0} (count : ℕ) (x : X) (i : ℕ) → get_or (rep
 get_or-copies zero x i = refl
 get_or-copies (suc count) x zero = refl
 get_or-copies (suc count) x (suc i) = get_or-copies count x i
-
--- whatever stands for none
-pub get_or-copies_within : {X : Type 0} (count : ℕ) (x : X) (i : ℕ) (d : X) → i < count → get_or (repeat count (x ∷ [])) i d ≡ x
-get_or-copies_within zero x i d below = absurd (omega arith)
-get_or-copies_within (suc count) x zero d below = refl
-get_or-copies_within (suc count) x (suc i) d below = get_or-copies_within count x i d (omega arith)
 
 -- where one of as many marks stands, so does the entry
 pub slice_get-copies_by : {X : Type 0} (count : ℕ) (x : X) (i : ℕ) → get_or (repeat count (true ∷ [])) i false ≡ true → slice_get (repeat count (x ∷ [])) i ≡ Some x

@@ -1,14 +1,11 @@
 -- How many of a list pass a test.
-use Rattle.std.proofs.Common.{◌≡◌, ⊎_elim, ℕ, zero, suc, ◌+◌, ◌<◌, ◌≤◌, Bool, true, false, cond, eqb, eq-eqb, ne_eqb, List, [], ◌∷◌, ◌++◌, refl, sym, ap, ◌∙◌, arith, count_by, IsPermutation}
-use Rattle.std.specs.Prelude.{nat_lt, ◌||◌}
-use Rattle.std.specs.List.{range_with_len, list_any}
+use Rattle.thread_table.proofs.Common.{◌≡◌, ◌≢◌, ⊎_elim, ℕ, zero, suc, ◌+◌, ◌<◌, ◌≤◌, Bool, true, false, cond, eqb, eq-eqb, ne_eqb, List, [], ◌∷◌, ◌++◌, refl, sym, ap, ◌∙◌, arith, IsPermutation, length, subst, nat_lt, range_with_len, list_any, sum_by-cons, sum_by-append, sum_by-IsPermutation, some, dite, dec_lt, get_elem?, total, two_of}
+use Rattle.std.proofs.Common.{count_by}
+use Rattle.table_theory.proofs.Owned.{at_behind}
+use Rattle.std.proofs.lemmas.Bool.{ltb-true}
+use Rattle.std.specs.Prelude.{◌||◌}
 use Rattle.std.proofs.lemmas.Bool.Decides.{leb_tells}
-use Rattle.std.proofs.lemmas.List.Sums.{sum_by-cons, sum_by-append}
-use Rattle.std.proofs.lemmas.List.Sorted.{sum_by-IsPermutation}
-use mathlib.Core.Option.{some, some-injective, some-ne-none}
-use mathlib.Core.Logic.{dite}
-use native.Mathlib.Decide.{dec_lt}
-use lib.ListN.{get_elem?}
+use Rattle.table_theory.proofs.Totals.{sole_total}
 
 abbrev pub plus : Bool → ℕ
 plus b = cond b 1 0
@@ -19,9 +16,6 @@ by_bool false f g = g refl
 
 pub is_less : (a b : ℕ) → a < b → nat_lt a b ≡ true
 is_less a b low = ⊎_elim (λ t. t.0) (λ f. absurd (let h = f.1 in omega arith)) (leb_tells (suc a) b)
-
-pub is_none : (a : ℕ) → a ≡ 0 → nat_lt 0 a ≡ false
-is_none a none = ⊎_elim (λ t. absurd (let h = t.1 in omega arith)) (λ f. f.0) (leb_tells 1 a)
 
 module _ {A : Type 0} where
   pub many_cons : (p : A → Bool) (x : A) (xs : List A) → count_by p (x ∷ xs) ≡ plus (p x) + count_by p xs
@@ -34,25 +28,13 @@ module _ {A : Type 0} where
   pub many_shuffled : (p : A → Bool) (xs ys : List A) → IsPermutation xs ys → count_by p ys ≡ count_by p xs
   many_shuffled p xs ys h = sum_by-IsPermutation (λ x. cond (p x) 1 0) xs ys h
 
-  -- none passes
-  pub many_none : (p : A → Bool) (xs : List A) → ((k : ℕ) (x : A) → get_elem? xs k ≡ some x → p x ≡ true → ⊥) → count_by p xs ≡ 0
-  many_none p [] h = refl
-  many_none p (x ∷ xs) h = by_bool (p x)
-      (λ up. absurd (h 0 x refl up))
-      (λ low. let a : plus (p x) ≡ 0 = ap plus low in let b = many_none p xs (λ k y at. h (suc k) y at) in let c = many_cons p x xs in omega arith)
+  count_total : (p : A → Bool) (xs : List A) → count_by p xs ≡ total (λ x. plus (p x)) xs
+  count_total p [] = refl
+  count_total p (x ∷ xs) = omega (arith, many_cons p x xs, count_total p xs)
 
-  -- one passes, and no other
-  pub many_one : (p : A → Bool) (xs : List A) (k : ℕ) (x : A) → get_elem? xs k ≡ some x → p x ≡ true
-      → ((i j : ℕ) (y z : A) → get_elem? xs i ≡ some y → get_elem? xs j ≡ some z → p y ≡ true → p z ≡ true → i ≡ j) → count_by p xs ≡ 1
-  many_one p [] k x at up once = absurd (some-ne-none x (sym at))
-  many_one p (y ∷ ys) zero x at up once =
-      let is : p y ≡ true = ap p (some-injective y x at) ∙ up in
-      let a : plus (p y) ≡ 1 = ap plus is in
-      let b : count_by p ys ≡ 0 = many_none p ys (λ k z has passes. let e : 0 ≡ suc k = once 0 (suc k) y z refl has is passes in absurd (omega arith)) in
-      let c = many_cons p y ys in omega arith
-  many_one p (y ∷ ys) (suc k) x at up once = by_bool (p y)
-      (λ is. let e : 0 ≡ suc k = once 0 (suc k) y x refl at is up in absurd (omega arith))
-      (λ low. let a : plus (p y) ≡ 0 = ap plus low in let b = many_one p ys k x at up (λ i j v w hv hw pv pw. let e : suc i ≡ suc j = once (suc i) (suc j) v w hv hw pv pw in omega arith) in let c = many_cons p y ys in omega arith)
+  -- two pass
+  pub many_two : (p : A → Bool) (xs : List A) (i j : ℕ) (x y : A) → get_elem? xs i ≡ some x → get_elem? xs j ≡ some y → p x ≡ true → p y ≡ true → i ≢ j → 2 ≤ count_by p xs
+  many_two p xs i j x y at at' up up' ne = omega (arith, count_total p xs, two_of (λ z. plus (p z)) xs i j x y at at' ne, ap plus up, ap plus up')
 
   -- where some pass, there is one
   pub record Found (p : A → Bool) (xs : List A) : Type 0 where
@@ -70,6 +52,19 @@ module _ {A : Type 0} where
       let r = find_it p xs (omega arith) in
       record { front = x ∷ r.front; it = r.it; back = r.back; is = ap (λ z. x ∷ z) r.is; passes = r.passes })
 
+  pub found_at : (p : A → Bool) (xs : List A) → 0 < count_by p xs → (k : ℕ) × (x : A) × (get_elem? xs k ≡ some x) × (p x ≡ true)
+  found_at p xs low = let f = find_it p xs low in (length f.front + 0, f.it, subst (λ (z : List A). get_elem? z (length f.front + 0) ≡ some f.it) (sym f.is) (at_behind f.front (f.it ∷ f.back) 0 f.it refl), f.passes)
+
+  -- none passes
+  pub many_none : (p : A → Bool) (xs : List A) → ((k : ℕ) (x : A) → get_elem? xs k ≡ some x → p x ≡ true → ⊥) → count_by p xs ≡ 0
+  many_none p xs none = dite (dec_lt 0 (count_by p xs)) (λ low. let f = found_at p xs low in absurd (none f.0 f.1 f.2 f.3)) (λ no. omega arith)
+
+  -- one passes, and no other
+  pub many_one : (p : A → Bool) (xs : List A) (k : ℕ) (x : A) → get_elem? xs k ≡ some x → p x ≡ true
+      → ((i j : ℕ) (y z : A) → get_elem? xs i ≡ some y → get_elem? xs j ≡ some z → p y ≡ true → p z ≡ true → i ≡ j) → count_by p xs ≡ 1
+  many_one p xs k x at up once = count_total p xs ∙ (sole_total (λ z. plus (p z)) xs k x at
+      (λ i y has ne. by_bool (p y) (λ passes. absurd (ne (once i k y x has at passes up))) (λ low. ap plus low)) ∙ ap plus up)
+
   -- whether one passes, by how many
   pub any_is : (p : A → Bool) (xs : List A) → list_any p xs ≡ nat_lt 0 (count_by p xs)
   any_is p [] = refl
@@ -77,6 +72,9 @@ module _ {A : Type 0} where
       (λ is. let a : plus (p x) ≡ 1 = ap plus is in ap (λ z. z || list_any p xs) is ∙ sym (is_less 0 (count_by p (x ∷ xs)) (omega arith)))
       (λ isnt. let a : plus (p x) ≡ 0 = ap plus isnt in let e : count_by p xs ≡ count_by p (x ∷ xs) = omega arith in
       ap (λ z. z || list_any p xs) isnt ∙ (any_is p xs ∙ ap (nat_lt 0) e))
+
+  pub some_count : (p : A → Bool) (xs : List A) → list_any p xs ≡ true → 1 ≤ count_by p xs
+  some_count p xs any = ltb-true 0 (count_by p xs) (sym (any_is p xs) ∙ any)
 
 -- how often a number is in a range
 pub range_out : (a n m : ℕ) → m < a → count_by (eqb m) (range_with_len a n) ≡ 0

@@ -1,15 +1,8 @@
 -- Lists with the same entries, in another order.
-use Rattle.std.proofs.Common.{◌≡◌, ⊎_elim, ℕ, zero, suc, ◌+◌, ◌<◌, Bool, true, eqb, eq-eqb, List, [], ◌∷◌, ◌++◌, map, length, get_or, refl, sym, ap, ◌∙◌, subst, arith, IsPermutation, count_by}
-use Rattle.std.specs.List.{range_with_len}
-use Rattle.std.proofs.lemmas.Bool.Decides.{eqb_tells}
+use Rattle.thread_table.proofs.Common.{◌≡◌, ℕ, zero, suc, ◌<◌, Bool, true, eqb, eq-eqb, List, [], ◌∷◌, ◌++◌, map, length, get_or, refl, sym, ap, ◌∙◌, subst, arith, IsPermutation, ext_get_or, length-map-range_with_len, get_or-map-range_with_len, there_is, eqb-true, range_with_len, some, some-injective, some-ne-none, dite, dec_lt, get_elem?, at_map, Owned, entry_of, at_below, at_map_back}
+use Rattle.std.proofs.Common.{count_by}
 use Rattle.std.proofs.lemmas.List.Sorted.{IsPermutation-refl, IsPermutation-trans, IsPermutation-middle, IsPermutation-cons, IsPermutation-map}
-use mathlib.Core.Option.{some, some-injective, some-ne-none}
-use mathlib.Core.Logic.{dite}
-use native.Mathlib.Decide.{dec_lt}
-use lib.ListN.{get_elem?}
-use Rattle.atomic_table.proofs.Lists.{at_map}
-use Rattle.table_theory.specs.Filing.{Owned, ListedOnce, entry_of}
-use Rattle.table_theory.proofs.Owned.{at_below, at_map_back}
+use Rattle.table_theory.specs.Filing.{ListedOnce}
 use Rattle.thread_table.proofs.Lists.Counts.{plus, many_cons, many_more, many_none, many_one, find_it, range_in, range_far}
 
 module _ {A : Type 0} where
@@ -31,25 +24,11 @@ module _ {A : Type 0} where
       subst (λ z. IsPermutation z (x ∷ xs)) (sym is) (IsPermutation-trans (f.front ++ x ∷ f.back) (x ∷ (f.front ++ f.back)) (x ∷ xs)
       (IsPermutation-middle f.front x f.back) (IsPermutation-cons x (f.front ++ f.back) xs ih))
 
-eqb_is : (a b : ℕ) → eqb a b ≡ true → a ≡ b
-eqb_is a b e = ⊎_elim (λ t. t.1) (λ f. absurd (cc)) (eqb_tells a b)
-
 module _ {A : Type 0} where
   pub at_get : (l : List A) (i : ℕ) (x d : A) → get_elem? l i ≡ some x → get_or l i d ≡ x
   at_get [] i x d at = absurd (some-ne-none x (sym at))
   at_get (y ∷ l) zero x d at = some-injective y x at
   at_get (y ∷ l) (suc i) x d at = at_get l i x d at
-
-  pub is_there : (l : List A) (i : ℕ) → i < length l → (x : A) × (get_elem? l i ≡ some x)
-  is_there [] i low = absurd (omega arith)
-  is_there (y ∷ l) zero low = (y, refl)
-  is_there (y ∷ l) (suc i) low = is_there l i (omega arith)
-
-  -- a list by its places
-  by_places : (l : List A) (f : ℕ → A) (a : ℕ) → ((i : ℕ) (x : A) → get_elem? l i ≡ some x → f (a + i) ≡ x) → map f (range_with_len a (length l)) ≡ l
-  by_places [] f a h = refl
-  by_places (x ∷ l) f a h = let e : a ≡ a + 0 = omega arith in
-      λ k. (ap f e ∙ h 0 x refl) k ∷ by_places l f (a + 1) (λ i y at. let g : a + 1 + i ≡ a + suc i = omega arith in ap f g ∙ h (suc i) y at) k
 
   -- what an entry's number names
   by_numbers : (log : List (Owned A)) (f : ℕ → A) → ((k : ℕ) (o : Owned A) → get_elem? log k ≡ some o → f o.1 ≡ o.2) → map f (map (λ (o : Owned A). o.1) log) ≡ map entry_of log
@@ -63,14 +42,14 @@ module _ {A : Type 0} where
   numbers_perm : (log : List (Owned A)) (l : List A) → ListedOnce log (l ∷ []) → IsPermutation (range_with_len 0 (length l)) (map (λ (o : Owned A). o.1) log)
   numbers_perm log l f =
       let first : (k : ℕ) (o : Owned A) → get_elem? log k ≡ some o → (o.0 ≡ 0) × (get_elem? l o.1 ≡ some o.2) = λ k o at. let s = f.stands k o at in of_first l s.0 o.0 o.1 o.2 s.1 s.2 in
-      same_counts eqb eqb_is (λ a. eq-eqb a a refl) (map (λ (o : Owned A). o.1) log) (range_with_len 0 (length l)) (λ m. dite (dec_lt m (length l))
-      (λ low. let t = is_there l m low in let r = f.listed 0 l m t.0 refl t.1 in
+      same_counts eqb eqb-true (λ a. eq-eqb a a refl) (map (λ (o : Owned A). o.1) log) (range_with_len 0 (length l)) (λ m. dite (dec_lt m (length l))
+      (λ low. let t = there_is l m low in let r = f.listed 0 l m t.0 refl t.1 in
       many_one (eqb m) (map (λ (o : Owned A). o.1) log) r.0 m (at_map (λ (o : Owned A). o.1) log r.0 (0, m, t.0) r.1) (eq-eqb m m refl)
       (λ i j y z at at' up up'. let a = at_map_back (λ (o : Owned A). o.1) log i y at in let b = at_map_back (λ (o : Owned A). o.1) log j z at' in
-      f.once i j a.0 b.0 a.1 b.1 ((first i a.0 a.1).0 ∙ sym (first j b.0 b.1).0) (a.2 ∙ sym (eqb_is m y up) ∙ eqb_is m z up' ∙ sym b.2))
+      f.once i j a.0 b.0 a.1 b.1 ((first i a.0 a.1).0 ∙ sym (first j b.0 b.1).0) (a.2 ∙ sym (eqb-true m y up) ∙ eqb-true m z up' ∙ sym b.2))
       ∙ sym (range_in 0 (length l) m (omega arith) (omega arith)))
       (λ not_low. many_none (eqb m) (map (λ (o : Owned A). o.1) log) (λ k x at up. let a = at_map_back (λ (o : Owned A). o.1) log k x at in
-      let b : a.0.1 < length l = at_below l a.0.1 a.0.2 (first k a.0 a.1).1 in let e : m ≡ a.0.1 = eqb_is m x up ∙ sym a.2 in not_low (omega arith))
+      let b : a.0.1 < length l = at_below l a.0.1 a.0.2 (first k a.0 a.1).1 in let e : m ≡ a.0.1 = eqb-true m x up ∙ sym a.2 in not_low (omega arith))
       ∙ sym (range_far 0 (length l) m (omega (arith, not_low)))))
 
   -- a list that is filed once has the entries of the log
@@ -80,6 +59,7 @@ module _ {A : Type 0} where
   filed_shuffle log (x ∷ l) f =
       let g : ℕ → A = λ m. get_or (x ∷ l) m x in
       let p = IsPermutation-map g (range_with_len 0 (length (x ∷ l))) (map (λ (o : Owned A). o.1) log) (numbers_perm log (x ∷ l) f) in
-      let a : map g (range_with_len 0 (length (x ∷ l))) ≡ x ∷ l = by_places (x ∷ l) g 0 (λ i y at. let z : 0 + i ≡ i = omega arith in ap g z ∙ at_get (x ∷ l) i y x at) in
+      let a : map g (range_with_len 0 (length (x ∷ l))) ≡ x ∷ l = ext_get_or x (map g (range_with_len 0 (length (x ∷ l)))) (x ∷ l) (length-map-range_with_len g 0 (length (x ∷ l)))
+      (λ i low. get_or-map-range_with_len g 0 (length (x ∷ l)) i i x (let n = length-map-range_with_len g 0 (length (x ∷ l)) in omega arith) (omega arith)) in
       let b : map g (map (λ (o : Owned A). o.1) log) ≡ map entry_of log = by_numbers log g (λ k o at. let s = f.stands k o at in at_get (x ∷ l) o.1 o.2 x (of_first (x ∷ l) s.0 o.0 o.1 o.2 s.1 s.2).1) in
       subst (λ z. IsPermutation z (map entry_of log)) a (subst (λ z. IsPermutation (map g (range_with_len 0 (length (x ∷ l)))) z) b p)

@@ -1,27 +1,11 @@
 -- Whatever the rule holds of is a lawful state of the core, shown by the words and the hands.
-use Rattle.std.proofs.Common.{◌≡◌, ◌<◌, false, List, length, subst, arith}
-use Rattle.event_theory.specs.Elements.{Elements, holds}
-use Rattle.event_theory.specs.Schedules.{Reaches}
-use Rattle.event_theory.specs.States.{first_state}
-use Rattle.event_theory.specs.declared.event.Event.{Event}
-use Rattle.event_theory.proofs.Keeping.Steps.{schedule_law}
-use Rattle.event_theory.proofs.Keeping.Accounts.{account_law}
+use Rattle.thread_table.proofs.Common.{◌≡◌, ◌<◌, false, length, subst, arith, Elements, holds, Reaches, first_state, schedule_law, ELEMENTS, Shape, View, WordsShow, Rule, HandIs}
 use Rattle.atomic_table.specs.Table as tables
-use Rattle.thread_table.specs.declared.layout.TheConstants.{ELEMENTS}
-use Rattle.thread_table.specs.declared.rule.Shape.{Shape}
-use Rattle.thread_table.specs.Own.{View}
-use Rattle.thread_table.specs.Schedules.{begun, state_after, elements_after, IsAllowed}
-use Rattle.thread_table.specs.Shown.{WordsShow}
-use Rattle.thread_table.specs.Rules.{Rule, HandIs}
+use Rattle.thread_table.specs.Schedules.{state_after, elements_after}
 use Rattle.thread_table.specs.Between.{ShowsElements}
 use Rattle.thread_table.proofs.Events.Owing.{AllOwned}
 use Rattle.thread_table.proofs.Closing.Retiring.{are_retired}
-use Rattle.thread_table.proofs.Schedule.Schedules.{elements_of}
-
--- events that were allowed lead from the first state to the one that they are said to lead to
-pub reached : (events : List Event) → IsAllowed events → Reaches (first_state ELEMENTS) events (state_after events)
-unfolding IsAllowed begun
-reached events allowed = allowed
+use Rattle.thread_table.proofs.Schedule.Schedules.{elements_of, reached, accounted}
 
 pub shows_elements : (key : Shape) (s : tables.State Unit View) → Rule key s → ShowsElements key s
 shows_elements key s k =
@@ -33,7 +17,7 @@ shows_elements key s k =
       reached = there;
       lawful = lawful;
       once = λ element below. lawful.elements.once element (subst (λ (z : Elements). element < length z.threads) same (let n = k.shows.threads in omega arith));
-      accounted = account_law 64 k.events (state_after k.events) there;
+      accounted = accounted k.events k.allowed;
       shown = subst (λ (z : Elements). WordsShow key.first z s.words) same k.shows;
       hands = λ j v at. (subst (HandIs j v) same (k.hands j v at), (k.seen j v at).schedule);
       made = k.made;

@@ -1,21 +1,10 @@
 -- The course of a table as it is made, and through a join, which is a step of no hand.
-use Rattle.std.proofs.Common.{◌≡◌, ◌≢◌, ℕ, suc, true, false, List, [], ◌∷◌, ◌++◌, ◌∙◌, set, sym, refl, subst, ⊎_elim, arith, length-append}
-use mathlib.Core.Option.{some, some-ne-none}
-use lib.ListN.{get_elem?}
-use Rattle.table_theory.specs.Ledgers.{Subject, Step, IsReal, opened, first_of}
-use Rattle.table_theory.specs.Orders.{AreOrdered}
-use Rattle.table_theory.proofs.Orders.{after, order_to, order_first, first_order, order_split, split_order, order_join, order_step}
-use Rattle.table_theory.proofs.Owned.{at_push}
-use Rattle.event_theory.specs.declared.event.Event.{Event}
+use Rattle.thread_table.proofs.Common.{◌≡◌, ◌≢◌, ℕ, suc, true, false, List, [], ◌∷◌, ◌++◌, ◌∙◌, set, sym, refl, subst, ⊎_elim, arith, length-append, some, some-ne-none, get_elem?, Subject, IsReal, opened, first_of, AreOrdered, order_to, order_split, split_order, order_step, at_push, Event, Having, View, joining, is_join, nothing_of, Past, Course, had_by_both, both, emptied}
+use Rattle.table_theory.specs.Ledgers.{Step}
+use Rattle.table_theory.proofs.Orders.{after, order_first, first_order, order_join}
 use Rattle.event_theory.specs.declared.event.Event.TheVariants as events
-use Rattle.thread_table.specs.declared.rule.Having.{Having}
-use Rattle.thread_table.specs.Own.{View}
-use Rattle.thread_table.specs.Joins.{joining, AreJoins}
-use Rattle.thread_table.specs.Makers.{is_join}
+use Rattle.thread_table.specs.Joins.{AreJoins}
 use Rattle.thread_table.proofs.Schedule.JoinEvents.{count_more, count_same}
-use Rattle.thread_table.specs.Rules.{nothing_of}
-use Rattle.thread_table.specs.Schedules.{Past, Course}
-use Rattle.thread_table.specs.Steps.{had_by_both, both, emptied}
 
 pub no_joins : AreJoins [] []
 no_joins = record { each = λ i e has. absurd (some-ne-none e (sym has)); all = refl }

@@ -1,18 +1,11 @@
 -- The joins of the schedule, through each step of a hand, a split and a join.
-use Rattle.std.proofs.Common.{◌≡◌, ◌≢◌, ℕ, zero, suc, ◌+◌, ◌≤◌, ⊎_elim, Bool, true, false, cond, eq-eqb, ne_eqb, true≢false, List, [], ◌∷◌, ◌++◌, set, refl, sym, ap, subst, ◌∙◌, arith, length-set, length-append}
-use Rattle.std.specs.Prelude.{count_by, if◌then◌else◌, ◌==◌}
+use Rattle.thread_table.proofs.Common.{◌≡◌, ◌≢◌, ℕ, ◌+◌, ◌≤◌, ⊎_elim, Bool, true, false, cond, eq-eqb, ne_eqb, true≢false, List, [], ◌∷◌, ◌++◌, set, refl, sym, ap, ◌∙◌, arith, length-set, length-append, eqb_tells, total, length, count_by, if◌then◌else◌, some, some-ne-none, get_elem?, set_else, Event, at_below, View, uncounted, AreJoined, is_join, both, emptied}
+use Rattle.thread_table.proofs.Lists.Entries.{each_put, each_push, each_joined}
+use Rattle.std.specs.Prelude.{◌==◌}
 use Rattle.std.proofs.lemmas.List.Sums.{sum_by_push}
-use mathlib.Core.Option.{some, some-injective, some-ne-none}
-use lib.ListN.{get_elem?}
-use Rattle.atomic_table.proofs.Lists.{at_set, set_else}
-use Rattle.event_theory.specs.declared.event.Event.{Event}
 use Rattle.event_theory.specs.declared.event.Event.TheVariants as events
-use Rattle.table_theory.proofs.Owned.{at_push, at_below}
 use Rattle.table_theory.proofs.Totals.{total_set, total_push}
-use Rattle.thread_table.specs.Own.{View}
-use Rattle.thread_table.specs.Joins.{is_join_of, times_joined, uncounted, AreJoined}
-use Rattle.thread_table.specs.Makers.{is_join}
-use Rattle.thread_table.specs.Steps.{both, emptied}
+use Rattle.thread_table.specs.Joins.{is_join_of, times_joined}
 
 -- one event more
 pub count_more : (test : Event → Bool) (past : List Event) (event : Event) (b : Bool) → test event ≡ b → count_by test (past ++ event ∷ []) ≡ count_by test past + cond b 1 0
@@ -38,17 +31,31 @@ one_uncounted v stale live = uncounted_by v live ∙ ap (λ (z : Bool). if z the
 pub same_uncounted : (v w : View) → w.own.fresh ≡ v.own.fresh → 1 ≤ v.member.ends → 1 ≤ w.member.ends → uncounted w ≡ uncounted v
 same_uncounted v w same live live' = uncounted_by w live' ∙ (ap (λ (z : Bool). if z then 0 else 1) same ∙ sym (uncounted_by v live))
 
-pub joined_first : (w : View) → w.member.ends ≡ 1 → w.member.joins ≡ 0 → w.own.fresh ≡ true → AreJoined [] (w ∷ [])
-joined_first w one none fresh = record {
-  number = (let n = none_uncounted w fresh in omega arith);
-  once = gone;
-  never = λ hand v at stands. refl;
-  strange = λ hand far. refl;
+-- how often a hand was joined: once, where it doesn't stand any more
+abbrev gone : View → ℕ
+gone v = if v.member.ends == 0 then 1 else 0
+
+live_gone : (v : View) → 1 ≤ v.member.ends → gone v ≡ 0
+live_gone v live = ap (λ (b : Bool). if b then 1 else 0) (ne_eqb v.member.ends 0 (λ e. omega arith))
+
+times : (past : List Event) (views : List View) → AreJoined past views → (hand : ℕ) (v : View) → get_elem? views hand ≡ some v → times_joined hand past ≡ gone v
+times past views j hand v at = ⊎_elim
+    (λ none. j.once hand v at none.1 ∙ sym (ap (λ (b : Bool). if b then 1 else 0) none.0))
+    (λ some. let live : 1 ≤ v.member.ends = let n = some.1 in omega arith in j.never hand v at live ∙ sym (live_gone v live))
+    (eqb_tells v.member.ends 0)
+
+are_joined : (past : List Event) (views : List View) → count_by is_join past ≡ total (λ v. v.member.joins) views + total uncounted views → ((hand : ℕ) (v : View) → get_elem? views hand ≡ some v → times_joined hand past ≡ gone v)
+    → ((hand : ℕ) → length views ≤ hand → times_joined hand past ≡ 0) → AreJoined past views
+are_joined past views number each strange = record {
+  number = number;
+  once = λ hand v at none. each hand v at ∙ ap (λ (b : Bool). if b then 1 else 0) (eq-eqb v.member.ends 0 none);
+  never = λ hand v at live. each hand v at ∙ live_gone v live;
+  strange = strange;
 }
-  where
-    gone : (hand : ℕ) (v : View) → get_elem? (w ∷ []) hand ≡ some v → v.member.ends ≡ 0 → times_joined hand [] ≡ 1
-    gone zero v at no_end = let e : w.member.ends ≡ v.member.ends = ap (λ (z : View). z.member.ends) (some-injective w v at) in absurd (omega arith)
-    gone (suc hand) v at no_end = absurd (some-ne-none v (sym at))
+
+pub joined_first : (w : View) → w.member.ends ≡ 1 → w.member.joins ≡ 0 → w.own.fresh ≡ true → AreJoined [] (w ∷ [])
+joined_first w one none fresh = are_joined [] (w ∷ []) (let n = none_uncounted w fresh in omega arith)
+    (each_push (λ hand v. 0 ≡ gone v) [] w (λ hand v at. absurd (some-ne-none v (sym at))) (sym (live_gone w (omega arith)))) (λ hand far. refl)
 
 -- an event that is no join
 pub joined_event : (past : List Event) (event : Event) (views : List View) → is_join event ≡ false → AreJoined past views → AreJoined (past ++ event ∷ []) views
@@ -62,33 +69,17 @@ joined_event past event views plain j = let same : (hand : ℕ) → times_joined
 -- a step of a hand that stands
 pub joined_set : (past : List Event) (views : List View) (id : ℕ) (v w : View) → get_elem? views id ≡ some v → 1 ≤ v.member.ends → 1 ≤ w.member.ends → w.member.joins + uncounted w ≡ v.member.joins + uncounted v
     → AreJoined past views → AreJoined past (set views id w)
-joined_set past views id v w at live live' same j = record {
-  number = (let n = j.number in let t = total_set (λ (z : View). z.member.joins) views id v w at in let u = total_set uncounted views id v w at in omega arith);
-  once = λ hand u has no_end. ⊎_elim
-      (λ t. let e : w.member.ends ≡ u.member.ends = ap (λ (z : View). z.member.ends) t.1 in absurd (omega arith))
-      (λ t. j.once hand u t.1 no_end)
-      (at_set views id hand w u has);
-  never = λ hand u has stands. ⊎_elim
-      (λ t. subst (λ (z : ℕ). times_joined z past ≡ 0) (sym t.0) (j.never id v at live))
-      (λ t. j.never hand u t.1 stands)
-      (at_set views id hand w u has);
-  strange = λ hand far. j.strange hand (let l = length-set views id w in omega arith);
-}
+joined_set past views id v w at live live' same j = are_joined past (set views id w)
+    (let n = j.number in let t = total_set (λ (z : View). z.member.joins) views id v w at in let u = total_set uncounted views id v w at in omega arith)
+    (each_put (λ hand u. times_joined hand past ≡ gone u) views id w (λ hand u ne has. times past views j hand u has) (j.never id v at live ∙ sym (live_gone w live')))
+    (λ hand far. j.strange hand (let l = length-set views id w in omega arith))
 
 -- a new hand
 pub joined_new : (past : List Event) (views : List View) (w : View) → 1 ≤ w.member.ends → w.member.joins + uncounted w ≡ 0 → AreJoined past views → AreJoined past (views ++ w ∷ [])
-joined_new past views w live none j = record {
-  number = (let n = j.number in let t = total_push (λ (z : View). z.member.joins) views w in let u = total_push uncounted views w in omega arith);
-  once = λ hand u has no_end. ⊎_elim
-      (λ old. j.once hand u old no_end)
-      (λ t. let e : w.member.ends ≡ u.member.ends = ap (λ (z : View). z.member.ends) t.1 in absurd (omega arith))
-      (at_push views w u hand has);
-  never = λ hand u has stands. ⊎_elim
-      (λ old. j.never hand u old stands)
-      (λ t. j.strange hand (let i = t.0 in omega arith))
-      (at_push views w u hand has);
-  strange = λ hand far. j.strange hand (let l = length-append views (w ∷ []) in omega arith);
-}
+joined_new past views w live none j = are_joined past (views ++ w ∷ [])
+    (let n = j.number in let t = total_push (λ (z : View). z.member.joins) views w in let u = total_push uncounted views w in omega arith)
+    (each_push (λ hand u. times_joined hand past ≡ gone u) views w (times past views j) (j.strange (length views) (omega arith) ∙ sym (live_gone w live)))
+    (λ hand far. j.strange hand (let l = length-append views (w ∷ []) in omega arith))
 
 -- a hand takes in another
 pub joined_join : (past : List Event) (views : List View) (id other : ℕ) (v w : View) → get_elem? views id ≡ some v → get_elem? views other ≡ some w → other ≢ id → 1 ≤ v.member.ends → 1 ≤ w.member.ends → v.own.fresh ≡ true → w.own.fresh ≡ true
@@ -97,25 +88,13 @@ joined_join past views id other v w at at' ne live live' fresh fresh' j =
     let event : Event = events.Join id other in let new : List Event = past ++ event ∷ [] in let one : List View = set views id (both v w) in
     let there : get_elem? one other ≡ some w = set_else views id other (both v w) ne ∙ at' in
     let more : times_joined other new ≡ times_joined other past + 1 = count_more (is_join_of other) past event true (eq-eqb other other refl) in
-    let same : (hand : ℕ) → other ≢ hand → times_joined hand new ≡ times_joined hand past = λ hand differ. count_same (is_join_of hand) past event (ne_eqb other hand differ) in
-    record {
-      number = (let n = j.number in let c = count_more is_join past event true refl in
-          let t = total_set (λ (z : View). z.member.joins) views id v (both v w) at in let t' = total_set (λ (z : View). z.member.joins) one other w (emptied v) there in
-          let u = total_set uncounted views id v (both v w) at in let u' = total_set uncounted one other w (emptied v) there in let a = none_uncounted v fresh in let b = none_uncounted w fresh' in let d = one_uncounted (both v w) refl (omega arith) in omega arith);
-      once = λ hand u has no_end. ⊎_elim
-          (λ t. subst (λ (z : ℕ). times_joined z new ≡ 1) (sym t.0) (let none = j.never other w at' live' in omega arith))
-          (λ t. ⊎_elim
-          (λ s. let e : v.member.ends + w.member.ends ≡ u.member.ends = ap (λ (z : View). z.member.ends) s.1 in absurd (omega arith))
-          (λ s. same hand (λ z. t.0 (sym z)) ∙ j.once hand u s.1 no_end)
-          (at_set views id hand (both v w) u t.1))
-          (at_set one other hand (emptied v) u has);
-      never = λ hand u has stands. ⊎_elim
-          (λ t. let e : 0 ≡ u.member.ends = ap (λ (z : View). z.member.ends) t.1 in absurd (omega arith))
-          (λ t. ⊎_elim
-          (λ s. subst (λ (z : ℕ). times_joined z new ≡ 0) (sym s.0) (same id ne ∙ j.never id v at live))
-          (λ s. same hand (λ z. t.0 (sym z)) ∙ j.never hand u s.1 stands)
-          (at_set views id hand (both v w) u t.1))
-          (at_set one other hand (emptied v) u has);
-      strange = λ hand far. let below = at_below views other w at' in let l = length-set one other (emptied v) in let m = length-set views id (both v w) in
-          same hand (λ z. omega arith) ∙ j.strange hand (omega arith);
-    }
+    let same : (hand : ℕ) → hand ≢ other → times_joined hand new ≡ times_joined hand past = λ hand differ. count_same (is_join_of hand) past event (ne_eqb other hand (λ e. differ (sym e))) in
+    are_joined new (set one other (emptied v))
+    (let n = j.number in let c = count_more is_join past event true refl in
+    let t = total_set (λ (z : View). z.member.joins) views id v (both v w) at in let t' = total_set (λ (z : View). z.member.joins) one other w (emptied v) there in
+    let u = total_set uncounted views id v (both v w) at in let u' = total_set uncounted one other w (emptied v) there in let a = none_uncounted v fresh in let b = none_uncounted w fresh' in let d = one_uncounted (both v w) refl (omega arith) in omega arith)
+    (each_joined (λ hand u. times_joined hand new ≡ gone u) views id other (both v w) (emptied v) (λ hand u _ differ has. same hand differ ∙ times past views j hand u has)
+    (same id (λ e. ne (sym e)) ∙ (j.never id v at live ∙ sym (live_gone (both v w) (omega arith))))
+    (let none = j.never other w at' live' in omega arith))
+    (λ hand far. let below = at_below views other w at' in let l = length-set one other (emptied v) in let m = length-set views id (both v w) in
+    same hand (λ z. omega arith) ∙ j.strange hand (omega arith))

@@ -1,18 +1,12 @@
 -- The events of a schedule, as the hands list them.
-use Rattle.std.proofs.Common.{◌≡◌, ◌≢◌, ℕ, ◌+◌, Bool, true, false, List, [], ◌∷◌, ◌++◌, map, length, set, refl, sym, ap, ◌∙◌}
-use Rattle.std.proofs.lemmas.List.{append-nil, map-append}
-use mathlib.Core.Option.{some}
-use lib.ListN.{get_elem?}
-use Rattle.table_theory.specs.Filing.{Owned, entry_of, moved, sole}
+use Rattle.thread_table.proofs.Common.{◌≡◌, ◌≢◌, ℕ, ◌+◌, Bool, true, false, List, [], ◌∷◌, ◌++◌, map, length, set, refl, sym, ap, ◌∙◌, map-map, map-append, some, get_elem?, Owned, entry_of, Event, Made, is_join, made_in, numbered, AreMade, result_unwrap_or, State, step, if◌then◌else◌}
+use Rattle.thread_table.proofs.Lists.Counts.{by_bool}
+use Rattle.std.proofs.lemmas.List.{append-nil}
+use Rattle.table_theory.specs.Filing.{moved, sole}
 use Rattle.table_theory.proofs.Owned.{file_first, file_push, file_new, file_join, file_sole}
-use Rattle.event_theory.specs.declared.event.Event.{Event}
 use Rattle.event_theory.specs.declared.event.Event.TheVariants as events
-use Rattle.thread_table.specs.declared.rule.Made.{Made}
-use Rattle.thread_table.specs.Makers.{is_join, made_in, numbered, AreMade}
-use Rattle.std.specs.Result.{result_unwrap_or}
-use Rattle.event_theory.specs.States.{State, step}
 use Rattle.thread_table.specs.Schedules.{after, begun, state_after}
-use Rattle.std.specs.Prelude.{if◌then◌else◌, ◌==◌}
+use Rattle.std.specs.Prelude.{◌==◌}
 
 -- what stands behind the first event
 pub by_join : (b : Bool) (x : Made) (a c d : List Made) → a ≡ c ++ d → (if b then a else (x ∷ a)) ≡ (if b then c else (x ∷ c)) ++ d
@@ -45,17 +39,11 @@ made_push past lists c l event plain m at = let e : Made = made_in event (state_
 pub made_new : (past : List Event) (lists : List (List Made)) → AreMade past lists → AreMade past (lists ++ [] ∷ [])
 made_new past lists m = record { log = m.log; listed = file_new m.log lists m.listed; logged = m.logged }
 
-by_test : (a b : Owned Made) → a.2 ≡ b.2 → (t : Bool) → (if t then a else b).2 ≡ b.2
-by_test a b e true = e
-by_test a b e false = refl
+moved_entry : (c d n : ℕ) (o : Owned Made) → (moved c d n o).2 ≡ o.2
+moved_entry c d n o = by_bool (o.0 == d) (λ is. ap (λ (b : Bool). (if b then (c, n + o.1, o.2) else o).2) is) (λ isnt. ap (λ (b : Bool). (if b then (c, n + o.1, o.2) else o).2) isnt)
 
 moved_entries : (c d n : ℕ) (log : List (Owned Made)) → map entry_of (map (moved c d n) log) ≡ map entry_of log
-moved_entries c d n [] = refl
-moved_entries c d n (o ∷ os) = let to : Owned Made = (c, n + o.1, o.2) in λ k. by_test to o refl (o.0 == d) k ∷ moved_entries c d n os k
-
-sole_entries : (log : List (Owned Made)) → map entry_of (map sole log) ≡ map entry_of log
-sole_entries [] = refl
-sole_entries (o ∷ os) = ap (λ xs. o.2 ∷ xs) (sole_entries os)
+moved_entries c d n log = map-map entry_of (moved c d n) log ∙ ap (λ (f : Owned Made → Made). map f log) (λ i o. moved_entry c d n o i)
 
 pub made_join : (past : List Event) (lists : List (List Made)) (c d : ℕ) (a b : List Made) → AreMade past lists → get_elem? lists c ≡ some a → get_elem? lists d ≡ some b → d ≢ c
     → AreMade (past ++ events.Join c d ∷ []) (set (set lists c (a ++ b)) d [])
@@ -70,5 +58,5 @@ pub made_sole : (past : List Event) (lists : List (List Made)) (c : ℕ) (l : Li
 made_sole past lists c l m at others = record {
   log = map sole m.log;
   listed = file_sole m.log lists c l m.listed at others;
-  logged = sole_entries m.log ∙ m.logged;
+  logged = map-map entry_of sole m.log ∙ m.logged;
 }

@@ -1,19 +1,12 @@
 -- The steps that a hand has seen are in order, and the events that each found grow into those of the next.
-use Rattle.std.proofs.Common.{◌≡◌, ◌⊎◌, inl, inr, ℕ, List, [], ◌∷◌, ◌++◌, ◌∙◌, sym, refl, ap, subst}
-use Rattle.std.proofs.lemmas.List.{append_assoc, append-nil}
-use Rattle.std.specs.List.{AllByRecursion}
-use Rattle.event_theory.specs.declared.event.Event.{Event}
-use Rattle.table_theory.specs.Courses.{Continues}
-use Rattle.table_theory.specs.Ends.{Begins}
-use Rattle.table_theory.specs.Ledgers.{StepEffect, stays, event, more, fewer, Reaches, Passes, Adds, opened, count_down}
-use Rattle.table_theory.proofs.Ends.{begins_refl, begins_trans}
+use Rattle.thread_table.proofs.Common.{◌≡◌, ◌⊎◌, inl, inr, ℕ, List, [], ◌∷◌, ◌++◌, ◌∙◌, sym, ap, subst, length, length-append, arith, ⊎_elim, append_cancel_left, ∥∥₁_elim, ∥∥₁_map, Hand, view_of, append_assoc, AllByRecursion, Event, Continues, Begins, StepEffect, stays, event, more, fewer, Adds, opened, count_down, begins_refl, begins_trans, ends_word, View, Past, Grows, Step, TookIn, of_hands, IsHonest}
+use Rattle.table_theory.proofs.Alone.{no_longer}
+use Rattle.std.proofs.lemmas.List.{append-nil}
+use Rattle.table_theory.specs.Ledgers.{Reaches, Passes}
 use Rattle.table_theory.proofs.Reaching.{passes_led, passes_some, reaches_led, entries_real}
-use Rattle.thread_table.specs.Layout.{ends_word}
-use Rattle.thread_table.specs.Own.{View}
-use Rattle.thread_table.specs.Schedules.{Past, elements_after, IsAllowed, Grows}
-use Rattle.thread_table.specs.Entries.{Step, AreInOrder}
-use Rattle.thread_table.specs.Endings.{TookIn}
-use Rattle.thread_table.specs.Telling.{Happens, of_hands, IsReal, IsHonest}
+use Rattle.thread_table.specs.Schedules.{elements_after, IsAllowed}
+use Rattle.thread_table.specs.Entries.{AreInOrder}
+use Rattle.thread_table.specs.Telling.{Happens, IsReal}
 use Rattle.thread_table.proofs.Schedule.Schedules.{grows_refl, grows_trans}
 
 module _ (first : ℕ) where
@@ -24,34 +17,26 @@ module _ (first : ℕ) where
   moves m n (more is) = inl (ap (λ (z : Past). z.object) is)
   moves m n (fewer is some) = inl (ap (λ (z : Past). z.object) is)
 
-  move_begins : (p q : List Event) → (q ≡ p) ⊎ Happens p q → Begins p q
-  move_begins p q (inl same) = ([], append-nil p ∙ sym same)
-  move_begins p q (inr happens) = (happens.0 ∷ [], sym happens.1)
+  -- so they lead on
+  abbrev LeadsOn : List Event → List Event → Type 0
+  LeadsOn p q = Begins p q × Grows (elements_after p) (elements_after q)
 
-  move_grows : (p q : List Event) → (q ≡ p) ⊎ Happens p q → Grows (elements_after p) (elements_after q)
-  move_grows p q (inl same) = subst (λ (z : List Event). Grows (elements_after p) (elements_after z)) (sym same) (grows_refl (elements_after p))
-  move_grows p q (inr happens) = happens.3
-
-  move_allows : (p q : List Event) → IsAllowed p → (q ≡ p) ⊎ Happens p q → IsAllowed q
-  move_allows p q old (inl same) = subst IsAllowed (sym same) old
-  move_allows p q old (inr happens) = happens.2
+  move_leads : (p q : List Event) → (q ≡ p) ⊎ Happens p q → LeadsOn p q
+  move_leads p q (inl same) = subst (LeadsOn p) (sym same) (begins_refl p, grows_refl (elements_after p))
+  move_leads p q (inr happens) = ((happens.0 ∷ [], sym happens.1), happens.3)
 
   -- a real step leaves events that are allowed
   pub real_allows : (e : Step) → IsReal first e → IsAllowed e.next.object
-  real_allows e r = move_allows e.then.object e.next.object r.lawful (moves e.then e.next r.effect)
+  real_allows e r = ⊎_elim (λ same. subst IsAllowed (sym same) r.lawful) (λ happens. happens.2) (moves e.then e.next r.effect)
 
   -- real steps lead on
-  pub leads_begin : (m n : Past) (es : List Step) → Continues m es n → AllByRecursion (IsReal first) es → Begins m.object n.object
-  leads_begin m n [] c r = subst (λ (z : Past). Begins m.object z.object) c (begins_refl m.object)
-  leads_begin m n (e ∷ es) c r = begins_trans m.object e.next.object n.object (subst (λ (z : Past). Begins z.object e.next.object) (sym c.0) (move_begins e.then.object e.next.object (moves e.then e.next r.0.effect))) (leads_begin e.next n es c.1 r.1)
-
-  pub leads_grow : (m n : Past) (es : List Step) → Continues m es n → AllByRecursion (IsReal first) es → Grows (elements_after m.object) (elements_after n.object)
-  leads_grow m n [] c r = subst (λ (z : Past). Grows (elements_after m.object) (elements_after z.object)) c (grows_refl (elements_after m.object))
-  leads_grow m n (e ∷ es) c r = grows_trans (elements_after m.object) (elements_after e.next.object) (elements_after n.object)
-      (subst (λ (z : Past). Grows (elements_after z.object) (elements_after e.next.object)) (sym c.0) (move_grows e.then.object e.next.object (moves e.then e.next r.0.effect))) (leads_grow e.next n es c.1 r.1)
+  steps_lead : (m n : Past) (es : List Step) → Continues m es n → AllByRecursion (IsReal first) es → LeadsOn m.object n.object
+  steps_lead m n [] c r = subst (λ (z : Past). LeadsOn m.object z.object) c (begins_refl m.object, grows_refl (elements_after m.object))
+  steps_lead m n (e ∷ es) c r = let a = subst (λ (z : Past). LeadsOn z.object e.next.object) (sym c.0) (move_leads e.then.object e.next.object (moves e.then e.next r.0.effect)) in let b = steps_lead e.next n es c.1 r.1 in
+      (begins_trans m.object e.next.object n.object a.0 b.0, grows_trans (elements_after m.object) (elements_after e.next.object) (elements_after n.object) a.1 b.1)
 
   pub reach_leads : (m n : Past) → Reaches (of_hands first) m n → Begins m.object n.object × Grows (elements_after m.object) (elements_after n.object)
-  reach_leads m n r = (leads_begin m n r.steps r.leads r.real, leads_grow m n r.steps r.leads r.real)
+  reach_leads m n r = steps_lead m n r.steps r.leads r.real
 
   -- entries that real steps pass are in order
   in_order : (m n : Past) (es : List Step) → Passes (of_hands first) m es n → AreInOrder m es
@@ -83,32 +68,9 @@ joins_reach_other v u w hu hw t = reaches_led (of_hands w.own.first) u w hu.list
 pub join_real : (v u w : View) → IsHonest w → (t : TookIn v u w) → IsReal w.own.first (count_down ends_word t.found)
 join_real v u w h t = (entries_real (of_hands w.own.first) _ w (count_down ends_word t.found ∷ []) h.list t.acts.adds).0
 
-no_more : {A : Type 0} (xs ys : List A) → xs ++ ys ≡ xs → ys ≡ []
-no_more [] ys is = is
-no_more (x ∷ xs) ys is = no_more xs ys (ap tail_of is)
-  where
-    tail_of : {A : Type 0} → List A → List A
-    tail_of [] = []
-    tail_of (y ∷ zs) = zs
-
-no_first : {A : Type 0} (xs ys : List A) → xs ++ ys ≡ [] → xs ≡ []
-no_first [] ys is = refl
-no_first (x ∷ xs) ys is = absurd (cc)
-
 -- a list that the same list begins and ends is that list
 both_ways : (m n p : List Event) → m ≡ n → Begins m p → Begins p n → n ≡ p
-both_ways m n p same x y =
-    let round : n ++ (x.0 ++ y.0) ≡ n = sym (append_assoc n x.0 y.0) ∙ (ap (λ (z : List Event). (z ++ x.0) ++ y.0) (sym same) ∙ (ap (λ (z : List Event). z ++ y.0) x.1 ∙ y.1)) in
-    let none : x.0 ≡ [] = no_first x.0 y.0 (no_more n (x.0 ++ y.0) round) in
-    sym same ∙ (sym (append-nil m) ∙ (ap (λ (z : List Event). m ++ z) (sym none) ∙ x.1))
-
-same_next : (xs : List Event) (y z : Event) (ys zs : List Event) → xs ++ y ∷ ys ≡ xs ++ z ∷ zs → y ≡ z
-same_next [] y z ys zs same = cc
-same_next (w ∷ xs) y z ys zs same = same_next xs y z ys zs (ap rest_of same)
-  where
-    rest_of : List Event → List Event
-    rest_of [] = []
-    rest_of (u ∷ us) = us
+both_ways m n p same x y = no_longer p n y (omega (arith, ap length same, ap length x.1, length-append m x.0))
 
 -- what a hand had seen before grows into what it sees
 begins_grow : (first : ℕ) (m n : Past) (p : List Event) (es : List Step) → Continues m es n → AllByRecursion (IsReal first) es → Begins m.object p → Begins p n.object → Grows (elements_after p) (elements_after n.object)
@@ -118,22 +80,23 @@ begins_grow first m n p (e ∷ es) c r a b = by (λ z x y. begins_grow first e.n
     then_is : m.object ≡ e.then.object
     then_is = ap (λ (z : Past). z.object) c.0
 
-    on : Grows (elements_after e.next.object) (elements_after n.object)
-    on = leads_grow first e.next n es c.1 r.1
-
-    later : Begins e.next.object n.object
-    later = leads_begin first e.next n es c.1 r.1
+    on : LeadsOn first e.next.object n.object
+    on = steps_lead first e.next n es c.1 r.1
 
     by : ((z : List Event) → Begins e.next.object z → Begins z n.object → Grows (elements_after z) (elements_after n.object)) → (e.next.object ≡ e.then.object) ⊎ Happens e.then.object e.next.object → (q : List Event) → m.object ++ q ≡ p → Grows (elements_after p) (elements_after n.object)
     by go (inl same) q is = go p (subst (λ (z : List Event). Begins z p) (then_is ∙ sym same) a) b
-    by go (inr happens) [] is = subst (λ (z : List Event). Grows (elements_after z) (elements_after n.object)) (sym then_is ∙ (sym (append-nil m.object) ∙ is)) (grows_trans (elements_after e.then.object) (elements_after e.next.object) (elements_after n.object) happens.3 on)
+    by go (inr happens) [] is = subst (λ (z : List Event). Grows (elements_after z) (elements_after n.object)) (sym then_is ∙ (sym (append-nil m.object) ∙ is)) (grows_trans (elements_after e.then.object) (elements_after e.next.object) (elements_after n.object) happens.3 on.1)
     by go (inr happens) (x ∷ q) is =
         let next_is : m.object ++ happens.0 ∷ [] ≡ e.next.object = ap (λ (z : List Event). z ++ happens.0 ∷ []) then_is ∙ sym happens.1 in
-        let one : m.object ++ happens.0 ∷ later.0 ≡ n.object = sym (append_assoc m.object (happens.0 ∷ []) later.0) ∙ (ap (λ (z : List Event). z ++ later.0) next_is ∙ later.1) in
+        let one : m.object ++ happens.0 ∷ on.0.0 ≡ n.object = sym (append_assoc m.object (happens.0 ∷ []) on.0.0) ∙ (ap (λ (z : List Event). z ++ on.0.0) next_is ∙ on.0.1) in
         let two : m.object ++ x ∷ (q ++ b.0) ≡ n.object = sym (append_assoc m.object (x ∷ q) b.0) ∙ (ap (λ (z : List Event). z ++ b.0) is ∙ b.1) in
-        let same : happens.0 ≡ x = same_next m.object happens.0 x later.0 (q ++ b.0) (one ∙ sym two) in
+        let rest : happens.0 ∷ on.0.0 ≡ x ∷ (q ++ b.0) = append_cancel_left m.object (happens.0 ∷ on.0.0) (x ∷ (q ++ b.0)) (one ∙ sym two) in let same : happens.0 ≡ x = cc in
         go p (q, ap (λ (z : List Event). z ++ q) (sym next_is) ∙ (append_assoc m.object (happens.0 ∷ []) q ∙ (ap (λ (z : Event). m.object ++ z ∷ q) same ∙ is))) b
 
 -- any of the events that a hand has seen lead on to all of them
 pub honest_grows : (v : View) → IsHonest v → (p : List Event) → Begins p v.seen.object → Grows (elements_after p) (elements_after v.seen.object)
 honest_grows v h p b = begins_grow v.own.first (opened v.first) v.seen p v.course h.list.leads h.list.real (p, ap (λ (z : List Event). z ++ p) h.first) b
+
+-- what two hands' lists tell, of which each is true
+pub both_told : (old new : Hand) (P : Type 0) → (IsHonest (view_of old) → IsHonest (view_of new) → P) → ∥ P ∥₁
+both_told old new P tells = ∥∥₁_elim old.told squash₁ (λ (x : IsHonest (view_of old)). ∥∥₁_map new.told (λ h. tells x h))

@@ -1,17 +1,9 @@
 -- What a schedule leads to.
-use Rattle.std.proofs.Common.{◌≡◌, List, [], ◌∷◌, ◌++◌, ◌∙◌, refl, sym, ap, subst, arith, Ok, Result}
-use Rattle.std.specs.Result.{result_unwrap_or}
-use Rattle.event_theory.specs.Elements.{Elements}
-use Rattle.event_theory.proofs.Keeping.Steps.{reaches_more, schedule_law}
-use Rattle.event_theory.specs.Lawful.{IsLawfulElements}
-use Rattle.event_theory.specs.Queues.{Queue}
-use Rattle.event_theory.specs.Schedules.{Reaches}
-use Rattle.event_theory.specs.States.{State, first_state, step}
-use Rattle.event_theory.specs.declared.event.Event.{Event}
-use Rattle.event_theory.specs.declared.refusal.Refusal.{Refusal}
-use Rattle.thread_table.specs.declared.layout.TheConstants.{ELEMENTS}
-use Rattle.thread_table.specs.Schedules.{after, begun, state_after, elements_after, IsAllowed, QueueGrows, Grows}
-use Rattle.table_theory.specs.Ends.{Begins}
+use Rattle.thread_table.proofs.Common.{◌≡◌, List, [], ◌∷◌, ◌++◌, ◌∙◌, refl, sym, ap, subst, arith, Ok, Result, result_unwrap_or, Elements, schedule_law, IsLawfulElements, Queue, Reaches, State, first_state, step, Event, Refusal, ELEMENTS, QueueGrows, Grows, Begins}
+use Rattle.event_theory.proofs.Keeping.Steps.{reaches_more}
+use Rattle.event_theory.proofs.Keeping.Accounts.{account_law}
+use Rattle.event_theory.specs.Accounts.{IsAccounted}
+use Rattle.thread_table.specs.Schedules.{after, begun, state_after, elements_after, IsAllowed}
 
 after_is : (s : State) (events : List Event) (t : State) → Reaches s events t → after s events ≡ t
 unfolding after
@@ -38,6 +30,15 @@ pub allowed_before : (past events : List Event) → Begins past events → IsAll
 unfolding state_after IsAllowed
 allowed_before past events b allowed = allowed_first begun past b.0 (after begun events) (subst (λ (z : List Event). Reaches begun z (after begun events)) (sym b.1) allowed)
 
+-- events that were allowed lead from the first state to the one that they are said to lead to
+pub reached : (events : List Event) → IsAllowed events → Reaches (first_state ELEMENTS) events (state_after events)
+unfolding IsAllowed begun
+reached events allowed = allowed
+
+-- which agrees with what they did
+pub accounted : (events : List Event) → IsAllowed events → IsAccounted (first_state ELEMENTS) events (state_after events)
+accounted events allowed = account_law 64 events (state_after events) (reached events allowed)
+
 -- no event
 pub after_none : (state_after [] ≡ first_state ELEMENTS) × IsAllowed []
 unfolding state_after IsAllowed after begun
@@ -53,10 +54,10 @@ unfolding elements_after
 elements_of events = refl
 
 pub lawful_after : (events : List Event) → IsAllowed events → IsLawfulElements (elements_after events)
-unfolding elements_after IsAllowed begun
-lawful_after events allowed = (schedule_law 64 events (state_after events) allowed).elements
+unfolding elements_after
+lawful_after events allowed = (schedule_law 64 events (state_after events) (reached events allowed)).elements
 
-queue_refl : (q : Queue) → QueueGrows q q
+pub queue_refl : (q : Queue) → QueueGrows q q
 queue_refl q = record { longer = omega arith; further = omega arith; items = λ run h. refl; raised = λ run h. h }
 
 pub queue_trans : (p q r : Queue) → QueueGrows p q → QueueGrows q r → QueueGrows p r

@@ -1,8 +1,6 @@
 -- One bit of a number is set, or all from one on are cleared.
-use Rattle.std.proofs.Common.{◌≡◌, ◌≢◌, ℕ, ◌-◌, ◌^◌, ◌<◌, ◌≤◌, ◌∙◌, arith}
-use Rattle.std.proofs.lemmas.Nat.Bits.{bit_at_and, bit_at_or, bit_at-lt, bit_at-pow_same, bit_at-pow_other, bit_at_ones, bit_at_ones_above}
-use Rattle.std.specs.Int.{bit_at}
-use Rattle.std.specs.Int.Bits.{bit_or, bit_and}
+use Rattle.thread_table.proofs.Common.{◌≡◌, ◌≢◌, ℕ, ◌-◌, ◌^◌, ◌<◌, ◌≤◌, ◌∙◌, arith, bit_at_and, bit_at-lt, bit_at-pow_other, bit_at, bit_or, bit_and}
+use Rattle.std.proofs.lemmas.Nat.Bits.{bit_at_or, bit_at-pow_same, bit_at_ones, bit_at_ones_above}
 
 pub set_bit_same : (word bit : ℕ) → bit_at (bit_or word (2 ^ bit)) bit ≡ 1
 set_bit_same word bit = bit_at_or word (2 ^ bit) bit ∙ omega (arith, bit_at-lt word bit, bit_at-pow_same bit)

@@ -1,12 +1,6 @@
 -- The words of a new table keep the rule.
-use Rattle.std.proofs.Common.{◌≡◌, inl, inr, ℕ, zero, suc, replicate, ◌+◌, ◌*◌, ◌<◌, ◌≤◌, List, [], ◌∙◌, ap, length, get_or, set, refl, arith, get_or-set_same, get_or-set_other}
-use Rattle.std.proofs.lemmas.Bool.{cases_lt}
+use Rattle.thread_table.proofs.Common.{◌≡◌, inl, inr, ℕ, zero, suc, replicate, ◌+◌, ◌*◌, ◌<◌, ◌≤◌, List, [], ◌∙◌, ap, length, get_or, set, refl, arith, get_or-set_same, get_or-set_other, cases_lt, opening, Shape, head_word, tail_word, RingsLaid, ItemsLaid, Rule, newcomer}
 use Rattle.std.proofs.lemmas.List.{length-replicate}
-use Rattle.atomic_table.specs.Table.{opening}
-use Rattle.thread_table.specs.declared.rule.Shape.{Shape}
-use Rattle.thread_table.specs.Layout.{head_word, tail_word}
-use Rattle.thread_table.specs.Laid.{RingsLaid, ItemsLaid}
-use Rattle.thread_table.specs.Rules.{Rule, newcomer}
 use Rattle.thread_table.proofs.Shown.Opening.{opens}
 
 kept : (first : ℕ) (ws words : List ℕ) → ItemsLaid first 64 ws words → (place ring : ℕ) → head_word ring ≤ place → place ≤ tail_word ring → get_or words place 0 ≡ get_or ws place 0
@@ -15,21 +9,6 @@ kept first ws words h place ring from to = elim (cases_lt ring 2) [
   | inr past ↦ h.high place (omega arith)
 ]
 
--- a table whose words were zeros, but for the number of hands
-pub laid_opens : (key : Shape) (zs ws words : List ℕ) → key.first + 64 < 4294967296 → get_or zs 0 0 ≡ 1 → ((i : ℕ) → 1 ≤ i → get_or zs i 0 ≡ 0) → RingsLaid key.first 64 18 zs ws → ItemsLaid key.first 64 ws words
-    → Rule key (opening words [] (newcomer key))
-laid_opens key zs ws words fits one rest a b = opens key words fits b.wide
-    (b.low 0 (omega arith) ∙ (a.low 0 (omega arith) ∙ one))
-    (λ i from to. b.low i (omega arith) ∙ (a.low i (omega arith) ∙ rest i from))
-    (λ i from to. b.low i (omega arith) ∙ (a.low i (omega arith) ∙ rest i (omega arith)))
-    (λ ring below. kept key.first ws words b (head_word ring) ring (omega arith) (omega arith) ∙ a.heads ring below)
-    (λ ring below. kept key.first ws words b (tail_word ring) ring (omega arith) (omega arith) ∙ a.tails ring below)
-    b.places
-    (λ ring i known apart below. elim (cases_lt ring 1) [
-      | inl low ↦ b.low (66 * ring + 139 + i) (omega arith) ∙ (a.items ring i known below ∙ rest (66 * ring + 139 + i) (omega arith))
-      | inr past ↦ b.high (66 * ring + 139 + i) (omega arith) ∙ (a.items ring i known below ∙ rest (66 * ring + 139 + i) (omega arith))
-    ])
-
 all_zero : (n i : ℕ) → get_or {A = ℕ} (replicate n 0) i 0 ≡ 0
 all_zero zero i = refl
 all_zero (suc n) zero = refl
@@ -37,5 +16,19 @@ all_zero (suc n) (suc i) = all_zero n i
 
 -- a table that was made of so many zeros
 pub zeros_open : (key : Shape) (n : ℕ) (zs ws words : List ℕ) → key.first + 64 < 4294967296 → 1 ≤ n → zs ≡ replicate n 0 → RingsLaid key.first 64 18 (set zs 0 1) ws → ItemsLaid key.first 64 ws words → Rule key (opening words [] (newcomer key))
-zeros_open key n zs ws words fits some is a b = let long : length zs ≡ n = ap length is ∙ length-replicate n 0 in
-    laid_opens key (set zs 0 1) ws words fits (get_or-set_same zs 0 1 0 (omega arith)) (λ i from. get_or-set_other zs 0 i 1 0 (λ e. omega arith) ∙ (ap (λ (z : List ℕ). get_or z i 0) is ∙ all_zero n i)) a b
+zeros_open key n zs ws words fits some is a b =
+    let long : length zs ≡ n = ap length is ∙ length-replicate n 0 in
+    let rest : (i : ℕ) → 1 ≤ i → get_or (set zs 0 1) i 0 ≡ 0 = λ i from. get_or-set_other zs 0 i 1 0 (λ e. omega arith) ∙ (ap (λ (z : List ℕ). get_or z i 0) is ∙ all_zero n i) in
+    opens key words record {
+      fits = fits;
+      long = b.wide;
+      ends = b.low 0 (omega arith) ∙ (a.low 0 (omega arith) ∙ get_or-set_same zs 0 1 0 (omega arith));
+      low = λ i from to. b.low i (omega arith) ∙ (a.low i (omega arith) ∙ rest i from);
+      heads = λ ring below. kept key.first ws words b (head_word ring) ring (omega arith) (omega arith) ∙ a.heads ring below;
+      tails = λ ring below. kept key.first ws words b (tail_word ring) ring (omega arith) (omega arith) ∙ a.tails ring below;
+      items = b.places;
+      zeros = λ ring i known apart below. elim (cases_lt ring 1) [
+        | inl low ↦ b.low (66 * ring + 139 + i) (omega arith) ∙ (a.items ring i known below ∙ rest (66 * ring + 139 + i) (omega arith))
+        | inr past ↦ b.high (66 * ring + 139 + i) (omega arith) ∙ (a.items ring i known below ∙ rest (66 * ring + 139 + i) (omega arith))
+      ];
+    }

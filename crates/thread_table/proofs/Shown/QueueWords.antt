@@ -1,44 +1,7 @@
 -- What stays shown and known where one element queue and its words change.
-use Rattle.std.proofs.Common.{◌≡◌, ◌≢◌, ℕ, zero, suc, ◌+◌, ◌*◌, ◌%◌, ◌<◌, ◌≤◌, false, List, length, set, get_or, Some, None, Option, slice_get, Result, Ok, refl, sym, ap, subst, ◌∙◌, arith, mod-lt, get_or-set_other, length-set}
-use Rattle.std.proofs.lemmas.Option.{slice_get-get_or}
-use mathlib.Core.Logic.{dite}
-use native.Mathlib.Decide.{ℕ_discrete}
-use Rattle.event_theory.specs.Elements.{Elements, holds}
-use Rattle.event_theory.specs.Queues.{Queue, empty_queue}
-use Rattle.event_theory.specs.Results.{change_at}
-use Rattle.event_theory.specs.Runs.{Run}
-use Rattle.event_theory.specs.declared.refusal.Refusal.{Refusal}
-use Rattle.event_theory.specs.declared.hold.Hold.{Hold}
-use Rattle.thread_table.specs.Own.{View}
-use Rattle.thread_table.specs.declared.rule.Claimed.{Claimed}
-use Rattle.thread_table.specs.Schedules.{QueueGrows, Grows, ring_at, thread_at, element_at}
-use Rattle.thread_table.specs.declared.layout.TheConstants.{RINGS, PLACES, NOTIFY}
-use Rattle.thread_table.specs.Layout.{processor_word, state_word, done_word, head_word, tail_word, place_word}
-use Rattle.thread_table.specs.Shown.{WordsShow, RingShows, PlaceShows, StateShows, mark_of}
-use Rattle.thread_table.specs.Rules.{IsClaimed}
+use Rattle.thread_table.proofs.Common.{◌≡◌, ◌≢◌, ℕ, zero, suc, ◌+◌, ◌*◌, ◌%◌, ◌<◌, ◌≤◌, false, List, length, set, get_or, Some, None, Option, slice_get, Result, Ok, refl, sym, ap, subst, ◌∙◌, arith, mod-lt, get_or-set_other, length-set, slice_get-get_or, dite, ℕ_discrete, Elements, holds, Queue, empty_queue, change_at, Run, Refusal, Hold, View, Claimed, QueueGrows, Grows, ring_at, thread_at, RINGS, PLACES, NOTIFY, processor_word, state_word, done_word, head_word, tail_word, place_word, WordsShow, RingShows, PlaceShows, StateShows, mark_of, IsClaimed}
+use Rattle.thread_table.proofs.Schedule.Schedules.{queue_refl}
 use Rattle.thread_table.proofs.Events.Effects.{Leaves}
-
--- an element queue whose words stay is shown as before
-pub ring_kept : (first : ℕ) (e f : Elements) (l : ℕ) (words changed : List ℕ) → ring_at f l ≡ ring_at e l → mark_of f l ≡ mark_of e l
-    → ((k : ℕ) → 66 * l + 137 ≤ k → k < 66 * l + 203 → get_or changed k 0 ≡ get_or words k 0) → RingShows first e l words → RingShows first f l changed
-ring_kept first e f l words changed queue mark same s =
-    let long : length (ring_at f l).history ≡ length (ring_at e l).history = ap (λ (q : Queue). length q.history) queue in
-    let front : (ring_at f l).taken ≡ (ring_at e l).taken = ap (λ (q : Queue). q.taken) queue in
-    record {
-      capacity = ap (λ (q : Queue). q.capacity) queue ∙ s.capacity;
-      is_open = ap (λ (q : Queue). q.shut) queue ∙ s.is_open;
-      single = λ number run at. s.single number run (ap (λ (q : Queue). slice_get q.history number) (sym queue) ∙ at);
-      bounded = omega (arith, long, s.bounded);
-      marked = subst (λ n. n < 4294967296) (sym mark) s.marked;
-      head = same (head_word l) (omega arith) (omega arith) ∙ (s.head ∙ omega (arith, long, mark));
-      tail = same (tail_word l) (omega arith) (omega arith) ∙ (s.tail ∙ omega (arith, front));
-      places = λ run a b.
-          let near : (first + run) % 64 < 64 = mod-lt (first + run) (omega arith) in
-          let r : ℕ = (first + run) % 64 in
-          subst (λ q. PlaceShows first q run (get_or changed (place_word l (first + run)) 0)) (sym queue)
-          (subst (PlaceShows first (ring_at e l) run) (sym (same (place_word l (first + run)) (omega arith) (omega arith)))
-          (s.places run (omega arith) (omega arith)));
-    }
 
 -- an element queue that is known is shown
 pub ring_shown : (first : ℕ) (f : Elements) (l : ℕ) (words : List ℕ) (q : Queue) (mark : ℕ) → ring_at f l ≡ q → mark_of f l ≡ mark → q.capacity ≡ 64 → q.shut ≡ false
@@ -59,14 +22,42 @@ ring_shown first f l words q mark queue is capacity is_open single bounded marke
       places = λ run a b. subst (λ r. PlaceShows first r run (get_or words (place_word l (first + run)) 0)) (sym queue) (places run (omega arith) (omega arith));
     }
 
+-- an element queue whose words stay is shown as before
+pub ring_kept : (first : ℕ) (e f : Elements) (l : ℕ) (words changed : List ℕ) → ring_at f l ≡ ring_at e l → mark_of f l ≡ mark_of e l
+    → ((k : ℕ) → 66 * l + 137 ≤ k → k < 66 * l + 203 → get_or changed k 0 ≡ get_or words k 0) → RingShows first e l words → RingShows first f l changed
+ring_kept first e f l words changed queue mark same s = ring_shown first f l changed (ring_at e l) (mark_of e l) queue mark s.capacity s.is_open s.single s.bounded s.marked
+    (same (head_word l) (omega arith) (omega arith) ∙ s.head) (same (tail_word l) (omega arith) (omega arith) ∙ s.tail)
+    (λ run a b. let near : (first + run) % 64 < 64 = mod-lt (first + run) (omega arith) in let r : ℕ = (first + run) % 64 in
+    subst (PlaceShows first (ring_at e l) run) (sym (same (place_word l (first + run)) (omega arith) (omega arith))) (s.places run a b))
+
 -- the elements where queues, notifies and holds changed
 abbrev pub with_rings : Elements → List Queue → List ℕ → List Hold → Elements
 with_rings e rings notified held = record { threads = e.threads; rings = rings; notified = notified; processors = e.processors; held = held }
 
+-- the marks are those of the notifies
+pub same_mark : (e f : Elements) (ring : ℕ) → f.notified ≡ e.notified → mark_of f ring ≡ mark_of e ring
+same_mark e f zero same = refl
+same_mark e f (suc zero) same = refl
+same_mark e f (suc (suc wait)) same = ap (λ (l : List ℕ). get_or l wait 0) same
+
 pub mark_same : (e : Elements) (rings : List Queue) (held : List Hold) (l : ℕ) → mark_of (with_rings e rings e.notified held) l ≡ mark_of e l
-mark_same e rings held zero = refl
-mark_same e rings held (suc zero) = refl
-mark_same e rings held (suc (suc wait)) = refl
+mark_same e rings held l = same_mark e (with_rings e rings e.notified held) l refl
+
+-- the words of the element queues change, and what they show of them
+pub shows_else : (first : ℕ) (e : Elements) (rings : List Queue) (notified : List ℕ) (held : List Hold) (words changed : List ℕ) → WordsShow first e words → length rings ≡ length e.rings → length notified ≡ length e.notified
+    → length changed ≡ length words → ((k : ℕ) → 1 ≤ k → k < 137 → get_or changed k 0 ≡ get_or words k 0) → ((l : ℕ) → l < RINGS → RingShows first (with_rings e rings notified held) l changed) → WordsShow first (with_rings e rings notified held) changed
+shows_else first e rings notified held words changed s many notes long same shown = record {
+  wide = long ∙ s.wide;
+  threads = s.threads;
+  queues = many ∙ s.queues;
+  waits = notes ∙ s.waits;
+  processors = s.processors;
+  on = λ p below. same (processor_word p) (omega arith) (omega arith) ∙ s.on p below;
+  states = λ x below. subst (StateShows (thread_at e x)) (sym (same (state_word x) (omega arith) (omega arith))) (s.states x below);
+  steps = λ x below. same (done_word x) (omega arith) (omega arith) ∙ s.steps x below;
+  few = s.few;
+  rings = shown;
+}
 
 -- a word of an element queue is written, and the other queues stay
 pub shows_kept : (first : ℕ) (e : Elements) (rings : List Queue) (notified : List ℕ) (held : List Hold) (ring place word : ℕ) (words : List ℕ) → WordsShow first e words
@@ -74,28 +65,12 @@ pub shows_kept : (first : ℕ) (e : Elements) (rings : List Queue) (notified : L
     → ((l : ℕ) → l ≢ ring → ring_at (with_rings e rings notified held) l ≡ ring_at e l) → ((l : ℕ) → l ≢ ring → mark_of (with_rings e rings notified held) l ≡ mark_of e l)
     → RingShows first (with_rings e rings notified held) ring (set words place word) → WordsShow first (with_rings e rings notified held) (set words place word)
 shows_kept first e rings notified held ring place word words s many notes known from to other marks mine =
-    let same : (k : ℕ) → k ≢ place → get_or (set words place word) k 0 ≡ get_or words k 0 = λ k ne. get_or-set_other words place k word 0 ne in record {
-      wide = length-set words place word ∙ s.wide;
-      threads = s.threads;
-      queues = many ∙ s.queues;
-      waits = notes ∙ s.waits;
-      processors = s.processors;
-      on = λ p below. same (processor_word p) (λ is. omega arith) ∙ s.on p below;
-      states = λ x below. subst (StateShows (thread_at e x)) (sym (same (state_word x) (λ is. omega arith))) (s.states x below);
-      steps = λ x below. same (done_word x) (λ is. omega arith) ∙ s.steps x below;
-      few = s.few;
-      rings = λ l below. dite (ℕ_discrete l ring)
-          (λ is. subst (λ n. RingShows first (with_rings e rings notified held) n (set words place word)) (sym is) mine)
-          (λ ne. ring_kept first e (with_rings e rings notified held) l words (set words place word) (other l ne) (marks l ne) (λ k a b. same k (λ is. ne (omega arith))) (s.rings l below));
-    }
+    shows_else first e rings notified held words (set words place word) s many notes (length-set words place word) (λ k low high. get_or-set_other words place k word 0 (λ is. omega arith)) (λ l below. dite (ℕ_discrete l ring)
+    (λ is. subst (λ n. RingShows first (with_rings e rings notified held) n (set words place word)) (sym is) mine)
+    (λ ne. ring_kept first e (with_rings e rings notified held) l words (set words place word) (other l ne) (marks l ne) (λ k a b. get_or-set_other words place k word 0 (λ is. ne (omega arith))) (s.rings l below)))
 
 pub queue_stays : (q r : Queue) → r ≡ q → QueueGrows q r
-queue_stays q r same = record {
-  longer = omega (arith, ap (λ (x : Queue). length x.history) same);
-  further = omega (arith, ap (λ (x : Queue). x.taken) same);
-  items = λ run below. ap (λ x. element_at x run) same;
-  raised = λ run up. ap (λ (x : Queue). x.raised run 0) same ∙ up;
-}
+queue_stays q r same = subst (QueueGrows q) (sym same) (queue_refl q)
 
 -- one queue grew, and the others stay
 pub all_grow : (e f : Elements) (ring : ℕ) → QueueGrows (ring_at e ring) (ring_at f ring) → ((l : ℕ) → l ≢ ring → ring_at f l ≡ ring_at e l) → Grows e f

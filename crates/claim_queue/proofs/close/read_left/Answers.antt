@@ -1,7 +1,5 @@
-use Rattle.std.proofs.Common.{rules, arith, ap, ◌≡◌, ◌∙◌, ◌<◌, ◌-◌, length}
-use Rattle.std.specs.Mem.Slots.{slots_items}
+use Rattle.claim_queue.proofs.Common.{rules, arith, ap, ◌≡◌, ◌∙◌, ◌<◌, ◌-◌, length, slots_items, left_at}
 use Rattle.table_theory.proofs.Reading.{read_length, read_on}
-use Rattle.claim_queue.specs.Closings.{left_at}
 use Rattle.claim_queue.proofs.close.read_left.Goals as goal
 
 pub push-requires : goal.push-requires

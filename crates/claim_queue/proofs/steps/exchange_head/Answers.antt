@@ -1,4 +1,4 @@
-use Rattle.std.proofs.Common.{rules, arith, ap, ◌≡◌}
+use Rattle.claim_queue.proofs.Common.{rules, arith, ap, ◌≡◌}
 use Rattle.std.specs.Prelude.{length}
 use Rattle.claim_queue.proofs.Claiming.{claims_head}
 use Rattle.claim_queue.proofs.steps.exchange_head.Goals as goal

@@ -1,7 +1,4 @@
-use Rattle.std.proofs.Common.{rules, sym, subst, set}
-use Rattle.claim_queue.specs.Own.{View, did_both}
-use Rattle.claim_queue.specs.Rules.{Rule}
-use Rattle.table_theory.specs.Ledgers.{both}
+use Rattle.claim_queue.proofs.Common.{rules, sym, subst, set, View, did_both, Rule, both}
 use Rattle.claim_queue.proofs.Tallying.{joins}
 use Rattle.claim_queue.proofs.steps.take_in.Goals as goal
 
@@ -12,5 +9,5 @@ join_seat-requires g c = (
   search rules,
   search rules,
   λ s k at ne has. subst (λ (w : View). Rule c.args.words.now.key record { words = s.words; homes = s.homes; views = set (set s.views c.args.seat.now.id (both did_both c.args.seat.now.me.0 c.args.other.me.0)) c.args.other.id w }) (sym c.requires.spent)
-      (joins c.args.words.now.key c.args.seat.now.id c.args.other.id c.args.seat.now.me.0 c.args.other.me.0 c.requires.live.0 c.requires.live.1 s k at ne has),
+      (joins c.args.words.now.key c.args.seat.now.id c.args.other.id c.args.seat.now.me.0 c.args.other.me.0 c.requires.live.0 s k at ne has),
 )

@@ -7,6 +7,7 @@ use Rattle.end_steps.proofs.ChainParting.{took_in, still_idle, are_chains_joined
 use Rattle.end_steps.proofs.Chains.{its_end, in_ends, is_idle, ends_same, ends_fit}
 use Rattle.end_steps.proofs.Places.{as_long}
 use Rattle.end_steps.proofs.Walking.{walk_on, walked, same_on, next_of, none_left}
+use Rattle.end_steps.proofs.Accounting.{chain_joined_at}
 use Rattle.end_steps.proofs.chain_splitting.join_chain_ends.Goals as goal
 
 pub join-requires : goal.join-requires
@@ -49,3 +50,6 @@ returns-clause-joined c = let v = c.loop-other.invariant in let none = c.in-None
     let number = v.number in let same = ap length all in
     subst (λ z. AreChainsJoined c.args.ends.now z c.loop-other.ends) all
     (are_chains_joined c.args.ends.now c.loop-other.ends c.loop-other.yielded (walked IsChainJoined c.args.ends.now c.loop-other.ends c.loop-other.yielded c.loop-other.i (omega arith) v.walk))
+
+pub returns-clause-did : goal.returns-clause-did
+returns-clause-did c = chain_joined_at c.args.ends.now c.loop-other.ends c.args.others.items (returns-clause-joined c).each

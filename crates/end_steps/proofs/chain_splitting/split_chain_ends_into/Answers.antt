@@ -7,6 +7,7 @@ use Rattle.end_steps.proofs.ChainParting.{rests, are_chains_split}
 use Rattle.end_steps.proofs.Chains.{its_end, in_ends, is_idle, ends_same, ends_fit}
 use Rattle.end_steps.proofs.Places.{as_long}
 use Rattle.end_steps.proofs.Walking.{AsFar, walk_on, walked, next_holds, same_on, tables_more}
+use Rattle.end_steps.proofs.Accounting.{chain_kept_at, chain_given_at}
 use Rattle.end_steps.proofs.chain_splitting.split_chain_ends_into.Goals as goal
 
 pub split-end-requires-clause-ends : goal.split-end-requires-clause-ends
@@ -34,3 +35,6 @@ loop-i-preserved c = let v = c.loop-i.invariant in let test = c.loop-i-test.true
 pub returns-clause-split : goal.returns-clause-split
 returns-clause-split c = let long = as_long chain_end_table chain_table c.args.ends.now c.args.chains.now c.requires.ends.tables in let past = c.loop-i-test.false in
     are_chains_split c.args.ends.now c.loop-i.ends c.loop-i.born.items (walked IsChainSplit c.args.ends.now c.loop-i.ends c.loop-i.born.items c.loop-i.i (omega arith) c.loop-i.invariant.walk)
+
+pub returns-clause-did : goal.returns-clause-did
+returns-clause-did c = let all = (returns-clause-split c).each in (chain_kept_at c.args.ends.now c.loop-i.ends c.loop-i.born.items all, chain_given_at c.args.ends.now c.loop-i.ends c.loop-i.born.items all)

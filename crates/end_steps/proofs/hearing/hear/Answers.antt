@@ -1,7 +1,8 @@
 use Rattle.std.proofs.Common.{rules}
 use Rattle.end_steps.specs.Deeds.{Heard}
-use Rattle.end_steps.proofs.Using.{its_end, ends_same, ends_fit, used_at, taken_at}
+use Rattle.end_steps.proofs.Using.{its_end, in_ends, ends_same, ends_fit, used_at, taken_at}
 use Rattle.end_steps.proofs.Shares.{heard_long}
+use Rattle.end_steps.proofs.Accounting.{did_at}
 use Rattle.end_steps.proofs.hearing.hear.Goals as goal
 
 pub hear_line-requires : goal.hear_line-requires
@@ -21,3 +22,6 @@ returns-clause-worked g c = taken_at c.args.queues.now c.args.ends.now c.args.in
 
 pub returns-clause-long : goal.returns-clause-long
 returns-clause-long g c = heard_long _ _ c.hear_line.new.line.items c.hear_line.result c.hear_line.ensures.heard
+
+pub returns-clause-did : goal.returns-clause-did
+returns-clause-did g c = did_at c.args.ends.now c.args.index _ _ _ _ _ (in_ends c.args.queues.now c.args.ends.now c.args.index c.requires.ends c.requires.known) c.item_at.ensures.value c.hear_line.ensures.worked

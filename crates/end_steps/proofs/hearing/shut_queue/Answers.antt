@@ -1,6 +1,7 @@
 use Rattle.std.proofs.Common.{arith}
 use Rattle.end_steps.specs.Deeds.{HasShut}
-use Rattle.end_steps.proofs.Using.{its_end, ends_same, ends_fit, used_at, shut_at}
+use Rattle.end_steps.proofs.Using.{its_end, in_ends, ends_same, ends_fit, used_at, shut_at}
+use Rattle.end_steps.proofs.Accounting.{did_at}
 use Rattle.end_steps.proofs.hearing.shut_queue.Goals as goal
 
 pub shut_end-requires : goal.shut_end-requires
@@ -17,3 +18,6 @@ returns-clause-shut g c = used_at c.args.queues.now c.args.ends.now c.args.index
 
 pub returns-clause-worked : goal.returns-clause-worked
 returns-clause-worked g c = shut_at c.args.queues.now c.args.ends.now c.args.index _ _ c.requires.ends c.item_at.ensures.value _ c.requires.known c.shut_end.ensures.worked
+
+pub returns-clause-did : goal.returns-clause-did
+returns-clause-did g c = did_at c.args.ends.now c.args.index _ _ _ _ _ (in_ends c.args.queues.now c.args.ends.now c.args.index c.requires.ends c.requires.known) c.item_at.ensures.value c.shut_end.ensures.worked

@@ -1,4 +1,5 @@
-use Rattle.end_steps.proofs.Chains.{its_world, is_idle, its_end, ends_same, ends_fit, poked_at, worked_at}
+use Rattle.end_steps.proofs.Chains.{its_world, in_ends, is_idle, its_end, ends_same, ends_fit, poked_at, worked_at}
+use Rattle.end_steps.proofs.Accounting.{chain_did_at}
 use Rattle.end_steps.proofs.poking.poke.Goals as goal
 
 pub poke_end-requires-clause-end : goal.poke_end-requires-clause-end
@@ -21,3 +22,6 @@ returns-clause-poked g c = poked_at c.args.chains.now c.args.ends.now c.args.ind
 
 pub returns-clause-worked : goal.returns-clause-worked
 returns-clause-worked g c = worked_at c.args.chains.now c.args.ends.now c.args.index _ _ c.requires.ends c.requires.known c.item_at.ensures.value _ _ c.poke_end.ensures.worked
+
+pub returns-clause-did : goal.returns-clause-did
+returns-clause-did g c = chain_did_at c.args.ends.now c.args.index _ _ _ _ (in_ends c.args.chains.now c.args.ends.now c.args.index c.requires.ends c.requires.known) c.item_at.ensures.value c.poke_end.ensures.worked

@@ -1,6 +1,7 @@
 use Rattle.std.proofs.Common.{arith}
 use Rattle.end_steps.specs.Deeds.{Said}
-use Rattle.end_steps.proofs.Using.{its_end, ends_same, ends_fit, used_at, put_at}
+use Rattle.end_steps.proofs.Using.{its_end, in_ends, ends_same, ends_fit, used_at, put_at}
+use Rattle.end_steps.proofs.Accounting.{did_at}
 use Rattle.end_steps.proofs.saying.say.Goals as goal
 
 pub say_line-requires : goal.say_line-requires
@@ -17,3 +18,6 @@ returns-clause-said g c = used_at c.args.queues.now c.args.ends.now c.args.index
 
 pub returns-clause-worked : goal.returns-clause-worked
 returns-clause-worked g c = put_at c.args.queues.now c.args.ends.now c.args.index _ _ c.requires.ends c.item_at.ensures.value _ c.requires.known c.say_line.ensures.worked
+
+pub returns-clause-did : goal.returns-clause-did
+returns-clause-did g c = did_at c.args.ends.now c.args.index _ _ _ _ _ (in_ends c.args.queues.now c.args.ends.now c.args.index c.requires.ends c.requires.known) c.item_at.ensures.value c.say_line.ensures.worked

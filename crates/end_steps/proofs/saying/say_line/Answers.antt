@@ -1,11 +1,12 @@
 use Rattle.claim_queue.specs.Handles.{view_of}
+use Rattle.claim_queue.proofs.Certain.{distinct_end}
 use Rattle.end_steps.proofs.Shares.{said_put, put_worked, refused_worked}
 use Rattle.end_steps.proofs.saying.say_line.Goals as goal
 
 pub returns-in-Ok-clause-said : goal.returns-in-Ok-clause-said
 returns-in-Ok-clause-said g c = let own = c.in-Ok.ensures.own in (
   c.in-Ok.claim.start,
-  said_put g.row.N (view_of c.args.end.now) (view_of c.try_claim.new.end) (view_of c.raise_all.new.end) _ _ _ _ own.0 own.1 c.try_claim.new.end.distinct own.2 c.in-Ok.ensures.steps c.raise_all.ensures.raised,
+  said_put g.row.N (view_of c.args.end.now) (view_of c.try_claim.new.end) (view_of c.raise_all.new.end) _ _ _ _ own.0 own.1 (distinct_end c.try_claim.new.end) own.2 c.in-Ok.ensures.steps c.raise_all.ensures.raised,
 )
 
 pub returns-in-Ok-clause-worked : goal.returns-in-Ok-clause-worked

@@ -8,6 +8,7 @@ use Rattle.end_steps.proofs.Parting.{are_joined}
 use Rattle.end_steps.proofs.Places.{as_long, same_at}
 use Rattle.end_steps.proofs.Using.{its_end, in_ends, ends_same}
 use Rattle.end_steps.proofs.Walking.{walk_on, walked, same_on, next_of, none_left}
+use Rattle.end_steps.proofs.Accounting.{joined_at}
 use Rattle.end_steps.proofs.splitting.join_ends.Goals as goal
 
 pub join-requires : goal.join-requires
@@ -50,3 +51,6 @@ returns-clause-joined g c = let v = c.loop-other.invariant in let none = c.in-No
     let number = v.number in let same = ap length all in
     subst (λ (z : List (QueueEnd g.row.N)). AreJoined c.args.ends.now z c.loop-other.ends) all
     (are_joined c.args.ends.now c.loop-other.ends c.loop-other.yielded (walked IsJoined c.args.ends.now c.loop-other.ends c.loop-other.yielded c.loop-other.i (omega arith) v.walk))
+
+pub returns-clause-did : goal.returns-clause-did
+returns-clause-did g c = joined_at c.args.ends.now c.loop-other.ends c.args.others.items (returns-clause-joined g c).each

@@ -6,6 +6,7 @@ use Rattle.end_steps.proofs.Parting.{are_split}
 use Rattle.end_steps.proofs.Places.{as_long}
 use Rattle.end_steps.proofs.Using.{its_end, in_ends, ends_same}
 use Rattle.end_steps.proofs.Walking.{AsFar, walk_on, walked, next_holds, same_on, tables_more}
+use Rattle.end_steps.proofs.Accounting.{kept_at, given_at}
 use Rattle.end_steps.proofs.splitting.split_ends_into.Goals as goal
 
 pub split-end-requires : goal.split-end-requires
@@ -35,3 +36,6 @@ loop-i-preserved g c = let v = c.loop-i.invariant in let fit = v.same.tables ∙
 pub returns-clause-split : goal.returns-clause-split
 returns-clause-split g c = let long = as_long end_table queue_table c.args.ends.now c.args.queues.now c.requires.ends in let past = c.loop-i-test.false in
     are_split c.args.ends.now c.loop-i.ends c.loop-i.born.items (walked IsSplit c.args.ends.now c.loop-i.ends c.loop-i.born.items c.loop-i.i (omega arith) c.loop-i.invariant.walk)
+
+pub returns-clause-did : goal.returns-clause-did
+returns-clause-did g c = let all = (returns-clause-split g c).each in (kept_at c.args.ends.now c.loop-i.ends c.loop-i.born.items all, given_at c.args.ends.now c.loop-i.ends c.loop-i.born.items all)

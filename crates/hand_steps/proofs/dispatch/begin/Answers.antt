@@ -36,4 +36,4 @@ returns-clause-steady g c = let h = c.args.hand.now in let n = c.pc-number.new.h
     let k : Began (call_of h) b (view_of h) (view_of n) = search rules in steady (one_delivery b.element (mask_of b.delivered)) (view_of h) (view_of n) (λ e. refl) h.fresh h.told n.told (began_is (call_of h) b (view_of h) (view_of n) k).0
 
 pub returns-clause-number : goal.returns-clause-number
-returns-clause-number g c = let n = c.pc-number.new.hand in found_steps c.in-Ok.element c.pc-number.result (view_of c.deliver-delivered.new.hand) (view_of n) n.told c.pc-number.ensures.counted
+returns-clause-number g c = let n = c.pc-number.new.hand in found_steps c.in-Ok.element c.pc-number.result (view_of c.deliver-delivered.new.hand) (view_of n) n.told c.pc-number.ensures.steps

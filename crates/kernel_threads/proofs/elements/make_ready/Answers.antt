@@ -7,7 +7,7 @@ pub loop-init : goal.loop-init
 loop-init g c = record { steps = search rules; its = search rules; same = (refl, refl); waits = waits_none (view_of c.args.hand.now); holds = search rules }
 
 pub loop-preserved : goal.loop-preserved
-loop-preserved g c = let s = move_waits (call_of c.loop.hand) 0 c.args.element (view_of c.loop.hand) (view_of c.try_ready.new.hand) _ c.try_ready.new.hand.told c.in-Err.ensures.moved in record {
+loop-preserved g c = let s = move_waits (call_of c.loop.hand) 0 c.args.element (view_of c.loop.hand) (view_of c.try_ready.new.hand) _ c.try_ready.new.hand.told c.in-Err.ensures.steps in record {
   steps = search rules;
   its = search rules;
   same = search rules;
@@ -16,4 +16,4 @@ loop-preserved g c = let s = move_waits (call_of c.loop.hand) 0 c.args.element (
 }
 
 pub returns-in-Ok-clause-ready : goal.returns-in-Ok-clause-ready
-returns-in-Ok-clause-ready g c = ready_moved (call_of c.loop.hand) c.args.element (view_of c.args.hand.now) (view_of c.loop.hand) (view_of c.try_ready.new.hand) c.try_ready.new.hand.told c.loop.invariant.holds c.loop.invariant.waits c.in-Ok.ensures.moved
+returns-in-Ok-clause-ready g c = ready_moved (call_of c.loop.hand) c.args.element (view_of c.args.hand.now) (view_of c.loop.hand) (view_of c.try_ready.new.hand) c.try_ready.new.hand.told c.loop.invariant.holds c.loop.invariant.waits c.in-Ok.ensures.steps

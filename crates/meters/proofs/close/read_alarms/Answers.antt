@@ -1,7 +1,4 @@
-use Rattle.std.proofs.Common.{ap, sym, ◌∙◌, arith, ◌≡◌, ◌++◌, ◌∷◌, [], ℕ, length, List, append-nil}
-use Rattle.std.specs.Mem.Slots.{slots_items}
-use Rattle.event_theory.specs.declared.alarm.Alarm.{Alarm}
-use Rattle.meters.specs.Words.{standing}
+use Rattle.meters.proofs.Common.{ap, sym, ◌∙◌, arith, ◌≡◌, ◌++◌, ◌∷◌, [], ℕ, length, List, append-nil, slots_items, Alarm, standing}
 use Rattle.meters.proofs.Settling.{slot_read, read_on}
 use Rattle.meters.proofs.close.read_alarms.Goals.{in-Some, in_default}
 use Rattle.meters.proofs.close.read_alarms.Goals as goal

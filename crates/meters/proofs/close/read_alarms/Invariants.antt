@@ -1,7 +1,4 @@
-use Rattle.std.proofs.Common.{◌≡◌, ◌≤◌, List, length, take, Option}
-use Rattle.std.specs.Mem.Slots.{slots_items}
-use Rattle.event_theory.specs.declared.alarm.Alarm.{Alarm}
-use Rattle.meters.specs.Words.{SlotsShow, standing}
+use Rattle.meters.proofs.Common.{◌≡◌, ◌≤◌, List, length, take, Option, slots_items, Alarm, SlotsShow, standing}
 use Rattle.meters.proofs.close.read_alarms.Given as goal
 
 abbrev pub invariant-loop-slot : goal.invariant-loop-slot

@@ -1,6 +1,7 @@
-use Rattle.std.proofs.Common.{sym, ◌∙◌, length-set}
+use Rattle.meters.proofs.Common.{sym, ◌∙◌, arith, length-set}
 use Rattle.std.specs.Mem.Slots.{slots_counts}
-use Rattle.meters.proofs.Settling.{gauge_read, all_read}
+use Rattle.meters.proofs.Settling.{gauge_read}
+use Rattle.meters.proofs.Betweens.{gauges_by}
 use Rattle.meters.proofs.close.read_gauges.Goals as goal
 
 pub loop-gauge-preserved : goal.loop-gauge-preserved
@@ -10,4 +11,4 @@ loop-gauge-preserved c = let old = c.loop-gauge.invariant in record {
 }
 
 pub returns : goal.returns
-returns c = let old = c.loop-gauge.invariant in all_read _ _ _ (sym (slots_counts c.args.closed.now.words).0 ∙ c.requires.0) old.eight c.loop-gauge-test.false old.each
+returns c = let old = c.loop-gauge.invariant in let past = c.loop-gauge-test.false in gauges_by _ _ (sym (slots_counts c.args.closed.now.words).0 ∙ c.requires.0) old.eight (λ g b. old.each g (omega arith))

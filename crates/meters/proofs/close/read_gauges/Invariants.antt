@@ -1,5 +1,4 @@
-use Rattle.std.proofs.Common.{◌≡◌, ◌+◌, ◌<◌, ℕ, length, get_or}
-use Rattle.std.specs.Mem.Slots.{slots_items}
+use Rattle.meters.proofs.Common.{◌≡◌, ◌+◌, ◌<◌, ℕ, length, get_or, slots_items}
 use Rattle.meters.proofs.close.read_gauges.Given as goal
 
 abbrev pub invariant-loop-gauge : goal.invariant-loop-gauge

@@ -1,5 +1,5 @@
-use Rattle.std.proofs.Common.{rules}
-use Rattle.meters.proofs.Tallying.{tallies}
+use Rattle.meters.proofs.Common.{rules}
+use Rattle.meters.proofs.Stepping.{tallies}
 use Rattle.meters.proofs.steps.count.Goals as goal
 
 pub load-requires : goal.load-requires

@@ -1,5 +1,5 @@
-use Rattle.std.proofs.Common.{rules}
-use Rattle.meters.proofs.Tallying.{downs}
+use Rattle.meters.proofs.Common.{rules}
+use Rattle.meters.proofs.Stepping.{downs}
 use Rattle.meters.proofs.steps.count_down.Goals as goal
 
 pub fetch_sub-requires : goal.fetch_sub-requires

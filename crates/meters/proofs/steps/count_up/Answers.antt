@@ -1,5 +1,5 @@
-use Rattle.std.proofs.Common.{rules}
-use Rattle.meters.proofs.Tallying.{ups}
+use Rattle.meters.proofs.Common.{rules}
+use Rattle.meters.proofs.Stepping.{ups}
 use Rattle.meters.proofs.steps.count_up.Goals as goal
 
 pub fetch_add-requires : goal.fetch_add-requires

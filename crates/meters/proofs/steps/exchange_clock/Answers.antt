@@ -1,12 +1,10 @@
-use Rattle.std.proofs.Common.{rules, arith, ◌<◌, ℕ}
-use mathlib.Core.Logic.{dite}
-use native.Mathlib.Decide.{ℕ_discrete}
+use Rattle.meters.proofs.Common.{rules, arith, ◌<◌, ℕ, dite, ℕ_discrete}
 use Rattle.meters.proofs.Clocks.{clock_found}
 use Rattle.meters.proofs.Stepping.{advances_clock}
 use Rattle.meters.proofs.steps.exchange_clock.Goals as goal
 
 pub compare_exchange-requires : goal.compare_exchange-requires
-compare_exchange-requires c = (search rules, search rules, advances_clock _ _ _ _ _ c.requires.below c.requires.live)
+compare_exchange-requires c = (search rules, search rules, advances_clock _ _ _ _ c.requires.seat.2 _ c.requires.below)
 
 pub returns-clause-miss : goal.returns-clause-miss
 returns-clause-miss c = λ miss. let t = c.compare_exchange.ensures.2 in let s = t.2 miss in (s, (clock_found _ _ _ t.0.1 s).0)

@@ -1,5 +1,5 @@
-use Rattle.std.proofs.Common.{rules}
-use Rattle.meters.proofs.Tallying.{splits}
+use Rattle.meters.proofs.Common.{rules}
+use Rattle.meters.proofs.Stepping.{splits}
 use Rattle.meters.proofs.steps.split_off.Goals as goal
 
 pub split_seat-requires : goal.split_seat-requires

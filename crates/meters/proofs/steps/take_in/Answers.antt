@@ -1,8 +1,5 @@
-use Rattle.std.proofs.Common.{rules, sym, subst, set}
-use Rattle.meters.specs.Rules.{Rule}
-use Rattle.table_theory.specs.Ledgers.{both}
-use Rattle.meters.specs.Own.{SeatView, did_both}
-use Rattle.meters.proofs.Tallying.{joins}
+use Rattle.meters.proofs.Common.{rules, sym, subst, set, Rule, both, SeatView, did_both}
+use Rattle.meters.proofs.Stepping.{joins}
 use Rattle.meters.proofs.steps.take_in.Goals as goal
 
 pub join_seat-requires : goal.join_seat-requires
@@ -12,5 +9,5 @@ join_seat-requires g c = (
   search rules,
   search rules,
   λ s k at ne has. subst (λ (w : SeatView). Rule c.args.words.now.key record { words = s.words; homes = s.homes; views = set (set s.views c.args.seat.now.id (both did_both c.args.seat.now.me.0 c.args.other.me.0)) c.args.other.id w }) (sym c.requires.spent)
-      (joins c.args.words.now.key c.args.seat.now.id c.args.other.id c.args.seat.now.me.0 c.args.other.me.0 c.requires.live.0 c.requires.live.1 s k at ne has),
+      (joins c.args.words.now.key c.args.seat.now.id c.args.other.id c.args.seat.now.me.0 c.args.other.me.0 c.requires.live.0 s k at ne has),
 )

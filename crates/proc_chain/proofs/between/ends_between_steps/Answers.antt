@@ -1,4 +1,4 @@
-use Rattle.proc_chain.specs.Rules.{suits, makes}
+use Rattle.proc_chain.proofs.Common.{suits, makes}
 use Rattle.proc_chain.proofs.Betweens.{shows_chain, shows_ends}
 use Rattle.proc_chain.proofs.between.ends_between_steps.Goals as goal
 

@@ -1,6 +1,4 @@
-use Rattle.std.proofs.Common.{◌≡◌, ◌-◌}
-use Rattle.std.specs.Mem.Slots.{slots_items}
-use Rattle.proc_chain.specs.Closings.{left_from}
+use Rattle.proc_chain.proofs.Common.{◌≡◌, ◌-◌, slots_items, left_from}
 use Rattle.proc_chain.proofs.close.read_left.Given as goal
 
 abbrev pub invariant-loop-position : goal.invariant-loop-position

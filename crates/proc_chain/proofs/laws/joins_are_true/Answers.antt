@@ -1,11 +1,7 @@
+use Rattle.proc_chain.proofs.Common.{∥∥₁_elim, ∥∥₁_map, both, entries_real, reaches_one, ends_word, of_chains, did_both, view_of, IsTold}
 use Rattle.std.specs.Prelude.{[], ◌∷◌}
-use Rattle.std.proofs.Math.Logic.{∥∥₁_elim, ∥∥₁_map}
-use Rattle.table_theory.specs.Ledgers.{both, count_down}
-use Rattle.table_theory.proofs.Reaching.{entries_real, reaches_one, reaches_other}
-use Rattle.proc_chain.specs.Layout.{ends_word}
-use Rattle.proc_chain.specs.Own.{of_chains, did_both}
-use Rattle.proc_chain.specs.Handles.{view_of}
-use Rattle.proc_chain.specs.Rules.{IsTold}
+use Rattle.table_theory.specs.Ledgers.{count_down}
+use Rattle.table_theory.proofs.Reaching.{reaches_other}
 use Rattle.proc_chain.proofs.laws.joins_are_true.Goals as goal
 
 pub returns-clause-since : goal.returns-clause-since

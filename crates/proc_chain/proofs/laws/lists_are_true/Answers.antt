@@ -1,10 +1,7 @@
-use Rattle.std.proofs.Math.Logic.{∥∥₁_elim, ∥∥₁_map}
-use Rattle.table_theory.proofs.Reaching.{entries_real, passes_since, alone_since, reaches_since}
-use Rattle.proc_chain.specs.Own.{of_chains}
-use Rattle.proc_chain.specs.Handles.{view_of}
-use Rattle.proc_chain.specs.Rules.{IsTold}
-use Rattle.proc_chain.proofs.Becoming.{real_lawful, reaches_grow}
-use Rattle.proc_chain.proofs.Lawful.{real_change}
+use Rattle.proc_chain.proofs.Common.{∥∥₁_elim, ∥∥₁_map, entries_real, passes_since, alone_since, of_chains, view_of, IsTold}
+use Rattle.table_theory.proofs.Reaching.{reaches_since}
+use Rattle.proc_chain.proofs.Becoming.{reaches_grow}
+use Rattle.table_theory.proofs.Saying.{real_change}
 use Rattle.proc_chain.proofs.laws.lists_are_true.Goals as goal
 
 pub returns-clause-end : goal.returns-clause-end
@@ -26,7 +23,4 @@ pub returns-clause-grows : goal.returns-clause-grows
 returns-clause-grows g c = reaches_grow
 
 pub returns-clause-change : goal.returns-clause-change
-returns-clause-change g c = real_change
-
-pub returns-clause-lawful : goal.returns-clause-lawful
-returns-clause-lawful g c = real_lawful
+returns-clause-change g c = real_change of_chains

@@ -1,13 +1,10 @@
-use Rattle.std.proofs.Common.{◌+◌, ◌<◌, arith}
-use Rattle.proc_chain.proofs.Finding.{head_says, tail_says, gate_says, mark_says, note_says, low_says}
-use Rattle.proc_chain.proofs.Lawful.{ends_say}
+use Rattle.proc_chain.proofs.Common.{◌+◌, ◌<◌, arith, of_chains}
+use Rattle.proc_chain.proofs.Finding.{tail_says, gate_says, mark_says, note_says, low_says}
+use Rattle.table_theory.proofs.Saying.{ends_say}
 use Rattle.proc_chain.proofs.laws.numbers_say.Goals as goal
 
 pub returns-clause-ends : goal.returns-clause-ends
-returns-clause-ends c = ends_say
-
-pub returns-clause-head : goal.returns-clause-head
-returns-clause-head c = λ e is r. let f = head_says e is r in let b = r.shows.0.bounded in (f, omega arith)
+returns-clause-ends c = ends_say of_chains
 
 pub returns-clause-tail : goal.returns-clause-tail
 returns-clause-tail c = tail_says

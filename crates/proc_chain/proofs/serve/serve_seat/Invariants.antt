@@ -1,4 +1,4 @@
-use Rattle.proc_chain.specs.Rules.{suits, makes}
+use Rattle.proc_chain.proofs.Common.{suits, makes}
 use Rattle.proc_chain.proofs.Rounds.{InRounds}
 use Rattle.proc_chain.proofs.serve.serve_seat.Given as goal
 

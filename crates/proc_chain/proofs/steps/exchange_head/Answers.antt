@@ -1,5 +1,4 @@
-use Rattle.std.proofs.Common.{rules, arith, refl, subst, sym, ◌<◌, ℕ}
-use Rattle.proc_chain.proofs.Finding.{head_found}
+use Rattle.proc_chain.proofs.Common.{rules, arith, refl, subst, sym, ◌<◌, ℕ}
 use Rattle.proc_chain.proofs.Stepping.{claims_head}
 use Rattle.proc_chain.proofs.steps.exchange_head.Goals as goal
 
@@ -9,6 +8,3 @@ compare_exchange-requires g c = let room = c.requires.room in let bounded = c.re
   search rules,
   claims_head _ _ _ _ _ _ _ _ _ (subst (λ (z : ℕ). z < 65536) (sym c.requires.note) (omega arith)) refl bounded room c.requires.live,
 )
-
-pub returns-clause-miss : goal.returns-clause-miss
-returns-clause-miss g c = λ ne. let f = c.compare_exchange.ensures.2.2 ne in (f, (head_found _ _ _ f).0)

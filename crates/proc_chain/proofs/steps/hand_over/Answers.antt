@@ -1,4 +1,4 @@
-use Rattle.std.proofs.Common.{rules}
+use Rattle.proc_chain.proofs.Common.{rules}
 use Rattle.proc_chain.proofs.Handing.{hands_over}
 use Rattle.proc_chain.proofs.steps.hand_over.Goals as goal
 

@@ -1,4 +1,4 @@
-use Rattle.std.proofs.Common.{rules}
+use Rattle.proc_chain.proofs.Common.{rules}
 use Rattle.proc_chain.proofs.Stepping.{notifies_gate}
 use Rattle.proc_chain.proofs.steps.swap_more.Goals as goal
 

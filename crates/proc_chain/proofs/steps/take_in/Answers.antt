@@ -1,8 +1,4 @@
-use Rattle.std.proofs.Common.{rules, subst, sym}
-use Rattle.atomic_table.specs.Table.{Joins}
-use Rattle.table_theory.specs.Ledgers.{both}
-use Rattle.proc_chain.specs.Own.{did_both}
-use Rattle.proc_chain.specs.Rules.{suits, makes, Rule}
+use Rattle.proc_chain.proofs.Common.{rules, subst, sym, Joins, both, did_both, suits, makes, Rule}
 use Rattle.proc_chain.proofs.Tallying.{joins}
 use Rattle.proc_chain.proofs.steps.take_in.Goals as goal
 

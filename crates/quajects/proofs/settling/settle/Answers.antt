@@ -1,13 +1,16 @@
 use Rattle.std.proofs.Common.{◌∙◌}
 use Rattle.claim_queue.specs.Handles.{view_of}
-use Rattle.quajects.proofs.Joining.{settled_now, still_open, both_err, if_ok, if_err}
+use Rattle.quajects.proofs.Joining.{settled_now, still_open, if_ok, if_err}
 use Rattle.quajects.proofs.settling.settle.Goals as goal
 
 pub returns-clause-closed : goal.returns-clause-closed
 returns-clause-closed g c = if_ok c.close.result c.close.ensures.closed (λ closed h. (h.0, settled_now _ (view_of c.join_all.new.end) _ _ _ _ c.join_all.ensures.joined h.1))
 
-pub returns-clause-open : goal.returns-clause-open
-returns-clause-open g c = if_err c.close.result (both_err _ _ c.close.result c.close.ensures.same c.close.ensures.steps) (λ found h. (h.0.0, (h.0.1.0 ∙ c.join_all.ensures.same.0, h.0.1.1 ∙ c.join_all.ensures.same.1), still_open _ (view_of c.join_all.new.end) _ _ c.join_all.ensures.joined h.1))
+pub returns-clause-steps : goal.returns-clause-steps
+returns-clause-steps g c = if_err c.close.result c.close.ensures.steps (λ found h. still_open _ (view_of c.join_all.new.end) _ _ c.join_all.ensures.joined h)
+
+pub returns-clause-same : goal.returns-clause-same
+returns-clause-same g c = if_err c.close.result c.close.ensures.same (λ found h. (h.0, (h.1.0 ∙ c.join_all.ensures.same.0, h.1.1 ∙ c.join_all.ensures.same.1)))
 
 pub returns-clause-only : goal.returns-clause-only
 returns-clause-only g c = λ whole. c.close.ensures.only (c.join_all.ensures.joined.share ∙ whole)

@@ -1,6 +1,4 @@
-use Rattle.std.proofs.Common.{rules, sym, ◌≡◌, ◌+◌, ℕ}
-use Rattle.std.specs.Mem.Slots.{slots_items}
-use Rattle.thread_table.specs.Closings.{word_at}
+use Rattle.thread_table.proofs.Common.{rules, sym, ◌≡◌, ◌+◌, ℕ, slots_items, word_at}
 use Rattle.thread_table.proofs.Closing.Locating.{filled_next, read_there}
 use Rattle.thread_table.proofs.close.read_pcs.Goals as goal
 

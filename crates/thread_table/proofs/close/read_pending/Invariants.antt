@@ -1,6 +1,4 @@
-use Rattle.std.proofs.Common.{◌≡◌, ◌+◌, ◌%◌, ◌<◌, ℕ, get_or, length}
-use Rattle.std.specs.Mem.Slots.{slots_items}
-use Rattle.thread_table.specs.Closings.{word_at}
+use Rattle.thread_table.proofs.Common.{◌≡◌, ◌+◌, ◌%◌, ◌<◌, ℕ, get_or, length, slots_items, word_at}
 use Rattle.thread_table.proofs.close.read_pending.Given as goal
 
 abbrev pub invariant-loop-element : goal.invariant-loop-element

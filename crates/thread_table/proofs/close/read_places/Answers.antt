@@ -1,7 +1,4 @@
-use Rattle.std.proofs.Common.{rules, ℕ}
-use Rattle.std.specs.Mem.Slots.{slots_items}
-use Rattle.thread_table.specs.Closings.{PlaceOf}
-use Rattle.thread_table.specs.declared.places.Place.{Place}
+use Rattle.thread_table.proofs.Common.{rules, ℕ, slots_items, PlaceOf, Place}
 use Rattle.thread_table.specs.declared.places.Place.TheVariants as places
 use Rattle.thread_table.proofs.Closing.Locating.{filled_next}
 use Rattle.thread_table.proofs.close.read_places.Goals as goal

@@ -1,6 +1,4 @@
-use Rattle.std.proofs.Common.{◌≡◌, ◌<◌, ℕ, get_or, length}
-use Rattle.std.specs.Mem.Slots.{slots_items}
-use Rattle.thread_table.specs.Closings.{PlaceOf}
+use Rattle.thread_table.proofs.Common.{◌≡◌, ◌<◌, ℕ, get_or, length, slots_items, PlaceOf}
 use Rattle.thread_table.specs.declared.places.Place.TheVariants as places
 use Rattle.thread_table.proofs.close.read_places.Given as goal
 

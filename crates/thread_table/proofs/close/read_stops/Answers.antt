@@ -1,7 +1,4 @@
-use Rattle.std.proofs.Common.{sym, ap, ◌+◌, ◌∙◌, ℕ}
-use Rattle.std.specs.Int.{bit_at}
-use Rattle.std.specs.Mem.Slots.{slots_items}
-use Rattle.thread_table.specs.Closings.{word_at}
+use Rattle.thread_table.proofs.Common.{sym, ap, ◌+◌, ◌∙◌, ℕ, bit_at, slots_items, word_at}
 use Rattle.thread_table.proofs.Closing.Locating.{bit_next_one, bit_next_zero}
 use Rattle.thread_table.proofs.close.read_stops.Goals.{then-is_stopping, else-is_stopping}
 use Rattle.thread_table.proofs.close.read_stops.Goals as goal

@@ -1,7 +1,4 @@
-use Rattle.std.proofs.Common.{◌+◌, ℕ}
-use Rattle.std.specs.Int.{bit_at}
-use Rattle.std.specs.Mem.Slots.{slots_items}
-use Rattle.thread_table.specs.Closings.{word_at}
+use Rattle.thread_table.proofs.Common.{◌+◌, ℕ, bit_at, slots_items, word_at}
 use Rattle.thread_table.proofs.Closing.Locating.{BitsBelow}
 use Rattle.thread_table.proofs.close.read_stops.Given as goal
 

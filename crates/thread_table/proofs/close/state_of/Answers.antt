@@ -1,5 +1,4 @@
-use Rattle.std.proofs.Common.{sym, ◌+◌}
-use Rattle.std.specs.Mem.Slots.{slots_items}
+use Rattle.thread_table.proofs.Common.{sym, ◌+◌, slots_items}
 use Rattle.thread_table.proofs.Closing.Locating.{read_there}
 use Rattle.thread_table.proofs.close.state_of.Goals as goal
 

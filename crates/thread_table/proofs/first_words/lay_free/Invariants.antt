@@ -1,4 +1,4 @@
-use Rattle.thread_table.specs.Laid.{ItemsLaid}
+use Rattle.thread_table.proofs.Common.{ItemsLaid}
 use Rattle.thread_table.proofs.first_words.lay_free.Given as goal
 
 -- the elements so far are laid

@@ -1,4 +1,4 @@
-use Rattle.thread_table.specs.Laid.{RingsLaid}
+use Rattle.thread_table.proofs.Common.{RingsLaid}
 use Rattle.thread_table.proofs.first_words.lay_rings.Given as goal
 
 -- the rings so far are laid

@@ -1,5 +1,4 @@
-use Rattle.std.proofs.Common.{◌∙◌, sym, arith, false, List, Bool}
-use Rattle.thread_table.specs.Steps.{either}
+use Rattle.thread_table.proofs.Common.{◌∙◌, sym, arith, false, List, Bool, either}
 use Rattle.thread_table.proofs.Lists.Entries.{either_at, put_all, length-either, get_or-either}
 use Rattle.thread_table.proofs.hand.either.Goals as goal
 

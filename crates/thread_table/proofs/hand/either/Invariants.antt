@@ -1,4 +1,4 @@
-use Rattle.std.proofs.Common.{false}
+use Rattle.thread_table.proofs.Common.{false}
 use Rattle.thread_table.proofs.Lists.Entries.{ArePut, either_at}
 use Rattle.thread_table.proofs.hand.either.Given as goal
 

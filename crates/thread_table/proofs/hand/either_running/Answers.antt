@@ -1,6 +1,4 @@
-use Rattle.std.proofs.Common.{◌∙◌, sym, arith, ℕ, List, Option, None}
-use Rattle.thread_table.specs.Rules.{nothing_on}
-use Rattle.thread_table.specs.Steps.{either_on}
+use Rattle.thread_table.proofs.Common.{◌∙◌, sym, arith, ℕ, List, Option, None, nothing_on, either_on}
 use Rattle.thread_table.proofs.Lists.Entries.{on_at, put_all, length-either_on, get_or-either_on}
 use Rattle.thread_table.proofs.hand.either_running.Goals as goal
 

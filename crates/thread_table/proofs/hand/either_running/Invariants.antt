@@ -1,5 +1,4 @@
-use Rattle.std.proofs.Common.{None}
-use Rattle.thread_table.specs.Rules.{nothing_on}
+use Rattle.thread_table.proofs.Common.{None, nothing_on}
 use Rattle.thread_table.proofs.Lists.Entries.{ArePut, on_at}
 use Rattle.thread_table.proofs.hand.either_running.Given as goal
 

@@ -1,5 +1,4 @@
-use Rattle.std.proofs.Common.{◌==◌, ◌∙◌, ap, sym, inl, inr, arith, ℕ, false}
-use Rattle.std.proofs.lemmas.Bool.{cases_lt}
+use Rattle.thread_table.proofs.Common.{◌==◌, ◌∙◌, ap, sym, inl, inr, arith, ℕ, false, cases_lt}
 use Rattle.std.proofs.lemmas.List.{get_or_past}
 use Rattle.std.proofs.lemmas.Nat.Bits.{bit_at_above}
 use Rattle.thread_table.proofs.hand.marks_of.Goals as goal

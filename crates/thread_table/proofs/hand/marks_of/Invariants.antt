@@ -1,6 +1,4 @@
-use Rattle.std.proofs.Common.{false, [], ◌∷◌}
-use Rattle.std.specs.List.{repeat}
-use Rattle.thread_table.specs.Answers.{is_in}
+use Rattle.thread_table.proofs.Common.{false, [], ◌∷◌, repeat, is_in}
 use Rattle.thread_table.proofs.Lists.Entries.{ArePut}
 use Rattle.thread_table.proofs.hand.marks_of.Given as goal
 

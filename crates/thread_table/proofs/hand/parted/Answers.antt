@@ -1,5 +1,4 @@
-use Rattle.std.proofs.Common.{arith, false, List, Bool}
-use Rattle.thread_table.specs.Steps.{parted}
+use Rattle.thread_table.proofs.Common.{arith, false, List, Bool, parted}
 use Rattle.thread_table.proofs.Lists.Entries.{parted_at, put_all, length-parted, get_or-parted}
 use Rattle.thread_table.proofs.hand.parted.Goals as goal
 

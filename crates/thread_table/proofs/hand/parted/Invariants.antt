@@ -1,4 +1,4 @@
-use Rattle.std.proofs.Common.{false}
+use Rattle.thread_table.proofs.Common.{false}
 use Rattle.thread_table.proofs.Lists.Entries.{ArePut, parted_at}
 use Rattle.thread_table.proofs.hand.parted.Given as goal
 

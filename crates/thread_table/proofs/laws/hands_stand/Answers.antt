@@ -1,4 +1,4 @@
-use Rattle.std.proofs.Math.Logic.{∥∥₁_map}
+use Rattle.thread_table.proofs.Common.{∥∥₁_map}
 use Rattle.thread_table.proofs.laws.hands_stand.Goals as goal
 
 pub returns : goal.returns

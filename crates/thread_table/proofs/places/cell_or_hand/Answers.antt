@@ -1,7 +1,4 @@
-use Rattle.std.proofs.Common.{sym, subst, ◌≡◌, ◌+◌, ◌==◌, ℕ, None}
-use Rattle.std.specs.Int.{bit_at}
-use Rattle.std.specs.Mem.Slots.{slots_items}
-use Rattle.thread_table.specs.Closings.{place_by}
+use Rattle.thread_table.proofs.Common.{sym, subst, ◌≡◌, ◌+◌, ◌==◌, ℕ, None, bit_at, slots_items, place_by}
 use Rattle.thread_table.specs.declared.places.Place.TheVariants as places
 use Rattle.thread_table.proofs.Closing.Locating.{read_there, cell, hand}
 use Rattle.thread_table.proofs.places.cell_or_hand.Goals as goal

@@ -1,4 +1,4 @@
-use Rattle.std.specs.Mem.Slots.{slots_items}
+use Rattle.thread_table.proofs.Common.{slots_items}
 use Rattle.thread_table.proofs.Closing.Locating.{NotBefore}
 use Rattle.thread_table.proofs.places.is_in_ring.Given as goal
 

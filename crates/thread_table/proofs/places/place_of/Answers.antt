@@ -1,4 +1,4 @@
-use Rattle.std.specs.Mem.Slots.{slots_items}
+use Rattle.thread_table.proofs.Common.{slots_items}
 use Rattle.thread_table.proofs.Closing.Locating.{on_its_processor}
 use Rattle.thread_table.proofs.places.place_of.Goals as goal
 

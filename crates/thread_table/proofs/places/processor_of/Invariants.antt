@@ -1,6 +1,4 @@
-use Rattle.std.proofs.Common.{◌≢◌, ◌+◌, ◌<◌, ℕ}
-use Rattle.std.specs.Mem.Slots.{slots_items}
-use Rattle.thread_table.specs.Closings.{word_at}
+use Rattle.thread_table.proofs.Common.{◌≢◌, ◌+◌, ◌<◌, ℕ, slots_items, word_at}
 use Rattle.thread_table.proofs.places.processor_of.Given as goal
 
 abbrev pub invariant-loop-p : goal.invariant-loop-p

@@ -1,4 +1,4 @@
-use Rattle.std.proofs.Common.{rules}
+use Rattle.thread_table.proofs.Common.{rules}
 use Rattle.thread_table.proofs.Hands.CountSteps.{downs}
 use Rattle.thread_table.proofs.Hands.Looks.{stood}
 use Rattle.thread_table.proofs.steps.count_down.Goals as goal

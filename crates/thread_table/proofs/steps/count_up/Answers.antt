@@ -1,4 +1,4 @@
-use Rattle.std.proofs.Common.{rules}
+use Rattle.thread_table.proofs.Common.{rules}
 use Rattle.thread_table.proofs.Hands.CountSteps.{ups}
 use Rattle.thread_table.proofs.Hands.Looks.{stood}
 use Rattle.thread_table.proofs.steps.count_up.Goals as goal

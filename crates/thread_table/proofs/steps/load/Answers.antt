@@ -1,4 +1,4 @@
-use Rattle.std.proofs.Common.{rules}
+use Rattle.thread_table.proofs.Common.{rules}
 use Rattle.thread_table.proofs.Hands.Looks.{looks, stood}
 use Rattle.thread_table.proofs.steps.load.Goals as goal
 

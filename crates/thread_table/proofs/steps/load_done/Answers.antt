@@ -1,6 +1,5 @@
-use Rattle.std.proofs.Common.{rules, ◌<◌, ℕ, arith, subst, sym}
-use Rattle.thread_table.specs.Rules.{MayStep}
-use Rattle.thread_table.proofs.Events.StateSteps.{counts_at}
+use Rattle.thread_table.proofs.Common.{rules, ◌<◌, ℕ, arith, subst, sym, ◌∙◌, MayStep}
+use Rattle.thread_table.proofs.Hands.CountSteps.{counts_at}
 use Rattle.thread_table.proofs.Hands.Looks.{stood}
 use Rattle.thread_table.proofs.steps.load_done.Goals as goal
 
@@ -12,7 +11,8 @@ load-requires g c = let v = c.args.seat.now.me.0 in let q = c.requires.queue in 
 )
 
 pub returns-clause-bounded : goal.returns-clause-bounded
-returns-clause-bounded g c = let mine = c.requires.mine in let found = c.load.ensures.2.1 in subst (λ (z : ℕ). z < 4294967296) (sym found.is) (found.sees.shows.few _ (omega (arith, c.requires.queue.2, mine.2)))
+returns-clause-bounded g c = let mine = c.requires.mine in let shows = c.load.ensures.2.1.sees.shows in let known : g.J.Caller.element < 64 = omega (arith, c.requires.queue.2, mine.2) in
+    subst (λ (z : ℕ). z < 4294967296) (sym (c.load.ensures.2.1.is ∙ shows.steps _ known)) (shows.few _ known)
 
 pub returns-clause-stands : goal.returns-clause-stands
 returns-clause-stands g c = stood _ _ _ _ c.requires.deed (search rules) c.load.ensures.2.2

@@ -1,11 +1,11 @@
-use Rattle.thread_table.proofs.Events.QueueSteps.{found_at, found_head}
+use Rattle.thread_table.proofs.Events.Tells.{found_at, found_head}
 use Rattle.thread_table.proofs.steps.load_head.Goals as goal
 
 pub returns-clause-found : goal.returns-clause-found
-returns-clause-found c = found_at _ _ _ _ _ c.head_word.ensures.0 c.load.ensures.2
+returns-clause-found c = found_at c.head_word.ensures.0 c.load.ensures.2
 
 pub returns-clause-head : goal.returns-clause-head
-returns-clause-head c = found_head _ _ _ _ c.requires.queue.2 (found_at _ _ _ _ _ c.head_word.ensures.0 c.load.ensures.2)
+returns-clause-head c = found_head _ _ _ _ c.requires.queue.2 (found_at c.head_word.ensures.0 c.load.ensures.2)
 
 pub returns-clause-stands : goal.returns-clause-stands
 returns-clause-stands c = c.load.ensures.3

@@ -1,4 +1,4 @@
 use Rattle.thread_table.proofs.steps.load_head.Given as goal
 
 abbrev pub ghosts-load : goal.ghosts-load
-ghosts-load a = record { call = a.seat.now.id; at = 0; element = 0; number = 0 }
+ghosts-load a = record { call = a.seat.now.id; element = 0 }

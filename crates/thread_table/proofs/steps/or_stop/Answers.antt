@@ -1,14 +1,15 @@
-use Rattle.std.proofs.Common.{rules, arith}
-use Rattle.thread_table.proofs.Events.StateSteps.{stops_state}
+use Rattle.thread_table.proofs.Common.{rules}
+use Rattle.thread_table.proofs.Events.Allowed.{makes_it}
+use Rattle.thread_table.proofs.Events.Threads.{may_stop}
+use Rattle.thread_table.proofs.Events.Tells.{did_at}
 use Rattle.thread_table.proofs.Hands.Looks.{stood}
 use Rattle.thread_table.proofs.steps.or_stop.Goals as goal
 
 pub fetch_or-requires : goal.fetch_or-requires
-fetch_or-requires g c = let q = c.requires.queue in let place = c.state_word.ensures in let deed = c.requires.deed in (
-  q.0,
-  omega (arith, q.1, place.1),
-  stops_state _ _ _ _ _ _ _ deed.0 (omega (arith, place.0, deed.1)) c.requires.mine.0 c.requires.mine.1 (omega (arith, deed.1, q.2)),
-)
+fetch_or-requires g c = (search rules, search rules, makes_it c.requires.mine.0 (may_stop _ _ c.requires.mine.1 _ c.requires.queue.2) _ _ _ _ c.requires.deed.0 c.requires.deed.1 c.state_word.ensures.0)
+
+pub returns-clause-did : goal.returns-clause-did
+returns-clause-did g c = did_at c.state_word.ensures.0 c.fetch_or.ensures.2.1
 
 pub returns-clause-stands : goal.returns-clause-stands
 returns-clause-stands g c = stood _ _ _ _ c.requires.deed.0 (search rules) c.fetch_or.ensures.2.2

@@ -1,9 +1,4 @@
-use Rattle.std.proofs.Common.{rules, ◌≡◌, ℕ, List, Bool, sym, subst}
-use Rattle.std.proofs.Math.Logic.{∥∥₁_map}
-use Rattle.atomic_table.specs.Table.{Splits}
-use Rattle.thread_table.specs.Own.{View}
-use Rattle.thread_table.specs.Rules.{Rule, HasStood}
-use Rattle.thread_table.specs.Steps.{rest_of, newborn}
+use Rattle.thread_table.proofs.Common.{rules, ◌≡◌, ℕ, List, Bool, sym, subst, ∥∥₁_map, Splits, View, Rule, HasStood, rest_of, newborn}
 use Rattle.thread_table.proofs.Hands.SplitSteps.{splits, rest_stands, born_stands}
 use Rattle.thread_table.proofs.steps.split_off.Goals as goal
 

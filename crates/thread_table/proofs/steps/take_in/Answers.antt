@@ -1,7 +1,4 @@
-use Rattle.std.proofs.Common.{rules, sym, subst, set}
-use Rattle.thread_table.specs.Own.{View}
-use Rattle.thread_table.specs.Rules.{Rule}
-use Rattle.thread_table.specs.Steps.{both}
+use Rattle.thread_table.proofs.Common.{rules, sym, subst, set, View, Rule, both}
 use Rattle.thread_table.proofs.Hands.JoinSteps.{joins}
 use Rattle.thread_table.proofs.steps.take_in.Goals as goal
 

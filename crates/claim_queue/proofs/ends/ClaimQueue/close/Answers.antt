@@ -1,9 +1,4 @@
-use Rattle.std.proofs.Common.{refl, sym, ◌∙◌, ◌-◌, ◌%◌}
-use Rattle.std.specs.Mem.Slots.{slots_items}
-use Rattle.table_theory.proofs.Parting.{were_open}
-use Rattle.claim_queue.specs.Closings.{left_from}
-use Rattle.claim_queue.specs.Layout.{ends_word}
-use Rattle.claim_queue.specs.Own.{nothing_did, did_both}
+use Rattle.claim_queue.proofs.Common.{refl, sym, ◌∙◌, ◌-◌, ◌%◌, slots_items, left_from}
 use Rattle.claim_queue.proofs.Settling.{closes}
 use Rattle.claim_queue.proofs.ends.ClaimQueue.close.Goals as goal
 
@@ -13,6 +8,3 @@ returns-clause-closed g c = let k = c.args.self.table.shared.key in let first = 
   closes k _ _ _ _ c.word-head.result c.word-tail.result _ _ ws _ _ c.args.self.first c.args.end.one first c.count-ends.ensures.tallied c.if-ends-ne1.false c.close_with-closed.ensures.values.2 c.word-head.ensures c.word-tail.ensures
       (λ i. c.word-head.result % 4294967296 - sym first i) (λ i. c.word-tail.result - sym first i) (c.read_left-left.ensures ∙ (λ i. left_from (sym room i) ws c.word-tail.result (c.word-head.result % 4294967296 - c.word-tail.result))),
 )
-
-pub returns-then-ends-ne1-clause-steps : goal.returns-then-ends-ne1-clause-steps
-returns-then-ends-ne1-clause-steps g c = were_open nothing_did did_both ends_word _ _ _ c.count-ends.ensures.tallied c.if-ends-ne1.true

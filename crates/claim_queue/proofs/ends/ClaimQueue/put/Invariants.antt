@@ -1,6 +1,5 @@
-use Rattle.std.proofs.Common.{◌≡◌, ◌<◌, ◌≤◌, true, length}
+use Rattle.claim_queue.proofs.Common.{◌≡◌, ◌<◌, ◌≤◌, true, length, IsSame}
 use Rattle.claim_queue.proofs.Putting.{Tried}
-use Rattle.table_theory.specs.Seating.{IsSame}
 use Rattle.claim_queue.proofs.ends.ClaimQueue.put.Given as goal
 
 abbrev pub invariant-loop : goal.invariant-loop

@@ -1,4 +1,4 @@
-use Rattle.std.proofs.Common.{rules, refl}
+use Rattle.claim_queue.proofs.Common.{rules, refl}
 use Rattle.claim_queue.proofs.Putting.{none_raised, raised_more}
 use Rattle.claim_queue.proofs.Raising.{others_on}
 use Rattle.claim_queue.proofs.ends.ClaimQueue.raise_all.Goals as goal

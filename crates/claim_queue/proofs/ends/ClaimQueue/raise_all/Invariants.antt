@@ -1,6 +1,4 @@
-use Rattle.table_theory.specs.Seating.{IsSame}
-use Rattle.claim_queue.specs.Claims.{Owns, KeepsOthers}
-use Rattle.claim_queue.specs.Puts.{RaisedFrom}
+use Rattle.claim_queue.proofs.Common.{IsSame, Owns, KeepsOthers, RaisedFrom}
 use Rattle.claim_queue.proofs.ends.ClaimQueue.raise_all.Given as goal
 
 abbrev pub invariant-loop-i : goal.invariant-loop-i

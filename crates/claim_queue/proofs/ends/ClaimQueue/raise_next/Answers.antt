@@ -1,5 +1,4 @@
-use Rattle.std.proofs.Common.{rules, ◌≡◌, ℕ, List, subst}
-use Rattle.claim_queue.specs.Puts.{Raised}
+use Rattle.claim_queue.proofs.Common.{rules, ◌≡◌, ℕ, List, subst, Raised}
 use Rattle.claim_queue.proofs.Lining.{raised_lines}
 use Rattle.claim_queue.proofs.ends.ClaimQueue.raise_next.Goals as goal
 

@@ -1,17 +1,11 @@
-use Rattle.std.proofs.Common.{◌≡◌, ℕ, ◌+◌, ap, sym, subst, ◌∙◌}
-use Rattle.table_theory.specs.declared.views.Part.{Part}
-use Rattle.table_theory.specs.Listing.{Distinct}
-use Rattle.claim_queue.specs.Rules.{IsRuled}
+use Rattle.claim_queue.proofs.Common.{◌≡◌, ℕ, ◌+◌, ap, sym, subst, ◌∙◌, Part, IsRuled}
 use Rattle.claim_queue.proofs.Tallying.{rest_ruled, born_ruled}
 use Rattle.claim_queue.proofs.ends.ClaimQueue.split.Goals as goal
 
 pub invariant_of-end-clause-ruled : goal.invariant_of-end-clause-ruled
 invariant_of-end-clause-ruled g c = let two : c.count_up.new.seat.me.0.member.ends ≡ 2 = ap (λ (z : Part). z.ends) c.count_up.ensures.counted.member ∙ ap (λ (z : ℕ). z + 1) c.args.end.now.one in
-    ∣ subst (λ z. IsRuled z.0) (sym c.split_off-seat.ensures.split.0) (rest_ruled _ two c.count_up.ensures.told.ruled) ∣₁
+    ∣ subst (λ z. IsRuled z.0) (sym c.split_off-seat.ensures.split.0) (rest_ruled _ two c.count_up.ensures.ruled) ∣₁
 
 pub invariant_of-result-clause-ruled : goal.invariant_of-result-clause-ruled
 invariant_of-result-clause-ruled g c = let two : c.count_up.new.seat.me.0.member.ends ≡ 2 = ap (λ (z : Part). z.ends) c.count_up.ensures.counted.member ∙ ap (λ (z : ℕ). z + 1) c.args.end.now.one in
-    ∣ subst (λ z. IsRuled z.0) (sym c.split_off-seat.ensures.split.1) (born_ruled _ two c.count_up.ensures.told.ruled) ∣₁
-
-pub invariant_of-end-clause-distinct : goal.invariant_of-end-clause-distinct
-invariant_of-end-clause-distinct g c = let runs = (λ k. (sym c.count_up.ensures.counted.own k).runs) ∙ (λ k. (sym c.split_off-seat.ensures.split.0 k).0.own.runs) in subst Distinct runs c.args.end.now.distinct
+    ∣ subst (λ z. IsRuled z.0) (sym c.split_off-seat.ensures.split.1) (born_ruled _ two c.count_up.ensures.ruled) ∣₁

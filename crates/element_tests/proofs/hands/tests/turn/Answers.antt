@@ -5,10 +5,14 @@ use Rattle.hand_steps.specs.Countings.{counted_step}
 use Rattle.hand_steps.specs.Dispatches.{mask_of}
 use Rattle.hand_steps.specs.Holdings.{IsOn, OnlyAdds}
 use Rattle.hand_steps.specs.Tallies.{Tally, Adds, behind, one_delivery, one_signal}
+use Rattle.hand_steps.proofs.Beginnings.{more_has}
 use Rattle.hand_steps.proofs.Calm.{still_on}
 use Rattle.hand_steps.proofs.Looks.{signal_only}
 use Rattle.hand_steps.proofs.Tallies.{adds_on, adds_before}
 use Rattle.element_tests.proofs.hands.tests.turn.Goals as goal
+
+pub make_ready-requires-clause-held : goal.make_ready-requires-clause-held
+make_ready-requires-clause-held g c = more_has c.take_off-element.result (view_of c.count-counted.new.hand) (view_of c.take_off-element.new.hand) c.take_off-element.ensures.holds
 
 pub returns-clause-adds : goal.returns-clause-adds
 returns-clause-adds g c =
@@ -22,7 +26,7 @@ returns-clause-adds g c =
     let n = view_of c.count-counted.new.hand in
     let o = view_of c.take_off-element.new.hand in
     let w = view_of c.make_ready.new.hand in
-    let sent : OnlyAdds (one_signal e c.args.signal) b s = signal_only (call_of c.put_on.new.hand) e c.args.signal c.signal.result b s c.put_on.new.hand.fresh c.put_on.new.hand.told c.signal.new.hand.told c.signal.ensures.signalled in
+    let sent : OnlyAdds (one_signal e c.args.signal) b s = signal_only (call_of c.put_on.new.hand) e c.args.signal c.signal.result b s c.put_on.new.hand.fresh c.put_on.new.hand.told c.signal.new.hand.told c.signal.ensures.steps in
     let on : IsOn c.args.p e b = c.put_on.ensures.there in
     let on' : IsOn c.args.p e s = still_on c.args.p e b s sent.keeps on in
     let on'' : IsOn c.args.p e k = still_on c.args.p e s k c.wake.ensures.keeps on' in

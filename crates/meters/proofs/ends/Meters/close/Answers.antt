@@ -1,4 +1,4 @@
-use Rattle.std.proofs.Common.{arith}
+use Rattle.meters.proofs.Common.{arith}
 use Rattle.meters.proofs.Settling.{clock_fits, closes}
 use Rattle.meters.proofs.ends.Meters.close.Goals as goal
 

@@ -1,6 +1,5 @@
-use Rattle.std.proofs.Common.{rules, ap, sym, refl, subst, ◌≡◌, ◌∙◌, arith, ◌<◌, ◌++◌, ◌∷◌, [], ℕ, length, List, append-nil, filter_map, Option}
-use Rattle.event_theory.specs.declared.alarm.Alarm.{Alarm}
-use Rattle.meters.proofs.Following.{Swept, swept_none, swept_more, swept_few, fired_now, due_did}
+use Rattle.meters.proofs.Common.{rules, ap, sym, refl, ◌∙◌, arith, ◌<◌, ◌++◌, ◌∷◌, [], length, List, append-nil, filter_map, Option, Alarm}
+use Rattle.meters.proofs.Following.{swept_none, swept_more, swept_few, fired_now}
 use Rattle.meters.proofs.ends.Meters.due.Goals.{in-Some, in_default}
 use Rattle.meters.proofs.ends.Meters.due.Goals as goal
 
@@ -23,20 +22,18 @@ loop-slot-preserved c = let old = c.loop-slot.invariant in let fire = c.fire.ens
     elim c.match-fire.branch [
       | in-Some w ↦ record {
         same = (fire.same.0 ∙ old.same.0, fire.same.1 ∙ old.same.1);
-        told = fire.clock;
-        swept = swept_more _ _ _ _ _ items c.match-fire.fired.items c.fire.result old.swept fire.gave ((λ i. (w.fired-is i).items) ∙ (w.push.ensures.items ∙ ap (λ z. items ++ filter_map (λ (x : Option Alarm). x) (z ∷ [])) (sym w.in-Some.is)));
+        told = fire.gave.1;
+        swept = swept_more _ _ _ _ _ items c.match-fire.fired.items c.fire.result old.swept fire.gave.0 ((λ i. (w.fired-is i).items) ∙ (w.push.ensures.items ∙ ap (λ z. items ++ filter_map (λ (x : Option Alarm). x) (z ∷ [])) (sym w.in-Some.is)));
       }
       | in_default w ↦ record {
         same = (fire.same.0 ∙ old.same.0, fire.same.1 ∙ old.same.1);
-        told = fire.clock;
-        swept = swept_more _ _ _ _ _ items c.match-fire.fired.items c.fire.result old.swept fire.gave ((λ i. (w.fired-is i).items) ∙ (sym (append-nil items) ∙ ap (λ z. items ++ filter_map (λ (x : Option Alarm). x) (z ∷ [])) (sym w.in_default.is)));
+        told = fire.gave.1;
+        swept = swept_more _ _ _ _ _ items c.match-fire.fired.items c.fire.result old.swept fire.gave.0 ((λ i. (w.fired-is i).items) ∙ (sym (append-nil items) ∙ ap (λ z. items ++ filter_map (λ (x : Option Alarm). x) (z ∷ [])) (sym w.in_default.is)));
       }
     ]
 
 pub returns-clause-steps : goal.returns-clause-steps
-returns-clause-steps c = let past = c.loop-slot-test.false in let end = c.loop-slot.auto.slot-end in let e : c.loop-slot.slot ≡ 16 = omega arith in
-    fired_now _ _ _ _ _ c.load_clock-clock.ensures.found (subst (λ (z : ℕ). Swept c.load_clock-clock.new.seat.me.0 c.load_clock-clock.result z c.loop-slot.fired.items c.loop-slot.seat.seat.me.0) e c.loop-slot.invariant.swept)
+returns-clause-steps c = let past = c.loop-slot-test.false in let end = c.loop-slot.auto.slot-end in (fired_now _ _ _ _ c.loop-slot.slot _ (omega arith) c.load_clock-clock.ensures.found c.loop-slot.invariant.swept).0
 
 pub returns-clause-own : goal.returns-clause-own
-returns-clause-own c = let past = c.loop-slot-test.false in let end = c.loop-slot.auto.slot-end in let e : c.loop-slot.slot ≡ 16 = omega arith in
-    due_did _ _ _ _ _ c.load_clock-clock.ensures.found (subst (λ (z : ℕ). Swept c.load_clock-clock.new.seat.me.0 c.load_clock-clock.result z c.loop-slot.fired.items c.loop-slot.seat.seat.me.0) e c.loop-slot.invariant.swept)
+returns-clause-own c = let past = c.loop-slot-test.false in let end = c.loop-slot.auto.slot-end in (fired_now _ _ _ _ c.loop-slot.slot _ (omega arith) c.load_clock-clock.ensures.found c.loop-slot.invariant.swept).1

@@ -1,5 +1,4 @@
-use Rattle.std.proofs.Common.{◌≤◌}
-use Rattle.table_theory.specs.Seating.{IsSame}
+use Rattle.meters.proofs.Common.{◌≤◌, IsSame}
 use Rattle.meters.proofs.Following.{Swept}
 use Rattle.meters.proofs.ends.Meters.due.Given as goal
 

@@ -1,5 +1,4 @@
-use Rattle.table_theory.specs.Ledgers.{emptied}
-use Rattle.meters.specs.Own.{nothing_did}
+use Rattle.meters.proofs.Common.{emptied, nothing_did}
 use Rattle.meters.proofs.ends.Meters.join.Given as goal
 
 abbrev pub ghosts-take_in : goal.ghosts-take_in

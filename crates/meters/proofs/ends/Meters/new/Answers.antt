@@ -1,6 +1,4 @@
-use Rattle.std.proofs.Common.{◌≡◌, ℕ, [], set, replicate, sym, subst, ◌∙◌, arith}
-use Rattle.atomic_table.specs.Table.{opening}
-use Rattle.meters.specs.Rules.{Rule, newcomer}
+use Rattle.meters.proofs.Common.{◌≡◌, ℕ, [], set, replicate, sym, subst, ◌∙◌, arith, opening, Rule, newcomer}
 use Rattle.meters.proofs.Opening.{new_words}
 use Rattle.meters.proofs.ends.Meters.new.Goals as goal
 

@@ -1,21 +1,21 @@
-use Rattle.std.proofs.Common.{arith, refl, subst, ◌≡◌, ◌∙◌, ℕ}
-use Rattle.meters.proofs.Following.{Searched, searched_none, searched_more, searched_nothing, no_room, set_now, set_did, lost_slot, lost_nothing}
+use Rattle.meters.proofs.Common.{arith, refl, ◌∙◌}
+use Rattle.meters.proofs.Following.{searched_none, searched_more, no_room, set_now, lost_slot}
 use Rattle.meters.proofs.ends.Meters.try_set.Goals as goal
 
 pub loop-slot-init : goal.loop-slot-init
 loop-slot-init c = record { same = (refl, refl); searched = searched_none _ }
 
 pub returns-then-exchange_in-clause-steps : goal.returns-then-exchange_in-clause-steps
-returns-then-exchange_in-clause-steps c = set_now _ _ _ _ c.loop-slot.slot _ c.args.alarm c.loop-slot-test.true c.loop-slot.invariant.searched c.load_alarm.ensures.found c.if-is_none.ensures (c.exchange_in.ensures.hit c.if-exchange_in.true)
+returns-then-exchange_in-clause-steps c = (set_now _ _ _ _ c.loop-slot.slot _ c.loop-slot-test.true c.loop-slot.invariant.searched c.load_alarm.ensures.found c.if-is_none.ensures c.args.alarm (c.exchange_in.ensures.hit c.if-exchange_in.true)).0
 
 pub returns-then-exchange_in-clause-own : goal.returns-then-exchange_in-clause-own
-returns-then-exchange_in-clause-own c = set_did _ _ _ _ c.loop-slot.slot _ c.args.alarm c.loop-slot.invariant.searched c.load_alarm.ensures.found (c.exchange_in.ensures.hit c.if-exchange_in.true)
+returns-then-exchange_in-clause-own c = (set_now _ _ _ _ c.loop-slot.slot _ c.loop-slot-test.true c.loop-slot.invariant.searched c.load_alarm.ensures.found c.if-is_none.ensures c.args.alarm (c.exchange_in.ensures.hit c.if-exchange_in.true)).1
 
 pub returns-then-is_none-clause-steps : goal.returns-then-is_none-clause-steps
-returns-then-is_none-clause-steps c = lost_slot _ _ _ _ c.loop-slot.slot _ c.loop-slot-test.true c.loop-slot.invariant.searched c.load_alarm.ensures.found c.if-is_none.ensures (c.exchange_in.ensures.miss c.if-exchange_in.false)
+returns-then-is_none-clause-steps c = (lost_slot _ _ _ _ c.loop-slot.slot _ c.loop-slot-test.true c.loop-slot.invariant.searched c.load_alarm.ensures.found c.if-is_none.ensures (c.exchange_in.ensures.miss c.if-exchange_in.false)).0
 
 pub returns-then-is_none-clause-own : goal.returns-then-is_none-clause-own
-returns-then-is_none-clause-own c = lost_nothing _ _ _ _ c.loop-slot.slot _ c.loop-slot.invariant.searched c.load_alarm.ensures.found (c.exchange_in.ensures.miss c.if-exchange_in.false)
+returns-then-is_none-clause-own c = (lost_slot _ _ _ _ c.loop-slot.slot _ c.loop-slot-test.true c.loop-slot.invariant.searched c.load_alarm.ensures.found c.if-is_none.ensures (c.exchange_in.ensures.miss c.if-exchange_in.false)).1
 
 pub loop-slot-preserved : goal.loop-slot-preserved
 loop-slot-preserved c = let load = c.load_alarm.ensures in let old = c.loop-slot.invariant in record {
@@ -24,7 +24,7 @@ loop-slot-preserved c = let load = c.load_alarm.ensures in let old = c.loop-slot
 }
 
 pub returns-clause-steps : goal.returns-clause-steps
-returns-clause-steps c = let past = c.loop-slot-test.false in let end = c.loop-slot.auto.slot-end in let e : c.loop-slot.slot ≡ 16 = omega arith in no_room _ _ (subst (λ (z : ℕ). Searched c.args.seat.now.seat.me.0 z c.loop-slot.seat.seat.me.0) e c.loop-slot.invariant.searched)
+returns-clause-steps c = let past = c.loop-slot-test.false in let end = c.loop-slot.auto.slot-end in (no_room _ _ c.loop-slot.slot (omega arith) c.loop-slot.invariant.searched).0
 
 pub returns-clause-own : goal.returns-clause-own
-returns-clause-own c = searched_nothing _ _ _ c.loop-slot.invariant.searched
+returns-clause-own c = let past = c.loop-slot-test.false in let end = c.loop-slot.auto.slot-end in (no_room _ _ c.loop-slot.slot (omega arith) c.loop-slot.invariant.searched).1

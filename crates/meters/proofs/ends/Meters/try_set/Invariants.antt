@@ -1,4 +1,4 @@
-use Rattle.table_theory.specs.Seating.{IsSame}
+use Rattle.meters.proofs.Common.{IsSame}
 use Rattle.meters.proofs.Following.{Searched}
 use Rattle.meters.proofs.ends.Meters.try_set.Given as goal
 

@@ -1,5 +1,5 @@
-use Rattle.std.proofs.Common.{rules, arith, refl, ◌∙◌, [], ◌∷◌, ◌++◌}
-use Rattle.proc_chain.specs.Rules.{suits, makes}
+use Rattle.proc_chain.proofs.Common.{rules, arith, refl, ◌∙◌, [], ◌∷◌, ◌++◌, suits, makes}
+use Rattle.proc_chain.proofs.Finding.{told_behind}
 use Rattle.proc_chain.proofs.Rounds.{no_rounds, rounds_more, all_done, few_run, since_still, since_then}
 use Rattle.proc_chain.proofs.ends.ProcChain.serve_all.Goals as goal
 
@@ -10,12 +10,9 @@ loop-init g c = record {
   slot = c.requires.ends.1;
   turn = c.requires.turn;
   servings = [];
-  rounds = no_rounds c.args.end.now.seat.me.0;
-  since = since_still (makes g.Q.Quaject.made_by c.args.self.now.table.shared.key.pact) (suits g.Q.Quaject.fits c.args.self.now.table.shared.key.pact) c.args.end.now.seat.me.0 c.args.end.now.seat.me.1 c.args.end.now.behind (c.requires.ends.1.0 (c.args.end.now.turned ∙ c.requires.turn));
+  rounds = no_rounds c.args.end.now.seat.me.0 (c.args.end.now.turned ∙ c.requires.turn);
+  since = since_still (makes g.Q.Quaject.made_by c.args.self.now.table.shared.key.pact) (suits g.Q.Quaject.fits c.args.self.now.table.shared.key.pact) c.args.end.now.seat.me.0 c.args.end.now.seat.me.1 (told_behind c.args.end.now.seat.me.0 c.args.end.now.told) (c.requires.ends.1.0 (c.args.end.now.turned ∙ c.requires.turn));
 }
-
-pub serve-requires-clause-ends : goal.serve-requires-clause-ends
-serve-requires-clause-ends g c = (c.loop.invariant.same.0 ∙ c.requires.ends.0, c.loop.invariant.slot)
 
 pub returns-in-Done-clause-steps : goal.returns-in-Done-clause-steps
 returns-in-Done-clause-steps g c = let l = c.loop.invariant in let s = c.in-Done.ensures.steps in all_done _ _ _ l.servings s.0 s.1 c.loop.total c.in-Done.ran l.rounds s.2 s.3
@@ -27,23 +24,17 @@ loop-preserved g c = let l = c.loop.invariant in let s = c.in-More.ensures.steps
   slot = c.serve.ensures.ends.1;
   turn = c.in-More.ensures.turn;
   servings = l.servings ++ s.0 ∷ [];
-  rounds = rounds_more _ _ _ l.servings s.0 c.loop.total c.in-More.ran (c.args.end.now.turned ∙ c.requires.turn) l.rounds s.1 s.2;
-  since = since_then (makes g.Q.Quaject.made_by c.args.self.now.table.shared.key.pact) (suits g.Q.Quaject.fits c.args.self.now.table.shared.key.pact) c.args.end.now.seat.me.0 c.loop.end.seat.me.0 c.serve.new.end.seat.me.0 _ l.since c.serve.ensures.made s.2.served.notes c.loop.end.behind;
+  rounds = rounds_more _ _ _ l.servings s.0 c.loop.total c.in-More.ran l.rounds s.1 s.2;
+  since = since_then (makes g.Q.Quaject.made_by c.args.self.now.table.shared.key.pact) (suits g.Q.Quaject.fits c.args.self.now.table.shared.key.pact) c.args.end.now.seat.me.0 c.loop.end.seat.me.0 c.serve.new.end.seat.me.0 _ l.since c.serve.ensures.made s.2.served.notes (told_behind c.loop.end.seat.me.0 c.loop.end.told);
 }
-
-pub returns-in-Done-clause-same : goal.returns-in-Done-clause-same
-returns-in-Done-clause-same g c = (c.serve.ensures.same.0 ∙ c.loop.invariant.same.0, c.serve.ensures.same.1 ∙ c.loop.invariant.same.1)
-
-pub returns-in-Done-clause-ends : goal.returns-in-Done-clause-ends
-returns-in-Done-clause-ends g c = (c.serve.ensures.same.0 ∙ (c.loop.invariant.same.0 ∙ c.requires.ends.0), c.serve.ensures.ends.1)
 
 pub overflow_add-result : goal.overflow_add-result
 overflow_add-result g c = let l = c.loop.invariant.rounds in let s = c.in-Done.ensures.steps.3 in let end = c.loop.end in let new = c.serve.new.end in
-    let few = few_run _ _ _ l.served end.behind end.bounded in let number = l.number in let few' = few_run _ _ _ s.served new.behind new.bounded in let number' = s.number in record { fits = omega arith }
+    let few = few_run _ _ _ l.all.served end.told in let number = l.number in let few' = few_run _ _ _ s.served new.told in let number' = s.number in record { fits = omega arith }
 
 pub overflow_add-total : goal.overflow_add-total
 overflow_add-total g c = let l = c.loop.invariant.rounds in let s = c.in-More.ensures.steps.2 in let end = c.loop.end in let new = c.serve.new.end in
-    let few = few_run _ _ _ l.served end.behind end.bounded in let number = l.number in let few' = few_run _ _ _ s.served new.behind new.bounded in let number' = s.number in record { fits = omega arith }
+    let few = few_run _ _ _ l.all.served end.told in let number = l.number in let few' = few_run _ _ _ s.served new.told in let number' = s.number in record { fits = omega arith }
 
 pub returns-in-Done-clause-made : goal.returns-in-Done-clause-made
-returns-in-Done-clause-made g c = since_then (makes g.Q.Quaject.made_by c.args.self.now.table.shared.key.pact) (suits g.Q.Quaject.fits c.args.self.now.table.shared.key.pact) c.args.end.now.seat.me.0 c.loop.end.seat.me.0 c.serve.new.end.seat.me.0 _ c.loop.invariant.since c.serve.ensures.made c.in-Done.ensures.steps.3.served.notes c.loop.end.behind
+returns-in-Done-clause-made g c = since_then (makes g.Q.Quaject.made_by c.args.self.now.table.shared.key.pact) (suits g.Q.Quaject.fits c.args.self.now.table.shared.key.pact) c.args.end.now.seat.me.0 c.loop.end.seat.me.0 c.serve.new.end.seat.me.0 _ c.loop.invariant.since c.serve.ensures.made c.in-Done.ensures.steps.3.served.notes (told_behind c.loop.end.seat.me.0 c.loop.end.told)

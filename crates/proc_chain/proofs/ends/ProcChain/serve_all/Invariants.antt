@@ -1,8 +1,4 @@
-use Rattle.std.proofs.Common.{◌≡◌, List, true}
-use Rattle.table_theory.specs.Seating.{IsSame}
-use Rattle.proc_chain.specs.Rules.{suits, makes}
-use Rattle.proc_chain.specs.Servings.{Serving}
-use Rattle.proc_chain.specs.Turns.{HasSlot, MadeSince}
+use Rattle.proc_chain.proofs.Common.{◌≡◌, List, true, IsSame, suits, makes, Serving, HasSlot, MadeSince}
 use Rattle.proc_chain.proofs.Rounds.{AllRounds}
 use Rattle.proc_chain.proofs.ends.ProcChain.serve_all.Given as goal
 

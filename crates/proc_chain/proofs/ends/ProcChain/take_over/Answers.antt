@@ -1,30 +1,17 @@
-use Rattle.std.proofs.Common.{◌≡◌, ◌∙◌}
-use Rattle.std.proofs.Math.Logic.{∥∥₁_map}
-use Rattle.table_theory.specs.Ledgers.{both}
-use Rattle.proc_chain.specs.Own.{View, did_both}
-use Rattle.proc_chain.specs.Rules.{suits, makes}
-use Rattle.proc_chain.proofs.Opening.{took_now, took_taken, took_slot, took_ends, took_runner, took_owes, took_counts, took_raised}
+use Rattle.proc_chain.proofs.Common.{◌≡◌, ◌∙◌, both, did_both, suits, makes}
+use Rattle.proc_chain.proofs.Finding.{slot_on}
+use Rattle.proc_chain.proofs.Opening.{took_now, took_parted}
 use Rattle.proc_chain.proofs.ends.ProcChain.take_over.Goals as goal
 
 pub returns-clause-joined : goal.returns-clause-joined
-returns-clause-joined g c = let v : View = c.args.end.now.seat.me.0 in let u : View = c.args.other.seat.me.0 in let b : View = c.take_in.new.seat.me.0 in let w : View = c.count_down.new.seat.me.0 in let j = c.take_in.ensures.joined in let is : b ≡ both did_both v u = (λ i. (j i).0) ∙ (λ i. both did_both v (c.hand_over-rest.ensures.moved i).0) in let d = c.count_down.ensures.counted in let end = c.args.end.now in (took_now v u b w is d.0 d.1 c.args.end.now.one c.args.other.one d.3, c.count_down.ensures.queue.1 ∙ (λ i. (j i).1))
-
-pub returns-clause-taken : goal.returns-clause-taken
-returns-clause-taken g c = let v : View = c.args.end.now.seat.me.0 in let u : View = c.args.other.seat.me.0 in let b : View = c.take_in.new.seat.me.0 in let w : View = c.count_down.new.seat.me.0 in let j = c.take_in.ensures.joined in let is : b ≡ both did_both v u = (λ i. (j i).0) ∙ (λ i. both did_both v (c.hand_over-rest.ensures.moved i).0) in let d = c.count_down.ensures.counted in let end = c.args.end.now in took_taken v u b w is d.0 d.1 c.args.end.now.one c.args.other.one end.counts
+returns-clause-joined g c = let end = c.args.end.now in let d = c.count_down.ensures in let is : c.take_in.new.seat.me.0 ≡ both did_both end.seat.me.0 c.args.other.seat.me.0 = (λ i. (c.take_in.ensures.joined i).0) ∙ (λ i. both did_both end.seat.me.0 (c.hand_over-rest.ensures.moved i).0) in (took_now _ _ _ _ is d.counted.0 d.counted.1 end.rests c.args.other.rests d.counted.2, d.stays.1.0 ∙ (λ i. (c.take_in.ensures.joined i).1))
 
 pub returns-clause-ends : goal.returns-clause-ends
-returns-clause-ends g c = let v : View = c.args.end.now.seat.me.0 in let u : View = c.args.other.seat.me.0 in let b : View = c.take_in.new.seat.me.0 in let w : View = c.count_down.new.seat.me.0 in let j = c.take_in.ensures.joined in let is : b ≡ both did_both v u = (λ i. (j i).0) ∙ (λ i. both did_both v (c.hand_over-rest.ensures.moved i).0) in let d = c.count_down.ensures.counted in let end = c.args.end.now in (c.count_down.ensures.queue.0.0 ∙ (c.take_in.ensures.queue.0 ∙ c.requires.ends.0.0), took_slot v u b w is d.0 d.1 c.args.end.now.one c.args.other.one (makes g.Q.Quaject.made_by c.args.self.now.table.shared.key.pact) (suits g.Q.Quaject.fits c.args.self.now.table.shared.key.pact) _ _ (∥∥₁_map end.told (λ t. t.honest)) c.count_down.ensures.told.honest end.counts end.behind (c.count_down.ensures.queue.1 ∙ (λ i. (j i).1)) c.requires.ends.0.1)
+returns-clause-ends g c = let end = c.args.end.now in let d = c.count_down.ensures in let is : c.take_in.new.seat.me.0 ≡ both did_both end.seat.me.0 c.args.other.seat.me.0 = (λ i. (c.take_in.ensures.joined i).0) ∙ (λ i. both did_both end.seat.me.0 (c.hand_over-rest.ensures.moved i).0) in let p = took_parted _ _ _ _ is d.counted.0 d.counted.1 end.rests c.args.other.rests end.told d.stays.1.1 in let pact = c.args.self.now.table.shared.key.pact in
+    (d.stays.0.0 ∙ (c.take_in.ensures.queue.0 ∙ c.requires.ends.0.0), slot_on (makes g.Q.Quaject.made_by pact) (suits g.Q.Quaject.fits pact) end.seat.me.0 c.count_down.new.seat.me.0 _ _ p.notes p.runner (d.stays.1.0 ∙ (λ i. (c.take_in.ensures.joined i).1)) c.requires.ends.0.1)
+
+pub returns-clause-taken : goal.returns-clause-taken
+returns-clause-taken g c = let end = c.args.end.now in let d = c.count_down.ensures in let is : c.take_in.new.seat.me.0 ≡ both did_both end.seat.me.0 c.args.other.seat.me.0 = (λ i. (c.take_in.ensures.joined i).0) ∙ (λ i. both did_both end.seat.me.0 (c.hand_over-rest.ensures.moved i).0) in (took_parted _ _ _ _ is d.counted.0 d.counted.1 end.rests c.args.other.rests end.told d.stays.1.1).taken
 
 pub invariant_of-end : goal.invariant_of-end
-invariant_of-end g c = let v : View = c.args.end.now.seat.me.0 in let u : View = c.args.other.seat.me.0 in let b : View = c.take_in.new.seat.me.0 in let w : View = c.count_down.new.seat.me.0 in let j = c.take_in.ensures.joined in let is : b ≡ both did_both v u = (λ i. (j i).0) ∙ (λ i. both did_both v (c.hand_over-rest.ensures.moved i).0) in let d = c.count_down.ensures.counted in let end = c.args.end.now in record {
-  room = d.1.room;
-  one = took_ends v u b w is d.0 d.1 c.args.end.now.one c.args.other.one;
-  turned = took_runner v u b w is d.0 d.1 c.args.end.now.one c.args.other.one ∙ end.turned;
-  counts = took_counts v u b w is d.0 d.1 c.args.end.now.one c.args.other.one end.counts;
-  settled = took_owes v u b w is d.0 d.1 c.args.end.now.one c.args.other.one ∙ end.settled;
-  behind = d.1.lawful.behind;
-  bounded = d.1.bounded;
-  distinct = d.2;
-  raised = took_raised v u b w is d.0 d.1 c.args.end.now.one c.args.other.one end.raised c.args.other.raised;
-  told = ∣ c.count_down.ensures.told ∣₁;
-}
+invariant_of-end g c = let end = c.args.end.now in let d = c.count_down.ensures in let is : c.take_in.new.seat.me.0 ≡ both did_both end.seat.me.0 c.args.other.seat.me.0 = (λ i. (c.take_in.ensures.joined i).0) ∙ (λ i. both did_both end.seat.me.0 (c.hand_over-rest.ensures.moved i).0) in let p = took_parted _ _ _ _ is d.counted.0 d.counted.1 end.rests c.args.other.rests end.told d.stays.1.1 in record { turned = p.runner ∙ end.turned; rests = p.rests; told = ∣ p.told ∣₁ }

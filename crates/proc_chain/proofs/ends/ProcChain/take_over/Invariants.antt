@@ -1,5 +1,4 @@
-use Rattle.table_theory.specs.Ledgers.{emptied}
-use Rattle.proc_chain.specs.Own.{nothing_did}
+use Rattle.proc_chain.proofs.Common.{emptied, nothing_did}
 use Rattle.proc_chain.proofs.ends.ProcChain.take_over.Given as goal
 
 abbrev pub ghosts-take_in : goal.ghosts-take_in

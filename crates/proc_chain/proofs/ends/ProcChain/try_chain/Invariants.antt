@@ -1,4 +1,4 @@
-use Rattle.proc_chain.specs.Rules.{suits, makes}
+use Rattle.proc_chain.proofs.Common.{suits, makes}
 use Rattle.proc_chain.proofs.ends.ProcChain.try_chain.Given as goal
 
 abbrev pub ghosts-exchange_head : goal.ghosts-exchange_head

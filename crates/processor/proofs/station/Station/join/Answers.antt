@@ -1,6 +1,7 @@
 use Rattle.std.proofs.Common.{◌≡◌, List, rules, subst, sym}
 use Rattle.std.proofs.lemmas.List.{with_items_is}
 use Rattle.end_steps.specs.Splits.{AreJoined, AreChainsJoined}
+use Rattle.processor.proofs.Summing.{joined_account, joined_shares}
 use Rattle.processor.proofs.station.Station.join.Goals as goal
 
 -- what holds of three lists holds of the same lists
@@ -18,3 +19,9 @@ returns-clause-joined c = record {
   heard = search rules;
   signals = search rules;
 }
+
+pub returns-clause-did : goal.returns-clause-did
+returns-clause-did c = joined_account c.args.self.now.parts c.args.other.parts _ (returns-clause-joined c)
+
+pub returns-clause-shares : goal.returns-clause-shares
+returns-clause-shares c = joined_shares c.args.self.now.parts c.args.other.parts _ (returns-clause-joined c)

@@ -1,12 +1,10 @@
-use Rattle.std.proofs.Common.{rules, refl, subst, ℕ}
-use Rattle.atomic_table.specs.Table.{Final, Seen}
-use Rattle.std.specs.Mem.Slots.{slots_items}
-use Rattle.thread_table.specs.Rules.{Rule}
+use Rattle.thread_table.proofs.Common.{rules, subst, ℕ, Final, slots_items, Rule}
+use Rattle.atomic_table.specs.Table.{Seen}
 use Rattle.thread_table.proofs.Closing.Settling.{were_open, closes}
 use Rattle.thread_table.proofs.hand.ThreadTable.close.Goals as goal
 
-pub returns-then-ends-ne1-clause-open : goal.returns-then-ends-ne1-clause-open
-returns-then-ends-ne1-clause-open c = (refl, search rules, were_open _ _ _ _ c.count-ends.ensures.tallied c.if-ends-ne1.true (search rules))
+pub returns-then-ends-ne1-clause-steps : goal.returns-then-ends-ne1-clause-steps
+returns-then-ends-ne1-clause-steps c = were_open _ _ _ _ c.count-ends.ensures.tallied c.if-ends-ne1.true (search rules)
 
 pub returns-then-ends-ne1-clause-only : goal.returns-then-ends-ne1-clause-only
 returns-then-ends-ne1-clause-only c = λ whole. c.if-ends-ne1.true (c.count-ends.ensures.tallied.count.whole whole)

@@ -1,52 +1,41 @@
-use Rattle.std.proofs.Common.{rules, ◌<◌, ◌∙◌, ◌-◌, set, false, arith}
-use Rattle.std.proofs.Math.Path.{transport}
-use Rattle.thread_table.specs.declared.layout.TheConstants.{ELEMENTS}
-use Rattle.std.proofs.lemmas.Grind.{merely}
-use Rattle.thread_table.specs.Entries.{claim_event}
-use Rattle.thread_table.specs.Steps.{Claims, Raises}
-use Rattle.thread_table.proofs.Events.Answering.{was_spent, overtaken, claim_known, moved_to}
+use Rattle.thread_table.proofs.Common.{rules, ◌<◌, ◌∙◌, set, false, arith, sym, ap, transport, ELEMENTS, merely, claim_event, Did, View, call_of, view_of, head_word, place_word, raise_event, MovedBy}
+use Rattle.thread_table.proofs.Events.Answering.{was_spent, overtaken, claim_known, claim_moves, moved_to}
 use Rattle.thread_table.proofs.hand.ThreadTable.move_to.Goals as goal
 
-pub returns-then-head-clause-moved : goal.returns-then-head-clause-moved
-returns-then-head-clause-moved c = was_spent _ _ _ _ c.of-head.result.head c.of-head.result.mark c.load_head-word.ensures.found c.of-head.ensures.0 c.of-head.ensures.1 c.if-head.true
+pub returns-then-head-clause-steps : goal.returns-then-head-clause-steps
+returns-then-head-clause-steps c = was_spent _ _ _ _ c.of-head.result.head c.of-head.result.mark c.load_head-word.ensures.found c.of-head.ensures.0 c.of-head.ensures.1 c.if-head.true
 
-pub returns-then-found-word-clause-moved : goal.returns-then-found-word-clause-moved
-returns-then-found-word-clause-moved c = (
+pub returns-then-found-word-clause-steps : goal.returns-then-found-word-clause-steps
+returns-then-found-word-clause-steps c = (
   c.load_head-word.result,
   overtaken _ _ _ _ _ c.of-head.result.head c.of-head.result.mark _ c.load_head-word.ensures.found c.of-head.ensures.0 c.of-head.ensures.1 c.if-head.false
       (c.exchange_head-found.ensures.miss c.if-found-word.true).0 c.if-found-word.true,
 )
 
 pub raise-requires-clause-claimed : goal.raise-requires-clause-claimed
-raise-requires-clause-claimed c =
-    (claim_known _ _ _ _ _ _ c.of-head.result.mark _ _ c.requires.table.1 (c.exchange_head-found.ensures.hit c.if-found-word.false) c.of-head.ensures.0 c.of-head.ensures.1).0
+raise-requires-clause-claimed c = let hit = c.exchange_head-found.ensures.hit c.if-found-word.false in
+    (claim_known _ _ _ _ _ _ c.of-head.result.mark _ _ c.requires.table.1 (claim_moves c.load_head-word.new.seat.id _ c.number-number.result) hit c.of-head.ensures.0 c.of-head.ensures.1, c.number-number.ensures.within, omega (arith, c.of-head.ensures.1, c.if-head.false))
 
-pub raise-requires-clause-position : goal.raise-requires-clause-position
-raise-requires-clause-position c =
-    ((claim_known _ _ _ _ _ _ c.of-head.result.mark _ _ c.requires.table.1 (c.exchange_head-found.ensures.hit c.if-found-word.false) c.of-head.ensures.0 c.of-head.ensures.1).1, omega (arith, c.of-head.ensures.1, c.if-head.false))
+-- what the two steps of the move say
+moved : (c : goal.After-raise) → MovedBy (call_of c.args.hand.now) (view_of c.args.hand.now) c.args.ring c.args.element (claim_event (call_of c.args.hand.now) c.args.ring c.args.element) c.load_head-word.result c.raise.new.seat.me.0
+moved c = let a = c.load_head-word.ensures in let x = c.exchange_head-found in let s = c.raise.ensures in let id = a.queue.0.1 in let id' = x.ensures.queue.0.1 ∙ id in let n = c.number-number.ensures.value in
+    let ring = c.args.ring in let h = c.args.hand.now in let v = c.load_head-word.new.seat.me.0 in let m = x.new.seat.me.0 in let w = c.raise.new.seat.me.0 in let head = c.of-head.result.head in let known : c.args.element < ELEMENTS = search rules in
+    let claimed = transport (λ i. Did (id i) v (head_word ring) c.load_head-word.result (claim_event (id i) ring (n i)) m) (x.ensures.hit c.if-found-word.false) in
+    let raised = transport (λ i. Did (id' i) m (place_word ring head) s.did.0 (raise_event (id' i) m ring head) w) s.did.1 in
+    moved_to _ _ _ _ _ head c.of-head.result.mark v m c.requires.table.1 (claim_moves h.seat.id ring c.args.element) claimed c.of-head.ensures.0 c.of-head.ensures.1 _ _ _ h.fresh c.requires.holds known a.found c.if-head.false raised
 
 pub invariant_of-hand-2 : goal.invariant_of-hand-2
-invariant_of-hand-2 c = let a = c.load_head-word.ensures in let x = c.exchange_head-found in let s = c.raise.ensures in let id = a.queue.0.1 in let id' = x.ensures.queue.0.1 ∙ id in let n = c.number-number.ensures in
-    let ring = c.args.ring in let h = c.args.hand.now in let v = c.load_head-word.new.seat.me.0 in let m = x.new.seat.me.0 in let w = c.raise.new.seat.me.0 in
-    let claims = transport (λ i. Claims (id i) ring (n.value i) (claim_event (id i) ring (n.value i)) c.load_head-word.result v m) (x.ensures.hit c.if-found-word.false) in
-    let raises = transport (λ i. Raises (id' i) ring (c.of-head.result.head - m.own.first) m w) s.raised in
-    let known : c.args.element < ELEMENTS = search rules in
-    let k = moved_to _ _ _ _ _ c.of-head.result.head c.of-head.result.mark _ _ _ _ c.args.hand.now.fresh c.requires.holds c.requires.table.1 known a.found c.if-head.false claims c.of-head.ensures.0 c.of-head.ensures.1 raises in record {
-      bare = s.queue.1 ∙ (x.ensures.queue.1 ∙ (a.queue.1 ∙ h.bare));
-      one = k.stays.ends ∙ h.one;
-      none = k.stays.claimed;
-      fresh = k.stays.fresh;
-      holding = s.held ∙ ((λ i. set (h.holding i) (n.value i) false) ∙ k.held);
-      serving = h.serving ∙ k.stays.serves;
-      putting = h.putting ∙ k.stays.on;
-      told = merely s.raised.did.told;
-      stands = s.stands;
-    }
+invariant_of-hand-2 c = let a = c.load_head-word.ensures in let x = c.exchange_head-found in let s = c.raise.ensures in let n = c.number-number.ensures.value in let h = c.args.hand.now in let has = (moved c).7.has in record {
+  bare = s.queue.1 ∙ (x.ensures.queue.1 ∙ (a.queue.1 ∙ h.bare));
+  one = ap (λ (z : View). z.member.ends) has ∙ h.one;
+  none = ap (λ (z : View). z.own.claimed) has;
+  fresh = ap (λ (z : View). z.own.fresh) has;
+  holding = s.held ∙ ((λ i. set (h.holding i) (n i) false) ∙ sym (ap (λ (z : View). z.own.held) has));
+  serving = h.serving ∙ sym (ap (λ (z : View). z.own.serves) has);
+  putting = h.putting ∙ sym (ap (λ (z : View). z.own.on) has);
+  told = merely s.did.1.step.told;
+  stands = s.stands;
+}
 
-pub returns-clause-moved : goal.returns-clause-moved
-returns-clause-moved c = let a = c.load_head-word.ensures in let x = c.exchange_head-found in let s = c.raise.ensures in let id = a.queue.0.1 in let id' = x.ensures.queue.0.1 ∙ id in let n = c.number-number.ensures in
-    let ring = c.args.ring in let v = c.load_head-word.new.seat.me.0 in let m = x.new.seat.me.0 in let w = c.raise.new.seat.me.0 in
-    let claims = transport (λ i. Claims (id i) ring (n.value i) (claim_event (id i) ring (n.value i)) c.load_head-word.result v m) (x.ensures.hit c.if-found-word.false) in
-    let raises = transport (λ i. Raises (id' i) ring (c.of-head.result.head - m.own.first) m w) s.raised in
-    let known : c.args.element < ELEMENTS = search rules in
-    (c.load_head-word.result, (moved_to _ _ _ _ _ c.of-head.result.head c.of-head.result.mark _ _ _ _ c.args.hand.now.fresh c.requires.holds c.requires.table.1 known a.found c.if-head.false claims c.of-head.ensures.0 c.of-head.ensures.1 raises).to)
+pub returns-clause-steps : goal.returns-clause-steps
+returns-clause-steps c = (c.load_head-word.result, moved c.before)

@@ -1,10 +1,4 @@
-use Rattle.std.proofs.Common.{rules, ◌≡◌, replicate, sym, subst, arith}
-use Rattle.std.proofs.lemmas.Grind.{merely}
-use Rattle.thread_table.specs.declared.layout.TheConstants.{WORDS}
-use Rattle.thread_table.specs.declared.rule.Shape.{Shape}
-use Rattle.thread_table.specs.Own.{View}
-use Rattle.thread_table.specs.Rules.{newcomer}
-use Rattle.thread_table.specs.Telling.{IsHonest}
+use Rattle.thread_table.proofs.Common.{rules, ◌≡◌, replicate, sym, subst, arith, merely, WORDS, Shape, View, newcomer, IsHonest}
 use Rattle.thread_table.proofs.Hands.Looks.{honest_first}
 use Rattle.thread_table.proofs.Shown.Laying.{zeros_open}
 use Rattle.thread_table.proofs.hand.ThreadTable.new_at.Goals as goal

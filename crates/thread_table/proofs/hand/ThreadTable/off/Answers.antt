@@ -1,13 +1,29 @@
-use Rattle.std.proofs.Common.{◌≡◌, ◌∙◌, rules, length, arith, ℕ, List, Option, Some, None, get_or, refl, sym, ap, ap₂}
-use Rattle.std.proofs.lemmas.List.{get_or_default}
-use Rattle.thread_table.specs.Handles.{call_of, view_of}
-use Rattle.thread_table.specs.Rules.{serves, running}
+use Rattle.thread_table.proofs.Common.{◌≡◌, ◌<◌, ◌∙◌, rules, length, arith, ℕ, List, Option, Some, None, get_or, set, true, sym, ap, ap₂, merely, View, transport, get_or_default, call_of, view_of, processor_word, running, TakesOff, Did, ELEMENTS, PROCESSORS}
+use Rattle.event_theory.specs.declared.event.Event.TheVariants as events
 use Rattle.thread_table.proofs.Events.StatesSeen.{takes_off}
 use Rattle.thread_table.proofs.hand.ThreadTable.off.Goals as goal
 
-pub returns-clause-off : goal.returns-clause-off
-returns-clause-off c = let s = c.swap_off.ensures in let v = view_of c.args.hand.now in let p = c.number-2.ensures in let n = c.number-number.ensures in
-    let stood : running v c.args.processor ≡ Some c.in-Some.element = ap₂ (λ (l : List (Option ℕ)) (k : ℕ). get_or l k None) (sym c.args.hand.now.putting) (sym (c.from.ensures ∙ c.number.ensures.value)) ∙ (get_or_default c.args.hand.now.running c.from.result None _ (let p = c.number.ensures.within in let q = c.from.ensures in let n : length c.args.hand.now.running ≡ 8 = search rules in omega arith) ∙ c.in-Some.is) in (
+-- what the step says
+offs : (c : goal.After-set_running) → (running (view_of c.args.hand.now) c.args.processor ≡ Some c.in-Some.element) × TakesOff (call_of c.args.hand.now) c.args.processor c.in-Some.element (view_of c.args.hand.now) c.swap_off.new.seat.me.0
+offs c = let h = c.args.hand.now in let d = c.swap_off.ensures.did in let p = c.number-2.ensures.value in
+    let known : c.in-Some.element < ELEMENTS = search rules in let few : c.args.processor < PROCESSORS = search rules in
+    let stood : running (view_of h) c.args.processor ≡ Some c.in-Some.element = ap₂ (λ (l : List (Option ℕ)) (k : ℕ). get_or l k None) (sym h.putting) (sym (c.from.ensures ∙ c.number.ensures.value)) ∙ (get_or_default h.running c.from.result None _ (let p = c.number.ensures.within in let q = c.from.ensures in let n : length h.running ≡ 8 = search rules in omega arith) ∙ c.in-Some.is) in (
       stood,
-      takes_off (call_of c.args.hand.now) _ _ _ _ _ _ _ refl p.value n.value n.within p.within (ap (serves v) p.value ∙ c.requires.mine) (ap (running v) p.value ∙ (stood ∙ ap Some (sym n.value))) s.off,
+      takes_off (call_of h) c.args.processor c.in-Some.element d.0 (view_of h) _ known few c.requires.mine stood (transport (λ i. Did (call_of h) (view_of h) (processor_word (p i)) d.0 (events.Off (call_of h) (p i)) c.swap_off.new.seat.me.0) d.1),
     )
+
+pub returns-clause-steps : goal.returns-clause-steps
+returns-clause-steps c = offs c.before
+
+pub invariant_of-hand : goal.invariant_of-hand
+invariant_of-hand c = let h = c.args.hand.now in let s = c.swap_off.ensures in let has = (offs c).1.3.has in let n = c.number-number.ensures.value in record {
+  bare = s.queue.1 ∙ h.bare;
+  one = ap (λ (z : View). z.member.ends) has ∙ h.one;
+  none = ap (λ (z : View). z.own.claimed) has ∙ h.none;
+  fresh = ap (λ (z : View). z.own.fresh) has;
+  holding = c.set_held.ensures ∙ ((λ i. set (h.holding i) (n i) true) ∙ sym (ap (λ (z : View). z.own.held) has));
+  serving = h.serving ∙ sym (ap (λ (z : View). z.own.serves) has);
+  putting = c.set_running.ensures ∙ ((λ i. set (h.putting i) (c.number-3.ensures.value i) None) ∙ sym (ap (λ (z : View). z.own.on) has));
+  told = merely s.did.1.step.told;
+  stands = s.stands;
+}

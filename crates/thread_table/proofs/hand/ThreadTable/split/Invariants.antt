@@ -5,4 +5,4 @@ abbrev pub ghosts-split_off : goal.ghosts-split_off
 ghosts-split_off a = record { mask = a.mask.now }
 
 abbrev pub ghosts-count_up : goal.ghosts-count_up
-ghosts-count_up a = record { call = a.seat.now.id; at = 0; element = 0; number = 0 }
+ghosts-count_up a = record { call = a.seat.now.id; element = 0 }

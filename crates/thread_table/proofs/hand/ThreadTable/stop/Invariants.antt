@@ -1,4 +1,5 @@
+use Rattle.event_theory.specs.declared.event.Event.TheVariants as events
 use Rattle.thread_table.proofs.hand.ThreadTable.stop.Given as goal
 
 abbrev pub ghosts-or_stop : goal.ghosts-or_stop
-ghosts-or_stop a = record { call = a.seat.now.id; at = 0; element = a.element; number = 0 }
+ghosts-or_stop a = record { call = a.seat.now.id; event = events.Stop a.seat.now.id a.element }

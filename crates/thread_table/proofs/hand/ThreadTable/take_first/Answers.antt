@@ -1,48 +1,44 @@
-use Rattle.std.proofs.Common.{Ok, rules, ◌≡◌, ◌<◌, ◌∙◌, ℕ, set, true, subst, sym}
-use Rattle.std.proofs.lemmas.Grind.{merely}
-use Rattle.thread_table.specs.declared.layout.TheConstants.{ELEMENTS}
-use Rattle.thread_table.specs.Answers.{TakeAnswer}
+use Rattle.thread_table.proofs.Common.{Ok, rules, ◌≡◌, ◌<◌, ◌∙◌, ℕ, set, true, subst, sym, ap, transport, View, call_of, view_of, take_event, tail_word, Did, merely, ELEMENTS, TakeAnswer}
 use Rattle.thread_table.proofs.Events.Answering.{not_raised, passed_by, taken_first}
 use Rattle.thread_table.proofs.hand.ThreadTable.take_first.Goals as goal
 
-pub returns-then-now-tail-clause-taken : goal.returns-then-now-tail-clause-taken
-returns-then-now-tail-clause-taken c = let t = c.load_tail-tail.ensures in let p = c.load_place.ensures in let n = c.load_tail-now.ensures in let bounded : c.of-place.result.element < 256 = search rules in
+pub returns-then-now-tail-clause-steps : goal.returns-then-now-tail-clause-steps
+returns-then-now-tail-clause-steps c = let t = c.load_tail-tail.ensures in let p = c.load_place.ensures in let n = c.load_tail-now.ensures in let bounded : c.of-place.result.element < 256 = search rules in
     not_raised c.args.hand.now.seat.id _ _ _ _ _ _ _ c.of-place.result.element c.of-place.result.mark _ t.found p.found n.found c.of-place.ensures bounded c.if-place-tail.true c.if-now-tail.true
 
-pub returns-then-place-tail-clause-taken : goal.returns-then-place-tail-clause-taken
-returns-then-place-tail-clause-taken c = let t = c.load_tail-tail.ensures in let p = c.load_place.ensures in let n = c.load_tail-now.ensures in
+pub returns-then-place-tail-clause-steps : goal.returns-then-place-tail-clause-steps
+returns-then-place-tail-clause-steps c = let t = c.load_tail-tail.ensures in let p = c.load_place.ensures in let n = c.load_tail-now.ensures in
     passed_by c.args.hand.now.seat.id _ _ _ _ _ _ _ _ t.found p.found n.found t.tail n.tail c.if-now-tail.false
 
-pub returns-then-found-tail-clause-taken : goal.returns-then-found-tail-clause-taken
-returns-then-found-tail-clause-taken c = let t = c.load_tail-tail.ensures in let p = c.load_place.ensures in let e = c.exchange_tail-found.ensures.miss c.if-found-tail.true in
+pub returns-then-found-tail-clause-steps : goal.returns-then-found-tail-clause-steps
+returns-then-found-tail-clause-steps c = let t = c.load_tail-tail.ensures in let p = c.load_place.ensures in let e = c.exchange_tail-found.ensures.miss c.if-found-tail.true in
     passed_by c.args.hand.now.seat.id _ _ _ _ _ _ _ _ t.found p.found e.0 t.tail e.1 c.if-found-tail.true
 
+-- what the three steps of the taking say
+taken : (c : goal.After-from) → (c.of-place.result.element < ELEMENTS) × TakeAnswer (call_of c.args.hand.now) (view_of c.args.hand.now) c.args.ring (Ok c.of-place.result.element) c.exchange_tail-found.new.seat.me.0
+taken c = let t = c.load_tail-tail.ensures in let p = c.load_place.ensures in let x = c.of-place.result in let h = c.args.hand.now in let w = c.exchange_tail-found.new.seat.me.0 in let id = p.queue.0.1 ∙ t.queue.0.1 in let bounded : x.element < 256 = search rules in
+    let d = transport (λ i. Did (id i) c.load_place.new.seat.me.0 (tail_word c.args.ring) c.load_tail-tail.result (take_event (id i) c.args.ring) w) (c.exchange_tail-found.ensures.hit c.if-found-tail.false) in
+    taken_first _ _ _ _ _ _ _ _ x.element x.mark c.requires.1 t.found p.found t.tail p.place c.of-place.ensures bounded c.if-place-tail.false d
+
 pub bounds-hand-from : goal.bounds-hand-from
-bounds-hand-from c = let t = c.load_tail-tail.ensures in let p = c.load_place.ensures in let x = c.of-place.result in let bounded : x.element < 256 = search rules in
-    let k = taken_first _ _ _ _ _ _ _ _ _ x.element x.mark (p.queue.0.1 ∙ t.queue.0.1) c.args.hand.now.none c.requires.1 t.found p.found t.tail p.place c.of-place.ensures bounded c.if-place-tail.false (c.exchange_tail-found.ensures.hit c.if-found-tail.false) in
-    subst (λ (n : ℕ). n < 64) (sym c.from.ensures) k.known
+bounds-hand-from c = subst (λ (n : ℕ). n < 64) (sym c.from.ensures) (taken c).0
 
 pub invariant_of-hand-2 : goal.invariant_of-hand-2
-invariant_of-hand-2 c = let t = c.load_tail-tail.ensures in let p = c.load_place.ensures in let x = c.of-place.result in let h = c.args.hand.now in let bounded : x.element < 256 = search rules in
-    let k = taken_first _ _ _ _ _ _ _ _ _ x.element x.mark (p.queue.0.1 ∙ t.queue.0.1) h.none c.requires.1 t.found p.found t.tail p.place c.of-place.ensures bounded c.if-place-tail.false (c.exchange_tail-found.ensures.hit c.if-found-tail.false) in record {
-      bare = c.exchange_tail-found.ensures.queue.1 ∙ (p.queue.1 ∙ (t.queue.1 ∙ h.bare));
-      one = k.stays.ends ∙ h.one;
-      none = k.stays.claimed;
-      fresh = k.stays.fresh;
-      holding = (λ i. set (h.holding i) (c.from.ensures i) true) ∙ k.held;
-      serving = h.serving ∙ k.stays.serves;
-      putting = h.putting ∙ k.stays.on;
-      told = merely (c.exchange_tail-found.ensures.hit c.if-found-tail.false).did.told;
-      stands = c.exchange_tail-found.ensures.stands;
-    }
+invariant_of-hand-2 c = let t = c.load_tail-tail.ensures in let p = c.load_place.ensures in let h = c.args.hand.now in let e = c.exchange_tail-found.ensures in let has = (taken c).1.8.has in record {
+  bare = e.queue.1 ∙ (p.queue.1 ∙ (t.queue.1 ∙ h.bare));
+  one = ap (λ (z : View). z.member.ends) has ∙ h.one;
+  none = ap (λ (z : View). z.own.claimed) has ∙ h.none;
+  fresh = ap (λ (z : View). z.own.fresh) has;
+  holding = (λ i. set (h.holding i) (c.from.ensures i) true) ∙ sym (ap (λ (z : View). z.own.held) has);
+  serving = h.serving ∙ sym (ap (λ (z : View). z.own.serves) has);
+  putting = h.putting ∙ sym (ap (λ (z : View). z.own.on) has);
+  told = merely (e.hit c.if-found-tail.false).step.told;
+  stands = e.stands;
+}
 
 pub unreachable-requires : goal.unreachable-requires
-unreachable-requires c = let t = c.load_tail-tail.ensures in let p = c.load_place.ensures in let x = c.of-place.result in let bounded : x.element < 256 = search rules in
-    let k = taken_first _ _ _ _ _ _ _ _ _ x.element x.mark (p.queue.0.1 ∙ t.queue.0.1) c.args.hand.now.none c.requires.1 t.found p.found t.tail p.place c.of-place.ensures bounded c.if-place-tail.false (c.exchange_tail-found.ensures.hit c.if-found-tail.false) in
-    let known : x.element < ELEMENTS = k.known in search rules
+unreachable-requires c = let known : c.of-place.result.element < ELEMENTS = (taken c.before.before.before).0 in search rules
 
-pub returns-clause-taken : goal.returns-clause-taken
-returns-clause-taken c = let t = c.load_tail-tail.ensures in let p = c.load_place.ensures in let x = c.of-place.result in let bounded : x.element < 256 = search rules in
-    let k = taken_first _ _ _ _ _ _ _ _ _ x.element x.mark (p.queue.0.1 ∙ t.queue.0.1) c.args.hand.now.none c.requires.1 t.found p.found t.tail p.place c.of-place.ensures bounded c.if-place-tail.false (c.exchange_tail-found.ensures.hit c.if-found-tail.false) in
-    let is : c.in-Some.element ≡ x.element = search rules in
-    subst (λ (n : ℕ). TakeAnswer c.args.hand.now.seat.id c.args.hand.now.seat.me.0 c.args.ring (Ok n) c.exchange_tail-found.new.seat.me.0) (sym is) k.first
+pub returns-clause-steps : goal.returns-clause-steps
+returns-clause-steps c = let is : c.in-Some.element ≡ c.of-place.result.element = search rules in let h = c.args.hand.now in
+    subst (λ (n : ℕ). TakeAnswer (call_of h) (view_of h) c.args.ring (Ok n) c.exchange_tail-found.new.seat.me.0) (sym is) (taken c.before.before.before).1

@@ -1,17 +1,18 @@
-use Rattle.std.proofs.Common.{◌≡◌, ◌%◌, ◌∙◌, sym}
-use Rattle.thread_table.specs.declared.layout.TheConstants.{STOP}
-use Rattle.thread_table.specs.Answers.{HasSignals}
-use Rattle.thread_table.proofs.Events.StatesSeen.{changed, has_signals, found_state, delivered}
+use Rattle.thread_table.proofs.Common.{◌<◌, ◌∙◌, rules, sym, ap, transport, state_word, Did, ELEMENTS}
+use Rattle.event_theory.specs.declared.event.Event.TheVariants as events
+use Rattle.thread_table.proofs.Schedule.Acting.{acts_two}
+use Rattle.thread_table.proofs.Events.StatesSeen.{has_signals, delivered}
+use Rattle.thread_table.proofs.Events.Tells.{found_at}
 use Rattle.thread_table.proofs.hand.ThreadTable.try_deliver.Goals as goal
 
-pub returns-then-pending-eq0-clause-delivered : goal.returns-then-pending-eq0-clause-delivered
-returns-then-pending-eq0-clause-delivered c = let l = c.load_state-word.ensures in
-    found_state (λ word. word % STOP ≡ 0) _ _ _ _ _ c.number-number.ensures.value l.found (sym c.pending-pending.ensures ∙ c.if-pending-eq0.true)
+pub returns-then-pending-eq0-clause-steps : goal.returns-then-pending-eq0-clause-steps
+returns-then-pending-eq0-clause-steps c = let l = found_at (ap state_word c.number-number.ensures.value) c.load_state-word.ensures.found in (c.load_state-word.result, _, sym c.pending-pending.ensures ∙ c.if-pending-eq0.true, l.acts)
 
-pub returns-then-seen-word-clause-delivered : goal.returns-then-seen-word-clause-delivered
-returns-then-seen-word-clause-delivered c = let l = c.load_state-word.ensures in let e = c.exchange_deliver-seen.ensures.miss c.if-seen-word.true in
-    changed HasSignals _ _ _ _ _ _ _ c.number-number.ensures.value l.found (has_signals _ _ c.pending-pending.ensures c.if-pending-eq0.false) e.0 c.if-seen-word.true
+pub returns-then-seen-word-clause-steps : goal.returns-then-seen-word-clause-steps
+returns-then-seen-word-clause-steps c = let here = ap state_word c.number-number.ensures.value in let l = found_at here c.load_state-word.ensures.found in let e = found_at here (c.exchange_state-seen.ensures.miss c.if-seen-word.true).0 in
+    (c.load_state-word.result, _, _, has_signals _ _ c.pending-pending.ensures c.if-pending-eq0.false, c.if-seen-word.true, acts_two _ _ _ _ _ _ _ l e)
 
-pub returns-clause-delivered : goal.returns-clause-delivered
-returns-clause-delivered c = let l = c.load_state-word.ensures in let n = c.number-number.ensures in
-    delivered _ _ _ _ _ _ _ _ _ l.queue.0.1 n.value n.within l.found (c.exchange_deliver-seen.ensures.hit c.if-seen-word.false) c.pending-pending.ensures c.if-pending-eq0.false
+pub returns-clause-steps : goal.returns-clause-steps
+returns-clause-steps c = let h = c.args.hand.now in let n = c.number-number.ensures.value in let l = c.load_state-word in let id = l.ensures.queue.0.1 in let u = l.new.seat.me.0 in let known : c.args.element < ELEMENTS = search rules in
+    let d = transport (λ i. Did (id i) u (state_word (n i)) l.result (events.Deliver (id i) (n i)) c.exchange_state-seen.new.seat.me.0) (c.exchange_state-seen.ensures.hit c.if-seen-word.false) in let found = found_at (ap state_word n) l.ensures.found in
+    delivered _ _ _ _ _ _ _ known found d c.pending-pending.ensures c.if-pending-eq0.false

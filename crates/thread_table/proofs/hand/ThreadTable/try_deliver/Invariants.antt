@@ -1,4 +1,5 @@
+use Rattle.event_theory.specs.declared.event.Event.TheVariants as events
 use Rattle.thread_table.proofs.hand.ThreadTable.try_deliver.Given as goal
 
-abbrev pub ghosts-exchange_deliver : goal.ghosts-exchange_deliver
-ghosts-exchange_deliver a = record { call = a.seat.now.id; at = 0; element = a.element; number = 0 }
+abbrev pub ghosts-exchange_state : goal.ghosts-exchange_state
+ghosts-exchange_state a = record { call = a.seat.now.id; event = events.Deliver a.seat.now.id a.element }

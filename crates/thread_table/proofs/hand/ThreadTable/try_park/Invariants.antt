@@ -1,4 +1,5 @@
+use Rattle.event_theory.specs.declared.event.Event.TheVariants as events
 use Rattle.thread_table.proofs.hand.ThreadTable.try_park.Given as goal
 
-abbrev pub ghosts-exchange_park : goal.ghosts-exchange_park
-ghosts-exchange_park a = record { call = a.seat.now.id; at = 0; element = a.element; number = 0 }
+abbrev pub ghosts-exchange_state : goal.ghosts-exchange_state
+ghosts-exchange_state a = record { call = a.seat.now.id; event = events.Park a.seat.now.id a.element }

@@ -1,50 +1,58 @@
-use Rattle.std.proofs.Common.{◌∙◌, true, set, sym, ap}
-use Rattle.std.proofs.lemmas.Grind.{merely}
-use Rattle.thread_table.specs.Own.{View}
-use Rattle.thread_table.specs.Answers.{HasStop, HasNoStop}
-use Rattle.thread_table.proofs.Events.StatesSeen.{changed, found_state, bit_up, bit_down, cleared, held_again}
+use Rattle.thread_table.proofs.Common.{Ok, ◌<◌, ◌∙◌, rules, true, set, sym, ap, transport, merely, View, call_of, view_of, StartAnswer, state_word, Did, ELEMENTS}
+use Rattle.thread_table.specs.declared.states.Started.TheVariants as started
+use Rattle.event_theory.specs.declared.event.Event.TheVariants as events
+use Rattle.thread_table.proofs.Schedule.Acting.{acts_two}
+use Rattle.thread_table.proofs.Events.StatesSeen.{bit_up, bit_down, cleared, held_again}
+use Rattle.thread_table.proofs.Events.Tells.{found_at}
 use Rattle.thread_table.proofs.hand.ThreadTable.try_start.Goals as goal
 
-pub returns-then-seen-word-clause-started : goal.returns-then-seen-word-clause-started
-returns-then-seen-word-clause-started c = let l = c.load_state-word.ensures in let e = c.exchange_start-seen.ensures.miss c.if-seen-word.true in
-    changed HasStop _ _ _ _ _ _ _ c.number-number.ensures.value l.found (bit_up _ 16 c.if-not-is_stopping.ensures) e.0 c.if-seen-word.true
+pub returns-then-not-is_stopping-clause-steps : goal.returns-then-not-is_stopping-clause-steps
+returns-then-not-is_stopping-clause-steps c = let l = found_at (ap state_word c.number-number.ensures.value) c.load_state-word.ensures.found in (c.load_state-word.result, _, bit_down _ 16 c.if-not-is_stopping.ensures, l.acts)
 
-pub returns-then-not-is_parked-clause-started : goal.returns-then-not-is_parked-clause-started
-returns-then-not-is_parked-clause-started c = let l = c.load_state-word.ensures in let n = c.number-number.ensures in
-    cleared _ _ _ _ _ _ _ _ l.queue.0.1 n.value n.within l.found c.if-not-is_stopping.ensures (c.exchange_start-seen.ensures.hit c.if-seen-word.false) c.if-not-is_parked.ensures
+pub returns-then-seen-word-clause-steps : goal.returns-then-seen-word-clause-steps
+returns-then-seen-word-clause-steps c = let here = ap state_word c.number-number.ensures.value in let l = found_at here c.load_state-word.ensures.found in let e = found_at here (c.exchange_state-seen.ensures.miss c.if-seen-word.true).0 in
+    (c.load_state-word.result, _, _, bit_up _ 16 c.if-not-is_stopping.ensures, c.if-seen-word.true, acts_two _ _ _ _ _ _ _ l e)
 
-pub returns-clause-started : goal.returns-clause-started
-returns-clause-started c = let l = c.load_state-word.ensures in let n = c.number-number.ensures in
-    held_again _ _ _ _ _ _ _ _ l.queue.0.1 n.value n.within l.found c.if-not-is_stopping.ensures (c.exchange_start-seen.ensures.hit c.if-seen-word.false) c.if-not-is_parked.ensures
-
-pub returns-then-not-is_stopping-clause-started : goal.returns-then-not-is_stopping-clause-started
-returns-then-not-is_stopping-clause-started c = let l = c.load_state-word.ensures in
-    found_state HasNoStop _ _ _ _ _ c.number-number.ensures.value l.found (bit_down _ 16 c.if-not-is_stopping.ensures)
+-- what the two steps say
+starts_clear : (c : goal.Then-not-is_parked) → StartAnswer (call_of c.args.hand.now) (view_of c.args.hand.now) c.args.element (Ok started.Cleared) c.exchange_state-seen.new.seat.me.0
+starts_clear c = let h = c.args.hand.now in let n = c.number-number.ensures.value in let l = c.load_state-word in let id = l.ensures.queue.0.1 in let u = l.new.seat.me.0 in let known : c.args.element < ELEMENTS = search rules in
+    let d = transport (λ i. Did (id i) u (state_word (n i)) l.result (events.Start (id i) (n i)) c.exchange_state-seen.new.seat.me.0) (c.exchange_state-seen.ensures.hit c.if-seen-word.false) in let found = found_at (ap state_word n) l.ensures.found in
+    cleared _ _ _ _ _ _ known found c.if-not-is_stopping.ensures d c.if-not-is_parked.ensures
 
 pub invariant_of-hand-then-not-is_parked : goal.invariant_of-hand-then-not-is_parked
-invariant_of-hand-then-not-is_parked c = let l = c.load_state-word.ensures in let n = c.number-number.ensures in let e = c.exchange_start-seen.ensures in let h = c.args.hand.now in let hit = e.hit c.if-seen-word.false in
-    let k = cleared _ _ _ _ _ _ _ _ l.queue.0.1 n.value n.within l.found c.if-not-is_stopping.ensures hit c.if-not-is_parked.ensures in let has = k.4.has in record {
-      bare = e.queue.1 ∙ (l.queue.1 ∙ h.bare);
-      one = ap (λ (z : View). z.member.ends) has ∙ h.one;
-      none = ap (λ (z : View). z.own.claimed) has ∙ h.none;
-      fresh = ap (λ (z : View). z.own.fresh) has;
-      holding = h.holding ∙ sym (ap (λ (z : View). z.own.held) has);
-      serving = h.serving ∙ sym (ap (λ (z : View). z.own.serves) has);
-      putting = h.putting ∙ sym (ap (λ (z : View). z.own.on) has);
-      told = merely hit.did.told;
-      stands = c.exchange_start-seen.ensures.stands;
-    }
+invariant_of-hand-then-not-is_parked c = let h = c.args.hand.now in let n = c.number-number.ensures.value in let l = c.load_state-word in let e = c.exchange_state-seen.ensures in let has = (starts_clear c).4.has in record {
+  bare = e.queue.1 ∙ (l.ensures.queue.1 ∙ h.bare);
+  one = ap (λ (z : View). z.member.ends) has ∙ h.one;
+  none = ap (λ (z : View). z.own.claimed) has ∙ h.none;
+  fresh = ap (λ (z : View). z.own.fresh) has;
+  holding = h.holding ∙ sym (ap (λ (z : View). z.own.held) has);
+  serving = h.serving ∙ sym (ap (λ (z : View). z.own.serves) has);
+  putting = h.putting ∙ sym (ap (λ (z : View). z.own.on) has);
+  told = merely (e.hit c.if-seen-word.false).step.told;
+  stands = e.stands;
+}
+
+-- what the two steps say
+starts_held : (c : goal.After-set_held) → StartAnswer (call_of c.args.hand.now) (view_of c.args.hand.now) c.args.element (Ok started.Held) c.exchange_state-seen.new.seat.me.0
+starts_held c = let h = c.args.hand.now in let n = c.number-number.ensures.value in let l = c.load_state-word in let id = l.ensures.queue.0.1 in let u = l.new.seat.me.0 in let known : c.args.element < ELEMENTS = search rules in
+    let d = transport (λ i. Did (id i) u (state_word (n i)) l.result (events.Start (id i) (n i)) c.exchange_state-seen.new.seat.me.0) (c.exchange_state-seen.ensures.hit c.if-seen-word.false) in let found = found_at (ap state_word n) l.ensures.found in
+    held_again _ _ _ _ _ _ known found c.if-not-is_stopping.ensures d c.if-not-is_parked.ensures
 
 pub invariant_of-hand-2 : goal.invariant_of-hand-2
-invariant_of-hand-2 c = let l = c.load_state-word.ensures in let n = c.number-number.ensures in let e = c.exchange_start-seen.ensures in let h = c.args.hand.now in let hit = e.hit c.if-seen-word.false in
-    let k = held_again _ _ _ _ _ _ _ _ l.queue.0.1 n.value n.within l.found c.if-not-is_stopping.ensures hit c.if-not-is_parked.ensures in let has = k.1.4.has in record {
-      bare = e.queue.1 ∙ (l.queue.1 ∙ h.bare);
-      one = ap (λ (z : View). z.member.ends) has ∙ h.one;
-      none = ap (λ (z : View). z.own.claimed) has ∙ h.none;
-      fresh = ap (λ (z : View). z.own.fresh) has;
-      holding = c.set_held.ensures ∙ ((λ i. set (h.holding i) (n.value i) true) ∙ sym (ap (λ (z : View). z.own.held) has));
-      serving = h.serving ∙ sym (ap (λ (z : View). z.own.serves) has);
-      putting = h.putting ∙ sym (ap (λ (z : View). z.own.on) has);
-      told = merely hit.did.told;
-      stands = c.exchange_start-seen.ensures.stands;
-    }
+invariant_of-hand-2 c = let h = c.args.hand.now in let n = c.number-number.ensures.value in let l = c.load_state-word in let e = c.exchange_state-seen.ensures in let has = (starts_held c).1.4.has in record {
+  bare = e.queue.1 ∙ (l.ensures.queue.1 ∙ h.bare);
+  one = ap (λ (z : View). z.member.ends) has ∙ h.one;
+  none = ap (λ (z : View). z.own.claimed) has ∙ h.none;
+  fresh = ap (λ (z : View). z.own.fresh) has;
+  holding = c.set_held.ensures ∙ ((λ i. set (h.holding i) (n i) true) ∙ sym (ap (λ (z : View). z.own.held) has));
+  serving = h.serving ∙ sym (ap (λ (z : View). z.own.serves) has);
+  putting = h.putting ∙ sym (ap (λ (z : View). z.own.on) has);
+  told = merely (e.hit c.if-seen-word.false).step.told;
+  stands = e.stands;
+}
+
+pub returns-then-not-is_parked-clause-steps : goal.returns-then-not-is_parked-clause-steps
+returns-then-not-is_parked-clause-steps c = starts_clear c.before
+
+pub returns-clause-steps : goal.returns-clause-steps
+returns-clause-steps c = starts_held c.before

@@ -1,0 +1,145 @@
+-- What ends did at queues and chains, as a sum: the lines, the shuts and the notes, whatever end did them, and by how
+-- many steps. A queue is named by the plan's index.
+use Rattle.std.specs.Prelude.{◌≡◌, ◌==◌, ◌+◌, ℕ, if◌then◌else◌, Bool, List, [], ◌++◌, map, length, slice_index_or}
+use Rattle.std.specs.Prelude.{Result}
+use Rattle.boot_data.specs.declared.plan.QueueIndex.{QueueIndex}
+use Rattle.boot_data.specs.declared.plan.QueueIndex.TheVariants.{Small, Large}
+use Rattle.table_theory.specs.Sharing.{given, kept}
+use Rattle.claim_queue.specs.declared.ends.QueueEnd.{QueueEnd}
+use Rattle.claim_queue.specs.declared.rule.Did.{Did}
+use Rattle.claim_queue.specs.Handles.{view_of}
+use Rattle.claim_queue.specs.Lines.{line_of}
+use Rattle.claim_queue.specs.Own.{nothing_did}
+use Rattle.proc_chain.specs.declared.chaining.ChainRefusal.{ChainRefusal}
+use Rattle.proc_chain.specs.declared.ends.ChainEnd.{ChainEnd}
+use Rattle.proc_chain.specs.declared.quaject.Quaject.{Ghosts}
+use Rattle.proc_chain.specs.Handles as chains
+use Rattle.proc_chain.specs.Notes.{notes_put, notes_taken}
+use Rattle.proc_chain.specs.Own.{View}
+use Rattle.end_steps.specs.declared.poking.Poked.{Poked}
+use Rattle.end_steps.specs.Sums.{line_if, note_if, once_if, notes_run}
+
+-- what was done at one queue: the lines put, the lines taken, and how often it was shut
+pub record AtQueue : Type 0 where
+  pub put : List (List ℕ)
+  pub taken : List (List ℕ)
+  pub shuts : ℕ
+
+-- nothing was done at a queue
+abbrev pub idle_queue : AtQueue
+idle_queue = record { put = []; taken = []; shuts = 0 }
+
+-- first the one, and then the other
+abbrev pub both_queue : AtQueue → AtQueue → AtQueue
+both_queue a b = record { put = a.put ++ b.put; taken = a.taken ++ b.taken; shuts = a.shuts + b.shuts }
+
+-- what was done at one chain: the notes chained, each in a list of its own, and how many were run
+pub record AtChain : Type 0 where
+  pub notes : List (List ℕ)
+  pub ran : ℕ
+
+-- nothing was done at a chain
+abbrev pub idle_chain : AtChain
+idle_chain = record { notes = []; ran = 0 }
+
+-- first the one, and then the other
+abbrev pub both_chain : AtChain → AtChain → AtChain
+both_chain a b = record { notes = a.notes ++ b.notes; ran = a.ran + b.ran }
+
+-- what an end has of its object: what it did there, and its share
+pub record Stake (D : Type 0) : Type 0 where
+  pub did : D
+  pub share : ℕ
+
+-- an end that did nothing, and has no share
+abbrev pub no_stake : {D : Type 0} → D → Stake D
+no_stake none = record { did = none; share = 0 }
+
+-- what two ends have together
+abbrev pub both_stakes : {D : Type 0} → (D → D → D) → Stake D → Stake D → Stake D
+both_stakes add a b = record { did = add a.did b.did; share = a.share + b.share }
+
+-- what a split leaves to an end
+abbrev pub keep : {D : Type 0} → Stake D → Stake D
+keep stake = record stake { share = kept stake.share }
+
+-- what a split gives to the new end, which did nothing
+abbrev pub give : {D : Type 0} → D → Stake D → Stake D
+give none stake = record { did = none; share = given stake.share }
+
+-- an end's runs and takings, as lines
+abbrev pub lines_of : Did → AtQueue
+lines_of did = record { put = map line_of did.runs; taken = map line_of did.takes; shuts = did.shuts }
+
+-- the notes that an end of a chain put, and how many it took
+abbrev pub notes_of : View → AtChain
+notes_of v = record { notes = notes_put v; ran = length (notes_taken v) }
+
+-- what an end of a queue has
+abbrev pub stake : {n : ℕ} → QueueEnd n → Stake Did
+stake end = record { did = (view_of end).own; share = (view_of end).member.share }
+
+-- what the end of the queue q has
+abbrev pub stakes : {n : ℕ} → List (QueueEnd n) → ℕ → Stake Did
+stakes ends q = slice_index_or (map stake ends) q (no_stake nothing_did)
+
+-- what the end of the queue q did there
+abbrev pub queue_account : {n : ℕ} → List (QueueEnd n) → ℕ → AtQueue
+queue_account ends q = lines_of (stakes ends q).did
+
+-- what an end of a chain has
+abbrev pub chain_stake : {Q W : Type 0} {g : Ghosts Q W} → ChainEnd Q W g → Stake AtChain
+chain_stake end = record { did = notes_of (chains.view_of end); share = (chains.view_of end).member.share }
+
+-- what the end of the chain q has
+abbrev pub chain_stakes : {Q W : Type 0} {g : Ghosts Q W} → List (ChainEnd Q W g) → ℕ → Stake AtChain
+chain_stakes ends q = slice_index_or (map chain_stake ends) q (no_stake idle_chain)
+
+-- what the end of the chain q did there
+abbrev pub chain_account : {Q W : Type 0} {g : Ghosts Q W} → List (ChainEnd Q W g) → ℕ → AtChain
+chain_account ends q = (chain_stakes ends q).did
+
+-- the sum at each place
+abbrev pub at_each : {I A : Type 0} → (A → A → A) → (I → A) → (I → A) → I → A
+at_each add f g q = add (f q) (g q)
+
+-- this at the one place, and the rest at any other
+abbrev pub at_one : {A : Type 0} → A → ℕ → A → ℕ → A
+at_one rest index x q = if q == index then x else rest
+
+-- by the index of a queue: the one for the small queues, and the other for the large
+abbrev pub by_index : {A : Type 0} → (ℕ → A) → (ℕ → A) → QueueIndex → A
+by_index small large (Small q) = small q
+by_index small large (Large q) = large q
+
+-- this at the queue with the one index, and the rest at any other
+abbrev pub only : {A : Type 0} → A → QueueIndex → A → QueueIndex → A
+only rest (Small index) x = by_index (at_one rest index x) (λ q. rest)
+only rest (Large index) x = by_index (λ q. rest) (at_one rest index x)
+
+-- how many places a queue has
+abbrev pub room_of : QueueIndex → ℕ
+room_of (Small q) = 64
+room_of (Large q) = 256
+
+-- the line was put, where the answer is Ok
+abbrev pub put_if : {A E : Type 0} → Result A E → List ℕ → AtQueue
+put_if answer line = record idle_queue { put = line_if answer line }
+
+-- the line was taken, where the answer is Ok
+abbrev pub taken_if : {A E : Type 0} → Result A E → List ℕ → AtQueue
+taken_if answer line = record idle_queue { taken = line_if answer line }
+
+-- the queue was shut, where it was open
+abbrev pub shut_if : Bool → AtQueue
+shut_if was_open = record idle_queue { shuts = once_if was_open }
+
+-- the note was chained, where the answer is Ok, and so many notes were run
+abbrev pub chained_if : Result Poked ChainRefusal → ℕ → AtChain
+chained_if answer note = record { notes = note_if answer note; ran = notes_run answer }
+
+-- a sum that is associative, and has this unit on both sides
+pub record AddsUp {A : Type 0} (none : A) (add : A → A → A) : Type 0 where
+  pub regroups : (a b c : A) → add (add a b) c ≡ add a (add b c)
+  pub none_first : (a : A) → add none a ≡ a
+  pub none_last : (a : A) → add a none ≡ a

@@ -1,0 +1,219 @@
+-- The accounts and the shares of stations add up.
+use Rattle.std.proofs.Common.{◌≡◌, ◌||◌, ◌&&◌, ℕ, Bool, true, false, List, map, refl, sym, ap, ◌∙◌}
+use Rattle.std.specs.Prelude.{nat_lt, slice_index_or}
+use Rattle.std.proofs.Math.Bool.{or_assoc, or-false}
+use Rattle.std.proofs.Math.Nat.{add_comm}
+use Rattle.std.proofs.Math.Path.{fun_ext}
+use Rattle.std.proofs.lemmas.Bool.{ltb-true}
+use Rattle.std.proofs.lemmas.List.{append-nil, append_assoc}
+use Rattle.table_theory.specs.Sharing.{given, kept}
+use Rattle.table_theory.proofs.Counting.{given_kept}
+use Rattle.boot_data.specs.declared.plan.QueueIndex.{QueueIndex}
+use Rattle.claim_queue.specs.declared.ends.QueueEnd.{QueueEnd}
+use Rattle.claim_queue.specs.declared.rule.Did as queues
+use Rattle.end_steps.specs.Accounts.{Stake, AddsUp, both_queue, both_chain, idle_queue, idle_chain, lines_of, stakes, queue_account, at_each, by_index}
+use Rattle.end_steps.specs.Splits as splits
+use Rattle.end_steps.proofs.Accounting.{kept_at, given_at, joined_at, chain_kept_at, chain_given_at, chain_joined_at}
+use Rattle.end_steps.proofs.Adding.{numbers_add, queues_add, chains_add, each_adds, lines_add, by_sizes}
+use Rattle.hand_steps.specs.Tallies.{tally, no_events, behind}
+use Rattle.hand_steps.proofs.Tallies.{tally_more, behind_more, behind_none}
+use Rattle.meters.specs.Own.{nothing_did, did_both}
+use Rattle.thread_table.specs.Answers.{is_in}
+use Rattle.thread_table.specs.Handles.{view_of}
+use Rattle.thread_table.specs.Own.{View}
+use Rattle.thread_table.proofs.Lists.Copies.{get_or-copies}
+use Rattle.processor.specs.declared.station.Parts.{Parts}
+use Rattle.processor.specs.Accounts.{nothing, ◌⊕◌, shown_in, account, unheard, Shares, no_shares, both_shares, each_share, shares}
+use Rattle.processor.specs.Partings.{AreSplit, AreJoined, HaveBoth}
+use Rattle.processor.specs.Running.{line_heard}
+use Rattle.processor.specs.Stations.{IsUnused, no_signals}
+use Rattle.processor.proofs.Logging.{none_in}
+
+tallies_add : AddsUp no_events behind
+tallies_add = record { regroups = behind_more; none_first = λ a. refl; none_last = behind_none }
+
+dids_add : AddsUp nothing_did did_both
+dids_add = record {
+  regroups = λ a b c i. record {
+    ticks = append_assoc a.ticks b.ticks c.ticks i;
+    advances = append_assoc a.advances b.advances c.advances i;
+    set = append_assoc a.set b.set c.set i;
+    fired = append_assoc a.fired b.fired c.fired i;
+    cancelled = append_assoc a.cancelled b.cancelled c.cancelled i;
+  };
+  none_first = λ a. refl;
+  none_last = λ a i. record {
+    ticks = append-nil a.ticks i;
+    advances = append-nil a.advances i;
+    set = append-nil a.set i;
+    fired = append-nil a.fired i;
+    cancelled = append-nil a.cancelled i;
+  };
+}
+
+pub accounts_add : AddsUp nothing (λ a b. a ⊕ b)
+accounts_add = record {
+  regroups = λ a b c i. record {
+    queues = queues.regroups a.queues b.queues c.queues i;
+    chains = chains.regroups a.chains b.chains c.chains i;
+    hand = behind_more a.hand b.hand c.hand i;
+    meters = dids_add.regroups a.meters b.meters c.meters i;
+    heard = append_assoc a.heard b.heard c.heard i;
+    shown = λ e s. or_assoc (a.shown e s) (b.shown e s) (c.shown e s) i;
+  };
+  none_first = λ a i. record {
+    queues = queues.none_first a.queues i;
+    chains = chains.none_first a.chains i;
+    hand = a.hand;
+    meters = a.meters;
+    heard = a.heard;
+    shown = a.shown;
+  };
+  none_last = λ a i. record {
+    queues = queues.none_last a.queues i;
+    chains = chains.none_last a.chains i;
+    hand = behind_none a.hand i;
+    meters = dids_add.none_last a.meters i;
+    heard = append-nil a.heard i;
+    shown = λ e s. or-false (a.shown e s) i;
+  };
+}
+  where
+    queues : AddsUp (λ (q : QueueIndex). idle_queue) (at_each both_queue)
+    queues = each_adds queues_add
+
+    chains : AddsUp (λ (q : ℕ). idle_chain) (at_each both_chain)
+    chains = each_adds chains_add
+
+pub shares_add : AddsUp no_shares both_shares
+shares_add = record {
+  regroups = λ a b c i. record {
+    queues = λ q. numbers_add.regroups (a.queues q) (b.queues q) (c.queues q) i;
+    chains = λ q. numbers_add.regroups (a.chains q) (b.chains q) (c.chains q) i;
+    hand = numbers_add.regroups a.hand b.hand c.hand i;
+    meters = numbers_add.regroups a.meters b.meters c.meters i;
+  };
+  none_first = λ a i. record {
+    queues = λ q. numbers_add.none_first (a.queues q) i;
+    chains = λ q. numbers_add.none_first (a.chains q) i;
+    hand = numbers_add.none_first a.hand i;
+    meters = numbers_add.none_first a.meters i;
+  };
+  none_last = λ a i. record {
+    queues = λ q. numbers_add.none_last (a.queues q) i;
+    chains = λ q. numbers_add.none_last (a.chains q) i;
+    hand = numbers_add.none_last a.hand i;
+    meters = numbers_add.none_last a.meters i;
+  };
+}
+
+pub shares_swap : (a b : Shares) → both_shares a b ≡ both_shares b a
+shares_swap a b = λ i. record {
+  queues = λ q. add_comm (a.queues q) (b.queues q) i;
+  chains = λ q. add_comm (a.chains q) (b.chains q) i;
+  hand = add_comm a.hand b.hand i;
+  meters = add_comm a.meters b.meters i;
+}
+
+-- what is kept and what is given is all that there was
+pub shares_parted : (a : Shares) → both_shares (each_share kept a) (each_share given a) ≡ a
+shares_parted a = λ i. record {
+  queues = λ q. given_kept (a.queues q) i;
+  chains = λ q. given_kept (a.chains q) i;
+  hand = given_kept a.hand i;
+  meters = given_kept a.meters i;
+}
+
+-- two lists of queues, by the index
+module _ {A : Type 0} {f g : ℕ → A} {f' g' : ℕ → A} where
+  both_sizes : ((q : ℕ) → f q ≡ f' q) → ((q : ℕ) → g q ≡ g' q) → by_index f g ≡ by_index f' g'
+  both_sizes small large = by_sizes (by_index f g) (by_index f' g') small large
+
+none_shown : shown_in no_signals ≡ (λ e s. false)
+none_shown = fun_ext (λ e. fun_ext (λ s. shut e s (ap (λ z. is_in z s) (get_or-copies 64 0 e) ∙ none_in s)))
+  where
+    shut : (e s : ℕ) → is_in (slice_index_or no_signals e 0) s ≡ false → shown_in no_signals e s ≡ false
+    shut e s none = ap (λ b. nat_lt e 64 && (nat_lt s 16 && b)) none ∙ never (nat_lt e 64) (nat_lt s 16)
+      where
+        never : (a b : Bool) → (a && (b && false)) ≡ false
+        never true true = refl
+        never true false = refl
+        never false b = refl
+
+both_shown : (a b both : List ℕ) → HaveBoth a b both → shown_in both ≡ (λ e s. shown_in a e s || shown_in b e s)
+both_shown a b both h = fun_ext (λ e. fun_ext (λ s. guarded (is_in (slice_index_or a e 0) s) (is_in (slice_index_or b e 0) s) (is_in (slice_index_or both e 0) s) (nat_lt e 64) (nat_lt s 16) (λ x y. h e s (ltb-true e 64 x) (ltb-true s 16 y))))
+  where
+    guarded : (x y z p q : Bool) → (p ≡ true → q ≡ true → z ≡ (x || y)) → (p && (q && z)) ≡ ((p && (q && x)) || (p && (q && y)))
+    guarded x y z true true f = f refl refl
+    guarded x y z true false f = refl
+    guarded x y z false q f = refl
+
+module _ (processors : ℕ) (old new born : Parts) (s : AreSplit processors old new born) where
+  pub kept_account : account new ≡ account old
+  kept_account = λ i. record {
+    queues = queues i;
+    chains = λ q. (chain_kept_at old.chains.items new.chains.items born.chains.items s.chains.each i q).did;
+    hand = tally (s.hand.acts.has i).own.made;
+    meters = s.meters.own i;
+    heard = map line_heard (s.heard i).items;
+    shown = shown_in (s.signals i);
+  }
+    where
+      queues : by_index (queue_account new.small.items) (queue_account new.large.items) ≡ by_index (queue_account old.small.items) (queue_account old.large.items)
+      queues = both_sizes (λ q k. lines_of (kept_at old.small.items new.small.items born.small.items s.small.each k q).did)
+          (λ q k. lines_of (kept_at old.large.items new.large.items born.large.items s.large.each k q).did)
+
+  pub born_account : IsUnused born → account born ≡ nothing
+  born_account unused = λ i. record {
+    queues = queues i;
+    chains = λ q. (chain_given_at old.chains.items new.chains.items born.chains.items s.chains.each i q).did;
+    hand = tally (s.born_hand.same i).own.made;
+    meters = (s.born_meters i).own;
+    heard = map line_heard (unused.heard i);
+    shown = (ap shown_in unused.signals ∙ none_shown) i;
+  }
+    where
+      queues : by_index (queue_account born.small.items) (queue_account born.large.items) ≡ (λ q. idle_queue)
+      queues = by_sizes _ _ (λ q k. lines_of (given_at old.small.items new.small.items born.small.items s.small.each k q).did)
+          (λ q k. lines_of (given_at old.large.items new.large.items born.large.items s.large.each k q).did)
+
+  pub kept_shares : shares new ≡ each_share kept (shares old)
+  kept_shares = λ i. record {
+    queues = by_sizes (shares new).queues (each_share kept (shares old)).queues (λ q k. (kept_at old.small.items new.small.items born.small.items s.small.each k q).share)
+        (λ q k. (kept_at old.large.items new.large.items born.large.items s.large.each k q).share) i;
+    chains = λ q. (chain_kept_at old.chains.items new.chains.items born.chains.items s.chains.each i q).share;
+    hand = (s.hand.acts.has i).member.share;
+    meters = (s.meters.member i).share;
+  }
+
+  pub given_shares : shares born ≡ each_share given (shares old)
+  given_shares = λ i. record {
+    queues = by_sizes (shares born).queues (each_share given (shares old)).queues (λ q k. (given_at old.small.items new.small.items born.small.items s.small.each k q).share)
+        (λ q k. (given_at old.large.items new.large.items born.large.items s.large.each k q).share) i;
+    chains = λ q. (chain_given_at old.chains.items new.chains.items born.chains.items s.chains.each i q).share;
+    hand = (s.born_hand.same i).member.share;
+    meters = (s.born_meters i).member.share;
+  }
+
+module _ (old other new : Parts) (j : AreJoined old other new) where
+  pub joined_account : account new ≡ account old ⊕ unheard (account other)
+  joined_account = λ i. record {
+    queues = by_sizes (account new).queues (at_each both_queue (account old).queues (account other).queues) (lines old.small.items other.small.items new.small.items j.small) (lines old.large.items other.large.items new.large.items j.large) i;
+    chains = λ q. (chain_joined_at old.chains.items new.chains.items other.chains.items j.chains.each i q).did;
+    hand = (ap (λ (v : View). tally v.own.made) j.hand.acts.has ∙ tally_more (view_of old.hand).own.made (view_of other.hand).own.made) i;
+    meters = j.meters.0.own i;
+    heard = (ap (λ z. map line_heard z.items) j.heard ∙ sym (append-nil (map line_heard old.heard.items))) i;
+    shown = both_shown old.signals other.signals new.signals j.signals i;
+  }
+    where
+      lines : {n : ℕ} (xs ys zs : List (QueueEnd n)) → splits.AreJoined xs ys zs → (q : ℕ) → queue_account zs q ≡ both_queue (queue_account xs q) (queue_account ys q)
+      lines xs ys zs h q = ap (λ (f : ℕ → Stake queues.Did). lines_of (f q).did) (joined_at xs zs ys h.each) ∙ lines_add (stakes xs q).did (stakes ys q).did
+
+  pub joined_shares : shares new ≡ both_shares (shares old) (shares other)
+  joined_shares = λ i. record {
+    queues = by_sizes (shares new).queues (both_shares (shares old) (shares other)).queues (λ q k. (joined_at old.small.items new.small.items other.small.items j.small.each k q).share)
+        (λ q k. (joined_at old.large.items new.large.items other.large.items j.large.each k q).share) i;
+    chains = λ q. (chain_joined_at old.chains.items new.chains.items other.chains.items j.chains.each i q).share;
+    hand = (j.hand.acts.has i).member.share;
+    meters = (j.meters.0.member i).share;
+  }

@@ -1,0 +1,105 @@
+-- What the ends of a station did, and the shares that they have, each as one sum.
+use Rattle.std.specs.Prelude.{◌+◌, ◌&&◌, ◌||◌, ℕ, Bool, false, nat_lt, List, [], ◌++◌, slice_index_or}
+use Rattle.boot_data.specs.declared.plan.QueueIndex.{QueueIndex}
+use Rattle.end_steps.specs.Accounts.{AtQueue, idle_queue, both_queue, AtChain, idle_chain, both_chain, at_each}
+use Rattle.end_steps.specs.Accounts.{by_index, stakes, queue_account, chain_stakes, chain_account}
+use Rattle.hand_steps.specs.Tallies.{Tally, tally, no_events, behind}
+use Rattle.meters.specs.declared.rule.Did.{Did}
+use Rattle.meters.specs.Handles as seats
+use Rattle.meters.specs.Own.{nothing_did, did_both}
+use Rattle.thread_table.specs.Answers.{is_in}
+use Rattle.thread_table.specs.Handles.{view_of}
+use Rattle.processor.specs.declared.station.Parts.{Parts}
+use Rattle.processor.specs.Running.{Line}
+use Rattle.processor.specs.Turns.{heard_lines}
+
+-- What was done at each queue and at each chain, what the hand's events come to, what was done at the meters, what was
+-- heard, and whether a signal of an element was delivered
+pub record Account : Type 0 where
+  pub queues : QueueIndex → AtQueue
+  pub chains : ℕ → AtChain
+  pub hand : Tally
+  pub meters : Did
+  pub heard : List Line
+  pub shown : ℕ → ℕ → Bool
+
+-- nothing was done
+abbrev pub nothing : Account
+nothing = record {
+  queues = λ q. idle_queue;
+  chains = λ q. idle_chain;
+  hand = no_events;
+  meters = nothing_did;
+  heard = [];
+  shown = λ element signal. false;
+}
+
+infixl 10 ◌⊕◌
+-- first the one, and then the other
+abbrev pub ◌⊕◌ : Account → Account → Account
+a ⊕ b = record {
+  queues = at_each both_queue a.queues b.queues;
+  chains = at_each both_chain a.chains b.chains;
+  hand = behind a.hand b.hand;
+  meters = did_both a.meters b.meters;
+  heard = a.heard ++ b.heard;
+  shown = λ element signal. a.shown element signal || b.shown element signal;
+}
+
+-- whether the mask of one of the 64 elements has one of its 16 signals
+abbrev pub shown_in : List ℕ → ℕ → ℕ → Bool
+shown_in masks element signal =
+    nat_lt element 64 && (nat_lt signal 16 && is_in (slice_index_or masks element 0) signal)
+
+-- what the ends of a station did
+abbrev pub account : Parts → Account
+account parts = record {
+  queues = by_index (queue_account parts.small.items) (queue_account parts.large.items);
+  chains = chain_account parts.chains.items;
+  hand = tally (view_of parts.hand).own.made;
+  meters = (seats.view_of parts.meters).own;
+  heard = heard_lines parts;
+  shown = shown_in parts.signals;
+}
+
+-- all but what was heard
+abbrev pub unheard : Account → Account
+unheard a = record a { heard = [] }
+
+-- the shares of each queue, of each chain, of the threads and of the meters
+pub record Shares : Type 0 where
+  pub queues : QueueIndex → ℕ
+  pub chains : ℕ → ℕ
+  pub hand : ℕ
+  pub meters : ℕ
+
+-- no share of anything
+abbrev pub no_shares : Shares
+no_shares = record { queues = λ q. 0; chains = λ q. 0; hand = 0; meters = 0 }
+
+-- the shares of two owners together
+abbrev pub both_shares : Shares → Shares → Shares
+both_shares a b = record {
+  queues = λ q. a.queues q + b.queues q;
+  chains = λ q. a.chains q + b.chains q;
+  hand = a.hand + b.hand;
+  meters = a.meters + b.meters;
+}
+
+-- of each share this part
+abbrev pub each_share : (ℕ → ℕ) → Shares → Shares
+each_share part a = record {
+  queues = λ q. part (a.queues q);
+  chains = λ q. part (a.chains q);
+  hand = part a.hand;
+  meters = part a.meters;
+}
+
+-- what shares the ends of a station have
+abbrev pub shares : Parts → Shares
+shares parts = record {
+  queues = by_index (λ q. (stakes parts.small.items q).share) (λ q. (stakes parts.large.items q).share);
+  chains = λ q. (chain_stakes parts.chains.items q).share;
+  hand = (view_of parts.hand).member.share;
+  meters = (seats.view_of parts.meters).member.share;
+}

@@ -1,0 +1,19 @@
+use Rattle.thread_table.proofs.Common.{rules}
+use Rattle.thread_table.proofs.Events.Allowed.{tries_it}
+use Rattle.thread_table.proofs.Events.Threads.{may_turn}
+use Rattle.thread_table.proofs.Events.Tells.{did_at, found_at, state_found}
+use Rattle.thread_table.proofs.Hands.Looks.{stood}
+use Rattle.thread_table.proofs.steps.exchange_state.Goals as goal
+
+pub compare_exchange-requires : goal.compare_exchange-requires
+compare_exchange-requires g c = let mine = c.requires.mine in let t = may_turn _ _ mine.1 _ _ _ _ c.requires.queue.2 c.requires.turn in
+    (search rules, search rules, tries_it mine.0 t.2 _ _ _ _ c.requires.call t.1 c.state_word.ensures.0)
+
+pub returns-clause-hit : goal.returns-clause-hit
+returns-clause-hit g c is = did_at c.state_word.ensures.0 (c.compare_exchange.ensures.2.1.0 is)
+
+pub returns-clause-miss : goal.returns-clause-miss
+returns-clause-miss g c ne = let f = found_at c.state_word.ensures.0 (c.compare_exchange.ensures.2.1.1 ne) in (f, state_found _ _ _ _ c.requires.queue.2 f)
+
+pub returns-clause-stands : goal.returns-clause-stands
+returns-clause-stands g c = stood _ _ _ _ c.requires.call (search rules) c.compare_exchange.ensures.2.2

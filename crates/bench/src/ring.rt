@@ -6,9 +6,9 @@ ghost use Rattle.thread_table.specs.Handles.{view_of, IsDivisible, IsHandOf, IsS
 
 use crate::fault::Fault;
 use crate::measure::{Done, Watch};
+use boot_threads::{Job, prepare, run_all};
 use crossbeam_utils::Backoff;
 use event_theory::{Element, Processor};
-use kernel_threads::{Job, prepare, run_all};
 use std::alloc::Global;
 use std::rt::Clock;
 use std::sync::Wait;

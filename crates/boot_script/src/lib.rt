@@ -19,7 +19,6 @@
 #![tactic(auto)]
 
 mod boot;
-pub mod boot_laws;
 mod boot_lines;
 mod boot_words;
 mod commands;
@@ -37,6 +36,7 @@ mod printing;
 pub mod reading;
 mod report_printing;
 mod run;
+pub mod spelling_laws;
 mod text;
 mod unescaping;
 mod version;

@@ -9,9 +9,9 @@ ghost use Rattle.thread_table.specs.Handles.{IsHandOf};
 ghost use Rattle.spsc_line.specs.Lines.{SameIn, SameOut};
 
 use arrayvec::ArrayVec;
+use boot_threads::*;
 use claim_queue::{ClaimQueue, QueueEnd, TakeRefusal};
 use event_theory::{Alarm, Element, Signal};
-use kernel_threads::*;
 use meters::Meters;
 use proc_chain::{ChainEnd, ProcChain};
 use quajects::{AnyQuaject, CookedTty, Queues, RawTty, retire};

@@ -2,9 +2,9 @@
 
 use crate::fixtures::scripts::plan_if_given;
 use arrayvec::ArrayVec;
+use boot_report::*;
 use event_theory::OutOfMemory;
 use processor::Heard;
-use reporting::*;
 use std::alloc::Global;
 use std::panic::Expect;
 use std::process::Abort;

@@ -1,18 +1,18 @@
 //! A whole kernel: its objects, its first station, its works, and its run.
 ghost use Rattle.std.specs.Prelude.{◌≡◌, ◌+◌, ◌≤◌, All, length, vec_len};
-ghost use Rattle.kernel_threads.specs.Works.{MayWork};
+ghost use Rattle.boot_threads.specs.Works.{MayWork};
 ghost use Rattle.processor.specs.Preparing.{IsPrepared};
 
 use crate::fixtures::lists::{list_of_two, room_for};
 use crate::fixtures::scripts::plan_of;
-use end_steps::NoGate;
-use first_station::{Objects, make_objects};
-use kernel_threads::*;
+use boot_objects::{Objects, make_objects};
+use boot_threads::*;
 use processor::{Shared, Station};
 use spsc_line::LineIn;
 use std::alloc::Global;
 use std::process::Abort;
 use std::sync::Wait;
+use turn_io::NoGate;
 
 /// Two ttys, bytes for one of them, and a thread that hears a line.
 const SCRIPT: &[u8] =

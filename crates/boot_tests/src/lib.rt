@@ -1,4 +1,4 @@
-//! The tests of `objects` with `first_station`, `reporting`, `kernel_threads` and `synth_kernel`, in a crate of their own:
+//! The tests of `boot_objects` with `boot_objects`, `boot_report`, `boot_threads` and `synth_kernel`, in a crate of their own:
 //! beside each they would prove it once more, and a crate for each would have all below built for each.
 #![tactic(auto)]
 

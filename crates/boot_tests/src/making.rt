@@ -1,8 +1,8 @@
 //! The objects of a script.
 
 use crate::fixtures::scripts::{plan_if_given, plan_of};
+use boot_objects::{Objects, make_objects};
 use event_theory::OutOfMemory;
-use first_station::{Objects, make_objects};
 use processor::Shared;
 use std::alloc::Global;
 use std::process::Abort;

@@ -1,4 +1,4 @@
-//! The tests of `thread_table`, `meters` and `hand_steps`, in a crate of their own: beside a library they would prove it
+//! The tests of `thread_table`, `meters` and `turn_dispatch`, in a crate of their own: beside a library they would prove it
 //! once more, and each crate of tests links all that it stands on.
 #![tactic(auto)]
 

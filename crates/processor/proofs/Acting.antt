@@ -1,12 +1,7 @@
 -- What a hand keeps over several steps, and what its events come to.
-use Rattle.std.proofs.Common.{◌≡◌, inr, ℕ, zero, suc, true, List, [], ◌∷◌, ◌++◌, Option, Some, None, false, get_or, set, refl, sym, ap, ◌∙◌, arith}
-use Rattle.std.proofs.lemmas.List.{append_assoc, append-nil}
-use Rattle.thread_table.specs.Own.{View}
-use Rattle.thread_table.specs.Keeping.{Keeps}
-use Rattle.thread_table.specs.Rules.{serves, running}
-use Rattle.hand_steps.specs.Holdings.{OnlyAdds, Steady}
-use Rattle.hand_steps.specs.Tallies.{Tally, tally, behind, no_events, Adds}
-use Rattle.processor.specs.Acts.{Acts, NeverFalls, SteadyOn}
+use Rattle.processor.proofs.Common.{◌≡◌, inr, ℕ, zero, suc, true, List, [], ◌∷◌, Option, Some, None, false, get_or, set, refl, sym, ap, ◌∙◌, arith, append_assoc, append-nil, View, Keeps, serves, running, Tally, tally, behind, no_events, Adds, NeverFalls}
+use Rattle.turn_dispatch.specs.Holdings.{OnlyAdds, Steady}
+use Rattle.processor.specs.Acts.{Acts, SteadyOn}
 use Rattle.processor.proofs.Rising.{rises_on}
 
 pub behind_assoc : (a b c : Tally) → behind (behind a b) c ≡ behind a (behind b c)

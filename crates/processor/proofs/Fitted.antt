@@ -1,20 +1,8 @@
 -- What the steps of a plan name is among the shared objects.
-use Rattle.std.proofs.Common.{◌≡◌, ℕ, zero, suc, ◌≤◌, List, [], ◌∷◌, length, Some, arith}
-use Rattle.std.proofs.Math.Bridge.{le_prop}
-use Rattle.std.proofs.Math.Logic.{∥∥₁_elim}
-use Rattle.std.specs.List.{AllByRecursion}
-use Rattle.boot_data.specs.declared.boot_plan.BootPlan.{BootPlan}
-use Rattle.boot_data.specs.declared.plan.PlannedThread.{PlannedThread}
-use Rattle.boot_data.specs.declared.plan.QueueIndex.{QueueIndex}
-use Rattle.boot_data.specs.declared.plan.QueueIndex.TheVariants.{Small, Large}
-use Rattle.boot_data.specs.declared.plan.Step.{Step}
+use Rattle.processor.proofs.Common.{◌≡◌, ℕ, zero, suc, ◌≤◌, List, [], ◌∷◌, length, Some, arith, le_prop, ∥∥₁_elim, AllByRecursion, BootPlan, PlannedThread, QueueIndex, Small, Large, Step, plan_of, Plan, steps_at, IsPlan, IsProgramOf, many_of, Shared, program, step_of}
 use Rattle.boot_data.specs.declared.plan.Step.TheVariants as steps
-use Rattle.boot_data.specs.BootPlans.{plan_of}
-use Rattle.boot_data.specs.Plans.{Plan, steps_at}
-use Rattle.boot_data.specs.PlanLimits.{IsPlan, IsProgramOf, IsStepOf, many_of}
+use Rattle.boot_data.specs.PlanLimits.{IsStepOf}
 use Rattle.event_theory.proofs.Lists.Placed.{all_at}
-use Rattle.processor.specs.declared.shared.Shared.{Shared}
-use Rattle.processor.specs.Programs.{program, step_of}
 use Rattle.processor.specs.Steps.{Fits}
 
 its_steps : (plan : Plan) (threads : List PlannedThread) (e : ℕ) → AllByRecursion (IsProgramOf (many_of plan)) threads

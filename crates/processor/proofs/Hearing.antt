@@ -1,15 +1,7 @@
 -- How many lines the threads of a plan can hear.
-use Rattle.std.proofs.Common.{◌*◌, ◌≤◌, List, [], ◌∷◌, length, arith}
-use Rattle.std.proofs.Math.Bridge.{le_prop}
-use Rattle.std.proofs.Math.Logic.{∥∥₁_elim}
-use Rattle.std.proofs.lemmas.List.Sums.{sum_by-cons, count_by-le-length}
-use Rattle.std.specs.List.{sum_by, AllByRecursion}
-use Rattle.boot_data.specs.declared.boot_plan.BootPlan.{BootPlan}
-use Rattle.boot_data.specs.declared.plan.PlannedThread.{PlannedThread}
-use Rattle.boot_data.specs.Plans.{Plan}
-use Rattle.boot_data.specs.PlanLimits.{IsPlan, IsProgramOf, many_of}
-use Rattle.boot_data.specs.BootPlans.{plan_of}
-use Rattle.processor.specs.Programs.{is_hear, hears_in, hear_count}
+use Rattle.processor.proofs.Common.{◌≤◌, List, [], ◌∷◌, length, arith, le_prop, ∥∥₁_elim, sum_by-cons, sum_by, AllByRecursion, BootPlan, PlannedThread, Plan, IsPlan, IsProgramOf, many_of, plan_of, is_hear, hears_in, hear_count}
+use Rattle.std.proofs.Common.{◌*◌}
+use Rattle.std.proofs.lemmas.List.Sums.{count_by-le-length}
 
 hears_in_few : (plan : Plan) (threads : List PlannedThread) → AllByRecursion (IsProgramOf (many_of plan)) threads → sum_by hears_in threads ≤ 64 * length threads
 hears_in_few plan [] h = omega arith

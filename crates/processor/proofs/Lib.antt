@@ -1,10 +1,15 @@
+pub mod Common
 pub mod Hearing
 pub mod Rooms
 pub mod Rising
 pub mod Fitted
 pub mod Rooming
 pub mod Acting
-pub mod Logging
 pub mod Summing
+pub mod Logging
+pub mod Ticking
+pub mod Keeping
+pub mod Placing
+pub mod Trying
 pub mod Signals
 pub mod Pointing

@@ -1,14 +1,8 @@
 -- No step of a hand undoes a step of a thread.
-use Rattle.std.proofs.Common.{◌≡◌, ⊎_elim, ℕ, zero, suc, ◌≤◌, Bool, true, false, List, [], ◌∷◌, Result, Ok, Err, sym, subst, arith}
-use Rattle.std.proofs.Math.Bridge.{le_prop}
-use Rattle.std.proofs.Math.Logic.{∥∥₁_elim}
-use Rattle.std.specs.Prelude.{MatchResult}
-use Rattle.event_theory.specs.declared.alarm.Alarm.{Alarm}
+use Rattle.processor.proofs.Common.{◌≡◌, ⊎_elim, ℕ, zero, suc, Bool, true, false, List, [], ◌∷◌, Result, Ok, Err, sym, subst, arith, le_prop, ∥∥₁_elim, MatchResult, Alarm, View, view_of, TakesOff, Begun, Idle, Counted, CountAnswer, NeverFalls}
 use Rattle.table_theory.specs.Ends.{Begins}
 use Rattle.table_theory.proofs.Ends.{begins_refl, begins_trans}
-use Rattle.thread_table.specs.Own.{View}
 use Rattle.thread_table.specs.declared.hand.Hand.{Hand}
-use Rattle.thread_table.specs.Handles.{view_of}
 use Rattle.thread_table.specs.declared.moves.MoveRefusal.{MoveRefusal}
 use Rattle.thread_table.specs.declared.moves.MoveRefusal.TheVariants as moves
 use Rattle.thread_table.specs.declared.states.Lost.{Lost}
@@ -18,27 +12,20 @@ use Rattle.thread_table.specs.declared.states.Started.{Started}
 use Rattle.thread_table.specs.declared.states.Started.TheVariants as started
 use Rattle.thread_table.specs.declared.takings.NextRefusal.{NextRefusal}
 use Rattle.thread_table.specs.declared.takings.NextRefusal.TheVariants as nexts
-use Rattle.thread_table.specs.Answers.{TakeAnswer, MoveAnswer, WaitAnswer, StartAnswer, ParkAnswer, DeliverAnswer, SignalAnswer, StoppedNow, PutsOn, TakesOff}
-use Rattle.thread_table.specs.Rules.{done_at}
+use Rattle.thread_table.specs.Answers.{TakeAnswer, MoveAnswer, WaitAnswer, StartAnswer, ParkAnswer, DeliverAnswer, SignalAnswer, StoppedNow, PutsOn}
 use Rattle.thread_table.specs.Telling.{IsHonest}
-use Rattle.thread_table.specs.Wakes.{WokeAll}
 use Rattle.thread_table.proofs.Schedule.Once.{done_grows}
-use Rattle.hand_steps.specs.declared.waking.Woken.{Woken}
-use Rattle.hand_steps.specs.declared.waking.Resumed.{Resumed}
-use Rattle.hand_steps.specs.declared.waking.Resumed.TheVariants as resumed
-use Rattle.hand_steps.specs.declared.moving.Waited.{Waited}
-use Rattle.hand_steps.specs.declared.moving.Waited.TheVariants as waited
-use Rattle.hand_steps.specs.declared.dispatch.Begun.{Begun}
-use Rattle.hand_steps.specs.declared.dispatch.Idle.{Idle}
-use Rattle.hand_steps.specs.declared.dispatch.Idle.TheVariants as idle
-use Rattle.hand_steps.specs.Dispatches.{Began, WasIdle}
-use Rattle.hand_steps.specs.Sendings.{LostTries, LastTry, Sent, LostWaits, LastWait, WaitedAt}
-use Rattle.hand_steps.specs.Tendings.{RaisedAll}
-use Rattle.hand_steps.specs.Wakings.{AllReady, OneReady, Woke, ResumeAnswer}
-use Rattle.hand_steps.specs.declared.counting.Counted.{Counted}
-use Rattle.hand_steps.specs.declared.counting.Counted.TheVariants as counted
-use Rattle.hand_steps.specs.Countings.{CountAnswer}
-use Rattle.processor.specs.Acts.{NeverFalls}
+use Rattle.turn_dispatch.specs.declared.waking.Woken.{Woken}
+use Rattle.turn_dispatch.specs.declared.waking.Resumed.{Resumed}
+use Rattle.turn_dispatch.specs.declared.waking.Resumed.TheVariants as resumed
+use Rattle.turn_dispatch.specs.declared.moving.Waited.{Waited}
+use Rattle.turn_dispatch.specs.declared.moving.Waited.TheVariants as waited
+use Rattle.turn_dispatch.specs.declared.dispatch.Idle.TheVariants as idle
+use Rattle.turn_dispatch.specs.Dispatches.{Began, WasIdle}
+use Rattle.turn_dispatch.specs.Sendings.{LostTries, LastTry, Sent, LostWaits, LastWait, WaitedAt}
+use Rattle.turn_dispatch.specs.Tendings.{RaisedAll}
+use Rattle.turn_dispatch.specs.Wakings.{AllReady, OneReady, Woke, ResumeAnswer}
+use Rattle.turn_dispatch.specs.declared.counting.Counted.TheVariants as counted
 
 pub rises_on : (u v w : View) → NeverFalls u v → NeverFalls v w → NeverFalls u w
 rises_on u v w a b = λ e. let p = a e in let q = b e in omega arith

@@ -1,33 +1,22 @@
 -- There is room for each line that is heard.
-use Rattle.std.proofs.Common.{◌≡◌, ◌+◌, ℕ, ◌<◌, ◌≤◌, ◌==◌, Bool, true, false, List, [], ◌∷◌, ◌++◌, map, vec_capacity, length, length-append, Some, refl, sym, ap, ◌∙◌, subst, arith}
-use Rattle.std.proofs.lemmas.Bool.{eqb-true, and_parts as split}
-use Rattle.std.proofs.lemmas.List.{append-nil}
-use Rattle.std.specs.List.{AllByRecursion, IsDistinct}
-use Rattle.boot_data.specs.declared.boot_plan.BootPlan.{BootPlan}
-use Rattle.boot_data.specs.declared.plan.Step.{Step}
+use Rattle.processor.proofs.Common.{◌≡◌, ◌+◌, ℕ, ◌<◌, ◌≤◌, ◌==◌, Bool, true, false, List, [], ◌∷◌, ◌++◌, map, vec_capacity, length, Some, refl, sym, ap, ◌∙◌, subst, arith, eqb-true, append-nil, AllByRecursion, BootPlan, Step, Counted, CountAnswer, IsNumber, View, done_at, Deed, NeverFalls, IsDeedOf, heard_by, is_heard, Key, same_key, is_hear, IsHear, AreHears, hear_count, step_of, key_of, IsPast, Parts, view_of, Stepped, line_heard}
+use Rattle.std.proofs.Common.{length-append}
+use Rattle.std.proofs.lemmas.Bool.{and_parts as split}
+use Rattle.std.specs.List.{IsDistinct}
 use Rattle.boot_data.specs.declared.plan.Step.TheVariants as steps
-use Rattle.hand_steps.specs.declared.counting.Counted.{Counted}
-use Rattle.hand_steps.specs.declared.counting.Counted.TheVariants as counted
-use Rattle.hand_steps.specs.Countings.{CountAnswer, IsNumber}
-use Rattle.thread_table.specs.Own.{View}
-use Rattle.thread_table.specs.Rules.{done_at}
-use Rattle.processor.specs.declared.deed.Deed.{Deed}
+use Rattle.turn_dispatch.specs.declared.counting.Counted.TheVariants as counted
 use Rattle.processor.specs.declared.deed.Deed.TheVariants as deeds
 use Rattle.processor.specs.declared.station.Heard.{Heard}
-use Rattle.processor.specs.Acts.{NeverFalls}
-use Rattle.processor.specs.Programs.{Key, same_key, is_hear, IsHear, AreHears, hear_count, step_of}
-use Rattle.processor.specs.Rooms.{key_of, IsPast, HasRoom}
-use Rattle.processor.specs.declared.station.Parts.{Parts}
-use Rattle.thread_table.specs.Handles.{view_of}
-use Rattle.processor.specs.Running.{Line, Stepped, line_heard, heard_in, is_heard}
-use Rattle.processor.specs.Steps.{HandDid}
+use Rattle.processor.specs.declared.tries.HearAnswer.TheVariants as answers
+use Rattle.processor.specs.Rooms.{HasRoom}
+use Rattle.processor.specs.Running.{Line}
 use Rattle.processor.proofs.Rooms.{few}
 
 abbrev pub line_key : Line → Key
 line_key l = l.0
 
 abbrev pub key_in : Deed → ℕ → ℕ → List Key
-key_in (deeds.Heard woken) e n = (e, n) ∷ []
+key_in (deeds.Hear queue (answers.Taken paid)) e n = (e, n) ∷ []
 key_in deed e n = []
 
 keys_lines : (hs : List Heard) → map key_of hs ≡ map line_key (map line_heard hs)
@@ -38,14 +27,14 @@ map_more : (xs ys : List Line) → map line_key (xs ++ ys) ≡ map line_key xs +
 map_more [] ys = refl
 map_more (x ∷ xs) ys = ap (λ ks. x.0 ∷ ks) (map_more xs ys)
 
-key_of_heard : (deed : Deed) (e n : ℕ) (text : List ℕ) → map line_key (heard_in deed e n text) ≡ key_in deed e n
-key_of_heard (deeds.Heard woken) e n text = refl
+key_of_heard : (deed : Deed) (e n : ℕ) (text : List ℕ) → map line_key (heard_by deed e n text) ≡ key_in deed e n
+key_of_heard (deeds.Hear queue (answers.Taken paid)) e n text = refl
 key_of_heard deed e n text = refl
 
-pub keys_more : (hs hs' : List Heard) (deed : Deed) (e n : ℕ) (text : List ℕ) → map line_heard hs' ≡ map line_heard hs ++ heard_in deed e n text
+pub keys_more : (hs hs' : List Heard) (deed : Deed) (e n : ℕ) (text : List ℕ) → map line_heard hs' ≡ map line_heard hs ++ heard_by deed e n text
     → map key_of hs' ≡ map key_of hs ++ key_in deed e n
-keys_more hs hs' deed e n text h = keys_lines hs' ∙ ap (map line_key) h ∙ map_more (map line_heard hs) (heard_in deed e n text)
-    ∙ ap (λ ks. ks ++ map line_key (heard_in deed e n text)) (sym (keys_lines hs)) ∙ ap (λ ks. map key_of hs ++ ks) (key_of_heard deed e n text)
+keys_more hs hs' deed e n text h = keys_lines hs' ∙ ap (map line_key) h ∙ map_more (map line_heard hs) (heard_by deed e n text)
+    ∙ ap (λ ks. ks ++ map line_key (heard_by deed e n text)) (sym (keys_lines hs)) ∙ ap (λ ks. map key_of hs ++ ks) (key_of_heard deed e n text)
 
 all_push : (P : Key → Type 0) (ks : List Key) (k : Key) → AllByRecursion P ks → P k → AllByRecursion P (ks ++ k ∷ [])
 all_push P [] k all p = (p, tt)
@@ -73,19 +62,19 @@ all_later v w [] rises all = tt
 all_later v w (k ∷ ks) rises all = (let a = all.0 in let b = rises k.0 in omega arith, all_later v w ks rises all.1)
 
 -- a step that heard a line hears
-heard_hears : (call : ℕ) (plan : BootPlan) (step : Step) (deed : Deed) (v w : View) → HandDid call plan step deed v w → is_heard deed ≡ true → is_hear step ≡ true
-heard_hears call plan (steps.Hear queue) deed v w a h = refl
-heard_hears call plan (steps.Say queue text) (deeds.Heard woken) v w a h = absurd a
-heard_hears call plan (steps.Wait wait) (deeds.Heard woken) v w a h = absurd a
-heard_hears call plan (steps.Wake wait) (deeds.Heard woken) v w a h = absurd a
-heard_hears call plan (steps.Signal thread signal) (deeds.Heard woken) v w a h = absurd a
-heard_hears call plan (steps.Stop thread) (deeds.Heard woken) v w a h = absurd a
-heard_hears call plan (steps.Start thread) (deeds.Heard woken) v w a h = absurd a
-heard_hears call plan (steps.Tick gauge amount) (deeds.Heard woken) v w a h = absurd a
-heard_hears call plan (steps.Poke mover) (deeds.Heard woken) v w a h = absurd a
-heard_hears call plan steps.Pass (deeds.Heard woken) v w a h = absurd a
-heard_hears call plan (steps.Close queue) (deeds.Heard woken) v w a h = absurd a
-heard_hears call plan step deed v w a h = cc
+heard_hears : (step : Step) (deed : Deed) (line : List ℕ) → IsDeedOf step deed line → is_heard deed ≡ true → is_hear step ≡ true
+heard_hears (steps.Hear queue) deed line a h = refl
+heard_hears (steps.Say queue text) (deeds.Hear at answer) line a h = absurd a
+heard_hears (steps.Wait wait) (deeds.Hear at answer) line a h = absurd a
+heard_hears (steps.Wake wait) (deeds.Hear at answer) line a h = absurd a
+heard_hears (steps.Signal thread signal) (deeds.Hear at answer) line a h = absurd a
+heard_hears (steps.Stop thread) (deeds.Hear at answer) line a h = absurd a
+heard_hears (steps.Start thread) (deeds.Hear at answer) line a h = absurd a
+heard_hears (steps.Tick gauge amount) (deeds.Hear at answer) line a h = absurd a
+heard_hears (steps.Poke mover) (deeds.Hear at answer) line a h = absurd a
+heard_hears steps.Pass (deeds.Hear at answer) line a h = absurd a
+heard_hears (steps.Close queue) (deeds.Hear at answer) line a h = absurd a
+heard_hears step deed line a h = cc
 
 -- what a count tells stays so, where no step of the element was counted before and behind
 pub number_on : (answer : Counted) (e : ℕ) (v did after w : View) → done_at did.seen.object e ≡ done_at v.seen.object e → done_at w.seen.object e ≡ done_at after.seen.object e → IsNumber answer e did after → IsNumber answer e v w
@@ -101,26 +90,25 @@ counts_one call e counted.Spent did after v w a is low = absurd (let p = is.0 in
 counts_one call e counted.Undone did after v w a is low = absurd a
 
 -- with a line more that was heard
-pub hears_more : (call p e n : ℕ) (plan : BootPlan) (step : Step) (deed : Deed) (answer : Counted) (v u : View) (keys : List Key)
-    → step_of plan e n ≡ Some step → Stepped call plan p e step deed answer v u → n ≡ done_at v.seen.object e
+pub hears_more : (e n : ℕ) (plan : BootPlan) (step : Step) (deed : Deed) (line : List ℕ) (v : View) (keys : List Key) → step_of plan e n ≡ Some step → IsDeedOf step deed line → n ≡ done_at v.seen.object e
     → AreHears plan keys → AllByRecursion (IsPast v) keys → AreHears plan (keys ++ key_in deed e n)
-hears_more call p e n plan step (deeds.Heard woken) answer v u keys is s now hears past = (
-  all_push (IsHear plan) keys (e, n) hears.0 (record { step = step; is = is; hears = heard_hears call plan step (deeds.Heard woken) s.on s.did s.does refl }),
+hears_more e n plan step (deeds.Hear queue (answers.Taken paid)) line v keys is d now hears past = (
+  all_push (IsHear plan) keys (e, n) hears.0 (record { step = step; is = is; hears = heard_hears step (deeds.Hear queue (answers.Taken paid)) line d refl }),
   distinct_push keys (e, n) hears.1 (all_apart v e n keys now past),
 )
-hears_more call p e n plan step deed answer v u keys is s now hears past = subst (AreHears plan) (sym (append-nil keys)) hears
+hears_more e n plan step deed line v keys is d now hears past = subst (AreHears plan) (sym (append-nil keys)) hears
 
-pub past_more : (call p e n : ℕ) (plan : BootPlan) (step : Step) (deed : Deed) (answer : Counted) (v u w : View) (keys : List Key)
-    → Stepped call plan p e step deed answer v u → IsNumber answer e v u → n ≡ done_at v.seen.object e → n < 64 → NeverFalls v u → NeverFalls u w
+pub past_more : (call p e n : ℕ) (plan : BootPlan) (deed : Deed) (answer : Counted) (v u w : View) (keys : List Key)
+    → Stepped call plan p e deed answer v u → IsNumber answer e v u → n ≡ done_at v.seen.object e → n < 64 → NeverFalls v u → NeverFalls u w
     → AllByRecursion (IsPast v) keys → AllByRecursion (IsPast w) (keys ++ key_in deed e n)
-past_more call p e n plan step (deeds.Heard woken) answer v u w keys s is now low rises on past =
+past_more call p e n plan (deeds.Hear queue (answers.Taken paid)) answer v u w keys s is now low rises on past =
     let counts = counts_one call e answer s.did s.after v u s.counts is (omega (arith, now, low)) in
     all_push (IsPast w) keys (e, n) (all_later u w keys on (all_later v u keys rises past)) (let q = on e in omega (arith, now, counts, q))
-past_more call p e n plan step deed answer v u w keys s is now low rises on past =
+past_more call p e n plan deed answer v u w keys s is now low rises on past =
     subst (AllByRecursion (IsPast w)) (sym (append-nil keys)) (all_later u w keys on (all_later v u keys rises past))
 
 pub room_left : (plan : BootPlan) (keys : List Key) (deed : Deed) (e n : ℕ) → AreHears plan (keys ++ key_in deed e n) → is_heard deed ≡ true → length keys < hear_count plan
-room_left plan keys (deeds.Heard woken) e n h is = let f = few plan (keys ++ (e, n) ∷ []) h in omega (arith, length-append keys ((e, n) ∷ []), f)
+room_left plan keys (deeds.Hear queue (answers.Taken paid)) e n h is = let f = few plan (keys ++ (e, n) ∷ []) h in omega (arith, length-append keys ((e, n) ∷ []), f)
 room_left plan keys deed e n h is = cc
 
 -- nothing more was heard, and no step is undone

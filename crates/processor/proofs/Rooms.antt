@@ -1,18 +1,11 @@
 -- Steps of a plan that hear, none of them twice, are no more than the plan has.
-use Rattle.std.proofs.Common.{◌≡◌, inl, inr, ℕ, zero, suc, ◌+◌, ◌≤◌, ◌==◌, ◌&&◌, ◌||◌, Bool, true, false, cond, if◌then◌else◌, List, [], ◌∷◌, ◌++◌, length, length-append, Some, refl, sym, ◌∙◌, ap, subst, arith, zero-add}
-use Rattle.std.proofs.lemmas.Bool.{eq-eqb, eqb-true, and_parts as split, or_cases as either}
-use Rattle.std.proofs.lemmas.Bool.Decides.{nat_tests}
-use Rattle.std.proofs.lemmas.List.Folds.{list_any-append}
-use Rattle.std.proofs.lemmas.List.Sums.{sum_by-cons}
+use Rattle.processor.proofs.Common.{◌≡◌, inl, inr, ℕ, zero, suc, ◌+◌, ◌≤◌, ◌==◌, ◌&&◌, ◌||◌, Bool, true, false, cond, if◌then◌else◌, List, [], ◌∷◌, ◌++◌, length, Some, refl, sym, ◌∙◌, ap, subst, arith, eqb-true, nat_tests, list_any-append, sum_by-cons, count_by, sum_by, AllByRecursion, BootPlan, PlannedThread, Step, steps_at, Key, same_key, is_hear, hears_in, hear_count, IsHear, AreHears}
+use Rattle.std.proofs.Common.{length-append, zero-add}
+use Rattle.std.proofs.lemmas.Bool.{eq-eqb, and_parts as split, or_cases as either}
 use Rattle.std.proofs.lemmas.Map.Made.{length-le_from_is_member}
 use Rattle.std.specs.Cmp.{IsEquivalence}
-use Rattle.std.specs.List.{slice_get, count_by, sum_by, list_any, AllByRecursion}
+use Rattle.std.specs.List.{slice_get, list_any}
 use Rattle.std.proofs.Math.Bool.{or-true as or_true}
-use Rattle.boot_data.specs.declared.boot_plan.BootPlan.{BootPlan}
-use Rattle.boot_data.specs.declared.plan.PlannedThread.{PlannedThread}
-use Rattle.boot_data.specs.declared.plan.Step.{Step}
-use Rattle.boot_data.specs.Plans.{steps_at}
-use Rattle.processor.specs.Programs.{Key, same_key, is_hear, hears_in, hear_count, IsHear, AreHears}
 
 same_is : (a b : Key) → same_key a b ≡ true → (a.0 ≡ b.0) × (a.1 ≡ b.1)
 same_is a b h = let p = split (a.0 == b.0) (a.1 == b.1) h in (eqb-true a.0 b.0 p.0, eqb-true a.1 b.1 p.1)

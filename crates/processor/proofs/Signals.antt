@@ -1,11 +1,9 @@
 -- The signals of two lists of masks, in one.
-use Rattle.std.proofs.Common.{◌≡◌, ◌≢◌, ◌⊎◌, inl, inr, ℕ, ◌+◌, ◌<◌, ◌≤◌, ◌||◌, true, false, List, get_or, set, length, refl, sym, ap, ◌∙◌, arith, eqb}
+use Rattle.processor.proofs.Common.{◌≡◌, inl, inr, ℕ, ◌+◌, ◌<◌, ◌≤◌, ◌||◌, true, false, List, get_or, set, length, refl, sym, ap, ◌∙◌, arith, eqb_tells, is_in, HaveBoth}
+use Rattle.std.proofs.Common.{◌≢◌, ◌⊎◌, eqb}
 use Rattle.std.specs.Int.Bits.{bit_or}
-use Rattle.std.proofs.lemmas.Bool.Decides.{eqb_tells}
 use Rattle.std.proofs.lemmas.List.{get_or-set_same, get_or-set_other, length-set}
-use Rattle.thread_table.specs.Answers.{is_in}
-use Rattle.hand_steps.proofs.Delivered.{in_or}
-use Rattle.processor.specs.Partings.{HaveBoth}
+use Rattle.turn_dispatch.proofs.Delivered.{in_or}
 
 -- the first k masks have the signals of both lists, and the others are those of the first
 pub record BothUpTo (k : ℕ) (a b all : List ℕ) : Type 0 where

@@ -1,38 +1,37 @@
 -- The accounts and the shares of stations add up.
-use Rattle.std.proofs.Common.{◌≡◌, ◌||◌, ◌&&◌, ℕ, Bool, true, false, List, map, refl, sym, ap, ◌∙◌}
+use Rattle.processor.proofs.Common.{◌≡◌, arith, ◌||◌, ◌&&◌, ℕ, Bool, true, false, List, map, refl, sym, ap, ◌∙◌, nat_tests, append-nil, append_assoc, QueueIndex, QueueEnd, both_queue, both_chain, idle_queue, idle_chain, queue_account, at_each, by_index, queues_add, by_sizes, Shows, tally, no_events, behind, nothing_did, did_both, is_in, view_of, View, Parts, nothing, ◌⊕◌, shown_in, account, seat_parted, shares, HaveBoth, line_heard}
 use Rattle.std.specs.Prelude.{nat_lt, slice_index_or}
 use Rattle.std.proofs.Math.Bool.{or_assoc, or-false}
 use Rattle.std.proofs.Math.Nat.{add_comm}
 use Rattle.std.proofs.Math.Path.{fun_ext}
 use Rattle.std.proofs.lemmas.Bool.{ltb-true}
-use Rattle.std.proofs.lemmas.List.{append-nil, append_assoc}
 use Rattle.table_theory.specs.Sharing.{given, kept}
 use Rattle.table_theory.proofs.Counting.{given_kept}
-use Rattle.boot_data.specs.declared.plan.QueueIndex.{QueueIndex}
-use Rattle.claim_queue.specs.declared.ends.QueueEnd.{QueueEnd}
 use Rattle.claim_queue.specs.declared.rule.Did as queues
-use Rattle.end_steps.specs.Accounts.{Stake, AddsUp, both_queue, both_chain, idle_queue, idle_chain, lines_of, stakes, queue_account, at_each, by_index}
-use Rattle.end_steps.specs.Splits as splits
-use Rattle.end_steps.proofs.Accounting.{kept_at, given_at, joined_at, chain_kept_at, chain_given_at, chain_joined_at}
-use Rattle.end_steps.proofs.Adding.{numbers_add, queues_add, chains_add, each_adds, lines_add, by_sizes}
-use Rattle.hand_steps.specs.Tallies.{tally, no_events, behind}
-use Rattle.hand_steps.proofs.Tallies.{tally_more, behind_more, behind_none}
-use Rattle.meters.specs.Own.{nothing_did, did_both}
-use Rattle.thread_table.specs.Answers.{is_in}
-use Rattle.thread_table.specs.Handles.{view_of}
-use Rattle.thread_table.specs.Own.{View}
+use Rattle.turn_io.specs.Accounts.{Stake, AddsUp, lines_of, stakes}
+use Rattle.turn_io.specs.Splits as splits
+use Rattle.turn_io.proofs.Accounting.{kept_at, given_at, joined_at, chain_kept_at, chain_given_at, chain_joined_at}
+use Rattle.turn_io.proofs.Adding.{numbers_add, chains_add, each_adds, lines_add}
+use Rattle.turn_dispatch.specs.Tallies.{is_delivered}
+use Rattle.turn_dispatch.proofs.Tallies.{tally_more, behind_more, behind_none}
 use Rattle.thread_table.proofs.Lists.Copies.{get_or-copies}
-use Rattle.processor.specs.declared.station.Parts.{Parts}
-use Rattle.processor.specs.Accounts.{nothing, ◌⊕◌, shown_in, account, unheard, Shares, no_shares, both_shares, each_share, shares}
-use Rattle.processor.specs.Partings.{AreSplit, AreJoined, HaveBoth}
-use Rattle.processor.specs.Running.{line_heard}
+use Rattle.processor.specs.Accounts.{unheard, Shares, no_shares, both_shares, each_share}
+use Rattle.processor.specs.Partings.{AreSplit, AreJoined}
 use Rattle.processor.specs.Stations.{IsUnused, no_signals}
-use Rattle.processor.proofs.Logging.{none_in}
+
+pub none_in : (s : ℕ) → is_in 0 s ≡ false
+none_in s = grind (arith, nat_tests)
+
+pub queue_sums : AddsUp (λ (q : QueueIndex). idle_queue) (at_each both_queue)
+queue_sums = each_adds queues_add
+
+pub chain_sums : AddsUp (λ (q : ℕ). idle_chain) (at_each both_chain)
+chain_sums = each_adds chains_add
 
 tallies_add : AddsUp no_events behind
 tallies_add = record { regroups = behind_more; none_first = λ a. refl; none_last = behind_none }
 
-dids_add : AddsUp nothing_did did_both
+pub dids_add : AddsUp nothing_did did_both
 dids_add = record {
   regroups = λ a b c i. record {
     ticks = append_assoc a.ticks b.ticks c.ticks i;
@@ -54,36 +53,30 @@ dids_add = record {
 pub accounts_add : AddsUp nothing (λ a b. a ⊕ b)
 accounts_add = record {
   regroups = λ a b c i. record {
-    queues = queues.regroups a.queues b.queues c.queues i;
-    chains = chains.regroups a.chains b.chains c.chains i;
+    queues = queue_sums.regroups a.queues b.queues c.queues i;
+    chains = chain_sums.regroups a.chains b.chains c.chains i;
     hand = behind_more a.hand b.hand c.hand i;
     meters = dids_add.regroups a.meters b.meters c.meters i;
     heard = append_assoc a.heard b.heard c.heard i;
     shown = λ e s. or_assoc (a.shown e s) (b.shown e s) (c.shown e s) i;
   };
   none_first = λ a i. record {
-    queues = queues.none_first a.queues i;
-    chains = chains.none_first a.chains i;
+    queues = queue_sums.none_first a.queues i;
+    chains = chain_sums.none_first a.chains i;
     hand = a.hand;
     meters = a.meters;
     heard = a.heard;
     shown = a.shown;
   };
   none_last = λ a i. record {
-    queues = queues.none_last a.queues i;
-    chains = chains.none_last a.chains i;
+    queues = queue_sums.none_last a.queues i;
+    chains = chain_sums.none_last a.chains i;
     hand = behind_none a.hand i;
     meters = dids_add.none_last a.meters i;
     heard = append-nil a.heard i;
     shown = λ e s. or-false (a.shown e s) i;
   };
 }
-  where
-    queues : AddsUp (λ (q : QueueIndex). idle_queue) (at_each both_queue)
-    queues = each_adds queues_add
-
-    chains : AddsUp (λ (q : ℕ). idle_chain) (at_each both_chain)
-    chains = each_adds chains_add
 
 pub shares_add : AddsUp no_shares both_shares
 shares_add = record {
@@ -126,8 +119,22 @@ shares_parted a = λ i. record {
 
 -- two lists of queues, by the index
 module _ {A : Type 0} {f g : ℕ → A} {f' g' : ℕ → A} where
-  both_sizes : ((q : ℕ) → f q ≡ f' q) → ((q : ℕ) → g q ≡ g' q) → by_index f g ≡ by_index f' g'
+  pub both_sizes : ((q : ℕ) → f q ≡ f' q) → ((q : ℕ) → g q ≡ g' q) → by_index f g ≡ by_index f' g'
   both_sizes small large = by_sizes (by_index f g) (by_index f' g') small large
+
+guarded : (x y z p q : Bool) → (p ≡ true → q ≡ true → z ≡ (x || y)) → (p && (q && z)) ≡ ((p && (q && x)) || (p && (q && y)))
+guarded x y z true true f = f refl refl
+guarded x y z true false f = refl
+guarded x y z false q f = refl
+
+-- no signal more
+pub none_shows : (f : ℕ → ℕ → Bool) → f ≡ (λ e s. f e s || false)
+none_shows f = λ i e s. sym (or-false (f e s)) i
+
+-- the masks show these signals more
+pub more_shows : (deliveries : List (ℕ × List ℕ)) (old new : List ℕ) → Shows deliveries old new
+    → shown_in new ≡ (λ e s. shown_in old e s || (nat_lt e 64 && (nat_lt s 16 && is_delivered deliveries e s)))
+more_shows ds old new h = fun_ext (λ e. fun_ext (λ s. guarded (is_in (slice_index_or old e 0) s) (is_delivered ds e s) (is_in (slice_index_or new e 0) s) (nat_lt e 64) (nat_lt s 16) (λ x y. h e s (ltb-true e 64 x) (ltb-true s 16 y))))
 
 none_shown : shown_in no_signals ≡ (λ e s. false)
 none_shown = fun_ext (λ e. fun_ext (λ s. shut e s (ap (λ z. is_in z s) (get_or-copies 64 0 e) ∙ none_in s)))
@@ -142,17 +149,12 @@ none_shown = fun_ext (λ e. fun_ext (λ s. shut e s (ap (λ z. is_in z s) (get_o
 
 both_shown : (a b both : List ℕ) → HaveBoth a b both → shown_in both ≡ (λ e s. shown_in a e s || shown_in b e s)
 both_shown a b both h = fun_ext (λ e. fun_ext (λ s. guarded (is_in (slice_index_or a e 0) s) (is_in (slice_index_or b e 0) s) (is_in (slice_index_or both e 0) s) (nat_lt e 64) (nat_lt s 16) (λ x y. h e s (ltb-true e 64 x) (ltb-true s 16 y))))
-  where
-    guarded : (x y z p q : Bool) → (p ≡ true → q ≡ true → z ≡ (x || y)) → (p && (q && z)) ≡ ((p && (q && x)) || (p && (q && y)))
-    guarded x y z true true f = f refl refl
-    guarded x y z true false f = refl
-    guarded x y z false q f = refl
 
 module _ (processors : ℕ) (old new born : Parts) (s : AreSplit processors old new born) where
   pub kept_account : account new ≡ account old
   kept_account = λ i. record {
     queues = queues i;
-    chains = λ q. (chain_kept_at old.chains.items new.chains.items born.chains.items s.chains.each i q).did;
+    chains = λ q. (chain_kept_at old.chains.items new.chains.items born.chains.items s.chains i q).did;
     hand = tally (s.hand.acts.has i).own.made;
     meters = s.meters.own i;
     heard = map line_heard (s.heard i).items;
@@ -166,7 +168,7 @@ module _ (processors : ℕ) (old new born : Parts) (s : AreSplit processors old 
   pub born_account : IsUnused born → account born ≡ nothing
   born_account unused = λ i. record {
     queues = queues i;
-    chains = λ q. (chain_given_at old.chains.items new.chains.items born.chains.items s.chains.each i q).did;
+    chains = λ q. (chain_given_at old.chains.items new.chains.items born.chains.items s.chains i q).did;
     hand = tally (s.born_hand.same i).own.made;
     meters = (s.born_meters i).own;
     heard = map line_heard (unused.heard i);
@@ -177,11 +179,15 @@ module _ (processors : ℕ) (old new born : Parts) (s : AreSplit processors old 
       queues = by_sizes _ _ (λ q k. lines_of (given_at old.small.items new.small.items born.small.items s.small.each k q).did)
           (λ q k. lines_of (given_at old.large.items new.large.items born.large.items s.large.each k q).did)
 
+  -- its seat was not split, and took in no other
+  pub born_seat : seat_parted born ≡ (0, 0)
+  born_seat = λ i. ((s.born_meters i).member.splits, (s.born_meters i).member.joins)
+
   pub kept_shares : shares new ≡ each_share kept (shares old)
   kept_shares = λ i. record {
     queues = by_sizes (shares new).queues (each_share kept (shares old)).queues (λ q k. (kept_at old.small.items new.small.items born.small.items s.small.each k q).share)
         (λ q k. (kept_at old.large.items new.large.items born.large.items s.large.each k q).share) i;
-    chains = λ q. (chain_kept_at old.chains.items new.chains.items born.chains.items s.chains.each i q).share;
+    chains = λ q. (chain_kept_at old.chains.items new.chains.items born.chains.items s.chains i q).share;
     hand = (s.hand.acts.has i).member.share;
     meters = (s.meters.member i).share;
   }
@@ -190,7 +196,7 @@ module _ (processors : ℕ) (old new born : Parts) (s : AreSplit processors old 
   given_shares = λ i. record {
     queues = by_sizes (shares born).queues (each_share given (shares old)).queues (λ q k. (given_at old.small.items new.small.items born.small.items s.small.each k q).share)
         (λ q k. (given_at old.large.items new.large.items born.large.items s.large.each k q).share) i;
-    chains = λ q. (chain_given_at old.chains.items new.chains.items born.chains.items s.chains.each i q).share;
+    chains = λ q. (chain_given_at old.chains.items new.chains.items born.chains.items s.chains i q).share;
     hand = (s.born_hand.same i).member.share;
     meters = (s.born_meters i).member.share;
   }
@@ -199,7 +205,7 @@ module _ (old other new : Parts) (j : AreJoined old other new) where
   pub joined_account : account new ≡ account old ⊕ unheard (account other)
   joined_account = λ i. record {
     queues = by_sizes (account new).queues (at_each both_queue (account old).queues (account other).queues) (lines old.small.items other.small.items new.small.items j.small) (lines old.large.items other.large.items new.large.items j.large) i;
-    chains = λ q. (chain_joined_at old.chains.items new.chains.items other.chains.items j.chains.each i q).did;
+    chains = λ q. (chain_joined_at old.chains.items new.chains.items other.chains.items j.chains i q).did;
     hand = (ap (λ (v : View). tally v.own.made) j.hand.acts.has ∙ tally_more (view_of old.hand).own.made (view_of other.hand).own.made) i;
     meters = j.meters.0.own i;
     heard = (ap (λ z. map line_heard z.items) j.heard ∙ sym (append-nil (map line_heard old.heard.items))) i;
@@ -213,7 +219,7 @@ module _ (old other new : Parts) (j : AreJoined old other new) where
   joined_shares = λ i. record {
     queues = by_sizes (shares new).queues (both_shares (shares old) (shares other)).queues (λ q k. (joined_at old.small.items new.small.items other.small.items j.small.each k q).share)
         (λ q k. (joined_at old.large.items new.large.items other.large.items j.large.each k q).share) i;
-    chains = λ q. (chain_joined_at old.chains.items new.chains.items other.chains.items j.chains.each i q).share;
+    chains = λ q. (chain_joined_at old.chains.items new.chains.items other.chains.items j.chains i q).share;
     hand = (j.hand.acts.has i).member.share;
     meters = (j.meters.0.member i).share;
   }

@@ -1,9 +1,9 @@
 -- What the ends of a station did, and the shares that they have, each as one sum.
 use Rattle.std.specs.Prelude.{◌+◌, ◌&&◌, ◌||◌, ℕ, Bool, false, nat_lt, List, [], ◌++◌, slice_index_or}
 use Rattle.boot_data.specs.declared.plan.QueueIndex.{QueueIndex}
-use Rattle.end_steps.specs.Accounts.{AtQueue, idle_queue, both_queue, AtChain, idle_chain, both_chain, at_each}
-use Rattle.end_steps.specs.Accounts.{by_index, stakes, queue_account, chain_stakes, chain_account}
-use Rattle.hand_steps.specs.Tallies.{Tally, tally, no_events, behind}
+use Rattle.turn_io.specs.Accounts.{AtQueue, idle_queue, both_queue, AtChain, idle_chain, both_chain, at_each}
+use Rattle.turn_io.specs.Accounts.{by_index, queue_account, queue_shares, chain_account, chain_shares}
+use Rattle.turn_dispatch.specs.Tallies.{Tally, tally, no_events, behind}
 use Rattle.meters.specs.declared.rule.Did.{Did}
 use Rattle.meters.specs.Handles as seats
 use Rattle.meters.specs.Own.{nothing_did, did_both}
@@ -62,6 +62,10 @@ account parts = record {
   shown = shown_in parts.signals;
 }
 
+-- how often the seat of the meters was split, and took in another
+abbrev pub seat_parted : Parts → ℕ × ℕ
+seat_parted parts = ((seats.view_of parts.meters).member.splits, (seats.view_of parts.meters).member.joins)
+
 -- all but what was heard
 abbrev pub unheard : Account → Account
 unheard a = record a { heard = [] }
@@ -98,8 +102,8 @@ each_share part a = record {
 -- what shares the ends of a station have
 abbrev pub shares : Parts → Shares
 shares parts = record {
-  queues = by_index (λ q. (stakes parts.small.items q).share) (λ q. (stakes parts.large.items q).share);
-  chains = λ q. (chain_stakes parts.chains.items q).share;
+  queues = by_index (queue_shares parts.small.items) (queue_shares parts.large.items);
+  chains = chain_shares parts.chains.items;
   hand = (view_of parts.hand).member.share;
   meters = (seats.view_of parts.meters).member.share;
 }

@@ -3,7 +3,7 @@ use Rattle.std.specs.Prelude.{◌≡◌, ◌≤◌, ◌<◌, ℕ, true, Some}
 use Rattle.thread_table.specs.Own.{View}
 use Rattle.thread_table.specs.Keeping.{Keeps}
 use Rattle.thread_table.specs.Rules.{done_at, serves, running}
-use Rattle.hand_steps.specs.Tallies.{Tally, Adds}
+use Rattle.turn_dispatch.specs.Tallies.{Tally, Adds}
 
 -- no element's number of steps fell
 abbrev pub NeverFalls : View → View → Type 0

@@ -1,8 +1,8 @@
 -- What splitting a station and joining two leave.
 use Rattle.std.specs.Prelude.{◌≡◌, ◌≤◌, ◌<◌, ◌||◌, ℕ, List, [], ◌∷◌, length, slice_index_or, vec_capacity}
 use Rattle.std.specs.List.{All}
-use Rattle.end_steps.specs.EndLists.{IsDivisible, IsChainDivisible}
-use Rattle.end_steps.specs.Splits as splits
+use Rattle.turn_io.specs.EndLists.{IsDivisible, IsChainDivisible}
+use Rattle.turn_io.specs.Splits as splits
 use Rattle.meters.specs.Handles as seats
 use Rattle.meters.specs.Endings as seat_ends
 use Rattle.meters.specs.Own.{DidSplit, DidBoth}

@@ -5,8 +5,8 @@ use Rattle.boot_data.specs.declared.plan.PipeWaits.{PipeWaits}
 use Rattle.boot_data.specs.declared.plan.QueueIndex.{QueueIndex}
 use Rattle.boot_data.specs.declared.plan.QueueIndex.TheVariants.{Small, Large}
 use Rattle.quajects.specs.declared.world.Pipe.{Pipe}
-use Rattle.hand_steps.specs.declared.waking.Woken.{Woken}
-use Rattle.hand_steps.specs.Wakings.{Woke}
+use Rattle.turn_dispatch.specs.declared.waking.Woken.{Woken}
+use Rattle.turn_dispatch.specs.Wakings.{Woke}
 use Rattle.thread_table.specs.Own.{View}
 use Rattle.thread_table.specs.Answers.{IsTicket}
 use Rattle.processor.specs.declared.ticket.Ticket.{Ticket}

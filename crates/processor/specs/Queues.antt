@@ -9,9 +9,9 @@ use Rattle.boot_data.specs.declared.plan.QueueIndex.TheVariants.{Small, Large}
 use Rattle.claim_queue.specs.declared.claim.ClaimRefusal.{ClaimRefusal}
 use Rattle.claim_queue.specs.declared.ends.QueueEnd.{QueueEnd}
 use Rattle.claim_queue.specs.declared.take.TakeRefusal.{TakeRefusal}
-use Rattle.end_steps.specs.Deeds.{Said, Heard}
-use Rattle.end_steps.specs.EndLists.{OnEnd, only_at}
-use Rattle.end_steps.specs.Sums.{no_lines}
+use Rattle.turn_io.specs.Accounts.{AtQueue, at_each, both_queue, by_index, idle_queue, only, queue_account}
+use Rattle.turn_io.specs.Deeds.{Said, Heard}
+use Rattle.turn_io.specs.EndLists.{OnEnd}
 use Rattle.quajects.specs.declared.world.Queues.{Queues}
 
 -- the text and 0x0A, as one line
@@ -22,15 +22,6 @@ said_line text = text ++ 10 ∷ []
 abbrev pub IsThere : Queues → QueueIndex → Type 0
 IsThere queues (Small queue) = queue < length queues.small.items
 IsThere queues (Large queue) = queue < length queues.large.items
-
--- these lines at the queue, and none elsewhere, among the small queues and among the large
-abbrev pub small_at : QueueIndex → List (List ℕ) → ℕ → List (List ℕ)
-small_at (Small queue) lines = only_at queue lines
-small_at (Large queue) lines = no_lines
-
-abbrev pub large_at : QueueIndex → List (List ℕ) → ℕ → List (List ℕ)
-large_at (Small queue) lines = no_lines
-large_at (Large queue) lines = only_at queue lines
 
 -- the end of the queue said the line, or was refused so; all other ends are as they were
 abbrev pub SaidAt : QueueIndex → List ℕ → Result (Unit {0}) ClaimRefusal → List (QueueEnd 64) → List (QueueEnd 64)
@@ -43,6 +34,12 @@ abbrev pub HeardAt : QueueIndex → List ℕ → Result (Unit {0}) TakeRefusal �
     → List (QueueEnd 256) → List (QueueEnd 256) → Type 0
 HeardAt (Small queue) line answer old new others others' = OnEnd queue (Heard line answer) old new × (others' ≡ others)
 HeardAt (Large queue) line answer others others' old new = OnEnd queue (Heard line answer) old new × (others' ≡ others)
+
+-- at the queue this was done, and nothing at the others
+abbrev pub DidAt : QueueIndex → AtQueue → List (QueueEnd 64) → List (QueueEnd 64) → List (QueueEnd 256)
+    → List (QueueEnd 256) → Type 0
+DidAt queue did old new old' new' = by_index (queue_account new) (queue_account new')
+    ≡ at_each both_queue (by_index (queue_account old) (queue_account old')) (only idle_queue queue did)
 
 abbrev pub waits_in : Option PlannedQueue → Option PipeWaits
 waits_in None = None

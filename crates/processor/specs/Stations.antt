@@ -1,7 +1,7 @@
 -- What a station is made of.
 use Rattle.std.specs.Prelude.{◌≡◌, ℕ, List, [], ◌∷◌}
 use Rattle.std.specs.List.{repeat}
-use Rattle.end_steps.specs.EndLists.{AreEndsOf, AreSameEnds, AreChainEndsOf, AreSameChainEnds}
+use Rattle.turn_io.specs.EndLists.{AreEndsOf, AreSameEnds, AreChainEndsOf, AreSameChainEnds}
 use Rattle.meters.specs.Handles as meters
 use Rattle.thread_table.specs.Handles as threads
 use Rattle.processor.specs.declared.shared.Shared.{Shared}

@@ -1,14 +1,15 @@
 -- The turns of a processor.
-use Rattle.std.specs.Prelude.{◌≡◌, ◌≢◌, ◌≤◌, ◌+◌, ◌&&◌, ℕ, zero, suc, Bool, nat_le, List, ◌++◌, map, length, Option, Some, None}
+use Rattle.std.specs.Prelude.{◌≡◌, ◌≢◌, ◌≤◌, ◌+◌, ◌&&◌, ℕ, Bool, nat_le, List, [], ◌++◌, map, length, Option, Some}
+use Rattle.std.specs.Prelude.{None}
 use Rattle.boot_data.specs.declared.plan.Step.{Step}
-use Rattle.hand_steps.specs.declared.alarms.Tended.{Tended}
-use Rattle.hand_steps.specs.declared.dispatch.Begun.{Begun}
-use Rattle.hand_steps.specs.declared.dispatch.Idle.{Idle}
-use Rattle.hand_steps.specs.Dispatches.{Began, WasIdle, mask_of}
-use Rattle.hand_steps.specs.Holdings.{Shows}
-use Rattle.hand_steps.specs.Sendings.{Sent}
-use Rattle.hand_steps.specs.Tallies.{delivery}
-use Rattle.hand_steps.specs.Tendings.{Fires, RaisedAll}
+use Rattle.turn_dispatch.specs.declared.alarms.Tended.{Tended}
+use Rattle.turn_dispatch.specs.declared.dispatch.Begun.{Begun}
+use Rattle.turn_dispatch.specs.declared.dispatch.Idle.{Idle}
+use Rattle.turn_dispatch.specs.Dispatches.{Began, WasIdle, mask_of}
+use Rattle.turn_dispatch.specs.Holdings.{Shows}
+use Rattle.turn_dispatch.specs.Sendings.{Sent}
+use Rattle.turn_dispatch.specs.Tallies.{delivery}
+use Rattle.turn_dispatch.specs.Tendings.{Fires, RaisedAll}
 use Rattle.meters.specs.Handles as meters
 use Rattle.thread_table.specs.Own.{View}
 use Rattle.thread_table.specs.Handles.{view_of, call_of}
@@ -17,14 +18,15 @@ use Rattle.processor.specs.declared.outcome.Had.TheVariants as hads
 use Rattle.processor.specs.declared.outcome.Outcome.{Outcome}
 use Rattle.processor.specs.declared.outcome.Outcome.TheVariants as outcomes
 use Rattle.processor.specs.declared.outcome.Turned.{Turned}
-use Rattle.processor.specs.declared.sending.Moved.{Moved}
-use Rattle.processor.specs.declared.counting.Tried.{Tried}
+use Rattle.processor.specs.declared.sending.SentOn.{SentOn}
 use Rattle.processor.specs.declared.shared.Shared.{Shared}
 use Rattle.processor.specs.declared.station.Parts.{Parts}
-use Rattle.processor.specs.Deeds.{is_done}
+use Rattle.processor.specs.Deeds.{is_done, IsDeedOf}
+use Rattle.processor.specs.Doings.{heard_by}
 use Rattle.processor.specs.Programs.{program, step_of}
-use Rattle.processor.specs.Running.{Line, Stepped, EndsDid, Goes, line_heard, heard_in}
+use Rattle.processor.specs.Running.{Line, Stepped, EndsDid, Goes, line_heard}
 
+-- the lines that a station keeps
 abbrev pub heard_lines : Parts → List Line
 heard_lines parts = map line_heard parts.heard.items
 
@@ -46,21 +48,21 @@ pub record BegunAt (begun : Begun) (old new : Parts) : Type 0 where
   pub rest : AreAtRest old new
   pub meters : new.meters ≡ old.meters
 
--- The step of the element was tried on the processor, with what that did at all ends; a line that was heard is kept; and
--- the element moved on
-pub record RanStep (shared : Shared) (p : ℕ) (element number : ℕ) (tried : Tried) (moved : Moved) (old new : Parts)
+-- The step of the element was tried on the processor, with what that did at all ends; a line that was heard is kept;
+-- and the element moved on
+pub record RanStep (shared : Shared) (p element number : ℕ) (sent : SentOn) (line : List ℕ) (old new : Parts)
     : Type 0 where
   pub step : Step
   pub is : step_of shared.plan element number ≡ Some step
-  pub text : List ℕ
+  pub deed : IsDeedOf step sent.tried.deed line
   pub stepped : View
-  pub ran : Stepped (call_of old.hand) shared.plan p element step tried.deed tried.counted (view_of old.hand)
+  pub ran : Stepped (call_of old.hand) shared.plan p element sent.tried.deed sent.tried.counted (view_of old.hand)
       stepped
-  pub goes : Goes (call_of old.hand) step tried.deed
-      (is_last (is_done tried.deed) number (length (program shared.plan element))) element moved stepped
+  pub goes : Goes (call_of old.hand) sent.tried.deed
+      (is_last (is_done sent.tried.deed) number (length (program shared.plan element))) element sent.moved stepped
       (view_of new.hand)
-  pub ends : EndsDid shared step tried.deed text old new
-  pub lines : heard_lines new ≡ heard_lines old ++ heard_in tried.deed element number text
+  pub ends : EndsDid shared sent.tried.deed line old new
+  pub lines : heard_lines new ≡ heard_lines old ++ heard_by sent.tried.deed element number line
   pub signals : new.signals ≡ old.signals
 
 -- no element was at hand
@@ -68,19 +70,19 @@ abbrev pub IdleAt : Idle → Parts → Parts → Type 0
 IdleAt idle old new = WasIdle (call_of old.hand) idle (view_of old.hand) (view_of new.hand)
     × AreAtRest old new × (new.meters ≡ old.meters) × (new.signals ≡ old.signals)
 
--- What came of the turn of an element at hand: all its steps were done, and it was retired; or its step was tried
-abbrev pub HadTurn : Shared → ℕ → ℕ → ℕ → Had → Parts → Parts → Type 0
-HadTurn shared p element number (hads.Ended moved) old new = (length (program shared.plan element) ≤ number)
+-- What came of the turn of an element at hand: all its steps were done, and it was retired; or its step was tried, with
+-- this line
+abbrev pub HadTurn : Shared → ℕ → ℕ → ℕ → Had → List ℕ → Parts → Parts → Type 0
+HadTurn shared p element number (hads.Ended moved) line old new = (length (program shared.plan element) ≤ number)
     × Sent (call_of old.hand) 1 element moved (view_of old.hand) (view_of new.hand)
-    × AreAtRest old new × (new.meters ≡ old.meters) × (new.signals ≡ old.signals)
-HadTurn shared p element number (hads.Ran sent) old new =
-    RanStep shared p element number sent.tried sent.moved old new
+    × AreAtRest old new × (new.meters ≡ old.meters) × (new.signals ≡ old.signals) × (line ≡ [])
+HadTurn shared p element number (hads.Ran sent) line old new = RanStep shared p element number sent line old new
 
 -- what came of an element's turn, if one was at hand
-abbrev pub CameOf : Shared → ℕ → Outcome → Parts → Parts → Type 0
-CameOf shared p (outcomes.Idle idle) old new = IdleAt idle old new
-CameOf shared p (outcomes.Had begun had) old new = (mid : Parts) × BegunAt begun old mid
-    × HadTurn shared p begun.element begun.number had mid new
+abbrev pub CameOf : Shared → ℕ → Outcome → List ℕ → Parts → Parts → Type 0
+CameOf shared p (outcomes.Idle idle) line old new = IdleAt idle old new × (line ≡ [])
+CameOf shared p (outcomes.Had begun had) line old new = (mid : Parts) × BegunAt begun old mid
+    × HadTurn shared p begun.element begun.number had line mid new
 
 -- processor 0 tended the alarms, and no other did
 abbrev pub TendedBy : ℕ → Option Tended → Parts → Parts → Type 0
@@ -90,13 +92,7 @@ TendedBy p (Some tended) old new = (p ≡ 0)
     × RaisedAll (call_of old.hand) tended.fired.items (view_of old.hand) (view_of new.hand)
     × AreAtRest old new × (new.signals ≡ old.signals)
 
--- what came of a turn: of the alarms, and then of an element's turn
-abbrev pub TurnOf : Shared → ℕ → Turned → Parts → Parts → Type 0
-TurnOf shared p turned old new =
-    (mid : Parts) × TendedBy p turned.tended old mid × CameOf shared p turned.outcome mid new
-
--- so many turns, one behind the other
-abbrev pub Turns : Shared → ℕ → Parts → Parts → ℕ → Type 0
-Turns shared p old new zero = new ≡ old
-Turns shared p old new (suc n) = (between : Parts) × (turned : Turned) × Turns shared p old between n
-    × TurnOf shared p turned between new
+-- what came of a turn: of the alarms, and then of an element's turn, with the line that it was to say, or heard
+abbrev pub TurnOf : Shared → ℕ → Turned → List ℕ → Parts → Parts → Type 0
+TurnOf shared p turned line old new =
+    (mid : Parts) × TendedBy p turned.tended old mid × CameOf shared p turned.outcome line mid new

@@ -4,17 +4,20 @@
 //! element goes on. `seat` alone makes a `Seated`, which `do_step` takes by value; `do_step` alone makes an `Attempt`,
 //! which the count takes by value. So a tick, a shut, a poke and all else that a step does is done in between.
 ghost use Rattle.std.specs.Prelude.{◌≡◌, [], length, true, Some, slice_set};
-ghost use Rattle.hand_steps.specs.Holdings.{IsFree, IsOn, KeepsBut, Steady};
-ghost use Rattle.hand_steps.specs.Tallies.{Adds, no_events};
+ghost use Rattle.turn_dispatch.specs.Holdings.{IsFree, IsOn, KeepsBut, Steady};
+ghost use Rattle.turn_dispatch.specs.Tallies.{Adds, no_events};
 ghost use Rattle.thread_table.specs.Handles.{view_of, call_of, IsHandOf, IsSameHand};
 ghost use Rattle.thread_table.specs.Rules.{has};
 ghost use Rattle.thread_table.specs.Answers.{PutsOn};
 ghost use Rattle.thread_table.specs.Entries.{HoldsLess};
 ghost use Rattle.processor.specs.Acts.{Acts};
+ghost use Rattle.processor.specs.Deeds.{IsDeedOf, line_in};
+ghost use Rattle.processor.specs.Doings.{raised_by};
+ghost use Rattle.processor.specs.Logs.{EndsWorked};
 ghost use Rattle.processor.specs.Points.{GateSaw, points_of};
 ghost use Rattle.processor.specs.Running.{EndsDid};
 ghost use Rattle.processor.specs.Stations.{ArePartsOf, AreSameParts};
-ghost use Rattle.processor.specs.Steps.{Fits, HandDid, comes_of, raised_by};
+ghost use Rattle.processor.specs.Steps.{Fits, HandDid};
 
 use crate::deed::Deed;
 use crate::shared::Shared;
@@ -22,11 +25,11 @@ use crate::station::Parts;
 use crate::steps::try_step;
 use arrayvec::ArrayVec;
 use boot_data::plan::Step;
-use end_steps::Gate;
 use event_theory::{Element, Processor};
-use hand_steps::put_on;
 use std::sync::Wait;
 use thread_table::{Hand, ThreadTable};
+use turn_dispatch::put_on;
+use turn_io::Gate;
 
 // That an element is on its processor, and its step was not tried there.
 #[derive(Drop)]
@@ -90,13 +93,14 @@ pub(crate) fn do_step<R: Wait, G: Gate>(
     requires parts { ArePartsOf shared.now parts.old }
     requires fits { Fits shared.now.queues (length shared.now.chains.items) step.now }
     requires empty { heard.old.items ≡ [] }
-    ensures comes { comes_of step.now result.deed ≡ true }
+    ensures deed { IsDeedOf step.now result.deed (line_in step.now heard.new.items) }
     ensures parts { ArePartsOf shared.now parts.new }
     ensures same { AreSameParts parts.old parts.new }
-    ensures hand { HandDid (call_of parts.old.hand) shared.now.plan step.now result.deed (view_of parts.old.hand)
+    ensures hand { HandDid (call_of parts.old.hand) shared.now.plan result.deed (view_of parts.old.hand)
         (view_of parts.new.hand) }
-    ensures ends { EndsDid shared.now step.now result.deed heard.new.items parts.old parts.new }
-    ensures acts { Acts (raised_by step.now result.deed) (view_of parts.old.hand) (view_of parts.new.hand) }
+    ensures ends { EndsDid shared.now result.deed (line_in step.now heard.new.items) parts.old parts.new }
+    ensures worked { EndsWorked result.deed (line_in step.now heard.new.items) parts.old parts.new }
+    ensures acts { Acts (raised_by result.deed) (view_of parts.old.hand) (view_of parts.new.hand) }
     ensures heard { parts.new.heard ≡ parts.old.heard }
     ensures signals { parts.new.signals ≡ parts.old.signals }
     ensures gate { GateSaw G.told p (points_of result.deed) gate.old gate.new }

@@ -3,9 +3,9 @@
 //! The type keeps an order: a step is counted behind its try, and its element goes on behind both. A `Tried`, with
 //! which the element goes on, has in it what only a try makes; so no `Tried` comes before it.
 ghost use Rattle.std.specs.Prelude.{◌≡◌};
-ghost use Rattle.hand_steps.specs.Countings.{CountAnswer, IsNumber, SteadyBut, counted_step};
-ghost use Rattle.hand_steps.specs.Holdings.{HoldsSame};
-ghost use Rattle.hand_steps.specs.Tallies.{Adds};
+ghost use Rattle.turn_dispatch.specs.Countings.{CountAnswer, IsNumber, SteadyBut, counted_step};
+ghost use Rattle.turn_dispatch.specs.Holdings.{HoldsSame};
+ghost use Rattle.turn_dispatch.specs.Tallies.{Adds};
 ghost use Rattle.thread_table.specs.Handles.{view_of, call_of, IsHandOf, IsSameHand};
 ghost use Rattle.thread_table.specs.Keeping.{Keeps};
 ghost use Rattle.thread_table.specs.Rules.{MayStep, done_at};
@@ -14,8 +14,8 @@ ghost use Rattle.processor.specs.Deeds.{is_done};
 use crate::attempt::{Attempt, WasTried};
 use crate::deed::Deed;
 use event_theory::Element;
-use hand_steps::{Counted, count};
 use thread_table::{Hand, ThreadTable};
+use turn_dispatch::{Counted, count};
 
 /// What came of a step that was tried on a processor, and of counting it.
 #[derive(Drop)]

@@ -2,45 +2,69 @@
 ghost use Rattle.std.specs.Prelude.{◌≡◌, option_copied};
 
 use crate::ticket::Ticket;
-use crate::tries::{Unheard, Unsaid};
+use crate::tries::{HearAnswer, SayAnswer};
 use crate::waking::Paid;
-use end_steps::Poked;
-use hand_steps::{Resumed, Woken};
+use boot_data::plan::QueueIndex;
+use event_theory::{Element, Gauge, Signal, WaitNumber};
 use proc_chain::ChainRefusal;
 use thread_table::{Lost, Signalled};
+use turn_dispatch::{Resumed, Woken};
+use turn_io::Poked;
 
-/// What came of the one try of a step. A step is done unless it was refused.
+/// What came of the one try of a step, with what that worked on. A step is done unless it was refused.
 #[derive(Drop)]
 pub enum Deed {
-    /// The line was put. Those who waited to hear it are woken, where the queue is a pipe.
-    Said(Paid),
-    /// The queue is shut, and the line was not put.
-    SaidNothing,
-    /// The line was not put. On a pipe this was the ticket of those who wait for room, before the try.
-    NotSaid(Unsaid),
-    /// A line was taken. Those who waited for room are woken, where the queue is a pipe.
-    Heard(Paid),
-    /// The queue is shut and has no line left. Those who waited for room are woken, where the queue is a pipe.
-    HeardNothing(Paid),
-    /// No line was taken. On a pipe this was the ticket of those who wait for a line, before the try.
-    NotHeard(Unheard),
+    /// A line was to be put in the queue.
+    Say {
+        queue: QueueIndex,
+        answer: SayAnswer<Paid>,
+    },
+    /// A line was to be taken from the queue.
+    Hear {
+        queue: QueueIndex,
+        answer: HearAnswer<Paid>,
+    },
     /// The element is to wait.
-    Waits,
+    Wait {
+        wait: WaitNumber,
+    },
     /// Those who waited were woken.
-    Woke(Woken),
-    Signalled(Signalled),
-    /// The stop bit is set. True where it was clear.
-    Stopped(bool),
-    Started(Resumed),
-    NotStarted(Lost),
-    /// The gauge grew from this value.
-    Ticked(u64),
-    Poked(Poked),
-    NotPoked(ChainRefusal),
-    Passed,
+    Wake {
+        wait: WaitNumber,
+        woken: Woken,
+    },
+    /// A signal was made pending, or was pending.
+    Signal {
+        thread: Element,
+        signal: Signal,
+        answer: Signalled,
+    },
+    /// The stop bit is set, which was clear or not.
+    Stop {
+        thread: Element,
+        was_clear: bool,
+    },
+    /// The stop bit was to be cleared.
+    Start {
+        thread: Element,
+        answer: Result<Resumed, Lost>,
+    },
+    /// The gauge grew by the amount, from the value before.
+    Tick {
+        gauge: Gauge,
+        amount: u64,
+        before: u64,
+    },
+    /// A note was to be chained to the pump or switch.
+    Poke {
+        mover: usize,
+        answer: Result<Poked, ChainRefusal>,
+    },
+    Pass,
     /// The queue is shut, which was open or not. Those who waited to hear, and those who waited for room, are woken,
     /// where it is a pipe.
-    Shut {
+    Close {
+        queue: usize,
         was_open: bool,
         readers: Paid,
         writers: Paid,
@@ -48,17 +72,23 @@ pub enum Deed {
 }
 
 impl Deed {
-    ghost use Rattle.processor.specs.Deeds.{is_done, sleeps_on};
+    ghost use Rattle.processor.specs.Deeds.{is_done, sleeps_on, wait_of};
 
     /// Whether the step is done.
     pub fn is_done(&self) -> bool
         ensures { result ≡ is_done self.now }
     {
         match self {
-            Deed::NotSaid(_) => false,
-            Deed::NotHeard(_) => false,
-            Deed::NotStarted(_) => false,
-            Deed::NotPoked(_) => false,
+            Deed::Say {
+                answer: SayAnswer::Refused(_),
+                ..
+            } => false,
+            Deed::Hear {
+                answer: HearAnswer::Refused(_),
+                ..
+            } => false,
+            Deed::Start { answer: Err(_), .. } => false,
+            Deed::Poke { answer: Err(_), .. } => false,
             _ => true,
         }
     }
@@ -68,8 +98,24 @@ impl Deed {
         ensures { option_copied result ≡ sleeps_on self.now }
     {
         match self {
-            Deed::NotSaid(unsaid) => unsaid.ticket_if_full(),
-            Deed::NotHeard(unheard) => unheard.ticket_if_empty(),
+            Deed::Say {
+                answer: SayAnswer::Refused(unsaid),
+                ..
+            } => unsaid.ticket_if_full(),
+            Deed::Hear {
+                answer: HearAnswer::Refused(unheard),
+                ..
+            } => unheard.ticket_if_empty(),
+            _ => None,
+        }
+    }
+
+    /// The wait queue in which the element is to wait, where its step waits.
+    pub fn waits_in(&self) -> Option<WaitNumber>
+        ensures { result ≡ wait_of self.now }
+    {
+        match self {
+            Deed::Wait { wait } => Some(*wait),
             _ => None,
         }
     }

@@ -3,7 +3,7 @@
 ghost use Rattle.std.specs.Prelude.{◌≡◌, ◌≤◌, ℕ, List, length, Some};
 ghost use Rattle.boot_data.specs.declared.boot_plan.BootPlan.{BootPlan};
 ghost use Rattle.boot_data.specs.declared.plan.Step.{Step};
-ghost use Rattle.end_steps.specs.Accounts.{AddsUp};
+ghost use Rattle.turn_io.specs.Accounts.{AddsUp};
 ghost use Rattle.table_theory.specs.Sharing.{given, kept};
 ghost use Rattle.processor.specs.declared.shared.Shared.{Shared};
 ghost use Rattle.processor.specs.Accounts.{◌⊕◌, nothing, Shares, no_shares, both_shares, each_share};

@@ -28,7 +28,6 @@ mod waking;
 
 pub use counting::Tried;
 pub use deed::Deed;
-pub use end_steps::{Gate, Point};
 pub use laws::{accounts_add, hears_are_few, steps_fit};
 pub use outcome::{Had, Outcome, Turned};
 pub use programs::hears_of;
@@ -36,6 +35,7 @@ pub use sending::{Moved, SentOn};
 pub use shared::Shared;
 pub use station::{Heard, Parts, Station};
 pub use ticket::Ticket;
-pub use tries::{Unheard, Unsaid};
+pub use tries::{HearAnswer, SayAnswer, Unheard, Unsaid};
 pub use turn::run;
+pub use turn_io::{Gate, Point};
 pub use waking::Paid;

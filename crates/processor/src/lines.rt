@@ -1,18 +1,19 @@
 //! A line said in a queue, or heard from it, whichever of the two lists it stands in.
 ghost use Rattle.std.specs.Prelude.{◌≡◌, ◌<◌, ◌≤◌, ℕ, [], length, IfOk};
-ghost use Rattle.end_steps.specs.EndLists.{AreEndsOf, AreSameEnds, OnEnd, only_at};
-ghost use Rattle.end_steps.specs.declared.gate.Point.TheVariants.{TakeAnswered};
-ghost use Rattle.end_steps.specs.Deeds.{Heard};
-ghost use Rattle.end_steps.specs.Gates.{ToldOfSay};
-ghost use Rattle.end_steps.specs.Sums.{Worked, line_if, no_lines, never};
-ghost use Rattle.processor.specs.Queues.{IsThere, SaidAt, HeardAt, small_at, large_at, said_line};
+ghost use Rattle.turn_io.specs.Accounts.{StaySound, at_each, at_one, both_queue, idle_queue, put_if, queue_account};
+ghost use Rattle.turn_io.specs.Accounts.{taken_if};
+ghost use Rattle.turn_io.specs.EndLists.{AreEndsOf, AreSameEnds, OnEnd};
+ghost use Rattle.turn_io.specs.declared.gate.Point.TheVariants.{TakeAnswered};
+ghost use Rattle.turn_io.specs.Deeds.{Heard};
+ghost use Rattle.turn_io.specs.Gates.{ToldOfSay};
+ghost use Rattle.processor.specs.Queues.{DidAt, IsThere, SaidAt, HeardAt, said_line};
 
 use arrayvec::ArrayVec;
 use boot_data::Text;
 use boot_data::plan::QueueIndex;
 use claim_queue::{ClaimRefusal, QueueEnd, TakeRefusal};
-use end_steps::{Gate, hear, say};
 use quajects::Queues;
+use turn_io::{Gate, hear, say};
 
 // The line that a text is said as.
 pub(crate) fn line_of(text: &Text<63>) -> ArrayVec<u64, 64>
@@ -43,8 +44,8 @@ pub(crate) fn say_at<G: Gate>(
     ensures small { AreEndsOf queues.now.small.items small.new }
     ensures large { AreEndsOf queues.now.large.items large.new }
     ensures said { SaidAt queue line.now result small.old small.new large.old large.new }
-    ensures small_lines { Worked (small_at queue (line_if result line.now)) no_lines never small.old small.new }
-    ensures large_lines { Worked (large_at queue (line_if result line.now)) no_lines never large.old large.new }
+    ensures did { DidAt queue (put_if result line.now) small.old small.new large.old large.new }
+    ensures sound { StaySound small.old small.new × StaySound large.old large.new }
     ensures gate { ToldOfSay G.told p result gate.old gate.new }
 {
     match queue {
@@ -77,7 +78,9 @@ fn hear_small<G: Gate>(
     ensures same { AreSameEnds small.old small.new }
     ensures small { AreEndsOf queues.now.small.items small.new }
     ensures heard { OnEnd at (Heard text.new.items result) small.old small.new }
-    ensures lines { Worked no_lines (only_at at (line_if result text.new.items)) never small.old small.new }
+    ensures did { queue_account small.new
+        ≡ at_each both_queue (queue_account small.old) (at_one idle_queue at (taken_if result text.new.items)) }
+    ensures sound { StaySound small.old small.new }
     ensures long { IfOk result (λ done. 0 < length text.new.items) }
     ensures gate { G.told gate.old p TakeAnswered gate.new }
 {
@@ -105,8 +108,8 @@ pub(crate) fn hear_at<G: Gate>(
     ensures small { AreEndsOf queues.now.small.items small.new }
     ensures large { AreEndsOf queues.now.large.items large.new }
     ensures heard { HeardAt queue text.new.items result small.old small.new large.old large.new }
-    ensures small_lines { Worked no_lines (small_at queue (line_if result text.new.items)) never small.old small.new }
-    ensures large_lines { Worked no_lines (large_at queue (line_if result text.new.items)) never large.old large.new }
+    ensures did { DidAt queue (taken_if result text.new.items) small.old small.new large.old large.new }
+    ensures sound { StaySound small.old small.new × StaySound large.old large.new }
     ensures long { IfOk result (λ done. 0 < length text.new.items) }
     ensures gate { G.told gate.old p TakeAnswered gate.new }
 {

@@ -1,7 +1,7 @@
 //! What comes of a turn.
 
 use crate::sending::SentOn;
-use hand_steps::{Begun, Idle, Tended};
+use turn_dispatch::{Begun, Idle, Tended};
 
 /// What came of the turn of an element at hand.
 #[derive(Drop)]

@@ -1,31 +1,31 @@
 //! The steps at queues: saying a line, hearing one, and shutting a queue, with those who wait at a pipe.
-ghost use Rattle.std.specs.Prelude.{◌≡◌, ◌<◌, ℕ, List, [], length, true};
-ghost use Rattle.claim_queue.specs.declared.ends.QueueEnd.{QueueEnd};
-ghost use Rattle.boot_data.specs.declared.plan.Step.TheVariants as steps;
-ghost use Rattle.end_steps.specs.EndLists.{AreEndsOf, AreSameEnds};
-ghost use Rattle.end_steps.specs.Sums.{Worked, no_lines, never};
-ghost use Rattle.hand_steps.specs.Tallies.{no_events};
+ghost use Rattle.std.specs.Prelude.{◌≡◌, ◌<◌, [], length};
+ghost use Rattle.turn_io.specs.Accounts.{StaySound, at_each, at_one, both_queue, idle_queue, put_if, queue_account};
+ghost use Rattle.turn_io.specs.Accounts.{shut_if, taken_if};
+ghost use Rattle.turn_io.specs.Deeds.{HasShut};
+ghost use Rattle.turn_io.specs.EndLists.{AreEndsOf, AreSameEnds, OnEnd};
+ghost use Rattle.turn_dispatch.specs.Tallies.{no_events};
 ghost use Rattle.thread_table.specs.Handles.{view_of, call_of, IsHandOf, IsSameHand};
 ghost use Rattle.processor.specs.Acts.{Acts};
+ghost use Rattle.processor.specs.declared.deed.Deed.TheVariants as deeds;
 ghost use Rattle.processor.specs.Points.{GateSaw, points_of};
-ghost use Rattle.processor.specs.Queues.{IsThere};
-ghost use Rattle.processor.specs.Steps.{HandDid, QueuesDid, puts_small, puts_large, takes_small, takes_large};
-ghost use Rattle.processor.specs.Steps.{shuts_by, comes_of};
+ghost use Rattle.processor.specs.Queues.{DidAt, IsThere, said_line};
+ghost use Rattle.processor.specs.Steps.{HandDid, QueuesDid};
+ghost use Rattle.processor.specs.Tries.{said, heard};
 
-use crate::deed::Deed;
 use crate::lines::line_of;
 use crate::pipes::{readers_at, writers_at};
 use crate::shared::Shared;
 use crate::ticket::ticket_for;
 use crate::tries::{HearAnswer, SayAnswer, WasShut, shut_at, try_hear, try_say};
-use crate::waking::wake_for;
+use crate::waking::{Paid, wake_for};
 use arrayvec::ArrayVec;
 use boot_data::Text;
 use boot_data::plan::QueueIndex;
 use claim_queue::QueueEnd;
-use end_steps::Gate;
 use std::sync::Wait;
 use thread_table::Hand;
+use turn_io::Gate;
 
 // One try to say a text in a queue.
 pub(crate) fn say_step<R: Wait, G: Gate>(
@@ -38,21 +38,20 @@ pub(crate) fn say_step<R: Wait, G: Gate>(
     text: &Text<63>,
     p: u8,
     gate: &mut G,
-) -> Deed
+) -> SayAnswer<Paid>
     requires hand { IsHandOf shared.now.threads hand.old }
     requires small { AreEndsOf shared.now.queues.small.items small.old }
     requires large { AreEndsOf shared.now.queues.large.items large.old }
     requires there { IsThere shared.now.queues queue }
-    ensures comes { comes_of (steps.Say queue text.now) result ≡ true }
     ensures small { AreEndsOf shared.now.queues.small.items small.new }
     ensures large { AreEndsOf shared.now.queues.large.items large.new }
-    ensures hand { HandDid (call_of hand.old) shared.now.plan (steps.Say queue text.now) result (view_of hand.old)
+    ensures hand { HandDid (call_of hand.old) shared.now.plan (deeds.Say queue result) (view_of hand.old)
         (view_of hand.new) }
     ensures acts { Acts no_events (view_of hand.old) (view_of hand.new) }
-    ensures queues { QueuesDid (steps.Say queue text.now) result [] small.old small.new large.old large.new }
-    ensures gate { GateSaw G.told p (points_of result) gate.old gate.new }
-    ensures small_lines { Worked (puts_small (steps.Say queue text.now) result) no_lines never small.old small.new }
-    ensures large_lines { Worked (puts_large (steps.Say queue text.now) result) no_lines never large.old large.new }
+    ensures queues { QueuesDid (deeds.Say queue result) (said_line text.now) small.old small.new large.old large.new }
+    ensures did { DidAt queue (put_if (said result) (said_line text.now)) small.old small.new large.old large.new }
+    ensures sound { StaySound small.old small.new × StaySound large.old large.new }
+    ensures gate { GateSaw G.told p (points_of (deeds.Say queue result)) gate.old gate.new }
     ensures same { IsSameHand hand.old hand.new × AreSameEnds small.old small.new × AreSameEnds large.old large.new }
 {
     let readers = readers_at(&shared.plan, queue);
@@ -69,9 +68,11 @@ pub(crate) fn say_step<R: Wait, G: Gate>(
         p,
         gate,
     ) {
-        SayAnswer::Put(owed) => Deed::Said(wake_for(rt, &shared.threads, hand, readers, owed)),
-        SayAnswer::Over => Deed::SaidNothing,
-        SayAnswer::Refused(unsaid) => Deed::NotSaid(unsaid),
+        SayAnswer::Put(owed) => {
+            SayAnswer::Put(wake_for(rt, &shared.threads, hand, readers, owed))
+        }
+        SayAnswer::Over => SayAnswer::Over,
+        SayAnswer::Refused(unsaid) => SayAnswer::Refused(unsaid),
     }
 }
 
@@ -83,40 +84,37 @@ pub(crate) fn hear_step<R: Wait, G: Gate>(
     small: &mut [QueueEnd<64>],
     large: &mut [QueueEnd<256>],
     queue: QueueIndex,
-    heard: &mut ArrayVec<u64, 256>,
+    text: &mut ArrayVec<u64, 256>,
     p: u8,
     gate: &mut G,
-) -> Deed
+) -> HearAnswer<Paid>
     requires hand { IsHandOf shared.now.threads hand.old }
     requires small { AreEndsOf shared.now.queues.small.items small.old }
     requires large { AreEndsOf shared.now.queues.large.items large.old }
     requires there { IsThere shared.now.queues queue }
-    requires empty { heard.old.items ≡ [] }
-    ensures comes { comes_of (steps.Hear queue) result ≡ true }
+    requires empty { text.old.items ≡ [] }
     ensures small { AreEndsOf shared.now.queues.small.items small.new }
     ensures large { AreEndsOf shared.now.queues.large.items large.new }
-    ensures hand { HandDid (call_of hand.old) shared.now.plan (steps.Hear queue) result (view_of hand.old)
+    ensures hand { HandDid (call_of hand.old) shared.now.plan (deeds.Hear queue result) (view_of hand.old)
         (view_of hand.new) }
     ensures acts { Acts no_events (view_of hand.old) (view_of hand.new) }
-    ensures queues { QueuesDid (steps.Hear queue) result heard.new.items small.old small.new large.old large.new }
-    ensures gate { GateSaw G.told p (points_of result) gate.old gate.new }
-    ensures small_lines { Worked no_lines (takes_small (steps.Hear queue) result heard.new.items) never
-        small.old small.new }
-    ensures large_lines { Worked no_lines (takes_large (steps.Hear queue) result heard.new.items) never
-        large.old large.new }
+    ensures queues { QueuesDid (deeds.Hear queue result) text.new.items small.old small.new large.old large.new }
+    ensures did { DidAt queue (taken_if (heard result) text.new.items) small.old small.new large.old large.new }
+    ensures sound { StaySound small.old small.new × StaySound large.old large.new }
+    ensures gate { GateSaw G.told p (points_of (deeds.Hear queue result)) gate.old gate.new }
     ensures same { IsSameHand hand.old hand.new × AreSameEnds small.old small.new × AreSameEnds large.old large.new }
 {
     let readers = readers_at(&shared.plan, queue);
     let writers = writers_at(&shared.plan, queue);
     let ticket = ticket_for(&shared.threads, hand, readers);
-    match try_hear(shared, small, large, queue, heard, ticket, p, gate) {
+    match try_hear(shared, small, large, queue, text, ticket, p, gate) {
         HearAnswer::Taken(owed) => {
-            Deed::Heard(wake_for(rt, &shared.threads, hand, writers, owed))
+            HearAnswer::Taken(wake_for(rt, &shared.threads, hand, writers, owed))
         }
         HearAnswer::Over(owed) => {
-            Deed::HeardNothing(wake_for(rt, &shared.threads, hand, writers, owed))
+            HearAnswer::Over(wake_for(rt, &shared.threads, hand, writers, owed))
         }
-        HearAnswer::Refused(unheard) => Deed::NotHeard(unheard),
+        HearAnswer::Refused(unheard) => HearAnswer::Refused(unheard),
     }
 }
 
@@ -127,19 +125,18 @@ pub(crate) fn close_step<R: Wait>(
     hand: &mut Hand,
     small: &mut [QueueEnd<64>],
     queue: usize,
-) -> Deed
+) -> WasShut<Paid>
     requires hand { IsHandOf shared.now.threads hand.old }
     requires small { AreEndsOf shared.now.queues.small.items small.old }
     requires there { queue < length shared.now.queues.small.items }
-    ensures comes { comes_of (steps.Close queue) result ≡ true }
     ensures small { AreEndsOf shared.now.queues.small.items small.new }
-    ensures hand { HandDid (call_of hand.old) shared.now.plan (steps.Close queue) result (view_of hand.old)
-        (view_of hand.new) }
+    ensures hand { HandDid (call_of hand.old) shared.now.plan
+        (deeds.Close queue result.was_open result.readers result.writers) (view_of hand.old) (view_of hand.new) }
     ensures acts { Acts no_events (view_of hand.old) (view_of hand.new) }
-    ensures queues { (others : List (QueueEnd 256)) → QueuesDid (steps.Close queue) result [] small.old
-        small.new others others }
-    ensures small_lines { Worked no_lines no_lines (shuts_by (steps.Close queue) result) small.old small.new }
-    ensures points { points_of result ≡ [] }
+    ensures shut { OnEnd queue (HasShut result.was_open) small.old small.new }
+    ensures did { queue_account small.new
+        ≡ at_each both_queue (queue_account small.old) (at_one idle_queue queue (shut_if result.was_open)) }
+    ensures sound { StaySound small.old small.new }
     ensures same { IsSameHand hand.old hand.new × AreSameEnds small.old small.new }
 {
     let at = QueueIndex::Small(queue);
@@ -152,7 +149,7 @@ pub(crate) fn close_step<R: Wait>(
     } = shut_at(&shared.queues, small, queue);
     let readers = wake_for(rt, &shared.threads, hand, to_hear, readers);
     let writers = wake_for(rt, &shared.threads, hand, to_say, writers);
-    Deed::Shut {
+    WasShut {
         was_open,
         readers,
         writers,

@@ -1,28 +1,32 @@
 //! A step on a processor: it is tried and counted there, and a line that it heard is kept.
 ghost use Rattle.std.specs.Prelude.{◌≡◌, ◌<◌, ℕ, [], true, ◌++◌, length, map, vec_len, vec_capacity};
-ghost use Rattle.hand_steps.specs.Countings.{IsNumber};
-ghost use Rattle.hand_steps.specs.Holdings.{IsFree};
-ghost use Rattle.hand_steps.specs.Tallies.{Adds};
+ghost use Rattle.turn_dispatch.specs.Countings.{IsNumber, counted_step};
+ghost use Rattle.turn_dispatch.specs.Holdings.{IsFree};
+ghost use Rattle.turn_dispatch.specs.Tallies.{Adds, behind};
 ghost use Rattle.thread_table.specs.Handles.{view_of, call_of};
 ghost use Rattle.thread_table.specs.Rules.{has, done_at};
 ghost use Rattle.processor.specs.Acts.{NeverFalls};
+ghost use Rattle.processor.specs.Deeds.{IsDeedOf, line_in};
+ghost use Rattle.processor.specs.Doings.{heard_by, is_heard, raised_by};
+ghost use Rattle.processor.specs.Logs.{EndsWorked};
 ghost use Rattle.processor.specs.Points.{GateSaw, points_of};
-ghost use Rattle.processor.specs.Running.{Stepped, EndsDid, step_tally, line_heard, is_heard, heard_in};
+ghost use Rattle.processor.specs.Running.{Stepped, EndsDid, line_heard};
 ghost use Rattle.processor.specs.Stations.{ArePartsOf, AreSameParts};
-ghost use Rattle.processor.specs.Steps.{Fits, comes_of};
+ghost use Rattle.processor.specs.Steps.{Fits};
 
 use crate::attempt::{do_step, seat};
 use crate::counting::{Tried, count_step};
 use crate::deed::Deed;
 use crate::shared::Shared;
 use crate::station::{Heard, Parts};
+use crate::tries::HearAnswer;
 use arrayvec::ArrayVec;
 use boot_data::plan::Step;
-use end_steps::Gate;
 use event_theory::{Element, Processor};
-use hand_steps::take_off;
 use std::mem;
 use std::sync::Wait;
+use turn_dispatch::take_off;
+use turn_io::Gate;
 
 // Tries a step of an element that the hand holds, on a processor that is free.
 pub(crate) fn run_step<R: Wait, G: Gate>(
@@ -44,12 +48,13 @@ pub(crate) fn run_step<R: Wait, G: Gate>(
     ensures same { AreSameParts parts.old parts.new }
     ensures held { has (view_of parts.new.hand) element ≡ true }
     ensures free { IsFree p (view_of parts.new.hand) }
-    ensures hand { Stepped (call_of parts.old.hand) shared.now.plan p element step.now result.deed result.counted
+    ensures hand { Stepped (call_of parts.old.hand) shared.now.plan p element result.deed result.counted
         (view_of parts.old.hand) (view_of parts.new.hand) }
-    ensures comes { comes_of step.now result.deed ≡ true }
-    ensures ends { EndsDid shared.now step.now result.deed heard.new.items parts.old parts.new }
-    ensures adds { Adds (step_tally step.now result.deed result.counted element
-        (done_at (view_of parts.old.hand).seen.object element)) (view_of parts.old.hand) (view_of parts.new.hand) }
+    ensures deed { IsDeedOf step.now result.deed (line_in step.now heard.new.items) }
+    ensures ends { EndsDid shared.now result.deed (line_in step.now heard.new.items) parts.old parts.new }
+    ensures worked { EndsWorked result.deed (line_in step.now heard.new.items) parts.old parts.new }
+    ensures adds { Adds (behind (raised_by result.deed) (counted_step result.counted element
+        (done_at (view_of parts.old.hand).seen.object element))) (view_of parts.old.hand) (view_of parts.new.hand) }
     ensures number { IsNumber result.counted element (view_of parts.old.hand) (view_of parts.new.hand) }
     ensures rises { NeverFalls (view_of parts.old.hand) (view_of parts.new.hand) }
     ensures serves { (view_of parts.new.hand).own.serves ≡ (view_of parts.old.hand).own.serves }
@@ -78,10 +83,14 @@ pub(crate) fn keep(
     requires room { is_heard deed.now ≡ true → vec_len lines.old < vec_capacity lines.old }
     requires low { number < 64 }
     ensures lines { map line_heard lines.new.items
-        ≡ map line_heard lines.old.items ++ heard_in deed.now thread number text.old.items }
+        ≡ map line_heard lines.old.items ++ heard_by deed.now thread number text.old.items }
     ensures room { vec_capacity lines.new ≡ vec_capacity lines.old }
 {
-    if let Deed::Heard(_) = deed {
+    if let Deed::Hear {
+        answer: HearAnswer::Taken(_),
+        ..
+    } = deed
+    {
         lines.push_reserved(Heard {
             thread: thread.number(),
             step: number as u8,

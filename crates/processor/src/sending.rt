@@ -3,20 +3,20 @@
 //! The type keeps an order: an element goes on behind the try and the count of its step. A `SentOn`, which tells of the
 //! element's turn, has in it the `Tried` that only the count makes; so no `SentOn` comes before it.
 ghost use Rattle.std.specs.Prelude.{◌≡◌, true};
-ghost use Rattle.hand_steps.specs.Tallies.{Adds};
+ghost use Rattle.turn_dispatch.specs.Tallies.{Adds};
 ghost use Rattle.thread_table.specs.Handles.{view_of, call_of, IsHandOf, IsSameHand};
 ghost use Rattle.thread_table.specs.Keeping.{Keeps};
 ghost use Rattle.thread_table.specs.Rules.{has, done_at};
 ghost use Rattle.processor.specs.Acts.{NeverFalls};
-ghost use Rattle.processor.specs.Running.{Goes, gone, wait_of};
+ghost use Rattle.processor.specs.Entries.{gone};
+ghost use Rattle.processor.specs.Running.{Goes};
 
 use crate::counting::Tried;
 use crate::ticket::wait_with;
-use boot_data::plan::Step;
-use event_theory::{Element, WaitNumber};
-use hand_steps::{Waited, make_ready, retire, wait_in};
+use event_theory::Element;
 use std::sync::Wait;
 use thread_table::{Hand, ThreadTable};
+use turn_dispatch::{Waited, make_ready, retire, wait_in};
 
 /// Where an element went behind its turn. Where it isn't so, the queue has no position left, and the hand holds the
 /// element.
@@ -39,23 +39,12 @@ pub struct SentOn {
     moved: Moved,
 }
 
-// The wait queue of a step that waits.
-fn wait_in_step(step: &Step) -> Option<WaitNumber>
-    ensures { result ≡ wait_of step.now }
-{
-    match step {
-        Step::Wait { wait } => Some(*wait),
-        _ => None,
-    }
-}
-
 // Moves an element on behind its step.
 fn move_on<R: Wait>(
     rt: &R,
     threads: &ThreadTable,
     hand: &mut Hand,
     element: Element,
-    step: &Step,
     tried: &Tried,
     last: bool,
 ) -> Moved
@@ -65,14 +54,14 @@ fn move_on<R: Wait>(
     ensures adds { Adds (gone result element (done_at (view_of hand.old).seen.object element)) (view_of hand.old)
         (view_of hand.new) }
     ensures rises { NeverFalls (view_of hand.old) (view_of hand.new) }
-    ensures goes { Goes (call_of hand.old) step.now tried.now.deed last element result (view_of hand.old)
+    ensures goes { Goes (call_of hand.old) tried.now.deed last element result (view_of hand.old)
         (view_of hand.new) }
     ensures same { IsSameHand hand.old hand.new }
 {
     if let Some(ticket) = tried.deed().sleeps_on() {
         return Moved::Ticketed(wait_with(rt, threads, hand, element, ticket));
     }
-    if let Some(wait) = wait_in_step(step) {
+    if let Some(wait) = tried.deed().waits_in() {
         return Moved::Waits(wait_in(rt, threads, hand, element, wait));
     }
     if last {
@@ -88,7 +77,6 @@ pub(crate) fn send_on<R: Wait>(
     threads: &ThreadTable,
     hand: &mut Hand,
     element: Element,
-    step: &Step,
     tried: Tried,
     last: bool,
 ) -> SentOn
@@ -99,10 +87,10 @@ pub(crate) fn send_on<R: Wait>(
     ensures adds { Adds (gone result.moved element (done_at (view_of hand.old).seen.object element)) (view_of hand.old)
         (view_of hand.new) }
     ensures rises { NeverFalls (view_of hand.old) (view_of hand.new) }
-    ensures goes { Goes (call_of hand.old) step.now tried.deed last element result.moved (view_of hand.old)
+    ensures goes { Goes (call_of hand.old) tried.deed last element result.moved (view_of hand.old)
         (view_of hand.new) }
     ensures same { IsSameHand hand.old hand.new }
 {
-    let moved = move_on(rt, threads, hand, element, step, &tried, last);
+    let moved = move_on(rt, threads, hand, element, &tried, last);
     SentOn { tried, moved }
 }

@@ -1,5 +1,5 @@
 //! What the processors share.
-ghost use Rattle.end_steps.specs.EndLists.{AreChainsOver};
+ghost use Rattle.turn_io.specs.EndLists.{AreChainsOver};
 ghost use Rattle.processor.specs.Fitting.{HasObjects};
 
 use boot_data::BootPlan;

@@ -1,10 +1,10 @@
 //! A second station, for another processor: split off, and joined again.
 ghost use Rattle.std.specs.List.{All};
 ghost use Rattle.std.specs.Prelude.{◌≡◌, ◌<◌, ◌≤◌, ℕ, [], length, vec_capacity, true, IfOk, IfErr};
-ghost use Rattle.end_steps.specs.EndLists.{AreEndsOf, AreSameEnds, IsDivisible};
-ghost use Rattle.end_steps.specs.EndLists.{AreChainEndsOf, AreSameChainEnds, IsChainDivisible};
-ghost use Rattle.end_steps.specs.Splits as splits;
-ghost use Rattle.hand_steps.specs.Holdings.{IsFree};
+ghost use Rattle.turn_io.specs.EndLists.{AreEndsOf, AreSameEnds, IsDivisible};
+ghost use Rattle.turn_io.specs.EndLists.{AreChainEndsOf, AreSameChainEnds, IsChainDivisible};
+ghost use Rattle.turn_io.specs.Splits as splits;
+ghost use Rattle.turn_dispatch.specs.Holdings.{IsFree};
 ghost use Rattle.thread_table.specs.Answers.{is_in};
 ghost use Rattle.thread_table.specs.Handles.{view_of};
 ghost use Rattle.table_theory.specs.Sharing.{given, kept};
@@ -12,17 +12,17 @@ ghost use Rattle.processor.specs.Accounts.{◌⊕◌, account, both_shares, each
 ghost use Rattle.processor.specs.Logs.{IsFresh};
 ghost use Rattle.processor.specs.Partings.{AreDivisible, HaveRoom, HaveBoth, AreSplit, AreJoined};
 ghost use Rattle.processor.specs.Rooms.{HasRoom};
-ghost use Rattle.processor.specs.Stations.{ArePartsOf, AreSameParts};
+ghost use Rattle.processor.specs.Stations.{ArePartsOf, AreSameParts, IsUnused};
 
 use crate::programs::hears_of;
 use crate::shared::Shared;
 use crate::station::{Heard, Parts, Station};
 use claim_queue::{ClaimQueue, QueueEnd};
-use end_steps::{join_chain_ends, join_ends, split_chain_ends_into, split_ends_into};
 use event_theory::OutOfMemory;
 use proc_chain::{ChainEnd, ProcChain};
 use quajects::AnyQuaject;
 use std::alloc::Global;
+use turn_io::{join_chain_ends, join_ends, split_chain_ends_into, split_ends_into};
 
 // The lists of a station, with room for all that goes in.
 struct Lists {
@@ -93,7 +93,7 @@ fn split_parts(shared: &Shared, parts: &mut Parts, processors: u8, lists: Lists)
     ensures born { ArePartsOf shared.now result }
     ensures split { AreSplit processors parts.old parts.new result }
     ensures room { HasRoom shared.now.plan result }
-    ensures fresh { IsFresh result }
+    ensures unused { IsUnused result }
 {
     let Lists {
         small,
@@ -129,8 +129,8 @@ impl Station {
     /// signalled nothing, and has room for as many heard lines as the plan has hear steps. `OutOfMemory` comes only
     /// where an allocation was refused; nothing has changed then.
     ///
-    /// Conditions: the station is one of `shared`, each of its ends has two parts or more of the 2^64 - 1 of its object,
-    /// and its hand serves the processors of the mask, on which nothing stands.
+    /// Conditions: the station is one of `shared`, each of its ends has two parts or more of the 2^64 - 1 of its
+    /// object, and its hand serves the processors of the mask, on which nothing stands.
     pub fn split(
         &mut self,
         alloc: Global,

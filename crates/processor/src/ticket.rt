@@ -5,8 +5,8 @@
 //! alone makes tickets; a try takes one by value, has no hand to read another with, and gives it back where it was
 //! refused.
 ghost use Rattle.std.specs.Prelude.{◌≡◌, true};
-ghost use Rattle.hand_steps.specs.Sendings.{WaitedAt};
-ghost use Rattle.hand_steps.specs.Tallies.{Adds, no_events};
+ghost use Rattle.turn_dispatch.specs.Sendings.{WaitedAt};
+ghost use Rattle.turn_dispatch.specs.Tallies.{Adds, no_events};
 ghost use Rattle.thread_table.specs.Handles.{view_of, call_of, IsHandOf, IsSameHand};
 ghost use Rattle.thread_table.specs.Keeping.{Keeps};
 ghost use Rattle.thread_table.specs.Rules.{has};
@@ -14,9 +14,9 @@ ghost use Rattle.processor.specs.Acts.{Acts};
 ghost use Rattle.processor.specs.Pipes.{TicketFor, IsTicketOf};
 
 use event_theory::{Element, WaitNumber};
-use hand_steps::{Waited, wait_at};
 use std::sync::Wait;
 use thread_table::{Hand, ThreadTable};
+use turn_dispatch::{Waited, wait_at};
 
 /// The number of notifies of a wait queue, as it was before the try of a step that may have to wait there.
 #[derive(Drop)]

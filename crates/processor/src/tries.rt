@@ -5,16 +5,16 @@
 //! over or shut it owes a wake, and only a try makes that debt: so those who wait at a pipe are woken behind the try. A
 //! wake in front of it would leave those asleep who come to wait in between.
 ghost use Rattle.std.specs.Prelude.{◌≡◌, ◌<◌, ℕ, [], length, option_copied};
-ghost use Rattle.end_steps.specs.Deeds.{HasShut};
-ghost use Rattle.end_steps.specs.EndLists.{AreEndsOf, AreSameEnds, OnEnd, number_at};
-ghost use Rattle.end_steps.specs.Gates.{ToldOfSay};
-ghost use Rattle.end_steps.specs.Sums.{Worked, line_if, no_lines, never, once_if};
-ghost use Rattle.end_steps.specs.declared.gate.Point.TheVariants.{TakeAnswered};
+ghost use Rattle.turn_io.specs.Accounts.{StaySound, at_each, at_one, both_queue, idle_queue, put_if, queue_account};
+ghost use Rattle.turn_io.specs.Accounts.{shut_if, taken_if};
+ghost use Rattle.turn_io.specs.Deeds.{HasShut};
+ghost use Rattle.turn_io.specs.EndLists.{AreEndsOf, AreSameEnds, OnEnd};
+ghost use Rattle.turn_io.specs.Gates.{ToldOfSay};
+ghost use Rattle.turn_io.specs.declared.gate.Point.TheVariants.{TakeAnswered};
 ghost use Rattle.processor.specs.Deeds.{if_full, if_empty};
 ghost use Rattle.processor.specs.Pipes.{IsTicketOf, readers_of, writers_of};
-ghost use Rattle.processor.specs.Queues.{IsThere, SaidAt, HeardAt, small_at, large_at, waits_at};
-ghost use Rattle.processor.specs.Steps.{is_shut, is_over};
-ghost use Rattle.processor.specs.Tries.{said, heard, IsUnsaid, IsUnheard};
+ghost use Rattle.processor.specs.Queues.{DidAt, IsThere, SaidAt, HeardAt, waits_at};
+ghost use Rattle.processor.specs.Tries.{said, heard, is_shut, is_over, IsUnsaid, IsUnheard};
 
 use crate::lines::{hear_at, say_at};
 use crate::shared::Shared;
@@ -22,8 +22,8 @@ use crate::ticket::Ticket;
 use arrayvec::ArrayVec;
 use boot_data::plan::QueueIndex;
 use claim_queue::{ClaimRefusal, QueueEnd, TakeRefusal};
-use end_steps::{Gate, shut_queue};
 use quajects::Queues;
+use turn_io::{Gate, shut_queue};
 
 // A wake that is owed to those who wait at a pipe.
 #[derive(Drop)]
@@ -43,34 +43,35 @@ pub struct Unheard {
     ticket: Option<Ticket>,
 }
 
-// What came of a try to say a line.
+/// What came of a try to say a line: with a wake that is owed, and then with one that was made.
 #[derive(Drop)]
-pub(crate) enum SayAnswer {
+pub enum SayAnswer<W> {
     /// The line was put.
-    Put(Owed),
+    Put(W),
     /// The queue is shut.
     Over,
     /// The line was not put.
     Refused(Unsaid),
 }
 
-// What came of a try to hear a line.
+/// What came of a try to hear a line: with a wake that is owed, and then with one that was made.
 #[derive(Drop)]
-pub(crate) enum HearAnswer {
+pub enum HearAnswer<W> {
     /// A line was taken.
-    Taken(Owed),
+    Taken(W),
     /// The queue is shut, and has nothing left.
-    Over(Owed),
+    Over(W),
     /// No line was taken.
     Refused(Unheard),
 }
 
-// A queue that was shut, which was open or not, and what is owed to those who wait to hear, and for room.
+// A queue that was shut, which was open or not, and the wakes of those who wait to hear, and for room: owed, and then
+// made.
 #[derive(Drop)]
-pub(crate) struct WasShut {
+pub(crate) struct WasShut<W> {
     pub(crate) was_open: bool,
-    pub(crate) readers: Owed,
-    pub(crate) writers: Owed,
+    pub(crate) readers: W,
+    pub(crate) writers: W,
 }
 
 impl Unsaid {
@@ -121,7 +122,7 @@ pub(crate) fn try_say<G: Gate>(
     ticket: Option<Ticket>,
     p: u8,
     gate: &mut G,
-) -> SayAnswer
+) -> SayAnswer<Owed>
     requires small { AreEndsOf shared.now.queues.small.items small.old }
     requires large { AreEndsOf shared.now.queues.large.items large.old }
     requires there { IsThere shared.now.queues queue }
@@ -131,8 +132,8 @@ pub(crate) fn try_say<G: Gate>(
     ensures large { AreEndsOf shared.now.queues.large.items large.new }
     ensures said { SaidAt queue line.now (said result) small.old small.new large.old large.new }
     ensures refused { IsUnsaid ticket result }
-    ensures small_lines { Worked (small_at queue (line_if (said result) line.now)) no_lines never small.old small.new }
-    ensures large_lines { Worked (large_at queue (line_if (said result) line.now)) no_lines never large.old large.new }
+    ensures did { DidAt queue (put_if (said result) line.now) small.old small.new large.old large.new }
+    ensures sound { StaySound small.old small.new × StaySound large.old large.new }
     ensures gate { ToldOfSay G.told p (said result) gate.old gate.new }
 {
     match say_at(&shared.queues, small, large, queue, line, p, gate) {
@@ -157,7 +158,7 @@ pub(crate) fn try_hear<G: Gate>(
     ticket: Option<Ticket>,
     p: u8,
     gate: &mut G,
-) -> HearAnswer
+) -> HearAnswer<Owed>
     requires small { AreEndsOf shared.now.queues.small.items small.old }
     requires large { AreEndsOf shared.now.queues.large.items large.old }
     requires there { IsThere shared.now.queues queue }
@@ -168,10 +169,8 @@ pub(crate) fn try_hear<G: Gate>(
     ensures large { AreEndsOf shared.now.queues.large.items large.new }
     ensures heard { HeardAt queue text.new.items (heard result) small.old small.new large.old large.new }
     ensures refused { IsUnheard ticket result }
-    ensures small_lines { Worked no_lines (small_at queue (line_if (heard result) text.new.items)) never small.old
-        small.new }
-    ensures large_lines { Worked no_lines (large_at queue (line_if (heard result) text.new.items)) never large.old
-        large.new }
+    ensures did { DidAt queue (taken_if (heard result) text.new.items) small.old small.new large.old large.new }
+    ensures sound { StaySound small.old small.new × StaySound large.old large.new }
     ensures gate { G.told gate.old p TakeAnswered gate.new }
 {
     match hear_at(&shared.queues, small, large, queue, text, p, gate) {
@@ -187,13 +186,15 @@ pub(crate) fn try_hear<G: Gate>(
 }
 
 // Shuts a small queue.
-pub(crate) fn shut_at(queues: &Queues, small: &mut [QueueEnd<64>], queue: usize) -> WasShut
+pub(crate) fn shut_at(queues: &Queues, small: &mut [QueueEnd<64>], queue: usize) -> WasShut<Owed>
     requires small { AreEndsOf queues.now.small.items small.old }
     requires there { queue < length queues.now.small.items }
     ensures same { AreSameEnds small.old small.new }
     ensures small { AreEndsOf queues.now.small.items small.new }
     ensures shut { OnEnd queue (HasShut result.was_open) small.old small.new }
-    ensures lines { Worked no_lines no_lines (number_at queue (once_if result.was_open)) small.old small.new }
+    ensures did { queue_account small.new
+        ≡ at_each both_queue (queue_account small.old) (at_one idle_queue queue (shut_if result.was_open)) }
+    ensures sound { StaySound small.old small.new }
 {
     let was_open = shut_queue(queues.small.as_slice(), small, queue);
     WasShut {

@@ -2,16 +2,16 @@
 //!
 //! The type keeps an order: those who wait are woken behind the try that has news for them. A `Paid`, which a deed
 //! tells, has in it the debt that only a try makes; so no `Paid` comes before its try.
-ghost use Rattle.hand_steps.specs.Tallies.{no_events};
+ghost use Rattle.turn_dispatch.specs.Tallies.{no_events};
 ghost use Rattle.thread_table.specs.Handles.{view_of, call_of, IsHandOf, IsSameHand};
 ghost use Rattle.processor.specs.Acts.{Acts};
 ghost use Rattle.processor.specs.Pipes.{WokeFor};
 
 use crate::tries::Owed;
 use event_theory::WaitNumber;
-use hand_steps::{Woken, wake};
 use std::sync::Wait;
 use thread_table::{Hand, ThreadTable};
+use turn_dispatch::{Woken, wake};
 
 /// A wake that was owed, and was made where the queue is a pipe.
 #[derive(Drop)]

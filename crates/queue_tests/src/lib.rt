@@ -1,4 +1,4 @@
-//! The tests of `claim_queue`, `proc_chain`, `quajects` and `end_steps`, in a crate of their own: beside a library they
+//! The tests of `claim_queue`, `proc_chain`, `quajects` and `turn_io`, in a crate of their own: beside a library they
 //! would prove it once more, and each crate of tests links all that it stands on.
 #![tactic(auto)]
 

@@ -1,35 +1,69 @@
 -- Answers of a boot, from those of its parts.
-use Rattle.std.proofs.Common.{◌≡◌, ℕ, List, length, Option, Some, None, Result, Ok, Err, IfOk, IfSome}
-use Rattle.boot_data.specs.declared.boot_plan.BootPlan.{BootPlan}
-use Rattle.boot_data.specs.BootPlans.{plan_of}
-use Rattle.boot_script.specs.Plans.{text_plan}
-use Rattle.end_steps.specs.declared.gate.NoGate.{NoGate}
-use Rattle.end_steps.specs.declared.gate.Point.{Point}
+use Rattle.synth_kernel.proofs.Common.{◌≡◌, ℕ, suc, ◌+◌, List, [], ◌∷◌, length, Option, Some, None, refl, sym, ap, subst, ◌∙◌, AllByRecursion, BootPlan, Unmade, Point, Shared, Parts, LogEntry, Leaves, AllTold, CameBack}
+use Rattle.std.proofs.Common.{◌==◌, Result, Ok, Err, IfOk, eq-eqb, ne_eqb}
+use Rattle.std.specs.Option.{is_some}
+use Rattle.turn_dispatch.specs.declared.alarms.Tended.{Tended}
+use Rattle.processor.specs.Points.{ToldTurns}
+use Rattle.processor.specs.Turns.{TendedBy}
+use Rattle.boot_laws.specs.ClosedTables.{ClosedTables}
 use Rattle.synth_kernel.specs.declared.outcome.Booted.{Booted}
 use Rattle.synth_kernel.specs.declared.outcome.Ended.{Ended}
 use Rattle.synth_kernel.specs.declared.outcome.BootFault.{BootFault}
-use Rattle.synth_kernel.specs.Boots.{IsRun, IsBoot, IsBootAnswer, IsPlainBoot, IsPlainAnswer, unheard}
+use Rattle.synth_kernel.specs.Boots.{IsLogOf, AreLogs, HadTurns, WasTold, IsRun, Says, IsBoot, IsBootAnswer}
+
+-- the answer alone
+pub alone : (Did : BootPlan → ClosedTables → List (List LogEntry) → Type 0) (read : Option (List ℕ)) (ended : Ended) (old new : Option (List ℕ)) → IsBoot Did read ended old new → IsBootAnswer Did read ended
+alone Did read ended old new boot = record { plan = boot.plan; says = boot.says; report = boot.run.report; booted = boot.run.booted; ends = boot.run.ends }
+
+pub alone_ok : (Did : BootPlan → ClosedTables → List (List LogEntry) → Type 0) (read : Option (List ℕ)) (answer : Result Ended BootFault) (old new : Option (List ℕ)) → IfOk answer (λ ended. IsBoot Did read ended old new) → IfOk answer (IsBootAnswer Did read)
+alone_ok Did read (Ok ended) old new boot = alone Did read ended old new boot
+alone_ok Did read (Err fault) old new boot = tt
 
 module _ {G : Type 0} (T : G → ℕ → Point → G → Type 0) (turns : ℕ) (gates : List G) where
-  pub boots : (known : Option (List ℕ)) (answer : Result (Booted G) BootFault) (plan : BootPlan) (old new : Option (List ℕ)) → IfSome known (λ bytes. text_plan bytes ≡ Ok (plan_of plan))
-      → IfOk answer (λ booted. IsRun T plan turns gates booted.gates.items booted.ended old new) → IfOk answer (λ booted. IfSome known (λ bytes. IsBoot T (text_plan bytes) turns gates booted.gates.items booted.ended old new))
-  boots None (Ok booted) plan old new said run = tt
-  boots (Some bytes) (Ok booted) plan old new said run = record { plan = plan; says = said; run = run }
-  boots known (Err fault) plan old new said run = tt
+  pub boots : (read : Option (List ℕ)) (answer : Result (Booted G) BootFault) (plan : BootPlan) (old new : Option (List ℕ)) → Says read plan
+      → IfOk answer (λ booted. IsRun (CameBack T turns gates booted.gates.items booted.closed) plan booted.ended old new) → IfOk answer (λ booted. IsBoot (CameBack T turns gates booted.gates.items booted.closed) read booted.ended old new)
+  boots read (Ok booted) plan old new says run = record { plan = plan; says = says; run = run }
+  boots read (Err fault) plan old new says run = tt
 
-  pub boots_alone : (known : Option (List ℕ)) (back : List G) (ended : Ended) (old new : Option (List ℕ)) → IfSome known (λ bytes. IsBoot T (text_plan bytes) turns gates back ended old new)
-      → IfSome known (λ bytes. IsBootAnswer T (text_plan bytes) turns gates ended)
-  boots_alone None back ended old new boot = tt
-  boots_alone (Some bytes) back ended old new boot = record { plan = boot.plan; says = boot.says; report = boot.run.report; back = back; booted = boot.run.booted; ends = boot.run.ends }
+-- processor 0 tends the alarms, and no other
+tends : (p : ℕ) (tended : Option Tended) (old new : Parts) → TendedBy p tended old new → is_some tended ≡ (p == 0)
+tends p None old new by = sym (ne_eqb p 0 by.0)
+tends p (Some tended) old new by = sym (eq-eqb p 0 by.0)
 
-pub plain_boots : (turns processors : ℕ) (gates back : List NoGate) (known : Option (List ℕ)) (ended : Ended) (plan : BootPlan) (old new : Option (List ℕ)) → length gates ≡ processors
-    → IfSome known (λ bytes. text_plan bytes ≡ Ok (plan_of plan)) → IsRun unheard plan turns gates back ended old new → IfSome known (λ bytes. IsPlainBoot (text_plan bytes) processors turns ended old new)
-plain_boots turns processors gates back None ended plan old new many said run = tt
-plain_boots turns processors gates back (Some bytes) ended plan old new many said run = (gates, back, many, record { plan = plan; says = said; run = run })
+all_tend : {G : Type 0} (T : G → ℕ → Point → G → Type 0) (shared : Shared) (p number : ℕ) (log : List LogEntry) (old new : Parts) (gate gate' : G) → ToldTurns T shared p number log old new gate gate'
+    → AllByRecursion (λ (entry : LogEntry). is_some entry.turned.tended ≡ (p == 0)) log
+all_tend T shared p number [] old new gate gate' told = tt
+all_tend T shared p number (entry ∷ log) old new gate gate' told =
+    (tends p entry.turned.tended old told.2.0 told.2.1, all_tend T shared p (suc number) log told.0 new told.1 gate' told.4)
 
-pub plain_alone : (turns processors : ℕ) (known : Option (List ℕ)) (answer : Result Ended BootFault) (old new : Option (List ℕ)) → IfOk answer (λ ended. IfSome known (λ bytes. IsPlainBoot (text_plan bytes) processors turns ended old new))
-    → IfOk answer (λ ended. IfSome known (λ bytes. IsPlainAnswer (text_plan bytes) processors turns ended))
-plain_alone turns processors None (Ok ended) old new boot = tt
-plain_alone turns processors (Some bytes) (Ok ended) old new boot =
-    (boot.0, boot.2, record { plan = boot.3.plan; says = boot.3.says; report = boot.3.run.report; back = boot.1; booted = boot.3.run.booted; ends = boot.3.run.ends })
-plain_alone turns processors known (Err fault) old new boot = tt
+-- what is left where the gates, and what was closed, are forgotten
+module _ {G : Type 0} (T : G → ℕ → Point → G → Type 0) (turns : ℕ) where
+  had_one : (shared : Shared) (p : ℕ) (gate back : G) (log : List LogEntry) → WasTold T shared p turns gate back log → IsLogOf shared.plan p turns log
+  had_one shared p gate back log told = subst (IsLogOf shared.plan p turns) told.log_is (record {
+    many = told.turned.many;
+    tends = all_tend T shared p 0 told.turned.log told.old told.new gate back told.turned.told;
+    station = told.new;
+    left = told.turned.leaves told.fresh;
+  })
+
+  had_each : (shared : Shared) (p : ℕ) (gates back : List G) (logs : List (List LogEntry)) → AllTold T shared p turns gates back logs → (length logs ≡ length gates) × AreLogs shared.plan p turns logs
+  had_each shared p [] [] [] all = (refl, tt)
+  had_each shared p [] [] (log ∷ logs) all = absurd all
+  had_each shared p [] (back ∷ backs) logs all = absurd all
+  had_each shared p (gate ∷ gates) [] logs all = absurd all
+  had_each shared p (gate ∷ gates) (back ∷ backs) [] all = absurd all
+  had_each shared p (gate ∷ gates) (back ∷ backs) (log ∷ logs) all =
+      let rest = had_each shared (p + 1) gates backs logs all.1 in (ap suc rest.0, (had_one shared p gate back log all.0, rest.1))
+
+  pub plain : (gates back : List G) (closed : Unmade) (processors : ℕ) (read : Option (List ℕ)) (ended : Ended) (plan : BootPlan) (old new : Option (List ℕ)) → length gates ≡ processors
+      → Says read plan → IsRun (CameBack T turns gates back closed) plan ended old new → IsBoot (HadTurns processors turns) read ended old new
+  plain gates back closed processors read ended plan old new many says run = let b = run.booted in record {
+    plan = plan;
+    says = says;
+    run = record {
+      report = run.report;
+      booted = record { closed = b.closed; logs = b.logs; heard = b.heard; did = let each = had_each b.did.shared 0 gates back b.logs b.did.told in record { many = each.0 ∙ many; each = subst (λ (z : BootPlan). AreLogs z 0 turns b.logs) b.did.plan_is each.1 }; agrees = b.agrees };
+      ends = run.ends;
+      printed = run.printed;
+    };
+  }

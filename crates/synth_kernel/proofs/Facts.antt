@@ -1,39 +1,21 @@
 -- What a boot knows of what came back, by the works that it gave.
-use Rattle.std.proofs.Common.{◌≡◌, ℕ, zero, suc, ◌+◌, ◌<◌, ◌%◌, List, [], ◌∷◌, map, drop, length, Option, Some, slice_get, refl, sym, ap, subst, ◌∙◌, arith}
-use Rattle.std.proofs.lemmas.List.{length-map}
-use Rattle.std.specs.List.{AllZip}
+use Rattle.synth_kernel.proofs.Common.{◌≡◌, ℕ, zero, suc, ◌+◌, List, [], ◌∷◌, map, drop, length, Option, Some, slice_get, refl, sym, ap, subst, ◌∙◌, arith, length-map, AllZip, PlannedTty, AreRawsOf, Point, AllThree, Device, Shared, RawTty, Typed, LineIn, IsLine, Work, Worked, GaveBack, AreServing, input_of, AreTyped, HasWorked, Served, served_in, tty_of, TotalsAre}
+use Rattle.std.proofs.Common.{◌<◌, ◌%◌}
 use Rattle.std.proofs.lemmas.Option.{slice_get_within as at_below}
-use Rattle.boot_data.specs.declared.plan.PlannedTty.{PlannedTty}
 use Rattle.boot_data.specs.QueueLists.{raw_queue}
-use Rattle.closing.specs.RawEnds.{AreRawsOf}
-use Rattle.end_steps.specs.declared.gate.Point.{Point}
-use Rattle.end_steps.specs.EndLists.{end_share, chain_end_share}
-use Rattle.end_steps.specs.Splits.{AllThree}
-use Rattle.objects.specs.declared.device.Device.{Device}
-use Rattle.objects.specs.Devices.{AreDevicesOf}
-use Rattle.objects.specs.DeviceEndings.{DeviceEnded}
-use Rattle.processor.specs.declared.shared.Shared.{Shared}
+use Rattle.boot_objects.specs.Wholes.{HaveBack, tty_shares}
+use Rattle.boot_objects.specs.Devices.{AreDevicesOf}
+use Rattle.boot_objects.specs.DeviceEndings.{DeviceEnded}
 use Rattle.processor.specs.RawEnds.{IsRawAt}
-use Rattle.quajects.specs.declared.raw.RawTty.{RawTty}
 use Rattle.quajects.specs.Raws.{end_of}
-use Rattle.reporting.specs.declared.ttys.Typed.{Typed}
-use Rattle.reporting.specs.Shown.{ShowsDevice, ShowsDevices}
-use Rattle.reports.specs.ClosedTables as closed
-use Rattle.spsc_line.specs.declared.line_in.LineIn.{LineIn}
+use Rattle.boot_report.specs.Shown.{ShowsDevice, ShowsDevices}
+use Rattle.boot_laws.specs.ClosedTables as closed
 use Rattle.spsc_line.specs.declared.line_out.LineOut.{LineOut}
-use Rattle.spsc_line.specs.Lines.{IsLine, bytes_received}
-use Rattle.kernel_threads.specs.declared.work.Work.{Work}
-use Rattle.kernel_threads.specs.declared.work.Worked.{Worked}
-use Rattle.kernel_threads.specs.declared.work.Worked.TheVariants as worked
-use Rattle.kernel_threads.specs.Backs.{IsDeviceBack, device_of}
-use Rattle.kernel_threads.specs.Crews.{GaveBack}
-use Rattle.kernel_threads.specs.Readiness.{AreServing, input_of}
-use Rattle.kernel_threads.specs.Typings.{AreTyped}
-use Rattle.kernel_threads.specs.Works.{HasWorked}
-use Rattle.kernel_threads.proofs.Returning.{device_back, short}
+use Rattle.spsc_line.specs.Lines.{bytes_received}
+use Rattle.boot_threads.specs.declared.work.Worked.TheVariants as worked
+use Rattle.boot_threads.specs.Backs.{IsDeviceBack, device_of}
+use Rattle.boot_threads.proofs.Returning.{device_back, short}
 use Rattle.event_theory.proofs.Lists.Placed.{there as some_at, zip_from}
-use Rattle.synth_kernel.specs.declared.gathering.Served.{Served}
-use Rattle.synth_kernel.specs.Gatherings.{tty_of, TotalsAre}
 use Rattle.synth_kernel.proofs.Backs.{Sorted, served_behind}
 
 -- LISTS
@@ -42,6 +24,16 @@ pub mapped_at : {A B : Type 0} (f : A → B) (xs : List A) (i : ℕ) (y : B) →
 mapped_at f [] i y e = absurd (cc)
 mapped_at f (x ∷ xs) zero y e = (x, refl, cc)
 mapped_at f (x ∷ xs) (suc i) y e = mapped_at f xs i y e
+
+same_maps : {A B C : Type 0} (f : A → C) (g : B → C) (xs : List A) (ys : List B) → length xs ≡ length ys → ((k : ℕ) (x : A) (y : B) → slice_get xs k ≡ Some x → slice_get ys k ≡ Some y → f x ≡ g y) → map f xs ≡ map g ys
+same_maps f g [] [] long each = refl
+same_maps f g [] (y ∷ ys) long each = absurd (omega arith)
+same_maps f g (x ∷ xs) [] long each = absurd (omega arith)
+same_maps f g (x ∷ xs) (y ∷ ys) long each = λ i. each 0 x y refl refl i ∷ same_maps f g xs ys (omega arith) (λ k. each (suc k)) i
+
+map_map : {A B C : Type 0} (xs : List A) (f : A → B) (g : B → C) → map g (map f xs) ≡ map (λ x. g (f x)) xs
+map_map [] f g = refl
+map_map (x ∷ xs) f g = ap (λ z. g (f x) ∷ z) (map_map xs f g)
 
 pub one_same : {A : Type 0} (x y : A) (o : Option A) → o ≡ Some x → o ≡ Some y → x ≡ y
 one_same x y o e f = cc
@@ -90,7 +82,7 @@ module _ {G : Type 0} (T : G → ℕ → Point → G → Type 0) (shared : Share
     (serving : AreServing shared.plan.ttys devices posts ws) (gave : AllZip (GaveBack (HasWorked T) shared) ws backs) (typed : AreTyped shared.plan.ttys (drop (length posts) backs) (map input_of devices) inputs)
     (f : Sorted (length posts) (length shared.plan.ttys) backs) where
   device_came : (t : ℕ) (p : PlannedTty) (device : Device) (input : LineIn) (one : Served) → slice_get shared.plan.ttys t ≡ Some p → slice_get devices t ≡ Some device → slice_get inputs t ≡ Some input
-      → slice_get f.served t ≡ Some one → IsDeviceBack shared t p device input one.line one.tty
+      → slice_get (served_in backs) t ≡ Some one → IsDeviceBack shared t p device input one.line one.tty
   device_came t p device input one at at' at'' its =
       let b = device_back T shared devices posts ws backs inputs are serving gave typed t p device input (worked.Served one.line one.tty) at at' at'' (served_behind (length posts) (length shared.plan.ttys) backs f t one its) in
       let s = same_served {G = G} one.line b.0 one.tty b.1 b.2 in
@@ -100,57 +92,54 @@ module _ {G : Type 0} (T : G → ℕ → Point → G → Type 0) (shared : Share
   inputs_long = typed_long shared.plan.ttys (drop (length posts) backs) (map input_of devices) inputs typed
 
   -- what stands at a place of all lists
-  came_at : (t : ℕ) (one : Served) → slice_get f.served t ≡ Some one → (p : PlannedTty) × (device : Device) × (input : LineIn) × (slice_get shared.plan.ttys t ≡ Some p) × (slice_get devices t ≡ Some device) × (slice_get inputs t ≡ Some input)
+  came_at : (t : ℕ) (one : Served) → slice_get (served_in backs) t ≡ Some one → (p : PlannedTty) × (device : Device) × (input : LineIn) × (slice_get shared.plan.ttys t ≡ Some p) × (slice_get devices t ≡ Some device) × (slice_get inputs t ≡ Some input)
       × IsDeviceBack shared t p device input one.line one.tty
   came_at t one its =
-      let low = at_below f.served t one its in
+      let low = at_below (served_in backs) t one its in
       let many = f.ttys_are in let number = are.number in let long = inputs_long in
       let p = some_at shared.plan.ttys t (omega arith) in let d = some_at devices t (omega arith) in let i = some_at inputs t (omega arith) in
       (p.0, d.0, i.0, p.1, d.1, i.1, device_came t p.0 d.0 i.0 one p.1 d.1 i.1 its)
 
-  pub lines_pair : AllZip (λ (one : Served) (input : LineIn). IsLine input one.line) f.served inputs
-  lines_pair = zip_from (λ (one : Served) (input : LineIn). IsLine input one.line) f.served inputs (f.ttys_are ∙ sym inputs_long)
+  pub lines_pair : AllZip (λ (one : Served) (input : LineIn). IsLine input one.line) (served_in backs) inputs
+  lines_pair = zip_from (λ (one : Served) (input : LineIn). IsLine input one.line) (served_in backs) inputs (f.ttys_are ∙ sym inputs_long)
       (λ i one input at at'. let c = came_at i one at in subst (λ (z : LineIn). IsLine z one.line) (one_same c.2 input (slice_get inputs i) c.5 at') c.6.pair)
 
-  pub raws_are : AreRawsOf shared (map tty_of f.served)
+  pub raws_are : AreRawsOf shared (map tty_of (served_in backs))
   raws_are k tty at =
-      let m = mapped_at tty_of f.served k tty at in
+      let m = mapped_at tty_of (served_in backs) k tty at in
       let c = came_at k m.0 m.1 in
       subst (λ (z : RawTty). IsRawAt shared (raw_queue (length shared.plan.queues) k) (length shared.plan.movers + k) z) m.2 c.6.raw_at
 
-  pub kept_shares : (k : ℕ) (device : Device) (tty : RawTty) → slice_get devices k ≡ Some device → slice_get (map tty_of f.served) k ≡ Some tty
-      → (end_share (end_of tty) ≡ end_share (end_of device.tty)) × (chain_end_share tty.chain ≡ chain_end_share device.tty.chain)
-  kept_shares k device tty at at' =
-      let m = mapped_at tty_of f.served k tty at' in
-      let c = came_at k m.0 m.1 in
-      subst (λ (z : RawTty). (end_share (end_of z) ≡ end_share (end_of device.tty)) × (chain_end_share z.chain ≡ chain_end_share device.tty.chain)) m.2
-      (subst (λ (d : Device). (end_share (end_of m.0.tty) ≡ end_share (end_of d.tty)) × (chain_end_share m.0.tty.chain ≡ chain_end_share d.tty.chain)) (one_same c.1 device (slice_get devices k) c.4 at) c.6.shares)
+  pub had_back : HaveBack devices (map tty_of (served_in backs))
+  had_back = map_map (served_in backs) tty_of tty_shares ∙ same_maps (λ one. tty_shares (tty_of one)) (λ (d : Device). tty_shares d.tty) (served_in backs) devices (f.ttys_are ∙ sym are.number)
+      (λ k one d at at'. let c = came_at k one at in
+      (λ i. (c.6.shares.0 i, c.6.shares.1 i)) ∙ ap (λ (d : Device). tty_shares d.tty) (one_same c.1 d (slice_get devices k) c.4 at'))
 
-  module _ (told : List Typed) (tolds : AllThree TotalsAre f.served inputs told) where
-    told_at : (t : ℕ) (one : Served) (its : slice_get f.served t ≡ Some one) → (what : Typed) × (slice_get told t ≡ Some what) × TotalsAre one (came_at t one its).2 what
+  module _ (told : List Typed) (tolds : AllThree TotalsAre (served_in backs) inputs told) where
+    told_at : (t : ℕ) (one : Served) (its : slice_get (served_in backs) t ≡ Some one) → (what : Typed) × (slice_get told t ≡ Some what) × TotalsAre one (came_at t one its).2 what
     told_at t one its =
-        let low = at_below f.served t one its in let l = (three_lengths TotalsAre f.served inputs told tolds).1 in
+        let low = at_below (served_in backs) t one its in let l = (three_lengths TotalsAre (served_in backs) inputs told tolds).1 in
         let w = some_at told t (omega arith) in
-        (w.0, w.1, three_of TotalsAre f.served inputs told t one (came_at t one its).2 w.0 tolds its (came_at t one its).5 w.1)
+        (w.0, w.1, three_of TotalsAre (served_in backs) inputs told t one (came_at t one its).2 w.0 tolds its (came_at t one its).5 w.1)
 
-    ended_at : (t : ℕ) (one : Served) (its : slice_get f.served t ≡ Some one) → DeviceEnded (came_at t one its).0 (end_of one.tty) (did_of one)
+    ended_at : (t : ℕ) (one : Served) (its : slice_get (served_in backs) t ≡ Some one) → DeviceEnded (came_at t one its).0 (end_of one.tty) (did_of one)
     ended_at t one its = (came_at t one its).6.all (told_at t one its).2.whole
 
-    pub devices_ended : (t : ℕ) (p : PlannedTty) (raw : RawTty) (d : closed.Device) → slice_get shared.plan.ttys t ≡ Some p → slice_get (map tty_of f.served) t ≡ Some raw → slice_get (map did_of f.served) t ≡ Some d
+    pub devices_ended : (t : ℕ) (p : PlannedTty) (raw : RawTty) (d : closed.Device) → slice_get shared.plan.ttys t ≡ Some p → slice_get (map tty_of (served_in backs)) t ≡ Some raw → slice_get (map did_of (served_in backs)) t ≡ Some d
         → DeviceEnded p (end_of raw) d
     devices_ended t p raw d at at' at'' =
-        let m = mapped_at tty_of f.served t raw at' in let n = mapped_at did_of f.served t d at'' in
-        let same : n.0 ≡ m.0 = one_same n.0 m.0 (slice_get f.served t) n.1 m.1 in
+        let m = mapped_at tty_of (served_in backs) t raw at' in let n = mapped_at did_of (served_in backs) t d at'' in
+        let same : n.0 ≡ m.0 = one_same n.0 m.0 (slice_get (served_in backs) t) n.1 m.1 in
         let e = ended_at t m.0 m.1 in
         subst (λ (z : PlannedTty). DeviceEnded z (end_of raw) d) (one_same (came_at t m.0 m.1).0 p (slice_get shared.plan.ttys t) (came_at t m.0 m.1).3 at)
         (subst (λ (z : RawTty). DeviceEnded (came_at t m.0 m.1).0 (end_of z) d) m.2
         (subst (λ (z : closed.Device). DeviceEnded (came_at t m.0 m.1).0 (end_of m.0.tty) z) (ap did_of (sym same) ∙ n.2) e))
 
-    pub devices_shown : ShowsDevices (map did_of f.served) told
+    pub devices_shown : ShowsDevices (map did_of (served_in backs)) told
     devices_shown = record {
-      as_many = (three_lengths TotalsAre f.served inputs told tolds).1 ∙ sym (length-map f.served did_of);
+      as_many = (three_lengths TotalsAre (served_in backs) inputs told tolds).1 ∙ sym (length-map (served_in backs) did_of);
       each = λ k d its at at'.
-          let n = mapped_at did_of f.served k d at in
+          let n = mapped_at did_of (served_in backs) k d at in
           let w = told_at k n.0 n.1 in
           let c = came_at k n.0 n.1 in
           let e = ended_at k n.0 n.1 in

@@ -1,8 +1,8 @@
+pub mod Common
 pub mod Answering
 pub mod Backs
 pub mod Facts
 pub mod Placing
 pub mod Shut
 pub mod Sorting
-pub mod Sparing
 pub mod Stopping

@@ -1,6 +1,5 @@
 -- An element of a list, by what stands before and behind it.
-use Rattle.std.proofs.Common.{◌≡◌, zero, suc, List, [], ◌∷◌, ◌++◌, map, length, refl, ap, sym, subst, arith}
-use Rattle.std.specs.List.{All, AllZip}
+use Rattle.synth_kernel.proofs.Common.{◌≡◌, zero, suc, List, [], ◌∷◌, ◌++◌, map, length, refl, ap, sym, subst, arith, All, AllZip}
 
 pub here : {A B : Type 0} (f : A → B) (P : B → Type 0) (before : List A) (x : A) (behind all : List A) → before ++ x ∷ behind ≡ all → All P (map f all) → P (f x)
 here {A = A} f P [] x behind all is each = subst (λ (z : List A). All P (map f z)) (sym is) each zero (f x) (omega arith)

@@ -1,10 +1,8 @@
 -- What the threads gave back, one more.
-use Rattle.std.proofs.Common.{◌≡◌, ◌≤◌, append-nil, length-append, ℕ, false, List, [], ◌∷◌, ◌++◌, length, Option, Some, None, refl, sym, ap, subst, ◌∙◌, arith}
-use Rattle.processor.specs.declared.station.Parts.{Parts}
-use Rattle.processor.specs.Partings.{AreJoined, AllJoined}
-use Rattle.kernel_threads.specs.declared.work.Worked.{Worked}
-use Rattle.kernel_threads.specs.declared.work.Worked.TheVariants as worked
-use Rattle.synth_kernel.specs.Gatherings.{processed_in, served_in, all_there}
+use Rattle.synth_kernel.proofs.Common.{◌≡◌, ◌≤◌, length-append, ℕ, List, [], ◌∷◌, ◌++◌, length, Option, Some, None, refl, sym, ap, subst, ◌∙◌, arith, Parts, AllJoined, Worked, processed_in, served_in, all_there}
+use Rattle.std.proofs.Common.{append-nil, false}
+use Rattle.processor.specs.Partings.{AreJoined}
+use Rattle.boot_threads.specs.declared.work.Worked.TheVariants as worked
 
 pub processed_append : {G : Type 0} (xs ys : List (Option (Worked G))) → processed_in (xs ++ ys) ≡ processed_in xs ++ processed_in ys
 processed_append [] ys = refl

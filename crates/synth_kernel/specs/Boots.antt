@@ -1,58 +1,102 @@
 -- What a boot answers and prints.
-use Rattle.std.specs.Prelude.{◌≡◌, ◌+◌, ℕ, zero, suc, List, [], ◌∷◌, length, Option, Result, Ok, Err, IsOk}
+use Rattle.std.specs.Prelude.{◌≡◌, ◌+◌, ◌==◌, ℕ, zero, suc, List, [], ◌∷◌, length, Option, Result, Ok, Err}
+use Rattle.std.specs.Prelude.{IsOk, IfSome}
+use Rattle.std.specs.List.{AllByRecursion}
+use Rattle.std.specs.Option.{is_some}
 use Rattle.std.specs.Io.KnownBytes.{Appends}
 use Rattle.boot_data.specs.declared.boot_plan.BootPlan.{BootPlan}
-use Rattle.boot_script.specs.declared.fault.ScriptFault.{ScriptFault}
 use Rattle.boot_data.specs.declared.report.Report.{Report}
 use Rattle.boot_data.specs.BootPlans.{plan_of}
 use Rattle.boot_data.specs.Plans.{Plan}
+use Rattle.boot_script.specs.declared.fault.ScriptFault.{ScriptFault}
+use Rattle.boot_script.specs.Plans.{text_plan}
 use Rattle.boot_script.specs.Reports.{report_text}
-use Rattle.end_steps.specs.declared.gate.NoGate.{NoGate}
-use Rattle.end_steps.specs.declared.gate.Point.{Point}
+use Rattle.boot_objects.specs.declared.closing.all.Unmade.{Unmade}
+use Rattle.turn_io.specs.declared.gate.Point.{Point}
 use Rattle.processor.specs.declared.shared.Shared.{Shared}
 use Rattle.processor.specs.declared.station.Parts.{Parts}
-use Rattle.processor.specs.Logs.{LogEntry, IsFresh, Leaves}
-use Rattle.processor.specs.Points.{ToldTurns}
+use Rattle.processor.specs.Entries.{LogEntry}
+use Rattle.processor.specs.Logs.{IsFresh, Leaves, HasTurned}
 use Rattle.processor.specs.Running.{Line}
-use Rattle.reports.specs.ClosedTables.{ClosedTables}
-use Rattle.reports.specs.Reports.{IsReport}
-use Rattle.reports.specs.Saying.{live_threads}
+use Rattle.quajects.specs.declared.any.AnyQuaject.{AnyQuaject}
+use Rattle.boot_report.specs.declared.ttys.Typed.{Typed}
+use Rattle.boot_report.specs.Shown.{Shows}
+use Rattle.boot_laws.specs.Boots.{Boot}
+use Rattle.boot_laws.specs.ClosedTables.{ClosedTables, Device}
+use Rattle.boot_laws.specs.Closings.{closed_of}
+use Rattle.boot_laws.specs.Reports.{IsReport}
+use Rattle.boot_laws.specs.Saying.{live_threads}
 use Rattle.synth_kernel.specs.declared.outcome.Ended.{Ended}
 use Rattle.synth_kernel.specs.declared.outcome.Ended.TheVariants.{AllEnded, Unfinished}
 use Rattle.synth_kernel.specs.declared.outcome.BootFault.{BootFault}
 use Rattle.synth_kernel.specs.declared.outcome.BootFault.TheVariants.{Script, Memory, Read, Write}
 
--- So many turns of the processor p, on a station of these objects that had done nothing, left on it what the log says.
--- The gate was told the number of each turn, from 0, and then the points of its step, and nothing else; so it became the
--- other one
-pub record IsLogOf {G : Type 0} (T : G → ℕ → Point → G → Type 0) (shared : Shared) (p turns : ℕ) (gate gate' : G)
+-- WHAT ITS PROCESSORS DID
+
+-- The log of the processor p: it has an entry for each of so many turns, in each of which processor 0 tended the
+-- alarms, and no other did; and it says all that was left on a station that had done nothing
+pub record IsLogOf (plan : BootPlan) (p turns : ℕ) (log : List LogEntry) : Type 0 where
+  pub many : length log ≡ turns
+  pub tends : AllByRecursion (λ (entry : LogEntry). is_some entry.turned.tended ≡ (p == 0)) log
+  pub station : Parts
+  pub left : Leaves plan log station
+
+-- these are the logs of the processors from this one on, in their order
+abbrev pub AreLogs : BootPlan → ℕ → ℕ → List (List LogEntry) → Type 0
+AreLogs plan p turns [] = Unit {0}
+AreLogs plan p turns (log ∷ logs) = IsLogOf plan p turns log × AreLogs plan (p + 1) turns logs
+
+-- each of so many processors had so many turns, whatever the closed tables are
+pub record HadTurns (processors turns : ℕ) (plan : BootPlan) (closed : ClosedTables) (logs : List (List LogEntry))
+    : Type 0 where
+  pub many : length logs ≡ processors
+  pub each : AreLogs plan 0 turns logs
+
+-- WHAT CAME BACK OF A BOOT WITH GATES
+
+-- The processor p had so many turns on a station of these objects that had done nothing, and this is their log. The
+-- gate was told of them, and of nothing else, and so became the other one
+pub record WasTold {G : Type 0} (T : G → ℕ → Point → G → Type 0) (shared : Shared) (p turns : ℕ) (gate gate' : G)
     (log : List LogEntry) : Type 0 where
   pub old : Parts
   pub fresh : IsFresh old
   pub new : Parts
-  pub told : ToldTurns T shared p old new turns gate gate'
-  pub left : Leaves shared.plan log new
+  pub turned : HasTurned T shared p turns gate gate' old new
+  pub log_is : turned.log ≡ log
 
--- There is such a log for each of these gates and the other one at its place, of the processors from this one on, in
--- their order
-abbrev pub AreLogsOf : {G : Type 0} → (G → ℕ → Point → G → Type 0) → Shared → ℕ → ℕ → List G → List G
+-- so it was with each of these gates, for the processors from this one on, in their order
+abbrev pub AllTold : {G : Type 0} → (G → ℕ → Point → G → Type 0) → Shared → ℕ → ℕ → List G → List G
     → List (List LogEntry) → Type 0
-AreLogsOf T shared p turns [] [] [] = Unit {0}
-AreLogsOf T shared p turns (gate ∷ gates) (gate' ∷ gates') (log ∷ logs) =
-    IsLogOf T shared p turns gate gate' log × AreLogsOf T shared (p + 1) turns gates gates' logs
-AreLogsOf T shared p turns gates gates' logs = ⊥
+AllTold T shared p turns [] [] [] = Unit {0}
+AllTold T shared p turns (gate ∷ gates) (gate' ∷ gates') (log ∷ logs) =
+    WasTold T shared p turns gate gate' log × AllTold T shared (p + 1) turns gates gates' logs
+AllTold T shared p turns gates gates' logs = ⊥
 
--- The report agrees with the plan, with the closed tables of a boot, and with the logs of its processors, one for each
--- gate, each of so many turns on the objects of the plan. Each gate was told of these, and so became the other one at its
--- place
-pub record IsBootOf {G : Type 0} (T : G → ℕ → Point → G → Type 0) (plan : BootPlan) (turns : ℕ)
-    (gates gates' : List G) (report : Report) : Type 0 where
+-- Each gate was told of the turns of its processor on the objects of the plan, and came back so at its place; and this
+-- came of closing these: the closed tables are made of it, with what ends, quajects and devices had, and show its
+-- numbers
+pub record CameBack {G : Type 0} (T : G → ℕ → Point → G → Type 0) (turns : ℕ) (gates back : List G) (ended : Unmade)
+    (plan : BootPlan) (closed : ClosedTables) (logs : List (List LogEntry)) : Type 0 where
   pub shared : Shared
   pub plan_is : shared.plan ≡ plan
+  pub told : AllTold T shared 0 turns gates back logs
+  pub boot : Boot
+  pub quajects : List AnyQuaject
+  pub devices : List Device
+  pub made : closed ≡ closed_of plan boot ended quajects devices
+  pub typed : List Typed
+  pub shows : Shows closed ended typed
+
+-- WHAT IT TELLS
+
+-- The report agrees with the plan, with the closed tables of a boot, and with the logs of its processors, of which all
+-- this holds
+pub record IsBootOf (Did : BootPlan → ClosedTables → List (List LogEntry) → Type 0) (plan : BootPlan) (report : Report)
+    : Type 0 where
   pub closed : ClosedTables
   pub logs : List (List LogEntry)
   pub heard : List Line
-  pub turned : AreLogsOf T shared 0 turns gates gates' logs
+  pub did : Did plan closed logs
   pub agrees : IsReport plan closed logs heard report
 
 -- the answer where so many threads are live
@@ -61,42 +105,34 @@ ended_of zero = AllEnded
 ended_of (suc others) = Unfinished (suc others)
 
 -- the answer is that of the live threads of a report of such a boot, which was printed, and nothing else
-pub record IsRun {G : Type 0} (T : G → ℕ → Point → G → Type 0) (plan : BootPlan) (turns : ℕ) (gates gates' : List G)
-    (ended : Ended) (old new : Option (List ℕ)) : Type 0 where
+pub record IsRun (Did : BootPlan → ClosedTables → List (List LogEntry) → Type 0) (plan : BootPlan) (ended : Ended)
+    (old new : Option (List ℕ)) : Type 0 where
   pub report : Report
-  pub booted : IsBootOf T plan turns gates gates' report
+  pub booted : IsBootOf Did plan report
   pub ends : ended ≡ ended_of (live_threads report)
   pub printed : Appends old new (report_text report)
 
--- the text says a plan, and so it is with a boot of that
-pub record IsBoot {G : Type 0} (T : G → ℕ → Point → G → Type 0) (said : Result Plan ScriptFault) (turns : ℕ)
-    (gates gates' : List G) (ended : Ended) (old new : Option (List ℕ)) : Type 0 where
-  pub plan : BootPlan
-  pub says : said ≡ Ok (plan_of plan)
-  pub run : IsRun T plan turns gates gates' ended old new
+-- what was read, where the reader tells it, says this plan
+abbrev pub Says : Option (List ℕ) → BootPlan → Type 0
+Says read plan = IfSome read (λ bytes. text_plan bytes ≡ Ok (plan_of plan))
 
--- the answer alone, where the gates don't come back
-pub record IsBootAnswer {G : Type 0} (T : G → ℕ → Point → G → Type 0) (said : Result Plan ScriptFault) (turns : ℕ)
-    (gates : List G) (ended : Ended) : Type 0 where
+-- what was read says a plan, and so it is with a boot of that
+pub record IsBoot (Did : BootPlan → ClosedTables → List (List LogEntry) → Type 0) (read : Option (List ℕ))
+    (ended : Ended) (old new : Option (List ℕ)) : Type 0 where
   pub plan : BootPlan
-  pub says : said ≡ Ok (plan_of plan)
+  pub says : Says read plan
+  pub run : IsRun Did plan ended old new
+
+-- the answer alone
+pub record IsBootAnswer (Did : BootPlan → ClosedTables → List (List LogEntry) → Type 0) (read : Option (List ℕ))
+    (ended : Ended) : Type 0 where
+  pub plan : BootPlan
+  pub says : Says read plan
   pub report : Report
-  pub back : List G
-  pub booted : IsBootOf T plan turns gates back report
+  pub booted : IsBootOf Did plan report
   pub ends : ended ≡ ended_of (live_threads report)
 
--- nothing is said of a gate that does nothing
-abbrev pub unheard : NoGate → ℕ → Point → NoGate → Type 0
-unheard old p point new = Unit {0}
-
--- so it is with a gate that does nothing for each of so many processors
-abbrev pub IsPlainBoot : Result Plan ScriptFault → ℕ → ℕ → Ended → Option (List ℕ) → Option (List ℕ) → Type 0
-IsPlainBoot said processors turns ended old new =
-    (gates back : List NoGate) × (length gates ≡ processors) × IsBoot unheard said turns gates back ended old new
-
-abbrev pub IsPlainAnswer : Result Plan ScriptFault → ℕ → ℕ → Ended → Type 0
-IsPlainAnswer said processors turns ended =
-    (gates : List NoGate) × (length gates ≡ processors) × IsBootAnswer unheard said turns gates ended
+-- HOW IT FAILS
 
 -- a script's fault is the first of the text; memory is wanting, or the writer fails, only where the text has none
 abbrev pub IsBootFault : Result Plan ScriptFault → BootFault → Type 0

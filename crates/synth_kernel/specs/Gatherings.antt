@@ -1,20 +1,20 @@
 -- What the threads of a kernel gave back, sorted and joined.
-use Rattle.std.specs.Prelude.{◌≡◌, ◌≤◌, ◌++◌, ◌%◌, ◌^◌, map, flat_map, length, vec_capacity, List, [], ◌∷◌, Option, Some, None}
-use Rattle.std.specs.Prelude.{Bool, true, false}
-use Rattle.end_steps.specs.Splits.{AllThree}
+use Rattle.std.specs.Prelude.{◌≡◌, ◌≤◌, ◌++◌, ◌%◌, ◌^◌, map, flat_map, length, vec_capacity, List, [], ◌∷◌}
+use Rattle.std.specs.Prelude.{Option, Some, None, Bool, true, false}
+use Rattle.turn_io.specs.Splits.{AllThree}
 use Rattle.processor.specs.declared.shared.Shared.{Shared}
 use Rattle.processor.specs.declared.station.Station.{Station}
 use Rattle.processor.specs.Partings.{AllJoined}
 use Rattle.processor.specs.Stations.{ArePartsOf}
 use Rattle.processor.specs.Turns.{heard_lines}
 use Rattle.quajects.specs.declared.raw.RawTty.{RawTty}
-use Rattle.kernel_threads.specs.declared.work.Processed.{Processed}
-use Rattle.kernel_threads.specs.declared.work.Worked.{Worked}
-use Rattle.kernel_threads.specs.declared.work.Worked.TheVariants as worked
-use Rattle.kernel_threads.specs.Backs.{parts_of, gate_of}
+use Rattle.boot_threads.specs.declared.work.Processed.{Processed}
+use Rattle.boot_threads.specs.declared.work.Worked.{Worked}
+use Rattle.boot_threads.specs.declared.work.Worked.TheVariants as worked
+use Rattle.boot_threads.specs.Backs.{parts_of, gate_of}
 use Rattle.quajects.specs.Raws.{overruns_of}
-use Rattle.reporting.specs.Reported.{lines_of}
-use Rattle.reporting.specs.declared.ttys.Typed.{Typed}
+use Rattle.boot_report.specs.Reported.{lines_of}
+use Rattle.boot_report.specs.declared.ttys.Typed.{Typed}
 use Rattle.spsc_line.specs.declared.line_in.LineIn.{LineIn}
 use Rattle.spsc_line.specs.Lines.{bytes_sent, bytes_received, bytes_left}
 use Rattle.synth_kernel.specs.declared.gathering.Gathered.{Gathered}
@@ -60,8 +60,8 @@ pub record HaveRoomFor {G : Type 0} (backs : List (Option (Worked G))) (lists : 
   pub gates : (lists.gates.items ≡ []) × (length (processed_in backs) ≤ vec_capacity lists.gates)
   pub told : (lists.told.items ≡ []) × (length (served_in backs) ≤ vec_capacity lists.told)
 
--- Each thread gave something back. The stations were joined to the first, which is then the last, and what they heard is
--- there, and so are their gates, in their order. The raw ttys are there, and what each device did, by its input
+-- Each thread gave something back. The stations were joined to the first, which is then the last, and what they heard
+-- is there, and so are their gates, in their order. The raw ttys are there, and what each device did, by its input
 pub record IsGathered {G : Type 0} (shared : Shared) (first : Station) (backs : List (Option (Worked G)))
     (inputs : List LineIn) (gathered : Gathered G) : Type 0 where
   pub all : all_there backs ≡ true

@@ -2,21 +2,22 @@
 use Rattle.std.specs.Prelude.{◌≡◌, ◌+◌, ◌<◌, ◌≤◌, ℕ, List, [], map, length, vec_capacity}
 use Rattle.std.specs.List.{All}
 use Rattle.boot_data.specs.declared.boot_plan.BootPlan.{BootPlan}
-use Rattle.closing.specs.Rooms as closing
-use Rattle.hand_steps.specs.Holdings.{IsFree}
-use Rattle.objects.specs.declared.device.Device.{Device}
-use Rattle.objects.specs.Devices.{AreDevicesOf}
-use Rattle.objects.specs.Objects.{AreQuajectsOf, HaveAll, IsFirstHand, IsFirstSeat, quajects_of}
+use Rattle.boot_objects.specs.Rooms as closing
+use Rattle.turn_dispatch.specs.Holdings.{IsFree}
+use Rattle.boot_objects.specs.declared.device.Device.{Device}
+use Rattle.boot_objects.specs.Devices.{AreDevicesOf}
+use Rattle.boot_objects.specs.Objects.{AreQuajectsOf, HaveAll, IsFirstHand, IsFirstSeat}
+use Rattle.boot_objects.specs.Shares.{quajects_of}
 use Rattle.processor.specs.declared.shared.Shared.{Shared}
 use Rattle.processor.specs.declared.station.Parts.{Parts}
 use Rattle.processor.specs.Stations.{ArePartsOf}
 use Rattle.processor.specs.Preparing.{IsPrepared}
-use Rattle.reporting.specs.Rooms as reporting
+use Rattle.boot_report.specs.Rooms as reporting
 use Rattle.thread_table.specs.Handles.{view_of}
-use Rattle.kernel_threads.specs.declared.work.Work.{Work}
-use Rattle.kernel_threads.specs.Readiness.{AreServing, HasPrepared, input_of}
-use Rattle.kernel_threads.specs.Stationings.{NoneOn, ArePosted}
-use Rattle.kernel_threads.specs.Works.{MayWork}
+use Rattle.boot_threads.specs.declared.work.Work.{Work}
+use Rattle.boot_threads.specs.Readiness.{AreServing, HasPrepared, input_of}
+use Rattle.boot_threads.specs.Stationings.{NoneOn, ArePosted}
+use Rattle.boot_threads.specs.Works.{MayWork}
 use Rattle.synth_kernel.specs.declared.ready.Ready.{Ready}
 use Rattle.synth_kernel.specs.declared.ready.Room.{Room}
 
@@ -45,8 +46,7 @@ pub record IsReady {G : Type 0} (plan : BootPlan) (turns : ℕ) (gates : List G)
   pub made : Parts
   pub hand : IsFirstHand ready.shared.threads made.hand
   pub seat : IsFirstSeat ready.shared.meters made.meters
-  pub whole : HaveAll ready.shared.queues ready.shared.chains.items made.small.items made.large.items made.chains.items
-      devices
+  pub whole : HaveAll ready.shared made devices
   pub first : Parts
   pub first_is : HasPrepared ready.shared.plan made first
   pub posts : List (Work G)

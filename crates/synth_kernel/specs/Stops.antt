@@ -1,11 +1,11 @@
 -- What a boot has when its threads have stopped.
 use Rattle.std.specs.Prelude.{◌≡◌, ℕ, List, drop, Option}
 use Rattle.std.specs.List.{AllZip}
-use Rattle.end_steps.specs.declared.gate.Point.{Point}
-use Rattle.kernel_threads.specs.declared.work.Worked.{Worked}
-use Rattle.kernel_threads.specs.Crews.{GaveBack}
-use Rattle.kernel_threads.specs.Typings.{AreTyped}
-use Rattle.kernel_threads.specs.Works.{HasWorked}
+use Rattle.turn_io.specs.declared.gate.Point.{Point}
+use Rattle.boot_threads.specs.declared.work.Worked.{Worked}
+use Rattle.boot_threads.specs.Crews.{GaveBack}
+use Rattle.boot_threads.specs.Typings.{AreTyped}
+use Rattle.boot_threads.specs.Works.{HasWorked}
 use Rattle.spsc_line.specs.declared.line_in.LineIn.{LineIn}
 use Rattle.synth_kernel.specs.declared.ready.Ready.{Ready}
 use Rattle.synth_kernel.specs.declared.running.Stopped.{Stopped}

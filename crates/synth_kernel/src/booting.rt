@@ -1,23 +1,24 @@
 //! A boot, from its plan to its report.
 ghost use Rattle.std.specs.Prelude.{◌≤◌, vec_len, IfOk};
-ghost use Rattle.kernel_threads.specs.Works.{AllToldTurns};
-ghost use Rattle.synth_kernel.specs.Boots.{IsBootOf};
+ghost use Rattle.synth_kernel.specs.Boots.{IsBootOf, CameBack};
 
 use crate::gathering::Gathered;
 use crate::ready::get_ready;
 use crate::running::{Stopped, run_threads};
 use crate::shutting::shut_down;
 use boot_data::{BootPlan, Report};
-use end_steps::Gate;
+use boot_objects::Unmade;
+use boot_report::report_boot;
 use event_theory::OutOfMemory;
-use reporting::report_boot;
 use std::alloc::Global;
 use std::sync::Wait;
 use std::thread::Threads;
+use turn_io::Gate;
 
-/// Boots a plan, a processor for each gate, so many turns on each, and reports. The gates come back, each at its place.
-/// `OutOfMemory` comes only where an allocation was refused or a thread could not be started. All memory is taken before
-/// the first thread starts, but what each thread's own start takes.
+/// Boots a plan, a processor for each gate, so many turns on each, and reports. The gates come back, each at its place,
+/// and what came of closing all.
+/// `OutOfMemory` comes only where an allocation was refused or a thread could not be started. All memory is taken
+/// before the first thread starts, but what each thread's own start takes.
 ///
 /// Conditions: there are 1 to 8 gates.
 pub(crate) fn boot_plan<R, G>(
@@ -26,13 +27,12 @@ pub(crate) fn boot_plan<R, G>(
     plan: BootPlan,
     turns: u32,
     gates: Vec<G>,
-) -> Result<(Report, Vec<G>), OutOfMemory>
+) -> Result<(Report, Vec<G>, Unmade), OutOfMemory>
 where
     R: Threads + Wait + Sync,
     G: Gate + Send + Drop,
     requires gates { (1 ≤ vec_len gates) × (vec_len gates ≤ 8) }
-    ensures booted { IfOk result (λ r. IsBootOf G.told plan turns gates.items r.1.items r.0) }
-    ensures told { IfOk result (λ r. AllToldTurns G.told 0 turns gates.items r.1.items) }
+    ensures { IfOk result (λ r. IsBootOf (CameBack G.told turns gates.items r.1.items r.2) plan r.0) }
 {
     let processors = gates.len();
     let ready = get_ready(rt, alloc, plan, turns, gates)?;
@@ -51,5 +51,6 @@ where
         told,
     } = gathered;
     let ended = shut_down(shared, station, ttys, answers);
-    Ok((report_boot(ended, heards, told.as_slice(), report), gates))
+    let report = report_boot(&ended, heards, told.as_slice(), report);
+    Ok((report, gates, ended))
 }

@@ -1,19 +1,21 @@
 //! What the threads of a kernel gave back, joined.
-ghost use Rattle.std.specs.Prelude.{◌≡◌, ◌≤◌, ◌+◌, ◌++◌, [], ◌∷◌, false, true, length, map, vec_capacity, Option, Some, None, IfSome};
+ghost use Rattle.std.specs.Prelude.{◌≡◌, ◌≤◌, ◌+◌, ◌++◌, [], ◌∷◌, false, true, length, map, vec_capacity};
+ghost use Rattle.std.specs.Prelude.{Option, Some, None, IfSome};
 ghost use Rattle.std.specs.List.{All, AllZip, flat_map};
 ghost use Rattle.processor.specs.Stations.{ArePartsOf};
-ghost use Rattle.kernel_threads.specs.Backs.{parts_of, gate_of};
+ghost use Rattle.boot_threads.specs.Backs.{parts_of, gate_of};
 ghost use Rattle.processor.specs.Turns.{heard_lines};
 ghost use Rattle.processor.specs.Partings.{AllJoined};
-ghost use Rattle.reporting.specs.Reported.{lines_of};
-ghost use Rattle.synth_kernel.specs.Gatherings.{processed_in, served_in, all_there, tty_of, TotalsAre, HaveRoomFor, IsGathered};
-ghost use Rattle.end_steps.specs.Splits.{AllThree};
+ghost use Rattle.boot_report.specs.Reported.{lines_of};
+ghost use Rattle.synth_kernel.specs.Gatherings.{processed_in, served_in, all_there, tty_of};
+ghost use Rattle.synth_kernel.specs.Gatherings.{TotalsAre, HaveRoomFor, IsGathered};
+ghost use Rattle.turn_io.specs.Splits.{AllThree};
 ghost use Rattle.spsc_line.specs.Lines.{IsLine};
 
-use kernel_threads::{Processed, Worked};
+use boot_report::Typed;
+use boot_threads::{Processed, Worked};
 use processor::{Heard, Shared, Station};
 use quajects::RawTty;
-use reporting::Typed;
 use spsc_line::{LineIn, LineOut, finish};
 
 /// What a device gave back: the end of its line from which it popped, and its raw tty.
@@ -161,9 +163,9 @@ fn finish_all(
     (ttys, told)
 }
 
-/// Joins the stations of the processors to the first, and ends the devices' lines, each in their order; the gates are in
-/// the processors' order. None where a thread gave nothing back, since it couldn't be started. It takes no memory: all
-/// lists have room.
+/// Joins the stations of the processors to the first, and ends the devices' lines, each in their order; the gates are
+/// in the processors' order. None where a thread gave nothing back, since it couldn't be started. It takes no memory:
+/// all lists have room.
 ///
 /// Conditions: where each thread gave something back, the stations are of `shared`, and there is an input for each
 /// device, in their order, which is that of its line.

@@ -4,21 +4,22 @@ ghost use Rattle.std.specs.Io.KnownBytes.{Appends, Keeps};
 ghost use Rattle.boot_script.specs.Answers.{Says};
 ghost use Rattle.boot_data.specs.BootPlans.{plan_of};
 ghost use Rattle.boot_script.specs.Plans.{text_plan};
-ghost use Rattle.kernel_threads.specs.Works.{AllToldTurns};
-ghost use Rattle.reports.specs.Saying.{live_threads};
-ghost use Rattle.synth_kernel.specs.Boots.{ended_of, IsBoot, IsBootFault, IsBootAnswer, IsPlainBoot, IsPlainAnswer, IsRun, IsRead, IsLate};
+ghost use Rattle.boot_objects.specs.declared.closing.all.Unmade.{Unmade};
+ghost use Rattle.boot_laws.specs.Saying.{live_threads};
+ghost use Rattle.synth_kernel.specs.Boots.{ended_of, HadTurns, CameBack, IsBoot, IsBootAnswer, IsRun};
+ghost use Rattle.synth_kernel.specs.Boots.{IsBootFault, IsRead, IsLate};
 
 use crate::booting::boot_plan;
 use crate::outcome::{BootFault, Booted, Ended};
 use boot_data::{BootPlan, Report};
+use boot_report::live_of;
 use boot_script::{ScriptRefusal, parse_boot, print_report, read_script};
-use end_steps::{Gate, NoGate};
 use event_theory::OutOfMemory;
-use reporting::live_of;
 use std::alloc::Global;
 use std::io::{Read, Write};
 use std::sync::Wait;
 use std::thread::Threads;
+use turn_io::{Gate, NoGate};
 
 /// How many bytes a script may have, and one more.
 const BUFFER_BYTES: usize = 65_537;
@@ -71,18 +72,18 @@ where
     O: Write,
     G: Gate + Send + Drop,
     requires gates { (1 ≤ vec_len gates) × (vec_len gates ≤ 8) }
-    ensures ok { IfOk result (λ booted. IsRun G.told plan turns gates.items booted.gates.items booted.ended
-        (O.contents writer.old) (O.contents writer.new)) }
-    ensures told { IfOk result (λ booted. AllToldTurns G.told 0 turns gates.items booted.gates.items) }
+    ensures ok { IfOk result (λ booted. IsRun (CameBack G.told turns gates.items booted.gates.items booted.closed) plan
+        booted.ended (O.contents writer.old) (O.contents writer.new)) }
     ensures fault { IfErr result (λ fault. IsLate fault) }
     ensures unwritten { IfErr result (λ fault. fault ≢ BootFault.Write
         → Keeps (O.contents writer.old) (O.contents writer.new)) }
 {
-    let (report, gates) = boot_plan(rt, alloc, plan, turns, gates)?;
+    let (report, gates, closed) = boot_plan(rt, alloc, plan, turns, gates)?;
     match print_report(&report, writer) {
         Ok(()) => Ok(Booted {
             ended: ended_by(&report),
             gates,
+            closed,
         }),
         Err(_) => Err(BootFault::Write),
     }
@@ -118,8 +119,8 @@ where
     I: Read,
     O: Write,
     requires { (1 ≤ processors) × (processors ≤ 8) }
-    ensures ok { IfOk result (λ ended. IfSome (I.remaining reader.old) (λ bytes. IsPlainBoot (text_plan bytes)
-        processors turns ended (O.contents writer.old) (O.contents writer.new))) }
+    ensures ok { IfOk result (λ ended. IsBoot (HadTurns processors turns) (I.remaining reader.old) ended
+        (O.contents writer.old) (O.contents writer.new)) }
     ensures fault { IfErr result (λ fault. IfSome (I.remaining reader.old) (λ bytes. IsBootFault
         (text_plan bytes) fault)) }
     ensures unwritten { IfErr result (λ fault. fault ≢ BootFault.Write
@@ -131,9 +132,9 @@ where
     Ok(booted.ended)
 }
 
-/// The same with a gate for each processor, from 0 on, which the processor calls between the parts of its turns. Where the
-/// boot answers `Ok`, the gates come back, each at its place: it was called with the number of each turn, and then with the
-/// points of its step, and with nothing else.
+/// The same with a gate for each processor, from 0 on, which the processor calls between the parts of its turns. Where
+/// the boot answers `Ok`, the gates come back, each at its place: it was called with the number of each turn, and then
+/// with the points of its step, and with nothing else. So does what came of closing all, whose numbers the report has.
 ///
 /// Conditions: there are 1 to 8 processors, and a gate for each.
 pub fn boot_on_with<R, I, O, G>(
@@ -152,9 +153,8 @@ where
     G: Gate + Send + Drop,
     requires number { (1 ≤ processors) × (processors ≤ 8) }
     requires gates { vec_len gates ≡ processors }
-    ensures ok { IfOk result (λ booted. IfSome (I.remaining reader.old) (λ bytes. IsBoot G.told (text_plan bytes)
-        turns gates.items booted.gates.items booted.ended (O.contents writer.old) (O.contents writer.new))) }
-    ensures told { IfOk result (λ booted. AllToldTurns G.told 0 turns gates.items booted.gates.items) }
+    ensures ok { IfOk result (λ booted. IsBoot (CameBack G.told turns gates.items booted.gates.items booted.closed)
+        (I.remaining reader.old) booted.ended (O.contents writer.old) (O.contents writer.new)) }
     ensures fault { IfErr result (λ fault. IfSome (I.remaining reader.old) (λ bytes. IsBootFault
         (text_plan bytes) fault)) }
     ensures unwritten { IfErr result (λ fault. fault ≢ BootFault.Write
@@ -180,8 +180,7 @@ where
     I: Read + Drop,
     O: Write + Drop,
     requires { (1 ≤ processors) × (processors ≤ 8) }
-    ensures ok { IfOk result (λ ended. IfSome (I.remaining reader) (λ bytes. IsPlainAnswer (text_plan bytes)
-        processors turns ended)) }
+    ensures ok { IfOk result (IsBootAnswer (HadTurns processors turns) (I.remaining reader)) }
     ensures fault { IfErr result (λ fault. IfSome (I.remaining reader) (λ bytes. IsBootFault (text_plan bytes)
         fault)) }
 {
@@ -207,9 +206,8 @@ where
     G: Gate + Send + Drop,
     requires number { (1 ≤ processors) × (processors ≤ 8) }
     requires gates { vec_len gates ≡ processors }
-    ensures ok { IfOk result (λ ended. IfSome (I.remaining reader) (λ bytes. IsBootAnswer G.told (text_plan bytes)
-        turns gates.items ended)) }
-    ensures told { IfOk result (λ ended. (back : List G) × AllToldTurns G.told 0 turns gates.items back) }
+    ensures ok { IfOk result (λ ended. (back : List G) × (closed : Unmade)
+        × IsBootAnswer (CameBack G.told turns gates.items back closed) (I.remaining reader) ended) }
     ensures fault { IfErr result (λ fault. IfSome (I.remaining reader) (λ bytes. IsBootFault (text_plan bytes)
         fault)) }
 {

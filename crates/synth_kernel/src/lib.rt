@@ -22,6 +22,6 @@ mod ready;
 mod running;
 mod shutting;
 
-pub use end_steps::{Gate, Point};
 pub use kernel::{boot, boot_on, boot_on_with, boot_with};
 pub use outcome::{BootFault, Booted, Ended};
+pub use turn_io::{Gate, Point};

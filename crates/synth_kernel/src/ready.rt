@@ -1,21 +1,20 @@
 //! What a boot has before its threads start, with the memory that it takes.
 ghost use Rattle.std.specs.Prelude.{◌≡◌, ◌≤◌, ◌+◌, length, vec_len, IfOk};
-ghost use Rattle.reporting.specs.Rooms.{HasAllRoom};
+ghost use Rattle.boot_report.specs.Rooms.{HasAllRoom};
 ghost use Rattle.synth_kernel.specs.Readies.{HasPlaces, IsReady};
 
 use crate::gathering::Served;
 use boot_data::BootPlan;
-use closing::Answers;
-use end_steps::Gate;
+use boot_objects::{Answers, Objects, make_objects};
+use boot_report::{Room as ReportRoom, Typed};
+use boot_threads::{Processed, Work, Worked, add_devices, post_all, prepare_station};
 use event_theory::OutOfMemory;
-use first_station::{Objects, make_objects};
-use kernel_threads::{Processed, Work, Worked, add_devices, post_all, prepare_station};
 use processor::{Heard, Shared, Station};
 use quajects::RawTty;
-use reporting::{Room as ReportRoom, Typed};
 use spsc_line::LineIn;
 use std::alloc::Global;
 use std::sync::Wait;
+use turn_io::Gate;
 
 /// Room for what the threads give back, and for what is made of it.
 #[derive(Drop)]

@@ -5,15 +5,15 @@ ghost use Rattle.synth_kernel.specs.Stops.{HasStopped};
 
 use crate::gathering::{Gathered, Lists, gather};
 use crate::ready::{Ready, Room};
-use closing::Answers;
-use end_steps::Gate;
+use boot_objects::Answers;
+use boot_report::Room as ReportRoom;
+use boot_threads::run_kernel;
 use event_theory::OutOfMemory;
-use kernel_threads::run_kernel;
 use processor::Shared;
-use reporting::Room as ReportRoom;
 use std::alloc::Global;
 use std::sync::Wait;
 use std::thread::Threads;
+use turn_io::Gate;
 
 /// What a boot has when its threads have stopped: all objects, what the threads gave back, and room for what is made of
 /// it.
@@ -25,8 +25,9 @@ pub(crate) struct Stopped<G> {
     pub(crate) report: ReportRoom,
 }
 
-/// Runs a thread for each work and types the ttys' bytes meanwhile, and gathers what they gave back. `OutOfMemory` comes
-/// only where the list of threads was refused its memory, before the first starts, or a thread could not be started.
+/// Runs a thread for each work and types the ttys' bytes meanwhile, and gathers what they gave back. `OutOfMemory`
+/// comes only where the list of threads was refused its memory, before the first starts, or a thread could not be
+/// started.
 ///
 /// Condition: all is ready for so many processors.
 pub(crate) fn run_threads<R, G>(

@@ -1,17 +1,18 @@
 //! The end of all objects of a boot.
 ghost use Rattle.std.specs.Prelude.{length};
-ghost use Rattle.closing.specs.Endings.{AllClosed};
-ghost use Rattle.closing.specs.RawEnds.{AreRawsOf, TookRaws};
-ghost use Rattle.closing.specs.Rooms.{HaveRoom};
-ghost use Rattle.closing.specs.Wholes.{HasWholes};
+ghost use Rattle.boot_objects.specs.Endings.{AllClosed};
+ghost use Rattle.boot_objects.specs.RawEnds.{AreRawsOf, TookRaws};
+ghost use Rattle.boot_objects.specs.Rooms.{HaveRoom};
+ghost use Rattle.boot_objects.specs.Wholes.{HasWholes};
 ghost use Rattle.processor.specs.declared.station.Parts.{Parts};
 ghost use Rattle.processor.specs.Stations.{ArePartsOf};
 
-use closing::{Answers, Unmade, close_all, join_raws};
+use boot_objects::{Answers, Unmade, close_all, join_raws};
 use processor::{Shared, Station};
 use quajects::RawTty;
 
-/// Joins the ends of the devices to those of the last station, which has all others, and closes all. It takes no memory.
+/// Joins the ends of the devices to those of the last station, which has all others, and closes all. It takes no
+/// memory.
 ///
 /// Conditions: the station and the raw ttys are of these objects, and the station has the whole of each once these are
 /// joined to it; the lists of the answers are empty and have room.
@@ -23,8 +24,8 @@ pub(crate) fn shut_down(
 ) -> Unmade
     requires last { ArePartsOf shared last.parts }
     requires ttys { AreRawsOf shared ttys.items }
-    requires wholes { (parts : Parts) → ArePartsOf shared parts → TookRaws (length shared.plan.queues)
-        (length shared.plan.movers) ttys.items last.parts parts → HasWholes shared parts }
+    requires wholes { (parts : Parts) → TookRaws (length shared.plan.queues) (length shared.plan.movers) ttys.items
+        last.parts parts → HasWholes shared parts }
     requires room { HaveRoom shared answers }
     ensures { (parts : Parts) × TookRaws (length shared.plan.queues) (length shared.plan.movers) ttys.items last.parts
         parts × AllClosed shared parts result }

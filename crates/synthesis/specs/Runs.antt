@@ -8,7 +8,6 @@ use Rattle.boot_script.specs.declared.outcome.Replayed.TheVariants.{AllAllowed, 
 use Rattle.boot_script.specs.declared.outcome.ReplayFault.{ReplayFault}
 use Rattle.boot_script.specs.declared.outcome.ReplayFault.TheVariants.{Script, Memory, Read, Write}
 use Rattle.boot_script.specs.Printed.{end_of_line, replay_fault_text}
-use Rattle.boot_data.specs.Plans.{Plan}
 use Rattle.boot_script.specs.Plans.{text_plan}
 use Rattle.boot_script.specs.Scripts.{text_events}
 use Rattle.boot_script.specs.Replays.{IsReplay, IsAnswer, IsReplayFault}
@@ -17,7 +16,7 @@ use Rattle.synth_kernel.specs.declared.outcome.Ended.TheVariants.{AllEnded, Unfi
 use Rattle.synth_kernel.specs.declared.outcome.BootFault.{BootFault}
 use Rattle.synth_kernel.specs.declared.outcome.BootFault.TheVariants as boot_faults
 use Rattle.synth_kernel.specs.Faults.{boot_fault_text}
-use Rattle.synth_kernel.specs.Boots.{IsPlainBoot, IsPlainAnswer, IsBootFault}
+use Rattle.synth_kernel.specs.Boots.{HadTurns, IsBoot, IsBootAnswer, IsBootFault}
 use Rattle.synthesis.specs.declared.program.Exit.{Exit}
 
 -- what is told of other words
@@ -85,12 +84,12 @@ abbrev pub boot_words_of : Result endings.Ended BootFault → List ℕ
 boot_words_of (Ok ended) = []
 boot_words_of (Err fault) = boot_fault_text fault ++ end_of_line
 
--- a text that says this has the answer on so many processors, after so many turns of each, and where that is printed,
--- just the report is appended
-abbrev pub BootAnswers : Result Plan ScriptFault → ℕ → ℕ → Result endings.Ended BootFault
+-- what was read has the answer on so many processors, after so many turns of each, and where that is printed, just the
+-- report is appended
+abbrev pub BootAnswers : Option (List ℕ) → ℕ → ℕ → Result endings.Ended BootFault
     → Option (List ℕ) → Option (List ℕ) → Type 0
-BootAnswers said processors turns (Ok ended) old new = IsPlainBoot said processors turns ended old new
-BootAnswers said processors turns (Err fault) old new = IsBootFault said fault
+BootAnswers read processors turns (Ok ended) old new = IsBoot (HadTurns processors turns) read ended old new
+BootAnswers read processors turns (Err fault) old new = IfSome read (λ bytes. IsBootFault (text_plan bytes) fault)
 
 -- nothing was written under another fault of a boot than the writer's
 abbrev pub IsBootUnwritten : Result endings.Ended BootFault → Option (List ℕ) → Option (List ℕ) → Type 0
@@ -100,16 +99,15 @@ IsBootUnwritten (Err fault) old new = fault ≢ boot_faults.Write → Keeps old 
 -- a boot of the bytes, where they are known, has this answer, and turns the bytes of the writer from old to new
 abbrev pub IsBootedBy : Option (List ℕ) → ℕ → ℕ → Result endings.Ended BootFault
     → Option (List ℕ) → Option (List ℕ) → Type 0
-IsBootedBy known processors turns answer old new =
-    IfSome known (λ bytes. BootAnswers (text_plan bytes) processors turns answer old new)
-    × IsBootUnwritten answer old new
+IsBootedBy read processors turns answer old new =
+    BootAnswers read processors turns answer old new × IsBootUnwritten answer old new
 
 -- the answer of a boot alone
-abbrev pub IsBootAnswerOf : Result Plan ScriptFault → ℕ → ℕ → Result endings.Ended BootFault → Type 0
-IsBootAnswerOf said processors turns (Ok ended) = IsPlainAnswer said processors turns ended
-IsBootAnswerOf said processors turns (Err fault) = IsBootFault said fault
+abbrev pub IsBootAnswerOf : Option (List ℕ) → ℕ → ℕ → Result endings.Ended BootFault → Type 0
+IsBootAnswerOf read processors turns (Ok ended) = IsBootAnswer (HadTurns processors turns) read ended
+IsBootAnswerOf read processors turns (Err fault) = IfSome read (λ bytes. IsBootFault (text_plan bytes) fault)
 
--- an exit status is that of a boot of a text that says this, on so many processors, after so many turns of each
-abbrev pub IsBootStatus : Result Plan ScriptFault → ℕ → ℕ → ℕ → Type 0
-IsBootStatus said processors turns status = (answer : Result endings.Ended BootFault)
-    × IsBootAnswerOf said processors turns answer × (status ≡ boot_exit_code_of answer)
+-- an exit status is that of a boot of what was read, on so many processors, after so many turns of each
+abbrev pub IsBootStatus : Option (List ℕ) → ℕ → ℕ → ℕ → Type 0
+IsBootStatus read processors turns status = (answer : Result endings.Ended BootFault)
+    × IsBootAnswerOf read processors turns answer × (status ≡ boot_exit_code_of answer)

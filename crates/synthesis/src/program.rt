@@ -4,7 +4,6 @@ ghost use Rattle.std.specs.Prelude.{◌≡◌, ◌≢◌, ◌≤◌, ℕ, map, I
 ghost use Rattle.std.specs.Io.KnownBytes.{Appends};
 ghost use Rattle.boot_script.specs.declared.outcome.Replayed.{Replayed};
 ghost use Rattle.boot_script.specs.declared.outcome.ReplayFault.{ReplayFault};
-ghost use Rattle.boot_script.specs.Plans.{text_plan};
 ghost use Rattle.boot_script.specs.Scripts.{text_events};
 ghost use Rattle.synth_kernel.specs.declared.outcome.Ended as endings;
 ghost use Rattle.synth_kernel.specs.declared.outcome.BootFault.{BootFault};
@@ -83,7 +82,7 @@ pub fn run_main<RT: Threads + Wait + Sync, R: Read + Drop, W: Write + Drop, E: W
     ensures replay { map (λ word. word.now) words.now ≡ replay_command
         → IfSome (R.remaining reader) (λ bytes. IsStatus (text_events bytes) result) }
     ensures boot { (processors turns : ℕ) → IsBootCommand (map (λ word. word.now) words.now) processors turns
-        → IfSome (R.remaining reader) (λ bytes. IsBootStatus (text_plan bytes) processors turns result) }
+        → IsBootStatus (R.remaining reader) processors turns result }
 {
     run_on(rt, alloc, words, &mut reader, &mut writer, &mut errors).status
 }

@@ -1,16 +1,15 @@
 //! Ends that are joined at the close, and what each table closes with.
 ghost use Rattle.std.specs.Prelude.{◌≡◌, ◌+◌, length};
 ghost use Rattle.std.specs.List.{All};
-ghost use Rattle.end_steps.specs.EndLists.{AreEndsOf, AreChainEndsOf, AreChainsOver, end_share, share_at};
+ghost use Rattle.turn_io.specs.EndLists.{AreEndsOf, AreChainEndsOf, AreChainsOver, end_share, share_at};
 ghost use Rattle.proc_chain.specs.Handles.{IsOnlyEnd};
 ghost use Rattle.quajects.specs.Ports.{IsEndAt};
 ghost use Rattle.table_theory.specs.Sharing.{IsWhole};
 
 use crate::fixtures::pumps::{Pumped, make_pump};
 use arrayvec::ArrayVec;
+use boot_objects::*;
 use claim_queue::{ClaimQueue, QueueEnd};
-use closing::*;
-use end_steps::{NoGate, hear, poke, say, shut_queue};
 use event_theory::OutOfMemory;
 use meters::Meters;
 use proc_chain::{ChainEnd, ProcChain};
@@ -19,6 +18,7 @@ use std::alloc::Global;
 use std::process::Abort;
 use std::test::*;
 use thread_table::{Place, Places, ThreadTable};
+use turn_io::{NoGate, hear, poke, say, shut_queue};
 
 /// A queue in a list with an end of it, and its only other end.
 #[derive(Drop)]

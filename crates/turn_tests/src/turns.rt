@@ -3,8 +3,8 @@
 ghost use Rattle.std.specs.Prelude.{◌≡◌};
 ghost use Rattle.thread_table.specs.Handles.{view_of, IsHandOf};
 ghost use Rattle.meters.specs.Handles.{IsSeatOf};
-ghost use Rattle.hand_steps.specs.Holdings.{IsFree};
-ghost use Rattle.end_steps.specs.EndLists.{AreEndsOf};
+ghost use Rattle.turn_dispatch.specs.Holdings.{IsFree};
+ghost use Rattle.turn_io.specs.EndLists.{AreEndsOf};
 ghost use Rattle.processor.specs.Stations.{ArePartsOf};
 
 mod elements;
@@ -20,7 +20,6 @@ mod stands;
 use crate::fixtures::scripts::plan_of;
 use boot_data::BootPlan;
 use claim_queue::{ClaimQueue, QueueEnd};
-use end_steps::NoGate;
 use event_theory::{OutOfMemory, Processor};
 use meters::{MeterSeat, Metered, Meters};
 use processor::*;
@@ -31,6 +30,7 @@ use std::process::Abort;
 use std::sync::Wait;
 use std::test::*;
 use thread_table::{Hand, Place, Places, ThreadTable};
+use turn_io::NoGate;
 
 /// Where a thread is, how many of its steps are done, and its signals: those that were delivered, and those pending.
 #[derive(Clone, Copy, Debug, PartialEq, Eq)]

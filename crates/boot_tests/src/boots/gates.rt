@@ -3,8 +3,8 @@
 use super::*;
 use crossbeam_utils::Backoff;
 use crossbeam_utils::atomic::AtomicCell;
-use end_steps::{Gate, Point};
 use std::alloc::AllocError;
+use turn_io::{Gate, Point};
 
 /// How often a processor that is held looks whether it may go on.
 const LOOKS: u32 = 10_000_000;
@@ -81,7 +81,7 @@ fn boot_held<R: Threads + Wait + Sync + Abort>(
     let mut output = Vec::new(alloc);
     let (input, printed) = (&mut reader, &mut output);
     match boot_on_with(rt, alloc, input, printed, processors, turns, gates) {
-        Ok(Booted { ended, gates }) => {
+        Ok(Booted { ended, gates, .. }) => {
             assert!(rt; were_told(gates.as_slice(), processors, turns));
             (Ok(ended), output)
         }

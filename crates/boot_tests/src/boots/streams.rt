@@ -1,8 +1,8 @@
 //! Streams that are handed over, and threads that are left.
 
 use super::*;
-use end_steps::NoGate;
 use std::test::Fail;
+use turn_io::NoGate;
 
 #[test]
 fn streams_are_handed_over(rt: HostRuntime) -> Result<(), Fail> {

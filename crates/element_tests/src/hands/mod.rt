@@ -1,4 +1,4 @@
-//! The tests of `hand_steps`.
+//! The tests of `turn_dispatch`.
 
 mod scripts;
 mod tests;

@@ -5,11 +5,11 @@ ghost use Rattle.thread_table.specs.Rules.{has};
 
 use crate::fixtures::{begins, closes, element, wait_queue};
 use event_theory::{Element, WaitNumber};
-use hand_steps::*;
 use std::alloc::Global;
 use std::process::Abort;
 use std::sync::Wait;
 use thread_table::{Hand, NextRefusal, Place, ThreadTable};
+use turn_dispatch::*;
 
 /// What a hand does, and how it is answered. Elements and wait queues stand by their numbers.
 pub(crate) enum Act {

@@ -1,19 +1,19 @@
 ghost use Rattle.std.specs.Prelude.{◌≡◌, ℕ, MatchResult};
 ghost use Rattle.thread_table.specs.Handles.{view_of, IsHandOf, IsSameHand};
-ghost use Rattle.hand_steps.specs.Countings.{counted_step};
-ghost use Rattle.hand_steps.specs.Dispatches.{mask_of};
-ghost use Rattle.hand_steps.specs.Holdings.{IsFree};
-ghost use Rattle.hand_steps.specs.Tallies.{Adds, behind, no_events, one_delivery, one_signal};
+ghost use Rattle.turn_dispatch.specs.Countings.{counted_step};
+ghost use Rattle.turn_dispatch.specs.Dispatches.{mask_of};
+ghost use Rattle.turn_dispatch.specs.Holdings.{IsFree};
+ghost use Rattle.turn_dispatch.specs.Tallies.{Adds, behind, no_events, one_delivery, one_signal};
 
 use crate::fixtures::{alarm_at, begins, processor, signal, wait_queue};
 use crate::hands::scripts::{Act, does, plays};
 use event_theory::{Element, Processor, Signal, WaitNumber};
-use hand_steps::*;
 use meters::{AdvanceRefusal, Meters};
 use std::panic::Expect;
 use std::sync::Wait;
 use std::test::*;
 use thread_table::{Hand, Place, ThreadTable};
+use turn_dispatch::*;
 
 /// One turn with a step that is done, in which the element sends itself a signal and wakes all that wait. That the step
 /// which is counted is the one that was begun, and that no other event is made, is proved, not tried.

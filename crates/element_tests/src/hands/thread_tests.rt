@@ -1,16 +1,16 @@
 ghost use Rattle.std.specs.Thread.{IsSync};
 ghost use Rattle.thread_table.specs.Handles.{view_of, IsHandOf, IsSameHand};
-ghost use Rattle.hand_steps.specs.Holdings.{IsFree};
+ghost use Rattle.turn_dispatch.specs.Holdings.{IsFree};
 
 use crate::fixtures::{closes, part, processor, steps_of, wait_queue};
 use event_theory::{Processor, WaitNumber};
-use hand_steps::*;
 use std::panic::Expect;
 use std::sync::Wait;
 use std::test::*;
 use std::thread;
 use std::thread::Threads;
 use thread_table::{Hand, Place, ThreadTable};
+use turn_dispatch::*;
 
 const TURNS: u32 = 10_000;
 

@@ -3,12 +3,11 @@ ghost use Rattle.std.specs.Prelude.{◌≡◌, ◌≤◌, ◌<◌, length, IfOk}
 ghost use Rattle.std.specs.List.{All};
 ghost use Rattle.claim_queue.specs.Handles.{view_of};
 ghost use Rattle.quajects.specs.Ports.{IsEndAt, IsUnused};
-ghost use Rattle.end_steps.specs.EndLists.{IsIdle, chain_table, chain_end_table};
-ghost use Rattle.end_steps.specs.EndLists.{AreEndsOf, AreChainEndsOf, AreChainsOver, IsDivisible, IsChainDivisible};
+ghost use Rattle.turn_io.specs.EndLists.{IsIdle, chain_table, chain_end_table};
+ghost use Rattle.turn_io.specs.EndLists.{AreEndsOf, AreChainEndsOf, AreChainsOver, IsDivisible, IsChainDivisible};
 
 use arrayvec::ArrayVec;
 use claim_queue::{ClaimQueue, ClaimRefusal, QueueEnd, TakeRefusal};
-use end_steps::{Gate, NoGate, Point, Poked, hear, poke, say};
 use event_theory::OutOfMemory;
 use proc_chain::{ChainEnd, ChainRefusal, ProcChain};
 use quajects::{AnyQuaject, Pump, Queues};
@@ -16,6 +15,7 @@ use std::alloc::Global;
 use std::panic::Expect;
 use std::process::Abort;
 use std::sync::Wait;
+use turn_io::{Gate, NoGate, Point, Poked, hear, poke, say};
 
 pub(crate) type Chain = ProcChain<AnyQuaject>;
 

@@ -1,4 +1,4 @@
-//! The tests of `end_steps`.
+//! The tests of `turn_io`.
 
 mod fixtures;
 mod tests;

@@ -1,6 +1,6 @@
 ghost use Rattle.std.specs.Prelude.{◌≡◌, length};
 ghost use Rattle.std.specs.List.{All};
-ghost use Rattle.end_steps.specs.EndLists.{AreEndsOf, AreChainEndsOf, AreChainsOver, IsDivisible, IsChainDivisible};
+ghost use Rattle.turn_io.specs.EndLists.{AreEndsOf, AreChainEndsOf, AreChainsOver, IsDivisible, IsChainDivisible};
 
 use crate::at_ends::fixtures::{
     Chain, End, Poker, Pumped, Recorder, SIXTY_FOUR, TwoQueues, Watcher, make_pump, pokes_by,
@@ -9,7 +9,6 @@ use crate::at_ends::fixtures::{
 use crate::fixtures::{close_queue, turn_for};
 use arrayvec::ArrayVec;
 use claim_queue::{ClaimQueue, ClaimRefusal, QueueEnd, TakeRefusal};
-use end_steps::*;
 use event_theory::OutOfMemory;
 use proc_chain::ChainRefusal;
 use quajects::Queues;
@@ -18,6 +17,7 @@ use std::panic::Expect;
 use std::process::Abort;
 use std::sync::Wait;
 use std::test::*;
+use turn_io::*;
 
 #[test]
 fn says_and_hears(rt: HostRuntime) {

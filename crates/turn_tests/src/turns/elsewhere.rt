@@ -1,17 +1,16 @@
 //! What another processor does at a point of this one's turn.
 ghost use Rattle.std.specs.Prelude.{◌≡◌, ◌<◌, length};
-ghost use Rattle.thread_table.specs.Handles.{view_of, IsHandOf};
-ghost use Rattle.hand_steps.specs.Holdings.{IsFree};
-ghost use Rattle.end_steps.specs.EndLists.{AreEndsOf};
-ghost use Rattle.processor.specs.Rooms.{HasRoom};
+ghost use Rattle.thread_table.specs.Handles.{IsHandOf};
+ghost use Rattle.turn_io.specs.EndLists.{AreEndsOf};
+ghost use Rattle.processor.specs.Manning.{IsManned};
 ghost use Rattle.processor.specs.Stations.{ArePartsOf};
 
 use super::partings::stand_two;
 use super::*;
-use end_steps::{Gate, Point, say, shut_queue};
 use event_theory::WaitNumber;
-use hand_steps::wake;
 use std::test::*;
+use turn_dispatch::wake;
+use turn_io::{Gate, Point, say, shut_queue};
 
 /// A gate that says a line in the first queue, or shuts it, and wakes those who wait to hear, behind each try of a hear.
 #[derive(Drop)]
@@ -71,9 +70,8 @@ fn run_beside<R: Abort + Wait>(
     turns: u32,
     shuts: bool,
 ) -> (Station, Station)
-    requires parts { ArePartsOf shared.now one.0.parts × ArePartsOf shared.now other.parts }
-    requires free { IsFree one.1 (view_of one.0.parts.hand) }
-    requires room { HasRoom shared.now.plan one.0.parts }
+    requires manned { IsManned shared.now one.1 one.0.parts }
+    requires parts { ArePartsOf shared.now other.parts }
     ensures { ArePartsOf shared.now result.0.parts × ArePartsOf shared.now result.1.parts }
 {
     must_have_a_queue(rt, shared);

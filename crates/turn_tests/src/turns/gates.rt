@@ -4,12 +4,12 @@ ghost use Rattle.meters.specs.Handles.{IsSeatOf};
 
 use super::partings::stand_two;
 use super::*;
-use end_steps::{Gate, Point};
 use event_theory::Element;
-use hand_steps::make_ready;
 use meters::Alarm;
 use std::test::*;
 use thread_table::NextRefusal;
+use turn_dispatch::make_ready;
+use turn_io::{Gate, Point};
 
 /// A gate that keeps the points that it is told, in their order, while there is memory.
 #[derive(Drop)]

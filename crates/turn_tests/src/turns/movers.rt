@@ -1,11 +1,8 @@
 //! Turns with a pump.
 ghost use Rattle.std.specs.Prelude.{◌≡◌, length};
 ghost use Rattle.std.specs.List.{All};
-ghost use Rattle.thread_table.specs.Handles.{view_of};
-ghost use Rattle.hand_steps.specs.Holdings.{IsFree};
-ghost use Rattle.end_steps.specs.EndLists.{IsIdle, chain_table, chain_end_table};
-ghost use Rattle.processor.specs.Rooms.{HasRoom};
-ghost use Rattle.processor.specs.Stations.{ArePartsOf};
+ghost use Rattle.turn_io.specs.EndLists.{IsIdle, chain_table, chain_end_table};
+ghost use Rattle.processor.specs.Manning.{IsManned};
 
 use super::stands::{Ways, first_station, readied};
 use super::*;
@@ -48,9 +45,7 @@ fn stand_pumped<R: Abort + Wait>(
     p: Processor,
     at: u32,
 ) -> (Shared, Station, ChainEnd<AnyQuaject>)
-    ensures parts { ArePartsOf result.0 result.1.parts }
-    ensures free { IsFree p (view_of result.1.parts.hand) }
-    ensures room { HasRoom result.0.plan result.1.parts }
+    ensures manned { IsManned result.0 p result.1.parts }
     ensures one { length result.0.chains.items ≡ 1 }
     ensures other { All (λ chain. chain_end_table result.2 ≡ chain_table chain) result.0.chains.items
         × IsIdle result.2 }

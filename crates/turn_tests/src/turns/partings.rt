@@ -1,10 +1,8 @@
 //! A station that is split for another processor, and joined again.
 ghost use Rattle.std.specs.Prelude.{◌≡◌};
-ghost use Rattle.thread_table.specs.Handles.{view_of};
-ghost use Rattle.hand_steps.specs.Holdings.{IsFree};
-ghost use Rattle.end_steps.specs.EndLists.{AreEndsOf};
+ghost use Rattle.turn_io.specs.EndLists.{AreEndsOf};
+ghost use Rattle.processor.specs.Manning.{IsManned};
 ghost use Rattle.processor.specs.Partings.{AreDivisible};
-ghost use Rattle.processor.specs.Rooms.{HasRoom};
 ghost use Rattle.processor.specs.Stations.{ArePartsOf};
 
 use super::stands::{first_station, make_queues, readied};
@@ -22,9 +20,8 @@ fn split_for<R: Abort>(
     requires parts { ArePartsOf shared.now station.parts }
     requires divisible { AreDivisible station.parts }
     ensures heard { result.0.parts.heard ≡ station.parts.heard }
-    ensures parts { ArePartsOf shared.now result.0.parts × ArePartsOf shared.now result.1.parts }
-    ensures free { IsFree q (view_of result.1.parts.hand) }
-    ensures room { HasRoom shared.now.plan result.1.parts }
+    ensures parts { ArePartsOf shared.now result.0.parts }
+    ensures manned { IsManned shared.now q result.1.parts }
 {
     let mut station = freed(rt, station, q);
     let Ok(other) = station.split(alloc, shared, 1 << q.number()) else {
@@ -42,9 +39,7 @@ pub(super) fn stand_two<R: Abort + Wait>(
     p: Processor,
     q: Processor,
 ) -> (Shared, Station, Station)
-    ensures parts { ArePartsOf result.0 result.1.parts × ArePartsOf result.0 result.2.parts }
-    ensures free { IsFree p (view_of result.1.parts.hand) × IsFree q (view_of result.2.parts.hand) }
-    ensures room { HasRoom result.0.plan result.1.parts × HasRoom result.0.plan result.2.parts }
+    ensures { IsManned result.0 p result.1.parts × IsManned result.0 q result.2.parts }
 {
     let Ok(ways) = make_queues(alloc, plan.queues.as_slice().len()) else {
         panic!(rt; "memory")

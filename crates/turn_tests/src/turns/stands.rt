@@ -5,17 +5,17 @@ ghost use Rattle.thread_table.specs.Handles.{view_of, IsHandOf, IsSameHand};
 ghost use Rattle.thread_table.specs.Handles as threads;
 ghost use Rattle.meters.specs.Handles.{IsSeatOf, IsSameSeat};
 ghost use Rattle.meters.specs.Handles as seats;
-ghost use Rattle.hand_steps.specs.Holdings.{IsFree};
-ghost use Rattle.end_steps.specs.EndLists.{AreEndsOf, AreChainEndsOf, AreChainsOver, IsDivisible};
+ghost use Rattle.turn_dispatch.specs.Holdings.{IsFree};
+ghost use Rattle.turn_io.specs.EndLists.{AreEndsOf, AreChainEndsOf, AreChainsOver, IsDivisible};
+ghost use Rattle.processor.specs.Manning.{IsManned};
 ghost use Rattle.processor.specs.Programs.{hear_count};
-ghost use Rattle.processor.specs.Rooms.{HasRoom};
 ghost use Rattle.processor.specs.Stations.{ArePartsOf};
 
 use super::*;
-use hand_steps::make_ready;
 use meters::Alarm;
 use proc_chain::{ChainEnd, ProcChain};
 use quajects::AnyQuaject;
+use turn_dispatch::make_ready;
 
 /// Takes so many free elements, and makes each ready.
 fn ready_first<R: Wait>(rt: &R, threads: &ThreadTable, hand: &mut Hand, count: usize)
@@ -219,9 +219,7 @@ pub(super) fn readied<R: Abort + Wait>(
     requires parts { ArePartsOf shared.now station.parts }
     requires heard { station.parts.heard.items ≡ [] }
     requires room { hear_count shared.now.plan ≤ vec_capacity station.parts.heard }
-    ensures parts { ArePartsOf shared.now result.parts }
-    ensures free { IsFree p (view_of result.parts.hand) }
-    ensures room { HasRoom shared.now.plan result.parts }
+    ensures { IsManned shared.now p result.parts }
 {
     let mut parts = station.into_parts();
     let count = shared.plan.threads.as_slice().len();
@@ -242,9 +240,7 @@ pub(super) fn stand<R: Abort + Wait>(
     plan: BootPlan,
     p: Processor,
 ) -> Result<(Shared, Station), OutOfMemory>
-    ensures parts { IfOk result (λ r. ArePartsOf r.0 r.1.parts) }
-    ensures free { IfOk result (λ r. IsFree p (view_of r.1.parts.hand)) }
-    ensures room { IfOk result (λ r. HasRoom r.0.plan r.1.parts) }
+    ensures { IfOk result (λ r. IsManned r.0 p r.1.parts) }
 {
     let ways = make_queues(alloc, plan.queues.as_slice().len())?;
     let (shared, station) = first_station(rt, alloc, plan, (0, 0), ways)?;

@@ -8,5 +8,5 @@ post_all-requires-clause-split g c =
 pub returns-clause-prepared : goal.returns-clause-prepared
 returns-clause-prepared g c =
     let o = c.in-Ok.made in let e = c.in-Ok.ensures in
-    c.in-Ok-post_all.ensures.prepared o.shared.plan (c.first_is_prepared.ensures o.shared.plan o.shared.threads o.shared.meters o.station.parts c.prepare_station-station.result.parts
-    e.unused e.hand e.seat e.small e.large e.chains c.prepare_station-station.ensures.prepared)
+    c.in-Ok-post_all.ensures.prepared o.shared.plan (c.first_is_prepared.ensures.prepared o.shared.plan o.shared.threads o.station.parts c.prepare_station-station.result.parts
+    e.hand c.prepare_station-station.ensures.prepared e.did e.unused)

@@ -1,4 +1,4 @@
-use Rattle.std.proofs.Common.{◌≡◌, take}
+use Rattle.processor.proofs.Common.{◌≡◌, take}
 use Rattle.processor.proofs.lines.line_of.Given as goal
 
 abbrev pub invariant-loop-byte : goal.invariant-loop-byte

@@ -1,8 +1,5 @@
-use Rattle.std.proofs.Common.{ap, subst, ◌∙◌, ◌≡◌, ◌<◌, List, length, arith, get_or}
+use Rattle.processor.proofs.Common.{ap, subst, ◌∙◌, ◌≡◌, ◌<◌, List, length, arith, get_or, count_by, PlannedThread, is_hear, hears_in}
 use Rattle.std.proofs.lemmas.List.Sums.{sum_by_more_le}
-use Rattle.std.specs.List.{count_by}
-use Rattle.boot_data.specs.declared.plan.PlannedThread.{PlannedThread}
-use Rattle.processor.specs.Programs.{is_hear, hears_in}
 use Rattle.processor.proofs.Hearing.{few_hears}
 use Rattle.processor.proofs.programs.hears_of.Goals as goal
 

@@ -1,6 +1,4 @@
-use Rattle.std.proofs.Common.{◌≡◌, take}
-use Rattle.std.specs.List.{sum_by}
-use Rattle.processor.specs.Programs.{hears_in}
+use Rattle.processor.proofs.Common.{◌≡◌, take, sum_by, hears_in}
 use Rattle.processor.proofs.programs.hears_of.Given as goal
 
 abbrev pub invariant-loop-thread : goal.invariant-loop-thread

@@ -1,8 +1,16 @@
-use Rattle.std.proofs.Common.{ℕ, List, Ok, ◌∙◌, subst}
+use Rattle.processor.proofs.Common.{ℕ, List, Ok, ◌∙◌, subst, put_if, DidAt}
+use Rattle.claim_queue.specs.declared.claim.ClaimRefusal.{ClaimRefusal}
 use Rattle.processor.specs.Queues.{SaidAt}
 use Rattle.processor.proofs.queue_steps.say_step.Goals as goal
 
 pub returns-in-Put-clause-queues : goal.returns-in-Put-clause-queues
-returns-in-Put-clause-queues g c =
-    subst (λ (z : List ℕ). SaidAt c.args.queue z (Ok tt) c.args.small.now c.try_say.new.small c.args.large.now c.try_say.new.large)
-    (c.as_slice.ensures.value ∙ c.line_of-line.ensures) c.in-Put.ensures.said
+returns-in-Put-clause-queues g c = (
+  tt,
+  subst (λ (z : List ℕ). SaidAt c.args.queue z (Ok tt) c.args.small.now c.try_say.new.small c.args.large.now c.try_say.new.large)
+      (c.as_slice.ensures.value ∙ c.line_of-line.ensures) c.in-Put.ensures.said,
+)
+
+pub returns-in-Put-clause-did : goal.returns-in-Put-clause-did
+returns-in-Put-clause-did g c =
+    subst (λ (z : List ℕ). DidAt c.args.queue (put_if {A = Unit {0}} {E = ClaimRefusal} (Ok tt) z) c.args.small.now c.try_say.new.small c.args.large.now c.try_say.new.large)
+    (c.as_slice.ensures.value ∙ c.line_of-line.ensures) c.in-Put.ensures.did

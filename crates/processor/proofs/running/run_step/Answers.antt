@@ -1,15 +1,8 @@
-use Rattle.std.proofs.Common.{rules, ◌≡◌, ◌<◌, inl, inr, ℕ, true, false, List, Option, Some, None, get_or, set, sym, subst, ap, ◌∙◌}
-use Rattle.hand_steps.specs.Countings.{counted_step}
-use Rattle.hand_steps.specs.Tallies.{Tally, Adds, behind, no_events}
-use Rattle.thread_table.specs.Answers.{TakesOff}
-use Rattle.thread_table.specs.Handles.{view_of, call_of}
-use Rattle.thread_table.specs.Rules.{done_at, has, serves, running}
-use Rattle.processor.specs.declared.deed.Deed.{Deed}
-use Rattle.processor.specs.Running.{step_tally}
-use Rattle.processor.specs.Steps.{raised_by}
+use Rattle.processor.proofs.Common.{rules, ◌≡◌, ◌<◌, inl, inr, ℕ, true, false, List, Option, Some, None, get_or, set, sym, subst, ap, ◌∙◌, counted_step, Tally, Adds, behind, no_events, TakesOff, view_of, call_of, done_at, serves, running, Deed, line_in, raised_by, EndsWorked}
+use Rattle.thread_table.specs.Rules.{has}
 use Rattle.processor.proofs.Acting.{on_back, adds_on, nothing_behind}
 use Rattle.processor.proofs.Rising.{rises_on, falls, putting, counting, taking_off}
-use Rattle.hand_steps.proofs.Beginnings.{more_has}
+use Rattle.turn_dispatch.proofs.Beginnings.{more_has}
 use Rattle.processor.proofs.Rooming.{number_on}
 use Rattle.processor.proofs.running.run_step.Goals as goal
 
@@ -90,7 +83,7 @@ returns-clause-adds g c =
     let w = view_of c.take_off.new.hand in
     let e = c.args.element in
     let tried = c.count_step-tried.result in
-    let raised = raised_by c.args.step.now c.do_step-attempt.result.deed in
+    let raised = raised_by c.do_step-attempt.result.deed in
     let counted = counted_step tried.counted e (done_at did.seen.object e) in
     let there = c.seat-seated.ensures.there in
     let low : e < 64 = search rules in
@@ -99,5 +92,11 @@ returns-clause-adds g c =
     let abc = adds_on raised counted v did after ab c.count_step-tried.ensures.adds in
     let all = adds_on (behind raised counted) no_events v after w abc c.take_off.ensures.adds in
     let plain = subst (λ (z : Tally). Adds z v w) (nothing_behind (behind raised counted)) all in
-    subst (λ (z : Deed). Adds (step_tally c.args.step.now z tried.counted e (done_at v.seen.object e)) v w) (sym c.count_step-tried.ensures.deed)
+    subst (λ (z : Deed). Adds (behind (raised_by z) (counted_step tried.counted e (done_at v.seen.object e))) v w) (sym c.count_step-tried.ensures.deed)
     (subst (λ (n : ℕ). Adds (behind raised (counted_step tried.counted e n)) v w) same plain)
+
+pub returns-clause-worked : goal.returns-clause-worked
+returns-clause-worked g c =
+    let w = c.do_step-attempt.ensures.worked in
+    subst (λ (z : Deed). EndsWorked z (line_in c.args.step.now c.do_step-attempt.new.heard.items) c.args.parts.now (record c.do_step-attempt.new.parts { hand = c.take_off.new.hand })) (sym c.count_step-tried.ensures.deed)
+    (record { queues = w.queues; chains = w.chains; ticks = w.ticks; small = w.small; large = w.large; chains_kept = w.chains_kept; seat_kept = w.seat_kept; seat = w.seat })

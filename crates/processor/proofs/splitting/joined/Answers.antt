@@ -1,4 +1,4 @@
-use Rattle.std.proofs.Common.{arith}
+use Rattle.processor.proofs.Common.{arith}
 use Rattle.processor.proofs.Signals.{both_next, both_end}
 use Rattle.processor.proofs.splitting.joined.Goals as goal
 

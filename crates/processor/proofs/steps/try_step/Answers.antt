@@ -1,30 +1,46 @@
-use Rattle.std.proofs.Common.{sym, subst}
-use Rattle.boot_data.specs.declared.plan.Step.{Step}
-use Rattle.thread_table.specs.Handles.{view_of, call_of}
-use Rattle.processor.specs.Steps.{HandDid}
+use Rattle.processor.proofs.Common.{rules, refl, sym, ap, with_items_is, Step, OnEnd, line_in}
+use Rattle.turn_io.specs.Deeds.{HasShut, PokedAt}
+use Rattle.processor.specs.declared.deed.Deed.TheVariants as deeds
+use Rattle.processor.proofs.Placing.{at_queues, at_chains, did_small, of_same}
+use Rattle.processor.proofs.Logging.{sound_still}
 use Rattle.processor.proofs.steps.try_step.Goals as goal
 
-pub returns-in-Wake-clause-hand : goal.returns-in-Wake-clause-hand
-returns-in-Wake-clause-hand g c =
-    subst (λ (z : Step). HandDid (call_of c.args.parts.now.hand) c.args.shared.now.plan z c.wake_step.result (view_of c.args.parts.now.hand) (view_of c.wake_step.new.hand))
-    (sym c.in-Wake.is) (c.wake_step.ensures.hand c.args.shared.now.plan)
+pub returns-in-Say-clause-worked : goal.returns-in-Say-clause-worked
+returns-in-Say-clause-worked g c = at_queues (deeds.Say c.in-Say.queue c.say_step.result) _ _ c.args.parts.now _ _ _ _ _ (sym (ap (λ (z : Step). line_in z c.args.heard.now.items) c.in-Say.is))
+    c.as_mut_slice.ensures.value (sym (with_items_is c.args.parts.now.small c.say_step.new.small (search rules)))
+    c.as_mut_slice-in-Say.ensures.value (sym (with_items_is c.args.parts.now.large c.say_step.new.large (search rules)))
+    c.say_step.ensures.did c.say_step.ensures.sound.0 c.say_step.ensures.sound.1 refl refl refl refl
 
-pub returns-in-Signal-clause-hand : goal.returns-in-Signal-clause-hand
-returns-in-Signal-clause-hand g c =
-    subst (λ (z : Step). HandDid (call_of c.args.parts.now.hand) c.args.shared.now.plan z c.signal_step.result (view_of c.args.parts.now.hand) (view_of c.signal_step.new.hand))
-    (sym c.in-Signal.is) (c.signal_step.ensures.hand c.args.shared.now.plan)
+pub returns-in-Hear-clause-worked : goal.returns-in-Hear-clause-worked
+returns-in-Hear-clause-worked g c = at_queues (deeds.Hear c.in-Hear.queue c.hear_step.result) _ _ c.args.parts.now _ _ _ _ _ (sym (ap (λ (z : Step). line_in z c.hear_step.new.text.items) c.in-Hear.is))
+    c.as_mut_slice-in-Hear.ensures.value (sym (with_items_is c.args.parts.now.small c.hear_step.new.small (search rules)))
+    c.as_mut_slice-in-Hear-2.ensures.value (sym (with_items_is c.args.parts.now.large c.hear_step.new.large (search rules)))
+    c.hear_step.ensures.did c.hear_step.ensures.sound.0 c.hear_step.ensures.sound.1 refl refl refl refl
 
-pub returns-in-Stop-clause-hand : goal.returns-in-Stop-clause-hand
-returns-in-Stop-clause-hand g c =
-    subst (λ (z : Step). HandDid (call_of c.args.parts.now.hand) c.args.shared.now.plan z c.stop_step.result (view_of c.args.parts.now.hand) (view_of c.stop_step.new.hand))
-    (sym c.in-Stop.is) (c.stop_step.ensures.hand c.args.shared.now.plan)
+pub returns-in-Poke-clause-ends : goal.returns-in-Poke-clause-ends
+returns-in-Poke-clause-ends g c = record {
+  queues = (refl, refl);
+  chains = of_same (λ list old new. PokedAt list c.in-Poke.mover 0 c.poke.result old new) c.as_slice-chains.ensures.value c.as_mut_slice-ends.ensures.value
+      (sym (with_items_is c.args.parts.now.chains c.poke.new.ends (search rules))) c.poke.ensures.poked;
+  seat = refl;
+}
 
-pub returns-in-Start-clause-hand : goal.returns-in-Start-clause-hand
-returns-in-Start-clause-hand g c =
-    subst (λ (z : Step). HandDid (call_of c.args.parts.now.hand) c.args.shared.now.plan z c.start_step.result (view_of c.args.parts.now.hand) (view_of c.start_step.new.hand))
-    (sym c.in-Start.is) (c.start_step.ensures.hand c.args.shared.now.plan)
+pub returns-in-Poke-clause-worked : goal.returns-in-Poke-clause-worked
+returns-in-Poke-clause-worked g c = at_chains (deeds.Poke c.in-Poke.mover c.poke.result) _ c.args.parts.now _ _ _ c.as_mut_slice-ends.ensures.value (sym (with_items_is c.args.parts.now.chains c.poke.new.ends (search rules)))
+    c.poke.ensures.did c.poke.ensures.shares refl refl refl refl refl
 
-pub returns-in-Poke-clause-hand : goal.returns-in-Poke-clause-hand
-returns-in-Poke-clause-hand g c =
-    subst (λ (z : Step). HandDid (call_of c.args.parts.now.hand) c.args.shared.now.plan z c.poke_step.result (view_of c.args.parts.now.hand) (view_of c.args.parts.now.hand))
-    (sym c.in-Poke.is) (c.poke_step.ensures.hand (call_of c.args.parts.now.hand) (view_of c.args.parts.now.hand))
+pub returns-in-Close-clause-ends : goal.returns-in-Close-clause-ends
+returns-in-Close-clause-ends g c = record {
+  queues = (
+    of_same (λ queue old new. OnEnd queue (HasShut c.close_step-was_open.result.was_open) old new) refl c.as_mut_slice-small.ensures.value
+        (sym (with_items_is c.args.parts.now.small c.close_step-was_open.new.small (search rules))) c.close_step-was_open.ensures.shut,
+    refl,
+  );
+  chains = refl;
+  seat = refl;
+}
+
+pub returns-in-Close-clause-worked : goal.returns-in-Close-clause-worked
+returns-in-Close-clause-worked g c = at_queues (deeds.Close c.in-Close.queue c.close_step-was_open.result.was_open c.close_step-was_open.result.readers c.close_step-was_open.result.writers) _ _ c.args.parts.now _ _ _ c.args.parts.now.large.items _ refl
+    c.as_mut_slice-small.ensures.value (sym (with_items_is c.args.parts.now.small c.close_step-was_open.new.small (search rules))) refl refl
+    (did_small c.in-Close.queue _ _ c.close_step-was_open.new.small c.args.parts.now.large.items c.close_step-was_open.ensures.did) c.close_step-was_open.ensures.sound (sound_still _ _ refl) refl refl refl refl

@@ -1,6 +1,5 @@
-use Rattle.hand_steps.specs.Tallies.{no_events}
-use Rattle.hand_steps.proofs.Looks.{ticket_only}
-use Rattle.thread_table.specs.Handles.{view_of}
+use Rattle.processor.proofs.Common.{no_events, view_of}
+use Rattle.turn_dispatch.proofs.Looks.{ticket_only}
 use Rattle.processor.proofs.Acting.{acts_only}
 use Rattle.processor.proofs.Rising.{falls}
 use Rattle.processor.proofs.ticket.ticket_for.Goals as goal

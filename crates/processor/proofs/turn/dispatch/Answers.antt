@@ -1,5 +1,44 @@
-use Rattle.processor.proofs.Logging.{logged_on}
+use Rattle.processor.proofs.Common.{◌≡◌, ◌≤◌, ℕ, List, length, Some, refl, sym, subst, [], Step, beginning, HasDone}
+use Rattle.std.proofs.Common.{slice_get}
+use Rattle.std.proofs.lemmas.Option.{slice_get_read}
+use Rattle.processor.specs.declared.outcome.Had.TheVariants as hads
+use Rattle.processor.specs.Entries.{having}
+use Rattle.processor.proofs.Logging.{done_on}
 use Rattle.processor.proofs.turn.dispatch.Goals as goal
 
-pub returns-in-Ok-clause-logged : goal.returns-in-Ok-clause-logged
-returns-in-Ok-clause-logged g c = logged_on c.args.shared.now.plan c.args.parts.now c.begin_turn.new.parts c.take_turn-had.new.parts c.begin_turn.ensures.logged c.take_turn-had.ensures.logged
+pub run_element-sent-requires-clause-its : goal.run_element-sent-requires-clause-its
+run_element-sent-requires-clause-its g c =
+    subst (λ (z : List Step). slice_get z c.in-Ok.begun.number ≡ Some c.index-steps-number.result) c.program_of-steps.ensures (slice_get_read _ _ _ _ refl c.if-number-steps.false c.index-steps-number.is)
+
+pub returns-then-number-steps-clause-came : goal.returns-then-number-steps-clause-came
+returns-then-number-steps-clause-came g c =
+    let e = c.retire_at-moved.ensures in
+    let begun = c.in-Ok.begun in
+    let mid = c.begin_turn.new.parts in
+    let ended = hads.Ended c.retire_at-moved.result in
+    let over = subst (λ (z : List Step). length z ≤ begun.number) c.program_of-steps.ensures c.if-number-steps.true in (
+      [],
+      (mid, c.in-Ok.ensures.begun, (over, e.sent, e.rest, e.others.0, e.others.1, refl)),
+      record {
+        planned = (over, refl);
+        done = done_on (beginning begun) (having begun.element begun.number ended []) c.args.parts.now mid c.retire_at-moved.new.parts c.in-Ok.ensures.done
+            (subst (λ (z : ℕ). HasDone (having begun.element z ended []) mid c.retire_at-moved.new.parts) (sym c.in-Ok.ensures.number) e.done);
+        told = λ q h. cc;
+      },
+    )
+
+pub returns-else-number-steps-clause-came : goal.returns-else-number-steps-clause-came
+returns-else-number-steps-clause-came g c =
+    let ran = c.run_element-sent.ensures.ran in
+    let begun = c.in-Ok.begun in (
+      ran.0,
+      (c.begin_turn.new.parts, c.in-Ok.ensures.begun, ran.1),
+      record {
+        planned = ran.2.planned;
+        done = done_on (beginning begun) (having begun.element begun.number (hads.Ran c.run_element-sent.result) ran.0) c.args.parts.now c.begin_turn.new.parts c.run_element-sent.new.parts c.in-Ok.ensures.done ran.2.done;
+        told = ran.2.told;
+      },
+    )
+
+pub returns-in-Err-clause-came : goal.returns-in-Err-clause-came
+returns-in-Err-clause-came g c = ([], (c.in-Err.ensures.begun, refl), record { planned = refl; done = c.in-Err.ensures.done; told = λ q h. cc })

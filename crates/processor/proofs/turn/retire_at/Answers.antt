@@ -1,12 +1,13 @@
-use Rattle.std.proofs.Common.{refl}
+use Rattle.processor.proofs.Common.{refl}
+use Rattle.processor.proofs.Keeping.{rest_stays}
+use Rattle.processor.proofs.Logging.{retired_done}
 use Rattle.processor.proofs.Rising.{fallen, sending}
-use Rattle.processor.proofs.Logging.{retired_logged}
-use Rattle.processor.proofs.Rooming.{room_kept}
 use Rattle.processor.proofs.turn.retire_at.Goals as goal
 
-pub returns-clause-room : goal.returns-clause-room
-returns-clause-room g c = room_kept c.args.shared.now.plan c.args.parts.now _ c.requires.room refl (fallen c.args.parts.now.hand c.retire.new.hand (sending _ _ _ _ _ _ c.retire.ensures.sent))
+pub returns-clause-manned : goal.returns-clause-manned
+returns-clause-manned g c = rest_stays c.args.shared.now c.args.p c.args.parts.now _ c.requires.manned (record { small = refl; large = refl; chains = refl; heard = refl }) c.retire.ensures.same c.retire.ensures.keeps
+    (fallen c.args.parts.now.hand c.retire.new.hand (sending _ _ _ _ _ _ c.retire.ensures.sent)) (refl, refl) refl refl
 
-pub returns-clause-logged : goal.returns-clause-logged
-returns-clause-logged g c = retired_logged c.args.shared.now.plan c.args.element _ c.retire.result c.args.parts.now _ c.requires.over c.retire.ensures.adds
-    (fallen c.args.parts.now.hand c.retire.new.hand (sending _ _ _ _ _ _ c.retire.ensures.sent)) (record { small = refl; large = refl; chains = refl; heard = refl }) refl refl
+pub returns-clause-done : goal.returns-clause-done
+returns-clause-done g c = retired_done c.args.element _ c.retire.result c.args.parts.now _ (record { small = refl; large = refl; chains = refl; heard = refl }) c.retire.ensures.adds refl refl
+    (fallen c.args.parts.now.hand c.retire.new.hand (sending _ _ _ _ _ _ c.retire.ensures.sent))

@@ -1,19 +1,24 @@
-use Rattle.std.proofs.Common.{refl, [], ◌∷◌}
-use Rattle.processor.specs.Logs.LogEntry.{Tended}
-use Rattle.processor.proofs.Logging.{idle_logged, tended_logged}
+use Rattle.processor.proofs.Common.{refl, tick_to, nothing_did, nothing, shown_in}
+use Rattle.turn_dispatch.specs.Tallies.{signals_for}
+use Rattle.meters.specs.Handles as seats
+use Rattle.processor.proofs.Keeping.{rest_stays}
+use Rattle.processor.proofs.Logging.{hand_done}
 use Rattle.processor.proofs.Rising.{fallen, raising}
-use Rattle.processor.proofs.Rooming.{room_kept}
+use Rattle.processor.proofs.Summing.{none_shows}
+use Rattle.processor.proofs.Ticking.{tended_ticks, tended_remains}
 use Rattle.processor.proofs.turn.tend.Goals as goal
 
-pub returns-clause-room : goal.returns-clause-room
-returns-clause-room c = room_kept c.args.shared.now.plan c.args.parts.now _ c.requires.room refl (fallen c.args.parts.now.hand c.tend_alarms.new.hand (raising _ _ _ _ c.tend_alarms.ensures.raised))
+pub returns-clause-manned : goal.returns-clause-manned
+returns-clause-manned c =
+    let e = c.tend_alarms.ensures in
+    let still = tended_remains c.tend_alarms.result.advanced c.tend_alarms.result.fired.items (seats.view_of c.args.parts.now.meters) (seats.view_of c.tend_alarms.new.seat) e.own in
+    rest_stays c.args.shared.now c.args.p c.args.parts.now _ c.requires.manned (record { small = refl; large = refl; chains = refl; heard = refl }) e.same.0 e.only.keeps
+    (fallen c.args.parts.now.hand c.tend_alarms.new.hand (raising _ _ _ _ e.raised)) e.same.1 still.share still.parted
 
-pub returns-then-number-ne0-clause-logged : goal.returns-then-number-ne0-clause-logged
-returns-then-number-ne0-clause-logged c = idle_logged c.args.shared.now.plan c.args.parts.now
-
-pub returns-clause-logged : goal.returns-clause-logged
-returns-clause-logged c = record {
-  log = Tended c.tend_alarms.result.advanced c.tend_alarms.result.fired.items ∷ [];
-  its = tended_logged c.args.shared.now.plan c.tend_alarms.result.advanced c.tend_alarms.result.fired.items c.args.parts.now _ c.tend_alarms.ensures.only.adds
-      (fallen c.args.parts.now.hand c.tend_alarms.new.hand (raising _ _ _ _ c.tend_alarms.ensures.raised)) (record { small = refl; large = refl; chains = refl; heard = refl }) c.tend_alarms.ensures.own refl;
-}
+pub returns-clause-done : goal.returns-clause-done
+returns-clause-done c =
+    let e = c.tend_alarms.ensures in
+    let r = c.tend_alarms.result in
+    hand_done (signals_for r.fired.items) (record nothing_did { advances = tick_to r.advanced; fired = r.fired.items }) nothing.shown c.args.parts.now _ (record { small = refl; large = refl; chains = refl; heard = refl }) e.only.adds
+    (tended_ticks _ _ (seats.view_of c.args.parts.now.meters) (seats.view_of c.tend_alarms.new.seat) e.own) (none_shows (shown_in c.args.parts.now.signals))
+    (fallen c.args.parts.now.hand c.tend_alarms.new.hand (raising _ _ _ _ e.raised))

@@ -1,5 +1,11 @@
-use Rattle.processor.proofs.Logging.{logged_on}
+use Rattle.processor.proofs.Logging.{turn_ran}
 use Rattle.processor.proofs.turn.turn.Goals as goal
 
-pub returns-clause-logged : goal.returns-clause-logged
-returns-clause-logged g c = logged_on c.args.shared.now.plan c.args.parts.now c.tend-tended.new.parts c.dispatch-outcome.new.parts c.tend-tended.ensures.logged c.dispatch-outcome.ensures.logged
+pub returns-clause-turn : goal.returns-clause-turn
+returns-clause-turn g c =
+    let came = c.dispatch-outcome.ensures.came in (
+      came.0,
+      (c.tend-tended.new.parts, c.tend-tended.ensures.tended, came.1),
+      turn_ran c.args.shared.now.plan (record { turned = record { tended = c.tend-tended.result; outcome = c.dispatch-outcome.result }; line = came.0 })
+          c.args.parts.now c.tend-tended.new.parts c.dispatch-outcome.new.parts c.tend-tended.ensures.done came.2,
+    )

@@ -1,10 +1,6 @@
-use Rattle.std.proofs.Common.{rules, arith, [], ◌∷◌, ◌++◌, length, ap, subst, sym, ◌∙◌}
-use Rattle.std.proofs.lemmas.List.{map-append}
-use Rattle.std.specs.Vec.Iter.{into_iter_items}
-use Rattle.spsc_line.specs.Lines.{IsLine}
-use Rattle.closing.proofs.Drawing.{drawn_more}
-use Rattle.end_steps.specs.Splits.{AllThree}
-use Rattle.synth_kernel.specs.Gatherings.{tty_of, TotalsAre}
+use Rattle.synth_kernel.proofs.Common.{arith, [], ◌∷◌, ◌++◌, length, ap, subst, sym, ◌∙◌, map-append, into_iter_items, IsLine, AllThree, tty_of, TotalsAre}
+use Rattle.std.proofs.Common.{rules}
+use Rattle.boot_objects.proofs.Drawing.{drawn_more}
 use Rattle.synth_kernel.proofs.Placing.{zip_head, zip_tail, zip_long}
 use Rattle.synth_kernel.proofs.gathering.finish_all.Goals as goal
 

@@ -1,9 +1,5 @@
-use Rattle.std.proofs.Common.{◌≡◌, ◌≤◌, ◌+◌, map, vec_len, vec_capacity, length}
-use Rattle.std.specs.List.{AllZip}
-use Rattle.std.specs.Vec.Iter.{into_iter_items, into_iter_len}
-use Rattle.closing.proofs.Drawing.{Drawn}
-use Rattle.spsc_line.specs.Lines.{IsLine}
-use Rattle.synth_kernel.specs.Gatherings.{tty_of, TotalsAre}
+use Rattle.synth_kernel.proofs.Common.{◌≡◌, ◌≤◌, ◌+◌, map, vec_len, vec_capacity, length, AllZip, into_iter_items, into_iter_len, IsLine, tty_of, TotalsAre}
+use Rattle.boot_objects.proofs.Drawing.{Drawn}
 use Rattle.synth_kernel.proofs.gathering.finish_all.Given as goal
 
 abbrev pub invariant-loop-one : goal.invariant-loop-one

@@ -1,15 +1,4 @@
-use Rattle.std.proofs.Common.{List, map, flat_map, length, sym, ap, subst, ◌∙◌, arith}
-use Rattle.std.specs.List.{All, AllZip}
-use Rattle.end_steps.specs.Splits.{AllThree}
-use Rattle.kernel_threads.specs.declared.work.Processed.{Processed}
-use Rattle.kernel_threads.specs.Backs.{parts_of, gate_of}
-use Rattle.processor.specs.Partings.{AllJoined}
-use Rattle.processor.specs.Stations.{ArePartsOf}
-use Rattle.processor.specs.Turns.{heard_lines}
-use Rattle.spsc_line.specs.declared.line_in.LineIn.{LineIn}
-use Rattle.spsc_line.specs.Lines.{IsLine}
-use Rattle.synth_kernel.specs.declared.gathering.Served.{Served}
-use Rattle.synth_kernel.specs.Gatherings.{tty_of, TotalsAre}
+use Rattle.synth_kernel.proofs.Common.{List, map, flat_map, length, sym, ap, subst, ◌∙◌, arith, All, AllZip, AllThree, Processed, parts_of, gate_of, AllJoined, ArePartsOf, heard_lines, LineIn, IsLine, Served, tty_of, TotalsAre}
 use Rattle.synth_kernel.proofs.gathering.gather.Goals as goal
 
 pub finish_all-ttys-requires : goal.finish_all-ttys-requires

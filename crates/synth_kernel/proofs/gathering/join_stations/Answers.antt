@@ -1,13 +1,5 @@
-use Rattle.std.proofs.Common.{◌++◌, [], ◌∷◌, map, flat_map, length, List, append_assoc, sym, ap, subst, ◌∙◌, arith}
+use Rattle.synth_kernel.proofs.Common.{◌++◌, [], ◌∷◌, map, flat_map, length, List, append_assoc, sym, ap, subst, ◌∙◌, arith, map-append, into_iter_items, Parts, ArePartsOf, parts_of, gate_of, heard_lines, AllJoined, lines_of}
 use Rattle.std.proofs.lemmas.Grind.{flat_map-append}
-use Rattle.std.proofs.lemmas.List.{map-append}
-use Rattle.std.specs.Vec.Iter.{into_iter_items}
-use Rattle.processor.specs.declared.station.Parts.{Parts}
-use Rattle.processor.specs.Stations.{ArePartsOf}
-use Rattle.kernel_threads.specs.Backs.{parts_of, gate_of}
-use Rattle.processor.specs.Turns.{heard_lines}
-use Rattle.processor.specs.Partings.{AllJoined}
-use Rattle.reporting.specs.Reported.{lines_of}
 use Rattle.synth_kernel.proofs.Sorting.{joined_more}
 use Rattle.synth_kernel.proofs.Placing.{here}
 use Rattle.synth_kernel.proofs.gathering.join_stations.Goals as goal

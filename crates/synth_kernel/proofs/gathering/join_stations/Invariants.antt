@@ -1,10 +1,4 @@
-use Rattle.std.proofs.Common.{◌≡◌, ◌≤◌, ◌+◌, ◌++◌, map, flat_map, vec_len, vec_capacity, length}
-use Rattle.std.specs.Vec.Iter.{into_iter_items, into_iter_len}
-use Rattle.processor.specs.Stations.{ArePartsOf}
-use Rattle.kernel_threads.specs.Backs.{parts_of, gate_of}
-use Rattle.processor.specs.Turns.{heard_lines}
-use Rattle.processor.specs.Partings.{AllJoined}
-use Rattle.reporting.specs.Reported.{lines_of}
+use Rattle.synth_kernel.proofs.Common.{◌≡◌, ◌≤◌, ◌+◌, ◌++◌, map, flat_map, vec_len, vec_capacity, length, into_iter_items, into_iter_len, ArePartsOf, parts_of, gate_of, heard_lines, AllJoined, lines_of}
 use Rattle.synth_kernel.proofs.gathering.join_stations.Given as goal
 
 abbrev pub invariant-loop-one : goal.invariant-loop-one

@@ -1,5 +1,4 @@
-use Rattle.std.proofs.Common.{◌∷◌, [], length, length-append, Some, ap, arith}
-use Rattle.synth_kernel.specs.Gatherings.{processed_in, served_in}
+use Rattle.synth_kernel.proofs.Common.{◌∷◌, [], length, length-append, Some, ap, arith, processed_in, served_in}
 use Rattle.synth_kernel.proofs.gathering.sort_back.Goals as goal
 
 pub push_reserved-requires : goal.push_reserved-requires

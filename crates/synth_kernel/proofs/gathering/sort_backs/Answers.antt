@@ -1,6 +1,4 @@
-use Rattle.std.proofs.Common.{◌++◌, [], ◌∷◌, length, Some, append_assoc, sym, ap, ◌∙◌, arith}
-use Rattle.std.specs.Vec.Iter.{into_iter_items}
-use Rattle.synth_kernel.specs.Gatherings.{processed_in, served_in, all_there}
+use Rattle.synth_kernel.proofs.Common.{◌++◌, [], ◌∷◌, length, Some, append_assoc, sym, ap, ◌∙◌, arith, into_iter_items, processed_in, served_in, all_there}
 use Rattle.synth_kernel.proofs.Sorting.{processed_append, served_append, there_more, there_none, none_processed, none_served, room_for}
 use Rattle.synth_kernel.proofs.gathering.sort_backs.Goals as goal
 

@@ -1,6 +1,4 @@
-use Rattle.std.proofs.Common.{◌≡◌, ◌++◌, vec_capacity, length}
-use Rattle.std.specs.Vec.Iter.{into_iter_items, into_iter_len}
-use Rattle.synth_kernel.specs.Gatherings.{processed_in, served_in, all_there}
+use Rattle.synth_kernel.proofs.Common.{◌≡◌, ◌++◌, vec_capacity, length, into_iter_items, into_iter_len, processed_in, served_in, all_there}
 use Rattle.synth_kernel.proofs.gathering.sort_backs.Given as goal
 
 abbrev pub invariant-loop-back : goal.invariant-loop-back

@@ -1,4 +1,4 @@
-use Rattle.std.proofs.Common.{◌≡◌, ◌≤◌, vec_len, vec_capacity}
+use Rattle.synth_kernel.proofs.Common.{◌≡◌, ◌≤◌, vec_len, vec_capacity}
 use Rattle.synth_kernel.proofs.kernel.no_gates.Given as goal
 
 abbrev pub invariant-loop-number : goal.invariant-loop-number

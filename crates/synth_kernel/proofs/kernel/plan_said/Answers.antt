@@ -1,4 +1,5 @@
-use Rattle.std.proofs.Common.{◌≡◌, inl, inr, ℕ, List, IsOk}
+use Rattle.synth_kernel.proofs.Common.{◌≡◌, ℕ, List}
+use Rattle.std.proofs.Common.{inl, inr, IsOk}
 use Rattle.boot_script.specs.declared.fault.ScriptFault.{ScriptFault}
 use Rattle.boot_script.specs.declared.fault.ScriptRefusal.TheVariants.{OutOfMemory}
 use Rattle.boot_script.specs.Answers.{IsFault}

@@ -1,8 +1,7 @@
-use Rattle.std.proofs.Common.{◌+◌, ℕ, length, ap, subst, ◌∙◌, arith}
-use Rattle.kernel_threads.proofs.Firstness.{can_split_eight, all_free}
-use Rattle.kernel_threads.proofs.Preparedness.{first_prepared}
-use Rattle.kernel_threads.proofs.Allowing.{all_may, as_many_posts, as_many_works}
-use Rattle.kernel_threads.specs.Readiness.{AreServing}
+use Rattle.synth_kernel.proofs.Common.{◌+◌, ℕ, length, ap, subst, ◌∙◌, arith, as_many_posts, AreServing}
+use Rattle.boot_threads.proofs.Firstness.{can_split_eight, all_free}
+use Rattle.boot_threads.proofs.Preparedness.{first_prepared}
+use Rattle.boot_threads.proofs.Allowing.{all_may, as_many_works}
 use Rattle.synth_kernel.specs.Readies.{HasPlaces}
 use Rattle.synth_kernel.proofs.ready.get_ready.Goals as goal
 
@@ -52,7 +51,7 @@ returns g c =
       number = all ∙ ap (λ z. z + length o.shared.plan.ttys) many;
       inputs = c.add_devices-works.ensures.lines;
       parts = c.in_ok-works-2.ensures.parts;
-      prepared = c.in_ok-works-2.ensures.prepared o.shared.plan (first_prepared o.shared.plan o.shared.threads o.shared.meters o.station.parts c.prepare_station-station.result.parts m.unused m.hand m.seat m.small m.large m.chains p.prepared);
+      prepared = c.in_ok-works-2.ensures.prepared o.shared.plan (first_prepared o.shared.plan o.shared.threads o.station.parts c.prepare_station-station.result.parts m.hand p.prepared m.did m.unused);
       none_on = c.in_ok-works-2.ensures.none_on free.0;
       free = λ k past below. c.in_ok-works-2.ensures.free k (let long = c.args.gates.ok.0 in let p = past in omega arith) below;
       room = subst (λ (z : ℕ). HasPlaces o.shared z c.in_ok-room.room) (c.len-processors.ensures ∙ c.args.gates.ok.0) c.in_ok-room.ensures;

@@ -1,8 +1,5 @@
-use Rattle.std.proofs.Common.{ℕ, drop, length, ap, subst, ◌∙◌, refl, arith}
-use Rattle.std.proofs.lemmas.List.{length-map}
-use Rattle.kernel_threads.specs.Readiness.{input_of}
-use Rattle.kernel_threads.specs.Typings.{AreTyped}
-use Rattle.synth_kernel.proofs.Shut.{few_came, lines_sorted, parts_sorted}
+use Rattle.synth_kernel.proofs.Common.{ℕ, drop, length, ap, subst, ◌∙◌, refl, arith, length-map, input_of, AreTyped}
+use Rattle.synth_kernel.proofs.Shut.{few_came, lines_came, parts_came}
 use Rattle.synth_kernel.proofs.running.run_threads.Goals as goal
 
 pub run_kernel-backs-requires-clause-number : goal.run_kernel-backs-requires-clause-number
@@ -21,8 +18,8 @@ gather-requires g c =
     let few = few_came g.G.Gate.told o.shared.plan c.requires.ready.0 c.requires.ready.1 o r backs inputs worked typed in
     record {
       first = r.parts;
-      stations = λ all. parts_sorted g.G.Gate.told o.shared.plan c.requires.ready.0 c.requires.ready.1 o r backs inputs worked typed all;
-      lines = λ all. lines_sorted g.G.Gate.told o.shared.plan c.requires.ready.0 c.requires.ready.1 o r backs inputs worked typed all;
+      stations = λ all. parts_came g.G.Gate.told o.shared.plan c.requires.ready.0 c.requires.ready.1 o r backs inputs worked typed all;
+      lines = λ all. lines_came g.G.Gate.told o.shared.plan c.requires.ready.0 c.requires.ready.1 o r backs inputs worked typed all;
       room = record {
         processed = (r.room.processed.0, let n = r.room.processed.1 in let f = few.0 in omega arith);
         served = (r.room.served.0, let n = r.room.served.1 in let f = few.1 in omega arith);

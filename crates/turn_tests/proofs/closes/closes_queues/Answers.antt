@@ -1,11 +1,15 @@
-use Rattle.std.proofs.Common.{rules, arith, ◌≡◌, ◌+◌, List, map, slice_index_or, ap, sym, subst, ◌∙◌}
+use Rattle.std.proofs.Common.{rules, arith, ◌≡◌, ◌+◌, ℕ, List, map, ap, sym, subst, ◌∙◌}
+use Rattle.std.proofs.Math.Nat.{add-zero}
 use Rattle.std.specs.List.{All}
 use Rattle.claim_queue.specs.declared.ends.QueueEnd.{QueueEnd}
 use Rattle.claim_queue.specs.Handles.{IsOnlyEnd}
-use Rattle.end_steps.specs.EndLists.{queue_table, end_table, end_share, share_at}
-use Rattle.end_steps.proofs.Places.{as_long}
-use Rattle.closing.proofs.Lent.{came_back}
-use Rattle.closing.proofs.Whole.{only_one}
+use Rattle.claim_queue.specs.declared.rule.Did.{Did}
+use Rattle.turn_io.specs.Accounts.{Stake, queue_shares}
+use Rattle.turn_io.specs.EndLists.{queue_table, end_table, end_share, share_at}
+use Rattle.turn_io.proofs.Places.{as_long}
+use Rattle.boot_objects.proofs.Summed.{share_is}
+use Rattle.boot_objects.proofs.Lent.{came_back}
+use Rattle.boot_objects.proofs.Whole.{only_one}
 use Rattle.turn_tests.proofs.closes.closes_queues.Goals as goal
 
 pub close_queues-closed-requires : goal.close_queues-closed-requires
@@ -15,9 +19,10 @@ close_queues-closed-requires g c =
     let back = came_back end_table made.ends lent.result.now new tables lent.ensures.len in
     let fit : map end_table new ≡ map queue_table made.queues.items = c.join_at.ensures.ends ∙ ap (map queue_table) c.as_slice-list.ensures.value in
     let long = as_long end_table queue_table new made.queues.items fit in let one = made.one in
-    let shares = c.shut_queue.ensures.worked.shares ∙ (c.hear.ensures.worked.shares ∙ (c.say-2.ensures.worked.shares ∙ (c.say.ensures.worked.shares ∙ ap (map end_share) lent.ensures.value))) in
-    let same : share_at c.shut_queue.new.ends 0 ≡ share_at made.ends.items 0 = ap (λ z. slice_index_or z 0 0) shares in
-    let whole = only_one new (omega arith) (c.join_at.ensures.gained.shares_are 0 ∙ (ap (λ z. z + end_share made.other) same ∙ made.whole)) in (
+    let shares = c.shut_queue.ensures.sound.shares ∙ (c.hear.ensures.sound.shares ∙ (c.say-2.ensures.sound.shares ∙ (c.say.ensures.sound.shares ∙ ap queue_shares lent.ensures.value))) in
+    let same : queue_shares c.shut_queue.new.ends 0 ≡ share_at made.ends.items 0 = ap (λ (f : ℕ → ℕ). f 0) shares ∙ share_is made.ends.items 0 in
+    let sum : share_at new 0 ≡ queue_shares c.shut_queue.new.ends 0 + (end_share made.other + 0) = sym (share_is new 0) ∙ ap (λ (f : ℕ → Stake Did). (f 0).share) c.join_at.ensures.gained.stakes_are in
+    let whole = only_one new (omega arith) (sum ∙ ((λ i. same i + add-zero (end_share made.other) i) ∙ made.whole)) in (
       omega arith,
       (
         omega arith,

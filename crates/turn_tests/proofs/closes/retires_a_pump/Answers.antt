@@ -1,16 +1,28 @@
-use Rattle.std.proofs.Common.{map, ap, sym, subst, ◌∙◌}
+use Rattle.std.proofs.Common.{◌≡◌, ℕ, zero, suc, List, [], ◌∷◌, length, map, ap, sym, subst, ◌∙◌, arith}
 use Rattle.std.specs.List.{All}
 use Rattle.std.specs.Vec.{with_items}
-use Rattle.end_steps.specs.EndLists.{chain_end_table, chain_end_share}
+use Rattle.turn_io.specs.EndLists.{chain_end_table}
+use Rattle.turn_io.proofs.Places.{as_long}
+use Rattle.turn_io.specs.Accounts.{chain_shares}
+use Rattle.proc_chain.specs.declared.ends.ChainEnd.{ChainEnd}
+use Rattle.proc_chain.specs.declared.quaject.Quaject.{Ghosts}
 use Rattle.proc_chain.specs.Handles.{IsOnlyEnd}
-use Rattle.closing.proofs.Lent.{came_back}
-use Rattle.closing.proofs.Whole.{chains_still, homes_fit}
+use Rattle.boot_objects.proofs.Lent.{came_back}
+use Rattle.boot_objects.proofs.Whole.{homes_fit}
 use Rattle.turn_tests.proofs.closes.retires_a_pump.Goals as goal
+
+-- an end that was the only one is so still
+only_still : {Q W : Type 0} {g : Ghosts Q W} (old new : List (ChainEnd Q W g)) → length new ≡ length old → ((q : ℕ) → chain_shares new q ≡ chain_shares old q) → All IsOnlyEnd old → All IsOnlyEnd new
+only_still old [] e s h k d l = absurd (omega arith)
+only_still [] (y ∷ ys) e s h k d l = absurd (omega arith)
+only_still (x ∷ xs) (y ∷ ys) e s h zero d l = s 0 ∙ h zero x (omega arith)
+only_still (x ∷ xs) (y ∷ ys) e s h (suc k) d l = only_still xs ys (omega arith) (λ q. s (suc q)) (λ k d l. h (suc k) d (omega arith)) k d (omega arith)
 
 pub retire_all-homes-requires-clause-whole : goal.retire_all-homes-requires-clause-whole
 retire_all-homes-requires-clause-whole g c = let made = c.in_ok-world.field-0 in let lent = c.deref_mut-2 in let poked = c.poke-poked in
     let back = came_back chain_end_table made.chain_ends lent.result.now poked.new.ends poked.ensures.same.tables lent.ensures.len in
-    subst (λ z. All IsOnlyEnd z) (sym back) (chains_still made.chain_ends.items poked.new.ends (poked.ensures.worked.shares ∙ ap (map chain_end_share) lent.ensures.value) made.whole)
+    subst (λ z. All IsOnlyEnd z) (sym back) (only_still made.chain_ends.items poked.new.ends (as_long chain_end_table chain_end_table poked.new.ends made.chain_ends.items (poked.ensures.same.tables ∙ ap (map chain_end_table) lent.ensures.value))
+    (λ q. ap (λ (f : ℕ → ℕ). f q) (poked.ensures.shares ∙ ap chain_shares lent.ensures.value)) made.whole)
 
 pub bring_all_home-counts-requires-clause-fits : goal.bring_all_home-counts-requires-clause-fits
 bring_all_home-counts-requires-clause-fits g c = let made = c.in_ok-world.field-0 in

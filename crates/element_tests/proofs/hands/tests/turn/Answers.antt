@@ -1,14 +1,14 @@
 use Rattle.std.proofs.Common.{◌≡◌, ◌∙◌, ◌<◌, ℕ, inl, inr, rules, subst, sym}
 use Rattle.thread_table.specs.Handles.{view_of, call_of}
 use Rattle.thread_table.specs.Rules.{MayStep, done_at}
-use Rattle.hand_steps.specs.Countings.{counted_step}
-use Rattle.hand_steps.specs.Dispatches.{mask_of}
-use Rattle.hand_steps.specs.Holdings.{IsOn, OnlyAdds}
-use Rattle.hand_steps.specs.Tallies.{Tally, Adds, behind, one_delivery, one_signal}
-use Rattle.hand_steps.proofs.Beginnings.{more_has}
-use Rattle.hand_steps.proofs.Calm.{still_on}
-use Rattle.hand_steps.proofs.Looks.{signal_only}
-use Rattle.hand_steps.proofs.Tallies.{adds_on, adds_before}
+use Rattle.turn_dispatch.specs.Countings.{counted_step}
+use Rattle.turn_dispatch.specs.Dispatches.{mask_of}
+use Rattle.turn_dispatch.specs.Holdings.{IsOn, OnlyAdds}
+use Rattle.turn_dispatch.specs.Tallies.{Tally, Adds, behind, one_delivery, one_signal}
+use Rattle.turn_dispatch.proofs.Beginnings.{more_has}
+use Rattle.turn_dispatch.proofs.Calm.{still_on}
+use Rattle.turn_dispatch.proofs.Looks.{signal_only}
+use Rattle.turn_dispatch.proofs.Tallies.{adds_on, adds_before}
 use Rattle.element_tests.proofs.hands.tests.turn.Goals as goal
 
 pub make_ready-requires-clause-held : goal.make_ready-requires-clause-held

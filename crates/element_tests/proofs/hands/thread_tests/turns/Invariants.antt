@@ -1,5 +1,5 @@
 use Rattle.thread_table.specs.Handles.{view_of, IsHandOf}
-use Rattle.hand_steps.specs.Holdings.{IsFree}
+use Rattle.turn_dispatch.specs.Holdings.{IsFree}
 use Rattle.element_tests.proofs.hands.thread_tests.turns.Given as goal
 
 abbrev pub invariant-loop-t : goal.invariant-loop-t

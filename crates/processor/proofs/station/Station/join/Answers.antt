@@ -1,6 +1,5 @@
-use Rattle.std.proofs.Common.{◌≡◌, List, rules, subst, sym}
-use Rattle.std.proofs.lemmas.List.{with_items_is}
-use Rattle.end_steps.specs.Splits.{AreJoined, AreChainsJoined}
+use Rattle.processor.proofs.Common.{◌≡◌, List, rules, subst, sym, with_items_is}
+use Rattle.turn_io.specs.Splits.{AreJoined, AreChainsJoined}
 use Rattle.processor.proofs.Summing.{joined_account, joined_shares}
 use Rattle.processor.proofs.station.Station.join.Goals as goal
 

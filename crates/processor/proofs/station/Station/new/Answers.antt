@@ -1,4 +1,4 @@
-use Rattle.std.proofs.Common.{ℕ, ◌≤◌, subst, vec_capacity}
+use Rattle.processor.proofs.Common.{ℕ, ◌≤◌, subst, vec_capacity}
 use Rattle.processor.proofs.Rooming.{room_new}
 use Rattle.processor.proofs.station.Station.new.Goals as goal
 

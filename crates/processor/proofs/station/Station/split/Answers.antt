@@ -1,8 +1,12 @@
-use Rattle.processor.proofs.Summing.{kept_account, born_account, kept_shares, given_shares}
+use Rattle.processor.proofs.Summing.{kept_account, born_account, born_seat, kept_shares, given_shares}
 use Rattle.processor.proofs.station.Station.split.Goals as goal
 
 pub returns-clause-did : goal.returns-clause-did
-returns-clause-did c = let s = c.split_parts-parts.ensures.split in (kept_account _ _ _ _ s, born_account _ _ _ _ s c.split_parts-parts.ensures.fresh.unused)
+returns-clause-did c = let s = c.split_parts-parts.ensures.split in (kept_account _ _ _ _ s, born_account _ _ _ _ s c.split_parts-parts.ensures.unused)
 
 pub returns-clause-shares : goal.returns-clause-shares
 returns-clause-shares c = let s = c.split_parts-parts.ensures.split in (kept_shares _ _ _ _ s, given_shares _ _ _ _ s)
+
+pub returns-clause-fresh : goal.returns-clause-fresh
+returns-clause-fresh c = let s = c.split_parts-parts.ensures.split in
+    record { did = born_account _ _ _ _ s c.split_parts-parts.ensures.unused; seat = born_seat _ _ _ _ s; unused = c.split_parts-parts.ensures.unused }

@@ -1,4 +1,4 @@
-use Rattle.end_steps.specs.EndLists.{AreChainEndsOf}
+use Rattle.turn_io.specs.EndLists.{AreChainEndsOf}
 use Rattle.queue_tests.proofs.at_ends.tests.left_to_another.Given as goal
 
 abbrev pub invariant-loop : goal.invariant-loop

@@ -1,5 +1,5 @@
 use Rattle.std.proofs.Common.{sym, subst}
-use Rattle.end_steps.specs.EndLists.{AreEndsOf}
+use Rattle.turn_io.specs.EndLists.{AreEndsOf}
 use Rattle.thread_table.specs.Handles.{IsHandOf}
 use Rattle.processor.specs.declared.shared.Shared.{Shared}
 use Rattle.processor.specs.Stations.{ArePartsOf}
@@ -9,9 +9,9 @@ use Rattle.turn_tests.proofs.turns.elsewhere.run_beside.Goals as goal
 pub returns : goal.returns
 returns g c =
     let after = c.run-station.new.gate in
-    let same = turns_keep _ (λ gate. gate.shared.now) (λ old p point new t. t) _ _ _ _ _ _ _ c.run-station.ensures.told in
-    let were = subst (ArePartsOf c.args.shared.now) (sym c.into_parts-hand.ensures) c.requires.parts.1 in (
-      c.run-station.ensures.station,
+    let same = turns_keep _ (λ gate. gate.shared.now) (λ old p point new t. t) _ _ _ _ _ _ _ _ c.run-station.ensures.turned.told in
+    let were = subst (ArePartsOf c.args.shared.now) (sym c.into_parts-hand.ensures) c.requires.parts in (
+      c.run-station.ensures.manned.manned.parts_are,
       subst (ArePartsOf c.args.shared.now) (sym c.from_parts.ensures) (record {
         hand = subst (λ (s : Shared). IsHandOf s.threads after.hand) same after.hand_fits;
         small = subst (λ (s : Shared). AreEndsOf s.queues.small.items after.ends.items) same after.fit;

@@ -4,7 +4,7 @@ use Rattle.claim_queue.specs.declared.ends.ClaimQueue.{ClaimQueue}
 use Rattle.claim_queue.specs.declared.ends.QueueEnd.{QueueEnd}
 use Rattle.claim_queue.specs.Own.{View}
 use Rattle.quajects.specs.Worlds.{IsFresh}
-use Rattle.end_steps.specs.EndLists.{AreEndsOf, IsDivisible}
+use Rattle.turn_io.specs.EndLists.{AreEndsOf, IsDivisible}
 use Rattle.turn_tests.proofs.turns.stands.fresh_queues.Goals as goal
 
 module _ {n : ℕ} where

@@ -1,0 +1,123 @@
+-- What a turn did, by its step, if it tried one.
+use Rattle.boot_laws.proofs.Common.{◌≡◌, inl, inr, ℕ, ◌+◌, Bool, true, false, List, [], ◌∷◌, ◌++◌, refl, sym, ap, ◌∙◌, Option, Some, None, if◌then◌else◌, BootPlan, QueueIndex, Step, AtQueue, idle_queue, queues_add, Tended, Begun, counted_step, retired, Deed, Had, Outcome, Moved, SayAnswer, Paid, Account, ◌⊕◌, is_done, IsDeedOf, queues_by, raised_by, heard_by, told_shut, LogEntry, entry_account, tending, outcome_account, gone, FollowsPlan, OutcomeFollows, turn_told_shut, Key, step_of, said_line}
+use Rattle.std.proofs.Common.{◌⊎◌}
+use Rattle.boot_data.specs.declared.plan.Step.TheVariants as steps
+use Rattle.turn_io.specs.Accounts.{at_each, both_queue}
+use Rattle.turn_io.proofs.Adding.{each_adds}
+use Rattle.processor.specs.declared.deed.Deed.TheVariants as deeds
+use Rattle.processor.specs.declared.outcome.Had.TheVariants as hads
+use Rattle.processor.specs.declared.outcome.Outcome.TheVariants as outcomes
+use Rattle.processor.specs.declared.sending.Moved.TheVariants as moveds
+use Rattle.processor.specs.Entries.{count_of, outcome_told_shut}
+
+-- no step was tried
+pub record Rests (a : Account) (told : QueueIndex → Bool) : Type 0 where
+  pub queues : a.queues ≡ (λ q. idle_queue)
+  pub done : a.hand.done ≡ []
+  pub heard : a.heard ≡ []
+  pub untold : (q : QueueIndex) → told q ≡ false
+
+-- the step of the plan that was tried
+pub record Tries (plan : BootPlan) (a : Account) (told : QueueIndex → Bool) : Type 0 where
+  pub element : ℕ
+  pub number : ℕ
+  pub step : Step
+  pub deed : Deed
+  pub line : List ℕ
+  pub is : step_of plan element number ≡ Some step
+  pub deed_is : IsDeedOf step deed line
+  pub queues : a.queues ≡ queues_by deed line
+  pub done : a.hand.done ≡ (if is_done deed then (element, number) ∷ [] else [])
+  pub heard : a.heard ≡ heard_by deed element number line
+  pub told_is : told ≡ told_shut deed
+
+none_before : (f : QueueIndex → AtQueue) → at_each both_queue (λ q. idle_queue) f ≡ f
+none_before = (each_adds queues_add).none_first
+
+none_retired : (moved : Bool) (element number : ℕ) → (retired moved element number).done ≡ []
+none_retired true element number = refl
+none_retired false element number = refl
+
+none_gone : (moved : Moved) (element number : ℕ) → (gone moved element number).done ≡ []
+none_gone (moveds.Freed moved) element number = none_retired moved element number
+none_gone moved element number = refl
+
+none_raised : (deed : Deed) → (raised_by deed).done ≡ []
+none_raised (deeds.Signal thread signal answer) = refl
+none_raised deed = refl
+
+counted_one : (b : Bool) (element number : ℕ) → (counted_step (count_of b number) element number).done ≡ (if b then (element, number) ∷ [] else [])
+counted_one true element number = refl
+counted_one false element number = refl
+
+append_none : (b : Bool) (k : Key) → (if b then k ∷ [] else []) ++ [] ≡ (if b then k ∷ [] else [])
+append_none true k = refl
+append_none false k = refl
+
+module _ (plan : BootPlan) where
+  by_had : (begun : Begun) (had : Had) (line : List ℕ) → OutcomeFollows plan (outcomes.Had begun had) line
+      → Rests (outcome_account (outcomes.Had begun had) line) (outcome_told_shut (outcomes.Had begun had)) ⊎ Tries plan (outcome_account (outcomes.Had begun had) line) (outcome_told_shut (outcomes.Had begun had))
+  by_had begun (hads.Ended moved) line p = inl (record {
+    queues = none_before (λ q. idle_queue);
+    done = none_retired moved begun.element begun.number;
+    heard = refl;
+    untold = λ q. refl;
+  })
+  by_had begun (hads.Ran sent) line p = let d : Deed = sent.tried.deed in inr (record {
+    element = begun.element;
+    number = begun.number;
+    step = p.step;
+    deed = d;
+    line = line;
+    is = p.is;
+    deed_is = p.deed;
+    queues = none_before (queues_by d line);
+    done = (λ i. (none_raised d i ++ (counted_step (p.counts i) begun.element begun.number).done) ++ none_gone sent.moved begun.element (begun.number + 1) i)
+        ∙ (ap (λ z. z ++ []) (counted_one (is_done d) begun.element begun.number) ∙ append_none (is_done d) (begun.element, begun.number));
+    heard = refl;
+    told_is = refl;
+  })
+
+  by_outcome : (outcome : Outcome) (line : List ℕ) → OutcomeFollows plan outcome line
+      → Rests (outcome_account outcome line) (outcome_told_shut outcome) ⊎ Tries plan (outcome_account outcome line) (outcome_told_shut outcome)
+  by_outcome (outcomes.Idle idle) line p = inl (record { queues = refl; done = refl; heard = refl; untold = λ q. refl })
+  by_outcome (outcomes.Had begun had) line p = by_had begun had line p
+
+-- the tending of the alarms does none of this
+none_tended : (t : Option Tended) (a : Account) → ((tending t ⊕ a).queues ≡ a.queues) × ((tending t ⊕ a).hand.done ≡ a.hand.done) × ((tending t ⊕ a).heard ≡ a.heard)
+none_tended None a = (none_before a.queues, refl, refl)
+none_tended (Some tended) a = (none_before a.queues, refl, refl)
+
+-- a turn either tried no step, or one of the plan
+pub turn_is : (plan : BootPlan) (entry : LogEntry) → FollowsPlan plan entry
+    → Rests (entry_account entry) (λ q. turn_told_shut q entry) ⊎ Tries plan (entry_account entry) (λ q. turn_told_shut q entry)
+turn_is plan entry p = by (none_tended entry.turned.tended (outcome_account entry.turned.outcome entry.line)) (by_outcome plan entry.turned.outcome entry.line p)
+  where
+    by : ((entry_account entry).queues ≡ (outcome_account entry.turned.outcome entry.line).queues) × ((entry_account entry).hand.done ≡ (outcome_account entry.turned.outcome entry.line).hand.done) × ((entry_account entry).heard ≡ (outcome_account entry.turned.outcome entry.line).heard)
+        → Rests (outcome_account entry.turned.outcome entry.line) (outcome_told_shut entry.turned.outcome) ⊎ Tries plan (outcome_account entry.turned.outcome entry.line) (outcome_told_shut entry.turned.outcome)
+        → Rests (entry_account entry) (λ q. turn_told_shut q entry) ⊎ Tries plan (entry_account entry) (λ q. turn_told_shut q entry)
+    by n (inl r) = inl (record { queues = n.0 ∙ r.queues; done = n.1 ∙ r.done; heard = n.2 ∙ r.heard; untold = r.untold })
+    by n (inr t) = inr (record {
+      element = t.element;
+      number = t.number;
+      step = t.step;
+      deed = t.deed;
+      line = t.line;
+      is = t.is;
+      deed_is = t.deed_is;
+      queues = n.0 ∙ t.queues;
+      done = n.1 ∙ t.done;
+      heard = n.2 ∙ t.heard;
+      told_is = t.told_is;
+    })
+
+-- THE STEP OF A DEED
+
+pub say_is : (step : Step) (queue : QueueIndex) (answer : SayAnswer Paid) (line : List ℕ) → IsDeedOf step (deeds.Say queue answer) line
+    → (text : List ℕ) × (step ≡ steps.Say queue text) × (line ≡ said_line text)
+say_is (steps.Say at text) queue answer line d = (text, ap (λ z. steps.Say z text) (sym d.0), d.1)
+say_is step queue answer line d = absurd d
+
+pub close_is : (step : Step) (queue : ℕ) (was_open : Bool) (readers writers : Paid) (line : List ℕ) → IsDeedOf step (deeds.Close queue was_open readers writers) line → step ≡ steps.Close queue
+close_is (steps.Close at) queue was_open readers writers line d = ap steps.Close (sym d.0)
+close_is step queue was_open readers writers line d = absurd d

@@ -1,0 +1,11 @@
+pub mod Common
+pub mod Only
+pub mod Totals
+pub mod Entries
+pub mod Turns
+pub mod Undone
+pub mod Joined
+pub mod Queues
+pub mod Threads
+pub mod Meters
+pub mod Boots

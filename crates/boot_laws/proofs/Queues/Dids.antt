@@ -1,0 +1,55 @@
+-- What a station's end of a queue did, by the queue's index: its runs and its takings with their positions.
+use Rattle.boot_laws.proofs.Common.{◌≡◌, ℕ, zero, suc, List, [], ◌∷◌, refl, sym, ap, ◌∙◌, arith, Some, All, BootPlan, QueueIndex, Small, Large, QueueEnd, AtQueue, Stake, lines_of, room_of, stakes, no_stake, stake, Ascending, Parts, Account, account, AreJoined, end_at}
+use Rattle.claim_queue.specs.declared.rule.Did.{Did}
+use Rattle.claim_queue.specs.Handles.{view_of}
+use Rattle.claim_queue.specs.Own.{nothing_did, did_both}
+use Rattle.turn_io.specs.EndLists.{ClaimedInOrder, TookInOrder}
+use Rattle.turn_io.proofs.Accounting.{joined_at}
+use Rattle.turn_io.proofs.Shares.{none_of}
+use Rattle.table_theory.proofs.Ordering.{order_none}
+use Rattle.processor.specs.Preparing.{IsPrepared}
+use Rattle.boot_laws.proofs.Joined.{at_its}
+
+-- what the station's end of the queue did
+abbrev pub did_at : QueueIndex → Parts → Did
+did_at (Small q) parts = (stakes parts.small.items q).did
+did_at (Large q) parts = (stakes parts.large.items q).did
+
+pub lines_are : (index : QueueIndex) (parts : Parts) → (account parts).queues index ≡ lines_of (did_at index parts)
+lines_are (Small q) parts = refl
+lines_are (Large q) parts = refl
+
+-- a join puts what the other did behind its own
+pub did_joined : (index : QueueIndex) (a b c : Parts) → AreJoined a b c → did_at index c ≡ did_both (did_at index a) (did_at index b)
+did_joined (Small q) a b c j = ap (λ (f : ℕ → Stake Did). (f q).did) (joined_at a.small.items c.small.items b.small.items j.small.each)
+did_joined (Large q) a b c j = ap (λ (f : ℕ → Stake Did). (f q).did) (joined_at a.large.items c.large.items b.large.items j.large.each)
+
+module _ {n : ℕ} where
+  up_at : (ends : List (QueueEnd n)) (q : ℕ) → All ClaimedInOrder ends → Ascending (stakes ends q).did.runs
+  up_at [] q h = order_none.0
+  up_at (x ∷ ends) zero h = (h 0 x (omega arith)).0
+  up_at (x ∷ ends) (suc q) h = up_at ends q (λ k d low. h (suc k) d (omega arith))
+
+  takes_up_at : (ends : List (QueueEnd n)) (q : ℕ) → All TookInOrder ends → Ascending (stakes ends q).did.takes
+  takes_up_at [] q h = order_none.0
+  takes_up_at (x ∷ ends) zero h = (h 0 x (omega arith)).0.0
+  takes_up_at (x ∷ ends) (suc q) h = takes_up_at ends q (λ k d low. h (suc k) d (omega arith))
+
+-- what the end did that the station has of the queue
+pub its_did : (index : QueueIndex) (parts : Parts) (end : QueueEnd (room_of index)) → end_at index parts ≡ Some end → did_at index parts ≡ (view_of end).own
+its_did (Small q) parts end e = ap (λ (s : Stake Did). s.did) (at_its stake parts.small.items q end (no_stake nothing_did) e)
+its_did (Large q) parts end e = ap (λ (s : Stake Did). s.did) (at_its stake parts.large.items q end (no_stake nothing_did) e)
+
+pub runs_up : (index : QueueIndex) (parts : Parts) → All ClaimedInOrder parts.small.items → All ClaimedInOrder parts.large.items → Ascending (did_at index parts).runs
+runs_up (Small q) parts small large = up_at parts.small.items q small
+runs_up (Large q) parts small large = up_at parts.large.items q large
+
+pub takes_up : (index : QueueIndex) (parts : Parts) → All TookInOrder parts.small.items → All TookInOrder parts.large.items → Ascending (did_at index parts).takes
+takes_up (Small q) parts small large = takes_up_at parts.small.items q small
+takes_up (Large q) parts small large = takes_up_at parts.large.items q large
+
+-- the first station put and took nothing
+pub none_first : (index : QueueIndex) (plan : BootPlan) (first : Parts) → IsPrepared plan first → ((did_at index first).runs ≡ []) × ((did_at index first).takes ≡ [])
+none_first index plan first begun =
+    let none = sym (lines_are index first) ∙ ap (λ (a : Account). a.queues index) begun.did in
+    (none_of (did_at index first).runs (ap (λ (a : AtQueue). a.put) none), none_of (did_at index first).takes (ap (λ (a : AtQueue). a.taken) none))

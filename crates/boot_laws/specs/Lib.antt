@@ -1,0 +1,9 @@
+pub mod Totals
+pub mod ClosedTables
+pub mod Lines
+pub mod Agreements
+pub mod Saying
+pub mod Reports
+pub mod Endings
+pub mod Boots
+pub mod Closings

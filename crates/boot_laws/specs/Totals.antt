@@ -1,0 +1,9 @@
+-- What all processors of a boot did.
+use Rattle.std.specs.Prelude.{List, flat_map}
+use Rattle.processor.specs.Accounts.{Account}
+use Rattle.processor.specs.Entries.{LogEntry}
+use Rattle.processor.specs.Logs.{sum_of}
+
+-- what the processors did, one log behind the other
+abbrev pub total_of : List (List LogEntry) → Account
+total_of logs = sum_of (flat_map (λ log. log) logs)

@@ -1,0 +1,94 @@
+-- The devices of a plan's ttys.
+use Rattle.std.specs.Prelude.{◌≡◌, ℕ, ◌+◌, ◌<◌, List, [], length, Some}
+use Rattle.std.specs.List.{slice_get}
+use Rattle.boot_data.specs.declared.boot_plan.BootPlan.{BootPlan}
+use Rattle.boot_data.specs.QueueLists.{raw_queue}
+use Rattle.claim_queue.specs.declared.ends.ClaimQueue.{ClaimQueue}
+use Rattle.claim_queue.specs.declared.ends.QueueEnd.{QueueEnd}
+use Rattle.claim_queue.specs.Handles.{view_of}
+use Rattle.proc_chain.specs.declared.quaject.Quaject.{Ghosts}
+use Rattle.proc_chain.specs.declared.ends.ProcChain.{ProcChain}
+use Rattle.proc_chain.specs.declared.ends.ChainEnd.{ChainEnd}
+use Rattle.proc_chain.specs.Handles.{IsEndOf}
+use Rattle.quajects.specs.declared.any.AnyQuaject.{AnyQuaject}
+use Rattle.quajects.specs.declared.world.Queues.{Queues}
+use Rattle.quajects.specs.Ports.{IsEndAt, IsUnused}
+use Rattle.quajects.specs.Raws.{end_of, overruns_of}
+use Rattle.spsc_line.specs.Lines.{IsLine, IsNewIn, IsNewOut}
+use Rattle.turn_io.specs.Accounts.{at_one}
+use Rattle.turn_io.specs.EndLists.{end_shuts, chain_end_share, chain_end_puts, chain_end_takes, IsIdle}
+use Rattle.boot_data.specs.declared.plan.QueueIndex.TheVariants.{Small}
+use Rattle.boot_objects.specs.declared.device.Device.{Device}
+use Rattle.boot_objects.specs.Shares.{device_shares, all_shares}
+use Rattle.boot_objects.specs.Stocks.{Gave, IsStock, IsChainStock, shares, chain_shares}
+
+-- its ends are those of the queue and the chain that it names
+pub record IsAtWork (queues : List (ClaimQueue 64)) (chains : List (ProcChain AnyQuaject Queues)) (device : Device)
+    : Type 0 where
+  pub end : IsEndAt queues device.tty.index (end_of device.tty)
+  pub chain_named : device.chain < length chains
+  pub chain_end : (c : ProcChain AnyQuaject Queues) → slice_get chains device.chain ≡ Some c
+      → IsEndOf c device.tty.chain
+  pub idle : IsIdle device.tty.chain
+
+-- The device puts in the small queue with this index, at an end that has done nothing, and tells the chain with that
+-- index, at an end that has chained and run nothing. It has refused no byte. Its line has 64 places, and is empty
+pub record IsDevice (queues : List (ClaimQueue 64)) (chains : List (ProcChain AnyQuaject Queues)) (raw chain : ℕ)
+    (device : Device) : Type 0 where
+  pub raw_is : device.tty.index ≡ raw
+  pub chain_is : device.chain ≡ chain
+  pub works : IsAtWork queues chains device
+  pub unused : IsUnused (view_of (end_of device.tty))
+  pub none_shut : end_shuts (end_of device.tty) ≡ 0
+  pub none_refused : overruns_of device.tty ≡ 0
+  pub none_chained : chain_end_puts device.tty.chain ≡ []
+  pub none_run : chain_end_takes device.tty.chain ≡ []
+  pub line : IsLine device.input device.output
+  pub input : IsNewIn 64 device.input
+  pub output : IsNewOut 64 device.output
+
+-- it is the device of the tty with this number
+abbrev pub IsDeviceOf : BootPlan → Queues → List (ProcChain AnyQuaject Queues) → ℕ → Device → Type 0
+IsDeviceOf plan queues chains tty device =
+    IsDevice queues.small.items chains (raw_queue (length plan.queues) tty) (length plan.movers + tty) device
+
+-- there is one for each tty of the plan, in their order
+pub record AreDevicesOf (plan : BootPlan) (queues : Queues) (chains : List (ProcChain AnyQuaject Queues))
+    (devices : List Device) : Type 0 where
+  pub number : length devices ≡ length plan.ttys
+  pub each : (tty : ℕ) (device : Device) → slice_get devices tty ≡ Some device
+      → IsDeviceOf plan queues chains tty device
+
+module _ {g : Ghosts AnyQuaject Queues} where
+  -- An end of the chain with this index was split off, and has done nothing. It has a part of the share of the one in
+  -- the stock, which has the rest
+  pub record ChainSplitOff (chains : List (ProcChain AnyQuaject Queues)) (index : ℕ)
+      (old new : List (ChainEnd AnyQuaject Queues g)) (end : ChainEnd AnyQuaject Queues g) : Type 0 where
+    pub stock : IsChainStock chains new
+    pub its : (c : ProcChain AnyQuaject Queues) → slice_get chains index ≡ Some c → IsEndOf c end
+    pub idle : IsIdle end
+    pub puts : chain_end_puts end ≡ []
+    pub takes : chain_end_takes end ≡ []
+    pub gave : Gave 1 (at_one 0 index (chain_end_share end)) (chain_shares old) (chain_shares new)
+
+  -- it is such a device, and its ends were split off
+  pub record MadeDevice (queues : List (ClaimQueue 64)) (chains : List (ProcChain AnyQuaject Queues)) (raw chain : ℕ)
+      (small small' : List (QueueEnd 64)) (ends ends' : List (ChainEnd AnyQuaject Queues g)) (device : Device)
+      : Type 0 where
+    pub stock : IsStock queues small'
+    pub chain_stock : IsChainStock chains ends'
+    pub its : IsDevice queues chains raw chain device
+    pub gave : Gave 1 (λ q. (device_shares device).queues (Small q)) (shares small) (shares small')
+    pub chain_gave : Gave 1 (device_shares device).chains (chain_shares ends) (chain_shares ends')
+
+  -- they are the devices of so many ttys, from the first on
+  pub record MadeDevices (plan : BootPlan) (queues : Queues) (chains : List (ProcChain AnyQuaject Queues)) (many : ℕ)
+      (small small' : List (QueueEnd 64)) (ends ends' : List (ChainEnd AnyQuaject Queues g)) (made : List Device)
+      : Type 0 where
+    pub stock : IsStock queues.small.items small'
+    pub chain_stock : IsChainStock chains ends'
+    pub number : length made ≡ many
+    pub each : (tty : ℕ) (device : Device) → slice_get made tty ≡ Some device
+        → IsDeviceOf plan queues chains tty device
+    pub gave : Gave many (λ q. (all_shares device_shares made).queues (Small q)) (shares small) (shares small')
+    pub chain_gave : Gave many (all_shares device_shares made).chains (chain_shares ends) (chain_shares ends')

@@ -1,0 +1,16 @@
+pub mod Stocks
+pub mod Shares
+pub mod Planned
+pub mod Makings
+pub mod Devices
+pub mod Objects
+pub mod DeviceEndings
+pub mod ClosedQueues
+pub mod Comings
+pub mod Endings
+pub mod Gains
+pub mod Placings
+pub mod RawEnds
+pub mod Retirals
+pub mod Rooms
+pub mod Wholes

@@ -1,0 +1,184 @@
+//! Closing all that a boot shared, in the order in which it has to be: the chains first, whose quajects have ends of
+//! the queues.
+ghost use Rattle.std.specs.Prelude.{◌≡◌, IfOk, length};
+ghost use Rattle.boot_objects.specs.Endings.{AllClosed};
+ghost use Rattle.boot_objects.specs.Rooms.{HaveRoom};
+ghost use Rattle.boot_objects.specs.Wholes.{HasWholes};
+ghost use Rattle.processor.specs.Stations.{ArePartsOf};
+
+use crate::closing::homing::close_chains;
+use crate::closing::queues::close_queues;
+use crate::closing::tables::{close_meters, close_threads};
+use boot_data::BootPlan;
+use claim_queue::{Closed, QueueEnd};
+use event_theory::OutOfMemory;
+use meters::Metered;
+use processor::{Heard, Parts, Shared};
+use quajects::{Came, Home, Queues};
+use std::alloc::Global;
+use std::snapshot::Snapshot;
+use thread_table::{Place, Places};
+
+/// Empty lists with room for the answers of closing all.
+#[derive(Drop)]
+pub struct Answers {
+    pub homes: Vec<Home>,
+    pub counts: Vec<Came>,
+    pub small: Vec<Closed<64>>,
+    pub large: Vec<Closed<256>>,
+}
+
+impl Answers {
+    /// Lists with room for an answer of each of these objects. `OutOfMemory` comes only where an allocation was
+    /// refused.
+    pub fn new(alloc: Global, shared: &Shared) -> Result<Answers, OutOfMemory>
+        ensures { IfOk result (HaveRoom shared.now) }
+    {
+        let homes = Vec::with_capacity(alloc, shared.chains.len())?;
+        let counts = Vec::with_capacity(alloc, shared.chains.len())?;
+        let small = Vec::with_capacity(alloc, shared.queues.small.len())?;
+        let large = Vec::with_capacity(alloc, shared.queues.large.len())?;
+        Ok(Answers {
+            homes,
+            counts,
+            small,
+            large,
+        })
+    }
+}
+
+/// What all had at the end: the numbers of each quaject, in the order of the chains, what each queue was put and taken
+/// and what is left, the thread elements, the meters, and what was heard and signalled. The last two are for the
+/// contract alone: the last end of each queue. Only `close_all` makes one, and nobody changes it: a report is made of
+/// what was closed.
+#[derive(Drop)]
+pub struct Unmade {
+    counts: Vec<Came>,
+    small: Vec<Closed<64>>,
+    large: Vec<Closed<256>>,
+    threads: Places,
+    meters: Metered,
+    heard: Vec<Heard>,
+    signals: [u16; 64],
+    plan: BootPlan,
+    small_ends: Snapshot<Vec<QueueEnd<64>>>,
+    large_ends: Snapshot<Vec<QueueEnd<256>>>,
+}
+
+impl Unmade {
+    /// The plan of all that was closed.
+    pub fn plan(&self) -> &BootPlan
+        ensures { result.now ≡ self.now.plan }
+    {
+        &self.plan
+    }
+
+    /// The numbers of each quaject, in the order of the chains.
+    pub fn counts(&self) -> &[Came]
+        ensures { result.now ≡ self.now.counts.items }
+    {
+        self.counts.as_slice()
+    }
+
+    /// What each small queue was put and taken, and what is left in it, in the order of the queues.
+    pub fn small(&self) -> &[Closed<64>]
+        ensures { result.now ≡ self.now.small.items }
+    {
+        self.small.as_slice()
+    }
+
+    /// The same of each large queue.
+    pub fn large(&self) -> &[Closed<256>]
+        ensures { result.now ≡ self.now.large.items }
+    {
+        self.large.as_slice()
+    }
+
+    /// Where each thread element is, by its number.
+    pub fn places(&self) -> &[Place; 64]
+        ensures { result.now ≡ self.now.threads.places }
+    {
+        &self.threads.places
+    }
+
+    /// How many steps each thread element has done, by its number.
+    pub fn pcs(&self) -> &[u64; 64]
+        ensures { result.now ≡ self.now.threads.pcs }
+    {
+        &self.threads.pcs
+    }
+
+    /// The signals that were shown to each thread element, by its number: bit s for signal s.
+    pub fn signals(&self) -> &[u16; 64]
+        ensures { result.now ≡ self.now.signals }
+    {
+        &self.signals
+    }
+
+    /// The gauges, by their numbers.
+    pub fn gauges(&self) -> &[u64; 8]
+        ensures { result.now ≡ self.now.meters.gauges }
+    {
+        &self.meters.gauges
+    }
+
+    /// How many alarms were set and did not fire.
+    pub fn alarms_left(&self) -> usize
+        ensures { result ≡ length self.now.meters.alarms.items }
+    {
+        self.meters.alarms.len()
+    }
+}
+
+/// Closes the chains and brings their quajects home, and then closes the queues, the thread table and the meters. It
+/// takes no memory: the answers go into lists that have room for them.
+///
+/// Conditions: the parts are those of what is shared, no end of a chain has a Turn, and no end of another owner stands,
+/// but for those of the quajects.
+pub fn close_all(shared: Shared, parts: Parts, answers: Answers) -> Unmade
+    requires parts { ArePartsOf shared parts }
+    requires wholes { HasWholes shared parts }
+    requires room { HaveRoom shared answers }
+    ensures { AllClosed shared parts result }
+{
+    let Shared {
+        queues,
+        chains,
+        threads,
+        meters,
+        plan,
+    } = shared;
+    let Parts {
+        hand,
+        small: mut small_list,
+        large: mut large_list,
+        chains: chain_list,
+        meters: seat,
+        heard,
+        signals,
+    } = parts;
+    let counts = close_chains(
+        &queues,
+        chains,
+        chain_list,
+        small_list.as_mut_slice(),
+        large_list.as_mut_slice(),
+        answers.homes,
+        answers.counts,
+    );
+    let small_ends = Snapshot::of(&small_list);
+    let large_ends = Snapshot::of(&large_list);
+    let Queues { small, large } = queues;
+    Unmade {
+        counts,
+        small: close_queues(small, small_list, answers.small),
+        large: close_queues(large, large_list, answers.large),
+        threads: close_threads(threads, hand),
+        meters: close_meters(meters, seat),
+        heard,
+        signals,
+        plan,
+        small_ends,
+        large_ends,
+    }
+}

@@ -1,0 +1,139 @@
+//! The ends of a quaject that came home go to those of their queues.
+ghost use Rattle.std.specs.Prelude.{◌≡◌, ◌≤◌, [], ◌∷◌, length, vec_capacity};
+ghost use Rattle.std.specs.List.{All};
+ghost use Rattle.boot_objects.specs.Comings.{FitsHome, small_ports, large_ports};
+ghost use Rattle.boot_objects.specs.Gains.{Gained};
+ghost use Rattle.boot_objects.specs.Retirals.{HaveRetired, IsFew};
+ghost use Rattle.turn_io.specs.EndLists.{AreChainEndsOf, AreChainsOver, AreEndsOf, AreSameEnds};
+ghost use Rattle.proc_chain.specs.Handles.{IsOnlyEnd};
+ghost use Rattle.quajects.specs.Homes.{home_in, homes_in};
+ghost use Rattle.quajects.specs.Ports.{AllFit};
+
+use crate::closing::chains::retire_all;
+use crate::closing::joining::join_port_at;
+use claim_queue::{ClaimQueue, QueueEnd};
+use proc_chain::{ChainEnd, ProcChain};
+use quajects::{AnyQuaject, Came, Home, Port, Queues};
+
+// Joins the end of a port, where there is one, to the one of its queue.
+fn join_port<const N: usize>(
+    queues: &[ClaimQueue<N>],
+    ends: &mut [QueueEnd<N>],
+    port: Option<Port<N>>,
+)
+    requires ends { AreEndsOf queues.now ends.old }
+    requires fits { AllFit queues.now (port ∷ []) }
+    ensures same { AreSameEnds ends.old ends.new }
+    ensures gained { Gained (port.entry ∷ []) ends.old ends.new }
+{
+    match port {
+        Some(port) => join_port_at(queues, ends, port),
+        None => {}
+    }
+}
+
+// Joins the ends of all ports.
+fn join_ports<const N: usize, const K: usize>(
+    queues: &[ClaimQueue<N>],
+    ends: &mut [QueueEnd<N>],
+    ports: [Option<Port<N>>; K],
+)
+    requires few { K ≤ 6 }
+    requires ends { AreEndsOf queues.now ends.old }
+    requires fits { AllFit queues.now ports }
+    ensures same { AreSameEnds ends.old ends.new }
+    ensures gained { Gained ports.entry ends.old ends.new }
+{
+    for port in ports {
+        join_port(queues, ends, port);
+    }
+}
+
+/// Joins the ends of a quaject that came home, each to the one of its queue in the lists, which then have what those
+/// had, and gives its numbers. It takes no memory.
+///
+/// Conditions: the ends in the lists are those of the queues, in their order, and each end of the quaject is one of the
+/// queue that it names.
+pub fn bring_home(
+    queues: &Queues,
+    small: &mut [QueueEnd<64>],
+    large: &mut [QueueEnd<256>],
+    home: Home,
+) -> Came
+    requires small { AreEndsOf queues.now.small.items small.old }
+    requires large { AreEndsOf queues.now.large.items large.old }
+    requires fits { FitsHome queues.now home }
+    ensures same { AreSameEnds small.old small.new × AreSameEnds large.old large.new }
+    ensures small { AreEndsOf queues.now.small.items small.new }
+    ensures large { AreEndsOf queues.now.large.items large.new }
+    ensures small_gained { Gained home.small small.old small.new }
+    ensures large_gained { Gained home.large large.old large.new }
+    ensures came { home_in result ≡ home }
+{
+    let ((mine, others), came) = home.take_apart();
+    join_ports(queues.small.as_slice(), small, mine);
+    join_ports(queues.large.as_slice(), large, others);
+    came
+}
+
+/// The same of all that came home, one behind the other. The numbers go into `counts`, in the order of the homes, which
+/// is empty and has room for them, so it takes no memory.
+///
+/// Conditions: those of `bring_home`, for each.
+pub fn bring_all_home(
+    queues: &Queues,
+    small: &mut [QueueEnd<64>],
+    large: &mut [QueueEnd<256>],
+    homes: Vec<Home>,
+    counts: Vec<Came>,
+) -> Vec<Came>
+    requires small { AreEndsOf queues.now.small.items small.old }
+    requires large { AreEndsOf queues.now.large.items large.old }
+    requires fits { All (FitsHome queues.now) homes.items }
+    requires room { (counts.items ≡ []) × (length homes.items ≤ vec_capacity counts) }
+    ensures same { AreSameEnds small.old small.new × AreSameEnds large.old large.new }
+    ensures small { AreEndsOf queues.now.small.items small.new }
+    ensures large { AreEndsOf queues.now.large.items large.new }
+    ensures small_gained { Gained (small_ports homes.items) small.old small.new }
+    ensures large_gained { Gained (large_ports homes.items) large.old large.new }
+    ensures came { homes_in result.items ≡ homes.items }
+{
+    let mut counts = counts;
+    for home in homes {
+        counts.push_reserved(bring_home(queues, small, large, home));
+    }
+    counts
+}
+
+/// Closes each chain by its only end, and brings all home. The numbers of what came home go into `counts`, in the order
+/// of the chains. `homes` and `counts` are empty and have room for all, so it takes no memory.
+///
+/// Conditions: the queues are the world of the chains, and the ends in the lists are those of the queues, in their
+/// order; those of the chains are theirs, in their order and without a Turn, and each has the whole of its chain.
+pub fn close_chains(
+    queues: &Queues,
+    chains: Vec<ProcChain<AnyQuaject>>,
+    ends: Vec<ChainEnd<AnyQuaject>>,
+    small: &mut [QueueEnd<64>],
+    large: &mut [QueueEnd<256>],
+    homes: Vec<Home>,
+    counts: Vec<Came>,
+) -> Vec<Came>
+    requires world { AreChainsOver queues.now chains.items }
+    requires ends { AreChainEndsOf chains.items ends.items }
+    requires whole { All IsOnlyEnd ends.items }
+    requires small { AreEndsOf queues.now.small.items small.old }
+    requires large { AreEndsOf queues.now.large.items large.old }
+    requires homes_room { (homes.items ≡ []) × (length chains.items ≤ vec_capacity homes) }
+    requires counts_room { (counts.items ≡ []) × (length chains.items ≤ vec_capacity counts) }
+    ensures homes { HaveRetired chains.items ends.items (homes_in result.items) }
+    ensures few { All IsFew (homes_in result.items) }
+    ensures same { AreSameEnds small.old small.new × AreSameEnds large.old large.new }
+    ensures small { AreEndsOf queues.now.small.items small.new }
+    ensures large { AreEndsOf queues.now.large.items large.new }
+    ensures small_gained { Gained (small_ports (homes_in result.items)) small.old small.new }
+    ensures large_gained { Gained (large_ports (homes_in result.items)) large.old large.new }
+{
+    let homes = retire_all(chains, ends, homes);
+    bring_all_home(queues, small, large, homes, counts)
+}

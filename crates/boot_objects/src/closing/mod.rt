@@ -1,0 +1,22 @@
+//! Closing what the processors and the devices of a boot shared, when all have stopped and one owner has the ends: the
+//! queues, the chains, the thread elements and the meters.
+//!
+//! Nothing here takes memory: the lists of the results come in with room for them. Where the one end of an object has
+//! the whole, so that no other stands, closing it can't be refused.
+mod all;
+mod chains;
+mod homing;
+mod joining;
+mod laws;
+mod queues;
+mod raws;
+mod tables;
+
+pub use all::{Answers, Unmade, close_all};
+pub use chains::retire_all;
+pub use homing::{bring_all_home, bring_home, close_chains};
+pub use joining::{join_at, join_chain_at, join_port_at};
+pub use laws::{homes_shut_nothing, wholes_come_home};
+pub use queues::close_queues;
+pub use raws::join_raws;
+pub use tables::{close_meters, close_threads};

@@ -1,0 +1,76 @@
+//! All objects of a plan, and the station of the first processor, which has an end of each.
+ghost use Rattle.std.specs.Prelude.{◌≡◌, IfOk};
+ghost use Rattle.processor.specs.Accounts.{account, nothing};
+ghost use Rattle.processor.specs.Rooms.{HasRoom};
+ghost use Rattle.processor.specs.Stations.{ArePartsOf, IsUnused};
+ghost use Rattle.boot_objects.specs.Devices.{AreDevicesOf};
+ghost use Rattle.boot_objects.specs.Objects.{AreQuajectsOf, BeginAtZero, HaveAll, IsFirstHand, IsFirstSeat};
+ghost use Rattle.boot_objects.specs.Shares.{quajects_of};
+ghost use Rattle.boot_objects.specs.Stocks.{CanGive, shares, chain_shares};
+
+use crate::device::Device;
+use crate::stocked::{Stocked, make_stocked};
+use boot_data::BootPlan;
+use event_theory::OutOfMemory;
+use meters::Meters;
+use processor::{Shared, Station};
+use std::alloc::Global;
+use thread_table::ThreadTable;
+
+/// What the processors of a kernel share, the station of the first of them, and the devices of its ttys.
+#[derive(Drop)]
+pub struct Objects {
+    pub shared: Shared,
+    pub station: Station,
+    pub devices: Vec<Device>,
+}
+
+/// Makes all objects of a plan: the queues, each with an end in the station; the chains of its pumps, switches and
+/// ttys, in that order, each with its quaject and an end in the station; a device for each tty, with a line of 64
+/// places; the thread elements, all free, with their only hand in the station; and the meters, with their only seat
+/// there. Each end of a queue or chain in the station can be split a thousand times. `OutOfMemory` comes only where an
+/// allocation was refused; what was made until then is gone, and the plan too.
+pub fn make_objects(alloc: Global, plan: BootPlan) -> Result<Objects, OutOfMemory>
+    ensures plan { IfOk result (λ o. o.shared.plan ≡ plan) }
+    ensures parts { IfOk result (λ o. ArePartsOf o.shared o.station.parts) }
+    ensures unused { IfOk result (λ o. IsUnused o.station.parts) }
+    ensures room { IfOk result (λ o. HasRoom o.shared.plan o.station.parts) }
+    ensures hand { IfOk result (λ o. IsFirstHand o.shared.threads o.station.parts.hand) }
+    ensures seat { IfOk result (λ o. IsFirstSeat o.shared.meters o.station.parts.meters) }
+    ensures begin { IfOk result (λ o. BeginAtZero o.shared.queues o.shared.chains.items) }
+    ensures did { IfOk result (λ o. account o.station.parts ≡ nothing) }
+    ensures quajects { IfOk result (λ o. AreQuajectsOf o.shared.plan o.shared.queues
+        (quajects_of o.shared.chains.items)) }
+    ensures devices { IfOk result (λ o. AreDevicesOf o.shared.plan o.shared.queues o.shared.chains.items
+        o.devices.items) }
+    ensures splits { IfOk result (λ o. CanGive 1000 (shares o.station.parts.small.items)
+        × CanGive 1000 (shares o.station.parts.large.items)
+        × CanGive 1000 (chain_shares o.station.parts.chains.items)) }
+    ensures whole { IfOk result (λ o. HaveAll o.shared o.station.parts o.devices.items) }
+{
+    let Stocked {
+        queues,
+        small,
+        large,
+        chains,
+        ends,
+        devices,
+    } = make_stocked(alloc, &plan)?;
+    let (threads, hand) = ThreadTable::new(alloc)?;
+    let (meters, seat) = Meters::new(alloc, 0)?;
+    let shared = Shared {
+        queues,
+        chains,
+        threads,
+        meters,
+        plan,
+    };
+    match Station::new(alloc, &shared, hand, small, large, ends, seat) {
+        Ok(station) => Ok(Objects {
+            shared,
+            station,
+            devices,
+        }),
+        Err(_) => Err(OutOfMemory),
+    }
+}

@@ -1,0 +1,94 @@
+-- The lines that were heard are no more than the steps of the plan that hear.
+use Rattle.boot_report.proofs.Common.{◌≡◌, ℕ, ◌≤◌, true, List, [], ◌∷◌, ◌++◌, length, map, refl, sym, ap, ◌∙◌, subst, arith, Some, flat_map, length-map, BootPlan, Parts, LogEntry, Key, hear_count, Line, heard_lines, ClosedTables, WorkedTogether, ThreadsEnded}
+use Rattle.std.proofs.Common.{Bool, false, Option, None, count_by}
+use Rattle.std.specs.List.{AllByRecursion, IsDistinct}
+use Rattle.std.proofs.lemmas.List.{map-append}
+use Rattle.boot_data.specs.declared.plan.Step.{Step}
+use Rattle.boot_data.specs.declared.plan.Step.TheVariants as steps
+use Rattle.turn_dispatch.specs.declared.alarms.Tended.{Tended}
+use Rattle.processor.specs.declared.deed.Deed.{Deed}
+use Rattle.processor.specs.declared.deed.Deed.TheVariants as deeds
+use Rattle.processor.specs.declared.outcome.Had.{Had}
+use Rattle.processor.specs.declared.outcome.Had.TheVariants as hads
+use Rattle.processor.specs.declared.outcome.Outcome.{Outcome}
+use Rattle.processor.specs.declared.outcome.Outcome.TheVariants as outcomes
+use Rattle.processor.specs.declared.tries.HearAnswer.{HearAnswer}
+use Rattle.processor.specs.declared.tries.HearAnswer.TheVariants as hears
+use Rattle.processor.specs.declared.waking.Paid.{Paid}
+use Rattle.processor.specs.Accounts.{Account, ◌⊕◌}
+use Rattle.processor.specs.Deeds.{IsDeedOf}
+use Rattle.processor.specs.Doings.{heard_by}
+use Rattle.processor.specs.Entries.{tending, having, outcome_account, entry_account, HadFollows, OutcomeFollows, FollowsPlan}
+use Rattle.processor.specs.Logs.{sum_of}
+use Rattle.processor.specs.Programs.{IsHear, same_key, is_hear, step_of}
+use Rattle.processor.proofs.Rooms.{few, same_refl as itself}
+use Rattle.processor.proofs.Rooming.{line_key as key_of}
+use Rattle.boot_laws.specs.Totals.{total_of}
+use Rattle.thread_table.proofs.Lists.Counts.{plus, by_bool, many_cons}
+use Rattle.boot_laws.proofs.Boots.Sorting.{heard_few, once_most}
+use Rattle.boot_laws.proofs.Totals.{all_of, all_heard_by, all_planned, planned_all}
+use Rattle.event_theory.proofs.Lists.Placed.{all_append as both}
+
+abbrev is_of : Key → Line → Bool
+is_of k line = same_key k line.0
+
+-- NONE TWICE
+
+none_of : (k : Key) (lines : List Line) → count_by (is_of k) lines ≡ 0 → AllByRecursion (λ y. same_key k y ≡ false) (map key_of lines)
+none_of k [] h = tt
+none_of k (l ∷ ls) h = let c = many_cons (is_of k) l ls in by_bool (is_of k l)
+    (λ up. let a : plus (is_of k l) ≡ 1 = ap plus up in absurd (omega arith))
+    (λ low. let a : plus (is_of k l) ≡ 0 = ap plus low in (low, none_of k ls (omega arith)))
+
+distinct : (lines : List Line) → ((k : Key) → count_by (is_of k) lines ≤ 1) → IsDistinct same_key (map key_of lines)
+unfolding IsDistinct
+distinct [] h = tt
+distinct (l ∷ ls) h =
+    let c = many_cons (is_of l.0) l ls in let a : plus (is_of l.0 l) ≡ 1 = ap plus (itself l.0) in let m = h l.0 in
+    (none_of l.0 ls (omega arith), distinct ls (λ k. let d = many_cons (is_of k) l ls in let n = h k in omega arith))
+
+-- EACH HEARS
+
+abbrev AllHear : BootPlan → List Line → Type 0
+AllHear plan lines = AllByRecursion (IsHear plan) (map key_of lines)
+
+both_hear : (plan : BootPlan) (a b : List Line) → AllHear plan a → AllHear plan b → AllHear plan (a ++ b)
+both_hear plan a b h k = subst (AllByRecursion (IsHear plan)) (sym (map-append key_of a b)) (both (IsHear plan) (map key_of a) (map key_of b) h k)
+
+hears_one : (step : Step) (queue : _) (answer : HearAnswer Paid) (line : List ℕ) → IsDeedOf step (deeds.Hear queue answer) line → is_hear step ≡ true
+hears_one (steps.Hear at) queue answer line h = refl
+hears_one step queue answer line h = absurd h
+
+by_deed : (plan : BootPlan) (element number : ℕ) (step : Step) (deed : Deed) (line : List ℕ) → step_of plan element number ≡ Some step → IsDeedOf step deed line → AllHear plan (heard_by deed element number line)
+by_deed plan element number step (deeds.Hear queue (hears.Taken paid)) line is its = (record { step = step; is = is; hears = hears_one step queue (hears.Taken paid) line its }, tt)
+by_deed plan element number step deed line is its = tt
+
+by_had : (plan : BootPlan) (element number : ℕ) (had : Had) (line : List ℕ) → HadFollows plan element number had line → AllHear plan (having element number had line).heard
+by_had plan element number (hads.Ended moved) line h = tt
+by_had plan element number (hads.Ran sent) line h = by_deed plan element number h.step sent.tried.deed line h.is h.deed
+
+by_outcome : (plan : BootPlan) (outcome : Outcome) (line : List ℕ) → OutcomeFollows plan outcome line → AllHear plan (outcome_account outcome line).heard
+by_outcome plan (outcomes.Idle idle) line h = tt
+by_outcome plan (outcomes.Had begun had) line h = by_had plan begun.element begun.number had line h
+
+none_heard : (tended : Option Tended) (more : Account) → (tending tended ⊕ more).heard ≡ more.heard
+none_heard None more = refl
+none_heard (Some tended) more = refl
+
+by_entry : (plan : BootPlan) (entry : LogEntry) → FollowsPlan plan entry → AllHear plan (entry_account entry).heard
+by_entry plan entry h = subst (AllHear plan) (sym (none_heard entry.turned.tended (outcome_account entry.turned.outcome entry.line))) (by_outcome plan entry.turned.outcome entry.line h)
+
+by_log : (plan : BootPlan) (log : List LogEntry) → AllByRecursion (FollowsPlan plan) log → AllHear plan (sum_of log).heard
+by_log plan [] h = tt
+by_log plan (entry ∷ log) h = both_hear plan (entry_account entry).heard (sum_of log).heard (by_entry plan entry h.0) (by_log plan log h.1)
+
+-- ALL
+
+module _ (plan : BootPlan) (logs : List (List LogEntry)) (stations : List Parts) (first last : Parts) (worked : WorkedTogether plan logs first stations last) (c : ClosedTables) (e : ThreadsEnded last c) where
+  pub few_heard : length (flat_map heard_lines stations) ≤ hear_count plan
+  few_heard =
+      let all : List Line = (total_of logs).heard in
+      let planned = all_planned plan logs (planned_all plan logs stations worked.left) in
+      let once : (k : Key) → count_by (is_of k) all ≤ 1 = λ k. let a = heard_few k plan (all_of logs) planned in let b = once_most plan logs stations first last worked c e k.0 k.1 in omega arith in
+      let most = few plan (map key_of all) (by_log plan (all_of logs) planned, distinct all once) in
+      let long = length-map all key_of in let same = ap length (all_heard_by plan logs stations worked.left) in omega arith

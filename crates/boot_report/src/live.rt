@@ -1,0 +1,24 @@
+//! How many threads of a report are live.
+ghost use Rattle.std.specs.Prelude.{◌≡◌};
+ghost use Rattle.boot_laws.specs.Saying.{live_threads, is_live};
+
+use boot_data::{Report, ThreadLine, ThreadState};
+
+// Whether the thread of this line is live.
+fn is_live_line(line: &ThreadLine) -> bool
+    ensures { result ≡ is_live line.now }
+{
+    !matches!(line.state, ThreadState::Ended)
+}
+
+/// How many threads of a report haven't ended.
+pub fn live_of(report: &Report) -> usize
+    ensures { result ≡ live_threads report.now }
+{
+    report
+        .threads
+        .as_slice()
+        .iter()
+        .filter(|line| is_live_line(line))
+        .count()
+}

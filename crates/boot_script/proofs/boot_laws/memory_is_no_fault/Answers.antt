@@ -1,5 +1,0 @@
-use Rattle.boot_script.proofs.BootScripts.Faults.{text_plan_known}
-use Rattle.boot_script.proofs.boot_laws.memory_is_no_fault.Goals as goal
-
-pub returns : goal.returns
-returns c = text_plan_known

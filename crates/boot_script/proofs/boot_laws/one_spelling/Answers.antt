@@ -1,5 +1,0 @@
-use Rattle.boot_script.proofs.BootScripts.Spelled.{boot_line_ok}
-use Rattle.boot_script.proofs.boot_laws.one_spelling.Goals as goal
-
-pub returns : goal.returns
-returns c = boot_line_ok

@@ -1,5 +1,0 @@
-use Rattle.boot_script.proofs.Escaping.Escapes.{some_text}
-use Rattle.boot_script.proofs.boot_laws.text_has_spelling.Goals as goal
-
-pub returns : goal.returns
-returns c = some_text

@@ -1,0 +1,62 @@
+-- Threads that are started together, what they gave back, and what is typed while they run.
+use Rattle.boot_threads.proofs.Common.{List, [], ◌∷◌, Option, Some, None, subst, ◌≡◌, ℕ, zero, suc, ◌+◌, ◌<◌, ◌++◌, take, drop, length, get_or, sym, ◌∙◌, ap, AllZip, WasTold, WasJoined, GaveBack, PlannedTty, LineIn, IsTyped, AreTyped}
+use Rattle.std.specs.declared.thread.PromisedHandle.{PromisedHandle}
+use Rattle.boot_threads.specs.declared.crew.JobPromise.{JobPromise}
+use Rattle.std.proofs.lemmas.List.{take_more}
+
+module _ {S J B : Type 0} (gives : S → J → B → Type 0) (shared : S) where
+  gave_one : (job : J) (handle : Option (PromisedHandle B (JobPromise S J))) (back : Option B) → WasTold shared job handle → WasJoined gives handle back → GaveBack gives shared job back
+  gave_one job None None t j = tt
+  gave_one job None (Some back) t j = absurd j
+  gave_one job (Some handle) None t j = absurd j
+  gave_one job (Some handle) (Some back) t j = subst (λ (z : S). gives z job back) t.0 (subst (λ (z : J). gives handle.promise.shared.value z back) t.1 j)
+
+  -- what was started and then joined gave back what was promised
+  pub gave_all : (jobs : List J) (handles : List (Option (PromisedHandle B (JobPromise S J)))) (backs : List (Option B)) → AllZip (WasTold shared) jobs handles → AllZip (WasJoined gives) handles backs → AllZip (GaveBack gives shared) jobs backs
+  gave_all [] [] [] t j = tt
+  gave_all [] [] (b ∷ backs) t j = absurd j
+  gave_all [] (h ∷ handles) backs t j = absurd t
+  gave_all (x ∷ jobs) [] backs t j = absurd t
+  gave_all (x ∷ jobs) (h ∷ handles) [] t j = absurd j
+  gave_all (x ∷ jobs) (h ∷ handles) (b ∷ backs) t j = (gave_one x h b t.0 j.0, gave_all jobs handles backs t.1 j.1)
+
+pub take_one : {A : Type 0} (xs : List A) (n : ℕ) (x : A) → n < length xs → x ≡ get_or xs n x → take (n + 1) xs ≡ take n xs ++ x ∷ []
+take_one xs n x below is = take_more xs n x below ∙ ap (λ z. take n xs ++ z ∷ []) (sym is)
+
+module _ {H : Type 0} where
+  pub one_more : (ttys : List PlannedTty) (devices : List (Option H)) (lines typed : List LineIn) (tty : PlannedTty) (device : Option H) (a b : LineIn)
+      → AreTyped ttys devices lines typed → IsTyped device tty a b → AreTyped (ttys ++ tty ∷ []) (devices ++ device ∷ []) (lines ++ a ∷ []) (typed ++ b ∷ [])
+  one_more [] [] [] [] tty device a b all one = (one, tt)
+  one_more [] [] [] (m ∷ typed) tty device a b all one = absurd all
+  one_more [] [] (l ∷ lines) typed tty device a b all one = absurd all
+  one_more [] (d ∷ devices) lines typed tty device a b all one = absurd all
+  one_more (t ∷ ttys) [] lines typed tty device a b all one = absurd all
+  one_more (t ∷ ttys) (d ∷ devices) [] typed tty device a b all one = absurd all
+  one_more (t ∷ ttys) (d ∷ devices) (l ∷ lines) [] tty device a b all one = absurd all
+  one_more (t ∷ ttys) (d ∷ devices) (l ∷ lines) (m ∷ typed) tty device a b all one = (all.0, one_more ttys devices lines typed tty device a b all.1 one)
+
+module _ {S J B : Type 0} (gives : S → J → B → Type 0) where
+  -- a device that was started gave something back, and one that was not gave nothing
+  typed_as : (ttys : List PlannedTty) (handles : List (Option (PromisedHandle B (JobPromise S J)))) (backs : List (Option B)) (lines typed : List LineIn)
+      → AllZip (WasJoined gives) handles backs → AreTyped ttys handles lines typed → AreTyped ttys backs lines typed
+  typed_as [] [] [] [] [] z t = tt
+  typed_as [] [] (b ∷ bs) ls ms z t = absurd z
+  typed_as [] [] [] [] (m ∷ ms) z t = absurd t
+  typed_as [] [] [] (l ∷ ls) ms z t = absurd t
+  typed_as [] (h ∷ hs) bs ls ms z t = absurd t
+  typed_as (y ∷ ttys) [] bs ls ms z t = absurd t
+  typed_as (y ∷ ttys) (h ∷ hs) [] ls ms z t = absurd z
+  typed_as (y ∷ ttys) (h ∷ hs) (b ∷ bs) [] ms z t = absurd t
+  typed_as (y ∷ ttys) (h ∷ hs) (b ∷ bs) (l ∷ ls) [] z t = absurd t
+  typed_as (y ∷ ttys) (None ∷ hs) (None ∷ bs) (l ∷ ls) (m ∷ ms) z t = (t.0, typed_as ttys hs bs ls ms z.1 t.1)
+  typed_as (y ∷ ttys) (Some h ∷ hs) (Some b ∷ bs) (l ∷ ls) (m ∷ ms) z t = (t.0, typed_as ttys hs bs ls ms z.1 t.1)
+  typed_as (y ∷ ttys) (None ∷ hs) (Some b ∷ bs) (l ∷ ls) (m ∷ ms) z t = absurd z.0
+  typed_as (y ∷ ttys) (Some h ∷ hs) (None ∷ bs) (l ∷ ls) (m ∷ ms) z t = absurd z.0
+
+  pub typed_past : (n : ℕ) (ttys : List PlannedTty) (handles : List (Option (PromisedHandle B (JobPromise S J)))) (backs : List (Option B)) (lines typed : List LineIn)
+      → AllZip (WasJoined gives) handles backs → AreTyped ttys (drop n handles) lines typed → AreTyped ttys (drop n backs) lines typed
+  typed_past zero ttys hs bs ls ms z t = typed_as ttys hs bs ls ms z t
+  typed_past (suc n) ttys [] [] ls ms z t = typed_as ttys [] [] ls ms z t
+  typed_past (suc n) ttys [] (b ∷ bs) ls ms z t = absurd z
+  typed_past (suc n) ttys (h ∷ hs) [] ls ms z t = absurd z
+  typed_past (suc n) ttys (h ∷ hs) (b ∷ bs) ls ms z t = typed_past n ttys hs bs ls ms z.1 t

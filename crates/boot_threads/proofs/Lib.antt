@@ -1,0 +1,11 @@
+pub mod Common
+pub mod Crews
+pub mod Handling
+pub mod Typeds
+pub mod Allowing
+pub mod Returning
+pub mod Reunion
+pub mod Serving
+pub mod Posting
+pub mod Preparedness
+pub mod Firstness

@@ -1,0 +1,11 @@
+use Rattle.boot_threads.proofs.Common.{rules, AllZip-long, WasTold}
+use Rattle.boot_threads.proofs.Crews.{gave_all}
+use Rattle.boot_threads.proofs.crew.run_all.Goals as goal
+
+pub join_all-requires : goal.join_all-requires
+join_all-requires g c =
+    let long = AllZip-long (WasTold c.args.shared.now) c.args.jobs.items c.scoped-handles.result.items c.scoped-handles.ensures.1 in
+    (c.requires.backs.0, grind rules)
+
+pub returns : goal.returns
+returns g c = gave_all g.J.Job.gives c.args.shared.now c.args.jobs.items c.scoped-handles.result.items c.join_all.result.items c.scoped-handles.ensures.1 c.join_all.ensures

@@ -1,0 +1,5 @@
+use Rattle.boot_threads.proofs.Returning.{device_back}
+use Rattle.boot_threads.proofs.laws.devices_come_back.Goals as goal
+
+pub returns : goal.returns
+returns g c = device_back g.G.Gate.told

@@ -1,0 +1,79 @@
+-- What the threads of a kernel gave back, and what that tells where they began with new objects.
+use Rattle.std.specs.Prelude.{◌≡◌, ◌++◌, ◌+◌, ◌<◌, ℕ, List, [], ◌∷◌, map, length, Option, Some}
+use Rattle.boot_data.specs.declared.plan.PlannedTty.{PlannedTty}
+use Rattle.boot_data.specs.QueueLists.{raw_queue}
+use Rattle.turn_io.specs.declared.gate.Point.{Point}
+use Rattle.turn_io.specs.EndLists.{end_share, chain_end_share}
+use Rattle.turn_dispatch.specs.Holdings.{IsFree}
+use Rattle.boot_objects.specs.declared.device.Device.{Device}
+use Rattle.boot_objects.specs.DeviceEndings as ended
+use Rattle.boot_objects.specs.DeviceEndings.{DeviceEnded}
+use Rattle.processor.specs.declared.shared.Shared.{Shared}
+use Rattle.processor.specs.declared.station.Parts.{Parts}
+use Rattle.processor.specs.Accounts.{Account, nothing, ◌⊕◌, account, unheard, shares}
+use Rattle.processor.specs.Logs.{IsFresh, HasTurned}
+use Rattle.processor.specs.RawEnds.{IsRawAt}
+use Rattle.quajects.specs.declared.raw.RawTty.{RawTty}
+use Rattle.quajects.specs.Raws.{end_of, overruns_of}
+use Rattle.spsc_line.specs.declared.line_in.LineIn.{LineIn}
+use Rattle.spsc_line.specs.declared.line_out.LineOut.{LineOut}
+use Rattle.spsc_line.specs.Lines.{bytes_sent, bytes_received, bytes_left, IsLine}
+use Rattle.thread_table.specs.Handles as threads
+use Rattle.boot_threads.specs.declared.work.Processed.{Processed}
+use Rattle.boot_threads.specs.declared.work.Worked.{Worked}
+use Rattle.boot_threads.specs.declared.work.Worked.TheVariants as worked
+use Rattle.boot_threads.specs.Works.{HasServed}
+
+-- what a device popped, and how many bytes it was refused
+abbrev pub device_of : LineOut → RawTty → ended.Device
+device_of line tty = record { popped = bytes_received line; refused = overruns_of tty }
+
+-- The device of this tty served it: its ends are still those of its queue and its chain, with the shares that they had.
+-- The end into which was typed and the end from which it popped are of one line; and where what was received and what
+-- is left are what was sent, it ended as a report asks
+pub record IsDeviceBack (shared : Shared) (t : ℕ) (p : PlannedTty) (device : Device) (input : LineIn) (line : LineOut)
+    (tty : RawTty) : Type 0 where
+  pub served : HasServed shared device.chain (length p.typed) device.output device.tty line tty
+  pub raw_at : IsRawAt shared (raw_queue (length shared.plan.queues) t) (length shared.plan.movers + t) tty
+  pub shares : (end_share (end_of tty) ≡ end_share (end_of device.tty))
+      × (chain_end_share tty.chain ≡ chain_end_share device.tty.chain)
+  pub pair : IsLine input line
+  pub all : bytes_received line ++ bytes_left input line ≡ bytes_sent input
+      → DeviceEnded p (end_of tty) (device_of line tty)
+
+-- what these stations did together, but for what they heard
+abbrev pub all_done : List Parts → Account
+all_done [] = nothing
+all_done (parts ∷ stations) = unheard (account parts) ⊕ all_done stations
+
+module _ {G : Type 0} where
+  -- what a processor gave back
+  abbrev pub back_of : Processed G → Option (Worked G)
+  back_of one = Some (worked.Processed one)
+
+  -- the parts of its station
+  abbrev pub parts_of : Processed G → Parts
+  parts_of one = one.station.parts
+
+  -- its gate
+  abbrev pub gate_of : Processed G → G
+  gate_of one = one.gate
+
+  -- each processor, from this one on, had so many turns on a station that had done nothing, of which its gate was told;
+  -- so the gate, and the station, became those that it gave back
+  abbrev pub AllTurned : (G → ℕ → Point → G → Type 0) → Shared → ℕ → ℕ → List G → List (Processed G) → Type 0
+  AllTurned T shared p turns [] [] = Unit {0}
+  AllTurned T shared p turns (gate ∷ gates) (one ∷ came) =
+      ((old : Parts) × IsFresh old × HasTurned T shared p turns gate one.gate old one.station.parts)
+      × AllTurned T shared (p + 1) turns gates came
+  AllTurned T shared p turns gates came = ⊥
+
+  -- Each processor left on its station what its log says. Once all are joined to what the first station had kept, that
+  -- has the shares again that it had before it gave parts away, and has done what it had and what they did; it serves
+  -- each processor, on which nothing stands
+  pub record CameTogether (T : G → ℕ → Point → G → Type 0) (shared : Shared) (turns : ℕ) (gates : List G)
+      (old last : Parts) (came : List (Processed G)) : Type 0 where
+    pub turned : AllTurned T shared 0 turns gates came
+    pub shares_are : shares last ≡ shares old
+    pub did : account last ≡ account old ⊕ all_done (map parts_of came)
+    pub free : (p : ℕ) → p < 8 → IsFree p (threads.view_of last.hand)

@@ -1,0 +1,58 @@
+-- What the threads of a kernel may do, and what they give back.
+use Rattle.std.specs.Prelude.{◌≡◌, ℕ, Some, false}
+use Rattle.std.specs.List.{slice_get}
+use Rattle.turn_io.specs.declared.gate.Point.{Point}
+use Rattle.proc_chain.specs.declared.ends.ProcChain.{ProcChain}
+use Rattle.proc_chain.specs.Handles.{turn_of, IsEndOf}
+use Rattle.processor.specs.declared.shared.Shared.{Shared}
+use Rattle.processor.specs.declared.station.Parts.{Parts}
+use Rattle.processor.specs.Logs.{HasTurned}
+use Rattle.processor.specs.Manning.{IsManned, StaysManned}
+use Rattle.quajects.specs.declared.any.AnyQuaject.{AnyQuaject}
+use Rattle.quajects.specs.declared.raw.RawTty.{RawTty}
+use Rattle.quajects.specs.declared.world.Queues.{Queues}
+use Rattle.quajects.specs.Ports.{IsEndAt}
+use Rattle.quajects.specs.Raws.{end_of}
+use Rattle.spsc_line.specs.declared.line_out.LineOut.{LineOut}
+use Rattle.spsc_line.specs.Lines.{SameOut}
+use Rattle.boot_threads.specs.declared.work.Work.{Work}
+use Rattle.boot_threads.specs.declared.work.Work.TheVariants as works
+use Rattle.boot_threads.specs.declared.work.Worked.{Worked}
+use Rattle.boot_threads.specs.declared.work.Worked.TheVariants as worked
+use Rattle.boot_threads.specs.Devices.{Served}
+
+-- A processor had so many turns, of which its gate was told and so became the other one; they left on its station what
+-- their log says. It can use the station still
+abbrev pub HasRun : {G : Type 0} → (G → ℕ → Point → G → Type 0) → Shared → ℕ → ℕ → G → G → Parts → Parts → Type 0
+HasRun T shared p turns gate gate' old new =
+    StaysManned shared p old new × HasTurned T shared p turns gate gate' old new
+
+-- a raw tty of these objects, whose chain has this index
+pub record IsServable (shared : Shared) (chain : ℕ) (tty : RawTty) : Type 0 where
+  pub its : ProcChain AnyQuaject Queues
+  pub is : slice_get shared.chains.items chain ≡ Some its
+  pub raw : IsEndAt shared.queues.small.items tty.index (end_of tty)
+  pub chain_end : IsEndOf its tty.chain
+
+-- a device popped so many bytes, and the raw tty was interrupted with each
+pub record HasServed (shared : Shared) (chain count : ℕ) (line : LineOut) (tty : RawTty) (line' : LineOut)
+    (tty' : RawTty) : Type 0 where
+  pub its : ProcChain AnyQuaject Queues
+  pub is : slice_get shared.chains.items chain ≡ Some its
+  pub same : SameOut line line'
+  pub index : tty'.index ≡ tty.index
+  pub raw : IsEndAt shared.queues.small.items tty'.index (end_of tty')
+  pub chain_end : IsEndOf its tty'.chain
+  pub idle : turn_of tty'.chain ≡ false
+  pub served : Served its count line tty line' tty'
+
+abbrev pub MayWork : {G : Type 0} → Shared → Work G → Type 0
+MayWork shared (works.Process station p turns gate) = IsManned shared p station.parts
+MayWork shared (works.Serve chain line tty count) = IsServable shared chain tty
+
+abbrev pub HasWorked : {G : Type 0} → (G → ℕ → Point → G → Type 0) → Shared → Work G → Worked G → Type 0
+HasWorked T shared (works.Process station p turns gate) (worked.Processed back) =
+    HasRun T shared p turns gate back.gate station.parts back.station.parts
+HasWorked T shared (works.Serve chain line tty count) (worked.Served line' tty') =
+    HasServed shared chain count line tty line' tty'
+HasWorked T shared work back = ⊥

@@ -1,0 +1,28 @@
+//! The threads of a kernel: one for each processor and each device. What is done before they start stands here too,
+//! and that each tty's bytes are typed into its line while they run.
+#![tactic(auto)]
+
+mod alarms;
+mod crew;
+mod device;
+mod elements;
+mod laws;
+mod setting_up;
+mod stationing;
+mod threads;
+mod typing;
+mod work;
+
+pub use alarms::set_alarms;
+pub use crew::{Job, JobPromise, Started, join_all, run_all, start_all};
+pub use device::serve_device;
+pub use elements::prepare;
+pub use laws::{
+    all_is_served, devices_come_back, first_is_prepared, first_is_ready, stations_come_together,
+    works_may_run,
+};
+pub use setting_up::{add_devices, prepare_station};
+pub use stationing::post_all;
+pub use threads::run_kernel;
+pub use typing::{type_all, type_bytes};
+pub use work::{Processed, Work, Worked};

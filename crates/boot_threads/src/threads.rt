@@ -1,0 +1,90 @@
+//! The threads of a kernel, from their start to their end.
+ghost use Rattle.std.specs.Prelude.{◌≡◌, ◌+◌, ◌≤◌, [], All, drop, length, vec_len, vec_capacity};
+ghost use Rattle.std.specs.List.{AllZip};
+ghost use Rattle.boot_threads.specs.Crews.{WasTold, GaveBack};
+ghost use Rattle.boot_threads.specs.Typings.{AreTyped};
+ghost use Rattle.boot_threads.specs.Works.{MayWork, HasWorked};
+
+use crate::crew::{Started, join_all, start_all};
+use crate::typing::type_all;
+use crate::work::{Work, Worked};
+use processor::Shared;
+use spsc_line::LineIn;
+use std::sync::Wait;
+use std::thread;
+use std::thread::{Scope, Threads};
+use turn_io::Gate;
+
+type Handles<G> = Vec<Started<Shared, Worked<G>, Work<G>>>;
+
+// Starts all, and then types into the lines.
+fn start_and_type<'s, E, R, G>(
+    rt: &'s R,
+    scope: &'s Scope<'s, E>,
+    shared: &'s Shared,
+    works: Vec<Work<G>>,
+    processors: usize,
+    handles: Handles<G>,
+    lines: Vec<LineIn>,
+    typed: Vec<LineIn>,
+) -> (Handles<G>, Vec<LineIn>)
+where
+    R: Threads + Wait + Sync,
+    G: Gate + Send + Drop + 's,
+    requires may { All (MayWork shared.now) works.items }
+    requires number { vec_len works ≡ processors + length shared.now.plan.ttys }
+    requires lines { vec_len lines ≡ length shared.now.plan.ttys }
+    requires handles { (handles.items ≡ []) × (vec_len works ≤ vec_capacity handles) }
+    requires room { (typed.items ≡ []) × (vec_len lines ≤ vec_capacity typed) }
+    ensures told { AllZip (WasTold shared.now) works.items result.0.items }
+    ensures typed { AreTyped shared.now.plan.ttys (drop processors result.0.items) lines.items result.1.items }
+{
+    let handles = start_all(rt, scope, shared, works, handles);
+    let (_, devices) = handles.as_slice().split_at(processors);
+    let typed = type_all(rt, shared.plan.ttys.as_slice(), devices, lines, typed);
+    (handles, typed)
+}
+
+/// Starts a thread for each work, types each tty's bytes into its line while they run, and joins all: what each gave
+/// back, in the order of the works, and the lines. Where a thread can't be started there is None, the others go on, and
+/// nothing is typed for a device that isn't there. It takes no memory: all lists have room.
+///
+/// Conditions: the works are those of so many processors, and then those of the devices, one for each tty in the order
+/// of the plan, whose lines' other ends these are; each work may be done.
+pub fn run_kernel<R, G>(
+    rt: &R,
+    shared: &Shared,
+    works: Vec<Work<G>>,
+    processors: usize,
+    handles: Handles<G>,
+    backs: Vec<Option<Worked<G>>>,
+    lines: Vec<LineIn>,
+    typed: Vec<LineIn>,
+) -> (Vec<Option<Worked<G>>>, Vec<LineIn>)
+where
+    R: Threads + Wait + Sync,
+    G: Gate + Send + Drop,
+    requires may { All (MayWork shared.now) works.items }
+    requires number { vec_len works ≡ processors + length shared.now.plan.ttys }
+    requires lines { vec_len lines ≡ length shared.now.plan.ttys }
+    requires handles { (handles.items ≡ []) × (vec_len works ≤ vec_capacity handles) }
+    requires backs { (backs.items ≡ []) × (vec_len works ≤ vec_capacity backs) }
+    requires room { (typed.items ≡ []) × (vec_len lines ≤ vec_capacity typed) }
+    ensures worked { AllZip (GaveBack (HasWorked G.told) shared.now) works.items result.0.items }
+    ensures typed { AreTyped shared.now.plan.ttys (drop processors result.0.items) lines.items result.1.items }
+{
+    let (handles, typed) = thread::scope(
+        thread::scope_env(),
+        rt,
+        move |scope| -> (Handles<G>, Vec<LineIn>)
+            requires { (handles.items ≡ []) × (vec_len works ≤ vec_capacity handles)
+                × All (MayWork shared.now) works.items
+                × (vec_len works ≡ processors + length shared.now.plan.ttys)
+                × (vec_len lines ≡ length shared.now.plan.ttys)
+                × (typed.items ≡ []) × (vec_len lines ≤ vec_capacity typed) }
+            ensures { AllZip (WasTold shared.entry.now) works.items result.0.items
+                × AreTyped shared.entry.now.plan.ttys (drop processors result.0.items) lines.items result.1.items }
+        { start_and_type(rt, scope, shared, works, processors, handles, lines, typed) },
+    );
+    (join_all(rt, handles, backs), typed)
+}

@@ -1,0 +1,82 @@
+//! What the threads of a kernel do: each processor has its turns, and each device serves its tty.
+ghost use Rattle.std.specs.Prelude.{◌≡◌, ◌<◌, length};
+ghost use Rattle.boot_threads.specs.Works.{MayWork, HasWorked};
+
+use crate::crew::Job;
+use crate::device::serve_device;
+use event_theory::Processor;
+use processor::{Shared, Station, run};
+use quajects::RawTty;
+use spsc_line::LineOut;
+use std::sync::Wait;
+use turn_io::Gate;
+
+/// What a thread of the kernel does.
+#[derive(Drop)]
+pub enum Work<G> {
+    /// A processor has so many turns.
+    Process {
+        station: Station,
+        p: Processor,
+        turns: u32,
+        gate: G,
+    },
+    /// A device serves a tty, whose chain has this index, until it has had so many bytes.
+    Serve {
+        chain: usize,
+        line: LineOut,
+        tty: RawTty,
+        count: usize,
+    },
+}
+
+/// What a processor gives back: its station, and its gate with all that it was told.
+#[derive(Drop)]
+pub struct Processed<G> {
+    pub station: Station,
+    pub gate: G,
+}
+
+/// What a thread of the kernel gives back.
+#[derive(Drop)]
+pub enum Worked<G> {
+    Processed(Processed<G>),
+    Served { line: LineOut, tty: RawTty },
+}
+
+impl<G: Gate + Drop> Job<Shared, Worked<G>> for Work<G> {
+    ghost may_run = { MayWork };
+
+    ghost gives = { HasWorked G.told };
+
+    fn run<R: Wait>(self, rt: &R, shared: &Shared) -> Worked<G> {
+        match self {
+            Work::Process {
+                station,
+                p,
+                turns,
+                gate,
+            } => {
+                let mut gate = gate;
+                let station = run(rt, shared, station, p, turns, &mut gate);
+                Worked::Processed(Processed { station, gate })
+            }
+            Work::Serve {
+                chain,
+                line,
+                tty,
+                count,
+            } => {
+                let (line, tty) = serve_device(
+                    rt,
+                    &shared.queues,
+                    &shared.chains[chain],
+                    line,
+                    tty,
+                    count,
+                );
+                Worked::Served { line, tty }
+            }
+        }
+    }
+}

@@ -1,5 +1,0 @@
-use Rattle.closing.proofs.ClosedFacts.{is_closed}
-use Rattle.closing.proofs.queues.close_queue.Goals as goal
-
-pub returns : goal.returns
-returns g c = let h = c.in-Ok.ensures.closed in is_closed c.args.queue c.args.end c.in-Ok.closed h.0 h.1

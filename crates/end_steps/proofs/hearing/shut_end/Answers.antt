@@ -1,5 +1,0 @@
-use Rattle.end_steps.proofs.Shares.{shut_worked}
-use Rattle.end_steps.proofs.hearing.shut_end.Goals as goal
-
-pub returns-clause-worked : goal.returns-clause-worked
-returns-clause-worked g c = shut_worked c.args.end.now c.shut.new.end _ c.shut.ensures.steps

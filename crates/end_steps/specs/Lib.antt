@@ -1,6 +1,0 @@
-pub mod EndLists
-pub mod Deeds
-pub mod Sums
-pub mod Accounts
-pub mod Splits
-pub mod Gates

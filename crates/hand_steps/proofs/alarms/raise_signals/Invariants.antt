@@ -1,8 +1,0 @@
-use Rattle.std.proofs.Common.{take}
-use Rattle.thread_table.specs.Handles.{view_of, call_of, IsSameHand}
-use Rattle.hand_steps.specs.Tendings.{RaisedAll}
-use Rattle.hand_steps.proofs.alarms.raise_signals.Given as goal
-
-abbrev pub invariant-loop-alarm : goal.invariant-loop-alarm
-invariant-loop-alarm l = IsSameHand l.fn.hand l.hand
-    × RaisedAll (call_of l.fn.hand) (take l.alarm-index l.alarms) (view_of l.fn.hand) (view_of l.hand)

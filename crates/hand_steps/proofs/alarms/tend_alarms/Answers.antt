@@ -1,9 +1,0 @@
-use Rattle.std.proofs.Common.{rules}
-use Rattle.thread_table.specs.Handles.{view_of, call_of}
-use Rattle.hand_steps.specs.Tendings.{RaisedAll}
-use Rattle.hand_steps.proofs.Raised.{raised_only}
-use Rattle.hand_steps.proofs.alarms.tend_alarms.Goals as goal
-
-pub returns-clause-only : goal.returns-clause-only
-returns-clause-only c = let h = c.args.hand.now in let n = c.raise_signals.new.hand in
-    let all : RaisedAll (call_of h) c.due-fired.result.items (view_of h) (view_of n) = search rules in raised_only (call_of h) c.due-fired.result.items (view_of h) (view_of n) h.fresh h.told n.told all

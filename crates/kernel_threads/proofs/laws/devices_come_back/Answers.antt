@@ -1,5 +1,0 @@
-use Rattle.kernel_threads.proofs.Returning.{device_back}
-use Rattle.kernel_threads.proofs.laws.devices_come_back.Goals as goal
-
-pub returns : goal.returns
-returns g c = device_back g.G.Gate.told

@@ -1,0 +1,181 @@
+-- What the try of a step comes to: how it is counted, what its ends did, and what they know.
+use Rattle.processor.proofs.Common.{◌≡◌, ◌+◌, ◌==◌, ◌<◌, ⊎_elim, ℕ, zero, suc, Bool, true, false, cond, List, [], ◌∷◌, ◌++◌, map, length, get_or, set, Some, Result, Ok, Err, refl, sym, ap, subst, ◌∙◌, arith, if◌then◌else◌, eqb-true, eqb_tells, append-nil, QueueIndex, Small, Large, Step, QueueEnd, by_index, OnEnd, knows_shut_at, Counted, CountAnswer, IsNumber, counted_step, Tally, Adds, behind, view_of, View, done_at, Deed, SentOn, Shared, Parts, shown_in, NeverFalls, IsDeedOf, is_done, line_in, heard_by, raised_by, told_shut, FollowsStep, trying, Climbs, EndsWorked, Went, numbers_of, Key, program, step_of, Stepped, Goes, is_last}
+use Rattle.std.proofs.Common.{slice_get}
+use Rattle.std.proofs.Math.Bool.{Bool-set}
+use Rattle.std.proofs.lemmas.Bool.{leb-true, and_parts as split}
+use Rattle.boot_data.specs.declared.plan.Step.TheVariants as steps
+use Rattle.claim_queue.proofs.Certain.{by_both}
+use Rattle.claim_queue.proofs.Saying.{closed_says, done_says}
+use Rattle.claim_queue.specs.declared.claim.ClaimRefusal.TheVariants as claims
+use Rattle.claim_queue.specs.declared.take.TakeRefusal.{TakeRefusal}
+use Rattle.claim_queue.specs.declared.take.TakeRefusal.TheVariants as takes
+use Rattle.claim_queue.specs.Handles as queues
+use Rattle.claim_queue.specs.Takings.{IsBegun, IsLine}
+use Rattle.turn_io.specs.Accounts.{room_of}
+use Rattle.turn_io.specs.Deeds.{Said, Heard}
+use Rattle.turn_io.specs.EndLists.{end_knows_shut}
+use Rattle.turn_dispatch.specs.declared.counting.Counted.TheVariants as counted
+use Rattle.processor.specs.declared.deed.Deed.TheVariants as deeds
+use Rattle.processor.specs.declared.sending.Moved.{Moved}
+use Rattle.processor.specs.declared.sending.Moved.TheVariants as moveds
+use Rattle.processor.specs.declared.tries.HearAnswer.TheVariants as hears
+use Rattle.processor.specs.declared.tries.SayAnswer.TheVariants as says
+use Rattle.processor.specs.Deeds.{IsLineIf}
+use Rattle.processor.specs.Entries.{IsOver, count_of, gone}
+use Rattle.processor.specs.Queues.{HeardAt}
+use Rattle.processor.specs.Steps.{QueuesDid}
+use Rattle.processor.specs.Turns.{heard_lines}
+use Rattle.processor.proofs.Acting.{adds_on}
+use Rattle.processor.proofs.Logging.{known_done}
+use Rattle.processor.proofs.Rising.{rises_on}
+use Rattle.processor.proofs.Summing.{none_shows}
+
+-- what was heard is one line, or none
+pub line_heard_at : (queue : QueueIndex) (line : List ℕ) (answer : Result (Unit {0}) TakeRefusal) (old new : List (QueueEnd 64)) (old' new' : List (QueueEnd 256))
+    → HeardAt queue line answer old new old' new' → IsLineIf answer (room_of queue) line
+line_heard_at (Small k) line (Ok done) old new old' new' h = h.0.does.0
+line_heard_at (Small k) line (Err refusal) old new old' new' h = h.0.does.0
+line_heard_at (Large k) line (Ok done) old new old' new' h = h.0.does.0
+line_heard_at (Large k) line (Err refusal) old new old' new' h = h.0.does.0
+
+-- what is kept of a line that was heard
+pub heard_line : (step : Step) (deed : Deed) (e n : ℕ) (text : List ℕ) → IsDeedOf step deed (line_in step text) → heard_by deed e n text ≡ heard_by deed e n (line_in step text)
+heard_line (steps.Say queue said) (deeds.Hear at answer) e n text d = absurd d
+heard_line step deed e n text d = refl
+
+-- a say that was told so found its queue shut
+found_so : {n : ℕ} (line : List ℕ) (old new : QueueEnd n) → Said {A = Unit {0}} line (Err claims.Closed) old new → end_knows_shut new ≡ true
+found_so {n} line old new s = by_both old new (Bool-set _ _) (λ x y. closed_says (queues.view_of old) (queues.view_of new) x y n _ s)
+
+-- and so did a hear
+heard_so : {n : ℕ} (line : List ℕ) (old new : QueueEnd n) → Heard {A = Unit {0}} line (Err takes.Closed) old new → end_knows_shut new ≡ true
+heard_so {n} line old new h = by_both old new (Bool-set _ _) (λ x y. (done_says (queues.view_of old) (queues.view_of new) x y (IsBegun n) (IsLine n) n h.1).0)
+
+set_there : {E : Type 0} (f : E → Bool) (xs : List E) (k : ℕ) (end after : E) → slice_get xs k ≡ Some end → f after ≡ true → get_or (map f (set xs k after)) k false ≡ true
+set_there f [] k end after at h = absurd (cc)
+set_there f (x ∷ xs) zero end after at h = h
+set_there f (x ∷ xs) (suc k) end after at h = set_there f xs k end after at h
+
+if_true : (b : Bool) → (if b then true else false) ≡ true → b ≡ true
+if_true true h = refl
+if_true false h = cc
+
+on_so : {n : ℕ} (R : QueueEnd n → QueueEnd n → Type 0) (k : ℕ) (old new : List (QueueEnd n)) → ((a b : QueueEnd n) → R a b → end_knows_shut b ≡ true) → OnEnd k R old new
+    → (q : ℕ) → (if q == k then true else false) ≡ true → knows_shut_at new q ≡ true
+on_so R k old new so o q at = let e = eqb-true q k (if_true (q == k) at) in
+    subst (λ (z : ℕ). knows_shut_at new z ≡ true) (sym e) (ap (λ z. knows_shut_at z k) o.now ∙ set_there end_knows_shut old k o.end o.after o.was (so o.end o.after o.does))
+
+-- of a queue of which a step was told that it is shut, its end knows it
+told_so : (deed : Deed) (line : List ℕ) (old new : List (QueueEnd 64)) (old' new' : List (QueueEnd 256)) → QueuesDid deed line old new old' new'
+    → (queue : QueueIndex) → told_shut deed queue ≡ true → by_index (knows_shut_at new) (knows_shut_at new') queue ≡ true
+told_so (deeds.Say (Small k) says.Over) line old new old' new' d (Small q) at = on_so (Said {A = Unit {0}} line (Err claims.Closed)) k old new (found_so line) d.1.0 q at
+told_so (deeds.Say (Small k) says.Over) line old new old' new' d (Large q) at = cc
+told_so (deeds.Say (Large k) says.Over) line old new old' new' d (Small q) at = cc
+told_so (deeds.Say (Large k) says.Over) line old new old' new' d (Large q) at = on_so (Said {A = Unit {0}} line (Err claims.Closed)) k old' new' (found_so line) d.1.0 q at
+told_so (deeds.Hear (Small k) (hears.Over paid)) line old new old' new' d (Small q) at = on_so (Heard {A = Unit {0}} line (Err takes.Closed)) k old new (heard_so line) d.1.0 q at
+told_so (deeds.Hear (Small k) (hears.Over paid)) line old new old' new' d (Large q) at = cc
+told_so (deeds.Hear (Large k) (hears.Over paid)) line old new old' new' d (Small q) at = cc
+told_so (deeds.Hear (Large k) (hears.Over paid)) line old new old' new' d (Large q) at = on_so (Heard {A = Unit {0}} line (Err takes.Closed)) k old' new' (heard_so line) d.1.0 q at
+told_so deed line old new old' new' d queue at = cc
+
+-- a step is counted by its number where it is done
+counted_so : (call element : ℕ) (done : Bool) (number : ℕ) (answer : Counted) (did after v w : View) → CountAnswer call element done did answer after → IsNumber answer element v w
+    → number ≡ done_at v.seen.object element → number < 64 → answer ≡ count_of done number
+counted_so call element true number (counted.Done m) did after v w a is now low = ap counted.Done (is.0 ∙ ap (λ z. z + 1) (sym now))
+counted_so call element true number counted.Spent did after v w a is now low = absurd (let p = is.0 in omega arith)
+counted_so call element true number counted.Undone did after v w a is now low = absurd a
+counted_so call element false number counted.Undone did after v w a is now low = refl
+counted_so call element false number (counted.Done m) did after v w a is now low = absurd a
+counted_so call element false number counted.Spent did after v w a is now low = absurd a
+
+-- its number is between
+count_climbs : (answer : Counted) (element number t : ℕ) (u v w : View) → NeverFalls u w → NeverFalls v w → number ≡ done_at u.seen.object element → IsNumber answer element u v
+    → Climbs (numbers_of t (counted_step answer element number).done) (done_at u.seen.object t) (done_at w.seen.object t)
+count_climbs counted.Undone element number t u v w up on now is = up t
+count_climbs counted.Spent element number t u v w up on now is = up t
+count_climbs (counted.Done m) element number t u v w up on now is = ⊎_elim
+    (λ same. subst (λ z. Climbs z (done_at u.seen.object t) (done_at w.seen.object t)) (sym (ap (λ (b : Bool). map (λ (key : Key). key.1) (cond b ((element, number) ∷ []) [])) same.0))
+    (let a = ap (done_at u.seen.object) same.1 in let b = ap (done_at w.seen.object) same.1 in let m = is.0 in let n = is.1 in let o = on element in (omega arith, omega arith)))
+    (λ other. subst (λ z. Climbs z (done_at u.seen.object t) (done_at w.seen.object t)) (sym (ap (λ (b : Bool). map (λ (key : Key). key.1) (cond b ((element, number) ∷ []) [])) other.0)) (up t))
+    (eqb_tells t element)
+
+raises_done : (deed : Deed) → (raised_by deed).done ≡ []
+raises_done (deeds.Signal thread signal answer) = refl
+raises_done deed = refl
+
+gone_done : (moved : Moved) (e n : ℕ) → (gone moved e n).done ≡ []
+gone_done (moveds.Freed true) e n = refl
+gone_done (moveds.Freed false) e n = refl
+gone_done moved e n = refl
+
+-- behind the last step no step is left
+over_so : (call : ℕ) (deed : Deed) (done : Bool) (steps e n : ℕ) (moved : Moved) (v w : View) → Goes call deed (is_last done n steps) e moved v w → IsOver moved (n + 1) steps
+over_so call deed done steps e n (moveds.Freed moved) v w g = leb-true steps (n + 1) (split done _ g.2).1
+over_so call deed done steps e n moved v w g = tt
+
+-- an element that goes to the free ones did one step more
+gone_so : (call call' : ℕ) (deed : Deed) (done : Bool) (steps e n : ℕ) (moved : Moved) (answer : Counted) (did after u v w : View) → Goes call deed (is_last done n steps) e moved v w
+    → CountAnswer call' e done did answer after → IsNumber answer e u v → n ≡ done_at u.seen.object e → n < 64 → gone moved e (done_at v.seen.object e) ≡ gone moved e (n + 1)
+gone_so call call' deed done steps e n (moveds.Freed moved) answer did after u v w g c is now low = ap (gone (moveds.Freed moved) e) (one_more done answer (split done _ g.2).0 c is)
+  where
+    one_more : (done : Bool) (answer : Counted) → done ≡ true → CountAnswer call' e done did answer after → IsNumber answer e u v → done_at v.seen.object e ≡ n + 1
+    one_more true (counted.Done m) d c is = is.1 ∙ (is.0 ∙ ap (λ z. z + 1) (sym now))
+    one_more true counted.Spent d c is = absurd (let p = is.0 in omega arith)
+    one_more true counted.Undone d c is = absurd c
+    one_more false answer d c is = absurd cc
+gone_so call call' deed done steps e n moved answer did after u v w g c is now low = refl
+
+module _ (shared : Shared) (call call' p e n : ℕ) (step : Step) (sent : SentOn) (line : List ℕ) (old mid new : Parts)
+    (is : step_of shared.plan e n ≡ Some step) (deed : IsDeedOf step sent.tried.deed line)
+    (ran : Stepped call shared.plan p e sent.tried.deed sent.tried.counted (view_of old.hand) (view_of mid.hand))
+    (number : IsNumber sent.tried.counted e (view_of old.hand) (view_of mid.hand)) (now : n ≡ done_at (view_of old.hand).seen.object e) (low : n < 64)
+    (goes : Goes call' sent.tried.deed (is_last (is_done sent.tried.deed) n (length (program shared.plan e))) e sent.moved (view_of mid.hand) (view_of new.hand)) where
+  follows : FollowsStep shared.plan e n sent line
+  follows = record {
+    step = step;
+    is = is;
+    deed = deed;
+    counts = counted_so call e (is_done sent.tried.deed) n sent.tried.counted ran.did ran.after (view_of old.hand) (view_of mid.hand) ran.counts number now low;
+    over = over_so call' sent.tried.deed (is_done sent.tried.deed) (length (program shared.plan e)) e n sent.moved (view_of mid.hand) (view_of new.hand) goes;
+  }
+
+  -- a step that was tried on a processor, and behind which its element moved on
+  pub tried_went : NeverFalls (view_of old.hand) (view_of mid.hand) → NeverFalls (view_of mid.hand) (view_of new.hand)
+      → Adds (behind (raised_by sent.tried.deed) (counted_step sent.tried.counted e (done_at (view_of old.hand).seen.object e))) (view_of old.hand) (view_of mid.hand)
+      → Adds (gone sent.moved e (done_at (view_of mid.hand).seen.object e)) (view_of mid.hand) (view_of new.hand)
+      → QueuesDid sent.tried.deed line old.small.items new.small.items old.large.items new.large.items → EndsWorked sent.tried.deed line old new
+      → heard_lines new ≡ heard_lines old ++ heard_by sent.tried.deed e n line → new.signals ≡ old.signals
+      → Went (FollowsStep shared.plan e n sent line) (trying e n sent line) (told_shut sent.tried.deed) old new
+  tried_went up on adds more queues worked lines signals = record {
+    planned = follows;
+    done = record {
+      did = λ i. record {
+        queues = worked.queues i;
+        chains = worked.chains i;
+        hand = all i;
+        meters = worked.ticks i;
+        heard = lines i;
+        shown = (ap shown_in signals ∙ none_shows (shown_in old.signals)) i;
+      };
+      order = λ t. subst (λ z. Climbs (numbers_of t z) (known_done old t) (known_done new t)) (sym one)
+          (count_climbs sent.tried.counted e n t (view_of old.hand) (view_of mid.hand) (view_of new.hand) (rises_on (view_of old.hand) (view_of mid.hand) (view_of new.hand) up on) on now number);
+      small = worked.small;
+      large = worked.large;
+    };
+    told = told_so sent.tried.deed line old.small.items new.small.items old.large.items new.large.items queues;
+  }
+    where
+      counts : Tally
+      counts = counted_step sent.tried.counted e n
+
+      adds_here : Adds (behind (raised_by sent.tried.deed) counts) (view_of old.hand) (view_of mid.hand)
+      adds_here = subst (λ z. Adds (behind (raised_by sent.tried.deed) (counted_step sent.tried.counted e z)) (view_of old.hand) (view_of mid.hand)) (sym now) adds
+
+      more_here : Adds (gone sent.moved e (n + 1)) (view_of mid.hand) (view_of new.hand)
+      more_here = subst (λ z. Adds z (view_of mid.hand) (view_of new.hand)) (gone_so call' call sent.tried.deed (is_done sent.tried.deed) (length (program shared.plan e)) e n sent.moved sent.tried.counted ran.did ran.after (view_of old.hand) (view_of mid.hand) (view_of new.hand) goes ran.counts number now low) more
+
+      all : Adds (trying e n sent line).hand (view_of old.hand) (view_of new.hand)
+      all = adds_on (behind (raised_by sent.tried.deed) counts) (gone sent.moved e (n + 1)) (view_of old.hand) (view_of mid.hand) (view_of new.hand) adds_here more_here
+
+      one : (trying e n sent line).hand.done ≡ counts.done
+      one = ap (λ z. (z ++ counts.done) ++ (gone sent.moved e (n + 1)).done) (raises_done sent.tried.deed) ∙ (ap (λ z. counts.done ++ z) (gone_done sent.moved e (n + 1)) ∙ append-nil counts.done)

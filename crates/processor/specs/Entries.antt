@@ -1,0 +1,123 @@
+-- A turn of a processor, as its log has it: what came of it, and what that comes to.
+use Rattle.std.specs.Prelude.{◌≡◌, ◌≤◌, ◌+◌, ◌&&◌, ℕ, Bool, true, false, nat_lt, List, [], length, Option, Some, None}
+use Rattle.boot_data.specs.declared.boot_plan.BootPlan.{BootPlan}
+use Rattle.boot_data.specs.declared.plan.QueueIndex.{QueueIndex}
+use Rattle.boot_data.specs.declared.plan.Step.{Step}
+use Rattle.turn_dispatch.specs.declared.alarms.Tended.{Tended}
+use Rattle.turn_dispatch.specs.declared.counting.Counted.{Counted}
+use Rattle.turn_dispatch.specs.declared.counting.Counted.TheVariants as counted
+use Rattle.turn_dispatch.specs.declared.dispatch.Begun.{Begun}
+use Rattle.turn_dispatch.specs.Countings.{counted_step}
+use Rattle.turn_dispatch.specs.Dispatches.{mask_of}
+use Rattle.turn_dispatch.specs.Sendings.{retired}
+use Rattle.turn_dispatch.specs.Tallies.{Tally, behind, no_events, one_delivery, delivery, signals_for, is_delivered}
+use Rattle.turn_dispatch.specs.Tendings.{tick_to}
+use Rattle.meters.specs.Own.{nothing_did}
+use Rattle.processor.specs.declared.outcome.Had.{Had}
+use Rattle.processor.specs.declared.outcome.Had.TheVariants as hads
+use Rattle.processor.specs.declared.outcome.Outcome.{Outcome}
+use Rattle.processor.specs.declared.outcome.Outcome.TheVariants as outcomes
+use Rattle.processor.specs.declared.outcome.Turned.{Turned}
+use Rattle.processor.specs.declared.sending.Moved.{Moved}
+use Rattle.processor.specs.declared.sending.Moved.TheVariants as moveds
+use Rattle.processor.specs.declared.sending.SentOn.{SentOn}
+use Rattle.processor.specs.Accounts.{Account, nothing, ◌⊕◌}
+use Rattle.processor.specs.Deeds.{is_done, IsDeedOf}
+use Rattle.processor.specs.Doings.{queues_by, chains_by, ticks_by, raised_by, heard_by, told_shut}
+use Rattle.processor.specs.Programs.{program, step_of}
+
+-- what came of a turn, and the line that its step was to say, or heard; none where it did neither
+pub record LogEntry : Type 0 where
+  pub turned : Turned
+  pub line : List ℕ
+
+-- WHAT IT COMES TO
+
+-- the alarms were tended: the clock was moved on, and the signals of those that fired were raised
+abbrev pub tending : Option Tended → Account
+tending None = nothing
+tending (Some tended) = record nothing {
+  hand = signals_for tended.fired.items;
+  meters = record nothing_did { advances = tick_to tended.advanced; fired = tended.fired.items };
+}
+
+-- the signals that an element had when its turn began were delivered
+abbrev pub beginning : Begun → Account
+beginning begun = record nothing {
+  hand = one_delivery begun.element (mask_of begun.delivered);
+  shown = λ element signal. nat_lt element 64 && (nat_lt signal 16
+      && is_delivered (delivery begun.element (mask_of begun.delivered)) element signal);
+}
+
+-- the retirement of the element, by how many steps it had done, where it went to the free elements
+abbrev pub gone : Moved → ℕ → ℕ → Tally
+gone (moveds.Freed moved) element number = retired moved element number
+gone moved element number = no_events
+
+-- the step with this number was tried with this line, counted where it is done, and the element moved on
+abbrev pub trying : ℕ → ℕ → SentOn → List ℕ → Account
+trying element number sent line = record nothing {
+  queues = queues_by sent.tried.deed line;
+  chains = chains_by sent.tried.deed;
+  hand = behind (behind (raised_by sent.tried.deed) (counted_step sent.tried.counted element number))
+      (gone sent.moved element (number + 1));
+  meters = ticks_by sent.tried.deed;
+  heard = heard_by sent.tried.deed element number line;
+}
+
+-- an element's turn: it was retired, or its step was tried
+abbrev pub having : ℕ → ℕ → Had → List ℕ → Account
+having element number (hads.Ended moved) line = record nothing { hand = retired moved element number }
+having element number (hads.Ran sent) line = trying element number sent line
+
+-- the turn of an element, if one was at hand
+abbrev pub outcome_account : Outcome → List ℕ → Account
+outcome_account (outcomes.Idle idle) line = nothing
+outcome_account (outcomes.Had begun had) line = beginning begun ⊕ having begun.element begun.number had line
+
+-- what a turn comes to
+abbrev pub entry_account : LogEntry → Account
+entry_account entry = tending entry.turned.tended ⊕ outcome_account entry.turned.outcome entry.line
+
+-- HOW IT FOLLOWS THE PLAN
+
+-- a step is counted by its number where it is done, and else it isn't
+abbrev pub count_of : Bool → ℕ → Counted
+count_of true number = counted.Done (number + 1)
+count_of false number = counted.Undone
+
+-- an element that went to the free ones had no step left
+abbrev pub IsOver : Moved → ℕ → ℕ → Type 0
+IsOver (moveds.Freed moved) number steps = steps ≤ number
+IsOver moved number steps = Unit {0}
+
+-- a step that was tried is the plan's step of this thread and number, and was counted where it is done
+pub record FollowsStep (plan : BootPlan) (element number : ℕ) (sent : SentOn) (line : List ℕ) : Type 0 where
+  pub step : Step
+  pub is : step_of plan element number ≡ Some step
+  pub deed : IsDeedOf step sent.tried.deed line
+  pub counts : sent.tried.counted ≡ count_of (is_done sent.tried.deed) number
+  pub over : IsOver sent.moved (number + 1) (length (program plan element))
+
+abbrev pub HadFollows : BootPlan → ℕ → ℕ → Had → List ℕ → Type 0
+HadFollows plan element number (hads.Ended moved) line = (length (program plan element) ≤ number) × (line ≡ [])
+HadFollows plan element number (hads.Ran sent) line = FollowsStep plan element number sent line
+
+abbrev pub OutcomeFollows : BootPlan → Outcome → List ℕ → Type 0
+OutcomeFollows plan (outcomes.Idle idle) line = line ≡ []
+OutcomeFollows plan (outcomes.Had begun had) line = HadFollows plan begun.element begun.number had line
+
+-- An element whose turn it was had all its steps done, and was retired; or its next step of the plan was tried. Either
+-- way an element that went to the free ones has done all its steps
+abbrev pub FollowsPlan : BootPlan → LogEntry → Type 0
+FollowsPlan plan entry = OutcomeFollows plan entry.turned.outcome entry.line
+
+-- WHAT IT WAS TOLD
+
+-- whether its say or hear was told that the queue is shut
+abbrev pub outcome_told_shut : Outcome → QueueIndex → Bool
+outcome_told_shut (outcomes.Had begun (hads.Ran sent)) = told_shut sent.tried.deed
+outcome_told_shut outcome = λ queue. false
+
+abbrev pub turn_told_shut : QueueIndex → LogEntry → Bool
+turn_told_shut queue entry = outcome_told_shut entry.turned.outcome queue

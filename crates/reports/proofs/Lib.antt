@@ -1,4 +1,0 @@
-pub mod Joined
-pub mod Queues
-pub mod Threads
-pub mod Boots

@@ -1,0 +1,13 @@
+pub mod Common
+pub mod MadeBy
+pub mod Tallies
+pub mod Calm
+pub mod Looks
+pub mod Sends
+pub mod Stepped
+pub mod Beginnings
+pub mod Delivered
+pub mod Wakes
+pub mod Raised
+pub mod Placed
+pub mod Settling

@@ -1,0 +1,8 @@
+-- What all events of a closed table come to.
+pub mod Moves
+pub mod Steps
+pub mod Signals
+pub mod Freed
+pub mod Retired
+pub mod Named
+pub mod Reading

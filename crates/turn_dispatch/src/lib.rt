@@ -1,0 +1,24 @@
+//! What a turn of a processor does with a thread element: it takes one from the ready ring, parks it or delivers its
+//! signals, puts it on the processor, counts its step, takes it off and moves it on; and what else its steps do with
+//! thread elements: they wake, start, and tend the alarms.
+//!
+//! Each function here is a sequence of the calls of `thread_table` and `meters` with one hand and one seat. Moves are
+//! tried again where another hand was first. Each contract says step by step what was done and why it wasn't, what the
+//! hand has then, and what the events in the hand's list come to.
+#![tactic(auto)]
+
+mod alarms;
+mod counting;
+mod dispatch;
+mod laws;
+mod moving;
+mod placing;
+mod waking;
+
+pub use alarms::{Tended, tend_alarms};
+pub use counting::{Counted, count};
+pub use dispatch::{Begun, Idle, begin};
+pub use laws::{calls_only_add, hands_settle};
+pub use moving::{Waited, make_ready, retire, wait_at, wait_in};
+pub use placing::{put_on, take_off};
+pub use waking::{Resumed, Woken, start, wake};

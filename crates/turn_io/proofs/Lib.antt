@@ -1,0 +1,11 @@
+pub mod Common
+pub mod Places
+pub mod Adding
+pub mod Shares
+pub mod Using
+pub mod Telling
+pub mod Chains
+pub mod Walking
+pub mod Parting
+pub mod ChainParting
+pub mod Accounting

@@ -1,0 +1,23 @@
+-- One end of a list of queue ends is used.
+use Rattle.turn_io.proofs.Common.{◌≡◌, ℕ, ◌<◌, List, length, get_or, set, ◌∙◌, arith, QueueEnd, queue_table, end_table, end_call, AreSameEnds, OnEnd}
+use Rattle.claim_queue.specs.declared.ends.ClaimQueue.{ClaimQueue}
+use Rattle.claim_queue.specs.Handles.{IsEndOf, IsSameEnd}
+use Rattle.turn_io.specs.EndLists.{AreEndsOf}
+use Rattle.turn_io.proofs.Places.{same_at, as_long, same_ends, on_end}
+
+module _ {n : ℕ} where
+  pub its_end : (queues : List (ClaimQueue n)) (ends : List (QueueEnd n)) (q : ℕ) (queue : ClaimQueue n) (end : QueueEnd n) → AreEndsOf queues ends → q < length queues → end ≡ get_or ends q end → queue ≡ get_or queues q queue → IsEndOf queue end
+  its_end queues ends q queue end fit below is is' = same_at end_table queue_table ends queues fit q below end queue is is'
+
+  pub in_ends : (queues : List (ClaimQueue n)) (ends : List (QueueEnd n)) (q : ℕ) → AreEndsOf queues ends → q < length queues → q < length ends
+  in_ends queues ends q fit below = let long = as_long end_table queue_table ends queues fit in omega arith
+
+  module _ (queues : List (ClaimQueue n)) (ends : List (QueueEnd n)) (q : ℕ) (end after : QueueEnd n) (fit : AreEndsOf queues ends) (is : end ≡ get_or ends q end) where
+    pub ends_same : IsSameEnd end after → AreSameEnds ends (set ends q after)
+    ends_same same = same_ends ends q end after is end_table end_call same
+
+    pub ends_fit : IsSameEnd end after → AreEndsOf queues (set ends q after)
+    ends_fit same = (ends_same same).tables ∙ fit
+
+    pub used_at : (Does : QueueEnd n → QueueEnd n → Type 0) → q < length queues → Does end after → OnEnd q Does ends (set ends q after)
+    used_at Does below does = on_end ends q end after is Does (in_ends queues ends q fit below) does

@@ -1,0 +1,27 @@
+use Rattle.turn_io.proofs.Chains.{its_world, in_ends, is_idle, its_end, ends_same, ends_fit, poked_at}
+use Rattle.turn_io.proofs.Accounting.{chain_did_at, chain_shares_at}
+use Rattle.turn_io.proofs.poking.poke.Goals as goal
+
+pub poke_end-requires-clause-end : goal.poke_end-requires-clause-end
+poke_end-requires-clause-end g c = its_end c.args.chains.now c.args.ends.now c.args.index _ _ c.requires.ends c.requires.known c.item_at.ensures.value c.index-chains-index.is
+
+pub poke_end-requires-clause-idle : goal.poke_end-requires-clause-idle
+poke_end-requires-clause-idle g c = is_idle c.args.chains.now c.args.ends.now c.args.index _ c.requires.ends c.requires.known c.item_at.ensures.value
+
+pub poke_end-requires-clause-world : goal.poke_end-requires-clause-world
+poke_end-requires-clause-world g c = its_world c.args.world.now c.args.chains.now c.args.index _ c.requires.world c.requires.known c.index-chains-index.is
+
+pub returns-clause-same : goal.returns-clause-same
+returns-clause-same g c = ends_same c.args.chains.now c.args.ends.now c.args.index _ _ c.requires.ends c.requires.known c.item_at.ensures.value c.poke_end.ensures.same
+
+pub returns-clause-ends : goal.returns-clause-ends
+returns-clause-ends g c = ends_fit c.args.chains.now c.args.ends.now c.args.index _ _ c.requires.ends c.requires.known c.item_at.ensures.value c.poke_end.ensures.same c.poke_end.ensures.idle
+
+pub returns-clause-poked : goal.returns-clause-poked
+returns-clause-poked g c = poked_at c.args.chains.now c.args.ends.now c.args.index _ _ c.requires.ends c.requires.known c.item_at.ensures.value _ _ _ c.index-chains-index.is c.poke_end.ensures.poked
+
+pub returns-clause-did : goal.returns-clause-did
+returns-clause-did g c = chain_did_at c.args.ends.now c.args.index _ _ _ (in_ends c.args.chains.now c.args.ends.now c.args.index c.requires.ends c.requires.known) c.item_at.ensures.value c.poke_end.ensures.worked
+
+pub returns-clause-shares : goal.returns-clause-shares
+returns-clause-shares g c = chain_shares_at c.args.ends.now c.args.index _ _ _ (in_ends c.args.chains.now c.args.ends.now c.args.index c.requires.ends c.requires.known) c.item_at.ensures.value c.poke_end.ensures.worked

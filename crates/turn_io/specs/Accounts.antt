@@ -1,0 +1,186 @@
+-- What ends did at queues and chains, as a sum: the lines, the shuts and the notes, whatever end did them, and by how
+-- many steps. A queue is named by the plan's index.
+use Rattle.std.specs.Prelude.{◌≡◌, ◌==◌, ◌+◌, ℕ, if◌then◌else◌, Bool, List, [], ◌++◌, map, length, slice_index_or}
+use Rattle.std.specs.Prelude.{◌∷◌, Result, Ok, Err, is_ok, true}
+use Rattle.std.specs.List.{All}
+use Rattle.boot_data.specs.declared.plan.QueueIndex.{QueueIndex}
+use Rattle.boot_data.specs.declared.plan.QueueIndex.TheVariants.{Small, Large}
+use Rattle.table_theory.specs.Sharing.{given, kept}
+use Rattle.claim_queue.specs.declared.ends.QueueEnd.{QueueEnd}
+use Rattle.claim_queue.specs.declared.rule.Did.{Did}
+use Rattle.claim_queue.specs.Handles.{view_of}
+use Rattle.claim_queue.specs.Lines.{line_of}
+use Rattle.claim_queue.specs.Own.{nothing_did}
+use Rattle.proc_chain.specs.declared.chaining.ChainRefusal.{ChainRefusal}
+use Rattle.proc_chain.specs.declared.ends.ChainEnd.{ChainEnd}
+use Rattle.proc_chain.specs.declared.quaject.Quaject.{Ghosts}
+use Rattle.proc_chain.specs.Handles as chains
+use Rattle.proc_chain.specs.Notes.{alone, notes_put, notes_taken}
+use Rattle.proc_chain.specs.Own.{View}
+use Rattle.turn_io.specs.declared.poking.Poked.{Poked}
+use Rattle.turn_io.specs.declared.poking.Poked.TheVariants.{Ran, Left}
+use Rattle.turn_io.specs.EndLists.{HasRaised, ClaimedInOrder, TookInOrder, end_knows_shut, end_share, knows_shut_at}
+use Rattle.turn_io.specs.EndLists.{chain_end_share}
+
+-- what was done at one queue: the lines put, the lines taken, and how often it was shut
+pub record AtQueue : Type 0 where
+  pub put : List (List ℕ)
+  pub taken : List (List ℕ)
+  pub shuts : ℕ
+
+-- nothing was done at a queue
+abbrev pub idle_queue : AtQueue
+idle_queue = record { put = []; taken = []; shuts = 0 }
+
+-- first the one, and then the other
+abbrev pub both_queue : AtQueue → AtQueue → AtQueue
+both_queue a b = record { put = a.put ++ b.put; taken = a.taken ++ b.taken; shuts = a.shuts + b.shuts }
+
+-- what was done at one chain: the notes chained, each in a list of its own, and how many were run
+pub record AtChain : Type 0 where
+  pub notes : List (List ℕ)
+  pub ran : ℕ
+
+-- nothing was done at a chain
+abbrev pub idle_chain : AtChain
+idle_chain = record { notes = []; ran = 0 }
+
+-- first the one, and then the other
+abbrev pub both_chain : AtChain → AtChain → AtChain
+both_chain a b = record { notes = a.notes ++ b.notes; ran = a.ran + b.ran }
+
+-- what an end has of its object: what it did there, and its share
+pub record Stake (D : Type 0) : Type 0 where
+  pub did : D
+  pub share : ℕ
+
+-- an end that did nothing, and has no share
+abbrev pub no_stake : {D : Type 0} → D → Stake D
+no_stake none = record { did = none; share = 0 }
+
+-- what two ends have together
+abbrev pub both_stakes : {D : Type 0} → (D → D → D) → Stake D → Stake D → Stake D
+both_stakes add a b = record { did = add a.did b.did; share = a.share + b.share }
+
+-- what a split leaves to an end
+abbrev pub keep : {D : Type 0} → Stake D → Stake D
+keep stake = record stake { share = kept stake.share }
+
+-- what a split gives to the new end, which did nothing
+abbrev pub give : {D : Type 0} → D → Stake D → Stake D
+give none stake = record { did = none; share = given stake.share }
+
+-- an end's runs and takings, as lines
+abbrev pub lines_of : Did → AtQueue
+lines_of did = record { put = map line_of did.runs; taken = map line_of did.takes; shuts = did.shuts }
+
+-- the notes that an end of a chain put, and how many it took
+abbrev pub notes_of : View → AtChain
+notes_of v = record { notes = notes_put v; ran = length (notes_taken v) }
+
+-- what an end of a queue has
+abbrev pub stake : {n : ℕ} → QueueEnd n → Stake Did
+stake end = record { did = (view_of end).own; share = (view_of end).member.share }
+
+-- what the end of the queue q has
+abbrev pub stakes : {n : ℕ} → List (QueueEnd n) → ℕ → Stake Did
+stakes ends q = slice_index_or (map stake ends) q (no_stake nothing_did)
+
+-- the share that the end of the queue q has
+abbrev pub queue_shares : {n : ℕ} → List (QueueEnd n) → ℕ → ℕ
+queue_shares ends q = (stakes ends q).share
+
+-- what the end of the queue q did there
+abbrev pub queue_account : {n : ℕ} → List (QueueEnd n) → ℕ → AtQueue
+queue_account ends q = lines_of (stakes ends q).did
+
+-- what an end of a chain has
+abbrev pub chain_stake : {Q W : Type 0} {g : Ghosts Q W} → ChainEnd Q W g → Stake AtChain
+chain_stake end = record { did = notes_of (chains.view_of end); share = (chains.view_of end).member.share }
+
+-- what the end of the chain q has
+abbrev pub chain_stakes : {Q W : Type 0} {g : Ghosts Q W} → List (ChainEnd Q W g) → ℕ → Stake AtChain
+chain_stakes ends q = slice_index_or (map chain_stake ends) q (no_stake idle_chain)
+
+-- the share that the end of the chain q has
+abbrev pub chain_shares : {Q W : Type 0} {g : Ghosts Q W} → List (ChainEnd Q W g) → ℕ → ℕ
+chain_shares ends q = (chain_stakes ends q).share
+
+-- what the end of the chain q did there
+abbrev pub chain_account : {Q W : Type 0} {g : Ghosts Q W} → List (ChainEnd Q W g) → ℕ → AtChain
+chain_account ends q = (chain_stakes ends q).did
+
+-- the sum at each place
+abbrev pub at_each : {I A : Type 0} → (A → A → A) → (I → A) → (I → A) → I → A
+at_each add f g q = add (f q) (g q)
+
+-- this at the one place, and the rest at any other
+abbrev pub at_one : {A : Type 0} → A → ℕ → A → ℕ → A
+at_one rest index x q = if q == index then x else rest
+
+-- by the index of a queue: the one for the small queues, and the other for the large
+abbrev pub by_index : {A : Type 0} → (ℕ → A) → (ℕ → A) → QueueIndex → A
+by_index small large (Small q) = small q
+by_index small large (Large q) = large q
+
+-- this at the queue with the one index, and the rest at any other
+abbrev pub only : {A : Type 0} → A → QueueIndex → A → QueueIndex → A
+only rest (Small index) x = by_index (at_one rest index x) (λ q. rest)
+only rest (Large index) x = by_index (λ q. rest) (at_one rest index x)
+
+-- how many places a queue has
+abbrev pub room_of : QueueIndex → ℕ
+room_of (Small q) = 64
+room_of (Large q) = 256
+
+-- how many notes were run
+abbrev pub notes_run : Result Poked ChainRefusal → ℕ
+notes_run (Ok (Ran notes)) = notes
+notes_run (Ok Left) = 0
+notes_run (Err refusal) = 0
+
+-- the line was put, where the answer is Ok
+abbrev pub put_if : {A E : Type 0} → Result A E → List ℕ → AtQueue
+put_if answer line = record idle_queue { put = if is_ok answer then line ∷ [] else [] }
+
+-- the line was taken, where the answer is Ok
+abbrev pub taken_if : {A E : Type 0} → Result A E → List ℕ → AtQueue
+taken_if answer line = record idle_queue { taken = if is_ok answer then line ∷ [] else [] }
+
+-- the queue was shut, where it was open
+abbrev pub shut_if : Bool → AtQueue
+shut_if was_open = record idle_queue { shuts = if was_open then 1 else 0 }
+
+-- the note was chained, where the answer is Ok, and so many notes were run
+abbrev pub chained_if : Result Poked ChainRefusal → ℕ → AtChain
+chained_if answer note = record { notes = if is_ok answer then alone note ∷ [] else []; ran = notes_run answer }
+
+-- a sum that is associative, and has this unit on both sides
+pub record AddsUp {A : Type 0} (none : A) (add : A → A → A) : Type 0 where
+  pub regroups : (a b c : A) → add (add a b) c ≡ add a (add b c)
+  pub none_first : (a : A) → add none a ≡ a
+  pub none_last : (a : A) → add a none ≡ a
+
+-- The end did this more. It has the share that it had, has raised all that it claimed, claimed and took in order, and
+-- knows that its queue is shut, where it did
+pub record EndWorked {n : ℕ} (more : AtQueue) (old new : QueueEnd n) : Type 0 where
+  pub did : lines_of (view_of new).own ≡ both_queue (lines_of (view_of old).own) more
+  pub share : end_share new ≡ end_share old
+  pub raised : HasRaised old → HasRaised new
+  pub claimed : ClaimedInOrder old → ClaimedInOrder new
+  pub took : TookInOrder old → TookInOrder new
+  pub known : end_knows_shut old ≡ true → end_knows_shut new ≡ true
+
+-- the end of a chain did this more, and has the share that it had
+pub record ChainEndWorked {Q W : Type 0} {g : Ghosts Q W} (more : AtChain) (old new : ChainEnd Q W g) : Type 0 where
+  pub did : notes_of (chains.view_of new) ≡ both_chain (notes_of (chains.view_of old)) more
+  pub share : chain_end_share new ≡ chain_end_share old
+
+-- What a step leaves at the ends of a list as it was: each has the share that it had, has raised all that it claimed,
+-- claimed and took in order, and knows that its queue is shut, where it did
+pub record StaySound {n : ℕ} (old new : List (QueueEnd n)) : Type 0 where
+  pub shares : queue_shares new ≡ queue_shares old
+  pub raised : All HasRaised old → All HasRaised new
+  pub claimed : All ClaimedInOrder old → All ClaimedInOrder new
+  pub took : All TookInOrder old → All TookInOrder new
+  pub known : (q : ℕ) → knows_shut_at old q ≡ true → knows_shut_at new q ≡ true

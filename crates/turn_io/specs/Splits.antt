@@ -1,0 +1,62 @@
+-- What splitting and joining all ends of a list leave.
+use Rattle.std.specs.Prelude.{◌≡◌, ℕ, true, List, [], ◌∷◌}
+use Rattle.std.specs.List.{All}
+use Rattle.claim_queue.specs.declared.ends.QueueEnd.{QueueEnd}
+use Rattle.claim_queue.specs.Handles.{view_of}
+use Rattle.claim_queue.specs.Endings as queues
+use Rattle.proc_chain.specs.declared.ends.ChainEnd.{ChainEnd}
+use Rattle.proc_chain.specs.declared.quaject.Quaject.{Ghosts}
+use Rattle.proc_chain.specs.Handles as chain_ends
+use Rattle.proc_chain.specs.Endings as chains
+use Rattle.turn_io.specs.EndLists.{HasRaised, knows_shut_at}
+
+-- R holds of the elements of three lists, place by place
+abbrev pub AllThree : {A B C : Type 0} → (A → B → C → Type 0) → List A → List B → List C → Type 0
+AllThree R [] [] [] = Unit {0}
+AllThree R (x ∷ xs) (y ∷ ys) (z ∷ zs) = R x y z × AllThree R xs ys zs
+AllThree R _ _ _ = ⊥
+
+module _ {n : ℕ} where
+  -- the end gave a part of its share to a new end, which has nothing else
+  abbrev pub IsSplit : QueueEnd n → QueueEnd n → QueueEnd n → Type 0
+  IsSplit old new born =
+      queues.Divided (view_of old) (view_of new) × queues.IsNewborn (view_of old) (view_of new) (view_of born)
+
+  -- the end took in the other, and has what both had
+  abbrev pub IsJoined : QueueEnd n → QueueEnd n → QueueEnd n → Type 0
+  IsJoined old new other = queues.TookIn (view_of old) (view_of other) (view_of new)
+
+  -- Each end was split. The old ends have raised what they had, and know of the shut queues that they knew of; the new
+  -- ones have raised all, since they put nothing
+  pub record AreSplit (old new born : List (QueueEnd n)) : Type 0 where
+    pub each : AllThree IsSplit old new born
+    pub raised : All HasRaised old → All HasRaised new
+    pub known : (q : ℕ) → knows_shut_at old q ≡ true → knows_shut_at new q ≡ true
+    pub born_raised : All HasRaised born
+
+  -- Each end was joined to the one at its place, which has raised what both had, and knows of the shut queues that
+  -- either knew of
+  pub record AreJoined (old others new : List (QueueEnd n)) : Type 0 where
+    pub each : AllThree IsJoined old new others
+    pub raised : All HasRaised old → All HasRaised others → All HasRaised new
+    pub known : (q : ℕ) → knows_shut_at old q ≡ true → knows_shut_at new q ≡ true
+    pub others_known : (q : ℕ) → knows_shut_at others q ≡ true → knows_shut_at new q ≡ true
+
+module _ {Q W : Type 0} {g : Ghosts Q W} where
+  -- the end gave a part of its share to a new end, which has nothing else
+  abbrev pub IsChainSplit : ChainEnd Q W g → ChainEnd Q W g → ChainEnd Q W g → Type 0
+  IsChainSplit old new born = chains.Divided (chain_ends.view_of old) (chain_ends.view_of new)
+      × chains.IsNewborn (chain_ends.view_of old) (chain_ends.view_of new) (chain_ends.view_of born)
+
+  -- the end took in the other, and has what both had
+  abbrev pub IsChainJoined : ChainEnd Q W g → ChainEnd Q W g → ChainEnd Q W g → Type 0
+  IsChainJoined old new other =
+      chains.TookIn (chain_ends.view_of old) (chain_ends.view_of other) (chain_ends.view_of new)
+
+  -- each end was split
+  abbrev pub AreChainsSplit : List (ChainEnd Q W g) → List (ChainEnd Q W g) → List (ChainEnd Q W g) → Type 0
+  AreChainsSplit old new born = AllThree IsChainSplit old new born
+
+  -- each end was joined to the one at its place
+  abbrev pub AreChainsJoined : List (ChainEnd Q W g) → List (ChainEnd Q W g) → List (ChainEnd Q W g) → Type 0
+  AreChainsJoined old others new = AllThree IsChainJoined old new others

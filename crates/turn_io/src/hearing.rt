@@ -1,0 +1,95 @@
+//! Hearing a line, and shutting a queue.
+ghost use Rattle.std.specs.Prelude.{◌≡◌, ◌<◌, ◌≤◌, ℕ, [], length, IfOk};
+ghost use Rattle.claim_queue.specs.Handles.{IsEndOf, IsSameEnd};
+ghost use Rattle.turn_io.specs.declared.gate.Point.TheVariants.{TakeAnswered};
+ghost use Rattle.turn_io.specs.Accounts.{EndWorked, StaySound, at_each, at_one, both_queue, idle_queue};
+ghost use Rattle.turn_io.specs.Accounts.{queue_account, shut_if, taken_if};
+ghost use Rattle.turn_io.specs.Deeds.{Heard, HasShut};
+ghost use Rattle.turn_io.specs.EndLists.{AreEndsOf, AreSameEnds, OnEnd};
+
+use crate::gate::{Gate, Point};
+use crate::items::item_at;
+use arrayvec::ArrayVec;
+use claim_queue::{ClaimQueue, QueueEnd, TakeRefusal};
+
+// One try to take a line at this end.
+fn hear_line<const N: usize, G: Gate>(
+    queue: &ClaimQueue<N>,
+    end: &mut QueueEnd<N>,
+    line: &mut ArrayVec<u64, N>,
+    p: u8,
+    gate: &mut G,
+) -> Result<(), TakeRefusal>
+    requires queue { IsEndOf queue.now end.old }
+    requires empty { line.old.items ≡ [] }
+    ensures same { IsSameEnd end.old end.new }
+    ensures heard { Heard line.new.items result end.old end.new }
+    ensures worked { EndWorked (taken_if result line.new.items) end.old end.new }
+    ensures gate { G.told gate.old p TakeAnswered gate.new }
+{
+    let answer = queue.try_take_line(end, line);
+    gate.between(p, Point::TakeAnswered);
+    match answer {
+        Ok(_count) => Ok(()),
+        Err(refusal) => Err(refusal),
+    }
+}
+
+/// One try to take a line from the queue with this index, as `ClaimQueue::try_take_line` makes it: 1 to N items, which
+/// are appended to `line`. The list stays empty where the try is refused, for any reason of that call. The gate is
+/// called with `TakeAnswered` behind the try, whatever it answered.
+///
+/// Conditions: the ends are those of the queues, in their order, the index is one of theirs, and the list is empty.
+pub fn hear<const N: usize, G: Gate>(
+    queues: &[ClaimQueue<N>],
+    ends: &mut [QueueEnd<N>],
+    index: usize,
+    line: &mut ArrayVec<u64, N>,
+    p: u8,
+    gate: &mut G,
+) -> Result<(), TakeRefusal>
+    requires ends { AreEndsOf queues.now ends.old }
+    requires known { index < length queues.now }
+    requires empty { line.old.items ≡ [] }
+    ensures did { queue_account ends.new
+        ≡ at_each both_queue (queue_account ends.old) (at_one idle_queue index (taken_if result line.new.items)) }
+    ensures sound { StaySound ends.old ends.new }
+    ensures long { IfOk result (λ done. (0 < length line.new.items) × (length line.new.items ≤ N)) }
+    ensures gate { G.told gate.old p TakeAnswered gate.new }
+    ensures heard { OnEnd index (Heard line.new.items result) ends.old ends.new }
+    ensures ends { AreEndsOf queues.now ends.new }
+    ensures same { AreSameEnds ends.old ends.new }
+{
+    hear_line(&queues[index], item_at(ends, index), line, p, gate)
+}
+
+// Shuts the queue at this end.
+fn shut_end<const N: usize>(queue: &ClaimQueue<N>, end: &mut QueueEnd<N>) -> bool
+    requires { IsEndOf queue.now end.old }
+    ensures same { IsSameEnd end.old end.new }
+    ensures shut { HasShut result end.old end.new }
+    ensures worked { EndWorked (shut_if result) end.old end.new }
+{
+    queue.shut(end)
+}
+
+/// Shuts the queue with this index for claims, for good; what was put can still be taken. True where it was open, which
+/// one end alone is ever told.
+///
+/// Conditions: the ends are those of the queues, in their order, and the index is one of theirs.
+pub fn shut_queue<const N: usize>(
+    queues: &[ClaimQueue<N>],
+    ends: &mut [QueueEnd<N>],
+    index: usize,
+) -> bool
+    requires ends { AreEndsOf queues.now ends.old }
+    requires known { index < length queues.now }
+    ensures did { queue_account ends.new
+        ≡ at_each both_queue (queue_account ends.old) (at_one idle_queue index (shut_if result)) }
+    ensures sound { StaySound ends.old ends.new }
+    ensures shut { OnEnd index (HasShut result) ends.old ends.new }
+    ensures ends { AreEndsOf queues.now ends.new }
+    ensures same { AreSameEnds ends.old ends.new }
+{
+    shut_end(&queues[index], item_at(ends, index))
+}

@@ -1,0 +1,19 @@
+//! What is done at queues and chains, and what ends have of them, adds up.
+ghost use Rattle.std.specs.Prelude.{◌≡◌};
+ghost use Rattle.boot_data.specs.declared.plan.QueueIndex.{QueueIndex};
+ghost use Rattle.claim_queue.specs.declared.rule.Did.{Did};
+ghost use Rattle.claim_queue.specs.Own.{nothing_did, did_both};
+ghost use Rattle.turn_io.specs.Accounts.{AddsUp, Stake, at_each, both_chain, both_queue, both_stakes, idle_chain};
+ghost use Rattle.turn_io.specs.Accounts.{idle_queue, lines_of, no_stake};
+
+/// What is done at a queue, at a chain and at all queues adds up, and so does what the ends of an object have. What two
+/// ends of a queue did together is the lines of the one and those of the other.
+pub fn accounts_add()
+    ensures queue { AddsUp idle_queue both_queue }
+    ensures queues { AddsUp (λ (q : QueueIndex). idle_queue) (at_each both_queue) }
+    ensures chain { AddsUp idle_chain both_chain }
+    ensures stakes { AddsUp (no_stake nothing_did) (both_stakes did_both) }
+    ensures chain_stakes { AddsUp (no_stake idle_chain) (both_stakes both_chain) }
+    ensures lines { (a b : Stake Did)
+        → lines_of (both_stakes did_both a b).did ≡ both_queue (lines_of a.did) (lines_of b.did) }
+{}

@@ -1,0 +1,87 @@
+//! Poking a chain: note 0 is chained, and a Turn is served to its end.
+ghost use Rattle.std.specs.Prelude.{◌≡◌, ◌<◌, ℕ, false, length, map};
+ghost use Rattle.proc_chain.specs.Handles.{turn_of, world_of, me_of, IsEndOf, IsSameEnd};
+ghost use Rattle.turn_io.specs.declared.gate.Point.TheVariants as points;
+ghost use Rattle.turn_io.specs.Accounts.{ChainEndWorked, at_each, at_one, both_chain, chain_account, chain_shares};
+ghost use Rattle.turn_io.specs.Accounts.{chained_if, idle_chain};
+ghost use Rattle.turn_io.specs.Deeds.{HasPoked, PokedAt};
+ghost use Rattle.turn_io.specs.EndLists.{AreChainsOver, AreChainEndsOf, AreSameChainEnds, IsIdle};
+
+use crate::gate::{Gate, Point};
+use crate::items::item_at;
+use proc_chain::{ChainEnd, ChainRefusal, Chained, ProcChain};
+use quajects::{AnyQuaject, Queues};
+use std::sync::Wait;
+
+/// The note that a poke chains.
+const POKED: u16 = 0;
+
+/// What came of a note that was chained.
+#[derive(Clone, Copy, Debug, PartialEq, Eq, Drop)]
+pub enum Poked {
+    /// The end got the Turn and served it to its end; so many notes were run.
+    Ran { notes: u64 },
+    /// Another end has the Turn, and runs the note.
+    Left,
+}
+
+// One try to chain a note at this end, and all that a Turn has to serve.
+fn poke_end<R: Wait, G: Gate>(
+    rt: &R,
+    world: &Queues,
+    chain: &ProcChain<AnyQuaject>,
+    end: &mut ChainEnd<AnyQuaject>,
+    p: u8,
+    gate: &mut G,
+) -> Result<Poked, ChainRefusal>
+    requires end { IsEndOf chain.now end.old }
+    requires idle { IsIdle end.old }
+    requires world { world_of chain.now ≡ world.now }
+    ensures same { IsSameEnd end.old end.new }
+    ensures idle { IsIdle end.new }
+    ensures poked { HasPoked chain.now 0 result end.old end.new }
+    ensures worked { ChainEndWorked (chained_if result 0) end.old end.new }
+    ensures gate { G.told gate.old p points.Chained gate.new }
+{
+    let answer = chain.try_chain(end, POKED);
+    gate.between(p, Point::Chained);
+    match answer {
+        Ok(chained) => match chained {
+            Chained::Run(turn) => {
+                let notes = chain.serve_all(rt, end, world, turn);
+                Ok(Poked::Ran { notes })
+            }
+            Chained::Left => Ok(Poked::Left),
+        },
+        Err(refusal) => Err(refusal),
+    }
+}
+
+/// One try to chain note 0 at the chain with this index; where it gives the Turn, that is served to its end. The gate
+/// is called with `Chained` behind the try, whatever it answered, and before a Turn is served. Any refusal of
+/// `ProcChain::try_chain` may come, Lost too; no note is chained then, and it isn't tried again.
+///
+/// Conditions: the ends are those of the chains, in their order, without a Turn; the index is one of theirs; and the
+/// queues are the world of each chain.
+pub fn poke<R: Wait, G: Gate>(
+    rt: &R,
+    world: &Queues,
+    chains: &[ProcChain<AnyQuaject>],
+    ends: &mut [ChainEnd<AnyQuaject>],
+    index: usize,
+    p: u8,
+    gate: &mut G,
+) -> Result<Poked, ChainRefusal>
+    requires ends { AreChainEndsOf chains.now ends.old }
+    requires known { index < length chains.now }
+    requires world { AreChainsOver world.now chains.now }
+    ensures did { chain_account ends.new
+        ≡ at_each both_chain (chain_account ends.old) (at_one idle_chain index (chained_if result 0)) }
+    ensures shares { chain_shares ends.new ≡ chain_shares ends.old }
+    ensures gate { G.told gate.old p points.Chained gate.new }
+    ensures poked { PokedAt chains.now index 0 result ends.old ends.new }
+    ensures ends { AreChainEndsOf chains.now ends.new }
+    ensures same { AreSameChainEnds ends.old ends.new }
+{
+    poke_end(rt, world, &chains[index], item_at(ends, index), p, gate)
+}

@@ -1,0 +1,80 @@
+//! Saying a line: it is put in a queue by one claim, and raised.
+ghost use Rattle.std.specs.Prelude.{◌≡◌, ◌<◌, ℕ, [], length};
+ghost use Rattle.claim_queue.specs.Claims.{Owns};
+ghost use Rattle.claim_queue.specs.Handles.{view_of, IsEndOf, IsSameEnd};
+ghost use Rattle.claim_queue.specs.Puts.{RaisedFrom};
+ghost use Rattle.turn_io.specs.Accounts.{EndWorked, StaySound, at_each, at_one, both_queue, idle_queue, put_if};
+ghost use Rattle.turn_io.specs.Accounts.{queue_account};
+ghost use Rattle.turn_io.specs.Deeds.{Said};
+ghost use Rattle.turn_io.specs.EndLists.{AreEndsOf, AreSameEnds, OnEnd};
+ghost use Rattle.turn_io.specs.Gates.{ToldOfSay};
+
+use crate::gate::{Gate, Point};
+use crate::items::item_at;
+use claim_queue::{Claim, ClaimQueue, ClaimRefusal, QueueEnd};
+
+// Raises all items of a run that was just claimed.
+fn raise_all<const N: usize>(queue: &ClaimQueue<N>, end: &mut QueueEnd<N>, claim: Claim<N>)
+    requires queue { IsEndOf queue.now end.old }
+    requires own { Owns (view_of end.old) claim.start claim.items.items 0 × (claim.raised ≡ 0) }
+    ensures own { Owns (view_of end.new) claim.entry.start claim.entry.items.items (length claim.entry.items.items) }
+    ensures raised { RaisedFrom N claim.entry.start claim.entry.items.items (view_of end.old) (view_of end.new)
+        (length claim.entry.items.items) }
+    ensures same { IsSameEnd end.old end.new }
+{
+    let mut claim = claim;
+    for i in 0..claim.items().len() {
+        let _raised = queue.raise_next(end, &mut claim);
+    }
+}
+
+// One claim of the line at this end, and all its raises.
+fn say_line<const N: usize, G: Gate>(
+    queue: &ClaimQueue<N>,
+    end: &mut QueueEnd<N>,
+    line: &[u64],
+    p: u8,
+    gate: &mut G,
+) -> Result<(), ClaimRefusal>
+    requires { IsEndOf queue.now end.old }
+    ensures same { IsSameEnd end.old end.new }
+    ensures said { Said line.now result end.old end.new }
+    ensures worked { EndWorked (put_if result line.now) end.old end.new }
+    ensures gate { ToldOfSay G.told p result gate.old gate.new }
+{
+    match queue.try_claim(end, line) {
+        Ok(claim) => {
+            gate.between(p, Point::Claimed);
+            raise_all(queue, end, claim);
+            gate.between(p, Point::Raised);
+            Ok(())
+        }
+        Err(refusal) => Err(refusal),
+    }
+}
+
+/// One try to put a line in the queue with this index: one claim, and where it wins all its raises. The gate is called
+/// with `Claimed` behind the claim and with `Raised` behind the last raise, and not at all where the claim was refused.
+/// Any refusal of `ClaimQueue::try_claim` may come; nothing is put then.
+///
+/// Conditions: the ends are those of the queues, in their order, and the index is one of theirs.
+pub fn say<const N: usize, G: Gate>(
+    queues: &[ClaimQueue<N>],
+    ends: &mut [QueueEnd<N>],
+    index: usize,
+    line: &[u64],
+    p: u8,
+    gate: &mut G,
+) -> Result<(), ClaimRefusal>
+    requires ends { AreEndsOf queues.now ends.old }
+    requires known { index < length queues.now }
+    ensures did { queue_account ends.new
+        ≡ at_each both_queue (queue_account ends.old) (at_one idle_queue index (put_if result line.now)) }
+    ensures sound { StaySound ends.old ends.new }
+    ensures gate { ToldOfSay G.told p result gate.old gate.new }
+    ensures said { OnEnd index (Said line.now result) ends.old ends.new }
+    ensures ends { AreEndsOf queues.now ends.new }
+    ensures same { AreSameEnds ends.old ends.new }
+{
+    say_line(&queues[index], item_at(ends, index), line, p, gate)
+}

@@ -1,0 +1,84 @@
+//! A second list of queue ends, for another owner: split off, and joined again.
+ghost use Rattle.std.specs.Prelude.{◌≡◌, ◌≤◌, ℕ, [], length, vec_capacity, IfOk, IfErr};
+ghost use Rattle.std.specs.List.{All};
+ghost use Rattle.claim_queue.specs.Own.{nothing_did, did_both};
+ghost use Rattle.turn_io.specs.Accounts.{at_each, both_stakes, give, keep, stakes};
+ghost use Rattle.turn_io.specs.EndLists.{AreEndsOf, AreSameEnds, IsDivisible};
+ghost use Rattle.turn_io.specs.Splits.{AreSplit, AreJoined};
+
+use crate::items::item_at;
+use claim_queue::{ClaimQueue, QueueEnd};
+use event_theory::OutOfMemory;
+use std::alloc::Global;
+
+/// A new end of each queue, in the order of the queues, split off from the one in the list. They go into `born`, which
+/// is empty and has room for them, so it takes no memory.
+///
+/// Conditions: the ends are those of the queues, in their order, and each has two parts or more of its queue's
+/// 2^64 - 1.
+pub fn split_ends_into<const N: usize>(
+    queues: &[ClaimQueue<N>],
+    ends: &mut [QueueEnd<N>],
+    born: Vec<QueueEnd<N>>,
+) -> Vec<QueueEnd<N>>
+    requires ends { AreEndsOf queues.now ends.old }
+    requires parts { All IsDivisible ends.old }
+    requires room { (born.items ≡ []) × (length queues.now ≤ vec_capacity born) }
+    ensures did { (stakes ends.new ≡ (λ q. keep (stakes ends.old q)))
+        × (stakes result.items ≡ (λ q. give nothing_did (stakes ends.old q))) }
+    ensures split { AreSplit ends.old ends.new result.items }
+    ensures born { AreEndsOf queues.now result.items }
+    ensures ends { AreEndsOf queues.now ends.new }
+    ensures same { AreSameEnds ends.old ends.new }
+{
+    let mut born = born;
+    for i in 0..queues.len() {
+        let end = queues[i].split(item_at(ends, i));
+        born.push_reserved(end);
+    }
+    born
+}
+
+/// The same, with a list made for them. `OutOfMemory` comes only where its allocation was refused, before any end is
+/// split; nothing has changed then.
+pub fn split_ends<const N: usize>(
+    alloc: Global,
+    queues: &[ClaimQueue<N>],
+    ends: &mut [QueueEnd<N>],
+) -> Result<Vec<QueueEnd<N>>, OutOfMemory>
+    requires ends { AreEndsOf queues.now ends.old }
+    requires parts { All IsDivisible ends.old }
+    ensures did { IfOk result (λ born. (stakes ends.new ≡ (λ q. keep (stakes ends.old q)))
+        × (stakes born.items ≡ (λ q. give nothing_did (stakes ends.old q)))) }
+    ensures split { IfOk result (λ born. AreSplit ends.old ends.new born.items) }
+    ensures born { IfOk result (λ born. AreEndsOf queues.now born.items) }
+    ensures refused { IfErr result (λ e. ends.new ≡ ends.old) }
+    ensures ends { AreEndsOf queues.now ends.new }
+    ensures same { AreSameEnds ends.old ends.new }
+{
+    let born = Vec::with_capacity(alloc, queues.len())?;
+    Ok(split_ends_into(queues, ends, born))
+}
+
+/// Joins each of the other ends to the one of the same queue in the list, which then has all that both had. It takes no
+/// memory.
+///
+/// Condition: both lists are ends of the queues, in their order.
+pub fn join_ends<const N: usize>(
+    queues: &[ClaimQueue<N>],
+    ends: &mut [QueueEnd<N>],
+    others: Vec<QueueEnd<N>>,
+)
+    requires ends { AreEndsOf queues.now ends.old }
+    requires others { AreEndsOf queues.now others.items }
+    ensures did { stakes ends.new ≡ at_each (both_stakes did_both) (stakes ends.old) (stakes others.entry.items) }
+    ensures joined { AreJoined ends.old others.entry.items ends.new }
+    ensures ends { AreEndsOf queues.now ends.new }
+    ensures same { AreSameEnds ends.old ends.new }
+{
+    let mut i = 0usize;
+    for other in others {
+        queues[i].join(item_at(ends, i), other);
+        i += 1;
+    }
+}

@@ -7,7 +7,7 @@ using Queue = boost::lockfree::queue<uint64_t, boost::lockfree::capacity<PLACES>
 
 static std::unique_ptr<Queue> queue;
 
-static bool make_queue()
+static bool make_queue(unsigned)
 {
     queue = std::make_unique<Queue>();
     return queue->is_lock_free();
@@ -18,7 +18,7 @@ static void drop_queue()
     queue.reset();
 }
 
-static size_t put_some(const uint64_t *items, size_t count)
+static size_t put_some(unsigned, const uint64_t *items, size_t count)
 {
     size_t put = 0;
     while (put < count && queue->bounded_push(items[put])) {
@@ -27,7 +27,7 @@ static size_t put_some(const uint64_t *items, size_t count)
     return put;
 }
 
-static size_t take_some(uint64_t *items, size_t most)
+static size_t take_some(unsigned, uint64_t *items, size_t most)
 {
     size_t taken = 0;
     while (taken < most && queue->pop(items[taken])) {

@@ -10,8 +10,9 @@ _Static_assert(sizeof(void *) == sizeof(uint64_t), "an item is a pointer");
 static APART ck_ring_t ring;
 static APART ck_ring_buffer_t buffer[PLACES];
 
-static bool make_queue(void)
+static bool make_queue(unsigned ends)
 {
+    (void)ends;
     ck_ring_init(&ring, PLACES);
     return true;
 }
@@ -20,8 +21,9 @@ static void drop_queue(void)
 {
 }
 
-static size_t put_some(const uint64_t *items, size_t count)
+static size_t put_some(unsigned end, const uint64_t *items, size_t count)
 {
+    (void)end;
     size_t put = 0;
     while (put < count && ck_ring_enqueue_mpmc(&ring, buffer, (const void *)(uintptr_t)items[put])) {
         put++;
@@ -29,8 +31,9 @@ static size_t put_some(const uint64_t *items, size_t count)
     return put;
 }
 
-static size_t take_some(uint64_t *items, size_t most)
+static size_t take_some(unsigned end, uint64_t *items, size_t most)
 {
+    (void)end;
     size_t taken = 0;
     void *item;
     while (taken < most && ck_ring_dequeue_mpmc(&ring, buffer, &item)) {

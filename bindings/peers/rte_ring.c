@@ -7,8 +7,9 @@
 
 static struct rte_ring *ring;
 
-static bool make_queue(void)
+static bool make_queue(unsigned ends)
 {
+    (void)ends;
     ssize_t size = rte_ring_get_memsize(2 * PLACES);
     void *memory = NULL;
     if (size < 0 || posix_memalign(&memory, RTE_CACHE_LINE_SIZE, (size_t)size) != 0) {
@@ -23,13 +24,15 @@ static void drop_queue(void)
     free(ring);
 }
 
-static size_t put_some(const uint64_t *items, size_t count)
+static size_t put_some(unsigned end, const uint64_t *items, size_t count)
 {
+    (void)end;
     return rte_ring_mp_enqueue_bulk_elem(ring, items, sizeof *items, (unsigned)count, NULL);
 }
 
-static size_t take_some(uint64_t *items, size_t most)
+static size_t take_some(unsigned end, uint64_t *items, size_t most)
 {
+    (void)end;
     return rte_ring_mc_dequeue_bulk_elem(ring, items, sizeof *items, (unsigned)most, NULL);
 }
 

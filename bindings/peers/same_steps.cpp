@@ -57,7 +57,7 @@ public:
         size_t count = 0;
         do {
             if (flag(tail + count).load(LOAD) != tail + count + 1) {
-                return 0;
+                return refused(tail);
             }
             items[count] = data(tail + count).load(DATA);
             count++;
@@ -66,6 +66,14 @@ public:
     }
 
 private:
+    /* What the queue loads to tell why nothing was taken: the head, which may be shut, and the tail again. */
+    size_t refused(uint64_t tail)
+    {
+        must(words[HEAD].load(LOAD) != SHUT + tail, "the queue was shut");
+        (void)words[TAIL].load(LOAD);
+        return 0;
+    }
+
     std::atomic<uint64_t> &data(uint64_t position)
     {
         return words[DATA_AT + position % PLACES * NEXT];
@@ -83,7 +91,7 @@ private:
 
 static Queue *queue;
 
-static bool make_queue()
+static bool make_queue(unsigned)
 {
     queue = new (std::nothrow) Queue;
     return queue != nullptr;
@@ -94,12 +102,12 @@ static void drop_queue()
     delete queue;
 }
 
-static size_t put_some(const uint64_t *items, size_t count)
+static size_t put_some(unsigned, const uint64_t *items, size_t count)
 {
     return queue->try_put(items, count) ? count : 0;
 }
 
-static size_t take_some(uint64_t *items, size_t most)
+static size_t take_some(unsigned, uint64_t *items, size_t most)
 {
     return queue->try_take_line(items, most);
 }

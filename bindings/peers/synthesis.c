@@ -6,38 +6,52 @@
 #include "measure.h"
 #include "synthesis.h"
 
-static APART struct synth_queue putter;
-static APART struct synth_queue taker;
+/* An end for each thread. */
+static struct {
+    APART struct synth_queue queue;
+} putters[MOST_ENDS], takers[MOST_ENDS];
 
-static bool make_queue(void)
+static unsigned made;
+
+static bool make_queue(unsigned ends)
 {
-    return synth_queue_new(PLACES, 0, &putter) == SYNTH_DONE && synth_queue_split(&putter, &taker) == SYNTH_DONE;
+    made = ends;
+    bool is_made = synth_queue_new(PLACES, 0, &putters[0].queue) == SYNTH_DONE;
+    for (unsigned i = 0; is_made && i < ends; i++) {
+        is_made = (i == 0 || synth_queue_split(&putters[0].queue, &putters[i].queue) == SYNTH_DONE) &&
+                  synth_queue_split(&putters[0].queue, &takers[i].queue) == SYNTH_DONE;
+    }
+    return is_made;
 }
 
 static void drop_queue(void)
 {
     struct synth_closed closed;
     uint64_t left[PLACES];
-    must(synth_queue_join(&putter, &taker) == SYNTH_DONE, "the ends can't be joined");
-    must(synth_queue_close(&putter, left, PLACES, &closed) == SYNTH_DONE, "the queue can't be closed");
+    for (unsigned i = 0; i < made; i++) {
+        must(i == 0 || synth_queue_join(&putters[0].queue, &putters[i].queue) == SYNTH_DONE, "ends can't be joined");
+        must(synth_queue_join(&putters[0].queue, &takers[i].queue) == SYNTH_DONE, "ends can't be joined");
+    }
+    must(synth_queue_close(&putters[0].queue, left, PLACES, &closed) == SYNTH_DONE, "the queue can't be closed");
     must(closed.put == closed.taken && closed.left == 0, "the close tells of other items");
 }
 
-static size_t put_some(const uint64_t *items, size_t count)
+static size_t put_some(unsigned end, const uint64_t *items, size_t count)
 {
-    return synth_queue_try_put(&putter, items, count).code == SYNTH_DONE ? count : 0;
+    return synth_queue_try_put(&putters[end].queue, items, count).code == SYNTH_DONE ? count : 0;
 }
 
-static size_t take_some(uint64_t *items, size_t most)
+static size_t take_some(unsigned end, uint64_t *items, size_t most)
 {
+    struct synth_queue *taker = &takers[end].queue;
     size_t count = 0;
 #ifdef ONE_BY_ONE
-    return synth_queue_take_up_to(&taker, items, most, &count).code == SYNTH_DONE ? count : 0;
+    return synth_queue_take_up_to(taker, items, most, &count).code == SYNTH_DONE ? count : 0;
 #else
     if (most == 1) {
-        return synth_queue_try_take(&taker, items).code == SYNTH_DONE;
+        return synth_queue_try_take(taker, items).code == SYNTH_DONE;
     }
-    return synth_queue_try_take_line(&taker, items, PLACES, &count).code == SYNTH_DONE ? count : 0;
+    return synth_queue_try_take_line(taker, items, PLACES, &count).code == SYNTH_DONE ? count : 0;
 #endif
 }
 

@@ -7,7 +7,7 @@ using Queue = oneapi::tbb::concurrent_bounded_queue<uint64_t>;
 
 static std::unique_ptr<Queue> queue;
 
-static bool make_queue()
+static bool make_queue(unsigned)
 {
     queue = std::make_unique<Queue>();
     queue->set_capacity(PLACES);
@@ -19,7 +19,7 @@ static void drop_queue()
     queue.reset();
 }
 
-static size_t put_some(const uint64_t *items, size_t count)
+static size_t put_some(unsigned, const uint64_t *items, size_t count)
 {
     size_t put = 0;
     while (put < count && queue->try_push(items[put])) {
@@ -28,7 +28,7 @@ static size_t put_some(const uint64_t *items, size_t count)
     return put;
 }
 
-static size_t take_some(uint64_t *items, size_t most)
+static size_t take_some(unsigned, uint64_t *items, size_t most)
 {
     size_t taken = 0;
     while (taken < most && queue->try_pop(items[taken])) {

@@ -1,6 +1,7 @@
 //! The same loops over the kit's `ArrayQueue`, which pushes and pops item by item.
 use crate::fault::Fault;
 use crate::measure::{Measured, Watch};
+use crate::waits::wait_a_little;
 use crossbeam_queue::ArrayQueue;
 use crossbeam_utils::Backoff;
 use std::alloc::Global;
@@ -48,7 +49,7 @@ pub fn push_one<R: Wait, T: Copy>(rt: &R, queue: &ArrayQueue<T>, item: T) {
         if queue.push(rt, item).is_ok() {
             break;
         }
-        backoff.snooze();
+        wait_a_little(&backoff);
     }
 }
 
@@ -59,7 +60,7 @@ pub fn pop_one<R: Wait, T: Copy>(rt: &R, queue: &ArrayQueue<T>) -> T {
         if let Some(item) = queue.pop(rt) {
             return item;
         }
-        backoff.snooze();
+        wait_a_little(&backoff);
     }
     unreachable!()
 }

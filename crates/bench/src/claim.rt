@@ -6,6 +6,7 @@ ghost use Rattle.claim_queue.specs.Handles.{IsEndOf};
 use crate::fault::Fault;
 use crate::line::sum_of;
 use crate::measure::{Measured, Watch};
+use crate::waits::wait_a_little;
 use arrayvec::ArrayVec;
 use claim_queue::{ClaimQueue, QueueEnd};
 use crossbeam_utils::Backoff;
@@ -53,7 +54,7 @@ fn put_one<R: Wait>(rt: &R, queue: &Queue, end: End, line: &[u64]) -> End
         if queue.try_put(&mut end, line).is_ok() {
             break;
         }
-        backoff.snooze();
+        wait_a_little(&backoff);
     }
     end
 }
@@ -68,7 +69,7 @@ fn take_one<R: Wait>(rt: &R, queue: &Queue, end: End, line: &mut ArrayVec<u64, 2
         if queue.try_take_line(&mut end, line).is_ok() {
             break;
         }
-        backoff.snooze();
+        wait_a_little(&backoff);
     }
     end
 }

@@ -12,8 +12,16 @@ use std::rt::Clock;
 use std::sync::Wait;
 use std::thread::Threads;
 
-/// Of so many measurements the shortest is told.
-const REPEATS: u32 = 15;
+/// Of so many measurements the shortest, the middle one and the longest are told.
+const REPEATS: usize = 15;
+
+/// What several measurements gave, in tenths of a nanosecond for each thing that was done.
+#[derive(Clone, Copy)]
+pub struct Spread {
+    pub shortest: u128,
+    pub middle: u128,
+    pub longest: u128,
+}
 
 /// What is measured, with the number of a row.
 #[derive(Clone, Copy)]
@@ -64,17 +72,21 @@ fn measure<R: Threads + Wait + Clock + Sync>(
     }
 }
 
-/// The shortest time of several measurements, in tenths of a nanosecond for each thing that was done.
-pub fn tenths_each<R: Threads + Wait + Clock + Sync>(
+/// The times of several measurements.
+pub fn spread_of<R: Threads + Wait + Clock + Sync>(
     rt: &R,
     alloc: Global,
     task: Task,
     number: u8,
-) -> Result<u128, Fault> {
-    let mut shortest = u128::MAX;
-    for _ in 0..REPEATS {
-        let done = measure(rt, alloc, task, number)?;
-        shortest = shortest.min(done.tenths_each());
+) -> Result<Spread, Fault> {
+    let mut tenths = [0; REPEATS];
+    for k in 0..REPEATS {
+        tenths[k] = measure(rt, alloc, task, number)?.tenths_each();
     }
-    Ok(shortest)
+    tenths.sort_unstable();
+    Ok(Spread {
+        shortest: tenths[0],
+        middle: tenths[REPEATS / 2],
+        longest: tenths[REPEATS - 1],
+    })
 }

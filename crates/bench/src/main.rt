@@ -16,6 +16,7 @@ mod replays;
 mod ring;
 mod rows;
 mod scripts;
+mod waits;
 
 use fault::Fault;
 use program::run_command;

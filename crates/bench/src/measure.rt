@@ -1,5 +1,6 @@
 //! How a figure comes from the clock.
 use crate::fault::Fault;
+use std::fmt;
 use std::rt::Clock;
 use std::time::{Duration, Instant};
 
@@ -57,6 +58,17 @@ impl Measured {
 pub struct Done {
     pub time: Duration,
     pub count: u64,
+}
+
+/// So many tenths, as a number with one digit behind the point.
+#[derive(Clone, Copy)]
+pub struct Tenths(pub u128);
+
+impl fmt::Display for Tenths {
+    fn fmt<W: fmt::Write>(&self, f: &mut fmt::Formatter<W>) -> fmt::Result {
+        let (whole, part) = (self.0 / 10, self.0 % 10);
+        write!(f, "{whole}.{part}")
+    }
 }
 
 /// How many in a second, where one takes so many tenths of a nanosecond.

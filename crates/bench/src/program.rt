@@ -1,7 +1,7 @@
 //! The commands of the program, and how it prints the rows.
 use crate::fault::Fault;
-use crate::figures::{Figure, Unit, tenths_each};
-use crate::measure::each_second;
+use crate::figures::{Figure, Spread, Unit, spread_of};
+use crate::measure::{Tenths, each_second};
 use crate::rows::{ROWS, Rows};
 use std::alloc::Global;
 use std::rt::Clock;
@@ -12,22 +12,44 @@ fn print_usage<R: Print>(rt: &R) -> Result<(), Fault> {
     println!(rt;
         "usage: bench alone | pairs | fours | chains | rings | boots | replays | all"
     ).map_err(Fault::of_row)?;
-    println!(rt; "prints a row for each figure: what is measured, the figure and its unit").map_err(
-        Fault::of_row,
-    )
+    println!(rt;
+        "prints a row for each figure: what is measured, the middle of 15 measurements, the least and the most, and the unit"
+    ).map_err(Fault::of_row)
 }
 
-// Prints the row of a figure, which is so many tenths of a nanosecond for each thing done.
-fn print_figure<R: Print>(rt: &R, figure: &Figure, number: u8, tenths: u128) -> Result<(), Fault> {
+// Prints the row of a figure, which is so many tenths of a nanosecond for each thing done. The most of a rate is that of
+// the shortest time.
+fn print_figure<R: Print>(
+    rt: &R,
+    figure: &Figure,
+    number: u8,
+    spread: Spread,
+) -> Result<(), Fault> {
     let name = figure.name;
+    let Spread {
+        shortest,
+        middle,
+        longest,
+    } = spread;
     match figure.unit {
         Unit::Each(thing) => {
-            let (whole, part) = (tenths / 10, tenths % 10);
-            println!(rt; "{name} {number} {whole}.{part} ns/{thing}").map_err(Fault::of_row)
+            println!(rt;
+                "{name} {number} {} ({}-{}) ns/{thing}",
+                Tenths(middle),
+                Tenths(shortest),
+                Tenths(longest),
+            )
+            .map_err(Fault::of_row)
         }
         Unit::Rate(things) => {
-            let rate = each_second(tenths);
-            println!(rt; "{name} {number} {rate} {things}/s").map_err(Fault::of_row)
+            let (rate, least, most) = (
+                each_second(middle),
+                each_second(longest),
+                each_second(shortest),
+            );
+            println!(rt; "{name} {number} {rate} ({least}-{most}) {things}/s").map_err(
+                Fault::of_row,
+            )
         }
     }
 }
@@ -40,8 +62,8 @@ fn print_figures<R: Threads + Wait + Clock + Print + Sync>(
     number: u8,
 ) -> Result<(), Fault> {
     for figure in figures {
-        let tenths = tenths_each(rt, alloc, figure.task, number)?;
-        print_figure(rt, figure, number, tenths)?;
+        let spread = spread_of(rt, alloc, figure.task, number)?;
+        print_figure(rt, figure, number, spread)?;
     }
     Ok(())
 }

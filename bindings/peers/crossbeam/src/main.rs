@@ -26,8 +26,9 @@ impl Takes for End {
 }
 
 fn main() -> Result<(), Box<dyn Error>> {
-    measure(|| {
+    let make = |ends| {
         let queue = Arc::new(ArrayQueue::new(PLACES));
-        Ok((End(Arc::clone(&queue)), End(queue)))
-    })
+        Ok((0..ends).map(|_end| (End(Arc::clone(&queue)), End(Arc::clone(&queue)))).collect())
+    };
+    measure(make, 2)
 }

@@ -67,11 +67,4 @@ mod calls {
     }
 }
 
-pub use calls::{elapsed, processor_time};
-
-/// Pins the thread to this core, or leaves it where none is named.
-pub fn pin(core: Option<&usize>) {
-    if let Some(core) = core {
-        calls::pin(*core);
-    }
-}
+pub use calls::{elapsed, pin, processor_time};

@@ -26,10 +26,18 @@ impl Takes for Taker {
     }
 }
 
+fn make(ends: usize) -> Result<Vec<(Putter, Taker)>, Box<dyn Error>> {
+    let mut first = QueueEnd::new(0)?;
+    let taker = first.split()?;
+    let mut others = Vec::new();
+    for _ in 1..ends {
+        others.push((Putter(first.split()?), Taker(first.split()?)));
+    }
+    let mut made = vec![(Putter(first), Taker(taker))];
+    made.append(&mut others);
+    Ok(made)
+}
+
 fn main() -> Result<(), Box<dyn Error>> {
-    measure(|| {
-        let mut end = QueueEnd::new(0)?;
-        let taker = end.split()?;
-        Ok((Putter(end), Taker(taker)))
-    })
+    measure(make, 2)
 }

@@ -22,8 +22,9 @@ impl Takes for Taker {
 }
 
 fn main() -> Result<(), Box<dyn Error>> {
-    measure(|| {
+    let make = |_ends| {
         let (putter, taker) = sync_channel(PLACES);
-        Ok((Putter(putter), Taker(taker)))
-    })
+        Ok(vec![(Putter(putter), Taker(taker))])
+    };
+    measure(make, 1)
 }

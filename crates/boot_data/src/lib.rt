@@ -6,14 +6,16 @@
 
 mod boot_plan;
 mod fixed;
+mod heard;
 mod kind;
 pub mod plan;
 mod report;
 
 pub use boot_plan::BootPlan;
 pub use fixed::{Name, Text};
+pub use heard::{HeardLines, HeardPlace, HeardReport};
 pub use kind::Kind;
 pub use report::{
-    AlarmCounts, GaugeLine, HeardItems, HeardLine, ItemCounts, MoverKind, MoverLine, QueueKind,
-    QueueLine, Report, ThreadLine, ThreadState, TtyLines,
+    AlarmCounts, GaugeLine, ItemCounts, MoverKind, MoverLine, QueueKind, QueueLine, Report,
+    ThreadLine, ThreadState, TtyLines,
 };

@@ -3,12 +3,9 @@
 //! A report has one list for each kind of line, each in the order of the script, and `print_report` writes it. Queues
 //! and pipes stand in one list, and so do pumps and switches.
 
-ghost use Rattle.std.specs.Prelude.{◌≡◌, ◌≤◌, length};
-
 use crate::fixed::Name;
-use arrayvec::ArrayVec;
+use crate::heard::HeardReport;
 use event_theory::{Items, WaitNumber};
-use std::marker::Model;
 
 /// How many items went through a queue.
 #[derive(Clone, Copy, Debug, PartialEq, Eq)]
@@ -125,56 +122,6 @@ pub struct ThreadLine {
     pub signals: u16,
 }
 
-/// Up to 256 items, in their order: a line that a thread took. Contracts see their list.
-#[derive(Drop)]
-pub struct HeardItems {
-    items: ArrayVec<u64, 256>,
-}
-
-impl Model for HeardItems {
-    ghost use Rattle.std.specs.Prelude.{ℕ, List};
-
-    ghost Value = { List ℕ };
-
-    ghost view = { λ heard. heard.items.items };
-}
-
-impl HeardItems {
-    /// These items, in their order. Takes no memory.
-    pub fn new(items: ArrayVec<u64, 256>) -> Self
-        ensures { result ≡ items.items }
-    {
-        HeardItems { items }
-    }
-
-    /// The items in their order.
-    pub fn as_slice(&self) -> &[u64]
-        ensures items { result.now ≡ self.now }
-        ensures few { length result.now ≤ 256 }
-    {
-        self.items.as_slice()
-    }
-
-    /// Gives the items back. Takes no memory.
-    pub fn into_array_vec(self) -> ArrayVec<u64, 256>
-        ensures { result.items ≡ self }
-    {
-        let HeardItems { items } = self;
-        items
-    }
-}
-
-/// The line of what a thread heard in one step.
-#[derive(Drop)]
-pub struct HeardLine {
-    /// The thread's name.
-    pub thread: Name,
-    /// The step's number in the thread's program, from 0.
-    pub step: u32,
-    /// All items that the step took. Each counts as its low 8 bits.
-    pub items: HeardItems,
-}
-
 /// What a boot reports.
 #[derive(Drop)]
 pub struct Report {
@@ -185,7 +132,7 @@ pub struct Report {
     pub alarms: AlarmCounts,
     pub threads: Items<ThreadLine>,
     /// By thread in script order, then by step.
-    pub heard: Items<HeardLine>,
+    pub heard: HeardReport,
     /// The sum of the notes left in all chains.
     pub chained: u64,
 }

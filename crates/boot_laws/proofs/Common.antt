@@ -37,9 +37,9 @@ pub use Rattle.processor.specs.Entries.{FollowsPlan, LogEntry, OutcomeFollows, e
 pub use Rattle.processor.specs.Logs.{Leaves, sum_of, was_shut}
 pub use Rattle.processor.specs.Partings.{AllJoined, AreJoined}
 pub use Rattle.processor.specs.Preparing.{HasDoneAll, preparing}
-pub use Rattle.processor.specs.Programs.{Key, program, same_key, step_of}
+pub use Rattle.boot_data.specs.Hearing.{Key, Line}
+pub use Rattle.processor.specs.Programs.{program, same_key, step_of}
 pub use Rattle.processor.specs.Queues.{said_line}
-pub use Rattle.processor.specs.Running.{Line}
 pub use Rattle.processor.specs.Tries.{heard, said}
 pub use Rattle.processor.specs.Turns.{heard_lines}
 pub use Rattle.processor.specs.declared.deed.Deed.{Deed}
@@ -49,7 +49,7 @@ pub use Rattle.processor.specs.declared.sending.Moved.{Moved}
 pub use Rattle.processor.specs.declared.station.Parts.{Parts}
 pub use Rattle.processor.specs.declared.tries.SayAnswer.{SayAnswer}
 pub use Rattle.processor.specs.declared.waking.Paid.{Paid}
-pub use Rattle.quajects.specs.Settled.{runs_of, shuts_of, takings_of, views_of}
+pub use Rattle.quajects.specs.Settled.{runs_of, shuts_of, takings_of}
 pub use Rattle.quajects.specs.declared.any.AnyQuaject.{AnyQuaject}
 pub use Rattle.quajects.specs.declared.home.Home.{Home}
 pub use Rattle.quajects.specs.declared.ports.Port.{Port}
@@ -67,7 +67,7 @@ pub use Rattle.turn_dispatch.specs.Sendings.{retired}
 pub use Rattle.turn_dispatch.specs.Tallies.{Tally}
 pub use Rattle.turn_dispatch.specs.declared.alarms.Tended.{Tended}
 pub use Rattle.turn_dispatch.specs.declared.dispatch.Begun.{Begun}
-pub use Rattle.turn_io.proofs.Adding.{dids_add, queues_add, stakes_add}
+pub use Rattle.turn_io.proofs.Adding.{queues_add}
 pub use Rattle.turn_io.specs.Accounts.{AtQueue, Stake, at_one, both_stakes, idle_queue, lines_of, no_stake, only, put_if, room_of, shut_if, stake, stakes, taken_if}
 pub use Rattle.turn_io.specs.EndLists.{end_knows_shut}
 pub use lib.ListN.{get_elem?}
@@ -77,8 +77,8 @@ pub use native.Mathlib.Decide.{dec_lt}
 pub use Rattle.boot_laws.specs.Agreements.{IsMover, IsTty, MadeOfNew, PlaceAgrees, put_in, routes_of, taken_from}
 pub use Rattle.boot_laws.specs.Boots.{Boot, BootEnded, others_at}
 pub use Rattle.boot_laws.specs.ClosedTables.{ClosedTables, queue_at}
-pub use Rattle.boot_laws.specs.Closings.{IsPlanned, items_from, queue_of}
-pub use Rattle.boot_laws.specs.Endings.{ChainEnded, MetersEnded, MoverEnded, QueueEnded, ThreadsEnded, TtyEnded, WorkedTogether, device_at, end_at, ends_at, home_at, thread_of}
+pub use Rattle.boot_laws.specs.Closings.{items_from, queue_of}
+pub use Rattle.boot_laws.specs.Endings.{AreCovered, ChainEnded, Done, FreedSpare, MetersEnded, MoverEnded, QueueEnded, ThreadsEnded, WorkedTogether, device_at, ends_at, home_at, thread_of}
 pub use Rattle.boot_laws.specs.Reports.{Ascend, IsReport}
 pub use Rattle.boot_laws.specs.Saying.{IsNeverShut}
 pub use Rattle.boot_laws.specs.Totals.{total_of}

@@ -1,5 +1,5 @@
 -- What a turn did, by its step, if it tried one.
-use Rattle.boot_laws.proofs.Common.{◌≡◌, inl, inr, ℕ, ◌+◌, Bool, true, false, List, [], ◌∷◌, ◌++◌, refl, sym, ap, ◌∙◌, Option, Some, None, if◌then◌else◌, BootPlan, QueueIndex, Step, AtQueue, idle_queue, queues_add, Tended, Begun, counted_step, retired, Deed, Had, Outcome, Moved, SayAnswer, Paid, Account, ◌⊕◌, is_done, IsDeedOf, queues_by, raised_by, heard_by, told_shut, LogEntry, entry_account, tending, outcome_account, gone, FollowsPlan, OutcomeFollows, turn_told_shut, Key, step_of, said_line}
+use Rattle.boot_laws.proofs.Common.{Line, subst, ◌≡◌, inl, inr, ℕ, ◌+◌, Bool, true, false, List, [], ◌∷◌, ◌++◌, refl, sym, ap, ◌∙◌, Option, Some, None, if◌then◌else◌, BootPlan, QueueIndex, Step, AtQueue, idle_queue, queues_add, Tended, Begun, counted_step, retired, Deed, Had, Outcome, Moved, SayAnswer, Paid, Account, ◌⊕◌, is_done, IsDeedOf, queues_by, raised_by, heard_by, told_shut, LogEntry, entry_account, tending, outcome_account, gone, FollowsPlan, OutcomeFollows, turn_told_shut, Key, step_of, said_line}
 use Rattle.std.proofs.Common.{◌⊎◌}
 use Rattle.boot_data.specs.declared.plan.Step.TheVariants as steps
 use Rattle.turn_io.specs.Accounts.{at_each, both_queue}
@@ -10,15 +10,22 @@ use Rattle.processor.specs.declared.outcome.Outcome.TheVariants as outcomes
 use Rattle.processor.specs.declared.sending.Moved.TheVariants as moveds
 use Rattle.processor.specs.Entries.{count_of, outcome_told_shut}
 
+-- what a turn did by its step: at the queues, the steps done and what was heard
+abbrev pub Tried : Type 0
+Tried = (QueueIndex → AtQueue) × List Key × List Line
+
+abbrev pub tried_in : Account → Tried
+tried_in a = (a.queues, a.hand.done, a.heard)
+
 -- no step was tried
-pub record Rests (a : Account) (told : QueueIndex → Bool) : Type 0 where
-  pub queues : a.queues ≡ (λ q. idle_queue)
-  pub done : a.hand.done ≡ []
-  pub heard : a.heard ≡ []
+pub record Rests (t : Tried) (told : QueueIndex → Bool) : Type 0 where
+  pub queues : t.0 ≡ (λ q. idle_queue)
+  pub done : t.1 ≡ []
+  pub heard : t.2 ≡ []
   pub untold : (q : QueueIndex) → told q ≡ false
 
 -- the step of the plan that was tried
-pub record Tries (plan : BootPlan) (a : Account) (told : QueueIndex → Bool) : Type 0 where
+pub record Tries (plan : BootPlan) (t : Tried) (told : QueueIndex → Bool) : Type 0 where
   pub element : ℕ
   pub number : ℕ
   pub step : Step
@@ -26,9 +33,9 @@ pub record Tries (plan : BootPlan) (a : Account) (told : QueueIndex → Bool) : 
   pub line : List ℕ
   pub is : step_of plan element number ≡ Some step
   pub deed_is : IsDeedOf step deed line
-  pub queues : a.queues ≡ queues_by deed line
-  pub done : a.hand.done ≡ (if is_done deed then (element, number) ∷ [] else [])
-  pub heard : a.heard ≡ heard_by deed element number line
+  pub queues : t.0 ≡ queues_by deed line
+  pub done : t.1 ≡ (if is_done deed then (element, number) ∷ [] else [])
+  pub heard : t.2 ≡ heard_by deed element number line
   pub told_is : told ≡ told_shut deed
 
 none_before : (f : QueueIndex → AtQueue) → at_each both_queue (λ q. idle_queue) f ≡ f
@@ -56,7 +63,7 @@ append_none false k = refl
 
 module _ (plan : BootPlan) where
   by_had : (begun : Begun) (had : Had) (line : List ℕ) → OutcomeFollows plan (outcomes.Had begun had) line
-      → Rests (outcome_account (outcomes.Had begun had) line) (outcome_told_shut (outcomes.Had begun had)) ⊎ Tries plan (outcome_account (outcomes.Had begun had) line) (outcome_told_shut (outcomes.Had begun had))
+      → Rests (tried_in (outcome_account (outcomes.Had begun had) line)) (outcome_told_shut (outcomes.Had begun had)) ⊎ Tries plan (tried_in (outcome_account (outcomes.Had begun had) line)) (outcome_told_shut (outcomes.Had begun had))
   by_had begun (hads.Ended moved) line p = inl (record {
     queues = none_before (λ q. idle_queue);
     done = none_retired moved begun.element begun.number;
@@ -79,37 +86,20 @@ module _ (plan : BootPlan) where
   })
 
   by_outcome : (outcome : Outcome) (line : List ℕ) → OutcomeFollows plan outcome line
-      → Rests (outcome_account outcome line) (outcome_told_shut outcome) ⊎ Tries plan (outcome_account outcome line) (outcome_told_shut outcome)
+      → Rests (tried_in (outcome_account outcome line)) (outcome_told_shut outcome) ⊎ Tries plan (tried_in (outcome_account outcome line)) (outcome_told_shut outcome)
   by_outcome (outcomes.Idle idle) line p = inl (record { queues = refl; done = refl; heard = refl; untold = λ q. refl })
   by_outcome (outcomes.Had begun had) line p = by_had begun had line p
 
 -- the tending of the alarms does none of this
-none_tended : (t : Option Tended) (a : Account) → ((tending t ⊕ a).queues ≡ a.queues) × ((tending t ⊕ a).hand.done ≡ a.hand.done) × ((tending t ⊕ a).heard ≡ a.heard)
-none_tended None a = (none_before a.queues, refl, refl)
-none_tended (Some tended) a = (none_before a.queues, refl, refl)
+none_tended : (t : Option Tended) (a : Account) → tried_in a ≡ tried_in (tending t ⊕ a)
+none_tended None a = λ i. (sym (none_before a.queues) i, a.hand.done, a.heard)
+none_tended (Some tended) a = λ i. (sym (none_before a.queues) i, a.hand.done, a.heard)
 
 -- a turn either tried no step, or one of the plan
 pub turn_is : (plan : BootPlan) (entry : LogEntry) → FollowsPlan plan entry
-    → Rests (entry_account entry) (λ q. turn_told_shut q entry) ⊎ Tries plan (entry_account entry) (λ q. turn_told_shut q entry)
-turn_is plan entry p = by (none_tended entry.turned.tended (outcome_account entry.turned.outcome entry.line)) (by_outcome plan entry.turned.outcome entry.line p)
-  where
-    by : ((entry_account entry).queues ≡ (outcome_account entry.turned.outcome entry.line).queues) × ((entry_account entry).hand.done ≡ (outcome_account entry.turned.outcome entry.line).hand.done) × ((entry_account entry).heard ≡ (outcome_account entry.turned.outcome entry.line).heard)
-        → Rests (outcome_account entry.turned.outcome entry.line) (outcome_told_shut entry.turned.outcome) ⊎ Tries plan (outcome_account entry.turned.outcome entry.line) (outcome_told_shut entry.turned.outcome)
-        → Rests (entry_account entry) (λ q. turn_told_shut q entry) ⊎ Tries plan (entry_account entry) (λ q. turn_told_shut q entry)
-    by n (inl r) = inl (record { queues = n.0 ∙ r.queues; done = n.1 ∙ r.done; heard = n.2 ∙ r.heard; untold = r.untold })
-    by n (inr t) = inr (record {
-      element = t.element;
-      number = t.number;
-      step = t.step;
-      deed = t.deed;
-      line = t.line;
-      is = t.is;
-      deed_is = t.deed_is;
-      queues = n.0 ∙ t.queues;
-      done = n.1 ∙ t.done;
-      heard = n.2 ∙ t.heard;
-      told_is = t.told_is;
-    })
+    → Rests (tried_in (entry_account entry)) (λ q. turn_told_shut q entry) ⊎ Tries plan (tried_in (entry_account entry)) (λ q. turn_told_shut q entry)
+turn_is plan entry p = subst (λ (t : Tried). Rests t (λ q. turn_told_shut q entry) ⊎ Tries plan t (λ q. turn_told_shut q entry))
+    (none_tended entry.turned.tended (outcome_account entry.turned.outcome entry.line)) (by_outcome plan entry.turned.outcome entry.line p)
 
 -- THE STEP OF A DEED
 

@@ -5,6 +5,8 @@ pub mod Stakes
 pub mod Weaving
 pub mod Chains
 pub mod Takings
+pub mod Notes
+pub mod Stations
 pub mod QueueEnds
 pub mod Raws
 pub mod Shutting

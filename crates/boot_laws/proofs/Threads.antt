@@ -1,5 +1,5 @@
 -- The closed threads by the logs.
-use Rattle.boot_laws.proofs.Common.{◌≡◌, ◌≢◌, ⊎_elim, ℕ, suc, ◌+◌, ◌<◌, ◌≤◌, Bool, true, false, List, [], ◌∷◌, ◌++◌, map, length, refl, sym, ap, ◌∙◌, subst, arith, Some, None, count_by, eqb, eq-eqb, append-nil, if◌then◌else◌, ◌||◌, ◌==◌, ◌&&◌, nat_lt, slice_index_or, AllZip, AllByRecursion, leb_tells, dite, dec_lt, BootPlan, Step, Tally, Place, Parts, Account, account, LogEntry, Leaves, sum_of, HasDoneAll, preparing, Key, program, same_key, plus, many_cons, many_more, by_bool, is_less, PlaceAgrees, ClosedTables, WorkedTogether, ThreadsEnded, thread_of, total_of}
+use Rattle.boot_laws.proofs.Common.{Done, ◌≡◌, ◌≢◌, ⊎_elim, ℕ, suc, ◌+◌, ◌<◌, ◌≤◌, Bool, true, false, List, [], ◌∷◌, ◌++◌, map, length, refl, sym, ap, ◌∙◌, subst, arith, Some, None, count_by, eqb, eq-eqb, append-nil, if◌then◌else◌, ◌||◌, ◌==◌, ◌&&◌, nat_lt, slice_index_or, AllByRecursion, leb_tells, dite, dec_lt, BootPlan, Step, Tally, Place, Account, LogEntry, sum_of, HasDoneAll, preparing, Key, program, same_key, plus, many_cons, many_more, by_bool, is_less, PlaceAgrees, ClosedTables, WorkedTogether, ThreadsEnded, thread_of, total_of}
 use Rattle.std.proofs.Common.{slice_get, cond}
 use Rattle.std.specs.List.{list_any, filter}
 use Rattle.std.proofs.lemmas.Bool.{and_parts as both, eqb-true as eqb_is}
@@ -9,13 +9,11 @@ use Rattle.turn_dispatch.specs.Tallies.{behind}
 use Rattle.turn_dispatch.proofs.Settling.Reading.{is_of, steps_of_rest, signals_of_rest, retired_where_free, retired_last}
 use Rattle.thread_table.specs.declared.places.Place.TheVariants as places
 use Rattle.thread_table.specs.Answers.{is_in}
-use Rattle.thread_table.specs.Handles.{view_of}
-use Rattle.thread_table.specs.Rules.{done_at}
 use Rattle.processor.specs.Logs.{numbers_done, Climbs}
 use Rattle.boot_laws.specs.Agreements.{ThreadAgrees, StepsAgree, was_retired}
 use Rattle.boot_laws.specs.ClosedTables as closed
 use Rattle.boot_laws.specs.Endings.{FreedSpare}
-use Rattle.boot_laws.proofs.Totals.{all_of, all_did, sum_more, all_planned, planned_all}
+use Rattle.boot_laws.proofs.Totals.{all_of, all_did, sum_more, all_planned}
 use Rattle.boot_laws.proofs.Turns.{all_work, all_over}
 use Rattle.boot_laws.proofs.Undone.{none_in}
 
@@ -46,17 +44,15 @@ climbs_below (y ∷ ys) low high top up below h =
     let c = many_cons (eqb y) y ys in let one : plus (eqb y y) ≡ 1 = ap plus (eq-eqb y y refl) in
     (h.0, climbs_below ys (y + 1) high top (let k = below y (omega arith) in omega arith) (λ n some. below n (let d = many_cons (eqb n) y ys in omega arith)) h.1)
 
-all_climb : (plan : BootPlan) (x top : ℕ) (logs : List (List LogEntry)) (stations : List Parts) → AllZip (Leaves plan) logs stations
+all_climb : (x top : ℕ) (logs : List (List LogEntry)) → AllByRecursion (λ log. (high : ℕ) × Climbs (numbers_done log x) 0 high) logs
     → ((n : ℕ) → 1 ≤ count_by (same_key (x, n)) (total_of logs).hand.done → n < top) → AllByRecursion (λ log. Climbs (numbers_done log x) 0 top) logs
-all_climb plan x top [] [] z below = tt
-all_climb plan x top [] (s ∷ ss) z below = absurd z
-all_climb plan x top (l ∷ ls) [] z below = absurd z
-all_climb plan x top (l ∷ ls) (s ∷ ss) z below =
+all_climb x top [] z below = tt
+all_climb x top (l ∷ ls) z below =
     let parts : (n : ℕ) → count_by (same_key (x, n)) (total_of (l ∷ ls)).hand.done ≡ count_by (same_key (x, n)) (sum_of l).hand.done + count_by (same_key (x, n)) (total_of ls).hand.done =
     λ n. ap (λ (a : Account). count_by (same_key (x, n)) a.hand.done) (sum_more l (all_of ls)) ∙ many_more (same_key (x, n)) (sum_of l).hand.done (total_of ls).hand.done in (
-      climbs_below (numbers_done l x) 0 (done_at (view_of s.hand).seen.object x) top (omega arith)
-          (λ n some. below n (let e = numbered x n (sum_of l).hand.done in let p = parts n in omega arith)) (z.0.order x),
-      all_climb plan x top ls ss z.1 (λ n some. below n (let p = parts n in omega arith)),
+      climbs_below (numbers_done l x) 0 z.0.0 top (omega arith)
+          (λ n some. below n (let e = numbered x n (sum_of l).hand.done in let p = parts n in omega arith)) z.0.1,
+      all_climb x top ls z.1 (λ n some. below n (let p = parts n in omega arith)),
     )
 
 -- FREE ELEMENTS
@@ -83,13 +79,13 @@ by_place places.Held steps all retired is done none = is
 
 -- ALL
 
-module _ (plan : BootPlan) (logs : List (List LogEntry)) (stations : List Parts) (first last : Parts) (w : WorkedTogether plan logs first stations last) (c : ClosedTables) (e : ThreadsEnded last c) where
+module _ (plan : BootPlan) (logs : List (List LogEntry)) (done : Done) (w : WorkedTogether plan logs done) (c : ClosedTables) (e : ThreadsEnded done.in_all c) where
   -- what the first hand did, and what the logs say, settle the table
   abbrev begun : Tally
-  begun = (preparing plan (account first)).hand
+  begun = (preparing plan done.before).hand
 
   settled : Settles (behind begun (total_of logs).hand) e.told.places e.told.pcs e.told.pending
-  settled = subst (λ (t : Tally). Settles t e.told.places e.told.pcs e.told.pending) (ap (λ (a : Account). a.hand) (all_did plan logs stations first last w)) e.settles
+  settled = subst (λ (t : Tally). Settles t e.told.places e.told.pcs e.told.pending) (ap (λ (a : Account). a.hand) (all_did plan logs done w)) e.settles
 
   -- each step of an element was done once, up to as many as the table tells
   pub once : (x n : ℕ) → x < 64 → count_by (same_key (x, n)) (total_of logs).hand.done ≡ (if nat_lt n (slice_index_or e.told.pcs x 0) then 1 else 0)
@@ -98,25 +94,25 @@ module _ (plan : BootPlan) (logs : List (List LogEntry)) (stations : List Parts)
   -- no thread has done more steps than its program has
   pub prefix : (x : ℕ) → x < 64 → slice_index_or e.told.pcs x 0 ≤ length (program plan x)
   prefix x low = dite (dec_lt (length (program plan x)) (slice_index_or e.told.pcs x 0))
-      (λ over. let none = none_in plan x (length (program plan x)) (past_end (program plan x)) (all_of logs) (all_planned plan logs (planned_all plan logs stations w.left)) in
+      (λ over. let none = none_in plan x (length (program plan x)) (past_end (program plan x)) (all_of logs) (all_planned plan logs w.planned) in
       let one : ◌≡◌ {A = ℕ} (if nat_lt (length (program plan x)) (slice_index_or e.told.pcs x 0) then 1 else 0) 1 = ap (λ b. if b then 1 else 0) (is_less (length (program plan x)) (slice_index_or e.told.pcs x 0) over) in
       let h = once x (length (program plan x)) low in absurd (omega arith))
       (λ high. omega (arith, high))
 
-  module _ (spare : FreedSpare plan first) (x : ℕ) (low : x < 64) (its : x < length plan.threads) where
+  module _ (spare : FreedSpare plan done.before) (x : ℕ) (low : x < 64) (its : x < length plan.threads) where
     abbrev t : closed.Thread
-    t = thread_of e.told last.signals x
+    t = thread_of e.told e.signals x
 
     steps_agree : StepsAgree plan x t.steps logs
     steps_agree = record {
       prefix = prefix x low;
       once = λ n. once x n low;
-      order = all_climb plan x t.steps logs stations w.left (λ n some. ⊎_elim (λ less. less.1)
+      order = all_climb x t.steps logs (w.climb x) (λ n some. ⊎_elim (λ less. less.1)
           (λ not_less. let h = once x n low ∙ ap (λ b. if b then 1 else 0) not_less.0 in absurd (omega arith)) (leb_tells (suc n) t.steps));
     }
 
     took : length (begun.taken ++ (total_of logs).hand.taken) ≡ 64
-    took = ap (λ l. length (begun.taken ++ l)) (all_work (all_of logs)).taken ∙ (ap length (append-nil begun.taken) ∙ w.prepared.took)
+    took = ap (λ l. length (begun.taken ++ l)) (all_work (all_of logs)).taken ∙ (ap length (append-nil begun.taken) ∙ w.took)
 
     none : list_any (is_of x) begun.retired ≡ false
     none = none_spare (length plan.threads) x its begun.retired spare
@@ -124,12 +120,12 @@ module _ (plan : BootPlan) (logs : List (List LogEntry)) (stations : List Parts)
     place_agrees : PlaceAgrees t.place t.steps (length (program plan x)) (was_retired x logs)
     place_agrees = by_place t.place t.steps (length (program plan x)) (was_retired x logs)
         (retired_where_free begun (total_of logs).hand e.told.places e.told.pcs e.told.pending settled x low took none)
-        (λ free. let all = has_done_all plan x t.steps (total_of logs).hand.retired (all_over plan (all_of logs) (all_planned plan logs (planned_all plan logs stations w.left)))
+        (λ free. let all = has_done_all plan x t.steps (total_of logs).hand.retired (all_over plan (all_of logs) (all_planned plan logs w.planned))
         (retired_last begun (total_of logs).hand e.told.places e.told.pcs e.told.pending settled x low took none free) in let prefix = steps_agree.prefix in omega arith)
         (λ p. e.none_on x p low)
 
     shown_agrees : (n : ℕ) → n < 16 → is_in t.shown n ≡ (total_of logs).shown x n
-    shown_agrees n few = sym (within_both (nat_lt x 64) (nat_lt n 16) (is_in t.shown n) (is_less x 64 low) (is_less n 16 few)) ∙ ap (λ (a : Account). a.shown x n) (all_did plan logs stations first last w)
+    shown_agrees n few = sym (within_both (nat_lt x 64) (nat_lt n 16) (is_in t.shown n) (is_less x 64 low) (is_less n 16 few)) ∙ ap (λ (f : ℕ → ℕ → Bool). f x n) (sym e.shown) ∙ ap (λ (a : Account). a.shown x n) (all_did plan logs done w)
       where
         within_both : (a b z : Bool) → a ≡ true → b ≡ true → (a && (b && z)) ≡ z
         within_both true true z h g = refl
@@ -143,5 +139,5 @@ module _ (plan : BootPlan) (logs : List (List LogEntry)) (stations : List Parts)
     agrees : ThreadAgrees plan x t logs
     agrees = record { ran = steps_agree; place = place_agrees; shown = shown_agrees; signals = signals_agree }
 
-  pub thread_agrees : FreedSpare plan first → (x : ℕ) → x < length plan.threads → (t : closed.Thread) → slice_get c.threads x ≡ Some t → ThreadAgrees plan x t logs
+  pub thread_agrees : FreedSpare plan done.before → (x : ℕ) → x < length plan.threads → (t : closed.Thread) → slice_get c.threads x ≡ Some t → ThreadAgrees plan x t logs
   thread_agrees spare x its t at = subst (λ (z : closed.Thread). ThreadAgrees plan x z logs) (sym (e.each x t at)) (agrees spare x (let a = within c.threads x t at in let b = e.few in omega arith) its)

@@ -30,7 +30,8 @@ use Rattle.thread_table.specs.declared.places.Place.TheVariants as places
 use Rattle.thread_table.specs.Answers.{is_in}
 use Rattle.processor.specs.Entries.{LogEntry}
 use Rattle.processor.specs.Logs.{Climbs, numbers_done, sum_of}
-use Rattle.processor.specs.Programs.{Key, program, same_key}
+use Rattle.boot_data.specs.Hearing.{Key}
+use Rattle.processor.specs.Programs.{program, same_key}
 use Rattle.boot_laws.specs.ClosedTables.{ClosedTables}
 use Rattle.boot_laws.specs.ClosedTables as closed
 use Rattle.boot_laws.specs.Totals.{total_of}

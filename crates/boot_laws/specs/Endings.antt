@@ -1,60 +1,65 @@
--- What a boot knows once its processors have returned, their stations are joined and its tables closed.
-use Rattle.std.specs.Prelude.{◌≡◌, ◌<◌, ◌≤◌, ◌+◌, ◌^◌, ℕ, true, List, [], ◌∷◌, ◌++◌, map, take}
-use Rattle.std.specs.Prelude.{length, flat_map}
+-- What a boot knows once its processors have returned and its tables are closed.
+use Rattle.std.specs.Prelude.{◌≡◌, ◌≤◌, ◌+◌, ◌%◌, ℕ, List, [], ◌∷◌, ◌++◌, map, take, length, flat_map}
 use Rattle.std.specs.Prelude.{Option, Some, None, slice_index_or}
-use Rattle.std.specs.List.{slice_get, sum_by, AllByRecursion, AllZip}
+use Rattle.std.specs.List.{slice_get, concat, AllByRecursion}
 use Rattle.boot_data.specs.declared.boot_plan.BootPlan.{BootPlan}
 use Rattle.boot_data.specs.declared.plan.PlannedMover.{PlannedMover}
 use Rattle.boot_data.specs.declared.plan.QueueIndex.{QueueIndex}
 use Rattle.boot_data.specs.declared.plan.QueueIndex.TheVariants.{Small, Large}
-use Rattle.boot_data.specs.QueueLists.{raw_queue, line_queue, screen_queue}
 use Rattle.claim_queue.specs.declared.ends.QueueEnd.{QueueEnd}
 use Rattle.claim_queue.specs.Handles as queues
-use Rattle.claim_queue.specs.Lines.{lines_put, lines_taken}
+use Rattle.claim_queue.specs.Lines.{lines_put, lines_taken, line_of}
+use Rattle.event_theory.specs.declared.alarm.Alarm.{Alarm}
+use Rattle.event_theory.specs.Numbers.{u64_values}
 use Rattle.turn_io.specs.Accounts.{at_one, room_of}
 use Rattle.turn_dispatch.specs.Settlings.{Settles, NoneOn}
-use Rattle.meters.specs.Closings as seats
-use Rattle.meters.specs.Handles as meters
-use Rattle.proc_chain.specs.declared.ends.ChainEnd.{ChainEnd}
-use Rattle.proc_chain.specs.declared.rule.Pact.{Pact}
-use Rattle.proc_chain.specs.Own.{View as ChainView}
-use Rattle.proc_chain.specs.Handles as chains
-use Rattle.quajects.specs.declared.any.AnyQuaject.{AnyQuaject}
+use Rattle.meters.specs.Views.{amount_on, times}
 use Rattle.quajects.specs.declared.home.Home.{Home}
 use Rattle.quajects.specs.declared.ports.Port.{Port}
-use Rattle.quajects.specs.declared.world.Queues.{Queues}
-use Rattle.quajects.specs.Homes.{CameHome}
-use Rattle.quajects.specs.Settled.{SettledNow, views_of, shuts_of}
+use Rattle.quajects.specs.Anys.{PortsOf, KeepsSides, IsKept, notes_of}
+use Rattle.quajects.specs.Settled.{runs_of, takings_of}
+use Rattle.table_theory.specs.declared.queues.Batch.{Batch}
+use Rattle.table_theory.specs.declared.queues.Cell.{Cell}
+use Rattle.table_theory.specs.Filing.{Owned}
+use Rattle.table_theory.specs.Interleaving.{Ascending, joined}
+use Rattle.table_theory.specs.Listing.{IsListed}
 use Rattle.table_theory.specs.Positioned.{item_of}
 use Rattle.thread_table.specs.declared.close.Places.{Places}
 use Rattle.thread_table.specs.declared.places.Place.TheVariants as places
-use Rattle.processor.specs.declared.station.Parts.{Parts}
-use Rattle.processor.specs.Accounts.{account}
-use Rattle.processor.specs.Entries.{LogEntry}
-use Rattle.processor.specs.Logs.{Leaves}
-use Rattle.processor.specs.Partings.{AllJoined}
-use Rattle.processor.specs.Preparing.{IsPrepared}
-use Rattle.processor.specs.Programs.{Key}
-use Rattle.boot_laws.specs.Agreements.{IsTty, IsMover, MadeOfNew}
+use Rattle.processor.specs.Accounts.{Account, ◌⊕◌, shown_in}
+use Rattle.processor.specs.Entries.{LogEntry, FollowsPlan}
+use Rattle.processor.specs.Logs.{Climbs, numbers_done, sum_of}
+use Rattle.processor.specs.Preparing.{preparing}
+use Rattle.boot_data.specs.Hearing.{Key}
+use Rattle.boot_laws.specs.Agreements.{IsMover, MadeOfNew}
 use Rattle.boot_laws.specs.ClosedTables.{ClosedTables}
 use Rattle.boot_laws.specs.ClosedTables as closed
+use Rattle.boot_laws.specs.Totals.{total_of}
 
 -- PROCESSORS
 
--- Each processor left what its log says, on a station that was fresh; and all stations were joined to the first, which
--- had prepared the threads
-pub record WorkedTogether (plan : BootPlan) (logs : List (List LogEntry)) (first : Parts) (stations : List Parts)
-    (last : Parts) : Type 0 where
-  pub left : AllZip (Leaves plan) logs stations
-  pub prepared : IsPrepared plan first
-  pub joined : AllJoined first stations last
+-- what was done in a boot: before its processors had turns, by each of them, and in all
+pub record Done : Type 0 where
+  pub before : Account
+  pub by_each : List Account
+  pub in_all : Account
+
+-- Each entry of the logs follows the plan, and in each log the numbers of a thread's steps climb. Each processor did
+-- what its log comes to. Before that, the threads were prepared of 64 free elements, and all that was done is this, and
+-- then what the logs come to
+pub record WorkedTogether (plan : BootPlan) (logs : List (List LogEntry)) (done : Done) : Type 0 where
+  pub planned : AllByRecursion (AllByRecursion (FollowsPlan plan)) logs
+  pub climb : (thread : ℕ) → AllByRecursion (λ log. (high : ℕ) × Climbs (numbers_done log thread) 0 high) logs
+  pub prepared : done.before ≡ preparing plan done.before
+  pub took : length done.before.hand.taken ≡ 64
+  pub each : done.by_each ≡ map sum_of logs
+  pub all : done.in_all ≡ done.before ⊕ total_of logs
 
 -- THREADS
 
--- the elements that the station put behind the free ones are no thread's
-abbrev pub FreedSpare : BootPlan → Parts → Type 0
-FreedSpare plan station =
-    AllByRecursion (λ (freed : Key). length plan.threads ≤ freed.0) (account station).hand.retired
+-- the elements that were put behind the free ones are no thread's
+abbrev pub FreedSpare : BootPlan → Account → Type 0
+FreedSpare plan did = AllByRecursion (λ (freed : Key). length plan.threads ≤ freed.0) did.hand.retired
 
 -- the thread with this number, as the closed table tells, and with the signals that were shown
 abbrev pub thread_of : Places → List ℕ → ℕ → closed.Thread
@@ -65,42 +70,44 @@ thread_of told signals thread = record {
   shown = slice_index_or signals thread 0;
 }
 
--- The last hand, which has all, closed the table: what it did comes to what the closing told, and nothing stands on a
--- processor. The closed threads are as the table told, and shown what any processor was shown
-pub record ThreadsEnded (last : Parts) (c : ClosedTables) : Type 0 where
+-- What was done comes to what the closing of the table told, and nothing stands on a processor. The closed threads are
+-- as the table told, with the signals that were shown
+pub record ThreadsEnded (did : Account) (c : ClosedTables) : Type 0 where
   pub told : Places
-  pub settles : Settles (account last).hand told.places told.pcs told.pending
+  pub signals : List ℕ
+  pub settles : Settles did.hand told.places told.pcs told.pending
   pub none_on : NoneOn told.places
+  pub shown : did.shown ≡ shown_in signals
   pub few : length c.threads ≤ 64
   pub each : (thread : ℕ) (t : closed.Thread) → slice_get c.threads thread ≡ Some t
-      → t ≡ thread_of told last.signals thread
+      → t ≡ thread_of told signals thread
 
 -- QUEUES
 
--- the end that a station has of the queue
-abbrev pub end_at : (index : QueueIndex) → Parts → Option (QueueEnd (room_of index))
-end_at (Small q) parts = slice_get parts.small.items q
-end_at (Large q) parts = slice_get parts.large.items q
+-- The stretches of each processor, which stand in the order of its log and are these lines, and those of the others:
+-- one behind the other they have these places, from this position on, each place once
+pub record AreCovered (first : ℕ) (places : List Cell) (by : List (List (List ℕ))) (others : List Batch) : Type 0 where
+  pub own : List (List Batch)
+  pub lines : map (map line_of) own ≡ by
+  pub ascend : AllByRecursion Ascending own
+  pub order : List (Owned Batch)
+  pub listed : IsListed first places order ((joined own ++ others) ∷ [])
 
--- The last station's end of the queue and these others were all its ends, and the queue is closed. The closed queue has
--- its items, no more of them left than there are places, and the lines of each station's end and of the others. What
--- closed it knew that it was shut where the last station's end did, and the others never shut it
-pub record QueueEnded (index : QueueIndex) (stations : List Parts) (last : Parts)
-    (others : List (QueueEnd (room_of index))) (q : closed.Queue) : Type 0 where
-  pub end : QueueEnd (room_of index)
-  pub its : end_at index last ≡ Some end
-  pub position : ℕ
-  pub put : ℕ
-  pub left : List (Option ℕ)
-  pub closes : SettledNow (views_of end others) position put q.taken left
-  pub items : q.items ≡ map item_of closes.before.seen.object.places
+-- The queue is closed, and the processors' ends and these others were all its ends. Their claims have all its places,
+-- their takings the first of them, which were taken; no more are left than the queue has places
+pub record QueueEnded (index : QueueIndex) (by_each : List Account) (others : List (QueueEnd (room_of index)))
+    (q : closed.Queue) : Type 0 where
+  pub first : ℕ
+  pub places : List Cell
+  pub items : q.items ≡ map item_of places
+  pub behind : q.taken ≤ length q.items
   pub within : length q.items ≤ q.taken + room_of index
-  pub put_by : q.put_by ≡ map (λ station. ((account station).queues index).put) stations
-  pub taken_by : q.taken_by ≡ map (λ station. ((account station).queues index).taken) stations
+  pub claims : AreCovered first places q.put_by (flat_map runs_of (map queues.view_of others))
+  pub takings : AreCovered first (take q.taken places) q.taken_by (flat_map takings_of (map queues.view_of others))
+  pub put_by : q.put_by ≡ map (λ (did : Account). (did.queues index).put) by_each
+  pub taken_by : q.taken_by ≡ map (λ (did : Account). (did.queues index).taken) by_each
   pub put_by_others : q.put_by_others ≡ flat_map lines_put (map queues.view_of others)
   pub taken_by_others : q.taken_by_others ≡ flat_map lines_taken (map queues.view_of others)
-  pub known : (queues.view_of end).seen.object.shut ≡ true → closes.before.seen.object.shut ≡ true
-  pub none_shut : sum_by shuts_of (map queues.view_of others) ≡ 0
 
 -- the ends of the queue with this number
 abbrev pub ends_at : {n : ℕ} → ℕ → List (Option (Port n)) → List (QueueEnd n)
@@ -122,38 +129,27 @@ device_at (Small q) raw (end ∷ ends) = at_one [] raw (end ∷ []) q ++ device_
 
 -- QUAJECTS
 
--- the quaject came home from its closed chain, whose last end knew this
-pub record ChainEnded (v : ChainView) (home : Home) (chain : closed.Chain) : Type 0 where
-  pub pact : Pact Queues AnyQuaject
-  pub first : ℕ
-  pub came : CameHome pact first v home
-  pub quaject_is : chain.quaject ≡ came.quaject
-  pub left_is : chain.left ≡ home.left
-  pub few : home.chained < 2 ^ 64
+-- The quaject came home of its closed chain with these ends. Its notes alone made it of one that had done nothing, it
+-- kept its law and its sides, and no note was left
+pub record ChainEnded (home : Home) (chain : closed.Chain) : Type 0 where
+  pub ports : PortsOf chain.quaject (home.small, home.large)
+  pub of_new : MadeOfNew chain.quaject
+  pub kept : IsKept chain.quaject
+  pub sides : KeepsSides chain.quaject
+  pub none_left : chain.left ≡ 0
 
--- a pump or switch of the plan: the last station's end was the last of its chain
-pub record MoverEnded (number : ℕ) (p : PlannedMover) (last : Parts) (home : Home) (m : closed.Chain) : Type 0 where
-  pub end : ChainEnd AnyQuaject Queues _
-  pub its : slice_get last.chains.items number ≡ Some end
-  pub ended : ChainEnded (chains.view_of end) home m
+-- the pump or switch with this number is the plan's, and ran as many notes as were chained to it
+pub record MoverEnded (number : ℕ) (p : PlannedMover) (did : Account) (m : closed.Chain) : Type 0 where
   pub of_plan : IsMover p.mover m.quaject
-  pub of_new : MadeOfNew m.quaject
-
--- the cooked tty of the plan's tty with this number, where the plan has so many queues and pipes
-pub record TtyEnded (many tty : ℕ) (v : ChainView) (home : Home) (t : closed.Chain) : Type 0 where
-  pub ended : ChainEnded v home t
-  pub of_plan : IsTty (raw_queue many tty) (line_queue tty) (screen_queue tty) t.quaject
-  pub of_new : MadeOfNew t.quaject
+  pub ran : notes_of m.quaject ≡ length (concat (did.chains number).notes)
 
 -- METERS
 
--- the meters were closed by the last station's end, which fired the alarms fired; the plan's gauges are the first of
--- the gauges
-pub record MetersEnded (plan : BootPlan) (last : Parts) (c : ClosedTables) : Type 0 where
-  pub first : ℕ
-  pub clock : ℕ
-  pub gauges : List ℕ
-  pub closes : seats.ClosedNow first (meters.view_of last.meters) gauges clock c.left
-  pub gauges_are : c.gauges ≡ take (length plan.gauges) gauges
-  pub few : length plan.gauges ≤ 8
-  pub fired : c.fired ≡ (meters.view_of last.meters).own.fired
+-- the gauges are the sums of the ticks; each alarm that was set was fired, cancelled or is left, and these were fired
+pub record MetersEnded (did : Account) (c : ClosedTables) : Type 0 where
+  pub gauges : (gauge value : ℕ) → slice_get c.gauges gauge ≡ Some value
+      → value ≡ amount_on gauge did.meters.ticks % u64_values
+  pub alarms : (alarm : Alarm)
+      → times alarm did.meters.set
+      ≡ times alarm did.meters.fired + times alarm did.meters.cancelled + times alarm c.left
+  pub fired : c.fired ≡ did.meters.fired

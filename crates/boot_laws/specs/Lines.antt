@@ -11,7 +11,6 @@ use Rattle.boot_data.specs.declared.plan.PlannedThread.{PlannedThread}
 use Rattle.boot_data.specs.declared.plan.PlannedTty.{PlannedTty}
 use Rattle.boot_data.specs.declared.report.AlarmCounts.{AlarmCounts}
 use Rattle.boot_data.specs.declared.report.GaugeLine.{GaugeLine}
-use Rattle.boot_data.specs.declared.report.HeardLine.{HeardLine}
 use Rattle.boot_data.specs.declared.report.ItemCounts.{ItemCounts}
 use Rattle.boot_data.specs.declared.report.MoverKind.{MoverKind}
 use Rattle.boot_data.specs.declared.report.MoverKind.TheVariants.{Pump, Switch}
@@ -29,7 +28,7 @@ use Rattle.quajects.specs.Anys.{notes_of, all_taken, all_puts, held_of}
 use Rattle.quajects.specs.Lines.{counted}
 use Rattle.thread_table.specs.declared.places.Place.{Place}
 use Rattle.thread_table.specs.declared.places.Place.TheVariants as places
-use Rattle.processor.specs.Running.{Line}
+use Rattle.boot_data.specs.Hearing.{Line, NamedLine}
 use Rattle.boot_laws.specs.ClosedTables.{ClosedTables}
 use Rattle.boot_laws.specs.ClosedTables as closed
 
@@ -105,10 +104,10 @@ name_in None = []
 name_in (Some thread) = thread.name
 
 -- a heard line names its thread and its step
-pub record HeardSaid (plan : BootPlan) (heard : Line) (line : HeardLine) : Type 0 where
+pub record HeardSaid (plan : BootPlan) (heard : Line) (line : NamedLine) : Type 0 where
   pub thread : line.thread ≡ name_in (slice_get plan.threads heard.0.0)
   pub step : line.step ≡ heard.0.1
-  pub items : line.items ≡ heard.1
+  pub bytes : line.bytes ≡ heard.1
 
 -- as many lines of each kind as the plan has things, and as many closed tables
 pub record AreWhole (plan : BootPlan) (c : ClosedTables) (r : Report) : Type 0 where
@@ -143,7 +142,7 @@ pub record Says (plan : BootPlan) (c : ClosedTables) (heard : List Line) (r : Re
       → slice_get plan.threads thread ≡ Some p → slice_get c.threads thread ≡ Some t
       → slice_get r.threads thread ≡ Some line → ThreadSaid p t line
   pub many_heard : length r.heard ≡ length heard
-  pub heard_lines : (k : ℕ) (line : Line) (said : HeardLine) → slice_get heard k ≡ Some line
+  pub heard_lines : (k : ℕ) (line : Line) (said : NamedLine) → slice_get heard k ≡ Some line
       → slice_get r.heard k ≡ Some said → HeardSaid plan line said
   pub chained : r.chained ≡ sum_by (λ (chain : closed.Chain). chain.left) c.movers
       + sum_by (λ (chain : closed.Chain). chain.left) c.ttys

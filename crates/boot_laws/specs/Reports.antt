@@ -10,7 +10,7 @@ use Rattle.boot_data.specs.declared.plan.QueueIndex.{QueueIndex}
 use Rattle.boot_data.specs.declared.plan.QueueIndex.TheVariants.{Small, Large}
 use Rattle.boot_data.specs.QueueLists.{raw_queue}
 use Rattle.processor.specs.Entries.{LogEntry, FollowsPlan}
-use Rattle.processor.specs.Running.{Line}
+use Rattle.boot_data.specs.Hearing.{Line}
 use Rattle.boot_laws.specs.Agreements.{ThreadAgrees, QueueAgrees, taken_from, put_in, TtyAgrees}
 use Rattle.boot_laws.specs.Agreements.{MoverAgrees, GaugesAgree, AlarmsAgree}
 use Rattle.boot_laws.specs.ClosedTables.{ClosedTables, queue_at}

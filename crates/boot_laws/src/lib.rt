@@ -3,7 +3,7 @@
 //! There is no running code here but laws: functions with empty bodies, whose contracts name what is proved.
 #![tactic(auto)]
 
-ghost use Rattle.std.specs.Prelude.{◌≡◌, ◌<◌, ℕ, List, length, flat_map, Some, IsPermutation};
+ghost use Rattle.std.specs.Prelude.{◌≡◌, ◌<◌, ℕ, List, length, Some};
 ghost use Rattle.std.specs.List.{slice_get};
 ghost use Rattle.boot_data.specs.declared.boot_plan.BootPlan.{BootPlan};
 ghost use Rattle.boot_data.specs.declared.plan.PlannedMover.{PlannedMover};
@@ -12,74 +12,58 @@ ghost use Rattle.boot_data.specs.declared.report.Report.{Report};
 ghost use Rattle.claim_queue.specs.declared.ends.QueueEnd.{QueueEnd};
 ghost use Rattle.turn_io.specs.Accounts.{room_of};
 ghost use Rattle.quajects.specs.declared.home.Home.{Home};
-ghost use Rattle.processor.specs.declared.station.Parts.{Parts};
 ghost use Rattle.processor.specs.Entries.{LogEntry};
-ghost use Rattle.processor.specs.Running.{Line};
-ghost use Rattle.processor.specs.Turns.{heard_lines};
+ghost use Rattle.boot_data.specs.Hearing.{Line};
 ghost use Rattle.boot_laws.specs.Agreements.{QueueAgrees, ThreadAgrees, MoverAgrees, GaugesAgree, AlarmsAgree};
 ghost use Rattle.boot_laws.specs.Boots.{Boot, BootEnded};
 ghost use Rattle.boot_laws.specs.ClosedTables.{ClosedTables, queue_at};
 ghost use Rattle.boot_laws.specs.ClosedTables as closed;
-ghost use Rattle.boot_laws.specs.Closings.{Shutdown, IsShutDown, boot_shut, closed_shut};
-ghost use Rattle.boot_laws.specs.Endings.{WorkedTogether, FreedSpare, QueueEnded, ThreadsEnded, MetersEnded};
-ghost use Rattle.boot_laws.specs.Endings.{MoverEnded};
-ghost use Rattle.boot_laws.specs.Lines.{Says};
-ghost use Rattle.boot_laws.specs.Reports.{Ascend, IsReport};
+ghost use Rattle.boot_laws.specs.Endings.{Done, WorkedTogether, FreedSpare, QueueEnded, ThreadsEnded, MetersEnded};
+ghost use Rattle.boot_laws.specs.Endings.{ChainEnded, MoverEnded};
+ghost use Rattle.boot_laws.specs.Reports.{IsReport};
 ghost use Rattle.boot_laws.specs.Saying.{AllEnded, IsNeverClosed, IsNeverShut, IsSaid};
 
 /// A queue that was closed by all its ends has the lines that the processors' logs tell, in their order; and cut by
 /// claim, and by taking, the lines of the processors and of the others, each once.
 pub fn queues_agree()
-    ensures { (plan : BootPlan) (logs : List (List LogEntry)) (stations : List Parts) (first last : Parts)
-        (index : QueueIndex) (others : List (QueueEnd (room_of index))) (q : closed.Queue)
-        → WorkedTogether plan logs first stations last → QueueEnded index stations last others q
-        → QueueAgrees index q logs }
+    ensures { (plan : BootPlan) (logs : List (List LogEntry)) (done : Done) (index : QueueIndex)
+        (others : List (QueueEnd (room_of index))) (q : closed.Queue) → WorkedTogether plan logs done
+        → QueueEnded index done.by_each others q → QueueAgrees index q logs }
 {}
 
 /// Each step of a closed thread stands once in the logs where it is below the number of its steps done, and else never,
-/// and in each log its steps stand in their order. Where the first station freed no thread's element, a thread is among
-/// the free elements exactly where it was retired in a log, and it has then done all its steps; none stands on a
+/// and in each log its steps stand in their order. Where no thread's element was freed before, a thread is among the
+/// free elements exactly where it was retired in a log, and it has then done all its steps; none stands on a
 /// processor. A signal was shown exactly where the logs delivered it, and was shown or is pending exactly where a step
 /// or an alarm of them raised it.
 pub fn threads_agree()
-    ensures { (plan : BootPlan) (logs : List (List LogEntry)) (stations : List Parts) (first last : Parts)
-        (c : ClosedTables) (thread : ℕ) (t : closed.Thread) → WorkedTogether plan logs first stations last
-        → FreedSpare plan first → ThreadsEnded last c → thread < length plan.threads
-        → slice_get c.threads thread ≡ Some t → ThreadAgrees plan thread t logs }
+    ensures { (plan : BootPlan) (logs : List (List LogEntry)) (done : Done) (c : ClosedTables) (thread : ℕ)
+        (t : closed.Thread) → WorkedTogether plan logs done → FreedSpare plan done.before
+        → ThreadsEnded done.in_all c → thread < length plan.threads → slice_get c.threads thread ≡ Some t
+        → ThreadAgrees plan thread t logs }
 {}
 
 /// The gauges of closed meters are the sums of the ticks of the logs, and the alarms of the plan are those that the
 /// logs fired and those left, each once.
 pub fn meters_agree()
-    ensures gauges { (plan : BootPlan) (logs : List (List LogEntry)) (stations : List Parts) (first last : Parts)
-        (c : ClosedTables) → WorkedTogether plan logs first stations last → MetersEnded plan last c
-        → GaugesAgree c.gauges logs }
-    ensures alarms { (plan : BootPlan) (logs : List (List LogEntry)) (stations : List Parts) (first last : Parts)
-        (c : ClosedTables) → WorkedTogether plan logs first stations last → MetersEnded plan last c
-        → AlarmsAgree plan c logs }
+    ensures gauges { (plan : BootPlan) (logs : List (List LogEntry)) (done : Done) (c : ClosedTables)
+        → WorkedTogether plan logs done → MetersEnded done.in_all c → GaugesAgree c.gauges logs }
+    ensures alarms { (plan : BootPlan) (logs : List (List LogEntry)) (done : Done) (c : ClosedTables)
+        → WorkedTogether plan logs done → MetersEnded done.in_all c → AlarmsAgree plan c logs }
 {}
 
 /// The pump or switch that came home from a closed chain is the plan's and has kept its law, and it ran as many notes
 /// as the logs have done pokes of it.
 pub fn movers_agree()
-    ensures { (plan : BootPlan) (logs : List (List LogEntry)) (stations : List Parts) (first last : Parts) (number : ℕ)
-        (p : PlannedMover) (home : Home) (m : closed.Chain) → WorkedTogether plan logs first stations last
-        → MoverEnded number p last home m → MoverAgrees number p.mover m logs }
+    ensures { (plan : BootPlan) (logs : List (List LogEntry)) (done : Done) (number : ℕ) (p : PlannedMover)
+        (home : Home) (m : closed.Chain) → WorkedTogether plan logs done → ChainEnded home m
+        → MoverEnded number p done.in_all m → MoverAgrees number p.mover m logs }
 {}
 
 /// What a boot knows at its end makes its report agree with the plan, the closed tables and the logs.
 pub fn reports_agree()
     ensures { (plan : BootPlan) (logs : List (List LogEntry)) (boot : Boot) (c : ClosedTables) (heard : List Line)
         (r : Report) → BootEnded plan logs boot c heard r → IsReport plan c logs heard r }
-{}
-
-/// What is known when a boot is shut down is all that a boot knows at its end: its queues, threads, quajects, ttys and
-/// meters ended as its report's laws ask, for the closed tables that are made of what closing gave.
-pub fn shut_boots_end()
-    ensures { (shut : Shutdown) (is_shut : IsShutDown shut) (heard : List Line) (r : Report)
-        → IsPermutation (flat_map heard_lines shut.stations) heard → Ascend heard
-        → Says shut.shared.plan (closed_shut shut is_shut) heard r
-        → BootEnded shut.shared.plan shut.logs (boot_shut shut) (closed_shut shut is_shut) heard r }
 {}
 
 /// Where no thread of an agreeing report is live, and no say to the queue was told that it is shut, the lines that the

@@ -6,7 +6,6 @@ use Rattle.turn_io.specs.Accounts.{lines_of, queue_account, chain_account}
 use Rattle.turn_dispatch.specs.Tallies.{tally}
 use Rattle.processor.specs.Accounts.{account, nothing, shown_in}
 use Rattle.processor.specs.Stations.{IsUnused, no_signals}
-use Rattle.processor.specs.Running.{line_heard}
 use Rattle.thread_table.specs.Answers.{is_in}
 use Rattle.boot_objects.proofs.Summed.{at_map}
 use Rattle.boot_objects.proofs.Zips.{zip_second, zip_same, zip_each}
@@ -51,6 +50,6 @@ did_nothing queues list table meters parts small large chains hand seat unused =
   chains = λ k. idle_chain_at list parts.chains.items chains k i;
   hand = tally (hand.knows i).own.made;
   meters = (seat.knows i).own;
-  heard = map line_heard (unused.heard i);
+  heard = unused.heard i;
   shown = (ap shown_in unused.signals ∙ none_shown) i;
 }

@@ -8,15 +8,14 @@ pub use Rattle.std.specs.Vec.Iter.{into_iter_items, into_iter_len}
 pub use Rattle.boot_data.specs.declared.boot_plan.BootPlan.{BootPlan}
 pub use Rattle.boot_data.specs.declared.plan.PlannedTty.{PlannedTty}
 pub use Rattle.boot_data.specs.declared.report.Report.{Report}
+pub use Rattle.boot_data.specs.Hearing.{Key, Line}
 pub use Rattle.boot_laws.specs.ClosedTables.{ClosedTables}
 pub use Rattle.boot_laws.specs.Endings.{ThreadsEnded, WorkedTogether}
 pub use Rattle.boot_laws.specs.Lines.{Says}
 pub use Rattle.boot_laws.specs.Reports.{Ascend}
 pub use Rattle.processor.specs.Entries.{LogEntry}
-pub use Rattle.processor.specs.Programs.{Key, hear_count, program}
-pub use Rattle.processor.specs.Running.{Line, line_heard}
+pub use Rattle.processor.specs.Programs.{hear_count, program}
 pub use Rattle.processor.specs.Turns.{heard_lines}
-pub use Rattle.processor.specs.declared.station.Heard.{Heard}
 pub use Rattle.processor.specs.declared.station.Parts.{Parts}
 pub use Rattle.quajects.specs.declared.came.Came.{Came}
 pub use Rattle.turn_dispatch.specs.Settlings.{IsNamed}

@@ -1,19 +1,20 @@
 -- What a boot knows at its end gives what a report of it needs besides the numbers.
-use Rattle.boot_report.proofs.Common.{◌≡◌, ℕ, ◌+◌, ◌≤◌, true, List, ◌++◌, length, refl, sym, ap, ◌∙◌, subst, arith, Some, slice_get, length-append, length_permutation, slice_get_within, BootPlan, Parts, LogEntry, program, ClosedTables, WorkedTogether, ThreadsEnded}
+use Rattle.boot_report.proofs.Common.{◌≡◌, ℕ, ◌+◌, ◌≤◌, true, List, ◌++◌, length, refl, sym, ◌∙◌, subst, arith, Some, slice_get, length-append, length_permutation, slice_get_within, BootPlan, LogEntry, program, ClosedTables, WorkedTogether, ThreadsEnded}
 use Rattle.std.proofs.Common.{◌&&◌, eqb, eqb-true, eq-eqb}
 use Rattle.std.proofs.lemmas.Bool.{and_parts, and_from}
 use Rattle.event_theory.specs.declared.alarm.Alarm.{Alarm}
 use Rattle.event_theory.specs.Lawful.{is_alarm}
 use Rattle.boot_laws.specs.Agreements.{AlarmsAgree}
 use Rattle.boot_laws.specs.ClosedTables as closed
+use Rattle.boot_laws.specs.Endings.{Done}
 use Rattle.boot_laws.proofs.Threads.{prefix}
 use Rattle.thread_table.proofs.Lists.Counts.{many_more}
 use Rattle.thread_table.proofs.Lists.Shuffles.{same_counts}
 
-pub steps_fit : (plan : BootPlan) (logs : List (List LogEntry)) (stations : List Parts) (first last : Parts) (c : ClosedTables) (thread : ℕ) (t : closed.Thread) → WorkedTogether plan logs first stations last
-    → ThreadsEnded last c → slice_get c.threads thread ≡ Some t → t.steps ≤ length (program plan thread)
-steps_fit plan logs stations first last c thread t worked ended at = subst (λ (z : closed.Thread). z.steps ≤ length (program plan thread)) (sym (ended.each thread t at))
-    (prefix plan logs stations first last worked c ended thread (let low = slice_get_within c.threads thread t at in let few = ended.few in omega arith))
+pub steps_fit : (plan : BootPlan) (logs : List (List LogEntry)) (done : Done) (c : ClosedTables) (thread : ℕ) (t : closed.Thread) → WorkedTogether plan logs done
+    → ThreadsEnded done.in_all c → slice_get c.threads thread ≡ Some t → t.steps ≤ length (program plan thread)
+steps_fit plan logs done c thread t worked ended at = subst (λ (z : closed.Thread). z.steps ≤ length (program plan thread)) (sym (ended.each thread t at))
+    (prefix plan logs done worked c ended thread (let low = slice_get_within c.threads thread t at in let few = ended.few in omega arith))
 
 tells : (a b : Alarm) → is_alarm a b ≡ true → a ≡ b
 tells a b same =

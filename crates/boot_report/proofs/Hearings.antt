@@ -1,5 +1,5 @@
 -- The lines that were heard are no more than the steps of the plan that hear.
-use Rattle.boot_report.proofs.Common.{◌≡◌, ℕ, ◌≤◌, true, List, [], ◌∷◌, ◌++◌, length, map, refl, sym, ap, ◌∙◌, subst, arith, Some, flat_map, length-map, BootPlan, Parts, LogEntry, Key, hear_count, Line, heard_lines, ClosedTables, WorkedTogether, ThreadsEnded}
+use Rattle.boot_report.proofs.Common.{◌≡◌, ℕ, ◌≤◌, true, List, [], ◌∷◌, ◌++◌, length, map, refl, sym, ap, subst, arith, Some, length-map, BootPlan, LogEntry, Key, hear_count, Line, ClosedTables, WorkedTogether, ThreadsEnded}
 use Rattle.std.proofs.Common.{Bool, false, Option, None, count_by}
 use Rattle.std.specs.List.{AllByRecursion, IsDistinct}
 use Rattle.std.proofs.lemmas.List.{map-append}
@@ -21,12 +21,13 @@ use Rattle.processor.specs.Doings.{heard_by}
 use Rattle.processor.specs.Entries.{tending, having, outcome_account, entry_account, HadFollows, OutcomeFollows, FollowsPlan}
 use Rattle.processor.specs.Logs.{sum_of}
 use Rattle.processor.specs.Programs.{IsHear, same_key, is_hear, step_of}
+use Rattle.processor.specs.Rooms.{key_of}
 use Rattle.processor.proofs.Rooms.{few, same_refl as itself}
-use Rattle.processor.proofs.Rooming.{line_key as key_of}
+use Rattle.boot_laws.specs.Endings.{Done}
 use Rattle.boot_laws.specs.Totals.{total_of}
 use Rattle.thread_table.proofs.Lists.Counts.{plus, by_bool, many_cons}
 use Rattle.boot_laws.proofs.Boots.Sorting.{heard_few, once_most}
-use Rattle.boot_laws.proofs.Totals.{all_of, all_heard_by, all_planned, planned_all}
+use Rattle.boot_laws.proofs.Totals.{all_of, all_did, all_planned}
 use Rattle.event_theory.proofs.Lists.Placed.{all_append as both}
 
 abbrev is_of : Key → Line → Bool
@@ -84,11 +85,11 @@ by_log plan (entry ∷ log) h = both_hear plan (entry_account entry).heard (sum_
 
 -- ALL
 
-module _ (plan : BootPlan) (logs : List (List LogEntry)) (stations : List Parts) (first last : Parts) (worked : WorkedTogether plan logs first stations last) (c : ClosedTables) (e : ThreadsEnded last c) where
-  pub few_heard : length (flat_map heard_lines stations) ≤ hear_count plan
+module _ (plan : BootPlan) (logs : List (List LogEntry)) (done : Done) (worked : WorkedTogether plan logs done) (c : ClosedTables) (e : ThreadsEnded done.in_all c) where
+  pub few_heard : length done.in_all.heard ≤ hear_count plan
   few_heard =
       let all : List Line = (total_of logs).heard in
-      let planned = all_planned plan logs (planned_all plan logs stations worked.left) in
-      let once : (k : Key) → count_by (is_of k) all ≤ 1 = λ k. let a = heard_few k plan (all_of logs) planned in let b = once_most plan logs stations first last worked c e k.0 k.1 in omega arith in
+      let planned = all_planned plan logs worked.planned in
+      let once : (k : Key) → count_by (is_of k) all ≤ 1 = λ k. let a = heard_few k plan (all_of logs) planned in let b = once_most plan logs done worked c e k.0 k.1 in omega arith in
       let most = few plan (map key_of all) (by_log plan (all_of logs) planned, distinct all once) in
-      let long = length-map all key_of in let same = ap length (all_heard_by plan logs stations worked.left) in omega arith
+      let long = length-map all key_of in let same = ap (λ (a : Account). length a.heard) (all_did plan logs done worked) in omega arith

@@ -1,6 +1,7 @@
 pub mod Common
 pub mod Numbering
 pub mod Limits
+pub mod Placing
 pub mod Ordering
 pub mod Shown
 pub mod Saying

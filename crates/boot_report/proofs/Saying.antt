@@ -1,20 +1,20 @@
 -- Lines that are made of what was closed say the numbers of the closed tables that it shows.
-use Rattle.boot_report.proofs.Common.{◌≡◌, ℕ, zero, suc, ◌+◌, List, [], ◌∷◌, ◌++◌, length, take, get_or, refl, sym, ap, ◌∙◌, subst, arith, Some, slice_get, length-take-le, length-map, PlannedTty, Report, Line, ClosedTables, Says, Typed, queue_line, gauge_line, mover_line, tty_lines, thread_line, heard_line, Shows}
+use Rattle.boot_report.proofs.Common.{◌≡◌, ℕ, zero, suc, ◌+◌, List, [], ◌∷◌, ◌++◌, length, map, take, get_or, refl, sym, ap, ◌∙◌, subst, arith, Some, slice_get, length-take-le, length-map, PlannedTty, Report, Line, ClosedTables, Says, Typed, queue_line, gauge_line, mover_line, tty_lines, thread_line, heard_line, Shows}
 use Rattle.boot_data.specs.declared.plan.PlannedMover.{PlannedMover}
 use Rattle.boot_data.specs.declared.plan.PlannedQueue.{PlannedQueue}
 use Rattle.boot_data.specs.declared.plan.PlannedThread.{PlannedThread}
 use Rattle.boot_data.specs.declared.report.GaugeLine.{GaugeLine}
-use Rattle.boot_data.specs.declared.report.HeardLine.{HeardLine}
 use Rattle.boot_data.specs.declared.report.MoverLine.{MoverLine}
 use Rattle.boot_data.specs.declared.report.QueueLine.{QueueLine}
 use Rattle.boot_data.specs.declared.report.ThreadLine.{ThreadLine}
 use Rattle.boot_data.specs.declared.report.TtyLines.{TtyLines}
+use Rattle.boot_data.specs.Hearing.{NamedLine}
 use Rattle.boot_data.specs.QueueLists.{raw_queue, line_queue, screen_queue}
 use Rattle.boot_objects.specs.declared.closing.all.Unmade.{Unmade}
 use Rattle.processor.proofs.Fitted.{few_steps}
 use Rattle.boot_laws.specs.ClosedTables as closed
-use Rattle.boot_laws.specs.Lines.{AreWhole, QueueSaid, TtySaid, TtyQueuesSaid, MoverSaid, GaugeSaid, AlarmsSaid, ThreadSaid, HeardSaid}
-use Rattle.boot_report.specs.Made.{IsMade}
+use Rattle.boot_laws.specs.Lines.{AreWhole, QueueSaid, TtySaid, TtyQueuesSaid, MoverSaid, GaugeSaid, AlarmsSaid, ThreadSaid, HeardSaid, name_in}
+use Rattle.boot_report.specs.Made.{IsMade, name_of}
 use Rattle.boot_report.proofs.Limits.{few_ttys, few_movers, few_gauges}
 use Rattle.boot_report.proofs.Numbering.{as_many, made_at, mapped_at}
 use Rattle.boot_report.proofs.Shown.{got_left, got_right, counts_are, chain_is, device_is, all_left, said_at, few_is}
@@ -25,6 +25,12 @@ got_take zero l k x d e = absurd (cc)
 got_take (suc n) [] k x d e = absurd (cc)
 got_take (suc n) (y ∷ l) zero x d e = cc
 got_take (suc n) (y ∷ l) (suc k) x d e = got_take n l k x d e
+
+-- the name of a thread, among all names
+name_got : (threads : List PlannedThread) (thread : ℕ) → get_or (map name_of threads) thread [] ≡ name_in (slice_get threads thread)
+name_got [] thread = refl
+name_got (t ∷ threads) zero = refl
+name_got (t ∷ threads) (suc thread) = name_got threads thread
 
 module _ (c : ClosedTables) (ended : Unmade) (heard : List Line) (typed : List Typed) (r : Report) (s : Shows c ended typed) (m : IsMade ended heard typed r) (eight : length ended.meters.gauges ≡ 8) where
   whole : AreWhole ended.plan c r
@@ -97,12 +103,12 @@ module _ (c : ClosedTables) (ended : Unmade) (heard : List Line) (typed : List T
         signals = sym its.shown;
       })
 
-  heard_said : (k : ℕ) (line : Line) (said : HeardLine) → slice_get heard k ≡ Some line
+  heard_said : (k : ℕ) (line : Line) (said : NamedLine) → slice_get heard k ≡ Some line
       → slice_get r.heard k ≡ Some said → HeardSaid ended.plan line said
   heard_said k line said here mine =
       let is : said ≡ heard_line ended.plan.threads line = mapped_at (heard_line ended.plan.threads) heard k line said here
       (subst (λ l. slice_get l k ≡ Some said) m.heard_is mine) in
-      subst (λ z. HeardSaid ended.plan line z) (sym is) (record { thread = refl; step = refl; items = refl })
+      subst (λ z. HeardSaid ended.plan line z) (sym is) (record { thread = name_got ended.plan.threads line.0.0; step = refl; bytes = refl })
 
   pub says : Says ended.plan c heard r
   says = record {

@@ -1,5 +1,5 @@
 -- What was closed shows what a report says.
-use Rattle.boot_report.proofs.Common.{◌≡◌, ℕ, zero, suc, ◌+◌, ◌*◌, ◌<◌, ◌≤◌, ◌%◌, ◌^◌, List, [], ◌∷◌, ◌++◌, length, get_or, refl, sym, ap, ◌∙◌, subst, arith, Some, slice_get, sum_by, length-drop, length-append, slice_get_within, IsNamed, Came, ClosedTables, Typed, left_in, ShowsQueue, ShowsQueues, ShowsChains, ShowsDevices}
+use Rattle.boot_report.proofs.Common.{◌≡◌, ℕ, zero, suc, ◌+◌, ◌*◌, ◌<◌, ◌≤◌, ◌%◌, ◌^◌, List, [], ◌∷◌, ◌++◌, length, get_or, refl, sym, ap, ◌∙◌, subst, arith, Some, slice_get, sum_by, length-drop, length-append, slice_get_within, IsNamed, Came, Typed, left_in, ShowsQueue, ShowsQueues, ShowsChains, ShowsDevices}
 use Rattle.std.proofs.lemmas.List.{length-take}
 use Rattle.std.proofs.lemmas.List.Sums.{sum_by-cons, sum_by-append}
 use Rattle.claim_queue.specs.declared.close.Closed.{Closed as ClosedQueue}

@@ -22,10 +22,10 @@ use Rattle.quajects.specs.Settled.{runs_of}
 use Rattle.table_theory.specs.declared.queues.Batch.{Batch}
 use Rattle.boot_laws.specs.Boots.{Boot, BootEnded}
 use Rattle.boot_laws.specs.ClosedTables as closed
-use Rattle.boot_laws.specs.Closings.{items_from, queue_of, queues_from, came_home, chains_of, Shutdown, IsShutDown, boot_shut, closed_shut}
+use Rattle.boot_laws.specs.Closings.{items_from, queue_of, queues_from, chains_of}
 use Rattle.boot_laws.specs.Endings.{thread_of}
 use Rattle.boot_laws.proofs.Meters.{alarms_agree}
-use Rattle.boot_laws.proofs.Boots.ShutDown.{of_range, range_long, threads_ended, meters_ended, boot_ended}
+use Rattle.boot_laws.proofs.Boots.ShutDown.{of_range, range_long, came_home, chains_long, Shutdown, IsShutDown, boot_shut, closed_shut, worked, threads_ended, meters_ended, boot_ended}
 use Rattle.boot_report.specs.Reported.{IsReported}
 use Rattle.boot_report.specs.Shown.{AreAll, ShowsChain, ShowsThread}
 use Rattle.boot_report.proofs.Fitting.{steps_fit, all_alarms}
@@ -83,20 +83,9 @@ module _ {g : Ghosts AnyQuaject Queues} where
       subst (λ (z : closed.Chain). ShowsChain z its) same (subst (λ (z : Came). ShowsChain (record { quaject = r.0.quaject; left = (home_in a).left }) z) same' (came_shows c e a r.0))
   each_chain (c ∷ chains) (e ∷ ends) (a ∷ all) r (suc k) x its here there = each_chain chains ends all r.1 k x its here there
 
-  many_chains : (chains : List (ProcChain AnyQuaject Queues)) (ends : List (ChainEnd AnyQuaject Queues g)) (all : List Came) (r : HaveRetired chains ends (homes_in all))
-      → length all ≡ length (chains_of (came_home chains ends (homes_in all) r) (homes_in all))
-  many_chains [] [] [] r = refl
-  many_chains [] [] (a ∷ all) r = absurd r
-  many_chains [] (e ∷ ends) [] r = absurd r
-  many_chains [] (e ∷ ends) (a ∷ all) r = absurd r
-  many_chains (c ∷ chains) [] [] r = absurd r
-  many_chains (c ∷ chains) [] (a ∷ all) r = absurd r
-  many_chains (c ∷ chains) (e ∷ ends) [] r = absurd r
-  many_chains (c ∷ chains) (e ∷ ends) (a ∷ all) r = ap suc (many_chains chains ends all r.1)
-
   chains_show : (chains : List (ProcChain AnyQuaject Queues)) (ends : List (ChainEnd AnyQuaject Queues g)) (all : List Came) (r : HaveRetired chains ends (homes_in all))
       → ShowsChains (chains_of (came_home chains ends (homes_in all) r) (homes_in all)) all
-  chains_show chains ends all r = record { as_many = many_chains chains ends all r; each = each_chain chains ends all r }
+  chains_show chains ends all r = record { as_many = sym (chains_long chains ends (homes_in all) r ∙ length-map all home_in); each = each_chain chains ends all r }
 
 -- ALL
 
@@ -121,7 +110,7 @@ module _ (shut : Shutdown) (is_shut : IsShutDown shut) where
   by_plan P h = subst P (sym plan_is) h
 
   chain_count : length all_chains ≡ length plan.movers + length plan.ttys
-  chain_count = let many = many_chains shut.shared.chains.items shut.parts.chains.items numbers is_shut.closed.homes in let l = length-map numbers home_in in
+  chain_count = let many = chains_long shut.shared.chains.items shut.parts.chains.items (homes_in numbers) is_shut.closed.homes in
       let t = (three_long HasRetired shut.shared.chains.items shut.parts.chains.items (homes_in numbers) is_shut.closed.homes).1 in let o = shut.shared.objects.2 in omega arith
 
   abbrev small_queue : ℕ → QueueEnd 64 → Shut 64 → closed.Queue
@@ -152,11 +141,11 @@ module _ (shut : Shutdown) (is_shut : IsShutDown shut) where
   chains_shown = subst (λ (z : List closed.Chain). ShowsChains z numbers) (sym (take-append-drop (length plan.movers) all_chains))
       (chains_show shut.shared.chains.items shut.parts.chains.items numbers is_shut.closed.homes)
 
-  ended_threads : ThreadsEnded shut.last tables
+  ended_threads : ThreadsEnded (boot_shut shut).done.in_all tables
   ended_threads = threads_ended shut is_shut
 
   pub heard_is_few : length (flat_map heard_lines shut.stations) ≤ hear_count plan
-  heard_is_few = few_heard plan shut.logs shut.stations shut.first shut.last is_shut.worked tables ended_threads
+  heard_is_few = few_heard plan shut.logs (boot_shut shut).done (worked shut is_shut) tables ended_threads
 
   threads_shown : (thread : ℕ) (t : closed.Thread) → slice_get tables.threads thread ≡ Some t → ShowsThread shut.ended thread t
   threads_shown thread t at =
@@ -166,7 +155,7 @@ module _ (shut : Shutdown) (is_shut : IsShutDown shut) where
         named = subst IsNamed (sym (ap (λ (z : closed.Thread). z.place) is))
             (all_named _ _ _ _ _ _ is_shut.closed.threads thread (let low = slice_get_within tables.threads thread t at in let few = ended_threads.few in omega arith));
         steps = ap (λ (z : closed.Thread). z.steps) is;
-        prefix = by_plan (λ p. t.steps ≤ length (program p thread)) (steps_fit plan shut.logs shut.stations shut.first shut.last tables thread t is_shut.worked ended_threads at);
+        prefix = by_plan (λ p. t.steps ≤ length (program p thread)) (steps_fit plan shut.logs (boot_shut shut).done tables thread t (worked shut is_shut) ended_threads at);
         shown = ap (λ (z : closed.Thread). z.shown) is;
       }
 
@@ -181,7 +170,7 @@ module _ (shut : Shutdown) (is_shut : IsShutDown shut) where
     gauges = by_plan (λ p. tables.gauges ≡ take (length p.gauges) shut.ended.meters.gauges) refl;
     left = refl;
     alarms = by_plan (λ p. length p.alarms ≡ length tables.fired + length tables.left)
-        (all_alarms plan tables shut.logs (alarms_agree plan shut.logs shut.stations shut.first shut.last is_shut.worked tables (meters_ended shut is_shut)));
+        (all_alarms plan tables shut.logs (alarms_agree plan shut.logs (boot_shut shut).done (worked shut is_shut) tables (meters_ended shut is_shut)));
   }
 
   pub ends : (typed : List Typed) (r : Report) → ShowsDevices shut.devices typed → (reported : IsReported shut.ended (flat_map heard_lines shut.stations) typed r)

@@ -10,7 +10,6 @@ use Rattle.boot_data.specs.declared.plan.PlannedThread.{PlannedThread}
 use Rattle.boot_data.specs.declared.plan.PlannedTty.{PlannedTty}
 use Rattle.boot_data.specs.declared.report.AlarmCounts.{AlarmCounts}
 use Rattle.boot_data.specs.declared.report.GaugeLine.{GaugeLine}
-use Rattle.boot_data.specs.declared.report.HeardLine.{HeardLine}
 use Rattle.boot_data.specs.declared.report.MoverLine.{MoverLine}
 use Rattle.boot_data.specs.declared.report.QueueLine.{QueueLine}
 use Rattle.boot_data.specs.declared.report.Report.{Report}
@@ -18,14 +17,14 @@ use Rattle.boot_data.specs.declared.report.ThreadLine.{ThreadLine}
 use Rattle.boot_data.specs.declared.report.ThreadState.{ThreadState}
 use Rattle.boot_data.specs.declared.report.ThreadState.TheVariants as states
 use Rattle.boot_data.specs.declared.report.TtyLines.{TtyLines}
+use Rattle.boot_data.specs.Hearing.{Line, NamedLine, named_line}
 use Rattle.boot_data.specs.QueueLists.{raw_queue, line_queue, screen_queue}
 use Rattle.claim_queue.specs.declared.close.Closed.{Closed}
 use Rattle.boot_objects.specs.declared.closing.all.Unmade.{Unmade}
 use Rattle.quajects.specs.declared.came.Came.{Came}
 use Rattle.thread_table.specs.declared.places.Place.{Place}
 use Rattle.thread_table.specs.declared.places.Place.TheVariants as places
-use Rattle.processor.specs.Running.{Line}
-use Rattle.boot_laws.specs.Lines.{kind_of_queue, kind_of_mover, name_in}
+use Rattle.boot_laws.specs.Lines.{kind_of_queue, kind_of_mover}
 use Rattle.boot_report.specs.declared.ttys.Typed.{Typed}
 use Rattle.boot_report.specs.Amounts.{counts_at, numbers_at}
 
@@ -118,13 +117,12 @@ thread_line ended number thread = record {
   signals = shown_at ended.signals number;
 }
 
+abbrev pub name_of : PlannedThread → List ℕ
+name_of thread = thread.name
+
 -- the line of what was heard, with the name of its thread
-abbrev pub heard_line : List PlannedThread → Line → HeardLine
-heard_line threads heard = record {
-  thread = name_in (slice_get threads heard.0.0);
-  step = heard.0.1;
-  items = heard.1;
-}
+abbrev pub heard_line : List PlannedThread → Line → NamedLine
+heard_line threads heard = named_line (map name_of threads) heard
 
 -- so many alarms were set and are left; the others fired
 abbrev pub alarm_counts : ℕ → ℕ → AlarmCounts

@@ -1,10 +1,9 @@
 -- What a report of what was closed says, whatever the closed tables are.
-use Rattle.std.specs.Prelude.{List, map, IsPermutation}
-use Rattle.std.specs.Global.{Vec}
+use Rattle.std.specs.Prelude.{ℕ, List, IsPermutation}
+use Rattle.boot_data.specs.declared.heard.HeardPlace.{HeardPlace}
 use Rattle.boot_data.specs.declared.report.Report.{Report}
+use Rattle.boot_data.specs.Hearing.{Heard, Line}
 use Rattle.boot_objects.specs.declared.closing.all.Unmade.{Unmade}
-use Rattle.processor.specs.declared.station.Heard.{Heard}
-use Rattle.processor.specs.Running.{Line, line_heard}
 use Rattle.boot_laws.specs.ClosedTables.{ClosedTables}
 use Rattle.boot_laws.specs.Lines.{Says}
 use Rattle.boot_laws.specs.Reports.{Ascend}
@@ -13,8 +12,13 @@ use Rattle.boot_report.specs.Made.{IsMade}
 use Rattle.boot_report.specs.Shown.{Shows}
 
 -- what one processor heard
-abbrev pub lines_of : Vec Heard → List Line
-lines_of heard = map line_heard heard.items
+abbrev pub lines_of : Heard → List Line
+lines_of heard = heard.lines
+
+-- the place of a line that the processor heard, by its number
+abbrev pub place_of : ℕ → ℕ → Line → HeardPlace
+place_of processor number line =
+    record { thread = line.0.0; step = line.0.1; processor = processor; number = number }
 
 -- it is made of what was closed, its heard lines are these, in order, and it says the numbers of any closed tables that
 -- are shown

@@ -1,5 +1,5 @@
 -- What was closed shows the numbers of the closed tables.
-use Rattle.std.specs.Prelude.{◌≡◌, ◌+◌, ◌-◌, ◌*◌, ◌<◌, ◌≤◌, ℕ, List, ◌++◌, length, take, Some, slice_index_or}
+use Rattle.std.specs.Prelude.{◌≡◌, ◌+◌, ◌-◌, ◌*◌, ◌≤◌, ℕ, List, ◌++◌, length, take, Some, slice_index_or}
 use Rattle.std.specs.List.{slice_get}
 use Rattle.claim_queue.specs.declared.close.Closed.{Closed as ClosedQueue}
 use Rattle.boot_objects.specs.declared.closing.all.Unmade.{Unmade}

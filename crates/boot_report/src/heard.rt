@@ -1,49 +1,38 @@
-//! The lines of what was heard.
+//! What the report has of what was heard.
 ghost use Rattle.std.specs.Prelude.{◌≡◌, ◌≤◌, [], length, map, vec_capacity};
-ghost use Rattle.boot_laws.specs.Lines.{name_in};
-ghost use Rattle.std.specs.List.{slice_get};
-ghost use Rattle.processor.specs.Running.{line_heard};
-ghost use Rattle.boot_report.specs.Made.{heard_line};
+ghost use Rattle.std.specs.List.{AllByRecursion};
+ghost use Rattle.boot_data.specs.Hearing.{IsPlace, heard_at};
+ghost use Rattle.boot_report.specs.Made.{heard_line, name_of};
 
 use crate::amounts::copy_of;
 use boot_data::plan::PlannedThread;
-use boot_data::{HeardItems, HeardLine, Name, Text};
-use processor::Heard;
+use boot_data::{HeardLines, HeardPlace, HeardReport, Name};
 
-// The name of the thread with this number; of a thread that the plan lacks, the empty one.
-fn name_of(threads: &[PlannedThread], number: u8) -> Name
-    ensures { result ≡ name_in (slice_get threads.now number) }
+// The names of the threads, in their order.
+fn names_of(threads: &[PlannedThread], names: Vec<Name>) -> Vec<Name>
+    requires room { (names.items ≡ []) × (length threads.now ≤ vec_capacity names) }
+    ensures { result.items ≡ map name_of threads.now }
 {
-    match threads.get(usize::from(number)) {
-        Some(thread) => copy_of(&thread.name),
-        None => Text::new(),
+    let mut names = names;
+    for thread in threads {
+        names.push_reserved(copy_of(&thread.name));
     }
+    names
 }
 
-// The line of what a thread heard in one step.
-fn line_of(threads: &[PlannedThread], heard: Heard) -> HeardLine
-    ensures { result ≡ heard_line threads.now (line_heard heard) }
-{
-    let Heard { thread, step, text } = heard;
-    HeardLine {
-        thread: name_of(threads, thread),
-        step: u32::from(step),
-        items: HeardItems::new(text),
-    }
-}
-
-/// The line of each that was heard, in this order.
-pub(crate) fn heard_lines(
+/// The lines at these places of what the processors heard, in this order, with the threads' names. It takes no memory:
+/// the list of names comes empty and has room.
+///
+/// Condition: there is a line at each place, and it is of the thread and step that the place has.
+pub(crate) fn report_heard(
     threads: &[PlannedThread],
-    heard: Vec<Heard>,
-    lines: Vec<HeardLine>,
-) -> Vec<HeardLine>
-    requires room { (lines.items ≡ []) × (length heard.items ≤ vec_capacity lines) }
-    ensures { result.items ≡ map (heard_line threads.now) (map line_heard heard.items) }
+    names: Vec<Name>,
+    places: Vec<HeardPlace>,
+    heard: Vec<HeardLines>,
+) -> HeardReport
+    requires room { (names.items ≡ []) × (length threads.now ≤ vec_capacity names) }
+    requires places { AllByRecursion (IsPlace heard.items) places.items }
+    ensures { result ≡ map (heard_line threads.now) (map (heard_at heard.items) places.items) }
 {
-    let mut lines = lines;
-    for heard in heard {
-        lines.push_reserved(line_of(threads, heard));
-    }
-    lines
+    HeardReport::new(names_of(threads, names), places, heard)
 }

@@ -16,10 +16,8 @@ mod sorting;
 mod threads;
 mod ttys;
 
-pub use laws::{
-    alarms_are_all, heard_lines_are_few, reported_boots_end, shut_boots_show, threads_fit,
-};
-pub use lines::{Lines, Room};
+pub use laws::{alarms_are_all, heard_lines_are_few, threads_fit};
+pub use lines::Lines;
 pub use live::live_of;
 pub use making::{make_report, report_boot};
 pub use sorting::sort_heard;

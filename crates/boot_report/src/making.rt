@@ -1,7 +1,8 @@
 //! The report of what was closed.
 ghost use Rattle.std.specs.Prelude.{◌≡◌, ◌≤◌, length, map, flat_map};
+ghost use Rattle.std.specs.List.{AllByRecursion};
+ghost use Rattle.boot_data.specs.Hearing.{IsPlace, heard_at};
 ghost use Rattle.processor.specs.Programs.{hear_count};
-ghost use Rattle.processor.specs.Running.{line_heard};
 ghost use Rattle.boot_laws.specs.ClosedTables.{ClosedTables};
 ghost use Rattle.boot_laws.specs.Lines.{Says};
 ghost use Rattle.boot_report.specs.Made.{IsMade, alarm_counts};
@@ -9,17 +10,16 @@ ghost use Rattle.boot_report.specs.Reported.{IsReported, lines_of};
 ghost use Rattle.boot_report.specs.Rooms.{HasRoom, HasAllRoom};
 ghost use Rattle.boot_report.specs.Shown.{Shows};
 
-use crate::heard::heard_lines;
-use crate::lines::{Lines, Room};
+use crate::heard::report_heard;
+use crate::lines::Lines;
 use crate::movers::{all_left, mover_lines};
 use crate::queues::{gauge_lines, queue_lines};
 use crate::sorting::{gather, sort_heard};
 use crate::threads::thread_lines;
 use crate::ttys::{Typed, lines_of_ttys};
-use boot_data::{AlarmCounts, Report};
+use boot_data::{AlarmCounts, HeardLines, Report};
 use boot_objects::Unmade;
 use event_theory::Items;
-use processor::Heard;
 
 // How many alarms were set, fired and left.
 fn counts_of_alarms(set: usize, left: usize) -> AlarmCounts
@@ -33,15 +33,16 @@ fn counts_of_alarms(set: usize, left: usize) -> AlarmCounts
 }
 
 /// The report of a boot: the numbers of what was closed, with the plan's names and in the plan's order, what the device
-/// of each tty did, and what was heard, in the order in which it stands. It takes no memory.
+/// of each tty did, and what the processors heard at the places of `lines`, in their order. It takes no memory.
 ///
-/// Conditions: the lines have room for those of the plan, and no more was heard than the plan has steps that hear.
-pub fn make_report(ended: &Unmade, heard: Vec<Heard>, typed: &[Typed], lines: Lines) -> Report
+/// Conditions: the lines have room for those of the plan, and there is a line at each place, of the thread and step that
+/// the place has.
+pub fn make_report(ended: &Unmade, heard: Vec<HeardLines>, typed: &[Typed], lines: Lines) -> Report
     requires room { HasRoom ended.now.plan lines }
-    requires few { length heard.items ≤ hear_count ended.now.plan }
-    ensures made { IsMade ended.now (map line_heard heard.items) typed.now result }
+    requires places { AllByRecursion (IsPlace heard.items) lines.places.items }
+    ensures made { IsMade ended.now (map (heard_at heard.items) lines.places.items) typed.now result }
     ensures says { (c : ClosedTables) → Shows c ended.now typed.now
-        → Says ended.now.plan c (map line_heard heard.items) result }
+        → Says ended.now.plan c (map (heard_at heard.items) lines.places.items) result }
 {
     let plan = ended.plan();
     let counts = ended.counts();
@@ -52,7 +53,7 @@ pub fn make_report(ended: &Unmade, heard: Vec<Heard>, typed: &[Typed], lines: Li
     let threads = thread_lines(ended, lines.threads);
     let alarms = counts_of_alarms(plan.alarms.as_slice().len(), ended.alarms_left());
     let chained = all_left(counts);
-    let heard = heard_lines(plan.threads.as_slice(), heard, lines.heard);
+    let heard = report_heard(plan.threads.as_slice(), lines.names, lines.places, heard);
     Report {
         queues: Items::new(queues),
         ttys: Items::new(ttys),
@@ -60,22 +61,22 @@ pub fn make_report(ended: &Unmade, heard: Vec<Heard>, typed: &[Typed], lines: Li
         gauges: Items::new(gauges),
         alarms,
         threads: Items::new(threads),
-        heard: Items::new(heard),
+        heard,
         chained,
     }
 }
 
-/// The report of a boot: that of `make_report`, with what each processor heard, by thread and then by step. It takes no
-/// memory.
+/// The report of a boot: that of `make_report`, with what each processor heard, by thread and then by step. Sorting moves
+/// the places of lines, and no text. It takes no memory.
 ///
-/// Conditions: those of `make_report`.
-pub fn report_boot(ended: &Unmade, heard: Vec<Vec<Heard>>, typed: &[Typed], room: Room) -> Report
-    requires room { HasAllRoom ended.now.plan room }
+/// Conditions: the lines have room for those of the plan, and no more was heard than the plan has steps that hear.
+pub fn report_boot(ended: &Unmade, heard: Vec<HeardLines>, typed: &[Typed], lines: Lines) -> Report
+    requires room { HasAllRoom ended.now.plan lines }
     requires few { length (flat_map lines_of heard.items) ≤ hear_count ended.now.plan }
     ensures { IsReported ended.now (flat_map lines_of heard.items) typed.now result }
 {
-    let Room { lines, heard: all } = room;
-    let mut heard = gather(heard, all);
-    sort_heard(heard.as_mut_slice());
+    let mut lines = lines;
+    gather(heard.as_slice(), &mut lines.places);
+    sort_heard(lines.places.as_mut_slice());
     make_report(ended, heard, typed, lines)
 }

@@ -1,41 +1,56 @@
-//! Gathering what all processors heard, and sorting it.
-ghost use Rattle.std.specs.Prelude.{◌≡◌, ◌≤◌, ◌+◌, ◌++◌, [], map, flat_map, IsPermutation, length, vec_len};
-ghost use Rattle.std.specs.Prelude.{vec_capacity};
-ghost use Rattle.boot_report.specs.Reported.{lines_of};
-ghost use Rattle.processor.specs.Running.{line_heard};
+//! Gathering the places of all that was heard, and sorting them.
+ghost use Rattle.std.specs.Prelude.{◌≡◌, ◌<◌, ◌≤◌, ◌+◌, ◌++◌, List, [], map, flat_map, IsPermutation, length};
+ghost use Rattle.std.specs.Prelude.{vec_len, vec_capacity, IfSome};
+ghost use Rattle.std.specs.List.{AllByRecursion, slice_get};
+ghost use Rattle.boot_data.specs.Hearing.{Heard, IsPlace, heard_at};
+ghost use Rattle.boot_report.specs.Made.{numbered};
+ghost use Rattle.boot_report.specs.Reported.{lines_of, place_of};
 ghost use Rattle.boot_laws.specs.Reports.{Ascend};
 
-use processor::Heard;
+use boot_data::{HeardLines, HeardPlace};
 
-// Puts what one processor heard behind the rest.
-fn append(all: &mut Vec<Heard>, heard: Vec<Heard>)
-    requires room { vec_len all.old + length heard.items ≤ vec_capacity all.old }
-    ensures items { all.new.items ≡ all.old.items ++ heard.items }
-    ensures len { vec_len all.new ≡ vec_len all.old + length heard.items }
-    ensures room { vec_capacity all.new ≡ vec_capacity all.old }
+// The place of the line with this number of what this processor heard.
+fn place_in(processor: usize, number: usize, heard: &HeardLines) -> HeardPlace
+    requires { number < length heard.now.lines }
+    ensures { IfSome (slice_get heard.now.lines number) (λ line. result ≡ place_of processor number line) }
 {
-    for line in heard {
-        all.push_reserved(line);
+    let (thread, step) = heard.key(number);
+    HeardPlace {
+        thread,
+        step,
+        processor,
+        number,
     }
 }
 
-/// Puts what each processor heard in one list, one behind the other. The list comes empty and has room for all, so it
-/// takes no memory.
-pub(crate) fn gather(heard: Vec<Vec<Heard>>, room: Vec<Heard>) -> Vec<Heard>
-    requires room { (room.items ≡ []) × (length (flat_map lines_of heard.items) ≤ vec_capacity room) }
-    ensures { map line_heard result.items ≡ flat_map lines_of heard.items }
+// Puts the place of each line that this processor heard behind the rest.
+fn append(places: &mut Vec<HeardPlace>, processor: usize, heard: &HeardLines)
+    requires room { vec_len places.old + length heard.now.lines ≤ vec_capacity places.old }
+    ensures items { places.new.items ≡ places.old.items ++ numbered (place_of processor) 0 heard.now.lines }
+    ensures len { vec_len places.new ≡ vec_len places.old + length heard.now.lines }
+    ensures room { vec_capacity places.new ≡ vec_capacity places.old }
 {
-    let mut all = room;
-    for heard in heard {
-        append(&mut all, heard);
+    for number in 0..heard.len() {
+        places.push_reserved(place_in(processor, number, heard));
     }
-    all
 }
 
-/// Sorts what was heard by thread, and then by step. It takes no memory.
-pub fn sort_heard(heard: &mut [Heard])
-    ensures all { IsPermutation (map line_heard heard.old) (map line_heard heard.new) }
-    ensures ascend { Ascend (map line_heard heard.new) }
+/// Puts the places of all that each processor heard in one list, one behind the other. The list is empty and has room
+/// for all, so it takes no memory.
+pub(crate) fn gather(heard: &[HeardLines], places: &mut Vec<HeardPlace>)
+    requires room { (places.old.items ≡ []) × (length (flat_map lines_of heard.now) ≤ vec_capacity places.old) }
+    ensures places { AllByRecursion (IsPlace heard.now) places.new.items }
+    ensures lines { map (heard_at heard.now) places.new.items ≡ flat_map lines_of heard.now }
 {
-    heard.sort_unstable_by_key(|line| (line.thread, line.step));
+    for (processor, lines) in heard.iter().enumerate() {
+        append(places, processor, lines);
+    }
+}
+
+/// Sorts the places of what was heard by thread, and then by step. It takes no memory.
+pub fn sort_heard(places: &mut [HeardPlace])
+    ensures all { IsPermutation places.old places.new }
+    ensures ascend { (processors : List Heard) → Ascend (map (heard_at processors) places.new) }
+{
+    places.sort_unstable_by_key(|place| (place.thread, place.step));
 }

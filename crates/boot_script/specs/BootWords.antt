@@ -39,8 +39,8 @@ boot_word Close = codes "close"
 -- all words
 unfoldable pub boot_words : List BootWord
 boot_words =
-    Queue ∷ Pipe ∷ Tty ∷ Types ∷ Pump ∷ Switch ∷ Gauge ∷ Alarm ∷ Thread ∷ More ∷ Say ∷ Hear ∷ Wait ∷ Wake ∷ Signal ∷
-    Stop ∷ Start ∷ Tick ∷ Poke ∷ Pass ∷ Close ∷ []
+    Say ∷ Hear ∷ Pass ∷ Queue ∷ Pipe ∷ Tty ∷ Types ∷ Pump ∷ Switch ∷ Gauge ∷ Alarm ∷ Thread ∷ More ∷ Wait ∷ Wake ∷
+    Signal ∷ Stop ∷ Start ∷ Tick ∷ Poke ∷ Close ∷ []
 
 -- the first of the words that is written so
 unfoldable pub word_named : List ℕ → List BootWord → Result BootWord ScriptRefusal

@@ -17,4 +17,5 @@ pub mod Answers
 pub mod RefusalNames
 pub mod Printed
 pub mod Replays
+pub mod Heard
 pub mod Reports

@@ -5,7 +5,6 @@ use Rattle.std.specs.Fmt.{decimal}
 use Rattle.std.specs.List.{flat_map}
 use Rattle.boot_data.specs.declared.report.AlarmCounts.{AlarmCounts}
 use Rattle.boot_data.specs.declared.report.GaugeLine.{GaugeLine}
-use Rattle.boot_data.specs.declared.report.HeardLine.{HeardLine}
 use Rattle.boot_data.specs.declared.report.ItemCounts.{ItemCounts}
 use Rattle.boot_data.specs.declared.report.MoverKind.{MoverKind}
 use Rattle.boot_data.specs.declared.report.MoverKind.TheVariants.{Pump, Switch}
@@ -18,6 +17,7 @@ use Rattle.boot_data.specs.declared.report.ThreadLine.{ThreadLine}
 use Rattle.boot_data.specs.declared.report.ThreadState.{ThreadState}
 use Rattle.boot_data.specs.declared.report.ThreadState.TheVariants.{Ended, Ready, Wait, Stopped, Held}
 use Rattle.boot_data.specs.declared.report.TtyLines.{TtyLines}
+use Rattle.boot_data.specs.Hearing.{NamedLine}
 use Rattle.boot_script.specs.Printed.{end_of_line, hex_digits}
 
 -- a line's first word, and a name
@@ -109,14 +109,14 @@ unfoldable pub written_byte : ℕ → List ℕ
 written_byte byte =
     if stands_for_itself byte then byte ∷ [] else 92 ∷ upper_digit (byte / 16) ∷ upper_digit (byte % 16) ∷ []
 
--- how a list of items is written: each counts as its low 8 bits
+-- how bytes are written
 abbrev pub heard_text : List ℕ → List ℕ
-heard_text items = flat_map (λ item. written_byte (item % 256)) items
+heard_text bytes = flat_map written_byte bytes
 
 -- the line of what a thread heard
-unfoldable pub heard_line : HeardLine → List ℕ
+unfoldable pub heard_line : NamedLine → List ℕ
 heard_line heard =
-    named (codes "heard") heard.thread ++ codes " " ++ decimal heard.step ++ codes " " ++ heard_text heard.items
+    named (codes "heard") heard.thread ++ codes " " ++ decimal heard.step ++ codes " " ++ heard_text heard.bytes
     ++ end_of_line
 
 -- the line of the notes left in all chains

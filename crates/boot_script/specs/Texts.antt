@@ -41,3 +41,8 @@ within_of most bytes = if nat_le (length bytes) most then Ok bytes else Err Text
 -- the text that stands behind the other words of a line: all that is left of it, with the spaces between its words
 abbrev pub text_of : ℕ → List (List ℕ) → Result (List ℕ) ScriptRefusal
 text_of most words = bytes_of (join_with_byte 32 words) >>= λ bytes. within_of most bytes
+
+-- what was read, and nothing where it was refused
+abbrev pub read : Result (List ℕ) ScriptRefusal → List ℕ
+read (Ok bytes) = bytes
+read (Err refusal) = []

@@ -34,6 +34,9 @@ pub(crate) enum BootWord {
 
 /// All words.
 const BOOT_WORDS: [BootWord; 21] = [
+    BootWord::Say,
+    BootWord::Hear,
+    BootWord::Pass,
     BootWord::Queue,
     BootWord::Pipe,
     BootWord::Tty,
@@ -44,8 +47,6 @@ const BOOT_WORDS: [BootWord; 21] = [
     BootWord::Alarm,
     BootWord::Thread,
     BootWord::More,
-    BootWord::Say,
-    BootWord::Hear,
     BootWord::Wait,
     BootWord::Wake,
     BootWord::Signal,
@@ -53,7 +54,6 @@ const BOOT_WORDS: [BootWord; 21] = [
     BootWord::Start,
     BootWord::Tick,
     BootWord::Poke,
-    BootWord::Pass,
     BootWord::Close,
 ];
 

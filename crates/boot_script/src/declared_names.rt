@@ -198,8 +198,10 @@ impl Names {
         ensures exact { result ≡ number_named kind self.now word.now }
         ensures within { IfOk result (λ number. number < most_of Version.Three kind) }
     {
-        let name = name(word)?;
-        self.find(kind, name.as_slice())
+        if !has_name_form(word) {
+            return Err(ScriptRefusal::BadName);
+        }
+        self.find(kind, word)
     }
 
     /// The element of the thread of the word's name. Else BadName, NameUnknown.
@@ -300,10 +302,12 @@ impl Names {
         ensures { result ≡ queue_named heard self.now word.now }
     {
         let (first, part) = cut(word, b'.');
-        let name = name(first)?;
+        if !has_name_form(first) {
+            return Err(ScriptRefusal::BadName);
+        }
         match part {
-            None => Ok(QueueIndex::Small(self.find(Kind::Queue, name.as_slice())?)),
-            Some(part) => self.tty_part(heard, name.as_slice(), part),
+            None => Ok(QueueIndex::Small(self.find(Kind::Queue, first)?)),
+            Some(part) => self.tty_part(heard, first, part),
         }
     }
 }

@@ -3,15 +3,17 @@
 //! What tells whether a line is at fault (the names, and how many there are of what) is kept in place. After a refused growth
 //! the plan itself is not made any longer, and the lines are still checked.
 
-ghost use Rattle.std.specs.Prelude.{◌≡◌, ◌<◌, ◌≤◌, ◌+◌, ◌++◌, ◌∷◌, [], Ok, Some, true, length, if◌then◌else◌};
+ghost use Rattle.std.specs.Prelude.{◌≡◌, ◌<◌, ◌≤◌, ◌+◌, ◌++◌, ◌∷◌, [], Ok, Some, true, length, nat_lt, if◌then◌else◌};
 ghost use Rattle.boot_script.specs.declared.version.Version.{Version};
 ghost use Rattle.boot_script.specs.Plans.{first_draft, add_step, added, line_added, typed_at, change_at, with_text};
 ghost use Rattle.boot_script.specs.Plans.{with_step};
 ghost use Rattle.boot_script.specs.Drafts.{AddsTo, Draws};
+ghost use Rattle.boot_script.specs.Plans as plans;
 
 use crate::boot_lines::{Line, line_said};
 use crate::declared_names::{Names, TtyNumber};
 use crate::fault::ScriptRefusal;
+use crate::unescaping::Typed;
 use crate::version::Version;
 use boot_data::plan::{PlannedMover, PlannedQueue, PlannedThread, PlannedTty, Step};
 use boot_data::{Kind, Name, Text};
@@ -152,6 +154,14 @@ impl Draft {
         Ok(())
     }
 
+    /// The same of a text as it stands in the script.
+    fn add_typed(&mut self, tty: TtyNumber, text: &Typed) -> Result<(), ScriptRefusal>
+        ensures { (version : Version)
+            → AddsTo self.old result self.new (λ d. added version (Line.Types tty text.now) d) }
+    {
+        self.add_text(tty, &text.to_text())
+    }
+
     /// A pump or switch more. TooMany where there are four.
     fn add_mover(&mut self, version: Version, mover: PlannedMover) -> Result<(), ScriptRefusal>
         ensures { AddsTo self.old result self.new (λ d. added version (Line.Mover mover) d) }
@@ -218,6 +228,15 @@ impl Draft {
         self.going = Some(thread);
     }
 
+    /// Whether the thread with this number was declared. One that has steps was, so the names are counted once.
+    #[tactic(auto, using(crate::proofs::Drafts::Drawn::thread_is))]
+    fn has_thread(&self, thread: usize) -> bool
+        requires { thread < 64 }
+        ensures { (d : plans.Draft) → Draws self.now d → result ≡ nat_lt thread (length d.plan.threads) }
+    {
+        self.step_counts[thread] != 0 || thread < self.names.count(Kind::Thread)
+    }
+
     /// A step more in a thread's program. TooMany where it has 64.
     fn add_step(&mut self, thread: Element, step: Step) -> Result<(), ScriptRefusal>
         ensures { AddsTo self.old result self.new (λ d. add_step step (Some thread) d) }
@@ -226,7 +245,7 @@ impl Draft {
         if self.step_counts[at] >= MOST_STEPS {
             return Err(ScriptRefusal::TooMany);
         }
-        let there = at < self.names.count(Kind::Thread);
+        let there = self.has_thread(at);
         self.step_counts[at] = count_if(there, self.step_counts[at] + 1, self.step_counts[at]);
         let stepped = step_at(&mut self.threads, at, step);
         self.kept = both(stepped, self.kept);
@@ -236,12 +255,12 @@ impl Draft {
     /// What a line says, added to what was said before.
     #[tactic(auto, unfolding(crate::specs::Plans::added))]
     fn add(&mut self, alloc: Global, version: Version, line: Line) -> Result<(), ScriptRefusal>
-        ensures { AddsTo self.old result self.new (λ d. added version line d) }
+        ensures { AddsTo self.old result self.new (λ d. added version line.entry d) }
     {
         match line {
             Line::Queue(queue) => self.add_queue(version, queue),
             Line::Tty(name) => self.add_tty(version, name),
-            Line::Types { tty, text } => self.add_text(tty, &text),
+            Line::Types { tty, text } => self.add_typed(tty, &text),
             Line::Mover(mover) => self.add_mover(version, mover),
             Line::Gauge(name) => self.add_gauge(version, name),
             Line::Alarm(alarm) => self.add_alarm(alarm),

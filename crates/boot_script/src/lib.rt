@@ -43,8 +43,8 @@ mod version;
 
 pub use boot::parse_boot;
 pub use boot_data::{
-    AlarmCounts, BootPlan, GaugeLine, HeardItems, HeardLine, ItemCounts, MoverKind, MoverLine,
-    Name, QueueKind, QueueLine, Report, Text, ThreadLine, ThreadState, TtyLines, plan,
+    AlarmCounts, BootPlan, GaugeLine, HeardLines, HeardPlace, HeardReport, ItemCounts, MoverKind,
+    MoverLine, Name, QueueKind, QueueLine, Report, Text, ThreadLine, ThreadState, TtyLines, plan,
 };
 pub use events::parse_events;
 pub use fault::{ScriptFault, ScriptRefusal};

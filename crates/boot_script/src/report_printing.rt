@@ -3,18 +3,19 @@
 //! Lines are gathered in a buffer, which is written out where the next lines don't fit, so that a report goes out in
 //! few writes, each of whole lines.
 
-ghost use Rattle.std.specs.Prelude.{◌≡◌, ◌<◌, ℕ, List, [], OnOk};
+ghost use Rattle.std.specs.Prelude.{◌≡◌, ◌<◌, ℕ, List, [], OnOk, length, Some, codes};
 ghost use Rattle.std.specs.Io.KnownBytes.{Appends, append_known};
-ghost use Rattle.std.specs.List.{flat_map};
+ghost use Rattle.std.specs.List.{flat_map, slice_get};
 ghost use Rattle.boot_script.specs.Reports.{named, counts_words, queue_word, queue_line, tty_queue, tty_line};
 ghost use Rattle.boot_script.specs.Reports.{tty_lines, mover_word, mover_line, gauge_line, alarms_line, state_word};
 ghost use Rattle.boot_script.specs.Reports.{signals_words, thread_line, stands_for_itself, upper_digit, written_byte};
 ghost use Rattle.boot_script.specs.Reports.{heard_text, heard_line, chained_line, report_text};
+ghost use Rattle.boot_script.specs.Heard.{shown};
 
 use crate::printing::digits_of;
 use arrayvec::ArrayVec;
 use boot_data::{
-    AlarmCounts, GaugeLine, HeardLine, ItemCounts, MoverKind, MoverLine, Name, QueueKind,
+    AlarmCounts, GaugeLine, HeardReport, ItemCounts, MoverKind, MoverLine, Name, QueueKind,
     QueueLine, Report, ThreadLine, ThreadState, TtyLines,
 };
 use std::io;
@@ -239,26 +240,55 @@ fn print_byte<W: Write>(byte: u8, out: &mut W) -> io::Result<()>
     out.write_all(&[b'\\', upper_digit_of(byte / 16), upper_digit_of(byte % 16)])
 }
 
-/// A list of items, each by its low 8 bits.
-fn print_items<W: Write>(items: &[u64], out: &mut W) -> io::Result<()>
-    ensures { OnOk result (Appends (W.contents out.old) (W.contents out.new) (heard_text items.now)) }
+/// The bytes of a line.
+fn print_bytes<W: Write>(bytes: &[u8], out: &mut W) -> io::Result<()>
+    ensures { OnOk result (Appends (W.contents out.old) (W.contents out.new) (heard_text bytes.now)) }
 {
-    for item in items {
-        print_byte((*item % 256) as u8, out)?;
+    for byte in bytes {
+        print_byte(*byte, out)?;
     }
     Ok(())
 }
 
-impl Lines for HeardLine {
-    ghost text = { heard_line };
+/// A line that was heard.
+#[derive(Clone, Copy)]
+struct HeardLine<'a> {
+    thread: &'a [u8],
+    step: u8,
+    bytes: &'a [u8],
+}
+
+/// The first word of a line that was heard, and the name of its thread.
+#[tactic(auto, unfolding(crate::specs::Reports::named))]
+fn print_hearer<W: Write>(thread: &[u8], out: &mut W) -> io::Result<()>
+    ensures { OnOk result (Appends (W.contents out.old) (W.contents out.new) (named (codes "heard") thread.now)) }
+{
+    write!(out, "heard ")?;
+    out.write_all(thread)
+}
+
+impl<'a> Lines for HeardLine<'a> {
+    ghost text = { λ line. heard_line (shown line) };
 
     #[tactic(auto, unfolding(crate::specs::Reports::heard_line))]
     fn print<W: Write>(&self, out: &mut W) -> io::Result<()> {
         let step = self.step;
-        print_named("heard", &self.thread, out)?;
+        print_hearer(self.thread, out)?;
         write!(out, " {step} ")?;
-        print_items(self.items.as_slice(), out)?;
+        print_bytes(self.bytes, out)?;
         writeln!(out)
+    }
+}
+
+/// The line with this number of what was heard.
+fn line_at(heard: &HeardReport, number: usize) -> HeardLine<'_>
+    requires { number < length heard.now }
+    ensures { slice_get heard.now number ≡ Some (shown result) }
+{
+    HeardLine {
+        thread: heard.thread(number),
+        step: heard.step(number),
+        bytes: heard.bytes(number),
     }
 }
 
@@ -304,13 +334,18 @@ fn put_text<W: Write>(text: &[u8], buffer: &mut Buffer, out: &mut W) -> io::Resu
     out.write_all(text)
 }
 
-/// Puts the lines of one thing in the buffer.
-fn put<L: Lines, W: Write>(lines: &L, buffer: &mut Buffer, out: &mut W) -> io::Result<()>
+/// Puts the lines of one thing in the buffer. `own` is room to print them in, whatever stands there.
+fn put<L: Lines, W: Write>(
+    lines: &L,
+    own: &mut Buffer,
+    buffer: &mut Buffer,
+    out: &mut W,
+) -> io::Result<()>
     ensures { OnOk result (Appends (append_known (W.contents out.old) buffer.old.items)
         (append_known (W.contents out.new) buffer.new.items) (L.text lines.now)) }
 {
-    let mut own = Buffer::new();
-    match lines.print(&mut own) {
+    own.clear();
+    match lines.print(own) {
         Ok(()) => put_text(own.as_slice(), buffer, out),
         Err(_) => {
             // Longer than a buffer, as no lines of one thing are today.
@@ -321,12 +356,33 @@ fn put<L: Lines, W: Write>(lines: &L, buffer: &mut Buffer, out: &mut W) -> io::R
 }
 
 /// Puts the lines of all these in the buffer.
-fn put_all<L: Lines, W: Write>(all: &[L], buffer: &mut Buffer, out: &mut W) -> io::Result<()>
+fn put_all<L: Lines, W: Write>(
+    all: &[L],
+    own: &mut Buffer,
+    buffer: &mut Buffer,
+    out: &mut W,
+) -> io::Result<()>
     ensures { OnOk result (Appends (append_known (W.contents out.old) buffer.old.items)
         (append_known (W.contents out.new) buffer.new.items) (flat_map L.text all.now)) }
 {
     for lines in all {
-        put(lines, buffer, out)?;
+        put(lines, own, buffer, out)?;
+    }
+    Ok(())
+}
+
+/// Puts the lines of what was heard in the buffer.
+fn put_heard<W: Write>(
+    heard: &HeardReport,
+    own: &mut Buffer,
+    buffer: &mut Buffer,
+    out: &mut W,
+) -> io::Result<()>
+    ensures { OnOk result (Appends (append_known (W.contents out.old) buffer.old.items)
+        (append_known (W.contents out.new) buffer.new.items) (flat_map heard_line heard.now)) }
+{
+    for number in 0..heard.len() {
+        put(&line_at(heard, number), own, buffer, out)?;
     }
     Ok(())
 }
@@ -340,17 +396,18 @@ fn put_all<L: Lines, W: Write>(all: &[L], buffer: &mut Buffer, out: &mut W) -> i
 pub fn print_report<W: Write>(report: &Report, out: &mut W) -> io::Result<()>
     ensures { OnOk result (Appends (W.contents out.old) (W.contents out.new) (report_text report.now)) }
 {
+    let mut own = Buffer::new();
     let mut buffer = Buffer::new();
     let chained = Chained {
         notes: report.chained,
     };
-    put_all(report.queues.as_slice(), &mut buffer, out)?;
-    put_all(report.ttys.as_slice(), &mut buffer, out)?;
-    put_all(report.movers.as_slice(), &mut buffer, out)?;
-    put_all(report.gauges.as_slice(), &mut buffer, out)?;
-    put(&report.alarms, &mut buffer, out)?;
-    put_all(report.threads.as_slice(), &mut buffer, out)?;
-    put_all(report.heard.as_slice(), &mut buffer, out)?;
-    put(&chained, &mut buffer, out)?;
+    put_all(report.queues.as_slice(), &mut own, &mut buffer, out)?;
+    put_all(report.ttys.as_slice(), &mut own, &mut buffer, out)?;
+    put_all(report.movers.as_slice(), &mut own, &mut buffer, out)?;
+    put_all(report.gauges.as_slice(), &mut own, &mut buffer, out)?;
+    put(&report.alarms, &mut own, &mut buffer, out)?;
+    put_all(report.threads.as_slice(), &mut own, &mut buffer, out)?;
+    put_heard(&report.heard, &mut own, &mut buffer, out)?;
+    put(&chained, &mut own, &mut buffer, out)?;
     write_out(&mut buffer, out)
 }

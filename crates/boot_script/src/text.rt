@@ -81,6 +81,13 @@ impl<'a> Words<'a> {
         }
     }
 
+    /// The same words, to be read again.
+    pub(crate) fn same(&self) -> Self
+        ensures { result ≡ self.now }
+    {
+        Words { rest: self.rest }
+    }
+
     /// No word is left.
     #[tactic(auto, using(crate::proofs::Basics::Cuts::some_pieces))]
     pub(crate) fn is_done(&self) -> bool

@@ -6,6 +6,7 @@ ghost use Rattle.boot_script.specs.Texts.{before, digit_of, escape_of, bytes_of,
 use crate::fault::ScriptRefusal;
 use crate::text::Words;
 use boot_data::Text;
+use std::marker::Model;
 
 /// The value of a digit, 0 to 9 or A to F. Else BadNumber.
 fn digit(byte: u8) -> Result<u8, ScriptRefusal>
@@ -73,5 +74,44 @@ pub(crate) fn text_said<const N: usize>(words: &Words) -> Result<Text<N>, Script
         Ok(text)
     } else {
         Err(ScriptRefusal::TextTooLong)
+    }
+}
+
+/// What a device types, as it stands in the script. Contracts see its bytes.
+#[derive(Drop)]
+pub(crate) struct Typed<'a> {
+    words: Words<'a>,
+}
+
+impl<'a> Model for Typed<'a> {
+    ghost use Rattle.std.specs.Prelude.{ℕ, List};
+    ghost use Rattle.boot_script.specs.Texts.{text_of, read};
+
+    ghost Value = { List ℕ };
+
+    ghost view = { λ typed. read (text_of 1024 typed.words) };
+}
+
+impl<'a> Typed<'a> {
+    /// The text itself.
+    pub(crate) fn to_text(&self) -> Text<1024>
+        ensures { result ≡ self.now }
+    {
+        match text_said(&self.words) {
+            Ok(text) => text,
+            Err(_) => Text::new(),
+        }
+    }
+}
+
+/// What the words that are left say that a device types. It is refused where their text is.
+pub(crate) fn typed_said<'a>(words: &Words<'a>) -> Result<Typed<'a>, ScriptRefusal>
+    ensures { result ≡ text_of 1024 words.now }
+{
+    match text_said::<1024>(words) {
+        Ok(_) => Ok(Typed {
+            words: words.same(),
+        }),
+        Err(refusal) => Err(refusal),
     }
 }

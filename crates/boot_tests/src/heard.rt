@@ -1,12 +1,10 @@
 //! Sorting what was heard, and room for a report.
 
 use crate::fixtures::scripts::plan_if_given;
-use arrayvec::ArrayVec;
+use boot_data::HeardPlace;
 use boot_report::*;
 use event_theory::OutOfMemory;
-use processor::Heard;
 use std::alloc::Global;
-use std::panic::Expect;
 use std::process::Abort;
 use std::test::*;
 
@@ -14,46 +12,31 @@ use std::test::*;
 const SCRIPT: &[u8] =
     b"synthesis 3\nqueue a\npipe b 0 1\ntty t\ntype t hi\npump p a b\nswitch s b a x a\ngauge g\nthread v\nsay a hi\nhear b\nhear t.line\nalarm 2 v 3";
 
-fn heard<R: Abort>(rt: &R, thread: u8, step: u8, line: &[u64]) -> Heard {
-    let mut text = ArrayVec::new();
-    for item in line {
-        if text.try_push(*item).is_err() {
-            panic!(rt; "room")
-        }
+/// The place of a line that this processor heard, by its number.
+fn place(thread: u8, step: u8, processor: usize, number: usize) -> HeardPlace {
+    HeardPlace {
+        thread,
+        step,
+        processor,
+        number,
     }
-    Heard { thread, step, text }
 }
 
-/// Three lines, in the reverse of their order.
-fn three_heard<R: Abort>(rt: &R) -> (Heard, Heard, Heard) {
-    let last = heard(rt, 1, 0, &[116, 119, 111, 10]);
-    let second = heard(rt, 0, 2, &[10]);
-    let first = heard(rt, 0, 1, &[111, 110, 101, 10]);
-    (last, second, first)
+/// Asserts that this is the place of a line of the thread and the step.
+fn assert_place<R: Abort>(rt: &R, found: &HeardPlace, line: (u8, u8), at: (usize, usize)) {
+    assert!(rt; (found.thread, found.step) == line);
+    assert!(rt; (found.processor, found.number) == at);
 }
 
-/// The same in a list.
-fn heard_by_one<R: Abort>(rt: &R, alloc: Global) -> Vec<Heard> {
-    let (last, second, first) = three_heard(rt);
-    vec![in alloc; last, second, first].expect(rt, "memory")
-}
-
-/// Asserts that three lines are in their order.
-fn assert_sorted<R: Abort>(rt: &R, lines: &[Heard]) {
-    let [first, second, third] = lines else {
-        panic!(rt; "three")
-    };
-    assert!(rt; (first.thread, first.step) == (0, 1));
-    assert!(rt; (second.thread, second.step) == (0, 2));
-    assert!(rt; (third.thread, third.step) == (1, 0));
-}
-
-/// What was heard is sorted in place, by thread, and then by step.
+/// The places of what was heard are sorted in place, by thread, and then by step.
 #[test]
 fn sorts_what_was_heard(rt: HostRuntime) {
-    let mut all = heard_by_one(&rt, rt.alloc());
-    sort_heard(all.as_mut_slice());
-    assert_sorted(&rt, all.as_slice());
+    let mut all = [place(1, 0, 0, 0), place(0, 2, 1, 0), place(0, 1, 0, 1)];
+    sort_heard(&mut all);
+    let [first, second, third] = &all;
+    assert_place(&rt, first, (0, 1), (0, 1));
+    assert_place(&rt, second, (0, 2), (1, 0));
+    assert_place(&rt, third, (1, 0), (0, 0));
 }
 
 /// Takes the room once, and says whether there was memory.
@@ -61,7 +44,7 @@ fn has_room<R: Abort>(rt: &R, alloc: Global) -> bool {
     let Some(plan) = plan_if_given(rt, alloc, SCRIPT) else {
         return false;
     };
-    match Room::new(alloc, &plan) {
+    match Lines::new(alloc, &plan) {
         Ok(_) => true,
         Err(error) => {
             assert!(rt; error == OutOfMemory);

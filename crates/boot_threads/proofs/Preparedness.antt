@@ -4,6 +4,7 @@ use Rattle.std.proofs.Common.{flat_map}
 use Rattle.std.proofs.lemmas.List.{length-append}
 use Rattle.std.proofs.lemmas.List.FromFn.{length-range_with_len}
 use Rattle.std.proofs.lemmas.Option.{slice_get_past}
+use Rattle.boot_data.specs.Hearing.{Key}
 use Rattle.boot_data.specs.Plans.{steps_in}
 use Rattle.event_theory.proofs.Lists.Placed.{all_append}
 use Rattle.event_theory.specs.declared.event.Event.TheVariants as events
@@ -11,7 +12,6 @@ use Rattle.event_theory.specs.declared.names.QueueName.TheVariants as names
 use Rattle.turn_dispatch.specs.Tallies.{tally, no_events}
 use Rattle.turn_dispatch.proofs.MadeBy.{done_by, signalled_by, delivered_by, retired_by}
 use Rattle.processor.specs.Accounts.{nothing}
-use Rattle.processor.specs.Programs.{Key}
 use Rattle.processor.specs.Stations.{IsUnused}
 use Rattle.thread_table.specs.Own.{View}
 use Rattle.thread_table.specs.Handles.{view_of}

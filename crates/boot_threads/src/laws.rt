@@ -3,6 +3,7 @@ ghost use Rattle.std.specs.Prelude.{◌≡◌, ◌<◌, ◌≤◌, ◌+◌, ◌^
 ghost use Rattle.std.specs.List.{All, AllZip, AllByRecursion, slice_get};
 ghost use Rattle.boot_data.specs.declared.boot_plan.BootPlan.{BootPlan};
 ghost use Rattle.boot_data.specs.declared.plan.PlannedTty.{PlannedTty};
+ghost use Rattle.boot_data.specs.Hearing.{Key};
 ghost use Rattle.claim_queue.specs.declared.ends.ClaimQueue.{ClaimQueue};
 ghost use Rattle.turn_dispatch.specs.Holdings.{IsFree};
 ghost use Rattle.meters.specs.declared.ends.Meters.{Meters};
@@ -17,7 +18,6 @@ ghost use Rattle.proc_chain.specs.declared.ends.ProcChain.{ProcChain};
 ghost use Rattle.processor.specs.declared.shared.Shared.{Shared};
 ghost use Rattle.processor.specs.declared.station.Parts.{Parts};
 ghost use Rattle.processor.specs.Accounts.{account, nothing, shares};
-ghost use Rattle.processor.specs.Programs.{Key};
 ghost use Rattle.processor.specs.Stations.{IsUnused};
 ghost use Rattle.processor.specs.Partings.{AllJoined};
 ghost use Rattle.processor.specs.Preparing.{IsPrepared};

@@ -62,6 +62,9 @@ impl AlarmWord {
         ensures stands { (slot : Option Alarm) → Fits slot → self.bits ≡ word_of slot → result ≡ slot }
         ensures made { IfSome result (λ alarm. self.bits ≡ word_of (Some alarm)) }
     {
+        if self.bits < STANDS {
+            return None;
+        }
         let alarm = Alarm {
             due: self.due(),
             element: Element::new((self.bits / ELEMENT % FIELD) as u8)?,

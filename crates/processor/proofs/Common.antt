@@ -9,6 +9,7 @@ pub use Rattle.std.proofs.lemmas.List.Folds.{list_any-append}
 pub use Rattle.std.proofs.lemmas.List.Sums.{sum_by-cons}
 pub use Rattle.std.specs.List.{AllByRecursion, count_by, sum_by}
 pub use Rattle.boot_data.specs.BootPlans.{plan_of}
+pub use Rattle.boot_data.specs.Hearing.{Key, Line}
 pub use Rattle.boot_data.specs.PlanLimits.{IsPlan, IsProgramOf, many_of}
 pub use Rattle.boot_data.specs.Plans.{Plan, steps_at}
 pub use Rattle.boot_data.specs.declared.boot_plan.BootPlan.{BootPlan}
@@ -44,10 +45,10 @@ pub use Rattle.processor.specs.Logs.{Climbs, EndsWorked, HasDone, Ran, Went, num
 pub use Rattle.processor.specs.Manning.{StaysManned}
 pub use Rattle.processor.specs.Partings.{HaveBoth}
 pub use Rattle.processor.specs.Points.{ToldTurns}
-pub use Rattle.processor.specs.Programs.{AreHears, IsHear, Key, hear_count, hears_in, is_hear, program, same_key, step_of}
+pub use Rattle.processor.specs.Programs.{AreHears, IsHear, hear_count, hears_in, is_hear, program, same_key, step_of}
 pub use Rattle.processor.specs.Queues.{DidAt}
 pub use Rattle.processor.specs.Rooms.{IsPast, key_of}
-pub use Rattle.processor.specs.Running.{Goes, Stepped, line_heard}
+pub use Rattle.processor.specs.Running.{Goes, Stepped}
 pub use Rattle.processor.specs.Turns.{AreAtRest, is_last}
 pub use Rattle.processor.specs.declared.deed.Deed.{Deed}
 pub use Rattle.processor.specs.declared.sending.SentOn.{SentOn}

@@ -1,5 +1,5 @@
 -- What several pieces of a processor's work come to, one behind the other.
-use Rattle.processor.proofs.Common.{◌≡◌, ◌||◌, ◌+◌, ◌≤◌, ◌==◌, ℕ, zero, suc, Bool, true, false, List, [], ◌∷◌, ◌++◌, map, refl, sym, ap, subst, ◌∙◌, ⊎_elim, Result, Ok, Err, MatchResult, arith, append-nil, list_any-append, BootPlan, QueueIndex, Small, Large, QueueEnd, queue_account, chain_account, by_index, queue_shares, StaySound, knows_shut_at, Begun, Idle, Shows, Tally, Adds, no_events, nothing_did, did_both, view_of, done_at, Parts, nothing, ◌⊕◌, account, shown_in, seat_parted, NeverFalls, LogEntry, beginning, Climbs, HasDone, Ran, Went, numbers_of, Key, line_heard, AreAtRest}
+use Rattle.processor.proofs.Common.{◌≡◌, ◌||◌, ◌+◌, ◌≤◌, ◌==◌, ℕ, zero, suc, Bool, true, false, List, [], ◌∷◌, ◌++◌, map, refl, sym, ap, subst, ◌∙◌, ⊎_elim, Result, Ok, Err, MatchResult, arith, append-nil, list_any-append, BootPlan, QueueIndex, Small, Large, QueueEnd, queue_account, chain_account, by_index, queue_shares, StaySound, knows_shut_at, Begun, Idle, Shows, Tally, Adds, no_events, nothing_did, did_both, view_of, done_at, Parts, nothing, ◌⊕◌, account, shown_in, seat_parted, NeverFalls, LogEntry, beginning, Climbs, HasDone, Ran, Went, numbers_of, Key, AreAtRest}
 use Rattle.std.specs.List.{All}
 use Rattle.std.proofs.lemmas.Bool.{or_cases}
 use Rattle.std.proofs.lemmas.List.{map-append}
@@ -93,7 +93,7 @@ hand_done hand ticks shown old new r h m s o = record {
     chains = ((λ k. chain_account (r.chains k).items) ∙ sym (chain_sums.none_last (account old).chains)) i;
     hand = h i;
     meters = m i;
-    heard = ((λ k. map line_heard (r.heard k).items) ∙ sym (append-nil (account old).heard)) i;
+    heard = ((λ k. (r.heard k).lines) ∙ sym (append-nil (account old).heard)) i;
     shown = s i;
   };
   order = o;

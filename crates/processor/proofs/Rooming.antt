@@ -1,40 +1,27 @@
 -- There is room for each line that is heard.
-use Rattle.processor.proofs.Common.{◌≡◌, ◌+◌, ℕ, ◌<◌, ◌≤◌, ◌==◌, Bool, true, false, List, [], ◌∷◌, ◌++◌, map, vec_capacity, length, Some, refl, sym, ap, ◌∙◌, subst, arith, eqb-true, append-nil, AllByRecursion, BootPlan, Step, Counted, CountAnswer, IsNumber, View, done_at, Deed, NeverFalls, IsDeedOf, heard_by, is_heard, Key, same_key, is_hear, IsHear, AreHears, hear_count, step_of, key_of, IsPast, Parts, view_of, Stepped, line_heard}
+use Rattle.processor.proofs.Common.{◌≡◌, ◌+◌, ℕ, ◌<◌, ◌≤◌, ◌==◌, Bool, true, false, List, [], ◌∷◌, ◌++◌, map, length, Some, refl, sym, ap, ◌∙◌, subst, arith, eqb-true, append-nil, AllByRecursion, BootPlan, Step, Counted, CountAnswer, IsNumber, View, done_at, Deed, NeverFalls, IsDeedOf, heard_by, is_heard, Key, same_key, is_hear, IsHear, AreHears, hear_count, step_of, key_of, IsPast, Parts, view_of, Stepped, Line}
 use Rattle.std.proofs.Common.{length-append}
 use Rattle.std.proofs.lemmas.Bool.{and_parts as split}
+use Rattle.std.proofs.lemmas.List.{map-append}
 use Rattle.std.specs.List.{IsDistinct}
 use Rattle.boot_data.specs.declared.plan.Step.TheVariants as steps
 use Rattle.turn_dispatch.specs.declared.counting.Counted.TheVariants as counted
 use Rattle.processor.specs.declared.deed.Deed.TheVariants as deeds
-use Rattle.processor.specs.declared.station.Heard.{Heard}
 use Rattle.processor.specs.declared.tries.HearAnswer.TheVariants as answers
 use Rattle.processor.specs.Rooms.{HasRoom}
-use Rattle.processor.specs.Running.{Line}
 use Rattle.processor.proofs.Rooms.{few}
-
-abbrev pub line_key : Line → Key
-line_key l = l.0
 
 abbrev pub key_in : Deed → ℕ → ℕ → List Key
 key_in (deeds.Hear queue (answers.Taken paid)) e n = (e, n) ∷ []
 key_in deed e n = []
 
-keys_lines : (hs : List Heard) → map key_of hs ≡ map line_key (map line_heard hs)
-keys_lines [] = refl
-keys_lines (h ∷ hs) = ap (λ ks. key_of h ∷ ks) (keys_lines hs)
-
-map_more : (xs ys : List Line) → map line_key (xs ++ ys) ≡ map line_key xs ++ map line_key ys
-map_more [] ys = refl
-map_more (x ∷ xs) ys = ap (λ ks. x.0 ∷ ks) (map_more xs ys)
-
-key_of_heard : (deed : Deed) (e n : ℕ) (text : List ℕ) → map line_key (heard_by deed e n text) ≡ key_in deed e n
+key_of_heard : (deed : Deed) (e n : ℕ) (text : List ℕ) → map key_of (heard_by deed e n text) ≡ key_in deed e n
 key_of_heard (deeds.Hear queue (answers.Taken paid)) e n text = refl
 key_of_heard deed e n text = refl
 
-pub keys_more : (hs hs' : List Heard) (deed : Deed) (e n : ℕ) (text : List ℕ) → map line_heard hs' ≡ map line_heard hs ++ heard_by deed e n text
-    → map key_of hs' ≡ map key_of hs ++ key_in deed e n
-keys_more hs hs' deed e n text h = keys_lines hs' ∙ ap (map line_key) h ∙ map_more (map line_heard hs) (heard_by deed e n text)
-    ∙ ap (λ ks. ks ++ map line_key (heard_by deed e n text)) (sym (keys_lines hs)) ∙ ap (λ ks. map key_of hs ++ ks) (key_of_heard deed e n text)
+-- whose lines there are, with what is kept of a step
+pub keys_more : (lines lines' : List Line) (deed : Deed) (e n : ℕ) (text : List ℕ) → lines' ≡ lines ++ heard_by deed e n text → map key_of lines' ≡ map key_of lines ++ key_in deed e n
+keys_more lines lines' deed e n text h = ap (map key_of) h ∙ map-append key_of lines (heard_by deed e n text) ∙ ap (λ ks. map key_of lines ++ ks) (key_of_heard deed e n text)
 
 all_push : (P : Key → Type 0) (ks : List Key) (k : Key) → AllByRecursion P ks → P k → AllByRecursion P (ks ++ k ∷ [])
 all_push P [] k all p = (p, tt)
@@ -114,16 +101,16 @@ room_left plan keys deed e n h is = cc
 -- nothing more was heard, and no step is undone
 pub room_kept : (plan : BootPlan) (old new : Parts) → HasRoom plan old → new.heard ≡ old.heard → NeverFalls (view_of old.hand) (view_of new.hand) → HasRoom plan new
 room_kept plan old new h same rises = record {
-  room = subst (λ z. hear_count plan ≤ vec_capacity z) (sym same) h.room;
-  hears = subst (λ z. AreHears plan (map key_of z.items)) (sym same) h.hears;
-  past = subst (λ z. AllByRecursion (IsPast (view_of new.hand)) (map key_of z.items)) (sym same) (all_later (view_of old.hand) (view_of new.hand) (map key_of old.heard.items) rises h.past);
+  room = subst (λ z. hear_count plan ≤ z.room) (sym same) h.room;
+  hears = subst (λ z. AreHears plan (map key_of z.lines)) (sym same) h.hears;
+  past = subst (λ z. AllByRecursion (IsPast (view_of new.hand)) (map key_of z.lines)) (sym same) (all_later (view_of old.hand) (view_of new.hand) (map key_of old.heard.lines) rises h.past);
 }
 
 -- nothing was heard
-pub room_new : (plan : BootPlan) (parts : Parts) → parts.heard.items ≡ [] → hear_count plan ≤ vec_capacity parts.heard → HasRoom plan parts
+pub room_new : (plan : BootPlan) (parts : Parts) → parts.heard.lines ≡ [] → hear_count plan ≤ parts.heard.room → HasRoom plan parts
 unfolding IsDistinct
 room_new plan parts none room = record {
   room = room;
-  hears = subst (λ (hs : List Heard). AreHears plan (map key_of hs)) (sym none) (tt, tt);
-  past = subst (λ (hs : List Heard). AllByRecursion (IsPast (view_of parts.hand)) (map key_of hs)) (sym none) tt;
+  hears = subst (λ (lines : List Line). AreHears plan (map key_of lines)) (sym none) (tt, tt);
+  past = subst (λ (lines : List Line). AllByRecursion (IsPast (view_of parts.hand)) (map key_of lines)) (sym none) tt;
 }

@@ -1,5 +1,5 @@
 -- The accounts and the shares of stations add up.
-use Rattle.processor.proofs.Common.{◌≡◌, arith, ◌||◌, ◌&&◌, ℕ, Bool, true, false, List, map, refl, sym, ap, ◌∙◌, nat_tests, append-nil, append_assoc, QueueIndex, QueueEnd, both_queue, both_chain, idle_queue, idle_chain, queue_account, at_each, by_index, queues_add, by_sizes, Shows, tally, no_events, behind, nothing_did, did_both, is_in, view_of, View, Parts, nothing, ◌⊕◌, shown_in, account, seat_parted, shares, HaveBoth, line_heard}
+use Rattle.processor.proofs.Common.{◌≡◌, arith, ◌||◌, ◌&&◌, ℕ, Bool, true, false, List, refl, sym, ap, ◌∙◌, nat_tests, append-nil, append_assoc, QueueIndex, QueueEnd, both_queue, both_chain, idle_queue, idle_chain, queue_account, at_each, by_index, queues_add, by_sizes, Shows, tally, no_events, behind, nothing_did, did_both, is_in, view_of, View, Parts, nothing, ◌⊕◌, shown_in, account, seat_parted, shares, HaveBoth}
 use Rattle.std.specs.Prelude.{nat_lt, slice_index_or}
 use Rattle.std.proofs.Math.Bool.{or_assoc, or-false}
 use Rattle.std.proofs.Math.Nat.{add_comm}
@@ -157,7 +157,7 @@ module _ (processors : ℕ) (old new born : Parts) (s : AreSplit processors old 
     chains = λ q. (chain_kept_at old.chains.items new.chains.items born.chains.items s.chains i q).did;
     hand = tally (s.hand.acts.has i).own.made;
     meters = s.meters.own i;
-    heard = map line_heard (s.heard i).items;
+    heard = (s.heard i).lines;
     shown = shown_in (s.signals i);
   }
     where
@@ -171,7 +171,7 @@ module _ (processors : ℕ) (old new born : Parts) (s : AreSplit processors old 
     chains = λ q. (chain_given_at old.chains.items new.chains.items born.chains.items s.chains i q).did;
     hand = tally (s.born_hand.same i).own.made;
     meters = (s.born_meters i).own;
-    heard = map line_heard (unused.heard i);
+    heard = unused.heard i;
     shown = (ap shown_in unused.signals ∙ none_shown) i;
   }
     where
@@ -208,7 +208,7 @@ module _ (old other new : Parts) (j : AreJoined old other new) where
     chains = λ q. (chain_joined_at old.chains.items new.chains.items other.chains.items j.chains i q).did;
     hand = (ap (λ (v : View). tally v.own.made) j.hand.acts.has ∙ tally_more (view_of old.hand).own.made (view_of other.hand).own.made) i;
     meters = j.meters.0.own i;
-    heard = (ap (λ z. map line_heard z.items) j.heard ∙ sym (append-nil (map line_heard old.heard.items))) i;
+    heard = (ap (λ z. z.lines) j.heard ∙ sym (append-nil old.heard.lines)) i;
     shown = both_shown old.signals other.signals new.signals j.signals i;
   }
     where

@@ -1,5 +1,6 @@
 -- What the ends of a station did, and the shares that they have, each as one sum.
 use Rattle.std.specs.Prelude.{◌+◌, ◌&&◌, ◌||◌, ℕ, Bool, false, nat_lt, List, [], ◌++◌, slice_index_or}
+use Rattle.boot_data.specs.Hearing.{Line}
 use Rattle.boot_data.specs.declared.plan.QueueIndex.{QueueIndex}
 use Rattle.turn_io.specs.Accounts.{AtQueue, idle_queue, both_queue, AtChain, idle_chain, both_chain, at_each}
 use Rattle.turn_io.specs.Accounts.{by_index, queue_account, queue_shares, chain_account, chain_shares}
@@ -10,8 +11,6 @@ use Rattle.meters.specs.Own.{nothing_did, did_both}
 use Rattle.thread_table.specs.Answers.{is_in}
 use Rattle.thread_table.specs.Handles.{view_of}
 use Rattle.processor.specs.declared.station.Parts.{Parts}
-use Rattle.processor.specs.Running.{Line}
-use Rattle.processor.specs.Turns.{heard_lines}
 
 -- What was done at each queue and at each chain, what the hand's events come to, what was done at the meters, what was
 -- heard, and whether a signal of an element was delivered
@@ -58,7 +57,7 @@ account parts = record {
   chains = chain_account parts.chains.items;
   hand = tally (view_of parts.hand).own.made;
   meters = (seats.view_of parts.meters).own;
-  heard = heard_lines parts;
+  heard = parts.heard.lines;
   shown = shown_in parts.signals;
 }
 

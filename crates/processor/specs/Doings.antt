@@ -1,5 +1,6 @@
 -- What a deed did, in the words of an account: with the line that it was to say, or heard.
 use Rattle.std.specs.Prelude.{ℕ, Bool, true, false, List, [], ◌∷◌}
+use Rattle.boot_data.specs.Hearing.{Line, bytes_of}
 use Rattle.boot_data.specs.declared.plan.QueueIndex.{QueueIndex}
 use Rattle.boot_data.specs.declared.plan.QueueIndex.TheVariants.{Small}
 use Rattle.turn_io.specs.Accounts.{AtQueue, AtChain, idle_queue, idle_chain, at_one, only, put_if, taken_if, shut_if}
@@ -11,7 +12,6 @@ use Rattle.processor.specs.declared.deed.Deed.{Deed}
 use Rattle.processor.specs.declared.deed.Deed.TheVariants as deeds
 use Rattle.processor.specs.declared.tries.HearAnswer.TheVariants as hears
 use Rattle.processor.specs.declared.tries.SayAnswer.TheVariants as says
-use Rattle.processor.specs.Running.{Line}
 use Rattle.processor.specs.Tries.{said, heard}
 
 -- at the queues
@@ -37,9 +37,9 @@ abbrev pub raised_by : Deed → Tally
 raised_by (deeds.Signal thread signal answer) = one_signal thread signal
 raised_by deed = no_events
 
--- the line that a step of a thread, with this number, heard
+-- what is kept of the line that a step of a thread, with this number, heard: its bytes
 abbrev pub heard_by : Deed → ℕ → ℕ → List ℕ → List Line
-heard_by (deeds.Hear queue (hears.Taken paid)) thread number line = ((thread, number), line) ∷ []
+heard_by (deeds.Hear queue (hears.Taken paid)) thread number line = ((thread, number), bytes_of line) ∷ []
 heard_by deed thread number line = []
 
 -- whether it was told that the queue is shut

@@ -1,6 +1,7 @@
 -- What a processor did, turn by turn, and what that comes to.
 use Rattle.std.specs.Prelude.{◌≡◌, ◌≤◌, ◌+◌, ◌==◌, ℕ, Bool, true, List, [], ◌∷◌, map, filter, length}
 use Rattle.std.specs.List.{All, AllByRecursion, list_any}
+use Rattle.boot_data.specs.Hearing.{Key}
 use Rattle.boot_data.specs.declared.boot_plan.BootPlan.{BootPlan}
 use Rattle.boot_data.specs.declared.plan.QueueIndex.{QueueIndex}
 use Rattle.turn_io.specs.declared.gate.Point.{Point}
@@ -16,7 +17,6 @@ use Rattle.processor.specs.Accounts.{Account, nothing, ◌⊕◌, account, share
 use Rattle.processor.specs.Doings.{queues_by, chains_by, ticks_by}
 use Rattle.processor.specs.Entries.{LogEntry, entry_account, FollowsPlan, turn_told_shut}
 use Rattle.processor.specs.Points.{ToldTurns}
-use Rattle.processor.specs.Programs.{Key}
 use Rattle.processor.specs.Stations.{IsUnused}
 
 -- what a log comes to: the sum of its turns, in their order

@@ -27,7 +27,7 @@ pub record HaveRoom (shared : Shared) (lists : Lists) : Type 0 where
   pub small : (lists.small.items ≡ []) × (length shared.queues.small.items ≤ vec_capacity lists.small)
   pub large : (lists.large.items ≡ []) × (length shared.queues.large.items ≤ vec_capacity lists.large)
   pub chains : (lists.chains.items ≡ []) × (length shared.chains.items ≤ vec_capacity lists.chains)
-  pub heard : (lists.heard.items ≡ []) × (hear_count shared.plan ≤ vec_capacity lists.heard)
+  pub heard : (lists.heard.lines ≡ []) × (hear_count shared.plan ≤ lists.heard.room)
 
 -- Each end gave a part to a new one, and the hand the processors of the mask. What was heard and signalled is as it was
 pub record AreSplit (processors : ℕ) (old new born : Parts) : Type 0 where

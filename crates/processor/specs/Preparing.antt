@@ -1,6 +1,7 @@
 -- The first station of a boot, which prepared the threads.
 use Rattle.std.specs.Prelude.{◌≡◌, ◌≤◌, length}
 use Rattle.std.specs.List.{AllByRecursion}
+use Rattle.boot_data.specs.Hearing.{Key}
 use Rattle.boot_data.specs.declared.boot_plan.BootPlan.{BootPlan}
 use Rattle.turn_dispatch.specs.Tallies.{no_events}
 use Rattle.meters.specs.Own.{nothing_did}
@@ -8,7 +9,7 @@ use Rattle.thread_table.specs.Handles.{view_of}
 use Rattle.thread_table.specs.Schedules.{elements_after, ring_at}
 use Rattle.processor.specs.declared.station.Parts.{Parts}
 use Rattle.processor.specs.Accounts.{Account, nothing, account}
-use Rattle.processor.specs.Programs.{Key, program}
+use Rattle.processor.specs.Programs.{program}
 use Rattle.processor.specs.Stations.{no_signals}
 
 -- an element that had done so many steps had no more to do

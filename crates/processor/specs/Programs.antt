@@ -1,6 +1,7 @@
 -- The programs of a plan, and the steps of it that hear.
 use Rattle.std.specs.Prelude.{◌≡◌, ℕ, ◌==◌, ◌&&◌, Bool, true, false, List, Option, Some}
 use Rattle.std.specs.List.{slice_get, count_by, sum_by, AllByRecursion, IsDistinct}
+use Rattle.boot_data.specs.Hearing.{Key}
 use Rattle.boot_data.specs.declared.boot_plan.BootPlan.{BootPlan}
 use Rattle.boot_data.specs.declared.plan.PlannedThread.{PlannedThread}
 use Rattle.boot_data.specs.declared.plan.Step.{Step}
@@ -25,10 +26,6 @@ hears_in thread = count_by is_hear thread.steps
 -- how many steps of a plan hear
 abbrev pub hear_count : BootPlan → ℕ
 hear_count plan = sum_by hears_in plan.threads
-
--- a step of a thread: the number of the thread, and the number of the step
-abbrev pub Key : Type 0
-Key = ℕ × ℕ
 
 abbrev pub same_key : Key → Key → Bool
 same_key a b = (a.0 == b.0) && (a.1 == b.1)

@@ -1,16 +1,17 @@
 -- The room for heard lines.
-use Rattle.std.specs.Prelude.{◌<◌, ◌≤◌, map, vec_capacity}
+use Rattle.std.specs.Prelude.{◌<◌, ◌≤◌, map}
 use Rattle.std.specs.List.{AllByRecursion}
+use Rattle.boot_data.specs.Hearing.{Key, Line}
 use Rattle.boot_data.specs.declared.boot_plan.BootPlan.{BootPlan}
 use Rattle.thread_table.specs.Own.{View}
 use Rattle.thread_table.specs.Handles.{view_of}
 use Rattle.thread_table.specs.Rules.{done_at}
-use Rattle.processor.specs.declared.station.Heard.{Heard}
 use Rattle.processor.specs.declared.station.Parts.{Parts}
-use Rattle.processor.specs.Programs.{Key, AreHears, hear_count}
+use Rattle.processor.specs.Programs.{AreHears, hear_count}
 
-abbrev pub key_of : Heard → Key
-key_of h = (h.thread, h.step)
+-- whose line it is: the thread, and the number of its step
+abbrev pub key_of : Line → Key
+key_of line = line.0
 
 -- the step is done
 abbrev pub IsPast : View → Key → Type 0
@@ -19,6 +20,6 @@ IsPast v key = key.1 < done_at v.seen.object key.0
 -- The heard lines are those of steps of the plan that hear and are done, none of them twice, and there is room for as
 -- many as the plan has
 pub record HasRoom (plan : BootPlan) (parts : Parts) : Type 0 where
-  pub room : hear_count plan ≤ vec_capacity parts.heard
-  pub hears : AreHears plan (map key_of parts.heard.items)
-  pub past : AllByRecursion (IsPast (view_of parts.hand)) (map key_of parts.heard.items)
+  pub room : hear_count plan ≤ parts.heard.room
+  pub hears : AreHears plan (map key_of parts.heard.lines)
+  pub past : AllByRecursion (IsPast (view_of parts.hand)) (map key_of parts.heard.lines)

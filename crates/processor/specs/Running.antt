@@ -13,10 +13,8 @@ use Rattle.processor.specs.declared.ticket.Ticket.{Ticket}
 use Rattle.processor.specs.declared.sending.Moved.{Moved}
 use Rattle.processor.specs.declared.sending.Moved.TheVariants as moveds
 use Rattle.processor.specs.declared.shared.Shared.{Shared}
-use Rattle.processor.specs.declared.station.Heard.{Heard}
 use Rattle.processor.specs.declared.station.Parts.{Parts}
 use Rattle.processor.specs.Deeds.{is_done, sleeps_on, wait_of}
-use Rattle.processor.specs.Programs.{Key}
 use Rattle.processor.specs.Steps.{HandDid, QueuesDid, ChainsDid, SeatDid}
 
 -- the element was put on the processor, its step tried and counted where it is done, and the element taken off
@@ -47,10 +45,3 @@ Goes call deed last element (moveds.Freed moved) v w =
     (sleeps_on deed ≡ None) × (wait_of deed ≡ None) × (last ≡ true) × Sent call 1 element moved v w
 Goes call deed last element (moveds.Ready moved) v w =
     (sleeps_on deed ≡ None) × (wait_of deed ≡ None) × (last ≡ false) × Sent call 0 element moved v w
-
--- a heard line: the thread, the number of its step, and the line
-abbrev pub Line : Type 0
-Line = Key × List ℕ
-
-abbrev pub line_heard : Heard → Line
-line_heard h = ((h.thread, h.step), h.text.items)

@@ -13,7 +13,7 @@ no_signals = repeat 64 (0 ∷ [])
 
 -- nothing was heard, and no signal delivered
 pub record IsUnused (parts : Parts) : Type 0 where
-  pub heard : parts.heard.items ≡ []
+  pub heard : parts.heard.lines ≡ []
   pub signals : parts.signals ≡ no_signals
 
 -- the ends are those of the shared objects, in their order, and no end of a chain has a Turn

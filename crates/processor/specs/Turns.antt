@@ -1,6 +1,6 @@
 -- The turns of a processor.
-use Rattle.std.specs.Prelude.{◌≡◌, ◌≢◌, ◌≤◌, ◌+◌, ◌&&◌, ℕ, Bool, nat_le, List, [], ◌++◌, map, length, Option, Some}
-use Rattle.std.specs.Prelude.{None}
+use Rattle.std.specs.Prelude.{◌≡◌, ◌≢◌, ◌≤◌, ◌+◌, ◌&&◌, ℕ, Bool, nat_le, List, [], ◌++◌, length, Option, Some, None}
+use Rattle.boot_data.specs.Hearing.{Line}
 use Rattle.boot_data.specs.declared.plan.Step.{Step}
 use Rattle.turn_dispatch.specs.declared.alarms.Tended.{Tended}
 use Rattle.turn_dispatch.specs.declared.dispatch.Begun.{Begun}
@@ -24,11 +24,11 @@ use Rattle.processor.specs.declared.station.Parts.{Parts}
 use Rattle.processor.specs.Deeds.{is_done, IsDeedOf}
 use Rattle.processor.specs.Doings.{heard_by}
 use Rattle.processor.specs.Programs.{program, step_of}
-use Rattle.processor.specs.Running.{Line, Stepped, EndsDid, Goes, line_heard}
+use Rattle.processor.specs.Running.{Stepped, EndsDid, Goes}
 
 -- the lines that a station keeps
 abbrev pub heard_lines : Parts → List Line
-heard_lines parts = map line_heard parts.heard.items
+heard_lines parts = parts.heard.lines
 
 -- whether a step that was tried is done, and was the last of so many
 abbrev pub is_last : Bool → ℕ → ℕ → Bool
@@ -48,8 +48,8 @@ pub record BegunAt (begun : Begun) (old new : Parts) : Type 0 where
   pub rest : AreAtRest old new
   pub meters : new.meters ≡ old.meters
 
--- The step of the element was tried on the processor, with what that did at all ends; a line that was heard is kept;
--- and the element moved on
+-- The step of the element was tried on the processor, with what that did at all ends; of a line that was heard the
+-- bytes are kept; and the element moved on
 pub record RanStep (shared : Shared) (p element number : ℕ) (sent : SentOn) (line : List ℕ) (old new : Parts)
     : Type 0 where
   pub step : Step

@@ -20,10 +20,10 @@ ghost use Rattle.processor.specs.Stations.{ArePartsOf, AreSameParts};
 ghost use Rattle.processor.specs.Steps.{Fits, HandDid};
 
 use crate::deed::Deed;
+use crate::lines::LineRoom;
 use crate::shared::Shared;
 use crate::station::Parts;
 use crate::steps::try_step;
-use arrayvec::ArrayVec;
 use boot_data::plan::Step;
 use event_theory::{Element, Processor};
 use std::sync::Wait;
@@ -79,34 +79,34 @@ pub(crate) fn seat(
     Seated(())
 }
 
-// Tries a step of a thread once, whose element is on its processor. A line that is heard goes into `heard`.
+// Tries a step of a thread once, whose element is on its processor. A line that is heard goes into `room.heard`.
 pub(crate) fn do_step<R: Wait, G: Gate>(
     rt: &R,
     shared: &Shared,
     parts: &mut Parts,
     _seated: Seated,
     step: &Step,
-    heard: &mut ArrayVec<u64, 256>,
+    room: &mut LineRoom,
     p: u8,
     gate: &mut G,
 ) -> Attempt
     requires parts { ArePartsOf shared.now parts.old }
     requires fits { Fits shared.now.queues (length shared.now.chains.items) step.now }
-    requires empty { heard.old.items ≡ [] }
-    ensures deed { IsDeedOf step.now result.deed (line_in step.now heard.new.items) }
+    requires empty { room.old.heard.items ≡ [] }
+    ensures deed { IsDeedOf step.now result.deed (line_in step.now room.new.heard.items) }
     ensures parts { ArePartsOf shared.now parts.new }
     ensures same { AreSameParts parts.old parts.new }
     ensures hand { HandDid (call_of parts.old.hand) shared.now.plan result.deed (view_of parts.old.hand)
         (view_of parts.new.hand) }
-    ensures ends { EndsDid shared.now result.deed (line_in step.now heard.new.items) parts.old parts.new }
-    ensures worked { EndsWorked result.deed (line_in step.now heard.new.items) parts.old parts.new }
+    ensures ends { EndsDid shared.now result.deed (line_in step.now room.new.heard.items) parts.old parts.new }
+    ensures worked { EndsWorked result.deed (line_in step.now room.new.heard.items) parts.old parts.new }
     ensures acts { Acts (raised_by result.deed) (view_of parts.old.hand) (view_of parts.new.hand) }
     ensures heard { parts.new.heard ≡ parts.old.heard }
     ensures signals { parts.new.signals ≡ parts.old.signals }
     ensures gate { GateSaw G.told p (points_of result.deed) gate.old gate.new }
 {
     Attempt {
-        deed: try_step(rt, shared, parts, step, heard, p, gate),
+        deed: try_step(rt, shared, parts, step, room, p, gate),
         was_tried: WasTried(()),
     }
 }

@@ -1,13 +1,14 @@
 //! What a plan keeps for its processors: room for each line that is heard, and objects for each step. And what they did
 //! adds up.
 ghost use Rattle.std.specs.Prelude.{◌≡◌, ◌≤◌, ℕ, List, length, Some};
+ghost use Rattle.boot_data.specs.Hearing.{Key};
 ghost use Rattle.boot_data.specs.declared.boot_plan.BootPlan.{BootPlan};
 ghost use Rattle.boot_data.specs.declared.plan.Step.{Step};
 ghost use Rattle.turn_io.specs.Accounts.{AddsUp};
 ghost use Rattle.table_theory.specs.Sharing.{given, kept};
 ghost use Rattle.processor.specs.declared.shared.Shared.{Shared};
 ghost use Rattle.processor.specs.Accounts.{◌⊕◌, nothing, Shares, no_shares, both_shares, each_share};
-ghost use Rattle.processor.specs.Programs.{Key, AreHears, hear_count, program, step_of};
+ghost use Rattle.processor.specs.Programs.{AreHears, hear_count, program, step_of};
 ghost use Rattle.processor.specs.Steps.{Fits};
 
 /// Steps of a plan that hear, none of them twice, are no more than the plan has.

@@ -33,7 +33,7 @@ pub use outcome::{Had, Outcome, Turned};
 pub use programs::hears_of;
 pub use sending::{Moved, SentOn};
 pub use shared::Shared;
-pub use station::{Heard, Parts, Station};
+pub use station::{Parts, Station};
 pub use ticket::Ticket;
 pub use tries::{HearAnswer, SayAnswer, Unheard, Unsaid};
 pub use turn::run;

@@ -1,5 +1,5 @@
-//! A line said in a queue, or heard from it, whichever of the two lists it stands in.
-ghost use Rattle.std.specs.Prelude.{◌≡◌, ◌<◌, ◌≤◌, ℕ, [], length, IfOk};
+//! A line said in a queue, or heard from it, whichever of the two lists it stands in, and the room for it.
+ghost use Rattle.std.specs.Prelude.{◌≡◌, ◌<◌, ◌≤◌, ℕ, [], length};
 ghost use Rattle.turn_io.specs.Accounts.{StaySound, at_each, at_one, both_queue, idle_queue, put_if, queue_account};
 ghost use Rattle.turn_io.specs.Accounts.{taken_if};
 ghost use Rattle.turn_io.specs.EndLists.{AreEndsOf, AreSameEnds, OnEnd};
@@ -15,16 +15,35 @@ use claim_queue::{ClaimRefusal, QueueEnd, TakeRefusal};
 use quajects::Queues;
 use turn_io::{Gate, hear, say};
 
-// The line that a text is said as.
-pub(crate) fn line_of(text: &Text<63>) -> ArrayVec<u64, 64>
-    ensures { result.items ≡ said_line text.now }
+// The lists that the turns of a run use again, so that no turn fills new ones with zeros: one for a line that is heard,
+// and one for a line that is said, or taken from a queue of 64 places.
+#[derive(Drop)]
+pub(crate) struct LineRoom {
+    pub(crate) heard: ArrayVec<u64, 256>,
+    pub(crate) short: ArrayVec<u64, 64>,
+}
+
+impl LineRoom {
+    // Both empty.
+    pub(crate) fn new() -> Self
+        ensures { (result.heard.items ≡ []) × (result.short.items ≡ []) }
+    {
+        LineRoom {
+            heard: ArrayVec::new(),
+            short: ArrayVec::new(),
+        }
+    }
+}
+
+// Makes the list the line that a text is said as.
+pub(crate) fn write_line(text: &Text<63>, line: &mut ArrayVec<u64, 64>)
+    ensures { line.new.items ≡ said_line text.now }
 {
-    let mut line = ArrayVec::new();
+    line.clear();
     for byte in text.as_slice() {
         line.push(u64::from(*byte));
     }
     line.push(0x0A);
-    line
 }
 
 // One try to say a line.
@@ -68,25 +87,24 @@ fn hear_small<G: Gate>(
     queues: &Queues,
     small: &mut [QueueEnd<64>],
     at: usize,
-    text: &mut ArrayVec<u64, 256>,
+    room: &mut LineRoom,
     p: u8,
     gate: &mut G,
 ) -> Result<(), TakeRefusal>
     requires small { AreEndsOf queues.now.small.items small.old }
     requires there { at < length queues.now.small.items }
-    requires empty { text.old.items ≡ [] }
+    requires empty { room.old.heard.items ≡ [] }
     ensures same { AreSameEnds small.old small.new }
     ensures small { AreEndsOf queues.now.small.items small.new }
-    ensures heard { OnEnd at (Heard text.new.items result) small.old small.new }
+    ensures heard { OnEnd at (Heard room.new.heard.items result) small.old small.new }
     ensures did { queue_account small.new
-        ≡ at_each both_queue (queue_account small.old) (at_one idle_queue at (taken_if result text.new.items)) }
+        ≡ at_each both_queue (queue_account small.old) (at_one idle_queue at (taken_if result room.new.heard.items)) }
     ensures sound { StaySound small.old small.new }
-    ensures long { IfOk result (λ done. 0 < length text.new.items) }
     ensures gate { G.told gate.old p TakeAnswered gate.new }
 {
-    let mut line = ArrayVec::<u64, 64>::new();
-    let answer = hear(queues.small.as_slice(), small, at, &mut line, p, gate);
-    copy(line.as_slice(), text);
+    room.short.clear();
+    let answer = hear(queues.small.as_slice(), small, at, &mut room.short, p, gate);
+    copy(room.short.as_slice(), &mut room.heard);
     answer
 }
 
@@ -96,25 +114,24 @@ pub(crate) fn hear_at<G: Gate>(
     small: &mut [QueueEnd<64>],
     large: &mut [QueueEnd<256>],
     queue: QueueIndex,
-    text: &mut ArrayVec<u64, 256>,
+    room: &mut LineRoom,
     p: u8,
     gate: &mut G,
 ) -> Result<(), TakeRefusal>
     requires small { AreEndsOf queues.now.small.items small.old }
     requires large { AreEndsOf queues.now.large.items large.old }
     requires there { IsThere queues.now queue }
-    requires empty { text.old.items ≡ [] }
+    requires empty { room.old.heard.items ≡ [] }
     ensures same { AreSameEnds small.old small.new × AreSameEnds large.old large.new }
     ensures small { AreEndsOf queues.now.small.items small.new }
     ensures large { AreEndsOf queues.now.large.items large.new }
-    ensures heard { HeardAt queue text.new.items result small.old small.new large.old large.new }
-    ensures did { DidAt queue (taken_if result text.new.items) small.old small.new large.old large.new }
+    ensures heard { HeardAt queue room.new.heard.items result small.old small.new large.old large.new }
+    ensures did { DidAt queue (taken_if result room.new.heard.items) small.old small.new large.old large.new }
     ensures sound { StaySound small.old small.new × StaySound large.old large.new }
-    ensures long { IfOk result (λ done. 0 < length text.new.items) }
     ensures gate { G.told gate.old p TakeAnswered gate.new }
 {
     match queue {
-        QueueIndex::Small(at) => hear_small(queues, small, at, text, p, gate),
-        QueueIndex::Large(at) => hear(queues.large.as_slice(), large, at, text, p, gate),
+        QueueIndex::Small(at) => hear_small(queues, small, at, room, p, gate),
+        QueueIndex::Large(at) => hear(queues.large.as_slice(), large, at, &mut room.heard, p, gate),
     }
 }

@@ -1,5 +1,5 @@
 //! The programs of the threads of a plan.
-ghost use Rattle.std.specs.Prelude.{◌≡◌};
+ghost use Rattle.std.specs.Prelude.{◌≡◌, ◌≤◌};
 ghost use Rattle.std.specs.List.{count_by};
 ghost use Rattle.processor.specs.Programs.{program, is_hear, hear_count};
 
@@ -29,7 +29,8 @@ fn hears_in(steps: &[Step]) -> usize
 
 /// How many steps of a plan hear.
 pub fn hears_of(plan: &BootPlan) -> usize
-    ensures { result ≡ hear_count plan.now }
+    ensures exact { result ≡ hear_count plan.now }
+    ensures few { result ≤ 4096 }
 {
     let mut hears = 0;
     for thread in plan.threads.as_slice() {

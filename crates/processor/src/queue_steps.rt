@@ -13,8 +13,8 @@ ghost use Rattle.processor.specs.Queues.{DidAt, IsThere, said_line};
 ghost use Rattle.processor.specs.Steps.{HandDid, QueuesDid};
 ghost use Rattle.processor.specs.Tries.{said, heard};
 
-use crate::lines::line_of;
-use crate::pipes::{readers_at, writers_at};
+use crate::lines::{LineRoom, write_line};
+use crate::pipes::waits_of;
 use crate::shared::Shared;
 use crate::ticket::ticket_for;
 use crate::tries::{HearAnswer, SayAnswer, WasShut, shut_at, try_hear, try_say};
@@ -36,6 +36,7 @@ pub(crate) fn say_step<R: Wait, G: Gate>(
     large: &mut [QueueEnd<256>],
     queue: QueueIndex,
     text: &Text<63>,
+    line: &mut ArrayVec<u64, 64>,
     p: u8,
     gate: &mut G,
 ) -> SayAnswer<Paid>
@@ -54,9 +55,8 @@ pub(crate) fn say_step<R: Wait, G: Gate>(
     ensures gate { GateSaw G.told p (points_of (deeds.Say queue result)) gate.old gate.new }
     ensures same { IsSameHand hand.old hand.new × AreSameEnds small.old small.new × AreSameEnds large.old large.new }
 {
-    let readers = readers_at(&shared.plan, queue);
-    let writers = writers_at(&shared.plan, queue);
-    let line = line_of(text);
+    let (readers, writers) = waits_of(&shared.plan, queue);
+    write_line(text, line);
     let ticket = ticket_for(&shared.threads, hand, writers);
     match try_say(
         shared,
@@ -84,7 +84,7 @@ pub(crate) fn hear_step<R: Wait, G: Gate>(
     small: &mut [QueueEnd<64>],
     large: &mut [QueueEnd<256>],
     queue: QueueIndex,
-    text: &mut ArrayVec<u64, 256>,
+    room: &mut LineRoom,
     p: u8,
     gate: &mut G,
 ) -> HearAnswer<Paid>
@@ -92,22 +92,21 @@ pub(crate) fn hear_step<R: Wait, G: Gate>(
     requires small { AreEndsOf shared.now.queues.small.items small.old }
     requires large { AreEndsOf shared.now.queues.large.items large.old }
     requires there { IsThere shared.now.queues queue }
-    requires empty { text.old.items ≡ [] }
+    requires empty { room.old.heard.items ≡ [] }
     ensures small { AreEndsOf shared.now.queues.small.items small.new }
     ensures large { AreEndsOf shared.now.queues.large.items large.new }
     ensures hand { HandDid (call_of hand.old) shared.now.plan (deeds.Hear queue result) (view_of hand.old)
         (view_of hand.new) }
     ensures acts { Acts no_events (view_of hand.old) (view_of hand.new) }
-    ensures queues { QueuesDid (deeds.Hear queue result) text.new.items small.old small.new large.old large.new }
-    ensures did { DidAt queue (taken_if (heard result) text.new.items) small.old small.new large.old large.new }
+    ensures queues { QueuesDid (deeds.Hear queue result) room.new.heard.items small.old small.new large.old large.new }
+    ensures did { DidAt queue (taken_if (heard result) room.new.heard.items) small.old small.new large.old large.new }
     ensures sound { StaySound small.old small.new × StaySound large.old large.new }
     ensures gate { GateSaw G.told p (points_of (deeds.Hear queue result)) gate.old gate.new }
     ensures same { IsSameHand hand.old hand.new × AreSameEnds small.old small.new × AreSameEnds large.old large.new }
 {
-    let readers = readers_at(&shared.plan, queue);
-    let writers = writers_at(&shared.plan, queue);
+    let (readers, writers) = waits_of(&shared.plan, queue);
     let ticket = ticket_for(&shared.threads, hand, readers);
-    match try_hear(shared, small, large, queue, text, ticket, p, gate) {
+    match try_hear(shared, small, large, queue, room, ticket, p, gate) {
         HearAnswer::Taken(owed) => {
             HearAnswer::Taken(wake_for(rt, &shared.threads, hand, writers, owed))
         }
@@ -139,9 +138,7 @@ pub(crate) fn close_step<R: Wait>(
     ensures sound { StaySound small.old small.new }
     ensures same { IsSameHand hand.old hand.new × AreSameEnds small.old small.new }
 {
-    let at = QueueIndex::Small(queue);
-    let to_hear = readers_at(&shared.plan, at);
-    let to_say = writers_at(&shared.plan, at);
+    let (to_hear, to_say) = waits_of(&shared.plan, QueueIndex::Small(queue));
     let WasShut {
         was_open,
         readers,

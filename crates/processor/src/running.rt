@@ -1,5 +1,5 @@
-//! A step on a processor: it is tried and counted there, and a line that it heard is kept.
-ghost use Rattle.std.specs.Prelude.{◌≡◌, ◌<◌, ℕ, [], true, ◌++◌, length, map, vec_len, vec_capacity};
+//! A step on a processor: it is tried and counted there, and the bytes of a line that it heard are kept.
+ghost use Rattle.std.specs.Prelude.{◌≡◌, ◌<◌, ◌≤◌, [], true, ◌++◌, length};
 ghost use Rattle.turn_dispatch.specs.Countings.{IsNumber, counted_step};
 ghost use Rattle.turn_dispatch.specs.Holdings.{IsFree};
 ghost use Rattle.turn_dispatch.specs.Tallies.{Adds, behind};
@@ -10,20 +10,20 @@ ghost use Rattle.processor.specs.Deeds.{IsDeedOf, line_in};
 ghost use Rattle.processor.specs.Doings.{heard_by, is_heard, raised_by};
 ghost use Rattle.processor.specs.Logs.{EndsWorked};
 ghost use Rattle.processor.specs.Points.{GateSaw, points_of};
-ghost use Rattle.processor.specs.Running.{Stepped, EndsDid, line_heard};
+ghost use Rattle.processor.specs.Running.{Stepped, EndsDid};
 ghost use Rattle.processor.specs.Stations.{ArePartsOf, AreSameParts};
 ghost use Rattle.processor.specs.Steps.{Fits};
 
 use crate::attempt::{do_step, seat};
 use crate::counting::{Tried, count_step};
 use crate::deed::Deed;
+use crate::lines::LineRoom;
 use crate::shared::Shared;
-use crate::station::{Heard, Parts};
+use crate::station::Parts;
 use crate::tries::HearAnswer;
-use arrayvec::ArrayVec;
+use boot_data::HeardLines;
 use boot_data::plan::Step;
 use event_theory::{Element, Processor};
-use std::mem;
 use std::sync::Wait;
 use turn_dispatch::take_off;
 use turn_io::Gate;
@@ -36,23 +36,23 @@ pub(crate) fn run_step<R: Wait, G: Gate>(
     p: Processor,
     element: Element,
     step: &Step,
-    heard: &mut ArrayVec<u64, 256>,
+    room: &mut LineRoom,
     gate: &mut G,
 ) -> Tried
     requires parts { ArePartsOf shared.now parts.old }
     requires held { has (view_of parts.old.hand) element ≡ true }
     requires free { IsFree p (view_of parts.old.hand) }
     requires fits { Fits shared.now.queues (length shared.now.chains.items) step.now }
-    requires empty { heard.old.items ≡ [] }
+    requires empty { room.old.heard.items ≡ [] }
     ensures parts { ArePartsOf shared.now parts.new }
     ensures same { AreSameParts parts.old parts.new }
     ensures held { has (view_of parts.new.hand) element ≡ true }
     ensures free { IsFree p (view_of parts.new.hand) }
     ensures hand { Stepped (call_of parts.old.hand) shared.now.plan p element result.deed result.counted
         (view_of parts.old.hand) (view_of parts.new.hand) }
-    ensures deed { IsDeedOf step.now result.deed (line_in step.now heard.new.items) }
-    ensures ends { EndsDid shared.now result.deed (line_in step.now heard.new.items) parts.old parts.new }
-    ensures worked { EndsWorked result.deed (line_in step.now heard.new.items) parts.old parts.new }
+    ensures deed { IsDeedOf step.now result.deed (line_in step.now room.new.heard.items) }
+    ensures ends { EndsDid shared.now result.deed (line_in step.now room.new.heard.items) parts.old parts.new }
+    ensures worked { EndsWorked result.deed (line_in step.now room.new.heard.items) parts.old parts.new }
     ensures adds { Adds (behind (raised_by result.deed) (counted_step result.counted element
         (done_at (view_of parts.old.hand).seen.object element))) (view_of parts.old.hand) (view_of parts.new.hand) }
     ensures number { IsNumber result.counted element (view_of parts.old.hand) (view_of parts.new.hand) }
@@ -66,35 +66,25 @@ pub(crate) fn run_step<R: Wait, G: Gate>(
 {
     let threads = &shared.threads;
     let seated = seat(threads, &mut parts.hand, p, element);
-    let attempt = do_step(rt, shared, parts, seated, step, heard, p.number(), gate);
+    let attempt = do_step(rt, shared, parts, seated, step, room, p.number(), gate);
     let tried = count_step(threads, &mut parts.hand, element, attempt);
     take_off(threads, &mut parts.hand, p);
     tried
 }
 
-// Keeps a line that was heard, and leaves none in `text`.
-pub(crate) fn keep(
-    lines: &mut Vec<Heard>,
-    deed: &Deed,
-    thread: Element,
-    number: u64,
-    text: &mut ArrayVec<u64, 256>,
-)
-    requires room { is_heard deed.now ≡ true → vec_len lines.old < vec_capacity lines.old }
+// Keeps the bytes of a line that was heard. It takes no memory.
+pub(crate) fn keep(lines: &mut HeardLines, deed: &Deed, thread: Element, number: u64, line: &[u64])
+    requires room { is_heard deed.now ≡ true → length lines.old.lines < lines.old.room }
+    requires few { length line.now ≤ 256 }
     requires low { number < 64 }
-    ensures lines { map line_heard lines.new.items
-        ≡ map line_heard lines.old.items ++ heard_by deed.now thread number text.old.items }
-    ensures room { vec_capacity lines.new ≡ vec_capacity lines.old }
+    ensures lines { lines.new.lines ≡ lines.old.lines ++ heard_by deed.now thread number line.now }
+    ensures room { lines.new.room ≡ lines.old.room }
 {
     if let Deed::Hear {
         answer: HearAnswer::Taken(_),
         ..
     } = deed
     {
-        lines.push_reserved(Heard {
-            thread: thread.number(),
-            step: number as u8,
-            text: mem::replace(text, ArrayVec::new()),
-        });
+        lines.push(thread.number(), number as u8, line);
     }
 }

@@ -16,7 +16,8 @@ ghost use Rattle.processor.specs.Stations.{ArePartsOf, AreSameParts, IsUnused};
 
 use crate::programs::hears_of;
 use crate::shared::Shared;
-use crate::station::{Heard, Parts, Station};
+use crate::station::{Parts, Station};
+use boot_data::HeardLines;
 use claim_queue::{ClaimQueue, QueueEnd};
 use event_theory::OutOfMemory;
 use proc_chain::{ChainEnd, ProcChain};
@@ -29,7 +30,7 @@ struct Lists {
     small: Vec<QueueEnd<64>>,
     large: Vec<QueueEnd<256>>,
     chains: Vec<ChainEnd<AnyQuaject>>,
-    heard: Vec<Heard>,
+    heard: HeardLines,
 }
 
 // Empty lists with room for a station's ends and its heard lines.
@@ -39,7 +40,7 @@ fn lists_for(alloc: Global, shared: &Shared) -> Result<Lists, OutOfMemory>
     let small = Vec::with_capacity(alloc, shared.queues.small.len())?;
     let large = Vec::with_capacity(alloc, shared.queues.large.len())?;
     let chains = Vec::with_capacity(alloc, shared.chains.len())?;
-    let heard = Vec::with_capacity(alloc, hears_of(&shared.plan))?;
+    let heard = HeardLines::with_room(alloc, hears_of(&shared.plan))?;
     Ok(Lists {
         small,
         large,
@@ -161,7 +162,7 @@ impl Station {
     /// that the other heard come back. It takes no memory.
     ///
     /// Condition: both stations are of `shared`.
-    pub fn join(&mut self, shared: &Shared, other: Station) -> Vec<Heard>
+    pub fn join(&mut self, shared: &Shared, other: Station) -> HeardLines
         requires parts { ArePartsOf shared.now self.old.parts }
         requires other { ArePartsOf shared.now other.parts }
         ensures same { AreSameParts self.old.parts self.new.parts }

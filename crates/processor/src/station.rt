@@ -5,7 +5,7 @@ ghost use Rattle.processor.specs.Stations.{IsUnused};
 
 use crate::programs::hears_of;
 use crate::shared::Shared;
-use arrayvec::ArrayVec;
+use boot_data::HeardLines;
 use claim_queue::QueueEnd;
 use event_theory::OutOfMemory;
 use meters::MeterSeat;
@@ -14,16 +14,8 @@ use quajects::AnyQuaject;
 use std::alloc::Global;
 use thread_table::Hand;
 
-/// A line that a thread heard: the thread's number, the number of its step, and the line.
-#[derive(Drop)]
-pub struct Heard {
-    pub thread: u8,
-    pub step: u8,
-    pub text: ArrayVec<u64, 256>,
-}
-
-/// What a station is made of, and what its processor heard and was signalled: bit s of number e for signal s of element
-/// e.
+/// What a station is made of, and what its processor heard, as bytes, and was signalled: bit s of number e for signal s
+/// of element e.
 #[derive(Drop)]
 pub struct Parts {
     pub hand: Hand,
@@ -31,7 +23,7 @@ pub struct Parts {
     pub large: Vec<QueueEnd<256>>,
     pub chains: Vec<ChainEnd<AnyQuaject>>,
     pub meters: MeterSeat,
-    pub heard: Vec<Heard>,
+    pub heard: HeardLines,
     pub signals: [u16; 64],
 }
 
@@ -62,7 +54,7 @@ impl Station {
             × (e.0.chains ≡ chains) × (e.0.meters ≡ meters) × IsUnused e.0) }
     {
         let signals = [0; 64];
-        match Vec::with_capacity(alloc, hears_of(&shared.plan)) {
+        match HeardLines::with_room(alloc, hears_of(&shared.plan)) {
             Ok(heard) => Ok(Station {
                 parts: Parts {
                     hand,
@@ -74,17 +66,17 @@ impl Station {
                     signals,
                 },
             }),
-            Err(_) => {
+            Err(refused) => {
                 let parts = Parts {
                     hand,
                     small,
                     large,
                     chains,
                     meters,
-                    heard: Vec::new(alloc),
+                    heard: HeardLines::new(alloc),
                     signals,
                 };
-                Err((parts, OutOfMemory))
+                Err((parts, refused))
             }
         }
     }

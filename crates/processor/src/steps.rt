@@ -11,36 +11,36 @@ ghost use Rattle.processor.specs.Stations.{ArePartsOf, AreSameParts};
 ghost use Rattle.processor.specs.Steps.{Fits, HandDid};
 
 use crate::deed::Deed;
+use crate::lines::LineRoom;
 use crate::queue_steps::{close_step, hear_step, say_step};
 use crate::shared::Shared;
 use crate::station::Parts;
 use crate::thread_steps::{signal_step, start_step, stop_step, wake_step};
 use crate::tries::WasShut;
-use arrayvec::ArrayVec;
 use boot_data::plan::Step;
 use std::sync::Wait;
 use turn_io::{Gate, poke};
 
-// Tries a step of a thread once. A line that is heard goes into `heard`.
+// Tries a step of a thread once. A line that is heard goes into `room.heard`.
 pub(crate) fn try_step<R: Wait, G: Gate>(
     rt: &R,
     shared: &Shared,
     parts: &mut Parts,
     step: &Step,
-    heard: &mut ArrayVec<u64, 256>,
+    room: &mut LineRoom,
     p: u8,
     gate: &mut G,
 ) -> Deed
     requires parts { ArePartsOf shared.now parts.old }
     requires fits { Fits shared.now.queues (length shared.now.chains.items) step.now }
-    requires empty { heard.old.items ≡ [] }
-    ensures deed { IsDeedOf step.now result (line_in step.now heard.new.items) }
+    requires empty { room.old.heard.items ≡ [] }
+    ensures deed { IsDeedOf step.now result (line_in step.now room.new.heard.items) }
     ensures parts { ArePartsOf shared.now parts.new }
     ensures same { AreSameParts parts.old parts.new }
     ensures hand { HandDid (call_of parts.old.hand) shared.now.plan result (view_of parts.old.hand)
         (view_of parts.new.hand) }
-    ensures ends { EndsDid shared.now result (line_in step.now heard.new.items) parts.old parts.new }
-    ensures worked { EndsWorked result (line_in step.now heard.new.items) parts.old parts.new }
+    ensures ends { EndsDid shared.now result (line_in step.now room.new.heard.items) parts.old parts.new }
+    ensures worked { EndsWorked result (line_in step.now room.new.heard.items) parts.old parts.new }
     ensures acts { Acts (raised_by result) (view_of parts.old.hand) (view_of parts.new.hand) }
     ensures heard { parts.new.heard ≡ parts.old.heard }
     ensures signals { parts.new.signals ≡ parts.old.signals }
@@ -58,6 +58,7 @@ pub(crate) fn try_step<R: Wait, G: Gate>(
                 parts.large.as_mut_slice(),
                 *queue,
                 text,
+                &mut room.short,
                 p,
                 gate,
             ),
@@ -71,7 +72,7 @@ pub(crate) fn try_step<R: Wait, G: Gate>(
                 parts.small.as_mut_slice(),
                 parts.large.as_mut_slice(),
                 *queue,
-                heard,
+                room,
                 p,
                 gate,
             ),

@@ -16,10 +16,9 @@ ghost use Rattle.processor.specs.Pipes.{IsTicketOf, readers_of, writers_of};
 ghost use Rattle.processor.specs.Queues.{DidAt, IsThere, SaidAt, HeardAt, waits_at};
 ghost use Rattle.processor.specs.Tries.{said, heard, is_shut, is_over, IsUnsaid, IsUnheard};
 
-use crate::lines::{hear_at, say_at};
+use crate::lines::{LineRoom, hear_at, say_at};
 use crate::shared::Shared;
 use crate::ticket::Ticket;
-use arrayvec::ArrayVec;
 use boot_data::plan::QueueIndex;
 use claim_queue::{ClaimRefusal, QueueEnd, TakeRefusal};
 use quajects::Queues;
@@ -154,7 +153,7 @@ pub(crate) fn try_hear<G: Gate>(
     small: &mut [QueueEnd<64>],
     large: &mut [QueueEnd<256>],
     queue: QueueIndex,
-    text: &mut ArrayVec<u64, 256>,
+    room: &mut LineRoom,
     ticket: Option<Ticket>,
     p: u8,
     gate: &mut G,
@@ -162,18 +161,18 @@ pub(crate) fn try_hear<G: Gate>(
     requires small { AreEndsOf shared.now.queues.small.items small.old }
     requires large { AreEndsOf shared.now.queues.large.items large.old }
     requires there { IsThere shared.now.queues queue }
-    requires empty { text.old.items ≡ [] }
+    requires empty { room.old.heard.items ≡ [] }
     requires ticket { IsTicketOf (readers_of (waits_at shared.now.plan queue)) ticket }
     ensures same { AreSameEnds small.old small.new × AreSameEnds large.old large.new }
     ensures small { AreEndsOf shared.now.queues.small.items small.new }
     ensures large { AreEndsOf shared.now.queues.large.items large.new }
-    ensures heard { HeardAt queue text.new.items (heard result) small.old small.new large.old large.new }
+    ensures heard { HeardAt queue room.new.heard.items (heard result) small.old small.new large.old large.new }
     ensures refused { IsUnheard ticket result }
-    ensures did { DidAt queue (taken_if (heard result) text.new.items) small.old small.new large.old large.new }
+    ensures did { DidAt queue (taken_if (heard result) room.new.heard.items) small.old small.new large.old large.new }
     ensures sound { StaySound small.old small.new × StaySound large.old large.new }
     ensures gate { G.told gate.old p TakeAnswered gate.new }
 {
-    match hear_at(&shared.queues, small, large, queue, text, p, gate) {
+    match hear_at(&shared.queues, small, large, queue, room, p, gate) {
         Ok(()) => HearAnswer::Taken(Owed(())),
         Err(refusal) => {
             if is_over(&refusal) {

@@ -15,13 +15,13 @@ ghost use Rattle.processor.specs.Programs.{program, step_of};
 ghost use Rattle.processor.specs.Turns.{AreAtRest, BegunAt, IdleAt, CameOf, TendedBy, TurnOf, RanStep, is_last};
 
 use crate::laws::steps_fit;
+use crate::lines::LineRoom;
 use crate::outcome::{Had, Outcome, Turned};
 use crate::programs::program_of;
 use crate::running::{keep, run_step};
 use crate::sending::{SentOn, send_on};
 use crate::shared::Shared;
 use crate::station::{Parts, Station};
-use arrayvec::ArrayVec;
 use boot_data::plan::Step;
 use event_theory::{Element, Processor};
 use std::sync::Wait;
@@ -36,34 +36,43 @@ fn is_last(done: bool, number: u64, steps: usize) -> bool
     done && steps as u64 <= number + 1
 }
 
-// The step of an element at hand is tried, and the element moves on. `line` has room for a line that is heard.
+// The next step of an element at hand, which has so many, is tried, and the element moves on.
 fn run_element<R: Wait, G: Gate>(
     rt: &R,
     shared: &Shared,
     parts: &mut Parts,
     p: Processor,
-    element: Element,
-    number: u64,
+    begun: &Begun,
     step: &Step,
-    line: &mut ArrayVec<u64, 256>,
+    steps: usize,
+    room: &mut LineRoom,
     gate: &mut G,
 ) -> SentOn
     requires manned { IsManned shared.now p parts.old }
-    requires held { has (view_of parts.old.hand) element ≡ true }
-    requires known { number ≡ done_at (view_of parts.old.hand).seen.object element }
-    requires low { number < 64 }
-    requires its { step_of shared.now.plan element number ≡ Some step.now }
+    requires held { has (view_of parts.old.hand) begun.now.element ≡ true }
+    requires known { begun.now.number ≡ done_at (view_of parts.old.hand).seen.object begun.now.element }
+    requires low { begun.now.number < 64 }
+    requires its { step_of shared.now.plan begun.now.element begun.now.number ≡ Some step.now }
+    requires all { steps ≡ length (program shared.now.plan begun.now.element) }
     ensures manned { StaysManned shared.now p parts.old parts.new }
-    ensures ran { (line : List ℕ) × RanStep shared.now p element number result line parts.old parts.new
-        × Went (FollowsStep shared.now.plan element number result line) (trying element number result line)
-        (told_shut result.tried.deed) parts.old parts.new }
+    ensures ran { (line : List ℕ)
+        × RanStep shared.now p begun.now.element begun.now.number result line parts.old parts.new
+        × Went (FollowsStep shared.now.plan begun.now.element begun.now.number result line)
+        (trying begun.now.element begun.now.number result line) (told_shut result.tried.deed) parts.old parts.new }
     ensures gate { GateSaw G.told p (points_of result.tried.deed) gate.old gate.new }
 {
     steps_fit();
-    line.clear();
-    let tried = run_step(rt, shared, parts, p, element, step, line, gate);
-    keep(&mut parts.heard, tried.deed(), element, number, line);
-    let steps = program_of(&shared.plan, element).len();
+    room.heard.clear();
+    let element = begun.element;
+    let number = begun.number;
+    let tried = run_step(rt, shared, parts, p, element, step, room, gate);
+    keep(
+        &mut parts.heard,
+        tried.deed(),
+        element,
+        number,
+        room.heard.as_slice(),
+    );
     let last = is_last(tried.deed().is_done(), number, steps);
     let threads = &shared.threads;
     send_on(rt, threads, &mut parts.hand, element, tried, last)
@@ -117,7 +126,7 @@ fn dispatch<R: Wait, G: Gate>(
     shared: &Shared,
     parts: &mut Parts,
     p: Processor,
-    line: &mut ArrayVec<u64, 256>,
+    room: &mut LineRoom,
     gate: &mut G,
 ) -> Outcome
     requires manned { IsManned shared.now p parts.old }
@@ -138,7 +147,7 @@ fn dispatch<R: Wait, G: Gate>(
                 return Outcome::Had(begun, Had::Ended(moved));
             }
             let step = &steps[number as usize];
-            let sent = run_element(rt, shared, parts, p, element, number, step, line, gate);
+            let sent = run_element(rt, shared, parts, p, &begun, step, steps.len(), room, gate);
             Outcome::Had(begun, Had::Ran(sent))
         }
         Err(idle) => Outcome::Idle(idle),
@@ -165,7 +174,7 @@ fn turn<R: Wait, G: Gate>(
     shared: &Shared,
     parts: &mut Parts,
     p: Processor,
-    line: &mut ArrayVec<u64, 256>,
+    room: &mut LineRoom,
     gate: &mut G,
 ) -> Turned
     requires manned { IsManned shared.now p parts.old }
@@ -175,7 +184,7 @@ fn turn<R: Wait, G: Gate>(
     ensures gate { GateSaw G.told p (points_out result.outcome) gate.old gate.new }
 {
     let tended = tend(shared, parts, p);
-    let outcome = dispatch(rt, shared, parts, p, line, gate);
+    let outcome = dispatch(rt, shared, parts, p, room, gate);
     Turned { tended, outcome }
 }
 
@@ -198,10 +207,10 @@ pub fn run<R: Wait, G: Gate>(
     ensures turned { HasTurned G.told shared.now p turns gate.old gate.new station.parts result.parts }
 {
     let Station { mut parts } = station;
-    let mut line = ArrayVec::new();
+    let mut room = LineRoom::new();
     for number in 0..turns {
         gate.between(p.number(), Point::Turn(number));
-        let _ = turn(rt, shared, &mut parts, p, &mut line, gate);
+        let _ = turn(rt, shared, &mut parts, p, &mut room, gate);
     }
     Station { parts }
 }

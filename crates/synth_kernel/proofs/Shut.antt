@@ -1,10 +1,10 @@
 -- What a boot knows when all that it gave its threads came back, and all was joined and closed.
 use Rattle.synth_kernel.proofs.Common.{◌≡◌, ◌≤◌, ℕ, zero, suc, ◌+◌, true, List, [], ◌∷◌, map, drop, length, Option, Some, flat_map, refl, sym, ap, subst, ◌∙◌, arith, length-map, All, AllZip, AllByRecursion, BootPlan, Report, Unmade, AllClosed, AreRawsOf, TookRaws, HasWholes, Point, AllThree, Shared, Parts, LogEntry, Leaves, hear_count, ArePartsOf, heard_lines, AllJoined, Typed, IsReported, LineIn, IsLine, Work, Processed, Worked, parts_of, gate_of, back_of, GaveBack, input_of, ArePosted, AreTyped, HasWorked, as_many_posts, Served, Ready, IsBootOf, AllTold, CameBack, processed_in, served_in, all_there, tty_of, TotalsAre, IsReady}
+use Rattle.boot_data.specs.Hearing.{Key}
 use Rattle.boot_objects.proofs.Backs.{come_home}
 use Rattle.processor.specs.Accounts.{Account, account}
-use Rattle.processor.specs.Programs.{Key}
 use Rattle.boot_report.proofs.Shutting.{ends, heard_is_few, shown}
-use Rattle.boot_laws.specs.Closings.{Shutdown, IsShutDown, boot_shut, closed_shut, came_home}
+use Rattle.boot_laws.proofs.Boots.ShutDown.{Shutdown, IsShutDown, boot_shut, closed_shut, came_home}
 use Rattle.boot_laws.specs.Endings.{FreedSpare}
 use Rattle.boot_laws.proofs.Boots.Booting.{report_agrees}
 use Rattle.quajects.specs.Homes.{homes_in}
@@ -61,7 +61,7 @@ module _ {G : Type 0} (T : G → ℕ → Point → G → Type 0) (plan : BootPla
   typed_in = subst (λ (z : ℕ). AreTyped ready.shared.plan.ttys (drop z backs) (map input_of r.devices) inputs) (sym posts_long)
       (subst (λ (z : List LineIn). AreTyped ready.shared.plan.ttys (drop (length gates) backs) z inputs) r.inputs typed)
 
-  spare : FreedSpare ready.shared.plan ready.station.parts
+  spare : FreedSpare ready.shared.plan (account ready.station.parts)
   spare = subst (λ (z : Account). AllByRecursion (λ (freed : Key). length ready.shared.plan.threads ≤ freed.0) z.hand.retired)
       (sym (posted_did T ready.shared 0 turns gates r.first ready.station.parts r.posts r.posted)) (freed_spare ready.shared.plan ready.shared.threads r.made r.first r.hand r.first_is)
 

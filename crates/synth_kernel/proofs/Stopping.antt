@@ -1,6 +1,6 @@
 -- What a boot knows of all that it has when its threads have stopped.
 use Rattle.synth_kernel.proofs.Common.{◌≤◌, ℕ, List, length, flat_map, map, sym, subst, BootPlan, Report, Unmade, AllClosed, AreRawsOf, TookRaws, HasWholes, Point, parts_of, gate_of, Shared, Parts, hear_count, heard_lines, RawTty, IsReported, lines_of, Ready, IsBootOf, CameBack, processed_in, served_in, tty_of, IsReady, HasStopped}
-use Rattle.processor.specs.Running.{Line}
+use Rattle.boot_data.specs.Hearing.{Line}
 use Rattle.boot_report.specs.Rooms as reporting
 use Rattle.synth_kernel.specs.declared.running.Stopped.{Stopped}
 use Rattle.synth_kernel.proofs.Shut.{raws_came, wholes, few_lines, booted}

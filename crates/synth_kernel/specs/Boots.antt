@@ -7,6 +7,7 @@ use Rattle.std.specs.Io.KnownBytes.{Appends}
 use Rattle.boot_data.specs.declared.boot_plan.BootPlan.{BootPlan}
 use Rattle.boot_data.specs.declared.report.Report.{Report}
 use Rattle.boot_data.specs.BootPlans.{plan_of}
+use Rattle.boot_data.specs.Hearing.{Line}
 use Rattle.boot_data.specs.Plans.{Plan}
 use Rattle.boot_script.specs.declared.fault.ScriptFault.{ScriptFault}
 use Rattle.boot_script.specs.Plans.{text_plan}
@@ -17,7 +18,6 @@ use Rattle.processor.specs.declared.shared.Shared.{Shared}
 use Rattle.processor.specs.declared.station.Parts.{Parts}
 use Rattle.processor.specs.Entries.{LogEntry}
 use Rattle.processor.specs.Logs.{IsFresh, Leaves, HasTurned}
-use Rattle.processor.specs.Running.{Line}
 use Rattle.quajects.specs.declared.any.AnyQuaject.{AnyQuaject}
 use Rattle.boot_report.specs.declared.ttys.Typed.{Typed}
 use Rattle.boot_report.specs.Shown.{Shows}

@@ -12,9 +12,10 @@ ghost use Rattle.synth_kernel.specs.Gatherings.{TotalsAre, HaveRoomFor, IsGather
 ghost use Rattle.turn_io.specs.Splits.{AllThree};
 ghost use Rattle.spsc_line.specs.Lines.{IsLine};
 
+use boot_data::HeardLines;
 use boot_report::Typed;
 use boot_threads::{Processed, Worked};
-use processor::{Heard, Shared, Station};
+use processor::{Shared, Station};
 use quajects::RawTty;
 use spsc_line::{LineIn, LineOut, finish};
 
@@ -31,7 +32,7 @@ pub(crate) struct Lists<G> {
     pub(crate) processed: Vec<Processed<G>>,
     pub(crate) served: Vec<Served>,
     pub(crate) ttys: Vec<RawTty>,
-    pub(crate) heards: Vec<Vec<Heard>>,
+    pub(crate) heards: Vec<HeardLines>,
     pub(crate) gates: Vec<G>,
     pub(crate) told: Vec<Typed>,
 }
@@ -41,7 +42,7 @@ pub(crate) struct Lists<G> {
 #[derive(Drop)]
 pub(crate) struct Gathered<G> {
     pub(crate) station: Station,
-    pub(crate) heards: Vec<Vec<Heard>>,
+    pub(crate) heards: Vec<HeardLines>,
     pub(crate) gates: Vec<G>,
     pub(crate) ttys: Vec<RawTty>,
     pub(crate) told: Vec<Typed>,
@@ -95,9 +96,9 @@ fn join_stations<G: Drop>(
     shared: &Shared,
     first: Station,
     processed: Vec<Processed<G>>,
-    heards: Vec<Vec<Heard>>,
+    heards: Vec<HeardLines>,
     gates: Vec<G>,
-) -> (Station, Vec<Vec<Heard>>, Vec<G>)
+) -> (Station, Vec<HeardLines>, Vec<G>)
     requires first { ArePartsOf shared.now first.parts }
     requires stations { All (ArePartsOf shared.now) (map parts_of processed.items) }
     requires room { (heards.items ≡ []) × (length processed.items ≤ vec_capacity heards) }

@@ -4,12 +4,12 @@ ghost use Rattle.boot_report.specs.Rooms.{HasAllRoom};
 ghost use Rattle.synth_kernel.specs.Readies.{HasPlaces, IsReady};
 
 use crate::gathering::Served;
-use boot_data::BootPlan;
+use boot_data::{BootPlan, HeardLines};
 use boot_objects::{Answers, Objects, make_objects};
-use boot_report::{Room as ReportRoom, Typed};
+use boot_report::{Lines, Typed};
 use boot_threads::{Processed, Work, Worked, add_devices, post_all, prepare_station};
 use event_theory::OutOfMemory;
-use processor::{Heard, Shared, Station};
+use processor::{Shared, Station};
 use quajects::RawTty;
 use spsc_line::LineIn;
 use std::alloc::Global;
@@ -24,11 +24,11 @@ pub(crate) struct Room<G> {
     pub(crate) processed: Vec<Processed<G>>,
     pub(crate) served: Vec<Served>,
     pub(crate) ttys: Vec<RawTty>,
-    pub(crate) heards: Vec<Vec<Heard>>,
+    pub(crate) heards: Vec<HeardLines>,
     pub(crate) gates: Vec<G>,
     pub(crate) told: Vec<Typed>,
     pub(crate) answers: Answers,
-    pub(crate) report: ReportRoom,
+    pub(crate) report: Lines,
 }
 
 /// All objects of a boot, what is left of the first station, the work of each processor and then that of each device,
@@ -47,7 +47,7 @@ fn make_room<G: Drop>(
     alloc: Global,
     shared: &Shared,
     processors: usize,
-    report: ReportRoom,
+    report: Lines,
 ) -> Result<Room<G>, OutOfMemory>
     requires few { processors ≤ 8 }
     requires report { HasAllRoom shared.now.plan report }
@@ -91,7 +91,7 @@ pub(crate) fn get_ready<R: Wait, G: Gate + Drop>(
     requires { vec_len gates ≤ 8 }
     ensures { IfOk result (IsReady plan turns gates.items) }
 {
-    let report = ReportRoom::new(alloc, &plan)?;
+    let report = Lines::new(alloc, &plan)?;
     let Objects {
         shared,
         station,

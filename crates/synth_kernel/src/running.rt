@@ -6,7 +6,7 @@ ghost use Rattle.synth_kernel.specs.Stops.{HasStopped};
 use crate::gathering::{Gathered, Lists, gather};
 use crate::ready::{Ready, Room};
 use boot_objects::Answers;
-use boot_report::Room as ReportRoom;
+use boot_report::Lines;
 use boot_threads::run_kernel;
 use event_theory::OutOfMemory;
 use processor::Shared;
@@ -22,7 +22,7 @@ pub(crate) struct Stopped<G> {
     pub(crate) shared: Shared,
     pub(crate) gathered: Gathered<G>,
     pub(crate) answers: Answers,
-    pub(crate) report: ReportRoom,
+    pub(crate) report: Lines,
 }
 
 /// Runs a thread for each work and types the ttys' bytes meanwhile, and gathers what they gave back. `OutOfMemory`

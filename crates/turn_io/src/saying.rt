@@ -14,17 +14,16 @@ use crate::items::item_at;
 use claim_queue::{Claim, ClaimQueue, ClaimRefusal, QueueEnd};
 
 // Raises all items of a run that was just claimed.
-fn raise_all<const N: usize>(queue: &ClaimQueue<N>, end: &mut QueueEnd<N>, claim: Claim<N>)
+fn raise_all<const N: usize>(queue: &ClaimQueue<N>, end: &mut QueueEnd<N>, claim: &mut Claim<N>)
     requires queue { IsEndOf queue.now end.old }
-    requires own { Owns (view_of end.old) claim.start claim.items.items 0 × (claim.raised ≡ 0) }
-    ensures own { Owns (view_of end.new) claim.entry.start claim.entry.items.items (length claim.entry.items.items) }
-    ensures raised { RaisedFrom N claim.entry.start claim.entry.items.items (view_of end.old) (view_of end.new)
-        (length claim.entry.items.items) }
+    requires own { Owns (view_of end.old) claim.old.start claim.old.items.items 0 × (claim.old.raised ≡ 0) }
+    ensures own { Owns (view_of end.new) claim.old.start claim.old.items.items (length claim.old.items.items) }
+    ensures raised { RaisedFrom N claim.old.start claim.old.items.items (view_of end.old) (view_of end.new)
+        (length claim.old.items.items) }
     ensures same { IsSameEnd end.old end.new }
 {
-    let mut claim = claim;
     for i in 0..claim.items().len() {
-        let _raised = queue.raise_next(end, &mut claim);
+        let _raised = queue.raise_next(end, claim);
     }
 }
 
@@ -43,9 +42,9 @@ fn say_line<const N: usize, G: Gate>(
     ensures gate { ToldOfSay G.told p result gate.old gate.new }
 {
     match queue.try_claim(end, line) {
-        Ok(claim) => {
+        Ok(mut claim) => {
             gate.between(p, Point::Claimed);
-            raise_all(queue, end, claim);
+            raise_all(queue, end, &mut claim);
             gate.between(p, Point::Raised);
             Ok(())
         }

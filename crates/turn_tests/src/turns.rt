@@ -18,7 +18,7 @@ mod refusals;
 mod stands;
 
 use crate::fixtures::scripts::plan_of;
-use boot_data::BootPlan;
+use boot_data::{BootPlan, HeardLines};
 use claim_queue::{ClaimQueue, QueueEnd};
 use event_theory::{OutOfMemory, Processor};
 use meters::{MeterSeat, Metered, Meters};
@@ -72,7 +72,7 @@ fn signalled(state: State, delivered: u16, pending: u16) -> State {
     }
 }
 
-/// A line that was heard: the number of the thread, the number of its step, and the line.
+/// A line that was heard: the number of the thread, the number of its step, and the bytes.
 type Line<'a> = (u8, u8, &'a [u8]);
 
 /// A thread that says a line and hears it.
@@ -112,7 +112,7 @@ fn told(station: Station, element: usize) -> (Station, usize, u16)
 struct AtEnd {
     places: Places,
     metered: Metered,
-    heard: Vec<Heard>,
+    heard: HeardLines,
     signals: [u16; 64],
     queues: Vec<ClaimQueue<64>>,
     ends: Vec<QueueEnd<64>>,
@@ -173,21 +173,6 @@ fn booted<R: Abort + Wait>(rt: &R, alloc: Global, script: &[u8], number: u8, tur
     close_all(rt, shared, station.into_parts())
 }
 
-/// Whether these items are these bytes.
-fn are_bytes(items: &[u64], bytes: &[u8]) -> bool {
-    items.len() == bytes.len()
-        && items
-            .iter()
-            .zip(bytes)
-            .all(|(item, byte)| *item == u64::from(*byte))
-}
-
-/// Whether this is what was heard.
-fn is_line(heard: &Heard, line: &Line) -> bool {
-    let (thread, step, bytes) = *line;
-    heard.thread == thread && heard.step == step && are_bytes(heard.text.as_slice(), bytes)
-}
-
 /// The threads are in these states.
 fn check_states<R: Abort>(rt: &R, ended: &AtEnd, states: &[State]) {
     let places = &ended.places;
@@ -203,9 +188,10 @@ fn check_states<R: Abort>(rt: &R, ended: &AtEnd, states: &[State]) {
 }
 
 /// These lines were heard, in this order.
-fn check_lines<R: Abort>(rt: &R, heard: &[Heard], lines: &[Line]) {
+fn check_lines<R: Abort>(rt: &R, heard: &HeardLines, lines: &[Line]) {
     assert!(rt; heard.len() == lines.len());
-    for (heard, line) in heard.iter().zip(lines) {
-        assert!(rt; is_line(heard, line));
+    for number in 0..heard.len() {
+        let (thread, step) = heard.key(number);
+        assert!(rt; (thread, step, heard.bytes(number)) == lines[number]);
     }
 }

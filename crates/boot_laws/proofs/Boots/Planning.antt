@@ -1,7 +1,8 @@
 -- What was made for a plan is the plan's after any note.
-use Rattle.boot_laws.proofs.Common.{◌≡◌, ℕ, zero, suc, ◌≤◌, ◌<◌, List, [], ◌∷◌, ◌++◌, map, length, refl, sym, ap, ◌∙◌, arith, Option, Some, None, flat_map, subst, All, BootPlan, Mover, PlannedMover, raw_queue, line_queue, screen_queue, ProcChain, AnyQuaject, Way, Queues, IsMover, IsTty, MadeOfNew, routes_of, IsPlanned}
+use Rattle.boot_laws.proofs.Common.{◌-◌, ◌≡◌, ℕ, zero, suc, ◌≤◌, ◌<◌, List, [], ◌∷◌, ◌++◌, map, length, refl, sym, ap, ◌∙◌, arith, Option, Some, None, flat_map, subst, All, BootPlan, Mover, PlannedMover, raw_queue, line_queue, screen_queue, ProcChain, AnyQuaject, Way, Queues, IsMover, IsTty, MadeOfNew, routes_of}
 use Rattle.std.proofs.Common.{◌^◌, slice_get}
 use Rattle.std.proofs.Math.Nat.{mod-eq_of_lt}
+use Rattle.std.proofs.lemmas.Option.{get_or_from_slice_get, slice_get_within}
 use Rattle.boot_data.specs.declared.plan.Mover.TheVariants as movers
 use Rattle.boot_data.specs.declared.plan.Way.{Way as PlannedWay}
 use Rattle.boot_objects.specs.Objects.{AreQuajectsOf}
@@ -14,7 +15,6 @@ use Rattle.quajects.specs.Anys.{SameEnds, MadeOf}
 use Rattle.quajects.specs.Ports.{Post}
 use Rattle.quajects.specs.Routes.{key_of, index_of, way_post}
 use Rattle.quajects.proofs.Homing.{run_count, sides_of}
-use Rattle.boot_laws.specs.Closings.{IsOfPlan}
 
 -- WAYS
 
@@ -62,6 +62,15 @@ four_routes (a ∷ b ∷ c ∷ d ∷ e ∷ ways) few = absurd (omega arith)
 
 -- QUAJECTS
 
+-- it is the pump or switch that is planned; where none is, the cooked tty of this tty, behind so many queues and pipes
+abbrev pub IsPlanned : ℕ → ℕ → Option PlannedMover → AnyQuaject → Type 0
+IsPlanned queues tty (Some planned) quaject = IsMover planned.mover quaject
+IsPlanned queues tty None quaject = IsTty (raw_queue queues tty) (line_queue tty) (screen_queue tty) quaject
+
+-- it is the quaject of the plan with this number: the pumps and switches come first, and then the cooked ttys
+abbrev pub IsOfPlan : BootPlan → ℕ → AnyQuaject → Type 0
+IsOfPlan plan number quaject = IsPlanned (length plan.queues) (number - length plan.movers) (slice_get plan.movers number) quaject
+
 mover_stays : (mover : Mover) (old new : AnyQuaject) → objects.IsMover mover old → SameEnds old new → IsMover mover new
 mover_stays (movers.Pump from to) (any.Pump a) (any.Pump b) h s = ((ap (λ (z : Post). z.index) s.source ∙ h.from_is), (ap (λ (z : Post). z.index) s.target ∙ h.to_is))
 mover_stays (movers.Pump from to) (any.Pump a) (any.Cooked b) h s = absurd s
@@ -99,15 +108,13 @@ pub planned_stay : (plan : BootPlan) (world : Queues) (list : List (ProcChain An
     → (number : ℕ) (chain : ProcChain AnyQuaject Queues) (quaject : AnyQuaject) → slice_get list number ≡ Some chain → SameEnds (opening_of chain) quaject → IsOfPlan plan number quaject
 planned_stay plan world list are number chain quaject at s = stays _ _ (slice_get plan.movers number) (opening_of chain) quaject (are.kinds number (opening_of chain) (opening_at list number chain at)) s
 
-its_ready : (world : Queues) (xs : List AnyQuaject) (k : ℕ) (x : AnyQuaject) → All (IsReady world) xs → slice_get xs k ≡ Some x → IsReady world x
-its_ready world [] k x all e = absurd (cc)
-its_ready world (y ∷ xs) zero x all e = let same : y ≡ x = cc in subst (IsReady world) same (all 0 y (omega arith))
-its_ready world (y ∷ xs) (suc k) x all e = its_ready world xs k x (λ k d l. all (suc k) d (omega arith)) e
+pub all_got : {A : Type 0} (P : A → Type 0) (xs : List A) (k : ℕ) (x : A) → All P xs → slice_get xs k ≡ Some x → P x
+all_got P xs k x all e = subst P (get_or_from_slice_get xs k x x e) (all k x (slice_get_within xs k x e))
 
 pub made_new : (plan : BootPlan) (world : Queues) (list : List (ProcChain AnyQuaject Queues)) → AreQuajectsOf plan world (quajects_of list)
     → (number : ℕ) (chain : ProcChain AnyQuaject Queues) (quaject : AnyQuaject) (notes : List ℕ) → slice_get list number ≡ Some chain → MadeOf (opening_of chain) quaject notes → length notes < 2 ^ 64 → MadeOfNew quaject
 made_new plan world list are number chain quaject notes at m few =
-    let r = its_ready world (quajects_of list) number (opening_of chain) are.ready (opening_at list number chain at) in record {
+    let r = all_got (IsReady world) (quajects_of list) number (opening_of chain) are.ready (opening_at list number chain at) in record {
       first = opening_of chain;
       none_taken = r.none_taken;
       none_put = r.none_put;

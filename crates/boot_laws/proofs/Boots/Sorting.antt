@@ -1,5 +1,5 @@
 -- No step is heard twice, so heard lines that ascend by thread and step do so strictly.
-use Rattle.boot_laws.proofs.Common.{◌≡◌, ⊎_elim, inl, inr, ℕ, zero, suc, ◌<◌, ◌≤◌, Bool, true, false, eq-eqb, List, [], ◌∷◌, length, refl, ap, ◌∙◌, arith, Some, count_by, IsPermutation, if◌then◌else◌, ◌&&◌, nat_lt, slice_index_or, AllByRecursion, le_prop, ∥∥₁_elim, dite, dec_lt, BootPlan, Step, plan_of, IsPlan, Deed, Parts, is_done, heard_by, LogEntry, FollowsPlan, entry_account, sum_of, Key, same_key, Line, ClosedTables, WorkedTogether, ThreadsEnded, Ascend, total_of, plus, many_cons, many_more}
+use Rattle.boot_laws.proofs.Common.{Done, ◌≡◌, ⊎_elim, inl, inr, ℕ, zero, suc, ◌<◌, ◌≤◌, Bool, true, false, eq-eqb, List, [], ◌∷◌, length, refl, ap, ◌∙◌, arith, Some, count_by, IsPermutation, if◌then◌else◌, ◌&&◌, nat_lt, slice_index_or, AllByRecursion, le_prop, ∥∥₁_elim, dite, dec_lt, BootPlan, Step, plan_of, IsPlan, Deed, is_done, heard_by, LogEntry, FollowsPlan, entry_account, sum_of, Key, same_key, Line, ClosedTables, WorkedTogether, ThreadsEnded, Ascend, total_of, plus, many_cons, many_more}
 use Rattle.std.proofs.Common.{slice_get}
 use Rattle.processor.specs.declared.deed.Deed.TheVariants as deeds
 use Rattle.processor.specs.declared.tries.HearAnswer.TheVariants as hears
@@ -7,7 +7,7 @@ use Rattle.boot_laws.specs.Reports.{AreSorted}
 use Rattle.thread_table.proofs.Lists.Counts.{many_shuffled}
 use Rattle.boot_laws.proofs.Entries.{turn_is}
 use Rattle.boot_laws.proofs.Threads.{once}
-use Rattle.boot_laws.proofs.Totals.{all_of, all_planned, planned_all}
+use Rattle.boot_laws.proofs.Totals.{all_of, all_planned}
 use Rattle.boot_laws.proofs.Undone.{none_in, no_program}
 
 module _ {A : Type 0} (p : A → Bool) where
@@ -47,13 +47,13 @@ one_most : (b : Bool) → ◌≤◌ (if b then 1 else 0) 1
 one_most true = omega arith
 one_most false = omega arith
 
-module _ (plan : BootPlan) (logs : List (List LogEntry)) (stations : List Parts) (first last : Parts) (w : WorkedTogether plan logs first stations last) (c : ClosedTables) (e : ThreadsEnded last c) where
+module _ (plan : BootPlan) (logs : List (List LogEntry)) (done : Done) (w : WorkedTogether plan logs done) (c : ClosedTables) (e : ThreadsEnded done.in_all c) where
   planned : AllByRecursion (FollowsPlan plan) (all_of logs)
-  planned = all_planned plan logs (planned_all plan logs stations w.left)
+  planned = all_planned plan logs w.planned
 
   pub once_most : (x n : ℕ) → count_by (same_key (x, n)) (total_of logs).hand.done ≤ 1
   once_most x n = dite (dec_lt x 64)
-      (λ low. let h = once plan logs stations first last w c e x n low in let m = one_most (nat_lt n (slice_index_or e.told.pcs x 0)) in omega arith)
+      (λ low. let h = once plan logs done w c e x n low in let m = one_most (nat_lt n (slice_index_or e.told.pcs x 0)) in omega arith)
       (λ high. let few : length plan.threads ≤ 64 = ∥∥₁_elim plan.within le_prop (λ (h : IsPlan (plan_of plan)). h.threads) in
       let z = none_in plan x n (ap (λ (l : List Step). slice_get l n) (no_program plan.threads x (omega (arith, high)))) (all_of logs) planned in omega arith)
 

@@ -1,5 +1,6 @@
 -- What a station's end of a queue did, by the queue's index: its runs and its takings with their positions.
-use Rattle.boot_laws.proofs.Common.{◌≡◌, ℕ, zero, suc, List, [], ◌∷◌, refl, sym, ap, ◌∙◌, arith, Some, All, BootPlan, QueueIndex, Small, Large, QueueEnd, AtQueue, Stake, lines_of, room_of, stakes, no_stake, stake, Ascending, Parts, Account, account, AreJoined, end_at}
+use Rattle.boot_laws.proofs.Common.{Option, ◌≡◌, ℕ, zero, suc, List, [], ◌∷◌, refl, sym, ap, ◌∙◌, arith, Some, All, BootPlan, QueueIndex, Small, Large, QueueEnd, AtQueue, Stake, lines_of, room_of, stakes, no_stake, stake, Ascending, Parts, Account, account, AreJoined}
+use Rattle.std.specs.List.{slice_get}
 use Rattle.claim_queue.specs.declared.rule.Did.{Did}
 use Rattle.claim_queue.specs.Handles.{view_of}
 use Rattle.claim_queue.specs.Own.{nothing_did, did_both}
@@ -9,6 +10,11 @@ use Rattle.turn_io.proofs.Shares.{none_of}
 use Rattle.table_theory.proofs.Ordering.{order_none}
 use Rattle.processor.specs.Preparing.{IsPrepared}
 use Rattle.boot_laws.proofs.Joined.{at_its}
+
+-- the end that a station has of the queue
+abbrev pub end_at : (index : QueueIndex) → Parts → Option (QueueEnd (room_of index))
+end_at (Small q) parts = slice_get parts.small.items q
+end_at (Large q) parts = slice_get parts.large.items q
 
 -- what the station's end of the queue did
 abbrev pub did_at : QueueIndex → Parts → Did
@@ -24,16 +30,11 @@ pub did_joined : (index : QueueIndex) (a b c : Parts) → AreJoined a b c → di
 did_joined (Small q) a b c j = ap (λ (f : ℕ → Stake Did). (f q).did) (joined_at a.small.items c.small.items b.small.items j.small.each)
 did_joined (Large q) a b c j = ap (λ (f : ℕ → Stake Did). (f q).did) (joined_at a.large.items c.large.items b.large.items j.large.each)
 
-module _ {n : ℕ} where
-  up_at : (ends : List (QueueEnd n)) (q : ℕ) → All ClaimedInOrder ends → Ascending (stakes ends q).did.runs
-  up_at [] q h = order_none.0
-  up_at (x ∷ ends) zero h = (h 0 x (omega arith)).0
-  up_at (x ∷ ends) (suc q) h = up_at ends q (λ k d low. h (suc k) d (omega arith))
-
-  takes_up_at : (ends : List (QueueEnd n)) (q : ℕ) → All TookInOrder ends → Ascending (stakes ends q).did.takes
-  takes_up_at [] q h = order_none.0
-  takes_up_at (x ∷ ends) zero h = (h 0 x (omega arith)).0.0
-  takes_up_at (x ∷ ends) (suc q) h = takes_up_at ends q (λ k d low. h (suc k) d (omega arith))
+-- what is so of what each end did, and of nothing, is so of what is done at each queue
+stake_has : {n : ℕ} (P : Did → Type 0) (Q : QueueEnd n → Type 0) → P nothing_did → ((end : QueueEnd n) → Q end → P (view_of end).own) → (ends : List (QueueEnd n)) (q : ℕ) → All Q ends → P (stakes ends q).did
+stake_has P Q none one [] q h = none
+stake_has P Q none one (x ∷ ends) zero h = one x (h 0 x (omega arith))
+stake_has P Q none one (x ∷ ends) (suc q) h = stake_has P Q none one ends q (λ k d low. h (suc k) d (omega arith))
 
 -- what the end did that the station has of the queue
 pub its_did : (index : QueueIndex) (parts : Parts) (end : QueueEnd (room_of index)) → end_at index parts ≡ Some end → did_at index parts ≡ (view_of end).own
@@ -41,12 +42,12 @@ its_did (Small q) parts end e = ap (λ (s : Stake Did). s.did) (at_its stake par
 its_did (Large q) parts end e = ap (λ (s : Stake Did). s.did) (at_its stake parts.large.items q end (no_stake nothing_did) e)
 
 pub runs_up : (index : QueueIndex) (parts : Parts) → All ClaimedInOrder parts.small.items → All ClaimedInOrder parts.large.items → Ascending (did_at index parts).runs
-runs_up (Small q) parts small large = up_at parts.small.items q small
-runs_up (Large q) parts small large = up_at parts.large.items q large
+runs_up (Small q) parts small large = stake_has (λ d. Ascending d.runs) ClaimedInOrder order_none.0 (λ end h. h.0) parts.small.items q small
+runs_up (Large q) parts small large = stake_has (λ d. Ascending d.runs) ClaimedInOrder order_none.0 (λ end h. h.0) parts.large.items q large
 
 pub takes_up : (index : QueueIndex) (parts : Parts) → All TookInOrder parts.small.items → All TookInOrder parts.large.items → Ascending (did_at index parts).takes
-takes_up (Small q) parts small large = takes_up_at parts.small.items q small
-takes_up (Large q) parts small large = takes_up_at parts.large.items q large
+takes_up (Small q) parts small large = stake_has (λ d. Ascending d.takes) TookInOrder order_none.0 (λ end h. h.0.0) parts.small.items q small
+takes_up (Large q) parts small large = stake_has (λ d. Ascending d.takes) TookInOrder order_none.0 (λ end h. h.0.0) parts.large.items q large
 
 -- the first station put and took nothing
 pub none_first : (index : QueueIndex) (plan : BootPlan) (first : Parts) → IsPrepared plan first → ((did_at index first).runs ≡ []) × ((did_at index first).takes ≡ [])

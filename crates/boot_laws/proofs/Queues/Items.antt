@@ -1,6 +1,6 @@
 -- The items of a closed queue, position by position, by the runs of its last end.
-use Rattle.boot_laws.proofs.Common.{◌≡◌, ⊎_elim, ℕ, zero, suc, ◌+◌, ◌-◌, ◌<◌, ◌≤◌, Bool, true, false, List, [], ◌∷◌, map, length, get_or, refl, sym, ap, ◌∙◌, subst, arith, length-append, ◌&&◌, not, if◌then◌else◌, leb_tells, some, some-injective, some-ne-none, dite, dec_lt, get_elem?, ClosedNow, Batch, Owned, ListedOnce, all_places, Adjacent, item_of, items_from, by_bool, is_less}
-use Rattle.std.proofs.Common.{leb}
+use Rattle.std.proofs.lemmas.Bool.Decides.{nat_tests}
+use Rattle.boot_laws.proofs.Common.{◌≡◌, ℕ, zero, suc, ◌+◌, ◌-◌, ◌<◌, ◌≤◌, Bool, true, List, [], ◌∷◌, map, length, get_or, refl, sym, ap, ◌∙◌, subst, arith, length-append, if◌then◌else◌, some, some-injective, some-ne-none, dite, dec_lt, get_elem?, ClosedNow, Batch, Owned, ListedOnce, all_places, Adjacent, item_of, items_from, by_bool}
 use Rattle.std.proofs.lemmas.List.{get_or_append_left, get_or-append_right}
 use Rattle.claim_queue.specs.Own.{View}
 use Rattle.table_theory.specs.declared.queues.Cell.{Cell}
@@ -12,23 +12,10 @@ abbrev in_run : ℕ → Batch → ℕ
 in_run p run = (get_or run.places (p - run.start) blank).item
 
 lies : (p : ℕ) (run : Batch) → lies_in p run ≡ true → (run.start ≤ p) × (p < run.start + length run.places)
-lies p run e = ⊎_elim
-    (λ t. absurd (no (leb (suc p) run.start) (leb (suc p) (run.start + length run.places)) t.0 e))
-    (λ f. ⊎_elim (λ t. (let a = f.1 in omega arith, let b = t.1 in omega arith)) (λ g. absurd (no_too (leb (suc p) run.start) (leb (suc p) (run.start + length run.places)) g.0 e))
-    (leb_tells (suc p) (run.start + length run.places)))
-    (leb_tells (suc p) run.start)
-  where
-    no : (a b : Bool) → a ≡ true → (not a && b) ≡ true → ⊥
-    no true b h e = absurd (cc)
-    no false b h e = absurd (cc)
-
-    no_too : (a b : Bool) → b ≡ false → (not a && b) ≡ true → ⊥
-    no_too true b h e = absurd (cc)
-    no_too false true h e = absurd (cc)
-    no_too false false h e = absurd (cc)
+lies p run e = (grind (arith, nat_tests, e), grind (arith, nat_tests, e))
 
 lies_there : (p : ℕ) (run : Batch) → run.start ≤ p → p < run.start + length run.places → lies_in p run ≡ true
-lies_there p run low high = ⊎_elim (λ t. absurd (let a = t.1 in omega arith)) (λ f. (λ k. not (f.0 k) && is_less p (run.start + length run.places) high k)) (leb_tells (suc p) run.start)
+lies_there p run low high = grind (arith, nat_tests, low, high)
 
 -- the first run in which the position lies tells its item, as any does
 told : (p x : ℕ) (l : List Batch) → ((m : ℕ) (e : Batch) → get_elem? l m ≡ some e → lies_in p e ≡ true → in_run p e ≡ x)
@@ -67,7 +54,7 @@ some_run q i (x ∷ log) c low = dite (dec_lt i (length x.2.places))
     let r = some_run (q + length x.2.places) (i - length x.2.places) log c.1 (omega arith) in
     (suc r.0, r.1, r.2, subst (λ z. lies_in z r.1.2 ≡ true) (let z : q + length x.2.places + (i - length x.2.places) ≡ q + i = omega arith in z) r.3))
 
-pub of_first : (l k : List Batch) (c m : ℕ) (x : Batch) → get_elem? {A = List Batch} (l ∷ []) c ≡ some k → get_elem? k m ≡ some x → get_elem? l m ≡ some x
+of_first : (l k : List Batch) (c m : ℕ) (x : Batch) → get_elem? {A = List Batch} (l ∷ []) c ≡ some k → get_elem? k m ≡ some x → get_elem? l m ≡ some x
 of_first l k zero m x has is = subst (λ (z : List Batch). get_elem? z m ≡ some x) (sym (some-injective l k has)) is
 of_first l k (suc c) m x has is = absurd (some-ne-none k (sym has))
 

@@ -1,71 +1,32 @@
--- The last end of a closed queue has what the stations' ends, the devices' and the quajects' had.
-use Rattle.boot_laws.proofs.Common.{◌≡◌, ◌≤◌, ℕ, zero, suc, ◌+◌, true, false, List, [], ◌∷◌, ◌++◌, map, length, refl, sym, ap, ◌∙◌, subst, arith, Option, Some, flat_map, sum_by, All, length-map, some-ne-none, BootPlan, QueueIndex, QueueEnd, ClosedNow, lines_put, lines_taken, IsClosed, Gained, Stake, both_stakes, stake, stakes, room_of, no_stake, end_knows_shut, there, dids_add, stakes_add, Port, views_of, shuts_of, runs_of, takings_of, item_of, Boot, others_at, items_from, queue_of, QueueEnded, ends_at, end_at}
+-- A closed queue was ended: its last end has what the stations' ends, the devices' and the quajects' had.
+use Rattle.boot_laws.proofs.Common.{Home, take, ◌<◌, Bool, if◌then◌else◌, AllByRecursion, Batch, AtQueue, Parts, account, LogEntry, was_shut, ◌≡◌, ◌≤◌, ℕ, zero, suc, ◌+◌, true, false, List, [], ◌∷◌, ◌++◌, map, length, refl, sym, ap, ◌∙◌, subst, arith, Option, Some, flat_map, length-map, BootPlan, QueueIndex, QueueEnd, ClosedNow, IsClosed, Gained, Stake, both_stakes, stake, room_of, no_stake, end_knows_shut, there, Port, runs_of, takings_of, item_of, Boot, others_at, items_from, queue_of, QueueEnded, ends_at}
 use Rattle.std.proofs.Common.{slice_get}
 use Rattle.std.proofs.lemmas.Option.{slice_get_within as within}
 use Rattle.claim_queue.specs.declared.close.Closed.{Closed as Shut}
 use Rattle.claim_queue.specs.declared.ends.ClaimQueue.{ClaimQueue}
 use Rattle.claim_queue.specs.declared.rule.Did.{Did}
-use Rattle.claim_queue.specs.Own.{View, did_both, nothing_did}
+use Rattle.claim_queue.specs.Own.{did_both, nothing_did}
 use Rattle.claim_queue.specs.Handles.{view_of}
-use Rattle.claim_queue.specs.Lines.{line_of, IsSettled}
 use Rattle.claim_queue.proofs.Certain.{seen_room}
 use Rattle.boot_objects.specs.ClosedQueues.{AreClosed}
-use Rattle.turn_io.specs.EndLists.{knows_shut_at}
-use Rattle.turn_io.proofs.Parting.{raised_both}
-use Rattle.quajects.specs.Settled.{HasRaised, HasAll}
-use Rattle.table_theory.specs.Listing.{AllRaised}
-use Rattle.table_theory.specs.Sharing.{IsWhole}
 use Rattle.boot_laws.specs.ClosedTables as closed
 use Rattle.boot_laws.specs.Closings.{queues_from}
 use Rattle.boot_laws.proofs.Joined.{at_its}
 use Rattle.boot_laws.proofs.Queues.Items.{items_are}
-use Rattle.boot_laws.proofs.Queues.Stakes.{all_stakes, all_more, all_are, ports_are, map_flat}
+use Rattle.boot_laws.proofs.Queues.Stakes.{ports_list}
+use Rattle.boot_laws.proofs.Queues.Takings.{of_ends}
+use Rattle.boot_objects.specs.Gains.{port_stakes}
+use Rattle.table_theory.specs.Interleaving.{joined}
+use Rattle.table_theory.specs.Listing.{IsListed}
+use Rattle.boot_laws.proofs.Joined.{joined_lists, WereJoined, done_by}
+use Rattle.boot_laws.proofs.Queues.Dids.{end_at, did_at, did_joined, lines_are, its_did, none_first, runs_up, takes_up}
+use Rattle.boot_laws.proofs.Queues.Stations.{of_each, all_in_order, lines_all, all_of_them, all_told, its_knowing}
 
 -- WHAT AN END GAINED
 
-raised_flat : (vs : List View) → All HasRaised vs → AllRaised (flat_map runs_of vs)
-raised_flat [] all = λ m e at i l. absurd (some-ne-none e (sym at))
-raised_flat (v ∷ vs) all = raised_both (runs_of v) (flat_map runs_of vs) (all 0 v (omega arith)) (raised_flat vs (λ k d l. all (suc k) d (omega arith)))
-
 module _ {n : ℕ} where
-  -- the end of each queue has what it had, and what these others had; and it knows still that its queue is shut
-  pub record GainedEnds (others : ℕ → List (QueueEnd n)) (old new : List (QueueEnd n)) : Type 0 where
-    pub stakes_are : (q : ℕ) → stakes new q ≡ both_stakes did_both (stakes old q) (all_stakes (others q))
-    pub known : (q : ℕ) → knows_shut_at old q ≡ true → knows_shut_at new q ≡ true
-
-  pub gained_ports : (ports : List (Option (Port n))) (old new : List (QueueEnd n)) → Gained ports old new → GainedEnds (λ q. ends_at q ports) old new
-  gained_ports ports old new g = record {
-    stakes_are = λ q. ap (λ (f : ℕ → Stake Did). f q) g.stakes_are ∙ ap (both_stakes did_both (stakes old q)) (ports_are ports q);
-    known = g.known;
-  }
-
-  pub gained_both : (a b : ℕ → List (QueueEnd n)) (x y z : List (QueueEnd n)) → GainedEnds a x y → GainedEnds b y z → GainedEnds (λ q. a q ++ b q) x z
-  gained_both a b x y z g h = record {
-    stakes_are = λ q. h.stakes_are q ∙ (ap (λ (s : Stake Did). both_stakes did_both s (all_stakes (b q))) (g.stakes_are q)
-        ∙ ((stakes_add dids_add).regroups (stakes x q) (all_stakes (a q)) (all_stakes (b q)) ∙ ap (both_stakes did_both (stakes x q)) (sym (all_more (a q) (b q)))));
-    known = λ q s. h.known q (g.known q s);
-  }
-
-  pub gained_same : (a b : ℕ → List (QueueEnd n)) (x y : List (QueueEnd n)) → ((q : ℕ) → a q ≡ b q) → GainedEnds a x y → GainedEnds b x y
-  gained_same a b x y e g = record { stakes_are = λ q. g.stakes_are q ∙ ap (λ (z : List (QueueEnd n)). both_stakes did_both (stakes x q) (all_stakes z)) (e q); known = g.known }
-
-  -- what one end has that has all
-  has_all : (end last : QueueEnd n) (others : List (QueueEnd n)) → stake last ≡ all_stakes (end ∷ others) → HasAll (views_of end others) (view_of last)
-  has_all end last others is =
-      let all = is ∙ all_are (end ∷ others) in
-      let runs : runs_of (view_of last) ≡ flat_map runs_of (views_of end others) = ap (λ (s : Stake Did). s.did.runs) all in
-      let takings : takings_of (view_of last) ≡ flat_map takings_of (views_of end others) = ap (λ (s : Stake Did). s.did.takes) all in record {
-        puts = ap (map line_of) runs ∙ map_flat runs_of (views_of end others);
-        takes = ap (map line_of) takings ∙ map_flat takings_of (views_of end others);
-        share = ap (λ (s : Stake Did). s.share) all;
-        shuts = ap (λ (s : Stake Did). s.did.shuts) all;
-        runs = runs;
-        takings = takings;
-        raised = λ up. subst AllRaised (sym runs) (raised_flat (views_of end others) up);
-      }
-
   -- what closed the queue at a place, by an end that gained what the others had
-  pub record ShutAt (make : ℕ → QueueEnd n → Shut n → closed.Queue) (olds : List (QueueEnd n)) (others : List (QueueEnd n)) (k : ℕ) (q : closed.Queue) : Type 0 where
+  pub record ShutAt (make : ℕ → QueueEnd n → Shut n → closed.Queue) (olds : List (QueueEnd n)) (gained : Stake Did) (k : ℕ) (q : closed.Queue) : Type 0 where
     pub queue : ClaimQueue n
     pub was : QueueEnd n
     pub end : QueueEnd n
@@ -73,7 +34,7 @@ module _ {n : ℕ} where
     pub its : slice_get olds k ≡ Some was
     pub closes : IsClosed queue end shut
     pub is : q ≡ make k end shut
-    pub has : stake end ≡ all_stakes (was ∷ others)
+    pub has : stake end ≡ both_stakes did_both (stake was) gained
     pub known : end_knows_shut was ≡ true → end_knows_shut end ≡ true
 
   module _ (make : ℕ → QueueEnd n → Shut n → closed.Queue) where
@@ -107,9 +68,9 @@ module _ {n : ℕ} where
       is = h.is ∙ ap (λ (m : ℕ). make m h.end h.shut) (let m : from + 1 + k ≡ from + suc k = omega arith in m);
     }
 
-    pub shut_at : (others : ℕ → List (QueueEnd n)) (queues : List (ClaimQueue n)) (olds lasts : List (QueueEnd n)) (shuts : List (Shut n)) (k : ℕ) (q : closed.Queue)
-        → length olds ≡ length lasts → GainedEnds others olds lasts → AreClosed queues lasts shuts → slice_get (queues_from make 0 lasts shuts) k ≡ Some q → ShutAt make olds (others k) k q
-    shut_at others queues olds lasts shuts k q long g a at =
+    pub shut_at : (ports : List (Option (Port n))) (queues : List (ClaimQueue n)) (olds lasts : List (QueueEnd n)) (shuts : List (Shut n)) (k : ℕ) (q : closed.Queue)
+        → length olds ≡ length lasts → Gained ports olds lasts → AreClosed queues lasts shuts → slice_get (queues_from make 0 lasts shuts) k ≡ Some q → ShutAt make olds (port_stakes ports k) k q
+    shut_at ports queues olds lasts shuts k q long g a at =
         let s = placed 0 queues lasts shuts k q a at in
         let was = there olds k (let low = within lasts k s.end s.its in omega arith) in record {
           queue = s.queue;
@@ -119,7 +80,7 @@ module _ {n : ℕ} where
           its = was.1;
           closes = s.closes;
           is = s.is ∙ ap (λ (m : ℕ). make m s.end s.shut) (let m : 0 + k ≡ k = omega arith in m);
-          has = sym (at_its stake lasts k s.end (no_stake nothing_did) s.its) ∙ (g.stakes_are k ∙ ap (λ (z : Stake Did). both_stakes did_both z (all_stakes (others k))) (at_its stake olds k was.0 (no_stake nothing_did) was.1));
+          has = sym (at_its stake lasts k s.end (no_stake nothing_did) s.its) ∙ (ap (λ (f : ℕ → Stake Did). f k) g.stakes_are ∙ ap (λ (z : Stake Did). both_stakes did_both z (port_stakes ports k)) (at_its stake olds k was.0 (no_stake nothing_did) was.1));
           known = λ shut. sym (at_its end_knows_shut lasts k s.end false s.its) ∙ g.known k (at_its end_knows_shut olds k was.0 false was.1 ∙ shut);
         }
 
@@ -129,36 +90,68 @@ module _ {n : ℕ} where
       let items = ap length (items_are (view_of end) shut.first shut.put shut.taken shut.left.items c) ∙ length-map (view_of end).seen.object.places item_of in
       let room = seen_room end in let put = c.puts in let within = c.within in omega arith
 
--- each queue that is closed by an end which gained what the others had
-pub queue_ended : (plan : BootPlan) (boot : Boot) (index : QueueIndex) (queue : ClaimQueue (room_of index)) (was end : QueueEnd (room_of index)) (shut : Shut (room_of index))
-    → end_at index boot.last ≡ Some was → IsClosed queue end shut → stake end ≡ all_stakes (was ∷ others_at plan boot index) → (end_knows_shut was ≡ true → end_knows_shut end ≡ true)
-    → sum_by shuts_of (map view_of (others_at plan boot index)) ≡ 0 → QueueEnded index boot.stations boot.last (others_at plan boot index) (queue_of plan boot index end shut)
-queue_ended plan boot index queue was end shut its closes is known none =
-    let others = others_at plan boot index in
-    let has = has_all was end others is in record {
-      end = was;
-      its = its;
-      position = shut.first;
-      put = shut.put;
-      left = shut.left.items;
-      closes = record {
-        before = view_of end;
-        has = has;
-        closed = closes.now;
-        whole = subst IsWhole has.share closes.now.whole;
-        items = closes.items;
-        put_is = closes.put_is;
-        settled = subst (λ (z : List (List ℕ)). IsSettled closes.items shut.taken z (flat_map lines_taken (views_of was others))) has.puts
-            (subst (λ (z : List (List ℕ)). IsSettled closes.items shut.taken (lines_put (view_of end)) z) has.takes closes.settled);
-        left_number = closes.left_number;
-        left_is = λ all. closes.left_is (has.raised all);
-      };
-      items = items_are (view_of end) shut.first shut.put shut.taken shut.left.items closes.now;
-      within = few_left end shut closes.now;
-      put_by = refl;
-      taken_by = refl;
-      put_by_others = refl;
-      taken_by_others = refl;
-      known = known;
-      none_shut = none;
-    }
+-- the boot of these stations, with what came home and the ends that devices had
+abbrev pub boot_of : Parts → List Parts → Parts → List Home → List (QueueEnd 64) → Boot
+boot_of first stations last homes raws = record { done = done_by first stations last; homes = homes; raws = raws }
+
+-- a queue that is closed by an end which has what the last station's end had, and what the others had
+module _ (plan : BootPlan) (logs : List (List LogEntry)) (first : Parts) (stations : List Parts) (last : Parts) (w : WereJoined plan logs first stations last) (homes : List Home)
+    (raws : List (QueueEnd 64)) (index : QueueIndex) (queue : ClaimQueue (room_of index)) (was end : QueueEnd (room_of index)) (shut : Shut (room_of index)) (its : end_at index last ≡ Some was)
+    (closes : IsClosed queue end shut) (ports : List (Option (Port (room_of index)))) (number : ℕ) (has : stake end ≡ both_stakes did_both (stake was) (port_stakes ports number))
+    (same : ends_at number ports ≡ others_at plan (boot_of first stations last homes raws) index) where
+  abbrev boot : Boot
+  boot = boot_of first stations last homes raws
+
+  abbrev others : List (QueueEnd (room_of index))
+  others = others_at plan boot index
+
+  runs : (view_of end).own.runs ≡ joined (of_each index (λ d. d.runs) stations) ++ flat_map runs_of (map view_of others)
+  runs = all_of_them index (λ d. d.runs) stations last was (flat_map runs_of (map view_of others)) (view_of end).own.runs its (ap (λ (s : Stake Did). s.did.runs) has ∙ ap (λ z. (view_of was).own.runs ++ z) (ports_list (λ d. d.runs) refl (λ a b. refl) ports number ∙ ap (of_ends runs_of) same))
+      (joined_lists (λ s. (did_at index s).runs) (λ a b c j. ap (λ (d : Did). d.runs) (did_joined index a b c j)) first stations last w.joined
+      ∙ ap (λ z. z ++ flat_map (λ s. (did_at index s).runs) stations) (none_first index plan first w.prepared).0)
+
+  takes : (view_of end).own.takes ≡ joined (of_each index (λ d. d.takes) stations) ++ flat_map takings_of (map view_of others)
+  takes = all_of_them index (λ d. d.takes) stations last was (flat_map takings_of (map view_of others)) (view_of end).own.takes its (ap (λ (s : Stake Did). s.did.takes) has ∙ ap (λ z. (view_of was).own.takes ++ z) (ports_list (λ d. d.takes) refl (λ a b. refl) ports number ∙ ap (of_ends takings_of) same))
+      (joined_lists (λ s. (did_at index s).takes) (λ a b c j. ap (λ (d : Did). d.takes) (did_joined index a b c j)) first stations last w.joined
+      ∙ ap (λ z. z ++ flat_map (λ s. (did_at index s).takes) stations) (none_first index plan first w.prepared).1)
+
+  ended : QueueEnded index (map account stations) others (queue_of plan boot index end shut)
+  ended =
+      let v = view_of end in let c = closes.now in let items = items_are v shut.first shut.put shut.taken shut.left.items c in record {
+        first = v.seen.object.first;
+        places = v.seen.object.places;
+        items = items;
+        behind = subst (λ (z : List ℕ). shut.taken ≤ length z) (sym items) c.settled.behind;
+        within = few_left end shut c;
+        claims = record {
+          own = of_each index (λ d. d.runs) stations;
+          lines = lines_all index (λ d. d.runs) (λ a. a.put) (λ d. refl) stations;
+          ascend = all_in_order index (λ d. d.runs) plan (λ log s l. runs_up index s l.small.0 l.large.0) logs stations w.left;
+          order = c.listed.runs;
+          listed = subst (λ (z : List Batch). IsListed v.seen.object.first v.seen.object.places c.listed.runs (z ∷ [])) runs c.listed.runs_are;
+        };
+        takings = record {
+          own = of_each index (λ d. d.takes) stations;
+          lines = lines_all index (λ d. d.takes) (λ a. a.taken) (λ d. refl) stations;
+          ascend = all_in_order index (λ d. d.takes) plan (λ log s l. takes_up index s l.small.1 l.large.1) logs stations w.left;
+          order = c.listed.takes;
+          listed = subst (λ (n : ℕ). IsListed v.seen.object.first (take n v.seen.object.places) c.listed.takes ((joined (of_each index (λ d. d.takes) stations) ++ flat_map takings_of (map view_of others)) ∷ [])) (sym c.taken_is)
+              (subst (λ (z : List Batch). IsListed v.seen.object.first (take v.seen.object.taken v.seen.object.places) c.listed.takes (z ∷ [])) takes c.listed.takes_are);
+        };
+        put_by = refl;
+        taken_by = refl;
+        put_by_others = refl;
+        taken_by_others = refl;
+      }
+
+  -- it was ended, and where a log was told that it is shut, a processor shut it
+  pub queue_ended : (end_knows_shut was ≡ true → end_knows_shut end ≡ true) → (port_stakes ports number).did.shuts ≡ 0
+      → QueueEnded index (map account stations) others (queue_of plan boot index end shut) × AllByRecursion (λ log. was_shut log index ≡ true → 0 < ((account last).queues index).shuts) logs
+  queue_ended known none = (
+    ended,
+    all_told index plan (0 < ((account last).queues index).shuts) logs first stations last w.left w.joined (λ knows.
+        let one : (view_of end).own.shuts ≡ 1 = closes.now.shut_once ∙ ap (λ (b : Bool). if b then 1 else 0) (known (sym (its_knowing index last was its) ∙ knows)) in
+        let all : (view_of end).own.shuts ≡ (view_of was).own.shuts + (port_stakes ports number).did.shuts = ap (λ (s : Stake Did). s.did.shuts) has in
+        let own : ((account last).queues index).shuts ≡ (view_of was).own.shuts = ap (λ (a : AtQueue). a.shuts) (lines_are index last) ∙ ap (λ (d : Did). d.shuts) (its_did index last was its) in
+        omega arith),
+  )

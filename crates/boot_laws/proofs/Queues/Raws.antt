@@ -1,94 +1,20 @@
--- What was put in a tty's raw queue: what its device put, in order.
-use Rattle.boot_laws.proofs.Common.{◌≡◌, ⊎_elim, ℕ, zero, suc, ◌+◌, ◌<◌, ◌≤◌, Bool, List, [], ◌∷◌, ◌++◌, map, length, refl, sym, ap, ◌∙◌, subst, arith, append-nil, Some, flat_map, eq-eqb, ne_eqb, le_prop, ∥∥₁_elim, if◌then◌else◌, AllByRecursion, concat, map-append, some, some-injective, some-ne-none, get_elem?, BootPlan, Mover, PlannedThread, QueueIndex, Small, Large, Step, plan_of, steps_at, IsPlan, IsMoverOf, many_of, QueueEnd, lines_put, AtQueue, idle_queue, put_if, room_of, shut_if, taken_if, Deed, Parts, IsDeedOf, queues_by, LogEntry, FollowsPlan, entry_account, sum_of, program, step_of, said, heard, AnyQuaject, runs_of, views_of, Batch, Owned, entry_of, ListedOnce, Ascending, all_places, Adjacent, item_of, all_at, IsMover, QueueEnded, device_at, total_of}
+-- No processor, pump or switch puts in a tty's raw queue.
+use Rattle.boot_laws.proofs.Common.{◌≡◌, ⊎_elim, ℕ, zero, suc, ◌+◌, ◌<◌, ◌≤◌, Bool, List, [], ◌∷◌, ◌++◌, map, length, refl, sym, ap, ◌∙◌, subst, arith, append-nil, Some, eq-eqb, ne_eqb, le_prop, ∥∥₁_elim, if◌then◌else◌, AllByRecursion, BootPlan, Mover, PlannedThread, QueueIndex, Small, Large, Step, plan_of, steps_at, IsPlan, IsMoverOf, many_of, QueueEnd, AtQueue, idle_queue, put_if, shut_if, taken_if, Deed, IsDeedOf, queues_by, LogEntry, FollowsPlan, entry_account, sum_of, program, step_of, said, heard, AnyQuaject, runs_of, Batch, all_at, IsMover, device_at}
 use Rattle.std.proofs.Common.{slice_get}
-use Rattle.atomic_table.proofs.Lists.{at_map}
 use Rattle.boot_data.specs.declared.plan.Mover.TheVariants as movers
 use Rattle.boot_data.specs.declared.plan.Step.TheVariants as steps
 use Rattle.boot_data.specs.declared.plan.Way.{Way as PlannedWay}
 use Rattle.boot_data.specs.Plans.{Plan}
 use Rattle.boot_data.specs.PlanLimits.{IsProgramOf, IsStepOf, IsWayOf}
-use Rattle.claim_queue.specs.Own.{View}
 use Rattle.claim_queue.specs.Handles.{view_of}
 use Rattle.claim_queue.specs.Lines.{line_of}
 use Rattle.processor.specs.declared.deed.Deed.TheVariants as deeds
 use Rattle.quajects.specs.declared.any.AnyQuaject.TheVariants as any
-use Rattle.table_theory.proofs.Owned.{at_map_back}
-use Rattle.boot_laws.specs.ClosedTables as closed
+use Rattle.table_theory.specs.Interleaving.{joined}
+use Rattle.turn_io.proofs.Shares.{none_of as no_lines}
 use Rattle.boot_laws.proofs.Entries.{turn_is, say_is}
 use Rattle.boot_laws.proofs.Only.{only_all}
-use Rattle.boot_laws.proofs.Queues.Items.{of_first}
 use Rattle.boot_laws.proofs.Queues.Takings.{of_ends, of_next, elsewhere, no_device, IsBelow}
-use Rattle.boot_laws.proofs.Totals.{all_of, all_planned}
-
--- A LIST IN ORDER IS THE LOG
-
-module _ {A : Type 0} (key : A → ℕ) where
-  abbrev Ascends : List A → Type 0
-  Ascends xs = (i j : ℕ) (x y : A) → get_elem? xs i ≡ some x → get_elem? xs j ≡ some y → i < j → key x < key y
-
-  abbrev AreIn : List A → List A → Type 0
-  AreIn xs ys = (i : ℕ) (x : A) → get_elem? xs i ≡ some x → (j : ℕ) × (get_elem? ys j ≡ some x)
-
-  first_of : (x y : A) (xs ys : List A) → Ascends (x ∷ xs) → Ascends (y ∷ ys) → (i j : ℕ) → get_elem? (y ∷ ys) i ≡ some x → get_elem? (x ∷ xs) j ≡ some y → x ≡ y
-  first_of x y xs ys a b zero j e f = sym (some-injective y x e)
-  first_of x y xs ys a b (suc i) zero e f = some-injective x y f
-  first_of x y xs ys a b (suc i) (suc j) e f = let p = b 0 (suc i) y x refl e (omega arith) in let q = a 0 (suc j) x y refl f (omega arith) in absurd (omega arith)
-
-  behind : (x y : A) (xs ys : List A) → x ≡ y → Ascends (x ∷ xs) → AreIn (x ∷ xs) (y ∷ ys) → AreIn xs ys
-  behind x y xs ys same a h i z at = let r = h (suc i) z at in by r.0 r.1
-    where
-      by : (j : ℕ) → get_elem? (y ∷ ys) j ≡ some z → (j : ℕ) × (get_elem? ys j ≡ some z)
-      by zero e = let p = a 0 (suc i) x z refl at (omega arith) in let q : key x ≡ key z = ap key (same ∙ some-injective y z e) in absurd (omega arith)
-      by (suc j) e = (j, e)
-
-  -- two lists in order with the same entries are one
-  one_order : (xs ys : List A) → Ascends xs → Ascends ys → AreIn xs ys → AreIn ys xs → xs ≡ ys
-  one_order [] [] a b h g = refl
-  one_order [] (y ∷ ys) a b h g = let r = g 0 y refl in absurd (some-ne-none y (sym r.1))
-  one_order (x ∷ xs) [] a b h g = let r = h 0 x refl in absurd (some-ne-none x (sym r.1))
-  one_order (x ∷ xs) (y ∷ ys) a b h g =
-      let p = h 0 x refl in let q = g 0 y refl in
-      let same : x ≡ y = first_of x y xs ys a b p.0 q.0 p.1 q.1 in
-      let rest = one_order xs ys (λ i j v w e f low. a (suc i) (suc j) v w e f (omega arith)) (λ i j v w e f low. b (suc i) (suc j) v w e f (omega arith))
-      (behind x y xs ys same a h) (behind y x ys xs (sym same) b g) in
-      λ k. same k ∷ rest k
-
-abbrev start_of : Batch → ℕ
-start_of b = b.start
-
--- a chained log is in order
-later : (p : ℕ) (log : List (Owned Batch)) → Adjacent p log → (j : ℕ) (e : Batch) → get_elem? (map entry_of log) j ≡ some e → p ≤ e.start
-later p [] c j e at = absurd (some-ne-none e (sym at))
-later p (o ∷ os) c zero e at = let h : o.2.start ≡ e.start = ap start_of (some-injective o.2 e at) in let s = c.0 in omega arith
-later p (o ∷ os) c (suc j) e at = let h = later (p + length o.2.places) os c.1 j e at in omega arith
-
-log_ascends : (p : ℕ) (log : List (Owned Batch)) → Adjacent p log → ((k : ℕ) (o : Owned Batch) → get_elem? log k ≡ some o → 0 < length o.2.places) → Ascends start_of (map entry_of log)
-log_ascends p [] c solid i j e f at at' low = absurd (some-ne-none e (sym at))
-log_ascends p (o ∷ os) c solid zero zero e f at at' low = absurd (omega arith)
-log_ascends p (o ∷ os) c solid zero (suc j) e f at at' low =
-    let h = later (p + length o.2.places) os c.1 j f at' in let s = solid 0 o refl in
-    let g : o.2.start ≡ e.start = ap start_of (some-injective o.2 e at) in let k = c.0 in omega arith
-log_ascends p (o ∷ os) c solid (suc i) zero e f at at' low = absurd (omega arith)
-log_ascends p (o ∷ os) c solid (suc i) (suc j) e f at at' low = log_ascends (p + length o.2.places) os c.1 (λ k q h. solid (suc k) q h) i j e f at at' (omega arith)
-
-in_order : (p : ℕ) (log : List (Owned Batch)) (l : List Batch) → ListedOnce log (l ∷ []) → Adjacent p log → ((k : ℕ) (o : Owned Batch) → get_elem? log k ≡ some o → 0 < length o.2.places)
-    → Ascending l → map entry_of log ≡ l
-in_order p log l f c solid up = one_order start_of (map entry_of log) l (log_ascends p log c solid) up
-    (λ i x at. let a = at_map_back entry_of log i x at in let s = f.stands i a.0 a.1 in (a.0.1, of_first l s.0 a.0.0 a.0.1 x s.1 (s.2 ∙ ap some a.2)))
-    (λ i x at. let r = f.listed 0 l i x refl at in (r.0, at_map entry_of log r.0 (0, i, x) r.1))
-
-flat_lines : (log : List (Owned Batch)) → concat (map line_of (map entry_of log)) ≡ map item_of (all_places log)
-flat_lines [] = refl
-flat_lines (o ∷ os) = ap (λ (z : List ℕ). line_of o.2 ++ z) (flat_lines os) ∙ sym (map-append item_of o.2.places (all_places os))
-
--- where one end claimed all, in order, the items put are its lines, one behind the other
-pub put_in_order : (index : QueueIndex) (stations : List Parts) (last : Parts) (others : List (QueueEnd (room_of index))) (q : closed.Queue) (e : QueueEnded index stations last others q)
-    (v : View) → flat_map runs_of (views_of e.end others) ≡ runs_of v → Ascending (runs_of v) → q.items ≡ concat (lines_put v)
-put_in_order index stations last others q e v alone up =
-    let c = e.closes.closed in let s = c.listed in
-    let runs : e.closes.before.own.runs ≡ runs_of v = e.closes.has.runs ∙ alone in
-    let same = in_order e.closes.before.seen.object.first s.runs e.closes.before.own.runs s.runs_are.filed s.runs_are.adjacent s.runs_are.solid (subst Ascending (sym runs) up) ∙ runs in
-    e.items ∙ (ap (map item_of) (sym s.runs_are.flat) ∙ (sym (flat_lines s.runs) ∙ ap (λ z. concat (map line_of z)) same))
 
 -- THE PLAN SAYS NOTHING TO A RAW QUEUE
 
@@ -121,9 +47,14 @@ module _ (plan : BootPlan) (number : ℕ) (far : length plan.queues ≤ number) 
   none_put [] p = refl
   none_put (entry ∷ log) p = λ k. none_by_entry entry p.0 k ++ none_put log p.1 k
 
-  -- no processor puts in a raw queue
-  pub none_put_all : (logs : List (List LogEntry)) → AllByRecursion (AllByRecursion (FollowsPlan plan)) logs → PutsNone ((total_of logs).queues (Small number))
-  none_put_all logs p = none_put (all_of logs) (all_planned plan logs p)
+  -- no processor claimed a place in a raw queue
+  pub none_claimed : (own : List (List Batch)) (logs : List (List LogEntry)) → AllByRecursion (AllByRecursion (FollowsPlan plan)) logs
+      → map (map line_of) own ≡ map (λ log. ((sum_of log).queues (Small number)).put) logs → joined own ≡ []
+  none_claimed [] logs p e = refl
+  none_claimed (x ∷ own) [] p e = absurd (cc)
+  none_claimed (x ∷ own) (log ∷ logs) p e =
+      let its : map line_of x ≡ ((sum_of log).queues (Small number)).put = cc in let rest : map (map line_of) own ≡ map (λ log. ((sum_of log).queues (Small number)).put) logs = cc in
+      λ k. no_lines x (its ∙ none_put log p.0) k ++ none_claimed own logs p.1 rest k
 
 -- PUMPS AND SWITCHES STAY AT THE PLAN'S QUEUES
 

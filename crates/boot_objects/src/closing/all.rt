@@ -9,11 +9,11 @@ ghost use Rattle.processor.specs.Stations.{ArePartsOf};
 use crate::closing::homing::close_chains;
 use crate::closing::queues::close_queues;
 use crate::closing::tables::{close_meters, close_threads};
-use boot_data::BootPlan;
+use boot_data::{BootPlan, HeardLines};
 use claim_queue::{Closed, QueueEnd};
 use event_theory::OutOfMemory;
 use meters::Metered;
-use processor::{Heard, Parts, Shared};
+use processor::{Parts, Shared};
 use quajects::{Came, Home, Queues};
 use std::alloc::Global;
 use std::snapshot::Snapshot;
@@ -58,7 +58,7 @@ pub struct Unmade {
     large: Vec<Closed<256>>,
     threads: Places,
     meters: Metered,
-    heard: Vec<Heard>,
+    heard: HeardLines,
     signals: [u16; 64],
     plan: BootPlan,
     small_ends: Snapshot<Vec<QueueEnd<64>>>,

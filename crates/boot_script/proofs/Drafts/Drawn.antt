@@ -159,6 +159,17 @@ counts_of_steps false step threads counts thread other test few before e =
     let past : length threads ≤ thread = grind (arith, nat_tests) in
     same_count counts thread other (eqb other thread) refl few ∙ (before ∙ ap (λ ts. length (steps_at ts other)) (sym (change_past (with_step step) threads thread past)))
 
+-- a thread that has steps is there
+pub has_steps : (threads : List PlannedThread) (thread : ℕ) → 0 < length (steps_at threads thread) → thread < length threads
+has_steps [] thread some = absurd (omega (arith, some))
+has_steps (t ∷ threads) zero some = omega arith
+has_steps (t ∷ threads) (suc thread) some = omega (arith, has_steps threads thread some)
+
+pub thread_is : (count : ℕ) (threads : List PlannedThread) (thread : ℕ) → count ≡ length (steps_at threads thread) → 0 < count → nat_lt thread (length threads) ≡ true
+thread_is count threads thread e some =
+    let within : thread < length threads = has_steps threads thread (omega (arith, e, some)) in
+    grind (arith, nat_tests)
+
 -- tests of room
 pub text_fits : (count : ℕ) → count ≤ 1024 → text_room count ≡ Ok tt
 text_fits count few = let test : nat_le count 1024 ≡ true = grind (arith, nat_tests) in rw test refl

@@ -2,8 +2,10 @@
 use Rattle.std.proofs.Common.{◌≡◌, ℕ, suc, ◌<◌, ◌+◌, List, [], ◌∷◌, ◌++◌, ◌∙◌, sym, ap, subst, append_assoc, length, drop, get_or, add-one, Option, Some, None, Result}
 use Rattle.std.proofs.Math.Seq.{drop-cons}
 use Rattle.std.proofs.lemmas.List.{append-nil}
+use Rattle.std.proofs.lemmas.Option.{slice_get_within, get_or_from_slice_get}
 use Rattle.std.proofs.lemmas.Result.{on_ok_weaker}
 use Rattle.std.specs.Prelude.{OnOk}
+use Rattle.std.specs.List.{flat_map, slice_get}
 use Rattle.std.specs.Io.KnownBytes.{Appends}
 use Rattle.boot_script.specs.Printed.{numbered_lines}
 
@@ -22,6 +24,13 @@ pub lines_more : {A : Type 0} (line : ℕ → A → List ℕ) (old new later : O
 lines_more line old new later i things x within is h k =
     let e : drop i things ≡ x ∷ drop (i + 1) things = drop-cons things i x within ∙ (ap (λ y. y ∷ drop (suc i) things) (sym is) ∙ ap (λ n. x ∷ drop n things) (sym (add-one i))) in
     rw e (appends_join old new later (line i x) (numbered_lines line (i + 1) (drop (i + 1) things)) h k)
+
+-- the texts of the things from one on, where that of this one was appended
+pub texts_more : {A : Type 0} (text : A → List ℕ) (old new later : Option (List ℕ)) (i : ℕ) (things : List A) (x : A) → slice_get things i ≡ Some x → Appends old new (text x)
+    → Appends new later (flat_map text (drop (i + 1) things)) → Appends old later (flat_map text (drop i things))
+texts_more text old new later i things x is h k =
+    let e : drop i things ≡ x ∷ drop (i + 1) things = drop-cons things i x (slice_get_within things i x is) ∙ (ap (λ y. y ∷ drop (suc i) things) (get_or_from_slice_get things i x x is) ∙ ap (λ n. x ∷ drop n things) (sym (add-one i))) in
+    rw e (appends_join old new later (text x) (flat_map text (drop (i + 1) things)) h k)
 
 -- what was appended before, and what a call appends where it answers Ok
 pub then_appends : {A E : Type 0} (result : Result A E) (a b c : Option (List ℕ)) (x y z : List ℕ) → Appends a b x → OnOk result (Appends b c y) → x ++ y ≡ z → OnOk result (Appends a c z)

@@ -15,14 +15,17 @@ use crate::declared_names::Names;
 use crate::fault::ScriptRefusal;
 use crate::names::{signal, wait_number};
 use crate::text::{Words, number_u32};
-use crate::unescaping::text_said;
+use crate::unescaping::typed_said;
 use crate::version::Version;
 use boot_data::plan::{PipeWaits, PlannedQueue};
 use event_theory::Alarm;
 
 /// `queue NAME`
 #[tactic(auto, unfolding(crate::specs::Grammar::one_word, crate::specs::Grammar::no_words))]
-pub(super) fn queue_said(names: &Names, words: &mut Words) -> Result<Line, ScriptRefusal>
+pub(super) fn queue_said<'a>(
+    names: &Names,
+    words: &mut Words<'a>,
+) -> Result<Line<'a>, ScriptRefusal>
     ensures { result ≡ one_word (new_name names.now)
         (λ name. Line.Queue (record { name = name; waits = None })) words.old }
 {
@@ -32,11 +35,11 @@ pub(super) fn queue_said(names: &Names, words: &mut Words) -> Result<Line, Scrip
 
 /// `pipe NAME R W`
 #[tactic(auto, unfolding(crate::specs::Grammar::three_words, crate::specs::Grammar::no_words))]
-pub(super) fn pipe_said(
+pub(super) fn pipe_said<'a>(
     version: Version,
     names: &Names,
-    words: &mut Words,
-) -> Result<Line, ScriptRefusal>
+    words: &mut Words<'a>,
+) -> Result<Line<'a>, ScriptRefusal>
     ensures { result ≡ three_words (new_name names.now) (number_of (last_wait version)) (number_of (last_wait version))
         (λ name readers writers.
         Line.Queue (record { name = name; waits = Some (record { readers = readers; writers = writers }) }))
@@ -51,7 +54,7 @@ pub(super) fn pipe_said(
 
 /// `tty NAME`
 #[tactic(auto, unfolding(crate::specs::Grammar::one_word, crate::specs::Grammar::no_words))]
-pub(super) fn tty_said(names: &Names, words: &mut Words) -> Result<Line, ScriptRefusal>
+pub(super) fn tty_said<'a>(names: &Names, words: &mut Words<'a>) -> Result<Line<'a>, ScriptRefusal>
     ensures { result ≡ one_word (new_name names.now) Line.Tty words.old }
 {
     let name = names.new_name(words.next_word())?;
@@ -60,17 +63,20 @@ pub(super) fn tty_said(names: &Names, words: &mut Words) -> Result<Line, ScriptR
 
 /// `type TTY TEXT`
 #[tactic(auto, unfolding(crate::specs::BootLines::type_words))]
-pub(super) fn type_said(names: &Names, words: &mut Words) -> Result<Line, ScriptRefusal>
+pub(super) fn type_said<'a>(names: &Names, words: &mut Words<'a>) -> Result<Line<'a>, ScriptRefusal>
     ensures { result ≡ type_words names.now words.old }
 {
     let tty = names.tty(words.next_word())?;
-    let text = text_said(words)?;
+    let text = typed_said(words)?;
     Ok(Line::Types { tty, text })
 }
 
 /// `gauge NAME`
 #[tactic(auto, unfolding(crate::specs::Grammar::one_word, crate::specs::Grammar::no_words))]
-pub(super) fn gauge_said(names: &Names, words: &mut Words) -> Result<Line, ScriptRefusal>
+pub(super) fn gauge_said<'a>(
+    names: &Names,
+    words: &mut Words<'a>,
+) -> Result<Line<'a>, ScriptRefusal>
     ensures { result ≡ one_word (new_name names.now) Line.Gauge words.old }
 {
     let name = names.new_name(words.next_word())?;
@@ -79,7 +85,10 @@ pub(super) fn gauge_said(names: &Names, words: &mut Words) -> Result<Line, Scrip
 
 /// `alarm TICK THREAD S`
 #[tactic(auto, unfolding(crate::specs::Grammar::three_words, crate::specs::Grammar::no_words))]
-pub(super) fn alarm_said(names: &Names, words: &mut Words) -> Result<Line, ScriptRefusal>
+pub(super) fn alarm_said<'a>(
+    names: &Names,
+    words: &mut Words<'a>,
+) -> Result<Line<'a>, ScriptRefusal>
     ensures { result ≡ three_words (number_of u32_max) (number_named kind.Thread names.now) signal_of
         (λ due thread signal. Line.Alarm (record { due = due; element = thread; signal = signal })) words.old }
 {
@@ -98,7 +107,10 @@ pub(super) fn alarm_said(names: &Names, words: &mut Words) -> Result<Line, Scrip
 
 /// `thread NAME`
 #[tactic(auto, unfolding(crate::specs::Grammar::one_word, crate::specs::Grammar::no_words))]
-pub(super) fn thread_said(names: &Names, words: &mut Words) -> Result<Line, ScriptRefusal>
+pub(super) fn thread_said<'a>(
+    names: &Names,
+    words: &mut Words<'a>,
+) -> Result<Line<'a>, ScriptRefusal>
     ensures { result ≡ one_word (new_name names.now) Line.Thread words.old }
 {
     let name = names.new_name(words.next_word())?;
@@ -107,7 +119,7 @@ pub(super) fn thread_said(names: &Names, words: &mut Words) -> Result<Line, Scri
 
 /// `more THREAD`
 #[tactic(auto, unfolding(crate::specs::Grammar::one_word, crate::specs::Grammar::no_words))]
-pub(super) fn more_said(names: &Names, words: &mut Words) -> Result<Line, ScriptRefusal>
+pub(super) fn more_said<'a>(names: &Names, words: &mut Words<'a>) -> Result<Line<'a>, ScriptRefusal>
     ensures { result ≡ one_word (number_named kind.Thread names.now) Line.More words.old }
 {
     let thread = names.thread(words.next_word())?;

@@ -25,19 +25,20 @@ use crate::declared_names::{Names, TtyNumber};
 use crate::event_lines::{is_ascii, no_more};
 use crate::fault::ScriptRefusal;
 use crate::text::Words;
+use crate::unescaping::Typed;
 use crate::version::Version;
+use boot_data::Name;
 use boot_data::plan::{PlannedMover, PlannedQueue, Step};
-use boot_data::{Name, Text};
 use event_theory::{Alarm, Element};
 
 /// What a line declares, or a step.
 #[derive(Drop)]
-pub(crate) enum Line {
+pub(crate) enum Line<'a> {
     /// A queue or pipe.
     Queue(PlannedQueue),
     Tty(Name),
     /// What the device of a tty types.
-    Types { tty: TtyNumber, text: Text<1024> },
+    Types { tty: TtyNumber, text: Typed<'a> },
     /// A pump or switch.
     Mover(PlannedMover),
     Gauge(Name),
@@ -50,8 +51,8 @@ pub(crate) enum Line {
 
 /// What is said, where no word is left; else UnknownWord.
 #[tactic(auto, unfolding(crate::specs::Grammar::no_words))]
-fn at_end(words: &Words, said: Line) -> Result<Line, ScriptRefusal>
-    ensures { result ≡ no_words said words.now }
+fn at_end<'a>(words: &Words<'a>, said: Line<'a>) -> Result<Line<'a>, ScriptRefusal>
+    ensures { result ≡ no_words said.entry words.now }
 {
     no_more(words)?;
     Ok(said)
@@ -59,12 +60,12 @@ fn at_end(words: &Words, said: Line) -> Result<Line, ScriptRefusal>
 
 /// What a word and those behind it say.
 #[tactic(auto, unfolding(crate::specs::BootLines::line_of))]
-fn word_said(
+fn word_said<'a>(
     version: Version,
     names: &Names,
     word: BootWord,
-    words: &mut Words,
-) -> Result<Line, ScriptRefusal>
+    words: &mut Words<'a>,
+) -> Result<Line<'a>, ScriptRefusal>
     ensures { result ≡ line_of version names.now word words.old }
 {
     match word {
@@ -94,12 +95,12 @@ fn word_said(
 
 /// What a line says, where a thread's program goes on or none does, or why it is refused.
 #[tactic(auto, unfolding(crate::specs::BootLines::boot_line))]
-pub(crate) fn line_said(
+pub(crate) fn line_said<'a>(
     version: Version,
     names: &Names,
     going: bool,
-    line: &[u8],
-) -> Result<Line, ScriptRefusal>
+    line: &'a [u8],
+) -> Result<Line<'a>, ScriptRefusal>
     ensures { result ≡ boot_line version names.now going line.now }
 {
     if !is_ascii(line) {

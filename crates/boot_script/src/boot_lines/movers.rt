@@ -15,7 +15,7 @@ use boot_data::plan::{Mover, PlannedMover, Way, Ways};
 
 /// `pump NAME FROM TO`
 #[tactic(auto, unfolding(crate::specs::Grammar::three_words, crate::specs::Grammar::no_words))]
-pub(super) fn pump_said(names: &Names, words: &mut Words) -> Result<Line, ScriptRefusal>
+pub(super) fn pump_said<'a>(names: &Names, words: &mut Words<'a>) -> Result<Line<'a>, ScriptRefusal>
     ensures { result ≡ three_words (new_name names.now) (number_named Kind.Queue names.now)
         (number_named Kind.Queue names.now)
         (λ name from to. Line.Mover (record { name = name; mover = Mover.Pump from to })) words.old }
@@ -84,7 +84,10 @@ fn ways(names: &Names, words: &mut Words) -> Result<Ways, ScriptRefusal>
 
 /// `switch NAME FROM OTHER KEY TO ..`
 #[tactic(auto, unfolding(crate::specs::BootLines::switch_words))]
-pub(super) fn switch_said(names: &Names, words: &mut Words) -> Result<Line, ScriptRefusal>
+pub(super) fn switch_said<'a>(
+    names: &Names,
+    words: &mut Words<'a>,
+) -> Result<Line<'a>, ScriptRefusal>
     ensures { result ≡ switch_words names.now words.old }
 {
     let name = names.new_name(words.next_word())?;

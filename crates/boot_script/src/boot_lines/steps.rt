@@ -21,7 +21,7 @@ use boot_data::plan::Step;
 
 /// `say Q TEXT`
 #[tactic(auto, unfolding(crate::specs::BootLines::say_words))]
-pub(super) fn say_said(names: &Names, words: &mut Words) -> Result<Line, ScriptRefusal>
+pub(super) fn say_said<'a>(names: &Names, words: &mut Words<'a>) -> Result<Line<'a>, ScriptRefusal>
     ensures { result ≡ say_words names.now words.old }
 {
     let queue = names.queue(false, words.next_word())?;
@@ -31,7 +31,7 @@ pub(super) fn say_said(names: &Names, words: &mut Words) -> Result<Line, ScriptR
 
 /// `hear Q`
 #[tactic(auto, unfolding(crate::specs::Grammar::one_word, crate::specs::Grammar::no_words))]
-pub(super) fn hear_said(names: &Names, words: &mut Words) -> Result<Line, ScriptRefusal>
+pub(super) fn hear_said<'a>(names: &Names, words: &mut Words<'a>) -> Result<Line<'a>, ScriptRefusal>
     ensures { result ≡ one_word (queue_named true names.now) (λ queue. Line.Step (Step.Hear queue)) words.old }
 {
     let queue = names.queue(true, words.next_word())?;
@@ -40,7 +40,10 @@ pub(super) fn hear_said(names: &Names, words: &mut Words) -> Result<Line, Script
 
 /// `wait W`
 #[tactic(auto, unfolding(crate::specs::Grammar::one_word, crate::specs::Grammar::no_words))]
-pub(super) fn wait_said(version: Version, words: &mut Words) -> Result<Line, ScriptRefusal>
+pub(super) fn wait_said<'a>(
+    version: Version,
+    words: &mut Words<'a>,
+) -> Result<Line<'a>, ScriptRefusal>
     ensures { result ≡ one_word (number_of (last_wait version)) (λ wait. Line.Step (Step.Wait wait)) words.old }
 {
     let wait = wait_number(version, words.next_word())?;
@@ -49,7 +52,10 @@ pub(super) fn wait_said(version: Version, words: &mut Words) -> Result<Line, Scr
 
 /// `wake W`
 #[tactic(auto, unfolding(crate::specs::Grammar::one_word, crate::specs::Grammar::no_words))]
-pub(super) fn wake_said(version: Version, words: &mut Words) -> Result<Line, ScriptRefusal>
+pub(super) fn wake_said<'a>(
+    version: Version,
+    words: &mut Words<'a>,
+) -> Result<Line<'a>, ScriptRefusal>
     ensures { result ≡ one_word (number_of (last_wait version)) (λ wait. Line.Step (Step.Wake wait)) words.old }
 {
     let wait = wait_number(version, words.next_word())?;
@@ -58,7 +64,10 @@ pub(super) fn wake_said(version: Version, words: &mut Words) -> Result<Line, Scr
 
 /// `signal THREAD S`
 #[tactic(auto, unfolding(crate::specs::Grammar::two_words, crate::specs::Grammar::no_words))]
-pub(super) fn signal_said(names: &Names, words: &mut Words) -> Result<Line, ScriptRefusal>
+pub(super) fn signal_said<'a>(
+    names: &Names,
+    words: &mut Words<'a>,
+) -> Result<Line<'a>, ScriptRefusal>
     ensures { result ≡ two_words (number_named Kind.Thread names.now) signal_of
         (λ thread signal. Line.Step (Step.Signal thread signal)) words.old }
 {
@@ -69,7 +78,7 @@ pub(super) fn signal_said(names: &Names, words: &mut Words) -> Result<Line, Scri
 
 /// `stop THREAD`
 #[tactic(auto, unfolding(crate::specs::Grammar::one_word, crate::specs::Grammar::no_words))]
-pub(super) fn stop_said(names: &Names, words: &mut Words) -> Result<Line, ScriptRefusal>
+pub(super) fn stop_said<'a>(names: &Names, words: &mut Words<'a>) -> Result<Line<'a>, ScriptRefusal>
     ensures { result ≡ one_word (number_named Kind.Thread names.now) (λ thread. Line.Step (Step.Stop thread))
         words.old }
 {
@@ -79,7 +88,10 @@ pub(super) fn stop_said(names: &Names, words: &mut Words) -> Result<Line, Script
 
 /// `start THREAD`
 #[tactic(auto, unfolding(crate::specs::Grammar::one_word, crate::specs::Grammar::no_words))]
-pub(super) fn start_said(names: &Names, words: &mut Words) -> Result<Line, ScriptRefusal>
+pub(super) fn start_said<'a>(
+    names: &Names,
+    words: &mut Words<'a>,
+) -> Result<Line<'a>, ScriptRefusal>
     ensures { result ≡ one_word (number_named Kind.Thread names.now) (λ thread. Line.Step (Step.Start thread))
         words.old }
 {
@@ -89,7 +101,7 @@ pub(super) fn start_said(names: &Names, words: &mut Words) -> Result<Line, Scrip
 
 /// `tick GAUGE N`
 #[tactic(auto, unfolding(crate::specs::Grammar::two_words, crate::specs::Grammar::no_words))]
-pub(super) fn tick_said(names: &Names, words: &mut Words) -> Result<Line, ScriptRefusal>
+pub(super) fn tick_said<'a>(names: &Names, words: &mut Words<'a>) -> Result<Line<'a>, ScriptRefusal>
     ensures { result ≡ two_words (number_named Kind.Gauge names.now) (number_of u64_max)
         (λ gauge amount. Line.Step (Step.Tick gauge amount)) words.old }
 {
@@ -100,7 +112,7 @@ pub(super) fn tick_said(names: &Names, words: &mut Words) -> Result<Line, Script
 
 /// `poke NAME`
 #[tactic(auto, unfolding(crate::specs::Grammar::one_word, crate::specs::Grammar::no_words))]
-pub(super) fn poke_said(names: &Names, words: &mut Words) -> Result<Line, ScriptRefusal>
+pub(super) fn poke_said<'a>(names: &Names, words: &mut Words<'a>) -> Result<Line<'a>, ScriptRefusal>
     ensures { result ≡ one_word (number_named Kind.Mover names.now) (λ mover. Line.Step (Step.Poke mover)) words.old }
 {
     let mover = names.number(Kind::Mover, words.next_word())?;
@@ -108,7 +120,7 @@ pub(super) fn poke_said(names: &Names, words: &mut Words) -> Result<Line, Script
 }
 
 /// `pass`
-pub(super) fn pass_said(words: &mut Words) -> Result<Line, ScriptRefusal>
+pub(super) fn pass_said<'a>(words: &mut Words<'a>) -> Result<Line<'a>, ScriptRefusal>
     ensures { result ≡ no_words (Line.Step Step.Pass) words.old }
 {
     at_end(words, Line::Step(Step::Pass))
@@ -116,7 +128,10 @@ pub(super) fn pass_said(words: &mut Words) -> Result<Line, ScriptRefusal>
 
 /// `close Q`
 #[tactic(auto, unfolding(crate::specs::Grammar::one_word, crate::specs::Grammar::no_words))]
-pub(super) fn close_said(names: &Names, words: &mut Words) -> Result<Line, ScriptRefusal>
+pub(super) fn close_said<'a>(
+    names: &Names,
+    words: &mut Words<'a>,
+) -> Result<Line<'a>, ScriptRefusal>
     ensures { result ≡ one_word (number_named Kind.Queue names.now) (λ queue. Line.Step (Step.Close queue)) words.old }
 {
     let queue = names.number(Kind::Queue, words.next_word())?;

@@ -8,6 +8,7 @@ use std::io::Write;
 
 mod boots;
 mod examples;
+mod heard;
 mod printing;
 mod reading;
 mod replays;

@@ -1,7 +1,7 @@
 //! Printed reports, and writers that fail.
 
-use arrayvec::ArrayVec;
-use boot_data::Name;
+use super::heard::{Line, heard_by, report_in};
+use boot_data::{HeardReport, Name};
 use boot_script::{print_report, *};
 use event_theory::{Items, WaitNumber};
 use std::alloc::Global;
@@ -102,18 +102,12 @@ fn thread(called: &[u8], state: ThreadState, steps: u32, signals: u16) -> Thread
     }
 }
 
-/// A heard line of these items, of as many as there is room for.
-fn heard(called: &[u8], step: u32, list: &[u64]) -> HeardLine {
-    let mut items = ArrayVec::new();
-    for item in list {
-        if items.try_push(*item).is_err() {
-            break;
-        }
-    }
-    HeardLine {
-        thread: name(called),
+/// A heard line of the thread with this number.
+fn line(thread: u8, step: u8, items: &[u64]) -> Line<'_> {
+    Line {
+        thread,
         step,
-        items: HeardItems::new(items),
+        items,
     }
 }
 
@@ -130,7 +124,7 @@ fn empty_report(alloc: Global) -> Report {
             left: 0,
         },
         threads: Items::new(Vec::new(alloc)),
-        heard: Items::new(Vec::new(alloc)),
+        heard: HeardReport::new(Vec::new(alloc), Vec::new(alloc), Vec::new(alloc)),
         chained: 0,
     }
 }
@@ -188,11 +182,16 @@ fn full_movers(alloc: Global) -> Option<Items<MoverLine>> {
     Some(Items::new(vec![in alloc; switch, pump, idle].ok()?))
 }
 
-fn full_heard(alloc: Global) -> Option<Items<HeardLine>> {
-    let line = heard(b"a", 0, &[120, 92, 121, 126, 10]);
-    let nothing = heard(b"a", 63, &[]);
-    let wide = heard(b"b", 4_294_967_295, &[321, u64::MAX, 256, 544, 127]);
-    Some(Items::new(vec![in alloc; line, nothing, wide].ok()?))
+/// Two processors heard these, and not in the order of the report.
+fn full_heard(alloc: Global) -> Option<HeardReport> {
+    let wide = line(1, 255, &[321, u64::MAX, 256, 544, 127]);
+    let nothing = line(0, 63, &[]);
+    let plain = line(0, 0, &[120, 92, 121, 126, 10]);
+    let first = heard_by(alloc, &[wide, nothing])?;
+    let second = heard_by(alloc, &[plain])?;
+    let names = vec![in alloc; name(b"a"), name(b"b")].ok()?;
+    let processors = vec![in alloc; first, second].ok()?;
+    report_in(names, processors, alloc, &[(1, 0), (0, 1), (0, 0)])
 }
 
 /// A report with lines of each kind.
@@ -239,7 +238,7 @@ thread d wait15 4294967295 signals abcd
 thread e stopped 64 signals 8000
 thread f held 1 signals 0f10
 heard a 0 x\\5Cy~\\0A
-heard a 63 \nheard b 4294967295 A\\FF\\00 \\7F
+heard a 63 \nheard b 255 A\\FF\\00 \\7F
 chained 7
 ";
 
@@ -291,68 +290,72 @@ heard a 3 \x5CC0\x5CC1\x5CC2\x5CC3\x5CC4\x5CC5\x5CC6\x5CC7\x5CC8\x5CC9\x5CCA\x5C
 chained 0
 ";
 
-/// A line of the 64 items from this one on.
-fn heard_from(step: u32, first: u64) -> HeardLine {
+/// The 64 items from this one on.
+fn items_from(first: u64) -> [u64; 64] {
     let mut items = [0; 64];
     for (item, number) in items.iter_mut().zip(first..) {
         *item = number;
     }
-    heard(b"a", step, &items)
+    items
 }
 
-fn report_of(alloc: Global, heard: Items<HeardLine>) -> Report {
+/// A report of these lines and of nothing else, of what one processor heard.
+fn report_of(
+    alloc: Global,
+    name: Name,
+    lines: &[Line<'_>],
+    order: &[(usize, usize)],
+) -> Option<Report> {
+    let processors = vec![in alloc; heard_by(alloc, lines)?].ok()?;
+    let names = vec![in alloc; name].ok()?;
     let mut report = empty_report(alloc);
-    report.heard = heard;
-    report
+    report.heard = report_in(names, processors, alloc, order)?;
+    Some(report)
+}
+
+/// A report of each byte.
+fn all_bytes(alloc: Global) -> Option<Report> {
+    let (first, second) = (items_from(0), items_from(64));
+    let (third, last) = (items_from(128), items_from(192));
+    let lines = [
+        line(0, 0, &first),
+        line(0, 1, &second),
+        line(0, 2, &third),
+        line(0, 3, &last),
+    ];
+    report_of(alloc, name(b"a"), &lines, &[(0, 0), (0, 1), (0, 2), (0, 3)])
 }
 
 #[test]
 fn each_byte_is_written(rt: HostRuntime) {
-    let (first, second) = (heard_from(0, 0), heard_from(1, 64));
-    let (third, last) = (heard_from(2, 128), heard_from(3, 192));
-    let Ok(lines) = vec![in rt.alloc(); first, second, third, last] else {
-        panic!(rt; "no lines")
+    let Some(report) = all_bytes(rt.alloc()) else {
+        panic!(rt; "no report")
     };
-    let report = report_of(rt.alloc(), Items::new(lines));
     let (out, all) = printed(rt.alloc(), &report, usize::MAX, 0);
     assert!(rt; all);
     assert!(rt; out.bytes.as_slice() == ALL_BYTES);
 }
 
-/// Heard lines as long as they can be, of 795 bytes each: ten fit on a page.
-fn longest_lines(alloc: Global) -> Option<Vec<HeardLine>> {
-    let mut lines = Vec::new(alloc);
-    for _ in 0..25 {
-        lines
-            .push(heard(b"longname", 4_294_967_295, &[255; 256]))
-            .ok()?;
-    }
-    Some(lines)
+/// A heard line as long as it can be, of 788 bytes, 25 times: ten fit on a page.
+fn longest_lines(alloc: Global) -> Option<Report> {
+    let longest = line(0, 255, &[255; 256]);
+    report_of(alloc, name(b"longname"), &[longest], &[(0, 0); 25])
 }
 
 /// The call that fails, and how many bytes are written then.
-const PAGES: &[(usize, usize)] = &[(1, 0), (2, 7950), (3, 15_900), (4, 19_885), (0, 19_885)];
+const PAGES: &[(usize, usize)] = &[(1, 0), (2, 7880), (3, 15_760), (4, 19_710), (0, 19_710)];
 
 /// Each write is of whole lines.
 #[test]
 fn a_longer_report_is_written_in_whole_lines(rt: HostRuntime) {
-    let Some(lines) = longest_lines(rt.alloc()) else {
-        panic!(rt; "no lines")
+    let Some(report) = longest_lines(rt.alloc()) else {
+        panic!(rt; "no report")
     };
-    let report = report_of(rt.alloc(), Items::new(lines));
     for (fails_at, written) in PAGES {
         let (out, all) = printed(rt.alloc(), &report, usize::MAX, *fails_at);
-        assert!(rt; all == (*written == 19_885));
+        assert!(rt; all == (*written == 19_710));
         assert!(rt; out.bytes.len() == *written);
         assert!(rt; *written == 0 || out.bytes.ends_with(b"\n"));
         assert!(rt; out.bytes.ends_with(b"\\FF\nchained 0\n") == all);
     }
-}
-
-/// Items are given back as they were.
-#[test]
-fn heard_items_are_given_back(rt: HostRuntime) {
-    let line = heard(b"a", 0, &[7, 300]);
-    assert!(rt; line.items.as_slice() == [7, 300].as_slice());
-    assert!(rt; line.items.into_array_vec().as_slice() == [7, 300].as_slice());
 }

@@ -26,7 +26,10 @@ struct Sayer<'r, 's, R: Wait> {
     ghost hand_fits: { IsHandOf shared.now.threads hand },
 }
 
-/// Says a line in the first queue, or shuts it.
+/// The line that is said. Its first item is above 255.
+const LINE: &[u64] = &[0x17A, 0x0A];
+
+/// Says the line in the first queue, or shuts it.
 fn say_or_shut(queues: &[ClaimQueue<64>], ends: &mut Vec<QueueEnd<64>>, shuts: bool)
     requires ends { AreEndsOf queues.now ends.old.items }
     requires known { 0 < length queues.now }
@@ -35,7 +38,7 @@ fn say_or_shut(queues: &[ClaimQueue<64>], ends: &mut Vec<QueueEnd<64>>, shuts: b
     if shuts {
         let _open = shut_queue(queues, ends.as_mut_slice(), 0);
     } else {
-        let _said = say(queues, ends.as_mut_slice(), 0, &[122, 10], 0, &mut NoGate);
+        let _said = say(queues, ends.as_mut_slice(), 0, LINE, 0, &mut NoGate);
     }
 }
 
@@ -133,7 +136,7 @@ fn heard_beside<R: Abort + Wait>(rt: &R, alloc: Global, turns: u32, shuts: bool)
 }
 
 /// A line that is said behind a hear's try, and before its element waits, wakes nobody. But the ticket has moved, so the
-/// element is ready again, and hears the line in its next turn.
+/// element is ready again, and hears the line in its next turn. What is kept of the line is the low 8 bits of each item.
 #[test]
 fn said_before_the_wait(rt: HostRuntime) {
     let once = heard_beside(&rt, rt.alloc(), 1, false);
@@ -141,7 +144,7 @@ fn said_before_the_wait(rt: HostRuntime) {
     assert!(rt; once.heard.len() == 0);
     let twice = heard_beside(&rt, rt.alloc(), 2, false);
     check_states(&rt, &twice, &[ended(1)]);
-    check_lines(&rt, twice.heard.as_slice(), &[(0, 0, b"z\n")]);
+    check_lines(&rt, &twice.heard, &[(0, 0, b"z\n")]);
 }
 
 /// The same where the pipe is shut: the element hears nothing in its next turn, and its step is done.

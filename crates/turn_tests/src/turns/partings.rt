@@ -100,7 +100,7 @@ fn split_and_joined(rt: HostRuntime) {
     let (other, heard, mask) = told(other, 1);
     assert!(rt; (heard, mask) == (1, 16));
     let lines = one.join(&shared, other);
-    check_lines(&rt, lines.as_slice(), &[(1, 0, b"xy\n")]);
+    check_lines(&rt, &lines, &[(1, 0, b"xy\n")]);
     let ended = close_all(&rt, shared, one.into_parts());
     assert!(rt; ended.heard.len() == 0);
     let other = signalled(at(Place::Free, 2), 16, 0);

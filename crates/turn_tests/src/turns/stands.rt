@@ -1,5 +1,5 @@
 //! What the processors of a plan share, and a first station of it, over queues and chains that a test makes.
-ghost use Rattle.std.specs.Prelude.{◌≡◌, ◌≤◌, [], length, vec_capacity, IfOk};
+ghost use Rattle.std.specs.Prelude.{◌≡◌, ◌≤◌, [], length, IfOk};
 ghost use Rattle.std.specs.List.{All};
 ghost use Rattle.thread_table.specs.Handles.{view_of, IsHandOf, IsSameHand};
 ghost use Rattle.thread_table.specs.Handles as threads;
@@ -130,8 +130,8 @@ fn station_of(alloc: Global, shared: &Shared, ends: Ends) -> Result<Station, Out
     ensures large { IfOk result (λ s. s.parts.large ≡ ends.large) }
     ensures chains { IfOk result (λ s. s.parts.chains ≡ ends.chains) }
     ensures seat { IfOk result (λ s. s.parts.meters ≡ ends.seat) }
-    ensures heard { IfOk result (λ s. s.parts.heard.items ≡ []) }
-    ensures room { IfOk result (λ s. hear_count shared.now.plan ≤ vec_capacity s.parts.heard) }
+    ensures heard { IfOk result (λ s. s.parts.heard.lines ≡ []) }
+    ensures room { IfOk result (λ s. hear_count shared.now.plan ≤ s.parts.heard.room) }
 {
     let Ends {
         hand,
@@ -176,8 +176,8 @@ pub(super) fn first_station<R: Abort>(
     ensures chain_ends { IfOk result (λ r. r.1.parts.chains ≡ ways.ends) }
     ensures hand { IfOk result (λ r. threads.IsDivisible r.1.parts.hand) }
     ensures seat { IfOk result (λ r. seats.IsDivisible r.1.parts.meters) }
-    ensures heard { IfOk result (λ r. r.1.parts.heard.items ≡ []) }
-    ensures room { IfOk result (λ r. hear_count r.0.plan ≤ vec_capacity r.1.parts.heard) }
+    ensures heard { IfOk result (λ r. r.1.parts.heard.lines ≡ []) }
+    ensures room { IfOk result (λ r. hear_count r.0.plan ≤ r.1.parts.heard.room) }
 {
     let Ways {
         queues,
@@ -217,8 +217,8 @@ pub(super) fn readied<R: Abort + Wait>(
     p: Processor,
 ) -> Station
     requires parts { ArePartsOf shared.now station.parts }
-    requires heard { station.parts.heard.items ≡ [] }
-    requires room { hear_count shared.now.plan ≤ vec_capacity station.parts.heard }
+    requires heard { station.parts.heard.lines ≡ [] }
+    requires room { hear_count shared.now.plan ≤ station.parts.heard.room }
     ensures { IsManned shared.now p result.parts }
 {
     let mut parts = station.into_parts();

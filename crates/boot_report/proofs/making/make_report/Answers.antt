@@ -1,4 +1,5 @@
-use Rattle.boot_report.proofs.Common.{◌≡◌, ◌∙◌, ◌%◌, ◌^◌, ℕ, List, length, map, ap, subst, sum_by, BootPlan, line_heard, numbered, queue_line, gauge_line, mover_line, heard_line, left_in}
+use Rattle.boot_report.proofs.Common.{◌≡◌, ◌∙◌, ◌%◌, ◌^◌, ℕ, List, length, map, ap, subst, sum_by, BootPlan, numbered, queue_line, gauge_line, mover_line, heard_line, left_in}
+use Rattle.boot_data.specs.Hearing.{heard_at}
 use Rattle.boot_report.specs.Made.{alarm_counts}
 use Rattle.boot_report.proofs.Saying.{says}
 use Rattle.boot_report.proofs.making.make_report.Goals as goal
@@ -20,10 +21,10 @@ returns-clause-made c =
       gauges = c.new-4.ensures ∙ (c.gauge_lines-gauges.ensures.lines ∙ (λ i. numbered (gauge_line (values i)) 0 (gauges i)));
       alarms = c.counts_of_alarms-alarms.ensures ∙ (λ i. alarm_counts (length (alarms i)) (c.alarms_left.ensures i));
       threads = c.new-5.ensures ∙ c.thread_lines-threads.ensures;
-      heard_is = c.new-6.ensures ∙ (c.heard_lines-heard.ensures ∙ (λ i. map (heard_line (threads i)) (map line_heard c.args.heard.items)));
+      heard_is = c.report_heard-heard.ensures ∙ (λ i. map (heard_line (threads i)) (map (heard_at c.args.heard.items) c.args.lines.places.items));
       chained = c.all_left-chained.ensures ∙ (λ i. sum_by left_in (counts i) % 2 ^ 64);
     }
 
 pub returns-clause-says : goal.returns-clause-says
-returns-clause-says c = λ closed shows. says closed c.args.ended.now (map line_heard c.args.heard.items) c.args.typed.now _ shows (returns-clause-made c)
+returns-clause-says c = λ closed shows. says closed c.args.ended.now (map (heard_at c.args.heard.items) c.args.lines.places.items) c.args.typed.now _ shows (returns-clause-made c)
     (subst (λ (z : List ℕ). length z ≡ 8) c.gauges.ensures c.gauge_lines-gauges.ensures.eight)

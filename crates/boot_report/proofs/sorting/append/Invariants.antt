@@ -1,11 +1,10 @@
-use Rattle.boot_report.proofs.Common.{◌≡◌, ◌+◌, ◌++◌, length, vec_len, vec_capacity, into_iter_items, into_iter_len}
+use Rattle.boot_report.proofs.Common.{◌≡◌, ◌+◌, ◌++◌, drop, vec_len, vec_capacity, numbered}
+use Rattle.boot_report.specs.Reported.{place_of}
 use Rattle.boot_report.proofs.sorting.append.Given as goal
 
-abbrev pub invariant-loop-line : goal.invariant-loop-line
-invariant-loop-line l = record {
-  parts : l.yielded ++ into_iter_items l.line-iterator ≡ l.fn.heard.items;
-  left : into_iter_len l.line-iterator ≡ length (into_iter_items l.line-iterator);
-  items : l.all.items ≡ l.fn.all.items ++ l.yielded;
-  number : vec_len l.all ≡ vec_len l.fn.all + length l.yielded;
-  room : vec_capacity l.all ≡ vec_capacity l.fn.all;
+abbrev pub invariant-loop-number : goal.invariant-loop-number
+invariant-loop-number l = record {
+  items : l.places.items ++ numbered (place_of l.processor) l.number (drop l.number l.heard.lines) ≡ l.fn.places.items ++ numbered (place_of l.processor) 0 l.heard.lines;
+  number : vec_len l.places ≡ vec_len l.fn.places + l.number;
+  room : vec_capacity l.places ≡ vec_capacity l.fn.places;
 }

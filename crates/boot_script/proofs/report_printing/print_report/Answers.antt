@@ -11,12 +11,11 @@ returns g c =
     let gauges = appends_join _ _ _ _ _ movers c.in_ok-put_all-4.ensures in
     let alarms = appends_join _ _ _ _ _ gauges c.in_ok-put.ensures in
     let threads = appends_join _ _ _ _ _ alarms c.in_ok-put_all-5.ensures in
-    let heard = appends_join _ _ _ _ _ threads c.in_ok-put_all-6.ensures in
+    let heard = appends_join _ _ _ _ _ threads c.in_ok-put_heard.ensures in
     let chained = appends_join _ _ _ _ _ heard c.in_ok-put-2.ensures in
     let shown-queues = c.as_slice.ensures in
     let shown-ttys = c.as_slice-2.ensures in
     let shown-movers = c.as_slice-3.ensures in
     let shown-gauges = c.as_slice-4.ensures in
     let shown-threads = c.as_slice-5.ensures in
-    let shown-heard = c.as_slice-6.ensures in
-    then_written_out c.write_out.result _ _ _ _ _ _ _ c.new-buffer.ensures chained (simp (shown-queues, shown-ttys, shown-movers, shown-gauges, shown-threads, shown-heard)) c.write_out.ensures.text
+    then_written_out c.write_out.result _ _ _ _ _ _ _ c.new-buffer.ensures chained (simp (shown-queues, shown-ttys, shown-movers, shown-gauges, shown-threads)) c.write_out.ensures.text

@@ -1,3 +1,6 @@
+use Rattle.std.proofs.Common.{length, ap, subst, ◌∙◌, arith}
+use Rattle.std.proofs.lemmas.List.{length-map}
+use Rattle.boot_threads.specs.Readiness.{AreServing, input_of}
 use Rattle.boot_tests.proofs.kernels.make_kernel.Goals as goal
 
 pub post_all-requires-clause-split : goal.post_all-requires-clause-split
@@ -10,3 +13,14 @@ returns-clause-prepared g c =
     let o = c.in-Ok.made in let e = c.in-Ok.ensures in
     c.in-Ok-post_all.ensures.prepared o.shared.plan (c.first_is_prepared.ensures.prepared o.shared.plan o.shared.threads o.station.parts c.prepare_station-station.result.parts
     e.hand c.prepare_station-station.ensures.prepared e.did e.unused)
+
+pub returns-clause-number : goal.returns-clause-number
+returns-clause-number g c =
+    let o = c.in-Ok.made in
+    let posts = c.works_may_run.ensures.posts o.shared c.args.turns c.args.gates.items c.prepare_station-station.result.parts c.post_all.new.station.parts c.in-Ok-post_all.works.items c.in-Ok-post_all.ensures.posted in
+    let serving = subst (λ z. AreServing z o.devices.items c.in-Ok-post_all.works.items c.add_devices-works.result.0.items) c.as_slice.ensures c.add_devices-works.ensures.works in
+    let all = c.works_may_run.ensures.number o.shared.plan.ttys o.devices.items c.in-Ok-post_all.works.items c.add_devices-works.result.0.items serving in
+    let works = c.add_devices-works.result.0.ok.0 in
+    let gates = c.args.gates.ok.0 in
+    let devices = c.in-Ok.ensures.devices.number in
+    (omega arith, c.add_devices-works.result.1.ok.0 ∙ ap length c.add_devices-works.ensures.lines ∙ length-map o.devices.items input_of ∙ devices)

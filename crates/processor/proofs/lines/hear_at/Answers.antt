@@ -3,7 +3,7 @@ use Rattle.processor.proofs.Placing.{did_small, did_large}
 use Rattle.processor.proofs.lines.hear_at.Goals as goal
 
 pub returns-in-Small-clause-did : goal.returns-in-Small-clause-did
-returns-in-Small-clause-did g c = subst (λ (z : QueueIndex). DidAt z (taken_if c.hear_small.result c.hear_small.new.text.items) c.args.small.now c.hear_small.new.small c.args.large.now c.args.large.now) (sym c.in-Small.is)
+returns-in-Small-clause-did g c = subst (λ (z : QueueIndex). DidAt z (taken_if c.hear_small.result c.hear_small.new.room.heard.items) c.args.small.now c.hear_small.new.small c.args.large.now c.args.large.now) (sym c.in-Small.is)
     (did_small c.in-Small.at _ c.args.small.now c.hear_small.new.small c.args.large.now c.hear_small.ensures.did)
 
 pub returns-in-Large-clause-did : goal.returns-in-Large-clause-did

@@ -7,10 +7,10 @@ pub returns-in-Put-clause-queues : goal.returns-in-Put-clause-queues
 returns-in-Put-clause-queues g c = (
   tt,
   subst (λ (z : List ℕ). SaidAt c.args.queue z (Ok tt) c.args.small.now c.try_say.new.small c.args.large.now c.try_say.new.large)
-      (c.as_slice.ensures.value ∙ c.line_of-line.ensures) c.in-Put.ensures.said,
+      (c.as_slice.ensures.value ∙ c.write_line.ensures) c.in-Put.ensures.said,
 )
 
 pub returns-in-Put-clause-did : goal.returns-in-Put-clause-did
 returns-in-Put-clause-did g c =
     subst (λ (z : List ℕ). DidAt c.args.queue (put_if {A = Unit {0}} {E = ClaimRefusal} (Ok tt) z) c.args.small.now c.try_say.new.small c.args.large.now c.try_say.new.large)
-    (c.as_slice.ensures.value ∙ c.line_of-line.ensures) c.in-Put.ensures.did
+    (c.as_slice.ensures.value ∙ c.write_line.ensures) c.in-Put.ensures.did

@@ -98,5 +98,5 @@ returns-clause-adds g c =
 pub returns-clause-worked : goal.returns-clause-worked
 returns-clause-worked g c =
     let w = c.do_step-attempt.ensures.worked in
-    subst (λ (z : Deed). EndsWorked z (line_in c.args.step.now c.do_step-attempt.new.heard.items) c.args.parts.now (record c.do_step-attempt.new.parts { hand = c.take_off.new.hand })) (sym c.count_step-tried.ensures.deed)
+    subst (λ (z : Deed). EndsWorked z (line_in c.args.step.now c.do_step-attempt.new.room.heard.items) c.args.parts.now (record c.do_step-attempt.new.parts { hand = c.take_off.new.hand })) (sym c.count_step-tried.ensures.deed)
     (record { queues = w.queues; chains = w.chains; ticks = w.ticks; small = w.small; large = w.large; chains_kept = w.chains_kept; seat_kept = w.seat_kept; seat = w.seat })

@@ -6,13 +6,13 @@ use Rattle.processor.proofs.Logging.{sound_still}
 use Rattle.processor.proofs.steps.try_step.Goals as goal
 
 pub returns-in-Say-clause-worked : goal.returns-in-Say-clause-worked
-returns-in-Say-clause-worked g c = at_queues (deeds.Say c.in-Say.queue c.say_step.result) _ _ c.args.parts.now _ _ _ _ _ (sym (ap (λ (z : Step). line_in z c.args.heard.now.items) c.in-Say.is))
+returns-in-Say-clause-worked g c = at_queues (deeds.Say c.in-Say.queue c.say_step.result) _ _ c.args.parts.now _ _ _ _ _ (sym (ap (λ (z : Step). line_in z c.args.room.now.heard.items) c.in-Say.is))
     c.as_mut_slice.ensures.value (sym (with_items_is c.args.parts.now.small c.say_step.new.small (search rules)))
     c.as_mut_slice-in-Say.ensures.value (sym (with_items_is c.args.parts.now.large c.say_step.new.large (search rules)))
     c.say_step.ensures.did c.say_step.ensures.sound.0 c.say_step.ensures.sound.1 refl refl refl refl
 
 pub returns-in-Hear-clause-worked : goal.returns-in-Hear-clause-worked
-returns-in-Hear-clause-worked g c = at_queues (deeds.Hear c.in-Hear.queue c.hear_step.result) _ _ c.args.parts.now _ _ _ _ _ (sym (ap (λ (z : Step). line_in z c.hear_step.new.text.items) c.in-Hear.is))
+returns-in-Hear-clause-worked g c = at_queues (deeds.Hear c.in-Hear.queue c.hear_step.result) _ _ c.args.parts.now _ _ _ _ _ (sym (ap (λ (z : Step). line_in z c.hear_step.new.room.heard.items) c.in-Hear.is))
     c.as_mut_slice-in-Hear.ensures.value (sym (with_items_is c.args.parts.now.small c.hear_step.new.small (search rules)))
     c.as_mut_slice-in-Hear-2.ensures.value (sym (with_items_is c.args.parts.now.large c.hear_step.new.large (search rules)))
     c.hear_step.ensures.did c.hear_step.ensures.sound.0 c.hear_step.ensures.sound.1 refl refl refl refl

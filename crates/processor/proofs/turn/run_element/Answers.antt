@@ -1,6 +1,6 @@
-use Rattle.processor.proofs.Common.{◌≡◌, ◌<◌, ◌≤◌, ℕ, true, List, length, ◌++◌, map, vec_capacity, rules, sym, ap, ◌∙◌, subst, arith, AllByRecursion, by_index, view_of, call_of, Deed, SentOn, Parts, is_done, line_in, heard_by, is_heard, told_shut, FollowsStep, trying, Went, Key, AreHears, hear_count, program, key_of, IsPast, Goes, line_heard, is_last}
-use Rattle.std.proofs.Common.{vec_len}
+use Rattle.processor.proofs.Common.{◌≡◌, ◌<◌, ◌≤◌, ℕ, true, List, length, ◌++◌, map, rules, sym, ap, ◌∙◌, subst, arith, AllByRecursion, by_index, view_of, call_of, Deed, SentOn, Parts, is_done, line_in, heard_by, is_heard, told_shut, FollowsStep, trying, Went, Key, AreHears, hear_count, program, key_of, IsPast, Goes, is_last}
 use Rattle.std.proofs.lemmas.List.{length-map}
+use Rattle.boot_data.specs.Hearing.{Heard}
 use Rattle.processor.specs.declared.counting.Tried.{Tried}
 use Rattle.processor.specs.Turns.{RanStep}
 use Rattle.processor.proofs.Keeping.{free_still}
@@ -14,22 +14,20 @@ keep-requires-clause-room g c is =
     let heard = c.args.parts.now.heard in
     let r = c.run_step-tried.ensures in
     let had = c.requires.manned.room in
-    let keys : List Key = map key_of heard.items in
-    let more = hears_more c.args.element c.args.number plan c.args.step.now c.run_step-tried.result.deed _ (view_of c.args.parts.now.hand) keys c.requires.its r.deed c.requires.known had.hears had.past in
+    let keys : List Key = map key_of heard.lines in
+    let more = hears_more c.args.begun.now.element c.args.begun.now.number plan c.args.step.now c.run_step-tried.result.deed _ (view_of c.args.parts.now.hand) keys c.requires.its r.deed c.requires.known had.hears had.past in
     let it = subst (λ (z : Deed). is_heard z ≡ true) c.deed.ensures is in
-    let left = room_left plan keys c.run_step-tried.result.deed c.args.element c.args.number more it in
-    let long = length-map heard.items key_of in
-    let ok = heard.ok in
+    let left = room_left plan keys c.run_step-tried.result.deed c.args.begun.now.element c.args.begun.now.number more it in
+    let long = length-map heard.lines key_of in
     let room = had.room in
-    let here : vec_len heard < vec_capacity heard = omega arith in
-    subst (λ z. vec_len z < vec_capacity z) (sym r.heard) here
+    subst (λ (z : Heard). length z.lines < z.room) (sym r.heard) (omega arith)
 
 pub returns-clause-manned : goal.returns-clause-manned
 returns-clause-manned g c =
     let plan = c.args.shared.now.plan in
     let heard = c.args.parts.now.heard in
-    let e = c.args.element in
-    let n = c.args.number in
+    let e = c.args.begun.now.element in
+    let n = c.args.begun.now.number in
     let r = c.run_step-tried.ensures in
     let s = c.send_on.ensures in
     let had = c.requires.manned.room in
@@ -37,13 +35,13 @@ returns-clause-manned g c =
     let v = view_of c.args.parts.now.hand in
     let u = view_of c.run_step-tried.new.parts.hand in
     let w = view_of c.send_on.new.hand in
-    let keys : List Key = map key_of heard.items in
+    let keys : List Key = map key_of heard.lines in
     let more = hears_more e n plan c.args.step.now deed _ v keys c.requires.its r.deed c.requires.known had.hears had.past in
     let past = past_more _ _ e n plan deed c.run_step-tried.result.counted v u w keys r.hand r.number c.requires.known c.requires.low r.rises s.rises had.past in
-    let are : map key_of c.keep.new.lines.items ≡ keys ++ key_in deed e n =
-    keys_more c.run_step-tried.new.parts.heard.items c.keep.new.lines.items deed e n _
-    (subst (λ (z : Deed). map line_heard c.keep.new.lines.items ≡ map line_heard c.run_step-tried.new.parts.heard.items ++ heard_by z e n c.run_step-tried.new.heard.items) c.deed.ensures c.keep.ensures.lines) ∙ ap (λ z. map key_of z.items ++ key_in deed e n) r.heard in
-    let sized : vec_capacity c.keep.new.lines ≡ vec_capacity heard = c.keep.ensures.room ∙ ap (λ z. vec_capacity z) r.heard in
+    let are : map key_of c.keep.new.lines.lines ≡ keys ++ key_in deed e n =
+    keys_more c.run_step-tried.new.parts.heard.lines c.keep.new.lines.lines deed e n _
+    (subst (λ (z : Deed). c.keep.new.lines.lines ≡ c.run_step-tried.new.parts.heard.lines ++ heard_by z e n c.as_slice.result.now) c.deed.ensures c.keep.ensures.lines) ∙ ap (λ z. map key_of z.lines ++ key_in deed e n) r.heard in
+    let sized : c.keep.new.lines.room ≡ heard.room = c.keep.ensures.room ∙ ap (λ z. z.room) r.heard in
     let on = s.keeps.on ∙ r.on in
     let serves = s.keeps.serves ∙ r.serves in
     record {
@@ -71,8 +69,8 @@ returns-clause-manned g c =
 pub returns-clause-ran : goal.returns-clause-ran
 returns-clause-ran g c =
     let shared = c.args.shared.now in
-    let e = c.args.element in
-    let n = c.args.number in
+    let e = c.args.begun.now.element in
+    let n = c.args.begun.now.number in
     let old = c.args.parts.now in
     let tried = c.run_step-tried.result in
     let r = c.run_step-tried.ensures in
@@ -80,10 +78,11 @@ returns-clause-ran g c =
     let mid = c.run_step-tried.new.parts in
     let new : Parts = record mid { hand = c.send_on.new.hand; heard = c.keep.new.lines } in
     let sent : SentOn = record { tried = tried; moved = c.send_on.result.moved } in
-    let text = c.run_step-tried.new.heard.items in
+    let text = c.run_step-tried.new.room.heard.items in
     let line = line_in c.args.step.now text in
-    let kept = subst (λ (z : Deed). map line_heard c.keep.new.lines.items ≡ map line_heard mid.heard.items ++ heard_by z e n text) c.deed.ensures c.keep.ensures.lines in
-    let lines = kept ∙ (ap (λ z. map line_heard z.items ++ heard_by tried.deed e n text) r.heard ∙ ap (λ z. map line_heard old.heard.items ++ z) (heard_line c.args.step.now tried.deed e n text r.deed)) in
+    let kept = subst (λ (z : Deed). c.keep.new.lines.lines ≡ mid.heard.lines ++ heard_by z e n c.as_slice.result.now) c.deed.ensures c.keep.ensures.lines in
+    let bytes = ap (λ (z : List ℕ). mid.heard.lines ++ heard_by tried.deed e n z) c.as_slice.ensures.value in
+    let lines = kept ∙ bytes ∙ (ap (λ z. z.lines ++ heard_by tried.deed e n text) r.heard ∙ ap (λ z. old.heard.lines ++ z) (heard_line c.args.step.now tried.deed e n text r.deed)) in
     let last : c.is_last-last.result ≡ is_last (is_done tried.deed) n (length (program shared.plan e)) = search rules in
     let goes = subst (λ k. Goes k tried.deed (is_last (is_done tried.deed) n (length (program shared.plan e))) e sent.moved (view_of mid.hand) (view_of new.hand)) r.same.hand.1
     (subst (λ b. Goes (call_of mid.hand) tried.deed b e sent.moved (view_of mid.hand) (view_of new.hand)) last s.goes) in

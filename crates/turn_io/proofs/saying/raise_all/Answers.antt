@@ -14,7 +14,7 @@ loop-i-init g c = record {
 
 pub loop-i-preserved : goal.loop-i-preserved
 loop-i-preserved g c = let l = c.loop-i.invariant in
-    let below : c.loop-i.i < length c.args.claim.items.items = search rules in record {
+    let below : c.loop-i.i < length c.args.claim.now.items.items = search rules in record {
       queue = search rules;
       same = search rules;
       own = search rules;

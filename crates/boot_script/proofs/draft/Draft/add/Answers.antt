@@ -5,7 +5,7 @@ use Rattle.boot_script.proofs.draft.Draft.add.Goals as goal
 
 pub returns-in-Types : goal.returns-in-Types
 returns-in-Types c = λ d drawn.
-    subst (λ line. Added c.add_text.result c.add_text.new.self (added c.args.version line d)) (sym c.in-Types.is) (c.add_text.ensures c.args.version d drawn)
+    subst (λ line. Added c.add_typed.result c.add_typed.new.self (added c.args.version line d)) (sym c.in-Types.is) (c.add_typed.ensures c.args.version d drawn)
 
 pub returns-in-Alarm : goal.returns-in-Alarm
 returns-in-Alarm c = λ d drawn.

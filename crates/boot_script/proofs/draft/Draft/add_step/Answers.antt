@@ -1,8 +1,6 @@
 use Rattle.std.proofs.Common.{◌≡◌, ◌<◌, ◌+◌, sym, ap, ◌∙◌, arith, length, slice_index_or, slice_set}
 use Rattle.std.proofs.lemmas.List.{length-set}
 use Rattle.std.specs.Prelude.{nat_lt, if◌then◌else◌}
-use Rattle.boot_data.specs.declared.kind.Kind.TheVariants as kind
-use Rattle.boot_script.specs.BootNames.{count_of}
 use Rattle.boot_data.specs.Plans.{steps_at}
 use Rattle.boot_script.specs.Plans.{change_at, with_step}
 use Rattle.boot_script.specs.Drafts.{kept_plan}
@@ -18,8 +16,8 @@ returns c = λ d drawn.
     let here : slice_index_or counts c.args.thread 0 ≡ length (steps_at threads c.args.thread) = drawn.steps c.args.thread below in
     let few : length (steps_at threads c.args.thread) < 64 = omega (arith, c.if-self-at-ge-MOST_STEPS.false, ap (λ i. slice_index_or counts i 0) at, here) in
     let within : c.args.thread < length counts = omega (arith, below, drawn.sizes.1) in
-    let there : nat_lt c.args.thread (length threads) ≡ nat_lt c.from-at.result c.count.result =
-    ap (λ i. nat_lt i (length threads)) (sym at) ∙ ap (nat_lt c.from-at.result) (sym (c.count.ensures.count ∙ (ap (count_of kind.Thread) drawn.names ∙ drawn.threads))) in (
+    let there : nat_lt c.args.thread (length threads) ≡ c.has_thread-there.result =
+    ap (λ i. nat_lt i (length threads)) (sym at) ∙ sym (c.has_thread-there.ensures d drawn) in (
       _,
       goes_ok _ _ _ (step_fits _ few),
       record {
@@ -31,8 +29,8 @@ returns c = λ d drawn.
         alarms = drawn.alarms;
         steps = λ thread h.
             let stored = ap (λ n. slice_index_or (slice_set counts c.from-at.result n) thread 0) c.count_if.ensures in
-            stored ∙ (ap (λ i. slice_index_or (slice_set counts i (if nat_lt c.from-at.result c.count.result then slice_index_or counts i 0 + 1 else slice_index_or counts i 0)) thread 0) at
-            ∙ counts_of_steps (nat_lt c.from-at.result c.count.result) c.args.step threads counts c.args.thread thread there within (drawn.steps thread h) here);
+            stored ∙ (ap (λ i. slice_index_or (slice_set counts i (if c.has_thread-there.result then slice_index_or counts i 0 + 1 else slice_index_or counts i 0)) thread 0) at
+            ∙ counts_of_steps c.has_thread-there.result c.args.step threads counts c.args.thread thread there within (drawn.steps thread h) here);
         sizes = (drawn.sizes.0, length-set counts c.from-at.result c.count_if.result ∙ drawn.sizes.1);
         plan = λ kept. let k = c.both-self.ensures kept in
             ap (with_threads (kept_plan c.args.self.now)) (c.step_at-stepped.ensures k.0 ∙ ap (change_at (with_step c.args.step) c.args.self.now.threads.items) at)

@@ -1,0 +1,200 @@
+//! What threads heard: for each processor its lines, one behind the other in one store of bytes, and for a report the
+//! order of all of them. Who sorts or reports lines moves their places, and no text.
+
+ghost use Rattle.std.specs.Prelude.{◌≡◌, ◌<◌, ◌≤◌, ◌*◌, ◌++◌, ◌∷◌, [], length, map, vec_capacity, IfOk, IfSome};
+ghost use Rattle.std.specs.List.{AllByRecursion, slice_get};
+ghost use Rattle.boot_data.specs.Hearing.{bytes_of, nothing_heard, IsPlace, heard_at, named_line};
+
+use crate::fixed::Name;
+use event_theory::OutOfMemory;
+use std::alloc::Global;
+use std::marker::Model;
+
+/// Where a line stands in its store, and whose it is.
+#[derive(Clone, Copy)]
+struct Mark {
+    thread: u8,
+    step: u8,
+    begin: usize,
+    end: usize,
+}
+
+/// The lines that one processor heard, in the order in which it heard them, with room for so many of up to 256 bytes.
+/// Contracts see the lines, and the room.
+#[derive(Drop)]
+pub struct HeardLines {
+    marks: Vec<Mark>,
+    bytes: Vec<u8>,
+    room: usize,
+}
+
+/// Where a heard line is: the processor that has it, its number among that processor's lines, and whose it is.
+#[derive(Clone, Copy)]
+pub struct HeardPlace {
+    pub thread: u8,
+    pub step: u8,
+    pub processor: usize,
+    pub number: usize,
+}
+
+/// What all processors heard, in an order of their own, with the threads' names. Contracts see the list of named lines.
+#[derive(Drop)]
+pub struct HeardReport {
+    names: Vec<Name>,
+    places: Vec<HeardPlace>,
+    processors: Vec<HeardLines>,
+}
+
+impl Model for HeardLines {
+    ghost use Rattle.std.specs.Prelude.{map, vec_capacity, length, ◌≤◌, ◌*◌};
+    ghost use Rattle.std.specs.List.{AllByRecursion};
+    ghost use Rattle.boot_data.specs.Hearing.{Heard};
+    ghost use Rattle.boot_data.specs.Stores.{line_in, IsWithin};
+
+    ghost Value = { Heard };
+
+    ghost view = { λ h. record { lines = map (line_in h.bytes.items) h.marks.items; room = h.room } };
+
+    ghost invariant = { λ h. (h.room ≤ vec_capacity h.marks) × (256 * h.room ≤ vec_capacity h.bytes)
+        × (length h.marks.items ≤ h.room) × (length h.bytes.items ≤ 256 * length h.marks.items)
+        × AllByRecursion (IsWithin (length h.bytes.items)) h.marks.items };
+}
+
+impl HeardLines {
+    /// No lines, and room for none. Takes no memory.
+    pub fn new(alloc: Global) -> Self
+        ensures { result ≡ nothing_heard }
+    {
+        HeardLines {
+            marks: Vec::new(alloc),
+            bytes: Vec::new(alloc),
+            room: 0,
+        }
+    }
+
+    /// No lines, and room for so many, each of up to 256 bytes. None of this room is written before a line is.
+    /// `OutOfMemory` comes only where an allocation was refused.
+    pub fn with_room(alloc: Global, lines: usize) -> Result<Self, OutOfMemory>
+        requires { lines ≤ 65536 }
+        ensures { IfOk result (λ h. (h.lines ≡ []) × (h.room ≡ lines)) }
+    {
+        let marks = Vec::with_capacity(alloc, lines)?;
+        let bytes = Vec::with_capacity(alloc, 256 * lines)?;
+        Ok(HeardLines {
+            marks,
+            bytes,
+            room: lines,
+        })
+    }
+
+    /// How many lines there are.
+    pub fn len(&self) -> usize
+        ensures { result ≡ length self.now.lines }
+    {
+        self.marks.len()
+    }
+
+    /// Appends a line that a thread heard in the step with this number: the low 8 bits of each item. Takes no memory.
+    ///
+    /// Conditions: there is room for one more line, and it has at most 256 items.
+    pub fn push(&mut self, thread: u8, step: u8, items: &[u64])
+        requires room { length self.old.lines < self.old.room }
+        requires few { length items.now ≤ 256 }
+        ensures lines { self.new.lines ≡ self.old.lines ++ ((thread, step), bytes_of items.now) ∷ [] }
+        ensures room { self.new.room ≡ self.old.room }
+    {
+        let begin = self.bytes.len();
+        for item in items {
+            self.bytes.push_reserved((*item % 256) as u8);
+        }
+        self.marks.push_reserved(Mark {
+            thread,
+            step,
+            begin,
+            end: self.bytes.len(),
+        });
+    }
+
+    /// The thread of the line with this number, and the number of its step.
+    pub fn key(&self, number: usize) -> (u8, u8)
+        requires { number < length self.now.lines }
+        ensures { IfSome (slice_get self.now.lines number) (λ line. line.0 ≡ (result.0, result.1)) }
+    {
+        let mark = self.marks[number];
+        (mark.thread, mark.step)
+    }
+
+    /// The bytes of the line with this number.
+    pub fn bytes(&self, number: usize) -> &[u8]
+        requires { number < length self.now.lines }
+        ensures { IfSome (slice_get self.now.lines number) (λ line. result.now ≡ line.1) }
+    {
+        let mark = self.marks[number];
+        &self.bytes[mark.begin..mark.end]
+    }
+}
+
+impl Model for HeardReport {
+    ghost use Rattle.std.specs.Prelude.{List, map};
+    ghost use Rattle.std.specs.List.{AllByRecursion};
+    ghost use Rattle.boot_data.specs.Hearing.{NamedLine, IsPlace, heard_at, named_line};
+
+    ghost Value = { List NamedLine };
+
+    ghost view = { λ r. map (named_line r.names.items) (map (heard_at r.processors.items) r.places.items) };
+
+    ghost invariant = { λ r. AllByRecursion (IsPlace r.processors.items) r.places.items };
+}
+
+impl HeardReport {
+    /// The lines at these places, in their order, of what the processors heard, with the names of the threads, in
+    /// their order. Takes no memory.
+    ///
+    /// Condition: there is a line at each place, and it is of the thread and step that the place has.
+    pub fn new(names: Vec<Name>, places: Vec<HeardPlace>, processors: Vec<HeardLines>) -> Self
+        requires { AllByRecursion (IsPlace processors.items) places.items }
+        ensures { result ≡ map (named_line names.items) (map (heard_at processors.items) places.items) }
+    {
+        HeardReport {
+            names,
+            places,
+            processors,
+        }
+    }
+
+    /// How many lines there are.
+    pub fn len(&self) -> usize
+        ensures { result ≡ length self.now }
+    {
+        self.places.len()
+    }
+
+    /// The bytes of the name of the thread of the line with this number; none where the thread has no name.
+    pub fn thread(&self, number: usize) -> &[u8]
+        requires { number < length self.now }
+        ensures { IfSome (slice_get self.now number) (λ line. result.now ≡ line.thread) }
+    {
+        let place = self.places[number];
+        match self.names.get(usize::from(place.thread)) {
+            Some(name) => name.as_slice(),
+            None => &[],
+        }
+    }
+
+    /// The number of the step of the line with this number.
+    pub fn step(&self, number: usize) -> u8
+        requires { number < length self.now }
+        ensures { IfSome (slice_get self.now number) (λ line. result ≡ line.step) }
+    {
+        self.places[number].step
+    }
+
+    /// The bytes of the line with this number.
+    pub fn bytes(&self, number: usize) -> &[u8]
+        requires { number < length self.now }
+        ensures { IfSome (slice_get self.now number) (λ line. result.now ≡ line.bytes) }
+    {
+        let place = self.places[number];
+        self.processors[place.processor].bytes(place.number)
+    }
+}

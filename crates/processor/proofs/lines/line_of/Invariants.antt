@@ -1,5 +1,0 @@
-use Rattle.processor.proofs.Common.{◌≡◌, take}
-use Rattle.processor.proofs.lines.line_of.Given as goal
-
-abbrev pub invariant-loop-byte : goal.invariant-loop-byte
-invariant-loop-byte l = l.line.items ≡ take l.byte-index l.byte-items

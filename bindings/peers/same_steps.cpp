@@ -2,8 +2,8 @@
  * The steps of the claim queue in C++, one by one and on words that lie as its words do, with no handle and no proof:
  * what these steps cost where nothing is added to them. Each is sequentially consistent, as the queue's are. With WEAKER
  * the words of the data are stored and loaded relaxed, flags are stored by release, and all else is loaded by acquire,
- * which is as much as the algorithm needs. With SPREAD head and tail lie in cache lines of their own, and each flag
- * beside its datum.
+ * which is as much as the algorithm needs. With TOGETHER head and tail are neighbours, and all flags lie behind all data:
+ * what it would cost not to have head, tail and places in cache lines of their own.
  */
 #include "measure.h"
 #include <array>
@@ -20,11 +20,11 @@ constexpr auto STORE_FLAG = std::memory_order_seq_cst;
 constexpr auto DATA = std::memory_order_seq_cst;
 #endif
 
-#ifdef SPREAD
-constexpr size_t HEAD = 16, TAIL = 48, DATA_AT = 80, FLAGS_AT = 81, NEXT = 2;
-#else
-/* Head, tail and the number of ends, then a word of data for each place, then a flag for each. */
+#ifdef TOGETHER
 constexpr size_t HEAD = 0, TAIL = 1, DATA_AT = 3, FLAGS_AT = 3 + PLACES, NEXT = 1;
+#else
+/* Head and number of ends, then the tail, then the places, each of them in cache lines of their own: datum and flag. */
+constexpr size_t HEAD = 0, TAIL = 8, DATA_AT = 16, FLAGS_AT = 17, NEXT = 2;
 #endif
 
 constexpr uint64_t SHUT = uint64_t{1} << 32;

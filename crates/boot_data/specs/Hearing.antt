@@ -15,10 +15,11 @@ Line = Key × List ℕ
 abbrev pub bytes_of : List ℕ → List ℕ
 bytes_of items = map (λ item. item % 256) items
 
--- the lines that one processor heard, in this order, and how many there is room for
+-- the lines that one processor heard, in this order, how many there is room for, and the most bytes of a line
 pub record Heard : Type 0 where
   pub lines : List Line
   pub room : ℕ
+  pub longest : ℕ
 
 -- a heard line as a report has it: the name of the thread, the number of its step, and the bytes
 pub record NamedLine : Type 0 where
@@ -28,7 +29,7 @@ pub record NamedLine : Type 0 where
 
 -- nothing, with room for nothing
 abbrev pub nothing_heard : Heard
-nothing_heard = record { lines = []; room = 0 }
+nothing_heard = record { lines = []; room = 0; longest = 0 }
 
 -- the line at a place: of these processors' lines
 abbrev pub line_at : List Heard → HeardPlace → Option Line

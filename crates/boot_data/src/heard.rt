@@ -19,13 +19,14 @@ struct Mark {
     end: usize,
 }
 
-/// The lines that one processor heard, in the order in which it heard them, with room for so many of up to 256 bytes.
-/// Contracts see the lines, and the room.
+/// The lines that one processor heard, in the order in which it heard them, with room for so many, and for so many bytes
+/// of each. Contracts see the lines, how many there is room for, and how long the longest may be.
 #[derive(Drop)]
 pub struct HeardLines {
     marks: Vec<Mark>,
     bytes: Vec<u8>,
     room: usize,
+    longest: usize,
 }
 
 /// Where a heard line is: the processor that has it, its number among that processor's lines, and whose it is.
@@ -53,10 +54,10 @@ impl Model for HeardLines {
 
     ghost Value = { Heard };
 
-    ghost view = { λ h. record { lines = map (line_in h.bytes.items) h.marks.items; room = h.room } };
+    ghost view = { λ h. record { lines = map (line_in h.bytes.items) h.marks.items; room = h.room; longest = h.longest } };
 
-    ghost invariant = { λ h. (h.room ≤ vec_capacity h.marks) × (256 * h.room ≤ vec_capacity h.bytes)
-        × (length h.marks.items ≤ h.room) × (length h.bytes.items ≤ 256 * length h.marks.items)
+    ghost invariant = { λ h. (h.room ≤ vec_capacity h.marks) × (h.longest * h.room ≤ vec_capacity h.bytes)
+        × (length h.marks.items ≤ h.room) × (length h.bytes.items ≤ h.longest * length h.marks.items)
         × AllByRecursion (IsWithin (length h.bytes.items)) h.marks.items };
 }
 
@@ -69,21 +70,24 @@ impl HeardLines {
             marks: Vec::new(alloc),
             bytes: Vec::new(alloc),
             room: 0,
+            longest: 0,
         }
     }
 
-    /// No lines, and room for so many, each of up to 256 bytes. None of this room is written before a line is.
-    /// `OutOfMemory` comes only where an allocation was refused.
-    pub fn with_room(alloc: Global, lines: usize) -> Result<Self, OutOfMemory>
-        requires { lines ≤ 65536 }
-        ensures { IfOk result (λ h. (h.lines ≡ []) × (h.room ≡ lines)) }
+    /// No lines, and room for so many, each of up to so many bytes as `longest` says. None of this room is written before
+    /// a line is. `OutOfMemory` comes only where an allocation was refused.
+    pub fn with_room(alloc: Global, lines: usize, longest: usize) -> Result<Self, OutOfMemory>
+        requires lines { lines ≤ 65536 }
+        requires longest { longest ≤ 256 }
+        ensures { IfOk result (λ h. (h.lines ≡ []) × (h.room ≡ lines) × (h.longest ≡ longest)) }
     {
         let marks = Vec::with_capacity(alloc, lines)?;
-        let bytes = Vec::with_capacity(alloc, 256 * lines)?;
+        let bytes = Vec::with_capacity(alloc, longest * lines)?;
         Ok(HeardLines {
             marks,
             bytes,
             room: lines,
+            longest,
         })
     }
 
@@ -96,12 +100,13 @@ impl HeardLines {
 
     /// Appends a line that a thread heard in the step with this number: the low 8 bits of each item. Takes no memory.
     ///
-    /// Conditions: there is room for one more line, and it has at most 256 items.
+    /// Conditions: there is room for one more line, and it is not longer than the longest may be.
     pub fn push(&mut self, thread: u8, step: u8, items: &[u64])
         requires room { length self.old.lines < self.old.room }
-        requires few { length items.now ≤ 256 }
+        requires few { length items.now ≤ self.old.longest }
         ensures lines { self.new.lines ≡ self.old.lines ++ ((thread, step), bytes_of items.now) ∷ [] }
         ensures room { self.new.room ≡ self.old.room }
+        ensures longest { self.new.longest ≡ self.old.longest }
     {
         let begin = self.bytes.len();
         for item in items {

@@ -33,7 +33,7 @@ pub use Rattle.proc_chain.specs.declared.ends.ProcChain.{ProcChain}
 pub use Rattle.processor.specs.Accounts.{Account, account, ◌⊕◌}
 pub use Rattle.processor.specs.Deeds.{IsDeedOf, is_done}
 pub use Rattle.processor.specs.Doings.{heard_by, queues_by, raised_by, told_shut}
-pub use Rattle.processor.specs.Entries.{FollowsPlan, LogEntry, OutcomeFollows, entry_account, gone, outcome_account, tending, turn_told_shut}
+pub use Rattle.processor.specs.Entries.{FollowsPlan, LogEntry, OutcomeFollows, Tended, entry_account, gone, outcome_account, tending, turn_told_shut}
 pub use Rattle.processor.specs.Logs.{Leaves, sum_of, was_shut}
 pub use Rattle.processor.specs.Partings.{AllJoined, AreJoined}
 pub use Rattle.processor.specs.Preparing.{HasDoneAll, preparing}
@@ -65,7 +65,6 @@ pub use Rattle.thread_table.specs.declared.places.Place.{Place}
 pub use Rattle.turn_dispatch.specs.Countings.{counted_step}
 pub use Rattle.turn_dispatch.specs.Sendings.{retired}
 pub use Rattle.turn_dispatch.specs.Tallies.{Tally}
-pub use Rattle.turn_dispatch.specs.declared.alarms.Tended.{Tended}
 pub use Rattle.turn_dispatch.specs.declared.dispatch.Begun.{Begun}
 pub use Rattle.turn_io.proofs.Adding.{queues_add}
 pub use Rattle.turn_io.specs.Accounts.{AtQueue, Stake, at_one, both_stakes, idle_queue, lines_of, no_stake, only, put_if, room_of, shut_if, stake, stakes, taken_if}

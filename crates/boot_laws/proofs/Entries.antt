@@ -99,7 +99,7 @@ none_tended (Some tended) a = λ i. (sym (none_before a.queues) i, a.hand.done, 
 pub turn_is : (plan : BootPlan) (entry : LogEntry) → FollowsPlan plan entry
     → Rests (tried_in (entry_account entry)) (λ q. turn_told_shut q entry) ⊎ Tries plan (tried_in (entry_account entry)) (λ q. turn_told_shut q entry)
 turn_is plan entry p = subst (λ (t : Tried). Rests t (λ q. turn_told_shut q entry) ⊎ Tries plan t (λ q. turn_told_shut q entry))
-    (none_tended entry.turned.tended (outcome_account entry.turned.outcome entry.line)) (by_outcome plan entry.turned.outcome entry.line p)
+    (none_tended entry.tended (outcome_account entry.outcome entry.line)) (by_outcome plan entry.outcome entry.line p)
 
 -- THE STEP OF A DEED
 

@@ -113,7 +113,7 @@ came (outcomes.Had b h) line = both (beginning b) (having b.element b.number h l
 pub all_work : (log : List LogEntry) → Works (sum_of log)
 all_work [] = rests
 all_work (entry ∷ log) = both (entry_account entry) (sum_of log)
-    (both (tending entry.turned.tended) (outcome_account entry.turned.outcome entry.line) (tended entry.turned.tended) (came entry.turned.outcome entry.line)) (all_work log)
+    (both (tending entry.tended) (outcome_account entry.outcome entry.line) (tended entry.tended) (came entry.outcome entry.line)) (all_work log)
 
 -- what was put behind the free elements had done all its steps
 module _ (plan : BootPlan) where
@@ -139,4 +139,4 @@ module _ (plan : BootPlan) where
   pub all_over : (log : List LogEntry) → AllByRecursion (FollowsPlan plan) log → AllByRecursion (HasDoneAll plan) (sum_of log).hand.retired
   all_over [] p = tt
   all_over (entry ∷ log) p = all_append (HasDoneAll plan) (entry_account entry).hand.retired (sum_of log).hand.retired
-      (subst (λ l. AllByRecursion (HasDoneAll plan) (l ++ (outcome_account entry.turned.outcome entry.line).hand.retired)) (sym (tended_done entry.turned.tended)) (came_done entry.turned.outcome entry.line p.0)) (all_over log p.1)
+      (subst (λ l. AllByRecursion (HasDoneAll plan) (l ++ (outcome_account entry.outcome entry.line).hand.retired)) (sym (tended_done entry.tended)) (came_done entry.outcome entry.line p.0)) (all_over log p.1)

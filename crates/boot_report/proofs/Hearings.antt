@@ -5,7 +5,6 @@ use Rattle.std.specs.List.{AllByRecursion, IsDistinct}
 use Rattle.std.proofs.lemmas.List.{map-append}
 use Rattle.boot_data.specs.declared.plan.Step.{Step}
 use Rattle.boot_data.specs.declared.plan.Step.TheVariants as steps
-use Rattle.turn_dispatch.specs.declared.alarms.Tended.{Tended}
 use Rattle.processor.specs.declared.deed.Deed.{Deed}
 use Rattle.processor.specs.declared.deed.Deed.TheVariants as deeds
 use Rattle.processor.specs.declared.outcome.Had.{Had}
@@ -18,7 +17,7 @@ use Rattle.processor.specs.declared.waking.Paid.{Paid}
 use Rattle.processor.specs.Accounts.{Account, ◌⊕◌}
 use Rattle.processor.specs.Deeds.{IsDeedOf}
 use Rattle.processor.specs.Doings.{heard_by}
-use Rattle.processor.specs.Entries.{tending, having, outcome_account, entry_account, HadFollows, OutcomeFollows, FollowsPlan}
+use Rattle.processor.specs.Entries.{Tended, tending, having, outcome_account, entry_account, HadFollows, OutcomeFollows, FollowsPlan}
 use Rattle.processor.specs.Logs.{sum_of}
 use Rattle.processor.specs.Programs.{IsHear, same_key, is_hear, step_of}
 use Rattle.processor.specs.Rooms.{key_of}
@@ -77,7 +76,7 @@ none_heard None more = refl
 none_heard (Some tended) more = refl
 
 by_entry : (plan : BootPlan) (entry : LogEntry) → FollowsPlan plan entry → AllHear plan (entry_account entry).heard
-by_entry plan entry h = subst (AllHear plan) (sym (none_heard entry.turned.tended (outcome_account entry.turned.outcome entry.line))) (by_outcome plan entry.turned.outcome entry.line h)
+by_entry plan entry h = subst (AllHear plan) (sym (none_heard entry.tended (outcome_account entry.outcome entry.line))) (by_outcome plan entry.outcome entry.line h)
 
 by_log : (plan : BootPlan) (log : List LogEntry) → AllByRecursion (FollowsPlan plan) log → AllHear plan (sum_of log).heard
 by_log plan [] h = tt

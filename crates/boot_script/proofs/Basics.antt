@@ -3,3 +3,5 @@ pub mod Cuts
 pub mod Gathered
 pub mod Binds
 pub mod Bools
+pub mod SameWords
+pub mod Seen

@@ -6,3 +6,4 @@ pub mod Plain
 pub mod Readers
 pub mod Rows
 pub mod Openings
+pub mod HeardLines

@@ -14,7 +14,7 @@ ghost use Rattle.boot_data.specs.PlanLimits.{IsPlan};
 use crate::draft::Draft;
 use crate::fault::{ScriptFault, ScriptRefusal};
 use crate::opening::{is_silent, opening};
-use crate::text::first_line;
+use crate::text::seen_line;
 use crate::version::{Script, Version};
 use boot_data::BootPlan;
 use event_theory::Items;
@@ -44,9 +44,9 @@ fn plan_said(alloc: Global, version: Version, text: &[u8]) -> Result<BootPlan, S
     let mut rest = text;
     let mut line_number: u32 = 2;
     while !rest.is_empty() {
-        let (line, after) = first_line(rest);
+        let (line, after, seen) = seen_line(rest);
         if !is_silent(line) {
-            match draft.add_line(alloc, version, line) {
+            match draft.add_line(alloc, version, seen, line) {
                 Ok(()) => {}
                 Err(refusal) => {
                     return Err(ScriptFault {

@@ -4,6 +4,7 @@ ghost use Rattle.std.specs.Prelude.{◌≡◌, IfErr};
 ghost use Rattle.boot_script.specs.BootWords.{boot_word, boot_words, word_named, is_step, has_word, boot_word_of};
 
 use crate::fault::ScriptRefusal;
+use crate::text::same_word;
 use crate::version::Version;
 
 /// What a line of a boot script declares, or what a thread does.
@@ -123,7 +124,7 @@ fn named_word(word: &[u8]) -> Result<BootWord, ScriptRefusal>
     ensures refused { IfErr result (λ refusal. refusal ≡ ScriptRefusal.UnknownWord) }
 {
     for known in BOOT_WORDS {
-        if word == known.word() {
+        if same_word(word, known.word()) {
             return Ok(known);
         }
     }

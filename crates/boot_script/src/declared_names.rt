@@ -8,7 +8,7 @@ ghost use Rattle.boot_script.specs.BootNames.{is_declared, new_name, count_of, m
 ghost use Rattle.boot_script.specs.BootNames.{tty_part, queue_named};
 
 use crate::fault::ScriptRefusal;
-use crate::text::cut;
+use crate::text::{cut, same_word};
 use crate::version::Version;
 use arrayvec::ArrayVec;
 use boot_data::plan::QueueIndex;
@@ -170,7 +170,7 @@ impl Names {
         ensures refused { IfErr result (λ refusal. refusal ≡ ScriptRefusal.NameUnknown) }
     {
         for named in self.names.as_slice() {
-            if name == named.name.as_slice() {
+            if same_word(name, named.name.as_slice()) {
                 return if same_kind(named.kind, kind) {
                     Ok(named.number)
                 } else {
@@ -186,7 +186,7 @@ impl Names {
         ensures { result ≡ is_declared self.now name.now }
     {
         for named in self.names.as_slice() {
-            if name == named.name.as_slice() {
+            if same_word(name, named.name.as_slice()) {
                 return true;
             }
         }

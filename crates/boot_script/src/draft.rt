@@ -4,6 +4,8 @@
 //! the plan itself is not made any longer, and the lines are still checked.
 
 ghost use Rattle.std.specs.Prelude.{◌≡◌, ◌<◌, ◌≤◌, ◌+◌, ◌++◌, ◌∷◌, [], Ok, Some, true, length, nat_lt, if◌then◌else◌};
+ghost use Rattle.std.specs.List.{list_all};
+ghost use Rattle.boot_script.specs.Grammar.{is_printable};
 ghost use Rattle.boot_script.specs.declared.version.Version.{Version};
 ghost use Rattle.boot_script.specs.Plans.{first_draft, add_step, added, line_added, typed_at, change_at, with_text};
 ghost use Rattle.boot_script.specs.Plans.{with_step};
@@ -276,17 +278,19 @@ impl Draft {
         }
     }
 
-    /// A line more.
+    /// A line more. `seen` tells that each byte of it was seen to be printable.
     #[tactic(auto, unfolding(crate::specs::Plans::line_added))]
     pub(crate) fn add_line(
         &mut self,
         alloc: Global,
         version: Version,
+        seen: bool,
         line: &[u8],
     ) -> Result<(), ScriptRefusal>
+        requires { seen ≡ true → list_all is_printable line.now ≡ true }
         ensures { AddsTo self.old result self.new (λ d. line_added version line.now d) }
     {
-        match line_said(version, &self.names, self.going.is_some(), line) {
+        match line_said(version, &self.names, self.going.is_some(), seen, line) {
             Ok(said) => self.add(alloc, version, said),
             Err(refusal) => Err(refusal),
         }

@@ -3,7 +3,8 @@
 //! Lines are gathered in a buffer, which is written out where the next lines don't fit, so that a report goes out in
 //! few writes, each of whole lines.
 
-ghost use Rattle.std.specs.Prelude.{◌≡◌, ◌<◌, ℕ, List, [], OnOk, length, Some, codes};
+ghost use Rattle.std.specs.Prelude.{◌≡◌, ◌<◌, ◌++◌, ℕ, List, [], OnOk, length, Some, codes};
+ghost use Rattle.std.specs.Fmt.{decimal};
 ghost use Rattle.std.specs.Io.KnownBytes.{Appends, append_known};
 ghost use Rattle.std.specs.List.{flat_map, slice_get};
 ghost use Rattle.boot_script.specs.Reports.{named, counts_words, queue_word, queue_line, tty_queue, tty_line};
@@ -13,7 +14,7 @@ ghost use Rattle.boot_script.specs.Reports.{heard_text, heard_line, chained_line
 ghost use Rattle.boot_script.specs.Heard.{shown};
 
 use crate::printing::digits_of;
-use arrayvec::ArrayVec;
+use arrayvec::{ArrayVec, CapacityError};
 use boot_data::{
     AlarmCounts, GaugeLine, HeardReport, ItemCounts, MoverKind, MoverLine, Name, QueueKind,
     QueueLine, Report, ThreadLine, ThreadState, TtyLines,
@@ -371,6 +372,77 @@ fn put_all<L: Lines, W: Write>(
     Ok(())
 }
 
+/// Adds bytes to those in a buffer. Refused where there is no room for all.
+fn add(bytes: &[u8], room: &mut Buffer) -> Result<(), CapacityError>
+    ensures { OnOk result (room.new.items ≡ room.old.items ++ bytes.now) }
+{
+    room.try_extend_from_slice(bytes)
+}
+
+/// Adds the number of a step, of one or two digits, between spaces.
+fn add_step(step: u8, room: &mut Buffer) -> Result<(), CapacityError>
+    requires { step < 100 }
+    ensures { OnOk result (room.new.items ≡ room.old.items ++ (codes " " ++ (decimal step ++ codes " "))) }
+{
+    if step < 10 {
+        return add(&[b' ', b'0' + step, b' '], room);
+    }
+    add(&[b' ', b'0' + step / 10, b'0' + step % 10, b' '], room)
+}
+
+/// Adds a byte of a text: itself, or `\` and two digits.
+#[tactic(auto, unfolding(crate::specs::Reports::written_byte))]
+fn add_byte(byte: u8, room: &mut Buffer) -> Result<(), CapacityError>
+    ensures { OnOk result (room.new.items ≡ room.old.items ++ written_byte byte) }
+{
+    if !is_plain(byte) {
+        let high = upper_digit_of(byte / 16);
+        let low = upper_digit_of(byte % 16);
+        return add(&[b'\\', high, low], room);
+    }
+    add(&[byte], room)
+}
+
+/// Adds the bytes of a line.
+fn add_bytes(bytes: &[u8], room: &mut Buffer) -> Result<(), CapacityError>
+    ensures { OnOk result (room.new.items ≡ room.old.items ++ heard_text bytes.now) }
+{
+    for byte in bytes {
+        add_byte(*byte, room)?;
+    }
+    Ok(())
+}
+
+/// Adds a line that was heard.
+fn add_heard(line: &HeardLine, room: &mut Buffer) -> Result<(), CapacityError>
+    requires { line.now.step < 100 }
+    ensures { OnOk result (room.new.items ≡ room.old.items ++ heard_line (shown line.now)) }
+{
+    add(b"heard ", room)?;
+    add(line.thread, room)?;
+    add_step(line.step, room)?;
+    add_bytes(line.bytes, room)?;
+    add(b"\n", room)
+}
+
+/// Puts a line that was heard in the buffer. `room` is a buffer to put it together in, whatever stands there: with no
+/// writer where its step is below 100, as each is today.
+fn put_line<W: Write>(
+    line: &HeardLine,
+    room: &mut Buffer,
+    buffer: &mut Buffer,
+    out: &mut W,
+) -> io::Result<()>
+    ensures { OnOk result (Appends (append_known (W.contents out.old) buffer.old.items)
+        (append_known (W.contents out.new) buffer.new.items) (heard_line (shown line.now))) }
+{
+    room.clear();
+    if line.step < 100 && add_heard(line, room).is_ok() {
+        return put_text(room.as_slice(), buffer, out);
+    }
+    put(line, room, buffer, out)
+}
+
 /// Puts the lines of what was heard in the buffer.
 fn put_heard<W: Write>(
     heard: &HeardReport,
@@ -382,7 +454,7 @@ fn put_heard<W: Write>(
         (append_known (W.contents out.new) buffer.new.items) (flat_map heard_line heard.now)) }
 {
     for number in 0..heard.len() {
-        put(&line_at(heard, number), own, buffer, out)?;
+        put_line(&line_at(heard, number), own, buffer, out)?;
     }
     Ok(())
 }

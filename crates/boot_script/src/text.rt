@@ -3,10 +3,12 @@
 //! A line ends with 0x0A, words are parted by one space, and a number is the word that prints as its own value.
 
 ghost use Rattle.std.specs.Prelude.{◌≡◌, ◌∷◌, ◌<◌, ◌↔◌, ◌==◌, IsTrue, [], position, ◌≤◌, IfOk, IfErr, length, IfSome};
-ghost use Rattle.std.specs.Prelude.{IfNone};
-ghost use Rattle.std.specs.List.{join_with_byte};
+ghost use Rattle.std.specs.Prelude.{IfNone, not, true};
+ghost use Rattle.std.specs.List.{join_with_byte, list_all};
 ghost use Rattle.std.specs.Option.{option_copied};
+ghost use Rattle.std.specs.Str.{bytes_eq};
 ghost use Rattle.event_theory.specs.Numbers.{u32_max};
+ghost use Rattle.boot_script.specs.Grammar.{is_printable};
 ghost use Rattle.boot_script.specs.Words.{pieces, pieces_left, first_word, later_words, words_of, number_of, lines_of};
 
 use crate::fault::ScriptRefusal;
@@ -30,6 +32,23 @@ pub(crate) fn cut(bytes: &[u8], separator: u8) -> (&[u8], Option<&[u8]>)
         Some(at) => (&bytes[..at], Some(&bytes[at + 1..])),
         None => (bytes, None),
     }
+}
+
+/// Whether two words are the same. They are compared from their ends on, as names mostly differ there.
+pub(crate) fn same_word(one: &[u8], other: &[u8]) -> bool
+    ensures { result ≡ bytes_eq one.now other.now }
+{
+    if one.len() != other.len() {
+        return false;
+    }
+    let mut left = one.len();
+    while left > 0 {
+        left -= 1;
+        if one[left] != other[left] {
+            return false;
+        }
+    }
+    true
 }
 
 /// The words of a line that are still to be read. Contracts see their list.
@@ -148,4 +167,39 @@ pub(crate) fn first_line(text: &[u8]) -> (&[u8], &[u8])
         (line, None) => (line, &[]),
         (line, Some(rest)) => (line, rest),
     }
+}
+
+/// Whether a byte of a line is one of 0x20 to 0x7E, as its end is not.
+fn is_printable(byte: u8) -> bool
+    ensures { result ≡ is_printable byte }
+{
+    (b' '..=b'~').contains(&byte)
+}
+
+/// Where the first byte stands that isn't printable.
+fn place_of_other(text: &[u8]) -> Option<usize>
+    ensures { result ≡ position (λ b. not (is_printable b)) text.now }
+{
+    text.iter().position(|b| !is_printable(*b))
+}
+
+/// The first line, the text behind its end, and whether each byte of the line was seen to be printable. Most lines are
+/// so, and then one look at each byte finds their end too.
+#[tactic(auto, using(crate::proofs::Basics::Seen::line_seen, crate::proofs::Basics::Seen::text_seen, crate::proofs::Basics::Seen::ended_line, crate::proofs::Basics::Seen::only_line))]
+pub(crate) fn seen_line(text: &[u8]) -> (&[u8], &[u8], bool)
+    requires { 0 < length text.now }
+    ensures lines { lines_of text.now ≡ result.0.now ∷ lines_of result.1.now }
+    ensures shorter { length result.1.now < length text.now }
+    ensures seen { result.2 ≡ true → list_all is_printable result.0.now ≡ true }
+{
+    match place_of_other(text) {
+        Some(at) => {
+            if text[at] == b'\n' {
+                return (&text[..at], &text[at + 1..], true);
+            }
+        }
+        None => return (text, &[], true),
+    }
+    let (line, rest) = first_line(text);
+    (line, rest, false)
 }

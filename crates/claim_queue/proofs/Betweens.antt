@@ -24,8 +24,8 @@ place_is : (key : Shape) (s : St) (k : Rule key s) (i : ℕ) → k.now.object.ta
 place_is key s k i from below = let q : Positions = k.now.object in let l = k.listed.lists in let u = up_is q l.runs l.runs_are.flat i below in let x = item_is q l.runs l.runs_are.flat i below in
     let within = k.stands.lawful.within in let p = k.stands.shows.window.each i from (omega arith) in
     let at : (q.first + i) % q.room ≡ (key.first + i) % key.room = (λ z. (k.first z + i) % k.room z) in
-    let flag : flag_in q.room s.words ((q.first + i) % q.room) ≡ flag_in key.room s.words ((key.first + i) % key.room) = (λ z. flag_in (k.room z) s.words (at z)) in
-    let datum : data_in q.room s.words ((q.first + i) % q.room) ≡ data_in key.room s.words ((key.first + i) % key.room) = (λ z. data_in (k.room z) s.words (at z)) in
+    let flag : flag_in s.words ((q.first + i) % q.room) ≡ flag_in s.words ((key.first + i) % key.room) = (λ z. flag_in s.words (at z)) in
+    let datum : data_in s.words ((q.first + i) % q.room) ≡ data_in s.words ((key.first + i) % key.room) = (λ z. data_in s.words (at z)) in
     let first = k.first in record {
       raised = λ h. sym flag ∙ (p.up (leb-true 2 (written_at q i) (sym u ∙ h)) ∙ ap (λ (z : ℕ). z + i + 1) first);
       item = λ h. sym datum ∙ (p.holds (let w = leb-true 2 (written_at q i) (sym u ∙ h) in omega arith) ∙ sym x);

@@ -1,5 +1,5 @@
 -- The names from elsewhere that several proofs of this crate cite, passed on from one place. Declares nothing.
-pub use Rattle.std.proofs.Common.{Bool, Err, List, None, Ok, Result, Some, [], ap, arith, drop, eqb, false, get_or, get_or-set_other, get_or-set_same, inl, inr, length, length-append, length-drop, length-set, map, mod-lt, refl, rules, set, subst, suc, sym, take, true, zero, ℕ, ⊎_elim, ◌%◌, ◌++◌, ◌+◌, ◌-◌, ◌<◌, ◌∙◌, ◌∷◌, ◌≡◌, ◌≢◌, ◌≤◌}
+pub use Rattle.std.proofs.Common.{Bool, Err, List, None, Ok, Result, Some, [], ap, arith, drop, eqb, false, get_or, get_or-set_other, get_or-set_same, inl, inr, length, length-append, length-drop, length-set, map, mod-lt, refl, rules, set, subst, suc, sym, take, true, zero, ℕ, ⊎_elim, ◌%◌, ◌*◌, ◌++◌, ◌+◌, ◌-◌, ◌<◌, ◌∙◌, ◌∷◌, ◌≡◌, ◌≢◌, ◌≤◌}
 pub use Rattle.std.proofs.Math.Bool.{Bool-set}
 pub use Rattle.std.proofs.Math.Bridge.{le_prop}
 pub use Rattle.std.proofs.Math.Logic.{∥∥₁_elim, ∥∥₁_map}
@@ -55,6 +55,7 @@ pub use Rattle.claim_queue.specs.Takings.{HasRaised, IsBegun, IsLine, IsNone, Is
 pub use Rattle.claim_queue.specs.declared.claim.ClaimRefusal.{ClaimRefusal}
 pub use Rattle.claim_queue.specs.declared.claim.ClaimRefusal.TheVariants.{Closed, Full, Lost, NoItems, Spent, TooLong}
 pub use Rattle.claim_queue.specs.declared.ends.QueueEnd.{QueueEnd}
+pub use Rattle.claim_queue.specs.declared.layout.TheConstants.{FIRST_PLACE}
 pub use Rattle.claim_queue.specs.declared.rule.Did.{Did}
 pub use Rattle.claim_queue.specs.declared.rule.Shape.{Shape}
 pub use Rattle.claim_queue.specs.declared.take.TakeRefusal.{TakeRefusal}

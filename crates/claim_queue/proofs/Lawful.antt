@@ -1,5 +1,5 @@
 -- What the number of a real step says, and which event its change is.
-use Rattle.claim_queue.proofs.Common.{◌≡◌, ◌≢◌, ℕ, ◌+◌, ◌-◌, ◌%◌, ◌<◌, ◌≤◌, Bool, true, false, List, [], ◌∷◌, ◌++◌, map, length, length-append, get_or, set, refl, sym, ap, ◌∙◌, subst, arith, Ok, length-map, some, get_elem?, Batch, Cell, Positions, QueueView, Moment, Step, load, change, IsReal, ViewsShow, written_to, Lawful, Grows, blank, fresh, place_at, item_at, written_at, head_of, tail_of, with_claim, with_take, with_shut, spot, own, run_stands, IsPlace, head_word, tail_word, data_word, flag_word, mark, data_in, flag_in, of_queues, run, taking}
+use Rattle.claim_queue.proofs.Common.{◌≡◌, ◌≢◌, ℕ, ◌+◌, ◌-◌, ◌*◌, ◌%◌, ◌<◌, ◌≤◌, Bool, true, false, List, [], ◌∷◌, ◌++◌, map, length, length-append, get_or, set, refl, sym, ap, ◌∙◌, subst, arith, Ok, length-map, some, get_elem?, Batch, Cell, Positions, QueueView, Moment, Step, load, change, IsReal, ViewsShow, written_to, Lawful, Grows, blank, fresh, place_at, item_at, written_at, head_of, tail_of, with_claim, with_take, with_shut, spot, own, run_stands, IsPlace, FIRST_PLACE, head_word, tail_word, data_word, flag_word, mark, data_in, flag_in, of_queues, run, taking}
 use Rattle.event_theory.specs.Marks.{shut}
 use Rattle.event_theory.specs.Queues.{claim, raise, take_first}
 use Rattle.table_theory.specs.QueueOf.{IsEvent, no_event}
@@ -28,22 +28,22 @@ tail_says e is r = at_word of_queues e tail_word is r ∙ r.shows.tail
 spot_is : (q : Positions) (position : ℕ) → q.first ≤ position → spot q (position - q.first) ≡ position % q.room
 spot_is q position from = let e : q.first + (position - q.first) ≡ position = omega arith in ap (λ (z : ℕ). z % q.room) e
 
-flag_found : (e : Step Positions) (position : ℕ) → e.word ≡ flag_word e.then.object.room position → (r : IsReal of_queues e) → e.then.object.first ≤ position → e.found ≡ flag_in e.then.object.room r.words (spot e.then.object (position - e.then.object.first))
-flag_found e position is r from = let q : Positions = e.then.object in let s = spot_is q position from in at_word of_queues e (flag_word q.room position) is r ∙ ap (λ (z : ℕ). get_or r.words z 0) (let g : position % q.room + q.room + 3 ≡ q.room + spot q (position - q.first) + 3 = omega arith in g)
+flag_found : (e : Step Positions) (position : ℕ) → e.word ≡ flag_word e.then.object.room position → (r : IsReal of_queues e) → e.then.object.first ≤ position → e.found ≡ flag_in r.words (spot e.then.object (position - e.then.object.first))
+flag_found e position is r from = let q : Positions = e.then.object in let s = spot_is q position from in at_word of_queues e (flag_word q.room position) is r ∙ ap (λ (z : ℕ). get_or r.words z 0) (let g : flag_word q.room position ≡ 2 * spot q (position - q.first) + FIRST_PLACE + 1 = omega arith in g)
 
 pub raised_says : (e : Step Positions) (position : ℕ) → e.word ≡ flag_word e.then.object.room position → IsReal of_queues e → e.then.object.first ≤ position → position < tail_of e.then.object + e.then.object.room → e.found ≡ position + 1 → 2 ≤ written_at e.then.object (position - e.then.object.first)
 raised_says e position is r from to found = let q : Positions = e.then.object in
-    found_raised q (flag_in q.room r.words) (data_in q.room r.words) (position - q.first) r.shows.window r.lawful (omega arith) (sym (flag_found e position is r from) ∙ (found ∙ (let g : position + 1 ≡ q.first + (position - q.first) + 1 = omega arith in g)))
+    found_raised q (flag_in r.words) (data_in r.words) (position - q.first) r.shows.window r.lawful (omega arith) (sym (flag_found e position is r from) ∙ (found ∙ (let g : position + 1 ≡ q.first + (position - q.first) + 1 = omega arith in g)))
 
 pub low_says : (e : Step Positions) (position : ℕ) → e.word ≡ flag_word e.then.object.room position → IsReal of_queues e → tail_of e.then.object ≤ position → position < tail_of e.then.object + e.then.object.room → e.found ≢ position + 1 → written_at e.then.object (position - e.then.object.first) < 2
 low_says e position is r from to ne = let q : Positions = e.then.object in
-    found_not_raised q (flag_in q.room r.words) (data_in q.room r.words) (position - q.first) r.shows.window (omega arith) (omega arith)
+    found_not_raised q (flag_in r.words) (data_in r.words) (position - q.first) r.shows.window (omega arith) (omega arith)
     (λ h. ne (flag_found e position is r (omega arith) ∙ (h ∙ (let g : q.first + (position - q.first) + 1 ≡ position + 1 = omega arith in g))))
 
 pub item_says : (e : Step Positions) (position : ℕ) → e.word ≡ data_word e.then.object.room position → IsReal of_queues e → tail_of e.then.object ≤ position → position < tail_of e.then.object + e.then.object.room → 1 ≤ written_at e.then.object (position - e.then.object.first)
     → e.found ≡ item_at e.then.object (position - e.then.object.first)
 item_says e position is r from to up = let q : Positions = e.then.object in let s = spot_is q position (omega arith) in
-    at_word of_queues e (data_word q.room position) is r ∙ (ap (λ (z : ℕ). get_or r.words z 0) (let g : position % q.room + 3 ≡ spot q (position - q.first) + 3 = omega arith in g) ∙ (r.shows.window.each (position - q.first) (omega arith) (omega arith)).holds up)
+    at_word of_queues e (data_word q.room position) is r ∙ (ap (λ (z : ℕ). get_or r.words z 0) (let g : data_word q.room position ≡ 2 * spot q (position - q.first) + FIRST_PLACE = omega arith in g) ∙ (r.shows.window.each (position - q.first) (omega arith) (omega arith)).holds up)
 
 -- CHANGES
 

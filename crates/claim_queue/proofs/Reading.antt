@@ -1,5 +1,5 @@
 -- What a number that was found says of the queue that the end then sees.
-use Rattle.claim_queue.proofs.Common.{◌≡◌, ◌≢◌, ℕ, ◌+◌, ◌-◌, ◌<◌, ◌≤◌, false, map, get_or, refl, sym, ap, ◌∙◌, subst, arith, at_map, Cell, Positions, Moment, load, IsReal, Distinct, blank, item_at, written_at, head_of, tail_of, run_stands, data_word, flag_word, View, of_queues, part_of, IsRuled, Found, HasRaised}
+use Rattle.claim_queue.proofs.Common.{◌≡◌, ◌≢◌, ℕ, ◌+◌, ◌-◌, ◌<◌, ◌≤◌, false, map, get_or, refl, sym, ap, ◌∙◌, subst, arith, at_map, Cell, Positions, Moment, load, IsReal, Distinct, blank, item_at, written_at, head_of, tail_of, run_stands, head_word, tail_word, data_word, flag_word, View, of_queues, part_of, IsRuled, Found, HasRaised}
 use Rattle.table_theory.proofs.Listing.{distinct}
 use Rattle.claim_queue.proofs.Lawful.{head_open, tail_says, raised_says, low_says, item_says}
 use Rattle.claim_queue.proofs.Stepping.{first_room, step_real}
@@ -45,8 +45,8 @@ module _ (v w : View) (word r room position : ℕ) (s : Found v word r w) (rooms
       item_says (load word r w.seen) position (at ∙ ap (λ z. data_word z position) rooms_now) real past near.1 (subst (λ (z : ℕ). 1 ≤ written_at w.seen.object z) same (let g : 1 ≤ written_at w.seen.object (position - v.seen.object.first) = omega arith in g))
 
 -- a head that was found without the mark is that of an open queue
-pub found_head : (v w : View) (head : ℕ) → Found v 0 head w → head < 4294967296 → (w.seen.object.shut ≡ false) × (head ≡ head_of w.seen.object)
-found_head v w head f bounded = head_open head w.seen (step_real v w (load 0 head w.seen) v.own f) bounded
+pub found_head : (v w : View) (head : ℕ) → Found v head_word head w → head < 4294967296 → (w.seen.object.shut ≡ false) × (head ≡ head_of w.seen.object)
+found_head v w head f bounded = head_open head w.seen (step_real v w (load head_word head w.seen) v.own f) bounded
 
-pub found_tail : (v w : View) (tail : ℕ) → Found v 1 tail w → (tail ≡ tail_of w.seen.object) × (tail < 4294967296)
-found_tail v w tail f = let r = step_real v w (load 1 tail w.seen) v.own f in let is = tail_says (load 1 tail w.seen) refl r in let bounded = r.shows.bounded in let behind = r.lawful.behind in (is, omega arith)
+pub found_tail : (v w : View) (tail : ℕ) → Found v tail_word tail w → (tail ≡ tail_of w.seen.object) × (tail < 4294967296)
+found_tail v w tail f = let r = step_real v w (load tail_word tail w.seen) v.own f in let is = tail_says (load tail_word tail w.seen) refl r in let bounded = r.shows.bounded in let behind = r.lawful.behind in (is, omega arith)

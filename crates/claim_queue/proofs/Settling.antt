@@ -1,5 +1,5 @@
 -- What is read of a closed table.
-use Rattle.claim_queue.proofs.Common.{◌≡◌, ◌≢◌, ℕ, zero, suc, ◌+◌, ◌-◌, ◌%◌, ◌<◌, ◌≤◌, Bool, true, false, Some, None, List, [], ◌∷◌, length, get_or, map, drop, sym, ap, ◌∙◌, subst, arith, lt-ltb, le-ltb, if◌then◌else◌, dite, dec_lt, get_elem?, Positions, QueueView, Moment, Part, PartsShow, ViewsShow, blank, place_at, item_at, written_at, head_of, IsWhole, grows_refl, at_map, Shape, left_at, left_from, shown, ends_word, data_word, flag_word, mark, data_in, flag_in, View, part_of, shuts_of, Rule, IsRuled, WordsShow}
+use Rattle.claim_queue.proofs.Common.{◌≡◌, ◌≢◌, ℕ, zero, suc, ◌+◌, ◌-◌, ◌%◌, ◌<◌, ◌≤◌, Bool, true, false, Some, None, List, [], ◌∷◌, length, get_or, map, drop, sym, ap, ◌∙◌, subst, arith, lt-ltb, le-ltb, if◌then◌else◌, dite, dec_lt, get_elem?, Positions, QueueView, Moment, Part, PartsShow, ViewsShow, blank, place_at, item_at, written_at, head_of, IsWhole, grows_refl, at_map, Shape, left_at, left_from, shown, head_word, tail_word, ends_word, data_word, flag_word, mark, data_in, flag_in, View, part_of, shuts_of, Rule, IsRuled, WordsShow}
 use Rattle.std.proofs.Common.{eq-eqb, ne_eqb, Option}
 use Rattle.std.proofs.lemmas.List.{drop_more, drop_all}
 use mathlib.Core.Option as maybe
@@ -17,7 +17,7 @@ use Rattle.claim_queue.proofs.Stepping.{St}
 
 -- a place that is left reads as its item, if it was raised
 pub left_shown : (q : Positions) (ws : List ℕ) (i : ℕ) → WordsShow q ws → q.taken ≤ i → i < q.taken + q.room → left_at q.room ws (q.first + i) ≡ shown (place_at q i)
-left_shown q ws i h from to = let p : ℕ = q.first + i in let s : ℕ = p % q.room in let pl = h.window.each i from to in let flag : ℕ = get_or ws (q.room + s + 3) 0 in let datum : ℕ = get_or ws (s + 3) 0 in
+left_shown q ws i h from to = let p : ℕ = q.first + i in let pl = h.window.each i from to in let flag : ℕ = get_or ws (flag_word q.room p) 0 in let datum : ℕ = get_or ws (data_word q.room p) 0 in
     dite (dec_lt (written_at q i) 2)
     (λ low. let f = pl.low low in let ne : flag ≢ p + 1 = (λ e. omega arith) in
     ap (λ (b : Bool). if b then Some datum else None) (ne_eqb flag (p + 1) ne) ∙ sym (ap (λ (b : Bool). if b then None else Some (item_at q i)) (lt-ltb (written_at q i) 2 low)))
@@ -29,12 +29,12 @@ left_all q ws (suc n) i h from long within = let e : suc (q.first + i) ≡ q.fir
     (λ k. left_shown q ws i h from (omega arith) k ∷ (ap (λ (z : ℕ). left_from q.room ws z n) e ∙ left_all q ws n (i + 1) h (omega arith) (omega arith) within) k) ∙ sym (ap (map shown) (drop_more q.places i blank (omega arith)))
 
 pub read_some : (room : ℕ) (ws : List ℕ) (p u t flag x : ℕ) → u ≡ flag_word room p → t ≡ data_word room p → get_elem? ws u ≡ maybe.some flag → flag ≡ p + 1 → get_elem? ws t ≡ maybe.some x → Some x ≡ left_at room ws p
-read_some room ws p u t flag x flag_at data_at f is d = let e : room + p % room + 3 ≡ u = omega arith in let g : ℕ = flag_in room ws (p % room) in let y : ℕ = data_in room ws (p % room) in
-    ap Some (sym (ap (λ (z : ℕ). get_or ws z 0) (sym data_at) ∙ read_word ws t x d)) ∙ sym (ap (λ (b : Bool). if b then Some y else None) (eq-eqb g (p + 1) (ap (λ (z : ℕ). get_or ws z 0) e ∙ read_word ws u flag f ∙ is)))
+read_some room ws p u t flag x flag_at data_at f is d = let g : ℕ = flag_in ws (p % room) in let y : ℕ = data_in ws (p % room) in
+    ap Some (sym (ap (λ (z : ℕ). get_or ws z 0) (sym data_at) ∙ read_word ws t x d)) ∙ sym (ap (λ (b : Bool). if b then Some y else None) (eq-eqb g (p + 1) (ap (λ (z : ℕ). get_or ws z 0) (sym flag_at) ∙ read_word ws u flag f ∙ is)))
 
 pub read_none : (room : ℕ) (ws : List ℕ) (p u flag : ℕ) → u ≡ flag_word room p → get_elem? ws u ≡ maybe.some flag → flag ≢ p + 1 → None ≡ left_at room ws p
-read_none room ws p u flag flag_at f is = let e : room + p % room + 3 ≡ u = omega arith in let g : ℕ = flag_in room ws (p % room) in let y : ℕ = data_in room ws (p % room) in
-    sym (ap (λ (b : Bool). if b then Some y else None) (ne_eqb g (p + 1) (λ o. is (sym (ap (λ (z : ℕ). get_or ws z 0) e ∙ read_word ws u flag f) ∙ o))))
+read_none room ws p u flag flag_at f is = let g : ℕ = flag_in ws (p % room) in let y : ℕ = data_in ws (p % room) in
+    sym (ap (λ (b : Bool). if b then Some y else None) (ne_eqb g (p + 1) (λ o. is (sym (ap (λ (z : ℕ). get_or ws z 0) (sym flag_at) ∙ read_word ws u flag f) ∙ o))))
 
 low_of : (n h : ℕ) (b : Bool) → n < 4294967296 → h ≡ n + mark b → h % 4294967296 ≡ n
 low_of n h true bounded is = omega arith
@@ -52,12 +52,12 @@ closed_lists v l = record { lists = l; seen = first_seen v.seen.object (part_of 
 pub whole_lists : (v : View) → IsRuled v → IsWhole v.member.share → ViewsShow v.seen.object (part_of v ∷ [])
 whole_lists v r whole = closed_lists v (subst (λ (z : Moment Positions). PartsShow z.object (part_of v ∷ [])) (sym r.seen) (sole r.key r.state r.rule r.number v r.here whole))
 
-pub closes : (key : Shape) (v w : View) (found id h t put taken : ℕ) (ws : List ℕ) (xs : List Unit) (left : List (Option ℕ)) (at : ℕ) → v.member.ends ≡ 1 → key.first ≡ at → Tallied ends_word v found w → found ≡ 1 → Final (Seen (Rule key) id w) ws xs → get_elem? ws 0 ≡ maybe.some h → get_elem? ws 1 ≡ maybe.some t
+pub closes : (key : Shape) (v w : View) (found id h t put taken : ℕ) (ws : List ℕ) (xs : List Unit) (left : List (Option ℕ)) (at : ℕ) → v.member.ends ≡ 1 → key.first ≡ at → Tallied ends_word v found w → found ≡ 1 → Final (Seen (Rule key) id w) ws xs → get_elem? ws head_word ≡ maybe.some h → get_elem? ws tail_word ≡ maybe.some t
     → put ≡ h % 4294967296 - key.first → taken ≡ t - key.first → left ≡ left_from key.room ws t (h % 4294967296 - t) → ClosedNow v at put taken left
 closes key v w found id h t put taken ws xs left at one_end at_is tallied one fin at_h at_t put_is taken_is left_is =
     let s : St = fin.0 in let k = fin.1.0 in let here = fin.1.1 in let q : Positions = k.now.object in let sh : WordsShow q ws = subst (WordsShow q) fin.2 k.stands.shows in
     let c = closed k.stands id v w here ends_word found tallied one one_end in let first = k.first in let bounded = sh.bounded in let behind = k.stands.lawful.behind in let most = k.stands.lawful.within in
-    let hd : h % 4294967296 ≡ head_of q = low_of (head_of q) h q.shut bounded (sym (read_word ws 0 h at_h) ∙ sh.head) in let tl : t ≡ q.first + q.taken = sym (read_word ws 1 t at_t) ∙ sh.tail in
+    let hd : h % 4294967296 ≡ head_of q = low_of (head_of q) h q.shut bounded (sym (read_word ws head_word h at_h) ∙ sh.head) in let tl : t ≡ q.first + q.taken = sym (read_word ws tail_word t at_t) ∙ sh.tail in
     let n : h % 4294967296 - t ≡ length q.places - q.taken = omega arith in let tk : taken ≡ q.taken = omega arith in let listed = sole key s k id w here (ap (λ (z : Part). z.share) tallied.made.member ∙ c.whole) in
     let is : left ≡ map shown (drop q.taken q.places) = left_is ∙ ((λ i. left_from (sym k.room i) ws (tl i) (n i)) ∙ left_all q ws (length q.places - q.taken) q.taken sh (omega arith) (omega arith) most) in
     transport (λ i. ClosedNow (record v { own = tallied.made.did i; seen = c.now_is i }) at put taken left) record {

@@ -1,5 +1,5 @@
 -- The step that shuts the queue keeps the rule.
-use Rattle.claim_queue.proofs.Common.{◌≡◌, ℕ, ◌+◌, ◌<◌, ◌≤◌, Bool, true, false, map, get_or, refl, ap, ◌∙◌, arith, length-set, get_or-set_same, get_or-set_other, if◌then◌else◌, lt-ltb, le-ltb, none, Me, step, Allows, Positions, with_shut, head_of, at_map, grows_refl, Did, Shape, was_shut, mark, data_in, flag_in, View, part_of, times_shut, Rule}
+use Rattle.claim_queue.proofs.Common.{◌≡◌, ℕ, ◌+◌, ◌<◌, ◌≤◌, Bool, true, false, map, get_or, refl, ap, ◌∙◌, arith, length-set, get_or-set_same, get_or-set_other, if◌then◌else◌, lt-ltb, le-ltb, none, Me, step, Allows, Positions, with_shut, head_of, at_map, grows_refl, Did, Shape, was_shut, head_word, tail_word, mark, data_in, flag_in, View, part_of, times_shut, Rule}
 use Rattle.std.proofs.Common.{◌*◌, ◌^◌}
 use Rattle.std.specs.Prelude.{nat_lt}
 use Rattle.std.proofs.lemmas.Nat.{or_block, or_comm}
@@ -25,16 +25,16 @@ shut_more q y is bounded = once q.shut is
     once true e = ap (λ (z : Bool). 1 + (if z then 1 else 0)) (le-ltb y 4294967296 (omega arith))
     once false e = ap (λ (z : Bool). 0 + (if z then 1 else 0)) (lt-ltb y 4294967296 (omega arith))
 
-pub shuts_head : (key : Shape) (n id : ℕ) (me : Me Unit View) → 1 ≤ me.0.member.ends → Allows (Rule key) n id me 0 (λ x. bit_or x 4294967296) (shuts (step n 0 4294967296 0 none) me)
-shuts_head key n id me live s k _ at _ = let v : View = me.0 in let q : Positions = k.now.object in let h = k.stands.shows in let y : ℕ = get_or s.words 0 0 in let new : ℕ = bit_or y 4294967296 in let own : Did = with_shutting v.own (nat_lt y 4294967296) in
+pub shuts_head : (key : Shape) (n id : ℕ) (me : Me Unit View) → 1 ≤ me.0.member.ends → Allows (Rule key) n id me head_word (λ x. bit_or x 4294967296) (shuts (step n head_word 4294967296 0 none) me)
+shuts_head key n id me live s k _ at _ = let v : View = me.0 in let q : Positions = k.now.object in let h = k.stands.shows in let y : ℕ = get_or s.words head_word 0 in let new : ℕ = bit_or y 4294967296 in let own : Did = with_shutting v.own (nat_lt y 4294967296) in
     let is : new ≡ head_of q + 4294967296 = ap (λ (z : ℕ). bit_or z 4294967296) h.head ∙ marked (head_of q) q.shut h.bounded in let wide = h.wide in
-    acts key n id me s k at 0 y new own (with_shut q) (shuts (step n 0 4294967296 0 none) me y) live (λ e. absurd (omega arith)) refl (was_shut refl)
+    acts key n id me s k at head_word y new own (with_shut q) (shuts (step n head_word 4294967296 0 none) me y) live (λ e. absurd (omega arith)) refl (was_shut refl)
     record {
-      wide = length-set s.words 0 new ∙ h.wide;
+      wide = length-set s.words head_word new ∙ h.wide;
       bounded = h.bounded;
-      head = get_or-set_same s.words 0 new 0 (omega arith) ∙ is;
-      tail = get_or-set_other s.words 0 1 new 0 (λ e. omega arith) ∙ h.tail;
-      window = window_kept (with_shut q) q.room s.words 0 new (omega arith) (window_shut q (flag_in q.room s.words) (data_in q.room s.words) h.window);
+      head = get_or-set_same s.words head_word new 0 (omega arith) ∙ is;
+      tail = get_or-set_other s.words head_word tail_word new 0 (λ e. omega arith) ∙ h.tail;
+      window = window_kept (with_shut q) s.words head_word new (omega arith) (window_shut q (flag_in s.words) (data_in s.words) h.window);
     }
     (listed_shut q (map part_of s.views) id (part_of v) (record { queue = with_shut q; runs = v.own.runs; takes = v.own.takes }) k.listed (at_map part_of s.views id v at) refl refl (grows_refl (with_shut q)))
     (let m = shut_more q y h.head h.bounded in let e : times_shut q + own.shuts ≡ 1 + v.own.shuts = omega arith in e) (λ w stays step. (stays, (k.now, step)))

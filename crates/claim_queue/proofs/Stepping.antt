@@ -1,5 +1,5 @@
 -- What every step keeps and tells: the rule after an event and after a look.
-use Rattle.claim_queue.proofs.Common.{◌≡◌, ◌≢◌, ◌≤◌, ◌<◌, ◌+◌, ℕ, List, [], ◌∷◌, map, get_or, get_or-set_other, set, length-set, sym, refl, ap, ◌∙◌, subst, arith, map-set, some, none, get_elem?, Me, step, Allows, at_map, set_here, Positions, Moment, Step, change, IsReal, IsHonest, ViewsShow, Grows, listed_look, at_below, grows_refl, entries_real, Goes, total_set, total_kept, Did, Shape, Becomes, empty, data_in, flag_in, View, of_queues, nothing_did, part_of, shuts_of, times_shut, Rule, IsRuled, WordsShow, Stepped}
+use Rattle.claim_queue.proofs.Common.{◌≡◌, ◌≢◌, ◌≤◌, ◌<◌, ◌+◌, ◌*◌, ℕ, List, [], ◌∷◌, map, get_or, get_or-set_other, set, length-set, sym, refl, ap, ◌∙◌, subst, arith, map-set, some, none, get_elem?, Me, step, Allows, at_map, set_here, Positions, Moment, Step, change, IsReal, IsHonest, ViewsShow, Grows, listed_look, at_below, grows_refl, entries_real, Goes, total_set, total_kept, Did, Shape, Becomes, empty, FIRST_PLACE, head_word, tail_word, ends_word, data_in, flag_in, View, of_queues, nothing_did, part_of, shuts_of, times_shut, Rule, IsRuled, WordsShow, Stepped}
 use Rattle.atomic_table.specs.Table.{State, keeps}
 use Rattle.table_theory.specs.Ledgers.{Stands}
 use Rattle.table_theory.specs.Windows.{PlacesShow}
@@ -13,18 +13,18 @@ use Rattle.claim_queue.proofs.Growing.{becomes_grows, becomes_lawful}
 abbrev pub St : Type 0
 St = State Unit View
 
--- the places are shown as before where one of the first three words becomes y
-pub window_kept : (q : Positions) (room : ℕ) (words : List ℕ) (i y : ℕ) → i < 3 → PlacesShow q (flag_in room words) (data_in room words) → PlacesShow q (flag_in room (set words i y)) (data_in room (set words i y))
-window_kept q room words i y low h = window_same q (flag_in room words) (data_in room words) (flag_in room (set words i y)) (data_in room (set words i y)) h
-    (λ k b. get_or-set_other words i (room + k + 3) y 0 (λ e. omega arith)) (λ k b. get_or-set_other words i (k + 3) y 0 (λ e. omega arith))
+-- the places are shown as before where a word before theirs becomes y
+pub window_kept : (q : Positions) (words : List ℕ) (i y : ℕ) → i < FIRST_PLACE → PlacesShow q (flag_in words) (data_in words) → PlacesShow q (flag_in (set words i y)) (data_in (set words i y))
+window_kept q words i y low h = window_same q (flag_in words) (data_in words) (flag_in (set words i y)) (data_in (set words i y)) h
+    (λ k b. get_or-set_other words i (2 * k + FIRST_PLACE + 1) y 0 (λ e. omega arith)) (λ k b. get_or-set_other words i (2 * k + FIRST_PLACE) y 0 (λ e. omega arith))
 
-pub shows_count : (q : Positions) (words : List ℕ) (y : ℕ) → WordsShow q words → WordsShow q (set words 2 y)
+pub shows_count : (q : Positions) (words : List ℕ) (y : ℕ) → WordsShow q words → WordsShow q (set words ends_word y)
 shows_count q words y h = record {
-  wide = length-set words 2 y ∙ h.wide;
+  wide = length-set words ends_word y ∙ h.wide;
   bounded = h.bounded;
-  head = get_or-set_other words 2 0 y 0 (λ e. omega arith) ∙ h.head;
-  tail = get_or-set_other words 2 1 y 0 (λ e. omega arith) ∙ h.tail;
-  window = window_kept q q.room words 2 y (omega arith) h.window;
+  head = get_or-set_other words ends_word head_word y 0 (λ e. omega arith) ∙ h.head;
+  tail = get_or-set_other words ends_word tail_word y 0 (λ e. omega arith) ∙ h.tail;
+  window = window_kept q words ends_word y (omega arith) h.window;
 }
 
 -- what an end has seen leads to the queue as it is
@@ -74,7 +74,7 @@ step_real v w e own s = (entries_real of_queues v w (e ∷ []) (honest w s.ruled
 
 module _ (key : Shape) (n id : ℕ) (me : Me Unit View) (s : St) (k : Rule key s) (at : get_elem? s.views id ≡ some me.0) where
   -- an event of a live end, which found this number in the word i, keeps the rule
-  pub acts : (i found y : ℕ) (own : Did) (o : Positions) (P : Me Unit View → Type 0) → 1 ≤ me.0.member.ends → i ≢ 2 → found ≡ get_or s.words i 0 → Becomes k.now.object o → WordsShow o (set s.words i y)
+  pub acts : (i found y : ℕ) (own : Did) (o : Positions) (P : Me Unit View → Type 0) → 1 ≤ me.0.member.ends → i ≢ ends_word → found ≡ get_or s.words i 0 → Becomes k.now.object o → WordsShow o (set s.words i y)
       → ViewsShow o (set (map part_of s.views) id (record { queue = o; runs = own.runs; takes = own.takes })) → times_shut k.now.object + own.shuts ≡ times_shut o + me.0.own.shuts
       → ((w : View) → Stays me (w, me.1) → Stepped me.0 (change i found k.now o) own w → P (w, me.1)) → Goes (table key) n id me s i y P
   acts i found y own o P live beside is b shows listed shuts tells =

@@ -1,5 +1,5 @@
 -- The steps that make, split, join and count ends keep the rule.
-use Rattle.claim_queue.proofs.Common.{◌≡◌, ℕ, ◌+◌, ◌-◌, ◌%◌, ◌<◌, ◌≤◌, List, [], ◌∷◌, ◌++◌, map, length, get_or, set, sym, refl, ap, ◌∙◌, subst, arith, mod-lt, length-set, get_or-set_same, get_or-set_other, map-set, map-append, some, none, get_elem?, Me, step, Allows, at_map, set_else, at_last, at_longer, set_here, Positions, QueueView, both, emptied, ViewsShow, spot, listed_look, at_below, grows_refl, total_kept, total_set, Shape, empty, View, of_queues, nothing_did, did_both, part_of, shuts_of, Rule, newcomer, IsRuled}
+use Rattle.claim_queue.proofs.Common.{◌≡◌, ℕ, ◌+◌, ◌-◌, ◌%◌, ◌<◌, ◌≤◌, List, [], ◌∷◌, ◌++◌, map, length, get_or, set, sym, refl, ap, ◌∙◌, subst, arith, mod-lt, length-set, get_or-set_same, get_or-set_other, map-set, map-append, some, none, get_elem?, Me, step, Allows, at_map, set_else, at_last, at_longer, set_here, Positions, QueueView, both, emptied, ViewsShow, spot, listed_look, at_below, grows_refl, total_kept, total_set, head_word, tail_word, ends_word, flag_word, Shape, empty, View, of_queues, nothing_did, did_both, part_of, shuts_of, Rule, newcomer, IsRuled}
 use Rattle.std.proofs.Common.{replicate}
 use Rattle.std.proofs.lemmas.List.{length-replicate, get_or-replicate}
 use Rattle.atomic_table.specs.Table.{Splits, Joins, opening}
@@ -9,20 +9,21 @@ use Rattle.table_theory.proofs.Listing.{listed_new, listed_join, listed_first}
 use Rattle.table_theory.proofs.Stepping as ends
 use Rattle.table_theory.proofs.Tables as tables
 use Rattle.table_theory.proofs.Totals.{total_push}
+use Rattle.claim_queue.specs.Layout.{width}
 use Rattle.claim_queue.specs.Steps.{counts_up, counts_down, counts}
 use Rattle.claim_queue.proofs.Growing.{reaches_grow}
 use Rattle.claim_queue.proofs.Stepping.{table, found, seen_grows, ruled_now}
 
 module _ (key : Shape) (n id : ℕ) (me : Me Unit View) where
-  pub ups : me.0.member.ends + 1 ≤ me.0.member.share → Allows (Rule key) n id me 2 (λ x. (x + 1) % 18446744073709551616) (counts_up (step n 2 1 0 none) me)
-  ups parts = tables.ups (table key) n id me (counts_up (step n 2 1 0 none) me) parts (λ s k at r. (refl, ruled_now key _ s id me.0 _ at r, ends.counted_up k.stands id me.0 at))
+  pub ups : me.0.member.ends + 1 ≤ me.0.member.share → Allows (Rule key) n id me ends_word (λ x. (x + 1) % 18446744073709551616) (counts_up (step n ends_word 1 0 none) me)
+  ups parts = tables.ups (table key) n id me (counts_up (step n ends_word 1 0 none) me) parts (λ s k at r. (refl, ruled_now key _ s id me.0 _ at r, ends.counted_up k.stands id me.0 at))
 
-  pub downs : 2 ≤ me.0.member.ends → Allows (Rule key) n id me 2 (λ x. (x + (18446744073709551616 - 1)) % 18446744073709551616) (counts_down (step n 2 1 0 none) me)
-  downs two = tables.downs (table key) n id me (counts_down (step n 2 1 0 none) me) two (λ s k at r. (refl, ruled_now key _ s id me.0 _ at r, ends.counted_down k.stands id me.0 at))
+  pub downs : 2 ≤ me.0.member.ends → Allows (Rule key) n id me ends_word (λ x. (x + (18446744073709551616 - 1)) % 18446744073709551616) (counts_down (step n ends_word 1 0 none) me)
+  downs two = tables.downs (table key) n id me (counts_down (step n ends_word 1 0 none) me) two (λ s k at r. (refl, ruled_now key _ s id me.0 _ at r, ends.counted_down k.stands id me.0 at))
 
   -- the count is found
-  pub tallies : me.0.member.ends ≡ 1 → Allows (Rule key) n id me 2 (λ x. x) (counts (step n 2 0 0 none) me)
-  tallies one = tables.looks (table key) n id me (counts (step n 2 0 0 none) me) 2 (omega arith) (λ s k at r. ((found key n id me s k at 2 r).0, ends.tallied_now k.stands id me.0 at one))
+  pub tallies : me.0.member.ends ≡ 1 → Allows (Rule key) n id me ends_word (λ x. x) (counts (step n ends_word 0 0 none) me)
+  tallies one = tables.looks (table key) n id me (counts (step n ends_word 0 0 none) me) ends_word (omega arith) (λ s k at r. ((found key n id me s k at ends_word r).0, ends.tallied_now k.stands id me.0 at one))
 
 pub splits : (key : Shape) (id : ℕ) (v : View) → v.member.ends ≡ 2 → Splits (Rule key) id v (rest_of v) (newborn nothing_did v)
 splits key id v two s k at = let q : Positions = k.now.object in let later = seen_grows key s k id v at in let left : View = rest_of v in let right : View = newborn nothing_did v in record {
@@ -70,24 +71,24 @@ joins key id other v w live s k at ne has = let one : View = both did_both v w i
     }
 
 -- the table as it is made
-pub opens : (key : Shape) (zs : List ℕ) → zs ≡ replicate (key.room + key.room + 3) 0 → 0 < key.room → key.first < 4294967296 → Rule key (opening (set (set (set zs 0 key.first) 1 key.first) 2 1) [] (newcomer key))
-opens key zs are room fits = let q : Positions = empty key in let f : ℕ = key.first in let a : List ℕ = set zs 0 f in let b : List ℕ = set a 1 f in let long = ap length are ∙ length-replicate (key.room + key.room + 3) 0 in let la = length-set zs 0 f in let lb = length-set a 1 f in let lc = length-set b 2 1 in
-    let number : get_or (set b 2 1) 2 0 ≡ 1 = get_or-set_same b 2 1 0 (omega arith) in record {
+pub opens : (key : Shape) (zs : List ℕ) → zs ≡ replicate (width key.room) 0 → 0 < key.room → key.first < 4294967296 → Rule key (opening (set (set (set zs head_word key.first) tail_word key.first) ends_word 1) [] (newcomer key))
+opens key zs are room fits = let q : Positions = empty key in let f : ℕ = key.first in let a : List ℕ = set zs head_word f in let b : List ℕ = set a tail_word f in let long = ap length are ∙ length-replicate (width key.room) 0 in let la = length-set zs head_word f in let lb = length-set a tail_word f in let lc = length-set b ends_word 1 in
+    let number : get_or (set b ends_word 1) ends_word 0 ≡ 1 = get_or-set_same b ends_word 1 0 (omega arith) in record {
       now = opened q;
       first = refl;
       room = refl;
-      stands = ends.stands_first of_queues nothing_did q (set b 2 1) (record { behind = omega arith; within = omega arith; ready = λ i h. absurd (omega arith) })
+      stands = ends.stands_first of_queues nothing_did q (set b ends_word 1) (record { behind = omega arith; within = omega arith; ready = λ i h. absurd (omega arith) })
           record {
             wide = omega arith;
             bounded = omega arith;
-            head = get_or-set_other b 2 0 1 0 (λ e. omega arith) ∙ (get_or-set_other a 1 0 f 0 (λ e. omega arith) ∙ (get_or-set_same zs 0 f 0 (omega arith) ∙ omega arith));
-            tail = get_or-set_other b 2 1 1 0 (λ e. omega arith) ∙ (get_or-set_same a 1 f 0 (omega arith) ∙ omega arith);
+            head = get_or-set_other b ends_word head_word 1 0 (λ e. omega arith) ∙ (get_or-set_other a tail_word head_word f 0 (λ e. omega arith) ∙ (get_or-set_same zs head_word f 0 (omega arith) ∙ omega arith));
+            tail = get_or-set_other b ends_word tail_word 1 0 (λ e. omega arith) ∙ (get_or-set_same a tail_word f 0 (omega arith) ∙ omega arith);
             window = record {
               some_room = room;
               each = λ i from to. record {
-                low = λ _. let j : ℕ = key.room + spot q i + 3 in let near : spot q i < key.room = mod-lt (f + i) room in
-                    let z : get_or (set b 2 1) j 0 ≡ 0 = get_or-set_other b 2 j 1 0 (λ e. omega arith) ∙ (get_or-set_other a 1 j f 0 (λ e. omega arith) ∙ (get_or-set_other zs 0 j f 0 (λ e. omega arith)
-                    ∙ (ap (λ (z : List ℕ). get_or z j 0) are ∙ get_or-replicate (key.room + key.room + 3) j 0 0 (omega arith)))) in omega arith;
+                low = λ _. let j : ℕ = flag_word key.room (f + i) in let near : spot q i < key.room = mod-lt (f + i) room in
+                    let z : get_or (set b ends_word 1) j 0 ≡ 0 = get_or-set_other b ends_word j 1 0 (λ e. omega arith) ∙ (get_or-set_other a tail_word j f 0 (λ e. omega arith) ∙ (get_or-set_other zs head_word j f 0 (λ e. omega arith)
+                    ∙ (ap (λ (z : List ℕ). get_or z j 0) are ∙ get_or-replicate (width key.room) j 0 0 (omega arith)))) in omega arith;
                 up = λ h. absurd (omega arith);
                 holds = λ h. absurd (omega arith);
               };
@@ -101,9 +102,9 @@ opens key zs are room fits = let q : Positions = empty key in let f : ℕ = key.
 -- the first end stands under the rule
 pub new_ruled : (key : Shape) → 0 < key.room → key.first < 4294967296 → IsRuled (newcomer key)
 unfolding opens
-new_ruled key room fits = let zs : List ℕ = replicate (key.room + key.room + 3) 0 in record {
+new_ruled key room fits = let zs : List ℕ = replicate (width key.room) 0 in record {
   key = key;
-  state = opening (set (set (set zs 0 key.first) 1 key.first) 2 1) [] (newcomer key);
+  state = opening (set (set (set zs head_word key.first) tail_word key.first) ends_word 1) [] (newcomer key);
   rule = opens key zs refl room fits;
   number = 0;
   here = refl;

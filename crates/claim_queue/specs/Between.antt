@@ -31,9 +31,9 @@ pair_at c i = slice_index_or (pairs c.history) i (0, 0)
 -- The place of the item with the number i is at the position p. Where the item is raised, the flag is one more than
 -- the position, and the data word is the item; else the flag is at most the position
 pub record PlaceIs (c : Queue) (room : ℕ) (words : List ℕ) (i p : ℕ) : Type 0 where
-  pub raised : is_raised c (pair_at c i) ≡ true → flag_in room words (p % room) ≡ p + 1
-  pub item : is_raised c (pair_at c i) ≡ true → data_in room words (p % room) ≡ slice_index_or (flat c.history) i 0
-  pub claimed : is_raised c (pair_at c i) ≡ false → flag_in room words (p % room) ≤ p
+  pub raised : is_raised c (pair_at c i) ≡ true → flag_in words (p % room) ≡ p + 1
+  pub item : is_raised c (pair_at c i) ≡ true → data_in words (p % room) ≡ slice_index_or (flat c.history) i 0
+  pub claimed : is_raised c (pair_at c i) ≡ false → flag_in words (p % room) ≤ p
 
 -- the words and the views show the queue
 pub record IsShown (key : Shape) (s : State Unit View) (c : Queue) : Type 0 where

@@ -20,9 +20,9 @@ abbrev pub ShutNow : View → Bool → View → Type 0
 ShutNow v was_open w = (head : ℕ) × (m : Moment Positions) × (was_open ≡ nat_lt head SHUT)
     × ends.Made v (ends.change head_word head m (with_shut m.object) ∷ []) (with_shutting v.own was_open) w
 
--- what is read at the position p, where the flags stand behind the room's data words
+-- what is read at the position p: the item of its place, if the flag says that it was raised there
 abbrev pub left_at : ℕ → List ℕ → ℕ → Option ℕ
-left_at room words p = if flag_in room words (p % room) == p + 1 then Some (data_in room words (p % room)) else None
+left_at room words p = if flag_in words (p % room) == p + 1 then Some (data_in words (p % room)) else None
 
 -- what is read at the n positions from p on
 abbrev pub left_from : ℕ → List ℕ → ℕ → ℕ → List (Option ℕ)

@@ -12,4 +12,4 @@ pub record WordsShow (q : Positions) (words : List ℕ) : Type 0 where
   pub bounded : head_of q < POSITIONS
   pub head : slice_index_or words head_word 0 ≡ head_of q + mark q.shut
   pub tail : slice_index_or words tail_word 0 ≡ tail_of q
-  pub window : PlacesShow q (flag_in q.room words) (data_in q.room words)
+  pub window : PlacesShow q (flag_in words) (data_in words)

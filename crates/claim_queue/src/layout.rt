@@ -1,5 +1,11 @@
-//! Where the words of a queue's table stand: the head, the tail and the number of ends, then a data word for each place
-//! of the queue, then a flag word for each. The place of a position is the position modulo the number of places.
+//! Where the words of a queue's table stand: the head and the number of ends, then the tail, and then two words for each
+//! place of the queue, its item and beside it its flag. The place of a position is the position modulo the number of
+//! places.
+//!
+//! The head, the tail and the places stand in cache lines of their own, of 8 words each, as in the rings of DPDK and of
+//! `crossbeam`. Whoever puts writes the head, and whoever takes writes the tail: in one line they would take it from
+//! each other at every step. So the words 2 to 7 and 9 to 15 stand empty. Only `split`, `join` and `close` touch the
+//! number of ends, which can stand beside the head. Whoever reads a flag reads the item too, so they are neighbours.
 ghost use Rattle.std.specs.Prelude.{◌≡◌, ◌<◌, ◌≤◌};
 ghost use Rattle.claim_queue.specs.Layout.{data_word, flag_word, width};
 ghost use Rattle.claim_queue.specs.declared.layout.TheConstants.{MOST_PLACES};
@@ -9,14 +15,14 @@ use table_theory::positions::POSITIONS;
 /// The position of the next claim, and the mark of a shut queue.
 pub(crate) const HEAD: usize = 0;
 
-/// The position of the next item that is taken.
-pub(crate) const TAIL: usize = 1;
-
 /// The number of ends that stand.
-pub(crate) const ENDS: usize = 2;
+pub(crate) const ENDS: usize = 1;
 
-/// The first of the data words.
-pub(crate) const FIRST_DATA: usize = 3;
+/// The position of the next item that is taken.
+pub(crate) const TAIL: usize = 8;
+
+/// The first word of the places.
+pub(crate) const FIRST_PLACE: usize = 16;
 
 /// A queue has at most so many places.
 pub(crate) const MOST_PLACES: usize = 256;
@@ -29,7 +35,7 @@ pub(crate) fn width(room: usize) -> usize
     requires { room ≤ MOST_PLACES }
     ensures { result ≡ width room }
 {
-    room + room + FIRST_DATA
+    room + room + FIRST_PLACE
 }
 
 /// The word of the item at this position.
@@ -37,7 +43,7 @@ pub(crate) fn data_word(room: usize, position: usize) -> usize
     requires { (0 < room) × (room ≤ MOST_PLACES) }
     ensures { result ≡ data_word room position }
 {
-    position % room + FIRST_DATA
+    2 * (position % room) + FIRST_PLACE
 }
 
 /// The word of the flag at this position.
@@ -45,5 +51,5 @@ pub(crate) fn flag_word(room: usize, position: usize) -> usize
     requires { (0 < room) × (room ≤ MOST_PLACES) }
     ensures { result ≡ flag_word room position }
 {
-    position % room + room + FIRST_DATA
+    2 * (position % room) + FIRST_PLACE + 1
 }

@@ -5,7 +5,7 @@ ghost use Rattle.table_theory.specs.Ledgers.{CountedUp, CountedDown, Tallied, re
 ghost use Rattle.table_theory.specs.Positioned.{fresh, tail_of, item_at, written_at};
 ghost use Rattle.table_theory.specs.Seating.{IsSame};
 ghost use Rattle.claim_queue.specs.Layout.{head_word, tail_word, ends_word, data_word, flag_word};
-ghost use Rattle.claim_queue.specs.declared.layout.TheConstants.{FIRST_DATA, MOST_PLACES, SHUT};
+ghost use Rattle.claim_queue.specs.declared.layout.TheConstants.{FIRST_PLACE, MOST_PLACES, SHUT};
 ghost use Rattle.claim_queue.specs.Own.{nothing_did, did_both};
 ghost use Rattle.claim_queue.specs.Rules.{IsRuled};
 ghost use Rattle.claim_queue.specs.Steps.{IsSeated, IsNear, HasPlace, Stays, Found, Claimed, WroteAt, Took, Shut};
@@ -31,7 +31,7 @@ pub(crate) fn load(words: &Words, seat: &mut Seat<(), View>, word: usize) -> u64
 }
 
 pub(crate) fn load_head(words: &Words, seat: &mut Seat<(), View>) -> u64
-    requires queue { (seat.old.table_id ≡ words.now.table_id) × (FIRST_DATA ≤ words.now.table_id.words) }
+    requires queue { (seat.old.table_id ≡ words.now.table_id) × (FIRST_PLACE ≤ words.now.table_id.words) }
     requires live { 1 ≤ seat.old.me.0.member.ends }
     ensures queue { IsSame seat.old seat.new × Stays seat.old.me seat.new.me }
     ensures found { Found seat.old.me.0 head_word result seat.new.me.0 }
@@ -41,7 +41,7 @@ pub(crate) fn load_head(words: &Words, seat: &mut Seat<(), View>) -> u64
 }
 
 pub(crate) fn load_tail(words: &Words, seat: &mut Seat<(), View>) -> u64
-    requires queue { (seat.old.table_id ≡ words.now.table_id) × (FIRST_DATA ≤ words.now.table_id.words) }
+    requires queue { (seat.old.table_id ≡ words.now.table_id) × (FIRST_PLACE ≤ words.now.table_id.words) }
     requires live { 1 ≤ seat.old.me.0.member.ends }
     ensures queue { IsSame seat.old seat.new × Stays seat.old.me seat.new.me }
     ensures found { Found seat.old.me.0 tail_word result seat.new.me.0 }
@@ -57,7 +57,7 @@ pub(crate) fn exchange_head<J: ClaimItems>(
     new: u64,
     items: &[u64],
 ) -> u64
-    requires queue { (seat.old.table_id ≡ words.now.table_id) × (FIRST_DATA ≤ words.now.table_id.words) }
+    requires queue { (seat.old.table_id ≡ words.now.table_id) × (FIRST_PLACE ≤ words.now.table_id.words) }
     requires live { 1 ≤ seat.old.me.0.member.ends }
     requires items { (items.now ≡ J.items) × (0 < length items.now) }
     requires room { head + length items.now ≤ tail_of seat.old.me.0.seen.object + seat.old.me.0.first.room }
@@ -133,7 +133,7 @@ pub(crate) fn load_data(words: &Words, seat: &mut Seat<(), View>, room: usize, p
 }
 
 pub(crate) fn exchange_tail(words: &Words, seat: &mut Seat<(), View>, tail: u64, new: u64) -> u64
-    requires queue { (seat.old.table_id ≡ words.now.table_id) × (FIRST_DATA ≤ words.now.table_id.words) }
+    requires queue { (seat.old.table_id ≡ words.now.table_id) × (FIRST_PLACE ≤ words.now.table_id.words) }
     requires live { 1 ≤ seat.old.me.0.member.ends }
     requires new { (tail < new) × (seat.old.me.0.seen.object.first ≤ tail) }
     requires raised { (i : ℕ) → i < new - tail
@@ -146,7 +146,7 @@ pub(crate) fn exchange_tail(words: &Words, seat: &mut Seat<(), View>, tail: u64,
 }
 
 pub(crate) fn or_head(words: &Words, seat: &mut Seat<(), View>) -> u64
-    requires queue { (seat.old.table_id ≡ words.now.table_id) × (FIRST_DATA ≤ words.now.table_id.words) }
+    requires queue { (seat.old.table_id ≡ words.now.table_id) × (FIRST_PLACE ≤ words.now.table_id.words) }
     requires live { 1 ≤ seat.old.me.0.member.ends }
     ensures queue { IsSame seat.old seat.new × Stays seat.old.me seat.new.me }
     ensures shut { Shut seat.old.me.0 result seat.new.me.0 }
@@ -155,7 +155,7 @@ pub(crate) fn or_head(words: &Words, seat: &mut Seat<(), View>) -> u64
 }
 
 pub(crate) fn count_up(words: &Words, seat: &mut Seat<(), View>) -> u64
-    requires queue { (seat.old.table_id ≡ words.now.table_id) × (FIRST_DATA ≤ words.now.table_id.words) }
+    requires queue { (seat.old.table_id ≡ words.now.table_id) × (FIRST_PLACE ≤ words.now.table_id.words) }
     requires parts { seat.old.me.0.member.ends + 1 ≤ seat.old.me.0.member.share }
     ensures queue { IsSame seat.old seat.new × (seat.new.me.1 ≡ seat.old.me.1) }
     ensures ruled { IsRuled seat.new.me.0 }
@@ -165,7 +165,7 @@ pub(crate) fn count_up(words: &Words, seat: &mut Seat<(), View>) -> u64
 }
 
 pub(crate) fn count_down(words: &Words, seat: &mut Seat<(), View>) -> u64
-    requires queue { (seat.old.table_id ≡ words.now.table_id) × (FIRST_DATA ≤ words.now.table_id.words) }
+    requires queue { (seat.old.table_id ≡ words.now.table_id) × (FIRST_PLACE ≤ words.now.table_id.words) }
     requires live { 2 ≤ seat.old.me.0.member.ends }
     ensures queue { IsSame seat.old seat.new × (seat.new.me.1 ≡ seat.old.me.1) }
     ensures ruled { IsRuled seat.new.me.0 }
@@ -175,7 +175,7 @@ pub(crate) fn count_down(words: &Words, seat: &mut Seat<(), View>) -> u64
 }
 
 pub(crate) fn count(words: &Words, seat: &mut Seat<(), View>) -> u64
-    requires queue { (seat.old.table_id ≡ words.now.table_id) × (FIRST_DATA ≤ words.now.table_id.words) }
+    requires queue { (seat.old.table_id ≡ words.now.table_id) × (FIRST_PLACE ≤ words.now.table_id.words) }
     requires live { seat.old.me.0.member.ends ≡ 1 }
     ensures queue { IsSame seat.old seat.new × Stays seat.old.me seat.new.me }
     ensures tallied { Tallied ends_word seat.old.me.0 result seat.new.me.0 }
@@ -184,7 +184,7 @@ pub(crate) fn count(words: &Words, seat: &mut Seat<(), View>) -> u64
 }
 
 pub(crate) fn split_off(words: &Words, seat: &mut Seat<(), View>) -> Seat<(), View>
-    requires queue { (seat.old.table_id ≡ words.now.table_id) × (FIRST_DATA ≤ words.now.table_id.words) }
+    requires queue { (seat.old.table_id ≡ words.now.table_id) × (FIRST_PLACE ≤ words.now.table_id.words) }
     requires live { seat.old.me.0.member.ends ≡ 2 }
     ensures queue { IsSame seat.old seat.new × (result.table_id ≡ seat.old.table_id) }
     ensures split { (seat.new.me ≡ (rest_of seat.old.me.0, seat.old.me.1))
@@ -195,7 +195,7 @@ pub(crate) fn split_off(words: &Words, seat: &mut Seat<(), View>) -> Seat<(), Vi
 
 pub(crate) fn take_in<J: Spent>(words: &Words, seat: &mut Seat<(), View>, other: Seat<(), View>)
     requires queue { (seat.old.table_id ≡ words.now.table_id) × (other.table_id ≡ words.now.table_id)
-        × (other.me.1 ≡ []) × (FIRST_DATA ≤ words.now.table_id.words) }
+        × (other.me.1 ≡ []) × (FIRST_PLACE ≤ words.now.table_id.words) }
     requires live { (1 ≤ seat.old.me.0.member.ends) × (1 ≤ other.me.0.member.ends) }
     requires spent { J.view ≡ emptied nothing_did seat.old.me.0 }
     ensures queue { IsSame seat.old seat.new }

@@ -1,8 +1,8 @@
 -- What a word that was found says.
-use Rattle.meters.proofs.Common.{◌≡◌, ℕ, ◌<◌, sym, ap, ◌∙◌, subst, Option, Alarm, IsHonest, Looked, slot_word, word_of, in_slot, SeatView, of_meters, Fits, FoundIn}
+use Rattle.meters.proofs.Common.{◌≡◌, ℕ, ◌<◌, ◌∙◌, subst, Option, Alarm, Looked, IsHonest, slot_word, word_of, in_slot, SeatView, of_meters, FoundIn}
 use Rattle.meters.proofs.Clocks.{slot_found}
 
--- what stood in the slot whose word was found is what the word says
-pub found_in : (v w : SeatView) (slot found : ℕ) (stood : Option Alarm) → slot < 16 → IsHonest of_meters w → Looked v (slot_word slot) found w → ((s : Option Alarm) → Fits s → found ≡ word_of s → stood ≡ s) → FoundIn v slot stood w
-found_in v w slot found stood below y l says = let f = slot_found v w slot found below y l in let is : stood ≡ in_slot l.at.object slot = says (in_slot l.at.object slot) f.1 f.0 in
-    record { looked = subst (λ (z : ℕ). Looked v (slot_word slot) z w) (f.0 ∙ ap word_of (sym is)) l; fits = subst Fits (sym is) f.1 }
+-- the word of a slot that was found is that of what stood there
+pub word_found : (v w : SeatView) (slot found bits : ℕ) → slot < 16 → IsHonest of_meters w → Looked v (slot_word slot) found w → bits ≡ found → (stood : Option Alarm) × (bits ≡ word_of stood) × FoundIn v slot stood w
+word_found v w slot found bits below y l same = let f = slot_found v w slot found below y l in
+    (in_slot l.at.object slot, same ∙ f.0, record { looked = subst (λ (z : ℕ). Looked v (slot_word slot) z w) f.0 l; fits = f.1 })

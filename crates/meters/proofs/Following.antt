@@ -1,5 +1,6 @@
 -- What several steps tell together.
-use Rattle.meters.proofs.Common.{◌≡◌, ◌≢◌, ◌⊎◌, inl, inr, ℕ, suc, ◌+◌, ◌<◌, ◌≤◌, true, false, List, [], ◌∷◌, ◌++◌, length, length-append, filter_map, refl, sym, ap, ◌∙◌, subst, arith, Option, Some, None, append-nil, true≢false, filter_map-append, ∥∥₁_elim, Alarm, Moment, Step, load, change, IsHonest, Adds, Made, Looked, clock_word, slot_word, word_of, alarm_in, Did, Reading, with_alarm, SeatView, of_meters, Fits, WasSet, WasFired, FoundIn, Gave, NotAdvanced, scan, NotSet}
+use Rattle.meters.proofs.Common.{◌≡◌, ◌≢◌, ◌⊎◌, inl, inr, ne_eqb, ℕ, suc, ◌+◌, ◌<◌, ◌≤◌, true, false, List, [], ◌∷◌, ◌++◌, length, length-append, filter_map, refl, sym, ap, ◌∙◌, subst, arith, Option, Some, None, append-nil, true≢false, filter_map-append, ∥∥₁_elim, Alarm, Moment, Step, load, change, IsHonest, Adds, Made, Looked, clock_word, slot_word, word_of, alarm_in, Did, Reading, with_alarm, SeatView, of_meters, Fits, WasSet, WasFired, FoundIn, Gave, NotAdvanced, scan, NotSet}
+use Rattle.std.specs.Prelude.{◌==◌}
 use Rattle.std.proofs.Common.{append_assoc}
 use Rattle.std.proofs.Math.Bridge.{le_prop}
 use Rattle.std.specs.List.{AllByRecursion}
@@ -105,8 +106,14 @@ gave_fired v u w clock slot alarm f due h = let l = f.looked in record {
 pub clock_seat : (v w : SeatView) (clock : ℕ) (es : List (Step Reading)) → ∥ IsHonest of_meters v ∥₁ → IsHonest of_meters w → Adds v es w → clock ≤ v.seen.object.clock → clock ≤ w.seen.object.clock
 clock_seat v w clock es x y adds told = ∥∥₁_elim x le_prop (λ (h : IsHonest of_meters v). let up = clock_seen v w es h y adds in omega arith)
 
-pub clock_on : (v w : SeatView) (clock slot : ℕ) (alarm : Option Alarm) → ∥ IsHonest of_meters v ∥₁ → IsHonest of_meters w → clock ≤ v.seen.object.clock → Gave v clock slot alarm w → Gave v clock slot alarm w × (clock ≤ w.seen.object.clock)
-clock_on v w clock slot alarm x y told g = (g, clock_seat v w clock (entries_of slot g.visit) x y g.made.adds told)
+-- the clock is no less behind the visit of a slot
+pub clock_on : (v w : SeatView) (clock slot : ℕ) (alarm : Option Alarm) → ∥ IsHonest of_meters v ∥₁ → ∥ IsHonest of_meters w ∥₁ → clock ≤ v.seen.object.clock → Gave v clock slot alarm w → clock ≤ w.seen.object.clock
+clock_on v w clock slot alarm x y told g = ∥∥₁_elim y le_prop (λ (h : IsHonest of_meters w). clock_seat v w clock (entries_of slot g.visit) x h g.made.adds told)
+
+-- nothing but the word of an empty slot is 0
+pub empty_found : (v w : SeatView) (clock slot bits : ℕ) (stood : Option Alarm) → bits ≡ word_of stood → FoundIn v slot stood w → (bits == 0) ≡ true → Gave v clock slot None w
+empty_found v w clock slot bits None is f empty = gave_none v w clock slot None f tt
+empty_found v w clock slot bits (Some alarm) is f empty = absurd (true≢false (sym empty ∙ ne_eqb bits 0 (λ none. omega arith)))
 
 -- the slots below this one were visited, and gave these alarms
 pub record Swept (v : SeatView) (clock slot : ℕ) (alarms : List Alarm) (w : SeatView) : Type 0 where

@@ -1,14 +1,18 @@
 //! Alarms.
-ghost use Rattle.std.specs.Prelude.{◌≡◌, ◌<◌, ◌≤◌, MatchResult, MatchBool, MatchOption, [], ◌∷◌};
+ghost use Rattle.std.specs.Prelude.{◌≡◌, ◌<◌, ◌≤◌, MatchResult, MatchBool, [], ◌∷◌, ◌++◌, length, Option, filter_map};
 ghost use Rattle.meters.specs.declared.layout.TheConstants.{SLOTS};
 ghost use Rattle.meters.specs.Handles.{view_of, IsSeatOf, IsSameSeat};
 ghost use Rattle.meters.specs.Answers.{SetNow, NotSet, CancelledNow, FiredNow};
-ghost use Rattle.meters.specs.Steps.{Gave};
-ghost use Rattle.meters.specs.Own.{DidNothing, DidSet, DidCancel, DidFire};
+ghost use Rattle.meters.specs.Steps.{FoundIn, Gave};
+ghost use Rattle.meters.specs.Layout.{word_of};
+ghost use Rattle.meters.specs.Own.{SeatView, DidNothing, DidSet, DidCancel, DidFire};
 
 use crate::ends::{MeterSeat, Meters};
 use crate::layout::SLOTS;
-use crate::steps::{exchange_cancelled, exchange_fired, exchange_in, load_alarm, load_clock};
+use crate::steps::{
+    exchange_cancelled, exchange_fired, exchange_in, load_alarm, load_clock, load_slot,
+};
+use crate::word::AlarmWord;
 use arrayvec::ArrayVec;
 use event_theory::Alarm;
 use thiserror::Error;
@@ -59,23 +63,35 @@ impl Meters {
         exchange_cancelled(&self.table.shared, &mut seat.seat, slot, alarm)
     }
 
-    // Takes out the alarm of this slot where it is due at this tick of the clock.
-    fn fire(&self, seat: &mut MeterSeat, slot: usize, clock: u64) -> Option<Alarm>
-        requires { IsSeatOf self.now seat.old × (slot < SLOTS) × (clock ≤ (view_of seat.old).seen.object.clock) }
-        ensures gave { Gave (view_of seat.old) clock slot result (view_of seat.new)
-            × (clock ≤ (view_of seat.new).seen.object.clock) }
+    // Takes out the alarm of this slot, in which this word was found, where it is due at this tick of the clock, and puts
+    // it into the list. Most slots are empty, so this stands apart from the loop over them.
+    #[inline(never)]
+    fn fire(
+        &self,
+        seat: &mut MeterSeat,
+        slot: usize,
+        clock: u64,
+        found: AlarmWord,
+        fired: &mut ArrayVec<Alarm, SLOTS>,
+    )
+        requires seat { IsSeatOf self.now seat.old × (slot < SLOTS) }
+        requires clock { clock ≤ (view_of seat.old).seen.object.clock }
+        requires room { length fired.old.items < SLOTS }
+        ensures gave { (v : SeatView) (stood : Option Alarm) → found.bits ≡ word_of stood
+            → FoundIn v slot stood (view_of seat.old)
+            → (alarm : Option Alarm) × Gave v clock slot alarm (view_of seat.new)
+            × (fired.new.items ≡ fired.old.items ++ filter_map (λ a. a) (alarm ∷ [])) }
         ensures same { IsSameSeat seat.old seat.new }
     {
-        let alarm = load_alarm(&self.table.shared, &mut seat.seat, slot)?;
+        let Some(alarm) = found.alarm() else { return };
         let standing = alarm;
         if u64::from(alarm.due) > clock {
-            return None;
+            return;
         }
-        if exchange_fired(&self.table.shared, &mut seat.seat, slot, alarm) {
-            Some(standing)
-        } else {
-            None
+        if !exchange_fired(&self.table.shared, &mut seat.seat, slot, alarm) {
+            return;
         }
+        fired.push(standing);
     }
 
     /// Loads the clock once, and then takes out each alarm that is due at it, slots in order: each slot is loaded, and
@@ -87,13 +103,26 @@ impl Meters {
         ensures steps { FiredNow (view_of seat.old) result.items (view_of seat.new) }
         ensures same { IsSameSeat seat.old seat.new }
     {
-        let clock = load_clock(&self.table.shared, &mut seat.seat);
         let mut fired = ArrayVec::new();
+        self.take_due(seat, &mut fired);
+        fired
+    }
+
+    /// Does what `due` does, into a list of the caller, which then has what was taken out and nothing else. So a list
+    /// can be used again and again, and none is moved.
+    pub fn take_due(&self, seat: &mut MeterSeat, fired: &mut ArrayVec<Alarm, SLOTS>)
+        requires { IsSeatOf self.now seat.old }
+        ensures own { DidFire fired.new.items (view_of seat.old) (view_of seat.new) }
+        ensures steps { FiredNow (view_of seat.old) fired.new.items (view_of seat.new) }
+        ensures same { IsSameSeat seat.old seat.new }
+    {
+        fired.clear();
+        let clock = load_clock(&self.table.shared, &mut seat.seat);
         for slot in 0..SLOTS {
-            if let Some(alarm) = self.fire(seat, slot, clock) {
-                fired.push(alarm);
+            let found = load_slot(&self.table.shared, &mut seat.seat, slot);
+            if !found.is_empty() {
+                self.fire(seat, slot, clock, found, fired);
             }
         }
-        fired
     }
 }

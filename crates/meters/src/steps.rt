@@ -1,9 +1,9 @@
 //! The atomic steps, one function for each kind.
-ghost use Rattle.std.specs.Prelude.{◌≡◌, ◌≢◌, ◌+◌, ◌<◌, ◌≤◌, [], IsTrue, IsFalse, Some, None};
+ghost use Rattle.std.specs.Prelude.{◌≡◌, ◌≢◌, ◌+◌, ◌<◌, ◌≤◌, [], IsTrue, IsFalse, Option, Some, None};
 ghost use Rattle.table_theory.specs.Seating.{IsSame};
 ghost use Rattle.table_theory.specs.Ledgers.{Looked, CountedUp, CountedDown, Tallied};
 ghost use Rattle.table_theory.specs.Ledgers.{rest_of, newborn, both, emptied};
-ghost use Rattle.meters.specs.Layout.{ends_word, clock_word, width};
+ghost use Rattle.meters.specs.Layout.{ends_word, clock_word, width, word_of};
 ghost use Rattle.meters.specs.declared.layout.TheConstants.{GAUGES, SLOTS, TICKS, LAST_TICK};
 ghost use Rattle.meters.specs.Own.{of_meters, nothing_did, did_both};
 ghost use Rattle.meters.specs.Steps.{CanStep, HasStepped};
@@ -40,12 +40,21 @@ pub(crate) fn load_clock(words: &Words, seat: &mut Seat<(), View>) -> u64
     load(words, seat, CLOCK)
 }
 
+pub(crate) fn load_slot(words: &Words, seat: &mut Seat<(), View>, slot: usize) -> AlarmWord
+    requires seat { CanStep words.now.table_id seat.old × (slot < SLOTS) }
+    ensures seat { HasStepped seat.old seat.new }
+    ensures found { (stood : Option Alarm) × (result.bits ≡ word_of stood)
+        × FoundIn seat.old.me.0 slot stood seat.new.me.0 }
+{
+    AlarmWord::from_bits(load(words, seat, FIRST_SLOT + slot))
+}
+
 pub(crate) fn load_alarm(words: &Words, seat: &mut Seat<(), View>, slot: usize) -> Option<Alarm>
     requires seat { CanStep words.now.table_id seat.old × (slot < SLOTS) }
     ensures seat { HasStepped seat.old seat.new }
     ensures found { FoundIn seat.old.me.0 slot result seat.new.me.0 }
 {
-    AlarmWord::from_bits(load(words, seat, FIRST_SLOT + slot)).alarm()
+    load_slot(words, seat, slot).alarm()
 }
 
 pub(crate) fn add_to_gauge(

@@ -1,5 +1,5 @@
 -- What is known when a chain closes, and what is read of it.
-use Rattle.proc_chain.proofs.Common.{◌≡◌, ◌≢◌, ℕ, zero, suc, ◌+◌, ◌-◌, ◌%◌, ◌<◌, ◌≤◌, Bool, false, true≢false, eq-eqb, ne_eqb, Option, Some, None, List, [], ◌∷◌, map, length, get_or, set, sym, refl, ap, ◌∙◌, subst, arith, length-append, if◌then◌else◌, dite, ℕ_discrete, dec_lt, get_elem?, Cell, Batch, Positions, QueueView, blank, written_at, head_of, Owned, ViewsShow, AllRaised, all_places, runs_of, Moment, grows_refl, at_map, one_at, State, Did, GatedQueue, Shape, place_word, note_in, mark_in, WordsShow, notes_of, View, nothing_did, part_of, Rule, Rests, left_at, left_from}
+use Rattle.proc_chain.proofs.Common.{◌≡◌, ◌≢◌, ℕ, zero, suc, ◌+◌, ◌-◌, ◌%◌, ◌<◌, ◌≤◌, Bool, false, true≢false, eq-eqb, ne_eqb, Option, Some, None, List, [], ◌∷◌, map, length, get_or, set, sym, refl, ap, ◌∙◌, subst, arith, length-append, if◌then◌else◌, dite, ℕ_discrete, dec_lt, get_elem?, Cell, Batch, Positions, QueueView, blank, written_at, head_of, Owned, ViewsShow, AllRaised, all_places, runs_of, Moment, grows_refl, at_map, one_at, State, Did, GatedQueue, Shape, place_word, note_in, mark_in, WordsShow, notes_of, View, nothing_did, part_of, Rule, Rests, left_at, left_from, head_word, tail_word, ends_word}
 use Rattle.std.proofs.lemmas.List.{get_or_append_left, get_or-append_right}
 use mathlib.Core.Option as maybe
 use Rattle.table_theory.specs.Ledgers.{IsIdle, Tallied}
@@ -22,7 +22,8 @@ read_none ws p u word mark at w m is = let r = ap (λ (z : ℕ). get_or ws z 0) 
     sym (ap (λ (b : Bool). if b then Some (note_in ws (p % 32)) else None) (ne_eqb (mark_in ws (p % 32)) (p + 1) (λ e. is (m ∙ (ap mark_of (sym r) ∙ e)))))
 
 -- the head is not before the tail, within the room behind it and small
-pub record Spans (tail head : ℕ) : Type 0 where
+pub record Spans (first tail head : ℕ) : Type 0 where
+  pub started : first ≤ tail
   pub behind : tail ≤ head
   pub within : head ≤ tail + 32
   pub bounded : head < 4294967296
@@ -62,18 +63,18 @@ module _ {Q W : Type 0} (made : W → Q → List ℕ → Type 0) (fits : W → Q
       (subst (λ (z : Q). made key.pact z (notes_of k.now.object.queue)) is h.2, subst (fits key.pact) is h.3, none_left)
 
   -- the tail and the head that are read of a closed chain
-  pub spans : (id h t : ℕ) (w : View) (ws : List ℕ) (xs : List Q) → Final (Seen (Rule made fits key) id w) ws xs → get_elem? ws 0 ≡ maybe.some h → get_elem? ws 1 ≡ maybe.some t → Spans t h
+  pub spans : (id h t : ℕ) (w : View) (ws : List ℕ) (xs : List Q) → Final (Seen (Rule made fits key) id w) ws xs → get_elem? ws head_word ≡ maybe.some h → get_elem? ws tail_word ≡ maybe.some t → Spans key.first t h
   spans id h t w ws xs fin at_h at_t = let k = fin.1.0 in let q : Positions = k.now.object.queue in let sh : WordsShow q ws = subst (WordsShow q) fin.2 k.stands.shows.0 in
-      let hd : h ≡ head_of q = sym (read_word ws 0 h at_h) ∙ sh.head in let tl : t ≡ q.first + q.taken = sym (read_word ws 1 t at_t) ∙ sh.tail in let behind = k.stands.lawful.0.behind in let within = k.stands.lawful.0.within in let room = sh.room in let low = sh.bounded in
-      record { behind = omega arith; within = omega arith; bounded = omega arith }
+      let hd : h ≡ head_of q = sym (read_word ws head_word h at_h) ∙ sh.head in let tl : t ≡ q.first + q.taken = sym (read_word ws tail_word t at_t) ∙ sh.tail in let behind = k.stands.lawful.0.behind in let within = k.stands.lawful.0.within in let room = sh.room in let low = sh.bounded in let first = k.first in
+      record { started = omega arith; behind = omega arith; within = omega arith; bounded = omega arith }
 
-  pub closes : (v w : View) (found id h t put taken at : ℕ) (ws : List ℕ) (xs : List Q) (x : Q) (left : List (Option ℕ)) → key.first ≡ at → Rests v → Tallied 2 v found w → found ≡ 1 → v.own.runner ≡ false
-      → Final (Seen (Rule made fits key) id w) ws xs → get_elem? ws 0 ≡ maybe.some h → get_elem? ws 1 ≡ maybe.some t → get_elem? xs 0 ≡ maybe.some x → put ≡ h - key.first → taken ≡ t - key.first → left ≡ left_from ws t (h - t) → ClosedNow (made key.pact) (fits key.pact) v at put taken left x
+  pub closes : (v w : View) (found id h t put taken at : ℕ) (ws : List ℕ) (xs : List Q) (x : Q) (left : List (Option ℕ)) → key.first ≡ at → Rests v → Tallied ends_word v found w → found ≡ 1 → v.own.runner ≡ false
+      → Final (Seen (Rule made fits key) id w) ws xs → get_elem? ws head_word ≡ maybe.some h → get_elem? ws tail_word ≡ maybe.some t → get_elem? xs 0 ≡ maybe.some x → put ≡ h - key.first → taken ≡ t - key.first → left ≡ left_from ws t (h - t) → ClosedNow (made key.pact) (fits key.pact) v at put taken left x
   closes v w found id h t put taken at ws xs x left at_is rests tallied one runner fin at_h at_t at_x put_is taken_is left_is =
       let s : State Q View = fin.0 in let k = fin.1.0 in let at_w = fin.1.1 in let q : Positions = k.now.object.queue in let sh : WordsShow q ws = subst (WordsShow q) fin.2 k.stands.shows.0 in
-      let first = k.first in let hd : h ≡ head_of q = sym (read_word ws 0 h at_h) ∙ sh.head in let tl : t ≡ q.first + q.taken = sym (read_word ws 1 t at_t) ∙ sh.tail in
+      let first = k.first in let hd : h ≡ head_of q = sym (read_word ws head_word h at_h) ∙ sh.head in let tl : t ≡ q.first + q.taken = sym (read_word ws tail_word t at_t) ∙ sh.tail in
       let puts : put ≡ length q.places = omega arith in let takes_is : taken ≡ q.taken = omega arith in
-      let cl = ends_close k.stands id v w at_w 2 found tallied one rests.one in let did = tallied.made.did in
+      let cl = ends_close k.stands id v w at_w ends_word found tallied one rests.one in let did = tallied.made.did in
       let c = whole_closes id w s k xs x at_w cl.idle (ap (λ (z : Did). z.runner) did ∙ runner) (ap (λ (z : Did). z.owes) did ∙ rests.settled) (subst AllRaised (sym (ap (λ (z : Did). z.runs) did)) rests.raised) fin.4 at_x in
       let all_taken : q.taken ≡ length q.places = c.2 in let none : h - t ≡ 0 = omega arith in
       let sole : ViewsShow q (part_of w ∷ []) = record {

@@ -1,17 +1,17 @@
 -- What the numbers say that a step found, and what the steps of an end leave as it was.
-use Rattle.proc_chain.proofs.Common.{◌≡◌, ◌≢◌, ℕ, ◌+◌, ◌/◌, ◌%◌, ◌<◌, ◌≤◌, true, false, List, [], ◌∷◌, ◌++◌, length, get_or, sym, refl, ap, ◌∙◌, subst, arith, true≢false, props, ∥∥₁_elim, Me, Positions, Moment, Step, load, Made, IsReal, AllRaised, item_at, written_at, Grows, head_of, tail_of, spot, made_on, grows_trans, found_not_raised, Did, GatedQueue, place_word, note_in, mark_in, notes_of, View, of_chains, queue_of, IsTold, Rests, Stepped, Found, Carries, HasSlot, IsRunner, KeepsTaken}
+use Rattle.proc_chain.proofs.Common.{◌≡◌, ◌≢◌, ℕ, ◌+◌, ◌/◌, ◌%◌, ◌<◌, ◌≤◌, true, false, List, [], ◌∷◌, ◌++◌, length, get_or, sym, refl, ap, ◌∙◌, subst, arith, true≢false, props, ∥∥₁_elim, Me, Positions, Moment, Step, load, Made, IsReal, AllRaised, item_at, written_at, Grows, head_of, tail_of, spot, made_on, grows_trans, found_not_raised, Did, GatedQueue, place_word, note_in, mark_in, notes_of, View, of_chains, queue_of, IsTold, Rests, Stepped, Found, Carries, HasSlot, IsRunner, KeepsTaken, head_word, tail_word, gate_word, FIRST_PLACE}
 use Rattle.table_theory.proofs.Windows.{found_raised}
 use Rattle.proc_chain.proofs.Becoming.{real_grows}
 use Rattle.proc_chain.proofs.Gates.{notes_same}
 
 -- the number in the head, the tail or the gate
-pub head_says : (e : Step GatedQueue) → e.word ≡ 0 → IsReal of_chains e → e.found ≡ head_of e.then.object.queue
+pub head_says : (e : Step GatedQueue) → e.word ≡ head_word → IsReal of_chains e → e.found ≡ head_of e.then.object.queue
 head_says e is r = r.is ∙ (ap (λ (z : ℕ). get_or r.words z 0) is ∙ r.shows.0.head)
 
-pub tail_says : (e : Step GatedQueue) → e.word ≡ 1 → IsReal of_chains e → e.found ≡ tail_of e.then.object.queue
+pub tail_says : (e : Step GatedQueue) → e.word ≡ tail_word → IsReal of_chains e → e.found ≡ tail_of e.then.object.queue
 tail_says e is r = r.is ∙ (ap (λ (z : ℕ). get_or r.words z 0) is ∙ r.shows.0.tail)
 
-pub gate_says : (e : Step GatedQueue) → e.word ≡ 3 → IsReal of_chains e → e.found ≡ e.then.object.gate
+pub gate_says : (e : Step GatedQueue) → e.word ≡ gate_word → IsReal of_chains e → e.found ≡ e.then.object.gate
 gate_says e is r = r.is ∙ (ap (λ (z : ℕ). get_or r.words z 0) is ∙ r.shows.1)
 
 -- the number in the place of a position that is left or may be claimed next
@@ -19,10 +19,10 @@ module _ (e : Step GatedQueue) (i : ℕ) (r : IsReal of_chains e) (is : e.word �
   abbrev q : Positions
   q = e.then.object.queue
 
-  place_is : place_word (q.first + i) ≡ spot q i + 4
-  place_is = let room = r.shows.0.room in λ z. (q.first + i) % sym room z + 4
+  place_is : place_word (q.first + i) ≡ spot q i + FIRST_PLACE
+  place_is = let room = r.shows.0.room in λ z. (q.first + i) % sym room z + FIRST_PLACE
 
-  at_place : e.found ≡ get_or r.words (spot q i + 4) 0
+  at_place : e.found ≡ get_or r.words (spot q i + FIRST_PLACE) 0
   at_place = r.is ∙ ap (λ (z : ℕ). get_or r.words z 0) (is ∙ place_is)
 
   pub mark_says : i < q.taken + q.room → e.found / 65536 ≡ q.first + i + 1 → 2 ≤ written_at q i
@@ -35,8 +35,8 @@ module _ (e : Step GatedQueue) (i : ℕ) (r : IsReal of_chains e) (is : e.word �
   low_says within miss = found_not_raised q (mark_in r.words) (note_in r.words) i r.shows.0.window from within (λ h. miss (ap (λ (z : ℕ). z / 65536) at_place ∙ h))
 
 -- what the end sees after it found the tail
-pub tail_found : (v w : View) (tail : ℕ) → Found v 1 tail w → (tail ≡ tail_of (queue_of w)) × (tail < 4294967296)
-tail_found v w tail f = let e = tail_says (load 1 tail f.0) refl f.1.real in let b = f.1.real.shows.0.bounded in let behind = f.1.real.lawful.0.behind in (e ∙ ap (λ (z : Moment GatedQueue). tail_of z.object.queue) (sym f.1.seen), omega arith)
+pub tail_found : (v w : View) (tail : ℕ) → Found v tail_word tail w → (tail ≡ tail_of (queue_of w)) × (tail < 4294967296)
+tail_found v w tail f = let e = tail_says (load tail_word tail f.0) refl f.1.real in let b = f.1.real.shows.0.bounded in let behind = f.1.real.lawful.0.behind in (e ∙ ap (λ (z : Moment GatedQueue). tail_of z.object.queue) (sym f.1.seen), omega arith)
 
 -- one step more
 pub then_step : (v u w : View) (es : List (Step GatedQueue)) (one : Did) (e : Step GatedQueue) (f : Did → Did) → Made v es one u → Stepped u e (f u.own) w → Made v (es ++ e ∷ []) (f one) w

@@ -1,5 +1,5 @@
 -- Real steps are events of the core.
-use Rattle.proc_chain.proofs.Common.{◌≡◌, ◌≢◌, ℕ, ◌+◌, ◌-◌, ◌<◌, ◌≤◌, false, List, [], ◌∷◌, ◌++◌, length, length-append, length-set, sym, refl, ap, ◌∙◌, subst, arith, Cell, Moment, change, IsReal, item_at, written_at, fresh, GatedQueue, IsPlace, Becomes, with_note, with_raise, with_taken, with_gate, taking, of_chains}
+use Rattle.proc_chain.proofs.Common.{◌≡◌, ◌≢◌, ℕ, ◌+◌, ◌-◌, ◌<◌, ◌≤◌, false, List, [], ◌∷◌, ◌++◌, length, length-append, length-set, sym, refl, ap, ◌∙◌, subst, arith, Cell, Moment, change, IsReal, item_at, written_at, fresh, GatedQueue, IsPlace, Becomes, with_note, with_raise, with_taken, with_gate, taking, of_chains, head_word, tail_word}
 use Rattle.std.proofs.lemmas.List.{append_cancel_left}
 use Rattle.table_theory.proofs.Saying.{effect_keeps}
 use Rattle.proc_chain.specs.Changes as becomes
@@ -23,7 +23,7 @@ was_room o p note (becomes.notified e) is = absurd (longer o.queue.places (fresh
 was_room o p note (becomes.round up e) is = absurd (longer o.queue.places (fresh note) (λ i. ((is ∙ e) i).queue.places))
 was_room o p note (becomes.left one e) is = absurd (longer o.queue.places (fresh note) (λ i. ((is ∙ e) i).queue.places))
 
-pub claim_room : (head note : ℕ) (m : Moment GatedQueue) → IsReal of_chains (change 0 head m (with_note m.object note)) → Room m.object note
+pub claim_room : (head note : ℕ) (m : Moment GatedQueue) → IsReal of_chains (change head_word head m (with_note m.object note)) → Room m.object note
 claim_room head note m r = effect_keeps of_chains (λ p. with_note m.object note ≡ p → Room m.object note) m (record m { object = with_note m.object note }) (λ is. absurd (longer m.object.queue.places (fresh note) (λ i. (is i).queue.places))) (λ p b is. was_room m.object p note b is) r.effect refl
 
 -- what a taking found
@@ -35,5 +35,5 @@ was_up o p (becomes.notified e) is = absurd (let c = ap (λ (z : GatedQueue). z.
 was_up o p (becomes.round up e) is = absurd (let c = ap (λ (z : GatedQueue). z.queue.taken) (is ∙ e) in omega arith)
 was_up o p (becomes.left one e) is = absurd (let c = ap (λ (z : GatedQueue). z.queue.taken) (is ∙ e) in omega arith)
 
-pub take_up : (tail : ℕ) (m : Moment GatedQueue) → IsReal of_chains (change 1 tail m (with_taken m.object)) → 2 ≤ written_at m.object.queue m.object.queue.taken
+pub take_up : (tail : ℕ) (m : Moment GatedQueue) → IsReal of_chains (change tail_word tail m (with_taken m.object)) → 2 ≤ written_at m.object.queue m.object.queue.taken
 take_up tail m r = effect_keeps of_chains (λ p. with_taken m.object ≡ p → 2 ≤ written_at m.object.queue m.object.queue.taken) m (record m { object = with_taken m.object }) (λ is. absurd (let c = ap (λ (z : GatedQueue). z.queue.taken) is in omega arith)) (λ p b is. was_up m.object p b is) r.effect refl

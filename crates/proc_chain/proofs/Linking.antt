@@ -1,5 +1,5 @@
 -- A claim, a raise and a notify together.
-use Rattle.proc_chain.proofs.Common.{◌≡◌, ◌≢◌, ℕ, ◌+◌, ◌<◌, ◌≤◌, ⊎_elim, zero, suc, false, true, List, [], ◌∷◌, ◌++◌, map, length, get_or, set, sym, refl, ap, ◌∙◌, subst, arith, map-append, some, get_elem?, at_last, Batch, Moment, line_of, load, change, Made, AllRaised, number_of, written_to, blank, head_of, at_push, Did, GatedQueue, place_word, with_note, with_raise, with_gate, View, queue_of, Stepped, Found, Raised, run, notes_of, Rests, Carries}
+use Rattle.proc_chain.proofs.Common.{◌≡◌, ◌≢◌, ℕ, ◌+◌, ◌<◌, ◌≤◌, ⊎_elim, zero, suc, false, true, List, [], ◌∷◌, ◌++◌, map, length, get_or, set, sym, refl, ap, ◌∙◌, subst, arith, map-append, some, get_elem?, at_last, Batch, Moment, line_of, load, change, Made, AllRaised, number_of, written_to, blank, head_of, at_push, Did, GatedQueue, place_word, with_note, with_raise, with_gate, View, queue_of, Stepped, Found, Raised, run, notes_of, Rests, Carries, head_word, tail_word, gate_word}
 use Rattle.table_theory.specs.Batches.{IsPast}
 use Rattle.table_theory.specs.Listing.{Distinct}
 use Rattle.table_theory.proofs.Listing.{found_by_start}
@@ -25,15 +25,15 @@ put_note v w note head then runs takes is = record {
 -- the refusals
 
 -- the head and the tail were loaded
-pub both_found : (v l w : View) (head tail : ℕ) (f : Found v 0 head l) (g : Found l 1 tail w) → Made v (load 0 head f.0 ∷ load 1 tail g.0 ∷ []) v.own w
-both_found v l w head tail f g = then_step v l w (load 0 head f.0 ∷ []) v.own (load 1 tail g.0) (λ d. d) f.1.made g.1
+pub both_found : (v l w : View) (head tail : ℕ) (f : Found v head_word head l) (g : Found l tail_word tail w) → Made v (load head_word head f.0 ∷ load tail_word tail g.0 ∷ []) v.own w
+both_found v l w head tail f g = then_step v l w (load head_word head f.0 ∷ []) v.own (load tail_word tail g.0) (λ d. d) f.1.made g.1
 
 -- another head that is found later is past the first
-pub was_lost : (v l b w : View) (head tail found : ℕ) → Found v 0 head l → Found l 1 tail b → Found b 0 found w → head + 1 < 4294967296 → head + 1 ≤ tail + 32 → found ≢ head → NotChained v (refusals.Lost found) w
-was_lost v l b w head tail found f g e bounded room ne = let g' = g.1.meets.grows in let e' = e.1.meets.grows in let a = head_says (load 0 head f.0) refl f.1.real in let c = head_says (load 0 found e.0) refl e.1.real in
+pub was_lost : (v l b w : View) (head tail found : ℕ) → Found v head_word head l → Found l tail_word tail b → Found b head_word found w → head + 1 < 4294967296 → head + 1 ≤ tail + 32 → found ≢ head → NotChained v (refusals.Lost found) w
+was_lost v l b w head tail found f g e bounded room ne = let g' = g.1.meets.grows in let e' = e.1.meets.grows in let a = head_says (load head_word head f.0) refl f.1.real in let c = head_says (load head_word found e.0) refl e.1.real in
     let sf = ap (λ (z : Moment GatedQueue). head_of z.object.queue) f.1.seen in let sg = ap (λ (z : Moment GatedQueue). head_of z.object.queue) g.1.seen in
     let x = g'.longer in let y = e'.longer in let p = g'.first in let q = e'.first in
-    (head, tail, f.0, g.0, e.0, bounded, omega arith, omega arith, then_step v b w (load 0 head f.0 ∷ load 1 tail g.0 ∷ []) v.own (load 0 found e.0) (λ d. d) (both_found v l b head tail f g) e.1)
+    (head, tail, f.0, g.0, e.0, bounded, omega arith, omega arith, then_step v b w (load head_word head f.0 ∷ load tail_word tail g.0 ∷ []) v.own (load head_word found e.0) (λ d. d) (both_found v l b head tail f g) e.1)
 
 -- the run that was just claimed
 pub claimed_at : (v w : View) (head x : ℕ) → Claimed v head x w → get_elem? w.own.runs (number_of head w.own.runs) ≡ some (run head x)
@@ -49,7 +49,7 @@ abbrev pub up_run : ℕ → ℕ → Batch
 up_run head x = record { start = head; places = record { item = x; written = 2 } ∷ [] }
 
 -- all that the end does up to its notify
-module _ (v l b w x : View) (head tail note : ℕ) (f : Found v 0 head l) (g : Found l 1 tail b) (c : Claimed b head note w) (r : Raised w head note (run head note) x) where
+module _ (v l b w x : View) (head tail note : ℕ) (f : Found v head_word head l) (g : Found l tail_word tail b) (c : Claimed b head note w) (r : Raised w head note (run head note) x) where
   claimed_runs : w.own.runs ≡ v.own.runs ++ run head note ∷ []
   claimed_runs = ap (λ (z : Did). z.runs) c.1.made.did ∙ ap (λ (z : List Batch). z ++ run head note ∷ []) (ap (λ (z : Did). z.runs) g.1.made.did ∙ ap (λ (z : Did). z.runs) f.1.made.did)
 
@@ -62,21 +62,21 @@ module _ (v l b w x : View) (head tail note : ℕ) (f : Found v 0 head l) (g : F
   raised : Did → Did
   raised d = record d { runs = set d.runs (number_of head d.runs) (written_to (run head note) 0 2); owes = true }
 
-  pub link : Made v (load 0 head f.0 ∷ load 1 tail g.0 ∷ change 0 head c.0 (with_note c.0.object note) ∷ change (place_word head) r.0 r.1 (with_raise r.1.object head note) ∷ []) (record v.own { runs = v.own.runs ++ up_run head note ∷ []; owes = true }) x
+  pub link : Made v (load head_word head f.0 ∷ load tail_word tail g.0 ∷ change head_word head c.0 (with_note c.0.object note) ∷ change (place_word head) r.0 r.1 (with_raise r.1.object head note) ∷ []) (record v.own { runs = v.own.runs ++ up_run head note ∷ []; owes = true }) x
   unfolding raised
-  link = let three = then_step v b w (load 0 head f.0 ∷ load 1 tail g.0 ∷ []) v.own (change 0 head c.0 (with_note c.0.object note)) (λ d. record d { runs = d.runs ++ run head note ∷ [] }) (both_found v l b head tail f g) c.1 in
-      let four = then_step v w x (load 0 head f.0 ∷ load 1 tail g.0 ∷ change 0 head c.0 (with_note c.0.object note) ∷ []) (record v.own { runs = v.own.runs ++ run head note ∷ [] }) (change (place_word head) r.0 r.1 (with_raise r.1.object head note)) raised three r.2 in
+  link = let three = then_step v b w (load head_word head f.0 ∷ load tail_word tail g.0 ∷ []) v.own (change head_word head c.0 (with_note c.0.object note)) (λ d. record d { runs = d.runs ++ run head note ∷ [] }) (both_found v l b head tail f g) c.1 in
+      let four = then_step v w x (load head_word head f.0 ∷ load tail_word tail g.0 ∷ change head_word head c.0 (with_note c.0.object note) ∷ []) (record v.own { runs = v.own.runs ++ run head note ∷ [] }) (change (place_word head) r.0 r.1 (with_raise r.1.object head note)) raised three r.2 in
       record { adds = four.adds; did = four.did ∙ (λ i. record v.own { runs = up_runs i; owes = true }); member = four.member }
 
   -- and the notify
-  module _ (y : View) (gate : ℕ) (m : Moment GatedQueue) (then : Did → Did) (s : Stepped x (change 3 gate m (with_gate m.object 2)) (then (record x.own { owes = false })) y) where
+  module _ (y : View) (gate : ℕ) (m : Moment GatedQueue) (then : Did → Did) (s : Stepped x (change gate_word gate m (with_gate m.object 2)) (then (record x.own { owes = false })) y) where
     abbrev pub the_link : Link
     the_link = record { head = head; at_head = f.0; tail = tail; at_tail = g.0; at_claim = c.0; was = r.0; at_raise = r.1; gate = gate; at_gate = m }
 
     pub chained : head + 1 < 4294967296 → head < tail + 32 → ChainedBy v note the_link then y
     chained bounded room = (
       record { room = (bounded, room); past = subst (λ (z : Did). IsPast z.runs head) (g.1.made.did ∙ f.1.made.did) c.3; place = r.3 },
-      then_step v x y _ _ (change 3 gate m (with_gate m.object 2)) (λ d. then (record d { owes = false })) link s,
+      then_step v x y _ _ (change gate_word gate m (with_gate m.object 2)) (λ d. then (record d { owes = false })) link s,
     )
 
     pub chained_seen : KeepsSeen v y
@@ -99,5 +99,5 @@ chained_rests v y note l then c runs owes h = let up : Batch = up_run l.head not
     one_raised (suc i) h = absurd (omega arith)
 
 -- the slot that came with the turn
-pub won_slot : {Q : Type 0} (made : Q → List ℕ → Type 0) (fits : Q → Type 0) (v w : View) (m : Moment GatedQueue) (own : Did) (c d : List (ℕ × Q)) → Stepped v (change 3 0 m (with_gate m.object 2)) own w → c ≡ [] → Carries made fits (notes_of m.object.queue) c d → Carries made fits (notes_of (queue_of w)) [] d
+pub won_slot : {Q : Type 0} (made : Q → List ℕ → Type 0) (fits : Q → Type 0) (v w : View) (m : Moment GatedQueue) (own : Did) (c d : List (ℕ × Q)) → Stepped v (change gate_word 0 m (with_gate m.object 2)) own w → c ≡ [] → Carries made fits (notes_of m.object.queue) c d → Carries made fits (notes_of (queue_of w)) [] d
 won_slot made fits v w m own c d s none_held h = (h.0, h.1 ∙ ap (λ (z : List _). (0, h.0) ∷ z) none_held, subst (made h.0) (ap (λ (z : Moment GatedQueue). notes_of z.object.queue) (sym s.seen)) h.2, h.3)

@@ -1,5 +1,5 @@
 -- What the parts of a serving are together, and what its loop keeps.
-use Rattle.proc_chain.proofs.Common.{◌≡◌, ◌≢◌, ℕ, zero, suc, ◌+◌, ◌/◌, ◌%◌, ◌<◌, ◌≤◌, Option, Some, None, true, false, Bool, List, [], ◌∷◌, ◌++◌, map, take, length, get_or, sym, refl, ap, ◌∙◌, subst, arith, length-append, props, ∥∥₁_elim, map-append, length-map, dite, ℕ_discrete, dec_le, Me, Seat, Batch, Cell, Positions, Moment, Part, line_of, Step, load, change, blank, item_of, item_at, written_at, with_take, tail_of, IsSame, made_on, raised_below, Did, GatedQueue, place_word, raised_word, notes_of, with_taken, with_gate, taking, View, queue_of, Stepped, Found, IsTold, Carries, IsRunner, MadeSince, Serving}
+use Rattle.proc_chain.proofs.Common.{◌≡◌, ◌≢◌, ℕ, zero, suc, ◌+◌, ◌/◌, ◌%◌, ◌<◌, ◌≤◌, Option, Some, None, true, false, Bool, List, [], ◌∷◌, ◌++◌, map, take, length, get_or, sym, refl, ap, ◌∙◌, subst, arith, length-append, props, ∥∥₁_elim, map-append, length-map, dite, ℕ_discrete, dec_le, Me, Seat, Batch, Cell, Positions, Moment, Part, line_of, Step, load, change, blank, item_of, item_at, written_at, with_take, tail_of, IsSame, made_on, raised_below, Did, GatedQueue, place_word, raised_word, notes_of, with_taken, with_gate, taking, View, queue_of, Stepped, Found, IsTold, Carries, IsRunner, MadeSince, Serving, tail_word, gate_word}
 use Rattle.std.proofs.Common.{drop}
 use Rattle.std.proofs.lemmas.Grind.{flat_map-append}
 use Rattle.std.proofs.lemmas.List.{append-nil, append_assoc, length-take-le, take-append-le}
@@ -34,7 +34,7 @@ takings_on (failed tail word gate m n o p ∷ us) more = takings_on us more
 
 -- entries and what was done, one use more
 serving_on : (s : Serving) (one : Use) → serving s ++ entries_of one ≡ serving (record s { uses = s.uses ++ one ∷ [] })
-serving_on s one = ap (λ (z : List (Step GatedQueue)). change 3 s.gate s.begun (with_gate s.begun.object 1) ∷ z) (sym (flat_map-append entries_of s.uses (one ∷ []) ∙ ap (λ (z : List (Step GatedQueue)). flat_map entries_of s.uses ++ z) (append-nil (entries_of one))))
+serving_on s one = ap (λ (z : List (Step GatedQueue)). change gate_word s.gate s.begun (with_gate s.begun.object 1) ∷ z) (sym (flat_map-append entries_of s.uses (one ∷ []) ∙ ap (λ (z : List (Step GatedQueue)). flat_map entries_of s.uses ++ z) (append-nil (entries_of one))))
 
 takes_on : (l : List Batch) (us more : List Use) → (l ++ takings us) ++ takings more ≡ l ++ takings (us ++ more)
 takes_on l us more = append_assoc l (takings us) (takings more) ∙ ap (λ (z : List Batch). l ++ z) (sym (takings_on us more))
@@ -82,8 +82,8 @@ pub ran_look : (v w : View) (word found : ℕ) (f : Found v word found w) → (q
 ran_look v w word found f behind r = ran_step v w (load word found f.0) v.own true v.own.saw f.1 refl (λ i. record v.own { runner = r i }) behind r
 
 -- and of a change of the gate
-pub ran_gate : (v w : View) (found gate : ℕ) (m : Moment GatedQueue) → Stepped v (change 3 found m (with_gate m.object gate)) (record v.own { saw = false }) w → (queue_of v).taken ≤ length (queue_of v).places → v.own.runner ≡ true → Ran v (change 3 found m (with_gate m.object gate) ∷ []) [] true false w
-ran_gate v w found gate m s behind r = ran_step v w (change 3 found m (with_gate m.object gate)) (record v.own { saw = false }) true false s refl (λ i. record v.own { runner = r i; saw = false }) behind r
+pub ran_gate : (v w : View) (found gate : ℕ) (m : Moment GatedQueue) → Stepped v (change gate_word found m (with_gate m.object gate)) (record v.own { saw = false }) w → (queue_of v).taken ≤ length (queue_of v).places → v.own.runner ≡ true → Ran v (change gate_word found m (with_gate m.object gate) ∷ []) [] true false w
+ran_gate v w found gate m s behind r = ran_step v w (change gate_word found m (with_gate m.object gate)) (record v.own { saw = false }) true false s refl (λ i. record v.own { runner = r i; saw = false }) behind r
 
 -- the first cell behind the first i
 first_behind : (i : ℕ) (l : List Cell) → i < length l → map item_of (take 1 (drop i l)) ≡ (get_or l i blank).item ∷ []
@@ -102,7 +102,7 @@ module _ (v w : View) (tail note : ℕ) (t : Took v tail w) (r : v.own.runner �
   below : q.taken < length q.places
   below = let p : Positions = queue_of v in let longer = t.1.meets.grows.longer in let same = t.1.meets.turn r in let b : p.taken < length p.places = raised_below p p.taken (omega arith) in omega arith
 
-  ran_took : note < 65536 → (m n : Moment GatedQueue) → Ran v (change 1 tail t.0 (with_taken t.0.object) ∷ []) (took note tail m n t.0 ∷ []) true false w
+  ran_took : note < 65536 → (m n : Moment GatedQueue) → Ran v (change tail_word tail t.0 (with_taken t.0.object) ∷ []) (took note tail m n t.0 ∷ []) true false w
   ran_took small m n = let p : Positions = queue_of v in let f : queue_of w ≡ with_take q 1 = ap (λ (z : Moment GatedQueue). z.object.queue) t.1.seen in let more : (queue_of w).taken ≡ q.taken + 1 = ap (λ (z : Positions). z.taken) f in let same = t.1.meets.turn r in record {
     fit = (small, tt);
     made = record { adds = t.1.made.adds; did = t.1.made.did ∙ (λ i. record v.own { takes = v.own.takes ++ taking q ∷ []; runner = r i; taken = v.own.taken + 1; saw = false }); member = t.1.made.member };
@@ -116,7 +116,7 @@ module _ (v w : View) (tail note : ℕ) (t : Took v tail w) (r : v.own.runner �
   }
 
 -- the runner found a note raised at the first place left
-module _ (v t u : View) (tail note : ℕ) (runner : v.own.runner ≡ true) (behind : (queue_of v).taken ≤ length (queue_of v).places) (a : Found v 1 tail t) (at : tail ≡ tail_of (queue_of t)) (bounded : note < 65536) (b : Found t (place_word tail) (raised_word tail note) u) where
+module _ (v t u : View) (tail note : ℕ) (runner : v.own.runner ≡ true) (behind : (queue_of v).taken ≤ length (queue_of v).places) (a : Found v tail_word tail t) (at : tail ≡ tail_of (queue_of t)) (bounded : note < 65536) (b : Found t (place_word tail) (raised_word tail note) u) where
   runner_then : t.own.runner ≡ true
   runner_then = (λ i. (a.1.made.did i).runner) ∙ runner
 
@@ -141,8 +141,8 @@ module _ (v t u : View) (tail note : ℕ) (runner : v.own.runner ≡ true) (behi
 
   -- and took it
   pub ran_one : (w : View) (k : Took u tail w) → IsTold t → IsTold u → Ran v (entries_of (took note tail a.0 b.0 k.0)) (took note tail a.0 b.0 k.0 ∷ []) true false w
-  ran_one w k h i = ran_on v t w (load 1 tail a.0 ∷ []) (e ∷ change 1 tail k.0 (with_taken k.0.object) ∷ []) [] _ true true v.own.saw false (ran_look v t 1 tail a behind runner)
-      (ran_on t u w (e ∷ []) (change 1 tail k.0 (with_taken k.0.object) ∷ []) [] _ true true t.own.saw false (ran_look t u (place_word tail) (raised_word tail note) b h.lawful.0.behind runner_then)
+  ran_one w k h i = ran_on v t w (load tail_word tail a.0 ∷ []) (e ∷ change tail_word tail k.0 (with_taken k.0.object) ∷ []) [] _ true true v.own.saw false (ran_look v t tail_word tail a behind runner)
+      (ran_on t u w (e ∷ []) (change tail_word tail k.0 (with_taken k.0.object) ∷ []) [] _ true true t.own.saw false (ran_look t u (place_word tail) (raised_word tail note) b h.lawful.0.behind runner_then)
       (ran_took u w tail note k ((λ j. (b.1.made.did j).runner) ∙ runner_then) i.lawful.0.behind up_now note_now bounded a.0 b.0))
 
 -- and ran it: the quaject was made by it too
@@ -156,22 +156,22 @@ ran_runner made fits m x w note d is a one told held h run = let c = h.carries i
 }
 
 -- none was raised there
-pub found_none : (v t w : View) (tail found : ℕ) → v.own.runner ≡ true → (queue_of v).taken ≤ length (queue_of v).places → Found v 1 tail t → IsTold t → FoundNotRaised t (place_word tail) found w → found / 65536 ≢ tail + 1 → FoundNone v w
+pub found_none : (v t w : View) (tail found : ℕ) → v.own.runner ≡ true → (queue_of v).taken ≤ length (queue_of v).places → Found v tail_word tail t → IsTold t → FoundNotRaised t (place_word tail) found w → found / 65536 ≢ tail + 1 → FoundNone v w
 found_none v t w tail found r behind a h low miss = let r' : t.own.runner ≡ true = (λ i. (a.1.made.did i).runner) ∙ r in (
   tail,
   found,
   a.0,
   low.0,
   miss,
-  ran_on v t w (load 1 tail a.0 ∷ []) (load (place_word tail) found low.0 ∷ []) [] [] true true v.own.saw true (ran_look v t 1 tail a behind r)
+  ran_on v t w (load tail_word tail a.0 ∷ []) (load (place_word tail) found low.0 ∷ []) [] [] true true v.own.saw true (ran_look v t tail_word tail a behind r)
       (ran_step t w (load (place_word tail) found low.0) (record t.own { saw = true }) true true low.1 refl (λ i. record t.own { runner = r' i; saw = true }) h.lawful.0.behind r'),
 )
 
-pub round_now : (v u w : View) (gate : ℕ) → v.own.runner ≡ true → (queue_of v).taken ≤ length (queue_of v).places → Found v 3 2 u → IsTold u → BegunRound u gate w → RoundNow v w
-round_now v u w gate r behind f h b = (gate, f.0, b.0, ran_on v u w (load 3 2 f.0 ∷ []) (change 3 gate b.0 (with_gate b.0.object 1) ∷ []) [] [] true true v.own.saw false (ran_look v u 3 2 f behind r) (ran_gate u w gate 1 b.0 b.1 h.lawful.0.behind ((λ i. (f.1.made.did i).runner) ∙ r)))
+pub round_now : (v u w : View) (gate : ℕ) → v.own.runner ≡ true → (queue_of v).taken ≤ length (queue_of v).places → Found v gate_word 2 u → IsTold u → BegunRound u gate w → RoundNow v w
+round_now v u w gate r behind f h b = (gate, f.0, b.0, ran_on v u w (load gate_word 2 f.0 ∷ []) (change gate_word gate b.0 (with_gate b.0.object 1) ∷ []) [] [] true true v.own.saw false (ran_look v u gate_word 2 f behind r) (ran_gate u w gate 1 b.0 b.1 h.lawful.0.behind ((λ i. (f.1.made.did i).runner) ∙ r)))
 
 pub left_now : (v w : View) → v.own.runner ≡ true → (queue_of v).taken ≤ length (queue_of v).places → HasLeft v w → LeftNow v w
-left_now v w r behind l = (l.0, ran_step v w (change 3 1 l.0 (with_gate l.0.object 0)) (record v.own { runner = false; saw = false }) false false l.1 refl refl behind r)
+left_now v w r behind l = (l.0, ran_step v w (change gate_word 1 l.0 (with_gate l.0.object 0)) (record v.own { runner = false; saw = false }) false false l.1 refl refl behind r)
 
 -- the quaject that was given back
 pub gave_back : {Q : Type 0} (made : Q → List ℕ → Type 0) (fits : Q → Type 0) (m m' : Me Q View) → HasLeft m.0 m'.0 → m'.1 ≡ [] → IsRunner made fits m → HasOrGave made fits false m'
@@ -179,7 +179,7 @@ gave_back made fits m m' l none_held h = let c = h.carries in let served = (left
 
 -- a leave that failed
 pub failed_one : (v u w : View) (n : FoundNone v u) (r : RoundNow u w) → Ran v (entries_of (failed n.0 n.1 r.0 n.2 n.3 r.1 r.2)) (failed n.0 n.1 r.0 n.2 n.3 r.1 r.2 ∷ []) true false w
-failed_one v u w n r = let a = ran_on v u w (load 1 n.0 n.2 ∷ load (place_word n.0) n.1 n.3 ∷ []) (load 3 2 r.1 ∷ change 3 r.0 r.2 (with_gate r.2.object 1) ∷ []) [] [] true true true false n.5 r.3 in record { fit = (n.4, tt); made = a.made; served = a.served }
+failed_one v u w n r = let a = ran_on v u w (load tail_word n.0 n.2 ∷ load (place_word n.0) n.1 n.3 ∷ []) (load gate_word 2 r.1 ∷ change gate_word r.0 r.2 (with_gate r.2.object 1) ∷ []) [] [] true true true false n.5 r.3 in record { fit = (n.4, tt); made = a.made; served = a.served }
 
 -- the quaject at each number of notes taken
 
@@ -223,7 +223,7 @@ module _ {Q : Type 0} (made : Q → List ℕ → Type 0) (fits : Q → Type 0) w
   module _ (old now : Seat Q View) where
     pub rounds_begin : (gate : ℕ) → IsSame old now → BegunRound old.me.0 gate now.me.0 → now.me.1 ≡ old.me.1 → IsTold now.me.0 → IsRunner made fits old.me → InRounds old now 0 0
     rounds_begin gate same b held told r = let v : View = old.me.0 in let w : View = now.me.0 in let a = ran_gate v w gate 1 b.0 b.1 r.behind r.runner in
-        let runner = runner_on made fits old.me now.me (seen_step v w (change 3 gate b.0 (with_gate b.0.object 1)) (record v.own { saw = false }) b.1 refl) told (λ i. (b.1.made.did i).runner) held r in record {
+        let runner = runner_on made fits old.me now.me (seen_step v w (change gate_word gate b.0 (with_gate b.0.object 1)) (record v.own { saw = false }) b.1 refl) told (λ i. (b.1.made.did i).runner) held r in record {
           same = same;
           so = record { gate = gate; begun = b.0; uses = [] };
           all = a;
@@ -256,7 +256,7 @@ module _ {Q : Type 0} (made : Q → List ℕ → Type 0) (fits : Q → Type 0) w
 
     pub rounds_done : (mid w : View) (limit count ran : ℕ) → InRounds old now count ran → count < limit → FoundNone now.me.0 mid → LeftNow mid w → IsDone old.me.0 limit ran w
     rounds_done mid w limit count ran r below n l = let v : View = old.me.0 in let u : View = now.me.0 in let long = r.long in let left : Leaving = record { tail = n.0; word = n.1; low = n.4; at_tail = n.2; at_place = n.3; at_gate = l.0 } in
-        let a = ran_on u mid w (load 1 n.0 n.2 ∷ load (place_word n.0) n.1 n.3 ∷ []) (change 3 1 l.0 (with_gate l.0.object 0) ∷ []) [] [] true false true false n.5 l.1 in
+        let a = ran_on u mid w (load tail_word n.0 n.2 ∷ load (place_word n.0) n.1 n.3 ∷ []) (change gate_word 1 l.0 (with_gate l.0.object 0) ∷ []) [] [] true false true false n.5 l.1 in
         (r.so, left, omega arith, one_run w r.so (Some left) ran (subst (λ (z : List Use). Ran v (serving r.so ++ leaving (Some left)) z false false w) (append-nil r.so.uses) (ran_on v u w (serving r.so) (leaving (Some left)) r.so.uses [] true false false false r.all a)) r.number)
 
     pub since_done : (mid w : View) (held : List (ℕ × Q)) (count ran : ℕ) → InRounds old now count ran → FoundNone now.me.0 mid → LeftNow mid w → IsTold w → HasOrGave made fits false (w, held) → MadeSince made fits old.me.0 w

@@ -1,5 +1,5 @@
 -- Each step keeps the rule, and tells its end what it says.
-use Rattle.proc_chain.proofs.Common.{◌≡◌, ◌≢◌, ℕ, ◌+◌, ◌-◌, ◌/◌, ◌%◌, ◌<◌, ◌≤◌, ◌⊎◌, inl, inr, ⊎_elim, true, false, eqb, List, [], ◌∷◌, ◌++◌, map, length, get_or, set, sym, refl, ap, ◌∙◌, subst, arith, length-set, length-append, map-set, some, none, dite, ℕ_discrete, dec_lt, get_elem?, State, Me, step, Allows, at_map, at_set, set_here, set_else, Cell, Batch, Positions, Moment, change, blank, place_at, item_at, written_at, Grows, fresh, with_write, with_take, head_of, tail_of, Lawful, spot, ViewsShow, number_of, written_to, at_below, one_at, grows_refl, claim_grows, write_grows, run_stands, found_not_raised, Did, GatedQueue, Shape, note_in, mark_in, place_word, notes_of, WordsShow, Shows, IsPlace, first_queue, IsLawful, Becomes, with_note, with_raise, with_taken, with_gate, taking, AreShown, View, nothing_did, of_chains, part_of, IsSettled, GateShows, SlotShows, Rule, IsTold, Meets, Stepped, Raised, run, IsRunner}
+use Rattle.proc_chain.proofs.Common.{◌≡◌, ◌≢◌, ℕ, ◌+◌, ◌-◌, ◌/◌, ◌%◌, ◌<◌, ◌≤◌, ◌⊎◌, inl, inr, ⊎_elim, true, false, eqb, List, [], ◌∷◌, ◌++◌, map, length, get_or, set, sym, refl, ap, ◌∙◌, subst, arith, length-set, length-append, map-set, some, none, dite, ℕ_discrete, dec_lt, get_elem?, State, Me, step, Allows, at_map, at_set, set_here, set_else, Cell, Batch, Positions, Moment, change, blank, place_at, item_at, written_at, Grows, fresh, with_write, with_take, head_of, tail_of, Lawful, spot, ViewsShow, number_of, written_to, at_below, one_at, grows_refl, claim_grows, write_grows, run_stands, found_not_raised, Did, GatedQueue, Shape, FIRST_PLACE, head_word, tail_word, ends_word, gate_word, note_in, mark_in, place_word, notes_of, WordsShow, Shows, IsPlace, first_queue, IsLawful, Becomes, with_note, with_raise, with_taken, with_gate, taking, AreShown, View, nothing_did, of_chains, part_of, IsSettled, GateShows, SlotShows, Rule, IsTold, Meets, Stepped, Raised, run, IsRunner}
 use Rattle.std.proofs.Common.{mod-lt, get_or-set_same, get_or-set_other}
 use mathlib.Core.Option.{Option}
 use prog.Atomic.{either}
@@ -37,44 +37,48 @@ gated_look q gate views id v w g at own sees = gated_same q q gate views id v w 
 pub listed_part : (q : Positions) (views : List View) (id : ℕ) (v w : View) → ViewsShow q (map part_of views) → get_elem? views id ≡ some v → w.own.runs ≡ v.own.runs → w.own.takes ≡ v.own.takes → w.seen.object.queue ≡ q → ViewsShow q (map part_of (set views id w))
 listed_part q views id v w l at runs taken sees = subst (ViewsShow q) (sym (map-set part_of views id w)) (listed_look q (map part_of views) id (part_of v) (part_of w) l (at_map part_of views id v at) runs taken (subst (λ (z : Positions). Grows z q) (sym sees) (grows_refl q)))
 
+-- the number of ends and the gate are no words of the queue
+none_other : (i j : ℕ) → (i ≡ ends_word) ⊎ (i ≡ gate_word) → (j ≡ head_word) ⊎ (j ≡ tail_word) ⊎ (FIRST_PLACE ≤ j) → i ≡ j → ⊥
+none_other i j at ne e = ⊎_elim (λ a. ⊎_elim (λ b. omega arith) (λ b. ⊎_elim (λ c. omega arith) (λ c. omega arith) b) ne) (λ a. ⊎_elim (λ b. omega arith) (λ b. ⊎_elim (λ c. omega arith) (λ c. omega arith) b) ne) at
+
 -- a word that is none of the queue's
-pub shows_else : (q : Positions) (words : List ℕ) (i y : ℕ) → (i ≡ 2) ⊎ (i ≡ 3) → WordsShow q words → WordsShow q (set words i y)
-shows_else q words i y at h = let other : (j : ℕ) → (j ≤ 1) ⊎ (4 ≤ j) → get_or (set words i y) j 0 ≡ get_or words j 0 = λ j ne. get_or-set_other words i j y 0 (λ e. ⊎_elim (λ a. ⊎_elim (λ b. let x : ⊥ = omega arith in x) (λ b. let x : ⊥ = omega arith in x) ne) (λ a. ⊎_elim (λ b. let x : ⊥ = omega arith in x) (λ b. let x : ⊥ = omega arith in x) ne) at) in record {
+pub shows_else : (q : Positions) (words : List ℕ) (i y : ℕ) → (i ≡ ends_word) ⊎ (i ≡ gate_word) → WordsShow q words → WordsShow q (set words i y)
+shows_else q words i y at h = let other : (j : ℕ) → (j ≡ head_word) ⊎ (j ≡ tail_word) ⊎ (FIRST_PLACE ≤ j) → get_or (set words i y) j 0 ≡ get_or words j 0 = λ j ne. get_or-set_other words i j y 0 (λ e. none_other i j at ne (sym e)) in record {
   wide = length-set words i y ∙ h.wide;
   room = h.room;
   is_open = h.is_open;
   bounded = h.bounded;
-  head = other 0 (inl (omega arith)) ∙ h.head;
-  tail = other 1 (inl (omega arith)) ∙ h.tail;
+  head = other head_word (inl refl) ∙ h.head;
+  tail = other tail_word (inr (inl refl)) ∙ h.tail;
   window = window_same q (mark_in words) (note_in words) (mark_in (set words i y)) (note_in (set words i y)) h.window
-      (λ k b. ap (λ (z : ℕ). z / 65536) (other (k + 4) (inr (omega arith)))) (λ k b. ap (λ (z : ℕ). z % 65536) (other (k + 4) (inr (omega arith))));
+      (λ k b. ap (λ (z : ℕ). z / 65536) (other (k + FIRST_PLACE) (inr (inr (omega arith))))) (λ k b. ap (λ (z : ℕ). z % 65536) (other (k + FIRST_PLACE) (inr (inr (omega arith)))));
 }
 
-shows_gate : (q : Positions) (words : List ℕ) (y : ℕ) → WordsShow q words → WordsShow q (set words 3 y)
-shows_gate q words y h = shows_else q words 3 y (inr refl) h
+shows_gate : (q : Positions) (words : List ℕ) (y : ℕ) → WordsShow q words → WordsShow q (set words gate_word y)
+shows_gate q words y h = shows_else q words gate_word y (inr refl) h
 
-shows_claim : (q : Positions) (words : List ℕ) (x new : ℕ) → WordsShow q words → new ≡ head_of q + 1 → new < 4294967296 → WordsShow (with_claim q (x ∷ [])) (set words 0 new)
+shows_claim : (q : Positions) (words : List ℕ) (x new : ℕ) → WordsShow q words → new ≡ head_of q + 1 → new < 4294967296 → WordsShow (with_claim q (x ∷ [])) (set words head_word new)
 shows_claim q words x new h is fits = let wide = h.wide in let long = length-append q.places (map fresh (x ∷ [])) in record {
-  wide = length-set words 0 new ∙ h.wide;
+  wide = length-set words head_word new ∙ h.wide;
   room = h.room;
   is_open = h.is_open;
   bounded = omega arith;
-  head = get_or-set_same words 0 new 0 (omega arith) ∙ (omega arith);
-  tail = get_or-set_other words 0 1 new 0 (λ e. omega arith) ∙ h.tail;
-  window = window_same (with_claim q (x ∷ [])) (mark_in words) (note_in words) (mark_in (set words 0 new)) (note_in (set words 0 new)) (window_claim q (x ∷ []) (mark_in words) (note_in words) h.window)
-      (λ k b. ap (λ (z : ℕ). z / 65536) (get_or-set_other words 0 (k + 4) new 0 (λ e. omega arith))) (λ k b. ap (λ (z : ℕ). z % 65536) (get_or-set_other words 0 (k + 4) new 0 (λ e. omega arith)));
+  head = get_or-set_same words head_word new 0 (omega arith) ∙ (omega arith);
+  tail = get_or-set_other words head_word tail_word new 0 (λ e. omega arith) ∙ h.tail;
+  window = window_same (with_claim q (x ∷ [])) (mark_in words) (note_in words) (mark_in (set words head_word new)) (note_in (set words head_word new)) (window_claim q (x ∷ []) (mark_in words) (note_in words) h.window)
+      (λ k b. ap (λ (z : ℕ). z / 65536) (get_or-set_other words head_word (k + FIRST_PLACE) new 0 (λ e. omega arith))) (λ k b. ap (λ (z : ℕ). z % 65536) (get_or-set_other words head_word (k + FIRST_PLACE) new 0 (λ e. omega arith)));
 }
 
-shows_take : (q : Positions) (words : List ℕ) (new : ℕ) → WordsShow q words → Lawful q → q.taken + 1 ≤ length q.places → new ≡ tail_of q + 1 → WordsShow (with_take q 1) (set words 1 new)
+shows_take : (q : Positions) (words : List ℕ) (new : ℕ) → WordsShow q words → Lawful q → q.taken + 1 ≤ length q.places → new ≡ tail_of q + 1 → WordsShow (with_take q 1) (set words tail_word new)
 shows_take q words new h l below is = let wide = h.wide in record {
-  wide = length-set words 1 new ∙ h.wide;
+  wide = length-set words tail_word new ∙ h.wide;
   room = h.room;
   is_open = h.is_open;
   bounded = h.bounded;
-  head = get_or-set_other words 1 0 new 0 (λ e. omega arith) ∙ h.head;
-  tail = get_or-set_same words 1 new 0 (omega arith) ∙ (omega arith);
-  window = window_same (with_take q 1) (mark_in words) (note_in words) (mark_in (set words 1 new)) (note_in (set words 1 new)) (window_take q 1 (mark_in words) (note_in words) h.window l below)
-      (λ k b. ap (λ (z : ℕ). z / 65536) (get_or-set_other words 1 (k + 4) new 0 (λ e. omega arith))) (λ k b. ap (λ (z : ℕ). z % 65536) (get_or-set_other words 1 (k + 4) new 0 (λ e. omega arith)));
+  head = get_or-set_other words tail_word head_word new 0 (λ e. omega arith) ∙ h.head;
+  tail = get_or-set_same words tail_word new 0 (omega arith) ∙ (omega arith);
+  window = window_same (with_take q 1) (mark_in words) (note_in words) (mark_in (set words tail_word new)) (note_in (set words tail_word new)) (window_take q 1 (mark_in words) (note_in words) h.window l below)
+      (λ k b. ap (λ (z : ℕ). z / 65536) (get_or-set_other words tail_word (k + FIRST_PLACE) new 0 (λ e. omega arith))) (λ k b. ap (λ (z : ℕ). z % 65536) (get_or-set_other words tail_word (k + FIRST_PLACE) new 0 (λ e. omega arith)));
 }
 
 -- the stored number tells which run was raised, and with what
@@ -109,7 +113,7 @@ module _ {Q W : Type 0} (made : W → Q → List ℕ → Type 0) (fits : W → Q
 
   -- the rule, and what is told, after an event at a word that is not the number of ends
   module _ (s : State Q View) (k : R s) (i found id : ℕ) (v : View) (own : Did) (o : GatedQueue) (at : get_elem? s.views id ≡ some v) (is : found ≡ get_or s.words i 0) (b : Becomes k.now.object o) where
-    kept_event : (y : ℕ) (homes : List (Option Q)) → 1 ≤ v.member.ends → i ≢ 2 → o.queue.first ≡ k.now.object.queue.first → Shows o (set s.words i y) → ViewsShow o.queue (map part_of (set s.views id (acted k v own i found o)))
+    kept_event : (y : ℕ) (homes : List (Option Q)) → 1 ≤ v.member.ends → i ≢ ends_word → o.queue.first ≡ k.now.object.queue.first → Shows o (set s.words i y) → ViewsShow o.queue (map part_of (set s.views id (acted k v own i found o)))
         → GateShows o.queue o.gate (set s.views id (acted k v own i found o)) → SlotShows made fits key.pact o.queue o.gate homes → own.doubled ≡ v.own.doubled
         → R record { words = set s.words i y; homes = homes; views = set s.views id (acted k v own i found o) } × IsTold (acted k v own i found o)
     kept_event y homes live ne first shows listed gate slot doubled = let w : View = acted k v own i found o in let r : R record { words = set s.words i y; homes = homes; views = set s.views id w } = record {
@@ -140,7 +144,7 @@ module _ {Q W : Type 0} (made : W → Q → List ℕ → Type 0) (fits : W → Q
     stands = λ s k. k.stands;
     kept = λ s k words id number v w at own seen stands. kept_still s k words id number v w at (λ i. (own i).runs) (λ i. (own i).takes) (λ i. (own i).doubled) seen (gated_look k.now.object.queue k.now.object.gate s.views id v w k.gate at own (λ i. (seen i).object.queue.taken)) stands;
     wide = λ o words h. let wide = h.0.wide in omega arith;
-    recounted = λ o words y h. (shows_else o.queue words 2 y (inl refl) h.0, get_or-set_other words 2 3 y 0 (λ e. omega arith) ∙ h.1);
+    recounted = λ o words y h. (shows_else o.queue words ends_word y (inl refl) h.0, get_or-set_other words ends_word gate_word y 0 (λ e. omega arith) ∙ h.1);
   }
 
   -- what is told behind a step
@@ -157,25 +161,25 @@ module _ {Q W : Type 0} (made : W → Q → List ℕ → Type 0) (fits : W → Q
   looks n id me i live = tables.looks table n id me (finds (step n i 0 0 none) me) i live (λ s k at b. ((refl, behind_told s _ id me.0 _ at b.0 b.1), (k.now, step_told s k i (get_or s.words i 0) id me.0 me.0.own k.now.object at refl (stays refl))))
 
   pub claims_head : (n id : ℕ) (me : Me Q View) (old new x : ℕ) → x < 65536 → new ≡ old + 1 → new < 4294967296 → old + 1 ≤ tail_of me.0.seen.object.queue + me.0.seen.object.queue.room → 1 ≤ me.0.member.ends
-      → Allows R n id me 0 (λ y. either (eqb y old) new y) (claims x (step n 0 old new none) me)
-  claims_head n id me old new x tiny is bounded room live = tables.exchanges table n id me (claims x (step n 0 old new none) me) 0 old new live
+      → Allows R n id me head_word (λ y. either (eqb y old) new y) (claims x (step n head_word old new none) me)
+  claims_head n id me old new x tiny is bounded room live = tables.exchanges table n id me (claims x (step n head_word old new none) me) head_word old new live
       (λ s k at hit. let v : View = me.0 in let o : GatedQueue = k.now.object in let q : Positions = o.queue in let g = meets s k id v at in let hd = k.stands.shows.0.head in let here : head_of q ≡ old = omega arith in let first = g.grows.first in let same_room = g.grows.room in let further = g.grows.further in let behind = k.stands.lawful.0.behind in
-      let own_now : Did = record v.own { runs = v.own.runs ++ run old x ∷ [] } in let o' : GatedQueue = with_note o x in let q' : Positions = o'.queue in let w : View = acted k v own_now 0 old o' in
+      let own_now : Did = record v.own { runs = v.own.runs ++ run old x ∷ [] } in let o' : GatedQueue = with_note o x in let q' : Positions = o'.queue in let w : View = acted k v own_now head_word old o' in
       let b : Becomes o o' = becomes.claimed x tiny (omega arith) k.stands.shows.0.is_open refl in
       let listed' : ViewsShow q' (set (map part_of s.views) id (part_of w)) = listed_claim q (map part_of s.views) id (part_of v) (part_of w) (x ∷ []) k.listed (at_map part_of s.views id v at) behind k.stands.shows.0.is_open (omega arith) (λ z. v.own.runs ++ run (sym here z) x ∷ []) refl (grows_refl q') in
       let settled : IsSettled q s.views → IsSettled q' (set s.views id w) = λ st up. dite (dec_lt q.taken (length q.places))
       (λ c. let e : written_at q' q.taken ≡ written_at q q.taken = ap (λ (z : Cell). z.written) (claim_old q (x ∷ []) q.taken c) in owed_on q q' s.views id v w at (st (omega arith)) refl (λ h. h) (λ _. covers_more v w (run old x ∷ []) refl))
       (λ nb. let e = claim_new q (x ∷ []) q.taken (omega arith) in absurd (omega arith)) in
-      let p = kept_event s k 0 old id v own_now o' at (sym hit) b new s.homes live (λ e. omega arith) refl
-      (shows_claim q s.words x new k.stands.shows.0 (omega arith) bounded, get_or-set_other s.words 0 3 new 0 (λ e. omega arith) ∙ k.stands.shows.1)
+      let p = kept_event s k head_word old id v own_now o' at (sym hit) b new s.homes live (λ e. omega arith) refl
+      (shows_claim q s.words x new k.stands.shows.0 (omega arith) bounded, get_or-set_other s.words head_word gate_word new 0 (λ e. omega arith) ∙ k.stands.shows.1)
       (subst (ViewsShow q') (sym (map-set part_of s.views id w)) listed') (gated_same q q' o.gate s.views id v w k.gate at refl refl (λ _. refl) (λ _. refl) (λ h. inl h) settled)
       (housed_on made fits key.pact q q' o.gate s.homes k.slot (notes_same q q' (claim_grows q (x ∷ []) k.stands.shows.0.is_open) refl behind)) refl in
       let distinct' = distinct q' (set (map part_of s.views) id (part_of w)) id (part_of w) listed'.lists (set_here (map part_of s.views) id (part_of w) (at_below (map part_of s.views) id (part_of v) (at_map part_of s.views id v at))) in
-      (w, keeps, tt, p.0, ((refl, p.1), (λ _. (k.now, event_told s k 0 old id v own_now o' at (sym hit) b, distinct', λ m e has. (let l = run_stands q (map part_of s.views) id m (part_of v) e k.listed.lists (at_map part_of s.views id v at) has in let st = l.start in let within = l.within in omega arith))), λ miss. absurd (miss hit))))
-      (λ s k at miss b. ((refl, behind_told s _ id me.0 _ at b.0 b.1), (λ hit. absurd (miss hit)), λ _. (k.now, step_told s k 0 (get_or s.words 0 0) id me.0 me.0.own k.now.object at refl (stays refl))))
+      (w, keeps, tt, p.0, ((refl, p.1), (λ _. (k.now, event_told s k head_word old id v own_now o' at (sym hit) b, distinct', λ m e has. (let l = run_stands q (map part_of s.views) id m (part_of v) e k.listed.lists (at_map part_of s.views id v at) has in let st = l.start in let within = l.within in omega arith))), λ miss. absurd (miss hit))))
+      (λ s k at miss b. ((refl, behind_told s _ id me.0 _ at b.0 b.1), (λ hit. absurd (miss hit)), λ _. (k.now, step_told s k head_word (get_or s.words head_word 0) id me.0 me.0.own k.now.object at refl (stays refl))))
 
   -- the end raises the place of its run that starts at `start`
-  pub raises_place : (n id : ℕ) (me : Me Q View) (start u x : ℕ) (e : Batch) → 1 ≤ me.0.member.ends → get_elem? me.0.own.runs (number_of start me.0.own.runs) ≡ some e → e.start ≡ start → 0 < length e.places → (get_or e.places 0 blank).written < 2 → u ≡ start % 32 + 4
+  pub raises_place : (n id : ℕ) (me : Me Q View) (start u x : ℕ) (e : Batch) → 1 ≤ me.0.member.ends → get_elem? me.0.own.runs (number_of start me.0.own.runs) ≡ some e → e.start ≡ start → 0 < length e.places → (get_or e.places 0 blank).written < 2 → u ≡ place_word start
       → x / 65536 ≡ start + 1 → x % 65536 ≡ (get_or e.places 0 blank).item → Allows R n id me u (λ _. x) (λ _. raises (step n u x 0 none) me x)
   raises_place n id me start u x e live has starts below low word flag_is note_is s k _ at _ = let v : View = me.0 in let m : ℕ = number_of start v.own.runs in let o : GatedQueue = k.now.object in let q : Positions = o.queue in
       let mine : Own q e 0 = own q e 0 k.stands.lawful.0 (run_stands q (map part_of s.views) id m (part_of v) e k.listed.lists (at_map part_of s.views id v at) has) below low in let p : ℕ = mine.at in let st = mine.start in let from = mine.from in
@@ -183,9 +187,9 @@ module _ {Q W : Type 0} (made : W → Q → List ℕ → Type 0) (fits : W → Q
       let is_write : o' ≡ record o { queue = q'' } = raise_is o p in
       let wide = k.stands.shows.0.wide in let room = k.stands.shows.0.room in let long = length-set q.places p (record { item = item_at q p; written = 2 }) in
       let was : written_at q p ≡ (get_or e.places 0 blank).written = ap (λ (z : Cell). z.written) mine.same in let item : item_at q p ≡ x % 65536 = ap (λ (z : Cell). z.item) mine.same ∙ sym note_is in
-      let same_pos : start ≡ q.first + p = omega arith in let here : u ≡ spot q p + 4 = word ∙ (λ i. same_pos i % sym room i + 4) in let near : spot q p < q.room = mod-lt (q.first + p) k.stands.shows.0.window.some_room in
+      let same_pos : start ≡ q.first + p = omega arith in let here : u ≡ spot q p + FIRST_PLACE = word ∙ (λ i. same_pos i % sym room i + FIRST_PLACE) in let near : spot q p < q.room = mod-lt (q.first + p) k.stands.shows.0.window.some_room in
       let now = write_here q p 2 mine.below in let written : written_at q'' p ≡ 2 = ap (λ (z : Cell). z.written) now in
-      let stored : get_or words' (spot q p + 4) 0 ≡ x = ap (λ (z : ℕ). get_or words' z 0) (sym here) ∙ get_or-set_same s.words u x 0 (omega arith) in
+      let stored : get_or words' (spot q p + FIRST_PLACE) 0 ≡ x = ap (λ (z : ℕ). get_or words' z 0) (sym here) ∙ get_or-set_same s.words u x 0 (omega arith) in
       let other : (j : ℕ) → j ≢ u → get_or words' j 0 ≡ get_or s.words j 0 = λ j ne. get_or-set_other s.words u j x 0 ne in
       let b : Becomes o o' = becomes.raised p mine.from mine.below (omega arith) refl in
       let here_at : get_elem? (set s.views id w) id ≡ some w = set_here s.views id w (at_below s.views id v at) in
@@ -202,16 +206,16 @@ module _ {Q W : Type 0} (made : W → Q → List ℕ → Type 0) (fits : W → Q
         room = h.room;
         is_open = h.is_open;
         bounded = let a = h.bounded in omega arith;
-        head = other 0 (λ z. omega arith) ∙ (h.head ∙ (omega arith));
-        tail = other 1 (λ z. omega arith) ∙ h.tail;
+        head = other head_word (λ z. omega arith) ∙ (h.head ∙ (omega arith));
+        tail = other tail_word (λ z. omega arith) ∙ h.tail;
         window = window_write q p 2 (mark_in s.words) (note_in s.words) (mark_in words') (note_in words') h.window mine.from mine.to
-            (λ j c ne. ap (λ (z : ℕ). z / 65536) (other (j + 4) (λ z. ne (omega arith)))) (λ j c ne. ap (λ (z : ℕ). z % 65536) (other (j + 4) (λ z. ne (omega arith))))
+            (λ j c ne. ap (λ (z : ℕ). z / 65536) (other (j + FIRST_PLACE) (λ z. ne (omega arith)))) (λ j c ne. ap (λ (z : ℕ). z % 65536) (other (j + FIRST_PLACE) (λ z. ne (omega arith))))
             record { low = λ h. absurd (omega arith); up = λ h. ap (λ (z : ℕ). z / 65536) stored ∙ (flag_is ∙ ap (λ (z : ℕ). z + 1) same_pos); holds = λ h. ap (λ (z : ℕ). z % 65536) stored ∙ (sym item ∙ sym (ap (λ (z : Cell). z.item) now)) };
       }) in
       let listed' : ViewsShow q'' (map part_of (set s.views id w)) = subst (ViewsShow q'') (sym (map-set part_of s.views id w)) (listed_write q (map part_of s.views) id m 0 2 p (part_of v) (part_of w) e k.listed (at_map part_of s.views id v at) has below mine.start mine.from (omega arith) refl refl later) in
       let gate' : GateShows q'' o.gate (set s.views id w) = gated_same q q'' o.gate s.views id v w k.gate at refl refl (λ _. ap (λ (z : GatedQueue). z.queue.taken) is_write) (λ _. refl) (λ h. inl h) settled in
       let slot' : SlotShows made fits key.pact q'' o.gate s.homes = housed_on made fits key.pact q q'' o.gate s.homes k.slot (notes_same q q'' (write_grows q p 2 mine.below (omega arith)) refl k.stands.lawful.0.behind) in
-      let p' = kept_event s k u found id v own_now o' at refl b x s.homes live (λ z. omega arith) refl (subst (λ (z : GatedQueue). Shows z words') (sym is_write) (shows', other 3 (λ z. omega arith) ∙ k.stands.shows.1))
+      let p' = kept_event s k u found id v own_now o' at refl b x s.homes live (λ z. omega arith) refl (subst (λ (z : GatedQueue). Shows z words') (sym is_write) (shows', other gate_word (λ z. omega arith) ∙ k.stands.shows.1))
       (subst (λ (z : GatedQueue). ViewsShow z.queue (map part_of (set s.views id w))) (sym is_write) listed') (subst (λ (z : GatedQueue). GateShows z.queue z.gate (set s.views id w)) (sym is_write) gate')
       (subst (λ (z : GatedQueue). SlotShows made fits key.pact z.queue z.gate s.homes) (sym is_write) slot') refl in (
         w,
@@ -228,52 +232,52 @@ module _ {Q W : Type 0} (made : W → Q → List ℕ → Type 0) (fits : W → Q
 
   -- the gate becomes y by a step that leaves the queue
   kept_gate : (s : State Q View) (k : R s) (found y id : ℕ) (v : View) (own : Did) → get_elem? s.views id ≡ some v → found ≡ gate_in s.words → Becomes k.now.object (with_gate k.now.object y) → (homes : List (Option Q)) → 1 ≤ v.member.ends → own.runs ≡ v.own.runs → own.takes ≡ v.own.takes → own.doubled ≡ v.own.doubled
-      → GateShows k.now.object.queue y (set s.views id (acted k v own 3 found (with_gate k.now.object y))) → SlotShows made fits key.pact k.now.object.queue y homes
-      → R record { words = set s.words 3 y; homes = homes; views = set s.views id (acted k v own 3 found (with_gate k.now.object y)) } × IsTold (acted k v own 3 found (with_gate k.now.object y))
+      → GateShows k.now.object.queue y (set s.views id (acted k v own gate_word found (with_gate k.now.object y))) → SlotShows made fits key.pact k.now.object.queue y homes
+      → R record { words = set s.words gate_word y; homes = homes; views = set s.views id (acted k v own gate_word found (with_gate k.now.object y)) } × IsTold (acted k v own gate_word found (with_gate k.now.object y))
   kept_gate s k found y id v own at is b homes live runs taken doubled g h = let wide = k.stands.shows.0.wide in let o' : GatedQueue = with_gate k.now.object y in
-      kept_event s k 3 found id v own o' at is b y homes live (λ e. omega arith) refl (shows_gate k.now.object.queue s.words y k.stands.shows.0, get_or-set_same s.words 3 y 0 (omega arith))
-      (listed_part k.now.object.queue s.views id v (acted k v own 3 found o') k.listed at runs taken refl) g h doubled
+      kept_event s k gate_word found id v own o' at is b y homes live (λ e. omega arith) refl (shows_gate k.now.object.queue s.words y k.stands.shows.0, get_or-set_same s.words gate_word y 0 (omega arith))
+      (listed_part k.now.object.queue s.views id v (acted k v own gate_word found o') k.listed at runs taken refl) g h doubled
 
-  pub notifies_gate : (makes : Q → List ℕ → Type 0) (suits : Q → Type 0) (n id : ℕ) (me : Me Q View) → 1 ≤ me.0.member.ends → ((x : Q) → fits key.pact x → suits x) → ((x : Q) (notes : List ℕ) → made key.pact x notes → makes x notes) → Allows R n id me 3 (λ _. 2) (notifies makes suits (step n 3 2 0 none) me)
+  pub notifies_gate : (makes : Q → List ℕ → Type 0) (suits : Q → Type 0) (n id : ℕ) (me : Me Q View) → 1 ≤ me.0.member.ends → ((x : Q) → fits key.pact x → suits x) → ((x : Q) (notes : List ℕ) → made key.pact x notes → makes x notes) → Allows R n id me gate_word (λ _. 2) (notifies makes suits (step n gate_word 2 0 none) me)
   notifies_gate makes suits n id me live fit make s k _ at _ = let v : View = me.0 in let o : GatedQueue = k.now.object in let q : Positions = o.queue in let b : Becomes o (with_gate o 2) = becomes.notified refl in dite (ℕ_discrete (gate_in s.words) 0)
-      (λ down. let down' : o.gate ≡ 0 = sym k.stands.shows.1 ∙ down in let h = k.slot.home down' in let x : Q = h.0 in let own_now : Did = record v.own { owes = false; runner = true; taken = q.taken; saw = false } in let w : View = acted k v own_now 3 0 (with_gate o 2) in let none_runs = k.gate.still down' in
+      (λ down. let down' : o.gate ≡ 0 = sym k.stands.shows.1 ∙ down in let h = k.slot.home down' in let x : Q = h.0 in let own_now : Did = record v.own { owes = false; runner = true; taken = q.taken; saw = false } in let w : View = acted k v own_now gate_word 0 (with_gate o 2) in let none_runs = k.gate.still down' in
       let p = kept_gate s k 0 2 id v own_now at (sym down) b (set s.homes 0 none) live refl refl refl (gated_runs q 2 s.views id v w at (λ j u has ne. none_runs j u has) (λ e. omega arith) (omega arith) refl refl refl refl) record { home = λ e. absurd (omega arith); held = λ _. ap (λ (z : List (Option Q)). set z 0 none) h.1 } in
-      (w, acts.takes 0 x, subst (λ (z : List (Option Q)). get_elem? z 0 ≡ some (some x)) (sym h.1) refl, p.0, (p.1, (λ _. (none_runs id v at, (k.now, event_told s k 3 0 id v own_now (with_gate o 2) at (sym down) b, (x, refl, make x (notes_of q) h.2, fit x h.3)))), λ up. absurd (up down))))
-      (λ up. let own_now : Did = record v.own { owes = false } in let found : ℕ = gate_in s.words in let w : View = acted k v own_now 3 found (with_gate o 2) in let up' : o.gate ≢ 0 = λ e. up (k.stands.shows.1 ∙ e) in
+      (w, acts.takes 0 x, subst (λ (z : List (Option Q)). get_elem? z 0 ≡ some (some x)) (sym h.1) refl, p.0, (p.1, (λ _. (none_runs id v at, (k.now, event_told s k gate_word 0 id v own_now (with_gate o 2) at (sym down) b, (x, refl, make x (notes_of q) h.2, fit x h.3)))), λ up. absurd (up down))))
+      (λ up. let own_now : Did = record v.own { owes = false } in let found : ℕ = gate_in s.words in let w : View = acted k v own_now gate_word found (with_gate o 2) in let up' : o.gate ≢ 0 = λ e. up (k.stands.shows.1 ∙ e) in
       let p = kept_gate s k found 2 id v own_now at refl b s.homes live refl refl refl (gated_more q o.gate s.views id v w k.gate at up' refl refl refl) record { home = λ e. absurd (omega arith); held = λ _. k.slot.held up' } in
-      (w, keeps, tt, p.0, (p.1, (λ down. absurd (up down)), λ _. (refl, (up, (k.now, event_told s k 3 found id v own_now (with_gate o 2) at refl b))))))
+      (w, keeps, tt, p.0, (p.1, (λ down. absurd (up down)), λ _. (refl, (up, (k.now, event_told s k gate_word found id v own_now (with_gate o 2) at refl b))))))
 
-  pub spies_place : (n id : ℕ) (me : Me Q View) (i : ℕ) → me.0.own.runner ≡ true → 1 ≤ me.0.member.ends → i ≡ tail_of me.0.seen.object.queue % 32 + 4 → Allows R n id me i (λ x. x) (spies (step n i 0 0 none) me)
+  pub spies_place : (n id : ℕ) (me : Me Q View) (i : ℕ) → me.0.own.runner ≡ true → 1 ≤ me.0.member.ends → i ≡ place_word (tail_of me.0.seen.object.queue) → Allows R n id me i (λ x. x) (spies (step n i 0 0 none) me)
   spies_place n id me i r live word s k _ at _ = let v : View = me.0 in let o : GatedQueue = k.now.object in let q : Positions = o.queue in let g = meets s k id v at in let y : ℕ = get_or s.words i 0 in
       let taken = g.turn r in let first = g.grows.first in let room = k.stands.shows.0.room in let tail : tail_of v.seen.object.queue ≡ tail_of q = omega arith in let behind = k.stands.lawful.0.behind in
       dite (ℕ_discrete (y / 65536) (tail_of v.seen.object.queue + 1))
       (λ up. look_goes s k n i id me (spies (step n i 0 0 none) me y) v.own at live refl refl refl (gated_look q o.gate s.views id v (acted k v v.own i y o) k.gate at refl refl) (λ t f. ((refl, t), record { up = λ _. (k.now, f); low = λ ne. absurd (ne up) })))
-      (λ no. let here : i ≡ spot q q.taken + 4 = word ∙ (λ j. tail j % sym room j + 4) in let own_now : Did = record v.own { saw = true } in let w : View = acted k v own_now i y o in
+      (λ no. let here : i ≡ spot q q.taken + FIRST_PLACE = word ∙ (λ j. tail j % sym room j + FIRST_PLACE) in let own_now : Did = record v.own { saw = true } in let w : View = acted k v own_now i y o in
       let low : written_at q q.taken < 2 = found_not_raised q (mark_in s.words) (note_in s.words) q.taken k.stands.shows.0.window (omega arith) (omega arith) (λ h. no (ap (λ (z : ℕ). get_or s.words z 0 / 65536) here ∙ (h ∙ (omega arith)))) in
       look_goes s k n i id me (spies (step n i 0 0 none) me y) own_now at live refl refl refl (gated_same q q o.gate s.views id v w k.gate at refl refl (λ _. refl) (λ _. refl) (λ _. inr (λ up. absurd (omega arith))) (settled_look q s.views id v w at refl refl)) (λ t f. ((refl, t), record { up = λ up. absurd (no up); low = λ _. (k.now, f) })))
 
   pub takes_note : (n id : ℕ) (me : Me Q View) (new : ℕ) → me.0.own.runner ≡ true → 1 ≤ me.0.member.ends → 2 ≤ written_at me.0.seen.object.queue me.0.seen.object.queue.taken → new ≡ tail_of me.0.seen.object.queue + 1
-      → Allows R n id me 1 (λ _. new) (λ _. tells.takes (step n 1 new 0 none) me new)
+      → Allows R n id me tail_word (λ _. new) (λ _. tells.takes (step n tail_word new 0 none) me new)
   takes_note n id me new r live up is s k _ at _ = let v : View = me.0 in let o : GatedQueue = k.now.object in let q : Positions = o.queue in let g = meets s k id v at in let taken = g.turn r in let first = g.grows.first in let tl = k.stands.shows.0.tail in
-      let own_now : Did = record v.own { takes = v.own.takes ++ taking q ∷ []; taken = v.own.taken + 1; saw = false } in let found : ℕ = get_or s.words 1 0 in let o' : GatedQueue = with_taken o in let q' : Positions = o'.queue in let w : View = acted k v own_now 1 found o' in let more = g.grows.more v.seen.object.queue.taken in
+      let own_now : Did = record v.own { takes = v.own.takes ++ taking q ∷ []; taken = v.own.taken + 1; saw = false } in let found : ℕ = get_or s.words tail_word 0 in let o' : GatedQueue = with_taken o in let q' : Positions = o'.queue in let w : View = acted k v own_now tail_word found o' in let more = g.grows.more v.seen.object.queue.taken in
       let now : 2 ≤ written_at q q.taken = subst (λ (z : ℕ). 2 ≤ written_at q z) (sym taken) (let f : 2 ≤ written_at q v.seen.object.queue.taken = omega arith in f) in
       let b : Becomes o o' = becomes.took now refl in let lawful' : IsLawful o' = becomes_lawful o o' k.stands.lawful b in let not_idle = gate_up q o.gate s.views id v k.gate at r in
-      let p = kept_event s k 1 found id v own_now o' at refl b new s.homes live (λ e. omega arith) refl (shows_take q s.words new k.stands.shows.0 k.stands.lawful.0 lawful'.0.behind (omega arith), get_or-set_other s.words 1 3 new 0 (λ e. omega arith) ∙ k.stands.shows.1)
+      let p = kept_event s k tail_word found id v own_now o' at refl b new s.homes live (λ e. omega arith) refl (shows_take q s.words new k.stands.shows.0 k.stands.lawful.0 lawful'.0.behind (omega arith), get_or-set_other s.words tail_word gate_word new 0 (λ e. omega arith) ∙ k.stands.shows.1)
       (subst (ViewsShow q') (sym (map-set part_of s.views id w)) (listed_take q (map part_of s.views) id 1 (part_of v) (part_of w) k.listed (at_map part_of s.views id v at) (omega arith) lawful'.0.behind refl refl (grows_refl q')))
       (gated_runs q' o.gate s.views id v w at (others_still q o.gate s.views id v k.gate at r) not_idle k.gate.bounded r refl refl (ap (λ (z : ℕ). z + 1) (sym (g.count r)))) record { home = λ down. absurd (not_idle down); held = k.slot.held } refl in
-      (w, keeps, tt, p.0, ((refl, p.1), (λ tail e. let same : found ≡ tail = omega arith in (k.now, subst (λ (z : ℕ). Stepped v (change 1 z k.now o') own_now w) same (event_told s k 1 found id v own_now o' at refl b)))))
+      (w, keeps, tt, p.0, ((refl, p.1), (λ tail e. let same : found ≡ tail = omega arith in (k.now, subst (λ (z : ℕ). Stepped v (change tail_word z k.now o') own_now w) same (event_told s k tail_word found id v own_now o' at refl b)))))
 
-  pub rounds_gate : (n id : ℕ) (me : Me Q View) → me.0.own.runner ≡ true → 1 ≤ me.0.member.ends → Allows R n id me 3 (λ _. 1) (rounds (step n 3 1 0 none) me)
+  pub rounds_gate : (n id : ℕ) (me : Me Q View) → me.0.own.runner ≡ true → 1 ≤ me.0.member.ends → Allows R n id me gate_word (λ _. 1) (rounds (step n gate_word 1 0 none) me)
   rounds_gate n id me r live s k _ at _ = let v : View = me.0 in let o : GatedQueue = k.now.object in let q : Positions = o.queue in let not_idle = gate_up q o.gate s.views id v k.gate at r in let found : ℕ = gate_in s.words in
-      let own_now : Did = record v.own { saw = false } in let w : View = acted k v own_now 3 found (with_gate o 1) in let b : Becomes o (with_gate o 1) = becomes.round not_idle refl in
+      let own_now : Did = record v.own { saw = false } in let w : View = acted k v own_now gate_word found (with_gate o 1) in let b : Becomes o (with_gate o 1) = becomes.round not_idle refl in
       let p = kept_gate s k found 1 id v own_now at refl b s.homes live refl refl refl (gated_runs q 1 s.views id v w at (others_still q o.gate s.views id v k.gate at r) (λ e. omega arith) (omega arith) r refl refl (k.gate.counts id v at r)) record { home = λ e. absurd (omega arith); held = λ _. k.slot.held not_idle } in
-      (w, keeps, tt, p.0, ((refl, p.1), (k.now, event_told s k 3 found id v own_now (with_gate o 1) at refl b)))
+      (w, keeps, tt, p.0, ((refl, p.1), (k.now, event_told s k gate_word found id v own_now (with_gate o 1) at refl b)))
 
-  pub leaves_gate : (n id : ℕ) (me : Me Q View) → me.0.own.saw ≡ true → IsRunner (made key.pact) (fits key.pact) me → Allows R n id me 3 (λ y. either (eqb y 1) 0 y) (leaves (step n 3 1 0 none) me)
-  leaves_gate n id me sw runner = tables.exchanges table n id me (leaves (step n 3 1 0 none) me) 3 1 0 runner.live
-      (λ s k at hit. let v : View = me.0 in let o : GatedQueue = k.now.object in let q : Positions = o.queue in let r = runner.runner in let c = runner.carries in let g = meets s k id v at in let not_idle = gate_up q o.gate s.views id v k.gate at r in let hit' : o.gate ≡ 1 = sym k.stands.shows.1 ∙ hit in let own_now : Did = record v.own { runner = false; saw = false } in let w : View = acted k v own_now 3 1 (with_gate o 0) in let b : Becomes o (with_gate o 0) = becomes.left hit' refl in
+  pub leaves_gate : (n id : ℕ) (me : Me Q View) → me.0.own.saw ≡ true → IsRunner (made key.pact) (fits key.pact) me → Allows R n id me gate_word (λ y. either (eqb y 1) 0 y) (leaves (step n gate_word 1 0 none) me)
+  leaves_gate n id me sw runner = tables.exchanges table n id me (leaves (step n gate_word 1 0 none) me) gate_word 1 0 runner.live
+      (λ s k at hit. let v : View = me.0 in let o : GatedQueue = k.now.object in let q : Positions = o.queue in let r = runner.runner in let c = runner.carries in let g = meets s k id v at in let not_idle = gate_up q o.gate s.views id v k.gate at r in let hit' : o.gate ≡ 1 = sym k.stands.shows.1 ∙ hit in let own_now : Did = record v.own { runner = false; saw = false } in let w : View = acted k v own_now gate_word 1 (with_gate o 0) in let b : Becomes o (with_gate o 0) = becomes.left hit' refl in
       let p = kept_gate s k 1 0 id v own_now at (sym hit) b (put_back s.homes me.1) runner.live refl refl refl (gated_leaves q s.views id v w (subst (λ (z : ℕ). GateShows q z s.views) hit' k.gate) at r sw refl refl refl)
       record { home = λ _. (c.0, (λ i. put_back (k.slot.held not_idle i) (c.1 i)), subst (made key.pact c.0) (sym (notes_same v.seen.object.queue q g.grows (g.turn r) runner.behind)) c.2, c.3); held = λ e. absurd (e refl) } in
-      (w, gives, tt, p.0, (p.1, (λ _. (refl, (k.now, event_told s k 3 1 id v own_now (with_gate o 0) at (sym hit) b))), λ miss. absurd (miss hit))))
+      (w, gives, tt, p.0, (p.1, (λ _. (refl, (k.now, event_told s k gate_word 1 id v own_now (with_gate o 0) at (sym hit) b))), λ miss. absurd (miss hit))))
       (λ s k at miss b. let y : ℕ = gate_in s.words in let o : GatedQueue = k.now.object in let bounded = k.gate.bounded in let same = k.stands.shows.1 in let f : o.gate ≢ 0 = gate_up o.queue o.gate s.views id me.0 k.gate at runner.runner in let m : y ≢ 1 = miss in let e : o.gate ≡ y = sym same in
-      (behind_told s _ id me.0 _ at b.0 b.1, (λ hit. absurd (miss hit)), λ _. (refl, (k.now, step_told s k 3 y id me.0 me.0.own o at refl (stays refl)), omega arith)))
+      (behind_told s _ id me.0 _ at b.0 b.1, (λ hit. absurd (miss hit)), λ _. (refl, (k.now, step_told s k gate_word y id me.0 me.0.own o at refl (stays refl)), omega arith)))

@@ -1,6 +1,7 @@
 -- The steps that make, split, join and count ends keep the rule.
-use Rattle.proc_chain.proofs.Common.{◌≡◌, ℕ, zero, suc, ◌+◌, ◌-◌, ◌<◌, ◌≤◌, ◌%◌, inl, ⊎_elim, Bool, true, false, ◌||◌, ◌&&◌, List, [], ◌∷◌, ◌++◌, map, get_or, set, sym, refl, ap, ◌∙◌, subst, arith, true≢false, map-set, map-append, some, none, some-ne-none, get_elem?, State, Me, step, Allows, Splits, Joins, at_map, set_here, set_else, Positions, QueueView, rest_of, newborn, both, emptied, ViewsShow, Grows, spot, listed_new, listed_join, at_push, at_below, grows_refl, GatedQueue, Shape, note_in, mark_in, Shows, first_queue, IsLawful, View, nothing_did, did_both, of_chains, part_of, AreShown, Rule, IsTold, view_from}
-use Rattle.std.proofs.Common.{replicate}
+use Rattle.proc_chain.specs.Layout.{width}
+use Rattle.proc_chain.proofs.Common.{◌≡◌, ℕ, zero, suc, ◌+◌, ◌-◌, ◌<◌, ◌≤◌, ◌%◌, inl, ⊎_elim, Bool, true, false, ◌||◌, ◌&&◌, List, [], ◌∷◌, ◌++◌, map, get_or, set, sym, refl, ap, ◌∙◌, subst, arith, true≢false, map-set, map-append, some, none, some-ne-none, get_elem?, State, Me, step, Allows, Splits, Joins, at_map, set_here, set_else, Positions, QueueView, rest_of, newborn, both, emptied, ViewsShow, Grows, spot, listed_new, listed_join, at_push, at_below, grows_refl, GatedQueue, Shape, note_in, mark_in, Shows, first_queue, IsLawful, View, nothing_did, did_both, of_chains, part_of, AreShown, Rule, IsTold, view_from, head_word, tail_word, ends_word, FIRST_PLACE}
+use Rattle.std.proofs.Common.{replicate, get_or-set_other}
 use Rattle.std.proofs.lemmas.List.{get_or-replicate}
 use Rattle.atomic_table.specs.Table.{opening}
 use Rattle.table_theory.specs.Ledgers.{opened}
@@ -23,11 +24,10 @@ undoubled_new views w old own j u has = ⊎_elim (λ t. old j u t) (λ t. ap (λ
 none_doubled : (a b c d : Bool) → a ≡ false → b ≡ false → d ≡ false → (a || b || (c && d)) ≡ false
 none_doubled a b c d x y z = (λ i. x i || y i || (c && z i)) ∙ and_false c
 
-zeros : (f j : ℕ) → 3 ≤ j → j < 36 → get_or (f ∷ f ∷ 1 ∷ replicate 33 0) j 0 ≡ 0
-zeros f zero h b = absurd (omega arith)
-zeros f (suc zero) h b = absurd (omega arith)
-zeros f (suc (suc zero)) h b = absurd (omega arith)
-zeros f (suc (suc (suc j))) h b = get_or-replicate 33 j 0 0 (omega arith)
+-- a word of the places is nothing at first
+zeros : (f j : ℕ) → FIRST_PLACE ≤ j → j < width → get_or (set (set (set (replicate width 0) head_word f) tail_word f) ends_word 1) j 0 ≡ 0
+zeros f j from to = let zs : List ℕ = replicate width 0 in let a : List ℕ = set zs head_word f in
+    get_or-set_other (set a tail_word f) ends_word j 1 0 (λ e. omega arith) ∙ (get_or-set_other a tail_word j f 0 (λ e. omega arith) ∙ (get_or-set_other zs head_word j f 0 (λ e. omega arith) ∙ get_or-replicate width j 0 0 (omega arith)))
 
 -- the views after a split
 pub rest_shown : (o : GatedQueue) (views : List View) (id : ℕ) (v : View) → AreShown o views → get_elem? views id ≡ some v → AreShown o (set views id (rest_of v))
@@ -66,14 +66,14 @@ module _ {Q W : Type 0} (made : W → Q → List ℕ → Type 0) (fits : W → Q
   R = Rule made fits key
 
   module _ (n id : ℕ) (me : Me Q View) where
-    pub ups : me.0.member.ends + 1 ≤ me.0.member.share → Allows R n id me 2 (λ x. (x + 1) % 18446744073709551616) (counts_up (step n 2 1 0 none) me)
-    ups parts = tables.ups (table made fits key) n id me (counts_up (step n 2 1 0 none) me) parts (λ s k at b. ((refl, behind_told made fits key s _ id me.0 _ at b.0 b.1), counted_up k.stands id me.0 at, meets made fits key s k id me.0 at))
+    pub ups : me.0.member.ends + 1 ≤ me.0.member.share → Allows R n id me ends_word (λ x. (x + 1) % 18446744073709551616) (counts_up (step n ends_word 1 0 none) me)
+    ups parts = tables.ups (table made fits key) n id me (counts_up (step n ends_word 1 0 none) me) parts (λ s k at b. ((refl, behind_told made fits key s _ id me.0 _ at b.0 b.1), counted_up k.stands id me.0 at, meets made fits key s k id me.0 at))
 
-    pub downs : 2 ≤ me.0.member.ends → Allows R n id me 2 (λ x. (x + (18446744073709551616 - 1)) % 18446744073709551616) (counts_down (step n 2 1 0 none) me)
-    downs live = tables.downs (table made fits key) n id me (counts_down (step n 2 1 0 none) me) live (λ s k at b. ((refl, behind_told made fits key s _ id me.0 _ at b.0 b.1), counted_down k.stands id me.0 at, meets made fits key s k id me.0 at, k.undoubled id me.0 at))
+    pub downs : 2 ≤ me.0.member.ends → Allows R n id me ends_word (λ x. (x + (18446744073709551616 - 1)) % 18446744073709551616) (counts_down (step n ends_word 1 0 none) me)
+    downs live = tables.downs (table made fits key) n id me (counts_down (step n ends_word 1 0 none) me) live (λ s k at b. ((refl, behind_told made fits key s _ id me.0 _ at b.0 b.1), counted_down k.stands id me.0 at, meets made fits key s k id me.0 at, k.undoubled id me.0 at))
 
-    pub tallies : me.0.member.ends ≡ 1 → Allows R n id me 2 (λ x. x) (counts (step n 2 0 0 none) me)
-    tallies one = tables.looks (table made fits key) n id me (counts (step n 2 0 0 none) me) 2 (omega arith) (λ s k at b. ((refl, behind_told made fits key s _ id me.0 _ at b.0 b.1), tallied_now k.stands id me.0 at one, meets made fits key s k id me.0 at))
+    pub tallies : me.0.member.ends ≡ 1 → Allows R n id me ends_word (λ x. x) (counts (step n ends_word 0 0 none) me)
+    tallies one = tables.looks (table made fits key) n id me (counts (step n ends_word 0 0 none) me) ends_word (omega arith) (λ s k at b. ((refl, behind_told made fits key s _ id me.0 _ at b.0 b.1), tallied_now k.stands id me.0 at one, meets made fits key s k id me.0 at))
 
   pub splits : (id : ℕ) (v : View) → v.member.ends ≡ 2 → Splits R id v (rest_of v) (newborn nothing_did v)
   splits id v two s k at = let both_shown = newborn_shown k.now.object s.views id v record { listed = k.listed; gate = k.gate } at in record {
@@ -105,9 +105,9 @@ module _ {Q W : Type 0} (made : W → Q → List ℕ → Type 0) (fits : W → Q
       }
 
   -- the table as it is made
-  pub opens_new : (x : Q) (xs : List Q) → key.first < 4294967296 → xs ≡ x ∷ [] → made key.pact x [] → fits key.pact x → Rule made fits key (opening (key.first ∷ key.first ∷ 1 ∷ replicate 33 0) xs (newcomer key))
-  opens_new x xs bounded is is_made is_fit = let first : ℕ = key.first in let words : List ℕ = first ∷ first ∷ 1 ∷ replicate 33 0 in let f : GatedQueue = first_queue first in let w : View = newcomer key in
-      let window : PlacesShow f.queue (mark_in words) (note_in words) = record { some_room = omega arith; each = λ i a b. record { low = λ _. (let z = zeros first (spot f.queue i + 4) (omega arith) (omega arith) in omega arith); up = λ h. absurd (omega arith); holds = λ h. absurd (omega arith) } } in
+  pub opens_new : (x : Q) (xs : List Q) → key.first < 4294967296 → xs ≡ x ∷ [] → made key.pact x [] → fits key.pact x → Rule made fits key (opening (set (set (set (replicate width 0) head_word key.first) tail_word key.first) ends_word 1) xs (newcomer key))
+  opens_new x xs bounded is is_made is_fit = let first : ℕ = key.first in let words : List ℕ = set (set (set (replicate width 0) head_word first) tail_word first) ends_word 1 in let f : GatedQueue = first_queue first in let w : View = newcomer key in
+      let window : PlacesShow f.queue (mark_in words) (note_in words) = record { some_room = omega arith; each = λ i a b. record { low = λ _. (let z = zeros first (spot f.queue i + FIRST_PLACE) (omega arith) (omega arith) in omega arith); up = λ h. absurd (omega arith); holds = λ h. absurd (omega arith) } } in
       let shows : Shows f words = (record { wide = refl; room = refl; is_open = refl; bounded = omega arith; head = omega arith; tail = omega arith; window = window }, refl) in record {
         now = opened f;
         stands = stands_first of_chains nothing_did f words (first_lawful first) shows refl;

@@ -1,5 +1,5 @@
--- Where the words of a chain's table stand: head, tail, number of ends and gate, then the words of the places; and what
--- the word of a place says.
+-- Where the words of a chain's table stand: head and number of ends, then tail, gate and the words of the places, each
+-- of them in cache lines of their own; and what the word of a place says.
 use Rattle.std.specs.Prelude.{ℕ, ◌+◌, ◌*◌, ◌/◌, ◌%◌, List, slice_index_or}
 use Rattle.proc_chain.specs.declared.layout.TheConstants.{HEAD, TAIL, ENDS, GATE, FIRST_PLACE, PLACES, WORDS, NOTES}
 

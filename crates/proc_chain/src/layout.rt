@@ -1,22 +1,27 @@
-//! Where the words of a chain's table stand: the head, the tail, the number of ends and the gate, then a word for each
-//! place of the queue of notes. The place of a position is the position modulo the number of places.
+//! Where the words of a chain's table stand: the head and the number of ends, then the tail, then the gate, and then a
+//! word for each place of the queue of notes. The place of a position is the position modulo the number of places.
+//!
+//! The head, the tail, the gate and the places stand in cache lines of their own, of 8 words each. Whoever chains writes
+//! the head, the runner alone the tail, and both the gate: in one line they would take it from each other at every
+//! step. So the words 2 to 7, 9 to 15 and 17 to 23 stand empty. Only `split`, `join` and `close` touch the number of
+//! ends, which can stand beside the head.
 ghost use Rattle.std.specs.Prelude.{◌≡◌};
 ghost use Rattle.proc_chain.specs.Layout.{place_word};
 
 /// The position of the next claim.
 pub(crate) const HEAD: usize = 0;
 
-/// The position of the next note that is taken.
-pub(crate) const TAIL: usize = 1;
-
 /// The number of ends that stand.
-pub(crate) const ENDS: usize = 2;
+pub(crate) const ENDS: usize = 1;
+
+/// The position of the next note that is taken.
+pub(crate) const TAIL: usize = 8;
 
 /// The gate: `IDLE`, `RUNNING` or `MORE`.
-pub(crate) const GATE: usize = 3;
+pub(crate) const GATE: usize = 16;
 
 /// The first of the places' words.
-pub(crate) const FIRST_PLACE: usize = 4;
+pub(crate) const FIRST_PLACE: usize = 24;
 
 /// The number of places.
 pub(crate) const PLACES: usize = 32;

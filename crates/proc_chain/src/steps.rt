@@ -38,7 +38,7 @@ pub(crate) fn load<Q: Quaject>(
     requires live { 1 ≤ seat.old.me.0.member.ends }
     ensures stays { IsSame seat.old seat.new × Stays seat.old.me seat.new.me }
     ensures found { Found seat.old.me.0 word result seat.new.me.0 }
-    ensures bounded { word ≤ tail_word → result < POSITIONS }
+    ensures bounded { (word ≡ head_word → result < POSITIONS) × (word ≡ tail_word → result < POSITIONS) }
 {
     words.load::<Finds>(seat, word)
 }

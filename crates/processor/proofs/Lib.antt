@@ -4,6 +4,7 @@ pub mod Rooms
 pub mod Rising
 pub mod Fitted
 pub mod Rooming
+pub mod Longest
 pub mod Acting
 pub mod Summing
 pub mod Logging

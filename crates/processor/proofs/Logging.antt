@@ -152,12 +152,12 @@ only true h = refl
 only false h = cc
 
 -- a turn: of the alarms, and then of an element's turn
-pub turn_ran : (plan : BootPlan) (entry : LogEntry) (a b c : Parts) → HasDone (tending entry.turned.tended) a b
-    → Went (OutcomeFollows plan entry.turned.outcome entry.line) (outcome_account entry.turned.outcome entry.line) (outcome_told_shut entry.turned.outcome) b c
+pub turn_ran : (plan : BootPlan) (entry : LogEntry) (a b c : Parts) → HasDone (tending entry.tended) a b
+    → Went (OutcomeFollows plan entry.outcome entry.line) (outcome_account entry.outcome entry.line) (outcome_told_shut entry.outcome) b c
     → Ran plan (entry ∷ []) a c
 turn_ran plan entry a b c t w = record {
   planned = (w.planned, tt);
-  done = subst (λ z. HasDone z a c) (sym (accounts_add.none_last (entry_account entry))) (done_on (tending entry.turned.tended) (outcome_account entry.turned.outcome entry.line) a b c t w.done);
+  done = subst (λ z. HasDone z a c) (sym (accounts_add.none_last (entry_account entry))) (done_on (tending entry.tended) (outcome_account entry.outcome entry.line) a b c t w.done);
   told = λ q h. w.told q (only (turn_told_shut q entry) h);
 }
 

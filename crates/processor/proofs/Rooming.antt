@@ -8,6 +8,7 @@ use Rattle.boot_data.specs.declared.plan.Step.TheVariants as steps
 use Rattle.turn_dispatch.specs.declared.counting.Counted.TheVariants as counted
 use Rattle.processor.specs.declared.deed.Deed.TheVariants as deeds
 use Rattle.processor.specs.declared.tries.HearAnswer.TheVariants as answers
+use Rattle.processor.specs.Programs.{longest_line}
 use Rattle.processor.specs.Rooms.{HasRoom}
 use Rattle.processor.proofs.Rooms.{few}
 
@@ -102,15 +103,17 @@ room_left plan keys deed e n h is = cc
 pub room_kept : (plan : BootPlan) (old new : Parts) → HasRoom plan old → new.heard ≡ old.heard → NeverFalls (view_of old.hand) (view_of new.hand) → HasRoom plan new
 room_kept plan old new h same rises = record {
   room = subst (λ z. hear_count plan ≤ z.room) (sym same) h.room;
+  longest = subst (λ z. longest_line plan ≤ z.longest) (sym same) h.longest;
   hears = subst (λ z. AreHears plan (map key_of z.lines)) (sym same) h.hears;
   past = subst (λ z. AllByRecursion (IsPast (view_of new.hand)) (map key_of z.lines)) (sym same) (all_later (view_of old.hand) (view_of new.hand) (map key_of old.heard.lines) rises h.past);
 }
 
 -- nothing was heard
-pub room_new : (plan : BootPlan) (parts : Parts) → parts.heard.lines ≡ [] → hear_count plan ≤ parts.heard.room → HasRoom plan parts
+pub room_new : (plan : BootPlan) (parts : Parts) → parts.heard.lines ≡ [] → hear_count plan ≤ parts.heard.room → longest_line plan ≤ parts.heard.longest → HasRoom plan parts
 unfolding IsDistinct
-room_new plan parts none room = record {
+room_new plan parts none room longest = record {
   room = room;
+  longest = longest;
   hears = subst (λ (lines : List Line). AreHears plan (map key_of lines)) (sym none) (tt, tt);
   past = subst (λ (lines : List Line). AllByRecursion (IsPast (view_of parts.hand)) (map key_of lines)) (sym none) tt;
 }

@@ -1,9 +1,10 @@
 -- A turn of a processor, as its log has it: what came of it, and what that comes to.
 use Rattle.std.specs.Prelude.{◌≡◌, ◌≤◌, ◌+◌, ◌&&◌, ℕ, Bool, true, false, nat_lt, List, [], length, Option, Some, None}
+use Rattle.std.specs.Prelude.{Result}
 use Rattle.boot_data.specs.declared.boot_plan.BootPlan.{BootPlan}
 use Rattle.boot_data.specs.declared.plan.QueueIndex.{QueueIndex}
 use Rattle.boot_data.specs.declared.plan.Step.{Step}
-use Rattle.turn_dispatch.specs.declared.alarms.Tended.{Tended}
+use Rattle.event_theory.specs.declared.alarm.Alarm.{Alarm}
 use Rattle.turn_dispatch.specs.declared.counting.Counted.{Counted}
 use Rattle.turn_dispatch.specs.declared.counting.Counted.TheVariants as counted
 use Rattle.turn_dispatch.specs.declared.dispatch.Begun.{Begun}
@@ -12,12 +13,12 @@ use Rattle.turn_dispatch.specs.Dispatches.{mask_of}
 use Rattle.turn_dispatch.specs.Sendings.{retired}
 use Rattle.turn_dispatch.specs.Tallies.{Tally, behind, no_events, one_delivery, delivery, signals_for, is_delivered}
 use Rattle.turn_dispatch.specs.Tendings.{tick_to}
+use Rattle.meters.specs.declared.gauges.AdvanceRefusal.{AdvanceRefusal}
 use Rattle.meters.specs.Own.{nothing_did}
 use Rattle.processor.specs.declared.outcome.Had.{Had}
 use Rattle.processor.specs.declared.outcome.Had.TheVariants as hads
 use Rattle.processor.specs.declared.outcome.Outcome.{Outcome}
 use Rattle.processor.specs.declared.outcome.Outcome.TheVariants as outcomes
-use Rattle.processor.specs.declared.outcome.Turned.{Turned}
 use Rattle.processor.specs.declared.sending.Moved.{Moved}
 use Rattle.processor.specs.declared.sending.Moved.TheVariants as moveds
 use Rattle.processor.specs.declared.sending.SentOn.{SentOn}
@@ -26,9 +27,17 @@ use Rattle.processor.specs.Deeds.{is_done, IsDeedOf}
 use Rattle.processor.specs.Doings.{queues_by, chains_by, ticks_by, raised_by, heard_by, told_shut}
 use Rattle.processor.specs.Programs.{program, step_of}
 
--- what came of a turn, and the line that its step was to say, or heard; none where it did neither
+-- what came of tending the alarms: the tick that the clock was moved on to, or why it wasn't; and the alarms that were
+-- fired
+pub record Tended : Type 0 where
+  pub advanced : Result ℕ AdvanceRefusal
+  pub fired : List Alarm
+
+-- What came of a turn: of the alarms, which only processor 0 tends; of an element's turn; and the line that its step was
+-- to say, or heard, none where it did neither
 pub record LogEntry : Type 0 where
-  pub turned : Turned
+  pub tended : Option Tended
+  pub outcome : Outcome
   pub line : List ℕ
 
 -- WHAT IT COMES TO
@@ -37,8 +46,8 @@ pub record LogEntry : Type 0 where
 abbrev pub tending : Option Tended → Account
 tending None = nothing
 tending (Some tended) = record nothing {
-  hand = signals_for tended.fired.items;
-  meters = record nothing_did { advances = tick_to tended.advanced; fired = tended.fired.items };
+  hand = signals_for tended.fired;
+  meters = record nothing_did { advances = tick_to tended.advanced; fired = tended.fired };
 }
 
 -- the signals that an element had when its turn began were delivered
@@ -77,7 +86,7 @@ outcome_account (outcomes.Had begun had) line = beginning begun ⊕ having begun
 
 -- what a turn comes to
 abbrev pub entry_account : LogEntry → Account
-entry_account entry = tending entry.turned.tended ⊕ outcome_account entry.turned.outcome entry.line
+entry_account entry = tending entry.tended ⊕ outcome_account entry.outcome entry.line
 
 -- HOW IT FOLLOWS THE PLAN
 
@@ -110,7 +119,7 @@ OutcomeFollows plan (outcomes.Had begun had) line = HadFollows plan begun.elemen
 -- An element whose turn it was had all its steps done, and was retired; or its next step of the plan was tried. Either
 -- way an element that went to the free ones has done all its steps
 abbrev pub FollowsPlan : BootPlan → LogEntry → Type 0
-FollowsPlan plan entry = OutcomeFollows plan entry.turned.outcome entry.line
+FollowsPlan plan entry = OutcomeFollows plan entry.outcome entry.line
 
 -- WHAT IT WAS TOLD
 
@@ -120,4 +129,4 @@ outcome_told_shut (outcomes.Had begun (hads.Ran sent)) = told_shut sent.tried.de
 outcome_told_shut outcome = λ queue. false
 
 abbrev pub turn_told_shut : QueueIndex → LogEntry → Bool
-turn_told_shut queue entry = outcome_told_shut entry.turned.outcome queue
+turn_told_shut queue entry = outcome_told_shut entry.outcome queue

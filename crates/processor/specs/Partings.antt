@@ -12,7 +12,7 @@ use Rattle.thread_table.specs.Endings as hands
 use Rattle.processor.specs.declared.shared.Shared.{Shared}
 use Rattle.processor.specs.declared.splitting.Lists.{Lists}
 use Rattle.processor.specs.declared.station.Parts.{Parts}
-use Rattle.processor.specs.Programs.{hear_count}
+use Rattle.processor.specs.Programs.{hear_count, longest_line}
 
 -- each end has two parts or more of its object
 pub record AreDivisible (parts : Parts) : Type 0 where
@@ -22,12 +22,13 @@ pub record AreDivisible (parts : Parts) : Type 0 where
   pub chains : All IsChainDivisible parts.chains.items
   pub meters : seats.IsDivisible parts.meters
 
--- the lists are empty, and have room for an end of each object and for each line that can be heard
+-- the lists are empty, and have room for an end of each object and for each line that can be heard, as long as it can be
 pub record HaveRoom (shared : Shared) (lists : Lists) : Type 0 where
   pub small : (lists.small.items ≡ []) × (length shared.queues.small.items ≤ vec_capacity lists.small)
   pub large : (lists.large.items ≡ []) × (length shared.queues.large.items ≤ vec_capacity lists.large)
   pub chains : (lists.chains.items ≡ []) × (length shared.chains.items ≤ vec_capacity lists.chains)
   pub heard : (lists.heard.lines ≡ []) × (hear_count shared.plan ≤ lists.heard.room)
+      × (longest_line shared.plan ≤ lists.heard.longest)
 
 -- Each end gave a part to a new one, and the hand the processors of the mask. What was heard and signalled is as it was
 pub record AreSplit (processors : ℕ) (old new born : Parts) : Type 0 where

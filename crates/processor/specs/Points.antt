@@ -37,6 +37,6 @@ abbrev pub ToldTurns : {G : Type 0} → (G → ℕ → Point → G → Type 0) �
     → G → G → Type 0
 ToldTurns T shared p number [] old new gate gate' = (new ≡ old) × (gate' ≡ gate)
 ToldTurns {G} T shared p number (entry ∷ log) old new gate gate' = (between : Parts) × (told : G)
-    × TurnOf shared p entry.turned entry.line old between
-    × GateSaw T p (Turn number ∷ points_out entry.turned.outcome) gate told
+    × TurnOf shared p entry old between
+    × GateSaw T p (Turn number ∷ points_out entry.outcome) gate told
     × ToldTurns T shared p (suc number) log between new told gate'

@@ -2,7 +2,6 @@
 use Rattle.std.specs.Prelude.{◌≡◌, ◌≢◌, ◌≤◌, ◌+◌, ◌&&◌, ℕ, Bool, nat_le, List, [], ◌++◌, length, Option, Some, None}
 use Rattle.boot_data.specs.Hearing.{Line}
 use Rattle.boot_data.specs.declared.plan.Step.{Step}
-use Rattle.turn_dispatch.specs.declared.alarms.Tended.{Tended}
 use Rattle.turn_dispatch.specs.declared.dispatch.Begun.{Begun}
 use Rattle.turn_dispatch.specs.declared.dispatch.Idle.{Idle}
 use Rattle.turn_dispatch.specs.Dispatches.{Began, WasIdle, mask_of}
@@ -17,12 +16,12 @@ use Rattle.processor.specs.declared.outcome.Had.{Had}
 use Rattle.processor.specs.declared.outcome.Had.TheVariants as hads
 use Rattle.processor.specs.declared.outcome.Outcome.{Outcome}
 use Rattle.processor.specs.declared.outcome.Outcome.TheVariants as outcomes
-use Rattle.processor.specs.declared.outcome.Turned.{Turned}
 use Rattle.processor.specs.declared.sending.SentOn.{SentOn}
 use Rattle.processor.specs.declared.shared.Shared.{Shared}
 use Rattle.processor.specs.declared.station.Parts.{Parts}
 use Rattle.processor.specs.Deeds.{is_done, IsDeedOf}
 use Rattle.processor.specs.Doings.{heard_by}
+use Rattle.processor.specs.Entries.{LogEntry, Tended}
 use Rattle.processor.specs.Programs.{program, step_of}
 use Rattle.processor.specs.Running.{Stepped, EndsDid, Goes}
 
@@ -88,11 +87,11 @@ CameOf shared p (outcomes.Had begun had) line old new = (mid : Parts) × BegunAt
 abbrev pub TendedBy : ℕ → Option Tended → Parts → Parts → Type 0
 TendedBy p None old new = (p ≢ 0) × (new ≡ old)
 TendedBy p (Some tended) old new = (p ≡ 0)
-    × Fires tended.advanced tended.fired.items (meters.view_of old.meters) (meters.view_of new.meters)
-    × RaisedAll (call_of old.hand) tended.fired.items (view_of old.hand) (view_of new.hand)
+    × Fires tended.advanced tended.fired (meters.view_of old.meters) (meters.view_of new.meters)
+    × RaisedAll (call_of old.hand) tended.fired (view_of old.hand) (view_of new.hand)
     × AreAtRest old new × (new.signals ≡ old.signals)
 
 -- what came of a turn: of the alarms, and then of an element's turn, with the line that it was to say, or heard
-abbrev pub TurnOf : Shared → ℕ → Turned → List ℕ → Parts → Parts → Type 0
-TurnOf shared p turned line old new =
-    (mid : Parts) × TendedBy p turned.tended old mid × CameOf shared p turned.outcome line mid new
+abbrev pub TurnOf : Shared → ℕ → LogEntry → Parts → Parts → Type 0
+TurnOf shared p entry old new =
+    (mid : Parts) × TendedBy p entry.tended old mid × CameOf shared p entry.outcome entry.line mid new

@@ -29,7 +29,7 @@ mod waking;
 pub use counting::Tried;
 pub use deed::Deed;
 pub use laws::{accounts_add, hears_are_few, steps_fit};
-pub use outcome::{Had, Outcome, Turned};
+pub use outcome::{Had, Outcome};
 pub use programs::hears_of;
 pub use sending::{Moved, SentOn};
 pub use shared::Shared;

@@ -79,7 +79,9 @@ fn copy(line: &[u64], text: &mut ArrayVec<u64, 256>)
     requires short { length line.now ≤ 64 }
     ensures { text.new.items ≡ line.now }
 {
-    let _ = text.try_extend_from_slice(line);
+    if !line.is_empty() {
+        let _ = text.try_extend_from_slice(line);
+    }
 }
 
 // One try to hear a line of a small queue.

@@ -1,7 +1,7 @@
-//! What comes of a turn.
+//! What comes of an element's turn.
 
 use crate::sending::SentOn;
-use turn_dispatch::{Begun, Idle, Tended};
+use turn_dispatch::{Begun, Idle};
 
 /// What came of the turn of an element at hand.
 #[derive(Drop)]
@@ -18,12 +18,4 @@ pub enum Had {
 pub enum Outcome {
     Idle(Idle),
     Had(Begun, Had),
-}
-
-/// What came of a turn of a processor.
-#[derive(Drop)]
-pub struct Turned {
-    /// What came of the alarms. Only processor 0 tends them.
-    pub tended: Option<Tended>,
-    pub outcome: Outcome,
 }

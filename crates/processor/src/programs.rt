@@ -1,10 +1,10 @@
 //! The programs of the threads of a plan.
 ghost use Rattle.std.specs.Prelude.{◌≡◌, ◌≤◌};
-ghost use Rattle.std.specs.List.{count_by};
-ghost use Rattle.processor.specs.Programs.{program, is_hear, hear_count};
+ghost use Rattle.std.specs.List.{count_by, list_any};
+ghost use Rattle.processor.specs.Programs.{program, is_hear, hear_count, hears_large, one_hears_large, longest_line};
 
 use boot_data::BootPlan;
-use boot_data::plan::Step;
+use boot_data::plan::{PlannedThread, QueueIndex, Step};
 use event_theory::Element;
 
 // The program of the thread with this number; of a thread that the plan lacks, no steps.
@@ -37,4 +37,39 @@ pub fn hears_of(plan: &BootPlan) -> usize
         hears += hears_in(thread.steps.as_slice());
     }
     hears
+}
+
+// Whether one of the steps hears from a large queue.
+fn hears_large(steps: &[Step]) -> bool
+    ensures { result ≡ list_any hears_large steps.now }
+{
+    steps.iter().any(|step| {
+        matches!(
+            *step,
+            Step::Hear {
+                queue: QueueIndex::Large(_)
+            }
+        )
+    })
+}
+
+// Whether a step of one of the threads does.
+fn one_hears_large(threads: &[PlannedThread]) -> bool
+    ensures { result ≡ list_any one_hears_large threads.now }
+{
+    threads
+        .iter()
+        .any(|thread| hears_large(thread.steps.as_slice()))
+}
+
+// The most items of a line that a step of a plan can hear: 256 where one hears from a large queue, else 64.
+pub(crate) fn longest_line(plan: &BootPlan) -> usize
+    ensures exact { result ≡ longest_line plan.now }
+    ensures few { result ≤ 256 }
+{
+    if one_hears_large(plan.threads.as_slice()) {
+        256
+    } else {
+        64
+    }
 }

@@ -75,10 +75,11 @@ pub(crate) fn run_step<R: Wait, G: Gate>(
 // Keeps the bytes of a line that was heard. It takes no memory.
 pub(crate) fn keep(lines: &mut HeardLines, deed: &Deed, thread: Element, number: u64, line: &[u64])
     requires room { is_heard deed.now ≡ true → length lines.old.lines < lines.old.room }
-    requires few { length line.now ≤ 256 }
+    requires few { is_heard deed.now ≡ true → length line.now ≤ lines.old.longest }
     requires low { number < 64 }
     ensures lines { lines.new.lines ≡ lines.old.lines ++ heard_by deed.now thread number line.now }
     ensures room { lines.new.room ≡ lines.old.room }
+    ensures longest { lines.new.longest ≡ lines.old.longest }
 {
     if let Deed::Hear {
         answer: HearAnswer::Taken(_),

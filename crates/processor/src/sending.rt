@@ -2,17 +2,20 @@
 //!
 //! The type keeps an order: an element goes on behind the try and the count of its step. A `SentOn`, which tells of the
 //! element's turn, has in it the `Tried` that only the count makes; so no `SentOn` comes before it.
-ghost use Rattle.std.specs.Prelude.{◌≡◌, true};
+ghost use Rattle.std.specs.Prelude.{◌≡◌, true, option_copied};
 ghost use Rattle.turn_dispatch.specs.Tallies.{Adds};
 ghost use Rattle.thread_table.specs.Handles.{view_of, call_of, IsHandOf, IsSameHand};
 ghost use Rattle.thread_table.specs.Keeping.{Keeps};
 ghost use Rattle.thread_table.specs.Rules.{has, done_at};
 ghost use Rattle.processor.specs.Acts.{NeverFalls};
+ghost use Rattle.processor.specs.Deeds.{sleeps_on};
 ghost use Rattle.processor.specs.Entries.{gone};
 ghost use Rattle.processor.specs.Running.{Goes};
 
 use crate::counting::Tried;
-use crate::ticket::wait_with;
+use crate::deed::Deed;
+use crate::ticket::{Ticket, wait_with};
+use crate::tries::{HearAnswer, SayAnswer};
 use event_theory::Element;
 use std::sync::Wait;
 use thread_table::{Hand, ThreadTable};
@@ -39,7 +42,42 @@ pub struct SentOn {
     moved: Moved,
 }
 
-// Moves an element on behind its step.
+// Moves an element on behind its step, by its deed and the ticket with which that has it wait, if with one.
+#[inline(always)]
+fn go_on<R: Wait>(
+    rt: &R,
+    threads: &ThreadTable,
+    hand: &mut Hand,
+    element: Element,
+    deed: &Deed,
+    ticket: Option<&Ticket>,
+    last: bool,
+) -> Moved
+    requires table { IsHandOf threads.now hand.old }
+    requires held { has (view_of hand.old) element ≡ true }
+    requires ticket { option_copied ticket ≡ sleeps_on deed.now }
+    ensures keeps { Keeps (view_of hand.old) (view_of hand.new) }
+    ensures adds { Adds (gone result element (done_at (view_of hand.old).seen.object element)) (view_of hand.old)
+        (view_of hand.new) }
+    ensures rises { NeverFalls (view_of hand.old) (view_of hand.new) }
+    ensures goes { Goes (call_of hand.old) deed.now last element result (view_of hand.old) (view_of hand.new) }
+    ensures same { IsSameHand hand.old hand.new }
+{
+    if let Some(ticket) = ticket {
+        return Moved::Ticketed(wait_with(rt, threads, hand, element, ticket));
+    }
+    if let Some(wait) = deed.waits_in() {
+        return Moved::Waits(wait_in(rt, threads, hand, element, wait));
+    }
+    if last {
+        Moved::Freed(retire(rt, threads, hand, element))
+    } else {
+        Moved::Ready(make_ready(rt, threads, hand, element))
+    }
+}
+
+// The same of a step that was tried. What was refused has a call of its own, so that no deed need be written to memory
+// for the ticket in it.
 fn move_on<R: Wait>(
     rt: &R,
     threads: &ThreadTable,
@@ -58,16 +96,33 @@ fn move_on<R: Wait>(
         (view_of hand.new) }
     ensures same { IsSameHand hand.old hand.new }
 {
-    if let Some(ticket) = tried.deed().sleeps_on() {
-        return Moved::Ticketed(wait_with(rt, threads, hand, element, ticket));
-    }
-    if let Some(wait) = tried.deed().waits_in() {
-        return Moved::Waits(wait_in(rt, threads, hand, element, wait));
-    }
-    if last {
-        Moved::Freed(retire(rt, threads, hand, element))
-    } else {
-        Moved::Ready(make_ready(rt, threads, hand, element))
+    let deed = tried.deed();
+    match deed {
+        Deed::Say {
+            answer: SayAnswer::Refused(unsaid),
+            ..
+        } => go_on(
+            rt,
+            threads,
+            hand,
+            element,
+            deed,
+            unsaid.ticket_if_full(),
+            last,
+        ),
+        Deed::Hear {
+            answer: HearAnswer::Refused(unheard),
+            ..
+        } => go_on(
+            rt,
+            threads,
+            hand,
+            element,
+            deed,
+            unheard.ticket_if_empty(),
+            last,
+        ),
+        _ => go_on(rt, threads, hand, element, deed, None, last),
     }
 }
 

@@ -14,7 +14,7 @@ ghost use Rattle.processor.specs.Partings.{AreDivisible, HaveRoom, HaveBoth, Are
 ghost use Rattle.processor.specs.Rooms.{HasRoom};
 ghost use Rattle.processor.specs.Stations.{ArePartsOf, AreSameParts, IsUnused};
 
-use crate::programs::hears_of;
+use crate::programs::{hears_of, longest_line};
 use crate::shared::Shared;
 use crate::station::{Parts, Station};
 use boot_data::HeardLines;
@@ -40,7 +40,7 @@ fn lists_for(alloc: Global, shared: &Shared) -> Result<Lists, OutOfMemory>
     let small = Vec::with_capacity(alloc, shared.queues.small.len())?;
     let large = Vec::with_capacity(alloc, shared.queues.large.len())?;
     let chains = Vec::with_capacity(alloc, shared.chains.len())?;
-    let heard = HeardLines::with_room(alloc, hears_of(&shared.plan))?;
+    let heard = HeardLines::with_room(alloc, hears_of(&shared.plan), longest_line(&shared.plan))?;
     Ok(Lists {
         small,
         large,
@@ -127,8 +127,9 @@ fn joined(a: &[u16; 64], b: &[u16; 64]) -> [u16; 64]
 impl Station {
     /// A station for other processors: its hand serves those of the mask (bit p for processor p), and it has an end of
     /// each queue and chain and a seat of the meters, all split off from this station's. It has heard nothing and was
-    /// signalled nothing, and has room for as many heard lines as the plan has hear steps. `OutOfMemory` comes only
-    /// where an allocation was refused; nothing has changed then.
+    /// signalled nothing, and has room for as many heard lines as the plan has hear steps, of 64 bytes each, or of 256
+    /// where one hears from a large queue. `OutOfMemory` comes only where an allocation was refused; nothing has changed
+    /// then.
     ///
     /// Conditions: the station is one of `shared`, each of its ends has two parts or more of the 2^64 - 1 of its
     /// object, and its hand serves the processors of the mask, on which nothing stands.

@@ -3,7 +3,7 @@ ghost use Rattle.std.specs.Prelude.{◌≡◌, IfOk, IfErr};
 ghost use Rattle.processor.specs.Rooms.{HasRoom};
 ghost use Rattle.processor.specs.Stations.{IsUnused};
 
-use crate::programs::hears_of;
+use crate::programs::{hears_of, longest_line};
 use crate::shared::Shared;
 use boot_data::HeardLines;
 use claim_queue::QueueEnd;
@@ -36,7 +36,8 @@ pub struct Station {
 
 impl Station {
     /// The station of a processor, which has heard nothing and was signalled nothing, with room for as many heard lines
-    /// as the plan has hear steps. Where an allocation is refused, all ends come back.
+    /// as the plan has hear steps, of 64 bytes each, or of 256 where one hears from a large queue. Where an allocation is
+    /// refused, all ends come back.
     pub fn new(
         alloc: Global,
         shared: &Shared,
@@ -54,7 +55,7 @@ impl Station {
             × (e.0.chains ≡ chains) × (e.0.meters ≡ meters) × IsUnused e.0) }
     {
         let signals = [0; 64];
-        match HeardLines::with_room(alloc, hears_of(&shared.plan)) {
+        match HeardLines::with_room(alloc, hears_of(&shared.plan), longest_line(&shared.plan)) {
             Ok(heard) => Ok(Station {
                 parts: Parts {
                     hand,

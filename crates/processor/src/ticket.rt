@@ -47,6 +47,7 @@ pub(crate) fn ticket_for(
 }
 
 // Puts an element that the hand holds into the ticket's wait queue, if the ticket is still good.
+#[inline(always)]
 pub(crate) fn wait_with<R: Wait>(
     rt: &R,
     threads: &ThreadTable,

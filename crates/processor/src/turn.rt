@@ -1,13 +1,13 @@
 //! The turns of a processor.
-ghost use Rattle.std.specs.Prelude.{◌≡◌, ◌<◌, ◌≤◌, ℕ, List, [], ◌∷◌, true, length, Some, IfOk, MatchResult};
+ghost use Rattle.std.specs.Prelude.{◌≡◌, ◌<◌, ◌≤◌, ℕ, List, [], ◌∷◌, true, length, Option, Some, IfOk, MatchResult};
 ghost use Rattle.turn_dispatch.specs.Sendings.{Sent};
 ghost use Rattle.thread_table.specs.Handles.{view_of, call_of};
 ghost use Rattle.thread_table.specs.Rules.{has, done_at};
 ghost use Rattle.processor.specs.declared.outcome.Had.TheVariants as hads;
 ghost use Rattle.processor.specs.Accounts.{nothing};
 ghost use Rattle.processor.specs.Doings.{told_shut};
-ghost use Rattle.processor.specs.Entries.{FollowsStep, OutcomeFollows, beginning, having, outcome_account};
-ghost use Rattle.processor.specs.Entries.{outcome_told_shut, tending, trying};
+ghost use Rattle.processor.specs.Entries.{FollowsStep, LogEntry, OutcomeFollows, Tended, beginning, having};
+ghost use Rattle.processor.specs.Entries.{outcome_account, outcome_told_shut, tending, trying};
 ghost use Rattle.processor.specs.Logs.{HasDone, HasTurned, Ran, Went};
 ghost use Rattle.processor.specs.Manning.{IsManned, StaysManned};
 ghost use Rattle.processor.specs.Points.{GateSaw, points_of, points_out};
@@ -16,16 +16,17 @@ ghost use Rattle.processor.specs.Turns.{AreAtRest, BegunAt, IdleAt, CameOf, Tend
 
 use crate::laws::steps_fit;
 use crate::lines::LineRoom;
-use crate::outcome::{Had, Outcome, Turned};
+use crate::outcome::{Had, Outcome};
 use crate::programs::program_of;
 use crate::running::{keep, run_step};
 use crate::sending::{SentOn, send_on};
 use crate::shared::Shared;
 use crate::station::{Parts, Station};
+use arrayvec::ArrayVec;
 use boot_data::plan::Step;
-use event_theory::{Element, Processor};
+use event_theory::{Alarm, Element, Processor};
 use std::sync::Wait;
-use turn_dispatch::{Begun, Idle, Tended, begin, retire, tend_alarms};
+use turn_dispatch::{Begun, Idle, begin, retire, tend_alarms};
 use turn_io::{Gate, Point};
 
 // Whether a step that was tried is done, and was the last of so many.
@@ -154,38 +155,44 @@ fn dispatch<R: Wait, G: Gate>(
     }
 }
 
-// Processor 0 tends the alarms.
-fn tend(shared: &Shared, parts: &mut Parts, p: Processor) -> Option<Tended>
+// Processor 0 tends the alarms. The list is room for those that are fired.
+fn tend(shared: &Shared, parts: &mut Parts, p: Processor, fired: &mut ArrayVec<Alarm, 16>)
     requires manned { IsManned shared.now p parts.old }
     ensures manned { StaysManned shared.now p parts.old parts.new }
-    ensures tended { TendedBy p result parts.old parts.new }
-    ensures done { HasDone (tending result) parts.old parts.new }
+    ensures tended { (tended : Option Tended) × TendedBy p tended parts.old parts.new
+        × HasDone (tending tended) parts.old parts.new }
 {
     if p.number() != 0 {
-        return None;
+        return;
     }
     let threads = &shared.threads;
-    Some(tend_alarms(threads, &mut parts.hand, &shared.meters, &mut parts.meters))
+    let _ = tend_alarms(
+        threads,
+        &mut parts.hand,
+        &shared.meters,
+        &mut parts.meters,
+        fired,
+    );
 }
 
-// One turn.
+// One turn, with room for the alarms that are fired in it, and for a line.
 fn turn<R: Wait, G: Gate>(
     rt: &R,
     shared: &Shared,
     parts: &mut Parts,
     p: Processor,
+    fired: &mut ArrayVec<Alarm, 16>,
     room: &mut LineRoom,
     gate: &mut G,
-) -> Turned
+)
     requires manned { IsManned shared.now p parts.old }
     ensures manned { StaysManned shared.now p parts.old parts.new }
-    ensures turn { (line : List ℕ) × TurnOf shared.now p result line parts.old parts.new
-        × Ran shared.now.plan (record { turned = result; line = line } ∷ []) parts.old parts.new }
-    ensures gate { GateSaw G.told p (points_out result.outcome) gate.old gate.new }
+    ensures turn { (entry : LogEntry) × TurnOf shared.now p entry parts.old parts.new
+        × Ran shared.now.plan (entry ∷ []) parts.old parts.new
+        × GateSaw G.told p (points_out entry.outcome) gate.old gate.new }
 {
-    let tended = tend(shared, parts, p);
-    let outcome = dispatch(rt, shared, parts, p, room, gate);
-    Turned { tended, outcome }
+    tend(shared, parts, p, fired);
+    let _ = dispatch(rt, shared, parts, p, room, gate);
 }
 
 /// Exactly so many turns of a processor. In each the gate is called with its number, from 0, processor 0 tends the
@@ -207,10 +214,11 @@ pub fn run<R: Wait, G: Gate>(
     ensures turned { HasTurned G.told shared.now p turns gate.old gate.new station.parts result.parts }
 {
     let Station { mut parts } = station;
+    let mut fired = ArrayVec::new();
     let mut room = LineRoom::new();
     for number in 0..turns {
         gate.between(p.number(), Point::Turn(number));
-        let _ = turn(rt, shared, &mut parts, p, &mut room, gate);
+        turn(rt, shared, &mut parts, p, &mut fired, &mut room, gate);
     }
     Station { parts }
 }

@@ -2,7 +2,7 @@
 use Rattle.synth_kernel.proofs.Common.{◌≡◌, ℕ, suc, ◌+◌, List, [], ◌∷◌, length, Option, Some, None, refl, sym, ap, subst, ◌∙◌, AllByRecursion, BootPlan, Unmade, Point, Shared, Parts, LogEntry, Leaves, AllTold, CameBack}
 use Rattle.std.proofs.Common.{◌==◌, Result, Ok, Err, IfOk, eq-eqb, ne_eqb}
 use Rattle.std.specs.Option.{is_some}
-use Rattle.turn_dispatch.specs.declared.alarms.Tended.{Tended}
+use Rattle.processor.specs.Entries.{Tended}
 use Rattle.processor.specs.Points.{ToldTurns}
 use Rattle.processor.specs.Turns.{TendedBy}
 use Rattle.boot_laws.specs.ClosedTables.{ClosedTables}
@@ -31,10 +31,10 @@ tends p None old new by = sym (ne_eqb p 0 by.0)
 tends p (Some tended) old new by = sym (eq-eqb p 0 by.0)
 
 all_tend : {G : Type 0} (T : G → ℕ → Point → G → Type 0) (shared : Shared) (p number : ℕ) (log : List LogEntry) (old new : Parts) (gate gate' : G) → ToldTurns T shared p number log old new gate gate'
-    → AllByRecursion (λ (entry : LogEntry). is_some entry.turned.tended ≡ (p == 0)) log
+    → AllByRecursion (λ (entry : LogEntry). is_some entry.tended ≡ (p == 0)) log
 all_tend T shared p number [] old new gate gate' told = tt
 all_tend T shared p number (entry ∷ log) old new gate gate' told =
-    (tends p entry.turned.tended old told.2.0 told.2.1, all_tend T shared p (suc number) log told.0 new told.1 gate' told.4)
+    (tends p entry.tended old told.2.0 told.2.1, all_tend T shared p (suc number) log told.0 new told.1 gate' told.4)
 
 -- what is left where the gates, and what was closed, are forgotten
 module _ {G : Type 0} (T : G → ℕ → Point → G → Type 0) (turns : ℕ) where

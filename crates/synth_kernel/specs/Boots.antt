@@ -37,7 +37,7 @@ use Rattle.synth_kernel.specs.declared.outcome.BootFault.TheVariants.{Script, Me
 -- alarms, and no other did; and it says all that was left on a station that had done nothing
 pub record IsLogOf (plan : BootPlan) (p turns : ℕ) (log : List LogEntry) : Type 0 where
   pub many : length log ≡ turns
-  pub tends : AllByRecursion (λ (entry : LogEntry). is_some entry.turned.tended ≡ (p == 0)) log
+  pub tends : AllByRecursion (λ (entry : LogEntry). is_some entry.tended ≡ (p == 0)) log
   pub station : Parts
   pub left : Leaves plan log station
 

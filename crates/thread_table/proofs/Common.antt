@@ -70,7 +70,7 @@ pub use Rattle.thread_table.specs.Entries.{Acts, Step, change, claim_event, seen
 pub use Rattle.thread_table.specs.Handles.{call_of, view_of}
 pub use Rattle.thread_table.specs.Joins.{AreJoined, joining, uncounted}
 pub use Rattle.thread_table.specs.Laid.{ItemsLaid, RingsLaid}
-pub use Rattle.thread_table.specs.Layout.{done_word, ends_word, free_ring, head_word, place_word, processor_word, state_word, tail_word, wait_ring}
+pub use Rattle.thread_table.specs.Layout.{done_word, ends_word, free_ring, head_word, place_word, places_word, processor_word, ready_ring, state_word, tail_word, wait_ring}
 pub use Rattle.thread_table.specs.Makers.{AreMade, is_join, made_in, made_of, numbered}
 pub use Rattle.thread_table.specs.Own.{View}
 pub use Rattle.thread_table.specs.Reads.{Peeked}

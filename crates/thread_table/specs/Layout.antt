@@ -1,6 +1,6 @@
 -- Where the words of the table stand, and the marks in them. How many there are of each kind, and what the marks weigh,
 -- are constants of the code. An element queue is called a ring: the ready ring, that of the free elements, or that of
--- a wait queue.
+-- a wait queue. A cache line holds eight words: words that different processors write often stand eight words apart.
 use Rattle.std.specs.Prelude.{ℕ, ◌+◌, ◌*◌, ◌%◌}
 use Rattle.thread_table.specs.declared.layout.TheConstants.{PLACES, ENDS, READY, FREE}
 pub use Rattle.event_theory.specs.Marks.{wait_ring}
@@ -11,27 +11,27 @@ ends_word = ENDS
 
 -- the word of a processor
 abbrev pub processor_word : ℕ → ℕ
-processor_word processor = processor + 1
+processor_word processor = 8 * processor + 8
 
 -- the state word of an element
 abbrev pub state_word : ℕ → ℕ
-state_word element = element + 9
+state_word element = 8 * element + 72
 
--- the word with an element's steps done
+-- the word with an element's steps done, beside its state word
 abbrev pub done_word : ℕ → ℕ
-done_word element = element + 73
+done_word element = 8 * element + 73
 
 -- the head word of a ring
 abbrev pub head_word : ℕ → ℕ
-head_word ring = 66 * ring + 137
+head_word ring = 80 * ring + 584
 
 -- the tail word of a ring
 abbrev pub tail_word : ℕ → ℕ
-tail_word ring = 66 * ring + 138
+tail_word ring = 80 * ring + 592
 
 -- the first place word of a ring
 abbrev pub places_word : ℕ → ℕ
-places_word ring = 66 * ring + 139
+places_word ring = 80 * ring + 600
 
 -- the place word of a position of a ring
 abbrev pub place_word : ℕ → ℕ → ℕ

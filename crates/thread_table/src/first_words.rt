@@ -4,7 +4,7 @@ ghost use Rattle.thread_table.specs.declared.layout.TheConstants.{WORDS, ELEMENT
 ghost use Rattle.thread_table.specs.Layout.{last_first};
 ghost use Rattle.thread_table.specs.Laid.{RingsLaid, ItemsLaid};
 
-use crate::layout::{FREE, RINGS, head_word, place_word};
+use crate::layout::{FREE, RINGS, head_word, place_word, tail_word};
 use crate::words::PlaceWord;
 
 // The head and the tail of each element queue. The free elements' head is behind them.
@@ -13,9 +13,8 @@ pub(crate) fn lay_rings(words: &mut [u64], first: u32)
     ensures { RingsLaid first ELEMENTS RINGS words.old words.new }
 {
     for ring in 0..RINGS {
-        let head = head_word(ring);
-        words[head] = first as u64;
-        words[head + 1] = first as u64;
+        words[head_word(ring)] = first as u64;
+        words[tail_word(ring)] = first as u64;
     }
     words[head_word(FREE)] = first as u64 + 64;
 }

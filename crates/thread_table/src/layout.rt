@@ -1,14 +1,21 @@
 //! Where the words of the table stand, how many there are of each kind, and the marks in them.
 //!
-//! The first word has the number of hands. Behind it stand a word of each processor, a state word of each element and
-//! each element's steps done, and then the element queues, called rings here: of each its head word, its tail word and
-//! its places. A ring is the ready ring, that of the free elements, or that of a wait queue.
+//! The first word has the number of hands. Behind it stand a word of each processor, two words of each element, which
+//! are its state word and its steps done, and then the element queues, called rings here: of each its head word, its
+//! tail word and its places. A ring is the ready ring, that of the free elements, or that of a wait queue.
+//!
+//! A cache line holds eight words, and who writes one word of a line takes it from all who use another. So words that
+//! different processors write often stand eight words apart: the number of hands, the word of each processor, the two
+//! words of each element, and of each ring its head word, its tail word and the first of its places. The words between
+//! them are never used. An element's two words stand side by side, since the processor that it is on writes both. The
+//! places of a ring stand side by side: a line for each of them gains nothing that can be measured.
 ghost use Rattle.std.specs.Prelude.{◌≡◌, ◌+◌, ◌<◌};
 ghost use Rattle.thread_table.specs.declared.layout.TheConstants.{WORDS, PROCESSORS, ELEMENTS, RINGS, PLACES, WAITS};
-ghost use Rattle.thread_table.specs.Layout.{wait_ring, processor_word, state_word, done_word, head_word, place_word};
+ghost use Rattle.thread_table.specs.Layout.{wait_ring, processor_word, state_word, done_word, head_word};
+ghost use Rattle.thread_table.specs.Layout.{tail_word, place_word};
 
 /// The words of a table.
-pub const WORDS: usize = 1325;
+pub const WORDS: usize = 2024;
 
 /// The processors.
 pub const PROCESSORS: usize = 8;
@@ -62,7 +69,7 @@ pub(crate) fn processor_word(processor: u8) -> usize
     requires { processor < PROCESSORS }
     ensures { (result ≡ processor_word processor) × (result < WORDS) }
 {
-    processor as usize + 1
+    8 * processor as usize + 8
 }
 
 /// Where the state word of an element stands.
@@ -70,23 +77,31 @@ pub(crate) fn state_word(element: u8) -> usize
     requires { element < ELEMENTS }
     ensures { (result ≡ state_word element) × (result < WORDS) }
 {
-    element as usize + 9
+    8 * element as usize + 72
 }
 
-/// Where the word with an element's steps done stands.
+/// Where the word with an element's steps done stands. It is behind the state word.
 pub(crate) fn done_word(element: u8) -> usize
     requires { element < ELEMENTS }
     ensures { (result ≡ done_word element) × (result < WORDS) }
 {
-    element as usize + 73
+    8 * element as usize + 73
 }
 
-/// Where the head word of a ring stands. The tail word stands behind it, and behind that the places.
+/// Where the head word of a ring stands.
 pub(crate) fn head_word(ring: usize) -> usize
     requires { ring < RINGS }
-    ensures { (result ≡ head_word ring) × (result + PLACES + 1 < WORDS) }
+    ensures { (result ≡ head_word ring) × (result < WORDS) }
 {
-    66 * ring + 137
+    80 * ring + 584
+}
+
+/// Where the tail word of a ring stands.
+pub(crate) fn tail_word(ring: usize) -> usize
+    requires { ring < RINGS }
+    ensures { (result ≡ tail_word ring) × (result < WORDS) }
+{
+    80 * ring + 592
 }
 
 /// Where the place word of a position of a ring stands.
@@ -94,5 +109,5 @@ pub(crate) fn place_word(ring: usize, position: u64) -> usize
     requires { ring < RINGS }
     ensures { (result ≡ place_word ring position) × (result < WORDS) }
 {
-    66 * ring + 139 + (position % PLACES) as usize
+    80 * ring + 600 + (position % PLACES) as usize
 }

@@ -6,7 +6,7 @@ ghost use Rattle.thread_table.specs.declared.layout.TheConstants.{WORDS, ELEMENT
 ghost use Rattle.thread_table.specs.Layout.{state_word, cell_bit};
 ghost use Rattle.thread_table.specs.Closings.{ProcessorOf, IsIn, RingOf, PlaceOf, place_by, word_at};
 
-use crate::layout::{head_word, place_word, processor_word, state_word};
+use crate::layout::{head_word, place_word, processor_word, state_word, tail_word};
 use crate::words::{HeadWord, StateWord};
 use atomic_table::Closed;
 use std::alloc::Global;
@@ -48,7 +48,7 @@ fn is_in_ring(closed: &Closed<(), Global>, element: u8, ring: usize) -> bool
         (IsIn element (slots_items closed.now.words) ring → ⊥) }
 {
     let head = HeadWord::of(closed.word(head_word(ring))).head;
-    let tail = closed.word(head_word(ring) + 1);
+    let tail = closed.word(tail_word(ring));
     for position in tail..head {
         if closed.word(place_word(ring, position)) % 256 == element as u64 {
             return true;

@@ -22,7 +22,8 @@ ghost use Rattle.event_theory.specs.declared.event.Event.TheVariants as events;
 ghost use Rattle.thread_table.specs.Reads.{Peeked, StateIs};
 
 use crate::layout::{
-    ENDS, NOTIFY, STOP, done_word, head_word, place_word, processor_word, state_word, wait_ring,
+    ENDS, NOTIFY, STOP, done_word, head_word, place_word, processor_word, state_word, tail_word,
+    wait_ring,
 };
 use crate::plays::{
     Caller, CountDown, CountUp, Deed, Halves, Joins, LoadCount, LoadDone, Look, Makes, Mask, Spent,
@@ -64,7 +65,7 @@ pub(crate) fn load_tail(words: &Words, seat: &mut Seat<(), View>, ring: usize) -
     ensures tail { result ≡ tail_shown seat.old.me.0.own.first (elements_after seat.new.me.0.seen.object) ring }
     ensures bounded { result < POSITIONS }
 {
-    load::<Brand>(words, seat, head_word(ring) + 1)
+    load::<Brand>(words, seat, tail_word(ring))
 }
 
 // The place of a position at which the tail was, or is behind.
@@ -171,7 +172,7 @@ pub(crate) fn exchange_tail<J: Deed>(
     ensures miss { result ≢ tail → Found seat.old.me.0 (tail_word ring) result seat.new.me.0
         × (result ≡ tail_shown seat.old.me.0.own.first (elements_after seat.new.me.0.seen.object) ring) }
 {
-    words.compare_exchange::<Tries<J>>(seat, head_word(ring) + 1, tail, tail + 1)
+    words.compare_exchange::<Tries<J>>(seat, tail_word(ring), tail, tail + 1)
 }
 
 pub(crate) fn add_notify<J: Deed>(words: &Words, seat: &mut Seat<(), View>, wait: u8) -> u64

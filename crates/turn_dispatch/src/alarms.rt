@@ -11,15 +11,6 @@ use arrayvec::ArrayVec;
 use meters::{AdvanceRefusal, Alarm, MeterSeat, Meters};
 use thread_table::{Hand, ThreadTable};
 
-/// What came of tending the alarms.
-#[derive(Drop)]
-pub struct Tended {
-    /// The tick that the clock was moved on to, or why it wasn't.
-    pub advanced: Result<u32, AdvanceRefusal>,
-    /// The alarms that were due.
-    pub fired: ArrayVec<Alarm, 16>,
-}
-
 // Raises the signal of each alarm at its element.
 fn raise_signals(threads: &ThreadTable, hand: &mut Hand, alarms: &[Alarm])
     requires table { IsHandOf threads.now hand.old }
@@ -32,23 +23,25 @@ fn raise_signals(threads: &ThreadTable, hand: &mut Hand, alarms: &[Alarm])
 }
 
 /// Makes one try to move the clock on by one tick, fires the alarms that are due then, and raises the signal of each of
-/// them at its element, in their order.
+/// them at its element, in their order. Gives the tick that the clock was moved on to, or why it wasn't; the list then
+/// has the alarms that were fired, and nothing else.
 pub fn tend_alarms(
     threads: &ThreadTable,
     hand: &mut Hand,
     meters: &Meters,
     seat: &mut MeterSeat,
-) -> Tended
+    fired: &mut ArrayVec<Alarm, 16>,
+) -> Result<u32, AdvanceRefusal>
     requires table { IsHandOf threads.now hand.old }
     requires meters { IsSeatOf meters.now seat.old }
-    ensures own { DidTend result.advanced result.fired.items (seats.view_of seat.old) (seats.view_of seat.new) }
-    ensures only { OnlyAdds (signals_for result.fired.items) (view_of hand.old) (view_of hand.new) }
-    ensures fired { Fires result.advanced result.fired.items (seats.view_of seat.old) (seats.view_of seat.new) }
-    ensures raised { RaisedAll (call_of hand.old) result.fired.items (view_of hand.old) (view_of hand.new) }
+    ensures own { DidTend result fired.new.items (seats.view_of seat.old) (seats.view_of seat.new) }
+    ensures only { OnlyAdds (signals_for fired.new.items) (view_of hand.old) (view_of hand.new) }
+    ensures fired { Fires result fired.new.items (seats.view_of seat.old) (seats.view_of seat.new) }
+    ensures raised { RaisedAll (call_of hand.old) fired.new.items (view_of hand.old) (view_of hand.new) }
     ensures same { IsSameHand hand.old hand.new × IsSameSeat seat.old seat.new }
 {
     let advanced = meters.advance(seat);
-    let fired = meters.due(seat);
+    meters.take_due(seat, fired);
     raise_signals(threads, hand, fired.as_slice());
-    Tended { advanced, fired }
+    advanced
 }

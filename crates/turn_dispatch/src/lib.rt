@@ -15,7 +15,7 @@ mod moving;
 mod placing;
 mod waking;
 
-pub use alarms::{Tended, tend_alarms};
+pub use alarms::tend_alarms;
 pub use counting::{Counted, count};
 pub use dispatch::{Begun, Idle, begin};
 pub use laws::{calls_only_add, hands_settle};

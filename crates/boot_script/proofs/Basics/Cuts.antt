@@ -12,11 +12,11 @@ use Rattle.boot_script.specs.Words.{pieces, lines_of, without_last_empty}
 pub some_pieces : (s : ℕ) (bytes : List ℕ) → pieces s bytes ≡ [] → ⊥
 some_pieces s bytes h = absurd (omega (arith, length-slice_split (λ b. eqb b s) bytes, ap length h))
 
-some_chosen : (b : Bool) (at place : ℕ) → Some at ≡ cond b (Some place) None → (b ≡ true) × (at ≡ place)
+pub some_chosen : (b : Bool) (at place : ℕ) → Some at ≡ cond b (Some place) None → (b ≡ true) × (at ≡ place)
 some_chosen true at place h = (refl, cc)
 some_chosen false at place h = absurd (cc)
 
-none_chosen : (b : Bool) (place : ℕ) → None ≡ cond b (Some place) None → b ≡ false
+pub none_chosen : (b : Bool) (place : ℕ) → None ≡ cond b (Some place) None → b ≡ false
 none_chosen true place h = absurd (cc)
 none_chosen false place h = refl
 

@@ -4,9 +4,10 @@
 //! right, so that the first one at fault decides. What can be told only behind all of them, that there is no room for one
 //! more, is told where the line is added to the plan.
 
-ghost use Rattle.std.specs.Prelude.{◌≡◌};
+ghost use Rattle.std.specs.Prelude.{◌≡◌, true};
+ghost use Rattle.std.specs.List.{list_all};
 ghost use Rattle.boot_script.specs.BootLines.{line_of, boot_line};
-ghost use Rattle.boot_script.specs.Grammar.{no_words};
+ghost use Rattle.boot_script.specs.Grammar.{no_words, is_printable};
 
 mod declarations;
 mod movers;
@@ -93,17 +94,31 @@ fn word_said<'a>(
     }
 }
 
-/// What a line says, where a thread's program goes on or none does, or why it is refused.
+/// Whether each byte of a line is printable, which may have been seen.
+fn is_all_ascii(seen: bool, line: &[u8]) -> bool
+    requires { seen ≡ true → list_all is_printable line.now ≡ true }
+    ensures { result ≡ list_all is_printable line.now }
+{
+    if seen {
+        return true;
+    }
+    is_ascii(line)
+}
+
+/// What a line says, where a thread's program goes on or none does, or why it is refused. `seen` tells that each byte
+/// was seen to be printable.
 #[tactic(auto, unfolding(crate::specs::BootLines::boot_line))]
 pub(crate) fn line_said<'a>(
     version: Version,
     names: &Names,
     going: bool,
+    seen: bool,
     line: &'a [u8],
 ) -> Result<Line<'a>, ScriptRefusal>
+    requires { seen ≡ true → list_all is_printable line.now ≡ true }
     ensures { result ≡ boot_line version names.now going line.now }
 {
-    if !is_ascii(line) {
+    if !is_all_ascii(seen, line) {
         return Err(ScriptRefusal::NotAscii);
     }
     let mut words = Words::new(line);

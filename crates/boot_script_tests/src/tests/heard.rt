@@ -22,7 +22,7 @@ pub(super) fn heard_by(alloc: Global, lines: &[Line<'_>]) -> Option<HeardLines>
     if lines.len() > 65536 {
         return None;
     }
-    let mut heard = HeardLines::with_room(alloc, lines.len()).ok()?;
+    let mut heard = HeardLines::with_room(alloc, lines.len(), 256).ok()?;
     for line in lines {
         if line.items.len() > 256 {
             return None;
@@ -121,7 +121,7 @@ fn two_lines(alloc: Global) -> Option<HeardReport> {
 fn heard_memory_may_be_wanting(rt: HostRuntime) {
     let mut made = false;
     for _ in 0..3u8 {
-        match HeardLines::with_room(rt.alloc(), 1) {
+        match HeardLines::with_room(rt.alloc(), 1, 2) {
             Ok(mut heard) => {
                 heard.push(0, 1, &[104, 105]);
                 assert!(rt; heard.bytes(0) == b"hi".as_slice());

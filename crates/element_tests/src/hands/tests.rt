@@ -7,6 +7,7 @@ ghost use Rattle.turn_dispatch.specs.Tallies.{Adds, behind, no_events, one_deliv
 
 use crate::fixtures::{alarm_at, begins, processor, signal, wait_queue};
 use crate::hands::scripts::{Act, does, plays};
+use arrayvec::ArrayVec;
 use event_theory::{Element, Processor, Signal, WaitNumber};
 use meters::{AdvanceRefusal, Meters};
 use std::panic::Expect;
@@ -194,13 +195,14 @@ fn alarms_that_are_due(rt: HostRuntime) {
     let (meters, mut seat) = Meters::new(rt.alloc(), 4_294_967_293).expect(&rt, "memory");
     let alarm = &alarm_at(4_294_967_294, 5, 2).expect(&rt, "alarm");
     assert!(rt; meters.try_set(&mut seat, *alarm) == Ok(0));
-    let tended = tend_alarms(&threads, &mut hand, &meters, &mut seat);
-    assert!(rt; tended.advanced == Ok(4_294_967_294));
-    assert!(rt; tended.fired.as_slice() == [*alarm].as_slice());
-    let tended = tend_alarms(&threads, &mut hand, &meters, &mut seat);
-    assert!(rt; (tended.advanced, tended.fired.len()) == (Ok(4_294_967_295), 0));
-    let tended = tend_alarms(&threads, &mut hand, &meters, &mut seat);
-    assert!(rt; (tended.advanced, tended.fired.len()) == (Err(AdvanceRefusal::Spent), 0));
+    let mut fired = ArrayVec::new();
+    let advanced = tend_alarms(&threads, &mut hand, &meters, &mut seat, &mut fired);
+    assert!(rt; advanced == Ok(4_294_967_294));
+    assert!(rt; fired.as_slice() == [*alarm].as_slice());
+    let advanced = tend_alarms(&threads, &mut hand, &meters, &mut seat, &mut fired);
+    assert!(rt; (advanced, fired.len()) == (Ok(4_294_967_295), 0));
+    let advanced = tend_alarms(&threads, &mut hand, &meters, &mut seat, &mut fired);
+    assert!(rt; (advanced, fired.len()) == (Err(AdvanceRefusal::Spent), 0));
     let Ok(closed) = threads.close(hand) else {
         panic!(rt; "close")
     };

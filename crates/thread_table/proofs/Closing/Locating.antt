@@ -15,11 +15,11 @@ abbrev pub NotBefore : ℕ → List ℕ → ℕ → ℕ → ℕ → Type 0
 NotBefore element words ring tail position = (p : ℕ) → p < position → tail ≤ p → word_at words (place_word ring p) % 256 ≢ element
 
 -- the head and the tail as they were read
-pub head_read : (words : List ℕ) (ring h head tail i k : ℕ) → i ≡ head_word ring → k ≡ head_word ring → get_elem? words i ≡ maybe.some h → get_elem? words (k + 1) ≡ maybe.some tail
+pub head_read : (words : List ℕ) (ring h head tail i k : ℕ) → i ≡ head_word ring → k ≡ tail_word ring → get_elem? words i ≡ maybe.some h → get_elem? words k ≡ maybe.some tail
     → (mark : ℕ) → h ≡ head + mark * NOTIFY → head < 4294967296 → (word_at words (head_word ring) % NOTIFY ≡ head) × (word_at words (tail_word ring) ≡ tail)
 head_read words ring h head tail i k ii kk at_h at_t mark parts bounded =
     let a : word_at words (head_word ring) ≡ h = read_there words i (head_word ring) h ii at_h in
-    (omega arith, read_there words (k + 1) (tail_word ring) tail (omega arith) at_t)
+    (omega arith, read_there words k (tail_word ring) tail kk at_t)
 
 pub cell : (word : ℕ) → bit_at word 17 ≡ 1 → places.Stopped ≡ place_by None None (bit_at word 17 == 1)
 cell word is = ap (place_by None None) (sym (eq-eqb (bit_at word 17) 1 is))

@@ -1,5 +1,5 @@
 -- What closing a table answers, of the last state and of the words that were read.
-use Rattle.thread_table.proofs.Common.{◌≡◌, ◌≢◌, ℕ, ◌+◌, ◌-◌, ◌%◌, ◌<◌, true, false, List, [], ◌∷◌, length, get_or, None, Some, refl, sym, ap, subst, ◌∙◌, arith, there_is, true_from_ne_false, bit_at, some, dite, dec_lt, ℕ_discrete, get_elem?, Final, load, ends_word, Acts, Having, one_at, Elements, IsWhole, ELEMENTS, Place, Claimed, Shape, View, ClosedNow, PlaceOf, word_at, Rule, HandIs, nothing_of, quiet, ring_at, thread_at, Event, WordsShow, had_by_both, map, at_map, at_map_back, Made, AreMade, made_of}
+use Rattle.thread_table.proofs.Common.{◌≡◌, ◌≢◌, ℕ, ◌+◌, ◌-◌, ◌%◌, ◌<◌, true, false, List, [], ◌∷◌, length, get_or, None, Some, refl, sym, ap, subst, ◌∙◌, arith, there_is, true_from_ne_false, bit_at, some, dite, dec_lt, ℕ_discrete, get_elem?, Final, load, ends_word, Acts, Having, one_at, Elements, IsWhole, ELEMENTS, Place, Claimed, Shape, View, ClosedNow, PlaceOf, word_at, Rule, HandIs, nothing_of, quiet, ring_at, thread_at, Event, WordsShow, had_by_both, map, at_map, at_map_back, Made, AreMade, made_of, state_word, done_word}
 use Rattle.atomic_table.specs.Table.{State, Seen}
 use Rattle.table_theory.specs.Ledgers as ends
 use Rattle.table_theory.proofs.Standing.{rest_spent}
@@ -53,9 +53,9 @@ all_made key s k id w at whole = made_sole k.events (map made_of s.views) id w.o
 
 pub closes : (key : Shape) (v w : View) (found id : ℕ) (ws : List ℕ) (xs : List Unit) (all : List Place) (pcs pending : List ℕ) (stops : ℕ) → v.own.fresh ≡ true → v.own.claimed ≡ None → Tallied v found w → found ≡ 1 → Final (Seen (Rule key) id w) ws xs
     → ((x : ℕ) → x < ELEMENTS → PlaceOf x ws (get_or all x places.Held))
-    → ((x : ℕ) → x < ELEMENTS → get_or pcs x 0 ≡ word_at ws (x + 73))
-    → ((x : ℕ) → x < ELEMENTS → get_or pending x 0 ≡ word_at ws (x + 9) % 65536)
-    → ((x : ℕ) → x < ELEMENTS → bit_at stops x ≡ bit_at (word_at ws (x + 9)) 16)
+    → ((x : ℕ) → x < ELEMENTS → get_or pcs x 0 ≡ word_at ws (done_word x))
+    → ((x : ℕ) → x < ELEMENTS → get_or pending x 0 ≡ word_at ws (state_word x) % 65536)
+    → ((x : ℕ) → x < ELEMENTS → bit_at stops x ≡ bit_at (word_at ws (state_word x)) 16)
     → ClosedNow id v all pcs pending stops
 closes key v w found id ws xs all pcs pending stops up none tallied one fin place_of pc_of pending_of stop_of =
     let s : State Unit View = fin.0 in let k : Rule key s = fin.1.0 in let at = fin.1.1 in let whole : IsWhole v.member.share = tallied.count.alone one in
@@ -75,6 +75,6 @@ closes key v w found id ws xs all pcs pending stops up none tallied one fin plac
       retired = are_retired v.seen.object allowed;
       places = λ x below. stands id key.first e ws set x (get_or all x places.Held) below (place_of x below);
       steps = λ x below. pc_of x below ∙ sh.steps x below;
-      signals = λ x below. pending_are (thread_at e x) (word_at ws (x + 9)) (get_or pending x 0) (sh.states x below) (pending_of x below);
+      signals = λ x below. pending_are (thread_at e x) (word_at ws (state_word x)) (get_or pending x 0) (sh.states x below) (pending_of x below);
       stopped = λ x below. let state = sh.states x below in bit_read (bit_at stops x) _ (stop_of x below ∙ state.stop);
     }

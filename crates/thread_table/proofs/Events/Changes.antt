@@ -1,5 +1,5 @@
 -- What an event comes to that changes one element queue and the holds; or threads, processors and holds.
-use Rattle.thread_table.proofs.Common.{◌≡◌, ◌≢◌, ℕ, ◌+◌, ◌*◌, ◌<◌, ◌≤◌, Bool, false, List, length, set, get_or, slice_get, Some, Option, Result, Ok, refl, sym, ap, subst, ◌∙◌, length-set, get_or-set_same, get_or-set_other, arith, ⊎_elim, ◌⊎◌, inl, None, list_any, dite, ℕ_discrete, Elements, Thread, is_hold, is_put, holds, new_thread, Queue, empty_queue, Hold, Refusal, View, Claimed, QueueGrows, ring_at, thread_at, PROCESSORS, ELEMENTS, RINGS, PLACES, NOTIFY, processor_word, state_word, done_word, head_word, tail_word, place_word, PlaceShows, StateShows, processor_shown, mark_of, HandIs, IsClaimed, may_step, serves, having}
+use Rattle.thread_table.proofs.Common.{◌≡◌, ◌≢◌, ℕ, ◌+◌, ◌*◌, ◌<◌, ◌≤◌, Bool, false, List, length, set, get_or, slice_get, Some, Option, Result, Ok, refl, sym, ap, subst, ◌∙◌, length-set, get_or-set_same, get_or-set_other, arith, ⊎_elim, ◌⊎◌, inl, None, list_any, dite, ℕ_discrete, Elements, Thread, is_hold, is_put, holds, new_thread, Queue, empty_queue, Hold, Refusal, View, Claimed, QueueGrows, ring_at, thread_at, PROCESSORS, ELEMENTS, RINGS, PLACES, NOTIFY, processor_word, state_word, done_word, head_word, tail_word, place_word, PlaceShows, StateShows, processor_shown, mark_of, HandIs, IsClaimed, may_step, serves, having, places_word, ready_ring}
 use Rattle.thread_table.proofs.Events.Effects.{Effect, Ready}
 use Rattle.thread_table.proofs.Events.Owing.{QueueOwes, ring_owes, same_owes}
 use Rattle.thread_table.proofs.Events.SingleRuns.{Singles}
@@ -32,8 +32,8 @@ pub record Turns (id : ℕ) (v w : View) (first : ℕ) (e : Elements) (words : L
   -- the runs of other calls stay
   pub runs : (call : ℕ) (c : Claimed) → call ≢ id → IsClaimed call (record c { ring = ring }) e → (slice_get new.history c.run ≡ slice_get (ring_at e ring).history c.run) × (new.raised c.run 0 ≡ (ring_at e ring).raised c.run 0)
   pub hand : ring_at (ringed e ring new held) ring ≡ new → HandIs id w (ringed e ring new held)
-  pub from : 66 * ring + 137 ≤ place
-  pub to : place < 66 * ring + 203
+  pub from : head_word ring ≤ place
+  pub to : place < places_word ring + PLACES
   pub capacity : new.capacity ≡ PLACES
   pub is_open : new.shut ≡ false
   pub single : Singles new.history
@@ -82,7 +82,7 @@ pub record Parts (id : ℕ) (v : View) (e : Elements) (words : List ℕ) (thread
   pub strange : (p : ℕ) → serves v p ≡ false → slice_get processors p ≡ slice_get e.processors p
   pub puts : (call x : ℕ) → call ≢ id → list_any (is_put call x) processors ≡ list_any (is_put call x) e.processors
   pub counts : (x : ℕ) → may_step id x e ≡ false → (get_or threads x new_thread).done ≡ (thread_at e x).done
-  pub inside : place < 137
+  pub inside : place < head_word ready_ring
   pub many : length threads ≡ length e.threads
   pub seats : length processors ≡ length e.processors
   pub on : (p : ℕ) → p < PROCESSORS → get_or (set words place word) (processor_word p) 0 ≡ processor_shown (get_or processors p None)

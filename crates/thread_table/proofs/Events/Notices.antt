@@ -39,7 +39,7 @@ mark_other e wait zero ne = refl
 mark_other e wait (suc zero) ne = refl
 mark_other e wait (suc (suc w)) ne = get_or-set_other e.notified wait w ((get_or e.notified wait 0 + 1) % NOTIFY) 0 (λ is. ne (omega arith))
 
-ring_after : (first : ℕ) (e : Elements) (words : List ℕ) (wait word : ℕ) → wait < length e.notified → 66 * (wait_ring wait) + 137 < length words → RingShows first e (wait_ring wait) words
+ring_after : (first : ℕ) (e : Elements) (words : List ℕ) (wait word : ℕ) → wait < length e.notified → head_word (wait_ring wait) < length words → RingShows first e (wait_ring wait) words
     → word ≡ (head_shown first e (wait_ring wait) + 4294967296) % 18446744073709551616
     → RingShows first (after e wait) (wait_ring wait) (set words (head_word (wait_ring wait)) word)
 ring_after first e words wait word below wide s is =

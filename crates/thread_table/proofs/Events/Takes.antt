@@ -1,5 +1,5 @@
 -- What a taking of one element does.
-use Rattle.thread_table.proofs.Common.{RINGS, View, None, ◌≡◌, ℕ, ◌+◌, ◌*◌, ◌%◌, ◌<◌, ◌≤◌, true, eq-eqb, List, [], ◌∷◌, ◌++◌, length, map, take, drop, set, get_or, Ok, refl, sym, ap, subst, ◌∙◌, arith, get_or-set_same, get_or-set_other, length-set, slice_get-get_or, add-mod_right, dite, dec_lt, Elements, hold, take_element, Queue, left, empty_queue, take_first, ◌>>=◌, at, IsLawfulQueue, IsLawfulElements, in_list, UnknownName, every_at, one, ring_at, element_at, ELEMENTS, PLACES, head_word, tail_word, place_word, PlaceShows, tail_shown, take_event, inl, inr, with_held}
+use Rattle.thread_table.proofs.Common.{RINGS, View, None, ◌≡◌, ℕ, ◌+◌, ◌%◌, ◌<◌, ◌≤◌, true, eq-eqb, List, [], ◌∷◌, ◌++◌, length, map, take, drop, set, get_or, Ok, refl, sym, ap, subst, ◌∙◌, arith, get_or-set_same, get_or-set_other, length-set, slice_get-get_or, add-mod_right, dite, dec_lt, Elements, hold, take_element, Queue, left, empty_queue, take_first, ◌>>=◌, at, IsLawfulQueue, IsLawfulElements, in_list, UnknownName, every_at, one, ring_at, element_at, ELEMENTS, PLACES, head_word, tail_word, place_word, PlaceShows, tail_shown, take_event, inl, inr, with_held, places_word}
 use Rattle.std.proofs.Common.{ok_or}
 use Rattle.std.proofs.lemmas.List.{take-append-drop}
 use Rattle.event_theory.specs.Queues.{after_take}
@@ -46,7 +46,7 @@ place_after first q ring words lawful room up known s r a b = dite (dec_lt r (q.
     let was = p.up up in
     let turn : first + r ≡ first + q.taken + 64 = omega arith in
     let round : (first + r) % 64 ≡ (first + q.taken) % 64 = ap (λ n. n % 64) turn ∙ add-mod_right (first + q.taken) 64 in
-    let same : get_or words (place_word ring (first + r)) 0 ≡ get_or words (place_word ring (first + q.taken)) 0 = ap (λ n. get_or words (66 * ring + 139 + n) 0) round in
+    let same : get_or words (place_word ring (first + r)) 0 ≡ get_or words (place_word ring (first + q.taken)) 0 = ap (λ n. get_or words (places_word ring + n) 0) round in
     record {
       up = λ h. let n = raised_known q r lawful h in absurd (omega arith);
       low = λ h. omega (arith, was, same, known);

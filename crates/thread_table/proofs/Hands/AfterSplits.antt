@@ -1,5 +1,5 @@
 -- What a hand knows after a split, and after a join.
-use Rattle.thread_table.proofs.Common.{◌≡◌, ℕ, zero, suc, ◌+◌, ◌-◌, Bool, false, ◌||◌, ◌&&◌, not, List, [], ◌∷◌, length, get_or, refl, sym, ap, ◌∙◌, subst, arith, and_right, or_parts, nat_lt, Event, Begins, count_up, count_down, begins_trans, ends_word, seen_as, View, is_in, Sees, CountedDown, parted, any_both, rest_of, newborn, both, Divided, IsNewborn, TookIn}
+use Rattle.thread_table.proofs.Common.{◌≡◌, ℕ, zero, suc, ◌+◌, ◌-◌, Bool, false, ◌||◌, ◌&&◌, not, List, [], ◌∷◌, length, get_or, refl, sym, ap, ◌∙◌, subst, arith, and_right, or_parts, nat_lt, Event, Begins, count_up, count_down, begins_trans, ends_word, seen_as, View, is_in, Sees, CountedDown, any_both, rest_of, newborn, both, Divided, IsNewborn, TookIn}
 use Rattle.table_theory.specs.Ledgers.{Step}
 use Rattle.table_theory.specs.Sharing.{given}
 use Rattle.table_theory.proofs.Parting.{one_seen}

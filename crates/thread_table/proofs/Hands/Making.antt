@@ -1,5 +1,5 @@
 -- A step that is an event keeps the rule.
-use Rattle.thread_table.proofs.Common.{◌≡◌, ◌≢◌, ℕ, suc, ◌<◌, Bool, true, false, ◌||◌, List, [], ◌∷◌, ◌++◌, map, length, get_or, set, Result, Ok, sym, refl, ap, ◌∙◌, subst, arith, length-set, get_or-set_other, false_from_ne_true, list_any, some, get_elem?, Elements, holds, is_put, IsLawfulElements, ◌>>=◌, State, effect, in_elements, counted, step, Event, Refusal, of_hands, IsReal, EndsStand, stand_same, at_below, ELEMENTS, Shape, View, Grows, thread_at, WordsShow, IsActive, IsSteady, HandIs, Seen, Rule, nothing_of, now_of, may_step, serves, Did, Stands, had_by_both, left_by_event, AreMade, made_of, is_join, map-set, at_map, set_here}
+use Rattle.thread_table.proofs.Common.{◌≡◌, ◌≢◌, ℕ, ◌<◌, Bool, true, false, ◌||◌, List, [], ◌∷◌, ◌++◌, map, length, get_or, set, Result, Ok, sym, refl, ap, ◌∙◌, subst, arith, length-set, get_or-set_other, false_from_ne_true, list_any, some, get_elem?, Elements, holds, is_put, IsLawfulElements, ◌>>=◌, State, effect, in_elements, counted, step, Event, Refusal, of_hands, IsReal, EndsStand, stand_same, at_below, ELEMENTS, Shape, View, Grows, thread_at, WordsShow, IsActive, IsSteady, HandIs, Seen, Rule, nothing_of, now_of, may_step, serves, Did, Stands, had_by_both, left_by_event, AreMade, made_of, is_join, map-set, at_map, set_here}
 use Rattle.thread_table.proofs.Hands.HeldLists.{hand_kept}
 use Rattle.table_theory.specs.Ledgers.{Step}
 use Rattle.table_theory.proofs.Ends.{begins_on}

@@ -1,5 +1,5 @@
 -- The words of a new table keep the rule.
-use Rattle.thread_table.proofs.Common.{◌≡◌, inl, inr, ℕ, zero, suc, replicate, ◌+◌, ◌*◌, ◌<◌, ◌≤◌, List, [], ◌∙◌, ap, length, get_or, set, refl, arith, get_or-set_same, get_or-set_other, cases_lt, opening, Shape, head_word, tail_word, RingsLaid, ItemsLaid, Rule, newcomer}
+use Rattle.thread_table.proofs.Common.{◌≡◌, inl, inr, ℕ, zero, suc, replicate, ◌+◌, ◌<◌, ◌≤◌, List, [], ◌∙◌, ap, length, get_or, set, refl, arith, get_or-set_same, get_or-set_other, cases_lt, opening, Shape, head_word, tail_word, RingsLaid, ItemsLaid, Rule, newcomer, places_word}
 use Rattle.std.proofs.lemmas.List.{length-replicate}
 use Rattle.thread_table.proofs.Shown.Opening.{opens}
 
@@ -28,7 +28,7 @@ zeros_open key n zs ws words fits some is a b =
       tails = λ ring below. kept key.first ws words b (tail_word ring) ring (omega arith) (omega arith) ∙ a.tails ring below;
       items = b.places;
       zeros = λ ring i known apart below. elim (cases_lt ring 1) [
-        | inl low ↦ b.low (66 * ring + 139 + i) (omega arith) ∙ (a.items ring i known below ∙ rest (66 * ring + 139 + i) (omega arith))
-        | inr past ↦ b.high (66 * ring + 139 + i) (omega arith) ∙ (a.items ring i known below ∙ rest (66 * ring + 139 + i) (omega arith))
+        | inl low ↦ b.low (places_word ring + i) (omega arith) ∙ (a.items ring i known below ∙ rest (places_word ring + i) (omega arith))
+        | inr past ↦ b.high (places_word ring + i) (omega arith) ∙ (a.items ring i known below ∙ rest (places_word ring + i) (omega arith))
       ];
     }

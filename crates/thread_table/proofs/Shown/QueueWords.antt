@@ -1,5 +1,5 @@
 -- What stays shown and known where one element queue and its words change.
-use Rattle.thread_table.proofs.Common.{◌≡◌, ◌≢◌, ℕ, zero, suc, ◌+◌, ◌*◌, ◌%◌, ◌<◌, ◌≤◌, false, List, length, set, get_or, Some, None, Option, slice_get, Result, Ok, refl, sym, ap, subst, ◌∙◌, arith, mod-lt, get_or-set_other, length-set, slice_get-get_or, dite, ℕ_discrete, Elements, holds, Queue, empty_queue, change_at, Run, Refusal, Hold, View, Claimed, QueueGrows, Grows, ring_at, thread_at, RINGS, PLACES, NOTIFY, processor_word, state_word, done_word, head_word, tail_word, place_word, WordsShow, RingShows, PlaceShows, StateShows, mark_of, IsClaimed}
+use Rattle.thread_table.proofs.Common.{◌≡◌, ◌≢◌, ℕ, zero, suc, ◌+◌, ◌*◌, ◌%◌, ◌<◌, ◌≤◌, false, List, length, set, get_or, Some, None, Option, slice_get, Result, Ok, refl, sym, ap, subst, ◌∙◌, arith, mod-lt, get_or-set_other, length-set, slice_get-get_or, dite, ℕ_discrete, Elements, holds, Queue, empty_queue, change_at, Run, Refusal, Hold, View, Claimed, QueueGrows, Grows, ring_at, thread_at, RINGS, PLACES, NOTIFY, processor_word, state_word, done_word, head_word, tail_word, place_word, WordsShow, RingShows, PlaceShows, StateShows, mark_of, IsClaimed, places_word, ready_ring}
 use Rattle.thread_table.proofs.Schedule.Schedules.{queue_refl}
 use Rattle.thread_table.proofs.Events.Effects.{Leaves}
 
@@ -24,7 +24,7 @@ ring_shown first f l words q mark queue is capacity is_open single bounded marke
 
 -- an element queue whose words stay is shown as before
 pub ring_kept : (first : ℕ) (e f : Elements) (l : ℕ) (words changed : List ℕ) → ring_at f l ≡ ring_at e l → mark_of f l ≡ mark_of e l
-    → ((k : ℕ) → 66 * l + 137 ≤ k → k < 66 * l + 203 → get_or changed k 0 ≡ get_or words k 0) → RingShows first e l words → RingShows first f l changed
+    → ((k : ℕ) → head_word l ≤ k → k < places_word l + PLACES → get_or changed k 0 ≡ get_or words k 0) → RingShows first e l words → RingShows first f l changed
 ring_kept first e f l words changed queue mark same s = ring_shown first f l changed (ring_at e l) (mark_of e l) queue mark s.capacity s.is_open s.single s.bounded s.marked
     (same (head_word l) (omega arith) (omega arith) ∙ s.head) (same (tail_word l) (omega arith) (omega arith) ∙ s.tail)
     (λ run a b. let near : (first + run) % 64 < 64 = mod-lt (first + run) (omega arith) in let r : ℕ = (first + run) % 64 in
@@ -45,7 +45,7 @@ mark_same e rings held l = same_mark e (with_rings e rings e.notified held) l re
 
 -- the words of the element queues change, and what they show of them
 pub shows_else : (first : ℕ) (e : Elements) (rings : List Queue) (notified : List ℕ) (held : List Hold) (words changed : List ℕ) → WordsShow first e words → length rings ≡ length e.rings → length notified ≡ length e.notified
-    → length changed ≡ length words → ((k : ℕ) → 1 ≤ k → k < 137 → get_or changed k 0 ≡ get_or words k 0) → ((l : ℕ) → l < RINGS → RingShows first (with_rings e rings notified held) l changed) → WordsShow first (with_rings e rings notified held) changed
+    → length changed ≡ length words → ((k : ℕ) → 1 ≤ k → k < head_word ready_ring → get_or changed k 0 ≡ get_or words k 0) → ((l : ℕ) → l < RINGS → RingShows first (with_rings e rings notified held) l changed) → WordsShow first (with_rings e rings notified held) changed
 shows_else first e rings notified held words changed s many notes long same shown = record {
   wide = long ∙ s.wide;
   threads = s.threads;
@@ -61,7 +61,7 @@ shows_else first e rings notified held words changed s many notes long same show
 
 -- a word of an element queue is written, and the other queues stay
 pub shows_kept : (first : ℕ) (e : Elements) (rings : List Queue) (notified : List ℕ) (held : List Hold) (ring place word : ℕ) (words : List ℕ) → WordsShow first e words
-    → length rings ≡ length e.rings → length notified ≡ length e.notified → ring < RINGS → 66 * ring + 137 ≤ place → place < 66 * ring + 203
+    → length rings ≡ length e.rings → length notified ≡ length e.notified → ring < RINGS → head_word ring ≤ place → place < places_word ring + PLACES
     → ((l : ℕ) → l ≢ ring → ring_at (with_rings e rings notified held) l ≡ ring_at e l) → ((l : ℕ) → l ≢ ring → mark_of (with_rings e rings notified held) l ≡ mark_of e l)
     → RingShows first (with_rings e rings notified held) ring (set words place word) → WordsShow first (with_rings e rings notified held) (set words place word)
 shows_kept first e rings notified held ring place word words s many notes known from to other marks mine =

@@ -8,7 +8,7 @@ ghost use Rattle.meters.specs.Handles as seats;
 ghost use Rattle.turn_dispatch.specs.Holdings.{IsFree};
 ghost use Rattle.turn_io.specs.EndLists.{AreEndsOf, AreChainEndsOf, AreChainsOver, IsDivisible};
 ghost use Rattle.processor.specs.Manning.{IsManned};
-ghost use Rattle.processor.specs.Programs.{hear_count};
+ghost use Rattle.processor.specs.Programs.{hear_count, longest_line};
 ghost use Rattle.processor.specs.Stations.{ArePartsOf};
 
 use super::*;
@@ -132,6 +132,7 @@ fn station_of(alloc: Global, shared: &Shared, ends: Ends) -> Result<Station, Out
     ensures seat { IfOk result (λ s. s.parts.meters ≡ ends.seat) }
     ensures heard { IfOk result (λ s. s.parts.heard.lines ≡ []) }
     ensures room { IfOk result (λ s. hear_count shared.now.plan ≤ s.parts.heard.room) }
+    ensures longest { IfOk result (λ s. longest_line shared.now.plan ≤ s.parts.heard.longest) }
 {
     let Ends {
         hand,
@@ -178,6 +179,7 @@ pub(super) fn first_station<R: Abort>(
     ensures seat { IfOk result (λ r. seats.IsDivisible r.1.parts.meters) }
     ensures heard { IfOk result (λ r. r.1.parts.heard.lines ≡ []) }
     ensures room { IfOk result (λ r. hear_count r.0.plan ≤ r.1.parts.heard.room) }
+    ensures longest { IfOk result (λ r. longest_line r.0.plan ≤ r.1.parts.heard.longest) }
 {
     let Ways {
         queues,
@@ -219,6 +221,7 @@ pub(super) fn readied<R: Abort + Wait>(
     requires parts { ArePartsOf shared.now station.parts }
     requires heard { station.parts.heard.lines ≡ [] }
     requires room { hear_count shared.now.plan ≤ station.parts.heard.room }
+    requires longest { longest_line shared.now.plan ≤ station.parts.heard.longest }
     ensures { IsManned shared.now p result.parts }
 {
     let mut parts = station.into_parts();

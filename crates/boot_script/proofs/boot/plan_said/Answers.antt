@@ -19,17 +19,17 @@ loop-rest-init c = record {
 pub returns-in-Err : goal.returns-in-Err
 returns-in-Err c =
     let so_far = c.loop-rest.invariant.so_far in
-    let line = c.first_line.result.0.now in
-    let lines = lines_of c.first_line.result.1.now in
-    let here = ap (λ ls. plan_from c.args.version c.loop-rest.line_number ls so_far.d) (sym c.first_line.ensures.lines) ∙ so_far.all in
+    let line = c.seen_line-seen.result.0.now in
+    let lines = lines_of c.seen_line-seen.result.1.now in
+    let here = ap (λ ls. plan_from c.args.version c.loop-rest.line_number ls so_far.d) (sym c.seen_line-seen.ensures.lines) ∙ so_far.all in
     inr (ap plan_only (line_fault c.args.version c.loop-rest.line_number line lines so_far.d c.in-Err.refusal _ c.if-not-is_silent.ensures (c.in-Err.ensures so_far.d so_far.drawn) here))
 
 pub loop-rest-preserved : goal.loop-rest-preserved
 loop-rest-preserved c =
     let so_far = c.loop-rest.invariant.so_far in
-    let line = c.first_line.result.0.now in
-    let lines = lines_of c.first_line.result.1.now in
-    let here = ap (λ ls. plan_from c.args.version c.loop-rest.line_number ls so_far.d) (sym c.first_line.ensures.lines) ∙ so_far.all in
+    let line = c.seen_line-seen.result.0.now in
+    let lines = lines_of c.seen_line-seen.result.1.now in
+    let here = ap (λ ls. plan_from c.args.version c.loop-rest.line_number ls so_far.d) (sym c.seen_line-seen.ensures.lines) ∙ so_far.all in
     elim c.if-not-is_silent.branch [
       | then-not-is_silent+in-Ok w ↦
           let next = w.in-Ok.ensures so_far.d so_far.drawn in

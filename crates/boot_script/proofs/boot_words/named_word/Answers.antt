@@ -9,14 +9,14 @@ pub loop-known-preserved : goal.loop-known-preserved
 unfolding boot_words
 loop-known-preserved c =
     let w : c.word.result.now ≡ boot_word (get_or boot_words c.loop-known.known-index Queue) = c.word.ensures in
-    let other = ap (bytes_eq c.args.word.now) (sym w) ∙ (sym c.eq.ensures ∙ c.if-eq.false) in
+    let other = ap (bytes_eq c.args.word.now) (sym w) ∙ (sym c.same_word.ensures ∙ c.if-same_word.false) in
     sym (word_more c.args.word.now boot_words c.loop-known.known-index Queue c.loop-known-test.true other) ∙ c.loop-known.invariant
 
-pub returns-then-eq-clause-exact : goal.returns-then-eq-clause-exact
+pub returns-then-same_word-clause-exact : goal.returns-then-same_word-clause-exact
 unfolding boot_words
-returns-then-eq-clause-exact c =
+returns-then-same_word-clause-exact c =
     let w : c.word.result.now ≡ boot_word (get_or boot_words c.loop-known.known-index Queue) = c.word.ensures in
-    let same = ap (bytes_eq c.args.word.now) (sym w) ∙ (sym c.eq.ensures ∙ c.if-eq.true) in
+    let same = ap (bytes_eq c.args.word.now) (sym w) ∙ (sym c.same_word.ensures ∙ c.if-same_word.true) in
     sym (word_here c.args.word.now boot_words c.loop-known.known-index Queue c.loop-known-test.true same) ∙ c.loop-known.invariant
 
 pub returns-clause-exact : goal.returns-clause-exact

@@ -1,4 +1,4 @@
-use Rattle.processor.proofs.Common.{◌+◌, ℕ, [], ◌∷◌, ◌++◌, length, rules, refl, sym, ap, ◌∙◌, subst, Turn, LogEntry}
+use Rattle.processor.proofs.Common.{◌+◌, ℕ, [], ◌∷◌, ◌++◌, length, rules, refl, sym, ap, ◌∙◌, subst, Turn}
 use Rattle.std.proofs.Math.Nat.{zero-add}
 use Rattle.std.proofs.lemmas.List.{length-append}
 use Rattle.processor.proofs.Keeping.{stays_on, stays_still}
@@ -11,13 +11,13 @@ loop-number-preserved g c =
     let i = c.loop-number.invariant in
     let e = c.turn.ensures in
     let log = i.1 in
-    let entry : LogEntry = record { turned = c.turn.result; line = e.turn.0 } in
+    let entry = e.turn.0 in
     let said = subst (λ (q : ℕ). g.G.Gate.told c.loop-number.gate q (Turn c.loop-number.number) c.between.new.self) c.number.ensures.value c.between.ensures in (
       stays_on c.args.shared.now c.args.p c.args.station.parts c.loop-number.parts c.turn.new.parts i.0 e.manned,
       log ++ entry ∷ [],
       length-append log (entry ∷ []) ∙ ap (λ n. n + 1) i.2,
       told_more g.G.Gate.told c.args.shared.now c.args.p 0 log entry c.args.station.parts c.loop-number.parts c.turn.new.parts c.args.gate.now c.loop-number.gate c.turn.new.gate i.3 e.turn.1
-          (c.between.new.self, subst (λ (n : ℕ). g.G.Gate.told c.loop-number.gate c.args.p (Turn n) c.between.new.self) (sym (zero-add (length log) ∙ i.2)) said, e.gate),
+          (c.between.new.self, subst (λ (n : ℕ). g.G.Gate.told c.loop-number.gate c.args.p (Turn n) c.between.new.self) (sym (zero-add (length log) ∙ i.2)) said, e.turn.3),
       ran_on c.args.shared.now.plan log (entry ∷ []) c.args.station.parts c.loop-number.parts c.turn.new.parts i.4 e.turn.2,
     )
 

@@ -2,8 +2,10 @@ use Rattle.processor.proofs.Common.{◌≡◌, ◌<◌, ◌≤◌, ℕ, true, Li
 use Rattle.std.proofs.lemmas.List.{length-map}
 use Rattle.boot_data.specs.Hearing.{Heard}
 use Rattle.processor.specs.declared.counting.Tried.{Tried}
+use Rattle.processor.specs.Programs.{longest_line}
 use Rattle.processor.specs.Turns.{RanStep}
 use Rattle.processor.proofs.Keeping.{free_still}
+use Rattle.processor.proofs.Longest.{heard_within}
 use Rattle.processor.proofs.Rooming.{key_in, hears_more, past_more, room_left, keys_more}
 use Rattle.processor.proofs.Trying.{heard_line, tried_went}
 use Rattle.processor.proofs.turn.run_element.Goals as goal
@@ -21,6 +23,17 @@ keep-requires-clause-room g c is =
     let long = length-map heard.lines key_of in
     let room = had.room in
     subst (λ (z : Heard). length z.lines < z.room) (sym r.heard) (omega arith)
+
+pub keep-requires-clause-few : goal.keep-requires-clause-few
+keep-requires-clause-few g c is =
+    let plan = c.args.shared.now.plan in
+    let r = c.run_step-tried.ensures in
+    let had = c.requires.manned.room in
+    let text = c.run_step-tried.new.room.heard.items in
+    let it = subst (λ (z : Deed). is_heard z ≡ true) c.deed.ensures is in
+    let short : length text ≤ longest_line plan = heard_within plan c.args.begun.now.element c.args.begun.now.number c.args.step.now c.run_step-tried.result.deed text _ _ _ _ c.requires.its r.deed r.ends.queues it in
+    let long : length text ≤ c.args.parts.now.heard.longest = let most = had.longest in omega arith in
+    subst (λ (z : Heard). length c.as_slice.result.now ≤ z.longest) (sym r.heard) (subst (λ (z : List ℕ). length z ≤ c.args.parts.now.heard.longest) (sym c.as_slice.ensures.value) long)
 
 pub returns-clause-manned : goal.returns-clause-manned
 returns-clause-manned g c =
@@ -50,6 +63,7 @@ returns-clause-manned g c =
         free = free_still c.args.p v w serves on c.requires.manned.free;
         room = record {
           room = subst (λ (z : ℕ). hear_count plan ≤ z) (sym sized) had.room;
+          longest = subst (λ (z : ℕ). longest_line plan ≤ z) (sym (c.keep.ensures.longest ∙ ap (λ z. z.longest) r.heard)) had.longest;
           hears = subst (AreHears plan) (sym are) more;
           past = subst (AllByRecursion (IsPast w)) (sym are) past;
         };

@@ -1,6 +1,7 @@
-use Rattle.processor.proofs.Common.{refl, tick_to, nothing_did, nothing, shown_in}
+use Rattle.processor.proofs.Common.{rules, refl, Some, tick_to, nothing_did, nothing, shown_in}
 use Rattle.turn_dispatch.specs.Tallies.{signals_for}
 use Rattle.meters.specs.Handles as seats
+use Rattle.processor.specs.Turns.{AreAtRest}
 use Rattle.processor.proofs.Keeping.{rest_stays}
 use Rattle.processor.proofs.Logging.{hand_done}
 use Rattle.processor.proofs.Rising.{fallen, raising}
@@ -11,14 +12,19 @@ use Rattle.processor.proofs.turn.tend.Goals as goal
 pub returns-clause-manned : goal.returns-clause-manned
 returns-clause-manned c =
     let e = c.tend_alarms.ensures in
-    let still = tended_remains c.tend_alarms.result.advanced c.tend_alarms.result.fired.items (seats.view_of c.args.parts.now.meters) (seats.view_of c.tend_alarms.new.seat) e.own in
+    let still = tended_remains c.tend_alarms.result c.tend_alarms.new.fired.items (seats.view_of c.args.parts.now.meters) (seats.view_of c.tend_alarms.new.seat) e.own in
     rest_stays c.args.shared.now c.args.p c.args.parts.now _ c.requires.manned (record { small = refl; large = refl; chains = refl; heard = refl }) e.same.0 e.only.keeps
     (fallen c.args.parts.now.hand c.tend_alarms.new.hand (raising _ _ _ _ e.raised)) e.same.1 still.share still.parted
 
-pub returns-clause-done : goal.returns-clause-done
-returns-clause-done c =
+pub returns-clause-tended : goal.returns-clause-tended
+returns-clause-tended c =
     let e = c.tend_alarms.ensures in
-    let r = c.tend_alarms.result in
-    hand_done (signals_for r.fired.items) (record nothing_did { advances = tick_to r.advanced; fired = r.fired.items }) nothing.shown c.args.parts.now _ (record { small = refl; large = refl; chains = refl; heard = refl }) e.only.adds
-    (tended_ticks _ _ (seats.view_of c.args.parts.now.meters) (seats.view_of c.tend_alarms.new.seat) e.own) (none_shows (shown_in c.args.parts.now.signals))
-    (fallen c.args.parts.now.hand c.tend_alarms.new.hand (raising _ _ _ _ e.raised))
+    let advanced = c.tend_alarms.result in
+    let fired = c.tend_alarms.new.fired.items in
+    let rest : AreAtRest c.args.parts.now _ = record { small = refl; large = refl; chains = refl; heard = refl } in (
+      Some (record { advanced = advanced; fired = fired }),
+      (search rules, e.fired, e.raised, rest, refl),
+      hand_done (signals_for fired) (record nothing_did { advances = tick_to advanced; fired = fired }) nothing.shown c.args.parts.now _ rest e.only.adds
+          (tended_ticks _ _ (seats.view_of c.args.parts.now.meters) (seats.view_of c.tend_alarms.new.seat) e.own) (none_shows (shown_in c.args.parts.now.signals))
+          (fallen c.args.parts.now.hand c.tend_alarms.new.hand (raising _ _ _ _ e.raised)),
+    )

@@ -1,11 +1,14 @@
+use Rattle.processor.proofs.Common.{LogEntry}
 use Rattle.processor.proofs.Logging.{turn_ran}
 use Rattle.processor.proofs.turn.turn.Goals as goal
 
 pub returns-clause-turn : goal.returns-clause-turn
 returns-clause-turn g c =
-    let came = c.dispatch-outcome.ensures.came in (
-      came.0,
-      (c.tend-tended.new.parts, c.tend-tended.ensures.tended, came.1),
-      turn_ran c.args.shared.now.plan (record { turned = record { tended = c.tend-tended.result; outcome = c.dispatch-outcome.result }; line = came.0 })
-          c.args.parts.now c.tend-tended.new.parts c.dispatch-outcome.new.parts c.tend-tended.ensures.done came.2,
+    let tended = c.tend.ensures.tended in
+    let came = c.dispatch.ensures.came in
+    let entry : LogEntry = record { tended = tended.0; outcome = c.dispatch.result; line = came.0 } in (
+      entry,
+      (c.tend.new.parts, tended.1, came.1),
+      turn_ran c.args.shared.now.plan entry c.args.parts.now c.tend.new.parts c.dispatch.new.parts tended.2 came.2,
+      c.dispatch.ensures.gate,
     )

@@ -1,18 +1,15 @@
-use Rattle.thread_table.proofs.Common.{◌≡◌, ◌+◌, arith, tail_word}
+use Rattle.thread_table.proofs.Common.{arith}
 use Rattle.thread_table.proofs.Events.Tells.{found_at, found_tail, small_tail}
 use Rattle.thread_table.proofs.steps.load_tail.Goals as goal
 
 pub returns-clause-found : goal.returns-clause-found
-returns-clause-found c = let head = c.head_word.ensures.0 in let here : c.head_word.result + 1 ≡ tail_word c.args.ring = omega arith in
-    found_at here c.load.ensures.2
+returns-clause-found c = found_at c.tail_word.ensures.0 c.load.ensures.2
 
 pub returns-clause-tail : goal.returns-clause-tail
-returns-clause-tail c = let head = c.head_word.ensures.0 in let here : c.head_word.result + 1 ≡ tail_word c.args.ring = omega arith in
-    found_tail _ _ _ _ c.requires.queue.2 (found_at here c.load.ensures.2)
+returns-clause-tail c = found_tail _ _ _ _ c.requires.queue.2 (found_at c.tail_word.ensures.0 c.load.ensures.2)
 
 pub returns-clause-bounded : goal.returns-clause-bounded
-returns-clause-bounded c = let head = c.head_word.ensures.0 in let here : c.head_word.result + 1 ≡ tail_word c.args.ring = omega arith in
-    let f = found_at here c.load.ensures.2 in let tail = found_tail _ _ _ _ c.requires.queue.2 f in let bounded = small_tail c.args.seat.now.me.0 c.load.new.seat.me.0 c.args.ring c.requires.queue.2 f.sees in omega arith
+returns-clause-bounded c = let f = found_at c.tail_word.ensures.0 c.load.ensures.2 in let tail = found_tail _ _ _ _ c.requires.queue.2 f in let bounded = small_tail c.args.seat.now.me.0 c.load.new.seat.me.0 c.args.ring c.requires.queue.2 f.sees in omega arith
 
 pub returns-clause-stands : goal.returns-clause-stands
 returns-clause-stands c = c.load.ensures.3

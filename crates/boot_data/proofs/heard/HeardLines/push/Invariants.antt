@@ -10,4 +10,5 @@ invariant-loop-item l = record {
   capacity : vec_capacity l.self-inside.bytes ≡ vec_capacity l.initial.self-inside.bytes;
   marks : l.self-inside.marks ≡ l.initial.self-inside.marks;
   room : l.self-inside.room ≡ l.initial.self-inside.room;
+  longest : l.self-inside.longest ≡ l.initial.self-inside.longest;
 }

@@ -6,13 +6,13 @@ use Rattle.boot_script.proofs.declared_names.Names.has.Goals as goal
 pub loop-named-preserved : goal.loop-named-preserved
 loop-named-preserved c =
     let names = c.as_slice-named-items.result.now in
-    let other : bytes_eq c.args.name.now c.named-item.result.name ≡ false = ap (bytes_eq c.args.name.now) (sym c.as_slice.ensures.bytes) ∙ (sym c.eq.ensures ∙ c.if-eq.false) in
+    let other : bytes_eq c.args.name.now c.named-item.result.name ≡ false = ap (bytes_eq c.args.name.now) (sym c.as_slice.ensures.bytes) ∙ (sym c.same_word.ensures ∙ c.if-same_word.false) in
     sym (has_more c.args.name.now names c.loop-named.named-index c.named-item.result c.loop-named-test.true (ap (λ n. bytes_eq c.args.name.now n.name) (sym c.named-item.is) ∙ other)) ∙ c.loop-named.invariant
 
-pub returns-then-eq : goal.returns-then-eq
-returns-then-eq c =
+pub returns-then-same_word : goal.returns-then-same_word
+returns-then-same_word c =
     let names = c.as_slice-named-items.result.now in
-    let same : bytes_eq c.args.name.now c.named-item.result.name ≡ true = ap (bytes_eq c.args.name.now) (sym c.as_slice.ensures.bytes) ∙ (sym c.eq.ensures ∙ c.if-eq.true) in
+    let same : bytes_eq c.args.name.now c.named-item.result.name ≡ true = ap (bytes_eq c.args.name.now) (sym c.as_slice.ensures.bytes) ∙ (sym c.same_word.ensures ∙ c.if-same_word.true) in
     sym (sym c.loop-named.invariant ∙ has_here c.args.name.now names c.loop-named.named-index c.named-item.result c.loop-named-test.true (ap (λ n. bytes_eq c.args.name.now n.name) (sym c.named-item.is) ∙ same))
 
 pub returns : goal.returns

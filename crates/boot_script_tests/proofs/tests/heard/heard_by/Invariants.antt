@@ -5,4 +5,5 @@ abbrev pub invariant-loop-line : goal.invariant-loop-line
 invariant-loop-line l = record {
   number : length l.heard.lines ≡ l.line-index;
   room : l.heard.room ≡ length l.lines;
+  longest : l.heard.longest ≡ 256;
 }

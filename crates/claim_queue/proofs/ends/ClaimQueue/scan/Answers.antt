@@ -27,3 +27,6 @@ loop-i-preserved g c = let l = c.loop-i.invariant in let long = l.long in let i 
 
 pub returns-then-flag-position-clause-short : goal.returns-then-flag-position-clause-short
 returns-then-flag-position-clause-short g c = λ _. found_small _ _ _ _ _ _ c.load_flag-flag.ensures.found (found_look _ _ _ _ _ _ c.load_flag-flag.ensures.found c.loop-i.invariant.found) c.requires.started.1
+
+pub returns-then-flag-position-clause-found : goal.returns-then-flag-position-clause-found
+returns-then-flag-position-clause-found g c = found_look _ _ _ _ _ _ c.load_flag-flag.ensures.found c.loop-i.invariant.found

@@ -1,5 +1,5 @@
 use Rattle.proc_chain.proofs.Common.{refl, sym, subst, ◌∙◌, ◌≤◌, ℕ, ◌≡◌, true, false, true≢false, arith, Did, suits, makes, with_turn, run}
-use Rattle.proc_chain.proofs.Finding.{looks_found, looks_on, seen_notes, told_behind, slot_on, slot_up}
+use Rattle.proc_chain.proofs.Finding.{looks_found, looks_on, rests_on, seen_notes, told_behind, slot_on, slot_up}
 use Rattle.proc_chain.proofs.Linking.{put_note, was_lost, just_claimed, claimed_at, link, chained, chained_seen, chained_rests, won_slot}
 use Rattle.proc_chain.proofs.ends.ProcChain.try_chain.Goals as goal
 
@@ -16,6 +16,10 @@ returns-then-head-tail-clause-ends g c = let end = c.args.end.now in let a = c.l
 pub returns-then-found-head-clause-ends : goal.returns-then-found-head-clause-ends
 returns-then-found-head-clause-ends g c = let end = c.args.end.now in let a = c.load-head.ensures in let b = c.load-tail.ensures in let e = c.exchange_head-found.ensures in let s = looks_on _ _ _ (looks_on _ _ _ (looks_found _ _ _ _ a.found) (looks_found _ _ _ _ b.found)) (looks_found _ _ _ _ (e.miss c.if-found-head.true)) in let pact = c.args.self.now.table.shared.key.pact in
     (e.stays.0.0 ∙ (b.stays.0.0 ∙ (a.stays.0.0 ∙ c.requires.0)), slot_on (makes g.Q.Quaject.made_by pact) (suits g.Q.Quaject.fits pact) end.seat.me.0 c.exchange_head-found.new.seat.me.0 _ _ (seen_notes _ _ s.seen (told_behind _ end.told)) (λ i. (s.own i).runner) (e.stays.1.0 ∙ (b.stays.1.0 ∙ a.stays.1.0)) c.requires.1)
+
+pub invariant_of-end-then-found-head : goal.invariant_of-end-then-found-head
+invariant_of-end-then-found-head g c = let end = c.args.end.now in let a = c.load-head.ensures in let b = c.load-tail.ensures in let e = c.exchange_head-found.ensures in let s = looks_on _ _ _ (looks_on _ _ _ (looks_found _ _ _ _ a.found) (looks_found _ _ _ _ b.found)) (looks_found _ _ _ _ (e.miss c.if-found-head.true)) in
+    record { turned = (λ i. (s.own i).runner) ∙ end.turned; rests = rests_on _ _ (λ i. (s.seen.member i).ends) (λ i. (s.own i).runs) (λ i. (s.own i).owes) end.rests; told = ∣ e.stays.1.1 ∣₁ }
 
 pub returns-then-found-head-clause-steps : goal.returns-then-found-head-clause-steps
 returns-then-found-head-clause-steps g c = was_lost _ _ _ _ _ _ _ c.load-head.ensures.found c.load-tail.ensures.found (c.exchange_head-found.ensures.miss c.if-found-head.true) c.if-head-ge-POSITIONS.false c.if-head-tail.false c.if-found-head.true

@@ -1,6 +1,6 @@
 use Rattle.meters.proofs.Common.{◌≤◌, IsSame}
 use Rattle.meters.proofs.Following.{Swept}
-use Rattle.meters.proofs.ends.Meters.due.Given as goal
+use Rattle.meters.proofs.ends.Meters.take_due.Given as goal
 
 abbrev pub invariant-loop-slot : goal.invariant-loop-slot
 invariant-loop-slot l = record {

@@ -1,5 +1,5 @@
 use Rattle.processor.proofs.Rising.{fallen, sending, waited_at}
-use Rattle.processor.proofs.sending.move_on.Goals as goal
+use Rattle.processor.proofs.sending.go_on.Goals as goal
 
 pub returns-in-Some-clause-rises : goal.returns-in-Some-clause-rises
 returns-in-Some-clause-rises g c = fallen c.args.hand.now c.wait_with.new.hand (waited_at _ _ _ _ _ _ _ c.wait_with.ensures.waited)

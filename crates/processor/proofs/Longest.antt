@@ -1,0 +1,48 @@
+-- A line that was heard is no longer than the longest that a plan's steps can hear.
+use Rattle.processor.proofs.Common.{◌≡◌, ◌≤◌, ℕ, zero, suc, ◌||◌, Bool, true, false, if◌then◌else◌, List, [], ◌∷◌, length, Some, Ok, refl, sym, ap, subst, ◌∙◌, arith, BootPlan, PlannedThread, QueueIndex, Small, Large, QueueEnd, Step, steps_at, step_of, Deed, IsDeedOf, line_in, is_heard}
+use Rattle.std.proofs.Math.Bool.{or-true as or_true}
+use Rattle.std.specs.List.{slice_get, list_any}
+use Rattle.boot_data.specs.declared.plan.Step.TheVariants as steps
+use Rattle.turn_io.proofs.Shares.{heard_long}
+use Rattle.processor.specs.declared.deed.Deed.TheVariants as deeds
+use Rattle.processor.specs.declared.tries.HearAnswer.TheVariants as answers
+use Rattle.processor.specs.Programs.{hears_large, one_hears_large, longest_line}
+use Rattle.processor.specs.Steps.{QueuesDid}
+
+some_is : {A : Type 0} (a b : A) → Some a ≡ Some b → a ≡ b
+some_is a b e = cc
+
+in_steps : (steps : List Step) (n : ℕ) (step : Step) → slice_get steps n ≡ Some step → hears_large step ≡ true → list_any hears_large steps ≡ true
+in_steps [] n step is h = cc
+in_steps (s ∷ steps) zero step is h = ap (λ b. b || list_any hears_large steps) (ap hears_large (some_is s step is) ∙ h)
+in_steps (s ∷ steps) (suc n) step is h = ap (λ b. hears_large s || b) (in_steps steps n step is h) ∙ or_true (hears_large s)
+
+in_threads : (threads : List PlannedThread) (e n : ℕ) (step : Step) → slice_get (steps_at threads e) n ≡ Some step → hears_large step ≡ true → list_any one_hears_large threads ≡ true
+in_threads [] e n step is h = cc
+in_threads (t ∷ threads) zero n step is h = ap (λ b. b || list_any one_hears_large threads) (in_steps t.steps n step is h)
+in_threads (t ∷ threads) (suc e) n step is h = ap (λ b. one_hears_large t || b) (in_threads threads e n step is h) ∙ or_true (one_hears_large t)
+
+at_least : (b : Bool) → 64 ≤ (if b then 256 else 64)
+at_least true = omega arith
+at_least false = omega arith
+
+as_large : (b : Bool) → b ≡ true → 256 ≤ (if b then 256 else 64)
+as_large true is = omega arith
+as_large false is = cc
+
+pub heard_within : (plan : BootPlan) (e n : ℕ) (step : Step) (deed : Deed) (text : List ℕ) (old new : List (QueueEnd 64)) (old' new' : List (QueueEnd 256)) → step_of plan e n ≡ Some step → IsDeedOf step deed (line_in step text)
+    → QueuesDid deed (line_in step text) old new old' new' → is_heard deed ≡ true → length text ≤ longest_line plan
+heard_within plan e n (steps.Hear queue) (deeds.Hear (Small at) (answers.Taken paid)) text old new old' new' is d did heard =
+    let on = did.1.0 in
+    let long = heard_long on.end on.after text (Ok tt) on.does in
+    let most = at_least (list_any one_hears_large plan.threads) in
+    omega (arith, long.1, most)
+heard_within plan e n (steps.Hear queue) (deeds.Hear (Large at) (answers.Taken paid)) text old new old' new' is d did heard =
+    let on = did.1.0 in
+    let long = heard_long on.end on.after text (Ok tt) on.does in
+    let large : hears_large (steps.Hear queue) ≡ true = ap (λ z. hears_large (steps.Hear z)) (sym d.0) in
+    let most = as_large (list_any one_hears_large plan.threads) (in_threads plan.threads e n (steps.Hear queue) is large) in
+    omega (arith, long.1, most)
+heard_within plan e n step (deeds.Hear at (answers.Refused unheard)) text old new old' new' is d did heard = cc
+heard_within plan e n step (deeds.Hear at (answers.Taken paid)) text old new old' new' is d did heard = absurd d
+heard_within plan e n step deed text old new old' new' is d did heard = cc

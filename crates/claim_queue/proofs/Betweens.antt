@@ -1,5 +1,6 @@
 -- Whatever the rule holds of is a lawful queue of the core, shown by the words and the views.
-use Rattle.claim_queue.proofs.Common.{◌≡◌, ℕ, ◌+◌, ◌%◌, ◌<◌, ◌≤◌, Bool, false, List, ◌∙◌, map, length, get_or, refl, sym, ap, subst, arith, get_or-map, Batch, Positions, written_at, blank, place_at, Owned, ListedOnce, all_places, Shape, mark, data_in, flag_in, part_of, Rule}
+use Rattle.claim_queue.proofs.Common.{◌≡◌, ℕ, ◌+◌, ◌%◌, ◌<◌, ◌≤◌, Bool, false, List, ◌∙◌, map, length, get_or, refl, sym, ap, subst, arith, get_or-map, Batch, Positions, written_at, blank, place_at, Owned, ListedOnce, all_places, Shape, mark, data_in, flag_in, part_of, Rule, IsUsed}
+use Rattle.table_theory.specs.Unused.{AreZero}
 use Rattle.std.proofs.lemmas.Simd.{map-map}
 use Rattle.std.proofs.lemmas.Bool.{leb-true, leb-false}
 use Rattle.event_theory.specs.Runs.{flat, pairs}
@@ -59,6 +60,7 @@ shows_queue key s k = let q : Positions = k.now.object in let l = k.listed.lists
     head = h.head ∙ (let z : q.first + length q.places + mark q.shut ≡ key.first + length (flat (map run_in l.runs)) + mark q.shut = omega arith in z);
     tail = h.tail ∙ ap (λ (z : ℕ). z + q.taken) first;
     places = λ i from below. place_is key s k i from (omega arith);
+    unused = subst (λ (z : ℕ). AreZero (IsUsed z) s.words) k.room h.unused;
   };
 }
 

@@ -1,5 +1,5 @@
 -- The exchange of the head keeps the rule.
-use Rattle.claim_queue.proofs.Common.{◌≡◌, ℕ, ◌+◌, ◌<◌, ◌≤◌, false, eqb, List, [], ◌∷◌, ◌++◌, map, length, get_or, set, sym, refl, ap, ◌∙◌, arith, length-set, length-append, get_or-set_same, get_or-set_other, length-map, none, either, Me, step, Allows, at_map, Positions, fresh, head_of, tail_of, with_claim, run_stands, grows_refl, exchanges, Shape, was_claimed, head_word, tail_word, mark, data_in, flag_in, View, part_of, run, with_run, Rule, WordsShow}
+use Rattle.claim_queue.proofs.Common.{◌≡◌, ℕ, ◌+◌, ◌<◌, ◌≤◌, false, eqb, List, [], ◌∷◌, ◌++◌, map, length, get_or, set, sym, refl, ap, ◌∙◌, arith, length-set, length-append, get_or-set_same, get_or-set_other, length-map, none, either, Me, step, Allows, at_map, Positions, fresh, head_of, tail_of, with_claim, run_stands, grows_refl, exchanges, Shape, was_claimed, head_word, tail_word, mark, data_in, flag_in, View, part_of, run, with_run, Rule, WordsShow, IsUsed, by_head, unused_kept}
 use Rattle.table_theory.proofs.Listing.{listed_claim}
 use Rattle.table_theory.proofs.Windows.{window_claim}
 use Rattle.claim_queue.specs.Steps.{claims}
@@ -13,6 +13,7 @@ shows_claim q words xs new h is_open is fits = let wide = h.wide in let long = l
   head = get_or-set_same words head_word new 0 (omega arith) ∙ (let m : mark q.shut ≡ 0 = ap mark is_open in omega arith);
   tail = get_or-set_other words head_word tail_word new 0 (λ e. omega arith) ∙ h.tail;
   window = window_kept (with_claim q xs) words head_word new (omega arith) (window_claim q xs (flag_in words) (data_in words) h.window);
+  unused = unused_kept (IsUsed q.room) words head_word new (by_head refl) h.unused;
 }
 
 pub claims_head : (key : Shape) (n id : ℕ) (me : Me Unit View) (old new : ℕ) (xs : List ℕ) → new ≡ old + length xs → new < 4294967296 → old + length xs ≤ tail_of me.0.seen.object + me.0.first.room → 1 ≤ me.0.member.ends → 0 < length xs

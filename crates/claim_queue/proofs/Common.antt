@@ -23,6 +23,7 @@ pub use Rattle.table_theory.proofs.Reaching.{entries_real, passes_since, reaches
 pub use Rattle.table_theory.proofs.Saying.{passes_split}
 pub use Rattle.table_theory.proofs.Tables.{Goes, exchanges}
 pub use Rattle.table_theory.proofs.Totals.{total_kept, total_set}
+pub use Rattle.table_theory.proofs.Unused.{unused_kept}
 pub use Rattle.table_theory.specs.Batches.{IsPast}
 pub use Rattle.table_theory.specs.Filing.{ListedOnce, Owned}
 pub use Rattle.table_theory.specs.Ledgers.{Adds, IsHonest, IsReal, Made, Step, both, change, emptied, load}
@@ -43,7 +44,7 @@ pub use Rattle.claim_queue.specs.Claims.{KeepsClaims, KeepsOthers, Owns, places_
 pub use Rattle.claim_queue.specs.Closings.{left_at, left_from, shown}
 pub use Rattle.claim_queue.specs.Endings.{TookIn}
 pub use Rattle.claim_queue.specs.Handles.{view_of}
-pub use Rattle.claim_queue.specs.Layout.{data_in, data_word, ends_word, flag_in, flag_word, head_word, mark, tail_word}
+pub use Rattle.claim_queue.specs.Layout.{IsUsed, by_ends, by_flag, by_head, by_item, by_tail, data_in, data_word, ends_word, flag_in, flag_word, head_word, mark, tail_word}
 pub use Rattle.claim_queue.specs.Lines.{line_of}
 pub use Rattle.claim_queue.specs.Own.{Looks, View, did_both, nothing_did, of_queues, part_of, run, taking, with_changed, with_run, with_taking}
 pub use Rattle.claim_queue.specs.Puts.{IsPut, PutAnswer, Raised, RaisedFrom, Try, tried}

@@ -1,6 +1,7 @@
 -- A queue grows by each step, and stays lawful.
 use Rattle.claim_queue.proofs.Common.{◌+◌, sym, subst, arith, Positions, Moment, Step, IsReal, Lawful, Grows, written_at, grows_refl, take_lawful, Becomes, was_claimed, was_written, was_taken, was_shut, of_queues}
-use Rattle.table_theory.specs.Ledgers.{Reaches}
+use Rattle.std.proofs.Common.{List}
+use Rattle.table_theory.specs.Ledgers.{Reaches, Passes}
 use Rattle.table_theory.proofs.Positioned.{grows_trans, claim_grows, write_grows, take_grows, shut_grows, claim_lawful, write_lawful, shut_lawful}
 use Rattle.table_theory.proofs.Saying as steps
 
@@ -24,3 +25,6 @@ real_grows = steps.real_goes of_queues Grows grows_refl grows_trans (λ q r word
 
 pub reaches_grow : (m n : Moment Positions) → Reaches of_queues m n → Grows m.object n.object
 reaches_grow = steps.reaches_go of_queues Grows grows_refl grows_trans (λ q r words shows b. becomes_grows q r b)
+
+pub passes_grow : (m n : Moment Positions) (entries : List (Step Positions)) → Passes of_queues m entries n → Grows m.object n.object
+passes_grow = steps.passes_go of_queues Grows grows_refl grows_trans (λ q r words shows b. becomes_grows q r b)

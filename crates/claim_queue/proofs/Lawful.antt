@@ -29,7 +29,7 @@ spot_is : (q : Positions) (position : ℕ) → q.first ≤ position → spot q (
 spot_is q position from = let e : q.first + (position - q.first) ≡ position = omega arith in ap (λ (z : ℕ). z % q.room) e
 
 flag_found : (e : Step Positions) (position : ℕ) → e.word ≡ flag_word e.then.object.room position → (r : IsReal of_queues e) → e.then.object.first ≤ position → e.found ≡ flag_in r.words (spot e.then.object (position - e.then.object.first))
-flag_found e position is r from = let q : Positions = e.then.object in let s = spot_is q position from in at_word of_queues e (flag_word q.room position) is r ∙ ap (λ (z : ℕ). get_or r.words z 0) (let g : flag_word q.room position ≡ 2 * spot q (position - q.first) + FIRST_PLACE + 1 = omega arith in g)
+flag_found e position is r from = let q : Positions = e.then.object in let s = spot_is q position from in at_word of_queues e (flag_word q.room position) is r ∙ ap (λ (z : ℕ). get_or r.words z 0) (let g : flag_word q.room position ≡ 2 * spot q (position - q.first) + 17 = omega arith in g)
 
 pub raised_says : (e : Step Positions) (position : ℕ) → e.word ≡ flag_word e.then.object.room position → IsReal of_queues e → e.then.object.first ≤ position → position < tail_of e.then.object + e.then.object.room → e.found ≡ position + 1 → 2 ≤ written_at e.then.object (position - e.then.object.first)
 raised_says e position is r from to found = let q : Positions = e.then.object in
@@ -43,12 +43,12 @@ low_says e position is r from to ne = let q : Positions = e.then.object in
 pub item_says : (e : Step Positions) (position : ℕ) → e.word ≡ data_word e.then.object.room position → IsReal of_queues e → tail_of e.then.object ≤ position → position < tail_of e.then.object + e.then.object.room → 1 ≤ written_at e.then.object (position - e.then.object.first)
     → e.found ≡ item_at e.then.object (position - e.then.object.first)
 item_says e position is r from to up = let q : Positions = e.then.object in let s = spot_is q position (omega arith) in
-    at_word of_queues e (data_word q.room position) is r ∙ (ap (λ (z : ℕ). get_or r.words z 0) (let g : data_word q.room position ≡ 2 * spot q (position - q.first) + FIRST_PLACE = omega arith in g) ∙ (r.shows.window.each (position - q.first) (omega arith) (omega arith)).holds up)
+    at_word of_queues e (data_word q.room position) is r ∙ (ap (λ (z : ℕ). get_or r.words z 0) (let g : data_word q.room position ≡ 2 * spot q (position - q.first) + 16 = omega arith in g) ∙ (r.shows.window.each (position - q.first) (omega arith) (omega arith)).holds up)
 
 -- CHANGES
 
 -- where items were claimed, the queue was open
-claim_open : (q : Positions) (items : List ℕ) → Grows q (with_claim q items) → 0 < length items → q.shut ≡ false
+pub claim_open : (q : Positions) (items : List ℕ) → Grows q (with_claim q items) → 0 < length items → q.shut ≡ false
 claim_open q items g any = by q.shut g.still
   where
     by : (b : Bool) → (b ≡ true → length (with_claim q items).places ≡ length q.places) → b ≡ false

@@ -20,4 +20,7 @@ pub mod Lawful
 pub mod Saying
 pub mod Certain
 pub mod Ordered
+pub mod Heading
+pub mod Historic
+pub mod Vacant
 pub mod Common

@@ -78,7 +78,7 @@ lost_by room v w items (Err Closed) is h = absurd (true≢false (sym is))
 lost_by room v w items (Err Spent) is h = absurd (true≢false (sym is))
 lost_by room v w items (Err (Full head tail)) is h = absurd (true≢false (sym is))
 lost_by room v w items (Err (Lost now)) is (fits, head, tail, m, n, o, there, is_open, past, made) =
-    (record { head = head; at_head = m; tail = tail; at_tail = n; found = now; at_exchange = o }, (there, is_open, past), made)
+    (record { head = head; at_head = m; tail = tail; at_tail = n; found = now; at_exchange = o }, (fits, there, is_open, past), made)
 
 tried_on : (xs ys : List Try) → tried (xs ++ ys) ≡ tried xs ++ tried ys
 tried_on [] ys = refl

@@ -36,7 +36,7 @@ pub read_none : (room : ℕ) (ws : List ℕ) (p u flag : ℕ) → u ≡ flag_wor
 read_none room ws p u flag flag_at f is = let g : ℕ = flag_in ws (p % room) in let y : ℕ = data_in ws (p % room) in
     sym (ap (λ (b : Bool). if b then Some y else None) (ne_eqb g (p + 1) (λ o. is (sym (ap (λ (z : ℕ). get_or ws z 0) (sym flag_at) ∙ read_word ws u flag f) ∙ o))))
 
-low_of : (n h : ℕ) (b : Bool) → n < 4294967296 → h ≡ n + mark b → h % 4294967296 ≡ n
+pub low_of : (n h : ℕ) (b : Bool) → n < 4294967296 → h ≡ n + mark b → h % 4294967296 ≡ n
 low_of n h true bounded is = omega arith
 low_of n h false bounded is = omega arith
 

@@ -1,5 +1,5 @@
 -- The step that shuts the queue keeps the rule.
-use Rattle.claim_queue.proofs.Common.{◌≡◌, ℕ, ◌+◌, ◌<◌, ◌≤◌, Bool, true, false, map, get_or, refl, ap, ◌∙◌, arith, length-set, get_or-set_same, get_or-set_other, if◌then◌else◌, lt-ltb, le-ltb, none, Me, step, Allows, Positions, with_shut, head_of, at_map, grows_refl, Did, Shape, was_shut, head_word, tail_word, mark, data_in, flag_in, View, part_of, times_shut, Rule}
+use Rattle.claim_queue.proofs.Common.{◌≡◌, ℕ, ◌+◌, ◌<◌, ◌≤◌, Bool, true, false, map, get_or, refl, ap, ◌∙◌, arith, length-set, get_or-set_same, get_or-set_other, if◌then◌else◌, lt-ltb, le-ltb, none, Me, step, Allows, Positions, with_shut, head_of, at_map, grows_refl, Did, Shape, was_shut, head_word, tail_word, mark, data_in, flag_in, View, part_of, times_shut, Rule, IsUsed, by_head, unused_kept}
 use Rattle.std.proofs.Common.{◌*◌, ◌^◌}
 use Rattle.std.specs.Prelude.{nat_lt}
 use Rattle.std.proofs.lemmas.Nat.{or_block, or_comm}
@@ -35,6 +35,7 @@ shuts_head key n id me live s k _ at _ = let v : View = me.0 in let q : Position
       head = get_or-set_same s.words head_word new 0 (omega arith) ∙ is;
       tail = get_or-set_other s.words head_word tail_word new 0 (λ e. omega arith) ∙ h.tail;
       window = window_kept (with_shut q) s.words head_word new (omega arith) (window_shut q (flag_in s.words) (data_in s.words) h.window);
+      unused = unused_kept (IsUsed q.room) s.words head_word new (by_head refl) h.unused;
     }
     (listed_shut q (map part_of s.views) id (part_of v) (record { queue = with_shut q; runs = v.own.runs; takes = v.own.takes }) k.listed (at_map part_of s.views id v at) refl refl (grows_refl (with_shut q)))
     (let m = shut_more q y h.head h.bounded in let e : times_shut q + own.shuts ≡ 1 + v.own.shuts = omega arith in e) (λ w stays step. (stays, (k.now, step)))

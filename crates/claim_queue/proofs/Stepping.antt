@@ -1,5 +1,5 @@
 -- What every step keeps and tells: the rule after an event and after a look.
-use Rattle.claim_queue.proofs.Common.{◌≡◌, ◌≢◌, ◌≤◌, ◌<◌, ◌+◌, ◌*◌, ℕ, List, [], ◌∷◌, map, get_or, get_or-set_other, set, length-set, sym, refl, ap, ◌∙◌, subst, arith, map-set, some, none, get_elem?, Me, step, Allows, at_map, set_here, Positions, Moment, Step, change, IsReal, IsHonest, ViewsShow, Grows, listed_look, at_below, grows_refl, entries_real, Goes, total_set, total_kept, Did, Shape, Becomes, empty, FIRST_PLACE, head_word, tail_word, ends_word, data_in, flag_in, View, of_queues, nothing_did, part_of, shuts_of, times_shut, Rule, IsRuled, WordsShow, Stepped}
+use Rattle.claim_queue.proofs.Common.{◌≡◌, ◌≢◌, ◌≤◌, ◌<◌, ◌+◌, ◌*◌, ℕ, List, [], ◌∷◌, map, get_or, get_or-set_other, set, length-set, sym, refl, ap, ◌∙◌, subst, arith, map-set, some, none, get_elem?, Me, step, Allows, at_map, set_here, Positions, Moment, Step, change, IsReal, IsHonest, ViewsShow, Grows, listed_look, at_below, grows_refl, entries_real, Goes, total_set, total_kept, Did, Shape, Becomes, empty, FIRST_PLACE, head_word, tail_word, ends_word, data_in, flag_in, View, of_queues, nothing_did, part_of, shuts_of, times_shut, Rule, IsRuled, WordsShow, Stepped, IsUsed, by_ends, unused_kept}
 use Rattle.atomic_table.specs.Table.{State, keeps}
 use Rattle.table_theory.specs.Ledgers.{Stands}
 use Rattle.table_theory.specs.Windows.{PlacesShow}
@@ -16,7 +16,7 @@ St = State Unit View
 -- the places are shown as before where a word before theirs becomes y
 pub window_kept : (q : Positions) (words : List ℕ) (i y : ℕ) → i < FIRST_PLACE → PlacesShow q (flag_in words) (data_in words) → PlacesShow q (flag_in (set words i y)) (data_in (set words i y))
 window_kept q words i y low h = window_same q (flag_in words) (data_in words) (flag_in (set words i y)) (data_in (set words i y)) h
-    (λ k b. get_or-set_other words i (2 * k + FIRST_PLACE + 1) y 0 (λ e. omega arith)) (λ k b. get_or-set_other words i (2 * k + FIRST_PLACE) y 0 (λ e. omega arith))
+    (λ k b. get_or-set_other words i (2 * k + 17) y 0 (λ e. omega arith)) (λ k b. get_or-set_other words i (2 * k + 16) y 0 (λ e. omega arith))
 
 pub shows_count : (q : Positions) (words : List ℕ) (y : ℕ) → WordsShow q words → WordsShow q (set words ends_word y)
 shows_count q words y h = record {
@@ -25,6 +25,7 @@ shows_count q words y h = record {
   head = get_or-set_other words ends_word head_word y 0 (λ e. omega arith) ∙ h.head;
   tail = get_or-set_other words ends_word tail_word y 0 (λ e. omega arith) ∙ h.tail;
   window = window_kept q words ends_word y (omega arith) h.window;
+  unused = unused_kept (IsUsed q.room) words ends_word y (by_ends refl) h.unused;
 }
 
 -- what an end has seen leads to the queue as it is

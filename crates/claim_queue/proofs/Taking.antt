@@ -1,5 +1,5 @@
 -- The exchange of the tail keeps the rule.
-use Rattle.claim_queue.proofs.Common.{◌≡◌, ℕ, ◌+◌, ◌-◌, ◌<◌, ◌≤◌, eqb, List, [], ◌∷◌, ◌++◌, map, length, get_or, set, sym, refl, ◌∙◌, subst, arith, length-set, get_or-set_same, get_or-set_other, none, either, Me, step, Allows, at_map, Positions, written_at, Lawful, with_take, tail_of, grows_refl, take_lawful, exchanges, Shape, was_taken, head_word, tail_word, data_in, flag_in, View, part_of, taking, with_taking, Rule, WordsShow}
+use Rattle.claim_queue.proofs.Common.{◌≡◌, ℕ, ◌+◌, ◌-◌, ◌<◌, ◌≤◌, eqb, List, [], ◌∷◌, ◌++◌, map, length, get_or, set, sym, refl, ◌∙◌, subst, arith, length-set, get_or-set_same, get_or-set_other, none, either, Me, step, Allows, at_map, Positions, written_at, Lawful, with_take, tail_of, grows_refl, take_lawful, exchanges, Shape, was_taken, head_word, tail_word, data_in, flag_in, View, part_of, taking, with_taking, Rule, WordsShow, IsUsed, by_tail, unused_kept}
 use Rattle.table_theory.proofs.Listing.{listed_take}
 use Rattle.table_theory.proofs.Windows.{window_take}
 use Rattle.claim_queue.specs.Steps.{takes}
@@ -12,6 +12,7 @@ shows_take q words n new h l below is = let wide = h.wide in let ls = length-set
   head = get_or-set_other words tail_word head_word new 0 (λ e. omega arith) ∙ h.head;
   tail = get_or-set_same words tail_word new 0 (omega arith) ∙ (omega arith);
   window = window_kept (with_take q n) words tail_word new (omega arith) (window_take q n (flag_in words) (data_in words) h.window l below);
+  unused = unused_kept (IsUsed q.room) words tail_word new (by_tail refl) h.unused;
 }
 
 -- the places from `at` on were raised when the end last looked

@@ -1,5 +1,6 @@
 -- The steps that make, split, join and count ends keep the rule.
-use Rattle.claim_queue.proofs.Common.{◌≡◌, ℕ, ◌+◌, ◌-◌, ◌%◌, ◌<◌, ◌≤◌, List, [], ◌∷◌, ◌++◌, map, length, get_or, set, sym, refl, ap, ◌∙◌, subst, arith, mod-lt, length-set, get_or-set_same, get_or-set_other, map-set, map-append, some, none, get_elem?, Me, step, Allows, at_map, set_else, at_last, at_longer, set_here, Positions, QueueView, both, emptied, ViewsShow, spot, listed_look, at_below, grows_refl, total_kept, total_set, head_word, tail_word, ends_word, flag_word, Shape, empty, View, of_queues, nothing_did, did_both, part_of, shuts_of, Rule, newcomer, IsRuled}
+use Rattle.claim_queue.proofs.Common.{◌≡◌, ℕ, ◌+◌, ◌-◌, ◌%◌, ◌<◌, ◌≤◌, List, [], ◌∷◌, ◌++◌, map, length, get_or, set, sym, refl, ap, ◌∙◌, subst, arith, mod-lt, length-set, get_or-set_same, get_or-set_other, map-set, map-append, some, none, get_elem?, Me, step, Allows, at_map, set_else, at_last, at_longer, set_here, Positions, QueueView, both, emptied, ViewsShow, spot, listed_look, at_below, grows_refl, total_kept, total_set, head_word, tail_word, ends_word, flag_word, Shape, empty, View, of_queues, nothing_did, did_both, part_of, shuts_of, Rule, newcomer, IsRuled, IsUsed, by_ends, by_head, by_tail, unused_kept}
+use Rattle.table_theory.proofs.Unused.{all_alike}
 use Rattle.std.proofs.Common.{replicate}
 use Rattle.std.proofs.lemmas.List.{length-replicate, get_or-replicate}
 use Rattle.atomic_table.specs.Table.{Splits, Joins, opening}
@@ -93,6 +94,7 @@ opens key zs are room fits = let q : Positions = empty key in let f : ℕ = key.
                 holds = λ h. absurd (omega arith);
               };
             };
+            unused = unused_kept (IsUsed key.room) b ends_word 1 (by_ends refl) (unused_kept (IsUsed key.room) a tail_word f (by_tail refl) (unused_kept (IsUsed key.room) zs head_word f (by_head refl) (λ j _. ap (λ (z : List ℕ). get_or z j 0) are ∙ all_alike (width key.room) 0 j)));
           }
           number;
       listed = listed_first q (part_of (newcomer key)) refl refl refl refl (grows_refl q);

@@ -19,10 +19,11 @@ use Rattle.claim_queue.specs.declared.rule.Shape.{Shape}
 use Rattle.table_theory.specs.declared.views.Moment.{Moment}
 use Rattle.table_theory.specs.Ledgers.{AreTrue}
 use Rattle.table_theory.specs.Sharing.{total}
+use Rattle.table_theory.specs.Unused.{AreZero}
 use Rattle.claim_queue.specs.Changes.{empty}
 use Rattle.claim_queue.specs.Own.{View, nothing_did, of_queues}
 use Rattle.claim_queue.specs.Rules.{shuts_of}
-use Rattle.claim_queue.specs.Layout.{head_word, tail_word, ends_word, width, mark, data_in, flag_in}
+use Rattle.claim_queue.specs.Layout.{head_word, tail_word, ends_word, width, IsUsed, mark, data_in, flag_in}
 
 -- the pair (run, index) of the item with this number
 abbrev pub pair_at : Queue → ℕ → ℕ × ℕ
@@ -55,6 +56,8 @@ pub record IsShown (key : Shape) (s : State Unit View) (c : Queue) : Type 0 wher
   pub head : slice_index_or s.words head_word 0 ≡ key.first + length (flat c.history) + mark c.shut
   pub tail : slice_index_or s.words tail_word 0 ≡ key.first + c.taken
   pub places : (i : ℕ) → c.taken ≤ i → i < length (flat c.history) → PlaceIs c key.room s.words i (key.first + i)
+  -- a word that is neither the head's, the tail's, that of the ends nor one of a place is 0
+  pub unused : AreZero (IsUsed key.room) s.words
 
 -- there is a lawful queue that is shown
 pub record ShowsQueue (key : Shape) (s : State Unit View) : Type 0 where

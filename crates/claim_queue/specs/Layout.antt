@@ -1,41 +1,50 @@
--- Where the words of a queue's table stand: head and number of ends, then the tail in a cache line of its own, then two
--- words for each place, its item and beside it its flag.
-use Rattle.std.specs.Prelude.{ℕ, ◌+◌, ◌*◌, ◌%◌, Bool, true, false, List, slice_index_or}
-use Rattle.claim_queue.specs.declared.layout.TheConstants.{HEAD, TAIL, ENDS, FIRST_PLACE, SHUT}
+-- Where the words of a queue's table stand: head and number of ends, then the tail, then two words for each place, its
+-- item and beside it its flag. A cache line has 8 words: the tail is 8 words behind the head, and the first place 8
+-- words behind the tail. So they are in lines of their own, and each line begins at one of them if the table's memory
+-- begins at a line.
+use Rattle.std.specs.Prelude.{◌≡◌, ℕ, ◌+◌, ◌*◌, ◌%◌, Bool, true, false, List, slice_index_or}
 
 -- the number of the word that has the head, and the mark where the queue is shut
 abbrev pub head_word : ℕ
-head_word = HEAD
-
--- the number of the word that has the tail
-abbrev pub tail_word : ℕ
-tail_word = TAIL
+head_word = 0
 
 -- the number of the word that has the number of ends
 abbrev pub ends_word : ℕ
-ends_word = ENDS
+ends_word = 1
+
+-- the number of the word that has the tail
+abbrev pub tail_word : ℕ
+tail_word = 8
 
 -- the number of the word of the item at this position
 abbrev pub data_word : ℕ → ℕ → ℕ
-data_word room position = 2 * (position % room) + FIRST_PLACE
+data_word room position = 2 * (position % room) + 16
 
 -- the number of the word of the flag at this position
 abbrev pub flag_word : ℕ → ℕ → ℕ
-flag_word room position = 2 * (position % room) + FIRST_PLACE + 1
+flag_word room position = 2 * (position % room) + 17
 
 -- how many words a queue of so many places has
 abbrev pub width : ℕ → ℕ
-width room = room + room + FIRST_PLACE
+width room = room + room + 16
 
--- what the head word has beside the head: SHUT where the queue is shut, and else nothing
+-- the word with this number has a use: it is one of these. Each other word stays 0
+pub data IsUsed (room word : ℕ) : Type 0 where
+  by_head : word ≡ head_word → IsUsed room word
+  by_ends : word ≡ ends_word → IsUsed room word
+  by_tail : word ≡ tail_word → IsUsed room word
+  by_item : (position : ℕ) → word ≡ data_word room position → IsUsed room word
+  by_flag : (position : ℕ) → word ≡ flag_word room position → IsUsed room word
+
+-- what the head word has beside the head: 2^32 where the queue is shut, and else nothing
 abbrev pub mark : Bool → ℕ
-mark true = SHUT
+mark true = 4294967296
 mark false = 0
 
 -- the item of this place
 abbrev pub data_in : List ℕ → ℕ → ℕ
-data_in words place = slice_index_or words (2 * place + FIRST_PLACE) 0
+data_in words place = slice_index_or words (2 * place + 16) 0
 
 -- the flag of this place
 abbrev pub flag_in : List ℕ → ℕ → ℕ
-flag_in words place = slice_index_or words (2 * place + FIRST_PLACE + 1) 0
+flag_in words place = slice_index_or words (2 * place + 17) 0

@@ -10,7 +10,7 @@ use Rattle.table_theory.specs.Positioned.{fresh}
 use Rattle.claim_queue.specs.declared.claim.ClaimRefusal.{ClaimRefusal}
 use Rattle.claim_queue.specs.declared.claim.ClaimRefusal.TheVariants.{Lost}
 use Rattle.claim_queue.specs.declared.layout.TheConstants.{SHUT}
-use Rattle.claim_queue.specs.Answers.{HasRoom, ClaimedBy, RefusedBy}
+use Rattle.claim_queue.specs.Answers.{Fits, HasRoom, ClaimedBy, RefusedBy}
 use Rattle.claim_queue.specs.Changes.{IsPlace, written}
 use Rattle.claim_queue.specs.Claims.{run_of}
 use Rattle.claim_queue.specs.Layout.{head_word, tail_word, data_word, flag_word}
@@ -74,9 +74,9 @@ pub record Try : Type 0 where
   pub found : ℕ
   pub at_exchange : Moment Positions
 
--- there was room, but the exchange found another head, past the one loaded
+-- so many items fit and there was room, but the exchange found another head, past the one loaded
 abbrev pub IsLost : ℕ → ℕ → Try → Type 0
-IsLost room count t = HasRoom room count t.head t.tail × (t.found < SHUT) × (t.head < t.found)
+IsLost room count t = Fits room count × HasRoom room count t.head t.tail × (t.found < SHUT) × (t.head < t.found)
 
 -- the entries of tries, one behind the other
 abbrev pub tried : List Try → List (Step Positions)

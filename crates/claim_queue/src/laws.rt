@@ -1,7 +1,7 @@
 //! What an end lists is true, and each change is an event of the core: statements over plain data.
 
-ghost use Rattle.std.specs.Prelude.{◌≡◌, ◌≢◌, ◌+◌, ◌-◌, ◌<◌, ◌≤◌, ◌⊎◌, ℕ, true, false, List, [], ◌∷◌, ◌++◌, length};
-ghost use Rattle.std.specs.Prelude.{slice_index_or, slice_set, Ok};
+ghost use Rattle.std.specs.Prelude.{◌≡◌, ◌≢◌, ◌+◌, ◌*◌, ◌-◌, ◌%◌, ◌<◌, ◌≤◌, ◌⊎◌, ℕ, true, false, List, [], ◌∷◌, ◌++◌};
+ghost use Rattle.std.specs.Prelude.{length, take, slice_index_or, slice_set, Ok};
 ghost use Rattle.std.specs.List.{AllByRecursion};
 ghost use mathlib.Core.Option.{some};
 ghost use lib.ListN.{get_elem?};
@@ -13,18 +13,22 @@ ghost use Rattle.table_theory.specs.declared.queues.Positions.{Positions};
 ghost use Rattle.table_theory.specs.declared.queues.QueueView.{QueueView};
 ghost use Rattle.table_theory.specs.declared.views.Moment.{Moment};
 ghost use Rattle.table_theory.specs.Ledgers.{Step, load, change, count_down, Adds, IsReal, IsHonest, Reaches, Passes};
+ghost use Rattle.table_theory.specs.Apart.{AreApart};
+ghost use Rattle.table_theory.specs.Filing.{Owned};
 ghost use Rattle.table_theory.specs.Listing.{ViewsShow, written_to};
 ghost use Rattle.table_theory.specs.Positioned.{Lawful, Grows, blank, fresh, item_at, written_at, head_of, tail_of};
+ghost use Rattle.table_theory.specs.Positioned.{left_of};
 ghost use Rattle.table_theory.specs.Positioned.{with_claim, with_take, with_shut};
-ghost use Rattle.table_theory.specs.QueueOf.{IsEvent, no_event};
+ghost use Rattle.table_theory.specs.QueueOf.{IsEvent, IsEventOf, IsHistory, no_event};
 ghost use Rattle.claim_queue.specs.declared.claim.ClaimRefusal.TheVariants as not_claimed;
 ghost use Rattle.claim_queue.specs.declared.ends.QueueEnd.{QueueEnd};
+ghost use Rattle.claim_queue.specs.declared.layout.TheConstants.{MOST_PLACES, SHUT};
 ghost use Rattle.claim_queue.specs.declared.take.TakeRefusal.TheVariants as not_taken;
 ghost use Rattle.claim_queue.specs.Answers.{Refused};
 ghost use Rattle.claim_queue.specs.Changes.{Becomes, IsPlace, written};
 ghost use Rattle.claim_queue.specs.Endings.{TookIn};
 ghost use Rattle.claim_queue.specs.Handles.{view_of, IsOnlyEnd};
-ghost use Rattle.claim_queue.specs.Layout.{head_word, tail_word, ends_word, data_word, flag_word, mark};
+ghost use Rattle.claim_queue.specs.Layout.{head_word, tail_word, ends_word, data_word, flag_word, width, mark};
 ghost use Rattle.claim_queue.specs.Own.{View, of_queues, part_of, run, taking};
 ghost use Rattle.claim_queue.specs.Takings.{RefusedTake, OfBoth, behind};
 
@@ -134,6 +138,66 @@ pub fn changes_are_events()
         → Grows w.queue (with_shut m.object) → IsEvent m.object (with_shut m.object) seat v w (λ c. Ok (shut c)) }
 {}
 
+/// Each change that an answer lists is the event of the core that its name says, whoever made the runs that the queue had
+/// then: for each history of the queue as the step found it, and there is one. The event leaves a history of the queue as
+/// the step left it. A raise is that of a place of a run, by the call whose run it is.
+pub fn changes_are_events_of_histories()
+    ensures history { (e : Step Positions) → IsReal of_queues e
+        → (runs : List (Owned Batch)) × IsHistory e.then.object runs }
+    ensures claimed { (head call number : ℕ) (items : List ℕ) (m : Moment Positions) (runs : List (Owned Batch))
+        → IsReal of_queues (change head_word head m (with_claim m.object items)) → 0 < length items
+        → IsHistory m.object runs → (m.object.shut ≡ false) × (head ≡ head_of m.object)
+        × IsEventOf m.object runs (claim m.object.room call items) (with_claim m.object items)
+        (runs ++ (call, number, run head items) ∷ []) }
+    ensures stored { (word found position item : ℕ) (m : Moment Positions) (runs : List (Owned Batch))
+        → IsReal of_queues (change word found m (written m.object position 1)) → IsPlace m.object position (fresh item)
+        → IsHistory m.object runs → (k index : ℕ) × (run : Owned Batch) × (get_elem? runs k ≡ some run)
+        × (run.2.start + index ≡ position) × IsEventOf m.object runs no_event (written m.object position 1)
+        (slice_set runs k (run.0, run.1, written_to run.2 index 1)) }
+    ensures raised { (word found position item : ℕ) (m : Moment Positions) (runs : List (Owned Batch))
+        → IsReal of_queues (change word found m (written m.object position 2))
+        → IsPlace m.object position (record { item = item; written = 1 })
+        → IsHistory m.object runs → (k index : ℕ) × (run : Owned Batch) × (get_elem? runs k ≡ some run)
+        × (run.2.start + index ≡ position)
+        × IsEventOf m.object runs (raise run.0 k index) (written m.object position 2)
+        (slice_set runs k (run.0, run.1, written_to run.2 index 2)) }
+    ensures taken { (tail count : ℕ) (m : Moment Positions) (runs : List (Owned Batch))
+        → IsReal of_queues (change tail_word tail m (with_take m.object count)) → 0 < count → IsHistory m.object runs
+        → (tail ≡ tail_of m.object)
+        × IsEventOf m.object runs (take_first m.object.room count) (with_take m.object count) runs }
+    ensures shut { (head : ℕ) (m : Moment Positions) (runs : List (Owned Batch))
+        → IsReal of_queues (change head_word head m (with_shut m.object)) → IsHistory m.object runs
+        → IsEventOf m.object runs (λ c. Ok (shut c)) (with_shut m.object) runs }
+{}
+
+/// No head or tail that a call has found is below one that the end had seen: a number that an entry found is no less than
+/// what the end had seen before the call, no less than what an earlier entry of the call found in the same word, and no
+/// more than what the end sees then.
+pub fn never_below()
+    ensures head { (n : ℕ) (old new : QueueEnd n) (before after : List (Step Positions)) (e : Step Positions)
+        → Adds (view_of old) (before ++ e ∷ after) (view_of new) → e.word ≡ head_word
+        → (head_of (view_of old).seen.object ≤ e.found % POSITIONS)
+        × (e.found % POSITIONS ≤ head_of (view_of new).seen.object) }
+    ensures heads { (n : ℕ) (old new : QueueEnd n) (before between after : List (Step Positions))
+        (e f : Step Positions) → Adds (view_of old) (before ++ e ∷ (between ++ f ∷ after)) (view_of new)
+        → e.word ≡ head_word → f.word ≡ head_word → e.found % POSITIONS ≤ f.found % POSITIONS }
+    ensures tail { (n : ℕ) (old new : QueueEnd n) (before after : List (Step Positions)) (e : Step Positions)
+        → Adds (view_of old) (before ++ e ∷ after) (view_of new) → e.word ≡ tail_word
+        → (tail_of (view_of old).seen.object ≤ e.found) × (e.found ≤ tail_of (view_of new).seen.object) }
+    ensures tails { (n : ℕ) (old new : QueueEnd n) (before between after : List (Step Positions))
+        (e f : Step Positions) → Adds (view_of old) (before ++ e ∷ (between ++ f ∷ after)) (view_of new)
+        → e.word ≡ tail_word → f.word ≡ tail_word → e.found ≤ f.found }
+{}
+
+/// Where one end takes in another, nothing was owned by both: no position is in a run of both, and none in a taking of
+/// both.
+pub fn joins_are_apart()
+    ensures runs { (n : ℕ) (old other new : QueueEnd n) → TookIn (view_of old) (view_of other) (view_of new)
+        → AreApart (view_of old).own.runs (view_of other).own.runs }
+    ensures takes { (n : ℕ) (old other new : QueueEnd n) → TookIn (view_of old) (view_of other) (view_of new)
+        → AreApart (view_of old).own.takes (view_of other).own.takes }
+{}
+
 /// What a refusal says of the queue. Closed, of a claim: it is shut. Full: there was no room when the head was loaded.
 /// Closed, of a taking: it is shut, and all that was put was taken. Empty: the place was not raised when its flag was
 /// found, at that tail, and then the queue was open or had something left.
@@ -155,10 +219,33 @@ pub fn refusals_say()
         × (r.2.object.shut ≡ true → r.2.object.taken < length r.2.object.places)) }
 {}
 
+/// Empty at a position says that nothing was left before it that the call could take: when the place at it was found not
+/// raised, the items that were left before it were no item, and for a line no whole line, and that place was the next.
+pub fn empty_means_none_before()
+    ensures { (n : ℕ) (old new : QueueEnd n) (at : ℕ)
+        → OfBoth n (λ Few Enough. (r : RefusedTake Few Enough n (view_of old) (not_taken.Empty at) (view_of new))
+        → (tail_of r.0.at_flag.object ≡ r.0.tail) × (r.0.tail ≤ at)
+        × Few (take (at - r.0.tail) (left_of r.0.at_flag.object))
+        × (written_at r.0.at_flag.object (at - r.0.at_flag.object.first) < 2)) }
+{}
+
 /// An end that has the whole is never answered Lost: between its steps, no other end makes one.
 pub fn only_ends_are_never_lost()
     ensures claim { (n : ℕ) (old new : QueueEnd n) (count head : ℕ) → IsOnlyEnd old
         → Refused n (view_of old) count (not_claimed.Lost head) (view_of new) → ⊥ }
     ensures take { (n : ℕ) (old new : QueueEnd n) (tail : ℕ) → IsOnlyEnd old
         → OfBoth n (λ Few Enough. RefusedTake Few Enough n (view_of old) (not_taken.Lost tail) (view_of new) → ⊥) }
+{}
+
+/// The numbers of the layout: where the words are, how many words a queue has, how many places it can have, and the
+/// mark of a shut queue, which is the number below which its positions are.
+///
+/// A cache line has 8 words. The head, the tail and the first place are 8 words apart, so they are in lines of their
+/// own. Each of them begins a line if the table's memory begins at one.
+pub fn layout_is()
+    ensures words { (head_word ≡ 0) × (ends_word ≡ 1) × (tail_word ≡ 8) }
+    ensures places { (room position : ℕ) → (data_word room position ≡ 2 * (position % room) + 16)
+        × (flag_word room position ≡ 2 * (position % room) + 17) }
+    ensures width { (room : ℕ) → width room ≡ room + room + 16 }
+    ensures most { (MOST_PLACES ≡ 256) × (POSITIONS ≡ 4294967296) × (SHUT ≡ 4294967296) }
 {}

@@ -4,8 +4,10 @@
 //!
 //! The head, the tail and the places stand in cache lines of their own, of 8 words each, as in the rings of DPDK and of
 //! `crossbeam`. Whoever puts writes the head, and whoever takes writes the tail: in one line they would take it from
-//! each other at every step. So the words 2 to 7 and 9 to 15 stand empty. Only `split`, `join` and `close` touch the
-//! number of ends, which can stand beside the head. Whoever reads a flag reads the item too, so they are neighbours.
+//! each other at every step. So the words 2 to 7 and 9 to 15 are never used, and the rule says that they are 0: no step
+//! can write one. The lines begin at these words only if the table's memory begins at a line, which nothing promises.
+//! Only `split`, `join` and `close` touch the number of ends, which can stand beside the head. Whoever reads a flag
+//! reads the item too, so they are neighbours.
 ghost use Rattle.std.specs.Prelude.{◌≡◌, ◌<◌, ◌≤◌};
 ghost use Rattle.claim_queue.specs.Layout.{data_word, flag_word, width};
 ghost use Rattle.claim_queue.specs.declared.layout.TheConstants.{MOST_PLACES};

@@ -1,8 +1,10 @@
 pub mod Alone
+pub mod Apart
 pub mod Batches
 pub mod Counting
 pub mod Courses
 pub mod Ends
+pub mod Histories
 pub mod Interleaving
 pub mod Latest
 pub mod Leaving
@@ -24,5 +26,6 @@ pub mod Standing
 pub mod Stepping
 pub mod Tables
 pub mod Totals
+pub mod Unused
 pub mod Windows
 pub mod Common

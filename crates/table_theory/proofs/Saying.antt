@@ -44,3 +44,8 @@ module _ {O : Type 0} (T : Subject O) where
 
     pub reaches_go : (m n : Moment O) → Reaches T m n → Leads m.object n.object
     reaches_go m n r = steps_go m n r.steps r.leads r.real
+
+    -- so do real steps to each entry, and on to the end
+    pub passes_go : (m n : Moment O) (entries : List (Step O)) → Passes T m entries n → Leads m.object n.object
+    passes_go m n [] p = subst (λ (z : Moment O). Leads m.object z.object) p (here m.object)
+    passes_go m n (e ∷ entries) p = on m.object e.then.object n.object (reaches_go m e.then p.0) (on e.then.object e.next.object n.object (real_goes e p.1) (passes_go e.next n entries p.2))

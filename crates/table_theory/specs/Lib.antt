@@ -1,3 +1,4 @@
+pub mod Apart
 pub mod Batches
 pub mod Courses
 pub mod Ends
@@ -13,4 +14,5 @@ pub mod Reads
 pub mod Seating
 pub mod Seeing
 pub mod Sharing
+pub mod Unused
 pub mod Windows

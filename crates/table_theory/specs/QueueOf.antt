@@ -56,3 +56,10 @@ pub record IsEvent (q r : Positions) (seat : ℕ) (v w : QueueView) (event : Que
 -- no event: storing an item, and each load
 abbrev pub no_event : Queue → Result Queue Refusal
 no_event q = Ok q
+
+-- a step makes r of the positions q: of the queue with this history it is this event, which leaves this history
+pub record IsEventOf (q : Positions) (runs : List (Owned Batch)) (event : Queue → Result Queue Refusal) (r : Positions)
+    (left : List (Owned Batch)) : Type 0 where
+  pub lawful : IsLawfulQueue (queue_of q runs)
+  pub made : event (queue_of q runs) ≡ Ok (queue_of r left)
+  pub history : IsHistory r left

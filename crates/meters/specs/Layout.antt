@@ -1,32 +1,32 @@
--- Where the words of the meters' table stand: number of ends, gauges, clock and slots; and what a slot's word says.
+-- Where the words of the meters' table stand: number of ends, gauges, clock and slots, side by side, so that each word
+-- has a use; and what a slot's word says. What the marks weigh is in the law `layout_is`.
 use Rattle.std.specs.Prelude.{ℕ, ◌+◌, ◌*◌, ◌/◌, ◌%◌, List, take, drop, Option, Some, None}
 use Rattle.event_theory.specs.declared.alarm.Alarm.{Alarm}
-use Rattle.meters.specs.declared.layout.TheConstants.{ENDS, FIRST_GAUGE, GAUGES, CLOCK, FIRST_SLOT, WORDS}
 use Rattle.meters.specs.declared.layout.TheConstants.{STANDS, SIGNAL, ELEMENT, TICKS, FIELD}
 
 -- the number of the word that has the number of ends
 abbrev pub ends_word : ℕ
-ends_word = ENDS
+ends_word = 0
 
 -- the number of the word of this gauge
 abbrev pub gauge_word : ℕ → ℕ
-gauge_word gauge = FIRST_GAUGE + gauge
+gauge_word gauge = 1 + gauge
 
 -- the number of the word that has the clock
 abbrev pub clock_word : ℕ
-clock_word = CLOCK
+clock_word = 9
 
 -- the number of the word of this slot
 abbrev pub slot_word : ℕ → ℕ
-slot_word slot = FIRST_SLOT + slot
+slot_word slot = 10 + slot
 
 -- how many words there are
 abbrev pub width : ℕ
-width = WORDS
+width = 26
 
 -- the gauges' words
 abbrev pub gauges_in : List ℕ → List ℕ
-gauges_in words = take GAUGES (drop FIRST_GAUGE words)
+gauges_in words = take 8 (drop 1 words)
 
 -- what the word of a slot is: 0, or bit 63 set, and in it the alarm's signal, element and tick
 abbrev pub word_of : Option Alarm → ℕ

@@ -1,14 +1,15 @@
 //! What an end lists is true, and each change is an event of the core: statements over plain data.
 
-ghost use Rattle.std.specs.Prelude.{◌≡◌, ◌≢◌, ◌<◌, ◌≤◌, ◌⊎◌, ℕ, List, Some, None, Ok, slice_index_or};
+ghost use Rattle.std.specs.Prelude.{◌≡◌, ◌≢◌, ◌+◌, ◌^◌, ◌<◌, ◌≤◌, ◌⊎◌, ℕ, List, Some, None, Ok, slice_index_or};
 ghost use Rattle.std.specs.List.{AllByRecursion};
 ghost use Rattle.event_theory.specs.declared.alarm.Alarm.{Alarm};
 ghost use Rattle.event_theory.specs.Meters.{tick, advance, fire, cancel};
 ghost use Rattle.table_theory.specs.declared.views.Moment.{Moment};
 ghost use Rattle.table_theory.specs.Courses.{Continues};
 ghost use Rattle.table_theory.specs.Ledgers.{Step, load, change, count_down, Adds, IsReal, IsHonest, Reaches, Passes};
-ghost use Rattle.meters.specs.Layout.{ends_word, gauge_word, clock_word, slot_word, word_of, alarm_in};
-ghost use Rattle.meters.specs.declared.layout.TheConstants.{GAUGES, SLOTS, TICKS};
+ghost use Rattle.meters.specs.Layout.{ends_word, gauge_word, clock_word, slot_word, width, word_of, alarm_in};
+ghost use Rattle.meters.specs.declared.layout.TheConstants.{GAUGES, SLOTS, TICKS, LAST_TICK, ELEMENT, SIGNAL};
+ghost use Rattle.meters.specs.declared.layout.TheConstants.{FIELD, STANDS};
 ghost use Rattle.meters.specs.declared.rule.Reading.{Reading};
 ghost use Rattle.meters.specs.declared.ends.MeterSeat.{MeterSeat};
 ghost use Rattle.meters.specs.declared.alarms.SetRefusal.TheVariants as not_set;
@@ -94,4 +95,14 @@ pub fn changes_are_events()
         → IsReal of_meters (change (slot_word slot) (word_of (Some alarm)) m (with_cancelled m.object slot alarm))
         → (in_slot m.object slot ≡ Some alarm)
         × (cancel slot (meters_of m.object) ≡ Ok (meters_of (with_cancelled m.object slot alarm))) }
+{}
+
+/// The numbers of the layout: where the words are, how many there are of each kind, and what the parts of a slot's word
+/// weigh. The words are side by side, also where different threads write them.
+pub fn layout_is()
+    ensures words { (ends_word ≡ 0) × (clock_word ≡ 9) × (width ≡ 26) }
+    ensures rows { (i : ℕ) → (gauge_word i ≡ 1 + i) × (slot_word i ≡ 10 + i) }
+    ensures kinds { (GAUGES ≡ 8) × (SLOTS ≡ 16) }
+    ensures parts { (TICKS ≡ 2 ^ 32) × (LAST_TICK ≡ 4294967295) × (ELEMENT ≡ 2 ^ 32) × (SIGNAL ≡ 2 ^ 40)
+        × (FIELD ≡ 2 ^ 8) × (STANDS ≡ 2 ^ 63) }
 {}

@@ -50,6 +50,8 @@ pub use Rattle.event_theory.specs.declared.event.Event.{Event}
 pub use Rattle.event_theory.specs.declared.hold.Hold.{Hold}
 pub use Rattle.event_theory.specs.declared.refusal.Refusal.{Refusal}
 pub use Rattle.event_theory.specs.declared.refusal.Refusal.TheVariants.{UnknownName}
+pub use Rattle.table_theory.proofs.Unused.{all_alike, unused_kept}
+pub use Rattle.table_theory.specs.Unused.{AreZero}
 pub use Rattle.table_theory.proofs.Alone.{there_is}
 pub use Rattle.table_theory.proofs.Ends.{begins_refl, begins_trans}
 pub use Rattle.table_theory.proofs.Orders.{order_at, order_split, order_step, order_to, split_order}
@@ -70,7 +72,7 @@ pub use Rattle.thread_table.specs.Entries.{Acts, Step, change, claim_event, seen
 pub use Rattle.thread_table.specs.Handles.{call_of, view_of}
 pub use Rattle.thread_table.specs.Joins.{AreJoined, joining, uncounted}
 pub use Rattle.thread_table.specs.Laid.{ItemsLaid, RingsLaid}
-pub use Rattle.thread_table.specs.Layout.{done_word, ends_word, free_ring, head_word, place_word, places_word, processor_word, ready_ring, state_word, tail_word, wait_ring}
+pub use Rattle.thread_table.specs.Layout.{done_word, ends_word, free_ring, head_word, place_word, places_word, processor_word, ready_ring, state_word, tail_word, wait_ring, IsUsed, by_done, by_ends, by_head, by_place, by_processor, by_state, by_tail}
 pub use Rattle.thread_table.specs.Makers.{AreMade, is_join, made_in, made_of, numbered}
 pub use Rattle.thread_table.specs.Own.{View}
 pub use Rattle.thread_table.specs.Reads.{Peeked}

@@ -1,7 +1,8 @@
 -- What is written into the words of a new table.
 use Rattle.std.specs.Prelude.{◌≡◌, ℕ, ◌+◌, ◌*◌, ◌<◌, ◌≤◌, ◌==◌, if◌then◌else◌, List, length, slice_index_or}
+use Rattle.table_theory.specs.Unused.{AreZero}
 use Rattle.thread_table.specs.declared.layout.TheConstants.{WORDS, RINGS, PLACES}
-use Rattle.thread_table.specs.Layout.{head_word, tail_word, places_word, place_word, ready_ring, free_ring}
+use Rattle.thread_table.specs.Layout.{head_word, tail_word, places_word, place_word, ready_ring, free_ring, IsUsed}
 
 -- the heads and tails of so many element queues are at first, the head of the free elements so much behind it
 pub record RingsLaid (first free rings : ℕ) (old words : List ℕ) : Type 0 where
@@ -12,6 +13,7 @@ pub record RingsLaid (first free rings : ℕ) (old words : List ℕ) : Type 0 wh
   pub low : (i : ℕ) → i < head_word ready_ring → slice_index_or words i 0 ≡ slice_index_or old i 0
   pub items : (ring i : ℕ) → ring < RINGS → i < PLACES
       → slice_index_or words (places_word ring + i) 0 ≡ slice_index_or old (places_word ring + i) 0
+  pub unused : AreZero IsUsed old → AreZero IsUsed words
 
 -- the places of so many free elements are raised
 pub record ItemsLaid (first items : ℕ) (old words : List ℕ) : Type 0 where
@@ -20,3 +22,4 @@ pub record ItemsLaid (first items : ℕ) (old words : List ℕ) : Type 0 where
       → slice_index_or words (place_word free_ring (first + x)) 0 ≡ x + 256 * (first + x + 1)
   pub low : (i : ℕ) → i < places_word free_ring → slice_index_or words i 0 ≡ slice_index_or old i 0
   pub high : (i : ℕ) → places_word free_ring + PLACES ≤ i → slice_index_or words i 0 ≡ slice_index_or old i 0
+  pub unused : AreZero IsUsed old → AreZero IsUsed words

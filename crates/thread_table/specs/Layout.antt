@@ -1,13 +1,14 @@
 -- Where the words of the table stand, and the marks in them. How many there are of each kind, and what the marks weigh,
--- are constants of the code. An element queue is called a ring: the ready ring, that of the free elements, or that of
--- a wait queue. A cache line holds eight words: words that different processors write often stand eight words apart.
-use Rattle.std.specs.Prelude.{ℕ, ◌+◌, ◌*◌, ◌%◌}
-use Rattle.thread_table.specs.declared.layout.TheConstants.{PLACES, ENDS, READY, FREE}
+-- is in the law `layout_is`. An element queue is called a ring: the ready ring, that of the free elements, or that of a
+-- wait queue. A cache line holds eight words: words that different processors write often stand eight words apart. So
+-- they are in lines of their own, and each of them begins a line if the table's memory begins at one.
+use Rattle.std.specs.Prelude.{◌≡◌, ℕ, ◌+◌, ◌*◌, ◌%◌, ◌<◌}
+use Rattle.thread_table.specs.declared.layout.TheConstants.{PROCESSORS, ELEMENTS, RINGS}
 pub use Rattle.event_theory.specs.Marks.{wait_ring}
 
 -- the word with the number of hands
 abbrev pub ends_word : ℕ
-ends_word = ENDS
+ends_word = 0
 
 -- the word of a processor
 abbrev pub processor_word : ℕ → ℕ
@@ -35,15 +36,25 @@ places_word ring = 80 * ring + 600
 
 -- the place word of a position of a ring
 abbrev pub place_word : ℕ → ℕ → ℕ
-place_word ring position = places_word ring + position % PLACES
+place_word ring position = places_word ring + position % 64
 
 -- the ready ring's number
 abbrev pub ready_ring : ℕ
-ready_ring = READY
+ready_ring = 0
 
 -- the number of the free elements' ring
 abbrev pub free_ring : ℕ
-free_ring = FREE
+free_ring = 1
+
+-- the word with this number has a use: it is one of these. Each other word stays 0
+pub data IsUsed (word : ℕ) : Type 0 where
+  by_ends : word ≡ ends_word → IsUsed word
+  by_processor : (processor : ℕ) → processor < PROCESSORS → word ≡ processor_word processor → IsUsed word
+  by_state : (element : ℕ) → element < ELEMENTS → word ≡ state_word element → IsUsed word
+  by_done : (element : ℕ) → element < ELEMENTS → word ≡ done_word element → IsUsed word
+  by_head : (ring : ℕ) → ring < RINGS → word ≡ head_word ring → IsUsed word
+  by_tail : (ring : ℕ) → ring < RINGS → word ≡ tail_word ring → IsUsed word
+  by_place : (ring position : ℕ) → ring < RINGS → word ≡ place_word ring position → IsUsed word
 
 -- the stop bit's number in a state word
 abbrev pub stop_bit : ℕ

@@ -8,11 +8,12 @@ use Rattle.event_theory.specs.Elements.{Elements, Thread}
 use Rattle.event_theory.specs.Queues.{Queue}
 use Rattle.event_theory.specs.Runs.{Run}
 use Rattle.event_theory.specs.declared.hold.Hold.{Hold}
+use Rattle.table_theory.specs.Unused.{AreZero}
 use Rattle.table_theory.specs.declared.positions.TheConstants.{POSITIONS}
 use Rattle.thread_table.specs.declared.layout.TheConstants.{WORDS, PROCESSORS, ELEMENTS, RINGS, PLACES, WAITS, NOTIFY}
 use Rattle.thread_table.specs.declared.layout.TheConstants.{CELL}
 use Rattle.thread_table.specs.Layout.{processor_word, state_word, done_word, head_word, tail_word, place_word, stop_bit}
-use Rattle.thread_table.specs.Layout.{cell_bit, half_word}
+use Rattle.thread_table.specs.Layout.{cell_bit, half_word, IsUsed}
 use Rattle.thread_table.specs.Schedules.{ring_at, thread_at, element_at}
 
 abbrev pub bit_of : Bool → ℕ
@@ -70,3 +71,5 @@ pub record WordsShow (first : ℕ) (e : Elements) (words : List ℕ) : Type 0 wh
   pub steps : (x : ℕ) → x < ELEMENTS → slice_index_or words (done_word x) 0 ≡ (thread_at e x).done
   pub few : (x : ℕ) → x < ELEMENTS → (thread_at e x).done < half_word
   pub rings : (ring : ℕ) → ring < RINGS → RingShows first e ring words
+  -- a word that is none of these, and not that of the number of hands, is 0
+  pub unused : AreZero IsUsed words

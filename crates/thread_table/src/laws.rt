@@ -1,7 +1,7 @@
 //! What a hand lists is true, what a call leaves to its hand as it was, and where a closed table tells what was put
 //! behind the free elements: statements over plain data.
 ghost use Rattle.std.specs.Prelude.{◌≡◌, ◌<◌, ◌≤◌, ℕ, Bool, true, false, List, length, slice_index_or, Result, Ok, Err};
-ghost use Rattle.std.specs.Prelude.{Option, None, ◌≢◌, ◌+◌, ◌/◌, ◌%◌, [], ◌∷◌, ◌++◌, take};
+ghost use Rattle.std.specs.Prelude.{Option, None, ◌≢◌, ◌+◌, ◌*◌, ◌/◌, ◌%◌, ◌^◌, [], ◌∷◌, ◌++◌, take};
 ghost use Rattle.std.specs.List.{AllByRecursion};
 ghost use Rattle.event_theory.specs.Elements.{Thread};
 ghost use Rattle.event_theory.specs.Queues.{left};
@@ -10,10 +10,11 @@ ghost use Rattle.event_theory.specs.declared.event.Event.{Event};
 ghost use Rattle.table_theory.specs.Ends.{Begins};
 ghost use Rattle.thread_table.specs.declared.hand.Hand.{Hand};
 ghost use Rattle.thread_table.specs.declared.layout.TheConstants.{PROCESSORS, ELEMENTS, RINGS, PLACES, WAITS, STOP};
+ghost use Rattle.thread_table.specs.declared.layout.TheConstants.{WORDS, NOTIFY, CELL};
 ghost use Rattle.thread_table.specs.Schedules.{Past, state_after, elements_after, IsAllowed, Grows, ring_at};
 ghost use Rattle.thread_table.specs.Schedules.{thread_at};
 ghost use Rattle.thread_table.specs.Layout.{ends_word, processor_word, state_word, done_word, head_word, tail_word};
-ghost use Rattle.thread_table.specs.Layout.{place_word, stop_bit, cell_bit};
+ghost use Rattle.thread_table.specs.Layout.{place_word, stop_bit, cell_bit, ready_ring, free_ring, wait_ring};
 ghost use Rattle.thread_table.specs.Shown.{StateShows, PlaceShows, processor_shown, tail_shown, mark_of};
 ghost use Rattle.thread_table.specs.Rules.{HandIs, done_at};
 ghost use Rattle.thread_table.specs.Handles.{view_of, call_of, IsOnlyHand};
@@ -218,4 +219,20 @@ pub fn freed_stay_free()
     ensures { (call : ℕ) (v : View) (stands : List Place) (pcs pending : List ℕ) (stops element : ℕ)
         → ClosedNow call v stands pcs pending stops → length (free_takings v.own.made) ≤ ELEMENTS → element < ELEMENTS
         → was_freed element v.own.made ≡ true → slice_index_or stands element places.Held ≡ places.Free }
+{}
+
+/// The numbers of the layout: where the words are, how many there are of each kind, and what the marks in them weigh.
+///
+/// A cache line has 8 words. The number of hands, the word of each processor, the two words of each element, and the
+/// head, the tail and the first place of each ring begin 8 words apart, so they are in lines of their own. Each of them
+/// begins a line if the table's memory begins at one.
+pub fn layout_is()
+    ensures firsts { (ends_word ≡ 0) × (ready_ring ≡ 0) × (free_ring ≡ 1) × (WORDS ≡ 2024) }
+    ensures words { (n : ℕ) → (processor_word n ≡ 8 * n + 8) × (state_word n ≡ 8 * n + 72)
+        × (done_word n ≡ 8 * n + 73) × (head_word n ≡ 80 * n + 584) × (tail_word n ≡ 80 * n + 592)
+        × (wait_ring n ≡ n + 2) }
+    ensures places { (ring position : ℕ) → place_word ring position ≡ 80 * ring + 600 + position % 64 }
+    ensures kinds { (PROCESSORS ≡ 8) × (ELEMENTS ≡ 64) × (RINGS ≡ 18) × (PLACES ≡ 64) × (WAITS ≡ 16) }
+    ensures marks { (NOTIFY ≡ 2 ^ 32) × (STOP ≡ 2 ^ stop_bit) × (stop_bit ≡ 16) × (CELL ≡ 2 ^ cell_bit)
+        × (cell_bit ≡ 17) }
 {}

@@ -7,8 +7,9 @@
 //! A cache line holds eight words, and who writes one word of a line takes it from all who use another. So words that
 //! different processors write often stand eight words apart: the number of hands, the word of each processor, the two
 //! words of each element, and of each ring its head word, its tail word and the first of its places. The words between
-//! them are never used. An element's two words stand side by side, since the processor that it is on writes both. The
-//! places of a ring stand side by side: a line for each of them gains nothing that can be measured.
+//! them are never used, and the rule says that they are 0. A line begins at one of the words only if the table's memory
+//! begins at a line, which nothing promises. An element's two words stand side by side, since the processor that it is
+//! on writes both. The places of a ring stand side by side: a line for each of them gains nothing that can be measured.
 ghost use Rattle.std.specs.Prelude.{◌≡◌, ◌+◌, ◌<◌};
 ghost use Rattle.thread_table.specs.declared.layout.TheConstants.{WORDS, PROCESSORS, ELEMENTS, RINGS, PLACES, WAITS};
 ghost use Rattle.thread_table.specs.Layout.{wait_ring, processor_word, state_word, done_word, head_word};

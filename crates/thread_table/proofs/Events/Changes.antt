@@ -1,5 +1,5 @@
 -- What an event comes to that changes one element queue and the holds; or threads, processors and holds.
-use Rattle.thread_table.proofs.Common.{◌≡◌, ◌≢◌, ℕ, ◌+◌, ◌*◌, ◌<◌, ◌≤◌, Bool, false, List, length, set, get_or, slice_get, Some, Option, Result, Ok, refl, sym, ap, subst, ◌∙◌, length-set, get_or-set_same, get_or-set_other, arith, ⊎_elim, ◌⊎◌, inl, None, list_any, dite, ℕ_discrete, Elements, Thread, is_hold, is_put, holds, new_thread, Queue, empty_queue, Hold, Refusal, View, Claimed, QueueGrows, ring_at, thread_at, PROCESSORS, ELEMENTS, RINGS, PLACES, NOTIFY, processor_word, state_word, done_word, head_word, tail_word, place_word, PlaceShows, StateShows, processor_shown, mark_of, HandIs, IsClaimed, may_step, serves, having, places_word, ready_ring}
+use Rattle.thread_table.proofs.Common.{IsUsed, by_done, by_state, unused_kept, ◌≡◌, ◌≢◌, ℕ, ◌+◌, ◌*◌, ◌<◌, ◌≤◌, Bool, false, List, length, set, get_or, slice_get, Some, Option, Result, Ok, refl, sym, ap, subst, ◌∙◌, length-set, get_or-set_same, get_or-set_other, arith, ⊎_elim, ◌⊎◌, inl, None, list_any, dite, ℕ_discrete, Elements, Thread, is_hold, is_put, holds, new_thread, Queue, empty_queue, Hold, Refusal, View, Claimed, QueueGrows, ring_at, thread_at, PROCESSORS, ELEMENTS, RINGS, PLACES, NOTIFY, processor_word, state_word, done_word, head_word, tail_word, place_word, PlaceShows, StateShows, processor_shown, mark_of, HandIs, IsClaimed, may_step, serves, having, places_word, ready_ring}
 use Rattle.thread_table.proofs.Events.Effects.{Effect, Ready}
 use Rattle.thread_table.proofs.Events.Owing.{QueueOwes, ring_owes, same_owes}
 use Rattle.thread_table.proofs.Events.SingleRuns.{Singles}
@@ -34,6 +34,7 @@ pub record Turns (id : ℕ) (v w : View) (first : ℕ) (e : Elements) (words : L
   pub hand : ring_at (ringed e ring new held) ring ≡ new → HandIs id w (ringed e ring new held)
   pub from : head_word ring ≤ place
   pub to : place < places_word ring + PLACES
+  pub used : IsUsed place
   pub capacity : new.capacity ≡ PLACES
   pub is_open : new.shut ≡ false
   pub single : Singles new.history
@@ -51,7 +52,7 @@ ring_effect id v w first event e words ring new held place word known ready goes
   goes = goes;
   leaves = rings_leave id v e rings e.notified held (all_grow e f ring (subst (QueueGrows (ring_at e ring)) (sym here) t.grows) elsewhere) t.others runs;
   hand = t.hand here;
-  shows = shows_kept first e rings e.notified held ring place word words ready.shows (length-set e.rings ring new) refl known t.from t.to elsewhere (λ l ne. mark_same e rings held l)
+  shows = shows_kept first e rings e.notified held ring place word words ready.shows (length-set e.rings ring new) refl known t.from t.to t.used elsewhere (λ l ne. mark_same e rings held l)
       (ring_shown first f ring (set words place word) new (mark_of e ring) here (mark_same e rings held ring) t.capacity t.is_open t.single t.bounded (ready.shows.rings ring known).marked t.head t.tail t.places);
   owes = ring_owes v w e f ring new here elsewhere t.owes t.owes_else;
 }
@@ -83,6 +84,7 @@ pub record Parts (id : ℕ) (v : View) (e : Elements) (words : List ℕ) (thread
   pub puts : (call x : ℕ) → call ≢ id → list_any (is_put call x) processors ≡ list_any (is_put call x) e.processors
   pub counts : (x : ℕ) → may_step id x e ≡ false → (get_or threads x new_thread).done ≡ (thread_at e x).done
   pub inside : place < head_word ready_ring
+  pub used : IsUsed place
   pub many : length threads ≡ length e.threads
   pub seats : length processors ≡ length e.processors
   pub on : (p : ℕ) → p < PROCESSORS → get_or (set words place word) (processor_word p) 0 ≡ processor_shown (get_or processors p None)
@@ -116,6 +118,7 @@ parts_effect id v w first event e words threads processors held place word ready
     steps = p.steps;
     few = p.few;
     rings = λ ring low. ring_outside e threads processors held first ring words place word p.inside (ready.shows.rings ring low);
+    unused = unused_kept IsUsed words place word p.used ready.shows.unused;
   };
   owes = same_owes v w e (with_parts e threads processors held) free (λ ring. refl);
 }
@@ -131,6 +134,7 @@ thread_effect id v w first event e words element new held place word ready free 
   puts = λ call x other. refl;
   counts = λ x. read_set (λ k (t : Thread). may_step id k e ≡ false → t.done ≡ (thread_at e k).done) e.threads element new new_thread within counts x (λ apart may. refl);
   inside = ⊎_elim (λ is. omega arith) (λ is. omega arith) at;
+  used = ⊎_elim (λ is. by_state element known is) (λ is. by_done element known is) at;
   many = length-set e.threads element new;
   seats = refl;
   on = λ p low. else (processor_word p) (λ is. omega arith) (λ is. omega arith) ∙ ready.shows.on p low;

@@ -1,5 +1,5 @@
 -- A claim of one element that its call held, in the ready ring, among the free elements, or in a wait queue.
-use Rattle.thread_table.proofs.Common.{NOTIFY, ◌/◌, ◌%◌, ◌≡◌, ℕ, zero, suc, ◌+◌, ◌*◌, ◌<◌, ◌≤◌, true, false, List, [], ◌∷◌, ◌++◌, ◌∙◌, length, set, get_or, refl, sym, ap, subst, arith, Some, None, slice_get, eqb, ◌⊎◌, inl, inr, Result, Ok, cases_lt, false_from_ne_true, nat_tests, slice_get-get_or, Run, Queue, empty_queue, left, claim, Elements, hold, let_go, claim_element, new_thread, wait_at, IsLawfulQueue, IsLawfulElements, Hold, Refusal, in_hands, every_at, View, Claimed, QueueGrows, ring_at, thread_at, element_at, element_of, no_run, ELEMENTS, RINGS, PLACES, head_word, tail_word, place_word, wait_ring, WordsShow, PlaceShows, head_shown, mark_of, IsClaimed, has, claim_of, claim_event, WAITS}
+use Rattle.thread_table.proofs.Common.{by_head, NOTIFY, ◌/◌, ◌%◌, ◌≡◌, ℕ, zero, suc, ◌+◌, ◌*◌, ◌<◌, ◌≤◌, true, false, List, [], ◌∷◌, ◌++◌, ◌∙◌, length, set, get_or, refl, sym, ap, subst, arith, Some, None, slice_get, eqb, ◌⊎◌, inl, inr, Result, Ok, cases_lt, false_from_ne_true, nat_tests, slice_get-get_or, Run, Queue, empty_queue, left, claim, Elements, hold, let_go, claim_element, new_thread, wait_at, IsLawfulQueue, IsLawfulElements, Hold, Refusal, in_hands, every_at, View, Claimed, QueueGrows, ring_at, thread_at, element_at, element_of, no_run, ELEMENTS, RINGS, PLACES, head_word, tail_word, place_word, wait_ring, WordsShow, PlaceShows, head_shown, mark_of, IsClaimed, has, claim_of, claim_event, WAITS}
 use Rattle.std.proofs.Common.{leb}
 use Rattle.std.proofs.lemmas.Bool.{eq-eqb}
 use Rattle.std.proofs.lemmas.Option.{same_Some}
@@ -130,6 +130,7 @@ effect_of id v first e words ring element event ready idle below known held boun
           });
       from = omega arith;
       to = omega arith;
+      used = by_head ring below refl;
       capacity = shows.capacity;
       is_open = shows.is_open;
       single = one_more_single q.history run shows.single refl;

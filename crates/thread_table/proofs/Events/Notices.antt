@@ -1,5 +1,5 @@
 -- What a notify does.
-use Rattle.thread_table.proofs.Common.{View, None, ◌≡◌, ◌≢◌, ℕ, zero, suc, ◌+◌, ◌*◌, ◌%◌, ◌<◌, List, length, set, get_or, Ok, refl, sym, ap, subst, ◌∙◌, arith, mod-lt, get_or-set_same, get_or-set_other, length-set, slice_get-get_or, mod-eq_of_lt, add-mod_right, dite, dec_lt, Elements, NOTIFY, ring_at, head_word, tail_word, place_word, wait_ring, WordsShow, RingShows, PlaceShows, head_shown, mark_of, WAITS, quiet}
+use Rattle.thread_table.proofs.Common.{by_head, View, None, ◌≡◌, ◌≢◌, ℕ, zero, suc, ◌+◌, ◌*◌, ◌%◌, ◌<◌, List, length, set, get_or, Ok, refl, sym, ap, subst, ◌∙◌, arith, mod-lt, get_or-set_same, get_or-set_other, length-set, slice_get-get_or, mod-eq_of_lt, add-mod_right, dite, dec_lt, Elements, NOTIFY, ring_at, head_word, tail_word, place_word, wait_ring, WordsShow, RingShows, PlaceShows, head_shown, mark_of, WAITS, quiet}
 use Rattle.event_theory.specs.Marks.{notify_wait}
 use Rattle.thread_table.proofs.Events.Changes.{hand_holds}
 use Rattle.thread_table.proofs.Events.Effects.{May, Anything, becomes}
@@ -77,7 +77,7 @@ module _ (id : ℕ) (v : View) (free : v.own.claimed ≡ None) where
           leaves = rings_leave id v e e.rings (told e wait) e.held (λ l. queue_stays (ring_at e l) (ring_at e l) refl) (λ call element ne. refl)
               (λ call c ne claimed. claim_kept call c e (after e wait) refl refl claimed);
           hand = hand_holds id v e (after e wait) v.own.held v.own.claimed ready.hand refl refl ready.hand.held (λ c at. none_some c v.own.claimed free at);
-          shows = shows_kept first e e.rings (told e wait) e.held (wait_ring wait) (head_word (wait_ring wait)) word words shows refl (length-set e.notified wait _) (omega arith) (omega arith) (omega arith)
+          shows = shows_kept first e e.rings (told e wait) e.held (wait_ring wait) (head_word (wait_ring wait)) word words shows refl (length-set e.notified wait _) (omega arith) (omega arith) (omega arith) (by_head (wait_ring wait) (omega arith) refl)
               (λ l ne. refl) (mark_other e wait)
               (ring_after first e words wait word (omega arith) (omega arith) (shows.rings (wait_ring wait) (omega arith)) refl);
           owes = same_owes v (quiet v) e (after e wait) free (λ ring. refl);

@@ -1,5 +1,5 @@
 -- What putting an element on a processor does, and what taking one off does.
-use Rattle.thread_table.proofs.Common.{has, ◌+◌, Result, ◌⊎◌, ◌≡◌, ◌≢◌, inl, inr, ℕ, zero, suc, ◌<◌, ◌≤◌, Bool, true, false, List, [], ◌∷◌, ◌++◌, ◌∙◌, length, set, get_or, remove, position, refl, sym, ap, subst, arith, Some, None, Option, option_map, slice_get, get_or-set_other, get_or-set_same, eqb, cond, Ok, cases_lt, nat_tests, sum_by-cons, slice_get-get_or, list_any, position_or_len, appearances, is_on, Elements, Thread, hold, is_hold, is_put, holds, new_thread, IsLawfulElements, Hold, View, thread_at, PROCESSORS, ELEMENTS, processor_word, state_word, done_word, StateShows, processor_shown, HandIs, serves, running, Refusal, having, with_taken_off}
+use Rattle.thread_table.proofs.Common.{by_processor, has, ◌+◌, Result, ◌⊎◌, ◌≡◌, ◌≢◌, inl, inr, ℕ, zero, suc, ◌<◌, ◌≤◌, Bool, true, false, List, [], ◌∷◌, ◌++◌, ◌∙◌, length, set, get_or, remove, position, refl, sym, ap, subst, arith, Some, None, Option, option_map, slice_get, get_or-set_other, get_or-set_same, eqb, cond, Ok, cases_lt, nat_tests, sum_by-cons, slice_get-get_or, list_any, position_or_len, appearances, is_on, Elements, Thread, hold, is_hold, is_put, holds, new_thread, IsLawfulElements, Hold, View, thread_at, PROCESSORS, ELEMENTS, processor_word, state_word, done_word, StateShows, processor_shown, HandIs, serves, running, Refusal, having, with_taken_off}
 use Rattle.std.proofs.lemmas.List.{length-set}
 use Rattle.std.specs.List.{count_by}
 use Rattle.event_theory.specs.Elements.{put_on, take_off}
@@ -72,6 +72,7 @@ seat_effect id v first event e words p old on held element is ready free below k
       puts = λ c x other. any_set (is_put c x) e.processors p (processor_of id old) (processor_of id on) there (not_put id c x on other ∙ sym (not_put id c x old other));
       counts = λ x may. refl;
       inside = omega arith;
+      used = by_processor p below refl;
       many = refl;
       seats = length-set e.processors p (processor_of id on);
       on = λ q low. read_set (λ k seat. get_or (set words (processor_word p) word) (processor_word k) 0 ≡ processor_shown seat) e.processors p (processor_of id on) None (omega (arith, seats))

@@ -1,5 +1,5 @@
 -- What a raise does.
-use Rattle.thread_table.proofs.Common.{◌-◌, subst, ◌≡◌, ◌≢◌, inl, ℕ, ◌+◌, ◌*◌, ◌%◌, ◌<◌, ◌≤◌, Bool, true, false, eq-eqb, ne_eqb, List, [], ◌∷◌, length, set, get_or, Some, None, Option, slice_get, Ok, refl, sym, ap, subst, ◌∙◌, arith, mod-lt, true≢false, get_or-set_same, get_or-set_other, slice_get-get_or, slice_get_within, get_or_from_slice_get, dite, ℕ_discrete, Elements, raise_element, Queue, empty_queue, raise, ◌>>=◌, Run, IsLawfulQueue, every_at, View, Claimed, ring_at, element_at, element_of, no_run, RINGS, PLACES, head_word, tail_word, place_word, PlaceShows, IsClaimed, claim_of, raise_event, HasClaimed}
+use Rattle.thread_table.proofs.Common.{by_place, ◌-◌, subst, ◌≡◌, ◌≢◌, inl, ℕ, ◌+◌, ◌*◌, ◌%◌, ◌<◌, ◌≤◌, Bool, true, false, eq-eqb, ne_eqb, List, [], ◌∷◌, length, set, get_or, Some, None, Option, slice_get, Ok, refl, sym, ap, subst, ◌∙◌, arith, mod-lt, true≢false, get_or-set_same, get_or-set_other, slice_get-get_or, slice_get_within, get_or_from_slice_get, dite, ℕ_discrete, Elements, raise_element, Queue, empty_queue, raise, ◌>>=◌, Run, IsLawfulQueue, every_at, View, Claimed, ring_at, element_at, element_of, no_run, RINGS, PLACES, head_word, tail_word, place_word, PlaceShows, IsClaimed, claim_of, raise_event, HasClaimed}
 use Rattle.event_theory.specs.Queues.{with_pair, after_raise, raise_of}
 use Rattle.thread_table.proofs.Events.Changes.{ringed, hand_holds, ring_effect}
 use Rattle.thread_table.proofs.Events.Effects.{with_raise, Effect, May, Anything, becomes, at_ring}
@@ -106,6 +106,7 @@ may_raise id v ring position element new claimed is = let run : ℕ = position -
         hand = λ here. hand_holds id v e (after e ring run) v.own.held None ready.hand refl refl ready.hand.held (λ c at. absurd (cc));
         from = omega arith;
         to = omega arith;
+        used = by_place ring (first + run) known refl;
         capacity = shows.capacity;
         is_open = shows.is_open;
         single = shows.single;

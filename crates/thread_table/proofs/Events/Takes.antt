@@ -1,5 +1,5 @@
 -- What a taking of one element does.
-use Rattle.thread_table.proofs.Common.{RINGS, View, None, ◌≡◌, ℕ, ◌+◌, ◌%◌, ◌<◌, ◌≤◌, true, eq-eqb, List, [], ◌∷◌, ◌++◌, length, map, take, drop, set, get_or, Ok, refl, sym, ap, subst, ◌∙◌, arith, get_or-set_same, get_or-set_other, length-set, slice_get-get_or, add-mod_right, dite, dec_lt, Elements, hold, take_element, Queue, left, empty_queue, take_first, ◌>>=◌, at, IsLawfulQueue, IsLawfulElements, in_list, UnknownName, every_at, one, ring_at, element_at, ELEMENTS, PLACES, head_word, tail_word, place_word, PlaceShows, tail_shown, take_event, inl, inr, with_held, places_word}
+use Rattle.thread_table.proofs.Common.{by_tail, RINGS, View, None, ◌≡◌, ℕ, ◌+◌, ◌%◌, ◌<◌, ◌≤◌, true, eq-eqb, List, [], ◌∷◌, ◌++◌, length, map, take, drop, set, get_or, Ok, refl, sym, ap, subst, ◌∙◌, arith, get_or-set_same, get_or-set_other, length-set, slice_get-get_or, add-mod_right, dite, dec_lt, Elements, hold, take_element, Queue, left, empty_queue, take_first, ◌>>=◌, at, IsLawfulQueue, IsLawfulElements, in_list, UnknownName, every_at, one, ring_at, element_at, ELEMENTS, PLACES, head_word, tail_word, place_word, PlaceShows, tail_shown, take_event, inl, inr, with_held, places_word}
 use Rattle.std.proofs.Common.{ok_or}
 use Rattle.std.proofs.lemmas.List.{take-append-drop}
 use Rattle.event_theory.specs.Queues.{after_take}
@@ -78,6 +78,7 @@ module _ (id : ℕ) (v : View) (free : v.own.claimed ≡ None) where
               (held_set id v e f x true ready.hand bounded (handed id x e.held) (λ y apart. handed_else id x id y e.held (inr apart))) (λ c at. none_some c v.own.claimed free at);
           from = omega arith;
           to = omega arith;
+          used = by_tail ring below refl;
           capacity = mine.capacity;
           is_open = mine.is_open;
           single = mine.single;

@@ -1,5 +1,5 @@
 -- The steps that count hands, and the one that finds how many steps an element had done, keep the rule.
-use Rattle.thread_table.proofs.Common.{◌≡◌, ℕ, suc, ◌+◌, ◌-◌, ◌%◌, ◌<◌, ◌≤◌, true, false, List, get_or, set, Some, Option, option_map, sym, refl, ap, ◌∙◌, subst, ⊎_elim, arith, length-set, get_or-set_same, get_or-set_other, slice_get, or_left, or_right, list_any_at, slice_get_within, get_or_from_slice_get, Hold, list_any, set-get_or, some, none, get_elem?, Me, keeps, Allows, Part, IsReal, EndsStand, load, count_up, count_down, stays, more, fewer, Event, Elements, hold, holds, is_put, stand_same, ELEMENTS, Shape, begins_refl, View, Counted, Past, thread_at, ends_word, done_word, WordsShow, uncounted, IsActive, HandIs, IsCounted, Rule, MayStep, nothing_of, may_step, count_of, Stands, had_by_both, having_found, of_hands, set_here, at_below}
+use Rattle.thread_table.proofs.Common.{IsUsed, by_ends, unused_kept, ◌≡◌, ℕ, suc, ◌+◌, ◌-◌, ◌%◌, ◌<◌, ◌≤◌, true, false, List, get_or, set, Some, Option, option_map, sym, refl, ap, ◌∙◌, subst, ⊎_elim, arith, length-set, get_or-set_same, get_or-set_other, slice_get, or_left, or_right, list_any_at, slice_get_within, get_or_from_slice_get, Hold, list_any, set-get_or, some, none, get_elem?, Me, keeps, Allows, Part, IsReal, EndsStand, load, count_up, count_down, stays, more, fewer, Event, Elements, hold, holds, is_put, stand_same, ELEMENTS, Shape, begins_refl, View, Counted, Past, thread_at, ends_word, done_word, WordsShow, uncounted, IsActive, HandIs, IsCounted, Rule, MayStep, nothing_of, may_step, count_of, Stands, had_by_both, having_found, of_hands, set_here, at_below}
 use Rattle.thread_table.proofs.Hands.Releases.{hold_own}
 use Rattle.thread_table.proofs.Shown.QueueWords.{ring_kept, shows_else}
 use Rattle.atomic_table.specs.Table.{step}
@@ -14,7 +14,7 @@ use Rattle.thread_table.proofs.Hands.Looks.{St, steps_to, now_at, hand_counts, h
 shows_count : (first y : ℕ) (e : Elements) (words : List ℕ) → WordsShow first e words → WordsShow first e (set words 0 y)
 shows_count first y e words h = let same : (k : ℕ) → 1 ≤ k → get_or (set words 0 y) k 0 ≡ get_or words k 0 = λ k from. get_or-set_other words 0 k y 0 (λ z. omega arith) in
     shows_else first e e.rings e.notified e.held words (set words 0 y) h refl refl (length-set words 0 y) (λ k from to. same k from)
-    (λ ring b. ring_kept first e e ring words (set words 0 y) refl refl (λ k from to. same k (omega arith)) (h.rings ring b))
+    (λ ring b. ring_kept first e e ring words (set words 0 y) refl refl (λ k from to. same k (omega arith)) (h.rings ring b)) (unused_kept IsUsed words 0 y (by_ends refl) h.unused)
 
 -- the rule, where the number of hands becomes y, and another of them of the hand
 pub kept_count : (key : Shape) (s : St) (k : Rule key s) (id y : ℕ) (v : View) (m : Part) (e : Step (List Event)) → e.then ≡ now_at k → IsReal (of_hands key.first) e → e.next ≡ record (now_at k) { ends = y } → get_elem? s.views id ≡ some v → 1 ≤ v.member.ends → 1 ≤ m.ends → m.joins ≡ v.member.joins + uncounted v

@@ -142,4 +142,5 @@ words_joined id other first e words h = record {
   steps = h.steps;
   few = h.few;
   rings = λ ring below. ring_shows id other first ring e words (h.rings ring below);
+  unused = h.unused;
 }

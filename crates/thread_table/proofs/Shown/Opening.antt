@@ -1,5 +1,5 @@
 -- The table as it is made keeps the rule: all elements are free.
-use Rattle.thread_table.proofs.Common.{◌≡◌, ◌≢◌, ℕ, zero, suc, ◌+◌, ◌*◌, ◌%◌, ◌<◌, ◌≤◌, Bool, true, false, cond, eqb, ne_eqb, List, [], ◌∷◌, ◌∙◌, map, length, get_or, Option, Some, None, slice_get, refl, sym, ap, subst, arith, true≢false, repeat, get_or-map-range_with_len, length-map-range_with_len, nat_tests, range_with_len, of_hands, some, some-injective, some-ne-none, get_elem?, opening, EndsStand, opened, first_of, AreOrdered, order_to, order_at, Having, Elements, Thread, new_thread, holds, Queue, empty_queue, full_queue, Run, State, Hold, begins_refl, had_by_both, Shape, View, ring_at, thread_at, element_at, element_of, no_run, WORDS, ELEMENTS, RINGS, PLACES, head_word, tail_word, place_word, free_ring, WordsShow, RingShows, StateShows, processor_shown, mark_of, IsSteady, IsNewest, Rule, HandIs, Seen, IsOpen, newcomer, nothing_of, now_of, places_word, ready_ring, processor_word, state_word, done_word}
+use Rattle.thread_table.proofs.Common.{AreZero, IsUsed, ◌≡◌, ◌≢◌, ℕ, zero, suc, ◌+◌, ◌*◌, ◌%◌, ◌<◌, ◌≤◌, Bool, true, false, cond, eqb, ne_eqb, List, [], ◌∷◌, ◌∙◌, map, length, get_or, Option, Some, None, slice_get, refl, sym, ap, subst, arith, true≢false, repeat, get_or-map-range_with_len, length-map-range_with_len, nat_tests, range_with_len, of_hands, some, some-injective, some-ne-none, get_elem?, opening, EndsStand, opened, first_of, AreOrdered, order_to, order_at, Having, Elements, Thread, new_thread, holds, Queue, empty_queue, full_queue, Run, State, Hold, begins_refl, had_by_both, Shape, View, ring_at, thread_at, element_at, element_of, no_run, WORDS, ELEMENTS, RINGS, PLACES, head_word, tail_word, place_word, free_ring, WordsShow, RingShows, StateShows, processor_shown, mark_of, IsSteady, IsNewest, Rule, HandIs, Seen, IsOpen, newcomer, nothing_of, now_of, places_word, ready_ring, processor_word, state_word, done_word}
 use Rattle.std.proofs.Common.{ltb}
 use Rattle.thread_table.proofs.Shown.QueueWords.{ring_shown}
 use Rattle.thread_table.proofs.Hands.HeldLists.{hand_idle}
@@ -31,6 +31,7 @@ pub record AreBlank (first : ℕ) (words : List ℕ) : Type 0 where
   pub tails : (ring : ℕ) → ring < RINGS → get_or words (tail_word ring) 0 ≡ first
   pub items : (x : ℕ) → x < ELEMENTS → get_or words (place_word free_ring (first + x)) 0 ≡ x + 256 * (first + x + 1)
   pub zeros : (ring i : ℕ) → ring < RINGS → ring ≢ 1 → i < 64 → get_or words (places_word ring + i) 0 ≡ 0
+  pub unused : AreZero IsUsed words
 
 -- an element queue that is empty, and whose words are as they were made
 empty_shows : (first ring : ℕ) (words : List ℕ) → AreBlank first words → ring < RINGS → ring ≢ 1 → ring_at e64 ring ≡ empty_queue PLACES → mark_of e64 ring ≡ 0 → RingShows first e64 ring words
@@ -87,6 +88,7 @@ first_shows first words b = record {
   steps = λ x below. b.low (done_word x) (omega arith) (omega arith) ∙ sym (ap (λ (t : Thread). t.done) (get_or-copies 64 new_thread x));
   few = λ x below. let z : (thread_at e64 x).done ≡ 0 = ap (λ (t : Thread). t.done) (get_or-copies 64 new_thread x) in omega arith;
   rings = rings_show first words b;
+  unused = b.unused;
 }
 
 first_hand : (key : Shape) → HandIs 0 (newcomer key) e64

@@ -1,5 +1,5 @@
 -- What stays shown and known where one element queue and its words change.
-use Rattle.thread_table.proofs.Common.{◌≡◌, ◌≢◌, ℕ, zero, suc, ◌+◌, ◌*◌, ◌%◌, ◌<◌, ◌≤◌, false, List, length, set, get_or, Some, None, Option, slice_get, Result, Ok, refl, sym, ap, subst, ◌∙◌, arith, mod-lt, get_or-set_other, length-set, slice_get-get_or, dite, ℕ_discrete, Elements, holds, Queue, empty_queue, change_at, Run, Refusal, Hold, View, Claimed, QueueGrows, Grows, ring_at, thread_at, RINGS, PLACES, NOTIFY, processor_word, state_word, done_word, head_word, tail_word, place_word, WordsShow, RingShows, PlaceShows, StateShows, mark_of, IsClaimed, places_word, ready_ring}
+use Rattle.thread_table.proofs.Common.{◌≡◌, ◌≢◌, ℕ, zero, suc, ◌+◌, ◌*◌, ◌%◌, ◌<◌, ◌≤◌, false, List, length, set, get_or, Some, None, Option, slice_get, Result, Ok, refl, sym, ap, subst, ◌∙◌, arith, mod-lt, get_or-set_other, length-set, slice_get-get_or, dite, ℕ_discrete, Elements, holds, Queue, empty_queue, change_at, Run, Refusal, Hold, View, Claimed, QueueGrows, Grows, ring_at, thread_at, RINGS, PLACES, NOTIFY, processor_word, state_word, done_word, head_word, tail_word, place_word, WordsShow, RingShows, PlaceShows, StateShows, mark_of, IsClaimed, places_word, ready_ring, AreZero, IsUsed, unused_kept}
 use Rattle.thread_table.proofs.Schedule.Schedules.{queue_refl}
 use Rattle.thread_table.proofs.Events.Effects.{Leaves}
 
@@ -45,8 +45,8 @@ mark_same e rings held l = same_mark e (with_rings e rings e.notified held) l re
 
 -- the words of the element queues change, and what they show of them
 pub shows_else : (first : ℕ) (e : Elements) (rings : List Queue) (notified : List ℕ) (held : List Hold) (words changed : List ℕ) → WordsShow first e words → length rings ≡ length e.rings → length notified ≡ length e.notified
-    → length changed ≡ length words → ((k : ℕ) → 1 ≤ k → k < head_word ready_ring → get_or changed k 0 ≡ get_or words k 0) → ((l : ℕ) → l < RINGS → RingShows first (with_rings e rings notified held) l changed) → WordsShow first (with_rings e rings notified held) changed
-shows_else first e rings notified held words changed s many notes long same shown = record {
+    → length changed ≡ length words → ((k : ℕ) → 1 ≤ k → k < head_word ready_ring → get_or changed k 0 ≡ get_or words k 0) → ((l : ℕ) → l < RINGS → RingShows first (with_rings e rings notified held) l changed) → AreZero IsUsed changed → WordsShow first (with_rings e rings notified held) changed
+shows_else first e rings notified held words changed s many notes long same shown unused = record {
   wide = long ∙ s.wide;
   threads = s.threads;
   queues = many ∙ s.queues;
@@ -57,17 +57,18 @@ shows_else first e rings notified held words changed s many notes long same show
   steps = λ x below. same (done_word x) (omega arith) (omega arith) ∙ s.steps x below;
   few = s.few;
   rings = shown;
+  unused = unused;
 }
 
 -- a word of an element queue is written, and the other queues stay
 pub shows_kept : (first : ℕ) (e : Elements) (rings : List Queue) (notified : List ℕ) (held : List Hold) (ring place word : ℕ) (words : List ℕ) → WordsShow first e words
-    → length rings ≡ length e.rings → length notified ≡ length e.notified → ring < RINGS → head_word ring ≤ place → place < places_word ring + PLACES
+    → length rings ≡ length e.rings → length notified ≡ length e.notified → ring < RINGS → head_word ring ≤ place → place < places_word ring + PLACES → IsUsed place
     → ((l : ℕ) → l ≢ ring → ring_at (with_rings e rings notified held) l ≡ ring_at e l) → ((l : ℕ) → l ≢ ring → mark_of (with_rings e rings notified held) l ≡ mark_of e l)
     → RingShows first (with_rings e rings notified held) ring (set words place word) → WordsShow first (with_rings e rings notified held) (set words place word)
-shows_kept first e rings notified held ring place word words s many notes known from to other marks mine =
+shows_kept first e rings notified held ring place word words s many notes known from to used other marks mine =
     shows_else first e rings notified held words (set words place word) s many notes (length-set words place word) (λ k low high. get_or-set_other words place k word 0 (λ is. omega arith)) (λ l below. dite (ℕ_discrete l ring)
     (λ is. subst (λ n. RingShows first (with_rings e rings notified held) n (set words place word)) (sym is) mine)
-    (λ ne. ring_kept first e (with_rings e rings notified held) l words (set words place word) (other l ne) (marks l ne) (λ k a b. get_or-set_other words place k word 0 (λ is. ne (omega arith))) (s.rings l below)))
+    (λ ne. ring_kept first e (with_rings e rings notified held) l words (set words place word) (other l ne) (marks l ne) (λ k a b. get_or-set_other words place k word 0 (λ is. ne (omega arith))) (s.rings l below))) (unused_kept IsUsed words place word used s.unused)
 
 pub queue_stays : (q r : Queue) → r ≡ q → QueueGrows q r
 queue_stays q r same = subst (QueueGrows q) (sym same) (queue_refl q)

@@ -53,3 +53,6 @@ invariant_of-hand-2 c = let a = c.load_head-word.ensures in let x = c.exchange_h
 
 pub returns-clause-steps : goal.returns-clause-steps
 returns-clause-steps c = (c.load_head-word.result, (word_parts _ c.of-head.result.head c.of-head.result.mark c.of-head.ensures.0 c.of-head.ensures.1).1 ∙ c.if-mark-ticket.false, moved c.before)
+
+pub invariant_of-hand-then-found-word-clause-stands : goal.invariant_of-hand-then-found-word-clause-stands
+invariant_of-hand-then-found-word-clause-stands c = c.exchange_head_at-found.ensures.stands

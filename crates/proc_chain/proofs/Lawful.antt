@@ -1,5 +1,5 @@
 -- Real steps are events of the core.
-use Rattle.proc_chain.proofs.Common.{◌≡◌, ◌≢◌, ℕ, ◌+◌, ◌-◌, ◌<◌, ◌≤◌, false, List, [], ◌∷◌, ◌++◌, length, length-append, length-set, sym, refl, ap, ◌∙◌, subst, arith, Cell, Moment, change, IsReal, item_at, written_at, fresh, GatedQueue, IsPlace, Becomes, with_note, with_raise, with_taken, with_gate, taking, of_chains, head_word, tail_word}
+use Rattle.proc_chain.proofs.Common.{◌≡◌, ◌≢◌, ℕ, ◌+◌, ◌-◌, ◌<◌, ◌≤◌, false, List, [], ◌∷◌, ◌++◌, length, length-append, length-set, sym, refl, ap, ◌∙◌, subst, arith, Cell, Moment, change, IsReal, item_at, written_at, fresh, GatedQueue, Becomes, with_note, with_taken, of_chains, head_word, tail_word}
 use Rattle.std.proofs.lemmas.List.{append_cancel_left}
 use Rattle.table_theory.proofs.Saying.{effect_keeps}
 use Rattle.proc_chain.specs.Changes as becomes

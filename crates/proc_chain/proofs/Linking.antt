@@ -7,7 +7,7 @@ use Rattle.table_theory.proofs.Moving.{last}
 use Rattle.proc_chain.specs.declared.chaining.ChainRefusal.TheVariants as refusals
 use Rattle.proc_chain.specs.Notes.{SameNotes, PutNote}
 use Rattle.proc_chain.specs.Steps.{Claimed}
-use Rattle.proc_chain.specs.Links.{LostTry, Link}
+use Rattle.proc_chain.specs.Links.{Link}
 use Rattle.proc_chain.specs.Answers.{NotChained, ChainedBy, with_run}
 use Rattle.proc_chain.proofs.Finding.{head_says, then_step, KeepsSeen, seen_on, seen_step}
 

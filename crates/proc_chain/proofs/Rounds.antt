@@ -5,6 +5,7 @@ use Rattle.std.proofs.lemmas.Grind.{flat_map-append}
 use Rattle.std.proofs.lemmas.List.{append-nil, append_assoc, length-take-le, take-append-le}
 use Rattle.std.proofs.Math.Seq.{take-length, take-append_seam}
 use Rattle.std.specs.List.{AllByRecursion, flat_map}
+use Rattle.std.specs.Prelude.{MatchBool}
 use Rattle.table_theory.proofs.Parting.{made_none}
 use Rattle.table_theory.proofs.Reaching.{all_on}
 use Rattle.proc_chain.specs.Notes.{notes_taken, alone}
@@ -12,8 +13,8 @@ use Rattle.proc_chain.specs.Steps.{FoundNotRaised, Took, BegunRound, HasLeft}
 use Rattle.proc_chain.specs.Turns.{HasOrGave, HasServed}
 use Rattle.proc_chain.specs.Servings.{Use, took, failed, entries_of, IsUse, notes_run, takings, serving, Leaving, leaving, goes_on, all_uses, HasRun, ServedNow, AllServed}
 use Rattle.proc_chain.specs.declared.serve.Served.TheVariants as served
-use Rattle.proc_chain.specs.declared.chaining.Turn.{Turn}
-use Rattle.proc_chain.specs.Rounds.{used, Ran, FoundNone, LeftNow, RoundNow, IsDone, IsUsedUp}
+use Rattle.proc_chain.specs.declared.running.Turn.{Turn}
+use Rattle.proc_chain.specs.Rounds.{used, Ran, RanNote, FoundNone, LeftNow, RoundNow, IsDone, IsUsedUp}
 use Rattle.proc_chain.proofs.Finding.{note_says, mark_says, runner_on, seen_step}
 use Rattle.proc_chain.proofs.Gates.{notes_same, notes_take}
 
@@ -135,7 +136,7 @@ module _ (v t u : View) (tail note : ℕ) (runner : v.own.runner ≡ true) (behi
   pub up_now : 2 ≤ written_at (queue_of u) (queue_of u).taken
   up_now = subst (λ (z : Positions). 2 ≤ written_at z z.taken) sees up_there
 
-  note_now : note ≡ item_at (queue_of u) (queue_of u).taken
+  pub note_now : note ≡ item_at (queue_of u) (queue_of u).taken
   note_now = let room = b.1.real.shows.0.room in let tl = tail_there in let x : raised_word tail note % 65536 ≡ note = omega arith in
       sym x ∙ (note_says e b.0.object.queue.taken b.1.real (ap place_word tail_there) (omega arith) up_there (omega arith) ∙ ap (λ (z : Positions). item_at z z.taken) sees)
 
@@ -154,6 +155,13 @@ ran_runner made fits m x w note d is a one told held h run = let c = h.carries i
   behind = subst (λ (z : View). (queue_of z).taken ≤ length (queue_of z).places) (sym is) told.lawful.0.behind;
   carries = (r.0, r.1, subst (made r.0) (sym (ap (λ (z : View). notes_of (queue_of z)) is ∙ notes)) r.2, r.3);
 }
+
+-- which of the two it was
+pub was_run : (b : Bool) (v w : View) → MatchBool b (RanNote v w) (FoundNone v w) → b ≡ true → RanNote v w
+was_run b v w h is = subst (λ (z : Bool). MatchBool z (RanNote v w) (FoundNone v w)) is h
+
+pub was_none : (b : Bool) (v w : View) → MatchBool b (RanNote v w) (FoundNone v w) → b ≡ false → FoundNone v w
+was_none b v w h is = subst (λ (z : Bool). MatchBool z (RanNote v w) (FoundNone v w)) is h
 
 -- none was raised there
 pub found_none : (v t w : View) (tail found : ℕ) → v.own.runner ≡ true → (queue_of v).taken ≤ length (queue_of v).places → Found v tail_word tail t → IsTold t → FoundNotRaised t (place_word tail) found w → found / 65536 ≢ tail + 1 → FoundNone v w

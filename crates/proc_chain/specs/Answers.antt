@@ -1,5 +1,5 @@
 -- What chaining a note answers: the entries that it added, all of them, and how their numbers compare.
-use Rattle.std.specs.Prelude.{◌≡◌, ℕ, ◌+◌, ◌<◌, ◌≤◌, Bool, true, false, [], ◌∷◌, ◌++◌}
+use Rattle.std.specs.Prelude.{ℕ, ◌+◌, ◌<◌, ◌≤◌, Bool, true, false, [], ◌∷◌, ◌++◌}
 use Rattle.table_theory.specs.declared.positions.TheConstants.{POSITIONS}
 use Rattle.table_theory.specs.declared.views.Moment.{Moment}
 use Rattle.table_theory.specs.Ledgers.{load, Made}

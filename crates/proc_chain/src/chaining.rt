@@ -5,15 +5,13 @@ ghost use Rattle.proc_chain.specs.Notes.{SameNotes, PutNote};
 ghost use Rattle.proc_chain.specs.Turns.{KeepsTaken};
 
 use crate::ends::{ChainEnd, ProcChain};
-use crate::layout::{HEAD, IDLE, PLACES, TAIL};
+use crate::layout::{HEAD, PLACES, TAIL};
 use crate::quaject::Quaject;
-use crate::steps::{exchange_head, load, store_place, swap_more};
+use crate::running::{Turn, swap_more};
+use crate::steps::{exchange_head, load, store_place};
 use std::marker::Brand;
 use table_theory::positions::POSITIONS;
 use thiserror::Error;
-
-/// The right and the duty to run the notes of a chain. It can't be let go, only served.
-pub struct Turn(pub(crate) ());
 
 /// Whose it is to run a note that was chained.
 pub enum Chained {
@@ -76,10 +74,12 @@ impl<Q: Quaject> ProcChain<Q> {
             return Err(ChainRefusal::Lost { head: found as u32 });
         }
         store_place(words, &mut end.seat, head, note);
-        if swap_more::<Q, Brand>(words, &mut end.seat) == IDLE {
-            end.turn = true;
-            return Ok(Chained::Run(Turn(())));
+        match swap_more::<Q, Brand>(words, &mut end.seat) {
+            Some(turn) => {
+                end.turn = true;
+                Ok(Chained::Run(turn))
+            }
+            None => Ok(Chained::Left),
         }
-        Ok(Chained::Left)
     }
 }

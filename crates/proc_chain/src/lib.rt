@@ -56,15 +56,17 @@ mod layout;
 mod plays;
 mod quaject;
 mod rule;
+mod running;
 mod serve;
 mod steps;
 mod word;
 
 pub use between::{between_steps, ends_between_steps};
-pub use chaining::{ChainRefusal, Chained, Turn};
+pub use chaining::{ChainRefusal, Chained};
 pub use close::ChainClosed;
 pub use ends::{ChainEnd, ProcChain};
 pub use quaject::{Quaject, Ran};
 pub use rule::{ChainRule, Did, GatedQueue, Shape, View};
+pub use running::Turn;
 pub use serve::Served;
 pub use table_theory::OpenEnds;

@@ -1,5 +1,5 @@
 //! Serving a Turn.
-ghost use Rattle.std.specs.Prelude.{◌≡◌, ◌+◌, ◌<◌, ℕ, List, true, false, [], ◌∷◌, ◌++◌, MatchBool};
+ghost use Rattle.std.specs.Prelude.{◌≡◌, ◌+◌, ◌<◌, ℕ, List, true, false, [], ◌∷◌, ◌++◌, MatchBool, MatchOption};
 ghost use Rattle.table_theory.specs.Seating.{IsSame};
 ghost use Rattle.proc_chain.specs.Layout.{width};
 ghost use Rattle.proc_chain.specs.Rules.{suits, makes, IsTold};
@@ -7,12 +7,12 @@ ghost use Rattle.proc_chain.specs.Rounds.{RanNote, FoundNone, LeftNow, RoundNow,
 ghost use Rattle.proc_chain.specs.Turns.{Carries, IsRunner, HasOrGave, MadeSince};
 ghost use Rattle.proc_chain.specs.Servings.{ServedNow, AllServed, is_more};
 
-use crate::chaining::Turn;
 use crate::ends::{ChainEnd, ProcChain};
-use crate::layout::{RUNNING, TAIL};
+use crate::layout::TAIL;
 use crate::quaject::Quaject;
 use crate::rule::{ChainRule, Pact, Shape, View};
-use crate::steps::{exchange_gate, load, load_place, store_tail, swap_running};
+use crate::running::{Turn, exchange_gate, never, run_held, store_tail};
+use crate::steps::{load, load_place, swap_running};
 use atomic_table::{Seat, Shared};
 use std::sync::Wait;
 
@@ -28,101 +28,92 @@ pub enum Served {
     More { turn: Turn, ran: u32 },
 }
 
-// Runs the note on the quaject in the slot that the seat holds.
-fn run_held<Q: Quaject>(
-    words: &Shared<Q, View, Shape<Pact<Q::World, Q>>, ChainRule>,
-    seat: &mut Seat<Q, View>,
-    world: &Q::World,
-    note: u16,
-)
-    requires queue { seat.old.table_id ≡ words.now.table_id }
-    requires world { words.now.key.pact.world.value ≡ world.now }
-    requires held { (x : Q) × (seat.old.me.1 ≡ (0, x) ∷ []) × suits Q.fits words.now.key.pact x }
-    ensures queue { IsSame seat.old seat.new × (seat.new.me.0 ≡ seat.old.me.0) }
-    ensures ran { (notes : List ℕ)
-        → Carries (makes Q.made_by words.now.key.pact) (suits Q.fits words.now.key.pact) notes [] seat.old.me.1
-        → Carries (makes Q.made_by words.now.key.pact) (suits Q.fits words.now.key.pact) (notes ++ note ∷ []) []
-        seat.new.me.1 }
-{
-    let quaject = seat.slot_mut(words, 0);
-    let _ran = quaject.run(world, note);
-}
-
 // Takes the first note left and runs it, if it is raised.
 fn run_next<Q: Quaject>(
     words: &Shared<Q, View, Shape<Pact<Q::World, Q>>, ChainRule>,
     seat: &mut Seat<Q, View>,
     world: &Q::World,
-) -> bool
+    turn: Turn,
+) -> (bool, Turn)
     requires queue { (seat.old.table_id ≡ words.now.table_id) × (words.now.table_id.words ≡ width) }
     requires world { words.now.key.pact.world.value ≡ world.now }
     requires runner { IsRunner (makes Q.made_by words.now.key.pact) (suits Q.fits words.now.key.pact) seat.old.me }
     ensures stays { IsSame seat.old seat.new × IsTold seat.new.me.0 }
     ensures runner { IsRunner (makes Q.made_by words.now.key.pact) (suits Q.fits words.now.key.pact) seat.new.me }
-    ensures ran { MatchBool result (RanNote seat.old.me.0 seat.new.me.0) (FoundNone seat.old.me.0 seat.new.me.0) }
+    ensures ran { MatchBool result.0 (RanNote seat.old.me.0 seat.new.me.0) (FoundNone seat.old.me.0 seat.new.me.0) }
 {
     let tail = load(words, seat, TAIL);
     let word = load_place(words, seat, tail);
     if word.mark != tail + 1 {
-        return false;
+        return (false, turn);
     }
-    store_tail(words, seat, tail);
-    run_held(words, seat, world, word.note);
-    true
+    let taken = store_tail(words, seat, turn, tail, word.note);
+    (true, run_held(words, seat, world, taken))
 }
 
 // Leaves, if no other end has notified since the last round. Else it begins a new round.
 fn leave_or_round<Q: Quaject>(
     words: &Shared<Q, View, Shape<Pact<Q::World, Q>>, ChainRule>,
     seat: &mut Seat<Q, View>,
-) -> bool
+    turn: Turn,
+) -> Option<Turn>
     requires queue { (seat.old.table_id ≡ words.now.table_id) × (words.now.table_id.words ≡ width) }
     requires runner { IsRunner (makes Q.made_by words.now.key.pact) (suits Q.fits words.now.key.pact) seat.old.me }
     requires saw { seat.old.me.0.own.saw ≡ true }
     ensures stays { IsSame seat.old seat.new × IsTold seat.new.me.0 }
-    ensures gave { MatchBool result
+    ensures gave { MatchOption result
         (HasOrGave (makes Q.made_by words.now.key.pact) (suits Q.fits words.now.key.pact) false seat.new.me)
-        (IsRunner (makes Q.made_by words.now.key.pact) (suits Q.fits words.now.key.pact) seat.new.me) }
-    ensures left { MatchBool result (LeftNow seat.old.me.0 seat.new.me.0) (RoundNow seat.old.me.0 seat.new.me.0) }
+        (λ turn. IsRunner (makes Q.made_by words.now.key.pact) (suits Q.fits words.now.key.pact) seat.new.me) }
+    ensures left { MatchOption result (LeftNow seat.old.me.0 seat.new.me.0)
+        (λ turn. RoundNow seat.old.me.0 seat.new.me.0) }
 {
-    if exchange_gate(words, seat) == RUNNING {
-        return true;
+    match exchange_gate(words, seat, turn) {
+        Some(turn) => {
+            swap_running(words, seat);
+            Some(turn)
+        }
+        None => None,
     }
-    swap_running(words, seat);
-    false
 }
 
-// Serves until it leaves, or has run notes and failed to leave `limit` times. True where it left, and the number of
-// notes run.
+// Serves until it leaves, or has run notes and failed to leave `limit` times. The Turn comes where it didn't leave, and
+// the number of notes run.
 fn serve_seat<Q: Quaject>(
     words: &Shared<Q, View, Shape<Pact<Q::World, Q>>, ChainRule>,
     seat: &mut Seat<Q, View>,
     world: &Q::World,
+    turn: Turn,
     limit: u32,
-) -> (bool, u32)
+) -> (Option<Turn>, u32)
     requires queue { (seat.old.table_id ≡ words.now.table_id) × (words.now.table_id.words ≡ width) }
     requires world { words.now.key.pact.world.value ≡ world.now }
     requires runner { IsRunner (makes Q.made_by words.now.key.pact) (suits Q.fits words.now.key.pact) seat.old.me }
     requires some_limit { 0 < limit }
     ensures stays { IsSame seat.old seat.new × IsTold seat.new.me.0 }
-    ensures gave { MatchBool result.0
+    ensures gave { MatchOption result.0
         (HasOrGave (makes Q.made_by words.now.key.pact) (suits Q.fits words.now.key.pact) false seat.new.me)
-        (IsRunner (makes Q.made_by words.now.key.pact) (suits Q.fits words.now.key.pact) seat.new.me) }
+        (λ turn. IsRunner (makes Q.made_by words.now.key.pact) (suits Q.fits words.now.key.pact) seat.new.me) }
     ensures made { MadeSince (makes Q.made_by words.now.key.pact) (suits Q.fits words.now.key.pact)
         seat.old.me.0 seat.new.me.0 }
-    ensures served { MatchBool result.0 (IsDone seat.old.me.0 limit result.1 seat.new.me.0)
-        (IsUsedUp seat.old.me.0 limit result.1 seat.new.me.0) }
+    ensures served { MatchOption result.0 (IsDone seat.old.me.0 limit result.1 seat.new.me.0)
+        (λ turn. IsUsedUp seat.old.me.0 limit result.1 seat.new.me.0) }
 {
+    let mut turn = turn;
     let mut ran = 0u32;
     swap_running(words, seat);
     for used in 0..limit {
-        if run_next(words, seat, world) {
+        let (was_run, held) = run_next(words, seat, world, turn);
+        if was_run {
             ran += 1;
-        } else if leave_or_round(words, seat) {
-            return (true, ran);
+            turn = held;
+        } else {
+            match leave_or_round(words, seat, held) {
+                Some(held) => turn = held,
+                None => return (None, ran),
+            }
         }
     }
-    (false, ran)
+    (Some(turn), ran)
 }
 
 impl<Q: Quaject> ProcChain<Q> {
@@ -151,13 +142,13 @@ impl<Q: Quaject> ProcChain<Q> {
         if limit == 0 {
             return Served::More { turn, ran: 0 };
         }
-        let (done, ran) = serve_seat(&self.table.shared, &mut end.seat, world, limit);
-        if done {
-            end.turn = false;
-            let Turn(()) = turn;
-            return Served::Done { ran };
+        match serve_seat(&self.table.shared, &mut end.seat, world, turn, limit) {
+            (None, ran) => {
+                end.turn = false;
+                Served::Done { ran }
+            }
+            (Some(turn), ran) => Served::More { turn, ran },
         }
-        Served::More { turn, ran }
     }
 
     /// Serves until `Done`, and gives the number of notes run: `serve` again and again, with the greatest limit. It may
@@ -194,7 +185,7 @@ impl<Q: Quaject> ProcChain<Q> {
                 }
             }
         }
-        let Turn(()) = turn;
+        never(turn);
         unreachable!()
     }
 }

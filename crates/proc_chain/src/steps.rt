@@ -85,23 +85,6 @@ pub(crate) fn store_place<Q: Quaject>(
     words.store::<Raises>(seat, place_word(start as usize), word);
 }
 
-/// The notify.
-pub(crate) fn swap_more<Q: Quaject, J: Runner<Q>>(
-    words: &Shared<Q, View, Shape<Pact<Q::World, Q>>, ChainRule>,
-    seat: &mut Seat<Q, View>,
-) -> u64
-    requires queue { (seat.old.table_id ≡ words.now.table_id) × (words.now.table_id.words ≡ width) }
-    requires live { (1 ≤ seat.old.me.0.member.ends) × (seat.old.me.0.own.owes ≡ true) }
-    requires suits { (x : Q) → suits Q.fits words.now.key.pact x → J.suits x }
-    requires makes { (x : Q) (notes : List ℕ) → makes Q.made_by words.now.key.pact x notes → J.made x notes }
-    ensures stays { IsSame seat.old seat.new × IsTold seat.new.me.0 }
-    ensures won { result ≡ IDLE → GotTurn J.made J.suits seat.old.me seat.new.me }
-    ensures lost { result ≢ IDLE → (seat.new.me.1 ≡ seat.old.me.1)
-        × Notified seat.old.me.0 result seat.new.me.0 }
-{
-    words.swap::<Notifies<J>>(seat, GATE, MORE)
-}
-
 /// The runner's look at the place of the tail.
 pub(crate) fn load_place<Q: Quaject>(
     words: &Shared<Q, View, Shape<Pact<Q::World, Q>>, ChainRule>,
@@ -121,22 +104,6 @@ pub(crate) fn load_place<Q: Quaject>(
     PlaceWord::of(words.load::<Spies>(seat, place_word(tail as usize)))
 }
 
-/// The taking of one note: a single runner takes, so it stores. The quaject in its hand is not yet made by this note.
-pub(crate) fn store_tail<Q: Quaject>(
-    words: &Shared<Q, View, Shape<Pact<Q::World, Q>>, ChainRule>,
-    seat: &mut Seat<Q, View>,
-    tail: u64,
-)
-    requires queue { (seat.old.table_id ≡ words.now.table_id) × (words.now.table_id.words ≡ width) }
-    requires runner { IsRunner (makes Q.made_by words.now.key.pact) (suits Q.fits words.now.key.pact) seat.old.me }
-    requires tail { (tail ≡ tail_of (queue_of seat.old.me.0)) × (tail < POSITIONS) }
-    requires raised { 2 ≤ written_at (queue_of seat.old.me.0) (queue_of seat.old.me.0).taken }
-    ensures stays { IsSame seat.old seat.new × Stays seat.old.me seat.new.me }
-    ensures took { Took seat.old.me.0 tail seat.new.me.0 }
-{
-    words.store::<Takes>(seat, TAIL, tail + 1);
-}
-
 /// The begin of a round.
 pub(crate) fn swap_running<Q: Quaject>(
     words: &Shared<Q, View, Shape<Pact<Q::World, Q>>, ChainRule>,
@@ -148,22 +115,6 @@ pub(crate) fn swap_running<Q: Quaject>(
     ensures rounded { BegunRound seat.old.me.0 result seat.new.me.0 }
 {
     words.swap::<Rounds>(seat, GATE, RUNNING)
-}
-
-/// The leave. The quaject goes back into the table where the gate was Running.
-pub(crate) fn exchange_gate<Q: Quaject>(
-    words: &Shared<Q, View, Shape<Pact<Q::World, Q>>, ChainRule>,
-    seat: &mut Seat<Q, View>,
-) -> u64
-    requires queue { (seat.old.table_id ≡ words.now.table_id) × (words.now.table_id.words ≡ width) }
-    requires runner { IsRunner (makes Q.made_by words.now.key.pact) (suits Q.fits words.now.key.pact) seat.old.me }
-    requires saw { seat.old.me.0.own.saw ≡ true }
-    ensures stays { IsSame seat.old seat.new × IsTold seat.new.me.0 }
-    ensures hit { result ≡ RUNNING → (seat.new.me.1 ≡ []) × HasLeft seat.old.me.0 seat.new.me.0 }
-    ensures miss { result ≢ RUNNING → (result ≡ MORE) × (seat.new.me.1 ≡ seat.old.me.1)
-        × Found seat.old.me.0 gate_word result seat.new.me.0 }
-{
-    words.compare_exchange::<Leaves>(seat, GATE, RUNNING, IDLE)
 }
 
 pub(crate) fn count_up<Q: Quaject>(

@@ -14,7 +14,7 @@ use Rattle.table_theory.proofs.Parting.{made_none, made_on}
 use Rattle.table_theory.proofs.Reaching.{all_on, passes_since}
 use Rattle.proc_chain.specs.declared.rule.Did.{Did}
 use Rattle.proc_chain.specs.declared.rule.GatedQueue.{GatedQueue}
-use Rattle.proc_chain.specs.declared.chaining.Turn.{Turn}
+use Rattle.proc_chain.specs.declared.running.Turn.{Turn}
 use Rattle.proc_chain.specs.declared.chaining.Chained.{Chained}
 use Rattle.proc_chain.specs.declared.chaining.Chained.TheVariants.{Run, Left}
 use Rattle.proc_chain.specs.declared.chaining.ChainRefusal.{ChainRefusal}

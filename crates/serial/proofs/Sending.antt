@@ -6,7 +6,7 @@ use Rattle.table_theory.specs.Interleaving.{InOrder}
 use Rattle.table_theory.specs.Batches.{IsPast}
 use Rattle.table_theory.proofs.Ordering.{order_push}
 use Rattle.proc_chain.specs.Own.{View}
-use Rattle.proc_chain.specs.declared.chaining.Turn.{Turn}
+use Rattle.proc_chain.specs.declared.running.Turn.{Turn}
 use Rattle.proc_chain.specs.declared.chaining.Chained.{Chained}
 use Rattle.proc_chain.specs.declared.chaining.Chained.TheVariants.{Run, Left}
 use Rattle.proc_chain.specs.declared.chaining.ChainRefusal.{ChainRefusal}

@@ -1,4 +1,4 @@
-use Rattle.proc_chain.proofs.Common.{slots_items, place_word}
+use Rattle.proc_chain.proofs.Common.{slots_items}
 use Rattle.proc_chain.proofs.Closing.{read_some, read_none}
 use Rattle.proc_chain.proofs.close.read_at.Goals as goal
 

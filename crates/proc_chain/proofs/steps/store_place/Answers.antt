@@ -1,4 +1,4 @@
-use Rattle.proc_chain.proofs.Common.{rules, arith, ◌≡◌, raised_word, place_word}
+use Rattle.proc_chain.proofs.Common.{rules, arith, ◌≡◌, raised_word}
 use Rattle.proc_chain.proofs.Stepping.{raises_place}
 use Rattle.proc_chain.proofs.steps.store_place.Goals as goal
 

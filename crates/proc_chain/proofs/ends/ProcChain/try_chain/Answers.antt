@@ -32,12 +32,12 @@ store_place-requires-clause-mine g c = just_claimed _ _ _ _ _ (c.exchange_head-f
 pub swap_more-requires-clause-live : goal.swap_more-requires-clause-live
 swap_more-requires-clause-live g c = let end = c.args.end.now in let a = c.load-head.ensures in let b = c.load-tail.ensures in let e = c.exchange_head-found.ensures in let h = e.hit c.if-found-head.false in let r = c.store_place.ensures.raised (run c.load-head.result c.args.note) (claimed_at _ _ _ _ h) in let l = link _ _ _ _ _ _ _ c.args.note a.found b.found h r in (subst (λ (z : ℕ). 1 ≤ z) (sym ((λ i. (l.member i).ends) ∙ end.rests.one)) (omega arith), λ i. (l.did i).owes)
 
-pub invariant_of-end-then-swap_more-eq-IDLE : goal.invariant_of-end-then-swap_more-eq-IDLE
-invariant_of-end-then-swap_more-eq-IDLE g c = let end = c.args.end.now in let a = c.load-head.ensures in let b = c.load-tail.ensures in let e = c.exchange_head-found.ensures in let h = e.hit c.if-found-head.false in let r = c.store_place.ensures.raised (run c.load-head.result c.args.note) (claimed_at _ _ _ _ h) in let w = c.swap_more.ensures.won c.if-swap_more-eq-IDLE.true in let then = with_turn w.1.0.object.queue.taken in let d = chained _ _ _ _ _ _ _ c.args.note a.found b.found h r _ 0 w.1.0 then w.1.1 c.if-head-ge-POSITIONS.false (omega (arith, c.if-head-tail.false)) in
+pub invariant_of-end-in-Some : goal.invariant_of-end-in-Some
+invariant_of-end-in-Some g c = let end = c.args.end.now in let a = c.load-head.ensures in let b = c.load-tail.ensures in let e = c.exchange_head-found.ensures in let h = e.hit c.if-found-head.false in let r = c.store_place.ensures.raised (run c.load-head.result c.args.note) (claimed_at _ _ _ _ h) in let w = c.in-Some.ensures.notified in let then = with_turn w.1.0.object.queue.taken in let d = chained _ _ _ _ _ _ _ c.args.note a.found b.found h r _ 0 w.1.0 then w.1.1 c.if-head-ge-POSITIONS.false (omega (arith, c.if-head-tail.false)) in
     record { turned = λ i. (d.1.did i).runner; rests = chained_rests _ _ c.args.note _ then d (λ d. refl) (λ d. refl) end.rests; told = ∣ c.swap_more.ensures.stays.1 ∣₁ }
 
-pub returns-then-swap_more-eq-IDLE : goal.returns-then-swap_more-eq-IDLE
-returns-then-swap_more-eq-IDLE g c = let end = c.args.end.now in let a = c.load-head.ensures in let b = c.load-tail.ensures in let e = c.exchange_head-found.ensures in let h = e.hit c.if-found-head.false in let r = c.store_place.ensures.raised (run c.load-head.result c.args.note) (claimed_at _ _ _ _ h) in let w = c.swap_more.ensures.won c.if-swap_more-eq-IDLE.true in let then = with_turn w.1.0.object.queue.taken in let d = chained _ _ _ _ _ _ _ c.args.note a.found b.found h r _ 0 w.1.0 then w.1.1 c.if-head-ge-POSITIONS.false (omega (arith, c.if-head-tail.false)) in let x = c.store_place.ensures.stays.0 in let y = c.swap_more.ensures.stays.0 in let pact = c.args.self.now.table.shared.key.pact in let down = sym (λ i. ((link _ _ _ _ _ _ _ c.args.note a.found b.found h r).did i).runner) ∙ w.0 in record {
+pub returns-in-Some : goal.returns-in-Some
+returns-in-Some g c = let end = c.args.end.now in let a = c.load-head.ensures in let b = c.load-tail.ensures in let e = c.exchange_head-found.ensures in let h = e.hit c.if-found-head.false in let r = c.store_place.ensures.raised (run c.load-head.result c.args.note) (claimed_at _ _ _ _ h) in let w = c.in-Some.ensures.notified in let then = with_turn w.1.0.object.queue.taken in let d = chained _ _ _ _ _ _ _ c.args.note a.found b.found h r _ 0 w.1.0 then w.1.1 c.if-head-ge-POSITIONS.false (omega (arith, c.if-head-tail.false)) in let x = c.store_place.ensures.stays.0 in let y = c.swap_more.ensures.stays.0 in let pact = c.args.self.now.table.shared.key.pact in let down = sym (λ i. ((link _ _ _ _ _ _ _ c.args.note a.found b.found h r).did i).runner) ∙ w.0 in record {
   notes = put_note _ _ _ _ then (λ d. refl) (λ d. refl) d.1.did;
   turn = λ _. (sym end.turned ∙ down, refl);
   kept = λ (is : true ≡ false). absurd (true≢false is);
@@ -46,20 +46,20 @@ returns-then-swap_more-eq-IDLE g c = let end = c.args.end.now in let a = c.load-
   same = ((y.0 ∙ (x.0 ∙ (e.stays.0.0 ∙ (b.stays.0.0 ∙ a.stays.0.0))), y.1 ∙ (x.1 ∙ (e.stays.0.1 ∙ (b.stays.0.1 ∙ a.stays.0.1)))), (chained_seen _ _ _ _ _ _ _ c.args.note a.found b.found h r _ 0 w.1.0 then w.1.1).taken);
 }
 
-pub invariant_of-end-else-swap_more-eq-IDLE : goal.invariant_of-end-else-swap_more-eq-IDLE
-invariant_of-end-else-swap_more-eq-IDLE g c = let end = c.args.end.now in let a = c.load-head.ensures in let b = c.load-tail.ensures in let e = c.exchange_head-found.ensures in let h = e.hit c.if-found-head.false in let r = c.store_place.ensures.raised (run c.load-head.result c.args.note) (claimed_at _ _ _ _ h) in let w = c.swap_more.ensures.lost c.if-swap_more-eq-IDLE.false in let then : Did → Did = λ d. d in let d = chained _ _ _ _ _ _ _ c.args.note a.found b.found h r _ _ w.1.1.0 then w.1.1.1 c.if-head-ge-POSITIONS.false (omega (arith, c.if-head-tail.false)) in
+pub invariant_of-end-in-None : goal.invariant_of-end-in-None
+invariant_of-end-in-None g c = let end = c.args.end.now in let a = c.load-head.ensures in let b = c.load-tail.ensures in let e = c.exchange_head-found.ensures in let h = e.hit c.if-found-head.false in let r = c.store_place.ensures.raised (run c.load-head.result c.args.note) (claimed_at _ _ _ _ h) in let w = c.in-None.ensures.notified in let then : Did → Did = λ d. d in let d = chained _ _ _ _ _ _ _ c.args.note a.found b.found h r _ _ w.2.1.0 then w.2.1.1 c.if-head-ge-POSITIONS.false (omega (arith, c.if-head-tail.false)) in
     record { turned = (λ i. (d.1.did i).runner) ∙ end.turned; rests = chained_rests _ _ c.args.note _ then d (λ d. refl) (λ d. refl) end.rests; told = ∣ c.swap_more.ensures.stays.1 ∣₁ }
 
-pub returns-clause-notes : goal.returns-clause-notes
-returns-clause-notes g c = let end = c.args.end.now in let a = c.load-head.ensures in let b = c.load-tail.ensures in let e = c.exchange_head-found.ensures in let h = e.hit c.if-found-head.false in let r = c.store_place.ensures.raised (run c.load-head.result c.args.note) (claimed_at _ _ _ _ h) in let w = c.swap_more.ensures.lost c.if-swap_more-eq-IDLE.false in let then : Did → Did = λ d. d in let d = chained _ _ _ _ _ _ _ c.args.note a.found b.found h r _ _ w.1.1.0 then w.1.1.1 c.if-head-ge-POSITIONS.false (omega (arith, c.if-head-tail.false)) in put_note _ _ _ _ then (λ d. refl) (λ d. refl) d.1.did
+pub returns-in-None-clause-notes : goal.returns-in-None-clause-notes
+returns-in-None-clause-notes g c = let end = c.args.end.now in let a = c.load-head.ensures in let b = c.load-tail.ensures in let e = c.exchange_head-found.ensures in let h = e.hit c.if-found-head.false in let r = c.store_place.ensures.raised (run c.load-head.result c.args.note) (claimed_at _ _ _ _ h) in let w = c.in-None.ensures.notified in let then : Did → Did = λ d. d in let d = chained _ _ _ _ _ _ _ c.args.note a.found b.found h r _ _ w.2.1.0 then w.2.1.1 c.if-head-ge-POSITIONS.false (omega (arith, c.if-head-tail.false)) in put_note _ _ _ _ then (λ d. refl) (λ d. refl) d.1.did
 
-pub returns-clause-steps : goal.returns-clause-steps
-returns-clause-steps g c = let end = c.args.end.now in let a = c.load-head.ensures in let b = c.load-tail.ensures in let e = c.exchange_head-found.ensures in let h = e.hit c.if-found-head.false in let r = c.store_place.ensures.raised (run c.load-head.result c.args.note) (claimed_at _ _ _ _ h) in let w = c.swap_more.ensures.lost c.if-swap_more-eq-IDLE.false in let then : Did → Did = λ d. d in let d = chained _ _ _ _ _ _ _ c.args.note a.found b.found h r _ _ w.1.1.0 then w.1.1.1 c.if-head-ge-POSITIONS.false (omega (arith, c.if-head-tail.false)) in (_, w.1.0, d)
+pub returns-in-None-clause-steps : goal.returns-in-None-clause-steps
+returns-in-None-clause-steps g c = let end = c.args.end.now in let a = c.load-head.ensures in let b = c.load-tail.ensures in let e = c.exchange_head-found.ensures in let h = e.hit c.if-found-head.false in let r = c.store_place.ensures.raised (run c.load-head.result c.args.note) (claimed_at _ _ _ _ h) in let w = c.in-None.ensures.notified in let then : Did → Did = λ d. d in let d = chained _ _ _ _ _ _ _ c.args.note a.found b.found h r _ _ w.2.1.0 then w.2.1.1 c.if-head-ge-POSITIONS.false (omega (arith, c.if-head-tail.false)) in (_, w.2.0, d)
 
-pub returns-clause-ends : goal.returns-clause-ends
-returns-clause-ends g c = let end = c.args.end.now in let a = c.load-head.ensures in let b = c.load-tail.ensures in let e = c.exchange_head-found.ensures in let h = e.hit c.if-found-head.false in let r = c.store_place.ensures.raised (run c.load-head.result c.args.note) (claimed_at _ _ _ _ h) in let w = c.swap_more.ensures.lost c.if-swap_more-eq-IDLE.false in let then : Did → Did = λ d. d in let d = chained _ _ _ _ _ _ _ c.args.note a.found b.found h r _ _ w.1.1.0 then w.1.1.1 c.if-head-ge-POSITIONS.false (omega (arith, c.if-head-tail.false)) in let s = chained_seen _ _ _ _ _ _ _ c.args.note a.found b.found h r _ _ w.1.1.0 then w.1.1.1 in let x = c.store_place.ensures.stays.0 in let y = c.swap_more.ensures.stays.0 in let pact = c.args.self.now.table.shared.key.pact in
-    (y.0 ∙ (x.0 ∙ (e.stays.0.0 ∙ (b.stays.0.0 ∙ (a.stays.0.0 ∙ c.requires.0)))), slot_on (makes g.Q.Quaject.made_by pact) (suits g.Q.Quaject.fits pact) end.seat.me.0 c.swap_more.new.seat.me.0 _ _ (seen_notes _ _ s (told_behind _ end.told)) (λ i. (d.1.did i).runner) (w.0 ∙ (c.store_place.ensures.stays.1.0 ∙ (e.stays.1.0 ∙ (b.stays.1.0 ∙ a.stays.1.0)))) c.requires.1)
+pub returns-in-None-clause-ends : goal.returns-in-None-clause-ends
+returns-in-None-clause-ends g c = let end = c.args.end.now in let a = c.load-head.ensures in let b = c.load-tail.ensures in let e = c.exchange_head-found.ensures in let h = e.hit c.if-found-head.false in let r = c.store_place.ensures.raised (run c.load-head.result c.args.note) (claimed_at _ _ _ _ h) in let w = c.in-None.ensures.notified in let then : Did → Did = λ d. d in let d = chained _ _ _ _ _ _ _ c.args.note a.found b.found h r _ _ w.2.1.0 then w.2.1.1 c.if-head-ge-POSITIONS.false (omega (arith, c.if-head-tail.false)) in let s = chained_seen _ _ _ _ _ _ _ c.args.note a.found b.found h r _ _ w.2.1.0 then w.2.1.1 in let x = c.store_place.ensures.stays.0 in let y = c.swap_more.ensures.stays.0 in let pact = c.args.self.now.table.shared.key.pact in
+    (y.0 ∙ (x.0 ∙ (e.stays.0.0 ∙ (b.stays.0.0 ∙ (a.stays.0.0 ∙ c.requires.0)))), slot_on (makes g.Q.Quaject.made_by pact) (suits g.Q.Quaject.fits pact) end.seat.me.0 c.swap_more.new.seat.me.0 _ _ (seen_notes _ _ s (told_behind _ end.told)) (λ i. (d.1.did i).runner) (w.1 ∙ (c.store_place.ensures.stays.1.0 ∙ (e.stays.1.0 ∙ (b.stays.1.0 ∙ a.stays.1.0)))) c.requires.1)
 
-pub returns-clause-same : goal.returns-clause-same
-returns-clause-same g c = let end = c.args.end.now in let a = c.load-head.ensures in let b = c.load-tail.ensures in let e = c.exchange_head-found.ensures in let h = e.hit c.if-found-head.false in let r = c.store_place.ensures.raised (run c.load-head.result c.args.note) (claimed_at _ _ _ _ h) in let w = c.swap_more.ensures.lost c.if-swap_more-eq-IDLE.false in let then : Did → Did = λ d. d in let s = chained_seen _ _ _ _ _ _ _ c.args.note a.found b.found h r _ _ w.1.1.0 then w.1.1.1 in let x = c.store_place.ensures.stays.0 in let y = c.swap_more.ensures.stays.0 in
+pub returns-in-None-clause-same : goal.returns-in-None-clause-same
+returns-in-None-clause-same g c = let end = c.args.end.now in let a = c.load-head.ensures in let b = c.load-tail.ensures in let e = c.exchange_head-found.ensures in let h = e.hit c.if-found-head.false in let r = c.store_place.ensures.raised (run c.load-head.result c.args.note) (claimed_at _ _ _ _ h) in let w = c.in-None.ensures.notified in let then : Did → Did = λ d. d in let s = chained_seen _ _ _ _ _ _ _ c.args.note a.found b.found h r _ _ w.2.1.0 then w.2.1.1 in let x = c.store_place.ensures.stays.0 in let y = c.swap_more.ensures.stays.0 in
     ((y.0 ∙ (x.0 ∙ (e.stays.0.0 ∙ (b.stays.0.0 ∙ a.stays.0.0))), y.1 ∙ (x.1 ∙ (e.stays.0.1 ∙ (b.stays.0.1 ∙ a.stays.0.1)))), s.taken)

@@ -6,6 +6,7 @@ ghost use Rattle.std.specs.List.{AllByRecursion, slice_get};
 ghost use Rattle.boot_data.specs.Hearing.{bytes_of, nothing_heard, IsPlace, heard_at, named_line};
 
 use crate::fixed::Name;
+use crate::fixed_list::FixedList;
 use event_theory::OutOfMemory;
 use std::alloc::Global;
 use std::marker::Model;
@@ -20,11 +21,12 @@ struct Mark {
 }
 
 /// The lines that one processor heard, in the order in which it heard them, with room for so many, and for so many bytes
-/// of each. Contracts see the lines, how many there is room for, and how long the longest may be.
+/// of each. That room is taken when it is made, and never grows. Contracts see the lines, how many there is room for, and
+/// how long the longest may be.
 #[derive(Drop)]
 pub struct HeardLines {
-    marks: Vec<Mark>,
-    bytes: Vec<u8>,
+    marks: FixedList<Mark>,
+    bytes: FixedList<u8>,
     room: usize,
     longest: usize,
 }
@@ -47,18 +49,18 @@ pub struct HeardReport {
 }
 
 impl Model for HeardLines {
-    ghost use Rattle.std.specs.Prelude.{map, vec_capacity, length, ◌≤◌, ◌*◌};
+    ghost use Rattle.std.specs.Prelude.{map, vec_capacity, length, ◌≡◌, ◌≤◌, ◌*◌};
     ghost use Rattle.std.specs.List.{AllByRecursion};
     ghost use Rattle.boot_data.specs.Hearing.{Heard};
     ghost use Rattle.boot_data.specs.Stores.{line_in, IsWithin};
 
     ghost Value = { Heard };
 
-    ghost view = { λ h. record { lines = map (line_in h.bytes.items) h.marks.items; room = h.room; longest = h.longest } };
+    ghost view = { λ h. record { lines = map (line_in h.bytes.list.items) h.marks.list.items; room = h.room; longest = h.longest } };
 
-    ghost invariant = { λ h. (h.room ≤ vec_capacity h.marks) × (h.longest * h.room ≤ vec_capacity h.bytes)
-        × (length h.marks.items ≤ h.room) × (length h.bytes.items ≤ h.longest * length h.marks.items)
-        × AllByRecursion (IsWithin (length h.bytes.items)) h.marks.items };
+    ghost invariant = { λ h. (vec_capacity h.marks.list ≡ h.room) × (vec_capacity h.bytes.list ≡ h.longest * h.room)
+        × (length h.marks.list.items ≤ h.room) × (length h.bytes.list.items ≤ h.longest * length h.marks.list.items)
+        × AllByRecursion (IsWithin (length h.bytes.list.items)) h.marks.list.items };
 }
 
 impl HeardLines {
@@ -67,8 +69,8 @@ impl HeardLines {
         ensures { result ≡ nothing_heard }
     {
         HeardLines {
-            marks: Vec::new(alloc),
-            bytes: Vec::new(alloc),
+            marks: FixedList::new(alloc),
+            bytes: FixedList::new(alloc),
             room: 0,
             longest: 0,
         }
@@ -81,8 +83,8 @@ impl HeardLines {
         requires longest { longest ≤ 256 }
         ensures { IfOk result (λ h. (h.lines ≡ []) × (h.room ≡ lines) × (h.longest ≡ longest)) }
     {
-        let marks = Vec::with_capacity(alloc, lines)?;
-        let bytes = Vec::with_capacity(alloc, longest * lines)?;
+        let marks = FixedList::with_room(alloc, lines)?;
+        let bytes = FixedList::with_room(alloc, longest * lines)?;
         Ok(HeardLines {
             marks,
             bytes,
@@ -110,9 +112,9 @@ impl HeardLines {
     {
         let begin = self.bytes.len();
         for item in items {
-            self.bytes.push_reserved((*item % 256) as u8);
+            self.bytes.push((*item % 256) as u8);
         }
-        self.marks.push_reserved(Mark {
+        self.marks.push(Mark {
             thread,
             step,
             begin,
@@ -125,7 +127,7 @@ impl HeardLines {
         requires { number < length self.now.lines }
         ensures { IfSome (slice_get self.now.lines number) (λ line. line.0 ≡ (result.0, result.1)) }
     {
-        let mark = self.marks[number];
+        let mark = self.marks.as_slice()[number];
         (mark.thread, mark.step)
     }
 
@@ -134,8 +136,8 @@ impl HeardLines {
         requires { number < length self.now.lines }
         ensures { IfSome (slice_get self.now.lines number) (λ line. result.now ≡ line.1) }
     {
-        let mark = self.marks[number];
-        &self.bytes[mark.begin..mark.end]
+        let mark = self.marks.as_slice()[number];
+        &self.bytes.as_slice()[mark.begin..mark.end]
     }
 }
 

@@ -6,6 +6,7 @@
 
 mod boot_plan;
 mod fixed;
+mod fixed_list;
 mod heard;
 mod kind;
 pub mod plan;

@@ -2,8 +2,10 @@
 pub mod Acting
 pub mod Betweens
 pub mod Courses
+pub mod Falling
 pub mod JoinEvents
 pub mod ListedEvents
+pub mod Marks
 pub mod Once
 pub mod Orders
 pub mod Schedules

@@ -19,3 +19,4 @@ pub mod Between
 pub mod Closings
 pub mod Laid
 pub mod Makers
+pub mod Notifies

@@ -7,6 +7,7 @@ ghost use Rattle.event_theory.specs.Elements.{Thread};
 ghost use Rattle.event_theory.specs.Queues.{left};
 ghost use Rattle.event_theory.specs.States.{step};
 ghost use Rattle.event_theory.specs.declared.event.Event.{Event};
+ghost use Rattle.event_theory.specs.declared.event.Event.TheVariants as events;
 ghost use Rattle.table_theory.specs.Ends.{Begins};
 ghost use Rattle.thread_table.specs.declared.hand.Hand.{Hand};
 ghost use Rattle.thread_table.specs.declared.layout.TheConstants.{PROCESSORS, ELEMENTS, RINGS, PLACES, WAITS, STOP};
@@ -41,6 +42,7 @@ ghost use Rattle.thread_table.specs.Endings.{TookIn};
 ghost use Rattle.thread_table.specs.Answers.{TakeAnswer, MoveAnswer, WaitAnswer, IsTicket, StoppedNow, StartAnswer};
 ghost use Rattle.thread_table.specs.Answers.{ParkAnswer, SignalAnswer, DeliverAnswer, ReadPc, DoneAnswer, is_in};
 ghost use Rattle.thread_table.specs.Answers.{head_in, mark_in};
+ghost use Rattle.thread_table.specs.Notifies.{notifies_in, head_seen, tail_seen};
 ghost use Rattle.thread_table.specs.Wakes.{WokeAll, NotifiedNow, BeforeAnswer};
 ghost use Rattle.thread_table.specs.Keeping.{Keeps, Stays};
 
@@ -150,6 +152,46 @@ pub fn takings_say()
         → (ring_at (elements_after q.object) ring).raised (ring_at (elements_after q.object) ring).taken 0 ≡ false }
     ensures found { (first word found : ℕ) (past : Past) (event : Event)
         → IsReal first (change word found past event) → IsReal first (load word found past) }
+{}
+
+/// The places of waits against what notifies of their queue find, whoever makes them. A place that was claimed by a wait
+/// before a notify is below the head that the notify found; one that was claimed after it is at that head or past it. And
+/// where the same number of notifies was found at two steps, with fewer than 2^32 notifies between them, there was none.
+pub fn waits_stand_by_notifies()
+    ensures before { (first wait element ticket call other word found : ℕ) (p q : Past) → wait < WAITS
+        → IsReal first (change (head_word (wait_ring wait)) word p (events.WaitAt call wait element ticket))
+        → IsReal first (change (head_word (wait_ring wait)) found q (events.NotifyWait other wait))
+        → Begins (p.object ++ events.WaitAt call wait element ticket ∷ []) q.object
+        → head_in word < head_in found }
+    ensures after { (first wait element ticket call other word found : ℕ) (p q : Past) → wait < WAITS
+        → IsReal first (change (head_word (wait_ring wait)) word p (events.WaitAt call wait element ticket))
+        → IsReal first (change (head_word (wait_ring wait)) found q (events.NotifyWait other wait))
+        → Begins (q.object ++ events.NotifyWait other wait ∷ []) p.object
+        → head_in found ≤ head_in word }
+    ensures none_between { (first wait : ℕ) (e f : Step) (rest : List Event) → wait < WAITS
+        → e.word ≡ head_word (wait_ring wait) → f.word ≡ head_word (wait_ring wait) → IsReal first e → IsReal first f
+        → e.then.object ++ rest ≡ f.then.object → mark_in e.found ≡ mark_in f.found
+        → notifies_in wait rest < NOTIFY → notifies_in wait rest ≡ 0 }
+{}
+
+/// No head or tail of an element queue that a call has found is below one that its hand had seen: a number that an entry
+/// found is no less than what the hand had seen before the call, no less than what an earlier entry of the call found in
+/// the same word, and no more than what the hand sees then.
+pub fn never_below()
+    ensures head { (old new : Hand) (before rest : List Step) (e : Step) (ring : ℕ) → ring < RINGS
+        → Adds (view_of old) (before ++ e ∷ rest) (view_of new) → e.word ≡ head_word ring
+        → (head_seen (view_of new).own.first (view_of old) ring ≤ head_in e.found)
+        × (head_in e.found ≤ head_seen (view_of new).own.first (view_of new) ring) }
+    ensures heads { (old new : Hand) (before between rest : List Step) (e f : Step) (ring : ℕ) → ring < RINGS
+        → Adds (view_of old) (before ++ e ∷ (between ++ f ∷ rest)) (view_of new) → e.word ≡ head_word ring
+        → f.word ≡ head_word ring → head_in e.found ≤ head_in f.found }
+    ensures tail { (old new : Hand) (before rest : List Step) (e : Step) (ring : ℕ) → ring < RINGS
+        → Adds (view_of old) (before ++ e ∷ rest) (view_of new) → e.word ≡ tail_word ring
+        → (tail_seen (view_of new).own.first (view_of old) ring ≤ e.found)
+        × (e.found ≤ tail_seen (view_of new).own.first (view_of new) ring) }
+    ensures tails { (old new : Hand) (before between rest : List Step) (e f : Step) (ring : ℕ) → ring < RINGS
+        → Adds (view_of old) (before ++ e ∷ (between ++ f ∷ rest)) (view_of new) → e.word ≡ tail_word ring
+        → f.word ≡ tail_word ring → e.found ≤ f.found }
 {}
 
 /// Each change that an answer lists is the event of the core that it names, which was allowed there.

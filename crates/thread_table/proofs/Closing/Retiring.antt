@@ -20,28 +20,28 @@ use Rattle.thread_table.specs.Retiring.{AreRetired}
 use Rattle.thread_table.proofs.Schedule.Schedules.{elements_of}
 
 -- what the runs of a queue put there, and how many items were taken
-abbrev queue_told : Queue → List (List ℕ) × ℕ
+abbrev pub queue_told : Queue → List (List ℕ) × ℕ
 queue_told q = (map items_of q.history, q.taken)
 
 -- those of the free elements' queue
 abbrev told : List Queue → List (List ℕ) × ℕ
 told rings = queue_told (get_or rings 1 (empty_queue PLACES))
 
-abbrev with_more : List (List ℕ) → ℕ → List (List ℕ) × ℕ → List (List ℕ) × ℕ
+abbrev pub with_more : List (List ℕ) → ℕ → List (List ℕ) × ℕ → List (List ℕ) × ℕ
 with_more more n t = (t.0 ++ more, t.1 + n)
 
 -- what comes of it, if it goes, is so
-abbrev Gives : {A : Type 0} → (A → Type 0) → Result A Refusal → Type 0
+abbrev pub Gives : {A : Type 0} → (A → Type 0) → Result A Refusal → Type 0
 Gives {A} P said = (t : A) → said ≡ Ok t → P t
 
 module _ {B : Type 0} (P : B → Type 0) where
-  then_gives : {A : Type 0} (said : Result A Refusal) (f : A → Result B Refusal) → ((x : A) → said ≡ Ok x → Gives P (f x)) → Gives P (said >>= f)
+  pub then_gives : {A : Type 0} (said : Result A Refusal) (f : A → Result B Refusal) → ((x : A) → said ≡ Ok x → Gives P (f x)) → Gives P (said >>= f)
   then_gives said f each t ok = let a = then_ok said f t ok in each a.0 a.1 t a.2
 
-  test_gives : (test : Bool) (e : Refusal) (said : Result B Refusal) → Gives P said → Gives P (if test then Err e else said)
+  pub test_gives : (test : Bool) (e : Refusal) (said : Result B Refusal) → Gives P said → Gives P (if test then Err e else said)
   test_gives test e said gives t ok = gives t (test_ok test e said t ok).1
 
-  ok_gives : (x : B) → P x → Gives P (Ok x)
+  pub ok_gives : (x : B) → P x → Gives P (Ok x)
   ok_gives x is t ok = subst P (given_ok x t ok) is
 
 -- an event of the elements adds so much to it, and takes so many
@@ -61,12 +61,13 @@ abbrev Stays : Elements → Elements → Type 0
 Stays s t = told t.rings ≡ with_more [] 0 (told s.rings)
 
 -- one queue has so many more runs, and more taken
-record Changes (more : List (List ℕ)) (n ring : ℕ) (s t : Elements) : Type 0 where
-  old : Queue
-  new : Queue
-  there : slice_get s.rings ring ≡ Some old
-  is : queue_told new ≡ with_more more n (queue_told old)
-  rings : t.rings ≡ set s.rings ring new
+pub record Changes (more : List (List ℕ)) (n ring : ℕ) (s t : Elements) : Type 0 where
+  pub old : Queue
+  pub new : Queue
+  pub there : slice_get s.rings ring ≡ Some old
+  pub is : queue_told new ≡ with_more more n (queue_told old)
+  pub rings : t.rings ≡ set s.rings ring new
+  pub notified : t.notified ≡ s.notified
 
 -- so it is of the free elements, where the queue is theirs, and else theirs stays
 of_free : {more : List (List ℕ)} {n : ℕ} {s t : Elements} → Changes more n 1 s t → told t.rings ≡ with_more more n (told s.rings)
@@ -77,34 +78,35 @@ of_other : {more : List (List ℕ)} {n ring : ℕ} {s t : Elements} → ring ≢
 of_other {more} {n} {ring} {s} {t} ne c = ap told c.rings ∙ (ap queue_told (get_or-set_other s.rings ring 1 c.new (empty_queue PLACES) (λ z. ne (sym z))) ∙ none_more (told s.rings))
 
 -- where a run is claimed
-claimed : (ring call : ℕ) (items : List ℕ) (s t : Elements) → change_at ring (claim 1 call items) s.rings ≡ Ok t.rings → Changes (items ∷ []) 0 ring s t
-claimed ring call items s t ok = let d = change_ok ring (claim 1 call items) s.rings t.rings ok in let e : d.0.taken ≡ d.0.taken + 0 = omega arith in record {
+claimed : (ring call : ℕ) (items : List ℕ) (s t : Elements) → change_at ring (claim 1 call items) s.rings ≡ Ok t.rings → t.notified ≡ s.notified → Changes (items ∷ []) 0 ring s t
+claimed ring call items s t ok same = let d = change_ok ring (claim 1 call items) s.rings t.rings ok in let e : d.0.taken ≡ d.0.taken + 0 = omega arith in record {
   old = d.0;
   new = d.1;
   there = d.2;
   is = ap queue_told (claim_ok 1 call items d.0 d.1 d.3) ∙ (λ i. (map-append items_of d.0.history (record { call = call; items = items } ∷ []) i, e i));
   rings = d.4;
+  notified = same;
 }
 
-claim_changes : (ring call : ℕ) (items : List ℕ) (s : Elements) → Gives (Changes (items ∷ []) 0 ring s) (claim_element ring call items s)
+pub claim_changes : (ring call : ℕ) (items : List ℕ) (s : Elements) → Gives (Changes (items ∷ []) 0 ring s) (claim_element ring call items s)
 claim_changes ring call items s = let P : Elements → Type 0 = Changes (items ∷ []) 0 ring s in
-    test_gives P _ _ _ (then_gives P (change_at ring (claim 1 call items) s.rings) _ (λ rings is. then_gives P (let_all_go call items s.held) _ (λ held _. ok_gives P _ (claimed ring call items s _ is))))
+    test_gives P _ _ _ (then_gives P (change_at ring (claim 1 call items) s.rings) _ (λ rings is. then_gives P (let_all_go call items s.held) _ (λ held _. ok_gives P _ (claimed ring call items s _ is refl))))
 
-wait_changes : (call wait element ticket : ℕ) (s : Elements) → Gives (Changes ((element ∷ []) ∷ []) 0 (wait_ring wait) s) (wait_at call wait element ticket s)
+pub wait_changes : (call wait element ticket : ℕ) (s : Elements) → Gives (Changes ((element ∷ []) ∷ []) 0 (wait_ring wait) s) (wait_at call wait element ticket s)
 wait_changes call wait element ticket s = let P : Elements → Type 0 = Changes ((element ∷ []) ∷ []) 0 (wait_ring wait) s in
     then_gives P (at element s.threads) _ (λ thread _. then_gives P (at wait s.notified) _ (λ count _. then_gives P (let_go call element s.held) _ (λ held _.
-    test_gives P _ _ _ (then_gives P (change_at (wait_ring wait) (claim 1 call (element ∷ [])) s.rings) _ (λ rings is. ok_gives P _ (claimed (wait_ring wait) call (element ∷ []) s _ is))))))
+    test_gives P _ _ _ (then_gives P (change_at (wait_ring wait) (claim 1 call (element ∷ [])) s.rings) _ (λ rings is. ok_gives P _ (claimed (wait_ring wait) call (element ∷ []) s _ is refl))))))
 
-take_changes : (ring call count : ℕ) (s : Elements) → Gives (Changes [] 1 ring s) (take_element ring call count s)
+pub take_changes : (ring call count : ℕ) (s : Elements) → Gives (Changes [] 1 ring s) (take_element ring call count s)
 take_changes ring call count s = let P : Elements → Type 0 = Changes [] 1 ring s in then_gives P (at ring s.rings) _ (λ old there. then_gives P (take_first 1 count old) _ (λ new is.
     let o = take_ok 1 count old new is in let some = o.1 in let most = o.2 in
     let one : new.taken ≡ old.taken + 1 = ap (λ (q : Queue). q.taken) o.0 ∙ omega arith in
     let runs : map items_of new.history ≡ map items_of old.history ++ [] = ap (λ (q : Queue). map items_of q.history) o.0 ∙ sym (append-nil (map items_of old.history)) in
-    ok_gives P _ record { old = old; new = new; there = some_ok (slice_get s.rings ring) UnknownName old there; is = λ i. (runs i, one i); rings = refl }))
+    ok_gives P _ record { old = old; new = new; there = some_ok (slice_get s.rings ring) UnknownName old there; is = λ i. (runs i, one i); rings = refl; notified = refl }))
 
-raise_changes : (ring call run index : ℕ) (s : Elements) → Gives (Changes [] 0 ring s) (raise_element ring call run index s)
+pub raise_changes : (ring call run index : ℕ) (s : Elements) → Gives (Changes [] 0 ring s) (raise_element ring call run index s)
 raise_changes ring call run index s = let P : Elements → Type 0 = Changes [] 0 ring s in then_gives P (change_at ring (raise call run index) s.rings) _ (λ rings ok. let d = change_ok ring (raise call run index) s.rings rings ok in
-    ok_gives P _ record { old = d.0; new = d.1; there = d.2; is = ap queue_told (raise_ok call run index d.0 d.1 d.3).is ∙ none_more (queue_told d.0); rings = d.4 })
+    ok_gives P _ record { old = d.0; new = d.1; there = d.2; is = ap queue_told (raise_ok call run index d.0 d.1 d.3).is ∙ none_more (queue_told d.0); rings = d.4; notified = refl })
 
 -- an event that changes one other part
 part_adds : {A : Type 0} (said : Elements → Result A Refusal) (f : Elements → A → Elements) → ((s : Elements) (x : A) → (f s x).rings ≡ s.rings) → Adds [] 0 (λ s. said s >>= λ x. Ok (f s x))

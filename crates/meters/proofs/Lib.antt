@@ -5,6 +5,7 @@ pub mod Lawful
 pub mod Showing
 pub mod Listed
 pub mod Stepping
+pub mod Falling
 pub mod Finding
 pub mod Following
 pub mod Lone

@@ -1,6 +1,6 @@
 //! What an end lists is true, and each change is an event of the core: statements over plain data.
 
-ghost use Rattle.std.specs.Prelude.{◌≡◌, ◌≢◌, ◌+◌, ◌^◌, ◌<◌, ◌≤◌, ◌⊎◌, ℕ, List, Some, None, Ok, slice_index_or};
+ghost use Rattle.std.specs.Prelude.{◌≡◌, ◌≢◌, ◌+◌, ◌^◌, ◌<◌, ◌≤◌, ◌∷◌, ◌++◌, ◌⊎◌, ℕ, List, Some, None, Ok, slice_index_or};
 ghost use Rattle.std.specs.List.{AllByRecursion};
 ghost use Rattle.event_theory.specs.declared.alarm.Alarm.{Alarm};
 ghost use Rattle.event_theory.specs.Meters.{tick, advance, fire, cancel};
@@ -74,6 +74,18 @@ pub fn numbers_say()
         → 0 < e.found → in_slot e.then.object slot ≡ Some (alarm_in e.found) }
     ensures other { (e : Step Reading) (slot : ℕ) (alarm : Alarm) → slot < SLOTS → e.word ≡ slot_word slot
         → IsReal of_meters e → e.found ≢ word_of (Some alarm) → in_slot e.then.object slot ≢ Some alarm }
+{}
+
+/// No clock that a call has found is below one that its end had seen: a clock that an entry found is no less than what the
+/// end had seen before the call, no less than what an earlier entry of the call found, and no more than what the end sees
+/// then.
+pub fn never_below()
+    ensures clock { (old new : MeterSeat) (before after : List (Step Reading)) (e : Step Reading)
+        → Adds (view_of old) (before ++ e ∷ after) (view_of new) → e.word ≡ clock_word
+        → ((view_of old).seen.object.clock ≤ e.found) × (e.found ≤ (view_of new).seen.object.clock) }
+    ensures clocks { (old new : MeterSeat) (before between after : List (Step Reading)) (e f : Step Reading)
+        → Adds (view_of old) (before ++ e ∷ (between ++ f ∷ after)) (view_of new)
+        → e.word ≡ clock_word → f.word ≡ clock_word → e.found ≤ f.found }
 {}
 
 /// Each change that an answer lists is the event of the core that its name says.

@@ -15,7 +15,7 @@ use Rattle.table_theory.proofs.Tables as tables
 use Rattle.table_theory.proofs.Positioned.{claim_old, claim_new, write_here, write_else}
 use Rattle.table_theory.proofs.Listing.{Own, own, listed_look, listed_claim, listed_write, listed_take, distinct}
 use Rattle.table_theory.proofs.Windows.{window_same, window_claim, window_write, window_take}
-use Rattle.proc_chain.specs.Layout.{gate_in}
+use Rattle.proc_chain.specs.Layout.{gate_in, IsUnused}
 use Rattle.proc_chain.specs.Changes as becomes
 use Rattle.proc_chain.specs.Steps.{raised_run, finds, claims, raises, spies, notifies, rounds, leaves}
 use Rattle.proc_chain.specs.Steps as tells
@@ -41,6 +41,10 @@ listed_part q views id v w l at runs taken sees = subst (ViewsShow q) (sym (map-
 none_other : (i j : ℕ) → (i ≡ ends_word) ⊎ (i ≡ gate_word) → (j ≡ head_word) ⊎ (j ≡ tail_word) ⊎ (FIRST_PLACE ≤ j) → i ≡ j → ⊥
 none_other i j at ne e = ⊎_elim (λ a. ⊎_elim (λ b. omega arith) (λ b. ⊎_elim (λ c. omega arith) (λ c. omega arith) b) ne) (λ a. ⊎_elim (λ b. omega arith) (λ b. ⊎_elim (λ c. omega arith) (λ c. omega arith) b) ne) at
 
+-- a word between those used stays as it was, whichever of these changes
+unused_else : (words : List ℕ) (i y j : ℕ) → (i ≡ head_word) ⊎ (i ≡ ends_word) ⊎ (i ≡ tail_word) ⊎ (i ≡ gate_word) ⊎ (FIRST_PLACE ≤ i) → IsUnused j → get_or (set words i y) j 0 ≡ get_or words j 0
+unused_else words i y j at u = let from = u.0 in let to = u.1 in get_or-set_other words i j y 0 (λ e. ⊎_elim (λ a. omega arith) (λ b. ⊎_elim (λ a. omega arith) (λ c. ⊎_elim (λ a. u.2 (e ∙ a)) (λ d. ⊎_elim (λ a. u.3 (e ∙ a)) (λ a. omega arith) d) c) b) at)
+
 -- a word that is none of the queue's
 pub shows_else : (q : Positions) (words : List ℕ) (i y : ℕ) → (i ≡ ends_word) ⊎ (i ≡ gate_word) → WordsShow q words → WordsShow q (set words i y)
 shows_else q words i y at h = let other : (j : ℕ) → (j ≡ head_word) ⊎ (j ≡ tail_word) ⊎ (FIRST_PLACE ≤ j) → get_or (set words i y) j 0 ≡ get_or words j 0 = λ j ne. get_or-set_other words i j y 0 (λ e. none_other i j at ne (sym e)) in record {
@@ -52,6 +56,7 @@ shows_else q words i y at h = let other : (j : ℕ) → (j ≡ head_word) ⊎ (j
   tail = other tail_word (inr (inl refl)) ∙ h.tail;
   window = window_same q (mark_in words) (note_in words) (mark_in (set words i y)) (note_in (set words i y)) h.window
       (λ k b. ap (λ (z : ℕ). z / 65536) (other (k + FIRST_PLACE) (inr (inr (omega arith))))) (λ k b. ap (λ (z : ℕ). z % 65536) (other (k + FIRST_PLACE) (inr (inr (omega arith)))));
+  unused = λ j u. unused_else words i y j (⊎_elim (λ e. inr (inl e)) (λ e. inr (inr (inr (inl e)))) at) u ∙ h.unused j u;
 }
 
 shows_gate : (q : Positions) (words : List ℕ) (y : ℕ) → WordsShow q words → WordsShow q (set words gate_word y)
@@ -67,6 +72,7 @@ shows_claim q words x new h is fits = let wide = h.wide in let long = length-app
   tail = get_or-set_other words head_word tail_word new 0 (λ e. omega arith) ∙ h.tail;
   window = window_same (with_claim q (x ∷ [])) (mark_in words) (note_in words) (mark_in (set words head_word new)) (note_in (set words head_word new)) (window_claim q (x ∷ []) (mark_in words) (note_in words) h.window)
       (λ k b. ap (λ (z : ℕ). z / 65536) (get_or-set_other words head_word (k + FIRST_PLACE) new 0 (λ e. omega arith))) (λ k b. ap (λ (z : ℕ). z % 65536) (get_or-set_other words head_word (k + FIRST_PLACE) new 0 (λ e. omega arith)));
+  unused = λ j u. unused_else words head_word new j (inl refl) u ∙ h.unused j u;
 }
 
 shows_take : (q : Positions) (words : List ℕ) (new : ℕ) → WordsShow q words → Lawful q → q.taken + 1 ≤ length q.places → new ≡ tail_of q + 1 → WordsShow (with_take q 1) (set words tail_word new)
@@ -79,6 +85,7 @@ shows_take q words new h l below is = let wide = h.wide in record {
   tail = get_or-set_same words tail_word new 0 (omega arith) ∙ (omega arith);
   window = window_same (with_take q 1) (mark_in words) (note_in words) (mark_in (set words tail_word new)) (note_in (set words tail_word new)) (window_take q 1 (mark_in words) (note_in words) h.window l below)
       (λ k b. ap (λ (z : ℕ). z / 65536) (get_or-set_other words tail_word (k + FIRST_PLACE) new 0 (λ e. omega arith))) (λ k b. ap (λ (z : ℕ). z % 65536) (get_or-set_other words tail_word (k + FIRST_PLACE) new 0 (λ e. omega arith)));
+  unused = λ j u. unused_else words tail_word new j (inr (inr (inl refl))) u ∙ h.unused j u;
 }
 
 -- the stored number tells which run was raised, and with what
@@ -211,6 +218,7 @@ module _ {Q W : Type 0} (made : W → Q → List ℕ → Type 0) (fits : W → Q
         window = window_write q p 2 (mark_in s.words) (note_in s.words) (mark_in words') (note_in words') h.window mine.from mine.to
             (λ j c ne. ap (λ (z : ℕ). z / 65536) (other (j + FIRST_PLACE) (λ z. ne (omega arith)))) (λ j c ne. ap (λ (z : ℕ). z % 65536) (other (j + FIRST_PLACE) (λ z. ne (omega arith))))
             record { low = λ h. absurd (omega arith); up = λ h. ap (λ (z : ℕ). z / 65536) stored ∙ (flag_is ∙ ap (λ (z : ℕ). z + 1) same_pos); holds = λ h. ap (λ (z : ℕ). z % 65536) stored ∙ (sym item ∙ sym (ap (λ (z : Cell). z.item) now)) };
+        unused = λ j z. unused_else s.words u x j (inr (inr (inr (inr (omega arith))))) z ∙ h.unused j z;
       }) in
       let listed' : ViewsShow q'' (map part_of (set s.views id w)) = subst (ViewsShow q'') (sym (map-set part_of s.views id w)) (listed_write q (map part_of s.views) id m 0 2 p (part_of v) (part_of w) e k.listed (at_map part_of s.views id v at) has below mine.start mine.from (omega arith) refl refl later) in
       let gate' : GateShows q'' o.gate (set s.views id w) = gated_same q q'' o.gate s.views id v w k.gate at refl refl (λ _. ap (λ (z : GatedQueue). z.queue.taken) is_write) (λ _. refl) (λ h. inl h) settled in

@@ -1,6 +1,6 @@
 -- The steps that make, split, join and count ends keep the rule.
 use Rattle.proc_chain.specs.Layout.{width}
-use Rattle.proc_chain.proofs.Common.{◌≡◌, ℕ, ◌+◌, ◌-◌, ◌<◌, ◌≤◌, ◌%◌, inl, ⊎_elim, Bool, true, false, ◌||◌, ◌&&◌, List, [], ◌∷◌, ◌++◌, map, get_or, set, sym, refl, ap, ◌∙◌, subst, arith, true≢false, map-set, map-append, some, none, some-ne-none, get_elem?, State, Me, step, Allows, Splits, Joins, at_map, set_here, set_else, Positions, QueueView, rest_of, newborn, both, emptied, ViewsShow, Grows, spot, listed_new, listed_join, at_push, at_below, grows_refl, GatedQueue, Shape, note_in, mark_in, Shows, first_queue, IsLawful, View, nothing_did, did_both, of_chains, part_of, AreShown, Rule, IsTold, view_from, head_word, tail_word, ends_word, FIRST_PLACE}
+use Rattle.proc_chain.proofs.Common.{◌≡◌, ◌≢◌, ℕ, ◌+◌, ◌-◌, ◌<◌, ◌≤◌, ◌%◌, inl, ⊎_elim, Bool, true, false, ◌||◌, ◌&&◌, List, [], ◌∷◌, ◌++◌, map, get_or, set, sym, refl, ap, ◌∙◌, subst, arith, true≢false, map-set, map-append, some, none, some-ne-none, get_elem?, State, Me, step, Allows, Splits, Joins, at_map, set_here, set_else, Positions, QueueView, rest_of, newborn, both, emptied, ViewsShow, Grows, spot, listed_new, listed_join, at_push, at_below, grows_refl, GatedQueue, Shape, note_in, mark_in, Shows, first_queue, IsLawful, View, nothing_did, did_both, of_chains, part_of, AreShown, Rule, IsTold, view_from, head_word, tail_word, ends_word, FIRST_PLACE}
 use Rattle.std.proofs.Common.{replicate, get_or-set_other}
 use Rattle.std.proofs.lemmas.List.{get_or-replicate}
 use Rattle.atomic_table.specs.Table.{opening}
@@ -24,10 +24,10 @@ undoubled_new views w old own j u has = ⊎_elim (λ t. old j u t) (λ t. ap (λ
 none_doubled : (a b c d : Bool) → a ≡ false → b ≡ false → d ≡ false → (a || b || (c && d)) ≡ false
 none_doubled a b c d x y z = (λ i. x i || y i || (c && z i)) ∙ and_false c
 
--- a word of the places is nothing at first
-zeros : (f j : ℕ) → FIRST_PLACE ≤ j → j < width → get_or (set (set (set (replicate width 0) head_word f) tail_word f) ends_word 1) j 0 ≡ 0
-zeros f j from to = let zs : List ℕ = replicate width 0 in let a : List ℕ = set zs head_word f in
-    get_or-set_other (set a tail_word f) ends_word j 1 0 (λ e. omega arith) ∙ (get_or-set_other a tail_word j f 0 (λ e. omega arith) ∙ (get_or-set_other zs head_word j f 0 (λ e. omega arith) ∙ get_or-replicate width j 0 0 (omega arith)))
+-- a word is nothing at first that is none of these
+zeros : (f j : ℕ) → j ≢ head_word → j ≢ tail_word → j ≢ ends_word → j < width → get_or (set (set (set (replicate width 0) head_word f) tail_word f) ends_word 1) j 0 ≡ 0
+zeros f j a b c to = let zs : List ℕ = replicate width 0 in let hs : List ℕ = set zs head_word f in
+    get_or-set_other (set hs tail_word f) ends_word j 1 0 c ∙ (get_or-set_other hs tail_word j f 0 b ∙ (get_or-set_other zs head_word j f 0 a ∙ get_or-replicate width j 0 0 (omega arith)))
 
 -- the views after a split
 pub rest_shown : (o : GatedQueue) (views : List View) (id : ℕ) (v : View) → AreShown o views → get_elem? views id ≡ some v → AreShown o (set views id (rest_of v))
@@ -107,8 +107,8 @@ module _ {Q W : Type 0} (made : W → Q → List ℕ → Type 0) (fits : W → Q
   -- the table as it is made
   pub opens_new : (x : Q) (xs : List Q) → key.first < 4294967296 → xs ≡ x ∷ [] → made key.pact x [] → fits key.pact x → Rule made fits key (opening (set (set (set (replicate width 0) head_word key.first) tail_word key.first) ends_word 1) xs (newcomer key))
   opens_new x xs bounded is is_made is_fit = let first : ℕ = key.first in let words : List ℕ = set (set (set (replicate width 0) head_word first) tail_word first) ends_word 1 in let f : GatedQueue = first_queue first in let w : View = newcomer key in
-      let window : PlacesShow f.queue (mark_in words) (note_in words) = record { some_room = omega arith; each = λ i a b. record { low = λ _. (let z = zeros first (spot f.queue i + FIRST_PLACE) (omega arith) (omega arith) in omega arith); up = λ h. absurd (omega arith); holds = λ h. absurd (omega arith) } } in
-      let shows : Shows f words = (record { wide = refl; room = refl; is_open = refl; bounded = omega arith; head = omega arith; tail = omega arith; window = window }, refl) in record {
+      let window : PlacesShow f.queue (mark_in words) (note_in words) = record { some_room = omega arith; each = λ i a b. record { low = λ _. (let z = zeros first (spot f.queue i + FIRST_PLACE) (λ e. omega arith) (λ e. omega arith) (λ e. omega arith) (omega arith) in omega arith); up = λ h. absurd (omega arith); holds = λ h. absurd (omega arith) } } in
+      let shows : Shows f words = (record { wide = refl; room = refl; is_open = refl; bounded = omega arith; head = omega arith; tail = omega arith; window = window; unused = λ j u. (let from = u.0 in let to = u.1 in zeros first j (λ e. omega arith) u.2 (λ e. omega arith) (omega arith)) }, refl) in record {
         now = opened f;
         stands = stands_first of_chains nothing_did f words (first_lawful first) shows refl;
         first = refl;

@@ -1,6 +1,6 @@
 -- Where the words of a chain's table stand: head and number of ends, then tail, gate and the words of the places, each
 -- of them in cache lines of their own; and what the word of a place says.
-use Rattle.std.specs.Prelude.{ℕ, ◌+◌, ◌*◌, ◌/◌, ◌%◌, List, slice_index_or}
+use Rattle.std.specs.Prelude.{◌≢◌, ℕ, ◌+◌, ◌*◌, ◌/◌, ◌%◌, ◌<◌, List, slice_index_or}
 use Rattle.proc_chain.specs.declared.layout.TheConstants.{HEAD, TAIL, ENDS, GATE, FIRST_PLACE, PLACES, WORDS, NOTES}
 
 -- the number of the word that has the head
@@ -26,6 +26,10 @@ place_word position = position % PLACES + FIRST_PLACE
 -- how many words a chain has
 abbrev pub width : ℕ
 width = WORDS
+
+-- the word stands between those that are used: it keeps them 8 words apart
+abbrev pub IsUnused : ℕ → Type 0
+IsUnused word = (ends_word < word) × (word < FIRST_PLACE) × (word ≢ tail_word) × (word ≢ gate_word)
 
 -- what the word of a place has once the note is raised there
 abbrev pub raised_word : ℕ → ℕ → ℕ

@@ -6,9 +6,9 @@ use Rattle.table_theory.specs.Positioned.{head_of, tail_of, item_of}
 use Rattle.table_theory.specs.Windows.{PlacesShow}
 use Rattle.proc_chain.specs.declared.rule.GatedQueue.{GatedQueue}
 use Rattle.proc_chain.specs.declared.layout.TheConstants.{PLACES}
-use Rattle.proc_chain.specs.Layout.{head_word, tail_word, width, note_in, mark_in, gate_in}
+use Rattle.proc_chain.specs.Layout.{head_word, tail_word, width, note_in, mark_in, gate_in, IsUnused}
 
--- the words show the queue's head and tail, and the places from the tail on
+-- the words show the queue's head and tail, and the places from the tail on; the words between those used are 0
 pub record WordsShow (q : Positions) (words : List ℕ) : Type 0 where
   pub wide : length words ≡ width
   pub room : q.room ≡ PLACES
@@ -17,6 +17,7 @@ pub record WordsShow (q : Positions) (words : List ℕ) : Type 0 where
   pub head : slice_index_or words head_word 0 ≡ head_of q
   pub tail : slice_index_or words tail_word 0 ≡ tail_of q
   pub window : PlacesShow q (mark_in words) (note_in words)
+  pub unused : (word : ℕ) → IsUnused word → slice_index_or words word 0 ≡ 0
 
 -- they show the queue, and the gate
 abbrev pub Shows : GatedQueue → List ℕ → Type 0

@@ -1,7 +1,7 @@
 //! What an end lists is true, and each change is an event of the core: statements over plain data.
 
 ghost use Rattle.std.specs.Prelude.{◌≡◌, ◌≢◌, ◌+◌, ◌-◌, ◌<◌, ◌≤◌, ◌⊎◌, ℕ, true, false, List, [], ◌∷◌, ◌++◌, length};
-ghost use Rattle.std.specs.Prelude.{slice_set};
+ghost use Rattle.std.specs.Prelude.{◌*◌, ◌/◌, ◌%◌, slice_set, slice_index_or};
 ghost use Rattle.std.specs.List.{AllByRecursion};
 ghost use mathlib.Core.Option.{some};
 ghost use lib.ListN.{get_elem?};
@@ -18,6 +18,7 @@ ghost use Rattle.proc_chain.specs.declared.chaining.ChainRefusal.TheVariants.{Fu
 ghost use Rattle.proc_chain.specs.declared.ends.ChainEnd.{ChainEnd};
 ghost use Rattle.proc_chain.specs.declared.layout.TheConstants.{PLACES, IDLE, RUNNING, MORE};
 ghost use Rattle.proc_chain.specs.declared.rule.GatedQueue.{GatedQueue};
+ghost use Rattle.proc_chain.specs.declared.serve.TheConstants.{MOST_RUN};
 ghost use Rattle.proc_chain.specs.Answers.{NotChained, with_turn};
 ghost use Rattle.proc_chain.specs.Chainings.{AreShown, IsChainEvent};
 ghost use Rattle.proc_chain.specs.Changes.{IsLawful, IsPlace, Becomes, taking};
@@ -25,10 +26,28 @@ ghost use Rattle.proc_chain.specs.Changes.{with_note, with_raise, with_taken, wi
 ghost use Rattle.proc_chain.specs.Endings.{TookIn};
 ghost use Rattle.proc_chain.specs.Handles.{view_of, IsOnlyEnd};
 ghost use Rattle.proc_chain.specs.Layout.{head_word, tail_word, ends_word, gate_word, place_word, note_of, mark_of};
+ghost use Rattle.proc_chain.specs.Layout.{raised_word, width};
 ghost use Rattle.proc_chain.specs.Own.{View, of_chains, queue_of};
+ghost use Rattle.proc_chain.specs.Shown.{Shows};
 ghost use Rattle.proc_chain.specs.Steps.{run};
 
 use crate::quaject::Quaject;
+
+/// The numbers of a chain: where its words stand, 8 words apart where different threads write them, how many places it
+/// has, what the numbers of the gate and of a place's word mean, and how many notes and failed leaves one serving of
+/// `serve_all` uses at most. The words in between are 0.
+pub fn layout_is()
+    ensures words { (head_word ≡ 0) × (ends_word ≡ 1) × (tail_word ≡ 8) × (gate_word ≡ 16) × (width ≡ 56)
+        × ((position : ℕ) → place_word position ≡ position % 32 + 24) }
+    ensures places { (PLACES ≡ 32) × (POSITIONS ≡ 4294967296) × ((position note : ℕ)
+        → raised_word position note ≡ (position + 1) * 65536 + note) }
+    ensures place { (word : ℕ) → (mark_of word ≡ word / 65536) × (note_of word ≡ word % 65536) }
+    ensures gates { (IDLE ≡ 0) × (RUNNING ≡ 1) × (MORE ≡ 2) }
+    ensures serving { MOST_RUN ≡ 4294967295 }
+    ensures shown { (o : GatedQueue) (words : List ℕ) → Shows o words → (length words ≡ 56) × (o.queue.room ≡ 32) }
+    ensures unused { (o : GatedQueue) (words : List ℕ) (word : ℕ) → Shows o words → 1 < word → word < 24 → word ≢ 8
+        → word ≢ 16 → slice_index_or words word 0 ≡ 0 }
+{}
 
 /// What an end lists is true: each entry that a call adds is a real step. It found a lawful queue and a gate that the
 /// words showed, and the number in its word, and made one event, or none. Real steps lead from what the end had seen to

@@ -9,4 +9,5 @@ pub mod Rings
 pub mod Numbers
 pub mod Owners
 pub mod Parts
+pub mod Past
 pub mod Queues

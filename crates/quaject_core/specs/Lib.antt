@@ -5,6 +5,7 @@ pub mod Owners
 pub mod Shown
 pub mod ShownChains
 pub mod ShownCores
+pub mod Histories
 pub mod ShownElements
 pub mod ShownMeters
 pub mod ShownStates

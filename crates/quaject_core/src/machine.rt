@@ -1,6 +1,7 @@
 //! The core.
 
 ghost use Rattle.event_theory.specs.Lawful.{IsLawful};
+ghost use Rattle.quaject_core.specs.Histories.{HasHistory};
 ghost use Rattle.quaject_core.specs.ShownStates.{stored_state};
 
 use crate::store::Store;
@@ -9,10 +10,15 @@ use std::alloc::Global;
 
 /// The plain machine: the queues, chains, thread elements and meters of a kernel, changed by one atomic event at a
 /// time.
+///
+/// Whatever was done to a core, its state is lawful. It came of events, each allowed in its turn, on a first state, and
+/// it agrees with them: signals became pending as often as they were delivered, or are pending still, and steps done
+/// and alarms are those of the events.
 #[derive(Drop)]
 pub struct Core {
     store: Store,
     ghost lawful: { IsLawful (stored_state store) },
+    ghost history: { ∥ HasHistory (stored_state store) ∥₁ },
 }
 
 impl Core {
@@ -27,6 +33,7 @@ impl Core {
     pub fn new(alloc: Global) -> Result<Core, OutOfMemory>
         ensures exact { IfOk result (λ core. state core ≡ first_state 16) }
         ensures lawful { IfOk result (λ core. IsLawful (state core)) }
+        ensures accounted { IfOk result (λ core. ∥ HasHistory (state core) ∥₁) }
     {
         Core::with_elements(alloc, 16)
     }
@@ -37,6 +44,7 @@ impl Core {
         requires within { elements ≤ 64 }
         ensures exact { IfOk result (λ core. state core ≡ first_state elements) }
         ensures lawful { IfOk result (λ core. IsLawful (state core)) }
+        ensures accounted { IfOk result (λ core. ∥ HasHistory (state core) ∥₁) }
     {
         Ok(Core {
             store: Store::new(alloc, elements)?,
@@ -48,6 +56,7 @@ impl Core {
         ensures exact { Changes result (step event.now (state self.old)) (state self.old) (state self.new) }
         ensures memory { may_grow event.now ≡ false → IsNotMemory result }
         ensures lawful { IsLawful (state self.new) }
+        ensures accounted { ∥ HasHistory (state self.new) ∥₁ }
     {
         self.store.apply(event)
     }
@@ -57,6 +66,7 @@ impl Core {
         ensures exact { AppliesAll result events.now (state self.old) (state self.new) }
         ensures memory { HadToGrow result events.now }
         ensures lawful { IsLawful (state self.new) }
+        ensures accounted { ∥ HasHistory (state self.new) ∥₁ }
     {
         for (index, event) in events.iter().enumerate() {
             if let Err(refusal) = self.apply(event) {

@@ -14,3 +14,4 @@ pub mod Placing
 pub mod Trying
 pub mod Signals
 pub mod Pointing
+pub mod Ordering

@@ -1,5 +1,5 @@
 -- A line that was heard is no longer than the longest that a plan's steps can hear.
-use Rattle.processor.proofs.Common.{◌≡◌, ◌≤◌, ℕ, zero, suc, ◌||◌, Bool, true, false, if◌then◌else◌, List, [], ◌∷◌, length, Some, Ok, refl, sym, ap, subst, ◌∙◌, arith, BootPlan, PlannedThread, QueueIndex, Small, Large, QueueEnd, Step, steps_at, step_of, Deed, IsDeedOf, line_in, is_heard}
+use Rattle.processor.proofs.Common.{◌≡◌, ◌≤◌, ℕ, zero, suc, ◌||◌, Bool, true, false, if◌then◌else◌, List, [], ◌∷◌, length, Some, Ok, sym, ap, ◌∙◌, arith, BootPlan, PlannedThread, Small, Large, QueueEnd, Step, steps_at, step_of, Deed, IsDeedOf, line_in, is_heard}
 use Rattle.std.proofs.Math.Bool.{or-true as or_true}
 use Rattle.std.specs.List.{slice_get, list_any}
 use Rattle.boot_data.specs.declared.plan.Step.TheVariants as steps

@@ -19,3 +19,4 @@ pub mod Manning
 pub mod Partings
 pub mod Preparing
 pub mod RawEnds
+pub mod Orders

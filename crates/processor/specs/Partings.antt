@@ -1,5 +1,5 @@
 -- What splitting a station and joining two leave.
-use Rattle.std.specs.Prelude.{◌≡◌, ◌≤◌, ◌<◌, ◌||◌, ℕ, List, [], ◌∷◌, length, slice_index_or, vec_capacity}
+use Rattle.std.specs.Prelude.{◌≡◌, ◌<◌, ◌||◌, ℕ, List, [], ◌∷◌, length, slice_index_or, vec_capacity}
 use Rattle.std.specs.List.{All}
 use Rattle.turn_io.specs.EndLists.{IsDivisible, IsChainDivisible}
 use Rattle.turn_io.specs.Splits as splits
@@ -22,13 +22,14 @@ pub record AreDivisible (parts : Parts) : Type 0 where
   pub chains : All IsChainDivisible parts.chains.items
   pub meters : seats.IsDivisible parts.meters
 
--- the lists are empty, and have room for an end of each object and for each line that can be heard, as long as it can be
+-- the lists are empty, and have just the room for an end of each object and for each line that can be heard, as long as
+-- it can be
 pub record HaveRoom (shared : Shared) (lists : Lists) : Type 0 where
-  pub small : (lists.small.items ≡ []) × (length shared.queues.small.items ≤ vec_capacity lists.small)
-  pub large : (lists.large.items ≡ []) × (length shared.queues.large.items ≤ vec_capacity lists.large)
-  pub chains : (lists.chains.items ≡ []) × (length shared.chains.items ≤ vec_capacity lists.chains)
-  pub heard : (lists.heard.lines ≡ []) × (hear_count shared.plan ≤ lists.heard.room)
-      × (longest_line shared.plan ≤ lists.heard.longest)
+  pub small : (lists.small.items ≡ []) × (vec_capacity lists.small ≡ length shared.queues.small.items)
+  pub large : (lists.large.items ≡ []) × (vec_capacity lists.large ≡ length shared.queues.large.items)
+  pub chains : (lists.chains.items ≡ []) × (vec_capacity lists.chains ≡ length shared.chains.items)
+  pub heard : (lists.heard.lines ≡ []) × (lists.heard.room ≡ hear_count shared.plan)
+      × (lists.heard.longest ≡ longest_line shared.plan)
 
 -- Each end gave a part to a new one, and the hand the processors of the mask. What was heard and signalled is as it was
 pub record AreSplit (processors : ℕ) (old new born : Parts) : Type 0 where

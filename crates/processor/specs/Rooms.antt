@@ -1,5 +1,5 @@
 -- The room for heard lines.
-use Rattle.std.specs.Prelude.{◌<◌, ◌≤◌, map}
+use Rattle.std.specs.Prelude.{◌≡◌, ◌<◌, ◌≤◌, map}
 use Rattle.std.specs.List.{AllByRecursion}
 use Rattle.boot_data.specs.Hearing.{Key, Line}
 use Rattle.boot_data.specs.declared.boot_plan.BootPlan.{BootPlan}
@@ -24,3 +24,8 @@ pub record HasRoom (plan : BootPlan) (parts : Parts) : Type 0 where
   pub longest : longest_line plan ≤ parts.heard.longest
   pub hears : AreHears plan (map key_of parts.heard.lines)
   pub past : AllByRecursion (IsPast (view_of parts.hand)) (map key_of parts.heard.lines)
+
+-- there is room for just as many lines as the plan has steps that hear, each as long as the longest that it can hear
+pub record HasNoMoreRoom (plan : BootPlan) (parts : Parts) : Type 0 where
+  pub room : parts.heard.room ≡ hear_count plan
+  pub longest : parts.heard.longest ≡ longest_line plan

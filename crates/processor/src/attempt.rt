@@ -14,6 +14,7 @@ ghost use Rattle.processor.specs.Acts.{Acts};
 ghost use Rattle.processor.specs.Deeds.{IsDeedOf, line_in};
 ghost use Rattle.processor.specs.Doings.{raised_by};
 ghost use Rattle.processor.specs.Logs.{EndsWorked};
+ghost use Rattle.processor.specs.Orders.{InOrder, count_of};
 ghost use Rattle.processor.specs.Points.{GateSaw, points_of};
 ghost use Rattle.processor.specs.Running.{EndsDid};
 ghost use Rattle.processor.specs.Stations.{ArePartsOf, AreSameParts};
@@ -104,6 +105,7 @@ pub(crate) fn do_step<R: Wait, G: Gate>(
     ensures heard { parts.new.heard ≡ parts.old.heard }
     ensures signals { parts.new.signals ≡ parts.old.signals }
     ensures gate { GateSaw G.told p (points_of result.deed) gate.old gate.new }
+    ensures order { InOrder G.shown shared.now.plan (count_of parts.old.hand) result.deed parts.old parts.new }
 {
     Attempt {
         deed: try_step(rt, shared, parts, step, room, p, gate),

@@ -17,6 +17,7 @@ mod queue_steps;
 mod running;
 mod sending;
 mod shared;
+mod showing;
 mod splitting;
 mod station;
 mod steps;

@@ -8,6 +8,7 @@ ghost use Rattle.turn_dispatch.specs.Tallies.{no_events};
 ghost use Rattle.thread_table.specs.Handles.{view_of, call_of, IsHandOf, IsSameHand};
 ghost use Rattle.processor.specs.Acts.{Acts};
 ghost use Rattle.processor.specs.declared.deed.Deed.TheVariants as deeds;
+ghost use Rattle.processor.specs.Orders.{QueuesInOrder, Stood, count_of};
 ghost use Rattle.processor.specs.Points.{GateSaw, points_of};
 ghost use Rattle.processor.specs.Queues.{DidAt, IsThere, said_line};
 ghost use Rattle.processor.specs.Steps.{HandDid, QueuesDid};
@@ -16,6 +17,7 @@ ghost use Rattle.processor.specs.Tries.{said, heard};
 use crate::lines::{LineRoom, write_line};
 use crate::pipes::waits_of;
 use crate::shared::Shared;
+use crate::showing::show_queue;
 use crate::ticket::ticket_for;
 use crate::tries::{HearAnswer, SayAnswer, WasShut, shut_at, try_hear, try_say};
 use crate::waking::{Paid, wake_for};
@@ -25,7 +27,7 @@ use boot_data::plan::QueueIndex;
 use claim_queue::QueueEnd;
 use std::sync::Wait;
 use thread_table::Hand;
-use turn_io::Gate;
+use turn_io::{Gate, show_end};
 
 // One try to say a text in a queue.
 pub(crate) fn say_step<R: Wait, G: Gate>(
@@ -53,12 +55,15 @@ pub(crate) fn say_step<R: Wait, G: Gate>(
     ensures did { DidAt queue (put_if (said result) (said_line text.now)) small.old small.new large.old large.new }
     ensures sound { StaySound small.old small.new × StaySound large.old large.new }
     ensures gate { GateSaw G.told p (points_of (deeds.Say queue result)) gate.old gate.new }
+    ensures order { QueuesInOrder G.shown shared.now.plan (count_of hand.old) (deeds.Say queue result) small.old small.new
+        large.old large.new }
     ensures same { IsSameHand hand.old hand.new × AreSameEnds small.old small.new × AreSameEnds large.old large.new }
 {
     let (readers, writers) = waits_of(&shared.plan, queue);
     write_line(text, line);
     let ticket = ticket_for(&shared.threads, hand, writers);
-    match try_say(
+    show_queue(gate, shared, hand, small, large, queue);
+    let answer = try_say(
         shared,
         small,
         large,
@@ -67,7 +72,9 @@ pub(crate) fn say_step<R: Wait, G: Gate>(
         ticket,
         p,
         gate,
-    ) {
+    );
+    show_queue(gate, shared, hand, small, large, queue);
+    match answer {
         SayAnswer::Put(owed) => {
             SayAnswer::Put(wake_for(rt, &shared.threads, hand, readers, owed))
         }
@@ -102,11 +109,16 @@ pub(crate) fn hear_step<R: Wait, G: Gate>(
     ensures did { DidAt queue (taken_if (heard result) room.new.heard.items) small.old small.new large.old large.new }
     ensures sound { StaySound small.old small.new × StaySound large.old large.new }
     ensures gate { GateSaw G.told p (points_of (deeds.Hear queue result)) gate.old gate.new }
+    ensures order { QueuesInOrder G.shown shared.now.plan (count_of hand.old) (deeds.Hear queue result) small.old small.new
+        large.old large.new }
     ensures same { IsSameHand hand.old hand.new × AreSameEnds small.old small.new × AreSameEnds large.old large.new }
 {
     let (readers, writers) = waits_of(&shared.plan, queue);
     let ticket = ticket_for(&shared.threads, hand, readers);
-    match try_hear(shared, small, large, queue, room, ticket, p, gate) {
+    show_queue(gate, shared, hand, small, large, queue);
+    let answer = try_hear(shared, small, large, queue, room, ticket, p, gate);
+    show_queue(gate, shared, hand, small, large, queue);
+    match answer {
         HearAnswer::Taken(owed) => {
             HearAnswer::Taken(wake_for(rt, &shared.threads, hand, writers, owed))
         }
@@ -118,12 +130,13 @@ pub(crate) fn hear_step<R: Wait, G: Gate>(
 }
 
 // Shuts a queue or pipe, and wakes those who wait at a pipe: first those who wait to hear.
-pub(crate) fn close_step<R: Wait>(
+pub(crate) fn close_step<R: Wait, G: Gate>(
     rt: &R,
     shared: &Shared,
     hand: &mut Hand,
     small: &mut [QueueEnd<64>],
     queue: usize,
+    gate: &G,
 ) -> WasShut<Paid>
     requires hand { IsHandOf shared.now.threads hand.old }
     requires small { AreEndsOf shared.now.queues.small.items small.old }
@@ -136,14 +149,17 @@ pub(crate) fn close_step<R: Wait>(
     ensures did { queue_account small.new
         ≡ at_each both_queue (queue_account small.old) (at_one idle_queue queue (shut_if result.was_open)) }
     ensures sound { StaySound small.old small.new }
+    ensures order { Stood G.shown (count_of hand.old) small.old small.new queue }
     ensures same { IsSameHand hand.old hand.new × AreSameEnds small.old small.new }
 {
     let (to_hear, to_say) = waits_of(&shared.plan, QueueIndex::Small(queue));
+    show_end(gate, hand, shared.queues.small.as_slice(), small, queue);
     let WasShut {
         was_open,
         readers,
         writers,
     } = shut_at(&shared.queues, small, queue);
+    show_end(gate, hand, shared.queues.small.as_slice(), small, queue);
     let readers = wake_for(rt, &shared.threads, hand, to_hear, readers);
     let writers = wake_for(rt, &shared.threads, hand, to_say, writers);
     WasShut {

@@ -9,6 +9,7 @@ ghost use Rattle.processor.specs.Acts.{NeverFalls};
 ghost use Rattle.processor.specs.Deeds.{IsDeedOf, line_in};
 ghost use Rattle.processor.specs.Doings.{heard_by, is_heard, raised_by};
 ghost use Rattle.processor.specs.Logs.{EndsWorked};
+ghost use Rattle.processor.specs.Orders.{InOrder, count_of, one_more};
 ghost use Rattle.processor.specs.Points.{GateSaw, points_of};
 ghost use Rattle.processor.specs.Running.{Stepped, EndsDid};
 ghost use Rattle.processor.specs.Stations.{ArePartsOf, AreSameParts};
@@ -63,6 +64,7 @@ pub(crate) fn run_step<R: Wait, G: Gate>(
     ensures heard { parts.new.heard ≡ parts.old.heard }
     ensures signals { parts.new.signals ≡ parts.old.signals }
     ensures gate { GateSaw G.told p (points_of result.deed) gate.old gate.new }
+    ensures order { InOrder G.shown shared.now.plan (one_more (count_of parts.old.hand)) result.deed parts.old parts.new }
 {
     let threads = &shared.threads;
     let seated = seat(threads, &mut parts.hand, p, element);

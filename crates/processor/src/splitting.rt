@@ -11,7 +11,7 @@ ghost use Rattle.table_theory.specs.Sharing.{given, kept};
 ghost use Rattle.processor.specs.Accounts.{◌⊕◌, account, both_shares, each_share, nothing, shares, unheard};
 ghost use Rattle.processor.specs.Logs.{IsFresh};
 ghost use Rattle.processor.specs.Partings.{AreDivisible, HaveRoom, HaveBoth, AreSplit, AreJoined};
-ghost use Rattle.processor.specs.Rooms.{HasRoom};
+ghost use Rattle.processor.specs.Rooms.{HasNoMoreRoom, HasRoom};
 ghost use Rattle.processor.specs.Stations.{ArePartsOf, AreSameParts, IsUnused};
 
 use crate::programs::{hears_of, longest_line};
@@ -94,6 +94,7 @@ fn split_parts(shared: &Shared, parts: &mut Parts, processors: u8, lists: Lists)
     ensures born { ArePartsOf shared.now result }
     ensures split { AreSplit processors parts.old parts.new result }
     ensures room { HasRoom shared.now.plan result }
+    ensures exact { HasNoMoreRoom shared.now.plan result }
     ensures unused { IsUnused result }
 {
     let Lists {
@@ -127,9 +128,9 @@ fn joined(a: &[u16; 64], b: &[u16; 64]) -> [u16; 64]
 impl Station {
     /// A station for other processors: its hand serves those of the mask (bit p for processor p), and it has an end of
     /// each queue and chain and a seat of the meters, all split off from this station's. It has heard nothing and was
-    /// signalled nothing, and has room for as many heard lines as the plan has hear steps, of 64 bytes each, or of 256
-    /// where one hears from a large queue. `OutOfMemory` comes only where an allocation was refused; nothing has changed
-    /// then.
+    /// signalled nothing, and has room for just as many heard lines as the plan has hear steps, of 64 bytes each, or of
+    /// 256 where one hears from a large queue. `OutOfMemory` comes only where an allocation was refused; nothing has
+    /// changed then.
     ///
     /// Conditions: the station is one of `shared`, each of its ends has two parts or more of the 2^64 - 1 of its
     /// object, and its hand serves the processors of the mask, on which nothing stands.
@@ -151,6 +152,7 @@ impl Station {
         ensures shares { IfOk result (λ s. (shares self.new.parts ≡ each_share kept (shares self.old.parts))
             × (shares s.parts ≡ each_share given (shares self.old.parts))) }
         ensures room { IfOk result (λ s. HasRoom shared.now.plan s.parts) }
+        ensures exact { IfOk result (λ s. HasNoMoreRoom shared.now.plan s.parts) }
         ensures fresh { IfOk result (λ s. IsFresh s.parts) }
         ensures refused { IfErr result (λ e. self.new ≡ self.old) }
     {

@@ -1,6 +1,6 @@
 //! The station of a processor.
 ghost use Rattle.std.specs.Prelude.{◌≡◌, IfOk, IfErr};
-ghost use Rattle.processor.specs.Rooms.{HasRoom};
+ghost use Rattle.processor.specs.Rooms.{HasNoMoreRoom, HasRoom};
 ghost use Rattle.processor.specs.Stations.{IsUnused};
 
 use crate::programs::{hears_of, longest_line};
@@ -35,9 +35,9 @@ pub struct Station {
 }
 
 impl Station {
-    /// The station of a processor, which has heard nothing and was signalled nothing, with room for as many heard lines
-    /// as the plan has hear steps, of 64 bytes each, or of 256 where one hears from a large queue. Where an allocation is
-    /// refused, all ends come back.
+    /// The station of a processor, which has heard nothing and was signalled nothing, with room for just as many heard
+    /// lines as the plan has hear steps, of 64 bytes each, or of 256 where one hears from a large queue. Where an
+    /// allocation is refused, all ends come back.
     pub fn new(
         alloc: Global,
         shared: &Shared,
@@ -51,6 +51,7 @@ impl Station {
             × (s.parts.chains ≡ chains) × (s.parts.meters ≡ meters)) }
         ensures unused { IfOk result (λ s. IsUnused s.parts) }
         ensures room { IfOk result (λ s. HasRoom shared.now.plan s.parts) }
+        ensures exact { IfOk result (λ s. HasNoMoreRoom shared.now.plan s.parts) }
         ensures back { IfErr result (λ e. (e.0.hand ≡ hand) × (e.0.small ≡ small) × (e.0.large ≡ large)
             × (e.0.chains ≡ chains) × (e.0.meters ≡ meters) × IsUnused e.0) }
     {

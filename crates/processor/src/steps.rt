@@ -5,6 +5,7 @@ ghost use Rattle.processor.specs.Acts.{Acts};
 ghost use Rattle.processor.specs.Deeds.{IsDeedOf, line_in};
 ghost use Rattle.processor.specs.Doings.{raised_by};
 ghost use Rattle.processor.specs.Logs.{EndsWorked};
+ghost use Rattle.processor.specs.Orders.{InOrder, count_of};
 ghost use Rattle.processor.specs.Points.{GateSaw, points_of};
 ghost use Rattle.processor.specs.Running.{EndsDid};
 ghost use Rattle.processor.specs.Stations.{ArePartsOf, AreSameParts};
@@ -19,7 +20,7 @@ use crate::thread_steps::{signal_step, start_step, stop_step, wake_step};
 use crate::tries::WasShut;
 use boot_data::plan::Step;
 use std::sync::Wait;
-use turn_io::{Gate, poke};
+use turn_io::{Gate, poke, show_chain_end};
 
 // Tries a step of a thread once. A line that is heard goes into `room.heard`.
 pub(crate) fn try_step<R: Wait, G: Gate>(
@@ -45,6 +46,7 @@ pub(crate) fn try_step<R: Wait, G: Gate>(
     ensures heard { parts.new.heard ≡ parts.old.heard }
     ensures signals { parts.new.signals ≡ parts.old.signals }
     ensures gate { GateSaw G.told p (points_of result) gate.old gate.new }
+    ensures order { InOrder G.shown shared.now.plan (count_of parts.old.hand) result parts.old parts.new }
 {
     let threads = &shared.threads;
     match step {
@@ -97,18 +99,24 @@ pub(crate) fn try_step<R: Wait, G: Gate>(
         },
         Step::Tick { gauge, amount } => {
             let number = usize::from(gauge.number());
+            gate.show(&parts.hand, &parts.meters);
+            let before = shared.meters.tick(&mut parts.meters, number, *amount);
+            gate.show(&parts.hand, &parts.meters);
             Deed::Tick {
                 gauge: *gauge,
                 amount: *amount,
-                before: shared.meters.tick(&mut parts.meters, number, *amount),
+                before,
             }
         }
         Step::Poke { mover } => {
             let chains = shared.chains.as_slice();
+            show_chain_end(gate, &parts.hand, chains, parts.chains.as_slice(), *mover);
             let ends = parts.chains.as_mut_slice();
+            let answer = poke(rt, &shared.queues, chains, ends, *mover, p, gate);
+            show_chain_end(gate, &parts.hand, chains, parts.chains.as_slice(), *mover);
             Deed::Poke {
                 mover: *mover,
-                answer: poke(rt, &shared.queues, chains, ends, *mover, p, gate),
+                answer,
             }
         }
         Step::Pass => Deed::Pass,
@@ -118,7 +126,7 @@ pub(crate) fn try_step<R: Wait, G: Gate>(
                 was_open,
                 readers,
                 writers,
-            } = close_step(rt, shared, &mut parts.hand, small, *queue);
+            } = close_step(rt, shared, &mut parts.hand, small, *queue, gate);
             Deed::Close {
                 queue: *queue,
                 was_open,

@@ -11,6 +11,7 @@ ghost use Rattle.thread_table.specs.Handles.{view_of, call_of, IsHandOf, IsSameH
 ghost use Rattle.thread_table.specs.Keeping.{Keeps};
 ghost use Rattle.thread_table.specs.Rules.{has};
 ghost use Rattle.processor.specs.Acts.{Acts};
+ghost use Rattle.processor.specs.Orders.{behind_ticket, count_of};
 ghost use Rattle.processor.specs.Pipes.{TicketFor, IsTicketOf};
 
 use event_theory::{Element, WaitNumber};
@@ -35,6 +36,7 @@ pub(crate) fn ticket_for(
     ensures same { IsSameHand hand.old hand.new }
     ensures ticket { TicketFor wait (view_of hand.old) result (view_of hand.new) }
     ensures its { IsTicketOf wait result }
+    ensures count { count_of hand.new ≡ behind_ticket wait (count_of hand.old) }
     ensures acts { Acts no_events (view_of hand.old) (view_of hand.new) }
 {
     match wait {

@@ -10,6 +10,7 @@ ghost use Rattle.processor.specs.Entries.{FollowsStep, LogEntry, OutcomeFollows,
 ghost use Rattle.processor.specs.Entries.{outcome_account, outcome_told_shut, tending, trying};
 ghost use Rattle.processor.specs.Logs.{HasDone, HasTurned, Ran, Went};
 ghost use Rattle.processor.specs.Manning.{IsManned, StaysManned};
+ghost use Rattle.processor.specs.Orders.{CameInOrder, InOrder, TurnInOrder, TurnsInOrder, count_of, one_more};
 ghost use Rattle.processor.specs.Points.{GateSaw, points_of, points_out};
 ghost use Rattle.processor.specs.Programs.{program, step_of};
 ghost use Rattle.processor.specs.Turns.{AreAtRest, BegunAt, IdleAt, CameOf, TendedBy, TurnOf, RanStep, is_last};
@@ -61,6 +62,8 @@ fn run_element<R: Wait, G: Gate>(
         × Went (FollowsStep shared.now.plan begun.now.element begun.now.number result line)
         (trying begun.now.element begun.now.number result line) (told_shut result.tried.deed) parts.old parts.new }
     ensures gate { GateSaw G.told p (points_of result.tried.deed) gate.old gate.new }
+    ensures order { InOrder G.shown shared.now.plan (one_more (count_of parts.old.hand)) result.tried.deed parts.old
+        parts.new }
 {
     steps_fit();
     room.heard.clear();
@@ -136,6 +139,7 @@ fn dispatch<R: Wait, G: Gate>(
         × Went (OutcomeFollows shared.now.plan result line) (outcome_account result line) (outcome_told_shut result)
         parts.old parts.new }
     ensures gate { GateSaw G.told p (points_out result) gate.old gate.new }
+    ensures order { (line : List ℕ) × CameInOrder G.shown shared.now p result line parts.old parts.new }
 {
     steps_fit();
     match begin_turn(rt, shared, parts, p) {
@@ -190,6 +194,7 @@ fn turn<R: Wait, G: Gate>(
     ensures turn { (entry : LogEntry) × TurnOf shared.now p entry parts.old parts.new
         × Ran shared.now.plan (entry ∷ []) parts.old parts.new
         × GateSaw G.told p (points_out entry.outcome) gate.old gate.new }
+    ensures order { (entry : LogEntry) × TurnInOrder G.shown shared.now p entry parts.old parts.new }
 {
     tend(shared, parts, p, fired);
     let _ = dispatch(rt, shared, parts, p, room, gate);
@@ -212,6 +217,8 @@ pub fn run<R: Wait, G: Gate>(
     requires manned { IsManned shared.now p station.parts }
     ensures manned { StaysManned shared.now p station.parts result.parts }
     ensures turned { HasTurned G.told shared.now p turns gate.old gate.new station.parts result.parts }
+    ensures order { (log : List LogEntry) × (length log ≡ turns)
+        × TurnsInOrder G.shown shared.now p log station.parts result.parts }
 {
     let Station { mut parts } = station;
     let mut fired = ArrayVec::new();

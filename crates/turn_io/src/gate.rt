@@ -22,8 +22,15 @@ pub trait Gate {
     // The first gate was told this point of this processor, and became the second.
     ghost told: { Self → ℕ → Point → Self → Type 0 };
 
+    // The gate was shown these two values, as they were at one moment.
+    ghost shown: { (A B : Type 0) → A → B → Type 0 } = { λ A B one other. Unit {0} };
+
     fn between(&mut self, p: u8, point: Point)
         ensures { told self.old p point self.new };
+
+    /// Shows the gate two values at one moment, and changes nothing.
+    fn show<A, B>(&self, one: &A, other: &B)
+        ensures { shown A B one.now other.now };
 }
 
 /// The gate that does nothing.
@@ -34,4 +41,6 @@ impl Gate for NoGate {
     ghost told = { λ old p point new. Unit {0} };
 
     fn between(&mut self, _p: u8, _point: Point) {}
+
+    fn show<A, B>(&self, _one: &A, _other: &B) {}
 }

@@ -9,6 +9,7 @@ mod items;
 mod laws;
 mod poking;
 mod saying;
+mod showing;
 mod splitting;
 
 pub use chain_splitting::{join_chain_ends, split_chain_ends, split_chain_ends_into};
@@ -18,4 +19,5 @@ pub use items::item_at;
 pub use laws::accounts_add;
 pub use poking::{Poked, poke};
 pub use saying::say;
+pub use showing::{show_chain_end, show_end};
 pub use splitting::{join_ends, split_ends, split_ends_into};

@@ -1,16 +1,29 @@
 use Rattle.processor.proofs.Common.{ℕ, List, Ok, ◌∙◌, subst, put_if, DidAt}
 use Rattle.claim_queue.specs.declared.claim.ClaimRefusal.{ClaimRefusal}
 use Rattle.processor.specs.Queues.{SaidAt}
+use Rattle.processor.proofs.Ordering.{tried_between}
 use Rattle.processor.proofs.queue_steps.say_step.Goals as goal
 
 pub returns-in-Put-clause-queues : goal.returns-in-Put-clause-queues
 returns-in-Put-clause-queues g c = (
   tt,
-  subst (λ (z : List ℕ). SaidAt c.args.queue z (Ok tt) c.args.small.now c.try_say.new.small c.args.large.now c.try_say.new.large)
+  subst (λ (z : List ℕ). SaidAt c.args.queue z (Ok tt) c.args.small.now c.try_say-answer.new.small c.args.large.now c.try_say-answer.new.large)
       (c.as_slice.ensures.value ∙ c.write_line.ensures) c.in-Put.ensures.said,
 )
 
 pub returns-in-Put-clause-did : goal.returns-in-Put-clause-did
 returns-in-Put-clause-did g c =
-    subst (λ (z : List ℕ). DidAt c.args.queue (put_if {A = Unit {0}} {E = ClaimRefusal} (Ok tt) z) c.args.small.now c.try_say.new.small c.args.large.now c.try_say.new.large)
+    subst (λ (z : List ℕ). DidAt c.args.queue (put_if {A = Unit {0}} {E = ClaimRefusal} (Ok tt) z) c.args.small.now c.try_say-answer.new.small c.args.large.now c.try_say-answer.new.large)
     (c.as_slice.ensures.value ∙ c.write_line.ensures) c.in-Put.ensures.did
+
+pub returns-in-Put-clause-order : goal.returns-in-Put-clause-order
+returns-in-Put-clause-order g c = tried_between g.G.Gate.shown _ _ c.args.queue c.args.hand.now c.ticket_for-ticket.new.hand c.args.small.now c.try_say-answer.new.small c.args.large.now c.try_say-answer.new.large
+    c.waits_of-readers.ensures.writers c.ticket_for-ticket.ensures.count c.show_queue.ensures c.show_queue-2.ensures
+
+pub returns-in-Over-clause-order : goal.returns-in-Over-clause-order
+returns-in-Over-clause-order g c = tried_between g.G.Gate.shown _ _ c.args.queue c.args.hand.now c.ticket_for-ticket.new.hand c.args.small.now c.try_say-answer.new.small c.args.large.now c.try_say-answer.new.large
+    c.waits_of-readers.ensures.writers c.ticket_for-ticket.ensures.count c.show_queue.ensures c.show_queue-2.ensures
+
+pub returns-in-Refused-clause-order : goal.returns-in-Refused-clause-order
+returns-in-Refused-clause-order g c = tried_between g.G.Gate.shown _ _ c.args.queue c.args.hand.now c.ticket_for-ticket.new.hand c.args.small.now c.try_say-answer.new.small c.args.large.now c.try_say-answer.new.large
+    c.waits_of-readers.ensures.writers c.ticket_for-ticket.ensures.count c.show_queue.ensures c.show_queue-2.ensures

@@ -4,6 +4,9 @@ use Rattle.processor.proofs.Acting.{on_back, adds_on, nothing_behind}
 use Rattle.processor.proofs.Rising.{rises_on, falls, putting, counting, taking_off}
 use Rattle.turn_dispatch.proofs.Beginnings.{more_has}
 use Rattle.processor.proofs.Rooming.{number_on}
+use Rattle.processor.proofs.Ordering.{put_counts}
+use Rattle.processor.specs.declared.station.Parts.{Parts}
+use Rattle.processor.specs.Orders.{Count, InOrder, count_of, one_more}
 use Rattle.processor.proofs.running.run_step.Goals as goal
 
 some_same : (x y : ℕ) → ◌≡◌ {A = Option ℕ} (Some x) (Some y) → x ≡ y
@@ -100,3 +103,16 @@ returns-clause-worked g c =
     let w = c.do_step-attempt.ensures.worked in
     subst (λ (z : Deed). EndsWorked z (line_in c.args.step.now c.do_step-attempt.new.room.heard.items) c.args.parts.now (record c.do_step-attempt.new.parts { hand = c.take_off.new.hand })) (sym c.count_step-tried.ensures.deed)
     (record { queues = w.queues; chains = w.chains; ticks = w.ticks; small = w.small; large = w.large; chains_kept = w.chains_kept; seat_kept = w.seat_kept; seat = w.seat })
+
+pub returns-clause-order : goal.returns-clause-order
+returns-clause-order g c =
+    let S = g.G.Gate.shown in
+    let plan = c.args.shared.now.plan in
+    let old = c.args.parts.now in
+    let new : Parts = record c.do_step-attempt.new.parts { hand = c.take_off.new.hand } in
+    let o = c.do_step-attempt.ensures.order in
+    let deed = c.do_step-attempt.result.deed in
+    let start = one_more (count_of old.hand) in
+    let tried : InOrder S plan start deed old new = subst (λ (z : Count). InOrder S plan z deed old new) (put_counts _ _ _ old.hand c.seat-seated.new.hand c.seat-seated.ensures.put c.seat-seated.ensures.same)
+    (record { queues = o.queues; chains = o.chains; seat = o.seat }) in
+    subst (λ (z : Deed). InOrder S plan start z old new) (sym c.count_step-tried.ensures.deed) tried

@@ -1,5 +1,9 @@
+use Rattle.processor.proofs.Common.{arith}
 use Rattle.processor.proofs.Rooming.{room_new}
 use Rattle.processor.proofs.splitting.split_parts.Goals as goal
 
 pub returns-clause-room : goal.returns-clause-room
-returns-clause-room c = room_new c.args.shared.now.plan _ c.requires.room.heard.0 c.requires.room.heard.1 c.requires.room.heard.2
+returns-clause-room c = let plan = c.args.shared.now.plan in
+    let room = c.requires.room.heard.1 in
+    let longest = c.requires.room.heard.2 in
+    room_new plan _ c.requires.room.heard.0 (omega arith) (omega arith)

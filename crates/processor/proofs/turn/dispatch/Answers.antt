@@ -42,3 +42,18 @@ returns-else-number-steps-clause-came g c =
 
 pub returns-in-Err-clause-came : goal.returns-in-Err-clause-came
 returns-in-Err-clause-came g c = ([], (c.in-Err.ensures.begun, refl), record { planned = refl; done = c.in-Err.ensures.done; told = λ q h. cc })
+
+pub returns-then-number-steps-clause-order : goal.returns-then-number-steps-clause-order
+returns-then-number-steps-clause-order g c =
+    let e = c.retire_at-moved.ensures in
+    let begun = c.in-Ok.begun in
+    let over = subst (λ (z : List Step). length z ≤ begun.number) c.program_of-steps.ensures c.if-number-steps.true in
+    ([], (c.begin_turn.new.parts, c.in-Ok.ensures.begun, (over, e.sent, e.rest, e.others.0, e.others.1, refl), tt))
+
+pub returns-else-number-steps-clause-order : goal.returns-else-number-steps-clause-order
+returns-else-number-steps-clause-order g c =
+    let ran = c.run_element-sent.ensures.ran in
+    (ran.0, (c.begin_turn.new.parts, c.in-Ok.ensures.begun, ran.1, c.run_element-sent.ensures.order))
+
+pub returns-in-Err-clause-order : goal.returns-in-Err-clause-order
+returns-in-Err-clause-order g c = ([], (c.in-Err.ensures.begun, refl))

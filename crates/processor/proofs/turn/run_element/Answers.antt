@@ -3,6 +3,7 @@ use Rattle.std.proofs.lemmas.List.{length-map}
 use Rattle.boot_data.specs.Hearing.{Heard}
 use Rattle.processor.specs.declared.counting.Tried.{Tried}
 use Rattle.processor.specs.Programs.{longest_line}
+use Rattle.processor.specs.Orders.{InOrder, count_of, one_more}
 use Rattle.processor.specs.Turns.{RanStep}
 use Rattle.processor.proofs.Keeping.{free_still}
 use Rattle.processor.proofs.Longest.{heard_within}
@@ -118,3 +119,11 @@ returns-clause-ran g c =
           r.rises s.rises r.adds s.adds r.ends.queues (record { queues = r.worked.queues; chains = r.worked.chains; ticks = r.worked.ticks; small = r.worked.small; large = r.worked.large; chains_kept = r.worked.chains_kept; seat_kept = r.worked.seat_kept; seat = r.worked.seat }) lines r.signals,
     ) in
     (line, both.0, both.1)
+
+pub returns-clause-order : goal.returns-clause-order
+returns-clause-order g c =
+    let old = c.args.parts.now in
+    let new : Parts = record c.run_step-tried.new.parts { hand = c.send_on.new.hand; heard = c.keep.new.lines } in
+    let o = c.run_step-tried.ensures.order in
+    subst (λ (z : Tried). InOrder g.G.Gate.shown c.args.shared.now.plan (one_more (count_of old.hand)) z.deed old new) (sym c.send_on.ensures.tried)
+    (record { queues = o.queues; chains = o.chains; seat = o.seat })

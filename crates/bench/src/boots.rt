@@ -30,7 +30,7 @@ fn time_of<R: Threads + Wait + Clock + Sync>(
     let booted = boot_on(rt, alloc, &mut reader, &mut report, processors, turns);
     let measured = watch.stop(rt, 0)?;
     match booted {
-        Ok(_ended) => Ok((measured.time, counts_of(report.as_slice()))),
+        Ok(_booted) => Ok((measured.time, counts_of(report.as_slice()))),
         Err(_fault) => Err(Fault::Miscount),
     }
 }

@@ -46,7 +46,12 @@ fn assert_boot<R: Threads + Wait + Sync + Abort>(
 ) {
     let mut reader = script.as_bytes();
     let mut output = Vec::new(alloc);
-    let answer = boot_on(rt, alloc, &mut reader, &mut output, 1, turns);
-    assert!(rt; answer == Ok(wanted.ended));
+    match boot_on(rt, alloc, &mut reader, &mut output, 1, turns) {
+        Ok(booted) => {
+            assert!(rt; booted.ended == wanted.ended);
+            assert!(rt; booted.processors() == 1 && booted.turns() == turns);
+        }
+        Err(_) => panic!(rt; "no boot"),
+    }
     assert!(rt; output.as_slice() == wanted.printed);
 }

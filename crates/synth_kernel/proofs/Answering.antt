@@ -6,18 +6,15 @@ use Rattle.processor.specs.Entries.{Tended}
 use Rattle.processor.specs.Points.{ToldTurns}
 use Rattle.processor.specs.Turns.{TendedBy}
 use Rattle.boot_laws.specs.ClosedTables.{ClosedTables}
-use Rattle.synth_kernel.specs.declared.outcome.Booted.{Booted}
+use Rattle.turn_io.specs.declared.gate.NoGate.{NoGate}
+use Rattle.synth_kernel.specs.declared.printing.Booted.{Booted}
 use Rattle.synth_kernel.specs.declared.outcome.Ended.{Ended}
 use Rattle.synth_kernel.specs.declared.outcome.BootFault.{BootFault}
-use Rattle.synth_kernel.specs.Boots.{IsLogOf, AreLogs, HadTurns, WasTold, IsRun, Says, IsBoot, IsBootAnswer}
+use Rattle.synth_kernel.specs.Boots.{IsLogOf, AreLogs, HadTurns, WasTold, ToldNothing, CameBackPlain, IsRun, Says, IsBoot, IsBootAnswer}
 
 -- the answer alone
 pub alone : (Did : BootPlan → ClosedTables → List (List LogEntry) → Type 0) (read : Option (List ℕ)) (ended : Ended) (old new : Option (List ℕ)) → IsBoot Did read ended old new → IsBootAnswer Did read ended
 alone Did read ended old new boot = record { plan = boot.plan; says = boot.says; report = boot.run.report; booted = boot.run.booted; ends = boot.run.ends }
-
-pub alone_ok : (Did : BootPlan → ClosedTables → List (List LogEntry) → Type 0) (read : Option (List ℕ)) (answer : Result Ended BootFault) (old new : Option (List ℕ)) → IfOk answer (λ ended. IsBoot Did read ended old new) → IfOk answer (IsBootAnswer Did read)
-alone_ok Did read (Ok ended) old new boot = alone Did read ended old new boot
-alone_ok Did read (Err fault) old new boot = tt
 
 module _ {G : Type 0} (T : G → ℕ → Point → G → Type 0) (turns : ℕ) (gates : List G) where
   pub boots : (read : Option (List ℕ)) (answer : Result (Booted G) BootFault) (plan : BootPlan) (old new : Option (List ℕ)) → Says read plan
@@ -55,15 +52,31 @@ module _ {G : Type 0} (T : G → ℕ → Point → G → Type 0) (turns : ℕ) w
   had_each shared p (gate ∷ gates) (back ∷ backs) (log ∷ logs) all =
       let rest = had_each shared (p + 1) gates backs logs all.1 in (ap suc rest.0, (had_one shared p gate back log all.0, rest.1))
 
-  pub plain : (gates back : List G) (closed : Unmade) (processors : ℕ) (read : Option (List ℕ)) (ended : Ended) (plan : BootPlan) (old new : Option (List ℕ)) → length gates ≡ processors
-      → Says read plan → IsRun (CameBack T turns gates back closed) plan ended old new → IsBoot (HadTurns processors turns) read ended old new
-  plain gates back closed processors read ended plan old new many says run = let b = run.booted in record {
-    plan = plan;
-    says = says;
-    run = record {
-      report = run.report;
-      booted = record { closed = b.closed; logs = b.logs; heard = b.heard; did = let each = had_each b.did.shared 0 gates back b.logs b.did.told in record { many = each.0 ∙ many; each = subst (λ (z : BootPlan). AreLogs z 0 turns b.logs) b.did.plan_is each.1 }; agrees = b.agrees };
-      ends = run.ends;
-      printed = run.printed;
-    };
-  }
+  -- so each processor had its turns
+  pub had : (gates back : List G) (ended : Unmade) (plan : BootPlan) (closed : ClosedTables) (logs : List (List LogEntry)) → CameBack T turns gates back ended plan closed logs → HadTurns (length gates) turns plan closed logs
+  had gates back ended plan closed logs came =
+      let each = had_each came.shared 0 gates back logs came.told in
+      record { many = each.0; each = subst (λ (z : BootPlan). AreLogs z 0 turns logs) came.plan_is each.1 }
+
+-- a boot whose gates do nothing
+pub plain : (turns : ℕ) (gates back : List NoGate) (closed : Unmade) (processors : ℕ) (read : Option (List ℕ)) (ended : Ended) (plan : BootPlan) (old new : Option (List ℕ)) → length gates ≡ processors
+    → Says read plan → IsRun (CameBack ToldNothing turns gates back closed) plan ended old new → IsBoot (CameBackPlain processors turns back closed) read ended old new
+plain turns gates back closed processors read ended plan old new many says run = let b = run.booted in record {
+  plan = plan;
+  says = says;
+  run = record {
+    report = run.report;
+    booted = record { closed = b.closed; logs = b.logs; heard = b.heard; did = record { gates = gates; many = many; came = b.did }; agrees = b.agrees };
+    ends = run.ends;
+    printed = run.printed;
+  };
+}
+
+pub plain_ok : (turns : ℕ) (gates : List NoGate) (processors : ℕ) (read : Option (List ℕ)) (answer : Result (Booted NoGate) BootFault) (plan : BootPlan) (old new : Option (List ℕ)) → length gates ≡ processors → Says read plan
+    → IfOk answer (λ booted. IsRun (CameBack ToldNothing turns gates booted.gates.items booted.closed) plan booted.ended old new) → IfOk answer (λ booted. IsBoot (CameBackPlain processors turns booted.gates.items booted.closed) read booted.ended old new)
+plain_ok turns gates processors read (Ok booted) plan old new many says run = plain turns gates booted.gates.items booted.closed processors read booted.ended plan old new many says run
+plain_ok turns gates processors read (Err fault) plan old new many says run = tt
+
+pub had_plain : (processors turns : ℕ) (back : List NoGate) (ended : Unmade) (plan : BootPlan) (closed : ClosedTables) (logs : List (List LogEntry)) → CameBackPlain processors turns back ended plan closed logs → HadTurns processors turns plan closed logs
+had_plain processors turns back ended plan closed logs came =
+    subst (λ (z : ℕ). HadTurns z turns plan closed logs) came.many (had ToldNothing turns came.gates back ended plan closed logs came.came)

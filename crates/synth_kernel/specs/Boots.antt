@@ -13,6 +13,7 @@ use Rattle.boot_script.specs.declared.fault.ScriptFault.{ScriptFault}
 use Rattle.boot_script.specs.Plans.{text_plan}
 use Rattle.boot_script.specs.Reports.{report_text}
 use Rattle.boot_objects.specs.declared.closing.all.Unmade.{Unmade}
+use Rattle.turn_io.specs.declared.gate.NoGate.{NoGate}
 use Rattle.turn_io.specs.declared.gate.Point.{Point}
 use Rattle.processor.specs.declared.shared.Shared.{Shared}
 use Rattle.processor.specs.declared.station.Parts.{Parts}
@@ -30,6 +31,7 @@ use Rattle.synth_kernel.specs.declared.outcome.Ended.{Ended}
 use Rattle.synth_kernel.specs.declared.outcome.Ended.TheVariants.{AllEnded, Unfinished}
 use Rattle.synth_kernel.specs.declared.outcome.BootFault.{BootFault}
 use Rattle.synth_kernel.specs.declared.outcome.BootFault.TheVariants.{Script, Memory, Read, Write}
+use Rattle.synth_kernel.specs.declared.printing.Booted.{Booted}
 
 -- WHAT ITS PROCESSORS DID
 
@@ -86,6 +88,21 @@ pub record CameBack {G : Type 0} (T : G → ℕ → Point → G → Type 0) (tur
   pub made : closed ≡ closed_of plan boot ended quajects devices
   pub typed : List Typed
   pub shows : Shows closed ended typed
+
+-- the gate that does nothing may be told anything
+abbrev pub ToldNothing : NoGate → ℕ → Point → NoGate → Type 0
+ToldNothing old p point new = Unit {0}
+
+-- the same of a boot without gates: so many of those that do nothing came back so
+pub record CameBackPlain (processors turns : ℕ) (back : List NoGate) (ended : Unmade) (plan : BootPlan)
+    (closed : ClosedTables) (logs : List (List LogEntry)) : Type 0 where
+  pub gates : List NoGate
+  pub many : length gates ≡ processors
+  pub came : CameBack ToldNothing turns gates back ended plan closed logs
+
+-- the boot was on so many processors, with so many turns on each
+abbrev pub HasNumbers : {G : Type 0} → ℕ → ℕ → Booted G → Type 0
+HasNumbers processors turns booted = (booted.processors ≡ processors) × (booted.turns ≡ turns)
 
 -- WHAT IT TELLS
 

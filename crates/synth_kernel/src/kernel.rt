@@ -1,19 +1,15 @@
 //! A boot, from the bytes of its script to the printed report.
-ghost use Rattle.std.specs.Prelude.{◌≡◌, ◌≢◌, ◌≤◌, ℕ, List, vec_len, IfOk, IfErr, IfSome, OnOk};
-ghost use Rattle.std.specs.Io.KnownBytes.{Appends, Keeps};
-ghost use Rattle.boot_script.specs.Answers.{Says};
-ghost use Rattle.boot_data.specs.BootPlans.{plan_of};
+ghost use Rattle.std.specs.Prelude.{◌≡◌, ◌≢◌, ◌≤◌, List, vec_len, IfOk, IfErr, IfSome};
+ghost use Rattle.std.specs.Io.KnownBytes.{Keeps};
 ghost use Rattle.boot_script.specs.Plans.{text_plan};
 ghost use Rattle.boot_objects.specs.declared.closing.all.Unmade.{Unmade};
-ghost use Rattle.boot_laws.specs.Saying.{live_threads};
-ghost use Rattle.synth_kernel.specs.Boots.{ended_of, HadTurns, CameBack, IsBoot, IsBootAnswer, IsRun};
-ghost use Rattle.synth_kernel.specs.Boots.{IsBootFault, IsRead, IsLate};
+ghost use Rattle.synth_kernel.specs.Boots.{CameBack, CameBackPlain, HasNumbers, IsBoot, IsBootAnswer};
+ghost use Rattle.synth_kernel.specs.Boots.{IsBootFault, IsRead};
 
-use crate::booting::boot_plan;
-use crate::outcome::{BootFault, Booted, Ended};
-use boot_data::{BootPlan, Report};
-use boot_report::live_of;
-use boot_script::{ScriptRefusal, parse_boot, print_report, read_script};
+use crate::outcome::{BootFault, Ended};
+use crate::printing::{Booted, boot_and_print};
+use boot_data::BootPlan;
+use boot_script::{ScriptRefusal, parse_boot, read_script};
 use event_theory::OutOfMemory;
 use std::alloc::Global;
 use std::io::{Read, Write};
@@ -48,49 +44,8 @@ fn read_plan<I: Read>(alloc: Global, reader: &mut I) -> Result<BootPlan, BootFau
     plan_said(alloc, &buffer[..filled])
 }
 
-// The answer of a boot with this report.
-fn ended_by(report: &Report) -> Ended
-    ensures { result ≡ ended_of (live_threads report.now) }
-{
-    match live_of(report) {
-        0 => Ended::AllEnded,
-        live => Ended::Unfinished { live },
-    }
-}
-
-// Boots a plan, and prints the report.
-fn boot_and_print<R, O, G>(
-    rt: &R,
-    alloc: Global,
-    plan: BootPlan,
-    writer: &mut O,
-    turns: u32,
-    gates: Vec<G>,
-) -> Result<Booted<G>, BootFault>
-where
-    R: Threads + Wait + Sync,
-    O: Write,
-    G: Gate + Send + Drop,
-    requires gates { (1 ≤ vec_len gates) × (vec_len gates ≤ 8) }
-    ensures ok { IfOk result (λ booted. IsRun (CameBack G.told turns gates.items booted.gates.items booted.closed) plan
-        booted.ended (O.contents writer.old) (O.contents writer.new)) }
-    ensures fault { IfErr result (λ fault. IsLate fault) }
-    ensures unwritten { IfErr result (λ fault. fault ≢ BootFault.Write
-        → Keeps (O.contents writer.old) (O.contents writer.new)) }
-{
-    let (report, gates, closed) = boot_plan(rt, alloc, plan, turns, gates)?;
-    match print_report(&report, writer) {
-        Ok(()) => Ok(Booted {
-            ended: ended_by(&report),
-            gates,
-            closed,
-        }),
-        Err(_) => Err(BootFault::Write),
-    }
-}
-
 // So many gates that do nothing.
-fn no_gates(alloc: Global, processors: u8) -> Result<Vec<NoGate>, OutOfMemory>
+pub(crate) fn no_gates(alloc: Global, processors: u8) -> Result<Vec<NoGate>, OutOfMemory>
     ensures { IfOk result (λ gates. vec_len gates ≡ processors) }
 {
     let mut gates = Vec::with_capacity(alloc, processors as usize)?;
@@ -100,7 +55,9 @@ fn no_gates(alloc: Global, processors: u8) -> Result<Vec<NoGate>, OutOfMemory>
     Ok(gates)
 }
 
-/// Boots the script that is read on so many processors, with so many turns on each, and prints the report.
+/// Boots the script that is read on so many processors, with so many turns on each, and prints the report. What it
+/// answers has both numbers, and what came of closing all, whose numbers the report has. The gates are those that do
+/// nothing.
 ///
 /// After a fault other than `Write` nothing was written. `Memory` is answered only where the text has no fault: an
 /// allocation was refused, or a thread could not be started.
@@ -113,23 +70,23 @@ pub fn boot_on<R, I, O>(
     writer: &mut O,
     processors: u8,
     turns: u32,
-) -> Result<Ended, BootFault>
+) -> Result<Booted<NoGate>, BootFault>
 where
     R: Threads + Wait + Sync,
     I: Read,
     O: Write,
     requires { (1 ≤ processors) × (processors ≤ 8) }
-    ensures ok { IfOk result (λ ended. IsBoot (HadTurns processors turns) (I.remaining reader.old) ended
-        (O.contents writer.old) (O.contents writer.new)) }
+    ensures numbers { IfOk result (HasNumbers processors turns) }
+    ensures ok { IfOk result (λ booted. IsBoot (CameBackPlain processors turns booted.gates.items booted.closed)
+        (I.remaining reader.old) booted.ended (O.contents writer.old) (O.contents writer.new)) }
     ensures fault { IfErr result (λ fault. IfSome (I.remaining reader.old) (λ bytes. IsBootFault
         (text_plan bytes) fault)) }
     ensures unwritten { IfErr result (λ fault. fault ≢ BootFault.Write
         → Keeps (O.contents writer.old) (O.contents writer.new)) }
 {
     let plan = read_plan(alloc, reader)?;
-    let gates = no_gates(alloc, processors)?;
-    let booted = boot_and_print(rt, alloc, plan, writer, turns, gates)?;
-    Ok(booted.ended)
+    let idle = no_gates(alloc, processors)?;
+    boot_and_print(rt, alloc, plan, writer, processors, turns, idle)
 }
 
 /// The same with a gate for each processor, from 0 on, which the processor calls between the parts of its turns. Where
@@ -153,6 +110,7 @@ where
     G: Gate + Send + Drop,
     requires number { (1 ≤ processors) × (processors ≤ 8) }
     requires gates { vec_len gates ≡ processors }
+    ensures numbers { IfOk result (HasNumbers processors turns) }
     ensures ok { IfOk result (λ booted. IsBoot (CameBack G.told turns gates.items booted.gates.items booted.closed)
         (I.remaining reader.old) booted.ended (O.contents writer.old) (O.contents writer.new)) }
     ensures fault { IfErr result (λ fault. IfSome (I.remaining reader.old) (λ bytes. IsBootFault
@@ -161,7 +119,7 @@ where
         → Keeps (O.contents writer.old) (O.contents writer.new)) }
 {
     let plan = read_plan(alloc, reader)?;
-    boot_and_print(rt, alloc, plan, writer, turns, gates)
+    boot_and_print(rt, alloc, plan, writer, processors, turns, gates)
 }
 
 /// The same as `boot_on`, of a reader and a writer that are handed over.
@@ -180,11 +138,13 @@ where
     I: Read + Drop,
     O: Write + Drop,
     requires { (1 ≤ processors) × (processors ≤ 8) }
-    ensures ok { IfOk result (IsBootAnswer (HadTurns processors turns) (I.remaining reader)) }
+    ensures ok { IfOk result (λ ended. (back : List NoGate) × (closed : Unmade)
+        × IsBootAnswer (CameBackPlain processors turns back closed) (I.remaining reader) ended) }
     ensures fault { IfErr result (λ fault. IfSome (I.remaining reader) (λ bytes. IsBootFault (text_plan bytes)
         fault)) }
 {
-    boot_on(rt, alloc, &mut reader, &mut writer, processors, turns)
+    let booted = boot_on(rt, alloc, &mut reader, &mut writer, processors, turns)?;
+    Ok(booted.ended)
 }
 
 /// The same as `boot_on_with`, of a reader and a writer that are handed over. The gates don't come back.

@@ -17,11 +17,15 @@
 mod booting;
 mod gathering;
 mod kernel;
+mod laws;
 mod outcome;
+mod printing;
 mod ready;
 mod running;
 mod shutting;
 
 pub use kernel::{boot, boot_on, boot_on_with, boot_with};
-pub use outcome::{BootFault, Booted, Ended};
-pub use turn_io::{Gate, Point};
+pub use laws::turns_were_had;
+pub use outcome::{BootFault, Ended};
+pub use printing::Booted;
+pub use turn_io::{Gate, NoGate, Point};

@@ -3,7 +3,6 @@
 ghost use Rattle.std.specs.Prelude.{◌≡◌, Some};
 ghost use Rattle.synth_kernel.specs.declared.outcome.BootFault.TheVariants as faults;
 
-use boot_objects::Unmade;
 use boot_script::{ReadFault, ScriptFault};
 use event_theory::OutOfMemory;
 use std::error::Error as StdError;
@@ -16,15 +15,6 @@ pub enum Ended {
     AllEnded,
     /// So many have not.
     Unfinished { live: usize },
-}
-
-/// How a boot with gates ended whose report was printed, the gates, each at its place, with all that they were told,
-/// and what came of closing all, of which the report was made.
-#[derive(Drop)]
-pub struct Booted<G> {
-    pub ended: Ended,
-    pub gates: Vec<G>,
-    pub closed: Unmade,
 }
 
 /// Why a boot printed no report. Nothing was written, but where the fault is `Write`.

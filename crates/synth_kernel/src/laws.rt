@@ -1,0 +1,20 @@
+//! What it comes to that a boot's processors had their turns.
+ghost use Rattle.std.specs.Prelude.{ℕ, List, length};
+ghost use Rattle.boot_data.specs.declared.boot_plan.BootPlan.{BootPlan};
+ghost use Rattle.boot_laws.specs.ClosedTables.{ClosedTables};
+ghost use Rattle.boot_objects.specs.declared.closing.all.Unmade.{Unmade};
+ghost use Rattle.processor.specs.Entries.{LogEntry};
+ghost use Rattle.synth_kernel.specs.Boots.{CameBack, CameBackPlain, HadTurns};
+
+use turn_io::{Gate, NoGate};
+
+/// There is a log for each gate, with an entry for each turn, and it says all that was left on a station that had done
+/// nothing: this is what remains where the gates and what was closed are forgotten.
+pub fn turns_were_had<G: Gate>()
+    ensures gates { (turns : ℕ) (gates back : List G) (ended : Unmade) (plan : BootPlan) (closed : ClosedTables)
+        (logs : List (List LogEntry)) → CameBack G.told turns gates back ended plan closed logs
+        → HadTurns (length gates) turns plan closed logs }
+    ensures plain { (processors turns : ℕ) (back : List NoGate) (ended : Unmade) (plan : BootPlan)
+        (closed : ClosedTables) (logs : List (List LogEntry))
+        → CameBackPlain processors turns back ended plan closed logs → HadTurns processors turns plan closed logs }
+{}

@@ -1,0 +1,93 @@
+//! The end of a boot: its report is printed, and what it came to is answered.
+ghost use Rattle.std.specs.Prelude.{◌≡◌, ◌≢◌, ◌≤◌, vec_len, IfOk, IfErr};
+ghost use Rattle.std.specs.Io.KnownBytes.{Keeps};
+ghost use Rattle.boot_laws.specs.Saying.{live_threads};
+ghost use Rattle.synth_kernel.specs.Boots.{ended_of, CameBack, HasNumbers, IsLate, IsRun};
+
+use crate::booting::boot_plan;
+use crate::outcome::{BootFault, Ended};
+use boot_data::{BootPlan, Report};
+use boot_objects::Unmade;
+use boot_report::live_of;
+use boot_script::print_report;
+use std::alloc::Global;
+use std::io::Write;
+use std::sync::Wait;
+use std::thread::Threads;
+use turn_io::Gate;
+
+/// How a boot ended whose report was printed, the gates, each at its place, with all that they were told, and what came
+/// of closing all, of which the report was made; and on how many processors it ran, with how many turns on each. Only
+/// the function that boots a plan makes one.
+#[derive(Drop)]
+pub struct Booted<G> {
+    pub ended: Ended,
+    pub gates: Vec<G>,
+    pub closed: Unmade,
+    processors: u8,
+    turns: u32,
+}
+
+impl<G> Booted<G> {
+    /// How many processors it had.
+    pub fn processors(&self) -> u8
+        ensures { result ≡ self.now.processors }
+    {
+        self.processors
+    }
+
+    /// How many turns each of them had.
+    pub fn turns(&self) -> u32
+        ensures { result ≡ self.now.turns }
+    {
+        self.turns
+    }
+}
+
+// The answer of a boot with this report.
+fn ended_by(report: &Report) -> Ended
+    ensures { result ≡ ended_of (live_threads report.now) }
+{
+    match live_of(report) {
+        0 => Ended::AllEnded,
+        live => Ended::Unfinished { live },
+    }
+}
+
+/// Boots a plan, a processor for each gate, with so many turns on each, and prints the report.
+///
+/// Conditions: there are 1 to 8 processors, and a gate for each.
+pub(crate) fn boot_and_print<R, O, G>(
+    rt: &R,
+    alloc: Global,
+    plan: BootPlan,
+    writer: &mut O,
+    processors: u8,
+    turns: u32,
+    gates: Vec<G>,
+) -> Result<Booted<G>, BootFault>
+where
+    R: Threads + Wait + Sync,
+    O: Write,
+    G: Gate + Send + Drop,
+    requires number { (1 ≤ processors) × (processors ≤ 8) }
+    requires gates { vec_len gates ≡ processors }
+    ensures numbers { IfOk result (HasNumbers processors turns) }
+    ensures ok { IfOk result (λ booted. IsRun (CameBack G.told turns gates.items booted.gates.items booted.closed) plan
+        booted.ended (O.contents writer.old) (O.contents writer.new)) }
+    ensures fault { IfErr result (λ fault. IsLate fault) }
+    ensures unwritten { IfErr result (λ fault. fault ≢ BootFault.Write
+        → Keeps (O.contents writer.old) (O.contents writer.new)) }
+{
+    let (report, gates, closed) = boot_plan(rt, alloc, plan, turns, gates)?;
+    match print_report(&report, writer) {
+        Ok(()) => Ok(Booted {
+            ended: ended_by(&report),
+            gates,
+            closed,
+            processors,
+            turns,
+        }),
+        Err(_) => Err(BootFault::Write),
+    }
+}

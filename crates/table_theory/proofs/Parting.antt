@@ -27,14 +27,14 @@ module _ {K O : Type 0} (nothing : K) (plus : K → K → K) (word : ℕ) where
     found = c.found;
     adds = record { first = c.adds.first; entries_are = c.adds.entries_are; since = c.adds.since; course_is = c.adds.course_is; own = c.adds.own; alone = c.adds.alone };
     own = c.own;
-    member = (λ i. record (c.member i) { ends = (c.member i).ends - 1; share = kept (c.member i).share }) ∙ (λ i. record v.member { ends = less i; share = kept v.member.share; splits = v.member.splits + 1 });
+    member = (λ i. record (c.member i) { ends = (c.member i).ends - 1; share = kept (c.member i).share; unlisted = (c.member i).unlisted + 1 }) ∙ (λ i. record v.member { ends = less i; share = kept v.member.share; splits = v.member.splits + 1; unlisted = v.member.unlisted + 1 });
   }
     where
       less : v.member.ends + 1 - 1 ≡ v.member.ends
       less = omega arith
 
   born : (v u : (Ledger K O)) → CountedUp word v u → IsNewborn nothing v (rest_of u) (newborn nothing u)
-  born v u c = λ i. record (newborn nothing u) { member = record { ends = 1; share = given (c.member i).share; splits = 0; joins = 0 } }
+  born v u c = λ i. record (newborn nothing u) { member = record { ends = 1; share = given (c.member i).share; splits = 0; joins = 0; unlisted = 0 } }
 
   -- the two ends of a split, as they are given back
   pub split_views : {A : Type 0} (v u : (Ledger K O)) (one other : (Ledger K O) × A) (a b : A) → CountedUp word v u → one ≡ (rest_of u, a) → other ≡ (newborn nothing u, b) → Divided word v one.0 × IsNewborn nothing v one.0 other.0

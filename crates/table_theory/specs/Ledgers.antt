@@ -102,22 +102,28 @@ first_of nothing object = record {
   first = object;
   own = nothing;
   seen = opened object;
-  member = record { ends = 1; share = the_whole; splits = 0; joins = 0 };
+  member = record { ends = 1; share = the_whole; splits = 0; joins = 0; unlisted = 0 };
   steps = [];
   course = [];
   joined = [];
   joined_first = object;
 }
 
--- what a split leaves, where it was counted
+-- what a split leaves, where it was counted: one load more was made, which no list has
 abbrev pub rest_of : {K O : Type 0} → Ledger K O → Ledger K O
-rest_of v = record v { member = record v.member { ends = v.member.ends - 1; share = kept v.member.share } }
+rest_of v = record v {
+  member = record v.member {
+    ends = v.member.ends - 1;
+    share = kept v.member.share;
+    unlisted = v.member.unlisted + 1;
+  };
+}
 
 -- an end that has done nothing, with a part of the share, has seen what v has seen
 abbrev pub newborn : {K O : Type 0} → K → Ledger K O → Ledger K O
 newborn nothing v = record v {
   own = nothing;
-  member = record { ends = 1; share = given v.member.share; splits = 0; joins = 0 };
+  member = record { ends = 1; share = given v.member.share; splits = 0; joins = 0; unlisted = 0 };
   steps = [];
 }
 
@@ -125,7 +131,7 @@ newborn nothing v = record v {
 abbrev pub by_later : {K O A : Type 0} → Ledger K O → Ledger K O → A → A → A
 by_later v w one other = if nat_lt (length v.course) (length w.course) then other else one
 
--- an end that took in another has what both had
+-- an end that took in another has what both had; one load more was made, which no list has
 abbrev pub both : {K O : Type 0} → (K → K → K) → Ledger K O → Ledger K O → Ledger K O
 both plus v w = record {
   first = v.first;
@@ -136,6 +142,7 @@ both plus v w = record {
     share = v.member.share + w.member.share;
     splits = v.member.splits + w.member.splits;
     joins = v.member.joins + w.member.joins;
+    unlisted = v.member.unlisted + w.member.unlisted + 1;
   };
   steps = v.steps ++ w.steps;
   course = by_later v w v.course w.course;
@@ -147,7 +154,7 @@ both plus v w = record {
 abbrev pub emptied : {K O : Type 0} → K → Ledger K O → Ledger K O
 emptied nothing v = record v {
   own = nothing;
-  member = record { ends = 0; share = 0; splits = 0; joins = 0 };
+  member = record { ends = 0; share = 0; splits = 0; joins = 0; unlisted = 0 };
   steps = [];
 }
 
@@ -180,19 +187,23 @@ pub record CountedDown {K O : Type 0} (word : ℕ) (v w : Ledger K O) : Type 0 w
   pub one_object : v.joined_first ≡ v.first
 
 -- The number of ends was found and made one more, and the end gave a part of its share away. One load more, of the
--- first word, stands in no list: by it the new end gets what the end knows
+-- first word, stands in no list, and is counted: by it the new end gets what the end knows
 pub record Divided {K O : Type 0} (word : ℕ) (v w : Ledger K O) : Type 0 where
   pub found : Moment O
   pub adds : Adds v (count_up word found ∷ []) w
   pub own : w.own ≡ v.own
-  pub member : w.member ≡ record v.member { share = kept v.member.share; splits = v.member.splits + 1 }
+  pub member : w.member ≡ record v.member {
+    share = kept v.member.share;
+    splits = v.member.splits + 1;
+    unlisted = v.member.unlisted + 1;
+  }
 
 -- the new end has nothing but the part of the share, and has seen what the other end had seen
 abbrev pub IsNewborn : {K O : Type 0} → K → Ledger K O → Ledger K O → Ledger K O → Type 0
 IsNewborn nothing old new born = born ≡ newborn nothing (record new { member = old.member })
 
 -- The end has what both had; then the number of ends was found and made one less. It has seen what both had seen, of
--- the one object. One load more, of the first word, stands in no list, for a chain two: by it the end gets what the
+-- the one object. One load more, of the first word, stands in no list, and is counted: by it the end gets what the
 -- other knows
 pub record TookIn {K O : Type 0} (plus : K → K → K) (word : ℕ) (v u w : Ledger K O) : Type 0 where
   pub found : Moment O

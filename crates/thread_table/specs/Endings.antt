@@ -12,11 +12,15 @@ use Rattle.thread_table.specs.Steps.{both}
 use Rattle.thread_table.specs.Entries.{Acts}
 use Rattle.thread_table.specs.Answers.{is_in}
 
--- the hand serves what w serves, was split once more, and kept its part of the share
+-- the hand serves what w serves, was split once more, by one load that no list has, and kept its part of the share
 abbrev pub with_split : View → View → View
 with_split v w = record v {
   own = record v.own { serves = w.own.serves; counted = None };
-  member = record v.member { share = kept v.member.share; splits = v.member.splits + 1 };
+  member = record v.member {
+    share = kept v.member.share;
+    splits = v.member.splits + 1;
+    unlisted = v.member.unlisted + 1;
+  };
 }
 
 -- The number of hands was found and made one more; the hand gave a part of its share away, and the processors of the

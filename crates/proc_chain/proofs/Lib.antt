@@ -12,3 +12,5 @@ pub mod Opening
 pub mod Closing
 pub mod Lawful
 pub mod Common
+pub mod Apart
+pub mod Falling

@@ -1,6 +1,7 @@
 -- What making and joining ends does to what they know.
-use Rattle.std.specs.Prelude.{◌≡◌, Bool, true, false, ◌&&◌}
+use Rattle.std.specs.Prelude.{◌≡◌, ℕ, ◌+◌, ◌<◌, ◌≤◌, Bool, true, false, ◌&&◌, length}
 use Rattle.atomic_table.specs.Table.{Me}
+use Rattle.table_theory.specs.declared.queues.Batch.{Batch}
 use Rattle.table_theory.specs.Ledgers as ends
 use Rattle.proc_chain.specs.Layout.{ends_word}
 use Rattle.proc_chain.specs.Own.{View, nothing_did, did_both}
@@ -22,3 +23,7 @@ TookIn v u w = ends.TookIn did_both ends_word v u w × ((v.own.runner && u.own.r
 abbrev pub Joined : {Q : Type 0} → Bool → Me Q View → Me Q View → Me Q View → Type 0
 Joined false me other me' = TookIn me.0 other.0 me'.0 × (me'.1 ≡ me.1)
 Joined true me other me' = TookIn other.0 me.0 me'.0 × (me'.1 ≡ other.1)
+
+-- the position is one of those of a run, or of a taking
+abbrev pub IsAmong : ℕ → Batch → Type 0
+IsAmong position e = (e.start ≤ position) × (position < e.start + length e.places)

@@ -7,9 +7,10 @@ ghost use Rattle.proc_chain.specs.Notes.{SameNotes};
 ghost use Rattle.proc_chain.specs.Turns.{KeepsTaken};
 
 use crate::layout::{ENDS, HEAD, TAIL, WORDS};
+use crate::passing::{hand_over, take_in};
 use crate::quaject::Quaject;
 use crate::rule::{ChainRule, Pact, Shape, View};
-use crate::steps::{count_down, count_up, hand_over, split_off, take_in};
+use crate::steps::{count_down, count_up, split_off};
 use atomic_table::{Seat, Table};
 use event_theory::OutOfMemory;
 use std::alloc::Global;

@@ -23,7 +23,7 @@ ghost use Rattle.proc_chain.specs.Answers.{NotChained, with_turn};
 ghost use Rattle.proc_chain.specs.Chainings.{AreShown, IsChainEvent};
 ghost use Rattle.proc_chain.specs.Changes.{IsLawful, IsPlace, Becomes, taking};
 ghost use Rattle.proc_chain.specs.Changes.{with_note, with_raise, with_taken, with_gate};
-ghost use Rattle.proc_chain.specs.Endings.{TookIn};
+ghost use Rattle.proc_chain.specs.Endings.{TookIn, IsAmong};
 ghost use Rattle.proc_chain.specs.Handles.{view_of, IsOnlyEnd};
 ghost use Rattle.proc_chain.specs.Layout.{head_word, tail_word, ends_word, gate_word, place_word, note_of, mark_of};
 ghost use Rattle.proc_chain.specs.Layout.{raised_word, width};
@@ -69,6 +69,52 @@ pub fn lists_are_true<Q: Quaject>()
     ensures change { (e : Step GatedQueue) → IsReal of_chains e
         → (e.next.object ≡ e.then.object) ⊎ Becomes e.then.object e.next.object }
     ensures lawful { (e : Step GatedQueue) → IsReal of_chains e → IsLawful e.next.object }
+{}
+
+/// No number of a head or a tail falls. What an end finds there is not below what it had seen, nor below what it found
+/// earlier, and what it sees then is not below that. After a join it is not below what either end had seen.
+pub fn never_below<Q: Quaject>()
+    ensures head { (old new : ChainEnd Q Q.World Q.Quaject) (before : List (Step GatedQueue)) (e : Step GatedQueue)
+        (after : List (Step GatedQueue)) → Adds (view_of old) (before ++ e ∷ after) (view_of new) → e.word ≡ head_word
+        → (head_of (queue_of (view_of old)) ≤ e.found) × (e.found ≤ head_of (queue_of (view_of new))) }
+    ensures tail { (old new : ChainEnd Q Q.World Q.Quaject) (before : List (Step GatedQueue)) (e : Step GatedQueue)
+        (after : List (Step GatedQueue)) → Adds (view_of old) (before ++ e ∷ after) (view_of new) → e.word ≡ tail_word
+        → (tail_of (queue_of (view_of old)) ≤ e.found) × (e.found ≤ tail_of (queue_of (view_of new))) }
+    ensures later_head { (old new : ChainEnd Q Q.World Q.Quaject) (before : List (Step GatedQueue)) (e : Step GatedQueue)
+        (between : List (Step GatedQueue)) (f : Step GatedQueue) (after : List (Step GatedQueue))
+        → Adds (view_of old) (before ++ e ∷ (between ++ f ∷ after)) (view_of new) → e.word ≡ head_word
+        → f.word ≡ head_word → e.found ≤ f.found }
+    ensures later_tail { (old new : ChainEnd Q Q.World Q.Quaject) (before : List (Step GatedQueue)) (e : Step GatedQueue)
+        (between : List (Step GatedQueue)) (f : Step GatedQueue) (after : List (Step GatedQueue))
+        → Adds (view_of old) (before ++ e ∷ (between ++ f ∷ after)) (view_of new) → e.word ≡ tail_word
+        → f.word ≡ tail_word → e.found ≤ f.found }
+    ensures joined { (old other new : ChainEnd Q Q.World Q.Quaject)
+        → TookIn (view_of old) (view_of other) (view_of new)
+        → (head_of (queue_of (view_of old)) ≤ head_of (queue_of (view_of new)))
+        × (tail_of (queue_of (view_of old)) ≤ tail_of (queue_of (view_of new)))
+        × (head_of (queue_of (view_of other)) ≤ head_of (queue_of (view_of new)))
+        × (tail_of (queue_of (view_of other)) ≤ tail_of (queue_of (view_of new))) }
+{}
+
+/// What two ends of one chain own is apart: no position is in runs of both, nor in takings of both. So it is of ends
+/// whose views show the chain at one moment, and of two ends that were joined.
+pub fn joins_are_apart<Q: Quaject>()
+    ensures runs { (o : GatedQueue) (views : List View) → AreShown o views → (i j m n position : ℕ) (u v : View)
+        (a b : Batch) → i ≢ j → get_elem? views i ≡ some u → get_elem? views j ≡ some v
+        → get_elem? u.own.runs m ≡ some a → get_elem? v.own.runs n ≡ some b → IsAmong position a → IsAmong position b
+        → ⊥ }
+    ensures takings { (o : GatedQueue) (views : List View) → AreShown o views → (i j m n position : ℕ) (u v : View)
+        (a b : Batch) → i ≢ j → get_elem? views i ≡ some u → get_elem? views j ≡ some v
+        → get_elem? u.own.takes m ≡ some a → get_elem? v.own.takes n ≡ some b → IsAmong position a
+        → IsAmong position b → ⊥ }
+    ensures joined_runs { (old other new : ChainEnd Q Q.World Q.Quaject)
+        → TookIn (view_of old) (view_of other) (view_of new) → (m n position : ℕ) (a b : Batch)
+        → get_elem? (view_of old).own.runs m ≡ some a → get_elem? (view_of other).own.runs n ≡ some b
+        → IsAmong position a → IsAmong position b → ⊥ }
+    ensures joined_takings { (old other new : ChainEnd Q Q.World Q.Quaject)
+        → TookIn (view_of old) (view_of other) (view_of new) → (m n position : ℕ) (a b : Batch)
+        → get_elem? (view_of old).own.takes m ≡ some a → get_elem? (view_of other).own.takes n ≡ some b
+        → IsAmong position a → IsAmong position b → ⊥ }
 {}
 
 /// The same of a join: real steps lead from what either end had seen to what the one sees then, and the entry of the

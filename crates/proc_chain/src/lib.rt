@@ -53,6 +53,7 @@ mod close;
 mod ends;
 pub mod laws;
 mod layout;
+mod passing;
 mod plays;
 mod quaject;
 mod rule;

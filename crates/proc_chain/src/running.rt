@@ -3,7 +3,7 @@
 //! The types keep an order. The swap that finds the gate Idle alone makes a `Turn`. Taking a note spends the Turn and
 //! gives a `Taken`, which has the note; running it spends the `Taken` and gives the Turn back. Neither can be copied or
 //! let go. So each note is run behind its taking, and before the end takes the next one, begins a round or leaves.
-ghost use Rattle.std.specs.Prelude.{◌≡◌, ◌≢◌, ◌+◌, ◌<◌, ◌≤◌, ℕ, List, true, [], ◌∷◌, ◌++◌, MatchOption};
+ghost use Rattle.std.specs.Prelude.{◌≡◌, ◌<◌, ◌≤◌, ℕ, List, true, [], ◌∷◌, ◌++◌, MatchOption};
 ghost use Rattle.table_theory.specs.declared.positions.TheConstants.{POSITIONS};
 ghost use Rattle.table_theory.specs.Positioned.{tail_of, item_at, written_at};
 ghost use Rattle.table_theory.specs.Seating.{IsSame};

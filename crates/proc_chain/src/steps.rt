@@ -1,28 +1,27 @@
 //! The atomic steps. No signature has a const parameter, since a call of such a function could not pick ghost members.
-ghost use Rattle.std.specs.Prelude.{◌≡◌, ◌≢◌, ◌+◌, ◌-◌, ◌<◌, ◌≤◌, ℕ, List, true, false, [], length};
+ghost use Rattle.std.specs.Prelude.{◌≡◌, ◌≢◌, ◌+◌, ◌<◌, ◌≤◌, ℕ, false, [], length};
 ghost use Rattle.std.specs.Prelude.{slice_index_or};
 ghost use mathlib.Core.Option.{some};
 ghost use lib.ListN.{get_elem?};
 ghost use Rattle.table_theory.specs.declared.positions.TheConstants.{POSITIONS};
 ghost use Rattle.table_theory.specs.declared.queues.Batch.{Batch};
 ghost use Rattle.table_theory.specs.Ledgers.{CountedUp, CountedDown, Tallied};
-ghost use Rattle.table_theory.specs.Ledgers.{rest_of, newborn, both, emptied};
+ghost use Rattle.table_theory.specs.Ledgers.{rest_of, newborn};
 ghost use Rattle.table_theory.specs.Listing.{number_of};
-ghost use Rattle.table_theory.specs.Positioned.{blank, head_of, tail_of, written_at};
+ghost use Rattle.table_theory.specs.Positioned.{blank, tail_of};
 ghost use Rattle.table_theory.specs.Seating.{IsSame};
-ghost use Rattle.proc_chain.specs.Rules.{suits, makes, IsTold};
-ghost use Rattle.proc_chain.specs.Layout.{head_word, tail_word, ends_word, gate_word, place_word, raised_word};
+ghost use Rattle.proc_chain.specs.Rules.{suits, makes};
+ghost use Rattle.proc_chain.specs.Layout.{head_word, tail_word, ends_word, place_word, raised_word};
 ghost use Rattle.proc_chain.specs.Layout.{mark_of, width};
-ghost use Rattle.proc_chain.specs.declared.layout.TheConstants.{PLACES, IDLE, RUNNING, MORE, NOTES};
-ghost use Rattle.proc_chain.specs.Own.{nothing_did, did_both, queue_of};
-ghost use Rattle.proc_chain.specs.Steps.{Found, FoundNotRaised, Claimed, Raised, Took, Notified, GotTurn, BegunRound};
-ghost use Rattle.proc_chain.specs.Steps.{HasLeft, Meets, Stays};
+ghost use Rattle.proc_chain.specs.declared.layout.TheConstants.{NOTES};
+ghost use Rattle.proc_chain.specs.Own.{nothing_did, queue_of};
+ghost use Rattle.proc_chain.specs.Steps.{Found, FoundNotRaised, Claimed, Raised, BegunRound};
+ghost use Rattle.proc_chain.specs.Steps.{Meets, Stays};
 ghost use Rattle.proc_chain.specs.Turns.{IsRunner};
 
-use crate::layout::{ENDS, GATE, HEAD, IDLE, MORE, RUNNING, TAIL, place_word};
+use crate::layout::{ENDS, GATE, HEAD, RUNNING, place_word};
 use crate::plays::{
-    ClaimedNote, Claims, Counts, CountsDown, CountsUp, Finds, Gives, HandsOver, Joins, Leaves,
-    Notifies, Raises, Rounds, Runner, Spent, Spies, Takes,
+    ClaimedNote, Claims, Counts, CountsDown, CountsUp, Finds, Gives, Raises, Rounds, Spies,
 };
 use crate::quaject::Quaject;
 use crate::rule::{ChainRule, Pact, Shape, View};
@@ -167,33 +166,4 @@ pub(crate) fn split_off<Q: Quaject>(
         × (result.me ≡ (newborn nothing_did seat.old.me.0, [])) }
 {
     words.split_seat::<Gives>(seat)
-}
-
-/// The new end has all that the end had but the slot. The end is spent, and may still hold that.
-pub(crate) fn hand_over<Q: Quaject>(
-    words: &Shared<Q, View, Shape<Pact<Q::World, Q>>, ChainRule>,
-    seat: &mut Seat<Q, View>,
-) -> Seat<Q, View>
-    requires queue { (seat.old.table_id ≡ words.now.table_id) × (words.now.table_id.words ≡ width) }
-    ensures queue { result.table_id ≡ seat.old.table_id }
-    ensures moved { result.me ≡ (seat.old.me.0, []) }
-{
-    words.split_seat::<HandsOver>(seat)
-}
-
-pub(crate) fn take_in<Q: Quaject, J: Spent>(
-    words: &Shared<Q, View, Shape<Pact<Q::World, Q>>, ChainRule>,
-    seat: &mut Seat<Q, View>,
-    other: Seat<Q, View>,
-)
-    requires queue { (seat.old.table_id ≡ words.now.table_id) × (other.table_id ≡ words.now.table_id)
-        × (other.me.1 ≡ []) × (words.now.table_id.words ≡ width) }
-    requires live { 1 ≤ seat.old.me.0.member.ends }
-    requires turns { other.me.0.own.runner ≡ true → seat.old.me.0.own.runner ≡ true }
-    requires settled { other.me.0.own.owes ≡ false }
-    requires spent { J.view ≡ emptied nothing_did seat.old.me.0 }
-    ensures queue { IsSame seat.old seat.new }
-    ensures joined { seat.new.me ≡ (both did_both seat.old.me.0 other.me.0, seat.old.me.1) }
-{
-    words.join_seat::<Joins<J>>(seat, other);
 }

@@ -1,7 +1,10 @@
-use Rattle.proc_chain.proofs.Common.{◌≡◌, ◌∙◌, both, did_both, suits, makes}
+use Rattle.proc_chain.proofs.Common.{ℕ, ◌≤◌, arith, sym, subst, ◌≡◌, ◌∙◌, both, did_both, suits, makes}
 use Rattle.proc_chain.proofs.Finding.{slot_on}
 use Rattle.proc_chain.proofs.Opening.{took_now, took_parted}
 use Rattle.proc_chain.proofs.ends.ProcChain.take_over.Goals as goal
+
+pub hand_over-rest-requires-clause-live : goal.hand_over-rest-requires-clause-live
+hand_over-rest-requires-clause-live g c = subst (λ (z : ℕ). 1 ≤ z) (sym c.args.other.rests.one) (omega arith)
 
 pub returns-clause-joined : goal.returns-clause-joined
 returns-clause-joined g c = let end = c.args.end.now in let d = c.count_down.ensures in let is : c.take_in.new.seat.me.0 ≡ both did_both end.seat.me.0 c.args.other.seat.me.0 = (λ i. (c.take_in.ensures.joined i).0) ∙ (λ i. both did_both end.seat.me.0 (c.hand_over-rest.ensures.moved i).0) in (took_now _ _ _ _ is d.counted.0 d.counted.1 end.rests c.args.other.rests d.counted.2, d.stays.1.0 ∙ (λ i. (c.take_in.ensures.joined i).1))

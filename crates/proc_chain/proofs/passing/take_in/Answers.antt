@@ -1,9 +1,9 @@
 use Rattle.proc_chain.proofs.Common.{rules, subst, sym, Joins, both, did_both, suits, makes, Rule}
 use Rattle.proc_chain.proofs.Tallying.{joins}
-use Rattle.proc_chain.proofs.steps.take_in.Goals as goal
+use Rattle.proc_chain.proofs.passing.take_in.Goals as goal
 
 pub join_seat-requires : goal.join_seat-requires
-join_seat-requires g c = let a = c.args.seat.now in let b = c.args.other in (
+join_seat-requires g c = let a = c.args.seat.now in let b = c.args.other.seat in (
   search rules,
   search rules,
   c.requires.queue.2,

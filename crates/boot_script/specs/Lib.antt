@@ -12,6 +12,7 @@ pub mod BootLines
 pub mod Plans
 pub mod Drafts
 pub mod Spellings
+pub mod StreamFaults
 pub mod BootSpellings
 pub mod Answers
 pub mod RefusalNames

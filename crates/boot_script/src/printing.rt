@@ -3,14 +3,16 @@
 //! Things that are as they were at first have no line, but for queues and chains. Both go out as one text, for which
 //! the longest status of a core has room, so that who reads a pipe sees whole lines.
 
-ghost use Rattle.std.specs.Prelude.{◌≡◌, ◌<◌, OnOk};
+ghost use Rattle.std.specs.Prelude.{◌≡◌, ◌<◌, OnOk, OnErr};
 ghost use Rattle.std.specs.Io.KnownBytes.{Appends};
 ghost use Rattle.boot_script.specs.Printed.{word_if, numbered_lines, queue_line, gate_word, chain_line, place_words};
 ghost use Rattle.boot_script.specs.Printed.{hex_digit, hex_digits, is_first_state, element_words, element_line};
 ghost use Rattle.boot_script.specs.Printed.{gauge_line, clock_line, alarm_line, notified_line, status_text};
 ghost use Rattle.boot_script.specs.Printed.{refused_text};
+ghost use Rattle.boot_script.specs.StreamFaults.{IsWriteFault};
 
 use crate::page::Page;
+use crate::streams::{Lines, Sink};
 use event_theory::{
     AlarmStatus, ChainStatus, ElementStatus, Gate, Place, QueueStatus, Refusal, Status,
 };
@@ -257,18 +259,27 @@ fn print_lines<W: Write>(status: &Status, out: &mut W) -> io::Result<()>
     print_notifies(status.notified.as_slice(), out)
 }
 
+impl Lines for Status {
+    ghost text = { status_text };
+
+    fn print<W: Write>(&self, out: &mut W) -> io::Result<()> {
+        print_lines(self, out)
+    }
+}
+
 /// Prints the status of a core: how many events were allowed, a line for each queue and chain, and one for each
 /// element, gauge, clock and wait queue that isn't as it was at first. Takes no memory.
 ///
 /// It is one text for the writer, up to 8,192 bytes; none that a core has is longer. After a fault of the writer a
-/// front of the text may be written.
-pub fn print_status<W: Write>(status: &Status, out: &mut W) -> io::Result<()>
-    ensures { OnOk result (Appends (W.contents out.old) (W.contents out.new) (status_text status.now)) }
+/// front of the text may be written. There is no other fault.
+pub fn print_status<W: Sink>(status: &Status, out: &mut W) -> io::Result<()>
+    ensures effect { OnOk result (Appends (W.contents out.old) (W.contents out.new) (status_text status.now)) }
+    ensures error { OnErr result (IsWriteFault W.fails out.new) }
 {
     let mut page = Page::new();
     match print_lines(status, &mut page) {
-        Ok(()) => out.write_all(page.text()),
-        Err(_) => print_lines(status, out),
+        Ok(()) => out.write_text(page.text()),
+        Err(_) => out.write_lines(status),
     }
 }
 
@@ -281,15 +292,32 @@ fn print_refusal<W: Write>(line: u32, refusal: Refusal, out: &mut W) -> io::Resu
     writeln!(out, "refused {line} {number} {refusal}")
 }
 
+/// The line of an event that was refused.
+#[derive(Clone, Copy)]
+struct RefusedLine {
+    line: u32,
+    refusal: Refusal,
+}
+
+impl Lines for RefusedLine {
+    ghost text = { λ refused. refused_text refused.line refused.refusal };
+
+    fn print<W: Write>(&self, out: &mut W) -> io::Result<()> {
+        print_refusal(self.line, self.refusal, out)
+    }
+}
+
 /// Prints the line of an event that was refused: its line in the script, and the refusal's number and name.
 ///
-/// Takes no memory. The line is one text for the writer. After a fault of the writer a front of it may be written.
-pub fn print_refused<W: Write>(line: u32, refusal: Refusal, out: &mut W) -> io::Result<()>
-    ensures { OnOk result (Appends (W.contents out.old) (W.contents out.new) (refused_text line refusal)) }
+/// Takes no memory. The line is one text for the writer. After a fault of the writer a front of it may be written. There
+/// is no other fault.
+pub fn print_refused<W: Sink>(line: u32, refusal: Refusal, out: &mut W) -> io::Result<()>
+    ensures effect { OnOk result (Appends (W.contents out.old) (W.contents out.new) (refused_text line refusal)) }
+    ensures error { OnErr result (IsWriteFault W.fails out.new) }
 {
     let mut page = Page::new();
     match print_refusal(line, refusal, &mut page) {
-        Ok(()) => out.write_all(page.text()),
-        Err(_) => print_refusal(line, refusal, out),
+        Ok(()) => out.write_text(page.text()),
+        Err(_) => out.write_lines(&RefusedLine { line, refusal }),
     }
 }

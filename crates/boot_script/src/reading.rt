@@ -1,13 +1,15 @@
 //! Reading a script.
 
-ghost use Rattle.std.specs.Prelude.{◌≡◌, ◌≤◌, length, take, IfOk, IfSome};
+ghost use Rattle.std.specs.Prelude.{◌≡◌, ◌≤◌, length, take, IfOk, IfSome, OnErr};
 ghost use Rattle.boot_script.specs.Plans.{text_plan};
 ghost use Rattle.boot_script.specs.Scripts.{text_events};
+ghost use Rattle.boot_script.specs.StreamFaults.{IsReadFault};
 
 use crate::opening::MOST_BYTES;
+use crate::streams::Source;
 use std::error::Error as StdError;
 use std::fmt;
-use std::io::{ErrorKind, Read};
+use std::io::ErrorKind;
 
 /// How many calls of read a script may take.
 const MOST_READS: u32 = 131_072;
@@ -31,10 +33,11 @@ impl StdError for ReadFault {}
 /// Fills the front of the buffer up to the end of the reader, or just past the length that a script may have, and gives
 /// the length of that front. It says what all bytes of the reader say, as a list of events and as a boot script.
 ///
-/// Takes no memory, so that a fault of the text is told where memory is wanting.
+/// Takes no memory, so that a fault of the text is told where memory is wanting. A read fault has its cause in the calls
+/// on the reader.
 ///
 /// Condition: the buffer has 65,537 bytes.
-pub fn read_script<R: Read>(reader: &mut R, buffer: &mut [u8]) -> Result<usize, ReadFault>
+pub fn read_script<R: Source>(reader: &mut R, buffer: &mut [u8]) -> Result<usize, ReadFault>
     requires { length buffer.old ≡ 65537 }
     ensures events { IfOk result (λ n. IfSome (R.remaining reader.old) (λ bytes. text_events bytes ≡ text_events
         (take n buffer.new))) }
@@ -42,10 +45,11 @@ pub fn read_script<R: Read>(reader: &mut R, buffer: &mut [u8]) -> Result<usize, 
         (take n buffer.new))) }
     ensures within { IfOk result (λ n. n ≤ 65537) }
     ensures long { length buffer.new ≡ 65537 }
+    ensures error { OnErr result (IsReadFault R.answers reader.old reader.new) }
 {
     let mut filled = 0;
     for _ in 0..MOST_READS {
-        match reader.read(&mut buffer[filled..]) {
+        match reader.ask(&mut buffer[filled..]) {
             Ok(0) => return Ok(filled),
             Ok(n) => {
                 filled += n;

@@ -3,7 +3,7 @@
 //! Lines are gathered in a buffer, which is written out where the next lines don't fit, so that a report goes out in
 //! few writes, each of whole lines.
 
-ghost use Rattle.std.specs.Prelude.{◌≡◌, ◌<◌, ◌++◌, ℕ, List, [], OnOk, length, Some, codes};
+ghost use Rattle.std.specs.Prelude.{◌≡◌, ◌<◌, ◌++◌, [], OnOk, OnErr, length, Some, codes};
 ghost use Rattle.std.specs.Fmt.{decimal};
 ghost use Rattle.std.specs.Io.KnownBytes.{Appends, append_known};
 ghost use Rattle.std.specs.List.{flat_map, slice_get};
@@ -12,8 +12,10 @@ ghost use Rattle.boot_script.specs.Reports.{tty_lines, mover_word, mover_line, g
 ghost use Rattle.boot_script.specs.Reports.{signals_words, thread_line, stands_for_itself, upper_digit, written_byte};
 ghost use Rattle.boot_script.specs.Reports.{heard_text, heard_line, chained_line, report_text};
 ghost use Rattle.boot_script.specs.Heard.{shown};
+ghost use Rattle.boot_script.specs.StreamFaults.{IsWriteFault};
 
 use crate::printing::digits_of;
+use crate::streams::{Lines, Sink};
 use arrayvec::{ArrayVec, CapacityError};
 use boot_data::{
     AlarmCounts, GaugeLine, HeardReport, ItemCounts, MoverKind, MoverLine, Name, QueueKind,
@@ -24,16 +26,6 @@ use std::io::Write;
 
 /// Lines that go out in one write.
 type Buffer = ArrayVec<u8, 8192>;
-
-/// What has lines in a report.
-trait Lines {
-    /// The bytes of its lines.
-    ghost text: { Self → List ℕ };
-
-    /// Prints its lines.
-    fn print<W: Write>(&self, out: &mut W) -> io::Result<()>
-        ensures { OnOk result (Appends (W.contents out.old) (W.contents out.new) (text self.now)) };
-}
 
 /// A line's first word, and a name.
 #[tactic(auto, unfolding(crate::specs::Reports::named))]
@@ -310,20 +302,22 @@ impl Lines for Chained {
 }
 
 /// Writes out what is in the buffer, and empties it.
-fn write_out<W: Write>(buffer: &mut Buffer, out: &mut W) -> io::Result<()>
+fn write_out<W: Sink>(buffer: &mut Buffer, out: &mut W) -> io::Result<()>
     ensures text { OnOk result (Appends (W.contents out.old) (W.contents out.new) buffer.old.items) }
+    ensures error { OnErr result (IsWriteFault W.fails out.new) }
     ensures empty { OnOk result (buffer.new.items ≡ []) }
 {
-    out.write_all(buffer.as_slice())?;
+    out.write_text(buffer.as_slice())?;
     buffer.clear();
     Ok(())
 }
 
 /// Puts whole lines in the buffer. Where they don't fit beside what is there, that goes out first; where they don't fit
 /// even then, they go out by themselves.
-fn put_text<W: Write>(text: &[u8], buffer: &mut Buffer, out: &mut W) -> io::Result<()>
-    ensures { OnOk result (Appends (append_known (W.contents out.old) buffer.old.items)
+fn put_text<W: Sink>(text: &[u8], buffer: &mut Buffer, out: &mut W) -> io::Result<()>
+    ensures effect { OnOk result (Appends (append_known (W.contents out.old) buffer.old.items)
         (append_known (W.contents out.new) buffer.new.items) text.now) }
+    ensures error { OnErr result (IsWriteFault W.fails out.new) }
 {
     if buffer.try_extend_from_slice(text).is_ok() {
         return Ok(());
@@ -332,18 +326,19 @@ fn put_text<W: Write>(text: &[u8], buffer: &mut Buffer, out: &mut W) -> io::Resu
     if buffer.try_extend_from_slice(text).is_ok() {
         return Ok(());
     }
-    out.write_all(text)
+    out.write_text(text)
 }
 
 /// Puts the lines of one thing in the buffer. `own` is room to print them in, whatever stands there.
-fn put<L: Lines, W: Write>(
+fn put<L: Lines, W: Sink>(
     lines: &L,
     own: &mut Buffer,
     buffer: &mut Buffer,
     out: &mut W,
 ) -> io::Result<()>
-    ensures { OnOk result (Appends (append_known (W.contents out.old) buffer.old.items)
+    ensures effect { OnOk result (Appends (append_known (W.contents out.old) buffer.old.items)
         (append_known (W.contents out.new) buffer.new.items) (L.text lines.now)) }
+    ensures error { OnErr result (IsWriteFault W.fails out.new) }
 {
     own.clear();
     match lines.print(own) {
@@ -351,20 +346,21 @@ fn put<L: Lines, W: Write>(
         Err(_) => {
             // Longer than a buffer, as no lines of one thing are today.
             write_out(buffer, out)?;
-            lines.print(out)
+            out.write_lines(lines)
         }
     }
 }
 
 /// Puts the lines of all these in the buffer.
-fn put_all<L: Lines, W: Write>(
+fn put_all<L: Lines, W: Sink>(
     all: &[L],
     own: &mut Buffer,
     buffer: &mut Buffer,
     out: &mut W,
 ) -> io::Result<()>
-    ensures { OnOk result (Appends (append_known (W.contents out.old) buffer.old.items)
+    ensures effect { OnOk result (Appends (append_known (W.contents out.old) buffer.old.items)
         (append_known (W.contents out.new) buffer.new.items) (flat_map L.text all.now)) }
+    ensures error { OnErr result (IsWriteFault W.fails out.new) }
 {
     for lines in all {
         put(lines, own, buffer, out)?;
@@ -427,14 +423,15 @@ fn add_heard(line: &HeardLine, room: &mut Buffer) -> Result<(), CapacityError>
 
 /// Puts a line that was heard in the buffer. `room` is a buffer to put it together in, whatever stands there: with no
 /// writer where its step is below 100, as each is today.
-fn put_line<W: Write>(
+fn put_line<W: Sink>(
     line: &HeardLine,
     room: &mut Buffer,
     buffer: &mut Buffer,
     out: &mut W,
 ) -> io::Result<()>
-    ensures { OnOk result (Appends (append_known (W.contents out.old) buffer.old.items)
+    ensures effect { OnOk result (Appends (append_known (W.contents out.old) buffer.old.items)
         (append_known (W.contents out.new) buffer.new.items) (heard_line (shown line.now))) }
+    ensures error { OnErr result (IsWriteFault W.fails out.new) }
 {
     room.clear();
     if line.step < 100 && add_heard(line, room).is_ok() {
@@ -444,14 +441,15 @@ fn put_line<W: Write>(
 }
 
 /// Puts the lines of what was heard in the buffer.
-fn put_heard<W: Write>(
+fn put_heard<W: Sink>(
     heard: &HeardReport,
     own: &mut Buffer,
     buffer: &mut Buffer,
     out: &mut W,
 ) -> io::Result<()>
-    ensures { OnOk result (Appends (append_known (W.contents out.old) buffer.old.items)
+    ensures effect { OnOk result (Appends (append_known (W.contents out.old) buffer.old.items)
         (append_known (W.contents out.new) buffer.new.items) (flat_map heard_line heard.now)) }
+    ensures error { OnErr result (IsWriteFault W.fails out.new) }
 {
     for number in 0..heard.len() {
         put_line(&line_at(heard, number), own, buffer, out)?;
@@ -463,10 +461,11 @@ fn put_heard<W: Write>(
 /// that of the chains. Takes no memory.
 ///
 /// The lines go out in writes of up to 8,192 bytes, each of whole lines. After a fault of the writer a front of the
-/// text may be written.
+/// text may be written. There is no other fault.
 #[tactic(auto, unfolding(crate::specs::Reports::report_text))]
-pub fn print_report<W: Write>(report: &Report, out: &mut W) -> io::Result<()>
-    ensures { OnOk result (Appends (W.contents out.old) (W.contents out.new) (report_text report.now)) }
+pub fn print_report<W: Sink>(report: &Report, out: &mut W) -> io::Result<()>
+    ensures effect { OnOk result (Appends (W.contents out.old) (W.contents out.new) (report_text report.now)) }
+    ensures error { OnErr result (IsWriteFault W.fails out.new) }
 {
     let mut own = Buffer::new();
     let mut buffer = Buffer::new();

@@ -1,11 +1,12 @@
 //! Reading a list of events, running it on a fresh core, and printing the core's status.
 
-ghost use Rattle.std.specs.Prelude.{◌≡◌, ◌≢◌, ◌≤◌, IfOk, IfErr, IfSome, OnOk};
+ghost use Rattle.std.specs.Prelude.{◌≡◌, ◌≢◌, ◌≤◌, IfOk, IfErr, IfSome, OnOk, OnErr};
 ghost use Rattle.std.specs.Io.KnownBytes.{Appends, Keeps};
 ghost use Rattle.event_theory.specs.States.{first_state};
 ghost use Rattle.quaject_core.specs.ShownCores.{state};
 ghost use Rattle.boot_script.specs.Scripts.{text_events};
 ghost use Rattle.boot_script.specs.Replays.{Replays, replay_text, IsReplay, IsAnswer, IsReplayFault, Ends};
+ghost use Rattle.boot_script.specs.StreamFaults.{IsReadFault, IsWriteFault};
 
 use crate::events::parse_events;
 use crate::fault::ScriptRefusal;
@@ -13,11 +14,11 @@ use crate::opening::MOST_BYTES;
 use crate::outcome::{ReplayFault, Replayed};
 use crate::printing::{print_refused, print_status};
 use crate::reading::read_script;
+use crate::streams::{Sink, Source};
 use event_theory::{Event, Refusal, Status};
 use quaject_core::Core;
 use std::alloc::Global;
 use std::io;
-use std::io::{Read, Write};
 
 /// Applies events up to the first that is refused.
 fn apply_all(core: &mut Core, events: &[(u32, Event)]) -> Result<Replayed, ReplayFault>
@@ -57,8 +58,10 @@ fn run_events(
 }
 
 /// Prints the status, and then the line of the event that was refused.
-fn print_replay<W: Write>(replayed: Replayed, status: &Status, writer: &mut W) -> io::Result<()>
-    ensures { OnOk result (Appends (W.contents writer.old) (W.contents writer.new) (replay_text replayed status.now)) }
+fn print_replay<W: Sink>(replayed: Replayed, status: &Status, writer: &mut W) -> io::Result<()>
+    ensures effect { OnOk result (Appends (W.contents writer.old) (W.contents writer.new)
+        (replay_text replayed status.now)) }
+    ensures error { OnErr result (IsWriteFault W.fails writer.new) }
 {
     print_status(status, writer)?;
     match replayed {
@@ -68,12 +71,14 @@ fn print_replay<W: Write>(replayed: Replayed, status: &Status, writer: &mut W) -
 }
 
 /// Runs the list of events that a text says on a fresh core, and prints the core's status.
-fn run_text<W: Write>(alloc: Global, text: &[u8], writer: &mut W) -> Result<Replayed, ReplayFault>
+fn run_text<W: Sink>(alloc: Global, text: &[u8], writer: &mut W) -> Result<Replayed, ReplayFault>
     ensures ok { IfOk result (λ replayed. IsReplay (text_events text.now) replayed (W.contents writer.old)
         (W.contents writer.new)) }
     ensures fault { IfErr result (λ fault. IsReplayFault (text_events text.now) fault) }
     ensures unwritten { IfErr result (λ fault. fault ≢ ReplayFault.Write
         → Keeps (W.contents writer.old) (W.contents writer.new)) }
+    ensures unread { IfErr result (λ fault. fault ≢ ReplayFault.Read) }
+    ensures write { IfErr result (λ fault. fault ≡ ReplayFault.Write → IsWriteFault W.fails writer.new) }
 {
     match parse_events(alloc, text) {
         Ok((elements, events)) => {
@@ -94,8 +99,9 @@ fn run_text<W: Write>(alloc: Global, text: &[u8], writer: &mut W) -> Result<Repl
 ///
 /// Printed is the status after the events before the first that isn't allowed, and then that event's `refused` line,
 /// where there is one. After a fault other than `Write` nothing was written. `Memory` is answered only where the text
-/// has no fault.
-pub fn replay_on<R: Read, W: Write>(
+/// has no fault. `Read` comes only where the last call on the reader answered an error other than an interruption, or at
+/// 131,072 calls, and `Write` only where the last call on the writer answered an error.
+pub fn replay_on<R: Source, W: Sink>(
     alloc: Global,
     reader: &mut R,
     writer: &mut W,
@@ -106,6 +112,8 @@ pub fn replay_on<R: Read, W: Write>(
         (text_events bytes) fault)) }
     ensures unwritten { IfErr result (λ fault. fault ≢ ReplayFault.Write
         → Keeps (W.contents writer.old) (W.contents writer.new)) }
+    ensures read { IfErr result (λ fault. fault ≡ ReplayFault.Read → IsReadFault R.answers reader.old reader.new) }
+    ensures write { IfErr result (λ fault. fault ≡ ReplayFault.Write → IsWriteFault W.fails writer.new) }
 {
     let mut buffer = [0u8; MOST_BYTES + 1];
     let filled = read_script(reader, &mut buffer)?;
@@ -113,7 +121,7 @@ pub fn replay_on<R: Read, W: Write>(
 }
 
 /// The same of a reader and a writer that are handed over.
-pub fn replay<R: Read + Drop, W: Write + Drop>(
+pub fn replay<R: Source + Drop, W: Sink + Drop>(
     alloc: Global,
     mut reader: R,
     mut writer: W,
@@ -122,6 +130,9 @@ pub fn replay<R: Read + Drop, W: Write + Drop>(
         (text_events bytes) replayed)) }
     ensures fault { IfErr result (λ fault. IfSome (R.remaining reader) (λ bytes. IsReplayFault
         (text_events bytes) fault)) }
+    ensures read { IfErr result (λ fault. fault ≡ ReplayFault.Read
+        → (last : R) × IsReadFault R.answers reader last) }
+    ensures write { IfErr result (λ fault. fault ≡ ReplayFault.Write → (last : W) × IsWriteFault W.fails last) }
 {
     replay_on(alloc, &mut reader, &mut writer)
 }

@@ -1,0 +1,70 @@
+//! What a script is read from, and what text is written on: every reader, and every writer.
+//!
+//! A fault of a stream has to have its cause. `answers` and `fails` carry it: code that is generic over a stream knows
+//! of them only what a call on that stream ensured. So a contract that says one of them says that the call was made.
+
+ghost use Rattle.std.specs.Prelude.{◌≡◌, ℕ, List, Result, ⊤, OnOk, OnErr};
+ghost use Rattle.std.specs.declared.io.Error.{Error};
+ghost use Rattle.std.specs.Io.{ReadsAtMost};
+ghost use Rattle.std.specs.Io.KnownBytes.{Appends, ReadConsumes};
+
+use std::io;
+use std::io::{Read, Write};
+
+/// What a script is read from. Every reader is one.
+pub trait Source: Read {
+    /// One call of `read` found the first of these readers, answered so, and left the second.
+    ghost answers: { Self → Result ℕ Error → Self → Type 0 };
+
+    /// Calls `read` once.
+    fn ask(&mut self, buf: &mut [u8]) -> io::Result<usize>
+        ensures bound { ReadsAtMost result buf.new }
+        ensures bytes { ReadConsumes (Self.remaining self.old) (Self.remaining self.new) result buf.new }
+        ensures answered { answers self.old result self.new };
+}
+
+impl<R: Read> Source for R {
+    ghost answers = { λ _ _ _. ⊤ };
+
+    fn ask(&mut self, buf: &mut [u8]) -> io::Result<usize> {
+        self.read(buf)
+    }
+}
+
+/// What has lines to be printed.
+pub trait Lines {
+    /// The bytes of its lines.
+    ghost text: { Self → List ℕ };
+
+    /// Prints its lines.
+    fn print<W: Write>(&self, out: &mut W) -> io::Result<()>
+        ensures { OnOk result (Appends (W.contents out.old) (W.contents out.new) (text self.now)) };
+}
+
+/// What text is written on. Every writer is one.
+pub trait Sink: Write {
+    /// One call on the first of these writers answered an error, and left the second.
+    ghost fails: { Self → Self → Type 0 };
+
+    /// Writes a whole text, by `write_all`.
+    fn write_text(&mut self, text: &[u8]) -> io::Result<()>
+        ensures bytes { OnOk result (Appends (Self.contents self.old) (Self.contents self.new) text.now) }
+        ensures failed { OnErr result (fails self.old self.new) };
+
+    /// Writes the lines of a thing part by part, where they are too long for a buffer.
+    fn write_lines<L: Lines>(&mut self, lines: &L) -> io::Result<()>
+        ensures bytes { OnOk result (Appends (Self.contents self.old) (Self.contents self.new) (L.text lines.now)) }
+        ensures failed { OnErr result (fails self.old self.new) };
+}
+
+impl<W: Write> Sink for W {
+    ghost fails = { λ _ _. ⊤ };
+
+    fn write_text(&mut self, text: &[u8]) -> io::Result<()> {
+        self.write_all(text)
+    }
+
+    fn write_lines<L: Lines>(&mut self, lines: &L) -> io::Result<()> {
+        lines.print(self)
+    }
+}

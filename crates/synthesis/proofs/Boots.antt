@@ -1,17 +1,40 @@
--- The answer of a boot alone, and its status.
-use Rattle.std.proofs.Common.{◌≡◌, ℕ, List, Option, Result, Ok, Err}
+-- The answer of a boot, as it stands in the exit of a run, and alone.
+use Rattle.std.proofs.Common.{◌≢◌, refl, ℕ, List, Option, Some, None, Result, Ok, Err, IfOk, IfErr, IfSome}
+use Rattle.std.specs.Result.{result_ok}
+use Rattle.std.specs.Io.KnownBytes.{Keeps}
+use Rattle.boot_script.specs.Plans.{text_plan}
 use Rattle.synth_kernel.specs.declared.outcome.Ended as endings
 use Rattle.synth_kernel.specs.declared.outcome.BootFault.{BootFault}
-use Rattle.synthesis.specs.Runs.{BootAnswers, IsBootAnswerOf}
+use Rattle.synth_kernel.specs.declared.outcome.BootFault.TheVariants as boot_faults
+use Rattle.synth_kernel.specs.declared.printing.Booted.{Booted}
+use Rattle.synth_kernel.specs.Boots.{CameBackPlain, HasNumbers, IsBoot, IsBootFault}
+use Rattle.turn_io.specs.declared.gate.NoGate.{NoGate}
+use Rattle.synthesis.specs.Runs.{answer_in, BootAnswers, IsBootedBy, IsBootAnswerOf}
+
+-- what a boot answered is in the exit
+pub booted_by : (read : Option (List ℕ)) (processors turns : ℕ) (answer : Result (Booted NoGate) BootFault) (old new : Option (List ℕ))
+    → IfOk answer (HasNumbers processors turns)
+    → IfOk answer (λ booted. IsBoot (CameBackPlain processors turns booted.gates.items booted.closed) read booted.ended old new)
+    → IfErr answer (λ fault. IfSome read (λ bytes. IsBootFault (text_plan bytes) fault))
+    → IfErr answer (λ fault. fault ≢ boot_faults.Write → Keeps old new)
+    → IsBootedBy read processors turns (answer_in answer) (result_ok answer) old new
+booted_by read processors turns (Ok booted) old new numbers boot fault unwritten = ((refl, numbers, boot), tt)
+booted_by read processors turns (Err why) old new numbers boot fault unwritten = (fault, unwritten)
 
 pub answer_alone :
-    (read : Option (List ℕ)) (processors turns : ℕ) (answer : Result endings.Ended BootFault) (old new : Option (List ℕ))
-    → BootAnswers read processors turns answer old new → IsBootAnswerOf read processors turns answer
-answer_alone read processors turns (Ok ended) old new h = record {
-  plan = h.plan;
-  says = h.says;
-  report = h.run.report;
-  booted = h.run.booted;
-  ends = h.run.ends;
-}
-answer_alone read processors turns (Err fault) old new h = h
+    (read : Option (List ℕ)) (processors turns : ℕ) (answer : Result endings.Ended BootFault) (booted : Option (Booted NoGate)) (old new : Option (List ℕ))
+    → BootAnswers read processors turns answer booted old new → IsBootAnswerOf read processors turns answer
+answer_alone read processors turns (Ok ended) (Some booted) old new h = (
+  booted.gates.items,
+  booted.closed,
+  record {
+    plan = h.2.plan;
+    says = h.2.says;
+    report = h.2.run.report;
+    booted = h.2.run.booted;
+    ends = h.2.run.ends;
+  },
+)
+answer_alone read processors turns (Ok ended) None old new h = absurd h
+answer_alone read processors turns (Err fault) (Some booted) old new h = absurd h
+answer_alone read processors turns (Err fault) None old new h = h

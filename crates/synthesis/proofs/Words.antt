@@ -1,11 +1,12 @@
 -- A test of the one word, or of the first of three, is a test of the words.
 use Rattle.std.proofs.Common.{◌≡◌, ℕ, List, [], ◌∷◌, ◌∙◌, sym, ap, arith, length, get_or, map, Bool, true, IsTrue, Bor, ◌↔◌, ◌≤◌, ◌<◌, subst}
-use Rattle.std.specs.Prelude.{Option, Some, None, IfSome, IfNone, codes}
+use Rattle.std.specs.Prelude.{Option, Some, None, IfSome, IfNone, codes, slice_index_or}
+use Rattle.boot_script.specs.Words.{number_of}
 use Rattle.std.specs.Str.{bytes_eq}
 use Rattle.std.proofs.lemmas.Slice.Eq.{bytes_eq-Decides}
 use Rattle.synthesis.specs.declared.command.Command.{Command}
 use Rattle.synthesis.specs.declared.command.Command.TheVariants.{Replay, Boot}
-use Rattle.synthesis.specs.Commands.{AreNumbers, Asks, IsBootOf, IsNoCommand}
+use Rattle.synthesis.specs.Commands.{AreNumbers, Asks, IsBootCommand, IsBootOf, IsNoCommand}
 
 pub one_word :
     (words : List (Bor (List ℕ))) (none : Bor (List ℕ)) (text : List ℕ) (b : Bool)
@@ -64,3 +65,19 @@ pub asked_nothing :
     → IfNone result (IsNoCommand words)
 asked_nothing words first second None e none = nothing_asked words first second e none
 asked_nothing words first second (Some command) e none = none
+
+pub asked_of : (words : List (List ℕ)) (command : Command) (processors turns : ℕ) → command ≡ Boot processors turns → Asks words command → IsBootCommand words processors turns
+asked_of words command processors turns is asks = subst (Asks words) is asks
+
+-- words ask for one number of processors, and for one of turns
+pub same_processors : (words : List (List ℕ)) (p t p' t' : ℕ) → IsBootCommand words p t → IsBootCommand words p' t' → p ≡ p'
+same_processors words p t p' t' a b =
+    let f : a.first ≡ b.first = ap (λ (xs : List (List ℕ)). slice_index_or xs 1 []) (sym a.words_are ∙ b.words_are) in
+    let pa = a.numbers.processors_said in let pb = b.numbers.processors_said in
+    let k = sym pa ∙ (ap (number_of 8) f ∙ pb) in cc
+
+pub same_turns : (words : List (List ℕ)) (p t p' t' : ℕ) → IsBootCommand words p t → IsBootCommand words p' t' → t ≡ t'
+same_turns words p t p' t' a b =
+    let f : a.second ≡ b.second = ap (λ (xs : List (List ℕ)). slice_index_or xs 2 []) (sym a.words_are ∙ b.words_are) in
+    let pa = a.numbers.turns_said in let pb = b.numbers.turns_said in
+    let k = sym pa ∙ (ap (number_of 100000000) f ∙ pb) in cc

@@ -1,5 +1,5 @@
 -- What the exit status and the words of a run say.
-use Rattle.std.specs.Prelude.{◌≡◌, ◌≢◌, ℕ, List, [], ◌++◌, codes, Option, Result, Ok, Err, IfSome, OnOk}
+use Rattle.std.specs.Prelude.{◌≡◌, ◌≢◌, ℕ, List, [], ◌++◌, codes, Option, Some, None, Result, Ok, Err, IfSome, OnOk}
 use Rattle.std.specs.Io.KnownBytes.{Appends, Keeps}
 use Rattle.event_theory.specs.declared.event.Event.{Event}
 use Rattle.boot_script.specs.declared.fault.ScriptFault.{ScriptFault}
@@ -8,6 +8,7 @@ use Rattle.boot_script.specs.declared.outcome.Replayed.TheVariants.{AllAllowed, 
 use Rattle.boot_script.specs.declared.outcome.ReplayFault.{ReplayFault}
 use Rattle.boot_script.specs.declared.outcome.ReplayFault.TheVariants.{Script, Memory, Read, Write}
 use Rattle.boot_script.specs.Printed.{end_of_line, replay_fault_text}
+use Rattle.boot_objects.specs.declared.closing.all.Unmade.{Unmade}
 use Rattle.boot_script.specs.Plans.{text_plan}
 use Rattle.boot_script.specs.Scripts.{text_events}
 use Rattle.boot_script.specs.Replays.{IsReplay, IsAnswer, IsReplayFault}
@@ -16,7 +17,9 @@ use Rattle.synth_kernel.specs.declared.outcome.Ended.TheVariants.{AllEnded, Unfi
 use Rattle.synth_kernel.specs.declared.outcome.BootFault.{BootFault}
 use Rattle.synth_kernel.specs.declared.outcome.BootFault.TheVariants as boot_faults
 use Rattle.synth_kernel.specs.Faults.{boot_fault_text}
-use Rattle.synth_kernel.specs.Boots.{HadTurns, IsBoot, IsBootAnswer, IsBootFault}
+use Rattle.synth_kernel.specs.declared.printing.Booted.{Booted}
+use Rattle.synth_kernel.specs.Boots.{CameBackPlain, HasNumbers, IsBoot, IsBootAnswer, IsBootFault}
+use Rattle.turn_io.specs.declared.gate.NoGate.{NoGate}
 use Rattle.synthesis.specs.declared.program.Exit.{Exit}
 
 -- what is told of other words
@@ -84,27 +87,37 @@ abbrev pub boot_words_of : Result endings.Ended BootFault → List ℕ
 boot_words_of (Ok ended) = []
 boot_words_of (Err fault) = boot_fault_text fault ++ end_of_line
 
--- what was read has the answer on so many processors, after so many turns of each, and where that is printed, just the
--- report is appended
-abbrev pub BootAnswers : Option (List ℕ) → ℕ → ℕ → Result endings.Ended BootFault
+-- the answer of a boot alone
+abbrev pub answer_in : Result (Booted NoGate) BootFault → Result endings.Ended BootFault
+answer_in (Ok booted) = Ok booted.ended
+answer_in (Err fault) = Err fault
+
+-- What was read has the answer on so many processors, after so many turns of each, and where that is printed, just the
+-- report is appended. What the boot came to is there, with both numbers
+abbrev pub BootAnswers : Option (List ℕ) → ℕ → ℕ → Result endings.Ended BootFault → Option (Booted NoGate)
     → Option (List ℕ) → Option (List ℕ) → Type 0
-BootAnswers read processors turns (Ok ended) old new = IsBoot (HadTurns processors turns) read ended old new
-BootAnswers read processors turns (Err fault) old new = IfSome read (λ bytes. IsBootFault (text_plan bytes) fault)
+BootAnswers read processors turns (Ok ended) (Some booted) old new = (booted.ended ≡ ended)
+    × HasNumbers processors turns booted
+    × IsBoot (CameBackPlain processors turns booted.gates.items booted.closed) read ended old new
+BootAnswers read processors turns (Err fault) None old new = IfSome read (λ bytes. IsBootFault (text_plan bytes) fault)
+BootAnswers read processors turns answer booted old new = ⊥
 
 -- nothing was written under another fault of a boot than the writer's
 abbrev pub IsBootUnwritten : Result endings.Ended BootFault → Option (List ℕ) → Option (List ℕ) → Type 0
 IsBootUnwritten (Ok ended) old new = Unit {0}
 IsBootUnwritten (Err fault) old new = fault ≢ boot_faults.Write → Keeps old new
 
--- a boot of the bytes, where they are known, has this answer, and turns the bytes of the writer from old to new
-abbrev pub IsBootedBy : Option (List ℕ) → ℕ → ℕ → Result endings.Ended BootFault
+-- a boot of the bytes, where they are known, has this answer and came to this, and turns the bytes of the writer from
+-- old to new
+abbrev pub IsBootedBy : Option (List ℕ) → ℕ → ℕ → Result endings.Ended BootFault → Option (Booted NoGate)
     → Option (List ℕ) → Option (List ℕ) → Type 0
-IsBootedBy read processors turns answer old new =
-    BootAnswers read processors turns answer old new × IsBootUnwritten answer old new
+IsBootedBy read processors turns answer booted old new =
+    BootAnswers read processors turns answer booted old new × IsBootUnwritten answer old new
 
--- the answer of a boot alone
+-- such an answer, whatever is printed
 abbrev pub IsBootAnswerOf : Option (List ℕ) → ℕ → ℕ → Result endings.Ended BootFault → Type 0
-IsBootAnswerOf read processors turns (Ok ended) = IsBootAnswer (HadTurns processors turns) read ended
+IsBootAnswerOf read processors turns (Ok ended) = (back : List NoGate) × (closed : Unmade)
+    × IsBootAnswer (CameBackPlain processors turns back closed) read ended
 IsBootAnswerOf read processors turns (Err fault) = IfSome read (λ bytes. IsBootFault (text_plan bytes) fault)
 
 -- an exit status is that of a boot of what was read, on so many processors, after so many turns of each

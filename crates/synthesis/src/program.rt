@@ -1,6 +1,7 @@
 //! The exit status of each run, and the words for standard error.
 
 ghost use Rattle.std.specs.Prelude.{◌≡◌, ◌≢◌, ◌≤◌, ℕ, map, IfSome, OnOk, Result};
+ghost use Rattle.std.specs.Result.{result_ok};
 ghost use Rattle.std.specs.Io.KnownBytes.{Appends};
 ghost use Rattle.boot_script.specs.declared.outcome.Replayed.{Replayed};
 ghost use Rattle.boot_script.specs.declared.outcome.ReplayFault.{ReplayFault};
@@ -10,7 +11,7 @@ ghost use Rattle.synth_kernel.specs.declared.outcome.BootFault.{BootFault};
 ghost use Rattle.synthesis.specs.Commands.{replay_command, IsBootCommand, IsNoCommand};
 ghost use Rattle.synthesis.specs.Runs.{usage_words, no_memory_words, exit_code_of, words_of};
 ghost use Rattle.synthesis.specs.Runs.{IsReplayOf, IsExit, IsStatus};
-ghost use Rattle.synthesis.specs.Runs.{boot_exit_code_of, boot_words_of, IsBootedBy, IsBootStatus};
+ghost use Rattle.synthesis.specs.Runs.{boot_exit_code_of, boot_words_of, answer_in, IsBootedBy, IsBootStatus};
 
 use crate::command::{Command, command_of};
 use boot_script::{ReplayFault, Replayed, replay_on};
@@ -19,18 +20,20 @@ use std::io;
 use std::io::{Read, Write};
 use std::sync::Wait;
 use std::thread::Threads;
-use synth_kernel::{BootFault, boot_on};
+use synth_kernel::{BootFault, Booted, Ended, NoGate, boot_on};
 
 /// The status of words that are no command.
 const USAGE_FAULT: u8 = 2;
 
 /// How a run has ended.
-#[derive(Debug, Drop)]
+#[derive(Drop)]
 pub struct Exit {
     /// The exit status.
     pub status: u8,
     /// Whether the error stream took all the words for it.
     pub told: io::Result<()>,
+    /// What a boot answered whose report was printed.
+    pub booted: Option<Booted<NoGate>>,
 }
 
 /// Runs the program with its words.
@@ -56,7 +59,8 @@ pub fn run_on<RT: Threads + Wait + Sync, R: Read, W: Write, E: Write>(
         × IsExit result (exit_code_of answer) (words_of answer) (E.contents errors.old) (E.contents errors.new) }
     ensures boot { (processors turns : ℕ) → IsBootCommand (map (λ word. word.now) words.now) processors turns
         → (answer : Result endings.Ended BootFault)
-        × IsBootedBy (R.remaining reader.old) processors turns answer (W.contents writer.old) (W.contents writer.new)
+        × IsBootedBy (R.remaining reader.old) processors turns answer result.booted (W.contents writer.old)
+        (W.contents writer.new)
         × IsExit result (boot_exit_code_of answer) (boot_words_of answer) (E.contents errors.old) (E.contents errors.new) }
 {
     match command_of(words) {
@@ -109,17 +113,27 @@ fn told_of_replay<E: Write>(answer: Result<Replayed, ReplayFault>, errors: &mut 
     Exit {
         status: status(answer),
         told: tell(answer, errors),
+        booted: None,
     }
 }
 
 /// Tells how a boot has ended.
-fn told_of_boot<E: Write>(answer: Result<synth_kernel::Ended, BootFault>, errors: &mut E) -> Exit
-    ensures { IsExit result (boot_exit_code_of answer) (boot_words_of answer) (E.contents errors.old)
-        (E.contents errors.new) }
+fn told_of_boot<E: Write>(answer: Result<Booted<NoGate>, BootFault>, errors: &mut E) -> Exit
+    ensures exit { IsExit result (boot_exit_code_of (answer_in answer)) (boot_words_of (answer_in answer))
+        (E.contents errors.old) (E.contents errors.new) }
+    ensures booted { result.booted ≡ result_ok answer }
 {
-    Exit {
-        status: boot_status(answer),
-        told: tell_boot(answer, errors),
+    match answer {
+        Ok(booted) => Exit {
+            status: boot_status(Ok(booted.ended)),
+            told: Ok(()),
+            booted: Some(booted),
+        },
+        Err(fault) => Exit {
+            status: boot_status(Err(fault)),
+            told: writeln!(errors, "{fault}"),
+            booted: None,
+        },
     }
 }
 
@@ -137,6 +151,7 @@ pub fn usage<E: Write>(errors: &mut E) -> Exit
     Exit {
         status: USAGE_FAULT,
         told: tell_usage(errors),
+        booted: None,
     }
 }
 
@@ -170,27 +185,14 @@ fn tell_usage<E: Write>(errors: &mut E) -> io::Result<()>
 }
 
 /// The exit status of a boot.
-fn boot_status(answer: Result<synth_kernel::Ended, BootFault>) -> u8
+fn boot_status(answer: Result<Ended, BootFault>) -> u8
     ensures { result ≡ boot_exit_code_of answer }
 {
     match answer {
-        Ok(synth_kernel::Ended::AllEnded) => 0,
-        Ok(synth_kernel::Ended::Unfinished { .. }) => 4,
+        Ok(Ended::AllEnded) => 0,
+        Ok(Ended::Unfinished { .. }) => 4,
         Err(BootFault::Script(_)) => 1,
         Err(BootFault::Memory) => 3,
         Err(BootFault::Read | BootFault::Write) => 5,
-    }
-}
-
-/// Tells why a boot printed no report. Of one that did nothing is told.
-fn tell_boot<E: Write>(
-    answer: Result<synth_kernel::Ended, BootFault>,
-    errors: &mut E,
-) -> io::Result<()>
-    ensures { OnOk result (Appends (E.contents errors.old) (E.contents errors.new) (boot_words_of answer)) }
-{
-    match answer {
-        Ok(_ended) => Ok(()),
-        Err(why) => writeln!(errors, "{why}"),
     }
 }

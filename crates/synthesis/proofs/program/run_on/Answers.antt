@@ -1,4 +1,26 @@
+use Rattle.std.proofs.Common.{ℕ, Option, sym, subst}
+use Rattle.std.specs.Result.{result_ok}
+use Rattle.synth_kernel.specs.declared.printing.Booted.{Booted}
+use Rattle.turn_io.specs.declared.gate.NoGate.{NoGate}
+use Rattle.synthesis.specs.Runs.{answer_in, IsBootedBy}
+use Rattle.synthesis.proofs.Boots.{booted_by}
+use Rattle.synthesis.proofs.Words.{asked_of, same_processors, same_turns}
 use Rattle.synthesis.proofs.program.run_on.Goals as goal
+
+pub returns-in-Some-Boot-clause-boot : goal.returns-in-Some-Boot-clause-boot
+returns-in-Some-Boot-clause-boot g c = λ processors turns asked.
+    let read = g.R.Read.remaining c.args.reader.now in
+    let old = g.W.Write.contents c.args.writer.now in
+    let new = g.W.Write.contents c.boot_on-answer.new.writer in
+    let answer = c.boot_on-answer.result in
+    let is = asked_of _ c.in-Some-Boot.field-0 c.in-Some-Boot.processors c.in-Some-Boot.turns c.in-Some-Boot.field-0-is c.in-Some-Boot.ensures.asks in (
+      answer_in answer,
+      subst (λ (z : Option (Booted NoGate)). IsBootedBy read processors turns (answer_in answer) z old new) (sym c.told_of_boot.ensures.booted)
+          (subst (λ (z : ℕ). IsBootedBy read processors z (answer_in answer) (result_ok answer) old new) (same_turns _ c.in-Some-Boot.processors c.in-Some-Boot.turns processors turns is asked)
+          (subst (λ (z : ℕ). IsBootedBy read z c.in-Some-Boot.turns (answer_in answer) (result_ok answer) old new) (same_processors _ c.in-Some-Boot.processors c.in-Some-Boot.turns processors turns is asked)
+          (booted_by read c.in-Some-Boot.processors c.in-Some-Boot.turns answer old new c.boot_on-answer.ensures.numbers c.boot_on-answer.ensures.ok c.boot_on-answer.ensures.fault c.boot_on-answer.ensures.unwritten))),
+      c.told_of_boot.ensures.exit,
+    )
 
 pub returns-in-None-clause-boot : goal.returns-in-None-clause-boot
 returns-in-None-clause-boot g c = λ processors turns asked. absurd (c.in-None.ensures.none.no_boot processors turns asked)

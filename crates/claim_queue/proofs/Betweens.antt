@@ -43,6 +43,7 @@ shows_queue key s k = let q : Positions = k.now.object in let l = k.listed.lists
   seen = λ j v at. seen_grows key s k j v at;
   shut_once = k.shut_once;
   number = k.stands.number;
+  rests = h.rests;
   lawful = is_lawful_queue q l.runs k.stands.lawful (history_of q (map part_of s.views) k.listed);
   shown = record {
     runs = l.runs;

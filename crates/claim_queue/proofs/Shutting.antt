@@ -5,10 +5,11 @@ use Rattle.std.specs.Prelude.{nat_lt}
 use Rattle.std.proofs.lemmas.Nat.{or_block, or_comm}
 use Rattle.std.specs.Int.Bits.{bit_or}
 use Rattle.table_theory.proofs.Listing.{listed_shut}
+use Rattle.table_theory.proofs.Rests.{rests_shut}
 use Rattle.table_theory.proofs.Windows.{window_shut}
 use Rattle.claim_queue.specs.Own.{with_shutting}
 use Rattle.claim_queue.specs.Steps.{shuts}
-use Rattle.claim_queue.proofs.Stepping.{window_kept, acts}
+use Rattle.claim_queue.proofs.Stepping.{window_kept, rests_kept, acts}
 
 or_nothing : (h : ℕ) → bit_or h 0 ≡ h
 or_nothing h = or_comm h 0
@@ -35,6 +36,7 @@ shuts_head key n id me live s k _ at _ = let v : View = me.0 in let q : Position
       head = get_or-set_same s.words head_word new 0 (omega arith) ∙ is;
       tail = get_or-set_other s.words head_word tail_word new 0 (λ e. omega arith) ∙ h.tail;
       window = window_kept (with_shut q) s.words head_word new (omega arith) (window_shut q (flag_in s.words) (data_in s.words) h.window);
+      rests = rests_kept (with_shut q) s.words head_word new (omega arith) h.window.some_room (rests_shut q (flag_in s.words) (data_in s.words) h.rests);
       unused = unused_kept (IsUsed q.room) s.words head_word new (by_head refl) h.unused;
     }
     (listed_shut q (map part_of s.views) id (part_of v) (record { queue = with_shut q; runs = v.own.runs; takes = v.own.takes }) k.listed (at_map part_of s.views id v at) refl refl (grows_refl (with_shut q)))

@@ -6,6 +6,8 @@ use Rattle.table_theory.specs.Windows.{PlacesShow}
 use Rattle.table_theory.proofs.Stepping as ends
 use Rattle.table_theory.proofs.Tables.{IsTable}
 use Rattle.table_theory.proofs.Tables as tables
+use Rattle.table_theory.specs.Rests.{PlacesRest}
+use Rattle.table_theory.proofs.Rests.{rests_same}
 use Rattle.table_theory.proofs.Windows.{window_same}
 use Rattle.claim_queue.specs.Steps.{Stays, finds}
 use Rattle.claim_queue.proofs.Growing.{becomes_grows, becomes_lawful}
@@ -18,6 +20,11 @@ pub window_kept : (q : Positions) (words : List ℕ) (i y : ℕ) → i < FIRST_P
 window_kept q words i y low h = window_same q (flag_in words) (data_in words) (flag_in (set words i y)) (data_in (set words i y)) h
     (λ k b. get_or-set_other words i (2 * k + 17) y 0 (λ e. omega arith)) (λ k b. get_or-set_other words i (2 * k + 16) y 0 (λ e. omega arith))
 
+-- and so is what they have that aren't written yet
+pub rests_kept : (q : Positions) (words : List ℕ) (i y : ℕ) → i < FIRST_PLACE → 0 < q.room → PlacesRest q (flag_in words) (data_in words) → PlacesRest q (flag_in (set words i y)) (data_in (set words i y))
+rests_kept q words i y low room h = rests_same q (flag_in words) (data_in words) (flag_in (set words i y)) (data_in (set words i y)) room h
+    (λ k b. get_or-set_other words i (2 * k + 17) y 0 (λ e. omega arith)) (λ k b. get_or-set_other words i (2 * k + 16) y 0 (λ e. omega arith))
+
 pub shows_count : (q : Positions) (words : List ℕ) (y : ℕ) → WordsShow q words → WordsShow q (set words ends_word y)
 shows_count q words y h = record {
   wide = length-set words ends_word y ∙ h.wide;
@@ -25,6 +32,7 @@ shows_count q words y h = record {
   head = get_or-set_other words ends_word head_word y 0 (λ e. omega arith) ∙ h.head;
   tail = get_or-set_other words ends_word tail_word y 0 (λ e. omega arith) ∙ h.tail;
   window = window_kept q words ends_word y (omega arith) h.window;
+  rests = rests_kept q words ends_word y (omega arith) h.window.some_room h.rests;
   unused = unused_kept (IsUsed q.room) words ends_word y (by_ends refl) h.unused;
 }
 

@@ -1,5 +1,6 @@
 -- The steps that make, split, join and count ends keep the rule.
-use Rattle.claim_queue.proofs.Common.{◌≡◌, ℕ, ◌+◌, ◌-◌, ◌%◌, ◌<◌, ◌≤◌, List, [], ◌∷◌, ◌++◌, map, length, get_or, set, sym, refl, ap, ◌∙◌, subst, arith, mod-lt, length-set, get_or-set_same, get_or-set_other, map-set, map-append, some, none, get_elem?, Me, step, Allows, at_map, set_else, at_last, at_longer, set_here, Positions, QueueView, both, emptied, ViewsShow, spot, listed_look, at_below, grows_refl, total_kept, total_set, head_word, tail_word, ends_word, flag_word, Shape, empty, View, of_queues, nothing_did, did_both, part_of, shuts_of, Rule, newcomer, IsRuled, IsUsed, by_ends, by_head, by_tail, unused_kept}
+use Rattle.claim_queue.proofs.Common.{◌≡◌, ℕ, ◌+◌, ◌-◌, ◌%◌, ◌<◌, ◌≤◌, List, [], ◌∷◌, ◌++◌, map, length, get_or, set, sym, refl, ap, ◌∙◌, subst, arith, mod-lt, length-set, get_or-set_same, get_or-set_other, map-set, map-append, some, none, get_elem?, Me, step, Allows, at_map, set_else, at_last, at_longer, set_here, Positions, QueueView, both, emptied, ViewsShow, spot, listed_look, at_below, grows_refl, total_kept, total_set, head_word, tail_word, ends_word, flag_word, Shape, empty, View, of_queues, nothing_did, did_both, part_of, shuts_of, Rule, newcomer, IsRuled, ◌*◌, data_in, flag_in, IsUsed, by_ends, by_head, by_tail, unused_kept}
+use Rattle.table_theory.proofs.Rests.{rests_first}
 use Rattle.table_theory.proofs.Unused.{all_alike}
 use Rattle.std.proofs.Common.{replicate}
 use Rattle.std.proofs.lemmas.List.{length-replicate, get_or-replicate}
@@ -74,7 +75,8 @@ joins key id other v w live s k at ne has = let one : View = both did_both v w i
 -- the table as it is made
 pub opens : (key : Shape) (zs : List ℕ) → zs ≡ replicate (width key.room) 0 → 0 < key.room → key.first < 4294967296 → Rule key (opening (set (set (set zs head_word key.first) tail_word key.first) ends_word 1) [] (newcomer key))
 opens key zs are room fits = let q : Positions = empty key in let f : ℕ = key.first in let a : List ℕ = set zs head_word f in let b : List ℕ = set a tail_word f in let long = ap length are ∙ length-replicate (width key.room) 0 in let la = length-set zs head_word f in let lb = length-set a tail_word f in let lc = length-set b ends_word 1 in
-    let number : get_or (set b ends_word 1) ends_word 0 ≡ 1 = get_or-set_same b ends_word 1 0 (omega arith) in record {
+    let number : get_or (set b ends_word 1) ends_word 0 ≡ 1 = get_or-set_same b ends_word 1 0 (omega arith) in
+    let zero_at : (j : ℕ) → 16 ≤ j → get_or (set b ends_word 1) j 0 ≡ 0 = λ j far. get_or-set_other b ends_word j 1 0 (λ e. omega arith) ∙ (get_or-set_other a tail_word j f 0 (λ e. omega arith) ∙ (get_or-set_other zs head_word j f 0 (λ e. omega arith) ∙ (ap (λ (z : List ℕ). get_or z j 0) are ∙ all_alike (width key.room) 0 j))) in record {
       now = opened q;
       first = refl;
       room = refl;
@@ -94,6 +96,7 @@ opens key zs are room fits = let q : Positions = empty key in let f : ℕ = key.
                 holds = λ h. absurd (omega arith);
               };
             };
+            rests = rests_first q (flag_in (set b ends_word 1)) (data_in (set b ends_word 1)) refl (λ k. zero_at (2 * k + 17) (omega arith)) (λ k. zero_at (2 * k + 16) (omega arith));
             unused = unused_kept (IsUsed key.room) b ends_word 1 (by_ends refl) (unused_kept (IsUsed key.room) a tail_word f (by_tail refl) (unused_kept (IsUsed key.room) zs head_word f (by_head refl) (λ j _. ap (λ (z : List ℕ). get_or z j 0) are ∙ all_alike (width key.room) 0 j)));
           }
           number;

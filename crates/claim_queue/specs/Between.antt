@@ -19,6 +19,7 @@ use Rattle.claim_queue.specs.declared.rule.Shape.{Shape}
 use Rattle.table_theory.specs.declared.views.Moment.{Moment}
 use Rattle.table_theory.specs.Ledgers.{AreTrue}
 use Rattle.table_theory.specs.Sharing.{total}
+use Rattle.table_theory.specs.Rests.{PlacesRest}
 use Rattle.table_theory.specs.Unused.{AreZero}
 use Rattle.claim_queue.specs.Changes.{empty}
 use Rattle.claim_queue.specs.Own.{View, nothing_did, of_queues}
@@ -74,6 +75,8 @@ pub record ShowsQueue (key : Shape) (s : State Unit View) : Type 0 where
   pub shut_once : total shuts_of s.views ≡ (if queue.shut then 1 else 0)
   -- the word has the number of the ends that stand
   pub number : slice_index_or s.words ends_word 0 ≡ now.ends
+  -- a place that isn't written yet has the flag and the item of the position one round before, and zeros in the first
+  pub rests : PlacesRest now.object (flag_in s.words) (data_in s.words)
 
 -- The queue is shown. The ends' steps lead to it from the empty queue, each end has seen all of them up to its own last
 -- one, and the number of ends is that of the ends that stand

@@ -21,6 +21,7 @@ pub mod QueueEvents
 pub mod QueueOf
 pub mod Reading
 pub mod Reaching
+pub mod Rests
 pub mod Saying
 pub mod Standing
 pub mod Stepping

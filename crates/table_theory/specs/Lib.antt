@@ -11,6 +11,7 @@ pub mod Plays
 pub mod Positioned
 pub mod QueueOf
 pub mod Reads
+pub mod Rests
 pub mod Seating
 pub mod Seeing
 pub mod Sharing

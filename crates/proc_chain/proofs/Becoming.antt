@@ -31,7 +31,7 @@ abbrev Leads : GatedQueue → GatedQueue → Type 0
 Leads o p = Grows o.queue p.queue
 
 pub real_grows : (e : Step GatedQueue) → IsReal of_chains e → Grows e.then.object.queue e.next.object.queue
-real_grows e r = real_goes of_chains Leads (λ o. grows_refl o.queue) (λ o p q a b. grows_trans o.queue p.queue q.queue a b) (λ o p words shows b. becomes_grows o p b) e r
+real_grows e r = real_goes of_chains Leads (λ o. grows_refl o.queue) (λ o p q a b. grows_trans o.queue p.queue q.queue a b) (λ o p words shows b. becomes_grows o p b.becomes) e r
 
 pub reaches_grow : (m n : Moment GatedQueue) → Reaches of_chains m n → Grows m.object.queue n.object.queue
-reaches_grow m n r = reaches_go of_chains Leads (λ o. grows_refl o.queue) (λ o p q a b. grows_trans o.queue p.queue q.queue a b) (λ o p words shows b. becomes_grows o p b) m n r
+reaches_grow m n r = reaches_go of_chains Leads (λ o. grows_refl o.queue) (λ o p q a b. grows_trans o.queue p.queue q.queue a b) (λ o p words shows b. becomes_grows o p b.becomes) m n r

@@ -45,7 +45,8 @@ pub use Rattle.proc_chain.specs.Gates.{GateShows, IsSettled, SlotShows}
 pub use Rattle.proc_chain.specs.Handles.{view_of}
 pub use Rattle.proc_chain.specs.declared.layout.TheConstants.{FIRST_PLACE}
 pub use Rattle.proc_chain.specs.Layout.{head_word, tail_word, ends_word, gate_word, mark_in, note_in, place_word, raised_word}
-pub use Rattle.proc_chain.specs.Own.{View, did_both, nothing_did, of_chains, part_of, queue_of}
+pub use Rattle.proc_chain.specs.Own.{View, did_both, nothing_did, part_of, queue_of}
+pub use Rattle.proc_chain.specs.Happenings.{of_chains}
 pub use Rattle.proc_chain.specs.Rules.{IsTold, Rests, Rule, makes, suits, view_from}
 pub use Rattle.proc_chain.specs.Servings.{Serving}
 pub use Rattle.proc_chain.specs.Shown.{Shows, WordsShow, notes_of}

@@ -24,7 +24,7 @@ was_room o p note (becomes.round up e) is = absurd (longer o.queue.places (fresh
 was_room o p note (becomes.left one e) is = absurd (longer o.queue.places (fresh note) (λ i. ((is ∙ e) i).queue.places))
 
 pub claim_room : (head note : ℕ) (m : Moment GatedQueue) → IsReal of_chains (change head_word head m (with_note m.object note)) → Room m.object note
-claim_room head note m r = effect_keeps of_chains (λ p. with_note m.object note ≡ p → Room m.object note) m (record m { object = with_note m.object note }) (λ is. absurd (longer m.object.queue.places (fresh note) (λ i. (is i).queue.places))) (λ p b is. was_room m.object p note b is) r.effect refl
+claim_room head note m r = effect_keeps of_chains (λ p. with_note m.object note ≡ p → Room m.object note) m (record m { object = with_note m.object note }) (λ is. absurd (longer m.object.queue.places (fresh note) (λ i. (is i).queue.places))) (λ p b is. was_room m.object p note b.becomes is) r.effect refl
 
 -- what a taking found
 was_up : (o p : GatedQueue) → Becomes o p → with_taken o ≡ p → 2 ≤ written_at o.queue o.queue.taken
@@ -36,4 +36,4 @@ was_up o p (becomes.round up e) is = absurd (let c = ap (λ (z : GatedQueue). z.
 was_up o p (becomes.left one e) is = absurd (let c = ap (λ (z : GatedQueue). z.queue.taken) (is ∙ e) in omega arith)
 
 pub take_up : (tail : ℕ) (m : Moment GatedQueue) → IsReal of_chains (change tail_word tail m (with_taken m.object)) → 2 ≤ written_at m.object.queue m.object.queue.taken
-take_up tail m r = effect_keeps of_chains (λ p. with_taken m.object ≡ p → 2 ≤ written_at m.object.queue m.object.queue.taken) m (record m { object = with_taken m.object }) (λ is. absurd (let c = ap (λ (z : GatedQueue). z.queue.taken) is in omega arith)) (λ p b is. was_up m.object p b is) r.effect refl
+take_up tail m r = effect_keeps of_chains (λ p. with_taken m.object ≡ p → 2 ≤ written_at m.object.queue m.object.queue.taken) m (record m { object = with_taken m.object }) (λ is. absurd (let c = ap (λ (z : GatedQueue). z.queue.taken) is in omega arith)) (λ p b is. was_up m.object p b.becomes is) r.effect refl

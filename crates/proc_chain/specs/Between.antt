@@ -19,7 +19,8 @@ use Rattle.table_theory.specs.QueueOf.{run_in, up_in, IsHistory}
 use Rattle.table_theory.specs.Ledgers.{AreTrue}
 use Rattle.proc_chain.specs.declared.rule.GatedQueue.{GatedQueue}
 use Rattle.proc_chain.specs.declared.rule.Shape.{Shape}
-use Rattle.proc_chain.specs.Own.{View, nothing_did, of_chains, queue_of}
+use Rattle.proc_chain.specs.Own.{View, nothing_did, queue_of}
+use Rattle.proc_chain.specs.Happenings.{of_chains}
 use Rattle.proc_chain.specs.declared.layout.TheConstants.{PLACES, MORE}
 use Rattle.proc_chain.specs.Layout.{head_word, tail_word, ends_word, width, note_in, mark_in, gate_in}
 use Rattle.proc_chain.specs.Shown.{Shows}

@@ -5,6 +5,7 @@ pub mod Own
 pub mod Notes
 pub mod Gates
 pub mod Chainings
+pub mod Happenings
 pub mod Rules
 pub mod Between
 pub mod Steps

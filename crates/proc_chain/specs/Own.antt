@@ -3,12 +3,8 @@ use Rattle.std.specs.Prelude.{false, ◌||◌, ◌&&◌, [], ◌++◌}
 use Rattle.table_theory.specs.declared.queues.Positions.{Positions}
 use Rattle.table_theory.specs.declared.queues.QueueView.{QueueView}
 use Rattle.table_theory.specs.declared.views.Ledger.{Ledger}
-use Rattle.table_theory.specs.Ledgers.{Subject}
 use Rattle.proc_chain.specs.declared.rule.Did.{Did}
 use Rattle.proc_chain.specs.declared.rule.GatedQueue.{GatedQueue}
-use Rattle.proc_chain.specs.Layout.{ends_word}
-use Rattle.proc_chain.specs.Shown.{Shows}
-use Rattle.proc_chain.specs.Changes.{IsLawful, Becomes}
 
 -- what an end of a chain knows
 abbrev pub View : Type 0
@@ -29,10 +25,6 @@ did_both d e = record {
   saw = d.saw;
   doubled = d.doubled || e.doubled || (d.runner && e.runner);
 }
-
--- what the table of a chain says of the queue and the gate
-abbrev pub of_chains : Subject GatedQueue
-of_chains = record { ends_word = ends_word; Shows = Shows; IsLawful = IsLawful; Happens = Becomes }
 
 -- the queue of notes as the end has seen it
 abbrev pub queue_of : View → Positions

@@ -13,7 +13,8 @@ use Rattle.proc_chain.specs.declared.rule.GatedQueue.{GatedQueue}
 use Rattle.proc_chain.specs.declared.rule.Pact.{Pact}
 use Rattle.proc_chain.specs.declared.rule.Shape.{Shape}
 use Rattle.proc_chain.specs.Changes.{first_queue, IsLawful}
-use Rattle.proc_chain.specs.Own.{View, nothing_did, of_chains, part_of, queue_of}
+use Rattle.proc_chain.specs.Own.{View, nothing_did, part_of, queue_of}
+use Rattle.proc_chain.specs.Happenings.{of_chains}
 use Rattle.proc_chain.specs.Gates.{GateShows, SlotShows}
 use Rattle.proc_chain.specs.Chainings.{AreShown}
 

@@ -15,7 +15,8 @@ use Rattle.proc_chain.specs.declared.layout.TheConstants.{NOTES, IDLE, RUNNING, 
 use Rattle.proc_chain.specs.Layout.{head_word, tail_word, ends_word, gate_word, place_word, raised_word, mark_of}
 use Rattle.proc_chain.specs.Shown.{notes_of}
 use Rattle.proc_chain.specs.Changes.{IsPlace, with_note, with_raise, with_taken, with_gate, taking}
-use Rattle.proc_chain.specs.Own.{View, of_chains, queue_of}
+use Rattle.proc_chain.specs.Own.{View, queue_of}
+use Rattle.proc_chain.specs.Happenings.{of_chains}
 use Rattle.proc_chain.specs.Rules.{IsTold}
 use Rattle.proc_chain.specs.Turns.{Carries}
 

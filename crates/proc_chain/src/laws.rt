@@ -27,7 +27,8 @@ ghost use Rattle.proc_chain.specs.Endings.{TookIn, IsAmong};
 ghost use Rattle.proc_chain.specs.Handles.{view_of, IsOnlyEnd};
 ghost use Rattle.proc_chain.specs.Layout.{head_word, tail_word, ends_word, gate_word, place_word, note_of, mark_of};
 ghost use Rattle.proc_chain.specs.Layout.{raised_word, width};
-ghost use Rattle.proc_chain.specs.Own.{View, of_chains, queue_of};
+ghost use Rattle.proc_chain.specs.Happenings.{IsEvent, of_chains};
+ghost use Rattle.proc_chain.specs.Own.{View, queue_of};
 ghost use Rattle.proc_chain.specs.Shown.{Shows};
 ghost use Rattle.proc_chain.specs.Steps.{run};
 
@@ -159,9 +160,12 @@ pub fn numbers_say()
         → mark_of e.found ≢ e.then.object.queue.first + i + 1 → written_at e.then.object.queue i < 2 }
 {}
 
-/// Each change that an answer lists is the event of the core that its name says, for all views that show the queue and
-/// the gate as the step found them, if one of them is that of the end.
+/// Each change that an answer lists is one event of the core: as the step was made, views of all ends showed the queue
+/// and the gate that it found, one of them that of the end that stepped. It is the event that its name says, for all
+/// views that show the queue and the gate as the step found them, if one of them is that of the end.
 pub fn changes_are_events()
+    ensures each { (e : Step GatedQueue) → IsReal of_chains e
+        → (e.next.object ≡ e.then.object) ⊎ IsEvent e.then.object e.next.object }
     ensures claimed { (head note : ℕ) (m : Moment GatedQueue) (views : List View) (seat : ℕ) (v w : View)
         (shown : AreShown m.object views) → IsReal of_chains (change head_word head m (with_note m.object note))
         → get_elem? views seat ≡ some v → w.seen.object ≡ with_note m.object note

@@ -19,7 +19,8 @@ use Rattle.proc_chain.specs.declared.chaining.Chained.{Chained}
 use Rattle.proc_chain.specs.declared.chaining.Chained.TheVariants.{Run, Left}
 use Rattle.proc_chain.specs.declared.chaining.ChainRefusal.{ChainRefusal}
 use Rattle.proc_chain.specs.declared.chaining.ChainRefusal.TheVariants.{Spent, Full, Lost}
-use Rattle.proc_chain.specs.Own.{View, of_chains, queue_of}
+use Rattle.proc_chain.specs.Own.{View, queue_of}
+use Rattle.proc_chain.specs.Happenings.{of_chains}
 use Rattle.proc_chain.specs.Rules.{IsTold}
 use Rattle.proc_chain.specs.Shown.{notes_of}
 use Rattle.proc_chain.specs.Answers.{ChainedNow, NotChained, with_run, with_turn}

@@ -1,4 +1,4 @@
-use Rattle.proc_chain.proofs.Common.{∥∥₁_elim, ∥∥₁_map, entries_real, passes_since, alone_since, of_chains, view_of, IsTold}
+use Rattle.proc_chain.proofs.Common.{inl, inr, ⊎_elim, ∥∥₁_elim, ∥∥₁_map, entries_real, passes_since, alone_since, of_chains, view_of, IsTold}
 use Rattle.table_theory.proofs.Reaching.{reaches_since}
 use Rattle.proc_chain.proofs.Becoming.{reaches_grow}
 use Rattle.table_theory.proofs.Saying.{real_change}
@@ -23,4 +23,4 @@ pub returns-clause-grows : goal.returns-clause-grows
 returns-clause-grows g c = reaches_grow
 
 pub returns-clause-change : goal.returns-clause-change
-returns-clause-change g c = real_change of_chains
+returns-clause-change g c = λ e r. ⊎_elim (λ same. inl same) (λ h. inr h.becomes) (real_change of_chains e r)

@@ -14,3 +14,4 @@ pub mod Lawful
 pub mod Common
 pub mod Apart
 pub mod Falling
+pub mod Kept

@@ -16,6 +16,7 @@ use Rattle.table_theory.proofs.Positioned.{claim_old, claim_new, write_here, wri
 use Rattle.table_theory.proofs.Listing.{Own, own, listed_look, listed_claim, listed_write, listed_take, distinct}
 use Rattle.table_theory.proofs.Windows.{window_same, window_claim, window_write, window_take}
 use Rattle.proc_chain.specs.Layout.{gate_in, IsUnused}
+use Rattle.proc_chain.proofs.Kept.{kept_words, kept_claim, kept_raise, kept_take}
 use Rattle.proc_chain.specs.Changes as becomes
 use Rattle.proc_chain.specs.Chainings.{IsChainEvent}
 use Rattle.proc_chain.specs.Happenings.{Kind, Does, event_by, Happens}
@@ -61,14 +62,15 @@ shows_else q words i y at h = let other : (j : ℕ) → (j ≡ head_word) ⊎ (j
   tail = other tail_word (inr (inl refl)) ∙ h.tail;
   window = window_same q (mark_in words) (note_in words) (mark_in (set words i y)) (note_in (set words i y)) h.window
       (λ k b. ap (λ (z : ℕ). z / 65536) (other (k + FIRST_PLACE) (inr (inr (omega arith))))) (λ k b. ap (λ (z : ℕ). z % 65536) (other (k + FIRST_PLACE) (inr (inr (omega arith)))));
+  kept = kept_words q words i y (⊎_elim (λ e. omega arith) (λ e. omega arith) at) h.kept;
   unused = λ j u. unused_else words i y j (⊎_elim (λ e. inr (inl e)) (λ e. inr (inr (inr (inl e)))) at) u ∙ h.unused j u;
 }
 
 shows_gate : (q : Positions) (words : List ℕ) (y : ℕ) → WordsShow q words → WordsShow q (set words gate_word y)
 shows_gate q words y h = shows_else q words gate_word y (inr refl) h
 
-shows_claim : (q : Positions) (words : List ℕ) (x new : ℕ) → WordsShow q words → new ≡ head_of q + 1 → new < 4294967296 → WordsShow (with_claim q (x ∷ [])) (set words head_word new)
-shows_claim q words x new h is fits = let wide = h.wide in let long = length-append q.places (map fresh (x ∷ [])) in record {
+shows_claim : (q : Positions) (words : List ℕ) (x new : ℕ) → WordsShow q words → q.taken ≤ length q.places → new ≡ head_of q + 1 → new < 4294967296 → WordsShow (with_claim q (x ∷ [])) (set words head_word new)
+shows_claim q words x new h behind is fits = let wide = h.wide in let long = length-append q.places (map fresh (x ∷ [])) in record {
   wide = length-set words head_word new ∙ h.wide;
   room = h.room;
   is_open = h.is_open;
@@ -77,11 +79,12 @@ shows_claim q words x new h is fits = let wide = h.wide in let long = length-app
   tail = get_or-set_other words head_word tail_word new 0 (λ e. omega arith) ∙ h.tail;
   window = window_same (with_claim q (x ∷ [])) (mark_in words) (note_in words) (mark_in (set words head_word new)) (note_in (set words head_word new)) (window_claim q (x ∷ []) (mark_in words) (note_in words) h.window)
       (λ k b. ap (λ (z : ℕ). z / 65536) (get_or-set_other words head_word (k + FIRST_PLACE) new 0 (λ e. omega arith))) (λ k b. ap (λ (z : ℕ). z % 65536) (get_or-set_other words head_word (k + FIRST_PLACE) new 0 (λ e. omega arith)));
+  kept = kept_words (with_claim q (x ∷ [])) words head_word new (omega arith) (kept_claim q x words behind h.kept);
   unused = λ j u. unused_else words head_word new j (inl refl) u ∙ h.unused j u;
 }
 
-shows_take : (q : Positions) (words : List ℕ) (new : ℕ) → WordsShow q words → Lawful q → q.taken + 1 ≤ length q.places → new ≡ tail_of q + 1 → WordsShow (with_take q 1) (set words tail_word new)
-shows_take q words new h l below is = let wide = h.wide in record {
+shows_take : (q : Positions) (words : List ℕ) (new : ℕ) → WordsShow q words → Lawful q → q.taken + 1 ≤ length q.places → 2 ≤ written_at q q.taken → new ≡ tail_of q + 1 → WordsShow (with_take q 1) (set words tail_word new)
+shows_take q words new h l below up is = let wide = h.wide in record {
   wide = length-set words tail_word new ∙ h.wide;
   room = h.room;
   is_open = h.is_open;
@@ -90,6 +93,7 @@ shows_take q words new h l below is = let wide = h.wide in record {
   tail = get_or-set_same words tail_word new 0 (omega arith) ∙ (omega arith);
   window = window_same (with_take q 1) (mark_in words) (note_in words) (mark_in (set words tail_word new)) (note_in (set words tail_word new)) (window_take q 1 (mark_in words) (note_in words) h.window l below)
       (λ k b. ap (λ (z : ℕ). z / 65536) (get_or-set_other words tail_word (k + FIRST_PLACE) new 0 (λ e. omega arith))) (λ k b. ap (λ (z : ℕ). z % 65536) (get_or-set_other words tail_word (k + FIRST_PLACE) new 0 (λ e. omega arith)));
+  kept = kept_words (with_take q 1) words tail_word new (omega arith) (kept_take q words h.window h.room up h.kept);
   unused = λ j u. unused_else words tail_word new j (inr (inr (inl refl))) u ∙ h.unused j u;
 }
 
@@ -191,7 +195,7 @@ module _ {Q W : Type 0} (made : W → Q → List ℕ → Type 0) (fits : W → Q
       (λ c. let e : written_at q' q.taken ≡ written_at q q.taken = ap (λ (z : Cell). z.written) (claim_old q (x ∷ []) q.taken c) in owed_on q q' s.views id v w at (st (omega arith)) refl (λ h. h) (λ _. covers_more v w (run old x ∷ []) refl))
       (λ nb. let e = claim_new q (x ∷ []) q.taken (omega arith) in absurd (omega arith)) in
       let p = kept_event s k head_word old id v own_now o' at (sym hit) h new s.homes live (λ e. omega arith) refl
-      (shows_claim q s.words x new k.stands.shows.0 (omega arith) bounded, get_or-set_other s.words head_word gate_word new 0 (λ e. omega arith) ∙ k.stands.shows.1)
+      (shows_claim q s.words x new k.stands.shows.0 behind (omega arith) bounded, get_or-set_other s.words head_word gate_word new 0 (λ e. omega arith) ∙ k.stands.shows.1)
       (subst (ViewsShow q') (sym (map-set part_of s.views id w)) listed') (gated_same q q' o.gate s.views id v w k.gate at refl refl (λ _. refl) (λ _. refl) (λ h. inl h) settled)
       (housed_on made fits key.pact q q' o.gate s.homes k.slot (notes_same q q' (claim_grows q (x ∷ []) k.stands.shows.0.is_open) refl behind)) refl in
       let distinct' = distinct q' (set (map part_of s.views) id (part_of w)) id (part_of w) listed'.lists (set_here (map part_of s.views) id (part_of w) (at_below (map part_of s.views) id (part_of v) (at_map part_of s.views id v at))) in
@@ -233,6 +237,7 @@ module _ {Q W : Type 0} (made : W → Q → List ℕ → Type 0) (fits : W → Q
         window = window_write q p 2 (mark_in s.words) (note_in s.words) (mark_in words') (note_in words') h.window mine.from mine.to
             (λ j c ne. ap (λ (z : ℕ). z / 65536) (other (j + FIRST_PLACE) (λ z. ne (omega arith)))) (λ j c ne. ap (λ (z : ℕ). z % 65536) (other (j + FIRST_PLACE) (λ z. ne (omega arith))))
             record { low = λ h. absurd (omega arith); up = λ h. ap (λ (z : ℕ). z / 65536) stored ∙ (flag_is ∙ ap (λ (z : ℕ). z + 1) same_pos); holds = λ h. ap (λ (z : ℕ). z % 65536) stored ∙ (sym item ∙ sym (ap (λ (z : Cell). z.item) now)) };
+        kept = kept_raise q p s.words u x (word ∙ ap place_word same_pos) mine.from (let t = mine.to in omega arith) mine.below h.kept;
         unused = λ j z. unused_else s.words u x j (inr (inr (inr (inr (omega arith))))) z ∙ h.unused j z;
       }) in
       let listed' : ViewsShow q'' (map part_of (set s.views id w)) = subst (ViewsShow q'') (sym (map-set part_of s.views id w)) (listed_write q (map part_of s.views) id m 0 2 p (part_of v) (part_of w) e k.listed (at_map part_of s.views id v at) has below mine.start mine.from (omega arith) refl refl later) in
@@ -285,7 +290,7 @@ module _ {Q W : Type 0} (made : W → Q → List ℕ → Type 0) (fits : W → Q
       let own_now : Did = record v.own { takes = v.own.takes ++ taking q ∷ []; taken = v.own.taken + 1; saw = false } in let found : ℕ = get_or s.words tail_word 0 in let o' : GatedQueue = with_taken o in let q' : Positions = o'.queue in let w : View = acted k v own_now tail_word found o' in let more = g.grows.more v.seen.object.queue.taken in
       let now : 2 ≤ written_at q q.taken = subst (λ (z : ℕ). 2 ≤ written_at q z) (sym taken) (let f : 2 ≤ written_at q v.seen.object.queue.taken = omega arith in f) in
       let b : Becomes o o' = becomes.took now refl in let lawful' : IsLawful o' = becomes_lawful o o' k.stands.lawful b in let not_idle = gate_up q o.gate s.views id v k.gate at r in let h : Happens o o' = happens s k tail_word found id v own_now o' at b kinds.takes refl (take_event o s.views id v w (shown_by s k) at k.stands.lawful.0 r lawful'.0.behind now refl refl) in
-      let p = kept_event s k tail_word found id v own_now o' at refl h new s.homes live (λ e. omega arith) refl (shows_take q s.words new k.stands.shows.0 k.stands.lawful.0 lawful'.0.behind (omega arith), get_or-set_other s.words tail_word gate_word new 0 (λ e. omega arith) ∙ k.stands.shows.1)
+      let p = kept_event s k tail_word found id v own_now o' at refl h new s.homes live (λ e. omega arith) refl (shows_take q s.words new k.stands.shows.0 k.stands.lawful.0 lawful'.0.behind now (omega arith), get_or-set_other s.words tail_word gate_word new 0 (λ e. omega arith) ∙ k.stands.shows.1)
       (subst (ViewsShow q') (sym (map-set part_of s.views id w)) (listed_take q (map part_of s.views) id 1 (part_of v) (part_of w) k.listed (at_map part_of s.views id v at) (omega arith) lawful'.0.behind refl refl (grows_refl q')))
       (gated_runs q' o.gate s.views id v w at (others_still q o.gate s.views id v k.gate at r) not_idle k.gate.bounded r refl refl (ap (λ (z : ℕ). z + 1) (sym (g.count r)))) record { home = λ down. absurd (not_idle down); held = k.slot.held } refl in
       (w, keeps, tt, p.0, ((refl, p.1), (λ tail e. let same : found ≡ tail = omega arith in (k.now, subst (λ (z : ℕ). Stepped v (change tail_word z k.now o') own_now w) same (event_told s k tail_word found id v own_now o' at refl h)))))

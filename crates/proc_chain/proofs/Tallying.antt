@@ -1,5 +1,5 @@
 -- The steps that make, split, join and count ends keep the rule.
-use Rattle.proc_chain.specs.Layout.{width}
+use Rattle.proc_chain.specs.Layout.{width, place_word}
 use Rattle.proc_chain.proofs.Common.{◌≡◌, ◌≢◌, ℕ, ◌+◌, ◌-◌, ◌<◌, ◌≤◌, ◌%◌, inl, ⊎_elim, Bool, true, false, ◌||◌, ◌&&◌, List, [], ◌∷◌, ◌++◌, map, get_or, set, sym, refl, ap, ◌∙◌, subst, arith, true≢false, map-set, map-append, some, none, some-ne-none, get_elem?, State, Me, step, Allows, Splits, Joins, at_map, set_here, set_else, Positions, QueueView, rest_of, newborn, both, emptied, ViewsShow, Grows, spot, listed_new, listed_join, at_push, at_below, grows_refl, GatedQueue, Shape, note_in, mark_in, Shows, first_queue, IsLawful, View, nothing_did, did_both, of_chains, part_of, AreShown, Rule, IsTold, view_from, head_word, tail_word, ends_word, FIRST_PLACE}
 use Rattle.std.proofs.Common.{replicate, get_or-set_other}
 use Rattle.std.proofs.lemmas.List.{get_or-replicate}
@@ -108,7 +108,7 @@ module _ {Q W : Type 0} (made : W → Q → List ℕ → Type 0) (fits : W → Q
   pub opens_new : (x : Q) (xs : List Q) → key.first < 4294967296 → xs ≡ x ∷ [] → made key.pact x [] → fits key.pact x → Rule made fits key (opening (set (set (set (replicate width 0) head_word key.first) tail_word key.first) ends_word 1) xs (newcomer key))
   opens_new x xs bounded is is_made is_fit = let first : ℕ = key.first in let words : List ℕ = set (set (set (replicate width 0) head_word first) tail_word first) ends_word 1 in let f : GatedQueue = first_queue first in let w : View = newcomer key in
       let window : PlacesShow f.queue (mark_in words) (note_in words) = record { some_room = omega arith; each = λ i a b. record { low = λ _. (let z = zeros first (spot f.queue i + FIRST_PLACE) (λ e. omega arith) (λ e. omega arith) (λ e. omega arith) (omega arith) in omega arith); up = λ h. absurd (omega arith); holds = λ h. absurd (omega arith) } } in
-      let shows : Shows f words = (record { wide = refl; room = refl; is_open = refl; bounded = omega arith; head = omega arith; tail = omega arith; window = window; unused = λ j u. (let from = u.0 in let to = u.1 in zeros first j (λ e. omega arith) u.2 (λ e. omega arith) (omega arith)) }, refl) in record {
+      let shows : Shows f words = (record { wide = refl; room = refl; is_open = refl; bounded = omega arith; head = omega arith; tail = omega arith; window = window; kept = record { never = λ i a b c. zeros first (place_word (first + i)) (λ e. omega arith) (λ e. omega arith) (λ e. omega arith) (omega arith); last = λ i a. absurd (omega arith) }; unused = λ j u. (let from = u.0 in let to = u.1 in zeros first j (λ e. omega arith) u.2 (λ e. omega arith) (omega arith)) }, refl) in record {
         now = opened f;
         stands = stands_first of_chains nothing_did f words (first_lawful first) shows refl;
         first = refl;

@@ -1,12 +1,21 @@
 -- What the words of the table show of the queue of notes, and of the gate.
-use Rattle.std.specs.Prelude.{◌≡◌, ℕ, ◌<◌, false, List, length, map, take, slice_index_or}
+use Rattle.std.specs.Prelude.{◌≡◌, ℕ, ◌+◌, ◌<◌, ◌≤◌, false, List, length, map, take, slice_index_or}
 use Rattle.table_theory.specs.declared.positions.TheConstants.{POSITIONS}
 use Rattle.table_theory.specs.declared.queues.Positions.{Positions}
-use Rattle.table_theory.specs.Positioned.{head_of, tail_of, item_of}
+use Rattle.table_theory.specs.Positioned.{head_of, tail_of, item_of, item_at, written_at}
 use Rattle.table_theory.specs.Windows.{PlacesShow}
 use Rattle.proc_chain.specs.declared.rule.GatedQueue.{GatedQueue}
 use Rattle.proc_chain.specs.declared.layout.TheConstants.{PLACES}
-use Rattle.proc_chain.specs.Layout.{head_word, tail_word, width, note_in, mark_in, gate_in, IsUnused}
+use Rattle.proc_chain.specs.Layout.{head_word, tail_word, place_word, raised_word}
+use Rattle.proc_chain.specs.Layout.{width, note_in, mark_in, gate_in, IsUnused}
+
+-- What the word of a place is while no note is raised there. It is 0 before the first one, and then the word of the note
+-- that was taken there last
+pub record PlacesKeep (q : Positions) (words : List ℕ) : Type 0 where
+  pub never : (i : ℕ) → q.taken ≤ i → i < PLACES → written_at q i < 2
+      → slice_index_or words (place_word (q.first + i)) 0 ≡ 0
+  pub last : (i : ℕ) → i < q.taken → q.taken ≤ i + PLACES → written_at q (i + PLACES) < 2
+      → slice_index_or words (place_word (q.first + i)) 0 ≡ raised_word (q.first + i) (item_at q i)
 
 -- the words show the queue's head and tail, and the places from the tail on; the words between those used are 0
 pub record WordsShow (q : Positions) (words : List ℕ) : Type 0 where
@@ -17,6 +26,7 @@ pub record WordsShow (q : Positions) (words : List ℕ) : Type 0 where
   pub head : slice_index_or words head_word 0 ≡ head_of q
   pub tail : slice_index_or words tail_word 0 ≡ tail_of q
   pub window : PlacesShow q (mark_in words) (note_in words)
+  pub kept : PlacesKeep q words
   pub unused : (word : ℕ) → IsUnused word → slice_index_or words word 0 ≡ 0
 
 -- they show the queue, and the gate

@@ -1,5 +1,5 @@
 -- What the words of the table show: the number of hands, processors, states, steps done, and the element queues.
-use Rattle.std.specs.Prelude.{◌≡◌, ℕ, zero, suc, ◌+◌, ◌*◌, ◌<◌, ◌≤◌, true, false, if◌then◌else◌, Bool, List}
+use Rattle.std.specs.Prelude.{◌≡◌, ℕ, zero, suc, ◌+◌, ◌-◌, ◌*◌, ◌<◌, ◌≤◌, true, false, if◌then◌else◌, Bool, List}
 use Rattle.std.specs.Prelude.{length}
 use Rattle.std.specs.Prelude.{slice_index_or, Option, Some, None}
 use Rattle.std.specs.List.{slice_get}
@@ -30,10 +30,14 @@ pub record StateShows (thread : Thread) (word : ℕ) : Type 0 where
   pub stop : bit_at word stop_bit ≡ bit_of thread.stop
   pub parked : bit_at word cell_bit ≡ bit_of thread.parked
 
--- the place of a raised run has its element and one more than its position; before that, no more than its position
+-- The place of a raised run has its element and one more than its position. Before that it has what was left there: 0, or
+-- what the run 64 before put there. So it has no more than the run's position, and no number in it is free
 pub record PlaceShows (first : ℕ) (q : Queue) (run word : ℕ) : Type 0 where
   pub up : q.raised run 0 ≡ true → word ≡ element_at q run + 256 * (first + run + 1)
   pub low : q.raised run 0 ≡ false → word < 256 * (first + run + 1)
+  pub early : q.raised run 0 ≡ false → run < PLACES → word ≡ 0
+  pub late : q.raised run 0 ≡ false → PLACES ≤ run
+      → word ≡ element_at q (run - PLACES) + 256 * (first + (run - PLACES) + 1)
 
 -- how many notifies are marked in the head word of an element queue
 abbrev pub mark_of : Elements → ℕ → ℕ

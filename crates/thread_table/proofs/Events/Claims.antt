@@ -1,5 +1,5 @@
 -- A claim of one element that its call held, in the ready ring, among the free elements, or in a wait queue.
-use Rattle.thread_table.proofs.Common.{by_head, NOTIFY, ◌/◌, ◌%◌, ◌≡◌, ℕ, zero, suc, ◌+◌, ◌*◌, ◌<◌, ◌≤◌, true, false, List, [], ◌∷◌, ◌++◌, ◌∙◌, length, set, get_or, refl, sym, ap, subst, arith, Some, None, slice_get, eqb, ◌⊎◌, inl, inr, Result, Ok, cases_lt, false_from_ne_true, nat_tests, slice_get-get_or, Run, Queue, empty_queue, left, claim, Elements, hold, let_go, claim_element, new_thread, wait_at, IsLawfulQueue, IsLawfulElements, Hold, Refusal, in_hands, every_at, View, Claimed, QueueGrows, ring_at, thread_at, element_at, element_of, no_run, ELEMENTS, RINGS, PLACES, head_word, tail_word, place_word, wait_ring, WordsShow, PlaceShows, head_shown, mark_of, IsClaimed, has, claim_of, claim_event, WAITS}
+use Rattle.thread_table.proofs.Common.{◌-◌, by_head, NOTIFY, ◌/◌, ◌%◌, ◌≡◌, ℕ, zero, suc, ◌+◌, ◌*◌, ◌<◌, ◌≤◌, true, false, List, [], ◌∷◌, ◌++◌, ◌∙◌, length, set, get_or, refl, sym, ap, subst, arith, Some, None, slice_get, eqb, ◌⊎◌, inl, inr, Result, Ok, cases_lt, false_from_ne_true, nat_tests, slice_get-get_or, Run, Queue, empty_queue, left, claim, Elements, hold, let_go, claim_element, new_thread, wait_at, IsLawfulQueue, IsLawfulElements, Hold, Refusal, in_hands, every_at, View, Claimed, QueueGrows, ring_at, thread_at, element_at, element_of, no_run, ELEMENTS, RINGS, PLACES, head_word, tail_word, place_word, wait_ring, WordsShow, PlaceShows, head_shown, mark_of, IsClaimed, has, claim_of, claim_event, WAITS}
 use Rattle.std.proofs.Common.{leb}
 use Rattle.std.proofs.lemmas.Bool.{eq-eqb}
 use Rattle.std.proofs.lemmas.Option.{same_Some}
@@ -12,7 +12,7 @@ use Rattle.event_theory.specs.declared.event.Event.TheVariants as events
 use Rattle.thread_table.proofs.Events.Owing.{QueueOwes, queue_owes}
 use Rattle.thread_table.proofs.Shown.QueueWords.{none_some}
 use Rattle.thread_table.proofs.Events.Changes.{ringed, hand_holds, ring_effect}
-use Rattle.thread_table.proofs.Events.SingleRuns.{Singles, raised_known}
+use Rattle.thread_table.proofs.Events.SingleRuns.{Singles, raised_known, within_room}
 use Rattle.thread_table.proofs.Hands.HeldLists.{held_set}
 use Rattle.thread_table.proofs.Hands.Releases.{hold_else, hold_own}
 use Rattle.thread_table.proofs.Events.Rooms.{room, out_of_hands, unheld, let_go_goes}
@@ -50,10 +50,12 @@ claim_grows id element q = record {
   raised = λ run up. up;
 }
 
-claim_places : (first id element : ℕ) (q : Queue) (run word : ℕ) → IsLawfulQueue q → PlaceShows first q run word → PlaceShows first (after_claim id (element ∷ []) q) run word
-claim_places first id element q run word lawful shows = record {
+claim_places : (first id element : ℕ) (q : Queue) (run word : ℕ) → IsLawfulQueue q → run < length q.history + 64 → PlaceShows first q run word → PlaceShows first (after_claim id (element ∷ []) q) run word
+claim_places first id element q run word lawful near shows = record {
   up = λ is. shows.up is ∙ ap (λ x. x + 256 * (first + run + 1)) (sym (same_element id element q run (raised_known q run lawful is)));
   low = shows.low;
+  early = shows.early;
+  late = λ low many. shows.late low many ∙ ap (λ x. x + 256 * (first + (run - 64) + 1)) (sym (same_element id element q (run - 64) (omega arith)));
 }
 
 -- the call lets the element go
@@ -137,7 +139,7 @@ effect_of id v first e words ring element event ready idle below known held boun
       bounded = omega arith;
       head = get_or-set_same words (head_word ring) value 0 (omega arith) ∙ omega arith;
       tail = get_or-set_other words (head_word ring) (tail_word ring) value 0 (λ same. omega arith) ∙ shows.tail;
-      places = λ n from within. claim_places first id element q n _ lawful (subst (PlaceShows first q n) (sym (get_or-set_other words (head_word ring) (place_word ring (first + n)) value 0 (λ same. omega arith))) (shows.places n from within));
+      places = λ n from within. claim_places first id element q n _ lawful (let a = (within_room q 64 lawful shows.single shows.capacity).0 in omega arith) (subst (PlaceShows first q n) (sym (get_or-set_other words (head_word ring) (place_word ring (first + n)) value 0 (λ same. omega arith))) (shows.places n from within));
       owes = run_owes v (with_claim v e ring element) id element ring q idle refl;
       owes_else = λ l ne. queue_owes v (with_claim v e ring element) l (ring_at e l) (ring_at e l) idle refl refl;
     }

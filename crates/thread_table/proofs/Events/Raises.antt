@@ -40,6 +40,8 @@ place_now : (first : ℕ) (q : Queue) (run element : ℕ) → element_at q run �
 place_now first q run element is = record {
   up = λ up. omega (arith, is);
   low = λ low. absurd (true≢false (sym (raised_now run q.raised) ∙ low));
+  early = λ low few. absurd (true≢false (sym (raised_now run q.raised) ∙ low));
+  late = λ low many. absurd (true≢false (sym (raised_now run q.raised) ∙ low));
 }
 
 -- what the place of another run says
@@ -47,6 +49,8 @@ place_else : (first : ℕ) (q : Queue) (run r word : ℕ) → r ≢ run → Plac
 place_else first q run r word ne s = record {
   up = λ up. s.up (sym (raised_else run q.raised r ne) ∙ up);
   low = λ low. s.low (sym (raised_else run q.raised r ne) ∙ low);
+  early = λ low few. s.early (sym (raised_else run q.raised r ne) ∙ low) few;
+  late = λ low many. s.late (sym (raised_else run q.raised r ne) ∙ low) many;
 }
 
 places_after : (first : ℕ) (q : Queue) (ring run element : ℕ) (words : List ℕ) → element_at q run ≡ element → q.taken ≤ run → run < q.taken + 64 → place_word ring (first + run) < length words

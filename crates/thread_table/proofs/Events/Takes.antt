@@ -1,5 +1,5 @@
 -- What a taking of one element does.
-use Rattle.thread_table.proofs.Common.{by_tail, RINGS, View, None, ◌≡◌, ℕ, ◌+◌, ◌%◌, ◌<◌, ◌≤◌, true, eq-eqb, List, [], ◌∷◌, ◌++◌, length, map, take, drop, set, get_or, Ok, refl, sym, ap, subst, ◌∙◌, arith, get_or-set_same, get_or-set_other, length-set, slice_get-get_or, add-mod_right, dite, dec_lt, Elements, hold, take_element, Queue, left, empty_queue, take_first, ◌>>=◌, at, IsLawfulQueue, IsLawfulElements, in_list, UnknownName, every_at, one, ring_at, element_at, ELEMENTS, PLACES, head_word, tail_word, place_word, PlaceShows, tail_shown, take_event, inl, inr, with_held, places_word}
+use Rattle.thread_table.proofs.Common.{◌*◌, ◌-◌, by_tail, RINGS, View, None, ◌≡◌, ℕ, ◌+◌, ◌%◌, ◌<◌, ◌≤◌, true, eq-eqb, List, [], ◌∷◌, ◌++◌, length, map, take, drop, set, get_or, Ok, refl, sym, ap, subst, ◌∙◌, arith, get_or-set_same, get_or-set_other, length-set, slice_get-get_or, add-mod_right, dite, dec_lt, Elements, hold, take_element, Queue, left, empty_queue, take_first, ◌>>=◌, at, IsLawfulQueue, IsLawfulElements, in_list, UnknownName, every_at, one, ring_at, element_at, ELEMENTS, PLACES, head_word, tail_word, place_word, PlaceShows, tail_shown, take_event, inl, inr, with_held, places_word}
 use Rattle.std.proofs.Common.{ok_or}
 use Rattle.std.proofs.lemmas.List.{take-append-drop}
 use Rattle.event_theory.specs.Queues.{after_take}
@@ -40,7 +40,7 @@ place_after : (first : ℕ) (q : Queue) (ring : ℕ) (words : List ℕ) → IsLa
     → ((r : ℕ) → q.taken ≤ r → r < q.taken + 64 → PlaceShows first q r (get_or words (place_word ring (first + r)) 0))
     → (r : ℕ) → q.taken + 1 ≤ r → r < q.taken + 1 + 64 → PlaceShows first (after_take 1 q) r (get_or words (place_word ring (first + r)) 0)
 place_after first q ring words lawful room up known s r a b = dite (dec_lt r (q.taken + 64))
-    (λ y. let p = s r (omega arith) y in record { up = p.up; low = p.low })
+    (λ y. let p = s r (omega arith) y in record { up = p.up; low = p.low; early = p.early; late = p.late })
     (λ no. let last : r ≡ q.taken + 64 = omega arith in
     let p = s q.taken (omega arith) (omega arith) in
     let was = p.up up in
@@ -50,6 +50,8 @@ place_after first q ring words lawful room up known s r a b = dite (dec_lt r (q.
     record {
       up = λ h. let n = raised_known q r lawful h in absurd (omega arith);
       low = λ h. omega (arith, was, same, known);
+      early = λ h few. absurd (omega arith);
+      late = λ h many. let e : q.taken ≡ r - 64 = omega arith in same ∙ (was ∙ ap (λ (n : ℕ). element_at q n + 256 * (first + n + 1)) e);
     })
 
 module _ (id : ℕ) (v : View) (free : v.own.claimed ≡ None) where

@@ -1,5 +1,5 @@
 -- What a join of two calls makes of the elements.
-use Rattle.thread_table.proofs.Common.{◌≡◌, ◌≢◌, ℕ, ◌+◌, ◌*◌, ◌<◌, Bool, true, false, ◌||◌, ◌&&◌, cond, eqb, eq-eqb, ne_eqb, List, [], ◌∷◌, ◌∙◌, map, length, get_or, Option, Some, None, option_map, slice_get, refl, sym, ap, ap₂, subst, arith, map-map, eqb_tells, nat_tests, or-true, get_or-map, ⊎_elim, length-map, list_any, Elements, hold, holds, is_hold, is_put, join_elements, Queue, empty_queue, renamed, join_run, join_queue, Run, Hold, PLACES, Claimed, Counted, ring_at, element_of, no_run, QueueGrows, Grows, place_word, WordsShow, RingShows, PlaceShows, processor_shown, mark_of, IsClaimed, IsCounted, IsOpen, may_step}
+use Rattle.thread_table.proofs.Common.{◌-◌, ◌≡◌, ◌≢◌, ℕ, ◌+◌, ◌*◌, ◌<◌, Bool, true, false, ◌||◌, ◌&&◌, cond, eqb, eq-eqb, ne_eqb, List, [], ◌∷◌, ◌∙◌, map, length, get_or, Option, Some, None, option_map, slice_get, refl, sym, ap, ap₂, subst, arith, map-map, eqb_tells, nat_tests, or-true, get_or-map, ⊎_elim, length-map, list_any, Elements, hold, holds, is_hold, is_put, join_elements, Queue, empty_queue, renamed, join_run, join_queue, Run, Hold, PLACES, Claimed, Counted, ring_at, element_of, no_run, QueueGrows, Grows, place_word, WordsShow, RingShows, PlaceShows, processor_shown, mark_of, IsClaimed, IsCounted, IsOpen, may_step}
 use Rattle.std.proofs.Math.Bool.{and-or_distrib_right}
 use Rattle.thread_table.proofs.Shown.QueueWords.{same_mark, ring_shown}
 use Rattle.std.proofs.lemmas.Option.{slice_get-map}
@@ -113,6 +113,8 @@ place_joined : (id other first run word : ℕ) (q : Queue) → PlaceShows first 
 place_joined id other first run word q h = record {
   up = λ up. h.up up ∙ ap (λ (x : ℕ). x + 256 * (first + run + 1)) (sym (item_of_joined id other q.history run));
   low = h.low;
+  early = h.early;
+  late = λ low many. h.late low many ∙ ap (λ (x : ℕ). x + 256 * (first + (run - 64) + 1)) (sym (item_of_joined id other q.history (run - 64)));
 }
 
 single_by : (id other : ℕ) (found : Option Run) (run : Run) → ((r : Run) → found ≡ Some r → length r.items ≡ 1) → option_map (join_run id other) found ≡ Some run → length run.items ≡ 1

@@ -37,7 +37,7 @@ pub record AreBlank (first : ℕ) (words : List ℕ) : Type 0 where
 empty_shows : (first ring : ℕ) (words : List ℕ) → AreBlank first words → ring < RINGS → ring ≢ 1 → ring_at e64 ring ≡ empty_queue PLACES → mark_of e64 ring ≡ 0 → RingShows first e64 ring words
 empty_shows first ring words b below ne is none = let fits = b.fits in let head = b.heads ring below ∙ ap (λ (z : Bool). first + cond z 64 0) (ne_eqb ring 1 ne) in let tail = b.tails ring below in
     ring_shown first e64 ring words (empty_queue PLACES) 0 is none refl refl (λ number run at. absurd (cc)) (omega arith) (omega arith) (omega arith) (omega arith)
-    (λ run from to. let z : get_or words (place_word ring (first + run)) 0 ≡ 0 = b.zeros ring ((first + run) % 64) below ne (omega arith) in record { up = λ up. absurd (cc); low = λ _. omega arith })
+    (λ run from to. let z : get_or words (place_word ring (first + run)) 0 ≡ 0 = b.zeros ring ((first + run) % 64) below ne (omega arith) in record { up = λ up. absurd (cc); low = λ _. omega arith; early = λ _ few. z; late = λ _ many. absurd (omega arith) })
 
 -- the run of one item that a full queue begins with
 abbrev single : ℕ → Run
@@ -61,6 +61,8 @@ full_shows first words b = let fits = b.fits in let head = b.heads 1 (omega arit
     (λ run from to. let below : run < 64 = omega arith in record {
       up = λ _. b.items run below ∙ sym (ap (λ (x : ℕ). x + 256 * (first + run + 1)) (full_item 64 run below));
       low = λ low. let up = full_raised 64 run below in absurd (cc);
+      early = λ low few. let up = full_raised 64 run below in absurd (cc);
+      late = λ low many. absurd (omega arith);
     })
 
 state_shows : (thread : Thread) (word : ℕ) → thread ≡ new_thread → word ≡ 0 → StateShows thread word

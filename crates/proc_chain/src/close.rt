@@ -7,10 +7,10 @@ ghost use Rattle.proc_chain.specs.Layout.{width};
 ghost use Rattle.proc_chain.specs.Rules.{suits, makes};
 ghost use Rattle.proc_chain.specs.Closings.{ClosedNow, WereOpen, left_at, left_from};
 
+use crate::counting::{close_by, count};
 use crate::ends::{ChainEnd, ProcChain};
 use crate::layout::{HEAD, PLACES, TAIL, place_word};
 use crate::quaject::Quaject;
-use crate::steps::count;
 use crate::word::PlaceWord;
 use arrayvec::ArrayVec;
 use atomic_table::Closed;
@@ -26,9 +26,6 @@ pub struct ChainClosed<Q> {
     pub taken: u32,
     pub left: ArrayVec<Option<u16>, PLACES>,
 }
-
-/// The number of ends where there is no other.
-const ALONE: u64 = 1;
 
 fn read_at<Q>(closed: &Closed<Q, Global>, position: u64) -> Option<u16>
     requires words { (slots_len closed.now.words ≡ width) × IsFull closed.now.words }
@@ -77,14 +74,15 @@ impl<Q: Quaject> ProcChain<Q> {
         ensures ends { IfErr result (λ e. IsEndOf self e.1) }
         ensures same { IfErr result (λ e. (e.0 ≡ self) × IsSameEnd end e.1 × KeepsTurn end e.1) }
     {
-        let mut end = end;
-        let ends = count(&self.table.shared, &mut end.seat);
-        if ends != ALONE {
-            return Err((self, end, OpenEnds { others: ends - 1 }));
-        }
-        let ChainEnd { seat, turn: _ } = end;
+        let ChainEnd { seat, turn } = end;
+        let last = match count(&self.table.shared, seat) {
+            Ok(last) => last,
+            Err((seat, ends)) => {
+                return Err((self, ChainEnd { seat, turn }, OpenEnds { others: ends - 1 }));
+            }
+        };
         let ProcChain { table, first } = self;
-        let mut closed = table.close_with(seat);
+        let mut closed = close_by(table, last);
         let head = closed.word(HEAD);
         let tail = closed.word(TAIL);
         let left = read_left(&closed, tail, head);

@@ -50,6 +50,7 @@
 mod between;
 mod chaining;
 mod close;
+mod counting;
 mod ends;
 pub mod laws;
 mod layout;

@@ -5,7 +5,7 @@ ghost use mathlib.Core.Option.{some};
 ghost use lib.ListN.{get_elem?};
 ghost use Rattle.table_theory.specs.declared.positions.TheConstants.{POSITIONS};
 ghost use Rattle.table_theory.specs.declared.queues.Batch.{Batch};
-ghost use Rattle.table_theory.specs.Ledgers.{CountedUp, CountedDown, Tallied};
+ghost use Rattle.table_theory.specs.Ledgers.{CountedUp, CountedDown};
 ghost use Rattle.table_theory.specs.Ledgers.{rest_of, newborn};
 ghost use Rattle.table_theory.specs.Listing.{number_of};
 ghost use Rattle.table_theory.specs.Positioned.{blank, tail_of};
@@ -21,7 +21,7 @@ ghost use Rattle.proc_chain.specs.Turns.{IsRunner};
 
 use crate::layout::{ENDS, GATE, HEAD, RUNNING, place_word};
 use crate::plays::{
-    ClaimedNote, Claims, Counts, CountsDown, CountsUp, Finds, Gives, Raises, Rounds, Spies,
+    ClaimedNote, Claims, CountsDown, CountsUp, Finds, Gives, Raises, Rounds, Spies,
 };
 use crate::quaject::Quaject;
 use crate::rule::{ChainRule, Pact, Shape, View};
@@ -140,19 +140,6 @@ pub(crate) fn count_down<Q: Quaject>(
         × Meets seat.old.me.0 seat.new.me.0.seen.object × (seat.old.me.0.own.doubled ≡ false) }
 {
     words.fetch_sub::<CountsDown>(seat, ENDS, 1)
-}
-
-pub(crate) fn count<Q: Quaject>(
-    words: &Shared<Q, View, Shape<Pact<Q::World, Q>>, ChainRule>,
-    seat: &mut Seat<Q, View>,
-) -> u64
-    requires queue { (seat.old.table_id ≡ words.now.table_id) × (words.now.table_id.words ≡ width) }
-    requires live { seat.old.me.0.member.ends ≡ 1 }
-    ensures stays { IsSame seat.old seat.new × Stays seat.old.me seat.new.me }
-    ensures tallied { Tallied ends_word seat.old.me.0 result seat.new.me.0
-        × Meets seat.old.me.0 seat.new.me.0.seen.object }
-{
-    words.load::<Counts>(seat, ENDS)
 }
 
 pub(crate) fn split_off<Q: Quaject>(

@@ -1,20 +1,20 @@
-use Rattle.proc_chain.proofs.Common.{sym, arith, ◌∙◌, ◌-◌, suits, makes}
+use Rattle.proc_chain.proofs.Common.{refl, sym, arith, ◌∙◌, ◌-◌, suits, makes}
 use Rattle.proc_chain.proofs.Closing.{spans, emptied_slot, closes}
 use Rattle.proc_chain.proofs.ends.ProcChain.close.Goals as goal
 
 pub read_left-left-requires-clause-range : goal.read_left-left-requires-clause-range
-read_left-left-requires-clause-range g c = let s = spans (makes g.Q.Quaject.made_by) (suits g.Q.Quaject.fits) c.args.self.table.shared.key _ _ _ _ _ _ c.close_with-closed.ensures.values.2 c.word-head.ensures c.word-tail.ensures in (s.behind, s.within, s.bounded)
+read_left-left-requires-clause-range g c = let s = spans (makes g.Q.Quaject.made_by) (suits g.Q.Quaject.fits) c.args.self.table.shared.key _ _ _ _ _ _ c.close_by-closed.ensures.values.2 c.word-head.ensures c.word-tail.ensures in (s.behind, s.within, s.bounded)
 
 pub overflow_sub-result-3 : goal.overflow_sub-result-3
-overflow_sub-result-3 g c = let s = spans (makes g.Q.Quaject.made_by) (suits g.Q.Quaject.fits) c.args.self.table.shared.key _ _ _ _ _ _ c.close_with-closed.ensures.values.2 c.word-head.ensures c.word-tail.ensures in let started = s.started in let first = c.args.self.shaped in omega arith
+overflow_sub-result-3 g c = let s = spans (makes g.Q.Quaject.made_by) (suits g.Q.Quaject.fits) c.args.self.table.shared.key _ _ _ _ _ _ c.close_by-closed.ensures.values.2 c.word-head.ensures c.word-tail.ensures in let started = s.started in let first = c.args.self.shaped in omega arith
 
 pub overflow_cast-result-4 : goal.overflow_cast-result-4
-overflow_cast-result-4 g c = let s = spans (makes g.Q.Quaject.made_by) (suits g.Q.Quaject.fits) c.args.self.table.shared.key _ _ _ _ _ _ c.close_with-closed.ensures.values.2 c.word-head.ensures c.word-tail.ensures in let behind = s.behind in let bounded = s.bounded in omega arith
+overflow_cast-result-4 g c = let s = spans (makes g.Q.Quaject.made_by) (suits g.Q.Quaject.fits) c.args.self.table.shared.key _ _ _ _ _ _ c.close_by-closed.ensures.values.2 c.word-head.ensures c.word-tail.ensures in let behind = s.behind in let bounded = s.bounded in omega arith
 
 pub free-requires : goal.free-requires
-free-requires g c = let slots = c.take-quaject.ensures.others in λ k below. emptied_slot _ _ _ k slots.1 (slots.2 ∙ (c.close_with-closed.ensures.counts.1 ∙ c.args.self.sized.1)) below
+free-requires g c = let slots = c.take-quaject.ensures.others in λ k below. emptied_slot _ _ _ k slots.1 (slots.2 ∙ (c.close_by-closed.ensures.counts.1 ∙ c.args.self.sized.1)) below
 
 pub returns-clause-closed : goal.returns-clause-closed
 returns-clause-closed g c = let k = c.args.self.table.shared.key in let first = c.args.self.shaped in let end = c.args.end in
-    closes (makes g.Q.Quaject.made_by) (suits g.Q.Quaject.fits) k _ _ _ _ c.word-head.result c.word-tail.result _ _ c.args.self.first _ _ _ _ first end.rests c.count-ends.ensures.tallied.0 c.if-ends-ne-ALONE.false (end.turned ∙ c.requires.turn) c.close_with-closed.ensures.values.2
+    closes (makes g.Q.Quaject.made_by) (suits g.Q.Quaject.fits) k _ _ _ _ c.word-head.result c.word-tail.result _ _ c.args.self.first _ _ _ _ first end.rests c.in-Ok.ensures.alone.1 refl (end.turned ∙ c.requires.turn) c.close_by-closed.ensures.values.2
     c.word-head.ensures c.word-tail.ensures c.take-quaject.ensures.value (λ i. c.word-head.result - sym first i) (λ i. c.word-tail.result - sym first i) c.read_left-left.ensures

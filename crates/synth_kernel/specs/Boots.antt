@@ -151,7 +151,8 @@ pub record IsBootAnswer (Did : BootPlan → ClosedTables → List (List LogEntry
 
 -- HOW IT FAILS
 
--- a script's fault is the first of the text; memory is wanting, or the writer fails, only where the text has none
+-- a script's fault is the first of the text; memory is wanting, or the writer fails, only where the text has none; the
+-- reader may fail with any text
 abbrev pub IsBootFault : Result Plan ScriptFault → BootFault → Type 0
 IsBootFault said (Script fault) = said ≡ Err fault
 IsBootFault said Memory = IsOk said

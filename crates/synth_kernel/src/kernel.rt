@@ -2,6 +2,7 @@
 ghost use Rattle.std.specs.Prelude.{◌≡◌, ◌≢◌, ◌≤◌, List, vec_len, IfOk, IfErr, IfSome};
 ghost use Rattle.std.specs.Io.KnownBytes.{Keeps};
 ghost use Rattle.boot_script.specs.Plans.{text_plan};
+ghost use Rattle.boot_script.specs.StreamFaults.{IsReadFault, IsWriteFault};
 ghost use Rattle.boot_objects.specs.declared.closing.all.Unmade.{Unmade};
 ghost use Rattle.synth_kernel.specs.Boots.{CameBack, CameBackPlain, HasNumbers, IsBoot, IsBootAnswer};
 ghost use Rattle.synth_kernel.specs.Boots.{IsBootFault, IsRead};
@@ -9,10 +10,9 @@ ghost use Rattle.synth_kernel.specs.Boots.{IsBootFault, IsRead};
 use crate::outcome::{BootFault, Ended};
 use crate::printing::{Booted, boot_and_print};
 use boot_data::BootPlan;
-use boot_script::{ScriptRefusal, parse_boot, read_script};
+use boot_script::{ScriptRefusal, Sink, Source, parse_boot, read_script};
 use event_theory::OutOfMemory;
 use std::alloc::Global;
-use std::io::{Read, Write};
 use std::sync::Wait;
 use std::thread::Threads;
 use turn_io::{Gate, NoGate};
@@ -24,6 +24,7 @@ const BUFFER_BYTES: usize = 65_537;
 fn plan_said(alloc: Global, text: &[u8]) -> Result<BootPlan, BootFault>
     ensures read { IsRead (text_plan text.now) result }
     ensures unwritten { IfErr result (λ fault. fault ≢ BootFault.Write) }
+    ensures unread { IfErr result (λ fault. fault ≢ BootFault.Read) }
 {
     match parse_boot(alloc, text) {
         Ok(plan) => Ok(plan),
@@ -35,9 +36,10 @@ fn plan_said(alloc: Global, text: &[u8]) -> Result<BootPlan, BootFault>
 }
 
 // The plan that is read.
-fn read_plan<I: Read>(alloc: Global, reader: &mut I) -> Result<BootPlan, BootFault>
+fn read_plan<I: Source>(alloc: Global, reader: &mut I) -> Result<BootPlan, BootFault>
     ensures read { IfSome (I.remaining reader.old) (λ bytes. IsRead (text_plan bytes) result) }
     ensures unwritten { IfErr result (λ fault. fault ≢ BootFault.Write) }
+    ensures error { IfErr result (λ fault. fault ≡ BootFault.Read → IsReadFault I.answers reader.old reader.new) }
 {
     let mut buffer = [0u8; BUFFER_BYTES];
     let filled = read_script(reader, &mut buffer)?;
@@ -60,7 +62,9 @@ pub(crate) fn no_gates(alloc: Global, processors: u8) -> Result<Vec<NoGate>, Out
 /// nothing.
 ///
 /// After a fault other than `Write` nothing was written. `Memory` is answered only where the text has no fault: an
-/// allocation was refused, or a thread could not be started.
+/// allocation was refused, or a thread could not be started. `Read` comes only where the last call on the reader
+/// returned an error other than an interruption, or at 131,072 calls. `Write` comes only where the last call on the
+/// writer returned an error.
 ///
 /// Condition: there are 1 to 8 processors.
 pub fn boot_on<R, I, O>(
@@ -73,8 +77,8 @@ pub fn boot_on<R, I, O>(
 ) -> Result<Booted<NoGate>, BootFault>
 where
     R: Threads + Wait + Sync,
-    I: Read,
-    O: Write,
+    I: Source,
+    O: Sink,
     requires { (1 ≤ processors) × (processors ≤ 8) }
     ensures numbers { IfOk result (HasNumbers processors turns) }
     ensures ok { IfOk result (λ booted. IsBoot (CameBackPlain processors turns booted.gates.items booted.closed)
@@ -83,6 +87,8 @@ where
         (text_plan bytes) fault)) }
     ensures unwritten { IfErr result (λ fault. fault ≢ BootFault.Write
         → Keeps (O.contents writer.old) (O.contents writer.new)) }
+    ensures read { IfErr result (λ fault. fault ≡ BootFault.Read → IsReadFault I.answers reader.old reader.new) }
+    ensures write { IfErr result (λ fault. fault ≡ BootFault.Write → IsWriteFault O.fails writer.new) }
 {
     let plan = read_plan(alloc, reader)?;
     let idle = no_gates(alloc, processors)?;
@@ -105,8 +111,8 @@ pub fn boot_on_with<R, I, O, G>(
 ) -> Result<Booted<G>, BootFault>
 where
     R: Threads + Wait + Sync,
-    I: Read,
-    O: Write,
+    I: Source,
+    O: Sink,
     G: Gate + Send + Drop,
     requires number { (1 ≤ processors) × (processors ≤ 8) }
     requires gates { vec_len gates ≡ processors }
@@ -117,6 +123,8 @@ where
         (text_plan bytes) fault)) }
     ensures unwritten { IfErr result (λ fault. fault ≢ BootFault.Write
         → Keeps (O.contents writer.old) (O.contents writer.new)) }
+    ensures read { IfErr result (λ fault. fault ≡ BootFault.Read → IsReadFault I.answers reader.old reader.new) }
+    ensures write { IfErr result (λ fault. fault ≡ BootFault.Write → IsWriteFault O.fails writer.new) }
 {
     let plan = read_plan(alloc, reader)?;
     boot_and_print(rt, alloc, plan, writer, processors, turns, gates)
@@ -135,13 +143,15 @@ pub fn boot<R, I, O>(
 ) -> Result<Ended, BootFault>
 where
     R: Threads + Wait + Sync,
-    I: Read + Drop,
-    O: Write + Drop,
+    I: Source + Drop,
+    O: Sink + Drop,
     requires { (1 ≤ processors) × (processors ≤ 8) }
     ensures ok { IfOk result (λ ended. (back : List NoGate) × (closed : Unmade)
         × IsBootAnswer (CameBackPlain processors turns back closed) (I.remaining reader) ended) }
     ensures fault { IfErr result (λ fault. IfSome (I.remaining reader) (λ bytes. IsBootFault (text_plan bytes)
         fault)) }
+    ensures read { IfErr result (λ fault. fault ≡ BootFault.Read → (last : I) × IsReadFault I.answers reader last) }
+    ensures write { IfErr result (λ fault. fault ≡ BootFault.Write → (last : O) × IsWriteFault O.fails last) }
 {
     let booted = boot_on(rt, alloc, &mut reader, &mut writer, processors, turns)?;
     Ok(booted.ended)
@@ -161,8 +171,8 @@ pub fn boot_with<R, I, O, G>(
 ) -> Result<Ended, BootFault>
 where
     R: Threads + Wait + Sync,
-    I: Read + Drop,
-    O: Write + Drop,
+    I: Source + Drop,
+    O: Sink + Drop,
     G: Gate + Send + Drop,
     requires number { (1 ≤ processors) × (processors ≤ 8) }
     requires gates { vec_len gates ≡ processors }
@@ -170,6 +180,8 @@ where
         × IsBootAnswer (CameBack G.told turns gates.items back closed) (I.remaining reader) ended) }
     ensures fault { IfErr result (λ fault. IfSome (I.remaining reader) (λ bytes. IsBootFault (text_plan bytes)
         fault)) }
+    ensures read { IfErr result (λ fault. fault ≡ BootFault.Read → (last : I) × IsReadFault I.answers reader last) }
+    ensures write { IfErr result (λ fault. fault ≡ BootFault.Write → (last : O) × IsWriteFault O.fails last) }
 {
     let booted = boot_on_with(
         rt,

@@ -2,6 +2,7 @@
 ghost use Rattle.std.specs.Prelude.{◌≡◌, ◌≢◌, ◌≤◌, vec_len, IfOk, IfErr};
 ghost use Rattle.std.specs.Io.KnownBytes.{Keeps};
 ghost use Rattle.boot_laws.specs.Saying.{live_threads};
+ghost use Rattle.boot_script.specs.StreamFaults.{IsWriteFault};
 ghost use Rattle.synth_kernel.specs.Boots.{ended_of, CameBack, HasNumbers, IsLate, IsRun};
 
 use crate::booting::boot_plan;
@@ -9,9 +10,8 @@ use crate::outcome::{BootFault, Ended};
 use boot_data::{BootPlan, Report};
 use boot_objects::Unmade;
 use boot_report::live_of;
-use boot_script::print_report;
+use boot_script::{Sink, print_report};
 use std::alloc::Global;
-use std::io::Write;
 use std::sync::Wait;
 use std::thread::Threads;
 use turn_io::Gate;
@@ -68,7 +68,7 @@ pub(crate) fn boot_and_print<R, O, G>(
 ) -> Result<Booted<G>, BootFault>
 where
     R: Threads + Wait + Sync,
-    O: Write,
+    O: Sink,
     G: Gate + Send + Drop,
     requires number { (1 ≤ processors) × (processors ≤ 8) }
     requires gates { vec_len gates ≡ processors }
@@ -78,6 +78,7 @@ where
     ensures fault { IfErr result (λ fault. IsLate fault) }
     ensures unwritten { IfErr result (λ fault. fault ≢ BootFault.Write
         → Keeps (O.contents writer.old) (O.contents writer.new)) }
+    ensures write { IfErr result (λ fault. fault ≡ BootFault.Write → IsWriteFault O.fails writer.new) }
 {
     let (report, gates, closed) = boot_plan(rt, alloc, plan, turns, gates)?;
     match print_report(&report, writer) {

@@ -30,7 +30,7 @@ use event_theory::{Element, Processor};
 use std::sync::Wait;
 use thread_table::{Hand, ThreadTable};
 use turn_dispatch::put_on;
-use turn_io::Gate;
+use turn_io::Watch;
 
 // That an element is on its processor, and its step was not tried there.
 #[derive(Drop)]
@@ -81,7 +81,7 @@ pub(crate) fn seat(
 }
 
 // Tries a step of a thread once, whose element is on its processor. A line that is heard goes into `room.heard`.
-pub(crate) fn do_step<R: Wait, G: Gate>(
+pub(crate) fn do_step<R: Wait, G: Watch>(
     rt: &R,
     shared: &Shared,
     parts: &mut Parts,

@@ -27,10 +27,10 @@ use boot_data::plan::QueueIndex;
 use claim_queue::QueueEnd;
 use std::sync::Wait;
 use thread_table::Hand;
-use turn_io::{Gate, show_end};
+use turn_io::{Watch, show_end};
 
 // One try to say a text in a queue.
-pub(crate) fn say_step<R: Wait, G: Gate>(
+pub(crate) fn say_step<R: Wait, G: Watch>(
     rt: &R,
     shared: &Shared,
     hand: &mut Hand,
@@ -84,7 +84,7 @@ pub(crate) fn say_step<R: Wait, G: Gate>(
 }
 
 // One try to hear a line of a queue.
-pub(crate) fn hear_step<R: Wait, G: Gate>(
+pub(crate) fn hear_step<R: Wait, G: Watch>(
     rt: &R,
     shared: &Shared,
     hand: &mut Hand,
@@ -130,7 +130,7 @@ pub(crate) fn hear_step<R: Wait, G: Gate>(
 }
 
 // Shuts a queue or pipe, and wakes those who wait at a pipe: first those who wait to hear.
-pub(crate) fn close_step<R: Wait, G: Gate>(
+pub(crate) fn close_step<R: Wait, G: Watch>(
     rt: &R,
     shared: &Shared,
     hand: &mut Hand,

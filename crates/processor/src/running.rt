@@ -27,10 +27,10 @@ use boot_data::plan::Step;
 use event_theory::{Element, Processor};
 use std::sync::Wait;
 use turn_dispatch::take_off;
-use turn_io::Gate;
+use turn_io::Watch;
 
 // Tries a step of an element that the hand holds, on a processor that is free.
-pub(crate) fn run_step<R: Wait, G: Gate>(
+pub(crate) fn run_step<R: Wait, G: Watch>(
     rt: &R,
     shared: &Shared,
     parts: &mut Parts,

@@ -11,10 +11,10 @@ use crate::shared::Shared;
 use boot_data::plan::QueueIndex;
 use claim_queue::QueueEnd;
 use thread_table::Hand;
-use turn_io::{Gate, show_end};
+use turn_io::{Watch, show_end};
 
 // Shows the gate a hand, and the end of a queue.
-pub(crate) fn show_queue<G: Gate>(
+pub(crate) fn show_queue<G: Watch>(
     gate: &G,
     shared: &Shared,
     hand: &Hand,

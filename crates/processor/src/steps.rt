@@ -20,10 +20,10 @@ use crate::thread_steps::{signal_step, start_step, stop_step, wake_step};
 use crate::tries::WasShut;
 use boot_data::plan::Step;
 use std::sync::Wait;
-use turn_io::{Gate, poke, show_chain_end};
+use turn_io::{Watch, poke, show_chain_end};
 
 // Tries a step of a thread once. A line that is heard goes into `room.heard`.
-pub(crate) fn try_step<R: Wait, G: Gate>(
+pub(crate) fn try_step<R: Wait, G: Watch>(
     rt: &R,
     shared: &Shared,
     parts: &mut Parts,

@@ -28,7 +28,7 @@ use boot_data::plan::Step;
 use event_theory::{Alarm, Element, Processor};
 use std::sync::Wait;
 use turn_dispatch::{Begun, Idle, begin, retire, tend_alarms};
-use turn_io::{Gate, Point};
+use turn_io::{Point, Watch};
 
 // Whether a step that was tried is done, and was the last of so many.
 fn is_last(done: bool, number: u64, steps: usize) -> bool
@@ -39,7 +39,7 @@ fn is_last(done: bool, number: u64, steps: usize) -> bool
 }
 
 // The next step of an element at hand, which has so many, is tried, and the element moves on.
-fn run_element<R: Wait, G: Gate>(
+fn run_element<R: Wait, G: Watch>(
     rt: &R,
     shared: &Shared,
     parts: &mut Parts,
@@ -125,7 +125,7 @@ fn retire_at<R: Wait>(
 
 // An element from the ready ring has its turn, if there is one: its next step is tried, or it is retired where it has
 // none left.
-fn dispatch<R: Wait, G: Gate>(
+fn dispatch<R: Wait, G: Watch>(
     rt: &R,
     shared: &Shared,
     parts: &mut Parts,
@@ -180,7 +180,7 @@ fn tend(shared: &Shared, parts: &mut Parts, p: Processor, fired: &mut ArrayVec<A
 }
 
 // One turn, with room for the alarms that are fired in it, and for a line.
-fn turn<R: Wait, G: Gate>(
+fn turn<R: Wait, G: Watch>(
     rt: &R,
     shared: &Shared,
     parts: &mut Parts,
@@ -206,7 +206,7 @@ fn turn<R: Wait, G: Gate>(
 /// signalled.
 ///
 /// Conditions: the station is one of `shared`, and its hand serves the processor, on which nothing stands.
-pub fn run<R: Wait, G: Gate>(
+pub fn run<R: Wait, G: Watch>(
     rt: &R,
     shared: &Shared,
     station: Station,

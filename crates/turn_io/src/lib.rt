@@ -13,7 +13,7 @@ mod showing;
 mod splitting;
 
 pub use chain_splitting::{join_chain_ends, split_chain_ends, split_chain_ends_into};
-pub use gate::{Gate, NoGate, Point};
+pub use gate::{Gate, NoGate, Point, Watch};
 pub use hearing::{hear, shut_queue};
 pub use items::item_at;
 pub use laws::accounts_add;

@@ -50,8 +50,6 @@ impl Gate for Hold<'_> {
             self.given_up.store(true);
         }
     }
-
-    fn show<A, B>(&self, _one: &A, _other: &B) {}
 }
 
 /// Whether these are the gates of so many processors, from 0 on, and each was told of so many turns.

@@ -166,8 +166,6 @@ impl Gate for Recorder {
     fn between(&mut self, p: u8, point: Point) {
         let _wanting = self.points.push((p, point));
     }
-
-    fn show<A, B>(&self, _one: &A, _other: &B) {}
 }
 
 /// Puts the items in the queue with this index, on this processor with this gate.
@@ -298,8 +296,6 @@ impl<'a> Gate for Watcher<'a> {
         );
         let _wanting = self.seen.push((point, put, taken, line.len()));
     }
-
-    fn show<A, B>(&self, _one: &A, _other: &B) {}
 }
 
 /// A gate that pokes the first of the chains at other ends, and keeps what it is answered.
@@ -322,6 +318,4 @@ impl<'a, R: Wait> Gate for Poker<'a, R> {
         let poked = pokes_it(self.rt, self.world, self.chains, &mut self.ends);
         let _wanting = self.poked.push(poked);
     }
-
-    fn show<A, B>(&self, _one: &A, _other: &B) {}
 }

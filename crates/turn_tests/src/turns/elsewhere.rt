@@ -53,8 +53,6 @@ impl<'r, 's, R: Wait> Gate for Sayer<'r, 's, R> {
         say_or_shut(queues, &mut self.ends, self.shuts);
         let _woken = wake(self.rt, &self.shared.threads, &mut self.hand, self.wait);
     }
-
-    fn show<A, B>(&self, _one: &A, _other: &B) {}
 }
 
 /// There is a queue.

@@ -23,8 +23,6 @@ impl Gate for Recorder {
     fn between(&mut self, p: u8, point: Point) {
         let _wanting = self.points.push((p, point));
     }
-
-    fn show<A, B>(&self, _one: &A, _other: &B) {}
 }
 
 /// The gate is told each turn, with its number, and what stands between the parts of a say and behind the try of a
@@ -76,8 +74,6 @@ impl<'r, 's, R: Wait> Gate for Taker<'r, 's, R> {
         }
         let _wanting = self.taken.push((point, taken));
     }
-
-    fn show<A, B>(&self, _one: &A, _other: &B) {}
 }
 
 /// When a turn is told its element is in the ready ring still, and the one of the turn before is there again; within a
@@ -131,8 +127,6 @@ impl<'s> Gate for Canceller<'s> {
             let _wanting = self.cancelled.push(cancelled);
         }
     }
-
-    fn show<A, B>(&self, _one: &A, _other: &B) {}
 }
 
 const TWO_ALARMS: &[u8] = b"synthesis 2

@@ -17,13 +17,13 @@ returns-in-Put-clause-did g c =
     (c.as_slice.ensures.value ∙ c.write_line.ensures) c.in-Put.ensures.did
 
 pub returns-in-Put-clause-order : goal.returns-in-Put-clause-order
-returns-in-Put-clause-order g c = tried_between g.G.Gate.shown _ _ c.args.queue c.args.hand.now c.ticket_for-ticket.new.hand c.args.small.now c.try_say-answer.new.small c.args.large.now c.try_say-answer.new.large
+returns-in-Put-clause-order g c = tried_between g.G.Watch.shown _ _ c.args.queue c.args.hand.now c.ticket_for-ticket.new.hand c.args.small.now c.try_say-answer.new.small c.args.large.now c.try_say-answer.new.large
     c.waits_of-readers.ensures.writers c.ticket_for-ticket.ensures.count c.show_queue.ensures c.show_queue-2.ensures
 
 pub returns-in-Over-clause-order : goal.returns-in-Over-clause-order
-returns-in-Over-clause-order g c = tried_between g.G.Gate.shown _ _ c.args.queue c.args.hand.now c.ticket_for-ticket.new.hand c.args.small.now c.try_say-answer.new.small c.args.large.now c.try_say-answer.new.large
+returns-in-Over-clause-order g c = tried_between g.G.Watch.shown _ _ c.args.queue c.args.hand.now c.ticket_for-ticket.new.hand c.args.small.now c.try_say-answer.new.small c.args.large.now c.try_say-answer.new.large
     c.waits_of-readers.ensures.writers c.ticket_for-ticket.ensures.count c.show_queue.ensures c.show_queue-2.ensures
 
 pub returns-in-Refused-clause-order : goal.returns-in-Refused-clause-order
-returns-in-Refused-clause-order g c = tried_between g.G.Gate.shown _ _ c.args.queue c.args.hand.now c.ticket_for-ticket.new.hand c.args.small.now c.try_say-answer.new.small c.args.large.now c.try_say-answer.new.large
+returns-in-Refused-clause-order g c = tried_between g.G.Watch.shown _ _ c.args.queue c.args.hand.now c.ticket_for-ticket.new.hand c.args.small.now c.try_say-answer.new.small c.args.large.now c.try_say-answer.new.large
     c.waits_of-readers.ensures.writers c.ticket_for-ticket.ensures.count c.show_queue.ensures c.show_queue-2.ensures

@@ -106,7 +106,7 @@ returns-clause-worked g c =
 
 pub returns-clause-order : goal.returns-clause-order
 returns-clause-order g c =
-    let S = g.G.Gate.shown in
+    let S = g.G.Watch.shown in
     let plan = c.args.shared.now.plan in
     let old = c.args.parts.now in
     let new : Parts = record c.do_step-attempt.new.parts { hand = c.take_off.new.hand } in

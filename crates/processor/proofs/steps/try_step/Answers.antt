@@ -77,15 +77,15 @@ returns-in-Poke-clause-order g c = let hand = c.args.parts.now.hand in record {
   chains = record {
     hand = hand;
     counted = refl;
-    before = subst (λ ends. ShownAt g.G.Gate.shown hand ends c.in-Poke.mover) c.as_slice.ensures.value c.show_chain_end.ensures;
-    after = subst (λ ends. ShownAt g.G.Gate.shown hand ends c.in-Poke.mover) c.as_slice-in-Poke.ensures.value c.show_chain_end-in-Poke.ensures;
+    before = subst (λ ends. ShownAt g.G.Watch.shown hand ends c.in-Poke.mover) c.as_slice.ensures.value c.show_chain_end.ensures;
+    after = subst (λ ends. ShownAt g.G.Watch.shown hand ends c.in-Poke.mover) c.as_slice-in-Poke.ensures.value c.show_chain_end-in-Poke.ensures;
   };
   seat = tt;
 }
 
 pub returns-in-Close-clause-order : goal.returns-in-Close-clause-order
 returns-in-Close-clause-order g c = record {
-  queues = of_same (λ q old new. Stood g.G.Gate.shown (count_of c.args.parts.now.hand) old new q) refl c.as_mut_slice-small.ensures.value
+  queues = of_same (λ q old new. Stood g.G.Watch.shown (count_of c.args.parts.now.hand) old new q) refl c.as_mut_slice-small.ensures.value
       (sym (with_items_is c.args.parts.now.small c.close_step-was_open.new.small (search rules))) c.close_step-was_open.ensures.order;
   chains = tt;
   seat = tt;

@@ -22,7 +22,7 @@ loop-number-preserved g c =
       ran_on c.args.shared.now.plan log (entry ∷ []) c.args.station.parts c.loop-number.parts c.turn.new.parts i.4 e.turn.2,
       i.5 ++ e.order.0 ∷ [],
       length-append i.5 (e.order.0 ∷ []) ∙ ap (λ n. n + 1) i.6,
-      turns_more g.G.Gate.shown c.args.shared.now c.args.p i.5 e.order.0 c.args.station.parts c.loop-number.parts c.turn.new.parts i.7 e.order.1,
+      turns_more g.G.Watch.shown c.args.shared.now c.args.p i.5 e.order.0 c.args.station.parts c.loop-number.parts c.turn.new.parts i.7 e.order.1,
     )
 
 pub loop-number-init : goal.loop-number-init

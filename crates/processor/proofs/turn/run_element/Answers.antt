@@ -125,5 +125,5 @@ returns-clause-order g c =
     let old = c.args.parts.now in
     let new : Parts = record c.run_step-tried.new.parts { hand = c.send_on.new.hand; heard = c.keep.new.lines } in
     let o = c.run_step-tried.ensures.order in
-    subst (λ (z : Tried). InOrder g.G.Gate.shown c.args.shared.now.plan (one_more (count_of old.hand)) z.deed old new) (sym c.send_on.ensures.tried)
+    subst (λ (z : Tried). InOrder g.G.Watch.shown c.args.shared.now.plan (one_more (count_of old.hand)) z.deed old new) (sym c.send_on.ensures.tried)
     (record { queues = o.queues; chains = o.chains; seat = o.seat })

@@ -1,2 +1,3 @@
 pub mod Boots
 pub mod Words
+pub mod Causes

@@ -1,5 +1,7 @@
 -- What the exit status and the words of a run say.
-use Rattle.std.specs.Prelude.{◌≡◌, ◌≢◌, ℕ, List, [], ◌++◌, codes, Option, Some, None, Result, Ok, Err, IfSome, OnOk}
+use Rattle.std.specs.Prelude.{◌≡◌, ◌≢◌, ◌⊎◌, ℕ, List, [], ◌++◌, codes, Option, Some, None, Result, Ok, Err, IfErr, IfSome}
+use Rattle.std.specs.Prelude.{OnOk}
+use Rattle.std.specs.declared.io.Error.{Error}
 use Rattle.std.specs.Io.KnownBytes.{Appends, Keeps}
 use Rattle.event_theory.specs.declared.event.Event.{Event}
 use Rattle.boot_script.specs.declared.fault.ScriptFault.{ScriptFault}
@@ -12,6 +14,7 @@ use Rattle.boot_objects.specs.declared.closing.all.Unmade.{Unmade}
 use Rattle.boot_script.specs.Plans.{text_plan}
 use Rattle.boot_script.specs.Scripts.{text_events}
 use Rattle.boot_script.specs.Replays.{IsReplay, IsAnswer, IsReplayFault}
+use Rattle.boot_script.specs.StreamFaults.{IsReadFault, IsWriteFault}
 use Rattle.synth_kernel.specs.declared.outcome.Ended as endings
 use Rattle.synth_kernel.specs.declared.outcome.Ended.TheVariants.{AllEnded, Unfinished}
 use Rattle.synth_kernel.specs.declared.outcome.BootFault.{BootFault}
@@ -59,6 +62,12 @@ IsUnwritten (Err fault) old new = fault ≢ Write → Keeps old new
 abbrev pub IsReplayOf : Option (List ℕ) → Result Replayed ReplayFault → Option (List ℕ) → Option (List ℕ) → Type 0
 IsReplayOf known answer old new =
     IfSome known (λ bytes. Answers (text_events bytes) answer old new) × IsUnwritten answer old new
+
+-- a read or write fault of a replay has its cause in the calls on the streams
+abbrev pub HasCause : {R W : Type 0} → (R → Result ℕ Error → R → Type 0) → (W → W → Type 0)
+    → Result Replayed ReplayFault → R → R → W → Type 0
+HasCause answers fails answer old new written = IfErr answer (λ fault.
+    (fault ≡ Read → IsReadFault answers old new) × (fault ≡ Write → IsWriteFault fails written))
 
 -- a run has the status, and where the error stream took all that was told, just the words are appended to it
 abbrev pub IsExit : Exit → ℕ → List ℕ → Option (List ℕ) → Option (List ℕ) → Type 0
@@ -113,6 +122,16 @@ abbrev pub IsBootedBy : Option (List ℕ) → ℕ → ℕ → Result endings.End
     → Option (List ℕ) → Option (List ℕ) → Type 0
 IsBootedBy read processors turns answer booted old new =
     BootAnswers read processors turns answer booted old new × IsBootUnwritten answer old new
+
+-- a read or write fault of a boot has its cause in the calls on the streams
+abbrev pub HasBootCause : {R W : Type 0} → (R → Result ℕ Error → R → Type 0) → (W → W → Type 0)
+    → Result endings.Ended BootFault → R → R → W → Type 0
+HasBootCause answers fails answer old new written = IfErr answer (λ fault.
+    (fault ≡ boot_faults.Read → IsReadFault answers old new) × (fault ≡ boot_faults.Write → IsWriteFault fails written))
+
+-- the reader or the writer failed
+abbrev pub HasStreamFailed : {R W : Type 0} → (R → Result ℕ Error → R → Type 0) → (W → W → Type 0) → R → R → W → Type 0
+HasStreamFailed answers fails old new written = IsReadFault answers old new ⊎ IsWriteFault fails written
 
 -- such an answer, whatever is printed
 abbrev pub IsBootAnswerOf : Option (List ℕ) → ℕ → ℕ → Result endings.Ended BootFault → Type 0

@@ -10,14 +10,14 @@ ghost use Rattle.synth_kernel.specs.declared.outcome.Ended as endings;
 ghost use Rattle.synth_kernel.specs.declared.outcome.BootFault.{BootFault};
 ghost use Rattle.synthesis.specs.Commands.{replay_command, IsBootCommand, IsNoCommand};
 ghost use Rattle.synthesis.specs.Runs.{usage_words, no_memory_words, exit_code_of, words_of};
-ghost use Rattle.synthesis.specs.Runs.{IsReplayOf, IsExit, IsStatus};
+ghost use Rattle.synthesis.specs.Runs.{IsReplayOf, IsExit, IsStatus, HasCause, HasBootCause, HasStreamFailed};
 ghost use Rattle.synthesis.specs.Runs.{boot_exit_code_of, boot_words_of, answer_in, IsBootedBy, IsBootStatus};
 
 use crate::command::{Command, command_of};
-use boot_script::{ReplayFault, Replayed, replay_on};
+use boot_script::{ReplayFault, Replayed, Sink, Source, replay_on};
 use std::alloc::Global;
 use std::io;
-use std::io::{Read, Write};
+use std::io::Write;
 use std::sync::Wait;
 use std::thread::Threads;
 use synth_kernel::{BootFault, Booted, Ended, NoGate, boot_on};
@@ -41,8 +41,9 @@ pub struct Exit {
 /// The words are looked at before anything is read. Status 0 says that each event of a replay was allowed, or that all
 /// threads of a boot have ended; 1 that an event was refused, or that the script is at fault; 2 that the words are no
 /// command; 3 that memory was wanting; 4 that threads of a boot have not ended; 5 that the reader or the writer failed.
-/// Under 2, 3 and a fault of the script nothing was written.
-pub fn run_on<RT: Threads + Wait + Sync, R: Read, W: Write, E: Write>(
+/// Under 2, 3 and a fault of the script nothing was written. Under 5 the last call on the reader or the writer returned
+/// an error, or there were 131,072 calls of `read`.
+pub fn run_on<RT: Threads + Wait + Sync, R: Source, W: Sink, E: Write>(
     rt: &RT,
     alloc: Global,
     words: &[&str],
@@ -56,12 +57,15 @@ pub fn run_on<RT: Threads + Wait + Sync, R: Read, W: Write, E: Write>(
         × (writer.new ≡ writer.old) }
     ensures replay { map (λ word. word.now) words.now ≡ replay_command → (answer : Result Replayed ReplayFault)
         × IsReplayOf (R.remaining reader.old) answer (W.contents writer.old) (W.contents writer.new)
+        × HasCause R.answers W.fails answer reader.old reader.new writer.new
         × IsExit result (exit_code_of answer) (words_of answer) (E.contents errors.old) (E.contents errors.new) }
     ensures boot { (processors turns : ℕ) → IsBootCommand (map (λ word. word.now) words.now) processors turns
         → (answer : Result endings.Ended BootFault)
         × IsBootedBy (R.remaining reader.old) processors turns answer result.booted (W.contents writer.old)
         (W.contents writer.new)
+        × HasBootCause R.answers W.fails answer reader.old reader.new writer.new
         × IsExit result (boot_exit_code_of answer) (boot_words_of answer) (E.contents errors.old) (E.contents errors.new) }
+    ensures error { result.status ≡ 5 → HasStreamFailed R.answers W.fails reader.old reader.new writer.new }
 {
     match command_of(words) {
         Some(Command::Replay) => run_replay(alloc, reader, writer, errors),
@@ -74,7 +78,7 @@ pub fn run_on<RT: Threads + Wait + Sync, R: Read, W: Write, E: Write>(
 }
 
 /// The same of streams that are handed over, with the exit status alone. Faults of the error stream are ignored.
-pub fn run_main<RT: Threads + Wait + Sync, R: Read + Drop, W: Write + Drop, E: Write + Drop>(
+pub fn run_main<RT: Threads + Wait + Sync, R: Source + Drop, W: Sink + Drop, E: Write + Drop>(
     rt: &RT,
     alloc: Global,
     words: &[&str],
@@ -87,12 +91,13 @@ pub fn run_main<RT: Threads + Wait + Sync, R: Read + Drop, W: Write + Drop, E: W
         → IfSome (R.remaining reader) (λ bytes. IsStatus (text_events bytes) result) }
     ensures boot { (processors turns : ℕ) → IsBootCommand (map (λ word. word.now) words.now) processors turns
         → IsBootStatus (R.remaining reader) processors turns result }
+    ensures error { result ≡ 5 → (last : R) × (written : W) × HasStreamFailed R.answers W.fails reader last written }
 {
     run_on(rt, alloc, words, &mut reader, &mut writer, &mut errors).status
 }
 
 /// Replays, and tells how that has ended.
-fn run_replay<R: Read, W: Write, E: Write>(
+fn run_replay<R: Source, W: Sink, E: Write>(
     alloc: Global,
     reader: &mut R,
     writer: &mut W,
@@ -100,6 +105,7 @@ fn run_replay<R: Read, W: Write, E: Write>(
 ) -> Exit
     ensures { (answer : Result Replayed ReplayFault)
         × IsReplayOf (R.remaining reader.old) answer (W.contents writer.old) (W.contents writer.new)
+        × HasCause R.answers W.fails answer reader.old reader.new writer.new
         × IsExit result (exit_code_of answer) (words_of answer) (E.contents errors.old) (E.contents errors.new) }
 {
     let answer = replay_on(alloc, reader, writer);

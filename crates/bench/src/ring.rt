@@ -6,7 +6,7 @@ ghost use Rattle.thread_table.specs.Handles.{view_of, IsDivisible, IsHandOf, IsS
 
 use crate::fault::Fault;
 use crate::measure::{Done, Watch};
-use boot_threads::{Job, prepare, run_all};
+use boot_threads::{Job, NotStarted, prepare, run_all};
 use crossbeam_utils::Backoff;
 use event_theory::{Element, Processor};
 use std::alloc::Global;
@@ -190,10 +190,10 @@ pub fn measure_passes<R: Threads + Wait + Clock + Sync>(
 }
 
 // How many passes were made by all processors.
-fn sum_of(backs: Vec<Option<Passed>>) -> u64 {
+fn sum_of(backs: Vec<Result<Passed, NotStarted<ThreadTable, Passer>>>) -> u64 {
     let mut sum = 0u64;
     for back in backs {
-        if let Some(Passed { hand: _, count }) = back {
+        if let Ok(Passed { hand: _, count }) = back {
             sum = sum.wrapping_add(count);
         }
     }

@@ -63,16 +63,16 @@ fn make_kernel<R: Abort + Wait>(rt: &R, alloc: Global, gates: Vec<NoGate>, turns
 }
 
 /// How many processors came back, how many devices, and how many bytes these refused.
-fn counted(backs: &[Option<Worked<NoGate>>]) -> (u64, u64, u64) {
+fn counted(backs: &[Back<NoGate>]) -> (u64, u64, u64) {
     let mut counts = (0u64, 0u64, 0u64);
     for back in backs {
         match back {
-            Some(Worked::Processed(_)) => counts.0 = counts.0.wrapping_add(1),
-            Some(Worked::Served { line: _, tty }) => {
+            Ok(Worked::Processed(_)) => counts.0 = counts.0.wrapping_add(1),
+            Ok(Worked::Served { line: _, tty }) => {
                 counts.1 = counts.1.wrapping_add(1);
                 counts.2 = counts.2.wrapping_add(tty.overruns());
             }
-            None => {}
+            Err(_) => {}
         }
     }
     counts

@@ -54,6 +54,6 @@ pub use Rattle.boot_threads.specs.Elements.{HoldsFrom, Moved, PutInto, TookFree,
 pub use Rattle.boot_threads.specs.Readiness.{AreServing, HasPrepared, IsServing, input_of}
 pub use Rattle.boot_threads.specs.Stationings.{ArePosted, CanSplit, IsAmple, IsPosted, NoneOn}
 pub use Rattle.boot_threads.specs.Typings.{AreTyped, IsTyped}
-pub use Rattle.boot_threads.specs.Works.{HasServed, HasWorked}
+pub use Rattle.boot_threads.specs.Works.{Back, HasServed, HasWorked}
 pub use Rattle.boot_threads.specs.declared.work.Work.{Work}
 pub use Rattle.boot_threads.specs.declared.work.Worked.{Worked}

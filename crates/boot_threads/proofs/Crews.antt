@@ -1,18 +1,20 @@
 -- Threads that are started together, what they gave back, and what is typed while they run.
-use Rattle.boot_threads.proofs.Common.{List, [], ◌∷◌, Option, Some, None, subst, ◌≡◌, ℕ, zero, suc, ◌+◌, ◌<◌, ◌++◌, take, drop, length, get_or, sym, ◌∙◌, ap, AllZip, WasTold, WasJoined, GaveBack, PlannedTty, LineIn, IsTyped, AreTyped}
+use Rattle.boot_threads.proofs.Common.{List, [], ◌∷◌, Result, Ok, Err, subst, ◌≡◌, ℕ, zero, suc, ◌+◌, ◌<◌, ◌++◌, take, drop, length, get_or, sym, ◌∙◌, ap, AllZip, WasTold, WasJoined, GaveBack, PlannedTty, LineIn, IsTyped, AreTyped}
 use Rattle.std.specs.declared.thread.PromisedHandle.{PromisedHandle}
-use Rattle.boot_threads.specs.declared.crew.JobPromise.{JobPromise}
+use Rattle.boot_threads.specs.Crews.{Tells}
+use Rattle.boot_threads.specs.declared.starting.JobPromise.{JobPromise}
+use Rattle.boot_threads.specs.declared.starting.NotStarted.{NotStarted}
 use Rattle.std.proofs.lemmas.List.{take_more}
 
 module _ {S J B : Type 0} (gives : S → J → B → Type 0) (shared : S) where
-  gave_one : (job : J) (handle : Option (PromisedHandle B (JobPromise S J))) (back : Option B) → WasTold shared job handle → WasJoined gives handle back → GaveBack gives shared job back
-  gave_one job None None t j = tt
-  gave_one job None (Some back) t j = absurd j
-  gave_one job (Some handle) None t j = absurd j
-  gave_one job (Some handle) (Some back) t j = subst (λ (z : S). gives z job back) t.0 (subst (λ (z : J). gives handle.promise.shared.value z back) t.1 j)
+  gave_one : (job : J) (handle : Result (PromisedHandle B (JobPromise S J)) (NotStarted S J)) (back : Result B (NotStarted S J)) → WasTold shared job handle → WasJoined gives handle back → GaveBack gives shared job back
+  gave_one job (Err lost) (Err same) t j = subst (λ (z : NotStarted S J). Tells shared job z.told) (sym j) t
+  gave_one job (Err lost) (Ok back) t j = absurd j
+  gave_one job (Ok handle) (Err lost) t j = absurd j
+  gave_one job (Ok handle) (Ok back) t j = subst (λ (z : S). gives z job back) t.0 (subst (λ (z : J). gives handle.promise.shared.value z back) t.1 j)
 
   -- what was started and then joined gave back what was promised
-  pub gave_all : (jobs : List J) (handles : List (Option (PromisedHandle B (JobPromise S J)))) (backs : List (Option B)) → AllZip (WasTold shared) jobs handles → AllZip (WasJoined gives) handles backs → AllZip (GaveBack gives shared) jobs backs
+  pub gave_all : (jobs : List J) (handles : List (Result (PromisedHandle B (JobPromise S J)) (NotStarted S J))) (backs : List (Result B (NotStarted S J))) → AllZip (WasTold shared) jobs handles → AllZip (WasJoined gives) handles backs → AllZip (GaveBack gives shared) jobs backs
   gave_all [] [] [] t j = tt
   gave_all [] [] (b ∷ backs) t j = absurd j
   gave_all [] (h ∷ handles) backs t j = absurd t
@@ -23,8 +25,8 @@ module _ {S J B : Type 0} (gives : S → J → B → Type 0) (shared : S) where
 pub take_one : {A : Type 0} (xs : List A) (n : ℕ) (x : A) → n < length xs → x ≡ get_or xs n x → take (n + 1) xs ≡ take n xs ++ x ∷ []
 take_one xs n x below is = take_more xs n x below ∙ ap (λ z. take n xs ++ z ∷ []) (sym is)
 
-module _ {H : Type 0} where
-  pub one_more : (ttys : List PlannedTty) (devices : List (Option H)) (lines typed : List LineIn) (tty : PlannedTty) (device : Option H) (a b : LineIn)
+module _ {H N : Type 0} where
+  pub one_more : (ttys : List PlannedTty) (devices : List (Result H N)) (lines typed : List LineIn) (tty : PlannedTty) (device : Result H N) (a b : LineIn)
       → AreTyped ttys devices lines typed → IsTyped device tty a b → AreTyped (ttys ++ tty ∷ []) (devices ++ device ∷ []) (lines ++ a ∷ []) (typed ++ b ∷ [])
   one_more [] [] [] [] tty device a b all one = (one, tt)
   one_more [] [] [] (m ∷ typed) tty device a b all one = absurd all
@@ -37,7 +39,7 @@ module _ {H : Type 0} where
 
 module _ {S J B : Type 0} (gives : S → J → B → Type 0) where
   -- a device that was started gave something back, and one that was not gave nothing
-  typed_as : (ttys : List PlannedTty) (handles : List (Option (PromisedHandle B (JobPromise S J)))) (backs : List (Option B)) (lines typed : List LineIn)
+  typed_as : (ttys : List PlannedTty) (handles : List (Result (PromisedHandle B (JobPromise S J)) (NotStarted S J))) (backs : List (Result B (NotStarted S J))) (lines typed : List LineIn)
       → AllZip (WasJoined gives) handles backs → AreTyped ttys handles lines typed → AreTyped ttys backs lines typed
   typed_as [] [] [] [] [] z t = tt
   typed_as [] [] (b ∷ bs) ls ms z t = absurd z
@@ -48,12 +50,12 @@ module _ {S J B : Type 0} (gives : S → J → B → Type 0) where
   typed_as (y ∷ ttys) (h ∷ hs) [] ls ms z t = absurd z
   typed_as (y ∷ ttys) (h ∷ hs) (b ∷ bs) [] ms z t = absurd t
   typed_as (y ∷ ttys) (h ∷ hs) (b ∷ bs) (l ∷ ls) [] z t = absurd t
-  typed_as (y ∷ ttys) (None ∷ hs) (None ∷ bs) (l ∷ ls) (m ∷ ms) z t = (t.0, typed_as ttys hs bs ls ms z.1 t.1)
-  typed_as (y ∷ ttys) (Some h ∷ hs) (Some b ∷ bs) (l ∷ ls) (m ∷ ms) z t = (t.0, typed_as ttys hs bs ls ms z.1 t.1)
-  typed_as (y ∷ ttys) (None ∷ hs) (Some b ∷ bs) (l ∷ ls) (m ∷ ms) z t = absurd z.0
-  typed_as (y ∷ ttys) (Some h ∷ hs) (None ∷ bs) (l ∷ ls) (m ∷ ms) z t = absurd z.0
+  typed_as (y ∷ ttys) (Err h ∷ hs) (Err b ∷ bs) (l ∷ ls) (m ∷ ms) z t = (t.0, typed_as ttys hs bs ls ms z.1 t.1)
+  typed_as (y ∷ ttys) (Ok h ∷ hs) (Ok b ∷ bs) (l ∷ ls) (m ∷ ms) z t = (t.0, typed_as ttys hs bs ls ms z.1 t.1)
+  typed_as (y ∷ ttys) (Err h ∷ hs) (Ok b ∷ bs) (l ∷ ls) (m ∷ ms) z t = absurd z.0
+  typed_as (y ∷ ttys) (Ok h ∷ hs) (Err b ∷ bs) (l ∷ ls) (m ∷ ms) z t = absurd z.0
 
-  pub typed_past : (n : ℕ) (ttys : List PlannedTty) (handles : List (Option (PromisedHandle B (JobPromise S J)))) (backs : List (Option B)) (lines typed : List LineIn)
+  pub typed_past : (n : ℕ) (ttys : List PlannedTty) (handles : List (Result (PromisedHandle B (JobPromise S J)) (NotStarted S J))) (backs : List (Result B (NotStarted S J))) (lines typed : List LineIn)
       → AllZip (WasJoined gives) handles backs → AreTyped ttys (drop n handles) lines typed → AreTyped ttys (drop n backs) lines typed
   typed_past zero ttys hs bs ls ms z t = typed_as ttys hs bs ls ms z t
   typed_past (suc n) ttys [] [] ls ms z t = typed_as ttys [] [] ls ms z t

@@ -1,5 +1,5 @@
 -- What the processors and the devices gave back, by the works that they were told.
-use Rattle.boot_threads.proofs.Common.{◌≡◌, ℕ, zero, suc, ◌+◌, ◌<◌, ◌≤◌, ◌^◌, List, [], ◌∷◌, ◌∙◌, map, take, drop, length, refl, sym, ap, subst, arith, Option, Some, None, slice_get, AllZip, le_prop, ∥∥₁_elim, BootPlan, PlannedTty, Point, ProcChain, IsEndOf, AnyQuaject, Queues, IsEndAt, end_of, AllThree, Device, AreDevicesOf, Shared, RawTty, LineIn, LineOut, SameIn, SameOut, Work, Worked, GaveBack, IsServing, AreServing, input_of, IsTyped, AreTyped, HasWorked, HasServed}
+use Rattle.boot_threads.proofs.Common.{◌≡◌, ℕ, zero, suc, ◌+◌, ◌<◌, ◌≤◌, ◌^◌, List, [], ◌∷◌, ◌∙◌, map, take, drop, length, refl, sym, ap, subst, arith, Option, Some, None, Result, Ok, slice_get, AllZip, le_prop, ∥∥₁_elim, BootPlan, PlannedTty, Point, ProcChain, IsEndOf, AnyQuaject, Queues, IsEndAt, end_of, AllThree, Device, AreDevicesOf, Shared, RawTty, LineIn, LineOut, SameIn, SameOut, Work, Worked, GaveBack, IsServing, AreServing, input_of, IsTyped, AreTyped, Back, HasWorked, HasServed}
 use Rattle.boot_data.specs.QueueLists.{raw_queue}
 use Rattle.boot_data.specs.BootPlans.{plan_of}
 use Rattle.boot_data.specs.PlanLimits.{IsPlan, IsTyped as IsShort}
@@ -8,6 +8,7 @@ use Rattle.processor.specs.RawEnds.{IsRawAt}
 use Rattle.spsc_line.specs.Lines.{IsLine}
 use Rattle.event_theory.proofs.Lists.Placed.{all_at as all_here}
 use Rattle.event_theory.proofs.Lists.Histories.{slice_get-drop as get_dropped}
+use Rattle.boot_threads.specs.declared.starting.NotStarted.{NotStarted}
 use Rattle.boot_threads.specs.declared.work.Work.TheVariants as works
 use Rattle.boot_threads.specs.declared.work.Worked.TheVariants as worked
 use Rattle.boot_threads.specs.Backs.{IsDeviceBack}
@@ -37,8 +38,8 @@ three_at S R (x' ∷ xs) (y' ∷ ys) (z ∷ zs) (w' ∷ ws) (suc k) x y w s r a 
 
 -- DEVICES
 
-module _ {G : Type 0} (R : Work G → Option (Worked G) → Type 0) where
-  served_at : (ttys : List PlannedTty) (devices : List Device) (posts ws : List (Work G)) (backs : List (Option (Worked G))) (t : ℕ) (p : PlannedTty) (device : Device) (back : Option (Worked G))
+module _ {G : Type 0} (R : Work G → Back G → Type 0) where
+  served_at : (ttys : List PlannedTty) (devices : List Device) (posts ws : List (Work G)) (backs : List (Back G)) (t : ℕ) (p : PlannedTty) (device : Device) (back : Back G)
       → AreServing ttys devices posts ws → AllZip R ws backs → slice_get ttys t ≡ Some p → slice_get devices t ≡ Some device → slice_get backs (length posts + t) ≡ Some back
       → R (works.Serve device.chain device.output device.tty (length p.typed)) back
   served_at ttys devices [] ws backs t p device back s r a b c =
@@ -52,16 +53,16 @@ module _ {G : Type 0} (R : Work G → Option (Worked G) → Type 0) where
       served_at ttys devices posts ws backs t p device back s.1 r.1 a b (ap (slice_get (x ∷ backs)) e ∙ c)
 
   -- the backs of the posts stand first
-  pub posts_first : (ttys : List PlannedTty) (devices : List Device) (posts ws : List (Work G)) (backs : List (Option (Worked G)))
+  pub posts_first : (ttys : List PlannedTty) (devices : List Device) (posts ws : List (Work G)) (backs : List (Back G))
       → AreServing ttys devices posts ws → AllZip R ws backs → AllZip R posts (take (length posts) backs)
   posts_first ttys devices [] ws backs s r = tt
   posts_first ttys devices (w ∷ posts) [] backs s r = absurd s
   posts_first ttys devices (w ∷ posts) (w' ∷ ws) [] s r = absurd r
   posts_first ttys devices (w ∷ posts) (w' ∷ ws) (x ∷ backs) s r = (subst (λ (z : Work G). R z x) s.0 r.0, posts_first ttys devices posts ws backs s.1 r.1)
 
-typed_at : {H : Type 0} (ttys : List PlannedTty) (handles : List (Option H)) (devices : List Device) (typed : List LineIn) (t : ℕ) (p : PlannedTty) (handle : H) (device : Device) (input : LineIn)
-    → AreTyped ttys handles (map input_of devices) typed → slice_get ttys t ≡ Some p → slice_get handles t ≡ Some (Some handle) → slice_get devices t ≡ Some device → slice_get typed t ≡ Some input
-    → IsTyped (Some handle) p device.input input
+typed_at : {H N : Type 0} (ttys : List PlannedTty) (handles : List (Result H N)) (devices : List Device) (typed : List LineIn) (t : ℕ) (p : PlannedTty) (handle : H) (device : Device) (input : LineIn)
+    → AreTyped ttys handles (map input_of devices) typed → slice_get ttys t ≡ Some p → slice_get handles t ≡ Some (Ok handle) → slice_get devices t ≡ Some device → slice_get typed t ≡ Some input
+    → IsTyped {N = N} (Ok handle) p device.input input
 typed_at [] [] [] [] t p handle device input all a b c d = none_is p a
 typed_at [] [] [] (i ∷ typed) t p handle device input all a b c d = absurd all
 typed_at [] [] (e ∷ devices) typed t p handle device input all a b c d = absurd all
@@ -69,10 +70,10 @@ typed_at [] (h ∷ handles) devices typed t p handle device input all a b c d = 
 typed_at (x ∷ ttys) [] devices typed t p handle device input all a b c d = absurd all
 typed_at (x ∷ ttys) (h ∷ handles) [] typed t p handle device input all a b c d = absurd all
 typed_at (x ∷ ttys) (h ∷ handles) (e ∷ devices) [] t p handle device input all a b c d = absurd all
-typed_at {H} (x ∷ ttys) (h ∷ handles) (e ∷ devices) (i ∷ typed) zero p handle device input all a b c d =
-    subst (λ (z : LineIn). IsTyped (Some handle) p device.input z) (some_is i input d)
-    (subst (λ (z : Device). IsTyped (Some handle) p z.input i) (some_is e device c)
-    (subst (λ (z : Option H). IsTyped z p e.input i) (some_is h (Some handle) b)
+typed_at {H} {N} (x ∷ ttys) (h ∷ handles) (e ∷ devices) (i ∷ typed) zero p handle device input all a b c d =
+    subst (λ (z : LineIn). IsTyped {N = N} (Ok handle) p device.input z) (some_is i input d)
+    (subst (λ (z : Device). IsTyped {N = N} (Ok handle) p z.input i) (some_is e device c)
+    (subst (λ (z : Result H N). IsTyped z p e.input i) (some_is h (Ok handle) b)
     (subst (λ (z : PlannedTty). IsTyped h z e.input i) (some_is x p a) all.0)))
 typed_at (x ∷ ttys) (h ∷ handles) (e ∷ devices) (i ∷ typed) (suc t) p handle device input all a b c d = typed_at ttys handles devices typed t p handle device input all.1 a b c d
 
@@ -102,16 +103,16 @@ raws_at shared t count device line tty d s = (
   },
 )
 
-pub device_back : {G : Type 0} (T : G → ℕ → Point → G → Type 0) (shared : Shared) (devices : List Device) (posts ws : List (Work G)) (backs : List (Option (Worked G))) (inputs : List LineIn)
+pub device_back : {G : Type 0} (T : G → ℕ → Point → G → Type 0) (shared : Shared) (devices : List Device) (posts ws : List (Work G)) (backs : List (Back G)) (inputs : List LineIn)
     → AreDevicesOf shared.plan shared.queues shared.chains.items devices → AreServing shared.plan.ttys devices posts ws → AllZip (GaveBack (HasWorked T) shared) ws backs
     → AreTyped shared.plan.ttys (drop (length posts) backs) (map input_of devices) inputs
     → (t : ℕ) (p : PlannedTty) (device : Device) (input : LineIn) (back : Worked G) → slice_get shared.plan.ttys t ≡ Some p → slice_get devices t ≡ Some device → slice_get inputs t ≡ Some input
-    → slice_get backs (length posts + t) ≡ Some (Some back) → (line : LineOut) × (tty : RawTty) × (back ≡ worked.Served line tty) × IsDeviceBack shared t p device input line tty
+    → slice_get backs (length posts + t) ≡ Some (Ok back) → (line : LineOut) × (tty : RawTty) × (back ≡ worked.Served line tty) × IsDeviceBack shared t p device input line tty
 device_back {G} T shared devices posts ws backs inputs all serving gave typed t p device input back at at' at'' its =
-    let one = served_at (GaveBack (HasWorked T) shared) shared.plan.ttys devices posts ws backs t p device (Some back) serving gave at at' its in
+    let one = served_at (GaveBack (HasWorked T) shared) shared.plan.ttys devices posts ws backs t p device (Ok back) serving gave at at' its in
     let s = gave_served G T shared device.chain (length p.typed) device.output device.tty back one in
     let d : IsDeviceOf shared.plan shared.queues shared.chains.items t device = all.each t device at' in
-    let sent : IsTyped (Some back) p device.input input = typed_at shared.plan.ttys (drop (length posts) backs) devices inputs t p back device input typed at (get_dropped backs (length posts) t ∙ its) at' at'' in (
+    let sent : IsTyped {N = NotStarted Shared (Work G)} (Ok back) p device.input input = typed_at shared.plan.ttys (drop (length posts) backs) devices inputs t p back device input typed at (get_dropped backs (length posts) t ∙ its) at' at'' in (
       s.0,
       s.1,
       s.2,

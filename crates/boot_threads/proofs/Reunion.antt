@@ -69,7 +69,7 @@ module _ (G : Type 0) (T : G → ℕ → Point → G → Type 0) (shared : Share
       let post = a.1 in
       let ran : HasRun T shared p turns g s.gate post.station.parts s.station.parts = subst (λ (x : Work G). GaveBack (HasWorked T) shared x (back_of s)) post.is z.0 in
       let rest = come (p + 1) gates a.0 new posts came a.2 z.1 in record {
-        turned = ((post.station.parts, post.fresh, ran.1), rest.turned);
+        turned = ((post.station.parts, post.manned, post.fresh, ran), rest.turned);
         did = rest.did ∙ post.did;
         parted = parted_more (shares old) (shares a.0) (shares post.station.parts) (shares s.station.parts) (shares new) (total (map parts_of came))
             ((λ i. both_shares (post.kept_are i) (post.given_are i)) ∙ shares_parted (shares old)) ran.0.shares_are rest.parted;

@@ -1,5 +1,5 @@
 -- What the threads of a kernel gave back, and what that tells where they began with new objects.
-use Rattle.std.specs.Prelude.{◌≡◌, ◌++◌, ◌+◌, ◌<◌, ℕ, List, [], ◌∷◌, map, length, Option, Some}
+use Rattle.std.specs.Prelude.{◌≡◌, ◌++◌, ◌+◌, ◌<◌, ℕ, List, [], ◌∷◌, map, length, Ok}
 use Rattle.boot_data.specs.declared.plan.PlannedTty.{PlannedTty}
 use Rattle.boot_data.specs.QueueLists.{raw_queue}
 use Rattle.turn_io.specs.declared.gate.Point.{Point}
@@ -11,7 +11,8 @@ use Rattle.boot_objects.specs.DeviceEndings.{DeviceEnded}
 use Rattle.processor.specs.declared.shared.Shared.{Shared}
 use Rattle.processor.specs.declared.station.Parts.{Parts}
 use Rattle.processor.specs.Accounts.{Account, nothing, ◌⊕◌, account, unheard, shares}
-use Rattle.processor.specs.Logs.{IsFresh, HasTurned}
+use Rattle.processor.specs.Logs.{IsFresh}
+use Rattle.processor.specs.Manning.{IsManned}
 use Rattle.processor.specs.RawEnds.{IsRawAt}
 use Rattle.quajects.specs.declared.raw.RawTty.{RawTty}
 use Rattle.quajects.specs.Raws.{end_of, overruns_of}
@@ -22,7 +23,7 @@ use Rattle.thread_table.specs.Handles as threads
 use Rattle.boot_threads.specs.declared.work.Processed.{Processed}
 use Rattle.boot_threads.specs.declared.work.Worked.{Worked}
 use Rattle.boot_threads.specs.declared.work.Worked.TheVariants as worked
-use Rattle.boot_threads.specs.Works.{HasServed}
+use Rattle.boot_threads.specs.Works.{Back, HasRun, HasServed}
 
 -- what a device popped, and how many bytes it was refused
 abbrev pub device_of : LineOut → RawTty → ended.Device
@@ -48,8 +49,8 @@ all_done (parts ∷ stations) = unheard (account parts) ⊕ all_done stations
 
 module _ {G : Type 0} where
   -- what a processor gave back
-  abbrev pub back_of : Processed G → Option (Worked G)
-  back_of one = Some (worked.Processed one)
+  abbrev pub back_of : Processed G → Back G
+  back_of one = Ok (worked.Processed one)
 
   -- the parts of its station
   abbrev pub parts_of : Processed G → Parts
@@ -59,12 +60,13 @@ module _ {G : Type 0} where
   abbrev pub gate_of : Processed G → G
   gate_of one = one.gate
 
-  -- each processor, from this one on, had so many turns on a station that had done nothing, of which its gate was told;
-  -- so the gate, and the station, became those that it gave back
+  -- each processor, from this one on, had so many turns on a station of these objects that it could use and that had
+  -- done nothing, of which its gate was told; so the gate, and the station, became those that it gave back
   abbrev pub AllTurned : (G → ℕ → Point → G → Type 0) → Shared → ℕ → ℕ → List G → List (Processed G) → Type 0
   AllTurned T shared p turns [] [] = Unit {0}
   AllTurned T shared p turns (gate ∷ gates) (one ∷ came) =
-      ((old : Parts) × IsFresh old × HasTurned T shared p turns gate one.gate old one.station.parts)
+      ((old : Parts) × IsManned shared p old × IsFresh old
+      × HasRun T shared p turns gate one.gate old one.station.parts)
       × AllTurned T shared (p + 1) turns gates came
   AllTurned T shared p turns gates came = ⊥
 

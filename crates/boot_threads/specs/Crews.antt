@@ -1,21 +1,28 @@
 -- Threads that are started together: what each was told, and what each gave back.
-use Rattle.std.specs.Prelude.{◌≡◌, Option, Some, None}
+use Rattle.std.specs.Prelude.{◌≡◌, Result, Ok, Err}
 use Rattle.std.specs.declared.thread.PromisedHandle.{PromisedHandle}
-use Rattle.boot_threads.specs.declared.crew.JobPromise.{JobPromise}
+use Rattle.boot_threads.specs.declared.starting.JobPromise.{JobPromise}
+use Rattle.boot_threads.specs.declared.starting.NotStarted.{NotStarted}
+
+module _ {S J : Type 0} where
+  -- what is told is this job and what all share
+  abbrev pub Tells : S → J → JobPromise S J → Type 0
+  Tells shared job told = (told.shared.value ≡ shared) × (told.job.value ≡ job)
 
 module _ {S J B : Type 0} where
-  -- the thread was told of this job and of what all share; None stands for a thread that can't be started
-  abbrev pub WasTold : S → J → Option (PromisedHandle B (JobPromise S J)) → Type 0
-  WasTold shared job None = Unit {0}
-  WasTold shared job (Some handle) = (handle.promise.shared.value ≡ shared) × (handle.promise.job.value ≡ job)
+  -- the thread was told of this job and of what all share; what stands for one that can't be started has the same
+  abbrev pub WasTold : S → J → Result (PromisedHandle B (JobPromise S J)) (NotStarted S J) → Type 0
+  WasTold shared job (Ok handle) = Tells shared job handle.promise
+  WasTold shared job (Err lost) = Tells shared job lost.told
 
-  -- a thread that was started gave back what its job promises, and one that was not gave nothing
-  abbrev pub WasJoined : (S → J → B → Type 0) → Option (PromisedHandle B (JobPromise S J)) → Option B → Type 0
-  WasJoined gives None None = Unit {0}
-  WasJoined gives (Some handle) (Some back) = gives handle.promise.shared.value handle.promise.job.value back
+  -- a thread that was started gave back what its job promises; what stands for one that was not is still there
+  abbrev pub WasJoined : (S → J → B → Type 0) → Result (PromisedHandle B (JobPromise S J)) (NotStarted S J)
+      → Result B (NotStarted S J) → Type 0
+  WasJoined gives (Ok handle) (Ok back) = gives handle.promise.shared.value handle.promise.job.value back
+  WasJoined gives (Err lost) (Err same) = same ≡ lost
   WasJoined gives handle back = ⊥
 
-  -- what comes back keeps what the job promises; None stands for a thread that can't be started
-  abbrev pub GaveBack : (S → J → B → Type 0) → S → J → Option B → Type 0
-  GaveBack gives shared job None = Unit {0}
-  GaveBack gives shared job (Some back) = gives shared job back
+  -- what comes back keeps what the job promises; what stands for a thread that can't be started is of this job
+  abbrev pub GaveBack : (S → J → B → Type 0) → S → J → Result B (NotStarted S J) → Type 0
+  GaveBack gives shared job (Ok back) = gives shared job back
+  GaveBack gives shared job (Err lost) = Tells shared job lost.told

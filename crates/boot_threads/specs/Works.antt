@@ -1,5 +1,5 @@
 -- What the threads of a kernel may do, and what they give back.
-use Rattle.std.specs.Prelude.{◌≡◌, ℕ, Some, false}
+use Rattle.std.specs.Prelude.{◌≡◌, ℕ, Some, false, Result}
 use Rattle.std.specs.List.{slice_get}
 use Rattle.turn_io.specs.declared.gate.Point.{Point}
 use Rattle.proc_chain.specs.declared.ends.ProcChain.{ProcChain}
@@ -15,6 +15,7 @@ use Rattle.quajects.specs.Ports.{IsEndAt}
 use Rattle.quajects.specs.Raws.{end_of}
 use Rattle.spsc_line.specs.declared.line_out.LineOut.{LineOut}
 use Rattle.spsc_line.specs.Lines.{SameOut}
+use Rattle.boot_threads.specs.declared.starting.NotStarted.{NotStarted}
 use Rattle.boot_threads.specs.declared.work.Work.{Work}
 use Rattle.boot_threads.specs.declared.work.Work.TheVariants as works
 use Rattle.boot_threads.specs.declared.work.Worked.{Worked}
@@ -56,3 +57,7 @@ HasWorked T shared (works.Process station p turns gate) (worked.Processed back) 
 HasWorked T shared (works.Serve chain line tty count) (worked.Served line' tty') =
     HasServed shared chain count line tty line' tty'
 HasWorked T shared work back = ⊥
+
+-- what came back of a thread of the kernel, or what stands for one that can't be started
+abbrev pub Back : Type 0 → Type 0
+Back G = Result (Worked G) (NotStarted Shared (Work G))

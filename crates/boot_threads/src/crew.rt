@@ -3,64 +3,13 @@ ghost use Rattle.std.specs.Prelude.{◌≡◌, ◌≤◌, [], All, vec_len, vec_
 ghost use Rattle.std.specs.List.{AllZip};
 ghost use Rattle.boot_threads.specs.Crews.{WasTold, WasJoined, GaveBack};
 
-use std::snapshot::Snapshot;
+use crate::starting::{Job, NotStarted, Started, start_one};
 use std::sync::Wait;
 use std::thread;
-use std::thread::{Promise, PromisedHandle, Scope, Threads};
+use std::thread::{Scope, Threads};
 
-/// What a thread does with what all threads share, and what it gives back.
-pub trait Job<S, B>: Sized {
-    ghost may_run: { S → Self → Type 0 };
-
-    ghost gives: { S → Self → B → Type 0 };
-
-    /// Does the job.
-    fn run<R: Wait>(self, rt: &R, shared: &S) -> B
-        requires { may_run shared.now self }
-        ensures { gives shared.now self result };
-}
-
-/// What the thread of a job was told: what all share, and the job.
-#[derive(Drop)]
-pub struct JobPromise<S, J> {
-    shared: Snapshot<S>,
-    job: Snapshot<J>,
-}
-
-impl<S, B, J: Job<S, B>> Promise<B> for JobPromise<S, J> {
-    ghost kept_by = { λ told back. J.gives told.shared.value told.job.value back };
-}
-
-/// The thread of a job, until it is joined. None where it could not be started.
-pub type Started<S, B, J> = Option<PromisedHandle<B, JobPromise<S, J>>>;
-
-// Starts a thread for a job. None where it can't be started.
-fn start_one<'s, E, R, S, B, J>(
-    rt: &'s R,
-    scope: &'s Scope<'s, E>,
-    shared: &'s S,
-    job: J,
-) -> Started<S, B, J>
-where
-    R: Threads + Wait + Sync,
-    S: Sync,
-    B: Send + Drop + 's,
-    J: Job<S, B> + Send + Drop + 's,
-    requires { J.may_run shared.now job }
-    ensures { WasTold shared.now job result }
-{
-    let told = JobPromise {
-        shared: Snapshot::of(shared),
-        job: Snapshot::of(&job),
-    };
-    match scope.spawn_with(told, move || job.run(rt, shared)) {
-        Ok(handle) => Some(handle),
-        Err(_) => None,
-    }
-}
-
-/// Starts a thread for each job, in their order, whether or not others can be started. None stands for one that can't
-/// be. It takes no memory: the list has room for all handles.
+/// Starts a thread for each job, in their order, whether or not others can be started. It takes no memory: the list has
+/// room for all handles.
 pub fn start_all<'s, E, R, S, B, J>(
     rt: &'s R,
     scope: &'s Scope<'s, E>,
@@ -84,23 +33,26 @@ where
     handles
 }
 
-// What a thread gave back; None for one that was not started.
-fn join_one<R: Threads, S, B: Drop, J: Job<S, B>>(rt: &R, handle: Started<S, B, J>) -> Option<B>
+// What a thread gave back, or what stands for one that was not started.
+fn join_one<R: Threads, S, B: Drop, J: Job<S, B>>(
+    rt: &R,
+    handle: Started<S, B, J>,
+) -> Result<B, NotStarted<S, J>>
     ensures { WasJoined J.gives handle result }
 {
     match handle {
-        Some(handle) => Some(handle.join(rt)),
-        None => None,
+        Ok(handle) => Ok(handle.join(rt)),
+        Err(lost) => Err(lost),
     }
 }
 
-/// Joins these threads, in their order, and gives what each gave back; None for one that was not started. It takes no
-/// memory: the list has room for all.
+/// Joins these threads, in their order, and gives what each gave back, or what stands for one that was not started. It
+/// takes no memory: the list has room for all.
 pub fn join_all<R: Threads, S, B: Drop, J: Job<S, B>>(
     rt: &R,
     handles: Vec<Started<S, B, J>>,
-    backs: Vec<Option<B>>,
-) -> Vec<Option<B>>
+    backs: Vec<Result<B, NotStarted<S, J>>>,
+) -> Vec<Result<B, NotStarted<S, J>>>
     requires { (backs.items ≡ []) × (vec_len handles ≤ vec_capacity backs) }
     ensures { AllZip (WasJoined J.gives) handles.items result.items }
 {
@@ -111,15 +63,15 @@ pub fn join_all<R: Threads, S, B: Drop, J: Job<S, B>>(
     backs
 }
 
-/// Starts a thread for each job, joins all, and gives what each gave back, in the order of the jobs; None for a job
-/// whose thread can't be started. It takes no memory: both lists have room for all.
+/// Starts a thread for each job, joins all, and gives what each gave back, in the order of the jobs, or what stands for
+/// one whose thread can't be started. It takes no memory: both lists have room for all.
 pub fn run_all<R, S, B, J>(
     rt: &R,
     shared: &S,
     jobs: Vec<J>,
     handles: Vec<Started<S, B, J>>,
-    backs: Vec<Option<B>>,
-) -> Vec<Option<B>>
+    backs: Vec<Result<B, NotStarted<S, J>>>,
+) -> Vec<Result<B, NotStarted<S, J>>>
 where
     R: Threads + Wait + Sync,
     S: Sync,

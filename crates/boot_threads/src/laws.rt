@@ -1,5 +1,5 @@
 //! What it comes to that a station is prepared, and that the threads of a kernel ran.
-ghost use Rattle.std.specs.Prelude.{◌≡◌, ◌<◌, ◌≤◌, ◌+◌, ◌^◌, ◌++◌, ℕ, List, Option, Some, length, map, take, drop};
+ghost use Rattle.std.specs.Prelude.{◌≡◌, ◌<◌, ◌≤◌, ◌+◌, ◌^◌, ◌++◌, ℕ, List, Some, Ok, length, map, take, drop};
 ghost use Rattle.std.specs.List.{All, AllZip, AllByRecursion, slice_get};
 ghost use Rattle.boot_data.specs.declared.boot_plan.BootPlan.{BootPlan};
 ghost use Rattle.boot_data.specs.declared.plan.PlannedTty.{PlannedTty};
@@ -40,7 +40,7 @@ ghost use Rattle.boot_threads.specs.Devices.{Served};
 ghost use Rattle.boot_threads.specs.Readiness.{HasPrepared, AreServing, input_of};
 ghost use Rattle.boot_threads.specs.Stationings.{CanSplit, NoneOn, ArePosted};
 ghost use Rattle.boot_threads.specs.Typings.{AreTyped};
-ghost use Rattle.boot_threads.specs.Works.{MayWork, HasWorked};
+ghost use Rattle.boot_threads.specs.Works.{Back, MayWork, HasWorked};
 
 use turn_io::Gate;
 
@@ -100,13 +100,13 @@ pub fn all_is_served()
 /// finished, all that the plan types was served.
 pub fn devices_come_back<G: Gate>()
     ensures { (shared : Shared) (devices : List Device) (posts works : List (Work G))
-        (backs : List (Option (Worked G))) (inputs : List LineIn)
+        (backs : List (Back G)) (inputs : List LineIn)
         → AreDevicesOf shared.plan shared.queues shared.chains.items devices
         → AreServing shared.plan.ttys devices posts works → AllZip (GaveBack (HasWorked G.told) shared) works backs
         → AreTyped shared.plan.ttys (drop (length posts) backs) (map input_of devices) inputs
         → (t : ℕ) (p : PlannedTty) (device : Device) (input : LineIn) (back : Worked G)
         → slice_get shared.plan.ttys t ≡ Some p → slice_get devices t ≡ Some device
-        → slice_get inputs t ≡ Some input → slice_get backs (length posts + t) ≡ Some (Some back)
+        → slice_get inputs t ≡ Some input → slice_get backs (length posts + t) ≡ Some (Ok back)
         → (line : LineOut) × (tty : RawTty) × (back ≡ worked.Served line tty)
         × IsDeviceBack shared t p device input line tty }
 {}
@@ -116,7 +116,7 @@ pub fn devices_come_back<G: Gate>()
 /// what it had done and what they did, and serves all processors, on which nothing stands.
 pub fn stations_come_together<G: Gate>()
     ensures { (shared : Shared) (turns : ℕ) (gates : List G) (old new last : Parts) (posts works : List (Work G))
-        (devices : List Device) (backs : List (Option (Worked G))) (came : List (Processed G))
+        (devices : List Device) (backs : List (Back G)) (came : List (Processed G))
         → ArePosted shared 0 turns gates old new posts → AreServing shared.plan.ttys devices posts works
         → AllZip (GaveBack (HasWorked G.told) shared) works backs → take (length posts) backs ≡ map back_of came
         → AllJoined new (map parts_of came) last → NoneOn new

@@ -8,13 +8,14 @@ mod device;
 mod elements;
 mod laws;
 mod setting_up;
+mod starting;
 mod stationing;
 mod threads;
 mod typing;
 mod work;
 
 pub use alarms::set_alarms;
-pub use crew::{Job, JobPromise, Started, join_all, run_all, start_all};
+pub use crew::{join_all, run_all, start_all};
 pub use device::serve_device;
 pub use elements::prepare;
 pub use laws::{
@@ -22,7 +23,8 @@ pub use laws::{
     works_may_run,
 };
 pub use setting_up::{add_devices, prepare_station};
+pub use starting::{Job, JobPromise, NotStarted, Started};
 pub use stationing::post_all;
 pub use threads::run_kernel;
 pub use typing::{type_all, type_bytes};
-pub use work::{Processed, Work, Worked};
+pub use work::{Back, Processed, Work, Worked};

@@ -5,9 +5,10 @@ ghost use Rattle.boot_threads.specs.Crews.{WasTold, GaveBack};
 ghost use Rattle.boot_threads.specs.Typings.{AreTyped};
 ghost use Rattle.boot_threads.specs.Works.{MayWork, HasWorked};
 
-use crate::crew::{Started, join_all, start_all};
+use crate::crew::{join_all, start_all};
+use crate::starting::Started;
 use crate::typing::type_all;
-use crate::work::{Work, Worked};
+use crate::work::{Back, Work, Worked};
 use processor::Shared;
 use spsc_line::LineIn;
 use std::sync::Wait;
@@ -46,8 +47,8 @@ where
 }
 
 /// Starts a thread for each work, types each tty's bytes into its line while they run, and joins all: what each gave
-/// back, in the order of the works, and the lines. Where a thread can't be started there is None, the others go on, and
-/// nothing is typed for a device that isn't there. It takes no memory: all lists have room.
+/// back, in the order of the works, and the lines. Where a thread can't be started there is what stands for it, the
+/// others go on, and nothing is typed for a device that isn't there. It takes no memory: all lists have room.
 ///
 /// Conditions: the works are those of so many processors, and then those of the devices, one for each tty in the order
 /// of the plan, whose lines' other ends these are; each work may be done.
@@ -57,10 +58,10 @@ pub fn run_kernel<R, G>(
     works: Vec<Work<G>>,
     processors: usize,
     handles: Handles<G>,
-    backs: Vec<Option<Worked<G>>>,
+    backs: Vec<Back<G>>,
     lines: Vec<LineIn>,
     typed: Vec<LineIn>,
-) -> (Vec<Option<Worked<G>>>, Vec<LineIn>)
+) -> (Vec<Back<G>>, Vec<LineIn>)
 where
     R: Threads + Wait + Sync,
     G: Gate + Send + Drop,

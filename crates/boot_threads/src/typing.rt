@@ -34,12 +34,12 @@ pub fn type_bytes<R: Wait>(rt: &R, line: LineIn, bytes: &[u8]) -> LineIn
 }
 
 // Types the bytes of a tty into its line, where its device was started.
-fn type_line<R: Wait, H>(rt: &R, device: &Option<H>, line: LineIn, tty: &PlannedTty) -> LineIn
+fn type_line<R: Wait, H, N>(rt: &R, device: &Result<H, N>, line: LineIn, tty: &PlannedTty) -> LineIn
     ensures { IsTyped device.now tty.now line result }
 {
     match device {
-        Some(_) => type_bytes(rt, line, tty.typed.as_slice()),
-        None => line,
+        Ok(_) => type_bytes(rt, line, tty.typed.as_slice()),
+        Err(_) => line,
     }
 }
 
@@ -48,10 +48,10 @@ fn type_line<R: Wait, H>(rt: &R, device: &Option<H>, line: LineIn, tty: &Planned
 /// has room for them, so it takes no memory.
 ///
 /// Conditions: there is a device and a line for each tty, in their order.
-pub fn type_all<R: Wait, H>(
+pub fn type_all<R: Wait, H, N>(
     rt: &R,
     ttys: &[PlannedTty],
-    devices: &[Option<H>],
+    devices: &[Result<H, N>],
     lines: Vec<LineIn>,
     typed: Vec<LineIn>,
 ) -> Vec<LineIn>

@@ -2,8 +2,8 @@
 ghost use Rattle.std.specs.Prelude.{◌≡◌, ◌<◌, length};
 ghost use Rattle.boot_threads.specs.Works.{MayWork, HasWorked};
 
-use crate::crew::Job;
 use crate::device::serve_device;
+use crate::starting::{Job, NotStarted};
 use event_theory::Processor;
 use processor::{Shared, Station, run};
 use quajects::RawTty;
@@ -43,6 +43,9 @@ pub enum Worked<G> {
     Processed(Processed<G>),
     Served { line: LineOut, tty: RawTty },
 }
+
+/// What came back of a thread of the kernel, or what stands for one that can't be started.
+pub type Back<G> = Result<Worked<G>, NotStarted<Shared, Work<G>>>;
 
 impl<G: Gate + Drop> Job<Shared, Worked<G>> for Work<G> {
     ghost may_run = { MayWork };

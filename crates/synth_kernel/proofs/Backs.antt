@@ -1,14 +1,14 @@
 -- What came back, by the works: the stations of the processors, and behind them what the devices gave.
-use Rattle.synth_kernel.proofs.Common.{◌≡◌, ◌≤◌, ℕ, zero, suc, ◌+◌, true, List, [], ◌∷◌, ◌++◌, map, length, Option, Some, None, slice_get, refl, sym, ap, subst, ◌∙◌, arith, length-map, AllZip, PlannedTty, Point, AllThree, Device, Shared, Parts, Work, Worked, back_of, GaveBack, AreServing, ArePosted, HasWorked, Served, processed_in, served_in, all_there}
+use Rattle.synth_kernel.proofs.Common.{◌≡◌, ◌≤◌, ℕ, zero, suc, ◌+◌, true, List, [], ◌∷◌, ◌++◌, map, length, Option, Some, Result, Ok, Err, slice_get, refl, sym, ap, subst, ◌∙◌, arith, length-map, AllZip, PlannedTty, Point, AllThree, Device, Shared, Parts, Work, Worked, back_of, GaveBack, AreServing, ArePosted, Back, HasWorked, Served, processed_in, served_in, all_there}
 use Rattle.std.proofs.Common.{take}
 use Rattle.boot_threads.specs.declared.work.Worked.TheVariants as worked
 use Rattle.boot_threads.specs.Readiness.{IsServing}
 
-abbrev pub back_served : {G : Type 0} → Served → Option (Worked G)
-back_served one = Some (worked.Served one.line one.tty)
+abbrev pub back_served : {G : Type 0} → Served → Back G
+back_served one = Ok (worked.Served one.line one.tty)
 
 -- what came back is what came back from so many processors, and behind it from so many devices
-pub record Sorted {G : Type 0} (posts ttys : ℕ) (backs : List (Option (Worked G))) : Type 0 where
+pub record Sorted {G : Type 0} (posts ttys : ℕ) (backs : List (Back G)) : Type 0 where
   pub is : backs ≡ map back_of (processed_in backs) ++ map back_served (served_in backs)
   pub posts_are : length (processed_in backs) ≡ posts
   pub ttys_are : length (served_in backs) ≡ ttys
@@ -18,11 +18,11 @@ none_of [] h = refl
 none_of (x ∷ xs) h = absurd (omega arith)
 
 module _ {G : Type 0} (T : G → ℕ → Point → G → Type 0) (shared : Shared) where
-  Gave : Work G → Option (Worked G) → Type 0
+  Gave : Work G → Back G → Type 0
   Gave = GaveBack (HasWorked T) shared
 
   -- one device's work
-  few_serve : (ttys : List PlannedTty) (devices : List Device) (ws : List (Work G)) (backs : List (Option (Worked G))) → AllThree IsServing ttys devices ws → AllZip (GaveBack (HasWorked T) shared) ws backs
+  few_serve : (ttys : List PlannedTty) (devices : List Device) (ws : List (Work G)) (backs : List (Back G)) → AllThree IsServing ttys devices ws → AllZip (GaveBack (HasWorked T) shared) ws backs
       → (processed_in backs ≡ []) × (length (served_in backs) ≤ length ttys)
   few_serve [] [] [] [] s r = (refl, omega arith)
   few_serve [] [] [] (x ∷ backs) s r = absurd r
@@ -31,23 +31,23 @@ module _ {G : Type 0} (T : G → ℕ → Point → G → Type 0) (shared : Share
   few_serve (t ∷ ttys) [] ws backs s r = absurd s
   few_serve (t ∷ ttys) (d ∷ devices) [] backs s r = absurd s
   few_serve (t ∷ ttys) (d ∷ devices) (w ∷ ws) [] s r = absurd r
-  few_serve (t ∷ ttys) (d ∷ devices) (w ∷ ws) (None ∷ backs) s r = let f = few_serve ttys devices ws backs s.1 r.1 in (f.0, let g = f.1 in omega arith)
-  few_serve (t ∷ ttys) (d ∷ devices) (w ∷ ws) (Some (worked.Processed b) ∷ backs) s r = absurd (subst (λ (z : Work G). GaveBack (HasWorked T) shared z (Some (worked.Processed b))) s.0 r.0)
-  few_serve (t ∷ ttys) (d ∷ devices) (w ∷ ws) (Some (worked.Served l y) ∷ backs) s r = let f = few_serve ttys devices ws backs s.1 r.1 in (f.0, let g = f.1 in omega arith)
+  few_serve (t ∷ ttys) (d ∷ devices) (w ∷ ws) (Err lost ∷ backs) s r = let f = few_serve ttys devices ws backs s.1 r.1 in (f.0, let g = f.1 in omega arith)
+  few_serve (t ∷ ttys) (d ∷ devices) (w ∷ ws) (Ok (worked.Processed b) ∷ backs) s r = absurd (subst (λ (z : Work G). GaveBack (HasWorked T) shared z (Ok (worked.Processed b))) s.0 r.0)
+  few_serve (t ∷ ttys) (d ∷ devices) (w ∷ ws) (Ok (worked.Served l y) ∷ backs) s r = let f = few_serve ttys devices ws backs s.1 r.1 in (f.0, let g = f.1 in omega arith)
 
-  pub few_back : (p turns : ℕ) (gates : List G) (old new : Parts) (ttys : List PlannedTty) (devices : List Device) (posts ws : List (Work G)) (backs : List (Option (Worked G))) → ArePosted shared p turns gates old new posts
+  pub few_back : (p turns : ℕ) (gates : List G) (old new : Parts) (ttys : List PlannedTty) (devices : List Device) (posts ws : List (Work G)) (backs : List (Back G)) → ArePosted shared p turns gates old new posts
       → AreServing ttys devices posts ws → AllZip (GaveBack (HasWorked T) shared) ws backs → (length (processed_in backs) ≤ length posts) × (length (served_in backs) ≤ length ttys)
   few_back p turns [] old new ttys devices [] ws backs a s r = let f = few_serve ttys devices ws backs s r in let e = ap length f.0 in (omega arith, f.1)
   few_back p turns [] old new ttys devices (w ∷ posts) ws backs a s r = absurd a
   few_back p turns (g ∷ gates) old new ttys devices [] ws backs a s r = absurd a
   few_back p turns (g ∷ gates) old new ttys devices (w ∷ posts) [] backs a s r = absurd s
   few_back p turns (g ∷ gates) old new ttys devices (w ∷ posts) (w' ∷ ws) [] a s r = absurd r
-  few_back p turns (g ∷ gates) old new ttys devices (w ∷ posts) (w' ∷ ws) (None ∷ backs) a s r = let f = few_back (p + 1) turns gates a.0 new ttys devices posts ws backs a.2 s.1 r.1 in (let e = f.0 in omega arith, f.1)
-  few_back p turns (g ∷ gates) old new ttys devices (w ∷ posts) (w' ∷ ws) (Some (worked.Processed b) ∷ backs) a s r = let f = few_back (p + 1) turns gates a.0 new ttys devices posts ws backs a.2 s.1 r.1 in (let e = f.0 in omega arith, f.1)
-  few_back p turns (g ∷ gates) old new ttys devices (w ∷ posts) (w' ∷ ws) (Some (worked.Served l y) ∷ backs) a s r =
-      absurd (subst (λ (z : Work G). GaveBack (HasWorked T) shared z (Some (worked.Served l y))) (s.0 ∙ a.1.is) r.0)
+  few_back p turns (g ∷ gates) old new ttys devices (w ∷ posts) (w' ∷ ws) (Err lost ∷ backs) a s r = let f = few_back (p + 1) turns gates a.0 new ttys devices posts ws backs a.2 s.1 r.1 in (let e = f.0 in omega arith, f.1)
+  few_back p turns (g ∷ gates) old new ttys devices (w ∷ posts) (w' ∷ ws) (Ok (worked.Processed b) ∷ backs) a s r = let f = few_back (p + 1) turns gates a.0 new ttys devices posts ws backs a.2 s.1 r.1 in (let e = f.0 in omega arith, f.1)
+  few_back p turns (g ∷ gates) old new ttys devices (w ∷ posts) (w' ∷ ws) (Ok (worked.Served l y) ∷ backs) a s r =
+      absurd (subst (λ (z : Work G). GaveBack (HasWorked T) shared z (Ok (worked.Served l y))) (s.0 ∙ a.1.is) r.0)
 
-  sort_serve : (ttys : List PlannedTty) (devices : List Device) (ws : List (Work G)) (backs : List (Option (Worked G))) → AllThree IsServing ttys devices ws → AllZip (GaveBack (HasWorked T) shared) ws backs
+  sort_serve : (ttys : List PlannedTty) (devices : List Device) (ws : List (Work G)) (backs : List (Back G)) → AllThree IsServing ttys devices ws → AllZip (GaveBack (HasWorked T) shared) ws backs
       → all_there backs ≡ true → Sorted 0 (length ttys) backs
   sort_serve [] [] [] [] s r all = record { is = refl; posts_are = refl; ttys_are = refl }
   sort_serve [] [] [] (x ∷ backs) s r all = absurd r
@@ -56,36 +56,36 @@ module _ {G : Type 0} (T : G → ℕ → Point → G → Type 0) (shared : Share
   sort_serve (t ∷ ttys) [] ws backs s r all = absurd s
   sort_serve (t ∷ ttys) (d ∷ devices) [] backs s r all = absurd s
   sort_serve (t ∷ ttys) (d ∷ devices) (w ∷ ws) [] s r all = absurd r
-  sort_serve (t ∷ ttys) (d ∷ devices) (w ∷ ws) (None ∷ backs) s r all = absurd cc
-  sort_serve (t ∷ ttys) (d ∷ devices) (w ∷ ws) (Some (worked.Processed b) ∷ backs) s r all = absurd (subst (λ (z : Work G). GaveBack (HasWorked T) shared z (Some (worked.Processed b))) s.0 r.0)
-  sort_serve (t ∷ ttys) (d ∷ devices) (w ∷ ws) (Some (worked.Served l y) ∷ backs) s r all = let f = sort_serve ttys devices ws backs s.1 r.1 all in let none = none_of (processed_in backs) f.posts_are in record {
-    is = ap (λ z. Some (worked.Served l y) ∷ z) f.is ∙ (ap (λ z. Some (worked.Served l y) ∷ (map back_of z ++ map back_served (served_in backs))) none
-        ∙ ap (λ z. map back_of z ++ Some (worked.Served l y) ∷ map back_served (served_in backs)) (sym none));
+  sort_serve (t ∷ ttys) (d ∷ devices) (w ∷ ws) (Err lost ∷ backs) s r all = absurd cc
+  sort_serve (t ∷ ttys) (d ∷ devices) (w ∷ ws) (Ok (worked.Processed b) ∷ backs) s r all = absurd (subst (λ (z : Work G). GaveBack (HasWorked T) shared z (Ok (worked.Processed b))) s.0 r.0)
+  sort_serve (t ∷ ttys) (d ∷ devices) (w ∷ ws) (Ok (worked.Served l y) ∷ backs) s r all = let f = sort_serve ttys devices ws backs s.1 r.1 all in let none = none_of (processed_in backs) f.posts_are in record {
+    is = ap (λ z. Ok (worked.Served l y) ∷ z) f.is ∙ (ap (λ z. Ok (worked.Served l y) ∷ (map back_of z ++ map back_served (served_in backs))) none
+        ∙ ap (λ z. map back_of z ++ Ok (worked.Served l y) ∷ map back_served (served_in backs)) (sym none));
     posts_are = f.posts_are;
     ttys_are = ap suc f.ttys_are;
   }
 
-  pub sort_back : (p turns : ℕ) (gates : List G) (old new : Parts) (ttys : List PlannedTty) (devices : List Device) (posts ws : List (Work G)) (backs : List (Option (Worked G))) → ArePosted shared p turns gates old new posts
+  pub sort_back : (p turns : ℕ) (gates : List G) (old new : Parts) (ttys : List PlannedTty) (devices : List Device) (posts ws : List (Work G)) (backs : List (Back G)) → ArePosted shared p turns gates old new posts
       → AreServing ttys devices posts ws → AllZip (GaveBack (HasWorked T) shared) ws backs → all_there backs ≡ true → Sorted (length posts) (length ttys) backs
   sort_back p turns [] old new ttys devices [] ws backs a s r all = sort_serve ttys devices ws backs s r all
   sort_back p turns [] old new ttys devices (w ∷ posts) ws backs a s r all = absurd a
   sort_back p turns (g ∷ gates) old new ttys devices [] ws backs a s r all = absurd a
   sort_back p turns (g ∷ gates) old new ttys devices (w ∷ posts) [] backs a s r all = absurd s
   sort_back p turns (g ∷ gates) old new ttys devices (w ∷ posts) (w' ∷ ws) [] a s r all = absurd r
-  sort_back p turns (g ∷ gates) old new ttys devices (w ∷ posts) (w' ∷ ws) (None ∷ backs) a s r all = absurd cc
-  sort_back p turns (g ∷ gates) old new ttys devices (w ∷ posts) (w' ∷ ws) (Some (worked.Processed b) ∷ backs) a s r all = let f = sort_back (p + 1) turns gates a.0 new ttys devices posts ws backs a.2 s.1 r.1 all in record {
-    is = ap (λ z. Some (worked.Processed b) ∷ z) f.is;
+  sort_back p turns (g ∷ gates) old new ttys devices (w ∷ posts) (w' ∷ ws) (Err lost ∷ backs) a s r all = absurd cc
+  sort_back p turns (g ∷ gates) old new ttys devices (w ∷ posts) (w' ∷ ws) (Ok (worked.Processed b) ∷ backs) a s r all = let f = sort_back (p + 1) turns gates a.0 new ttys devices posts ws backs a.2 s.1 r.1 all in record {
+    is = ap (λ z. Ok (worked.Processed b) ∷ z) f.is;
     posts_are = ap suc f.posts_are;
     ttys_are = f.ttys_are;
   }
-  sort_back p turns (g ∷ gates) old new ttys devices (w ∷ posts) (w' ∷ ws) (Some (worked.Served l y) ∷ backs) a s r all =
-      absurd (subst (λ (z : Work G). GaveBack (HasWorked T) shared z (Some (worked.Served l y))) (s.0 ∙ a.1.is) r.0)
+  sort_back p turns (g ∷ gates) old new ttys devices (w ∷ posts) (w' ∷ ws) (Ok (worked.Served l y) ∷ backs) a s r all =
+      absurd (subst (λ (z : Work G). GaveBack (HasWorked T) shared z (Ok (worked.Served l y))) (s.0 ∙ a.1.is) r.0)
 
 take_first : {A : Type 0} (xs ys : List A) → take (length xs) (xs ++ ys) ≡ xs
 take_first [] ys = refl
 take_first (x ∷ xs) ys = ap (λ z. x ∷ z) (take_first xs ys)
 
-pub first_back : {G : Type 0} (posts ttys : ℕ) (backs : List (Option (Worked G))) → Sorted posts ttys backs → take posts backs ≡ map back_of (processed_in backs)
+pub first_back : {G : Type 0} (posts ttys : ℕ) (backs : List (Back G)) → Sorted posts ttys backs → take posts backs ≡ map back_of (processed_in backs)
 first_back posts ttys backs f =
     let long : length (map back_of (processed_in backs)) ≡ posts = length-map (processed_in backs) back_of ∙ f.posts_are in
     (λ i. take (sym long i) (f.is i)) ∙ take_first (map back_of (processed_in backs)) (map back_served (served_in backs))
@@ -99,7 +99,7 @@ get_mapped f [] t x h = absurd (cc)
 get_mapped f (y ∷ xs) zero x h = let e : y ≡ x = cc in ap (λ z. Some (f z)) e
 get_mapped f (y ∷ xs) (suc t) x h = get_mapped f xs t x h
 
-pub served_behind : {G : Type 0} (posts ttys : ℕ) (backs : List (Option (Worked G))) → Sorted posts ttys backs → (t : ℕ) (one : Served) → slice_get (served_in backs) t ≡ Some one → slice_get backs (posts + t) ≡ Some (back_served one)
+pub served_behind : {G : Type 0} (posts ttys : ℕ) (backs : List (Back G)) → Sorted posts ttys backs → (t : ℕ) (one : Served) → slice_get (served_in backs) t ≡ Some one → slice_get backs (posts + t) ≡ Some (back_served one)
 served_behind posts ttys backs f t one at =
     let long : length (map back_of (processed_in backs)) ≡ posts = length-map (processed_in backs) back_of ∙ f.posts_are in
     (λ i. slice_get (f.is i) (sym long i + t)) ∙ (get_behind (map back_of (processed_in backs)) (map back_served (served_in backs)) t ∙ get_mapped back_served (served_in backs) t one at)

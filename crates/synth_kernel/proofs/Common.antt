@@ -1,5 +1,5 @@
 -- The names from elsewhere that several proofs of this crate cite, passed on from one place. Declares nothing.
-pub use Rattle.std.proofs.Common.{List, None, Option, Some, [], ap, append_assoc, arith, drop, flat_map, length, length-append, map, refl, slice_get, subst, suc, sym, true, vec_capacity, vec_len, zero, ℕ, ◌++◌, ◌+◌, ◌∙◌, ◌∷◌, ◌≡◌, ◌≤◌}
+pub use Rattle.std.proofs.Common.{Err, List, None, Ok, Option, Result, Some, [], ap, append_assoc, arith, drop, flat_map, length, length-append, map, refl, slice_get, subst, suc, sym, true, vec_capacity, vec_len, zero, ℕ, ◌++◌, ◌+◌, ◌∙◌, ◌∷◌, ◌≡◌, ◌≤◌}
 pub use Rattle.std.proofs.lemmas.List.{length-map, map-append}
 pub use Rattle.std.specs.List.{All, AllByRecursion, AllZip}
 pub use Rattle.std.specs.Vec.Iter.{into_iter_items, into_iter_len}
@@ -19,7 +19,7 @@ pub use Rattle.boot_threads.specs.Crews.{GaveBack}
 pub use Rattle.boot_threads.specs.Readiness.{AreServing, input_of}
 pub use Rattle.boot_threads.specs.Stationings.{ArePosted}
 pub use Rattle.boot_threads.specs.Typings.{AreTyped}
-pub use Rattle.boot_threads.specs.Works.{HasWorked}
+pub use Rattle.boot_threads.specs.Works.{Back, HasWorked}
 pub use Rattle.boot_threads.specs.declared.work.Processed.{Processed}
 pub use Rattle.boot_threads.specs.declared.work.Work.{Work}
 pub use Rattle.boot_threads.specs.declared.work.Worked.{Worked}

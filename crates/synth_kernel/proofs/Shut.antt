@@ -1,5 +1,5 @@
 -- What a boot knows when all that it gave its threads came back, and all was joined and closed.
-use Rattle.synth_kernel.proofs.Common.{◌≡◌, ◌≤◌, ℕ, zero, suc, ◌+◌, true, List, [], ◌∷◌, map, drop, length, Option, Some, flat_map, refl, sym, ap, subst, ◌∙◌, arith, length-map, All, AllZip, AllByRecursion, BootPlan, Report, Unmade, AllClosed, AreRawsOf, TookRaws, HasWholes, Point, AllThree, Shared, Parts, LogEntry, Leaves, hear_count, ArePartsOf, heard_lines, AllJoined, Typed, IsReported, LineIn, IsLine, Work, Processed, Worked, parts_of, gate_of, back_of, GaveBack, input_of, ArePosted, AreTyped, HasWorked, as_many_posts, Served, Ready, IsBootOf, AllTold, CameBack, processed_in, served_in, all_there, tty_of, TotalsAre, IsReady}
+use Rattle.synth_kernel.proofs.Common.{◌≡◌, ◌≤◌, ℕ, zero, suc, ◌+◌, true, List, [], ◌∷◌, map, drop, length, Option, Some, Ok, flat_map, refl, sym, ap, subst, ◌∙◌, arith, length-map, All, AllZip, AllByRecursion, BootPlan, Report, Unmade, AllClosed, AreRawsOf, TookRaws, HasWholes, Point, AllThree, Shared, Parts, LogEntry, Leaves, hear_count, ArePartsOf, heard_lines, AllJoined, Typed, IsReported, LineIn, IsLine, Work, Processed, Worked, parts_of, gate_of, back_of, GaveBack, input_of, ArePosted, AreTyped, Back, HasWorked, as_many_posts, Served, Ready, IsBootOf, AllTold, CameBack, processed_in, served_in, all_there, tty_of, TotalsAre, IsReady}
 use Rattle.boot_data.specs.Hearing.{Key}
 use Rattle.boot_objects.proofs.Backs.{come_home}
 use Rattle.processor.specs.Accounts.{Account, account}
@@ -27,7 +27,7 @@ module _ {G : Type 0} (T : G → ℕ → Point → G → Type 0) (shared : Share
   parts_all p turns (g ∷ gates) old new [] (s ∷ came) a z k d l = absurd a
   parts_all p turns [] old new (w ∷ posts) (s ∷ came) a z k d l = absurd a
   parts_all p turns (g ∷ gates) old new (w ∷ posts) (s ∷ came) a z zero d l =
-      let ran : HasRun T shared p turns g s.gate a.1.station.parts s.station.parts = subst (λ (x : Work G). GaveBack (HasWorked T) shared x (Some (worked.Processed s))) a.1.is z.0 in ran.0.manned.parts_are
+      let ran : HasRun T shared p turns g s.gate a.1.station.parts s.station.parts = subst (λ (x : Work G). GaveBack (HasWorked T) shared x (Ok (worked.Processed s))) a.1.is z.0 in ran.0.manned.parts_are
   parts_all p turns (g ∷ gates) old new (w ∷ posts) (s ∷ came) a z (suc k) d l = parts_all (p + 1) turns gates a.0 new posts came a.2 z.1 k d (omega arith)
 
   -- giving parts away is nothing that the first station did
@@ -43,12 +43,12 @@ module _ {G : Type 0} (T : G → ℕ → Point → G → Type 0) (shared : Share
   logs_told p turns [] (s ∷ came) t = absurd t
   logs_told p turns (g ∷ gates) [] t = absurd t
   logs_told p turns (g ∷ gates) (s ∷ came) t = let had = t.0 in let rest = logs_told (p + 1) turns gates came t.1 in (
-    had.2.log ∷ rest.0,
-    (had.2.leaves had.1, rest.1),
-    (record { old = had.0; fresh = had.1; new = s.station.parts; turned = had.2; log_is = refl }, rest.2),
+    had.3.1.log ∷ rest.0,
+    (had.3.1.leaves had.2, rest.1),
+    (record { old = had.0; manned = had.1; fresh = had.2; new = s.station.parts; stays = had.3.0; turned = had.3.1; log_is = refl }, rest.2),
   )
 
-module _ {G : Type 0} (T : G → ℕ → Point → G → Type 0) (plan : BootPlan) (turns : ℕ) (gates : List G) (ready : Ready G) (r : IsReady plan turns gates ready) (backs : List (Option (Worked G))) (inputs : List LineIn)
+module _ {G : Type 0} (T : G → ℕ → Point → G → Type 0) (plan : BootPlan) (turns : ℕ) (gates : List G) (ready : Ready G) (r : IsReady plan turns gates ready) (backs : List (Back G)) (inputs : List LineIn)
     (gave : AllZip (GaveBack (HasWorked T) ready.shared) ready.works.items backs) (typed : AreTyped ready.shared.plan.ttys (drop (length gates) backs) ready.inputs.items inputs) where
   posts_long : length r.posts ≡ length gates
   posts_long = as_many_posts ready.shared 0 turns gates r.first ready.station.parts r.posts r.posted

@@ -19,6 +19,7 @@ use Rattle.processor.specs.declared.shared.Shared.{Shared}
 use Rattle.processor.specs.declared.station.Parts.{Parts}
 use Rattle.processor.specs.Entries.{LogEntry}
 use Rattle.processor.specs.Logs.{IsFresh, Leaves, HasTurned}
+use Rattle.processor.specs.Manning.{IsManned, StaysManned}
 use Rattle.quajects.specs.declared.any.AnyQuaject.{AnyQuaject}
 use Rattle.boot_report.specs.declared.ttys.Typed.{Typed}
 use Rattle.boot_report.specs.Shown.{Shows}
@@ -56,13 +57,16 @@ pub record HadTurns (processors turns : ℕ) (plan : BootPlan) (closed : ClosedT
 
 -- WHAT CAME BACK OF A BOOT WITH GATES
 
--- The processor p had so many turns on a station of these objects that had done nothing, and this is their log. The
--- gate was told of them, and of nothing else, and so became the other one
+-- The processor p had so many turns on a station of these objects that it could use and that had done nothing, and this
+-- is their log. It can use the station still. The gate was told of the turns, and of nothing else, and so became the
+-- other one
 pub record WasTold {G : Type 0} (T : G → ℕ → Point → G → Type 0) (shared : Shared) (p turns : ℕ) (gate gate' : G)
     (log : List LogEntry) : Type 0 where
   pub old : Parts
+  pub manned : IsManned shared p old
   pub fresh : IsFresh old
   pub new : Parts
+  pub stays : StaysManned shared p old new
   pub turned : HasTurned T shared p turns gate gate' old new
   pub log_is : turned.log ≡ log
 

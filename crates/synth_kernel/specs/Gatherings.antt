@@ -1,6 +1,6 @@
 -- What the threads of a kernel gave back, sorted and joined.
 use Rattle.std.specs.Prelude.{◌≡◌, ◌≤◌, ◌++◌, ◌%◌, ◌^◌, map, flat_map, length, vec_capacity, List, [], ◌∷◌}
-use Rattle.std.specs.Prelude.{Option, Some, None, Bool, true, false}
+use Rattle.std.specs.Prelude.{Ok, Err, Bool, true, false}
 use Rattle.turn_io.specs.Splits.{AllThree}
 use Rattle.processor.specs.declared.shared.Shared.{Shared}
 use Rattle.processor.specs.declared.station.Station.{Station}
@@ -9,9 +9,9 @@ use Rattle.processor.specs.Stations.{ArePartsOf}
 use Rattle.processor.specs.Turns.{heard_lines}
 use Rattle.quajects.specs.declared.raw.RawTty.{RawTty}
 use Rattle.boot_threads.specs.declared.work.Processed.{Processed}
-use Rattle.boot_threads.specs.declared.work.Worked.{Worked}
 use Rattle.boot_threads.specs.declared.work.Worked.TheVariants as worked
 use Rattle.boot_threads.specs.Backs.{parts_of, gate_of}
+use Rattle.boot_threads.specs.Works.{Back}
 use Rattle.quajects.specs.Raws.{overruns_of}
 use Rattle.boot_report.specs.Reported.{lines_of}
 use Rattle.boot_report.specs.declared.ttys.Typed.{Typed}
@@ -22,24 +22,24 @@ use Rattle.synth_kernel.specs.declared.gathering.Lists.{Lists}
 use Rattle.synth_kernel.specs.declared.gathering.Served.{Served}
 
 -- what the processors gave back, in their order
-abbrev pub processed_in : {G : Type 0} → List (Option (Worked G)) → List (Processed G)
+abbrev pub processed_in : {G : Type 0} → List (Back G) → List (Processed G)
 processed_in [] = []
-processed_in (Some (worked.Processed one) ∷ backs) = one ∷ processed_in backs
-processed_in (Some (worked.Served line tty) ∷ backs) = processed_in backs
-processed_in (None ∷ backs) = processed_in backs
+processed_in (Ok (worked.Processed one) ∷ backs) = one ∷ processed_in backs
+processed_in (Ok (worked.Served line tty) ∷ backs) = processed_in backs
+processed_in (Err lost ∷ backs) = processed_in backs
 
 -- what the devices gave back, in their order
-abbrev pub served_in : {G : Type 0} → List (Option (Worked G)) → List Served
+abbrev pub served_in : {G : Type 0} → List (Back G) → List Served
 served_in [] = []
-served_in (Some (worked.Processed one) ∷ backs) = served_in backs
-served_in (Some (worked.Served line tty) ∷ backs) = record { line = line; tty = tty } ∷ served_in backs
-served_in (None ∷ backs) = served_in backs
+served_in (Ok (worked.Processed one) ∷ backs) = served_in backs
+served_in (Ok (worked.Served line tty) ∷ backs) = record { line = line; tty = tty } ∷ served_in backs
+served_in (Err lost ∷ backs) = served_in backs
 
 -- each thread gave something back
-abbrev pub all_there : {G : Type 0} → List (Option (Worked G)) → Bool
+abbrev pub all_there : {G : Type 0} → List (Back G) → Bool
 all_there [] = true
-all_there (Some back ∷ backs) = all_there backs
-all_there (None ∷ backs) = false
+all_there (Ok back ∷ backs) = all_there backs
+all_there (Err lost ∷ backs) = false
 
 abbrev pub tty_of : Served → RawTty
 tty_of served = served.tty
@@ -52,7 +52,7 @@ pub record TotalsAre (served : Served) (input : LineIn) (told : Typed) : Type 0 
   pub refused : told.refused ≡ overruns_of served.tty
 
 -- the lists are empty, and have room for what is sorted out of all that came back, and for what is made of it
-pub record HaveRoomFor {G : Type 0} (backs : List (Option (Worked G))) (lists : Lists G) : Type 0 where
+pub record HaveRoomFor {G : Type 0} (backs : List (Back G)) (lists : Lists G) : Type 0 where
   pub processed : (lists.processed.items ≡ []) × (length (processed_in backs) ≤ vec_capacity lists.processed)
   pub served : (lists.served.items ≡ []) × (length (served_in backs) ≤ vec_capacity lists.served)
   pub ttys : (lists.ttys.items ≡ []) × (length (served_in backs) ≤ vec_capacity lists.ttys)
@@ -62,7 +62,7 @@ pub record HaveRoomFor {G : Type 0} (backs : List (Option (Worked G))) (lists : 
 
 -- Each thread gave something back. The stations were joined to the first, which is then the last, and what they heard
 -- is there, and so are their gates, in their order. The raw ttys are there, and what each device did, by its input
-pub record IsGathered {G : Type 0} (shared : Shared) (first : Station) (backs : List (Option (Worked G)))
+pub record IsGathered {G : Type 0} (shared : Shared) (first : Station) (backs : List (Back G))
     (inputs : List LineIn) (gathered : Gathered G) : Type 0 where
   pub all : all_there backs ≡ true
   pub parts : ArePartsOf shared gathered.station.parts

@@ -1,11 +1,10 @@
 -- What a boot has when its threads have stopped.
-use Rattle.std.specs.Prelude.{◌≡◌, ℕ, List, drop, Option}
+use Rattle.std.specs.Prelude.{◌≡◌, ℕ, List, drop}
 use Rattle.std.specs.List.{AllZip}
 use Rattle.turn_io.specs.declared.gate.Point.{Point}
-use Rattle.boot_threads.specs.declared.work.Worked.{Worked}
 use Rattle.boot_threads.specs.Crews.{GaveBack}
 use Rattle.boot_threads.specs.Typings.{AreTyped}
-use Rattle.boot_threads.specs.Works.{HasWorked}
+use Rattle.boot_threads.specs.Works.{Back, HasWorked}
 use Rattle.spsc_line.specs.declared.line_in.LineIn.{LineIn}
 use Rattle.synth_kernel.specs.declared.ready.Ready.{Ready}
 use Rattle.synth_kernel.specs.declared.running.Stopped.{Stopped}
@@ -16,7 +15,7 @@ use Rattle.synth_kernel.specs.Gatherings.{IsGathered}
 pub record HasStopped {G : Type 0} (T : G → ℕ → Point → G → Type 0) (processors : ℕ) (ready : Ready G)
     (stopped : Stopped G) : Type 0 where
   pub shared_is : stopped.shared ≡ ready.shared
-  pub backs : List (Option (Worked G))
+  pub backs : List (Back G)
   pub worked : AllZip (GaveBack (HasWorked T) ready.shared) ready.works.items backs
   pub inputs : List LineIn
   pub typed : AreTyped ready.shared.plan.ttys (drop processors backs) ready.inputs.items inputs

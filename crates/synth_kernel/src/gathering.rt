@@ -1,6 +1,6 @@
 //! What the threads of a kernel gave back, joined.
 ghost use Rattle.std.specs.Prelude.{◌≡◌, ◌≤◌, ◌+◌, ◌++◌, [], ◌∷◌, false, true, length, map, vec_capacity};
-ghost use Rattle.std.specs.Prelude.{Option, Some, None, IfSome};
+ghost use Rattle.std.specs.Prelude.{None, Ok, IfSome};
 ghost use Rattle.std.specs.List.{All, AllZip, flat_map};
 ghost use Rattle.processor.specs.Stations.{ArePartsOf};
 ghost use Rattle.boot_threads.specs.Backs.{parts_of, gate_of};
@@ -14,7 +14,7 @@ ghost use Rattle.spsc_line.specs.Lines.{IsLine};
 
 use boot_data::HeardLines;
 use boot_report::Typed;
-use boot_threads::{Processed, Worked};
+use boot_threads::{Back, Processed, Worked};
 use processor::{Shared, Station};
 use quajects::RawTty;
 use spsc_line::{LineIn, LineOut, finish};
@@ -50,10 +50,10 @@ pub(crate) struct Gathered<G> {
 
 // What a thread gave back goes to its list.
 fn sort_back<G: Drop>(back: Worked<G>, processed: &mut Vec<Processed<G>>, served: &mut Vec<Served>)
-    requires processed { length (processed.old.items ++ processed_in (Some back ∷ [])) ≤ vec_capacity processed.old }
-    requires served { length (served.old.items ++ served_in (Some back ∷ [])) ≤ vec_capacity served.old }
-    ensures processed { processed.new.items ≡ processed.old.items ++ processed_in (Some back ∷ []) }
-    ensures served { served.new.items ≡ served.old.items ++ served_in (Some back ∷ []) }
+    requires processed { length (processed.old.items ++ processed_in (Ok back ∷ [])) ≤ vec_capacity processed.old }
+    requires served { length (served.old.items ++ served_in (Ok back ∷ [])) ≤ vec_capacity served.old }
+    ensures processed { processed.new.items ≡ processed.old.items ++ processed_in (Ok back ∷ []) }
+    ensures served { served.new.items ≡ served.old.items ++ served_in (Ok back ∷ []) }
     ensures room { (vec_capacity processed.new ≡ vec_capacity processed.old)
         × (vec_capacity served.new ≡ vec_capacity served.old) }
 {
@@ -66,7 +66,7 @@ fn sort_back<G: Drop>(back: Worked<G>, processed: &mut Vec<Processed<G>>, served
 // What the processors gave back, and what the devices did, each in their order. None where a thread gave nothing back,
 // since it couldn't be started. It takes no memory: both lists have room.
 fn sort_backs<G: Drop>(
-    backs: Vec<Option<Worked<G>>>,
+    backs: Vec<Back<G>>,
     processed: Vec<Processed<G>>,
     served: Vec<Served>,
 ) -> Option<(Vec<Processed<G>>, Vec<Served>)>
@@ -81,8 +81,8 @@ fn sort_backs<G: Drop>(
     let mut all = true;
     for back in backs {
         match back {
-            Some(back) => sort_back(back, &mut processed, &mut served),
-            None => all = false,
+            Ok(back) => sort_back(back, &mut processed, &mut served),
+            Err(_lost) => all = false,
         }
     }
     if all { Some((processed, served)) } else { None }
@@ -173,7 +173,7 @@ fn finish_all(
 pub(crate) fn gather<G: Drop>(
     shared: &Shared,
     first: Station,
-    backs: Vec<Option<Worked<G>>>,
+    backs: Vec<Back<G>>,
     inputs: Vec<LineIn>,
     lists: Lists<G>,
 ) -> Option<Gathered<G>>

@@ -7,7 +7,7 @@ use crate::gathering::Served;
 use boot_data::{BootPlan, HeardLines};
 use boot_objects::{Answers, Objects, make_objects};
 use boot_report::{Lines, Typed};
-use boot_threads::{Processed, Work, Worked, add_devices, post_all, prepare_station};
+use boot_threads::{Back, Processed, Work, add_devices, post_all, prepare_station};
 use event_theory::OutOfMemory;
 use processor::{Shared, Station};
 use quajects::RawTty;
@@ -19,7 +19,7 @@ use turn_io::Gate;
 /// Room for what the threads give back, and for what is made of it.
 #[derive(Drop)]
 pub(crate) struct Room<G> {
-    pub(crate) backs: Vec<Option<Worked<G>>>,
+    pub(crate) backs: Vec<Back<G>>,
     pub(crate) typed: Vec<LineIn>,
     pub(crate) processed: Vec<Processed<G>>,
     pub(crate) served: Vec<Served>,

@@ -1,4 +1,4 @@
-use Rattle.boot_threads.proofs.Common.{List, Option, subst, AllZip, Worked, GaveBack, HasWorked}
+use Rattle.boot_threads.proofs.Common.{List, subst, AllZip, Back, GaveBack, HasWorked}
 use Rattle.boot_threads.proofs.Returning.{posts_first}
 use Rattle.boot_threads.proofs.Reunion.{came_together}
 use Rattle.boot_threads.proofs.laws.stations_come_together.Goals as goal
@@ -6,5 +6,5 @@ use Rattle.boot_threads.proofs.laws.stations_come_together.Goals as goal
 pub returns : goal.returns
 returns g c = λ shared turns gates old new last posts works devices backs came posted serving gave are joined none free.
     came_together g.row.G.Denot g.G.Gate.told shared turns gates old new last posts came posted
-    (subst (λ (z : List (Option (Worked g.row.G.Denot))). AllZip (GaveBack (HasWorked g.G.Gate.told) shared) posts z) are (posts_first (GaveBack (HasWorked g.G.Gate.told) shared) shared.plan.ttys devices posts works backs serving gave))
+    (subst (λ (z : List (Back g.row.G.Denot)). AllZip (GaveBack (HasWorked g.G.Gate.told) shared) posts z) are (posts_first (GaveBack (HasWorked g.G.Gate.told) shared) shared.plan.ttys devices posts works backs serving gave))
     joined none free

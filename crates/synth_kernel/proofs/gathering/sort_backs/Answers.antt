@@ -1,24 +1,24 @@
-use Rattle.synth_kernel.proofs.Common.{◌++◌, [], ◌∷◌, length, Some, append_assoc, sym, ap, ◌∙◌, arith, into_iter_items, processed_in, served_in, all_there}
+use Rattle.synth_kernel.proofs.Common.{◌++◌, [], ◌∷◌, length, Ok, append_assoc, sym, ap, ◌∙◌, arith, into_iter_items, processed_in, served_in, all_there}
 use Rattle.synth_kernel.proofs.Sorting.{processed_append, served_append, there_more, there_none, none_processed, none_served, room_for}
 use Rattle.synth_kernel.proofs.gathering.sort_backs.Goals as goal
 
 pub sort_back-requires-clause-processed : goal.sort_back-requires-clause-processed
 sort_back-requires-clause-processed g c = let v = c.loop-back.invariant in
-    room_for processed_in processed_append c.loop-back.yielded (Some c.in-Some-back.back) (into_iter_items c.next.new.self) c.args.backs.items c.loop-back.processed.items
-    (ap (λ z. c.loop-back.yielded ++ z ∷ into_iter_items c.next.new.self) (sym c.in-Some-back.is) ∙ (ap (λ z. c.loop-back.yielded ++ z) (sym c.in-Some.ensures.steps.0) ∙ v.parts)) v.processed _ (let r = c.requires.processed.1 in let s = v.room in omega arith)
+    room_for processed_in processed_append c.loop-back.yielded (Ok c.in-Ok.back) (into_iter_items c.next.new.self) c.args.backs.items c.loop-back.processed.items
+    (ap (λ z. c.loop-back.yielded ++ z ∷ into_iter_items c.next.new.self) (sym c.in-Ok.is) ∙ (ap (λ z. c.loop-back.yielded ++ z) (sym c.in-Some.ensures.steps.0) ∙ v.parts)) v.processed _ (let r = c.requires.processed.1 in let s = v.room in omega arith)
 
 pub sort_back-requires-clause-served : goal.sort_back-requires-clause-served
 sort_back-requires-clause-served g c = let v = c.loop-back.invariant in
-    room_for served_in served_append c.loop-back.yielded (Some c.in-Some-back.back) (into_iter_items c.next.new.self) c.args.backs.items c.loop-back.served.items
-    (ap (λ z. c.loop-back.yielded ++ z ∷ into_iter_items c.next.new.self) (sym c.in-Some-back.is) ∙ (ap (λ z. c.loop-back.yielded ++ z) (sym c.in-Some.ensures.steps.0) ∙ v.parts)) v.served _ (let r = c.requires.served.1 in let s = v.served_room in omega arith)
+    room_for served_in served_append c.loop-back.yielded (Ok c.in-Ok.back) (into_iter_items c.next.new.self) c.args.backs.items c.loop-back.served.items
+    (ap (λ z. c.loop-back.yielded ++ z ∷ into_iter_items c.next.new.self) (sym c.in-Ok.is) ∙ (ap (λ z. c.loop-back.yielded ++ z) (sym c.in-Some.ensures.steps.0) ∙ v.parts)) v.served _ (let r = c.requires.served.1 in let s = v.served_room in omega arith)
 
-pub loop-back-preserved-in-Some-back : goal.loop-back-preserved-in-Some-back
-loop-back-preserved-in-Some-back g c = let v = c.loop-back.invariant in let s = c.sort_back.ensures in record {
+pub loop-back-preserved-in-Ok : goal.loop-back-preserved-in-Ok
+loop-back-preserved-in-Ok g c = let v = c.loop-back.invariant in let s = c.sort_back.ensures in record {
   parts = append_assoc c.loop-back.yielded (c.in-Some.back ∷ []) (into_iter_items c.next.new.self) ∙ (ap (λ z. c.loop-back.yielded ++ z) (sym c.in-Some.ensures.steps.0) ∙ v.parts);
   left = let was = v.left in let gone = c.in-Some.ensures.steps.1 in let short = ap length c.in-Some.ensures.steps.0 in omega arith;
-  processed = s.processed ∙ ((λ i. v.processed i ++ processed_in (sym c.in-Some-back.is i ∷ [])) ∙ sym (processed_append c.loop-back.yielded (c.in-Some.back ∷ [])));
-  served = s.served ∙ ((λ i. v.served i ++ served_in (sym c.in-Some-back.is i ∷ [])) ∙ sym (served_append c.loop-back.yielded (c.in-Some.back ∷ [])));
-  all = v.all ∙ (sym (there_more c.loop-back.yielded c.in-Some-back.back) ∙ ap (λ z. all_there (c.loop-back.yielded ++ z ∷ [])) (sym c.in-Some-back.is));
+  processed = s.processed ∙ ((λ i. v.processed i ++ processed_in (sym c.in-Ok.is i ∷ [])) ∙ sym (processed_append c.loop-back.yielded (c.in-Some.back ∷ [])));
+  served = s.served ∙ ((λ i. v.served i ++ served_in (sym c.in-Ok.is i ∷ [])) ∙ sym (served_append c.loop-back.yielded (c.in-Some.back ∷ [])));
+  all = v.all ∙ (sym (there_more c.loop-back.yielded c.in-Ok.back) ∙ ap (λ z. all_there (c.loop-back.yielded ++ z ∷ [])) (sym c.in-Ok.is));
   room = s.room.0 ∙ v.room;
   served_room = s.room.1 ∙ v.served_room;
 }
@@ -27,9 +27,9 @@ pub loop-back-preserved : goal.loop-back-preserved
 loop-back-preserved g c = let v = c.loop-back.invariant in record {
   parts = append_assoc c.loop-back.yielded (c.in-Some.back ∷ []) (into_iter_items c.next.new.self) ∙ (ap (λ z. c.loop-back.yielded ++ z) (sym c.in-Some.ensures.steps.0) ∙ v.parts);
   left = let was = v.left in let gone = c.in-Some.ensures.steps.1 in let short = ap length c.in-Some.ensures.steps.0 in omega arith;
-  processed = v.processed ∙ (none_processed c.loop-back.yielded ∙ ap (λ z. processed_in (c.loop-back.yielded ++ z ∷ [])) (sym c.in-None-back.is));
-  served = v.served ∙ (none_served c.loop-back.yielded ∙ ap (λ z. served_in (c.loop-back.yielded ++ z ∷ [])) (sym c.in-None-back.is));
-  all = sym (ap (λ z. all_there (c.loop-back.yielded ++ z ∷ [])) c.in-None-back.is ∙ there_none c.loop-back.yielded);
+  processed = v.processed ∙ (none_processed c.loop-back.yielded c.in-Err._lost ∙ ap (λ z. processed_in (c.loop-back.yielded ++ z ∷ [])) (sym c.in-Err.is));
+  served = v.served ∙ (none_served c.loop-back.yielded c.in-Err._lost ∙ ap (λ z. served_in (c.loop-back.yielded ++ z ∷ [])) (sym c.in-Err.is));
+  all = sym (ap (λ z. all_there (c.loop-back.yielded ++ z ∷ [])) c.in-Err.is ∙ there_none c.loop-back.yielded c.in-Err._lost);
   room = v.room;
   served_room = v.served_room;
 }

@@ -1,7 +1,7 @@
 //! A list whose room is taken when it is made, and stays as it is.
 //!
-//! What goes into it lies in memory that it has. No function here takes memory but the one that makes the list, and none
-//! hands out the allocator, the list inside or a way to make it longer.
+//! What goes into it lies in memory that it has. No function here takes memory but the one that makes the list, and
+//! none hands out the allocator, the list inside or a way to make it longer.
 
 ghost use Rattle.std.specs.Prelude.{◌≡◌, ◌<◌, ◌++◌, ◌∷◌, [], length, vec_capacity, IfOk};
 

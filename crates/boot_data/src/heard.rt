@@ -21,8 +21,8 @@ struct Mark {
 }
 
 /// The lines that one processor heard, in the order in which it heard them, with room for so many, and for so many bytes
-/// of each. That room is taken when it is made, and never grows. Contracts see the lines, how many there is room for, and
-/// how long the longest may be.
+/// of each. That room is taken when it is made, and never grows. Contracts see the lines, how many there is room for,
+/// and how long the longest may be.
 #[derive(Drop)]
 pub struct HeardLines {
     marks: FixedList<Mark>,

@@ -309,8 +309,8 @@ impl Lines for RefusedLine {
 
 /// Prints the line of an event that was refused: its line in the script, and the refusal's number and name.
 ///
-/// Takes no memory. The line is one text for the writer. After a fault of the writer a front of it may be written. There
-/// is no other fault.
+/// Takes no memory. The line is one text for the writer. After a fault of the writer a front of it may be written.
+/// There is no other fault.
 pub fn print_refused<W: Sink>(line: u32, refusal: Refusal, out: &mut W) -> io::Result<()>
     ensures effect { OnOk result (Appends (W.contents out.old) (W.contents out.new) (refused_text line refusal)) }
     ensures error { OnErr result (IsWriteFault W.fails out.new) }

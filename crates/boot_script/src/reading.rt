@@ -33,8 +33,8 @@ impl StdError for ReadFault {}
 /// Fills the front of the buffer up to the end of the reader, or just past the length that a script may have, and gives
 /// the length of that front. It says what all bytes of the reader say, as a list of events and as a boot script.
 ///
-/// Takes no memory, so that a fault of the text is told where memory is wanting. A read fault has its cause in the calls
-/// on the reader.
+/// Takes no memory, so that a fault of the text is told where memory is wanting. A read fault has its cause in the
+/// calls on the reader.
 ///
 /// Condition: the buffer has 65,537 bytes.
 pub fn read_script<R: Source>(reader: &mut R, buffer: &mut [u8]) -> Result<usize, ReadFault>

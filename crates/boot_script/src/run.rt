@@ -99,8 +99,8 @@ fn run_text<W: Sink>(alloc: Global, text: &[u8], writer: &mut W) -> Result<Repla
 ///
 /// Printed is the status after the events before the first that isn't allowed, and then that event's `refused` line,
 /// where there is one. After a fault other than `Write` nothing was written. `Memory` is answered only where the text
-/// has no fault. `Read` comes only where the last call on the reader answered an error other than an interruption, or at
-/// 131,072 calls, and `Write` only where the last call on the writer answered an error.
+/// has no fault. `Read` comes only where the last call on the reader answered an error other than an interruption, or
+/// at 131,072 calls, and `Write` only where the last call on the writer answered an error.
 pub fn replay_on<R: Source, W: Sink>(
     alloc: Global,
     reader: &mut R,

@@ -138,9 +138,9 @@ pub fn changes_are_events()
         → Grows w.queue (with_shut m.object) → IsEvent m.object (with_shut m.object) seat v w (λ c. Ok (shut c)) }
 {}
 
-/// Each change that an answer lists is the event of the core that its name says, whoever made the runs that the queue had
-/// then: for each history of the queue as the step found it, and there is one. The event leaves a history of the queue as
-/// the step left it. A raise is that of a place of a run, by the call whose run it is.
+/// Each change that an answer lists is the event of the core that its name says, whoever made the runs that the queue
+/// had then: for each history of the queue as the step found it, and there is one. The event leaves a history of the
+/// queue as the step left it. A raise is that of a place of a run, by the call whose run it is.
 pub fn changes_are_events_of_histories()
     ensures history { (e : Step Positions) → IsReal of_queues e
         → (runs : List (Owned Batch)) × IsHistory e.then.object runs }
@@ -170,9 +170,9 @@ pub fn changes_are_events_of_histories()
         → IsEventOf m.object runs (λ c. Ok (shut c)) (with_shut m.object) runs }
 {}
 
-/// No head or tail that a call has found is below one that the end had seen: a number that an entry found is no less than
-/// what the end had seen before the call, no less than what an earlier entry of the call found in the same word, and no
-/// more than what the end sees then.
+/// No head or tail that a call has found is below one that the end had seen: a number that an entry found is no less
+/// than what the end had seen before the call, no less than what an earlier entry of the call found in the same word,
+/// and no more than what the end sees then.
 pub fn never_below()
     ensures head { (n : ℕ) (old new : QueueEnd n) (before after : List (Step Positions)) (e : Step Positions)
         → Adds (view_of old) (before ++ e ∷ after) (view_of new) → e.word ≡ head_word
@@ -219,8 +219,9 @@ pub fn refusals_say()
         × (r.2.object.shut ≡ true → r.2.object.taken < length r.2.object.places)) }
 {}
 
-/// Empty at a position says that nothing was left before it that the call could take: when the place at it was found not
-/// raised, the items that were left before it were no item, and for a line no whole line, and that place was the next.
+/// Empty at a position says that nothing was left before it that the call could take: when the place at it was found
+/// not raised, the items that were left before it were no item, and for a line no whole line, and that place was the
+/// next.
 pub fn empty_means_none_before()
     ensures { (n : ℕ) (old new : QueueEnd n) (at : ℕ)
         → OfBoth n (λ Few Enough. (r : RefusedTake Few Enough n (view_of old) (not_taken.Empty at) (view_of new))

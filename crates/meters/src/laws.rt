@@ -76,9 +76,9 @@ pub fn numbers_say()
         → IsReal of_meters e → e.found ≢ word_of (Some alarm) → in_slot e.then.object slot ≢ Some alarm }
 {}
 
-/// No clock that a call has found is below one that its end had seen: a clock that an entry found is no less than what the
-/// end had seen before the call, no less than what an earlier entry of the call found, and no more than what the end sees
-/// then.
+/// No clock that a call has found is below one that its end had seen: a clock that an entry found is no less than what
+/// the end had seen before the call, no less than what an earlier entry of the call found, and no more than what the
+/// end sees then.
 pub fn never_below()
     ensures clock { (old new : MeterSeat) (before after : List (Step Reading)) (e : Step Reading)
         → Adds (view_of old) (before ++ e ∷ after) (view_of new) → e.word ≡ clock_word

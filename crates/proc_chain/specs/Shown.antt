@@ -9,8 +9,8 @@ use Rattle.proc_chain.specs.declared.layout.TheConstants.{PLACES}
 use Rattle.proc_chain.specs.Layout.{head_word, tail_word, place_word, raised_word}
 use Rattle.proc_chain.specs.Layout.{width, note_in, mark_in, gate_in, IsUnused}
 
--- What the word of a place is while no note is raised there. It is 0 before the first one, and then the word of the note
--- that was taken there last
+-- What the word of a place is while no note is raised there. It is 0 before the first one, and then the word of the
+-- note that was taken there last
 pub record PlacesKeep (q : Positions) (words : List ℕ) : Type 0 where
   pub never : (i : ℕ) → q.taken ≤ i → i < PLACES → written_at q i < 2
       → slice_index_or words (place_word (q.first + i)) 0 ≡ 0

@@ -2,8 +2,9 @@
 //! word for each place of the queue of notes. The place of a position is the position modulo the number of places.
 //!
 //! The head, the tail, the gate and the places stand 8 words apart, so that no two of them are in one cache line of 64
-//! bytes, wherever the block begins. Whoever chains writes the head, the runner alone the tail, and both the gate: in one
-//! line they would take it from each other at every step. So the words 2 to 7, 9 to 15 and 17 to 23 stand empty, and are
+//! bytes, wherever the block begins. Whoever chains writes the head, the runner alone the tail, and both the gate: in
+//! one line they would take it from each other at every step. So the words 2 to 7, 9 to 15 and 17 to 23 stand empty,
+//! and are
 //! 0. Only `split`, `join` and `close` touch the number of ends, which can stand beside the head.
 ghost use Rattle.std.specs.Prelude.{◌≡◌};
 ghost use Rattle.proc_chain.specs.Layout.{place_word};

@@ -1,7 +1,8 @@
 //! What the gate is shown before and behind a try: the hand and the end of a queue at one moment.
 //!
-//! The hand's list of steps is the clock of a processor's turn. What a gate was shown is true of any gate, and so of one
-//! that nobody here knows; so that it was shown a hand and an end together says where in the hand's course the end was so.
+//! The hand's list of steps is the clock of a processor's turn. What a gate was shown is true of any gate, and so of
+//! one that nobody here knows; so that it was shown a hand and an end together says where in the hand's course the end
+//! was so.
 ghost use Rattle.std.specs.Prelude.{◌≡◌};
 ghost use Rattle.turn_io.specs.EndLists.{AreEndsOf};
 ghost use Rattle.processor.specs.Orders.{QueueShown};

@@ -1,4 +1,5 @@
--- What the words of a place have until it is written: what was left there one round before. So no number in them is free.
+-- What the words of a place have until it is written: what was left there one round before. So no number in them is
+-- free.
 use Rattle.std.specs.Prelude.{◌≡◌, ℕ, ◌+◌, ◌-◌, ◌<◌, ◌≤◌}
 use Rattle.table_theory.specs.declared.queues.Positions.{Positions}
 use Rattle.table_theory.specs.Positioned.{item_at, written_at}

@@ -25,8 +25,8 @@ pub struct Moment<O> {
 }
 
 /// An end among the ends of its object: how many of the ends counted it is, its share, and how often it was split and
-/// took in another end. Each time that an end is cut off or taken in, the first word is loaded once, and no list has that
-/// load: `unlisted` counts them. Proofs alone speak of it.
+/// took in another end. Each time that an end is cut off or taken in, the first word is loaded once, and no list has
+/// that load: `unlisted` counts them. Proofs alone speak of it.
 pub struct Part {
     pub ends: u64,
     pub share: u64,

@@ -30,8 +30,8 @@ pub record StateShows (thread : Thread) (word : ℕ) : Type 0 where
   pub stop : bit_at word stop_bit ≡ bit_of thread.stop
   pub parked : bit_at word cell_bit ≡ bit_of thread.parked
 
--- The place of a raised run has its element and one more than its position. Before that it has what was left there: 0, or
--- what the run 64 before put there. So it has no more than the run's position, and no number in it is free
+-- The place of a raised run has its element and one more than its position. Before that it has what was left there: 0,
+-- or what the run 64 before put there. So it has no more than the run's position, and no number in it is free
 pub record PlaceShows (first : ℕ) (q : Queue) (run word : ℕ) : Type 0 where
   pub up : q.raised run 0 ≡ true → word ≡ element_at q run + 256 * (first + run + 1)
   pub low : q.raised run 0 ≡ false → word < 256 * (first + run + 1)

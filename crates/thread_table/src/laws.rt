@@ -154,9 +154,10 @@ pub fn takings_say()
         → IsReal first (change word found past event) → IsReal first (load word found past) }
 {}
 
-/// The places of waits against what notifies of their queue find, whoever makes them. A place that was claimed by a wait
-/// before a notify is below the head that the notify found; one that was claimed after it is at that head or past it. And
-/// where the same number of notifies was found at two steps, with fewer than 2^32 notifies between them, there was none.
+/// The places of waits against what notifies of their queue find, whoever makes them. A place that was claimed by a
+/// wait before a notify is below the head that the notify found; one that was claimed after it is at that head or past
+/// it. And where the same number of notifies was found at two steps, with fewer than 2^32 notifies between them, there
+/// was none.
 pub fn waits_stand_by_notifies()
     ensures before { (first wait element ticket call other word found : ℕ) (p q : Past) → wait < WAITS
         → IsReal first (change (head_word (wait_ring wait)) word p (events.WaitAt call wait element ticket))
@@ -174,9 +175,9 @@ pub fn waits_stand_by_notifies()
         → notifies_in wait rest < NOTIFY → notifies_in wait rest ≡ 0 }
 {}
 
-/// No head or tail of an element queue that a call has found is below one that its hand had seen: a number that an entry
-/// found is no less than what the hand had seen before the call, no less than what an earlier entry of the call found in
-/// the same word, and no more than what the hand sees then.
+/// No head or tail of an element queue that a call has found is below one that its hand had seen: a number that an
+/// entry found is no less than what the hand had seen before the call, no less than what an earlier entry of the call
+/// found in the same word, and no more than what the hand sees then.
 pub fn never_below()
     ensures head { (old new : Hand) (before rest : List Step) (e : Step) (ring : ℕ) → ring < RINGS
         → Adds (view_of old) (before ++ e ∷ rest) (view_of new) → e.word ≡ head_word ring

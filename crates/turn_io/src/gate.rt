@@ -27,8 +27,8 @@ pub trait Gate {
 }
 
 /// A gate that is shown things. Every gate is one, and nothing is done there when the code runs: `shown` is for the
-/// proofs alone. Code that is generic over a gate knows of it only what a call of `show` ensured. So a contract that says
-/// of two values that they were shown says that they were there at one moment.
+/// proofs alone. Code that is generic over a gate knows of it only what a call of `show` ensured. So a contract that
+/// says of two values that they were shown says that they were there at one moment.
 pub trait Watch: Gate {
     // The gate was shown these two values, as they were at one moment.
     ghost shown: { (A B : Type 0) → A → B → Type 0 };

@@ -120,9 +120,10 @@ pub(crate) fn exchange_gate<Q: Quaject>(
     Some(turn)
 }
 
-/// A Turn behind a loop that has no end.
-pub(crate) fn never(turn: Turn)
-    requires { ⊥ }
+/// Lets go of a Turn whose end holds no quaject, so that nothing can be served by it. It is called only after a loop
+/// that has no end, which nothing reaches.
+pub(crate) fn never<Q: Quaject>(seat: &Seat<Q, View>, turn: Turn)
+    requires { seat.now.me.1 ≡ [] }
 {
     let Turn(()) = turn;
 }

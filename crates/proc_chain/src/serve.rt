@@ -185,7 +185,7 @@ impl<Q: Quaject> ProcChain<Q> {
                 }
             }
         }
-        never(turn);
+        never(&end.seat, turn);
         unreachable!()
     }
 }

@@ -10,15 +10,18 @@ use Rattle.meters.specs.Closings as metering
 use Rattle.meters.specs.Handles as seats
 use Rattle.processor.specs.declared.shared.Shared.{Shared}
 use Rattle.processor.specs.declared.station.Parts.{Parts}
+use Rattle.processor.specs.Stations.{ArePartsOf}
 use Rattle.quajects.specs.Homes.{TellsHome, homes_in}
 use Rattle.thread_table.specs.Closings.{ClosedNow}
 use Rattle.thread_table.specs.Handles.{view_of, call_of}
 use Rattle.thread_table.specs.Rules.{has}
 
 -- The chains were closed, and their quajects came home, with the numbers that they had; the queues' ends gained what
--- those had, and then the queues, the thread table and the meters were closed, each by its last end. No element is held
--- where the hand holds none. The rest is as it was
+-- those had, and then the queues, the thread table and the meters were closed, each by its last end, which was one of
+-- these objects. No element is held where the hand holds none. The rest is as it was
 pub record AllClosed (shared : Shared) (parts : Parts) (ended : Unmade) : Type 0 where
+  pub its : ArePartsOf shared parts
+  pub last : ended.last.value ≡ parts
   pub homes : HaveRetired shared.chains.items parts.chains.items (homes_in ended.counts.items)
   pub few : All IsFew (homes_in ended.counts.items)
   pub counts : All TellsHome ended.counts.items

@@ -1,6 +1,7 @@
 pub mod Common
 pub mod Answering
 pub mod Backs
+pub mod Closing
 pub mod Facts
 pub mod Placing
 pub mod Shut

@@ -4,7 +4,7 @@ use Rattle.boot_data.specs.Hearing.{Key}
 use Rattle.boot_objects.proofs.Backs.{come_home}
 use Rattle.processor.specs.Accounts.{Account, account}
 use Rattle.boot_report.proofs.Shutting.{ends, heard_is_few, shown}
-use Rattle.boot_laws.proofs.Boots.ShutDown.{Shutdown, IsShutDown, boot_shut, closed_shut, came_home}
+use Rattle.boot_laws.proofs.Boots.ShutDown.{Shutdown, IsShutDown, boot_shut, closed_shut, came_home, worked}
 use Rattle.boot_laws.specs.Endings.{FreedSpare}
 use Rattle.boot_laws.proofs.Boots.Booting.{report_agrees}
 use Rattle.quajects.specs.Homes.{homes_in}
@@ -16,6 +16,8 @@ use Rattle.boot_threads.proofs.Preparedness.{freed_spare}
 use Rattle.boot_threads.proofs.Returning.{posts_first}
 use Rattle.boot_threads.proofs.Reunion.{came_together}
 use Rattle.synth_kernel.proofs.Backs.{Sorted, few_back, sort_back, first_back}
+use Rattle.synth_kernel.specs.Boots.{DidAll}
+use Rattle.synth_kernel.proofs.Closing.{did_all}
 use Rattle.synth_kernel.proofs.Facts.{did_of, lines_pair, raws_are, had_back, devices_ended, devices_shown}
 
 module _ {G : Type 0} (T : G → ℕ → Point → G → Type 0) (shared : Shared) where
@@ -140,6 +142,10 @@ module _ {G : Type 0} (T : G → ℕ → Point → G → Type 0) (plan : BootPla
                 plan_is = refl;
                 told = logged.2;
                 boot = boot_shut shut;
+                worked = worked shut is_shut;
+                ends_are = subst (ArePartsOf ready.shared) (sym closes.last) closes.its;
+                ends_did = subst (DidAll ready.shared.plan (boot_shut shut).done.in_all) (sym closes.last) (did_all ready.shared.plan (map tty_of (served_in backs)) last parts took (flat_map heard_lines (map parts_of (processed_in backs))));
+                homes_are = refl;
                 quajects = came_home ready.shared.chains.items parts.chains.items (homes_in ended.counts.items) is_shut.closed.homes;
                 devices = map did_of (served_in backs);
                 made = refl;

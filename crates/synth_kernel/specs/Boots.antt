@@ -1,10 +1,11 @@
 -- What a boot answers and prints.
-use Rattle.std.specs.Prelude.{◌≡◌, ◌+◌, ◌==◌, ℕ, zero, suc, List, [], ◌∷◌, length, Option, Result, Ok, Err}
+use Rattle.std.specs.Prelude.{◌≡◌, ◌+◌, ◌<◌, ◌==◌, ℕ, zero, suc, List, [], ◌∷◌, length, Option, Result, Ok, Err}
 use Rattle.std.specs.Prelude.{IsOk, IfSome}
 use Rattle.std.specs.List.{AllByRecursion}
 use Rattle.std.specs.Option.{is_some}
 use Rattle.std.specs.Io.KnownBytes.{Appends}
 use Rattle.boot_data.specs.declared.boot_plan.BootPlan.{BootPlan}
+use Rattle.boot_data.specs.declared.plan.QueueIndex.TheVariants.{Small, Large}
 use Rattle.boot_data.specs.declared.report.Report.{Report}
 use Rattle.boot_data.specs.BootPlans.{plan_of}
 use Rattle.boot_data.specs.Hearing.{Line}
@@ -17,15 +18,19 @@ use Rattle.turn_io.specs.declared.gate.NoGate.{NoGate}
 use Rattle.turn_io.specs.declared.gate.Point.{Point}
 use Rattle.processor.specs.declared.shared.Shared.{Shared}
 use Rattle.processor.specs.declared.station.Parts.{Parts}
+use Rattle.processor.specs.Accounts.{Account, account}
 use Rattle.processor.specs.Entries.{LogEntry}
 use Rattle.processor.specs.Logs.{IsFresh, Leaves, HasTurned}
 use Rattle.processor.specs.Manning.{IsManned, StaysManned}
+use Rattle.processor.specs.Stations.{ArePartsOf}
 use Rattle.quajects.specs.declared.any.AnyQuaject.{AnyQuaject}
+use Rattle.quajects.specs.Homes.{homes_in}
 use Rattle.boot_report.specs.declared.ttys.Typed.{Typed}
 use Rattle.boot_report.specs.Shown.{Shows}
 use Rattle.boot_laws.specs.Boots.{Boot}
 use Rattle.boot_laws.specs.ClosedTables.{ClosedTables, Device}
 use Rattle.boot_laws.specs.Closings.{closed_of}
+use Rattle.boot_laws.specs.Endings.{WorkedTogether}
 use Rattle.boot_laws.specs.Reports.{IsReport}
 use Rattle.boot_laws.specs.Saying.{live_threads}
 use Rattle.synth_kernel.specs.declared.outcome.Ended.{Ended}
@@ -78,8 +83,19 @@ AllTold T shared p turns (gate ∷ gates) (gate' ∷ gates') (log ∷ logs) =
     WasTold T shared p turns gate gate' log × AllTold T shared (p + 1) turns gates gates' logs
 AllTold T shared p turns gates gates' logs = ⊥
 
+-- These ends did so at all objects of the plan, but for the raw queue and the chain of each tty: of those its device
+-- had ends too
+pub record DidAll (plan : BootPlan) (did : Account) (parts : Parts) : Type 0 where
+  pub hand : (account parts).hand ≡ did.hand
+  pub meters : (account parts).meters ≡ did.meters
+  pub shown : (account parts).shown ≡ did.shown
+  pub small : (q : ℕ) → q < length plan.queues → (account parts).queues (Small q) ≡ did.queues (Small q)
+  pub large : (q : ℕ) → (account parts).queues (Large q) ≡ did.queues (Large q)
+  pub chains : (k : ℕ) → k < length plan.movers → (account parts).chains k ≡ did.chains k
+
 -- Each gate was told of the turns of its processor on the objects of the plan, and came back so at its place; and this
--- came of closing these: the closed tables are made of it, with what ends, quajects and devices had, and show its
+-- came of closing just these: the ends that closed all are theirs, and did what was done before the turns, and then
+-- what the logs come to. The closed tables are made of it, with what ends, quajects and devices had, and show its
 -- numbers
 pub record CameBack {G : Type 0} (T : G → ℕ → Point → G → Type 0) (turns : ℕ) (gates back : List G) (ended : Unmade)
     (plan : BootPlan) (closed : ClosedTables) (logs : List (List LogEntry)) : Type 0 where
@@ -87,6 +103,10 @@ pub record CameBack {G : Type 0} (T : G → ℕ → Point → G → Type 0) (tur
   pub plan_is : shared.plan ≡ plan
   pub told : AllTold T shared 0 turns gates back logs
   pub boot : Boot
+  pub worked : WorkedTogether plan logs boot.done
+  pub ends_are : ArePartsOf shared ended.last.value
+  pub ends_did : DidAll plan boot.done.in_all ended.last.value
+  pub homes_are : boot.homes ≡ homes_in ended.counts.items
   pub quajects : List AnyQuaject
   pub devices : List Device
   pub made : closed ≡ closed_of plan boot ended quajects devices

@@ -48,9 +48,9 @@ impl Answers {
 }
 
 /// What all had at the end: the numbers of each quaject, in the order of the chains, what each queue was put and taken
-/// and what is left, the thread elements, the meters, and what was heard and signalled. The last two are for the
-/// contract alone: the last end of each queue. Only `close_all` makes one, and nobody changes it: a report is made of
-/// what was closed.
+/// and what is left, the thread elements, the meters, and what was heard and signalled. The last three are for the
+/// contract alone: the ends that closed all, as they came, and the last end of each queue. Only `close_all` makes one,
+/// and nobody changes it: a report is made of what was closed.
 #[derive(Drop)]
 pub struct Unmade {
     counts: Vec<Came>,
@@ -61,6 +61,7 @@ pub struct Unmade {
     heard: HeardLines,
     signals: [u16; 64],
     plan: BootPlan,
+    last: Snapshot<Parts>,
     small_ends: Snapshot<Vec<QueueEnd<64>>>,
     large_ends: Snapshot<Vec<QueueEnd<256>>>,
 }
@@ -141,6 +142,7 @@ pub fn close_all(shared: Shared, parts: Parts, answers: Answers) -> Unmade
     requires room { HaveRoom shared answers }
     ensures { AllClosed shared parts result }
 {
+    let last = Snapshot::of(&parts);
     let Shared {
         queues,
         chains,
@@ -178,6 +180,7 @@ pub fn close_all(shared: Shared, parts: Parts, answers: Answers) -> Unmade
         heard,
         signals,
         plan,
+        last,
         small_ends,
         large_ends,
     }

@@ -65,6 +65,8 @@ returns c = let all = c.close_chains-counts.ensures in let homes = homes_in c.cl
     let large_had : Gained (large_ports homes) c.args.parts.large.items c.of-large_ends.result.value.items = subst (λ (z : Vec (QueueEnd 256)). Gained (large_ports homes) c.args.parts.large.items z.items) (sym c.of-large_ends.ensures)
     (subst (λ (z : List (QueueEnd 256)). Gained (large_ports homes) c.args.parts.large.items z) (sym large_back) (subst (λ (z : List (QueueEnd 256)). Gained (large_ports homes) z c.close_chains-counts.new.large) c.as_mut_slice-2.ensures.value all.large_gained)) in
     record {
+      its = c.requires.parts;
+      last = c.of-last.ensures;
       homes = all.homes;
       few = all.few;
       counts = all_tell c.close_chains-counts.result.items;

@@ -24,3 +24,9 @@ returns-clause-number g c =
     let gates = c.args.gates.ok.0 in
     let devices = c.in-Ok.ensures.devices.number in
     (omega arith, c.add_devices-works.result.1.ok.0 ∙ ap length c.add_devices-works.ensures.lines ∙ length-map o.devices.items input_of ∙ devices)
+
+pub returns-clause-may : goal.returns-clause-may
+returns-clause-may g c =
+    let o = c.in-Ok.made in
+    let serving = subst (λ z. AreServing z o.devices.items c.in-Ok-post_all.works.items c.add_devices-works.result.0.items) c.as_slice.ensures c.add_devices-works.ensures.works in
+    c.works_may_run.ensures.may o.shared c.args.turns c.args.gates.items c.prepare_station-station.result.parts c.post_all.new.station.parts o.devices.items c.in-Ok-post_all.works.items c.add_devices-works.result.0.items c.in-Ok-post_all.ensures.posted c.in-Ok.ensures.devices serving
